@@ -1,0 +1,4 @@
+pub mod Lists
+pub mod Commands
+pub mod Answers
+pub mod Replays
