@@ -117,9 +117,10 @@ impl<Op: Value> Value for Command<Op> {
     ghost exact = { Prim.grind (rules, common_steps, Op.exact) };
 
     fn copy(&self) -> Result<Self, AllocError> {
+        let Command { key, act } = self;
         Ok(Command {
-            key: self.key,
-            act: self.act.copy()?,
+            key: *key,
+            act: act.copy()?,
         })
     }
 }
