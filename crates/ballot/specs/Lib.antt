@@ -1,0 +1,4 @@
+pub mod Ballots
+pub mod Members
+pub mod Letters
+pub mod Ones

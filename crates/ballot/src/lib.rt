@@ -1,0 +1,18 @@
+//! The words of Multi-Paxos: ballots, members and their majorities, slots, pvalues and letters.
+#![tactic(auto)]
+
+mod ballot;
+mod laws;
+mod letter;
+mod member_set;
+mod members;
+mod pvalue;
+mod slot;
+
+pub use ballot::Ballot;
+pub use laws::{ballot_order, majorities_share_a_member};
+pub use letter::{Body, Letter};
+pub use member_set::MemberSet;
+pub use members::Members;
+pub use pvalue::{Pvalue, Pvalues};
+pub use slot::Slot;

@@ -1,0 +1,88 @@
+ghost use Rattle.std.specs.Prelude.{◌≡◌, ◌++◌, ◌∷◌, [], IfOk, OnOk, OnErr, true};
+
+use crate::ballot::Ballot;
+use crate::slot::Slot;
+use object::Value;
+use std::alloc::{AllocError, Global};
+use std::marker::Model;
+
+/// A value for a slot, under a ballot.
+#[derive(Drop, PartialEq, Eq)]
+pub struct Pvalue<C> {
+    pub ballot: Ballot,
+    pub slot: Slot,
+    pub value: C,
+}
+
+impl<C: Value> Value for Pvalue<C> {
+    ghost use Rattle.std.proofs.Common.{rules};
+    ghost use Rattle.std.proofs.lemmas.Grind.{common_steps};
+
+    ghost exact = { Prim.grind (rules, common_steps, C.exact) };
+
+    fn copy(&self) -> Result<Self, AllocError> {
+        Ok(Pvalue {
+            ballot: self.ballot,
+            slot: self.slot,
+            value: self.value.copy()?,
+        })
+    }
+}
+
+/// Pvalues in an order: what an acceptor reports, or a scout gathers.
+#[derive(Drop)]
+pub struct Pvalues<C> {
+    items: Vec<Pvalue<C>>,
+}
+
+impl<C> Model for Pvalues<C> {
+    ghost use Rattle.std.specs.Prelude.{List};
+    ghost use Rattle.ballot.specs.declared.pvalue.Pvalue.{Pvalue};
+
+    ghost Value = { List (Pvalue C) };
+
+    ghost view = { λ p. p.items.items };
+}
+
+impl<C> Pvalues<C> {
+    /// None.
+    pub fn new(alloc: Global) -> Self
+        ensures { result ≡ [] }
+    {
+        Pvalues {
+            items: Vec::new(alloc),
+        }
+    }
+
+    /// These.
+    pub fn from_vec(items: Vec<Pvalue<C>>) -> Self
+        ensures { result ≡ items.items }
+    {
+        Pvalues { items }
+    }
+
+    /// The pvalues, as they were put in.
+    pub fn into_vec(self) -> Vec<Pvalue<C>>
+        ensures { result.items ≡ self }
+    {
+        self.items
+    }
+
+    /// The pvalues.
+    pub fn as_slice(&self) -> &[Pvalue<C>]
+        ensures { result.now ≡ self.now }
+    {
+        self.items.as_slice()
+    }
+
+    /// Puts one more at the end.
+    pub fn push(&mut self, pvalue: Pvalue<C>) -> Result<(), AllocError>
+    where
+        C: Drop,
+        ensures ok { OnOk result (self.new ≡ self.old ++ pvalue ∷ []) }
+        ensures err { OnErr result (self.new ≡ self.old) }
+    {
+        self.items.push(pvalue)?;
+        Ok(())
+    }
+}
