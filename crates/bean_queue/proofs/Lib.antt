@@ -1,0 +1,3 @@
+pub mod BestJob
+pub mod EntryLaws
+pub mod Sound
