@@ -148,3 +148,13 @@ module _ {X : Type 0} where
             (cond-true (not (k == e.0)) _ _ (ap not (ne_eqb k e.0 (λ same. omega arith))) ∙
             ap (λ zs. e ∷ zs) (without-insert k v es (sym (value_at-next k e es (λ same. omega arith)) ∙ none)))
       ]
+
+  -- What is found where a new entry was put
+  pub value_at-insert : (k : ℕ) (v : X) (es : List (ℕ × X)) → value_at k (insert_entry nat_cmp es k v) ≡ Some v
+  value_at-insert k v [] = value_at-here k (k, v) [] refl
+  value_at-insert k v (e ∷ es) =
+      elim (cases_order k e.0) [
+        | inl same ↦ rw (cmp_equal k e.0 same) (value_at-here k (e.0, v) es same)
+        | inr (inl below) ↦ rw (cmp_less k e.0 below) (value_at-here k (k, v) (e ∷ es) refl)
+        | inr (inr above) ↦ rw (cmp_greater k e.0 above) (value_at-next k e (insert_entry nat_cmp es k v) (λ same. omega arith) ∙ value_at-insert k v es)
+      ]

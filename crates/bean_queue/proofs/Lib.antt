@@ -1,3 +1,4 @@
 pub mod BestJob
 pub mod EntryLaws
 pub mod Sound
+pub mod Called

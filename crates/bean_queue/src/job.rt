@@ -16,7 +16,7 @@ impl State {
     ghost use Rattle.bean_queue.specs.Rows.{may_delete};
 
     /// Whether anyone who watches its tube may reserve the job.
-    pub fn is_ready(&self) -> bool
+    pub(crate) fn is_ready(&self) -> bool
         ensures { result ≡ is_ready self.now }
     {
         match self {
@@ -26,7 +26,7 @@ impl State {
     }
 
     /// Whether the session has the job.
-    pub fn is_held_by(&self, session: u32) -> bool
+    pub(crate) fn is_held_by(&self, session: u32) -> bool
         ensures { result ≡ is_held session self.now }
     {
         match self {
@@ -39,7 +39,7 @@ impl State {
     }
 
     /// Whether a session has the job, and its time is over at this second.
-    pub fn is_due(&self, second: u64) -> bool
+    pub(crate) fn is_due(&self, second: u64) -> bool
         ensures { result ≡ is_due second self.now }
     {
         match self {
@@ -49,7 +49,7 @@ impl State {
     }
 
     /// Whether the session may delete the job: it is ready, or the session has it.
-    pub fn may_be_deleted_by(&self, session: u32) -> bool
+    pub(crate) fn may_be_deleted_by(&self, session: u32) -> bool
         ensures { result ≡ may_delete session self.now }
     {
         self.is_ready() || self.is_held_by(session)
@@ -73,7 +73,7 @@ impl Job {
     ghost use Rattle.bean_queue.specs.Effects.{released_by, come_due};
 
     /// Makes the job ready if the session has it.
-    pub fn release(&mut self, session: u32)
+    pub(crate) fn release(&mut self, session: u32)
         ensures { self.new ≡ released_by session self.old }
     {
         if self.state.is_held_by(session) {
@@ -82,7 +82,7 @@ impl Job {
     }
 
     /// Makes the job ready if its time is over at this second.
-    pub fn come_due(&mut self, second: u64)
+    pub(crate) fn come_due(&mut self, second: u64)
         ensures { self.new ≡ come_due second self.old }
     {
         if self.state.is_due(second) {

@@ -143,4 +143,88 @@ impl PlainQueue {
             make_due_ready(&mut self.jobs, second);
         }
     }
+
+    /// Obeys an operation of a session that is there.
+    fn reply_to(&mut self, session: u32, op: &Op) -> Result<Reply, AllocError>
+        requires { IsSome (value_at session self.old.sessions) }
+        ensures state { OnOk result (self.new ≡ (row op.now session self.old).state) }
+        ensures reply { IfOk result (λ reply. reply ≡ (row op.now session self.old).reply) }
+        ensures err { OnErr result (self.new ≡ self.old) }
+    {
+        match op {
+            Op::Put { pri, ttr, body } => self.put(session, *pri, *ttr, body),
+            Op::Reserve => self.reserve(session),
+            Op::Delete(id) => Ok(self.delete(session, *id)),
+        }
+    }
+
+    /// Obeys an operation of a session, which is made where it is not there.
+    fn obey(&mut self, session: u32, op: &Op) -> Result<Reply, AllocError>
+        ensures state { OnOk result (self.new ≡ (row op.now session (called session self.old)).state) }
+        ensures reply { IfOk result (λ reply. reply ≡ (row op.now session (called session self.old)).reply) }
+        ensures err { OnErr result (self.new ≡ self.old) }
+    {
+        let made = self.meet(session)?;
+        let reply = self.reply_to(session, op);
+        if made && reply.is_err() {
+            self.forget(session);
+        }
+        reply
+    }
+}
+
+impl Object for PlainQueue {
+    type Op = Op;
+
+    type Reply = Reply;
+
+    ghost use Rattle.bean_queue.specs.Queue.{fresh as new_queue};
+    ghost use Rattle.std.proofs.Common.{inl};
+    ghost use Rattle.bean_queue.specs.Effects.{effect};
+    ghost use Rattle.bean_queue.specs.EffectLaws.{effect-lawful};
+
+    ghost fresh = { new_queue };
+
+    ghost after = { λ s c. (effect c s).state };
+
+    ghost answers = { λ s c. (effect c s).answers };
+
+    // Each command is answered at once.
+    ghost waits = { λ _ _. ⊥ };
+
+    fn new(alloc: Global) -> Result<Self, AllocError> {
+        Ok(PlainQueue {
+            alloc,
+            now: 0,
+            next_id: 1,
+            next_rank: 1,
+            jobs: BTreeMap::new(alloc),
+            sessions: BTreeMap::new(alloc),
+        })
+    }
+
+    #[tactic(auto, unfolding(crate::specs::Effects::do_effect, crate::specs::Effects::close_effect, crate::specs::Effects::tick_effect))]
+    fn apply(&mut self, cmd: &Command<Op>, out: &mut Vec<Answer<Reply>>) -> Result<(), AllocError> {
+        let key = cmd.key();
+        match cmd.act() {
+            Act::Do(op) => {
+                out.reserve(1)?;
+                let reply = self.obey(key.session, op)?;
+                out.push(Answer { to: key, reply })?;
+            }
+            Act::Close => self.close(key.session),
+            Act::Tick => self.tick(key.number),
+        }
+        Ok(())
+    }
+
+    ghost idle = { λ k w. w };
+
+    ghost waited = { λ s c k w. absurd w };
+
+    ghost named = { λ s c a i. inl ((effect-lawful c s).named a i) };
+
+    ghost over = { λ s c a i w. w };
+
+    ghost once = { λ s c. (effect-lawful c s).once };
 }

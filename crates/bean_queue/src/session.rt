@@ -15,7 +15,7 @@ impl Session {
     ghost use Rattle.bean_queue.specs.Queue.{new_session};
 
     /// A session that uses `default`, and watches it alone.
-    pub fn new(alloc: Global) -> Result<Session, AllocError>
+    pub(crate) fn new(alloc: Global) -> Result<Session, AllocError>
         ensures { IfOk result (λ session. session ≡ new_session) }
     {
         Ok(Session {
