@@ -11,6 +11,8 @@ mod reply;
 mod scan;
 mod session;
 mod states;
+#[cfg(test)]
+mod tests;
 
 pub use body::Body;
 pub use job::{Job, State};
