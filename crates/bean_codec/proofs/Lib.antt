@@ -1,0 +1,5 @@
+pub mod LineCuts
+pub mod OneItem
+pub mod WordSteps
+pub mod Digits
+pub mod Fronts

@@ -1,0 +1,93 @@
+-- The texts of requests (protocol.txt of beanstalkd, "Producer Commands" and "Worker Commands").
+use Rattle.std.specs.Prelude.{◌≡◌, ℕ, ◌+◌, nat_lt, List, [], ◌∷◌, ◌++◌, length, take, drop, codes, Option, Some, None, Result, Ok, Err, if◌then◌else◌}
+use Rattle.std.specs.Option.{ok_or}
+use Rattle.std.specs.Str.{bytes_eq}
+use Rattle.bean_queue.specs.declared.op.Op.TheVariants.{Put, Reserve, Delete}
+use Rattle.bean_codec.specs.declared.request.Request.{Request}
+use Rattle.bean_codec.specs.declared.request.Request.TheVariants.{Do, Quit}
+use Rattle.bean_codec.specs.declared.request.Fault.{Fault}
+use Rattle.bean_codec.specs.declared.request.Fault.TheVariants.{BadFormat, UnknownCommand, ExpectedCrlf, JobTooBig}
+use Rattle.bean_codec.specs.declared.line.Meaning.{Meaning}
+use Rattle.bean_codec.specs.declared.line.Meaning.TheVariants.{Whole, WithBody}
+use Rattle.bean_codec.specs.Lines.{crlf, IsLine}
+use Rattle.bean_codec.specs.Words.{words, begins_with_no_word}
+use Rattle.bean_codec.specs.Numbers.{◌>>=◌, u32_of, u64_of, zero_of}
+
+-- what a text spells: a request, or a fault that is answered to it
+abbrev pub Item : Type 0
+Item = Result Request Fault
+
+-- the most bytes of a line with its CR LF
+abbrev pub longest_line : ℕ
+longest_line = 224
+
+-- the most bytes of a body
+abbrev pub longest_body : ℕ
+longest_body = 65535
+
+-- put <pri> <delay> <ttr> <bytes>, where the delay is 0
+unfoldable pub put_line : List (List ℕ) → Option Meaning
+put_line (pri ∷ delay ∷ ttr ∷ size ∷ []) = do
+  p ← u32_of pri
+  d ← zero_of delay
+  t ← u32_of ttr
+  n ← u32_of size
+  Some (WithBody p t n)
+put_line _ = None
+
+-- reserve-with-timeout <seconds>, where the seconds are 0
+unfoldable pub reserve_line : List (List ℕ) → Option Meaning
+reserve_line (seconds ∷ []) = do
+  s ← zero_of seconds
+  Some (Whole (Do Reserve))
+reserve_line _ = None
+
+-- delete <id>
+unfoldable pub delete_line : List (List ℕ) → Option Meaning
+delete_line (id ∷ []) = do
+  n ← u64_of id
+  Some (Whole (Do (Delete n)))
+delete_line _ = None
+
+-- quit
+unfoldable pub quit_line : List (List ℕ) → Option Meaning
+quit_line [] = Some (Whole Quit)
+quit_line _ = None
+
+-- the first word names the command; its words are right, or the format is bad
+unfoldable pub command_line : List (List ℕ) → Result Meaning Fault
+command_line [] = Err UnknownCommand
+command_line (command ∷ arguments) =
+    if bytes_eq command (codes "put") then ok_or (put_line arguments) BadFormat
+    else if bytes_eq command (codes "reserve-with-timeout") then ok_or (reserve_line arguments) BadFormat
+    else if bytes_eq command (codes "delete") then ok_or (delete_line arguments) BadFormat
+    else if bytes_eq command (codes "quit") then ok_or (quit_line arguments) BadFormat
+    else Err UnknownCommand
+
+-- what a line says alone
+unfoldable pub meaning : List ℕ → Result Meaning Fault
+meaning line =
+    if nat_lt longest_line (length (line ++ crlf)) then Err BadFormat
+    else if begins_with_no_word line then Err UnknownCommand
+    else command_line (words line)
+
+-- a put, with a body of so many bytes and the two bytes after it
+unfoldable pub put_item : ℕ → ℕ → ℕ → List ℕ → Item
+put_item pri ttr size rest =
+    if nat_lt longest_body size then Err JobTooBig
+    else if bytes_eq (drop size rest) crlf then Ok (Do (Put pri ttr (take size rest)))
+    else Err ExpectedCrlf
+
+-- what follows a line that says this, and the item that both make
+abbrev pub Completes : Result Meaning Fault → List ℕ → Item → Type 0
+Completes (Ok (Whole request)) rest item = (rest ≡ []) × (item ≡ Ok request)
+Completes (Ok (WithBody pri ttr size)) rest item = (length rest ≡ size + 2) × (item ≡ put_item pri ttr size rest)
+Completes (Err fault) rest item = (rest ≡ []) × (item ≡ Err fault)
+
+-- the text is a line, its CR LF and what follows a line that says so, and all of it makes the item
+pub record Spells (text : List ℕ) (item : Item) : Type 0 where
+  pub line : List ℕ
+  pub rest : List ℕ
+  pub is_line : IsLine line
+  pub cut : text ≡ line ++ (crlf ++ rest)
+  pub completes : Completes (meaning line) rest item

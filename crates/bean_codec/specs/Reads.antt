@@ -1,0 +1,22 @@
+-- What a reader tells of the bytes before it.
+use Rattle.std.specs.Prelude.{◌≡◌, ℕ, ◌+◌, ◌≤◌, List, length, take, Option, Some, None, Result, Ok, Err}
+use Rattle.bean_codec.specs.declared.request.Fault.{Fault}
+use Rattle.bean_codec.specs.declared.line.Meaning.{Meaning}
+use Rattle.bean_codec.specs.declared.reader.Read.{Read}
+use Rattle.bean_codec.specs.declared.reader.Read.TheVariants.{More, Request, Bad}
+use Rattle.bean_codec.specs.Grammar.{Item, Completes, Spells}
+
+-- the item that was read, and how many bytes it takes
+abbrev pub item_read : Read → Option (Item × ℕ)
+item_read More = None
+item_read (Request request used) = Some (Ok request, used)
+item_read (Bad fault used) = Some (Err fault, used)
+
+-- so many bytes are there, and they spell the item
+abbrev pub SpellsFront : List ℕ → Item × ℕ → Type 0
+SpellsFront bytes (item, used) = (used ≤ length bytes) × Spells (take used bytes) item
+
+-- some of the rest, which begins at place start, completes the item, which ends there
+abbrev pub CompletesFront : Result Meaning Fault → ℕ → List ℕ → Item × ℕ → Type 0
+CompletesFront meaning start rest (item, end) =
+    (taken : ℕ) × (end ≡ start + taken) × (taken ≤ length rest) × Completes meaning (take taken rest) item

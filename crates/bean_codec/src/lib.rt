@@ -1,0 +1,13 @@
+//! Requests are read from bytes, and replies are written as bytes.
+#![tactic(auto)]
+
+mod line;
+mod number;
+mod reader;
+mod request;
+mod words;
+mod writer;
+
+pub use reader::{Read, Want, one_item, read_request};
+pub use request::{Fault, Request};
+pub use writer::{write_fault, write_reply};

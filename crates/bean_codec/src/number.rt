@@ -1,0 +1,30 @@
+ghost use Rattle.std.specs.Prelude.{◌≡◌, ◌^◌};
+ghost use Rattle.bean_codec.specs.Numbers.{number_below, u32_of as the_u32, u64_of as the_u64, zero_of as the_zero};
+
+use std::str;
+
+/// The number that a word of digits writes. `parse` takes a plus too, which no number has.
+#[tactic(auto, unfolding(crate::specs::Numbers::number_below))]
+pub fn u64_of(word: &[u8]) -> Option<u64>
+    ensures { result ≡ the_u64 word.now }
+{
+    if word.starts_with(b"+") {
+        return None;
+    }
+    str::from_utf8(word).ok()?.parse().ok()
+}
+
+#[tactic(auto, unfolding(crate::specs::Numbers::number_below))]
+pub fn u32_of(word: &[u8]) -> Option<u32>
+    ensures { result ≡ the_u32 word.now }
+{
+    u32::try_from(u64_of(word)?).ok()
+}
+
+/// The number 0, where the word writes it.
+#[tactic(auto, unfolding(crate::specs::Numbers::number_below))]
+pub fn zero_of(word: &[u8]) -> Option<u64>
+    ensures { result ≡ the_zero word.now }
+{
+    u64_of(word).filter(|n| *n == 0)
+}

@@ -1,0 +1,110 @@
+ghost use Rattle.std.specs.Prelude.{◌≡◌, ℕ, ◌+◌, ◌<◌, ◌≤◌, ◌^◌, List, ◌++◌, length, take, Some, IfOk, IfSome, IfNone};
+ghost use Rattle.bean_codec.specs.Grammar.{Item, Spells, Completes, put_item};
+ghost use Rattle.bean_codec.specs.Reads.{item_read, SpellsFront, CompletesFront};
+
+use crate::line::{Meaning, meaning_of};
+use crate::request::{Fault, Request};
+use bean_queue::{Body, Op};
+use bstr::ByteSlice;
+use std::alloc::{AllocError, Global};
+
+/// The most bytes of a body.
+const LONGEST_BODY: u32 = 65535;
+
+/// What a reader waits for.
+#[derive(Clone, Copy, PartialEq, Eq, Debug)]
+pub enum Want {
+    /// The line of the next request.
+    Line,
+}
+
+/// What a reader found at the front of the bytes.
+#[derive(Drop, PartialEq, Eq)]
+pub enum Read {
+    /// No more than the beginning of an item.
+    More,
+    /// A request, which takes `used` bytes.
+    Request { request: Request, used: usize },
+    /// A text that is no request, and takes `used` bytes.
+    Bad { fault: Fault, used: usize },
+}
+
+/// No text spells two items, and none that spells an item begins another.
+pub fn one_item()
+    ensures { (a b x y : List ℕ) (i j : Item) → Spells a i → Spells b j → a ++ x ≡ b ++ y → (a ≡ b) × (i ≡ j) }
+{}
+
+/// The request at the front of the bytes, or the fault of the text that stands there.
+pub fn read_request(alloc: Global, want: Want, bytes: &[u8]) -> Result<Read, AllocError>
+    ensures item { IfOk result (λ read. IfSome (item_read read) (SpellsFront bytes.now)) }
+    ensures more { IfOk result (λ read. IfNone (item_read read)
+        ((item : Item) (n : ℕ) → ¬ Spells (take n bytes.now) item)) }
+    ensures only { IfOk result (λ read. (item : Item) (n : ℕ) → n ≤ length bytes.now →
+        Spells (take n bytes.now) item → item_read read ≡ Some (item, n)) }
+{
+    let Want::Line = want;
+    let Some(end) = bytes.find(b"\r\n") else {
+        return Ok(Read::More);
+    };
+    let start = end + 2;
+    complete(alloc, meaning_of(&bytes[..end]), start, &bytes[start..])
+}
+
+/// What a line that says this makes with the rest, which begins at place `start`.
+fn complete(
+    alloc: Global,
+    meaning: Result<Meaning, Fault>,
+    start: usize,
+    rest: &[u8],
+) -> Result<Read, AllocError>
+    requires { start + length rest.now < 2 ^ 64 }
+    ensures item { IfOk result (λ read. IfSome (item_read read) (CompletesFront meaning start rest.now)) }
+    ensures more { IfOk result (λ read. IfNone (item_read read)
+        ((item : Item) (n : ℕ) → ¬ Completes meaning (take n rest.now) item)) }
+{
+    match meaning {
+        Ok(Meaning::Whole(request)) => Ok(Read::Request {
+            request,
+            used: start,
+        }),
+        Ok(Meaning::WithBody { pri, ttr, size }) => complete_put(
+            alloc, pri, ttr, size, start, rest,
+        ),
+        Err(fault) => Ok(Read::Bad { fault, used: start }),
+    }
+}
+
+/// The put with the body at the front of the rest.
+#[tactic(auto, unfolding(crate::specs::Grammar::put_item))]
+fn complete_put(
+    alloc: Global,
+    pri: u32,
+    ttr: u32,
+    size: u32,
+    start: usize,
+    rest: &[u8],
+) -> Result<Read, AllocError>
+    requires { start + length rest.now < 2 ^ 64 }
+    ensures item { IfOk result (λ read. IfSome (item_read read) (λ found.
+        (found ≡ (put_item pri ttr size (take (size + 2) rest.now), start + (size + 2))) × (size + 2 ≤ length rest.now))) }
+    ensures more { IfOk result (λ read. IfNone (item_read read) (length rest.now < size + 2)) }
+{
+    let body_len = size as usize;
+    let taken = body_len + 2;
+    if rest.len() < taken {
+        return Ok(Read::More);
+    }
+    let used = start + taken;
+    if size > LONGEST_BODY {
+        let fault = Fault::JobTooBig;
+        return Ok(Read::Bad { fault, used });
+    }
+    let (body, after) = rest[..taken].split_at(body_len);
+    if after != b"\r\n".as_slice() {
+        let fault = Fault::ExpectedCrlf;
+        return Ok(Read::Bad { fault, used });
+    }
+    let body = Body::new(alloc, body)?;
+    let request = Request::Do(Op::Put { pri, ttr, body });
+    Ok(Read::Request { request, used })
+}
