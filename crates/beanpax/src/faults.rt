@@ -1,0 +1,37 @@
+ghost use Rattle.std.specs.Prelude.{◌≡◌};
+ghost use Rattle.beanpax.specs.Faults.{number_of};
+
+use thiserror::Error;
+
+/// How a client's session ended.
+#[derive(Clone, Copy, Debug, PartialEq, Eq)]
+pub enum End {
+    /// The client asked to quit.
+    Quit,
+    /// The input ended.
+    Eof,
+}
+
+/// Why a session broke off.
+#[derive(Clone, Copy, Debug, PartialEq, Eq, Error)]
+pub enum SessionFault {
+    #[error("out of memory")]
+    OutOfMemory,
+    #[error("read failed")]
+    ReadFailed,
+    #[error("write failed")]
+    WriteFailed,
+}
+
+impl SessionFault {
+    /// The number by which the fault is told.
+    pub fn number(&self) -> u8
+        ensures { result ≡ number_of self.now }
+    {
+        match self {
+            SessionFault::OutOfMemory => 1,
+            SessionFault::ReadFailed => 7,
+            SessionFault::WriteFailed => 8,
+        }
+    }
+}
