@@ -1,5 +1,5 @@
 ghost use Rattle.std.specs.Prelude.{◌≡◌};
-ghost use Rattle.beanpax.specs.Faults.{number_of};
+ghost use Rattle.beanpax.specs.Faults.{number_of, line_of};
 
 use thiserror::Error;
 
@@ -32,6 +32,17 @@ impl SessionFault {
             SessionFault::OutOfMemory => 1,
             SessionFault::ReadFailed => 7,
             SessionFault::WriteFailed => 8,
+        }
+    }
+
+    /// The line by which the program tells it.
+    pub fn line(&self) -> &'static str
+        ensures { result.now ≡ line_of self.now }
+    {
+        match self {
+            SessionFault::OutOfMemory => "beanpax: 1 out of memory\n",
+            SessionFault::ReadFailed => "beanpax: 7 read failed\n",
+            SessionFault::WriteFailed => "beanpax: 8 write failed\n",
         }
     }
 }

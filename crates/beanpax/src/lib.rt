@@ -1,12 +1,19 @@
 //! The work queue as a program: requests as bytes in, replies as bytes out.
 #![tactic(auto)]
 
+mod entry;
 mod faults;
+pub mod memory;
 mod reading;
+mod run;
 mod streams;
+mod words;
 mod writing;
 
+pub use entry::program;
 pub use faults::{End, SessionFault};
 pub use reading::{ReadAllError, Reading, read_all};
+pub use run::run_bytes;
 pub use streams::{ByteIn, ByteOut, Failed};
+pub use words::{Asked, parse_words};
 pub use writing::{Writing, write_all};
