@@ -17,5 +17,5 @@ text_of ReadFailed = codes "read failed"
 text_of WriteFailed = codes "write failed"
 
 -- the line by which a fault is told
-abbrev pub line_of : SessionFault → List ℕ
+unfoldable pub line_of : SessionFault → List ℕ
 line_of fault = codes "beanpax: " ++ decimal (number_of fault) ++ codes " " ++ text_of fault ++ codes "\n"

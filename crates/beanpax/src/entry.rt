@@ -1,34 +1,69 @@
+ghost use Rattle.std.specs.Prelude.{◌≡◌, ◌≤◌, IfErr, OnOk};
+ghost use Rattle.beanpax.specs.declared.faults.SessionFault.{SessionFault};
+ghost use Rattle.beanpax.specs.Faults.{line_of};
+ghost use Rattle.beanpax.specs.Program.{IsCaused, WritesText};
+
 use crate::faults::SessionFault;
 use crate::run::run_bytes;
-use crate::streams::{ByteIn, ByteOut, Failed};
+use crate::streams::{ByteIn, ByteOut};
 use crate::words::{Asked, parse_words};
 use crate::writing::write_all;
-use std::alloc::Global;
+use std::alloc::{AllocError, Global};
 
-/// Does what the program does with these words, and answers its status.
+/// The status of a program that did what was asked.
+pub const DONE: u8 = 0;
+
+/// The status after a fault.
+pub const FAULT: u8 = 1;
+
+/// The status at wrong words.
+pub const WRONG_WORDS: u8 = 2;
+
+/// Does what the program does with these words, of which the first is its name, and answers its status.
+///
+/// The help goes to the output, and what is wrong with the words to the errors.
 pub fn program<R: ByteIn, W: ByteOut, E: ByteOut>(
     alloc: Global,
     words: &[String],
     input: &mut R,
     output: &mut W,
     errors: &mut E,
-) -> u8 {
-    let done = match parse_words(alloc, words) {
-        Ok(Asked::Run { nodes, seed }) => run_bytes(alloc, nodes, seed, input, output).map(|_| ()),
+) -> u8
+    ensures known { result ≤ WRONG_WORDS }
+    ensures done { result ≡ DONE → errors.new ≡ errors.old }
+    ensures fault { result ≡ FAULT → (fault : SessionFault)
+        × IsCaused fault (R.has_failed input.new) (W.has_failed output.new)
+        × WritesText (E.contents errors.old) (E.contents errors.new) (E.has_failed errors.new) (line_of fault) }
+    ensures wrong { result ≡ WRONG_WORDS → (input.new ≡ input.old) × (output.new ≡ output.old) }
+{
+    match parse_words(alloc, words) {
+        Ok(Asked::Run { nodes, seed }) => {
+            let ended = run_bytes(alloc, nodes, seed, input, output);
+            status_after(ended.map(|_| ()), errors)
+        }
         Ok(Asked::Help(text)) => {
-            write_all(output, text.as_bytes()).map_err(|_| SessionFault::WriteFailed)
+            let shown = write_all(output, text.as_bytes());
+            status_after(shown.map_err(|_| SessionFault::WriteFailed), errors)
         }
         Ok(Asked::Wrong(text)) => {
             let _ = write_all(errors, text.as_bytes());
-            return 2;
+            WRONG_WORDS
         }
-        Err(_) => Err(SessionFault::OutOfMemory),
-    };
-    match done {
-        Ok(()) => 0,
+        Err(AllocError) => status_after(Err(SessionFault::OutOfMemory), errors),
+    }
+}
+
+// Tells the fault, where there is one.
+fn status_after<E: ByteOut>(ended: Result<(), SessionFault>, errors: &mut E) -> u8
+    ensures done { OnOk ended ((result ≡ DONE) × (errors.new ≡ errors.old)) }
+    ensures fault { IfErr ended (λ fault. (result ≡ FAULT)
+        × WritesText (E.contents errors.old) (E.contents errors.new) (E.has_failed errors.new) (line_of fault)) }
+{
+    match ended {
+        Ok(()) => DONE,
         Err(fault) => {
             let _ = write_all(errors, fault.line().as_bytes());
-            1
+            FAULT
         }
     }
 }

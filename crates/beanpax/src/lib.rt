@@ -10,7 +10,7 @@ mod streams;
 mod words;
 mod writing;
 
-pub use entry::program;
+pub use entry::{DONE, FAULT, WRONG_WORDS, program};
 pub use faults::{End, SessionFault};
 pub use reading::{ReadAllError, Reading, read_all};
 pub use run::run_bytes;

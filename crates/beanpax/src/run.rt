@@ -1,4 +1,4 @@
-ghost use Rattle.std.specs.Prelude.{◌≡◌};
+ghost use Rattle.std.specs.Prelude.{◌≡◌, true};
 
 use crate::faults::{End, SessionFault};
 use crate::streams::{ByteIn, ByteOut};
@@ -13,6 +13,8 @@ pub fn run_bytes<R: ByteIn, W: ByteOut>(
     _writer: &mut W,
 ) -> Result<End, SessionFault>
     requires { _nodes ≡ 1 }
+    ensures read_failed { result ≡ Err SessionFault.ReadFailed → R.has_failed _reader.new ≡ true }
+    ensures write_failed { result ≡ Err SessionFault.WriteFailed → W.has_failed _writer.new ≡ true }
 {
     Ok(End::Eof)
 }

@@ -6,12 +6,15 @@ use Rattle.beanpax.specs.declared.faults.SessionFault.TheVariants.{OutOfMemory, 
 use Rattle.beanpax.proofs.faults.SessionFault.line.Goals as goal
 
 out_of_memory : line_of OutOfMemory ≡ codes "beanpax: 1 out of memory\n"
+unfolding line_of
 out_of_memory = rw (decimal_digit 1 (lit< tt)) refl
 
 read_failed : line_of ReadFailed ≡ codes "beanpax: 7 read failed\n"
+unfolding line_of
 read_failed = rw (decimal_digit 7 (lit< tt)) refl
 
 write_failed : line_of WriteFailed ≡ codes "beanpax: 8 write failed\n"
+unfolding line_of
 write_failed = rw (decimal_digit 8 (lit< tt)) refl
 
 pub returns-in-OutOfMemory : goal.returns-in-OutOfMemory

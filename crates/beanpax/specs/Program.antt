@@ -1,0 +1,19 @@
+-- What the program tells of its end.
+use Rattle.std.specs.Prelude.{◌≡◌, ℕ, Bool, true, false, Option, List}
+use Rattle.std.specs.Bool.{⊤}
+use Rattle.std.specs.Io.KnownBytes.{Appends}
+use Rattle.beanpax.specs.Streams.{AppendsBeginning}
+use Rattle.beanpax.specs.Faults.{line_of}
+use Rattle.beanpax.specs.declared.faults.SessionFault.{SessionFault}
+use Rattle.beanpax.specs.declared.faults.SessionFault.TheVariants.{OutOfMemory, ReadFailed, WriteFailed}
+
+-- a failure is told only of a stream that has failed
+abbrev pub IsCaused : SessionFault → Bool → Bool → Type 0
+IsCaused OutOfMemory input_failed output_failed = ⊤
+IsCaused ReadFailed input_failed output_failed = input_failed ≡ true
+IsCaused WriteFailed input_failed output_failed = output_failed ≡ true
+
+-- known bytes grow by the text, or by a beginning of it where the writer has failed
+pub record WritesText (old new : Option (List ℕ)) (has_failed : Bool) (text : List ℕ) : Type 0 where
+  pub some : AppendsBeginning old new text
+  pub whole : has_failed ≡ false → Appends old new text
