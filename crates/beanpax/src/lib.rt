@@ -17,3 +17,6 @@ pub use run::run_bytes;
 pub use streams::{ByteIn, ByteOut, Failed};
 pub use words::{Asked, parse_words};
 pub use writing::{Writing, write_all};
+
+#[cfg(test)]
+mod tests;
