@@ -3,3 +3,4 @@ pub mod OneItem
 pub mod WordSteps
 pub mod Digits
 pub mod Fronts
+pub mod FrontItems

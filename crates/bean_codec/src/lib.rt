@@ -1,6 +1,7 @@
 //! Requests are read from bytes, and replies are written as bytes.
 #![tactic(auto)]
 
+mod laws;
 mod line;
 mod number;
 mod reader;
@@ -8,6 +9,7 @@ mod request;
 mod words;
 mod writer;
 
+pub use laws::front_item;
 pub use reader::{Read, Want, one_item, read_request};
 pub use request::{Fault, Request};
 pub use writer::{write_fault, write_reply};

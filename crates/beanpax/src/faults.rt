@@ -1,6 +1,8 @@
 ghost use Rattle.std.specs.Prelude.{◌≡◌};
 ghost use Rattle.beanpax.specs.Faults.{number_of, line_of};
 
+use crate::reading::ReadAllError;
+use std::alloc::AllocError;
 use thiserror::Error;
 
 /// How a client's session ended.
@@ -43,6 +45,30 @@ impl SessionFault {
             SessionFault::OutOfMemory => "beanpax: 1 out of memory\n",
             SessionFault::ReadFailed => "beanpax: 7 read failed\n",
             SessionFault::WriteFailed => "beanpax: 8 write failed\n",
+        }
+    }
+}
+
+impl From<AllocError> for SessionFault {
+    ghost use Rattle.beanpax.specs.declared.faults.SessionFault.{SessionFault};
+    ghost use Rattle.beanpax.specs.declared.faults.SessionFault.TheVariants.{OutOfMemory};
+
+    ghost from_gives = { λ _ fault. fault ≡ OutOfMemory };
+
+    fn from(_: AllocError) -> SessionFault {
+        SessionFault::OutOfMemory
+    }
+}
+
+impl From<ReadAllError> for SessionFault {
+    ghost use Rattle.beanpax.specs.ReadFaults.{fault_of};
+
+    ghost from_gives = { λ error fault. fault ≡ fault_of error };
+
+    fn from(error: ReadAllError) -> SessionFault {
+        match error {
+            ReadAllError::OutOfMemory => SessionFault::OutOfMemory,
+            ReadAllError::ReadFailed => SessionFault::ReadFailed,
         }
     }
 }

@@ -1,17 +1,21 @@
 //! The work queue as a program: requests as bytes in, replies as bytes out.
 #![tactic(auto)]
 
+mod client;
 mod entry;
 mod faults;
+mod laws;
 pub mod memory;
 mod reading;
 mod run;
 mod streams;
+mod transcript;
 mod words;
 mod writing;
 
 pub use entry::{DONE, FAULT, WRONG_WORDS, program};
 pub use faults::{End, SessionFault};
+pub use laws::one_transcript;
 pub use reading::{ReadAllError, Reading, read_all};
 pub use run::run_bytes;
 pub use streams::{ByteIn, ByteOut, Failed};

@@ -1,20 +1,39 @@
-ghost use Rattle.std.specs.Prelude.{◌≡◌, true};
+ghost use Rattle.std.specs.Prelude.{◌≡◌, true, IfOk, OnOk, OnErr};
+ghost use Rattle.std.specs.Io.KnownBytes.{IsAtEnd};
+ghost use Rattle.beanpax.specs.Runs.{Answers, BreaksOff};
 
 use crate::faults::{End, SessionFault};
+use crate::reading::read_all;
 use crate::streams::{ByteIn, ByteOut};
+use crate::transcript::transcript_of;
+use crate::writing::write_all;
+use bean_codec::front_item;
 use std::alloc::Global;
 
-/// Answers the requests that are read, one after the other.
+/// Answers one client, whose requests are read to their end, on so many nodes; there is one as yet.
+///
+/// What is written doesn't depend on the seed.
 pub fn run_bytes<R: ByteIn, W: ByteOut>(
-    _alloc: Global,
-    _nodes: u8,
-    _seed: u64,
-    _reader: &mut R,
-    _writer: &mut W,
+    alloc: Global,
+    nodes: u8,
+    seed: u64,
+    reader: &mut R,
+    writer: &mut W,
 ) -> Result<End, SessionFault>
-    requires { _nodes ≡ 1 }
-    ensures read_failed { result ≡ Err SessionFault.ReadFailed → R.has_failed _reader.new ≡ true }
-    ensures write_failed { result ≡ Err SessionFault.WriteFailed → W.has_failed _writer.new ≡ true }
+    requires { nodes ≡ 1 }
+    ensures answers { IfOk result (Answers (R.remaining reader.old) (R.remaining reader.new)
+        (W.contents writer.old) (W.contents writer.new)) }
+    ensures nothing_left { OnOk result (IsAtEnd (R.remaining reader.new)) }
+    ensures ended { OnOk result (R.has_ended reader.new ≡ true) }
+
+    ensures breaks_off { OnErr result (BreaksOff (R.remaining reader.old) (R.remaining reader.new)
+        (W.contents writer.old) (W.contents writer.new)) }
+    ensures read_failed { result ≡ Err SessionFault.ReadFailed → R.has_failed reader.new ≡ true }
+    ensures write_failed { result ≡ Err SessionFault.WriteFailed → W.has_failed writer.new ≡ true }
 {
-    Ok(End::Eof)
+    front_item();
+    let input = read_all(alloc, reader)?;
+    let transcript = transcript_of(alloc, input.as_slice())?;
+    write_all(writer, transcript.text.as_slice()).map_err(|_| SessionFault::WriteFailed)?;
+    Ok(transcript.end)
 }

@@ -1,0 +1,4 @@
+pub mod Replies
+pub mod Readings
+pub mod Whole
+pub mod Runs

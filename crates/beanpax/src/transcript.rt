@@ -1,0 +1,52 @@
+ghost use Rattle.std.specs.Prelude.{◌≡◌, ◌++◌, IfOk};
+ghost use Rattle.beanpax.specs.Transcripts.{IsTranscript};
+
+use crate::client::Client;
+use crate::faults::End;
+use bean_codec::{Read, Request, Want, read_request, write_fault, write_reply};
+use std::alloc::{AllocError, Global};
+
+/// What a client is told, and how its session ends.
+#[derive(Drop)]
+pub struct Transcript {
+    pub text: Vec<u8>,
+    pub end: End,
+}
+
+/// The answers to the requests that the bytes spell, up to the first quit.
+pub fn transcript_of(alloc: Global, bytes: &[u8]) -> Result<Transcript, AllocError>
+    ensures { IfOk result (λ t. IsTranscript bytes.now t.text.items t.end) }
+{
+    let mut client = Client::new(alloc)?;
+    let mut text = Vec::new(alloc);
+    let mut rest = bytes;
+    'items: loop {
+        match read_request(alloc, Want::Line, rest)? {
+            Read::More => {
+                return Ok(Transcript {
+                    text,
+                    end: End::Eof,
+                });
+            }
+            Read::Bad { fault, used } => {
+                write_fault(fault, &mut text)?;
+                rest = &rest[used..];
+            }
+            Read::Request { request, used } => {
+                match request {
+                    Request::Quit => {
+                        return Ok(Transcript {
+                            text,
+                            end: End::Quit,
+                        });
+                    }
+                    Request::Do(op) => {
+                        let reply = client.ask(op)?;
+                        write_reply(&reply, &mut text)?;
+                    }
+                }
+                rest = &rest[used..];
+            }
+        }
+    }
+}

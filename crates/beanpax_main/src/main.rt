@@ -1,0 +1,36 @@
+//! The program: its words, and the standard streams.
+#![tactic(auto)]
+
+use beanpax::{Reading, SessionFault, Writing, program, write_all};
+use std::process::ExitCode;
+use std::rt::Env;
+use std::{env, io};
+
+fn main(rt: HostRuntime) -> ExitCode {
+    let mut input = Reading::new(rt.stdin());
+    let mut output = Writing::new(rt.stdout());
+    let mut errors = Writing::new(rt.stderr());
+    let status = match words(&rt) {
+        Ok(words) => program(
+            rt.alloc(),
+            words.as_slice(),
+            &mut input,
+            &mut output,
+            &mut errors,
+        ),
+        Err(e) if e.kind() == io::ErrorKind::OutOfMemory => {
+            let _ = write_all(&mut errors, SessionFault::OutOfMemory.line().as_bytes());
+            1
+        }
+        Err(_) => {
+            let _ = write_all(&mut errors, b"error: a word is no text\n");
+            2
+        }
+    };
+    ExitCode::from(status)
+}
+
+// The words of the command line, the program's name first.
+fn words<R: Env + AllocGlobal>(rt: &R) -> io::Result<Vec<String>> {
+    Ok(env::args(rt)?.collect(rt.alloc())?)
+}
