@@ -1,0 +1,3 @@
+pub mod Memberships
+pub mod PlaceOrder
+pub mod Kept

@@ -1,0 +1,7 @@
+use Rattle.std.proofs.Common.{◌≡◌, map}
+use Rattle.std.specs.Map.Iter.{deref_pair}
+use Rattle.acceptor.specs.Places.{pvalue_of}
+use Rattle.acceptor.proofs.acceptor.Acceptor.report.Given as goal
+
+abbrev pub invariant-loop-place : goal.invariant-loop-place
+invariant-loop-place g l = l.report.items ≡ map pvalue_of (map deref_pair l.yielded)

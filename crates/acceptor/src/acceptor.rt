@@ -1,0 +1,100 @@
+ghost use Rattle.std.specs.Prelude.{◌≡◌, false, IfOk, OnOk, OnErr};
+ghost use Rattle.ballot.specs.Ballots.{higher, is_promise};
+ghost use Rattle.acceptor.specs.Reports.{IsReport};
+ghost use Rattle.acceptor.specs.Acceptors.{new_acceptor, after_p1a, after_p2a, Keeps};
+
+use crate::place::Place;
+use ballot::{Ballot, Pvalue};
+use object::Value;
+use std::alloc::{AllocError, Global};
+use std::collections::BTreeMap;
+use std::marker::Model;
+
+/// An acceptor. It keeps all that it accepted, by slot and then by ballot.
+#[derive(Drop)]
+pub struct Acceptor<C: Value> {
+    promised: Option<Ballot>,
+    accepted: BTreeMap<Place, C>,
+    alloc: Global,
+}
+
+impl<C: Value> Model for Acceptor<C> {
+    ghost use Rattle.std.specs.Prelude.{map};
+    ghost use Rattle.acceptor.specs.Acceptors.{Acceptances};
+    ghost use Rattle.acceptor.specs.Places.{pvalue_of};
+
+    ghost Value = { Acceptances C };
+
+    ghost view = { λ a. record { promised = a.promised; accepted = map pvalue_of a.accepted.entries } };
+}
+
+impl<C: Value> Acceptor<C> {
+    /// An acceptor that has promised and accepted nothing.
+    pub fn new(alloc: Global) -> Self
+        ensures { result ≡ new_acceptor }
+    {
+        Acceptor {
+            promised: None,
+            accepted: BTreeMap::new(alloc),
+            alloc,
+        }
+    }
+
+    /// Hears a P1a: promises the ballot where it is higher, and answers with a P1b, which has the ballot
+    /// that is promised now and a report of what was accepted.
+    pub fn on_p1a(&mut self, ballot: Ballot) -> Result<(Ballot, Vec<Pvalue<C>>), AllocError>
+        ensures state { OnOk result (self.new ≡ after_p1a self.old ballot) }
+        ensures promised { IfOk result (λ answer. answer.0 ≡ higher self.old.promised ballot) }
+        ensures report { IfOk result (λ answer. IsReport self.old.accepted answer.1.items) }
+        ensures err { OnErr result (self.new ≡ self.old) }
+    {
+        let report = self.report()?;
+        let promised = match self.promised {
+            None => ballot,
+            Some(old) => {
+                if old < ballot {
+                    ballot
+                } else {
+                    old
+                }
+            }
+        };
+        self.promised = Some(promised);
+        Ok((promised, report))
+    }
+
+    /// Hears a P2a: accepts the pvalue where its ballot is the promised one, and answers with the ballot of
+    /// a P2b, the promised one, which no P2a changes.
+    pub fn on_p2a(&mut self, pvalue: Pvalue<C>) -> Result<Option<Ballot>, AllocError>
+        ensures state { OnOk result (Keeps (after_p2a self.old pvalue) self.new) }
+        ensures refused { OnOk result (is_promise self.old.promised pvalue.ballot ≡ false → self.new ≡ self.old) }
+        ensures promised { IfOk result (λ promised. promised ≡ self.old.promised) }
+        ensures err { OnErr result (self.new ≡ self.old) }
+    {
+        if self.promised != Some(pvalue.ballot) {
+            return Ok(self.promised);
+        }
+        let place = Place {
+            slot: pvalue.slot,
+            ballot: pvalue.ballot,
+        };
+        self.accepted.insert(place, pvalue.value)?;
+        Ok(self.promised)
+    }
+
+    // All that was accepted, in rising slot and then in rising ballot.
+    fn report(&self) -> Result<Vec<Pvalue<C>>, AllocError>
+        ensures { IfOk result (λ report. report.items ≡ self.now.accepted) }
+    {
+        let mut report = Vec::new(self.alloc);
+        let accepted = &self.accepted;
+        for (place, value) in accepted {
+            report.push(Pvalue {
+                ballot: place.ballot,
+                slot: place.slot,
+                value: value.copy()?,
+            })?;
+        }
+        Ok(report)
+    }
+}
