@@ -1,13 +1,8 @@
-// A library with one function.
+//! Scouts and commanders: who was heard, and whether they are a majority.
 #![tactic(auto)]
 
-ghost use Rattle.std.specs.Prelude.{◌≡◌};
-ghost use Rattle.scout_commander.specs.Echo.{echo_of};
+mod commander;
+mod scout;
 
-// The `ensures` clause is the contract: what `echo` returns is `echo_of` of its argument, a definition
-// in `specs/Echo.antt`, which a caller's clause can cite too.
-pub fn echo(x: usize) -> usize
-    ensures { result ≡ echo_of x }
-{
-    x
-}
+pub use commander::{Commander, Voted};
+pub use scout::{Heard, Scout};
