@@ -1,12 +1,12 @@
 -- The best job: the tests decide what they are named after, and the answer is what is asked for.
-use Rattle.std.proofs.Common.{◌≡◌, ℕ, ◌<◌, ◌≤◌, Bool, true, false, cond, ◌&&◌, ◌||◌, ◌⊎◌, inl, inr, List, [], ◌∷◌, Option, Some, None, option_map, MatchOption, IfSome, IfNone, ◌==◌, nat_lt, bytes_eq, refl, sym, ap, subst, ◌∙◌, arith, eq-eqb, eqb-true, ltb-true, lt-ltb}
+use Rattle.std.proofs.Common.{◌≡◌, ℕ, suc, ◌≤◌, true, false, cond, ◌&&◌, inl, inr, List, [], ◌∷◌, Option, Some, None, option_map, MatchOption, IfSome, IfNone, ◌==◌, nat_lt, bytes_eq, refl, sym, ap, subst, ◌∙◌, arith, eq-eqb, eqb-true, ltb-true, lt-ltb}
 use Rattle.std.proofs.lemmas.Bool.{both_ways, or_cases, or_left, or_right, and_parts, and_from}
-use Rattle.std.proofs.lemmas.Bool.Decides.{nat_tests}
 use Rattle.std.proofs.lemmas.Slice.Eq.{bytes_eq-Decides}
 use Rattle.std.specs.List.{list_any}
 use Rattle.object.specs.Lists.{In}
 use Rattle.bean_queue.specs.declared.job.Job.{Job}
 use Rattle.bean_queue.specs.declared.job.State.{State}
+use Rattle.bean_queue.specs.Entries.{Rising}
 use Rattle.bean_queue.specs.Queue.{is_ready}
 use Rattle.bean_queue.specs.Best.{IsWanted, ComesBefore, IsBest, NoneIsWanted, is_wanted, comes_before, first_of, best_job}
 
@@ -136,3 +136,30 @@ best_job-none watched jobs = missed watched jobs (best_job watched jobs) (answer
 pub best_job-shown : {A : Type 0} (show : A → ℕ × Job) (watched : List (List ℕ)) (jobs : List (ℕ × Job)) (o : Option A) → option_map show o ≡ best_job watched jobs → IfSome o (λ a. IsBest watched jobs (show a)) × IfNone o (NoneIsWanted watched jobs)
 best_job-shown show watched jobs None e = (tt, subst (λ o. IfNone o (NoneIsWanted watched jobs)) (sym e) (best_job-none watched jobs))
 best_job-shown show watched jobs (Some a) e = (subst (λ o. IfSome o (IsBest watched jobs)) (sym e) (best_job-found watched jobs), tt)
+
+-- Where no id stands twice, only one job is best
+
+key_from : (lo hi : ℕ) (es : List (ℕ × Job)) (e : ℕ × Job) → Rising lo hi es → In e es → lo ≤ e.0
+key_from lo hi [] e r i = absurd i
+key_from lo hi (d ∷ es) e r (inl same) = omega (arith, ap (λ (p : ℕ × Job). p.0) same, r.0)
+key_from lo hi (d ∷ es) e r (inr later) = omega (arith, key_from (suc d.0) hi es e r.1 later, r.0)
+
+same_entry : (lo hi : ℕ) (es : List (ℕ × Job)) (d e : ℕ × Job) → Rising lo hi es → In d es → In e es → d.0 ≡ e.0 → d ≡ e
+same_entry lo hi [] d e r i j same = absurd i
+same_entry lo hi (z ∷ es) d e r (inl i) (inl j) same = i ∙ sym j
+same_entry lo hi (z ∷ es) d e r (inl i) (inr j) same = absurd (omega (arith, ap (λ (p : ℕ × Job). p.0) i, key_from (suc z.0) hi es e r.1 j, same))
+same_entry lo hi (z ∷ es) d e r (inr i) (inl j) same = absurd (omega (arith, ap (λ (p : ℕ × Job). p.0) j, key_from (suc z.0) hi es d r.1 i, same))
+same_entry lo hi (z ∷ es) d e r (inr i) (inr j) same = same_entry (suc z.0) hi es d e r.1 i j same
+
+same_id : (d e : ℕ × Job) → (ComesBefore d e → ⊥) → (ComesBefore e d → ⊥) → d.0 ≡ e.0
+same_id d e de ed = grind arith
+
+pub best_job-only : (watched : List (List ℕ)) (jobs : List (ℕ × Job)) (lo hi : ℕ) (e : ℕ × Job) → Rising lo hi jobs → IsBest watched jobs e → best_job watched jobs ≡ Some e
+best_job-only watched jobs lo hi e r best =
+    elim (best_job watched jobs) as (λ o. IsAnswer watched jobs o → o ≡ Some e) [
+      | None ↦ λ none. absurd (none e best.member best.wanted)
+      | Some d ↦ λ it.
+          ap Some
+          (same_entry lo hi jobs d e r it.member best.member
+          (same_id d e (best.least d it.member it.wanted) (it.least e best.member best.wanted)))
+    ] (answer watched jobs)

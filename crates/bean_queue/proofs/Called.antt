@@ -1,10 +1,9 @@
 -- A session that is made, and one that is forgotten again.
-use Rattle.std.proofs.Common.{◌≡◌, ℕ, true, false, cond, List, Option, Some, None, IsSome, is_some, nat_cmp, refl, sym, ap, subst, ◌∙◌}
+use Rattle.std.proofs.Common.{◌≡◌, ℕ, true, false, cond, None, IsSome, is_some, nat_cmp, refl, sym, ap, subst, ◌∙◌}
 use Rattle.std.proofs.lemmas.Bool.{cond-false}
 use Rattle.std.specs.BTreeMap.{insert_entry}
-use Rattle.bean_queue.specs.declared.session.Session.{Session}
 use Rattle.bean_queue.specs.Entries.{value_at, without}
-use Rattle.bean_queue.specs.Queue.{QueueState, new_session, known}
+use Rattle.bean_queue.specs.Queue.{QueueState, new_session}
 use Rattle.bean_queue.specs.Effects.{called}
 use Rattle.bean_queue.proofs.EntryLaws.{value_at-insert, without-insert}
 

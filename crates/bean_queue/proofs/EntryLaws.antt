@@ -1,5 +1,5 @@
 -- Lists of entries: keys that rise, and the words of `BTreeMap`'s contracts in those of the definitions.
-use Rattle.std.proofs.Common.{◌≡◌, ℕ, suc, ◌+◌, ◌<◌, ◌≤◌, Bool, true, false, cond, not, inl, inr, List, [], ◌∷◌, ◌++◌, Option, Some, None, ◌==◌, nat_lt, nat_cmp, refl, sym, ap, ap₂, ◌∙◌, arith, eq-eqb, ne_eqb, le-ltb, lt-ltb, Less, Equal, Greater}
+use Rattle.std.proofs.Common.{◌≡◌, ℕ, suc, ◌+◌, ◌<◌, ◌≤◌, true, false, cond, not, inl, inr, List, [], ◌∷◌, ◌++◌, Some, None, ◌==◌, nat_lt, nat_cmp, refl, sym, ap, ap₂, ◌∙◌, arith, eq-eqb, ne_eqb, le-ltb, lt-ltb, Less, Equal, Greater}
 use Rattle.std.proofs.lemmas.Bool.{cases_eq, cases_order, cond-true, cond-false}
 use Rattle.std.specs.Ordering.{match_ordering}
 use Rattle.std.specs.Map.{remove_entry, set_value}

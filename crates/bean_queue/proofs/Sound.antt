@@ -1,13 +1,13 @@
 -- What keeps a queue sound.
-use Rattle.std.proofs.Common.{◌≡◌, ℕ, ◌+◌, ◌≤◌, ◌<◌, ◌^◌, List, ◌∷◌, [], ◌++◌, nat_cmp, subst, sym, ◌∙◌, arith}
+use Rattle.std.proofs.Common.{◌≡◌, ℕ, ◌+◌, ◌≤◌, ◌<◌, ◌^◌, List, nat_cmp, subst, sym, ◌∙◌, arith}
 use Rattle.std.specs.Map.{remove_entry}
 use Rattle.std.specs.BTreeMap.{is_at, insert_entry}
 use Rattle.bean_queue.specs.declared.job.Job.{Job}
 use Rattle.bean_queue.specs.declared.session.Session.{Session}
-use Rattle.bean_queue.specs.Entries.{Rising, each_value, altered, without}
+use Rattle.bean_queue.specs.Entries.{Rising, each_value, altered}
 use Rattle.bean_queue.specs.Queue.{QueueState}
 use Rattle.bean_queue.specs.Sound.{IsSound}
-use Rattle.bean_queue.proofs.EntryLaws.{Rising-wider, Rising-each, Rising-altered, Rising-without, Rising-push, Rising-insert, remove_entry-without, insert_entry-push}
+use Rattle.bean_queue.proofs.EntryLaws.{Rising-each, Rising-altered, Rising-without, Rising-push, Rising-insert, remove_entry-without, insert_entry-push}
 
 -- other jobs, or other sessions
 with_jobs-sound : (s : QueueState) (jobs new : List (ℕ × Job)) → new ≡ jobs → Rising 1 s.next_id jobs → IsSound s → IsSound (record s { jobs = new })

@@ -1,5 +1,5 @@
 -- The laws of an object: a command of the queue brings at most one answer, to itself.
-use Rattle.std.proofs.Common.{◌≡◌, Bool, true, false, cond, ◌⊎◌, inl, inr, List, [], ◌∷◌, ap, nat_lt}
+use Rattle.std.proofs.Common.{◌≡◌, Bool, true, false, cond, inl, inr, ap, nat_lt}
 use Rattle.object.specs.Lists.{In}
 use Rattle.object.specs.Answers.{AnswersOnce}
 use Rattle.object.specs.declared.command.Act.{Act}

@@ -35,14 +35,26 @@ impl Model for PlainQueue {
 
     ghost Value = { QueueState };
 
-    ghost view = { λ q. record { now = q.now; next_id = q.next_id; next_rank = q.next_rank; jobs = q.jobs.entries; sessions = q.sessions.entries } };
+    ghost view = { λ q. record {
+      now = q.now;
+      next_id = q.next_id;
+      next_rank = q.next_rank;
+      jobs = q.jobs.entries;
+      sessions = q.sessions.entries;
+    } };
 
-    ghost invariant = { λ q. IsSound (record { now = q.now; next_id = q.next_id; next_rank = q.next_rank; jobs = q.jobs.entries; sessions = q.sessions.entries }) };
+    ghost invariant = { λ q. IsSound (record {
+      now = q.now;
+      next_id = q.next_id;
+      next_rank = q.next_rank;
+      jobs = q.jobs.entries;
+      sessions = q.sessions.entries;
+    }) };
 }
 
 impl PlainQueue {
     /// Makes a session, unless it is there, and tells whether it was made.
-    fn meet(&mut self, session: u32) -> Result<bool, AllocError>
+    fn make_session(&mut self, session: u32) -> Result<bool, AllocError>
         ensures ok { OnOk result (self.new ≡ called session self.old) }
         ensures made { IfOk result (λ made. IsTrue made ↔ (value_at session self.old.sessions ≡ None)) }
         ensures err { OnErr result (self.new ≡ self.old) }
@@ -56,17 +68,20 @@ impl PlainQueue {
     }
 
     /// Forgets a session.
-    fn forget(&mut self, session: u32)
+    fn forget_session(&mut self, session: u32)
         ensures { self.new ≡ record self.old { sessions = without session self.old.sessions } }
     {
         self.sessions.remove(&session);
     }
 
+    /// Puts a job, for a session that is there.
     #[tactic(auto, unfolding(crate::specs::Rows::put_row))]
     fn put(&mut self, session: u32, pri: u32, ttr: u32, body: &Body) -> Result<Reply, AllocError>
         requires { IsSome (value_at session self.old.sessions) }
-        ensures state { OnOk result (self.new ≡ (put_row self.old session pri ttr body.now).state) }
-        ensures reply { IfOk result (λ reply. reply ≡ (put_row self.old session pri ttr body.now).reply) }
+        ensures state { OnOk result
+            (self.new ≡ (put_row self.old session pri ttr body.now).state) }
+        ensures reply { IfOk result
+            (λ reply. reply ≡ (put_row self.old session pri ttr body.now).reply) }
         ensures err { OnErr result (self.new ≡ self.old) }
     {
         let id = self.next_id;
@@ -85,6 +100,7 @@ impl PlainQueue {
         Ok(Reply::Inserted(id))
     }
 
+    /// Gives the best job to a session that is there, or tells that there is none.
     #[tactic(auto, unfolding(crate::specs::Rows::reserve_row))]
     fn reserve(&mut self, session: u32) -> Result<Reply, AllocError>
         requires { IsSome (value_at session self.old.sessions) }
@@ -111,6 +127,7 @@ impl PlainQueue {
         }
     }
 
+    /// Deletes a job.
     #[tactic(auto, unfolding(crate::specs::Rows::delete_row))]
     fn delete(&mut self, session: u32, id: u64) -> Reply
         ensures state { self.new ≡ (delete_row self.old session id).state }
@@ -125,6 +142,7 @@ impl PlainQueue {
         }
     }
 
+    /// Ends a session, whose jobs become ready.
     #[tactic(auto, unfolding(crate::specs::Effects::close_effect))]
     fn close(&mut self, session: u32)
         ensures { self.new ≡ (close_effect session self.old).state }
@@ -133,6 +151,7 @@ impl PlainQueue {
         self.sessions.remove(&session);
     }
 
+    /// Lets a second come, unless it has come before.
     #[tactic(auto, unfolding(crate::specs::Effects::tick_effect))]
     fn tick(&mut self, second: u64)
         requires { second ≤ 2 ^ 40 }
@@ -160,14 +179,16 @@ impl PlainQueue {
 
     /// Obeys an operation of a session, which is made where it is not there.
     fn obey(&mut self, session: u32, op: &Op) -> Result<Reply, AllocError>
-        ensures state { OnOk result (self.new ≡ (row op.now session (called session self.old)).state) }
-        ensures reply { IfOk result (λ reply. reply ≡ (row op.now session (called session self.old)).reply) }
+        ensures state { OnOk result
+            (self.new ≡ (row op.now session (called session self.old)).state) }
+        ensures reply { IfOk result
+            (λ reply. reply ≡ (row op.now session (called session self.old)).reply) }
         ensures err { OnErr result (self.new ≡ self.old) }
     {
-        let made = self.meet(session)?;
+        let made = self.make_session(session)?;
         let reply = self.reply_to(session, op);
         if made && reply.is_err() {
-            self.forget(session);
+            self.forget_session(session);
         }
         reply
     }
@@ -178,8 +199,8 @@ impl Object for PlainQueue {
 
     type Reply = Reply;
 
-    ghost use Rattle.bean_queue.specs.Queue.{fresh as new_queue};
     ghost use Rattle.std.proofs.Common.{inl};
+    ghost use Rattle.bean_queue.specs.Queue.{fresh as new_queue};
     ghost use Rattle.bean_queue.specs.Effects.{effect};
     ghost use Rattle.bean_queue.specs.EffectLaws.{effect-lawful};
 

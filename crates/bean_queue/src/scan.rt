@@ -22,7 +22,8 @@ fn comes_before(a: (u64, &Job), b: (u64, &Job)) -> bool
 
 /// Of the best so far and one more job, the one that comes first.
 fn first_of<'a>(best: Option<(u64, &'a Job)>, other: (u64, &'a Job)) -> (u64, &'a Job)
-    ensures { Some (result.0, result.1.now) ≡ first_of (option_map (λ e. (e.0, e.1.now)) best.entry) (Some (other.entry.0, other.entry.1.now)) }
+    ensures { Some (result.0, result.1.now)
+        ≡ first_of (option_map (λ e. (e.0, e.1.now)) best.entry) (Some (other.entry.0, other.entry.1.now)) }
 {
     match best {
         Some(best) if !comes_before(other, best) => best,

@@ -16,6 +16,8 @@ pub fn set_state(jobs: &mut BTreeMap<u64, Job>, id: u64, state: State)
     }
 }
 
+// The two below keep every job: what `retain` writes is known for each.
+
 /// Makes the jobs ready that the session has.
 pub fn release(jobs: &mut BTreeMap<u64, Job>, session: u32)
     ensures { jobs.new.entries ≡ each_value (released_by session) jobs.old.entries }

@@ -1,6 +1,6 @@
-use Rattle.std.proofs.Common.{◌≡◌, ◌∷◌, [], ◌++◌, ◌∙◌, arith}
+use Rattle.std.proofs.Common.{◌∙◌, arith}
 use Rattle.std.proofs.lemmas.Grind.{common_steps}
-use Rattle.bean_queue.specs.Rows.{put_row, put_job}
+use Rattle.bean_queue.specs.Rows.{put_row}
 use Rattle.bean_queue.proofs.EntryLaws.{insert_entry-push}
 use Rattle.bean_queue.proofs.Sound.{put-sound}
 use Rattle.bean_queue.proofs.plain_queue.PlainQueue.put.Goals as goal

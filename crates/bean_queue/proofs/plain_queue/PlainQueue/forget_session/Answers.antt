@@ -2,7 +2,7 @@ use Rattle.std.proofs.Common.{◌≡◌, ◌∙◌, rules}
 use Rattle.bean_queue.specs.Entries.{without}
 use Rattle.bean_queue.proofs.EntryLaws.{remove_entry-without}
 use Rattle.bean_queue.proofs.Sound.{forgotten-sound}
-use Rattle.bean_queue.proofs.plain_queue.PlainQueue.forget.Goals as goal
+use Rattle.bean_queue.proofs.plain_queue.PlainQueue.forget_session.Goals as goal
 
 pub invariant_of-self : goal.invariant_of-self
 invariant_of-self c = forgotten-sound _ c.args.session _ c.self.invariant c.remove.ensures.entries
