@@ -25,10 +25,11 @@ pub record IsBest (watched : List (List ℕ)) (jobs : List (ℕ × Job)) (e : �
 abbrev pub NoneIsWanted : List (List ℕ) → List (ℕ × Job) → Type 0
 NoneIsWanted watched jobs = (e : ℕ × Job) → In e jobs → IsWanted watched e.1 → ⊥
 
--- the tests of the same names
+-- whether the job is ready, in a tube that is watched
 abbrev pub is_wanted : List (List ℕ) → Job → Bool
 is_wanted watched job = is_ready job.state && list_any (λ name. bytes_eq name job.tube) watched
 
+-- whether the first of two jobs is more urgent
 abbrev pub comes_before : ℕ × Job → ℕ × Job → Bool
 comes_before d e = nat_lt d.1.pri e.1.pri || (d.1.pri == e.1.pri && nat_lt d.0 e.0)
 

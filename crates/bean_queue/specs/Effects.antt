@@ -25,10 +25,11 @@ silent s = record { state = s; answers = [] }
 abbrev pub answered : Key → Row → Outcome
 answered key r = record { state = r.state; answers = record { to = key; reply = r.reply } ∷ [] }
 
--- session x is there, whatever it is told next
+-- the state in which session x is told a reply: it is there
 abbrev pub called : ℕ → QueueState → QueueState
 called x s = record s { sessions = known x s.sessions }
 
+-- an operation is answered by its reply, after its session is made if it is not there
 unfoldable pub do_effect : Op → Key → QueueState → Outcome
 do_effect op key s = answered key (row op key.session (called key.session s))
 
@@ -51,10 +52,12 @@ tick_effect second s =
     then silent (record s { now = second; jobs = each_value (come_due second) s.jobs })
     else silent s
 
+-- what an act under this key does
 abbrev pub act_effect : Act Op → Key → QueueState → Outcome
 act_effect (Act.Do op) key s = do_effect op key s
 act_effect Act.Close key s = close_effect key.session s
 act_effect Act.Tick key s = tick_effect key.number s
 
+-- what a command does
 abbrev pub effect : Command Op → QueueState → Outcome
 effect c s = act_effect c.act c.key s

@@ -32,6 +32,7 @@ session_of x sessions = unwrap_or (value_at x sessions) new_session
 abbrev pub known : ℕ → List (ℕ × Session) → List (ℕ × Session)
 known x sessions = if is_some (value_at x sessions) then sessions else insert_entry nat_cmp sessions x new_session
 
+-- anyone who watches its tube may reserve the job
 abbrev pub is_ready : State → Bool
 is_ready State.Ready = true
 is_ready (State.Reserved x due) = false
@@ -46,6 +47,7 @@ abbrev pub is_due : ℕ → State → Bool
 is_due second State.Ready = false
 is_due second (State.Reserved x due) = nat_le due second
 
+-- the job, in this state
 abbrev pub with_state : State → Job → Job
 with_state state job = record job { state = state }
 

@@ -8,17 +8,21 @@ use Rattle.bean_queue.specs.Entries.{value_at, altered, without}
 use Rattle.bean_queue.specs.Queue.{QueueState, session_of, with_state, holds_by}
 use Rattle.bean_queue.specs.Best.{best_job}
 
+-- the state after an operation, and the reply to it
 pub record Row : Type 0 where
   pub state : QueueState
   pub reply : Reply
 
+-- this state, and this reply
 abbrev pub replies : QueueState → Reply → Row
 replies s reply = record { state = s; reply = reply }
 
+-- the state, with these jobs
 abbrev pub with_jobs : QueueState → List (ℕ × Job) → QueueState
 with_jobs s jobs = record s { jobs = jobs }
 
--- a new job of session x: ready, in the tube that it uses, with a second to run at least
+-- a new job of session x: ready, in the tube that it uses, with a second to run at least (protocol.txt of
+-- beanstalkd, "put": ttr)
 abbrev pub put_job : QueueState → ℕ → ℕ → ℕ → List ℕ → Job
 put_job s x pri ttr body =
     record { tube = (session_of x s.sessions).used; pri = pri; ttr = max ttr 1; body = body; state = State.Ready }
@@ -33,7 +37,8 @@ put_row s x pri ttr body =
     (record s { next_id = s.next_id + 1; jobs = s.jobs ++ (s.next_id, put_job s x pri ttr body) ∷ [] })
     (Reply.Inserted s.next_id)
 
--- session x gets the job until its time to run is over, or is told that there is none
+-- session x gets the job until its time to run is over, or is told that there is none, and whether one of its
+-- own is due within a second (protocol.txt of beanstalkd, "reserve": DEADLINE_SOON)
 abbrev pub given : QueueState → ℕ → Option (ℕ × Job) → Row
 given s x None = replies s (if holds_by x (s.now + 1) s.jobs then Reply.DeadlineSoon else Reply.TimedOut)
 given s x (Some e) =
@@ -66,6 +71,7 @@ delete_row s x id =
     then replies (with_jobs s (without id s.jobs)) Reply.Deleted
     else replies s Reply.NotFound
 
+-- what an operation of session x does
 abbrev pub row : Op → ℕ → QueueState → Row
 row (Op.Put pri ttr body) x s = put_row s x pri ttr body
 row Op.Reserve x s = reserve_row s x
