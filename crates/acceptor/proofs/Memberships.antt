@@ -52,9 +52,9 @@ module _ {K X : Type 0} (cmp : K → K → Ordering) (exact : CmpEqualImpliesEq 
         | Less ↦ λ h j. elim j as (λ j. In x (e ∷ es) ⊎ (x ≡ (k, v))) [ inl same ↦ inr same | inr there ↦ inl there ]
         | Equal ↦ λ h j. elim j as (λ j. In x (e ∷ es) ⊎ (x ≡ (k, v))) [ inl same ↦ inr (same ∙ ap (λ q. (q, v)) (sym (exact k e.0 h))) | inr there ↦ inl (inr there) ]
         | Greater ↦ λ h j. elim j as (λ j. In x (e ∷ es) ⊎ (x ≡ (k, v))) [
-            | inl same ↦ inl (inl same)
-            | inr there ↦ ⊎_elim (λ (i : In x es). inl (inr i)) (λ (e : x ≡ (k, v)). inr e) (put_only es x there)
-          ]
+          | inl same ↦ inl (inl same)
+          | inr there ↦ ⊎_elim (λ (i : In x es). inl (inr i)) (λ (e : x ≡ (k, v)). inr e) (put_only es x there)
+        ]
       ] refl i
 
   -- an old entry stays, unless it is of the same key
@@ -65,7 +65,7 @@ module _ {K X : Type 0} (cmp : K → K → Ordering) (exact : CmpEqualImpliesEq 
         | Less ↦ λ h. inl (inr i)
         | Equal ↦ λ h. elim i as (λ i. In x ((e.0, v) ∷ es) ⊎ (x.0 ≡ k)) [ inl same ↦ inr (ap (λ (p : K × X). p.0) same ∙ sym (exact k e.0 h)) | inr there ↦ inl (inr there) ]
         | Greater ↦ λ h. elim i as (λ i. In x (e ∷ insert_entry cmp es k v) ⊎ (x.0 ≡ k)) [
-            | inl same ↦ inl (inl same)
-            | inr there ↦ ⊎_elim (λ (j : In x (insert_entry cmp es k v)). inl (inr j)) (λ (e : x.0 ≡ k). inr e) (put_keeps es x there)
-          ]
+          | inl same ↦ inl (inl same)
+          | inr there ↦ ⊎_elim (λ (j : In x (insert_entry cmp es k v)). inl (inr j)) (λ (e : x.0 ≡ k). inr e) (put_keeps es x there)
+        ]
       ] refl

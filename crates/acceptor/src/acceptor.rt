@@ -51,13 +51,7 @@ impl<C: Value> Acceptor<C> {
         let report = self.report()?;
         let promised = match self.promised {
             None => ballot,
-            Some(old) => {
-                if old < ballot {
-                    ballot
-                } else {
-                    old
-                }
-            }
+            Some(old) => { if old < ballot { ballot } else { old } }
         };
         self.promised = Some(promised);
         Ok((promised, report))

@@ -1,2 +1,3 @@
 pub mod Majorities
 pub mod Weights
+pub mod Sending

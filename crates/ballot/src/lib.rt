@@ -11,7 +11,7 @@ mod slot;
 
 pub use ballot::Ballot;
 pub use laws::{ballot_order, majorities_share_a_member};
-pub use letter::{Body, Letter};
+pub use letter::{Body, Letter, send_to_all};
 pub use member_set::MemberSet;
 pub use members::Members;
 pub use pvalue::{Pvalue, Pvalues};

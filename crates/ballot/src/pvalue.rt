@@ -86,3 +86,37 @@ impl<C> Pvalues<C> {
         Ok(())
     }
 }
+
+impl<C: PartialEq> PartialEq for Pvalues<C> {
+    ghost use Rattle.ballot.specs.PvalueLaws.{same_lists, same_lists-per};
+
+    ghost eq = { λ x y. same_lists C.eq x y };
+
+    ghost laws = { same_lists-per C.laws };
+
+    #[tactic(auto, unfolding(crate::specs::PvalueLaws::same_lists))]
+    fn eq(&self, other: &Self) -> bool {
+        self.items == other.items
+    }
+}
+
+impl<C: Eq> Eq for Pvalues<C> {
+    ghost use Rattle.ballot.specs.PvalueLaws.{same_lists-equiv};
+
+    ghost laws = { same_lists-equiv C.Eq.laws };
+}
+
+impl<C: Value> Value for Pvalues<C> {
+    ghost use Rattle.ballot.specs.PvalueLaws.{same_lists-exact};
+
+    ghost exact = { same_lists-exact C.exact };
+
+    fn copy(&self) -> Result<Self, AllocError> {
+        let pvalues = &self.items;
+        let mut items = Vec::new(*pvalues.allocator());
+        for pvalue in pvalues {
+            items.push(pvalue.copy()?)?;
+        }
+        Ok(Pvalues { items })
+    }
+}
