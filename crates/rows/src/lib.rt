@@ -1,9 +1,14 @@
-//! Worked rows: what the program answers, case by case. The expected texts were written by hand.
+//! Worked rows: what the program and its parts answer, case by case. The expected values were worked out by
+//! hand.
 #![tactic(auto)]
 
 #[cfg(test)]
 mod case;
 #[cfg(test)]
 mod client_rows;
+#[cfg(test)]
+mod command_rows;
+#[cfg(test)]
+mod node_rows;
 #[cfg(test)]
 mod program_rows;
