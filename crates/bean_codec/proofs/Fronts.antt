@@ -1,15 +1,16 @@
 -- What the first line of some bytes, and what follows it, say of the item at their front.
-use Rattle.std.proofs.Common.{◌≡◌, ℕ, ◌+◌, ◌≤◌, Option, Some, None, Result, Ok, Err, IfOk, List, ◌++◌, length, take, drop, ap, sym, ◌∙◌, arith}
+use Rattle.std.proofs.Common.{◌≡◌, ℕ, ◌+◌, ◌≤◌, Option, Some, None, Result, Ok, Err, IfOk, List, ◌++◌, length, take, drop, refl, ap, sym, ◌∙◌, arith}
 use Rattle.std.proofs.Math.Seq.{take-append-add, take-append_seam}
 use Rattle.std.proofs.lemmas.List.{append_assoc, length-drop, length-take-le, take-append-drop}
 use Rattle.std.specs.Option.{IfSome, IfNone}
 use Rattle.bstr.specs.Find.{FindsNeedle}
 use Rattle.bean_codec.specs.declared.request.Fault.{Fault}
 use Rattle.bean_codec.specs.declared.line.Meaning.{Meaning}
+use Rattle.bean_codec.specs.declared.line.Meaning.TheVariants.{WithBody}
 use Rattle.bean_codec.specs.declared.reader.Read.{Read}
 use Rattle.bean_codec.specs.Lines.{crlf}
-use Rattle.bean_codec.specs.Grammar.{Item, meaning, Completes, Spells}
-use Rattle.bean_codec.specs.Reads.{item_read, SpellsFront, CompletesFront}
+use Rattle.bean_codec.specs.Grammar.{Item, meaning, put_item, Completes, Spells}
+use Rattle.bean_codec.specs.Reads.{item_read, IsPut, SpellsFront, CompletesFront}
 use Rattle.bean_codec.proofs.LineCuts.{first_cut, no_cut, one_line}
 use Rattle.bean_codec.proofs.OneItem.{one_item}
 
@@ -63,6 +64,15 @@ spells_read bytes k first m same rest cut (Err e) h = tt
 pub spells_nothing : {E : Type 0} (bytes : List ℕ) (k : ℕ) → FindsNeedle bytes crlf 0 (Some k) → (m : Result Meaning Fault) → m ≡ meaning (take k bytes) → (rest : List ℕ) → rest ≡ drop (k + 2) bytes → (r : Result Read E) → IfOk r (λ read. IfNone (item_read read) ((item : Item) (n : ℕ) → ¬ (Completes m (take n rest) item))) → IfOk r (λ read. IfNone (item_read read) ((item : Item) (n : ℕ) → ¬ (Spells (take n bytes) item)))
 spells_nothing bytes k first m same rest cut (Ok read) h = spells_none bytes k first (item_read read) (rw (← same, ← cut) h)
 spells_nothing bytes k first m same rest cut (Err e) h = tt
+
+-- a put line with its body there is completed to a put
+pub put_completes : (m : Result Meaning Fault) (pri ttr size start : ℕ) (rest : List ℕ) → m ≡ Ok (WithBody pri ttr size) → IsPut (put_item pri ttr size (take (size + 2) rest)) → size + 2 ≤ length rest → (put : Item × ℕ) × IsPut put.0 × CompletesFront m start rest put
+put_completes m pri ttr size start rest same put inside =
+    ((put_item pri ttr size (take (size + 2) rest), start + (size + 2)), put, (size + 2, refl, inside, rw same (length-take-le (size + 2) rest inside, refl)))
+
+-- and a put that the rest completes stands at the front
+pub put_front : (bytes : List ℕ) (k : ℕ) → FindsNeedle bytes crlf 0 (Some k) → (m : Result Meaning Fault) → m ≡ meaning (take k bytes) → (rest : List ℕ) → rest ≡ drop (k + 2) bytes → (put : Item × ℕ) × IsPut put.0 × CompletesFront m (k + 2) rest put → (put : Item × ℕ) × IsPut put.0 × SpellsFront bytes put
+put_front bytes k first m same rest cut (put, is_put, h) = (put, is_put, spells_front bytes k first put (rw (← same, ← cut) h))
 
 -- what is read is the one item that a front spells
 only_item : (bytes : List ℕ) (read : Option (Item × ℕ)) → IfSome read (SpellsFront bytes) → IfNone read ((item : Item) (n : ℕ) → ¬ (Spells (take n bytes) item)) → (item : Item) (n : ℕ) → n ≤ length bytes → Spells (take n bytes) item → read ≡ Some (item, n)

@@ -28,25 +28,25 @@ longest_body = 65535
 -- put <pri> <delay> <ttr> <bytes>, where the delay is 0
 unfoldable pub put_line : List (List ℕ) → Option Meaning
 put_line (pri ∷ delay ∷ ttr ∷ size ∷ []) = do
-  p ← u32_of pri
-  d ← zero_of delay
-  t ← u32_of ttr
-  n ← u32_of size
-  Some (WithBody p t n)
+  pri ← u32_of pri
+  delay ← zero_of delay
+  ttr ← u32_of ttr
+  size ← u32_of size
+  Some (WithBody pri ttr size)
 put_line _ = None
 
 -- reserve-with-timeout <seconds>, where the seconds are 0
 unfoldable pub reserve_line : List (List ℕ) → Option Meaning
 reserve_line (seconds ∷ []) = do
-  s ← zero_of seconds
+  seconds ← zero_of seconds
   Some (Whole (Do Reserve))
 reserve_line _ = None
 
 -- delete <id>
 unfoldable pub delete_line : List (List ℕ) → Option Meaning
 delete_line (id ∷ []) = do
-  n ← u64_of id
-  Some (Whole (Do (Delete n)))
+  id ← u64_of id
+  Some (Whole (Do (Delete id)))
 delete_line _ = None
 
 -- quit

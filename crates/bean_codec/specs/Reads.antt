@@ -1,5 +1,7 @@
 -- What a reader tells of the bytes before it.
 use Rattle.std.specs.Prelude.{◌≡◌, ℕ, ◌+◌, ◌≤◌, List, length, take, Option, Some, None, Result, Ok, Err}
+use Rattle.bean_queue.specs.declared.op.Op.TheVariants.{Put}
+use Rattle.bean_codec.specs.declared.request.Request.TheVariants.{Do}
 use Rattle.bean_codec.specs.declared.request.Fault.{Fault}
 use Rattle.bean_codec.specs.declared.line.Meaning.{Meaning}
 use Rattle.bean_codec.specs.declared.reader.Read.{Read}
@@ -15,6 +17,11 @@ item_read (Bad fault used) = Some (Err fault, used)
 -- so many bytes are there, and they spell the item
 abbrev pub SpellsFront : List ℕ → Item × ℕ → Type 0
 SpellsFront bytes (item, used) = (used ≤ length bytes) × Spells (take used bytes) item
+
+-- it is a put
+abbrev pub IsPut : Item → Type 0
+IsPut (Ok (Do (Put pri ttr body))) = Unit {0}
+IsPut _ = ⊥
 
 -- some of the rest, which begins at place start, completes the item, which ends there
 abbrev pub CompletesFront : Result Meaning Fault → ℕ → List ℕ → Item × ℕ → Type 0

@@ -13,3 +13,6 @@ pub use laws::front_item;
 pub use reader::{Read, Want, one_item, read_request};
 pub use request::{Fault, Request};
 pub use writer::{write_fault, write_reply};
+
+#[cfg(test)]
+mod tests;

@@ -1,6 +1,6 @@
-ghost use Rattle.std.specs.Prelude.{◌≡◌, ℕ, ◌+◌, ◌<◌, ◌≤◌, ◌^◌, List, ◌++◌, length, take, Some, IfOk, IfSome, IfNone};
+ghost use Rattle.std.specs.Prelude.{◌≡◌, ℕ, ◌+◌, ◌<◌, ◌≤◌, ◌^◌, List, ◌++◌, length, take, Some, IfOk, IfSome, IfNone, OnErr};
 ghost use Rattle.bean_codec.specs.Grammar.{Item, Spells, Completes, put_item};
-ghost use Rattle.bean_codec.specs.Reads.{item_read, SpellsFront, CompletesFront};
+ghost use Rattle.bean_codec.specs.Reads.{item_read, IsPut, SpellsFront, CompletesFront};
 
 use crate::line::{Meaning, meaning_of};
 use crate::request::{Fault, Request};
@@ -41,6 +41,8 @@ pub fn read_request(alloc: Global, want: Want, bytes: &[u8]) -> Result<Read, All
         ((item : Item) (n : ℕ) → ¬ Spells (take n bytes.now) item)) }
     ensures only { IfOk result (λ read. (item : Item) (n : ℕ) → n ≤ length bytes.now →
         Spells (take n bytes.now) item → item_read read ≡ Some (item, n)) }
+    // Only the body of a put takes memory.
+    ensures memory { OnErr result ((put : Item × ℕ) × IsPut put.0 × SpellsFront bytes.now put) }
 {
     let Want::Line = want;
     let Some(end) = bytes.find(b"\r\n") else {
@@ -61,6 +63,7 @@ fn complete(
     ensures item { IfOk result (λ read. IfSome (item_read read) (CompletesFront meaning start rest.now)) }
     ensures more { IfOk result (λ read. IfNone (item_read read)
         ((item : Item) (n : ℕ) → ¬ Completes meaning (take n rest.now) item)) }
+    ensures memory { OnErr result ((put : Item × ℕ) × IsPut put.0 × CompletesFront meaning start rest.now put) }
 {
     match meaning {
         Ok(Meaning::Whole(request)) => Ok(Read::Request {
@@ -88,6 +91,7 @@ fn complete_put(
     ensures item { IfOk result (λ read. IfSome (item_read read) (λ found.
         (found ≡ (put_item pri ttr size (take (size + 2) rest.now), start + (size + 2))) × (size + 2 ≤ length rest.now))) }
     ensures more { IfOk result (λ read. IfNone (item_read read) (length rest.now < size + 2)) }
+    ensures memory { OnErr result (IsPut (put_item pri ttr size (take (size + 2) rest.now)) × (size + 2 ≤ length rest.now)) }
 {
     let body_len = size as usize;
     let taken = body_len + 2;

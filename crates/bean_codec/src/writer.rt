@@ -1,4 +1,4 @@
-ghost use Rattle.std.specs.Prelude.{◌≡◌, ◌++◌, take, vec_len, decimal, OnOk, OnErr};
+ghost use Rattle.std.specs.Prelude.{◌≡◌, ◌<◌, ◌≤◌, ◌+◌, ◌++◌, length, take, vec_len, vec_capacity, decimal, OnOk, OnErr};
 ghost use Rattle.bean_codec.specs.Replies.{reply_text, fault_text};
 
 use crate::request::Fault;
@@ -10,6 +10,7 @@ use std::alloc::AllocError;
 pub fn write_reply(reply: &Reply, out: &mut Vec<u8>) -> Result<(), AllocError>
     ensures ok { OnOk result (out.new.items ≡ out.old.items ++ reply_text reply.now) }
     ensures err { OnErr result (out.new.items ≡ out.old.items) }
+    ensures full { OnErr result (vec_capacity out.old < vec_len out.old + length (reply_text reply.now)) }
 {
     let len = out.len();
     let written = append_reply(reply, out);
@@ -24,6 +25,7 @@ pub fn write_reply(reply: &Reply, out: &mut Vec<u8>) -> Result<(), AllocError>
 fn append_reply(reply: &Reply, out: &mut Vec<u8>) -> Result<(), AllocError>
     ensures ok { OnOk result (out.new.items ≡ out.old.items ++ reply_text reply.now) }
     ensures front { take (vec_len out.old) out.new.items ≡ out.old.items }
+    ensures full { OnErr result (vec_capacity out.old < vec_len out.old + length (reply_text reply.now)) }
 {
     match reply {
         Reply::Inserted(id) => {
@@ -53,6 +55,8 @@ fn append_reply(reply: &Reply, out: &mut Vec<u8>) -> Result<(), AllocError>
 fn append_number(number: u64, out: &mut Vec<u8>) -> Result<(), AllocError>
     ensures ok { OnOk result (out.new.items ≡ out.old.items ++ decimal number) }
     ensures err { OnErr result (out.new.items ≡ out.old.items) }
+    ensures full { OnErr result (vec_capacity out.old < vec_len out.old + length (decimal number)) }
+    ensures room { vec_capacity out.old ≤ vec_capacity out.new }
 {
     let mut digits = Buffer::new();
     out.extend_from_slice(digits.format(number).as_bytes())
@@ -63,6 +67,7 @@ fn append_number(number: u64, out: &mut Vec<u8>) -> Result<(), AllocError>
 pub fn write_fault(fault: Fault, out: &mut Vec<u8>) -> Result<(), AllocError>
     ensures ok { OnOk result (out.new.items ≡ out.old.items ++ fault_text fault) }
     ensures err { OnErr result (out.new.items ≡ out.old.items) }
+    ensures full { OnErr result (vec_capacity out.old < vec_len out.old + length (fault_text fault)) }
 {
     out.extend_from_slice(match fault {
         Fault::BadFormat => b"BAD_FORMAT\r\n".as_slice(),

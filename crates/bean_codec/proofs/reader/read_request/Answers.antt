@@ -1,6 +1,7 @@
 use Rattle.std.proofs.Common.{◌+◌}
 use Rattle.std.proofs.lemmas.List.{take_rest}
-use Rattle.bean_codec.proofs.Fronts.{no_item, spells_read, spells_nothing, only_read}
+use Rattle.std.proofs.lemmas.Result.{on_err_weaker}
+use Rattle.bean_codec.proofs.Fronts.{no_item, spells_read, spells_nothing, only_read, put_front}
 use Rattle.bean_codec.proofs.reader.read_request.Goals as goal
 
 pub returns-in_default-clause-more : goal.returns-in_default-clause-more
@@ -19,3 +20,7 @@ returns-clause-more c =
 
 pub returns-clause-only : goal.returns-clause-only
 returns-clause-only c = only_read c.args.bytes.now c.complete.result (returns-clause-item c) (returns-clause-more c)
+
+pub returns-clause-memory : goal.returns-clause-memory
+returns-clause-memory c =
+    on_err_weaker c.complete.result (put_front c.args.bytes.now c.in-Some.end c.in-Some.ensures c.meaning_of.result c.meaning_of.ensures _ (take_rest c.args.bytes.now (c.in-Some.end + 2))) c.complete.ensures.memory
