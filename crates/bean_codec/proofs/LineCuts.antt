@@ -12,7 +12,7 @@ IsLine-tail b (c ∷ rest) h = h.1
 empty_line : (line x y : List ℕ) → IsLine line → crlf ++ x ≡ line ++ (crlf ++ y) → ([] ≡ line) × (x ≡ y)
 empty_line [] x y h e = (refl, cc)
 empty_line (b ∷ []) x y h e = absurd (cc)
-empty_line (b ∷ c ∷ rest) x y h e = absurd (h.0 (cc, cc))
+empty_line (b ∷ c ∷ rest) x y h e = absurd (h.0 cc)
 
 -- a text has one first line
 pub one_line : (l m x y : List ℕ) → IsLine l → IsLine m → l ++ (crlf ++ x) ≡ m ++ (crlf ++ y) → (l ≡ m) × (x ≡ y)
@@ -64,8 +64,11 @@ cut_from_occurs (b ∷ bytes) (suc k) h =
     let e : suc k + 2 ≡ suc (k + 2) = omega arith in
     rw e (ap (λ t. b ∷ t) (cut_from_occurs bytes k (occurs_sooner b bytes k h)))
 
-front_of : (b c : ℕ) (rest : List ℕ) → b ≡ 13 → c ≡ 10 → OccursAt (b ∷ c ∷ rest) crlf 0
-front_of b c rest carriage_return line_feed = rw (carriage_return, line_feed) (occurs_here rest)
+front_of : (b c : ℕ) (rest : List ℕ) → b ∷ c ∷ [] ≡ crlf → OccursAt (b ∷ c ∷ rest) crlf 0
+front_of b c rest e =
+    let carriage_return : b ≡ 13 = cc in
+    let line_feed : c ≡ 10 = cc in
+    rw (carriage_return, line_feed) (occurs_here rest)
 
 -- where it occurs at no earlier place, what stands before that place is a line
 IsLine-take : (bytes : List ℕ) (k : ℕ) → ((j : ℕ) → j < k → ¬ OccursAt bytes crlf j) → IsLine (take k bytes)
@@ -75,7 +78,7 @@ IsLine-take (b ∷ bytes) (suc zero) h = tt
 IsLine-take (b ∷ []) (suc (suc k)) h = tt
 IsLine-take (b ∷ c ∷ rest) (suc (suc k)) h =
     let later = λ (j : ℕ) (l : j < suc k) (o : OccursAt (c ∷ rest) crlf j). h (suc j) (omega arith) (occurs_later b (c ∷ rest) j o) in
-    (λ e. h 0 (omega arith) (front_of b c rest e.0 e.1), IsLine-take (c ∷ rest) (suc k) later)
+    (λ e. h 0 (omega arith) (front_of b c rest e), IsLine-take (c ∷ rest) (suc k) later)
 
 -- the first place of CR LF ends a line
 pub first_cut : (bytes : List ℕ) (k : ℕ) → FindsNeedle bytes crlf 0 (Some k) → IsLine (take k bytes) × (bytes ≡ take k bytes ++ (crlf ++ drop (k + 2) bytes)) × (k + 2 ≤ length bytes)

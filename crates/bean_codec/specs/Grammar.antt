@@ -1,4 +1,5 @@
--- The texts of requests (protocol.txt of beanstalkd, "Producer Commands" and "Worker Commands").
+-- Which text spells which request or fault (protocol.txt of beanstalkd, "Protocol", "Producer Commands", "Worker Commands"
+-- and "Other Commands"). A command more is a line more in `command_line`, and a definition of its words.
 use Rattle.std.specs.Prelude.{◌≡◌, ℕ, ◌+◌, nat_lt, List, [], ◌∷◌, ◌++◌, length, take, drop, codes, Option, Some, None, Result, Ok, Err, if◌then◌else◌}
 use Rattle.std.specs.Option.{ok_or}
 use Rattle.std.specs.Str.{bytes_eq}
@@ -13,7 +14,7 @@ use Rattle.bean_codec.specs.Lines.{crlf, IsLine}
 use Rattle.bean_codec.specs.Words.{words, begins_with_no_word}
 use Rattle.bean_codec.specs.Numbers.{◌>>=◌, u32_of, u64_of, zero_of}
 
--- what a text spells: a request, or a fault that is answered to it
+-- what a text spells: a request, or the fault that is answered to it
 abbrev pub Item : Type 0
 Item = Result Request Fault
 
@@ -25,7 +26,7 @@ longest_line = 224
 abbrev pub longest_body : ℕ
 longest_body = 65535
 
--- put <pri> <delay> <ttr> <bytes>, where the delay is 0
+-- put <pri> <delay> <ttr> <bytes>, where no delay is taken but 0
 unfoldable pub put_line : List (List ℕ) → Option Meaning
 put_line (pri ∷ delay ∷ ttr ∷ size ∷ []) = do
   pri ← u32_of pri
@@ -35,7 +36,7 @@ put_line (pri ∷ delay ∷ ttr ∷ size ∷ []) = do
   Some (WithBody pri ttr size)
 put_line _ = None
 
--- reserve-with-timeout <seconds>, where the seconds are 0
+-- reserve-with-timeout <seconds>, where no seconds are taken but 0
 unfoldable pub reserve_line : List (List ℕ) → Option Meaning
 reserve_line (seconds ∷ []) = do
   seconds ← zero_of seconds
@@ -49,12 +50,12 @@ delete_line (id ∷ []) = do
   Some (Whole (Do (Delete id)))
 delete_line _ = None
 
--- quit
+-- quit, and no more words
 unfoldable pub quit_line : List (List ℕ) → Option Meaning
 quit_line [] = Some (Whole Quit)
 quit_line _ = None
 
--- the first word names the command; its words are right, or the format is bad
+-- the first word names the command, and those after it have its form, or the format is bad
 unfoldable pub command_line : List (List ℕ) → Result Meaning Fault
 command_line [] = Err UnknownCommand
 command_line (command ∷ arguments) =
@@ -64,27 +65,27 @@ command_line (command ∷ arguments) =
     else if bytes_eq command (codes "quit") then ok_or (quit_line arguments) BadFormat
     else Err UnknownCommand
 
--- what a line says alone
+-- what a line says by itself
 unfoldable pub meaning : List ℕ → Result Meaning Fault
 meaning line =
     if nat_lt longest_line (length (line ++ crlf)) then Err BadFormat
     else if begins_with_no_word line then Err UnknownCommand
     else command_line (words line)
 
--- a put, with a body of so many bytes and the two bytes after it
+-- what a put line makes with the rest: a body of its size, and two bytes more
 unfoldable pub put_item : ℕ → ℕ → ℕ → List ℕ → Item
 put_item pri ttr size rest =
     if nat_lt longest_body size then Err JobTooBig
     else if bytes_eq (drop size rest) crlf then Ok (Do (Put pri ttr (take size rest)))
     else Err ExpectedCrlf
 
--- what follows a line that says this, and the item that both make
+-- the rest is what follows a line that says this, and both together make the item
 abbrev pub Completes : Result Meaning Fault → List ℕ → Item → Type 0
 Completes (Ok (Whole request)) rest item = (rest ≡ []) × (item ≡ Ok request)
 Completes (Ok (WithBody pri ttr size)) rest item = (length rest ≡ size + 2) × (item ≡ put_item pri ttr size rest)
 Completes (Err fault) rest item = (rest ≡ []) × (item ≡ Err fault)
 
--- the text is a line, its CR LF and what follows a line that says so, and all of it makes the item
+-- the text is a line, its CR LF and a rest, which completes the item
 pub record Spells (text : List ℕ) (item : Item) : Type 0 where
   pub line : List ℕ
   pub rest : List ℕ

@@ -6,6 +6,7 @@ use Rattle.std.specs.Str.Parse.{digits_value}
 use Rattle.bean_codec.specs.Words.{is_word}
 
 infixl 10 ◌>>=◌
+-- what comes next, from the value that was read, if there is one
 abbrev pub ◌>>=◌ : {A B : Type 0} → Option A → (A → Option B) → Option B
 read >>= next = option_and_then next read
 
@@ -19,12 +20,14 @@ number_below limit word = do
   n ← number_of word
   if nat_lt n limit then Some n else None
 
+-- a number of 32 bits
 abbrev pub u32_of : List ℕ → Option ℕ
 u32_of word = number_below (2 ^ 32) word
 
+-- a number of 64 bits
 abbrev pub u64_of : List ℕ → Option ℕ
 u64_of word = number_below (2 ^ 64) word
 
--- no number but 0
+-- the number 0 alone
 abbrev pub zero_of : List ℕ → Option ℕ
 zero_of word = number_below 1 word

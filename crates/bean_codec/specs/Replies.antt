@@ -1,4 +1,4 @@
--- The texts of replies (protocol.txt of beanstalkd).
+-- The texts of replies and faults (protocol.txt of beanstalkd, "Protocol", "Producer Commands" and "Worker Commands").
 use Rattle.std.specs.Prelude.{ℕ, List, ◌++◌, length, codes, decimal}
 use Rattle.bean_queue.specs.declared.reply.Reply.{Reply}
 use Rattle.bean_queue.specs.declared.reply.Reply.TheVariants.{Inserted, Reserved, DeadlineSoon, TimedOut, Deleted, NotFound, InternalError}
@@ -6,7 +6,7 @@ use Rattle.bean_codec.specs.declared.request.Fault.{Fault}
 use Rattle.bean_codec.specs.declared.request.Fault.TheVariants.{BadFormat, UnknownCommand, ExpectedCrlf, JobTooBig}
 use Rattle.bean_codec.specs.Lines.{ended}
 
--- RESERVED is followed by the body
+-- the text of a reply: one line, and after RESERVED the body as another
 unfoldable pub reply_text : Reply → List ℕ
 reply_text (Inserted id) = ended (codes "INSERTED " ++ decimal id)
 reply_text (Reserved id body) = ended (codes "RESERVED " ++ decimal id ++ codes " " ++ decimal (length body)) ++ ended body
@@ -16,6 +16,7 @@ reply_text Deleted = ended (codes "DELETED")
 reply_text NotFound = ended (codes "NOT_FOUND")
 reply_text InternalError = ended (codes "INTERNAL_ERROR")
 
+-- the text that answers a fault
 unfoldable pub fault_text : Fault → List ℕ
 fault_text BadFormat = ended (codes "BAD_FORMAT")
 fault_text UnknownCommand = ended (codes "UNKNOWN_COMMAND")

@@ -10,6 +10,7 @@ is_space b = b == 32
 abbrev pub pieces : List ℕ → List (List ℕ)
 pieces line = slice_split is_space line
 
+-- it has a byte
 abbrev pub is_word : List ℕ → Bool
 is_word [] = false
 is_word (b ∷ rest) = true

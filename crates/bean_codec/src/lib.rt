@@ -1,4 +1,8 @@
-//! Requests are read from bytes, and replies are written as bytes.
+//! The text protocol: requests are read from bytes, and replies are written as bytes.
+//!
+//! `specs/Grammar.antt` says which text spells which request or fault, and `specs/Replies.antt` has
+//! the texts of replies. A text spells one item and begins no other, so that requests may follow one
+//! another in one buffer.
 #![tactic(auto)]
 
 mod laws;

@@ -1,6 +1,5 @@
 ghost use Rattle.std.specs.Prelude.{◌≡◌};
-ghost use Rattle.bean_codec.specs.Words.{words as words_of};
-ghost use Rattle.bean_codec.specs.Grammar.{meaning as the_meaning, put_line as the_put, reserve_line as the_reserve, delete_line as the_delete, quit_line as the_quit, command_line as the_command};
+ghost use Rattle.bean_codec.specs.Grammar as grammar;
 
 use crate::number::{u32_of, u64_of, zero_of};
 use crate::request::{Fault, Request};
@@ -19,10 +18,10 @@ pub enum Meaning {
     WithBody { pri: u32, ttr: u32, size: u32 },
 }
 
-/// What the line says.
+/// What a line, without its CR LF, says by itself.
 #[tactic(auto, unfolding(crate::specs::Grammar::meaning))]
 pub fn meaning_of(line: &[u8]) -> Result<Meaning, Fault>
-    ensures { result ≡ the_meaning line.now }
+    ensures { result ≡ grammar.meaning line.now }
 {
     if line.len() > LONGEST_LINE - 2 {
         return Err(Fault::BadFormat);
@@ -33,9 +32,10 @@ pub fn meaning_of(line: &[u8]) -> Result<Meaning, Fault>
     }
 }
 
+/// The first word names the command.
 #[tactic(auto, unfolding(crate::specs::Grammar::command_line))]
 fn command_line(mut words: Words<'_>) -> Result<Meaning, Fault>
-    ensures { result ≡ the_command (words_of words.entry.rest.now) }
+    ensures { result ≡ grammar.command_line words.entry }
 {
     let command = words.next().ok_or(Fault::UnknownCommand)?;
     let meaning = if command == b"put".as_slice() {
@@ -52,9 +52,10 @@ fn command_line(mut words: Words<'_>) -> Result<Meaning, Fault>
     meaning.ok_or(Fault::BadFormat)
 }
 
+/// `put <pri> <delay> <ttr> <bytes>`
 #[tactic(auto, unfolding(crate::specs::Grammar::put_line))]
 fn put_line(mut words: Words<'_>) -> Option<Meaning>
-    ensures { result ≡ the_put (words_of words.entry.rest.now) }
+    ensures { result ≡ grammar.put_line words.entry }
 {
     let pri = words.next()?;
     let delay = words.next()?;
@@ -70,9 +71,10 @@ fn put_line(mut words: Words<'_>) -> Option<Meaning>
     Some(Meaning::WithBody { pri, ttr, size })
 }
 
+/// `reserve-with-timeout <seconds>`
 #[tactic(auto, unfolding(crate::specs::Grammar::reserve_line))]
 fn reserve_line(mut words: Words<'_>) -> Option<Meaning>
-    ensures { result ≡ the_reserve (words_of words.entry.rest.now) }
+    ensures { result ≡ grammar.reserve_line words.entry }
 {
     let seconds = words.next()?;
     if words.next().is_some() {
@@ -82,9 +84,10 @@ fn reserve_line(mut words: Words<'_>) -> Option<Meaning>
     Some(Meaning::Whole(Request::Do(Op::Reserve)))
 }
 
+/// `delete <id>`
 #[tactic(auto, unfolding(crate::specs::Grammar::delete_line))]
 fn delete_line(mut words: Words<'_>) -> Option<Meaning>
-    ensures { result ≡ the_delete (words_of words.entry.rest.now) }
+    ensures { result ≡ grammar.delete_line words.entry }
 {
     let id = words.next()?;
     if words.next().is_some() {
@@ -94,9 +97,10 @@ fn delete_line(mut words: Words<'_>) -> Option<Meaning>
     Some(Meaning::Whole(Request::Do(Op::Delete(id))))
 }
 
+/// `quit`
 #[tactic(auto, unfolding(crate::specs::Grammar::quit_line))]
 fn quit_line(mut words: Words<'_>) -> Option<Meaning>
-    ensures { result ≡ the_quit (words_of words.entry.rest.now) }
+    ensures { result ≡ grammar.quit_line words.entry }
 {
     if words.next().is_some() {
         return None;

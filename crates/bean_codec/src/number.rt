@@ -1,12 +1,12 @@
-ghost use Rattle.std.specs.Prelude.{◌≡◌, ◌^◌};
-ghost use Rattle.bean_codec.specs.Numbers.{number_below, u32_of as the_u32, u64_of as the_u64, zero_of as the_zero};
+ghost use Rattle.std.specs.Prelude.{◌≡◌};
+ghost use Rattle.bean_codec.specs.Numbers as numbers;
 
 use std::str;
 
 /// The number that a word of digits writes. `parse` takes a plus too, which no number has.
 #[tactic(auto, unfolding(crate::specs::Numbers::number_below))]
 pub fn u64_of(word: &[u8]) -> Option<u64>
-    ensures { result ≡ the_u64 word.now }
+    ensures { result ≡ numbers.u64_of word.now }
 {
     if word.starts_with(b"+") {
         return None;
@@ -16,7 +16,7 @@ pub fn u64_of(word: &[u8]) -> Option<u64>
 
 #[tactic(auto, unfolding(crate::specs::Numbers::number_below))]
 pub fn u32_of(word: &[u8]) -> Option<u32>
-    ensures { result ≡ the_u32 word.now }
+    ensures { result ≡ numbers.u32_of word.now }
 {
     u32::try_from(u64_of(word)?).ok()
 }
@@ -24,7 +24,7 @@ pub fn u32_of(word: &[u8]) -> Option<u32>
 /// The number 0, where the word writes it.
 #[tactic(auto, unfolding(crate::specs::Numbers::number_below))]
 pub fn zero_of(word: &[u8]) -> Option<u64>
-    ensures { result ≡ the_zero word.now }
+    ensures { result ≡ numbers.zero_of word.now }
 {
     u64_of(word).filter(|n| *n == 0)
 }

@@ -31,10 +31,12 @@ pub enum Read {
 
 /// No text spells two items, and none that spells an item begins another.
 pub fn one_item()
-    ensures { (a b x y : List ℕ) (i j : Item) → Spells a i → Spells b j → a ++ x ≡ b ++ y → (a ≡ b) × (i ≡ j) }
+    ensures { (a b x y : List ℕ) (i j : Item) → Spells a i → Spells b j →
+        a ++ x ≡ b ++ y → (a ≡ b) × (i ≡ j) }
 {}
 
-/// The request at the front of the bytes, or the fault of the text that stands there.
+/// The request at the front of the bytes, or the fault of the text that stands there. What follows it
+/// isn't looked at.
 pub fn read_request(alloc: Global, want: Want, bytes: &[u8]) -> Result<Read, AllocError>
     ensures item { IfOk result (λ read. IfSome (item_read read) (SpellsFront bytes.now)) }
     ensures more { IfOk result (λ read. IfNone (item_read read)
@@ -52,7 +54,7 @@ pub fn read_request(alloc: Global, want: Want, bytes: &[u8]) -> Result<Read, All
     complete(alloc, meaning_of(&bytes[..end]), start, &bytes[start..])
 }
 
-/// What a line that says this makes with the rest, which begins at place `start`.
+/// The item that a line of this meaning makes with the front of the rest, which begins at `start`.
 fn complete(
     alloc: Global,
     meaning: Result<Meaning, Fault>,
@@ -60,10 +62,12 @@ fn complete(
     rest: &[u8],
 ) -> Result<Read, AllocError>
     requires { start + length rest.now < 2 ^ 64 }
-    ensures item { IfOk result (λ read. IfSome (item_read read) (CompletesFront meaning start rest.now)) }
+    ensures item { IfOk result (λ read. IfSome (item_read read)
+        (CompletesFront meaning start rest.now)) }
     ensures more { IfOk result (λ read. IfNone (item_read read)
         ((item : Item) (n : ℕ) → ¬ Completes meaning (take n rest.now) item)) }
-    ensures memory { OnErr result ((put : Item × ℕ) × IsPut put.0 × CompletesFront meaning start rest.now put) }
+    ensures memory { OnErr result ((put : Item × ℕ) × IsPut put.0 ×
+        CompletesFront meaning start rest.now put) }
 {
     match meaning {
         Ok(Meaning::Whole(request)) => Ok(Read::Request {
@@ -77,7 +81,7 @@ fn complete(
     }
 }
 
-/// The put with the body at the front of the rest.
+/// The same of a put line: its body and two bytes stand at the front of the rest.
 #[tactic(auto, unfolding(crate::specs::Grammar::put_item))]
 fn complete_put(
     alloc: Global,
@@ -89,9 +93,11 @@ fn complete_put(
 ) -> Result<Read, AllocError>
     requires { start + length rest.now < 2 ^ 64 }
     ensures item { IfOk result (λ read. IfSome (item_read read) (λ found.
-        (found ≡ (put_item pri ttr size (take (size + 2) rest.now), start + (size + 2))) × (size + 2 ≤ length rest.now))) }
+        (found ≡ (put_item pri ttr size (take (size + 2) rest.now), start + (size + 2)))
+        × (size + 2 ≤ length rest.now))) }
     ensures more { IfOk result (λ read. IfNone (item_read read) (length rest.now < size + 2)) }
-    ensures memory { OnErr result (IsPut (put_item pri ttr size (take (size + 2) rest.now)) × (size + 2 ≤ length rest.now)) }
+    ensures memory { OnErr result (IsPut (put_item pri ttr size (take (size + 2) rest.now))
+        × (size + 2 ≤ length rest.now)) }
 {
     let body_len = size as usize;
     let taken = body_len + 2;

@@ -1,20 +1,29 @@
 ghost use Rattle.std.specs.Prelude.{◌≡◌};
 ghost use Rattle.std.specs.Iterator.{YieldsFirstRef, item_count};
+ghost use Rattle.bean_codec.specs.Words.{words};
 
 use bstr::ByteSlice;
+use std::marker::Model;
 
-/// The words of what is left of a line.
+/// The words of a line, one after the other.
 #[derive(Drop)]
 pub struct Words<'a> {
     rest: &'a [u8],
 }
 
-impl<'a> Words<'a> {
+impl<'a> Model for Words<'a> {
+    ghost use Rattle.std.specs.Prelude.{List, ℕ};
     ghost use Rattle.bean_codec.specs.Words.{words};
 
+    ghost Value = { List (List ℕ) };
+
+    ghost view = { λ w. words w.rest.now };
+}
+
+impl<'a> Words<'a> {
     /// The words of this line.
     pub fn new(line: &'a [u8]) -> Self
-        ensures { words result.rest.now ≡ words line.now }
+        ensures { result ≡ words line.now }
     {
         Words { rest: line }
     }
@@ -23,11 +32,9 @@ impl<'a> Words<'a> {
 impl<'a> Iterator for Words<'a> {
     type Item = &'a [u8];
 
-    ghost use Rattle.bean_codec.specs.Words.{words};
+    ghost next_gives = { YieldsFirstRef (λ words. words) };
 
-    ghost next_gives = { YieldsFirstRef (λ s. words s.rest.now) };
-
-    ghost remaining = { item_count (λ s. words s.rest.now) };
+    ghost remaining = { item_count (λ words. words) };
 
     fn next(&mut self) -> Option<&'a [u8]> {
         let start = self.rest.find_not_byteset(b" ")?;

@@ -10,7 +10,8 @@ use std::alloc::AllocError;
 pub fn write_reply(reply: &Reply, out: &mut Vec<u8>) -> Result<(), AllocError>
     ensures ok { OnOk result (out.new.items ≡ out.old.items ++ reply_text reply.now) }
     ensures err { OnErr result (out.new.items ≡ out.old.items) }
-    ensures full { OnErr result (vec_capacity out.old < vec_len out.old + length (reply_text reply.now)) }
+    ensures full { OnErr result
+        (vec_capacity out.old < vec_len out.old + length (reply_text reply.now)) }
 {
     let len = out.len();
     let written = append_reply(reply, out);
@@ -20,12 +21,13 @@ pub fn write_reply(reply: &Reply, out: &mut Vec<u8>) -> Result<(), AllocError>
     written
 }
 
-/// The same, but for what was written before memory ran out.
+/// Writes the text of a reply at the end. Where memory runs out, a part of it may stand there.
 #[tactic(auto, unfolding(crate::specs::Replies::reply_text))]
 fn append_reply(reply: &Reply, out: &mut Vec<u8>) -> Result<(), AllocError>
     ensures ok { OnOk result (out.new.items ≡ out.old.items ++ reply_text reply.now) }
     ensures front { take (vec_len out.old) out.new.items ≡ out.old.items }
-    ensures full { OnErr result (vec_capacity out.old < vec_len out.old + length (reply_text reply.now)) }
+    ensures full { OnErr result
+        (vec_capacity out.old < vec_len out.old + length (reply_text reply.now)) }
 {
     match reply {
         Reply::Inserted(id) => {
@@ -67,7 +69,8 @@ fn append_number(number: u64, out: &mut Vec<u8>) -> Result<(), AllocError>
 pub fn write_fault(fault: Fault, out: &mut Vec<u8>) -> Result<(), AllocError>
     ensures ok { OnOk result (out.new.items ≡ out.old.items ++ fault_text fault) }
     ensures err { OnErr result (out.new.items ≡ out.old.items) }
-    ensures full { OnErr result (vec_capacity out.old < vec_len out.old + length (fault_text fault)) }
+    ensures full { OnErr result
+        (vec_capacity out.old < vec_len out.old + length (fault_text fault)) }
 {
     out.extend_from_slice(match fault {
         Fault::BadFormat => b"BAD_FORMAT\r\n".as_slice(),
