@@ -14,16 +14,16 @@ item_read More = None
 item_read (Request request used) = Some (Ok request, used)
 item_read (Bad fault used) = Some (Err fault, used)
 
--- so many bytes are there, and they spell the item
-abbrev pub SpellsFront : List ℕ → Item × ℕ → Type 0
-SpellsFront bytes (item, used) = (used ≤ length bytes) × Spells (take used bytes) item
+-- the bytes begin with the item, which takes so many of them
+abbrev pub BeginsWith : List ℕ → Item × ℕ → Type 0
+BeginsWith bytes (item, used) = (used ≤ length bytes) × Spells (take used bytes) item
 
 -- it is a put
 abbrev pub IsPut : Item → Type 0
 IsPut (Ok (Do (Put pri ttr body))) = Unit {0}
 IsPut _ = ⊥
 
--- some of the rest, which begins at place start, completes the item, which ends there
+-- the front of the rest, which begins at place start, completes the item, which ends at place end
 abbrev pub CompletesFront : Result Meaning Fault → ℕ → List ℕ → Item × ℕ → Type 0
 CompletesFront meaning start rest (item, end) =
     (taken : ℕ) × (end ≡ start + taken) × (taken ≤ length rest) × Completes meaning (take taken rest) item

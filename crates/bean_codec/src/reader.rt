@@ -1,6 +1,6 @@
 ghost use Rattle.std.specs.Prelude.{◌≡◌, ℕ, ◌+◌, ◌<◌, ◌≤◌, ◌^◌, List, ◌++◌, length, take, Some, IfOk, IfSome, IfNone, OnErr};
-ghost use Rattle.bean_codec.specs.Grammar.{Item, Spells, Completes, put_item};
-ghost use Rattle.bean_codec.specs.Reads.{item_read, IsPut, SpellsFront, CompletesFront};
+ghost use Rattle.bean_codec.specs.Grammar.{Item, Spells, put_item};
+ghost use Rattle.bean_codec.specs.Reads.{item_read, IsPut, BeginsWith, CompletesFront};
 
 use crate::line::{Meaning, meaning_of};
 use crate::request::{Fault, Request};
@@ -38,13 +38,13 @@ pub fn one_item()
 /// The request at the front of the bytes, or the fault of the text that stands there. What follows it
 /// isn't looked at.
 pub fn read_request(alloc: Global, want: Want, bytes: &[u8]) -> Result<Read, AllocError>
-    ensures item { IfOk result (λ read. IfSome (item_read read) (SpellsFront bytes.now)) }
+    ensures item { IfOk result (λ read. IfSome (item_read read) (BeginsWith bytes.now)) }
     ensures more { IfOk result (λ read. IfNone (item_read read)
-        ((item : Item) (n : ℕ) → ¬ Spells (take n bytes.now) item)) }
-    ensures only { IfOk result (λ read. (item : Item) (n : ℕ) → n ≤ length bytes.now →
-        Spells (take n bytes.now) item → item_read read ≡ Some (item, n)) }
+        ((found : Item × ℕ) → ¬ BeginsWith bytes.now found)) }
+    ensures only { IfOk result (λ read. (found : Item × ℕ) →
+        BeginsWith bytes.now found → item_read read ≡ Some found) }
     // Only the body of a put takes memory.
-    ensures memory { OnErr result ((put : Item × ℕ) × IsPut put.0 × SpellsFront bytes.now put) }
+    ensures memory { OnErr result ((put : Item × ℕ) × IsPut put.0 × BeginsWith bytes.now put) }
 {
     let Want::Line = want;
     let Some(end) = bytes.find(b"\r\n") else {
@@ -65,7 +65,7 @@ fn complete(
     ensures item { IfOk result (λ read. IfSome (item_read read)
         (CompletesFront meaning start rest.now)) }
     ensures more { IfOk result (λ read. IfNone (item_read read)
-        ((item : Item) (n : ℕ) → ¬ Completes meaning (take n rest.now) item)) }
+        ((found : Item × ℕ) → ¬ CompletesFront meaning start rest.now found)) }
     ensures memory { OnErr result ((put : Item × ℕ) × IsPut put.0 ×
         CompletesFront meaning start rest.now put) }
 {
