@@ -18,6 +18,10 @@ item_read (Bad fault used) = Some (Err fault, used)
 abbrev pub BeginsWith : List ℕ → Item × ℕ → Type 0
 BeginsWith bytes (item, used) = (used ≤ length bytes) × Spells (take used bytes) item
 
+-- they begin with none
+abbrev pub BeginsWithNone : List ℕ → Type 0
+BeginsWithNone bytes = (found : Item × ℕ) → ¬ BeginsWith bytes found
+
 -- it is a put
 abbrev pub IsPut : Item → Type 0
 IsPut (Ok (Do (Put pri ttr body))) = Unit {0}

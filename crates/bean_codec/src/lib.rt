@@ -13,8 +13,8 @@ mod request;
 mod words;
 mod writer;
 
-pub use laws::front_item;
-pub use reader::{Read, Want, one_item, read_request};
+pub use laws::{front_item, one_item};
+pub use reader::{Read, Want, read_request};
 pub use request::{Fault, Request};
 pub use writer::{write_fault, write_reply};
 

@@ -1,6 +1,6 @@
 ghost use Rattle.std.specs.Prelude.{◌≡◌, ℕ, ◌+◌, ◌<◌, ◌≤◌, ◌^◌, List, ◌++◌, length, take, Some, IfOk, IfSome, IfNone, OnErr};
 ghost use Rattle.bean_codec.specs.Grammar.{Item, Spells, put_item};
-ghost use Rattle.bean_codec.specs.Reads.{item_read, IsPut, BeginsWith, CompletesFront};
+ghost use Rattle.bean_codec.specs.Reads.{item_read, IsPut, BeginsWith, BeginsWithNone, CompletesFront};
 
 use crate::line::{Meaning, meaning_of};
 use crate::request::{Fault, Request};
@@ -29,18 +29,11 @@ pub enum Read {
     Bad { fault: Fault, used: usize },
 }
 
-/// No text spells two items, and none that spells an item begins another.
-pub fn one_item()
-    ensures { (a b x y : List ℕ) (i j : Item) → Spells a i → Spells b j →
-        a ++ x ≡ b ++ y → (a ≡ b) × (i ≡ j) }
-{}
-
 /// The request at the front of the bytes, or the fault of the text that stands there. What follows it
 /// isn't looked at.
 pub fn read_request(alloc: Global, want: Want, bytes: &[u8]) -> Result<Read, AllocError>
     ensures item { IfOk result (λ read. IfSome (item_read read) (BeginsWith bytes.now)) }
-    ensures more { IfOk result (λ read. IfNone (item_read read)
-        ((found : Item × ℕ) → ¬ BeginsWith bytes.now found)) }
+    ensures more { IfOk result (λ read. IfNone (item_read read) (BeginsWithNone bytes.now)) }
     ensures only { IfOk result (λ read. (found : Item × ℕ) →
         BeginsWith bytes.now found → item_read read ≡ Some found) }
     // Only the body of a put takes memory.

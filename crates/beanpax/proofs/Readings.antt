@@ -11,10 +11,11 @@ use Rattle.bean_codec.specs.declared.request.Fault.{Fault}
 use Rattle.bean_codec.specs.declared.request.Request.TheVariants.{Do, Quit}
 use Rattle.bean_codec.specs.Lines.{crlf}
 use Rattle.bean_codec.specs.Grammar.{Item, Spells}
+use Rattle.bean_codec.specs.Reads.{BeginsWithNone}
 use Rattle.bean_codec.specs.Replies.{reply_text, fault_text}
 use Rattle.beanpax.specs.declared.faults.End.{End}
 use Rattle.beanpax.specs.Sessions.{asks, commands_from, replies_from}
-use Rattle.beanpax.specs.Transcripts.{Reads, BeginsNoItem, IsTranscript, is_quit, operations, told}
+use Rattle.beanpax.specs.Transcripts.{Reads, IsTranscript, is_quit, operations, told}
 use Rattle.beanpax.proofs.Replies.{replies_from-cons}
 
 -- what is told for these items by a queue in this state, the next request being of this number
@@ -36,7 +37,7 @@ goes_on rest used item items end stays spelled reads =
     subst (λ (b : Bool). MatchBool b ((items ≡ []) × (end ≡ End.Quit)) (Reads (drop used rest) items end)) (sym stays) (subst (λ bytes. Reads bytes items end) (left used rest) reads))
 
 -- no more items
-pub at_end : (input text rest : List ℕ) (s : QueueState) (number : ℕ) → Completes input text rest s number → BeginsNoItem rest → IsTranscript input text End.Eof
+pub at_end : (input text rest : List ℕ) (s : QueueState) (number : ℕ) → Completes input text rest s number → BeginsWithNone rest → IsTranscript input text End.Eof
 at_end input text rest s number c none = subst (λ output. IsTranscript input output End.Eof) (append-nil text) (c.each [] End.Eof (none, refl))
 
 -- a quit

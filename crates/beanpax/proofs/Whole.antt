@@ -5,13 +5,14 @@ use Rattle.std.proofs.Math.Seq.{take-append_seam, drop-append_seam}
 use Rattle.bean_codec.specs.declared.request.Request.TheVariants.{Do, Quit}
 use Rattle.bean_codec.specs.Lines.{crlf}
 use Rattle.bean_codec.specs.Grammar.{Item, Spells}
+use Rattle.bean_codec.specs.Reads.{BeginsWith, BeginsWithNone}
 use Rattle.beanpax.specs.declared.faults.End.{End}
 use Rattle.beanpax.specs.Sessions.{replies_to}
-use Rattle.beanpax.specs.Transcripts.{Reads, BeginsNoItem, IsTranscript, BeginsTranscript, is_quit, operations, told}
+use Rattle.beanpax.specs.Transcripts.{Reads, IsTranscript, BeginsTranscript, is_quit, operations, told}
 
--- the reader's law: an item is spelled by a beginning of the text, or none is
+-- the law of the front: a text begins with an item or with none
 abbrev pub HasFront : List ℕ → Type 0
-HasFront text = ((n : ℕ) × (item : Item) × Spells (take n text) item) ⊎ BeginsNoItem text
+HasFront text = ((found : Item × ℕ) × BeginsWith text found) ⊎ BeginsWithNone text
 
 -- the law of the texts: no text spells two items, and none that spells an item begins another
 abbrev pub IsOneItem : Type 0
@@ -43,12 +44,12 @@ with_front n text item spelled more =
 reads_within : ((text : List ℕ) → HasFront text) → (bound : ℕ) (text : List ℕ) → length text ≤ bound → (items : List Item) × (end : End) × Reads text items end
 reads_within front zero text within =
     elim (front text) as (λ v. (items : List Item) × (end : End) × Reads text items end) [
-      | inl found ↦ let two = spelled_length _ found.1 found.2 in let short = length-take found.0 text in absurd (omega arith)
+      | inl found ↦ let two = spelled_length (take found.0.1 text) found.0.0 found.1.1 in let short = length-take found.0.1 text in absurd (omega arith)
       | inr none ↦ ([], End.Eof, (none, refl))
     ]
 reads_within front (suc bound) text within =
     elim (front text) as (λ v. (items : List Item) × (end : End) × Reads text items end) [
-      | inl found ↦ with_front found.0 text found.1 found.2 (reads_within front bound (drop found.0 text) (shrinks found.0 bound text found.1 found.2 within))
+      | inl found ↦ with_front found.0.1 text found.0.0 found.1.1 (reads_within front bound (drop found.0.1 text) (shrinks found.0.1 bound text found.0.0 found.1.1 within))
       | inr none ↦ ([], End.Eof, (none, refl))
     ]
 
@@ -63,9 +64,11 @@ pub begins_empty : ((text : List ℕ) → HasFront text) → (input : List ℕ) 
 begins_empty front input = let t = has_transcript front input in (t.0, t.1, t.2)
 
 -- an item that is read stands at the front
-stands : (text front rest : List ℕ) (item : Item) → text ≡ front ++ rest → Spells front item → BeginsNoItem text → ⊥
+stands : (text front rest : List ℕ) (item : Item) → text ≡ front ++ rest → Spells front item → BeginsWithNone text → ⊥
 stands text front rest item cut spelled none =
-    none item (length front) (subst (λ bytes. Spells bytes item) (sym (ap (take (length front)) cut ∙ take-append_seam front rest)) spelled)
+    let long = ap (λ bytes. length bytes) cut in
+    let fits : length front ≤ length text = omega (arith, length-append front rest) in
+    none (item, length front) (fits, subst (λ bytes. Spells bytes item) (sym (ap (take (length front)) cut ∙ take-append_seam front rest)) spelled)
 
 same_rest : (f g x y : List ℕ) → f ≡ g → f ++ x ≡ g ++ y → x ≡ y
 same_rest f g x y same e =

@@ -1,26 +1,24 @@
 -- What a client is told for the bytes that it sent.
-use Rattle.std.specs.Prelude.{◌≡◌, ℕ, Bool, true, false, MatchBool, List, [], ◌∷◌, ◌++◌, take, Ok, Err}
+use Rattle.std.specs.Prelude.{◌≡◌, ℕ, Bool, true, false, MatchBool, List, [], ◌∷◌, ◌++◌, Ok, Err}
 use Rattle.bean_queue.specs.declared.op.Op.{Op}
 use Rattle.bean_queue.specs.declared.reply.Reply.{Reply}
 use Rattle.bean_codec.specs.declared.request.Request.TheVariants.{Do, Quit}
 use Rattle.bean_codec.specs.Grammar.{Item, Spells}
+use Rattle.bean_codec.specs.Reads.{BeginsWithNone}
 use Rattle.bean_codec.specs.Replies.{reply_text, fault_text}
 use Rattle.beanpax.specs.declared.faults.End.{End}
 use Rattle.beanpax.specs.Sessions.{replies_to}
 
--- no beginning of the text spells an item
-abbrev pub BeginsNoItem : List ℕ → Type 0
-BeginsNoItem text = (item : Item) (n : ℕ) → ¬ Spells (take n text) item
-
+-- the item ends the session
 abbrev pub is_quit : Item → Bool
 is_quit (Ok (Do op)) = false
 is_quit (Ok Quit) = true
 is_quit (Err fault) = false
 
--- the text is the texts of these items, one after the other, up to the first quit, or else up to a rest of which
--- no beginning spells an item
+-- the text is the texts of these items, one after the other, up to the first quit, or else up to a rest that begins
+-- with none
 abbrev pub Reads : List ℕ → List Item → End → Type 0
-Reads text [] end = BeginsNoItem text × (end ≡ End.Eof)
+Reads text [] end = BeginsWithNone text × (end ≡ End.Eof)
 Reads text (item ∷ items) end =
     (front rest : List ℕ) ×
     (text ≡ front ++ rest) ×

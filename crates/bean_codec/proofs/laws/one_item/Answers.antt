@@ -1,5 +1,5 @@
 use Rattle.bean_codec.proofs.OneItem.{one_item}
-use Rattle.bean_codec.proofs.reader.one_item.Goals as goal
+use Rattle.bean_codec.proofs.laws.one_item.Goals as goal
 
 pub returns : goal.returns
 returns c = one_item
