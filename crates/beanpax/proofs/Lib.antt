@@ -1,3 +1,4 @@
+pub mod WordsLemmas
 pub mod Replies
 pub mod Readings
 pub mod Whole

@@ -3,7 +3,6 @@ use Rattle.std.specs.Prelude.{◌≡◌, ℕ, Bool, true, false, Option, List}
 use Rattle.std.specs.Bool.{⊤}
 use Rattle.std.specs.Io.KnownBytes.{Appends}
 use Rattle.beanpax.specs.Streams.{AppendsBeginning}
-use Rattle.beanpax.specs.Faults.{line_of}
 use Rattle.beanpax.specs.declared.faults.SessionFault.{SessionFault}
 use Rattle.beanpax.specs.declared.faults.SessionFault.TheVariants.{OutOfMemory, ReadFailed, WriteFailed}
 

@@ -1,7 +1,8 @@
-ghost use Rattle.std.specs.Prelude.{◌≡◌, ◌≤◌, IfErr, OnOk};
+ghost use Rattle.std.specs.Prelude.{◌≡◌, ◌≤◌, ◌⊎◌, map, string_bytes, IfErr, OnOk};
 ghost use Rattle.beanpax.specs.declared.faults.SessionFault.{SessionFault};
 ghost use Rattle.beanpax.specs.Faults.{line_of};
 ghost use Rattle.beanpax.specs.Program.{IsCaused, WritesText};
+ghost use Rattle.beanpax.specs.Words.{AreWrong, AskForHelp, AskForRun};
 
 use crate::faults::SessionFault;
 use crate::run::run_bytes;
@@ -19,7 +20,7 @@ pub const FAULT: u8 = 1;
 /// The status at wrong words.
 pub const WRONG_WORDS: u8 = 2;
 
-/// Does what the program does with these words, of which the first is its name, and answers its status.
+/// Does what the program does with these words, of which the first is its name. Answers the status.
 ///
 /// The help goes to the output, and what is wrong with the words to the errors.
 pub fn program<R: ByteIn, W: ByteOut, E: ByteOut>(
@@ -30,11 +31,15 @@ pub fn program<R: ByteIn, W: ByteOut, E: ByteOut>(
     errors: &mut E,
 ) -> u8
     ensures known { result ≤ WRONG_WORDS }
-    ensures done { result ≡ DONE → errors.new ≡ errors.old }
+    ensures right { result ≡ DONE
+        → AskForRun (map string_bytes words.now) ⊎ AskForHelp (map string_bytes words.now) }
+    ensures silent { result ≡ DONE → errors.new ≡ errors.old }
     ensures fault { result ≡ FAULT → (fault : SessionFault)
         × IsCaused fault (R.has_failed input.new) (W.has_failed output.new)
-        × WritesText (E.contents errors.old) (E.contents errors.new) (E.has_failed errors.new) (line_of fault) }
-    ensures wrong { result ≡ WRONG_WORDS → (input.new ≡ input.old) × (output.new ≡ output.old) }
+        × WritesText (E.contents errors.old) (E.contents errors.new) (E.has_failed errors.new)
+        (line_of fault) }
+    ensures wrong { result ≡ WRONG_WORDS → AreWrong (map string_bytes words.now) }
+    ensures untouched { result ≡ WRONG_WORDS → (input.new ≡ input.old) × (output.new ≡ output.old) }
 {
     match parse_words(alloc, words) {
         Ok(Asked::Run { nodes, seed }) => {
@@ -57,7 +62,8 @@ pub fn program<R: ByteIn, W: ByteOut, E: ByteOut>(
 fn status_after<E: ByteOut>(ended: Result<(), SessionFault>, errors: &mut E) -> u8
     ensures done { OnOk ended ((result ≡ DONE) × (errors.new ≡ errors.old)) }
     ensures fault { IfErr ended (λ fault. (result ≡ FAULT)
-        × WritesText (E.contents errors.old) (E.contents errors.new) (E.has_failed errors.new) (line_of fault)) }
+        × WritesText (E.contents errors.old) (E.contents errors.new) (E.has_failed errors.new)
+        (line_of fault)) }
 {
     match ended {
         Ok(()) => DONE,

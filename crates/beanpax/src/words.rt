@@ -1,5 +1,7 @@
-ghost use Rattle.std.specs.Prelude.{IfOk};
-ghost use Rattle.beanpax.specs.Words.{IsWithinLimits};
+ghost use Rattle.std.specs.Prelude.{◌≡◌, false, codes, map, string_bytes, IfOk};
+ghost use Rattle.clap.specs.Words.{app_of, found_of, one_text};
+ghost use Rattle.clap.specs.declared.builder.command.Command.TheViews.{out-Command as fields_of};
+ghost use Rattle.beanpax.specs.Words.{IsAskedBy, IsNumberOr0, program_command, run_command};
 
 use clap::error::ErrorKind;
 use clap::{Arg, ArgMatches, Command, value_parser};
@@ -8,7 +10,7 @@ use std::alloc::{AllocError, Global};
 /// What the words of a command line ask for.
 #[derive(Drop)]
 pub enum Asked {
-    /// A run with so many nodes, whose schedule is drawn from the seed.
+    /// A run with so many nodes, whose order of events is drawn from the seed.
     Run { nodes: u8, seed: u64 },
     /// This help.
     Help(String),
@@ -18,16 +20,55 @@ pub enum Asked {
 
 /// What the words ask for; the first is the program's name.
 pub fn parse_words(alloc: Global, words: &[String]) -> Result<Asked, AllocError>
-    ensures { IfOk result IsWithinLimits }
+    ensures { IfOk result (IsAskedBy (map string_bytes words.now)) }
 {
-    match command_line(alloc)?.try_get_matches_from(words) {
-        Ok(matches) => Ok(run_asked(&matches)),
-        Err(error) => refused(alloc, &error),
+    match program_words(alloc)?.try_get_matches_from(words) {
+        Ok(matches) => {
+            // A command is required, and there is no other than `run`.
+            let (_, run) = matches.subcommand().unwrap();
+            Ok(Asked::Run {
+                nodes: nodes_of(run),
+                seed: seed_of(run),
+            })
+        }
+        Err(error) => match error.kind() {
+            ErrorKind::OutOfMemory => Err(AllocError),
+            ErrorKind::DisplayHelp => Ok(Asked::Help(error.to_string(alloc)?)),
+            _ => Ok(Asked::Wrong(error.to_string(alloc)?)),
+        },
     }
 }
 
+// How many nodes the words ask for: one, which is all that the option takes.
+fn nodes_of(run: &ArgMatches<'_>) -> u8
+    ensures { result ≡ 1 }
+{
+    run.get_one("nodes").filter(|n| *n == 1).unwrap_or(1)
+}
+
+// The seed that the words give.
+fn seed_of(run: &ArgMatches<'_>) -> u64
+    ensures { IsNumberOr0 (one_text (found_of run.now) (codes "seed")) result }
+{
+    run.get_one("seed").unwrap_or(0)
+}
+
 // The words that the program takes.
-fn command_line<'a>(alloc: Global) -> Result<Command<'a>, AllocError> {
+fn program_words<'a>(alloc: Global) -> Result<Command<'a>, AllocError>
+    ensures app { IfOk result (λ c. app_of c ≡ program_command) }
+    ensures no_globals { IfOk result (λ c. (fields_of c).has_globals ≡ false) }
+{
+    Command::new(alloc, "beanpax")
+        .about("A work queue")
+        .subcommand_required(true)
+        .subcommand(run_words(alloc)?)
+}
+
+// The words of `run`.
+fn run_words<'a>(alloc: Global) -> Result<Command<'a>, AllocError>
+    ensures app { IfOk result (λ c. app_of c ≡ run_command) }
+    ensures no_globals { IfOk result (λ c. (fields_of c).has_globals ≡ false) }
+{
     let nodes = Arg::new(alloc, "nodes")
         .long("nodes")
         .value_name("N")
@@ -38,40 +79,8 @@ fn command_line<'a>(alloc: Global) -> Result<Command<'a>, AllocError> {
         .value_name("S")
         .help("What the order of events is drawn from [default: 0]")
         .value_parser(value_parser!(u64));
-    let run = Command::new(alloc, "run")
+    Command::new(alloc, "run")
         .about("Answers the requests of standard input on standard output")
         .arg(nodes)?
-        .arg(seed)?;
-    Command::new(alloc, "beanpax")
-        .about("A work queue")
-        .subcommand_required(true)
-        .subcommand(run)
-}
-
-// What words that are right ask for.
-fn run_asked(matches: &ArgMatches<'_>) -> Asked
-    ensures { IsWithinLimits result }
-{
-    let run = matches.subcommand_matches("run");
-    let nodes = run.and_then(|run| run.get_one::<u8>("nodes"));
-    let seed = run.and_then(|run| run.get_one::<u64>("seed"));
-    Asked::Run {
-        nodes: nodes.filter(|nodes| *nodes == 1).unwrap_or(1),
-        seed: seed.unwrap_or(0),
-    }
-}
-
-// What other words ask for.
-fn refused(alloc: Global, error: &clap::Error) -> Result<Asked, AllocError>
-    ensures { IfOk result IsWithinLimits }
-{
-    if error.kind() == ErrorKind::OutOfMemory {
-        return Err(AllocError);
-    }
-    let text = error.to_string(alloc)?;
-    if error.use_stderr() {
-        Ok(Asked::Wrong(text))
-    } else {
-        Ok(Asked::Help(text))
-    }
+        .arg(seed)
 }

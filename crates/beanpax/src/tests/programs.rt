@@ -1,5 +1,5 @@
 use crate::memory::{Ending, PieceReader, PieceWriter};
-use crate::program;
+use crate::{SessionFault, program};
 use std::alloc::{AllocError, Global};
 use std::test::Fail;
 
@@ -84,6 +84,39 @@ fn help_is_shown(rt: HostRuntime) -> Result<(), Fail> {
         assert_eq!(rt; ended.status, 0);
         assert!(rt; !ended.output.bytes().is_empty());
         assert_eq!(rt; ended.errors.bytes(), b"".as_slice());
+    }
+    Ok(())
+}
+
+#[test]
+fn wrong_words_stay_wrong_where_errors_fail(rt: HostRuntime) -> Result<(), Fail> {
+    let words = split_words(rt.alloc(), "frobnicate")?;
+    let mut input = PieceReader::new(b"", 4096, Ending::End);
+    let mut output = PieceWriter::new(rt.alloc(), 4096, 4096);
+    let mut errors = PieceWriter::new(rt.alloc(), 4096, 7);
+    let status = program(
+        rt.alloc(),
+        words.as_slice(),
+        &mut input,
+        &mut output,
+        &mut errors,
+    );
+    assert_eq!(rt; status, 2);
+    assert_eq!(rt; errors.bytes(), b"error: ".as_slice());
+    Ok(())
+}
+
+#[test]
+fn a_fault_is_told_by_its_name(rt: HostRuntime) -> Result<(), Fail> {
+    let faults = [
+        (SessionFault::OutOfMemory, "1 out of memory"),
+        (SessionFault::ReadFailed, "7 read failed"),
+        (SessionFault::WriteFailed, "8 write failed"),
+    ];
+    for (fault, text) in faults {
+        let number = fault.number();
+        let told = format!(in rt.alloc(); "{number} {fault}")?;
+        assert_eq!(rt; told.as_str(), text);
     }
     Ok(())
 }

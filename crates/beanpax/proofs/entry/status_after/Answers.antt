@@ -1,5 +1,5 @@
 -- What a call of `write_all` did to the errors.
-use Rattle.std.proofs.Common.{◌≡◌, ℕ, Bool, true, false, List, Option, Result, Ok, Err, OnOk, OnErr, length, take_all, le_refl, refl, ◌∙◌, subst, sym}
+use Rattle.std.proofs.Common.{◌≡◌, ℕ, Bool, true, List, Option, Result, Ok, Err, OnOk, OnErr, length, take_all, le_refl, refl, ◌∙◌, subst, sym}
 use Rattle.std.specs.Io.KnownBytes.{Appends}
 use Rattle.beanpax.specs.Streams.{AppendsBeginning}
 use Rattle.beanpax.specs.Program.{WritesText}

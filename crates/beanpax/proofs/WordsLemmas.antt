@@ -1,0 +1,56 @@
+-- From what clap says of a parse to what the words ask for.
+use Rattle.std.proofs.Common.{◌≡◌, ◌≢◌, ◌∙◌, ℕ, true, List, Option, None, Some, Result, Ok, Err, unwrap_or, option_map, refl, sym, ap, subst, inl, inr}
+use Rattle.std.specs.Prelude.{option_and_then}
+use Rattle.std.specs.Str.Parse.{ParsesUnsigned}
+use Rattle.std.proofs.lemmas.Fmt.{parse-decimal}
+use Rattle.clap.specs.Words.{App, HasKind, IsAmong, Kinds, ReadsOne, Row, fault_of, is_simple, is_simple_and_free, kind_of, one_of, subcommand_of}
+use Rattle.clap.specs.declared.error.Error.{Error}
+use Rattle.clap.specs.declared.error.kind.ErrorKind.{ErrorKind}
+use Rattle.clap.specs.declared.error.kind.ErrorKind.TheVariants.{OutOfMemory}
+use Rattle.clap.proofs.OnLiterals.{clap_on_literals}
+use Rattle.beanpax.specs.Words.{IsNumberOr0, errors_in, program_command, run_command, text_given}
+
+pub is_simple-program_command : is_simple program_command ≡ true
+unfolding program_command run_command clap_on_literals
+is_simple-program_command = refl
+
+pub is_simple_and_free-program_command : is_simple_and_free program_command ≡ true
+unfolding program_command run_command clap_on_literals
+is_simple_and_free-program_command = refl
+
+-- what holds of the errors of a simple command holds of those of the program's
+pub holds_of_errors : (P : Kinds → Type 0) (a : App) (words : List (List ℕ)) → a ≡ program_command
+    → (is_simple_and_free a ≡ true → P (fault_of a words)) → P (errors_in words)
+unfolding errors_in
+holds_of_errors P a words is h =
+    subst (λ (b : App). P (fault_of b words)) is (h (ap is_simple_and_free is ∙ is_simple_and_free-program_command))
+
+of_rows : (option : List ℕ) (run : Option (List ℕ × List Row)) (rows : List Row) → option_map (λ r. r.1) run ≡ Some rows
+    → option_and_then (λ r. one_of option r.1) run ≡ one_of option rows
+of_rows option None rows e = cc
+of_rows option (Some r) rows e = let same : r.1 ≡ rows = cc in ap (one_of option) same
+
+-- a kind that is not want of memory is one of those that clap found
+pub among_errors : (k : ErrorKind) (kinds : Kinds) (e : Error) → k ≡ kind_of e → k ≢ OutOfMemory → HasKind kinds e → IsAmong k kinds
+among_errors k kinds e is not_memory (inl memory) = absurd (not_memory (is ∙ memory))
+among_errors k kinds e is not_memory (inr among) = subst (λ (j : ErrorKind). IsAmong j kinds) (sym is) among
+
+-- the text of an option is that of the command that was met
+pub text_given-of_rows : (option : List ℕ) (words : List (List ℕ)) (rows : List Row)
+    → option_map (λ run. run.1) (subcommand_of program_command words) ≡ Some rows → text_given option words ≡ one_of option rows
+unfolding text_given
+text_given-of_rows option words rows is = of_rows option (subcommand_of program_command words) rows is
+
+-- a number that is written in digits is read, and without a text it is 0
+pub number_read : (E : Type 0) (gives : List ℕ → Result ℕ E → Type 0)
+    → ((t : List ℕ) (r : Result ℕ E) → gives t r → ParsesUnsigned 64 10 t r)
+    → (text : Option (List ℕ)) (read : Option ℕ) → (text ≡ None → read ≡ None)
+    → ((t : List ℕ) → text ≡ Some t → ReadsOne gives t read) → IsNumberOr0 text (unwrap_or read 0)
+number_read E gives parses None read none some = ap (λ r. unwrap_or r 0) (none refl)
+number_read E gives parses (Some t) None none some = λ m small is.
+    let (e, given) = some t refl in
+    let r : Result ℕ E = Err e in
+    let read : r ≡ Ok m = parse-decimal 64 m t r small small is (parses t r given) in cc
+number_read E gives parses (Some t) (Some v) none some = λ m small is.
+    let r : Result ℕ E = Ok v in
+    let read : r ≡ Ok m = parse-decimal 64 m t r small small is (parses t r (some t refl)) in cc

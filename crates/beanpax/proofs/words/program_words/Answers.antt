@@ -1,0 +1,28 @@
+-- The command `run` stands below the program's name.
+use Rattle.std.proofs.Common.{rules, ◌≡◌, ◌∙◌, ap, ap₂, ◌||◌, Bool, true, false, codes}
+use Rattle.std.proofs.lemmas.Result.{IfOk-weaker}
+use Rattle.clap.specs.Words.{App, app_of, new_app, with_subcommand}
+use Rattle.clap.specs.declared.builder.command.Command.TheViews.{out-Command}
+use Rattle.beanpax.specs.Words.{program_command}
+use Rattle.beanpax.proofs.words.program_words.Goals as goal
+
+abbrev named : App
+named = let app = new_app (codes "beanpax") in record app { top = record app.top { subcommand_required = true } }
+
+pub returns-clause-app : goal.returns-clause-app
+unfolding program_command
+returns-clause-app c =
+    let name_is : app_of c.new.result ≡ new_app (codes "beanpax") = search rules in
+    let named_is : app_of c.subcommand_required.result ≡ named = search rules in
+    IfOk-weaker c.subcommand.result _ _
+    (λ r adds. adds.shape c.in_ok-run_words.ensures.no_globals ∙ ap₂ with_subcommand named_is (ap (λ (a : App). a.top) c.in_ok-run_words.ensures.app))
+    c.subcommand.ensures
+
+none_global : (a b : Bool) → a ≡ false → b ≡ false → (a || b) ≡ false
+none_global a b p q = ap₂ (λ x y. x || y) p q
+
+pub returns-clause-no_globals : goal.returns-clause-no_globals
+returns-clause-no_globals c =
+    IfOk-weaker c.subcommand.result _ _
+    (λ r adds. adds.globals ∙ none_global (out-Command c.subcommand_required.result).has_globals _ (search rules) c.in_ok-run_words.ensures.no_globals)
+    c.subcommand.ensures
