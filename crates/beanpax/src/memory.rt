@@ -17,8 +17,8 @@ pub enum Ending {
 #[derive(Drop)]
 pub struct PieceReader<'a> {
     rest: &'a [u8],
-    piece_len: usize,
-    ending: Ending,
+    pub piece_len: usize,
+    pub ending: Ending,
     failed: bool,
     ended: bool,
     ghost moves: { 0 < piece_len },
@@ -27,6 +27,8 @@ pub struct PieceReader<'a> {
 impl<'a> PieceReader<'a> {
     pub fn new(bytes: &'a [u8], piece_len: usize, ending: Ending) -> PieceReader<'a>
         requires { 0 < piece_len }
+        ensures piece_len { result.piece_len ≡ piece_len }
+        ensures ending { result.ending ≡ ending }
         ensures remaining { ⟦<PieceReader<'a> as ByteIn>⟧.remaining result ≡ Some bytes.entry.now }
         ensures not_failed { ⟦<PieceReader<'a> as ByteIn>⟧.has_failed result ≡ false }
         ensures not_ended { ⟦<PieceReader<'a> as ByteIn>⟧.has_ended result ≡ false }
@@ -73,14 +75,16 @@ impl ByteIn for PieceReader<'_> {
 #[derive(Drop)]
 pub struct PieceWriter {
     bytes: Vec<u8>,
-    piece_len: usize,
-    room: usize,
+    pub piece_len: usize,
+    pub room: usize,
     failed: bool,
 }
 
 impl PieceWriter {
     /// A writer with room for so many bytes.
     pub fn new(alloc: Global, piece_len: usize, room: usize) -> PieceWriter
+        ensures piece_len { result.piece_len ≡ piece_len }
+        ensures room { result.room ≡ room }
         ensures contents { ⟦<PieceWriter as ByteOut>⟧.contents result ≡ Some [] }
         ensures not_failed { ⟦<PieceWriter as ByteOut>⟧.has_failed result ≡ false }
     {
