@@ -40,9 +40,9 @@ first_line (b ∷ []) = inr (λ line rest e. short (b ∷ []) line rest (omega a
 first_line (b ∷ c ∷ more) =
     elim (cases_eq b 13) as (λ v. FirstLine (b ∷ c ∷ more)) [
       | inl cr ↦ elim (cases_eq c 10) as (λ v. FirstLine (b ∷ c ∷ more)) [
-          | inl lf ↦ inl ([], more, tt, cc)
-          | inr other ↦ next_line b c more (λ both. other both.1) (first_line (c ∷ more))
-        ]
+        | inl lf ↦ inl ([], more, tt, cc)
+        | inr other ↦ next_line b c more (λ both. other both.1) (first_line (c ∷ more))
+      ]
       | inr other ↦ next_line b c more (λ both. other both.0) (first_line (c ∷ more))
     ]
 

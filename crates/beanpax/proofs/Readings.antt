@@ -32,9 +32,13 @@ left used rest = let e : length rest - used ≡ length (drop used rest) = sym (l
 
 -- one item more, where the session goes on
 goes_on : (rest : List ℕ) (used : ℕ) (item : Item) (items : List Item) (end : End) → is_quit item ≡ false → Spells (take used rest) item → Reads (take (length rest - used) (drop used rest)) items end → Reads rest (item ∷ items) end
-goes_on rest used item items end stays spelled reads =
-    (take used rest, drop used rest, sym (take-append-drop used rest), spelled,
-    subst (λ (b : Bool). MatchBool b ((items ≡ []) × (end ≡ End.Quit)) (Reads (drop used rest) items end)) (sym stays) (subst (λ bytes. Reads bytes items end) (left used rest) reads))
+goes_on rest used item items end stays spelled reads = (
+  take used rest,
+  drop used rest,
+  sym (take-append-drop used rest),
+  spelled,
+  subst (λ (b : Bool). MatchBool b ((items ≡ []) × (end ≡ End.Quit)) (Reads (drop used rest) items end)) (sym stays) (subst (λ bytes. Reads bytes items end) (left used rest) reads),
+)
 
 -- no more items
 pub at_end : (input text rest : List ℕ) (s : QueueState) (number : ℕ) → Completes input text rest s number → BeginsWithNone rest → IsTranscript input text End.Eof

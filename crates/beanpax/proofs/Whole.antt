@@ -35,10 +35,28 @@ ends n text b quits = subst (λ (b : Bool). MatchBool b (◌≡◌ {A = List Ite
 with_front : (n : ℕ) (text : List ℕ) (item : Item) → Spells (take n text) item → ((items : List Item) × (end : End) × Reads (drop n text) items end) → (items : List Item) × (end : End) × Reads text items end
 with_front n text item spelled more =
     elim (is_quit item) as (λ b. is_quit item ≡ b → (items : List Item) × (end : End) × Reads text items end) [
-      | true ↦ λ quits. (item ∷ [], End.Quit, (take n text, drop n text, sym (take-append-drop n text), spelled,
-          ends n text (is_quit item) quits))
-      | false ↦ λ stays. (item ∷ more.0, more.1, (take n text, drop n text, sym (take-append-drop n text), spelled,
-          subst (λ (b : Bool). MatchBool b ((more.0 ≡ []) × (more.1 ≡ End.Quit)) (Reads (drop n text) more.0 more.1)) (sym stays) more.2))
+      | true ↦ λ quits. (
+        item ∷ [],
+        End.Quit,
+        (
+          take n text,
+          drop n text,
+          sym (take-append-drop n text),
+          spelled,
+          ends n text (is_quit item) quits,
+        ),
+      )
+      | false ↦ λ stays. (
+        item ∷ more.0,
+        more.1,
+        (
+          take n text,
+          drop n text,
+          sym (take-append-drop n text),
+          spelled,
+          subst (λ (b : Bool). MatchBool b ((more.0 ≡ []) × (more.1 ≡ End.Quit)) (Reads (drop n text) more.0 more.1)) (sym stays) more.2,
+        ),
+      )
     ] refl
 
 reads_within : ((text : List ℕ) → HasFront text) → (bound : ℕ) (text : List ℕ) → length text ≤ bound → (items : List Item) × (end : End) × Reads text items end

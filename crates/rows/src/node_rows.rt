@@ -139,7 +139,10 @@ fn a_scout_hears_each_member_once(rt: HostRuntime) -> Result<(), Fail> {
     assert_eq!(rt; scout.on_p1b(1, own, Vec::new(alloc))?, Heard::Wait);
     assert_eq!(rt; scout.on_p1b(4, own, Vec::new(alloc))?, Heard::Wait);
     let above = ballot(0, 2, 0)?;
-    assert_eq!(rt; scout.on_p1b(2, above, Vec::new(alloc))?, Heard::Preempted(above));
+    assert_eq!(rt;
+        scout.on_p1b(2, above, Vec::new(alloc))?,
+        Heard::Preempted(above)
+    );
     let mut twin = scout.copy()?;
     assert_eq!(rt; scout.on_p1b(2, own, Vec::new(alloc))?, Heard::Adopted);
     assert_eq!(rt; twin.on_p1b(2, own, Vec::new(alloc))?, Heard::Adopted);
