@@ -1,7 +1,7 @@
 ghost use Rattle.std.specs.Prelude.{◌≡◌, ◌≤◌, ◌⊎◌, map, string_bytes, IfErr, OnOk};
 ghost use Rattle.beanpax.specs.declared.faults.SessionFault.{SessionFault};
 ghost use Rattle.beanpax.specs.Faults.{line_of};
-ghost use Rattle.beanpax.specs.Program.{IsCaused, WritesText};
+ghost use Rattle.beanpax.specs.Program.{IsCaused, IsRun, WritesText};
 ghost use Rattle.beanpax.specs.Words.{AreWrong, AskForHelp, AskForRun};
 
 use crate::faults::SessionFault;
@@ -32,7 +32,9 @@ pub fn program<R: ByteIn, W: ByteOut, E: ByteOut>(
 ) -> u8
     ensures known { result ≤ WRONG_WORDS }
     ensures right { result ≡ DONE
-        → AskForRun (map string_bytes words.now) ⊎ AskForHelp (map string_bytes words.now) }
+        → (AskForRun (map string_bytes words.now) × IsRun (R.remaining input.old) (R.remaining input.new)
+            (W.contents output.old) (W.contents output.new))
+        ⊎ (AskForHelp (map string_bytes words.now) × (input.new ≡ input.old)) }
     ensures silent { result ≡ DONE → errors.new ≡ errors.old }
     ensures fault { result ≡ FAULT → (fault : SessionFault)
         × IsCaused fault (R.has_failed input.new) (W.has_failed output.new)
