@@ -2,3 +2,5 @@ pub mod Lists
 pub mod Commands
 pub mod Answers
 pub mod Replays
+pub mod OnceOnly
+pub mod Registers

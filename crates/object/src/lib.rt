@@ -3,10 +3,17 @@
 
 mod command;
 mod keyed;
+mod latest;
+mod laws;
 mod objects;
+mod once;
+mod register;
 mod value;
 
 pub use command::{Act, Answer, Command, Key, Submission};
 pub use keyed::Keyed;
+pub use laws::filter_remembers;
 pub use objects::Object;
+pub use once::{Effect, Once};
+pub use register::{Register, RegisterOp, RegisterReply};
 pub use value::Value;

@@ -1,0 +1,2 @@
+pub mod LatestMaps
+pub mod Filters

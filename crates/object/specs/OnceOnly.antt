@@ -1,0 +1,37 @@
+-- A filter in front of an object: a command counts only where its number is greater than each earlier one of its
+-- session.
+use Rattle.std.specs.Prelude.{◌≡◌, ℕ, Bool, true, List, Option, None, Some, nat_lt}
+use Rattle.std.specs.Ordering.{nat_cmp}
+use Rattle.std.specs.FinMap.{FinMap, get, insert, code}
+use Rattle.std.specs.Coded.{Coded, coded_ℕ}
+use Rattle.object.specs.declared.command.Command.{Command}
+use Rattle.object.specs.declared.command.Key.{Key}
+use Rattle.object.specs.Replays.{is_new}
+
+-- the greatest number of each session so far
+abbrev pub LatestNumbers : Type 0
+LatestNumbers = FinMap nat_cmp ℕ
+
+abbrev pub latest_code : Coded LatestNumbers
+latest_code = code coded_ℕ coded_ℕ
+
+-- the object, and what the filter knows
+pub record Filtered (O : Type 0) : Type 0 where
+  pub object : O
+  pub latest : LatestNumbers
+
+abbrev pub is_above : Option ℕ → ℕ → Bool
+is_above None number = true
+is_above (Some latest) number = nat_lt latest number
+
+-- the number is greater than its session's latest
+abbrev pub is_later : Key → LatestNumbers → Bool
+is_later key latest = is_above (get latest key.session) key.number
+
+-- the number is its session's latest
+abbrev pub noted : Key → LatestNumbers → LatestNumbers
+noted key latest = insert latest key.session key.number
+
+-- of every command, the filter knows whether its number is new after the earlier ones
+abbrev pub Remembers : {Op : Type 0} → LatestNumbers → List (Command Op) → Type 0
+Remembers {Op} latest earlier = (c : Command Op) → is_later c.key latest ≡ is_new c earlier

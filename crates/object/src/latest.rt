@@ -1,0 +1,58 @@
+ghost use Rattle.std.specs.Prelude.{◌≡◌, IsSome, IsOk, OnOk, OnErr};
+ghost use Rattle.std.specs.FinMap.{empty, get, insert, remove};
+
+use std::alloc::{AllocError, Global};
+use std::collections::BTreeMap;
+use std::marker::Model;
+
+/// The greatest number of each session so far.
+#[derive(Drop)]
+pub struct Latest {
+    numbers: BTreeMap<u32, u64>,
+}
+
+impl Model for Latest {
+    ghost use Rattle.object.specs.OnceOnly.{LatestNumbers, latest_code};
+    ghost use Rattle.std.specs.FinMap.{from_entries};
+
+    ghost Value = { LatestNumbers };
+
+    ghost coded = { latest_code };
+
+    ghost view = { λ l. from_entries l.numbers.entries };
+}
+
+impl Latest {
+    /// No session has a number.
+    pub fn new(alloc: Global) -> Latest
+        ensures { result ≡ empty }
+    {
+        Latest {
+            numbers: BTreeMap::new(alloc),
+        }
+    }
+
+    /// The session's number.
+    pub fn get(&self, session: u32) -> Option<u64>
+        ensures { result ≡ get self.now session }
+    {
+        self.numbers.get(&session).copied()
+    }
+
+    /// Gives the session this number. It takes no memory where the session has one.
+    pub fn set(&mut self, session: u32, number: u64) -> Result<(), AllocError>
+        ensures ok { OnOk result (self.new ≡ insert self.old session number) }
+        ensures err { OnErr result (self.new ≡ self.old) }
+        ensures known { IsSome (get self.old session) → IsOk result }
+    {
+        self.numbers.insert(session, number)?;
+        Ok(())
+    }
+
+    /// Takes the session's number away.
+    pub fn forget(&mut self, session: u32)
+        ensures { self.new ≡ remove self.old session }
+    {
+        self.numbers.remove(&session);
+    }
+}

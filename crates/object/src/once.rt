@@ -1,0 +1,86 @@
+ghost use Rattle.std.specs.Prelude.{◌≡◌, ◌++◌, ◌∷◌, List, [], true, false, ◌↔◌, IfOk, OnOk, OnErr};
+ghost use Rattle.std.specs.FinMap.{empty};
+ghost use Rattle.object.specs.declared.command.Command.{Command};
+ghost use Rattle.object.specs.Replays.{is_new};
+ghost use Rattle.object.specs.OnceOnly.{is_later, noted, Remembers};
+
+use crate::command::{Answer, Command};
+use crate::latest::Latest;
+use crate::objects::Object;
+use std::alloc::{AllocError, Global};
+use std::marker::Model;
+
+/// Whether a command counted.
+#[derive(Clone, Copy, Debug, PartialEq, Eq)]
+pub enum Effect {
+    /// The object obeyed it.
+    Done,
+    /// An earlier command of its session had a number at least as great, so nothing was done.
+    Stale,
+}
+
+/// An object behind a filter, which lets each session's commands through in rising number only.
+#[derive(Drop)]
+pub struct Once<O: Object> {
+    object: O,
+    latest: Latest,
+}
+
+impl<O: Object> Model for Once<O> {
+    ghost use Rattle.std.specs.Coded.{codes};
+    ghost use Rattle.object.specs.OnceOnly.{Filtered, latest_code};
+
+    ghost Value = { Filtered O };
+
+    ghost coded = { Prim.hlevel (codes, latest_code, O.code) };
+
+    ghost view = { λ o. record { object = o.object; latest = o.latest } };
+}
+
+impl<O: Object> Once<O> {
+    /// A new object, whose filter has seen no command.
+    pub fn new(alloc: Global) -> Result<Once<O>, AllocError>
+        ensures object { IfOk result (λ o. o.object ≡ O.fresh) }
+        ensures latest { IfOk result (λ o. o.latest ≡ empty) }
+    {
+        Ok(Once {
+            object: O::new(alloc)?,
+            latest: Latest::new(alloc),
+        })
+    }
+
+    /// Lets the object obey the command, unless it is stale, and appends the answers to `out`.
+    pub fn apply(
+        &mut self,
+        cmd: &Command<O::Op>,
+        out: &mut Vec<Answer<O::Reply>>,
+    ) -> Result<Effect, AllocError>
+        ensures done { IfOk result (λ effect. (effect ≡ Effect.Done) ↔ (is_later cmd.now.key self.old.latest ≡ true)) }
+        ensures object { IfOk result (λ effect. effect ≡ Effect.Done → self.new.object ≡ O.after self.old.object cmd.now) }
+        ensures latest { IfOk result (λ effect. effect ≡ Effect.Done → self.new.latest ≡ noted cmd.now.key self.old.latest) }
+        ensures answers { IfOk result (λ effect. effect ≡ Effect.Done →
+            out.new.items ≡ out.old.items ++ O.answers self.old.object cmd.now) }
+
+        ensures stale { IfOk result (λ effect. effect ≡ Effect.Stale →
+            (self.new ≡ self.old) × (out.new.items ≡ out.old.items)) }
+        ensures err { OnErr result ((self.new ≡ self.old) × (out.new.items ≡ out.old.items)) }
+    {
+        let key = cmd.key();
+        match self.latest.get(key.session) {
+            Some(latest) if key.number <= latest => Ok(Effect::Stale),
+            Some(_) => {
+                self.object.apply(cmd, out)?;
+                self.latest.set(key.session, key.number)?;
+                Ok(Effect::Done)
+            }
+            None => {
+                self.latest.set(key.session, key.number)?;
+                if let Err(e) = self.object.apply(cmd, out) {
+                    self.latest.forget(key.session);
+                    return Err(e);
+                }
+                Ok(Effect::Done)
+            }
+        }
+    }
+}
