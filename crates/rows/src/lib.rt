@@ -9,6 +9,8 @@ mod client_rows;
 #[cfg(test)]
 mod command_rows;
 #[cfg(test)]
+mod filter_rows;
+#[cfg(test)]
 mod node_rows;
 #[cfg(test)]
 mod program_rows;
