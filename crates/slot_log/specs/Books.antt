@@ -1,0 +1,28 @@
+-- What a replica was asked, what it proposed, and what it knows to be decided (Paxos Made Moderately Complex, 2.1
+-- and Figure 3).
+use Rattle.std.specs.Prelude.{ℕ, List, []}
+use Rattle.std.specs.Ordering.{nat_cmp}
+use Rattle.std.specs.Coded.{Coded, coded_ℕ}
+use Rattle.std.specs.FinMap.{FinMap, empty, code}
+
+-- maps by slot
+abbrev pub Slots : Type 0 → Type 0
+Slots X = FinMap nat_cmp X
+
+abbrev pub slots_code : {X : Type 0} → Coded X → Coded (Slots X)
+slots_code x = code coded_ℕ x
+
+-- slot_in is where proposals go on, and slot_out where decisions are performed next
+pub record SlotBook (C : Type 0) : Type 0 where
+  pub slot_in : ℕ
+  pub slot_out : ℕ
+  pub requests : List C
+  pub proposals : Slots C
+  pub decisions : Slots C
+
+abbrev pub new_book : {C : Type 0} → SlotBook C
+new_book = record { slot_in = 1; slot_out = 1; requests = []; proposals = empty; decisions = empty }
+
+-- how many slots from slot_out on may have a proposal, and how many decisions are told at once
+abbrev pub window : ℕ
+window = 64

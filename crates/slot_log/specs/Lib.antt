@@ -1,0 +1,7 @@
+pub mod Books
+pub mod Requests
+pub mod Proposals
+pub mod Decisions
+pub mod Advances
+pub mod Notes
+pub mod Kept

@@ -1,0 +1,9 @@
+//! The slots of a replica: what it was asked, what it proposed, and what it knows to be decided.
+#![tactic(auto)]
+
+mod errors;
+mod notes;
+mod slot_log;
+
+pub use errors::LearnError;
+pub use slot_log::SlotLog;

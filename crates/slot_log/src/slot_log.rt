@@ -1,0 +1,224 @@
+ghost use Rattle.std.specs.Prelude.{◌≡◌, ◌↔◌, ◌+◌, ◌^◌, ◌<◌, ◌≤◌, true, None, Some, IsOk, IsSome, IfSome, IfOk, OnOk, OnErr, IsErrOf};
+ghost use Rattle.std.specs.Option.{option_map, option_copied};
+ghost use Rattle.std.specs.FinMap as map;
+ghost use Rattle.slot_log.specs.Books.{new_book};
+ghost use Rattle.slot_log.specs.Requests.{is_known, requested};
+ghost use Rattle.slot_log.specs.Proposals as proposing;
+ghost use Rattle.slot_log.specs.Decisions as deciding;
+ghost use Rattle.slot_log.specs.Advances.{advanced};
+
+use crate::errors::LearnError;
+use crate::notes::Notes;
+use ballot::Slot;
+use object::{Keyed, Value};
+use std::alloc::{AllocError, Global};
+use std::collections::{BTreeMap, VecDeque};
+use std::marker::Model;
+
+/// How many slots from `slot_out` on may have a proposal, and how many decisions are told at once.
+const WINDOW: u64 = 64;
+
+const LAST_SLOT: u64 = 1 << 62;
+
+/// The requests, proposals and decisions of a replica, whatever its commands are.
+#[derive(Drop)]
+pub struct SlotLog<C: Value + Keyed> {
+    slot_in: u64,
+    slot_out: u64,
+    requests: VecDeque<C>,
+    proposals: BTreeMap<Slot, C>,
+    decisions: BTreeMap<Slot, C>,
+    known: Notes<C>,
+    alloc: Global,
+}
+
+impl<C: Value + Keyed> Model for SlotLog<C> {
+    ghost use Rattle.std.specs.Coded.{codes};
+    ghost use Rattle.slot_log.specs.Books.{SlotBook, slots_code};
+
+    ghost Value = { SlotBook C };
+
+    ghost coded = { Prim.hlevel (codes, slots_code, C.code) };
+
+    ghost use Rattle.slot_log.specs.Kept.{book_of, IsKept};
+
+    ghost view = { book_of };
+
+    ghost invariant = { λ a. IsKept C.eq C.key_of a };
+}
+
+impl<C: Value + Keyed> SlotLog<C> {
+    /// A log with nothing in it.
+    pub fn new(alloc: Global) -> SlotLog<C>
+        ensures { result ≡ new_book }
+    {
+        SlotLog {
+            slot_in: 1,
+            slot_out: 1,
+            requests: VecDeque::new(alloc),
+            proposals: BTreeMap::new(alloc),
+            decisions: BTreeMap::new(alloc),
+            known: Notes::new(alloc),
+            alloc,
+        }
+    }
+
+    /// The slot whose decision is performed next, or the number behind the last slot.
+    pub fn slot_out(&self) -> u64
+        ensures slot { result ≡ self.now.slot_out }
+        ensures above { 0 < result }
+        ensures within { result ≤ 2 ^ 62 + 1 }
+    {
+        self.slot_out
+    }
+
+    /// The proposals, in rising slot.
+    pub fn proposals(&self) -> &BTreeMap<Slot, C>
+        ensures { result.now.entries ≡ map.entries self.now.proposals }
+    {
+        &self.proposals
+    }
+
+    /// A command is asked for. It goes last in the requests, unless it is known.
+    pub fn request(&mut self, command: C) -> Result<(), AllocError>
+        ensures state { OnOk result (self.new ≡ requested C.eq self.old command) }
+        ensures known { is_known C.eq self.old command ≡ true → IsOk result }
+        ensures err { OnErr result (self.new ≡ self.old) }
+    {
+        if self.known.has(&command) {
+            return Ok(());
+        }
+        let proposals = self.proposals.len();
+        self.requests.reserve(proposals + 1)?;
+        self.known.add(&command)?;
+        self.requests.push_back(command)?;
+        Ok(())
+    }
+
+    /// What `propose_next` would take. It takes no memory.
+    pub fn next_proposal(&self) -> Option<(Slot, &C)>
+        ensures proposal { option_map (λ p. (p.0, p.1.now)) result ≡ proposing.next_proposal self.now }
+        ensures least { IfSome result (λ p. proposing.IsLeastOpen self.now p.0) }
+    {
+        let command = self.requests.front()?;
+        let slot = self.open_slot()?;
+        Some((slot, command))
+    }
+
+    /// Proposes the first request in the least slot that is open to it, and answers both. It answers None
+    /// where no request waits, or no such slot is left in the window.
+    pub fn propose_next(&mut self) -> Result<Option<(Slot, C)>, AllocError>
+        ensures state { OnOk result (self.new ≡ proposing.proposed_next self.old) }
+        ensures proposal { IfOk result (λ proposal. proposal ≡ proposing.next_proposal self.old) }
+        ensures idle { proposing.next_proposal self.old ≡ None → IsOk result }
+        ensures err { OnErr result (self.new ≡ self.old) }
+    {
+        let Some(first) = self.requests.front() else {
+            return Ok(None);
+        };
+        let Some(slot) = self.open_slot() else {
+            return Ok(None);
+        };
+        let copy = first.copy()?;
+        self.proposals.insert(slot, copy)?;
+        self.slot_in = slot.number() + 1;
+        let command = self.requests.pop_front().unwrap();
+        Ok(Some((slot, command)))
+    }
+
+    // The least slot from `slot_in` on, within the window, that has no known decision. The slots before
+    // `slot_out` have one.
+    fn open_slot(&self) -> Option<Slot>
+        ensures { result ≡ proposing.open_slot self.now }
+    {
+        for number in self.slot_in.max(self.slot_out)..self.slot_out + WINDOW {
+            let slot = Slot::new(number)?;
+            if !self.decisions.contains_key(&slot) {
+                return Some(slot);
+            }
+        }
+        None
+    }
+
+    /// A command is decided in a slot.
+    pub fn learn(&mut self, slot: Slot, command: C) -> Result<(), LearnError>
+        ensures state { OnOk result (self.new ≡ deciding.learnt self.old slot command) }
+        ensures clash { IsErrOf result LearnError.Clash ↔ deciding.IsClash self.old slot command }
+        ensures again { map.get self.old.decisions slot ≡ Some command → IsOk result }
+        ensures unchanged { map.get self.old.decisions slot ≡ Some command → self.new ≡ self.old }
+        ensures err { OnErr result (self.new ≡ self.old) }
+    {
+        match self.decisions.get(&slot) {
+            Some(decided) if *decided == command => Ok(()),
+            Some(_) => Err(LearnError::Clash),
+            None => self
+                .decide(slot, command)
+                .map_err(|_| LearnError::OutOfMemory),
+        }
+    }
+
+    // Learns the first decision of a slot.
+    fn decide(&mut self, slot: Slot, command: C) -> Result<(), AllocError>
+        requires { map.get self.old.decisions slot ≡ None }
+        ensures ok { OnOk result (self.new ≡ deciding.learnt self.old slot command) }
+        ensures err { OnErr result (self.new ≡ self.old) }
+    {
+        prove!(slot.number() <= LAST_SLOT);
+        let copy = command.copy()?;
+        self.decisions.insert(slot, copy)?;
+        match self.known.add(&command) {
+            Ok(()) => Ok(()),
+            Err(failed) => {
+                self.decisions.remove(&slot);
+                Err(failed)
+            }
+        }
+    }
+
+    /// The known decisions of the slot and the 63 that follow it, in rising slot.
+    pub fn decided_from(&self, slot: Slot) -> Result<Vec<(Slot, C)>, AllocError>
+        ensures { IfOk result (λ known. known.items ≡ deciding.decided_from self.now slot) }
+    {
+        let last = Slot::new((slot.number() + (WINDOW - 1)).min(LAST_SLOT)).unwrap();
+        let mut known = Vec::new(self.alloc);
+        for (slot, command) in self.decisions.range(slot..=last) {
+            known.push((*slot, command.copy()?))?;
+        }
+        Ok(known)
+    }
+
+    /// The least slot with a proposal and without a known decision. It takes no memory.
+    pub fn undecided(&self) -> Option<Slot>
+        ensures { result ≡ deciding.undecided self.now }
+    {
+        let decisions = &self.decisions;
+        self.proposals
+            .keys()
+            .copied()
+            .find(|slot| !decisions.contains_key(slot))
+    }
+
+    /// The decision at `slot_out`. It takes no memory.
+    pub fn next_decided(&self) -> Option<&C>
+        ensures { option_copied result ≡ deciding.next_decided self.now }
+    {
+        let slot = Slot::new(self.slot_out)?;
+        self.decisions.get(&slot)
+    }
+
+    /// The decision at `slot_out` was performed. A proposal that lost this slot goes back to the requests.
+    /// It takes no memory.
+    pub fn advance(&mut self)
+        requires { IsSome (deciding.next_decided self.old) }
+        ensures { self.new ≡ advanced C.eq self.old }
+    {
+        let slot = Slot::new(self.slot_out).unwrap();
+        self.slot_out += 1;
+        let Some(proposal) = self.proposals.remove(&slot) else {
+            return;
+        };
+        if proposal != self.decisions[&slot] {
+            self.requests.push_back(proposal).unwrap();
+        }
+    }
+}
