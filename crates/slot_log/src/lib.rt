@@ -4,6 +4,8 @@
 mod errors;
 mod notes;
 mod slot_log;
+#[cfg(test)]
+mod tests;
 
 pub use errors::LearnError;
 pub use slot_log::SlotLog;

@@ -28,6 +28,7 @@ pub struct SlotLog<C: Value + Keyed> {
     requests: VecDeque<C>,
     proposals: BTreeMap<Slot, C>,
     decisions: BTreeMap<Slot, C>,
+    // Each command of the three once more, by its key.
     known: Notes<C>,
     alloc: Global,
 }
@@ -163,6 +164,7 @@ impl<C: Value + Keyed> SlotLog<C> {
         ensures ok { OnOk result (self.new ≡ deciding.learnt self.old slot command) }
         ensures err { OnErr result (self.new ≡ self.old) }
     {
+        // What every slot is, for the invariant.
         prove!(slot.number() <= LAST_SLOT);
         let copy = command.copy()?;
         self.decisions.insert(slot, copy)?;
