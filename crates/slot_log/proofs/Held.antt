@@ -26,7 +26,7 @@ module _ {K X : Type 0} (p : X → Bool) where
       swapped false false c = refl
 
   -- the value at a key that is taken out
-  pub any_removed : (test : K → Bool) (es : List (K × X)) → list_any p (values_of es) ≡ (option_map_or p (lookup test es) false || list_any p (values_of (remove_entry test es)))
+  any_removed : (test : K → Bool) (es : List (K × X)) → list_any p (values_of es) ≡ (option_map_or p (lookup test es) false || list_any p (values_of (remove_entry test es)))
   any_removed test [] = refl
   any_removed test (e ∷ es) =
       elim (test e.0) as (λ b. (p e.1 || list_any p (values_of es)) ≡ (option_map_or p (cond b (Some e.1) (lookup test es)) false || list_any p (values_of (cond b es (e ∷ remove_entry test es))))) [
@@ -39,6 +39,12 @@ module _ {K X : Type 0} (p : X → Bool) where
       swapped true false c = refl
       swapped false true c = refl
       swapped false false c = refl
+
+  pub any_taken : (test : K → Bool) (es fs : List (K × X)) (x : X) → lookup test es ≡ Some x → fs ≡ remove_entry test es → list_any p (values_of es) ≡ (p x || list_any p (values_of fs))
+  any_taken test es fs x there left =
+      any_removed test es
+      ∙ ap (λ o. option_map_or p o false || list_any p (values_of (remove_entry test es))) there
+      ∙ ap (λ (gs : List (K × X)). p x || list_any p (values_of gs)) (sym left)
 
   -- a value that is found
   pub any_found : (test : K → Bool) (v : X) (es : List (K × X)) → lookup test es ≡ Some v → p v ≡ true → list_any p (values_of es) ≡ true

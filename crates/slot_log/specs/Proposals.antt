@@ -37,3 +37,8 @@ pub record IsLeastOpen {C : Type 0} (book : SlotBook C) (s : ℕ) : Type 0 where
   pub least : (t : ℕ) → book.slot_in ≤ t → t < s → IsSome (get book.decisions t)
   pub within : s < book.slot_out + window
   pub numbered : s ≤ 2 ^ 62
+
+-- a slot of the window that begins at slot_out
+pub record IsInWindow (slot_out s : ℕ) : Type 0 where
+  pub low : slot_out ≤ s
+  pub high : s < slot_out + window

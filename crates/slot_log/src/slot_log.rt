@@ -1,4 +1,4 @@
-ghost use Rattle.std.specs.Prelude.{◌≡◌, ◌↔◌, ◌+◌, ◌^◌, ◌<◌, ◌≤◌, true, None, Some, IsOk, IsSome, IfSome, IfOk, OnOk, OnErr, IsErrOf};
+ghost use Rattle.std.specs.Prelude.{◌≡◌, ◌↔◌, ◌+◌, ◌^◌, ◌<◌, ◌≤◌, ℕ, true, None, Some, IsOk, IsSome, IfSome, IfOk, OnOk, OnErr, IsErrOf};
 ghost use Rattle.std.specs.Option.{option_map, option_copied};
 ghost use Rattle.std.specs.FinMap as map;
 ghost use Rattle.slot_log.specs.Books.{new_book};
@@ -73,9 +73,10 @@ impl<C: Value + Keyed> SlotLog<C> {
         self.slot_out
     }
 
-    /// The proposals, in rising slot.
+    /// The proposals, in rising slot. There are no more than the window has slots.
     pub fn proposals(&self) -> &BTreeMap<Slot, C>
-        ensures { result.now.entries ≡ map.entries self.now.proposals }
+        ensures entries { result.now.entries ≡ map.entries self.now.proposals }
+        ensures near { (s : ℕ) → IsSome (map.get self.now.proposals s) → proposing.IsInWindow self.now.slot_out s }
     {
         &self.proposals
     }

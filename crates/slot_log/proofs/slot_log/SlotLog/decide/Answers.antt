@@ -8,7 +8,8 @@ use Rattle.std.specs.Ordering.{nat_cmp}
 use Rattle.slot_log.specs.Books.{SlotBook, Slots}
 use Rattle.slot_log.specs.Decisions.{learnt}
 use Rattle.slot_log.specs.Kept.{book_of}
-use Rattle.slot_log.proofs.Maps.{at, seen, insert_is, same_is, restored, put_within, put_keeps}
+use Rattle.slot_log.proofs.Maps.{at, insert_is, same_is, restored, put_within, put_keeps}
+use Rattle.slot_log.proofs.Books.{decision_at}
 use Rattle.slot_log.proofs.Held.{any_insert, goes_to_decisions}
 use Rattle.slot_log.proofs.slot_log.SlotLog.decide.Goals as goal
 
@@ -18,7 +19,7 @@ invariant_of-self-in-Ok g c =
     let k = c.args.slot in
     let kept = c.self.invariant in
     let puts = c.in_ok-insert.ensures.updates.0 in
-    let new : at a.decisions.entries k ≡ None = seen a.decisions.entries c.args.self.now.decisions (ap (λ (b : SlotBook _). b.decisions) c.self.view_is) k ∙ c.requires in
+    let new : at a.decisions.entries k ≡ None = sym (decision_at a c.args.self.now c.self.view_is k) ∙ c.requires in
     record {
       slot_in = kept.slot_in;
       slot_out = kept.slot_out;
@@ -26,6 +27,7 @@ invariant_of-self-in-Ok g c =
       decisions = c.insert.ensures.ordered;
       within = λ s h. put_within (λ t. t ≤ 2 ^ 62) k s c.in_ok-copy.copy (at a.decisions.entries s) (omega arith) (kept.within s) (ap is_some (sym (puts s)) ∙ h);
       performed = λ s low high. ap is_some (puts s) ∙ put_keeps _ c.in_ok-copy.copy (at a.decisions.entries s) (kept.performed s low high);
+      near = kept.near;
       ahead = kept.ahead;
       room = kept.room;
       noted = λ d.
@@ -47,7 +49,7 @@ pub invariant_of-self-in-Err : goal.invariant_of-self-in-Err
 invariant_of-self-in-Err g c =
     let a = c.self.inside in
     let kept = c.self.invariant in
-    let new : at a.decisions.entries c.args.slot ≡ None = seen a.decisions.entries c.args.self.now.decisions (ap (λ (b : SlotBook _). b.decisions) c.self.view_is) c.args.slot ∙ c.requires in
+    let new : at a.decisions.entries c.args.slot ≡ None = sym (decision_at a c.args.self.now c.self.view_is c.args.slot) ∙ c.requires in
     let same : c.remove.new.self.entries ≡ a.decisions.entries =
     btree_map_from_get nat_cmp_total c.remove.new.self a.decisions c.remove.ensures.ordered kept.decisions
     (restored a.decisions.entries c.insert.new.self.entries c.remove.new.self.entries c.args.slot c.in_ok-copy.copy new c.in_ok-insert.ensures.updates.0 c.remove.ensures.updates.0) exact_unsigned in
@@ -58,6 +60,7 @@ invariant_of-self-in-Err g c =
       decisions = c.remove.ensures.ordered;
       within = λ s h. kept.within s (ap (λ (es : List _). is_some (at es s)) (sym same) ∙ h);
       performed = λ s low high. ap (λ (es : List _). is_some (at es s)) same ∙ kept.performed s low high;
+      near = kept.near;
       ahead = kept.ahead;
       room = kept.room;
       noted = λ d.
@@ -67,7 +70,7 @@ invariant_of-self-in-Err g c =
 
 pub returns-clause-err : goal.returns-clause-err
 returns-clause-err g c =
-    let new : at c.self.inside.decisions.entries c.args.slot ≡ None = seen c.self.inside.decisions.entries c.args.self.now.decisions (ap (λ (b : SlotBook _). b.decisions) c.self.view_is) c.args.slot ∙ c.requires in
+    let new : at c.self.inside.decisions.entries c.args.slot ≡ None = sym (decision_at c.self.inside c.args.self.now c.self.view_is c.args.slot) ∙ c.requires in
     ap (λ (ds : Slots _). record (book_of c.self.inside) { decisions = ds })
     (same_is c.self.inside.decisions.entries c.remove.new.self.entries
     (restored c.self.inside.decisions.entries c.insert.new.self.entries c.remove.new.self.entries c.args.slot c.in_ok-copy.copy new c.in_ok-insert.ensures.updates.0 c.remove.ensures.updates.0))

@@ -1,14 +1,15 @@
 use Rattle.std.proofs.Common.{◌≡◌, ◌≤◌, ◌+◌, ℕ, Bool, true, false, ◌||◌, cond, List, ◌∷◌, ◌++◌, length, Option, Some, ap, ap₂, sym, ◌∙◌, arith}
 use Rattle.std.specs.Map.{values_of}
-use Rattle.std.specs.Option.{option_to_list}
+use Rattle.std.specs.Option.{option_to_list, is_some}
 use Rattle.std.specs.Ordering.{nat_cmp}
 use Rattle.std.specs.BTreeMap.{btree_map_len}
 use Rattle.std.specs.List.{list_any, slice_index_or}
-use Rattle.slot_log.specs.Proposals.{first_for, open_slot, next_proposal, proposed, proposed_next, IsLeastOpen}
+use Rattle.slot_log.specs.Proposals.{first_for, open_slot, next_proposal, proposed, proposed_next, IsLeastOpen, IsInWindow}
 use Rattle.slot_log.specs.Kept.{book_of}
-use Rattle.slot_log.proofs.Maps.{at, apart, insert_is}
+use Rattle.slot_log.proofs.Maps.{at, apart, insert_is, put_within}
 use Rattle.slot_log.proofs.Held.{any_insert, goes_to_proposals}
 use Rattle.slot_log.proofs.OpenSlots.{open_is}
+use Rattle.slot_log.proofs.Books.{new_near}
 use Rattle.slot_log.proofs.slot_log.SlotLog.propose_next.Goals as goal
 
 at_most_one_more : (b : Bool) (n m : ℕ) → m ≡ n + cond b 0 1 → m ≤ n + 1
@@ -35,6 +36,8 @@ invariant_of-self-2 g c =
       decisions = kept.decisions;
       within = kept.within;
       performed = kept.performed;
+      near = λ s h.
+          put_within (IsInWindow a.slot_out) slot s c.in_ok-copy.copy (at a.proposals.entries s) (new_near g.C.PartialEq.eq g.C.Keyed.key_of a kept slot least) (kept.near s) (ap is_some (sym (c.in_ok-insert.ensures.updates.0 s)) ∙ h);
       ahead = λ s h. c.in_ok-insert.ensures.updates.0 s
           ∙ apart slot s (Some c.in_ok-copy.copy) (at a.proposals.entries s) (λ e. absurd (omega arith))
           ∙ kept.ahead s (omega arith);
