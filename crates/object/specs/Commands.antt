@@ -1,5 +1,5 @@
 -- What a command is.
-use Rattle.std.specs.Prelude.{◌≡◌, ◌<◌, ◌≤◌, ◌^◌}
+use Rattle.std.specs.Prelude.{◌≡◌, ◌<◌, ◌≤◌, ◌^◌, Bool, true, false, ◌&&◌, ◌==◌}
 use Rattle.object.specs.declared.command.Key.{Key}
 use Rattle.object.specs.declared.command.Act.{Act}
 use Rattle.object.specs.declared.command.Act.TheVariants.{Do, Close, Tick}
@@ -20,3 +20,20 @@ pub record IsCommand {Op : Type 0} (c : KeyedAct Op) : Type 0 where
   pub above : 0 < c.key.number
   pub within : c.key.number ≤ 2 ^ 62
   pub allowed : MayAsk c.key c.act
+
+-- two acts are one, where `same` tells operations apart
+abbrev pub same_acts : {Op : Type 0} → (Op → Op → Bool) → Act Op → Act Op → Bool
+same_acts same (Do o) (Do p) = same o p
+same_acts same (Do o) Close = false
+same_acts same (Do o) Tick = false
+same_acts same Close (Do p) = false
+same_acts same Close Close = true
+same_acts same Close Tick = false
+same_acts same Tick (Do p) = false
+same_acts same Tick Close = false
+same_acts same Tick Tick = true
+
+-- and two commands
+abbrev pub same_commands : {Op : Type 0} → (Op → Op → Bool) → KeyedAct Op → KeyedAct Op → Bool
+same_commands same a b =
+    (a.key.session == b.key.session && a.key.number == b.key.number) && same_acts same a.act b.act

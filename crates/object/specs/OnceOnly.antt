@@ -1,9 +1,10 @@
 -- A filter in front of an object: a command counts only where its number is greater than each earlier one of its
 -- session.
-use Rattle.std.specs.Prelude.{◌≡◌, ℕ, Bool, true, List, Option, None, Some, nat_lt}
+use Rattle.std.specs.Prelude.{◌≡◌, ℕ, Bool, true, List, [], Option, None, Some, nat_lt, if◌then◌else◌}
 use Rattle.std.specs.Ordering.{nat_cmp}
 use Rattle.std.specs.FinMap.{FinMap, get, insert, code}
 use Rattle.std.specs.Coded.{Coded, coded_ℕ}
+use Rattle.object.specs.declared.command.Answer.{Answer}
 use Rattle.object.specs.declared.command.Command.{Command}
 use Rattle.object.specs.declared.command.Key.{Key}
 use Rattle.object.specs.Replays.{is_new}
@@ -31,6 +32,15 @@ is_later key latest = is_above (get latest key.session) key.number
 -- the number is its session's latest
 abbrev pub noted : Key → LatestNumbers → LatestNumbers
 noted key latest = insert latest key.session key.number
+
+-- A command is obeyed where it is later, and else nothing is done. The first argument is the object's `after`.
+abbrev pub filtered : {S Op : Type 0} → (S → Command Op → S) → Filtered S → Command Op → Filtered S
+filtered after f c =
+    if is_later c.key f.latest then record { object = after f.object c; latest = noted c.key f.latest } else f
+
+-- and is answered where it is obeyed; the first argument is the object's `answers`
+abbrev pub filtered_answers : {S Op Reply : Type 0} → (S → Command Op → List (Answer Reply)) → Filtered S → Command Op → List (Answer Reply)
+filtered_answers answers f c = if is_later c.key f.latest then answers f.object c else []
 
 -- of every command, the filter knows whether its number is new after the earlier ones
 abbrev pub Remembers : {Op : Type 0} → LatestNumbers → List (Command Op) → Type 0

@@ -1,8 +1,6 @@
-ghost use Rattle.std.specs.Prelude.{◌≡◌, ◌++◌, ◌∷◌, List, [], true, false, ◌↔◌, IfOk, OnOk, OnErr};
+ghost use Rattle.std.specs.Prelude.{◌≡◌, ◌++◌, true, ◌↔◌, IfOk, OnOk, OnErr};
 ghost use Rattle.std.specs.FinMap.{empty};
-ghost use Rattle.object.specs.declared.command.Command.{Command};
-ghost use Rattle.object.specs.Replays.{is_new};
-ghost use Rattle.object.specs.OnceOnly.{is_later, noted, Remembers};
+ghost use Rattle.object.specs.OnceOnly.{is_later, filtered, filtered_answers};
 
 use crate::command::{Answer, Command};
 use crate::latest::Latest;
@@ -56,11 +54,8 @@ impl<O: Object> Once<O> {
         out: &mut Vec<Answer<O::Reply>>,
     ) -> Result<Effect, AllocError>
         ensures done { IfOk result (λ effect. (effect ≡ Effect.Done) ↔ (is_later cmd.now.key self.old.latest ≡ true)) }
-        ensures object { IfOk result (λ effect. effect ≡ Effect.Done → self.new.object ≡ O.after self.old.object cmd.now) }
-        ensures latest { IfOk result (λ effect. effect ≡ Effect.Done → self.new.latest ≡ noted cmd.now.key self.old.latest) }
-        ensures answers { IfOk result (λ effect. effect ≡ Effect.Done →
-            out.new.items ≡ out.old.items ++ O.answers self.old.object cmd.now) }
-
+        ensures state { OnOk result (self.new ≡ filtered O.after self.old cmd.now) }
+        ensures out { OnOk result (out.new.items ≡ out.old.items ++ filtered_answers O.answers self.old cmd.now) }
         ensures stale { IfOk result (λ effect. effect ≡ Effect.Stale →
             (self.new ≡ self.old) × (out.new.items ≡ out.old.items)) }
         ensures err { OnErr result ((self.new ≡ self.old) × (out.new.items ≡ out.old.items)) }

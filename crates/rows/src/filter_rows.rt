@@ -3,11 +3,7 @@ use object::{Act, Answer, Command, Effect, Key, Once, Register, RegisterOp, Regi
 use std::alloc::Global;
 use std::test::Fail;
 
-fn command(
-    session: u32,
-    number: u64,
-    act: Act<RegisterOp>,
-) -> Result<Command<RegisterOp>, Fail> {
+fn command(session: u32, number: u64, act: Act<RegisterOp>) -> Result<Command<RegisterOp>, Fail> {
     Ok(Command::new(Key { session, number }, act).ok_or("no command")?)
 }
 
@@ -28,9 +24,21 @@ fn tell(
 fn an_older_number_is_stale(rt: HostRuntime) -> Result<(), Fail> {
     let mut register = Once::new(rt.alloc())?;
     let rows = [
-        (1, 2, RegisterOp::Write(5), Effect::Done, Some(RegisterReply::Done)),
+        (
+            1,
+            2,
+            RegisterOp::Write(5),
+            Effect::Done,
+            Some(RegisterReply::Done),
+        ),
         (1, 1, RegisterOp::Write(6), Effect::Stale, None),
-        (2, 1, RegisterOp::Read, Effect::Done, Some(RegisterReply::Value(5))),
+        (
+            2,
+            1,
+            RegisterOp::Read,
+            Effect::Done,
+            Some(RegisterReply::Value(5)),
+        ),
         (1, 2, RegisterOp::Write(5), Effect::Stale, None),
     ];
     for (session, number, op, effect, reply) in rows {
@@ -45,10 +53,20 @@ fn an_older_number_is_stale(rt: HostRuntime) -> Result<(), Fail> {
 fn a_register_takes_no_notice_of_ends_and_seconds(rt: HostRuntime) -> Result<(), Fail> {
     let mut register = Once::new(rt.alloc())?;
     let rows = [
-        (1, 1, Act::Do(RegisterOp::Write(7)), Some(RegisterReply::Done)),
+        (
+            1,
+            1,
+            Act::Do(RegisterOp::Write(7)),
+            Some(RegisterReply::Done),
+        ),
         (1, 2, Act::Close, None),
         (0, 9, Act::Tick, None),
-        (1, 3, Act::Do(RegisterOp::Read), Some(RegisterReply::Value(7))),
+        (
+            1,
+            3,
+            Act::Do(RegisterOp::Read),
+            Some(RegisterReply::Value(7)),
+        ),
     ];
     for (session, number, act, reply) in rows {
         let told = tell(rt.alloc(), &mut register, session, number, act)?;

@@ -14,3 +14,5 @@ mod filter_rows;
 mod node_rows;
 #[cfg(test)]
 mod program_rows;
+#[cfg(test)]
+mod replica_rows;

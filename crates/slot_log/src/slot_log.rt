@@ -203,7 +203,8 @@ impl<C: Value + Keyed> SlotLog<C> {
 
     /// The decision at `slot_out`. It takes no memory.
     pub fn next_decided(&self) -> Option<&C>
-        ensures { option_copied result ≡ deciding.next_decided self.now }
+        ensures decision { option_copied result ≡ deciding.next_decided self.now }
+        ensures numbered { IsSome result → self.now.slot_out ≤ 2 ^ 62 }
     {
         let slot = Slot::new(self.slot_out)?;
         self.decisions.get(&slot)

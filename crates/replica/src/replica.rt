@@ -1,0 +1,222 @@
+ghost use Rattle.std.specs.Prelude.{◌≡◌, ◌↔◌, ◌++◌, ◌<◌, true, None, Some, Ok, is_some, map, take, vec_len, IfOk, IfSome, OnOk, OnErr, IsOk, IsErrOf};
+ghost use Rattle.std.specs.Option.{option_map};
+ghost use Rattle.std.specs.FinMap.{empty, get};
+ghost use Rattle.ballot.specs.Members.{is_member};
+ghost use Rattle.ballot.specs.Letters.{all_to_all};
+ghost use Rattle.object.specs.Commands.{same_commands};
+ghost use Rattle.object.specs.OnceOnly.{is_later};
+ghost use Rattle.object.specs.declared.once.Effect.{Effect};
+ghost use Rattle.slot_log.specs.Books.{new_book};
+ghost use Rattle.slot_log.specs.Requests.{is_known, requested};
+ghost use Rattle.slot_log.specs.Proposals.{next_proposal, proposed_next};
+ghost use Rattle.slot_log.specs.Decisions as deciding;
+ghost use Rattle.replica.specs.Replicas.{asks_for, tells, nudges, proposes_again, asks_others, performed, performed_answers};
+
+use crate::performed::Performed;
+use ballot::{Body, Letter, Members, Slot, send_to_all};
+use object::{Answer, Command, Object, Once, Value};
+use slot_log::{LearnError, SlotLog};
+use std::alloc::{AllocError, Global};
+use std::marker::Model;
+
+/// A node's copy of the object, and what it knows of the order of commands.
+#[derive(Drop)]
+pub struct Replica<O: Object> {
+    slots: SlotLog<Command<O::Op>>,
+    object: Once<O>,
+    alloc: Global,
+}
+
+impl<O: Object> Model for Replica<O> {
+    ghost use Rattle.std.specs.Coded.{codes};
+    ghost use Rattle.object.specs.OnceOnly.{latest_code};
+    ghost use Rattle.slot_log.specs.Books.{slots_code};
+    ghost use Rattle.replica.specs.Replicas.{Replicating};
+
+    ghost Value = { Replicating O.Op O };
+
+    ghost coded = { Prim.hlevel (codes, slots_code, latest_code, O.code, O.Op.code) };
+
+    ghost view = { λ r. record { slots = r.slots; object = r.object } };
+}
+
+impl<O: Object> Replica<O> {
+    /// Nothing is asked for, proposed or decided, and the object is new.
+    pub fn new(alloc: Global) -> Result<Replica<O>, AllocError>
+        ensures slots { IfOk result (λ r. r.slots ≡ new_book) }
+        ensures object { IfOk result (λ r. r.object.object ≡ O.fresh) }
+        ensures latest { IfOk result (λ r. r.object.latest ≡ empty) }
+    {
+        Ok(Replica {
+            slots: SlotLog::new(alloc),
+            object: Once::new(alloc)?,
+            alloc,
+        })
+    }
+
+    /// A command is asked for. It goes last in the requests, unless it is known.
+    pub fn request(&mut self, command: Command<O::Op>) -> Result<(), AllocError>
+        ensures state { OnOk result (self.new ≡ record self.old { slots = requested (same_commands O.Op.eq) self.old.slots command }) }
+        ensures known { is_known (same_commands O.Op.eq) self.old.slots command ≡ true → IsOk result }
+        ensures err { OnErr result (self.new ≡ self.old) }
+    {
+        self.slots.request(command)
+    }
+
+    /// A command is decided in a slot.
+    pub fn learn(&mut self, slot: Slot, command: Command<O::Op>) -> Result<(), LearnError>
+        ensures state { OnOk result (self.new ≡ record self.old { slots = deciding.learnt self.old.slots slot command }) }
+        ensures clash { IsErrOf result LearnError.Clash ↔ deciding.IsClash self.old.slots slot command }
+        ensures again { get self.old.slots.decisions slot ≡ Some command → IsOk result }
+        ensures err { OnErr result (self.new ≡ self.old) }
+    {
+        self.slots.learn(slot, command)
+    }
+
+    /// The least slot with a proposal and without a known decision. It takes no memory.
+    pub fn undecided(&self) -> Option<Slot>
+        ensures { result ≡ deciding.undecided self.now.slots }
+    {
+        self.slots.undecided()
+    }
+
+    /// The decisions that answer an Ask: those known of the slot and the 63 that follow it, in rising slot.
+    pub fn ask(&self, slot: Slot) -> Result<Vec<Body<Command<O::Op>>>, AllocError>
+        ensures { IfOk result (λ bodies. bodies.items ≡ tells self.now.slots slot) }
+    {
+        let decided = self.slots.decided_from(slot)?;
+        decided
+            .into_iter()
+            .map(|(slot, command)| Body::Decision(slot, command))
+            .collect(self.alloc)
+    }
+
+    /// Proposes the first request in the least slot that is open to it, and asks all leaders for it. It answers false
+    /// where it does nothing.
+    pub fn propose(
+        &mut self,
+        members: Members,
+        node: u8,
+        out: &mut Vec<Letter<Command<O::Op>>>,
+    ) -> Result<bool, AllocError>
+        ensures does { IfOk result (λ does. does ≡ is_some (next_proposal self.old.slots)) }
+        ensures state { OnOk result (self.new ≡ record self.old { slots = proposed_next self.old.slots }) }
+        ensures out { OnOk result (out.new.items ≡ out.old.items ++ all_to_all members node (asks_for (next_proposal self.old.slots))) }
+        ensures err { OnErr result ((self.new ≡ self.old) × (out.new.items ≡ out.old.items)) }
+    {
+        let Some((slot, command)) = self.slots.next_proposal() else {
+            return Ok(false);
+        };
+        let body = Body::Propose(slot, command.copy()?);
+        let len = out.len();
+        send_to_all(members, node, &body, out)?;
+        match self.slots.propose_next() {
+            Ok(_) => Ok(true),
+            Err(failed) => {
+                out.truncate(len);
+                Err(failed)
+            }
+        }
+    }
+
+    /// Gives the command of `slot_out`, where it is known, to the object, and appends the answers. For want of memory
+    /// nothing is changed, so that replicas don't part.
+    pub fn perform(
+        &mut self,
+        out: &mut Vec<Answer<O::Reply>>,
+    ) -> Result<Option<Performed>, AllocError>
+        ensures slot { IfOk result (λ done. IfSome done (λ p. p.slot ≡ self.old.slots.slot_out)) }
+        ensures key { IfOk result (λ done. option_map (λ p. p.key) done ≡ option_map (λ c. c.key) (deciding.next_decided self.old.slots)) }
+        ensures effect { IfOk result (λ done. IfSome done (λ p. (p.effect ≡ Effect.Done) ↔ (is_later p.key self.old.object.latest ≡ true))) }
+        ensures state { OnOk result (self.new ≡ performed (same_commands O.Op.eq) O.after self.old) }
+        ensures out { OnOk result (out.new.items ≡ out.old.items ++ performed_answers O.answers self.old) }
+        ensures idle { deciding.next_decided self.old.slots ≡ None → result ≡ Ok None }
+        ensures err { OnErr result ((self.new ≡ self.old) × (out.new.items ≡ out.old.items)) }
+    {
+        let Some(command) = self.slots.next_decided() else {
+            return Ok(None);
+        };
+        let key = command.key();
+        let effect = self.object.apply(command, out)?;
+        let slot = Slot::new(self.slots.slot_out()).unwrap();
+        self.slots.advance();
+        Ok(Some(Performed { slot, key, effect }))
+    }
+
+    /// Asks all leaders again for what is proposed, and the other members for what is decided.
+    pub fn nudge(
+        &self,
+        members: Members,
+        node: u8,
+        out: &mut Vec<Letter<Command<O::Op>>>,
+    ) -> Result<(), AllocError>
+        ensures ok { OnOk result (out.new.items ≡ out.old.items ++ nudges members node self.now.slots) }
+        ensures err { OnErr result (out.new.items ≡ out.old.items) }
+    {
+        let len = out.len();
+        let said = self.append_nudges(members, node, out);
+        if said.is_err() {
+            out.truncate(len);
+        }
+        said
+    }
+
+    // The same, but for what was sent before memory ran out.
+    fn append_nudges(
+        &self,
+        members: Members,
+        node: u8,
+        out: &mut Vec<Letter<Command<O::Op>>>,
+    ) -> Result<(), AllocError>
+        ensures ok { OnOk result (out.new.items ≡ out.old.items ++ nudges members node self.now.slots) }
+        ensures front { take (vec_len out.old) out.new.items ≡ out.old.items }
+    {
+        self.append_proposals(members, node, out)?;
+        self.append_asks(members, node, out)
+    }
+
+    // Asks all leaders again for each proposal.
+    fn append_proposals(
+        &self,
+        members: Members,
+        node: u8,
+        out: &mut Vec<Letter<Command<O::Op>>>,
+    ) -> Result<(), AllocError>
+        ensures ok { OnOk result (out.new.items ≡ out.old.items ++ all_to_all members node (proposes_again self.now.slots)) }
+        ensures front { take (vec_len out.old) out.new.items ≡ out.old.items }
+    {
+        let proposals = self.slots.proposals();
+        for (slot, command) in proposals {
+            let body = Body::Propose(*slot, command.copy()?);
+            send_to_all(members, node, &body, out)?;
+        }
+        Ok(())
+    }
+
+    // Asks the others for the decisions from `slot_out` on.
+    fn append_asks(
+        &self,
+        members: Members,
+        node: u8,
+        out: &mut Vec<Letter<Command<O::Op>>>,
+    ) -> Result<(), AllocError>
+        ensures ok { OnOk result (out.new.items ≡ out.old.items ++ asks_others members node self.now.slots.slot_out) }
+        ensures front { take (vec_len out.old) out.new.items ≡ out.old.items }
+    {
+        let Some(slot) = Slot::new(self.slots.slot_out()) else {
+            return Ok(());
+        };
+        for before in 0..members.count() {
+            let to = before + 1;
+            if to != node {
+                let body = Body::Ask(slot);
+                out.push(Letter {
+                    from: node,
+                    to,
+                    body,
+                })?;
+            }
+        }
+        Ok(())
+    }
+}
