@@ -1,0 +1,143 @@
+ghost use Rattle.std.specs.Prelude.{◌≡◌, ◌++◌, ◌≤◌, ◌^◌, ◌↔◌, true, OnOk, OnErr, IfErr, take, vec_len};
+ghost use Rattle.ballot.specs.Members.{is_member};
+ghost use Rattle.ballot.specs.Ballots.{is_below};
+ghost use Rattle.ballot.specs.Letters.{all_to_all};
+ghost use Rattle.leader.specs.Leaders.{new_leader, preempted, woken, scout_says, says_again, IsLeader};
+
+mod adopting;
+mod promises;
+mod proposing;
+mod votes;
+
+use crate::commanding::send_p2a;
+use crate::error::LeaderError;
+use crate::slot_map::SlotMap;
+use ballot::{Ballot, Body, Letter, Members, send_to_all};
+use object::Value;
+use scout_commander::{Commander, Scout};
+use std::alloc::{AllocError, Global};
+use std::marker::Model;
+
+/// A leader with its scout and its commanders.
+#[derive(Drop)]
+pub struct Leader<C: Value> {
+    members: Members,
+    node: u8,
+    boot: u64,
+    ballot: Ballot,
+    active: bool,
+    proposals: SlotMap<C>,
+    scout: Option<Scout<C>>,
+    commanders: SlotMap<Commander<C>>,
+    alloc: Global,
+}
+
+impl<C: Value> Model for Leader<C> {
+    ghost use Rattle.leader.specs.Slots.{slots_code};
+    ghost use Rattle.std.specs.Coded.{codes};
+    ghost use Rattle.leader.specs.Leaders.{Leading, IsKept};
+
+    ghost Value = { Leading C };
+
+    ghost coded = { Prim.hlevel (codes, slots_code, C.code) };
+
+    ghost view = { λ l. record { members = l.members; ballot = l.ballot; active = l.active; proposals = l.proposals; scout = l.scout; commanders = l.commanders } };
+
+    ghost invariant = { λ l. IsKept l.node l.boot (record { members = l.members; ballot = l.ballot; active = l.active; proposals = l.proposals; scout = l.scout; commanders = l.commanders }) };
+}
+
+impl<C: Value> Leader<C> {
+    /// A leader of the first round, which has neither proposed nor asked for anything.
+    pub fn new(alloc: Global, members: Members, node: u8, boot: u64) -> Leader<C>
+        requires member { is_member members node ≡ true }
+        requires within { boot ≤ 2 ^ 62 }
+        ensures { result ≡ new_leader members node boot }
+    {
+        let ballot = Ballot::new(0, node, boot).unwrap();
+        Leader {
+            members,
+            node,
+            boot,
+            ballot,
+            active: false,
+            proposals: SlotMap::new(alloc),
+            scout: None,
+            commanders: SlotMap::new(alloc),
+            alloc,
+        }
+    }
+
+    /// Gives up, where the ballot is above the leader's, for the ballot of the next round. It takes no memory.
+    pub fn preempted(&mut self, ballot: Ballot) -> Result<(), LeaderError>
+        ensures ok { OnOk result (self.new ≡ preempted self.old ballot) }
+        ensures no_ballot { IfErr result (λ error. error ≡ LeaderError.NoBallotLeft) }
+        ensures refused { (result ≡ Err LeaderError.NoBallotLeft) ↔ ((is_below self.old.ballot ballot ≡ true) × (2 ^ 62 ≤ ballot.round)) }
+        ensures err { OnErr result (self.new ≡ self.old) }
+    {
+        if ballot <= self.ballot {
+            return Ok(());
+        }
+        let Some(next) = ballot.next_after(self.node, self.boot) else {
+            return Err(LeaderError::NoBallotLeft);
+        };
+        self.ballot = next;
+        self.active = false;
+        self.scout = None;
+        self.commanders = SlotMap::new(self.alloc);
+        Ok(())
+    }
+
+    /// Where the leader isn't active and has no scout, it sends one out.
+    pub fn wake(&mut self, out: &mut Vec<Letter<C>>) -> Result<(), AllocError>
+        ensures state { OnOk result (self.new ≡ (woken self.old).state) }
+        ensures out { OnOk result (out.new.items ≡ out.old.items ++ all_to_all self.old.members self.old.ballot.node (woken self.old).says) }
+        ensures err { OnErr result ((self.new ≡ self.old) × (out.new.items ≡ out.old.items)) }
+    {
+        if self.active || self.scout.is_some() {
+            return Ok(());
+        }
+        send_to_all(self.members, self.node, &Body::P1a(self.ballot), out)?;
+        self.scout = Some(Scout::new(self.alloc, self.members, self.ballot));
+        Ok(())
+    }
+
+    /// Says again what the scout and the commanders wait for.
+    pub fn nudge(&self, out: &mut Vec<Letter<C>>) -> Result<(), AllocError>
+        ensures ok { OnOk result (out.new.items ≡ out.old.items ++ all_to_all self.now.members self.now.ballot.node (says_again self.now)) }
+        ensures err { OnErr result (out.new.items ≡ out.old.items) }
+        ensures leader { IsLeader self.now }
+    {
+        let len = out.len();
+        let said = self.append_again(out);
+        if said.is_err() {
+            out.truncate(len);
+        }
+        said
+    }
+
+    // The same, but for what was sent before memory ran out.
+    fn append_again(&self, out: &mut Vec<Letter<C>>) -> Result<(), AllocError>
+        ensures ok { OnOk result (out.new.items ≡ out.old.items ++ all_to_all self.now.members self.now.ballot.node (says_again self.now)) }
+        ensures front { take (vec_len out.old) out.new.items ≡ out.old.items }
+        ensures leader { IsLeader self.now }
+    {
+        self.repeat_scout(out)?;
+        let commanders = self.commanders.entries();
+        for (_, commander) in commanders {
+            send_p2a(self.members, self.node, commander.pvalue(), out)?;
+        }
+        Ok(())
+    }
+
+    // Says again what the scout waits for.
+    fn repeat_scout(&self, out: &mut Vec<Letter<C>>) -> Result<(), AllocError>
+        ensures ok { OnOk result (out.new.items ≡ out.old.items ++ all_to_all self.now.members self.now.ballot.node (scout_says self.now.scout)) }
+        ensures err { OnErr result (out.new.items ≡ out.old.items) }
+        ensures leader { IsLeader self.now }
+    {
+        if self.scout.is_none() {
+            return Ok(());
+        }
+        send_to_all(self.members, self.node, &Body::P1a(self.ballot), out)
+    }
+}

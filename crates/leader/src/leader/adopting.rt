@@ -1,0 +1,100 @@
+ghost use Rattle.std.specs.Prelude.{◌≡◌, ◌++◌, IfOk, OnOk, OnErr, IsSome, take, vec_len};
+ghost use Rattle.ballot.specs.Letters.{all_to_all};
+ghost use Rattle.leader.specs.Adoptions.{TakesGreatest, adopted, commanders_for, asks_for};
+
+use super::Leader;
+use crate::commanding::start_commander;
+use crate::slot_map::SlotMap;
+use ballot::{Ballot, Letter, Pvalue};
+use object::Value;
+use scout_commander::Commander;
+use std::alloc::{AllocError, Global};
+
+impl<C: Value> Leader<C> {
+    /// Leads from now on: what was gathered goes before what the leader would propose, and all members are asked to
+    /// accept each proposal.
+    pub fn adopted(
+        &mut self,
+        gathered: Vec<Pvalue<C>>,
+        out: &mut Vec<Letter<C>>,
+    ) -> Result<(), AllocError>
+        requires { IsSome self.old.scout }
+        ensures taken { OnOk result (TakesGreatest self.old.proposals gathered.items self.new.proposals) }
+        ensures state { OnOk result (self.new ≡ (adopted self.old self.new.proposals).state) }
+        ensures out { OnOk result (out.new.items ≡ out.old.items ++ all_to_all self.old.members self.old.ballot.node (adopted self.old self.new.proposals).says) }
+        ensures err { OnErr result ((self.new ≡ self.old) × (out.new.items ≡ out.old.items)) }
+    {
+        let proposals = with_greatest(self.alloc, &self.proposals, gathered)?;
+        let commanders = self.start_commanders(&proposals, out)?;
+        self.active = true;
+        self.proposals = proposals;
+        self.scout = None;
+        self.commanders = commanders;
+        Ok(())
+    }
+
+    // A commander for each of the proposals. For want of memory nothing is sent.
+    fn start_commanders(
+        &self,
+        proposals: &SlotMap<C>,
+        out: &mut Vec<Letter<C>>,
+    ) -> Result<SlotMap<Commander<C>>, AllocError>
+        ensures commanders { IfOk result (λ commanders. commanders ≡ commanders_for self.now proposals.now) }
+        ensures out { OnOk result (out.new.items ≡ out.old.items ++ all_to_all self.now.members self.now.ballot.node (asks_for self.now proposals.now)) }
+        ensures err { OnErr result (out.new.items ≡ out.old.items) }
+    {
+        let len = out.len();
+        let commanders = self.append_asks(proposals, out);
+        if commanders.is_err() {
+            out.truncate(len);
+        }
+        commanders
+    }
+
+    // The same, but for what was sent before memory ran out.
+    fn append_asks(
+        &self,
+        proposals: &SlotMap<C>,
+        out: &mut Vec<Letter<C>>,
+    ) -> Result<SlotMap<Commander<C>>, AllocError>
+        ensures commanders { IfOk result (λ commanders. commanders ≡ commanders_for self.now proposals.now) }
+        ensures out { OnOk result (out.new.items ≡ out.old.items ++ all_to_all self.now.members self.now.ballot.node (asks_for self.now proposals.now)) }
+        ensures front { take (vec_len out.old) out.new.items ≡ out.old.items }
+    {
+        let mut commanders = SlotMap::new(self.alloc);
+        let entries = proposals.entries();
+        for (slot, command) in entries {
+            let pvalue = Pvalue {
+                ballot: self.ballot,
+                slot: *slot,
+                value: command.copy()?,
+            };
+            start_commander(self.members, self.node, pvalue, &mut commanders, out)?;
+        }
+        Ok(commanders)
+    }
+}
+
+// The proposals, but at each slot with a gathered pvalue the value of the first of the greatest ballot.
+fn with_greatest<C: Value>(
+    alloc: Global,
+    proposals: &SlotMap<C>,
+    gathered: Vec<Pvalue<C>>,
+) -> Result<SlotMap<C>, AllocError>
+    ensures { IfOk result (λ taken. TakesGreatest proposals.now gathered.items taken) }
+{
+    let mut taken = proposals.copy()?;
+    let mut ballots: SlotMap<Ballot> = SlotMap::new(alloc);
+    for pvalue in gathered {
+        let Pvalue {
+            ballot,
+            slot,
+            value,
+        } = pvalue;
+        if ballots.get(slot).copied() < Some(ballot) {
+            ballots.insert(slot, ballot)?;
+            taken.insert(slot, value)?;
+        }
+    }
+    Ok(taken)
+}

@@ -1,0 +1,58 @@
+ghost use Rattle.std.specs.Prelude.{◌≡◌, ◌++◌, OnOk, OnErr, true, false};
+ghost use Rattle.std.specs.FinMap as slots;
+ghost use Rattle.ballot.specs.Letters.{all_to_all};
+ghost use Rattle.leader.specs.Leaders.{proposed, commands};
+
+use super::Leader;
+use crate::commanding::start_commander;
+use ballot::{Letter, Pvalue, Slot};
+use object::Value;
+use std::alloc::AllocError;
+
+impl<C: Value> Leader<C> {
+    /// Hears a Propose. The command is kept where the slot has no proposal yet; an active leader then asks
+    /// to accept it.
+    pub fn propose(
+        &mut self,
+        slot: Slot,
+        command: C,
+        out: &mut Vec<Letter<C>>,
+    ) -> Result<(), AllocError>
+        ensures state { OnOk result (self.new ≡ (proposed self.old slot command).state) }
+        ensures out { OnOk result (out.new.items ≡ out.old.items ++ all_to_all self.old.members self.old.ballot.node (proposed self.old slot command).says) }
+        ensures err { OnErr result ((self.new ≡ self.old) × (out.new.items ≡ out.old.items)) }
+    {
+        if self.proposals.contains(slot) {
+            return Ok(());
+        }
+        if self.active {
+            return self.command(slot, command, out);
+        }
+        self.proposals.insert(slot, command)
+    }
+
+    // Keeps the proposal, with a commander for it.
+    fn command(
+        &mut self,
+        slot: Slot,
+        command: C,
+        out: &mut Vec<Letter<C>>,
+    ) -> Result<(), AllocError>
+        requires { slots.contains_key self.old.proposals slot ≡ false }
+        ensures state { OnOk result (self.new ≡ (commands self.old slot command).state) }
+        ensures out { OnOk result (out.new.items ≡ out.old.items ++ all_to_all self.old.members self.old.ballot.node (commands self.old slot command).says) }
+        ensures err { OnErr result ((self.new ≡ self.old) × (out.new.items ≡ out.old.items)) }
+    {
+        let pvalue = Pvalue {
+            ballot: self.ballot,
+            slot,
+            value: command.copy()?,
+        };
+        self.proposals.insert(slot, command)?;
+        let started = start_commander(self.members, self.node, pvalue, &mut self.commanders, out);
+        if started.is_err() {
+            self.proposals.remove(slot);
+        }
+        started
+    }
+}

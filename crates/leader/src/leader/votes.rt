@@ -1,0 +1,75 @@
+ghost use Rattle.std.specs.Prelude.{◌≡◌, ◌++◌, ◌↔◌, OnOk, OnErr, IsSome, Some, true};
+ghost use Rattle.std.specs.FinMap as slots;
+ghost use Rattle.ballot.specs.Ballots.{Numbers};
+ghost use Rattle.ballot.specs.Members.{is_member};
+ghost use Rattle.ballot.specs.Letters.{all_to_all};
+ghost use Rattle.leader.specs.Promises.{LeavesNoBallot};
+ghost use Rattle.leader.specs.Votes.{on_p2b as voting};
+
+use super::Leader;
+use crate::commanding::send_decision;
+use crate::error::LeaderError;
+use ballot::{Ballot, Letter, Slot};
+use object::Value;
+use scout_commander::Voted;
+use std::alloc::AllocError;
+
+impl<C: Value> Leader<C> {
+    /// Hears a P2b: who sent it, the ballot that it promised, the slot, and the ballot of the P2a that it answers.
+    pub fn on_p2b(
+        &mut self,
+        from: u8,
+        ballot: Option<Ballot>,
+        slot: Slot,
+        asked: Ballot,
+        out: &mut Vec<Letter<C>>,
+    ) -> Result<(), LeaderError>
+        ensures state { OnOk result (self.new ≡ (voting self.old from ballot slot asked).state) }
+        ensures out { OnOk result (out.new.items ≡ out.old.items ++ all_to_all self.old.members self.old.ballot.node (voting self.old from ballot slot asked).says) }
+        ensures no_ballot { (result ≡ Err LeaderError.NoBallotLeft) ↔ (IsSome (slots.get self.old.commanders slot) × ((b : Numbers) × (ballot ≡ Some b) × LeavesNoBallot self.old from b)) }
+        ensures err { OnErr result ((self.new ≡ self.old) × (out.new.items ≡ out.old.items)) }
+    {
+        let Some(ballot) = ballot else {
+            return Ok(());
+        };
+        if !self.members.has(from) {
+            return Ok(());
+        }
+        if !self.commanders.contains(slot) {
+            return Ok(());
+        }
+        if ballot != self.ballot {
+            return self.preempted(ballot);
+        }
+        if asked == self.ballot {
+            self.count_vote(from, slot, out)?;
+        }
+        Ok(())
+    }
+
+    // A member accepted the slot's pvalue. The letters are written before it is known whether they are sent, since
+    // a commander cannot forget whom it heard.
+    fn count_vote(
+        &mut self,
+        from: u8,
+        slot: Slot,
+        out: &mut Vec<Letter<C>>,
+    ) -> Result<(), AllocError>
+        ensures state { OnOk result (self.new ≡ (voting self.old from (Some self.old.ballot) slot self.old.ballot).state) }
+        ensures out { OnOk result (out.new.items ≡ out.old.items ++ all_to_all self.old.members self.old.ballot.node (voting self.old from (Some self.old.ballot) slot self.old.ballot).says) }
+        ensures err { OnErr result ((self.new ≡ self.old) × (out.new.items ≡ out.old.items)) }
+    {
+        let Some(commander) = self.commanders.get(slot) else {
+            return Ok(());
+        };
+        let len = out.len();
+        let command = &commander.pvalue().value;
+        send_decision(self.members, self.node, slot, command, out)?;
+        if self.commanders.on_p2b(slot, from, Some(self.ballot)) != Some(Voted::Decided) {
+            out.truncate(len);
+            return Ok(());
+        }
+        self.commanders.remove(slot);
+        Ok(())
+    }
+}
