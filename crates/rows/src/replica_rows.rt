@@ -43,11 +43,13 @@ fn a_command_decided_twice_counts_once(rt: HostRuntime) -> Result<(), Fail> {
     let decided = [
         (
             1,
+            1,
             RegisterOp::Write(5),
             Effect::Done,
             Some(RegisterReply::Done),
         ),
         (
+            2,
             2,
             RegisterOp::Write(6),
             Effect::Done,
@@ -55,29 +57,26 @@ fn a_command_decided_twice_counts_once(rt: HostRuntime) -> Result<(), Fail> {
         ),
         (
             3,
+            3,
             RegisterOp::Read,
             Effect::Done,
             Some(RegisterReply::Value(6)),
         ),
-        (2, RegisterOp::Write(6), Effect::Stale, None),
+        (4, 2, RegisterOp::Write(6), Effect::Stale, None),
     ];
-    let mut next = 1;
-    for (session, op, _, _) in decided {
+    for (number, session, op, _, _) in decided {
         replica
-            .learn(slot(next)?, command(session, op)?)
+            .learn(slot(number)?, command(session, op)?)
             .ok()
             .ok_or("not learnt")?;
-        next += 1;
     }
-    let mut next = 1;
-    for (session, _, effect, reply) in decided {
+    for (number, session, _, effect, reply) in decided {
         let mut answers = Vec::new(rt.alloc());
         let done = replica.perform(&mut answers)?.ok_or("nothing performed")?;
-        assert_eq!(rt; done.slot.number(), next);
+        assert_eq!(rt; done.slot.number(), number);
         assert_eq!(rt; done.key.session, session);
         assert_eq!(rt; done.effect, effect);
         assert_eq!(rt; answers.pop().map(|answer| answer.reply), reply);
-        next += 1;
     }
     let mut answers = Vec::new(rt.alloc());
     assert!(rt; replica.perform(&mut answers)?.is_none());
