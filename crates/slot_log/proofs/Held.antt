@@ -1,12 +1,19 @@
 -- Which commands stand in the requests, proposals and decisions.
 use Rattle.std.proofs.Common.{◌≡◌, Bool, true, false, cond, ◌||◌, List, [], ◌∷◌, None, Some, refl, sym, ap, ◌∙◌, Less, Equal, Greater}
 use Rattle.std.proofs.lemmas.Bool.{or_left, or_right}
+use Rattle.std.proofs.lemmas.Option.{same_Some}
 use Rattle.std.specs.List.{list_any}
 use Rattle.std.specs.Option.{option_map_or}
 use Rattle.std.specs.Ordering.{match_ordering, is_eq}
 use Rattle.std.specs.declared.cmp.Ordering.{Ordering}
 use Rattle.std.specs.Map.{lookup, values_of, remove_entry}
 use Rattle.std.specs.BTreeMap.{is_at, insert_entry}
+
+swapped : (a b c : Bool) → (a || (b || c)) ≡ (b || (a || c))
+swapped true true c = refl
+swapped true false c = refl
+swapped false true c = refl
+swapped false false c = refl
 
 module _ {K X : Type 0} (p : X → Bool) where
   -- a value at a new key
@@ -18,14 +25,7 @@ module _ {K X : Type 0} (p : X → Bool) where
         | Equal ↦ λ h. cc
         | Greater ↦ λ h. ap (λ b. p e.1 || b) (any_insert cmp k v es h) ∙ swapped (p e.1) (p v) (list_any p (values_of es))
       ] none
-    where
-      swapped : (a b c : Bool) → (a || (b || c)) ≡ (b || (a || c))
-      swapped true true c = refl
-      swapped true false c = refl
-      swapped false true c = refl
-      swapped false false c = refl
 
-  -- the value at a key that is taken out
   any_removed : (test : K → Bool) (es : List (K × X)) → list_any p (values_of es) ≡ (option_map_or p (lookup test es) false || list_any p (values_of (remove_entry test es)))
   any_removed test [] = refl
   any_removed test (e ∷ es) =
@@ -33,13 +33,8 @@ module _ {K X : Type 0} (p : X → Bool) where
         | true ↦ refl
         | false ↦ ap (λ b. p e.1 || b) (any_removed test es) ∙ swapped (p e.1) (option_map_or p (lookup test es) false) (list_any p (values_of (remove_entry test es)))
       ]
-    where
-      swapped : (a b c : Bool) → (a || (b || c)) ≡ (b || (a || c))
-      swapped true true c = refl
-      swapped true false c = refl
-      swapped false true c = refl
-      swapped false false c = refl
 
+  -- the value at a key that is taken out
   pub any_taken : (test : K → Bool) (es fs : List (K × X)) (x : X) → lookup test es ≡ Some x → fs ≡ remove_entry test es → list_any p (values_of es) ≡ (p x || list_any p (values_of fs))
   any_taken test es fs x there left =
       any_removed test es
@@ -51,24 +46,11 @@ module _ {K X : Type 0} (p : X → Bool) where
   any_found test v [] there h = cc
   any_found test v (e ∷ es) there h =
       elim (test e.0) as (λ b. cond b (Some e.1) (lookup test es) ≡ Some v → (p e.1 || list_any p (values_of es)) ≡ true) [
-        | true ↦ λ t. or_left (p e.1) (list_any p (values_of es)) (ap p (unwrapped e.1 v t) ∙ h)
+        | true ↦ λ t. or_left (p e.1) (list_any p (values_of es)) (ap p (same_Some e.1 v t) ∙ h)
         | false ↦ λ t. or_right (p e.1) (list_any p (values_of es)) (any_found test v es t h)
       ] there
-    where
-      unwrapped : (x y : X) → Some x ≡ Some y → x ≡ y
-      unwrapped x y e = cc
 
 -- The tests below are: s of the command that moves, and r, p, d of the other requests, proposals and decisions.
-pub goes_to_requests : (s r p d : Bool) → ((r || (p || d)) || s) ≡ ((r || (s || false)) || (p || d))
-goes_to_requests true true p d = refl
-goes_to_requests false true p d = refl
-goes_to_requests true false true d = refl
-goes_to_requests false false true d = refl
-goes_to_requests true false false true = refl
-goes_to_requests true false false false = refl
-goes_to_requests false false false true = refl
-goes_to_requests false false false false = refl
-
 pub goes_to_proposals : (s r p d : Bool) → ((s || r) || (p || d)) ≡ (r || ((s || p) || d))
 goes_to_proposals true true p d = refl
 goes_to_proposals true false p d = refl
