@@ -5,6 +5,8 @@ mod commanding;
 mod error;
 mod leader;
 mod slot_map;
+#[cfg(test)]
+mod tests;
 
 pub use error::LeaderError;
 pub use leader::Leader;
