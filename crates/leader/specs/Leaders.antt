@@ -5,9 +5,11 @@ use Rattle.std.specs.FinMap.{empty, get, contains_key, insert, entries}
 use Rattle.ballot.specs.Ballots.{Numbers, is_below, next_after}
 use Rattle.ballot.specs.Members.{is_member}
 use Rattle.ballot.specs.declared.pvalue.Pvalue.{Pvalue}
+use Rattle.ballot.specs.Letters.{all_to_all}
+use Rattle.ballot.specs.declared.letter.Letter.{Letter}
 use Rattle.ballot.specs.declared.letter.Body.{Body}
 use Rattle.ballot.specs.declared.letter.Body.TheVariants.{P1a, P2a}
-use Rattle.scout_commander.specs.Scouts.{Scouting, new_scout}
+use Rattle.scout_commander.specs.Scouts.{Scouting, IsPreempting, new_scout}
 use Rattle.scout_commander.specs.Commanders.{Commanding, new_commander}
 use Rattle.leader.specs.Slots.{Slots}
 
@@ -20,6 +22,7 @@ pub record Leading (C : Type 0) : Type 0 where
   pub scout : Option (Scouting C)
   pub commanders : Slots (Commanding C)
 
+-- a leader of the first round, with nothing proposed or asked for
 abbrev pub new_leader : {C : Type 0} → List ℕ → ℕ → ℕ → Leading C
 new_leader members node boot = record {
   members = members;
@@ -59,9 +62,11 @@ pub record Done (S C : Type 0) : Type 0 where
   pub state : S
   pub says : List (Body C)
 
+-- nothing is said
 abbrev pub silently : {S C : Type 0} → S → Done S C
 silently s = record { state = s; says = [] }
 
+-- the command in the slot, under the ballot
 abbrev pub pvalue : {C : Type 0} → Numbers → ℕ → C → Pvalue C
 pvalue b s c = record { ballot = b; slot = s; value = c }
 
@@ -81,8 +86,8 @@ proposed l s c =
     then silently l
     else (if l.active then commands l s c else silently (record l { proposals = insert l.proposals s c }))
 
--- Preempted by b, where b is above the leader's ballot. In the paper a new scout starts at once, and the
--- commanders go on until each is preempted; here the new scout starts at the next Wake, and the commanders end.
+-- Preempted by b, where b is above the leader's ballot. In Paxos Made Moderately Complex a new scout starts at once,
+-- and the commanders go on until each is preempted; here the new scout starts at the next Wake, and the commanders end.
 abbrev pub preempted : {C : Type 0} → Leading C → Numbers → Leading C
 preempted l b =
     if is_below l.ballot b
@@ -96,6 +101,7 @@ woken l =
     then record { state = record l { scout = Some (new_scout l.members l.ballot) }; says = P1a l.ballot ∷ [] }
     else silently l
 
+-- what a scout waits for, if there is one
 abbrev pub scout_says : {C : Type 0} → Option (Scouting C) → List (Body C)
 scout_says None = []
 scout_says (Some s) = P1a s.ballot ∷ []
@@ -103,3 +109,12 @@ scout_says (Some s) = P1a s.ballot ∷ []
 -- Nudge: what the scout and the commanders wait for, said again
 abbrev pub says_again : {C : Type 0} → Leading C → List (Body C)
 says_again l = scout_says l.scout ++ map (λ e. P2a e.1.pvalue) (entries l.commanders)
+
+-- what the leader says goes to all members, in letters after those that are there
+abbrev pub Sends : {C : Type 0} → Leading C → List (Body C) → List (Letter C) → List (Letter C) → Type 0
+Sends l says before after = after ≡ before ++ all_to_all l.members l.ballot.node says
+
+-- the leader is preempted by this ballot of m, and no round comes after it
+pub record LeavesNoBallot {C : Type 0} (l : Leading C) (m : ℕ) (ballot : Numbers) : Type 0 where
+  pub preempting : IsPreempting l.members l.ballot m ballot
+  pub last : 2 ^ 62 ≤ ballot.round

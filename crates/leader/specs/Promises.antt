@@ -1,8 +1,8 @@
 -- What a leader makes of a P1b (Paxos Made Moderately Complex, 2.3 and Figures 6 and 7).
-use Rattle.std.specs.Prelude.{◌≡◌, ◌≤◌, ◌^◌, ℕ, List, Option, None, Some, ⊤}
+use Rattle.std.specs.Prelude.{◌≡◌, ℕ, List, Option, None, Some, ⊤}
 use Rattle.ballot.specs.Ballots.{Numbers}
 use Rattle.ballot.specs.declared.pvalue.Pvalue.{Pvalue}
-use Rattle.scout_commander.specs.Scouts.{Scouting, Hearing, IsPreempting}
+use Rattle.scout_commander.specs.Scouts.{Scouting}
 use Rattle.scout_commander.specs.Scouts as scouts
 use Rattle.scout_commander.specs.declared.scout.Heard.{Heard}
 use Rattle.scout_commander.specs.declared.scout.Heard.TheVariants.{Wait, Adopted, Preempted}
@@ -16,6 +16,7 @@ at_heard l proposals s Wait = silently (record l { scout = Some s })
 at_heard l proposals s Adopted = adopted l proposals
 at_heard l proposals s (Preempted b) = silently (preempted l b)
 
+-- by the scout that stands, if any
 abbrev pub at_scout : {C : Type 0} → Leading C → ℕ → Numbers → List (Pvalue C) → Slots C → Option (Scouting C) → Done (Leading C) C
 at_scout l m ballot report proposals None = silently l
 at_scout l m ballot report proposals (Some s) =
@@ -25,6 +26,7 @@ at_scout l m ballot report proposals (Some s) =
 abbrev pub on_p1b : {C : Type 0} → Leading C → ℕ → Numbers → List (Pvalue C) → Slots C → Done (Leading C) C
 on_p1b l m ballot report proposals = at_scout l m ballot report proposals l.scout
 
+-- what a scout says allows these proposals; only an adoption has a say in them
 abbrev pub AllowsAt : {C : Type 0} → Slots C → Scouting C → Heard → Slots C → Type 0
 AllowsAt old s Wait proposals = ⊤
 AllowsAt old s Adopted proposals = TakesGreatest old s.gathered proposals
@@ -35,8 +37,3 @@ abbrev pub MayTake : {C : Type 0} → Leading C → ℕ → Numbers → List (Pv
 MayTake {C} l m ballot report proposals =
     (s : Scouting C) → l.scout ≡ Some s
     → let h = scouts.on_p1b s m ballot report in AllowsAt l.proposals h.scout h.says proposals
-
--- the leader is preempted by this ballot of m, and no round is left after it
-pub record LeavesNoBallot {C : Type 0} (l : Leading C) (m : ℕ) (ballot : Numbers) : Type 0 where
-  pub preempting : IsPreempting l.members l.ballot m ballot
-  pub last : 2 ^ 62 ≤ ballot.round

@@ -1,12 +1,14 @@
--- Maps by slot.
+-- Values by slot.
 use Rattle.std.specs.Prelude.{ℕ, map}
 use Rattle.std.specs.Ordering.{nat_cmp}
 use Rattle.std.specs.Coded.{Coded, coded_ℕ}
 use Rattle.std.specs.FinMap.{FinMap, entries, from_entries, code}
 
+-- a map by slot
 abbrev pub Slots : Type 0 → Type 0
 Slots X = FinMap nat_cmp X
 
+-- how such a map is stored, by how its values are
 abbrev pub slots_code : {X : Type 0} → Coded X → Coded (Slots X)
 slots_code x = code coded_ℕ x
 

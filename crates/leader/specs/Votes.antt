@@ -15,12 +15,13 @@ at_voted l s c Wait = silently (record l { commanders = insert l.commanders s c 
 at_voted l s c Decided = record { state = record l { commanders = remove l.commanders s }; says = Decision s c.pvalue.value ∷ [] }
 at_voted l s c (Preempted b) = silently (preempted l b)
 
+-- by the commander that stands there, if any
 abbrev pub at_commander : {C : Type 0} → Leading C → ℕ → Option Numbers → ℕ → Option (Commanding C) → Done (Leading C) C
 at_commander l m ballot s None = silently l
 at_commander l m ballot s (Some c) = let v = commanders.on_p2b c m ballot in at_voted l s v.commander v.says
 
--- The vote is of the leader's ballot, but answers a P2a of another one. In the paper each commander has an address
--- of its own, at which such a vote never comes; here a P2b tells which ballot it answers.
+-- The vote is of the leader's ballot, but answers a P2a of another one. In Paxos Made Moderately Complex each
+-- commander has an address of its own, at which such a vote never comes; here a P2b tells which ballot it answers.
 abbrev pub answers_another : {C : Type 0} → Leading C → Option Numbers → Numbers → Bool
 answers_another l ballot asked = is_promise ballot l.ballot && not (is_same asked l.ballot)
 

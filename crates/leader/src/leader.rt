@@ -1,8 +1,7 @@
-ghost use Rattle.std.specs.Prelude.{◌≡◌, ◌++◌, ◌≤◌, ◌^◌, ◌↔◌, true, OnOk, OnErr, IfErr, take, vec_len};
+ghost use Rattle.std.specs.Prelude.{◌≡◌, ◌≤◌, ◌^◌, ◌↔◌, true, OnOk, OnErr, IfErr, take, vec_len};
 ghost use Rattle.ballot.specs.Members.{is_member};
 ghost use Rattle.ballot.specs.Ballots.{is_below};
-ghost use Rattle.ballot.specs.Letters.{all_to_all};
-ghost use Rattle.leader.specs.Leaders.{new_leader, preempted, woken, scout_says, says_again, IsLeader};
+ghost use Rattle.leader.specs.Leaders.{new_leader, preempted, woken, scout_says, says_again, IsLeader, Sends};
 
 mod adopting;
 mod promises;
@@ -70,8 +69,9 @@ impl<C: Value> Leader<C> {
     /// Gives up, where the ballot is above the leader's, for the ballot of the next round. It takes no memory.
     pub fn preempted(&mut self, ballot: Ballot) -> Result<(), LeaderError>
         ensures ok { OnOk result (self.new ≡ preempted self.old ballot) }
-        ensures no_ballot { IfErr result (λ error. error ≡ LeaderError.NoBallotLeft) }
-        ensures refused { (result ≡ Err LeaderError.NoBallotLeft) ↔ ((is_below self.old.ballot ballot ≡ true) × (2 ^ 62 ≤ ballot.round)) }
+        ensures error { IfErr result (λ error. error ≡ LeaderError.NoBallotLeft) }
+        // A round is at most 2^62, so no other comes after that.
+        ensures no_ballot { (result ≡ Err LeaderError.NoBallotLeft) ↔ ((is_below self.old.ballot ballot ≡ true) × (2 ^ 62 ≤ ballot.round)) }
         ensures err { OnErr result (self.new ≡ self.old) }
     {
         if ballot <= self.ballot {
@@ -90,7 +90,7 @@ impl<C: Value> Leader<C> {
     /// Where the leader isn't active and has no scout, it sends one out.
     pub fn wake(&mut self, out: &mut Vec<Letter<C>>) -> Result<(), AllocError>
         ensures state { OnOk result (self.new ≡ (woken self.old).state) }
-        ensures out { OnOk result (out.new.items ≡ out.old.items ++ all_to_all self.old.members self.old.ballot.node (woken self.old).says) }
+        ensures out { OnOk result (Sends self.old (woken self.old).says out.old.items out.new.items) }
         ensures err { OnErr result ((self.new ≡ self.old) × (out.new.items ≡ out.old.items)) }
     {
         if self.active || self.scout.is_some() {
@@ -103,7 +103,7 @@ impl<C: Value> Leader<C> {
 
     /// Says again what the scout and the commanders wait for.
     pub fn nudge(&self, out: &mut Vec<Letter<C>>) -> Result<(), AllocError>
-        ensures ok { OnOk result (out.new.items ≡ out.old.items ++ all_to_all self.now.members self.now.ballot.node (says_again self.now)) }
+        ensures ok { OnOk result (Sends self.now (says_again self.now) out.old.items out.new.items) }
         ensures err { OnErr result (out.new.items ≡ out.old.items) }
         ensures leader { IsLeader self.now }
     {
@@ -117,7 +117,7 @@ impl<C: Value> Leader<C> {
 
     // The same, but for what was sent before memory ran out.
     fn append_again(&self, out: &mut Vec<Letter<C>>) -> Result<(), AllocError>
-        ensures ok { OnOk result (out.new.items ≡ out.old.items ++ all_to_all self.now.members self.now.ballot.node (says_again self.now)) }
+        ensures ok { OnOk result (Sends self.now (says_again self.now) out.old.items out.new.items) }
         ensures front { take (vec_len out.old) out.new.items ≡ out.old.items }
         ensures leader { IsLeader self.now }
     {
@@ -131,7 +131,7 @@ impl<C: Value> Leader<C> {
 
     // Says again what the scout waits for.
     fn repeat_scout(&self, out: &mut Vec<Letter<C>>) -> Result<(), AllocError>
-        ensures ok { OnOk result (out.new.items ≡ out.old.items ++ all_to_all self.now.members self.now.ballot.node (scout_says self.now.scout)) }
+        ensures ok { OnOk result (Sends self.now (scout_says self.now.scout) out.old.items out.new.items) }
         ensures err { OnErr result (out.new.items ≡ out.old.items) }
         ensures leader { IsLeader self.now }
     {

@@ -1,5 +1,5 @@
-ghost use Rattle.std.specs.Prelude.{◌≡◌, ◌++◌, IfOk, OnOk, OnErr, IsSome, take, vec_len};
-ghost use Rattle.ballot.specs.Letters.{all_to_all};
+ghost use Rattle.std.specs.Prelude.{◌≡◌, IfOk, OnOk, OnErr, IsSome, take, vec_len};
+ghost use Rattle.leader.specs.Leaders.{Sends};
 ghost use Rattle.leader.specs.Adoptions.{TakesGreatest, adopted, commanders_for, asks_for};
 
 use super::Leader;
@@ -21,7 +21,7 @@ impl<C: Value> Leader<C> {
         requires { IsSome self.old.scout }
         ensures taken { OnOk result (TakesGreatest self.old.proposals gathered.items self.new.proposals) }
         ensures state { OnOk result (self.new ≡ (adopted self.old self.new.proposals).state) }
-        ensures out { OnOk result (out.new.items ≡ out.old.items ++ all_to_all self.old.members self.old.ballot.node (adopted self.old self.new.proposals).says) }
+        ensures out { OnOk result (Sends self.old (adopted self.old self.new.proposals).says out.old.items out.new.items) }
         ensures err { OnErr result ((self.new ≡ self.old) × (out.new.items ≡ out.old.items)) }
     {
         let proposals = with_greatest(self.alloc, &self.proposals, gathered)?;
@@ -40,7 +40,7 @@ impl<C: Value> Leader<C> {
         out: &mut Vec<Letter<C>>,
     ) -> Result<SlotMap<Commander<C>>, AllocError>
         ensures commanders { IfOk result (λ commanders. commanders ≡ commanders_for self.now proposals.now) }
-        ensures out { OnOk result (out.new.items ≡ out.old.items ++ all_to_all self.now.members self.now.ballot.node (asks_for self.now proposals.now)) }
+        ensures out { OnOk result (Sends self.now (asks_for self.now proposals.now) out.old.items out.new.items) }
         ensures err { OnErr result (out.new.items ≡ out.old.items) }
     {
         let len = out.len();
@@ -58,7 +58,7 @@ impl<C: Value> Leader<C> {
         out: &mut Vec<Letter<C>>,
     ) -> Result<SlotMap<Commander<C>>, AllocError>
         ensures commanders { IfOk result (λ commanders. commanders ≡ commanders_for self.now proposals.now) }
-        ensures out { OnOk result (out.new.items ≡ out.old.items ++ all_to_all self.now.members self.now.ballot.node (asks_for self.now proposals.now)) }
+        ensures out { OnOk result (Sends self.now (asks_for self.now proposals.now) out.old.items out.new.items) }
         ensures front { take (vec_len out.old) out.new.items ≡ out.old.items }
     {
         let mut commanders = SlotMap::new(self.alloc);

@@ -1,6 +1,6 @@
-ghost use Rattle.std.specs.Prelude.{◌≡◌, ◌++◌, ◌↔◌, OnOk, OnErr, IsSome};
-ghost use Rattle.ballot.specs.Letters.{all_to_all};
-ghost use Rattle.leader.specs.Promises.{on_p1b as hearing, MayTake, LeavesNoBallot};
+ghost use Rattle.std.specs.Prelude.{◌≡◌, ◌↔◌, OnOk, OnErr, IsSome};
+ghost use Rattle.leader.specs.Leaders.{Sends, LeavesNoBallot};
+ghost use Rattle.leader.specs.Promises.{on_p1b as hearing, MayTake};
 
 use super::Leader;
 use crate::error::LeaderError;
@@ -19,7 +19,7 @@ impl<C: Value> Leader<C> {
     ) -> Result<(), LeaderError>
         ensures taken { OnOk result (MayTake self.old from ballot report.items self.new.proposals) }
         ensures state { OnOk result (self.new ≡ (hearing self.old from ballot report.items self.new.proposals).state) }
-        ensures out { OnOk result (out.new.items ≡ out.old.items ++ all_to_all self.old.members self.old.ballot.node (hearing self.old from ballot report.items self.new.proposals).says) }
+        ensures out { OnOk result (Sends self.old (hearing self.old from ballot report.items self.new.proposals).says out.old.items out.new.items) }
         ensures no_ballot { (result ≡ Err LeaderError.NoBallotLeft) ↔ (IsSome self.old.scout × LeavesNoBallot self.old from ballot) }
         ensures err { OnErr result ((self.new ≡ self.old) × (out.new.items ≡ out.old.items)) }
     {
@@ -33,6 +33,7 @@ impl<C: Value> Leader<C> {
             return self.preempted(ballot);
         }
         let mut scout = scout.copy()?;
+        // Of the leader's own ballot a scout never says that it is preempted.
         match scout.on_p1b(from, ballot, report)? {
             Heard::Adopted => self.adopted(scout.gathered(), out)?,
             _ => self.scout = Some(scout),

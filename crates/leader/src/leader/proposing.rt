@@ -1,7 +1,6 @@
-ghost use Rattle.std.specs.Prelude.{◌≡◌, ◌++◌, OnOk, OnErr, true, false};
+ghost use Rattle.std.specs.Prelude.{◌≡◌, OnOk, OnErr, true, false};
 ghost use Rattle.std.specs.FinMap as slots;
-ghost use Rattle.ballot.specs.Letters.{all_to_all};
-ghost use Rattle.leader.specs.Leaders.{proposed, commands};
+ghost use Rattle.leader.specs.Leaders.{proposed, commands, Sends};
 
 use super::Leader;
 use crate::commanding::start_commander;
@@ -19,7 +18,7 @@ impl<C: Value> Leader<C> {
         out: &mut Vec<Letter<C>>,
     ) -> Result<(), AllocError>
         ensures state { OnOk result (self.new ≡ (proposed self.old slot command).state) }
-        ensures out { OnOk result (out.new.items ≡ out.old.items ++ all_to_all self.old.members self.old.ballot.node (proposed self.old slot command).says) }
+        ensures out { OnOk result (Sends self.old (proposed self.old slot command).says out.old.items out.new.items) }
         ensures err { OnErr result ((self.new ≡ self.old) × (out.new.items ≡ out.old.items)) }
     {
         if self.proposals.contains(slot) {
@@ -40,7 +39,7 @@ impl<C: Value> Leader<C> {
     ) -> Result<(), AllocError>
         requires { slots.contains_key self.old.proposals slot ≡ false }
         ensures state { OnOk result (self.new ≡ (commands self.old slot command).state) }
-        ensures out { OnOk result (out.new.items ≡ out.old.items ++ all_to_all self.old.members self.old.ballot.node (commands self.old slot command).says) }
+        ensures out { OnOk result (Sends self.old (commands self.old slot command).says out.old.items out.new.items) }
         ensures err { OnErr result ((self.new ≡ self.old) × (out.new.items ≡ out.old.items)) }
     {
         let pvalue = Pvalue {

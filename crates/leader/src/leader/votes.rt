@@ -1,9 +1,7 @@
-ghost use Rattle.std.specs.Prelude.{◌≡◌, ◌++◌, ◌↔◌, OnOk, OnErr, IsSome, Some, true};
+ghost use Rattle.std.specs.Prelude.{◌≡◌, ◌↔◌, OnOk, OnErr, IsSome, Some};
 ghost use Rattle.std.specs.FinMap as slots;
 ghost use Rattle.ballot.specs.Ballots.{Numbers};
-ghost use Rattle.ballot.specs.Members.{is_member};
-ghost use Rattle.ballot.specs.Letters.{all_to_all};
-ghost use Rattle.leader.specs.Promises.{LeavesNoBallot};
+ghost use Rattle.leader.specs.Leaders.{Sends, LeavesNoBallot};
 ghost use Rattle.leader.specs.Votes.{on_p2b as voting};
 
 use super::Leader;
@@ -25,7 +23,7 @@ impl<C: Value> Leader<C> {
         out: &mut Vec<Letter<C>>,
     ) -> Result<(), LeaderError>
         ensures state { OnOk result (self.new ≡ (voting self.old from ballot slot asked).state) }
-        ensures out { OnOk result (out.new.items ≡ out.old.items ++ all_to_all self.old.members self.old.ballot.node (voting self.old from ballot slot asked).says) }
+        ensures out { OnOk result (Sends self.old (voting self.old from ballot slot asked).says out.old.items out.new.items) }
         ensures no_ballot { (result ≡ Err LeaderError.NoBallotLeft) ↔ (IsSome (slots.get self.old.commanders slot) × ((b : Numbers) × (ballot ≡ Some b) × LeavesNoBallot self.old from b)) }
         ensures err { OnErr result ((self.new ≡ self.old) × (out.new.items ≡ out.old.items)) }
     {
@@ -56,7 +54,7 @@ impl<C: Value> Leader<C> {
         out: &mut Vec<Letter<C>>,
     ) -> Result<(), AllocError>
         ensures state { OnOk result (self.new ≡ (voting self.old from (Some self.old.ballot) slot self.old.ballot).state) }
-        ensures out { OnOk result (out.new.items ≡ out.old.items ++ all_to_all self.old.members self.old.ballot.node (voting self.old from (Some self.old.ballot) slot self.old.ballot).says) }
+        ensures out { OnOk result (Sends self.old (voting self.old from (Some self.old.ballot) slot self.old.ballot).says out.old.items out.new.items) }
         ensures err { OnErr result ((self.new ≡ self.old) × (out.new.items ≡ out.old.items)) }
     {
         let Some(commander) = self.commanders.get(slot) else {

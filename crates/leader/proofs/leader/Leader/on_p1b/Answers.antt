@@ -1,4 +1,4 @@
-use Rattle.std.proofs.Common.{◌≡◌, true, List, Some, Option, sym, ap, subst, ◌∙◌}
+use Rattle.std.proofs.Common.{rules, ◌≡◌, true, List, Some, Option, sym, ap, subst, ◌∙◌}
 use Rattle.ballot.specs.Ballots.{is_same}
 use Rattle.ballot.specs.Members.{is_member}
 use Rattle.ballot.specs.declared.pvalue.Pvalue.{Pvalue}
@@ -9,7 +9,6 @@ use Rattle.leader.specs.Adoptions.{TakesGreatest}
 use Rattle.leader.proofs.Saying.{said_nothing}
 use Rattle.leader.proofs.PromiseRows.{same_scout, kept_scout, may_take, still_waits, takes_none, not_above, untold}
 use Rattle.leader.proofs.leader.Leader.on_p1b.Goals as goal
-use Rattle.leader.proofs.leader.Leader.on_p1b.Goals.{in-Some-1, in-None-1}
 
 pub invariant_of-self : goal.invariant_of-self
 invariant_of-self g c =
@@ -49,7 +48,7 @@ returns-in_default-2 g c =
     λ e. c.in_default-2.not-Adopted (c.in_ok-on_p1b.ensures.says ∙ ap (λ (x : Scouting g.row.C.Denot). (on_p1b x c.args.from c.args.ballot c.args.report.items).says) c.in_ok-scout.ensures ∙ e) in
     let with : Option (Scouting g.row.C.Denot) → Leading g.row.C.Denot =
     λ scout. record { members = p.members; ballot = p.ballot; active = p.active; proposals = p.proposals; scout = scout; commanders = p.commanders } in
-    let after : c.match-self-2.self ≡ with (Some c.on_p1b.new.self) = elim c.match-self-2.branch [ in-Some-1 w ↦ w.self-is | in-None-1 w ↦ w.self-is ] in
+    let after : c.match-self-2.self ≡ with (Some c.on_p1b.new.self) = search rules in
     let waits = still_waits l c.args.from c.args.ballot c.args.report.items c.match-self-2.self.proposals s there (leads.scout s there) member same not_yet in
     record {
       taken = takes_none l c.args.from c.args.ballot c.args.report.items c.match-self-2.self.proposals s there not_yet;
