@@ -4,4 +4,3 @@ pub mod Letters
 pub mod Ones
 pub mod Exact
 pub mod PvalueLaws
-pub mod LetterLaws

@@ -2,7 +2,7 @@ pub mod Maps
 pub mod Turns
 pub mod Kept
 pub mod Outcomes
-pub mod Saying
 pub mod Greatest
 pub mod VoteRows
 pub mod PromiseRows
+pub mod Saying
