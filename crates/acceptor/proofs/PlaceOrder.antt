@@ -1,5 +1,5 @@
 -- Places that compare alike are one.
-use Rattle.std.proofs.Common.{◌≡◌, ap, ap₂, refl, Less, Equal, Greater}
+use Rattle.std.proofs.Common.{◌≡◌, refl, Less, Equal, Greater}
 use Rattle.std.specs.Ordering.{ordering_then, nat_cmp}
 use Rattle.std.specs.declared.cmp.Ordering.{Ordering}
 use Rattle.std.proofs.lemmas.Map.Lookups.{CmpEqualImpliesEq, exact_unsigned}

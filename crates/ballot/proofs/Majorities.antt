@@ -1,9 +1,9 @@
 -- Two majorities share a member.
 use Rattle.std.proofs.Common.{◌≡◌, ◌⊎◌, inl, inr, ⊎_elim, ℕ, zero, suc, ◌+◌, ◌*◌, ◌<◌, ◌≤◌, Bool, true, false, List, [], ◌∷◌, sum, refl, arith}
-use Rattle.std.specs.Prelude.{slice_index_or, nat_le}
+use Rattle.std.specs.Prelude.{slice_index_or}
 use Rattle.std.proofs.lemmas.Bool.Decides.{nat_tests}
 use Rattle.std.proofs.lemmas.List.Sums.{sum_by-cons}
-use Rattle.ballot.specs.Members.{has, weigh, is_majority, majority}
+use Rattle.ballot.specs.Members.{has, weigh, is_majority}
 
 -- a place where both tests hold
 abbrev Shared : List Bool → List Bool → Type 0

@@ -1,6 +1,6 @@
 -- Ballots and their order (Paxos Made Moderately Complex, 2.1): by round, then node, then boot. Of what an
 -- acceptor promised, None is the bottom.
-use Rattle.std.specs.Prelude.{◌≡◌, ℕ, ◌≤◌, ◌<◌, ◌+◌, ◌^◌, Bool, true, false, ◌&&◌, ◌||◌, nat_lt, ◌==◌, if◌then◌else◌, Option, None, Some}
+use Rattle.std.specs.Prelude.{ℕ, ◌≤◌, ◌<◌, ◌+◌, ◌^◌, Bool, true, false, ◌&&◌, ◌||◌, nat_lt, ◌==◌, if◌then◌else◌, Option, None, Some}
 
 -- a ballot, as clauses see it
 pub record Numbers : Type 0 where

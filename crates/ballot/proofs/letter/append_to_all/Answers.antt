@@ -1,4 +1,4 @@
-use Rattle.std.proofs.Common.{arith, rules}
+use Rattle.std.proofs.Common.{arith}
 use Rattle.std.proofs.lemmas.Grind.{common_steps}
 use Rattle.ballot.proofs.Sending.{one_more}
 use Rattle.ballot.proofs.letter.append_to_all.Goals as goal
