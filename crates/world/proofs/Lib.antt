@@ -1,0 +1,13 @@
+pub mod Lists
+pub mod Orders
+pub mod Sets
+pub mod Maps
+pub mod Places
+pub mod Invariants
+pub mod Grows
+pub mod Turns
+pub mod Good
+pub mod LeaderRows
+pub mod Rows
+pub mod Reach
+pub mod Bounds
