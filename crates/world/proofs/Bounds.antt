@@ -197,8 +197,8 @@ module _ (laws : BallotLaws) {C : Type 0} (k : Cluster C) (i : IsSound k) (r : �
     replica_within : (book : SlotBook C) (out : List (Letter C)) → Each (λ l. BodyWithin (r + 1) l.body) out → IsWithin (r + 1) (turned k n (record (node k n) { replica = book }) out)
     replica_within book out h = turn_within n member _ out (record { boot = old.boot; leader = old.leader; promised = old.promised }) h
 
-    receive_within : (m : ℕ) (body : Body C) → BodyWithin r body → (z : Cluster C) → Receives k m n body z → IsWithin (r + 1) z
-    receive_within m body low z (promises_ballot b report is) =
+    receive_within : (m : ℕ) (body : Body C) → BodyWithin r body → (x : NodeState C) (out : List (Letter C)) → Receives k.members m n (node k n) body x out → IsWithin (r + 1) (turned k n x out)
+    receive_within m body low x out (promises_ballot b report is) =
         let top = promised_more r (node k n).acceptor.promised b (w.nodes n).promised low in
         turn_within n member _ _
         (record { boot = old.boot; leader = old.leader; promised = λ y e. subst (λ (q : Option Numbers). q ≡ Some y → y.round ≤ r + 1) refl (λ f. let g = ap round_of f in omega arith) e })
@@ -207,13 +207,13 @@ module _ (laws : BallotLaws) {C : Type 0} (k : Cluster C) (i : IsSound k) (r : �
         round_of : Option Numbers → ℕ
         round_of None = 0
         round_of (Some y) = y.round
-    receive_within m body low z (accepts_pvalue p) =
+    receive_within m body low x out (accepts_pvalue p) =
         turn_within n member _ _ (record { boot = old.boot; leader = old.leader; promised = old.promised }) ((λ b e. old.promised b e), tt)
-    receive_within m body low z (hears_promise b report taken may) = leader_within _ (p1b_bounded r (node k n).leader (w.nodes n).leader m b report taken low)
-    receive_within m body low z (hears_vote b s by) = leader_within _ (p2b_bounded r (node k n).leader (w.nodes n).leader m b s by low)
-    receive_within m body low z (hears_proposal s c) = leader_within _ (proposed_bounded r (node k n).leader (w.nodes n).leader s c)
-    receive_within m body low z (learns s c) = replica_within _ [] tt
-    receive_within m body low z (tells_decisions s) =
+    receive_within m body low x out (hears_promise b report taken may) = leader_within _ (p1b_bounded r (node k n).leader (w.nodes n).leader m b report taken low)
+    receive_within m body low x out (hears_vote b s by) = leader_within _ (p2b_bounded r (node k n).leader (w.nodes n).leader m b s by low)
+    receive_within m body low x out (hears_proposal s c) = leader_within _ (proposed_bounded r (node k n).leader (w.nodes n).leader s c)
+    receive_within m body low x out (learns s c) = replica_within _ [] tt
+    receive_within m body low x out (tells_decisions s) =
         turn_within n member (node k n) _ old
         (Each-map (λ l. BodyWithin (r + 1) l.body) (λ b. letter n b m) (tells (node k n).replica s)
         (Each-map (BodyWithin (r + 1)) (λ e. Decision e.0 e.1) (decided_from (node k n).replica s) (Each-all _ (decided_from (node k n).replica s) (λ e. tt))))
@@ -226,9 +226,9 @@ module _ (laws : BallotLaws) {C : Type 0} (k : Cluster C) (i : IsSound k) (r : �
     asks_if s true = Each-map (λ l. BodyWithin (r + 1) l.body) (letter n (Ask s)) (filter (λ m. not (m == n)) (numbers k.members)) (Each-all _ (filter (λ m. not (m == n)) (numbers k.members)) (λ m. tt))
     asks_if s false = tt
 
-    nudge_within : IsWithin (r + 1) (turned k n (node k n) (said_again k n))
+    nudge_within : IsWithin (r + 1) (turned k n (node k n) (said_again k.members n (node k n)))
     nudge_within =
-        turn_within n member (node k n) (said_again k n) old
+        turn_within n member (node k n) (said_again k.members n (node k n)) old
         (Each-append (λ l. BodyWithin (r + 1) l.body) (all_to_all k.members n (says_again (node k n).leader)) (nudges k.members n (node k n).replica)
         (said (says_again (node k n).leader)
         (Each-append (BodyWithin (r + 1)) (scout_says (node k n).leader.scout) (map (λ e. P2a e.1.pvalue) (entries (node k n).leader.commanders))
@@ -252,9 +252,9 @@ module _ (laws : BallotLaws) {O Op Reply : Type 0} (rules : Rules O Op Reply) wh
 
   pub step_within : (w : World Op Reply) (e : Event Op) (u : World Op Reply) → IsSound w.cluster → IsWithin w.taken w.cluster → Step rules w e u → IsWithin u.taken u.cluster
   step_within w e u i h (submit n c member own) = replica_within laws w.cluster i w.taken h n member _ [] tt
-  step_within w e u i h (deliver j l z at receives) =
+  step_within w e u i h (deliver j l x out at receives) =
       let within = In-get w.cluster.letters j l at in
-      receive_within laws w.cluster i w.taken h l.to (Each-at (IsFair w.cluster) w.cluster.letters l i.letters within).receiver l.«from» l.body (Each-at (λ l. BodyWithin w.taken l.body) w.cluster.letters l h.letters within) z receives
+      receive_within laws w.cluster i w.taken h l.to (Each-at (IsFair w.cluster) w.cluster.letters l i.letters within).receiver l.«from» l.body (Each-at (λ l. BodyWithin w.taken l.body) w.cluster.letters l h.letters within) x out receives
   step_within w e u i h (wake n member) = leader_within laws w.cluster i w.taken h n member _ (woken_bounded w.taken (node w.cluster n).leader (h.nodes n).leader)
   step_within w e u i h (nudge n member) = nudge_within laws w.cluster i w.taken h n member
   step_within w e u i h (propose n member) = replica_within laws w.cluster i w.taken h n member _ _ (said laws w.cluster i w.taken h n member _ (asked_within laws w.cluster i w.taken h n member (next_proposal (node w.cluster n).replica)))

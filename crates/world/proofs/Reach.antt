@@ -29,9 +29,9 @@ module _ (laws : BallotLaws) {O Op Reply : Type 0} (rules : Rules O Op Reply) wh
 
   pub step_sound : (w : World Op Reply) (e : Event Op) (u : World Op Reply) → IsSound w.cluster → Step rules w e u → Kept w.cluster u.cluster
   step_sound w e u i (submit n c member own) = request_sound laws w.cluster i n member (is_one rules) c
-  step_sound w e u i (deliver j l z at receives) =
+  step_sound w e u i (deliver j l x out at receives) =
       let fair = Each-at (IsFair w.cluster) w.cluster.letters l i.letters (In-get w.cluster.letters j l at) in
-      receive_sound laws w.cluster i l.to fair.receiver l.«from» fair.sender l.body fair.says (λ p same. (l, In-get w.cluster.letters j l at, same)) z receives
+      receive_sound laws w.cluster i l.to fair.receiver l.«from» fair.sender l.body fair.says (λ p same. (l, In-get w.cluster.letters j l at, same)) x out receives
   step_sound w e u i (wake n member) = leader_sound laws w.cluster i n member _ (woken_good laws w.cluster i n (node w.cluster n) (i.nodes n))
   step_sound w e u i (nudge n member) = nudge_sound laws w.cluster i n member
   step_sound w e u i (propose n member) = propose_sound laws w.cluster i n member

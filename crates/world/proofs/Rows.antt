@@ -202,9 +202,9 @@ module _ (laws : BallotLaws) {C : Type 0} (k : Cluster C) (i : IsSound k) (n : �
   replica_true : (z : Cluster C) (r : SlotBook C) → Each (IsTrueOf z n) (proposes_again r)
   replica_true z r = Each-map (IsTrueOf z n) (λ e. Propose e.0 e.1) (entries r.proposals) (Each-all (λ e. IsTrueOf z n (Propose e.0 e.1)) (entries r.proposals) (λ e. tt))
 
-  pub nudge_sound : Kept k (turned k n (node k n) (said_again k n))
+  pub nudge_sound : Kept k (turned k n (node k n) (said_again k.members n (node k n)))
   nudge_sound =
-      replica_sound laws k i n member r (said_again k n)
+      replica_sound laws k i n member r (said_again k.members n (node k n))
       (i.nodes n).decisions
       (Each-append (λ l. IsOwn (node k n).leader l.body) first (nudges k.members n r)
       (to_all_own (says_again (node k n).leader) leader_own)
@@ -259,14 +259,14 @@ module _ (laws : BallotLaws) {C : Type 0} (k : Cluster C) (i : IsSound k) (n : �
       tt
       (λ z g. tt)
 
-  pub receive_sound : (m : ℕ) → is_member k.members m ≡ true → (body : Body C) → IsTrueOf k m body → ((p : Pvalue C) → body ≡ P2a p → Asked k.letters p) → (z : Cluster C) → Receives k m n body z → Kept k z
-  receive_sound m to body true_of asked z (promises_ballot b report r) = p1a_sound m to b report r
-  receive_sound m to body true_of asked z (accepts_pvalue p) = p2a_sound m to p (asked p refl)
-  receive_sound m to body true_of asked z (hears_promise b report taken may) = leader_sound laws k i n member _ (p1b_good laws k i n (node k n) (i.nodes n) m b report true_of taken may (node k n).leader.scout refl)
-  receive_sound m to body true_of asked z (hears_vote b s by) = leader_sound laws k i n member _ (p2b_good laws k i n (node k n) (i.nodes n) m b s by true_of)
-  receive_sound m to body true_of asked z (hears_proposal s c) = leader_sound laws k i n member _ (proposed_good laws k i n (node k n) (i.nodes n) s c)
-  receive_sound m to body true_of asked z (learns s c) = learns_sound s c true_of
-  receive_sound m to body true_of asked z (tells_decisions s) = tells_sound m to s
+  pub receive_sound : (m : ℕ) → is_member k.members m ≡ true → (body : Body C) → IsTrueOf k m body → ((p : Pvalue C) → body ≡ P2a p → Asked k.letters p) → (x : NodeState C) (out : List (Letter C)) → Receives k.members m n (node k n) body x out → Kept k (turned k n x out)
+  receive_sound m to body true_of asked x out (promises_ballot b report r) = p1a_sound m to b report r
+  receive_sound m to body true_of asked x out (accepts_pvalue p) = p2a_sound m to p (asked p refl)
+  receive_sound m to body true_of asked x out (hears_promise b report taken may) = leader_sound laws k i n member _ (p1b_good laws k i n (node k n) (i.nodes n) m b report true_of taken may (node k n).leader.scout refl)
+  receive_sound m to body true_of asked x out (hears_vote b s by) = leader_sound laws k i n member _ (p2b_good laws k i n (node k n) (i.nodes n) m b s by true_of)
+  receive_sound m to body true_of asked x out (hears_proposal s c) = leader_sound laws k i n member _ (proposed_good laws k i n (node k n) (i.nodes n) s c)
+  receive_sound m to body true_of asked x out (learns s c) = learns_sound s c true_of
+  receive_sound m to body true_of asked x out (tells_decisions s) = tells_sound m to s
 
   -- a replica's own doings: no P2a is sent, and nothing is learnt
   pub quiet_sound : (r : SlotBook C) → r.decisions ≡ (node k n).replica.decisions → Kept k (replica_turn k n r [])

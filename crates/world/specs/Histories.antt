@@ -1,10 +1,11 @@
 -- What a replica performed, and what it answers. It has no object here: its answers are read off a replay.
-use Rattle.std.specs.Prelude.{ℕ, ◌-◌, ◌==◌, List, [], ◌∷◌, ◌++◌, map, filter, flat_map, length, if◌then◌else◌}
+use Rattle.std.specs.Prelude.{ℕ, ◌-◌, ◌==◌, List, [], ◌∷◌, ◌++◌, map, filter, flat_map, foldl, length, if◌then◌else◌}
 use Rattle.std.specs.List.{range_with_len}
 use Rattle.std.specs.Option.{option_to_list}
-use Rattle.std.specs.FinMap.{get}
+use Rattle.std.specs.FinMap.{get, empty}
 use Rattle.object.specs.declared.command.Answer.{Answer}
 use Rattle.object.specs.declared.command.Command.{Command}
+use Rattle.object.specs.OnceOnly.{Filtered, filtered}
 use Rattle.object.specs.Replays.{Placed, replay, is_new, kept}
 use Rattle.slot_log.specs.Books.{Slots, SlotBook}
 use Rattle.world.specs.Objects.{Rules}
@@ -28,3 +29,7 @@ answers_after rules earlier c =
     if is_new c earlier
     then at_place (length (kept earlier)) (replay rules.fresh rules.after rules.answers (kept (earlier ++ (c ∷ []))))
     else []
+
+-- a new object behind its filter, after these commands
+abbrev pub obeyed : {O Op Reply : Type 0} → Rules O Op Reply → List (Command Op) → Filtered O
+obeyed rules cs = foldl (filtered rules.after) (record { object = rules.fresh; latest = empty }) cs

@@ -14,3 +14,7 @@ pub record Rules (O Op Reply : Type 0) : Type 0 where
 -- two commands are one
 abbrev pub is_one : {O Op Reply : Type 0} → Rules O Op Reply → Command Op → Command Op → Bool
 is_one rules a b = same_commands rules.same a b
+
+-- an object's rules, of its parts
+abbrev pub rules_of : {O Op Reply : Type 0} → O → (O → Command Op → O) → (O → Command Op → List (Answer Reply)) → (Op → Op → Bool) → Rules O Op Reply
+rules_of fresh after answers same = record { fresh = fresh; after = after; answers = answers; same = same }

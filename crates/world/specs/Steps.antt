@@ -26,49 +26,53 @@ use Rattle.slot_log.specs.Advances.{advanced}
 use Rattle.replica.specs.Replicas.{asks_for, tells, nudges}
 use Rattle.world.specs.Objects.{Rules, is_one}
 use Rattle.world.specs.Histories.{history, answers_after}
-use Rattle.world.specs.Nodes.{Cluster, node, turned, restarted}
+use Rattle.world.specs.Nodes.{NodeState, Cluster, node, turned, restarted}
 use Rattle.world.specs.Worlds.{World, same_key, with_submission, with_answers}
 use Rattle.world.specs.declared.event.Event.{Event}
 use Rattle.world.specs.declared.event.Event.TheVariants.{Submit, Deliver, Wake, Nudge, Propose as ProposeNext, Perform, Restart}
 
+-- a node after what its leader did
+abbrev pub led : {C : Type 0} → NodeState C → Done (Leading C) C → NodeState C
+led x d = record x { leader = d.state }
+
 -- node n's leader has done this, and tells all
 abbrev pub leader_turn : {C : Type 0} → Cluster C → ℕ → Done (Leading C) C → Cluster C
-leader_turn k n d = turned k n (record (node k n) { leader = d.state }) (all_to_all k.members n d.says)
+leader_turn k n d = turned k n (led (node k n) d) (all_to_all k.members n d.says)
 
 -- node n's replica has become this, and sends letters
 abbrev pub replica_turn : {C : Type 0} → Cluster C → ℕ → SlotBook C → List (Letter C) → Cluster C
 replica_turn k n book out = turned k n (record (node k n) { replica = book }) out
 
--- Node n receives a body from m. What an acceptor reports is free within `IsReport`, and which proposals an adopted
--- leader takes, within `MayTake`.
-pub data Receives {C : Type 0} (k : Cluster C) (m n : ℕ) : Body C → Cluster C → Type 0 where
+-- Node x, of number n, receives a body from m: what it becomes, and the letters that it sends. What an acceptor reports
+-- is free within `IsReport`, and which proposals an adopted leader takes, within `MayTake`.
+pub data Receives {C : Type 0} (members : List ℕ) (m n : ℕ) (x : NodeState C) : Body C → NodeState C → List (Letter C) → Type 0 where
   promises_ballot :
       (b : Numbers) (report : List (Pvalue C))
-      → IsReport (node k n).acceptor.accepted report
-      → Receives k m n (P1a b) (turned k n (record (node k n) { acceptor = after_p1a (node k n).acceptor b }) (letter n (P1b (higher (node k n).acceptor.promised b) report) m ∷ []))
+      → IsReport x.acceptor.accepted report
+      → Receives members m n x (P1a b) (record x { acceptor = after_p1a x.acceptor b }) (letter n (P1b (higher x.acceptor.promised b) report) m ∷ [])
   accepts_pvalue :
       (p : Pvalue C)
-      → Receives k m n (P2a p) (turned k n (record (node k n) { acceptor = after_p2a (node k n).acceptor p }) (letter n (P2b (node k n).acceptor.promised p.slot p.ballot) m ∷ []))
+      → Receives members m n x (P2a p) (record x { acceptor = after_p2a x.acceptor p }) (letter n (P2b x.acceptor.promised p.slot p.ballot) m ∷ [])
   hears_promise :
       (b : Numbers) (report : List (Pvalue C)) (taken : Slots C)
-      → MayTake (node k n).leader m b report taken
-      → Receives k m n (P1b b report) (leader_turn k n (promises.on_p1b (node k n).leader m b report taken))
+      → MayTake x.leader m b report taken
+      → Receives members m n x (P1b b report) (led x (promises.on_p1b x.leader m b report taken)) (all_to_all members n (promises.on_p1b x.leader m b report taken).says)
   hears_vote :
-      (b : Option Numbers) (s : ℕ) (asked : Numbers)
-      → Receives k m n (P2b b s asked) (leader_turn k n (votes.on_p2b (node k n).leader m b s asked))
+      (b : Option Numbers) (s : ℕ) (by : Numbers)
+      → Receives members m n x (P2b b s by) (led x (votes.on_p2b x.leader m b s by)) (all_to_all members n (votes.on_p2b x.leader m b s by).says)
   hears_proposal :
       (s : ℕ) (c : C)
-      → Receives k m n (Propose s c) (leader_turn k n (proposed (node k n).leader s c))
+      → Receives members m n x (Propose s c) (led x (proposed x.leader s c)) (all_to_all members n (proposed x.leader s c).says)
   learns :
       (s : ℕ) (c : C)
-      → Receives k m n (Decision s c) (replica_turn k n (learnt (node k n).replica s c) [])
+      → Receives members m n x (Decision s c) (record x { replica = learnt x.replica s c }) []
   tells_decisions :
       (s : ℕ)
-      → Receives k m n (Ask s) (turned k n (node k n) (map (λ b. letter n b m) (tells (node k n).replica s)))
+      → Receives members m n x (Ask s) x (map (λ b. letter n b m) (tells x.replica s))
 
--- what node n sends again
-abbrev pub said_again : {C : Type 0} → Cluster C → ℕ → List (Letter C)
-said_again k n = all_to_all k.members n (says_again (node k n).leader) ++ nudges k.members n (node k n).replica
+-- what node x, of number n, sends again
+abbrev pub said_again : {C : Type 0} → List ℕ → ℕ → NodeState C → List (Letter C)
+said_again members n x = all_to_all members n (says_again x.leader) ++ nudges members n x.replica
 
 -- a key that was submitted before comes with its own command
 abbrev pub IsItsOwn : {Op : Type 0} → Command Op → List (Submission Op) → Type 0
@@ -101,10 +105,10 @@ pub data Step {O Op Reply : Type 0} (rules : Rules O Op Reply) (w : World Op Rep
         happenings = with_submission c w.happenings;
       }))
   deliver :
-      (i : ℕ) (l : Letter (Command Op)) (k : Cluster (Command Op))
+      (i : ℕ) (l : Letter (Command Op)) (x : NodeState (Command Op)) (out : List (Letter (Command Op)))
       → slice_get w.cluster.letters i ≡ Some l
-      → Receives w.cluster l.«from» l.to l.body k
-      → Step rules w (Deliver i) (counted (with_cluster w k))
+      → Receives w.cluster.members l.«from» l.to (node w.cluster l.to) l.body x out
+      → Step rules w (Deliver i) (counted (with_cluster w (turned w.cluster l.to x out)))
   wake :
       (n : ℕ)
       → is_member w.cluster.members n ≡ true
@@ -112,7 +116,7 @@ pub data Step {O Op Reply : Type 0} (rules : Rules O Op Reply) (w : World Op Rep
   nudge :
       (n : ℕ)
       → is_member w.cluster.members n ≡ true
-      → Step rules w (Nudge n) (counted (with_cluster w (turned w.cluster n (node w.cluster n) (said_again w.cluster n))))
+      → Step rules w (Nudge n) (counted (with_cluster w (turned w.cluster n (node w.cluster n) (said_again w.cluster.members n (node w.cluster n)))))
   propose :
       (n : ℕ)
       → is_member w.cluster.members n ≡ true
