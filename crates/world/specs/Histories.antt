@@ -1,6 +1,6 @@
 -- What a replica performed, and what it answers. It has no object here: its answers are read off a replay.
-use Rattle.std.specs.Prelude.{ℕ, ◌-◌, ◌==◌, List, [], ◌∷◌, ◌++◌, map, filter, flat_map, foldl, length, if◌then◌else◌}
-use Rattle.std.specs.List.{range_with_len}
+use Rattle.std.specs.Prelude.{ℕ, ◌-◌, ◌==◌, List, [], ◌∷◌, ◌++◌, map, filter, flat_map, length, if◌then◌else◌}
+use Rattle.std.specs.List.{range_with_len, fold}
 use Rattle.std.specs.Option.{option_to_list}
 use Rattle.std.specs.FinMap.{get, empty}
 use Rattle.object.specs.declared.command.Answer.{Answer}
@@ -32,4 +32,4 @@ answers_after rules earlier c =
 
 -- a new object behind its filter, after these commands
 abbrev pub obeyed : {O Op Reply : Type 0} → Rules O Op Reply → List (Command Op) → Filtered O
-obeyed rules cs = foldl (filtered rules.after) (record { object = rules.fresh; latest = empty }) cs
+obeyed rules cs = fold (filtered rules.after) (record { object = rules.fresh; latest = empty }) cs
