@@ -11,3 +11,4 @@ pub mod LeaderRows
 pub mod Rows
 pub mod Reach
 pub mod Bounds
+pub mod Keeping

@@ -3,6 +3,7 @@ pub mod Histories
 pub mod Nodes
 pub mod Worlds
 pub mod Steps
+pub mod Kept
 pub mod Runs
 pub mod Chosen
 pub mod Agreements

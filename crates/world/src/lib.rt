@@ -2,5 +2,6 @@
 #![tactic(auto)]
 
 mod event;
+mod node;
 
 pub use event::Event;

@@ -1,0 +1,41 @@
+-- How a world keeps its nodes, and what a node may count on.
+use Rattle.std.specs.Prelude.{◌≡◌, ℕ, ◌<◌, ◌^◌, true, List, Some, IsSome, ⊤}
+use Rattle.std.specs.FinMap.{get}
+use Rattle.object.specs.declared.command.Command.{Command}
+use Rattle.object.specs.OnceOnly.{Filtered}
+use Rattle.ballot.specs.Ballots.{Numbers}
+use Rattle.ballot.specs.Members.{is_member}
+use Rattle.ballot.specs.declared.letter.Body.{Body}
+use Rattle.ballot.specs.declared.letter.Body.TheVariants.{P1a, P1b, P2a, P2b, Propose, Decision, Ask}
+use Rattle.acceptor.specs.Acceptors.{Acceptances, Keeps}
+use Rattle.slot_log.specs.Books.{SlotBook}
+use Rattle.world.specs.Objects.{Rules}
+use Rattle.world.specs.Histories.{history, obeyed}
+use Rattle.world.specs.Nodes.{NodeState}
+
+-- each slot before slot_out has a known decision
+pub record IsPerformed {C : Type 0} (book : SlotBook C) : Type 0 where
+  pub first : 0 < book.slot_out
+  pub known : (s : ℕ) → 0 < s → s < book.slot_out → IsSome (get book.decisions s)
+
+-- the acceptor keeps what a report needs, and the object has obeyed the commands before slot_out
+pub record IsKept {O Op Reply : Type 0} (rules : Rules O Op Reply) (kept : Acceptances (Command Op)) (object : Filtered O) (x : NodeState (Command Op)) : Type 0 where
+  pub enough : Keeps x.acceptor kept
+  pub obeys : object ≡ obeyed rules (history x.replica)
+  pub performed : IsPerformed x.replica
+
+-- x is the node of this number among these members, and no leader has begun the last round
+pub record IsSeated {C : Type 0} (members : List ℕ) (n : ℕ) (x : NodeState C) : Type 0 where
+  pub member : is_member members n ≡ true
+  pub speaks : x.leader.members ≡ members
+  pub node : x.leader.ballot.node ≡ n
+
+-- what is received is of no last round, and of no other decision than the one that is known
+abbrev pub IsFit : {C : Type 0} → NodeState C → Body C → Type 0
+IsFit x (P1a b) = ⊤
+IsFit x (P1b b report) = b.round < 2 ^ 62
+IsFit x (P2a p) = ⊤
+IsFit x (P2b o s by) = (b : Numbers) → o ≡ Some b → b.round < 2 ^ 62
+IsFit x (Propose s c) = ⊤
+IsFit {C} x (Decision s c) = (d : C) → get x.replica.decisions s ≡ Some d → d ≡ c
+IsFit x (Ask s) = ⊤

@@ -1,0 +1,153 @@
+ghost use Rattle.std.specs.Prelude.{◌≡◌, ◌++◌, ◌<◌, ◌≤◌, ◌^◌, true, None, Some, Ok, is_some, IfOk, IfSome, OnOk, OnErr};
+ghost use Rattle.ballot.specs.Members.{is_member};
+ghost use Rattle.ballot.specs.Letters.{all_to_all};
+ghost use Rattle.object.specs.Commands.{same_commands};
+ghost use Rattle.leader.specs.Leaders.{woken};
+ghost use Rattle.slot_log.specs.Requests.{requested};
+ghost use Rattle.slot_log.specs.Proposals.{next_proposal, proposed_next};
+ghost use Rattle.slot_log.specs.Decisions.{next_decided};
+ghost use Rattle.slot_log.specs.Advances.{advanced};
+ghost use Rattle.replica.specs.Replicas.{asks_for};
+ghost use Rattle.world.specs.Objects.{rules_of};
+ghost use Rattle.world.specs.Histories.{history, answers_after};
+ghost use Rattle.world.specs.Nodes.{new_node, restarted};
+ghost use Rattle.world.specs.Steps.{led, said_again};
+ghost use Rattle.world.specs.Kept.{IsSeated};
+
+use acceptor::Acceptor;
+use ballot::{Letter, Members, Pvalue};
+use leader::Leader;
+use object::{Command, Object};
+use replica::Replica;
+use std::alloc::{AllocError, Global};
+use std::marker::Model;
+
+/// A node, with every pvalue that its acceptor ever accepted beside it, whatever the acceptor keeps.
+#[derive(Drop)]
+pub(crate) struct Node<O: Object> {
+    acceptor: Acceptor<Command<O::Op>>,
+    accepted: Vec<Pvalue<Command<O::Op>>>,
+    boot: u64,
+    leader: Leader<Command<O::Op>>,
+    replica: Replica<O>,
+}
+
+impl<O: Object> Model for Node<O> {
+    ghost use Rattle.std.specs.Coded.{codes};
+    ghost use Rattle.slot_log.specs.Books.{slots_code};
+    ghost use Rattle.world.specs.Objects.{rules_of};
+    ghost use Rattle.world.specs.Nodes.{NodeState};
+    ghost use Rattle.world.specs.Kept.{IsKept};
+    ghost use Rattle.object.specs.declared.command.Command.{Command};
+
+    ghost Value = { NodeState (Command O.Op) };
+
+    ghost coded = { Prim.hlevel (codes, slots_code, O.code, O.Op.code) };
+
+    ghost view = { λ n. record {
+      acceptor = record { promised = n.acceptor.promised; accepted = n.accepted.items };
+      boot = n.boot;
+      leader = n.leader;
+      replica = n.replica.slots;
+    } };
+
+    ghost invariant = { λ n. IsKept (rules_of O.fresh O.after O.answers O.Op.eq) n.acceptor n.replica.object (record {
+      acceptor = record { promised = n.acceptor.promised; accepted = n.accepted.items };
+      boot = n.boot;
+      leader = n.leader;
+      replica = n.replica.slots;
+    }) };
+}
+
+impl<O: Object> Node<O> {
+    /// A node to which nothing happened yet.
+    pub(crate) fn new(alloc: Global, members: Members, id: u8) -> Result<Node<O>, AllocError>
+        requires { is_member members id ≡ true }
+        ensures { IfOk result (λ node. node ≡ new_node members id) }
+    {
+        Ok(Node {
+            acceptor: Acceptor::new(alloc),
+            accepted: Vec::new(alloc),
+            boot: 0,
+            leader: Leader::new(alloc, members, id, 0),
+            replica: Replica::new(alloc)?,
+        })
+    }
+
+    /// Stops, and begins anew with the next boot. The acceptor stays as it is.
+    pub(crate) fn restart(
+        &mut self,
+        alloc: Global,
+        members: Members,
+        id: u8,
+    ) -> Result<(), AllocError>
+        requires member { is_member members id ≡ true }
+        requires within { self.old.boot < 2 ^ 62 }
+        ensures ok { OnOk result (self.new ≡ restarted members id self.old) }
+        ensures err { OnErr result (self.new ≡ self.old) }
+    {
+        let replica = Replica::new(alloc)?;
+        self.boot += 1;
+        self.leader = Leader::new(alloc, members, id, self.boot);
+        self.replica = replica;
+        Ok(())
+    }
+
+    /// Is asked for a command.
+    pub(crate) fn request(&mut self, command: Command<O::Op>) -> Result<(), AllocError>
+        ensures ok { OnOk result (self.new ≡ record self.old { replica = requested (same_commands O.Op.eq) self.old.replica command }) }
+        ensures err { OnErr result (self.new ≡ self.old) }
+    {
+        self.replica.request(command)
+    }
+
+    /// Proposes the first request, where a slot is open to it.
+    pub(crate) fn propose(
+        &mut self,
+        members: Members,
+        id: u8,
+        out: &mut Vec<Letter<Command<O::Op>>>,
+    ) -> Result<(), AllocError>
+        ensures ok { OnOk result (self.new ≡ record self.old { replica = proposed_next self.old.replica }) }
+        ensures out { OnOk result (out.new.items ≡ out.old.items ++ all_to_all members id (asks_for (next_proposal self.old.replica))) }
+        ensures err { OnErr result ((self.new ≡ self.old) × (out.new.items ≡ out.old.items)) }
+    {
+        self.replica.propose(members, id, out)?;
+        Ok(())
+    }
+
+    /// Sends a scout out, where the leader isn't active and has none.
+    pub(crate) fn wake(
+        &mut self,
+        members: Members,
+        id: u8,
+        out: &mut Vec<Letter<Command<O::Op>>>,
+    ) -> Result<(), AllocError>
+        requires { IsSeated members id self.old }
+        ensures ok { OnOk result (self.new ≡ led self.old (woken self.old.leader)) }
+        ensures out { OnOk result (out.new.items ≡ out.old.items ++ all_to_all members id (woken self.old.leader).says) }
+        ensures err { OnErr result ((self.new ≡ self.old) × (out.new.items ≡ out.old.items)) }
+    {
+        self.leader.wake(out)
+    }
+
+    /// Says again what it waits for.
+    pub(crate) fn nudge(
+        &self,
+        members: Members,
+        id: u8,
+        out: &mut Vec<Letter<Command<O::Op>>>,
+    ) -> Result<(), AllocError>
+        requires { IsSeated members id self.now }
+        ensures ok { OnOk result (out.new.items ≡ out.old.items ++ said_again members id self.now) }
+        ensures err { OnErr result (out.new.items ≡ out.old.items) }
+    {
+        let len = out.len();
+        self.leader.nudge(out)?;
+        let said = self.replica.nudge(members, id, out);
+        if said.is_err() {
+            out.truncate(len);
+        }
+        said
+    }
+}
