@@ -11,3 +11,5 @@ pub mod LeaderRows
 pub mod Rows
 pub mod Reach
 pub mod Bounds
+pub mod Replays
+pub mod Histories
