@@ -12,3 +12,5 @@ pub mod Rows
 pub mod Reach
 pub mod Bounds
 pub mod Keeping
+pub mod Replays
+pub mod Histories
