@@ -1,6 +1,7 @@
 //! All nodes and all letters as one world, which takes one event at a time.
 #![tactic(auto)]
 
+mod cluster;
 mod event;
 mod laws;
 mod node;
