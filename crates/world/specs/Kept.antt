@@ -1,5 +1,5 @@
 -- How a world keeps its nodes, and what a node may count on.
-use Rattle.std.specs.Prelude.{◌≡◌, ℕ, ◌<◌, ◌^◌, ◌++◌, true, List, length, Some, IsSome, ⊤}
+use Rattle.std.specs.Prelude.{◌≡◌, ℕ, ◌<◌, ◌≤◌, ◌^◌, ◌++◌, true, List, length, Some, IsSome, ⊤}
 use Rattle.std.specs.FinMap.{get}
 use Rattle.object.specs.declared.command.Command.{Command}
 use Rattle.object.specs.OnceOnly.{Filtered}
@@ -13,7 +13,10 @@ use Rattle.slot_log.specs.Books.{SlotBook}
 use Rattle.world.specs.Objects.{Rules}
 use Rattle.world.specs.Histories.{history, obeyed}
 use Rattle.world.specs.Nodes.{NodeState, Cluster, node, turned}
+use Rattle.world.specs.Worlds.{World}
 use Rattle.world.specs.Steps.{Receives}
+use Rattle.world.specs.Runs.{IsReachable}
+use Rattle.world.specs.Refusals.{most_events}
 
 -- each slot before slot_out has a known decision
 pub record IsPerformed {C : Type 0} (book : SlotBook C) : Type 0 where
@@ -54,3 +57,8 @@ pub record HasNode {C : Type 0} (n : ℕ) (k : Cluster C) : Type 0 where
 -- the letter was received, by the node that it is to
 abbrev pub Delivered : {C : Type 0} → Cluster C → Letter C → Cluster C → Type 0
 Delivered {C} k l z = (x : NodeState C) × (out : List (Letter C)) × Receives k.members l.«from» l.to (node k l.to) l.body x out × (z ≡ turned k l.to x out)
+
+-- some events lead to the world, and no more than it takes
+pub record IsWorld {O Op Reply : Type 0} (rules : Rules O Op Reply) (w : World Op Reply) : Type 0 where
+  pub reachable : IsReachable rules w
+  pub few : w.taken ≤ most_events

@@ -4,7 +4,8 @@ pub mod Histories
 pub mod Nodes
 pub mod Worlds
 pub mod Steps
-pub mod Kept
 pub mod Runs
+pub mod Refusals
+pub mod Kept
 pub mod Chosen
 pub mod Agreements

@@ -2,9 +2,14 @@
 #![tactic(auto)]
 
 mod cluster;
+mod error;
 mod event;
 mod laws;
 mod node;
 mod receiving;
+mod submissions;
+mod world;
 
+pub use error::WorldError;
 pub use event::Event;
+pub use world::World;
