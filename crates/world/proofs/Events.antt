@@ -37,7 +37,9 @@ use Rattle.world.proofs.Lists.{Each-at, In-get}
 use Rattle.world.proofs.Orders.{BallotLaws}
 use Rattle.world.proofs.Invariants.{IsFair, IsTrueOf, IsSound, agree}
 use Rattle.world.proofs.Bounds.{BodyWithin, IsWithin, reachable_within}
-use Rattle.world.proofs.Reach.{reachable_sound, one_more, opening_reachable}
+use Rattle.world.specs.Agreements.{StaysChosen}
+use Rattle.world.proofs.Grows.{chosen_stays}
+use Rattle.world.proofs.Reach.{reachable_sound, step_sound, one_more, opening_reachable}
 
 module _ (laws : BallotLaws) {O Op Reply : Type 0} (rules : Rules O Op Reply) where
   pub new_world : (members : List ℕ) (u : World Op Reply) → u ≡ opening members → IsWorld rules u
@@ -97,6 +99,9 @@ module _ {O Op Reply : Type 0} (rules : Rules O Op Reply) (v w : World Op Reply)
   -- the step from the world as it was
   pub from_view : (e : Event Op) (u : World Op Reply) → Step rules v e u → Step rules w e u
   from_view e u s = subst (λ y. Step rules y e u) is s
+
+  pub sent_in_view : (j : ℕ) → j < length w.cluster.letters → j < length v.cluster.letters
+  sent_in_view j h = subst (λ y. j < length y.cluster.letters) (sym is) h
 
   pub member_in_view : (n : ℕ) → is_member w.cluster.members n ≡ true → is_member v.cluster.members n ≡ true
   member_in_view n member = ap (λ y. is_member y.cluster.members n) is ∙ member
@@ -218,3 +223,27 @@ allowed same w e h =
       acts = not_not (keeps_acts same w.happenings.submitted e) c.0;
       room = grind (arith, nat_tests);
     }
+
+pub added_more : {Op Reply : Type 0} (submitted seen room now : List (Submission Op)) (answers : List (Answer Reply)) (after : ℕ) (c : Command Op) (added : Option (Submission Op)) → seen ≡ submitted → after ≡ length answers → added ≡ cond (is_submitted c.key seen) None (Some (record { command = c; after = after })) → room ≡ submitted → now ≡ room ++ option_to_list added → now ≡ submitted ++ option_to_list (cond (is_submitted c.key submitted) None (Some (record { command = c; after = length answers })))
+added_more submitted seen room now answers after c added same count new kept more =
+    more ∙ (λ i. kept i ++ option_to_list (new i)) ∙ (λ i. submitted ++ option_to_list (cond (is_submitted c.key (same i)) None (Some (record { command = c; after = count i }))))
+
+pub own_in_view : {Op Reply : Type 0} (v w : World Op Reply) → v ≡ w → (c : Command Op) → IsItsOwn c w.happenings.submitted → IsItsOwn c v.happenings.submitted
+own_in_view v w is c own = subst (λ y. IsItsOwn c y.happenings.submitted) (sym is) own
+
+module _ (laws : BallotLaws) {O Op Reply : Type 0} (rules : Rules O Op Reply) where
+  -- what is chosen before an event is chosen after it
+  pub stays_chosen : (v w : World Op Reply) → v ≡ w → IsWorld rules v → (e : Event Op) (u : World Op Reply) → Step rules w e u → StaysChosen w.cluster u.cluster
+  stays_chosen v w is i e u s t c h =
+      chosen_stays w.cluster u.cluster (step_sound laws rules w e u (reachable_sound laws rules w (subst (IsReachable rules) is i.reachable)) s).grows t c h
+
+  pub sound_now : (v w : World Op Reply) → v ≡ w → IsWorld rules v → IsSound w.cluster
+  sound_now v w is i = reachable_sound laws rules w (subst (IsReachable rules) is i.reachable)
+
+-- an event that keeps the acts submits a key with its own act
+pub own_event : {Op : Type 0} (same : Op → Op → Bool) → ((x y : Op) → same x y ≡ true → x ≡ y) → (submitted : List (Submission Op)) (e : Event Op) (n : ℕ) (c : Command Op) → e ≡ events.Submit n c → keeps_acts same submitted e ≡ true → IsItsOwn c submitted
+own_event same exact submitted e n c is keeps = its_own same exact submitted c (is_false (has_other_act same submitted c) (ap (keeps_acts same submitted) (sym is) ∙ keeps))
+  where
+    is_false : (b : Bool) → not b ≡ true → b ≡ false
+    is_false true h = absurd (true≢false (sym h))
+    is_false false h = refl

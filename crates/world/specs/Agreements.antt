@@ -31,3 +31,7 @@ ChoosesOne {C} k = (s : ℕ) (c d : C) → IsChosen k s c → IsChosen k s d →
 -- every Decision names a chosen command
 abbrev pub DecidesChosen : {C : Type 0} → Cluster C → Type 0
 DecidesChosen {C} k = (l : Letter C) (s : ℕ) (c : C) → In l k.letters → l.body ≡ Decision s c → IsChosen k s c
+
+-- what is chosen stays chosen
+abbrev pub StaysChosen : {C : Type 0} → Cluster C → Cluster C → Type 0
+StaysChosen {C} old new = (s : ℕ) (c : C) → IsChosen old s c → IsChosen new s c

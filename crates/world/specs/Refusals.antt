@@ -1,5 +1,5 @@
 -- Which events a world refuses, and why. Of several reasons the first in this order is told.
-use Rattle.std.specs.Prelude.{◌≡◌, ℕ, ◌<◌, ◌^◌, Bool, true, not, ◌&&◌, nat_lt, nat_le, List, length, Option, None, Some, if◌then◌else◌}
+use Rattle.std.specs.Prelude.{◌≡◌, ◌⊎◌, ℕ, ◌<◌, ◌^◌, Bool, true, not, ◌&&◌, nat_lt, nat_le, List, length, slice_get, Option, None, Some, if◌then◌else◌}
 use Rattle.std.specs.List.{list_any}
 use Rattle.object.specs.declared.command.Command.{Command}
 use Rattle.object.specs.declared.command.Submission.{Submission}
@@ -8,7 +8,7 @@ use Rattle.ballot.specs.Members.{is_member}
 use Rattle.world.specs.declared.event.Event.{Event}
 use Rattle.world.specs.declared.event.Event.TheVariants.{Submit, Deliver, Wake, Nudge, Propose, Perform, Restart}
 use Rattle.world.specs.declared.error.WorldError.{WorldError}
-use Rattle.world.specs.declared.error.WorldError.TheVariants.{NoSuchNode, NoSuchLetter, BadNumber, Full}
+use Rattle.world.specs.declared.error.WorldError.TheVariants.{OutOfMemory, NoSuchNode, NoSuchLetter, BadNumber, Full}
 use Rattle.world.specs.Objects.{Rules}
 use Rattle.world.specs.Worlds.{World, same_key}
 
@@ -64,3 +64,8 @@ pub record IsAllowed {Op Reply : Type 0} (same : Op → Op → Bool) (w : World 
   pub sent : is_sent (length w.cluster.letters) e ≡ true
   pub acts : keeps_acts same w.happenings.submitted e ≡ true
   pub room : w.taken < most_events
+
+-- the event of this place is refused by this world for this reason, or memory was
+abbrev pub IsRefused : {Op Reply : Type 0} → (Op → Op → Bool) → World Op Reply → List (Event Op) → ℕ → WorldError → Type 0
+IsRefused {Op} same w events place reason =
+    (reason ≡ OutOfMemory) ⊎ ((e : Event Op) × (slice_get events place ≡ Some e) × (refusal same w e ≡ Some reason))

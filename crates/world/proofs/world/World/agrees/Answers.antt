@@ -1,0 +1,16 @@
+use Rattle.world.specs.Objects.{rules_of}
+use Rattle.world.proofs.Events.{sound_now}
+use Rattle.world.proofs.Invariants.{one_command, keeps_chosen, agree, decides_chosen}
+use Rattle.world.proofs.world.World.agrees.Goals as goal
+
+pub returns-clause-one_command : goal.returns-clause-one_command
+returns-clause-one_command g c = one_command c.ballot_laws.ensures c.args.self.now.cluster (sound_now c.ballot_laws.ensures (rules_of g.O.Object.fresh g.O.Object.after g.O.Object.answers g.O.Op.PartialEq.eq) _ _ c.self.view_is c.self.invariant)
+
+pub returns-clause-keeps_chosen : goal.returns-clause-keeps_chosen
+returns-clause-keeps_chosen g c = keeps_chosen c.ballot_laws.ensures c.args.self.now.cluster (sound_now c.ballot_laws.ensures (rules_of g.O.Object.fresh g.O.Object.after g.O.Object.answers g.O.Op.PartialEq.eq) _ _ c.self.view_is c.self.invariant)
+
+pub returns-clause-chooses_one : goal.returns-clause-chooses_one
+returns-clause-chooses_one g c = agree c.ballot_laws.ensures c.args.self.now.cluster (sound_now c.ballot_laws.ensures (rules_of g.O.Object.fresh g.O.Object.after g.O.Object.answers g.O.Op.PartialEq.eq) _ _ c.self.view_is c.self.invariant)
+
+pub returns-clause-decides_chosen : goal.returns-clause-decides_chosen
+returns-clause-decides_chosen g c = decides_chosen c.ballot_laws.ensures c.args.self.now.cluster (sound_now c.ballot_laws.ensures (rules_of g.O.Object.fresh g.O.Object.after g.O.Object.answers g.O.Op.PartialEq.eq) _ _ c.self.view_is c.self.invariant)

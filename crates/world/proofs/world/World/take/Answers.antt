@@ -1,0 +1,10 @@
+use Rattle.std.proofs.Common.{sym, ◌∙◌}
+use Rattle.world.specs.Objects.{rules_of}
+use Rattle.world.proofs.Events.{allowed, stays_chosen}
+use Rattle.world.proofs.world.World.take.Goals as goal
+
+pub obey-requires : goal.obey-requires
+obey-requires g c = allowed g.O.Op.PartialEq.eq c.args.self.now c.args.event (sym c.refusal.ensures ∙ c.in-None.is)
+
+pub returns-in_ok-obey-in-None-clause-stays : goal.returns-in_ok-obey-in-None-clause-stays
+returns-in_ok-obey-in-None-clause-stays g c = stays_chosen c.ballot_laws.ensures (rules_of g.O.Object.fresh g.O.Object.after g.O.Object.answers g.O.Op.PartialEq.eq) _ _ c.self.view_is c.self.invariant c.args.event _ c.in_ok-obey-in-None.ensures.ok
