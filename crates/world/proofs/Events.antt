@@ -1,12 +1,12 @@
 -- One event of a world, from what was done to its parts.
-use Rattle.std.proofs.Common.{◌≡◌, ◌⊎◌, inl, inr, ℕ, zero, suc, ◌+◌, ◌<◌, ◌≤◌, ◌^◌, max, Bool, true, false, true≢false, cond, not, ◌&&◌, ◌||◌, List, [], ◌∷◌, ◌++◌, length, Some, None, Option, refl, sym, ap, ◌∙◌, subst, arith}
-use Rattle.std.specs.Prelude.{slice_get, nat_lt, nat_le, is_some, T}
+use Rattle.std.proofs.Common.{◌≡◌, ◌⊎◌, inl, inr, ℕ, zero, suc, ◌+◌, ◌<◌, ◌^◌, max, Bool, true, false, true≢false, cond, not, ◌&&◌, ◌||◌, List, [], ◌∷◌, ◌++◌, length, take, Some, None, Option, refl, sym, ap, ◌∙◌, subst, arith}
+use Rattle.std.specs.Prelude.{slice_get, slice_index_or, nat_le}
 use Rattle.std.specs.List.{list_any}
 use Rattle.std.specs.Option.{option_to_list, option_map}
 use Rattle.std.specs.FinMap.{get}
 use Rattle.std.proofs.lemmas.Bool.Decides.{nat_tests}
-use Rattle.std.proofs.lemmas.List.{append-nil}
-use Rattle.object.specs.Lists.{In}
+use Rattle.std.proofs.lemmas.List.{append-nil, take_more}
+use Rattle.std.proofs.lemmas.Option.{slice_get-get_or}
 use Rattle.object.specs.declared.command.Act.{Act}
 use Rattle.object.specs.declared.command.Act.TheVariants.{Do, Close, Tick}
 use Rattle.object.specs.declared.command.Answer.{Answer}
@@ -21,22 +21,23 @@ use Rattle.ballot.specs.declared.letter.Letter.{Letter}
 use Rattle.slot_log.specs.Requests.{requested}
 use Rattle.slot_log.specs.Advances.{advanced}
 use Rattle.slot_log.specs.Decisions.{next_decided}
-use Rattle.slot_log.specs.Books.{SlotBook}
 use Rattle.world.specs.declared.event.Event.{Event}
 use Rattle.world.specs.declared.event.Event.TheVariants as events
-use Rattle.world.specs.declared.error.WorldError.TheVariants as WorldError
+use Rattle.world.specs.declared.error.WorldError.{WorldError}
+use Rattle.world.specs.declared.error.WorldError.TheVariants as reasons
 use Rattle.world.specs.Objects.{Rules, is_one}
 use Rattle.world.specs.Histories.{history, answers_after}
-use Rattle.world.specs.Nodes.{NodeState, Cluster, node, turned}
-use Rattle.world.specs.Worlds.{World, Happenings, opening, same_key, is_submitted, with_submission}
-use Rattle.world.specs.Steps.{Step, IsItsOwn, Receives, replica_turn, performed, counted, with_cluster, submit, deliver, perform}
-use Rattle.world.specs.Runs.{IsReachable}
-use Rattle.world.specs.Refusals.{IsAllowed, has_other_act, is_at_member, is_sent, keeps_acts, most_events, refusal}
-use Rattle.world.specs.Kept.{IsSeated, IsFit, HasNode, Delivered, IsWorld}
+use Rattle.world.specs.Nodes.{Cluster, node, turned}
+use Rattle.world.specs.Worlds.{World, Happenings, opening, same_key, is_submitted}
+use Rattle.world.specs.Steps.{Step, IsItsOwn, replica_turn, performed, counted, with_cluster, submit, deliver, perform}
+use Rattle.world.specs.Runs.{Leads, IsReachable}
+use Rattle.world.specs.Runs as Runs
+use Rattle.world.specs.Refusals.{IsAllowed, has_other_act, is_at_member, is_sent, keeps_acts, most_events, refusal, IsRefused}
+use Rattle.world.specs.Kept.{IsFit, HasNode, Delivered, IsWorld}
 use Rattle.world.proofs.Lists.{Each-at, In-get}
 use Rattle.world.proofs.Orders.{BallotLaws}
 use Rattle.world.proofs.Invariants.{IsFair, IsTrueOf, IsSound, agree}
-use Rattle.world.proofs.Bounds.{BodyWithin, IsWithin, reachable_within}
+use Rattle.world.proofs.Bounds.{BodyWithin, reachable_within}
 use Rattle.world.specs.Agreements.{StaysChosen}
 use Rattle.world.proofs.Grows.{chosen_stays}
 use Rattle.world.proofs.Reach.{reachable_sound, step_sound, one_more, opening_reachable}
@@ -212,10 +213,10 @@ none_if false x o h = (refl, h)
 pub allowed : {Op Reply : Type 0} (same : Op → Op → Bool) (w : World Op Reply) (e : Event Op) → refusal same w e ≡ None → IsAllowed same w e
 unfolding refusal
 allowed same w e h =
-    let a = none_if (not (is_at_member w.cluster.members e)) WorldError.NoSuchNode _ h in
-    let b = none_if (not (is_sent (length w.cluster.letters) e)) WorldError.NoSuchLetter _ a.1 in
-    let c = none_if (not (keeps_acts same w.happenings.submitted e)) WorldError.BadNumber _ b.1 in
-    let d = none_if (nat_le most_events w.taken) WorldError.Full None c.1 in
+    let a = none_if (not (is_at_member w.cluster.members e)) reasons.NoSuchNode _ h in
+    let b = none_if (not (is_sent (length w.cluster.letters) e)) reasons.NoSuchLetter _ a.1 in
+    let c = none_if (not (keeps_acts same w.happenings.submitted e)) reasons.BadNumber _ b.1 in
+    let d = none_if (nat_le most_events w.taken) reasons.Full None c.1 in
     let full = d.0 in
     record {
       member = not_not (is_at_member w.cluster.members e) a.0;
@@ -247,3 +248,14 @@ own_event same exact submitted e n c is keeps = its_own same exact submitted c (
     is_false : (b : Bool) → not b ≡ true → b ≡ false
     is_false true h = absurd (true≢false (sym h))
     is_false false h = refl
+
+-- a run by one event more
+pub run_more : {O Op Reply : Type 0} (rules : Rules O Op Reply) (w v u : World Op Reply) (es : List (Event Op)) (j : ℕ) (e : Event Op) → j < length es → e ≡ slice_index_or es j e → Leads rules w (take j es) v → Step rules v e u → Leads rules w (take (j + 1) es) u
+run_more rules w v u es j e within at l s =
+    subst (λ t. Leads rules w t u) (sym (take_more es j e within ∙ ap (λ x. take j es ++ (x ∷ [])) (sym at))) (Runs.after e u l s)
+
+-- an event of a run that is refused
+pub refused_at : {Op Reply : Type 0} (same : Op → Op → Bool) (old new : World Op Reply) (es : List (Event Op)) (j : ℕ) (e : Event Op) (reason : WorldError) → j < length es → e ≡ slice_index_or es j e → new ≡ old → (reason ≡ reasons.OutOfMemory) ⊎ (refusal same old e ≡ Some reason) → IsRefused same new es j reason
+refused_at same old new es j e reason within at kept (inl memory) = inl memory
+refused_at same old new es j e reason within at kept (inr cause) =
+    inr (e, slice_get-get_or es j e within ∙ ap (λ x. Some x) (sym at), ap (λ w. refusal same w e) kept ∙ cause)

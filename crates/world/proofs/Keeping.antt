@@ -1,7 +1,7 @@
 -- A node keeps what its world knows of it.
-use Rattle.std.proofs.Common.{◌≡◌, ◌≢◌, ◌⊎◌, inl, inr, ⊎_elim, ℕ, suc, zero, ◌+◌, ◌-◌, ◌<◌, ◌≤◌, Bool, true, false, cond, List, [], ◌∷◌, ◌++◌, Some, None, Option, refl, sym, ap, ap₂, ◌∙◌, subst, arith, append_assoc}
+use Rattle.std.proofs.Common.{◌≡◌, ◌≢◌, ⊎_elim, ℕ, suc, zero, ◌+◌, ◌-◌, ◌<◌, ◌≤◌, Bool, true, false, cond, List, [], ◌∷◌, ◌++◌, Some, None, Option, refl, sym, ap, ap₂, ◌∙◌, subst, arith, append_assoc}
 use Rattle.std.specs.Prelude.{IsSome}
-use Rattle.std.specs.List.{range_with_len, flat_map, fold}
+use Rattle.std.specs.List.{range_with_len, flat_map}
 use Rattle.std.specs.Option.{option_to_list}
 use Rattle.std.specs.FinMap.{get, insert, empty}
 use Rattle.std.proofs.lemmas.Bool.{cases_eq}
@@ -10,7 +10,7 @@ use Rattle.std.proofs.lemmas.List.Sums.{fold-append}
 use Rattle.object.specs.Lists.{In}
 use Rattle.object.specs.declared.command.Command.{Command}
 use Rattle.object.specs.OnceOnly.{Filtered, filtered, filtered_answers}
-use Rattle.ballot.specs.Ballots.{Numbers, is_below, is_promise, higher}
+use Rattle.ballot.specs.Ballots.{Numbers, is_promise, higher}
 use Rattle.ballot.specs.declared.pvalue.Pvalue.{Pvalue}
 use Rattle.acceptor.specs.Acceptors.{Acceptances, Keeps, new_acceptor, after_p1a, after_p2a}
 use Rattle.acceptor.specs.Reports.{IsReport}

@@ -1,5 +1,5 @@
 -- The order of ballots, from what the crate `ballot` promises.
-use Rattle.std.proofs.Common.{◌≡◌, ◌⊎◌, ⊎_elim, ◌≤◌, ℕ, List, Option, None, Some, true, false, true≢false, Bool, refl, sym, ◌∙◌, subst, arith}
+use Rattle.std.proofs.Common.{◌≡◌, ◌⊎◌, ⊎_elim, ◌≤◌, Option, None, Some, true, false, true≢false, Bool, refl, sym, ◌∙◌, subst, arith}
 use Rattle.std.proofs.lemmas.Bool.Decides.{nat_tests}
 use Rattle.ballot.specs.Ballots.{Numbers, is_below, is_same}
 pub use Rattle.world.specs.Laws.{BallotLaws}

@@ -1,8 +1,7 @@
 -- What a node received, from what its parts did.
-use Rattle.std.proofs.Common.{◌≡◌, ℕ, Bool, true, false, cond, List, [], ◌∷◌, ◌++◌, map, Some, Option, IsSome, refl, sym, ap, ◌∙◌, subst}
+use Rattle.std.proofs.Common.{◌≡◌, ℕ, List, [], ◌∷◌, ◌++◌, map, Some, Option, sym, ap, ◌∙◌, subst}
 use Rattle.std.proofs.lemmas.List.{append-nil}
-use Rattle.object.specs.declared.command.Command.{Command}
-use Rattle.ballot.specs.Ballots.{Numbers, higher, is_promise}
+use Rattle.ballot.specs.Ballots.{Numbers, higher}
 use Rattle.ballot.specs.Letters.{letter, all_to_all}
 use Rattle.ballot.specs.declared.pvalue.Pvalue.{Pvalue}
 use Rattle.ballot.specs.declared.letter.Body.{Body}
@@ -11,7 +10,6 @@ use Rattle.ballot.specs.declared.letter.Letter.{Letter}
 use Rattle.acceptor.specs.Acceptors.{Acceptances, Keeps, after_p1a, after_p2a}
 use Rattle.acceptor.specs.Reports.{IsReport}
 use Rattle.leader.specs.Leaders.{Leading, Done, Sends, proposed}
-use Rattle.leader.specs.Slots.{Slots}
 use Rattle.leader.specs.Promises.{MayTake}
 use Rattle.leader.specs.Promises as promises
 use Rattle.leader.specs.Votes as votes
@@ -22,7 +20,7 @@ use Rattle.world.specs.Nodes.{NodeState}
 use Rattle.world.specs.Steps.{led, Receives, promises_ballot, accepts_pvalue, hears_promise, hears_vote, hears_proposal, learns, tells_decisions}
 use Rattle.world.specs.Kept.{IsSeated, Received}
 use Rattle.world.proofs.Orders.{BallotLaws}
-use Rattle.world.proofs.Keeping.{keeps_p2a, reports}
+use Rattle.world.proofs.Keeping.{reports}
 
 module _ {C : Type 0} (members : List ℕ) (m n : ℕ) (v x : NodeState C) (is : v ≡ x) where
   pub received_p1a : (laws : BallotLaws) (a z : Acceptances C) (b promised : Numbers) (report : List (Pvalue C)) (before now : List (Letter C)) → Keeps v.acceptor a → z ≡ after_p1a a b → promised ≡ higher a.promised b → IsReport a.accepted report → now ≡ before ++ (letter n (P1b promised report) m ∷ []) → Received members m n x (P1a b) (record v { acceptor = record { promised = z.promised; accepted = v.acceptor.accepted } }) before now

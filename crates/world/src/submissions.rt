@@ -15,15 +15,10 @@ pub(crate) fn is_submitted<Op: Value>(submitted: &[Submission<Op>], key: Key) ->
 }
 
 /// Whether the command's key was submitted with another act.
-pub(crate) fn has_other_act<Op: Value>(
-    submitted: &[Submission<Op>],
-    command: &Command<Op>,
-) -> bool
+pub(crate) fn has_other_act<Op: Value>(submitted: &[Submission<Op>], command: &Command<Op>) -> bool
     ensures { result ≡ has_other_act Op.eq submitted.now command.now }
 {
-    submitted
-        .iter()
-        .any(|s| is_other_act(&s.command, command))
+    submitted.iter().any(|s| is_other_act(&s.command, command))
 }
 
 // Whether two commands of one key have different acts.

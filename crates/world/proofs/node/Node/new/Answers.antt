@@ -1,4 +1,3 @@
-use Rattle.std.proofs.Common.{refl}
 use Rattle.world.proofs.Keeping.{keeps_new, kept_new}
 use Rattle.world.proofs.node.Node.new.Goals as goal
 

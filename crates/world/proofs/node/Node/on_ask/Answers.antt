@@ -1,4 +1,4 @@
-use Rattle.std.proofs.Common.{rules, ◌∙◌, ap, sym, ◌++◌, map}
+use Rattle.std.proofs.Common.{◌∙◌, ap, ◌++◌, map}
 use Rattle.ballot.specs.Letters.{letter}
 use Rattle.world.proofs.Received.{received_ask}
 use Rattle.world.proofs.node.Node.on_ask.Goals as goal

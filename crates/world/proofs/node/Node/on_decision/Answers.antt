@@ -1,4 +1,4 @@
-use Rattle.std.proofs.Common.{refl, ap, sym}
+use Rattle.std.proofs.Common.{refl, ap}
 use Rattle.world.specs.Objects.{rules_of}
 use Rattle.world.proofs.Keeping.{kept_learns}
 use Rattle.world.proofs.Received.{received_decision}

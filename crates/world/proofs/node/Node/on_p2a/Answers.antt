@@ -1,4 +1,4 @@
-use Rattle.std.proofs.Common.{rules, ap, sym}
+use Rattle.std.proofs.Common.{rules}
 use Rattle.world.specs.Objects.{rules_of}
 use Rattle.world.proofs.Keeping.{kept_accepted}
 use Rattle.world.proofs.Received.{received_p2a}

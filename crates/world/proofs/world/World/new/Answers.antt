@@ -1,4 +1,3 @@
-use Rattle.std.proofs.Common.{rules}
 use Rattle.world.specs.Objects.{rules_of}
 use Rattle.world.proofs.Events.{new_world}
 use Rattle.world.proofs.world.World.new.Goals as goal

@@ -1,0 +1,16 @@
+use Rattle.world.specs.Objects.{rules_of}
+use Rattle.world.specs.Runs.{at_once}
+use Rattle.world.proofs.Events.{run_more, refused_at}
+use Rattle.world.proofs.world.World.take_all.Goals as goal
+
+pub loop-index-init : goal.loop-index-init
+loop-index-init g c = record { led = at_once; stays = λ s x h. h }
+
+pub returns-in-Err-clause-refused : goal.returns-in-Err-clause-refused
+returns-in-Err-clause-refused g c = refused_at g.O.Op.PartialEq.eq c.loop-index.self c.take_copy.new.self c.args.events.now c.loop-index.index c.index-events-index.result c.in-Err.refused c.loop-index-test.true c.index-events-index.is c.in-Err.ensures.err c.in-Err.ensures.refused
+
+pub loop-index-preserved : goal.loop-index-preserved
+loop-index-preserved g c = record {
+  led = run_more (rules_of g.O.Object.fresh g.O.Object.after g.O.Object.answers g.O.Op.PartialEq.eq) c.args.self.now c.loop-index.self c.take_copy.new.self c.args.events.now c.loop-index.index c.index-events-index.result c.loop-index-test.true c.index-events-index.is c.loop-index.invariant.led c.in_default.ensures.ok;
+  stays = λ s x h. c.in_default.ensures.stays s x (c.loop-index.invariant.stays s x h);
+}
