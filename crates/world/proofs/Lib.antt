@@ -14,3 +14,4 @@ pub mod Bounds
 pub mod Keeping
 pub mod Replays
 pub mod Histories
+pub mod Growing

@@ -7,3 +7,4 @@ pub mod Kept
 pub mod Runs
 pub mod Chosen
 pub mod Agreements
+pub mod Legal
