@@ -15,3 +15,4 @@ pub mod Keeping
 pub mod Replays
 pub mod Histories
 pub mod Growing
+pub mod Deciding
