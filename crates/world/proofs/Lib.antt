@@ -16,3 +16,5 @@ pub mod Replays
 pub mod Histories
 pub mod Growing
 pub mod Deciding
+pub mod Origins
+pub mod Submitted
