@@ -18,3 +18,4 @@ pub mod Growing
 pub mod Deciding
 pub mod Origins
 pub mod Submitted
+pub mod Rising
