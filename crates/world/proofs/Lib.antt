@@ -19,3 +19,4 @@ pub mod Deciding
 pub mod Origins
 pub mod Submitted
 pub mod Rising
+pub mod Performed
