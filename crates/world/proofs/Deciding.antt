@@ -49,7 +49,7 @@ majority_more ws a b h e = let le = weigh_more ws a b h in more (majority ws) (w
     more m x y le e = grind (arith, nat_tests)
 
 -- something passes the test
-any_from : {A : Type 0} (test : A → Bool) (x : A) (xs : List A) → In x xs → test x ≡ true → list_any test xs ≡ true
+pub any_from : {A : Type 0} (test : A → Bool) (x : A) (xs : List A) → In x xs → test x ≡ true → list_any test xs ≡ true
 any_from test x [] i e = absurd i
 any_from test x (y ∷ ys) (inl same) e = ap (λ b. b || list_any test ys) (ap test (sym same) ∙ e)
 any_from test x (y ∷ ys) (inr i) e = at (test y) (any_from test x ys i e)

@@ -20,3 +20,4 @@ pub mod Origins
 pub mod Submitted
 pub mod Rising
 pub mod Performed
+pub mod Answered
