@@ -21,3 +21,4 @@ pub mod Submitted
 pub mod Rising
 pub mod Performed
 pub mod Answered
+pub mod Legal
