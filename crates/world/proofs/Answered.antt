@@ -10,6 +10,7 @@ use Rattle.slot_log.specs.Decisions.{next_decided}
 use Rattle.world.specs.declared.event.Event.{Event}
 use Rattle.world.specs.Objects.{Rules}
 use Rattle.world.specs.Histories.{history, answers_after}
+use Rattle.world.specs.Kept.{IsPerformed}
 use Rattle.world.specs.Nodes.{Cluster, node}
 use Rattle.world.specs.Worlds.{World, same_key, is_submitted, with_submission, opening}
 use Rattle.world.specs.Steps.{Step, submit, deliver, wake, nudge, propose, perform, restart, performed, with_cluster, counted}
@@ -23,7 +24,7 @@ use Rattle.world.proofs.Grows.{Grows}
 use Rattle.world.proofs.Reach.{opened_at, opening_sound, leads_sound, step_sound}
 use Rattle.world.proofs.Deciding.{any_from}
 use Rattle.world.proofs.Submitted.{key_itself, chosen_submitted}
-use Rattle.world.proofs.Performed.{IsRun, run_stays, run_push, run_chosen, IsFull, AllFull, history_run, step_full}
+use Rattle.world.proofs.Performed.{IsRun, run_stays, run_push, run_chosen, AllPerformed, history_run, step_full}
 
 -- the answer came when this command was performed after those, which are chosen in the slots from 1 on
 pub record IsGiven {O Op Reply : Type 0} (rules : Rules O Op Reply) (k : Cluster (Command Op)) (bound : ℕ) (a : Answer Reply) : Type 0 where
@@ -44,7 +45,7 @@ pub record IsPast {O Op Reply : Type 0} (rules : Rules O Op Reply) (k : Cluster 
 
 -- what holds in each reachable world; the slots up to the reach are all chosen
 pub record IsTold {O Op Reply : Type 0} (rules : Rules O Op Reply) (w : World Op Reply) : Type 0 where
-  pub full : AllFull w.cluster
+  pub full : AllPerformed w.cluster
   pub reached : List (Command Op)
   pub chosen : IsRun w.cluster 1 reached
   pub reach : length reached ≡ w.reach
@@ -75,7 +76,7 @@ module _ {O Op Reply : Type 0} (rules : Rules O Op Reply) (k z : Cluster (Comman
 
 module _ {O Op Reply : Type 0} (rules : Rules O Op Reply) (v : World Op Reply) (told : IsTold rules v) where
   -- nothing happens that a client sees
-  quiet_told : (z : Cluster (Command Op)) → Grows v.cluster z → AllFull z → IsTold rules (counted (with_cluster v z))
+  quiet_told : (z : Cluster (Command Op)) → Grows v.cluster z → AllPerformed z → IsTold rules (counted (with_cluster v z))
   quiet_told z g full = record {
     full = full;
     reached = told.reached;
@@ -102,7 +103,7 @@ module _ {O Op Reply : Type 0} (rules : Rules O Op Reply) (v : World Op Reply) (
     given = λ a i. given_stays rules v.cluster z g v.reach (length told.reached) (let e = told.reach in omega arith) a (told.given a (subst (In a) (take_all (length v.happenings.answers) v.happenings.answers (omega arith)) i));
   }
 
-  submits_told : ((s : ℕ) (d : Command Op) → IsChosen v.cluster s d → WasSubmitted d v.happenings.submitted) → (z : Cluster (Command Op)) → Grows v.cluster z → AllFull z → (c : Command Op) → IsTold rules (counted (record v { cluster = z; happenings = with_submission c v.happenings }))
+  submits_told : ((s : ℕ) (d : Command Op) → IsChosen v.cluster s d → WasSubmitted d v.happenings.submitted) → (z : Cluster (Command Op)) → Grows v.cluster z → AllPerformed z → (c : Command Op) → IsTold rules (counted (record v { cluster = z; happenings = with_submission c v.happenings }))
   submits_told submitted z g full c = at (is_submitted c.key v.happenings.submitted) refl
     where
       new : Submission Op
@@ -145,7 +146,7 @@ module _ {O Op Reply : Type 0} (rules : Rules O Op Reply) (v : World Op Reply) (
         (λ (l : (node v.cluster n).replica.slot_out ≤ v.reach). (told.reached, told.chosen, let e = told.reach in omega arith))
         (cases_lt v.reach (node v.cluster n).replica.slot_out)
 
-  performs_told : IsSound v.cluster → (n : ℕ) → (o : Option (Command Op)) → next_decided (node v.cluster n).replica ≡ o → Grows v.cluster (performed rules v n (node v.cluster n).replica o).cluster → AllFull (performed rules v n (node v.cluster n).replica o).cluster → IsTold rules (counted (performed rules v n (node v.cluster n).replica o))
+  performs_told : IsSound v.cluster → (n : ℕ) → (o : Option (Command Op)) → next_decided (node v.cluster n).replica ≡ o → Grows v.cluster (performed rules v n (node v.cluster n).replica o).cluster → AllPerformed (performed rules v n (node v.cluster n).replica o).cluster → IsTold rules (counted (performed rules v n (node v.cluster n).replica o))
   performs_told i n None e g full = quiet_told v.cluster g full
   performs_told i n (Some c) e g full = record {
     full = full;
@@ -169,7 +170,7 @@ module _ {O Op Reply : Type 0} (rules : Rules O Op Reply) (v : World Op Reply) (
       now = answers_after rules (history (node v.cluster n).replica) c
 
 module _ (laws : BallotLaws) {O Op Reply : Type 0} (rules : Rules O Op Reply) where
-  step_told : (v : World Op Reply) (e : Event Op) (u : World Op Reply) → IsSound v.cluster → ((s : ℕ) (d : Command Op) → IsChosen v.cluster s d → WasSubmitted d v.happenings.submitted) → Grows v.cluster u.cluster → AllFull u.cluster → IsTold rules v → Step rules v e u → IsTold rules u
+  step_told : (v : World Op Reply) (e : Event Op) (u : World Op Reply) → IsSound v.cluster → ((s : ℕ) (d : Command Op) → IsChosen v.cluster s d → WasSubmitted d v.happenings.submitted) → Grows v.cluster u.cluster → AllPerformed u.cluster → IsTold rules v → Step rules v e u → IsTold rules u
   step_told v e u i submitted g full told (submit n c member own) = submits_told rules v told submitted _ g full c
   step_told v e u i submitted g full told (deliver j l x out at receives) = quiet_told rules v told _ g full
   step_told v e u i submitted g full told (wake n member) = quiet_told rules v told _ g full
@@ -180,7 +181,7 @@ module _ (laws : BallotLaws) {O Op Reply : Type 0} (rules : Rules O Op Reply) wh
 
   opening_told : (members : List ℕ) → IsTold rules (opening members)
   opening_told members = record {
-    full = λ m. subst (λ x. IsFull x.replica) (sym (opened_at members m)) (record { above = omega arith; known = λ s low high. absurd (omega arith) });
+    full = λ m. subst (λ x. IsPerformed x.replica) (sym (opened_at members m)) (record { first = omega arith; known = λ s low high. absurd (omega arith) });
     reached = [];
     chosen = tt;
     reach = refl;

@@ -3,7 +3,7 @@ use Rattle.std.proofs.Common.{◌≡◌, ℕ, ◌+◌, ◌≤◌, Bool, true, fa
 use Rattle.object.specs.Lists.{In}
 use Rattle.object.specs.declared.command.Command.{Command}
 use Rattle.object.specs.declared.command.Submission.{Submission}
-use Rattle.object.specs.Replays.{is_new, kept_after, kept}
+use Rattle.object.specs.Replays.{kept_after, kept}
 use Rattle.slot_log.specs.Decisions.{next_decided}
 use Rattle.world.specs.declared.event.Event.{Event}
 use Rattle.world.specs.Objects.{Rules}
@@ -20,15 +20,7 @@ use Rattle.world.proofs.Invariants.{IsSound, agree}
 use Rattle.world.proofs.Grows.{Grows, chosen_stays}
 use Rattle.world.proofs.Turns.{Kept}
 use Rattle.world.proofs.Reach.{leads_sound, reachable_sound}
-use Rattle.world.proofs.Replays.{seen_by}
-
-kept_more : {A : Type 0} (test : Bool) (d : A) (more ks all : List A) → all ≡ ks ++ more → cond test (d ∷ all) all ≡ cond test (d ∷ ks) ks ++ more
-kept_more true d more ks all e = ap (λ xs. d ∷ xs) e
-kept_more false d more ks all e = e
-
-kept_after-append : {Op : Type 0} (seen xs ys : List (Command Op)) → kept_after seen (xs ++ ys) ≡ kept_after seen xs ++ kept_after (seen_by seen xs) ys
-kept_after-append seen [] ys = refl
-kept_after-append seen (x ∷ xs) ys = kept_more (is_new x seen) x (kept_after (seen_by (x ∷ seen) xs) ys) (kept_after (x ∷ seen) xs) (kept_after (x ∷ seen) (xs ++ ys)) (kept_after-append (x ∷ seen) xs ys)
+use Rattle.world.proofs.Replays.{seen_by, kept_after-append}
 
 -- what is kept of a beginning is a beginning of what is kept
 pub kept_beginning : {Op : Type 0} (xs ys : List (Command Op)) → IsBeginning xs ys → IsBeginning (kept xs) (kept ys)

@@ -23,7 +23,8 @@ use Rattle.world.proofs.Replays.{noted_at, answers_in, kept-push_new, replay-app
 use Rattle.world.proofs.Histories.{answers_new, answers_old}
 use Rattle.world.proofs.Growing.{kept_beginning}
 use Rattle.world.proofs.Submitted.{chosen_submitted}
-use Rattle.world.proofs.Rising.{ObjectLaws, In-kept, kept_rises, replay_once, one_answer}
+use Rattle.world.proofs.Rising.{In-kept, kept_rises}
+use Rattle.world.proofs.Once.{ObjectLaws, replay_once, one_answer}
 use Rattle.world.proofs.Performed.{run_chosen, run_from, run_of_all, run_within}
 use Rattle.world.proofs.Answered.{IsGiven, IsPast, IsTold, reachable_told}
 

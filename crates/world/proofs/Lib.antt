@@ -19,6 +19,7 @@ pub mod Deciding
 pub mod Origins
 pub mod Submitted
 pub mod Rising
+pub mod Once
 pub mod Performed
 pub mod Answered
 pub mod Legal

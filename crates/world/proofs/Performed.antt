@@ -1,6 +1,6 @@
 -- Commands that are chosen in slots one after the other, and that each replica performed such a list.
 use Rattle.std.proofs.Common.{◌≡◌, ◌≢◌, inl, inr, ⊎_elim, ℕ, zero, suc, ◌+◌, ◌-◌, ◌<◌, ◌≤◌, Bool, true, false, cond, List, [], ◌∷◌, ◌++◌, flat_map, option_to_list, length, Option, Some, None, refl, sym, ap, ap₂, ◌∙◌, subst, arith}
-use Rattle.std.specs.Prelude.{⊤}
+use Rattle.std.specs.Prelude.{⊤, IsSome}
 use Rattle.std.specs.List.{range_with_len}
 use Rattle.std.specs.FinMap.{get, insert}
 use Rattle.std.proofs.lemmas.Bool.{cases_eq}
@@ -20,6 +20,7 @@ use Rattle.slot_log.specs.Advances.{advanced}
 use Rattle.world.specs.declared.event.Event.{Event}
 use Rattle.world.specs.Objects.{Rules, is_one}
 use Rattle.world.specs.Histories.{history}
+use Rattle.world.specs.Kept.{IsPerformed}
 use Rattle.world.specs.Nodes.{NodeState, Cluster, node, turned}
 use Rattle.world.specs.Worlds.{World}
 use Rattle.world.specs.Steps.{Receives, promises_ballot, accepts_pvalue, hears_promise, hears_vote, hears_proposal, learns, tells_decisions, said_again, Step, submit, deliver, wake, nudge, propose, perform, restart, performed as performed_by}
@@ -72,10 +73,12 @@ module _ (laws : BallotLaws) {C : Type 0} (k : Cluster C) (i : IsSound k) where
       let p = run_of_all (s + 1) cs ds h.1 f.1 in
       (p.0, ap₂ (λ x xs. x ∷ xs) (agree laws k i s d c f.0 h.0) p.1)
 
--- a replica knows the decision of each slot before slot_out
-pub record IsFull {C : Type 0} (r : SlotBook C) : Type 0 where
-  pub above : 1 ≤ r.slot_out
-  pub known : (s : ℕ) → 1 ≤ s → s < r.slot_out → (c : C) × (get r.decisions s ≡ Some c)
+some_of : {C : Type 0} (o : Option C) → IsSome o → (c : C) × (o ≡ Some c)
+some_of None h = absurd (cc)
+some_of (Some c) h = (c, refl)
+
+is_there : {C : Type 0} (o : Option C) (c : C) → o ≡ Some c → IsSome o
+is_there o c e = subst IsSome (sym e) refl
 
 abbrev Listed : {C : Type 0} → Cluster C → ℕ → ℕ → List C → Type 0
 Listed k s n cs = IsRun k s cs × (length cs ≡ n)
@@ -90,47 +93,47 @@ listed k m s (suc n) h =
     listed_step k s n c.0 (get m s) (flat_map (λ t. option_to_list (get m t)) (range_with_len (s + 1) n)) c.1 c.2 (listed k m (s + 1) n (λ t low high. h t (omega arith) (omega arith)))
 
 -- what a replica performed is chosen, and there is a command for each slot
-pub history_run : {C : Type 0} (k : Cluster C) → IsSound k → (n : ℕ) → IsFull (node k n).replica → IsRun k 1 (history (node k n).replica) × (length (history (node k n).replica) + 1 ≡ (node k n).replica.slot_out)
+pub history_run : {C : Type 0} (k : Cluster C) → IsSound k → (n : ℕ) → IsPerformed (node k n).replica → IsRun k 1 (history (node k n).replica) × (length (history (node k n).replica) + 1 ≡ (node k n).replica.slot_out)
 history_run k i n full =
-    let h = listed k (node k n).replica.decisions 1 ((node k n).replica.slot_out - 1) (λ t low high. let a = full.above in let c = full.known t low (omega arith) in (c.0, c.1, (i.nodes n).decisions t c.0 c.1)) in
-    (h.0, let a = full.above in let e = h.1 in omega arith)
+    let h = listed k (node k n).replica.decisions 1 ((node k n).replica.slot_out - 1) (λ t low high. let a = full.first in let c = some_of (get (node k n).replica.decisions t) (full.known t low (omega arith)) in (c.0, c.1, (i.nodes n).decisions t c.0 c.1)) in
+    (h.0, let a = full.first in let e = h.1 in omega arith)
 
-same_full : {C : Type 0} (r z : SlotBook C) → r.slot_out ≡ z.slot_out → r.decisions ≡ z.decisions → IsFull r → IsFull z
+same_full : {C : Type 0} (r z : SlotBook C) → r.slot_out ≡ z.slot_out → r.decisions ≡ z.decisions → IsPerformed r → IsPerformed z
 same_full {C} r z e f h = record {
-  above = subst (λ n. 1 ≤ n) e h.above;
-  known = λ s low high. let c = h.known s low (subst (λ n. s < n) (sym e) high) in (c.0, ap (λ m. get m s) (sym f) ∙ c.1);
+  first = subst (λ n. 0 < n) e h.first;
+  known = λ s low high. subst (λ (m : Slots C). IsSome (get m s)) f (h.known s low (subst (λ n. s < n) (sym e) high));
 }
 
-requested_full : {C : Type 0} (same : C → C → Bool) (r : SlotBook C) (c : C) → IsFull r → IsFull (requested same r c)
+requested_full : {C : Type 0} (same : C → C → Bool) (r : SlotBook C) (c : C) → IsPerformed r → IsPerformed (requested same r c)
 requested_full same r c h = at (is_known same r c)
   where
-    at : (test : Bool) → IsFull (cond test r (record r { requests = r.requests ++ (c ∷ []) }))
+    at : (test : Bool) → IsPerformed (cond test r (record r { requests = r.requests ++ (c ∷ []) }))
     at true = h
     at false = same_full r (record r { requests = r.requests ++ (c ∷ []) }) refl refl h
 
-proposed_full : {C : Type 0} (r : SlotBook C) (o : Option (ℕ × C)) → IsFull r → IsFull (proposed r o)
+proposed_full : {C : Type 0} (r : SlotBook C) (o : Option (ℕ × C)) → IsPerformed r → IsPerformed (proposed r o)
 proposed_full r None h = h
 proposed_full r (Some p) h = same_full r (proposed r (Some p)) refl refl h
 
-learnt_full : {C : Type 0} (r : SlotBook C) (s : ℕ) (c : C) → IsFull r → IsFull (learnt r s c)
+learnt_full : {C : Type 0} (r : SlotBook C) (s : ℕ) (c : C) → IsPerformed r → IsPerformed (learnt r s c)
 learnt_full {C} r s c h = record {
-  above = h.above;
+  first = h.first;
   known = λ t low high. ⊎_elim
-      (λ (same : (t ≡ s) × (get (insert r.decisions s c) t ≡ Some c)). (c, same.1))
-      (λ (apart : (t ≢ s) × (get (insert r.decisions s c) t ≡ get r.decisions t)). let d = h.known t low high in (d.0, apart.1 ∙ d.1))
+      (λ (same : (t ≡ s) × (get (insert r.decisions s c) t ≡ Some c)). is_there (get (insert r.decisions s c) t) c same.1)
+      (λ (apart : (t ≢ s) × (get (insert r.decisions s c) t ≡ get r.decisions t)). subst IsSome (sym apart.1) (h.known t low high))
       (get_insert_cases r.decisions s c t);
 }
 
-advanced_full : {C : Type 0} (same : C → C → Bool) (r : SlotBook C) (c : C) → next_decided r ≡ Some c → IsFull r → IsFull (advanced same r)
+advanced_full : {C : Type 0} (same : C → C → Bool) (r : SlotBook C) (c : C) → next_decided r ≡ Some c → IsPerformed r → IsPerformed (advanced same r)
 advanced_full {C} same r c e h = record {
-  above = omega arith;
+  first = omega arith;
   known = λ t low high. ⊎_elim
-      (λ (last : t ≡ r.slot_out). (c, ap (λ s. get r.decisions s) last ∙ e))
+      (λ (last : t ≡ r.slot_out). is_there (get r.decisions t) c (ap (λ s. get r.decisions s) last ∙ e))
       (λ (n : t ≢ r.slot_out). h.known t low (omega arith))
       (cases_eq t r.slot_out);
 }
 
-receives_full : {C : Type 0} (members : List ℕ) (m n : ℕ) (x : NodeState C) (body : Body C) (z : NodeState C) (out : List (Letter C)) → Receives members m n x body z out → IsFull x.replica → IsFull z.replica
+receives_full : {C : Type 0} (members : List ℕ) (m n : ℕ) (x : NodeState C) (body : Body C) (z : NodeState C) (out : List (Letter C)) → Receives members m n x body z out → IsPerformed x.replica → IsPerformed z.replica
 receives_full members m n x body z out (promises_ballot b report r) h = h
 receives_full members m n x body z out (accepts_pvalue p) h = h
 receives_full members m n x body z out (hears_promise b report taken may) h = h
@@ -140,21 +143,21 @@ receives_full members m n x body z out (learns s c) h = learnt_full x.replica s 
 receives_full members m n x body z out (tells_decisions s) h = h
 
 -- all replicas do
-abbrev pub AllFull : {C : Type 0} → Cluster C → Type 0
-AllFull k = (m : ℕ) → IsFull (node k m).replica
+abbrev pub AllPerformed : {C : Type 0} → Cluster C → Type 0
+AllPerformed k = (m : ℕ) → IsPerformed (node k m).replica
 
-turn_full : (laws : BallotLaws) {C : Type 0} (k : Cluster C) (i : IsSound k) (n : ℕ) (member : is_member k.members n ≡ true) (x : NodeState C) (out : List (Letter C)) → AllFull k → IsFull x.replica → AllFull (turned k n x out)
+turn_full : (laws : BallotLaws) {C : Type 0} (k : Cluster C) (i : IsSound k) (n : ℕ) (member : is_member k.members n ≡ true) (x : NodeState C) (out : List (Letter C)) → AllPerformed k → IsPerformed x.replica → AllPerformed (turned k n x out)
 turn_full laws {C} k i n member x out f fx m = ⊎_elim
-    (λ (e : m ≡ n). subst (λ z. IsFull (node (turned k n x out) z).replica) (sym e) (subst (λ (y : NodeState C). IsFull y.replica) (sym (here laws k i n member x out)) fx))
-    (λ (apart : m ≢ n). subst (λ (y : NodeState C). IsFull y.replica) (sym (there laws k i n member x out m apart)) (f m))
+    (λ (e : m ≡ n). subst (λ z. IsPerformed (node (turned k n x out) z).replica) (sym e) (subst (λ (y : NodeState C). IsPerformed y.replica) (sym (here laws k i n member x out)) fx))
+    (λ (apart : m ≢ n). subst (λ (y : NodeState C). IsPerformed y.replica) (sym (there laws k i n member x out m apart)) (f m))
     (cases_eq m n)
 
 module _ (laws : BallotLaws) {O Op Reply : Type 0} (rules : Rules O Op Reply) where
-  performs_full : (v : World Op Reply) → IsSound v.cluster → (n : ℕ) → is_member v.cluster.members n ≡ true → AllFull v.cluster → (o : Option (Command Op)) → next_decided (node v.cluster n).replica ≡ o → AllFull (performed_by rules v n (node v.cluster n).replica o).cluster
+  performs_full : (v : World Op Reply) → IsSound v.cluster → (n : ℕ) → is_member v.cluster.members n ≡ true → AllPerformed v.cluster → (o : Option (Command Op)) → next_decided (node v.cluster n).replica ≡ o → AllPerformed (performed_by rules v n (node v.cluster n).replica o).cluster
   performs_full v i n member f None e = f
   performs_full v i n member f (Some c) e = turn_full laws v.cluster i n member _ [] f (advanced_full (is_one rules) (node v.cluster n).replica c e (f n))
 
-  pub step_full : (v : World Op Reply) (e : Event Op) (u : World Op Reply) → IsSound v.cluster → Step rules v e u → AllFull v.cluster → AllFull u.cluster
+  pub step_full : (v : World Op Reply) (e : Event Op) (u : World Op Reply) → IsSound v.cluster → Step rules v e u → AllPerformed v.cluster → AllPerformed u.cluster
   step_full v e u i (submit n c member own) f = turn_full laws v.cluster i n member _ [] f (requested_full (is_one rules) (node v.cluster n).replica c (f n))
   step_full v e u i (deliver j l x out at receives) f =
       let fair = Each-at (IsFair v.cluster) v.cluster.letters l i.letters (In-get v.cluster.letters j l at) in
@@ -163,4 +166,4 @@ module _ (laws : BallotLaws) {O Op Reply : Type 0} (rules : Rules O Op Reply) wh
   step_full v e u i (nudge n member) f = turn_full laws v.cluster i n member (node v.cluster n) (said_again v.cluster.members n (node v.cluster n)) f (f n)
   step_full v e u i (propose n member) f = turn_full laws v.cluster i n member _ (all_to_all v.cluster.members n (asks_for (next_proposal (node v.cluster n).replica))) f (proposed_full (node v.cluster n).replica (next_proposal (node v.cluster n).replica) (f n))
   step_full v e u i (perform n member) f = performs_full v i n member f (next_decided (node v.cluster n).replica) refl
-  step_full v e u i (restart n member) f = turn_full laws v.cluster i n member _ [] f (record { above = omega arith; known = λ s low high. absurd (omega arith) })
+  step_full v e u i (restart n member) f = turn_full laws v.cluster i n member _ [] f (record { first = omega arith; known = λ s low high. absurd (omega arith) })
