@@ -15,16 +15,17 @@ use Rattle.world.specs.Nodes.{Cluster, node}
 use Rattle.world.specs.Worlds.{World, same_key, is_submitted, with_submission, opening}
 use Rattle.world.specs.Steps.{Step, submit, deliver, wake, nudge, propose, perform, restart, performed, with_cluster, counted}
 use Rattle.world.specs.Runs.{Leads, at_once, after, IsReachable}
-use Rattle.world.specs.Chosen.{IsChosen}
-use Rattle.world.specs.Legal.{WasSubmitted}
+use Rattle.world.specs.Chosen.{IsChosen, IsChosenFrom}
+use Rattle.world.specs.Legal.{IsBeginning, WasSubmitted}
 use Rattle.world.proofs.Lists.{In-cases}
 use Rattle.world.proofs.Orders.{BallotLaws, not_both}
 use Rattle.world.proofs.Invariants.{IsSound}
 use Rattle.world.proofs.Grows.{Grows}
-use Rattle.world.proofs.Reach.{opened_at, opening_sound, leads_sound, step_sound}
+use Rattle.world.proofs.Reach.{opened_at, opening_sound, leads_sound, step_sound, reachable_sound}
 use Rattle.world.proofs.Deciding.{any_from}
-use Rattle.world.proofs.Submitted.{key_itself, chosen_submitted}
-use Rattle.world.proofs.Performed.{IsRun, run_stays, run_push, run_chosen, AllPerformed, history_run, step_full}
+use Rattle.world.proofs.Keys.{key_itself}
+use Rattle.world.proofs.Submitted.{chosen_submitted}
+use Rattle.world.proofs.Performed.{IsRun, run_stays, run_push, run_chosen, run_of_all, AllPerformed, history_run, step_full}
 
 -- the answer came when this command was performed after those, which are chosen in the slots from 1 on
 pub record IsGiven {O Op Reply : Type 0} (rules : Rules O Op Reply) (k : Cluster (Command Op)) (bound : ℕ) (a : Answer Reply) : Type 0 where
@@ -198,3 +199,9 @@ module _ (laws : BallotLaws) {O Op Reply : Type 0} (rules : Rules O Op Reply) wh
 
   pub reachable_told : (w : World Op Reply) → IsReachable rules w → IsTold rules w
   reachable_told w r = leads_told w.cluster.members w r.0 r.1
+
+  -- what a replica performed is a beginning of the chosen commands
+  pub history_beginning : (w : World Op Reply) → IsReachable rules w → (n : ℕ) (all : List (Command Op)) → IsChosenFrom w.cluster 1 all → IsBeginning (history (node w.cluster n).replica) all
+  history_beginning w r n all chosen =
+      let i = reachable_sound laws rules w r in
+      run_of_all laws w.cluster i 1 (history (node w.cluster n).replica) all (history_run w.cluster i n ((reachable_told w r).full n)).0 chosen

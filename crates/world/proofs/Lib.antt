@@ -18,6 +18,7 @@ pub mod Growing
 pub mod Deciding
 pub mod Origins
 pub mod Submitted
+pub mod Keys
 pub mod Rising
 pub mod Once
 pub mod Performed

@@ -1,11 +1,7 @@
--- Each chosen command was submitted, and one that is submitted only later takes no slot that is chosen by now.
-use Rattle.std.proofs.Common.{◌≡◌, inl, ℕ, Bool, true, false, cond, List, [], ◌∷◌, ◌++◌, length, Option, Some, None, refl, sym, subst, arith}
-use Rattle.std.specs.Prelude.{◌&&◌, ◌==◌}
-use Rattle.std.proofs.lemmas.Bool.{and_from}
-use Rattle.std.proofs.lemmas.Bool.Decides.{nat_tests}
+-- Each chosen command was submitted.
+use Rattle.std.proofs.Common.{◌≡◌, inl, ℕ, Bool, true, false, cond, List, [], ◌∷◌, ◌++◌, length, Option, Some, None, refl, sym, subst}
 use Rattle.object.specs.Lists.{In}
 use Rattle.object.specs.declared.command.Command.{Command}
-use Rattle.object.specs.declared.command.Key.{Key}
 use Rattle.object.specs.declared.command.Submission.{Submission}
 use Rattle.leader.specs.Leaders.{pvalue}
 use Rattle.slot_log.specs.Decisions.{next_decided}
@@ -25,24 +21,6 @@ use Rattle.world.proofs.Reach.{leads_sound, opening_sound, opened_at}
 use Rattle.world.proofs.Origins.{Of, OfNode, OfBody, empty_at, asked_of, wake_of, nudge_of, proposes_of, submit_of, perform_of, receive_of, restart_of}
 use Rattle.world.proofs.Growing.{step_goes_on}
 use Rattle.world.proofs.Deciding.{any_found}
-
-pub same_key_is : (a b : Key) → same_key a b ≡ true → a ≡ b
-same_key_is a b e =
-    let s : a.session ≡ b.session = session a.session b.session a.number b.number e in
-    let n : a.number ≡ b.number = number a.session b.session a.number b.number e in
-    λ j. record { session = s j; number = n j }
-  where
-    session : (s t n m : ℕ) → (s == t && n == m) ≡ true → s ≡ t
-    session s t n m e = grind (arith, nat_tests)
-
-    number : (s t n m : ℕ) → (s == t && n == m) ≡ true → n ≡ m
-    number s t n m e = grind (arith, nat_tests)
-
-pub key_itself : (a b : Key) → a ≡ b → same_key a b ≡ true
-key_itself a b e = subst (λ k. same_key a k ≡ true) e (and_from (a.session == a.session) (a.number == a.number) (same a.session) (same a.number))
-  where
-    same : (n : ℕ) → (n == n) ≡ true
-    same n = grind (arith, nat_tests)
 
 -- what was submitted stays submitted
 pub still_submitted : {Op Reply : Type 0} (h g : Happenings Op Reply) → GoesOn h g → (c : Command Op) → WasSubmitted c h.submitted → WasSubmitted c g.submitted

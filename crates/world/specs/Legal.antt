@@ -1,5 +1,5 @@
 -- What it is that happenings are legal for one order of commands, and that later happenings go on from earlier ones.
-use Rattle.std.specs.Prelude.{◌≡◌, ℕ, ◌<◌, ◌≤◌, ⊤, List, [], ◌∷◌, ◌++◌, map, take, length, slice_get, Some}
+use Rattle.std.specs.Prelude.{◌≡◌, ◌≢◌, ℕ, ◌<◌, ◌≤◌, ⊤, List, [], ◌∷◌, ◌++◌, map, take, length, slice_get, Some}
 use Rattle.object.specs.Lists.{In}
 use Rattle.object.specs.Answers.{AnswersOnce}
 use Rattle.object.specs.Replays.{Placed, replay}
@@ -22,6 +22,11 @@ pub record GoesOn {Op Reply : Type 0} (earlier later : Happenings Op Reply) : Ty
 -- the command was submitted, with its key and its act
 abbrev pub WasSubmitted : {Op : Type 0} → Command Op → List (Submission Op) → Type 0
 WasSubmitted {Op} c submitted = (s : Submission Op) × In s submitted × (s.command ≡ c)
+
+-- no key is submitted twice
+abbrev pub SubmittedOnce : {Op : Type 0} → List (Submission Op) → Type 0
+SubmittedOnce [] = ⊤
+SubmittedOnce {Op} (s ∷ more) = ((t : Submission Op) → In t more → t.command.key ≢ s.command.key) × SubmittedOnce more
 
 -- the numbers of each session rise along the list
 abbrev pub IsRising : {Op : Type 0} → List (Command Op) → Type 0
