@@ -24,3 +24,4 @@ pub mod Once
 pub mod Performed
 pub mod Answered
 pub mod Legal
+pub mod OneOrder

@@ -8,3 +8,4 @@ pub mod Runs
 pub mod Chosen
 pub mod Agreements
 pub mod Legal
+pub mod OneOrder
