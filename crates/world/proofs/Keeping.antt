@@ -9,7 +9,7 @@ use Rattle.std.proofs.lemmas.List.{append-nil}
 use Rattle.std.proofs.lemmas.List.Sums.{fold-append}
 use Rattle.object.specs.Lists.{In}
 use Rattle.object.specs.declared.command.Command.{Command}
-use Rattle.object.specs.OnceOnly.{Filtered, filtered}
+use Rattle.object.specs.OnceOnly.{Filtered, filtered, filtered_answers}
 use Rattle.ballot.specs.Ballots.{Numbers, is_below, is_promise, higher}
 use Rattle.ballot.specs.declared.pvalue.Pvalue.{Pvalue}
 use Rattle.acceptor.specs.Acceptors.{Acceptances, Keeps, new_acceptor, after_p1a, after_p2a}
@@ -20,12 +20,14 @@ use Rattle.slot_log.specs.Proposals.{proposed}
 use Rattle.slot_log.specs.Requests.{is_known, requested}
 use Rattle.slot_log.specs.Advances.{advanced}
 use Rattle.world.specs.Objects.{Rules}
-use Rattle.world.specs.Histories.{history, commands_upto, obeyed}
+use Rattle.replica.specs.Replicas.{Replicating, performed, performed_as, performed_answers, answers_as}
+use Rattle.world.specs.Histories.{history, commands_upto, obeyed, answers_after}
 use Rattle.world.specs.Nodes.{NodeState}
 use Rattle.world.specs.Kept.{IsKept, IsPerformed}
 use Rattle.world.proofs.Lists.{In-left, In-right, In-cases}
 use Rattle.world.proofs.Maps.{get_insert_cases}
 use Rattle.world.proofs.Orders.{BallotLaws, upto_trans}
+use Rattle.world.proofs.Histories.{FilterLaws, answers_obeyed}
 
 -- a report of a report
 report_trans : (laws : BallotLaws) {C : Type 0} (all kept report : List (Pvalue C)) → IsReport all kept → IsReport kept report → IsReport all report
@@ -176,3 +178,34 @@ module _ {O Op Reply : Type 0} (rules : Rules O Op Reply) where
 
   pub kept_proposed : (kept : Acceptances (Command Op)) (object : Filtered O) (x : NodeState (Command Op)) (o : Option (ℕ × Command Op)) → IsKept rules kept object x → IsKept rules kept object (record x { replica = proposed x.replica o })
   kept_proposed kept object x o k = let r = proposed_if x.replica o in kept_same kept object x _ k refl r.0 r.1
+
+  performed_if : (same : Command Op → Command Op → Bool) (kept : Acceptances (Command Op)) (r : Replicating Op O) (x : NodeState (Command Op)) → r.slots ≡ x.replica → IsKept rules kept r.object x → (o : Option (Command Op)) → next_decided r.slots ≡ o → IsKept rules kept (performed_as same rules.after r o).object (record x { replica = (performed_as same rules.after r o).slots })
+  performed_if same kept r x slots k None e = subst (λ b. IsKept rules kept r.object (record x { replica = b })) (sym slots) k
+  performed_if same kept r x slots k (Some c) e = kept_performed same kept r.object (record x { replica = r.slots }) c (subst (λ b. IsKept rules kept r.object (record x { replica = b })) (sym slots) k) e
+
+  pub kept_perform : (same : Command Op → Command Op → Bool) (kept : Acceptances (Command Op)) (r z : Replicating Op O) (x : NodeState (Command Op)) → r.slots ≡ x.replica → z ≡ performed same rules.after r → IsKept rules kept r.object x → IsKept rules kept z.object (record x { replica = z.slots })
+  kept_perform same kept r z x slots new k =
+      subst (λ (y : Replicating Op O). IsKept rules kept y.object (record x { replica = y.slots })) (sym new) (performed_if same kept r x slots k (next_decided r.slots) refl)
+
+  pub answers_performed : FilterLaws Op → (r : Replicating Op O) (book : SlotBook (Command Op)) → book ≡ r.slots → r.object ≡ obeyed rules (history r.slots) → (c : Command Op) → next_decided book ≡ Some c → performed_answers rules.answers r ≡ answers_after rules (history book) c
+  answers_performed laws r book slots obeys c e =
+      ap (answers_as rules.answers r) (sym (ap next_decided slots) ∙ e) ∙
+      ap (λ o. filtered_answers rules.answers o c) obeys ∙
+      answers_obeyed laws rules (history r.slots) c ∙
+      ap (λ b. answers_after rules (history b) c) (sym slots)
+
+  pub kept_learns : (kept : Acceptances (Command Op)) (r z : Replicating Op O) (v x : NodeState (Command Op)) (s : ℕ) (c : Command Op) → v ≡ x → z ≡ record r { slots = learnt r.slots s c } → r.slots ≡ v.replica → IsKept rules kept r.object v → ((d : Command Op) → get x.replica.decisions s ≡ Some d → d ≡ c) → IsKept rules kept z.object (record v { replica = z.slots })
+  kept_learns kept r z v x s c is new slots k agrees =
+      subst (λ (y : Replicating Op O). IsKept rules kept y.object (record v { replica = y.slots })) (sym new)
+      (subst (λ b. IsKept rules kept r.object (record v { replica = learnt b s c })) (sym slots)
+      (kept_learnt kept r.object v s c k (λ d e. agrees d (ap (λ y. get y.replica.decisions s) (sym is) ∙ e))))
+
+  pub kept_accepted : (laws : BallotLaws) (kept z : Acceptances (Command Op)) (object : Filtered O) (x : NodeState (Command Op)) (p : Pvalue (Command Op)) (all : List (Pvalue (Command Op))) → IsKept rules kept object x → Keeps (after_p2a kept p) z → all ≡ cond (is_promise kept.promised p.ballot) (x.acceptor.accepted ++ (p ∷ [])) x.acceptor.accepted → IsKept rules z object (record x { acceptor = record { promised = z.promised; accepted = all } })
+  kept_accepted laws kept z object x p all k new whole = record {
+    enough = record {
+      promised = refl;
+      accepted = subst (λ l. IsReport l z.accepted) (ap (λ o. cond (is_promise o p.ballot) (x.acceptor.accepted ++ (p ∷ [])) x.acceptor.accepted) (sym k.enough.promised) ∙ sym whole) (keeps_p2a laws x.acceptor kept z p k.enough new).accepted;
+    };
+    obeys = k.obeys;
+    performed = k.performed;
+  }

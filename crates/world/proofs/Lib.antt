@@ -25,3 +25,4 @@ pub mod Performed
 pub mod Answered
 pub mod Legal
 pub mod OneOrder
+pub mod Received

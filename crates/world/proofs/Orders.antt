@@ -2,15 +2,7 @@
 use Rattle.std.proofs.Common.{◌≡◌, ◌⊎◌, ⊎_elim, ◌≤◌, ℕ, List, Option, None, Some, true, false, true≢false, Bool, refl, sym, ◌∙◌, subst, arith}
 use Rattle.std.proofs.lemmas.Bool.Decides.{nat_tests}
 use Rattle.ballot.specs.Ballots.{Numbers, is_below, is_same}
-use Rattle.ballot.specs.Members.{has, is_majority}
-
--- the laws of ballots and members, as their crate states them
-pub record BallotLaws : Type 0 where
-  pub itself : (a : Numbers) → is_below a a ≡ false
-  pub through : (a b c : Numbers) → is_below a b ≡ true → is_below b c ≡ true → is_below a c ≡ true
-  pub total : (a b : Numbers) → (is_below a b ≡ true) ⊎ ((a ≡ b) ⊎ (is_below b a ≡ true))
-  pub same : (a b : Numbers) → is_same a b ≡ true → a ≡ b
-  pub share : (members : List ℕ) (a b : List Bool) → is_majority members a ≡ true → is_majority members b ≡ true → (m : ℕ) × (has a m ≡ true) × (has b m ≡ true)
+pub use Rattle.world.specs.Laws.{BallotLaws}
 
 -- the ballot is no more than what was promised
 abbrev pub IsUpto : Numbers → Option Numbers → Type 0

@@ -1,5 +1,5 @@
 -- How a world keeps its nodes, and what a node may count on.
-use Rattle.std.specs.Prelude.{◌≡◌, ℕ, ◌<◌, ◌^◌, true, List, Some, IsSome, ⊤}
+use Rattle.std.specs.Prelude.{◌≡◌, ℕ, ◌<◌, ◌^◌, ◌++◌, true, List, Some, IsSome, ⊤}
 use Rattle.std.specs.FinMap.{get}
 use Rattle.object.specs.declared.command.Command.{Command}
 use Rattle.object.specs.OnceOnly.{Filtered}
@@ -7,11 +7,13 @@ use Rattle.ballot.specs.Ballots.{Numbers}
 use Rattle.ballot.specs.Members.{is_member}
 use Rattle.ballot.specs.declared.letter.Body.{Body}
 use Rattle.ballot.specs.declared.letter.Body.TheVariants.{P1a, P1b, P2a, P2b, Propose, Decision, Ask}
+use Rattle.ballot.specs.declared.letter.Letter.{Letter}
 use Rattle.acceptor.specs.Acceptors.{Acceptances, Keeps}
 use Rattle.slot_log.specs.Books.{SlotBook}
 use Rattle.world.specs.Objects.{Rules}
 use Rattle.world.specs.Histories.{history, obeyed}
 use Rattle.world.specs.Nodes.{NodeState}
+use Rattle.world.specs.Steps.{Receives}
 
 -- each slot before slot_out has a known decision
 pub record IsPerformed {C : Type 0} (book : SlotBook C) : Type 0 where
@@ -39,3 +41,7 @@ IsFit x (P2b o s by) = (b : Numbers) → o ≡ Some b → b.round < 2 ^ 62
 IsFit x (Propose s c) = ⊤
 IsFit {C} x (Decision s c) = (d : C) → get x.replica.decisions s ≡ Some d → d ≡ c
 IsFit x (Ask s) = ⊤
+
+-- node x, of number n, received a body from m: it became y, and the letters that it sent stand after those before
+abbrev pub Received : {C : Type 0} → List ℕ → ℕ → ℕ → NodeState C → Body C → NodeState C → List (Letter C) → List (Letter C) → Type 0
+Received {C} members m n x body y before now = (sent : List (Letter C)) × Receives members m n x body y sent × (now ≡ before ++ sent)

@@ -2,6 +2,8 @@
 #![tactic(auto)]
 
 mod event;
+mod laws;
 mod node;
+mod receiving;
 
 pub use event::Event;

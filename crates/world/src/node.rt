@@ -1,7 +1,9 @@
 ghost use Rattle.std.specs.Prelude.{◌≡◌, ◌++◌, ◌<◌, ◌≤◌, ◌^◌, true, None, Some, Ok, is_some, IfOk, IfSome, OnOk, OnErr};
 ghost use Rattle.ballot.specs.Members.{is_member};
 ghost use Rattle.ballot.specs.Letters.{all_to_all};
+ghost use Rattle.std.specs.Option.{option_map};
 ghost use Rattle.object.specs.Commands.{same_commands};
+ghost use Rattle.object.specs.declared.command.Command.{Command};
 ghost use Rattle.leader.specs.Leaders.{woken};
 ghost use Rattle.slot_log.specs.Requests.{requested};
 ghost use Rattle.slot_log.specs.Proposals.{next_proposal, proposed_next};
@@ -15,9 +17,9 @@ ghost use Rattle.world.specs.Steps.{led, said_again};
 ghost use Rattle.world.specs.Kept.{IsSeated};
 
 use acceptor::Acceptor;
-use ballot::{Letter, Members, Pvalue};
+use ballot::{Letter, Members, Pvalue, Slot};
 use leader::Leader;
-use object::{Command, Object};
+use object::{Answer, Command, Object, filter_remembers};
 use replica::Replica;
 use std::alloc::{AllocError, Global};
 use std::marker::Model;
@@ -25,11 +27,11 @@ use std::marker::Model;
 /// A node, with every pvalue that its acceptor ever accepted beside it, whatever the acceptor keeps.
 #[derive(Drop)]
 pub(crate) struct Node<O: Object> {
-    acceptor: Acceptor<Command<O::Op>>,
-    accepted: Vec<Pvalue<Command<O::Op>>>,
-    boot: u64,
-    leader: Leader<Command<O::Op>>,
-    replica: Replica<O>,
+    pub(crate) acceptor: Acceptor<Command<O::Op>>,
+    pub(crate) accepted: Vec<Pvalue<Command<O::Op>>>,
+    pub(crate) boot: u64,
+    pub(crate) leader: Leader<Command<O::Op>>,
+    pub(crate) replica: Replica<O>,
 }
 
 impl<O: Object> Model for Node<O> {
@@ -149,5 +151,20 @@ impl<O: Object> Node<O> {
             out.truncate(len);
         }
         said
+    }
+
+    /// Performs the command of its `slot_out`, where that is known, and appends the answers. It tells the slot.
+    pub(crate) fn perform(
+        &mut self,
+        out: &mut Vec<Answer<O::Reply>>,
+    ) -> Result<Option<Slot>, AllocError>
+        ensures slot { IfOk result (λ done. done ≡ option_map (λ _. self.old.replica.slot_out) (next_decided self.old.replica)) }
+        ensures idle { OnOk result (next_decided self.old.replica ≡ None → (self.new ≡ self.old) × (out.new.items ≡ out.old.items)) }
+        ensures state { OnOk result ((c : Command O.Op) → next_decided self.old.replica ≡ Some c → self.new ≡ record self.old { replica = advanced (same_commands O.Op.eq) self.old.replica }) }
+        ensures out { OnOk result ((c : Command O.Op) → next_decided self.old.replica ≡ Some c → out.new.items ≡ out.old.items ++ answers_after (rules_of O.fresh O.after O.answers O.Op.eq) (history self.old.replica) c) }
+        ensures err { OnErr result ((self.new ≡ self.old) × (out.new.items ≡ out.old.items)) }
+    {
+        filter_remembers::<O::Op>();
+        Ok(self.replica.perform(out)?.map(|done| done.slot))
     }
 }
