@@ -23,7 +23,7 @@ use Rattle.world.proofs.Invariants.{IsSound}
 use Rattle.world.proofs.Grows.{Grows}
 use Rattle.world.proofs.Reach.{opened_at, opening_sound, leads_sound, step_sound, reachable_sound}
 use Rattle.world.proofs.Deciding.{any_from}
-use Rattle.world.proofs.Keys.{key_itself}
+use Rattle.world.proofs.Timeline.{key_itself}
 use Rattle.world.proofs.Submitted.{chosen_submitted}
 use Rattle.world.proofs.Performed.{IsRun, run_stays, run_push, run_chosen, run_of_all, AllPerformed, history_run, step_full}
 

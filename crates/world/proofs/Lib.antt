@@ -18,7 +18,7 @@ pub mod Growing
 pub mod Deciding
 pub mod Origins
 pub mod Submitted
-pub mod Keys
+pub mod Timeline
 pub mod Rising
 pub mod Once
 pub mod Performed

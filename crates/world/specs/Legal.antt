@@ -28,6 +28,18 @@ abbrev pub SubmittedOnce : {Op : Type 0} → List (Submission Op) → Type 0
 SubmittedOnce [] = ⊤
 SubmittedOnce {Op} (s ∷ more) = ((t : Submission Op) → In t more → t.command.key ≢ s.command.key) × SubmittedOnce more
 
+-- no submission comes before an earlier one
+abbrev pub ComeInOrder : {Op : Type 0} → List (Submission Op) → Type 0
+ComeInOrder [] = ⊤
+ComeInOrder {Op} (s ∷ more) = ((t : Submission Op) → In t more → s.after ≤ t.after) × ComeInOrder more
+
+-- Submissions and answers are one list in time: the submissions stand in the order in which they came, no key twice, and
+-- none comes after more answers than were given.
+pub record IsTimeline {Op Reply : Type 0} (h : Happenings Op Reply) : Type 0 where
+  pub once : SubmittedOnce h.submitted
+  pub ordered : ComeInOrder h.submitted
+  pub within : (s : Submission Op) → In s h.submitted → s.after ≤ length h.answers
+
 -- the numbers of each session rise along the list
 abbrev pub IsRising : {Op : Type 0} → List (Command Op) → Type 0
 IsRising [] = ⊤
