@@ -66,15 +66,15 @@ any_found test (y ∷ ys) e = ⊎_elim
     (cases_Bool (test y))
 
 -- the pvalue stands under this ballot and slot
-abbrev is_at : {C : Type 0} → Numbers → ℕ → Pvalue C → Bool
+abbrev pub is_at : {C : Type 0} → Numbers → ℕ → Pvalue C → Bool
 is_at b s q = is_same q.ballot b && (q.slot == s)
 
 -- the acceptor accepted something there
-abbrev accepts : {C : Type 0} → Numbers → ℕ → NodeState C → Bool
+abbrev pub accepts : {C : Type 0} → Numbers → ℕ → NodeState C → Bool
 accepts b s x = list_any (is_at b s) x.acceptor.accepted
 
 -- the acceptors that did
-abbrev row : {C : Type 0} → Cluster C → Numbers → ℕ → List Bool
+abbrev pub row : {C : Type 0} → Cluster C → Numbers → ℕ → List Bool
 row k b s = map (accepts b s) k.nodes
 
 slot_same : (n s : ℕ) → (n == s) ≡ true → n ≡ s
@@ -149,6 +149,16 @@ module _ (laws : BallotLaws) {C : Type 0} (k : Cluster C) (i : IsSound k) where
       (λ (yes : is_majority k.members (row k p.ballot p.slot) ≡ true). inl (record { voters = row k p.ballot p.slot; majority = yes; accepted = λ m e. row_accepts p.ballot p.slot p.value asked m e }))
       (λ (no : is_majority k.members (row k p.ballot p.slot) ≡ false). inr (λ h. not_both (voters_row p.ballot p.slot p.value h) no))
       (cases_Bool (is_majority k.members (row k p.ballot p.slot)))
+
+  -- a pvalue is chosen where a majority accepted something at its ballot and slot
+  pub chosen_by_row : (m : ℕ) (p : Pvalue C) → In p (node k m).acceptor.accepted → is_majority k.members (row k p.ballot p.slot) ≡ true → IsChosen k p.slot p.value
+  chosen_by_row m p at e = (p.ballot, record { voters = row k p.ballot p.slot; majority = e; accepted = λ j f. row_accepts p.ballot p.slot p.value ((i.nodes m).acceptor.sent p at) j f })
+
+  -- and a slot has no chosen command where none of its accepted pvalues is
+  pub none_by_rows : (s : ℕ) → ((m : ℕ) (p : Pvalue C) → In p (node k m).acceptor.accepted → p.slot ≡ s → is_majority k.members (row k p.ballot s) ≡ false) → (c : C) → IsChosen k s c → ⊥
+  none_by_rows s none c h =
+      let m = laws.share k.members h.1.voters h.1.voters h.1.majority h.1.majority in
+      not_both (voters_row h.0 s c h.1) (none m.0 (pvalue h.0 s c) (h.1.accepted m.0 m.1) refl)
 
   -- one of these pvalues is chosen in the slot
   abbrev Holds : List (Pvalue C) → ℕ → Type 0
