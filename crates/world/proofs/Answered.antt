@@ -1,8 +1,9 @@
 -- From which chosen commands each answer came, and which were chosen when a command was submitted.
 use Rattle.std.proofs.Common.{◌≡◌, ⊎_elim, ℕ, ◌+◌, ◌<◌, ◌≤◌, max, Bool, true, false, cond, List, [], ◌∷◌, ◌++◌, take, length, length-append, Option, Some, None, refl, sym, ap, ◌∙◌, subst, append-nil, arith}
 use Rattle.std.proofs.lemmas.Bool.{cases_lt}
-use Rattle.std.proofs.lemmas.List.{take-append-le, take_all}
+use Rattle.std.proofs.lemmas.List.{take-append-le, take_all, nil_from_length}
 use Rattle.object.specs.Lists.{In}
+use Rattle.object.specs.Replays.{kept}
 use Rattle.object.specs.declared.command.Answer.{Answer}
 use Rattle.object.specs.declared.command.Command.{Command}
 use Rattle.object.specs.declared.command.Submission.{Submission}
@@ -15,9 +16,11 @@ use Rattle.world.specs.Nodes.{Cluster, node}
 use Rattle.world.specs.Worlds.{World, same_key, is_submitted, with_submission, opening}
 use Rattle.world.specs.Steps.{Step, submit, deliver, wake, nudge, propose, perform, restart, performed, with_cluster, counted}
 use Rattle.world.specs.Runs.{Leads, at_once, after, IsReachable}
-use Rattle.world.specs.Chosen.{IsChosen, IsChosenFrom}
+use Rattle.world.specs.Chosen.{IsChosen, IsChosenFrom, IsOrder}
+use Rattle.world.specs.Reached.{IsRun, IsReached}
 use Rattle.world.specs.Legal.{IsBeginning, WasSubmitted}
 use Rattle.world.proofs.Lists.{In-cases}
+use Rattle.world.proofs.Growing.{kept_beginning}
 use Rattle.world.proofs.Orders.{BallotLaws, not_both}
 use Rattle.world.proofs.Invariants.{IsSound}
 use Rattle.world.proofs.Grows.{Grows}
@@ -25,7 +28,7 @@ use Rattle.world.proofs.Reach.{opened_at, opening_sound, leads_sound, step_sound
 use Rattle.world.proofs.Deciding.{any_from}
 use Rattle.world.proofs.Timeline.{key_itself}
 use Rattle.world.proofs.Submitted.{chosen_submitted}
-use Rattle.world.proofs.Performed.{IsRun, run_stays, run_push, run_chosen, run_of_all, AllPerformed, history_run, step_full}
+use Rattle.world.proofs.Performed.{run_stays, run_push, run_chosen, run_within, run_of_all, AllPerformed, history_run, step_full}
 
 -- the answer came when this command was performed after those, which are chosen in the slots from 1 on
 pub record IsGiven {O Op Reply : Type 0} (rules : Rules O Op Reply) (k : Cluster (Command Op)) (bound : ℕ) (a : Answer Reply) : Type 0 where
@@ -205,3 +208,22 @@ module _ (laws : BallotLaws) {O Op Reply : Type 0} (rules : Rules O Op Reply) wh
   history_beginning w r n all chosen =
       let i = reachable_sound laws rules w r in
       run_of_all laws w.cluster i 1 (history (node w.cluster n).replica) all (history_run w.cluster i n ((reachable_told w r).full n)).0 chosen
+
+  -- each slot up to the reach has a chosen command
+  pub reachable_reached : (w : World Op Reply) → IsReachable rules w → (cs : List (Command Op)) × IsReached w cs
+  reachable_reached w r = let told = reachable_told w r in (told.reached, record { chosen = told.chosen; count = told.reach })
+
+  -- and there are no two such lists
+  pub one_reached : (w : World Op Reply) → IsReachable rules w → (cs ds : List (Command Op)) → IsReached w cs → IsReached w ds → cs ≡ ds
+  one_reached w r cs ds h g =
+      let e = h.count in
+      let f = g.count in
+      let b = run_within laws w.cluster (reachable_sound laws rules w r) 1 cs ds h.chosen g.chosen (omega arith) in
+      let l = ap length b.1 ∙ length-append cs b.0 in
+      sym (b.1 ∙ ap (λ more. cs ++ more) (nil_from_length b.0 (omega arith)) ∙ append-nil cs)
+
+  -- what is kept of them begins the order
+  pub reached_beginning : (w : World Op Reply) → IsReachable rules w → (cs order : List (Command Op)) → IsReached w cs → IsOrder w.cluster order → IsBeginning (kept cs) order
+  reached_beginning w r cs order h o =
+      let b = kept_beginning cs o.0 (run_of_all laws w.cluster (reachable_sound laws rules w r) 1 cs o.0 h.chosen o.1) in
+      (b.0, o.2 ∙ b.1)

@@ -1,6 +1,6 @@
 -- Commands that are chosen in slots one after the other, and that each replica performed such a list.
 use Rattle.std.proofs.Common.{◌≡◌, ◌≢◌, inl, inr, ⊎_elim, ℕ, zero, suc, ◌+◌, ◌-◌, ◌<◌, ◌≤◌, Bool, true, false, cond, List, [], ◌∷◌, ◌++◌, flat_map, option_to_list, length, Option, Some, None, refl, sym, ap, ap₂, ◌∙◌, subst, arith}
-use Rattle.std.specs.Prelude.{⊤, IsSome}
+use Rattle.std.specs.Prelude.{IsSome}
 use Rattle.std.specs.List.{range_with_len}
 use Rattle.std.specs.FinMap.{get, insert}
 use Rattle.std.proofs.lemmas.Bool.{cases_eq}
@@ -26,17 +26,13 @@ use Rattle.world.specs.Worlds.{World}
 use Rattle.world.specs.Steps.{Receives, promises_ballot, accepts_pvalue, hears_promise, hears_vote, hears_proposal, learns, tells_decisions, said_again, Step, submit, deliver, wake, nudge, propose, perform, restart, performed as performed_by}
 use Rattle.world.specs.Chosen.{IsChosen, IsChosenFrom}
 use Rattle.world.specs.Legal.{IsBeginning}
+use Rattle.world.specs.Reached.{IsRun}
 use Rattle.world.proofs.Lists.{Each-at, In-get}
 use Rattle.world.proofs.Maps.{get_insert_cases}
 use Rattle.world.proofs.Orders.{BallotLaws}
 use Rattle.world.proofs.Invariants.{IsFair, IsSound, agree}
 use Rattle.world.proofs.Grows.{Grows, chosen_stays}
 use Rattle.world.proofs.Turns.{here, there}
-
--- these commands are chosen in the slots from s on
-abbrev pub IsRun : {C : Type 0} → Cluster C → ℕ → List C → Type 0
-IsRun k s [] = ⊤
-IsRun k s (c ∷ cs) = IsChosen k s c × IsRun k (s + 1) cs
 
 pub run_stays : {C : Type 0} (k z : Cluster C) → Grows k z → (s : ℕ) (cs : List C) → IsRun k s cs → IsRun z s cs
 run_stays k z g s [] h = tt

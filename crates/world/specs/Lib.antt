@@ -10,3 +10,4 @@ pub mod Chosen
 pub mod Agreements
 pub mod Legal
 pub mod OneOrder
+pub mod Reached
