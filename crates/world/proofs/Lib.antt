@@ -26,3 +26,4 @@ pub mod Answered
 pub mod Legal
 pub mod OneOrder
 pub mod Received
+pub mod Events

@@ -1,7 +1,15 @@
 -- The nodes after one has changed.
-use Rattle.std.proofs.Common.{◌≡◌, ◌≢◌, ℕ, zero, suc, ◌≤◌, List, length, refl, ap, arith, length-set}
-use Rattle.std.proofs.lemmas.List.{get_or-set_same, get_or-set_other}
-use Rattle.world.specs.Nodes.{NodeState, new_node, node_in, put}
+use Rattle.std.proofs.Common.{◌≡◌, ◌≢◌, ℕ, zero, suc, ◌-◌, ◌+◌, ◌<◌, ◌≤◌, List, [], ◌∷◌, ◌++◌, map, length, Some, Option, refl, sym, ap, ap₂, ◌∙◌, subst, arith, length-set}
+use Rattle.std.specs.Prelude.{slice_index_or, slice_set, slice_get}
+use Rattle.std.specs.List.{range_with_len}
+use Rattle.std.proofs.lemmas.List.FromFn.{map-range_with_len_more}
+use Rattle.std.proofs.lemmas.Option.{slice_get-get_or}
+use Rattle.std.proofs.lemmas.List.{get_or-set_same, get_or-set_other, get_or_default}
+use Rattle.ballot.specs.declared.letter.Letter.{Letter}
+use Rattle.world.specs.Nodes.{NodeState, Cluster, new_node, new_cluster, node_in, put}
+use Rattle.world.specs.Steps.{Receives}
+use Rattle.world.specs.Kept.{HasNode, Received, Delivered}
+use Rattle.world.proofs.Sets.{member_bounds}
 
 pub node_put_same : {C : Type 0} (members : List ℕ) (nodes : List (NodeState C)) (n : ℕ) (x : NodeState C) → 1 ≤ n → n ≤ length nodes → node_in members (put nodes n x) n ≡ x
 node_put_same members nodes zero x h k = absurd (omega arith)
@@ -15,3 +23,53 @@ node_put_other members nodes (suc i) x (suc j) h = get_or-set_other nodes i j x 
 pub length-put : {C : Type 0} (nodes : List (NodeState C)) (n : ℕ) (x : NodeState C) → length (put nodes n x) ≡ length nodes
 length-put nodes zero x = refl
 length-put nodes (suc i) x = length-set nodes i x
+
+-- the place of a node, counted from 0
+pub node_at : {C : Type 0} (members : List ℕ) (nodes : List (NodeState C)) (n : ℕ) (y : NodeState C) → 1 ≤ n → n ≤ length nodes → y ≡ slice_index_or nodes (n - 1) y → y ≡ node_in members nodes n
+node_at members nodes zero y h k e = absurd (omega arith)
+node_at members nodes (suc i) y h k e =
+    let here : suc i - 1 ≡ i = omega arith in
+    e ∙ ap (λ j. slice_index_or nodes j y) here ∙ get_or_default nodes i y (new_node members (suc i)) (omega arith)
+
+pub put_at : {C : Type 0} (nodes : List (NodeState C)) (n : ℕ) (x : NodeState C) → 1 ≤ n → slice_set nodes (n - 1) x ≡ put nodes n x
+put_at nodes zero x h = absurd (omega arith)
+put_at nodes (suc i) x h = let here : suc i - 1 ≡ i = omega arith in ap (λ j. slice_set nodes j x) here
+
+-- a letter that was received where it was to
+delivered_to : {C : Type 0} (k z : Cluster C) (l : Letter C) (y x : NodeState C) → HasNode l.to k → y ≡ slice_index_or k.nodes (l.to - 1) y → z.members ≡ k.members → z.nodes ≡ slice_set k.nodes (l.to - 1) x → Received k.members l.«from» l.to y l.body x k.letters z.letters → Delivered k l z
+delivered_to {C} k z l y x has at members nodes received =
+    let b = member_bounds k.members l.to has.seated.member in
+    let size = has.size in (
+      x,
+      received.0,
+      subst (λ v. Receives k.members l.«from» l.to v l.body x received.0) (node_at k.members k.nodes l.to y b.0 (omega (arith, b.1)) at) received.1,
+      λ i. record { members = members i; nodes = (nodes ∙ put_at k.nodes l.to x b.0) i; letters = received.2 i },
+    )
+
+pub delivered : {C : Type 0} (v k z : Cluster C) (l : Letter C) (y x : NodeState C) (i : ℕ) → i ≡ l.to - 1 → v ≡ k → HasNode l.to k → y ≡ slice_index_or v.nodes i y → z.members ≡ v.members → z.nodes ≡ slice_set v.nodes i x → Received v.members l.«from» l.to y l.body x v.letters z.letters → Delivered k l z
+delivered v k z l y x i here is has at members nodes received =
+    subst (λ j. Delivered j l z) is
+    (delivered_to v z l y x (subst (HasNode l.to) (sym is) has) (at ∙ ap (λ j. slice_index_or v.nodes j y) here) members (nodes ∙ ap (λ j. slice_set v.nodes j x) here) received)
+
+-- the letter that was read and copied
+pub letter_at : {C : Type 0} (v k : Cluster C) (i : ℕ) (x l : Letter C) → v ≡ k → x ≡ slice_index_or v.letters i x → l ≡ x → i < length k.letters → slice_get k.letters i ≡ Some l
+letter_at v k i x l is at copied within =
+    slice_get-get_or k.letters i x within ∙ ap (λ y. Some y) (ap (λ j. slice_index_or j.letters i x) (sym is) ∙ sym at ∙ sym copied)
+
+same_letter : {C : Type 0} (o : Option (Letter C)) (l m : Letter C) → o ≡ Some l → o ≡ Some m → l ≡ m
+same_letter o l m e f = let g : Some l ≡ Some m = sym e ∙ f in cc
+
+-- the letter of that number alone was received
+pub delivered_at : {C : Type 0} (k z : Cluster C) (i : ℕ) (l : Letter C) → slice_get k.letters i ≡ Some l → Delivered k l z → (m : Letter C) → slice_get k.letters i ≡ Some m → Delivered k m z
+delivered_at k z i l at d m also = subst (λ y. Delivered k y z) (same_letter (slice_get k.letters i) l m at also) d
+
+-- one new node more, and all of them
+pub one_node_more : {C : Type 0} (members : List ℕ) (ns now : List (NodeState C)) (x : NodeState C) (before : ℕ) → ns ≡ map (new_node members) (range_with_len 1 before) → x ≡ new_node members (before + 1) → now ≡ ns ++ (x ∷ []) → now ≡ map (new_node members) (range_with_len 1 (before + 1))
+one_node_more members ns now x before all new more =
+    let last : 1 + before ≡ before + 1 = omega arith in
+    more ∙ ap₂ (λ l y. l ++ (y ∷ [])) all new ∙ sym (map-range_with_len_more (new_node members) 1 before (before + 1) last)
+
+pub all_nodes : {C : Type 0} (members : List ℕ) (nodes : List (NodeState C)) (letters : List (Letter C)) (before count : ℕ) → count ≡ length members → before ≤ count → count ≤ before → nodes ≡ map (new_node members) (range_with_len 1 before) → letters ≡ [] → record { members = members; nodes = nodes; letters = letters } ≡ new_cluster members
+all_nodes members nodes letters before count all low high made none =
+    let same : before ≡ length members = omega arith in
+    λ i. record { members = members; nodes = (made ∙ ap (λ n. map (new_node members) (range_with_len 1 n)) same) i; letters = none i }

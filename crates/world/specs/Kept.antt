@@ -1,5 +1,5 @@
 -- How a world keeps its nodes, and what a node may count on.
-use Rattle.std.specs.Prelude.{◌≡◌, ℕ, ◌<◌, ◌^◌, ◌++◌, true, List, Some, IsSome, ⊤}
+use Rattle.std.specs.Prelude.{◌≡◌, ℕ, ◌<◌, ◌≤◌, ◌^◌, ◌++◌, true, List, length, Some, IsSome, ⊤}
 use Rattle.std.specs.FinMap.{get}
 use Rattle.object.specs.declared.command.Command.{Command}
 use Rattle.object.specs.OnceOnly.{Filtered}
@@ -12,8 +12,11 @@ use Rattle.acceptor.specs.Acceptors.{Acceptances, Keeps}
 use Rattle.slot_log.specs.Books.{SlotBook}
 use Rattle.world.specs.Objects.{Rules}
 use Rattle.world.specs.Histories.{history, obeyed}
-use Rattle.world.specs.Nodes.{NodeState}
+use Rattle.world.specs.Nodes.{NodeState, Cluster, node, turned}
+use Rattle.world.specs.Worlds.{World}
 use Rattle.world.specs.Steps.{Receives}
+use Rattle.world.specs.Runs.{IsReachable}
+use Rattle.world.specs.Refusals.{most_events}
 
 -- each slot before slot_out has a known decision
 pub record IsPerformed {C : Type 0} (book : SlotBook C) : Type 0 where
@@ -45,3 +48,17 @@ IsFit x (Ask s) = ⊤
 -- node x, of number n, received a body from m: it became y, and the letters that it sent stand after those before
 abbrev pub Received : {C : Type 0} → List ℕ → ℕ → ℕ → NodeState C → Body C → NodeState C → List (Letter C) → List (Letter C) → Type 0
 Received {C} members m n x body y before now = (sent : List (Letter C)) × Receives members m n x body y sent × (now ≡ before ++ sent)
+
+-- the cluster has a node of this number, in its place
+pub record HasNode {C : Type 0} (n : ℕ) (k : Cluster C) : Type 0 where
+  pub size : length k.nodes ≡ length k.members
+  pub seated : IsSeated k.members n (node k n)
+
+-- the letter was received, by the node that it is to
+abbrev pub Delivered : {C : Type 0} → Cluster C → Letter C → Cluster C → Type 0
+Delivered {C} k l z = (x : NodeState C) × (out : List (Letter C)) × Receives k.members l.«from» l.to (node k l.to) l.body x out × (z ≡ turned k l.to x out)
+
+-- some events lead to the world, and no more than it takes
+pub record IsWorld {O Op Reply : Type 0} (rules : Rules O Op Reply) (w : World Op Reply) : Type 0 where
+  pub reachable : IsReachable rules w
+  pub few : w.taken ≤ most_events

@@ -4,8 +4,9 @@ pub mod Histories
 pub mod Nodes
 pub mod Worlds
 pub mod Steps
-pub mod Kept
 pub mod Runs
+pub mod Refusals
+pub mod Kept
 pub mod Chosen
 pub mod Agreements
 pub mod Legal

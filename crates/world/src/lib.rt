@@ -1,9 +1,15 @@
 //! All nodes and all letters as one world, which takes one event at a time.
 #![tactic(auto)]
 
+mod cluster;
+mod error;
 mod event;
 mod laws;
 mod node;
 mod receiving;
+mod submissions;
+mod world;
 
+pub use error::WorldError;
 pub use event::Event;
+pub use world::World;

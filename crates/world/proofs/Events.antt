@@ -1,0 +1,220 @@
+-- One event of a world, from what was done to its parts.
+use Rattle.std.proofs.Common.{◌≡◌, ◌⊎◌, inl, inr, ℕ, zero, suc, ◌+◌, ◌<◌, ◌≤◌, ◌^◌, max, Bool, true, false, true≢false, cond, not, ◌&&◌, ◌||◌, List, [], ◌∷◌, ◌++◌, length, Some, None, Option, refl, sym, ap, ◌∙◌, subst, arith}
+use Rattle.std.specs.Prelude.{slice_get, nat_lt, nat_le, is_some, T}
+use Rattle.std.specs.List.{list_any}
+use Rattle.std.specs.Option.{option_to_list, option_map}
+use Rattle.std.specs.FinMap.{get}
+use Rattle.std.proofs.lemmas.Bool.Decides.{nat_tests}
+use Rattle.std.proofs.lemmas.List.{append-nil}
+use Rattle.object.specs.Lists.{In}
+use Rattle.object.specs.declared.command.Act.{Act}
+use Rattle.object.specs.declared.command.Act.TheVariants.{Do, Close, Tick}
+use Rattle.object.specs.declared.command.Answer.{Answer}
+use Rattle.object.specs.declared.command.Command.{Command}
+use Rattle.object.specs.declared.command.Key.{Key}
+use Rattle.object.specs.declared.command.Submission.{Submission}
+use Rattle.object.specs.Commands.{same_acts}
+use Rattle.ballot.specs.Members.{is_member}
+use Rattle.ballot.specs.declared.letter.Body.{Body}
+use Rattle.ballot.specs.declared.letter.Body.TheVariants.{P1a, P1b, P2a, P2b, Propose, Decision, Ask}
+use Rattle.ballot.specs.declared.letter.Letter.{Letter}
+use Rattle.slot_log.specs.Requests.{requested}
+use Rattle.slot_log.specs.Advances.{advanced}
+use Rattle.slot_log.specs.Decisions.{next_decided}
+use Rattle.slot_log.specs.Books.{SlotBook}
+use Rattle.world.specs.declared.event.Event.{Event}
+use Rattle.world.specs.declared.event.Event.TheVariants as events
+use Rattle.world.specs.declared.error.WorldError.TheVariants as WorldError
+use Rattle.world.specs.Objects.{Rules, is_one}
+use Rattle.world.specs.Histories.{history, answers_after}
+use Rattle.world.specs.Nodes.{NodeState, Cluster, node, turned}
+use Rattle.world.specs.Worlds.{World, Happenings, opening, same_key, is_submitted, with_submission}
+use Rattle.world.specs.Steps.{Step, IsItsOwn, Receives, replica_turn, performed, counted, with_cluster, submit, deliver, perform}
+use Rattle.world.specs.Runs.{IsReachable}
+use Rattle.world.specs.Refusals.{IsAllowed, has_other_act, is_at_member, is_sent, keeps_acts, most_events, refusal}
+use Rattle.world.specs.Kept.{IsSeated, IsFit, HasNode, Delivered, IsWorld}
+use Rattle.world.proofs.Lists.{Each-at, In-get}
+use Rattle.world.proofs.Orders.{BallotLaws}
+use Rattle.world.proofs.Invariants.{IsFair, IsTrueOf, IsSound, agree}
+use Rattle.world.proofs.Bounds.{BodyWithin, IsWithin, reachable_within}
+use Rattle.world.proofs.Reach.{reachable_sound, one_more, opening_reachable}
+
+module _ (laws : BallotLaws) {O Op Reply : Type 0} (rules : Rules O Op Reply) where
+  pub new_world : (members : List ℕ) (u : World Op Reply) → u ≡ opening members → IsWorld rules u
+  new_world members u e = subst (IsWorld rules) (sym e) (record { reachable = opening_reachable laws rules members; few = omega arith })
+
+  pub next_world : (v w : World Op Reply) → v ≡ w → (e : Event Op) (u : World Op Reply) → IsWorld rules v → w.taken < most_events → u.taken ≡ v.taken + 1 → Step rules v e u → IsWorld rules u
+  next_world v w is e u i room count s = record {
+    reachable = one_more laws rules v e u i.reachable s;
+    few = let same = ap (λ y. y.taken) is in omega arith;
+  }
+
+  module _ (v w : World Op Reply) (is : v ≡ w) (i : IsWorld rules v) where
+    sound : IsSound v.cluster
+    sound = reachable_sound laws rules v i.reachable
+
+    pub has_node : (n : ℕ) → is_member w.cluster.members n ≡ true → HasNode n v.cluster
+    has_node n member = record {
+      size = sound.size;
+      seated = record {
+        member = ap (λ y. is_member y.cluster.members n) is ∙ member;
+        speaks = (sound.nodes n).leader.members;
+        node = (sound.nodes n).owner;
+      };
+    }
+
+    -- a boot is still to come
+    pub boots : (n : ℕ) → w.taken < most_events → (node v.cluster n).boot < 2 ^ 62
+    boots n room = let b = ((reachable_within laws rules v i.reachable).nodes n).boot in let few = i.few in omega arith
+
+    -- what is known to be decided is what a Decision says
+    fit_body : (k : Cluster (Command Op)) → k ≡ v.cluster → (m n : ℕ) (body : Body (Command Op)) → IsTrueOf v.cluster m body → BodyWithin v.taken body → IsFit (node v.cluster n) body
+    fit_body k same m n (P1a b) says low = tt
+    fit_body k same m n (P1b b report) says low = let few = i.few in omega arith
+    fit_body k same m n (P2a p) says low = tt
+    fit_body k same m n (P2b o s by) says low = λ b e. let q = low b e in let few = i.few in omega arith
+    fit_body k same m n (Propose s c) says low = tt
+    fit_body k same m n (Decision s c) says low = λ d e. agree laws v.cluster sound s d c ((sound.nodes n).decisions s d e) says
+    fit_body k same m n (Ask s) says low = tt
+
+    pub fit : (j : ℕ) (l : Letter (Command Op)) → slice_get v.cluster.letters j ≡ Some l → IsFit (node v.cluster l.to) l.body
+    fit j l at =
+        let there = In-get v.cluster.letters j l at in
+        let fair = Each-at (IsFair v.cluster) v.cluster.letters l sound.letters there in
+        fit_body v.cluster refl l.«from» l.to l.body fair.says (Each-at (λ l. BodyWithin v.taken l.body) v.cluster.letters l (reachable_within laws rules v i.reachable).letters there)
+
+    pub receiver : (j : ℕ) (l : Letter (Command Op)) → slice_get v.cluster.letters j ≡ Some l → HasNode l.to v.cluster
+    receiver j l at = record {
+      size = sound.size;
+      seated = record {
+        member = (Each-at (IsFair v.cluster) v.cluster.letters l sound.letters (In-get v.cluster.letters j l at)).receiver;
+        speaks = (sound.nodes l.to).leader.members;
+        node = (sound.nodes l.to).owner;
+      };
+    }
+
+module _ {O Op Reply : Type 0} (rules : Rules O Op Reply) (v w : World Op Reply) (is : v ≡ w) where
+  -- the step from the world as it was
+  pub from_view : (e : Event Op) (u : World Op Reply) → Step rules v e u → Step rules w e u
+  from_view e u s = subst (λ y. Step rules y e u) is s
+
+  pub member_in_view : (n : ℕ) → is_member w.cluster.members n ≡ true → is_member v.cluster.members n ≡ true
+  member_in_view n member = ap (λ y. is_member y.cluster.members n) is ∙ member
+
+module _ {O Op Reply : Type 0} (rules : Rules O Op Reply) (v : World Op Reply) where
+  -- a row that the cluster alone has taken
+  pub row : (e : Event Op) (k z : Cluster (Command Op)) → k ≡ z → Step rules v e (counted (with_cluster v z)) → Step rules v e (counted (with_cluster v k))
+  row e k z same s = subst (λ y. Step rules v e (counted (with_cluster v y))) (sym same) s
+
+  some_letter : (ls : List (Letter (Command Op))) (j : ℕ) → j < length ls → (l : Letter (Command Op)) × (slice_get ls j ≡ Some l)
+  some_letter [] j h = absurd (omega arith)
+  some_letter (l ∷ ls) zero h = (l, refl)
+  some_letter (l ∷ ls) (suc j) h = some_letter ls j (omega arith)
+
+  pub deliver_row : (j : ℕ) (k : Cluster (Command Op)) → j < length v.cluster.letters → ((l : Letter (Command Op)) → slice_get v.cluster.letters j ≡ Some l → Delivered v.cluster l k) → Step rules v (events.Deliver j) (counted (with_cluster v k))
+  deliver_row j k within delivered =
+      let l = some_letter v.cluster.letters j within in
+      let d = delivered l.0 l.1 in
+      row (events.Deliver j) k (turned v.cluster l.0.to d.0 d.1) d.3 (deliver j l.0 d.0 d.1 l.1 d.2)
+
+  -- a replica performs
+  performs_if : (n : ℕ) → is_member v.cluster.members n ≡ true → (o : Option (Command Op)) → next_decided (node v.cluster n).replica ≡ o → (k : Cluster (Command Op)) (given : List (Answer Reply)) (reach : ℕ)
+      → (o ≡ None → (k ≡ v.cluster) × (given ≡ v.happenings.answers))
+      → ((c : Command Op) → o ≡ Some c → k ≡ replica_turn v.cluster n (advanced (is_one rules) (node v.cluster n).replica) [])
+      → ((c : Command Op) → o ≡ Some c → given ≡ v.happenings.answers ++ answers_after rules (history (node v.cluster n).replica) c)
+      → reach ≡ Rattle.std.specs.Option.option_map_or (λ s. max v.reach s) (option_map (λ _. (node v.cluster n).replica.slot_out) o) v.reach
+      → performed rules v n (node v.cluster n).replica o ≡ record v { cluster = k; happenings = record { submitted = v.happenings.submitted; answers = given }; reach = reach }
+  performs_if n member None e k given reach idle state out high =
+      let q = idle refl in
+      λ i. record { cluster = sym q.0 i; happenings = record { submitted = v.happenings.submitted; answers = sym q.1 i }; reach = sym high i; taken = v.taken }
+  performs_if n member (Some c) e k given reach idle state out high =
+      λ i. record { cluster = sym (state c refl) i; happenings = record { submitted = v.happenings.submitted; answers = sym (out c refl) i }; reach = sym high i; taken = v.taken }
+
+  pub performs : (n : ℕ) → is_member v.cluster.members n ≡ true → (k : Cluster (Command Op)) (given : List (Answer Reply)) (reach : ℕ)
+      → (next_decided (node v.cluster n).replica ≡ None → (k ≡ v.cluster) × (given ≡ v.happenings.answers))
+      → ((c : Command Op) → next_decided (node v.cluster n).replica ≡ Some c → k ≡ replica_turn v.cluster n (advanced (is_one rules) (node v.cluster n).replica) [])
+      → ((c : Command Op) → next_decided (node v.cluster n).replica ≡ Some c → given ≡ v.happenings.answers ++ answers_after rules (history (node v.cluster n).replica) c)
+      → reach ≡ Rattle.std.specs.Option.option_map_or (λ s. max v.reach s) (option_map (λ _. (node v.cluster n).replica.slot_out) (next_decided (node v.cluster n).replica)) v.reach
+      → Step rules v (events.Perform n) (counted (record v { cluster = k; happenings = record { submitted = v.happenings.submitted; answers = given }; reach = reach }))
+  performs n member k given reach idle state out high =
+      subst (λ y. Step rules v (events.Perform n) (counted y))
+      (performs_if n member (next_decided (node v.cluster n).replica) refl k given reach idle state out high)
+      (perform n member)
+
+-- a key with its own act
+acts_same : {Op : Type 0} (same : Op → Op → Bool) → ((x y : Op) → same x y ≡ true → x ≡ y) → (a b : Act Op) → same_acts same a b ≡ true → a ≡ b
+acts_same same exact (Do o) (Do p) h = ap Do (exact o p h)
+acts_same same exact (Do o) Close h = absurd (true≢false (sym h))
+acts_same same exact (Do o) Tick h = absurd (true≢false (sym h))
+acts_same same exact Close (Do p) h = absurd (true≢false (sym h))
+acts_same same exact Close Close h = refl
+acts_same same exact Close Tick h = absurd (true≢false (sym h))
+acts_same same exact Tick (Do p) h = absurd (true≢false (sym h))
+acts_same same exact Tick Close h = absurd (true≢false (sym h))
+acts_same same exact Tick Tick h = refl
+
+key_same : (a b : Key) → same_key a b ≡ true → a ≡ b
+key_same a b h =
+    let s : a.session ≡ b.session = grind (arith, nat_tests) in
+    let n : a.number ≡ b.number = grind (arith, nat_tests) in
+    λ i. record { session = s i; number = n i }
+
+both : (a b rest : Bool) → ((a && not b) || rest) ≡ false → a ≡ true → b ≡ true
+both true true rest h e = refl
+both true false rest h e = absurd (true≢false h)
+both false b rest h e = absurd (true≢false (sym e))
+
+later : (a rest : Bool) → (a || rest) ≡ false → rest ≡ false
+later true rest h = absurd (true≢false h)
+later false rest h = h
+
+pub its_own : {Op : Type 0} (same : Op → Op → Bool) → ((x y : Op) → same x y ≡ true → x ≡ y) → (submitted : List (Submission Op)) (c : Command Op) → has_other_act same submitted c ≡ false → IsItsOwn c submitted
+its_own same exact [] c h s at k = absurd at
+its_own same exact (x ∷ xs) c h s (inl e) k =
+    let l : same_key x.command.key c.key ≡ true = ap (λ y. same_key y.command.key c.key) (sym e) ∙ k in
+    let act = acts_same same exact x.command.act c.act (both (same_key x.command.key c.key) (same_acts same x.command.act c.act) (has_other_act same xs c) h l) in
+    ap (λ y. y.command) e ∙ (λ i. record { key = key_same x.command.key c.key l i; act = act i })
+its_own same exact (x ∷ xs) c h s (inr at) k = its_own same exact xs c (later (same_key x.command.key c.key && not (same_acts same x.command.act c.act)) (has_other_act same xs c) h) s at k
+
+-- a submission, where its key is new
+noted_if : {Op Reply : Type 0} (h : Happenings Op Reply) (x : Submission Op) (test : Bool) → cond test h (record h { submitted = h.submitted ++ (x ∷ []) }) ≡ record h { submitted = h.submitted ++ option_to_list (cond test None (Some x)) }
+noted_if h x true = λ i. record { submitted = sym (append-nil h.submitted) i; answers = h.answers }
+noted_if h x false = refl
+
+pub submit_row : {O Op Reply : Type 0} (rules : Rules O Op Reply) (v : World Op Reply) (n : ℕ) (c : Command Op) (k : Cluster (Command Op)) (submitted : List (Submission Op)) → is_member v.cluster.members n ≡ true → IsItsOwn c v.happenings.submitted
+    → k ≡ replica_turn v.cluster n (requested (is_one rules) (node v.cluster n).replica c) []
+    → submitted ≡ v.happenings.submitted ++ option_to_list (cond (is_submitted c.key v.happenings.submitted) None (Some (record { command = c; after = length v.happenings.answers })))
+    → Step rules v (events.Submit n c) (counted (record v { cluster = k; happenings = record { submitted = submitted; answers = v.happenings.answers } }))
+submit_row rules v n c k submitted member own asked more =
+    subst (λ y. Step rules v (events.Submit n c) (counted y))
+    (λ i. record {
+      cluster = sym asked i;
+      happenings = (noted_if v.happenings (record { command = c; after = length v.happenings.answers }) (is_submitted c.key v.happenings.submitted) ∙ (λ j. record { submitted = sym more j; answers = v.happenings.answers })) i;
+      reach = v.reach;
+      taken = v.taken;
+    })
+    (submit n c member own)
+
+-- what is not refused is allowed
+not_not : (b : Bool) → not b ≡ false → b ≡ true
+not_not true h = refl
+not_not false h = absurd (true≢false h)
+
+none_if : {X : Type 0} (test : Bool) (x : X) (o : Option X) → cond test (Some x) o ≡ None → (test ≡ false) × (o ≡ None)
+none_if true x o h = absurd (cc)
+none_if false x o h = (refl, h)
+
+pub allowed : {Op Reply : Type 0} (same : Op → Op → Bool) (w : World Op Reply) (e : Event Op) → refusal same w e ≡ None → IsAllowed same w e
+unfolding refusal
+allowed same w e h =
+    let a = none_if (not (is_at_member w.cluster.members e)) WorldError.NoSuchNode _ h in
+    let b = none_if (not (is_sent (length w.cluster.letters) e)) WorldError.NoSuchLetter _ a.1 in
+    let c = none_if (not (keeps_acts same w.happenings.submitted e)) WorldError.BadNumber _ b.1 in
+    let d = none_if (nat_le most_events w.taken) WorldError.Full None c.1 in
+    let full = d.0 in
+    record {
+      member = not_not (is_at_member w.cluster.members e) a.0;
+      sent = not_not (is_sent (length w.cluster.letters) e) b.0;
+      acts = not_not (keeps_acts same w.happenings.submitted e) c.0;
+      room = grind (arith, nat_tests);
+    }

@@ -1,0 +1,61 @@
+ghost use Rattle.std.specs.Prelude.{◌≡◌, ◌<◌, ◌++◌, ◌&&◌, not, None, Some, IfOk, if◌then◌else◌, vec_len, vec_capacity};
+ghost use Rattle.std.specs.Option.{option_to_list};
+ghost use Rattle.object.specs.Commands.{same_acts};
+ghost use Rattle.world.specs.Worlds.{same_key, is_submitted};
+ghost use Rattle.world.specs.Refusals.{has_other_act};
+
+use object::{Command, Key, Submission, Value};
+use std::alloc::AllocError;
+
+/// Whether the key was submitted.
+pub(crate) fn is_submitted<Op: Value>(submitted: &[Submission<Op>], key: Key) -> bool
+    ensures { result ≡ is_submitted key submitted.now }
+{
+    submitted.iter().any(|s| s.command.key() == key)
+}
+
+/// Whether the command's key was submitted with another act.
+pub(crate) fn has_other_act<Op: Value>(
+    submitted: &[Submission<Op>],
+    command: &Command<Op>,
+) -> bool
+    ensures { result ≡ has_other_act Op.eq submitted.now command.now }
+{
+    submitted
+        .iter()
+        .any(|s| is_other_act(&s.command, command))
+}
+
+// Whether two commands of one key have different acts.
+fn is_other_act<Op: Value>(a: &Command<Op>, b: &Command<Op>) -> bool
+    ensures { result ≡ (same_key a.now.key b.now.key && not (same_acts Op.eq a.now.act b.now.act)) }
+{
+    a.key() == b.key() && a.act() != b.act()
+}
+
+/// The command as a submission after so many answers, unless its key was submitted.
+pub(crate) fn new_submission<Op: Value>(
+    submitted: &[Submission<Op>],
+    command: &Command<Op>,
+    after: usize,
+) -> Result<Option<Submission<Op>>, AllocError>
+    ensures { IfOk result (λ added. added ≡ (if is_submitted command.now.key submitted.now then None else Some (record { command = command.now; after = after }))) }
+{
+    if is_submitted(submitted, command.key()) {
+        return Ok(None);
+    }
+    Ok(Some(Submission {
+        command: command.copy()?,
+        after,
+    }))
+}
+
+/// Puts one more at the end, where there is one, into the room that is kept.
+pub(crate) fn push_in_room<T: Drop>(items: &mut Vec<T>, item: Option<T>)
+    requires { vec_len items.old < vec_capacity items.old }
+    ensures { items.new.items ≡ items.old.items ++ option_to_list item }
+{
+    if let Some(item) = item {
+        let _ = items.push(item);
+    }
+}
