@@ -1,22 +1,18 @@
 -- A replica's object behind its filter, and the replay of what it performed.
-use Rattle.std.proofs.Common.{◌≡◌, Bool, true, false, true≢false, ◌&&◌, cond, List, [], ◌∷◌, ◌++◌, length, fold, refl, sym, ap, ◌∙◌}
+use Rattle.std.proofs.Common.{◌≡◌, Bool, true, false, true≢false, cond, List, [], ◌∷◌, ◌++◌, length, fold, refl, sym, ap, ◌∙◌}
 use Rattle.std.specs.FinMap.{empty}
 use Rattle.object.specs.declared.command.Command.{Command}
 use Rattle.object.specs.Replays.{replay, is_new, kept_after, kept}
 use Rattle.object.specs.OnceOnly.{LatestNumbers, Filtered, Remembers, is_later, noted, filtered, filtered_answers}
 use Rattle.world.specs.Objects.{Rules}
 use Rattle.world.specs.Histories.{at_place, answers_after, obeyed}
-use Rattle.world.proofs.Replays.{seen_by, is_new-seen, kept-push_new, last_place}
+use Rattle.world.proofs.Replays.{seen_by, is_new-all, kept-push_new, last_place}
 
 -- what a filter remembers, as the crate of objects states it
 pub record FilterLaws (Op : Type 0) : Type 0 where
   pub none : Remembers {Op = Op} empty []
   pub done : (latest : LatestNumbers) (earlier : List (Command Op)) (c : Command Op) → Remembers latest earlier → is_later c.key latest ≡ true → Remembers (noted c.key latest) (c ∷ earlier)
   pub stale : (latest : LatestNumbers) (earlier : List (Command Op)) (c : Command Op) → Remembers latest earlier → is_later c.key latest ≡ false → Remembers latest (c ∷ earlier)
-
-and_true : (a : Bool) → (a && true) ≡ a
-and_true true = refl
-and_true false = refl
 
 module _ {O Op Reply : Type 0} (laws : FilterLaws Op) (rules : Rules O Op Reply) where
   -- the filter knows what was seen, and the object obeyed what was kept of it
@@ -53,7 +49,7 @@ module _ {O Op Reply : Type 0} (laws : FilterLaws Op) (rules : Rules O Op Reply)
 
   -- the filter lets through what is new
   pub later_obeyed : (earlier : List (Command Op)) (c : Command Op) → is_later c.key (obeyed rules earlier).latest ≡ is_new c earlier
-  later_obeyed earlier c = (now earlier).latest c ∙ is_new-seen c [] earlier ∙ and_true (is_new c earlier)
+  later_obeyed earlier c = (now earlier).latest c ∙ is_new-all c earlier
 
 -- what is answered to a command that is new
 pub answers_new : {O Op Reply : Type 0} (rules : Rules O Op Reply) (earlier : List (Command Op)) (c : Command Op) → is_new c earlier ≡ true → answers_after rules earlier c ≡ rules.answers (fold rules.after rules.fresh (kept earlier)) c

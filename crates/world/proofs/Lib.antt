@@ -14,5 +14,16 @@ pub mod Bounds
 pub mod Keeping
 pub mod Replays
 pub mod Histories
+pub mod Growing
+pub mod Deciding
+pub mod Origins
+pub mod Submitted
+pub mod Timeline
+pub mod Rising
+pub mod Once
+pub mod Performed
+pub mod Answered
+pub mod Legal
+pub mod OneOrder
 pub mod Received
 pub mod Events

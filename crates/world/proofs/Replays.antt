@@ -25,21 +25,24 @@ and_swap false false s = refl
 abbrev pub is_before : {Op : Type 0} → Command Op → Command Op → Bool
 is_before c d = not (d.key.session == c.key.session) || nat_lt d.key.number c.key.number
 
-pub is_new-seen : {Op : Type 0} (c : Command Op) (seen cs : List (Command Op)) → is_new c (seen_by seen cs) ≡ (is_new c cs && is_new c seen)
+is_new-seen : {Op : Type 0} (c : Command Op) (seen cs : List (Command Op)) → is_new c (seen_by seen cs) ≡ (is_new c cs && is_new c seen)
 is_new-seen c seen [] = refl
 is_new-seen c seen (d ∷ cs) = is_new-seen c (d ∷ seen) cs ∙ and_swap (is_new c cs) (is_before c d) (is_new c seen)
+
+pub is_new-all : {Op : Type 0} (c : Command Op) (cs : List (Command Op)) → is_new c (seen_by [] cs) ≡ is_new c cs
+is_new-all c cs = is_new-seen c [] cs ∙ and_true (is_new c cs)
 
 kept_step : {A : Type 0} (test : Bool) (d : A) (more ks all : List A) → all ≡ ks ++ more → cond test (d ∷ all) all ≡ cond test (d ∷ ks) ks ++ more
 kept_step true d more ks all e = ap (λ xs. d ∷ xs) e
 kept_step false d more ks all e = e
 
-kept_after-push : {Op : Type 0} (c : Command Op) (seen cs : List (Command Op)) → kept_after seen (cs ++ (c ∷ [])) ≡ kept_after seen cs ++ cond (is_new c (seen_by seen cs)) (c ∷ []) []
-kept_after-push c seen [] = refl
-kept_after-push c seen (d ∷ cs) = kept_step (is_new d seen) d _ (kept_after (d ∷ seen) cs) (kept_after (d ∷ seen) (cs ++ (c ∷ []))) (kept_after-push c (d ∷ seen) cs)
+pub kept_after-append : {Op : Type 0} (seen cs ds : List (Command Op)) → kept_after seen (cs ++ ds) ≡ kept_after seen cs ++ kept_after (seen_by seen cs) ds
+kept_after-append seen [] ds = refl
+kept_after-append seen (c ∷ cs) ds = kept_step (is_new c seen) c (kept_after (seen_by (c ∷ seen) cs) ds) (kept_after (c ∷ seen) cs) (kept_after (c ∷ seen) (cs ++ ds)) (kept_after-append (c ∷ seen) cs ds)
 
 -- one command more is kept where it is new, and else nothing is
 pub kept-push : {Op : Type 0} (cs : List (Command Op)) (c : Command Op) → kept (cs ++ (c ∷ [])) ≡ kept cs ++ cond (is_new c cs) (c ∷ []) []
-kept-push cs c = kept_after-push c [] cs ∙ ap (λ b. kept cs ++ cond b (c ∷ []) []) (is_new-seen c [] cs ∙ and_true (is_new c cs))
+kept-push cs c = kept_after-append [] cs (c ∷ []) ∙ ap (λ b. kept cs ++ cond b (c ∷ []) []) (is_new-all c cs)
 
 pub kept-push_new : {Op : Type 0} (cs : List (Command Op)) (c : Command Op) → is_new c cs ≡ true → kept (cs ++ (c ∷ [])) ≡ kept cs ++ (c ∷ [])
 kept-push_new cs c e = kept-push cs c ∙ ap (λ b. kept cs ++ cond b (c ∷ []) []) e

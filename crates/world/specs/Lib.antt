@@ -9,3 +9,6 @@ pub mod Refusals
 pub mod Kept
 pub mod Chosen
 pub mod Agreements
+pub mod Legal
+pub mod OneOrder
+pub mod Reached

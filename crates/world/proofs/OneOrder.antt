@@ -1,0 +1,30 @@
+-- Every reachable world has one order, and it and the happenings only grow.
+use Rattle.std.proofs.Common.{List}
+use Rattle.object.specs.declared.command.Key.{Key}
+use Rattle.world.specs.declared.event.Event.{Event}
+use Rattle.world.specs.Objects.{Rules}
+use Rattle.world.specs.Worlds.{World}
+use Rattle.world.specs.Runs.{Leads, IsReachable}
+use Rattle.world.specs.OneOrder.{HasOneOrder, IsLater}
+use Rattle.world.proofs.Orders.{BallotLaws}
+use Rattle.world.proofs.Growing.{happenings_go_on, order_grows, one_order}
+use Rattle.world.proofs.Deciding.{has_order}
+use Rattle.world.proofs.Once.{ObjectLaws}
+use Rattle.world.proofs.Legal.{reachable_legal}
+
+module _ (laws : BallotLaws) {O Op Reply : Type 0} (rules : Rules O Op Reply) where
+  pub leads_later : (w u : World Op Reply) (es : List (Event Op)) → IsReachable rules w → Leads rules w es u → IsLater w u
+  leads_later w u es r l = record {
+    happenings = happenings_go_on rules w u es l;
+    order = λ cs ds h g. order_grows laws rules w u es r l cs ds h g;
+  }
+
+  pub reachable_one_order : (waits : O → Key → Type 0) → ObjectLaws rules waits → (w : World Op Reply) → IsReachable rules w → HasOneOrder rules w
+  reachable_one_order waits object w r =
+      let h = has_order laws rules w r in
+      record {
+        order = h.0;
+        is = h.1;
+        only = λ other g. one_order laws rules w r other h.0 g h.1;
+        legal = reachable_legal laws rules waits object w r h.0 h.1;
+      }
