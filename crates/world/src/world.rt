@@ -9,6 +9,7 @@ ghost use Rattle.world.specs.Worlds.{opening};
 ghost use Rattle.world.specs.Steps.{Step, IsItsOwn};
 ghost use Rattle.world.specs.Runs.{Leads};
 ghost use Rattle.world.specs.Refusals.{refusal, IsRefused, is_at_member, is_sent, keeps_acts, most_events, IsAllowed};
+ghost use Rattle.world.specs.OneOrder.{HasOneOrder, IsLater};
 ghost use Rattle.world.specs.Agreements.{HasOneCommand, KeepsChosen, ChoosesOne, DecidesChosen, StaysChosen};
 
 use crate::cluster::Cluster;
@@ -89,6 +90,8 @@ impl<O: Object> World<O> {
         ensures chooses_one { ChoosesOne self.new.cluster }
         ensures decides_chosen { DecidesChosen self.new.cluster }
         ensures stays { StaysChosen self.old.cluster self.new.cluster }
+        ensures one_order { HasOneOrder (rules_of O.fresh O.after O.answers O.Op.eq) self.new }
+        ensures later { IsLater self.old self.new }
     {
         let taken = self.take(event);
         self.agrees();
@@ -107,6 +110,8 @@ impl<O: Object> World<O> {
         ensures chooses_one { ChoosesOne self.new.cluster }
         ensures decides_chosen { DecidesChosen self.new.cluster }
         ensures stays { StaysChosen self.old.cluster self.new.cluster }
+        ensures one_order { HasOneOrder (rules_of O.fresh O.after O.answers O.Op.eq) self.new }
+        ensures later { IsLater self.old self.new }
     {
         let ran = self.take_all(events);
         self.agrees();
@@ -120,7 +125,10 @@ impl<O: Object> World<O> {
         ensures place { IfErr result (λ e. e.0 < length events.now) }
         ensures refused { IfErr result (λ e. IsRefused O.Op.eq self.new events.now e.0 e.1) }
         ensures stays { StaysChosen self.old.cluster self.new.cluster }
+        ensures later { IsLater self.old self.new }
     {
+        let _ = &self.alloc;
+        ballot_laws();
         for (index, event) in events.iter().enumerate() {
             if let Err(refused) = self.take_copy(event) {
                 return Err((index, refused));
@@ -135,7 +143,10 @@ impl<O: Object> World<O> {
         ensures err { OnErr result (self.new ≡ self.old) }
         ensures refused { IfErr result (λ r. (r ≡ OutOfMemory) ⊎ (refusal O.Op.eq self.old event.now ≡ Some r)) }
         ensures stays { StaysChosen self.old.cluster self.new.cluster }
+        ensures later { IsLater self.old self.new }
     {
+        let _ = &self.alloc;
+        ballot_laws();
         let event = event.copy()?;
         self.take(event)
     }
@@ -147,6 +158,7 @@ impl<O: Object> World<O> {
         ensures refused { (r : WorldError) → refusal O.Op.eq self.old event ≡ Some r → result ≡ Err r }
         ensures memory { refusal O.Op.eq self.old event ≡ None → IfErr result (λ r. r ≡ OutOfMemory) }
         ensures stays { StaysChosen self.old.cluster self.new.cluster }
+        ensures later { IsLater self.old self.new }
     {
         let _ = &self.alloc;
         ballot_laws();
@@ -234,6 +246,7 @@ impl<O: Object> World<O> {
         ensures keeps_chosen { KeepsChosen self.now.cluster }
         ensures chooses_one { ChoosesOne self.now.cluster }
         ensures decides_chosen { DecidesChosen self.now.cluster }
+        ensures one_order { HasOneOrder (rules_of O.fresh O.after O.answers O.Op.eq) self.now }
     {
         let _ = &self.alloc;
         ballot_laws();

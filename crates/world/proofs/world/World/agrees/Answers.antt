@@ -1,5 +1,5 @@
 use Rattle.world.specs.Objects.{rules_of}
-use Rattle.world.proofs.Events.{sound_now}
+use Rattle.world.proofs.Events.{sound_now, order_now}
 use Rattle.world.proofs.Invariants.{one_command, keeps_chosen, agree, decides_chosen}
 use Rattle.world.proofs.world.World.agrees.Goals as goal
 
@@ -14,3 +14,9 @@ returns-clause-chooses_one g c = agree c.ballot_laws.ensures c.args.self.now.clu
 
 pub returns-clause-decides_chosen : goal.returns-clause-decides_chosen
 returns-clause-decides_chosen g c = decides_chosen c.ballot_laws.ensures c.args.self.now.cluster (sound_now c.ballot_laws.ensures (rules_of g.O.Object.fresh g.O.Object.after g.O.Object.answers g.O.Op.PartialEq.eq) _ _ c.self.view_is c.self.invariant)
+
+pub returns-clause-one_order : goal.returns-clause-one_order
+returns-clause-one_order g c =
+    order_now c.ballot_laws.ensures (rules_of g.O.Object.fresh g.O.Object.after g.O.Object.answers g.O.Op.PartialEq.eq) g.O.Object.waits
+    (record { idle = g.met.O.Object.idle; waited = g.met.O.Object.waited; named = g.met.O.Object.named; over = g.met.O.Object.over; once = g.met.O.Object.once })
+    _ _ c.self.view_is c.self.invariant
