@@ -1,0 +1,6 @@
+pub mod Names
+pub mod Entries
+pub mod States
+pub mod Changes
+pub mod Least
+pub mod LookUps

@@ -1,0 +1,16 @@
+//! The jobs of a work queue: names of tubes, bodies, states, and the map of jobs by id with its least look-ups.
+#![tactic(auto)]
+
+mod body;
+mod change;
+mod job;
+mod job_map;
+mod name;
+mod state;
+
+pub use body::Body;
+pub use change::Change;
+pub use job::Job;
+pub use job_map::JobMap;
+pub use name::Name;
+pub use state::State;
