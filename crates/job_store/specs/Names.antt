@@ -8,6 +8,10 @@ abbrev pub IsNameByte : ℕ → Type 0
 IsNameByte b =
     ((65 ≤ b) × (b ≤ 90)) ⊎ ((97 ≤ b) × (b ≤ 122)) ⊎ ((48 ≤ b) × (b ≤ 57)) ⊎ In b (codes "-+/;.$_()")
 
+-- a name may have each of the bytes
+abbrev pub AreNameBytes : List ℕ → Type 0
+AreNameBytes name = (b : ℕ) → In b name → IsNameByte b
+
 -- a hyphen stands first
 abbrev pub BeginsWithHyphen : List ℕ → Type 0
 BeginsWithHyphen name = slice_get name 0 ≡ Some 45
@@ -16,5 +20,5 @@ BeginsWithHyphen name = slice_get name 0 ≡ Some 45
 pub record IsName (name : List ℕ) : Type 0 where
   pub some : 1 ≤ length name
   pub few : length name ≤ 200
-  pub bytes : (b : ℕ) → In b name → IsNameByte b
+  pub bytes : AreNameBytes name
   pub first : BeginsWithHyphen name → ⊥

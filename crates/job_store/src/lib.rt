@@ -5,6 +5,7 @@ mod body;
 mod change;
 mod job;
 mod job_map;
+mod laws;
 mod name;
 mod state;
 
@@ -12,5 +13,6 @@ pub use body::Body;
 pub use change::Change;
 pub use job::Job;
 pub use job_map::JobMap;
+pub use laws::{among_is_member, least_is_least};
 pub use name::Name;
 pub use state::State;

@@ -1,5 +1,5 @@
-ghost use Rattle.std.specs.Prelude.{◌≡◌, IfOk, true, codes};
-ghost use Rattle.job_store.specs.Names.{IsName};
+ghost use Rattle.std.specs.Prelude.{◌≡◌, ◌↔◌, IfOk, SomeIff, IsTrue, true, codes};
+ghost use Rattle.job_store.specs.Names.{IsName, IsNameByte, AreNameBytes};
 
 use bytes::Bytes;
 use object::Value;
@@ -27,7 +27,43 @@ impl Model for Name {
     ghost inverse = { λ n. record { bytes = n } };
 }
 
+/// Whether a name may have the byte.
+fn is_name_byte(byte: u8) -> bool
+    ensures { IsTrue result ↔ IsNameByte byte }
+{
+    byte.is_ascii_alphanumeric() || b"-+/;.$_()".contains(&byte)
+}
+
+/// Whether a name may have each of the bytes.
+fn are_name_bytes(bytes: &[u8]) -> bool
+    ensures { IsTrue result ↔ AreNameBytes bytes.now }
+{
+    bytes.iter().all(|byte| is_name_byte(*byte))
+}
+
+/// Whether the bytes are the name of a tube.
+fn is_name(bytes: &[u8]) -> bool
+    ensures { IsTrue result ↔ IsName bytes.now }
+{
+    match bytes.first() {
+        Some(first) if *first != b'-' => bytes.len() <= 200 && are_name_bytes(bytes),
+        _ => false,
+    }
+}
+
 impl Name {
+    /// The name of these bytes, which are copied, where they keep the rule.
+    pub fn new(alloc: Global, bytes: &[u8]) -> Result<Option<Name>, AllocError>
+        ensures { IfOk result (λ name. SomeIff name (IsName bytes.now) bytes.now) }
+    {
+        if !is_name(bytes) {
+            return Ok(None);
+        }
+        Ok(Some(Name {
+            bytes: Bytes::copy_from_slice(alloc, bytes)?,
+        }))
+    }
+
     /// The tube that every session uses and watches at first, `default`. It takes no memory.
     pub fn default_tube() -> Name
         ensures { result ≡ codes "default" }
