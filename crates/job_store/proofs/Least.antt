@@ -1,6 +1,6 @@
 -- What is least: the test decides what it is named after, and the answer is what is asked for.
 use Rattle.std.proofs.Common.{◌≡◌, ◌↔◌, ℕ, suc, ◌≤◌, Bool, true, false, cond, ◌&&◌, inl, inr, List, [], ◌∷◌, Option, Some, None, option_map, MatchOption, IfSome, IfNone, ◌==◌, nat_lt, bytes_eq, refl, sym, ap, subst, ◌∙◌, arith, eq-eqb, eqb-true, ltb-true, lt-ltb}
-use Rattle.std.proofs.lemmas.Bool.{both_ways, or_cases, or_left, or_right, and_parts, and_from}
+use Rattle.std.proofs.lemmas.Bool.{both_ways, cond-true, cond-false, or_cases, or_left, or_right, and_parts, and_from}
 use Rattle.std.proofs.lemmas.Slice.Eq.{bytes_eq-Decides}
 use Rattle.object.specs.Lists.{In}
 use Rattle.job_store.specs.Entries.{Rising}
@@ -42,6 +42,36 @@ module _ {X : Type 0} (by : X → ℕ) where
 
   same_key : (d e : ℕ × X) → (ComesBefore by d e → ⊥) → (ComesBefore by e d → ⊥) → d.0 ≡ e.0
   same_key d e de ed = grind arith
+
+  -- Of three, the one that comes first
+
+  before_twice : (y e d : ℕ × X) → ComesBefore by y e → ComesBefore by e d → ComesBefore by y d
+  before_twice y e d (inl h) (inl k) = inl (omega arith)
+  before_twice y e d (inl h) (inr k) = inl (omega (arith, k.0))
+  before_twice y e d (inr h) (inl k) = inl (omega (arith, h.0))
+  before_twice y e d (inr h) (inr k) = inr (h.0 ∙ k.0, omega (arith, h.1, k.1))
+
+  fails_before : (d e : ℕ × X) → (ComesBefore by d e → ⊥) → comes_before by d e ≡ false
+  fails_before d e never =
+      elim (comes_before by d e) as (λ b. comes_before by d e ≡ b → b ≡ false) [ true ↦ λ t. absurd (never (before d e t)) | false ↦ λ t. refl ] refl
+
+  pub lesser-lesser : (d e : ℕ × X) (o : Option (ℕ × X)) → lesser by (lesser by d (Some e)) o ≡ lesser by d (Some (lesser by e o))
+  lesser-lesser d e None = refl
+  lesser-lesser d e (Some y) =
+      elim (comes_before by e d) as (λ a. comes_before by e d ≡ a → lesser by (cond a e d) (Some y) ≡ lesser by d (Some (lesser by e (Some y)))) [
+        | true ↦ λ a.
+            elim (comes_before by y e) as (λ b. comes_before by y e ≡ b → cond b y e ≡ lesser by d (Some (cond b y e))) [
+              | true ↦ λ b. sym (cond-true (comes_before by y d) y d (passes_before y d (before_twice y e d (before y e b) (before e d a))))
+              | false ↦ λ b. sym (cond-true (comes_before by e d) e d a)
+            ] refl
+        | false ↦ λ a.
+            elim (comes_before by y e) as (λ b. comes_before by y e ≡ b → lesser by d (Some y) ≡ lesser by d (Some (cond b y e))) [
+              | true ↦ λ b. refl
+              | false ↦ λ b.
+                  cond-false (comes_before by y d) y d (fails_before y d (never_between y d e (not_before e d a) (not_before y e b))) ∙
+                  sym (cond-false (comes_before by e d) e d a)
+            ] refl
+      ] refl
 
 -- An entry is the only one at its key
 

@@ -4,3 +4,4 @@ pub mod States
 pub mod Changes
 pub mod Least
 pub mod LookUps
+pub mod Searches

@@ -6,6 +6,7 @@ mod change;
 mod job;
 mod job_map;
 mod laws;
+mod look_up;
 mod name;
 mod state;
 
