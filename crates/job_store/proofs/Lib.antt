@@ -1,3 +1,5 @@
 pub mod Names
+pub mod Entries
+pub mod AfterChanges
 pub mod Least
 pub mod Searches

@@ -3,8 +3,10 @@
 
 mod body;
 mod change;
+mod changes;
 mod job;
 mod job_map;
+mod jobs;
 mod laws;
 mod look_up;
 mod name;
@@ -14,6 +16,7 @@ pub use body::Body;
 pub use change::Change;
 pub use job::Job;
 pub use job_map::JobMap;
+pub use jobs::Jobs;
 pub use laws::{among_is_member, least_is_least};
 pub use name::Name;
 pub use state::State;

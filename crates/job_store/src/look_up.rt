@@ -4,6 +4,7 @@ use indexmap::IndexSet;
 use std::collections::BTreeMap;
 
 /// What is looked for among the jobs.
+#[derive(Clone, Copy)]
 pub enum LookUp<'a> {
     /// Ready, in one of these tubes.
     ReadyIn(&'a IndexSet<Name>),
@@ -20,8 +21,8 @@ pub enum LookUp<'a> {
 }
 
 impl<'a> LookUp<'a> {
-    ghost use Rattle.std.specs.Prelude.{◌≡◌, option_map, Some};
-    ghost use Rattle.job_store.specs.Least.{least, comes_before};
+    ghost use Rattle.std.specs.Prelude.{◌≡◌, option_map, Some, IfSome, IfNone};
+    ghost use Rattle.job_store.specs.Least.{least, comes_before, IsLeast, NonePasses};
     ghost use Rattle.job_store.specs.Searches.{passes, number, first_of};
 
     /// Whether the job, under this id, is one that is looked for.
@@ -70,7 +71,9 @@ impl<'a> LookUp<'a> {
 
     /// The entry with the least pair of number and id among those that are looked for.
     pub fn least<'b>(&self, jobs: &'b BTreeMap<u64, Job>) -> Option<(u64, &'b Job)>
-        ensures { option_map (λ e. (e.0, e.1.now)) result ≡ least (passes self.now) (number self.now) jobs.now.entries }
+        ensures job { option_map (λ e. (e.0, e.1.now)) result ≡ least (passes self.now) (number self.now) jobs.now.entries }
+        ensures found { IfSome result (λ e. IsLeast (passes self.now) (number self.now) jobs.now.entries (e.0, e.1.now)) }
+        ensures none { IfNone result (NonePasses (passes self.now) jobs.now.entries) }
     {
         let mut least = None;
         for (id, job) in jobs {

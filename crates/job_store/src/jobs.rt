@@ -1,0 +1,120 @@
+ghost use Rattle.std.specs.Prelude.{◌≡◌, ◌^◌, IfOk};
+ghost use Rattle.job_store.specs.Entries.{Rising};
+
+use crate::change::Change;
+use crate::changes::{make, make_all, set_state};
+use crate::job::Job;
+use crate::job_map::JobMap;
+use crate::look_up::LookUp;
+use crate::name::Name;
+use crate::state::State;
+use indexmap::IndexSet;
+use object::Value;
+use std::alloc::{AllocError, Global};
+use std::collections::BTreeMap;
+use std::marker::Model;
+
+/// A map of jobs by id whose look-ups go over all jobs.
+#[derive(Drop)]
+pub struct Jobs {
+    alloc: Global,
+    jobs: BTreeMap<u64, Job>,
+}
+
+impl Model for Jobs {
+    ghost use Rattle.std.specs.Prelude.{◌^◌, List, ℕ};
+    ghost use Rattle.job_store.specs.declared.job.Job.{Job};
+    ghost use Rattle.job_store.specs.Entries.{Rising};
+
+    ghost Value = { List (ℕ × Job) };
+
+    ghost view = { λ m. m.jobs.entries };
+
+    ghost invariant = { λ m. Rising 0 (2 ^ 64) m.jobs.entries };
+}
+
+/// The same jobs under the same ids.
+fn copy_of(alloc: Global, jobs: &BTreeMap<u64, Job>) -> Result<BTreeMap<u64, Job>, AllocError>
+    requires { Rising 0 (2 ^ 64) jobs.now.entries }
+    ensures { IfOk result (λ copy. copy.entries ≡ jobs.now.entries) }
+{
+    let mut copy = BTreeMap::new(alloc);
+    for (id, job) in jobs {
+        copy.insert(*id, job.copy()?)?;
+    }
+    Ok(copy)
+}
+
+impl JobMap for Jobs {
+    ghost entries = { λ jobs. jobs };
+
+    fn new(alloc: Global) -> Self {
+        Jobs {
+            alloc,
+            jobs: BTreeMap::new(alloc),
+        }
+    }
+
+    fn copy(&self) -> Result<Self, AllocError> {
+        Ok(Jobs {
+            alloc: self.alloc,
+            jobs: copy_of(self.alloc, &self.jobs)?,
+        })
+    }
+
+    fn by_id(&self) -> &BTreeMap<u64, Job> {
+        &self.jobs
+    }
+
+    fn get(&self, id: u64) -> Option<&Job> {
+        self.jobs.get(&id)
+    }
+
+    fn insert(&mut self, id: u64, job: Job) -> Result<(), AllocError> {
+        self.jobs.insert(id, job)?;
+        Ok(())
+    }
+
+    fn set_state(&mut self, id: u64, state: State) -> Result<(), AllocError> {
+        set_state(&mut self.jobs, id, state);
+        Ok(())
+    }
+
+    fn set(&mut self, id: u64, pri: u32, state: State) -> Result<(), AllocError> {
+        make(&mut self.jobs, &Change { id, pri, state });
+        Ok(())
+    }
+
+    fn set_all(&mut self, changes: &[Change]) -> Result<(), AllocError> {
+        make_all(&mut self.jobs, changes);
+        Ok(())
+    }
+
+    fn remove(&mut self, id: u64) -> Option<Job> {
+        self.jobs.remove(&id)
+    }
+
+    fn best_ready(&self, tubes: &IndexSet<Name>) -> Option<(u64, &Job)> {
+        LookUp::ReadyIn(tubes).least(&self.jobs)
+    }
+
+    fn first_ready(&self, tube: &Name) -> Option<(u64, &Job)> {
+        LookUp::Ready(tube).least(&self.jobs)
+    }
+
+    fn first_delayed(&self, tube: &Name) -> Option<(u64, &Job)> {
+        LookUp::Delayed(tube).least(&self.jobs)
+    }
+
+    fn first_buried(&self, tube: &Name) -> Option<(u64, &Job)> {
+        LookUp::Buried(tube).least(&self.jobs)
+    }
+
+    fn due(&self, second: u64) -> Option<(u64, &Job)> {
+        LookUp::Due(second).least(&self.jobs)
+    }
+
+    fn first_held(&self, session: u32) -> Option<(u64, &Job)> {
+        LookUp::Held(session).least(&self.jobs)
+    }
+}
