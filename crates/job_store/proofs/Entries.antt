@@ -83,6 +83,11 @@ module _ {X : Type 0} where
   altered-none k lo hi f (e ∷ es) h r =
       ap₂ (λ v zs. (e.0, v) ∷ zs) (cond-false (k == e.0) (f e.1) e.1 (ne_eqb k e.0 (λ same. omega (arith, r.0)))) (altered-none k (suc e.0) hi f es (omega (arith, r.0)) r.1)
 
+  value_at-below-all : (k lo hi : ℕ) (es : List (ℕ × X)) → k < lo → Rising lo hi es → value_at k es ≡ None
+  value_at-below-all k lo hi [] h r = refl
+  value_at-below-all k lo hi (e ∷ es) h r =
+      value_at-next k e es (λ same. omega (arith, r.0)) ∙ value_at-below-all k (suc e.0) hi es (omega (arith, r.0)) r.1
+
   -- What `remove` leaves
   pub remove_entry-without : (k lo hi : ℕ) (es : List (ℕ × X)) → Rising lo hi es → remove_entry (is_at (nat_cmp k)) es ≡ without k es
   remove_entry-without k lo hi [] r = refl
@@ -118,6 +123,41 @@ module _ {X : Type 0} where
         | inr apart ↦
             cond-false (is_at (nat_cmp k) d.0) ((d.0, f v) ∷ es) (d ∷ set_value (is_at (nat_cmp k)) es (f v)) (at_other k d.0 apart) ∙
             ap₂ (λ u zs. (d.0, u) ∷ zs) (sym (cond-false (k == d.0) (f d.1) d.1 (ne_eqb k d.0 apart))) (set_value-altered k (suc d.0) hi f v es r.1 (sym (value_at-next k d es apart) ∙ e))
+      ]
+
+  -- What `insert` leaves at a key that is there
+  pub insert_entry-altered : (k lo hi : ℕ) (f : X → X) (v : X) (es : List (ℕ × X)) → Rising lo hi es → value_at k es ≡ Some v → insert_entry nat_cmp es k (f v) ≡ altered k f es
+  insert_entry-altered k lo hi f v [] r e = cc
+  insert_entry-altered k lo hi f v (d ∷ es) r e =
+      elim (cases_order k d.0) [
+        | inl same ↦
+            let here : Some d.1 ≡ Some v = sym (value_at-here k d es same) ∙ e in
+            let it : d.1 ≡ v = cc in
+            ap (λ o. match_ordering o ((k, f v) ∷ d ∷ es) ((d.0, f v) ∷ es) (d ∷ insert_entry nat_cmp es k (f v))) (cmp_equal k d.0 same) ∙
+            ap₂ (λ u zs. (d.0, u) ∷ zs) (ap f (sym it) ∙ sym (cond-true (k == d.0) (f d.1) d.1 (eq-eqb k d.0 same))) (sym (altered-none k (suc d.0) hi f es (omega (arith, same)) r.1))
+        | inr (inl below) ↦
+            let none = value_at-below-all k (suc d.0) hi es (omega arith) r.1 in
+            let there : Some v ≡ None = sym e ∙ value_at-next k d es (λ same. omega arith) ∙ none in cc
+        | inr (inr above) ↦
+            ap (λ o. match_ordering o ((k, f v) ∷ d ∷ es) ((d.0, f v) ∷ es) (d ∷ insert_entry nat_cmp es k (f v))) (cmp_greater k d.0 above) ∙
+            ap₂ (λ u zs. (d.0, u) ∷ zs) (sym (cond-false (k == d.0) (f d.1) d.1 (ne_eqb k d.0 (λ same. omega arith)))) (insert_entry-altered k (suc d.0) hi f v es r.1 (sym (value_at-next k d es (λ same. omega arith)) ∙ e))
+      ]
+
+  -- What is left where a value is changed back
+  pub altered-back : (k lo hi : ℕ) (f g : X → X) (v : X) (es : List (ℕ × X)) → Rising lo hi es → value_at k es ≡ Some v → g (f v) ≡ v → altered k g (altered k f es) ≡ es
+  altered-back k lo hi f g v [] r e back = refl
+  altered-back k lo hi f g v (d ∷ es) r e back =
+      elim (cases_eq k d.0) [
+        | inl same ↦
+            let here : Some d.1 ≡ Some v = sym (value_at-here k d es same) ∙ e in
+            let it : d.1 ≡ v = cc in
+            ap₂ (λ u zs. (d.0, u) ∷ zs)
+            (cond-true (k == d.0) (g _) _ (eq-eqb k d.0 same) ∙ ap g (cond-true (k == d.0) (f d.1) d.1 (eq-eqb k d.0 same) ∙ ap f it) ∙ back ∙ sym it)
+            (ap (altered k g) (altered-none k (suc d.0) hi f es (omega (arith, same)) r.1) ∙ altered-none k (suc d.0) hi g es (omega (arith, same)) r.1)
+        | inr apart ↦
+            ap₂ (λ u zs. (d.0, u) ∷ zs)
+            (cond-false (k == d.0) (g _) _ (ne_eqb k d.0 apart) ∙ cond-false (k == d.0) (f d.1) d.1 (ne_eqb k d.0 apart))
+            (altered-back k (suc d.0) hi f g v es r.1 (sym (value_at-next k d es apart) ∙ e) back)
       ]
 
   -- What a key that is absent changes

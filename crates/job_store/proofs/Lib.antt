@@ -1,5 +1,5 @@
 pub mod Names
 pub mod Entries
-pub mod AfterChanges
+pub mod Undone
 pub mod Least
 pub mod Searches

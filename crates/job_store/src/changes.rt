@@ -1,7 +1,7 @@
 ghost use Rattle.std.specs.Prelude.{◌≡◌, ◌^◌};
 ghost use Rattle.job_store.specs.Entries.{Rising, altered};
 ghost use Rattle.job_store.specs.States.{with_state};
-ghost use Rattle.job_store.specs.Changes.{after_change, after_changes};
+ghost use Rattle.job_store.specs.Changes.{after_change};
 
 use crate::change::Change;
 use crate::job::Job;
@@ -26,15 +26,5 @@ pub fn make(jobs: &mut BTreeMap<u64, Job>, change: &Change)
     if let Some(job) = jobs.get_mut(&change.id) {
         job.pri = change.pri;
         job.state = change.state;
-    }
-}
-
-/// Makes the changes, one after another.
-pub fn make_all(jobs: &mut BTreeMap<u64, Job>, changes: &[Change])
-    requires { Rising 0 (2 ^ 64) jobs.old.entries }
-    ensures { jobs.new.entries ≡ after_changes changes.now jobs.old.entries }
-{
-    for change in changes {
-        make(jobs, change);
     }
 }

@@ -2,12 +2,13 @@ ghost use Rattle.std.specs.Prelude.{◌≡◌, ◌^◌, IfOk};
 ghost use Rattle.job_store.specs.Entries.{Rising};
 
 use crate::change::Change;
-use crate::changes::{make, make_all, set_state};
+use crate::changes::{make, set_state};
 use crate::job::Job;
 use crate::job_map::JobMap;
 use crate::look_up::LookUp;
 use crate::name::Name;
 use crate::state::State;
+use crate::undo::{Undo, note, put, undo_all};
 use indexmap::IndexSet;
 use object::Value;
 use std::alloc::{AllocError, Global};
@@ -19,16 +20,19 @@ use std::marker::Model;
 pub struct Jobs {
     alloc: Global,
     jobs: BTreeMap<u64, Job>,
+    is_trial: bool,
+    /// What takes back the changes of the trial.
+    log: Vec<Undo>,
 }
 
 impl Model for Jobs {
-    ghost use Rattle.std.specs.Prelude.{◌^◌, List, ℕ};
-    ghost use Rattle.job_store.specs.declared.job.Job.{Job};
+    ghost use Rattle.std.specs.Prelude.{◌^◌};
     ghost use Rattle.job_store.specs.Entries.{Rising};
+    ghost use Rattle.job_store.specs.Undone.{MapState, with_log};
 
-    ghost Value = { List (ℕ × Job) };
+    ghost Value = { MapState };
 
-    ghost view = { λ m. m.jobs.entries };
+    ghost view = { λ m. with_log m.is_trial m.log.items m.jobs.entries };
 
     ghost invariant = { λ m. Rising 0 (2 ^ 64) m.jobs.entries };
 }
@@ -46,12 +50,16 @@ fn copy_of(alloc: Global, jobs: &BTreeMap<u64, Job>) -> Result<BTreeMap<u64, Job
 }
 
 impl JobMap for Jobs {
-    ghost entries = { λ jobs. jobs };
+    ghost entries = { λ m. m.jobs };
+
+    ghost before = { λ m. m.before };
 
     fn new(alloc: Global) -> Self {
         Jobs {
             alloc,
             jobs: BTreeMap::new(alloc),
+            is_trial: false,
+            log: Vec::new(alloc),
         }
     }
 
@@ -59,7 +67,24 @@ impl JobMap for Jobs {
         Ok(Jobs {
             alloc: self.alloc,
             jobs: copy_of(self.alloc, &self.jobs)?,
+            is_trial: false,
+            log: Vec::new(self.alloc),
         })
+    }
+
+    fn begin(&mut self) {
+        self.is_trial = true;
+        self.log.clear();
+    }
+
+    fn commit(&mut self) {
+        self.is_trial = false;
+        self.log.clear();
+    }
+
+    fn roll_back(&mut self) {
+        undo_all(&mut self.jobs, &mut self.log);
+        self.is_trial = false;
     }
 
     fn by_id(&self) -> &BTreeMap<u64, Job> {
@@ -71,26 +96,28 @@ impl JobMap for Jobs {
     }
 
     fn insert(&mut self, id: u64, job: Job) -> Result<(), AllocError> {
+        if self.is_trial {
+            put(&mut self.jobs, &mut self.log, id, job)?;
+            return Ok(());
+        }
         self.jobs.insert(id, job)?;
         Ok(())
     }
 
     fn set_state(&mut self, id: u64, state: State) -> Result<(), AllocError> {
+        note(&mut self.log, self.is_trial, id, &self.jobs)?;
         set_state(&mut self.jobs, id, state);
         Ok(())
     }
 
     fn set(&mut self, id: u64, pri: u32, state: State) -> Result<(), AllocError> {
+        note(&mut self.log, self.is_trial, id, &self.jobs)?;
         make(&mut self.jobs, &Change { id, pri, state });
         Ok(())
     }
 
-    fn set_all(&mut self, changes: &[Change]) -> Result<(), AllocError> {
-        make_all(&mut self.jobs, changes);
-        Ok(())
-    }
-
     fn remove(&mut self, id: u64) -> Option<Job> {
+        self.commit();
         self.jobs.remove(&id)
     }
 

@@ -11,6 +11,7 @@ mod laws;
 mod look_up;
 mod name;
 mod state;
+mod undo;
 
 pub use body::Body;
 pub use change::Change;

@@ -1,5 +1,6 @@
-use Rattle.std.proofs.Common.{◌≡◌, ◌∙◌, rules}
+use Rattle.std.proofs.Common.{ap, ◌∙◌}
 use Rattle.job_store.specs.Entries.{without}
+use Rattle.job_store.specs.Undone.{MapState}
 use Rattle.job_store.proofs.Entries.{remove_entry-without, Rising-same, Rising-without}
 use Rattle.job_store.proofs.jobs.JobsJobMap.remove.Goals as goal
 
@@ -9,5 +10,5 @@ invariant_of-self c =
 
 pub returns-clause-jobs : goal.returns-clause-jobs
 returns-clause-jobs c =
-    let left : c.remove.new.self.entries ≡ without c.args.id c.self.inside.jobs.entries = c.remove.ensures.entries ∙ remove_entry-without c.args.id _ _ _ c.self.invariant in
-    search rules
+    c.remove.ensures.entries ∙ remove_entry-without c.args.id _ _ _ c.self.invariant ∙
+    ap (without c.args.id) (ap (λ (m : MapState). m.jobs) c.self.view_is ∙ c.commit.ensures.jobs)
