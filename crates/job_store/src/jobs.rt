@@ -49,27 +49,36 @@ fn copy_of(alloc: Global, jobs: &BTreeMap<u64, Job>) -> Result<BTreeMap<u64, Job
     Ok(copy)
 }
 
+impl Jobs {
+    ghost use Rattle.std.specs.Prelude.{None};
+
+    /// A map of these jobs, in no trial.
+    fn of(alloc: Global, jobs: BTreeMap<u64, Job>) -> Jobs
+        requires { Rising 0 (2 ^ 64) jobs.entries }
+        ensures jobs { result.jobs ≡ jobs.entries }
+        ensures before { result.before ≡ None }
+    {
+        Jobs {
+            alloc,
+            jobs,
+            is_trial: false,
+            log: Vec::new(alloc),
+        }
+    }
+}
+
 impl JobMap for Jobs {
     ghost entries = { λ m. m.jobs };
 
     ghost before = { λ m. m.before };
 
     fn new(alloc: Global) -> Self {
-        Jobs {
-            alloc,
-            jobs: BTreeMap::new(alloc),
-            is_trial: false,
-            log: Vec::new(alloc),
-        }
+        Jobs::of(alloc, BTreeMap::new(alloc))
     }
 
     fn copy(&self) -> Result<Self, AllocError> {
-        Ok(Jobs {
-            alloc: self.alloc,
-            jobs: copy_of(self.alloc, &self.jobs)?,
-            is_trial: false,
-            log: Vec::new(self.alloc),
-        })
+        let jobs = copy_of(self.alloc, &self.jobs)?;
+        Ok(Jobs::of(self.alloc, jobs))
     }
 
     fn begin(&mut self) {

@@ -11,6 +11,8 @@ mod laws;
 mod look_up;
 mod name;
 mod state;
+#[cfg(test)]
+mod tests;
 mod undo;
 
 pub use body::Body;

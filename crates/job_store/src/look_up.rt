@@ -21,13 +21,13 @@ pub enum LookUp<'a> {
 }
 
 impl<'a> LookUp<'a> {
-    ghost use Rattle.std.specs.Prelude.{◌≡◌, option_map, Some, IfSome, IfNone};
+    ghost use Rattle.std.specs.Prelude.{◌≡◌, ℕ, option_map, Some, IfSome, IfNone};
     ghost use Rattle.job_store.specs.Least.{least, comes_before, IsLeast, NonePasses};
     ghost use Rattle.job_store.specs.Searches.{passes, number, first_of};
 
-    /// Whether the job, under this id, is one that is looked for.
-    fn passes(&self, id: u64, job: &Job) -> bool
-        ensures { result ≡ passes self.now (id, job.now) }
+    /// Whether the job, under whatever id, is one that is looked for.
+    fn passes(&self, job: &Job) -> bool
+        ensures { (id : ℕ) → result ≡ passes self.now (id, job.now) }
     {
         match self {
             LookUp::ReadyIn(tubes) => job.state.is_ready() && tubes.contains(&job.tube),
@@ -77,7 +77,7 @@ impl<'a> LookUp<'a> {
     {
         let mut least = None;
         for (id, job) in jobs {
-            if self.passes(*id, job) {
+            if self.passes(job) {
                 least = Some(self.first_of(least, (*id, job)));
             }
         }
