@@ -4,6 +4,16 @@ use object::Value;
 use std::alloc::{AllocError, Global};
 use std::test::Fail;
 
+fn new_job(alloc: Global, tube: &Name, pri: u32, state: State) -> Result<Job, AllocError> {
+    Ok(Job {
+        tube: tube.copy()?,
+        pri,
+        ttr: 60,
+        body: Body::new(alloc, b"hello")?,
+        state,
+    })
+}
+
 /// A map of jobs of one tube, each of an id, a priority and a state.
 fn map_of<M: JobMap>(
     alloc: Global,
@@ -12,14 +22,7 @@ fn map_of<M: JobMap>(
 ) -> Result<M, AllocError> {
     let mut jobs = M::new(alloc);
     for (id, pri, state) in rows {
-        let job = Job {
-            tube: tube.copy()?,
-            pri,
-            ttr: 60,
-            body: Body::new(alloc, b"hello")?,
-            state,
-        };
-        jobs.insert(id, job)?;
+        jobs.insert(id, new_job(alloc, tube, pri, state)?)?;
     }
     Ok(jobs)
 }
@@ -97,11 +100,9 @@ fn changes_stay_or_are_taken_back(rt: HostRuntime) -> Result<(), Fail> {
     let first = vec![in alloc; (1, 5, State::Ready), (2, 3, State::Ready)]?;
     let mut jobs: Jobs = map_of(alloc, &tube, first)?;
     let before = rows_of(alloc, &jobs)?;
+    assert_eq!(rt; jobs.get(2).map(|job| job.pri), Some(3));
     assert!(rt; jobs.get(3).is_none());
-    let Some(job) = jobs.get(2) else {
-        return Err(Fail);
-    };
-    let job = job.copy()?;
+    let job = new_job(alloc, &tube, 3, State::Ready)?;
     jobs.begin();
     jobs.insert(3, job.copy()?)?;
     jobs.insert(1, job)?;
@@ -112,13 +113,15 @@ fn changes_stay_or_are_taken_back(rt: HostRuntime) -> Result<(), Fail> {
         (2, 0, State::Buried { rank: 4 }),
         (3, 3, State::Delayed { due: 6 }),
     ]?;
+    assert!(rt; rows_of(alloc, &jobs)? == after);
     assert!(rt; rows_of(alloc, &jobs.copy()?)? == after);
     jobs.roll_back();
     assert!(rt; rows_of(alloc, &jobs)? == before);
     jobs.begin();
-    jobs.set_state(1, State::Ready.copy()?)?;
+    jobs.set(1, 4, State::Ready.copy()?)?;
     jobs.commit();
-    assert!(rt; rows_of(alloc, &jobs)? == before);
+    let kept = vec![in alloc; (1, 4, State::Ready), (2, 3, State::Ready)]?;
+    assert!(rt; rows_of(alloc, &jobs)? == kept);
     assert!(rt;
         jobs.remove(2)
             .is_some_and(|job| job.body.as_slice() == b"hello".as_slice())
