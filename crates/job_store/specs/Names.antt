@@ -1,4 +1,4 @@
--- What a tube may be called (protocol.txt of beanstalkd, the part on names at its beginning, and "put": a tube's name
+-- What a tube may be called (protocol.txt of beanstalkd, the part on names at its beginning, and "use": a tube's name
 -- has at most 200 bytes).
 use Rattle.std.specs.Prelude.{◌≡◌, ℕ, ◌≤◌, ◌⊎◌, List, length, slice_get, Some, codes}
 use Rattle.object.specs.Lists.{In}
@@ -12,7 +12,7 @@ IsNameByte b =
 abbrev pub AreNameBytes : List ℕ → Type 0
 AreNameBytes name = (b : ℕ) → In b name → IsNameByte b
 
--- a hyphen stands first
+-- a hyphen, 45, stands first
 abbrev pub BeginsWithHyphen : List ℕ → Type 0
 BeginsWithHyphen name = slice_get name 0 ≡ Some 45
 

@@ -16,7 +16,6 @@ mod tests;
 mod undo;
 
 pub use body::Body;
-pub use change::Change;
 pub use job::Job;
 pub use job_map::JobMap;
 pub use jobs::Jobs;
