@@ -1,0 +1,18 @@
+use Rattle.std.proofs.Common.{◌≡◌, ◌∙◌, ℕ, ap, sym, None, BTreeMap}
+use Rattle.std.specs.Option.{option_copied_mut}
+use Rattle.job_store.specs.declared.job.Job.{Job}
+use Rattle.job_store.specs.Entries.{value_at}
+use Rattle.job_store.specs.States.{with_pri_and_state}
+use Rattle.job_store.proofs.Entries.{set_value-altered, altered-absent}
+use Rattle.job_store.proofs.changes.make.Goals as goal
+
+pub returns-in-Some : goal.returns-in-Some
+returns-in-Some c =
+    (c.get_mut.follows.holds (with_pri_and_state c.args.change.now.pri c.args.change.now.state c.in-Some.job.now)).0 ∙
+    set_value-altered c.args.change.now.id _ _ (with_pri_and_state c.args.change.now.pri c.args.change.now.state) c.in-Some.job.now c.args.jobs.now.entries c.requires (sym c.in-Some.ensures.value)
+
+pub returns-in_default : goal.returns-in_default
+returns-in_default c =
+    let none : value_at c.args.change.now.id c.args.jobs.now.entries ≡ None = sym c.get_mut.ensures.value ∙ ap option_copied_mut c.in_default.is in
+    ap (λ (m : BTreeMap ℕ Job). m.entries) c.get_mut.follows.holds-at-none ∙
+    sym (altered-absent c.args.change.now.id (with_pri_and_state c.args.change.now.pri c.args.change.now.state) c.args.jobs.now.entries none)

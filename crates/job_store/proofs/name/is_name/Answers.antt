@@ -1,0 +1,7 @@
+use Rattle.std.proofs.Common.{rules}
+use Rattle.job_store.proofs.Names.{name-decided}
+use Rattle.job_store.proofs.name.is_name.Goals as goal
+
+pub returns-then-bytes-le200 : goal.returns-then-bytes-le200
+returns-then-bytes-le200 c =
+    name-decided c.args.bytes.now c.in-Some.first.now c.are_name_bytes.result (search rules) (search rules) c.if-bytes-le200.true c.are_name_bytes.ensures

@@ -1,0 +1,91 @@
+ghost use Rattle.std.specs.Prelude.{◌≡◌, ◌^◌, ◌++◌, ◌∷◌, [], OnOk, OnErr};
+ghost use Rattle.job_store.specs.Entries.{Rising, value_at, with_value};
+ghost use Rattle.job_store.specs.Undone.{undone, all_undone, set_back, put_back};
+
+use crate::change::Change;
+use crate::changes::make;
+use crate::job::Job;
+use std::alloc::AllocError;
+use std::collections::BTreeMap;
+
+/// What takes back a change of the jobs.
+#[derive(Drop)]
+pub enum Undo {
+    /// The job at this id goes.
+    TakeOut(u64),
+    /// This job stands at its id again.
+    PutBack { id: u64, job: Job },
+    /// A job has the priority and the state again that it had.
+    SetBack(Change),
+}
+
+/// In a trial, adds to the log what takes back a change of the job at an id, if there is one.
+pub fn note(
+    log: &mut Vec<Undo>,
+    is_trial: bool,
+    id: u64,
+    jobs: &BTreeMap<u64, Job>,
+) -> Result<(), AllocError>
+    ensures ok { OnOk result (log.new.items ≡ log.old.items ++ set_back is_trial id (value_at id jobs.now.entries)) }
+    ensures err { OnErr result (log.new.items ≡ log.old.items) }
+{
+    match jobs.get(&id) {
+        Some(job) if is_trial => log.push(Undo::SetBack(Change {
+            id,
+            pri: job.pri,
+            state: job.state,
+        }))?,
+        _ => {}
+    }
+    Ok(())
+}
+
+/// Puts a job at an id, and adds to the log what takes that back.
+pub fn put(
+    jobs: &mut BTreeMap<u64, Job>,
+    log: &mut Vec<Undo>,
+    id: u64,
+    job: Job,
+) -> Result<(), AllocError>
+    ensures jobs { OnOk result (jobs.new.entries ≡ with_value id job jobs.old.entries) }
+    ensures log { OnOk result (log.new.items ≡ log.old.items ++ put_back id (value_at id jobs.old.entries) ∷ []) }
+    ensures jobs_stay { OnErr result (jobs.new.entries ≡ jobs.old.entries) }
+    ensures log_stays { OnErr result (log.new.items ≡ log.old.items) }
+{
+    log.reserve(1)?;
+    let undo = match jobs.insert(id, job)? {
+        Some(job) => Undo::PutBack { id, job },
+        None => Undo::TakeOut(id),
+    };
+    log.push(undo)?;
+    Ok(())
+}
+
+/// Takes one change back.
+fn undo_one(jobs: &mut BTreeMap<u64, Job>, undo: Undo)
+    requires { Rising 0 (2 ^ 64) jobs.old.entries }
+    ensures { jobs.new.entries ≡ undone undo jobs.old.entries }
+{
+    match undo {
+        Undo::TakeOut(id) => {
+            jobs.remove(&id);
+        }
+        Undo::PutBack { id, job } => {
+            if let Some(place) = jobs.get_mut(&id) {
+                *place = job;
+            }
+        }
+        Undo::SetBack(change) => make(jobs, &change),
+    }
+}
+
+/// Takes all changes of a log back, the last one first.
+pub fn undo_all(jobs: &mut BTreeMap<u64, Job>, log: &mut Vec<Undo>)
+    requires { Rising 0 (2 ^ 64) jobs.old.entries }
+    ensures jobs { jobs.new.entries ≡ all_undone log.old.items jobs.old.entries }
+    ensures log { log.new.items ≡ [] }
+{
+    while let Some(undo) = log.pop() {
+        undo_one(jobs, undo);
+    }
+}
