@@ -1,6 +1,6 @@
 -- Every reachable world has an order: whether a slot has a chosen command is decided by what the acceptors accepted, and
 -- they accepted no more than so many slots.
-use Rattle.std.proofs.Common.{◌≡◌, ◌≢◌, ◌⊎◌, inl, inr, ⊎_elim, ℕ, zero, suc, ◌+◌, ◌<◌, ◌≤◌, max, ◌==◌, Bool, true, false, true≢false, ◌&&◌, ◌||◌, cond, List, [], ◌∷◌, map, flat_map, refl, sym, ap, ◌∙◌, subst, arith}
+use Rattle.std.proofs.Common.{◌≡◌, ◌≢◌, ◌⊎◌, inl, inr, ⊎_elim, ℕ, zero, suc, ◌+◌, ◌<◌, ◌≤◌, max, ◌==◌, Bool, true, false, true≢false, ◌||◌, cond, List, [], ◌∷◌, map, flat_map, refl, sym, ap, ◌∙◌, subst, arith}
 use Rattle.std.specs.Prelude.{slice_index_or, nat_le}
 use Rattle.std.specs.List.{list_any}
 use Rattle.std.proofs.lemmas.Bool.{cases_eq, cases_Bool, and_parts, and_from}
@@ -17,6 +17,7 @@ use Rattle.world.specs.Nodes.{NodeState, Cluster, new_node, node}
 use Rattle.world.specs.Worlds.{World}
 use Rattle.world.specs.Runs.{IsReachable}
 use Rattle.world.specs.Chosen.{IsChosenAt, IsChosen, IsChosenFrom, IsOrder}
+use Rattle.world.specs.Voters.{is_at, accepts, row}
 use Rattle.world.proofs.Lists.{In-left, In-right, In-cases}
 use Rattle.world.proofs.Orders.{BallotLaws, same_itself, not_both}
 use Rattle.world.proofs.Invariants.{Asked, IsSound}
@@ -42,7 +43,8 @@ weigh_more (w ∷ ws) (x ∷ a) (y ∷ b) h = at x y (λ e. h 0 e) (weigh_more w
     at true false e le = absurd (true≢false (sym (e refl)))
     at false y e le = omega arith
 
-majority_more : (ws : List ℕ) (a b : List Bool) → ((i : ℕ) → slice_index_or a i false ≡ true → slice_index_or b i false ≡ true) → is_majority ws a ≡ true → is_majority ws b ≡ true
+-- and is a majority where that is
+pub majority_more : (ws : List ℕ) (a b : List Bool) → ((i : ℕ) → slice_index_or a i false ≡ true → slice_index_or b i false ≡ true) → is_majority ws a ≡ true → is_majority ws b ≡ true
 majority_more ws a b h e = let le = weigh_more ws a b h in more (majority ws) (weigh ws a) (weigh ws b) le e
   where
     more : (m x y : ℕ) → x ≤ y → nat_le m x ≡ true → nat_le m y ≡ true
@@ -64,18 +66,6 @@ any_found test (y ∷ ys) e = ⊎_elim
     (λ (yes : test y ≡ true). (y, inl refl, yes))
     (λ (no : test y ≡ false). let r = any_found test ys (sym (ap (λ b. b || list_any test ys) no) ∙ e) in (r.0, inr r.1, r.2))
     (cases_Bool (test y))
-
--- the pvalue stands under this ballot and slot
-abbrev pub is_at : {C : Type 0} → Numbers → ℕ → Pvalue C → Bool
-is_at b s q = is_same q.ballot b && (q.slot == s)
-
--- the acceptor accepted something there
-abbrev pub accepts : {C : Type 0} → Numbers → ℕ → NodeState C → Bool
-accepts b s x = list_any (is_at b s) x.acceptor.accepted
-
--- the acceptors that did
-abbrev pub row : {C : Type 0} → Cluster C → Numbers → ℕ → List Bool
-row k b s = map (accepts b s) k.nodes
 
 slot_same : (n s : ℕ) → (n == s) ≡ true → n ≡ s
 slot_same n s e = grind (arith, nat_tests)

@@ -16,6 +16,7 @@ pub mod Replays
 pub mod Histories
 pub mod Growing
 pub mod Deciding
+pub mod Voters
 pub mod Origins
 pub mod Submitted
 pub mod Timeline

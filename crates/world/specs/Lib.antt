@@ -8,6 +8,7 @@ pub mod Runs
 pub mod Refusals
 pub mod Kept
 pub mod Chosen
+pub mod Voters
 pub mod Agreements
 pub mod Legal
 pub mod OneOrder

@@ -27,7 +27,7 @@ use std::marker::Model;
 #[derive(Drop)]
 pub(crate) struct Cluster<O: Object> {
     pub(crate) members: Members,
-    nodes: Vec<Node<O>>,
+    pub(crate) nodes: Vec<Node<O>>,
     letters: Vec<Letter<Command<O::Op>>>,
 }
 

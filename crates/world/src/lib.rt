@@ -6,6 +6,7 @@ mod error;
 mod event;
 mod laws;
 mod node;
+mod order;
 mod receiving;
 mod submissions;
 mod world;

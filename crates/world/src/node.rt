@@ -15,9 +15,10 @@ ghost use Rattle.world.specs.Histories.{history, answers_after};
 ghost use Rattle.world.specs.Nodes.{new_node, restarted};
 ghost use Rattle.world.specs.Steps.{led, said_again};
 ghost use Rattle.world.specs.Kept.{IsSeated};
+ghost use Rattle.world.specs.Voters.{accepts};
 
 use acceptor::Acceptor;
-use ballot::{Letter, Members, Pvalue, Slot};
+use ballot::{Ballot, Letter, Members, Pvalue, Slot};
 use leader::Leader;
 use object::{Answer, Command, Object, filter_remembers};
 use replica::Replica;
@@ -166,5 +167,21 @@ impl<O: Object> Node<O> {
     {
         filter_remembers::<O::Op>();
         Ok(self.replica.perform(out)?.map(|done| done.slot))
+    }
+
+    /// All that its acceptor ever accepted.
+    pub(crate) fn accepted(&self) -> &[Pvalue<Command<O::Op>>]
+        ensures { result.now ≡ self.now.acceptor.accepted }
+    {
+        self.accepted.as_slice()
+    }
+
+    /// Whether its acceptor accepted something under this ballot and slot.
+    pub(crate) fn accepts(&self, ballot: Ballot, slot: Slot) -> bool
+        ensures { result ≡ accepts ballot slot self.now }
+    {
+        self.accepted
+            .iter()
+            .any(|pvalue| pvalue.ballot == ballot && pvalue.slot == slot)
     }
 }

@@ -24,8 +24,8 @@ use std::marker::Model;
 /// All nodes with all letters that they sent, and what clients and clocks saw.
 #[derive(Drop)]
 pub struct World<O: Object> {
-    alloc: Global,
-    cluster: Cluster<O>,
+    pub(crate) alloc: Global,
+    pub(crate) cluster: Cluster<O>,
     submitted: Vec<Submission<O::Op>>,
     answers: Vec<Answer<O::Reply>>,
     reach: u64,

@@ -1,0 +1,140 @@
+ghost use Rattle.std.specs.Prelude.{◌≡◌, ◌≤◌, ◌^◌, ◌==◌, ◌||◌, ℕ, length, slice_index_or, false, not, nat_lt, IfSome, IfNone, IfOk};
+ghost use Rattle.object.specs.declared.command.Command.{Command};
+ghost use Rattle.object.specs.Replays.{is_new, kept};
+ghost use Rattle.ballot.specs.declared.pvalue.Pvalue.{Pvalue};
+ghost use Rattle.world.specs.Nodes.{node};
+ghost use Rattle.world.specs.Chosen.{IsChosen, IsChosenFrom, IsOrder};
+ghost use Rattle.world.specs.Voters.{row, is_voted, HasVoted, HasNoneVoted};
+
+use crate::cluster::Cluster;
+use crate::laws::ballot_laws;
+use crate::world::World;
+use ballot::{Ballot, MemberSet, Pvalue, Slot};
+use object::{Command, Object, Value};
+use std::alloc::{AllocError, Global};
+
+impl<O: Object> Cluster<O> {
+    // The nodes that accepted something under this ballot and slot.
+    fn voters(&self, ballot: Ballot, slot: Slot) -> MemberSet
+        requires { length self.now.nodes ≡ length self.now.members }
+        ensures { (i : ℕ) → slice_index_or result i false ≡ slice_index_or (row self.now ballot slot) i false }
+    {
+        let nodes = &self.nodes;
+        let mut voters = MemberSet::nobody();
+        for before in 0..self.members.count() {
+            if nodes[usize::from(before)].accepts(ballot, slot) {
+                voters.add(before + 1);
+            }
+        }
+        voters
+    }
+
+    // Whether a majority accepted something under this ballot and slot.
+    fn is_voted(&self, ballot: Ballot, slot: Slot) -> bool
+        requires { length self.now.nodes ≡ length self.now.members }
+        ensures { result ≡ is_voted self.now ballot slot }
+    {
+        let voters = self.voters(ballot, slot);
+        self.members.is_majority(&voters)
+    }
+
+    // The value of one of these pvalues, of this slot and with the votes of a majority.
+    fn voted<'a>(
+        &self,
+        accepted: &'a [Pvalue<Command<O::Op>>],
+        slot: u64,
+    ) -> Option<&'a Command<O::Op>>
+        requires { length self.now.nodes ≡ length self.now.members }
+        ensures some { IfSome result (λ c. HasVoted self.now accepted.now slot c.now) }
+        ensures none { IfNone result (HasNoneVoted self.now accepted.now slot) }
+        ensures within { IfSome result (λ c. slot ≤ 2 ^ 62) }
+    {
+        for pvalue in accepted {
+            if pvalue.slot.number() == slot && self.is_voted(pvalue.ballot, pvalue.slot) {
+                return Some(&pvalue.value);
+            }
+        }
+        None
+    }
+
+    /// The command that is chosen in the slot of this number, where there is one.
+    pub(crate) fn chosen(&self, slot: u64) -> Option<&Command<O::Op>>
+        requires { length self.now.nodes ≡ length self.now.members }
+        ensures some { IfSome result (λ c. (m : ℕ) × HasVoted self.now (node self.now m).acceptor.accepted slot c.now) }
+        ensures none { IfNone result ((m : ℕ) → HasNoneVoted self.now (node self.now m).acceptor.accepted slot) }
+        ensures within { IfSome result (λ c. slot ≤ 2 ^ 62) }
+    {
+        let nodes = &self.nodes;
+        for node in nodes {
+            if let Some(command) = self.voted(node.accepted(), slot) {
+                return Some(command);
+            }
+        }
+        None
+    }
+}
+
+impl<O: Object> World<O> {
+    /// The one order: of the commands that are chosen in the slots 1, 2, .. up to the first slot with none chosen, those
+    /// whose number is greater than every earlier one of their session. It fails for want of memory alone.
+    pub fn order(&self) -> Result<Vec<Command<O::Op>>, AllocError>
+        ensures { IfOk result (λ order. IsOrder self.now.cluster order.items) }
+    {
+        let chosen = self.all_chosen()?;
+        let order = kept(self.alloc, chosen.as_slice())?;
+        Ok(order)
+    }
+
+    // The commands that are chosen in the slots 1, 2, .. up to the first slot with none chosen.
+    fn all_chosen(&self) -> Result<Vec<Command<O::Op>>, AllocError>
+        ensures { IfOk result (λ chosen. IsChosenFrom self.now.cluster 1 chosen.items) }
+    {
+        let mut chosen = Vec::new(self.alloc);
+        // no slot is greater than 2^62, so one of these has none chosen
+        for slot in 1..u64::MAX {
+            match self.chosen(slot) {
+                Some(command) => chosen.push(command.copy()?)?,
+                None => return Ok(chosen),
+            }
+        }
+        Ok(chosen)
+    }
+
+    // The command that is chosen in the slot of this number, where there is one.
+    fn chosen(&self, slot: u64) -> Option<&Command<O::Op>>
+        ensures some { IfSome result (λ c. IsChosen self.now.cluster slot c.now) }
+        ensures none { IfNone result ((c : Command O.Op) → IsChosen self.now.cluster slot c → ⊥) }
+        ensures within { IfSome result (λ c. slot ≤ 2 ^ 62) }
+    {
+        ballot_laws();
+        self.cluster.chosen(slot)
+    }
+}
+
+// Those whose number is greater than every earlier one of their session.
+fn kept<Op: Value>(alloc: Global, commands: &[Command<Op>]) -> Result<Vec<Command<Op>>, AllocError>
+    ensures { IfOk result (λ order. order.items ≡ kept commands.now) }
+{
+    let mut order = Vec::new(alloc);
+    for (index, command) in commands.iter().enumerate() {
+        if is_new(command, &commands[..index]) {
+            order.push(command.copy()?)?;
+        }
+    }
+    Ok(order)
+}
+
+// Whether its number is greater than each of these of the same session.
+fn is_new<Op: Value>(command: &Command<Op>, earlier: &[Command<Op>]) -> bool
+    ensures { result ≡ is_new command.now earlier.now }
+{
+    earlier.iter().all(|other| is_passed(other, command))
+}
+
+// Whether the one command is of another session, or has a lower number.
+fn is_passed<Op: Value>(other: &Command<Op>, command: &Command<Op>) -> bool
+    ensures { result ≡ (not (other.now.key.session == command.now.key.session) || nat_lt other.now.key.number command.now.key.number) }
+{
+    let (other, own) = (other.key(), command.key());
+    other.session != own.session || other.number < own.number
+}
