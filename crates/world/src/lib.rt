@@ -7,9 +7,11 @@ mod event;
 mod laws;
 mod node;
 mod receiving;
+mod schedule;
 mod submissions;
 mod world;
 
 pub use error::WorldError;
 pub use event::Event;
+pub use schedule::Schedule;
 pub use world::World;
