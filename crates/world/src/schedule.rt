@@ -13,7 +13,7 @@ use rand_pcg::Lcg64Xsh32;
 use std::marker::Model;
 
 /// From how many of the last letters a new one is mostly chosen.
-const LATE: u32 = 16;
+const LATE: u32 = 32;
 
 /// The events of a world, as a seed draws them: letters are lost, repeated and reordered, and nodes restart. It is for
 /// tests and simulations, and the same seed draws the same events.
@@ -58,16 +58,16 @@ impl Schedule {
         ensures member { is_at_member members result ≡ true }
     {
         let word = self.pick(256);
-        if word < 176 && letters > 0 {
-            let window = if word < 160 { LATE } else { u32::MAX };
+        if word < 216 && letters > 0 {
+            let window = if word < 208 { LATE } else { u32::MAX };
             return Event::Deliver(self.letter(letters, window));
         }
         let node = self.member(members);
         match word {
-            176..200 => Event::Nudge(node),
-            200..208 => Event::Wake(node),
-            208..231 => Event::Perform(node),
-            231 => Event::Restart(node),
+            216..230 => Event::Perform(node),
+            230..236 => Event::Nudge(node),
+            236..240 => Event::Wake(node),
+            240 => Event::Restart(node),
             _ => Event::Propose(node),
         }
     }
