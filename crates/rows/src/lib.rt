@@ -16,3 +16,7 @@ mod node_rows;
 mod program_rows;
 #[cfg(test)]
 mod replica_rows;
+#[cfg(test)]
+mod schedule_rows;
+#[cfg(test)]
+mod world_rows;

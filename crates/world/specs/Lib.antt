@@ -6,6 +6,7 @@ pub mod Worlds
 pub mod Steps
 pub mod Runs
 pub mod Refusals
+pub mod Schedules
 pub mod Kept
 pub mod Chosen
 pub mod Voters

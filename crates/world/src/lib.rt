@@ -8,9 +8,11 @@ mod laws;
 mod node;
 mod order;
 mod receiving;
+mod schedule;
 mod submissions;
 mod world;
 
 pub use error::WorldError;
 pub use event::Event;
+pub use schedule::Schedule;
 pub use world::World;

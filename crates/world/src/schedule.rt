@@ -1,0 +1,92 @@
+ghost use Rattle.std.specs.Prelude.{◌≡◌, ◌<◌, true, false};
+ghost use Rattle.ballot.specs.Members.{is_member};
+ghost use Rattle.rand_core.specs.Pcg32Seed.{pcg32_seed};
+ghost use Rattle.rand_pcg.specs.Pcg.{pcg32_of_seed};
+ghost use Rattle.world.specs.Refusals.{is_at_member, is_sent};
+ghost use Rattle.world.specs.Schedules.{submits};
+
+use crate::event::Event;
+use ballot::Members;
+use object::Value;
+use rand_core::{Rng, SeedableRng};
+use rand_pcg::Lcg64Xsh32;
+use std::marker::Model;
+
+/// From how many of the last letters a new one is mostly chosen.
+const LATE: u32 = 32;
+
+/// The events of a world, as a seed draws them: letters are lost, repeated and reordered, and nodes restart. It is for
+/// tests and simulations, and the same seed draws the same events.
+#[derive(Drop)]
+pub struct Schedule {
+    words: Lcg64Xsh32,
+}
+
+impl Model for Schedule {
+    ghost use Rattle.rand_pcg.specs.Lcg.{Lcg};
+
+    ghost Value = { Lcg };
+
+    ghost view = { λ s. s.words };
+
+    ghost inverse = { λ g. record { words = g } };
+}
+
+impl Schedule {
+    /// The schedule of this seed: PCG's words (XSH RR 64/32), seeded by the number.
+    pub fn new(seed: u64) -> Schedule
+        ensures { result ≡ pcg32_of_seed (pcg32_seed 16 seed) }
+    {
+        Schedule {
+            words: Lcg64Xsh32::seed_from_u64(seed),
+        }
+    }
+
+    /// A number below `n`.
+    pub fn pick(&mut self, n: u32) -> u32
+        requires { 0 < n }
+        ensures { result < n }
+    {
+        self.words.next_u32() % n
+    }
+
+    /// The next event of a world with these members and so many letters. Mostly a late letter is delivered; a restart is
+    /// the rarest. What clients submit is not drawn.
+    pub fn next<Op: Value>(&mut self, members: Members, letters: usize) -> Event<Op>
+        ensures never_submits { submits result ≡ false }
+        ensures sent { is_sent letters result ≡ true }
+        ensures member { is_at_member members result ≡ true }
+    {
+        let word = self.pick(256);
+        if word < 216 && letters > 0 {
+            let window = if word < 208 { LATE } else { u32::MAX };
+            return Event::Deliver(self.letter(letters, window));
+        }
+        let node = self.member(members);
+        match word {
+            216..230 => Event::Perform(node),
+            230..236 => Event::Nudge(node),
+            236..240 => Event::Wake(node),
+            240 => Event::Restart(node),
+            _ => Event::Propose(node),
+        }
+    }
+
+    // One of the last `window` letters.
+    fn letter(&mut self, letters: usize, window: u32) -> usize
+        requires sent { 0 < letters }
+        requires open { 0 < window }
+        ensures { result < letters }
+    {
+        let back = self.pick(window) as usize % letters;
+        letters - 1 - back
+    }
+
+    // One of the members.
+    fn member(&mut self, members: Members) -> u8
+        ensures { is_member members result ≡ true }
+    {
+        let before = self.pick(u32::from(members.count()));
+        before as u8 + 1
+    }
+}
