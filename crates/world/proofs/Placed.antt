@@ -14,6 +14,7 @@ use Rattle.world.specs.Chosen.{IsChosen}
 use Rattle.world.specs.Reached.{IsRun, IsReached, HasKey, IsPlaced}
 use Rattle.world.proofs.Replays.{is_before}
 use Rattle.world.proofs.Rising.{kept_new}
+use Rattle.world.proofs.Timeline.{key_itself}
 
 -- of the key's session, and with no lower number
 abbrev pub is_as_late : {Op : Type 0} → Command Op → Key → Bool
@@ -36,9 +37,6 @@ late_after cs cn s n e f = grind (arith, nat_tests)
 
 late_itself : (s n : ℕ) → (s == s && nat_le n n) ≡ true
 late_itself s n = grind (arith, nat_tests)
-
-same_itself : (s n : ℕ) → (s == s && n == n) ≡ true
-same_itself s n = grind (arith, nat_tests)
 
 same_numbers : (a b : ℕ) → (a == b) ≡ true → a ≡ b
 same_numbers a b e = grind (arith, nat_tests)
@@ -90,9 +88,6 @@ module _ {Op : Type 0} (key : Key) where
   has_late : (c : Command Op) → c.key ≡ key → is_as_late c key ≡ true
   has_late c same = subst (λ (k : Key). (k.session == key.session && nat_le key.number k.number) ≡ true) (sym same) (late_itself key.session key.number)
 
-  has_same : (c : Command Op) → c.key ≡ key → same_key c.key key ≡ true
-  has_same c same = subst (λ (k : Key). same_key k key ≡ true) (sym same) (same_itself key.session key.number)
-
   -- no command of the key is kept behind a later one
   none_behind : (c : Command Op) (seen cs : List (Command Op)) → is_as_late c key ≡ true → HasKey key (kept_after (c ∷ seen) cs) → ⊥
   none_behind c seen cs late h =
@@ -104,7 +99,7 @@ module _ {Op : Type 0} (key : Key) where
   pub kept_found : (seen cs : List (Command Op)) → HasKey key (kept_after seen cs) → finds key cs ≡ true
   kept_found seen [] h = absurd h.1
   kept_found seen (c ∷ cs) h = ⊎_elim
-      (λ (same : c.key ≡ key). ap (λ b. cond b (same_key c.key key) (finds key cs)) (has_late c same) ∙ has_same c same)
+      (λ (same : c.key ≡ key). ap (λ b. cond b (same_key c.key key) (finds key cs)) (has_late c same) ∙ key_itself c.key key same)
       (λ (rest : HasKey key (kept_after (c ∷ seen) cs)). ⊎_elim
       (λ (t : is_as_late c key ≡ true). absurd (none_behind c seen cs t rest))
       (λ (f : is_as_late c key ≡ false). ap (λ b. cond b (same_key c.key key) (finds key cs)) f ∙ kept_found (c ∷ seen) cs rest)
