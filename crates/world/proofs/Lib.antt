@@ -17,6 +17,7 @@ pub mod Histories
 pub mod Growing
 pub mod Deciding
 pub mod Voters
+pub mod Placed
 pub mod Origins
 pub mod Submitted
 pub mod Timeline

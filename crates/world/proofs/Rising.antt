@@ -9,7 +9,7 @@ use Rattle.world.specs.Legal.{IsRising}
 use Rattle.world.proofs.Replays.{is_before}
 
 -- a kept command came, and is new after what was seen
-kept_new : {Op : Type 0} (seen cs : List (Command Op)) (d : Command Op) → In d (kept_after seen cs) → In d cs × (is_new d seen ≡ true)
+pub kept_new : {Op : Type 0} (seen cs : List (Command Op)) (d : Command Op) → In d (kept_after seen cs) → In d cs × (is_new d seen ≡ true)
 kept_new seen [] d i = absurd i
 kept_new {Op} seen (c ∷ cs) d i = at (is_new c seen) refl i (kept_new (c ∷ seen) cs d)
   where

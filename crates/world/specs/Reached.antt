@@ -1,6 +1,9 @@
 -- The commands of the slots that were performed.
 use Rattle.std.specs.Prelude.{◌≡◌, ℕ, ◌+◌, ⊤, List, [], ◌∷◌, length}
+use Rattle.object.specs.Lists.{In}
+use Rattle.object.specs.Replays.{kept}
 use Rattle.object.specs.declared.command.Command.{Command}
+use Rattle.object.specs.declared.command.Key.{Key}
 use Rattle.world.specs.Nodes.{Cluster}
 use Rattle.world.specs.Worlds.{World}
 use Rattle.world.specs.Chosen.{IsChosen}
@@ -14,3 +17,11 @@ IsRun k s (c ∷ cs) = IsChosen k s c × IsRun k (s + 1) cs
 pub record IsReached {Op Reply : Type 0} (w : World Op Reply) (cs : List (Command Op)) : Type 0 where
   pub chosen : IsRun w.cluster 1 cs
   pub count : length cs ≡ w.reach
+
+-- one of these commands has the key
+abbrev pub HasKey : {Op : Type 0} → Key → List (Command Op) → Type 0
+HasKey {Op} key cs = (c : Command Op) × In c cs × (c.key ≡ key)
+
+-- the key stands among those of them that are kept
+abbrev pub IsPlaced : {Op Reply : Type 0} → World Op Reply → Key → Type 0
+IsPlaced {Op} w key = (cs : List (Command Op)) × IsReached w cs × HasKey key (kept cs)

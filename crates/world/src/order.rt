@@ -1,16 +1,18 @@
-ghost use Rattle.std.specs.Prelude.{◌≡◌, ◌≤◌, ◌^◌, ◌==◌, ◌||◌, ℕ, length, slice_index_or, false, not, nat_lt, IfSome, IfNone, IfOk};
+ghost use Rattle.std.specs.Prelude.{◌≡◌, ◌↔◌, ◌≤◌, ◌^◌, ◌==◌, ◌&&◌, ◌||◌, ℕ, length, slice_index_or, true, false, not, nat_lt, nat_le, IfSome, IfNone, IfOk};
 ghost use Rattle.object.specs.declared.command.Command.{Command};
 ghost use Rattle.object.specs.Replays.{is_new, kept};
 ghost use Rattle.ballot.specs.declared.pvalue.Pvalue.{Pvalue};
 ghost use Rattle.world.specs.Nodes.{node};
 ghost use Rattle.world.specs.Chosen.{IsChosen, IsChosenFrom, IsOrder};
+ghost use Rattle.world.specs.Reached.{IsPlaced};
+ghost use Rattle.world.specs.Worlds.{same_key};
 ghost use Rattle.world.specs.Voters.{row, is_voted, HasVoted, HasNoneVoted};
 
 use crate::cluster::Cluster;
 use crate::laws::ballot_laws;
 use crate::world::World;
 use ballot::{Ballot, MemberSet, Pvalue, Slot};
-use object::{Command, Object, Value};
+use object::{Command, Key, Object, Value};
 use std::alloc::{AllocError, Global};
 
 impl<O: Object> Cluster<O> {
@@ -85,6 +87,22 @@ impl<O: Object> World<O> {
         Ok(order)
     }
 
+    /// Whether the key stands in the order, as far as it is performed: among those kept of the commands that are chosen in
+    /// the slots from 1 to the reach, the greatest slot that any replica performed. It takes no memory.
+    pub fn placed(&self, key: Key) -> bool
+        ensures { (result ≡ true) ↔ IsPlaced self.now key }
+    {
+        ballot_laws();
+        for before in 0..self.reach {
+            if let Some(command) = self.chosen(before + 1) {
+                if is_as_late(command, key) {
+                    return has_key(command, key);
+                }
+            }
+        }
+        false
+    }
+
     // The commands that are chosen in the slots 1, 2, .. up to the first slot with none chosen.
     fn all_chosen(&self) -> Result<Vec<Command<O::Op>>, AllocError>
         ensures { IfOk result (λ chosen. IsChosenFrom self.now.cluster 1 chosen.items) }
@@ -137,4 +155,19 @@ fn is_passed<Op: Value>(other: &Command<Op>, command: &Command<Op>) -> bool
 {
     let (other, own) = (other.key(), command.key());
     other.session != own.session || other.number < own.number
+}
+
+// Whether the command is of the key's session, and has no lower number.
+fn is_as_late<Op: Value>(command: &Command<Op>, key: Key) -> bool
+    ensures { result ≡ (command.now.key.session == key.session && nat_le key.number command.now.key.number) }
+{
+    let own = command.key();
+    own.session == key.session && own.number >= key.number
+}
+
+// Whether the command has the key.
+fn has_key<Op: Value>(command: &Command<Op>, key: Key) -> bool
+    ensures { result ≡ same_key command.now.key key }
+{
+    command.key() == key
 }

@@ -28,7 +28,7 @@ pub struct World<O: Object> {
     pub(crate) cluster: Cluster<O>,
     submitted: Vec<Submission<O::Op>>,
     answers: Vec<Answer<O::Reply>>,
-    reach: u64,
+    pub(crate) reach: u64,
     taken: u64,
 }
 
