@@ -233,6 +233,16 @@ fn a_restarted_node_answers_the_same_again(rt: HostRuntime) -> Result<(), Fail> 
 }
 
 #[test]
+fn one_order_of_what_a_register_was_told(rt: HostRuntime) -> Result<(), Fail> {
+    let world = world_of_one_node(rt.alloc())?;
+    let order = world.order()?;
+    assert!(rt; order.as_slice() == [write()?, read()?].as_slice());
+    assert_eq!(rt; world.placed(read()?.key()), true);
+    assert_eq!(rt; world.placed(Key { session: 3, number: 1 }), false);
+    Ok(())
+}
+
+#[test]
 fn a_refusal_changes_nothing(rt: HostRuntime) -> Result<(), Fail> {
     let mut world = world_of_one_node(rt.alloc())?;
     let other = || command(1, RegisterOp::Read);
@@ -379,6 +389,8 @@ fn what_a_lost_leader_got_accepted_is_decided(rt: HostRuntime) -> Result<(), Fai
     the_first_catches_up(&mut world)?;
     let given = [answer(1, Reply::Inserted(1)), answer(1, Reply::Inserted(1))];
     assert!(rt; world.answers() == given.as_slice());
+    let order = world.order()?;
+    assert!(rt; order.as_slice() == [put_x(rt.alloc())?].as_slice());
     let mut mail = Mail::new(rt.alloc());
     mail_of_the_first_leader(rt.alloc(), &mut mail)?;
     mail_of_the_second_leader(rt.alloc(), &mut mail)?;

@@ -1,0 +1,39 @@
+-- The state of the queue.
+use Rattle.std.specs.Prelude.{ℕ, Bool, ◌&&◌, List, [], nat_le}
+use Rattle.std.specs.List.{list_any}
+use Rattle.job_store.specs.declared.job.Job.{Job}
+use Rattle.job_store.specs.States.{is_held, due_of}
+use Rattle.whole_queue.specs.declared.session.Session.{Session}
+use Rattle.whole_queue.specs.Sessions.{session_of}
+
+-- the jobs by id and the sessions by number, each a list of entries whose keys rise
+pub record QueueState : Type 0 where
+  pub now : ℕ
+  pub next_id : ℕ
+  pub next_rank : ℕ
+  pub jobs : List (ℕ × Job)
+  pub sessions : List (ℕ × Session)
+
+-- a new queue
+abbrev pub fresh : QueueState
+fresh = record { now = 0; next_id = 1; next_rank = 1; jobs = []; sessions = [] }
+
+-- the state, with these jobs
+abbrev pub with_jobs : QueueState → List (ℕ × Job) → QueueState
+with_jobs s jobs = record s { jobs = jobs }
+
+-- the state, with these sessions
+abbrev pub with_sessions : QueueState → List (ℕ × Session) → QueueState
+with_sessions s sessions = record s { sessions = sessions }
+
+-- the tube that session x uses
+abbrev pub used_by : QueueState → ℕ → List ℕ
+used_by s x = (session_of x s.sessions).used
+
+-- the tubes that session x watches
+abbrev pub watched_by : QueueState → ℕ → List (List ℕ)
+watched_by s x = (session_of x s.sessions).watched
+
+-- session x has a job that is due by this second
+abbrev pub holds_by : ℕ → ℕ → List (ℕ × Job) → Bool
+holds_by x second jobs = list_any (λ e. is_held x e.1.state && nat_le (due_of e.1.state) second) jobs
