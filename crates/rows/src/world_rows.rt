@@ -238,7 +238,11 @@ fn one_order_of_what_a_register_was_told(rt: HostRuntime) -> Result<(), Fail> {
     let order = world.order()?;
     assert!(rt; order.as_slice() == [write()?, read()?].as_slice());
     assert_eq!(rt; world.placed(read()?.key()), true);
-    assert_eq!(rt; world.placed(Key { session: 3, number: 1 }), false);
+    let absent = Key {
+        session: 3,
+        number: 1,
+    };
+    assert_eq!(rt; world.placed(absent), false);
     Ok(())
 }
 
