@@ -3,3 +3,7 @@ pub mod Replies
 pub mod Readings
 pub mod Whole
 pub mod Runs
+pub mod Lists
+pub mod Requests
+pub mod Given
+pub mod Carried

@@ -1,5 +1,5 @@
 -- From what clap says of a parse to what the words ask for.
-use Rattle.std.proofs.Common.{◌≡◌, ◌≢◌, ◌∙◌, ℕ, true, List, Option, None, Some, Result, Ok, Err, unwrap_or, option_map, refl, sym, ap, subst, inl, inr}
+use Rattle.std.proofs.Common.{◌≡◌, ◌≢◌, ◌∙◌, ◌<◌, ◌≤◌, ◌^◌, ℕ, arith, decimal, true, List, Option, None, Some, Result, Ok, Err, unwrap_or, option_map, refl, sym, ap, subst, inl, inr}
 use Rattle.std.specs.Prelude.{option_and_then}
 use Rattle.std.specs.Str.Parse.{ParsesUnsigned}
 use Rattle.std.proofs.lemmas.Fmt.{parse-decimal}
@@ -8,7 +8,7 @@ use Rattle.clap.specs.declared.error.Error.{Error}
 use Rattle.clap.specs.declared.error.kind.ErrorKind.{ErrorKind}
 use Rattle.clap.specs.declared.error.kind.ErrorKind.TheVariants.{OutOfMemory}
 use Rattle.clap.proofs.OnLiterals.{clap_on_literals}
-use Rattle.beanpax.specs.Words.{IsNumberOr0, errors_in, program_command, run_command, text_given}
+use Rattle.beanpax.specs.Words.{IsNumberOr, errors_in, program_command, run_command, text_given}
 
 pub is_simple-program_command : is_simple program_command ≡ true
 unfolding program_command run_command clap_on_literals
@@ -41,16 +41,29 @@ pub text_given-of_rows : (option : List ℕ) (words : List (List ℕ)) (rows : L
 unfolding text_given
 text_given-of_rows option words rows is = of_rows option (subcommand_of program_command words) rows is
 
--- a number that is written in digits is read, and without a text it is 0
-pub number_read : (E : Type 0) (gives : List ℕ → Result ℕ E → Type 0)
-    → ((t : List ℕ) (r : Result ℕ E) → gives t r → ParsesUnsigned 64 10 t r)
-    → (text : Option (List ℕ)) (read : Option ℕ) → (text ≡ None → read ≡ None)
-    → ((t : List ℕ) → text ≡ Some t → ReadsOne gives t read) → IsNumberOr0 text (unwrap_or read 0)
-number_read E gives parses None read none some = ap (λ r. unwrap_or r 0) (none refl)
-number_read E gives parses (Some t) None none some = λ m small is.
-    let (e, given) = some t refl in
+-- a number that is written in digits is read, where the bits are enough for it
+digits_read : (bits : ℕ) (E : Type 0) (gives : List ℕ → Result ℕ E → Type 0)
+    → ((t : List ℕ) (r : Result ℕ E) → gives t r → ParsesUnsigned bits 10 t r)
+    → (m : ℕ) (t : List ℕ) → m < 2 ^ bits → m < 2 ^ 64 → t ≡ decimal m
+    → (read : Option ℕ) → ReadsOne gives t read → read ≡ Some m
+digits_read bits E gives parses m t small few is None (e, given) =
     let r : Result ℕ E = Err e in
-    let read : r ≡ Ok m = parse-decimal 64 m t r small small is (parses t r given) in cc
-number_read E gives parses (Some t) (Some v) none some = λ m small is.
+    let read : r ≡ Ok m = parse-decimal bits m t r small few is (parses t r given) in cc
+digits_read bits E gives parses m t small few is (Some v) given =
     let r : Result ℕ E = Ok v in
-    let read : r ≡ Ok m = parse-decimal 64 m t r small small is (parses t r (some t refl)) in cc
+    let read : r ≡ Ok m = parse-decimal bits m t r small few is (parses t r given) in cc
+
+-- and without a text it is the default
+pub number_read : (bits default least most : ℕ) → most < 2 ^ bits → most < 2 ^ 64 → (E : Type 0) (gives : List ℕ → Result ℕ E → Type 0)
+    → ((t : List ℕ) (r : Result ℕ E) → gives t r → ParsesUnsigned bits 10 t r)
+    → (text : Option (List ℕ)) (read : Option ℕ) → (text ≡ None → read ≡ None)
+    → ((t : List ℕ) → text ≡ Some t → ReadsOne gives t read) → IsNumberOr default least most text (unwrap_or read default)
+number_read bits default least most fits small E gives parses None read none some = ap (λ r. unwrap_or r default) (none refl)
+number_read bits default least most fits small E gives parses (Some t) read none some = λ m above below is.
+    ap (λ r. unwrap_or r default) (digits_read bits E gives parses m t (omega (arith, below, fits)) (omega (arith, below, small)) is read (some t refl))
+
+-- the default stands for a number out of range, which no text writes
+pub out_of_range : (default least most n : ℕ) (text : Option (List ℕ)) → IsNumberOr default least most text n → least ≤ default → default ≤ most → ((least ≤ n) → (n ≤ most) → ⊥) → IsNumberOr default least most text default
+out_of_range default least most n None is above below out = refl
+out_of_range default least most n (Some t) is above below out = λ m low high e.
+    let same = is m low high e in absurd (out (omega (arith, same, low)) (omega (arith, same, high)))

@@ -4,5 +4,6 @@ pub mod Program
 pub mod Words
 pub mod ReadFaults
 pub mod Sessions
+pub mod Clients
 pub mod Transcripts
 pub mod Runs

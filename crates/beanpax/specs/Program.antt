@@ -6,13 +6,14 @@ use Rattle.beanpax.specs.Streams.{AppendsBeginning}
 use Rattle.beanpax.specs.Runs.{Answers}
 use Rattle.beanpax.specs.declared.faults.End.{End}
 use Rattle.beanpax.specs.declared.faults.SessionFault.{SessionFault}
-use Rattle.beanpax.specs.declared.faults.SessionFault.TheVariants.{OutOfMemory, ReadFailed, WriteFailed}
+use Rattle.beanpax.specs.declared.faults.SessionFault.TheVariants.{OutOfMemory, ReadFailed, WriteFailed, ServiceStopped}
 
 -- a failure is told only of a stream that has failed
 abbrev pub IsCaused : SessionFault → Bool → Bool → Type 0
 IsCaused OutOfMemory input_failed output_failed = ⊤
 IsCaused ReadFailed input_failed output_failed = input_failed ≡ true
 IsCaused WriteFailed input_failed output_failed = output_failed ≡ true
+IsCaused ServiceStopped input_failed output_failed = ⊤
 
 -- a client was answered to the end of its session
 abbrev pub IsRun : Option (List ℕ) → Option (List ℕ) → Option (List ℕ) → Option (List ℕ) → Type 0

@@ -23,6 +23,8 @@ pub enum SessionFault {
     ReadFailed,
     #[error("write failed")]
     WriteFailed,
+    #[error("service stopped")]
+    ServiceStopped,
 }
 
 impl SessionFault {
@@ -34,6 +36,7 @@ impl SessionFault {
             SessionFault::OutOfMemory => 1,
             SessionFault::ReadFailed => 7,
             SessionFault::WriteFailed => 8,
+            SessionFault::ServiceStopped => 9,
         }
     }
 
@@ -45,6 +48,7 @@ impl SessionFault {
             SessionFault::OutOfMemory => "beanpax: 1 out of memory\n",
             SessionFault::ReadFailed => "beanpax: 7 read failed\n",
             SessionFault::WriteFailed => "beanpax: 8 write failed\n",
+            SessionFault::ServiceStopped => "beanpax: 9 service stopped\n",
         }
     }
 }

@@ -1,11 +1,13 @@
 //! The work queue as a program: requests as bytes in, replies as bytes out.
 #![tactic(auto)]
 
-mod client;
+mod driver;
 mod entry;
 mod faults;
 mod laws;
+mod mail;
 pub mod memory;
+mod nodes;
 mod reading;
 mod run;
 mod streams;

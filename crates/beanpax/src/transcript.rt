@@ -1,10 +1,12 @@
-ghost use Rattle.std.specs.Prelude.{◌≡◌, ◌++◌, IfOk};
+ghost use Rattle.std.specs.Prelude.{IfOk, IfErr};
+ghost use Rattle.beanpax.specs.Faults.{IsOfNodes};
 ghost use Rattle.beanpax.specs.Transcripts.{IsTranscript};
 
-use crate::client::Client;
-use crate::faults::End;
+use crate::faults::{End, SessionFault};
+use crate::nodes::Nodes;
+use ballot::Members;
 use bean_codec::{Read, Request, Want, read_request, write_fault, write_reply};
-use std::alloc::{AllocError, Global};
+use std::alloc::Global;
 
 /// What a client is told, and how its session ends.
 #[derive(Drop)]
@@ -13,11 +15,17 @@ pub struct Transcript {
     pub end: End,
 }
 
-/// The answers to the requests that the bytes spell, up to the first quit.
-pub fn transcript_of(alloc: Global, bytes: &[u8]) -> Result<Transcript, AllocError>
-    ensures { IfOk result (λ t. IsTranscript bytes.now t.text.items t.end) }
+/// What simulated nodes answer to the requests that the bytes spell, up to the first quit.
+pub fn transcript_of(
+    alloc: Global,
+    members: Members,
+    seed: u64,
+    bytes: &[u8],
+) -> Result<Transcript, SessionFault>
+    ensures ok { IfOk result (λ t. IsTranscript bytes.now t.text.items t.end) }
+    ensures err { IfErr result IsOfNodes }
 {
-    let mut client = Client::new(alloc)?;
+    let mut nodes = Nodes::new(alloc, members, seed)?;
     let mut text = Vec::new(alloc);
     let mut rest = bytes;
     'items: loop {
@@ -41,7 +49,7 @@ pub fn transcript_of(alloc: Global, bytes: &[u8]) -> Result<Transcript, AllocErr
                         });
                     }
                     Request::Do(op) => {
-                        let reply = client.ask(op)?;
+                        let reply = nodes.ask(op)?;
                         write_reply(&reply, &mut text)?;
                     }
                 }

@@ -1,11 +1,17 @@
-ghost use Rattle.std.specs.Prelude.{◌≡◌, false, codes, map, string_bytes, IfOk};
+ghost use Rattle.std.specs.Prelude.{◌≡◌, ◌≤◌, ◌^◌, ◌-◌, false, codes, map, string_bytes, IfOk};
 ghost use Rattle.clap.specs.Words.{app_of, found_of, one_text};
 ghost use Rattle.clap.specs.declared.builder.command.Command.TheViews.{out-Command as fields_of};
-ghost use Rattle.beanpax.specs.Words.{IsAskedBy, IsNumberOr0, program_command, run_command};
+ghost use Rattle.beanpax.specs.Words.{IsAskedBy, IsNumberOr, program_command, run_command};
 
 use clap::error::ErrorKind;
 use clap::{Arg, ArgMatches, Command, value_parser};
 use std::alloc::{AllocError, Global};
+
+/// There are so many nodes at most.
+const MOST_NODES: u8 = 7;
+
+/// How many nodes there are where no word says it.
+const DEFAULT_NODES: u8 = 3;
 
 /// What the words of a command line ask for.
 #[derive(Drop)]
@@ -39,16 +45,23 @@ pub fn parse_words(alloc: Global, words: &[String]) -> Result<Asked, AllocError>
     }
 }
 
-// How many nodes the words ask for: one, which is all that the option takes.
+// How many nodes the words ask for. The option takes no other numbers than these.
 fn nodes_of(run: &ArgMatches<'_>) -> u8
-    ensures { result ≡ 1 }
+    ensures nodes { IsNumberOr 3 1 7 (one_text (found_of run.now) (codes "nodes")) result }
+    ensures some { 1 ≤ result }
+    ensures few { result ≤ 7 }
 {
-    run.get_one("nodes").filter(|n| *n == 1).unwrap_or(1)
+    let nodes = run.get_one("nodes").unwrap_or(DEFAULT_NODES);
+    if nodes >= 1 && nodes <= MOST_NODES {
+        nodes
+    } else {
+        DEFAULT_NODES
+    }
 }
 
 // The seed that the words give.
 fn seed_of(run: &ArgMatches<'_>) -> u64
-    ensures { IsNumberOr0 (one_text (found_of run.now) (codes "seed")) result }
+    ensures { IsNumberOr 0 0 (2 ^ 64 - 1) (one_text (found_of run.now) (codes "seed")) result }
 {
     run.get_one("seed").unwrap_or(0)
 }
@@ -72,8 +85,8 @@ fn run_words<'a>(alloc: Global) -> Result<Command<'a>, AllocError>
     let nodes = Arg::new(alloc, "nodes")
         .long("nodes")
         .value_name("N")
-        .help("How many nodes there are: 1 [default: 1]")
-        .value_parser(value_parser!(u8).range(1..=1));
+        .help("How many nodes there are: 1 to 7 [default: 3]")
+        .value_parser(value_parser!(u8).range(1..=7));
     let seed = Arg::new(alloc, "seed")
         .long("seed")
         .value_name("S")

@@ -61,17 +61,20 @@ impl<O: Object> Model for World<O> {
 impl<O: Object> World<O> {
     /// These members, to whom nothing happened yet.
     pub fn new(alloc: Global, members: Members) -> Result<World<O>, AllocError>
-        ensures { IfOk result (λ w. w ≡ opening members) }
+        ensures opening { IfOk result (λ w. w ≡ opening members) }
+        ensures one_order { IfOk result (HasOneOrder (rules_of O.fresh O.after O.answers O.Op.eq)) }
     {
         ballot_laws();
-        Ok(World {
+        let world = World {
             alloc,
             cluster: Cluster::new(alloc, members)?,
             submitted: Vec::new(alloc),
             answers: Vec::new(alloc),
             reach: 0,
             taken: 0,
-        })
+        };
+        world.agrees();
+        Ok(world)
     }
 
     /// Takes one event. A refusal changes nothing; of several, the first in this order is told: no such node, no such

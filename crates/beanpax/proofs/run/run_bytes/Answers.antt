@@ -16,5 +16,5 @@ returns-in_err-map_err-clause-breaks_off g c =
     let some = began c.write_all.result _ _ _ c.write_all.ensures.ok c.write_all.ensures.err in
     let whole : IsTranscript c.in_ok-input.input.items c.as_slice-2.result.now c.in_ok-transcript.transcript.end =
     subst (λ input. IsTranscript input c.as_slice-2.result.now c.in_ok-transcript.transcript.end) c.as_slice.ensures.value
-    (subst (λ output. IsTranscript c.as_slice.result.now output c.in_ok-transcript.transcript.end) (sym c.as_slice-2.ensures.value) c.in_ok-transcript.ensures) in
+    (subst (λ output. IsTranscript c.as_slice.result.now output c.in_ok-transcript.transcript.end) (sym c.as_slice-2.ensures.value) c.in_ok-transcript.ensures.ok) in
     on_err _ (breaks_off_writing _ _ _ _ _ _ _ some.0 c.in_ok-input.ensures.bytes whole some.1)

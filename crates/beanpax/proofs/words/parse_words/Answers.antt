@@ -1,9 +1,9 @@
-use Rattle.std.proofs.Common.{◌≡◌, ◌∙◌, true, [], Some, is_some, codes, option_map, map, string_bytes, rules, sym, ap, subst}
+use Rattle.std.proofs.Common.{◌≡◌, ◌∙◌, ◌^◌, ◌-◌, true, [], Some, is_some, codes, option_map, map, string_bytes, rules, sym, ap, subst}
 use Rattle.clap.specs.Words.{App, IsAmong, found_of, has_subcommand, is_simple, rows_of, subcommand_of}
 use Rattle.clap.specs.declared.error.kind.ErrorKind.TheVariants.{DisplayHelp}
 use Rattle.clap.proofs.CallerLemmas.{subcommand_required}
 use Rattle.clap.proofs.WalkLemmas.{one_text-rows}
-use Rattle.beanpax.specs.Words.{IsNumberOr0, program_command}
+use Rattle.beanpax.specs.Words.{IsNumberOr, program_command}
 use Rattle.beanpax.proofs.WordsLemmas.{among_errors, holds_of_errors, is_simple-program_command, text_given-of_rows}
 use Rattle.beanpax.proofs.words.parse_words.Goals as goal
 
@@ -25,8 +25,10 @@ returns-in-Ok c =
     ap (option_map (λ p. p.1)) (sym ((c.in-Ok.ensures.matches (ap is_simple is_program ∙ is_simple-program_command)).1 ∙ ap (λ (a : App). subcommand_of a texts) is_program))
     ∙ sym c.subcommand.ensures.rows ∙ ap (option_map (λ p. rows_of (found_of p.1.now))) c.unwrap.ensures in (
       holds_of_errors (λ kinds. kinds ≡ []) _ _ is_program c.in-Ok.ensures.kinds,
-      c.nodes_of.ensures,
-      subst (λ text. IsNumberOr0 text c.seed_of.result) (one_text-rows (found_of run) (codes "seed") ∙ sym (text_given-of_rows _ _ _ met)) c.seed_of.ensures,
+      c.nodes_of.ensures.some,
+      c.nodes_of.ensures.few,
+      subst (λ text. IsNumberOr 3 1 7 text c.nodes_of.result) (one_text-rows (found_of run) (codes "nodes") ∙ sym (text_given-of_rows _ _ _ met)) c.nodes_of.ensures.nodes,
+      subst (λ text. IsNumberOr 0 0 (2 ^ 64 - 1) text c.seed_of.result) (one_text-rows (found_of run) (codes "seed") ∙ sym (text_given-of_rows _ _ _ met)) c.seed_of.ensures,
     )
 
 pub returns-in-DisplayHelp : goal.returns-in-DisplayHelp
