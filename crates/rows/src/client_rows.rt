@@ -1,8 +1,11 @@
 //! What one client is told.
+ghost use Rattle.std.specs.Prelude.{◌<◌};
+
 use crate::case::Part::{self, Text, Times};
 use crate::case::{joined, words_of};
 use beanpax::memory::{Ending, PieceReader, PieceWriter};
 use beanpax::program;
+use std::alloc::{AllocError, Global};
 use std::test::Fail;
 
 /// What a client sends, and what it is told.
@@ -238,27 +241,55 @@ static ROWS: [Row; 34] = [
     },
 ];
 
+/// What the program with these words tells the client of a row, and whether it ended as it should.
+fn told(
+    alloc: Global,
+    row: &Row,
+    words: &[String],
+    piece_len: usize,
+) -> Result<Option<PieceWriter>, AllocError>
+    requires { 0 < piece_len }
+{
+    let input = joined(alloc, row.input)?;
+    let mut reader = PieceReader::new(input.as_slice(), piece_len, Ending::End);
+    let mut writer = PieceWriter::new(alloc, piece_len, usize::MAX);
+    let mut errors = PieceWriter::new(alloc, 64, usize::MAX);
+    let status = program(alloc, words, &mut reader, &mut writer, &mut errors);
+    if status != 0 || !errors.bytes().is_empty() {
+        return Ok(None);
+    }
+    Ok(Some(writer))
+}
+
 #[test]
 fn clients_are_told_these(rt: HostRuntime) -> Result<(), Fail> {
     let alloc = rt.alloc();
-    let words = words_of(alloc, &["run", "--nodes", "1"])?;
+    let words = words_of(alloc, &["run"])?;
     for row in &ROWS {
-        let input = joined(alloc, row.input)?;
         let output = joined(alloc, row.output)?;
         for piece_len in [1, 7, 4096] {
-            let mut reader = PieceReader::new(input.as_slice(), piece_len, Ending::End);
-            let mut writer = PieceWriter::new(alloc, piece_len, usize::MAX);
-            let mut errors = PieceWriter::new(alloc, 64, usize::MAX);
-            let status = program(
-                alloc,
-                words.as_slice(),
-                &mut reader,
-                &mut writer,
-                &mut errors,
-            );
-            assert_eq!(rt; status, 0, "{}", row.name);
-            assert_eq!(rt; writer.bytes(), output.as_slice(), "{}", row.name);
-            assert_eq!(rt; errors.bytes().len(), 0, "{}", row.name);
+            let told = told(alloc, row, words.as_slice(), piece_len)?.ok_or(row.name)?;
+            assert_eq!(rt; told.bytes(), output.as_slice(), "{}", row.name);
+        }
+    }
+    Ok(())
+}
+
+static NODES: [&str; 7] = ["1", "2", "3", "4", "5", "6", "7"];
+
+static SEEDS: [&str; 10] = ["0", "1", "2", "3", "4", "5", "6", "7", "8", "9"];
+
+#[test]
+fn any_nodes_and_seed_tell_the_same(rt: HostRuntime) -> Result<(), Fail> {
+    let alloc = rt.alloc();
+    for nodes in NODES {
+        for seed in SEEDS {
+            let words = words_of(alloc, &["run", "--nodes", nodes, "--seed", seed])?;
+            for row in &ROWS {
+                let output = joined(alloc, row.output)?;
+                let told = told(alloc, row, words.as_slice(), 4096)?.ok_or(row.name)?;
+                assert_eq!(rt; told.bytes(), output.as_slice(), "{}, {nodes}, {seed}", row.name);
+            }
         }
     }
     Ok(())

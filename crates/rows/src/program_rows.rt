@@ -23,7 +23,7 @@ enum Output {
     Nothing,
 }
 
-static ROWS: [Row; 19] = [
+static ROWS: [Row; 20] = [
     Row {
         words: &["run"],
         status: 0,
@@ -85,9 +85,14 @@ static ROWS: [Row; 19] = [
         output: Output::Nothing,
     },
     Row {
-        words: &["run", "--nodes", "2"],
+        words: &["run", "--nodes", "8"],
         status: 2,
         output: Output::Nothing,
+    },
+    Row {
+        words: &["run", "--nodes", "7", "--seed", "3"],
+        status: 0,
+        output: Output::Answer,
     },
     Row {
         words: &["run", "--nodes", "one"],
@@ -244,10 +249,10 @@ static RUNS: [Run; 6] = [
 #[test]
 fn runs_end_so(rt: HostRuntime) {
     for run in &RUNS {
-        for seed in [0, 1, u64::MAX] {
+        for (nodes, seed) in [(1, 0), (3, 1), (7, u64::MAX)] {
             let mut reader = PieceReader::new(run.input, 3, run.ending);
             let mut writer = PieceWriter::new(rt.alloc(), 3, run.room);
-            let result = run_bytes(rt.alloc(), 1, seed, &mut reader, &mut writer);
+            let result = run_bytes(rt.alloc(), nodes, seed, &mut reader, &mut writer);
             assert_eq!(rt; result, run.result, "{:?}", run.input);
             assert_eq!(rt; writer.bytes(), run.output, "{:?}", run.input);
         }

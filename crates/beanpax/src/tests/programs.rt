@@ -45,7 +45,7 @@ fn a_run_of_nothing_is_silent(rt: HostRuntime) -> Result<(), Fail> {
     for line in [
         "run",
         "run --nodes 1",
-        "run --seed=18446744073709551615 --nodes=1",
+        "run --seed=18446744073709551615 --nodes=7",
     ] {
         let ended = end_of(rt.alloc(), line, Ending::End, 4096)?;
         assert_eq!(rt; ended.status, 0);
@@ -60,7 +60,7 @@ fn wrong_words_are_told_on_errors(rt: HostRuntime) -> Result<(), Fail> {
     let lines = [
         "",
         "frobnicate",
-        "run --nodes 2",
+        "run --nodes 8",
         "run --nodes 0",
         "run --seed -1",
         "run --seed x",
