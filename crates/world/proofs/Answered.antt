@@ -1,7 +1,7 @@
 -- From which chosen commands each answer came, and which were chosen when a command was submitted.
 use Rattle.std.proofs.Common.{◌≡◌, ⊎_elim, ℕ, ◌+◌, ◌<◌, ◌≤◌, max, Bool, true, false, cond, List, [], ◌∷◌, ◌++◌, take, length, length-append, Option, Some, None, refl, sym, ap, ◌∙◌, subst, append-nil, arith}
 use Rattle.std.proofs.lemmas.Bool.{cases_lt}
-use Rattle.std.proofs.lemmas.List.{take-append-le, take_all, nil_from_length}
+use Rattle.std.proofs.lemmas.List.{take-append-le, take_all}
 use Rattle.object.specs.Lists.{In}
 use Rattle.object.specs.Replays.{kept}
 use Rattle.object.specs.declared.command.Answer.{Answer}
@@ -28,7 +28,7 @@ use Rattle.world.proofs.Reach.{opened_at, opening_sound, leads_sound, step_sound
 use Rattle.world.proofs.Deciding.{any_from}
 use Rattle.world.proofs.Timeline.{key_itself}
 use Rattle.world.proofs.Submitted.{chosen_submitted}
-use Rattle.world.proofs.Performed.{run_stays, run_push, run_chosen, run_within, run_of_all, AllPerformed, history_run, step_full}
+use Rattle.world.proofs.Performed.{run_stays, run_push, run_chosen, run_of_all, AllPerformed, history_run, step_full}
 
 -- the answer came when this command was performed after those, which are chosen in the slots from 1 on
 pub record IsGiven {O Op Reply : Type 0} (rules : Rules O Op Reply) (k : Cluster (Command Op)) (bound : ℕ) (a : Answer Reply) : Type 0 where
@@ -48,7 +48,7 @@ pub record IsPast {O Op Reply : Type 0} (rules : Rules O Op Reply) (k : Cluster 
   pub given : (a : Answer Reply) → In a (take s.after answers) → IsGiven rules k (length run) a
 
 -- what holds in each reachable world; the slots up to the reach are all chosen
-pub record IsTold {O Op Reply : Type 0} (rules : Rules O Op Reply) (w : World Op Reply) : Type 0 where
+pub record IsTraced {O Op Reply : Type 0} (rules : Rules O Op Reply) (w : World Op Reply) : Type 0 where
   pub full : AllPerformed w.cluster
   pub reached : List (Command Op)
   pub chosen : IsRun w.cluster 1 reached
@@ -78,10 +78,10 @@ module _ {O Op Reply : Type 0} (rules : Rules O Op Reply) (k z : Cluster (Comman
   past_same : (answers : List (Answer Reply)) (s : Submission Op) → IsPast rules k answers s → IsPast rules z answers s
   past_same answers s h = subst (λ l. IsPast rules z l s) (append-nil answers) (past_stays answers [] s h)
 
-module _ {O Op Reply : Type 0} (rules : Rules O Op Reply) (v : World Op Reply) (told : IsTold rules v) where
+module _ {O Op Reply : Type 0} (rules : Rules O Op Reply) (v : World Op Reply) (told : IsTraced rules v) where
   -- nothing happens that a client sees
-  quiet_told : (z : Cluster (Command Op)) → Grows v.cluster z → AllPerformed z → IsTold rules (counted (with_cluster v z))
-  quiet_told z g full = record {
+  quiet_traced : (z : Cluster (Command Op)) → Grows v.cluster z → AllPerformed z → IsTraced rules (counted (with_cluster v z))
+  quiet_traced z g full = record {
     full = full;
     reached = told.reached;
     chosen = run_stays v.cluster z g 1 told.reached told.chosen;
@@ -107,14 +107,14 @@ module _ {O Op Reply : Type 0} (rules : Rules O Op Reply) (v : World Op Reply) (
     given = λ a i. given_stays rules v.cluster z g v.reach (length told.reached) (let e = told.reach in omega arith) a (told.given a (subst (In a) (take_all (length v.happenings.answers) v.happenings.answers (omega arith)) i));
   }
 
-  submits_told : ((s : ℕ) (d : Command Op) → IsChosen v.cluster s d → WasSubmitted d v.happenings.submitted) → (z : Cluster (Command Op)) → Grows v.cluster z → AllPerformed z → (c : Command Op) → IsTold rules (counted (record v { cluster = z; happenings = with_submission c v.happenings }))
-  submits_told submitted z g full c = at (is_submitted c.key v.happenings.submitted) refl
+  submits_traced : ((s : ℕ) (d : Command Op) → IsChosen v.cluster s d → WasSubmitted d v.happenings.submitted) → (z : Cluster (Command Op)) → Grows v.cluster z → AllPerformed z → (c : Command Op) → IsTraced rules (counted (record v { cluster = z; happenings = with_submission c v.happenings }))
+  submits_traced submitted z g full c = at (is_submitted c.key v.happenings.submitted) refl
     where
       new : Submission Op
       new = record { command = c; after = length v.happenings.answers }
 
-      at : (test : Bool) → is_submitted c.key v.happenings.submitted ≡ test → IsTold rules (counted (record v { cluster = z; happenings = cond test v.happenings (record v.happenings { submitted = v.happenings.submitted ++ (new ∷ []) }) }))
-      at true e = quiet_told z g full
+      at : (test : Bool) → is_submitted c.key v.happenings.submitted ≡ test → IsTraced rules (counted (record v { cluster = z; happenings = cond test v.happenings (record v.happenings { submitted = v.happenings.submitted ++ (new ∷ []) }) }))
+      at true e = quiet_traced z g full
       at false e = record {
         full = full;
         reached = told.reached;
@@ -150,9 +150,9 @@ module _ {O Op Reply : Type 0} (rules : Rules O Op Reply) (v : World Op Reply) (
         (λ (l : (node v.cluster n).replica.slot_out ≤ v.reach). (told.reached, told.chosen, let e = told.reach in omega arith))
         (cases_lt v.reach (node v.cluster n).replica.slot_out)
 
-  performs_told : IsSound v.cluster → (n : ℕ) → (o : Option (Command Op)) → next_decided (node v.cluster n).replica ≡ o → Grows v.cluster (performed rules v n (node v.cluster n).replica o).cluster → AllPerformed (performed rules v n (node v.cluster n).replica o).cluster → IsTold rules (counted (performed rules v n (node v.cluster n).replica o))
-  performs_told i n None e g full = quiet_told v.cluster g full
-  performs_told i n (Some c) e g full = record {
+  performs_traced : IsSound v.cluster → (n : ℕ) → (o : Option (Command Op)) → next_decided (node v.cluster n).replica ≡ o → Grows v.cluster (performed rules v n (node v.cluster n).replica o).cluster → AllPerformed (performed rules v n (node v.cluster n).replica o).cluster → IsTraced rules (counted (performed rules v n (node v.cluster n).replica o))
+  performs_traced i n None e g full = quiet_traced v.cluster g full
+  performs_traced i n (Some c) e g full = record {
     full = full;
     reached = (reached_now i n c e).0;
     chosen = run_stays v.cluster z g 1 (reached_now i n c e).0 (reached_now i n c e).1;
@@ -174,17 +174,17 @@ module _ {O Op Reply : Type 0} (rules : Rules O Op Reply) (v : World Op Reply) (
       now = answers_after rules (history (node v.cluster n).replica) c
 
 module _ (laws : BallotLaws) {O Op Reply : Type 0} (rules : Rules O Op Reply) where
-  step_told : (v : World Op Reply) (e : Event Op) (u : World Op Reply) → IsSound v.cluster → ((s : ℕ) (d : Command Op) → IsChosen v.cluster s d → WasSubmitted d v.happenings.submitted) → Grows v.cluster u.cluster → AllPerformed u.cluster → IsTold rules v → Step rules v e u → IsTold rules u
-  step_told v e u i submitted g full told (submit n c member own) = submits_told rules v told submitted _ g full c
-  step_told v e u i submitted g full told (deliver j l x out at receives) = quiet_told rules v told _ g full
-  step_told v e u i submitted g full told (wake n member) = quiet_told rules v told _ g full
-  step_told v e u i submitted g full told (nudge n member) = quiet_told rules v told _ g full
-  step_told v e u i submitted g full told (propose n member) = quiet_told rules v told _ g full
-  step_told v e u i submitted g full told (perform n member) = performs_told rules v told i n (next_decided (node v.cluster n).replica) refl g full
-  step_told v e u i submitted g full told (restart n member) = quiet_told rules v told _ g full
+  step_traced : (v : World Op Reply) (e : Event Op) (u : World Op Reply) → IsSound v.cluster → ((s : ℕ) (d : Command Op) → IsChosen v.cluster s d → WasSubmitted d v.happenings.submitted) → Grows v.cluster u.cluster → AllPerformed u.cluster → IsTraced rules v → Step rules v e u → IsTraced rules u
+  step_traced v e u i submitted g full told (submit n c member own) = submits_traced rules v told submitted _ g full c
+  step_traced v e u i submitted g full told (deliver j l x out at receives) = quiet_traced rules v told _ g full
+  step_traced v e u i submitted g full told (wake n member) = quiet_traced rules v told _ g full
+  step_traced v e u i submitted g full told (nudge n member) = quiet_traced rules v told _ g full
+  step_traced v e u i submitted g full told (propose n member) = quiet_traced rules v told _ g full
+  step_traced v e u i submitted g full told (perform n member) = performs_traced rules v told i n (next_decided (node v.cluster n).replica) refl g full
+  step_traced v e u i submitted g full told (restart n member) = quiet_traced rules v told _ g full
 
-  opening_told : (members : List ℕ) → IsTold rules (opening members)
-  opening_told members = record {
+  opening_traced : (members : List ℕ) → IsTraced rules (opening members)
+  opening_traced members = record {
     full = λ m. subst (λ x. IsPerformed x.replica) (sym (opened_at members m)) (record { first = omega arith; known = λ s low high. absurd (omega arith) });
     reached = [];
     chosen = tt;
@@ -193,34 +193,25 @@ module _ (laws : BallotLaws) {O Op Reply : Type 0} (rules : Rules O Op Reply) wh
     past = λ s i. absurd i;
   }
 
-  leads_told : (members : List ℕ) (u : World Op Reply) (es : List (Event Op)) → Leads rules (opening members) es u → IsTold rules u
-  leads_told members u es at_once = opening_told members
-  leads_told members u es (after {es = before} {v = v} e u' l s) =
+  pub leads_traced : (members : List ℕ) (u : World Op Reply) (es : List (Event Op)) → Leads rules (opening members) es u → IsTraced rules u
+  leads_traced members u es at_once = opening_traced members
+  leads_traced members u es (after {es = before} {v = v} e u' l s) =
       let i = (leads_sound laws rules (opening members) v before (opening_sound (Command Op) members) l).sound in
-      let told = leads_told members v before l in
-      step_told v e u i (chosen_submitted laws rules members v before l) (step_sound laws rules v e u i s).grows (step_full laws rules v e u i s told.full) told s
+      let told = leads_traced members v before l in
+      step_traced v e u i (chosen_submitted laws rules members v before l) (step_sound laws rules v e u i s).grows (step_full laws rules v e u i s told.full) told s
 
-  pub reachable_told : (w : World Op Reply) → IsReachable rules w → IsTold rules w
-  reachable_told w r = leads_told w.cluster.members w r.0 r.1
+  pub reachable_traced : (w : World Op Reply) → IsReachable rules w → IsTraced rules w
+  reachable_traced w r = leads_traced w.cluster.members w r.0 r.1
 
   -- what a replica performed is a beginning of the chosen commands
   pub history_beginning : (w : World Op Reply) → IsReachable rules w → (n : ℕ) (all : List (Command Op)) → IsChosenFrom w.cluster 1 all → IsBeginning (history (node w.cluster n).replica) all
   history_beginning w r n all chosen =
       let i = reachable_sound laws rules w r in
-      run_of_all laws w.cluster i 1 (history (node w.cluster n).replica) all (history_run w.cluster i n ((reachable_told w r).full n)).0 chosen
+      run_of_all laws w.cluster i 1 (history (node w.cluster n).replica) all (history_run w.cluster i n ((reachable_traced w r).full n)).0 chosen
 
   -- each slot up to the reach has a chosen command
   pub reachable_reached : (w : World Op Reply) → IsReachable rules w → (cs : List (Command Op)) × IsReached w cs
-  reachable_reached w r = let told = reachable_told w r in (told.reached, record { chosen = told.chosen; count = told.reach })
-
-  -- and there are no two such lists
-  pub one_reached : (w : World Op Reply) → IsReachable rules w → (cs ds : List (Command Op)) → IsReached w cs → IsReached w ds → cs ≡ ds
-  one_reached w r cs ds h g =
-      let e = h.count in
-      let f = g.count in
-      let b = run_within laws w.cluster (reachable_sound laws rules w r) 1 cs ds h.chosen g.chosen (omega arith) in
-      let l = ap length b.1 ∙ length-append cs b.0 in
-      sym (b.1 ∙ ap (λ more. cs ++ more) (nil_from_length b.0 (omega arith)) ∙ append-nil cs)
+  reachable_reached w r = let told = reachable_traced w r in (told.reached, record { chosen = told.chosen; count = told.reach })
 
   -- what is kept of them begins the order
   pub reached_beginning : (w : World Op Reply) → IsReachable rules w → (cs order : List (Command Op)) → IsReached w cs → IsOrder w.cluster order → IsBeginning (kept cs) order

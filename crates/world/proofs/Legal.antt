@@ -26,7 +26,7 @@ use Rattle.world.proofs.Submitted.{chosen_submitted}
 use Rattle.world.proofs.Rising.{In-kept, kept_rises}
 use Rattle.world.proofs.Once.{ObjectLaws, replay_once, one_answer}
 use Rattle.world.proofs.Performed.{run_chosen, run_from, run_of_all, run_within}
-use Rattle.world.proofs.Answered.{IsGiven, IsPast, IsTold, reachable_told}
+use Rattle.world.proofs.Answered.{IsGiven, IsPast, IsTraced, reachable_traced}
 
 -- what stands in a list stands in a beginning of it, or behind
 place_cases : {A : Type 0} (xs more : List A) (n : ℕ) (x : A) → slice_get (xs ++ more) n ≡ Some x → In x xs ⊎ (length xs ≤ n)
@@ -67,8 +67,8 @@ module _ {O Op Reply : Type 0} (rules : Rules O Op Reply) where
   one_place order once a m n i j = ap (λ (p : Placed Reply). p.place) (one_answer (replay_of rules order) once (record { place = m; answer = a }) (record { place = n; answer = a }) i j refl)
 
 module _ (laws : BallotLaws) {O Op Reply : Type 0} (rules : Rules O Op Reply) (waits : O → Key → Type 0) (object : ObjectLaws rules waits) (w : World Op Reply) (r : IsReachable rules w) (all : List (Command Op)) (chosen : IsChosenFrom w.cluster 1 all) where
-  told : IsTold rules w
-  told = reachable_told laws rules w r
+  told : IsTraced rules w
+  told = reachable_traced laws rules w r
 
   sound : IsSound w.cluster
   sound = reachable_sound laws rules w r

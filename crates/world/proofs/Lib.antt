@@ -26,6 +26,7 @@ pub mod Once
 pub mod Performed
 pub mod Answered
 pub mod Legal
+pub mod Told
 pub mod OneOrder
 pub mod Received
 pub mod Events

@@ -61,6 +61,13 @@ module _ (laws : BallotLaws) {C : Type 0} (k : Cluster C) (i : IsSound k) where
       let p = run_within (s + 1) cs ds h.1 f.1 (omega arith) in
       (p.0, ap₂ (λ x xs. x ∷ xs) (agree laws k i s d c f.0 h.0) p.1)
 
+  -- two such lists of one length are one
+  pub same_run : (s : ℕ) (cs ds : List C) → IsRun k s cs → IsRun k s ds → length cs ≡ length ds → cs ≡ ds
+  same_run s [] [] h f e = refl
+  same_run s [] (d ∷ ds) h f e = absurd (omega arith)
+  same_run s (c ∷ cs) [] h f e = absurd (omega arith)
+  same_run s (c ∷ cs) (d ∷ ds) h f e = ap₂ (λ x xs. x ∷ xs) (agree laws k i s c d h.0 f.0) (same_run (s + 1) cs ds h.1 f.1 (omega arith))
+
   -- and each is a beginning of all chosen commands
   pub run_of_all : (s : ℕ) (cs all : List C) → IsRun k s cs → IsChosenFrom k s all → IsBeginning cs all
   run_of_all s [] all h f = (all, refl)
@@ -142,11 +149,15 @@ receives_full members m n x body z out (tells_decisions s) h = h
 abbrev pub AllPerformed : {C : Type 0} → Cluster C → Type 0
 AllPerformed k = (m : ℕ) → IsPerformed (node k m).replica
 
-turn_full : (laws : BallotLaws) {C : Type 0} (k : Cluster C) (i : IsSound k) (n : ℕ) (member : is_member k.members n ≡ true) (x : NodeState C) (out : List (Letter C)) → AllPerformed k → IsPerformed x.replica → AllPerformed (turned k n x out)
-turn_full laws {C} k i n member x out f fx m = ⊎_elim
-    (λ (e : m ≡ n). subst (λ z. IsPerformed (node (turned k n x out) z).replica) (sym e) (subst (λ (y : NodeState C). IsPerformed y.replica) (sym (here laws k i n member x out)) fx))
-    (λ (apart : m ≢ n). subst (λ (y : NodeState C). IsPerformed y.replica) (sym (there laws k i n member x out m apart)) (f m))
+-- what holds of each replica still does after a node's turn, where it holds of that node's
+pub turn_all : (laws : BallotLaws) {C : Type 0} (P : SlotBook C → Type 0) (k : Cluster C) (i : IsSound k) (n : ℕ) (member : is_member k.members n ≡ true) (x : NodeState C) (out : List (Letter C)) → ((m : ℕ) → P (node k m).replica) → P x.replica → (m : ℕ) → P (node (turned k n x out) m).replica
+turn_all laws {C} P k i n member x out f fx m = ⊎_elim
+    (λ (e : m ≡ n). subst (λ z. P (node (turned k n x out) z).replica) (sym e) (subst (λ (y : NodeState C). P y.replica) (sym (here laws k i n member x out)) fx))
+    (λ (apart : m ≢ n). subst (λ (y : NodeState C). P y.replica) (sym (there laws k i n member x out m apart)) (f m))
     (cases_eq m n)
+
+turn_full : (laws : BallotLaws) {C : Type 0} (k : Cluster C) (i : IsSound k) (n : ℕ) (member : is_member k.members n ≡ true) (x : NodeState C) (out : List (Letter C)) → AllPerformed k → IsPerformed x.replica → AllPerformed (turned k n x out)
+turn_full laws k i n member x out f fx = turn_all laws (λ r. IsPerformed r) k i n member x out f fx
 
 module _ (laws : BallotLaws) {O Op Reply : Type 0} (rules : Rules O Op Reply) where
   performs_full : (v : World Op Reply) → IsSound v.cluster → (n : ℕ) → is_member v.cluster.members n ≡ true → AllPerformed v.cluster → (o : Option (Command Op)) → next_decided (node v.cluster n).replica ≡ o → AllPerformed (performed_by rules v n (node v.cluster n).replica o).cluster

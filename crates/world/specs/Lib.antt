@@ -14,3 +14,4 @@ pub mod Agreements
 pub mod Legal
 pub mod OneOrder
 pub mod Reached
+pub mod Told

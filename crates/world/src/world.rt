@@ -7,6 +7,7 @@ ghost use Rattle.world.specs.Steps.{Step};
 ghost use Rattle.world.specs.Runs.{Leads};
 ghost use Rattle.world.specs.Refusals.{refusal, IsRefused};
 ghost use Rattle.world.specs.OneOrder.{HasOneOrder, IsLater};
+ghost use Rattle.world.specs.Told.{IsAnswered};
 ghost use Rattle.world.specs.Agreements.{HasOneCommand, KeepsChosen, ChoosesOne, DecidesChosen, StaysChosen};
 
 mod refusing;
@@ -90,6 +91,7 @@ impl<O: Object> World<O> {
         ensures decides_chosen { DecidesChosen self.new.cluster }
         ensures stays { StaysChosen self.old.cluster self.new.cluster }
         ensures one_order { HasOneOrder (rules_of O.fresh O.after O.answers O.Op.eq) self.new }
+        ensures answered { IsAnswered (rules_of O.fresh O.after O.answers O.Op.eq) self.new }
         ensures later { IsLater self.old self.new }
     {
         let taken = self.take(event);
@@ -110,6 +112,7 @@ impl<O: Object> World<O> {
         ensures decides_chosen { DecidesChosen self.new.cluster }
         ensures stays { StaysChosen self.old.cluster self.new.cluster }
         ensures one_order { HasOneOrder (rules_of O.fresh O.after O.answers O.Op.eq) self.new }
+        ensures answered { IsAnswered (rules_of O.fresh O.after O.answers O.Op.eq) self.new }
         ensures later { IsLater self.old self.new }
     {
         let ran = self.take_all(events);
@@ -174,6 +177,7 @@ impl<O: Object> World<O> {
         ensures chooses_one { ChoosesOne self.now.cluster }
         ensures decides_chosen { DecidesChosen self.now.cluster }
         ensures one_order { HasOneOrder (rules_of O.fresh O.after O.answers O.Op.eq) self.now }
+        ensures answered { IsAnswered (rules_of O.fresh O.after O.answers O.Op.eq) self.now }
     {
         let _ = &self.alloc;
         ballot_laws();

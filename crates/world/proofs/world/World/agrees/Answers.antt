@@ -1,6 +1,7 @@
 use Rattle.world.specs.Objects.{rules_of}
 use Rattle.world.proofs.Events.{sound_now, order_now}
 use Rattle.world.proofs.Invariants.{one_command, keeps_chosen, agree, decides_chosen}
+use Rattle.world.proofs.Told.{answered_now}
 use Rattle.world.proofs.world.World.agrees.Goals as goal
 
 pub returns-clause-one_command : goal.returns-clause-one_command
@@ -20,3 +21,6 @@ returns-clause-one_order g c =
     order_now c.ballot_laws.ensures (rules_of g.O.Object.fresh g.O.Object.after g.O.Object.answers g.O.Op.PartialEq.eq) g.O.Object.waits
     (record { idle = g.met.O.Object.idle; waited = g.met.O.Object.waited; named = g.met.O.Object.named; over = g.met.O.Object.over; once = g.met.O.Object.once })
     _ _ c.self.view_is c.self.invariant
+
+pub returns-clause-answered : goal.returns-clause-answered
+returns-clause-answered g c = answered_now c.ballot_laws.ensures (rules_of g.O.Object.fresh g.O.Object.after g.O.Object.answers g.O.Op.PartialEq.eq) _ _ c.self.view_is c.self.invariant
