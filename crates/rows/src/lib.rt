@@ -15,6 +15,12 @@ mod node_rows;
 #[cfg(test)]
 mod program_rows;
 #[cfg(test)]
+mod queue_draws;
+#[cfg(test)]
+mod queue_rows;
+#[cfg(test)]
+mod queue_words;
+#[cfg(test)]
 mod replica_rows;
 #[cfg(test)]
 mod schedule_rows;

@@ -1,8 +1,7 @@
-//! What the nodes decide under schedules that lose, repeat and reorder letters and restart nodes.
-use ballot::{Body, Letter, Members};
-use object::{Act, Command, Key, Register, RegisterOp, Value};
+//! What the nodes choose under schedules that lose, repeat and reorder letters and restart nodes.
+use ballot::Members;
+use object::{Act, Command, Key, Register, RegisterOp};
 use std::alloc::Global;
-use std::collections::BTreeMap;
 use std::test::Fail;
 use world::{Event, Schedule, World};
 
@@ -12,46 +11,13 @@ const ROUNDS: u32 = 20;
 /// How many events there are from one submission to the next.
 const EVENTS: u32 = 99;
 
-/// What letters told of the order so far.
-#[derive(Drop)]
-struct Told {
-    commands: BTreeMap<u64, Command<RegisterOp>>,
-    heard: usize,
-}
-
-impl Told {
-    fn new(alloc: Global) -> Told {
-        Told {
-            commands: BTreeMap::new(alloc),
-            heard: 0,
-        }
-    }
-
-    /// Hears the letters that are new. Whether none of them tells another command for a slot than one before it.
-    fn agrees(&mut self, letters: &[Letter<Command<RegisterOp>>]) -> Result<bool, Fail> {
-        for letter in letters.iter().skip(self.heard) {
-            if let Body::Decision(slot, command) = &letter.body {
-                if let Some(told) = self.commands.get(&slot.number()) {
-                    if told != command {
-                        return Ok(false);
-                    }
-                } else {
-                    self.commands.insert(slot.number(), command.copy()?)?;
-                }
-            }
-        }
-        self.heard = letters.len();
-        Ok(true)
-    }
-}
-
-/// A schedule with its world, and what was told in it.
+/// A schedule with its world, and the order so far.
 #[derive(Drop)]
 struct Run {
     members: Members,
     schedule: Schedule,
     world: World<Register>,
-    told: Told,
+    order: Vec<Command<RegisterOp>>,
 }
 
 impl Run {
@@ -62,7 +28,7 @@ impl Run {
             members,
             schedule: Schedule::new(seed),
             world: World::new(alloc, members)?,
-            told: Told::new(alloc),
+            order: Vec::new(alloc),
         })
     }
 
@@ -75,7 +41,7 @@ impl Run {
         Ok(self.world.step(Event::Submit(node, command))?)
     }
 
-    /// Submits a command, and takes the events that come next. Whether what is told agrees with all before.
+    /// Submits a command, and takes the events that come next. Whether the order goes on from the one before them.
     fn round(&mut self, session: u32) -> Result<bool, Fail> {
         self.submit(session)?;
         for _ in 0..EVENTS {
@@ -83,18 +49,21 @@ impl Run {
             let event = self.schedule.next(self.members, letters);
             self.world.step(event)?;
         }
-        self.told.agrees(self.world.letters())
+        let order = self.world.order()?;
+        let goes_on = order.starts_with(self.order.as_slice());
+        self.order = order;
+        Ok(goes_on)
     }
 }
 
 #[test]
-fn no_slot_is_decided_as_two_commands(rt: HostRuntime) -> Result<(), Fail> {
+fn the_order_only_goes_on(rt: HostRuntime) -> Result<(), Fail> {
     for seed in 0..100 {
         let mut run = Run::new(rt.alloc(), seed)?;
         for session in 1..=ROUNDS {
             assert!(rt; run.round(session)?, "seed {seed}, round {session}");
         }
-        assert!(rt; !run.told.commands.is_empty(), "seed {seed}");
+        assert!(rt; !run.order.is_empty(), "seed {seed}");
     }
     Ok(())
 }
