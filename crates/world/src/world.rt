@@ -64,6 +64,7 @@ impl<O: Object> World<O> {
     pub fn new(alloc: Global, members: Members) -> Result<World<O>, AllocError>
         ensures opening { IfOk result (λ w. w ≡ opening members) }
         ensures one_order { IfOk result (HasOneOrder (rules_of O.fresh O.after O.answers O.Op.eq)) }
+        ensures answered { IfOk result (IsAnswered (rules_of O.fresh O.after O.answers O.Op.eq)) }
     {
         ballot_laws();
         let world = World {
