@@ -25,4 +25,6 @@ mod replica_rows;
 #[cfg(test)]
 mod schedule_rows;
 #[cfg(test)]
+mod waiting_rows;
+#[cfg(test)]
 mod world_rows;
