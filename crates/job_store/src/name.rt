@@ -1,4 +1,4 @@
-ghost use Rattle.std.specs.Prelude.{◌≡◌, ◌↔◌, IfOk, SomeIff, IsTrue, true, codes};
+ghost use Rattle.std.specs.Prelude.{◌≡◌, ◌↔◌, IfOk, OnErr, SomeIff, IsTrue, true, codes};
 ghost use Rattle.job_store.specs.Names.{IsName, IsNameByte, AreNameBytes};
 
 use bytes::Bytes;
@@ -54,7 +54,8 @@ fn is_name(bytes: &[u8]) -> bool
 impl Name {
     /// The name of these bytes, which are copied, where they keep the rule.
     pub fn new(alloc: Global, bytes: &[u8]) -> Result<Option<Name>, AllocError>
-        ensures { IfOk result (λ name. SomeIff name (IsName bytes.now) bytes.now) }
+        ensures rule { IfOk result (λ name. SomeIff name (IsName bytes.now) bytes.now) }
+        ensures memory { OnErr result (IsName bytes.now) }
     {
         if !is_name(bytes) {
             return Ok(None);

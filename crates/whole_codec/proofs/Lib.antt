@@ -1,0 +1,9 @@
+pub mod LineCuts
+pub mod OneItem
+pub mod WordSteps
+pub mod Digits
+pub mod Fronts
+pub mod FrontItems
+pub mod Told
+pub mod TubeNames
+pub mod TubeLists

@@ -1,0 +1,27 @@
+//! The text protocol: requests are read from bytes, and replies are written as bytes.
+//!
+//! `specs/Grammar.antt` says which text spells which request or fault, and `specs/Replies.antt` has
+//! the texts of replies. A text spells one item and begins no other, so that requests may follow one
+//! another in one buffer.
+#![tactic(auto)]
+
+mod append;
+mod command;
+mod laws;
+mod line;
+mod name_lines;
+mod number;
+mod number_lines;
+mod reader;
+mod request;
+mod tube_list;
+mod words;
+mod writer;
+
+pub use laws::{front_item, one_item};
+pub use reader::{Read, Want, read_request};
+pub use request::{Fault, Request};
+pub use writer::{write_fault, write_reply};
+
+#[cfg(test)]
+mod tests;
