@@ -1,0 +1,17 @@
+//! S.
+#![tactic(auto)]
+
+mod faults;
+mod reading;
+mod serve;
+mod service;
+mod session;
+mod streams;
+mod writing;
+
+pub use faults::{End, ServiceFault, SessionFault};
+pub use reading::Reading;
+pub use service::Service;
+pub use session::Session;
+pub use streams::{ByteIn, ByteOut, Failed};
+pub use writing::{Writing, write_all};
