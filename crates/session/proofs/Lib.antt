@@ -1,3 +1,5 @@
 pub mod Items
 pub mod Standing
 pub mod Slices
+pub mod Going
+pub mod Endings

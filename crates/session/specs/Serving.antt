@@ -86,9 +86,13 @@ Ending asks old new input output (Err ReadFailed) = Whole asks old new input out
 Ending asks old new input output (Err WriteFailed) = BreaksOff asks old new input output
 Ending asks old new input output (Err ServiceStopped) = StopsAt asks old new input output
 
--- then the service was closed once, with this result
-abbrev pub Closed : {S : Type 0} → (S → S → List ℕ → List ℕ → Type 0) → Closes S → S → S → Result Unit ServiceFault → List ℕ → List ℕ → Type 0
-Closed run closes old new result input output = (last : _) × run old last input output × closes last result new
+-- of the service as it then stood this is so, and then it was closed, with this result
+abbrev pub ClosedAfter : {S : Type 0} → Closes S → (S → Type 0) → Result Unit ServiceFault → S → Type 0
+ClosedAfter closes before result new = (last : _) × before last × closes last result new
+
+-- the same, whatever closing it gave
+abbrev pub ClosedOnce : {S : Type 0} → Closes S → (S → Type 0) → S → Type 0
+ClosedOnce closes before new = (result : Result Unit ServiceFault) × ClosedAfter closes before result new
 
 -- the reader gave an input and the writer took an output, of which this is so
 abbrev pub Over : Option (List ℕ) → Option (List ℕ) → Option (List ℕ) → Option (List ℕ) → (List ℕ → List ℕ → Type 0) → Type 0

@@ -3,7 +3,7 @@
 
 mod faults;
 mod reading;
-mod serve;
+mod server;
 mod service;
 mod session;
 mod streams;
@@ -11,6 +11,7 @@ mod writing;
 
 pub use faults::{End, ServiceFault, SessionFault};
 pub use reading::Reading;
+pub use server::serve;
 pub use service::Service;
 pub use session::Session;
 pub use streams::{ByteIn, ByteOut, Failed};
