@@ -1,9 +1,9 @@
 -- How a session that is on its way goes on or ends.
-use Rattle.std.proofs.Common.{◌≡◌, ◌≤◌, ◌⊎◌, inl, inr, ℕ, Bool, true, false, List, [], ◌∷◌, ◌++◌, Option, Some, None, Result, Ok, Err, OnOk, OnErr, MatchBool, length, take, refl, sym, ap, subst, ◌∙◌, arith}
+use Rattle.std.proofs.Common.{◌≡◌, ◌⊎◌, inl, inr, ℕ, Bool, List, [], ◌∷◌, ◌++◌, Option, Some, None, Result, Ok, Err, OnOk, OnErr, MatchBool, length, take, refl, sym, ap, subst, ◌∙◌, arith}
 use Rattle.std.proofs.lemmas.List.{append-nil}
 use Rattle.std.proofs.Math.Seq.{take-length}
 use Rattle.std.proofs.KnownBytes.{Appends-nil, Appends-trans, Consumes-nil, Consumes-trans, Consumes-kept}
-use Rattle.std.specs.Io.KnownBytes.{Appends, Consumes, IsAtEnd, Keeps}
+use Rattle.std.specs.Io.KnownBytes.{Appends, Consumes, Keeps}
 use Rattle.whole_queue.specs.declared.op.Op.{Op}
 use Rattle.whole_codec.specs.declared.request.Request.TheVariants.{Do, Quit}
 use Rattle.whole_codec.specs.Grammar.{Item, Spells}
@@ -13,9 +13,9 @@ use Rattle.session.specs.declared.faults.ServiceFault.{ServiceFault}
 use Rattle.session.specs.declared.faults.SessionFault.{SessionFault}
 use Rattle.session.specs.declared.faults.SessionFault.TheVariants.{OutOfMemory, ReadFailed, WriteFailed, ServiceStopped}
 use Rattle.session.specs.Streams.{AppendsBeginning, ConsumesSome}
-use Rattle.session.specs.Items.{Answer, Reads, ReadsFirst, is_quit, operations, told, answer_text}
+use Rattle.session.specs.Items.{Answer, Reads, ReadsFirst, operations, told, answer_text}
 use Rattle.session.specs.Held.{Held, StandsAt, ComesTo, Finds, nothing_held}
-use Rattle.session.specs.Serving.{Asks, Asked, Whole, StopsAt, Partly, BreaksOff, Ending, Over, result_of}
+use Rattle.session.specs.Serving.{Asks, Asked, Whole, StopsAt, Ending, Over, result_of}
 use Rattle.session.proofs.Items.{reads_one, operations-append, told-append}
 use Rattle.session.proofs.Going.{Going, asked_length, asked_one, goes_at_first, goes_finding, goes_reading, goes_sending, is_partly, breaks_off}
 
@@ -44,31 +44,29 @@ whole_eof asks old now input output t g =
 
 pub whole_quit : {S : Type 0} (asks : Asks S) (old now : S) (input output : List ℕ) (t : Held) → Going asks old now input output [] (ComesTo (Some Quit) t) → Whole asks old now input output End.Quit
 whole_quit asks old now input output t g =
-    let items = g.items ++ g.more in
-    (
+    let items = g.items ++ g.more in (
       items ++ Ok Quit ∷ [],
       g.answers,
       reads_to_quit input items g.rest g.left.0 g.left.1 g.reads g.left.2 g.left.3,
       subst (λ ops. Asked asks old ops g.answers now) (sym (operations-append items (Ok Quit ∷ []) ∙ append-nil (operations items))) g.asked,
       all_told asks old now input output _ g ∙
-      (sym (append-nil (told items g.answers)) ∙
-      (sym (told-append items (Ok Quit ∷ []) g.answers [] (as_many asks old now input output [] _ g)) ∙
-      ap (λ xs. told (items ++ Ok Quit ∷ []) xs) (append-nil g.answers))),
+          (sym (append-nil (told items g.answers)) ∙
+          (sym (told-append items (Ok Quit ∷ []) g.answers [] (as_many asks old now input output [] _ g)) ∙
+          ap (λ xs. told (items ++ Ok Quit ∷ []) xs) (append-nil g.answers))),
     )
 
 pub stops_at : {S : Type 0} (asks : Asks S) (old now last : S) (input output : List ℕ) (t : Held) (op : Op) → asks now op (Err ServiceFault.Stopped) last → Going asks old now input output [] (ComesTo (Some (Do op)) t) → StopsAt asks old last input output
-stops_at asks old now last input output t op one g =
-    (
-      g.items ++ g.more,
-      g.answers,
-      op,
-      g.left.1,
-      now,
-      reads_one input (g.items ++ g.more) g.rest g.left.0 g.left.1 (Ok (Do op)) g.reads g.left.2 g.left.3 refl,
-      g.asked,
-      one,
-      all_told asks old now input output _ g,
-    )
+stops_at asks old now last input output t op one g = (
+  g.items ++ g.more,
+  g.answers,
+  op,
+  g.left.1,
+  now,
+  reads_one input (g.items ++ g.more) g.rest g.left.0 g.left.1 (Ok (Do op)) g.reads g.left.2 g.left.3 refl,
+  g.asked,
+  one,
+  all_told asks old now input output _ g,
+)
 
 pub goes_answered : {S : Type 0} (asks : Asks S) (old now last : S) (input output : List ℕ) (t : Held) (op : Op) (answer : Answer) → asks now op (result_of answer) last → Going asks old now input output [] (ComesTo (Some (Do op)) t) → Going asks old last input output (answer_text answer) (StandsAt t)
 goes_answered asks old now last input output t op answer one g =

@@ -1,20 +1,17 @@
 -- A session on its way: what was read, asked and written so far.
-use Rattle.std.proofs.Common.{◌≡◌, ◌≤◌, ◌⊎◌, inl, ℕ, suc, false, List, [], ◌∷◌, ◌++◌, Option, Some, None, Result, Ok, Err, IfErr, MatchBool, length, take, drop, refl, sym, ap, subst, ◌∙◌, length-append, arith}
+use Rattle.std.proofs.Common.{◌≡◌, ◌≤◌, ◌⊎◌, inl, ℕ, suc, List, [], ◌∷◌, ◌++◌, Option, Result, Ok, Err, IfErr, length, take, drop, refl, sym, ap, subst, ◌∙◌, arith}
 use Rattle.std.proofs.lemmas.List.{append-nil, append_assoc, take-append-drop}
 use Rattle.whole_queue.specs.declared.op.Op.{Op}
 use Rattle.whole_codec.specs.declared.request.Fault.{Fault}
 use Rattle.whole_codec.specs.declared.request.Request.{Request}
-use Rattle.whole_codec.specs.declared.request.Request.TheVariants.{Do, Quit}
-use Rattle.whole_codec.specs.Grammar.{Item, Spells}
-use Rattle.whole_codec.specs.Reads.{BeginsWithNone}
-use Rattle.session.specs.declared.faults.End.{End}
+use Rattle.whole_codec.specs.Grammar.{Item}
 use Rattle.session.specs.declared.faults.ServiceFault.{ServiceFault}
 use Rattle.session.specs.declared.faults.SessionFault.{SessionFault}
 use Rattle.session.specs.declared.faults.SessionFault.TheVariants.{OutOfMemory, ServiceStopped}
-use Rattle.session.specs.Items.{Answer, Reads, ReadsFirst, is_quit, operations, told, answer_text}
+use Rattle.session.specs.Items.{Answer, ReadsFirst, operations, told}
 use Rattle.session.specs.Held.{Held, StandsAt, ComesTo, Finds, nothing_held, faulty}
-use Rattle.session.specs.Serving.{Asks, Asked, Whole, StopsAt, Partly, BreaksOff, result_of}
-use Rattle.session.proofs.Items.{reads_one, reads_more, operations_faulty, operations-append, told-append}
+use Rattle.session.specs.Serving.{Asks, Asked, Partly, BreaksOff, result_of}
+use Rattle.session.proofs.Items.{reads_more, operations_faulty, operations-append, told-append}
 
 -- an answer that could not be written down
 pub refuses : {X S : Type 0} (asks : Asks S) (old new : S) (op : Op) (answer : Answer) (r : Result X SessionFault) → IfErr r (λ f. f ≡ OutOfMemory) → asks old op (result_of answer) new → IfErr r (λ f. ((f ≡ OutOfMemory) × (a : Answer) × asks old op (result_of a) new) ⊎ ((f ≡ ServiceStopped) × asks old op (Err ServiceFault.Stopped) new))

@@ -1,5 +1,5 @@
 -- Items one after the other, and what is told for them.
-use Rattle.std.proofs.Common.{◌≡◌, ℕ, ◌+◌, false, List, [], ◌∷◌, ◌++◌, Ok, Err, length, refl, sym, ap, subst, ◌∙◌, arith}
+use Rattle.std.proofs.Common.{◌≡◌, ℕ, false, List, [], ◌∷◌, ◌++◌, Ok, Err, length, refl, sym, ap, subst, ◌∙◌, arith}
 use Rattle.std.proofs.lemmas.List.{append-nil, append_assoc, map-append}
 use Rattle.whole_codec.specs.declared.request.Fault.{Fault}
 use Rattle.whole_codec.specs.declared.request.Request.TheVariants.{Do, Quit}

@@ -3,3 +3,4 @@ pub mod Standing
 pub mod Slices
 pub mod Going
 pub mod Endings
+pub mod Whole

@@ -1,5 +1,5 @@
 -- Where a session stands in a text.
-use Rattle.std.proofs.Common.{◌≡◌, ◌≢◌, ℕ, ◌+◌, ◌*◌, ◌-◌, ◌<◌, ◌≤◌, Bool, false, List, [], ◌∷◌, ◌++◌, Option, Some, None, Result, Ok, Err, OnOk, length, take, drop, refl, sym, ap, subst, ◌∙◌, length-append, length-take, arith}
+use Rattle.std.proofs.Common.{◌≡◌, ℕ, ◌+◌, ◌*◌, ◌<◌, ◌≤◌, Bool, false, List, [], ◌∷◌, ◌++◌, Option, Some, None, Result, Ok, Err, OnOk, length, take, drop, refl, sym, ap, subst, ◌∙◌, length-append, length-take, arith}
 use Rattle.std.proofs.lemmas.List.{append-nil, append_assoc, take-append-drop, take-append-le, drop-append-le}
 use Rattle.whole_codec.specs.declared.reader.Want.{Want}
 use Rattle.whole_codec.specs.declared.reader.Want.TheVariants.{Line, Rest, Big}
@@ -47,8 +47,7 @@ looks_dropping old want next kept unsent used drops looks t st =
 pub looks_past_fault : (old : Held) (want : Want) (kept unsent new : List ℕ) (fault : Fault) (used : ℕ) → Continues want kept (Err fault, used) → new ≡ unsent ++ fault_text fault → Looks old (holding want kept unsent) → Looks old (holding Line (drop used kept) new)
 looks_past_fault old want kept unsent new fault used item e looks t st =
     let l = looks t st in
-    let d = l.4.0 in
-    (
+    let d = l.4.0 in (
       l.0 ++ fault ∷ [],
       drop used kept,
       subst (λ items. ReadsFirst t items (drop used kept)) (sym (faulty-one l.0 fault)) (reads_one t (faulty l.0) l.1 (d ++ take used kept) (drop used kept) (Err fault) l.2 (l.4.2 ∙ cut_in d kept used) (item.1 d l.4.1) refl),

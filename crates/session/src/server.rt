@@ -126,10 +126,10 @@ pub fn serve<R: ByteIn, W: ByteOut, S: Service>(
         (λ input output. ClosedOnce S.closes (λ s. BreaksOff S.asks service.old s input output) service.new) }
     ensures stopped { result ≡ Err SessionFault.ServiceStopped → Over (R.remaining reader.old) (R.remaining reader.new) (W.contents writer.old) (W.contents writer.new)
         (λ input output. ClosedOnce S.closes (λ s. StopsAt S.asks service.old s input output) service.new
-            ⊎ ((end : End) × ClosedAfter S.closes (λ s. Whole S.asks service.old s input output end) (Err ServiceFault.Stopped) service.new)) }
+        ⊎ ((end : End) × ClosedAfter S.closes (λ s. Whole S.asks service.old s input output end) (Err ServiceFault.Stopped) service.new × (end ≡ End.Eof → R.has_ended reader.new ≡ true))) }
     ensures out_of_memory { result ≡ Err SessionFault.OutOfMemory → Over (R.remaining reader.old) (R.remaining reader.new) (W.contents writer.old) (W.contents writer.new)
         (λ input output. ClosedOnce S.closes (λ s. Partly S.asks service.old s input output) service.new
-            ⊎ ((end : End) × ClosedAfter S.closes (λ s. Whole S.asks service.old s input output end) (Err ServiceFault.Refused) service.new)) }
+        ⊎ ((end : End) × ClosedAfter S.closes (λ s. Whole S.asks service.old s input output end) (Err ServiceFault.Refused) service.new × (end ≡ End.Eof → R.has_ended reader.new ≡ true))) }
 {
     let ended = converse(alloc, reader, writer, service);
     let closed = service.close();

@@ -1,11 +1,11 @@
-use Rattle.std.proofs.Common.{◌≡◌, ◌⊎◌, List, ℕ, [], ◌++◌, Option, Some, None, Ok, Err, IfErr, true, false, refl, sym, ap, subst, ◌∙◌, rules}
-use Rattle.std.specs.Io.KnownBytes.{Appends, Consumes, Keeps}
+use Rattle.std.proofs.Common.{◌≡◌, List, ℕ, [], ◌++◌, Some, Ok, Err, true, false, refl, sym, ap, subst, ◌∙◌, rules}
+use Rattle.std.specs.Io.KnownBytes.{Appends, Consumes}
 use Rattle.whole_codec.specs.declared.request.Request.TheVariants.{Do, Quit}
 use Rattle.session.specs.declared.faults.End.{End}
-use Rattle.session.specs.declared.faults.SessionFault.TheVariants.{OutOfMemory, WriteFailed}
+use Rattle.session.specs.declared.faults.SessionFault.TheVariants.{WriteFailed}
 use Rattle.session.specs.Held.{Held, StandsAt, ComesTo, is_asked, nothing_held}
 use Rattle.session.specs.Items.{answer_text}
-use Rattle.session.proofs.Endings.{Goes, Ends, goes_as, sets_out, finds, sends, reads, answers, began, ends_partly, ends_writing, ends_eof, ends_quit, ends_reading, ends_answering}
+use Rattle.session.proofs.Endings.{Goes, Ends, goes_as, sets_out, finds, sends, reads, answers, began, ends_writing, ends_eof, ends_quit, ends_reading, ends_answering}
 use Rattle.session.proofs.server.converse.Goals.{in-None+in_ok-read_piece-in-None+else-not-branch, in-Some-Do+in_ok-answer-in-Some-Do}
 use Rattle.session.proofs.server.converse.Goals as goal
 
@@ -120,27 +120,27 @@ turns-preserved g c =
     (finds g.S.Service.asks c.args.service.now c.turns.service a b h k c.turns.session t found c.in_ok-found.ensures.found c.turns.invariant.goes) in
     elim c.match-found.branch [
       | in-None+in_ok-read_piece-in-None+else-not-branch w ↦
-        let m = g.R.ByteIn.remaining w.read_piece.new.reader in
-        let s = w.read_piece.new.session in
-        let some : w.in_ok-read_piece-in-None.field-0 ≡ true = search rules in
-        let fed = w.in_ok-read_piece-in-None.ensures.fed some in
-        let stands : (text : List ℕ) → StandsAt t text → StandsAt s (text ++ fed.0) = subst (λ (u : Held). (text : List ℕ) → StandsAt u text → StandsAt s (text ++ fed.0)) cleared fed.4 in
-        record {
-          goes = goes_as g.S.Service.asks c.args.service.now c.turns.service c.match-found.service a m (g.R.ByteIn.remaining c.match-found.reader) h l [] s c.match-found.session w.service-is (ap g.R.ByteIn.remaining w.reader-is) w.session-is (fed.2 ∙ ap (λ (u : Held). u.unsent) cleared)
-              (reads g.S.Service.asks c.args.service.now c.turns.service a b m h l fed.0 t s fed.1 stands
-              (subst (λ found. Goes g.S.Service.asks c.args.service.now c.turns.service a b h l [] (ComesTo found t)) w.in-None.is going));
-          closed = ap (λ (u : Held). u.is_open) w.session-is ∙ (fed.3 ∙ (ap (λ (u : Held). u.is_open) cleared ∙ (closed ∙ ap is_asked w.in-None.is)));
-        }
+          let m = g.R.ByteIn.remaining w.read_piece.new.reader in
+          let s = w.read_piece.new.session in
+          let some : w.in_ok-read_piece-in-None.field-0 ≡ true = search rules in
+          let fed = w.in_ok-read_piece-in-None.ensures.fed some in
+          let stands : (text : List ℕ) → StandsAt t text → StandsAt s (text ++ fed.0) = subst (λ (u : Held). (text : List ℕ) → StandsAt u text → StandsAt s (text ++ fed.0)) cleared fed.4 in
+          record {
+            goes = goes_as g.S.Service.asks c.args.service.now c.turns.service c.match-found.service a m (g.R.ByteIn.remaining c.match-found.reader) h l [] s c.match-found.session w.service-is (ap g.R.ByteIn.remaining w.reader-is) w.session-is (fed.2 ∙ ap (λ (u : Held). u.unsent) cleared)
+                (reads g.S.Service.asks c.args.service.now c.turns.service a b m h l fed.0 t s fed.1 stands
+                (subst (λ found. Goes g.S.Service.asks c.args.service.now c.turns.service a b h l [] (ComesTo found t)) w.in-None.is going));
+            closed = ap (λ (u : Held). u.is_open) w.session-is ∙ (fed.3 ∙ (ap (λ (u : Held). u.is_open) cleared ∙ (closed ∙ ap is_asked w.in-None.is)));
+          }
       | in-Some-Do+in_ok-answer-in-Some-Do w ↦
-        let op = w.in-Some-Do.op in
-        let asks : found ≡ Some (Do op) = search rules in
-        let given = w.in_ok-answer-in-Some-Do.ensures.ok in
-        let s : Held = record t { unsent = answer_text given.0; is_open = false } in
-        let after : w.answer.new.session ≡ s = given.2 ∙ ap (λ (u : Held). record u { unsent = u.unsent ++ answer_text given.0; is_open = false }) cleared in
-        record {
-          goes = goes_as g.S.Service.asks c.args.service.now w.answer.new.service c.match-found.service a b (g.R.ByteIn.remaining c.match-found.reader) h l (answer_text given.0) s c.match-found.session w.service-is (ap g.R.ByteIn.remaining w.reader-is) (w.session-is ∙ after) refl
-              (answers g.S.Service.asks c.args.service.now c.turns.service w.answer.new.service a b h l t op given.0 given.1
-              (subst (λ found. Goes g.S.Service.asks c.args.service.now c.turns.service a b h l [] (ComesTo found t)) asks going));
-          closed = ap (λ (u : Held). u.is_open) (w.session-is ∙ after);
-        }
+          let op = w.in-Some-Do.op in
+          let asks : found ≡ Some (Do op) = search rules in
+          let given = w.in_ok-answer-in-Some-Do.ensures.ok in
+          let s : Held = record t { unsent = answer_text given.0; is_open = false } in
+          let after : w.answer.new.session ≡ s = given.2 ∙ ap (λ (u : Held). record u { unsent = u.unsent ++ answer_text given.0; is_open = false }) cleared in
+          record {
+            goes = goes_as g.S.Service.asks c.args.service.now w.answer.new.service c.match-found.service a b (g.R.ByteIn.remaining c.match-found.reader) h l (answer_text given.0) s c.match-found.session w.service-is (ap g.R.ByteIn.remaining w.reader-is) (w.session-is ∙ after) refl
+                (answers g.S.Service.asks c.args.service.now c.turns.service w.answer.new.service a b h l t op given.0 given.1
+                (subst (λ found. Goes g.S.Service.asks c.args.service.now c.turns.service a b h l [] (ComesTo found t)) asks going));
+            closed = ap (λ (u : Held). u.is_open) (w.session-is ∙ after);
+          }
     ]

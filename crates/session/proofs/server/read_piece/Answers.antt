@@ -1,4 +1,4 @@
-use Rattle.std.proofs.Common.{◌≡◌, List, ℕ, ap, rules, take}
+use Rattle.std.proofs.Common.{ap, rules, take}
 use Rattle.std.specs.Io.KnownBytes.{Consumes}
 use Rattle.session.proofs.server.read_piece.Goals as goal
 

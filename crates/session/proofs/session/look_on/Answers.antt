@@ -1,5 +1,5 @@
-use Rattle.std.proofs.Common.{◌≡◌, ◌≤◌, ◌+◌, ◌++◌, Ok, Err, length, drop, ap, length-append, arith}
-use Rattle.whole_codec.specs.Reads.{Continues, Drops, NeedsMore}
+use Rattle.std.proofs.Common.{Ok, Err, length, drop, ap, length-append, arith}
+use Rattle.whole_codec.specs.Reads.{Continues, Drops}
 use Rattle.whole_codec.specs.Replies.{fault_text}
 use Rattle.session.specs.Held.{holding}
 use Rattle.session.proofs.Standing.{still_front}

@@ -1,4 +1,4 @@
-use Rattle.std.proofs.Common.{◌≡◌, ◌≤◌, List, ℕ, length, drop, subst, rules}
+use Rattle.std.proofs.Common.{◌≤◌, List, ℕ, length, drop, subst, rules}
 use Rattle.session.specs.Held.{Held, StandsAt, Finds, holding}
 use Rattle.session.proofs.Standing.{finds_unsent}
 use Rattle.session.proofs.session.Session.next_ask.Goals as goal
