@@ -1,4 +1,5 @@
 pub mod Items
+pub mod FitsMore
 pub mod Standing
 pub mod Slices
 pub mod Going

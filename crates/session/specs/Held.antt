@@ -6,7 +6,8 @@ use Rattle.whole_codec.specs.declared.request.Fault.{Fault}
 use Rattle.whole_codec.specs.declared.request.Request.{Request}
 use Rattle.whole_codec.specs.declared.request.Request.TheVariants.{Do, Quit}
 use Rattle.whole_codec.specs.Grammar.{Item, Spells}
-use Rattle.whole_codec.specs.Reads.{BeginsWithNone, Fits}
+use Rattle.whole_codec.specs.Wants.{Fits}
+use Rattle.whole_codec.specs.Reads.{BeginsWithNone}
 use Rattle.session.specs.Items.{ReadsFirst, told}
 
 -- what its reader waits for, the bytes that it keeps, the text not sent yet, and whether an ask is open
@@ -23,6 +24,10 @@ holding want kept unsent = record { want = want; kept = kept; unsent = unsent; i
 -- at first it has nothing
 abbrev pub nothing_held : Held
 nothing_held = holding Line [] []
+
+-- these bytes may be kept by a reader that waits for this: some text was dropped before them that fits
+abbrev pub MayKeep : Want → List ℕ → Type 0
+MayKeep want kept = (dropped : List ℕ) × Fits want dropped kept
 
 -- the session stands at the front of this text: it dropped a part of it, which its want fits, and keeps the others
 abbrev pub StandsAt : Held → List ℕ → Type 0
@@ -55,7 +60,3 @@ Finds old new text found =
     ReadsFirst text (faulty faults) rest ×
     (new.unsent ≡ old.unsent ++ told (faulty faults) []) ×
     ComesTo found new rest
-
--- the most bytes of an unfinished request
-abbrev pub longest_unfinished : ℕ
-longest_unfinished = 65760

@@ -1,11 +1,12 @@
 ghost use Rattle.std.specs.Prelude.{◌≡◌, ◌≤◌, ◌++◌, ℕ, List, true, false, None, length, take, drop, vec_len, IfOk, OnOk, OnErr};
+ghost use Rattle.whole_codec.specs.Reads.{longest_wait};
 ghost use Rattle.whole_codec.specs.Replies.{reply_text};
 ghost use Rattle.session.specs.Items.{refused_text};
-ghost use Rattle.session.specs.Held.{holding, nothing_held, is_asked, StandsAt, Finds, longest_unfinished};
+ghost use Rattle.session.specs.Held.{holding, nothing_held, is_asked, MayKeep, StandsAt, Finds};
 
 use std::alloc::{AllocError, Global};
 use std::marker::Model;
-use whole_codec::{Fault, Read, Request, Want, fits_more, read_request, write_fault, write_reply};
+use whole_codec::{Fault, Read, Request, Want, read_request, write_fault, write_reply};
 use whole_queue::Reply;
 
 /// One client's bytes on their way to asks, and its answers on their way back to bytes.
@@ -26,13 +27,13 @@ pub struct Session {
 
 impl Model for Session {
     ghost use Rattle.std.specs.Prelude.{◌≤◌, drop, vec_len};
-    ghost use Rattle.session.specs.Held.{Held};
+    ghost use Rattle.session.specs.Held.{Held, MayKeep};
 
     ghost Value = { Held };
 
     ghost view = { λ s. record { want = s.want; kept = drop s.start s.bytes.items; unsent = drop s.sent s.text.items; is_open = s.is_open } };
 
-    ghost invariant = { λ s. (s.start ≤ vec_len s.bytes) × (s.sent ≤ vec_len s.text) };
+    ghost invariant = { λ s. (s.start ≤ vec_len s.bytes) × (s.sent ≤ vec_len s.text) × MayKeep s.want (drop s.start s.bytes.items) };
 }
 
 impl Session {
@@ -57,7 +58,6 @@ impl Session {
         ensures stands { OnOk result ((text : List ℕ) → StandsAt self.old text → StandsAt self.new (text ++ piece.now)) }
         ensures err { OnErr result (self.new ≡ self.old) }
     {
-        fits_more();
         self.append(piece)
     }
 
@@ -86,7 +86,7 @@ impl Session {
         requires { self.old.is_open ≡ false }
         ensures found { IfOk result (λ found. (text : List ℕ) → StandsAt self.old text → Finds self.old self.new text found) }
         ensures open { IfOk result (λ found. self.new.is_open ≡ is_asked found) }
-        ensures small { IfOk result (λ found. found ≡ None → length self.new.kept ≤ longest_unfinished) }
+        ensures small { IfOk result (λ found. found ≡ None → length self.new.kept ≤ longest_wait) }
         ensures err { OnErr result (self.new ≡ self.old) }
     {
         let len = self.text.len();
@@ -169,11 +169,13 @@ fn look_on(
     want: Want,
     text: &mut Vec<u8>,
 ) -> Result<Found, AllocError>
-    requires { start ≤ length bytes.now }
+    requires begun { start ≤ length bytes.now }
+    requires kept { MayKeep want (drop start bytes.now) }
     ensures within { IfOk result (λ found. found.start ≤ length bytes.now) }
+    ensures kept { IfOk result (λ found. MayKeep found.want (drop found.start bytes.now)) }
     ensures found { IfOk result (λ found. (t : List ℕ) → StandsAt (holding want (drop start bytes.now) text.old.items) t →
         Finds (holding want (drop start bytes.now) text.old.items) (holding found.want (drop found.start bytes.now) text.new.items) t found.request) }
-    ensures small { IfOk result (λ found. found.request ≡ None → length (drop found.start bytes.now) ≤ longest_unfinished) }
+    ensures small { IfOk result (λ found. found.request ≡ None → length (drop found.start bytes.now) ≤ longest_wait) }
     ensures front { take (vec_len text.old) text.new.items ≡ text.old.items }
 {
     let mut at = start;
