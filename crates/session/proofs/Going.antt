@@ -1,0 +1,145 @@
+-- A session on its way: what was read, asked and written so far.
+use Rattle.std.proofs.Common.{◌≡◌, ◌≤◌, ◌⊎◌, inl, ℕ, suc, List, [], ◌∷◌, ◌++◌, Option, Result, Ok, Err, IfErr, length, take, drop, refl, sym, ap, subst, ◌∙◌, arith}
+use Rattle.std.proofs.lemmas.List.{append-nil, append_assoc, take-append-drop}
+use Rattle.whole_queue.specs.declared.op.Op.{Op}
+use Rattle.whole_codec.specs.declared.request.Fault.{Fault}
+use Rattle.whole_codec.specs.declared.request.Request.{Request}
+use Rattle.whole_codec.specs.Grammar.{Item}
+use Rattle.session.specs.declared.faults.ServiceFault.{ServiceFault}
+use Rattle.session.specs.declared.faults.SessionFault.{SessionFault}
+use Rattle.session.specs.declared.faults.SessionFault.TheVariants.{OutOfMemory, ServiceStopped}
+use Rattle.session.specs.Items.{Answer, ReadsFirst, operations, told}
+use Rattle.session.specs.Held.{Held, StandsAt, ComesTo, Finds, nothing_held, faulty}
+use Rattle.session.specs.Serving.{Asks, Asked, Partly, BreaksOff, result_of}
+use Rattle.session.proofs.Items.{reads_more, operations_faulty, operations-append, told-append}
+
+-- an answer that could not be written down
+pub refuses : {X S : Type 0} (asks : Asks S) (old new : S) (op : Op) (answer : Answer) (r : Result X SessionFault) → IfErr r (λ f. f ≡ OutOfMemory) → asks old op (result_of answer) new → IfErr r (λ f. ((f ≡ OutOfMemory) × (a : Answer) × asks old op (result_of a) new) ⊎ ((f ≡ ServiceStopped) × asks old op (Err ServiceFault.Stopped) new))
+refuses asks old new op answer (Ok x) e a = tt
+refuses asks old new op answer (Err f) e a = inl (e, answer, a)
+
+-- as many answers as operations
+pub asked_length : {S : Type 0} (asks : Asks S) (old new : S) (ops : List Op) (answers : List Answer) → Asked asks old ops answers new → length answers ≡ length ops
+asked_length asks old new [] [] a = refl
+asked_length asks old new [] (x ∷ answers) a = absurd a
+asked_length asks old new (op ∷ ops) [] a = absurd a
+asked_length asks old new (op ∷ ops) (x ∷ answers) a = ap suc (asked_length asks a.0 new ops answers a.2)
+
+-- one ask more
+pub asked_one : {S : Type 0} (asks : Asks S) (old now new : S) (ops : List Op) (answers : List Answer) (op : Op) (answer : Answer) → Asked asks old ops answers now → asks now op (result_of answer) new → Asked asks old (ops ++ op ∷ []) (answers ++ answer ∷ []) new
+asked_one asks old now new [] [] op answer a one = (new, subst (λ s. asks s op (result_of answer) new) (sym a) one, refl)
+asked_one asks old now new [] (x ∷ answers) op answer a one = absurd a
+asked_one asks old now new (o ∷ ops) [] op answer a one = absurd a
+asked_one asks old now new (o ∷ ops) (x ∷ answers) op answer a one = (a.0, a.1, asked_one asks a.0 now new ops answers op answer a.2 one)
+
+-- The output is what is told for the items, and with the text still unsent for those after them too. Of these at most
+-- one was asked. What is left to read is so.
+pub record Going {S : Type 0} (asks : Asks S) (old now : S) (input output unsent : List ℕ) (IsLeft : List ℕ → Type 0) : Type 0 where
+  pub items : List Item
+  pub more : List Item
+  pub answers : List Answer
+  pub rest : List ℕ
+  pub reads : ReadsFirst input (items ++ more) rest
+  pub few : length (operations more) ≤ 1
+  pub asked : Asked asks old (operations (items ++ more)) answers now
+  pub whole : output ≡ told items answers
+  pub all : output ++ unsent ≡ told (items ++ more) answers
+  pub left : IsLeft rest
+
+-- at first nothing is read, asked or written
+pub goes_at_first : {S : Type 0} (asks : Asks S) (s : S) → Going asks s s [] [] [] (StandsAt nothing_held)
+goes_at_first asks s = record {
+  items = [];
+  more = [];
+  answers = [];
+  rest = [];
+  reads = refl;
+  few = omega arith;
+  asked = refl;
+  whole = refl;
+  all = refl;
+  left = ([], refl, refl);
+}
+
+pub is_partly : {S : Type 0} (asks : Asks S) (old now : S) (input output unsent : List ℕ) (P : List ℕ → Type 0) → Going asks old now input output unsent P → Partly asks old now input output
+is_partly asks old now input output unsent P g = (g.items, g.more, g.answers, g.rest, g.reads, g.few, g.asked, g.whole)
+
+-- more is read
+reads_in_front : (t more rest : List ℕ) (items : List Item) → ReadsFirst t items rest → ReadsFirst (t ++ more) items (rest ++ more)
+reads_in_front t more rest [] r = ap (λ u. u ++ more) r
+reads_in_front t more rest (i ∷ items) r = (r.0, r.1 ++ more, ap (λ u. u ++ more) r.2 ∙ append_assoc r.0 r.1 more, r.3, r.4, reads_in_front r.1 more rest items r.5)
+
+pub goes_reading : {S : Type 0} (asks : Asks S) (old now : S) (input output unsent bytes : List ℕ) (P Q : List ℕ → Type 0) → ((t : List ℕ) → P t → Q (t ++ bytes)) → Going asks old now input output unsent P → Going asks old now (input ++ bytes) output unsent Q
+goes_reading asks old now input output unsent bytes P Q f g = record {
+  items = g.items;
+  more = g.more;
+  answers = g.answers;
+  rest = g.rest ++ bytes;
+  reads = reads_in_front input bytes g.rest (g.items ++ g.more) g.reads;
+  few = g.few;
+  asked = g.asked;
+  whole = g.whole;
+  all = g.all;
+  left = f g.rest g.left;
+}
+
+-- faults more are found
+operations_more : (items : List Item) (faults : List Fault) → operations (items ++ faulty faults) ≡ operations items
+operations_more items faults = operations-append items (faulty faults) ∙ (ap (λ ops. operations items ++ ops) (operations_faulty faults) ∙ append-nil (operations items))
+
+pub goes_finding : {S : Type 0} (asks : Asks S) (old now : S) (input output : List ℕ) (s t : Held) (found : Option Request) → ((text : List ℕ) → StandsAt s text → Finds s t text found) → Going asks old now input output s.unsent (StandsAt s) → Going asks old now input output t.unsent (ComesTo found t)
+goes_finding asks old now input output s t found finds g =
+    let f = finds g.rest g.left in
+    let items : (g.items ++ g.more) ++ faulty f.0 ≡ g.items ++ (g.more ++ faulty f.0) = append_assoc g.items g.more (faulty f.0) in
+    let same : operations ((g.items ++ g.more) ++ faulty f.0) ≡ operations (g.items ++ g.more) = operations_more (g.items ++ g.more) f.0 in
+    record {
+      items = g.items;
+      more = g.more ++ faulty f.0;
+      answers = g.answers;
+      rest = f.1;
+      reads = subst (λ is. ReadsFirst input is f.1) items (reads_more input (g.items ++ g.more) (faulty f.0) g.rest f.1 g.reads f.2);
+      few = subst (λ (ops : List Op). length ops ≤ 1) (sym (operations_more g.more f.0)) g.few;
+      asked = subst (λ is. Asked asks old (operations is) g.answers now) items (subst (λ ops. Asked asks old ops g.answers now) (sym same) g.asked);
+      whole = g.whole;
+      all =
+          ap (λ u. output ++ u) f.3 ∙
+          (sym (append_assoc output s.unsent (told (faulty f.0) [])) ∙
+          (ap (λ u. u ++ told (faulty f.0) []) g.all ∙
+          (sym (told-append (g.items ++ g.more) (faulty f.0) g.answers [] (asked_length asks old now (operations (g.items ++ g.more)) g.answers g.asked)) ∙
+          (ap (λ xs. told ((g.items ++ g.more) ++ faulty f.0) xs) (append-nil g.answers) ∙
+          ap (λ is. told is g.answers) items))));
+      left = f.4;
+    }
+
+-- all that was unsent is sent
+pub goes_sending : {S : Type 0} (asks : Asks S) (old now : S) (input output unsent : List ℕ) (P : List ℕ → Type 0) → Going asks old now input output unsent P → Going asks old now input (output ++ unsent) [] P
+goes_sending asks old now input output unsent P g =
+    let items : g.items ++ g.more ≡ (g.items ++ g.more) ++ [] = sym (append-nil (g.items ++ g.more)) in
+    record {
+      items = g.items ++ g.more;
+      more = [];
+      answers = g.answers;
+      rest = g.rest;
+      reads = subst (λ is. ReadsFirst input is g.rest) items g.reads;
+      few = omega arith;
+      asked = subst (λ is. Asked asks old (operations is) g.answers now) items g.asked;
+      whole = g.all;
+      all = append-nil (output ++ unsent) ∙ (g.all ∙ ap (λ is. told is g.answers) items);
+      left = g.left;
+    }
+
+-- or a part of it
+pub breaks_off : {S : Type 0} (asks : Asks S) (old now : S) (input output unsent : List ℕ) (P : List ℕ → Type 0) (n : ℕ) → Going asks old now input output unsent P → BreaksOff asks old now input (output ++ take n unsent)
+breaks_off asks old now input output unsent P n g = (
+  g.items,
+  g.more,
+  g.answers,
+  g.rest,
+  take n unsent,
+  drop n unsent,
+  g.reads,
+  g.few,
+  g.asked,
+  ap (λ u. u ++ take n unsent) g.whole,
+  append_assoc output (take n unsent) (drop n unsent) ∙ (ap (λ u. output ++ u) (take-append-drop n unsent) ∙ g.all),
+)

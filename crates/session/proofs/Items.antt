@@ -1,0 +1,49 @@
+-- Items one after the other, and what is told for them.
+use Rattle.std.proofs.Common.{◌≡◌, ℕ, false, List, [], ◌∷◌, ◌++◌, Ok, Err, length, refl, sym, ap, subst, ◌∙◌, arith}
+use Rattle.std.proofs.lemmas.List.{append-nil, append_assoc, map-append}
+use Rattle.whole_codec.specs.declared.request.Fault.{Fault}
+use Rattle.whole_codec.specs.declared.request.Request.TheVariants.{Do, Quit}
+use Rattle.whole_codec.specs.Grammar.{Item, Spells}
+use Rattle.whole_codec.specs.Replies.{fault_text}
+use Rattle.session.specs.Items.{Answer, ReadsFirst, is_quit, operations, told, answer_text}
+use Rattle.session.specs.Held.{faulty}
+
+-- one item more
+pub reads_one : (t : List ℕ) (items : List Item) (rest front more : List ℕ) (item : Item) → ReadsFirst t items rest → rest ≡ front ++ more → Spells front item → is_quit item ≡ false → ReadsFirst t (items ++ item ∷ []) more
+reads_one t [] rest front more item r cut spelled goes = (front, more, r ∙ cut, spelled, goes, refl)
+reads_one t (i ∷ items) rest front more item r cut spelled goes = (r.0, r.1, r.2, r.3, r.4, reads_one r.1 items rest front more item r.5 cut spelled goes)
+
+-- many items more
+pub reads_more : (t : List ℕ) (items others : List Item) (rest more : List ℕ) → ReadsFirst t items rest → ReadsFirst rest others more → ReadsFirst t (items ++ others) more
+reads_more t [] others rest more r q = subst (λ u. ReadsFirst u others more) (sym r) q
+reads_more t (i ∷ items) others rest more r q = (r.0, r.1, r.2, r.3, r.4, reads_more r.1 items others rest more r.5 q)
+
+pub operations_faulty : (faults : List Fault) → operations (faulty faults) ≡ []
+operations_faulty [] = refl
+operations_faulty (f ∷ faults) = operations_faulty faults
+
+pub operations-append : (is js : List Item) → operations (is ++ js) ≡ operations is ++ operations js
+operations-append [] js = refl
+operations-append (Ok (Do op) ∷ is) js = ap (λ ops. op ∷ ops) (operations-append is js)
+operations-append (Ok Quit ∷ is) js = operations-append is js
+operations-append (Err f ∷ is) js = operations-append is js
+
+-- with xs many answers xs operations, what is told comes one after the other
+pub told-append : (is js : List Item) (xs ys : List Answer) → length xs ≡ length (operations is) → told (is ++ js) (xs ++ ys) ≡ told is xs ++ told js ys
+told-append [] js [] ys n = refl
+told-append [] js (a ∷ xs) ys n = absurd (omega (arith, n))
+told-append (Ok (Do op) ∷ is) js [] ys n = absurd (omega (arith, n))
+told-append (Ok (Do op) ∷ is) js (a ∷ xs) ys n =
+    ap (λ text. answer_text a ++ text) (told-append is js xs ys (omega (arith, n))) ∙ sym (append_assoc (answer_text a) (told is xs) (told js ys))
+told-append (Ok Quit ∷ is) js xs ys n = told-append is js xs ys n
+told-append (Err f ∷ is) js xs ys n =
+    ap (λ text. fault_text f ++ text) (told-append is js xs ys n) ∙ sym (append_assoc (fault_text f) (told is xs) (told js ys))
+
+pub faulty-one : (faults : List Fault) (fault : Fault) → faulty (faults ++ fault ∷ []) ≡ faulty faults ++ Err fault ∷ []
+faulty-one faults fault = map-append Err faults (fault ∷ [])
+
+pub told-fault : (faults : List Fault) (fault : Fault) → told (faulty (faults ++ fault ∷ [])) [] ≡ told (faulty faults) [] ++ fault_text fault
+told-fault faults fault =
+    ap (λ items. told items []) (faulty-one faults fault) ∙
+    (told-append (faulty faults) (Err fault ∷ []) [] [] (sym (ap (λ ops. length ops) (operations_faulty faults))) ∙
+    ap (λ text. told (faulty faults) [] ++ text) (append-nil (fault_text fault)))

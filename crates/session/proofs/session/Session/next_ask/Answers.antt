@@ -1,0 +1,15 @@
+use Rattle.std.proofs.Common.{◌≤◌, List, ℕ, length, drop, subst, rules}
+use Rattle.session.specs.Held.{Held, StandsAt, Finds, holding}
+use Rattle.session.proofs.Standing.{finds_unsent}
+use Rattle.session.proofs.session.Session.next_ask.Goals as goal
+
+pub returns-after-matches-clause-found : goal.returns-after-matches-clause-found
+returns-after-matches-clause-found c =
+    let s = c.self.inside in
+    let f = c.in-Ok.found in
+    let new = c.look_on.new.text.items in
+    let within : s.sent ≤ length s.text.items = search rules in
+    let after : Held = record { want = f.want; kept = drop f.start s.bytes.items; unsent = drop s.sent new; is_open = c.match-matches.self } in
+    subst (λ (h : Held). (t : List ℕ) → StandsAt h t → Finds h after t f.request) c.self.view_is
+    (finds_unsent s.want f.want (drop s.start s.bytes.items) (drop f.start s.bytes.items) s.text.items new s.sent s.is_open c.match-matches.self f.request within
+    (subst (λ bytes. (t : List ℕ) → StandsAt (holding s.want (drop s.start bytes) s.text.items) t → Finds (holding s.want (drop s.start bytes) s.text.items) (holding f.want (drop f.start bytes) new) t f.request) c.as_slice.ensures.value c.in-Ok.ensures.found))

@@ -1,0 +1,14 @@
+-- The bytes before `written` were appended.
+use Rattle.std.proofs.Common.{◌≡◌, ◌≤◌, ◌-◌, length, take}
+use Rattle.std.specs.Io.KnownBytes.{Appends}
+use Rattle.session.proofs.writing.write_all.Given as goal
+
+abbrev pub invariant-loop-written : goal.invariant-loop-written
+invariant-loop-written g l = record {
+  within : l.written ≤ length l.bytes;
+  appended : Appends (g.W.ByteOut.contents l.initial.writer) (g.W.ByteOut.contents l.writer) (take l.written l.bytes);
+  stays : g.W.ByteOut.has_failed l.writer ≡ g.W.ByteOut.has_failed l.initial.writer;
+}
+
+abbrev pub decreases-loop-written : goal.decreases-loop-written
+decreases-loop-written g l = length l.bytes - l.written

@@ -1,0 +1,62 @@
+-- What a session holds: of the bytes that it was fed, and of the text that it has yet to send.
+use Rattle.std.specs.Prelude.{◌≡◌, ℕ, Bool, true, false, List, [], ◌++◌, map, Option, None, Some, Ok, Err}
+use Rattle.whole_codec.specs.declared.reader.Want.{Want}
+use Rattle.whole_codec.specs.declared.reader.Want.TheVariants.{Line}
+use Rattle.whole_codec.specs.declared.request.Fault.{Fault}
+use Rattle.whole_codec.specs.declared.request.Request.{Request}
+use Rattle.whole_codec.specs.declared.request.Request.TheVariants.{Do, Quit}
+use Rattle.whole_codec.specs.Grammar.{Item, Spells}
+use Rattle.whole_codec.specs.Wants.{Fits}
+use Rattle.whole_codec.specs.Reads.{BeginsWithNone}
+use Rattle.session.specs.Items.{ReadsFirst, told}
+
+-- what its reader waits for, the bytes that it keeps, the text not sent yet, and whether an ask is open
+pub record Held : Type 0 where
+  pub want : Want
+  pub kept : List ℕ
+  pub unsent : List ℕ
+  pub is_open : Bool
+
+-- holding this, with no ask open
+abbrev pub holding : Want → List ℕ → List ℕ → Held
+holding want kept unsent = record { want = want; kept = kept; unsent = unsent; is_open = false }
+
+-- at first it has nothing
+abbrev pub nothing_held : Held
+nothing_held = holding Line [] []
+
+-- these bytes may be kept by a reader that waits for this: some text was dropped before them that fits
+abbrev pub MayKeep : Want → List ℕ → Type 0
+MayKeep want kept = (dropped : List ℕ) × Fits want dropped kept
+
+-- the session stands at the front of this text: it dropped a part of it, which its want fits, and keeps the others
+abbrev pub StandsAt : Held → List ℕ → Type 0
+StandsAt s text = (dropped : List ℕ) × Fits s.want dropped s.kept × (text ≡ dropped ++ s.kept)
+
+-- an operation waits for its answer
+abbrev pub is_asked : Option Request → Bool
+is_asked None = false
+is_asked (Some (Do op)) = true
+is_asked (Some Quit) = false
+
+-- what comes after the faults: a text that begins with no item, or a request, after which the session goes on
+abbrev pub ComesTo : Option Request → Held → List ℕ → Type 0
+ComesTo None s text = StandsAt s text × BeginsWithNone text
+ComesTo (Some request) s text =
+    (front rest : List ℕ) ×
+    (text ≡ front ++ rest) ×
+    Spells front (Ok request) ×
+    StandsAt s rest
+
+-- the items that are faults
+abbrev pub faulty : List Fault → List Item
+faulty faults = map Err faults
+
+-- the faults in front of the text are told, and then comes this
+abbrev pub Finds : Held → Held → List ℕ → Option Request → Type 0
+Finds old new text found =
+    (faults : List Fault) ×
+    (rest : List ℕ) ×
+    ReadsFirst text (faulty faults) rest ×
+    (new.unsent ≡ old.unsent ++ told (faulty faults) []) ×
+    ComesTo found new rest

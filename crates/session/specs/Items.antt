@@ -1,0 +1,69 @@
+-- The items of a text, up to the first quit, and what is told for them.
+use Rattle.std.specs.Prelude.{◌≡◌, ℕ, Bool, true, false, MatchBool, List, [], ◌∷◌, ◌++◌, Ok, Err, codes}
+use Rattle.whole_queue.specs.declared.op.Op.{Op}
+use Rattle.whole_queue.specs.declared.reply.Reply.{Reply}
+use Rattle.whole_codec.specs.declared.request.Request.TheVariants.{Do, Quit}
+use Rattle.whole_codec.specs.Lines.{ended}
+use Rattle.whole_codec.specs.Grammar.{Item, Spells}
+use Rattle.whole_codec.specs.Reads.{BeginsWithNone}
+use Rattle.whole_codec.specs.Replies.{reply_text, fault_text}
+use Rattle.session.specs.declared.faults.End.{End}
+
+-- the item ends the session
+abbrev pub is_quit : Item → Bool
+is_quit (Ok (Do op)) = false
+is_quit (Ok Quit) = true
+is_quit (Err fault) = false
+
+-- the text is the texts of these items, one after the other, up to the first quit, or else up to a rest that begins
+-- with none
+abbrev pub Reads : List ℕ → List Item → End → Type 0
+Reads text [] end = BeginsWithNone text × (end ≡ End.Eof)
+Reads text (item ∷ items) end =
+    (front rest : List ℕ) ×
+    (text ≡ front ++ rest) ×
+    Spells front item ×
+    MatchBool (is_quit item) ((items ≡ []) × (end ≡ End.Quit)) (Reads rest items end)
+
+-- the text begins with the texts of these items, none of them a quit, and goes on with the rest
+abbrev pub ReadsFirst : List ℕ → List Item → List ℕ → Type 0
+ReadsFirst text [] rest = text ≡ rest
+ReadsFirst text (item ∷ items) rest =
+    (front more : List ℕ) ×
+    (text ≡ front ++ more) ×
+    Spells front item ×
+    (is_quit item ≡ false) ×
+    ReadsFirst more items rest
+
+-- the operations among the items
+abbrev pub operations : List Item → List Op
+operations [] = []
+operations (Ok (Do op) ∷ items) = op ∷ operations items
+operations (Ok Quit ∷ items) = operations items
+operations (Err fault ∷ items) = operations items
+
+-- what a service answers to an operation: a reply, or that it was refused for want of memory
+pub data Answer : Type 0 where
+  Replied : Reply → Answer
+  Refused : Answer
+
+-- the line that answers a refused operation
+unfoldable pub refused_text : List ℕ
+refused_text = ended (codes "OUT_OF_MEMORY")
+
+-- the text of an answer
+abbrev pub answer_text : Answer → List ℕ
+answer_text (Replied reply) = reply_text reply
+answer_text Refused = refused_text
+
+-- item by item: the next answer to an operation, the line of a fault, and nothing for quit
+abbrev pub told : List Item → List Answer → List ℕ
+told [] answers = []
+told (Ok (Do op) ∷ items) [] = []
+told (Ok (Do op) ∷ items) (answer ∷ answers) = answer_text answer ++ told items answers
+told (Ok Quit ∷ items) answers = told items answers
+told (Err fault ∷ items) answers = fault_text fault ++ told items answers
+
+-- the output is what the client is told for this input with these answers, and the session ends so
+abbrev pub IsTranscript : List ℕ → List Answer → List ℕ → End → Type 0
+IsTranscript input answers output end = (items : List Item) × Reads input items end × (output ≡ told items answers)

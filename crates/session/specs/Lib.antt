@@ -1,0 +1,4 @@
+pub mod Streams
+pub mod Items
+pub mod Held
+pub mod Serving

@@ -1,0 +1,99 @@
+-- What a session over streams has read, asked and written.
+use Rattle.std.specs.Prelude.{◌≡◌, ◌≤◌, ℕ, List, [], ◌∷◌, ◌++◌, length, Option, Result, Ok, Err}
+use Rattle.std.specs.Io.KnownBytes.{Consumes, Appends}
+use Rattle.whole_queue.specs.declared.op.Op.{Op}
+use Rattle.whole_queue.specs.declared.reply.Reply.{Reply}
+use Rattle.whole_codec.specs.declared.request.Request.TheVariants.{Do}
+use Rattle.whole_codec.specs.Grammar.{Item}
+use Rattle.session.specs.declared.faults.End.{End}
+use Rattle.session.specs.declared.faults.ServiceFault.{ServiceFault}
+use Rattle.session.specs.declared.faults.SessionFault.{SessionFault}
+use Rattle.session.specs.declared.faults.SessionFault.TheVariants.{OutOfMemory, ReadFailed, WriteFailed, ServiceStopped}
+use Rattle.session.specs.Items.{Answer, Reads, ReadsFirst, operations, told}
+use Rattle.session.specs.Items.Answer.{Replied, Refused}
+
+-- a service by its asks: it before, the operation, its result, and it after
+abbrev pub Asks : Type 0 → Type 1
+Asks S = S → Op → Result Reply ServiceFault → S → Type 0
+
+-- and by its end: it before, the result, and it after
+abbrev pub Closes : Type 0 → Type 1
+Closes S = S → Result Unit ServiceFault → S → Type 0
+
+-- the result that is this answer
+abbrev pub result_of : Answer → Result Reply ServiceFault
+result_of (Replied reply) = Ok reply
+result_of Refused = Err ServiceFault.Refused
+
+-- the service was asked these operations in turn, and answered so
+abbrev pub Asked : {S : Type 0} → Asks S → S → List Op → List Answer → S → Type 0
+Asked asks old [] [] new = old ≡ new
+Asked asks old [] (answer ∷ answers) new = ⊥
+Asked asks old (op ∷ ops) [] new = ⊥
+Asked asks old (op ∷ ops) (answer ∷ answers) new = (next : _) × asks old op (result_of answer) next × Asked asks next ops answers new
+
+-- all items up to the end were answered, and the output is the transcript
+abbrev pub Whole : {S : Type 0} → Asks S → S → S → List ℕ → List ℕ → End → Type 0
+Whole asks old new input output end =
+    (items : List Item) ×
+    (answers : List Answer) ×
+    Reads input items end ×
+    Asked asks old (operations items) answers new ×
+    (output ≡ told items answers)
+
+-- the next ask after some first items was answered Stopped, and the output is what is told for these items
+abbrev pub StopsAt : {S : Type 0} → Asks S → S → S → List ℕ → List ℕ → Type 0
+StopsAt asks old new input output =
+    (items : List Item) ×
+    (answers : List Answer) ×
+    (op : Op) ×
+    (rest : List ℕ) ×
+    (last : _) ×
+    ReadsFirst input (items ++ Ok (Do op) ∷ []) rest ×
+    Asked asks old (operations items) answers last ×
+    asks last op (Err ServiceFault.Stopped) new ×
+    (output ≡ told items answers)
+
+-- the output is what is told for some first items, and at most one operation more was asked
+abbrev pub Partly : {S : Type 0} → Asks S → S → S → List ℕ → List ℕ → Type 0
+Partly asks old new input output =
+    (items more : List Item) ×
+    (answers : List Answer) ×
+    (rest : List ℕ) ×
+    ReadsFirst input (items ++ more) rest ×
+    (length (operations more) ≤ 1) ×
+    Asked asks old (operations (items ++ more)) answers new ×
+    (output ≡ told items answers)
+
+-- the output is a beginning of what is told for some first items, whose operations were asked, and it has, whole, what
+-- is told for those before the last operation
+abbrev pub BreaksOff : {S : Type 0} → Asks S → S → S → List ℕ → List ℕ → Type 0
+BreaksOff asks old new input output =
+    (items more : List Item) ×
+    (answers : List Answer) ×
+    (rest part left : List ℕ) ×
+    ReadsFirst input (items ++ more) rest ×
+    (length (operations more) ≤ 1) ×
+    Asked asks old (operations (items ++ more)) answers new ×
+    (output ≡ told items answers ++ part) ×
+    (output ++ left ≡ told (items ++ more) answers)
+
+-- how a session ended before it closed the service
+abbrev pub Ending : {S : Type 0} → Asks S → S → S → List ℕ → List ℕ → Result End SessionFault → Type 0
+Ending asks old new input output (Ok end) = Whole asks old new input output end
+Ending asks old new input output (Err OutOfMemory) = Partly asks old new input output
+Ending asks old new input output (Err ReadFailed) = Whole asks old new input output End.Eof
+Ending asks old new input output (Err WriteFailed) = BreaksOff asks old new input output
+Ending asks old new input output (Err ServiceStopped) = StopsAt asks old new input output
+
+-- of the service as it then stood this is so, and then it was closed, with this result
+abbrev pub ClosedAfter : {S : Type 0} → Closes S → (S → Type 0) → Result Unit ServiceFault → S → Type 0
+ClosedAfter closes before result new = (last : _) × before last × closes last result new
+
+-- the same, whatever closing it gave
+abbrev pub ClosedOnce : {S : Type 0} → Closes S → (S → Type 0) → S → Type 0
+ClosedOnce closes before new = (result : Result Unit ServiceFault) × ClosedAfter closes before result new
+
+-- the reader gave an input and the writer took an output, of which this is so
+abbrev pub Over : Option (List ℕ) → Option (List ℕ) → Option (List ℕ) → Option (List ℕ) → (List ℕ → List ℕ → Type 0) → Type 0
+Over left rest held holds run = (input output : List ℕ) × Consumes left rest input × Appends held holds output × run input output

@@ -1,0 +1,142 @@
+ghost use Rattle.std.specs.Prelude.{◌≡◌, ◌<◌, ◌⊎◌, ◌++◌, ℕ, List, [], true, false, Ok, Err, length, IfOk, IfErr, OnOk, OnErr};
+ghost use Rattle.std.specs.Io.KnownBytes.{Appends, Consumes, IsAtEnd, Keeps};
+ghost use Rattle.session.specs.Streams.{AppendsBeginning, ConsumesSome};
+ghost use Rattle.session.specs.Items.{Answer, answer_text};
+ghost use Rattle.session.specs.Held.{StandsAt};
+ghost use Rattle.session.specs.Serving.{Over, Ending, Whole, StopsAt, Partly, BreaksOff, ClosedAfter, ClosedOnce, result_of};
+
+use crate::faults::{End, ServiceFault, SessionFault};
+use crate::service::Service;
+use crate::session::Session;
+use crate::streams::{ByteIn, ByteOut, Failed};
+use crate::writing::write_all;
+use std::alloc::Global;
+use whole_codec::Request;
+use whole_queue::Op;
+
+/// The most bytes of a read.
+const PIECE_LEN: usize = 4096;
+
+// Writes out what the client is to be told.
+fn send<W: ByteOut>(session: &mut Session, writer: &mut W) -> Result<(), Failed>
+    ensures ok { OnOk result (Appends (W.contents writer.old) (W.contents writer.new) session.old.unsent) }
+    ensures sent { OnOk result (session.new ≡ record session.old { unsent = [] }) }
+    ensures err { OnErr result (AppendsBeginning (W.contents writer.old) (W.contents writer.new) session.old.unsent) }
+    ensures failed { OnErr result (W.has_failed writer.new ≡ true) }
+{
+    write_all(writer, session.unsent())?;
+    let n = session.unsent().len();
+    session.sent(n);
+    Ok(())
+}
+
+// Asks the service, and takes down what it answers.
+fn answer<S: Service>(session: &mut Session, service: &mut S, op: Op) -> Result<(), SessionFault>
+    requires { session.old.is_open ≡ true }
+    ensures ok { OnOk result ((answer : Answer) × S.asks service.old op (result_of answer) service.new
+        × (session.new ≡ record session.old { unsent = session.old.unsent ++ answer_text answer; is_open = false })) }
+    ensures err { IfErr result (λ fault.
+        ((fault ≡ SessionFault.OutOfMemory) × (answer : Answer) × S.asks service.old op (result_of answer) service.new)
+        ⊎ ((fault ≡ SessionFault.ServiceStopped) × S.asks service.old op (Err ServiceFault.Stopped) service.new)) }
+{
+    match service.ask(op) {
+        Ok(reply) => session.reply(&reply)?,
+        Err(ServiceFault::Refused) => session.refused()?,
+        Err(ServiceFault::Stopped) => return Err(SessionFault::ServiceStopped),
+    }
+    Ok(())
+}
+
+// Reads a piece for the session. It answers false at the end.
+fn read_piece<R: ByteIn>(
+    reader: &mut R,
+    piece: &mut [u8],
+    session: &mut Session,
+) -> Result<bool, SessionFault>
+    requires { 0 < length piece.old }
+    ensures fed { IfOk result (λ some. some ≡ true → (bytes : List ℕ) × Consumes (R.remaining reader.old) (R.remaining reader.new) bytes
+        × (session.new.unsent ≡ session.old.unsent) × (session.new.is_open ≡ session.old.is_open)
+        × ((text : List ℕ) → StandsAt session.old text → StandsAt session.new (text ++ bytes))) }
+    ensures ended { IfOk result (λ some. some ≡ false → (R.has_ended reader.new ≡ true) × IsAtEnd (R.remaining reader.new)
+        × Consumes (R.remaining reader.old) (R.remaining reader.new) []) }
+    ensures err { IfErr result (λ fault.
+        ((fault ≡ SessionFault.OutOfMemory) × ConsumesSome (R.remaining reader.old) (R.remaining reader.new))
+        ⊎ ((fault ≡ SessionFault.ReadFailed) × (R.has_failed reader.new ≡ true) × Keeps (R.remaining reader.old) (R.remaining reader.new))) }
+{
+    let n = reader.read(piece).map_err(|_| SessionFault::ReadFailed)?;
+    if n == 0 {
+        return Ok(false);
+    }
+    session.feed(&piece[..n])?;
+    Ok(true)
+}
+
+// Serves the client as far as it goes, and doesn't close the service.
+fn converse<R: ByteIn, W: ByteOut, S: Service>(
+    alloc: Global,
+    reader: &mut R,
+    writer: &mut W,
+    service: &mut S,
+) -> Result<End, SessionFault>
+    ensures run { Over (R.remaining reader.old) (R.remaining reader.new) (W.contents writer.old) (W.contents writer.new)
+        (λ input output. Ending S.asks service.old service.new input output result) }
+    ensures ended { IfOk result (λ end. end ≡ End.Eof → R.has_ended reader.new ≡ true) }
+    ensures nothing_left { IfOk result (λ end. end ≡ End.Eof → IsAtEnd (R.remaining reader.new)) }
+    ensures read_failed { IfErr result (λ fault. fault ≡ SessionFault.ReadFailed → R.has_failed reader.new ≡ true) }
+    ensures write_failed { IfErr result (λ fault. fault ≡ SessionFault.WriteFailed → W.has_failed writer.new ≡ true) }
+{
+    let mut session = Session::new(alloc);
+    let mut piece = [0; PIECE_LEN];
+    'turns: for _ in 0..u64::MAX {
+        let found = session.next_ask()?;
+        send(&mut session, writer).map_err(|_| SessionFault::WriteFailed)?;
+        match found {
+            None => {
+                if !read_piece(reader, &mut piece, &mut session)? {
+                    return Ok(End::Eof);
+                }
+            }
+            Some(Request::Quit) => return Ok(End::Quit),
+            Some(Request::Do(op)) => answer(&mut session, service, op)?,
+        }
+    }
+    // No client lives for so many turns.
+    Err(SessionFault::OutOfMemory)
+}
+
+/// Answers one client: asks the service for each operation that is read, and writes each answer out before the next
+/// ask. What follows a quit isn't asked for. However it ends, the service is closed once.
+///
+/// A refused ask is answered `OUT_OF_MEMORY`. A refused close is answered only where nothing else went wrong.
+pub fn serve<R: ByteIn, W: ByteOut, S: Service>(
+    alloc: Global,
+    reader: &mut R,
+    writer: &mut W,
+    service: &mut S,
+) -> Result<End, SessionFault>
+    ensures ok { IfOk result (λ end. Over (R.remaining reader.old) (R.remaining reader.new) (W.contents writer.old) (W.contents writer.new)
+        (λ input output. ClosedAfter S.closes (λ s. Whole S.asks service.old s input output end) (Ok tt) service.new)) }
+    ensures ended { IfOk result (λ end. end ≡ End.Eof → R.has_ended reader.new ≡ true) }
+    ensures nothing_left { IfOk result (λ end. end ≡ End.Eof → IsAtEnd (R.remaining reader.new)) }
+    ensures read_failed { result ≡ Err SessionFault.ReadFailed → (R.has_failed reader.new ≡ true) }
+    ensures all_was_told { result ≡ Err SessionFault.ReadFailed → Over (R.remaining reader.old) (R.remaining reader.new) (W.contents writer.old) (W.contents writer.new)
+        (λ input output. ClosedOnce S.closes (λ s. Whole S.asks service.old s input output End.Eof) service.new) }
+    ensures write_failed { result ≡ Err SessionFault.WriteFailed → (W.has_failed writer.new ≡ true) }
+    ensures breaks_off { result ≡ Err SessionFault.WriteFailed → Over (R.remaining reader.old) (R.remaining reader.new) (W.contents writer.old) (W.contents writer.new)
+        (λ input output. ClosedOnce S.closes (λ s. BreaksOff S.asks service.old s input output) service.new) }
+    ensures stopped { result ≡ Err SessionFault.ServiceStopped → Over (R.remaining reader.old) (R.remaining reader.new) (W.contents writer.old) (W.contents writer.new)
+        (λ input output. ClosedOnce S.closes (λ s. StopsAt S.asks service.old s input output) service.new
+        ⊎ ((end : End) × ClosedAfter S.closes (λ s. Whole S.asks service.old s input output end) (Err ServiceFault.Stopped) service.new × (end ≡ End.Eof → R.has_ended reader.new ≡ true))) }
+    ensures out_of_memory { result ≡ Err SessionFault.OutOfMemory → Over (R.remaining reader.old) (R.remaining reader.new) (W.contents writer.old) (W.contents writer.new)
+        (λ input output. ClosedOnce S.closes (λ s. Partly S.asks service.old s input output) service.new
+        ⊎ ((end : End) × ClosedAfter S.closes (λ s. Whole S.asks service.old s input output end) (Err ServiceFault.Refused) service.new × (end ≡ End.Eof → R.has_ended reader.new ≡ true))) }
+{
+    let ended = converse(alloc, reader, writer, service);
+    let closed = service.close();
+    let end = ended?;
+    match closed {
+        Ok(()) => Ok(end),
+        Err(ServiceFault::Refused) => Err(SessionFault::OutOfMemory),
+        Err(ServiceFault::Stopped) => Err(SessionFault::ServiceStopped),
+    }
+}

@@ -1,0 +1,211 @@
+ghost use Rattle.std.specs.Prelude.{◌≡◌, ◌≤◌, ◌++◌, ℕ, List, true, false, None, length, take, drop, vec_len, IfOk, OnOk, OnErr};
+ghost use Rattle.whole_codec.specs.Reads.{longest_wait};
+ghost use Rattle.whole_codec.specs.Replies.{reply_text};
+ghost use Rattle.session.specs.Items.{refused_text};
+ghost use Rattle.session.specs.Held.{holding, nothing_held, is_asked, MayKeep, StandsAt, Finds};
+
+use std::alloc::{AllocError, Global};
+use std::marker::Model;
+use whole_codec::{Fault, Read, Request, Want, read_request, write_fault, write_reply};
+use whole_queue::Reply;
+
+/// One client's bytes on their way to asks, and its answers on their way back to bytes.
+#[derive(Drop)]
+pub struct Session {
+    /// What was fed, as far as it is kept.
+    bytes: Vec<u8>,
+    /// So many of these are read.
+    start: usize,
+    want: Want,
+    /// What the client is told.
+    text: Vec<u8>,
+    /// So many of these bytes are sent.
+    sent: usize,
+    is_open: bool,
+    alloc: Global,
+}
+
+impl Model for Session {
+    ghost use Rattle.std.specs.Prelude.{◌≤◌, drop, vec_len};
+    ghost use Rattle.session.specs.Held.{Held, MayKeep};
+
+    ghost Value = { Held };
+
+    ghost view = { λ s. record { want = s.want; kept = drop s.start s.bytes.items; unsent = drop s.sent s.text.items; is_open = s.is_open } };
+
+    ghost invariant = { λ s. (s.start ≤ vec_len s.bytes) × (s.sent ≤ vec_len s.text) × MayKeep s.want (drop s.start s.bytes.items) };
+}
+
+impl Session {
+    /// A session that was fed nothing.
+    pub fn new(alloc: Global) -> Session
+        ensures { result ≡ nothing_held }
+    {
+        Session {
+            bytes: Vec::new(alloc),
+            start: 0,
+            want: Want::Line,
+            text: Vec::new(alloc),
+            sent: 0,
+            is_open: false,
+            alloc,
+        }
+    }
+
+    /// The next bytes of the client.
+    pub fn feed(&mut self, piece: &[u8]) -> Result<(), AllocError>
+        ensures ok { OnOk result (self.new ≡ record self.old { kept = self.old.kept ++ piece.now }) }
+        ensures stands { OnOk result ((text : List ℕ) → StandsAt self.old text → StandsAt self.new (text ++ piece.now)) }
+        ensures err { OnErr result (self.new ≡ self.old) }
+    {
+        self.append(piece)
+    }
+
+    fn append(&mut self, piece: &[u8]) -> Result<(), AllocError>
+        ensures ok { OnOk result (self.new ≡ record self.old { kept = self.old.kept ++ piece.now }) }
+        ensures err { OnErr result (self.new ≡ self.old) }
+    {
+        self.shift_down();
+        self.bytes.extend_from_slice(piece)
+    }
+
+    // Lets go of what is read.
+    fn shift_down(&mut self)
+        ensures { self.new ≡ self.old }
+    {
+        if self.start > 0 {
+            let kept = self.bytes.len() - self.start;
+            self.bytes.copy_within(self.start.., 0);
+            self.bytes.truncate(kept);
+            self.start = 0;
+        }
+    }
+
+    /// The request at the front of what was fed. The faults before it are put down as text to send.
+    pub fn next_ask(&mut self) -> Result<Option<Request>, AllocError>
+        requires { self.old.is_open ≡ false }
+        ensures found { IfOk result (λ found. (text : List ℕ) → StandsAt self.old text → Finds self.old self.new text found) }
+        ensures open { IfOk result (λ found. self.new.is_open ≡ is_asked found) }
+        ensures small { IfOk result (λ found. found ≡ None → length self.new.kept ≤ longest_wait) }
+        ensures err { OnErr result (self.new ≡ self.old) }
+    {
+        let len = self.text.len();
+        match look_on(
+            self.alloc,
+            self.bytes.as_slice(),
+            self.start,
+            self.want,
+            &mut self.text,
+        ) {
+            Ok(found) => {
+                self.start = found.start;
+                self.want = found.want;
+                self.is_open = matches!(found.request, Some(Request::Do(_)));
+                Ok(found.request)
+            }
+            Err(e) => {
+                self.text.truncate(len);
+                Err(e)
+            }
+        }
+    }
+
+    /// What the client is to be told and isn't sent yet.
+    pub fn unsent(&self) -> &[u8]
+        ensures { result.now ≡ self.now.unsent }
+    {
+        &self.text[self.sent..]
+    }
+
+    /// So many bytes more are sent.
+    pub fn sent(&mut self, n: usize)
+        requires { n ≤ length self.old.unsent }
+        ensures { self.new ≡ record self.old { unsent = drop n self.old.unsent } }
+    {
+        self.sent += n;
+        if self.sent == self.text.len() {
+            self.text.clear();
+            self.sent = 0;
+        }
+    }
+
+    /// The reply to the open ask.
+    pub fn reply(&mut self, reply: &Reply) -> Result<(), AllocError>
+        requires { self.old.is_open ≡ true }
+        ensures ok { OnOk result (self.new ≡ record self.old { unsent = self.old.unsent ++ reply_text reply.now; is_open = false }) }
+        ensures err { OnErr result (self.new ≡ self.old) }
+    {
+        write_reply(reply, &mut self.text)?;
+        self.is_open = false;
+        Ok(())
+    }
+
+    /// The open ask was refused for want of memory.
+    #[tactic(auto, unfolding(crate::specs::Items::refused_text))]
+    pub fn refused(&mut self) -> Result<(), AllocError>
+        requires { self.old.is_open ≡ true }
+        ensures ok { OnOk result (self.new ≡ record self.old { unsent = self.old.unsent ++ refused_text; is_open = false }) }
+        ensures err { OnErr result (self.new ≡ self.old) }
+    {
+        self.text.extend_from_slice(b"OUT_OF_MEMORY\r\n")?;
+        self.is_open = false;
+        Ok(())
+    }
+}
+
+// What was found, and where the session goes on.
+#[derive(Drop)]
+struct Found {
+    request: Option<Request>,
+    start: usize,
+    want: Want,
+}
+
+// The first request from `start` on. The faults before it are written.
+fn look_on(
+    alloc: Global,
+    bytes: &[u8],
+    start: usize,
+    want: Want,
+    text: &mut Vec<u8>,
+) -> Result<Found, AllocError>
+    requires begun { start ≤ length bytes.now }
+    requires kept { MayKeep want (drop start bytes.now) }
+    ensures within { IfOk result (λ found. found.start ≤ length bytes.now) }
+    ensures kept { IfOk result (λ found. MayKeep found.want (drop found.start bytes.now)) }
+    ensures found { IfOk result (λ found. (t : List ℕ) → StandsAt (holding want (drop start bytes.now) text.old.items) t →
+        Finds (holding want (drop start bytes.now) text.old.items) (holding found.want (drop found.start bytes.now) text.new.items) t found.request) }
+    ensures small { IfOk result (λ found. found.request ≡ None → length (drop found.start bytes.now) ≤ longest_wait) }
+    ensures front { take (vec_len text.old) text.new.items ≡ text.old.items }
+{
+    let mut at = start;
+    let mut next = want;
+    'items: loop {
+        let (_, kept) = bytes.split_at(at);
+        match read_request(alloc, next, kept)? {
+            Read::More => {
+                return Ok(Found {
+                    request: None,
+                    start: at,
+                    want: next,
+                });
+            }
+            Read::Drop { used, want } => {
+                at += used;
+                next = want;
+            }
+            Read::Bad { fault, used } => {
+                write_fault(fault, text)?;
+                at += used;
+                next = Want::Line;
+            }
+            Read::Request { request, used } => {
+                return Ok(Found {
+                    request: Some(request),
+                    start: at + used,
+                    want: Want::Line,
+                });
+            }
+        }
+    }
+}
