@@ -299,7 +299,8 @@ fn long_lines(rt: HostRuntime) -> Result<(), Fail> {
     tells(&rt, Want::Line, &longer, dropped(223, Want::Rest))?;
     let empty = line_with(alloc, b"", b' ', 224, b"")?;
     tells(&rt, Want::Line, &empty, dropped(223, Want::Rest))?;
-    tells(&rt, Want::Line, &empty[..223], Read::More)?;
+    let begun = line_with(alloc, b"", b' ', 223, b"")?;
+    tells(&rt, Want::Line, &begun, Read::More)?;
     Ok(())
 }
 
