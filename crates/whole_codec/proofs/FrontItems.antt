@@ -66,7 +66,7 @@ completed text line rest n item l e within c =
     let fits : length line + (2 + n) ≤ length text = omega (arith, length-append line (crlf ++ rest), length-append crlf rest) in
     inl ((item, length line + (2 + n)), (fits, record { line = line; rest = take n rest; is_line = l; cut = shorter text line rest n e; completes = c }))
 
-too_short : (text line rest : List ℕ) (pri delay ttr size : ℕ) → IsLine line → IsCut text line rest → meaning line ≡ Ok (WithBody pri delay ttr size) → length rest + 1 ≤ size + 2 → BeginsWithNone text
+pub too_short : (text line rest : List ℕ) (pri delay ttr size : ℕ) → IsLine line → IsCut text line rest → meaning line ≡ Ok (WithBody pri delay ttr size) → length rest + 1 ≤ size + 2 → BeginsWithNone text
 too_short text line rest pri delay ttr size l e says few found begins =
     let item = found.0 in
     let n = found.1 in

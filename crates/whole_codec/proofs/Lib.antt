@@ -1,4 +1,5 @@
 pub mod LineCuts
+pub mod LongLines
 pub mod OneItem
 pub mod WordSteps
 pub mod Digits
@@ -7,3 +8,5 @@ pub mod FrontItems
 pub mod Told
 pub mod TubeNames
 pub mod TubeLists
+pub mod DroppedTexts
+pub mod FirstLines

@@ -6,5 +6,6 @@ pub mod Commands
 pub mod Arguments
 pub mod Grammar
 pub mod Memory
+pub mod Wants
 pub mod Reads
 pub mod Replies

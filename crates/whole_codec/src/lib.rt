@@ -7,6 +7,8 @@
 
 mod append;
 mod command;
+mod dropped;
+mod front;
 mod laws;
 mod line;
 mod name_lines;

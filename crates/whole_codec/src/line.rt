@@ -15,7 +15,7 @@ use std::alloc::{AllocError, Global};
 use whole_queue::Op;
 
 /// The most bytes of a line with its CR LF.
-const LONGEST_LINE: usize = 224;
+pub const LONGEST_LINE: usize = 224;
 
 /// What a line says by itself.
 #[derive(Drop)]

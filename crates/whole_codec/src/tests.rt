@@ -25,6 +25,26 @@ fn fails(rt: &(impl Abort + AllocGlobal), text: &[u8], fault: Fault) -> Result<(
     Ok(())
 }
 
+// This is what is told of the text.
+fn tells(
+    rt: &(impl Abort + AllocGlobal),
+    want: Want,
+    text: &[u8],
+    told: Read,
+) -> Result<(), AllocError> {
+    let read = read_request(rt.alloc(), want, text)?;
+    assert!(rt; read == told, "{want:?} {text:?}");
+    Ok(())
+}
+
+fn dropped(used: usize, want: Want) -> Read {
+    Read::Drop { used, want }
+}
+
+fn bad(fault: Fault, used: usize) -> Read {
+    Read::Bad { fault, used }
+}
+
 fn put(alloc: Global, pri: u32, delay: u32, ttr: u32, body: &[u8]) -> Result<Request, AllocError> {
     let body = Body::new(alloc, body)?;
     Ok(Request::Do(Op::Put {
@@ -276,9 +296,52 @@ fn long_lines(rt: HostRuntime) -> Result<(), Fail> {
     assert!(rt; longest.len() == 224);
     asks(&rt, &longest, Op::Touch(1))?;
     let longer = line_with(alloc, b"touch 1", b' ', 216, b"\r\n")?;
-    fails(&rt, &longer, Fault::BadFormat)?;
-    let empty = line_with(alloc, b"", b' ', 223, b"\r\n")?;
-    fails(&rt, &empty, Fault::BadFormat)?;
+    tells(&rt, Want::Line, &longer, dropped(223, Want::Rest))?;
+    let empty = line_with(alloc, b"", b' ', 224, b"")?;
+    tells(&rt, Want::Line, &empty, dropped(223, Want::Rest))?;
+    let begun = line_with(alloc, b"", b' ', 223, b"")?;
+    tells(&rt, Want::Line, &begun, Read::More)?;
+    Ok(())
+}
+
+// What ends a line that is too long, and how much of it may be dropped.
+#[test]
+fn rests(rt: HostRuntime) -> Result<(), Fail> {
+    let rows: [(&[u8], Read); 8] = [
+        (b"", Read::More),
+        (b"\r", Read::More),
+        (b"a", dropped(1, Want::Rest)),
+        (b"ab\n\r", dropped(3, Want::Rest)),
+        (b"\r\r", dropped(1, Want::Rest)),
+        (b"\r\n", bad(Fault::BadFormat, 2)),
+        (b"\n\r\nquit\r\n", bad(Fault::BadFormat, 3)),
+        (b"\r\r\n", bad(Fault::BadFormat, 3)),
+    ];
+    for (text, read) in rows {
+        tells(&rt, Want::Rest, text, read)?;
+    }
+    Ok(())
+}
+
+// A body that is too large is dropped as it comes, whatever its bytes are.
+#[test]
+fn dropped_bodies(rt: HostRuntime) -> Result<(), Fail> {
+    let rows: [(&[u8], Read); 5] = [
+        (b"", Read::More),
+        (b"a", dropped(1, Want::Big(2))),
+        (b"\r\n", dropped(2, Want::Big(1))),
+        (b"abc", bad(Fault::JobTooBig, 3)),
+        (b"\r\n\r\nquit", bad(Fault::JobTooBig, 3)),
+    ];
+    for (text, read) in rows {
+        tells(&rt, Want::Big(3), text, read)?;
+    }
+    tells(
+        &rt,
+        Want::Line,
+        b"put 0 0 1 4294967295\r\na\r\n",
+        dropped(22, Want::Big(4294967297)),
+    )?;
     Ok(())
 }
 
@@ -291,16 +354,14 @@ fn big_bodies(rt: HostRuntime) -> Result<(), Fail> {
     text.extend_from_slice(b"\r\n")?;
     reads(&rt, &text, put(alloc, 0, 0, 1, &body)?)?;
 
+    tells(
+        &rt,
+        Want::Line,
+        b"put 0 0 1 65536\r\n",
+        dropped(17, Want::Big(65538)),
+    )?;
     let body = vec![in alloc; b'a'; 65538]?;
-    let mut text = Vec::from_slice(alloc, b"put 0 0 1 65536\r\n")?;
-    text.extend_from_slice(&body)?;
-    let big = read_request(alloc, Want::Line, &text)?;
-    assert!(rt;
-        big == Read::Bad {
-            fault: Fault::JobTooBig,
-            used: 65555
-        }
-    );
+    tells(&rt, Want::Big(65538), &body, bad(Fault::JobTooBig, 65538))?;
     Ok(())
 }
 
@@ -315,7 +376,7 @@ fn beginnings(rt: HostRuntime) -> Result<(), Fail> {
         b"put 0 0 1 1\r\n",
         b"put 0 0 1 1\r\na",
         b"put 0 0 1 1\r\na\r",
-        b"put 0 0 1 4294967295\r\na\r\n",
+        b"put 0 0 1 65535\r\na\r\n",
     ];
     for text in rows {
         let read = read_request(alloc, Want::Line, text)?;

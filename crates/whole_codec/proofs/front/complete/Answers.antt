@@ -1,7 +1,7 @@
 use Rattle.std.proofs.Common.{Ok, ap, ◌∙◌}
 use Rattle.std.proofs.lemmas.Result.{on_err_weaker}
 use Rattle.whole_codec.proofs.Fronts.{put_completes}
-use Rattle.whole_codec.proofs.reader.complete.Goals as goal
+use Rattle.whole_codec.proofs.front.complete.Goals as goal
 
 pub returns-in-Ok-WithBody-clause-memory : goal.returns-in-Ok-WithBody-clause-memory
 returns-in-Ok-WithBody-clause-memory c =
