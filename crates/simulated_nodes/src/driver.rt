@@ -1,16 +1,14 @@
 ghost use Rattle.std.specs.Prelude.{IfOk};
 ghost use Rattle.object.specs.declared.command.Command.{Command};
-ghost use Rattle.bean_queue.specs.declared.op.Op.{Op};
-ghost use Rattle.beanpax.specs.Clients.{SubmitsOnly};
+ghost use Rattle.simulated_nodes.specs.Standing.{SubmitsOnly};
 
 use crate::mail::Mail;
 use ballot::Members;
-use bean_queue::Op;
 use object::{Command, Value};
 use std::alloc::{AllocError, Global};
 use world::{Event, Schedule};
 
-/// Where the client submits its commands.
+/// The node at which the client submits its commands.
 pub const HOME: u8 = 1;
 
 /// After so many events for one command the driver goes its plain rounds.
@@ -74,7 +72,7 @@ impl Driver {
     }
 
     /// The next event for the command, after `count` others and with so many letters sent.
-    pub fn next(
+    pub fn next<Op: Value>(
         &mut self,
         command: &Command<Op>,
         count: u32,
@@ -98,7 +96,7 @@ impl Driver {
 
 impl Driver {
     // An event that the schedule draws.
-    fn drawn(&mut self, letters: usize) -> Event<Op>
+    fn drawn<Op: Value>(&mut self, letters: usize) -> Event<Op>
         ensures { (command : Command Op) → SubmitsOnly command result }
     {
         let event = self.schedule.next(self.members, letters);
@@ -109,7 +107,7 @@ impl Driver {
     }
 
     // The next letter, or where none waits what may bring one.
-    fn calm(&mut self, command: &Command<Op>) -> Result<Event<Op>, AllocError>
+    fn calm<Op: Value>(&mut self, command: &Command<Op>) -> Result<Event<Op>, AllocError>
         ensures { IfOk result (SubmitsOnly command.now) }
     {
         if let Some(number) = self.mail.take_next() {
@@ -130,7 +128,7 @@ impl Driver {
 
     // Begins the node anew, and then again and again submits the command, wakes the leader, delivers what was never
     // delivered, proposes and performs.
-    fn plain(&mut self, command: &Command<Op>) -> Result<Event<Op>, AllocError>
+    fn plain<Op: Value>(&mut self, command: &Command<Op>) -> Result<Event<Op>, AllocError>
         ensures { IfOk result (SubmitsOnly command.now) }
     {
         let (event, next) = match self.round {

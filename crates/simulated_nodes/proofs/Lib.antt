@@ -1,0 +1,6 @@
+pub mod Lists
+pub mod Orders
+pub mod Submitting
+pub mod Carried
+pub mod Replays
+pub mod Said

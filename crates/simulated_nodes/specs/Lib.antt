@@ -1,0 +1,2 @@
+pub mod OneClient
+pub mod Standing
