@@ -288,7 +288,12 @@ fn any_nodes_and_seed_tell_the_same(rt: HostRuntime) -> Result<(), Fail> {
             for row in &ROWS {
                 let output = joined(alloc, row.output)?;
                 let told = told(alloc, row, words.as_slice(), 4096)?.ok_or(row.name)?;
-                assert_eq!(rt; told.bytes(), output.as_slice(), "{}, {nodes}, {seed}", row.name);
+                assert_eq!(rt;
+                    told.bytes(),
+                    output.as_slice(),
+                    "{}, {nodes}, {seed}",
+                    row.name
+                );
             }
         }
     }
