@@ -64,6 +64,7 @@ impl Session {
         self.append(piece)
     }
 
+    // A piece more is kept.
     fn append(&mut self, piece: &[u8]) -> Result<(), AllocError>
         ensures ok { OnOk result (self.new ≡ record self.old { kept = self.old.kept ++ piece.now }) }
         ensures err { OnErr result (self.new ≡ self.old) }
