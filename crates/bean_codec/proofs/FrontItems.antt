@@ -1,7 +1,7 @@
 -- Whether some beginning of a text spells an item.
 use Rattle.std.proofs.Common.{◌≡◌, ◌⊎◌, inl, inr, ℕ, ◌+◌, ◌≤◌, List, [], ◌∷◌, ◌++◌, Ok, Err, Result, length, take, drop, refl, sym, ap, subst, ◌∙◌, append_assoc, length-append, length-take, arith}
 use Rattle.std.proofs.lemmas.Bool.{cases_eq, cases_lt}
-use Rattle.std.proofs.lemmas.List.{take-append-drop, append-nil}
+use Rattle.std.proofs.lemmas.List.{take-append-drop}
 use Rattle.std.proofs.Math.Seq.{take-append-add}
 use Rattle.bean_codec.specs.declared.request.Fault.{Fault}
 use Rattle.bean_codec.specs.declared.line.Meaning.{Meaning}
@@ -66,24 +66,24 @@ completed text line rest n item l e within c =
     let fits : length line + (2 + n) ≤ length text = omega (arith, length-append line (crlf ++ rest), length-append crlf rest) in
     inl ((item, length line + (2 + n)), (fits, record { line = line; rest = take n rest; is_line = l; cut = shorter text line rest n e; completes = c }))
 
-too_short : (text line rest : List ℕ) (pri ttr size : ℕ) → IsLine line → IsCut text line rest → meaning line ≡ Ok (WithBody pri ttr size) → length rest + 1 ≤ size + 2 → BeginsWithNone text
-too_short text line rest pri ttr size l e says few found begins =
+pub too_short : (text line rest : List ℕ) (pri delay ttr size : ℕ) → IsLine line → IsCut text line rest → meaning line ≡ Ok (WithBody pri delay ttr size) → length rest + 1 ≤ size + 2 → BeginsWithNone text
+too_short text line rest pri delay ttr size l e says few found begins =
     let item = found.0 in
     let n = found.1 in
     let s : Spells (take n text) item = begins.1 in
     let same = one_line line s.line rest (s.rest ++ drop n text) l s.is_line (sym e ∙ longer text s.line s.rest n s.cut) in
-    let c : Completes (Ok (WithBody pri ttr size)) s.rest item = subst (λ m. Completes m s.rest item) (ap meaning (sym same.0) ∙ says) s.completes in
+    let c : Completes (Ok (WithBody pri delay ttr size)) s.rest item = subst (λ m. Completes m s.rest item) (ap meaning (sym same.0) ∙ says) s.completes in
     let whole = ap (λ bytes. length bytes) same.1 in
     omega (arith, c.0, length-append s.rest (drop n text))
 
 after_line : (text line rest : List ℕ) → IsLine line → IsCut text line rest → (m : Result Meaning Fault) → meaning line ≡ m → HasFront text
 after_line text line rest l e (Ok (Whole request)) says = completed text line rest 0 (Ok request) l e (omega arith) (subst (λ m. Completes m [] (Ok request)) (sym says) (refl, refl))
 after_line text line rest l e (Err fault) says = completed text line rest 0 (Err fault) l e (omega arith) (subst (λ m. Completes m [] (Err fault)) (sym says) (refl, refl))
-after_line text line rest l e (Ok (WithBody pri ttr size)) says =
+after_line text line rest l e (Ok (WithBody pri delay ttr size)) says =
     elim (cases_lt (length rest) (size + 2)) as (λ v. HasFront text) [
-      | inl few ↦ inr (too_short text line rest pri ttr size l e says (omega arith))
+      | inl few ↦ inr (too_short text line rest pri delay ttr size l e says (omega arith))
       | inr enough ↦
-          let item = put_item pri ttr size (take (size + 2) rest) in
+          let item = put_item pri delay ttr size (take (size + 2) rest) in
           let long = length-take (size + 2) rest in
           completed text line rest (size + 2) item l e enough (subst (λ m. Completes m (take (size + 2) rest) item) (sym says) (omega arith, refl))
     ]

@@ -1,6 +1,12 @@
 pub mod LineCuts
+pub mod LongLines
 pub mod OneItem
 pub mod WordSteps
 pub mod Digits
 pub mod Fronts
 pub mod FrontItems
+pub mod Told
+pub mod TubeNames
+pub mod TubeLists
+pub mod DroppedTexts
+pub mod FirstLines

@@ -1,5 +1,5 @@
 -- Where the first CR LF of a text stands.
-use Rattle.std.proofs.Common.{◌≡◌, ℕ, zero, suc, ◌+◌, ◌<◌, ◌≤◌, List, [], ◌∷◌, ◌++◌, length, take, drop, get_or, Some, None, refl, ap, sym, subst, arith}
+use Rattle.std.proofs.Common.{◌≡◌, ℕ, zero, suc, ◌+◌, ◌<◌, ◌≤◌, List, [], ◌∷◌, ◌++◌, length, take, drop, get_or, Some, refl, ap, sym, arith}
 use Rattle.bstr.specs.Find.{OccursAt, FindsNeedle}
 use Rattle.bean_codec.specs.Lines.{crlf, IsLine}
 
@@ -71,7 +71,7 @@ front_of b c rest e =
     rw (carriage_return, line_feed) (occurs_here rest)
 
 -- where it occurs at no earlier place, what stands before that place is a line
-IsLine-take : (bytes : List ℕ) (k : ℕ) → ((j : ℕ) → j < k → ¬ OccursAt bytes crlf j) → IsLine (take k bytes)
+pub IsLine-take : (bytes : List ℕ) (k : ℕ) → ((j : ℕ) → j < k → ¬ OccursAt bytes crlf j) → IsLine (take k bytes)
 IsLine-take bytes zero h = tt
 IsLine-take [] (suc k) h = tt
 IsLine-take (b ∷ bytes) (suc zero) h = tt
@@ -80,15 +80,11 @@ IsLine-take (b ∷ c ∷ rest) (suc (suc k)) h =
     let later = λ (j : ℕ) (l : j < suc k) (o : OccursAt (c ∷ rest) crlf j). h (suc j) (omega arith) (occurs_later b (c ∷ rest) j o) in
     (λ e. h 0 (omega arith) (front_of b c rest e), IsLine-take (c ∷ rest) (suc k) later)
 
+-- the first CR LF stands at place k
+abbrev pub IsCutAt : List ℕ → ℕ → Type 0
+IsCutAt bytes k = IsLine (take k bytes) × (bytes ≡ take k bytes ++ (crlf ++ drop (k + 2) bytes)) × (k + 2 ≤ length bytes)
+
 -- the first place of CR LF ends a line
-pub first_cut : (bytes : List ℕ) (k : ℕ) → FindsNeedle bytes crlf 0 (Some k) → IsLine (take k bytes) × (bytes ≡ take k bytes ++ (crlf ++ drop (k + 2) bytes)) × (k + 2 ≤ length bytes)
+pub first_cut : (bytes : List ℕ) (k : ℕ) → FindsNeedle bytes crlf 0 (Some k) → IsCutAt bytes k
 first_cut bytes k found =
     (IsLine-take bytes k (λ j l. found.0.before j (omega arith) l), cut_from_occurs bytes k found.1, found.1.fits)
-
--- where there is none, there is no line
-pub no_cut : (bytes line rest : List ℕ) → FindsNeedle bytes crlf 0 None → bytes ≡ line ++ (crlf ++ rest) → ⊥
-no_cut bytes line rest none cut =
-    let P : List ℕ → Type 0 = λ t. OccursAt t crlf (length line) in
-    let occurs = subst P (sym cut) (occurs_after line rest) in
-    let fits = occurs.fits in
-    none (length line) (omega arith) (omega arith) occurs

@@ -22,9 +22,9 @@ same_front (c ∷ a) (d ∷ b) x y n e =
 -- what a line says is completed in one way
 pub one_completion : (m : Result Meaning Fault) (r s x y : List ℕ) (i j : Item) → Completes m r i → Completes m s j → r ++ x ≡ s ++ y → (r ≡ s) × (i ≡ j)
 one_completion (Ok (Whole request)) r s x y i j h k e = (h.0 ∙ sym k.0, h.1 ∙ sym k.1)
-one_completion (Ok (WithBody pri ttr size)) r s x y i j h k e =
+one_completion (Ok (WithBody pri delay ttr size)) r s x y i j h k e =
     let same = same_front r s x y (h.0 ∙ sym k.0) e in
-    (same, h.1 ∙ (ap (put_item pri ttr size) same ∙ sym k.1))
+    (same, h.1 ∙ (ap (put_item pri delay ttr size) same ∙ sym k.1))
 one_completion (Err fault) r s x y i j h k e = (h.0 ∙ sym k.0, h.1 ∙ sym k.1)
 
 -- the text of a line, with what follows, as three parts

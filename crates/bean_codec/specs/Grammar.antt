@@ -1,18 +1,20 @@
--- Which text spells which request or fault (protocol.txt of beanstalkd, "Protocol", "Producer Commands", "Worker Commands"
--- and "Other Commands"). A command more is a line more in `command_line`, and a definition of its words.
-use Rattle.std.specs.Prelude.{◌≡◌, ℕ, ◌+◌, nat_lt, List, [], ◌∷◌, ◌++◌, length, take, drop, codes, Option, Some, None, Result, Ok, Err, if◌then◌else◌}
+-- Which text spells which request or fault (protocol.txt of beanstalkd, "Protocol" and the commands). A command more is a
+-- line more in `Commands`, and a line more in `line_of` of `Arguments`.
+use Rattle.std.specs.Prelude.{◌≡◌, ℕ, ◌+◌, nat_lt, List, [], ◌∷◌, ◌++◌, length, take, drop, Option, Some, None, Result, Ok, Err, if◌then◌else◌}
 use Rattle.std.specs.Option.{ok_or}
 use Rattle.std.specs.Str.{bytes_eq}
-use Rattle.bean_queue.specs.declared.op.Op.TheVariants.{Put, Reserve, Delete}
+use Rattle.bean_queue.specs.declared.op.Op.TheVariants.{Put}
 use Rattle.bean_codec.specs.declared.request.Request.{Request}
-use Rattle.bean_codec.specs.declared.request.Request.TheVariants.{Do, Quit}
+use Rattle.bean_codec.specs.declared.request.Request.TheVariants.{Do}
 use Rattle.bean_codec.specs.declared.request.Fault.{Fault}
 use Rattle.bean_codec.specs.declared.request.Fault.TheVariants.{BadFormat, UnknownCommand, ExpectedCrlf, JobTooBig}
+use Rattle.bean_codec.specs.declared.command.Command.{Command}
 use Rattle.bean_codec.specs.declared.line.Meaning.{Meaning}
 use Rattle.bean_codec.specs.declared.line.Meaning.TheVariants.{Whole, WithBody}
 use Rattle.bean_codec.specs.Lines.{crlf, IsLine}
 use Rattle.bean_codec.specs.Words.{words, begins_with_no_word}
-use Rattle.bean_codec.specs.Numbers.{◌>>=◌, u32_of, u64_of, zero_of}
+use Rattle.bean_codec.specs.Commands.{command_of}
+use Rattle.bean_codec.specs.Arguments.{line_of}
 
 -- what a text spells: a request, or the fault that is answered to it
 abbrev pub Item : Type 0
@@ -26,44 +28,15 @@ longest_line = 224
 abbrev pub longest_body : ℕ
 longest_body = 65535
 
--- put <pri> <delay> <ttr> <bytes>, where no delay is taken but 0
-unfoldable pub put_line : List (List ℕ) → Option Meaning
-put_line (pri ∷ delay ∷ ttr ∷ size ∷ []) = do
-  pri ← u32_of pri
-  delay ← zero_of delay
-  ttr ← u32_of ttr
-  size ← u32_of size
-  Some (WithBody pri ttr size)
-put_line _ = None
-
--- reserve-with-timeout <seconds>, where no seconds are taken but 0
-unfoldable pub reserve_line : List (List ℕ) → Option Meaning
-reserve_line (seconds ∷ []) = do
-  seconds ← zero_of seconds
-  Some (Whole (Do Reserve))
-reserve_line _ = None
-
--- delete <id>
-unfoldable pub delete_line : List (List ℕ) → Option Meaning
-delete_line (id ∷ []) = do
-  id ← u64_of id
-  Some (Whole (Do (Delete id)))
-delete_line _ = None
-
--- quit, and no more words
-unfoldable pub quit_line : List (List ℕ) → Option Meaning
-quit_line [] = Some (Whole Quit)
-quit_line _ = None
+-- the words after the first, where it names this command, or none
+abbrev line_with : Option Command → List (List ℕ) → Result Meaning Fault
+line_with (Some command) words = ok_or (line_of command words) BadFormat
+line_with None words = Err UnknownCommand
 
 -- the first word names the command, and those after it have its form, or the format is bad
 unfoldable pub command_line : List (List ℕ) → Result Meaning Fault
 command_line [] = Err UnknownCommand
-command_line (command ∷ arguments) =
-    if bytes_eq command (codes "put") then ok_or (put_line arguments) BadFormat
-    else if bytes_eq command (codes "reserve-with-timeout") then ok_or (reserve_line arguments) BadFormat
-    else if bytes_eq command (codes "delete") then ok_or (delete_line arguments) BadFormat
-    else if bytes_eq command (codes "quit") then ok_or (quit_line arguments) BadFormat
-    else Err UnknownCommand
+command_line (first ∷ words) = line_with (command_of first) words
 
 -- what a line says by itself
 unfoldable pub meaning : List ℕ → Result Meaning Fault
@@ -73,16 +46,16 @@ meaning line =
     else command_line (words line)
 
 -- what a put line makes with the rest: a body of its size, and two bytes more
-unfoldable pub put_item : ℕ → ℕ → ℕ → List ℕ → Item
-put_item pri ttr size rest =
+unfoldable pub put_item : ℕ → ℕ → ℕ → ℕ → List ℕ → Item
+put_item pri delay ttr size rest =
     if nat_lt longest_body size then Err JobTooBig
-    else if bytes_eq (drop size rest) crlf then Ok (Do (Put pri ttr (take size rest)))
+    else if bytes_eq (drop size rest) crlf then Ok (Do (Put pri delay ttr (take size rest)))
     else Err ExpectedCrlf
 
 -- the rest is what follows a line that says this, and both together make the item
 abbrev pub Completes : Result Meaning Fault → List ℕ → Item → Type 0
 Completes (Ok (Whole request)) rest item = (rest ≡ []) × (item ≡ Ok request)
-Completes (Ok (WithBody pri ttr size)) rest item = (length rest ≡ size + 2) × (item ≡ put_item pri ttr size rest)
+Completes (Ok (WithBody pri delay ttr size)) rest item = (length rest ≡ size + 2) × (item ≡ put_item pri delay ttr size rest)
 Completes (Err fault) rest item = (rest ≡ []) × (item ≡ Err fault)
 
 -- the text is a line, its CR LF and a rest, which completes the item

@@ -1,6 +1,11 @@
 pub mod Lines
 pub mod Words
 pub mod Numbers
+pub mod TubeNames
+pub mod Commands
+pub mod Arguments
 pub mod Grammar
+pub mod Memory
+pub mod Wants
 pub mod Reads
 pub mod Replies

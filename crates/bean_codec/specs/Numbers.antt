@@ -27,7 +27,3 @@ u32_of word = number_below (2 ^ 32) word
 -- a number of 64 bits
 abbrev pub u64_of : List ℕ → Option ℕ
 u64_of word = number_below (2 ^ 64) word
-
--- the number 0 alone
-abbrev pub zero_of : List ℕ → Option ℕ
-zero_of word = number_below 1 word

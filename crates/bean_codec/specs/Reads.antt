@@ -1,18 +1,36 @@
 -- What a reader tells of the bytes before it.
-use Rattle.std.specs.Prelude.{◌≡◌, ℕ, ◌+◌, ◌≤◌, List, length, take, Option, Some, None, Result, Ok, Err}
-use Rattle.bean_queue.specs.declared.op.Op.TheVariants.{Put}
-use Rattle.bean_codec.specs.declared.request.Request.TheVariants.{Do}
+use Rattle.std.specs.Prelude.{◌≡◌, ◌⊎◌, ◌<◌, ℕ, ◌+◌, ◌≤◌, List, ◌++◌, length, take, drop, Option, Some, None, Result, Ok, Err, IfSome}
 use Rattle.bean_codec.specs.declared.request.Fault.{Fault}
 use Rattle.bean_codec.specs.declared.line.Meaning.{Meaning}
+use Rattle.bean_codec.specs.declared.line.Meaning.TheVariants.{WithBody}
+use Rattle.bean_codec.specs.declared.reader.Want.{Want}
+use Rattle.bean_codec.specs.declared.reader.Want.TheVariants.{Big}
 use Rattle.bean_codec.specs.declared.reader.Read.{Read}
-use Rattle.bean_codec.specs.declared.reader.Read.TheVariants.{More, Request, Bad}
-use Rattle.bean_codec.specs.Grammar.{Item, Completes, Spells}
+use Rattle.bean_codec.specs.declared.reader.Read.TheVariants.{More, Drop, Request, Bad}
+use Rattle.bean_codec.specs.Grammar.{Item, Completes, Spells, longest_line, longest_body}
+use Rattle.bean_codec.specs.Wants.{EndsWithCr, Fits}
 
 -- the item that was read, and how many bytes it takes
 abbrev pub item_read : Read → Option (Item × ℕ)
 item_read More = None
+item_read (Drop used want) = None
 item_read (Request request used) = Some (Ok request, used)
 item_read (Bad fault used) = Some (Err fault, used)
+
+-- P, where more is wanted
+abbrev pub IfMore : Read → Type 0 → Type 0
+IfMore More P = P
+IfMore _ P = Unit {0}
+
+-- P of the bytes that may be dropped and of what is wanted then
+abbrev pub IfDrop : Read → (ℕ → Want → Type 0) → Type 0
+IfDrop (Drop used want) P = P used want
+IfDrop _ P = Unit {0}
+
+-- some bytes are dropped
+abbrev pub IsDrop : Read → Type 0
+IsDrop (Drop used want) = Unit {0}
+IsDrop _ = ⊥
 
 -- the bytes begin with the item, which takes so many of them
 abbrev pub BeginsWith : List ℕ → Item × ℕ → Type 0
@@ -22,12 +40,37 @@ BeginsWith bytes (item, used) = (used ≤ length bytes) × Spells (take used byt
 abbrev pub BeginsWithNone : List ℕ → Type 0
 BeginsWithNone bytes = (found : Item × ℕ) → ¬ BeginsWith bytes found
 
--- it is a put
-abbrev pub IsPut : Item → Type 0
-IsPut (Ok (Do (Put pri ttr body))) = Unit {0}
-IsPut _ = ⊥
+-- the text that was dropped and so many of the bytes spell the item
+abbrev pub EndsItem : List ℕ → List ℕ → Item × ℕ → Type 0
+EndsItem dropped bytes (item, used) = (used ≤ length bytes) × Spells (dropped ++ take used bytes) item
+
+-- an item that is told is spelled by what was dropped and the bytes that it takes
+abbrev pub TellsItem : Want → List ℕ → Read → Type 0
+TellsItem want bytes read = (dropped : List ℕ) → Fits want dropped bytes → IfSome (item_read read) (EndsItem dropped bytes)
+
+-- more is wanted only where nothing is spelled as yet
+abbrev pub TellsMore : Want → List ℕ → Read → Type 0
+TellsMore want bytes read = (dropped : List ℕ) → Fits want dropped bytes → IfMore read (BeginsWithNone (dropped ++ bytes))
+
+-- some bytes are dropped, and the text with them fits what is wanted then
+abbrev pub TellsDrop : Want → List ℕ → Read → Type 0
+TellsDrop want bytes read = (dropped : List ℕ) → Fits want dropped bytes →
+    IfDrop read (λ used next. (1 ≤ used) × (used ≤ length bytes) × Fits next (dropped ++ take used bytes) (drop used bytes))
+
+-- the most bytes that may have to wait: a longest line, a longest body, and one of the two bytes after it
+abbrev pub longest_wait : ℕ
+longest_wait = longest_line + longest_body + 1
 
 -- the front of the rest, which begins at place start, completes the item, which ends at place end
 abbrev pub CompletesFront : Result Meaning Fault → ℕ → List ℕ → Item × ℕ → Type 0
 CompletesFront meaning start rest (item, end) =
     (taken : ℕ) × (end ≡ start + taken) × (taken ≤ length rest) × Completes meaning (take taken rest) item
+
+-- it is a put line with a body that is too large, and the body and two bytes are wanted
+abbrev pub DropsBig : Result Meaning Fault → Want → Type 0
+DropsBig (Ok (WithBody pri delay ttr size)) want = (want ≡ Big (size + 2)) × (longest_body < size)
+DropsBig _ want = ⊥
+
+-- all bytes, or all but a carriage return that stands last
+abbrev pub IsBeforeCr : List ℕ → ℕ → Type 0
+IsBeforeCr bytes n = ((n ≡ length bytes) × (EndsWithCr bytes → ⊥)) ⊎ ((n + 1 ≡ length bytes) × EndsWithCr bytes)

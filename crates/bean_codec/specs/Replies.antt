@@ -1,19 +1,50 @@
--- The texts of replies and faults (protocol.txt of beanstalkd, "Protocol", "Producer Commands" and "Worker Commands").
+-- The texts of replies and faults (protocol.txt of beanstalkd, "Protocol" and the commands).
 use Rattle.std.specs.Prelude.{ℕ, List, ◌++◌, length, codes, decimal}
+use Rattle.std.specs.List.{flat_map}
 use Rattle.bean_queue.specs.declared.reply.Reply.{Reply}
-use Rattle.bean_queue.specs.declared.reply.Reply.TheVariants.{Inserted, Reserved, DeadlineSoon, TimedOut, Deleted, NotFound, InternalError}
+use Rattle.bean_queue.specs.declared.reply.Reply.TheVariants.{Inserted, Using, Watching, NotIgnored, Reserved, DeadlineSoon, TimedOut, Deleted, NotFound, Released, Buried, Touched, KickedCount, Kicked, Found, Tubes, InternalError}
 use Rattle.bean_codec.specs.declared.request.Fault.{Fault}
 use Rattle.bean_codec.specs.declared.request.Fault.TheVariants.{BadFormat, UnknownCommand, ExpectedCrlf, JobTooBig}
 use Rattle.bean_codec.specs.Lines.{ended}
 
--- the text of a reply: one line, and after RESERVED the body as another
+-- a word and a number
+unfoldable pub count_text : List ℕ → ℕ → List ℕ
+count_text word n = ended (word ++ codes " " ++ decimal n)
+
+-- a job: a line with its id and the size of its body, and the body
+unfoldable pub job_text : List ℕ → ℕ → List ℕ → List ℕ
+job_text word id body = ended (word ++ codes " " ++ decimal id ++ codes " " ++ decimal (length body)) ++ ended body
+
+-- one tube of a list
+unfoldable pub tube_text : List ℕ → List ℕ
+tube_text name = codes "- " ++ name ++ codes "\n"
+
+-- a list of tubes, as YAML
+unfoldable pub tubes_data : List (List ℕ) → List ℕ
+tubes_data names = codes "---\n" ++ flat_map tube_text names
+
+-- a list of tubes: a line with the size of the data, and the data
+unfoldable pub tubes_text : List (List ℕ) → List ℕ
+tubes_text names = count_text (codes "OK") (length (tubes_data names)) ++ ended (tubes_data names)
+
+-- the text of a reply
 unfoldable pub reply_text : Reply → List ℕ
-reply_text (Inserted id) = ended (codes "INSERTED " ++ decimal id)
-reply_text (Reserved id body) = ended (codes "RESERVED " ++ decimal id ++ codes " " ++ decimal (length body)) ++ ended body
+reply_text (Inserted id) = count_text (codes "INSERTED") id
+reply_text (Using tube) = ended (codes "USING " ++ tube)
+reply_text (Watching count) = count_text (codes "WATCHING") count
+reply_text NotIgnored = ended (codes "NOT_IGNORED")
+reply_text (Reserved id body) = job_text (codes "RESERVED") id body
 reply_text DeadlineSoon = ended (codes "DEADLINE_SOON")
 reply_text TimedOut = ended (codes "TIMED_OUT")
 reply_text Deleted = ended (codes "DELETED")
 reply_text NotFound = ended (codes "NOT_FOUND")
+reply_text Released = ended (codes "RELEASED")
+reply_text Buried = ended (codes "BURIED")
+reply_text Touched = ended (codes "TOUCHED")
+reply_text (KickedCount count) = count_text (codes "KICKED") count
+reply_text Kicked = ended (codes "KICKED")
+reply_text (Found id body) = job_text (codes "FOUND") id body
+reply_text (Tubes names) = tubes_text names
 reply_text InternalError = ended (codes "INTERNAL_ERROR")
 
 -- the text that answers a fault

@@ -2,14 +2,22 @@
 //!
 //! `specs/Grammar.antt` says which text spells which request or fault, and `specs/Replies.antt` has
 //! the texts of replies. A text spells one item and begins no other, so that requests may follow one
-//! another in one buffer.
+//! another in one buffer. What is too long is dropped as it comes: `specs/Wants.antt` says which text
+//! may have been dropped before what a reader waits for.
 #![tactic(auto)]
 
+mod append;
+mod command;
+mod dropped;
+mod front;
 mod laws;
 mod line;
+mod name_lines;
 mod number;
+mod number_lines;
 mod reader;
 mod request;
+mod tube_list;
 mod words;
 mod writer;
 

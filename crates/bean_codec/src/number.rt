@@ -20,11 +20,3 @@ pub fn u32_of(word: &[u8]) -> Option<u32>
 {
     u32::try_from(u64_of(word)?).ok()
 }
-
-/// The number 0, where the word writes it.
-#[tactic(auto, unfolding(crate::specs::Numbers::number_below))]
-pub fn zero_of(word: &[u8]) -> Option<u64>
-    ensures { result ≡ numbers.zero_of word.now }
-{
-    u64_of(word).filter(|n| *n == 0)
-}

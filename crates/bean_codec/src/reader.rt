@@ -1,21 +1,24 @@
-ghost use Rattle.std.specs.Prelude.{◌≡◌, ℕ, ◌+◌, ◌<◌, ◌≤◌, ◌^◌, List, ◌++◌, length, take, Some, IfOk, IfSome, IfNone, OnErr};
-ghost use Rattle.bean_codec.specs.Grammar.{Item, Spells, put_item};
-ghost use Rattle.bean_codec.specs.Reads.{item_read, IsPut, BeginsWith, BeginsWithNone, CompletesFront};
+ghost use Rattle.std.specs.Prelude.{◌≡◌, ◌⊎◌, ℕ, ◌≤◌, List, length, Some, IfOk, OnErr};
+ghost use Rattle.bean_codec.specs.declared.reader.Want.TheVariants as wants;
+ghost use Rattle.bean_codec.specs.Grammar.{Item};
+ghost use Rattle.bean_codec.specs.Memory.{TakesMemory};
+ghost use Rattle.bean_codec.specs.Reads.{item_read, IfMore, BeginsWith, EndsItem, IsDrop, TellsItem, TellsMore, TellsDrop, longest_wait};
+ghost use Rattle.bean_codec.specs.Wants.{Fits};
 
-use crate::line::{Meaning, meaning_of};
+use crate::dropped::{read_big, read_rest};
+use crate::front::read_line;
 use crate::request::{Fault, Request};
-use bean_queue::{Body, Op};
-use bstr::ByteSlice;
 use std::alloc::{AllocError, Global};
-
-/// The most bytes of a body.
-const LONGEST_BODY: u32 = 65535;
 
 /// What a reader waits for.
 #[derive(Clone, Copy, PartialEq, Eq, Debug)]
 pub enum Want {
     /// The line of the next request.
     Line,
+    /// The rest of a line that is too long.
+    Rest,
+    /// So many bytes, which end a put whose body is too large.
+    Big(u64),
 }
 
 /// What a reader found at the front of the bytes.
@@ -23,6 +26,8 @@ pub enum Want {
 pub enum Read {
     /// No more than the beginning of an item.
     More,
+    /// The beginning of an item, of which the first `used` bytes need not be kept.
+    Drop { used: usize, want: Want },
     /// A request, which takes `used` bytes.
     Request { request: Request, used: usize },
     /// A text that is no request, and takes `used` bytes.
@@ -31,83 +36,24 @@ pub enum Read {
 
 /// The request at the front of the bytes, or the fault of the text that stands there. What follows it
 /// isn't looked at.
+///
+/// The reader waits for `Want::Line` at first, and after a request or a fault. Where bytes are dropped
+/// it waits for what it is told then, and the bytes after them come next.
 pub fn read_request(alloc: Global, want: Want, bytes: &[u8]) -> Result<Read, AllocError>
-    ensures item { IfOk result (λ read. IfSome (item_read read) (BeginsWith bytes.now)) }
-    ensures more { IfOk result (λ read. IfNone (item_read read) (BeginsWithNone bytes.now)) }
-    ensures only { IfOk result (λ read. (found : Item × ℕ) →
-        BeginsWith bytes.now found → item_read read ≡ Some found) }
-    // Only the body of a put takes memory.
-    ensures memory { OnErr result ((put : Item × ℕ) × IsPut put.0 × BeginsWith bytes.now put) }
+    ensures item { IfOk result (TellsItem want bytes.now) }
+    ensures more { IfOk result (TellsMore want bytes.now) }
+    ensures drop { IfOk result (TellsDrop want bytes.now) }
+    ensures only { IfOk result (λ read. (dropped : List ℕ) (found : Item × ℕ) →
+        Fits want dropped bytes.now → EndsItem dropped bytes.now found →
+        IsDrop read ⊎ (item_read read ≡ Some found)) }
+    ensures bound { IfOk result (λ read. IfMore read (length bytes.now ≤ longest_wait)) }
+    // Only the body of a put and the name of a tube take memory.
+    ensures memory { OnErr result ((want ≡ wants.Line) ×
+        ((found : Item × ℕ) × TakesMemory found.0 × BeginsWith bytes.now found)) }
 {
-    let Want::Line = want;
-    let Some(end) = bytes.find(b"\r\n") else {
-        return Ok(Read::More);
-    };
-    let start = end + 2;
-    complete(alloc, meaning_of(&bytes[..end]), start, &bytes[start..])
-}
-
-/// The item that a line of this meaning makes with the front of the rest, which begins at `start`.
-fn complete(
-    alloc: Global,
-    meaning: Result<Meaning, Fault>,
-    start: usize,
-    rest: &[u8],
-) -> Result<Read, AllocError>
-    requires { start + length rest.now < 2 ^ 64 }
-    ensures item { IfOk result (λ read. IfSome (item_read read)
-        (CompletesFront meaning start rest.now)) }
-    ensures more { IfOk result (λ read. IfNone (item_read read)
-        ((found : Item × ℕ) → ¬ CompletesFront meaning start rest.now found)) }
-    ensures memory { OnErr result ((put : Item × ℕ) × IsPut put.0 ×
-        CompletesFront meaning start rest.now put) }
-{
-    match meaning {
-        Ok(Meaning::Whole(request)) => Ok(Read::Request {
-            request,
-            used: start,
-        }),
-        Ok(Meaning::WithBody { pri, ttr, size }) => complete_put(
-            alloc, pri, ttr, size, start, rest,
-        ),
-        Err(fault) => Ok(Read::Bad { fault, used: start }),
+    match want {
+        Want::Line => read_line(alloc, bytes),
+        Want::Rest => Ok(read_rest(bytes)),
+        Want::Big(left) => Ok(read_big(left, bytes)),
     }
-}
-
-/// The same of a put line: its body and two bytes stand at the front of the rest.
-#[tactic(auto, unfolding(crate::specs::Grammar::put_item))]
-fn complete_put(
-    alloc: Global,
-    pri: u32,
-    ttr: u32,
-    size: u32,
-    start: usize,
-    rest: &[u8],
-) -> Result<Read, AllocError>
-    requires { start + length rest.now < 2 ^ 64 }
-    ensures item { IfOk result (λ read. IfSome (item_read read) (λ found.
-        (found ≡ (put_item pri ttr size (take (size + 2) rest.now), start + (size + 2)))
-        × (size + 2 ≤ length rest.now))) }
-    ensures more { IfOk result (λ read. IfNone (item_read read) (length rest.now < size + 2)) }
-    ensures memory { OnErr result (IsPut (put_item pri ttr size (take (size + 2) rest.now))
-        × (size + 2 ≤ length rest.now)) }
-{
-    let body_len = size as usize;
-    let taken = body_len + 2;
-    if rest.len() < taken {
-        return Ok(Read::More);
-    }
-    let used = start + taken;
-    if size > LONGEST_BODY {
-        let fault = Fault::JobTooBig;
-        return Ok(Read::Bad { fault, used });
-    }
-    let (body, after) = rest[..taken].split_at(body_len);
-    if after != b"\r\n".as_slice() {
-        let fault = Fault::ExpectedCrlf;
-        return Ok(Read::Bad { fault, used });
-    }
-    let body = Body::new(alloc, body)?;
-    let request = Request::Do(Op::Put { pri, ttr, body });
-    Ok(Read::Request { request, used })
 }

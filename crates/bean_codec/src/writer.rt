@@ -1,10 +1,12 @@
-ghost use Rattle.std.specs.Prelude.{◌≡◌, ◌<◌, ◌≤◌, ◌+◌, ◌++◌, length, take, vec_len, vec_capacity, decimal, OnOk, OnErr};
-ghost use Rattle.bean_codec.specs.Replies.{reply_text, fault_text};
+ghost use Rattle.std.specs.Prelude.{◌≡◌, ◌<◌, ◌≤◌, ◌+◌, ◌++◌, length, take, vec_len, vec_capacity, codes, OnOk, OnErr};
+ghost use Rattle.bean_codec.specs.Lines.{ended};
+ghost use Rattle.bean_codec.specs.Replies.{reply_text, fault_text, job_text};
 
+use crate::append::{append_count, append_line, append_number};
 use crate::request::Fault;
-use bean_queue::Reply;
-use itoa::Buffer;
+use crate::tube_list::append_tubes;
 use std::alloc::AllocError;
+use bean_queue::{Body, Name, Reply};
 
 /// Writes the text of a reply at the end. Where memory runs out, nothing is written.
 pub fn write_reply(reply: &Reply, out: &mut Vec<u8>) -> Result<(), AllocError>
@@ -30,38 +32,56 @@ fn append_reply(reply: &Reply, out: &mut Vec<u8>) -> Result<(), AllocError>
         (vec_capacity out.old < vec_len out.old + length (reply_text reply.now)) }
 {
     match reply {
-        Reply::Inserted(id) => {
-            out.extend_from_slice(b"INSERTED ")?;
-            append_number(*id, out)?;
-            out.extend_from_slice(b"\r\n")
-        }
-        Reply::Reserved { id, body } => {
-            let body = body.as_slice();
-            out.extend_from_slice(b"RESERVED ")?;
-            append_number(*id, out)?;
-            out.extend_from_slice(b" ")?;
-            append_number(body.len() as u64, out)?;
-            out.extend_from_slice(b"\r\n")?;
-            out.extend_from_slice(body)?;
-            out.extend_from_slice(b"\r\n")
-        }
-        Reply::DeadlineSoon => out.extend_from_slice(b"DEADLINE_SOON\r\n"),
-        Reply::TimedOut => out.extend_from_slice(b"TIMED_OUT\r\n"),
-        Reply::Deleted => out.extend_from_slice(b"DELETED\r\n"),
-        Reply::NotFound => out.extend_from_slice(b"NOT_FOUND\r\n"),
-        Reply::InternalError => out.extend_from_slice(b"INTERNAL_ERROR\r\n"),
+        Reply::Inserted(id) => append_count(b"INSERTED", *id, out),
+        Reply::Using(tube) => append_using(tube, out),
+        Reply::Watching(count) => append_count(b"WATCHING", *count, out),
+        Reply::NotIgnored => append_line(b"NOT_IGNORED", out),
+        Reply::Reserved { id, body } => append_job(b"RESERVED", *id, body, out),
+        Reply::DeadlineSoon => append_line(b"DEADLINE_SOON", out),
+        Reply::TimedOut => append_line(b"TIMED_OUT", out),
+        Reply::Deleted => append_line(b"DELETED", out),
+        Reply::NotFound => append_line(b"NOT_FOUND", out),
+        Reply::Released => append_line(b"RELEASED", out),
+        Reply::Buried => append_line(b"BURIED", out),
+        Reply::Touched => append_line(b"TOUCHED", out),
+        Reply::KickedCount(count) => append_count(b"KICKED", *count, out),
+        Reply::Kicked => append_line(b"KICKED", out),
+        Reply::Found { id, body } => append_job(b"FOUND", *id, body, out),
+        Reply::Tubes(names) => append_tubes(names.as_slice(), out),
+        Reply::InternalError => append_line(b"INTERNAL_ERROR", out),
     }
 }
 
-/// Writes the digits of a number at the end.
-fn append_number(number: u64, out: &mut Vec<u8>) -> Result<(), AllocError>
-    ensures ok { OnOk result (out.new.items ≡ out.old.items ++ decimal number) }
-    ensures err { OnErr result (out.new.items ≡ out.old.items) }
-    ensures full { OnErr result (vec_capacity out.old < vec_len out.old + length (decimal number)) }
-    ensures room { vec_capacity out.old ≤ vec_capacity out.new }
+/// The tube that is used.
+fn append_using(tube: &Name, out: &mut Vec<u8>) -> Result<(), AllocError>
+    ensures ok { OnOk result
+        (out.new.items ≡ out.old.items ++ ended (codes "USING " ++ tube.now)) }
+    ensures front { take (vec_len out.old) out.new.items ≡ out.old.items }
+    ensures full { OnErr result
+        (vec_capacity out.old < vec_len out.old + length (ended (codes "USING " ++ tube.now))) }
 {
-    let mut digits = Buffer::new();
-    out.extend_from_slice(digits.format(number).as_bytes())
+    out.extend_from_slice(b"USING ")?;
+    out.extend_from_slice(tube.as_slice())?;
+    out.extend_from_slice(b"\r\n")
+}
+
+/// A job: a line with the word, its id and the size of its body, and the body.
+#[tactic(auto, unfolding(crate::specs::Replies::job_text))]
+fn append_job(word: &[u8], id: u64, body: &Body, out: &mut Vec<u8>) -> Result<(), AllocError>
+    ensures ok { OnOk result (out.new.items ≡ out.old.items ++ job_text word.now id body.now) }
+    ensures front { take (vec_len out.old) out.new.items ≡ out.old.items }
+    ensures full { OnErr result
+        (vec_capacity out.old < vec_len out.old + length (job_text word.now id body.now)) }
+{
+    let body = body.as_slice();
+    out.extend_from_slice(word)?;
+    out.extend_from_slice(b" ")?;
+    append_number(id, out)?;
+    out.extend_from_slice(b" ")?;
+    append_number(body.len() as u64, out)?;
+    out.extend_from_slice(b"\r\n")?;
+    out.extend_from_slice(body)?;
+    out.extend_from_slice(b"\r\n")
 }
 
 /// Writes the text that answers a fault at the end. Where memory runs out, nothing is written.

@@ -1,26 +1,35 @@
--- A session that is made, and one that is forgotten again.
-use Rattle.std.proofs.Common.{◌≡◌, ℕ, true, false, cond, None, IsSome, is_some, nat_cmp, refl, sym, ap, subst, ◌∙◌}
-use Rattle.std.proofs.lemmas.Bool.{cond-false}
-use Rattle.std.specs.BTreeMap.{insert_entry}
-use Rattle.bean_queue.specs.Entries.{value_at, without}
-use Rattle.bean_queue.specs.Queue.{QueueState, new_session}
-use Rattle.bean_queue.specs.Effects.{called}
-use Rattle.bean_queue.proofs.EntryLaws.{value_at-insert, without-insert}
+-- A session that was called is there.
+use Rattle.std.proofs.Common.{◌≡◌, ℕ, true, false, cond, Option, None, Some, IsSome, is_some, option_map, [], ◌∷◌, refl, sym, ap, subst, ◌∙◌}
+use Rattle.job_store.specs.Entries.{value_at, with_value}
+use Rattle.object.specs.declared.command.Key.{Key}
+use Rattle.bean_queue.specs.declared.op.Op.{Op}
+use Rattle.bean_queue.specs.declared.reply.Reply.{Reply}
+use Rattle.bean_queue.specs.declared.session.Session.{Session}
+use Rattle.bean_queue.specs.Sessions.{new_session, with_wait, ended}
+use Rattle.bean_queue.specs.Queue.{QueueState}
+use Rattle.bean_queue.specs.Rows.{row}
+use Rattle.bean_queue.specs.Turns.{Outcome, serve_turn}
+use Rattle.bean_queue.specs.Effects.{own, called, do_effect, is_quiet}
+use Rattle.bean_queue.specs.EntryLaws.{value_at-altered, value_at-insert}
+use Rattle.bean_queue.proofs.Calm.{quiet-effect}
 
--- a session that was called is there
+still_some : (o : Option Session) → is_some o ≡ true → is_some (option_map (with_wait None) o) ≡ true
+still_some None e = e
+still_some (Some v) e = refl
+
 pub called-there : (s t : QueueState) (x : ℕ) → t ≡ called x s → IsSome (value_at x t.sessions)
 called-there s t x e =
     subst (λ (t : QueueState). IsSome (value_at x t.sessions)) (sym e)
-    (elim (is_some (value_at x s.sessions)) as (λ b. is_some (value_at x s.sessions) ≡ b → is_some (value_at x (cond b s.sessions (insert_entry nat_cmp s.sessions x new_session))) ≡ true) [
-      | true ↦ λ there. there
+    (elim (is_some (value_at x s.sessions)) as (λ b. is_some (value_at x s.sessions) ≡ b → is_some (value_at x (cond b (ended x s.sessions) (with_value x new_session s.sessions))) ≡ true) [
+      | true ↦ λ there. ap is_some (value_at-altered x (with_wait None) s.sessions) ∙ still_some (value_at x s.sessions) there
       | false ↦ λ absent. ap is_some (value_at-insert x new_session s.sessions)
     ] refl)
 
--- the state before, where a session was made and is forgotten
-pub forgotten-again : (s t u w : QueueState) (x : ℕ) → value_at x s.sessions ≡ None → t ≡ called x s → u ≡ t → w ≡ record u { sessions = without x u.sessions } → w ≡ s
-forgotten-again s t u w x absent made same forgot =
-    forgot ∙
-    ap (λ (v : QueueState). let r : QueueState = record v { sessions = without x v.sessions } in r) (same ∙ made) ∙
-    ap (λ sessions. let r : QueueState = record s { sessions = sessions } in r)
-    (ap (without x) (cond-false (is_some (value_at x s.sessions)) s.sessions (insert_entry nat_cmp s.sessions x new_session) (ap is_some absent)) ∙
-    without-insert x new_session s.sessions absent)
+-- the state after a quiet operation, and its answer
+pub quiet-state : (op : Op) (key : Key) (s t u : QueueState) → is_quiet op ≡ true → serve_turn s ≡ None → t ≡ called key.session s → u ≡ (row op key t).state → u ≡ (do_effect op key s).state
+quiet-state op key s t u q calm c e =
+    e ∙ ap (λ t. (row op key t).state) c ∙ sym (ap (λ (o : Outcome). o.state) (quiet-effect op key s q calm))
+
+pub quiet-reply : (op : Op) (key : Key) (s t : QueueState) (reply : Reply) → is_quiet op ≡ true → serve_turn s ≡ None → t ≡ called key.session s → (row op key t).reply ≡ Some reply → (do_effect op key s).answers ≡ record { to = key; reply = reply } ∷ []
+quiet-reply op key s t reply q calm c e =
+    ap (λ (o : Outcome). o.answers) (quiet-effect op key s q calm) ∙ ap (own key) (sym (ap (λ t. (row op key t).reply) c) ∙ e)

@@ -1,63 +1,122 @@
 -- What each command does.
-use Rattle.std.specs.Prelude.{ℕ, List, [], ◌∷◌, nat_lt, if◌then◌else◌}
+use Rattle.std.specs.Prelude.{ℕ, Bool, true, false, ◌+◌, List, [], ◌∷◌, ◌++◌, Option, None, Some, ◌==◌, nat_lt, if◌then◌else◌}
+use Rattle.object.specs.declared.command.Act.{Act}
 use Rattle.object.specs.declared.command.Answer.{Answer}
 use Rattle.object.specs.declared.command.Command.{Command}
 use Rattle.object.specs.declared.command.Key.{Key}
-use Rattle.object.specs.declared.command.Act.{Act}
-use Rattle.bean_queue.specs.declared.job.Job.{Job}
-use Rattle.bean_queue.specs.declared.job.State.{State}
+use Rattle.job_store.specs.declared.job.Job.{Job}
+use Rattle.job_store.specs.declared.state.State.{State}
+use Rattle.job_store.specs.Entries.{without, each_value}
+use Rattle.job_store.specs.States.{is_due, is_held, with_state}
 use Rattle.bean_queue.specs.declared.op.Op.{Op}
 use Rattle.bean_queue.specs.declared.reply.Reply.{Reply}
-use Rattle.bean_queue.specs.Entries.{each_value, without}
-use Rattle.bean_queue.specs.Queue.{QueueState, known, is_held, is_due, with_state}
+use Rattle.bean_queue.specs.Sessions.{session_of, known, ended, is_waiting}
+use Rattle.bean_queue.specs.Queue.{QueueState, with_sessions, holds_by}
 use Rattle.bean_queue.specs.Rows.{Row, row}
+use Rattle.bean_queue.specs.Turns.{Outcome, stop, serve, all_turns, deadline_turn, timeout_turn}
 
--- the state after a command, and the answers that it brings
-pub record Outcome : Type 0 where
-  pub state : QueueState
-  pub answers : List (Answer Reply)
+-- one outcome, and then what comes of its state
+abbrev pub then_do : Outcome → (QueueState → Outcome) → Outcome
+then_do o f = let p = f o.state in record { state = p.state; answers = o.answers ++ p.answers }
 
--- no answer
-abbrev pub silent : QueueState → Outcome
-silent s = record { state = s; answers = [] }
+-- the answer to the command itself, if it has a reply by now
+abbrev pub own : Key → Option Reply → List (Answer Reply)
+own key None = []
+own key (Some reply) = record { to = key; reply = reply } ∷ []
 
--- the one answer, to the command itself
-abbrev pub answered : Key → Row → Outcome
-answered key r = record { state = r.state; answers = record { to = key; reply = r.reply } ∷ [] }
+-- the state after the command's own part, and its own answer
+abbrev pub own_outcome : Key → Row → Outcome
+own_outcome key r = record { state = r.state; answers = own key r.reply }
 
--- the state in which session x is told a reply: it is there
+-- session x is there, and a wait of its own has ended without an answer
 abbrev pub called : ℕ → QueueState → QueueState
-called x s = record s { sessions = known x s.sessions }
+called x s = with_sessions s (known x s.sessions)
 
--- an operation is answered by its reply, after its session is made if it is not there
+-- the command that waits is answered
+abbrev pub waited_for : QueueState → Key → Reply → Outcome
+waited_for s key reply = own_outcome key (record { state = with_sessions s (ended key.session s.sessions); reply = Some reply })
+
+-- the seconds are none
+abbrev pub is_zero : Option ℕ → Bool
+is_zero None = false
+is_zero (Some seconds) = seconds == 0
+
+-- a reserve that got no job is told of a job of its session that is due within a second, or that it may not wait
+-- (protocol.txt of beanstalkd, "reserve": DEADLINE_SOON, and "reserve-with-timeout")
+unfoldable pub settled : Op → Key → QueueState → Outcome
+settled (Op.Reserve seconds) key s =
+    if is_waiting (session_of key.session s.sessions)
+    then
+    (if holds_by key.session (s.now + 1) s.jobs
+    then waited_for s key Reply.DeadlineSoon
+    else (if is_zero seconds then waited_for s key Reply.TimedOut else stop s))
+    else stop s
+settled _ key s = stop s
+
+-- an operation: its own answer, then those of waiting sessions
 unfoldable pub do_effect : Op → Key → QueueState → Outcome
-do_effect op key s = answered key (row op key.session (called key.session s))
+do_effect op key s =
+    then_do (then_do (own_outcome key (row op key (called key.session s))) serve) (settled op key)
 
 -- the job is ready again if session x has it
 abbrev pub released_by : ℕ → Job → Job
 released_by x job = if is_held x job.state then with_state State.Ready job else job
 
--- session x gives its jobs back and is gone
-unfoldable pub close_effect : ℕ → QueueState → Outcome
-close_effect x s = silent (record s { jobs = each_value (released_by x) s.jobs; sessions = without x s.sessions })
+-- session x waits no longer, and its jobs are ready again
+abbrev pub released : ℕ → QueueState → QueueState
+released x s = record s { jobs = each_value (released_by x) s.jobs; sessions = ended x s.sessions }
 
--- the job is ready again if its time is over at this second (protocol.txt of beanstalkd, "put": ttr)
+-- session x is gone
+abbrev pub forgotten : ℕ → QueueState → QueueState
+forgotten x s = with_sessions s (without x s.sessions)
+
+-- the end of session x: others may get its jobs
+unfoldable pub close_effect : ℕ → QueueState → Outcome
+close_effect x s = let o = serve (released x s) in record { state = forgotten x o.state; answers = o.answers }
+
+-- the job is ready if its delay or its time to run is over at this second (protocol.txt of beanstalkd, "put": delay
+-- and ttr)
 abbrev pub come_due : ℕ → Job → Job
 come_due second job = if is_due second job.state then with_state State.Ready job else job
+
+-- it is this second
+abbrev pub at_second : ℕ → QueueState → QueueState
+at_second second s = record s { now = second; jobs = each_value (come_due second) s.jobs }
 
 -- a second above now comes, and a lesser one does nothing
 unfoldable pub tick_effect : ℕ → QueueState → Outcome
 tick_effect second s =
     if nat_lt s.now second
-    then silent (record s { now = second; jobs = each_value (come_due second) s.jobs })
-    else silent s
+    then then_do (then_do (serve (at_second second s)) (all_turns deadline_turn)) (all_turns timeout_turn)
+    else stop s
 
 -- what an act under this key does
-abbrev pub act_effect : Act Op → Key → QueueState → Outcome
+unfoldable pub act_effect : Act Op → Key → QueueState → Outcome
 act_effect (Act.Do op) key s = do_effect op key s
 act_effect Act.Close key s = close_effect key.session s
 act_effect Act.Tick key s = tick_effect key.number s
 
 -- what a command does
-abbrev pub effect : Command Op → QueueState → Outcome
+unfoldable pub effect : Command Op → QueueState → Outcome
 effect c s = act_effect c.act c.key s
+
+-- the operation makes no job ready and lets nobody wait, so nobody is served after it
+abbrev pub is_quiet : Op → Bool
+is_quiet (Op.Put pri delay ttr body) = false
+is_quiet (Op.Use tube) = true
+is_quiet (Op.Watch tube) = true
+is_quiet (Op.Ignore tube) = true
+is_quiet (Op.Reserve seconds) = false
+is_quiet (Op.Delete id) = true
+is_quiet (Op.Touch id) = true
+is_quiet (Op.Release id pri delay) = false
+is_quiet (Op.Bury id pri) = true
+is_quiet (Op.Kick bound) = false
+is_quiet (Op.KickJob id) = false
+is_quiet (Op.Peek id) = true
+is_quiet Op.PeekReady = true
+is_quiet Op.PeekDelayed = true
+is_quiet Op.PeekBuried = true
+is_quiet Op.ListTubes = true
+is_quiet Op.ListTubeUsed = true
+is_quiet Op.ListTubesWatched = true

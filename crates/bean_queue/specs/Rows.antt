@@ -1,78 +1,228 @@
--- What each operation of a session does: the state after, and the reply.
-use Rattle.std.specs.Prelude.{ℕ, ◌+◌, ◌^◌, max, Bool, true, false, List, [], ◌∷◌, ◌++◌, Option, None, Some, ◌==◌, if◌then◌else◌}
-use Rattle.bean_queue.specs.declared.job.Job.{Job}
-use Rattle.bean_queue.specs.declared.job.State.{State}
+-- What each operation does before waiting sessions are served: the state after, and the operation's own reply.
+use Rattle.std.specs.Prelude.{ℕ, zero, suc, ◌+◌, ◌^◌, max, Bool, true, false, ◌||◌, List, [], ◌∷◌, ◌++◌, map, flat_map, fold, Option, None, Some, ◌==◌, length, is_some, codes, if◌then◌else◌}
+use Rattle.std.specs.Ordering.{nat_cmp}
+use Rattle.std.specs.Cmp.Lexicographic.{slice_cmp}
+use Rattle.std.specs.BTreeSet.{insert_key}
+use Rattle.object.specs.declared.command.Key.{Key}
+use Rattle.job_store.specs.declared.job.Job.{Job}
+use Rattle.job_store.specs.declared.state.State.{State}
+use Rattle.job_store.specs.Entries.{value_at, with_value, altered, without}
+use Rattle.job_store.specs.States.{is_held, is_delayed, is_buried, with_state, with_pri_and_state}
+use Rattle.job_store.specs.LookUps.{first_ready, first_delayed, first_buried}
 use Rattle.bean_queue.specs.declared.op.Op.{Op}
 use Rattle.bean_queue.specs.declared.reply.Reply.{Reply}
-use Rattle.bean_queue.specs.Entries.{value_at, altered, without}
-use Rattle.bean_queue.specs.Queue.{QueueState, session_of, with_state, holds_by}
-use Rattle.bean_queue.specs.Best.{best_job}
+use Rattle.bean_queue.specs.declared.session.Session.{Session}
+use Rattle.bean_queue.specs.Sessions.{with_wait}
+use Rattle.bean_queue.specs.WatchLists.{joined, left_out, is_alone}
+use Rattle.bean_queue.specs.Queue.{QueueState, with_jobs, used_by, watched_by}
 
--- the state after an operation, and the reply to it
+-- the state after an operation, and its own reply, if it has one by now
 pub record Row : Type 0 where
   pub state : QueueState
-  pub reply : Reply
+  pub reply : Option Reply
 
 -- this state, and this reply
 abbrev pub replies : QueueState → Reply → Row
-replies s reply = record { state = s; reply = reply }
+replies s reply = record { state = s; reply = Some reply }
 
--- the state, with these jobs
-abbrev pub with_jobs : QueueState → List (ℕ × Job) → QueueState
-with_jobs s jobs = record s { jobs = jobs }
+-- the state, with session x changed
+abbrev pub with_session : QueueState → ℕ → (Session → Session) → QueueState
+with_session s x f = record s { sessions = altered x f s.sessions }
 
--- a new job of session x: ready, in the tube that it uses, with a second to run at least (protocol.txt of
--- beanstalkd, "put": ttr)
-abbrev pub put_job : QueueState → ℕ → ℕ → ℕ → List ℕ → Job
-put_job s x pri ttr body =
-    record { tube = (session_of x s.sessions).used; pri = pri; ttr = max ttr 1; body = body; state = State.Ready }
+-- Ready, or Delayed where there is a delay (protocol.txt of beanstalkd, "put": delay)
+abbrev pub ready_after : ℕ → ℕ → State
+ready_after now delay = if delay == 0 then State.Ready else State.Delayed (now + delay)
 
--- the job goes last, under the next id, unless no id is left (protocol.txt of beanstalkd, "put")
-unfoldable pub put_row : QueueState → ℕ → ℕ → ℕ → List ℕ → Row
-put_row s x pri ttr body =
+-- a new job of session x: in the tube that it uses, with a second to run at least (protocol.txt of beanstalkd,
+-- "put": ttr)
+abbrev pub put_job : QueueState → ℕ → ℕ → ℕ → ℕ → List ℕ → Job
+put_job s x pri delay ttr body =
+    record { tube = used_by s x; pri = pri; ttr = max ttr 1; body = body; state = ready_after s.now delay }
+
+-- the job stands under the next id, unless no id is left (protocol.txt of beanstalkd, "put")
+unfoldable pub put_row : QueueState → ℕ → ℕ → ℕ → ℕ → List ℕ → Row
+put_row s x pri delay ttr body =
     if s.next_id == 2 ^ 63
     then replies s Reply.InternalError
     else
     replies
-    (record s { next_id = s.next_id + 1; jobs = s.jobs ++ (s.next_id, put_job s x pri ttr body) ∷ [] })
+    (record s { next_id = s.next_id + 1; jobs = with_value s.next_id (put_job s x pri delay ttr body) s.jobs })
     (Reply.Inserted s.next_id)
 
--- session x gets the job until its time to run is over, or is told that there is none, and whether one of its
--- own is due within a second (protocol.txt of beanstalkd, "reserve": DEADLINE_SOON)
-abbrev pub given : QueueState → ℕ → Option (ℕ × Job) → Row
-given s x None = replies s (if holds_by x (s.now + 1) s.jobs then Reply.DeadlineSoon else Reply.TimedOut)
-given s x (Some e) =
-    replies
-    (with_jobs s (altered e.0 (with_state (State.Reserved x (s.now + e.1.ttr))) s.jobs))
-    (Reply.Reserved e.0 e.1.body)
+-- session x uses the tube (protocol.txt of beanstalkd, "use")
+unfoldable pub use_row : QueueState → ℕ → List ℕ → Row
+use_row s x tube = replies (with_session s x (λ c. record c { used = tube })) (Reply.Using tube)
 
--- a reserve takes a rank and the best job, unless no rank is left (protocol.txt of beanstalkd, "reserve")
-unfoldable pub reserve_row : QueueState → ℕ → Row
-reserve_row s x =
+-- session x watches other tubes, and is told how many
+abbrev pub with_watched : QueueState → ℕ → (List (List ℕ) → List (List ℕ)) → Row
+with_watched s x f =
+    replies (with_session s x (λ c. record c { watched = f c.watched })) (Reply.Watching (length (f (watched_by s x))))
+
+-- the tube is watched too (protocol.txt of beanstalkd, "watch")
+unfoldable pub watch_row : QueueState → ℕ → List ℕ → Row
+watch_row s x tube = with_watched s x (joined tube)
+
+-- the tube is watched no more, unless it is the only one (protocol.txt of beanstalkd, "ignore")
+unfoldable pub ignore_row : QueueState → ℕ → List ℕ → Row
+ignore_row s x tube =
+    if is_alone tube (watched_by s x) then replies s Reply.NotIgnored else with_watched s x (left_out tube)
+
+-- the second in which a wait of so many seconds is over, where it ends at all
+abbrev pub time_out : ℕ → Option ℕ → Option ℕ
+time_out now None = None
+time_out now (Some seconds) = Some (now + seconds)
+
+-- from now on session x waits, by its command of this number
+abbrev pub waiting : QueueState → ℕ → ℕ → Option ℕ → QueueState
+waiting s x number seconds =
+    record s {
+      next_rank = s.next_rank + 1;
+      sessions =
+          altered
+          x
+          (with_wait (Some (record { number = number; rank = s.next_rank; time_out = time_out s.now seconds })))
+          s.sessions;
+    }
+
+-- session x waits under the next rank, unless no rank is left (protocol.txt of beanstalkd, "reserve")
+unfoldable pub reserve_row : QueueState → ℕ → ℕ → Option ℕ → Row
+reserve_row s x number seconds =
     if s.next_rank == 2 ^ 63
     then replies s Reply.InternalError
-    else
-    given (record s { next_rank = s.next_rank + 1 }) x (best_job (session_of x s.sessions).watched s.jobs)
+    else record { state = waiting s x number seconds; reply = None }
 
--- a job in this state may be deleted by session x
+-- nobody but session x has the job
 abbrev pub may_delete : ℕ → State → Bool
 may_delete x State.Ready = true
+may_delete x (State.Delayed due) = true
 may_delete x (State.Reserved y due) = x == y
+may_delete x (State.Buried rank) = true
 
 -- there is a job, and its state passes
 abbrev pub is_found : (State → Bool) → Option Job → Bool
 is_found test None = false
 is_found test (Some job) = test job.state
 
--- a job that is ready, or that the session has, goes (protocol.txt of beanstalkd, "delete")
+-- a job that nobody else has goes (protocol.txt of beanstalkd, "delete")
 unfoldable pub delete_row : QueueState → ℕ → ℕ → Row
 delete_row s x id =
     if is_found (may_delete x) (value_at id s.jobs)
     then replies (with_jobs s (without id s.jobs)) Reply.Deleted
     else replies s Reply.NotFound
 
--- what an operation of session x does
-abbrev pub row : Op → ℕ → QueueState → Row
-row (Op.Put pri ttr body) x s = put_row s x pri ttr body
-row Op.Reserve x s = reserve_row s x
-row (Op.Delete id) x s = delete_row s x id
+-- the job at an id is changed, if session x has it
+abbrev pub held_row : QueueState → ℕ → ℕ → (Job → Job) → Reply → Row
+held_row s x id f reply =
+    if is_found (is_held x) (value_at id s.jobs)
+    then replies (with_jobs s (altered id f s.jobs)) reply
+    else replies s Reply.NotFound
+
+-- session x gives a job back (protocol.txt of beanstalkd, "release")
+unfoldable pub release_row : QueueState → ℕ → ℕ → ℕ → ℕ → Row
+release_row s x id pri delay = held_row s x id (with_pri_and_state pri (ready_after s.now delay)) Reply.Released
+
+-- the time to run of a job of session x begins anew (protocol.txt of beanstalkd, "touch")
+unfoldable pub touch_row : QueueState → ℕ → ℕ → Row
+touch_row s x id = held_row s x id (λ job. with_state (State.Reserved x (s.now + job.ttr)) job) Reply.Touched
+
+-- session x lays a job aside, under the next rank unless none is left (protocol.txt of beanstalkd, "bury")
+unfoldable pub bury_row : QueueState → ℕ → ℕ → ℕ → Row
+bury_row s x id pri =
+    if s.next_rank == 2 ^ 63
+    then replies s Reply.InternalError
+    else
+    (if is_found (is_held x) (value_at id s.jobs)
+    then
+    replies
+    (record s {
+      next_rank = s.next_rank + 1;
+      jobs = altered id (with_pri_and_state pri (State.Buried s.next_rank)) s.jobs;
+    })
+    Reply.Buried
+    else replies s Reply.NotFound)
+
+-- jobs, and how many of them were kicked
+pub record Kicked : Type 0 where
+  pub jobs : List (ℕ × Job)
+  pub count : ℕ
+
+-- one more was kicked
+abbrev pub and_one : Kicked → Kicked
+and_one k = record { jobs = k.jobs; count = k.count + 1 }
+
+-- the job that is picked is kicked, and then more are; none where none is picked
+abbrev pub kicked_option : (List (ℕ × Job) → Kicked) → List (ℕ × Job) → Option (ℕ × Job) → Kicked
+kicked_option more jobs None = record { jobs = jobs; count = 0 }
+kicked_option more jobs (Some e) = and_one (more (altered e.0 (with_state State.Ready) jobs))
+
+-- up to n of the jobs that `pick` picks in turn are ready
+unfoldable pub kicked : (List (ℕ × Job) → Option (ℕ × Job)) → ℕ → List (ℕ × Job) → Kicked
+kicked pick zero jobs = record { jobs = jobs; count = 0 }
+kicked pick (suc n) jobs = let more = kicked pick n in kicked_option more jobs (pick jobs)
+
+-- these jobs, and their number as the reply
+abbrev pub kick_by : QueueState → Kicked → Row
+kick_by s k = replies (with_jobs s k.jobs) (Reply.KickedCount k.count)
+
+-- up to `bound` buried jobs of the used tube are ready, by rank; where it has none, delayed ones, by the second
+-- that is due (protocol.txt of beanstalkd, "kick")
+unfoldable pub kick_row : QueueState → ℕ → ℕ → Row
+kick_row s x bound =
+    let tube = used_by s x in
+    kick_by
+    s
+    (kicked (if is_some (first_buried tube s.jobs) then first_buried tube else first_delayed tube) bound s.jobs)
+
+-- the job is buried or delayed
+abbrev pub is_idle : State → Bool
+is_idle state = is_buried state || is_delayed state
+
+-- a job that is buried or delayed is ready (protocol.txt of beanstalkd, "kick-job")
+unfoldable pub kick_job_row : QueueState → ℕ → Row
+kick_job_row s id =
+    if is_found is_idle (value_at id s.jobs)
+    then replies (with_jobs s (altered id (with_state State.Ready) s.jobs)) Reply.Kicked
+    else replies s Reply.NotFound
+
+-- the job that was looked for
+abbrev pub shown : Option (ℕ × Job) → Reply
+shown None = Reply.NotFound
+shown (Some e) = Reply.Found e.0 e.1.body
+
+-- the job at an id, with the id
+abbrev pub at_id : ℕ → List (ℕ × Job) → Option (ℕ × Job)
+at_id id jobs = elim (value_at id jobs) [ None ↦ None | Some job ↦ Some (id, job) ]
+
+-- a job is looked for (protocol.txt of beanstalkd, "peek")
+unfoldable pub peek_row : QueueState → Option (ℕ × Job) → Row
+peek_row s found = replies s (shown found)
+
+-- the names, each once, by their bytes
+abbrev pub in_order : List (List ℕ) → List (List ℕ)
+in_order names = fold (insert_key (slice_cmp nat_cmp)) [] names
+
+-- `default`, and each tube that has a job, or is used or watched (protocol.txt of beanstalkd, "list-tubes")
+unfoldable pub all_tubes : QueueState → List (List ℕ)
+all_tubes s =
+    in_order (codes "default" ∷ map (λ e. e.1.tube) s.jobs ++ flat_map (λ e. e.1.used ∷ e.1.watched) s.sessions)
+
+-- what an operation under this key does
+unfoldable pub row : Op → Key → QueueState → Row
+row (Op.Put pri delay ttr body) key s = put_row s key.session pri delay ttr body
+row (Op.Use tube) key s = use_row s key.session tube
+row (Op.Watch tube) key s = watch_row s key.session tube
+row (Op.Ignore tube) key s = ignore_row s key.session tube
+row (Op.Reserve seconds) key s = reserve_row s key.session key.number seconds
+row (Op.Delete id) key s = delete_row s key.session id
+row (Op.Touch id) key s = touch_row s key.session id
+row (Op.Release id pri delay) key s = release_row s key.session id pri delay
+row (Op.Bury id pri) key s = bury_row s key.session id pri
+row (Op.Kick bound) key s = kick_row s key.session bound
+row (Op.KickJob id) key s = kick_job_row s id
+row (Op.Peek id) key s = peek_row s (at_id id s.jobs)
+row Op.PeekReady key s = peek_row s (first_ready (used_by s key.session) s.jobs)
+row Op.PeekDelayed key s = peek_row s (first_delayed (used_by s key.session) s.jobs)
+row Op.PeekBuried key s = peek_row s (first_buried (used_by s key.session) s.jobs)
+row Op.ListTubes key s = replies s (Reply.Tubes (all_tubes s))
+row Op.ListTubeUsed key s = replies s (Reply.Using (used_by s key.session))
+row Op.ListTubesWatched key s = replies s (Reply.Tubes (watched_by s key.session))

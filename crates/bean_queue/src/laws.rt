@@ -1,15 +1,43 @@
-ghost use Rattle.std.specs.Prelude.{◌≡◌, ℕ, List, Some, IfSome, IfNone};
-ghost use Rattle.bean_queue.specs.declared.job.Job.{Job};
-ghost use Rattle.bean_queue.specs.Entries.{Rising};
-ghost use Rattle.bean_queue.specs.Best.{IsBest, NoneIsWanted, best_job};
+ghost use Rattle.std.specs.Prelude.{◌≡◌, ℕ, List, map, None, Some, true};
+ghost use Rattle.object.specs.declared.command.Command.{Command};
+ghost use Rattle.object.specs.Answers.{AnswersOnce};
+ghost use Rattle.bean_queue.specs.declared.op.Op.{Op};
+ghost use Rattle.bean_queue.specs.Places.{places, placed_from, queue_replay, HasDistinctKeys};
+ghost use Rattle.bean_queue.specs.Holds.{IsGivenOnce, IsHeldByOne};
+ghost use Rattle.job_store.specs.LookUps.{best_ready};
+ghost use Rattle.bean_queue.specs.declared.session.Session.{Session};
+ghost use Rattle.bean_queue.specs.Best.{IsBestTurn};
+ghost use Rattle.bean_queue.specs.Queue.{QueueState};
+ghost use Rattle.bean_queue.specs.Sessions.{is_waiting};
+ghost use Rattle.bean_queue.specs.Turns.{Turn, serve_turn, serve};
+ghost use Rattle.object.specs.Lists.{In};
 
-/// The job that a reserve takes is ready, in a watched tube, and of no such job is (pri, id) smaller.
-/// A reserve that takes none finds no such job. Where no id stands twice, no other job is best.
-pub fn best_job_is_best()
-    ensures found { (watched : List (List ℕ)) (jobs : List (ℕ × Job))
-        → IfSome (best_job watched jobs) (IsBest watched jobs) }
-    ensures none { (watched : List (List ℕ)) (jobs : List (ℕ × Job))
-        → IfNone (best_job watched jobs) (NoneIsWanted watched jobs) }
-    ensures only { (watched : List (List ℕ)) (jobs : List (ℕ × Job)) (lo hi : ℕ) (e : ℕ × Job)
-        → Rising lo hi jobs → IsBest watched jobs e → best_job watched jobs ≡ Some e }
+use crate::session::Session;
+use job_store::{Job, least_is_least};
+
+/// No job is held by two sessions at once, whatever commands a new queue obeys, be their keys distinct or not: no
+/// place gives two RESERVED of one job; and where a session gets a job and the job is given again later, the first
+/// hold ended between, in one of the ways that `Ends` lists. The places are those of the replay.
+pub fn one_holder()
+    ensures once { (commands : List (Command Op)) → IsGivenOnce (places commands) }
+    ensures ended { (commands : List (Command Op)) → IsHeldByOne (places commands) }
+    ensures replay { (commands : List (Command Op)) → queue_replay commands ≡ placed_from 0 (places commands) }
 {}
+
+/// Where no key stands twice among the commands that a new queue obeys, no key is answered twice.
+pub fn one_answer()
+    ensures { (commands : List (Command Op)) → HasDistinctKeys commands →
+        AnswersOnce (map (λ p. p.answer) (queue_replay commands)) }
+{}
+
+/// Serve gives the most urgent job that is wanted, to the session that has waited longest for its tube; and it goes on
+/// until there is no ready job in a tube that a waiting session watches.
+pub fn serve_gives_the_best()
+    ensures turn { (s : QueueState) (t : Turn) → serve_turn s ≡ Some t → IsBestTurn s t }
+    ensures end { (s : QueueState) (w : ℕ × Session) → In w (serve s).state.sessions → is_waiting w.1 ≡ true →
+        best_ready w.1.watched (serve s).state.jobs ≡ None }
+{
+    // What is least is least, of jobs and of sessions.
+    least_is_least::<Job>();
+    least_is_least::<Session>();
+}

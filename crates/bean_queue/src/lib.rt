@@ -1,24 +1,26 @@
-//! The work queue: jobs, sessions, and what each command does to them.
+//! The work queue: sessions, and what each command does to them and to the jobs.
 #![tactic(auto)]
 
-mod body;
-mod job;
+mod counters;
+mod job_draft;
 mod laws;
-mod name;
+mod logic;
+mod names;
 mod op;
-mod plain_queue;
+mod queue;
+mod ready_again;
 mod reply;
-mod scan;
 mod session;
-mod states;
-#[cfg(test)]
-mod tests;
+mod session_change;
+mod session_draft;
+mod waiting;
+mod watch_list;
 
-pub use body::Body;
-pub use job::{Job, State};
-pub use laws::best_job_is_best;
-pub use name::{Name, Names};
+pub use job_store::{Body, Job, Name, State};
+pub use laws::{one_answer, one_holder, serve_gives_the_best};
+pub use names::Names;
 pub use op::Op;
-pub use plain_queue::PlainQueue;
+pub use queue::{PlainQueue, Queue, QueueOver};
 pub use reply::Reply;
-pub use session::Session;
+pub use session::{Session, Wait};
+pub use watch_list::WatchList;

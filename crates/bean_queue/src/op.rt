@@ -1,16 +1,92 @@
-use crate::body::Body;
+use job_store::{Body, Name};
 use object::Value;
 use std::alloc::AllocError;
 
-/// What a session may ask of the queue.
+/// What a session may ask of the queue. Seconds are counted from the queue's clock.
 #[derive(Drop, PartialEq, Eq)]
 pub enum Op {
-    /// A new job, of a priority and with so many seconds to run.
-    Put { pri: u32, ttr: u32, body: Body },
-    /// The best job, or the answer at once that there is none.
-    Reserve,
+    /// A new job in the used tube. The least priority is the most urgent; it is ready after `delay` seconds, and
+    /// who reserves it has it for `ttr` seconds, 1 at least.
+    Put {
+        pri: u32,
+        delay: u32,
+        ttr: u32,
+        body: Body,
+    },
+    /// Later jobs go into this tube.
+    Use(Name),
+    /// Jobs of this tube may be reserved too.
+    Watch(Name),
+    /// Jobs of this tube may not be reserved from now on, unless it is the only one that is watched.
+    Ignore(Name),
+    /// The best job, waited for without end, or for so many seconds.
+    Reserve {
+        seconds: Option<u32>,
+    },
     /// The end of the job with this id.
     Delete(u64),
+    /// The time to run of the job with this id begins anew.
+    Touch(u64),
+    /// The job goes back, under a new priority, and is ready after `delay` seconds.
+    Release {
+        id: u64,
+        pri: u32,
+        delay: u32,
+    },
+    /// The job is laid aside, under a new priority, until it is kicked.
+    Bury {
+        id: u64,
+        pri: u32,
+    },
+    /// At most so many jobs of the used tube are ready again: buried ones, or else delayed ones.
+    Kick(u32),
+    /// The job with this id is ready again, if it is buried or delayed.
+    KickJob(u64),
+    /// The job with this id.
+    Peek(u64),
+    /// The next ready job of the used tube.
+    PeekReady,
+    /// The delayed job of the used tube that is ready first.
+    PeekDelayed,
+    /// The job of the used tube that was buried first.
+    PeekBuried,
+    /// All tubes.
+    ListTubes,
+    /// The used tube.
+    ListTubeUsed,
+    /// The watched tubes.
+    ListTubesWatched,
+}
+
+impl Op {
+    ghost use Rattle.std.specs.Prelude.{◌≡◌};
+    ghost use Rattle.bean_queue.specs.Effects.{is_quiet};
+
+    /// Whether it makes no job ready and lets nobody wait, so that nobody is served after it.
+    pub(crate) fn is_quiet(&self) -> bool
+        ensures { result ≡ is_quiet self.now }
+    {
+        match self {
+            Op::Put { .. }
+            | Op::Reserve { .. }
+            | Op::Release { .. }
+            | Op::Kick(_)
+            | Op::KickJob(_) => false,
+            Op::Use(_)
+            | Op::Watch(_)
+            | Op::Ignore(_)
+            | Op::Delete(_)
+            | Op::Touch(_)
+            | Op::Bury { .. }
+            | Op::Peek(_)
+            | Op::PeekReady
+            | Op::PeekDelayed
+            | Op::PeekBuried
+            | Op::ListTubes
+            | Op::ListTubeUsed
+            | Op::ListTubesWatched => true,
+        }
+    }
 }
 
 impl Value for Op {
@@ -20,14 +96,39 @@ impl Value for Op {
     ghost exact = { Prim.grind (rules, common_steps) };
 
     fn copy(&self) -> Result<Self, AllocError> {
-        match self {
-            Op::Put { pri, ttr, body } => Ok(Op::Put {
+        Ok(match self {
+            Op::Put {
+                pri,
+                delay,
+                ttr,
+                body,
+            } => Op::Put {
                 pri: *pri,
+                delay: *delay,
                 ttr: *ttr,
                 body: body.copy()?,
-            }),
-            Op::Reserve => Ok(Op::Reserve),
-            Op::Delete(id) => Ok(Op::Delete(*id)),
-        }
+            },
+            Op::Use(tube) => Op::Use(tube.copy()?),
+            Op::Watch(tube) => Op::Watch(tube.copy()?),
+            Op::Ignore(tube) => Op::Ignore(tube.copy()?),
+            Op::Reserve { seconds } => Op::Reserve { seconds: *seconds },
+            Op::Delete(id) => Op::Delete(*id),
+            Op::Touch(id) => Op::Touch(*id),
+            Op::Release { id, pri, delay } => Op::Release {
+                id: *id,
+                pri: *pri,
+                delay: *delay,
+            },
+            Op::Bury { id, pri } => Op::Bury { id: *id, pri: *pri },
+            Op::Kick(bound) => Op::Kick(*bound),
+            Op::KickJob(id) => Op::KickJob(*id),
+            Op::Peek(id) => Op::Peek(*id),
+            Op::PeekReady => Op::PeekReady,
+            Op::PeekDelayed => Op::PeekDelayed,
+            Op::PeekBuried => Op::PeekBuried,
+            Op::ListTubes => Op::ListTubes,
+            Op::ListTubeUsed => Op::ListTubeUsed,
+            Op::ListTubesWatched => Op::ListTubesWatched,
+        })
     }
 }

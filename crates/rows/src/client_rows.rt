@@ -15,7 +15,7 @@ struct Row {
     output: &'static [Part],
 }
 
-static ROWS: [Row; 34] = [
+static ROWS: [Row; 44] = [
     Row {
         name: "a put, a reserve and a delete",
         input: &[Text(b"put 10 0 60 5\r\nhello\r\nreserve-with-timeout 0\r\ndelete 1\r\n")],
@@ -32,9 +32,9 @@ static ROWS: [Row; 34] = [
         output: &[Text(b"INSERTED 1\r\nRESERVED 1 0\r\n\r\nDEADLINE_SOON\r\n")],
     },
     Row {
-        name: "a body that isn't ended, a job that isn't there, a word that isn't known",
+        name: "a body that isn't ended, a job that isn't there, a tube to watch",
         input: &[Text(b"put 0 0 1 1\r\naxxdelete 9\r\nwatch a\r\n")],
-        output: &[Text(b"EXPECTED_CRLF\r\nNOT_FOUND\r\nUNKNOWN_COMMAND\r\n")],
+        output: &[Text(b"EXPECTED_CRLF\r\nNOT_FOUND\r\nWATCHING 2\r\n")],
     },
     Row {
         name: "nothing is answered after quit",
@@ -99,10 +99,10 @@ static ROWS: [Row; 34] = [
     },
     Row {
         name: "words that aren't known",
-        input: &[Text(b"stats\r\nPUT 0 0 1 1\r\nreserve\r\nputs 0 0 1 1\r\npu\r\n")],
+        input: &[Text(b"stats\r\nPUT 0 0 1 1\r\nreserve-job 1\r\nputs 0 0 1 1\r\npu\r\npause-tube a 1\r\n")],
         output: &[
             Text(b"UNKNOWN_COMMAND\r\nUNKNOWN_COMMAND\r\nUNKNOWN_COMMAND\r\n"),
-            Text(b"UNKNOWN_COMMAND\r\nUNKNOWN_COMMAND\r\n"),
+            Text(b"UNKNOWN_COMMAND\r\nUNKNOWN_COMMAND\r\nUNKNOWN_COMMAND\r\n"),
         ],
     },
     Row {
@@ -119,7 +119,8 @@ static ROWS: [Row; 34] = [
         name: "numbers out of range",
         input: &[
             Text(b"put 4294967296 0 1 1\r\nput 0 0 4294967296 1\r\nput 0 0 1 4294967296\r\n"),
-            Text(b"delete 18446744073709551616\r\nput 0 1 1 1\r\nreserve-with-timeout 1\r\n"),
+            Text(b"delete 18446744073709551616\r\nput 0 4294967296 1 1\r\n"),
+            Text(b"reserve-with-timeout 4294967296\r\n"),
         ],
         output: &[
             Text(b"BAD_FORMAT\r\nBAD_FORMAT\r\nBAD_FORMAT\r\n"),
@@ -235,6 +236,93 @@ static ROWS: [Row; 34] = [
         output: &[Text(b"BAD_FORMAT\r\nUNKNOWN_COMMAND\r\n")],
     },
     Row {
+        name: "a reserve without end, and a job that is due",
+        input: &[Text(b"put 0 0 0 0\r\n\r\nreserve\r\nreserve\r\n")],
+        output: &[Text(b"INSERTED 1\r\nRESERVED 1 0\r\n\r\nDEADLINE_SOON\r\n")],
+    },
+    Row {
+        name: "the largest body, one a byte too large, and the next line",
+        input: &[
+            Text(b"put 0 0 1 65535\r\n"),
+            Times(65535, b'a'),
+            Text(b"\r\nput 0 0 1 65536\r\n"),
+            Times(65536, b'a'),
+            Text(b"\r\nlist-tube-used\r\n"),
+        ],
+        output: &[Text(b"INSERTED 1\r\nJOB_TOO_BIG\r\nUSING default\r\n")],
+    },
+    Row {
+        name: "a body that isn't ended, and the next line",
+        input: &[Text(b"put 0 0 1 1\r\naxxlist-tube-used\r\n")],
+        output: &[Text(b"EXPECTED_CRLF\r\nUSING default\r\n")],
+    },
+    Row {
+        name: "reserves in the order of priority, and a refused line with its body",
+        input: &[
+            Text(b"put 4294967295 0 9 1\r\na\r\nput 0 0 9 1\r\nb\r\nput 0 0 9 1\r\nc\r\n"),
+            Text(b"reserve\r\nreserve\r\nreserve\r\nput 4294967296 0 9 1\r\nd\r\n"),
+        ],
+        output: &[
+            Text(b"INSERTED 1\r\nINSERTED 2\r\nINSERTED 3\r\n"),
+            Text(b"RESERVED 2 1\r\nb\r\nRESERVED 3 1\r\nc\r\nRESERVED 1 1\r\na\r\n"),
+            Text(b"BAD_FORMAT\r\nUNKNOWN_COMMAND\r\n"),
+        ],
+    },
+    Row {
+        name: "the longest name, and one a byte too long",
+        input: &[
+            Text(b"ignore default\r\nwatch "),
+            Times(200, b'n'),
+            Text(b"\r\nwatch "),
+            Times(201, b'n'),
+            Text(b"\r\nignore default\r\n"),
+        ],
+        output: &[Text(b"NOT_IGNORED\r\nWATCHING 2\r\nBAD_FORMAT\r\nWATCHING 1\r\n")],
+    },
+    Row {
+        name: "tubes that are used and watched",
+        input: &[Text(b"use b\r\nwatch a\r\nlist-tubes\r\nlist-tubes-watched\r\n")],
+        output: &[
+            Text(b"USING b\r\nWATCHING 2\r\nOK 22\r\n---\n- a\n- b\n- default\n\r\n"),
+            Text(b"OK 18\r\n---\n- default\n- a\n\r\n"),
+        ],
+    },
+    Row {
+        name: "bury, peek and kick",
+        input: &[
+            Text(b"put 5 0 9 1\r\na\r\nreserve\r\nbury 1 7\r\npeek-buried\r\n"),
+            Text(b"kick 10\r\npeek-ready\r\nkick-job 1\r\nkick 1\r\n"),
+        ],
+        output: &[
+            Text(b"INSERTED 1\r\nRESERVED 1 1\r\na\r\nBURIED\r\nFOUND 1 1\r\na\r\n"),
+            Text(b"KICKED 1\r\nFOUND 1 1\r\na\r\nNOT_FOUND\r\nKICKED 0\r\n"),
+        ],
+    },
+    Row {
+        name: "seconds pass while a reserve waits",
+        input: &[Text(b"reserve-with-timeout 2\r\nput 0 3 9 1\r\nx\r\nreserve\r\n")],
+        output: &[Text(b"TIMED_OUT\r\nINSERTED 1\r\nRESERVED 1 1\r\nx\r\n")],
+    },
+    Row {
+        name: "delayed jobs, and jobs that nobody holds",
+        input: &[
+            Text(b"put 1 5 9 1\r\na\r\nput 2 3 9 1\r\nb\r\npeek-delayed\r\nkick 1\r\n"),
+            Text(b"peek-ready\r\nrelease 2 0 0\r\ntouch 2\r\ndelete 1\r\n"),
+        ],
+        output: &[
+            Text(b"INSERTED 1\r\nINSERTED 2\r\nFOUND 2 1\r\nb\r\nKICKED 1\r\n"),
+            Text(b"FOUND 2 1\r\nb\r\nNOT_FOUND\r\nNOT_FOUND\r\nDELETED\r\n"),
+        ],
+    },
+    Row {
+        name: "each sign of a name, and a name that begins with a hyphen",
+        input: &[Text(b"use a-+/;.$_()Z9\r\nuse -a\r\nuse\r\nuse a b\r\nwatch +\r\n")],
+        output: &[
+            Text(b"USING a-+/;.$_()Z9\r\nBAD_FORMAT\r\nBAD_FORMAT\r\nBAD_FORMAT\r\n"),
+            Text(b"WATCHING 2\r\n"),
+        ],
+    },
+    Row {
         name: "a zero byte",
         input: &[Text(b"delete 9\0\r\n\0\r\n")],
         output: &[Text(b"BAD_FORMAT\r\nUNKNOWN_COMMAND\r\n")],
@@ -296,6 +384,22 @@ fn any_nodes_and_seed_tell_the_same(rt: HostRuntime) -> Result<(), Fail> {
                 );
             }
         }
+    }
+    Ok(())
+}
+
+#[test]
+fn a_reserve_without_a_job_stops_the_service(rt: HostRuntime) -> Result<(), Fail> {
+    let alloc = rt.alloc();
+    for nodes in NODES {
+        let words = words_of(alloc, &["run", "--nodes", nodes, "--seed", "5"])?;
+        let mut reader = PieceReader::new(b"reserve\r\n", 4096, Ending::End);
+        let mut writer = PieceWriter::new(alloc, 4096, usize::MAX);
+        let mut errors = PieceWriter::new(alloc, 64, usize::MAX);
+        let status = program(alloc, words.as_slice(), &mut reader, &mut writer, &mut errors);
+        assert_eq!(rt; status, 1, "{nodes}");
+        assert_eq!(rt; writer.bytes().len(), 0, "{nodes}");
+        assert_eq!(rt; errors.bytes(), b"beanpax: 9 service stopped\n".as_slice(), "{nodes}");
     }
     Ok(())
 }

@@ -13,6 +13,8 @@ mod filter_rows;
 #[cfg(test)]
 mod node_rows;
 #[cfg(test)]
+mod pipe_rows;
+#[cfg(test)]
 mod program_rows;
 #[cfg(test)]
 mod queue_draws;

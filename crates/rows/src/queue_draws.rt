@@ -6,7 +6,7 @@ use rand_core::{Rng, SeedableRng};
 use rand_pcg::Lcg64Xsh32;
 use std::alloc::Global;
 use std::test::Fail;
-use whole_queue::{Body, Name, Op, PlainQueue, Queue, Reply};
+use bean_queue::{Body, Name, Op, PlainQueue, Queue, Reply};
 
 /// How many commands a list has.
 const COMMANDS: u64 = 300;

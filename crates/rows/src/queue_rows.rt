@@ -4,7 +4,7 @@ use crate::queue_words::{answer_words, command_of};
 use object::{Effect, Object, Once};
 use std::alloc::Global;
 use std::test::Fail;
-use whole_queue::{Op, PlainQueue, Queue, Reply};
+use bean_queue::{Op, PlainQueue, Queue, Reply};
 
 /// A command, and what is answered.
 type Row = (&'static str, &'static str);

@@ -2,7 +2,7 @@
 use object::{Act, Answer, Command, Key};
 use std::alloc::{AllocError, Global};
 use std::test::Fail;
-use whole_queue::{Body, Name, Op, Reply};
+use bean_queue::{Body, Name, Op, Reply};
 
 fn name(alloc: Global, word: &str) -> Result<Name, Fail> {
     Ok(Name::new(alloc, word.as_bytes())?.ok_or("no name")?)

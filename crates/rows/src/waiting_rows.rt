@@ -4,7 +4,7 @@ use ballot::Members;
 use object::Key;
 use std::alloc::Global;
 use std::test::Fail;
-use whole_queue::Queue;
+use bean_queue::Queue;
 use world::{Event, World};
 
 /// A world of one node, which leads.

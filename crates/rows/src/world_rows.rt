@@ -49,6 +49,7 @@ fn put(alloc: Global, session: u32, byte: u8) -> Result<Command<Op>, Fail> {
         session,
         Op::Put {
             pri: 0,
+            delay: 0,
             ttr: 9,
             body,
         },

@@ -4,10 +4,10 @@ use Rattle.std.proofs.lemmas.List.{append-nil}
 use Rattle.std.proofs.Math.Seq.{take-length}
 use Rattle.std.proofs.KnownBytes.{Appends-nil, Appends-trans, Consumes-nil, Consumes-trans, Consumes-kept}
 use Rattle.std.specs.Io.KnownBytes.{Appends, Consumes, Keeps}
-use Rattle.whole_queue.specs.declared.op.Op.{Op}
-use Rattle.whole_codec.specs.declared.request.Request.TheVariants.{Do, Quit}
-use Rattle.whole_codec.specs.Grammar.{Item, Spells}
-use Rattle.whole_codec.specs.Reads.{BeginsWithNone}
+use Rattle.bean_queue.specs.declared.op.Op.{Op}
+use Rattle.bean_codec.specs.declared.request.Request.TheVariants.{Do, Quit}
+use Rattle.bean_codec.specs.Grammar.{Item, Spells}
+use Rattle.bean_codec.specs.Reads.{BeginsWithNone}
 use Rattle.session.specs.declared.faults.End.{End}
 use Rattle.session.specs.declared.faults.ServiceFault.{ServiceFault}
 use Rattle.session.specs.declared.faults.SessionFault.{SessionFault}

@@ -1,10 +1,10 @@
 -- A session on its way: what was read, asked and written so far.
 use Rattle.std.proofs.Common.{◌≡◌, ◌≤◌, ◌⊎◌, inl, ℕ, suc, List, [], ◌∷◌, ◌++◌, Option, Result, Ok, Err, IfErr, length, take, drop, refl, sym, ap, subst, ◌∙◌, arith}
 use Rattle.std.proofs.lemmas.List.{append-nil, append_assoc, take-append-drop}
-use Rattle.whole_queue.specs.declared.op.Op.{Op}
-use Rattle.whole_codec.specs.declared.request.Fault.{Fault}
-use Rattle.whole_codec.specs.declared.request.Request.{Request}
-use Rattle.whole_codec.specs.Grammar.{Item}
+use Rattle.bean_queue.specs.declared.op.Op.{Op}
+use Rattle.bean_codec.specs.declared.request.Fault.{Fault}
+use Rattle.bean_codec.specs.declared.request.Request.{Request}
+use Rattle.bean_codec.specs.Grammar.{Item}
 use Rattle.session.specs.declared.faults.ServiceFault.{ServiceFault}
 use Rattle.session.specs.declared.faults.SessionFault.{SessionFault}
 use Rattle.session.specs.declared.faults.SessionFault.TheVariants.{OutOfMemory, ServiceStopped}

@@ -1,10 +1,10 @@
 -- Items one after the other, and what is told for them.
 use Rattle.std.proofs.Common.{◌≡◌, ℕ, false, List, [], ◌∷◌, ◌++◌, Ok, Err, length, refl, sym, ap, subst, ◌∙◌, arith}
 use Rattle.std.proofs.lemmas.List.{append-nil, append_assoc, map-append}
-use Rattle.whole_codec.specs.declared.request.Fault.{Fault}
-use Rattle.whole_codec.specs.declared.request.Request.TheVariants.{Do, Quit}
-use Rattle.whole_codec.specs.Grammar.{Item, Spells}
-use Rattle.whole_codec.specs.Replies.{fault_text}
+use Rattle.bean_codec.specs.declared.request.Fault.{Fault}
+use Rattle.bean_codec.specs.declared.request.Request.TheVariants.{Do, Quit}
+use Rattle.bean_codec.specs.Grammar.{Item, Spells}
+use Rattle.bean_codec.specs.Replies.{fault_text}
 use Rattle.session.specs.Items.{Answer, ReadsFirst, is_quit, operations, told, answer_text}
 use Rattle.session.specs.Held.{faulty}
 

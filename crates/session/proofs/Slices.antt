@@ -1,13 +1,13 @@
 -- A reader that goes on in a slice of bytes.
 use Rattle.std.proofs.Common.{◌≡◌, ℕ, ◌+◌, ◌*◌, ◌-◌, ◌<◌, ◌≤◌, List, ◌++◌, Some, None, Ok, Err, length, take, drop, subst, sym, length-drop, arith}
 use Rattle.std.proofs.lemmas.List.{drop-drop}
-use Rattle.whole_codec.specs.declared.reader.Want.{Want}
-use Rattle.whole_codec.specs.declared.reader.Want.TheVariants.{Line}
-use Rattle.whole_codec.specs.declared.request.Fault.{Fault}
-use Rattle.whole_codec.specs.declared.request.Request.{Request}
-use Rattle.whole_codec.specs.Grammar.{Item}
-use Rattle.whole_codec.specs.Wants.{Fits}
-use Rattle.whole_codec.specs.Replies.{fault_text}
+use Rattle.bean_codec.specs.declared.reader.Want.{Want}
+use Rattle.bean_codec.specs.declared.reader.Want.TheVariants.{Line}
+use Rattle.bean_codec.specs.declared.request.Fault.{Fault}
+use Rattle.bean_codec.specs.declared.request.Request.{Request}
+use Rattle.bean_codec.specs.Grammar.{Item}
+use Rattle.bean_codec.specs.Wants.{Fits}
+use Rattle.bean_codec.specs.Replies.{fault_text}
 use Rattle.session.specs.Held.{Held, MayKeep, StandsAt, Finds, holding}
 use Rattle.session.proofs.Standing.{Continues, Drops, NeedsMore, Looks, looks_dropping, looks_past_fault, finds_none, finds_request, rank, rank_bound, takes}
 

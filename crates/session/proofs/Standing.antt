@@ -1,15 +1,15 @@
 -- Where a session stands in a text.
 use Rattle.std.proofs.Common.{◌≡◌, ℕ, ◌+◌, ◌*◌, ◌<◌, ◌≤◌, Bool, true, false, if◌then◌else◌, List, [], ◌∷◌, ◌++◌, Option, Some, None, Result, Ok, Err, OnOk, length, take, drop, refl, sym, ap, subst, ◌∙◌, length-append, length-take, arith}
 use Rattle.std.proofs.lemmas.List.{append-nil, append_assoc, take-append-drop, take-append-le, drop-append-le}
-use Rattle.whole_codec.specs.declared.reader.Want.{Want}
-use Rattle.whole_codec.specs.declared.reader.Want.TheVariants.{Line, Rest, Big}
-use Rattle.whole_codec.specs.declared.request.Fault.{Fault}
-use Rattle.whole_codec.specs.declared.request.Request.{Request}
-use Rattle.whole_codec.specs.Lines.{crlf}
-use Rattle.whole_codec.specs.Grammar.{Item, Spells}
-use Rattle.whole_codec.specs.Wants.{Fits}
-use Rattle.whole_codec.specs.Reads.{BeginsWithNone, EndsItem}
-use Rattle.whole_codec.specs.Replies.{fault_text}
+use Rattle.bean_codec.specs.declared.reader.Want.{Want}
+use Rattle.bean_codec.specs.declared.reader.Want.TheVariants.{Line, Rest, Big}
+use Rattle.bean_codec.specs.declared.request.Fault.{Fault}
+use Rattle.bean_codec.specs.declared.request.Request.{Request}
+use Rattle.bean_codec.specs.Lines.{crlf}
+use Rattle.bean_codec.specs.Grammar.{Item, Spells}
+use Rattle.bean_codec.specs.Wants.{Fits}
+use Rattle.bean_codec.specs.Reads.{BeginsWithNone, EndsItem}
+use Rattle.bean_codec.specs.Replies.{fault_text}
 use Rattle.session.specs.Items.{ReadsFirst, told}
 use Rattle.session.specs.Held.{Held, MayKeep, StandsAt, ComesTo, Finds, holding, faulty}
 use Rattle.session.proofs.FitsMore.{fits_more}

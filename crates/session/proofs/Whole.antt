@@ -2,9 +2,9 @@
 use Rattle.std.proofs.Common.{◌≡◌, ◌⊎◌, inl, inr, ℕ, zero, suc, ◌≤◌, Bool, true, false, List, [], ◌∷◌, ◌++◌, MatchBool, length, take, drop, refl, sym, ap, ap₂, subst, ◌∙◌, length-append, length-take, length-drop, arith}
 use Rattle.std.proofs.lemmas.List.{take-append-drop}
 use Rattle.std.proofs.Math.Seq.{take-append_seam, drop-append_seam}
-use Rattle.whole_codec.specs.Lines.{crlf}
-use Rattle.whole_codec.specs.Grammar.{Item, Spells}
-use Rattle.whole_codec.specs.Reads.{BeginsWith, BeginsWithNone}
+use Rattle.bean_codec.specs.Lines.{crlf}
+use Rattle.bean_codec.specs.Grammar.{Item, Spells}
+use Rattle.bean_codec.specs.Reads.{BeginsWith, BeginsWithNone}
 use Rattle.session.specs.declared.faults.End.{End}
 use Rattle.session.specs.Items.{Answer, Reads, IsTranscript, is_quit, told}
 

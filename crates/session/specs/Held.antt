@@ -1,13 +1,13 @@
 -- What a session holds: of the bytes that it was fed, and of the text that it has yet to send.
 use Rattle.std.specs.Prelude.{◌≡◌, ℕ, Bool, true, false, List, [], ◌++◌, map, Option, None, Some, Ok, Err}
-use Rattle.whole_codec.specs.declared.reader.Want.{Want}
-use Rattle.whole_codec.specs.declared.reader.Want.TheVariants.{Line}
-use Rattle.whole_codec.specs.declared.request.Fault.{Fault}
-use Rattle.whole_codec.specs.declared.request.Request.{Request}
-use Rattle.whole_codec.specs.declared.request.Request.TheVariants.{Do, Quit}
-use Rattle.whole_codec.specs.Grammar.{Item, Spells}
-use Rattle.whole_codec.specs.Wants.{Fits}
-use Rattle.whole_codec.specs.Reads.{BeginsWithNone}
+use Rattle.bean_codec.specs.declared.reader.Want.{Want}
+use Rattle.bean_codec.specs.declared.reader.Want.TheVariants.{Line}
+use Rattle.bean_codec.specs.declared.request.Fault.{Fault}
+use Rattle.bean_codec.specs.declared.request.Request.{Request}
+use Rattle.bean_codec.specs.declared.request.Request.TheVariants.{Do, Quit}
+use Rattle.bean_codec.specs.Grammar.{Item, Spells}
+use Rattle.bean_codec.specs.Wants.{Fits}
+use Rattle.bean_codec.specs.Reads.{BeginsWithNone}
 use Rattle.session.specs.Items.{ReadsFirst, told}
 
 -- what its reader waits for, the bytes that it keeps, the text not sent yet, and whether an ask is open

@@ -1,12 +1,12 @@
 -- The items of a text, up to the first quit, and what is told for them (protocol.txt of beanstalkd, "Protocol").
 use Rattle.std.specs.Prelude.{◌≡◌, ℕ, Bool, true, false, MatchBool, List, [], ◌∷◌, ◌++◌, Ok, Err, codes}
-use Rattle.whole_queue.specs.declared.op.Op.{Op}
-use Rattle.whole_queue.specs.declared.reply.Reply.{Reply}
-use Rattle.whole_codec.specs.declared.request.Request.TheVariants.{Do, Quit}
-use Rattle.whole_codec.specs.Lines.{ended}
-use Rattle.whole_codec.specs.Grammar.{Item, Spells}
-use Rattle.whole_codec.specs.Reads.{BeginsWithNone}
-use Rattle.whole_codec.specs.Replies.{reply_text, fault_text}
+use Rattle.bean_queue.specs.declared.op.Op.{Op}
+use Rattle.bean_queue.specs.declared.reply.Reply.{Reply}
+use Rattle.bean_codec.specs.declared.request.Request.TheVariants.{Do, Quit}
+use Rattle.bean_codec.specs.Lines.{ended}
+use Rattle.bean_codec.specs.Grammar.{Item, Spells}
+use Rattle.bean_codec.specs.Reads.{BeginsWithNone}
+use Rattle.bean_codec.specs.Replies.{reply_text, fault_text}
 use Rattle.session.specs.declared.faults.End.{End}
 
 -- the item ends the session

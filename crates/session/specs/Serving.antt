@@ -1,10 +1,10 @@
 -- What a session over streams has read, asked and written.
 use Rattle.std.specs.Prelude.{◌≡◌, ◌≤◌, ℕ, List, [], ◌∷◌, ◌++◌, length, Option, Result, Ok, Err}
 use Rattle.std.specs.Io.KnownBytes.{Consumes, Appends}
-use Rattle.whole_queue.specs.declared.op.Op.{Op}
-use Rattle.whole_queue.specs.declared.reply.Reply.{Reply}
-use Rattle.whole_codec.specs.declared.request.Request.TheVariants.{Do}
-use Rattle.whole_codec.specs.Grammar.{Item}
+use Rattle.bean_queue.specs.declared.op.Op.{Op}
+use Rattle.bean_queue.specs.declared.reply.Reply.{Reply}
+use Rattle.bean_codec.specs.declared.request.Request.TheVariants.{Do}
+use Rattle.bean_codec.specs.Grammar.{Item}
 use Rattle.session.specs.declared.faults.End.{End}
 use Rattle.session.specs.declared.faults.ServiceFault.{ServiceFault}
 use Rattle.session.specs.declared.faults.SessionFault.{SessionFault}

@@ -3,7 +3,7 @@ ghost use Rattle.session.specs.declared.faults.End.{End};
 ghost use Rattle.session.specs.Items.{Answer, IsTranscript};
 ghost use Rattle.std.specs.List.{concat};
 
-use whole_codec::{front_item, one_item};
+use bean_codec::{front_item, one_item};
 
 /// With the same answers, every input has one transcript, however it is cut into pieces: what a client is told is a
 /// function of the bytes that it sent and of what the service answered.

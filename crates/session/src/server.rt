@@ -11,8 +11,8 @@ use crate::session::Session;
 use crate::streams::{ByteIn, ByteOut, Failed};
 use crate::writing::write_all;
 use std::alloc::Global;
-use whole_codec::Request;
-use whole_queue::Op;
+use bean_codec::Request;
+use bean_queue::Op;
 
 /// The most bytes of a read.
 const PIECE_LEN: usize = 4096;

@@ -1,13 +1,13 @@
 ghost use Rattle.std.specs.Prelude.{◌≡◌, ◌≤◌, ◌++◌, ℕ, List, true, false, None, length, take, drop, vec_len, IfOk, OnOk, OnErr};
-ghost use Rattle.whole_codec.specs.Reads.{longest_wait};
-ghost use Rattle.whole_codec.specs.Replies.{reply_text};
+ghost use Rattle.bean_codec.specs.Reads.{longest_wait};
+ghost use Rattle.bean_codec.specs.Replies.{reply_text};
 ghost use Rattle.session.specs.Items.{refused_text};
 ghost use Rattle.session.specs.Held.{holding, nothing_held, is_asked, MayKeep, StandsAt, Finds};
 
 use std::alloc::{AllocError, Global};
 use std::marker::Model;
-use whole_codec::{Read, Request, Want, read_request, write_fault, write_reply};
-use whole_queue::Reply;
+use bean_codec::{Read, Request, Want, read_request, write_fault, write_reply};
+use bean_queue::Reply;
 
 /// One client's bytes on their way to asks, and its answers on their way back to bytes.
 ///

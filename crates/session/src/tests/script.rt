@@ -4,7 +4,7 @@ use std::alloc::AllocError;
 use std::collections::VecDeque;
 use std::process::Abort;
 use std::test::Fail;
-use whole_queue::{Name, Op, Reply};
+use bean_queue::{Name, Op, Reply};
 
 /// A service that answers by a list of steps.
 #[derive(Drop)]

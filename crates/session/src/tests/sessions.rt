@@ -6,7 +6,7 @@ use crate::{End, ServiceFault, SessionFault};
 use std::alloc::{AllocError, Global};
 use std::process::Abort;
 use std::test::Fail;
-use whole_queue::{Body, Op, Reply};
+use bean_queue::{Body, Op, Reply};
 
 const USES: &[u8; 21] = b"use a\r\nuse b\r\nuse c\r\n";
 

@@ -1,46 +1,22 @@
-use Rattle.std.proofs.Common.{◌≡◌, ℕ, ◌+◌, List, Result, Some, take, drop}
-use Rattle.std.proofs.lemmas.List.{take_rest}
-use Rattle.std.proofs.lemmas.Result.{on_err_weaker}
-use Rattle.bstr.specs.Find.{FindsNeedle}
-use Rattle.bean_codec.specs.declared.request.Fault.{Fault}
-use Rattle.bean_codec.specs.declared.line.Meaning.{Meaning}
-use Rattle.bean_codec.specs.Lines.{crlf}
-use Rattle.bean_codec.specs.Grammar.{Item, meaning}
-use Rattle.bean_codec.specs.Reads.{BeginsWith, CompletesFront}
-use Rattle.bean_codec.proofs.Fronts.{no_item, begins_from_completes, completes_from_begins, item_from, more_from, only_read}
+use Rattle.std.proofs.Common.{◌⊎◌, ℕ, List, Result, Ok, Err, IfOk, ◌≡◌, Some}
+use Rattle.bean_codec.specs.declared.reader.Want.{Want}
+use Rattle.bean_codec.specs.declared.reader.Want.TheVariants.{Line, Rest, Big}
+use Rattle.bean_codec.specs.declared.reader.Read.{Read}
+use Rattle.bean_codec.specs.Grammar.{Item}
+use Rattle.bean_codec.specs.Wants.{Fits}
+use Rattle.bean_codec.specs.Reads.{item_read, IsDrop, EndsItem, TellsItem, TellsMore}
+use Rattle.bean_codec.proofs.DroppedTexts.{only_told}
 use Rattle.bean_codec.proofs.reader.read_request.Goals as goal
 
-pub returns-in_default-clause-more : goal.returns-in_default-clause-more
-returns-in_default-clause-more c = no_item c.args.bytes.now c.in_default.ensures
+only_told_if : {E : Type 0} (want : Want) (bytes : List ℕ) (r : Result Read E) → IfOk r (TellsItem want bytes) → IfOk r (TellsMore want bytes) → IfOk r (λ read. (dropped : List ℕ) (found : Item × ℕ) → Fits want dropped bytes → EndsItem dropped bytes found → IsDrop read ⊎ (item_read read ≡ Some found))
+only_told_if want bytes (Ok read) item more = only_told want bytes read item more
+only_told_if want bytes (Err e) item more = tt
 
-pub returns-in_default-clause-only : goal.returns-in_default-clause-only
-returns-in_default-clause-only c = λ found h. absurd (returns-in_default-clause-more c found h)
+pub returns-in-Line-clause-only : goal.returns-in-Line-clause-only
+returns-in-Line-clause-only c = rw c.in-Line.is (only_told_if Line c.args.bytes.now c.read_line.result c.read_line.ensures.item c.read_line.ensures.more)
 
--- the bytes begin with what completes the meaning of their first line, by the names that the calls gave
-module _ (bytes : List ℕ) (k : ℕ) (first : FindsNeedle bytes crlf 0 (Some k)) (m : Result Meaning Fault) (same : m ≡ meaning (take k bytes)) (rest : List ℕ) (cut : rest ≡ drop (k + 2) bytes) where
-  forth : (found : Item × ℕ) → CompletesFront m (k + 2) rest found → BeginsWith bytes found
-  forth found h = begins_from_completes bytes k first found (rw (← same, ← cut) h)
+pub returns-in-Rest-clause-only : goal.returns-in-Rest-clause-only
+returns-in-Rest-clause-only c = rw c.in-Rest.is (only_told Rest c.args.bytes.now c.read_rest.result c.read_rest.ensures.item c.read_rest.ensures.more)
 
-  back : (found : Item × ℕ) → BeginsWith bytes found → CompletesFront m (k + 2) rest found
-  back found h = rw (same, cut) (completes_from_begins bytes k first found h)
-
-pub returns-clause-item : goal.returns-clause-item
-returns-clause-item c =
-    item_from _ (BeginsWith c.args.bytes.now) c.complete.result
-    (forth _ c.in-Some.end c.in-Some.ensures c.meaning_of.result c.meaning_of.ensures _ (take_rest c.args.bytes.now (c.in-Some.end + 2)))
-    c.complete.ensures.item
-
-pub returns-clause-more : goal.returns-clause-more
-returns-clause-more c =
-    more_from _ (BeginsWith c.args.bytes.now) c.complete.result
-    (back _ c.in-Some.end c.in-Some.ensures c.meaning_of.result c.meaning_of.ensures _ (take_rest c.args.bytes.now (c.in-Some.end + 2)))
-    c.complete.ensures.more
-
-pub returns-clause-only : goal.returns-clause-only
-returns-clause-only c = only_read c.args.bytes.now c.complete.result (returns-clause-item c) (returns-clause-more c)
-
-pub returns-clause-memory : goal.returns-clause-memory
-returns-clause-memory c =
-    on_err_weaker c.complete.result
-    (λ put. (put.0, put.1, forth _ c.in-Some.end c.in-Some.ensures c.meaning_of.result c.meaning_of.ensures _ (take_rest c.args.bytes.now (c.in-Some.end + 2)) put.0 put.2))
-    c.complete.ensures.memory
+pub returns-in-Big-clause-only : goal.returns-in-Big-clause-only
+returns-in-Big-clause-only c = rw c.in-Big.is (only_told (Big c.in-Big.left) c.args.bytes.now c.read_big.result c.read_big.ensures.item c.read_big.ensures.more)

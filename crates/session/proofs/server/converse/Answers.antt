@@ -1,6 +1,6 @@
 use Rattle.std.proofs.Common.{◌≡◌, List, ℕ, [], ◌++◌, Some, Ok, Err, true, false, refl, sym, ap, subst, ◌∙◌, rules}
 use Rattle.std.specs.Io.KnownBytes.{Appends, Consumes}
-use Rattle.whole_codec.specs.declared.request.Request.TheVariants.{Do, Quit}
+use Rattle.bean_codec.specs.declared.request.Request.TheVariants.{Do, Quit}
 use Rattle.session.specs.declared.faults.End.{End}
 use Rattle.session.specs.declared.faults.SessionFault.TheVariants.{WriteFailed}
 use Rattle.session.specs.Held.{Held, StandsAt, ComesTo, is_asked, nothing_held}

@@ -1,6 +1,6 @@
 use Rattle.std.proofs.Common.{[], Ok, Err, length, drop, refl, ap, subst, length-append, arith}
-use Rattle.whole_codec.specs.Reads.{TellsItem, TellsDrop, TellsMore}
-use Rattle.whole_codec.specs.Replies.{fault_text}
+use Rattle.bean_codec.specs.Reads.{TellsItem, TellsDrop, TellsMore}
+use Rattle.bean_codec.specs.Replies.{fault_text}
 use Rattle.session.specs.Held.{holding}
 use Rattle.session.proofs.Standing.{Continues, Drops, NeedsMore, still_front}
 use Rattle.session.proofs.Slices.{drops_on, goes_past_fault, comes_to_none, comes_to_request, within, may_keep, drop_fits, item_fits, less_past_fault, less_dropping}

@@ -1,0 +1,46 @@
+use Rattle.std.proofs.Common.{◌+◌, take, drop, arith}
+use Rattle.std.proofs.lemmas.List.{take_rest}
+use Rattle.std.proofs.lemmas.Result.{on_err_weaker}
+use Rattle.bean_codec.specs.Grammar.{meaning}
+use Rattle.bean_codec.proofs.Told.{if_err}
+use Rattle.bean_codec.proofs.LongLines.{found_none, found_front}
+use Rattle.bean_codec.proofs.Fronts.{name_completes, begins_from_completes}
+use Rattle.bean_codec.proofs.FirstLines.{line_more, line_rest, forth, told_item, told_more, told_drop}
+use Rattle.bean_codec.proofs.front.read_line.Goals as goal
+
+pub returns-then-bytes-lt-LONGEST_LINE-clause-more : goal.returns-then-bytes-lt-LONGEST_LINE-clause-more
+returns-then-bytes-lt-LONGEST_LINE-clause-more c =
+    line_more c.args.bytes.now c.min.result (omega (arith, c.min.ensures, c.if-bytes-lt-LONGEST_LINE.true)) (found_none (take c.min.result c.args.bytes.now) c.in_default.ensures)
+
+pub returns-in_default-clause-drop : goal.returns-in_default-clause-drop
+returns-in_default-clause-drop c =
+    line_rest c.args.bytes.now c.min.result (omega (arith, c.min.ensures, c.if-bytes-lt-LONGEST_LINE.false)) (omega (arith, c.min.ensures)) (found_none (take c.min.result c.args.bytes.now) c.in_default.ensures)
+
+pub returns-in_err-meaning-clause-memory : goal.returns-in_err-meaning-clause-memory
+returns-in_err-meaning-clause-memory c =
+    let bytes = c.args.bytes.now in
+    let cut = found_front bytes c.min.result c.in-Some.end c.in-Some.ensures in
+    let named = name_completes (meaning (take c.in-Some.end bytes)) (c.in-Some.end + 2) (drop (c.in-Some.end + 2) bytes) c.in_err-meaning.ensures.memory in
+    if_err c.from_residual.result (named.0, named.1, begins_from_completes bytes c.in-Some.end cut.0 named.0 named.2)
+
+pub returns-clause-item : goal.returns-clause-item
+returns-clause-item c =
+    let cut = found_front c.args.bytes.now c.min.result c.in-Some.end c.in-Some.ensures in
+    told_item c.args.bytes.now c.in-Some.end cut.0 c.in_ok-meaning.meaning c.in_ok-meaning.ensures.says _ (take_rest c.args.bytes.now (c.in-Some.end + 2)) c.complete.result c.complete.ensures.item
+
+pub returns-clause-more : goal.returns-clause-more
+returns-clause-more c =
+    let cut = found_front c.args.bytes.now c.min.result c.in-Some.end c.in-Some.ensures in
+    told_more c.args.bytes.now c.in-Some.end cut.0 c.in_ok-meaning.meaning c.in_ok-meaning.ensures.says _ (take_rest c.args.bytes.now (c.in-Some.end + 2)) c.complete.result c.complete.ensures.more
+
+pub returns-clause-drop : goal.returns-clause-drop
+returns-clause-drop c =
+    let cut = found_front c.args.bytes.now c.min.result c.in-Some.end c.in-Some.ensures in
+    told_drop c.args.bytes.now c.in-Some.end cut.0 c.in_ok-meaning.meaning c.in_ok-meaning.ensures.says _ (take_rest c.args.bytes.now (c.in-Some.end + 2)) c.complete.result c.complete.ensures.drop
+
+pub returns-clause-memory : goal.returns-clause-memory
+returns-clause-memory c =
+    let cut = found_front c.args.bytes.now c.min.result c.in-Some.end c.in-Some.ensures in
+    on_err_weaker c.complete.result
+    (λ put. (put.0, put.1, forth c.args.bytes.now c.in-Some.end cut.0 c.in_ok-meaning.meaning c.in_ok-meaning.ensures.says _ (take_rest c.args.bytes.now (c.in-Some.end + 2)) put.0 put.2))
+    c.complete.ensures.memory

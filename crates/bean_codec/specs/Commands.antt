@@ -1,0 +1,45 @@
+-- The first words of lines (protocol.txt of beanstalkd, "Producer Commands", "Worker Commands" and "Other Commands").
+use Rattle.std.specs.Prelude.{ℕ, List, codes, Option, Some, None, if◌then◌else◌}
+use Rattle.std.specs.Option.{option_or}
+use Rattle.std.specs.Str.{bytes_eq}
+use Rattle.bean_codec.specs.declared.command.Command.{Command}
+use Rattle.bean_codec.specs.declared.command.Command.TheVariants.{Put, Use, Watch, Ignore, Reserve, ReserveWithTimeout, Delete, Touch, Release, Bury, Kick, KickJob, Peek, PeekReady, PeekDelayed, PeekBuried, ListTubes, ListTubeUsed, ListTubesWatched, Quit}
+
+-- those that make, take or change jobs
+unfoldable pub job_command : List ℕ → Option Command
+job_command word =
+    if bytes_eq word (codes "put") then Some Put
+    else if bytes_eq word (codes "reserve") then Some Reserve
+    else if bytes_eq word (codes "reserve-with-timeout") then Some ReserveWithTimeout
+    else if bytes_eq word (codes "delete") then Some Delete
+    else if bytes_eq word (codes "touch") then Some Touch
+    else if bytes_eq word (codes "release") then Some Release
+    else if bytes_eq word (codes "bury") then Some Bury
+    else if bytes_eq word (codes "kick") then Some Kick
+    else if bytes_eq word (codes "kick-job") then Some KickJob
+    else None
+
+-- those that are about tubes
+unfoldable pub tube_command : List ℕ → Option Command
+tube_command word =
+    if bytes_eq word (codes "use") then Some Use
+    else if bytes_eq word (codes "watch") then Some Watch
+    else if bytes_eq word (codes "ignore") then Some Ignore
+    else if bytes_eq word (codes "list-tubes") then Some ListTubes
+    else if bytes_eq word (codes "list-tube-used") then Some ListTubeUsed
+    else if bytes_eq word (codes "list-tubes-watched") then Some ListTubesWatched
+    else None
+
+-- those that look at jobs, and the last one
+unfoldable pub look_command : List ℕ → Option Command
+look_command word =
+    if bytes_eq word (codes "peek") then Some Peek
+    else if bytes_eq word (codes "peek-ready") then Some PeekReady
+    else if bytes_eq word (codes "peek-delayed") then Some PeekDelayed
+    else if bytes_eq word (codes "peek-buried") then Some PeekBuried
+    else if bytes_eq word (codes "quit") then Some Quit
+    else None
+
+-- the command that the word names, compared byte by byte
+unfoldable pub command_of : List ℕ → Option Command
+command_of word = option_or (option_or (job_command word) (tube_command word)) (look_command word)

@@ -1,0 +1,43 @@
+ghost use Rattle.std.specs.Prelude.{◌≡◌, ◌<◌, ◌≤◌, ◌+◌, ◌++◌, length, take, vec_len, vec_capacity, decimal, OnOk, OnErr};
+ghost use Rattle.bean_codec.specs.Lines.{ended};
+ghost use Rattle.bean_codec.specs.Replies.{count_text};
+
+use itoa::Buffer;
+use std::alloc::AllocError;
+
+/// Writes the digits of a number at the end.
+pub fn append_number(number: u64, out: &mut Vec<u8>) -> Result<(), AllocError>
+    ensures ok { OnOk result (out.new.items ≡ out.old.items ++ decimal number) }
+    ensures err { OnErr result (out.new.items ≡ out.old.items) }
+    ensures full { OnErr result (vec_capacity out.old < vec_len out.old + length (decimal number)) }
+    ensures room { vec_capacity out.old ≤ vec_capacity out.new }
+{
+    let mut digits = Buffer::new();
+    out.extend_from_slice(digits.format(number).as_bytes())
+}
+
+/// Writes a line at the end. Where memory runs out, a part of it may stand there.
+pub fn append_line(text: &[u8], out: &mut Vec<u8>) -> Result<(), AllocError>
+    ensures ok { OnOk result (out.new.items ≡ out.old.items ++ ended text.now) }
+    ensures front { take (vec_len out.old) out.new.items ≡ out.old.items }
+    ensures full { OnErr result
+        (vec_capacity out.old < vec_len out.old + length (ended text.now)) }
+{
+    out.extend_from_slice(text)?;
+    out.extend_from_slice(b"\r\n")
+}
+
+/// Writes a line of a word and a number at the end. Where memory runs out, a part of it may stand there.
+#[tactic(auto, unfolding(crate::specs::Replies::count_text))]
+pub fn append_count(word: &[u8], number: u64, out: &mut Vec<u8>) -> Result<(), AllocError>
+    ensures ok { OnOk result (out.new.items ≡ out.old.items ++ count_text word.now number) }
+    ensures front { take (vec_len out.old) out.new.items ≡ out.old.items }
+    ensures full { OnErr result
+        (vec_capacity out.old < vec_len out.old + length (count_text word.now number)) }
+    ensures room { vec_capacity out.old ≤ vec_capacity out.new }
+{
+    out.extend_from_slice(word)?;
+    out.extend_from_slice(b" ")?;
+    append_number(number, out)?;
+    out.extend_from_slice(b"\r\n")
+}

@@ -1,0 +1,48 @@
+-- One turn, in the words of the code.
+use Rattle.std.proofs.Common.{◌≡◌, ℕ, ◌+◌, true, List, [], ◌∷◌, ◌++◌, filter_map, Option, Some, None, sym, ap, ap₂, ◌∙◌}
+use Rattle.object.specs.declared.command.Answer.{Answer}
+use Rattle.job_store.specs.declared.job.Job.{Job}
+use Rattle.job_store.specs.declared.state.State.{State}
+use Rattle.job_store.specs.Entries.{altered}
+use Rattle.job_store.specs.Least.{least}
+use Rattle.job_store.specs.LookUps.{is_among, pri_of_job}
+use Rattle.job_store.specs.States.{with_state}
+use Rattle.bean_queue.specs.declared.reply.Reply.{Reply}
+use Rattle.bean_queue.specs.declared.session.Session.{Session}
+use Rattle.bean_queue.specs.Sessions.{first_waiting, ended, has_timed_out}
+use Rattle.bean_queue.specs.Queue.{QueueState, holds_by}
+use Rattle.bean_queue.specs.Turns.{IsTurn, wanted, next_job, answer_to, given, give, give_to, serve_turn, told, tell, deadline_turn, timeout_turn}
+
+-- what was looked up in maps that are the state's
+pub next-is : (s : QueueState) (jobs : List (ℕ × Job)) (sessions : List (ℕ × Session)) (o : Option (ℕ × Job)) → jobs ≡ s.jobs → sessions ≡ s.sessions → o ≡ least (λ e. true) pri_of_job (filter_map (wanted jobs) sessions) → next_job s ≡ o
+next-is s jobs sessions o e f g = sym (g ∙ ap₂ (λ es ss. least (λ e. true) pri_of_job (filter_map (wanted es) ss)) e f)
+
+-- no turn
+pub none-served : (s : QueueState) → next_job s ≡ None → serve_turn s ≡ None
+unfolding serve_turn
+none-served s e = ap (give s) e
+
+pub nobody-served : (s : QueueState) (j : ℕ × Job) → next_job s ≡ Some j → first_waiting (λ e. is_among j.1.tube e.1.watched) s.sessions ≡ None → serve_turn s ≡ None
+unfolding serve_turn
+nobody-served s j e f = ap (give s) e ∙ ap (give_to s j) f
+
+pub none-told_deadline : (s : QueueState) → first_waiting (λ e. holds_by e.0 (s.now + 1) s.jobs) s.sessions ≡ None → deadline_turn s ≡ None
+unfolding deadline_turn
+none-told_deadline s e = ap (tell s Reply.DeadlineSoon) e
+
+pub none-told_timeout : (s : QueueState) → first_waiting (λ e. has_timed_out s.now e.1.wait) s.sessions ≡ None → timeout_turn s ≡ None
+unfolding timeout_turn
+none-told_timeout s e = ap (tell s Reply.TimedOut) e
+
+-- a turn
+pub served : (s : QueueState) (j : ℕ × Job) (w : ℕ × Session) (jobs : List (ℕ × Job)) (sessions : List (ℕ × Session)) (xs ys : List (Answer Reply)) → next_job s ≡ Some j → first_waiting (λ e. is_among j.1.tube e.1.watched) s.sessions ≡ Some w → jobs ≡ altered j.0 (with_state (State.Reserved w.0 (s.now + j.1.ttr))) s.jobs → sessions ≡ ended w.0 s.sessions → ys ≡ xs ++ answer_to w (Reply.Reserved j.0 j.1.body) ∷ [] → IsTurn serve_turn s (record s { jobs = jobs; sessions = sessions }) xs ys true
+unfolding serve_turn given
+served s j w jobs sessions xs ys e f g h a = (given s j w, ap (give s) e ∙ ap (give_to s j) f, ap₂ (λ es ss. let t : QueueState = record s { jobs = es; sessions = ss } in t) g h, a)
+
+pub told_deadline : (s : QueueState) (w : ℕ × Session) (sessions : List (ℕ × Session)) (xs ys : List (Answer Reply)) → first_waiting (λ e. holds_by e.0 (s.now + 1) s.jobs) s.sessions ≡ Some w → sessions ≡ ended w.0 s.sessions → ys ≡ xs ++ answer_to w Reply.DeadlineSoon ∷ [] → IsTurn deadline_turn s (record s { sessions = sessions }) xs ys true
+unfolding deadline_turn told
+told_deadline s w sessions xs ys f h a = (told s Reply.DeadlineSoon w, ap (tell s Reply.DeadlineSoon) f, ap (λ ss. let t : QueueState = record s { sessions = ss } in t) h, a)
+
+pub told_timeout : (s : QueueState) (w : ℕ × Session) (sessions : List (ℕ × Session)) (xs ys : List (Answer Reply)) → first_waiting (λ e. has_timed_out s.now e.1.wait) s.sessions ≡ Some w → sessions ≡ ended w.0 s.sessions → ys ≡ xs ++ answer_to w Reply.TimedOut ∷ [] → IsTurn timeout_turn s (record s { sessions = sessions }) xs ys true
+unfolding timeout_turn told
+told_timeout s w sessions xs ys f h a = (told s Reply.TimedOut w, ap (tell s Reply.TimedOut) f, ap (λ ss. let t : QueueState = record s { sessions = ss } in t) h, a)

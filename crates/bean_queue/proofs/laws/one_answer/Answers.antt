@@ -1,0 +1,5 @@
+use Rattle.bean_queue.proofs.OneAnswer.{each_once}
+use Rattle.bean_queue.proofs.laws.one_answer.Goals as goal
+
+pub returns : goal.returns
+returns c = each_once

@@ -1,0 +1,24 @@
+use Rattle.std.proofs.Common.{◌∙◌}
+use Rattle.bean_queue.specs.Turns.{serve_turn}
+use Rattle.bean_queue.proofs.Served.{serves, turn_made, no_turn}
+use Rattle.bean_queue.proofs.logic.Logic.serve.Goals as goal
+
+pub turns-smaller : goal.turns-smaller
+turns-smaller g c = (turn_made serve_turn serves _ _ _ _ c.in_ok-serve_one.field-0 c.if-branch.true c.in_ok-serve_one.ensures.turn).fewer
+
+pub turns-preserved : goal.turns-preserved
+turns-preserved g c =
+    let r = turn_made serve_turn serves _ _ _ _ c.in_ok-serve_one.field-0 c.if-branch.true c.in_ok-serve_one.ensures.turn in
+    record {
+      state = r.state ∙ c.turns.invariant.state;
+      answers = r.answers ∙ c.turns.invariant.answers;
+      before = c.serve_one.ensures.before ∙ c.turns.invariant.before;
+    }
+
+pub returns-clause-state : goal.returns-clause-state
+returns-clause-state g c =
+    (no_turn serve_turn serves _ _ _ _ c.in_ok-serve_one.field-0 c.if-branch.false c.in_ok-serve_one.ensures.turn).state ∙ c.turns.invariant.state
+
+pub returns-clause-answers : goal.returns-clause-answers
+returns-clause-answers g c =
+    (no_turn serve_turn serves _ _ _ _ c.in_ok-serve_one.field-0 c.if-branch.false c.in_ok-serve_one.ensures.turn).answers ∙ c.turns.invariant.answers

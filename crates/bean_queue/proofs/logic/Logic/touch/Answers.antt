@@ -1,0 +1,16 @@
+use Rattle.std.proofs.Common.{◌∙◌, sym, ap, rules}
+use Rattle.job_store.specs.Entries.{value_at}
+use Rattle.bean_queue.specs.Queue.{QueueState}
+use Rattle.bean_queue.specs.Drafts.{Draft, state_of}
+use Rattle.bean_queue.specs.Rows.{touch_row}
+use Rattle.bean_queue.proofs.Touched.{touched}
+use Rattle.bean_queue.proofs.logic.Logic.touch.Goals as goal
+
+pub returns-in_ok-set_state-in-Some-clause-state : goal.returns-in_ok-set_state-in-Some-clause-state
+returns-in_ok-set_state-in-Some-clause-state g c =
+    let s = state_of c.self.inside.counters c.self.inside.jobs.now c.self.inside.sessions.now in
+    touched s c.args.session c.args.id _ c.in-Some.job.now _ c.map.ensures.rising
+    (ap (value_at c.args.id) (sym c.map.ensures.jobs) ∙ sym c.in-Some.ensures)
+    (search rules)
+    (search rules) ∙
+    ap (λ (d : Draft QueueState). (touch_row d.now c.args.session c.args.id).state) c.self.view_is

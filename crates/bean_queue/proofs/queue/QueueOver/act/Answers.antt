@@ -1,0 +1,6 @@
+use Rattle.bean_queue.proofs.Calm.{do-calm, kept-calm}
+use Rattle.bean_queue.proofs.queue.QueueOver.act.Goals as goal
+
+pub invariant_of-self-2 : goal.invariant_of-self-2
+invariant_of-self-2 g c =
+    kept-calm _ _ _ _ (do-calm c.args.op.now c.args.key c.self.inside.logic.now) c.in_default.ensures.state c.keep.ensures.now c.keep.ensures.before

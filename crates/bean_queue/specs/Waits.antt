@@ -1,0 +1,41 @@
+-- Who waits, and what is said of every effect.
+use Rattle.std.specs.Prelude.{◌≡◌, ℕ, List, [], ◌∷◌, Some, ◌⊎◌}
+use Rattle.std.specs.Bool.{⊤}
+use Rattle.object.specs.Lists.{In}
+use Rattle.object.specs.declared.command.Answer.{Answer}
+use Rattle.object.specs.declared.command.Key.{Key}
+use Rattle.bean_queue.specs.declared.reply.Reply.{Reply}
+use Rattle.bean_queue.specs.declared.session.Session.{Session}
+use Rattle.bean_queue.specs.declared.session.Wait.{Wait}
+use Rattle.bean_queue.specs.Queue.{QueueState}
+use Rattle.bean_queue.specs.Turns.{Outcome}
+
+-- a session waits by its command of this key
+abbrev pub WaitsIn : List (ℕ × Session) → Key → Type 0
+WaitsIn sessions key =
+    (e : ℕ × Session) ×
+    (w : Wait) ×
+    In e sessions ×
+    (e.0 ≡ key.session) ×
+    (e.1.wait ≡ Some w) ×
+    (w.number ≡ key.number)
+
+-- the command of this key waits for its answer
+abbrev pub Waits : QueueState → Key → Type 0
+Waits s key = WaitsIn s.sessions key
+
+-- no session is answered twice
+abbrev pub AreApart : List (Answer Reply) → Type 0
+AreApart [] = ⊤
+AreApart (a ∷ more) = ((b : Answer Reply) → In b more → b.to.session ≡ a.to.session → ⊥) × AreApart more
+
+-- what holds of the outcome of every command
+pub record IsLawful (key : Key) (s : QueueState) (o : Outcome) : Type 0 where
+  -- what waits waited before, or is the command itself
+  pub waits : (k : Key) → Waits o.state k → Waits s k ⊎ (k ≡ key)
+  -- each answer names the command itself, or one that waited
+  pub named : (a : Answer Reply) → In a o.answers → (a.to ≡ key) ⊎ Waits s a.to
+  -- an answered command waits no more
+  pub over : (a : Answer Reply) → In a o.answers → Waits o.state a.to → ⊥
+  -- no session is answered twice
+  pub once : AreApart o.answers

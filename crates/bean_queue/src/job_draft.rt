@@ -1,0 +1,100 @@
+ghost use Rattle.std.specs.Prelude.{◌≡◌, ◌^◌, [], IsSome, OnOk, OnErr};
+ghost use Rattle.job_store.specs.Entries.{Rising, with_value, altered, without};
+ghost use Rattle.job_store.specs.States.{with_state, with_pri_and_state};
+
+use job_store::{Job, JobMap, State};
+use std::alloc::{AllocError, Global};
+use std::marker::Model;
+
+/// A map of jobs whose changes can be taken back until they are kept. That takes no memory.
+#[derive(Drop)]
+pub(crate) struct JobDraft<M: JobMap> {
+    jobs: M,
+}
+
+impl<M: JobMap> Model for JobDraft<M> {
+    ghost use Rattle.std.specs.Prelude.{ℕ, List, [], IsSome, unwrap_or};
+    ghost use Rattle.job_store.specs.declared.job.Job.{Job};
+    ghost use Rattle.bean_queue.specs.Drafts.{Draft};
+
+    ghost Value = { Draft (List (ℕ × Job)) };
+
+    ghost view = { λ d. record { now = M.entries d.jobs; before = unwrap_or (M.before d.jobs) [] } };
+
+    ghost invariant = { λ d. IsSome (M.before d.jobs) };
+}
+
+impl<M: JobMap> JobDraft<M> {
+    /// No jobs.
+    pub fn new(alloc: Global) -> Self
+        ensures now { result.now ≡ [] }
+        ensures before { result.before ≡ [] }
+    {
+        let mut jobs = M::new(alloc);
+        jobs.begin();
+        JobDraft { jobs }
+    }
+
+    /// The map.
+    pub fn map(&self) -> &M
+        ensures jobs { M.entries result.now ≡ self.now.now }
+        ensures rising { Rising 0 (2 ^ 64) self.now.now }
+    {
+        // All jobs are looked at for a clause alone: their ids rise.
+        let _ = self.jobs.by_id();
+        &self.jobs
+    }
+
+    /// Puts a job at an id.
+    pub fn insert(&mut self, id: u64, job: Job) -> Result<(), AllocError>
+        ensures now { OnOk result (self.new.now ≡ with_value id job self.old.now) }
+        ensures before { self.new.before ≡ self.old.before }
+        ensures err { OnErr result (self.new.now ≡ self.old.now) }
+    {
+        self.jobs.insert(id, job)
+    }
+
+    /// Sets the priority and the state of the job at an id, if there is one.
+    pub fn set(&mut self, id: u64, pri: u32, state: State) -> Result<(), AllocError>
+        ensures now { OnOk result (self.new.now ≡ altered id (with_pri_and_state pri state) self.old.now) }
+        ensures before { self.new.before ≡ self.old.before }
+        ensures err { OnErr result (self.new.now ≡ self.old.now) }
+    {
+        self.jobs.set(id, pri, state)
+    }
+
+    /// Sets the state of the job at an id, if there is one.
+    pub fn set_state(&mut self, id: u64, state: State) -> Result<(), AllocError>
+        ensures now { OnOk result (self.new.now ≡ altered id (with_state state) self.old.now) }
+        ensures before { self.new.before ≡ self.old.before }
+        ensures err { OnErr result (self.new.now ≡ self.old.now) }
+    {
+        self.jobs.set_state(id, state)
+    }
+
+    /// Keeps all changes.
+    pub fn keep(&mut self)
+        ensures now { self.new.now ≡ self.old.now }
+        ensures before { self.new.before ≡ self.old.now }
+    {
+        self.jobs.begin();
+    }
+
+    /// Keeps all changes, and takes out the job at an id.
+    pub fn remove(&mut self, id: u64)
+        ensures now { self.new.now ≡ without id self.old.now }
+        ensures before { self.new.before ≡ without id self.old.now }
+    {
+        self.jobs.remove(id);
+        self.jobs.begin();
+    }
+
+    /// Takes back all changes since they were kept last.
+    pub fn take_back(&mut self)
+        ensures now { self.new.now ≡ self.old.before }
+        ensures before { self.new.before ≡ self.old.before }
+    {
+        self.jobs.roll_back();
+        self.jobs.begin();
+    }
+}

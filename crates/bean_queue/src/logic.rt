@@ -1,0 +1,106 @@
+ghost use Rattle.std.specs.Prelude.{◌≡◌, IsSome, OnOk};
+ghost use Rattle.job_store.specs.Entries.{value_at};
+ghost use Rattle.bean_queue.specs.Queue.{fresh};
+ghost use Rattle.bean_queue.specs.Sessions.{session_of};
+ghost use Rattle.bean_queue.specs.Effects.{called};
+
+mod held;
+mod kick;
+mod lists;
+mod peek;
+mod perform;
+mod put;
+mod reserve;
+mod serve;
+mod time;
+mod tubes;
+
+use crate::counters::Counters;
+use crate::job_draft::JobDraft;
+use crate::session::Session;
+use crate::session_draft::SessionDraft;
+use job_store::JobMap;
+use std::alloc::{AllocError, Global};
+use std::marker::Model;
+
+/// The logic of the queue, over any map of jobs. What was changed since it was kept last can be taken back, which
+/// takes no memory.
+#[derive(Drop)]
+pub(crate) struct Logic<M: JobMap> {
+    counters: Counters,
+    kept: Counters,
+    jobs: JobDraft<M>,
+    sessions: SessionDraft,
+}
+
+impl<M: JobMap> Model for Logic<M> {
+    ghost use Rattle.bean_queue.specs.Queue.{QueueState};
+    ghost use Rattle.bean_queue.specs.Drafts.{Draft, state_of};
+
+    ghost Value = { Draft QueueState };
+
+    ghost view = { λ l. record {
+      now = state_of l.counters l.jobs.now l.sessions.now;
+      before = state_of l.kept l.jobs.before l.sessions.before;
+    } };
+}
+
+impl<M: JobMap> Logic<M> {
+    /// A new queue.
+    pub fn new(alloc: Global) -> Self
+        ensures now { result.now ≡ fresh }
+        ensures before { result.before ≡ fresh }
+    {
+        let counters = Counters {
+            now: 0,
+            next_id: 1,
+            next_rank: 1,
+        };
+        Logic {
+            counters,
+            kept: counters,
+            jobs: JobDraft::new(alloc),
+            sessions: SessionDraft::new(alloc),
+        }
+    }
+
+    /// Keeps all changes.
+    pub fn keep(&mut self)
+        ensures now { self.new.now ≡ self.old.now }
+        ensures before { self.new.before ≡ self.old.now }
+    {
+        self.kept = self.counters;
+        self.jobs.keep();
+        self.sessions.keep();
+    }
+
+    /// Takes back all changes since they were kept last.
+    pub fn take_back(&mut self)
+        ensures now { self.new.now ≡ self.old.before }
+        ensures before { self.new.before ≡ self.old.before }
+    {
+        self.counters = self.kept;
+        self.jobs.take_back();
+        self.sessions.take_back();
+    }
+
+    /// Makes a session, or ends its wait.
+    pub fn call(&mut self, session: u32) -> Result<(), AllocError>
+        ensures now { OnOk result (self.new.now ≡ called session self.old.now) }
+        ensures before { self.new.before ≡ self.old.before }
+    {
+        if self.sessions.map().contains_key(&session) {
+            self.sessions.set_wait(session, None)
+        } else {
+            self.sessions.make(session)
+        }
+    }
+
+    /// A session that is there.
+    fn session(&self, number: u32) -> &Session
+        requires { IsSome (value_at number self.now.now.sessions) }
+        ensures { result.now ≡ session_of number self.now.now.sessions }
+    {
+        &self.sessions.map()[&number]
+    }
+}

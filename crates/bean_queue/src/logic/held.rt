@@ -1,0 +1,108 @@
+ghost use Rattle.std.specs.Prelude.{◌≡◌, Some, IfOk, OnOk};
+ghost use Rattle.job_store.specs.Entries.{value_at};
+ghost use Rattle.job_store.specs.States.{is_held};
+ghost use Rattle.bean_queue.specs.Rows.{is_found, may_delete, delete_row, touch_row, release_row, bury_row};
+
+use crate::counters::LIMIT;
+use crate::logic::Logic;
+use crate::logic::put::ready_after;
+use crate::reply::Reply;
+use job_store::{JobMap, State};
+use std::alloc::AllocError;
+
+/// Whether the session may delete a job in this state: nobody else has it.
+fn may_delete(session: u32, state: State) -> bool
+    ensures { result ≡ may_delete session state }
+{
+    match state {
+        State::Reserved {
+            session: holder,
+            ..
+        } => session == holder,
+        State::Ready | State::Delayed { .. } | State::Buried { .. } => true,
+    }
+}
+
+impl<M: JobMap> Logic<M> {
+    /// Whether the session has the job with this id.
+    fn has(&self, session: u32, id: u64) -> bool
+        ensures { result ≡ is_found (is_held session) (value_at id self.now.now.jobs) }
+    {
+        match self.jobs.map().get(id) {
+            Some(job) => job.state.is_held_by(session),
+            None => false,
+        }
+    }
+
+    /// Deletes a job.
+    #[tactic(auto, unfolding(crate::specs::Rows::delete_row))]
+    pub fn delete(&mut self, session: u32, id: u64) -> Reply
+        ensures state { self.new.now ≡ (delete_row self.old.now session id).state }
+        ensures reply { (delete_row self.old.now session id).reply ≡ Some result }
+    {
+        match self.jobs.map().get(id) {
+            Some(job) if may_delete(session, job.state) => {
+                self.jobs.remove(id);
+                Reply::Deleted
+            }
+            _ => Reply::NotFound,
+        }
+    }
+
+    /// Lets the time to run of a job begin anew.
+    #[tactic(auto, unfolding(crate::specs::Rows::touch_row))]
+    pub fn touch(&mut self, session: u32, id: u64) -> Result<Reply, AllocError>
+        ensures state { OnOk result (self.new.now ≡ (touch_row self.old.now session id).state) }
+        ensures reply { IfOk result (λ reply. (touch_row self.old.now session id).reply ≡ Some reply) }
+        ensures before { self.new.before ≡ self.old.before }
+    {
+        match self.jobs.map().get(id) {
+            Some(job) if job.state.is_held_by(session) => {
+                let due = self.counters.now + u64::from(job.ttr);
+                self.jobs.set_state(id, State::Reserved { session, due })?;
+                Ok(Reply::Touched)
+            }
+            _ => Ok(Reply::NotFound),
+        }
+    }
+
+    /// Gives a job back.
+    #[tactic(auto, unfolding(crate::specs::Rows::release_row))]
+    pub fn release(
+        &mut self,
+        session: u32,
+        id: u64,
+        pri: u32,
+        delay: u32,
+    ) -> Result<Reply, AllocError>
+        ensures state { OnOk result (self.new.now ≡ (release_row self.old.now session id pri delay).state) }
+        ensures reply { IfOk result (λ reply. (release_row self.old.now session id pri delay).reply ≡ Some reply) }
+        ensures before { self.new.before ≡ self.old.before }
+    {
+        if !self.has(session, id) {
+            return Ok(Reply::NotFound);
+        }
+        self.jobs
+            .set(id, pri, ready_after(self.counters.now, delay))?;
+        Ok(Reply::Released)
+    }
+
+    /// Lays a job aside.
+    #[tactic(auto, unfolding(crate::specs::Rows::bury_row))]
+    pub fn bury(&mut self, session: u32, id: u64, pri: u32) -> Result<Reply, AllocError>
+        ensures state { OnOk result (self.new.now ≡ (bury_row self.old.now session id pri).state) }
+        ensures reply { IfOk result (λ reply. (bury_row self.old.now session id pri).reply ≡ Some reply) }
+        ensures before { self.new.before ≡ self.old.before }
+    {
+        let rank = self.counters.next_rank;
+        if rank == LIMIT {
+            return Ok(Reply::InternalError);
+        }
+        if !self.has(session, id) {
+            return Ok(Reply::NotFound);
+        }
+        self.jobs.set(id, pri, State::Buried { rank })?;
+        self.counters.next_rank = rank + 1;
+        Ok(Reply::Buried)
+    }
+}

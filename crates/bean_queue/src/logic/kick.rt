@@ -1,0 +1,85 @@
+ghost use Rattle.std.specs.Prelude.{◌≡◌, Some, IsSome, IfOk, OnOk};
+ghost use Rattle.job_store.specs.Entries.{value_at};
+ghost use Rattle.job_store.specs.LookUps.{first_buried, first_delayed};
+ghost use Rattle.bean_queue.specs.Rows.{kicked, kick_row, kick_job_row};
+
+use crate::job_draft::JobDraft;
+use crate::logic::Logic;
+use crate::reply::Reply;
+use job_store::{JobMap, Name, State};
+use object::Value;
+use std::alloc::AllocError;
+
+/// Makes up to `bound` buried jobs of the tube ready, and tells how many.
+fn kick_buried<M: JobMap>(
+    jobs: &mut JobDraft<M>,
+    tube: &Name,
+    bound: u32,
+) -> Result<u64, AllocError>
+    ensures now { OnOk result (jobs.new.now ≡ (kicked (first_buried tube.now) bound jobs.old.now).jobs) }
+    ensures count { IfOk result (λ count. count ≡ (kicked (first_buried tube.now) bound jobs.old.now).count) }
+    ensures before { jobs.new.before ≡ jobs.old.before }
+{
+    for count in 0..bound {
+        let Some((id, _)) = jobs.map().first_buried(tube) else {
+            return Ok(u64::from(count));
+        };
+        jobs.set_state(id, State::Ready)?;
+    }
+    Ok(u64::from(bound))
+}
+
+/// Makes up to `bound` delayed jobs of the tube ready, and tells how many.
+fn kick_delayed<M: JobMap>(
+    jobs: &mut JobDraft<M>,
+    tube: &Name,
+    bound: u32,
+) -> Result<u64, AllocError>
+    ensures now { OnOk result (jobs.new.now ≡ (kicked (first_delayed tube.now) bound jobs.old.now).jobs) }
+    ensures count { IfOk result (λ count. count ≡ (kicked (first_delayed tube.now) bound jobs.old.now).count) }
+    ensures before { jobs.new.before ≡ jobs.old.before }
+{
+    for count in 0..bound {
+        let Some((id, _)) = jobs.map().first_delayed(tube) else {
+            return Ok(u64::from(count));
+        };
+        jobs.set_state(id, State::Ready)?;
+    }
+    Ok(u64::from(bound))
+}
+
+impl<M: JobMap> Logic<M> {
+    /// Makes buried or delayed jobs of the tube that a session uses ready.
+    #[tactic(auto, unfolding(crate::specs::Rows::kick_row))]
+    pub fn kick(&mut self, session: u32, bound: u32) -> Result<Reply, AllocError>
+        requires { IsSome (value_at session self.old.now.sessions) }
+        ensures state { OnOk result (self.new.now ≡ (kick_row self.old.now session bound).state) }
+        ensures reply { IfOk result (λ reply. (kick_row self.old.now session bound).reply ≡ Some reply) }
+        ensures before { self.new.before ≡ self.old.before }
+    {
+        let tube = self.session(session).used.copy()?;
+        if self.jobs.map().first_buried(&tube).is_some() {
+            let count = kick_buried(&mut self.jobs, &tube, bound)?;
+            Ok(Reply::KickedCount(count))
+        } else {
+            let count = kick_delayed(&mut self.jobs, &tube, bound)?;
+            Ok(Reply::KickedCount(count))
+        }
+    }
+
+    /// Makes a job ready that is buried or delayed.
+    #[tactic(auto, unfolding(crate::specs::Rows::kick_job_row))]
+    pub fn kick_job(&mut self, id: u64) -> Result<Reply, AllocError>
+        ensures state { OnOk result (self.new.now ≡ (kick_job_row self.old.now id).state) }
+        ensures reply { IfOk result (λ reply. (kick_job_row self.old.now id).reply ≡ Some reply) }
+        ensures before { self.new.before ≡ self.old.before }
+    {
+        match self.jobs.map().get(id) {
+            Some(job) if job.state.is_buried() || job.state.is_delayed() => {
+                self.jobs.set_state(id, State::Ready)?;
+                Ok(Reply::Kicked)
+            }
+            _ => Ok(Reply::NotFound),
+        }
+    }
+}

@@ -1,0 +1,57 @@
+ghost use Rattle.std.specs.Prelude.{◌≡◌, ◌≤◌, ◌^◌, Some, IsSome, IfOk, OnOk};
+ghost use Rattle.job_store.specs.Entries.{value_at};
+ghost use Rattle.bean_queue.specs.Rows.{ready_after, put_row};
+
+use crate::counters::LIMIT;
+use crate::logic::Logic;
+use crate::reply::Reply;
+use job_store::{Body, Job, JobMap, State};
+use object::Value;
+use std::alloc::AllocError;
+
+/// The state of a job that is ready after so many seconds.
+pub fn ready_after(now: u64, delay: u32) -> State
+    requires { now ≤ 2 ^ 40 }
+    ensures { result ≡ ready_after now delay }
+{
+    if delay == 0 {
+        State::Ready
+    } else {
+        State::Delayed {
+            due: now + u64::from(delay),
+        }
+    }
+}
+
+impl<M: JobMap> Logic<M> {
+    /// Puts a job, for a session that is there.
+    #[tactic(auto, unfolding(crate::specs::Rows::put_row))]
+    pub fn put(
+        &mut self,
+        session: u32,
+        pri: u32,
+        delay: u32,
+        ttr: u32,
+        body: &Body,
+    ) -> Result<Reply, AllocError>
+        requires { IsSome (value_at session self.old.now.sessions) }
+        ensures state { OnOk result (self.new.now ≡ (put_row self.old.now session pri delay ttr body.now).state) }
+        ensures reply { IfOk result (λ reply. (put_row self.old.now session pri delay ttr body.now).reply ≡ Some reply) }
+        ensures before { self.new.before ≡ self.old.before }
+    {
+        let id = self.counters.next_id;
+        if id == LIMIT {
+            return Ok(Reply::InternalError);
+        }
+        let job = Job {
+            tube: self.session(session).used.copy()?,
+            pri,
+            ttr: ttr.max(1),
+            body: body.copy()?,
+            state: ready_after(self.counters.now, delay),
+        };
+        self.jobs.insert(id, job)?;
+        self.counters.next_id = id + 1;
+        Ok(Reply::Inserted(id))
+    }
+}

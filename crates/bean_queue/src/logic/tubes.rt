@@ -1,0 +1,49 @@
+ghost use Rattle.std.specs.Prelude.{◌≡◌, Some, IsSome, IfOk, OnOk, OnErr};
+ghost use Rattle.job_store.specs.Entries.{value_at};
+ghost use Rattle.bean_queue.specs.Rows.{use_row, watch_row, ignore_row};
+
+use crate::logic::Logic;
+use crate::reply::Reply;
+use job_store::{JobMap, Name};
+use object::Value;
+use std::alloc::AllocError;
+
+impl<M: JobMap> Logic<M> {
+    /// Lets a session use a tube.
+    #[tactic(auto, unfolding(crate::specs::Rows::use_row))]
+    pub fn use_tube(&mut self, session: u32, tube: &Name) -> Result<Reply, AllocError>
+        ensures state { OnOk result (self.new.now ≡ (use_row self.old.now session tube.now).state) }
+        ensures reply { IfOk result (λ reply. (use_row self.old.now session tube.now).reply ≡ Some reply) }
+        ensures err { OnErr result (self.new.before ≡ self.old.before) }
+    {
+        let shown = tube.copy()?;
+        self.sessions.use_tube(session, tube.copy()?);
+        Ok(Reply::Using(shown))
+    }
+
+    /// Lets a session that is there watch a tube.
+    #[tactic(auto, unfolding(crate::specs::Rows::watch_row))]
+    pub fn watch(&mut self, session: u32, tube: &Name) -> Result<Reply, AllocError>
+        requires { IsSome (value_at session self.old.now.sessions) }
+        ensures state { OnOk result (self.new.now ≡ (watch_row self.old.now session tube.now).state) }
+        ensures reply { IfOk result (λ reply. (watch_row self.old.now session tube.now).reply ≡ Some reply) }
+        ensures err { OnErr result (self.new.before ≡ self.old.before) }
+    {
+        let count = self.sessions.watch(session, tube.copy()?)?;
+        Ok(Reply::Watching(count as u64))
+    }
+
+    /// Lets a session that is there watch a tube no more, unless it watches no other.
+    #[tactic(auto, unfolding(crate::specs::Rows::ignore_row))]
+    pub fn ignore(&mut self, session: u32, tube: &Name) -> Reply
+        requires { IsSome (value_at session self.old.now.sessions) }
+        ensures state { self.new.now ≡ (ignore_row self.old.now session tube.now).state }
+        ensures reply { (ignore_row self.old.now session tube.now).reply ≡ Some result }
+    {
+        if self.session(session).watched.is_only(tube) {
+            return Reply::NotIgnored;
+        }
+        let count = self.sessions.ignore(session, tube);
+        Reply::Watching(count as u64)
+    }
+}

@@ -1,0 +1,171 @@
+ghost use Rattle.std.specs.Prelude.{◌≡◌, ◌≤◌, ◌^◌, ◌++◌, true, false, OnOk, OnErr};
+ghost use Rattle.bean_queue.specs.Effects.{do_effect, close_effect, tick_effect, is_quiet};
+
+use crate::logic::Logic;
+use crate::op::Op;
+use crate::reply::Reply;
+use job_store::{JobMap, Jobs};
+use object::{Act, Answer, Command, Key, Object};
+use std::alloc::{AllocError, Global};
+use std::marker::Model;
+
+/// The work queue over a map of jobs. A command that is obeyed leaves no job that a waiting session may have.
+#[derive(Drop)]
+pub struct QueueOver<M: JobMap> {
+    alloc: Global,
+    logic: Logic<M>,
+}
+
+/// The queue that goes over all jobs to find one.
+pub type PlainQueue = QueueOver<Jobs>;
+
+/// The queue.
+pub type Queue = QueueOver<Jobs>;
+
+impl<M: JobMap> Model for QueueOver<M> {
+    ghost use Rattle.std.specs.Prelude.{◌≡◌, None};
+    ghost use Rattle.bean_queue.specs.Queue.{QueueState};
+    ghost use Rattle.bean_queue.specs.Turns.{serve_turn};
+
+    ghost Value = { QueueState };
+
+    ghost view = { λ q. q.logic.now };
+
+    ghost invariant = { λ q. (q.logic.before ≡ q.logic.now) × (serve_turn q.logic.now ≡ None) };
+}
+
+impl<M: JobMap> QueueOver<M> {
+    /// Obeys a quiet operation.
+    fn answer(&mut self, key: Key, op: &Op, out: &mut Vec<Answer<Reply>>) -> Result<(), AllocError>
+        requires { is_quiet op.now ≡ true }
+        ensures state { OnOk result (self.new ≡ (do_effect op.now key self.old).state) }
+        ensures out { OnOk result (out.new.items ≡ out.old.items ++ (do_effect op.now key self.old).answers) }
+        ensures err { OnErr result ((self.new ≡ self.old) × (out.new.items ≡ out.old.items)) }
+    {
+        out.reserve(1)?;
+        match self.logic.answer(self.alloc, key, op) {
+            Ok(reply) => {
+                self.logic.keep();
+                out.push(Answer { to: key, reply })?;
+                Ok(())
+            }
+            Err(e) => {
+                self.logic.take_back();
+                Err(e)
+            }
+        }
+    }
+
+    /// Obeys an operation that is not quiet.
+    fn act(&mut self, key: Key, op: &Op, out: &mut Vec<Answer<Reply>>) -> Result<(), AllocError>
+        requires { is_quiet op.now ≡ false }
+        ensures state { OnOk result (self.new ≡ (do_effect op.now key self.old).state) }
+        ensures out { OnOk result (out.new.items ≡ out.old.items ++ (do_effect op.now key self.old).answers) }
+        ensures err { OnErr result ((self.new ≡ self.old) × (out.new.items ≡ out.old.items)) }
+    {
+        let mut answers = Vec::new(self.alloc);
+        if let Err(e) = self.logic.act(key, op, &mut answers) {
+            self.logic.take_back();
+            return Err(e);
+        }
+        if let Err(e) = out.append(&mut answers) {
+            self.logic.take_back();
+            return Err(e);
+        }
+        self.logic.keep();
+        Ok(())
+    }
+
+    /// Ends a session.
+    #[tactic(auto, unfolding(crate::specs::Effects::close_effect))]
+    fn close(&mut self, session: u32, out: &mut Vec<Answer<Reply>>) -> Result<(), AllocError>
+        ensures state { OnOk result (self.new ≡ (close_effect session self.old).state) }
+        ensures out { OnOk result (out.new.items ≡ out.old.items ++ (close_effect session self.old).answers) }
+        ensures err { OnErr result ((self.new ≡ self.old) × (out.new.items ≡ out.old.items)) }
+    {
+        let mut answers = Vec::new(self.alloc);
+        if let Err(e) = self.logic.release_all(session, &mut answers) {
+            self.logic.take_back();
+            return Err(e);
+        }
+        if let Err(e) = out.append(&mut answers) {
+            self.logic.take_back();
+            return Err(e);
+        }
+        self.logic.forget(session);
+        self.logic.keep();
+        Ok(())
+    }
+
+    /// Lets a second come.
+    fn tick(&mut self, second: u64, out: &mut Vec<Answer<Reply>>) -> Result<(), AllocError>
+        requires { second ≤ 2 ^ 40 }
+        ensures state { OnOk result (self.new ≡ (tick_effect second self.old).state) }
+        ensures out { OnOk result (out.new.items ≡ out.old.items ++ (tick_effect second self.old).answers) }
+        ensures err { OnErr result ((self.new ≡ self.old) × (out.new.items ≡ out.old.items)) }
+    {
+        let mut answers = Vec::new(self.alloc);
+        if let Err(e) = self.logic.tick(second, &mut answers) {
+            self.logic.take_back();
+            return Err(e);
+        }
+        if let Err(e) = out.append(&mut answers) {
+            self.logic.take_back();
+            return Err(e);
+        }
+        self.logic.keep();
+        Ok(())
+    }
+}
+
+impl<M: JobMap> Object for QueueOver<M> {
+    type Op = Op;
+
+    type Reply = Reply;
+
+    ghost use Rattle.bean_queue.specs.Queue.{fresh as new_queue};
+    ghost use Rattle.bean_queue.specs.Effects.{effect};
+    ghost use Rattle.bean_queue.specs.Waits.{Waits};
+    ghost use Rattle.bean_queue.specs.WaitLaws.{fresh-idle, effect-lawful, effect-once};
+
+    ghost fresh = { new_queue };
+
+    ghost after = { λ s c. (effect c s).state };
+
+    ghost answers = { λ s c. (effect c s).answers };
+
+    ghost waits = { Waits };
+
+    fn new(alloc: Global) -> Result<Self, AllocError> {
+        Ok(QueueOver {
+            alloc,
+            logic: Logic::new(alloc),
+        })
+    }
+
+    #[tactic(auto, unfolding(crate::specs::Effects::effect, crate::specs::Effects::act_effect))]
+    fn apply(&mut self, cmd: &Command<Op>, out: &mut Vec<Answer<Reply>>) -> Result<(), AllocError> {
+        let key = cmd.key();
+        match cmd.act() {
+            Act::Do(op) => {
+                if op.is_quiet() {
+                    self.answer(key, op, out)
+                } else {
+                    self.act(key, op, out)
+                }
+            }
+            Act::Close => self.close(key.session, out),
+            Act::Tick => self.tick(key.number, out),
+        }
+    }
+
+    ghost idle = { fresh-idle };
+
+    ghost waited = { λ s c. (effect-lawful c s).waits };
+
+    ghost named = { λ s c. (effect-lawful c s).named };
+
+    ghost over = { λ s c. (effect-lawful c s).over };
+
+    ghost once = { λ s c. effect-once c s };
+}

@@ -1,6 +1,0 @@
-use Rattle.std.proofs.Common.{◌≡◌, length, take}
-use Rattle.whole_codec.specs.Replies.{tubes_data}
-use Rattle.whole_codec.proofs.tube_list.size_of_data.Given as goal
-
-abbrev pub invariant-loop-name : goal.invariant-loop-name
-invariant-loop-name l = l.size ≡ length (tubes_data (take l.name-index l.names))

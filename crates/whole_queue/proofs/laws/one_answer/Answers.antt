@@ -1,5 +1,0 @@
-use Rattle.whole_queue.proofs.OneAnswer.{each_once}
-use Rattle.whole_queue.proofs.laws.one_answer.Goals as goal
-
-pub returns : goal.returns
-returns c = each_once

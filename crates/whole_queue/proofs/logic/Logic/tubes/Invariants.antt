@@ -1,6 +1,0 @@
-use Rattle.std.proofs.Common.{◌≡◌, ◌++◌}
-use Rattle.whole_queue.specs.Rows.{all_tubes}
-use Rattle.whole_queue.proofs.logic.Logic.tubes.Given as goal
-
-abbrev pub invariant-loop-name : goal.invariant-loop-name
-invariant-loop-name g l = l.tubes ++ l.name-iterator ≡ all_tubes l.self.now

@@ -1,6 +1,0 @@
-use Rattle.whole_queue.proofs.Calm.{tick-calm, kept-calm}
-use Rattle.whole_queue.proofs.queue.QueueOver.tick.Goals as goal
-
-pub invariant_of-self-2 : goal.invariant_of-self-2
-invariant_of-self-2 g c =
-    kept-calm _ _ _ _ (tick-calm c.args.second c.self.inside.logic.now c.self.invariant.1) c.in_default.ensures.state c.keep.ensures.now c.keep.ensures.before

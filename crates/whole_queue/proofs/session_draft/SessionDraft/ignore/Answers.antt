@@ -1,7 +1,0 @@
-use Rattle.whole_queue.specs.declared.session.Session.{Session}
-use Rattle.whole_queue.specs.WatchLists.{left_out}
-use Rattle.whole_queue.proofs.SessionDrafts.{change-rises}
-use Rattle.whole_queue.proofs.session_draft.SessionDraft.ignore.Goals as goal
-
-pub invariant_of-self : goal.invariant_of-self
-invariant_of-self c = change-rises c.args.session _ (λ (s : Session). record s { watched = left_out c.args.name.now s.watched }) _ _ c.self.invariant c.ignore.ensures.sessions

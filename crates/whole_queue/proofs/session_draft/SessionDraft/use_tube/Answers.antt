@@ -1,6 +1,0 @@
-use Rattle.whole_queue.specs.declared.session.Session.{Session}
-use Rattle.whole_queue.proofs.SessionDrafts.{change-rises}
-use Rattle.whole_queue.proofs.session_draft.SessionDraft.use_tube.Goals as goal
-
-pub invariant_of-self : goal.invariant_of-self
-invariant_of-self c = change-rises c.args.session _ (λ (s : Session). record s { used = c.args.name }) _ _ c.self.invariant c.set_used.ensures
