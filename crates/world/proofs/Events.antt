@@ -1,9 +1,7 @@
 -- One event of a world, from what was done to its parts.
 use Rattle.std.proofs.Common.{◌≡◌, ◌⊎◌, inl, inr, ℕ, zero, suc, ◌+◌, ◌<◌, ◌^◌, max, Bool, true, false, true≢false, cond, not, ◌&&◌, ◌||◌, List, [], ◌∷◌, ◌++◌, length, take, Some, None, Option, refl, sym, ap, ◌∙◌, subst, arith}
 use Rattle.std.specs.Prelude.{slice_get, slice_index_or, nat_le}
-use Rattle.std.specs.List.{list_any}
-use Rattle.std.specs.Option.{option_to_list, option_map}
-use Rattle.std.specs.FinMap.{get}
+use Rattle.std.specs.Option.{option_to_list, option_map, option_map_or}
 use Rattle.std.proofs.lemmas.Bool.Decides.{nat_tests}
 use Rattle.std.proofs.lemmas.List.{append-nil, take_more}
 use Rattle.std.proofs.lemmas.Option.{slice_get-get_or}
@@ -33,7 +31,7 @@ use Rattle.world.specs.Steps.{Step, IsItsOwn, replica_turn, performed, counted, 
 use Rattle.world.specs.Runs.{Leads, IsReachable}
 use Rattle.world.specs.Runs as Runs
 use Rattle.world.specs.Refusals.{IsAllowed, has_other_act, is_at_member, is_sent, keeps_acts, most_events, refusal, IsRefused}
-use Rattle.world.specs.Kept.{IsFit, HasNode, Delivered, IsWorld}
+use Rattle.world.specs.Kept.{IsFit, HasNode, Delivered, IsWorld, IsNoted, key_past}
 use Rattle.world.proofs.Lists.{Each-at, In-get}
 use Rattle.world.proofs.Orders.{BallotLaws}
 use Rattle.world.proofs.Invariants.{IsFair, IsTrueOf, IsSound, agree}
@@ -44,16 +42,40 @@ use Rattle.world.proofs.OneOrder.{reachable_one_order, leads_later}
 use Rattle.world.specs.Agreements.{StaysChosen}
 use Rattle.world.proofs.Grows.{chosen_stays}
 use Rattle.world.proofs.Reach.{reachable_sound, step_sound, one_more, opening_reachable}
+use Rattle.world.proofs.Told.{reachable_within_reach}
+use Rattle.world.proofs.Noted.{opening_noted, noted_stays, performs_noted}
 
 module _ (laws : BallotLaws) {O Op Reply : Type 0} (rules : Rules O Op Reply) where
-  pub new_world : (members : List ℕ) (u : World Op Reply) → u ≡ opening members → IsWorld rules u
-  new_world members u e = subst (IsWorld rules) (sym e) (record { reachable = opening_reachable laws rules members; few = omega arith })
+  pub new_world : (members : List ℕ) (u : World Op Reply) (keys : List Key) → u ≡ opening members → keys ≡ [] → IsNoted rules u keys
+  new_world members u keys e none =
+      subst (IsNoted rules u) (sym none)
+      (subst (λ w. IsNoted rules w []) (sym e)
+      (record { world = record { reachable = opening_reachable laws rules members; few = omega arith }; noted = opening_noted members }))
 
-  pub next_world : (v w : World Op Reply) → v ≡ w → (e : Event Op) (u : World Op Reply) → IsWorld rules v → w.taken < most_events → u.taken ≡ v.taken + 1 → Step rules v e u → IsWorld rules u
+  next_world : (v w : World Op Reply) → v ≡ w → (e : Event Op) (u : World Op Reply) → IsWorld rules v → w.taken < most_events → u.taken ≡ v.taken + 1 → Step rules v e u → IsWorld rules u
   next_world v w is e u i room count s = record {
     reachable = one_more laws rules v e u i.reachable s;
     few = let same = ap (λ y. y.taken) is in omega arith;
   }
+
+  -- an event that leaves the reach and the noted keys
+  pub next_noted : (v w : World Op Reply) → v ≡ w → (e : Event Op) (u : World Op Reply) (keys : List Key) → IsNoted rules v keys → w.taken < most_events → u.taken ≡ v.taken + 1 → u.reach ≡ v.reach → Step rules v e u → IsNoted rules u keys
+  next_noted v w is e u keys i room count reach s = record {
+    world = next_world v w is e u i.world room count s;
+    noted = noted_stays v u (step_sound laws rules v e u (reachable_sound laws rules v i.world.reachable) s).grows keys i.noted reach;
+  }
+
+  -- a replica performs
+  pub next_performed : (v w : World Op Reply) → v ≡ w → (n : ℕ) (u : World Op Reply) (keys : List Key) → IsNoted rules v keys → w.taken < most_events → u.taken ≡ v.taken + 1 → (what : Option (ℕ × Key)) → what ≡ option_map (λ c. ((node v.cluster n).replica.slot_out, c.key)) (next_decided (node v.cluster n).replica)
+      → u.reach ≡ option_map_or (λ (p : ℕ × Key). max v.reach p.0) what v.reach
+      → (past : Option Key) → past ≡ key_past v.reach what → (room : List Key) → room ≡ keys → (now : List Key) → now ≡ room ++ option_to_list past → Step rules v (events.Perform n) u → IsNoted rules u now
+  next_performed v w is n u keys i room count what told reach past noted kept same now more s =
+      let sound = reachable_sound laws rules v i.world.reachable in
+      subst (IsNoted rules u) (sym (more ∙ (λ j. same j ++ option_to_list ((noted ∙ ap (key_past v.reach) told) j))))
+      (record {
+        world = next_world v w is (events.Perform n) u i.world room count s;
+        noted = performs_noted v u sound (reachable_within_reach laws rules v i.world.reachable) (step_sound laws rules v (events.Perform n) u sound s).grows keys i.noted n (next_decided (node v.cluster n).replica) refl (reach ∙ ap (λ o. option_map_or (λ (p : ℕ × Key). max v.reach p.0) o v.reach) told);
+      })
 
   module _ (v w : World Op Reply) (is : v ≡ w) (i : IsWorld rules v) where
     sound : IsSound v.cluster
@@ -131,7 +153,7 @@ module _ {O Op Reply : Type 0} (rules : Rules O Op Reply) (v : World Op Reply) w
       → (o ≡ None → (k ≡ v.cluster) × (given ≡ v.happenings.answers))
       → ((c : Command Op) → o ≡ Some c → k ≡ replica_turn v.cluster n (advanced (is_one rules) (node v.cluster n).replica) [])
       → ((c : Command Op) → o ≡ Some c → given ≡ v.happenings.answers ++ answers_after rules (history (node v.cluster n).replica) c)
-      → reach ≡ Rattle.std.specs.Option.option_map_or (λ s. max v.reach s) (option_map (λ _. (node v.cluster n).replica.slot_out) o) v.reach
+      → reach ≡ option_map_or (λ (p : ℕ × Key). max v.reach p.0) (option_map (λ c. ((node v.cluster n).replica.slot_out, c.key)) o) v.reach
       → performed rules v n (node v.cluster n).replica o ≡ record v { cluster = k; happenings = record { submitted = v.happenings.submitted; answers = given }; reach = reach }
   performs_if n member None e k given reach idle state out high =
       let q = idle refl in
@@ -143,7 +165,7 @@ module _ {O Op Reply : Type 0} (rules : Rules O Op Reply) (v : World Op Reply) w
       → (next_decided (node v.cluster n).replica ≡ None → (k ≡ v.cluster) × (given ≡ v.happenings.answers))
       → ((c : Command Op) → next_decided (node v.cluster n).replica ≡ Some c → k ≡ replica_turn v.cluster n (advanced (is_one rules) (node v.cluster n).replica) [])
       → ((c : Command Op) → next_decided (node v.cluster n).replica ≡ Some c → given ≡ v.happenings.answers ++ answers_after rules (history (node v.cluster n).replica) c)
-      → reach ≡ Rattle.std.specs.Option.option_map_or (λ s. max v.reach s) (option_map (λ _. (node v.cluster n).replica.slot_out) (next_decided (node v.cluster n).replica)) v.reach
+      → reach ≡ option_map_or (λ (p : ℕ × Key). max v.reach p.0) (option_map (λ c. ((node v.cluster n).replica.slot_out, c.key)) (next_decided (node v.cluster n).replica)) v.reach
       → Step rules v (events.Perform n) (counted (record v { cluster = k; happenings = record { submitted = v.happenings.submitted; answers = given }; reach = reach }))
   performs n member k given reach idle state out high =
       subst (λ y. Step rules v (events.Perform n) (counted y))

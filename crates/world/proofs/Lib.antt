@@ -17,7 +17,6 @@ pub mod Histories
 pub mod Growing
 pub mod Deciding
 pub mod Voters
-pub mod Placed
 pub mod Origins
 pub mod Submitted
 pub mod Timeline
@@ -27,6 +26,8 @@ pub mod Performed
 pub mod Answered
 pub mod Legal
 pub mod Told
+pub mod Noted
+pub mod Placed
 pub mod OneOrder
 pub mod Received
 pub mod Events

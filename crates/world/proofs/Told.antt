@@ -204,5 +204,9 @@ module _ (laws : BallotLaws) {O Op Reply : Type 0} (rules : Rules O Op Reply) wh
     told = (leads_tells w.cluster.members w r.0 r.1).told;
   }
 
+  -- nor is a replica past the slot after the reach
+  pub reachable_within_reach : (w : World Op Reply) → IsReachable rules w → AllWithin w.cluster (w.reach + 1)
+  reachable_within_reach w r = (leads_tells w.cluster.members w r.0 r.1).within
+
   pub answered_now : (v w : World Op Reply) → v ≡ w → IsWorld rules v → IsAnswered rules w
   answered_now v w is i = reachable_answered w (subst (IsReachable rules) is i.reachable)

@@ -1,7 +1,8 @@
 -- How a world keeps its nodes, and what a node may count on.
-use Rattle.std.specs.Prelude.{◌≡◌, ℕ, ◌<◌, ◌≤◌, ◌^◌, ◌++◌, true, List, length, Some, IsSome, ⊤}
+use Rattle.std.specs.Prelude.{◌≡◌, ℕ, ◌<◌, ◌≤◌, ◌^◌, ◌++◌, true, nat_lt, List, length, map, Option, None, Some, IsSome, ⊤, if◌then◌else◌}
 use Rattle.std.specs.FinMap.{get}
 use Rattle.object.specs.declared.command.Command.{Command}
+use Rattle.object.specs.declared.command.Key.{Key}
 use Rattle.object.specs.OnceOnly.{Filtered}
 use Rattle.ballot.specs.Ballots.{Numbers}
 use Rattle.ballot.specs.Members.{is_member}
@@ -17,6 +18,7 @@ use Rattle.world.specs.Worlds.{World}
 use Rattle.world.specs.Steps.{Receives}
 use Rattle.world.specs.Runs.{IsReachable}
 use Rattle.world.specs.Refusals.{most_events}
+use Rattle.world.specs.Reached.{IsReached}
 
 -- each slot before slot_out has a known decision
 pub record IsPerformed {C : Type 0} (book : SlotBook C) : Type 0 where
@@ -62,3 +64,17 @@ Delivered {C} k l z = (x : NodeState C) × (out : List (Letter C)) × Receives k
 pub record IsWorld {O Op Reply : Type 0} (rules : Rules O Op Reply) (w : World Op Reply) : Type 0 where
   pub reachable : IsReachable rules w
   pub few : w.taken ≤ most_events
+
+-- these are the keys of the commands of the slots from 1 to the reach
+abbrev pub HasNoted : {Op Reply : Type 0} → World Op Reply → List Key → Type 0
+HasNoted {Op} w keys = (cs : List (Command Op)) × IsReached w cs × (keys ≡ map (λ c. c.key) cs)
+
+-- the world, with these keys beside it
+pub record IsNoted {O Op Reply : Type 0} (rules : Rules O Op Reply) (w : World Op Reply) (keys : List Key) : Type 0 where
+  pub world : IsWorld rules w
+  pub noted : HasNoted w keys
+
+-- the key that is noted where a replica performed this slot and key, or none: that of a slot past the reach
+abbrev pub key_past : ℕ → Option (ℕ × Key) → Option Key
+key_past reach None = None
+key_past reach (Some p) = if nat_lt reach p.0 then Some p.1 else None

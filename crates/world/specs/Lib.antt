@@ -7,11 +7,11 @@ pub mod Steps
 pub mod Runs
 pub mod Refusals
 pub mod Schedules
-pub mod Kept
 pub mod Chosen
 pub mod Voters
 pub mod Agreements
 pub mod Legal
 pub mod OneOrder
 pub mod Reached
+pub mod Kept
 pub mod Told

@@ -19,7 +19,7 @@ ghost use Rattle.world.specs.Kept.{HasNode, IsFit, Delivered};
 use crate::node::Node;
 use crate::receiving::Way;
 use ballot::{Letter, Members, Slot};
-use object::{Answer, Command, Object, Value};
+use object::{Answer, Command, Key, Object, Value};
 use std::alloc::{AllocError, Global};
 use std::marker::Model;
 
@@ -85,21 +85,21 @@ impl<O: Object> Cluster<O> {
         Ok(())
     }
 
-    /// A replica performs the command of its `slot_out`, where that is known. It tells the slot.
+    /// A replica performs the command of its `slot_out`, where that is known. It tells the slot and the key.
     pub(crate) fn perform(
         &mut self,
         id: u8,
         out: &mut Vec<Answer<O::Reply>>,
-    ) -> Result<Option<Slot>, AllocError>
+    ) -> Result<Option<(Slot, Key)>, AllocError>
         requires { HasNode id self.old }
-        ensures slot { IfOk result (λ done. done ≡ option_map (λ _. (node self.old id).replica.slot_out) (next_decided (node self.old id).replica)) }
+        ensures done { IfOk result (λ done. done ≡ option_map (λ c. ((node self.old id).replica.slot_out, c.key)) (next_decided (node self.old id).replica)) }
         ensures idle { OnOk result (next_decided (node self.old id).replica ≡ None → (self.new ≡ self.old) × (out.new.items ≡ out.old.items)) }
         ensures state { OnOk result ((c : Command O.Op) → next_decided (node self.old id).replica ≡ Some c → self.new ≡ replica_turn self.old id (advanced (same_commands O.Op.eq) (node self.old id).replica) []) }
         ensures out { OnOk result ((c : Command O.Op) → next_decided (node self.old id).replica ≡ Some c → out.new.items ≡ out.old.items ++ answers_after (rules_of O.fresh O.after O.answers O.Op.eq) (history (node self.old id).replica) c) }
         ensures err { OnErr result ((self.new ≡ self.old) × (out.new.items ≡ out.old.items)) }
     {
-        let slot = self.nodes[usize::from(id - 1)].perform(out)?;
-        Ok(slot)
+        let done = self.nodes[usize::from(id - 1)].perform(out)?;
+        Ok(done)
     }
 
     /// A node stops and begins anew.

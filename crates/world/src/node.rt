@@ -20,7 +20,7 @@ ghost use Rattle.world.specs.Voters.{accepts};
 use acceptor::Acceptor;
 use ballot::{Ballot, Letter, Members, Pvalue, Slot};
 use leader::Leader;
-use object::{Answer, Command, Object, filter_remembers};
+use object::{Answer, Command, Key, Object, filter_remembers};
 use replica::Replica;
 use std::alloc::{AllocError, Global};
 use std::marker::Model;
@@ -154,19 +154,20 @@ impl<O: Object> Node<O> {
         said
     }
 
-    /// Performs the command of its `slot_out`, where that is known, and appends the answers. It tells the slot.
+    /// Performs the command of its `slot_out`, where that is known, and appends the answers. It tells the slot and the key.
     pub(crate) fn perform(
         &mut self,
         out: &mut Vec<Answer<O::Reply>>,
-    ) -> Result<Option<Slot>, AllocError>
-        ensures slot { IfOk result (λ done. done ≡ option_map (λ _. self.old.replica.slot_out) (next_decided self.old.replica)) }
+    ) -> Result<Option<(Slot, Key)>, AllocError>
+        ensures done { IfOk result (λ done. done ≡ option_map (λ c. (self.old.replica.slot_out, c.key)) (next_decided self.old.replica)) }
         ensures idle { OnOk result (next_decided self.old.replica ≡ None → (self.new ≡ self.old) × (out.new.items ≡ out.old.items)) }
         ensures state { OnOk result ((c : Command O.Op) → next_decided self.old.replica ≡ Some c → self.new ≡ record self.old { replica = advanced (same_commands O.Op.eq) self.old.replica }) }
         ensures out { OnOk result ((c : Command O.Op) → next_decided self.old.replica ≡ Some c → out.new.items ≡ out.old.items ++ answers_after (rules_of O.fresh O.after O.answers O.Op.eq) (history self.old.replica) c) }
         ensures err { OnErr result ((self.new ≡ self.old) × (out.new.items ≡ out.old.items)) }
     {
         filter_remembers::<O::Op>();
-        Ok(self.replica.perform(out)?.map(|done| done.slot))
+        let done = self.replica.perform(out)?;
+        Ok(done.map(|done| (done.slot, done.key)))
     }
 
     /// All that its acceptor ever accepted.

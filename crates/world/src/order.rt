@@ -5,7 +5,6 @@ ghost use Rattle.ballot.specs.declared.pvalue.Pvalue.{Pvalue};
 ghost use Rattle.world.specs.Nodes.{node};
 ghost use Rattle.world.specs.Chosen.{IsChosen, IsChosenFrom, IsOrder};
 ghost use Rattle.world.specs.Reached.{IsPlaced};
-ghost use Rattle.world.specs.Worlds.{same_key};
 ghost use Rattle.world.specs.Voters.{row, is_voted, HasVoted, HasNoneVoted};
 
 use crate::cluster::Cluster;
@@ -93,11 +92,9 @@ impl<O: Object> World<O> {
         ensures { (result ≡ true) ↔ IsPlaced self.now key }
     {
         ballot_laws();
-        for before in 0..self.reach {
-            if let Some(command) = self.chosen(before + 1) {
-                if is_as_late(command, key) {
-                    return has_key(command, key);
-                }
+        for own in &self.performed {
+            if is_as_late(*own, key) {
+                return *own == key;
             }
         }
         false
@@ -157,17 +154,9 @@ fn is_passed<Op: Value>(other: &Command<Op>, command: &Command<Op>) -> bool
     other.session != own.session || other.number < own.number
 }
 
-// Whether the command is of the key's session, and has no lower number.
-fn is_as_late<Op: Value>(command: &Command<Op>, key: Key) -> bool
-    ensures { result ≡ (command.now.key.session == key.session && nat_le key.number command.now.key.number) }
+// Whether it is of the key's session, and has no lower number.
+fn is_as_late(own: Key, key: Key) -> bool
+    ensures { result ≡ (own.session == key.session && nat_le key.number own.number) }
 {
-    let own = command.key();
     own.session == key.session && own.number >= key.number
-}
-
-// Whether the command has the key.
-fn has_key<Op: Value>(command: &Command<Op>, key: Key) -> bool
-    ensures { result ≡ same_key command.now.key key }
-{
-    command.key() == key
 }

@@ -18,7 +18,7 @@ use crate::error::WorldError;
 use crate::event::Event;
 use crate::laws::ballot_laws;
 use ballot::{Letter, Members};
-use object::{Answer, Command, Object, Submission, Value};
+use object::{Answer, Command, Key, Object, Submission, Value};
 use std::alloc::{AllocError, Global};
 use std::marker::Model;
 
@@ -29,7 +29,9 @@ pub struct World<O: Object> {
     pub(crate) cluster: Cluster<O>,
     submitted: Vec<Submission<O::Op>>,
     answers: Vec<Answer<O::Reply>>,
-    pub(crate) reach: u64,
+    // the keys of the commands of slots 1 to the reach
+    pub(crate) performed: Vec<Key>,
+    reach: u64,
     taken: u64,
 }
 
@@ -38,7 +40,7 @@ impl<O: Object> Model for World<O> {
     ghost use Rattle.slot_log.specs.Books.{slots_code};
     ghost use Rattle.world.specs.Objects.{rules_of};
     ghost use Rattle.world.specs.Worlds.{World};
-    ghost use Rattle.world.specs.Kept.{IsWorld};
+    ghost use Rattle.world.specs.Kept.{IsNoted};
 
     ghost Value = { World O.Op O.Reply };
 
@@ -51,12 +53,12 @@ impl<O: Object> Model for World<O> {
       taken = w.taken;
     } };
 
-    ghost invariant = { λ w. IsWorld (rules_of O.fresh O.after O.answers O.Op.eq) (record {
+    ghost invariant = { λ w. IsNoted (rules_of O.fresh O.after O.answers O.Op.eq) (record {
       cluster = w.cluster;
       happenings = record { submitted = w.submitted.items; answers = w.answers.items };
       reach = w.reach;
       taken = w.taken;
-    }) };
+    }) w.performed.items };
 }
 
 impl<O: Object> World<O> {
@@ -72,6 +74,7 @@ impl<O: Object> World<O> {
             cluster: Cluster::new(alloc, members)?,
             submitted: Vec::new(alloc),
             answers: Vec::new(alloc),
+            performed: Vec::new(alloc),
             reach: 0,
             taken: 0,
         };

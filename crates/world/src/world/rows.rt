@@ -1,17 +1,19 @@
-ghost use Rattle.std.specs.Prelude.{◌≡◌, ◌<◌, true, max, length, OnOk, OnErr};
+ghost use Rattle.std.specs.Prelude.{◌≡◌, ◌<◌, ℕ, true, max, length, OnOk, OnErr};
+ghost use Rattle.object.specs.declared.command.Key.{Key};
 ghost use Rattle.std.specs.Option.{option_map_or};
 ghost use Rattle.ballot.specs.Members.{is_member};
 ghost use Rattle.world.specs.declared.event.Event.TheVariants as events;
 ghost use Rattle.world.specs.Objects.{rules_of};
 ghost use Rattle.world.specs.Steps.{Step, IsItsOwn};
 ghost use Rattle.world.specs.Refusals.{most_events, IsAllowed};
+ghost use Rattle.world.specs.Kept.{key_past};
 
 use super::World;
 use crate::event::Event;
 use crate::laws::ballot_laws;
 use crate::submissions::{new_submission, push_in_room};
 use ballot::Slot;
-use object::{Command, Object};
+use object::{Command, Key, Object};
 use std::alloc::AllocError;
 
 impl<O: Object> World<O> {
@@ -92,8 +94,10 @@ impl<O: Object> World<O> {
         ensures err { OnErr result (self.new ≡ self.old) }
     {
         ballot_laws();
-        let slot = self.cluster.perform(id, &mut self.answers)?;
-        self.reach = reach_after(self.reach, slot);
+        self.performed.reserve(1)?;
+        let done = self.cluster.perform(id, &mut self.answers)?;
+        push_in_room(&mut self.performed, key_past(self.reach, &done));
+        self.reach = reach_after(self.reach, &done);
         self.taken += 1;
         Ok(())
     }
@@ -129,12 +133,22 @@ impl<O: Object> World<O> {
     }
 }
 
-// The reach after a replica performed a slot, or none.
-fn reach_after(reach: u64, slot: Option<Slot>) -> u64
-    ensures { result ≡ option_map_or (λ s. max reach s) slot reach }
+// The key that is noted where a replica performed this slot and key, or none: that of a slot past the reach.
+fn key_past(reach: u64, done: &Option<(Slot, Key)>) -> Option<Key>
+    ensures { result ≡ key_past reach done.now }
 {
-    match slot {
-        Some(slot) => reach.max(slot.number()),
+    match done {
+        Some((slot, key)) if slot.number() > reach => Some(*key),
+        _ => None,
+    }
+}
+
+// The reach after a replica performed a slot, or none.
+fn reach_after(reach: u64, done: &Option<(Slot, Key)>) -> u64
+    ensures { result ≡ option_map_or (λ (p : ℕ × Key). max reach p.0) done.now reach }
+{
+    match done {
+        Some((slot, _)) => reach.max(slot.number()),
         None => reach,
     }
 }

@@ -4,11 +4,11 @@ use Rattle.world.proofs.Keeping.{kept_perform, answers_performed}
 use Rattle.world.proofs.node.Node.perform.Goals as goal
 
 pub invariant_of-self-2 : goal.invariant_of-self-2
-invariant_of-self-2 g c = kept_perform (rules_of g.O.Object.fresh g.O.Object.after g.O.Object.answers g.O.Op.PartialEq.eq) _ c.self.inside.acceptor c.self.inside.replica _ _ refl c.in_ok-perform.ensures.state c.self.invariant
+invariant_of-self-2 g c = kept_perform (rules_of g.O.Object.fresh g.O.Object.after g.O.Object.answers g.O.Op.PartialEq.eq) _ c.self.inside.acceptor c.self.inside.replica _ _ refl c.in_ok-done.ensures.state c.self.invariant
 
 pub returns-clause-out : goal.returns-clause-out
 returns-clause-out g c = λ d e.
-    c.in_ok-perform.ensures.out ∙
+    c.in_ok-done.ensures.out ∙
     ap (λ l. c.args.out.now.items ++ l)
     (answers_performed (rules_of g.O.Object.fresh g.O.Object.after g.O.Object.answers g.O.Op.PartialEq.eq)
     (record { none = c.filter_remembers.ensures.none; done = c.filter_remembers.ensures.done; stale = c.filter_remembers.ensures.stale })

@@ -18,7 +18,7 @@ loop-index-preserved g c = record {
 }
 
 pub returns-in-Err-clause-later : goal.returns-in-Err-clause-later
-returns-in-Err-clause-later g c = subst (IsLater c.args.self.now) (sym c.in-Err.ensures.err) (later_by c.ballot_laws.ensures (rules_of g.O.Object.fresh g.O.Object.after g.O.Object.answers g.O.Op.PartialEq.eq) _ _ c.self.view_is c.self.invariant (take c.loop-index.index c.args.events.now) c.loop-index.self c.loop-index.invariant.led)
+returns-in-Err-clause-later g c = subst (IsLater c.args.self.now) (sym c.in-Err.ensures.err) (later_by c.ballot_laws.ensures (rules_of g.O.Object.fresh g.O.Object.after g.O.Object.answers g.O.Op.PartialEq.eq) _ _ c.self.view_is c.self.invariant.world (take c.loop-index.index c.args.events.now) c.loop-index.self c.loop-index.invariant.led)
 
 pub returns-clause-later : goal.returns-clause-later
-returns-clause-later g c = later_by c.ballot_laws.ensures (rules_of g.O.Object.fresh g.O.Object.after g.O.Object.answers g.O.Op.PartialEq.eq) _ _ c.self.view_is c.self.invariant (take c.loop-index.index c.args.events.now) c.loop-index.self c.loop-index.invariant.led
+returns-clause-later g c = later_by c.ballot_laws.ensures (rules_of g.O.Object.fresh g.O.Object.after g.O.Object.answers g.O.Op.PartialEq.eq) _ _ c.self.view_is c.self.invariant.world (take c.loop-index.index c.args.events.now) c.loop-index.self c.loop-index.invariant.led

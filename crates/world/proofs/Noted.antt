@@ -1,0 +1,63 @@
+-- The keys of what was performed, from event to event.
+use Rattle.std.proofs.Common.{◌≡◌, ⊎_elim, ℕ, ◌+◌, ◌<◌, ◌≤◌, true, false, nat_lt, cond, List, [], ◌∷◌, ◌++◌, length-append, max, Option, Some, None, refl, sym, ap, ◌∙◌, subst, append-nil, arith}
+use Rattle.std.specs.Option.{option_map, option_map_or, option_to_list}
+use Rattle.std.proofs.lemmas.Bool.{cases_Bool}
+use Rattle.std.proofs.lemmas.Bool.Decides.{nat_tests}
+use Rattle.std.proofs.lemmas.List.{map-append}
+use Rattle.object.specs.declared.command.Command.{Command}
+use Rattle.object.specs.declared.command.Key.{Key}
+use Rattle.slot_log.specs.Decisions.{next_decided}
+use Rattle.world.specs.Chosen.{IsChosen}
+use Rattle.world.specs.Nodes.{node}
+use Rattle.world.specs.Worlds.{World, opening}
+use Rattle.world.specs.Kept.{HasNoted, key_past}
+use Rattle.world.proofs.Invariants.{IsSound}
+use Rattle.world.proofs.Grows.{Grows}
+use Rattle.world.proofs.Performed.{run_stays, run_push}
+use Rattle.world.proofs.Told.{AllWithin}
+
+pub opening_noted : {Op Reply : Type 0} (members : List ℕ) → HasNoted {Op = Op} {Reply = Reply} (opening members) []
+opening_noted members = ([], record { chosen = tt; count = refl }, refl)
+
+module _ {Op Reply : Type 0} (v u : World Op Reply) (grows : Grows v.cluster u.cluster) (keys : List Key) (noted : HasNoted v keys) where
+  -- where the reach stays, so do the keys
+  pub noted_stays : u.reach ≡ v.reach → HasNoted u keys
+  noted_stays same = (noted.0, record { chosen = run_stays v.cluster u.cluster grows 1 noted.0 noted.1.chosen; count = noted.1.count ∙ sym same }, noted.2)
+
+  -- and where it grows by one slot, the key of its command is one more
+  pub noted_more : (c : Command Op) → IsChosen v.cluster u.reach c → u.reach ≡ v.reach + 1 → HasNoted u (keys ++ (c.key ∷ []))
+  noted_more c chosen more =
+      let count = noted.1.count in (
+        noted.0 ++ (c ∷ []),
+        record {
+          chosen = run_stays v.cluster u.cluster grows 1 (noted.0 ++ (c ∷ [])) (run_push v.cluster 1 noted.0 c noted.1.chosen (subst (λ s. IsChosen v.cluster s c) (omega arith) chosen));
+          count = let f = length-append noted.0 (c ∷ []) in omega arith;
+        },
+        ap (λ ks. ks ++ (c.key ∷ [])) noted.2 ∙ sym (map-append (λ (x : Command Op). x.key) noted.0 (c ∷ [])),
+      )
+
+past_when : (reach slot : ℕ) → nat_lt reach slot ≡ true → reach < slot
+past_when reach slot e = grind (arith, nat_tests)
+
+within_when : (reach slot : ℕ) → nat_lt reach slot ≡ false → slot ≤ reach
+within_when reach slot e = grind (arith, nat_tests)
+
+-- a replica performs
+pub performs_noted : {Op Reply : Type 0} (v u : World Op Reply) → IsSound v.cluster → AllWithin v.cluster (v.reach + 1) → Grows v.cluster u.cluster → (keys : List Key) → HasNoted v keys → (n : ℕ) (o : Option (Command Op)) → next_decided (node v.cluster n).replica ≡ o
+    → u.reach ≡ option_map_or (λ (p : ℕ × Key). max v.reach p.0) (option_map (λ c. ((node v.cluster n).replica.slot_out, c.key)) o) v.reach
+    → HasNoted u (keys ++ option_to_list (key_past v.reach (option_map (λ c. ((node v.cluster n).replica.slot_out, c.key)) o)))
+performs_noted v u i within g keys noted n None e reach = subst (HasNoted u) (sym (append-nil keys)) (noted_stays v u g keys noted reach)
+performs_noted v u i within g keys noted n (Some c) e reach = ⊎_elim
+    (λ (t : nat_lt v.reach slot ≡ true).
+    let past = past_when v.reach slot t in
+    let low = within n in
+    subst (λ b. HasNoted u (keys ++ option_to_list (cond b (Some c.key) None))) (sym t)
+    (noted_more v u g keys noted c (subst (λ s. IsChosen v.cluster s c) (omega arith) ((i.nodes n).decisions slot c e)) (omega arith)))
+    (λ (f : nat_lt v.reach slot ≡ false).
+    let old = within_when v.reach slot f in
+    subst (λ b. HasNoted u (keys ++ option_to_list (cond b (Some c.key) None))) (sym f)
+    (subst (HasNoted u) (sym (append-nil keys)) (noted_stays v u g keys noted (reach ∙ omega arith))))
+    (cases_Bool (nat_lt v.reach slot))
+  where
+    slot : ℕ
+    slot = (node v.cluster n).replica.slot_out
