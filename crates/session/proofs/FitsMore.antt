@@ -1,9 +1,9 @@
 -- What fits goes on to fit where more bytes come.
-use Rattle.std.proofs.Common.{◌≡◌, ◌≢◌, ℕ, List, [], ◌∷◌, ◌++◌, codes, length, take, refl, ap, subst, sym}
+use Rattle.std.proofs.Common.{ℕ, List, [], ◌∷◌, ◌++◌, take, refl, ap, subst}
 use Rattle.std.proofs.lemmas.List.{append-nil}
 use Rattle.whole_codec.specs.declared.reader.Want.{Want}
 use Rattle.whole_codec.specs.declared.reader.Want.TheVariants.{Line, Rest, Big}
-use Rattle.whole_codec.specs.Lines.{crlf, IsLine}
+use Rattle.whole_codec.specs.Lines.{IsLine}
 use Rattle.whole_codec.specs.Wants.{EndsWithCr, FitsRest, Fits}
 
 -- a byte more makes no CR LF of what doesn't end with CR

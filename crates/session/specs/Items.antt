@@ -1,4 +1,4 @@
--- The items of a text, up to the first quit, and what is told for them.
+-- The items of a text, up to the first quit, and what is told for them (protocol.txt of beanstalkd, "Protocol").
 use Rattle.std.specs.Prelude.{◌≡◌, ℕ, Bool, true, false, MatchBool, List, [], ◌∷◌, ◌++◌, Ok, Err, codes}
 use Rattle.whole_queue.specs.declared.op.Op.{Op}
 use Rattle.whole_queue.specs.declared.reply.Reply.{Reply}
@@ -47,7 +47,7 @@ pub data Answer : Type 0 where
   Replied : Reply → Answer
   Refused : Answer
 
--- the line that answers a refused operation
+-- the line that answers a refused operation (protocol.txt of beanstalkd, "Protocol")
 unfoldable pub refused_text : List ℕ
 refused_text = ended (codes "OUT_OF_MEMORY")
 

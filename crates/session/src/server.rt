@@ -54,7 +54,7 @@ fn read_piece<R: ByteIn>(
     session: &mut Session,
 ) -> Result<bool, SessionFault>
     requires { 0 < length piece.old }
-    ensures fed { IfOk result (λ some. some ≡ true → (bytes : List ℕ) × Consumes (R.remaining reader.old) (R.remaining reader.new) bytes
+    ensures fed { IfOk result (λ some. some ≡ true → (bytes : List ℕ) × (0 < length bytes) × Consumes (R.remaining reader.old) (R.remaining reader.new) bytes
         × (session.new.unsent ≡ session.old.unsent) × (session.new.is_open ≡ session.old.is_open)
         × ((text : List ℕ) → StandsAt session.old text → StandsAt session.new (text ++ bytes))) }
     ensures ended { IfOk result (λ some. some ≡ false → (R.has_ended reader.new ≡ true) × IsAtEnd (R.remaining reader.new)

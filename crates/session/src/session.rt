@@ -6,10 +6,13 @@ ghost use Rattle.session.specs.Held.{holding, nothing_held, is_asked, MayKeep, S
 
 use std::alloc::{AllocError, Global};
 use std::marker::Model;
-use whole_codec::{Fault, Read, Request, Want, read_request, write_fault, write_reply};
+use whole_codec::{Read, Request, Want, read_request, write_fault, write_reply};
 use whole_queue::Reply;
 
 /// One client's bytes on their way to asks, and its answers on their way back to bytes.
+///
+/// Bytes are fed as they come. Asks are taken one by one, each is answered before the next is taken, and what is to be
+/// told gathers until it is sent. Where no ask is left, no more is kept than a request that isn't finished.
 #[derive(Drop)]
 pub struct Session {
     /// What was fed, as far as it is kept.
@@ -52,7 +55,7 @@ impl Session {
         }
     }
 
-    /// The next bytes of the client.
+    /// The next bytes of the client, which are copied.
     pub fn feed(&mut self, piece: &[u8]) -> Result<(), AllocError>
         ensures ok { OnOk result (self.new ≡ record self.old { kept = self.old.kept ++ piece.now }) }
         ensures stands { OnOk result ((text : List ℕ) → StandsAt self.old text → StandsAt self.new (text ++ piece.now)) }
@@ -61,6 +64,7 @@ impl Session {
         self.append(piece)
     }
 
+    // A piece more is kept.
     fn append(&mut self, piece: &[u8]) -> Result<(), AllocError>
         ensures ok { OnOk result (self.new ≡ record self.old { kept = self.old.kept ++ piece.now }) }
         ensures err { OnErr result (self.new ≡ self.old) }
@@ -81,7 +85,8 @@ impl Session {
         }
     }
 
-    /// The request at the front of what was fed. The faults before it are put down as text to send.
+    /// The request at the front of what was fed, or that there is none as yet. The faults before it are put down as
+    /// text to send. After a quit it goes on with what follows.
     pub fn next_ask(&mut self) -> Result<Option<Request>, AllocError>
         requires { self.old.is_open ≡ false }
         ensures found { IfOk result (λ found. (text : List ℕ) → StandsAt self.old text → Finds self.old self.new text found) }
@@ -161,7 +166,8 @@ struct Found {
     want: Want,
 }
 
-// The first request from `start` on. The faults before it are written.
+// The first request from `start` on. The faults before it are written. At a put whose body isn't there, no more is
+// looked at than its line.
 fn look_on(
     alloc: Global,
     bytes: &[u8],

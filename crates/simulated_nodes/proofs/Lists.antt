@@ -1,5 +1,5 @@
 -- Membership.
-use Rattle.std.proofs.Common.{◌≡◌, ◌⊎◌, inl, inr, ⊎_elim, List, [], ◌∷◌, ◌++◌, map, length, take, drop, ℕ, zero, suc, ◌<◌, true, refl, ap, ap₂, sym, subst, arith}
+use Rattle.std.proofs.Common.{◌≡◌, ◌⊎◌, inl, inr, ⊎_elim, List, [], ◌∷◌, ◌++◌, map, length, take, drop, ℕ, zero, suc, ◌<◌, ◌+◌, ◌∙◌, true, false, refl, ap, ap₂, sym, subst, arith}
 use Rattle.std.specs.Prelude.{◌&&◌, nat_eq, slice_index_or}
 use Rattle.std.proofs.lemmas.Bool.{and_parts}
 use Rattle.std.proofs.lemmas.Bool.Decides.{nat_tests}
@@ -72,3 +72,23 @@ last-append x (z ∷ xs) y ys = last-append z xs y ys
 pub In-last : {A : Type 0} (y : A) (ys : List A) → In (last_or y ys) (y ∷ ys)
 In-last y [] = inl refl
 In-last y (z ∷ zs) = inr (In-last z zs)
+
+-- one element more of a beginning
+pub In-next : {A : Type 0} (xs : List A) (i : ℕ) (x y z : A) → i < length xs → x ≡ slice_index_or xs i y → (P : A → Type 0) → (In z (take i xs) → P z) → P x → In z (take (i + 1) xs) → P z
+In-next {A} xs i x y z within is P earlier here j = step xs i within is earlier (subst (λ n. In z (take n xs)) (suc_is i) j)
+  where
+    suc_is : (i : ℕ) → i + 1 ≡ suc i
+    suc_is i = omega arith
+
+    step : (xs : List A) (i : ℕ) → i < length xs → x ≡ slice_index_or xs i y → (In z (take i xs) → P z) → In z (take (suc i) xs) → P z
+    step [] i within is earlier j = absurd (omega (arith, within))
+    step (w ∷ xs) zero within is earlier (inl e) = subst P (is ∙ sym e) here
+    step (w ∷ xs) zero within is earlier (inr j) = absurd j
+    step (w ∷ xs) (suc i) within is earlier (inl e) = earlier (inl e)
+    step (w ∷ xs) (suc i) within is earlier (inr j) = step xs i (omega (arith, within)) is (λ k. earlier (inr k)) j
+
+pub key_other : (a b : Key) → (nat_eq a.session b.session && nat_eq a.number b.number) ≡ false → a ≡ b → ⊥
+key_other a b e same =
+    let session = ap (λ (k : Key). k.session) same in
+    let number = ap (λ (k : Key). k.number) same in
+    grind (arith, nat_tests)

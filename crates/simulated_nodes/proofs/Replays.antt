@@ -46,15 +46,15 @@ module _ {O Op Reply : Type 0} (rules : Rules O Op Reply) where
   answers_to waits waited named s place [] p i = absurd i
   answers_to waits waited named s place (c ∷ cs) p i = ⊎_elim
       (λ (here : In p (at_place place (rules.answers s c))).
-          let r = In-image (λ (a : Answer Reply). record { place = place; answer = a }) p (rules.answers s c) here in
-          let to = ap (λ (q : Placed Reply). q.answer.to) r.2 in
-          ⊎_elim (λ (own : r.0.to ≡ c.key). inl (c, inl refl, sym (to ∙ own))) (λ (w : waits s r.0.to). inr (subst (waits s) (sym to) w)) (named s c r.0 r.1))
+      let r = In-image (λ (a : Answer Reply). record { place = place; answer = a }) p (rules.answers s c) here in
+      let to = ap (λ (q : Placed Reply). q.answer.to) r.2 in
+      ⊎_elim (λ (own : r.0.to ≡ c.key). inl (c, inl refl, sym (to ∙ own))) (λ (w : waits s r.0.to). inr (subst (waits s) (sym to) w)) (named s c r.0 r.1))
       (λ (later : In p (replayed (rules.after s c) (suc place) cs)).
-          ⊎_elim
-          (λ (r : (d : Command Op) × In d cs × (d.key ≡ p.answer.to)). inl (r.0, inr r.1, r.2))
-          (λ (w : waits (rules.after s c) p.answer.to).
-              ⊎_elim (λ (v : waits s p.answer.to). inr v) (λ (own : p.answer.to ≡ c.key). inl (c, inl refl, sym own)) (waited s c p.answer.to w))
-          (answers_to waits waited named (rules.after s c) (suc place) cs p later))
+      ⊎_elim
+      (λ (r : (d : Command Op) × In d cs × (d.key ≡ p.answer.to)). inl (r.0, inr r.1, r.2))
+      (λ (w : waits (rules.after s c) p.answer.to).
+      ⊎_elim (λ (v : waits s p.answer.to). inr v) (λ (own : p.answer.to ≡ c.key). inl (c, inl refl, sym own)) (waited s c p.answer.to w))
+      (answers_to waits waited named (rules.after s c) (suc place) cs p later))
       (In-cases p (at_place place (rules.answers s c)) (replayed (rules.after s c) (suc place) cs) i)
 
 pub once-right : {Reply : Type 0} (xs ys : List (Answer Reply)) → AnswersOnce (xs ++ ys) → AnswersOnce ys
@@ -68,16 +68,16 @@ reply_found {Reply} (x ∷ xs) a once (inl e) = ap (λ b. cond b (Some x.reply) 
   where
     itself : (k : Key) → same_key k k ≡ true
     itself k = grind (arith, nat_tests)
-reply_found (x ∷ xs) a once (inr i) = at (same_key x.to a.to) refl
+reply_found (x ∷ xs) a once (inr i) = at (same_key x.to a.to) refl (reply_found xs a once.1 i)
   where
-    at : (b : Bool) → same_key x.to a.to ≡ b → cond b (Some x.reply) (reply_to a.to xs) ≡ Some a.reply
-    at true e = absurd (once.0 a i (sym (key_same x.to a.to e)))
-    at false e = reply_found xs a once.1 i
+    at : (b : Bool) → same_key x.to a.to ≡ b → reply_to a.to xs ≡ Some a.reply → cond b (Some x.reply) (reply_to a.to xs) ≡ Some a.reply
+    at true e later = absurd (once.0 a i (sym (key_same x.to a.to e)))
+    at false e later = later
 
 pub reply_missing : {Reply : Type 0} (xs : List (Answer Reply)) (key : Key) → ((a : Answer Reply) → In a xs → a.to ≢ key) → reply_to key xs ≡ None
 reply_missing [] key none = refl
-reply_missing (x ∷ xs) key none = at (same_key x.to key) refl
+reply_missing (x ∷ xs) key none = at (same_key x.to key) refl (reply_missing xs key (λ a i. none a (inr i)))
   where
-    at : (b : Bool) → same_key x.to key ≡ b → cond b (Some x.reply) (reply_to key xs) ≡ None
-    at true e = absurd (none x (inl refl) (key_same x.to key e))
-    at false e = reply_missing xs key (λ a i. none a (inr i))
+    at : (b : Bool) → same_key x.to key ≡ b → reply_to key xs ≡ None → cond b (Some x.reply) (reply_to key xs) ≡ None
+    at true e later = absurd (none x (inl refl) (key_same x.to key e))
+    at false e later = later

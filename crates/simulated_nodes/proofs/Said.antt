@@ -1,10 +1,11 @@
 -- What a command that is placed has said to a key, and how far the client has come.
-use Rattle.std.proofs.Common.{◌≡◌, ◌≢◌, ◌⊎◌, inl, inr, ⊎_elim, ℕ, ◌+◌, ◌<◌, ◌≤◌, List, [], ◌∷◌, ◌++◌, map, Option, None, Some, IfSome, IfNone, refl, sym, ap, ap₂, ◌∙◌, subst, arith}
+use Rattle.std.proofs.Common.{◌≡◌, ◌≢◌, ◌⊎◌, inl, inr, ⊎_elim, ℕ, zero, suc, ◌+◌, ◌-◌, ◌<◌, ◌≤◌, List, [], ◌∷◌, ◌++◌, map, Option, None, Some, IfSome, IfNone, refl, sym, ap, ap₂, ◌∙◌, subst, arith}
 use Rattle.std.proofs.lemmas.List.{append-nil, map-append}
 use Rattle.object.specs.Lists.{In}
 use Rattle.object.specs.Answers.{AnswersOnce}
 use Rattle.object.specs.Replays.{Placed}
 use Rattle.object.specs.declared.command.Act.{Act}
+use Rattle.object.specs.declared.command.Act.TheVariants.{Do, Tick}
 use Rattle.object.specs.declared.command.Answer.{Answer}
 use Rattle.object.specs.declared.command.Command.{Command}
 use Rattle.object.specs.declared.command.Key.{Key}
@@ -12,7 +13,7 @@ use Rattle.object.specs.declared.command.Submission.{Submission}
 use Rattle.world.specs.Objects.{Rules}
 use Rattle.world.specs.Worlds.{World}
 use Rattle.world.specs.Reached.{IsPlaced}
-use Rattle.simulated_nodes.specs.OneClient.{Talk, Said, next_key, request, next_second, reply_to, obeyed, passed}
+use Rattle.simulated_nodes.specs.OneClient.{Talk, Said, next_key, request, next_second, reply_to, obeyed, passed, unless_said, waited, answered}
 use Rattle.simulated_nodes.specs.Standing.{StandsFor, Stand, IsSaid, Carries, IsFresh, AreUnused, HasTold, HasReplied, HasNotReplied, state_after, submitted_to}
 use Rattle.simulated_nodes.proofs.Lists.{In-left, In-right, In-cases, In-one, In-map}
 use Rattle.simulated_nodes.proofs.Carried.{order_ends, all_told}
@@ -42,7 +43,7 @@ module _ {O Op Reply : Type 0} (rules : Rules O Op Reply) where
         let cut = subst (λ ps. AnswersOnce (map (λ (p : Placed Reply). p.answer) ps)) last.1 all in
         subst AnswersOnce (answers_at last.0 given)
         (once-right (map (λ (p : Placed Reply). p.answer) (replayed rules rules.fresh 0 before)) (map (λ (p : Placed Reply). p.answer) (at_place last.0 given))
-            (subst AnswersOnce (map-append (λ (p : Placed Reply). p.answer) (replayed rules rules.fresh 0 before) (at_place last.0 given)) cut))
+        (subst AnswersOnce (map-append (λ (p : Placed Reply). p.answer) (replayed rules rules.fresh 0 before) (at_place last.0 given)) cut))
 
     -- where the world hadn't replied to the key, what it replies by now is what the command said to it
     module _ (key : Key) (not_yet : HasNotReplied old key) where
@@ -55,7 +56,7 @@ module _ {O Op Reply : Type 0} (rules : Rules O Op Reply) where
           ⊎_elim
           (λ (earlier : In p (replayed rules rules.fresh 0 before)). absurd (not_yet reply (stands.told r.0 a earlier)))
           (λ (now : In p (at_place last.0 given)).
-              reply_found given a once (subst (In a) (answers_at last.0 given) (In-map (λ (q : Placed Reply). q.answer) p (at_place last.0 given) now)))
+          reply_found given a once (subst (In a) (answers_at last.0 given) (In-map (λ (q : Placed Reply). q.answer) p (at_place last.0 given) now)))
           (In-cases p (replayed rules rules.fresh 0 before) (at_place last.0 given) there)
 
       said_none : HasNotReplied new key → reply_to key given ≡ None
@@ -130,12 +131,84 @@ module _ {O Op Reply : Type 0} (rules : Rules O Op Reply) where
       → ((s : O) (c : Command Op) (k : Key) → waits (rules.after s c) k → waits s k ⊎ (k ≡ c.key))
       → ((s : O) (c : Command Op) (a : Answer Reply) → In a (rules.answers s c) → (a.to ≡ c.key) ⊎ waits s a.to)
       → (w : World Op Reply) (t : Talk O) → StandsFor rules w t → (key : Key) → IsFresh (submitted_to w) key → HasNotReplied w key
-  not_replied waits idle waited named w t stands key fresh reply replied =
+  not_replied waits idle waiting named w t stands key fresh reply replied =
       let a : Answer Reply = record { to = key; reply = reply } in
       let r = stands.one_order.legal.answered a replied in
       ⊎_elim
       (λ (d : (c : Command Op) × In c stands.one_order.order × (c.key ≡ key)).
-          let was = stands.one_order.legal.submitted d.0 d.1 in
-          fresh d.0 (subst (λ x. In x (submitted_to w)) was.2 (In-map (λ (x : Submission Op). x.command) was.0 w.happenings.submitted was.1)) d.2)
+      let was = stands.one_order.legal.submitted d.0 d.1 in
+      fresh d.0 (subst (λ x. In x (submitted_to w)) was.2 (In-map (λ (x : Submission Op). x.command) was.0 w.happenings.submitted was.1)) d.2)
       (λ (w : waits rules.fresh key). idle key w)
-      (answers_to rules waits waited named rules.fresh 0 stands.one_order.order (record { place = r.0; answer = a }) r.1)
+      (answers_to rules waits waiting named rules.fresh 0 stands.one_order.order (record { place = r.0; answer = a }) r.1)
+
+module _ {O Op Reply : Type 0} (rules : Rules O Op Reply) (old new : World Op Reply) (next second : ℕ) (t : Talk O) (key : Key) (c : Command Op) (reply : Option Reply)
+    (stand : Stand rules old next second t) (fresh : IsFresh (submitted_to old) c.key)
+    (carried : (u : Talk O) → StandsFor rules old u → IsFresh (submitted_to old) c.key → Carries rules new (submitted_to old) c) (placed : IsPlaced new c.key)
+    (some : IfSome reply (HasReplied new key)) (none : IfNone reply (HasNotReplied old key → HasNotReplied new key)) (not_yet : HasNotReplied old key) where
+  -- what the command said, where it is the next request or the next second
+  after : (u : Talk O) → u.object ≡ rules.after t.object c → AreUnused u.next u.second (submitted_to old ++ (c ∷ [])) → (m n : ℕ) → m ≡ u.next → n ≡ u.second
+      → IsSaid rules new m n key (record { talk = u; reply = reply_to key (rules.answers t.object c) }) reply
+  after u object unused m n is_next is_second =
+      let carries = carried t stand.world fresh in
+      record {
+        stand = record { world = stands_after rules old new t c stand.world fresh carries placed u object unused; request = is_next; tick = is_second };
+        same = said_is rules old new t c stand.world fresh carries placed key not_yet reply some none;
+        none = not_said rules old new t c stand.world fresh carries placed key not_yet reply none;
+      }
+
+-- the same of the next request, under other names
+module _ {O Op Reply : Type 0} (rules : Rules O Op Reply) (waits : O → Key → Type 0)
+    (idle : (k : Key) → waits rules.fresh k → ⊥)
+    (waiting : (s : O) (c : Command Op) (k : Key) → waits (rules.after s c) k → waits s k ⊎ (k ≡ c.key))
+    (named : (s : O) (c : Command Op) (a : Answer Reply) → In a (rules.answers s c) → (a.to ≡ c.key) ⊎ waits s a.to) where
+  pub request_said : (old new : World Op Reply) (next second : ℕ) (t : Talk O) (key : Key) (act : Act Op) (c : Command Op) (reply : Option Reply)
+      → Stand rules old next second t → key ≡ record { session = 1; number = next } → c ≡ record { key = key; act = act }
+      → ((u : Talk O) → StandsFor rules old u → IsFresh (submitted_to old) c.key → Carries rules new (submitted_to old) c) → IsPlaced new c.key
+      → IfSome reply (HasReplied new key) → IfNone reply (HasNotReplied old key → HasNotReplied new key)
+      → IsSaid rules new (next + 1) second key (obeyed rules t act) reply
+  request_said old new next second t key act c reply stand key_is command carried placed some none =
+      let own_key : key ≡ next_key t = key_is ∙ ap (λ n. record { session = 1; number = n }) stand.request in
+      let own : c ≡ request t act = command ∙ ap (λ (k : Key). record { key = k; act = act }) own_key in
+      subst (λ (k : Key). IsSaid rules new (next + 1) second k (obeyed rules t act) reply) (sym own_key)
+      (said own
+      (subst (λ d. (u : Talk O) → StandsFor rules old u → IsFresh (submitted_to old) d.key → Carries rules new (submitted_to old) d) own carried)
+      (subst (λ (d : Command Op). IsPlaced new d.key) own placed)
+      (subst (λ k. IfSome reply (HasReplied new k)) own_key some)
+      (subst (λ k. IfNone reply (HasNotReplied old k → HasNotReplied new k)) own_key none))
+    where
+      said : c ≡ request t act → ((u : Talk O) → StandsFor rules old u → IsFresh (submitted_to old) (next_key t) → Carries rules new (submitted_to old) (request t act)) → IsPlaced new (next_key t)
+          → IfSome reply (HasReplied new (next_key t)) → IfNone reply (HasNotReplied old (next_key t) → HasNotReplied new (next_key t))
+          → IsSaid rules new (next + 1) second (next_key t) (obeyed rules t act) reply
+      said own carried placed some none =
+          let fresh = request_fresh rules old t stand.world in
+          after rules old new next second t (next_key t) (request t act) reply stand fresh carried placed some none
+          (not_replied rules waits idle waiting named old t stand.world (next_key t) fresh)
+          (obeyed rules t act).talk refl (request_unused rules t (submitted_to old) act stand.world.unused) (next + 1) second (ap (λ n. n + 1) stand.request) stand.tick
+
+-- and of the next second
+pub second_said : {O Op Reply : Type 0} (rules : Rules O Op Reply) (old new : World Op Reply) (next second : ℕ) (t : Talk O) (key : Key) (c : Command Op) (reply : Option Reply)
+    → Stand rules old next second t → HasNotReplied old key → c ≡ record { key = record { session = 0; number = second + 1 }; act = Tick }
+    → ((u : Talk O) → StandsFor rules old u → IsFresh (submitted_to old) c.key → Carries rules new (submitted_to old) c) → IsPlaced new c.key
+    → IfSome reply (HasReplied new key) → IfNone reply (HasNotReplied old key → HasNotReplied new key)
+    → IsSaid rules new next (second + 1) key (passed rules key t) reply
+second_said {O} {Op} {Reply} rules old new next second t key c reply stand not_yet command carried placed some none =
+    let own : c ≡ next_second t = command ∙ ap (λ n. record { key = record { session = 0; number = n + 1 }; act = Tick }) stand.tick in
+    after rules old new next second t key (next_second t) reply stand (tick_fresh rules old t stand.world)
+    (subst (λ d. (u : Talk O) → StandsFor rules old u → IsFresh (submitted_to old) d.key → Carries rules new (submitted_to old) d) own carried)
+    (subst (λ (d : Command Op). IsPlaced new d.key) own placed) some none not_yet
+    (passed rules key t).talk refl (tick_unused rules t (submitted_to old) stand.world.unused) next (second + 1) stand.request (ap (λ n. n + 1) stand.tick)
+
+-- a wait that is over
+pub wait_over : {O Op Reply : Type 0} (rules : Rules O Op Reply) (key : Key) (n : ℕ) (s : Said O Reply) (reply : Reply) → s.reply ≡ Some reply → waited rules key n s ≡ s
+wait_over rules key zero s reply e = refl
+wait_over rules key (suc n) s reply e = ap (unless_said (λ t. waited rules key n (passed rules key t)) s) e
+
+-- and one that goes on
+pub wait_more : {O Op Reply : Type 0} (rules : Rules O Op Reply) (key : Key) (n : ℕ) (s : Said O Reply) → n < 3600 → s.reply ≡ None → waited rules key (3600 - n) s ≡ waited rules key (3600 - (n + 1)) (passed rules key s.talk)
+wait_more rules key n s less e =
+    let count : 3600 - n ≡ suc (3600 - (n + 1)) = omega (arith, less) in
+    ap (λ m. waited rules key m s) count ∙ ap (unless_said (λ t. waited rules key (3600 - (n + 1)) (passed rules key t)) s) e
+
+pub opens_wait : {O Op Reply : Type 0} (rules : Rules O Op Reply) (t : Talk O) (op : Op) (next : ℕ) → next ≡ t.next → waited rules (record { session = 1; number = next }) 3600 (obeyed rules t (Do op)) ≡ answered rules t op
+unfolding answered
+opens_wait rules t op next is = ap (λ n. waited rules (record { session = 1; number = n }) 3600 (obeyed rules t (Do op))) is

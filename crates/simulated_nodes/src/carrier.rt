@@ -48,11 +48,7 @@ impl<O: Object> Carrier<O> {
     }
 
     /// Carries a command until it is placed, and answers the reply that came to the key on the way.
-    pub fn carry(
-        &mut self,
-        command: &Command<O::Op>,
-        key: Key,
-    ) -> Result<Option<O::Reply>, Stopped>
+    pub fn carry(&mut self, command: &Command<O::Op>, key: Key) -> Result<Option<O::Reply>, Stopped>
         ensures carried { OnOk result ((t : Talk O) → StandsFor (rules_of O.fresh O.after O.answers O.Op.eq) self.old.world t
             → IsFresh (submitted_to self.old.world) command.now.key
             → Carries (rules_of O.fresh O.after O.answers O.Op.eq) self.new.world (submitted_to self.old.world) command.now) }

@@ -12,6 +12,9 @@ use std::alloc::{AllocError, Global};
 /// How many seconds a client waits for a reply.
 const LONGEST_WAIT: u32 = 3_600;
 
+/// The last second of a clock.
+const LAST_SECOND: u64 = 1 << 40;
+
 /// Simulated nodes, and the one client that they serve.
 ///
 /// The seed draws what happens between the nodes. A refused event is tried again.
@@ -43,7 +46,7 @@ impl<O: Object> Nodes<O> {
             → (answered (rules_of O.fresh O.after O.answers O.Op.eq) t op).reply ≡ Some reply) }
         ensures stand { OnOk result ((t : Talk O) → Stand (rules_of O.fresh O.after O.answers O.Op.eq) self.old.carrier.world self.old.next self.old.second t
             → Stand (rules_of O.fresh O.after O.answers O.Op.eq) self.new.carrier.world self.new.next self.new.second
-                (answered (rules_of O.fresh O.after O.answers O.Op.eq) t op).talk) }
+            (answered (rules_of O.fresh O.after O.answers O.Op.eq) t op).talk) }
     {
         let key = Key {
             session: 1,
@@ -57,7 +60,10 @@ impl<O: Object> Nodes<O> {
             }
             reply = self.pass_second(key)?;
         }
-        reply.ok_or(Stopped)
+        match reply {
+            Some(reply) => Ok(reply),
+            None => Err(Stopped),
+        }
     }
 
     /// The client leaves.
@@ -81,9 +87,11 @@ impl<O: Object> Nodes<O> {
         requires { key ≡ record { session = 1; number = self.old.next } }
         ensures said { IfOk result (λ said. (t : Talk O) → Stand (rules_of O.fresh O.after O.answers O.Op.eq) self.old.carrier.world self.old.next self.old.second t
             → IsSaid (rules_of O.fresh O.after O.answers O.Op.eq) self.new.carrier.world self.new.next self.new.second key
-                (obeyed (rules_of O.fresh O.after O.answers O.Op.eq) t act) said) }
+            (obeyed (rules_of O.fresh O.after O.answers O.Op.eq) t act) said) }
     {
-        let command = Command::new(key, act).ok_or(Stopped)?;
+        let Some(command) = Command::new(key, act) else {
+            return Err(Stopped);
+        };
         let reply = self.carrier.carry(&command, key)?;
         self.next += 1;
         Ok(reply)
@@ -94,16 +102,20 @@ impl<O: Object> Nodes<O> {
         ensures said { IfOk result (λ said. (t : Talk O) → Stand (rules_of O.fresh O.after O.answers O.Op.eq) self.old.carrier.world self.old.next self.old.second t
             → HasNotReplied self.old.carrier.world key
             → IsSaid (rules_of O.fresh O.after O.answers O.Op.eq) self.new.carrier.world self.new.next self.new.second key
-                (passed (rules_of O.fresh O.after O.answers O.Op.eq) key t) said) }
+            (passed (rules_of O.fresh O.after O.answers O.Op.eq) key t) said) }
     {
-        let second = self.second.checked_add(1).ok_or(Stopped)?;
+        if self.second >= LAST_SECOND {
+            return Err(Stopped);
+        }
         let tick = Key {
             session: 0,
-            number: second,
+            number: self.second + 1,
         };
-        let command = Command::new(tick, Act::Tick).ok_or(Stopped)?;
+        let Some(command) = Command::new(tick, Act::Tick) else {
+            return Err(Stopped);
+        };
         let reply = self.carrier.carry(&command, key)?;
-        self.second = second;
+        self.second += 1;
         Ok(reply)
     }
 }

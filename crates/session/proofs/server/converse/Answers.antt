@@ -124,12 +124,12 @@ turns-preserved g c =
           let s = w.read_piece.new.session in
           let some : w.in_ok-read_piece-in-None.field-0 ≡ true = search rules in
           let fed = w.in_ok-read_piece-in-None.ensures.fed some in
-          let stands : (text : List ℕ) → StandsAt t text → StandsAt s (text ++ fed.0) = subst (λ (u : Held). (text : List ℕ) → StandsAt u text → StandsAt s (text ++ fed.0)) cleared fed.4 in
+          let stands : (text : List ℕ) → StandsAt t text → StandsAt s (text ++ fed.0) = subst (λ (u : Held). (text : List ℕ) → StandsAt u text → StandsAt s (text ++ fed.0)) cleared fed.5 in
           record {
-            goes = goes_as g.S.Service.asks c.args.service.now c.turns.service c.match-found-5.service a m (g.R.ByteIn.remaining c.match-found-5.reader) h l [] s c.match-found-5.session w.service-is (ap g.R.ByteIn.remaining w.reader-is) w.session-is (fed.2 ∙ ap (λ (u : Held). u.unsent) cleared)
-                (reads g.S.Service.asks c.args.service.now c.turns.service a b m h l fed.0 t s fed.1 stands
+            goes = goes_as g.S.Service.asks c.args.service.now c.turns.service c.match-found-5.service a m (g.R.ByteIn.remaining c.match-found-5.reader) h l [] s c.match-found-5.session w.service-is (ap g.R.ByteIn.remaining w.reader-is) w.session-is (fed.3 ∙ ap (λ (u : Held). u.unsent) cleared)
+                (reads g.S.Service.asks c.args.service.now c.turns.service a b m h l fed.0 t s fed.2 stands
                 (subst (λ found. Goes g.S.Service.asks c.args.service.now c.turns.service a b h l [] (ComesTo found t)) w.in-None.is going));
-            closed = ap (λ (u : Held). u.is_open) w.session-is ∙ (fed.3 ∙ (ap (λ (u : Held). u.is_open) cleared ∙ (closed ∙ ap is_asked w.in-None.is)));
+            closed = ap (λ (u : Held). u.is_open) w.session-is ∙ (fed.4 ∙ (ap (λ (u : Held). u.is_open) cleared ∙ (closed ∙ ap is_asked w.in-None.is)));
           }
       | in-Some-Do+in_ok-answer-in-Some-Do w ↦
           let op = w.in-Some-Do.op in

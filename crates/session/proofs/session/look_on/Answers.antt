@@ -1,6 +1,5 @@
-use Rattle.std.proofs.Common.{◌≤◌, ◌+◌, [], Ok, Err, length, drop, refl, ap, subst, length-append, arith}
+use Rattle.std.proofs.Common.{[], Ok, Err, length, drop, refl, ap, subst, length-append, arith}
 use Rattle.whole_codec.specs.Reads.{TellsItem, TellsDrop, TellsMore}
-use Rattle.whole_codec.specs.declared.reader.Read.TheVariants.{More, Drop, Request, Bad}
 use Rattle.whole_codec.specs.Replies.{fault_text}
 use Rattle.session.specs.Held.{holding}
 use Rattle.session.proofs.Standing.{Continues, Drops, NeedsMore, still_front}

@@ -1,27 +1,22 @@
-use Rattle.std.proofs.Common.{rules, ◌≡◌, ◌≢◌, ◌≤◌, ℕ, List, length, drop, IfOk, OnOk, OnErr, IfSome, IfNone, ◌+◌, ◌-◌, ◌*◌, ◌<◌, ◌/◌, ◌%◌, Bool, true, false, nat_eq, nat_lt, [], ◌∷◌, ◌++◌, slice_index_or, slice_set, bit_and, bit_or, Fits, w8, w32, w64, Bor, MutBor}
+use Rattle.std.proofs.Common.{◌≡◌, ⊎_elim, sym, subst, ap, ◌∙◌, take_all, le_refl, length, arith}
 use Rattle.object.specs.Lists.{In}
-use Rattle.object.specs.declared.command.Answer.{Answer}
-use Rattle.object.specs.declared.command.Command.{Command}
-use Rattle.world.specs.declared.event.Event.TheVariants.{Submit}
-use Rattle.world.specs.Objects.{rules_of}
-use Rattle.world.specs.Legal.{IsBeginning}
-use Rattle.world.specs.Reached.{IsPlaced}
-use Rattle.simulated_nodes.specs.OneClient.{Talk, opened}
-use Rattle.simulated_nodes.specs.Standing.{StandsFor, Carries, Took, IsFresh, HasReplied, HasNotReplied, SubmitsOnlyIfSome, submitted_to}
+use Rattle.simulated_nodes.proofs.Lists.{In-at, In-next, key_same, key_other}
 use Rattle.simulated_nodes.proofs.carrier.answer_to.Goals as goal
 
--- src/carrier.rt:192:5
 pub loop-answer-init : goal.loop-answer-init
-loop-answer-init g c = ?
+loop-answer-init g c = λ a i. absurd i
 
--- src/carrier.rt:194:13
 pub returns-then-eq-clause-some : goal.returns-then-eq-clause-some
-returns-then-eq-clause-some g c = ?
+returns-then-eq-clause-some g c = (
+  In-at c.args.answers.now c.loop-answer.answer-index c.answer-item.result _ c.loop-answer-test.true c.answer-item.is,
+  key_same c.answer-item.result.to c.args.key (sym c.eq.ensures ∙ c.if-eq.true),
+)
 
--- src/carrier.rt:192:5
 pub loop-answer-preserved : goal.loop-answer-preserved
-loop-answer-preserved g c = ?
+loop-answer-preserved g c = λ a i.
+    In-next c.args.answers.now c.loop-answer.answer-index c.answer-item.result _ a c.loop-answer-test.true c.answer-item.is (λ b. b.to ≡ c.args.key → ⊥)
+    (c.loop-answer.invariant a) (key_other c.answer-item.result.to c.args.key (sym c.eq.ensures ∙ c.if-eq.false)) i
 
--- src/carrier.rt:188:1
 pub returns-clause-none : goal.returns-clause-none
-returns-clause-none g c = ?
+returns-clause-none g c = λ a i.
+    c.loop-answer.invariant a (subst (In a) (sym (take_all c.loop-answer.answer-index c.args.answers.now (omega (arith, c.loop-answer-test.false)))) i)

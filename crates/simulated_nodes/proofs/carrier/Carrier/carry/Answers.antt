@@ -1,19 +1,20 @@
-use Rattle.std.proofs.Common.{rules, ◌≡◌, ◌≢◌, ◌≤◌, ℕ, List, length, drop, IfOk, OnOk, OnErr, IfSome, IfNone, ◌+◌, ◌-◌, ◌*◌, ◌<◌, ◌/◌, ◌%◌, Bool, true, false, nat_eq, nat_lt, [], ◌∷◌, ◌++◌, slice_index_or, slice_set, bit_and, bit_or, Fits, w8, w32, w64, Bor, MutBor}
-use Rattle.object.specs.Lists.{In}
-use Rattle.object.specs.declared.command.Answer.{Answer}
-use Rattle.object.specs.declared.command.Command.{Command}
-use Rattle.world.specs.declared.event.Event.TheVariants.{Submit}
+use Rattle.std.proofs.Common.{◌∙◌, ap, sym, length}
 use Rattle.world.specs.Objects.{rules_of}
-use Rattle.world.specs.Legal.{IsBeginning}
-use Rattle.world.specs.Reached.{IsPlaced}
-use Rattle.simulated_nodes.specs.OneClient.{Talk, opened}
-use Rattle.simulated_nodes.specs.Standing.{StandsFor, Carries, Took, IsFresh, HasReplied, HasNotReplied, SubmitsOnlyIfSome, submitted_to}
+use Rattle.simulated_nodes.specs.Standing.{submitted_to}
+use Rattle.simulated_nodes.proofs.Carried.{started}
+use Rattle.simulated_nodes.proofs.Found.{on_any, none_more, not_replied_on, begins_trans}
 use Rattle.simulated_nodes.proofs.carrier.Carrier.carry.Goals as goal
 
--- src/carrier.rt:51:5
 pub returns-clause-carried : goal.returns-clause-carried
-returns-clause-carried g c = ?
+returns-clause-carried g c = on_any c.reply_after.result (λ t stands fresh.
+    let took = c.in_ok-submit.ensures in
+    c.in_ok-place.ensures.carries (submitted_to c.args.self.now.world)
+    (started (rules_of g.O.Object.fresh g.O.Object.after g.O.Object.answers g.O.Op.PartialEq.eq) c.args.self.now.world c.submit.new.self.world t took.0 c.args.command.now stands fresh took.1))
 
--- src/carrier.rt:51:5
 pub returns-clause-none : goal.returns-clause-none
-returns-clause-none g c = ?
+returns-clause-none g c =
+    let took = c.in_ok-submit.ensures in
+    none_more c.reply_after.result _ _
+    (not_replied_on c.args.self.now.world c.place.new.self.world c.args.key _ (ap (λ xs. length xs) c.answers-seen.ensures)
+    (begins_trans _ _ _ took.1.later.happenings.answers c.in_ok-place.ensures.later))
+    c.reply_after.ensures.none

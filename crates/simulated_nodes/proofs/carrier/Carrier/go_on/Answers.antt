@@ -1,15 +1,11 @@
-use Rattle.std.proofs.Common.{rules, ◌≡◌, ◌≢◌, ◌≤◌, ℕ, List, length, drop, IfOk, OnOk, OnErr, IfSome, IfNone, ◌+◌, ◌-◌, ◌*◌, ◌<◌, ◌/◌, ◌%◌, Bool, true, false, nat_eq, nat_lt, [], ◌∷◌, ◌++◌, slice_index_or, slice_set, bit_and, bit_or, Fits, w8, w32, w64, Bor, MutBor}
-use Rattle.object.specs.Lists.{In}
-use Rattle.object.specs.declared.command.Answer.{Answer}
-use Rattle.object.specs.declared.command.Command.{Command}
-use Rattle.world.specs.declared.event.Event.TheVariants.{Submit}
+use Rattle.std.proofs.Common.{refl, sym, subst}
 use Rattle.world.specs.Objects.{rules_of}
-use Rattle.world.specs.Legal.{IsBeginning}
-use Rattle.world.specs.Reached.{IsPlaced}
-use Rattle.simulated_nodes.specs.OneClient.{Talk, opened}
-use Rattle.simulated_nodes.specs.Standing.{StandsFor, Carries, Took, IsFresh, HasReplied, HasNotReplied, SubmitsOnlyIfSome, submitted_to}
+use Rattle.simulated_nodes.specs.Standing.{Carries}
+use Rattle.simulated_nodes.proofs.Carried.{goes_on}
 use Rattle.simulated_nodes.proofs.carrier.Carrier.go_on.Goals as goal
 
--- src/carrier.rt:125:5
 pub returns-in-Ok-clause-carries : goal.returns-in-Ok-clause-carries
-returns-in-Ok-clause-carries g c = ?
+returns-in-Ok-clause-carries g c = λ before carries.
+    goes_on (rules_of g.O.Object.fresh g.O.Object.after g.O.Object.answers g.O.Op.PartialEq.eq) c.choose.new.self.world c.try_event.new.self.world c.in-Some.event before c.args.command.now
+    (c.in-Some.ensures.only c.in-Some.event refl) c.in-Ok.ensures.ok
+    (subst (λ w. Carries (rules_of g.O.Object.fresh g.O.Object.after g.O.Object.answers g.O.Op.PartialEq.eq) w before c.args.command.now) (sym c.in-Some.ensures.world) carries)

@@ -1,19 +1,9 @@
-use Rattle.std.proofs.Common.{rules, ◌≡◌, ◌≢◌, ◌≤◌, ℕ, List, length, drop, IfOk, OnOk, OnErr, IfSome, IfNone, ◌+◌, ◌-◌, ◌*◌, ◌<◌, ◌/◌, ◌%◌, Bool, true, false, nat_eq, nat_lt, [], ◌∷◌, ◌++◌, slice_index_or, slice_set, bit_and, bit_or, Fits, w8, w32, w64, Bor, MutBor}
-use Rattle.object.specs.Lists.{In}
-use Rattle.object.specs.declared.command.Answer.{Answer}
-use Rattle.object.specs.declared.command.Command.{Command}
-use Rattle.world.specs.declared.event.Event.TheVariants.{Submit}
-use Rattle.world.specs.Objects.{rules_of}
-use Rattle.world.specs.Legal.{IsBeginning}
-use Rattle.world.specs.Reached.{IsPlaced}
-use Rattle.simulated_nodes.specs.OneClient.{Talk, opened}
-use Rattle.simulated_nodes.specs.Standing.{StandsFor, Carries, Took, IsFresh, HasReplied, HasNotReplied, SubmitsOnlyIfSome, submitted_to}
+use Rattle.simulated_nodes.proofs.Found.{found_reply, found_none}
 use Rattle.simulated_nodes.proofs.carrier.Carrier.reply_after.Goals as goal
 
--- src/carrier.rt:175:5
 pub returns-in_ok-copy-in-Some-clause-some : goal.returns-in_ok-copy-in-Some-clause-some
-returns-in_ok-copy-in-Some-clause-some g c = ?
+returns-in_ok-copy-in-Some-clause-some g c =
+    found_reply c.args.self.now.world _ c.args.seen c.answers.result.now c.args.key c.in-Some.answer.now c.in_ok-copy-in-Some.field-0 c.answers.ensures c.in-Some.ensures.some.0 c.in-Some.ensures.some.1 c.in_ok-copy-in-Some.ensures
 
--- src/carrier.rt:175:5
 pub returns-in-None-clause-none : goal.returns-in-None-clause-none
-returns-in-None-clause-none g c = ?
+returns-in-None-clause-none g c = found_none c.args.self.now.world c.args.seen c.answers.result.now c.args.key c.answers.ensures c.in-None.ensures.none

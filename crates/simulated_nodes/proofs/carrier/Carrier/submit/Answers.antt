@@ -1,23 +1,16 @@
-use Rattle.std.proofs.Common.{rules, ◌≡◌, ◌≢◌, ◌≤◌, ℕ, List, length, drop, IfOk, OnOk, OnErr, IfSome, IfNone, ◌+◌, ◌-◌, ◌*◌, ◌<◌, ◌/◌, ◌%◌, Bool, true, false, nat_eq, nat_lt, [], ◌∷◌, ◌++◌, slice_index_or, slice_set, bit_and, bit_or, Fits, w8, w32, w64, Bor, MutBor}
-use Rattle.object.specs.Lists.{In}
-use Rattle.object.specs.declared.command.Answer.{Answer}
-use Rattle.object.specs.declared.command.Command.{Command}
+use Rattle.std.proofs.Common.{◌∙◌, refl, subst}
 use Rattle.world.specs.declared.event.Event.TheVariants.{Submit}
 use Rattle.world.specs.Objects.{rules_of}
-use Rattle.world.specs.Legal.{IsBeginning}
-use Rattle.world.specs.Reached.{IsPlaced}
-use Rattle.simulated_nodes.specs.OneClient.{Talk, opened}
-use Rattle.simulated_nodes.specs.Standing.{StandsFor, Carries, Took, IsFresh, HasReplied, HasNotReplied, SubmitsOnlyIfSome, submitted_to}
+use Rattle.simulated_nodes.specs.Standing.{Took}
 use Rattle.simulated_nodes.proofs.carrier.Carrier.submit.Goals as goal
 
--- src/carrier.rt:86:9
 pub loop-init : goal.loop-init
-loop-init g c = ?
+loop-init g c = refl
 
--- src/carrier.rt:89:17
 pub returns-in-Ok : goal.returns-in-Ok
-returns-in-Ok g c = ?
+returns-in-Ok g c =
+    let took = c.in-Ok.ensures.ok in
+    (took.0, subst (λ w. Took (rules_of g.O.Object.fresh g.O.Object.after g.O.Object.answers g.O.Op.PartialEq.eq) w (Submit took.0 c.args.command.now) c.try_submit.new.self.world) (c.in_ok-count.ensures ∙ c.loop.invariant) took.1)
 
--- src/carrier.rt:86:9
 pub loop-preserved : goal.loop-preserved
-loop-preserved g c = ?
+loop-preserved g c = c.in_default.ensures.err ∙ c.in_ok-count.ensures ∙ c.loop.invariant

@@ -1,9 +1,10 @@
-use Rattle.std.proofs.Common.{rules, ◌≡◌, ℕ, Some, IfOk, OnOk, ◌+◌, ◌-◌, ◌*◌, ◌<◌, ◌≤◌, length, ◌/◌, ◌%◌, Bool, true, false, nat_eq, nat_lt, List, [], ◌∷◌, ◌++◌, slice_index_or, slice_set, bit_and, bit_or, Fits, w8, w32, w64, Bor, MutBor}
 use Rattle.world.specs.Objects.{rules_of}
-use Rattle.simulated_nodes.specs.OneClient.{Talk, opened, obeyed, passed, answered, left}
-use Rattle.simulated_nodes.specs.Standing.{Stand, IsSaid, HasNotReplied}
+use Rattle.simulated_nodes.proofs.Said.{second_said}
 use Rattle.simulated_nodes.proofs.nodes.Nodes.pass_second.Goals as goal
 
--- src/nodes.rt:93:5
 pub returns : goal.returns
-returns g c = ?
+returns g c = record {
+  said = λ t stand not_yet.
+      second_said (rules_of g.O.Object.fresh g.O.Object.after g.O.Object.answers g.O.Op.PartialEq.eq) c.args.self.now.carrier.world c.carry.new.self.world c.args.self.now.next c.args.self.now.second t c.args.key c.in-Some.command c.in_ok-reply.reply
+      stand not_yet c.in-Some.ensures.1 c.in_ok-reply.ensures.carried c.in_ok-reply.ensures.placed c.in_ok-reply.ensures.some c.in_ok-reply.ensures.none;
+}

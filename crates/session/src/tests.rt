@@ -1,0 +1,3 @@
+mod script;
+mod sessions;
+mod streams;
