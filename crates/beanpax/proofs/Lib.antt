@@ -1,9 +1,5 @@
 pub mod WordsLemmas
-pub mod Replies
-pub mod Readings
 pub mod Whole
-pub mod Runs
-pub mod Lists
-pub mod Requests
-pub mod Given
-pub mod Carried
+pub mod Beginnings
+pub mod Obeyed
+pub mod Served

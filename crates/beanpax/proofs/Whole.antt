@@ -1,14 +1,13 @@
--- Every input has one transcript.
-use Rattle.std.proofs.Common.{◌≡◌, ◌⊎◌, inl, inr, ℕ, zero, suc, ◌+◌, ◌-◌, ◌≤◌, Bool, true, false, List, [], ◌∷◌, ◌++◌, Ok, Err, MatchBool, length, take, drop, refl, sym, ap, ap₂, subst, ◌∙◌, append_assoc, length-append, length-take, length-drop, arith, true≢false}
+-- Every text reads as items, in one way.
+use Rattle.std.proofs.Common.{◌≡◌, ◌⊎◌, inl, inr, ℕ, zero, suc, ◌≤◌, Bool, true, false, List, [], ◌∷◌, ◌++◌, MatchBool, length, take, drop, refl, sym, ap, ap₂, subst, ◌∙◌, length-append, length-take, length-drop, arith}
 use Rattle.std.proofs.lemmas.List.{take-append-drop}
 use Rattle.std.proofs.Math.Seq.{take-append_seam, drop-append_seam}
-use Rattle.bean_codec.specs.declared.request.Request.TheVariants.{Do, Quit}
 use Rattle.bean_codec.specs.Lines.{crlf}
 use Rattle.bean_codec.specs.Grammar.{Item, Spells}
 use Rattle.bean_codec.specs.Reads.{BeginsWith, BeginsWithNone}
-use Rattle.beanpax.specs.declared.faults.End.{End}
-use Rattle.beanpax.specs.Sessions.{replies_to}
-use Rattle.beanpax.specs.Transcripts.{Reads, IsTranscript, BeginsTranscript, is_quit, operations, told}
+use Rattle.session.specs.declared.faults.End.{End}
+use Rattle.session.specs.Items.{Reads, is_quit}
+use Rattle.beanpax.specs.Told.{IsTold, text_for}
 
 -- the law of the front: a text begins with an item or with none
 abbrev pub HasFront : List ℕ → Type 0
@@ -71,15 +70,9 @@ reads_within front (suc bound) text within =
       | inr none ↦ ([], End.Eof, (none, refl))
     ]
 
--- every input has a transcript
-pub has_transcript : ((text : List ℕ) → HasFront text) → (input : List ℕ) → (output : List ℕ) × (end : End) × IsTranscript input output end
-has_transcript front input =
-    let r = reads_within front (length input) input (omega arith) in
-    (told r.0 (replies_to (operations r.0)), r.1, (r.0, r.2, refl))
-
--- and nothing is a beginning of it
-pub begins_empty : ((text : List ℕ) → HasFront text) → (input : List ℕ) → BeginsTranscript input []
-begins_empty front input = let t = has_transcript front input in (t.0, t.1, t.2)
+-- every input reads as some items
+pub reads_as_items : ((text : List ℕ) → HasFront text) → (input : List ℕ) → (items : List Item) × (end : End) × Reads input items end
+reads_as_items front input = reads_within front (length input) input (omega arith)
 
 -- an item that is read stands at the front
 stands : (text front rest : List ℕ) (item : Item) → text ≡ front ++ rest → Spells front item → BeginsWithNone text → ⊥
@@ -109,8 +102,8 @@ one_reading one text (i ∷ is) (j ∷ js) d e r q =
     ] r.4 more in
     (ap₂ (λ k ks. k ∷ ks) fronts.1 tails.0, tails.1)
 
--- two transcripts of one input are one
-pub one_transcript : IsOneItem → (input a b : List ℕ) (d e : End) → IsTranscript input a d → IsTranscript input b e → (a ≡ b) × (d ≡ e)
-one_transcript one input a b d e r q =
+-- what is told for one input is one text
+pub one_told : IsOneItem → (input a b : List ℕ) (d e : End) → IsTold input a d → IsTold input b e → (a ≡ b) × (d ≡ e)
+one_told one input a b d e r q =
     let same = one_reading one input r.0 q.0 d e r.1 q.1 in
-    (r.2 ∙ ap (λ items. told items (replies_to (operations items))) same.0 ∙ sym q.2, same.1)
+    (r.3 ∙ ap (λ items. text_for items) same.0 ∙ sym q.3, same.1)

@@ -1,9 +1,8 @@
 -- What is told of a fault.
 use Rattle.std.specs.Prelude.{ℕ, List, ◌++◌, codes}
-use Rattle.std.specs.Bool.{⊤}
 use Rattle.std.specs.Fmt.{decimal}
-use Rattle.beanpax.specs.declared.faults.SessionFault.{SessionFault}
-use Rattle.beanpax.specs.declared.faults.SessionFault.TheVariants.{OutOfMemory, ReadFailed, WriteFailed, ServiceStopped}
+use Rattle.session.specs.declared.faults.SessionFault.{SessionFault}
+use Rattle.session.specs.declared.faults.SessionFault.TheVariants.{OutOfMemory, ReadFailed, WriteFailed, ServiceStopped}
 
 -- the number by which a fault is told
 abbrev pub number_of : SessionFault → ℕ
@@ -18,13 +17,6 @@ text_of OutOfMemory = codes "out of memory"
 text_of ReadFailed = codes "read failed"
 text_of WriteFailed = codes "write failed"
 text_of ServiceStopped = codes "service stopped"
-
--- the fault is neither the reader's nor the writer's
-abbrev pub IsOfNodes : SessionFault → Type 0
-IsOfNodes OutOfMemory = ⊤
-IsOfNodes ReadFailed = ⊥
-IsOfNodes WriteFailed = ⊥
-IsOfNodes ServiceStopped = ⊤
 
 -- the line by which a fault is told
 unfoldable pub line_of : SessionFault → List ℕ

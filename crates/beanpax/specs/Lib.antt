@@ -1,9 +1,7 @@
-pub mod Streams
 pub mod Faults
+pub mod Sessions
+pub mod Told
+pub mod Simulations
+pub mod Runs
 pub mod Program
 pub mod Words
-pub mod ReadFaults
-pub mod Sessions
-pub mod Clients
-pub mod Transcripts
-pub mod Runs

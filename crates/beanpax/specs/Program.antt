@@ -2,11 +2,11 @@
 use Rattle.std.specs.Prelude.{◌≡◌, ℕ, Bool, true, false, Option, List}
 use Rattle.std.specs.Bool.{⊤}
 use Rattle.std.specs.Io.KnownBytes.{Appends}
-use Rattle.beanpax.specs.Streams.{AppendsBeginning}
+use Rattle.session.specs.Streams.{AppendsBeginning}
 use Rattle.beanpax.specs.Runs.{Answers}
-use Rattle.beanpax.specs.declared.faults.End.{End}
-use Rattle.beanpax.specs.declared.faults.SessionFault.{SessionFault}
-use Rattle.beanpax.specs.declared.faults.SessionFault.TheVariants.{OutOfMemory, ReadFailed, WriteFailed, ServiceStopped}
+use Rattle.session.specs.declared.faults.End.{End}
+use Rattle.session.specs.declared.faults.SessionFault.{SessionFault}
+use Rattle.session.specs.declared.faults.SessionFault.TheVariants.{OutOfMemory, ReadFailed, WriteFailed, ServiceStopped}
 
 -- a failure is told only of a stream that has failed
 abbrev pub IsCaused : SessionFault → Bool → Bool → Type 0

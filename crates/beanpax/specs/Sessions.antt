@@ -1,27 +1,30 @@
--- What a queue answers to one client.
-use Rattle.std.specs.Prelude.{ℕ, ◌+◌, List, [], ◌∷◌, map}
-use Rattle.object.specs.declared.command.Act.TheVariants.{Do}
-use Rattle.object.specs.declared.command.Command.{Command}
-use Rattle.object.specs.Replays.{replay_from}
+-- What one queue replies to one client.
+use Rattle.std.specs.Prelude.{Bool, false, List, [], ◌∷◌, Option, None, Some}
 use Rattle.bean_queue.specs.declared.op.Op.{Op}
 use Rattle.bean_queue.specs.declared.reply.Reply.{Reply}
 use Rattle.bean_queue.specs.Queue.{QueueState, fresh}
 use Rattle.bean_queue.specs.Effects.{effect}
+use Rattle.world.specs.Objects.{Rules, rules_of}
+use Rattle.simulated_nodes.specs.OneClient.{Talk, opened, answered}
 
--- the client is session 1, and this is its request of a number
-abbrev pub asks : ℕ → Op → Command Op
-asks number op = record { key = record { session = 1; number = number }; act = Do op }
+-- the queue, where this says which operations are one
+abbrev pub queue_with : (Op → Op → Bool) → Rules QueueState Op Reply
+queue_with same = rules_of fresh (λ s c. (effect c s).state) (λ s c. (effect c s).answers) same
 
--- its requests, numbered in turn
-abbrev pub commands_from : ℕ → List Op → List (Command Op)
-commands_from number [] = []
-commands_from number (op ∷ ops) = asks number op ∷ commands_from (number + 1) ops
+-- a single queue compares no operations
+abbrev pub queue : Rules QueueState Op Reply
+queue = queue_with (λ a b. false)
 
--- the replies in a replay from a state
-abbrev pub replies_from : QueueState → List (Command Op) → List Reply
-replies_from s commands =
-    map (λ p. p.answer.reply) (replay_from (λ s c. (effect c s).state) (λ s c. (effect c s).answers) s 0 commands)
+-- a reply before others, or none at all where it never came
+abbrev pub with_reply : Option Reply → List Reply → List Reply
+with_reply None replies = []
+with_reply (Some reply) replies = reply ∷ replies
+
+-- the replies from here on, up to the first operation that has none within the longest wait
+abbrev pub replies_from : Talk QueueState → List Op → List Reply
+replies_from t [] = []
+replies_from t (op ∷ ops) = with_reply (answered queue t op).reply (replies_from (answered queue t op).talk ops)
 
 -- what a new queue replies to these operations, asked in turn
 abbrev pub replies_to : List Op → List Reply
-replies_to ops = replies_from fresh (commands_from 1 ops)
+replies_to ops = replies_from (opened queue) ops

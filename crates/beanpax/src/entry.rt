@@ -1,14 +1,13 @@
 ghost use Rattle.std.specs.Prelude.{◌≡◌, ◌≤◌, ◌⊎◌, map, string_bytes, IfErr, OnOk};
-ghost use Rattle.beanpax.specs.declared.faults.SessionFault.{SessionFault};
+ghost use Rattle.session.specs.declared.faults.SessionFault.{SessionFault};
 ghost use Rattle.beanpax.specs.Faults.{line_of};
 ghost use Rattle.beanpax.specs.Program.{IsCaused, IsRun, WritesText};
 ghost use Rattle.beanpax.specs.Words.{AreWrong, AskForHelp, AskForRun};
 
-use crate::faults::SessionFault;
+use crate::faults::fault_line;
 use crate::run::run_bytes;
-use crate::streams::{ByteIn, ByteOut};
 use crate::words::{Asked, parse_words};
-use crate::writing::write_all;
+use session::{ByteIn, ByteOut, SessionFault, write_all};
 use std::alloc::{AllocError, Global};
 
 /// The status of a program that did what was asked.
@@ -70,7 +69,7 @@ fn status_after<E: ByteOut>(ended: Result<(), SessionFault>, errors: &mut E) -> 
     match ended {
         Ok(()) => DONE,
         Err(fault) => {
-            let _ = write_all(errors, fault.line().as_bytes());
+            let _ = write_all(errors, fault_line(fault).as_bytes());
             FAULT
         }
     }

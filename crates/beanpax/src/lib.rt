@@ -1,28 +1,24 @@
 //! The work queue as a program: requests as bytes in, replies as bytes out.
+//!
+//! `specs/Sessions.antt` says what one queue replies to one client, `specs/Told.antt` what the client is told for its
+//! bytes, and `specs/Runs.antt` what a run over streams has read and written.
 #![tactic(auto)]
 
-mod driver;
 mod entry;
 mod faults;
 mod laws;
-mod mail;
-pub mod memory;
-mod nodes;
-mod reading;
 mod run;
-mod streams;
-mod transcript;
+mod simulation;
 mod words;
-mod writing;
 
 pub use entry::{DONE, FAULT, WRONG_WORDS, program};
-pub use faults::{End, SessionFault};
+pub use faults::{fault_line, fault_number};
 pub use laws::one_transcript;
-pub use reading::{ReadAllError, Reading, read_all};
 pub use run::run_bytes;
-pub use streams::{ByteIn, ByteOut, Failed};
+pub use session::{
+    ByteIn, ByteOut, End, Failed, Reading, SessionFault, Writing, memory, write_all,
+};
 pub use words::{Asked, parse_words};
-pub use writing::{Writing, write_all};
 
 #[cfg(test)]
 mod tests;

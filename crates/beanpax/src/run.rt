@@ -1,21 +1,19 @@
-ghost use Rattle.std.specs.Prelude.{◌≡◌, ◌≤◌, true, IfOk, OnOk, OnErr};
+ghost use Rattle.std.specs.Prelude.{◌≡◌, ◌≤◌, true, IfOk, OnErr};
 ghost use Rattle.std.specs.Io.KnownBytes.{IsAtEnd};
+ghost use Rattle.session.specs.declared.faults.End.{End};
 ghost use Rattle.beanpax.specs.Runs.{Answers, BreaksOff};
 
-use crate::faults::{End, SessionFault};
-use crate::reading::read_all;
-use crate::streams::{ByteIn, ByteOut};
-use crate::transcript::transcript_of;
-use crate::writing::write_all;
+use crate::simulation::Simulation;
 use ballot::Members;
-use bean_codec::front_item;
+use session::{ByteIn, ByteOut, End, SessionFault, serve};
 use std::alloc::Global;
+use bean_codec::front_item;
 
-/// Answers one client, whose requests are read to their end, on so many simulated nodes: 1 to 7.
+/// Answers one client on so many simulated nodes: 1 to 7. Each reply is written out before the next request is obeyed.
 ///
 /// The seed draws what happens between the nodes: which letters are lost, repeated and reordered, and which nodes restart.
 /// What is written doesn't depend on it, nor on how many nodes there are; but where 100,000 events bring no answer to a
-/// request, the service stops.
+/// request, the service stops. It also stops where the client would have to wait for more than an hour.
 pub fn run_bytes<R: ByteIn, W: ByteOut>(
     alloc: Global,
     nodes: u8,
@@ -27,8 +25,8 @@ pub fn run_bytes<R: ByteIn, W: ByteOut>(
     requires few { nodes ≤ 7 }
     ensures answers { IfOk result (Answers (R.remaining reader.old) (R.remaining reader.new)
         (W.contents writer.old) (W.contents writer.new)) }
-    ensures nothing_left { OnOk result (IsAtEnd (R.remaining reader.new)) }
-    ensures ended { OnOk result (R.has_ended reader.new ≡ true) }
+    ensures nothing_left { IfOk result (λ end. end ≡ End.Eof → IsAtEnd (R.remaining reader.new)) }
+    ensures ended { IfOk result (λ end. end ≡ End.Eof → R.has_ended reader.new ≡ true) }
 
     ensures breaks_off { OnErr result (BreaksOff (R.remaining reader.old) (R.remaining reader.new)
         (W.contents writer.old) (W.contents writer.new)) }
@@ -39,8 +37,6 @@ pub fn run_bytes<R: ByteIn, W: ByteOut>(
     let Some(members) = Members::new(nodes) else {
         unreachable!()
     };
-    let input = read_all(alloc, reader)?;
-    let transcript = transcript_of(alloc, members, seed, input.as_slice())?;
-    write_all(writer, transcript.text.as_slice()).map_err(|_| SessionFault::WriteFailed)?;
-    Ok(transcript.end)
+    let mut simulation = Simulation::new(alloc, members, seed)?;
+    serve(alloc, reader, writer, &mut simulation)
 }

@@ -1,2 +1,1 @@
 mod programs;
-mod streams;

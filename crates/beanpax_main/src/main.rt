@@ -1,7 +1,7 @@
 //! The program: its words, and the standard streams.
 #![tactic(auto)]
 
-use beanpax::{Reading, SessionFault, Writing, program, write_all};
+use beanpax::{Reading, SessionFault, Writing, fault_line, program, write_all};
 use std::process::ExitCode;
 use std::rt::Env;
 use std::{env, io};
@@ -19,7 +19,10 @@ fn main(rt: HostRuntime) -> ExitCode {
             &mut errors,
         ),
         Err(e) if e.kind() == io::ErrorKind::OutOfMemory => {
-            let _ = write_all(&mut errors, SessionFault::OutOfMemory.line().as_bytes());
+            let _ = write_all(
+                &mut errors,
+                fault_line(SessionFault::OutOfMemory).as_bytes(),
+            );
             1
         }
         Err(_) => {

@@ -1,5 +1,5 @@
-use crate::memory::{Ending, PieceReader, PieceWriter};
-use crate::{SessionFault, program};
+use crate::{SessionFault, fault_number, program};
+use session::memory::{Ending, PieceReader, PieceWriter};
 use std::alloc::{AllocError, Global};
 use std::test::Fail;
 
@@ -112,9 +112,10 @@ fn a_fault_is_told_by_its_name(rt: HostRuntime) -> Result<(), Fail> {
         (SessionFault::OutOfMemory, "1 out of memory"),
         (SessionFault::ReadFailed, "7 read failed"),
         (SessionFault::WriteFailed, "8 write failed"),
+        (SessionFault::ServiceStopped, "9 service stopped"),
     ];
     for (fault, text) in faults {
-        let number = fault.number();
+        let number = fault_number(fault);
         let told = format!(in rt.alloc(); "{number} {fault}")?;
         assert_eq!(rt; told.as_str(), text);
     }

@@ -1,7 +1,7 @@
 -- What a call of `write_all` did to the errors.
 use Rattle.std.proofs.Common.{◌≡◌, ℕ, Bool, true, List, Option, Result, Ok, Err, OnOk, OnErr, length, take_all, le_refl, refl, ◌∙◌, subst, sym}
 use Rattle.std.specs.Io.KnownBytes.{Appends}
-use Rattle.beanpax.specs.Streams.{AppendsBeginning}
+use Rattle.session.specs.Streams.{AppendsBeginning}
 use Rattle.beanpax.specs.Program.{WritesText}
 use Rattle.beanpax.proofs.entry.status_after.Goals as goal
 
@@ -17,4 +17,4 @@ writes_text (Err e) old new has_failed text whole some failed = record { some = 
 pub returns-in-Err-clause-fault : goal.returns-in-Err-clause-fault
 returns-in-Err-clause-fault g c =
     let written = writes_text c.write_all.result _ _ _ _ c.write_all.ensures.ok c.write_all.ensures.err c.write_all.ensures.failed in
-    rw c.in-Err.is (refl, subst (WritesText _ _ _) (c.as_bytes.ensures.value ∙ c.line.ensures) written)
+    rw c.in-Err.is (refl, subst (WritesText _ _ _) (c.as_bytes.ensures.value ∙ c.fault_line.ensures) written)

@@ -1,20 +1,19 @@
-use Rattle.std.proofs.Common.{sym, subst}
-use Rattle.beanpax.specs.Transcripts.{IsTranscript}
-use Rattle.beanpax.proofs.Runs.{breaks_off_unwritten, breaks_off_writing, began, on_err}
+use Rattle.std.proofs.Common.{◌≢◌, Err}
+use Rattle.session.specs.declared.faults.ServiceFault.{ServiceFault}
+use Rattle.simulated_nodes.specs.Standing.{Stand}
+use Rattle.beanpax.specs.Sessions.{queue_with}
+use Rattle.beanpax.proofs.Served.{served, served_partly, nothing_served}
 use Rattle.beanpax.proofs.run.run_bytes.Goals as goal
 
-pub returns-in_err-input-clause-breaks_off : goal.returns-in_err-input-clause-breaks_off
-returns-in_err-input-clause-breaks_off g c =
-    let lost = c.in_err-input.ensures.lost in
-    on_err _ (breaks_off_unwritten c.front_item.ensures _ _ _ lost.0 lost.1)
+pub returns-in_err-simulation-clause-breaks_off : goal.returns-in_err-simulation-clause-breaks_off
+returns-in_err-simulation-clause-breaks_off g c = nothing_served _ _ _ c.front_item.ensures
 
-pub returns-in_err-transcript-clause-breaks_off : goal.returns-in_err-transcript-clause-breaks_off
-returns-in_err-transcript-clause-breaks_off g c = on_err _ (breaks_off_unwritten c.front_item.ensures _ _ _ _ c.in_ok-input.ensures.bytes)
+pub returns-clause-answers : goal.returns-clause-answers
+returns-clause-answers g c =
+    served (λ s. Stand (queue_with _) s.nodes.carrier.world s.nodes.next s.nodes.second) (λ old result new. result ≢ Err ServiceFault.Refused) c.in_ok-simulation.simulation c.serve.new.service _ _ _ _ c.serve.result
+    c.in_ok-simulation.ensures c.serve.ensures.ok
 
-pub returns-in_err-map_err-clause-breaks_off : goal.returns-in_err-map_err-clause-breaks_off
-returns-in_err-map_err-clause-breaks_off g c =
-    let some = began c.write_all.result _ _ _ c.write_all.ensures.ok c.write_all.ensures.err in
-    let whole : IsTranscript c.in_ok-input.input.items c.as_slice-2.result.now c.in_ok-transcript.transcript.end =
-    subst (λ input. IsTranscript input c.as_slice-2.result.now c.in_ok-transcript.transcript.end) c.as_slice.ensures.value
-    (subst (λ output. IsTranscript c.as_slice.result.now output c.in_ok-transcript.transcript.end) (sym c.as_slice-2.ensures.value) c.in_ok-transcript.ensures.ok) in
-    on_err _ (breaks_off_writing _ _ _ _ _ _ _ some.0 c.in_ok-input.ensures.bytes whole some.1)
+pub returns-clause-breaks_off : goal.returns-clause-breaks_off
+returns-clause-breaks_off g c =
+    served_partly (λ s. Stand (queue_with _) s.nodes.carrier.world s.nodes.next s.nodes.second) (λ old result new. result ≢ Err ServiceFault.Refused) c.in_ok-simulation.simulation c.serve.new.service _ _ _ _ c.serve.result _
+    c.front_item.ensures c.in_ok-simulation.ensures c.serve.ensures.all_was_told c.serve.ensures.breaks_off c.serve.ensures.stopped c.serve.ensures.out_of_memory

@@ -1,4 +1,4 @@
-use Rattle.std.proofs.Common.{◌<◌, ◌≤◌, ◌^◌, ◌-◌, codes, sym, subst, arith}
+use Rattle.std.proofs.Common.{◌<◌, ◌^◌, ◌-◌, codes, sym, subst, arith}
 use Rattle.std.specs.Str.Parse.{ParsesUnsigned, ExplainsUnsignedError, HasUnsignedDigitsIfOk}
 use Rattle.clap.specs.Words.{found_of, one_text}
 use Rattle.beanpax.specs.Words.{IsNumberOr}

@@ -1,6 +1,0 @@
--- An interrupted write appends nothing.
-use Rattle.std.specs.Io.KnownBytes.{Keeps}
-use Rattle.beanpax.proofs.writing.write_uninterrupted.Given as goal
-
-abbrev pub invariant-loop : goal.invariant-loop
-invariant-loop g l = Keeps (g.W.Write.contents l.initial.writer) (g.W.Write.contents l.writer)

@@ -1,0 +1,18 @@
+-- Simulated nodes as a service.
+use Rattle.std.specs.Prelude.{◌≡◌, Some, Result, Ok, Err}
+use Rattle.std.specs.Bool.{⊤}
+use Rattle.bean_queue.specs.declared.op.Op.{Op}
+use Rattle.bean_queue.specs.declared.reply.Reply.{Reply}
+use Rattle.bean_queue.specs.Queue.{QueueState}
+use Rattle.session.specs.declared.faults.ServiceFault.{ServiceFault}
+use Rattle.session.specs.declared.faults.ServiceFault.TheVariants.{Refused, Stopped}
+use Rattle.simulated_nodes.specs.OneClient.{Talk, answered}
+use Rattle.beanpax.specs.Sessions.{queue}
+
+-- Of how far one queue has come before and after: a reply is that of the queue, which then has come so far. Nothing is
+-- refused, and who is told that the nodes stopped is told no more.
+abbrev pub Obeys : (before after : Talk QueueState → Type 0) → Op → Result Reply ServiceFault → Type 0
+Obeys before after op (Ok reply) =
+    (t : Talk QueueState) → before t → ((answered queue t op).reply ≡ Some reply) × after (answered queue t op).talk
+Obeys before after op (Err Refused) = ⊥
+Obeys before after op (Err Stopped) = ⊤
