@@ -7,9 +7,9 @@ ghost use Rattle.bean_codec.specs.Reads.{item_read, IfMore, IfDrop, BeginsWith, 
 use crate::line::{LONGEST_LINE, Meaning, meaning_of};
 use crate::reader::{Read, Want};
 use crate::request::{Fault, Request};
+use bean_queue::{Body, Op};
 use bstr::ByteSlice;
 use std::alloc::{AllocError, Global};
-use bean_queue::{Body, Op};
 
 /// The most bytes of a body.
 const LONGEST_BODY: u32 = 65535;

@@ -11,8 +11,8 @@ use crate::number_lines::{
 };
 use crate::request::{Fault, Request};
 use crate::words::Words;
-use std::alloc::{AllocError, Global};
 use bean_queue::Op;
+use std::alloc::{AllocError, Global};
 
 /// The most bytes of a line with its CR LF.
 pub const LONGEST_LINE: usize = 224;

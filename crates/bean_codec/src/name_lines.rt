@@ -6,8 +6,8 @@ ghost use Rattle.bean_codec.specs.TubeNames as tube_names;
 use crate::line::Meaning;
 use crate::request::Request;
 use crate::words::Words;
-use std::alloc::{AllocError, Global};
 use bean_queue::{Name, Op};
+use std::alloc::{AllocError, Global};
 
 /// The name that the word is.
 fn name_of(alloc: Global, word: &[u8]) -> Result<Option<Name>, AllocError>

@@ -1,8 +1,8 @@
 use crate::{Fault, Read, Request, Want, read_request, write_fault, write_reply};
+use bean_queue::{Body, Name, Names, Op, Reply};
 use std::alloc::{AllocError, Global};
 use std::process::Abort;
 use std::test::Fail;
-use bean_queue::{Body, Name, Names, Op, Reply};
 
 // The text is this request and nothing more.
 fn reads(rt: &(impl Abort + AllocGlobal), text: &[u8], request: Request) -> Result<(), AllocError> {

@@ -4,8 +4,8 @@ ghost use Rattle.bean_codec.specs.Lines.{ended};
 ghost use Rattle.bean_codec.specs.Replies.{tube_text, tubes_data, tubes_text};
 
 use crate::append::append_count;
-use std::alloc::AllocError;
 use bean_queue::Name;
+use std::alloc::AllocError;
 
 /// Writes a list of tubes at the end. Where memory runs out, a part of it may stand there.
 #[tactic(auto, unfolding(crate::specs::Replies::tubes_text))]

@@ -5,8 +5,8 @@ ghost use Rattle.bean_codec.specs.Replies.{reply_text, fault_text, job_text};
 use crate::append::{append_count, append_line, append_number};
 use crate::request::Fault;
 use crate::tube_list::append_tubes;
-use std::alloc::AllocError;
 use bean_queue::{Body, Name, Reply};
+use std::alloc::AllocError;
 
 /// Writes the text of a reply at the end. Where memory runs out, nothing is written.
 pub fn write_reply(reply: &Reply, out: &mut Vec<u8>) -> Result<(), AllocError>

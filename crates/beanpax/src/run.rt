@@ -5,9 +5,9 @@ ghost use Rattle.beanpax.specs.Runs.{Answers, BreaksOff};
 
 use crate::simulation::Simulation;
 use ballot::Members;
+use bean_codec::front_item;
 use session::{ByteIn, ByteOut, End, SessionFault, serve};
 use std::alloc::Global;
-use bean_codec::front_item;
 
 /// Answers one client on so many simulated nodes: 1 to 7. Each reply is written out before the next request is obeyed.
 ///

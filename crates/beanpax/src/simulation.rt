@@ -4,10 +4,10 @@ ghost use Rattle.simulated_nodes.specs.Standing.{Stand};
 ghost use Rattle.beanpax.specs.Sessions.{queue, queue_with};
 
 use ballot::Members;
+use bean_queue::{Op, Queue, Reply};
 use session::{Service, ServiceFault};
 use simulated_nodes::Nodes;
 use std::alloc::{AllocError, Global};
-use bean_queue::{Op, Queue, Reply};
 
 /// Simulated nodes as what obeys the operations of one client.
 #[derive(Drop)]

@@ -99,7 +99,9 @@ static ROWS: [Row; 44] = [
     },
     Row {
         name: "words that aren't known",
-        input: &[Text(b"stats\r\nPUT 0 0 1 1\r\nreserve-job 1\r\nputs 0 0 1 1\r\npu\r\npause-tube a 1\r\n")],
+        input: &[Text(
+            b"stats\r\nPUT 0 0 1 1\r\nreserve-job 1\r\nputs 0 0 1 1\r\npu\r\npause-tube a 1\r\n",
+        )],
         output: &[
             Text(b"UNKNOWN_COMMAND\r\nUNKNOWN_COMMAND\r\nUNKNOWN_COMMAND\r\n"),
             Text(b"UNKNOWN_COMMAND\r\nUNKNOWN_COMMAND\r\nUNKNOWN_COMMAND\r\n"),
@@ -396,10 +398,20 @@ fn a_reserve_without_a_job_stops_the_service(rt: HostRuntime) -> Result<(), Fail
         let mut reader = PieceReader::new(b"reserve\r\n", 4096, Ending::End);
         let mut writer = PieceWriter::new(alloc, 4096, usize::MAX);
         let mut errors = PieceWriter::new(alloc, 64, usize::MAX);
-        let status = program(alloc, words.as_slice(), &mut reader, &mut writer, &mut errors);
+        let status = program(
+            alloc,
+            words.as_slice(),
+            &mut reader,
+            &mut writer,
+            &mut errors,
+        );
         assert_eq!(rt; status, 1, "{nodes}");
         assert_eq!(rt; writer.bytes().len(), 0, "{nodes}");
-        assert_eq!(rt; errors.bytes(), b"beanpax: 9 service stopped\n".as_slice(), "{nodes}");
+        assert_eq!(rt;
+            errors.bytes(),
+            b"beanpax: 9 service stopped\n".as_slice(),
+            "{nodes}"
+        );
     }
     Ok(())
 }

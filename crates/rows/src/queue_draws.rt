@@ -1,12 +1,12 @@
 //! That both queues answer alike, whatever is drawn for them.
 ghost use Rattle.std.specs.Prelude.{◌<◌};
 
+use bean_queue::{Body, Name, Op, PlainQueue, Queue, Reply};
 use object::{Act, Answer, Command, Key, Object, Once};
 use rand_core::{Rng, SeedableRng};
 use rand_pcg::Lcg64Xsh32;
 use std::alloc::Global;
 use std::test::Fail;
-use bean_queue::{Body, Name, Op, PlainQueue, Queue, Reply};
 
 /// How many commands a list has.
 const COMMANDS: u64 = 300;

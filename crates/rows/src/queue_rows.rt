@@ -1,10 +1,10 @@
 //! What the work queue answers behind its once-only filter. A row is a command, as session, number and words, and what
 //! is answered to it and to those who waited, each answer with its key.
 use crate::queue_words::{answer_words, command_of};
+use bean_queue::{Op, PlainQueue, Queue, Reply};
 use object::{Effect, Object, Once};
 use std::alloc::Global;
 use std::test::Fail;
-use bean_queue::{Op, PlainQueue, Queue, Reply};
 
 /// A command, and what is answered.
 type Row = (&'static str, &'static str);

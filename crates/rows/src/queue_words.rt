@@ -1,8 +1,8 @@
 //! Commands of the work queue, and what is answered, in words.
+use bean_queue::{Body, Name, Op, Reply};
 use object::{Act, Answer, Command, Key};
 use std::alloc::{AllocError, Global};
 use std::test::Fail;
-use bean_queue::{Body, Name, Op, Reply};
 
 fn name(alloc: Global, word: &str) -> Result<Name, Fail> {
     Ok(Name::new(alloc, word.as_bytes())?.ok_or("no name")?)

@@ -1,10 +1,10 @@
 //! A reserve that waits, in a world of one node.
 use crate::queue_words::{answer_words, command_of};
 use ballot::Members;
+use bean_queue::Queue;
 use object::Key;
 use std::alloc::Global;
 use std::test::Fail;
-use bean_queue::Queue;
 use world::{Event, World};
 
 /// A world of one node, which leads.

@@ -10,9 +10,9 @@ use crate::service::Service;
 use crate::session::Session;
 use crate::streams::{ByteIn, ByteOut, Failed};
 use crate::writing::write_all;
-use std::alloc::Global;
 use bean_codec::Request;
 use bean_queue::Op;
+use std::alloc::Global;
 
 /// The most bytes of a read.
 const PIECE_LEN: usize = 4096;

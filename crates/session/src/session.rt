@@ -4,10 +4,10 @@ ghost use Rattle.bean_codec.specs.Replies.{reply_text};
 ghost use Rattle.session.specs.Items.{refused_text};
 ghost use Rattle.session.specs.Held.{holding, nothing_held, is_asked, MayKeep, StandsAt, Finds};
 
-use std::alloc::{AllocError, Global};
-use std::marker::Model;
 use bean_codec::{Read, Request, Want, read_request, write_fault, write_reply};
 use bean_queue::Reply;
+use std::alloc::{AllocError, Global};
+use std::marker::Model;
 
 /// One client's bytes on their way to asks, and its answers on their way back to bytes.
 ///

@@ -1,10 +1,10 @@
 use crate::memory::{PieceReader, PieceWriter};
 use crate::{End, Service, ServiceFault, SessionFault, serve};
+use bean_queue::{Name, Op, Reply};
 use std::alloc::AllocError;
 use std::collections::VecDeque;
 use std::process::Abort;
 use std::test::Fail;
-use bean_queue::{Name, Op, Reply};
 
 /// A service that answers by a list of steps.
 #[derive(Drop)]

@@ -3,10 +3,10 @@ ghost use Rattle.std.specs.Prelude.{◌<◌};
 use crate::memory::{Ending, PieceReader, PieceWriter};
 use crate::tests::script::{Script, serves, tube, uses};
 use crate::{End, ServiceFault, SessionFault};
+use bean_queue::{Body, Op, Reply};
 use std::alloc::{AllocError, Global};
 use std::process::Abort;
 use std::test::Fail;
-use bean_queue::{Body, Op, Reply};
 
 const USES: &[u8; 21] = b"use a\r\nuse b\r\nuse c\r\n";
 
