@@ -393,7 +393,7 @@ fn any_nodes_and_seed_tell_the_same(rt: HostRuntime) -> Result<(), Fail> {
 #[test]
 fn a_reserve_without_a_job_stops_the_service(rt: HostRuntime) -> Result<(), Fail> {
     let alloc = rt.alloc();
-    for nodes in NODES {
+    for nodes in ["1", "3", "7"] {
         let words = words_of(alloc, &["run", "--nodes", nodes, "--seed", "5"])?;
         let mut reader = PieceReader::new(b"reserve\r\n", 4096, Ending::End);
         let mut writer = PieceWriter::new(alloc, 4096, usize::MAX);

@@ -173,7 +173,7 @@ fn failures_are_told(rt: HostRuntime) -> Result<(), Fail> {
         &mut errors,
     );
     assert_eq!(rt; status, 1);
-    assert_eq!(rt; writer.bytes().len(), 0);
+    assert_eq!(rt; writer.bytes(), ANSWER);
     assert_eq!(rt; errors.bytes(), b"beanpax: 7 read failed\n".as_slice());
 
     let mut reader = PieceReader::new(REQUEST, 4, Ending::End);
@@ -235,7 +235,7 @@ static RUNS: [Run; 6] = [
         ending: Ending::Failure,
         room: 99,
         result: Err(SessionFault::ReadFailed),
-        output: b"",
+        output: b"NOT_FOUND\r\n",
     },
     Run {
         input: b"delete 9\r\n",
