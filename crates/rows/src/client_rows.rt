@@ -393,8 +393,16 @@ fn any_nodes_and_seed_tell_the_same(rt: HostRuntime) -> Result<(), Fail> {
 #[test]
 fn a_reserve_without_a_job_stops_the_service(rt: HostRuntime) -> Result<(), Fail> {
     let alloc = rt.alloc();
-    for nodes in ["1", "3", "7"] {
-        let words = words_of(alloc, &["run", "--nodes", nodes, "--seed", "5"])?;
+    for (nodes, seed) in [
+        ("1", "0"),
+        ("2", "1"),
+        ("3", "2"),
+        ("4", "3"),
+        ("5", "4"),
+        ("6", "5"),
+        ("7", "6"),
+    ] {
+        let words = words_of(alloc, &["run", "--nodes", nodes, "--seed", seed])?;
         let mut reader = PieceReader::new(b"reserve\r\n", 4096, Ending::End);
         let mut writer = PieceWriter::new(alloc, 4096, usize::MAX);
         let mut errors = PieceWriter::new(alloc, 64, usize::MAX);
