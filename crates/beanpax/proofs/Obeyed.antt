@@ -7,10 +7,10 @@ use Rattle.bean_queue.specs.declared.reply.Reply.{Reply}
 use Rattle.bean_queue.specs.Queue.{QueueState}
 use Rattle.session.specs.Items.{Answer}
 use Rattle.session.specs.Items.Answer.{Replied, Refused}
-use Rattle.session.specs.Serving.{Asks, Asked}
+use Rattle.session.specs.Serving.{Asks, Asked, Closes}
 use Rattle.simulated_nodes.specs.OneClient.{Talk, Said, answered, obeyed, passed, waited, unless_said, longest_wait, next_key}
 use Rattle.beanpax.specs.Sessions.{queue, queue_with, with_reply, replies_from}
-use Rattle.beanpax.specs.Simulations.{Obeys}
+use Rattle.beanpax.specs.Simulations.{Obeys, Leaves}
 
 unless_same : (s : Said QueueState Reply) (o : Option Reply) (f g : Talk QueueState → Said QueueState Reply) → ((t : Talk QueueState) → f t ≡ g t) → unless_said f s o ≡ unless_said g s o
 unless_same s None f g same = same s.talk
@@ -38,6 +38,10 @@ obeys same before after op reply replied stood = λ t stands. (
 -- the asks of a service that stands for a queue
 abbrev pub AsksOf : {S : Type 0} → (S → Talk QueueState → Type 0) → Asks S
 AsksOf stand old op result new = Obeys (stand old) (stand new) op result
+
+-- and its end
+abbrev pub ClosesOf : {S : Type 0} → (S → Talk QueueState → Type 0) → Closes S
+ClosesOf stand old result new = Leaves (stand old) (stand new) result
 
 -- all operations that were asked have their replies
 pub record AreReplies (t : Talk QueueState) (ops : List Op) (answers : List Answer) : Type 0 where

@@ -6,7 +6,7 @@ use Rattle.bean_queue.specs.declared.reply.Reply.{Reply}
 use Rattle.bean_queue.specs.Queue.{QueueState}
 use Rattle.session.specs.declared.faults.ServiceFault.{ServiceFault}
 use Rattle.session.specs.declared.faults.ServiceFault.TheVariants.{Refused, Stopped}
-use Rattle.simulated_nodes.specs.OneClient.{Talk, answered}
+use Rattle.simulated_nodes.specs.OneClient.{Talk, answered, left}
 use Rattle.beanpax.specs.Sessions.{queue}
 
 -- Of how far one queue has come before and after: a reply is that of the queue, which then has come so far. Nothing is
@@ -16,3 +16,9 @@ Obeys before after op (Ok reply) =
     (t : Talk QueueState) → before t → ((answered queue t op).reply ≡ Some reply) × after (answered queue t op).talk
 Obeys before after op (Err Refused) = ⊥
 Obeys before after op (Err Stopped) = ⊤
+
+-- The client has left the queue, or the nodes stopped. That is never refused.
+abbrev pub Leaves : (before after : Talk QueueState → Type 0) → Result Unit ServiceFault → Type 0
+Leaves before after (Ok done) = (t : Talk QueueState) → before t → after (left queue t)
+Leaves before after (Err Refused) = ⊥
+Leaves before after (Err Stopped) = ⊤

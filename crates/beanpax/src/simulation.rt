@@ -27,17 +27,17 @@ impl Simulation {
 }
 
 impl Service for Simulation {
-    ghost use Rattle.std.specs.Prelude.{◌≢◌, Err};
-    ghost use Rattle.session.specs.declared.faults.ServiceFault.{ServiceFault};
     ghost use Rattle.simulated_nodes.specs.Standing.{Stand};
     ghost use Rattle.beanpax.specs.Sessions.{queue_with};
-    ghost use Rattle.beanpax.specs.Simulations.{Obeys};
+    ghost use Rattle.beanpax.specs.Simulations.{Obeys, Leaves};
 
     ghost asks = { λ old op result new. Obeys
         (Stand (queue_with ⟦<Op as PartialEq>⟧.eq) old.nodes.carrier.world old.nodes.next old.nodes.second)
         (Stand (queue_with ⟦<Op as PartialEq>⟧.eq) new.nodes.carrier.world new.nodes.next new.nodes.second) op result };
 
-    ghost closes = { λ old result new. result ≢ Err ServiceFault.Refused };
+    ghost closes = { λ old result new. Leaves
+        (Stand (queue_with ⟦<Op as PartialEq>⟧.eq) old.nodes.carrier.world old.nodes.next old.nodes.second)
+        (Stand (queue_with ⟦<Op as PartialEq>⟧.eq) new.nodes.carrier.world new.nodes.next new.nodes.second) result };
 
     fn ask(&mut self, op: Op) -> Result<Reply, ServiceFault> {
         match self.nodes.ask(op) {
