@@ -25,30 +25,42 @@ fn put(alloc: Global, pri: u32, ttr: u32, body: &[u8]) -> Result<Op, AllocError>
 
 #[test]
 fn a_put_that_breaks_off_asks_nothing(rt: HostRuntime) -> Result<(), Fail> {
-    let reader = PieceReader::new(b"put 1 0 1 5\r\nhe", 4096, Ending::End);
-    serves(
-        &rt,
-        Script::new(&rt),
-        reader,
-        writer(&rt),
-        Ok(End::Eof),
-        b"",
-    )
+    for piece_len in [1, 7, 4096] {
+        let reader = PieceReader::new(b"put 1 0 1 5\r\nhe", piece_len, Ending::End);
+        serves(
+            &rt,
+            Script::new(&rt),
+            reader,
+            writer(&rt),
+            Ok(End::Eof),
+            b"",
+        )?;
+    }
+    Ok(())
 }
 
 #[test]
 fn a_writer_that_fails_has_a_beginning(rt: HostRuntime) -> Result<(), Fail> {
-    let mut script = Script::new(&rt);
+    for piece_len in [1, 7, 4096] {
+        let reader = PieceReader::new(b"put 0 0 9 1\r\nx\r\nreserve\r\n", piece_len, Ending::End);
+        let writer = PieceWriter::new(rt.alloc(), piece_len, 15);
+        let end = Err(SessionFault::WriteFailed);
+        let script = put_and_reserve(&rt)?;
+        serves(&rt, script, reader, writer, end, b"INSERTED 1\r\nRES")?;
+    }
+    Ok(())
+}
+
+// A put that is answered, and then a reserve that gets its job.
+fn put_and_reserve(rt: &impl AllocGlobal) -> Result<Script, AllocError> {
+    let mut script = Script::new(rt);
     script.add(put(rt.alloc(), 0, 9, b"x")?, Ok(Reply::Inserted(1)))?;
     let body = Body::new(rt.alloc(), b"x")?;
     script.add(
         Op::Reserve { seconds: None },
         Ok(Reply::Reserved { id: 1, body }),
     )?;
-    let reader = PieceReader::new(b"put 0 0 9 1\r\nx\r\nreserve\r\n", 4096, Ending::End);
-    let writer = PieceWriter::new(rt.alloc(), 4096, 15);
-    let end = Err(SessionFault::WriteFailed);
-    serves(&rt, script, reader, writer, end, b"INSERTED 1\r\nRES")
+    Ok(script)
 }
 
 // A put with the largest body, a put with one byte more, and a line after them.
@@ -97,24 +109,33 @@ fn large_puts_come_in_pieces(rt: HostRuntime) -> Result<(), Fail> {
 
 #[test]
 fn a_refused_ask_is_told(rt: HostRuntime) -> Result<(), Fail> {
-    let mut script = uses(&rt, &[b"a"])?;
-    script.add(Op::Use(tube(&rt, b"b")?), Err(ServiceFault::Refused))?;
-    script.add(
-        Op::Use(tube(&rt, b"c")?),
-        Ok(Reply::Using(tube(&rt, b"c")?)),
-    )?;
-    let reader = PieceReader::new(USES, 4096, Ending::End);
-    let output = b"USING a\r\nOUT_OF_MEMORY\r\nUSING c\r\n";
-    serves(&rt, script, reader, writer(&rt), Ok(End::Eof), output)
+    for piece_len in [1, 7, 4096] {
+        let reader = PieceReader::new(USES, piece_len, Ending::End);
+        let script = refused_in_the_middle(&rt)?;
+        let output = b"USING a\r\nOUT_OF_MEMORY\r\nUSING c\r\n";
+        serves(&rt, script, reader, writer(&rt), Ok(End::Eof), output)?;
+    }
+    Ok(())
+}
+
+// Three uses, of which the second is refused.
+fn refused_in_the_middle(rt: &(impl Abort + AllocGlobal)) -> Result<Script, Fail> {
+    let mut script = uses(rt, &[b"a"])?;
+    script.add(Op::Use(tube(rt, b"b")?), Err(ServiceFault::Refused))?;
+    script.add(Op::Use(tube(rt, b"c")?), Ok(Reply::Using(tube(rt, b"c")?)))?;
+    Ok(script)
 }
 
 #[test]
 fn a_stopped_service_ends_the_session(rt: HostRuntime) -> Result<(), Fail> {
-    let mut script = uses(&rt, &[b"a"])?;
-    script.add(Op::Use(tube(&rt, b"b")?), Err(ServiceFault::Stopped))?;
-    let reader = PieceReader::new(USES, 4096, Ending::End);
-    let end = Err(SessionFault::ServiceStopped);
-    serves(&rt, script, reader, writer(&rt), end, b"USING a\r\n")
+    for piece_len in [1, 7, 4096] {
+        let mut script = uses(&rt, &[b"a"])?;
+        script.add(Op::Use(tube(&rt, b"b")?), Err(ServiceFault::Stopped))?;
+        let reader = PieceReader::new(USES, piece_len, Ending::End);
+        let end = Err(SessionFault::ServiceStopped);
+        serves(&rt, script, reader, writer(&rt), end, b"USING a\r\n")?;
+    }
+    Ok(())
 }
 
 #[test]
