@@ -9,6 +9,12 @@ pub enum Part {
     Times(usize, u8),
 }
 
+/// How many nodes there may be.
+pub static NODES: [&str; 7] = ["1", "2", "3", "4", "5", "6", "7"];
+
+/// Some seeds.
+pub static SEEDS: [&str; 10] = ["0", "1", "2", "3", "4", "5", "6", "7", "8", "9"];
+
 /// The parts, one after the other.
 pub fn joined(alloc: Global, parts: &[Part]) -> Result<Vec<u8>, AllocError> {
     let mut bytes = Vec::new(alloc);

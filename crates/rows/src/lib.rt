@@ -11,6 +11,8 @@ mod command_rows;
 #[cfg(test)]
 mod filter_rows;
 #[cfg(test)]
+mod line_rows;
+#[cfg(test)]
 mod node_rows;
 #[cfg(test)]
 mod pipe_rows;
@@ -26,6 +28,10 @@ mod queue_words;
 mod replica_rows;
 #[cfg(test)]
 mod schedule_rows;
+#[cfg(test)]
+mod told;
+#[cfg(test)]
+mod tube_rows;
 #[cfg(test)]
 mod waiting_rows;
 #[cfg(test)]

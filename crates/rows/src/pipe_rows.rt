@@ -43,14 +43,12 @@ fn hears(from: &mut PipeReader, reply: &[u8]) -> bool {
 
 /// Sends each command after the reply to the one before it, and counts the replies.
 fn talk(mut to: PipeWriter, mut from: PipeReader) -> usize {
-    let mut heard = 0;
-    for (command, reply) in &TALK {
+    for (heard, (command, reply)) in TALK.iter().enumerate() {
         if to.write_all(*command).is_err() || !hears(&mut from, *reply) {
             return heard;
         }
-        heard += 1;
     }
-    heard
+    TALK.len()
 }
 
 #[test]
