@@ -4,12 +4,13 @@ use Rattle.std.specs.List.{list_any}
 use Rattle.object.specs.Lists.{In}
 use Rattle.object.specs.declared.command.Act.{Act}
 use Rattle.object.specs.declared.command.Answer.{Answer}
+use Rattle.object.specs.declared.command.Command.{Command}
 use Rattle.job_store.specs.declared.job.Job.{Job}
 use Rattle.job_store.specs.Entries.{value_at}
 use Rattle.bean_queue.specs.declared.op.Op.{Op}
 use Rattle.bean_queue.specs.declared.reply.Reply.{Reply}
 use Rattle.bean_queue.specs.Queue.{QueueState}
-use Rattle.bean_queue.specs.Places.{Place}
+use Rattle.bean_queue.specs.Places.{Place, places, placed_from, queue_replay}
 
 -- the reply is RESERVED of the job id
 abbrev pub is_reserved : ℕ → Reply → Bool
@@ -92,3 +93,9 @@ IsHeldByOne ps =
     Gets p x id →
     Gets q y id →
     HasEnded between q x id p.state.now (ttr_of id p.state)
+
+-- no job is held by two sessions at once in the places of these commands, which are those of the replay
+pub record HasOneHolder (commands : List (Command Op)) : Type 0 where
+  pub once : IsGivenOnce (places commands)
+  pub ended : IsHeldByOne (places commands)
+  pub replay : queue_replay commands ≡ placed_from 0 (places commands)

@@ -1,6 +1,7 @@
 ghost use Rattle.std.specs.Prelude.{◌≡◌, ◌≤◌, ◌^◌, ◌++◌, true, false, OnOk, OnErr};
 ghost use Rattle.bean_queue.specs.Effects.{do_effect, close_effect, tick_effect, is_quiet};
 
+use crate::laws::one_holder;
 use crate::logic::Logic;
 use crate::op::Op;
 use crate::reply::Reply;
@@ -126,6 +127,7 @@ impl<M: JobMap> Object for QueueOver<M> {
     ghost use Rattle.bean_queue.specs.Queue.{fresh as new_queue};
     ghost use Rattle.bean_queue.specs.Effects.{effect};
     ghost use Rattle.bean_queue.specs.Waits.{Waits};
+    ghost use Rattle.bean_queue.specs.Holds.{HasOneHolder};
     ghost use Rattle.bean_queue.specs.WaitLaws.{fresh-idle, effect-lawful, effect-once};
 
     ghost fresh = { new_queue };
@@ -135,6 +137,8 @@ impl<M: JobMap> Object for QueueOver<M> {
     ghost answers = { λ s c. (effect c s).answers };
 
     ghost waits = { Waits };
+
+    ghost promise = { HasOneHolder };
 
     fn new(alloc: Global) -> Result<Self, AllocError> {
         Ok(QueueOver {
@@ -157,6 +161,10 @@ impl<M: JobMap> Object for QueueOver<M> {
             Act::Close => self.close(key.session, out),
             Act::Tick => self.tick(key.number, out),
         }
+    }
+
+    fn keeps_promise() {
+        one_holder();
     }
 
     ghost idle = { fresh-idle };

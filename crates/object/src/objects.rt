@@ -13,7 +13,7 @@ use std::alloc::{AllocError, Global};
 ///
 /// `fresh` is the state of a new object, `after` what a command makes of a state, and `answers` what is
 /// answered meanwhile: to the command itself, or to earlier ones that waited for their answer. `waits`
-/// tells which keys wait.
+/// tells which keys wait. `promise` is what holds of each list of commands that a new object obeys.
 pub trait Object: Drop + Sized {
     type Op: Value;
 
@@ -26,6 +26,8 @@ pub trait Object: Drop + Sized {
     ghost answers: { Self → Command Self.Op → List (Answer Self.Reply) };
 
     ghost waits: { Self → Key → Type 0 };
+
+    ghost promise: { List (Command Self.Op) → Type 0 };
 
     /// A new object.
     fn new(alloc: Global) -> Result<Self, AllocError>
@@ -40,6 +42,10 @@ pub trait Object: Drop + Sized {
         ensures state { OnOk result (self.new ≡ after self.old cmd.now) }
         ensures out { OnOk result (out.new.items ≡ out.old.items ++ answers self.old cmd.now) }
         ensures err { OnErr result ((self.new ≡ self.old) × (out.new.items ≡ out.old.items)) };
+
+    /// The promise holds of all commands. Nothing is done.
+    fn keeps_promise()
+        ensures { (commands : List (Command Self.Op)) → promise commands };
 
     // Nothing waits in a new object.
     ghost idle: { (k : Key) → waits fresh k → ⊥ };

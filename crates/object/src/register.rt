@@ -55,6 +55,7 @@ impl Object for Register {
 
     type Reply = RegisterReply;
 
+    ghost use Rattle.std.specs.Bool.{⊤};
     ghost use Rattle.object.specs.Registers.{written, told, told-once, told-to};
 
     ghost fresh = { record { value = 0 } };
@@ -64,6 +65,9 @@ impl Object for Register {
     ghost answers = { λ r c. told r c.key c.act };
 
     ghost waits = { λ r k. ⊥ };
+
+    // a register promises nothing but its answers
+    ghost promise = { λ commands. ⊤ };
 
     fn new(_alloc: Global) -> Result<Self, AllocError> {
         Ok(Register { value: 0 })
@@ -93,6 +97,8 @@ impl Object for Register {
         }
         Ok(())
     }
+
+    fn keeps_promise() {}
 
     ghost use Rattle.std.proofs.Common.{inl};
 

@@ -2,6 +2,7 @@
 use Rattle.std.specs.Prelude.{◌≡◌, List}
 use Rattle.object.specs.declared.command.Command.{Command}
 use Rattle.world.specs.Objects.{Rules}
+use Rattle.world.specs.Nodes.{Cluster}
 use Rattle.world.specs.Worlds.{World}
 use Rattle.world.specs.Chosen.{IsOrder}
 use Rattle.world.specs.Legal.{IsBeginning, GoesOn, IsLegal}
@@ -12,6 +13,10 @@ pub record HasOneOrder {O Op Reply : Type 0} (rules : Rules O Op Reply) (w : Wor
   pub is : IsOrder w.cluster order
   pub only : (other : List (Command Op)) → IsOrder w.cluster other → other ≡ order
   pub legal : IsLegal rules w.happenings order
+
+-- what the object promises of all commands holds of the order
+abbrev pub KeepsPromise : {Op : Type 0} → (List (Command Op) → Type 0) → Cluster (Command Op) → Type 0
+KeepsPromise {Op} promise k = (order : List (Command Op)) → IsOrder k order → promise order
 
 -- the happenings go on, and so does the order
 pub record IsLater {Op Reply : Type 0} (earlier later : World Op Reply) : Type 0 where

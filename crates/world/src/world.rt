@@ -6,7 +6,7 @@ ghost use Rattle.world.specs.Worlds.{opening};
 ghost use Rattle.world.specs.Steps.{Step};
 ghost use Rattle.world.specs.Runs.{Leads};
 ghost use Rattle.world.specs.Refusals.{refusal, IsRefused};
-ghost use Rattle.world.specs.OneOrder.{HasOneOrder, IsLater};
+ghost use Rattle.world.specs.OneOrder.{HasOneOrder, KeepsPromise, IsLater};
 ghost use Rattle.world.specs.Told.{IsAnswered};
 ghost use Rattle.world.specs.Agreements.{HasOneCommand, KeepsChosen, ChoosesOne, DecidesChosen, StaysChosen};
 
@@ -66,6 +66,7 @@ impl<O: Object> World<O> {
     pub fn new(alloc: Global, members: Members) -> Result<World<O>, AllocError>
         ensures opening { IfOk result (λ w. w ≡ opening members) }
         ensures one_order { IfOk result (HasOneOrder (rules_of O.fresh O.after O.answers O.Op.eq)) }
+        ensures promised { IfOk result (λ w. KeepsPromise O.promise w.cluster) }
         ensures answered { IfOk result (IsAnswered (rules_of O.fresh O.after O.answers O.Op.eq)) }
     {
         ballot_laws();
@@ -95,6 +96,7 @@ impl<O: Object> World<O> {
         ensures decides_chosen { DecidesChosen self.new.cluster }
         ensures stays { StaysChosen self.old.cluster self.new.cluster }
         ensures one_order { HasOneOrder (rules_of O.fresh O.after O.answers O.Op.eq) self.new }
+        ensures promised { KeepsPromise O.promise self.new.cluster }
         ensures answered { IsAnswered (rules_of O.fresh O.after O.answers O.Op.eq) self.new }
         ensures later { IsLater self.old self.new }
     {
@@ -116,6 +118,7 @@ impl<O: Object> World<O> {
         ensures decides_chosen { DecidesChosen self.new.cluster }
         ensures stays { StaysChosen self.old.cluster self.new.cluster }
         ensures one_order { HasOneOrder (rules_of O.fresh O.after O.answers O.Op.eq) self.new }
+        ensures promised { KeepsPromise O.promise self.new.cluster }
         ensures answered { IsAnswered (rules_of O.fresh O.after O.answers O.Op.eq) self.new }
         ensures later { IsLater self.old self.new }
     {
@@ -181,10 +184,12 @@ impl<O: Object> World<O> {
         ensures chooses_one { ChoosesOne self.now.cluster }
         ensures decides_chosen { DecidesChosen self.now.cluster }
         ensures one_order { HasOneOrder (rules_of O.fresh O.after O.answers O.Op.eq) self.now }
+        ensures promised { KeepsPromise O.promise self.now.cluster }
         ensures answered { IsAnswered (rules_of O.fresh O.after O.answers O.Op.eq) self.now }
     {
         let _ = &self.alloc;
         ballot_laws();
+        O::keeps_promise();
     }
 
     /// The letters ever sent, in the order sent. They are numbered from 0.
