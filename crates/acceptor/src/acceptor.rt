@@ -76,6 +76,13 @@ impl<C: Value> Acceptor<C> {
         Ok(self.promised)
     }
 
+    /// Whether this ballot is the promised one, so that a pvalue of it would be accepted.
+    pub fn has_promised(&self, ballot: Ballot) -> bool
+        ensures { result ≡ is_promise self.now.promised ballot }
+    {
+        self.promised == Some(ballot)
+    }
+
     // All that was accepted, in rising slot and then in rising ballot.
     fn report(&self) -> Result<Vec<Pvalue<C>>, AllocError>
         ensures { IfOk result (λ report. report.items ≡ self.now.accepted) }

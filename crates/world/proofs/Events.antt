@@ -28,10 +28,11 @@ use Rattle.world.specs.Histories.{history, answers_after}
 use Rattle.world.specs.Nodes.{Cluster, node, turned}
 use Rattle.world.specs.Worlds.{World, Happenings, opening, same_key, is_submitted}
 use Rattle.world.specs.Steps.{Step, IsItsOwn, replica_turn, performed, counted, with_cluster, submit, deliver, perform}
-use Rattle.world.specs.Runs.{Leads, IsReachable}
+use Rattle.world.specs.Runs.{Leads, IsReachable, IsWorld}
 use Rattle.world.specs.Runs as Runs
 use Rattle.world.specs.Refusals.{IsAllowed, has_other_act, is_at_member, is_sent, keeps_acts, most_events, refusal, IsRefused}
-use Rattle.world.specs.Kept.{IsFit, HasNode, Delivered, IsWorld, IsNoted, key_past}
+use Rattle.world.specs.Showing.{HasNode, IsFit}
+use Rattle.world.specs.Kept.{Delivered, IsNoted, key_past}
 use Rattle.world.proofs.Lists.{Each-at, In-get}
 use Rattle.world.proofs.Orders.{BallotLaws}
 use Rattle.world.proofs.Invariants.{IsFair, IsTrueOf, IsSound, agree}

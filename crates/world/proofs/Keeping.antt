@@ -12,7 +12,7 @@ use Rattle.object.specs.declared.command.Command.{Command}
 use Rattle.object.specs.OnceOnly.{Filtered, filtered, filtered_answers}
 use Rattle.ballot.specs.Ballots.{Numbers, is_promise, higher}
 use Rattle.ballot.specs.declared.pvalue.Pvalue.{Pvalue}
-use Rattle.acceptor.specs.Acceptors.{Acceptances, Keeps, new_acceptor, after_p1a, after_p2a}
+use Rattle.acceptor.specs.Acceptors.{Acceptances, Keeps, after_p1a, after_p2a}
 use Rattle.acceptor.specs.Reports.{IsReport}
 use Rattle.slot_log.specs.Books.{Slots, SlotBook, new_book}
 use Rattle.slot_log.specs.Decisions.{next_decided, learnt}
@@ -22,7 +22,6 @@ use Rattle.slot_log.specs.Advances.{advanced}
 use Rattle.world.specs.Objects.{Rules}
 use Rattle.replica.specs.Replicas.{Replicating, performed, performed_as, performed_answers, answers_as}
 use Rattle.world.specs.Histories.{history, commands_upto, obeyed, answers_after}
-use Rattle.world.specs.Nodes.{NodeState}
 use Rattle.world.specs.Kept.{IsKept, IsPerformed}
 use Rattle.world.proofs.Lists.{In-left, In-right, In-cases}
 use Rattle.world.proofs.Maps.{get_insert_cases}
@@ -52,11 +51,9 @@ report_if : (laws : BallotLaws) {C : Type 0} (all kept : List (Pvalue C)) (p : P
 report_if laws all kept p true g = report_more laws all kept p g
 report_if laws all kept p false g = g
 
-pub keeps_new : {C : Type 0} (kept : Acceptances C) (all : List (Pvalue C)) → kept ≡ new_acceptor → all ≡ [] → Keeps (record { promised = kept.promised; accepted = all }) kept
-keeps_new {C} kept all new none = record {
-  promised = refl;
-  accepted = subst (λ (l : List (Pvalue C)). IsReport all l) (sym (ap (λ a. a.accepted) new)) (subst (λ (l : List (Pvalue C)). IsReport l []) (sym none) (record { part = λ p i. i; greatest = λ p i. absurd i }));
-}
+-- an acceptor keeps what it accepted
+pub keeps_all : (laws : BallotLaws) {C : Type 0} (a : Acceptances C) → Keeps a a
+keeps_all laws a = record { promised = refl; accepted = record { part = λ p i. i; greatest = λ p i. (p, i, refl, laws.itself p.ballot) } }
 
 pub keeps_p1a : {C : Type 0} (all kept : Acceptances C) (b : Numbers) → Keeps all kept → Keeps (after_p1a all b) (after_p1a kept b)
 keeps_p1a all kept b g = record { promised = ap (λ o. Some (higher o b)) g.promised; accepted = g.accepted }
@@ -117,51 +114,47 @@ learnt_known decisions s c t known = ⊎_elim
     (get_insert_cases decisions s c t)
 
 module _ {O Op Reply : Type 0} (rules : Rules O Op Reply) where
-  -- a new node
-  pub kept_new : (kept : Acceptances (Command Op)) (object : Filtered O) (x : NodeState (Command Op)) → Keeps x.acceptor kept → object.object ≡ rules.fresh → object.latest ≡ empty → x.replica ≡ new_book → IsKept rules kept object x
-  kept_new kept object x enough fresh none new = record {
-    enough = enough;
+  -- a new replica
+  pub kept_new : (object : Filtered O) (book : SlotBook (Command Op)) → object.object ≡ rules.fresh → object.latest ≡ empty → book ≡ new_book → IsKept rules object book
+  kept_new object book fresh none new = record {
     obeys = (λ i. record { object = fresh i; latest = none i }) ∙ sym (ap (λ b. obeyed rules (history b)) new);
     performed = subst IsPerformed (sym new) (record { first = omega arith; known = λ s low high. absurd (omega arith) });
   }
 
   -- a replica that performed and learnt nothing
-  pub kept_same : (kept : Acceptances (Command Op)) (object : Filtered O) (x y : NodeState (Command Op)) → IsKept rules kept object x → y.acceptor ≡ x.acceptor → y.replica.slot_out ≡ x.replica.slot_out → y.replica.decisions ≡ x.replica.decisions → IsKept rules kept object y
-  kept_same kept object x y k acceptor slot decisions = record {
-    enough = subst (λ a. Keeps a kept) (sym acceptor) k.enough;
+  pub kept_same : (object : Filtered O) (x y : SlotBook (Command Op)) → IsKept rules object x → y.slot_out ≡ x.slot_out → y.decisions ≡ x.decisions → IsKept rules object y
+  kept_same object x y k slot decisions = record {
     obeys = k.obeys ∙ (λ i. obeyed rules (commands_upto (slot_same i - 1) (decisions_same i)));
     performed = record { first = subst (λ n. 0 < n) (sym slot) k.performed.first; known = λ s low high. subst (λ m. IsSome (get m s)) (sym decisions) (k.performed.known s low (subst (λ n. s < n) slot high)) };
   }
     where
-      slot_same : x.replica.slot_out ≡ y.replica.slot_out
+      slot_same : x.slot_out ≡ y.slot_out
       slot_same = sym slot
 
-      decisions_same : x.replica.decisions ≡ y.replica.decisions
+      decisions_same : x.decisions ≡ y.decisions
       decisions_same = sym decisions
 
-  pub kept_learnt : (kept : Acceptances (Command Op)) (object : Filtered O) (x : NodeState (Command Op)) (s : ℕ) (c : Command Op) → IsKept rules kept object x → ((d : Command Op) → get x.replica.decisions s ≡ Some d → d ≡ c) → IsKept rules kept object (record x { replica = learnt x.replica s c })
-  kept_learnt kept object x s c k agrees = record {
-    enough = k.enough;
-    obeys = k.obeys ∙ ap (obeyed rules) (sym (history_learnt x.replica s c k.performed agrees));
-    performed = record { first = k.performed.first; known = λ t low high. learnt_known x.replica.decisions s c t (k.performed.known t low high) };
+  pub kept_learnt : (object : Filtered O) (x : SlotBook (Command Op)) (s : ℕ) (c : Command Op) → IsKept rules object x → ((d : Command Op) → get x.decisions s ≡ Some d → d ≡ c) → IsKept rules object (learnt x s c)
+  kept_learnt object x s c k agrees = record {
+    obeys = k.obeys ∙ ap (obeyed rules) (sym (history_learnt x s c k.performed agrees));
+    performed = record { first = k.performed.first; known = λ t low high. learnt_known x.decisions s c t (k.performed.known t low high) };
   }
 
-  pub kept_performed : (same : Command Op → Command Op → Bool) (kept : Acceptances (Command Op)) (object : Filtered O) (x : NodeState (Command Op)) (c : Command Op) → IsKept rules kept object x → next_decided x.replica ≡ Some c → IsKept rules kept (filtered rules.after object c) (record x { replica = advanced same x.replica })
-  kept_performed same kept object x c k e =
-      let out : x.replica.slot_out - 1 + 1 ≡ x.replica.slot_out = omega (arith, k.performed.first) in
-      let out' : x.replica.slot_out - 1 + 1 ≡ x.replica.slot_out + 1 - 1 = omega (arith, k.performed.first) in
+  pub kept_performed : (same : Command Op → Command Op → Bool) (object : Filtered O) (x : SlotBook (Command Op)) (c : Command Op) → IsKept rules object x → next_decided x ≡ Some c → IsKept rules (filtered rules.after object c) (advanced same x)
+  kept_performed same object x c k e =
+      let out : x.slot_out - 1 + 1 ≡ x.slot_out = omega (arith, k.performed.first) in
+      let out' : x.slot_out - 1 + 1 ≡ x.slot_out + 1 - 1 = omega (arith, k.performed.first) in
       record {
-        enough = k.enough;
         obeys = ap (λ o. filtered rules.after o c) k.obeys ∙
-            sym (fold-append (filtered rules.after) (record { object = rules.fresh; latest = empty }) (history x.replica) (c ∷ [])) ∙
-            ap (obeyed rules) (sym (history_more (x.replica.slot_out - 1) x.replica.decisions c (ap (get x.replica.decisions) out ∙ e))) ∙
-            ap (λ n. obeyed rules (commands_upto n x.replica.decisions)) out';
+            sym (fold-append (filtered rules.after) (record { object = rules.fresh; latest = empty }) (history x) (c ∷ [])) ∙
+            ap (obeyed rules) (sym (history_more (x.slot_out - 1) x.decisions c (ap (get x.decisions) out ∙ e))) ∙
+            ap (λ n. obeyed rules (commands_upto n x.decisions)) out';
         performed = record {
           first = omega arith;
           known = λ s low high. ⊎_elim
-              (λ (same : s ≡ x.replica.slot_out). subst IsSome (sym (ap (get x.replica.decisions) same ∙ e)) refl)
-              (λ (apart : s ≢ x.replica.slot_out). k.performed.known s low (omega arith))
-              (cases_eq s x.replica.slot_out);
+              (λ (same : s ≡ x.slot_out). subst IsSome (sym (ap (get x.decisions) same ∙ e)) refl)
+              (λ (apart : s ≢ x.slot_out). k.performed.known s low (omega arith))
+              (cases_eq s x.slot_out);
         };
       }
 
@@ -169,23 +162,23 @@ module _ {O Op Reply : Type 0} (rules : Rules O Op Reply) where
   requested_if book c true = (refl, refl)
   requested_if book c false = (refl, refl)
 
-  pub kept_requested : (same : Command Op → Command Op → Bool) (kept : Acceptances (Command Op)) (object : Filtered O) (x : NodeState (Command Op)) (c : Command Op) → IsKept rules kept object x → IsKept rules kept object (record x { replica = requested same x.replica c })
-  kept_requested same kept object x c k = let r = requested_if x.replica c (is_known same x.replica c) in kept_same kept object x _ k refl r.0 r.1
+  pub kept_requested : (same : Command Op → Command Op → Bool) (object : Filtered O) (x : SlotBook (Command Op)) (c : Command Op) → IsKept rules object x → IsKept rules object (requested same x c)
+  kept_requested same object x c k = let r = requested_if x c (is_known same x c) in kept_same object x _ k r.0 r.1
 
   proposed_if : (book : SlotBook (Command Op)) (o : Option (ℕ × Command Op)) → ((proposed book o).slot_out ≡ book.slot_out) × ((proposed book o).decisions ≡ book.decisions)
   proposed_if book None = (refl, refl)
   proposed_if book (Some p) = (refl, refl)
 
-  pub kept_proposed : (kept : Acceptances (Command Op)) (object : Filtered O) (x : NodeState (Command Op)) (o : Option (ℕ × Command Op)) → IsKept rules kept object x → IsKept rules kept object (record x { replica = proposed x.replica o })
-  kept_proposed kept object x o k = let r = proposed_if x.replica o in kept_same kept object x _ k refl r.0 r.1
+  pub kept_proposed : (object : Filtered O) (x : SlotBook (Command Op)) (o : Option (ℕ × Command Op)) → IsKept rules object x → IsKept rules object (proposed x o)
+  kept_proposed object x o k = let r = proposed_if x o in kept_same object x _ k r.0 r.1
 
-  performed_if : (same : Command Op → Command Op → Bool) (kept : Acceptances (Command Op)) (r : Replicating Op O) (x : NodeState (Command Op)) → r.slots ≡ x.replica → IsKept rules kept r.object x → (o : Option (Command Op)) → next_decided r.slots ≡ o → IsKept rules kept (performed_as same rules.after r o).object (record x { replica = (performed_as same rules.after r o).slots })
-  performed_if same kept r x slots k None e = subst (λ b. IsKept rules kept r.object (record x { replica = b })) (sym slots) k
-  performed_if same kept r x slots k (Some c) e = kept_performed same kept r.object (record x { replica = r.slots }) c (subst (λ b. IsKept rules kept r.object (record x { replica = b })) (sym slots) k) e
+  performed_if : (same : Command Op → Command Op → Bool) (r : Replicating Op O) → IsKept rules r.object r.slots → (o : Option (Command Op)) → next_decided r.slots ≡ o → IsKept rules (performed_as same rules.after r o).object (performed_as same rules.after r o).slots
+  performed_if same r k None e = k
+  performed_if same r k (Some c) e = kept_performed same r.object r.slots c k e
 
-  pub kept_perform : (same : Command Op → Command Op → Bool) (kept : Acceptances (Command Op)) (r z : Replicating Op O) (x : NodeState (Command Op)) → r.slots ≡ x.replica → z ≡ performed same rules.after r → IsKept rules kept r.object x → IsKept rules kept z.object (record x { replica = z.slots })
-  kept_perform same kept r z x slots new k =
-      subst (λ (y : Replicating Op O). IsKept rules kept y.object (record x { replica = y.slots })) (sym new) (performed_if same kept r x slots k (next_decided r.slots) refl)
+  pub kept_perform : (same : Command Op → Command Op → Bool) (r z : Replicating Op O) → z ≡ performed same rules.after r → IsKept rules r.object r.slots → IsKept rules z.object z.slots
+  kept_perform same r z new k =
+      subst (λ (y : Replicating Op O). IsKept rules y.object y.slots) (sym new) (performed_if same r k (next_decided r.slots) refl)
 
   pub answers_performed : FilterLaws Op → (r : Replicating Op O) (book : SlotBook (Command Op)) → book ≡ r.slots → r.object ≡ obeyed rules (history r.slots) → (c : Command Op) → next_decided book ≡ Some c → performed_answers rules.answers r ≡ answers_after rules (history book) c
   answers_performed laws r book slots obeys c e =
@@ -194,18 +187,7 @@ module _ {O Op Reply : Type 0} (rules : Rules O Op Reply) where
       answers_obeyed laws rules (history r.slots) c ∙
       ap (λ b. answers_after rules (history b) c) (sym slots)
 
-  pub kept_learns : (kept : Acceptances (Command Op)) (r z : Replicating Op O) (v x : NodeState (Command Op)) (s : ℕ) (c : Command Op) → v ≡ x → z ≡ record r { slots = learnt r.slots s c } → r.slots ≡ v.replica → IsKept rules kept r.object v → ((d : Command Op) → get x.replica.decisions s ≡ Some d → d ≡ c) → IsKept rules kept z.object (record v { replica = z.slots })
-  kept_learns kept r z v x s c is new slots k agrees =
-      subst (λ (y : Replicating Op O). IsKept rules kept y.object (record v { replica = y.slots })) (sym new)
-      (subst (λ b. IsKept rules kept r.object (record v { replica = learnt b s c })) (sym slots)
-      (kept_learnt kept r.object v s c k (λ d e. agrees d (ap (λ y. get y.replica.decisions s) (sym is) ∙ e))))
-
-  pub kept_accepted : (laws : BallotLaws) (kept z : Acceptances (Command Op)) (object : Filtered O) (x : NodeState (Command Op)) (p : Pvalue (Command Op)) (all : List (Pvalue (Command Op))) → IsKept rules kept object x → Keeps (after_p2a kept p) z → all ≡ cond (is_promise kept.promised p.ballot) (x.acceptor.accepted ++ (p ∷ [])) x.acceptor.accepted → IsKept rules z object (record x { acceptor = record { promised = z.promised; accepted = all } })
-  kept_accepted laws kept z object x p all k new whole = record {
-    enough = record {
-      promised = refl;
-      accepted = subst (λ l. IsReport l z.accepted) (ap (λ o. cond (is_promise o p.ballot) (x.acceptor.accepted ++ (p ∷ [])) x.acceptor.accepted) (sym k.enough.promised) ∙ sym whole) (keeps_p2a laws x.acceptor kept z p k.enough new).accepted;
-    };
-    obeys = k.obeys;
-    performed = k.performed;
-  }
+  pub kept_learns : (r z : Replicating Op O) (book : SlotBook (Command Op)) (s : ℕ) (c : Command Op) → r.slots ≡ book → z ≡ record r { slots = learnt r.slots s c } → IsKept rules r.object r.slots → ((d : Command Op) → get book.decisions s ≡ Some d → d ≡ c) → IsKept rules z.object z.slots
+  kept_learns r z book s c is new k agrees =
+      subst (λ (y : Replicating Op O). IsKept rules y.object y.slots) (sym new)
+      (kept_learnt r.object r.slots s c k (λ d e. agrees d (ap (λ b. get b.decisions s) (sym is) ∙ e)))

@@ -30,4 +30,6 @@ pub mod Noted
 pub mod Placed
 pub mod OneOrder
 pub mod Received
+pub mod Watching
 pub mod Events
+pub mod Every

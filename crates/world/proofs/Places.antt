@@ -8,7 +8,8 @@ use Rattle.std.proofs.lemmas.List.{get_or-set_same, get_or-set_other, get_or_def
 use Rattle.ballot.specs.declared.letter.Letter.{Letter}
 use Rattle.world.specs.Nodes.{NodeState, Cluster, new_node, new_cluster, node_in, put}
 use Rattle.world.specs.Steps.{Receives}
-use Rattle.world.specs.Kept.{HasNode, Received, Delivered}
+use Rattle.world.specs.Showing.{HasNode, Received}
+use Rattle.world.specs.Kept.{Delivered}
 use Rattle.world.proofs.Sets.{member_bounds}
 
 pub node_put_same : {C : Type 0} (members : List ℕ) (nodes : List (NodeState C)) (n : ℕ) (x : NodeState C) → 1 ≤ n → n ≤ length nodes → node_in members (put nodes n x) n ≡ x

@@ -21,9 +21,8 @@ use Rattle.world.specs.Histories.{history, answers_after}
 use Rattle.world.specs.Nodes.{NodeState, Cluster, node, turned}
 use Rattle.world.specs.Worlds.{World, is_submitted, with_submission, opening}
 use Rattle.world.specs.Steps.{Receives, promises_ballot, accepts_pvalue, hears_promise, hears_vote, hears_proposal, learns, tells_decisions, said_again, Step, submit, deliver, wake, nudge, propose, perform, restart, performed}
-use Rattle.world.specs.Runs.{Leads, at_once, after, IsReachable}
+use Rattle.world.specs.Runs.{Leads, at_once, after, IsReachable, IsWorld}
 use Rattle.world.specs.Chosen.{IsChosen}
-use Rattle.world.specs.Kept.{IsWorld}
 use Rattle.world.specs.Legal.{IsGivenAt, replay_of}
 use Rattle.world.specs.Reached.{IsRun, IsReached}
 use Rattle.world.specs.Told.{IsTold, IsAnswered}

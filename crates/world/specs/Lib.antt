@@ -4,8 +4,9 @@ pub mod Histories
 pub mod Nodes
 pub mod Worlds
 pub mod Steps
-pub mod Runs
+pub mod Showing
 pub mod Refusals
+pub mod Runs
 pub mod Schedules
 pub mod Chosen
 pub mod Voters

@@ -14,10 +14,11 @@ ghost use Rattle.world.specs.Objects.{rules_of};
 ghost use Rattle.world.specs.Histories.{history, answers_after};
 ghost use Rattle.world.specs.Nodes.{new_cluster, node, turned, restarted};
 ghost use Rattle.world.specs.Steps.{leader_turn, replica_turn, said_again};
-ghost use Rattle.world.specs.Kept.{HasNode, IsFit, Delivered};
+ghost use Rattle.world.specs.Showing.{HasNode, IsFit};
+ghost use Rattle.world.specs.Kept.{Delivered};
 
-use crate::node::Node;
 use crate::receiving::Way;
+use crate::watched::Watched;
 use ballot::{Letter, Members, Slot};
 use object::{Answer, Command, Key, Object, Value};
 use std::alloc::{AllocError, Global};
@@ -27,7 +28,7 @@ use std::marker::Model;
 #[derive(Drop)]
 pub(crate) struct Cluster<O: Object> {
     pub(crate) members: Members,
-    pub(crate) nodes: Vec<Node<O>>,
+    pub(crate) nodes: Vec<Watched<O>>,
     letters: Vec<Letter<Command<O::Op>>>,
 }
 
@@ -156,7 +157,7 @@ impl<O: Object> Cluster<O> {
     {
         let mut nodes = Vec::new(alloc);
         for before in 0..members.count() {
-            nodes.push(Node::new(alloc, members, before + 1)?)?;
+            nodes.push(Watched::new(alloc, members, before + 1)?)?;
         }
         Ok(Cluster {
             members,

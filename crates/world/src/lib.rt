@@ -10,9 +10,13 @@ mod order;
 mod receiving;
 mod schedule;
 mod submissions;
+mod watched;
 mod world;
 
 pub use error::WorldError;
 pub use event::Event;
+pub use laws::every_world;
+pub use node::Node;
+pub use receiving::Way;
 pub use schedule::Schedule;
 pub use world::World;

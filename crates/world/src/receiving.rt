@@ -1,20 +1,18 @@
-ghost use Rattle.std.specs.Prelude.{◌≡◌, ◌<◌, ◌^◌, ◌++◌, ◌∷◌, [], map, take, vec_len, if◌then◌else◌, IfOk, OnOk, OnErr, Some};
+ghost use Rattle.std.specs.Prelude.{◌≡◌, ◌<◌, ◌^◌, ◌++◌, ◌∷◌, [], map, take, vec_len, IfOk, OnOk, OnErr, Some};
 ghost use Rattle.std.specs.FinMap as slots;
 ghost use Rattle.object.specs.declared.command.Command.{Command};
-ghost use Rattle.ballot.specs.Ballots.{Numbers, is_promise};
+ghost use Rattle.ballot.specs.Ballots.{Numbers};
 ghost use Rattle.ballot.specs.Letters.{letter};
 ghost use Rattle.ballot.specs.declared.letter.Body.TheVariants.{P1a, P1b, P2a, P2b, Propose, Decision, Ask};
-ghost use Rattle.acceptor.specs.Acceptors.{Keeps, after_p2a};
 ghost use Rattle.leader.specs.Leaders.{Sends};
 ghost use Rattle.leader.specs.Promises.{MayTake};
 ghost use Rattle.leader.specs.Promises as promises;
 ghost use Rattle.leader.specs.Votes as votes;
 ghost use Rattle.slot_log.specs.Decisions.{learnt};
-ghost use Rattle.world.specs.Kept.{IsSeated, IsFit, Received};
+ghost use Rattle.world.specs.Showing.{IsSeated, IsFit, ShowsReceived};
 
 use crate::laws::ballot_laws;
 use crate::node::Node;
-use acceptor::Acceptor;
 use ballot::{Ballot, Body, Letter, Members, Pvalue, Pvalues, Slot};
 use leader::{Leader, LeaderError};
 use object::{Command, Object, Value};
@@ -22,20 +20,20 @@ use replica::Replica;
 use slot_log::LearnError;
 use std::alloc::AllocError;
 
-/// The letters of a world.
+/// Letters between nodes.
 type Letters<O> = Vec<Letter<Command<<O as Object>::Op>>>;
 
 /// Who sent a letter, and which of the members receives it.
 #[derive(Clone, Copy)]
-pub(crate) struct Way {
-    pub(crate) members: Members,
-    pub(crate) from: u8,
-    pub(crate) to: u8,
+pub struct Way {
+    pub members: Members,
+    pub from: u8,
+    pub to: u8,
 }
 
 impl<O: Object> Node<O> {
     /// Receives a letter, and appends what it sends. For want of memory it changes nothing.
-    pub(crate) fn receive(
+    pub fn receive(
         &mut self,
         way: Way,
         body: Body<Command<O::Op>>,
@@ -43,7 +41,7 @@ impl<O: Object> Node<O> {
     ) -> Result<(), AllocError>
         requires seated { IsSeated way.members way.to self.old }
         requires fit { IsFit self.old body }
-        ensures ok { OnOk result (Received way.members way.«from» way.to self.old body self.new out.old.items out.new.items) }
+        ensures ok { OnOk result (ShowsReceived way.members way.«from» way.to self.old body self.new out.old.items out.new.items) }
         ensures err { OnErr result ((self.new ≡ self.old) × (out.new.items ≡ out.old.items)) }
     {
         match body {
@@ -63,7 +61,7 @@ impl<O: Object> Node<O> {
 
     // A leader asks for a promise.
     fn on_p1a(&mut self, way: Way, ballot: Ballot, out: &mut Letters<O>) -> Result<(), AllocError>
-        ensures ok { OnOk result (Received way.members way.«from» way.to self.old (P1a ballot) self.new out.old.items out.new.items) }
+        ensures ok { OnOk result (ShowsReceived way.members way.«from» way.to self.old (P1a ballot) self.new out.old.items out.new.items) }
         ensures err { OnErr result ((self.new ≡ self.old) × (out.new.items ≡ out.old.items)) }
     {
         ballot_laws();
@@ -84,14 +82,14 @@ impl<O: Object> Node<O> {
         pvalue: Pvalue<Command<O::Op>>,
         out: &mut Letters<O>,
     ) -> Result<(), AllocError>
-        ensures ok { OnOk result (Received way.members way.«from» way.to self.old (P2a pvalue) self.new out.old.items out.new.items) }
+        ensures ok { OnOk result (ShowsReceived way.members way.«from» way.to self.old (P2a pvalue) self.new out.old.items out.new.items) }
         ensures err { OnErr result ((self.new ≡ self.old) × (out.new.items ≡ out.old.items)) }
     {
         ballot_laws();
         out.reserve(1)?;
         let slot = pvalue.slot;
         let asked = pvalue.ballot;
-        let promised = accept(&mut self.acceptor, &mut self.accepted, pvalue)?;
+        let promised = self.acceptor.on_p2a(pvalue)?;
         out.push(Letter {
             from: way.to,
             to: way.from,
@@ -114,7 +112,7 @@ impl<O: Object> Node<O> {
     ) -> Result<(), AllocError>
         requires seated { IsSeated way.members way.to self.old }
         requires not_last { ballot.round < 2 ^ 62 }
-        ensures ok { OnOk result (Received way.members way.«from» way.to self.old (P1b ballot report) self.new out.old.items out.new.items) }
+        ensures ok { OnOk result (ShowsReceived way.members way.«from» way.to self.old (P1b ballot report) self.new out.old.items out.new.items) }
         ensures err { OnErr result ((self.new ≡ self.old) × (out.new.items ≡ out.old.items)) }
     {
         let report = report.into_vec();
@@ -133,7 +131,7 @@ impl<O: Object> Node<O> {
     ) -> Result<(), AllocError>
         requires seated { IsSeated way.members way.to self.old }
         requires not_last { (b : Numbers) → ballot ≡ Some b → b.round < 2 ^ 62 }
-        ensures ok { OnOk result (Received way.members way.«from» way.to self.old (P2b ballot slot asked) self.new out.old.items out.new.items) }
+        ensures ok { OnOk result (ShowsReceived way.members way.«from» way.to self.old (P2b ballot slot asked) self.new out.old.items out.new.items) }
         ensures err { OnErr result ((self.new ≡ self.old) × (out.new.items ≡ out.old.items)) }
     {
         hear_vote(&mut self.leader, way.from, ballot, slot, asked, out)?;
@@ -149,7 +147,7 @@ impl<O: Object> Node<O> {
         out: &mut Letters<O>,
     ) -> Result<(), AllocError>
         requires seated { IsSeated way.members way.to self.old }
-        ensures ok { OnOk result (Received way.members way.«from» way.to self.old (Propose slot command) self.new out.old.items out.new.items) }
+        ensures ok { OnOk result (ShowsReceived way.members way.«from» way.to self.old (Propose slot command) self.new out.old.items out.new.items) }
         ensures err { OnErr result ((self.new ≡ self.old) × (out.new.items ≡ out.old.items)) }
     {
         self.leader.propose(slot, command, out)?;
@@ -165,7 +163,7 @@ impl<O: Object> Node<O> {
         out: &mut Letters<O>,
     ) -> Result<(), AllocError>
         requires agrees { (d : Command O.Op) → slots.get self.old.replica.decisions slot ≡ Some d → d ≡ command }
-        ensures ok { OnOk result (Received way.members way.«from» way.to self.old (Decision slot command) self.new out.old.items out.new.items) }
+        ensures ok { OnOk result (ShowsReceived way.members way.«from» way.to self.old (Decision slot command) self.new out.old.items out.new.items) }
         ensures err { OnErr result ((self.new ≡ self.old) × (out.new.items ≡ out.old.items)) }
     {
         learn(&mut self.replica, slot, command)?;
@@ -174,7 +172,7 @@ impl<O: Object> Node<O> {
 
     // A replica asks what is decided from a slot on.
     fn on_ask(&mut self, way: Way, slot: Slot, out: &mut Letters<O>) -> Result<(), AllocError>
-        ensures ok { OnOk result (Received way.members way.«from» way.to self.old (Ask slot) self.new out.old.items out.new.items) }
+        ensures ok { OnOk result (ShowsReceived way.members way.«from» way.to self.old (Ask slot) self.new out.old.items out.new.items) }
         ensures same { self.new ≡ self.old }
         ensures err { OnErr result (out.new.items ≡ out.old.items) }
     {
@@ -218,27 +216,6 @@ fn append_each<C: Value>(
         })?;
     }
     Ok(())
-}
-
-// An acceptor hears a P2a; what it accepts is put to all that it accepted.
-fn accept<C: Value>(
-    acceptor: &mut Acceptor<C>,
-    accepted: &mut Vec<Pvalue<C>>,
-    pvalue: Pvalue<C>,
-) -> Result<Option<Ballot>, AllocError>
-    ensures state { OnOk result (Keeps (after_p2a acceptor.old pvalue) acceptor.new) }
-    ensures accepted { OnOk result (accepted.new.items ≡ (if is_promise acceptor.old.promised pvalue.ballot then accepted.old.items ++ (pvalue ∷ []) else accepted.old.items)) }
-    ensures promised { IfOk result (λ promised. promised ≡ acceptor.old.promised) }
-    ensures err { OnErr result ((acceptor.new ≡ acceptor.old) × (accepted.new.items ≡ accepted.old.items)) }
-{
-    accepted.reserve(1)?;
-    let whole = pvalue.copy()?;
-    let asked = pvalue.ballot;
-    let promised = acceptor.on_p2a(pvalue)?;
-    if promised == Some(asked) {
-        accepted.push(whole)?;
-    }
-    Ok(promised)
 }
 
 // A leader hears a P1b of no last round.

@@ -4,7 +4,7 @@ use Rattle.world.proofs.Keeping.{kept_perform, answers_performed}
 use Rattle.world.proofs.node.Node.perform.Goals as goal
 
 pub invariant_of-self-2 : goal.invariant_of-self-2
-invariant_of-self-2 g c = kept_perform (rules_of g.O.Object.fresh g.O.Object.after g.O.Object.answers g.O.Op.PartialEq.eq) _ c.self.inside.acceptor c.self.inside.replica _ _ refl c.in_ok-done.ensures.state c.self.invariant
+invariant_of-self-2 g c = kept_perform (rules_of g.O.Object.fresh g.O.Object.after g.O.Object.answers g.O.Op.PartialEq.eq) _ c.self.inside.replica _ c.in_ok-done.ensures.state c.self.invariant
 
 pub returns-clause-out : goal.returns-clause-out
 returns-clause-out g c = λ d e.
