@@ -102,15 +102,6 @@ insert_again m k v there =
     (λ (h : eq_by_cmp nat_cmp q k ≡ true). ap (λ b. cond b (Some v) (get m q)) h ∙ sym (ap (λ n. get m n) (same_key k q h) ∙ there))
     (λ (h : eq_by_cmp nat_cmp q k ≡ false). ap (λ b. cond b (Some v) (get m q)) h) (key_cases k q))
 
--- what was put at a key is taken out with what was there
-pub remove_put : {X : Type 0} (m : Slots X) (k : ℕ) (v : X) → remove (insert m k v) k ≡ remove m k
-remove_put m k v =
-    same_map nat_cmp_total nat_cmp-IsAntisymmetric (remove (insert m k v) k) (remove m k)
-    (λ q. get-remove nat_cmp_total (insert m k v) k q ∙ ap (λ o. cond (eq_by_cmp nat_cmp q k) None o) (get-insert nat_cmp_total m k v q) ∙
-    ⊎_elim
-    (λ (h : eq_by_cmp nat_cmp q k ≡ true). ap (λ b. cond b None (cond b (Some v) (get m q))) h ∙ sym (get-remove nat_cmp_total m k q ∙ ap (λ b. cond b None (get m q)) h))
-    (λ (h : eq_by_cmp nat_cmp q k ≡ false). ap (λ b. cond b None (cond b (Some v) (get m q))) h ∙ sym (get-remove nat_cmp_total m k q ∙ ap (λ b. cond b None (get m q)) h)) (key_cases k q))
-
 pub some_there : {X : Type 0} (o : Option X) → is_some o ≡ true → (x : X) × (o ≡ Some x)
 some_there None h = cc
 some_there (Some x) h = (x, refl)

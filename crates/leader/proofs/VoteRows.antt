@@ -1,10 +1,10 @@
 -- What comes of a vote.
-use Rattle.std.proofs.Common.{◌≡◌, ℕ, Bool, true, false, not, cond, ◌&&◌, Option, None, Some, refl, sym, ap, ◌∙◌}
-use Rattle.std.specs.Option.{option_eq}
+use Rattle.std.proofs.Common.{◌≡◌, ℕ, Bool, true, false, not, cond, ◌&&◌, Option, None, Some, refl, sym, ap, ◌∙◌, arith}
+use Rattle.std.proofs.lemmas.Bool.Decides.{nat_tests}
 use Rattle.std.specs.FinMap.{empty, get, insert, remove}
 use Rattle.ballot.specs.Ballots.{Numbers, is_same, is_below, next_after}
-use Rattle.ballot.specs.Members.{is_member}
-use Rattle.scout_commander.specs.Commanders.{Commanding, Voting, on_p2b, counts, unmoved}
+use Rattle.ballot.specs.Members.{is_member, add, is_majority}
+use Rattle.scout_commander.specs.Commanders.{Commanding, Voting, IsDeciding, on_p2b, counts, unmoved}
 use Rattle.scout_commander.specs.Commanders as commanders
 use Rattle.scout_commander.specs.declared.commander.Voted.{Voted}
 use Rattle.scout_commander.specs.declared.commander.Voted.TheVariants.{Wait, Decided, Preempted}
@@ -40,10 +40,33 @@ counted : {C : Type 0} (l : Leading C) (m s : ℕ) (c : Commanding C) → get l.
 counted {C = C} l m s c there =
     ap (λ b. cond b (silently l) (votes.at_commander l m (Some l.ballot) s (get l.commanders s))) (unlike (is_same l.ballot l.ballot)) ∙ ap (λ (o : Option (Commanding C)). votes.at_commander l m (Some l.ballot) s o) there
 
--- and decides
-pub decides : {C : Type 0} (l : Leading C) (m s : ℕ) (c : Commanding C) → get l.commanders s ≡ Some c → (on_p2b c m (Some l.ballot)).says ≡ Decided → (votes.on_p2b l m (Some l.ballot) s l.ballot).state ≡ record l { commanders = remove l.commanders s }
-decides {C} l m s c there says =
+-- and waits for more
+pub waits : {C : Type 0} (l : Leading C) (m s : ℕ) (c : Commanding C) → get l.commanders s ≡ Some c → (on_p2b c m (Some l.ballot)).says ≡ Wait → (votes.on_p2b l m (Some l.ballot) s l.ballot).state ≡ record l { commanders = insert l.commanders s (on_p2b c m (Some l.ballot)).commander }
+waits {C} l m s c there says =
     ap (λ (d : Done (Leading C) C). d.state) (counted l m s c there) ∙ ap (λ v. (votes.at_voted l s (on_p2b c m (Some l.ballot)).commander v).state) says
+
+same_as_itself : (b : Numbers) → is_same b b ≡ true
+same_as_itself b = grind (arith, nat_tests)
+
+counts_waits : {C : Type 0} (c : Commanding C) (m : ℕ) (test : Bool) → is_majority c.members (add c.heard m) ≡ test → (test ≡ true → ⊥) → cond test Decided Wait ≡ Wait
+counts_waits c m true e not_yet = absurd (not_yet refl)
+counts_waits c m false e not_yet = refl
+
+-- a vote of its own ballot that decides nothing
+pub says_wait : {C : Type 0} (c : Commanding C) (m : ℕ) (b : Numbers) → c.pvalue.ballot ≡ b → (IsDeciding c m (Some b) → ⊥) → (on_p2b c m (Some b)).says ≡ Wait
+says_wait {C} c m b same not_yet = go (is_member c.members m) refl
+  where
+    own : is_same b c.pvalue.ballot ≡ true
+    own = ap (λ x. is_same b x) same ∙ same_as_itself b
+
+    other : Voting C
+    other = cond (is_below c.pvalue.ballot b) (unmoved c (Preempted b)) (unmoved c Wait)
+
+    go : (test : Bool) → is_member c.members m ≡ test → (cond test (cond (is_same b c.pvalue.ballot) (counts c m) other) (unmoved c Wait)).says ≡ Wait
+    go true member =
+        ap (λ t. (cond t (counts c m) other).says) own ∙
+        counts_waits c m (is_majority c.members (add c.heard m)) refl (λ majority. not_yet (record { member = member; same = ap (λ x. Some x) (sym same); majority = majority }))
+    go false member = refl
 
 -- a commander that is put again as it was
 as_it_was : {C : Type 0} (l : Leading C) (s : ℕ) (c : Commanding C) → get l.commanders s ≡ Some c → silently {C = C} (record l { commanders = insert l.commanders s c }) ≡ silently l
@@ -93,15 +116,6 @@ of_another {C} l m s b asked c leads member other there =
     go : (t : Bool) → is_below l.ballot b ≡ t → votes.at_voted l s (cond t (unmoved c (Preempted b)) (unmoved c Wait)).commander (cond t (unmoved c (Preempted b)) (unmoved c Wait)).says ≡ silently (preempted l b)
     go true e = refl
     go false e = as_it_was l s c there ∙ ap (λ t. silently (cond t (record l { ballot = next_after b l.ballot.node l.ballot.boot; active = false; scout = None; commanders = empty }) l)) (sym e)
-
--- where a test says that the vote decided, under a comparison that tells it from the others
-pub decided_from : (E : Voted → Voted → Bool) → E Wait Decided ≡ false → ((b : Numbers) → E (Preempted b) Decided ≡ false) → (o : Option Voted) (v : Voted) → o ≡ Some v → false ≡ not (option_eq E o (Some Decided)) → v ≡ Decided
-decided_from E w p o v is h = told v (h ∙ ap (λ q. not (option_eq E q (Some Decided))) is)
-  where
-    told : (v : Voted) → false ≡ not (E v Decided) → v ≡ Decided
-    told Wait k = let no : false ≡ true = k ∙ ap not w in absurd (cc)
-    told Decided k = refl
-    told (Preempted b) k = let no : false ≡ true = k ∙ ap not (p b) in absurd (cc)
 
 pub untrue : (b : Bool) → true ≡ not b → b ≡ false
 untrue true h = cc

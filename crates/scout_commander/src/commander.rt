@@ -1,4 +1,4 @@
-ghost use Rattle.std.specs.Prelude.{◌≡◌, ◌↔◌, ℕ, Some, IfOk};
+ghost use Rattle.std.specs.Prelude.{◌≡◌, ◌↔◌, ℕ, true, Some, IfOk};
 ghost use Rattle.ballot.specs.Ballots.{Numbers};
 ghost use Rattle.scout_commander.specs.Scouts.{IsPreempting};
 ghost use Rattle.scout_commander.specs.Commanders.{new_commander, on_p2b as voting, IsDeciding};
@@ -50,6 +50,18 @@ impl<C> Commander<C> {
         ensures { result.now ≡ self.now.pvalue }
     {
         &self.pvalue
+    }
+
+    /// Whether such a P2b would decide, as `on_p2b` says then. It is not heard.
+    pub fn would_decide(&self, from: u8, ballot: Option<Ballot>) -> bool
+        ensures { (result ≡ true) ↔ IsDeciding self.now from ballot }
+    {
+        if ballot != Some(self.pvalue.ballot) || !self.members.has(from) {
+            return false;
+        }
+        let mut heard = self.heard;
+        heard.add(from);
+        self.members.is_majority(&heard)
     }
 
     /// Hears a P2b that answers this commander's P2a: who sent it, and the ballot that it promised. It takes

@@ -9,7 +9,6 @@ use crate::commanding::send_decision;
 use crate::error::LeaderError;
 use ballot::{Ballot, Letter, Slot};
 use object::Value;
-use scout_commander::Voted;
 use std::alloc::AllocError;
 
 impl<C: Value> Leader<C> {
@@ -45,8 +44,7 @@ impl<C: Value> Leader<C> {
         Ok(())
     }
 
-    // A member accepted the slot's pvalue. The letters are written before it is known whether they are sent, since
-    // a commander cannot forget whom it heard.
+    // A member accepted the slot's pvalue.
     fn count_vote(
         &mut self,
         from: u8,
@@ -60,13 +58,12 @@ impl<C: Value> Leader<C> {
         let Some(commander) = self.commanders.get(slot) else {
             return Ok(());
         };
-        let len = out.len();
-        let command = &commander.pvalue().value;
-        send_decision(self.members, self.node, slot, command, out)?;
-        if self.commanders.on_p2b(slot, from, Some(self.ballot)) != Some(Voted::Decided) {
-            out.truncate(len);
+        if !commander.would_decide(from, Some(self.ballot)) {
+            self.commanders.on_p2b(slot, from, Some(self.ballot));
             return Ok(());
         }
+        let command = &commander.pvalue().value;
+        send_decision(self.members, self.node, slot, command, out)?;
         self.commanders.remove(slot);
         Ok(())
     }
