@@ -21,7 +21,7 @@ const MOST_EVENTS: u32 = 100_000;
 
 /// A world, and the driver that carries commands through it.
 #[derive(Drop)]
-pub struct Carrier<O: Object> {
+pub(crate) struct Carrier<O: Object> {
     world: World<O>,
     driver: Driver,
     /// How many events passed since the last request began.

@@ -9,7 +9,7 @@ use std::alloc::{AllocError, Global};
 use world::{Event, Schedule};
 
 /// The node at which the client submits its commands.
-pub const HOME: u8 = 1;
+pub(crate) const HOME: u8 = 1;
 
 /// After so many events for one command the driver goes its plain rounds.
 const DRAWN_EVENTS: u32 = 2_000;
@@ -33,7 +33,7 @@ enum Round {
 /// Chooses the events of simulated nodes, as a seed draws them: letters are lost, repeated and reordered, nodes restart,
 /// and then again all goes well for a while.
 #[derive(Drop)]
-pub struct Driver {
+pub(crate) struct Driver {
     schedule: Schedule,
     members: Members,
     mail: Mail,

@@ -9,6 +9,5 @@ mod mail;
 mod nodes;
 mod stopped;
 
-pub use driver::{Driver, HOME};
 pub use nodes::Nodes;
 pub use stopped::Stopped;

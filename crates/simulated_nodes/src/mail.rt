@@ -3,7 +3,7 @@ use std::collections::BTreeSet;
 
 /// Which letters of a world were not delivered yet. Letters are numbered from 0.
 #[derive(Drop)]
-pub struct Mail {
+pub(crate) struct Mail {
     waiting: BTreeSet<usize>,
     /// Letters below this number were noted here.
     noted: usize,
