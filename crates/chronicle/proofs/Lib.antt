@@ -1,0 +1,3 @@
+pub mod Between
+pub mod InTime
+pub mod Texts

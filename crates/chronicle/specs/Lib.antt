@@ -1,0 +1,7 @@
+pub mod Timelines
+pub mod Chronicles
+pub mod Happenings
+pub mod Lines
+pub mod Acts
+pub mod Replies
+pub mod Dump
