@@ -13,3 +13,6 @@ mod timeline;
 mod writer;
 
 pub use chronicle::Chronicle;
+
+#[cfg(test)]
+mod tests;
