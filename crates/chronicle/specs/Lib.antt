@@ -5,3 +5,4 @@ pub mod Lines
 pub mod Acts
 pub mod Replies
 pub mod Dump
+pub mod Fits

@@ -7,12 +7,14 @@
 mod acts;
 mod append;
 mod chronicle;
+mod laws;
 mod lines;
 mod replies;
 mod timeline;
 mod writer;
 
 pub use chronicle::Chronicle;
+pub use laws::one_chronicle;
 
 #[cfg(test)]
 mod tests;
