@@ -15,7 +15,7 @@ spaced words = flat_map after_space words
 unfoldable pub line : List ℕ → List (List ℕ) → List ℕ
 line first words = first ++ spaced words ++ codes "\n"
 
--- the word for a body: two digits a byte, or a hyphen where it is empty
+-- the word for a body: two digits a byte, in lower case, or a hyphen where it is empty
 unfoldable pub body_word : List ℕ → List ℕ
 body_word [] = codes "-"
 body_word (b ∷ more) = encode_lower (b ∷ more)
