@@ -1,0 +1,186 @@
+-- A dump as lines of words, and back.
+use Rattle.std.proofs.Common.{◌≡◌, ℕ, List, [], ◌∷◌, ◌++◌, map, length, bytes_eq, refl, sym, ap, ap₂, ◌∙◌, arith, append_assoc, append-nil, length-append, codes, decimal}
+use Rattle.std.specs.Prelude.{if◌then◌else◌}
+use Rattle.std.specs.List.{flat_map, AllByRecursion}
+use Rattle.std.proofs.lemmas.Grind.{flat_map-append}
+use Rattle.object.specs.declared.command.Answer.{Answer}
+use Rattle.object.specs.declared.command.Command.{Command}
+use Rattle.object.specs.declared.command.Key.{Key}
+use Rattle.bean_queue.specs.declared.op.Op.{Op}
+use Rattle.bean_queue.specs.declared.reply.Reply.{Reply}
+use Rattle.chronicle.specs.Acts.{act_words}
+use Rattle.chronicle.specs.Chronicles.{Chronicle}
+use Rattle.chronicle.specs.Dump.{submission_line, answer_line, order_line, happening_line, version_line, members_line, end_line, dump_text}
+use Rattle.chronicle.specs.Fits.{IsNumber, FitsKey, FitsCommand, FitsAnswer}
+use Rattle.chronicle.specs.Happenings.{Happening, happenings}
+use Rattle.chronicle.specs.Happenings.Happening.{Submitted, Answered}
+use Rattle.chronicle.specs.Lines.{line, spaced}
+use Rattle.chronicle.specs.Replies.{reply_words}
+use Rattle.chronicle.proofs.Back.{number, number_back, number_plain, act, act_back, act_plain, reply, reply_back, reply_plain}
+use Rattle.chronicle.proofs.Words.{Plain, AllPlain, by_test, line_is, one_line}
+
+-- a first word, and the words after it
+abbrev pub Line : Type 0
+Line = List ℕ × List (List ℕ)
+
+abbrev pub text : Line → List ℕ
+text l = line l.0 l.1
+
+abbrev pub PlainLine : Line → Type 0
+PlainLine l = Plain l.0 × AllPlain l.1
+
+no_line : (l : Line) (x : List ℕ) → [] ≡ text l ++ x → ⊥
+no_line l x same =
+    let e = ap length (same ∙ line_is l.0 l.1 x) in
+    omega (arith, e, length-append l.0 (spaced l.1 ++ (10 ∷ x)), length-append (spaced l.1) (10 ∷ x))
+
+-- a text is of one list of plain lines
+pub one_text : (ks ls : List Line) → AllByRecursion PlainLine ks → AllByRecursion PlainLine ls → flat_map text ks ≡ flat_map text ls → ks ≡ ls
+one_text [] [] p q same = refl
+one_text [] (l ∷ ls) p q same = absurd (no_line l (flat_map text ls) same)
+one_text (k ∷ ks) [] p q same = absurd (no_line k (flat_map text ks) (sym same))
+one_text (k ∷ ks) (l ∷ ls) p q same =
+    let t = one_line k.0 l.0 k.1 l.1 (flat_map text ks) (flat_map text ls) p.0.0 q.0.0 p.0.1 q.0.1 same in
+    let line : k ≡ l = ap₂ (λ (w : List ℕ) (ws : List (List ℕ)). let pair : Line = (w, ws) in pair) t.0 t.1 in
+    ap₂ (λ (m : Line) ms. m ∷ ms) line (one_text ks ls p.1 q.1 t.2)
+
+-- ---- the lines of a chronicle
+
+abbrev pub happening_words : Happening Op Reply → Line
+happening_words (Submitted c) = (codes "S", decimal c.key.session ∷ decimal c.key.number ∷ act_words c.act)
+happening_words (Answered a) = (codes "A", decimal a.to.session ∷ decimal a.to.number ∷ reply_words a.reply)
+
+abbrev pub order_words : Key → Line
+order_words key = (codes "O", decimal key.session ∷ decimal key.number ∷ [])
+
+abbrev pub end_words : Line
+end_words = (codes "end", [])
+
+abbrev pub tail_lines : List (Happening Op Reply) → List Key → List Line
+tail_lines hs order = map happening_words hs ++ (map order_words order ++ (end_words ∷ []))
+
+abbrev pub lines : Chronicle Op Reply → List Line
+lines c = (codes "beanpax-dump", codes "1" ∷ []) ∷ (codes "members", decimal c.members ∷ []) ∷ tail_lines (happenings c.submitted c.answers) c.order
+
+happening_texts : (hs : List (Happening Op Reply)) → flat_map text (map happening_words hs) ≡ flat_map happening_line hs
+unfolding submission_line answer_line
+happening_texts [] = refl
+happening_texts (Submitted c ∷ hs) = ap (λ t. submission_line c ++ t) (happening_texts hs)
+happening_texts (Answered a ∷ hs) = ap (λ t. answer_line a ++ t) (happening_texts hs)
+
+order_texts : (order : List Key) → flat_map text (map order_words order) ≡ flat_map order_line order
+unfolding order_line
+order_texts [] = refl
+order_texts (key ∷ order) = ap (λ t. order_line key ++ t) (order_texts order)
+
+tail_texts : (hs : List (Happening Op Reply)) (order : List Key) → flat_map text (tail_lines hs order) ≡ flat_map happening_line hs ++ (flat_map order_line order ++ end_line)
+unfolding end_line
+tail_texts hs order =
+    flat_map-append text (map happening_words hs) (map order_words order ++ (end_words ∷ []))
+    ∙ ap₂ (λ a b. a ++ b) (happening_texts hs)
+    (flat_map-append text (map order_words order) (end_words ∷ [])
+    ∙ ap₂ (λ a b. a ++ b) (order_texts order) (append-nil (text end_words)))
+
+to_right : (a b c d e : List ℕ) → a ++ b ++ c ++ d ++ e ≡ a ++ (b ++ (c ++ (d ++ e)))
+to_right a b c d e = append_assoc (a ++ b ++ c) d e ∙ append_assoc (a ++ b) c (d ++ e) ∙ append_assoc a b (c ++ (d ++ e))
+
+-- the text of a chronicle is that of its lines
+pub dump_is : (c : Chronicle Op Reply) → dump_text c ≡ flat_map text (lines c)
+unfolding dump_text version_line members_line
+dump_is c =
+    to_right version_line (members_line c.members) (flat_map happening_line (happenings c.submitted c.answers)) (flat_map order_line c.order) end_line
+    ∙ sym (ap (λ t. version_line ++ (members_line c.members ++ t)) (tail_texts (happenings c.submitted c.answers) c.order))
+
+-- ---- and back
+
+abbrev first_word : List (List ℕ) → List ℕ
+first_word [] = []
+first_word (w ∷ words) = w
+
+abbrev key_of : List (List ℕ) → Key
+key_of [] = record { session = 0; number = 0 }
+key_of (s ∷ []) = record { session = 0; number = 0 }
+key_of (s ∷ n ∷ words) = record { session = number s; number = number n }
+
+abbrev after_key : List (List ℕ) → List (List ℕ)
+after_key [] = []
+after_key (s ∷ []) = []
+after_key (s ∷ n ∷ words) = words
+
+abbrev command : List (List ℕ) → Command Op
+command words = record { key = key_of words; act = act (after_key words) }
+
+abbrev answer : List (List ℕ) → Answer Reply
+answer words = record { to = key_of words; reply = reply (after_key words) }
+
+pub key_back : (key : Key) (words : List (List ℕ)) → FitsKey key → key_of (decimal key.session ∷ decimal key.number ∷ words) ≡ key
+key_back key words h = ap₂ (λ (s n : ℕ). let k : Key = record { session = s; number = n } in k) (number_back key.session h.0) (number_back key.number h.1)
+
+command_back : (c : Command Op) → FitsCommand c → command (decimal c.key.session ∷ decimal c.key.number ∷ act_words c.act) ≡ c
+command_back c h = ap₂ (λ k a. let d : Command Op = record { key = k; act = a } in d) (key_back c.key (act_words c.act) h.0) (act_back c.act h.1)
+
+answer_back : (a : Answer Reply) → FitsAnswer a → answer (decimal a.to.session ∷ decimal a.to.number ∷ reply_words a.reply) ≡ a
+answer_back a h = ap₂ (λ k r. let b : Answer Reply = record { to = k; reply = r } in b) (key_back a.to (reply_words a.reply) h.0) (reply_back a.reply h.1)
+
+-- what the lines say that happened
+abbrev pub happened : List Line → List (Happening Op Reply)
+happened [] = []
+happened (l ∷ ls) =
+    if bytes_eq l.0 (codes "S") then Submitted (command l.1) ∷ happened ls
+    else if bytes_eq l.0 (codes "A") then Answered (answer l.1) ∷ happened ls
+    else happened ls
+
+-- and which commands counted
+abbrev pub ordered : List Line → List Key
+ordered [] = []
+ordered (l ∷ ls) = if bytes_eq l.0 (codes "O") then key_of l.1 ∷ ordered ls else ordered ls
+
+abbrev pub FitsHappening : Happening Op Reply → Type 0
+FitsHappening (Submitted c) = FitsCommand c
+FitsHappening (Answered a) = FitsAnswer a
+
+happened_order : (order : List Key) → happened (map order_words order ++ (end_words ∷ [])) ≡ []
+happened_order [] = refl
+happened_order (key ∷ order) = happened_order order
+
+pub happened_back : (hs : List (Happening Op Reply)) (order : List Key) → AllByRecursion FitsHappening hs → happened (tail_lines hs order) ≡ hs
+happened_back [] order h = happened_order order
+happened_back (Submitted c ∷ hs) order h = ap₂ (λ (d : Command Op) t. Submitted d ∷ t) (command_back c h.0) (happened_back hs order h.1)
+happened_back (Answered a ∷ hs) order h = ap₂ (λ (b : Answer Reply) t. Answered b ∷ t) (answer_back a h.0) (happened_back hs order h.1)
+
+ordered_order : (order : List Key) → AllByRecursion FitsKey order → ordered (map order_words order ++ (end_words ∷ [])) ≡ order
+ordered_order [] h = refl
+ordered_order (key ∷ order) h = ap₂ (λ k t. k ∷ t) (key_back key [] h.0) (ordered_order order h.1)
+
+pub ordered_back : (hs : List (Happening Op Reply)) (order : List Key) → AllByRecursion FitsKey order → ordered (tail_lines hs order) ≡ order
+ordered_back [] order h = ordered_order order h
+ordered_back (Submitted c ∷ hs) order h = ordered_back hs order h
+ordered_back (Answered a ∷ hs) order h = ordered_back hs order h
+
+-- the count of members that the lines tell
+abbrev pub counted : List Line → ℕ
+counted [] = 0
+counted (v ∷ []) = 0
+counted (v ∷ m ∷ ls) = number (first_word m.1)
+
+abbrev pub after_head : List Line → List Line
+after_head [] = []
+after_head (v ∷ []) = []
+after_head (v ∷ m ∷ ls) = ls
+
+-- ---- its lines are plain
+
+happening_plain : (h : Happening Op Reply) → FitsHappening h → PlainLine (happening_words h)
+happening_plain (Submitted c) h = (by_test (codes "S") refl, (number_plain c.key.session h.0.0, (number_plain c.key.number h.0.1, act_plain c.act h.1)))
+happening_plain (Answered a) h = (by_test (codes "A") refl, (number_plain a.to.session h.0.0, (number_plain a.to.number h.0.1, reply_plain a.reply h.1)))
+
+tail_plain : (hs : List (Happening Op Reply)) (order : List Key) → AllByRecursion FitsHappening hs → AllByRecursion FitsKey order → AllByRecursion PlainLine (tail_lines hs order)
+tail_plain [] [] h k = ((by_test (codes "end") refl, tt), tt)
+tail_plain [] (key ∷ order) h k = ((by_test (codes "O") refl, (number_plain key.session k.0.0, (number_plain key.number k.0.1, tt))), tail_plain [] order h k.1)
+tail_plain (x ∷ hs) order h k = (happening_plain x h.0, tail_plain hs order h.1 k)
+
+pub lines_plain : (c : Chronicle Op Reply) → IsNumber c.members → AllByRecursion FitsHappening (happenings c.submitted c.answers) → AllByRecursion FitsKey c.order → AllByRecursion PlainLine (lines c)
+lines_plain c m h k = (
+  (by_test (codes "beanpax-dump") refl, (by_test (codes "1") refl, tt)),
+  ((by_test (codes "members") refl, (number_plain c.members m, tt)), tail_plain (happenings c.submitted c.answers) c.order h k),
+)

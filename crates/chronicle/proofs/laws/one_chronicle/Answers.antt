@@ -1,0 +1,5 @@
+use Rattle.chronicle.proofs.OneChronicle.{one_chronicle}
+use Rattle.chronicle.proofs.laws.one_chronicle.Goals as goal
+
+pub returns : goal.returns
+returns c = one_chronicle

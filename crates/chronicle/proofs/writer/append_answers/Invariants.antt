@@ -1,0 +1,7 @@
+use Rattle.std.proofs.Common.{◌≡◌, ◌++◌, take}
+use Rattle.std.specs.List.{flat_map}
+use Rattle.chronicle.specs.Dump.{answer_line}
+use Rattle.chronicle.proofs.writer.append_answers.Given as goal
+
+abbrev pub invariant-loop-answer : goal.invariant-loop-answer
+invariant-loop-answer l = l.out.items ≡ l.fn.out.items ++ flat_map answer_line (take l.answer-index l.answers)

@@ -1,0 +1,8 @@
+pub mod Timelines
+pub mod Chronicles
+pub mod Happenings
+pub mod Lines
+pub mod Acts
+pub mod Replies
+pub mod Dump
+pub mod Fits

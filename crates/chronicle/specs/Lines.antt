@@ -1,0 +1,21 @@
+-- The lines of a dump: words, parted by single spaces.
+use Rattle.std.specs.Prelude.{ℕ, List, [], ◌∷◌, ◌++◌, codes}
+use Rattle.std.specs.List.{flat_map}
+use Rattle.hex.specs.Hex.{encode_lower}
+
+-- a word, with the space in front
+abbrev pub after_space : List ℕ → List ℕ
+after_space word = codes " " ++ word
+
+-- words, each after a space
+abbrev pub spaced : List (List ℕ) → List ℕ
+spaced words = flat_map after_space words
+
+-- a line: its first word, the other words, and a line feed
+unfoldable pub line : List ℕ → List (List ℕ) → List ℕ
+line first words = first ++ spaced words ++ codes "\n"
+
+-- the word for a body: two digits a byte, in lower case, or a hyphen where it is empty
+unfoldable pub body_word : List ℕ → List ℕ
+body_word [] = codes "-"
+body_word (b ∷ more) = encode_lower (b ∷ more)

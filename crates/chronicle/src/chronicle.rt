@@ -1,0 +1,98 @@
+ghost use Rattle.std.specs.Prelude.{◌≡◌, SomeIff};
+ghost use Rattle.chronicle.specs.Chronicles.{IsChronicle};
+
+use crate::timeline::is_timeline;
+use object::{Answer, Key, Submission, Value};
+use std::marker::Model;
+
+/// What happened in a run of nodes.
+///
+/// A submission has the count of the answers that were given before it, so submissions and answers together are what
+/// happened, in its order.
+#[derive(Drop)]
+pub struct Chronicle<Op: Value, Reply: Value> {
+    members: u8,
+    submitted: Vec<Submission<Op>>,
+    answers: Vec<Answer<Reply>>,
+    order: Vec<Key>,
+}
+
+impl<Op: Value, Reply: Value> Model for Chronicle<Op, Reply> {
+    ghost use Rattle.std.specs.Coded.{codes};
+    ghost use Rattle.chronicle.specs.Chronicles.{Chronicle, IsChronicle};
+
+    ghost Value = { Chronicle Op Reply };
+
+    ghost coded = { Prim.hlevel (codes, Op.code, Reply.code) };
+
+    ghost view = { λ c. record {
+      members = c.members;
+      submitted = c.submitted.items;
+      answers = c.answers.items;
+      order = c.order.items;
+    } };
+
+    ghost invariant = { λ c. IsChronicle (record {
+      members = c.members;
+      submitted = c.submitted.items;
+      answers = c.answers.items;
+      order = c.order.items;
+    }) };
+}
+
+impl<Op: Value, Reply: Value> Chronicle<Op, Reply> {
+    /// The chronicle of these parts, where there are 1 to 7 members, no submission comes before an earlier one, and none
+    /// after more answers than were given.
+    pub fn new(
+        members: u8,
+        submitted: Vec<Submission<Op>>,
+        answers: Vec<Answer<Reply>>,
+        order: Vec<Key>,
+    ) -> Option<Chronicle<Op, Reply>>
+        ensures { SomeIff result
+            (IsChronicle (record { members = members; submitted = submitted.items; answers = answers.items; order = order.items }))
+            (record { members = members; submitted = submitted.items; answers = answers.items; order = order.items }) }
+    {
+        if members < 1 || members > 7 || !is_timeline(&submitted, answers.len()) {
+            return None;
+        }
+        Some(Chronicle {
+            members,
+            submitted,
+            answers,
+            order,
+        })
+    }
+
+    /// How many nodes there are.
+    pub fn members(&self) -> u8
+        ensures count { result ≡ self.now.members }
+        ensures kept { IsChronicle self.now }
+    {
+        self.members
+    }
+
+    /// The commands that were submitted, each with the count of the answers given before it.
+    pub fn submitted(&self) -> &[Submission<Op>]
+        ensures submitted { result.now ≡ self.now.submitted }
+        ensures kept { IsChronicle self.now }
+    {
+        self.submitted.as_slice()
+    }
+
+    /// The answers that were given, in their order.
+    pub fn answers(&self) -> &[Answer<Reply>]
+        ensures answers { result.now ≡ self.now.answers }
+        ensures kept { IsChronicle self.now }
+    {
+        self.answers.as_slice()
+    }
+
+    /// The keys of the commands that counted, in the order in which they took effect.
+    pub fn order(&self) -> &[Key]
+        ensures order { result.now ≡ self.now.order }
+        ensures kept { IsChronicle self.now }
+    {
+        self.order.as_slice()
+    }
+}

@@ -1,0 +1,84 @@
+ghost use Rattle.std.specs.Prelude.{◌≡◌, ◌++◌, take, vec_len, length, OnOk, OnErr};
+ghost use Rattle.std.specs.List.{flat_map};
+ghost use Rattle.chronicle.specs.Chronicles.{IsChronicle};
+ghost use Rattle.chronicle.specs.Dump.{answer_line, order_line, happening_line, dump_text};
+ghost use Rattle.chronicle.specs.Happenings.{happenings};
+ghost use Rattle.chronicle.specs.Timelines.{IsTimeline};
+
+use crate::chronicle::Chronicle;
+use crate::lines::{
+    append_answer, append_end, append_members, append_place, append_submission, append_version,
+};
+use bean_queue::{Op, Reply};
+use object::{Answer, Key, Submission};
+use std::alloc::AllocError;
+
+impl Chronicle<Op, Reply> {
+    /// Writes the text of the chronicle of a queue at the end. Where memory runs out, nothing is written.
+    pub fn write_text(&self, out: &mut Vec<u8>) -> Result<(), AllocError>
+        ensures ok { OnOk result (out.new.items ≡ out.old.items ++ dump_text self.now) }
+        ensures err { OnErr result (out.new.items ≡ out.old.items) }
+    {
+        let len = out.len();
+        let written = append_dump(self, out);
+        if written.is_err() {
+            out.truncate(len);
+        }
+        written
+    }
+}
+
+/// Writes the text of a chronicle at the end. Where memory runs out, a part of it may stand there.
+#[tactic(auto, unfolding(crate::specs::Dump::dump_text))]
+fn append_dump(chronicle: &Chronicle<Op, Reply>, out: &mut Vec<u8>) -> Result<(), AllocError>
+    ensures ok { OnOk result (out.new.items ≡ out.old.items ++ dump_text chronicle.now) }
+    ensures front { take (vec_len out.old) out.new.items ≡ out.old.items }
+{
+    append_version(out)?;
+    append_members(chronicle.members(), out)?;
+    append_happenings(chronicle.submitted(), chronicle.answers(), out)?;
+    append_order(chronicle.order(), out)?;
+    append_end(out)
+}
+
+/// Writes what happened at the end, a line each. Where memory runs out, a part of it may stand there.
+fn append_happenings(
+    submitted: &[Submission<Op>],
+    answers: &[Answer<Reply>],
+    out: &mut Vec<u8>,
+) -> Result<(), AllocError>
+    requires { IsTimeline submitted.now (length answers.now) }
+    ensures ok { OnOk result (out.new.items ≡ out.old.items ++
+        flat_map happening_line (happenings submitted.now answers.now)) }
+    ensures front { take (vec_len out.old) out.new.items ≡ out.old.items }
+{
+    let mut given = 0;
+    for submission in submitted {
+        append_answers(&answers[given..submission.after], out)?;
+        append_submission(&submission.command, out)?;
+        given = submission.after;
+    }
+    append_answers(&answers[given..], out)
+}
+
+/// Writes answers at the end, a line each. Where memory runs out, a part of them may stand there.
+fn append_answers(answers: &[Answer<Reply>], out: &mut Vec<u8>) -> Result<(), AllocError>
+    ensures ok { OnOk result (out.new.items ≡ out.old.items ++ flat_map answer_line answers.now) }
+    ensures front { take (vec_len out.old) out.new.items ≡ out.old.items }
+{
+    for answer in answers {
+        append_answer(answer, out)?;
+    }
+    Ok(())
+}
+
+/// Writes the commands that counted at the end, a line each. Where memory runs out, a part of them may stand there.
+fn append_order(order: &[Key], out: &mut Vec<u8>) -> Result<(), AllocError>
+    ensures ok { OnOk result (out.new.items ≡ out.old.items ++ flat_map order_line order.now) }
+    ensures front { take (vec_len out.old) out.new.items ≡ out.old.items }
+{
+    for key in order {
+        append_place(*key, out)?;
+    }
+    Ok(())
+}
