@@ -1,0 +1,4 @@
+pub mod Keys
+pub mod Firsts
+pub mod Records
+pub mod Kept
