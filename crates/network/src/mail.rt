@@ -1,0 +1,79 @@
+ghost use Rattle.std.specs.Prelude.{◌≡◌, ◌++◌, ◌∷◌, [], drop, is_some, true, slice_get, IfOk, OnOk, OnErr, List};
+ghost use Rattle.ballot.specs.declared.letter.Letter.{Letter};
+ghost use Rattle.network.specs.Networks.{front};
+
+use ballot::Letter;
+use object::Value;
+use std::alloc::{AllocError, Global};
+use std::collections::VecDeque;
+use std::marker::Model;
+
+/// The letters that are on their way to one node, in the order in which they were sent.
+#[derive(Drop)]
+pub(crate) struct Mail<C: Value> {
+    letters: VecDeque<Letter<C>>,
+}
+
+impl<C: Value> Model for Mail<C> {
+    ghost use Rattle.std.specs.Prelude.{List};
+    ghost use Rattle.std.specs.Coded.{codes};
+    ghost use Rattle.slot_log.specs.Books.{slots_code};
+    ghost use Rattle.ballot.specs.declared.letter.Letter.{Letter};
+
+    ghost Value = { List (Letter C) };
+
+    ghost coded = { Prim.hlevel (codes, C.code) };
+
+    ghost view = { λ m. m.letters.items };
+}
+
+impl<C: Value> Mail<C> {
+    /// No letters.
+    pub(crate) fn new(alloc: Global) -> Mail<C>
+        ensures { result ≡ [] }
+    {
+        Mail {
+            letters: VecDeque::new(alloc),
+        }
+    }
+
+    /// Takes the first of these letters to its back.
+    pub(crate) fn take_first(&mut self, letters: &mut VecDeque<Letter<C>>) -> Result<(), AllocError>
+        requires { is_some (front letters.old.items) ≡ true }
+        ensures ok { OnOk result ((l : Letter C) → (ls : List (Letter C)) → letters.old.items ≡ l ∷ ls → (self.new ≡ self.old ++ (l ∷ [])) × (letters.new.items ≡ ls)) }
+        ensures err { OnErr result ((self.new ≡ self.old) × (letters.new.items ≡ letters.old.items)) }
+    {
+        self.letters.reserve(1)?;
+        if let Some(letter) = letters.pop_front() {
+            self.letters.push_back(letter)?;
+        }
+        Ok(())
+    }
+
+    /// A copy of the letter in front.
+    pub(crate) fn copy_front(&self) -> Result<Option<Letter<C>>, AllocError>
+        ensures { IfOk result (λ letter. letter ≡ front self.now) }
+    {
+        match self.letters.front() {
+            None => Ok(None),
+            Some(letter) => Ok(Some(letter.copy()?)),
+        }
+    }
+
+    /// Drops the letter in front, where there is one; and tells whether there was.
+    pub(crate) fn drop_front(&mut self) -> bool
+        ensures does { result ≡ is_some (front self.old) }
+        ensures left { self.new ≡ drop 1 self.old }
+    {
+        self.letters.pop_front().is_some()
+    }
+
+    /// Takes this letter to its back.
+    pub(crate) fn push(&mut self, letter: Letter<C>) -> Result<(), AllocError>
+        ensures ok { OnOk result (self.new ≡ self.old ++ (letter ∷ [])) }
+        ensures err { OnErr result (self.new ≡ self.old) }
+    {
+        self.letters.push_back(letter)?;
+        Ok(())
+    }
+}
