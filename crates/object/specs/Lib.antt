@@ -1,6 +1,10 @@
 pub mod Lists
 pub mod Commands
+pub mod Keys
 pub mod Answers
 pub mod Replays
+pub mod Objects
 pub mod OnceOnly
+pub mod Happenings
+pub mod Legal
 pub mod Registers

@@ -124,3 +124,42 @@ impl<Op: Value> Value for Command<Op> {
         })
     }
 }
+
+impl Value for Key {
+    ghost use Rattle.std.proofs.Common.{rules};
+    ghost use Rattle.std.proofs.lemmas.Grind.{common_steps};
+
+    ghost exact = { Prim.grind (rules, common_steps) };
+
+    fn copy(&self) -> Result<Self, AllocError> {
+        Ok(*self)
+    }
+}
+
+impl<R: Value> Value for Answer<R> {
+    ghost use Rattle.std.proofs.Common.{rules};
+    ghost use Rattle.std.proofs.lemmas.Grind.{common_steps};
+
+    ghost exact = { Prim.grind (rules, common_steps, R.exact) };
+
+    fn copy(&self) -> Result<Self, AllocError> {
+        Ok(Answer {
+            to: self.to,
+            reply: self.reply.copy()?,
+        })
+    }
+}
+
+impl<Op: Value> Value for Submission<Op> {
+    ghost use Rattle.std.proofs.Common.{rules};
+    ghost use Rattle.std.proofs.lemmas.Grind.{common_steps};
+
+    ghost exact = { Prim.grind (rules, common_steps, Op.exact) };
+
+    fn copy(&self) -> Result<Self, AllocError> {
+        Ok(Submission {
+            command: self.command.copy()?,
+            after: self.after,
+        })
+    }
+}

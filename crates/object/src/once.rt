@@ -38,7 +38,7 @@ impl<O: Object> Model for Once<O> {
 impl<O: Object> Once<O> {
     /// A new object, whose filter has seen no command.
     pub fn new(alloc: Global) -> Result<Once<O>, AllocError>
-        ensures object { IfOk result (λ o. o.object ≡ O.fresh) }
+        ensures object { IfOk result (λ o. o.object ≡ O.rules.fresh) }
         ensures latest { IfOk result (λ o. o.latest ≡ empty) }
     {
         Ok(Once {
@@ -54,8 +54,8 @@ impl<O: Object> Once<O> {
         out: &mut Vec<Answer<O::Reply>>,
     ) -> Result<Effect, AllocError>
         ensures done { IfOk result (λ effect. (effect ≡ Effect.Done) ↔ (is_later cmd.now.key self.old.latest ≡ true)) }
-        ensures state { OnOk result (self.new ≡ filtered O.after self.old cmd.now) }
-        ensures out { OnOk result (out.new.items ≡ out.old.items ++ filtered_answers O.answers self.old cmd.now) }
+        ensures state { OnOk result (self.new ≡ filtered O.rules.after self.old cmd.now) }
+        ensures out { OnOk result (out.new.items ≡ out.old.items ++ filtered_answers O.rules.answers self.old cmd.now) }
         ensures stale { IfOk result (λ effect. effect ≡ Effect.Stale →
             (self.new ≡ self.old) × (out.new.items ≡ out.old.items)) }
         ensures err { OnErr result ((self.new ≡ self.old) × (out.new.items ≡ out.old.items)) }

@@ -58,11 +58,12 @@ impl Object for Register {
     ghost use Rattle.std.specs.Bool.{⊤};
     ghost use Rattle.object.specs.Registers.{written, told, told-once, told-to};
 
-    ghost fresh = { record { value = 0 } };
-
-    ghost after = { λ r c. written r c.act };
-
-    ghost answers = { λ r c. told r c.key c.act };
+    ghost rules = { record {
+      fresh = record { value = 0 };
+      after = λ r c. written r c.act;
+      answers = λ r c. told r c.key c.act;
+      same = ⟦<RegisterOp as PartialEq>⟧.eq;
+    } };
 
     ghost waits = { λ r k. ⊥ };
 
@@ -101,6 +102,9 @@ impl Object for Register {
     fn keeps_promise() {}
 
     ghost use Rattle.std.proofs.Common.{inl};
+    ghost use Rattle.std.specs.Prelude.{refl};
+
+    ghost same = { refl };
 
     ghost idle = { λ k h. h };
 
