@@ -4,3 +4,5 @@ pub mod Letters
 pub mod Ones
 pub mod Exact
 pub mod PvalueLaws
+pub mod BallotLaws
+pub mod OrderLaws

@@ -1,5 +1,6 @@
 ghost use Rattle.std.specs.Prelude.{◌≡◌, ℕ, List, Bool, true, false, ◌⊎◌};
 ghost use Rattle.ballot.specs.Ballots.{Numbers, is_below, is_same};
+ghost use Rattle.ballot.specs.BallotLaws.{BallotLaws};
 ghost use Rattle.ballot.specs.Members.{has, is_majority};
 
 /// The order of ballots is a total order, and a ballot is determined by its three numbers.
@@ -14,3 +15,11 @@ pub fn ballot_order()
 pub fn majorities_share_a_member()
     ensures { (weights : List ℕ) (a b : List Bool) → is_majority weights a ≡ true → is_majority weights b ≡ true → (m : ℕ) × (has a m ≡ true) × (has b m ≡ true) }
 {}
+
+/// What is promised of the order of ballots and of majorities, in one place.
+pub fn ballot_laws()
+    ensures { BallotLaws }
+{
+    ballot_order();
+    majorities_share_a_member();
+}

@@ -10,7 +10,7 @@ mod pvalue;
 mod slot;
 
 pub use ballot::Ballot;
-pub use laws::{ballot_order, majorities_share_a_member};
+pub use laws::{ballot_laws, ballot_order, majorities_share_a_member};
 pub use letter::{Body, Letter, send_to_all};
 pub use member_set::MemberSet;
 pub use members::Members;

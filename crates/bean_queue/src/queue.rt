@@ -130,11 +130,14 @@ impl<M: JobMap> Object for QueueOver<M> {
     ghost use Rattle.bean_queue.specs.Holds.{HasOneHolder};
     ghost use Rattle.bean_queue.specs.WaitLaws.{fresh-idle, effect-lawful, effect-once};
 
-    ghost fresh = { new_queue };
+    ghost use Rattle.std.specs.Prelude.{refl};
 
-    ghost after = { λ s c. (effect c s).state };
-
-    ghost answers = { λ s c. (effect c s).answers };
+    ghost rules = { record {
+      fresh = new_queue;
+      after = λ s c. (effect c s).state;
+      answers = λ s c. (effect c s).answers;
+      same = ⟦<Op as PartialEq>⟧.eq;
+    } };
 
     ghost waits = { Waits };
 
@@ -166,6 +169,8 @@ impl<M: JobMap> Object for QueueOver<M> {
     fn keeps_promise() {
         one_holder();
     }
+
+    ghost same = { refl };
 
     ghost idle = { fresh-idle };
 

@@ -4,12 +4,12 @@ use Rattle.bean_queue.specs.declared.op.Op.{Op}
 use Rattle.bean_queue.specs.declared.reply.Reply.{Reply}
 use Rattle.bean_queue.specs.Queue.{QueueState, fresh}
 use Rattle.bean_queue.specs.Effects.{effect}
-use Rattle.world.specs.Objects.{Rules, rules_of}
+use Rattle.object.specs.Objects.{Rules}
 use Rattle.simulated_nodes.specs.OneClient.{Talk, opened, answered}
 
 -- the queue, where this says which operations are one
 abbrev pub queue_with : (Op → Op → Bool) → Rules QueueState Op Reply
-queue_with same = rules_of fresh (λ s c. (effect c s).state) (λ s c. (effect c s).answers) same
+queue_with same = record { fresh = fresh; after = λ s c. (effect c s).state; answers = λ s c. (effect c s).answers; same = same }
 
 -- a single queue compares no operations
 abbrev pub queue : Rules QueueState Op Reply

@@ -1,4 +1,5 @@
 ghost use Rattle.std.specs.Prelude.{◌≡◌, ◌≤◌, ◌^◌, ◌↔◌, true, OnOk, OnErr, IfErr, take, vec_len};
+ghost use Rattle.std.specs.FinMap.{contains_key};
 ghost use Rattle.ballot.specs.Members.{is_member};
 ghost use Rattle.ballot.specs.Ballots.{is_below};
 ghost use Rattle.leader.specs.Leaders.{new_leader, preempted, woken, scout_says, says_again, IsLeader, Sends};
@@ -11,7 +12,7 @@ mod votes;
 use crate::commanding::send_p2a;
 use crate::error::LeaderError;
 use crate::slot_map::SlotMap;
-use ballot::{Ballot, Body, Letter, Members, send_to_all};
+use ballot::{Ballot, Body, Letter, Members, Slot, send_to_all};
 use object::Value;
 use scout_commander::{Commander, Scout};
 use std::alloc::{AllocError, Global};
@@ -64,6 +65,29 @@ impl<C: Value> Leader<C> {
             commanders: SlotMap::new(alloc),
             alloc,
         }
+    }
+
+    /// The members that it leads.
+    pub fn members(&self) -> Members
+        ensures members { result ≡ self.now.members }
+        ensures leader { IsLeader self.now }
+    {
+        self.members
+    }
+
+    /// The node that it is at.
+    pub fn node(&self) -> u8
+        ensures node { result ≡ self.now.ballot.node }
+        ensures leader { IsLeader self.now }
+    {
+        self.node
+    }
+
+    /// Whether a command is proposed for the slot.
+    pub fn has_proposal(&self, slot: Slot) -> bool
+        ensures { result ≡ contains_key self.now.proposals slot }
+    {
+        self.proposals.contains(slot)
     }
 
     /// Gives up, where the ballot is above the leader's, for the ballot of the next round. It takes no memory.

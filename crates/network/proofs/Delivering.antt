@@ -11,9 +11,8 @@ use Rattle.ballot.specs.declared.letter.Body.{Body}
 use Rattle.ballot.specs.Letters.{letter}
 use Rattle.ballot.specs.Members.{is_member}
 use Rattle.acceptor.specs.Acceptors.{Acceptances, Keeps}
-use Rattle.world.specs.Nodes.{NodeState, put}
-use Rattle.world.specs.Steps.{Receives, promises_ballot, accepts_pvalue, hears_promise, hears_vote, hears_proposal, learns, tells_decisions}
-use Rattle.world.specs.Showing.{ShowsNode, ShowsReceived}
+use Rattle.node.specs.Nodes.{NodeState, put}
+use Rattle.node.specs.Receiving.{Receives, promises_ballot, accepts_pvalue, hears_promise, hears_vote, hears_proposal, learns, tells_decisions, ShowsNode, ShowsReceived}
 use Rattle.network.proofs.Sent.{of_map, member_bounds}
 use Rattle.network.specs.Networks.{NetworkState, node_of, mail_in, mail_of, front, put_mail, posted, turned_net, without_front, with_last, IsDelivered}
 use Rattle.network.specs.Posting.{IsAmong, IsBetween, AreBetween, IsPost, IsNetwork}

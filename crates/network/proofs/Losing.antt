@@ -6,7 +6,7 @@ use Rattle.std.proofs.lemmas.List.{get_or_default}
 use Rattle.object.specs.Lists.{In}
 use Rattle.ballot.specs.declared.letter.Letter.{Letter}
 use Rattle.ballot.specs.Members.{is_member}
-use Rattle.world.specs.Nodes.{NodeState}
+use Rattle.node.specs.Nodes.{NodeState}
 use Rattle.network.proofs.Sent.{member_bounds}
 use Rattle.network.specs.Networks.{NetworkState, mail_in, mail_of, has_mail, front, letters_to, put_mail, posted, without_front}
 use Rattle.network.specs.Posting.{AreBetween, IsPost, IsNetwork, but_first}

@@ -4,7 +4,7 @@ use Rattle.std.specs.List.{range_with_len}
 use Rattle.std.proofs.lemmas.List.FromFn.{map-range_with_len_more}
 use Rattle.object.specs.Lists.{In}
 use Rattle.ballot.specs.declared.letter.Letter.{Letter}
-use Rattle.world.specs.Nodes.{NodeState, new_node}
+use Rattle.node.specs.Nodes.{NodeState, new_node}
 use Rattle.network.specs.Networks.{new_network}
 use Rattle.network.specs.Posting.{AreBetween, IsNetwork}
 use Rattle.network.proofs.Posts.{none_posted}

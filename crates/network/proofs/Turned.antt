@@ -5,16 +5,15 @@ use Rattle.std.proofs.lemmas.List.{append-nil, get_or_default}
 use Rattle.ballot.specs.declared.letter.Letter.{Letter}
 use Rattle.ballot.specs.declared.letter.Body.{Body}
 use Rattle.ballot.specs.Letters.{letter, all_to_all}
-use Rattle.ballot.specs.Members.{is_member}
+use Rattle.ballot.specs.Members.{is_member, numbers}
 use Rattle.object.specs.Lists.{In}
-use Rattle.world.specs.Nodes.{NodeState, new_node, node_in, put}
+use Rattle.node.specs.Nodes.{NodeState, new_node, node_in, put}
 use Rattle.world.specs.Showing.{IsSeated}
 use Rattle.std.specs.List.{filter}
-use Rattle.ballot.specs.Members.{numbers}
 use Rattle.ballot.specs.declared.letter.Body.TheVariants.{Ask}
 use Rattle.leader.specs.Leaders.{says_again}
 use Rattle.replica.specs.Replicas.{proposes_again, asks_others, nudges}
-use Rattle.world.specs.Steps.{said_again}
+use Rattle.node.specs.Deeds.{said_again}
 use Rattle.network.specs.Networks.{NetworkState, node_of, posted, turned_net}
 use Rattle.network.specs.Posting.{IsBetween, AreBetween, IsPost, IsNetwork}
 use Rattle.network.proofs.Sent.{of_map, of_filter, among_numbers, member_bounds, sent_to_all}

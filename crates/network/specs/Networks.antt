@@ -3,8 +3,8 @@ use Rattle.std.specs.Prelude.{◌≡◌, ℕ, zero, suc, ◌==◌, Bool, is_some
 use Rattle.std.specs.List.{filter}
 use Rattle.ballot.specs.declared.letter.Letter.{Letter}
 use Rattle.ballot.specs.Members.{numbers}
-use Rattle.world.specs.Nodes.{NodeState, new_node, node_in, put}
-use Rattle.world.specs.Showing.{ShowsReceived}
+use Rattle.node.specs.Nodes.{NodeState, new_node, node_in, put}
+use Rattle.node.specs.Receiving.{ShowsReceived}
 
 -- the nodes 1, 2, .. of these members, and the mail of each in the order in which it was sent: that of node n is at n - 1
 pub record NetworkState (C : Type 0) : Type 0 where

@@ -2,7 +2,7 @@
 use Rattle.std.specs.Prelude.{◌≡◌, ℕ, ◌≤◌, ◌==◌, if◌then◌else◌, List, [], ◌∷◌, length}
 use Rattle.object.specs.Lists.{In}
 use Rattle.ballot.specs.declared.letter.Letter.{Letter}
-use Rattle.world.specs.Nodes.{NodeState}
+use Rattle.node.specs.Nodes.{NodeState}
 
 -- one of the numbers 1 to count
 abbrev pub IsAmong : ℕ → ℕ → Type 0

@@ -10,11 +10,12 @@ ghost use Rattle.slot_log.specs.Proposals.{next_proposal, proposed_next};
 ghost use Rattle.slot_log.specs.Decisions.{next_decided, undecided};
 ghost use Rattle.slot_log.specs.Advances.{advanced};
 ghost use Rattle.replica.specs.Replicas.{asks_for};
-ghost use Rattle.world.specs.Objects.{rules_of};
-ghost use Rattle.world.specs.Histories.{history, answers_after};
-ghost use Rattle.world.specs.Nodes.{restarted};
-ghost use Rattle.world.specs.Steps.{led, said_again};
-ghost use Rattle.world.specs.Showing.{IsSeated, IsFit};
+ghost use Rattle.node.specs.Histories.{history};
+ghost use Rattle.object.specs.Obeying.{answers_after};
+ghost use Rattle.node.specs.Nodes.{restarted};
+ghost use Rattle.node.specs.Deeds.{led, said_again};
+ghost use Rattle.world.specs.Showing.{IsSeated};
+ghost use Rattle.node.specs.Receiving.{IsFit};
 ghost use Rattle.network.specs.Networks.{new_network, node_of, mail_of, front, has_mail, turned_net, without_front, with_last, IsDelivered};
 
 use crate::mail::Mail;
@@ -151,7 +152,7 @@ impl<O: Object> Network<O> {
         ensures done { IfOk result (λ done. done ≡ option_map (λ c. ((node_of self.old id).replica.slot_out, c.key)) (next_decided (node_of self.old id).replica)) }
         ensures idle { OnOk result (next_decided (node_of self.old id).replica ≡ None → (self.new ≡ self.old) × (out.new.items ≡ out.old.items)) }
         ensures state { OnOk result ((c : Command O.Op) → next_decided (node_of self.old id).replica ≡ Some c → self.new ≡ turned_net self.old id (record (node_of self.old id) { replica = advanced (same_commands O.Op.eq) (node_of self.old id).replica }) []) }
-        ensures out { OnOk result ((c : Command O.Op) → next_decided (node_of self.old id).replica ≡ Some c → out.new.items ≡ out.old.items ++ answers_after (rules_of O.fresh O.after O.answers O.Op.eq) (history (node_of self.old id).replica) c) }
+        ensures out { OnOk result ((c : Command O.Op) → next_decided (node_of self.old id).replica ≡ Some c → out.new.items ≡ out.old.items ++ answers_after O.rules (history (node_of self.old id).replica) c) }
         ensures err { OnErr result ((self.new ≡ self.old) × (out.new.items ≡ out.old.items)) }
     {
         let done = self.nodes[usize::from(id - 1)].perform(out)?;

@@ -8,3 +8,7 @@ pub mod OnceOnly
 pub mod Happenings
 pub mod Legal
 pub mod Registers
+pub mod Obeying
+pub mod ListLaws
+pub mod ReplayLaws
+pub mod FilterLaws

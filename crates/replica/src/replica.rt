@@ -1,6 +1,6 @@
 ghost use Rattle.std.specs.Prelude.{◌≡◌, ◌↔◌, ◌++◌, ◌<◌, true, None, Some, Ok, is_some, map, take, vec_len, IfOk, IfSome, OnOk, OnErr, IsOk, IsErrOf};
 ghost use Rattle.std.specs.Option.{option_map};
-ghost use Rattle.std.specs.FinMap.{empty, get};
+ghost use Rattle.std.specs.FinMap.{contains_key, empty, get};
 ghost use Rattle.ballot.specs.Members.{is_member};
 ghost use Rattle.ballot.specs.Letters.{all_to_all};
 ghost use Rattle.object.specs.Commands.{same_commands};
@@ -44,7 +44,7 @@ impl<O: Object> Replica<O> {
     /// Nothing is asked for, proposed or decided, and the object is new.
     pub fn new(alloc: Global) -> Result<Replica<O>, AllocError>
         ensures slots { IfOk result (λ r. r.slots ≡ new_book) }
-        ensures object { IfOk result (λ r. r.object.object ≡ O.fresh) }
+        ensures object { IfOk result (λ r. r.object.object ≡ O.rules.fresh) }
         ensures latest { IfOk result (λ r. r.object.latest ≡ empty) }
     {
         Ok(Replica {
@@ -78,6 +78,13 @@ impl<O: Object> Replica<O> {
         ensures { result ≡ deciding.undecided self.now.slots }
     {
         self.slots.undecided()
+    }
+
+    /// Whether it knows what is decided in the slot. It takes no memory.
+    pub fn knows(&self, slot: Slot) -> bool
+        ensures { result ≡ contains_key self.now.slots.decisions slot }
+    {
+        self.slots.knows(slot)
     }
 
     /// The decisions that answer an Ask: those known of the slot and the 63 that follow it, in rising slot.
@@ -128,8 +135,8 @@ impl<O: Object> Replica<O> {
         ensures slot { IfOk result (λ done. IfSome done (λ p. p.slot ≡ self.old.slots.slot_out)) }
         ensures key { IfOk result (λ done. option_map (λ p. p.key) done ≡ option_map (λ c. c.key) (deciding.next_decided self.old.slots)) }
         ensures effect { IfOk result (λ done. IfSome done (λ p. (p.effect ≡ Effect.Done) ↔ (is_later p.key self.old.object.latest ≡ true))) }
-        ensures state { OnOk result (self.new ≡ performed (same_commands O.Op.eq) O.after self.old) }
-        ensures out { OnOk result (out.new.items ≡ out.old.items ++ performed_answers O.answers self.old) }
+        ensures state { OnOk result (self.new ≡ performed (same_commands O.Op.eq) O.rules.after self.old) }
+        ensures out { OnOk result (out.new.items ≡ out.old.items ++ performed_answers O.rules.answers self.old) }
         ensures idle { deciding.next_decided self.old.slots ≡ None → result ≡ Ok None }
         ensures err { OnErr result ((self.new ≡ self.old) × (out.new.items ≡ out.old.items)) }
     {

@@ -1,7 +1,7 @@
 -- A command on its way through the nodes.
 use Rattle.std.proofs.Common.{◌≡◌, ◌≢◌, ◌⊎◌, inl, inr, ⊎_elim, ℕ, List, [], ◌∷◌, ◌++◌, refl, sym, ap, ◌∙◌, subst, append_assoc, length, arith}
 use Rattle.std.proofs.lemmas.List.{append-nil}
-use Rattle.object.specs.Lists.{In}
+use Rattle.object.specs.Lists.{In, IsBeginning}
 use Rattle.object.specs.Replays.{kept}
 use Rattle.object.specs.declared.command.Answer.{Answer}
 use Rattle.object.specs.declared.command.Command.{Command}
@@ -9,10 +9,10 @@ use Rattle.object.specs.declared.command.Key.{Key}
 use Rattle.object.specs.declared.command.Submission.{Submission}
 use Rattle.world.specs.declared.event.Event.{Event}
 use Rattle.world.specs.declared.event.Event.TheVariants.{Submit}
-use Rattle.world.specs.Objects.{Rules}
+use Rattle.object.specs.Objects.{Rules}
 use Rattle.world.specs.Worlds.{World, opening}
 use Rattle.world.specs.Chosen.{IsOrder}
-use Rattle.world.specs.Legal.{IsBeginning, IsRising, IsGivenAt}
+use Rattle.object.specs.Legal.{IsRising, IsGivenAt}
 use Rattle.world.specs.OneOrder.{HasOneOrder, IsLater}
 use Rattle.world.specs.Reached.{IsReached, IsPlaced}
 use Rattle.world.specs.Told.{IsAnswered}

@@ -1,11 +1,10 @@
 -- What is found among the answers of a world.
 use Rattle.std.proofs.Common.{◌≡◌, ◌≢◌, inl, inr, ⊎_elim, ℕ, ◌-◌, List, [], ◌∷◌, ◌++◌, length, take, drop, Option, None, Some, Result, Ok, Err, OnOk, IfOk, IfNone, refl, sym, ap, ap₂, ◌∙◌, subst, append_assoc, take_all, length-drop, arith}
 use Rattle.std.proofs.Math.Seq.{drop-append_seam}
-use Rattle.object.specs.Lists.{In}
+use Rattle.object.specs.Lists.{In, IsBeginning}
 use Rattle.object.specs.declared.command.Answer.{Answer}
 use Rattle.object.specs.declared.command.Key.{Key}
 use Rattle.world.specs.Worlds.{World}
-use Rattle.world.specs.Legal.{IsBeginning}
 use Rattle.simulated_nodes.specs.Standing.{HasReplied, HasNotReplied}
 use Rattle.simulated_nodes.proofs.Lists.{In-drop, In-take, In-cases}
 

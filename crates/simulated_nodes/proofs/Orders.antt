@@ -1,9 +1,9 @@
 -- An order that grows by one command.
 use Rattle.std.proofs.Common.{◌≡◌, ◌≢◌, ◌⊎◌, inl, inr, ⊎_elim, ℕ, ◌<◌, List, [], ◌∷◌, ◌++◌, refl, sym, ap, ap₂, ◌∙◌, subst, arith}
 use Rattle.std.proofs.lemmas.List.{append-nil}
-use Rattle.object.specs.Lists.{In}
+use Rattle.object.specs.Lists.{In, IsBeginning}
 use Rattle.object.specs.declared.command.Command.{Command}
-use Rattle.world.specs.Legal.{IsBeginning, IsRising}
+use Rattle.object.specs.Legal.{IsRising}
 use Rattle.simulated_nodes.proofs.Lists.{In-right, In-cases, In-one}
 
 -- along a rising list the numbers of one session are greater later

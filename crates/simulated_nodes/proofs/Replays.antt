@@ -9,8 +9,8 @@ use Rattle.object.specs.Replays.{Placed, replay_from}
 use Rattle.object.specs.declared.command.Answer.{Answer}
 use Rattle.object.specs.declared.command.Command.{Command}
 use Rattle.object.specs.declared.command.Key.{Key}
-use Rattle.world.specs.Objects.{Rules}
-use Rattle.world.specs.Worlds.{same_key}
+use Rattle.object.specs.Objects.{Rules}
+use Rattle.object.specs.Keys.{same_key}
 use Rattle.simulated_nodes.specs.OneClient.{reply_to}
 use Rattle.simulated_nodes.specs.Standing.{state_after}
 use Rattle.simulated_nodes.proofs.Lists.{In-left, In-right, In-cases, In-image, key_same}

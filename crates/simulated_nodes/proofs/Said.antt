@@ -10,7 +10,7 @@ use Rattle.object.specs.declared.command.Answer.{Answer}
 use Rattle.object.specs.declared.command.Command.{Command}
 use Rattle.object.specs.declared.command.Key.{Key}
 use Rattle.object.specs.declared.command.Submission.{Submission}
-use Rattle.world.specs.Objects.{Rules}
+use Rattle.object.specs.Objects.{Rules}
 use Rattle.world.specs.Worlds.{World}
 use Rattle.world.specs.Reached.{IsPlaced}
 use Rattle.simulated_nodes.specs.OneClient.{Talk, Said, next_key, request, next_second, reply_to, obeyed, passed, unless_said, waited, answered}

@@ -10,9 +10,11 @@ use Rattle.object.specs.declared.command.Submission.{Submission}
 use Rattle.slot_log.specs.Decisions.{next_decided}
 use Rattle.world.specs.declared.event.Event.{Event}
 use Rattle.world.specs.declared.event.Event.TheVariants.{Submit}
-use Rattle.world.specs.Objects.{Rules}
+use Rattle.object.specs.Objects.{Rules}
 use Rattle.world.specs.Nodes.{node}
-use Rattle.world.specs.Worlds.{World, Happenings, same_key, is_submitted, with_submission}
+use Rattle.world.specs.Worlds.{World}
+use Rattle.object.specs.Happenings.{Happenings, is_submitted, with_submission}
+use Rattle.object.specs.Keys.{same_key}
 use Rattle.world.specs.Steps.{Step, submit, deliver, wake, nudge, propose, perform, restart, performed}
 use Rattle.simulated_nodes.specs.Standing.{SubmitsOnly, IsFresh, submitted_to}
 use Rattle.simulated_nodes.proofs.Lists.{key_same}

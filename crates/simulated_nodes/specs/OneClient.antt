@@ -6,8 +6,8 @@ use Rattle.object.specs.declared.command.Act.TheVariants.{Do, Close, Tick}
 use Rattle.object.specs.declared.command.Answer.{Answer}
 use Rattle.object.specs.declared.command.Command.{Command}
 use Rattle.object.specs.declared.command.Key.{Key}
-use Rattle.world.specs.Objects.{Rules}
-use Rattle.world.specs.Worlds.{same_key}
+use Rattle.object.specs.Objects.{Rules}
+use Rattle.object.specs.Keys.{same_key}
 
 -- how far it went: the object, the number of the next request, and the second that it is
 pub record Talk (O : Type 0) : Type 0 where

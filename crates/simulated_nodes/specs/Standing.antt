@@ -3,14 +3,14 @@ use Rattle.std.specs.Prelude.{◌≡◌, ◌≢◌, ℕ, ◌<◌, ◌≤◌, Lis
 use Rattle.object.specs.declared.command.Answer.{Answer}
 use Rattle.object.specs.declared.command.Command.{Command}
 use Rattle.object.specs.declared.command.Key.{Key}
-use Rattle.object.specs.Lists.{In}
+use Rattle.object.specs.Lists.{In, IsBeginning}
 use Rattle.world.specs.declared.event.Event.{Event}
 use Rattle.world.specs.declared.event.Event.TheVariants.{Submit}
-use Rattle.world.specs.Objects.{Rules}
+use Rattle.object.specs.Objects.{Rules}
 use Rattle.world.specs.Worlds.{World}
 use Rattle.world.specs.Steps.{Step}
 use Rattle.world.specs.Chosen.{IsOrder}
-use Rattle.world.specs.Legal.{IsBeginning, IsGivenAt}
+use Rattle.object.specs.Legal.{IsGivenAt}
 use Rattle.world.specs.OneOrder.{HasOneOrder, IsLater}
 use Rattle.world.specs.Told.{IsAnswered}
 use Rattle.simulated_nodes.specs.OneClient.{Talk, Said}

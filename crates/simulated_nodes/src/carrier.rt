@@ -1,10 +1,8 @@
 ghost use Rattle.std.specs.Prelude.{◌≡◌, ◌≢◌, ◌≤◌, ℕ, List, length, drop, IfOk, OnOk, OnErr, IfSome, IfNone};
-ghost use Rattle.object.specs.Lists.{In};
+ghost use Rattle.object.specs.Lists.{In, IsBeginning};
 ghost use Rattle.object.specs.declared.command.Answer.{Answer};
 ghost use Rattle.object.specs.declared.command.Command.{Command};
 ghost use Rattle.world.specs.declared.event.Event.TheVariants.{Submit};
-ghost use Rattle.world.specs.Objects.{rules_of};
-ghost use Rattle.world.specs.Legal.{IsBeginning};
 ghost use Rattle.world.specs.Reached.{IsPlaced};
 ghost use Rattle.simulated_nodes.specs.OneClient.{Talk, opened};
 ghost use Rattle.simulated_nodes.specs.Standing.{StandsFor, Carries, Took, IsFresh, HasReplied, HasNotReplied, SubmitsOnlyIfSome, submitted_to};
@@ -31,7 +29,7 @@ pub(crate) struct Carrier<O: Object> {
 impl<O: Object> Carrier<O> {
     /// New nodes.
     pub fn new(alloc: Global, members: Members, seed: u64) -> Result<Carrier<O>, AllocError>
-        ensures { IfOk result (λ carrier. StandsFor (rules_of O.fresh O.after O.answers O.Op.eq) carrier.world (opened (rules_of O.fresh O.after O.answers O.Op.eq))) }
+        ensures { IfOk result (λ carrier. StandsFor O.rules carrier.world (opened O.rules)) }
     {
         Ok(Carrier {
             world: World::new(alloc, members)?,
@@ -49,9 +47,9 @@ impl<O: Object> Carrier<O> {
 
     /// Carries a command until it is placed, and answers the reply that came to the key on the way.
     pub fn carry(&mut self, command: &Command<O::Op>, key: Key) -> Result<Option<O::Reply>, Stopped>
-        ensures carried { OnOk result ((t : Talk O) → StandsFor (rules_of O.fresh O.after O.answers O.Op.eq) self.old.world t
+        ensures carried { OnOk result ((t : Talk O) → StandsFor O.rules self.old.world t
             → IsFresh (submitted_to self.old.world) command.now.key
-            → Carries (rules_of O.fresh O.after O.answers O.Op.eq) self.new.world (submitted_to self.old.world) command.now) }
+            → Carries O.rules self.new.world (submitted_to self.old.world) command.now) }
         ensures placed { OnOk result (IsPlaced self.new.world command.now.key) }
         ensures some { IfOk result (λ said. IfSome said (HasReplied self.new.world key)) }
         ensures none { IfOk result (λ said. IfNone said (HasNotReplied self.old.world key → HasNotReplied self.new.world key)) }
@@ -77,7 +75,7 @@ impl<O: Object> Carrier<O> {
     }
 
     fn submit(&mut self, command: &Command<O::Op>) -> Result<(), Stopped>
-        ensures { OnOk result ((n : ℕ) × Took (rules_of O.fresh O.after O.answers O.Op.eq) self.old.world (Submit n command.now) self.new.world) }
+        ensures { OnOk result ((n : ℕ) × Took O.rules self.old.world (Submit n command.now) self.new.world) }
     {
         for _ in 0..MOST_EVENTS {
             self.count()?;
@@ -89,7 +87,7 @@ impl<O: Object> Carrier<O> {
     }
 
     fn try_submit(&mut self, command: &Command<O::Op>) -> Result<(), WorldError>
-        ensures ok { OnOk result ((n : ℕ) × Took (rules_of O.fresh O.after O.answers O.Op.eq) self.old.world (Submit n command.now) self.new.world) }
+        ensures ok { OnOk result ((n : ℕ) × Took O.rules self.old.world (Submit n command.now) self.new.world) }
         ensures err { OnErr result (self.new.world ≡ self.old.world) }
     {
         let event = Event::Submit(HOME, command.copy()?);
@@ -100,8 +98,8 @@ impl<O: Object> Carrier<O> {
     // Lets events happen until the command is placed.
     fn place(&mut self, command: &Command<O::Op>) -> Result<(), Stopped>
         ensures placed { OnOk result (IsPlaced self.new.world command.now.key) }
-        ensures carries { OnOk result ((before : List (Command O.Op)) → Carries (rules_of O.fresh O.after O.answers O.Op.eq) self.old.world before command.now
-            → Carries (rules_of O.fresh O.after O.answers O.Op.eq) self.new.world before command.now) }
+        ensures carries { OnOk result ((before : List (Command O.Op)) → Carries O.rules self.old.world before command.now
+            → Carries O.rules self.new.world before command.now) }
         ensures later { OnOk result (IsBeginning self.old.world.happenings.answers self.new.world.happenings.answers) }
     {
         let mut refused = None;
@@ -126,8 +124,8 @@ impl<O: Object> Carrier<O> {
     ) -> (bool, Option<Event<O::Op>>)
         requires { SubmitsOnlyIfSome command.now refused }
         ensures left { SubmitsOnlyIfSome command.now result.1 }
-        ensures carries { (before : List (Command O.Op)) → Carries (rules_of O.fresh O.after O.answers O.Op.eq) self.old.world before command.now
-            → Carries (rules_of O.fresh O.after O.answers O.Op.eq) self.new.world before command.now }
+        ensures carries { (before : List (Command O.Op)) → Carries O.rules self.old.world before command.now
+            → Carries O.rules self.new.world before command.now }
         ensures later { IsBeginning self.old.world.happenings.answers self.new.world.happenings.answers }
     {
         let Some(event) = self.choose(refused, command, count) else {
@@ -159,7 +157,7 @@ impl<O: Object> Carrier<O> {
     }
 
     fn try_event(&mut self, event: &Event<O::Op>) -> Result<(), WorldError>
-        ensures ok { OnOk result (Took (rules_of O.fresh O.after O.answers O.Op.eq) self.old.world event.now self.new.world) }
+        ensures ok { OnOk result (Took O.rules self.old.world event.now self.new.world) }
         ensures err { OnErr result (self.new.world ≡ self.old.world) }
     {
         let event = event.copy()?;

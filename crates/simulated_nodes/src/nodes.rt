@@ -1,5 +1,4 @@
 ghost use Rattle.std.specs.Prelude.{◌≡◌, ℕ, Some, IfOk, OnOk};
-ghost use Rattle.world.specs.Objects.{rules_of};
 ghost use Rattle.simulated_nodes.specs.OneClient.{Talk, opened, obeyed, passed, answered, left};
 ghost use Rattle.simulated_nodes.specs.Standing.{Stand, IsSaid, HasNotReplied};
 
@@ -30,8 +29,8 @@ pub struct Nodes<O: Object> {
 impl<O: Object> Nodes<O> {
     /// New nodes, at second 0.
     pub fn new(alloc: Global, members: Members, seed: u64) -> Result<Nodes<O>, AllocError>
-        ensures { IfOk result (λ nodes. Stand (rules_of O.fresh O.after O.answers O.Op.eq) nodes.carrier.world nodes.next nodes.second
-            (opened (rules_of O.fresh O.after O.answers O.Op.eq))) }
+        ensures { IfOk result (λ nodes. Stand O.rules nodes.carrier.world nodes.next nodes.second
+            (opened O.rules)) }
     {
         Ok(Nodes {
             carrier: Carrier::new(alloc, members, seed)?,
@@ -42,11 +41,11 @@ impl<O: Object> Nodes<O> {
 
     /// What one object replies to the next request. Where it has no reply yet, seconds pass, 3,600 at most.
     pub fn ask(&mut self, op: O::Op) -> Result<O::Reply, Stopped>
-        ensures reply { IfOk result (λ reply. (t : Talk O) → Stand (rules_of O.fresh O.after O.answers O.Op.eq) self.old.carrier.world self.old.next self.old.second t
-            → (answered (rules_of O.fresh O.after O.answers O.Op.eq) t op).reply ≡ Some reply) }
-        ensures stand { OnOk result ((t : Talk O) → Stand (rules_of O.fresh O.after O.answers O.Op.eq) self.old.carrier.world self.old.next self.old.second t
-            → Stand (rules_of O.fresh O.after O.answers O.Op.eq) self.new.carrier.world self.new.next self.new.second
-            (answered (rules_of O.fresh O.after O.answers O.Op.eq) t op).talk) }
+        ensures reply { IfOk result (λ reply. (t : Talk O) → Stand O.rules self.old.carrier.world self.old.next self.old.second t
+            → (answered O.rules t op).reply ≡ Some reply) }
+        ensures stand { OnOk result ((t : Talk O) → Stand O.rules self.old.carrier.world self.old.next self.old.second t
+            → Stand O.rules self.new.carrier.world self.new.next self.new.second
+            (answered O.rules t op).talk) }
     {
         let key = Key {
             session: 1,
@@ -68,8 +67,8 @@ impl<O: Object> Nodes<O> {
 
     /// The client leaves.
     pub fn close(&mut self) -> Result<(), Stopped>
-        ensures { OnOk result ((t : Talk O) → Stand (rules_of O.fresh O.after O.answers O.Op.eq) self.old.carrier.world self.old.next self.old.second t
-            → Stand (rules_of O.fresh O.after O.answers O.Op.eq) self.new.carrier.world self.new.next self.new.second (left (rules_of O.fresh O.after O.answers O.Op.eq) t)) }
+        ensures { OnOk result ((t : Talk O) → Stand O.rules self.old.carrier.world self.old.next self.old.second t
+            → Stand O.rules self.new.carrier.world self.new.next self.new.second (left O.rules t)) }
     {
         let key = Key {
             session: 1,
@@ -85,9 +84,9 @@ impl<O: Object> Nodes<O> {
     // Carries the next request.
     fn request(&mut self, key: Key, act: Act<O::Op>) -> Result<Option<O::Reply>, Stopped>
         requires { key ≡ record { session = 1; number = self.old.next } }
-        ensures said { IfOk result (λ said. (t : Talk O) → Stand (rules_of O.fresh O.after O.answers O.Op.eq) self.old.carrier.world self.old.next self.old.second t
-            → IsSaid (rules_of O.fresh O.after O.answers O.Op.eq) self.new.carrier.world self.new.next self.new.second key
-            (obeyed (rules_of O.fresh O.after O.answers O.Op.eq) t act) said) }
+        ensures said { IfOk result (λ said. (t : Talk O) → Stand O.rules self.old.carrier.world self.old.next self.old.second t
+            → IsSaid O.rules self.new.carrier.world self.new.next self.new.second key
+            (obeyed O.rules t act) said) }
     {
         let Some(command) = Command::new(key, act) else {
             return Err(Stopped);
@@ -99,10 +98,10 @@ impl<O: Object> Nodes<O> {
 
     // Lets a second pass, while the request of the key waits.
     fn pass_second(&mut self, key: Key) -> Result<Option<O::Reply>, Stopped>
-        ensures said { IfOk result (λ said. (t : Talk O) → Stand (rules_of O.fresh O.after O.answers O.Op.eq) self.old.carrier.world self.old.next self.old.second t
+        ensures said { IfOk result (λ said. (t : Talk O) → Stand O.rules self.old.carrier.world self.old.next self.old.second t
             → HasNotReplied self.old.carrier.world key
-            → IsSaid (rules_of O.fresh O.after O.answers O.Op.eq) self.new.carrier.world self.new.next self.new.second key
-            (passed (rules_of O.fresh O.after O.answers O.Op.eq) key t) said) }
+            → IsSaid O.rules self.new.carrier.world self.new.next self.new.second key
+            (passed O.rules key t) said) }
     {
         if self.second >= LAST_SECOND {
             return Err(Stopped);

@@ -2,26 +2,29 @@
 use Rattle.std.proofs.Common.{◌≡◌, ⊎_elim, ℕ, ◌+◌, ◌<◌, ◌≤◌, max, Bool, true, false, cond, List, [], ◌∷◌, ◌++◌, take, length, length-append, Option, Some, None, refl, sym, ap, ◌∙◌, subst, append-nil, arith}
 use Rattle.std.proofs.lemmas.Bool.{cases_lt}
 use Rattle.std.proofs.lemmas.List.{take-append-le, take_all}
-use Rattle.object.specs.Lists.{In}
+use Rattle.object.specs.Lists.{In, IsBeginning}
 use Rattle.object.specs.Replays.{kept}
 use Rattle.object.specs.declared.command.Answer.{Answer}
 use Rattle.object.specs.declared.command.Command.{Command}
 use Rattle.object.specs.declared.command.Submission.{Submission}
 use Rattle.slot_log.specs.Decisions.{next_decided}
 use Rattle.world.specs.declared.event.Event.{Event}
-use Rattle.world.specs.Objects.{Rules}
-use Rattle.world.specs.Histories.{history, answers_after}
-use Rattle.world.specs.Kept.{IsPerformed}
+use Rattle.object.specs.Objects.{Rules}
+use Rattle.node.specs.Histories.{history}
+use Rattle.object.specs.Obeying.{answers_after}
+use Rattle.node.specs.Kept.{IsPerformed}
 use Rattle.world.specs.Nodes.{Cluster, node}
-use Rattle.world.specs.Worlds.{World, same_key, is_submitted, with_submission, opening}
+use Rattle.world.specs.Worlds.{World, opening}
+use Rattle.object.specs.Keys.{same_key}
+use Rattle.object.specs.Happenings.{is_submitted, with_submission}
 use Rattle.world.specs.Steps.{Step, submit, deliver, wake, nudge, propose, perform, restart, performed, with_cluster, counted}
 use Rattle.world.specs.Runs.{Leads, at_once, after, IsReachable}
 use Rattle.world.specs.Chosen.{IsChosen, IsChosenFrom, IsOrder}
 use Rattle.world.specs.Reached.{IsRun, IsReached}
-use Rattle.world.specs.Legal.{IsBeginning, WasSubmitted}
-use Rattle.world.proofs.Lists.{In-cases}
+use Rattle.object.specs.Legal.{WasSubmitted}
+use Rattle.object.specs.ListLaws.{In-cases}
 use Rattle.world.proofs.Growing.{kept_beginning}
-use Rattle.world.proofs.Orders.{BallotLaws, not_both}
+use Rattle.ballot.specs.OrderLaws.{BallotLaws, not_both}
 use Rattle.world.proofs.Invariants.{IsSound}
 use Rattle.world.proofs.Grows.{Grows}
 use Rattle.world.proofs.Reach.{opened_at, opening_sound, leads_sound, step_sound, reachable_sound}

@@ -27,13 +27,16 @@ use Rattle.slot_log.specs.Proposals.{next_proposal}
 use Rattle.slot_log.specs.Decisions.{decided_from, next_decided}
 use Rattle.replica.specs.Replicas.{asks_for, tells, proposes_again, asks_others, nudges}
 use Rattle.world.specs.declared.event.Event.{Event}
-use Rattle.world.specs.Objects.{Rules}
-use Rattle.world.specs.Nodes.{NodeState, Cluster, node, turned, restarted}
+use Rattle.object.specs.Objects.{Rules}
+use Rattle.node.specs.Nodes.{NodeState, restarted}
+use Rattle.world.specs.Nodes.{Cluster, node, turned}
 use Rattle.world.specs.Worlds.{World, opening}
-use Rattle.world.specs.Steps.{Step, submit, deliver, wake, nudge, propose, perform, restart, performed, Receives, promises_ballot, accepts_pvalue, hears_promise, hears_vote, hears_proposal, learns, tells_decisions, said_again}
+use Rattle.world.specs.Steps.{Step, submit, deliver, wake, nudge, propose, perform, restart, performed}
+use Rattle.node.specs.Receiving.{Receives, promises_ballot, accepts_pvalue, hears_promise, hears_vote, hears_proposal, learns, tells_decisions}
+use Rattle.node.specs.Deeds.{said_again}
 use Rattle.world.specs.Runs.{Leads, at_once, after, IsReachable}
-use Rattle.world.proofs.Lists.{Each, Each-at, Each-append, Each-weaker, Each-map, Each-all, In-get}
-use Rattle.world.proofs.Orders.{BallotLaws}
+use Rattle.object.specs.ListLaws.{Each, Each-at, Each-append, Each-weaker, Each-map, Each-all, In-get}
+use Rattle.ballot.specs.OrderLaws.{BallotLaws}
 use Rattle.world.proofs.Invariants.{IsFair, IsSound}
 use Rattle.world.proofs.Turns.{here, there}
 use Rattle.world.proofs.Good.{Each-to_all}

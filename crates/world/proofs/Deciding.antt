@@ -12,14 +12,15 @@ use Rattle.ballot.specs.Ballots.{Numbers, is_same}
 use Rattle.ballot.specs.Members.{has, weigh, majority, is_majority}
 use Rattle.ballot.specs.declared.pvalue.Pvalue.{Pvalue}
 use Rattle.leader.specs.Leaders.{pvalue}
-use Rattle.world.specs.Objects.{Rules}
-use Rattle.world.specs.Nodes.{NodeState, Cluster, new_node, node}
+use Rattle.object.specs.Objects.{Rules}
+use Rattle.node.specs.Nodes.{NodeState, new_node}
+use Rattle.world.specs.Nodes.{Cluster, node}
 use Rattle.world.specs.Worlds.{World}
 use Rattle.world.specs.Runs.{IsReachable}
 use Rattle.world.specs.Chosen.{IsChosenAt, IsChosen, IsChosenFrom, IsOrder}
 use Rattle.world.specs.Voters.{is_at, accepts, row}
-use Rattle.world.proofs.Lists.{In-left, In-right, In-cases}
-use Rattle.world.proofs.Orders.{BallotLaws, same_itself, not_both}
+use Rattle.object.specs.ListLaws.{In-left, In-right, In-cases}
+use Rattle.ballot.specs.OrderLaws.{BallotLaws, same_itself, not_both}
 use Rattle.world.proofs.Invariants.{Asked, IsSound}
 use Rattle.world.proofs.Reach.{reachable_sound}
 

@@ -23,18 +23,22 @@ use Rattle.world.specs.declared.event.Event.{Event}
 use Rattle.world.specs.declared.event.Event.TheVariants as events
 use Rattle.world.specs.declared.error.WorldError.{WorldError}
 use Rattle.world.specs.declared.error.WorldError.TheVariants as reasons
-use Rattle.world.specs.Objects.{Rules, is_one}
-use Rattle.world.specs.Histories.{history, answers_after}
+use Rattle.object.specs.Objects.{Rules, is_one}
+use Rattle.node.specs.Histories.{history}
+use Rattle.object.specs.Obeying.{answers_after}
 use Rattle.world.specs.Nodes.{Cluster, node, turned}
-use Rattle.world.specs.Worlds.{World, Happenings, opening, same_key, is_submitted}
+use Rattle.world.specs.Worlds.{World, opening}
+use Rattle.object.specs.Happenings.{Happenings, is_submitted}
+use Rattle.object.specs.Keys.{same_key}
 use Rattle.world.specs.Steps.{Step, IsItsOwn, replica_turn, performed, counted, with_cluster, submit, deliver, perform}
 use Rattle.world.specs.Runs.{Leads, IsReachable, IsWorld}
 use Rattle.world.specs.Runs as Runs
 use Rattle.world.specs.Refusals.{IsAllowed, has_other_act, is_at_member, is_sent, keeps_acts, most_events, refusal, IsRefused}
-use Rattle.world.specs.Showing.{HasNode, IsFit}
+use Rattle.world.specs.Showing.{HasNode}
+use Rattle.node.specs.Receiving.{IsFit}
 use Rattle.world.specs.Kept.{Delivered, IsNoted, key_past}
-use Rattle.world.proofs.Lists.{Each-at, In-get}
-use Rattle.world.proofs.Orders.{BallotLaws}
+use Rattle.object.specs.ListLaws.{Each-at, In-get}
+use Rattle.ballot.specs.OrderLaws.{BallotLaws}
 use Rattle.world.proofs.Invariants.{IsFair, IsTrueOf, IsSound, agree}
 use Rattle.world.proofs.Bounds.{BodyWithin, reachable_within}
 use Rattle.world.specs.OneOrder.{HasOneOrder, IsLater}

@@ -6,7 +6,7 @@ use Rattle.object.specs.declared.command.Command.{Command}
 use Rattle.slot_log.specs.Books.{SlotBook}
 use Rattle.slot_log.specs.Decisions.{next_decided}
 use Rattle.world.specs.declared.event.Event.{Event}
-use Rattle.world.specs.Objects.{Rules}
+use Rattle.object.specs.Objects.{Rules}
 use Rattle.world.specs.Nodes.{node}
 use Rattle.world.specs.Worlds.{World, opening}
 use Rattle.world.specs.Steps.{Step, submit, deliver, wake, nudge, propose, perform, restart, performed}
@@ -15,7 +15,7 @@ use Rattle.world.specs.Runs.{IsWorld, InEvery, AfterEach}
 use Rattle.world.specs.Showing.{IsReceivable}
 use Rattle.world.specs.Chosen.{IsChosen}
 use Rattle.world.specs.Agreements.{ChoosesOne, StaysChosen}
-use Rattle.world.proofs.Orders.{BallotLaws}
+use Rattle.ballot.specs.OrderLaws.{BallotLaws}
 use Rattle.world.proofs.Invariants.{IsSound, agree}
 use Rattle.world.proofs.Grows.{chosen_stays}
 use Rattle.world.proofs.Reach.{reachable_sound, step_sound, one_more, opening_reachable}

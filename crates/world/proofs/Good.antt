@@ -10,12 +10,13 @@ use Rattle.ballot.specs.declared.letter.Body.TheVariants.{P2a}
 use Rattle.ballot.specs.Letters.{letter, to_all, all_to_all}
 use Rattle.leader.specs.Leaders.{Leading, Done, silently}
 use Rattle.slot_log.specs.Books.{SlotBook}
-use Rattle.world.specs.Nodes.{NodeState, Cluster, node, turned}
+use Rattle.node.specs.Nodes.{NodeState}
+use Rattle.world.specs.Nodes.{Cluster, node, turned}
 use Rattle.world.specs.Steps.{leader_turn, replica_turn}
 use Rattle.world.specs.Chosen.{IsChosen}
-use Rattle.world.proofs.Lists.{Each, Each-at, Each-append, Each-map, Each-from, In-left, In-right, In-map}
+use Rattle.object.specs.ListLaws.{Each, Each-at, Each-append, Each-map, Each-from, In-left, In-right, In-map}
 use Rattle.world.proofs.Sets.{In-numbers, numbers_members}
-use Rattle.world.proofs.Orders.{BallotLaws}
+use Rattle.ballot.specs.OrderLaws.{BallotLaws}
 use Rattle.world.proofs.Invariants.{Asked, IsTrueOf, IsFair, IsLeading, IsNode, IsSound}
 use Rattle.world.proofs.Grows.{Grows, stays, leader_stays, acceptor_stays, chosen_stays}
 use Rattle.world.proofs.Turns.{Keeps, IsOwn, turn_sound, Kept}

@@ -1,26 +1,28 @@
 -- Orders only grow, and so do happenings.
 use Rattle.std.proofs.Common.{◌≡◌, ℕ, ◌+◌, ◌≤◌, Bool, true, false, cond, List, [], ◌∷◌, ◌++◌, length, length-append, Option, Some, None, refl, sym, ap, ap₂, ◌∙◌, append-nil, append_assoc, arith, ⊎_elim}
-use Rattle.object.specs.Lists.{In}
+use Rattle.object.specs.Lists.{In, IsBeginning}
 use Rattle.object.specs.declared.command.Command.{Command}
 use Rattle.object.specs.declared.command.Submission.{Submission}
 use Rattle.object.specs.Replays.{kept_after, kept}
 use Rattle.slot_log.specs.Decisions.{next_decided}
 use Rattle.world.specs.declared.event.Event.{Event}
-use Rattle.world.specs.Objects.{Rules}
-use Rattle.world.specs.Histories.{history, answers_after}
+use Rattle.object.specs.Objects.{Rules}
+use Rattle.node.specs.Histories.{history}
+use Rattle.object.specs.Obeying.{answers_after}
 use Rattle.world.specs.Nodes.{Cluster, node}
-use Rattle.world.specs.Worlds.{Happenings, World, is_submitted}
+use Rattle.object.specs.Happenings.{Happenings, is_submitted}
+use Rattle.world.specs.Worlds.{World}
 use Rattle.world.specs.Steps.{Step, submit, deliver, wake, nudge, propose, perform, restart, performed}
 use Rattle.world.specs.Runs.{Leads, at_once, after, IsReachable}
 use Rattle.world.specs.Chosen.{IsChosenFrom, IsOrder}
-use Rattle.world.specs.Legal.{IsBeginning, GoesOn}
-use Rattle.world.proofs.Lists.{In-cases}
-use Rattle.world.proofs.Orders.{BallotLaws}
+use Rattle.object.specs.Legal.{GoesOn}
+use Rattle.object.specs.ListLaws.{In-cases}
+use Rattle.ballot.specs.OrderLaws.{BallotLaws}
 use Rattle.world.proofs.Invariants.{IsSound, agree}
 use Rattle.world.proofs.Grows.{Grows, chosen_stays}
 use Rattle.world.proofs.Turns.{Kept}
 use Rattle.world.proofs.Reach.{leads_sound, reachable_sound}
-use Rattle.world.proofs.Replays.{seen_by, kept_after-append}
+use Rattle.object.specs.ReplayLaws.{seen_by, kept_after-append}
 
 -- what is kept of a beginning is a beginning of what is kept
 pub kept_beginning : {Op : Type 0} (xs ys : List (Command Op)) → IsBeginning xs ys → IsBeginning (kept xs) (kept ys)

@@ -11,9 +11,10 @@ use Rattle.acceptor.specs.Acceptors.{Acceptances}
 use Rattle.scout_commander.specs.Scouts.{Scouting}
 use Rattle.scout_commander.specs.Commanders.{Commanding}
 use Rattle.leader.specs.Leaders.{Leading, pvalue}
-use Rattle.world.specs.Nodes.{NodeState, Cluster, node}
+use Rattle.node.specs.Nodes.{NodeState}
+use Rattle.world.specs.Nodes.{Cluster, node}
 use Rattle.world.specs.Chosen.{IsChosenAt, IsChosen}
-use Rattle.world.proofs.Orders.{BallotLaws, IsUpto, IsUnder, not_both}
+use Rattle.ballot.specs.OrderLaws.{BallotLaws, IsUpto, IsUnder, not_both}
 use Rattle.world.proofs.Invariants.{Asked, IsBlocked, IsSafe, IsPromise, IsVote, IsTrueOf, IsFair, IsGathering, IsScouting, IsVoting, IsAcceptor, IsLeading, IsNode}
 
 -- no promise was above this ballot

@@ -13,11 +13,12 @@ use Rattle.acceptor.specs.Acceptors.{Acceptances}
 use Rattle.scout_commander.specs.Scouts.{Scouting}
 use Rattle.scout_commander.specs.Commanders.{Commanding}
 use Rattle.leader.specs.Leaders.{Leading, IsScoutOf, IsCommanderOf, pvalue}
-use Rattle.world.specs.Nodes.{NodeState, Cluster, node}
+use Rattle.node.specs.Nodes.{NodeState}
+use Rattle.world.specs.Nodes.{Cluster, node}
 use Rattle.world.specs.Chosen.{IsChosenAt, IsChosen}
 use Rattle.world.specs.Agreements.{IsPvalue, asked, reported, accepted}
-use Rattle.world.proofs.Lists.{Each, Each-at}
-use Rattle.world.proofs.Orders.{BallotLaws, IsUpto, IsUnder}
+use Rattle.object.specs.ListLaws.{Each, Each-at}
+use Rattle.ballot.specs.OrderLaws.{BallotLaws, IsUpto, IsUnder}
 
 -- a P2a of this pvalue was sent
 abbrev pub Asked : {C : Type 0} → List (Letter C) → Pvalue C → Type 0

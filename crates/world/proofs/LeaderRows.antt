@@ -18,12 +18,13 @@ use Rattle.leader.specs.Adoptions.{IsGreatest, IsOpen, TakesGreatest, adopted, a
 use Rattle.leader.specs.Promises.{at_heard, at_scout, AllowsAt, MayTake}
 use Rattle.leader.specs.Votes.{at_voted, at_commander, answers_another}
 use Rattle.leader.specs.Votes as votes_of
-use Rattle.world.specs.Nodes.{NodeState, Cluster, node}
+use Rattle.node.specs.Nodes.{NodeState}
+use Rattle.world.specs.Nodes.{Cluster, node}
 use Rattle.world.specs.Chosen.{IsChosen}
-use Rattle.world.proofs.Lists.{Each-weaker, Each-map, Each-all, In-left, In-right, In-cases, In-map}
-use Rattle.world.proofs.Orders.{BallotLaws, IsUpto, IsUnder, not_both, below_round, upto_trans, below_then_upto}
+use Rattle.object.specs.ListLaws.{Each-weaker, Each-map, Each-all, In-left, In-right, In-cases, In-map}
+use Rattle.ballot.specs.OrderLaws.{BallotLaws, IsUpto, IsUnder, not_both, below_round, upto_trans, below_then_upto}
 use Rattle.world.proofs.Sets.{nobody_has, has_add}
-use Rattle.world.proofs.Maps.{get_insert_same, get_insert_cases, get_remove_cases, none_in_empty, absent, entries_get, get_each_value, get_entries}
+use Rattle.node.specs.SlotLaws.{get_insert_same, get_insert_cases, get_remove_cases, none_in_empty, absent, entries_get, get_each_value, get_entries}
 use Rattle.world.proofs.Invariants.{Asked, IsBlocked, IsSafe, IsPromise, IsVote, IsTrueOf, MayPropose, IsGathering, IsScouting, IsVoting, IsNode, IsSound}
 use Rattle.world.proofs.Grows.{Grows, safe_stays, scouting_stays, voting_stays, chosen_stays}
 use Rattle.world.proofs.Turns.{IsOwn}

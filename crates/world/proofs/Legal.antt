@@ -2,25 +2,25 @@
 use Rattle.std.proofs.Common.{◌≡◌, ◌⊎◌, inl, inr, ⊎_elim, ℕ, zero, suc, ◌<◌, ◌≤◌, true, false, List, [], ◌∷◌, ◌++◌, length, length-append, fold, Some, refl, sym, ap, ◌∙◌, subst, append_assoc, arith}
 use Rattle.std.specs.Prelude.{slice_get}
 use Rattle.std.proofs.lemmas.Bool.{cases_Bool}
-use Rattle.object.specs.Lists.{In}
+use Rattle.object.specs.Lists.{In, IsBeginning}
 use Rattle.object.specs.Answers.{AnswersOnce}
 use Rattle.object.specs.Replays.{Placed, replay_from, is_new, kept}
 use Rattle.object.specs.declared.command.Answer.{Answer}
 use Rattle.object.specs.declared.command.Command.{Command}
 use Rattle.object.specs.declared.command.Key.{Key}
 use Rattle.object.specs.declared.command.Submission.{Submission}
-use Rattle.world.specs.Objects.{Rules}
-use Rattle.world.specs.Histories.{answers_after}
+use Rattle.object.specs.Objects.{Rules, replay_of}
+use Rattle.object.specs.Obeying.{answers_after}
 use Rattle.world.specs.Worlds.{World}
 use Rattle.world.specs.Runs.{IsReachable}
 use Rattle.world.specs.Chosen.{IsOrder, IsChosenFrom}
-use Rattle.world.specs.Legal.{IsBeginning, IsLegal, IsGivenAt, StandsAt, WasSubmitted, given_before, replay_of}
-use Rattle.world.proofs.Lists.{In-left, In-right, In-map}
-use Rattle.world.proofs.Orders.{BallotLaws}
+use Rattle.object.specs.Legal.{IsLegal, IsGivenAt, StandsAt, WasSubmitted, given_before}
+use Rattle.object.specs.ListLaws.{In-left, In-right, In-map}
+use Rattle.ballot.specs.OrderLaws.{BallotLaws}
 use Rattle.world.proofs.Invariants.{IsSound}
 use Rattle.world.proofs.Reach.{reachable_sound}
-use Rattle.world.proofs.Replays.{noted_at, answers_in, kept-push_new, replay-append}
-use Rattle.world.proofs.Histories.{answers_new, answers_old}
+use Rattle.object.specs.ReplayLaws.{noted_at, answers_in, kept-push_new, replay-append}
+use Rattle.object.specs.FilterLaws.{answers_new, answers_old}
 use Rattle.world.proofs.Growing.{kept_beginning}
 use Rattle.world.proofs.Submitted.{chosen_submitted}
 use Rattle.world.proofs.Rising.{In-kept, kept_rises}

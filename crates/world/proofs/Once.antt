@@ -7,10 +7,10 @@ use Rattle.object.specs.Replays.{Placed, replay_from}
 use Rattle.object.specs.declared.command.Answer.{Answer}
 use Rattle.object.specs.declared.command.Command.{Command}
 use Rattle.object.specs.declared.command.Key.{Key}
-use Rattle.world.specs.Objects.{Rules}
-use Rattle.world.specs.Legal.{IsRising, replay_of}
-use Rattle.world.proofs.Lists.{In-cases}
-use Rattle.world.proofs.Replays.{noted_at, answers_in}
+use Rattle.object.specs.Objects.{Rules, replay_of}
+use Rattle.object.specs.Legal.{IsRising}
+use Rattle.object.specs.ListLaws.{In-cases}
+use Rattle.object.specs.ReplayLaws.{noted_at, answers_in}
 use Rattle.world.proofs.Rising.{other_keys}
 
 -- the laws of an object, as their crate states them

@@ -2,11 +2,11 @@
 use Rattle.std.proofs.Common.{List}
 use Rattle.object.specs.declared.command.Key.{Key}
 use Rattle.world.specs.declared.event.Event.{Event}
-use Rattle.world.specs.Objects.{Rules}
+use Rattle.object.specs.Objects.{Rules}
 use Rattle.world.specs.Worlds.{World}
 use Rattle.world.specs.Runs.{Leads, IsReachable}
 use Rattle.world.specs.OneOrder.{HasOneOrder, IsLater}
-use Rattle.world.proofs.Orders.{BallotLaws}
+use Rattle.ballot.specs.OrderLaws.{BallotLaws}
 use Rattle.world.proofs.Growing.{happenings_go_on, order_grows, one_order}
 use Rattle.world.proofs.Deciding.{has_order}
 use Rattle.world.proofs.Once.{ObjectLaws}

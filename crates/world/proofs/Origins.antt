@@ -28,12 +28,15 @@ use Rattle.slot_log.specs.Proposals.{open_slot, first_for, next_proposal, propos
 use Rattle.slot_log.specs.Decisions.{decided_from, next_decided}
 use Rattle.slot_log.specs.Advances.{lost, advanced}
 use Rattle.replica.specs.Replicas.{asks_for, tells, proposes_again, asks_others, nudges}
-use Rattle.world.specs.Nodes.{NodeState, Cluster, node, turned, restarted}
-use Rattle.world.specs.Steps.{led, leader_turn, replica_turn, Receives, promises_ballot, accepts_pvalue, hears_promise, hears_vote, hears_proposal, learns, tells_decisions, said_again}
-use Rattle.world.proofs.Lists.{Each, Each-at, Each-append, Each-weaker, Each-map, Each-all, In-cases}
-use Rattle.world.proofs.Maps.{get_insert_cases, get_remove_cases, none_in_empty, entries_get}
+use Rattle.node.specs.Nodes.{NodeState, restarted}
+use Rattle.world.specs.Nodes.{Cluster, node, turned}
+use Rattle.node.specs.Deeds.{led, said_again}
+use Rattle.world.specs.Steps.{leader_turn, replica_turn}
+use Rattle.node.specs.Receiving.{Receives, promises_ballot, accepts_pvalue, hears_promise, hears_vote, hears_proposal, learns, tells_decisions}
+use Rattle.object.specs.ListLaws.{Each, Each-at, Each-append, Each-weaker, Each-map, Each-all, In-cases}
+use Rattle.node.specs.SlotLaws.{get_insert_cases, get_remove_cases, none_in_empty, entries_get}
 use Rattle.world.proofs.Invariants.{Asked, IsTrueOf, IsSound}
-use Rattle.world.proofs.Orders.{BallotLaws}
+use Rattle.ballot.specs.OrderLaws.{BallotLaws}
 use Rattle.world.proofs.Turns.{here, there}
 use Rattle.world.proofs.Good.{Each-to_all}
 use Rattle.world.proofs.LeaderRows.{some_same, none_not}

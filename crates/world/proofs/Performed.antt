@@ -4,7 +4,7 @@ use Rattle.std.specs.Prelude.{IsSome}
 use Rattle.std.specs.List.{range_with_len}
 use Rattle.std.specs.FinMap.{get, insert}
 use Rattle.std.proofs.lemmas.Bool.{cases_eq}
-use Rattle.object.specs.Lists.{In}
+use Rattle.object.specs.Lists.{In, IsBeginning}
 use Rattle.object.specs.declared.command.Command.{Command}
 use Rattle.ballot.specs.Members.{is_member}
 use Rattle.ballot.specs.declared.letter.Body.{Body}
@@ -18,18 +18,20 @@ use Rattle.slot_log.specs.Proposals.{next_proposal, proposed}
 use Rattle.slot_log.specs.Decisions.{learnt, next_decided}
 use Rattle.slot_log.specs.Advances.{advanced}
 use Rattle.world.specs.declared.event.Event.{Event}
-use Rattle.world.specs.Objects.{Rules, is_one}
-use Rattle.world.specs.Histories.{history}
-use Rattle.world.specs.Kept.{IsPerformed}
-use Rattle.world.specs.Nodes.{NodeState, Cluster, node, turned}
+use Rattle.object.specs.Objects.{Rules, is_one}
+use Rattle.node.specs.Histories.{history}
+use Rattle.node.specs.Kept.{IsPerformed}
+use Rattle.node.specs.Nodes.{NodeState}
+use Rattle.world.specs.Nodes.{Cluster, node, turned}
 use Rattle.world.specs.Worlds.{World}
-use Rattle.world.specs.Steps.{Receives, promises_ballot, accepts_pvalue, hears_promise, hears_vote, hears_proposal, learns, tells_decisions, said_again, Step, submit, deliver, wake, nudge, propose, perform, restart, performed as performed_by}
+use Rattle.node.specs.Receiving.{Receives, promises_ballot, accepts_pvalue, hears_promise, hears_vote, hears_proposal, learns, tells_decisions}
+use Rattle.node.specs.Deeds.{said_again}
+use Rattle.world.specs.Steps.{Step, submit, deliver, wake, nudge, propose, perform, restart, performed as performed_by}
 use Rattle.world.specs.Chosen.{IsChosen, IsChosenFrom}
-use Rattle.world.specs.Legal.{IsBeginning}
 use Rattle.world.specs.Reached.{IsRun}
-use Rattle.world.proofs.Lists.{Each-at, In-get}
-use Rattle.world.proofs.Maps.{get_insert_cases}
-use Rattle.world.proofs.Orders.{BallotLaws}
+use Rattle.object.specs.ListLaws.{Each-at, In-get}
+use Rattle.node.specs.SlotLaws.{get_insert_cases}
+use Rattle.ballot.specs.OrderLaws.{BallotLaws}
 use Rattle.world.proofs.Invariants.{IsFair, IsSound, agree}
 use Rattle.world.proofs.Grows.{Grows, chosen_stays}
 use Rattle.world.proofs.Turns.{here, there}

@@ -8,13 +8,14 @@ use Rattle.object.specs.Lists.{In}
 use Rattle.object.specs.Replays.{is_new, kept_after}
 use Rattle.object.specs.declared.command.Command.{Command}
 use Rattle.object.specs.declared.command.Key.{Key}
-use Rattle.world.specs.Worlds.{World, same_key}
+use Rattle.world.specs.Worlds.{World}
+use Rattle.object.specs.Keys.{same_key}
 use Rattle.world.specs.Reached.{HasKey, IsPlaced}
 use Rattle.world.specs.Kept.{HasNoted}
-use Rattle.world.proofs.Orders.{BallotLaws}
+use Rattle.ballot.specs.OrderLaws.{BallotLaws}
 use Rattle.world.proofs.Invariants.{IsSound}
 use Rattle.world.proofs.Performed.{same_run}
-use Rattle.world.proofs.Replays.{is_before}
+use Rattle.object.specs.ReplayLaws.{is_before}
 use Rattle.world.proofs.Rising.{kept_new}
 use Rattle.world.proofs.Timeline.{key_itself}
 

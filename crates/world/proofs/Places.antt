@@ -6,9 +6,10 @@ use Rattle.std.proofs.lemmas.List.FromFn.{map-range_with_len_more}
 use Rattle.std.proofs.lemmas.Option.{slice_get-get_or}
 use Rattle.std.proofs.lemmas.List.{get_or-set_same, get_or-set_other, get_or_default}
 use Rattle.ballot.specs.declared.letter.Letter.{Letter}
-use Rattle.world.specs.Nodes.{NodeState, Cluster, new_node, new_cluster, node_in, put}
-use Rattle.world.specs.Steps.{Receives}
-use Rattle.world.specs.Showing.{HasNode, Received}
+use Rattle.node.specs.Nodes.{NodeState, new_node, node_in, put}
+use Rattle.world.specs.Nodes.{Cluster, new_cluster}
+use Rattle.node.specs.Receiving.{Receives, Received}
+use Rattle.world.specs.Showing.{HasNode}
 use Rattle.world.specs.Kept.{Delivered}
 use Rattle.world.proofs.Sets.{member_bounds}
 

@@ -7,14 +7,15 @@ use Rattle.ballot.specs.Members.{is_member}
 use Rattle.slot_log.specs.Advances.{advanced}
 use Rattle.slot_log.specs.Decisions.{next_decided}
 use Rattle.world.specs.declared.event.Event.{Event}
-use Rattle.world.specs.Objects.{Rules, is_one}
-use Rattle.world.specs.Nodes.{NodeState, Cluster, new_node, new_cluster, node, node_in}
+use Rattle.object.specs.Objects.{Rules, is_one}
+use Rattle.node.specs.Nodes.{NodeState, new_node, node_in}
+use Rattle.world.specs.Nodes.{Cluster, new_cluster, node}
 use Rattle.world.specs.Worlds.{World, opening}
 use Rattle.world.specs.Steps.{Step, submit, deliver, wake, nudge, propose, perform, restart, performed}
 use Rattle.world.specs.Runs.{Leads, at_once, after, IsReachable}
-use Rattle.world.proofs.Lists.{Each-at, In-get}
-use Rattle.world.proofs.Maps.{none_in_empty}
-use Rattle.world.proofs.Orders.{BallotLaws}
+use Rattle.object.specs.ListLaws.{Each-at, In-get}
+use Rattle.node.specs.SlotLaws.{none_in_empty}
+use Rattle.ballot.specs.OrderLaws.{BallotLaws}
 use Rattle.world.proofs.Invariants.{IsFair, IsNode, IsSound}
 use Rattle.world.proofs.Grows.{grows_itself, grows_trans}
 use Rattle.world.proofs.Turns.{Kept}

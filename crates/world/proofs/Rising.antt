@@ -5,8 +5,8 @@ use Rattle.std.proofs.lemmas.Bool.Decides.{nat_tests}
 use Rattle.object.specs.Lists.{In}
 use Rattle.object.specs.Replays.{is_new, kept_after, kept}
 use Rattle.object.specs.declared.command.Command.{Command}
-use Rattle.world.specs.Legal.{IsRising}
-use Rattle.world.proofs.Replays.{is_before}
+use Rattle.object.specs.Legal.{IsRising}
+use Rattle.object.specs.ReplayLaws.{is_before}
 
 -- a kept command came, and is new after what was seen
 pub kept_new : {Op : Type 0} (seen cs : List (Command Op)) (d : Command Op) → In d (kept_after seen cs) → In d cs × (is_new d seen ≡ true)

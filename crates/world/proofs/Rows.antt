@@ -20,13 +20,16 @@ use Rattle.slot_log.specs.Proposals.{next_proposal, proposed, proposed_next}
 use Rattle.slot_log.specs.Requests.{is_known, requested}
 use Rattle.slot_log.specs.Decisions.{learnt, decided_from}
 use Rattle.replica.specs.Replicas.{asks_for, tells, proposes_again, asks_others, nudges}
-use Rattle.world.specs.Nodes.{NodeState, Cluster, node, turned, restarted}
-use Rattle.world.specs.Steps.{replica_turn, Receives, promises_ballot, accepts_pvalue, hears_promise, hears_vote, hears_proposal, learns, tells_decisions, said_again}
+use Rattle.node.specs.Nodes.{NodeState, restarted}
+use Rattle.world.specs.Nodes.{Cluster, node, turned}
+use Rattle.world.specs.Steps.{replica_turn}
+use Rattle.node.specs.Receiving.{Receives, promises_ballot, accepts_pvalue, hears_promise, hears_vote, hears_proposal, learns, tells_decisions}
+use Rattle.node.specs.Deeds.{said_again}
 use Rattle.world.specs.Chosen.{IsChosen}
-use Rattle.world.proofs.Lists.{Each, Each-at, Each-append, Each-weaker, Each-map, Each-all, Each-filter, Each-from, In-left, In-right, In-cases}
-use Rattle.world.proofs.Orders.{BallotLaws, IsUpto, IsUnder, below_upto, upto_trans, same_itself}
+use Rattle.object.specs.ListLaws.{Each, Each-at, Each-append, Each-weaker, Each-map, Each-all, Each-filter, Each-from, In-left, In-right, In-cases}
+use Rattle.ballot.specs.OrderLaws.{BallotLaws, IsUpto, IsUnder, below_upto, upto_trans, same_itself}
 use Rattle.world.proofs.Sets.{numbers_members}
-use Rattle.world.proofs.Maps.{get_insert_cases, none_in_empty, entries_get}
+use Rattle.node.specs.SlotLaws.{get_insert_cases, none_in_empty, entries_get}
 use Rattle.world.proofs.Invariants.{Asked, IsTrueOf, IsFair, IsOwned, IsAcceptor, IsSound}
 use Rattle.world.proofs.Grows.{AcceptorGrows, Grows, stays, asked_stays, acceptor_stays, leader_stays, chosen_stays}
 use Rattle.world.proofs.Turns.{IsOwn, here, turn_sound, Kept}

@@ -7,15 +7,18 @@ use Rattle.leader.specs.Leaders.{pvalue}
 use Rattle.slot_log.specs.Decisions.{next_decided}
 use Rattle.ballot.specs.Members.{is_member}
 use Rattle.world.specs.declared.event.Event.{Event}
-use Rattle.world.specs.Objects.{Rules, is_one}
-use Rattle.world.specs.Nodes.{NodeState, new_node, new_cluster, node}
-use Rattle.world.specs.Worlds.{Happenings, World, same_key, is_submitted, with_submission, opening}
+use Rattle.object.specs.Objects.{Rules, is_one}
+use Rattle.node.specs.Nodes.{NodeState, new_node}
+use Rattle.world.specs.Nodes.{new_cluster, node}
+use Rattle.object.specs.Happenings.{Happenings, is_submitted, with_submission}
+use Rattle.world.specs.Worlds.{World, opening}
+use Rattle.object.specs.Keys.{same_key}
 use Rattle.world.specs.Steps.{Step, IsItsOwn, submit, deliver, wake, nudge, propose, perform, restart, performed}
 use Rattle.world.specs.Runs.{Leads, at_once, after}
 use Rattle.world.specs.Chosen.{IsChosen}
-use Rattle.world.specs.Legal.{WasSubmitted, GoesOn}
-use Rattle.world.proofs.Lists.{Each-at, In-get, In-left, In-right}
-use Rattle.world.proofs.Orders.{BallotLaws}
+use Rattle.object.specs.Legal.{WasSubmitted, GoesOn}
+use Rattle.object.specs.ListLaws.{Each-at, In-get, In-left, In-right}
+use Rattle.ballot.specs.OrderLaws.{BallotLaws}
 use Rattle.world.proofs.Invariants.{IsFair, IsSound}
 use Rattle.world.proofs.Reach.{leads_sound, opening_sound, opened_at}
 use Rattle.world.proofs.Origins.{Of, OfNode, OfBody, empty_at, asked_of, wake_of, nudge_of, proposes_of, submit_of, perform_of, receive_of, restart_of}

@@ -10,15 +10,17 @@ use Rattle.object.specs.declared.command.Key.{Key}
 use Rattle.object.specs.declared.command.Submission.{Submission}
 use Rattle.slot_log.specs.Decisions.{next_decided}
 use Rattle.world.specs.declared.event.Event.{Event}
-use Rattle.world.specs.Objects.{Rules}
-use Rattle.world.specs.Histories.{history, answers_after}
+use Rattle.object.specs.Objects.{Rules}
+use Rattle.node.specs.Histories.{history}
+use Rattle.object.specs.Obeying.{answers_after}
 use Rattle.world.specs.Nodes.{node}
-use Rattle.world.specs.Worlds.{Happenings, World, same_key, is_submitted, with_submission, with_answers, opening}
+use Rattle.object.specs.Happenings.{Happenings, is_submitted, with_submission, with_answers, SubmittedOnce, ComeInOrder, IsTimeline}
+use Rattle.world.specs.Worlds.{World, opening}
+use Rattle.object.specs.Keys.{same_key}
 use Rattle.world.specs.Steps.{Step, submit, deliver, wake, nudge, propose, perform, restart, performed}
 use Rattle.world.specs.Runs.{Leads, at_once, after, IsReachable}
-use Rattle.world.specs.Legal.{SubmittedOnce, ComeInOrder, IsTimeline}
-use Rattle.world.proofs.Lists.{In-cases}
-use Rattle.world.proofs.Orders.{not_both}
+use Rattle.object.specs.ListLaws.{In-cases}
+use Rattle.ballot.specs.OrderLaws.{not_both}
 use Rattle.world.proofs.Deciding.{any_from}
 
 pub key_itself : (a b : Key) → a ≡ b → same_key a b ≡ true

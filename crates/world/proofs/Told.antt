@@ -16,23 +16,28 @@ use Rattle.slot_log.specs.Proposals.{next_proposal, proposed}
 use Rattle.slot_log.specs.Decisions.{next_decided}
 use Rattle.ballot.specs.Members.{is_member}
 use Rattle.world.specs.declared.event.Event.{Event}
-use Rattle.world.specs.Objects.{Rules, is_one}
-use Rattle.world.specs.Histories.{history, answers_after}
-use Rattle.world.specs.Nodes.{NodeState, Cluster, node, turned}
-use Rattle.world.specs.Worlds.{World, is_submitted, with_submission, opening}
-use Rattle.world.specs.Steps.{Receives, promises_ballot, accepts_pvalue, hears_promise, hears_vote, hears_proposal, learns, tells_decisions, said_again, Step, submit, deliver, wake, nudge, propose, perform, restart, performed}
+use Rattle.object.specs.Objects.{Rules, is_one, replay_of}
+use Rattle.node.specs.Histories.{history}
+use Rattle.object.specs.Obeying.{answers_after}
+use Rattle.node.specs.Nodes.{NodeState}
+use Rattle.world.specs.Nodes.{Cluster, node, turned}
+use Rattle.world.specs.Worlds.{World, opening}
+use Rattle.object.specs.Happenings.{is_submitted, with_submission}
+use Rattle.node.specs.Receiving.{Receives, promises_ballot, accepts_pvalue, hears_promise, hears_vote, hears_proposal, learns, tells_decisions}
+use Rattle.node.specs.Deeds.{said_again}
+use Rattle.world.specs.Steps.{Step, submit, deliver, wake, nudge, propose, perform, restart, performed}
 use Rattle.world.specs.Runs.{Leads, at_once, after, IsReachable, IsWorld}
 use Rattle.world.specs.Chosen.{IsChosen}
-use Rattle.world.specs.Legal.{IsGivenAt, replay_of}
+use Rattle.object.specs.Legal.{IsGivenAt}
 use Rattle.world.specs.Reached.{IsRun, IsReached}
 use Rattle.world.specs.Told.{IsTold, IsAnswered}
-use Rattle.world.proofs.Lists.{Each-at, In-get, In-left, In-right, In-cases}
-use Rattle.world.proofs.Orders.{BallotLaws}
+use Rattle.object.specs.ListLaws.{Each-at, In-get, In-left, In-right, In-cases}
+use Rattle.ballot.specs.OrderLaws.{BallotLaws}
 use Rattle.world.proofs.Invariants.{IsFair, IsSound}
 use Rattle.world.proofs.Grows.{Grows}
 use Rattle.world.proofs.Reach.{opened_at, opening_sound, leads_sound, step_sound}
-use Rattle.world.proofs.Replays.{noted_at, kept-push_new, kept-push_old, replay-append}
-use Rattle.world.proofs.Histories.{answers_new}
+use Rattle.object.specs.ReplayLaws.{noted_at, kept-push_new, kept-push_old, replay-append}
+use Rattle.object.specs.FilterLaws.{answers_new}
 use Rattle.world.proofs.Performed.{run_stays, run_push, same_run, AllPerformed, history_run, turn_all}
 use Rattle.world.proofs.Answered.{leads_traced, reachable_reached, reached_beginning}
 

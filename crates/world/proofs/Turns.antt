@@ -10,11 +10,12 @@ use Rattle.ballot.specs.declared.letter.Body.{Body}
 use Rattle.ballot.specs.declared.letter.Letter.{Letter}
 use Rattle.ballot.specs.declared.letter.Body.TheVariants.{P2a}
 use Rattle.leader.specs.Leaders.{Leading}
-use Rattle.world.specs.Nodes.{NodeState, Cluster, node, turned}
-use Rattle.world.proofs.Lists.{Each, Each-at, Each-append, Each-weaker, In-left, In-cases}
+use Rattle.node.specs.Nodes.{NodeState}
+use Rattle.world.specs.Nodes.{Cluster, node, turned}
+use Rattle.object.specs.ListLaws.{Each, Each-at, Each-append, Each-weaker, In-left, In-cases}
 use Rattle.world.proofs.Places.{node_put_same, node_put_other, length-put}
 use Rattle.world.proofs.Sets.{member_bounds}
-use Rattle.world.proofs.Orders.{BallotLaws}
+use Rattle.ballot.specs.OrderLaws.{BallotLaws}
 use Rattle.world.proofs.Invariants.{Asked, IsSafe, IsOwned, IsFair, IsNode, IsSound}
 use Rattle.world.proofs.Grows.{AcceptorGrows, Grows, stays, safe_stays, fair_stays, node_stays}
 

@@ -8,14 +8,15 @@ use Rattle.object.specs.declared.command.Command.{Command}
 use Rattle.object.specs.Replays.{is_new, kept}
 use Rattle.ballot.specs.Members.{is_majority}
 use Rattle.ballot.specs.declared.pvalue.Pvalue.{Pvalue}
-use Rattle.world.specs.Nodes.{NodeState, Cluster, node, new_node}
+use Rattle.node.specs.Nodes.{NodeState, new_node}
+use Rattle.world.specs.Nodes.{Cluster, node}
 use Rattle.world.specs.Chosen.{IsChosen, IsChosenFrom}
 use Rattle.world.specs.Reached.{IsRun}
 use Rattle.world.specs.Voters.{is_voted, HasVoted, HasNoneVoted}
-use Rattle.world.proofs.Lists.{In-cases}
-use Rattle.world.proofs.Orders.{BallotLaws}
+use Rattle.object.specs.ListLaws.{In-cases}
+use Rattle.ballot.specs.OrderLaws.{BallotLaws}
 use Rattle.world.proofs.Invariants.{IsSound}
-use Rattle.world.proofs.Replays.{kept-push_new, kept-push_old}
+use Rattle.object.specs.ReplayLaws.{kept-push_new, kept-push_old}
 use Rattle.world.proofs.Performed.{run_push}
 use Rattle.world.proofs.Deciding.{majority_more, chosen_by_row, none_by_rows}
 

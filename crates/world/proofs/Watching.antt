@@ -10,9 +10,8 @@ use Rattle.ballot.specs.declared.letter.Letter.{Letter}
 use Rattle.acceptor.specs.Acceptors.{Keeps}
 use Rattle.slot_log.specs.Books.{SlotBook}
 use Rattle.slot_log.specs.Decisions.{next_decided}
-use Rattle.world.specs.Nodes.{NodeState}
-use Rattle.world.specs.Steps.{Receives, promises_ballot, accepts_pvalue, hears_promise, hears_vote, hears_proposal, learns, tells_decisions}
-use Rattle.world.specs.Showing.{ShowsNode, Received, ShowsReceived}
+use Rattle.node.specs.Nodes.{NodeState}
+use Rattle.node.specs.Receiving.{Receives, promises_ballot, accepts_pvalue, hears_promise, hears_vote, hears_proposal, learns, tells_decisions, ShowsNode, Received, ShowsReceived}
 use Rattle.world.specs.Kept.{with_accepted, accepts_of}
 
 accepted_if : {C : Type 0} (all : List (Pvalue C)) (p : Pvalue C) (test : Bool) → cond test (all ++ (p ∷ [])) all ≡ all ++ option_to_list (cond test (Some p) None)

@@ -11,11 +11,13 @@ use Rattle.ballot.specs.declared.letter.Letter.{Letter}
 use Rattle.ballot.specs.declared.pvalue.Pvalue.{Pvalue}
 use Rattle.acceptor.specs.Acceptors.{Acceptances}
 use Rattle.slot_log.specs.Books.{SlotBook}
-use Rattle.world.specs.Objects.{Rules}
-use Rattle.world.specs.Histories.{history, obeyed}
-use Rattle.world.specs.Nodes.{NodeState, Cluster, node, turned}
+use Rattle.object.specs.Objects.{Rules}
+use Rattle.node.specs.Histories.{history}
+use Rattle.object.specs.Obeying.{obeyed}
+use Rattle.node.specs.Nodes.{NodeState}
+use Rattle.world.specs.Nodes.{Cluster, node, turned}
 use Rattle.world.specs.Worlds.{World}
-use Rattle.world.specs.Steps.{Receives}
+use Rattle.node.specs.Receiving.{Receives}
 use Rattle.world.specs.Runs.{IsWorld}
 use Rattle.world.specs.Reached.{IsReached}
 

@@ -1,11 +1,12 @@
 -- A world has one order, for which its happenings are legal, and a later world goes on from an earlier one.
 use Rattle.std.specs.Prelude.{◌≡◌, List}
 use Rattle.object.specs.declared.command.Command.{Command}
-use Rattle.world.specs.Objects.{Rules}
+use Rattle.object.specs.Objects.{Rules}
 use Rattle.world.specs.Nodes.{Cluster}
 use Rattle.world.specs.Worlds.{World}
 use Rattle.world.specs.Chosen.{IsOrder}
-use Rattle.world.specs.Legal.{IsBeginning, GoesOn, IsLegal}
+use Rattle.object.specs.Lists.{IsBeginning}
+use Rattle.object.specs.Legal.{GoesOn, IsLegal}
 
 -- there is an order and no other, and the happenings are legal for it
 pub record HasOneOrder {O Op Reply : Type 0} (rules : Rules O Op Reply) (w : World Op Reply) : Type 0 where

@@ -9,7 +9,8 @@ use Rattle.world.specs.declared.event.Event.{Event}
 use Rattle.world.specs.declared.event.Event.TheVariants.{Submit, Deliver, Wake, Nudge, Propose, Perform, Restart}
 use Rattle.world.specs.declared.error.WorldError.{WorldError}
 use Rattle.world.specs.declared.error.WorldError.TheVariants.{OutOfMemory, NoSuchNode, NoSuchLetter, BadNumber, Full}
-use Rattle.world.specs.Worlds.{World, same_key}
+use Rattle.world.specs.Worlds.{World}
+use Rattle.object.specs.Keys.{same_key}
 
 -- the node that the event is at is a member
 abbrev pub is_at_member : {Op : Type 0} → List ℕ → Event Op → Bool

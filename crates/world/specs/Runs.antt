@@ -1,7 +1,7 @@
 -- Lists of events, and the worlds that they reach.
 use Rattle.std.specs.Prelude.{◌≤◌, List, [], ◌∷◌, ◌++◌}
 use Rattle.world.specs.declared.event.Event.{Event}
-use Rattle.world.specs.Objects.{Rules}
+use Rattle.object.specs.Objects.{Rules}
 use Rattle.world.specs.Worlds.{World, opening}
 use Rattle.world.specs.Steps.{Step}
 use Rattle.world.specs.Refusals.{most_events}

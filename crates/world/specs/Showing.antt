@@ -7,8 +7,9 @@ use Rattle.ballot.specs.declared.letter.Body.{Body}
 use Rattle.ballot.specs.declared.letter.Body.TheVariants.{P1a, P1b, P2a, P2b, Propose, Decision, Ask}
 use Rattle.ballot.specs.declared.letter.Letter.{Letter}
 use Rattle.acceptor.specs.Acceptors.{Keeps}
-use Rattle.world.specs.Nodes.{NodeState, Cluster, node}
-use Rattle.world.specs.Steps.{Receives}
+use Rattle.node.specs.Nodes.{NodeState}
+use Rattle.world.specs.Nodes.{Cluster, node}
+use Rattle.node.specs.Receiving.{Receives}
 
 -- x is the node of this number among these members
 pub record IsSeated {C : Type 0} (members : List ℕ) (n : ℕ) (x : NodeState C) : Type 0 where

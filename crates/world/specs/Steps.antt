@@ -24,10 +24,14 @@ use Rattle.slot_log.specs.Proposals.{next_proposal, proposed_next}
 use Rattle.slot_log.specs.Decisions.{learnt, next_decided}
 use Rattle.slot_log.specs.Advances.{advanced}
 use Rattle.replica.specs.Replicas.{asks_for, tells, nudges}
-use Rattle.world.specs.Objects.{Rules, is_one}
-use Rattle.world.specs.Histories.{history, answers_after}
-use Rattle.world.specs.Nodes.{NodeState, Cluster, node, turned, restarted}
-use Rattle.world.specs.Worlds.{World, same_key, with_submission, with_answers}
+use Rattle.object.specs.Objects.{Rules, is_one}
+use Rattle.node.specs.Histories.{history}
+use Rattle.object.specs.Obeying.{answers_after}
+use Rattle.node.specs.Nodes.{NodeState, restarted}
+use Rattle.world.specs.Nodes.{Cluster, node, turned}
+use Rattle.world.specs.Worlds.{World}
+use Rattle.object.specs.Keys.{same_key}
+use Rattle.object.specs.Happenings.{with_submission, with_answers}
 use Rattle.world.specs.declared.event.Event.{Event}
 use Rattle.world.specs.declared.event.Event.TheVariants.{Submit, Deliver, Wake, Nudge, Propose as ProposeNext, Perform, Restart}
 

@@ -1,13 +1,13 @@
 -- What was performed is answered: what a replay answers to the commands of the slots up to the reach has been given.
 use Rattle.std.specs.Prelude.{ℕ, List}
-use Rattle.object.specs.Lists.{In}
+use Rattle.object.specs.Lists.{In, IsBeginning}
 use Rattle.object.specs.Replays.{kept}
 use Rattle.object.specs.declared.command.Answer.{Answer}
 use Rattle.object.specs.declared.command.Command.{Command}
-use Rattle.world.specs.Objects.{Rules}
+use Rattle.object.specs.Objects.{Rules}
 use Rattle.world.specs.Worlds.{World}
 use Rattle.world.specs.Chosen.{IsOrder}
-use Rattle.world.specs.Legal.{IsBeginning, IsGivenAt}
+use Rattle.object.specs.Legal.{IsGivenAt}
 use Rattle.world.specs.Reached.{IsReached}
 
 -- each slot up to the reach has a chosen command

@@ -5,7 +5,8 @@ use Rattle.object.specs.Lists.{In}
 use Rattle.ballot.specs.Ballots.{Numbers, is_same}
 use Rattle.ballot.specs.Members.{is_majority}
 use Rattle.ballot.specs.declared.pvalue.Pvalue.{Pvalue}
-use Rattle.world.specs.Nodes.{NodeState, Cluster}
+use Rattle.node.specs.Nodes.{NodeState}
+use Rattle.world.specs.Nodes.{Cluster}
 
 -- the pvalue stands under this ballot and slot
 abbrev pub is_at : {C : Type 0} → Numbers → ℕ → Pvalue C → Bool

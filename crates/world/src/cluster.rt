@@ -10,11 +10,14 @@ ghost use Rattle.slot_log.specs.Proposals.{next_proposal, proposed_next};
 ghost use Rattle.slot_log.specs.Decisions.{next_decided};
 ghost use Rattle.slot_log.specs.Advances.{advanced};
 ghost use Rattle.replica.specs.Replicas.{asks_for};
-ghost use Rattle.world.specs.Objects.{rules_of};
-ghost use Rattle.world.specs.Histories.{history, answers_after};
-ghost use Rattle.world.specs.Nodes.{new_cluster, node, turned, restarted};
-ghost use Rattle.world.specs.Steps.{leader_turn, replica_turn, said_again};
-ghost use Rattle.world.specs.Showing.{HasNode, IsFit};
+ghost use Rattle.node.specs.Histories.{history};
+ghost use Rattle.object.specs.Obeying.{answers_after};
+ghost use Rattle.world.specs.Nodes.{new_cluster, node, turned};
+ghost use Rattle.node.specs.Nodes.{restarted};
+ghost use Rattle.world.specs.Steps.{leader_turn, replica_turn};
+ghost use Rattle.node.specs.Deeds.{said_again};
+ghost use Rattle.world.specs.Showing.{HasNode};
+ghost use Rattle.node.specs.Receiving.{IsFit};
 ghost use Rattle.world.specs.Kept.{Delivered};
 
 use crate::receiving::Way;
@@ -96,7 +99,7 @@ impl<O: Object> Cluster<O> {
         ensures done { IfOk result (λ done. done ≡ option_map (λ c. ((node self.old id).replica.slot_out, c.key)) (next_decided (node self.old id).replica)) }
         ensures idle { OnOk result (next_decided (node self.old id).replica ≡ None → (self.new ≡ self.old) × (out.new.items ≡ out.old.items)) }
         ensures state { OnOk result ((c : Command O.Op) → next_decided (node self.old id).replica ≡ Some c → self.new ≡ replica_turn self.old id (advanced (same_commands O.Op.eq) (node self.old id).replica) []) }
-        ensures out { OnOk result ((c : Command O.Op) → next_decided (node self.old id).replica ≡ Some c → out.new.items ≡ out.old.items ++ answers_after (rules_of O.fresh O.after O.answers O.Op.eq) (history (node self.old id).replica) c) }
+        ensures out { OnOk result ((c : Command O.Op) → next_decided (node self.old id).replica ≡ Some c → out.new.items ≡ out.old.items ++ answers_after O.rules (history (node self.old id).replica) c) }
         ensures err { OnErr result ((self.new ≡ self.old) × (out.new.items ≡ out.old.items)) }
     {
         let done = self.nodes[usize::from(id - 1)].perform(out)?;

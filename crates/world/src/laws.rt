@@ -3,8 +3,7 @@ ghost use Rattle.std.specs.FinMap.{get};
 ghost use Rattle.object.specs.declared.command.Command.{Command};
 ghost use Rattle.ballot.specs.Members.{is_member};
 ghost use Rattle.ballot.specs.declared.letter.Letter.{Letter};
-ghost use Rattle.world.specs.Laws.{BallotLaws};
-ghost use Rattle.world.specs.Objects.{rules_of};
+ghost use Rattle.ballot.specs.BallotLaws.{BallotLaws};
 ghost use Rattle.world.specs.Nodes.{node};
 ghost use Rattle.world.specs.Worlds.{opening};
 ghost use Rattle.world.specs.Refusals.{most_events};
@@ -32,19 +31,19 @@ pub(crate) fn ballot_laws()
 /// most at the slot after the reach, and what it knows to be decided is chosen (`reach`, `decided`); and what
 /// `World::step` says of it (`chooses_one` and those below).
 pub fn every_world<O: Object>()
-    ensures opening { (members : List ℕ) → IsWorld (rules_of O.fresh O.after O.answers O.Op.eq) (opening members) }
-    ensures next { AfterEach (rules_of O.fresh O.after O.answers O.Op.eq) (λ w v. w.taken < most_events → IsWorld (rules_of O.fresh O.after O.answers O.Op.eq) v) }
-    ensures nodes { InEvery (rules_of O.fresh O.after O.answers O.Op.eq) (λ w. (n : ℕ) → is_member w.cluster.members n ≡ true → HasNode n w.cluster) }
-    ensures boots { InEvery (rules_of O.fresh O.after O.answers O.Op.eq) (λ w. (n : ℕ) → w.taken < most_events → (node w.cluster n).boot < 2 ^ 62) }
-    ensures letters { InEvery (rules_of O.fresh O.after O.answers O.Op.eq) (λ w. (i : ℕ) (l : Letter (Command O.Op)) → slice_get w.cluster.letters i ≡ Some l → IsReceivable w.cluster l) }
-    ensures reach { InEvery (rules_of O.fresh O.after O.answers O.Op.eq) (λ w. (n : ℕ) → (node w.cluster n).replica.slot_out ≤ w.reach + 1) }
-    ensures decided { InEvery (rules_of O.fresh O.after O.answers O.Op.eq) (λ w. (n s : ℕ) (c : Command O.Op) → get (node w.cluster n).replica.decisions s ≡ Some c → IsChosen w.cluster s c) }
-    ensures chooses_one { InEvery (rules_of O.fresh O.after O.answers O.Op.eq) (λ w. ChoosesOne w.cluster) }
-    ensures stays { AfterEach (rules_of O.fresh O.after O.answers O.Op.eq) (λ w v. StaysChosen w.cluster v.cluster) }
-    ensures one_order { InEvery (rules_of O.fresh O.after O.answers O.Op.eq) (HasOneOrder (rules_of O.fresh O.after O.answers O.Op.eq)) }
-    ensures promised { InEvery (rules_of O.fresh O.after O.answers O.Op.eq) (λ w. KeepsPromise O.promise w.cluster) }
-    ensures answered { InEvery (rules_of O.fresh O.after O.answers O.Op.eq) (IsAnswered (rules_of O.fresh O.after O.answers O.Op.eq)) }
-    ensures later { AfterEach (rules_of O.fresh O.after O.answers O.Op.eq) IsLater }
+    ensures opening { (members : List ℕ) → IsWorld O.rules (opening members) }
+    ensures next { AfterEach O.rules (λ w v. w.taken < most_events → IsWorld O.rules v) }
+    ensures nodes { InEvery O.rules (λ w. (n : ℕ) → is_member w.cluster.members n ≡ true → HasNode n w.cluster) }
+    ensures boots { InEvery O.rules (λ w. (n : ℕ) → w.taken < most_events → (node w.cluster n).boot < 2 ^ 62) }
+    ensures letters { InEvery O.rules (λ w. (i : ℕ) (l : Letter (Command O.Op)) → slice_get w.cluster.letters i ≡ Some l → IsReceivable w.cluster l) }
+    ensures reach { InEvery O.rules (λ w. (n : ℕ) → (node w.cluster n).replica.slot_out ≤ w.reach + 1) }
+    ensures decided { InEvery O.rules (λ w. (n s : ℕ) (c : Command O.Op) → get (node w.cluster n).replica.decisions s ≡ Some c → IsChosen w.cluster s c) }
+    ensures chooses_one { InEvery O.rules (λ w. ChoosesOne w.cluster) }
+    ensures stays { AfterEach O.rules (λ w v. StaysChosen w.cluster v.cluster) }
+    ensures one_order { InEvery O.rules (HasOneOrder O.rules) }
+    ensures promised { InEvery O.rules (λ w. KeepsPromise O.promise w.cluster) }
+    ensures answered { InEvery O.rules (IsAnswered O.rules) }
+    ensures later { AfterEach O.rules IsLater }
 {
     ballot_laws();
     O::keeps_promise();

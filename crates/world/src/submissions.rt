@@ -1,7 +1,8 @@
 ghost use Rattle.std.specs.Prelude.{◌≡◌, ◌<◌, ◌++◌, ◌&&◌, not, None, Some, IfOk, if◌then◌else◌, vec_len, vec_capacity};
 ghost use Rattle.std.specs.Option.{option_to_list};
 ghost use Rattle.object.specs.Commands.{same_acts};
-ghost use Rattle.world.specs.Worlds.{same_key, is_submitted};
+ghost use Rattle.object.specs.Keys.{same_key};
+ghost use Rattle.object.specs.Happenings.{is_submitted};
 ghost use Rattle.world.specs.Refusals.{has_other_act};
 
 use object::{Command, Key, Submission, Value};

@@ -10,11 +10,12 @@ ghost use Rattle.slot_log.specs.Proposals.{next_proposal, proposed_next};
 ghost use Rattle.slot_log.specs.Decisions.{next_decided};
 ghost use Rattle.slot_log.specs.Advances.{advanced};
 ghost use Rattle.replica.specs.Replicas.{asks_for};
-ghost use Rattle.world.specs.Objects.{rules_of};
-ghost use Rattle.world.specs.Histories.{history, answers_after};
-ghost use Rattle.world.specs.Nodes.{new_node, restarted};
-ghost use Rattle.world.specs.Steps.{led, said_again};
-ghost use Rattle.world.specs.Showing.{IsSeated, IsFit, Received};
+ghost use Rattle.node.specs.Histories.{history};
+ghost use Rattle.object.specs.Obeying.{answers_after};
+ghost use Rattle.node.specs.Nodes.{new_node, restarted};
+ghost use Rattle.node.specs.Deeds.{led, said_again};
+ghost use Rattle.world.specs.Showing.{IsSeated};
+ghost use Rattle.node.specs.Receiving.{IsFit, Received};
 ghost use Rattle.world.specs.Voters.{accepts};
 ghost use Rattle.world.specs.Kept.{accepts_of};
 
@@ -36,8 +37,8 @@ pub(crate) struct Watched<O: Object> {
 impl<O: Object> Model for Watched<O> {
     ghost use Rattle.std.specs.Coded.{codes};
     ghost use Rattle.slot_log.specs.Books.{slots_code};
-    ghost use Rattle.world.specs.Nodes.{NodeState};
-    ghost use Rattle.world.specs.Showing.{ShowsNode};
+    ghost use Rattle.node.specs.Nodes.{NodeState};
+    ghost use Rattle.node.specs.Receiving.{ShowsNode};
     ghost use Rattle.world.specs.Kept.{with_accepted};
     ghost use Rattle.object.specs.declared.command.Command.{Command};
 
@@ -137,7 +138,7 @@ impl<O: Object> Watched<O> {
         ensures done { IfOk result (λ done. done ≡ option_map (λ c. (self.old.replica.slot_out, c.key)) (next_decided self.old.replica)) }
         ensures idle { OnOk result (next_decided self.old.replica ≡ None → (self.new ≡ self.old) × (out.new.items ≡ out.old.items)) }
         ensures state { OnOk result ((c : Command O.Op) → next_decided self.old.replica ≡ Some c → self.new ≡ record self.old { replica = advanced (same_commands O.Op.eq) self.old.replica }) }
-        ensures out { OnOk result ((c : Command O.Op) → next_decided self.old.replica ≡ Some c → out.new.items ≡ out.old.items ++ answers_after (rules_of O.fresh O.after O.answers O.Op.eq) (history self.old.replica) c) }
+        ensures out { OnOk result ((c : Command O.Op) → next_decided self.old.replica ≡ Some c → out.new.items ≡ out.old.items ++ answers_after O.rules (history self.old.replica) c) }
         ensures err { OnErr result ((self.new ≡ self.old) × (out.new.items ≡ out.old.items)) }
     {
         let done = self.node.perform(out)?;

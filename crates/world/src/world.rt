@@ -1,7 +1,6 @@
 ghost use Rattle.std.specs.Prelude.{◌≡◌, ◌<◌, ◌⊎◌, length, take, None, Some, IfOk, IfErr, OnOk, OnErr};
 ghost use Rattle.world.specs.declared.error.WorldError.{WorldError};
 ghost use Rattle.world.specs.declared.error.WorldError.TheVariants.{OutOfMemory};
-ghost use Rattle.world.specs.Objects.{rules_of};
 ghost use Rattle.world.specs.Worlds.{opening};
 ghost use Rattle.world.specs.Steps.{Step};
 ghost use Rattle.world.specs.Runs.{Leads};
@@ -38,7 +37,6 @@ pub struct World<O: Object> {
 impl<O: Object> Model for World<O> {
     ghost use Rattle.std.specs.Coded.{codes};
     ghost use Rattle.slot_log.specs.Books.{slots_code};
-    ghost use Rattle.world.specs.Objects.{rules_of};
     ghost use Rattle.world.specs.Worlds.{World};
     ghost use Rattle.world.specs.Kept.{IsNoted};
 
@@ -53,7 +51,7 @@ impl<O: Object> Model for World<O> {
       taken = w.taken;
     } };
 
-    ghost invariant = { λ w. IsNoted (rules_of O.fresh O.after O.answers O.Op.eq) (record {
+    ghost invariant = { λ w. IsNoted O.rules (record {
       cluster = w.cluster;
       happenings = record { submitted = w.submitted.items; answers = w.answers.items };
       reach = w.reach;
@@ -65,9 +63,9 @@ impl<O: Object> World<O> {
     /// These members, to whom nothing happened yet.
     pub fn new(alloc: Global, members: Members) -> Result<World<O>, AllocError>
         ensures opening { IfOk result (λ w. w ≡ opening members) }
-        ensures one_order { IfOk result (HasOneOrder (rules_of O.fresh O.after O.answers O.Op.eq)) }
+        ensures one_order { IfOk result (HasOneOrder O.rules) }
         ensures promised { IfOk result (λ w. KeepsPromise O.promise w.cluster) }
-        ensures answered { IfOk result (IsAnswered (rules_of O.fresh O.after O.answers O.Op.eq)) }
+        ensures answered { IfOk result (IsAnswered O.rules) }
     {
         ballot_laws();
         let world = World {
@@ -86,7 +84,7 @@ impl<O: Object> World<O> {
     /// Takes one event. A refusal changes nothing; of several, the first in this order is told: no such node, no such
     /// letter, bad number, full, out of memory.
     pub fn step(&mut self, event: Event<O::Op>) -> Result<(), WorldError>
-        ensures ok { OnOk result (Step (rules_of O.fresh O.after O.answers O.Op.eq) self.old event self.new) }
+        ensures ok { OnOk result (Step O.rules self.old event self.new) }
         ensures err { OnErr result (self.new ≡ self.old) }
         ensures refused { (r : WorldError) → refusal O.Op.eq self.old event ≡ Some r → result ≡ Err r }
         ensures memory { refusal O.Op.eq self.old event ≡ None → IfErr result (λ r. r ≡ OutOfMemory) }
@@ -95,9 +93,9 @@ impl<O: Object> World<O> {
         ensures chooses_one { ChoosesOne self.new.cluster }
         ensures decides_chosen { DecidesChosen self.new.cluster }
         ensures stays { StaysChosen self.old.cluster self.new.cluster }
-        ensures one_order { HasOneOrder (rules_of O.fresh O.after O.answers O.Op.eq) self.new }
+        ensures one_order { HasOneOrder O.rules self.new }
         ensures promised { KeepsPromise O.promise self.new.cluster }
-        ensures answered { IsAnswered (rules_of O.fresh O.after O.answers O.Op.eq) self.new }
+        ensures answered { IsAnswered O.rules self.new }
         ensures later { IsLater self.old self.new }
     {
         let taken = self.take(event);
@@ -108,8 +106,8 @@ impl<O: Object> World<O> {
     /// Takes these events in turn, up to the first that is refused, and tells its place and the refusal. Those before it
     /// were taken.
     pub fn run(&mut self, events: &[Event<O::Op>]) -> Result<(), (usize, WorldError)>
-        ensures ok { OnOk result (Leads (rules_of O.fresh O.after O.answers O.Op.eq) self.old events.now self.new) }
-        ensures err { IfErr result (λ e. Leads (rules_of O.fresh O.after O.answers O.Op.eq) self.old (take e.0 events.now) self.new) }
+        ensures ok { OnOk result (Leads O.rules self.old events.now self.new) }
+        ensures err { IfErr result (λ e. Leads O.rules self.old (take e.0 events.now) self.new) }
         ensures place { IfErr result (λ e. e.0 < length events.now) }
         ensures refused { IfErr result (λ e. IsRefused O.Op.eq self.new events.now e.0 e.1) }
         ensures one_command { HasOneCommand self.new.cluster }
@@ -117,9 +115,9 @@ impl<O: Object> World<O> {
         ensures chooses_one { ChoosesOne self.new.cluster }
         ensures decides_chosen { DecidesChosen self.new.cluster }
         ensures stays { StaysChosen self.old.cluster self.new.cluster }
-        ensures one_order { HasOneOrder (rules_of O.fresh O.after O.answers O.Op.eq) self.new }
+        ensures one_order { HasOneOrder O.rules self.new }
         ensures promised { KeepsPromise O.promise self.new.cluster }
-        ensures answered { IsAnswered (rules_of O.fresh O.after O.answers O.Op.eq) self.new }
+        ensures answered { IsAnswered O.rules self.new }
         ensures later { IsLater self.old self.new }
     {
         let ran = self.take_all(events);
@@ -129,8 +127,8 @@ impl<O: Object> World<O> {
 
     // The same, but for what the new world agrees on.
     fn take_all(&mut self, events: &[Event<O::Op>]) -> Result<(), (usize, WorldError)>
-        ensures ok { OnOk result (Leads (rules_of O.fresh O.after O.answers O.Op.eq) self.old events.now self.new) }
-        ensures err { IfErr result (λ e. Leads (rules_of O.fresh O.after O.answers O.Op.eq) self.old (take e.0 events.now) self.new) }
+        ensures ok { OnOk result (Leads O.rules self.old events.now self.new) }
+        ensures err { IfErr result (λ e. Leads O.rules self.old (take e.0 events.now) self.new) }
         ensures place { IfErr result (λ e. e.0 < length events.now) }
         ensures refused { IfErr result (λ e. IsRefused O.Op.eq self.new events.now e.0 e.1) }
         ensures stays { StaysChosen self.old.cluster self.new.cluster }
@@ -148,7 +146,7 @@ impl<O: Object> World<O> {
 
     // Takes an event that stays where it is.
     fn take_copy(&mut self, event: &Event<O::Op>) -> Result<(), WorldError>
-        ensures ok { OnOk result (Step (rules_of O.fresh O.after O.answers O.Op.eq) self.old event.now self.new) }
+        ensures ok { OnOk result (Step O.rules self.old event.now self.new) }
         ensures err { OnErr result (self.new ≡ self.old) }
         ensures refused { IfErr result (λ r. (r ≡ OutOfMemory) ⊎ (refusal O.Op.eq self.old event.now ≡ Some r)) }
         ensures stays { StaysChosen self.old.cluster self.new.cluster }
@@ -162,7 +160,7 @@ impl<O: Object> World<O> {
 
     // The same, but for what the new world agrees on.
     fn take(&mut self, event: Event<O::Op>) -> Result<(), WorldError>
-        ensures ok { OnOk result (Step (rules_of O.fresh O.after O.answers O.Op.eq) self.old event self.new) }
+        ensures ok { OnOk result (Step O.rules self.old event self.new) }
         ensures err { OnErr result (self.new ≡ self.old) }
         ensures refused { (r : WorldError) → refusal O.Op.eq self.old event ≡ Some r → result ≡ Err r }
         ensures memory { refusal O.Op.eq self.old event ≡ None → IfErr result (λ r. r ≡ OutOfMemory) }
@@ -183,9 +181,9 @@ impl<O: Object> World<O> {
         ensures keeps_chosen { KeepsChosen self.now.cluster }
         ensures chooses_one { ChoosesOne self.now.cluster }
         ensures decides_chosen { DecidesChosen self.now.cluster }
-        ensures one_order { HasOneOrder (rules_of O.fresh O.after O.answers O.Op.eq) self.now }
+        ensures one_order { HasOneOrder O.rules self.now }
         ensures promised { KeepsPromise O.promise self.now.cluster }
-        ensures answered { IsAnswered (rules_of O.fresh O.after O.answers O.Op.eq) self.now }
+        ensures answered { IsAnswered O.rules self.now }
     {
         let _ = &self.alloc;
         ballot_laws();

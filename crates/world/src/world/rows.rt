@@ -3,7 +3,6 @@ ghost use Rattle.object.specs.declared.command.Key.{Key};
 ghost use Rattle.std.specs.Option.{option_map_or};
 ghost use Rattle.ballot.specs.Members.{is_member};
 ghost use Rattle.world.specs.declared.event.Event.TheVariants as events;
-ghost use Rattle.world.specs.Objects.{rules_of};
 ghost use Rattle.world.specs.Steps.{Step, IsItsOwn};
 ghost use Rattle.world.specs.Refusals.{most_events, IsAllowed};
 ghost use Rattle.world.specs.Kept.{key_past};
@@ -20,7 +19,7 @@ impl<O: Object> World<O> {
     // Takes an event that is allowed.
     pub(super) fn obey(&mut self, event: Event<O::Op>) -> Result<(), AllocError>
         requires { IsAllowed O.Op.eq self.old event }
-        ensures ok { OnOk result (Step (rules_of O.fresh O.after O.answers O.Op.eq) self.old event self.new) }
+        ensures ok { OnOk result (Step O.rules self.old event self.new) }
         ensures err { OnErr result (self.new ≡ self.old) }
     {
         match event {
@@ -38,7 +37,7 @@ impl<O: Object> World<O> {
     fn wake(&mut self, id: u8) -> Result<(), AllocError>
         requires member { is_member self.old.cluster.members id ≡ true }
         requires room { self.old.taken < most_events }
-        ensures ok { OnOk result (Step (rules_of O.fresh O.after O.answers O.Op.eq) self.old (events.Wake id) self.new) }
+        ensures ok { OnOk result (Step O.rules self.old (events.Wake id) self.new) }
         ensures err { OnErr result (self.new ≡ self.old) }
     {
         ballot_laws();
@@ -51,7 +50,7 @@ impl<O: Object> World<O> {
     fn nudge(&mut self, id: u8) -> Result<(), AllocError>
         requires member { is_member self.old.cluster.members id ≡ true }
         requires room { self.old.taken < most_events }
-        ensures ok { OnOk result (Step (rules_of O.fresh O.after O.answers O.Op.eq) self.old (events.Nudge id) self.new) }
+        ensures ok { OnOk result (Step O.rules self.old (events.Nudge id) self.new) }
         ensures err { OnErr result (self.new ≡ self.old) }
     {
         ballot_laws();
@@ -64,7 +63,7 @@ impl<O: Object> World<O> {
     fn propose(&mut self, id: u8) -> Result<(), AllocError>
         requires member { is_member self.old.cluster.members id ≡ true }
         requires room { self.old.taken < most_events }
-        ensures ok { OnOk result (Step (rules_of O.fresh O.after O.answers O.Op.eq) self.old (events.Propose id) self.new) }
+        ensures ok { OnOk result (Step O.rules self.old (events.Propose id) self.new) }
         ensures err { OnErr result (self.new ≡ self.old) }
     {
         ballot_laws();
@@ -77,7 +76,7 @@ impl<O: Object> World<O> {
     fn restart(&mut self, id: u8) -> Result<(), AllocError>
         requires member { is_member self.old.cluster.members id ≡ true }
         requires room { self.old.taken < most_events }
-        ensures ok { OnOk result (Step (rules_of O.fresh O.after O.answers O.Op.eq) self.old (events.Restart id) self.new) }
+        ensures ok { OnOk result (Step O.rules self.old (events.Restart id) self.new) }
         ensures err { OnErr result (self.new ≡ self.old) }
     {
         ballot_laws();
@@ -90,7 +89,7 @@ impl<O: Object> World<O> {
     fn perform(&mut self, id: u8) -> Result<(), AllocError>
         requires member { is_member self.old.cluster.members id ≡ true }
         requires room { self.old.taken < most_events }
-        ensures ok { OnOk result (Step (rules_of O.fresh O.after O.answers O.Op.eq) self.old (events.Perform id) self.new) }
+        ensures ok { OnOk result (Step O.rules self.old (events.Perform id) self.new) }
         ensures err { OnErr result (self.new ≡ self.old) }
     {
         ballot_laws();
@@ -106,7 +105,7 @@ impl<O: Object> World<O> {
     fn deliver(&mut self, index: usize) -> Result<(), AllocError>
         requires sent { index < length self.old.cluster.letters }
         requires room { self.old.taken < most_events }
-        ensures ok { OnOk result (Step (rules_of O.fresh O.after O.answers O.Op.eq) self.old (events.Deliver index) self.new) }
+        ensures ok { OnOk result (Step O.rules self.old (events.Deliver index) self.new) }
         ensures err { OnErr result (self.new ≡ self.old) }
     {
         ballot_laws();
@@ -120,7 +119,7 @@ impl<O: Object> World<O> {
         requires member { is_member self.old.cluster.members id ≡ true }
         requires own { IsItsOwn command self.old.happenings.submitted }
         requires room { self.old.taken < most_events }
-        ensures ok { OnOk result (Step (rules_of O.fresh O.after O.answers O.Op.eq) self.old (events.Submit id command) self.new) }
+        ensures ok { OnOk result (Step O.rules self.old (events.Submit id command) self.new) }
         ensures err { OnErr result (self.new ≡ self.old) }
     {
         ballot_laws();

@@ -1,8 +1,8 @@
 use Rattle.std.proofs.Common.{None, Some, sym, ap, subst, ◌∙◌, arith}
 use Rattle.std.specs.Prelude.{is_some}
 use Rattle.std.proofs.lemmas.Option.{none-some}
-use Rattle.world.specs.Nodes.{NodeState}
-use Rattle.world.specs.Showing.{IsFit}
+use Rattle.node.specs.Nodes.{NodeState}
+use Rattle.node.specs.Receiving.{IsFit}
 use Rattle.network.proofs.Turned.{on_err, within_nodes, within_mails, node_read, node_seated, turned_not, stays_quiet}
 use Rattle.network.proofs.Delivering.{sorted_is, sorted_whole, front_read, delivered_any, delivered_whole}
 use Rattle.network.proofs.network.Network.deliver.Goals as goal

@@ -1,5 +1,5 @@
 use Rattle.std.proofs.Common.{[]}
-use Rattle.world.specs.Nodes.{new_node}
+use Rattle.node.specs.Nodes.{new_node}
 use Rattle.network.proofs.Opened.{one_more, opened_whole, opened}
 use Rattle.network.proofs.network.Network.new.Goals as goal
 

@@ -1,4 +1,4 @@
-use Rattle.world.specs.Steps.{said_again}
+use Rattle.node.specs.Deeds.{said_again}
 use Rattle.network.proofs.Turned.{node_seated, sent_by, nudged_whole}
 use Rattle.network.proofs.network.Network.nudge.Goals as goal
 

@@ -4,9 +4,9 @@ use Rattle.std.specs.Option.{option_map}
 use Rattle.object.specs.Commands.{same_commands}
 use Rattle.slot_log.specs.Decisions.{next_decided}
 use Rattle.slot_log.specs.Advances.{advanced}
-use Rattle.world.specs.Objects.{rules_of}
-use Rattle.world.specs.Histories.{history, answers_after}
-use Rattle.world.specs.Nodes.{NodeState}
+use Rattle.node.specs.Histories.{history}
+use Rattle.object.specs.Obeying.{answers_after}
+use Rattle.node.specs.Nodes.{NodeState}
 use Rattle.network.proofs.Turned.{on_err, within_nodes, node_read, turned_to, turned_not}
 use Rattle.network.proofs.network.Network.perform.Goals as goal
 
@@ -26,4 +26,4 @@ pub returns-clause-state : goal.returns-clause-state
 returns-clause-state g c = λ d e. turned_to c.self.inside.members c.self.inside.nodes.items c.self.inside.mails.items c.self.inside.fresh.items c.args.self.now c.self.view_is c.self.invariant c.args.id c.from.result c.from.ensures c.requires.member c.index_mut.result.now c.index_mut.ensures.value (λ ms y. record y { replica = advanced (same_commands g.O.Op.PartialEq.eq) y.replica }) (λ ms y. []) c.perform.new.self c.self.inside.fresh.items (c.in_ok-done.ensures.state d (ap (λ (z : NodeState _). next_decided z.replica) (node_read c.self.inside.members c.self.inside.nodes.items c.self.inside.mails.items c.self.inside.fresh.items c.args.self.now c.self.view_is c.self.invariant c.args.id c.from.result c.from.ensures c.requires.member c.index_mut.result.now c.index_mut.ensures.value) ∙ e)) (sym (append-nil c.self.inside.fresh.items))
 
 pub returns-clause-out : goal.returns-clause-out
-returns-clause-out g c = λ d e. c.in_ok-done.ensures.out d (ap (λ (z : NodeState _). next_decided z.replica) (node_read c.self.inside.members c.self.inside.nodes.items c.self.inside.mails.items c.self.inside.fresh.items c.args.self.now c.self.view_is c.self.invariant c.args.id c.from.result c.from.ensures c.requires.member c.index_mut.result.now c.index_mut.ensures.value) ∙ e) ∙ ap (λ (z : NodeState _). c.args.out.now.items ++ answers_after (rules_of g.O.Object.fresh g.O.Object.after g.O.Object.answers g.O.Op.PartialEq.eq) (history z.replica) d) (node_read c.self.inside.members c.self.inside.nodes.items c.self.inside.mails.items c.self.inside.fresh.items c.args.self.now c.self.view_is c.self.invariant c.args.id c.from.result c.from.ensures c.requires.member c.index_mut.result.now c.index_mut.ensures.value)
+returns-clause-out g c = λ d e. c.in_ok-done.ensures.out d (ap (λ (z : NodeState _). next_decided z.replica) (node_read c.self.inside.members c.self.inside.nodes.items c.self.inside.mails.items c.self.inside.fresh.items c.args.self.now c.self.view_is c.self.invariant c.args.id c.from.result c.from.ensures c.requires.member c.index_mut.result.now c.index_mut.ensures.value) ∙ e) ∙ ap (λ (z : NodeState _). c.args.out.now.items ++ answers_after g.O.Object.rules (history z.replica) d) (node_read c.self.inside.members c.self.inside.nodes.items c.self.inside.mails.items c.self.inside.fresh.items c.args.self.now c.self.view_is c.self.invariant c.args.id c.from.result c.from.ensures c.requires.member c.index_mut.result.now c.index_mut.ensures.value)

@@ -3,7 +3,7 @@ use Rattle.std.specs.Prelude.{is_some}
 use Rattle.ballot.specs.Letters.{all_to_all}
 use Rattle.slot_log.specs.Proposals.{next_proposal, proposed_next}
 use Rattle.replica.specs.Replicas.{asks_for}
-use Rattle.world.specs.Nodes.{NodeState}
+use Rattle.node.specs.Nodes.{NodeState}
 use Rattle.network.proofs.Turned.{on_err, within_nodes, node_read, turned_to, turned_not, stays_quiet, stays_told}
 use Rattle.network.proofs.network.Network.propose.Goals as goal
 

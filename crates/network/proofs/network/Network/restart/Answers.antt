@@ -1,6 +1,6 @@
 use Rattle.std.proofs.Common.{[], ◌<◌, ◌^◌, refl, sym, subst, arith}
 use Rattle.std.proofs.lemmas.List.{append-nil}
-use Rattle.world.specs.Nodes.{NodeState, restarted}
+use Rattle.node.specs.Nodes.{NodeState, restarted}
 use Rattle.network.proofs.Turned.{on_err, within_nodes, own_member, node_read, turned_to, turned_not}
 use Rattle.network.proofs.network.Network.restart.Goals as goal
 

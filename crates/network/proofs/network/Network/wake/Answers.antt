@@ -1,6 +1,6 @@
 use Rattle.ballot.specs.Letters.{all_to_all}
 use Rattle.leader.specs.Leaders.{woken}
-use Rattle.world.specs.Steps.{led}
+use Rattle.node.specs.Deeds.{led}
 use Rattle.network.proofs.Turned.{on_err, node_seated, turned_to, turned_not, stays_quiet, stays_told}
 use Rattle.network.proofs.network.Network.wake.Goals as goal
 

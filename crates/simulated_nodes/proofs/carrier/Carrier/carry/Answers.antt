@@ -1,5 +1,4 @@
 use Rattle.std.proofs.Common.{◌∙◌, ap, sym, length}
-use Rattle.world.specs.Objects.{rules_of}
 use Rattle.simulated_nodes.specs.Standing.{submitted_to}
 use Rattle.simulated_nodes.proofs.Carried.{started}
 use Rattle.simulated_nodes.proofs.Found.{on_any, none_more, not_replied_on, begins_trans}
@@ -9,7 +8,7 @@ pub returns-clause-carried : goal.returns-clause-carried
 returns-clause-carried g c = on_any c.reply_after.result (λ t stands fresh.
     let took = c.in_ok-submit.ensures in
     c.in_ok-place.ensures.carries (submitted_to c.args.self.now.world)
-    (started (rules_of g.O.Object.fresh g.O.Object.after g.O.Object.answers g.O.Op.PartialEq.eq) c.args.self.now.world c.submit.new.self.world t took.0 c.args.command.now stands fresh took.1))
+    (started g.O.Object.rules c.args.self.now.world c.submit.new.self.world t took.0 c.args.command.now stands fresh took.1))
 
 pub returns-clause-none : goal.returns-clause-none
 returns-clause-none g c =

@@ -1,6 +1,6 @@
 use Rattle.std.proofs.Common.{◌≡◌, map}
 use Rattle.std.specs.List.{range_with_len}
-use Rattle.world.specs.Nodes.{new_node}
+use Rattle.node.specs.Nodes.{new_node}
 use Rattle.world.proofs.cluster.Cluster.new.Given as goal
 
 abbrev pub invariant-loop-before : goal.invariant-loop-before

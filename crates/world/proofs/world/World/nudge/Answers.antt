@@ -1,21 +1,20 @@
 use Rattle.std.proofs.Common.{refl}
-use Rattle.world.specs.Objects.{rules_of}
 use Rattle.world.specs.Steps.{nudge}
 use Rattle.world.specs.declared.event.Event.TheVariants as events
 use Rattle.world.proofs.Events.{has_node, row, next_noted, from_view, member_in_view}
 use Rattle.world.proofs.world.World.nudge.Goals as goal
 
 pub nudge-requires : goal.nudge-requires
-nudge-requires g c = has_node c.ballot_laws.ensures (rules_of g.O.Object.fresh g.O.Object.after g.O.Object.answers g.O.Op.PartialEq.eq) _ _ c.self.view_is c.self.invariant.world c.args.id c.requires.member
+nudge-requires g c = has_node c.ballot_laws.ensures g.O.Object.rules _ _ c.self.view_is c.self.invariant.world c.args.id c.requires.member
 
 pub invariant_of-self-2 : goal.invariant_of-self-2
 invariant_of-self-2 g c =
-    let rules = rules_of g.O.Object.fresh g.O.Object.after g.O.Object.answers g.O.Op.PartialEq.eq in
+    let rules = g.O.Object.rules in
     next_noted c.ballot_laws.ensures rules _ _ c.self.view_is (events.Nudge c.args.id) _ c.self.inside.performed.items c.self.invariant c.requires.room refl refl
     (row rules _ (events.Nudge c.args.id) _ _ c.in_ok-nudge.ensures.ok (nudge c.args.id (member_in_view rules _ _ c.self.view_is c.args.id c.requires.member)))
 
 pub returns-clause-ok : goal.returns-clause-ok
 returns-clause-ok g c =
-    let rules = rules_of g.O.Object.fresh g.O.Object.after g.O.Object.answers g.O.Op.PartialEq.eq in
+    let rules = g.O.Object.rules in
     from_view rules _ _ c.self.view_is (events.Nudge c.args.id) _
     (row rules _ (events.Nudge c.args.id) _ _ c.in_ok-nudge.ensures.ok (nudge c.args.id (member_in_view rules _ _ c.self.view_is c.args.id c.requires.member)))

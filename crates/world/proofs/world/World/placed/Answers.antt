@@ -1,5 +1,4 @@
 use Rattle.std.proofs.Common.{false, sym, ap, ◌∙◌, subst}
-use Rattle.world.specs.Objects.{rules_of}
 use Rattle.world.specs.Kept.{HasNoted}
 use Rattle.world.proofs.Events.{sound_now}
 use Rattle.world.proofs.Placed.{finds, sought_next, sought_here, sought_all, placed_when}
@@ -7,7 +6,7 @@ use Rattle.world.proofs.world.World.placed.Goals as goal
 
 pub returns-then-is_as_late : goal.returns-then-is_as_late
 returns-then-is_as_late g c =
-    let rules = rules_of g.O.Object.fresh g.O.Object.after g.O.Object.answers g.O.Op.PartialEq.eq in
+    let rules = g.O.Object.rules in
     placed_when c.ballot_laws.ensures c.args.self.now (sound_now c.ballot_laws.ensures rules _ _ c.self.view_is c.self.invariant.world) c.args.key
     c.self.inside.performed.items (subst (λ w. HasNoted w c.self.inside.performed.items) c.self.view_is c.self.invariant.noted) c.eq.result
     (ap (finds c.args.key) (sym c.deref-own-items.ensures.value)
@@ -19,7 +18,7 @@ loop-own-preserved g c = sought_next c.args.key c.deref-own-items.result.now c.l
 
 pub returns : goal.returns
 returns g c =
-    let rules = rules_of g.O.Object.fresh g.O.Object.after g.O.Object.answers g.O.Op.PartialEq.eq in
+    let rules = g.O.Object.rules in
     placed_when c.ballot_laws.ensures c.args.self.now (sound_now c.ballot_laws.ensures rules _ _ c.self.view_is c.self.invariant.world) c.args.key
     c.self.inside.performed.items (subst (λ w. HasNoted w c.self.inside.performed.items) c.self.view_is c.self.invariant.noted) false
     (ap (finds c.args.key) (sym c.deref-own-items.ensures.value)

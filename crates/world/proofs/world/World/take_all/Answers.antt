@@ -1,6 +1,5 @@
 use Rattle.std.proofs.Common.{sym, subst, take}
 use Rattle.world.specs.OneOrder.{IsLater}
-use Rattle.world.specs.Objects.{rules_of}
 use Rattle.world.specs.Runs.{at_once}
 use Rattle.world.proofs.Events.{run_more, refused_at, later_by}
 use Rattle.world.proofs.world.World.take_all.Goals as goal
@@ -13,12 +12,12 @@ returns-in-Err-clause-refused g c = refused_at g.O.Op.PartialEq.eq c.loop-index.
 
 pub loop-index-preserved : goal.loop-index-preserved
 loop-index-preserved g c = record {
-  led = run_more (rules_of g.O.Object.fresh g.O.Object.after g.O.Object.answers g.O.Op.PartialEq.eq) c.args.self.now c.loop-index.self c.take_copy.new.self c.args.events.now c.loop-index.index c.index-events-index.result c.loop-index-test.true c.index-events-index.is c.loop-index.invariant.led c.in_default.ensures.ok;
+  led = run_more g.O.Object.rules c.args.self.now c.loop-index.self c.take_copy.new.self c.args.events.now c.loop-index.index c.index-events-index.result c.loop-index-test.true c.index-events-index.is c.loop-index.invariant.led c.in_default.ensures.ok;
   stays = λ s x h. c.in_default.ensures.stays s x (c.loop-index.invariant.stays s x h);
 }
 
 pub returns-in-Err-clause-later : goal.returns-in-Err-clause-later
-returns-in-Err-clause-later g c = subst (IsLater c.args.self.now) (sym c.in-Err.ensures.err) (later_by c.ballot_laws.ensures (rules_of g.O.Object.fresh g.O.Object.after g.O.Object.answers g.O.Op.PartialEq.eq) _ _ c.self.view_is c.self.invariant.world (take c.loop-index.index c.args.events.now) c.loop-index.self c.loop-index.invariant.led)
+returns-in-Err-clause-later g c = subst (IsLater c.args.self.now) (sym c.in-Err.ensures.err) (later_by c.ballot_laws.ensures g.O.Object.rules _ _ c.self.view_is c.self.invariant.world (take c.loop-index.index c.args.events.now) c.loop-index.self c.loop-index.invariant.led)
 
 pub returns-clause-later : goal.returns-clause-later
-returns-clause-later g c = later_by c.ballot_laws.ensures (rules_of g.O.Object.fresh g.O.Object.after g.O.Object.answers g.O.Op.PartialEq.eq) _ _ c.self.view_is c.self.invariant.world (take c.loop-index.index c.args.events.now) c.loop-index.self c.loop-index.invariant.led
+returns-clause-later g c = later_by c.ballot_laws.ensures g.O.Object.rules _ _ c.self.view_is c.self.invariant.world (take c.loop-index.index c.args.events.now) c.loop-index.self c.loop-index.invariant.led

@@ -1,11 +1,10 @@
 use Rattle.std.proofs.Common.{take}
-use Rattle.world.specs.Objects.{rules_of}
 use Rattle.world.specs.Runs.{Leads}
 use Rattle.world.specs.Agreements.{StaysChosen}
 use Rattle.world.proofs.world.World.take_all.Given as goal
 
 abbrev pub invariant-loop-index : goal.invariant-loop-index
 invariant-loop-index g l = record {
-  led : Leads (rules_of g.O.Object.fresh g.O.Object.after g.O.Object.answers g.O.Op.PartialEq.eq) l.fn.self (take l.index l.fn.events) l.self;
+  led : Leads g.O.Object.rules l.fn.self (take l.index l.fn.events) l.self;
   stays : StaysChosen l.fn.self.cluster l.self.cluster;
 }

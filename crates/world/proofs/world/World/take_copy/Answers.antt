@@ -1,7 +1,6 @@
 use Rattle.std.proofs.Common.{refl}
-use Rattle.world.specs.Objects.{rules_of}
 use Rattle.world.proofs.Events.{later_same}
 use Rattle.world.proofs.world.World.take_copy.Goals as goal
 
 pub returns-in_err-event-clause-later : goal.returns-in_err-event-clause-later
-returns-in_err-event-clause-later g c = later_same c.ballot_laws.ensures (rules_of g.O.Object.fresh g.O.Object.after g.O.Object.answers g.O.Op.PartialEq.eq) _ _ c.self.view_is c.self.invariant.world _ refl
+returns-in_err-event-clause-later g c = later_same c.ballot_laws.ensures g.O.Object.rules _ _ c.self.view_is c.self.invariant.world _ refl

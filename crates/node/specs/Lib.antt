@@ -1,0 +1,6 @@
+pub mod Histories
+pub mod Nodes
+pub mod Deeds
+pub mod Receiving
+pub mod Kept
+pub mod SlotLaws

@@ -1,0 +1,9 @@
+//! A node: its acceptor, its leader and its replica, and what it does by itself and with a letter.
+#![tactic(auto)]
+
+mod deed;
+mod node;
+mod receiving;
+
+pub use deed::{Deed, Outcome};
+pub use node::Node;

@@ -1,0 +1,285 @@
+ghost use Rattle.std.specs.Prelude.{◌≡◌, ◌<◌, ◌^◌, ◌++◌, map, IfOk, OnOk, OnErr, Some};
+ghost use Rattle.std.specs.FinMap as slots;
+ghost use Rattle.object.specs.declared.command.Command.{Command};
+ghost use Rattle.ballot.specs.Ballots.{Numbers};
+ghost use Rattle.ballot.specs.Letters.{letter};
+ghost use Rattle.ballot.specs.declared.letter.Body.TheVariants.{P1a, P1b, P2a, P2b, Propose, Decision, Ask};
+ghost use Rattle.acceptor.specs.Acceptors.{Keeps, after_p2a};
+ghost use Rattle.leader.specs.Leaders.{Sends, proposed};
+ghost use Rattle.leader.specs.Promises.{MayTake};
+ghost use Rattle.leader.specs.Promises as promises;
+ghost use Rattle.leader.specs.Votes as votes;
+ghost use Rattle.slot_log.specs.Decisions.{learnt};
+ghost use Rattle.node.specs.Receiving.{IsFit, ShowsReceived};
+
+use crate::node::{Letters, Node};
+use ballot::{Ballot, Body, Letter, Pvalue, Pvalues, Slot, ballot_laws};
+use acceptor::Acceptor;
+use leader::{Leader, LeaderError};
+use object::{Command, Object, Value};
+use replica::Replica;
+use slot_log::LearnError;
+use std::alloc::AllocError;
+
+impl<O: Object> Node<O> {
+    /// Receives a body from a member, and appends what it sends. What it keeps of the body it copies. For want of memory
+    /// it changes nothing.
+    pub fn receive(
+        &mut self,
+        from: u8,
+        body: &Body<Command<O::Op>>,
+        out: &mut Letters<O>,
+    ) -> Result<(), AllocError>
+        requires { IsFit self.old body.now }
+        ensures ok { OnOk result (ShowsReceived «from» self.old body.now self.new out.old.items out.new.items) }
+        ensures err { OnErr result ((self.new ≡ self.old) × (out.new.items ≡ out.old.items)) }
+    {
+        match body {
+            Body::P1a(ballot) => self.on_p1a(from, *ballot, out),
+            Body::P2a(pvalue) => self.on_p2a(from, pvalue, out),
+            Body::P1b(ballot, report) => self.on_p1b(from, *ballot, report, out),
+            Body::P2b {
+                ballot,
+                slot,
+                asked,
+            } => self.on_p2b(from, *ballot, *slot, *asked, out),
+            Body::Propose(slot, command) => self.on_propose(from, *slot, command, out),
+            Body::Decision(slot, command) => self.on_decision(from, *slot, command, out),
+            Body::Ask(slot) => self.on_ask(from, *slot, out),
+        }
+    }
+
+    // A leader asks for a promise.
+    fn on_p1a(&mut self, from: u8, ballot: Ballot, out: &mut Letters<O>) -> Result<(), AllocError>
+        ensures ok { OnOk result (ShowsReceived «from» self.old (P1a ballot) self.new out.old.items out.new.items) }
+        ensures err { OnErr result ((self.new ≡ self.old) × (out.new.items ≡ out.old.items)) }
+    {
+        ballot_laws();
+        out.reserve(1)?;
+        let number = self.leader.node();
+        let (promised, report) = self.acceptor.on_p1a(ballot)?;
+        out.push(Letter {
+            from: number,
+            to: from,
+            body: Body::P1b(promised, Pvalues::from_vec(report)),
+        })?;
+        Ok(())
+    }
+
+    // A leader asks to accept a pvalue.
+    fn on_p2a(
+        &mut self,
+        from: u8,
+        pvalue: &Pvalue<Command<O::Op>>,
+        out: &mut Letters<O>,
+    ) -> Result<(), AllocError>
+        ensures ok { OnOk result (ShowsReceived «from» self.old (P2a pvalue.now) self.new out.old.items out.new.items) }
+        ensures err { OnErr result ((self.new ≡ self.old) × (out.new.items ≡ out.old.items)) }
+    {
+        ballot_laws();
+        out.reserve(1)?;
+        let number = self.leader.node();
+        let ballot = vote(&mut self.acceptor, pvalue)?;
+        out.push(Letter {
+            from: number,
+            to: from,
+            body: Body::P2b {
+                ballot,
+                slot: pvalue.slot,
+                asked: pvalue.ballot,
+            },
+        })?;
+        Ok(())
+    }
+
+    // An acceptor has promised a ballot.
+    fn on_p1b(
+        &mut self,
+        from: u8,
+        ballot: Ballot,
+        report: &Pvalues<Command<O::Op>>,
+        out: &mut Letters<O>,
+    ) -> Result<(), AllocError>
+        requires not_last { ballot.round < 2 ^ 62 }
+        ensures ok { OnOk result (ShowsReceived «from» self.old (P1b ballot report.now) self.new out.old.items out.new.items) }
+        ensures err { OnErr result ((self.new ≡ self.old) × (out.new.items ≡ out.old.items)) }
+    {
+        let report = report.copy()?.into_vec();
+        hear_promise(&mut self.leader, from, ballot, report, out)?;
+        Ok(())
+    }
+
+    // An acceptor votes.
+    fn on_p2b(
+        &mut self,
+        from: u8,
+        ballot: Option<Ballot>,
+        slot: Slot,
+        asked: Ballot,
+        out: &mut Letters<O>,
+    ) -> Result<(), AllocError>
+        requires not_last { (b : Numbers) → ballot ≡ Some b → b.round < 2 ^ 62 }
+        ensures ok { OnOk result (ShowsReceived «from» self.old (P2b ballot slot asked) self.new out.old.items out.new.items) }
+        ensures err { OnErr result ((self.new ≡ self.old) × (out.new.items ≡ out.old.items)) }
+    {
+        hear_vote(&mut self.leader, from, ballot, slot, asked, out)?;
+        Ok(())
+    }
+
+    // A replica proposes a command.
+    fn on_propose(
+        &mut self,
+        from: u8,
+        slot: Slot,
+        command: &Command<O::Op>,
+        out: &mut Letters<O>,
+    ) -> Result<(), AllocError>
+        ensures ok { OnOk result (ShowsReceived «from» self.old (Propose slot command.now) self.new out.old.items out.new.items) }
+        ensures err { OnErr result ((self.new ≡ self.old) × (out.new.items ≡ out.old.items)) }
+    {
+        hear_proposal(&mut self.leader, slot, command, out)?;
+        Ok(())
+    }
+
+    // A command is decided.
+    fn on_decision(
+        &mut self,
+        from: u8,
+        slot: Slot,
+        command: &Command<O::Op>,
+        out: &mut Letters<O>,
+    ) -> Result<(), AllocError>
+        requires agrees { (d : Command O.Op) → slots.get self.old.replica.decisions slot ≡ Some d → d ≡ command.now }
+        ensures ok { OnOk result (ShowsReceived «from» self.old (Decision slot command.now) self.new out.old.items out.new.items) }
+        ensures err { OnErr result ((self.new ≡ self.old) × (out.new.items ≡ out.old.items)) }
+    {
+        learn(&mut self.replica, slot, command)?;
+        Ok(())
+    }
+
+    // A replica asks what is decided from a slot on.
+    fn on_ask(&mut self, from: u8, slot: Slot, out: &mut Letters<O>) -> Result<(), AllocError>
+        ensures ok { OnOk result (ShowsReceived «from» self.old (Ask slot) self.new out.old.items out.new.items) }
+        ensures same { self.new ≡ self.old }
+        ensures err { OnErr result (out.new.items ≡ out.old.items) }
+    {
+        let told = self.replica.ask(slot)?;
+        send_each(self.leader.node(), from, told, out)?;
+        Ok(())
+    }
+}
+
+// Sends these bodies, or none of them.
+fn send_each<C: Value>(
+    from: u8,
+    to: u8,
+    bodies: Vec<Body<C>>,
+    out: &mut Vec<Letter<C>>,
+) -> Result<(), AllocError>
+    ensures ok { OnOk result (out.new.items ≡ out.old.items ++ map (λ b. letter «from» b to) bodies.items) }
+    ensures err { OnErr result (out.new.items ≡ out.old.items) }
+{
+    let alloc = *bodies.allocator();
+    let mut letters: Vec<Letter<C>> = bodies
+        .into_iter()
+        .map(|body| Letter { from, to, body })
+        .collect(alloc)?;
+    out.append(&mut letters)?;
+    Ok(())
+}
+
+// An acceptor votes on a pvalue, and keeps a copy of it where it accepts it. The ballot that it promised is told.
+fn vote<C: Value>(
+    acceptor: &mut Acceptor<C>,
+    pvalue: &Pvalue<C>,
+) -> Result<Option<Ballot>, AllocError>
+    ensures state { OnOk result (Keeps (after_p2a acceptor.old pvalue.now) acceptor.new) }
+    ensures promised { IfOk result (λ promised. promised ≡ acceptor.old.promised) }
+    ensures err { OnErr result (acceptor.new ≡ acceptor.old) }
+{
+    ballot_laws();
+    if acceptor.has_promised(pvalue.ballot) {
+        acceptor.on_p2a(pvalue.copy()?)
+    } else {
+        Ok(acceptor.promised())
+    }
+}
+
+// A leader hears a P1b of no last round.
+fn hear_promise<C: Value>(
+    leader: &mut Leader<C>,
+    from: u8,
+    ballot: Ballot,
+    report: Vec<Pvalue<C>>,
+    out: &mut Vec<Letter<C>>,
+) -> Result<(), AllocError>
+    requires { ballot.round < 2 ^ 62 }
+    ensures taken { OnOk result (MayTake leader.old from ballot report.items leader.new.proposals) }
+    ensures state { OnOk result (leader.new ≡ (promises.on_p1b leader.old from ballot report.items leader.new.proposals).state) }
+    ensures out { OnOk result (Sends leader.old (promises.on_p1b leader.old from ballot report.items leader.new.proposals).says out.old.items out.new.items) }
+    ensures err { OnErr result ((leader.new ≡ leader.old) × (out.new.items ≡ out.old.items)) }
+{
+    match leader.on_p1b(from, ballot, report, out) {
+        Ok(()) => Ok(()),
+        Err(LeaderError::OutOfMemory) => Err(AllocError),
+        Err(LeaderError::NoBallotLeft) => unreachable!(),
+    }
+}
+
+// A leader hears a P2b of no last round.
+fn hear_vote<C: Value>(
+    leader: &mut Leader<C>,
+    from: u8,
+    ballot: Option<Ballot>,
+    slot: Slot,
+    asked: Ballot,
+    out: &mut Vec<Letter<C>>,
+) -> Result<(), AllocError>
+    requires { (b : Numbers) → ballot ≡ Some b → b.round < 2 ^ 62 }
+    ensures state { OnOk result (leader.new ≡ (votes.on_p2b leader.old from ballot slot asked).state) }
+    ensures out { OnOk result (Sends leader.old (votes.on_p2b leader.old from ballot slot asked).says out.old.items out.new.items) }
+    ensures err { OnErr result ((leader.new ≡ leader.old) × (out.new.items ≡ out.old.items)) }
+{
+    match leader.on_p2b(from, ballot, slot, asked, out) {
+        Ok(()) => Ok(()),
+        Err(LeaderError::OutOfMemory) => Err(AllocError),
+        Err(LeaderError::NoBallotLeft) => unreachable!(),
+    }
+}
+
+// A leader hears a Propose, and keeps a copy of the command where the slot has no proposal yet.
+fn hear_proposal<C: Value>(
+    leader: &mut Leader<C>,
+    slot: Slot,
+    command: &C,
+    out: &mut Vec<Letter<C>>,
+) -> Result<(), AllocError>
+    ensures state { OnOk result (leader.new ≡ (proposed leader.old slot command.now).state) }
+    ensures out { OnOk result (Sends leader.old (proposed leader.old slot command.now).says out.old.items out.new.items) }
+    ensures err { OnErr result ((leader.new ≡ leader.old) × (out.new.items ≡ out.old.items)) }
+{
+    if leader.has_proposal(slot) {
+        return Ok(());
+    }
+    leader.propose(slot, command.copy()?, out)
+}
+
+// A replica learns a decision that is no other than the one it knows.
+fn learn<O: Object>(
+    replica: &mut Replica<O>,
+    slot: Slot,
+    command: &Command<O::Op>,
+) -> Result<(), AllocError>
+    requires { (d : Command O.Op) → slots.get replica.old.slots.decisions slot ≡ Some d → d ≡ command.now }
+    ensures state { OnOk result (replica.new ≡ record replica.old { slots = learnt replica.old.slots slot command.now }) }
+    ensures err { OnErr result (replica.new ≡ replica.old) }
+{
+    if replica.knows(slot) {
+        return Ok(());
+    }
+    match replica.learn(slot, command.copy()?) {
+        Ok(()) => Ok(()),
+        Err(LearnError::OutOfMemory) => Err(AllocError),
+        Err(LearnError::Clash) => unreachable!(),
+    }
+}

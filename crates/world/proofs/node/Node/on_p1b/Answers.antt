@@ -1,5 +1,0 @@
-use Rattle.world.proofs.Received.{received_p1b}
-use Rattle.world.proofs.node.Node.on_p1b.Goals as goal
-
-pub returns-clause-ok : goal.returns-clause-ok
-returns-clause-ok g c = received_p1b _ _ _ _ _ c.self.view_is _ _ _ _ _ _ c.into_vec-report.ensures c.requires.seated c.in_ok-hear_promise.ensures.taken c.in_ok-hear_promise.ensures.state c.in_ok-hear_promise.ensures.out
