@@ -48,7 +48,7 @@ use Rattle.world.specs.Agreements.{StaysChosen}
 use Rattle.world.proofs.Grows.{chosen_stays}
 use Rattle.world.proofs.Reach.{reachable_sound, step_sound, one_more, opening_reachable}
 use Rattle.world.proofs.Told.{reachable_within_reach}
-use Rattle.world.proofs.Noted.{opening_noted, noted_stays, performs_noted}
+use Rattle.world.proofs.Noted.{opening_noted, noted_stays}
 
 module _ (laws : BallotLaws) {O Op Reply : Type 0} (rules : Rules O Op Reply) where
   pub new_world : (members : List ℕ) (u : World Op Reply) (keys : List Key) → u ≡ opening members → keys ≡ [] → IsNoted rules u keys
@@ -57,7 +57,7 @@ module _ (laws : BallotLaws) {O Op Reply : Type 0} (rules : Rules O Op Reply) wh
       (subst (λ w. IsNoted rules w []) (sym e)
       (record { world = record { reachable = opening_reachable laws rules members; few = omega arith }; noted = opening_noted members }))
 
-  next_world : (v w : World Op Reply) → v ≡ w → (e : Event Op) (u : World Op Reply) → IsWorld rules v → w.taken < most_events → u.taken ≡ v.taken + 1 → Step rules v e u → IsWorld rules u
+  pub next_world : (v w : World Op Reply) → v ≡ w → (e : Event Op) (u : World Op Reply) → IsWorld rules v → w.taken < most_events → u.taken ≡ v.taken + 1 → Step rules v e u → IsWorld rules u
   next_world v w is e u i room count s = record {
     reachable = one_more laws rules v e u i.reachable s;
     few = let same = ap (λ y. y.taken) is in omega arith;
@@ -69,18 +69,6 @@ module _ (laws : BallotLaws) {O Op Reply : Type 0} (rules : Rules O Op Reply) wh
     world = next_world v w is e u i.world room count s;
     noted = noted_stays v u (step_sound laws rules v e u (reachable_sound laws rules v i.world.reachable) s).grows keys i.noted reach;
   }
-
-  -- a replica performs
-  pub next_performed : (v w : World Op Reply) → v ≡ w → (n : ℕ) (u : World Op Reply) (keys : List Key) → IsNoted rules v keys → w.taken < most_events → u.taken ≡ v.taken + 1 → (what : Option (ℕ × Key)) → what ≡ option_map (λ c. ((node v.cluster n).replica.slot_out, c.key)) (next_decided (node v.cluster n).replica)
-      → u.reach ≡ option_map_or (λ (p : ℕ × Key). max v.reach p.0) what v.reach
-      → (past : Option Key) → past ≡ key_past v.reach what → (room : List Key) → room ≡ keys → (now : List Key) → now ≡ room ++ option_to_list past → Step rules v (events.Perform n) u → IsNoted rules u now
-  next_performed v w is n u keys i room count what told reach past noted kept same now more s =
-      let sound = reachable_sound laws rules v i.world.reachable in
-      subst (IsNoted rules u) (sym (more ∙ (λ j. same j ++ option_to_list ((noted ∙ ap (key_past v.reach) told) j))))
-      (record {
-        world = next_world v w is (events.Perform n) u i.world room count s;
-        noted = performs_noted v u sound (reachable_within_reach laws rules v i.world.reachable) (step_sound laws rules v (events.Perform n) u sound s).grows keys i.noted n (next_decided (node v.cluster n).replica) refl (reach ∙ ap (λ o. option_map_or (λ (p : ℕ × Key). max v.reach p.0) o v.reach) told);
-      })
 
   module _ (v w : World Op Reply) (is : v ≡ w) (i : IsWorld rules v) where
     sound : IsSound v.cluster
@@ -153,30 +141,6 @@ module _ {O Op Reply : Type 0} (rules : Rules O Op Reply) (v : World Op Reply) w
       let d = delivered l.0 l.1 in
       row (events.Deliver j) k (turned v.cluster l.0.to d.0 d.1) d.3 (deliver j l.0 d.0 d.1 l.1 d.2)
 
-  -- a replica performs
-  performs_if : (n : ℕ) → is_member v.cluster.members n ≡ true → (o : Option (Command Op)) → next_decided (node v.cluster n).replica ≡ o → (k : Cluster (Command Op)) (given : List (Answer Reply)) (reach : ℕ)
-      → (o ≡ None → (k ≡ v.cluster) × (given ≡ v.happenings.answers))
-      → ((c : Command Op) → o ≡ Some c → k ≡ replica_turn v.cluster n (advanced (is_one rules) (node v.cluster n).replica) [])
-      → ((c : Command Op) → o ≡ Some c → given ≡ v.happenings.answers ++ answers_after rules (history (node v.cluster n).replica) c)
-      → reach ≡ option_map_or (λ (p : ℕ × Key). max v.reach p.0) (option_map (λ c. ((node v.cluster n).replica.slot_out, c.key)) o) v.reach
-      → performed rules v n (node v.cluster n).replica o ≡ record v { cluster = k; happenings = record { submitted = v.happenings.submitted; answers = given }; reach = reach }
-  performs_if n member None e k given reach idle state out high =
-      let q = idle refl in
-      λ i. record { cluster = sym q.0 i; happenings = record { submitted = v.happenings.submitted; answers = sym q.1 i }; reach = sym high i; taken = v.taken }
-  performs_if n member (Some c) e k given reach idle state out high =
-      λ i. record { cluster = sym (state c refl) i; happenings = record { submitted = v.happenings.submitted; answers = sym (out c refl) i }; reach = sym high i; taken = v.taken }
-
-  pub performs : (n : ℕ) → is_member v.cluster.members n ≡ true → (k : Cluster (Command Op)) (given : List (Answer Reply)) (reach : ℕ)
-      → (next_decided (node v.cluster n).replica ≡ None → (k ≡ v.cluster) × (given ≡ v.happenings.answers))
-      → ((c : Command Op) → next_decided (node v.cluster n).replica ≡ Some c → k ≡ replica_turn v.cluster n (advanced (is_one rules) (node v.cluster n).replica) [])
-      → ((c : Command Op) → next_decided (node v.cluster n).replica ≡ Some c → given ≡ v.happenings.answers ++ answers_after rules (history (node v.cluster n).replica) c)
-      → reach ≡ option_map_or (λ (p : ℕ × Key). max v.reach p.0) (option_map (λ c. ((node v.cluster n).replica.slot_out, c.key)) (next_decided (node v.cluster n).replica)) v.reach
-      → Step rules v (events.Perform n) (counted (record v { cluster = k; happenings = record { submitted = v.happenings.submitted; answers = given }; reach = reach }))
-  performs n member k given reach idle state out high =
-      subst (λ y. Step rules v (events.Perform n) (counted y))
-      (performs_if n member (next_decided (node v.cluster n).replica) refl k given reach idle state out high)
-      (perform n member)
-
 -- a key with its own act
 acts_same : {Op : Type 0} (same : Op → Op → Bool) → ((x y : Op) → same x y ≡ true → x ≡ y) → (a b : Act Op) → same_acts same a b ≡ true → a ≡ b
 acts_same same exact (Do o) (Do p) h = ap Do (exact o p h)
@@ -212,25 +176,6 @@ its_own same exact (x ∷ xs) c h s (inl e) k =
     ap (λ y. y.command) e ∙ (λ i. record { key = key_same x.command.key c.key l i; act = act i })
 its_own same exact (x ∷ xs) c h s (inr at) k = its_own same exact xs c (later (same_key x.command.key c.key && not (same_acts same x.command.act c.act)) (has_other_act same xs c) h) s at k
 
--- a submission, where its key is new
-noted_if : {Op Reply : Type 0} (h : Happenings Op Reply) (x : Submission Op) (test : Bool) → cond test h (record h { submitted = h.submitted ++ (x ∷ []) }) ≡ record h { submitted = h.submitted ++ option_to_list (cond test None (Some x)) }
-noted_if h x true = λ i. record { submitted = sym (append-nil h.submitted) i; answers = h.answers }
-noted_if h x false = refl
-
-pub submit_row : {O Op Reply : Type 0} (rules : Rules O Op Reply) (v : World Op Reply) (n : ℕ) (c : Command Op) (k : Cluster (Command Op)) (submitted : List (Submission Op)) → is_member v.cluster.members n ≡ true → IsItsOwn c v.happenings.submitted
-    → k ≡ replica_turn v.cluster n (requested (is_one rules) (node v.cluster n).replica c) []
-    → submitted ≡ v.happenings.submitted ++ option_to_list (cond (is_submitted c.key v.happenings.submitted) None (Some (record { command = c; after = length v.happenings.answers })))
-    → Step rules v (events.Submit n c) (counted (record v { cluster = k; happenings = record { submitted = submitted; answers = v.happenings.answers } }))
-submit_row rules v n c k submitted member own asked more =
-    subst (λ y. Step rules v (events.Submit n c) (counted y))
-    (λ i. record {
-      cluster = sym asked i;
-      happenings = (noted_if v.happenings (record { command = c; after = length v.happenings.answers }) (is_submitted c.key v.happenings.submitted) ∙ (λ j. record { submitted = sym more j; answers = v.happenings.answers })) i;
-      reach = v.reach;
-      taken = v.taken;
-    })
-    (submit n c member own)
-
 -- what is not refused is allowed
 not_not : (b : Bool) → not b ≡ false → b ≡ true
 not_not true h = refl
@@ -254,10 +199,6 @@ allowed same w e h =
       acts = not_not (keeps_acts same w.happenings.submitted e) c.0;
       room = grind (arith, nat_tests);
     }
-
-pub added_more : {Op Reply : Type 0} (submitted seen room now : List (Submission Op)) (answers : List (Answer Reply)) (after : ℕ) (c : Command Op) (added : Option (Submission Op)) → seen ≡ submitted → after ≡ length answers → added ≡ cond (is_submitted c.key seen) None (Some (record { command = c; after = after })) → room ≡ submitted → now ≡ room ++ option_to_list added → now ≡ submitted ++ option_to_list (cond (is_submitted c.key submitted) None (Some (record { command = c; after = length answers })))
-added_more submitted seen room now answers after c added same count new kept more =
-    more ∙ (λ i. kept i ++ option_to_list (new i)) ∙ (λ i. submitted ++ option_to_list (cond (is_submitted c.key (same i)) None (Some (record { command = c; after = count i }))))
 
 pub own_in_view : {Op Reply : Type 0} (v w : World Op Reply) → v ≡ w → (c : Command Op) → IsItsOwn c w.happenings.submitted → IsItsOwn c v.happenings.submitted
 own_in_view v w is c own = subst (λ y. IsItsOwn c y.happenings.submitted) (sym is) own

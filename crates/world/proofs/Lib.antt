@@ -1,7 +1,4 @@
-pub mod Lists
-pub mod Orders
 pub mod Sets
-pub mod Maps
 pub mod Places
 pub mod Invariants
 pub mod Grows
@@ -11,9 +8,6 @@ pub mod LeaderRows
 pub mod Rows
 pub mod Reach
 pub mod Bounds
-pub mod Keeping
-pub mod Replays
-pub mod Histories
 pub mod Growing
 pub mod Deciding
 pub mod Voters
@@ -29,7 +23,9 @@ pub mod Told
 pub mod Noted
 pub mod Placed
 pub mod OneOrder
-pub mod Received
 pub mod Watching
 pub mod Events
 pub mod Every
+pub mod WatchedDeeds
+pub mod Acting
+pub mod Delivering

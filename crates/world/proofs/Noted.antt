@@ -10,7 +10,8 @@ use Rattle.slot_log.specs.Decisions.{next_decided}
 use Rattle.world.specs.Chosen.{IsChosen}
 use Rattle.world.specs.Nodes.{node}
 use Rattle.world.specs.Worlds.{World, opening}
-use Rattle.world.specs.Kept.{HasNoted, key_past}
+use Rattle.node.specs.Deeds.{performs}
+use Rattle.world.specs.Kept.{HasNoted, key_past, reach_after}
 use Rattle.world.proofs.Invariants.{IsSound}
 use Rattle.world.proofs.Grows.{Grows}
 use Rattle.world.proofs.Performed.{run_stays, run_push}
@@ -44,8 +45,8 @@ within_when reach slot e = grind (arith, nat_tests)
 
 -- a replica performs
 pub performs_noted : {Op Reply : Type 0} (v u : World Op Reply) → IsSound v.cluster → AllWithin v.cluster (v.reach + 1) → Grows v.cluster u.cluster → (keys : List Key) → HasNoted v keys → (n : ℕ) (o : Option (Command Op)) → next_decided (node v.cluster n).replica ≡ o
-    → u.reach ≡ option_map_or (λ (p : ℕ × Key). max v.reach p.0) (option_map (λ c. ((node v.cluster n).replica.slot_out, c.key)) o) v.reach
-    → HasNoted u (keys ++ option_to_list (key_past v.reach (option_map (λ c. ((node v.cluster n).replica.slot_out, c.key)) o)))
+    → u.reach ≡ reach_after v.reach (performs (node v.cluster n).replica o)
+    → HasNoted u (keys ++ option_to_list (key_past v.reach (performs (node v.cluster n).replica o)))
 performs_noted v u i within g keys noted n None e reach = subst (HasNoted u) (sym (append-nil keys)) (noted_stays v u g keys noted reach)
 performs_noted v u i within g keys noted n (Some c) e reach = ⊎_elim
     (λ (t : nat_lt v.reach slot ≡ true).

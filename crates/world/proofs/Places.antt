@@ -6,8 +6,8 @@ use Rattle.std.proofs.lemmas.List.FromFn.{map-range_with_len_more}
 use Rattle.std.proofs.lemmas.Option.{slice_get-get_or}
 use Rattle.std.proofs.lemmas.List.{get_or-set_same, get_or-set_other, get_or_default}
 use Rattle.ballot.specs.declared.letter.Letter.{Letter}
-use Rattle.node.specs.Nodes.{NodeState, new_node, node_in, put}
-use Rattle.world.specs.Nodes.{Cluster, new_cluster}
+use Rattle.node.specs.Nodes.{NodeState, members_of, number_of, new_node, node_in, put}
+use Rattle.world.specs.Nodes.{Cluster, new_cluster, node}
 use Rattle.node.specs.Receiving.{Receives, Received}
 use Rattle.world.specs.Showing.{HasNode}
 use Rattle.world.specs.Kept.{Delivered}
@@ -37,33 +37,21 @@ pub put_at : {C : Type 0} (nodes : List (NodeState C)) (n : ℕ) (x : NodeState 
 put_at nodes zero x h = absurd (omega arith)
 put_at nodes (suc i) x h = let here : suc i - 1 ≡ i = omega arith in ap (λ j. slice_set nodes j x) here
 
--- a letter that was received where it was to
-delivered_to : {C : Type 0} (k z : Cluster C) (l : Letter C) (y x : NodeState C) → HasNode l.to k → y ≡ slice_index_or k.nodes (l.to - 1) y → z.members ≡ k.members → z.nodes ≡ slice_set k.nodes (l.to - 1) x → Received k.members l.«from» l.to y l.body x k.letters z.letters → Delivered k l z
-delivered_to {C} k z l y x has at members nodes received =
+-- a letter that was received where it was to, by the node at place p
+pub delivered : {C : Type 0} (k : Cluster C) (l : Letter C) (y x : NodeState C) (p : ℕ) (letters : List (Letter C)) → p ≡ l.to - 1 → HasNode l.to k → y ≡ slice_index_or k.nodes p y → Received l.«from» y l.body x k.letters letters → Delivered k l (record { members = k.members; nodes = slice_set k.nodes p x; letters = letters })
+delivered {C} k l y x p letters here has at received =
     let b = member_bounds k.members l.to has.seated.member in
-    let size = has.size in (
+    let size = has.size in
+    let own : y ≡ node k l.to = node_at k.members k.nodes l.to y b.0 (omega (arith, b.1)) (at ∙ ap (λ j. slice_index_or k.nodes j y) here) in
+    let speaks : members_of y ≡ k.members = ap (λ z. members_of z) own ∙ has.seated.speaks in
+    let numbered : number_of y ≡ l.to = ap (λ z. number_of z) own ∙ has.seated.node in (
       x,
       received.0,
-      subst (λ v. Receives k.members l.«from» l.to v l.body x received.0) (node_at k.members k.nodes l.to y b.0 (omega (arith, b.1)) at) received.1,
-      λ i. record { members = members i; nodes = (nodes ∙ put_at k.nodes l.to x b.0) i; letters = received.2 i },
+      subst (λ v. Receives k.members l.«from» l.to v l.body x received.0) own
+      (subst (λ ms. Receives ms l.«from» l.to y l.body x received.0) speaks
+      (subst (λ n. Receives (members_of y) l.«from» n y l.body x received.0) numbered received.1)),
+      λ i. record { members = k.members; nodes = (ap (λ j. slice_set k.nodes j x) here ∙ put_at k.nodes l.to x b.0) i; letters = received.2 i },
     )
-
-pub delivered : {C : Type 0} (v k z : Cluster C) (l : Letter C) (y x : NodeState C) (i : ℕ) → i ≡ l.to - 1 → v ≡ k → HasNode l.to k → y ≡ slice_index_or v.nodes i y → z.members ≡ v.members → z.nodes ≡ slice_set v.nodes i x → Received v.members l.«from» l.to y l.body x v.letters z.letters → Delivered k l z
-delivered v k z l y x i here is has at members nodes received =
-    subst (λ j. Delivered j l z) is
-    (delivered_to v z l y x (subst (HasNode l.to) (sym is) has) (at ∙ ap (λ j. slice_index_or v.nodes j y) here) members (nodes ∙ ap (λ j. slice_set v.nodes j x) here) received)
-
--- the letter that was read and copied
-pub letter_at : {C : Type 0} (v k : Cluster C) (i : ℕ) (x l : Letter C) → v ≡ k → x ≡ slice_index_or v.letters i x → l ≡ x → i < length k.letters → slice_get k.letters i ≡ Some l
-letter_at v k i x l is at copied within =
-    slice_get-get_or k.letters i x within ∙ ap (λ y. Some y) (ap (λ j. slice_index_or j.letters i x) (sym is) ∙ sym at ∙ sym copied)
-
-same_letter : {C : Type 0} (o : Option (Letter C)) (l m : Letter C) → o ≡ Some l → o ≡ Some m → l ≡ m
-same_letter o l m e f = let g : Some l ≡ Some m = sym e ∙ f in cc
-
--- the letter of that number alone was received
-pub delivered_at : {C : Type 0} (k z : Cluster C) (i : ℕ) (l : Letter C) → slice_get k.letters i ≡ Some l → Delivered k l z → (m : Letter C) → slice_get k.letters i ≡ Some m → Delivered k m z
-delivered_at k z i l at d m also = subst (λ y. Delivered k y z) (same_letter (slice_get k.letters i) l m at also) d
 
 -- one new node more, and all of them
 pub one_node_more : {C : Type 0} (members : List ℕ) (ns now : List (NodeState C)) (x : NodeState C) (before : ℕ) → ns ≡ map (new_node members) (range_with_len 1 before) → x ≡ new_node members (before + 1) → now ≡ ns ++ (x ∷ []) → now ≡ map (new_node members) (range_with_len 1 (before + 1))

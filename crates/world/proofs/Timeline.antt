@@ -23,6 +23,12 @@ use Rattle.object.specs.ListLaws.{In-cases}
 use Rattle.ballot.specs.OrderLaws.{not_both}
 use Rattle.world.proofs.Deciding.{any_from}
 
+-- no key is submitted twice, and submissions and answers are one list in time
+pub record IsInTime {Op Reply : Type 0} (h : Happenings Op Reply) : Type 0 where
+  pub once : SubmittedOnce h.submitted
+  pub ordered : ComeInOrder h.submitted
+  pub within : (s : Submission Op) → In s h.submitted → s.after ≤ length h.answers
+
 pub key_itself : (a b : Key) → a ≡ b → same_key a b ≡ true
 key_itself a b e = subst (λ k. same_key a k ≡ true) e (and_from (a.session == a.session) (a.number == a.number) (same a.session) (same a.number))
   where
@@ -50,7 +56,7 @@ ordered_push {Op} (s ∷ more) new ordered last = (
   ordered_push more new ordered.1 (λ t i. last t (inr i)),
 )
 
-with_one_more : {Op Reply : Type 0} (c : Command Op) (h : Happenings Op Reply) → IsTimeline h → IsTimeline (with_submission c h)
+with_one_more : {Op Reply : Type 0} (c : Command Op) (h : Happenings Op Reply) → IsInTime h → IsInTime (with_submission c h)
 with_one_more {Op} {Reply} c h t = at (is_submitted c.key h.submitted) refl
   where
     new : Submission Op
@@ -59,7 +65,7 @@ with_one_more {Op} {Reply} c h t = at (is_submitted c.key h.submitted) refl
     other : is_submitted c.key h.submitted ≡ false → (s : Submission Op) → In s h.submitted → c.key ≢ s.command.key
     other e s i same = not_both (any_from (λ s. same_key s.command.key c.key) s h.submitted i (key_itself s.command.key c.key (sym same))) e
 
-    at : (test : Bool) → is_submitted c.key h.submitted ≡ test → IsTimeline (cond test h (record h { submitted = h.submitted ++ (new ∷ []) }))
+    at : (test : Bool) → is_submitted c.key h.submitted ≡ test → IsInTime (cond test h (record h { submitted = h.submitted ++ (new ∷ []) }))
     at true e = t
     at false e = record {
       once = once_push h.submitted new t.once (other e);
@@ -70,7 +76,7 @@ with_one_more {Op} {Reply} c h t = at (is_submitted c.key h.submitted) refl
           (In-cases s h.submitted (new ∷ []) i);
     }
 
-with_more_answers : {Op Reply : Type 0} (given : List (Answer Reply)) (h : Happenings Op Reply) → IsTimeline h → IsTimeline (with_answers given h)
+with_more_answers : {Op Reply : Type 0} (given : List (Answer Reply)) (h : Happenings Op Reply) → IsInTime h → IsInTime (with_answers given h)
 with_more_answers given h t = record {
   once = t.once;
   ordered = t.ordered;
@@ -78,11 +84,11 @@ with_more_answers given h t = record {
 }
 
 module _ {O Op Reply : Type 0} (rules : Rules O Op Reply) where
-  performs_timely : (w : World Op Reply) (n : ℕ) (o : Option (Command Op)) → IsTimeline w.happenings → IsTimeline (performed rules w n (node w.cluster n).replica o).happenings
+  performs_timely : (w : World Op Reply) (n : ℕ) (o : Option (Command Op)) → IsInTime w.happenings → IsInTime (performed rules w n (node w.cluster n).replica o).happenings
   performs_timely w n None t = t
   performs_timely w n (Some c) t = with_more_answers (answers_after rules (history (node w.cluster n).replica) c) w.happenings t
 
-  step_timely : (w : World Op Reply) (e : Event Op) (u : World Op Reply) → Step rules w e u → IsTimeline w.happenings → IsTimeline u.happenings
+  step_timely : (w : World Op Reply) (e : Event Op) (u : World Op Reply) → Step rules w e u → IsInTime w.happenings → IsInTime u.happenings
   step_timely w e u (submit n c member own) t = with_one_more c w.happenings t
   step_timely w e u (deliver j l x out at receives) t = t
   step_timely w e u (wake n member) t = t
@@ -91,10 +97,10 @@ module _ {O Op Reply : Type 0} (rules : Rules O Op Reply) where
   step_timely w e u (perform n member) t = performs_timely w n (next_decided (node w.cluster n).replica) t
   step_timely w e u (restart n member) t = t
 
-  leads_timely : (w u : World Op Reply) (es : List (Event Op)) → Leads rules w es u → IsTimeline w.happenings → IsTimeline u.happenings
+  leads_timely : (w u : World Op Reply) (es : List (Event Op)) → Leads rules w es u → IsInTime w.happenings → IsInTime u.happenings
   leads_timely w u es at_once t = t
   leads_timely w u es (after {es = before} {v = v} e u' l s) t = step_timely v e u s (leads_timely w v before l t)
 
   -- the happenings of a reachable world are one list in time
-  pub reachable_timeline : (w : World Op Reply) → IsReachable rules w → IsTimeline w.happenings
+  pub reachable_timeline : (w : World Op Reply) → IsReachable rules w → IsInTime w.happenings
   reachable_timeline w r = leads_timely (opening w.cluster.members) w r.0 r.1 (record { once = tt; ordered = tt; within = λ s i. absurd i })

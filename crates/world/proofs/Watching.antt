@@ -37,17 +37,9 @@ still_shows nd z all same shows = record {
   replica = refl;
 }
 
-performed_as : {C : Type 0} (nd z : NodeState C) (book : SlotBook C) (o : Option C) → next_decided nd.replica ≡ o → (next_decided nd.replica ≡ None → z ≡ nd) → ((c : C) → next_decided nd.replica ≡ Some c → z ≡ record nd { replica = book }) → z.acceptor ≡ nd.acceptor
-performed_as nd z book None e idle state = ap (λ y. y.acceptor) (idle e)
-performed_as nd z book (Some c) e idle state = ap (λ y. y.acceptor) (state c e)
-
--- a replica that performed
-pub performed_shows : {C : Type 0} (nd z : NodeState C) (book : SlotBook C) (all : List (Pvalue C)) → (next_decided nd.replica ≡ None → z ≡ nd) → ((c : C) → next_decided nd.replica ≡ Some c → z ≡ record nd { replica = book }) → ShowsNode nd (with_accepted nd all) → ShowsNode z (with_accepted z all)
-performed_shows nd z book all idle state shows = still_shows nd z all (performed_as nd z book (next_decided nd.replica) refl idle state) shows
-
-module _ {C : Type 0} (members : List ℕ) (m n : ℕ) (nd z k : NodeState C) (all room now : List (Pvalue C)) (is : with_accepted nd all ≡ k) (same : room ≡ all) (body : Body C) (more : Option (Pvalue C)) (gives : more ≡ accepts_of (with_accepted nd room).acceptor body) (grown : now ≡ room ++ option_to_list more) (before after : List (Letter C)) (received : ShowsReceived members m n nd body z before after) (shows : ShowsNode nd (with_accepted nd all)) where
+module _ {C : Type 0} (m : ℕ) (nd z k : NodeState C) (all room now : List (Pvalue C)) (is : with_accepted nd all ≡ k) (same : room ≡ all) (body : Body C) (more : Option (Pvalue C)) (gives : more ≡ accepts_of (with_accepted nd room).acceptor body) (grown : now ≡ room ++ option_to_list more) (before after : List (Letter C)) (received : ShowsReceived m nd body z before after) (shows : ShowsNode nd (with_accepted nd all)) where
   -- what the watched node became
-  became : (y : NodeState C) → ShowsNode z y → Received members m n (with_accepted nd all) body y before after → y ≡ with_accepted z now
+  became : (y : NodeState C) → ShowsNode z y → Received m (with_accepted nd all) body y before after → y ≡ with_accepted z now
   became y shown r = λ i. record {
     acceptor = record { promised = sym shown.acceptor.promised i; accepted = accepted i };
     boot = sym shown.boot i;
@@ -56,13 +48,13 @@ module _ {C : Type 0} (members : List ℕ) (m n : ℕ) (nd z k : NodeState C) (a
   }
     where
       accepted : y.acceptor.accepted ≡ now
-      accepted = accepted_after members m n (with_accepted nd all) y body r.0 r.1 ∙ sym (grown ∙ ap (λ o. room ++ option_to_list o) gives ∙ ap (λ l. l ++ option_to_list (accepts_of (with_accepted nd l).acceptor body)) same)
+      accepted = accepted_after _ m _ (with_accepted nd all) y body r.0 r.1 ∙ sym (grown ∙ ap (λ o. room ++ option_to_list o) gives ∙ ap (λ l. l ++ option_to_list (accepts_of (with_accepted nd l).acceptor body)) same)
 
-  pub watched_received : Received members m n k body (with_accepted z now) before after
+  pub watched_received : Received m k body (with_accepted z now) before after
   watched_received =
       let r = received (with_accepted nd all) shows in
-      subst (λ x. Received members m n x body (with_accepted z now) before after) is
-      (subst (λ y. Received members m n (with_accepted nd all) body y before after) (became r.0 r.1 r.2) r.2)
+      subst (λ x. Received m x body (with_accepted z now) before after) is
+      (subst (λ y. Received m (with_accepted nd all) body y before after) (became r.0 r.1 r.2) r.2)
 
   pub watched_shows : ShowsNode z (with_accepted z now)
   watched_shows = let r = received (with_accepted nd all) shows in subst (ShowsNode z) (became r.0 r.1 r.2) r.1

@@ -1,35 +1,26 @@
--- How a world keeps its nodes, and what a node may count on.
-use Rattle.std.specs.Prelude.{◌≡◌, ℕ, ◌<◌, nat_lt, List, map, Option, None, Some, IsSome, if◌then◌else◌}
-use Rattle.std.specs.FinMap.{get}
+-- How a world keeps its nodes, and what an event adds to what it keeps.
+use Rattle.std.specs.Prelude.{◌≡◌, ℕ, nat_lt, max, List, map, length, Option, None, Some, if◌then◌else◌}
 use Rattle.object.specs.declared.command.Command.{Command}
 use Rattle.object.specs.declared.command.Key.{Key}
-use Rattle.object.specs.OnceOnly.{Filtered}
+use Rattle.object.specs.declared.command.Submission.{Submission}
+use Rattle.object.specs.Happenings.{is_submitted}
+use Rattle.object.specs.Objects.{Rules}
 use Rattle.ballot.specs.Ballots.{is_promise}
 use Rattle.ballot.specs.declared.letter.Body.{Body}
 use Rattle.ballot.specs.declared.letter.Body.TheVariants.{P1a, P1b, P2a, P2b, Propose, Decision, Ask}
 use Rattle.ballot.specs.declared.letter.Letter.{Letter}
 use Rattle.ballot.specs.declared.pvalue.Pvalue.{Pvalue}
 use Rattle.acceptor.specs.Acceptors.{Acceptances}
-use Rattle.slot_log.specs.Books.{SlotBook}
-use Rattle.object.specs.Objects.{Rules}
-use Rattle.node.specs.Histories.{history}
-use Rattle.object.specs.Obeying.{obeyed}
 use Rattle.node.specs.Nodes.{NodeState}
+use Rattle.node.specs.Receiving.{Receives}
+use Rattle.node.specs.declared.deed.Deed.{Deed}
+use Rattle.node.specs.declared.deed.Deed.TheVariants as deeds
+use Rattle.node.specs.declared.deed.Outcome.{Outcome}
+use Rattle.node.specs.declared.deed.Outcome.TheVariants.{Idle, Done, Performed}
 use Rattle.world.specs.Nodes.{Cluster, node, turned}
 use Rattle.world.specs.Worlds.{World}
-use Rattle.node.specs.Receiving.{Receives}
 use Rattle.world.specs.Runs.{IsWorld}
 use Rattle.world.specs.Reached.{IsReached}
-
--- each slot before slot_out has a known decision
-pub record IsPerformed {C : Type 0} (book : SlotBook C) : Type 0 where
-  pub first : 0 < book.slot_out
-  pub known : (s : ℕ) → 0 < s → s < book.slot_out → IsSome (get book.decisions s)
-
--- the object has obeyed the commands before slot_out
-pub record IsKept {O Op Reply : Type 0} (rules : Rules O Op Reply) (object : Filtered O) (book : SlotBook (Command Op)) : Type 0 where
-  pub obeys : object ≡ obeyed rules (history book)
-  pub performed : IsPerformed book
 
 -- the node, if its acceptor had accepted all of these
 abbrev pub with_accepted : {C : Type 0} → NodeState C → List (Pvalue C) → NodeState C
@@ -58,7 +49,27 @@ pub record IsNoted {O Op Reply : Type 0} (rules : Rules O Op Reply) (w : World O
   pub world : IsWorld rules w
   pub noted : HasNoted w keys
 
--- the key that is noted where a replica performed this slot and key, or none: that of a slot past the reach
-abbrev pub key_past : ℕ → Option (ℕ × Key) → Option Key
-key_past reach None = None
-key_past reach (Some p) = if nat_lt reach p.0 then Some p.1 else None
+-- the command as a submission after so many answers, unless its key was submitted
+abbrev pub new_submission : {Op : Type 0} → Command Op → List (Submission Op) → ℕ → Option (Submission Op)
+new_submission c submitted after = if is_submitted c.key submitted then None else Some (record { command = c; after = after })
+
+-- the submission that a deed brings
+abbrev pub submission_by : {Op : Type 0} → Deed Op → List (Submission Op) → ℕ → Option (Submission Op)
+submission_by (deeds.Request c) submitted after = new_submission c submitted after
+submission_by deeds.Wake submitted after = None
+submission_by deeds.Nudge submitted after = None
+submission_by deeds.Propose submitted after = None
+submission_by deeds.Perform submitted after = None
+submission_by deeds.Restart submitted after = None
+
+-- the reach after what came of a deed
+abbrev pub reach_after : ℕ → Outcome → ℕ
+reach_after reach Idle = reach
+reach_after reach Done = reach
+reach_after reach (Performed p) = max reach p.slot
+
+-- the key that is noted then, or none: that of a slot past the reach
+abbrev pub key_past : ℕ → Outcome → Option Key
+key_past reach Idle = None
+key_past reach Done = None
+key_past reach (Performed p) = if nat_lt reach p.slot then Some p.key else None

@@ -1,6 +1,4 @@
-pub mod Laws
-pub mod Objects
-pub mod Histories
+pub mod Tasks
 pub mod Nodes
 pub mod Worlds
 pub mod Steps
@@ -11,7 +9,6 @@ pub mod Schedules
 pub mod Chosen
 pub mod Voters
 pub mod Agreements
-pub mod Legal
 pub mod OneOrder
 pub mod Reached
 pub mod Kept

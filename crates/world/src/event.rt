@@ -1,5 +1,7 @@
 ghost use Rattle.std.specs.Prelude.{◌≡◌, true};
+ghost use Rattle.world.specs.Tasks.{event_for};
 
+use node::Deed;
 use object::{Command, Value};
 use std::alloc::AllocError;
 
@@ -20,6 +22,32 @@ pub enum Event<Op> {
     Perform(u8),
     /// A node stops and begins anew; of what it knew its acceptor and the count of its boots are left.
     Restart(u8),
+}
+
+/// What an event asks for.
+#[derive(Drop)]
+pub(crate) enum Task<Op> {
+    /// The node of this number does this.
+    Act(u8, Deed<Op>),
+    /// The letter of this number reaches its receiver.
+    Deliver(usize),
+}
+
+impl<Op> Event<Op> {
+    /// Which deed of which node it is, or the delivery of which letter.
+    pub(crate) fn task(self) -> Task<Op>
+        ensures { event_for result ≡ self }
+    {
+        match self {
+            Event::Submit(id, command) => Task::Act(id, Deed::Request(command)),
+            Event::Deliver(index) => Task::Deliver(index),
+            Event::Wake(id) => Task::Act(id, Deed::Wake),
+            Event::Nudge(id) => Task::Act(id, Deed::Nudge),
+            Event::Propose(id) => Task::Act(id, Deed::Propose),
+            Event::Perform(id) => Task::Act(id, Deed::Perform),
+            Event::Restart(id) => Task::Act(id, Deed::Restart),
+        }
+    }
 }
 
 impl<Op: Value> Value for Event<Op> {

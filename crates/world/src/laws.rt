@@ -3,7 +3,6 @@ ghost use Rattle.std.specs.FinMap.{get};
 ghost use Rattle.object.specs.declared.command.Command.{Command};
 ghost use Rattle.ballot.specs.Members.{is_member};
 ghost use Rattle.ballot.specs.declared.letter.Letter.{Letter};
-ghost use Rattle.ballot.specs.BallotLaws.{BallotLaws};
 ghost use Rattle.world.specs.Nodes.{node};
 ghost use Rattle.world.specs.Worlds.{opening};
 ghost use Rattle.world.specs.Refusals.{most_events};
@@ -14,16 +13,8 @@ ghost use Rattle.world.specs.Agreements.{ChoosesOne, StaysChosen};
 ghost use Rattle.world.specs.OneOrder.{HasOneOrder, KeepsPromise, IsLater};
 ghost use Rattle.world.specs.Told.{IsAnswered};
 
-use ballot::{ballot_order, majorities_share_a_member};
+use ballot::ballot_laws;
 use object::Object;
-
-/// What the order of ballots and the majorities of members promise, in one place.
-pub(crate) fn ballot_laws()
-    ensures { BallotLaws }
-{
-    ballot_order();
-    majorities_share_a_member();
-}
 
 /// What is so of every world that events lead to, so that whoever keeps the nodes of one in another way may rely on it
 /// without a `World`: it is a world to begin with and after each event (`opening`, `next`); its members have nodes whose

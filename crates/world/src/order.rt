@@ -7,18 +7,16 @@ ghost use Rattle.world.specs.Chosen.{IsChosen, IsChosenFrom, IsOrder};
 ghost use Rattle.world.specs.Reached.{IsPlaced};
 ghost use Rattle.world.specs.Voters.{row, is_voted, HasVoted, HasNoneVoted};
 
-use crate::cluster::Cluster;
-use crate::laws::ballot_laws;
 use crate::world::World;
-use ballot::{Ballot, MemberSet, Pvalue, Slot};
+use ballot::{Ballot, MemberSet, Pvalue, Slot, ballot_laws};
 use object::{Command, Key, Object, Value};
 use std::alloc::{AllocError, Global};
 
-impl<O: Object> Cluster<O> {
+impl<O: Object> World<O> {
     // The nodes that accepted something under this ballot and slot.
     fn voters(&self, ballot: Ballot, slot: Slot) -> MemberSet
-        requires { length self.now.nodes ≡ length self.now.members }
-        ensures { (i : ℕ) → slice_index_or result i false ≡ slice_index_or (row self.now ballot slot) i false }
+        requires { length self.now.cluster.nodes ≡ length self.now.cluster.members }
+        ensures { (i : ℕ) → slice_index_or result i false ≡ slice_index_or (row self.now.cluster ballot slot) i false }
     {
         let nodes = &self.nodes;
         let mut voters = MemberSet::nobody();
@@ -32,8 +30,8 @@ impl<O: Object> Cluster<O> {
 
     // Whether a majority accepted something under this ballot and slot.
     fn is_voted(&self, ballot: Ballot, slot: Slot) -> bool
-        requires { length self.now.nodes ≡ length self.now.members }
-        ensures { result ≡ is_voted self.now ballot slot }
+        requires { length self.now.cluster.nodes ≡ length self.now.cluster.members }
+        ensures { result ≡ is_voted self.now.cluster ballot slot }
     {
         let voters = self.voters(ballot, slot);
         self.members.is_majority(&voters)
@@ -45,9 +43,9 @@ impl<O: Object> Cluster<O> {
         accepted: &'a [Pvalue<Command<O::Op>>],
         slot: u64,
     ) -> Option<&'a Command<O::Op>>
-        requires { length self.now.nodes ≡ length self.now.members }
-        ensures some { IfSome result (λ c. HasVoted self.now accepted.now slot c.now) }
-        ensures none { IfNone result (HasNoneVoted self.now accepted.now slot) }
+        requires { length self.now.cluster.nodes ≡ length self.now.cluster.members }
+        ensures some { IfSome result (λ c. HasVoted self.now.cluster accepted.now slot c.now) }
+        ensures none { IfNone result (HasNoneVoted self.now.cluster accepted.now slot) }
         ensures within { IfSome result (λ c. slot ≤ 2 ^ 62) }
     {
         for pvalue in accepted {
@@ -58,11 +56,11 @@ impl<O: Object> Cluster<O> {
         None
     }
 
-    /// The command that is chosen in the slot of this number, where there is one.
-    pub(crate) fn chosen(&self, slot: u64) -> Option<&Command<O::Op>>
-        requires { length self.now.nodes ≡ length self.now.members }
-        ensures some { IfSome result (λ c. (m : ℕ) × HasVoted self.now (node self.now m).acceptor.accepted slot c.now) }
-        ensures none { IfNone result ((m : ℕ) → HasNoneVoted self.now (node self.now m).acceptor.accepted slot) }
+    // The value of a pvalue that some node accepted, of this slot and with the votes of a majority.
+    fn voted_anywhere(&self, slot: u64) -> Option<&Command<O::Op>>
+        requires { length self.now.cluster.nodes ≡ length self.now.cluster.members }
+        ensures some { IfSome result (λ c. (m : ℕ) × HasVoted self.now.cluster (node self.now.cluster m).acceptor.accepted slot c.now) }
+        ensures none { IfNone result ((m : ℕ) → HasNoneVoted self.now.cluster (node self.now.cluster m).acceptor.accepted slot) }
         ensures within { IfSome result (λ c. slot ≤ 2 ^ 62) }
     {
         let nodes = &self.nodes;
@@ -73,9 +71,7 @@ impl<O: Object> Cluster<O> {
         }
         None
     }
-}
 
-impl<O: Object> World<O> {
     /// The one order: of the commands that are chosen in the slots 1, 2, .. up to the first slot with none chosen, those
     /// whose number is greater than every earlier one of their session. It fails for want of memory alone.
     pub fn order(&self) -> Result<Vec<Command<O::Op>>, AllocError>
@@ -121,8 +117,9 @@ impl<O: Object> World<O> {
         ensures none { IfNone result ((c : Command O.Op) → IsChosen self.now.cluster slot c → ⊥) }
         ensures within { IfSome result (λ c. slot ≤ 2 ^ 62) }
     {
+        let _ = &self.alloc;
         ballot_laws();
-        self.cluster.chosen(slot)
+        self.voted_anywhere(slot)
     }
 }
 

@@ -1,10 +1,12 @@
-ghost use Rattle.std.specs.Prelude.{◌≡◌, ◌<◌, ◌++◌, ◌&&◌, not, None, Some, IfOk, if◌then◌else◌, vec_len, vec_capacity};
+ghost use Rattle.std.specs.Prelude.{◌≡◌, ◌<◌, ◌++◌, ◌&&◌, not, IfOk, vec_len, vec_capacity};
 ghost use Rattle.std.specs.Option.{option_to_list};
 ghost use Rattle.object.specs.Commands.{same_acts};
 ghost use Rattle.object.specs.Keys.{same_key};
 ghost use Rattle.object.specs.Happenings.{is_submitted};
+ghost use Rattle.world.specs.Kept.{submission_by};
 ghost use Rattle.world.specs.Refusals.{has_other_act};
 
+use node::Deed;
 use object::{Command, Key, Submission, Value};
 use std::alloc::AllocError;
 
@@ -29,21 +31,21 @@ fn is_other_act<Op: Value>(a: &Command<Op>, b: &Command<Op>) -> bool
     a.key() == b.key() && a.act() != b.act()
 }
 
-/// The command as a submission after so many answers, unless its key was submitted.
-pub(crate) fn new_submission<Op: Value>(
+/// The submission that a deed brings after so many answers, or none.
+pub(crate) fn submission_by<Op: Value>(
+    deed: &Deed<Op>,
     submitted: &[Submission<Op>],
-    command: &Command<Op>,
     after: usize,
 ) -> Result<Option<Submission<Op>>, AllocError>
-    ensures { IfOk result (λ added. added ≡ (if is_submitted command.now.key submitted.now then None else Some (record { command = command.now; after = after }))) }
+    ensures { IfOk result (λ added. added ≡ submission_by deed.now submitted.now after) }
 {
-    if is_submitted(submitted, command.key()) {
-        return Ok(None);
+    match deed {
+        Deed::Request(command) if !is_submitted(submitted, command.key()) => Ok(Some(Submission {
+            command: command.copy()?,
+            after,
+        })),
+        _ => Ok(None),
     }
-    Ok(Some(Submission {
-        command: command.copy()?,
-        after,
-    }))
 }
 
 /// Puts one more at the end, where there is one, into the room that is kept.

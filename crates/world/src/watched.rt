@@ -1,29 +1,15 @@
-ghost use Rattle.std.specs.Prelude.{◌≡◌, ◌++◌, ◌<◌, ◌^◌, true, None, Some, IfOk, OnOk, OnErr};
-ghost use Rattle.std.specs.Option.{option_map};
+ghost use Rattle.std.specs.Prelude.{◌≡◌, ◌++◌, true, IfOk, OnOk, OnErr};
 ghost use Rattle.ballot.specs.Members.{is_member};
-ghost use Rattle.ballot.specs.Letters.{all_to_all};
-ghost use Rattle.object.specs.Commands.{same_commands};
-ghost use Rattle.object.specs.declared.command.Command.{Command};
-ghost use Rattle.leader.specs.Leaders.{woken};
-ghost use Rattle.slot_log.specs.Requests.{requested};
-ghost use Rattle.slot_log.specs.Proposals.{next_proposal, proposed_next};
-ghost use Rattle.slot_log.specs.Decisions.{next_decided};
-ghost use Rattle.slot_log.specs.Advances.{advanced};
-ghost use Rattle.replica.specs.Replicas.{asks_for};
-ghost use Rattle.node.specs.Histories.{history};
-ghost use Rattle.object.specs.Obeying.{answers_after};
-ghost use Rattle.node.specs.Nodes.{new_node, restarted};
-ghost use Rattle.node.specs.Deeds.{led, said_again};
-ghost use Rattle.world.specs.Showing.{IsSeated};
+ghost use Rattle.node.specs.Nodes.{new_node};
+ghost use Rattle.node.specs.Deeds.{own_turn, outcome_of, IsAble};
 ghost use Rattle.node.specs.Receiving.{IsFit, Received};
 ghost use Rattle.world.specs.Voters.{accepts};
 ghost use Rattle.world.specs.Kept.{accepts_of};
 
-use crate::node::Node;
-use crate::receiving::Way;
 use crate::submissions::push_in_room;
 use ballot::{Ballot, Body, Letter, Members, Pvalue, Slot};
-use object::{Answer, Command, Key, Object, Value};
+use node::{Deed, Node, Outcome};
+use object::{Answer, Command, Object, Value};
 use std::alloc::{AllocError, Global};
 use std::marker::Model;
 
@@ -52,7 +38,7 @@ impl<O: Object> Model for Watched<O> {
 }
 
 impl<O: Object> Watched<O> {
-    /// A node to which nothing happened yet.
+    /// Node `id` of these members, to which nothing happened yet.
     pub(crate) fn new(alloc: Global, members: Members, id: u8) -> Result<Watched<O>, AllocError>
         requires { is_member members id ≡ true }
         ensures { IfOk result (λ node. node ≡ new_node members id) }
@@ -63,103 +49,39 @@ impl<O: Object> Watched<O> {
         })
     }
 
-    /// Stops, and begins anew with the next boot. The acceptor stays as it is.
-    pub(crate) fn restart(
+    /// Does this, as its node does.
+    pub(crate) fn act(
         &mut self,
-        alloc: Global,
-        members: Members,
-        id: u8,
-    ) -> Result<(), AllocError>
-        requires member { is_member members id ≡ true }
-        requires within { self.old.boot < 2 ^ 62 }
-        ensures ok { OnOk result (self.new ≡ restarted members id self.old) }
+        deed: Deed<O::Op>,
+        sent: &mut Vec<Letter<Command<O::Op>>>,
+        answers: &mut Vec<Answer<O::Reply>>,
+    ) -> Result<Outcome, AllocError>
+        requires { IsAble self.old deed }
+        ensures state { OnOk result (self.new ≡ (own_turn O.rules self.old deed).state) }
+        ensures sent { OnOk result (sent.new.items ≡ sent.old.items ++ (own_turn O.rules self.old deed).sent) }
+        ensures answers { OnOk result (answers.new.items ≡ answers.old.items ++ (own_turn O.rules self.old deed).answers) }
+        ensures outcome { IfOk result (λ outcome. outcome ≡ outcome_of self.old deed) }
         ensures err { OnErr result (self.new ≡ self.old) }
+        ensures unsaid { OnErr result ((sent.new.items ≡ sent.old.items) × (answers.new.items ≡ answers.old.items)) }
     {
-        self.node.restart(alloc, members, id)
+        let came = self.node.act(deed, sent, answers)?;
+        Ok(came)
     }
 
-    /// Is asked for a command.
-    pub(crate) fn request(&mut self, command: Command<O::Op>) -> Result<(), AllocError>
-        ensures ok { OnOk result (self.new ≡ record self.old { replica = requested (same_commands O.Op.eq) self.old.replica command }) }
-        ensures err { OnErr result (self.new ≡ self.old) }
-    {
-        self.node.request(command)
-    }
-
-    /// Proposes the first request, where a slot is open to it.
-    pub(crate) fn propose(
-        &mut self,
-        members: Members,
-        id: u8,
-        out: &mut Vec<Letter<Command<O::Op>>>,
-    ) -> Result<(), AllocError>
-        ensures ok { OnOk result (self.new ≡ record self.old { replica = proposed_next self.old.replica }) }
-        ensures out { OnOk result (out.new.items ≡ out.old.items ++ all_to_all members id (asks_for (next_proposal self.old.replica))) }
-        ensures err { OnErr result ((self.new ≡ self.old) × (out.new.items ≡ out.old.items)) }
-    {
-        self.node.propose(members, id, out)?;
-        Ok(())
-    }
-
-    /// Sends a scout out, where the leader isn't active and has none.
-    pub(crate) fn wake(
-        &mut self,
-        members: Members,
-        id: u8,
-        out: &mut Vec<Letter<Command<O::Op>>>,
-    ) -> Result<(), AllocError>
-        requires { IsSeated members id self.old }
-        ensures ok { OnOk result (self.new ≡ led self.old (woken self.old.leader)) }
-        ensures out { OnOk result (out.new.items ≡ out.old.items ++ all_to_all members id (woken self.old.leader).says) }
-        ensures err { OnErr result ((self.new ≡ self.old) × (out.new.items ≡ out.old.items)) }
-    {
-        self.node.wake(members, id, out)
-    }
-
-    /// Says again what it waits for.
-    pub(crate) fn nudge(
-        &self,
-        members: Members,
-        id: u8,
-        out: &mut Vec<Letter<Command<O::Op>>>,
-    ) -> Result<(), AllocError>
-        requires { IsSeated members id self.now }
-        ensures ok { OnOk result (out.new.items ≡ out.old.items ++ said_again members id self.now) }
-        ensures err { OnErr result (out.new.items ≡ out.old.items) }
-    {
-        self.node.nudge(members, id, out)
-    }
-
-    /// Performs the command of its `slot_out`, where that is known, and appends the answers. It tells the slot and the key.
-    pub(crate) fn perform(
-        &mut self,
-        out: &mut Vec<Answer<O::Reply>>,
-    ) -> Result<Option<(Slot, Key)>, AllocError>
-        ensures done { IfOk result (λ done. done ≡ option_map (λ c. (self.old.replica.slot_out, c.key)) (next_decided self.old.replica)) }
-        ensures idle { OnOk result (next_decided self.old.replica ≡ None → (self.new ≡ self.old) × (out.new.items ≡ out.old.items)) }
-        ensures state { OnOk result ((c : Command O.Op) → next_decided self.old.replica ≡ Some c → self.new ≡ record self.old { replica = advanced (same_commands O.Op.eq) self.old.replica }) }
-        ensures out { OnOk result ((c : Command O.Op) → next_decided self.old.replica ≡ Some c → out.new.items ≡ out.old.items ++ answers_after O.rules (history self.old.replica) c) }
-        ensures err { OnErr result ((self.new ≡ self.old) × (out.new.items ≡ out.old.items)) }
-    {
-        let done = self.node.perform(out)?;
-        Ok(done)
-    }
-
-    /// Receives a letter, and appends what it sends. For want of memory it changes nothing.
+    /// Receives a body from a member, and appends what it sends. For want of memory it changes nothing.
     pub(crate) fn receive(
         &mut self,
-        way: Way,
-        body: Body<Command<O::Op>>,
+        from: u8,
+        body: &Body<Command<O::Op>>,
         out: &mut Vec<Letter<Command<O::Op>>>,
     ) -> Result<(), AllocError>
-        requires seated { IsSeated way.members way.to self.old }
-        requires fit { IsFit self.old body }
-        ensures ok { OnOk result (Received way.members way.«from» way.to self.old body self.new out.old.items out.new.items) }
+        requires { IsFit self.old body.now }
+        ensures ok { OnOk result (Received «from» self.old body.now self.new out.old.items out.new.items) }
         ensures err { OnErr result ((self.new ≡ self.old) × (out.new.items ≡ out.old.items)) }
     {
         self.accepted.reserve(1)?;
-        let accepted = self.accepts_of(&body)?;
-        self.node.receive(way, body, out)?;
+        let accepted = self.accepts_of(body)?;
+        self.node.receive(from, body, out)?;
         push_in_room(&mut self.accepted, accepted);
         Ok(())
     }

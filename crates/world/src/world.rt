@@ -9,14 +9,13 @@ ghost use Rattle.world.specs.OneOrder.{HasOneOrder, KeepsPromise, IsLater};
 ghost use Rattle.world.specs.Told.{IsAnswered};
 ghost use Rattle.world.specs.Agreements.{HasOneCommand, KeepsChosen, ChoosesOne, DecidesChosen, StaysChosen};
 
+mod acting;
 mod refusing;
-mod rows;
 
-use crate::cluster::Cluster;
 use crate::error::WorldError;
-use crate::event::Event;
-use crate::laws::ballot_laws;
-use ballot::{Letter, Members};
+use crate::event::{Event, Task};
+use crate::watched::Watched;
+use ballot::{Letter, Members, ballot_laws};
 use object::{Answer, Command, Key, Object, Submission, Value};
 use std::alloc::{AllocError, Global};
 use std::marker::Model;
@@ -25,7 +24,9 @@ use std::marker::Model;
 #[derive(Drop)]
 pub struct World<O: Object> {
     pub(crate) alloc: Global,
-    pub(crate) cluster: Cluster<O>,
+    pub(crate) members: Members,
+    pub(crate) nodes: Vec<Watched<O>>,
+    letters: Vec<Letter<Command<O::Op>>>,
     submitted: Vec<Submission<O::Op>>,
     answers: Vec<Answer<O::Reply>>,
     // the keys of the commands of slots 1 to the reach
@@ -45,14 +46,14 @@ impl<O: Object> Model for World<O> {
     ghost coded = { Prim.hlevel (codes, slots_code, O.code, O.Op.code, O.Reply.code) };
 
     ghost view = { λ w. record {
-      cluster = w.cluster;
+      cluster = record { members = w.members; nodes = w.nodes.items; letters = w.letters.items };
       happenings = record { submitted = w.submitted.items; answers = w.answers.items };
       reach = w.reach;
       taken = w.taken;
     } };
 
     ghost invariant = { λ w. IsNoted O.rules (record {
-      cluster = w.cluster;
+      cluster = record { members = w.members; nodes = w.nodes.items; letters = w.letters.items };
       happenings = record { submitted = w.submitted.items; answers = w.answers.items };
       reach = w.reach;
       taken = w.taken;
@@ -68,9 +69,15 @@ impl<O: Object> World<O> {
         ensures answered { IfOk result (IsAnswered O.rules) }
     {
         ballot_laws();
+        let mut nodes = Vec::new(alloc);
+        for before in 0..members.count() {
+            nodes.push(Watched::new(alloc, members, before + 1)?)?;
+        }
         let world = World {
             alloc,
-            cluster: Cluster::new(alloc, members)?,
+            members,
+            nodes,
+            letters: Vec::new(alloc),
             submitted: Vec::new(alloc),
             answers: Vec::new(alloc),
             performed: Vec::new(alloc),
@@ -98,9 +105,22 @@ impl<O: Object> World<O> {
         ensures answered { IsAnswered O.rules self.new }
         ensures later { IsLater self.old self.new }
     {
-        let taken = self.take(event);
+        let _ = &self.alloc;
+        ballot_laws();
+        match self.refusal(&event) {
+            Some(refused) => {
+                self.agrees();
+                return Err(refused);
+            }
+            None => {}
+        }
+        let taken = match event.task() {
+            Task::Act(id, deed) => self.act(id, deed),
+            Task::Deliver(index) => self.deliver(index),
+        };
         self.agrees();
-        taken
+        taken?;
+        Ok(())
     }
 
     /// Takes these events in turn, up to the first that is refused, and tells its place and the refusal. Those before it
@@ -155,24 +175,7 @@ impl<O: Object> World<O> {
         let _ = &self.alloc;
         ballot_laws();
         let event = event.copy()?;
-        self.take(event)
-    }
-
-    // The same, but for what the new world agrees on.
-    fn take(&mut self, event: Event<O::Op>) -> Result<(), WorldError>
-        ensures ok { OnOk result (Step O.rules self.old event self.new) }
-        ensures err { OnErr result (self.new ≡ self.old) }
-        ensures refused { (r : WorldError) → refusal O.Op.eq self.old event ≡ Some r → result ≡ Err r }
-        ensures memory { refusal O.Op.eq self.old event ≡ None → IfErr result (λ r. r ≡ OutOfMemory) }
-        ensures stays { StaysChosen self.old.cluster self.new.cluster }
-        ensures later { IsLater self.old self.new }
-    {
-        let _ = &self.alloc;
-        ballot_laws();
-        match self.refusal(&event) {
-            Some(refused) => Err(refused),
-            None => Ok(self.obey(event)?),
-        }
+        self.step(event)
     }
 
     // What every world agrees on.
@@ -194,7 +197,7 @@ impl<O: Object> World<O> {
     pub fn letters(&self) -> &[Letter<Command<O::Op>>]
         ensures { result.now ≡ self.now.cluster.letters }
     {
-        self.cluster.letters()
+        self.letters.as_slice()
     }
 
     /// The first submission of each key, in the order in which they came.

@@ -41,7 +41,7 @@ impl<O: Object> World<O> {
             | Event::Nudge(id)
             | Event::Propose(id)
             | Event::Perform(id)
-            | Event::Restart(id) => self.cluster.members.has(*id),
+            | Event::Restart(id) => self.members.has(*id),
             Event::Deliver(_) => true,
         }
     }
@@ -51,7 +51,7 @@ impl<O: Object> World<O> {
         ensures { result ≡ is_sent (length self.now.cluster.letters) event.now }
     {
         match event {
-            Event::Deliver(index) => *index < self.cluster.letters().len(),
+            Event::Deliver(index) => *index < self.letters.len(),
             _ => true,
         }
     }

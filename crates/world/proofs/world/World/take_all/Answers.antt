@@ -21,3 +21,6 @@ returns-in-Err-clause-later g c = subst (IsLater c.args.self.now) (sym c.in-Err.
 
 pub returns-clause-later : goal.returns-clause-later
 returns-clause-later g c = later_by c.ballot_laws.ensures g.O.Object.rules _ _ c.self.view_is c.self.invariant.world (take c.loop-index.index c.args.events.now) c.loop-index.self c.loop-index.invariant.led
+
+pub returns-in-Err-clause-stays : goal.returns-in-Err-clause-stays
+returns-in-Err-clause-stays g c = λ s x h. c.in-Err.ensures.stays s x (c.loop-index.invariant.stays s x h)

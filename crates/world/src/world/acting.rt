@@ -1,0 +1,85 @@
+ghost use Rattle.std.specs.Prelude.{◌≡◌, ◌<◌, true, length, OnOk, OnErr};
+ghost use Rattle.ballot.specs.Members.{is_member};
+ghost use Rattle.world.specs.declared.event.Event.TheVariants as events;
+ghost use Rattle.world.specs.Tasks.{event_of};
+ghost use Rattle.world.specs.Steps.{Step, AsksForItsOwn};
+ghost use Rattle.world.specs.Refusals.{most_events};
+ghost use Rattle.world.specs.Kept.{key_past, reach_after};
+
+use super::World;
+use crate::submissions::{push_in_room, submission_by};
+use ballot::{Body, Letter, Slot, ballot_laws};
+use node::{Deed, Outcome};
+use object::{Key, Object};
+use std::alloc::AllocError;
+use std::mem;
+
+impl<O: Object> World<O> {
+    // A node does something by itself, and what comes of it is noted.
+    pub(super) fn act(&mut self, id: u8, deed: Deed<O::Op>) -> Result<(), AllocError>
+        requires member { is_member self.old.cluster.members id ≡ true }
+        requires own { AsksForItsOwn deed self.old.happenings.submitted }
+        requires room { self.old.taken < most_events }
+        ensures ok { OnOk result (Step O.rules self.old (event_of id deed) self.new) }
+        ensures err { OnErr result (self.new ≡ self.old) }
+    {
+        ballot_laws();
+        let added = submission_by(&deed, self.submitted.as_slice(), self.answers.len())?;
+        self.submitted.reserve(1)?;
+        self.performed.reserve(1)?;
+        let place = usize::from(id - 1);
+        let came = self.nodes[place].act(deed, &mut self.letters, &mut self.answers)?;
+        push_in_room(&mut self.submitted, added);
+        push_in_room(&mut self.performed, key_past(self.reach, &came));
+        self.reach = reach_after(self.reach, &came);
+        self.taken += 1;
+        Ok(())
+    }
+
+    // A letter reaches its receiver. It is lent while the receiver sends what comes after it.
+    pub(super) fn deliver(&mut self, index: usize) -> Result<(), AllocError>
+        requires sent { index < length self.old.cluster.letters }
+        requires room { self.old.taken < most_events }
+        ensures ok { OnOk result (Step O.rules self.old (events.Deliver index) self.new) }
+        ensures err { OnErr result (self.new ≡ self.old) }
+    {
+        ballot_laws();
+        let letter = mem::replace(&mut self.letters[index], stand_in());
+        let watched = &mut self.nodes[usize::from(letter.to - 1)];
+        let received = watched.receive(letter.from, &letter.body, &mut self.letters);
+        self.letters[index] = letter;
+        received?;
+        self.taken += 1;
+        Ok(())
+    }
+}
+
+// A letter that stands where another one is lent.
+fn stand_in<C>() -> Letter<C> {
+    let slot = Slot::new(1).unwrap();
+    Letter {
+        from: 0,
+        to: 0,
+        body: Body::Ask(slot),
+    }
+}
+
+// The key that is noted after what came of a deed, or none: that of a slot past the reach.
+fn key_past(reach: u64, came: &Outcome) -> Option<Key>
+    ensures { result ≡ key_past reach came.now }
+{
+    match came {
+        Outcome::Performed(performed) if performed.slot.number() > reach => Some(performed.key),
+        _ => None,
+    }
+}
+
+// The reach after what came of a deed.
+fn reach_after(reach: u64, came: &Outcome) -> u64
+    ensures { result ≡ reach_after reach came.now }
+{
+    match came {
+        Outcome::Performed(performed) => reach.max(performed.slot.number()),
+        _ => reach,
+    }
+}
