@@ -14,9 +14,13 @@ use Rattle.world.specs.Refusals.{most_events}
 use Rattle.world.specs.Runs.{IsWorld, InEvery, AfterEach}
 use Rattle.world.specs.Showing.{IsReceivable}
 use Rattle.world.specs.Chosen.{IsChosen}
-use Rattle.world.specs.Agreements.{ChoosesOne, StaysChosen}
+use Rattle.object.specs.Happenings.{SubmittedOnce, IsTimeline}
+use Rattle.world.specs.Told.{IsGivenByReached}
+use Rattle.world.proofs.Legal.{reached_gives}
+use Rattle.world.proofs.Timeline.{reachable_timeline}
+use Rattle.world.specs.Agreements.{HasOneCommand, KeepsChosen, DecidesChosen, ChoosesOne, StaysChosen}
 use Rattle.ballot.specs.OrderLaws.{BallotLaws}
-use Rattle.world.proofs.Invariants.{IsSound, agree}
+use Rattle.world.proofs.Invariants.{IsSound, agree, one_command, keeps_chosen, decides_chosen}
 use Rattle.world.proofs.Grows.{chosen_stays}
 use Rattle.world.proofs.Reach.{reachable_sound, step_sound, one_more, opening_reachable}
 use Rattle.world.proofs.Told.{reachable_within_reach}
@@ -63,3 +67,22 @@ module _ (laws : BallotLaws) {O Op Reply : Type 0} (rules : Rules O Op Reply) wh
 
   pub chosen_for_good : AfterEach rules (λ w v. StaysChosen w.cluster v.cluster)
   chosen_for_good w v e i s t c h = chosen_stays w.cluster v.cluster (step_sound laws rules w e v (sound w i) s).grows t c h
+
+  pub has_one_command : InEvery rules (λ w. HasOneCommand w.cluster)
+  has_one_command w i = one_command laws w.cluster (sound w i)
+
+  pub keeps_what_is_chosen : InEvery rules (λ w. KeepsChosen w.cluster)
+  keeps_what_is_chosen w i = keeps_chosen laws w.cluster (sound w i)
+
+  pub decides_what_is_chosen : InEvery rules (λ w. DecidesChosen w.cluster)
+  decides_what_is_chosen w i = decides_chosen laws w.cluster (sound w i)
+
+  pub is_given : InEvery rules (IsGivenByReached rules)
+  is_given w i = reached_gives laws rules w i.reachable
+
+-- what happened is one list in time
+pub submitted_once : {O Op Reply : Type 0} (rules : Rules O Op Reply) → InEvery rules (λ w. SubmittedOnce w.happenings.submitted)
+submitted_once rules w i = (reachable_timeline rules w i.reachable).once
+
+pub in_time : {O Op Reply : Type 0} (rules : Rules O Op Reply) → InEvery rules (λ w. IsTimeline w.happenings)
+in_time rules w i = let t = reachable_timeline rules w i.reachable in record { ordered = t.ordered; within = t.within }

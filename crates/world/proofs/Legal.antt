@@ -11,6 +11,7 @@ use Rattle.object.specs.declared.command.Key.{Key}
 use Rattle.object.specs.declared.command.Submission.{Submission}
 use Rattle.object.specs.Objects.{Rules, replay_of}
 use Rattle.object.specs.Obeying.{answers_after}
+use Rattle.world.specs.Told.{IsGivenByReached}
 use Rattle.world.specs.Worlds.{World}
 use Rattle.world.specs.Runs.{IsReachable}
 use Rattle.world.specs.Chosen.{IsOrder, IsChosenFrom}
@@ -113,6 +114,18 @@ module _ (laws : BallotLaws) {O Op Reply : Type 0} (rules : Rules O Op Reply) (w
     once = once;
     later = λ s i a j m n given stands. is_later s (told.past s i) a j m n given stands;
   }
+
+-- each answer that was given is one of an object that obeys what is kept of the commands up to the reach
+pub reached_gives : (laws : BallotLaws) {O Op Reply : Type 0} (rules : Rules O Op Reply) (w : World Op Reply) → IsReachable rules w → IsGivenByReached rules w
+reached_gives laws rules w r cs reached a i =
+    let h = (reachable_traced laws rules w r).given a i in
+    let f = length-append h.earlier (h.last ∷ []) in
+    let l = h.within in
+    let count = reached.count in (
+      length (kept h.earlier),
+      given_place rules h.earlier h.last cs a h.answer
+      (run_within laws w.cluster (reachable_sound laws rules w r) 1 (h.earlier ++ (h.last ∷ [])) cs h.chosen reached.chosen (omega arith)),
+    )
 
 -- the happenings of a reachable world are legal for its order
 pub reachable_legal : (laws : BallotLaws) {O Op Reply : Type 0} (rules : Rules O Op Reply) (waits : O → Key → Type 0) → ObjectLaws rules waits → (w : World Op Reply) → IsReachable rules w → (order : List (Command Op)) → IsOrder w.cluster order → IsLegal rules w.happenings order

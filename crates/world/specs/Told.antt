@@ -22,7 +22,12 @@ ReachBegins {Op} w = (cs order : List (Command Op)) → IsReached w cs → IsOrd
 abbrev pub IsTold : {O Op Reply : Type 0} → Rules O Op Reply → World Op Reply → Type 0
 IsTold {O} {Op} {Reply} rules w = (cs : List (Command Op)) → IsReached w cs → (place : ℕ) (a : Answer Reply) → IsGivenAt rules (kept cs) place a → In a w.happenings.answers
 
--- the three together
+-- and each answer that was given is one of these
+abbrev pub IsGivenByReached : {O Op Reply : Type 0} → Rules O Op Reply → World Op Reply → Type 0
+IsGivenByReached {O} {Op} {Reply} rules w =
+    (cs : List (Command Op)) → IsReached w cs → (a : Answer Reply) → In a w.happenings.answers → (place : ℕ) × IsGivenAt rules (kept cs) place a
+
+-- the first three together
 pub record IsAnswered {O Op Reply : Type 0} (rules : Rules O Op Reply) (w : World Op Reply) : Type 0 where
   pub some : HasReached w
   pub begins : ReachBegins w

@@ -1,6 +1,7 @@
 ghost use Rattle.std.specs.Prelude.{◌≡◌, ◌<◌, ◌≤◌, ◌^◌, ◌+◌, ℕ, true, Some, List, slice_get};
 ghost use Rattle.std.specs.FinMap.{get};
 ghost use Rattle.object.specs.declared.command.Command.{Command};
+ghost use Rattle.object.specs.Happenings.{SubmittedOnce, IsTimeline};
 ghost use Rattle.ballot.specs.Members.{is_member};
 ghost use Rattle.ballot.specs.declared.letter.Letter.{Letter};
 ghost use Rattle.world.specs.Nodes.{node};
@@ -9,9 +10,9 @@ ghost use Rattle.world.specs.Refusals.{most_events};
 ghost use Rattle.world.specs.Runs.{IsWorld, InEvery, AfterEach};
 ghost use Rattle.world.specs.Showing.{HasNode, IsReceivable};
 ghost use Rattle.world.specs.Chosen.{IsChosen};
-ghost use Rattle.world.specs.Agreements.{ChoosesOne, StaysChosen};
+ghost use Rattle.world.specs.Agreements.{HasOneCommand, KeepsChosen, DecidesChosen, ChoosesOne, StaysChosen};
 ghost use Rattle.world.specs.OneOrder.{HasOneOrder, KeepsPromise, IsLater};
-ghost use Rattle.world.specs.Told.{IsAnswered};
+ghost use Rattle.world.specs.Told.{IsAnswered, IsGivenByReached};
 
 use ballot::ballot_laws;
 use object::Object;
@@ -20,7 +21,9 @@ use object::Object;
 /// without a `World`: it is a world to begin with and after each event (`opening`, `next`); its members have nodes whose
 /// boots are still to come (`nodes`, `boots`), which may receive each letter that was sent (`letters`); a replica is at
 /// most at the slot after the reach, and what it knows to be decided is chosen (`reach`, `decided`); and what
-/// `World::step` says of it (`chooses_one` and those below).
+/// `World::step` says of it (`one_command` and those below); what happened is one list in time, no key submitted twice
+/// (`once`, `timeline`); and each answer so far is one of an object that obeys what is kept of the commands up to the
+/// reach (`given`).
 pub fn every_world<O: Object>()
     ensures opening { (members : List ℕ) → IsWorld O.rules (opening members) }
     ensures next { AfterEach O.rules (λ w v. w.taken < most_events → IsWorld O.rules v) }
@@ -29,10 +32,16 @@ pub fn every_world<O: Object>()
     ensures letters { InEvery O.rules (λ w. (i : ℕ) (l : Letter (Command O.Op)) → slice_get w.cluster.letters i ≡ Some l → IsReceivable w.cluster l) }
     ensures reach { InEvery O.rules (λ w. (n : ℕ) → (node w.cluster n).replica.slot_out ≤ w.reach + 1) }
     ensures decided { InEvery O.rules (λ w. (n s : ℕ) (c : Command O.Op) → get (node w.cluster n).replica.decisions s ≡ Some c → IsChosen w.cluster s c) }
+    ensures one_command { InEvery O.rules (λ w. HasOneCommand w.cluster) }
+    ensures keeps_chosen { InEvery O.rules (λ w. KeepsChosen w.cluster) }
+    ensures decides_chosen { InEvery O.rules (λ w. DecidesChosen w.cluster) }
     ensures chooses_one { InEvery O.rules (λ w. ChoosesOne w.cluster) }
     ensures stays { AfterEach O.rules (λ w v. StaysChosen w.cluster v.cluster) }
     ensures one_order { InEvery O.rules (HasOneOrder O.rules) }
     ensures promised { InEvery O.rules (λ w. KeepsPromise O.promise w.cluster) }
+    ensures once { InEvery O.rules (λ w. SubmittedOnce w.happenings.submitted) }
+    ensures timeline { InEvery O.rules (λ w. IsTimeline w.happenings) }
+    ensures given { InEvery O.rules (IsGivenByReached O.rules) }
     ensures answered { InEvery O.rules (IsAnswered O.rules) }
     ensures later { AfterEach O.rules IsLater }
 {

@@ -1,6 +1,6 @@
 use Rattle.std.proofs.Common.{refl}
 use Rattle.world.proofs.Events.{has_node, boots, order_now, later_step}
-use Rattle.world.proofs.Every.{opens, goes_on, may_receive, within_reach, is_decided, agrees, chosen_for_good}
+use Rattle.world.proofs.Every.{opens, goes_on, may_receive, within_reach, is_decided, agrees, chosen_for_good, has_one_command, keeps_what_is_chosen, decides_what_is_chosen, submitted_once, in_time, is_given}
 use Rattle.world.proofs.Told.{answered_now}
 use Rattle.world.proofs.laws.every_world.Goals as goal
 
@@ -42,3 +42,21 @@ returns-clause-answered g c = λ w i. answered_now c.ballot_laws.ensures g.O.Obj
 
 pub returns-clause-later : goal.returns-clause-later
 returns-clause-later g c = λ w v e i s. later_step c.ballot_laws.ensures g.O.Object.rules w w refl i e v s
+
+pub returns-clause-one_command : goal.returns-clause-one_command
+returns-clause-one_command g c = has_one_command c.ballot_laws.ensures g.O.Object.rules
+
+pub returns-clause-keeps_chosen : goal.returns-clause-keeps_chosen
+returns-clause-keeps_chosen g c = keeps_what_is_chosen c.ballot_laws.ensures g.O.Object.rules
+
+pub returns-clause-decides_chosen : goal.returns-clause-decides_chosen
+returns-clause-decides_chosen g c = decides_what_is_chosen c.ballot_laws.ensures g.O.Object.rules
+
+pub returns-clause-once : goal.returns-clause-once
+returns-clause-once g c = submitted_once g.O.Object.rules
+
+pub returns-clause-timeline : goal.returns-clause-timeline
+returns-clause-timeline g c = in_time g.O.Object.rules
+
+pub returns-clause-given : goal.returns-clause-given
+returns-clause-given g c = is_given c.ballot_laws.ensures g.O.Object.rules
