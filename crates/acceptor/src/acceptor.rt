@@ -76,6 +76,13 @@ impl<C: Value> Acceptor<C> {
         Ok(self.promised)
     }
 
+    /// The ballot that it promised, if any.
+    pub fn promised(&self) -> Option<Ballot>
+        ensures { result ≡ self.now.promised }
+    {
+        self.promised
+    }
+
     /// Whether this ballot is the promised one, so that a pvalue of it would be accepted.
     pub fn has_promised(&self, ballot: Ballot) -> bool
         ensures { result ≡ is_promise self.now.promised ballot }

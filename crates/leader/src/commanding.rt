@@ -20,7 +20,7 @@ pub(crate) fn send_p2a<C: Value>(
     ensures err { OnErr result (out.new.items ≡ out.old.items) }
 {
     let body = Body::P2a(pvalue.copy()?);
-    send_to_all(members, from, &body, out)
+    send_to_all(members, from, body, out)
 }
 
 /// Starts a commander of the pvalue, which asks all members to accept it. For want of memory nothing is done.
@@ -57,5 +57,5 @@ pub(crate) fn send_decision<C: Value>(
     ensures err { OnErr result (out.new.items ≡ out.old.items) }
 {
     let body = Body::Decision(slot, command.copy()?);
-    send_to_all(members, from, &body, out)
+    send_to_all(members, from, body, out)
 }

@@ -96,7 +96,7 @@ impl<C: Value> Leader<C> {
         if self.active || self.scout.is_some() {
             return Ok(());
         }
-        send_to_all(self.members, self.node, &Body::P1a(self.ballot), out)?;
+        send_to_all(self.members, self.node, Body::P1a(self.ballot), out)?;
         self.scout = Some(Scout::new(self.alloc, self.members, self.ballot));
         Ok(())
     }
@@ -138,6 +138,6 @@ impl<C: Value> Leader<C> {
         if self.scout.is_none() {
             return Ok(());
         }
-        send_to_all(self.members, self.node, &Body::P1a(self.ballot), out)
+        send_to_all(self.members, self.node, Body::P1a(self.ballot), out)
     }
 }
