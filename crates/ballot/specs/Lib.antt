@@ -4,3 +4,4 @@ pub mod Letters
 pub mod Ones
 pub mod Exact
 pub mod PvalueLaws
+pub mod Slots
