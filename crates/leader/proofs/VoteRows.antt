@@ -9,9 +9,9 @@ use Rattle.scout_commander.specs.Commanders as commanders
 use Rattle.scout_commander.specs.declared.commander.Voted.{Voted}
 use Rattle.scout_commander.specs.declared.commander.Voted.TheVariants.{Wait, Decided, Preempted}
 use Rattle.leader.specs.Leaders.{Leading, Done, IsLeader, IsCommanderOf, silently, preempted}
-use Rattle.leader.specs.Slots.{Slots}
+use Rattle.ballot.specs.Slots.{Slots}
 use Rattle.leader.specs.Votes as votes
-use Rattle.leader.proofs.Maps.{insert_again}
+use Rattle.ballot.proofs.SlotMaps.{insert_again}
 
 either : {A : Type 0} (P : A → Type 0) (b : Bool) (x y : A) → P x → P y → P (cond b x y)
 either P true x y p q = p

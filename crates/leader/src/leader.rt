@@ -1,4 +1,5 @@
-ghost use Rattle.std.specs.Prelude.{◌≡◌, ◌≤◌, ◌^◌, ◌↔◌, true, OnOk, OnErr, IfErr, take, vec_len};
+ghost use Rattle.std.specs.Prelude.{◌≡◌, ◌≤◌, ◌^◌, ◌↔◌, ◌⊎◌, true, IsOk, IsSome, OnOk, OnErr, IfErr, take, vec_len};
+ghost use Rattle.std.specs.FinMap as slots;
 ghost use Rattle.ballot.specs.Members.{is_member};
 ghost use Rattle.ballot.specs.Ballots.{is_below};
 ghost use Rattle.leader.specs.Leaders.{new_leader, preempted, woken, scout_says, says_again, IsLeader, Sends};
@@ -10,8 +11,7 @@ mod votes;
 
 use crate::commanding::send_p2a;
 use crate::error::LeaderError;
-use crate::slot_map::SlotMap;
-use ballot::{Ballot, Body, Letter, Members, send_to_all};
+use ballot::{Ballot, Body, Letter, Members, Slot, SlotMap, send_to_all};
 use object::Value;
 use scout_commander::{Commander, Scout};
 use std::alloc::{AllocError, Global};
@@ -32,7 +32,7 @@ pub struct Leader<C: Value> {
 }
 
 impl<C: Value> Model for Leader<C> {
-    ghost use Rattle.leader.specs.Slots.{slots_code};
+    ghost use Rattle.ballot.specs.Slots.{slots_code};
     ghost use Rattle.std.specs.Coded.{codes};
     ghost use Rattle.leader.specs.Leaders.{Leading, IsKept};
 
@@ -66,6 +66,30 @@ impl<C: Value> Leader<C> {
         }
     }
 
+    /// Its members.
+    pub fn members(&self) -> Members
+        ensures members { result ≡ self.now.members }
+        ensures leader { IsLeader self.now }
+    {
+        self.members
+    }
+
+    /// The node whose leader it is.
+    pub fn node(&self) -> u8
+        ensures node { result ≡ self.now.ballot.node }
+        ensures leader { IsLeader self.now }
+    {
+        self.node
+    }
+
+    /// Whether a command is proposed for the slot.
+    pub fn has_proposal(&self, slot: Slot) -> bool
+        ensures has { result ≡ slots.contains_key self.now.proposals slot }
+        ensures leader { IsLeader self.now }
+    {
+        self.proposals.contains(slot)
+    }
+
     /// Gives up, where the ballot is above the leader's, for the ballot of the next round. It takes no memory.
     pub fn preempted(&mut self, ballot: Ballot) -> Result<(), LeaderError>
         ensures ok { OnOk result (self.new ≡ preempted self.old ballot) }
@@ -87,10 +111,11 @@ impl<C: Value> Leader<C> {
         Ok(())
     }
 
-    /// Where the leader isn't active and has no scout, it sends one out.
+    /// Where the leader isn't active and has no scout, it sends one out. Else it does nothing, which takes no memory.
     pub fn wake(&mut self, out: &mut Vec<Letter<C>>) -> Result<(), AllocError>
         ensures state { OnOk result (self.new ≡ (woken self.old).state) }
         ensures out { OnOk result (Sends self.old (woken self.old).says out.old.items out.new.items) }
+        ensures idle { (self.old.active ≡ true) ⊎ IsSome self.old.scout → IsOk result }
         ensures err { OnErr result ((self.new ≡ self.old) × (out.new.items ≡ out.old.items)) }
     {
         if self.active || self.scout.is_some() {

@@ -1,5 +1,5 @@
 -- Where pvalues of a slot and a ballot stand.
-use Rattle.std.proofs.Common.{rules, ◌≡◌, ◌≢◌, ◌⊎◌, inl, inr, ⊎_elim, ℕ, zero, suc, ◌≤◌, ◌<◌, ◌+◌, Bool, true, false, cond, List, [], ◌∷◌, ◌++◌, Option, None, Some, length, take, drop, refl, sym, ap, subst, ◌∙◌, arith, length-append, Less, Equal, Greater}
+use Rattle.std.proofs.Common.{rules, ◌≡◌, ◌≢◌, ◌⊎◌, inl, inr, ⊎_elim, ℕ, zero, suc, ◌≤◌, ◌<◌, ◌+◌, Bool, true, false, true≢false, cond, List, [], ◌∷◌, ◌++◌, Option, None, Some, length, take, drop, refl, sym, ap, subst, ◌∙◌, arith, length-append, Less, Equal, Greater}
 use Rattle.std.proofs.lemmas.Grind.{common_steps}
 use Rattle.std.proofs.lemmas.List.{take-append-drop, length-take}
 use Rattle.std.proofs.lemmas.Map.Lookups.{CmpEqualImpliesEq, exact_unsigned, exact_pairs}
@@ -43,6 +43,14 @@ same_itself E itself p = grind (rules, common_steps, itself)
 true_or_false : (b : Bool) → (b ≡ true) ⊎ (b ≡ false)
 true_or_false true = inl refl
 true_or_false false = inr refl
+
+-- where values are compared exactly, a pvalue stands in a list or it doesn't
+pub there_or_not : {C : Type 0} (E : C → C → Bool) → ((x y : C) → E x y ≡ true → x ≡ y) → ((x : C) → E x x ≡ true) → (p : Pvalue C) (ps : List (Pvalue C)) → In p ps ⊎ (In p ps → ⊥)
+there_or_not E exact itself p ps =
+    let f = found (same_pvalues E) (exact_pvalues E exact) (same_itself E itself) p ps in
+    ⊎_elim (λ (h : list_any (λ q. same_pvalues E q p) ps ≡ true). inl (f.0 h))
+    (λ (h : list_any (λ q. same_pvalues E q p) ps ≡ false). inr (λ i. true≢false (sym (f.1 i) ∙ h)))
+    (true_or_false (list_any (λ q. same_pvalues E q p) ps))
 
 -- what is looked for from its start on is found where it is there
 pub found_from : {C : Type 0} (E : C → C → Bool) → ((x y : C) → E x y ≡ true → x ≡ y) → ((x : C) → E x x ≡ true) → (starts : BTreeMap (ℕ × Numbers) ℕ) (ps : List (Pvalue C)) (p : Pvalue C) (from : ℕ) → IsIndexed starts ps → from ≡ start starts (p.slot, p.ballot) (length ps) → (list_any (λ q. same_pvalues E q p) (drop from ps) ≡ true → In p ps) × (In p ps → list_any (λ q. same_pvalues E q p) (drop from ps) ≡ true)
