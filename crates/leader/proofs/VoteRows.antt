@@ -1,12 +1,11 @@
 -- What comes of a vote.
 use Rattle.std.proofs.Common.{◌≡◌, ℕ, Bool, true, false, not, cond, ◌&&◌, Option, None, Some, refl, sym, ap, ◌∙◌, arith}
 use Rattle.std.proofs.lemmas.Bool.Decides.{nat_tests}
-use Rattle.std.specs.FinMap.{empty, get, insert, remove}
+use Rattle.std.specs.FinMap.{empty, get, insert}
 use Rattle.ballot.specs.Ballots.{Numbers, is_same, is_below, next_after}
 use Rattle.ballot.specs.Members.{is_member, add, is_majority}
 use Rattle.scout_commander.specs.Commanders.{Commanding, Voting, IsDeciding, on_p2b, counts, unmoved}
 use Rattle.scout_commander.specs.Commanders as commanders
-use Rattle.scout_commander.specs.declared.commander.Voted.{Voted}
 use Rattle.scout_commander.specs.declared.commander.Voted.TheVariants.{Wait, Decided, Preempted}
 use Rattle.leader.specs.Leaders.{Leading, Done, IsLeader, IsCommanderOf, silently, preempted}
 use Rattle.ballot.specs.Slots.{Slots}

@@ -1,5 +1,5 @@
 -- How the greatest ballots and their values are found, one pvalue after another.
-use Rattle.std.specs.Prelude.{ℕ, not, ◌&&◌, List, [], ◌∷◌, Some, if◌then◌else◌}
+use Rattle.std.specs.Prelude.{not, ◌&&◌, List, [], ◌∷◌, Some, if◌then◌else◌}
 use Rattle.std.specs.FinMap.{get, contains_key, insert}
 use Rattle.ballot.specs.Ballots.{Numbers, is_promise, is_promise_below}
 use Rattle.ballot.specs.Slots.{Slots}

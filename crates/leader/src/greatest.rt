@@ -52,7 +52,9 @@ fn take_greatest<C: Value>(
     ensures { OnOk result (taken.new ≡ all_taken greatest.now taken.old pvalues.now) }
 {
     for pvalue in pvalues {
-        if greatest.get(pvalue.slot).copied() == Some(pvalue.ballot) && !taken.contains(pvalue.slot) {
+        if greatest.get(pvalue.slot).copied() == Some(pvalue.ballot)
+            && !taken.contains(pvalue.slot)
+        {
             taken.insert(pvalue.slot, pvalue.value.copy()?)?;
         }
     }

@@ -1,8 +1,7 @@
-use Rattle.std.proofs.Common.{◌≡◌, Some, Bool, true, false, arith, sym, ap, ◌∙◌, cond}
+use Rattle.std.proofs.Common.{◌≡◌, Some, arith, sym, ap, ◌∙◌, cond}
 use Rattle.std.specs.FinMap.{get, insert}
 use Rattle.std.proofs.lemmas.Bool.Decides.{nat_tests}
 use Rattle.ballot.specs.Ballots.{is_promise_below}
-use Rattle.leader.specs.Greatest.{noted}
 use Rattle.leader.proofs.GreatestValues.{option_below, noted_turn}
 use Rattle.leader.proofs.greatest.note_greatest.Goals as goal
 use Rattle.leader.proofs.greatest.note_greatest.Goals.{then-lt+in_ok-insert, else-lt}

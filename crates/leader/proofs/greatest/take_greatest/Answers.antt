@@ -1,4 +1,4 @@
-use Rattle.std.proofs.Common.{◌≡◌, Some, Bool, true, false, not, ◌&&◌, refl, sym, ap, ◌∙◌, cond}
+use Rattle.std.proofs.Common.{◌≡◌, Bool, true, false, not, ◌&&◌, sym, ap, ◌∙◌, cond}
 use Rattle.std.specs.FinMap.{get, contains_key, insert}
 use Rattle.ballot.specs.Ballots.{is_promise}
 use Rattle.leader.proofs.GreatestValues.{promise_test, taken_turn}

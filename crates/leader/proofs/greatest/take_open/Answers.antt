@@ -1,9 +1,8 @@
-use Rattle.std.proofs.Common.{rules, ◌≡◌, ℕ, List, map, sym, ap, ◌∙◌, Some, refl}
+use Rattle.std.proofs.Common.{rules, ℕ, List, sym, ap, ◌∙◌}
 use Rattle.std.specs.Option.{option_or}
 use Rattle.std.specs.Ordering.{nat_cmp}
-use Rattle.std.specs.FinMap.{get, find, insert, contains_key, entries, get-entries}
+use Rattle.std.specs.FinMap.{get, find, insert, entries, get-entries}
 use Rattle.std.specs.Map.Iter.{deref_pair}
-use Rattle.ballot.specs.Slots.{Slots}
 use Rattle.ballot.proofs.Turns.{whole}
 use Rattle.leader.proofs.GreatestValues.{open_taken, open_kept}
 use Rattle.leader.proofs.greatest.take_open.Goals as goal

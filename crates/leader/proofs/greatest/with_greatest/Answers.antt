@@ -1,7 +1,6 @@
-use Rattle.std.proofs.Common.{◌≡◌, ◌++◌, ℕ, sym, ap, ap₂, ◌∙◌}
+use Rattle.std.proofs.Common.{◌≡◌, ◌++◌, sym, ap, ◌∙◌}
 use Rattle.std.specs.Option.{option_or}
 use Rattle.std.specs.FinMap.{empty, get}
-use Rattle.ballot.specs.Ballots.{Numbers}
 use Rattle.ballot.specs.Slots.{Slots}
 use Rattle.leader.specs.Greatest.{all_noted, all_taken}
 use Rattle.leader.proofs.GreatestValues.{all_noted-append, all_taken-append, takes}

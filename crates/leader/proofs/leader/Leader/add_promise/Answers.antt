@@ -1,5 +1,4 @@
-use Rattle.std.proofs.Common.{◌≡◌, true, List, Option, Some, None, sym, ap, subst, ◌∙◌}
-use Rattle.ballot.specs.declared.pvalue.Pvalue.{Pvalue}
+use Rattle.std.proofs.Common.{◌≡◌, Option, Some, None, sym, ap, subst, ◌∙◌}
 use Rattle.scout_commander.specs.Scouts.{Scouting, TakesFresh, on_p1b, fresh_of}
 use Rattle.leader.specs.Leaders.{Leading, IsLeader, IsScoutOf}
 use Rattle.leader.specs.Promises.{HearsP1b}

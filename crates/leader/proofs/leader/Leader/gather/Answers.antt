@@ -1,5 +1,4 @@
 use Rattle.std.proofs.Common.{◌≡◌, ◌++◌, List, Some, None, sym, ap, subst, ◌∙◌}
-use Rattle.ballot.specs.Ballots.{Numbers}
 use Rattle.ballot.specs.declared.pvalue.Pvalue.{Pvalue}
 use Rattle.scout_commander.specs.Scouts.{IsAdopting}
 use Rattle.scout_commander.proofs.Places.{there_or_not}
