@@ -76,7 +76,7 @@ impl<C: Value> Acceptor<C> {
         Ok(self.promised)
     }
 
-    /// The ballot that it promised.
+    /// The ballot that it promised, if any.
     pub fn promised(&self) -> Option<Ballot>
         ensures { result ≡ self.now.promised }
     {

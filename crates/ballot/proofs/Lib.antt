@@ -1,3 +1,6 @@
 pub mod Majorities
 pub mod Weights
 pub mod Sending
+pub mod Lending
+pub mod SlotMaps
+pub mod Turns

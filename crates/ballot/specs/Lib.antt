@@ -6,3 +6,4 @@ pub mod Exact
 pub mod PvalueLaws
 pub mod BallotLaws
 pub mod OrderLaws
+pub mod Slots

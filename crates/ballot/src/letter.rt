@@ -89,15 +89,15 @@ impl<C: Value> Value for Letter<C> {
     }
 }
 
-/// Sends one body to all members, in rising number, the sender included. For want of memory nothing is
-/// sent.
+/// Sends one body to all members, in rising number, the sender included. The last is sent the body itself, the others
+/// copies. For want of memory nothing is sent.
 pub fn send_to_all<C: Value>(
     members: Members,
     from: u8,
-    body: &Body<C>,
+    body: Body<C>,
     out: &mut Vec<Letter<C>>,
 ) -> Result<(), AllocError>
-    ensures ok { OnOk result (out.new.items ≡ out.old.items ++ to_all members from body.now) }
+    ensures ok { OnOk result (out.new.items ≡ out.old.items ++ to_all members from body) }
     ensures err { OnErr result (out.new.items ≡ out.old.items) }
 {
     let len = out.len();
@@ -112,18 +112,24 @@ pub fn send_to_all<C: Value>(
 fn append_to_all<C: Value>(
     members: Members,
     from: u8,
-    body: &Body<C>,
+    body: Body<C>,
     out: &mut Vec<Letter<C>>,
 ) -> Result<(), AllocError>
-    ensures ok { OnOk result (out.new.items ≡ out.old.items ++ to_all members from body.now) }
+    ensures ok { OnOk result (out.new.items ≡ out.old.items ++ to_all members from body) }
     ensures front { take (vec_len out.old) out.new.items ≡ out.old.items }
 {
-    for before in 0..members.count() {
+    let last = members.count();
+    for before in 0..last - 1 {
         out.push(Letter {
             from,
             to: before + 1,
             body: body.copy()?,
         })?;
     }
+    out.push(Letter {
+        from,
+        to: last,
+        body,
+    })?;
     Ok(())
 }

@@ -8,6 +8,7 @@ mod member_set;
 mod members;
 mod pvalue;
 mod slot;
+mod slot_map;
 
 pub use ballot::Ballot;
 pub use laws::{ballot_laws, ballot_order, majorities_share_a_member};
@@ -16,3 +17,4 @@ pub use member_set::MemberSet;
 pub use members::Members;
 pub use pvalue::{Pvalue, Pvalues};
 pub use slot::Slot;
+pub use slot_map::SlotMap;

@@ -6,9 +6,9 @@ use Rattle.std.specs.FinMap.{empty, get, insert, remove, entries, get-empty, get
 use Rattle.ballot.specs.Ballots.{Numbers}
 use Rattle.ballot.specs.Members.{is_member}
 use Rattle.scout_commander.specs.Commanders.{Commanding, new_commander}
-use Rattle.leader.specs.Slots.{Slots}
-use Rattle.leader.proofs.Maps.{insert_cases, kept_by_remove}
-use Rattle.leader.proofs.Turns.{made, find_made}
+use Rattle.ballot.specs.Slots.{Slots}
+use Rattle.ballot.proofs.SlotMaps.{insert_cases, kept_by_remove}
+use Rattle.ballot.proofs.Turns.{made, find_made}
 use Rattle.leader.specs.Leaders.{Leading, IsKept, IsCommanderOf, pvalue}
 use Rattle.leader.specs.Adoptions.{commanders_for}
 

@@ -1,8 +1,6 @@
-pub mod Maps
-pub mod Turns
 pub mod Kept
 pub mod Outcomes
-pub mod Greatest
+pub mod GreatestValues
 pub mod VoteRows
 pub mod PromiseRows
 pub mod Saying

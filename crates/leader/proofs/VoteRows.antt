@@ -1,17 +1,16 @@
 -- What comes of a vote.
 use Rattle.std.proofs.Common.{◌≡◌, ℕ, Bool, true, false, not, cond, ◌&&◌, Option, None, Some, refl, sym, ap, ◌∙◌, arith}
 use Rattle.std.proofs.lemmas.Bool.Decides.{nat_tests}
-use Rattle.std.specs.FinMap.{empty, get, insert, remove}
+use Rattle.std.specs.FinMap.{empty, get, insert}
 use Rattle.ballot.specs.Ballots.{Numbers, is_same, is_below, next_after}
 use Rattle.ballot.specs.Members.{is_member, add, is_majority}
 use Rattle.scout_commander.specs.Commanders.{Commanding, Voting, IsDeciding, on_p2b, counts, unmoved}
 use Rattle.scout_commander.specs.Commanders as commanders
-use Rattle.scout_commander.specs.declared.commander.Voted.{Voted}
 use Rattle.scout_commander.specs.declared.commander.Voted.TheVariants.{Wait, Decided, Preempted}
 use Rattle.leader.specs.Leaders.{Leading, Done, IsLeader, IsCommanderOf, silently, preempted}
-use Rattle.leader.specs.Slots.{Slots}
+use Rattle.ballot.specs.Slots.{Slots}
 use Rattle.leader.specs.Votes as votes
-use Rattle.leader.proofs.Maps.{insert_again}
+use Rattle.ballot.proofs.SlotMaps.{insert_again}
 
 either : {A : Type 0} (P : A → Type 0) (b : Bool) (x y : A) → P x → P y → P (cond b x y)
 either P true x y p q = p

@@ -7,7 +7,7 @@ use Rattle.ballot.specs.declared.pvalue.Pvalue.{Pvalue}
 use Rattle.ballot.specs.declared.letter.Body.{Body}
 use Rattle.ballot.specs.declared.letter.Body.TheVariants.{P2a}
 use Rattle.scout_commander.specs.Commanders.{Commanding, new_commander}
-use Rattle.leader.specs.Slots.{Slots, each_value}
+use Rattle.ballot.specs.Slots.{Slots, each_value}
 use Rattle.leader.specs.Leaders.{Leading, Done, pvalue}
 
 -- a pvalue of this slot that was gathered, and none of the slot has a greater ballot

@@ -11,7 +11,7 @@ use Rattle.ballot.specs.declared.letter.Body.{Body}
 use Rattle.ballot.specs.declared.letter.Body.TheVariants.{P1a, P2a}
 use Rattle.scout_commander.specs.Scouts.{Scouting, IsPreempting, new_scout}
 use Rattle.scout_commander.specs.Commanders.{Commanding, new_commander}
-use Rattle.leader.specs.Slots.{Slots}
+use Rattle.ballot.specs.Slots.{Slots}
 
 -- its members and ballot, whether it is active, its proposals, perhaps a scout, and its commanders
 pub record Leading (C : Type 0) : Type 0 where

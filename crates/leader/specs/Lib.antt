@@ -1,5 +1,5 @@
-pub mod Slots
 pub mod Leaders
 pub mod Adoptions
+pub mod Greatest
 pub mod Promises
 pub mod Votes

@@ -1,10 +1,9 @@
-ghost use Rattle.std.specs.Prelude.{◌≡◌, ◌++◌, OnOk, OnErr};
+ghost use Rattle.std.specs.Prelude.{◌≡◌, ◌++◌, OnOk, OnErr, MatchOption};
 ghost use Rattle.std.specs.FinMap as slots;
 ghost use Rattle.ballot.specs.Letters.{to_all};
-ghost use Rattle.scout_commander.specs.Commanders.{new_commander};
+ghost use Rattle.scout_commander.specs.Commanders.{new_commander, on_p2b as voting};
 
-use crate::slot_map::SlotMap;
-use ballot::{Body, Letter, Members, Pvalue, Slot, send_to_all};
+use ballot::{Ballot, Body, Letter, Members, Pvalue, Slot, SlotMap, send_to_all};
 use object::Value;
 use scout_commander::Commander;
 use std::alloc::AllocError;
@@ -19,8 +18,7 @@ pub(crate) fn send_p2a<C: Value>(
     ensures ok { OnOk result (out.new.items ≡ out.old.items ++ to_all members from (Body.P2a pvalue.now)) }
     ensures err { OnErr result (out.new.items ≡ out.old.items) }
 {
-    let body = Body::P2a(pvalue.copy()?);
-    send_to_all(members, from, &body, out)
+    send_to_all(members, from, Body::P2a(pvalue.copy()?), out)
 }
 
 /// Starts a commander of the pvalue, which asks all members to accept it. For want of memory nothing is done.
@@ -56,6 +54,19 @@ pub(crate) fn send_decision<C: Value>(
     ensures ok { OnOk result (out.new.items ≡ out.old.items ++ to_all members from (Body.Decision slot command.now)) }
     ensures err { OnErr result (out.new.items ≡ out.old.items) }
 {
-    let body = Body::Decision(slot, command.copy()?);
-    send_to_all(members, from, &body, out)
+    send_to_all(members, from, Body::Decision(slot, command.copy()?), out)
+}
+
+/// The slot's commander, if it has one, hears a P2b.
+pub(crate) fn hear_p2b<C>(
+    commanders: &mut SlotMap<Commander<C>>,
+    slot: Slot,
+    from: u8,
+    ballot: Option<Ballot>,
+)
+    ensures { MatchOption (slots.get commanders.old slot) (commanders.new ≡ commanders.old) (λ c. commanders.new ≡ slots.insert commanders.old slot (voting c from ballot).commander) }
+{
+    if let Some(commander) = commanders.get_mut(slot) {
+        commander.on_p2b(from, ballot);
+    }
 }

@@ -1,5 +1,5 @@
-ghost use Rattle.std.specs.Prelude.{◌≡◌, ◌≤◌, ◌^◌, ◌↔◌, true, OnOk, OnErr, IfErr, take, vec_len};
-ghost use Rattle.std.specs.FinMap.{contains_key};
+ghost use Rattle.std.specs.Prelude.{◌≡◌, ◌≤◌, ◌^◌, ◌↔◌, ◌⊎◌, true, IsOk, IsSome, OnOk, OnErr, IfErr, take, vec_len};
+ghost use Rattle.std.specs.FinMap as slots;
 ghost use Rattle.ballot.specs.Members.{is_member};
 ghost use Rattle.ballot.specs.Ballots.{is_below};
 ghost use Rattle.leader.specs.Leaders.{new_leader, preempted, woken, scout_says, says_again, IsLeader, Sends};
@@ -11,8 +11,7 @@ mod votes;
 
 use crate::commanding::send_p2a;
 use crate::error::LeaderError;
-use crate::slot_map::SlotMap;
-use ballot::{Ballot, Body, Letter, Members, Slot, send_to_all};
+use ballot::{Ballot, Body, Letter, Members, Slot, SlotMap, send_to_all};
 use object::Value;
 use scout_commander::{Commander, Scout};
 use std::alloc::{AllocError, Global};
@@ -33,7 +32,7 @@ pub struct Leader<C: Value> {
 }
 
 impl<C: Value> Model for Leader<C> {
-    ghost use Rattle.leader.specs.Slots.{slots_code};
+    ghost use Rattle.ballot.specs.Slots.{slots_code};
     ghost use Rattle.std.specs.Coded.{codes};
     ghost use Rattle.leader.specs.Leaders.{Leading, IsKept};
 
@@ -67,7 +66,7 @@ impl<C: Value> Leader<C> {
         }
     }
 
-    /// The members that it leads.
+    /// Its members.
     pub fn members(&self) -> Members
         ensures members { result ≡ self.now.members }
         ensures leader { IsLeader self.now }
@@ -75,7 +74,7 @@ impl<C: Value> Leader<C> {
         self.members
     }
 
-    /// The node that it is at.
+    /// The node whose leader it is.
     pub fn node(&self) -> u8
         ensures node { result ≡ self.now.ballot.node }
         ensures leader { IsLeader self.now }
@@ -85,7 +84,8 @@ impl<C: Value> Leader<C> {
 
     /// Whether a command is proposed for the slot.
     pub fn has_proposal(&self, slot: Slot) -> bool
-        ensures { result ≡ contains_key self.now.proposals slot }
+        ensures has { result ≡ slots.contains_key self.now.proposals slot }
+        ensures leader { IsLeader self.now }
     {
         self.proposals.contains(slot)
     }
@@ -111,16 +111,17 @@ impl<C: Value> Leader<C> {
         Ok(())
     }
 
-    /// Where the leader isn't active and has no scout, it sends one out.
+    /// Where the leader isn't active and has no scout, it sends one out. Else it does nothing, which takes no memory.
     pub fn wake(&mut self, out: &mut Vec<Letter<C>>) -> Result<(), AllocError>
         ensures state { OnOk result (self.new ≡ (woken self.old).state) }
         ensures out { OnOk result (Sends self.old (woken self.old).says out.old.items out.new.items) }
+        ensures idle { (self.old.active ≡ true) ⊎ IsSome self.old.scout → IsOk result }
         ensures err { OnErr result ((self.new ≡ self.old) × (out.new.items ≡ out.old.items)) }
     {
         if self.active || self.scout.is_some() {
             return Ok(());
         }
-        send_to_all(self.members, self.node, &Body::P1a(self.ballot), out)?;
+        send_to_all(self.members, self.node, Body::P1a(self.ballot), out)?;
         self.scout = Some(Scout::new(self.alloc, self.members, self.ballot));
         Ok(())
     }
@@ -162,6 +163,6 @@ impl<C: Value> Leader<C> {
         if self.scout.is_none() {
             return Ok(());
         }
-        send_to_all(self.members, self.node, &Body::P1a(self.ballot), out)
+        send_to_all(self.members, self.node, Body::P1a(self.ballot), out)
     }
 }

@@ -3,8 +3,8 @@
 
 mod commanding;
 mod error;
+mod greatest;
 mod leader;
-mod slot_map;
 #[cfg(test)]
 mod tests;
 

@@ -63,7 +63,7 @@ fn a_leader_of_one_member_decides(rt: HostRuntime) -> Result<(), Fail> {
     let mut out = Vec::new(alloc);
     leader.wake(&mut out)?;
     leader.nudge(&mut out)?;
-    leader.on_p1b(1, own, Vec::new(alloc), &mut out)?;
+    leader.on_p1b(1, own, &[], &mut out)?;
     leader.propose(first, Word(7), &mut out)?;
     leader.nudge(&mut out)?;
     leader.on_p2b(1, Some(own), first, own, &mut out)?;
@@ -95,7 +95,7 @@ fn the_greatest_ballot_goes_before_the_own_proposal(rt: HostRuntime) -> Result<(
         pvalue(2, 3, Word(32))?,
         pvalue(0, 2, Word(20))?,
     ]?;
-    leader.on_p1b(1, ballot(5)?, report, &mut out)?;
+    leader.on_p1b(1, ballot(5)?, report.as_slice(), &mut out)?;
     let bodies = vec![in alloc;
         Body::P1a(ballot(5)?),
         Body::P2a(pvalue(5, 1, Word(1))?),
@@ -116,7 +116,7 @@ fn a_vote_for_an_older_p2a_does_not_count(rt: HostRuntime) -> Result<(), Fail> {
     leader.propose(first, Word(7), &mut out)?;
     leader.preempted(ballot(1)?)?;
     leader.wake(&mut out)?;
-    leader.on_p1b(1, own, Vec::new(alloc), &mut out)?;
+    leader.on_p1b(1, own, &[], &mut out)?;
     out.clear();
     leader.on_p2b(1, Some(own), first, ballot(0)?, &mut out)?;
     assert!(rt; out.is_empty());
@@ -134,7 +134,7 @@ fn no_ballot_comes_after_the_last_round(rt: HostRuntime) -> Result<(), Fail> {
     assert_eq!(rt; leader.preempted(last), Err(LeaderError::NoBallotLeft));
     let mut out = Vec::new(alloc);
     leader.wake(&mut out)?;
-    let heard = leader.on_p1b(1, last, Vec::new(alloc), &mut out);
+    let heard = leader.on_p1b(1, last, &[], &mut out);
     assert_eq!(rt; heard, Err(LeaderError::NoBallotLeft));
     leader.nudge(&mut out)?;
     let bodies = vec![in alloc; Body::P1a(ballot(0)?), Body::P1a(ballot(0)?)]?;

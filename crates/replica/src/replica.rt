@@ -116,7 +116,7 @@ impl<O: Object> Replica<O> {
         };
         let body = Body::Propose(slot, command.copy()?);
         let len = out.len();
-        send_to_all(members, node, &body, out)?;
+        send_to_all(members, node, body, out)?;
         match self.slots.propose_next() {
             Ok(_) => Ok(true),
             Err(failed) => {
@@ -195,7 +195,7 @@ impl<O: Object> Replica<O> {
         let proposals = self.slots.proposals();
         for (slot, command) in proposals {
             let body = Body::Propose(*slot, command.copy()?);
-            send_to_all(members, node, &body, out)?;
+            send_to_all(members, node, body, out)?;
         }
         Ok(())
     }

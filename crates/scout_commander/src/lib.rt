@@ -2,6 +2,7 @@
 #![tactic(auto)]
 
 mod commander;
+mod gathered;
 mod scout;
 
 pub use commander::{Commander, Voted};

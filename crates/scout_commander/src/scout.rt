@@ -1,6 +1,7 @@
-ghost use Rattle.std.specs.Prelude.{◌≡◌, ◌↔◌, IfOk, OnOk, OnErr};
-ghost use Rattle.scout_commander.specs.Scouts.{new_scout, on_p1b as hearing, IsAdopting, IsPreempting};
+ghost use Rattle.std.specs.Prelude.{◌≡◌, ◌↔◌, true, IsOk, IfOk, OnOk, OnErr};
+ghost use Rattle.scout_commander.specs.Scouts.{new_scout, on_p1b as hearing, fresh_of, TakesFresh, IsPromising, IsAdopting, IsPreempting};
 
+use crate::gathered::Gathered;
 use ballot::{Ballot, MemberSet, Members, Pvalue};
 use object::Value;
 use std::alloc::{AllocError, Global};
@@ -23,8 +24,7 @@ pub struct Scout<C> {
     members: Members,
     ballot: Ballot,
     heard: MemberSet,
-    gathered: Vec<Pvalue<C>>,
-    alloc: Global,
+    gathered: Gathered<C>,
 }
 
 impl<C> Model for Scout<C> {
@@ -32,7 +32,7 @@ impl<C> Model for Scout<C> {
 
     ghost Value = { Scouting C };
 
-    ghost view = { λ s. record { members = s.members; ballot = s.ballot; heard = s.heard; gathered = s.gathered.items } };
+    ghost view = { λ s. record { members = s.members; ballot = s.ballot; heard = s.heard; gathered = s.gathered } };
 }
 
 impl<C: Value> Scout<C> {
@@ -44,23 +44,37 @@ impl<C: Value> Scout<C> {
             members,
             ballot,
             heard: MemberSet::nobody(),
-            gathered: Vec::new(alloc),
-            alloc,
+            gathered: Gathered::new(alloc),
         }
     }
 
-    /// Hears a P1b: who sent it, the ballot that it promised, and its report.
+    /// Whether such a P1b would adopt, as `on_p1b` says then. It is not heard.
+    pub fn would_adopt(&self, from: u8, ballot: Ballot) -> bool
+        ensures { (result ≡ true) ↔ IsAdopting self.now from ballot }
+    {
+        if ballot != self.ballot || !self.members.has(from) {
+            return false;
+        }
+        let mut heard = self.heard;
+        heard.add(from);
+        self.members.is_majority(&heard)
+    }
+
+    /// Hears a P1b: who sent it, the ballot that it promised, and its report, of which what is new is copied. It takes
+    /// memory for that alone, and for want of memory does nothing.
     pub fn on_p1b(
         &mut self,
         from: u8,
         ballot: Ballot,
-        mut report: Vec<Pvalue<C>>,
+        report: &[Pvalue<C>],
     ) -> Result<Heard, AllocError>
-        ensures state { OnOk result (self.new ≡ (hearing self.old from ballot report.items).scout) }
-        ensures says { IfOk result (λ heard. heard ≡ (hearing self.old from ballot report.items).says) }
+        ensures fresh { OnOk result (TakesFresh self.old from ballot report.now (fresh_of self.old self.new)) }
+        ensures state { OnOk result (self.new ≡ (hearing self.old from ballot (fresh_of self.old self.new)).scout) }
+        ensures says { IfOk result (λ heard. heard ≡ (hearing self.old from ballot (fresh_of self.old self.new)).says) }
 
         ensures adopted { IfOk result (λ heard. (heard ≡ Heard.Adopted) ↔ IsAdopting self.old from ballot) }
         ensures preempted { IfOk result (λ heard. (heard ≡ Heard.Preempted ballot) ↔ IsPreempting self.old.members self.old.ballot from ballot) }
+        ensures idle { ¬ IsPromising self.old from ballot → IsOk result }
         ensures err { OnErr result (self.new ≡ self.old) }
     {
         if !self.members.has(from) {
@@ -73,7 +87,7 @@ impl<C: Value> Scout<C> {
                 Heard::Wait
             });
         }
-        self.gathered.append(&mut report)?;
+        self.gathered.gather(report)?;
         self.heard.add(from);
         Ok(if self.members.is_majority(&self.heard) {
             Heard::Adopted
@@ -82,28 +96,29 @@ impl<C: Value> Scout<C> {
         })
     }
 
-    /// All that was reported, in the order in which it was heard.
+    /// What was gathered so far, in the order in which it was heard.
+    pub fn gathered_so_far(&self) -> &[Pvalue<C>]
+        ensures { result.now ≡ self.now.gathered }
+    {
+        self.gathered.as_slice()
+    }
+
+    /// All that was gathered, in the order in which it was heard.
     pub fn gathered(self) -> Vec<Pvalue<C>>
         ensures { result.items ≡ self.gathered }
     {
-        self.gathered
+        self.gathered.into_vec()
     }
 
     /// The same scout once more.
     pub fn copy(&self) -> Result<Scout<C>, AllocError>
         ensures { IfOk result (λ scout. scout ≡ self.now) }
     {
-        let mut gathered = Vec::new(self.alloc);
-        let pvalues = self.gathered.as_slice();
-        for pvalue in pvalues {
-            gathered.push(pvalue.copy()?)?;
-        }
         Ok(Scout {
             members: self.members,
             ballot: self.ballot,
             heard: self.heard,
-            gathered,
-            alloc: self.alloc,
+            gathered: self.gathered.copy()?,
         })
     }
 }

@@ -4,11 +4,11 @@ ghost use Rattle.leader.specs.Adoptions.{TakesGreatest, adopted, commanders_for,
 
 use super::Leader;
 use crate::commanding::start_commander;
-use crate::slot_map::SlotMap;
-use ballot::{Ballot, Letter, Pvalue};
+use crate::greatest::with_greatest;
+use ballot::{Letter, Pvalue, SlotMap};
 use object::Value;
 use scout_commander::Commander;
-use std::alloc::{AllocError, Global};
+use std::alloc::AllocError;
 
 impl<C: Value> Leader<C> {
     /// Leads from now on: what was gathered goes before what the leader would propose, and all members are asked to
@@ -24,7 +24,26 @@ impl<C: Value> Leader<C> {
         ensures out { OnOk result (Sends self.old (adopted self.old self.new.proposals).says out.old.items out.new.items) }
         ensures err { OnErr result ((self.new ≡ self.old) × (out.new.items ≡ out.old.items)) }
     {
-        let proposals = with_greatest(self.alloc, &self.proposals, gathered)?;
+        let report = Vec::new(self.alloc);
+        let proposals = with_greatest(
+            self.alloc,
+            &self.proposals,
+            gathered.as_slice(),
+            report.as_slice(),
+        )?;
+        self.lead(proposals, out)
+    }
+
+    // Leads from now on with these proposals.
+    pub(super) fn lead(
+        &mut self,
+        proposals: SlotMap<C>,
+        out: &mut Vec<Letter<C>>,
+    ) -> Result<(), AllocError>
+        ensures state { OnOk result (self.new ≡ (adopted self.old proposals).state) }
+        ensures out { OnOk result (Sends self.old (adopted self.old proposals).says out.old.items out.new.items) }
+        ensures err { OnErr result ((self.new ≡ self.old) × (out.new.items ≡ out.old.items)) }
+    {
         let commanders = self.start_commanders(&proposals, out)?;
         self.active = true;
         self.proposals = proposals;
@@ -73,28 +92,4 @@ impl<C: Value> Leader<C> {
         }
         Ok(commanders)
     }
-}
-
-// The proposals, but at each slot with a gathered pvalue the value of the first of the greatest ballot.
-fn with_greatest<C: Value>(
-    alloc: Global,
-    proposals: &SlotMap<C>,
-    gathered: Vec<Pvalue<C>>,
-) -> Result<SlotMap<C>, AllocError>
-    ensures { IfOk result (λ taken. TakesGreatest proposals.now gathered.items taken) }
-{
-    let mut taken = proposals.copy()?;
-    let mut ballots: SlotMap<Ballot> = SlotMap::new(alloc);
-    for pvalue in gathered {
-        let Pvalue {
-            ballot,
-            slot,
-            value,
-        } = pvalue;
-        if ballots.get(slot).copied() < Some(ballot) {
-            ballots.insert(slot, ballot)?;
-            taken.insert(slot, value)?;
-        }
-    }
-    Ok(taken)
 }

@@ -1,4 +1,4 @@
-ghost use Rattle.std.specs.Prelude.{◌≡◌, OnOk, OnErr, true, false};
+ghost use Rattle.std.specs.Prelude.{◌≡◌, IsOk, OnOk, OnErr, true, false};
 ghost use Rattle.std.specs.FinMap as slots;
 ghost use Rattle.leader.specs.Leaders.{proposed, commands, Sends};
 
@@ -10,7 +10,7 @@ use std::alloc::AllocError;
 
 impl<C: Value> Leader<C> {
     /// Hears a Propose. The command is kept where the slot has no proposal yet; an active leader then asks
-    /// to accept it.
+    /// to accept it. Where the slot has one nothing is done, which takes no memory.
     pub fn propose(
         &mut self,
         slot: Slot,
@@ -19,6 +19,7 @@ impl<C: Value> Leader<C> {
     ) -> Result<(), AllocError>
         ensures state { OnOk result (self.new ≡ (proposed self.old slot command).state) }
         ensures out { OnOk result (Sends self.old (proposed self.old slot command).says out.old.items out.new.items) }
+        ensures idle { slots.contains_key self.old.proposals slot ≡ true → IsOk result }
         ensures err { OnErr result ((self.new ≡ self.old) × (out.new.items ≡ out.old.items)) }
     {
         if self.proposals.contains(slot) {

@@ -1,11 +1,11 @@
-ghost use Rattle.std.specs.Prelude.{◌≡◌, ◌↔◌, OnOk, OnErr, IsSome, Some};
+ghost use Rattle.std.specs.Prelude.{◌≡◌, ◌↔◌, IsOk, OnOk, OnErr, IsSome, Some};
 ghost use Rattle.std.specs.FinMap as slots;
 ghost use Rattle.ballot.specs.Ballots.{Numbers};
 ghost use Rattle.leader.specs.Leaders.{Sends, LeavesNoBallot};
 ghost use Rattle.leader.specs.Votes.{on_p2b as voting};
 
 use super::Leader;
-use crate::commanding::send_decision;
+use crate::commanding::{hear_p2b, send_decision};
 use crate::error::LeaderError;
 use ballot::{Ballot, Letter, Slot};
 use object::Value;
@@ -24,6 +24,7 @@ impl<C: Value> Leader<C> {
         ensures state { OnOk result (self.new ≡ (voting self.old from ballot slot asked).state) }
         ensures out { OnOk result (Sends self.old (voting self.old from ballot slot asked).says out.old.items out.new.items) }
         ensures no_ballot { (result ≡ Err LeaderError.NoBallotLeft) ↔ (IsSome (slots.get self.old.commanders slot) × ((b : Numbers) × (ballot ≡ Some b) × LeavesNoBallot self.old from b)) }
+        ensures idle { slots.get self.old.commanders slot ≡ None → IsOk result }
         ensures err { OnErr result ((self.new ≡ self.old) × (out.new.items ≡ out.old.items)) }
     {
         let Some(ballot) = ballot else {
@@ -59,7 +60,7 @@ impl<C: Value> Leader<C> {
             return Ok(());
         };
         if !commander.would_decide(from, Some(self.ballot)) {
-            self.commanders.on_p2b(slot, from, Some(self.ballot));
+            hear_p2b(&mut self.commanders, slot, from, Some(self.ballot));
             return Ok(());
         }
         let command = &commander.pvalue().value;

@@ -4,13 +4,13 @@ use Rattle.std.specs.Ordering.{nat_cmp}
 use Rattle.std.specs.FinMap.{insert, entries, from_entries, entries_sorted}
 use Rattle.std.specs.Map.Iter.{deref_pair}
 use Rattle.scout_commander.specs.Commanders.{Commanding, new_commander}
-use Rattle.leader.specs.Slots.{Slots}
+use Rattle.ballot.specs.Slots.{Slots}
 use Rattle.leader.specs.Leaders.{Leading, pvalue}
 use Rattle.ballot.specs.Letters.{to_all, all_to_all}
 use Rattle.ballot.specs.declared.letter.Body.{Body}
 use Rattle.ballot.specs.declared.letter.Body.TheVariants.{P2a}
 use Rattle.leader.proofs.Saying.{said_next}
-use Rattle.leader.proofs.Turns.{made, turn, whole}
+use Rattle.ballot.proofs.Turns.{made, turn, whole}
 use Rattle.leader.proofs.leader.Leader.append_asks.Goals as goal
 
 pub loop-slot-preserved : goal.loop-slot-preserved

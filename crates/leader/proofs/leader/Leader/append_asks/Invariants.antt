@@ -5,7 +5,7 @@ use Rattle.ballot.specs.Letters.{all_to_all}
 use Rattle.ballot.specs.declared.letter.Body.TheVariants.{P2a}
 use Rattle.scout_commander.specs.Commanders.{new_commander}
 use Rattle.leader.specs.Leaders.{pvalue}
-use Rattle.leader.proofs.Turns.{made}
+use Rattle.ballot.proofs.Turns.{made}
 use Rattle.leader.proofs.leader.Leader.append_asks.Given as goal
 
 abbrev pub invariant-loop-slot : goal.invariant-loop-slot

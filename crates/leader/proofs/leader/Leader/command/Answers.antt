@@ -1,10 +1,10 @@
-use Rattle.std.proofs.Common.{◌≡◌, false, refl, sym, ap, ap₂, subst, ◌∙◌}
+use Rattle.std.proofs.Common.{rules, ◌≡◌, false, refl, sym, ap, ap₂, subst, ◌∙◌}
 use Rattle.std.specs.FinMap.{contains_key, remove}
 use Rattle.std.proofs.lemmas.Result.{on_err_weaker}
 use Rattle.scout_commander.specs.Commanders.{Commanding}
-use Rattle.leader.specs.Slots.{Slots}
+use Rattle.ballot.specs.Slots.{Slots}
 use Rattle.leader.specs.Leaders.{Leading}
-use Rattle.leader.proofs.Maps.{remove-insert}
+use Rattle.ballot.proofs.SlotMaps.{remove-insert}
 use Rattle.leader.proofs.Kept.{kept_insert}
 use Rattle.leader.proofs.Outcomes.{at_ok}
 use Rattle.leader.proofs.leader.Leader.command.Goals as goal
@@ -23,5 +23,6 @@ returns-then-is_err-clause-err g c =
     let free : contains_key p.proposals c.args.slot ≡ false =
     subst (λ (l : Leading g.row.C.Denot). contains_key l.proposals c.args.slot ≡ false) (sym c.self.view_is) c.requires in
     let back : c.remove.new.self ≡ p.proposals =
-    c.remove.ensures ∙ ap (λ (m : Slots g.row.C.Denot). remove m c.args.slot) c.in_ok-insert.ensures.ok ∙ remove-insert p.proposals c.args.slot c.args.command free in
-    on_err_weaker c.start_commander-started.result (λ e. (ap₂ with back e.0 ∙ c.self.view_is, e.1)) c.start_commander-started.ensures.err
+    c.remove.ensures.rest ∙ ap (λ (m : Slots g.row.C.Denot). remove m c.args.slot) c.in_ok-insert.ensures.ok ∙ remove-insert p.proposals c.args.slot c.args.command free in
+    let is : c.match-remove.self ≡ with c.remove.new.self c.start_commander-started.new.commanders = search rules in
+    on_err_weaker c.start_commander-started.result (λ e. (is ∙ ap₂ with back e.0 ∙ c.self.view_is, e.1)) c.start_commander-started.ensures.err

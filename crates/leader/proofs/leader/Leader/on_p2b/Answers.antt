@@ -5,8 +5,7 @@ use Rattle.ballot.specs.Ballots.{Numbers, is_same}
 use Rattle.ballot.specs.Members.{is_member}
 use Rattle.leader.specs.Leaders.{Leading, Done, IsLeader, silently, preempted}
 use Rattle.leader.specs.Votes as votes
-use Rattle.leader.proofs.Maps.{some_there}
-use Rattle.leader.proofs.Outcomes.{on_ok_always}
+use Rattle.leader.proofs.Outcomes.{on_ok_always, some_there}
 use Rattle.leader.proofs.Saying.{said_nothing}
 use Rattle.leader.proofs.VoteRows.{of_none, of_stranger, of_another, untrue}
 use Rattle.leader.proofs.leader.Leader.on_p2b.Given.{Over}
