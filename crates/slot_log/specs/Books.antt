@@ -2,7 +2,7 @@
 -- and Figure 3).
 use Rattle.std.specs.Prelude.{ℕ, List, []}
 use Rattle.std.specs.FinMap.{empty}
-use Rattle.ballot.specs.Slots.{Slots}
+pub use Rattle.ballot.specs.Slots.{Slots, slots_code}
 
 -- slot_in is where proposals go on, and slot_out where decisions are performed next
 pub record SlotBook (C : Type 0) : Type 0 where
