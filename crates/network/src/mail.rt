@@ -17,7 +17,7 @@ pub(crate) struct Mail<C: Value> {
 impl<C: Value> Model for Mail<C> {
     ghost use Rattle.std.specs.Prelude.{List};
     ghost use Rattle.std.specs.Coded.{codes};
-    ghost use Rattle.slot_log.specs.Books.{slots_code};
+    ghost use Rattle.ballot.specs.Slots.{slots_code};
     ghost use Rattle.ballot.specs.declared.letter.Letter.{Letter};
 
     ghost Value = { List (Letter C) };

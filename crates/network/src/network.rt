@@ -40,7 +40,7 @@ pub struct Network<O: Object> {
 
 impl<O: Object> Model for Network<O> {
     ghost use Rattle.std.specs.Coded.{codes};
-    ghost use Rattle.slot_log.specs.Books.{slots_code};
+    ghost use Rattle.ballot.specs.Slots.{slots_code};
     ghost use Rattle.object.specs.declared.command.Command.{Command};
     ghost use Rattle.network.specs.Networks.{NetworkState, posted};
     ghost use Rattle.network.specs.Posting.{IsNetwork};

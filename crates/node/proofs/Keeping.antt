@@ -14,7 +14,8 @@ use Rattle.ballot.specs.Ballots.{Numbers, is_promise, higher}
 use Rattle.ballot.specs.declared.pvalue.Pvalue.{Pvalue}
 use Rattle.acceptor.specs.Acceptors.{Acceptances, Keeps, after_p1a, after_p2a}
 use Rattle.acceptor.specs.Reports.{IsReport}
-use Rattle.slot_log.specs.Books.{Slots, SlotBook, new_book}
+use Rattle.ballot.specs.Slots.{Slots}
+use Rattle.slot_log.specs.Books.{SlotBook, new_book}
 use Rattle.slot_log.specs.Decisions.{next_decided, learnt}
 use Rattle.slot_log.specs.Proposals.{proposed}
 use Rattle.slot_log.specs.Requests.{is_known, requested}

@@ -10,7 +10,7 @@ use Rattle.ballot.specs.declared.letter.Letter.{Letter}
 use Rattle.acceptor.specs.Acceptors.{Acceptances, Keeps, after_p1a, after_p2a}
 use Rattle.acceptor.specs.Reports.{IsReport}
 use Rattle.leader.specs.Leaders.{Leading, Done, Sends, proposed}
-use Rattle.leader.specs.Promises.{MayTake}
+use Rattle.leader.specs.Promises.{Hears, HearsP1b}
 use Rattle.leader.specs.Promises as promises
 use Rattle.leader.specs.Votes as votes
 use Rattle.slot_log.specs.Decisions.{learnt}
@@ -80,11 +80,10 @@ module _ {C : Type 0} (m : ℕ) (v k : NodeState C) (is : v ≡ k) where
     ),
   )
 
-  pub received_p1b : (l : Leading C) (b : Numbers) (given report : List (Pvalue C)) (before now : List (Letter C)) → given ≡ report → MayTake v.leader m b given l.proposals → l ≡ (promises.on_p1b v.leader m b given l.proposals).state → Sends v.leader (promises.on_p1b v.leader m b given l.proposals).says before now → ShowsReceived m k (P1b b report) (record v { leader = l }) before now
-  received_p1b l b given report before now same may new sends =
-      subst (λ r. ShowsReceived m k (P1b b r) (record v { leader = l }) before now) same
-      (received_led (λ y. promises.on_p1b y m b given l.proposals) l (P1b b given) before now new sends
-      (λ x leads. hears_promise b given l.proposals (subst (λ y. MayTake y m b given l.proposals) leads may)))
+  pub received_p1b : (l : Leading C) (b : Numbers) (report : List (Pvalue C)) (before now : List (Letter C)) → HearsP1b v.leader m b report l before now → ShowsReceived m k (P1b b report) (record v { leader = l }) before now
+  received_p1b l b report before now h =
+      received_led (λ y. promises.on_p1b y m b h.fresh l.proposals) l (P1b b report) before now h.state h.out
+      (λ x leads. hears_promise b report h.fresh l.proposals (subst (λ y. Hears y m b report h.fresh l.proposals) leads h.hears))
 
   pub received_p2b : (l : Leading C) (b : Option Numbers) (s : ℕ) (by : Numbers) (before now : List (Letter C)) → l ≡ (votes.on_p2b v.leader m b s by).state → Sends v.leader (votes.on_p2b v.leader m b s by).says before now → ShowsReceived m k (P2b b s by) (record v { leader = l }) before now
   received_p2b l b s by before now new sends = received_led (λ y. votes.on_p2b y m b s by) l (P2b b s by) before now new sends (λ x leads. hears_vote b s by)

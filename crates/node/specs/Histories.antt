@@ -3,7 +3,8 @@ use Rattle.std.specs.Prelude.{ℕ, ◌-◌, List, flat_map}
 use Rattle.std.specs.List.{range_with_len}
 use Rattle.std.specs.Option.{option_to_list}
 use Rattle.std.specs.FinMap.{get}
-use Rattle.slot_log.specs.Books.{Slots, SlotBook}
+use Rattle.ballot.specs.Slots.{Slots}
+use Rattle.slot_log.specs.Books.{SlotBook}
 
 -- the commands that are known to be decided in the slots from 1 on, so many
 abbrev pub commands_upto : {C : Type 0} → ℕ → Slots C → List C

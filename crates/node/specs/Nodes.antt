@@ -1,5 +1,6 @@
 -- Nodes.
-use Rattle.std.specs.Prelude.{ℕ, zero, suc, ◌+◌, List, slice_index_or, slice_set}
+use Rattle.std.specs.Prelude.{◌≡◌, true, ℕ, zero, suc, ◌+◌, List, slice_index_or, slice_set}
+use Rattle.ballot.specs.Members.{is_member}
 use Rattle.acceptor.specs.Acceptors.{Acceptances, new_acceptor}
 use Rattle.leader.specs.Leaders.{Leading, new_leader}
 use Rattle.slot_log.specs.Books.{SlotBook, new_book}
@@ -19,6 +20,12 @@ members_of x = x.leader.members
 -- its own number among them
 abbrev pub number_of : {C : Type 0} → NodeState C → ℕ
 number_of x = x.leader.ballot.node
+
+-- x is the node of this number among these members
+pub record IsSeated {C : Type 0} (members : List ℕ) (n : ℕ) (x : NodeState C) : Type 0 where
+  pub member : is_member members n ≡ true
+  pub speaks : members_of x ≡ members
+  pub node : number_of x ≡ n
 
 -- node n of these members before anything happened
 abbrev pub new_node : {C : Type 0} → List ℕ → ℕ → NodeState C

@@ -9,9 +9,9 @@ use Rattle.ballot.specs.declared.letter.Body.TheVariants.{P1a, P1b, P2a, P2b, Pr
 use Rattle.ballot.specs.declared.letter.Letter.{Letter}
 use Rattle.acceptor.specs.Acceptors.{Keeps, after_p1a, after_p2a}
 use Rattle.acceptor.specs.Reports.{IsReport}
-use Rattle.leader.specs.Slots.{Slots}
+use Rattle.ballot.specs.Slots.{Slots}
 use Rattle.leader.specs.Leaders.{proposed}
-use Rattle.leader.specs.Promises.{MayTake}
+use Rattle.leader.specs.Promises.{Hears}
 use Rattle.leader.specs.Promises as promises
 use Rattle.leader.specs.Votes as votes
 use Rattle.slot_log.specs.Decisions.{learnt}
@@ -20,7 +20,8 @@ use Rattle.node.specs.Nodes.{NodeState, members_of, number_of}
 use Rattle.node.specs.Deeds.{led}
 
 -- Node x, of number n, receives a body from m: what it becomes, and the letters that it sends. What an acceptor reports
--- is free within `IsReport`, and which proposals an adopted leader takes, within `MayTake`.
+-- is free within `IsReport`; and in what order the pvalues of a report are gathered, and which proposals an adopted leader
+-- takes, within `Hears`.
 pub data Receives {C : Type 0} (members : List ℕ) (m n : ℕ) (x : NodeState C) : Body C → NodeState C → List (Letter C) → Type 0 where
   promises_ballot :
       (b : Numbers) (report : List (Pvalue C))
@@ -30,9 +31,9 @@ pub data Receives {C : Type 0} (members : List ℕ) (m n : ℕ) (x : NodeState C
       (p : Pvalue C)
       → Receives members m n x (P2a p) (record x { acceptor = after_p2a x.acceptor p }) (letter n (P2b x.acceptor.promised p.slot p.ballot) m ∷ [])
   hears_promise :
-      (b : Numbers) (report : List (Pvalue C)) (taken : Slots C)
-      → MayTake x.leader m b report taken
-      → Receives members m n x (P1b b report) (led x (promises.on_p1b x.leader m b report taken)) (all_to_all members n (promises.on_p1b x.leader m b report taken).says)
+      (b : Numbers) (report fresh : List (Pvalue C)) (taken : Slots C)
+      → Hears x.leader m b report fresh taken
+      → Receives members m n x (P1b b report) (led x (promises.on_p1b x.leader m b fresh taken)) (all_to_all members n (promises.on_p1b x.leader m b fresh taken).says)
   hears_vote :
       (b : Option Numbers) (s : ℕ) (by : Numbers)
       → Receives members m n x (P2b b s by) (led x (votes.on_p2b x.leader m b s by)) (all_to_all members n (votes.on_p2b x.leader m b s by).says)

@@ -8,7 +8,7 @@ use Rattle.std.proofs.lemmas.Bool.Decides.{nat_tests}
 use Rattle.std.proofs.lemmas.Bool.{cases_eq}
 use Rattle.std.specs.Prelude.{T, ◌&&◌, is_some}
 use Rattle.object.specs.Lists.{In}
-use Rattle.leader.specs.Slots.{Slots, each_value}
+use Rattle.ballot.specs.Slots.{Slots, each_value}
 use Rattle.object.specs.ListLaws.{Each, Each-weaker}
 
 eq_yes : (q : ℕ) → eq_by_cmp nat_cmp q q ≡ true

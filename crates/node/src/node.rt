@@ -34,7 +34,7 @@ pub struct Node<O: Object> {
 
 impl<O: Object> Model for Node<O> {
     ghost use Rattle.std.specs.Coded.{codes};
-    ghost use Rattle.slot_log.specs.Books.{slots_code};
+    ghost use Rattle.ballot.specs.Slots.{slots_code};
     ghost use Rattle.node.specs.Nodes.{NodeState};
     ghost use Rattle.node.specs.Kept.{IsKept};
     ghost use Rattle.object.specs.declared.command.Command.{Command};

@@ -6,8 +6,7 @@ ghost use Rattle.ballot.specs.Letters.{letter};
 ghost use Rattle.ballot.specs.declared.letter.Body.TheVariants.{P1a, P1b, P2a, P2b, Propose, Decision, Ask};
 ghost use Rattle.acceptor.specs.Acceptors.{Keeps, after_p2a};
 ghost use Rattle.leader.specs.Leaders.{Sends, proposed};
-ghost use Rattle.leader.specs.Promises.{MayTake};
-ghost use Rattle.leader.specs.Promises as promises;
+ghost use Rattle.leader.specs.Promises.{HearsP1b};
 ghost use Rattle.leader.specs.Votes as votes;
 ghost use Rattle.slot_log.specs.Decisions.{learnt};
 ghost use Rattle.node.specs.Receiving.{IsFit, ShowsReceived};
@@ -104,8 +103,7 @@ impl<O: Object> Node<O> {
         ensures ok { OnOk result (ShowsReceived «from» self.old (P1b ballot report.now) self.new out.old.items out.new.items) }
         ensures err { OnErr result ((self.new ≡ self.old) × (out.new.items ≡ out.old.items)) }
     {
-        let report = report.copy()?.into_vec();
-        hear_promise(&mut self.leader, from, ballot, report, out)?;
+        hear_promise(&mut self.leader, from, ballot, report.as_slice(), out)?;
         Ok(())
     }
 
@@ -210,13 +208,11 @@ fn hear_promise<C: Value>(
     leader: &mut Leader<C>,
     from: u8,
     ballot: Ballot,
-    report: Vec<Pvalue<C>>,
+    report: &[Pvalue<C>],
     out: &mut Vec<Letter<C>>,
 ) -> Result<(), AllocError>
     requires { ballot.round < 2 ^ 62 }
-    ensures taken { OnOk result (MayTake leader.old from ballot report.items leader.new.proposals) }
-    ensures state { OnOk result (leader.new ≡ (promises.on_p1b leader.old from ballot report.items leader.new.proposals).state) }
-    ensures out { OnOk result (Sends leader.old (promises.on_p1b leader.old from ballot report.items leader.new.proposals).says out.old.items out.new.items) }
+    ensures hears { OnOk result (HearsP1b leader.old from ballot report.now leader.new out.old.items out.new.items) }
     ensures err { OnErr result ((leader.new ≡ leader.old) × (out.new.items ≡ out.old.items)) }
 {
     match leader.on_p1b(from, ballot, report, out) {

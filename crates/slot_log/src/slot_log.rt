@@ -215,13 +215,6 @@ impl<C: Value + Keyed> SlotLog<C> {
         }
     }
 
-    /// Whether it is known what is decided in the slot. It takes no memory.
-    pub fn knows(&self, slot: Slot) -> bool
-        ensures { result ≡ map.contains_key self.now.decisions slot }
-    {
-        self.decisions.contains_key(&slot)
-    }
-
     /// The known decisions of the slot and the 63 that follow it, in rising slot.
     pub fn decided_from(&self, slot: Slot) -> Result<Vec<(Slot, C)>, AllocError>
         ensures { IfOk result (λ known. known.items ≡ deciding.decided_from self.now slot) }

@@ -15,7 +15,7 @@ use Rattle.scout_commander.specs.Scouts.{Scouting, Hearing, new_scout, gathers, 
 use Rattle.scout_commander.specs.declared.scout.Heard.TheVariants.{Wait, Adopted, Preempted}
 use Rattle.scout_commander.specs.Commanders.{Commanding, Voting, counts, votes}
 use Rattle.scout_commander.specs.declared.commander.Voted.TheVariants.{Wait as VoteWaits, Decided}
-use Rattle.leader.specs.Slots.{Slots}
+use Rattle.ballot.specs.Slots.{Slots}
 use Rattle.leader.specs.Leaders.{Leading, Done, silently, pvalue, woken, preempted, commands, proposed, scout_says, says_again}
 use Rattle.leader.specs.Adoptions.{adopted}
 use Rattle.leader.specs.Promises.{at_heard, at_scout}
@@ -212,7 +212,7 @@ module _ (laws : BallotLaws) {C : Type 0} (k : Cluster C) (i : IsSound k) (r : â
         round_of (Some y) = y.round
     receive_within m body low x out (accepts_pvalue p) =
         turn_within n member _ _ (record { boot = old.boot; leader = old.leader; promised = old.promised }) ((Î» b e. old.promised b e), tt)
-    receive_within m body low x out (hears_promise b report taken may) = leader_within _ (p1b_bounded r (node k n).leader (w.nodes n).leader m b report taken low)
+    receive_within m body low x out (hears_promise b report fresh taken may) = leader_within _ (p1b_bounded r (node k n).leader (w.nodes n).leader m b fresh taken low)
     receive_within m body low x out (hears_vote b s by) = leader_within _ (p2b_bounded r (node k n).leader (w.nodes n).leader m b s by low)
     receive_within m body low x out (hears_proposal s c) = leader_within _ (proposed_bounded r (node k n).leader (w.nodes n).leader s c)
     receive_within m body low x out (learns s c) = replica_within _ [] tt

@@ -7,15 +7,16 @@ use Rattle.ballot.specs.Ballots.{Numbers, is_below, is_same, is_promise, next_af
 use Rattle.ballot.specs.Members.{has, add, is_majority, is_member}
 use Rattle.ballot.specs.declared.pvalue.Pvalue.{Pvalue}
 use Rattle.ballot.specs.declared.letter.Body.TheVariants.{P2a}
-use Rattle.scout_commander.specs.Scouts.{Scouting, Hearing, new_scout, gathers, unmoved}
+use Rattle.scout_commander.specs.Reports.{IsFresh}
+use Rattle.scout_commander.specs.Scouts.{Scouting, Hearing, new_scout, gathers, unmoved, TakesFresh}
 use Rattle.scout_commander.specs.Scouts as scouts
 use Rattle.scout_commander.specs.declared.scout.Heard.TheVariants.{Wait, Adopted, Preempted}
 use Rattle.scout_commander.specs.Commanders.{Commanding, Voting, new_commander, counts, votes}
 use Rattle.scout_commander.specs.declared.commander.Voted.TheVariants.{Wait as VoteWaits, Decided}
-use Rattle.leader.specs.Slots.{Slots}
+use Rattle.ballot.specs.Slots.{Slots}
 use Rattle.leader.specs.Leaders.{Leading, silently, pvalue, woken, preempted, commands, proposed}
 use Rattle.leader.specs.Adoptions.{IsGreatest, IsOpen, TakesGreatest, adopted, asks_for}
-use Rattle.leader.specs.Promises.{at_heard, at_scout, AllowsAt, MayTake}
+use Rattle.leader.specs.Promises.{at_heard, at_scout, AllowsAt, Hears}
 use Rattle.leader.specs.Votes.{at_voted, at_commander, answers_another}
 use Rattle.leader.specs.Votes as votes_of
 use Rattle.node.specs.Nodes.{NodeState}
@@ -193,15 +194,15 @@ module _ (laws : BallotLaws) {C : Type 0} (k : Cluster C) (i : IsSound k) (n : �
   heard_if taken s is false e allowed = scout_good s is
 
   -- the scout with one more P1b
-  more : (s : Scouting C) (m : ℕ) (report : List (Pvalue C)) → IsScouting k x.leader s → IsPromise k m x.leader.ballot report → IsScouting k x.leader (gathers s m report).scout
-  more s m report is p = record {
+  more : (s : Scouting C) (m : ℕ) (report fresh : List (Pvalue C)) → IsFresh s.gathered report fresh → IsScouting k x.leader s → IsPromise k m x.leader.ballot report → IsScouting k x.leader (gathers s m fresh).scout
+  more s m report fresh f is p = record {
     own = record { members = is.own.members; ballot = is.own.ballot };
     asleep = is.asleep;
     gathering = record {
-      sent = λ q b. ⊎_elim (λ (old : In q s.gathered). is.gathering.sent q old) (λ (new : In q report). p.sent q new) (In-cases q s.gathered report b);
+      sent = λ q b. ⊎_elim (λ (old : In q s.gathered). is.gathering.sent q old) (λ (new : In q fresh). p.sent q (f.part q new)) (In-cases q s.gathered fresh b);
       reports = λ j b. ⊎_elim
-          (λ (e : j ≡ m). (report, subst (λ y. IsPromise k y x.leader.ballot report) (sym e) p, λ q c. In-right q s.gathered report c))
-          (λ (old : has s.heard j ≡ true). let r = is.gathering.reports j old in (r.0, r.1, λ q c. In-left q s.gathered report (r.2 q c)))
+          (λ (e : j ≡ m). (report, subst (λ y. IsPromise k y x.leader.ballot report) (sym e) p, λ q c. ⊎_elim (λ (old : In q s.gathered). In-left q s.gathered fresh old) (λ (new : In q fresh). In-right q s.gathered fresh new) (f.all q c)))
+          (λ (old : has s.heard j ≡ true). let r = is.gathering.reports j old in (r.0, r.1, λ q c. In-left q s.gathered fresh (r.2 q c)))
           (has_add s.heard m j b);
     };
   }
@@ -214,19 +215,19 @@ module _ (laws : BallotLaws) {C : Type 0} (k : Cluster C) (i : IsSound k) (n : �
   hearing_if taken true v w on off = on refl
   hearing_if taken false v w on off = off refl
 
-  hearing_good : (m : ℕ) (b : Numbers) (report : List (Pvalue C)) → IsPromise k m b report → (taken : Slots C) (s : Scouting C) → IsScouting k x.leader s → AtHearing taken (scouts.on_p1b s m b report)
-  hearing_good m b report p taken s is =
+  hearing_good : (m : ℕ) (b : Numbers) (report fresh : List (Pvalue C)) → IsPromise k m b report → (taken : Slots C) (s : Scouting C) → TakesFresh s m b report fresh → IsScouting k x.leader s → AtHearing taken (scouts.on_p1b s m b fresh)
+  hearing_good m b report fresh p taken s takes is =
       hearing_if taken (is_member s.members m) _ (unmoved s Wait)
-      (λ member. hearing_if taken (is_same b s.ballot) (gathers s m report) _
-      (λ mine allowed. heard_if taken (gathers s m report).scout (more s m report is (subst (λ y. IsPromise k m y report) (laws.same b s.ballot mine ∙ is.own.ballot) p)) (is_majority s.members (add s.heard m)) refl allowed)
+      (λ member. hearing_if taken (is_same b s.ballot) (gathers s m fresh) _
+      (λ mine allowed. heard_if taken (gathers s m fresh).scout (more s m report fresh (takes (record { member = member; same = laws.same b s.ballot mine })) is (subst (λ y. IsPromise k m y report) (laws.same b s.ballot mine ∙ is.own.ballot) p)) (is_majority s.members (add s.heard m)) refl allowed)
       (λ other. hearing_if taken (is_below s.ballot b) (unmoved s (Preempted b)) (unmoved s Wait)
       (λ up allowed. preempted_good b)
       (λ down allowed. scout_good s is)))
       (λ stranger allowed. scout_good s is)
 
-  pub p1b_good : (m : ℕ) (b : Numbers) (report : List (Pvalue C)) → IsPromise k m b report → (taken : Slots C) → MayTake x.leader m b report taken → (o : Option (Scouting C)) → x.leader.scout ≡ o → IsGood k n x (at_scout x.leader m b report taken o)
-  p1b_good m b report p taken may None e = good_silent laws k n x h
-  p1b_good m b report p taken may (Some s) e = hearing_good m b report p taken s (h.leader.scouting s e) (may s e)
+  pub p1b_good : (m : ℕ) (b : Numbers) (report fresh : List (Pvalue C)) → IsPromise k m b report → (taken : Slots C) → Hears x.leader m b report fresh taken → (o : Option (Scouting C)) → x.leader.scout ≡ o → IsGood k n x (at_scout x.leader m b fresh taken o)
+  p1b_good m b report fresh p taken may None e = good_silent laws k n x h
+  p1b_good m b report fresh p taken may (Some s) e = hearing_good m b report fresh p taken s (may.gathers s e) (h.leader.scouting s e) (may.takes s e)
 
   -- a commander that stands after it heard a member
   commander_good : (s : ℕ) (c : Commanding C) → IsVoting k x.leader s c → IsGood k n x (silently (record x.leader { commanders = insert x.leader.commanders s c }))

@@ -1,8 +1,9 @@
 -- Where commands come from: what holds of each submitted command holds of each that is requested, proposed or asked for.
-use Rattle.std.proofs.Common.{◌≡◌, ◌≢◌, ◌⊎◌, inl, inr, ⊎_elim, ℕ, Bool, true, false, cond, List, [], ◌∷◌, ◌++◌, map, filter, drop, Some, None, Option, refl, sym, ◌∙◌, subst}
+use Rattle.std.proofs.Common.{◌≡◌, ◌≢◌, ◌⊎◌, inl, inr, ⊎_elim, ℕ, Bool, true, false, cond, List, [], ◌∷◌, ◌++◌, map, filter, drop, Some, None, Option, refl, sym, ◌∙◌, subst, arith}
 use Rattle.std.specs.Prelude.{⊤, ◌==◌, not, nat_le, ◌^◌}
 use Rattle.std.specs.FinMap.{empty, get, insert, entries, contains_key}
 use Rattle.std.proofs.lemmas.Bool.{cases_eq}
+use Rattle.std.proofs.lemmas.Bool.Decides.{nat_tests}
 use Rattle.object.specs.Lists.{In}
 use Rattle.ballot.specs.Ballots.{Numbers, is_below, is_same}
 use Rattle.ballot.specs.Members.{is_member, numbers, add, is_majority}
@@ -11,15 +12,15 @@ use Rattle.ballot.specs.declared.pvalue.Pvalue.{Pvalue}
 use Rattle.ballot.specs.declared.letter.Body.{Body}
 use Rattle.ballot.specs.declared.letter.Body.TheVariants.{P1a, P1b, P2a, P2b, Propose, Decision, Ask}
 use Rattle.ballot.specs.declared.letter.Letter.{Letter}
-use Rattle.scout_commander.specs.Scouts.{Scouting, Hearing, new_scout, gathers, unmoved}
+use Rattle.scout_commander.specs.Scouts.{Scouting, Hearing, new_scout, gathers, unmoved, TakesFresh}
 use Rattle.scout_commander.specs.Scouts as scouts
 use Rattle.scout_commander.specs.declared.scout.Heard.TheVariants.{Wait, Adopted, Preempted}
 use Rattle.scout_commander.specs.Commanders.{Commanding, Voting, counts, votes}
 use Rattle.scout_commander.specs.declared.commander.Voted.TheVariants.{Wait as VoteWaits, Decided}
-use Rattle.leader.specs.Slots.{Slots}
+use Rattle.ballot.specs.Slots.{Slots}
 use Rattle.leader.specs.Leaders.{Leading, Done, silently, pvalue, woken, preempted, commands, proposed, scout_says, says_again}
 use Rattle.leader.specs.Adoptions.{IsGreatest, IsOpen, TakesGreatest, adopted}
-use Rattle.leader.specs.Promises.{at_heard, at_scout, AllowsAt, MayTake}
+use Rattle.leader.specs.Promises.{at_heard, at_scout, AllowsAt, Hears}
 use Rattle.leader.specs.Votes.{at_voted, at_commander, answers_another}
 use Rattle.leader.specs.Votes as votes_by
 use Rattle.slot_log.specs.Books.{SlotBook}
@@ -135,25 +136,34 @@ module _ {C : Type 0} (P : C → Type 0) where
   abbrev AtHearing : Leading C → Slots C → Hearing C → Type 0
   AtHearing l taken v = AllowsAt l.proposals v.scout v.says taken → OfDone (at_heard l taken v.scout v.says)
 
-  hearing_if : (l : Leading C) (taken : Slots C) (test : Bool) (v w : Hearing C) → AtHearing l taken v → AtHearing l taken w → AtHearing l taken (cond test v w)
-  hearing_if l taken true v w on off = on
+  hearing_if : (l : Leading C) (taken : Slots C) (test : Bool) (v w : Hearing C) → (test ≡ true → AtHearing l taken v) → AtHearing l taken w → AtHearing l taken (cond test v w)
+  hearing_if l taken true v w on off = on refl
   hearing_if l taken false v w on off = off
+
+  same_numbers : (a b : Numbers) → is_same a b ≡ true → a ≡ b
+  same_numbers a b h =
+      let r : a.round ≡ b.round = grind (arith, nat_tests) in
+      let n : a.node ≡ b.node = grind (arith, nat_tests) in
+      let t : a.boot ≡ b.boot = grind (arith, nat_tests) in
+      λ i. record { round = r i; node = n i; boot = t i }
 
   heard_if : (l : Leading C) (taken : Slots C) (s : Scouting C) → AllAt l.proposals → ((p : Pvalue C) → In p s.gathered → P p.value) → (test : Bool) → AllowsAt l.proposals s (cond test Adopted Wait) taken → OfDone (at_heard l taken s (cond test Adopted Wait))
   heard_if l taken s h g true allowed = adopted_of l s.gathered taken h g allowed
   heard_if l taken s h g false allowed = of_silent _ h
 
-  scout_of : (l : Leading C) (m : ℕ) (b : Numbers) (report : List (Pvalue C)) (taken : Slots C) → AllAt l.proposals → ((p : Pvalue C) → In p report → P p.value) → (s : Scouting C) → ((p : Pvalue C) → In p s.gathered → P p.value) → AtHearing l taken (scouts.on_p1b s m b report)
-  scout_of l m b report taken h r s g =
+  scout_of : (l : Leading C) (m : ℕ) (b : Numbers) (report fresh : List (Pvalue C)) (taken : Slots C) → AllAt l.proposals → ((p : Pvalue C) → In p report → P p.value) → (s : Scouting C) → TakesFresh s m b report fresh → ((p : Pvalue C) → In p s.gathered → P p.value) → AtHearing l taken (scouts.on_p1b s m b fresh)
+  scout_of l m b report fresh taken h r s takes g =
       hearing_if l taken (is_member s.members m) _ (unmoved s Wait)
-      (hearing_if l taken (is_same b s.ballot) (gathers s m report) _
-      (heard_if l taken (gathers s m report).scout h (λ p at. ⊎_elim (λ (x : In p s.gathered). g p x) (λ (x : In p report). r p x) (In-cases p s.gathered report at)) (is_majority s.members (add s.heard m)))
-      (hearing_if l taken (is_below s.ballot b) (unmoved s (Preempted b)) (unmoved s Wait) (λ allowed. preempted_of l b h) (λ allowed. of_silent _ h)))
+      (λ member. hearing_if l taken (is_same b s.ballot) (gathers s m fresh) _
+      (λ mine.
+      let f = takes (record { member = member; same = same_numbers b s.ballot mine }) in
+      heard_if l taken (gathers s m fresh).scout h (λ p at. ⊎_elim (λ (x : In p s.gathered). g p x) (λ (x : In p fresh). r p (f.part p x)) (In-cases p s.gathered fresh at)) (is_majority s.members (add s.heard m)))
+      (hearing_if l taken (is_below s.ballot b) (unmoved s (Preempted b)) (unmoved s Wait) (λ up allowed. preempted_of l b h) (λ allowed. of_silent _ h)))
       (λ allowed. of_silent _ h)
 
-  p1b_of : (l : Leading C) (m : ℕ) (b : Numbers) (report : List (Pvalue C)) (taken : Slots C) → AllAt l.proposals → ((p : Pvalue C) → In p report → P p.value) → MayTake l m b report taken → (o : Option (Scouting C)) → l.scout ≡ o → ((s : Scouting C) → l.scout ≡ Some s → (p : Pvalue C) → In p s.gathered → P p.value) → OfDone (at_scout l m b report taken o)
-  p1b_of l m b report taken h r may None e g = of_silent l h
-  p1b_of l m b report taken h r may (Some s) e g = scout_of l m b report taken h r s (g s e) (may s e)
+  p1b_of : (l : Leading C) (m : ℕ) (b : Numbers) (report fresh : List (Pvalue C)) (taken : Slots C) → AllAt l.proposals → ((p : Pvalue C) → In p report → P p.value) → Hears l m b report fresh taken → (o : Option (Scouting C)) → l.scout ≡ o → ((s : Scouting C) → l.scout ≡ Some s → (p : Pvalue C) → In p s.gathered → P p.value) → OfDone (at_scout l m b fresh taken o)
+  p1b_of l m b report fresh taken h r may None e g = of_silent l h
+  p1b_of l m b report fresh taken h r may (Some s) e g = scout_of l m b report fresh taken h r s (may.gathers s e) (g s e) (may.takes s e)
 
   -- and what a commander makes of a P2b
   abbrev AtVoting : Leading C → ℕ → Voting C → Type 0
@@ -286,8 +296,8 @@ module _ {C : Type 0} (P : C → Type 0) where
     pub receive_of : (m : ℕ) (body : Body C) → OfBody body → IsTrueOf k m body → (x : NodeState C) (out : List (Letter C)) → Receives k.members m n (node k n) body x out → Of (turned k n x out)
     receive_of m body h fair x out (promises_ballot b report r) = same_node x out refl refl (tt, tt)
     receive_of m body h fair x out (accepts_pvalue p) = same_node x out refl refl (tt, tt)
-    receive_of m body h fair x out (hears_promise b report taken may) =
-        of_leader _ (p1b_of (node k n).leader m b report taken (f.nodes n).leader (λ p at. asked_of k f p (fair.sent p at)) may (node k n).leader.scout refl gathered_of)
+    receive_of m body h fair x out (hears_promise b report fresh taken may) =
+        of_leader _ (p1b_of (node k n).leader m b report fresh taken (f.nodes n).leader (λ p at. asked_of k f p (fair.sent p at)) may (node k n).leader.scout refl gathered_of)
     receive_of m body h fair x out (hears_vote b s by) = of_leader _ (p2b_of (node k n).leader m b s by (f.nodes n).leader)
     receive_of m body h fair x out (hears_proposal s c) = of_leader _ (propose_of (node k n).leader s c (f.nodes n).leader h)
     receive_of m body h fair x out (learns s c) = of_replica x.replica [] (record { requests = (f.nodes n).replica.requests; proposals = (f.nodes n).replica.proposals }) tt

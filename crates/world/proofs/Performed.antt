@@ -12,7 +12,8 @@ use Rattle.ballot.specs.declared.letter.Letter.{Letter}
 use Rattle.ballot.specs.Letters.{all_to_all}
 use Rattle.leader.specs.Leaders.{woken}
 use Rattle.replica.specs.Replicas.{asks_for}
-use Rattle.slot_log.specs.Books.{Slots, SlotBook}
+use Rattle.ballot.specs.Slots.{Slots}
+use Rattle.slot_log.specs.Books.{SlotBook}
 use Rattle.slot_log.specs.Requests.{is_known, requested}
 use Rattle.slot_log.specs.Proposals.{next_proposal, proposed}
 use Rattle.slot_log.specs.Decisions.{learnt, next_decided}
@@ -141,7 +142,7 @@ advanced_full {C} same r c e h = record {
 receives_full : {C : Type 0} (members : List ℕ) (m n : ℕ) (x : NodeState C) (body : Body C) (z : NodeState C) (out : List (Letter C)) → Receives members m n x body z out → IsPerformed x.replica → IsPerformed z.replica
 receives_full members m n x body z out (promises_ballot b report r) h = h
 receives_full members m n x body z out (accepts_pvalue p) h = h
-receives_full members m n x body z out (hears_promise b report taken may) h = h
+receives_full members m n x body z out (hears_promise b report fresh taken may) h = h
 receives_full members m n x body z out (hears_vote b s by) h = h
 receives_full members m n x body z out (hears_proposal s c) h = h
 receives_full members m n x body z out (learns s c) h = learnt_full x.replica s c h

@@ -265,7 +265,7 @@ module _ (laws : BallotLaws) {C : Type 0} (k : Cluster C) (i : IsSound k) (n : �
   pub receive_sound : (m : ℕ) → is_member k.members m ≡ true → (body : Body C) → IsTrueOf k m body → ((p : Pvalue C) → body ≡ P2a p → Asked k.letters p) → (x : NodeState C) (out : List (Letter C)) → Receives k.members m n (node k n) body x out → Kept k (turned k n x out)
   receive_sound m to body true_of asked x out (promises_ballot b report r) = p1a_sound m to b report r
   receive_sound m to body true_of asked x out (accepts_pvalue p) = p2a_sound m to p (asked p refl)
-  receive_sound m to body true_of asked x out (hears_promise b report taken may) = leader_sound laws k i n member _ (p1b_good laws k i n (node k n) (i.nodes n) m b report true_of taken may (node k n).leader.scout refl)
+  receive_sound m to body true_of asked x out (hears_promise b report fresh taken may) = leader_sound laws k i n member _ (p1b_good laws k i n (node k n) (i.nodes n) m b report fresh true_of taken may (node k n).leader.scout refl)
   receive_sound m to body true_of asked x out (hears_vote b s by) = leader_sound laws k i n member _ (p2b_good laws k i n (node k n) (i.nodes n) m b s by true_of)
   receive_sound m to body true_of asked x out (hears_proposal s c) = leader_sound laws k i n member _ (proposed_good laws k i n (node k n) (i.nodes n) s c)
   receive_sound m to body true_of asked x out (learns s c) = learns_sound s c true_of

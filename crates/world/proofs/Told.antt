@@ -59,7 +59,7 @@ proposed_slot r (Some p) = refl
 receives_slot : {C : Type 0} (members : List ℕ) (m n : ℕ) (x : NodeState C) (body : Body C) (z : NodeState C) (out : List (Letter C)) → Receives members m n x body z out → z.replica.slot_out ≡ x.replica.slot_out
 receives_slot members m n x body z out (promises_ballot b report r) = refl
 receives_slot members m n x body z out (accepts_pvalue p) = refl
-receives_slot members m n x body z out (hears_promise b report taken may) = refl
+receives_slot members m n x body z out (hears_promise b report fresh taken may) = refl
 receives_slot members m n x body z out (hears_vote b s by) = refl
 receives_slot members m n x body z out (hears_proposal s c) = refl
 receives_slot members m n x body z out (learns s c) = refl

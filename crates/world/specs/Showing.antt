@@ -1,16 +1,9 @@
 -- The nodes of a world in their places, and what they may receive.
-use Rattle.std.specs.Prelude.{◌≡◌, ℕ, true, List, length}
-use Rattle.ballot.specs.Members.{is_member}
+use Rattle.std.specs.Prelude.{◌≡◌, ℕ, length}
 use Rattle.ballot.specs.declared.letter.Letter.{Letter}
-use Rattle.node.specs.Nodes.{NodeState, members_of, number_of}
+use Rattle.node.specs.Nodes.{IsSeated}
 use Rattle.node.specs.Receiving.{IsFit}
 use Rattle.world.specs.Nodes.{Cluster, node}
-
--- x is the node of this number among these members
-pub record IsSeated {C : Type 0} (members : List ℕ) (n : ℕ) (x : NodeState C) : Type 0 where
-  pub member : is_member members n ≡ true
-  pub speaks : members_of x ≡ members
-  pub node : number_of x ≡ n
 
 -- the cluster has a node of this number, in its place
 pub record HasNode {C : Type 0} (n : ℕ) (k : Cluster C) : Type 0 where

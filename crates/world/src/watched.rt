@@ -22,7 +22,7 @@ pub(crate) struct Watched<O: Object> {
 
 impl<O: Object> Model for Watched<O> {
     ghost use Rattle.std.specs.Coded.{codes};
-    ghost use Rattle.slot_log.specs.Books.{slots_code};
+    ghost use Rattle.ballot.specs.Slots.{slots_code};
     ghost use Rattle.node.specs.Nodes.{NodeState};
     ghost use Rattle.node.specs.Receiving.{ShowsNode};
     ghost use Rattle.world.specs.Kept.{with_accepted};

@@ -37,7 +37,7 @@ pub struct World<O: Object> {
 
 impl<O: Object> Model for World<O> {
     ghost use Rattle.std.specs.Coded.{codes};
-    ghost use Rattle.slot_log.specs.Books.{slots_code};
+    ghost use Rattle.ballot.specs.Slots.{slots_code};
     ghost use Rattle.world.specs.Worlds.{World};
     ghost use Rattle.world.specs.Kept.{IsNoted};
 
