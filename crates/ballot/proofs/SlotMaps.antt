@@ -25,7 +25,7 @@ unfolding IsStrictlySortedBy
 sorted_from [] h = tt
 sorted_from (e ∷ es) h = both _ _ (below_from e.0 es h.0) (sorted_from es h.1)
 
-lookup-find : {X : Type 0} (q : ℕ) (es : List (ℕ × X)) → lookup (is_at (nat_cmp q)) es ≡ find nat_cmp q es
+pub lookup-find : {X : Type 0} (q : ℕ) (es : List (ℕ × X)) → lookup (is_at (nat_cmp q)) es ≡ find nat_cmp q es
 lookup-find q [] = refl
 lookup-find q (e ∷ es) = ap (cond (eq_by_cmp nat_cmp q e.0) (Some e.1)) (lookup-find q es)
 

@@ -1,5 +1,6 @@
 -- A replica, by what it knows and by the object that obeys (Paxos Made Moderately Complex, 2.1 and Figure 3).
-use Rattle.std.specs.Prelude.{ℕ, ◌^◌, Bool, not, ◌==◌, nat_le, List, [], ◌∷◌, ◌++◌, map, filter, Option, None, Some, if◌then◌else◌}
+use Rattle.std.specs.Prelude.{ℕ, ◌-◌, ◌^◌, Bool, not, ◌==◌, nat_le, List, [], ◌∷◌, ◌++◌, length, map, filter, Option, None, Some, if◌then◌else◌}
+use Rattle.std.specs.List.{range_with_len}
 use Rattle.std.specs.FinMap.{entries}
 use Rattle.ballot.specs.declared.letter.Body.{Body}
 use Rattle.ballot.specs.declared.letter.Body.TheVariants.{Propose, Decision, Ask}
@@ -34,6 +35,10 @@ answers_as answers r (Some c) = filtered_answers answers r.object c
 
 abbrev pub performed_answers : {Op O Reply : Type 0} → (O → Command Op → List (Answer Reply)) → Replicating Op O → List (Answer Reply)
 performed_answers answers r = answers_as answers r (next_decided r.slots)
+
+-- the members but the last, in rising number
+abbrev pub but_last : List ℕ → List ℕ
+but_last weights = range_with_len 1 (length weights - 1)
 
 -- Propose: the first request is proposed in the least open slot
 abbrev pub asks_for : {C : Type 0} → Option (ℕ × C) → List (Body C)

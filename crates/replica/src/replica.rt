@@ -1,8 +1,8 @@
 ghost use Rattle.std.specs.Prelude.{◌≡◌, ◌↔◌, ◌++◌, ◌<◌, true, None, Some, Ok, is_some, map, take, vec_len, IfOk, IfSome, OnOk, OnErr, IsOk, IsErrOf};
 ghost use Rattle.std.specs.Option.{option_map};
-ghost use Rattle.std.specs.FinMap.{empty, get};
+ghost use Rattle.std.specs.FinMap.{empty, get, contains_key};
 ghost use Rattle.ballot.specs.Members.{is_member};
-ghost use Rattle.ballot.specs.Letters.{all_to_all};
+ghost use Rattle.ballot.specs.Letters.{letter, all_to_all};
 ghost use Rattle.object.specs.Commands.{same_commands};
 ghost use Rattle.object.specs.OnceOnly.{is_later};
 ghost use Rattle.object.specs.declared.once.Effect.{Effect};
@@ -10,7 +10,7 @@ ghost use Rattle.slot_log.specs.Books.{new_book};
 ghost use Rattle.slot_log.specs.Requests.{is_known, requested};
 ghost use Rattle.slot_log.specs.Proposals.{next_proposal, proposed_next};
 ghost use Rattle.slot_log.specs.Decisions as deciding;
-ghost use Rattle.replica.specs.Replicas.{asks_for, tells, nudges, proposes_again, asks_others, performed, performed_answers};
+ghost use Rattle.replica.specs.Replicas.{but_last, asks_for, tells, nudges, proposes_again, asks_others, performed, performed_answers};
 
 use crate::performed::Performed;
 use ballot::{Body, Letter, Members, Slot, send_to_all};
@@ -30,7 +30,7 @@ pub struct Replica<O: Object> {
 impl<O: Object> Model for Replica<O> {
     ghost use Rattle.std.specs.Coded.{codes};
     ghost use Rattle.object.specs.OnceOnly.{latest_code};
-    ghost use Rattle.slot_log.specs.Books.{slots_code};
+    ghost use Rattle.ballot.specs.Slots.{slots_code};
     ghost use Rattle.replica.specs.Replicas.{Replicating};
 
     ghost Value = { Replicating O.Op O };
@@ -73,6 +73,13 @@ impl<O: Object> Replica<O> {
         self.slots.learn(slot, command)
     }
 
+    /// Whether a decision of the slot is known.
+    pub fn knows(&self, slot: Slot) -> bool
+        ensures { result ≡ contains_key self.now.slots.decisions slot }
+    {
+        self.slots.knows(slot)
+    }
+
     /// The least slot with a proposal and without a known decision. It takes no memory.
     pub fn undecided(&self) -> Option<Slot>
         ensures { result ≡ deciding.undecided self.now.slots }
@@ -104,19 +111,43 @@ impl<O: Object> Replica<O> {
         ensures out { OnOk result (out.new.items ≡ out.old.items ++ all_to_all members node (asks_for (next_proposal self.old.slots))) }
         ensures err { OnErr result ((self.new ≡ self.old) × (out.new.items ≡ out.old.items)) }
     {
-        let Some((slot, command)) = self.slots.next_proposal() else {
+        let len = out.len();
+        let proposed = self.append_proposal(members, node, out);
+        if proposed.is_err() {
+            out.truncate(len);
+        }
+        proposed
+    }
+
+    // The same, but for what was sent before memory ran out. The last letter takes the command that was proposed, and
+    // the others copies.
+    fn append_proposal(
+        &mut self,
+        members: Members,
+        node: u8,
+        out: &mut Vec<Letter<Command<O::Op>>>,
+    ) -> Result<bool, AllocError>
+        ensures does { IfOk result (λ does. does ≡ is_some (next_proposal self.old.slots)) }
+        ensures state { OnOk result (self.new ≡ record self.old { slots = proposed_next self.old.slots }) }
+        ensures out { OnOk result (out.new.items
+            ≡ out.old.items ++ all_to_all members node (asks_for (next_proposal self.old.slots))) }
+        ensures err { OnErr result (self.new ≡ self.old) }
+        ensures front { take (vec_len out.old) out.new.items ≡ out.old.items }
+    {
+        let Some(next) = self.slots.next_proposal() else {
             return Ok(false);
         };
-        let body = Body::Propose(slot, command.copy()?);
-        let len = out.len();
-        send_to_all(members, node, body, out)?;
-        match self.slots.propose_next() {
-            Ok(_) => Ok(true),
-            Err(failed) => {
-                out.truncate(len);
-                Err(failed)
-            }
-        }
+        let (slot, command) = next;
+        send_copies(members, node, slot, command, out)?;
+        out.reserve(1)?;
+        let (slot, command) = self.slots.propose_next()?.unwrap();
+        out.push(Letter {
+            from: node,
+            to: members.count(),
+            body: Body::Propose(slot, command),
+        })
+        .unwrap();
+        Ok(true)
     }
 
     /// Gives the command of `slot_out`, where it is known, to the object, and appends the answers. For want of memory
@@ -219,4 +250,27 @@ impl<O: Object> Replica<O> {
         }
         Ok(())
     }
+}
+
+// Asks the leaders of all members but the last to propose a copy of the command in the slot.
+fn send_copies<C: Value>(
+    members: Members,
+    node: u8,
+    slot: Slot,
+    command: &C,
+    out: &mut Vec<Letter<C>>,
+) -> Result<(), AllocError>
+    ensures ok { OnOk result (out.new.items
+        ≡ out.old.items ++ map (letter node (Body.Propose slot command.now)) (but_last members)) }
+    ensures front { take (vec_len out.old) out.new.items ≡ out.old.items }
+{
+    for before in 0..members.count() - 1 {
+        let body = Body::Propose(slot, command.copy()?);
+        out.push(Letter {
+            from: node,
+            to: before + 1,
+            body,
+        })?;
+    }
+    Ok(())
 }

@@ -1,94 +1,152 @@
 -- One more decision is performed.
-use Rattle.std.proofs.Common.{◌≡◌, ◌≤◌, ◌<◌, ◌+◌, ℕ, Bool, true, false, cond, List, [], ◌∷◌, ◌++◌, Option, Some, None, ⊎_elim, ap, ap₂, subst, sym, ◌∙◌, arith, refl}
-use Rattle.std.proofs.lemmas.Bool.{cases_lt, cond-true, cond-false, false≢true}
-use Rattle.std.proofs.lemmas.List.{append-nil}
-use Rattle.std.specs.Option.{IsSome, is_some}
-use Rattle.std.specs.Ordering.{nat_cmp, is_eq}
-use Rattle.std.specs.Cmp.{nat_cmp_total, tied_itself}
-use Rattle.std.specs.BTreeMap.{BTreeMap, is_at, btree_map_len, IsOrdered}
+use Rattle.std.proofs.Common.{◌≡◌, ◌⊎◌, inl, inr, ⊎_elim, ◌≤◌, ◌<◌, ◌+◌, ℕ, Bool, true, false, ◌||◌, Some, None, List, [], ◌∷◌, ◌++◌, length, refl, ap, subst, sym, ◌∙◌, arith}
+use Rattle.std.proofs.lemmas.Bool.{cases_lt, false≢true}
+use Rattle.std.proofs.lemmas.List.Folds.{list_any-append}
+use Rattle.std.specs.List.{list_any}
+use Rattle.std.specs.Option.{is_some}
+use Rattle.std.specs.BTreeMap.{get as place_at}
 use Rattle.std.specs.declared.collections.VecDeque.{VecDeque}
 use Rattle.std.specs.declared.alloc.Global.{Global}
 use Rattle.std.specs.VecDeque.{deque_len, deque_capacity}
-use Rattle.std.specs.FinMap.{from_entries}
+use Rattle.std.specs.FinMap.{get, remove, len, values}
 use Rattle.object.specs.declared.command.Key.{Key}
+use Rattle.ballot.specs.Slots.{Slots}
+use Rattle.slot_log.specs.declared.places.Place.{Place}
+use Rattle.slot_log.specs.declared.places.Place.TheVariants.{Requested, Proposed, Decided}
+use Rattle.slot_log.specs.declared.places.Places.{Places}
 use Rattle.slot_log.specs.declared.slot_log.SlotLog.TheInside.{Inside}
-use Rattle.slot_log.specs.Books.{SlotBook}
-use Rattle.slot_log.specs.Decisions.{next_decided}
-use Rattle.slot_log.specs.Advances.{lost, advanced}
+use Rattle.slot_log.specs.Places.{key_cmp, ranked, put_at, is_found}
+use Rattle.slot_log.specs.Requests.{is_known}
 use Rattle.slot_log.specs.Proposals.{IsInWindow}
-use Rattle.slot_log.specs.Kept.{book_of, is_held, IsKept}
-use Rattle.slot_log.proofs.Maps.{at, get_is, remove_is}
+use Rattle.slot_log.specs.Kept.{book_of, standing, IsKept}
+use Rattle.slot_log.proofs.Maps.{remove_cases, none_removed, remove_none}
+use Rattle.slot_log.proofs.Held.{any_taken, any_found, goes_back, is_decided}
+use Rattle.slot_log.proofs.Ranks.{ranked_more, ranked_last}
+use Rattle.slot_log.proofs.Standing.{among, found_moved, placed}
 
--- the slot at slot_out has a decision
-pub decided : {C : Type 0} (a : Inside C) (b : SlotBook C) → book_of a ≡ b → IsSome (next_decided b) → is_some (at a.decisions.entries a.slot_out) ≡ true
-decided a b seen h = ap is_some (sym (get_is a.decisions.entries a.slot_out) ∙ ap next_decided seen) ∙ h
-
-gone : {X : Type 0} (b : Bool) (o : Option X) → o ≡ None → cond b None o ≡ None
-gone true o h = refl
-gone false o h = h
-
-remaining : {X : Type 0} (k s : ℕ) (o : Option X) → is_some (cond (is_at (nat_cmp k) s) None o) ≡ true → (k ≡ s → ⊥) × (is_some o ≡ true)
-remaining k s o there =
-    elim (is_at (nat_cmp k) s) as (λ b. is_at (nat_cmp k) s ≡ b → is_some (cond b None o) ≡ true → (k ≡ s → ⊥) × (is_some o ≡ true)) [
-      | true ↦ λ t h. absurd (false≢true h)
-      | false ↦ λ f h. (λ e. false≢true (sym f ∙ ap (λ n. is_at (nat_cmp k) n) (sym e) ∙ ap is_eq (tied_itself nat_cmp_total k)), h)
-    ] refl there
-
-above : (n s : ℕ) → n ≤ s → (n ≡ s → ⊥) → n + 1 ≤ s
-above n s low other = omega arith
-
-module _ {C : Type 0} (same : C → C → Bool) (key_of : C → Key) (a : Inside C) (kept : IsKept same key_of a) where
-  out_performed : is_some (at a.decisions.entries a.slot_out) ≡ true → (s : ℕ) → 0 < s → s < a.slot_out + 1 → is_some (at a.decisions.entries s) ≡ true
+module _ {C : Type 0} (same : C → C → Bool) (key_of : C → Key) (exact : (x y : C) → same x y ≡ true → x ≡ y) (itself : (x : C) → same x x ≡ true)
+    (a : Inside C) (kept : IsKept same key_of a) where
+  out_performed : is_some (get a.decisions a.slot_out) ≡ true → (s : ℕ) → 0 < s → s < a.slot_out + 1 → is_some (get a.decisions s) ≡ true
   out_performed there s low high =
       ⊎_elim (λ (l : s < a.slot_out). kept.performed s low l)
-      (λ (l : a.slot_out ≤ s). let e : a.slot_out ≡ s = omega arith in subst (λ t. is_some (at a.decisions.entries t) ≡ true) e there)
+      (λ (l : a.slot_out ≤ s). let e : a.slot_out ≡ s = omega arith in subst (λ t. is_some (get a.decisions t) ≡ true) e there)
       (cases_lt s a.slot_out)
 
-  module _ (k : ℕ) (own : k ≡ a.slot_out) (ps : BTreeMap ℕ C) (takes : (q : ℕ) → at ps.entries q ≡ cond (is_at (nat_cmp k) q) None (at a.proposals.entries q)) where
-    still_near : (s : ℕ) → is_some (at ps.entries s) ≡ true → IsInWindow (a.slot_out + 1) s
-    still_near s there =
-        let left = remaining k s (at a.proposals.entries s) (ap is_some (sym (takes s)) ∙ there) in
-        let near = kept.near s left.1 in
-        let low = near.low in
-        let high = near.high in
-        record { low = above a.slot_out s low (λ e. left.0 (own ∙ e)); high = omega arith }
+  gone : (s : ℕ) → get a.proposals s ≡ None → get (remove a.proposals a.slot_out) s ≡ None
+  gone s none =
+      ⊎_elim (λ (h : (s ≡ a.slot_out) × (get (remove a.proposals a.slot_out) s ≡ None)). h.1)
+      (λ (h : get (remove a.proposals a.slot_out) s ≡ get a.proposals s). h ∙ none) (remove_cases a.proposals a.slot_out s)
 
-    -- the fields are kept so, with these requests and proposals
-    pub out_kept : (rs : VecDeque C Global) → is_some (at a.decisions.entries a.slot_out) ≡ true → IsOrdered nat_cmp ps → deque_len rs + btree_map_len ps ≤ deque_capacity rs
-        → ((c : C) → is_held same a c ≡ is_held same (record a { slot_out = a.slot_out + 1; requests = rs; proposals = ps }) c)
-        → IsKept same key_of (record a { slot_out = a.slot_out + 1; requests = rs; proposals = ps })
-    out_kept rs there rise room held =
-        let within = kept.within a.slot_out there in
-        record {
-          slot_in = kept.slot_in;
-          slot_out = (omega arith, omega arith);
-          proposals = rise;
-          decisions = kept.decisions;
-          within = kept.within;
-          performed = out_performed there;
-          near = still_near;
-          ahead = λ s h. takes s ∙ gone (is_at (nat_cmp k) s) (at a.proposals.entries s) (kept.ahead s h);
-          room = room;
-          noted = λ c. kept.noted c ∙ held c;
-        }
+  above : (n s : ℕ) → n ≤ s → (s ≡ n → ⊥) → n + 1 ≤ s
+  above n s low other = omega arith
 
-    -- the book that is kept then
-    pub out_book : (rs : List C) → rs ≡ a.requests.items ++ lost same (at a.proposals.entries k) (at a.decisions.entries k)
-        → ◌≡◌ {A = SlotBook C} (record (book_of a) { slot_out = a.slot_out + 1; requests = rs; proposals = from_entries {R = nat_cmp} ps.entries }) (advanced same (book_of a))
-    out_book rs is =
-        let requests : rs ≡ (advanced same (book_of a)).requests =
-        is ∙ ap (λ n. a.requests.items ++ lost same (at a.proposals.entries n) (at a.decisions.entries n)) own
-        ∙ ap₂ (λ p d. a.requests.items ++ lost same p d) (sym (get_is a.proposals.entries a.slot_out)) (sym (get_is a.decisions.entries a.slot_out)) in
-        let proposals : from_entries {R = nat_cmp} ps.entries ≡ (advanced same (book_of a)).proposals =
-        remove_is a.proposals.entries ps.entries a.slot_out (λ q. takes q ∙ ap (λ n. cond (is_at (nat_cmp n) q) None (at a.proposals.entries q)) own) in
-        λ i. record (book_of a) { slot_out = a.slot_out + 1; requests = requests i; proposals = proposals i }
+  still_near : (s : ℕ) → is_some (get (remove a.proposals a.slot_out) s) ≡ true → IsInWindow (a.slot_out + 1) s
+  still_near s there =
+      ⊎_elim (λ (h : (s ≡ a.slot_out) × (get (remove a.proposals a.slot_out) s ≡ None)). absurd (false≢true (ap is_some (sym h.1) ∙ there)))
+      (λ (h : get (remove a.proposals a.slot_out) s ≡ get a.proposals s).
+      let near = kept.near s (ap is_some (sym h) ∙ there) in
+      let low = near.low in
+      let high = near.high in
+      record {
+        low = above a.slot_out s low (λ e. false≢true (ap is_some (sym (none_removed a.proposals a.slot_out) ∙ ap (get (remove a.proposals a.slot_out)) (sym e)) ∙ there));
+        high = omega arith;
+      })
+      (remove_cases a.proposals a.slot_out s)
 
--- a proposal that is what was decided is not lost, and another is
-pub lost_none : {C : Type 0} (same : C → C → Bool) (items : List C) (p d : Option C) → p ≡ None → items ≡ items ++ lost same p d
-lost_none same items p d h = sym (append-nil items) ∙ ap (λ o. items ++ lost same o d) (sym h)
+  abbrev then : VecDeque C Global → Places C → Inside C
+  then rs places = record a { slot_out = a.slot_out + 1; requests = rs; proposals = remove a.proposals a.slot_out; places = places }
 
-pub lost_won : {C : Type 0} (same : C → C → Bool) (items : List C) (p d : Option C) (x y : C) → p ≡ Some x → d ≡ Some y → same x y ≡ true → items ≡ items ++ lost same p d
-lost_won same items p d x y hp hd h = sym (append-nil items) ∙ ap (λ xs. items ++ xs) (sym (cond-true (same x y) [] (x ∷ []) h)) ∙ ap₂ (λ o n. items ++ lost same o n) (sym hp) (sym hd)
+  -- the fields are kept so, where the places find the same commands
+  out_kept : (rs : VecDeque C Global) (places : Places C) → is_some (get a.decisions a.slot_out) ≡ true → deque_len rs + len (remove a.proposals a.slot_out) ≤ deque_capacity rs
+      → ((c : C) → is_known same (book_of a) c ≡ is_known same (book_of (then rs places)) c) → places.others.items ≡ a.places.others.items
+      → ((c : C) → is_known same (book_of a) c ≡ true → is_found same key_of (place_at key_cmp places.by_key) (standing (then rs places)) a.places.others.items c ≡ true)
+      → IsKept same key_of (then rs places)
+  out_kept rs places there room held others found =
+      let within = kept.within a.slot_out there in
+      record {
+        slot_in = kept.slot_in;
+        slot_out = (omega arith, omega arith);
+        front_rank = kept.front_rank;
+        within = kept.within;
+        performed = out_performed there;
+        near = still_near;
+        ahead = λ s h. gone s (kept.ahead s h);
+        room = room;
+        others = λ c h. sym (held c) ∙ kept.others c (ap (λ (os : List C). among same os c) (sym others) ∙ h);
+        found = λ c h. ap (λ (os : List C). is_found same key_of (place_at key_cmp places.by_key) (standing (then rs places)) os c) others ∙ found c (held c ∙ h);
+      }
 
-pub lost_lost : {C : Type 0} (same : C → C → Bool) (items : List C) (p d : Option C) (x y : C) → p ≡ Some x → d ≡ Some y → same x y ≡ false → items ++ x ∷ [] ≡ items ++ lost same p d
-lost_lost same items p d x y hp hd h = ap (λ xs. items ++ xs) (sym (cond-false (same x y) [] (x ∷ []) h)) ∙ ap₂ (λ o n. items ++ lost same o n) (sym hp) (sym hd)
+  -- no proposal was there
+  pub none_kept : get a.proposals a.slot_out ≡ None → is_some (get a.decisions a.slot_out) ≡ true → IsKept same key_of (then a.requests a.places)
+  none_kept none there =
+      let left : remove a.proposals a.slot_out ≡ a.proposals = remove_none a.proposals a.slot_out none in
+      out_kept a.requests a.places there (subst (λ (m : Slots C). deque_len a.requests + len m ≤ deque_capacity a.requests) (sym left) kept.room)
+      (λ c. ap (λ (m : Slots C). is_known same (record (book_of a) { proposals = m }) c) (sym left)) refl
+      (λ c h. ap (λ (m : Slots C). is_found same key_of (place_at key_cmp a.places.by_key) (standing (record a { proposals = m })) a.places.others.items c) left ∙ kept.found c h)
+
+  module _ (x : C) (own : get a.proposals a.slot_out ≡ Some x) where
+    proposal_known : is_known same (book_of a) x ≡ true
+    proposal_known = ap (λ b. list_any (λ d. same d x) a.requests.items || (b || list_any (λ d. same d x) (values a.decisions))) (any_found (λ d. same d x) a.proposals a.slot_out x own (itself x)) ∙ or_known (list_any (λ d. same d x) a.requests.items)
+      where
+        or_known : (r : Bool) → (r || true) ≡ true
+        or_known true = refl
+        or_known false = refl
+
+    -- the proposal has a place, unless it is among the others
+    pub proposal_placed : among same a.places.others.items x ≡ false → is_some (place_at key_cmp a.places.by_key (key_of x)) ≡ true
+    proposal_placed = placed same key_of exact itself (place_at key_cmp a.places.by_key) (standing a) a.places.others.items x (kept.found x proposal_known)
+
+    elsewhere : (s : ℕ) (c : C) → get a.proposals s ≡ Some c → (c ≡ x) ⊎ (get (remove a.proposals a.slot_out) s ≡ Some c)
+    elsewhere s c there =
+        ⊎_elim (λ (h : (s ≡ a.slot_out) × (get (remove a.proposals a.slot_out) s ≡ None)).
+        let both : Some c ≡ Some x = sym there ∙ ap (get a.proposals) h.0 ∙ own in inl (cc))
+        (λ (h : get (remove a.proposals a.slot_out) s ≡ get a.proposals s). inr (h ∙ there))
+        (remove_cases a.proposals a.slot_out s)
+
+    module _ (places : Places C) (to : Place)
+        (puts : among same a.places.others.items x ≡ false → (q : Key) → place_at key_cmp places.by_key q ≡ put_at (place_at key_cmp a.places.by_key) (key_of x) to q)
+        (leaves : among same a.places.others.items x ≡ true → (q : Key) → place_at key_cmp places.by_key q ≡ place_at key_cmp a.places.by_key q) where
+      found_then : (rs : VecDeque C Global) → standing (then rs places) to ≡ Some x → ((p : Place) (c : C) → standing a p ≡ Some c → (c ≡ x) ⊎ (standing (then rs places) p ≡ Some c))
+          → (c : C) → is_known same (book_of a) c ≡ true → is_found same key_of (place_at key_cmp places.by_key) (standing (then rs places)) a.places.others.items c ≡ true
+      found_then rs here keep c h =
+          found_moved same key_of exact itself (place_at key_cmp a.places.by_key) (place_at key_cmp places.by_key) (standing a) (standing (then rs places)) a.places.others.items x to
+          (kept.found x proposal_known) puts leaves here keep c (kept.found c h)
+
+    -- the proposal was decided
+    pub won_kept : get a.decisions a.slot_out ≡ Some x → (places : Places C)
+        → (among same a.places.others.items x ≡ false → (q : Key) → place_at key_cmp places.by_key q ≡ put_at (place_at key_cmp a.places.by_key) (key_of x) (Decided a.slot_out) q)
+        → (among same a.places.others.items x ≡ true → (q : Key) → place_at key_cmp places.by_key q ≡ place_at key_cmp a.places.by_key q)
+        → places.others.items ≡ a.places.others.items → deque_len a.requests + len (remove a.proposals a.slot_out) ≤ deque_capacity a.requests → IsKept same key_of (then a.requests places)
+    won_kept decided places puts leaves others room =
+        let keep : (p : Place) (c : C) → standing a p ≡ Some c → (c ≡ x) ⊎ (standing (then a.requests places) p ≡ Some c) = still places in
+        out_kept a.requests places (ap is_some decided) room
+        (λ c.
+        ap (λ b. list_any (λ d. same d c) a.requests.items || (b || list_any (λ d. same d c) (values a.decisions))) (any_taken (λ d. same d c) a.proposals a.slot_out x own)
+        ∙ is_decided (same x c) (list_any (λ d. same d c) a.requests.items) (list_any (λ d. same d c) (values (remove a.proposals a.slot_out))) (list_any (λ d. same d c) (values a.decisions))
+        (λ h. any_found (λ d. same d c) a.decisions a.slot_out x decided h))
+        others (found_then places (Decided a.slot_out) puts leaves a.requests decided keep)
+      where
+        still : (places : Places C) (p : Place) (c : C) → standing a p ≡ Some c → (c ≡ x) ⊎ (standing (then a.requests places) p ≡ Some c)
+        still places (Requested r) c there = inr there
+        still places (Proposed s) c there = elsewhere s c there
+        still places (Decided s) c there = inr there
+
+    -- the proposal was lost, and goes last in the requests
+    pub lost_kept : is_some (get a.decisions a.slot_out) ≡ true → (rs : VecDeque C Global) → rs.items ≡ a.requests.items ++ x ∷ [] → (rank : ℕ) → rank ≡ a.front_rank + length a.requests.items → (places : Places C)
+        → (among same a.places.others.items x ≡ false → (q : Key) → place_at key_cmp places.by_key q ≡ put_at (place_at key_cmp a.places.by_key) (key_of x) (Requested rank) q)
+        → (among same a.places.others.items x ≡ true → (q : Key) → place_at key_cmp places.by_key q ≡ place_at key_cmp a.places.by_key q)
+        → places.others.items ≡ a.places.others.items → deque_len rs + len (remove a.proposals a.slot_out) ≤ deque_capacity rs → IsKept same key_of (then rs places)
+    lost_kept there rs last rank behind places puts leaves others room =
+        out_kept rs places there room
+        (λ c.
+        ap (λ b. list_any (λ d. same d c) a.requests.items || (b || list_any (λ d. same d c) (values a.decisions))) (any_taken (λ d. same d c) a.proposals a.slot_out x own)
+        ∙ goes_back (same x c) (list_any (λ d. same d c) a.requests.items) (list_any (λ d. same d c) (values (remove a.proposals a.slot_out))) (list_any (λ d. same d c) (values a.decisions))
+        ∙ ap (λ b. b || (list_any (λ d. same d c) (values (remove a.proposals a.slot_out)) || list_any (λ d. same d c) (values a.decisions)))
+        (sym (list_any-append (λ d. same d c) a.requests.items (x ∷ [])) ∙ ap (λ (ds : List C). list_any (λ d. same d c) ds) (sym last)))
+        others
+        (found_then places (Requested rank) puts leaves rs (ap (λ (ds : List C). ranked ds a.front_rank rank) last ∙ ranked_last a.requests.items x a.front_rank rank behind) still)
+      where
+        still : (p : Place) (c : C) → standing a p ≡ Some c → (c ≡ x) ⊎ (standing (then rs places) p ≡ Some c)
+        still (Requested r) c there = inr (ap (λ (ds : List C). ranked ds a.front_rank r) last ∙ ranked_more a.requests.items (x ∷ []) a.front_rank r c there)
+        still (Proposed s) c there = elsewhere s c there
+        still (Decided s) c there = inr there

@@ -1,28 +1,17 @@
 -- The book of a log's fields.
-use Rattle.std.proofs.Common.{◌≡◌, Bool, ◌||◌, ◌≤◌, ◌<◌, ℕ, ⊎_elim, sym, ◌∙◌, ap, ap₂, map, List, arith}
+use Rattle.std.proofs.Common.{◌≡◌, Bool, ◌≤◌, ◌<◌, ℕ, ⊎_elim, sym, ◌∙◌, ap, arith}
 use Rattle.std.proofs.lemmas.Bool.{cases_lt, false≢true}
 use Rattle.std.specs.Option.{is_some}
 use Rattle.object.specs.declared.command.Key.{Key}
-use Rattle.std.specs.List.{list_any}
-use Rattle.std.specs.Ordering.{nat_cmp}
-use Rattle.std.specs.BTreeMap.{IsOrdered}
 use Rattle.slot_log.specs.declared.slot_log.SlotLog.TheInside.{Inside}
 use Rattle.std.specs.FinMap.{get}
 use Rattle.slot_log.specs.Books.{SlotBook}
-use Rattle.slot_log.specs.Requests.{is_known}
 use Rattle.slot_log.specs.Proposals.{IsLeastOpen, IsInWindow}
-use Rattle.slot_log.specs.Kept.{book_of, is_held, IsKept}
-use Rattle.slot_log.proofs.Maps.{at, entries_is, get_is}
-
--- what the book knows is what is held
-pub known_is : {C : Type 0} (same : C → C → Bool) (a : Inside C) (c : C) → IsOrdered nat_cmp a.proposals → IsOrdered nat_cmp a.decisions → is_known same (book_of a) c ≡ is_held same a c
-known_is {C} same a c ps ds =
-    ap₂ (λ (p d : List C). list_any (λ e. same e c) a.requests.items || (list_any (λ e. same e c) p || list_any (λ e. same e c) d))
-    (ap (map (λ e. e.1)) (entries_is a.proposals.entries ps)) (ap (map (λ e. e.1)) (entries_is a.decisions.entries ds))
+use Rattle.slot_log.specs.Kept.{book_of, IsKept}
 
 -- a decision of the book
-pub decision_at : {C : Type 0} (a : Inside C) (b : SlotBook C) → book_of a ≡ b → (s : ℕ) → get b.decisions s ≡ at a.decisions.entries s
-decision_at a b seen s = ap (λ (b : SlotBook _). get b.decisions s) (sym seen) ∙ get_is a.decisions.entries s
+pub decision_at : {C : Type 0} (a : Inside C) (b : SlotBook C) → book_of a ≡ b → (s : ℕ) → get b.decisions s ≡ get a.decisions s
+decision_at a b seen s = ap (λ (b : SlotBook _). get b.decisions s) (sym seen)
 
 -- an open slot is in the window, since those before slot_out have a decision
 pub new_near : {C : Type 0} (same : C → C → Bool) (key_of : C → Key) (a : Inside C) → IsKept same key_of a → (s : ℕ) → IsLeastOpen (book_of a) s → IsInWindow a.slot_out s
@@ -31,7 +20,7 @@ new_near same key_of a kept s least = record {
       ⊎_elim (λ (l : s < a.slot_out).
       let first = kept.slot_in.0 in
       let next = least.next in
-      absurd (false≢true (ap is_some (sym least.unknown) ∙ ap is_some (get_is a.decisions.entries s) ∙ kept.performed s (omega arith) l)))
+      absurd (false≢true (ap is_some (sym least.unknown) ∙ kept.performed s (omega arith) l)))
       (λ (l : a.slot_out ≤ s). l) (cases_lt s a.slot_out);
   high = least.within;
 }

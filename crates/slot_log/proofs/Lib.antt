@@ -1,8 +1,13 @@
-pub mod Noted
+pub mod Standing
 pub mod Maps
 pub mod Held
 pub mod Searches
 pub mod OpenSlots
+pub mod Known
+pub mod Ranks
+pub mod Requesting
+pub mod Proposing
+pub mod Deciding
 pub mod Books
 pub mod Windows
 pub mod Advancing

@@ -1,16 +1,8 @@
 -- What a replica was asked, what it proposed, and what it knows to be decided (Paxos Made Moderately Complex, 2.1
 -- and Figure 3).
 use Rattle.std.specs.Prelude.{ℕ, List, []}
-use Rattle.std.specs.Ordering.{nat_cmp}
-use Rattle.std.specs.Coded.{Coded, coded_ℕ}
-use Rattle.std.specs.FinMap.{FinMap, empty, code}
-
--- maps by slot
-abbrev pub Slots : Type 0 → Type 0
-Slots X = FinMap nat_cmp X
-
-abbrev pub slots_code : {X : Type 0} → Coded X → Coded (Slots X)
-slots_code x = code coded_ℕ x
+use Rattle.std.specs.FinMap.{empty}
+pub use Rattle.ballot.specs.Slots.{Slots, slots_code}
 
 -- slot_in is where proposals go on, and slot_out where decisions are performed next
 pub record SlotBook (C : Type 0) : Type 0 where

@@ -3,5 +3,5 @@ pub mod Requests
 pub mod Proposals
 pub mod Decisions
 pub mod Advances
-pub mod Notes
+pub mod Places
 pub mod Kept

@@ -2,7 +2,7 @@
 #![tactic(auto)]
 
 mod errors;
-mod notes;
+mod places;
 mod slot_log;
 #[cfg(test)]
 mod tests;

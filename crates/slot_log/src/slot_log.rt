@@ -2,14 +2,15 @@ ghost use Rattle.std.specs.Prelude.{◌≡◌, ◌↔◌, ◌+◌, ◌^◌, ◌<
 ghost use Rattle.std.specs.Option.{option_map, option_copied};
 ghost use Rattle.std.specs.FinMap as map;
 ghost use Rattle.slot_log.specs.Books.{new_book};
+ghost use Rattle.slot_log.specs.Places.{ranked};
 ghost use Rattle.slot_log.specs.Requests.{is_known, requested};
 ghost use Rattle.slot_log.specs.Proposals as proposing;
 ghost use Rattle.slot_log.specs.Decisions as deciding;
 ghost use Rattle.slot_log.specs.Advances.{advanced};
 
 use crate::errors::LearnError;
-use crate::notes::Notes;
-use ballot::Slot;
+use crate::places::{Place, Places};
+use ballot::{Slot, SlotMap};
 use object::{Keyed, Value};
 use std::alloc::{AllocError, Global};
 use std::collections::{BTreeMap, VecDeque};
@@ -26,16 +27,19 @@ pub struct SlotLog<C: Value + Keyed> {
     slot_in: u64,
     slot_out: u64,
     requests: VecDeque<C>,
-    proposals: BTreeMap<Slot, C>,
-    decisions: BTreeMap<Slot, C>,
-    // Each command of the three once more, by its key.
-    known: Notes<C>,
+    proposals: SlotMap<C>,
+    decisions: SlotMap<C>,
+    // How many requests were proposed, so that it is the rank of the first.
+    front_rank: usize,
+    // Where each command of the three stands.
+    places: Places<C>,
     alloc: Global,
 }
 
 impl<C: Value + Keyed> Model for SlotLog<C> {
     ghost use Rattle.std.specs.Coded.{codes};
-    ghost use Rattle.slot_log.specs.Books.{SlotBook, slots_code};
+    ghost use Rattle.ballot.specs.Slots.{slots_code};
+    ghost use Rattle.slot_log.specs.Books.{SlotBook};
 
     ghost Value = { SlotBook C };
 
@@ -57,9 +61,10 @@ impl<C: Value + Keyed> SlotLog<C> {
             slot_in: 1,
             slot_out: 1,
             requests: VecDeque::new(alloc),
-            proposals: BTreeMap::new(alloc),
-            decisions: BTreeMap::new(alloc),
-            known: Notes::new(alloc),
+            proposals: SlotMap::new(alloc),
+            decisions: SlotMap::new(alloc),
+            front_rank: 0,
+            places: Places::new(alloc),
             alloc,
         }
     }
@@ -78,7 +83,7 @@ impl<C: Value + Keyed> SlotLog<C> {
         ensures entries { result.now.entries ≡ map.entries self.now.proposals }
         ensures near { (s : ℕ) → IsSome (map.get self.now.proposals s) → proposing.IsInWindow self.now.slot_out s }
     {
-        &self.proposals
+        self.proposals.entries()
     }
 
     /// A command is asked for. It goes last in the requests, unless it is known.
@@ -87,14 +92,33 @@ impl<C: Value + Keyed> SlotLog<C> {
         ensures known { is_known C.eq self.old command ≡ true → IsOk result }
         ensures err { OnErr result (self.new ≡ self.old) }
     {
-        if self.known.has(&command) {
+        if self.is_known(&command) {
             return Ok(());
         }
         let proposals = self.proposals.len();
         self.requests.reserve(proposals + 1)?;
-        self.known.add(&command)?;
+        let rank = self.front_rank + self.requests.len();
+        self.places.note(&command, Place::Requested(rank))?;
         self.requests.push_back(command)?;
         Ok(())
+    }
+
+    // Whether the command stands in the requests, proposals or decisions.
+    fn is_known(&self, command: &C) -> bool
+        ensures { result ≡ is_known C.eq self.now command.now }
+    {
+        let Some(place) = self.places.of(command.key()) else {
+            return self.places.has_other(command);
+        };
+        let standing = match place {
+            Place::Requested(rank) => ranked(&self.requests, self.front_rank, rank),
+            Place::Proposed(slot) => self.proposals.get(slot),
+            Place::Decided(slot) => self.decisions.get(slot),
+        };
+        match standing {
+            Some(other) if other == command => true,
+            _ => self.places.has_other(command),
+        }
     }
 
     /// What `propose_next` would take. It takes no memory.
@@ -125,6 +149,8 @@ impl<C: Value + Keyed> SlotLog<C> {
         self.proposals.insert(slot, copy)?;
         self.slot_in = slot.number() + 1;
         let command = self.requests.pop_front().unwrap();
+        self.front_rank += 1;
+        self.places.relocate(&command, Place::Proposed(slot));
         Ok(Some((slot, command)))
     }
 
@@ -135,11 +161,18 @@ impl<C: Value + Keyed> SlotLog<C> {
     {
         for number in self.slot_in.max(self.slot_out)..self.slot_out + WINDOW {
             let slot = Slot::new(number)?;
-            if !self.decisions.contains_key(&slot) {
+            if !self.decisions.contains(slot) {
                 return Some(slot);
             }
         }
         None
+    }
+
+    /// Whether a decision of the slot is known.
+    pub fn knows(&self, slot: Slot) -> bool
+        ensures { result ≡ map.contains_key self.now.decisions slot }
+    {
+        self.decisions.contains(slot)
     }
 
     /// A command is decided in a slot.
@@ -150,7 +183,7 @@ impl<C: Value + Keyed> SlotLog<C> {
         ensures unchanged { map.get self.old.decisions slot ≡ Some command → self.new ≡ self.old }
         ensures err { OnErr result (self.new ≡ self.old) }
     {
-        match self.decisions.get(&slot) {
+        match self.decisions.get(slot) {
             Some(decided) if *decided == command => Ok(()),
             Some(_) => Err(LearnError::Clash),
             None => self
@@ -167,12 +200,16 @@ impl<C: Value + Keyed> SlotLog<C> {
     {
         // What every slot is, for the invariant.
         prove!(slot.number() <= LAST_SLOT);
-        let copy = command.copy()?;
-        self.decisions.insert(slot, copy)?;
-        match self.known.add(&command) {
+        let known = self.is_known(&command);
+        self.decisions.insert(slot, command)?;
+        if known {
+            return Ok(());
+        }
+        let command = self.decisions.get(slot).unwrap();
+        match self.places.note(command, Place::Decided(slot)) {
             Ok(()) => Ok(()),
             Err(failed) => {
-                self.decisions.remove(&slot);
+                self.decisions.remove(slot);
                 Err(failed)
             }
         }
@@ -184,7 +221,7 @@ impl<C: Value + Keyed> SlotLog<C> {
     {
         let last = Slot::new((slot.number() + (WINDOW - 1)).min(LAST_SLOT)).unwrap();
         let mut known = Vec::new(self.alloc);
-        for (slot, command) in self.decisions.range(slot..=last) {
+        for (slot, command) in self.decisions.entries().range(slot..=last) {
             known.push((*slot, command.copy()?))?;
         }
         Ok(known)
@@ -196,9 +233,10 @@ impl<C: Value + Keyed> SlotLog<C> {
     {
         let decisions = &self.decisions;
         self.proposals
+            .entries()
             .keys()
             .copied()
-            .find(|slot| !decisions.contains_key(slot))
+            .find(|slot| !decisions.contains(*slot))
     }
 
     /// The decision at `slot_out`. It takes no memory.
@@ -207,7 +245,7 @@ impl<C: Value + Keyed> SlotLog<C> {
         ensures numbered { IsSome result → self.now.slot_out ≤ 2 ^ 62 }
     {
         let slot = Slot::new(self.slot_out)?;
-        self.decisions.get(&slot)
+        self.decisions.get(slot)
     }
 
     /// The decision at `slot_out` was performed. A proposal that lost this slot goes back to the requests.
@@ -217,12 +255,24 @@ impl<C: Value + Keyed> SlotLog<C> {
         ensures { self.new ≡ advanced C.eq self.old }
     {
         let slot = Slot::new(self.slot_out).unwrap();
+        let rank = self.front_rank + self.requests.len();
         self.slot_out += 1;
-        let Some(proposal) = self.proposals.remove(&slot) else {
+        let Some(proposal) = self.proposals.remove(slot) else {
             return;
         };
-        if proposal != self.decisions[&slot] {
+        if proposal == *self.decisions.get(slot).unwrap() {
+            self.places.relocate(&proposal, Place::Decided(slot));
+        } else {
+            self.places.relocate(&proposal, Place::Requested(rank));
             self.requests.push_back(proposal).unwrap();
         }
     }
+}
+
+// The request of the rank, where the first one is of rank `front`.
+fn ranked<C>(requests: &VecDeque<C>, front: usize, rank: usize) -> Option<&C>
+    ensures { option_copied result ≡ ranked requests.now.items front rank }
+{
+    let index = rank.checked_sub(front)?;
+    requests.get(index)
 }

@@ -1,58 +1,21 @@
-use Rattle.std.proofs.Common.{◌≡◌, Result, Ok, cond, ◌≤◌, ◌<◌, ◌+◌, ◌^◌, ℕ, Bool, true, false, not, ◌||◌, List, [], ◌∷◌, ◌++◌, Option, Some, None, ap, subst, sym, ◌∙◌, arith, refl}
-use Rattle.std.proofs.lemmas.List.Folds.{list_any-append}
-use Rattle.std.specs.List.{list_any}
+use Rattle.std.proofs.Common.{◌≡◌, Result, Ok, cond, ◌≤◌, ◌<◌, ◌+◌, ◌^◌, ℕ, List, [], ◌∷◌, ◌++◌, length, Option, Some, None, ap, subst, sym, ◌∙◌, arith}
 use Rattle.std.specs.Result.{is_ok}
 use Rattle.std.specs.VecDeque.{deque_len, deque_capacity}
-use Rattle.std.specs.Map.{values_of}
-use Rattle.std.specs.Option.{SomeIff, is_some}
-use Rattle.std.specs.Ordering.{nat_cmp}
-use Rattle.std.specs.BTreeMap.{is_at}
-use Rattle.slot_log.specs.Advances.{advanced}
-use Rattle.slot_log.proofs.Maps.{at}
-use Rattle.slot_log.proofs.Held.{any_taken, any_found, goes_back, is_decided}
-use Rattle.slot_log.proofs.Advancing.{decided, out_kept, out_book, lost_none, lost_won, lost_lost}
+use Rattle.std.specs.FinMap.{get, remove}
+use Rattle.std.specs.Option.{SomeIff, is_some, option_copied}
+use Rattle.ballot.specs.Slots.{Slots}
+use Rattle.slot_log.specs.Books.{SlotBook}
+use Rattle.slot_log.specs.Decisions.{next_decided}
+use Rattle.std.specs.BTreeMap.{get as place_at}
+use Rattle.slot_log.specs.declared.places.Place.TheVariants.{Decided}
+use Rattle.slot_log.specs.Places.{key_cmp, put_at}
+use Rattle.slot_log.specs.Kept.{IsKept}
+use Rattle.slot_log.proofs.Maps.{len_removed}
+use Rattle.slot_log.proofs.Advancing.{none_kept, proposal_placed, won_kept, lost_kept}
 use Rattle.slot_log.proofs.slot_log.SlotLog.advance.Goals as goal
-
-some_when : {X P : Type 0} (o : Option X) (v : X) → SomeIff o P v → P → is_some o ≡ true
-some_when None v iff p = absurd (iff p)
-some_when (Some x) v iff p = refl
 
 value_when : {X : Type 0} (P : Type 0) (o : Option X) (v x : X) → SomeIff o P v → o ≡ Some x → x ≡ v
 value_when P o v x iff is = (subst (λ o. SomeIff o P v) is iff).1
-
-not_back : (b r : Bool) → r ≡ not b → b ≡ not r
-not_back true r h = ap not (sym h)
-not_back false r h = ap not (sym h)
-
-pub unwrap-slot-requires : goal.unwrap-slot-requires
-unwrap-slot-requires g c =
-    some_when c.new.result c.self.inside.slot_out c.new.ensures
-    (c.self.invariant.slot_out.0, c.self.invariant.within c.self.inside.slot_out (decided c.self.inside c.args.self.now c.self.view_is c.requires))
-
-pub index-requires : goal.index-requires
-index-requires g c =
-    let own = value_when ((0 < c.self.inside.slot_out) × (c.self.inside.slot_out ≤ 2 ^ 62)) c.new.result c.self.inside.slot_out c.unwrap-slot.result c.new.ensures c.unwrap-slot.ensures in
-    subst (λ n. is_some (at c.self.inside.decisions.entries n) ≡ true) (sym own) (decided c.self.inside c.args.self.now c.self.view_is c.requires)
-
-pub invariant_of-self : goal.invariant_of-self
-invariant_of-self g c =
-    let a = c.self.inside in
-    let own = value_when ((0 < a.slot_out) × (a.slot_out ≤ 2 ^ 62)) c.new.result a.slot_out c.unwrap-slot.result c.new.ensures c.unwrap-slot.ensures in
-    let len = c.in_default.ensures.len in
-    let room = c.self.invariant.room in
-    out_kept g.C.PartialEq.eq g.C.Keyed.key_of a c.self.invariant c.unwrap-slot.result own c.remove.new.self c.remove.ensures.updates.0 a.requests
-    (decided a c.args.self.now c.self.view_is c.requires) c.remove.ensures.ordered (omega arith)
-    (λ d.
-    let E = λ (e : g.row.C.Denot). g.C.PartialEq.eq e d in
-    ap (λ (es : List _). list_any E a.requests.items || (list_any E (values_of es) || list_any E (values_of a.decisions.entries))) (sym c.in_default.ensures.unchanged))
-
-pub returns-in_default : goal.returns-in_default
-returns-in_default g c =
-    let a = c.self.inside in
-    let own = value_when ((0 < a.slot_out) × (a.slot_out ≤ 2 ^ 62)) c.new.result a.slot_out c.unwrap-slot.result c.new.ensures c.unwrap-slot.ensures in
-    out_book g.C.PartialEq.eq g.C.Keyed.key_of a c.self.invariant c.unwrap-slot.result own c.remove.new.self c.remove.ensures.updates.0 a.requests.items
-    (lost_none g.C.PartialEq.eq a.requests.items (at a.proposals.entries c.unwrap-slot.result) (at a.decisions.entries c.unwrap-slot.result) (sym c.in_default.ensures.value))
-    ∙ ap (advanced g.C.PartialEq.eq) c.self.view_is
 
 -- what a push within the room leaves
 pushed : {C T E : Type 0} (now old : List C) (x : C) (r : Result T E) (t : T) → now ≡ cond (is_ok r) (old ++ x ∷ []) old → r ≡ Ok t → now ≡ old ++ x ∷ []
@@ -61,57 +24,65 @@ pushed now old x r t is ok = is ∙ ap (λ r. cond (is_ok r) (old ++ x ∷ []) o
 longer : {T E : Type 0} (now old : ℕ) (r : Result T E) (t : T) → now ≡ cond (is_ok r) (old + 1) old → r ≡ Ok t → now ≡ old + 1
 longer now old r t is ok = is ∙ ap (λ r. cond (is_ok r) (old + 1) old) ok
 
-pub invariant_of-self-then-ne : goal.invariant_of-self-then-ne
-invariant_of-self-then-ne g c =
+pub invariant_of-self : goal.invariant_of-self
+invariant_of-self g c =
     let a = c.self.inside in
     let own = value_when ((0 < a.slot_out) × (a.slot_out ≤ 2 ^ 62)) c.new.result a.slot_out c.unwrap-slot.result c.new.ensures c.unwrap-slot.ensures in
-    let removed = c.in-Some.ensures.len in
+    let there = ap (λ (b : SlotBook _). is_some (next_decided b)) c.self.view_is ∙ c.requires in
+    let none : get a.proposals a.slot_out ≡ None = ap (get a.proposals) (sym own) ∙ sym c.in_default.ensures.value in
+    subst (λ (ps : Slots g.row.C.Denot). IsKept g.C.PartialEq.eq g.C.Keyed.key_of (record a { slot_out = a.slot_out + 1; proposals = ps })) (sym (c.remove.ensures.rest ∙ ap (remove a.proposals) own))
+    (none_kept g.C.PartialEq.eq g.C.Keyed.key_of g.met.C.Value.exact g.met.C.Eq.laws.refl a c.self.invariant none there)
+
+pub relocate-requires : goal.relocate-requires
+relocate-requires g c =
+    let a = c.self.inside in
+    let own = value_when ((0 < a.slot_out) × (a.slot_out ≤ 2 ^ 62)) c.new.result a.slot_out c.unwrap-slot.result c.new.ensures c.unwrap-slot.ensures in
+    proposal_placed g.C.PartialEq.eq g.C.Keyed.key_of g.met.C.Value.exact g.met.C.Eq.laws.refl a c.self.invariant c.in-Some.proposal (ap (get a.proposals) (sym own) ∙ sym c.in-Some.ensures.value)
+
+pub relocate-requires-else-eq : goal.relocate-requires-else-eq
+relocate-requires-else-eq g c =
+    let a = c.self.inside in
+    let own = value_when ((0 < a.slot_out) × (a.slot_out ≤ 2 ^ 62)) c.new.result a.slot_out c.unwrap-slot.result c.new.ensures c.unwrap-slot.ensures in
+    proposal_placed g.C.PartialEq.eq g.C.Keyed.key_of g.met.C.Value.exact g.met.C.Eq.laws.refl a c.self.invariant c.in-Some.proposal (ap (get a.proposals) (sym own) ∙ sym c.in-Some.ensures.value)
+
+pub invariant_of-self-then-eq : goal.invariant_of-self-then-eq
+invariant_of-self-then-eq g c =
+    let a = c.self.inside in
+    let x = c.in-Some.proposal in
+    let own = value_when ((0 < a.slot_out) × (a.slot_out ≤ 2 ^ 62)) c.new.result a.slot_out c.unwrap-slot.result c.new.ensures c.unwrap-slot.ensures in
+    let there : get a.proposals a.slot_out ≡ Some x = ap (get a.proposals) (sym own) ∙ sym c.in-Some.ensures.value in
+    let won : x ≡ c.unwrap.result.now = g.met.C.Value.exact x c.unwrap.result.now (sym c.eq.ensures ∙ c.if-eq.true) in
+    let decided : get a.decisions a.slot_out ≡ Some x = ap (get a.decisions) (sym own) ∙ sym c.get.ensures ∙ ap option_copied c.unwrap.ensures ∙ ap (λ y. Some y) (sym won) in
+    let less = len_removed a.proposals a.slot_out x there in
+    let room = c.self.invariant.room in
+    subst (λ (ps : Slots g.row.C.Denot). IsKept g.C.PartialEq.eq g.C.Keyed.key_of (record a { slot_out = a.slot_out + 1; proposals = ps; places = c.relocate.new.self })) (sym (c.remove.ensures.rest ∙ ap (remove a.proposals) own))
+    (won_kept g.C.PartialEq.eq g.C.Keyed.key_of g.met.C.Value.exact g.met.C.Eq.laws.refl a c.self.invariant x there decided c.relocate.new.self
+    (λ f q. c.relocate.ensures.here f q ∙ ap (λ s. put_at (place_at key_cmp a.places.by_key) (g.C.Keyed.key_of x) (Decided s) q) own) c.relocate.ensures.other c.relocate.ensures.others (omega arith))
+
+pub unwrap-requires-else-eq : goal.unwrap-requires-else-eq
+unwrap-requires-else-eq g c =
+    let a = c.self.inside in
+    let own = value_when ((0 < a.slot_out) × (a.slot_out ≤ 2 ^ 62)) c.new.result a.slot_out c.unwrap-slot.result c.new.ensures c.unwrap-slot.ensures in
+    let less = len_removed a.proposals a.slot_out c.in-Some.proposal (ap (get a.proposals) (sym own) ∙ sym c.in-Some.ensures.value) in
+    let room = c.self.invariant.room in
+    let space : deque_len a.requests < deque_capacity a.requests = omega arith in
+    c.push_back.ensures.succeeds space
+
+pub invariant_of-self-else-eq : goal.invariant_of-self-else-eq
+invariant_of-self-else-eq g c =
+    let a = c.self.inside in
+    let x = c.in-Some.proposal in
+    let own = value_when ((0 < a.slot_out) × (a.slot_out ≤ 2 ^ 62)) c.new.result a.slot_out c.unwrap-slot.result c.new.ensures c.unwrap-slot.ensures in
+    let decided = ap (λ (b : SlotBook _). is_some (next_decided b)) c.self.view_is ∙ c.requires in
+    let there : get a.proposals a.slot_out ≡ Some x = ap (get a.proposals) (sym own) ∙ sym c.in-Some.ensures.value in
+    let less = len_removed a.proposals a.slot_out x there in
     let room = c.self.invariant.room in
     let space : deque_len a.requests < deque_capacity a.requests = omega arith in
     let place = c.push_back.ensures.in_place space in
-    let more = longer (deque_len c.push_back.new.self) (deque_len a.requests) c.push_back.result c.unwrap.result c.push_back.ensures.len c.unwrap.ensures in
-    let items = pushed c.push_back.new.self.items a.requests.items c.in-Some.proposal c.push_back.result c.unwrap.result c.push_back.ensures.items c.unwrap.ensures in
-    out_kept g.C.PartialEq.eq g.C.Keyed.key_of a c.self.invariant c.unwrap-slot.result own c.remove.new.self c.remove.ensures.updates.0 c.push_back.new.self
-    (decided a c.args.self.now c.self.view_is c.requires) c.remove.ensures.ordered (omega arith)
-    (λ d.
-    let E = λ (e : g.row.C.Denot). g.C.PartialEq.eq e d in
-    ap (λ b. list_any E a.requests.items || (b || list_any E (values_of a.decisions.entries)))
-    (any_taken E (is_at (nat_cmp c.unwrap-slot.result)) a.proposals.entries c.remove.new.self.entries c.in-Some.proposal (sym c.in-Some.ensures.value) c.in-Some.ensures.entries)
-    ∙ goes_back (E c.in-Some.proposal) (list_any E a.requests.items) (list_any E (values_of c.remove.new.self.entries)) (list_any E (values_of a.decisions.entries))
-    ∙ ap (λ b. b || (list_any E (values_of c.remove.new.self.entries) || list_any E (values_of a.decisions.entries)))
-    (sym (list_any-append E a.requests.items (c.in-Some.proposal ∷ [])) ∙ ap (list_any E) (sym items)))
-
-pub invariant_of-self-else-ne : goal.invariant_of-self-else-ne
-invariant_of-self-else-ne g c =
-    let a = c.self.inside in
-    let own = value_when ((0 < a.slot_out) × (a.slot_out ≤ 2 ^ 62)) c.new.result a.slot_out c.unwrap-slot.result c.new.ensures c.unwrap-slot.ensures in
-    let won = not_back (g.C.PartialEq.eq c.in-Some.proposal c.index.result.now) c.ne.result c.ne.ensures ∙ ap not c.if-ne.false in
-    let len = c.in-Some.ensures.len in
-    let room = c.self.invariant.room in
-    out_kept g.C.PartialEq.eq g.C.Keyed.key_of a c.self.invariant c.unwrap-slot.result own c.remove.new.self c.remove.ensures.updates.0 a.requests
-    (decided a c.args.self.now c.self.view_is c.requires) c.remove.ensures.ordered (omega arith)
-    (λ d.
-    let E = λ (e : g.row.C.Denot). g.C.PartialEq.eq e d in
-    ap (λ b. list_any E a.requests.items || (b || list_any E (values_of a.decisions.entries)))
-    (any_taken E (is_at (nat_cmp c.unwrap-slot.result)) a.proposals.entries c.remove.new.self.entries c.in-Some.proposal (sym c.in-Some.ensures.value) c.in-Some.ensures.entries)
-    ∙ is_decided (E c.in-Some.proposal) (list_any E a.requests.items) (list_any E (values_of c.remove.new.self.entries)) (list_any E (values_of a.decisions.entries))
-    (λ h. any_found E (is_at (nat_cmp c.unwrap-slot.result)) c.index.result.now a.decisions.entries c.index.ensures (ap E (sym (g.met.C.Value.exact c.in-Some.proposal c.index.result.now won)) ∙ h)))
-
-pub returns-then-ne : goal.returns-then-ne
-returns-then-ne g c =
-    let a = c.self.inside in
-    let own = value_when ((0 < a.slot_out) × (a.slot_out ≤ 2 ^ 62)) c.new.result a.slot_out c.unwrap-slot.result c.new.ensures c.unwrap-slot.ensures in
-    let lost = not_back (g.C.PartialEq.eq c.in-Some.proposal c.index.result.now) c.ne.result c.ne.ensures ∙ ap not c.if-ne.true in
-    out_book g.C.PartialEq.eq g.C.Keyed.key_of a c.self.invariant c.unwrap-slot.result own c.remove.new.self c.remove.ensures.updates.0 c.push_back.new.self.items
-    (pushed c.push_back.new.self.items a.requests.items c.in-Some.proposal c.push_back.result c.unwrap.result c.push_back.ensures.items c.unwrap.ensures
-    ∙ lost_lost g.C.PartialEq.eq a.requests.items (at a.proposals.entries c.unwrap-slot.result) (at a.decisions.entries c.unwrap-slot.result) c.in-Some.proposal c.index.result.now (sym c.in-Some.ensures.value) c.index.ensures lost)
-    ∙ ap (advanced g.C.PartialEq.eq) c.self.view_is
-
-pub returns-else-ne : goal.returns-else-ne
-returns-else-ne g c =
-    let a = c.self.inside in
-    let own = value_when ((0 < a.slot_out) × (a.slot_out ≤ 2 ^ 62)) c.new.result a.slot_out c.unwrap-slot.result c.new.ensures c.unwrap-slot.ensures in
-    let won = not_back (g.C.PartialEq.eq c.in-Some.proposal c.index.result.now) c.ne.result c.ne.ensures ∙ ap not c.if-ne.false in
-    out_book g.C.PartialEq.eq g.C.Keyed.key_of a c.self.invariant c.unwrap-slot.result own c.remove.new.self c.remove.ensures.updates.0 a.requests.items
-    (lost_won g.C.PartialEq.eq a.requests.items (at a.proposals.entries c.unwrap-slot.result) (at a.decisions.entries c.unwrap-slot.result) c.in-Some.proposal c.index.result.now (sym c.in-Some.ensures.value) c.index.ensures won)
-    ∙ ap (advanced g.C.PartialEq.eq) c.self.view_is
+    let more = longer (deque_len c.push_back.new.self) (deque_len a.requests) c.push_back.result c.unwrap-else-eq.result c.push_back.ensures.len c.unwrap-else-eq.ensures in
+    let items = pushed c.push_back.new.self.items a.requests.items x c.push_back.result c.unwrap-else-eq.result c.push_back.ensures.items c.unwrap-else-eq.ensures in
+    let rank = a.front_rank + c.len.result in
+    let last : rank ≡ a.front_rank + length a.requests.items = let len = c.len.ensures in let all = a.requests.ok.0 in omega arith in
+    subst (λ (ps : Slots g.row.C.Denot). IsKept g.C.PartialEq.eq g.C.Keyed.key_of (record a { slot_out = a.slot_out + 1; requests = c.push_back.new.self; proposals = ps; places = c.relocate-else-eq.new.self })) (sym (c.remove.ensures.rest ∙ ap (remove a.proposals) own))
+    (lost_kept g.C.PartialEq.eq g.C.Keyed.key_of g.met.C.Value.exact g.met.C.Eq.laws.refl a c.self.invariant x there decided c.push_back.new.self items rank last c.relocate-else-eq.new.self
+    c.relocate-else-eq.ensures.here c.relocate-else-eq.ensures.other c.relocate-else-eq.ensures.others (omega arith))

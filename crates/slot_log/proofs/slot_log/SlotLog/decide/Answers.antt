@@ -1,77 +1,62 @@
-use Rattle.std.proofs.Common.{◌≡◌, ◌^◌, ◌≤◌, ◌||◌, List, None, ap, ap₂, sym, ◌∙◌, arith}
-use Rattle.std.proofs.lemmas.Map.Lookups.{btree_map_from_get, exact_unsigned}
-use Rattle.std.specs.Cmp.{nat_cmp_total}
-use Rattle.std.specs.List.{list_any}
-use Rattle.std.specs.Map.{values_of}
-use Rattle.std.specs.Option.{is_some}
-use Rattle.std.specs.Ordering.{nat_cmp}
-use Rattle.slot_log.specs.Books.{SlotBook, Slots}
-use Rattle.slot_log.specs.Decisions.{learnt}
-use Rattle.slot_log.specs.Kept.{book_of}
-use Rattle.slot_log.proofs.Maps.{at, insert_is, same_is, restored, put_within, put_keeps}
+use Rattle.std.proofs.Common.{◌≡◌, ◌≤◌, ◌^◌, ℕ, true, Option, Some, None, Bor, refl, ap, subst, sym, ◌∙◌, arith}
+use Rattle.std.proofs.lemmas.Option.{same_Some}
+use Rattle.std.specs.FinMap.{get, insert, remove}
+use Rattle.std.specs.Option.{is_some, option_copied}
+use Rattle.ballot.specs.Slots.{Slots}
+use Rattle.ballot.proofs.SlotMaps.{remove-insert}
+use Rattle.slot_log.specs.Requests.{is_known}
+use Rattle.slot_log.specs.Kept.{book_of, IsKept}
+use Rattle.slot_log.proofs.Maps.{some_inserted}
 use Rattle.slot_log.proofs.Books.{decision_at}
-use Rattle.slot_log.proofs.Held.{any_insert, goes_to_decisions}
+use Rattle.slot_log.proofs.Deciding.{places_kept, noted_kept, known_kept}
 use Rattle.slot_log.proofs.slot_log.SlotLog.decide.Goals as goal
+
+pub invariant_of-self-then-known : goal.invariant_of-self-then-known
+invariant_of-self-then-known g c =
+    let a = c.self.inside in
+    let numbered : c.args.slot ≤ 2 ^ 62 = omega arith in
+    let free = sym (decision_at a c.args.self.now c.self.view_is c.args.slot) ∙ c.requires in
+    let known = ap (λ b. is_known g.C.PartialEq.eq b c.args.command) c.self.view_is ∙ sym c.is_known-known.ensures ∙ c.if-known.true in
+    subst (λ (ds : Slots g.row.C.Denot). IsKept g.C.PartialEq.eq g.C.Keyed.key_of (record a { decisions = ds })) (sym c.in_ok-insert.ensures.ok)
+    (known_kept g.C.PartialEq.eq g.C.Keyed.key_of g.met.C.Value.exact g.met.C.Eq.laws.refl a c.self.invariant c.args.slot c.args.command numbered free known)
+
+-- the decision that was put
+put_there : {C : Type 0} (m n : Slots C) (slot : ℕ) (x : C) (o : Option (Bor C)) → n ≡ insert m slot x → option_copied o ≡ get n slot → option_copied o ≡ Some x
+put_there m n slot x o puts got = got ∙ ap (λ (k : Slots _). get k slot) puts ∙ some_inserted m slot x
+
+there : {C : Type 0} (o : Option (Bor C)) (x : C) → option_copied o ≡ Some x → is_some o ≡ true
+there None x h = cc
+there (Some r) x h = refl
+
+pub unwrap-command-requires : goal.unwrap-command-requires
+unwrap-command-requires g c =
+    there c.get.result c.args.command (put_there c.self.inside.decisions c.insert.new.self c.args.slot c.args.command c.get.result c.in_ok-insert.ensures.ok c.get.ensures)
 
 pub invariant_of-self-in-Ok : goal.invariant_of-self-in-Ok
 invariant_of-self-in-Ok g c =
     let a = c.self.inside in
-    let k = c.args.slot in
-    let kept = c.self.invariant in
-    let puts = c.in_ok-insert.ensures.updates.0 in
-    let new : at a.decisions.entries k ≡ None = sym (decision_at a c.args.self.now c.self.view_is k) ∙ c.requires in
-    record {
-      slot_in = kept.slot_in;
-      slot_out = kept.slot_out;
-      proposals = kept.proposals;
-      decisions = c.insert.ensures.ordered;
-      within = λ s h. put_within (λ t. t ≤ 2 ^ 62) k s c.in_ok-copy.copy (at a.decisions.entries s) (omega arith) (kept.within s) (ap is_some (sym (puts s)) ∙ h);
-      performed = λ s low high. ap is_some (puts s) ∙ put_keeps _ c.in_ok-copy.copy (at a.decisions.entries s) (kept.performed s low high);
-      near = kept.near;
-      ahead = kept.ahead;
-      room = kept.room;
-      noted = λ d.
-          c.in-Ok.ensures.ok d ∙ ap (λ b. b || g.C.PartialEq.eq c.args.command d) (kept.noted d)
-          ∙ goes_to_decisions (g.C.PartialEq.eq c.args.command d) (list_any (λ e. g.C.PartialEq.eq e d) a.requests.items) (list_any (λ e. g.C.PartialEq.eq e d) (values_of a.proposals.entries)) (list_any (λ e. g.C.PartialEq.eq e d) (values_of a.decisions.entries))
-          ∙ ap (λ b. list_any (λ e. g.C.PartialEq.eq e d) a.requests.items || (list_any (λ e. g.C.PartialEq.eq e d) (values_of a.proposals.entries) || b))
-          (ap (λ x. g.C.PartialEq.eq x d || list_any (λ e. g.C.PartialEq.eq e d) (values_of a.decisions.entries)) (sym c.in_ok-copy.ensures)
-          ∙ sym (any_insert (λ e. g.C.PartialEq.eq e d) nat_cmp k c.in_ok-copy.copy a.decisions.entries new)
-          ∙ ap (λ (es : List _). list_any (λ e. g.C.PartialEq.eq e d) (values_of es)) (sym c.in_ok-insert.ensures.entries));
-    }
+    let x = c.unwrap-command.result.now in
+    let numbered : c.args.slot ≤ 2 ^ 62 = omega arith in
+    let free = sym (decision_at a c.args.self.now c.self.view_is c.args.slot) ∙ c.requires in
+    let is : c.args.command ≡ x = same_Some c.args.command x (sym (put_there a.decisions c.insert.new.self c.args.slot c.args.command c.get.result c.in_ok-insert.ensures.ok c.get.ensures) ∙ ap option_copied c.unwrap-command.ensures) in
+    subst (λ (ds : Slots g.row.C.Denot). IsKept g.C.PartialEq.eq g.C.Keyed.key_of (record a { decisions = ds; places = c.note.new.self })) (sym (c.in_ok-insert.ensures.ok ∙ ap (insert a.decisions c.args.slot) is))
+    (noted_kept g.C.PartialEq.eq g.C.Keyed.key_of g.met.C.Value.exact g.met.C.Eq.laws.refl a c.self.invariant c.args.slot x numbered free c.note.new.self c.in-Ok.ensures.places c.in-Ok.ensures.others)
 
-pub returns-in-Ok-clause-ok : goal.returns-in-Ok-clause-ok
-returns-in-Ok-clause-ok g c =
-    ap (λ (ds : Slots _). record (book_of c.self.inside) { decisions = ds })
-    (insert_is c.self.inside.decisions.entries c.insert.new.self.entries c.args.slot c.in_ok-copy.copy c.in_ok-insert.ensures.updates.0)
-    ∙ ap₂ (λ (b : SlotBook _) x. learnt b c.args.slot x) c.self.view_is c.in_ok-copy.ensures
+-- what is put in a new place and taken out again
+restored : {C : Type 0} (m n k : Slots C) (slot : ℕ) (x : C) → get m slot ≡ None → n ≡ insert m slot x → k ≡ remove n slot → m ≡ k
+restored m n k slot x free puts takes = sym (takes ∙ ap (λ (k : Slots _). remove k slot) puts ∙ remove-insert m slot x (ap is_some free))
 
 pub invariant_of-self-in-Err : goal.invariant_of-self-in-Err
 invariant_of-self-in-Err g c =
     let a = c.self.inside in
-    let kept = c.self.invariant in
-    let new : at a.decisions.entries c.args.slot ≡ None = sym (decision_at a c.args.self.now c.self.view_is c.args.slot) ∙ c.requires in
-    let same : c.remove.new.self.entries ≡ a.decisions.entries =
-    btree_map_from_get nat_cmp_total c.remove.new.self a.decisions c.remove.ensures.ordered kept.decisions
-    (restored a.decisions.entries c.insert.new.self.entries c.remove.new.self.entries c.args.slot c.in_ok-copy.copy new c.in_ok-insert.ensures.updates.0 c.remove.ensures.updates.0) exact_unsigned in
-    record {
-      slot_in = kept.slot_in;
-      slot_out = kept.slot_out;
-      proposals = kept.proposals;
-      decisions = c.remove.ensures.ordered;
-      within = λ s h. kept.within s (ap (λ (es : List _). is_some (at es s)) (sym same) ∙ h);
-      performed = λ s low high. ap (λ (es : List _). is_some (at es s)) same ∙ kept.performed s low high;
-      near = kept.near;
-      ahead = kept.ahead;
-      room = kept.room;
-      noted = λ d.
-          c.in-Err.ensures.err d ∙ kept.noted d
-          ∙ ap (λ (es : List _). list_any (λ e. g.C.PartialEq.eq e d) a.requests.items || (list_any (λ e. g.C.PartialEq.eq e d) (values_of a.proposals.entries) || list_any (λ e. g.C.PartialEq.eq e d) (values_of es))) (sym same);
-    }
+    let free = sym (decision_at a c.args.self.now c.self.view_is c.args.slot) ∙ c.requires in
+    subst (λ (ds : Slots g.row.C.Denot). IsKept g.C.PartialEq.eq g.C.Keyed.key_of (record a { decisions = ds; places = c.note.new.self }))
+    (restored a.decisions c.insert.new.self c.remove.new.self c.args.slot c.args.command free c.in_ok-insert.ensures.ok c.remove.ensures.rest)
+    (places_kept g.C.PartialEq.eq g.C.Keyed.key_of g.met.C.Value.exact g.met.C.Eq.laws.refl a c.self.invariant c.note.new.self c.in-Err.ensures.err.0 c.in-Err.ensures.err.1)
 
-pub returns-clause-err : goal.returns-clause-err
-returns-clause-err g c =
-    let new : at c.self.inside.decisions.entries c.args.slot ≡ None = sym (decision_at c.self.inside c.args.self.now c.self.view_is c.args.slot) ∙ c.requires in
-    ap (λ (ds : Slots _). record (book_of c.self.inside) { decisions = ds })
-    (same_is c.self.inside.decisions.entries c.remove.new.self.entries
-    (restored c.self.inside.decisions.entries c.insert.new.self.entries c.remove.new.self.entries c.args.slot c.in_ok-copy.copy new c.in_ok-insert.ensures.updates.0 c.remove.ensures.updates.0))
+pub returns-in-Err-clause-err : goal.returns-in-Err-clause-err
+returns-in-Err-clause-err g c =
+    let a = c.self.inside in
+    let free = sym (decision_at a c.args.self.now c.self.view_is c.args.slot) ∙ c.requires in
+    sym (ap (λ (ds : Slots g.row.C.Denot). record (book_of a) { decisions = ds }) (restored a.decisions c.insert.new.self c.remove.new.self c.args.slot c.args.command free c.in_ok-insert.ensures.ok c.remove.ensures.rest))
     ∙ c.self.view_is

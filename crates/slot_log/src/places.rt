@@ -1,0 +1,91 @@
+ghost use Rattle.std.specs.Prelude.{◌≡◌, true, false, [], IsSome, OnOk, OnErr};
+ghost use Rattle.std.specs.List.{list_any};
+ghost use Rattle.std.specs.BTreeMap.{get};
+ghost use Rattle.object.specs.declared.command.Key.{Key};
+ghost use Rattle.slot_log.specs.Places.{key_cmp, put_at, noted_at, others_noted};
+
+use ballot::Slot;
+use object::{Key, Keyed, Value};
+use std::alloc::{AllocError, Global};
+use std::collections::BTreeMap;
+
+/// Where a command stands.
+#[derive(Clone, Copy)]
+pub(crate) enum Place {
+    /// In the requests, by its rank: how many were there before it, those included that have left.
+    Requested(usize),
+    Proposed(Slot),
+    Decided(Slot),
+}
+
+/// Where the command of each key stands.
+#[derive(Drop)]
+pub(crate) struct Places<C> {
+    by_key: BTreeMap<Key, Place>,
+    // Copies of the commands whose key stands for another command. There are none, unless somebody uses a
+    // key twice.
+    others: Vec<C>,
+}
+
+impl<C: Value + Keyed> Places<C> {
+    /// No commands.
+    pub(crate) fn new(alloc: Global) -> Places<C>
+        ensures places { result.by_key.entries ≡ [] }
+        ensures others { result.others.items ≡ [] }
+    {
+        Places {
+            by_key: BTreeMap::new(alloc),
+            others: Vec::new(alloc),
+        }
+    }
+
+    /// Where the command of the key stands.
+    pub(crate) fn of(&self, key: Key) -> Option<Place>
+        ensures { result ≡ get key_cmp self.now.by_key key }
+    {
+        self.by_key.get(&key).copied()
+    }
+
+    /// Whether the command's key stands for another command.
+    pub(crate) fn has_other(&self, command: &C) -> bool
+        ensures { result ≡ list_any (λ d. C.eq d command.now) self.now.others.items }
+    {
+        self.others.contains(command)
+    }
+
+    /// Notes where a new command stands.
+    pub(crate) fn note(&mut self, command: &C, place: Place) -> Result<(), AllocError>
+        ensures places { OnOk result ((q : Key) → get key_cmp self.new.by_key q
+            ≡ noted_at (get key_cmp self.old.by_key) (C.key_of command.now) place q) }
+        ensures others { OnOk result (self.new.others.items
+            ≡ others_noted (get key_cmp self.old.by_key (C.key_of command.now)) self.old.others.items command.now) }
+        ensures err { OnErr result (((q : Key) → get key_cmp self.new.by_key q ≡ get key_cmp self.old.by_key q)
+            × (self.new.others.items ≡ self.old.others.items)) }
+    {
+        let key = command.key();
+        if self.by_key.contains_key(&key) {
+            self.others.push(command.copy()?)?;
+        } else {
+            self.by_key.insert(key, place)?;
+        }
+        Ok(())
+    }
+
+    /// Notes where a command stands now. It takes no memory.
+    pub(crate) fn relocate(&mut self, command: &C, place: Place)
+        requires { list_any (λ d. C.eq d command.now) self.old.others.items ≡ false
+            → IsSome (get key_cmp self.old.by_key (C.key_of command.now)) }
+        ensures here { list_any (λ d. C.eq d command.now) self.old.others.items ≡ false
+            → (q : Key) → get key_cmp self.new.by_key q
+            ≡ put_at (get key_cmp self.old.by_key) (C.key_of command.now) place q }
+        ensures other { list_any (λ d. C.eq d command.now) self.old.others.items ≡ true
+            → (q : Key) → get key_cmp self.new.by_key q ≡ get key_cmp self.old.by_key q }
+        ensures others { self.new.others.items ≡ self.old.others.items }
+    {
+        if self.has_other(command) {
+            return;
+        }
+        let standing = self.by_key.get_mut(&command.key()).unwrap();
+        *standing = place;
+    }
+}
