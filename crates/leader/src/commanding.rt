@@ -64,7 +64,8 @@ pub(crate) fn hear_p2b<C>(
     from: u8,
     ballot: Option<Ballot>,
 )
-    ensures { MatchOption (slots.get commanders.old slot) (commanders.new ≡ commanders.old) (λ c. commanders.new ≡ slots.insert commanders.old slot (voting c from ballot).commander) }
+    ensures { MatchOption (slots.get commanders.old slot) (commanders.new ≡ commanders.old)
+        (λ c. commanders.new ≡ slots.insert commanders.old slot (voting c from ballot).commander) }
 {
     if let Some(commander) = commanders.get_mut(slot) {
         commander.on_p2b(from, ballot);

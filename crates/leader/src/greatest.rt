@@ -63,7 +63,8 @@ fn take_greatest<C: Value>(
 
 /// Takes the proposal of each slot that has no value yet.
 fn take_open<C: Value>(proposals: &SlotMap<C>, taken: &mut SlotMap<C>) -> Result<(), AllocError>
-    ensures { OnOk result ((s : ℕ) → slots.get taken.new s ≡ option_or (slots.get taken.old s) (slots.get proposals.now s)) }
+    ensures { OnOk result ((s : ℕ)
+        → slots.get taken.new s ≡ option_or (slots.get taken.old s) (slots.get proposals.now s)) }
 {
     let entries = proposals.entries();
     for (slot, command) in entries {

@@ -68,9 +68,12 @@ impl<C: Value> Scout<C> {
         ballot: Ballot,
         report: &[Pvalue<C>],
     ) -> Result<Heard, AllocError>
-        ensures fresh { OnOk result (TakesFresh self.old from ballot report.now (fresh_of self.old self.new)) }
-        ensures state { OnOk result (self.new ≡ (hearing self.old from ballot (fresh_of self.old self.new)).scout) }
-        ensures says { IfOk result (λ heard. heard ≡ (hearing self.old from ballot (fresh_of self.old self.new)).says) }
+        ensures fresh { OnOk result
+            (TakesFresh self.old from ballot report.now (fresh_of self.old self.new)) }
+        ensures state { OnOk result
+            (self.new ≡ (hearing self.old from ballot (fresh_of self.old self.new)).scout) }
+        ensures says { IfOk result
+            (λ heard. heard ≡ (hearing self.old from ballot (fresh_of self.old self.new)).says) }
 
         ensures adopted { IfOk result (λ heard. (heard ≡ Heard.Adopted) ↔ IsAdopting self.old from ballot) }
         ensures preempted { IfOk result (λ heard. (heard ≡ Heard.Preempted ballot) ↔ IsPreempting self.old.members self.old.ballot from ballot) }

@@ -22,7 +22,8 @@ impl<C: Value> Leader<C> {
         report: &[Pvalue<C>],
         out: &mut Vec<Letter<C>>,
     ) -> Result<(), LeaderError>
-        ensures hears { OnOk result (HearsP1b self.old from ballot report.now self.new out.old.items out.new.items) }
+        ensures hears { OnOk result
+            (HearsP1b self.old from ballot report.now self.new out.old.items out.new.items) }
         ensures no_ballot { (result ≡ Err LeaderError.NoBallotLeft) ↔ (IsSome self.old.scout × LeavesNoBallot self.old from ballot) }
         ensures idle { self.old.scout ≡ None → IsOk result }
         ensures err { OnErr result ((self.new ≡ self.old) × (out.new.items ≡ out.old.items)) }
@@ -49,7 +50,8 @@ impl<C: Value> Leader<C> {
         out: &mut Vec<Letter<C>>,
     ) -> Result<(), AllocError>
         requires { is_member self.old.members from ≡ true }
-        ensures hears { OnOk result (HearsP1b self.old from self.old.ballot report.now self.new out.old.items out.new.items) }
+        ensures hears { OnOk result
+            (HearsP1b self.old from self.old.ballot report.now self.new out.old.items out.new.items) }
         ensures err { OnErr result ((self.new ≡ self.old) × (out.new.items ≡ out.old.items)) }
     {
         let Some(scout) = &self.scout else {
@@ -66,8 +68,10 @@ impl<C: Value> Leader<C> {
     // The scout hears a member's promise of the leader's ballot, which does not adopt the leader.
     fn add_promise(&mut self, from: u8, report: &[Pvalue<C>]) -> Result<(), AllocError>
         requires member { is_member self.old.members from ≡ true }
-        requires waits { (s : Scouting C) → self.old.scout ≡ Some s → ¬ IsAdopting s from self.old.ballot }
-        ensures hears { OnOk result ((sent : List (Letter C)) → HearsP1b self.old from self.old.ballot report.now self.new sent sent) }
+        requires waits { (s : Scouting C) → self.old.scout ≡ Some s
+            → ¬ IsAdopting s from self.old.ballot }
+        ensures hears { OnOk result ((sent : List (Letter C))
+            → HearsP1b self.old from self.old.ballot report.now self.new sent sent) }
         ensures err { OnErr result (self.new ≡ self.old) }
     {
         let Some(scout) = &mut self.scout else {
