@@ -57,14 +57,6 @@ goes_to_proposals true true p d = refl
 goes_to_proposals true false p d = refl
 goes_to_proposals false r p d = refl
 
-pub goes_to_decisions : (s r p d : Bool) → ((r || (p || d)) || s) ≡ (r || (p || (s || d)))
-goes_to_decisions s true p d = refl
-goes_to_decisions s false true d = refl
-goes_to_decisions true false false true = refl
-goes_to_decisions true false false false = refl
-goes_to_decisions false false false true = refl
-goes_to_decisions false false false false = refl
-
 -- from the proposals
 pub goes_back : (s r p d : Bool) → (r || ((s || p) || d)) ≡ ((r || (s || false)) || (p || d))
 goes_back s true p d = refl

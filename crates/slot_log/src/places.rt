@@ -14,7 +14,9 @@ use std::collections::BTreeMap;
 pub(crate) enum Place {
     /// In the requests, by its rank: how many were there before it, those included that have left.
     Requested(usize),
+    /// In the proposals, by its slot.
     Proposed(Slot),
+    /// In the decisions, by its slot.
     Decided(Slot),
 }
 

@@ -29,7 +29,7 @@ pub struct SlotLog<C: Value + Keyed> {
     requests: VecDeque<C>,
     proposals: SlotMap<C>,
     decisions: SlotMap<C>,
-    // How many requests were proposed, so that it is the rank of the first.
+    // The rank of the first request, which is how many have left before it.
     front_rank: usize,
     // Where each command of the three stands.
     places: Places<C>,
