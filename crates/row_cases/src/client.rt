@@ -1,6 +1,4 @@
 //! What a client sends, and what it is told.
-ghost use Rattle.std.specs.Prelude.{◌<◌};
-
 use crate::quoted::bytes_of;
 use crate::wanted::Wanted;
 use anyhow::{Context, Result, bail, ensure};

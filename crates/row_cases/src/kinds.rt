@@ -1,4 +1,4 @@
-//! The kinds of cases.
+//! The kinds of cases. The comments in the files of `data/` say how each is read.
 use crate::case_file::Case;
 use crate::client::Client;
 use crate::dump::Parts;
