@@ -25,6 +25,3 @@ pub use laws::{front_item, one_item};
 pub use reader::{Read, Want, read_request};
 pub use request::{Fault, Request};
 pub use writer::{write_fault, write_reply};
-
-#[cfg(test)]
-mod tests;

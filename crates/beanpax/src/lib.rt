@@ -19,6 +19,3 @@ pub use session::{
     ByteIn, ByteOut, End, Failed, Reading, SessionFault, Writing, memory, write_all,
 };
 pub use words::{Asked, parse_words};
-
-#[cfg(test)]
-mod tests;

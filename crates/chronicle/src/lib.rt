@@ -15,6 +15,3 @@ mod writer;
 
 pub use chronicle::Chronicle;
 pub use laws::one_chronicle;
-
-#[cfg(test)]
-mod tests;

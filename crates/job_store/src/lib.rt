@@ -10,10 +10,7 @@ mod jobs;
 mod laws;
 mod look_up;
 mod name;
-mod state;
-#[cfg(test)]
-mod tests;
-mod undo;
+mod state;mod undo;
 
 pub use body::Body;
 pub use job::Job;

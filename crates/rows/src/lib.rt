@@ -1,38 +1,24 @@
-//! Worked rows: what the program and its parts answer, case by case. The expected values were worked out by
-//! hand.
+//! Worked rows that need values of the program's own types, case by case. The expected values were worked out by hand.
+//! Rows of bytes, commands and letters stand as text in `row_cases`.
 #![tactic(auto)]
 
 #[cfg(test)]
-mod case;
-#[cfg(test)]
-mod client_rows;
-#[cfg(test)]
 mod command_rows;
 #[cfg(test)]
-mod filter_rows;
+mod fault_rows;
 #[cfg(test)]
-mod line_rows;
+mod job_rows;
 #[cfg(test)]
 mod node_rows;
 #[cfg(test)]
 mod pipe_rows;
 #[cfg(test)]
-mod program_rows;
-#[cfg(test)]
 mod queue_draws;
-#[cfg(test)]
-mod queue_rows;
-#[cfg(test)]
-mod queue_words;
 #[cfg(test)]
 mod replica_rows;
 #[cfg(test)]
 mod schedule_rows;
 #[cfg(test)]
-mod told;
+mod session_rows;
 #[cfg(test)]
-mod tube_rows;
-#[cfg(test)]
-mod waiting_rows;
-#[cfg(test)]
-mod world_rows;
+mod stream_rows;

@@ -1,4 +1,4 @@
-//! What the parts of a node do with letters.
+//! What the parts of a node do with letters, as tables.
 use acceptor::Acceptor;
 use ballot::{Ballot, Members, Pvalue, Slot};
 use object::Value;
@@ -24,28 +24,36 @@ impl Value for Token {
     }
 }
 
-fn ballot(round: u64, node: u8, boot: u64) -> Result<Ballot, Fail> {
+/// Round, node and boot of a ballot.
+type Numbers = (u64, u8, u64);
+
+/// Ballot, slot and command of a pvalue.
+type Parts = (Numbers, u64, Token);
+
+fn ballot(numbers: Numbers) -> Result<Ballot, Fail> {
+    let (round, node, boot) = numbers;
     Ok(Ballot::new(round, node, boot).ok_or("no ballot")?)
 }
 
-fn pvalue(ballot: Ballot, slot: u64, value: Token) -> Result<Pvalue<Token>, Fail> {
+fn pvalue(parts: Parts) -> Result<Pvalue<Token>, Fail> {
+    let (numbers, slot, value) = parts;
     Ok(Pvalue {
-        ballot,
+        ballot: ballot(numbers)?,
         slot: Slot::new(slot).ok_or("no slot")?,
         value,
     })
 }
 
-fn members(count: u8) -> Result<Members, Fail> {
-    Ok(Members::new(count).ok_or("no members")?)
+fn pvalues(alloc: Global, parts: &[Parts]) -> Result<Vec<Pvalue<Token>>, Fail> {
+    let mut all = Vec::new(alloc);
+    for part in parts {
+        all.push(pvalue(*part)?)?;
+    }
+    Ok(all)
 }
 
-fn report_of(alloc: Global, pvalues: &[Pvalue<Token>]) -> Result<Vec<Pvalue<Token>>, AllocError> {
-    let mut report = Vec::new(alloc);
-    for pvalue in pvalues {
-        report.push(pvalue.copy()?)?;
-    }
-    Ok(report)
+fn members(count: u8) -> Result<Members, Fail> {
+    Ok(Members::new(count).ok_or("no members")?)
 }
 
 #[test]
@@ -61,109 +69,203 @@ fn majorities_of_one_to_seven(rt: HostRuntime) -> Result<(), Fail> {
     Ok(())
 }
 
+/// Ballots, each greater than the one before it.
+static RISING: [Numbers; 6] = [
+    (0, 1, 0),
+    (0, 1, 1),
+    (0, 2, 0),
+    (0, 7, 1 << 62),
+    (1, 1, 0),
+    (1 << 62, 7, 1 << 62),
+];
+
 #[test]
 fn ballots_are_ordered_by_round_node_and_boot(rt: HostRuntime) -> Result<(), Fail> {
-    let rising = [
-        ballot(0, 1, 0)?,
-        ballot(0, 1, 1)?,
-        ballot(0, 2, 0)?,
-        ballot(0, 7, 1 << 62)?,
-        ballot(1, 1, 0)?,
-        ballot(1 << 62, 7, 1 << 62)?,
-    ];
-    for pair in rising.windows(2) {
-        assert_eq!(rt; pair.len(), 2);
-        assert!(rt; pair[0] < pair[1]);
+    for (lower, greater) in RISING.iter().zip(RISING.iter().skip(1)) {
+        assert!(rt;
+            ballot(*lower)? < ballot(*greater)?,
+            "{lower:?} {greater:?}"
+        );
     }
-    assert!(rt; Ballot::new((1 << 62) + 1, 1, 0).is_none());
-    assert!(rt; Ballot::new(0, 0, 0).is_none());
-    assert!(rt; Ballot::new(0, 8, 0).is_none());
-    assert!(rt; Ballot::new(0, 1, (1 << 62) + 1).is_none());
-    assert_eq!(rt; ballot(4, 1, 9)?.next_after(3, 2), Ballot::new(5, 3, 2));
-    assert!(rt; ballot(1 << 62, 1, 0)?.next_after(1, 0).is_none());
+    let above = 1u64 << 62;
+    for (round, node, boot) in [(above + 1, 1, 0), (0, 0, 0), (0, 8, 0), (0, 1, above + 1)] {
+        assert!(rt; Ballot::new(round, node, boot).is_none());
+    }
     Ok(())
 }
 
 #[test]
-fn an_acceptor_promises_and_accepts(rt: HostRuntime) -> Result<(), Fail> {
-    let first = ballot(0, 1, 0)?;
-    let second = ballot(0, 2, 0)?;
-    let accepted = [pvalue(first, 1, Token::X)?];
-    let mut acceptor = Acceptor::new(rt.alloc());
-    assert_eq!(rt; acceptor.on_p2a(pvalue(first, 1, Token::X)?)?, None);
-
-    let (promised, report) = acceptor.on_p1a(first)?;
-    assert_eq!(rt; promised, first);
-    assert!(rt; report.is_empty());
-    assert_eq!(rt; acceptor.on_p2a(pvalue(first, 1, Token::X)?)?, Some(first));
-
-    let (promised, report) = acceptor.on_p1a(second)?;
-    assert_eq!(rt; promised, second);
-    assert!(rt; report.as_slice() == accepted.as_slice());
-    assert_eq!(rt; acceptor.on_p2a(pvalue(first, 2, Token::X)?)?, Some(second));
-
-    let (promised, report) = acceptor.on_p1a(first)?;
-    assert_eq!(rt; promised, second);
-    assert!(rt; report.as_slice() == accepted.as_slice());
+fn a_later_ballot_is_of_the_next_round(rt: HostRuntime) -> Result<(), Fail> {
+    for (own, node, boot, next) in [
+        ((4, 1, 9), 3, 2, Some((5, 3, 2))),
+        ((1 << 62, 1, 0), 1, 0, None),
+    ] {
+        let found = ballot(own)?.next_after(node, boot);
+        match next {
+            Some(numbers) => assert_eq!(rt; found, Some(ballot(numbers)?)),
+            None => assert_eq!(rt; found, None),
+        }
+    }
     Ok(())
+}
+
+/// A letter that an acceptor hears, and what it answers.
+enum Heed {
+    /// A P1a: the ballot, and the promised ballot and the report that are answered.
+    P1a(Numbers, Numbers, &'static [Parts]),
+    /// A P2a: the pvalue, and the promised ballot that is answered, if any.
+    P2a(Parts, Option<Numbers>),
+}
+
+const FIRST: Numbers = (0, 1, 0);
+
+const SECOND: Numbers = (0, 2, 0);
+
+static PROMISES: [Heed; 7] = [
+    Heed::P2a((FIRST, 1, Token::X), None),
+    Heed::P1a(FIRST, FIRST, &[]),
+    Heed::P2a((FIRST, 1, Token::X), Some(FIRST)),
+    Heed::P1a(SECOND, SECOND, &[(FIRST, 1, Token::X)]),
+    Heed::P2a((FIRST, 2, Token::X), Some(SECOND)),
+    Heed::P1a(FIRST, SECOND, &[(FIRST, 1, Token::X)]),
+    Heed::P1a(SECOND, SECOND, &[(FIRST, 1, Token::X)]),
+];
+
+// A report goes by slot and then by ballot.
+static REPORTS: [Heed; 6] = [
+    Heed::P1a(FIRST, FIRST, &[]),
+    Heed::P2a((FIRST, 2, Token::Y), Some(FIRST)),
+    Heed::P2a((FIRST, 1, Token::X), Some(FIRST)),
+    Heed::P1a(
+        SECOND,
+        SECOND,
+        &[(FIRST, 1, Token::X), (FIRST, 2, Token::Y)],
+    ),
+    Heed::P2a((SECOND, 1, Token::X), Some(SECOND)),
+    Heed::P1a(
+        SECOND,
+        SECOND,
+        &[
+            (FIRST, 1, Token::X),
+            (SECOND, 1, Token::X),
+            (FIRST, 2, Token::Y),
+        ],
+    ),
+];
+
+/// Whether the acceptor answers so.
+fn heeds(alloc: Global, acceptor: &mut Acceptor<Token>, row: &Heed) -> Result<bool, Fail> {
+    match row {
+        Heed::P1a(asked, promised, report) => {
+            let (own, told) = acceptor.on_p1a(ballot(*asked)?)?;
+            let expected = pvalues(alloc, *report)?;
+            Ok(own == ballot(*promised)? && told == expected)
+        }
+        Heed::P2a(asked, Some(promised)) => {
+            let own = acceptor.on_p2a(pvalue(*asked)?)?;
+            Ok(own == Some(ballot(*promised)?))
+        }
+        Heed::P2a(asked, None) => Ok(acceptor.on_p2a(pvalue(*asked)?)?.is_none()),
+    }
+}
+
+/// The place of the first row that a new acceptor answers otherwise.
+fn wrong_heed(alloc: Global, rows: &[Heed]) -> Result<Option<usize>, Fail> {
+    let mut acceptor = Acceptor::new(alloc);
+    for (place, row) in rows.iter().enumerate() {
+        if !heeds(alloc, &mut acceptor, row)? {
+            return Ok(Some(place));
+        }
+    }
+    Ok(None)
 }
 
 #[test]
-fn a_report_goes_by_slot_and_then_by_ballot(rt: HostRuntime) -> Result<(), Fail> {
-    let first = ballot(0, 1, 0)?;
-    let second = ballot(0, 2, 0)?;
-    let mut acceptor = Acceptor::new(rt.alloc());
-    acceptor.on_p1a(first)?;
-    acceptor.on_p2a(pvalue(first, 2, Token::Y)?)?;
-    acceptor.on_p2a(pvalue(first, 1, Token::X)?)?;
-    acceptor.on_p1a(second)?;
-    acceptor.on_p2a(pvalue(second, 1, Token::X)?)?;
-    let (_, report) = acceptor.on_p1a(second)?;
-    let expected = [
-        pvalue(first, 1, Token::X)?,
-        pvalue(second, 1, Token::X)?,
-        pvalue(first, 2, Token::Y)?,
-    ];
-    assert!(rt; report.as_slice() == expected.as_slice());
+fn an_acceptor_promises_accepts_and_reports(rt: HostRuntime) -> Result<(), Fail> {
+    for rows in [PROMISES.as_slice(), REPORTS.as_slice()] {
+        assert_eq!(rt; wrong_heed(rt.alloc(), rows)?, None);
+    }
     Ok(())
 }
 
+/// P1bs that a scout of three members hears: sender, promised ballot and report, and what the scout says.
+static SCOUTED: [(u8, Numbers, &[Parts], Said); 5] = [
+    (1, FIRST, &[(FIRST, 1, Token::X)], Said::Wait),
+    (1, FIRST, &[], Said::Wait),
+    (4, FIRST, &[], Said::Wait),
+    (2, SECOND, &[], Said::Preempted),
+    (2, FIRST, &[], Said::Won),
+];
+
+/// What a scout or a commander says.
+enum Said {
+    Wait,
+    Won,
+    /// The ballot that it was told is greater.
+    Preempted,
+}
+
+fn is_heard(heard: Heard, told: Ballot, said: &Said) -> bool {
+    match said {
+        Said::Wait => heard == Heard::Wait,
+        Said::Won => heard == Heard::Adopted,
+        Said::Preempted => heard == Heard::Preempted(told),
+    }
+}
+
+// Each letter is heard by a copy of the scout too.
 #[test]
 fn a_scout_hears_each_member_once(rt: HostRuntime) -> Result<(), Fail> {
     let alloc = rt.alloc();
-    let own = ballot(0, 1, 0)?;
-    let reported = [pvalue(own, 1, Token::X)?];
-    let mut scout: Scout<Token> = Scout::new(alloc, members(3)?, own);
-    let report = report_of(alloc, &reported)?;
-    assert_eq!(rt; scout.on_p1b(1, own, report)?, Heard::Wait);
-    assert_eq!(rt; scout.on_p1b(1, own, Vec::new(alloc))?, Heard::Wait);
-    assert_eq!(rt; scout.on_p1b(4, own, Vec::new(alloc))?, Heard::Wait);
-    let above = ballot(0, 2, 0)?;
-    assert_eq!(rt;
-        scout.on_p1b(2, above, Vec::new(alloc))?,
-        Heard::Preempted(above)
-    );
-    let mut twin = scout.copy()?;
-    assert_eq!(rt; scout.on_p1b(2, own, Vec::new(alloc))?, Heard::Adopted);
-    assert_eq!(rt; twin.on_p1b(2, own, Vec::new(alloc))?, Heard::Adopted);
-    assert!(rt; scout.gathered().as_slice() == reported.as_slice());
-    assert!(rt; twin.gathered().as_slice() == reported.as_slice());
+    let mut scout: Scout<Token> = Scout::new(alloc, members(3)?, ballot(FIRST)?);
+    for (from, numbers, report, said) in SCOUTED.iter() {
+        let told = ballot(*numbers)?;
+        let mut twin = scout.copy()?;
+        let heard = scout.on_p1b(*from, told, pvalues(alloc, *report)?)?;
+        assert!(rt; is_heard(heard, told, said), "{from} {numbers:?}");
+        let heard = twin.on_p1b(*from, told, pvalues(alloc, *report)?)?;
+        assert!(rt; is_heard(heard, told, said), "{from} {numbers:?}");
+        assert!(rt; twin.gathered() == scout.copy()?.gathered());
+    }
+    let expected = pvalues(alloc, &[(FIRST, 1, Token::X)])?;
+    assert!(rt; scout.gathered() == expected);
     Ok(())
+}
+
+const OWN: Numbers = (1, 1, 0);
+
+/// P2bs that a commander of three members hears: sender and promised ballot, and what the commander says.
+static VOTES: [(u8, Option<Numbers>, Said); 7] = [
+    (1, Some(OWN), Said::Wait),
+    (1, Some(OWN), Said::Wait),
+    (2, None, Said::Wait),
+    (2, Some((0, 3, 0)), Said::Wait),
+    (2, Some((1, 2, 0)), Said::Preempted),
+    (0, Some(OWN), Said::Wait),
+    (3, Some(OWN), Said::Won),
+];
+
+fn is_voted(voted: Voted, told: Option<Ballot>, said: &Said) -> bool {
+    match (said, told) {
+        (Said::Wait, _) => voted == Voted::Wait,
+        (Said::Won, _) => voted == Voted::Decided,
+        (Said::Preempted, Some(told)) => voted == Voted::Preempted(told),
+        (Said::Preempted, None) => false,
+    }
 }
 
 #[test]
 fn a_commander_counts_each_member_once(rt: HostRuntime) -> Result<(), Fail> {
-    let own = ballot(1, 1, 0)?;
-    let below = ballot(0, 3, 0)?;
-    let above = ballot(1, 2, 0)?;
-    let mut commander = Commander::new(members(3)?, pvalue(own, 5, Token::Y)?);
-    assert!(rt; *commander.pvalue() == pvalue(own, 5, Token::Y)?);
-    assert_eq!(rt; commander.on_p2b(1, Some(own)), Voted::Wait);
-    assert_eq!(rt; commander.on_p2b(1, Some(own)), Voted::Wait);
-    assert_eq!(rt; commander.on_p2b(2, None), Voted::Wait);
-    assert_eq!(rt; commander.on_p2b(2, Some(below)), Voted::Wait);
-    assert_eq!(rt; commander.on_p2b(2, Some(above)), Voted::Preempted(above));
-    assert_eq!(rt; commander.on_p2b(0, Some(own)), Voted::Wait);
-    assert_eq!(rt; commander.on_p2b(3, Some(own)), Voted::Decided);
+    let own = pvalue((OWN, 5, Token::Y))?;
+    let mut commander = Commander::new(members(3)?, own.copy()?);
+    assert!(rt; *commander.pvalue() == own);
+    for (from, numbers, said) in VOTES.iter() {
+        let told = match numbers {
+            Some(numbers) => Some(ballot(*numbers)?),
+            None => None,
+        };
+        let voted = commander.on_p2b(*from, told);
+        assert!(rt; is_voted(voted, told, said), "{from} {numbers:?}");
+    }
     Ok(())
 }

@@ -1,5 +1,4 @@
 //! What a client is told that waits for each reply before it sends the next command.
-use crate::case::words_of;
 use beanpax::memory::PieceWriter;
 use beanpax::{Reading, Writing, program};
 use std::alloc::Global;
@@ -54,7 +53,10 @@ fn talk(mut to: PipeWriter, mut from: PipeReader) -> usize {
 #[test]
 fn each_command_is_sent_after_the_reply_before_it(rt: HostRuntime) -> Result<(), Fail> {
     let alloc = rt.alloc();
-    let words = words_of(alloc, &["run"])?;
+    let words = vec![in alloc;
+        String::from_str(alloc, "beanpax")?,
+        String::from_str(alloc, "run")?,
+    ]?;
     let (input, to) = pipe(&rt)?;
     let (from, output) = pipe(&rt)?;
     let (status, heard) = thread::join(

@@ -3,6 +3,7 @@ use ballot::{Body, Letter, Members, Slot};
 use object::{Act, Command, Effect, Key, Register, RegisterOp, RegisterReply, Value};
 use replica::Replica;
 use slot_log::{LearnError, SlotLog};
+use std::alloc::Global;
 use std::test::Fail;
 
 fn slot(number: u64) -> Result<Slot, Fail> {
@@ -83,83 +84,183 @@ fn a_command_decided_twice_counts_once(rt: HostRuntime) -> Result<(), Fail> {
     Ok(())
 }
 
+/// What a replica is asked. Each session has one command, a read.
+enum Step {
+    /// It is asked for the session's command.
+    Request(u32),
+    /// It proposes at this node of so many; whether it did.
+    Propose(u8, u8, bool),
+    /// It learns that the session's command is decided for the slot.
+    Learn(u64, u32),
+    /// It is told of another command for a slot whose command is known.
+    Clash(u64, u32),
+    /// The next decision; whether there was one.
+    Perform(bool),
+    /// The least slot that is proposed and not decided.
+    Undecided(Option<u64>),
+    /// It says again what it waits for, at this node of so many.
+    Nudge(u8, u8),
+    /// It is asked for decisions from a slot on; their slots and sessions.
+    Ask(u64, &'static [(u64, u32)]),
+}
+
+/// The step goes as it says.
+fn goes(
+    alloc: Global,
+    replica: &mut Replica<Register>,
+    step: &Step,
+    letters: &mut Vec<Letter<Command<RegisterOp>>>,
+) -> Result<bool, Fail> {
+    match step {
+        Step::Request(session) => {
+            replica.request(read(*session)?)?;
+            Ok(true)
+        }
+        Step::Propose(node, count, did) => {
+            Ok(replica.propose(members(*count)?, *node, letters)? == *did)
+        }
+        Step::Learn(number, session) => {
+            Ok(replica.learn(slot(*number)?, read(*session)?).is_ok())
+        }
+        Step::Clash(number, session) => {
+            Ok(replica.learn(slot(*number)?, read(*session)?) == Err(LearnError::Clash))
+        }
+        Step::Perform(did) => {
+            let mut answers = Vec::new(alloc);
+            Ok(replica.perform(&mut answers)?.is_some() == *did)
+        }
+        Step::Undecided(expected) => {
+            Ok(replica.undecided().map(|slot| slot.number()) == *expected)
+        }
+        Step::Nudge(node, count) => {
+            replica.nudge(members(*count)?, *node, letters)?;
+            Ok(true)
+        }
+        Step::Ask(number, expected) => {
+            Ok(replica.ask(slot(*number)?)? == decisions(alloc, *expected)?)
+        }
+    }
+}
+
+fn members(count: u8) -> Result<Members, Fail> {
+    Ok(Members::new(count).ok_or("no members")?)
+}
+
+/// The command of a session.
+fn read(session: u32) -> Result<Command<RegisterOp>, Fail> {
+    command(session, RegisterOp::Read)
+}
+
+fn decisions(
+    alloc: Global,
+    expected: &[(u64, u32)],
+) -> Result<Vec<Body<Command<RegisterOp>>>, Fail> {
+    let mut bodies = Vec::new(alloc);
+    for (number, session) in expected {
+        bodies.push(Body::Decision(slot(*number)?, read(*session)?))?;
+    }
+    Ok(bodies)
+}
+
+/// A letter of a replica: who sends it to whom, its slot, and the session of the command that it proposes, or none
+/// where it asks.
+type Sent = (u8, u8, u64, Option<u32>);
+
+fn letters_of(alloc: Global, expected: &[Sent]) -> Result<Vec<Letter<Command<RegisterOp>>>, Fail> {
+    let mut letters = Vec::new(alloc);
+    for (from, to, number, session) in expected {
+        let body = match session {
+            Some(session) => Body::Propose(slot(*number)?, read(*session)?),
+            None => Body::Ask(slot(*number)?),
+        };
+        letters.push(Letter {
+            from: *from,
+            to: *to,
+            body,
+        })?;
+    }
+    Ok(letters)
+}
+
+/// The place of the first step that a new replica takes otherwise, or the count of the steps where its letters are
+/// others.
+fn wrong_step(alloc: Global, steps: &[Step], expected: &[Sent]) -> Result<Option<usize>, Fail> {
+    let mut replica: Replica<Register> = Replica::new(alloc)?;
+    let mut letters = Vec::new(alloc);
+    for (place, step) in steps.iter().enumerate() {
+        if !goes(alloc, &mut replica, step, &mut letters)? {
+            return Ok(Some(place));
+        }
+    }
+    if letters == letters_of(alloc, expected)? {
+        Ok(None)
+    } else {
+        Ok(Some(steps.len()))
+    }
+}
+
+static IN_ORDER: [Step; 7] = [
+    Step::Learn(2, 2),
+    Step::Perform(false),
+    Step::Learn(1, 1),
+    Step::Perform(true),
+    Step::Perform(true),
+    Step::Clash(2, 1),
+    Step::Perform(false),
+];
+
 #[test]
 fn no_slot_is_performed_before_the_one_below_it(rt: HostRuntime) -> Result<(), Fail> {
-    let mut replica: Replica<Register> = Replica::new(rt.alloc())?;
-    let mut answers = Vec::new(rt.alloc());
-    replica
-        .learn(slot(2)?, command(2, RegisterOp::Read)?)
-        .ok()
-        .ok_or("not learnt")?;
-    assert!(rt; replica.perform(&mut answers)?.is_none());
-    replica
-        .learn(slot(1)?, command(1, RegisterOp::Read)?)
-        .ok()
-        .ok_or("not learnt")?;
-    assert!(rt; replica.perform(&mut answers)?.is_some());
-    assert!(rt; replica.perform(&mut answers)?.is_some());
-    let other = replica.learn(slot(2)?, command(1, RegisterOp::Read)?);
-    assert_eq!(rt; other, Err(LearnError::Clash));
+    assert_eq!(rt; wrong_step(rt.alloc(), &IN_ORDER, &[])?, None);
     Ok(())
 }
+
+static LOST: [Step; 9] = [
+    Step::Request(1),
+    Step::Request(1),
+    Step::Propose(1, 2, true),
+    Step::Propose(1, 2, false),
+    Step::Undecided(Some(1)),
+    Step::Learn(1, 2),
+    Step::Undecided(None),
+    Step::Perform(true),
+    Step::Propose(1, 2, true),
+];
 
 #[test]
 fn a_lost_proposal_is_proposed_again(rt: HostRuntime) -> Result<(), Fail> {
-    let members = Members::new(2).ok_or("no members")?;
-    let mut replica: Replica<Register> = Replica::new(rt.alloc())?;
-    let mut letters = Vec::new(rt.alloc());
-    replica.request(command(1, RegisterOp::Read)?)?;
-    replica.request(command(1, RegisterOp::Read)?)?;
-    assert!(rt; replica.propose(members, 1, &mut letters)?);
-    assert!(rt; !replica.propose(members, 1, &mut letters)?);
-    assert_eq!(rt; replica.undecided(), Some(slot(1)?));
-    replica
-        .learn(slot(1)?, command(2, RegisterOp::Read)?)
-        .ok()
-        .ok_or("not learnt")?;
-    assert!(rt; replica.undecided().is_none());
-    let mut answers = Vec::new(rt.alloc());
-    assert!(rt; replica.perform(&mut answers)?.is_some());
-    assert!(rt; replica.propose(members, 1, &mut letters)?);
-    let mut expected = Vec::new(rt.alloc());
-    for (number, to) in [(1, 1), (1, 2), (2, 1), (2, 2)] {
-        let body = Body::Propose(slot(number)?, command(1, RegisterOp::Read)?);
-        expected.push(Letter { from: 1, to, body })?;
-    }
-    assert!(rt; letters == expected);
+    let sent = [
+        (1, 1, 1, Some(1)),
+        (1, 2, 1, Some(1)),
+        (1, 1, 2, Some(1)),
+        (1, 2, 2, Some(1)),
+    ];
+    assert_eq!(rt; wrong_step(rt.alloc(), &LOST, &sent)?, None);
     Ok(())
 }
 
+static NUDGED: [Step; 7] = [
+    Step::Request(1),
+    Step::Propose(2, 3, true),
+    Step::Learn(4, 4),
+    Step::Nudge(2, 3),
+    Step::Ask(1, &[(4, 4)]),
+    Step::Ask(4, &[(4, 4)]),
+    Step::Ask(5, &[]),
+];
+
 #[test]
 fn a_nudge_and_an_ask_tell_these(rt: HostRuntime) -> Result<(), Fail> {
-    let members = Members::new(3).ok_or("no members")?;
-    let mut replica: Replica<Register> = Replica::new(rt.alloc())?;
-    let mut letters = Vec::new(rt.alloc());
-    replica.request(command(1, RegisterOp::Read)?)?;
-    replica.propose(members, 2, &mut letters)?;
-    replica
-        .learn(slot(4)?, command(4, RegisterOp::Read)?)
-        .ok()
-        .ok_or("not learnt")?;
-    letters.clear();
-    replica.nudge(members, 2, &mut letters)?;
-    let mut expected = Vec::new(rt.alloc());
-    for to in 1..4 {
-        let body = Body::Propose(slot(1)?, command(1, RegisterOp::Read)?);
-        expected.push(Letter { from: 2, to, body })?;
-    }
-    for to in [1, 3] {
-        expected.push(Letter {
-            from: 2,
-            to,
-            body: Body::Ask(slot(1)?),
-        })?;
-    }
-    assert!(rt; letters == expected);
-    let mut told = Vec::new(rt.alloc());
-    told.push(Body::Decision(slot(4)?, command(4, RegisterOp::Read)?))?;
-    assert!(rt; replica.ask(slot(1)?)? == told);
-    assert!(rt; replica.ask(slot(4)?)? == told);
-    assert!(rt; replica.ask(slot(5)?)?.is_empty());
+    let sent = [
+        (2, 1, 1, Some(1)),
+        (2, 2, 1, Some(1)),
+        (2, 3, 1, Some(1)),
+        (2, 1, 1, Some(1)),
+        (2, 2, 1, Some(1)),
+        (2, 3, 1, Some(1)),
+        (2, 1, 1, None),
+        (2, 3, 1, None),
+    ];
+    assert_eq!(rt; wrong_step(rt.alloc(), &NUDGED, &sent)?, None);
     Ok(())
 }

@@ -22,6 +22,3 @@ pub use service::Service;
 pub use session::Session;
 pub use streams::{ByteIn, ByteOut, Failed};
 pub use writing::{Writing, write_all};
-
-#[cfg(test)]
-mod tests;

@@ -1,5 +1,6 @@
-use crate::{Body, Job, JobMap, Jobs, Name, State};
+//! What a map of jobs finds and keeps.
 use indexmap::IndexSet;
+use job_store::{Body, Job, JobMap, Jobs, Name, State};
 use object::Value;
 use std::alloc::{AllocError, Global};
 use std::test::Fail;
@@ -38,30 +39,6 @@ fn rows_of<M: JobMap>(alloc: Global, jobs: &M) -> Result<Vec<(u64, u32, State)>,
 
 fn id_of(found: Option<(u64, &Job)>) -> Option<u64> {
     found.map(|(id, _)| id)
-}
-
-#[test]
-fn a_name_keeps_the_rule(rt: HostRuntime) -> Result<(), Fail> {
-    let alloc = rt.alloc();
-    let cases = vec![in alloc;
-        (b"a".as_slice(), true),
-        (b"AZaz09-+/;.$_()".as_slice(), true),
-        (b"a-".as_slice(), true),
-        (b"".as_slice(), false),
-        (b"-a".as_slice(), false),
-        (b"a b".as_slice(), false),
-        (b"a,b".as_slice(), false),
-    ]?;
-    for (bytes, is_name) in cases {
-        match Name::new(alloc, bytes)? {
-            Some(name) => assert!(rt; is_name && name.copy()?.as_slice() == bytes),
-            None => assert!(rt; !is_name),
-        }
-    }
-    let long = vec![in alloc; b'x'; 201]?;
-    assert!(rt; Name::new(alloc, &long[..200])?.is_some());
-    assert!(rt; Name::new(alloc, long.as_slice())?.is_none());
-    Ok(())
 }
 
 #[test]

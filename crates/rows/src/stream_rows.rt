@@ -1,5 +1,6 @@
-use crate::memory::PieceWriter;
-use crate::{ByteIn, ByteOut, Failed, Reading, Writing, write_all};
+//! Streams that go in pieces, fail or are interrupted.
+use beanpax::memory::PieceWriter;
+use beanpax::{ByteIn, ByteOut, Failed, Reading, Writing, write_all};
 use std::alloc::Global;
 use std::io;
 use std::io::{ErrorKind, Read, Write};

@@ -1,3 +1,0 @@
-mod script;
-mod sessions;
-mod streams;
