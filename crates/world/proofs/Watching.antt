@@ -7,7 +7,7 @@ use Rattle.ballot.specs.declared.pvalue.Pvalue.{Pvalue}
 use Rattle.ballot.specs.declared.letter.Body.{Body}
 use Rattle.ballot.specs.declared.letter.Body.TheVariants.{P1a, P1b, P2a, P2b, Propose, Decision, Ask}
 use Rattle.ballot.specs.declared.letter.Letter.{Letter}
-use Rattle.acceptor.specs.Acceptors.{Keeps}
+use Rattle.acceptor.specs.Acceptors.{Acceptances, Keeps, new_acceptor}
 use Rattle.slot_log.specs.Books.{SlotBook}
 use Rattle.slot_log.specs.Decisions.{next_decided}
 use Rattle.node.specs.Nodes.{NodeState}
@@ -32,6 +32,17 @@ accepted_after members m n x y body sent (tells_decisions s) = sym (append-nil x
 pub still_shows : {C : Type 0} (nd z : NodeState C) (all : List (Pvalue C)) → z.acceptor ≡ nd.acceptor → ShowsNode nd (with_accepted nd all) → ShowsNode z (with_accepted z all)
 still_shows nd z all same shows = record {
   acceptor = subst (λ a. Keeps (record { promised = a.promised; accepted = all }) a) (sym same) shows.acceptor;
+  boot = refl;
+  leader = refl;
+  replica = refl;
+}
+
+-- a node to which nothing happened yet
+pub new_shows : {C : Type 0} (nd : NodeState C) (all : List (Pvalue C)) → nd.acceptor ≡ new_acceptor → all ≡ [] → ShowsNode nd (with_accepted nd all)
+new_shows {C} nd all new none = record {
+  acceptor = subst (λ (a : Acceptances C). Keeps (record { promised = a.promised; accepted = all }) a) (sym new)
+      (subst (λ (l : List (Pvalue C)). Keeps (record { promised = None; accepted = l }) new_acceptor) (sym none)
+      (record { promised = refl; accepted = record { part = λ p i. i; greatest = λ p i. absurd i } }));
   boot = refl;
   leader = refl;
   replica = refl;
