@@ -191,7 +191,7 @@ fn an_acceptor_promises_accepts_and_reports(rt: HostRuntime) -> Result<(), Fail>
 /// P1bs that a scout of three members hears: sender, promised ballot and report, and what the scout says.
 static SCOUTED: [(u8, Numbers, &[Parts], Said); 5] = [
     (1, FIRST, &[(FIRST, 1, Token::X)], Said::Wait),
-    (1, FIRST, &[], Said::Wait),
+    (1, FIRST, &[(FIRST, 1, Token::X)], Said::Wait),
     (4, FIRST, &[], Said::Wait),
     (2, SECOND, &[], Said::Preempted),
     (2, FIRST, &[], Said::Won),
@@ -221,9 +221,10 @@ fn a_scout_hears_each_member_once(rt: HostRuntime) -> Result<(), Fail> {
     for (from, numbers, report, said) in SCOUTED.iter() {
         let told = ballot(*numbers)?;
         let mut twin = scout.copy()?;
-        let heard = scout.on_p1b(*from, told, pvalues(alloc, *report)?)?;
+        let report = pvalues(alloc, *report)?;
+        let heard = scout.on_p1b(*from, told, report.as_slice())?;
         assert!(rt; is_heard(heard, told, said), "{from} {numbers:?}");
-        let heard = twin.on_p1b(*from, told, pvalues(alloc, *report)?)?;
+        let heard = twin.on_p1b(*from, told, report.as_slice())?;
         assert!(rt; is_heard(heard, told, said), "{from} {numbers:?}");
         assert!(rt; twin.gathered() == scout.copy()?.gathered());
     }
