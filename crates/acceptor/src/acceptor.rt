@@ -61,7 +61,8 @@ impl<C: Value> Acceptor<C> {
     /// a P2b, the promised one, which no P2a changes.
     pub fn on_p2a(&mut self, pvalue: Pvalue<C>) -> Result<Option<Ballot>, AllocError>
         ensures state { OnOk result (Keeps (after_p2a self.old pvalue) self.new) }
-        ensures refused { OnOk result (is_promise self.old.promised pvalue.ballot ≡ false → self.new ≡ self.old) }
+        ensures refused { OnOk result (is_promise self.old.promised pvalue.ballot ≡ false →
+            self.new ≡ self.old) }
         ensures promised { IfOk result (λ promised. promised ≡ self.old.promised) }
         ensures err { OnErr result (self.new ≡ self.old) }
     {

@@ -6,14 +6,17 @@ ghost use Rattle.ballot.specs.Members.{has, is_majority};
 /// The order of ballots is a total order, and a ballot is determined by its three numbers.
 pub fn ballot_order()
     ensures itself { (a : Numbers) → is_below a a ≡ false }
-    ensures through { (a b c : Numbers) → is_below a b ≡ true → is_below b c ≡ true → is_below a c ≡ true }
-    ensures total { (a b : Numbers) → (is_below a b ≡ true) ⊎ ((a ≡ b) ⊎ (is_below b a ≡ true)) }
+    ensures through { (a b c : Numbers) → is_below a b ≡ true → is_below b c ≡ true →
+        is_below a c ≡ true }
+    ensures total { (a b : Numbers) → (is_below a b ≡ true)
+        ⊎ ((a ≡ b) ⊎ (is_below b a ≡ true)) }
     ensures same { (a b : Numbers) → is_same a b ≡ true → a ≡ b }
 {}
 
 /// Any two majorities of the same members share a member.
 pub fn majorities_share_a_member()
-    ensures { (weights : List ℕ) (a b : List Bool) → is_majority weights a ≡ true → is_majority weights b ≡ true → (m : ℕ) × (has a m ≡ true) × (has b m ≡ true) }
+    ensures { (weights : List ℕ) (a b : List Bool) → is_majority weights a ≡ true →
+        is_majority weights b ≡ true → (m : ℕ) × (has a m ≡ true) × (has b m ≡ true) }
 {}
 
 /// What is promised of the order of ballots and of majorities, in one place.

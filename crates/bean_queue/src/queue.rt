@@ -40,7 +40,8 @@ impl<M: JobMap> QueueOver<M> {
     fn answer(&mut self, key: Key, op: &Op, out: &mut Vec<Answer<Reply>>) -> Result<(), AllocError>
         requires { is_quiet op.now ≡ true }
         ensures state { OnOk result (self.new ≡ (do_effect op.now key self.old).state) }
-        ensures out { OnOk result (out.new.items ≡ out.old.items ++ (do_effect op.now key self.old).answers) }
+        ensures out { OnOk result (out.new.items ≡ out.old.items
+            ++ (do_effect op.now key self.old).answers) }
         ensures err { OnErr result ((self.new ≡ self.old) × (out.new.items ≡ out.old.items)) }
     {
         out.reserve(1)?;
@@ -61,7 +62,8 @@ impl<M: JobMap> QueueOver<M> {
     fn act(&mut self, key: Key, op: &Op, out: &mut Vec<Answer<Reply>>) -> Result<(), AllocError>
         requires { is_quiet op.now ≡ false }
         ensures state { OnOk result (self.new ≡ (do_effect op.now key self.old).state) }
-        ensures out { OnOk result (out.new.items ≡ out.old.items ++ (do_effect op.now key self.old).answers) }
+        ensures out { OnOk result (out.new.items ≡ out.old.items
+            ++ (do_effect op.now key self.old).answers) }
         ensures err { OnErr result ((self.new ≡ self.old) × (out.new.items ≡ out.old.items)) }
     {
         let mut answers = Vec::new(self.alloc);
@@ -81,7 +83,8 @@ impl<M: JobMap> QueueOver<M> {
     #[tactic(auto, unfolding(crate::specs::Effects::close_effect))]
     fn close(&mut self, session: u32, out: &mut Vec<Answer<Reply>>) -> Result<(), AllocError>
         ensures state { OnOk result (self.new ≡ (close_effect session self.old).state) }
-        ensures out { OnOk result (out.new.items ≡ out.old.items ++ (close_effect session self.old).answers) }
+        ensures out { OnOk result (out.new.items ≡ out.old.items
+            ++ (close_effect session self.old).answers) }
         ensures err { OnErr result ((self.new ≡ self.old) × (out.new.items ≡ out.old.items)) }
     {
         let mut answers = Vec::new(self.alloc);
@@ -102,7 +105,8 @@ impl<M: JobMap> QueueOver<M> {
     fn tick(&mut self, second: u64, out: &mut Vec<Answer<Reply>>) -> Result<(), AllocError>
         requires { second ≤ 2 ^ 40 }
         ensures state { OnOk result (self.new ≡ (tick_effect second self.old).state) }
-        ensures out { OnOk result (out.new.items ≡ out.old.items ++ (tick_effect second self.old).answers) }
+        ensures out { OnOk result (out.new.items ≡ out.old.items
+            ++ (tick_effect second self.old).answers) }
         ensures err { OnErr result ((self.new ≡ self.old) × (out.new.items ≡ out.old.items)) }
     {
         let mut answers = Vec::new(self.alloc);

@@ -15,7 +15,8 @@ pub(crate) fn send_p2a<C: Value>(
     pvalue: &Pvalue<C>,
     out: &mut Vec<Letter<C>>,
 ) -> Result<(), AllocError>
-    ensures ok { OnOk result (out.new.items ≡ out.old.items ++ to_all members from (Body.P2a pvalue.now)) }
+    ensures ok { OnOk result (out.new.items ≡ out.old.items
+        ++ to_all members from (Body.P2a pvalue.now)) }
     ensures err { OnErr result (out.new.items ≡ out.old.items) }
 {
     send_to_all(members, from, Body::P2a(pvalue.copy()?), out)
@@ -29,9 +30,12 @@ pub(crate) fn start_commander<C: Value>(
     commanders: &mut SlotMap<Commander<C>>,
     out: &mut Vec<Letter<C>>,
 ) -> Result<(), AllocError>
-    ensures commander { OnOk result (commanders.new ≡ slots.insert commanders.old pvalue.slot (new_commander members pvalue)) }
-    ensures out { OnOk result (out.new.items ≡ out.old.items ++ to_all members from (Body.P2a pvalue)) }
-    ensures err { OnErr result ((commanders.new ≡ commanders.old) × (out.new.items ≡ out.old.items)) }
+    ensures commander { OnOk result (commanders.new
+        ≡ slots.insert commanders.old pvalue.slot (new_commander members pvalue)) }
+    ensures out { OnOk result (out.new.items ≡ out.old.items
+        ++ to_all members from (Body.P2a pvalue)) }
+    ensures err { OnErr result ((commanders.new ≡ commanders.old)
+        × (out.new.items ≡ out.old.items)) }
 {
     let len = out.len();
     send_p2a(members, from, &pvalue, out)?;
@@ -51,7 +55,8 @@ pub(crate) fn send_decision<C: Value>(
     command: &C,
     out: &mut Vec<Letter<C>>,
 ) -> Result<(), AllocError>
-    ensures ok { OnOk result (out.new.items ≡ out.old.items ++ to_all members from (Body.Decision slot command.now)) }
+    ensures ok { OnOk result (out.new.items ≡ out.old.items
+        ++ to_all members from (Body.Decision slot command.now)) }
     ensures err { OnErr result (out.new.items ≡ out.old.items) }
 {
     send_to_all(members, from, Body::Decision(slot, command.copy()?), out)

@@ -16,7 +16,8 @@ pub(crate) fn with_greatest<C: Value>(
     gathered: &[Pvalue<C>],
     report: &[Pvalue<C>],
 ) -> Result<SlotMap<C>, AllocError>
-    ensures { IfOk result (λ taken. TakesGreatest proposals.now (gathered.now ++ report.now) taken) }
+    ensures { IfOk result (λ taken. TakesGreatest proposals.now (gathered.now
+        ++ report.now) taken) }
 {
     let mut greatest = SlotMap::new(alloc);
     note_greatest(gathered, &mut greatest)?;

@@ -95,7 +95,9 @@ impl<C: Value> Leader<C> {
         ensures ok { OnOk result (self.new ≡ preempted self.old ballot) }
         ensures error { IfErr result (λ error. error ≡ LeaderError.NoBallotLeft) }
         // A round is at most 2^62, so no other comes after that.
-        ensures no_ballot { (result ≡ Err LeaderError.NoBallotLeft) ↔ ((is_below self.old.ballot ballot ≡ true) × (2 ^ 62 ≤ ballot.round)) }
+        ensures no_ballot { (result
+            ≡ Err LeaderError.NoBallotLeft) ↔ ((is_below self.old.ballot ballot ≡ true)
+            × (2 ^ 62 ≤ ballot.round)) }
         ensures err { OnErr result (self.new ≡ self.old) }
     {
         if ballot <= self.ballot {

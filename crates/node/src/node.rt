@@ -102,11 +102,14 @@ impl<O: Object> Node<O> {
     ) -> Result<Outcome, AllocError>
         requires { IsAble self.old deed }
         ensures state { OnOk result (self.new ≡ (own_turn O.rules self.old deed).state) }
-        ensures sent { OnOk result (sent.new.items ≡ sent.old.items ++ (own_turn O.rules self.old deed).sent) }
-        ensures answers { OnOk result (answers.new.items ≡ answers.old.items ++ (own_turn O.rules self.old deed).answers) }
+        ensures sent { OnOk result (sent.new.items ≡ sent.old.items
+            ++ (own_turn O.rules self.old deed).sent) }
+        ensures answers { OnOk result (answers.new.items ≡ answers.old.items
+            ++ (own_turn O.rules self.old deed).answers) }
         ensures outcome { IfOk result (λ outcome. outcome ≡ outcome_of self.old deed) }
         ensures err { OnErr result (self.new ≡ self.old) }
-        ensures unsaid { OnErr result ((sent.new.items ≡ sent.old.items) × (answers.new.items ≡ answers.old.items)) }
+        ensures unsaid { OnErr result ((sent.new.items ≡ sent.old.items)
+            × (answers.new.items ≡ answers.old.items)) }
     {
         match deed {
             Deed::Request(command) => {
@@ -132,7 +135,8 @@ impl<O: Object> Node<O> {
 
     // Says again what it waits for.
     fn nudge(&self, sent: &mut Letters<O>) -> Result<(), AllocError>
-        ensures ok { OnOk result (sent.new.items ≡ sent.old.items ++ said_again (members_of self.now) (number_of self.now) self.now) }
+        ensures ok { OnOk result (sent.new.items ≡ sent.old.items
+            ++ said_again (members_of self.now) (number_of self.now) self.now) }
         ensures err { OnErr result (sent.new.items ≡ sent.old.items) }
     {
         let len = sent.len();
@@ -148,11 +152,14 @@ impl<O: Object> Node<O> {
 
     // Proposes the first request, where a slot is open to it.
     fn propose(&mut self, sent: &mut Letters<O>) -> Result<Outcome, AllocError>
-        ensures outcome { IfOk result (λ outcome. outcome ≡ done_if (next_proposal self.old.replica)) }
-        ensures state { OnOk result (self.new ≡ record self.old { replica = proposed_next self.old.replica }) }
+        ensures outcome { IfOk result (λ outcome. outcome
+            ≡ done_if (next_proposal self.old.replica)) }
+        ensures state { OnOk result (self.new
+            ≡ record self.old { replica = proposed_next self.old.replica }) }
         ensures sent { OnOk result (sent.new.items ≡ sent.old.items
             ++ all_to_all (members_of self.old) (number_of self.old) (asks_for (next_proposal self.old.replica))) }
-        ensures err { OnErr result ((self.new ≡ self.old) × (sent.new.items ≡ sent.old.items)) }
+        ensures err { OnErr result ((self.new ≡ self.old)
+            × (sent.new.items ≡ sent.old.items)) }
     {
         let does = self
             .replica
@@ -162,11 +169,14 @@ impl<O: Object> Node<O> {
 
     // Performs the command of its `slot_out`, where that is known, and appends the answers.
     fn perform(&mut self, answers: &mut Vec<Answer<O::Reply>>) -> Result<Outcome, AllocError>
-        ensures outcome { IfOk result (λ outcome. outcome ≡ performs self.old.replica (next_decided self.old.replica)) }
-        ensures state { OnOk result (self.new ≡ (performing O.rules self.old (next_decided self.old.replica)).state) }
+        ensures outcome { IfOk result (λ outcome. outcome
+            ≡ performs self.old.replica (next_decided self.old.replica)) }
+        ensures state { OnOk result (self.new
+            ≡ (performing O.rules self.old (next_decided self.old.replica)).state) }
         ensures answers { OnOk result (answers.new.items ≡ answers.old.items
             ++ (performing O.rules self.old (next_decided self.old.replica)).answers) }
-        ensures err { OnErr result ((self.new ≡ self.old) × (answers.new.items ≡ answers.old.items)) }
+        ensures err { OnErr result ((self.new ≡ self.old)
+            × (answers.new.items ≡ answers.old.items)) }
     {
         filter_remembers::<O::Op>();
         match self.replica.perform(answers)? {
@@ -178,7 +188,8 @@ impl<O: Object> Node<O> {
     // Stops, and begins anew with the next boot. The acceptor stays as it is.
     fn restart(&mut self) -> Result<(), AllocError>
         requires { self.old.boot < 2 ^ 62 }
-        ensures ok { OnOk result (self.new ≡ restarted (members_of self.old) (number_of self.old) self.old) }
+        ensures ok { OnOk result (self.new
+            ≡ restarted (members_of self.old) (number_of self.old) self.old) }
         ensures err { OnErr result (self.new ≡ self.old) }
     {
         let replica = Replica::new(self.alloc)?;

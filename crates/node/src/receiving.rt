@@ -12,8 +12,8 @@ ghost use Rattle.slot_log.specs.Decisions.{learnt};
 ghost use Rattle.node.specs.Receiving.{IsFit, ShowsReceived};
 
 use crate::node::{Letters, Node};
-use ballot::{Ballot, Body, Letter, Pvalue, Pvalues, Slot, ballot_laws};
 use acceptor::Acceptor;
+use ballot::{Ballot, Body, Letter, Pvalue, Pvalues, Slot, ballot_laws};
 use leader::{Leader, LeaderError};
 use object::{Command, Object, Value};
 use replica::Replica;
@@ -147,7 +147,8 @@ impl<O: Object> Node<O> {
         command: &Command<O::Op>,
         out: &mut Letters<O>,
     ) -> Result<(), AllocError>
-        requires agrees { (d : Command O.Op) → slots.get self.old.replica.decisions slot ≡ Some d → d ≡ command.now }
+        requires agrees { (d : Command O.Op) → slots.get self.old.replica.decisions slot
+            ≡ Some d → d ≡ command.now }
         ensures ok { OnOk result (ShowsReceived «from» self.old (Decision slot command.now) self.new out.old.items out.new.items) }
         ensures err { OnErr result ((self.new ≡ self.old) × (out.new.items ≡ out.old.items)) }
     {
@@ -174,7 +175,8 @@ fn send_each<C: Value>(
     bodies: Vec<Body<C>>,
     out: &mut Vec<Letter<C>>,
 ) -> Result<(), AllocError>
-    ensures ok { OnOk result (out.new.items ≡ out.old.items ++ map (λ b. letter «from» b to) bodies.items) }
+    ensures ok { OnOk result (out.new.items ≡ out.old.items
+        ++ map (λ b. letter «from» b to) bodies.items) }
     ensures err { OnErr result (out.new.items ≡ out.old.items) }
 {
     let alloc = *bodies.allocator();
@@ -232,7 +234,8 @@ fn hear_vote<C: Value>(
     out: &mut Vec<Letter<C>>,
 ) -> Result<(), AllocError>
     requires { (b : Numbers) → ballot ≡ Some b → b.round < 2 ^ 62 }
-    ensures state { OnOk result (leader.new ≡ (votes.on_p2b leader.old from ballot slot asked).state) }
+    ensures state { OnOk result (leader.new
+        ≡ (votes.on_p2b leader.old from ballot slot asked).state) }
     ensures out { OnOk result (Sends leader.old (votes.on_p2b leader.old from ballot slot asked).says out.old.items out.new.items) }
     ensures err { OnErr result ((leader.new ≡ leader.old) × (out.new.items ≡ out.old.items)) }
 {
@@ -266,8 +269,10 @@ fn learn<O: Object>(
     slot: Slot,
     command: &Command<O::Op>,
 ) -> Result<(), AllocError>
-    requires { (d : Command O.Op) → slots.get replica.old.slots.decisions slot ≡ Some d → d ≡ command.now }
-    ensures state { OnOk result (replica.new ≡ record replica.old { slots = learnt replica.old.slots slot command.now }) }
+    requires { (d : Command O.Op) → slots.get replica.old.slots.decisions slot ≡ Some d → d
+        ≡ command.now }
+    ensures state { OnOk result (replica.new
+        ≡ record replica.old { slots = learnt replica.old.slots slot command.now }) }
     ensures err { OnErr result (replica.new ≡ replica.old) }
 {
     if replica.knows(slot) {

@@ -38,7 +38,8 @@ pub trait Object: Drop + Sized {
         out: &mut Vec<Answer<Self::Reply>>,
     ) -> Result<(), AllocError>
         ensures state { OnOk result (self.new ≡ rules.after self.old cmd.now) }
-        ensures out { OnOk result (out.new.items ≡ out.old.items ++ rules.answers self.old cmd.now) }
+        ensures out { OnOk result (out.new.items ≡ out.old.items
+            ++ rules.answers self.old cmd.now) }
         ensures err { OnErr result ((self.new ≡ self.old) × (out.new.items ≡ out.old.items)) };
 
     /// The promise holds of all commands. Nothing is done.

@@ -53,9 +53,11 @@ impl<O: Object> Once<O> {
         cmd: &Command<O::Op>,
         out: &mut Vec<Answer<O::Reply>>,
     ) -> Result<Effect, AllocError>
-        ensures done { IfOk result (λ effect. (effect ≡ Effect.Done) ↔ (is_later cmd.now.key self.old.latest ≡ true)) }
+        ensures done { IfOk result (λ effect. (effect
+            ≡ Effect.Done) ↔ (is_later cmd.now.key self.old.latest ≡ true)) }
         ensures state { OnOk result (self.new ≡ filtered O.rules.after self.old cmd.now) }
-        ensures out { OnOk result (out.new.items ≡ out.old.items ++ filtered_answers O.rules.answers self.old cmd.now) }
+        ensures out { OnOk result (out.new.items ≡ out.old.items
+            ++ filtered_answers O.rules.answers self.old cmd.now) }
         ensures stale { IfOk result (λ effect. effect ≡ Effect.Stale →
             (self.new ≡ self.old) × (out.new.items ≡ out.old.items)) }
         ensures err { OnErr result ((self.new ≡ self.old) × (out.new.items ≡ out.old.items)) }

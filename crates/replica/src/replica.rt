@@ -56,8 +56,10 @@ impl<O: Object> Replica<O> {
 
     /// A command is asked for. It goes last in the requests, unless it is known.
     pub fn request(&mut self, command: Command<O::Op>) -> Result<(), AllocError>
-        ensures state { OnOk result (self.new ≡ record self.old { slots = requested (same_commands O.Op.eq) self.old.slots command }) }
-        ensures known { is_known (same_commands O.Op.eq) self.old.slots command ≡ true → IsOk result }
+        ensures state { OnOk result (self.new
+            ≡ record self.old { slots = requested (same_commands O.Op.eq) self.old.slots command }) }
+        ensures known { is_known (same_commands O.Op.eq) self.old.slots command ≡ true →
+            IsOk result }
         ensures err { OnErr result (self.new ≡ self.old) }
     {
         self.slots.request(command)
@@ -65,7 +67,8 @@ impl<O: Object> Replica<O> {
 
     /// A command is decided in a slot.
     pub fn learn(&mut self, slot: Slot, command: Command<O::Op>) -> Result<(), LearnError>
-        ensures state { OnOk result (self.new ≡ record self.old { slots = deciding.learnt self.old.slots slot command }) }
+        ensures state { OnOk result (self.new
+            ≡ record self.old { slots = deciding.learnt self.old.slots slot command }) }
         ensures clash { IsErrOf result LearnError.Clash ↔ deciding.IsClash self.old.slots slot command }
         ensures again { get self.old.slots.decisions slot ≡ Some command → IsOk result }
         ensures err { OnErr result (self.new ≡ self.old) }
@@ -107,8 +110,10 @@ impl<O: Object> Replica<O> {
         out: &mut Vec<Letter<Command<O::Op>>>,
     ) -> Result<bool, AllocError>
         ensures does { IfOk result (λ does. does ≡ is_some (next_proposal self.old.slots)) }
-        ensures state { OnOk result (self.new ≡ record self.old { slots = proposed_next self.old.slots }) }
-        ensures out { OnOk result (out.new.items ≡ out.old.items ++ all_to_all members node (asks_for (next_proposal self.old.slots))) }
+        ensures state { OnOk result (self.new
+            ≡ record self.old { slots = proposed_next self.old.slots }) }
+        ensures out { OnOk result (out.new.items ≡ out.old.items
+            ++ all_to_all members node (asks_for (next_proposal self.old.slots))) }
         ensures err { OnErr result ((self.new ≡ self.old) × (out.new.items ≡ out.old.items)) }
     {
         let len = out.len();
@@ -128,7 +133,8 @@ impl<O: Object> Replica<O> {
         out: &mut Vec<Letter<Command<O::Op>>>,
     ) -> Result<bool, AllocError>
         ensures does { IfOk result (λ does. does ≡ is_some (next_proposal self.old.slots)) }
-        ensures state { OnOk result (self.new ≡ record self.old { slots = proposed_next self.old.slots }) }
+        ensures state { OnOk result (self.new
+            ≡ record self.old { slots = proposed_next self.old.slots }) }
         ensures out { OnOk result (out.new.items
             ≡ out.old.items ++ all_to_all members node (asks_for (next_proposal self.old.slots))) }
         ensures err { OnErr result (self.new ≡ self.old) }
@@ -156,11 +162,16 @@ impl<O: Object> Replica<O> {
         &mut self,
         out: &mut Vec<Answer<O::Reply>>,
     ) -> Result<Option<Performed>, AllocError>
-        ensures slot { IfOk result (λ done. IfSome done (λ p. p.slot ≡ self.old.slots.slot_out)) }
-        ensures key { IfOk result (λ done. option_map (λ p. p.key) done ≡ option_map (λ c. c.key) (deciding.next_decided self.old.slots)) }
-        ensures effect { IfOk result (λ done. IfSome done (λ p. (p.effect ≡ Effect.Done) ↔ (is_later p.key self.old.object.latest ≡ true))) }
-        ensures state { OnOk result (self.new ≡ performed (same_commands O.Op.eq) O.rules.after self.old) }
-        ensures out { OnOk result (out.new.items ≡ out.old.items ++ performed_answers O.rules.answers self.old) }
+        ensures slot { IfOk result (λ done. IfSome done (λ p. p.slot
+            ≡ self.old.slots.slot_out)) }
+        ensures key { IfOk result (λ done. option_map (λ p. p.key) done
+            ≡ option_map (λ c. c.key) (deciding.next_decided self.old.slots)) }
+        ensures effect { IfOk result (λ done. IfSome done (λ p. (p.effect
+            ≡ Effect.Done) ↔ (is_later p.key self.old.object.latest ≡ true))) }
+        ensures state { OnOk result (self.new
+            ≡ performed (same_commands O.Op.eq) O.rules.after self.old) }
+        ensures out { OnOk result (out.new.items ≡ out.old.items
+            ++ performed_answers O.rules.answers self.old) }
         ensures idle { deciding.next_decided self.old.slots ≡ None → result ≡ Ok None }
         ensures err { OnErr result ((self.new ≡ self.old) × (out.new.items ≡ out.old.items)) }
     {
@@ -181,7 +192,8 @@ impl<O: Object> Replica<O> {
         node: u8,
         out: &mut Vec<Letter<Command<O::Op>>>,
     ) -> Result<(), AllocError>
-        ensures ok { OnOk result (out.new.items ≡ out.old.items ++ nudges members node self.now.slots) }
+        ensures ok { OnOk result (out.new.items ≡ out.old.items
+            ++ nudges members node self.now.slots) }
         ensures err { OnErr result (out.new.items ≡ out.old.items) }
     {
         let len = out.len();
@@ -199,7 +211,8 @@ impl<O: Object> Replica<O> {
         node: u8,
         out: &mut Vec<Letter<Command<O::Op>>>,
     ) -> Result<(), AllocError>
-        ensures ok { OnOk result (out.new.items ≡ out.old.items ++ nudges members node self.now.slots) }
+        ensures ok { OnOk result (out.new.items ≡ out.old.items
+            ++ nudges members node self.now.slots) }
         ensures front { take (vec_len out.old) out.new.items ≡ out.old.items }
     {
         self.append_proposals(members, node, out)?;
@@ -213,7 +226,8 @@ impl<O: Object> Replica<O> {
         node: u8,
         out: &mut Vec<Letter<Command<O::Op>>>,
     ) -> Result<(), AllocError>
-        ensures ok { OnOk result (out.new.items ≡ out.old.items ++ all_to_all members node (proposes_again self.now.slots)) }
+        ensures ok { OnOk result (out.new.items ≡ out.old.items
+            ++ all_to_all members node (proposes_again self.now.slots)) }
         ensures front { take (vec_len out.old) out.new.items ≡ out.old.items }
     {
         let proposals = self.slots.proposals();
@@ -231,7 +245,8 @@ impl<O: Object> Replica<O> {
         node: u8,
         out: &mut Vec<Letter<Command<O::Op>>>,
     ) -> Result<(), AllocError>
-        ensures ok { OnOk result (out.new.items ≡ out.old.items ++ asks_others members node self.now.slots.slot_out) }
+        ensures ok { OnOk result (out.new.items ≡ out.old.items
+            ++ asks_others members node self.now.slots.slot_out) }
         ensures front { take (vec_len out.old) out.new.items ≡ out.old.items }
     {
         let Some(slot) = Slot::new(self.slots.slot_out()) else {

@@ -131,7 +131,8 @@ fn note_end(
     len: usize,
 ) -> Result<(), AllocError>
     ensures noted { OnOk result (start starts.new (slot, ballot) (len + 1) ≤ len) }
-    ensures same { (place : ℕ × Numbers) → start starts.new place len ≡ start starts.old place len }
+    ensures same { (place : ℕ × Numbers) → start starts.new place len
+        ≡ start starts.old place len }
 {
     if start(starts, slot, ballot, len) == len {
         starts.insert((slot, ballot), len)?;

@@ -75,8 +75,10 @@ impl<C: Value> Scout<C> {
         ensures says { IfOk result
             (λ heard. heard ≡ (hearing self.old from ballot (fresh_of self.old self.new)).says) }
 
-        ensures adopted { IfOk result (λ heard. (heard ≡ Heard.Adopted) ↔ IsAdopting self.old from ballot) }
-        ensures preempted { IfOk result (λ heard. (heard ≡ Heard.Preempted ballot) ↔ IsPreempting self.old.members self.old.ballot from ballot) }
+        ensures adopted { IfOk result (λ heard. (heard
+            ≡ Heard.Adopted) ↔ IsAdopting self.old from ballot) }
+        ensures preempted { IfOk result (λ heard. (heard
+            ≡ Heard.Preempted ballot) ↔ IsPreempting self.old.members self.old.ballot from ballot) }
         ensures idle { ¬ IsPromising self.old from ballot → IsOk result }
         ensures err { OnErr result (self.new ≡ self.old) }
     {

@@ -52,7 +52,8 @@ impl<O: Object> Carrier<O> {
             → Carries O.rules self.new.world (submitted_to self.old.world) command.now) }
         ensures placed { OnOk result (IsPlaced self.new.world command.now.key) }
         ensures some { IfOk result (λ said. IfSome said (HasReplied self.new.world key)) }
-        ensures none { IfOk result (λ said. IfNone said (HasNotReplied self.old.world key → HasNotReplied self.new.world key)) }
+        ensures none { IfOk result (λ said. IfNone said (HasNotReplied self.old.world key →
+            HasNotReplied self.new.world key)) }
     {
         let seen = self.world.answers().len();
         self.driver.begin();
@@ -75,7 +76,8 @@ impl<O: Object> Carrier<O> {
     }
 
     fn submit(&mut self, command: &Command<O::Op>) -> Result<(), Stopped>
-        ensures { OnOk result ((n : ℕ) × Took O.rules self.old.world (Submit n command.now) self.new.world) }
+        ensures { OnOk result ((n : ℕ)
+            × Took O.rules self.old.world (Submit n command.now) self.new.world) }
     {
         for _ in 0..MOST_EVENTS {
             self.count()?;
@@ -87,7 +89,8 @@ impl<O: Object> Carrier<O> {
     }
 
     fn try_submit(&mut self, command: &Command<O::Op>) -> Result<(), WorldError>
-        ensures ok { OnOk result ((n : ℕ) × Took O.rules self.old.world (Submit n command.now) self.new.world) }
+        ensures ok { OnOk result ((n : ℕ)
+            × Took O.rules self.old.world (Submit n command.now) self.new.world) }
         ensures err { OnErr result (self.new.world ≡ self.old.world) }
     {
         let event = Event::Submit(HOME, command.copy()?);
@@ -169,7 +172,8 @@ impl<O: Object> Carrier<O> {
     fn reply_after(&self, seen: usize, key: Key) -> Result<Option<O::Reply>, Stopped>
         requires { seen ≤ length self.now.world.happenings.answers }
         ensures some { IfOk result (λ said. IfSome said (HasReplied self.now.world key)) }
-        ensures none { IfOk result (λ said. IfNone said ((a : Answer O.Reply) → In a (drop seen self.now.world.happenings.answers) → a.to ≢ key)) }
+        ensures none { IfOk result (λ said. IfNone said ((a : Answer O.Reply) →
+            In a (drop seen self.now.world.happenings.answers) → a.to ≢ key)) }
     {
         match answer_to(&self.world.answers()[seen..], key) {
             Some(answer) => Ok(Some(answer.reply.copy()?)),

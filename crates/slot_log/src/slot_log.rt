@@ -81,7 +81,8 @@ impl<C: Value + Keyed> SlotLog<C> {
     /// The proposals, in rising slot. There are no more than the window has slots.
     pub fn proposals(&self) -> &BTreeMap<Slot, C>
         ensures entries { result.now.entries ≡ map.entries self.now.proposals }
-        ensures near { (s : ℕ) → IsSome (map.get self.now.proposals s) → proposing.IsInWindow self.now.slot_out s }
+        ensures near { (s : ℕ) → IsSome (map.get self.now.proposals s) →
+            proposing.IsInWindow self.now.slot_out s }
     {
         self.proposals.entries()
     }
@@ -123,7 +124,8 @@ impl<C: Value + Keyed> SlotLog<C> {
 
     /// What `propose_next` would take. It takes no memory.
     pub fn next_proposal(&self) -> Option<(Slot, &C)>
-        ensures proposal { option_map (λ p. (p.0, p.1.now)) result ≡ proposing.next_proposal self.now }
+        ensures proposal { option_map (λ p. (p.0, p.1.now)) result
+            ≡ proposing.next_proposal self.now }
         ensures least { IfSome result (λ p. proposing.IsLeastOpen self.now p.0) }
     {
         let command = self.requests.front()?;
@@ -135,7 +137,8 @@ impl<C: Value + Keyed> SlotLog<C> {
     /// where no request waits, or no such slot is left in the window.
     pub fn propose_next(&mut self) -> Result<Option<(Slot, C)>, AllocError>
         ensures state { OnOk result (self.new ≡ proposing.proposed_next self.old) }
-        ensures proposal { IfOk result (λ proposal. proposal ≡ proposing.next_proposal self.old) }
+        ensures proposal { IfOk result (λ proposal. proposal
+            ≡ proposing.next_proposal self.old) }
         ensures idle { proposing.next_proposal self.old ≡ None → IsOk result }
         ensures err { OnErr result (self.new ≡ self.old) }
     {
@@ -180,7 +183,8 @@ impl<C: Value + Keyed> SlotLog<C> {
         ensures state { OnOk result (self.new ≡ deciding.learnt self.old slot command) }
         ensures clash { IsErrOf result LearnError.Clash ↔ deciding.IsClash self.old slot command }
         ensures again { map.get self.old.decisions slot ≡ Some command → IsOk result }
-        ensures unchanged { map.get self.old.decisions slot ≡ Some command → self.new ≡ self.old }
+        ensures unchanged { map.get self.old.decisions slot ≡ Some command → self.new
+            ≡ self.old }
         ensures err { OnErr result (self.new ≡ self.old) }
     {
         match self.decisions.get(slot) {

@@ -124,7 +124,7 @@ reached_gives laws rules w r cs reached a i =
     let count = reached.count in (
       length (kept h.earlier),
       given_place rules h.earlier h.last cs a h.answer
-      (run_within laws w.cluster (reachable_sound laws rules w r) 1 (h.earlier ++ (h.last ∷ [])) cs h.chosen reached.chosen (omega arith)),
+          (run_within laws w.cluster (reachable_sound laws rules w r) 1 (h.earlier ++ (h.last ∷ [])) cs h.chosen reached.chosen (omega arith)),
     )
 
 -- the happenings of a reachable world are legal for its order

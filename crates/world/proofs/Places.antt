@@ -48,8 +48,8 @@ delivered {C} k l y x p letters here has at received =
       x,
       received.0,
       subst (λ v. Receives k.members l.«from» l.to v l.body x received.0) own
-      (subst (λ ms. Receives ms l.«from» l.to y l.body x received.0) speaks
-      (subst (λ n. Receives (members_of y) l.«from» n y l.body x received.0) numbered received.1)),
+          (subst (λ ms. Receives ms l.«from» l.to y l.body x received.0) speaks
+          (subst (λ n. Receives (members_of y) l.«from» n y l.body x received.0) numbered received.1)),
       λ i. record { members = k.members; nodes = (ap (λ j. slice_set k.nodes j x) here ∙ put_at k.nodes l.to x b.0) i; letters = received.2 i },
     )
 

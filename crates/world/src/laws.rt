@@ -27,11 +27,16 @@ use object::Object;
 pub fn every_world<O: Object>()
     ensures opening { (members : List ℕ) → IsWorld O.rules (opening members) }
     ensures next { AfterEach O.rules (λ w v. w.taken < most_events → IsWorld O.rules v) }
-    ensures nodes { InEvery O.rules (λ w. (n : ℕ) → is_member w.cluster.members n ≡ true → HasNode n w.cluster) }
-    ensures boots { InEvery O.rules (λ w. (n : ℕ) → w.taken < most_events → (node w.cluster n).boot < 2 ^ 62) }
-    ensures letters { InEvery O.rules (λ w. (i : ℕ) (l : Letter (Command O.Op)) → slice_get w.cluster.letters i ≡ Some l → IsReceivable w.cluster l) }
-    ensures reach { InEvery O.rules (λ w. (n : ℕ) → (node w.cluster n).replica.slot_out ≤ w.reach + 1) }
-    ensures decided { InEvery O.rules (λ w. (n s : ℕ) (c : Command O.Op) → get (node w.cluster n).replica.decisions s ≡ Some c → IsChosen w.cluster s c) }
+    ensures nodes { InEvery O.rules (λ w. (n : ℕ) → is_member w.cluster.members n ≡ true →
+        HasNode n w.cluster) }
+    ensures boots { InEvery O.rules (λ w. (n : ℕ) → w.taken < most_events →
+        (node w.cluster n).boot < 2 ^ 62) }
+    ensures letters { InEvery O.rules (λ w. (i : ℕ) (l : Letter (Command O.Op)) →
+        slice_get w.cluster.letters i ≡ Some l → IsReceivable w.cluster l) }
+    ensures reach { InEvery O.rules (λ w. (n : ℕ) →
+        (node w.cluster n).replica.slot_out ≤ w.reach + 1) }
+    ensures decided { InEvery O.rules (λ w. (n s : ℕ) (c : Command O.Op) →
+        get (node w.cluster n).replica.decisions s ≡ Some c → IsChosen w.cluster s c) }
     ensures one_command { InEvery O.rules (λ w. HasOneCommand w.cluster) }
     ensures keeps_chosen { InEvery O.rules (λ w. KeepsChosen w.cluster) }
     ensures decides_chosen { InEvery O.rules (λ w. DecidesChosen w.cluster) }

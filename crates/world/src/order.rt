@@ -16,7 +16,8 @@ impl<O: Object> World<O> {
     // The nodes that accepted something under this ballot and slot.
     fn voters(&self, ballot: Ballot, slot: Slot) -> MemberSet
         requires { length self.now.cluster.nodes ≡ length self.now.cluster.members }
-        ensures { (i : ℕ) → slice_index_or result i false ≡ slice_index_or (row self.now.cluster ballot slot) i false }
+        ensures { (i : ℕ) → slice_index_or result i false
+            ≡ slice_index_or (row self.now.cluster ballot slot) i false }
     {
         let nodes = &self.nodes;
         let mut voters = MemberSet::nobody();
@@ -59,8 +60,10 @@ impl<O: Object> World<O> {
     // The value of a pvalue that some node accepted, of this slot and with the votes of a majority.
     fn voted_anywhere(&self, slot: u64) -> Option<&Command<O::Op>>
         requires { length self.now.cluster.nodes ≡ length self.now.cluster.members }
-        ensures some { IfSome result (λ c. (m : ℕ) × HasVoted self.now.cluster (node self.now.cluster m).acceptor.accepted slot c.now) }
-        ensures none { IfNone result ((m : ℕ) → HasNoneVoted self.now.cluster (node self.now.cluster m).acceptor.accepted slot) }
+        ensures some { IfSome result (λ c. (m : ℕ)
+            × HasVoted self.now.cluster (node self.now.cluster m).acceptor.accepted slot c.now) }
+        ensures none { IfNone result ((m : ℕ) →
+            HasNoneVoted self.now.cluster (node self.now.cluster m).acceptor.accepted slot) }
         ensures within { IfSome result (λ c. slot ≤ 2 ^ 62) }
     {
         let nodes = &self.nodes;
@@ -114,7 +117,8 @@ impl<O: Object> World<O> {
     // The command that is chosen in the slot of this number, where there is one.
     fn chosen(&self, slot: u64) -> Option<&Command<O::Op>>
         ensures some { IfSome result (λ c. IsChosen self.now.cluster slot c.now) }
-        ensures none { IfNone result ((c : Command O.Op) → IsChosen self.now.cluster slot c → ⊥) }
+        ensures none { IfNone result ((c : Command O.Op) → IsChosen self.now.cluster slot c →
+            ⊥) }
         ensures within { IfSome result (λ c. slot ≤ 2 ^ 62) }
     {
         let _ = &self.alloc;

@@ -58,11 +58,14 @@ impl<O: Object> Watched<O> {
     ) -> Result<Outcome, AllocError>
         requires { IsAble self.old deed }
         ensures state { OnOk result (self.new ≡ (own_turn O.rules self.old deed).state) }
-        ensures sent { OnOk result (sent.new.items ≡ sent.old.items ++ (own_turn O.rules self.old deed).sent) }
-        ensures answers { OnOk result (answers.new.items ≡ answers.old.items ++ (own_turn O.rules self.old deed).answers) }
+        ensures sent { OnOk result (sent.new.items ≡ sent.old.items
+            ++ (own_turn O.rules self.old deed).sent) }
+        ensures answers { OnOk result (answers.new.items ≡ answers.old.items
+            ++ (own_turn O.rules self.old deed).answers) }
         ensures outcome { IfOk result (λ outcome. outcome ≡ outcome_of self.old deed) }
         ensures err { OnErr result (self.new ≡ self.old) }
-        ensures unsaid { OnErr result ((sent.new.items ≡ sent.old.items) × (answers.new.items ≡ answers.old.items)) }
+        ensures unsaid { OnErr result ((sent.new.items ≡ sent.old.items)
+            × (answers.new.items ≡ answers.old.items)) }
     {
         let came = self.node.act(deed, sent, answers)?;
         Ok(came)

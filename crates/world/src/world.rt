@@ -93,8 +93,10 @@ impl<O: Object> World<O> {
     pub fn step(&mut self, event: Event<O::Op>) -> Result<(), WorldError>
         ensures ok { OnOk result (Step O.rules self.old event self.new) }
         ensures err { OnErr result (self.new ≡ self.old) }
-        ensures refused { (r : WorldError) → refusal O.Op.eq self.old event ≡ Some r → result ≡ Err r }
-        ensures memory { refusal O.Op.eq self.old event ≡ None → IfErr result (λ r. r ≡ OutOfMemory) }
+        ensures refused { (r : WorldError) → refusal O.Op.eq self.old event ≡ Some r → result
+            ≡ Err r }
+        ensures memory { refusal O.Op.eq self.old event ≡ None →
+            IfErr result (λ r. r ≡ OutOfMemory) }
         ensures one_command { HasOneCommand self.new.cluster }
         ensures keeps_chosen { KeepsChosen self.new.cluster }
         ensures chooses_one { ChoosesOne self.new.cluster }
@@ -168,7 +170,8 @@ impl<O: Object> World<O> {
     fn take_copy(&mut self, event: &Event<O::Op>) -> Result<(), WorldError>
         ensures ok { OnOk result (Step O.rules self.old event.now self.new) }
         ensures err { OnErr result (self.new ≡ self.old) }
-        ensures refused { IfErr result (λ r. (r ≡ OutOfMemory) ⊎ (refusal O.Op.eq self.old event.now ≡ Some r)) }
+        ensures refused { IfErr result (λ r. (r ≡ OutOfMemory)
+            ⊎ (refusal O.Op.eq self.old event.now ≡ Some r)) }
         ensures stays { StaysChosen self.old.cluster self.new.cluster }
         ensures later { IsLater self.old self.new }
     {

@@ -58,7 +58,8 @@ impl<C: Value> Leader<C> {
         proposals: &SlotMap<C>,
         out: &mut Vec<Letter<C>>,
     ) -> Result<SlotMap<Commander<C>>, AllocError>
-        ensures commanders { IfOk result (λ commanders. commanders ≡ commanders_for self.now proposals.now) }
+        ensures commanders { IfOk result (λ commanders. commanders
+            ≡ commanders_for self.now proposals.now) }
         ensures out { OnOk result (Sends self.now (asks_for self.now proposals.now) out.old.items out.new.items) }
         ensures err { OnErr result (out.new.items ≡ out.old.items) }
     {
@@ -76,7 +77,8 @@ impl<C: Value> Leader<C> {
         proposals: &SlotMap<C>,
         out: &mut Vec<Letter<C>>,
     ) -> Result<SlotMap<Commander<C>>, AllocError>
-        ensures commanders { IfOk result (λ commanders. commanders ≡ commanders_for self.now proposals.now) }
+        ensures commanders { IfOk result (λ commanders. commanders
+            ≡ commanders_for self.now proposals.now) }
         ensures out { OnOk result (Sends self.now (asks_for self.now proposals.now) out.old.items out.new.items) }
         ensures front { take (vec_len out.old) out.new.items ≡ out.old.items }
     {

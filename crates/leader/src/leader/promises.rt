@@ -24,7 +24,8 @@ impl<C: Value> Leader<C> {
     ) -> Result<(), LeaderError>
         ensures hears { OnOk result
             (HearsP1b self.old from ballot report.now self.new out.old.items out.new.items) }
-        ensures no_ballot { (result ≡ Err LeaderError.NoBallotLeft) ↔ (IsSome self.old.scout × LeavesNoBallot self.old from ballot) }
+        ensures no_ballot { (result ≡ Err LeaderError.NoBallotLeft) ↔ (IsSome self.old.scout
+            × LeavesNoBallot self.old from ballot) }
         ensures idle { self.old.scout ≡ None → IsOk result }
         ensures err { OnErr result ((self.new ≡ self.old) × (out.new.items ≡ out.old.items)) }
     {

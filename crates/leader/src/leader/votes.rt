@@ -23,7 +23,9 @@ impl<C: Value> Leader<C> {
     ) -> Result<(), LeaderError>
         ensures state { OnOk result (self.new ≡ (voting self.old from ballot slot asked).state) }
         ensures out { OnOk result (Sends self.old (voting self.old from ballot slot asked).says out.old.items out.new.items) }
-        ensures no_ballot { (result ≡ Err LeaderError.NoBallotLeft) ↔ (IsSome (slots.get self.old.commanders slot) × ((b : Numbers) × (ballot ≡ Some b) × LeavesNoBallot self.old from b)) }
+        ensures no_ballot { (result
+            ≡ Err LeaderError.NoBallotLeft) ↔ (IsSome (slots.get self.old.commanders slot)
+            × ((b : Numbers) × (ballot ≡ Some b) × LeavesNoBallot self.old from b)) }
         ensures idle { slots.get self.old.commanders slot ≡ None → IsOk result }
         ensures err { OnErr result ((self.new ≡ self.old) × (out.new.items ≡ out.old.items)) }
     {
@@ -52,7 +54,8 @@ impl<C: Value> Leader<C> {
         slot: Slot,
         out: &mut Vec<Letter<C>>,
     ) -> Result<(), AllocError>
-        ensures state { OnOk result (self.new ≡ (voting self.old from (Some self.old.ballot) slot self.old.ballot).state) }
+        ensures state { OnOk result (self.new
+            ≡ (voting self.old from (Some self.old.ballot) slot self.old.ballot).state) }
         ensures out { OnOk result (Sends self.old (voting self.old from (Some self.old.ballot) slot self.old.ballot).says out.old.items out.new.items) }
         ensures err { OnErr result ((self.new ≡ self.old) × (out.new.items ≡ out.old.items)) }
     {
