@@ -2,18 +2,22 @@
 use Rattle.std.proofs.Common.{◌≡◌, ℕ, suc, ◌+◌, ◌<◌, ◌≤◌, List, [], ◌∷◌, length, get_or, drop, drop-cons, add-one, inl, inr, refl, sym, ap, subst, ◌∙◌, arith}
 use Rattle.object.specs.Lists.{In}
 use Rattle.object.specs.declared.command.Submission.{Submission}
-use Rattle.chronicle.specs.Timelines.{ComeInOrder, ComeWithin, IsTimeline}
+use Rattle.object.specs.Happenings.{ComeInOrder, Happenings, IsTimeline}
+
+-- none comes after more answers than these
+abbrev pub ComeWithin : {Op : Type 0} → ℕ → List (Submission Op) → Type 0
+ComeWithin {Op} given submitted = (s : Submission Op) → In s submitted → s.after ≤ given
 
 pub record ComeBetween {Op : Type 0} (low high : ℕ) (submitted : List (Submission Op)) : Type 0 where
   pub above : (s : Submission Op) → In s submitted → low ≤ s.after
   pub within : ComeWithin high submitted
   pub ordered : ComeInOrder submitted
 
-pub between_timeline : {Op : Type 0} (submitted : List (Submission Op)) (given : ℕ) → IsTimeline submitted given → ComeBetween 0 given submitted
-between_timeline submitted given t = record { above = λ s i. omega arith; within = t.within; ordered = t.ordered }
+pub between_timeline : {Op Reply : Type 0} (h : Happenings Op Reply) → IsTimeline h → ComeBetween 0 (length h.answers) h.submitted
+between_timeline h t = record { above = λ s i. omega arith; within = t.within; ordered = t.ordered }
 
-pub timeline_between : {Op : Type 0} (submitted : List (Submission Op)) (given : ℕ) → ComeBetween 0 given submitted → IsTimeline submitted given
-timeline_between submitted given b = record { ordered = b.ordered; within = b.within }
+pub timeline_between : {Op Reply : Type 0} (h : Happenings Op Reply) → ComeBetween 0 (length h.answers) h.submitted → IsTimeline h
+timeline_between h b = record { ordered = b.ordered; within = b.within }
 
 pub between_none : {Op : Type 0} (low high : ℕ) → ComeBetween {Op = Op} low high []
 between_none low high = record { above = λ s i. absurd i; within = λ s i. absurd i; ordered = tt }

@@ -118,7 +118,7 @@ back c is fits =
     let all = happened_back hs c.order (fits_happenings 0 c.submitted c.answers fits.submitted fits.answers) in
     let order = ordered_back hs c.order fits.order in
     let total : length c.answers ≡ 0 + length c.answers = omega arith in
-    let submitted = ap (submissions_of 0) all ∙ submissions_back (length c.answers) 0 c.submitted c.answers total (between_timeline c.submitted (length c.answers) is.timeline) in
+    let submitted = ap (submissions_of 0) all ∙ submissions_back (length c.answers) 0 c.submitted c.answers total (between_timeline (record { submitted = c.submitted; answers = c.answers }) is.timeline) in
     let answers = ap answers_of all ∙ answers_back 0 c.submitted c.answers in
     built (counted (lines c)) c.members _ c.submitted _ c.answers _ c.order members submitted answers order
 

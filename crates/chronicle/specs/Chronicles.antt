@@ -1,9 +1,9 @@
 -- What happened in a run of nodes.
-use Rattle.std.specs.Prelude.{ℕ, ◌<◌, ◌≤◌, List, length}
+use Rattle.std.specs.Prelude.{ℕ, ◌<◌, ◌≤◌, List}
 use Rattle.object.specs.declared.command.Answer.{Answer}
 use Rattle.object.specs.declared.command.Key.{Key}
 use Rattle.object.specs.declared.command.Submission.{Submission}
-use Rattle.chronicle.specs.Timelines.{IsTimeline}
+use Rattle.object.specs.Happenings.{IsTimeline}
 
 -- how many members there are, the first submission of each key, the answers that were given, and the keys of the commands
 -- that counted, in the order in which they took effect
@@ -17,4 +17,4 @@ pub record Chronicle (Op Reply : Type 0) : Type 0 where
 pub record IsChronicle {Op Reply : Type 0} (c : Chronicle Op Reply) : Type 0 where
   pub some : 0 < c.members
   pub few : c.members ≤ 7
-  pub timeline : IsTimeline c.submitted (length c.answers)
+  pub timeline : IsTimeline (record { submitted = c.submitted; answers = c.answers })

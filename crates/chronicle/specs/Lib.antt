@@ -1,4 +1,3 @@
-pub mod Timelines
 pub mod Chronicles
 pub mod Happenings
 pub mod Lines

@@ -53,7 +53,7 @@ impl<Op: Value, Reply: Value> Chronicle<Op, Reply> {
             (IsChronicle (record { members = members; submitted = submitted.items; answers = answers.items; order = order.items }))
             (record { members = members; submitted = submitted.items; answers = answers.items; order = order.items }) }
     {
-        if members < 1 || members > 7 || !is_timeline(&submitted, answers.len()) {
+        if members < 1 || members > 7 || !is_timeline(&submitted, &answers) {
             return None;
         }
         Some(Chronicle {

@@ -1,13 +1,15 @@
 ghost use Rattle.std.specs.Prelude.{IsTrue, ◌↔◌};
-ghost use Rattle.chronicle.specs.Timelines.{IsTimeline};
+ghost use Rattle.object.specs.Happenings.{IsTimeline};
 
-use object::Submission;
+use object::{Answer, Submission};
 
-/// Whether the submissions and so many answers are one list in time: no submission comes before an earlier one, and none
+/// Whether the submissions and the answers are one list in time: no submission comes before an earlier one, and none
 /// after more answers than these.
-pub fn is_timeline<Op>(submitted: &[Submission<Op>], given: usize) -> bool
-    ensures { IsTrue result ↔ IsTimeline submitted.now given }
+pub fn is_timeline<Op, Reply>(submitted: &[Submission<Op>], answers: &[Answer<Reply>]) -> bool
+    ensures { IsTrue result ↔
+        IsTimeline (record { submitted = submitted.now; answers = answers.now }) }
 {
+    let given = answers.len();
     let mut before = 0;
     for submission in submitted {
         if submission.after < before || submission.after > given {

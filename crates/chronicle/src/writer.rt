@@ -1,9 +1,9 @@
-ghost use Rattle.std.specs.Prelude.{◌≡◌, ◌++◌, take, vec_len, length, OnOk, OnErr};
+ghost use Rattle.std.specs.Prelude.{◌≡◌, ◌++◌, take, vec_len, OnOk, OnErr};
 ghost use Rattle.std.specs.List.{flat_map};
 ghost use Rattle.chronicle.specs.Chronicles.{IsChronicle};
 ghost use Rattle.chronicle.specs.Dump.{answer_line, order_line, happening_line, dump_text};
 ghost use Rattle.chronicle.specs.Happenings.{happenings};
-ghost use Rattle.chronicle.specs.Timelines.{IsTimeline};
+ghost use Rattle.object.specs.Happenings.{IsTimeline};
 
 use crate::chronicle::Chronicle;
 use crate::lines::{
@@ -47,7 +47,7 @@ fn append_happenings(
     answers: &[Answer<Reply>],
     out: &mut Vec<u8>,
 ) -> Result<(), AllocError>
-    requires { IsTimeline submitted.now (length answers.now) }
+    requires { IsTimeline (record { submitted = submitted.now; answers = answers.now }) }
     ensures ok { OnOk result (out.new.items ≡ out.old.items ++
         flat_map happening_line (happenings submitted.now answers.now)) }
     ensures front { take (vec_len out.old) out.new.items ≡ out.old.items }

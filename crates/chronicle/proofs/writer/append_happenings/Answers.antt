@@ -12,7 +12,7 @@ pub loop-submission-init : goal.loop-submission-init
 loop-submission-init c = record {
   told = refl;
   grown = ([], search rules);
-  between = between_timeline c.args.submitted.now (length c.args.answers.now) c.requires;
+  between = between_timeline (record { submitted = c.args.submitted.now; answers = c.args.answers.now }) c.requires;
   within = omega arith;
 }
 
