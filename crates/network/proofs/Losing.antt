@@ -5,13 +5,11 @@ use Rattle.std.proofs.lemmas.Bool.{false≢true}
 use Rattle.std.proofs.lemmas.List.{get_or_default}
 use Rattle.object.specs.Lists.{In}
 use Rattle.ballot.specs.declared.letter.Letter.{Letter}
-use Rattle.ballot.specs.Members.{is_member}
 use Rattle.node.specs.Nodes.{NodeState}
-use Rattle.network.proofs.Sent.{member_bounds}
 use Rattle.network.specs.Networks.{NetworkState, mail_in, mail_of, has_mail, front, letters_to, put_mail, posted, without_front}
 use Rattle.network.specs.Posting.{AreBetween, IsPost, IsNetwork, but_first}
 use Rattle.network.proofs.Posts.{length-posted, posted_at, posted_put, first_dropped, in_at, post_put}
-use Rattle.network.proofs.Turned.{seen, own_member, within_mails, set_again}
+use Rattle.network.proofs.Turned.{seen, IsPlace, low, within_mails, set_again}
 use Rattle.network.proofs.Delivering.{mail_at, put_mail_at}
 
 front_and : {C : Type 0} (m ys : List (Letter C)) → is_some (front m) ≡ true → (is_some (front (m ++ ys)) ≡ true) × (drop 1 (m ++ ys) ≡ drop 1 m ++ ys)
@@ -35,15 +33,12 @@ in_behind : {C : Type 0} (xs : List (Letter C)) (l : Letter C) → In l (drop 1 
 in_behind [] l at = at
 in_behind (x ∷ xs) l at = inr at
 
-module _ {C : Type 0} (members : List ℕ) (nodes : List (NodeState C)) (mails : List (List (Letter C))) (fresh : List (Letter C)) (k : NetworkState C) (is : seen members nodes mails fresh ≡ k) (whole : IsNetwork members nodes mails fresh) (n p : ℕ) (place : p ≡ n - 1) (member : is_member k.members n ≡ true) (m : List (Letter C)) (at : m ≡ slice_index_or mails p m) where
-  low : 1 ≤ n
-  low = (member_bounds members n (own_member members nodes mails fresh k is whole n p place member)).0
-
+module _ {C : Type 0} {members : List ℕ} {nodes : List (NodeState C)} {mails : List (List (Letter C))} {fresh : List (Letter C)} {k : NetworkState C} {n p : ℕ} (h : IsPlace members nodes mails fresh k n p) (m : List (Letter C)) (at : m ≡ slice_index_or mails p m) where
   there : p < length mails
-  there = within_mails members nodes mails fresh k is whole n p place member
+  there = within_mails h
 
   next : 1 + p ≡ n
-  next = omega (arith, place, low)
+  next = let l = low h in omega (arith, h.place, l)
 
   its_own : slice_index_or mails p [] ≡ m
   its_own = sym (at ∙ get_or_default mails p m [] there)
@@ -51,29 +46,37 @@ module _ {C : Type 0} (members : List ℕ) (nodes : List (NodeState C)) (mails :
   -- what is sorted stands before what isn't
   its_mail : mail_of k n ≡ m ++ letters_to n fresh
   its_mail =
-      ap (λ z. mail_of z n) (sym is)
-      ∙ sym (mail_at (posted fresh mails) n p (slice_index_or (posted fresh mails) p []) place low (subst (λ z. p < z) (sym (length-posted 1 fresh mails)) there) (get_or_default (posted fresh mails) p [] (slice_index_or (posted fresh mails) p []) (subst (λ z. p < z) (sym (length-posted 1 fresh mails)) there)))
+      ap (λ z. mail_of z n) (sym h.is)
+      ∙ sym (mail_at (posted fresh mails) n p (slice_index_or (posted fresh mails) p []) h.place (low h) (subst (λ z. p < z) (sym (length-posted 1 fresh mails)) there) (get_or_default (posted fresh mails) p [] (slice_index_or (posted fresh mails) p []) (subst (λ z. p < z) (sym (length-posted 1 fresh mails)) there)))
       ∙ posted_at 1 fresh mails p there
       ∙ ap₂ (λ a j. a ++ letters_to j fresh) its_own next
 
   its_letters : AreBetween (length mails) m
-  its_letters = subst (AreBetween (length mails)) its_own (whole.post.mailed (slice_index_or mails p []) (in_at mails p [] there))
+  its_letters = subst (AreBetween (length mails)) its_own (h.whole.post.mailed (slice_index_or mails p []) (in_at mails p [] there))
+
+  -- the mail has a letter
+  pub mail_filled : is_some (front m) ≡ true → true ≡ has_mail k n
+  mail_filled filled = sym (ap (λ z. is_some (front z)) its_mail ∙ (front_and m (letters_to n fresh) filled).0)
+
+  -- it has none
+  mail_rest : is_some (front m) ≡ false → mail_of k n ≡ letters_to n fresh
+  mail_rest empty = its_mail ∙ ap (λ z. z ++ letters_to n fresh) (no_front m empty)
+
+  pub late_does : is_some (front m) ≡ false → (does : Bool) → does ≡ is_some (front (letters_to n fresh)) → does ≡ has_mail k n
+  late_does empty does e = e ∙ sym (ap (λ z. is_some (front z)) (mail_rest empty))
 
   lost_is : (mails' : List (List (Letter C))) (fresh' : List (Letter C)) → posted fresh' mails' ≡ slice_set (posted fresh mails) p (drop 1 (mail_of k n)) → seen members nodes mails' fresh' ≡ without_front k n
   lost_is mails' fresh' e = λ i. record {
-    members = ap (λ z. z.members) is i;
-    nodes = ap (λ z. z.nodes) is i;
-    mails = (e ∙ put_mail_at (posted fresh mails) n p (drop 1 (mail_of k n)) place low ∙ ap (λ z. put_mail z.mails n (drop 1 (mail_of k n))) is) i;
+    members = ap (λ z. z.members) h.is i;
+    nodes = ap (λ z. z.nodes) h.is i;
+    mails = (e ∙ put_mail_at (posted fresh mails) n p (drop 1 (mail_of k n)) h.place (low h) ∙ ap (λ z. put_mail z.mails n (drop 1 (mail_of k n))) h.is) i;
   }
 
   module _ (left : List (Letter C)) (taken : left ≡ drop 1 m) where
     pub put_lost_whole : IsNetwork members nodes (slice_set mails p left) fresh
-    put_lost_whole = record { has_nodes = whole.has_nodes; has_mails = length-set mails p left ∙ whole.has_mails; post = post_put mails fresh p left whole.post (λ l h. its_letters l (in_behind m l (subst (In l) taken h))) }
+    put_lost_whole = record { has_nodes = h.whole.has_nodes; has_mails = length-set mails p left ∙ h.whole.has_mails; seated = h.whole.seated; post = post_put mails fresh p left h.whole.post (λ l i. its_letters l (in_behind m l (subst (In l) taken i))) }
 
     -- the mail had a letter
-    pub lost_does : is_some (front m) ≡ true → true ≡ has_mail k n
-    lost_does filled = sym (ap (λ z. is_some (front z)) its_mail ∙ (front_and m (letters_to n fresh) filled).0)
-
     pub lost_first : is_some (front m) ≡ true → seen members nodes (slice_set mails p left) fresh ≡ without_front k n
     lost_first filled = lost_is (slice_set mails p left) fresh
         (posted_put 1 fresh mails p left
@@ -82,27 +85,22 @@ module _ {C : Type 0} (members : List ℕ) (nodes : List (NodeState C)) (mails :
 
     -- it had none
     module _ (empty : is_some (front m) ≡ false) where
-      mail_rest : mail_of k n ≡ letters_to n fresh
-      mail_rest = its_mail ∙ ap (λ z. z ++ letters_to n fresh) (no_front m empty)
-
       mails_stay : slice_set mails p left ≡ mails
       mails_stay = ap (slice_set mails p) (taken ∙ ap (drop 1) (no_front m empty) ∙ sym (no_front m empty)) ∙ set_again mails p m at
-
-      pub late_does : (does : Bool) → does ≡ is_some (front (letters_to n fresh)) → does ≡ has_mail k n
-      late_does does e = e ∙ sym (ap (λ z. is_some (front z)) mail_rest)
 
       pub lost_late : (fresh' : List (Letter C)) → fresh' ≡ but_first n fresh → seen members nodes (slice_set mails p left) fresh' ≡ without_front k n
       lost_late fresh' e = lost_is (slice_set mails p left) fresh'
           (ap₂ (λ a b. posted a b) e mails_stay
           ∙ first_dropped 1 fresh mails p n (sym next)
-          ∙ ap (slice_set (posted fresh mails) p) (ap (λ z. z ++ drop 1 (letters_to n fresh)) (its_own ∙ no_front m empty) ∙ sym (ap (drop 1) mail_rest)))
+          ∙ ap (slice_set (posted fresh mails) p) (ap (λ z. z ++ drop 1 (letters_to n fresh)) (its_own ∙ no_front m empty) ∙ sym (ap (drop 1) (mail_rest empty))))
 
       pub late_whole : (fresh' : List (Letter C)) → fresh' ≡ but_first n fresh → IsNetwork members nodes (slice_set mails p left) fresh'
       late_whole fresh' e = record {
-        has_nodes = whole.has_nodes;
-        has_mails = length-set mails p left ∙ whole.has_mails;
+        has_nodes = h.whole.has_nodes;
+        has_mails = length-set mails p left ∙ h.whole.has_mails;
+        seated = h.whole.seated;
         post = record {
           mailed = put_lost_whole.post.mailed;
-          unsorted = λ l h. put_lost_whole.post.unsorted l (in_but_first n fresh l (subst (In l) e h));
+          unsorted = λ l i. put_lost_whole.post.unsorted l (in_but_first n fresh l (subst (In l) e i));
         };
       }

@@ -4,10 +4,11 @@ use Rattle.std.specs.List.{range_with_len}
 use Rattle.std.proofs.lemmas.List.FromFn.{map-range_with_len_more}
 use Rattle.object.specs.Lists.{In}
 use Rattle.ballot.specs.declared.letter.Letter.{Letter}
-use Rattle.node.specs.Nodes.{NodeState, new_node}
+use Rattle.node.specs.Nodes.{NodeState, IsSeated, new_node, node_in}
 use Rattle.network.specs.Networks.{new_network}
 use Rattle.network.specs.Posting.{AreBetween, IsNetwork}
 use Rattle.network.proofs.Posts.{none_posted}
+use Rattle.network.proofs.Seats.{new_seated}
 use Rattle.network.proofs.Turned.{seen, none_between}
 
 -- one more
@@ -38,6 +39,7 @@ module _ {C : Type 0} (members : List ℕ) (nodes : List (NodeState C)) (mails :
   opened_whole = record {
     has_nodes = ap length made ∙ length-map-range (new_node members) 1 before ∙ same;
     has_mails = ap length empty ∙ length-map-range (λ _. []) 1 before ∙ same;
+    seated = λ n member. subst (λ z. IsSeated members n (node_in members z n)) (sym made) (new_seated members before n member);
     post = record {
       mailed = λ mail at. subst (AreBetween (length mails)) (sym (empty_mail mail (range_with_len 1 before) (subst (In mail) empty at))) (none_between (length mails));
       unsorted = subst (AreBetween (length mails)) (sym none) (none_between (length mails));

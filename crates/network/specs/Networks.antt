@@ -3,6 +3,10 @@ use Rattle.std.specs.Prelude.{◌≡◌, ℕ, zero, suc, ◌==◌, Bool, is_some
 use Rattle.std.specs.List.{filter}
 use Rattle.ballot.specs.declared.letter.Letter.{Letter}
 use Rattle.ballot.specs.Members.{numbers}
+use Rattle.object.specs.declared.command.Command.{Command}
+use Rattle.object.specs.Objects.{Rules}
+use Rattle.node.specs.Deeds.{Turn, acted}
+use Rattle.node.specs.declared.deed.Deed.{Deed}
 use Rattle.node.specs.Nodes.{NodeState, new_node, node_in, put}
 use Rattle.node.specs.Receiving.{ShowsReceived}
 
@@ -59,6 +63,14 @@ posted letters mails = posted_from 1 letters mails
 abbrev pub turned_net : {C : Type 0} → NetworkState C → ℕ → NodeState C → List (Letter C) → NetworkState C
 turned_net k n x out = record k { nodes = put k.nodes n x; mails = posted out k.mails }
 
+-- what node n becomes, sends and answers by this deed
+abbrev pub turn_of : {O Op Reply : Type 0} → Rules O Op Reply → NetworkState (Command Op) → ℕ → Deed Op → Turn Op Reply
+turn_of rules k n deed = acted rules k.members n (node_of k n) deed
+
+-- node n does this, and what it sends is posted
+abbrev pub acted_net : {O Op Reply : Type 0} → Rules O Op Reply → NetworkState (Command Op) → ℕ → Deed Op → NetworkState (Command Op)
+acted_net rules k n deed = turned_net k n (turn_of rules k n deed).state (turn_of rules k n deed).sent
+
 -- node n's mail loses the letter in front
 abbrev pub without_front : {C : Type 0} → NetworkState C → ℕ → NetworkState C
 without_front k n = record k { mails = put_mail k.mails n (drop 1 (mail_of k n)) }
@@ -72,4 +84,4 @@ abbrev pub IsDelivered : {C : Type 0} → NetworkState C → ℕ → Letter C �
 IsDelivered {C} k n l z =
     (x : NodeState C) × (sent : List (Letter C))
     × (z ≡ turned_net (without_front k n) n x sent)
-    × ShowsReceived k.members l.«from» n (node_of k n) l.body x [] sent
+    × ShowsReceived l.«from» (node_of k n) l.body x [] sent

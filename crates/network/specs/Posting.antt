@@ -1,8 +1,9 @@
 -- What is so of mails, and of letters that aren't sorted into them yet.
-use Rattle.std.specs.Prelude.{◌≡◌, ℕ, ◌≤◌, ◌==◌, if◌then◌else◌, List, [], ◌∷◌, length}
+use Rattle.std.specs.Prelude.{◌≡◌, true, ℕ, ◌≤◌, ◌==◌, if◌then◌else◌, List, [], ◌∷◌, length}
 use Rattle.object.specs.Lists.{In}
 use Rattle.ballot.specs.declared.letter.Letter.{Letter}
-use Rattle.node.specs.Nodes.{NodeState}
+use Rattle.ballot.specs.Members.{is_member}
+use Rattle.node.specs.Nodes.{NodeState, IsSeated, node_in}
 
 -- one of the numbers 1 to count
 abbrev pub IsAmong : ℕ → ℕ → Type 0
@@ -22,10 +23,11 @@ pub record IsPost {C : Type 0} (mails : List (List (Letter C))) (fresh : List (L
   pub mailed : (mail : List (Letter C)) → In mail mails → AreBetween (length mails) mail
   pub unsorted : AreBetween (length mails) fresh
 
--- each member has a node and a mail, and every letter is between members
+-- each member has a node of its number and a mail, and every letter is between members
 pub record IsNetwork {C : Type 0} (members : List ℕ) (nodes : List (NodeState C)) (mails : List (List (Letter C))) (fresh : List (Letter C)) : Type 0 where
   pub has_nodes : length nodes ≡ length members
   pub has_mails : length mails ≡ length members
+  pub seated : (n : ℕ) → is_member members n ≡ true → IsSeated members n (node_in members nodes n)
   pub post : IsPost mails fresh
 
 -- the letters without the first that is to node n

@@ -1,4 +1,4 @@
-ghost use Rattle.std.specs.Prelude.{◌≡◌, ◌++◌, ◌∷◌, [], drop, is_some, true, slice_get, IfOk, OnOk, OnErr, List};
+ghost use Rattle.std.specs.Prelude.{◌≡◌, ◌++◌, ◌∷◌, [], drop, is_some, true, None, Some, IfOk, OnOk, OnErr, IfSome, IfNone, List};
 ghost use Rattle.ballot.specs.declared.letter.Letter.{Letter};
 ghost use Rattle.network.specs.Networks.{front};
 
@@ -50,11 +50,26 @@ impl<C: Value> Mail<C> {
         Ok(())
     }
 
+    /// Whether it has letters.
+    pub(crate) fn has_letters(&self) -> bool
+        ensures { result ≡ is_some (front self.now) }
+    {
+        self.letters.front().is_some()
+    }
+
+    /// The letter in front.
+    pub(crate) fn front(&self) -> Option<&Letter<C>>
+        ensures some { IfSome result (λ letter. front self.now ≡ Some letter.now) }
+        ensures none { IfNone result (front self.now ≡ None) }
+    {
+        self.letters.front()
+    }
+
     /// A copy of the letter in front.
     pub(crate) fn copy_front(&self) -> Result<Option<Letter<C>>, AllocError>
         ensures { IfOk result (λ letter. letter ≡ front self.now) }
     {
-        match self.letters.front() {
+        match self.front() {
             None => Ok(None),
             Some(letter) => Ok(Some(letter.copy()?)),
         }

@@ -76,3 +76,15 @@ pub(crate) fn drop_first<C: Value>(letters: &mut Vec<Letter<C>>, to: u8) -> bool
     }
     false
 }
+
+/// Whether one of these letters is to this node.
+pub(crate) fn has_any<C: Value>(letters: &[Letter<C>], to: u8) -> bool
+    ensures { result ≡ is_some (front (letters_to to letters.now)) }
+{
+    for place in 0..letters.len() {
+        if letters[place].to == to {
+            return true;
+        }
+    }
+    false
+}

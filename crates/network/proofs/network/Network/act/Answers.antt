@@ -1,0 +1,41 @@
+use Rattle.std.proofs.Common.{◌++◌, ap, ◌∙◌, arith}
+use Rattle.node.specs.Deeds.{Turn, outcome_of}
+use Rattle.network.proofs.Turned.{on_err, at_place, within_nodes, node_read, turned_not, stays_quiet}
+use Rattle.network.proofs.Acting.{able, turn_is, acted_whole, acted_ok}
+use Rattle.network.proofs.network.Network.act.Goals as goal
+
+pub index_mut-requires : goal.index_mut-requires
+index_mut-requires g c =
+    let h = within_nodes (at_place c.self.invariant c.self.view_is c.from.ensures c.requires.member) in
+    omega (arith, h, c.self.inside.nodes.ok.0)
+
+pub act-requires : goal.act-requires
+act-requires g c =
+    able g.O.Object.rules (at_place c.self.invariant c.self.view_is c.from.ensures c.requires.member) c.index_mut.result.now c.index_mut.ensures.value c.args.deed c.requires.able
+
+pub invariant_of-self : goal.invariant_of-self
+invariant_of-self g c =
+    stays_quiet (at_place c.self.invariant c.self.view_is c.from.ensures c.requires.member) c.index_mut.result.now c.act.new.self c.act.new.sent.items c.index_mut.ensures.value c.in_err-outcome.ensures.err c.in_err-outcome.ensures.unsaid.0
+
+pub returns-in_err-outcome-clause-err : goal.returns-in_err-outcome-clause-err
+returns-in_err-outcome-clause-err g c = on_err c.from_residual.result
+    (turned_not (at_place c.self.invariant c.self.view_is c.from.ensures c.requires.member) c.index_mut.result.now c.index_mut.ensures.value c.act.new.self c.act.new.sent.items c.in_err-outcome.ensures.err c.in_err-outcome.ensures.unsaid.0)
+
+pub invariant_of-self-2 : goal.invariant_of-self-2
+invariant_of-self-2 g c =
+    acted_whole g.O.Object.rules (at_place c.self.invariant c.self.view_is c.from.ensures c.requires.member) c.index_mut.result.now c.index_mut.ensures.value c.args.deed c.act.new.self c.act.new.sent.items c.in_ok-outcome.ensures.state c.in_ok-outcome.ensures.sent
+
+pub returns-clause-ok : goal.returns-clause-ok
+returns-clause-ok g c =
+    c.settle.ensures
+    ∙ acted_ok g.O.Object.rules (at_place c.self.invariant c.self.view_is c.from.ensures c.requires.member) c.index_mut.result.now c.index_mut.ensures.value c.args.deed c.act.new.self c.act.new.sent.items c.in_ok-outcome.ensures.state c.in_ok-outcome.ensures.sent
+
+pub returns-clause-answers : goal.returns-clause-answers
+returns-clause-answers g c =
+    c.in_ok-outcome.ensures.answers
+    ∙ ap (λ (t : Turn g.row.O-Op.Denot g.row.O-Reply.Denot). c.args.answers.now.items ++ t.answers) (turn_is g.O.Object.rules (at_place c.self.invariant c.self.view_is c.from.ensures c.requires.member) c.index_mut.result.now c.index_mut.ensures.value c.args.deed)
+
+pub returns-clause-outcome : goal.returns-clause-outcome
+returns-clause-outcome g c =
+    c.in_ok-outcome.ensures.outcome
+    ∙ ap (λ z. outcome_of z c.args.deed) (node_read (at_place c.self.invariant c.self.view_is c.from.ensures c.requires.member) c.index_mut.result.now c.index_mut.ensures.value)
