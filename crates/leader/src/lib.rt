@@ -5,8 +5,6 @@ mod commanding;
 mod error;
 mod greatest;
 mod leader;
-#[cfg(test)]
-mod tests;
 
 pub use error::LeaderError;
 pub use leader::Leader;

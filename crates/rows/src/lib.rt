@@ -9,6 +9,8 @@ mod fault_rows;
 #[cfg(test)]
 mod job_rows;
 #[cfg(test)]
+mod leader_rows;
+#[cfg(test)]
 mod node_rows;
 #[cfg(test)]
 mod pipe_rows;
@@ -20,5 +22,7 @@ mod replica_rows;
 mod schedule_rows;
 #[cfg(test)]
 mod session_rows;
+#[cfg(test)]
+mod slot_rows;
 #[cfg(test)]
 mod stream_rows;

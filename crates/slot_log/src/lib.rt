@@ -4,8 +4,6 @@
 mod errors;
 mod places;
 mod slot_log;
-#[cfg(test)]
-mod tests;
 
 pub use errors::LearnError;
 pub use slot_log::SlotLog;

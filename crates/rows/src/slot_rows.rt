@@ -1,6 +1,6 @@
-use crate::{LearnError, SlotLog};
 use ballot::Slot;
 use object::{Act, Command, Key, Value};
+use slot_log::{LearnError, SlotLog};
 use std::alloc::AllocError;
 use std::test::Fail;
 

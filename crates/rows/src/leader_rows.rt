@@ -1,5 +1,5 @@
-use crate::{Leader, LeaderError};
 use ballot::{Ballot, Body, Letter, Members, Pvalue, Slot};
+use leader::{Leader, LeaderError};
 use object::Value;
 use std::alloc::{AllocError, Global};
 use std::test::Fail;
