@@ -3,9 +3,10 @@ use Rattle.std.proofs.Common.{◌≡◌, Bool, true, false, not, cond, ◌||◌,
 use Rattle.std.proofs.lemmas.Bool.{false≢true, false_from_ne_true}
 use Rattle.std.proofs.lemmas.List.Elements.{filter-append}
 use Rattle.object.specs.declared.command.Key.{Key}
-use Rattle.recorder.specs.Keys.{same_key, stands, KeysOnce}
+use Rattle.object.specs.Keys.{same_key, stands, KeysOnce}
 use Rattle.recorder.specs.Firsts.{others, firsts, CutsBefore}
 use Rattle.recorder.proofs.Same.{same_is, same_turned}
+use Rattle.recorder.proofs.Onces.{first_lacks, once_first}
 
 module _ {X : Type 0} where
   -- two filters in either order
@@ -75,7 +76,7 @@ module _ {X : Type 0} (key_of : X → Key) where
   -- where no key stands twice, each item is a first
   pub firsts_all : (xs : List X) → KeysOnce key_of xs → firsts key_of xs ≡ xs
   firsts_all [] h = refl
-  firsts_all (x ∷ xs) h = ap (λ zs. x ∷ zs) (ap (others key_of (key_of x)) (firsts_all xs h.1) ∙ others_all (key_of x) xs h.0)
+  firsts_all (x ∷ xs) h = ap (λ zs. x ∷ zs) (ap (others key_of (key_of x)) (firsts_all xs h.1) ∙ others_all (key_of x) xs (first_lacks key_of x xs h))
 
   others_lack : (k : Key) (xs : List X) → stands key_of k (others key_of k xs) ≡ false
   others_lack k [] = refl
@@ -103,14 +104,16 @@ module _ {X : Type 0} (key_of : X → Key) where
   filter_once p [] h = tt
   filter_once p (x ∷ xs) h =
       elim (p x) as (λ b. KeysOnce key_of (cond b (x ∷ filter p xs) (filter p xs))) [
-        | true ↦ (filter_lacks p (key_of x) xs h.0, filter_once p xs h.1)
+        | true ↦ once_first key_of x (filter p xs) (filter_lacks p (key_of x) xs (first_lacks key_of x xs h)) (filter_once p xs h.1)
         | false ↦ filter_once p xs h.1
       ]
 
   -- among the firsts no key stands twice
   pub firsts_once : (xs : List X) → KeysOnce key_of (firsts key_of xs)
   firsts_once [] = tt
-  firsts_once (x ∷ xs) = (others_lack (key_of x) (firsts key_of xs), filter_once (λ y. not (same_key (key_of y) (key_of x))) (firsts key_of xs) (firsts_once xs))
+  firsts_once (x ∷ xs) =
+      once_first key_of x (others key_of (key_of x) (firsts key_of xs)) (others_lack (key_of x) (firsts key_of xs))
+      (filter_once (λ y. not (same_key (key_of y) (key_of x))) (firsts key_of xs) (firsts_once xs))
 
   -- the others of one item or of none
   other_last : (k : Key) (y : X) (b : Bool) → others key_of k (cond b [] (y ∷ [])) ≡ cond (same_key k (key_of y) || b) [] (y ∷ [])

@@ -1,5 +1,9 @@
 pub mod Same
+pub mod Onces
 pub mod Places
 pub mod Cuts
-pub mod Adds
 pub mod Times
+pub mod Counts
+pub mod Rows
+pub mod Steps
+pub mod LookUps

@@ -5,21 +5,14 @@ use Rattle.std.proofs.lemmas.List.Folds.{list_any-append}
 use Rattle.std.specs.List.{slice_get}
 use Rattle.std.specs.Option.{is_some, option_map, option_and_then}
 use Rattle.object.specs.declared.command.Key.{Key}
-use Rattle.recorder.specs.Keys.{same_key, stands, found, place_of, KeysOnce}
+use Rattle.object.specs.Keys.{same_key, stands, found, place_of, KeysOnce}
 use Rattle.recorder.proofs.Same.{same_is, is_same, same_turned}
-
-fst_false : (a b : Bool) → (a || b) ≡ false → a ≡ false
-fst_false true b h = cc
-fst_false false b h = refl
-
-snd_false : (a b : Bool) → (a || b) ≡ false → b ≡ false
-snd_false true b h = cc
-snd_false false b h = h
+use Rattle.recorder.proofs.Onces.{fst_false, snd_false, first_lacks, once_first}
 
 or_falses : (a b : Bool) → a ≡ false → b ≡ false → (a || b) ≡ false
 or_falses a b h g = ap (λ c. c || b) h ∙ g
 
-or_nil : (b : Bool) → (b || false) ≡ b
+pub or_nil : (b : Bool) → (b || false) ≡ b
 or_nil true = refl
 or_nil false = refl
 
@@ -91,20 +84,20 @@ module _ {X : Type 0} (key_of : X → Key) where
 
   -- no key stands twice with an item of a new key
   pub once_more : (xs : List X) (y : X) → KeysOnce key_of xs → stands key_of (key_of y) xs ≡ false → KeysOnce key_of (xs ++ y ∷ [])
-  once_more [] y once new = (refl, tt)
-  once_more (x ∷ xs) y once new = (
-    stands_more (key_of x) xs y
-        ∙ or_falses (stands key_of (key_of x) xs) (same_key (key_of y) (key_of x)) once.0 (same_turned (key_of y) (key_of x) ∙ fst_false (same_key (key_of x) (key_of y)) (stands key_of (key_of y) xs) new),
-    once_more xs y once.1 (snd_false (same_key (key_of x) (key_of y)) (stands key_of (key_of y) xs) new),
-  )
+  once_more [] y once new = once_first key_of y [] refl tt
+  once_more (x ∷ xs) y once new =
+      once_first key_of x (xs ++ y ∷ [])
+      (stands_more (key_of x) xs y
+      ∙ or_falses (stands key_of (key_of x) xs) (same_key (key_of y) (key_of x)) (first_lacks key_of x xs once) (same_turned (key_of y) (key_of x) ∙ fst_false (same_key (key_of x) (key_of y)) (stands key_of (key_of y) xs) new))
+      (once_more xs y once.1 (snd_false (same_key (key_of x) (key_of y)) (stands key_of (key_of y) xs) new))
 
   -- nor without the last item, whose key doesn't stand before it
   pub once_less : (xs : List X) (y : X) → KeysOnce key_of (xs ++ y ∷ []) → KeysOnce key_of xs × (stands key_of (key_of y) xs ≡ false)
   once_less [] y once = (tt, refl)
   once_less (x ∷ xs) y once =
       let inner = once_less xs y once.1 in
-      let none = sym (stands_more (key_of x) xs y) ∙ once.0 in (
-        (fst_false (stands key_of (key_of x) xs) (same_key (key_of y) (key_of x)) none, inner.0),
+      let none = sym (stands_more (key_of x) xs y) ∙ first_lacks key_of x (xs ++ y ∷ []) once in (
+        once_first key_of x xs (fst_false (stands key_of (key_of x) xs) (same_key (key_of y) (key_of x)) none) inner.0,
         or_falses (same_key (key_of x) (key_of y)) (stands key_of (key_of y) xs)
             (same_turned (key_of x) (key_of y) ∙ snd_false (stands key_of (key_of x) xs) (same_key (key_of y) (key_of x)) none) inner.1,
       )

@@ -6,8 +6,7 @@ use Rattle.std.specs.Ordering.{nat_cmp, ordering_then, is_eq}
 use Rattle.std.specs.Cmp.{nat_cmp_total, tied_itself, unsigned_tied}
 use Rattle.std.specs.declared.cmp.Ordering.{Ordering}
 use Rattle.object.specs.declared.command.Key.{Key}
-use Rattle.recorder.specs.Keys.{same_key}
-use Rattle.recorder.specs.Kept.{key_cmp}
+use Rattle.object.specs.Keys.{same_key, key_cmp}
 
 then_equal : (x y : Ordering) → ordering_then x y ≡ Equal → (x ≡ Equal) × (y ≡ Equal)
 then_equal Less y h = cc

@@ -2,7 +2,7 @@
 use Rattle.std.proofs.Common.{◌≡◌, ◌≤◌, ℕ, ◌⊎◌, inl, inr, List, [], ◌∷◌, ◌++◌, refl, sym, ap, subst, ◌∙◌, arith}
 use Rattle.object.specs.Lists.{In}
 use Rattle.object.specs.declared.command.Submission.{Submission}
-use Rattle.recorder.specs.Records.{ComeInOrder}
+use Rattle.object.specs.Happenings.{ComeInOrder}
 
 -- what stands in a list with one more at its end
 pub in_more : {X : Type 0} (xs : List X) (y z : X) → In z (xs ++ y ∷ []) → In z xs ⊎ (z ≡ y)

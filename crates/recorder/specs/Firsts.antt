@@ -1,7 +1,7 @@
 -- The first item of each key in a list.
 use Rattle.std.specs.Prelude.{◌≡◌, not, List, [], ◌∷◌, ◌++◌, filter}
 use Rattle.object.specs.declared.command.Key.{Key}
-use Rattle.recorder.specs.Keys.{same_key}
+use Rattle.object.specs.Keys.{same_key}
 
 -- the items with another key
 abbrev pub others : {X : Type 0} → (X → Key) → Key → List X → List X

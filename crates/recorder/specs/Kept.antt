@@ -1,14 +1,8 @@
 -- How a list of items is kept beside the places of its keys.
 use Rattle.std.specs.Prelude.{◌≡◌, ℕ, List}
-use Rattle.std.specs.Ordering.{nat_cmp, ordering_then}
-use Rattle.std.specs.declared.cmp.Ordering.{Ordering}
 use Rattle.std.specs.BTreeMap.{BTreeMap, get}
 use Rattle.object.specs.declared.command.Key.{Key}
-use Rattle.recorder.specs.Keys.{place_of, KeysOnce}
-
--- keys in order: by session, and then by number
-abbrev pub key_cmp : Key → Key → Ordering
-key_cmp a b = ordering_then (nat_cmp a.session b.session) (nat_cmp a.number b.number)
+use Rattle.object.specs.Keys.{key_cmp, place_of, KeysOnce}
 
 -- no key stands twice, and the map has for each key the place of its item, and nothing else
 pub record IsIndexed {X : Type 0} (key_of : X → Key) (places : BTreeMap Key ℕ) (items : List X) : Type 0 where

@@ -1,4 +1,4 @@
-pub mod Keys
 pub mod Firsts
 pub mod Records
 pub mod Kept
+pub mod Fates

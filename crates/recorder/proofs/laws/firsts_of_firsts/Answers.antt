@@ -1,4 +1,4 @@
-use Rattle.recorder.specs.Records.{answered_key}
+use Rattle.object.specs.Answers.{answered_key}
 use Rattle.recorder.proofs.Cuts.{cuts_before, firsts_once, firsts_all}
 use Rattle.recorder.proofs.laws.firsts_of_firsts.Goals as goal
 

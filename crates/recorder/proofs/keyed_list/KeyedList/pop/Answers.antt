@@ -1,13 +1,13 @@
 use Rattle.std.proofs.Common.{◌≡◌, cond, List, [], ◌∷◌, ◌++◌, None, ap₂, subst, ◌∙◌}
 use Rattle.object.specs.declared.command.Key.{Key}
-use Rattle.recorder.specs.Keys.{same_key, place_of, KeysOnce}
+use Rattle.object.specs.Keys.{same_key, place_of, KeysOnce}
 use Rattle.recorder.proofs.Places.{place_less, once_less}
 use Rattle.recorder.proofs.Same.{tied_is_same}
 use Rattle.recorder.proofs.keyed_list.KeyedList.pop.Goals as goal
 
 pub invariant_of-self : goal.invariant_of-self
 invariant_of-self g c =
-    let key_of = g.X.Happening.key_of in
+    let key_of = g.X.Keyed.key_of in
     let left = c.pop.new.self.items in
     let item = c.in-Some.item in
     let all : c.self.inside.items.items ≡ left ++ item ∷ [] = c.in-Some.ensures.items in

@@ -1,13 +1,13 @@
-use Rattle.std.proofs.Common.{◌≡◌, cond, length, [], ◌∷◌, ◌++◌, Some, ap, ap₂, sym, subst, ◌∙◌}
+use Rattle.std.proofs.Common.{◌≡◌, cond, [], ◌∷◌, ◌++◌, Some, ap, ap₂, sym, subst, ◌∙◌}
 use Rattle.object.specs.declared.command.Key.{Key}
-use Rattle.recorder.specs.Keys.{same_key, stands, place_of, KeysOnce}
+use Rattle.object.specs.Keys.{same_key, stands, place_of, KeysOnce}
 use Rattle.recorder.proofs.Places.{place_more, once_more}
 use Rattle.recorder.proofs.Same.{tied_is_same}
 use Rattle.recorder.proofs.keyed_list.KeyedList.push.Goals as goal
 
 pub invariant_of-self-2 : goal.invariant_of-self-2
 invariant_of-self-2 g c =
-    let key_of = g.X.Happening.key_of in
+    let key_of = g.X.Keyed.key_of in
     let old = c.self.inside.items.items in
     let new = ap (stands key_of (key_of c.args.item)) c.self.view_is ∙ c.requires in
     let items : c.push_reserved.new.self.items ≡ old ++ c.args.item ∷ [] = c.push_reserved.ensures.items ∙ ap (λ xs. xs ++ c.args.item ∷ []) c.in_ok-reserve.ensures.items in
@@ -15,7 +15,7 @@ invariant_of-self-2 g c =
       at = λ q.
           c.in_ok-insert.ensures.updates.0 q
           ∙ ap₂ (λ b o. cond b (Some c.len-place.result) o) (tied_is_same c.key.result q) (c.self.invariant.at q)
-          ∙ ap₂ (λ (k : Key) n. cond (same_key k q) (Some n) (place_of key_of q old)) c.key.ensures (c.len-place.ensures ∙ ap length (sym c.self.view_is))
+          ∙ ap₂ (λ (k : Key) n. cond (same_key k q) (Some n) (place_of key_of q old)) c.key.ensures (c.len-place.ensures ∙ c.self.inside.items.ok.0)
           ∙ sym (place_more key_of c.args.item q old new)
           ∙ ap (place_of key_of q) (sym items);
       once = subst (KeysOnce key_of) (sym items) (once_more key_of old c.args.item c.self.invariant.once new);
@@ -23,7 +23,7 @@ invariant_of-self-2 g c =
 
 pub returns-clause-once : goal.returns-clause-once
 returns-clause-once g c =
-    let key_of = g.X.Happening.key_of in
+    let key_of = g.X.Keyed.key_of in
     let old = c.self.inside.items.items in
     let new = ap (stands key_of (key_of c.args.item)) c.self.view_is ∙ c.requires in
     let items : c.push_reserved.new.self.items ≡ old ++ c.args.item ∷ [] = c.push_reserved.ensures.items ∙ ap (λ xs. xs ++ c.args.item ∷ []) c.in_ok-reserve.ensures.items in

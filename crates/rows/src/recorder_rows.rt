@@ -1,5 +1,6 @@
-use crate::Recorder;
 use object::{Act, Answer, Command, Key, RegisterOp, RegisterReply};
+use recorder::Recorder;
+use std::alloc::Global;
 use std::test::Fail;
 
 const FIRST: Key = Key {
@@ -43,23 +44,53 @@ fn submit(
     Ok(())
 }
 
+/// A key that was submitted is answered, once or again.
+fn give(
+    recorder: &mut Recorder<RegisterOp, RegisterReply>,
+    key: Key,
+    value: u64,
+    alloc: Global,
+) -> Result<(), Fail> {
+    if recorder.submission_of(key).is_none() {
+        return Err("not submitted".into());
+    }
+    let mut given = vec![in alloc; answer(key, value), answer(key, value + 1)]?;
+    recorder.answer_all(&mut given);
+    if !given.is_empty() {
+        return Err("not emptied".into());
+    }
+    Ok(())
+}
+
+/// A key that was submitted takes effect, where that is to be new or not.
+fn place(
+    recorder: &mut Recorder<RegisterOp, RegisterReply>,
+    key: Key,
+    is_new: bool,
+) -> Result<(), Fail> {
+    if recorder.submission_of(key).is_none() || recorder.place(key) != is_new {
+        return Err("new or not".into());
+    }
+    Ok(())
+}
+
 #[test]
 fn the_first_of_each_key_counts(rt: HostRuntime) -> Result<(), Fail> {
     let mut recorder = Recorder::new(rt.alloc());
     submit(&mut recorder, FIRST, 5, true)?;
-    let mut given = vec![in rt.alloc(); answer(FIRST, 1), answer(OTHER, 2), answer(FIRST, 3)]?;
-    recorder.answer_all(&mut given)?;
-    assert!(rt; given.is_empty());
+    submit(&mut recorder, OTHER, 6, true)?;
+    give(&mut recorder, FIRST, 1, rt.alloc())?;
+    give(&mut recorder, OTHER, 2, rt.alloc())?;
     submit(&mut recorder, SECOND, 6, true)?;
     submit(&mut recorder, FIRST, 7, false)?;
-    let mut given = vec![in rt.alloc(); answer(OTHER, 4), answer(SECOND, 5)]?;
-    recorder.answer_all(&mut given)?;
+    give(&mut recorder, OTHER, 4, rt.alloc())?;
+    give(&mut recorder, SECOND, 5, rt.alloc())?;
     let known = vec![in rt.alloc(); answer(FIRST, 1), answer(OTHER, 2), answer(SECOND, 5)]?;
     assert!(rt; recorder.answers() == known.as_slice());
     for (key, after) in [
         (FIRST, Some(0)),
+        (OTHER, Some(0)),
         (SECOND, Some(2)),
-        (OTHER, None),
         (UNKNOWN, None),
     ] {
         assert!(rt; recorder.submission_of(key).map(|s| s.after) == after);
@@ -72,19 +103,21 @@ fn the_first_of_each_key_counts(rt: HostRuntime) -> Result<(), Fail> {
     ] {
         assert!(rt; recorder.answer_to(key).copied() == value.map(RegisterReply::Value));
     }
-    assert_eq!(rt; recorder.submitted().len(), 2);
+    assert_eq!(rt; recorder.submitted().len(), 3);
     Ok(())
 }
 
 #[test]
 fn a_key_is_placed_once(rt: HostRuntime) -> Result<(), Fail> {
     let mut recorder: Recorder<RegisterOp, RegisterReply> = Recorder::new(rt.alloc());
+    for key in [FIRST, SECOND, OTHER] {
+        submit(&mut recorder, key, 5, true)?;
+    }
     for (key, is_new) in [(OTHER, true), (FIRST, true), (OTHER, false)] {
-        assert!(rt; recorder.place(key)? == is_new);
+        place(&mut recorder, key, is_new)?;
     }
     assert!(rt; recorder.is_placed(FIRST) && !recorder.is_placed(SECOND));
     assert!(rt; recorder.order() == [OTHER, FIRST].as_slice());
-    submit(&mut recorder, OTHER, 5, true)?;
     let (submitted, answers, order) = recorder.copies()?;
     assert!(rt; submitted.as_slice() == recorder.submitted());
     assert!(rt; answers.is_empty());
