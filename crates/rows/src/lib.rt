@@ -17,6 +17,8 @@ mod pipe_rows;
 #[cfg(test)]
 mod queue_draws;
 #[cfg(test)]
+mod recorder_rows;
+#[cfg(test)]
 mod replica_rows;
 #[cfg(test)]
 mod schedule_rows;
