@@ -9,8 +9,8 @@ use Rattle.leader.specs.Leaders.{woken}
 use Rattle.slot_log.specs.Proposals.{next_proposal}
 use Rattle.slot_log.specs.Decisions.{next_decided}
 use Rattle.replica.specs.Replicas.{asks_for}
-use Rattle.node.specs.Nodes.{NodeState, IsSeated, members_of, number_of}
-use Rattle.node.specs.Deeds.{Turn, acted, own_turn, performing, outcome_of, IsAble}
+use Rattle.node.specs.Nodes.{NodeState, IsSeated}
+use Rattle.node.specs.Deeds.{Turn, acted, own_turn, performing, IsAble}
 use Rattle.node.specs.declared.deed.Deed.{Deed}
 use Rattle.node.specs.declared.deed.Deed.TheVariants as deeds
 use Rattle.network.specs.Networks.{NetworkState, node_of, turned_net, turn_of, acted_net}
@@ -39,14 +39,12 @@ module _ {O Op Reply : Type 0} (rules : Rules O Op Reply) {members : List ℕ} {
   own_is : own_turn rules y d ≡ acted rules members n y d
   own_is = λ i. acted rules (seat.speaks i) (seat.node i) y d
 
+  -- and that is what the network has it do
   pub turn_is : own_turn rules y d ≡ turn_of rules k n d
   turn_is = own_is ∙ (λ i. acted rules (h.is i).members n (node_read h y at i) d)
 
   pub able : IsAble (node_of k n) d → IsAble y d
   able a = subst (λ (z : NodeState (Command Op)). IsAble z d) (sym (node_read h y at)) a
-
-  pub answers_are : turn_of rules k n d ≡ own_turn rules y d
-  answers_are = sym turn_is
 
   module _ (x : NodeState (Command Op)) (now : List (Letter (Command Op))) (new : x ≡ (own_turn rules y d).state) (sent : now ≡ fresh ++ (own_turn rules y d).sent) where
     pub acted_whole : IsNetwork members (slice_set nodes p x) mails now

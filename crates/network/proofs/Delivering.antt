@@ -1,5 +1,5 @@
 -- A letter that reaches its receiver, once all letters are sorted into the mails.
-use Rattle.std.proofs.Common.{◌≡◌, ⊎_elim, inl, inr, Bool, false, ◌&&◌, ◌||◌, ◌==◌, ℕ, zero, suc, ◌+◌, ◌-◌, ◌<◌, ◌≤◌, true, List, [], ◌∷◌, ◌++◌, map, drop, length, Option, Some, refl, sym, ap, ◌∙◌, subst, arith, length-set}
+use Rattle.std.proofs.Common.{◌≡◌, ⊎_elim, inl, inr, Bool, false, ◌&&◌, ◌||◌, ◌==◌, ℕ, zero, suc, ◌+◌, ◌-◌, ◌<◌, ◌≤◌, true, List, [], ◌∷◌, ◌++◌, drop, length, Option, Some, refl, sym, ap, ◌∙◌, subst, arith, length-set}
 use Rattle.std.specs.Prelude.{slice_index_or, slice_set, nat_lt}
 use Rattle.std.proofs.lemmas.Bool.Decides.{nat_tests}
 use Rattle.ballot.specs.Ballots.{Numbers, is_below}
@@ -10,15 +10,14 @@ use Rattle.ballot.specs.declared.letter.Letter.{Letter}
 use Rattle.ballot.specs.declared.letter.Body.{Body}
 use Rattle.ballot.specs.Letters.{letter}
 use Rattle.ballot.specs.Members.{is_member}
-use Rattle.acceptor.specs.Acceptors.{Acceptances, Keeps}
-use Rattle.node.specs.Nodes.{NodeState, IsSeated, members_of, number_of, put}
+use Rattle.node.specs.Nodes.{NodeState, members_of, put}
 use Rattle.node.specs.Receiving.{IsFit, Receives, promises_ballot, accepts_pvalue, hears_promise, hears_vote, hears_proposal, learns, tells_decisions, ShowsNode, ShowsReceived}
 use Rattle.network.proofs.Sent.{of_map, member_bounds}
-use Rattle.network.specs.Networks.{NetworkState, node_of, mail_in, mail_of, front, put_mail, posted, turned_net, without_front, with_last, IsDelivered}
+use Rattle.network.specs.Networks.{NetworkState, node_of, mail_in, mail_of, front, put_mail, posted, with_last, IsDelivered}
 use Rattle.network.specs.Posting.{IsAmong, IsBetween, AreBetween, IsPost, IsNetwork}
 use Rattle.network.proofs.Posts.{none_posted, in_at, post_put, between_append}
 use Rattle.network.proofs.Seats.{HasSeat, received_seat, seated_by}
-use Rattle.network.proofs.Turned.{seen, IsPlace, put_at, all_between, none_between, own_member, low, within_mails, node_read, node_seated, turned_by, stays_whole, set_again}
+use Rattle.network.proofs.Turned.{seen, IsPlace, put_at, all_between, none_between, own_member, low, within_mails, node_read, node_seated, stays_whole, set_again}
 
 lt_itself : (n : ℕ) → nat_lt n n ≡ false
 lt_itself n = grind (arith, nat_tests)

@@ -1,13 +1,13 @@
 -- A letter that is lost, be it sorted into its receiver's mail or not.
-use Rattle.std.proofs.Common.{◌≡◌, ◌⊎◌, ⊎_elim, inl, inr, Bool, true, false, cond, ◌==◌, ℕ, zero, suc, ◌+◌, ◌-◌, ◌<◌, ◌≤◌, List, [], ◌∷◌, ◌++◌, drop, length, refl, sym, ap, ap₂, ◌∙◌, subst, arith, length-set}
+use Rattle.std.proofs.Common.{◌≡◌, inl, inr, Bool, true, false, cond, ◌==◌, ℕ, ◌+◌, ◌-◌, ◌<◌, List, [], ◌∷◌, ◌++◌, drop, length, refl, sym, ap, ap₂, ◌∙◌, subst, arith, length-set}
 use Rattle.std.specs.Prelude.{slice_index_or, slice_set, is_some}
 use Rattle.std.proofs.lemmas.Bool.{false≢true}
 use Rattle.std.proofs.lemmas.List.{get_or_default}
 use Rattle.object.specs.Lists.{In}
 use Rattle.ballot.specs.declared.letter.Letter.{Letter}
 use Rattle.node.specs.Nodes.{NodeState}
-use Rattle.network.specs.Networks.{NetworkState, mail_in, mail_of, has_mail, front, letters_to, put_mail, posted, without_front}
-use Rattle.network.specs.Posting.{AreBetween, IsPost, IsNetwork, but_first}
+use Rattle.network.specs.Networks.{NetworkState, mail_of, has_mail, front, letters_to, put_mail, posted, without_front}
+use Rattle.network.specs.Posting.{AreBetween, IsNetwork, but_first}
 use Rattle.network.proofs.Posts.{length-posted, posted_at, posted_put, first_dropped, in_at, post_put}
 use Rattle.network.proofs.Turned.{seen, IsPlace, low, within_mails, set_again}
 use Rattle.network.proofs.Delivering.{mail_at, put_mail_at}

@@ -1,12 +1,11 @@
 -- A network after one of its nodes did something.
-use Rattle.std.proofs.Common.{◌≡◌, Bool, false, cond, map, ℕ, zero, suc, ◌+◌, ◌-◌, ◌<◌, ◌≤◌, true, List, [], ◌∷◌, ◌++◌, length, Result, Ok, Err, refl, sym, ap, ap₂, ◌∙◌, subst, arith, length-set}
+use Rattle.std.proofs.Common.{◌≡◌, Bool, false, cond, map, ℕ, zero, suc, ◌+◌, ◌-◌, ◌<◌, ◌≤◌, true, List, [], ◌∷◌, ◌++◌, length, Result, Ok, Err, refl, sym, ap, ◌∙◌, subst, arith, length-set}
 use Rattle.std.specs.Prelude.{slice_index_or, slice_set, OnErr, nat_le, not, ◌==◌, ◌^◌}
 use Rattle.std.proofs.lemmas.List.{append-nil, get_or_default}
 use Rattle.ballot.specs.declared.letter.Letter.{Letter}
 use Rattle.ballot.specs.declared.letter.Body.{Body}
 use Rattle.ballot.specs.Letters.{letter, all_to_all}
 use Rattle.ballot.specs.Members.{is_member, numbers}
-use Rattle.object.specs.Lists.{In}
 use Rattle.node.specs.Nodes.{NodeState, IsSeated, new_node, node_in, put}
 use Rattle.std.specs.List.{filter}
 use Rattle.ballot.specs.declared.letter.Body.TheVariants.{Ask}
@@ -14,7 +13,7 @@ use Rattle.leader.specs.Leaders.{says_again}
 use Rattle.replica.specs.Replicas.{proposes_again, asks_others, nudges}
 use Rattle.node.specs.Deeds.{said_again}
 use Rattle.network.specs.Networks.{NetworkState, node_of, posted, turned_net}
-use Rattle.network.specs.Posting.{IsBetween, AreBetween, IsPost, IsNetwork}
+use Rattle.network.specs.Posting.{IsBetween, AreBetween, IsNetwork}
 use Rattle.network.proofs.Sent.{of_map, of_filter, among_numbers, member_bounds, sent_to_all}
 use Rattle.network.proofs.Posts.{both_posted, between_append}
 use Rattle.network.proofs.Seats.{seats_stay}
