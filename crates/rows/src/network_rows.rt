@@ -64,7 +64,7 @@ fn one_node_answers_a_write(rt: HostRuntime) -> Result<(), Fail> {
     let performed = performed(outcome).ok_or("nothing performed")?;
     assert_eq!(rt; performed.slot.number(), 1);
     assert!(rt; performed.effect == Effect::Done);
-    assert!(rt; answers.as_slice() == [answer(1, RegisterReply::Done)]);
+    assert!(rt; answers.as_slice() == [answer(1, RegisterReply::Done)].as_slice());
     Ok(())
 }
 
@@ -86,7 +86,7 @@ fn what_is_lost_is_said_again(rt: HostRuntime) -> Result<(), Fail> {
     network.act(1, Deed::Nudge, &mut answers)?;
     deliver_all(&mut network, 1)?;
     network.act(1, Deed::Perform, &mut answers)?;
-    assert!(rt; answers.as_slice() == [answer(1, RegisterReply::Done)]);
+    assert!(rt; answers.as_slice() == [answer(1, RegisterReply::Done)].as_slice());
     Ok(())
 }
 
@@ -100,7 +100,7 @@ fn a_node_that_restarts_learns_what_was_decided(rt: HostRuntime) -> Result<(), F
     network.act(1, Deed::Wake, &mut answers)?;
     deliver_all(&mut network, 3)?;
     network.act(2, Deed::Perform, &mut answers)?;
-    assert!(rt; answers.as_slice() == [answer(1, RegisterReply::Done)]);
+    assert!(rt; answers.as_slice() == [answer(1, RegisterReply::Done)].as_slice());
     // what a replica knew is gone, and its acceptor still has what it accepted
     network.act(2, Deed::Restart, &mut answers)?;
     assert!(rt; network.act(2, Deed::Perform, &mut answers)? == Outcome::Idle);
@@ -118,6 +118,7 @@ fn a_node_that_restarts_learns_what_was_decided(rt: HostRuntime) -> Result<(), F
             answer(1, RegisterReply::Done),
             answer(1, RegisterReply::Done),
             answer(2, RegisterReply::Value(7)),
-        ]);
+        ]
+        .as_slice());
     Ok(())
 }
