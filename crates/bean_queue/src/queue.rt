@@ -133,7 +133,6 @@ impl<M: JobMap> Object for QueueOver<M> {
     ghost use Rattle.bean_queue.specs.Waits.{Waits};
     ghost use Rattle.bean_queue.specs.Holds.{HasOneHolder};
     ghost use Rattle.bean_queue.specs.WaitLaws.{fresh-idle, effect-lawful, effect-once};
-
     ghost use Rattle.std.specs.Prelude.{refl};
 
     ghost rules = { record {

@@ -10,7 +10,8 @@ mod jobs;
 mod laws;
 mod look_up;
 mod name;
-mod state;mod undo;
+mod state;
+mod undo;
 
 pub use body::Body;
 pub use job::Job;
