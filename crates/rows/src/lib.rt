@@ -11,6 +11,8 @@ mod job_rows;
 #[cfg(test)]
 mod leader_rows;
 #[cfg(test)]
+mod network_rows;
+#[cfg(test)]
 mod node_rows;
 #[cfg(test)]
 mod pipe_rows;

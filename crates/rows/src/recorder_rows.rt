@@ -51,10 +51,18 @@ fn give(
     value: u64,
     alloc: Global,
 ) -> Result<(), Fail> {
-    if recorder.submission_of(key).is_none() {
+    let Some(_) = recorder.submission_of(key) else {
         return Err("not submitted".into());
-    }
-    let mut given = vec![in alloc; answer(key, value), answer(key, value + 1)]?;
+    };
+    let first = Answer {
+        to: key,
+        reply: RegisterReply::Value(value),
+    };
+    let second = Answer {
+        to: key,
+        reply: RegisterReply::Done,
+    };
+    let mut given = vec![in alloc; first, second]?;
     recorder.answer_all(&mut given);
     if !given.is_empty() {
         return Err("not emptied".into());
@@ -68,7 +76,10 @@ fn place(
     key: Key,
     is_new: bool,
 ) -> Result<(), Fail> {
-    if recorder.submission_of(key).is_none() || recorder.place(key) != is_new {
+    let Some(_) = recorder.submission_of(key) else {
+        return Err("not submitted".into());
+    };
+    if recorder.place(key) != is_new {
         return Err("new or not".into());
     }
     Ok(())
