@@ -188,8 +188,11 @@ fn an_acceptor_promises_accepts_and_reports(rt: HostRuntime) -> Result<(), Fail>
     Ok(())
 }
 
-/// P1bs that a scout of three members hears: sender, promised ballot and report, and what the scout says.
-static SCOUTED: [(u8, Numbers, &[Parts], Said); 5] = [
+/// A P1b that a scout hears: sender, promised ballot and report, and what the scout says.
+type Scouted = (u8, Numbers, &'static [Parts], Said);
+
+/// P1bs that a scout of three members hears.
+static SCOUTED: [Scouted; 5] = [
     (1, FIRST, &[(FIRST, 1, Token::X)], Said::Wait),
     (1, FIRST, &[(FIRST, 1, Token::X)], Said::Wait),
     (4, FIRST, &[], Said::Wait),
@@ -213,20 +216,28 @@ fn is_heard(heard: Heard, told: Ballot, said: &Said) -> bool {
     }
 }
 
-// Each letter is heard by a copy of the scout too.
+/// Whether the scout says so.
+fn hears(alloc: Global, scout: &mut Scout<Token>, row: &Scouted) -> Result<bool, Fail> {
+    let (from, numbers, report, said) = row;
+    let told = ballot(*numbers)?;
+    let report = pvalues(alloc, *report)?;
+    let heard = scout.on_p1b(*from, told, report.as_slice())?;
+    Ok(is_heard(heard, told, said))
+}
+
+/// Whether the scout and a copy of it say so, and have gathered the same then.
+fn hear_alike(alloc: Global, scout: &mut Scout<Token>, row: &Scouted) -> Result<bool, Fail> {
+    let mut twin = scout.copy()?;
+    let said = hears(alloc, scout, row)? && hears(alloc, &mut twin, row)?;
+    Ok(said && twin.gathered() == scout.copy()?.gathered())
+}
+
 #[test]
 fn a_scout_hears_each_member_once(rt: HostRuntime) -> Result<(), Fail> {
     let alloc = rt.alloc();
     let mut scout: Scout<Token> = Scout::new(alloc, members(3)?, ballot(FIRST)?);
-    for (from, numbers, report, said) in SCOUTED.iter() {
-        let told = ballot(*numbers)?;
-        let mut twin = scout.copy()?;
-        let report = pvalues(alloc, *report)?;
-        let heard = scout.on_p1b(*from, told, report.as_slice())?;
-        assert!(rt; is_heard(heard, told, said), "{from} {numbers:?}");
-        let heard = twin.on_p1b(*from, told, report.as_slice())?;
-        assert!(rt; is_heard(heard, told, said), "{from} {numbers:?}");
-        assert!(rt; twin.gathered() == scout.copy()?.gathered());
+    for row in &SCOUTED {
+        assert!(rt; hear_alike(alloc, &mut scout, row)?, "{} {:?}", row.0, row.1);
     }
     let expected = pvalues(alloc, &[(FIRST, 1, Token::X)])?;
     assert!(rt; scout.gathered() == expected);

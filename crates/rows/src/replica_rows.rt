@@ -2,7 +2,7 @@
 use ballot::{Body, Letter, Members, Slot};
 use object::{Act, Command, Effect, Key, Register, RegisterOp, RegisterReply, Value};
 use replica::Replica;
-use slot_log::{LearnError, SlotLog};
+use slot_log::LearnError;
 use std::alloc::Global;
 use std::test::Fail;
 
@@ -16,71 +16,75 @@ fn command(session: u32, op: RegisterOp) -> Result<Command<RegisterOp>, Fail> {
     Ok(Command::new(key, Act::Do(op)).ok_or("no command")?)
 }
 
-#[test]
-fn a_window_is_sixty_four_slots(rt: HostRuntime) -> Result<(), Fail> {
-    let mut slots = SlotLog::new(rt.alloc());
-    for session in 1..66 {
-        slots.request(command(session, RegisterOp::Read)?)?;
+/// A decision for a slot: a session's command, its effect, and the reply, where it has one.
+struct Decided {
+    slot: u64,
+    session: u32,
+    op: RegisterOp,
+    effect: Effect,
+    reply: Option<RegisterReply>,
+}
+
+static DECIDED_TWICE: [Decided; 4] = [
+    Decided {
+        slot: 1,
+        session: 1,
+        op: RegisterOp::Write(5),
+        effect: Effect::Done,
+        reply: Some(RegisterReply::Done),
+    },
+    Decided {
+        slot: 2,
+        session: 2,
+        op: RegisterOp::Write(6),
+        effect: Effect::Done,
+        reply: Some(RegisterReply::Done),
+    },
+    Decided {
+        slot: 3,
+        session: 3,
+        op: RegisterOp::Read,
+        effect: Effect::Done,
+        reply: Some(RegisterReply::Value(6)),
+    },
+    Decided {
+        slot: 4,
+        session: 2,
+        op: RegisterOp::Write(6),
+        effect: Effect::Stale,
+        reply: None,
+    },
+];
+
+/// A new replica that learnt these.
+fn replica_of(alloc: Global, rows: &[Decided]) -> Result<Replica<Register>, Fail> {
+    let mut replica = Replica::new(alloc)?;
+    for row in rows {
+        let command = command(row.session, row.op)?;
+        replica.learn(slot(row.slot)?, command).ok().ok_or("not learnt")?;
     }
-    for number in 1..65 {
-        let (slot, _) = slots.propose_next()?.ok_or("nothing proposed")?;
-        assert_eq!(rt; slot.number(), number);
-    }
-    assert!(rt; slots.propose_next()?.is_none());
-    slots
-        .learn(slot(1)?, command(1, RegisterOp::Read)?)
-        .ok()
-        .ok_or("not learnt")?;
-    assert!(rt; slots.next_decided().is_some());
-    slots.advance();
-    let (slot, _) = slots.propose_next()?.ok_or("nothing proposed")?;
-    assert_eq!(rt; slot.number(), 65);
-    Ok(())
+    Ok(replica)
+}
+
+/// Whether the replica performs this next, with its effect and its reply.
+fn performs(alloc: Global, replica: &mut Replica<Register>, row: &Decided) -> Result<bool, Fail> {
+    let mut answers = Vec::new(alloc);
+    let done = replica.perform(&mut answers)?.ok_or("nothing performed")?;
+    let reply = answers.pop().map(|answer| answer.reply);
+    Ok(done.slot.number() == row.slot
+        && done.key.session == row.session
+        && done.effect == row.effect
+        && reply == row.reply)
 }
 
 #[test]
 fn a_command_decided_twice_counts_once(rt: HostRuntime) -> Result<(), Fail> {
-    let mut replica: Replica<Register> = Replica::new(rt.alloc())?;
-    let decided = [
-        (
-            1,
-            1,
-            RegisterOp::Write(5),
-            Effect::Done,
-            Some(RegisterReply::Done),
-        ),
-        (
-            2,
-            2,
-            RegisterOp::Write(6),
-            Effect::Done,
-            Some(RegisterReply::Done),
-        ),
-        (
-            3,
-            3,
-            RegisterOp::Read,
-            Effect::Done,
-            Some(RegisterReply::Value(6)),
-        ),
-        (4, 2, RegisterOp::Write(6), Effect::Stale, None),
-    ];
-    for (number, session, op, _, _) in decided {
-        replica
-            .learn(slot(number)?, command(session, op)?)
-            .ok()
-            .ok_or("not learnt")?;
+    let alloc = rt.alloc();
+    let mut replica = replica_of(alloc, &DECIDED_TWICE)?;
+    for row in &DECIDED_TWICE {
+        assert!(rt; performs(alloc, &mut replica, row)?, "slot {}", row.slot);
     }
-    for (number, session, _, effect, reply) in decided {
-        let mut answers = Vec::new(rt.alloc());
-        let done = replica.perform(&mut answers)?.ok_or("nothing performed")?;
-        assert_eq!(rt; done.slot.number(), number);
-        assert_eq!(rt; done.key.session, session);
-        assert_eq!(rt; done.effect, effect);
-        assert_eq!(rt; answers.pop().map(|answer| answer.reply), reply);
-    }
-    let mut answers = Vec::new(rt.alloc());
-    assert!(rt; replica.perform(&mut answers)?.is_none());
+    assert!(rt; replica.perform(&mut Vec::new(alloc))?.is_none());
     Ok(())
 }
 

@@ -7,7 +7,7 @@ use Rattle.object.specs.declared.command.Answer.{Answer}
 use Rattle.object.specs.declared.command.Command.{Command}
 use Rattle.object.specs.declared.command.Key.{Key}
 use Rattle.object.specs.declared.command.Submission.{Submission}
-use Rattle.object.specs.Happenings.{Happenings, is_submitted, with_submission}
+use Rattle.object.specs.Happenings.{Happenings, is_submitted}
 use Rattle.object.specs.Objects.{Rules}
 use Rattle.ballot.specs.BallotLaws.{BallotLaws}
 use Rattle.ballot.specs.declared.letter.Letter.{Letter}

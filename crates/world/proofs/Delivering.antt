@@ -1,6 +1,6 @@
 -- A letter that reaches its receiver, as an event of its world. It is lent to the receiver, and another stands in its
 -- place while letters are sent.
-use Rattle.std.proofs.Common.{◌≡◌, ℕ, zero, suc, ◌-◌, ◌+◌, ◌<◌, ◌≤◌, List, [], ◌∷◌, ◌++◌, length, length-append, length-set, Option, Some, refl, sym, ap, ◌∙◌, subst, arith}
+use Rattle.std.proofs.Common.{◌≡◌, ℕ, zero, suc, ◌-◌, ◌+◌, ◌<◌, ◌≤◌, List, [], ◌∷◌, ◌++◌, length, length-append, length-set, Some, refl, sym, ap, ◌∙◌, subst, arith}
 use Rattle.std.specs.Prelude.{slice_index_or, slice_set, slice_get, Result, Ok, Err, OnOk, OnErr}
 use Rattle.std.proofs.lemmas.Option.{slice_get-get_or}
 use Rattle.object.specs.declared.command.Command.{Command}
@@ -18,7 +18,7 @@ use Rattle.world.specs.Showing.{HasNode}
 use Rattle.world.specs.Steps.{Step, deliver}
 use Rattle.world.specs.Worlds.{World}
 use Rattle.world.proofs.Acting.{set_own}
-use Rattle.world.proofs.Events.{receiver, fit, next_noted, from_view, sent_in_view}
+use Rattle.world.proofs.Events.{receiver, fit, next_noted, sent_in_view}
 use Rattle.world.proofs.Places.{node_at, delivered}
 use Rattle.world.proofs.Sets.{member_bounds}
 

@@ -1,13 +1,11 @@
 -- One event of a world, from what was done to its parts.
-use Rattle.std.proofs.Common.{◌≡◌, ◌⊎◌, inl, inr, ℕ, zero, suc, ◌+◌, ◌<◌, ◌^◌, max, Bool, true, false, true≢false, cond, not, ◌&&◌, ◌||◌, List, [], ◌∷◌, ◌++◌, length, take, Some, None, Option, refl, sym, ap, ◌∙◌, subst, arith}
+use Rattle.std.proofs.Common.{◌≡◌, ◌⊎◌, inl, inr, ℕ, zero, suc, ◌+◌, ◌<◌, ◌^◌, Bool, true, false, true≢false, cond, not, ◌&&◌, ◌||◌, List, [], ◌∷◌, ◌++◌, length, take, Some, None, Option, refl, sym, ap, ◌∙◌, subst, arith}
 use Rattle.std.specs.Prelude.{slice_get, slice_index_or, nat_le}
-use Rattle.std.specs.Option.{option_to_list, option_map, option_map_or}
 use Rattle.std.proofs.lemmas.Bool.Decides.{nat_tests}
-use Rattle.std.proofs.lemmas.List.{append-nil, take_more}
+use Rattle.std.proofs.lemmas.List.{take_more}
 use Rattle.std.proofs.lemmas.Option.{slice_get-get_or}
 use Rattle.object.specs.declared.command.Act.{Act}
 use Rattle.object.specs.declared.command.Act.TheVariants.{Do, Close, Tick}
-use Rattle.object.specs.declared.command.Answer.{Answer}
 use Rattle.object.specs.declared.command.Command.{Command}
 use Rattle.object.specs.declared.command.Key.{Key}
 use Rattle.object.specs.declared.command.Submission.{Submission}
@@ -16,27 +14,21 @@ use Rattle.ballot.specs.Members.{is_member}
 use Rattle.ballot.specs.declared.letter.Body.{Body}
 use Rattle.ballot.specs.declared.letter.Body.TheVariants.{P1a, P1b, P2a, P2b, Propose, Decision, Ask}
 use Rattle.ballot.specs.declared.letter.Letter.{Letter}
-use Rattle.slot_log.specs.Requests.{requested}
-use Rattle.slot_log.specs.Advances.{advanced}
-use Rattle.slot_log.specs.Decisions.{next_decided}
 use Rattle.world.specs.declared.event.Event.{Event}
 use Rattle.world.specs.declared.event.Event.TheVariants as events
 use Rattle.world.specs.declared.error.WorldError.{WorldError}
 use Rattle.world.specs.declared.error.WorldError.TheVariants as reasons
-use Rattle.object.specs.Objects.{Rules, is_one}
-use Rattle.node.specs.Histories.{history}
-use Rattle.object.specs.Obeying.{answers_after}
+use Rattle.object.specs.Objects.{Rules}
 use Rattle.world.specs.Nodes.{Cluster, node, turned}
 use Rattle.world.specs.Worlds.{World, opening}
-use Rattle.object.specs.Happenings.{Happenings, is_submitted}
 use Rattle.object.specs.Keys.{same_key}
-use Rattle.world.specs.Steps.{Step, IsItsOwn, replica_turn, performed, counted, with_cluster, submit, deliver, perform}
+use Rattle.world.specs.Steps.{Step, IsItsOwn, counted, with_cluster, deliver}
 use Rattle.world.specs.Runs.{Leads, IsReachable, IsWorld}
 use Rattle.world.specs.Runs as Runs
 use Rattle.world.specs.Refusals.{IsAllowed, has_other_act, is_at_member, is_sent, keeps_acts, most_events, refusal, IsRefused}
 use Rattle.world.specs.Showing.{HasNode}
 use Rattle.node.specs.Receiving.{IsFit}
-use Rattle.world.specs.Kept.{Delivered, IsNoted, key_past}
+use Rattle.world.specs.Kept.{Delivered, IsNoted}
 use Rattle.object.specs.ListLaws.{Each-at, In-get}
 use Rattle.ballot.specs.OrderLaws.{BallotLaws}
 use Rattle.world.proofs.Invariants.{IsFair, IsTrueOf, IsSound, agree}
@@ -47,7 +39,6 @@ use Rattle.world.proofs.OneOrder.{reachable_one_order, leads_later}
 use Rattle.world.specs.Agreements.{StaysChosen}
 use Rattle.world.proofs.Grows.{chosen_stays}
 use Rattle.world.proofs.Reach.{reachable_sound, step_sound, one_more, opening_reachable}
-use Rattle.world.proofs.Told.{reachable_within_reach}
 use Rattle.world.proofs.Noted.{opening_noted, noted_stays}
 
 module _ (laws : BallotLaws) {O Op Reply : Type 0} (rules : Rules O Op Reply) where

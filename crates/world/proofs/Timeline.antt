@@ -14,7 +14,7 @@ use Rattle.object.specs.Objects.{Rules}
 use Rattle.node.specs.Histories.{history}
 use Rattle.object.specs.Obeying.{answers_after}
 use Rattle.world.specs.Nodes.{node}
-use Rattle.object.specs.Happenings.{Happenings, is_submitted, with_submission, with_answers, SubmittedOnce, ComeInOrder, IsTimeline}
+use Rattle.object.specs.Happenings.{Happenings, is_submitted, with_submission, with_answers, SubmittedOnce, ComeInOrder}
 use Rattle.world.specs.Worlds.{World, opening}
 use Rattle.object.specs.Keys.{same_key}
 use Rattle.world.specs.Steps.{Step, submit, deliver, wake, nudge, propose, perform, restart, performed}

@@ -1,7 +1,10 @@
 -- What a node does beside which all that was accepted is kept.
-use Rattle.std.proofs.Common.{◌≡◌, ℕ, ◌<◌, List, Option, Some, None, refl, sym, ap, ◌∙◌, subst}
+use Rattle.std.proofs.Common.{◌≡◌, ℕ, List, Option, Some, None, refl, sym, ap, ◌∙◌, subst}
+use Rattle.std.specs.Prelude.{◌++◌, Result, Ok, Err, OnOk, OnErr}
+use Rattle.object.specs.declared.command.Answer.{Answer}
 use Rattle.object.specs.declared.command.Command.{Command}
 use Rattle.object.specs.Objects.{Rules}
+use Rattle.ballot.specs.declared.letter.Letter.{Letter}
 use Rattle.ballot.specs.declared.pvalue.Pvalue.{Pvalue}
 use Rattle.slot_log.specs.Decisions.{next_decided}
 use Rattle.node.specs.Nodes.{NodeState, members_of, number_of}
@@ -9,6 +12,7 @@ use Rattle.node.specs.Deeds.{acted, own_turn, performing, outcome_of, IsAble}
 use Rattle.node.specs.Receiving.{ShowsNode}
 use Rattle.node.specs.declared.deed.Deed.{Deed}
 use Rattle.node.specs.declared.deed.Deed.TheVariants as deeds
+use Rattle.node.specs.declared.deed.Outcome.{Outcome}
 use Rattle.world.specs.Kept.{with_accepted}
 use Rattle.world.proofs.Watching.{still_shows}
 
@@ -72,13 +76,38 @@ module _ {O Op Reply : Type 0} (rules : Rules O Op Reply) (members : List ℕ) (
   same_acceptor deeds.Restart = refl
 
 -- what is watched is shown after it did something
-pub acted_shows : {O Op Reply : Type 0} (rules : Rules O Op Reply) (nd z : NodeState (Command Op)) (all : List (Pvalue (Command Op))) (d : Deed Op) → z ≡ (own_turn rules nd d).state → ShowsNode nd (with_accepted nd all) → ShowsNode z (with_accepted z all)
+acted_shows : {O Op Reply : Type 0} (rules : Rules O Op Reply) (nd z : NodeState (Command Op)) (all : List (Pvalue (Command Op))) (d : Deed Op) → z ≡ (own_turn rules nd d).state → ShowsNode nd (with_accepted nd all) → ShowsNode z (with_accepted z all)
 acted_shows rules nd z all d new shows = still_shows nd z all (ap (λ y. y.acceptor) new ∙ same_acceptor rules (members_of nd) (number_of nd) nd all d) shows
 
-pub able : {Op C : Type 0} (nd : NodeState C) (all : List (Pvalue C)) (d : Deed Op) → IsAble (with_accepted nd all) d → IsAble nd d
+able : {Op C : Type 0} (nd : NodeState C) (all : List (Pvalue C)) (d : Deed Op) → IsAble (with_accepted nd all) d → IsAble nd d
 able nd all (deeds.Request c) h = tt
 able nd all deeds.Wake h = tt
 able nd all deeds.Nudge h = tt
 able nd all deeds.Propose h = tt
 able nd all deeds.Perform h = tt
 able nd all deeds.Restart h = h
+
+-- Node nd, which is watched as k, did something and became z.
+module _ {O Op Reply : Type 0} (rules : Rules O Op Reply) (nd z k : NodeState (Command Op)) (all : List (Pvalue (Command Op))) (is : with_accepted nd all ≡ k) (d : Deed Op) where
+  pub watched_able : IsAble k d → IsAble nd d
+  watched_able h = able nd all d (subst (λ x. IsAble x d) (sym is) h)
+
+  pub watched_state : z ≡ (own_turn rules nd d).state → with_accepted z all ≡ (own_turn rules k d).state
+  watched_state new = ap (λ y. with_accepted y all) new ∙ same_state rules (members_of nd) (number_of nd) nd all d ∙ ap (λ x. (own_turn rules x d).state) is
+
+  pub watched_sent : (before now : List (Letter (Command Op))) → now ≡ before ++ (own_turn rules nd d).sent → now ≡ before ++ (own_turn rules k d).sent
+  watched_sent before now sent = sent ∙ ap (λ l. before ++ l) (same_sent rules (members_of nd) (number_of nd) nd all d ∙ ap (λ x. (own_turn rules x d).sent) is)
+
+  pub watched_answers : (before now : List (Answer Reply)) → now ≡ before ++ (own_turn rules nd d).answers → now ≡ before ++ (own_turn rules k d).answers
+  watched_answers before now given = given ∙ ap (λ l. before ++ l) (same_answers rules (members_of nd) (number_of nd) nd all d ∙ ap (λ x. (own_turn rules x d).answers) is)
+
+  pub watched_outcome : (came : Outcome) → came ≡ outcome_of nd d → came ≡ outcome_of k d
+  watched_outcome came out = out ∙ same_outcome rules (members_of nd) (number_of nd) nd all d ∙ ap (λ x. outcome_of x d) is
+
+  pub watched_still : z ≡ nd → with_accepted z all ≡ k
+  watched_still same = ap (λ y. with_accepted y all) same ∙ is
+
+  -- whether it could or not
+  pub watched_shown : {T E : Type 0} (r : Result T E) → OnOk r (z ≡ (own_turn rules nd d).state) → OnErr r (z ≡ nd) → ShowsNode nd (with_accepted nd all) → ShowsNode z (with_accepted z all)
+  watched_shown (Ok x) new same shows = acted_shows rules nd z all d new shows
+  watched_shown (Err e) new same shows = still_shows nd z all (ap (λ y. y.acceptor) same) shows

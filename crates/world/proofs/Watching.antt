@@ -5,11 +5,8 @@ use Rattle.std.proofs.lemmas.List.{append-nil}
 use Rattle.ballot.specs.Ballots.{is_promise}
 use Rattle.ballot.specs.declared.pvalue.Pvalue.{Pvalue}
 use Rattle.ballot.specs.declared.letter.Body.{Body}
-use Rattle.ballot.specs.declared.letter.Body.TheVariants.{P1a, P1b, P2a, P2b, Propose, Decision, Ask}
 use Rattle.ballot.specs.declared.letter.Letter.{Letter}
 use Rattle.acceptor.specs.Acceptors.{Acceptances, Keeps, new_acceptor}
-use Rattle.slot_log.specs.Books.{SlotBook}
-use Rattle.slot_log.specs.Decisions.{next_decided}
 use Rattle.node.specs.Nodes.{NodeState}
 use Rattle.node.specs.Receiving.{Receives, promises_ballot, accepts_pvalue, hears_promise, hears_vote, hears_proposal, learns, tells_decisions, ShowsNode, Received, ShowsReceived}
 use Rattle.world.specs.Kept.{with_accepted, accepts_of}

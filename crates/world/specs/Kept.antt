@@ -1,5 +1,5 @@
 -- How a world keeps its nodes, and what an event adds to what it keeps.
-use Rattle.std.specs.Prelude.{◌≡◌, ℕ, nat_lt, max, List, map, length, Option, None, Some, if◌then◌else◌}
+use Rattle.std.specs.Prelude.{◌≡◌, ℕ, nat_lt, max, List, map, Option, None, Some, if◌then◌else◌}
 use Rattle.object.specs.declared.command.Command.{Command}
 use Rattle.object.specs.declared.command.Key.{Key}
 use Rattle.object.specs.declared.command.Submission.{Submission}

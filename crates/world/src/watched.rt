@@ -1,22 +1,21 @@
-ghost use Rattle.std.specs.Prelude.{◌≡◌, ◌++◌, true, IfOk, OnOk, OnErr};
+ghost use Rattle.std.specs.Prelude.{◌≡◌, true, IfOk, OnOk, OnErr};
 ghost use Rattle.ballot.specs.Members.{is_member};
 ghost use Rattle.node.specs.Nodes.{new_node};
-ghost use Rattle.node.specs.Deeds.{own_turn, outcome_of, IsAble};
 ghost use Rattle.node.specs.Receiving.{IsFit, Received};
 ghost use Rattle.world.specs.Voters.{accepts};
 ghost use Rattle.world.specs.Kept.{accepts_of};
 
 use crate::submissions::push_in_room;
 use ballot::{Ballot, Body, Letter, Members, Pvalue, Slot};
-use node::{Deed, Node, Outcome};
-use object::{Answer, Command, Object, Value};
+use node::Node;
+use object::{Command, Object, Value};
 use std::alloc::{AllocError, Global};
 use std::marker::Model;
 
 /// A node, with every pvalue that its acceptor ever accepted beside it, whatever the acceptor keeps.
 #[derive(Drop)]
 pub(crate) struct Watched<O: Object> {
-    node: Node<O>,
+    pub(crate) node: Node<O>,
     accepted: Vec<Pvalue<Command<O::Op>>>,
 }
 
@@ -47,28 +46,6 @@ impl<O: Object> Watched<O> {
             node: Node::new(alloc, members, id)?,
             accepted: Vec::new(alloc),
         })
-    }
-
-    /// Does this, as its node does.
-    pub(crate) fn act(
-        &mut self,
-        deed: Deed<O::Op>,
-        sent: &mut Vec<Letter<Command<O::Op>>>,
-        answers: &mut Vec<Answer<O::Reply>>,
-    ) -> Result<Outcome, AllocError>
-        requires { IsAble self.old deed }
-        ensures state { OnOk result (self.new ≡ (own_turn O.rules self.old deed).state) }
-        ensures sent { OnOk result (sent.new.items ≡ sent.old.items
-            ++ (own_turn O.rules self.old deed).sent) }
-        ensures answers { OnOk result (answers.new.items ≡ answers.old.items
-            ++ (own_turn O.rules self.old deed).answers) }
-        ensures outcome { IfOk result (λ outcome. outcome ≡ outcome_of self.old deed) }
-        ensures err { OnErr result (self.new ≡ self.old) }
-        ensures unsaid { OnErr result ((sent.new.items ≡ sent.old.items)
-            × (answers.new.items ≡ answers.old.items)) }
-    {
-        let came = self.node.act(deed, sent, answers)?;
-        Ok(came)
     }
 
     /// Receives a body from a member, and appends what it sends. For want of memory it changes nothing.

@@ -28,7 +28,8 @@ impl<O: Object> World<O> {
         self.submitted.reserve(1)?;
         self.performed.reserve(1)?;
         let place = usize::from(id - 1);
-        let came = self.nodes[place].act(deed, &mut self.letters, &mut self.answers)?;
+        let node = &mut self.nodes[place].node;
+        let came = node.act(deed, &mut self.letters, &mut self.answers)?;
         push_in_room(&mut self.submitted, added);
         push_in_room(&mut self.performed, key_past(self.reach, &came));
         self.reach = reach_after(self.reach, &came);

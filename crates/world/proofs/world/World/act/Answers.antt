@@ -1,29 +1,40 @@
-use Rattle.std.proofs.Common.{◌<◌, sym, ap, ◌∙◌, subst}
-use Rattle.world.specs.Kept.{IsNoted}
+use Rattle.std.proofs.Common.{◌<◌, sym, ◌∙◌, subst}
 use Rattle.world.proofs.Acting.{asked_more, acts_not, place_within, able_now, acts_taken, acts_kept, on_err}
+use Rattle.world.proofs.WatchedDeeds.{watched_able, watched_state, watched_sent, watched_answers, watched_outcome, watched_still, watched_shown}
 use Rattle.world.proofs.world.World.act.Goals as goal
 
 pub index_mut-requires : goal.index_mut-requires
 index_mut-requires g c = subst (λ m. c.from-place.result < m) (sym c.self.inside.nodes.ok.0) (place_within c.ballot_laws.ensures g.O.Object.rules _ _ c.self.view_is _ c.self.invariant c.args.id c.from-place.result c.args.deed c.requires.member c.requires.own c.requires.room c.from-place.ensures)
 
 pub act-requires : goal.act-requires
-act-requires g c = able_now c.ballot_laws.ensures g.O.Object.rules _ _ c.self.view_is _ c.self.invariant c.args.id c.from-place.result c.args.deed c.requires.member c.requires.own c.requires.room c.from-place.ensures c.index_mut.result.now c.index_mut.ensures.value
+act-requires g c = watched_able g.O.Object.rules c.behind-self.inside.node c.behind-self.inside.node _ c.behind-self.inside.accepted.items c.behind-self.view_is c.args.deed
+    (able_now c.ballot_laws.ensures g.O.Object.rules _ _ c.self.view_is _ c.self.invariant c.args.id c.from-place.result c.args.deed c.requires.member c.requires.own c.requires.room c.from-place.ensures c.index_mut.result.now c.index_mut.ensures.value)
 
-pub invariant_of-self-in_err-came : goal.invariant_of-self-in_err-came
-invariant_of-self-in_err-came g c =
-    subst (λ w. IsNoted g.O.Object.rules w c.reserve-2.new.self.items) (sym (acts_not (record { cluster = record { members = c.self.inside.members; nodes = c.self.inside.nodes.items; letters = c.self.inside.letters.items }; happenings = record { submitted = c.self.inside.submitted.items; answers = c.self.inside.answers.items }; reach = c.self.inside.reach; taken = c.self.inside.taken }) c.from-place.result c.index_mut.result.now _ c.index_mut.ensures.value c.in_err-came.ensures.err _ c.in_err-came.ensures.unsaid.0 _ c.in_err-came.ensures.unsaid.1 _ c.in_ok-reserve.ensures.items))
-    (subst (IsNoted g.O.Object.rules _) (sym c.in_ok-reserve-2.ensures.items) c.self.invariant)
+pub invariant_of-behind-self : goal.invariant_of-behind-self
+invariant_of-behind-self g c = watched_shown g.O.Object.rules c.behind-self.inside.node c.act.new.self _ c.behind-self.inside.accepted.items c.behind-self.view_is c.args.deed c.act.result c.act.ensures.state c.act.ensures.err c.behind-self.invariant
 
 pub returns-in_err-came-clause-err : goal.returns-in_err-came-clause-err
-returns-in_err-came-clause-err g c = on_err c.from_residual-in_err-came.result ((acts_not (record { cluster = record { members = c.self.inside.members; nodes = c.self.inside.nodes.items; letters = c.self.inside.letters.items }; happenings = record { submitted = c.self.inside.submitted.items; answers = c.self.inside.answers.items }; reach = c.self.inside.reach; taken = c.self.inside.taken }) c.from-place.result c.index_mut.result.now _ c.index_mut.ensures.value c.in_err-came.ensures.err _ c.in_err-came.ensures.unsaid.0 _ c.in_err-came.ensures.unsaid.1 _ c.in_ok-reserve.ensures.items) ∙ c.self.view_is)
+returns-in_err-came-clause-err g c = on_err c.from_residual-in_err-came.result
+    (acts_not (record { cluster = record { members = c.self.inside.members; nodes = c.self.inside.nodes.items; letters = c.self.inside.letters.items }; happenings = record { submitted = c.self.inside.submitted.items; answers = c.self.inside.answers.items }; reach = c.self.inside.reach; taken = c.self.inside.taken }) c.from-place.result c.index_mut.result.now
+    _ c.index_mut.ensures.value (watched_still g.O.Object.rules c.behind-self.inside.node c.act.new.self _ c.behind-self.inside.accepted.items c.behind-self.view_is c.args.deed c.in_err-came.ensures.err) _ c.in_err-came.ensures.unsaid.0 _ c.in_err-came.ensures.unsaid.1 _ c.in_ok-reserve.ensures.items ∙ c.self.view_is)
 
 pub invariant_of-self-2 : goal.invariant_of-self-2
 invariant_of-self-2 g c =
     acts_kept c.ballot_laws.ensures g.O.Object.rules _ _ c.self.view_is _ c.self.invariant c.args.id c.from-place.result c.args.deed c.requires.member c.requires.own c.requires.room c.from-place.ensures
-    c.index_mut.result.now c.index_mut.ensures.value _ c.in_ok-came.ensures.state _ c.in_ok-came.ensures.sent _ c.in_ok-came.ensures.answers _ (asked_more _ c.as_slice.result.now c.reserve.new.self.items _ c.self.inside.answers.items c.len.result c.args.deed c.in_ok-added.added c.as_slice.ensures.value (c.len.ensures ∙ c.self.inside.answers.ok.0) c.in_ok-added.ensures c.in_ok-reserve.ensures.items c.push_in_room.ensures) c.in_ok-came.came c.in_ok-came.ensures.outcome _ c.reach_after-self-inside.ensures
+    c.index_mut.result.now c.index_mut.ensures.value
+    _ (watched_state g.O.Object.rules c.behind-self.inside.node c.act.new.self _ c.behind-self.inside.accepted.items c.behind-self.view_is c.args.deed c.in_ok-came.ensures.state)
+    _ (watched_sent g.O.Object.rules c.behind-self.inside.node c.act.new.self _ c.behind-self.inside.accepted.items c.behind-self.view_is c.args.deed _ _ c.in_ok-came.ensures.sent)
+    _ (watched_answers g.O.Object.rules c.behind-self.inside.node c.act.new.self _ c.behind-self.inside.accepted.items c.behind-self.view_is c.args.deed _ _ c.in_ok-came.ensures.answers)
+    _ (asked_more _ c.as_slice.result.now c.reserve.new.self.items _ c.self.inside.answers.items c.len.result c.args.deed c.in_ok-added.added c.as_slice.ensures.value (c.len.ensures ∙ c.self.inside.answers.ok.0) c.in_ok-added.ensures c.in_ok-reserve.ensures.items c.push_in_room.ensures)
+    c.in_ok-came.came (watched_outcome g.O.Object.rules c.behind-self.inside.node c.act.new.self _ c.behind-self.inside.accepted.items c.behind-self.view_is c.args.deed _ c.in_ok-came.ensures.outcome) _ c.reach_after-self-inside.ensures
     _ c.key_past.ensures _ _ c.in_ok-reserve-2.ensures.items c.push_in_room-2.ensures
 
 pub returns-clause-ok : goal.returns-clause-ok
 returns-clause-ok g c =
     acts_taken c.ballot_laws.ensures g.O.Object.rules _ _ c.self.view_is _ c.self.invariant c.args.id c.from-place.result c.args.deed c.requires.member c.requires.own c.requires.room c.from-place.ensures
-    c.index_mut.result.now c.index_mut.ensures.value _ c.in_ok-came.ensures.state _ c.in_ok-came.ensures.sent _ c.in_ok-came.ensures.answers _ (asked_more _ c.as_slice.result.now c.reserve.new.self.items _ c.self.inside.answers.items c.len.result c.args.deed c.in_ok-added.added c.as_slice.ensures.value (c.len.ensures ∙ c.self.inside.answers.ok.0) c.in_ok-added.ensures c.in_ok-reserve.ensures.items c.push_in_room.ensures) c.in_ok-came.came c.in_ok-came.ensures.outcome _ c.reach_after-self-inside.ensures
+    c.index_mut.result.now c.index_mut.ensures.value
+    _ (watched_state g.O.Object.rules c.behind-self.inside.node c.act.new.self _ c.behind-self.inside.accepted.items c.behind-self.view_is c.args.deed c.in_ok-came.ensures.state)
+    _ (watched_sent g.O.Object.rules c.behind-self.inside.node c.act.new.self _ c.behind-self.inside.accepted.items c.behind-self.view_is c.args.deed _ _ c.in_ok-came.ensures.sent)
+    _ (watched_answers g.O.Object.rules c.behind-self.inside.node c.act.new.self _ c.behind-self.inside.accepted.items c.behind-self.view_is c.args.deed _ _ c.in_ok-came.ensures.answers)
+    _ (asked_more _ c.as_slice.result.now c.reserve.new.self.items _ c.self.inside.answers.items c.len.result c.args.deed c.in_ok-added.added c.as_slice.ensures.value (c.len.ensures ∙ c.self.inside.answers.ok.0) c.in_ok-added.ensures c.in_ok-reserve.ensures.items c.push_in_room.ensures)
+    c.in_ok-came.came (watched_outcome g.O.Object.rules c.behind-self.inside.node c.act.new.self _ c.behind-self.inside.accepted.items c.behind-self.view_is c.args.deed _ c.in_ok-came.ensures.outcome) _ c.reach_after-self-inside.ensures

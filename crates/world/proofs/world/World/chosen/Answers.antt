@@ -1,5 +1,3 @@
-use Rattle.std.proofs.Common.{ap, ◌∙◌, sym, subst}
-use Rattle.ballot.specs.BallotLaws.{BallotLaws}
 use Rattle.world.proofs.Events.{sound_now}
 use Rattle.world.proofs.Voters.{some_chosen, no_chosen}
 use Rattle.world.proofs.world.World.chosen.Goals as goal

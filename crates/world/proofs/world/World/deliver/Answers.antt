@@ -1,4 +1,4 @@
-use Rattle.std.proofs.Common.{◌<◌, sym, ap, ◌∙◌, subst}
+use Rattle.std.proofs.Common.{◌<◌, sym, ◌∙◌, subst}
 use Rattle.world.specs.Kept.{IsNoted}
 use Rattle.world.proofs.Acting.{on_err}
 use Rattle.world.proofs.Delivering.{still_there, lent_within, to_above, receiver_within, fit_now, delivered_step, delivered_kept, delivered_not}

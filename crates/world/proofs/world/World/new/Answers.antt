@@ -1,4 +1,3 @@
-use Rattle.std.proofs.Common.{ap, ◌∙◌}
 use Rattle.world.proofs.Events.{new_world}
 use Rattle.world.proofs.Places.{one_node_more, all_nodes}
 use Rattle.world.proofs.world.World.new.Goals as goal

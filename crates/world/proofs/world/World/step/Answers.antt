@@ -1,5 +1,4 @@
-use Rattle.std.proofs.Common.{refl, sym, ap, ◌∙◌, subst, arith}
-use Rattle.std.proofs.lemmas.Bool.Decides.{nat_tests}
+use Rattle.std.proofs.Common.{refl, sym, ◌∙◌, subst}
 use Rattle.world.specs.Agreements.{StaysChosen}
 use Rattle.world.specs.OneOrder.{IsLater}
 use Rattle.world.specs.Refusals.{IsAllowed}
