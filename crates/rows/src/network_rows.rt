@@ -53,3 +53,17 @@ fn letters_are_repeated_and_lost(rt: HostRuntime) -> Result<(), Fail> {
     assert!(rt; !network.lose(1));
     Ok(())
 }
+
+#[test]
+fn a_letter_is_delivered_once(rt: HostRuntime) -> Result<(), Fail> {
+    let members = Members::new(1).ok_or("no members")?;
+    let mut network: Network<Register> = Network::new(rt.alloc(), members)?;
+    let mut answers = Vec::new(rt.alloc());
+    assert!(rt; !network.deliver(1)?);
+    // a scout asks the one acceptor for its promise, which is on its way back then
+    network.act(1, Deed::Wake, &mut answers)?;
+    assert!(rt; network.deliver(1)?);
+    assert!(rt; network.lose(1));
+    assert!(rt; !network.has_mail(1));
+    Ok(())
+}

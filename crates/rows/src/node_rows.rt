@@ -237,7 +237,12 @@ fn a_scout_hears_each_member_once(rt: HostRuntime) -> Result<(), Fail> {
     let alloc = rt.alloc();
     let mut scout: Scout<Token> = Scout::new(alloc, members(3)?, ballot(FIRST)?);
     for row in &SCOUTED {
-        assert!(rt; hear_alike(alloc, &mut scout, row)?, "{} {:?}", row.0, row.1);
+        assert!(rt;
+            hear_alike(alloc, &mut scout, row)?,
+            "{} {:?}",
+            row.0,
+            row.1
+        );
     }
     let expected = pvalues(alloc, &[(FIRST, 1, Token::X)])?;
     assert!(rt; scout.gathered() == expected);

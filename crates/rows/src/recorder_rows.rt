@@ -85,34 +85,81 @@ fn place(
     Ok(())
 }
 
+/// What a recorder is told.
+enum Step {
+    /// A write of the number is submitted, where it is to be new or not.
+    Submit(Key, u64, bool),
+    /// The number is given as an answer.
+    Give(Key, u64),
+}
+
+static TOLD: [Step; 8] = [
+    Step::Submit(FIRST, 5, true),
+    Step::Submit(OTHER, 6, true),
+    Step::Give(FIRST, 1),
+    Step::Give(OTHER, 2),
+    Step::Submit(SECOND, 6, true),
+    Step::Submit(FIRST, 7, false),
+    Step::Give(OTHER, 4),
+    Step::Give(SECOND, 5),
+];
+
+/// A recorder that was told these.
+fn recorder_of(alloc: Global, steps: &[Step]) -> Result<Recorder<RegisterOp, RegisterReply>, Fail> {
+    let mut recorder = Recorder::new(alloc);
+    for step in steps {
+        match step {
+            Step::Submit(key, value, is_new) => submit(&mut recorder, *key, *value, *is_new)?,
+            Step::Give(key, value) => give(&mut recorder, *key, *value, alloc)?,
+        }
+    }
+    Ok(recorder)
+}
+
+/// What is known of a key: how many answers came before it was submitted, and the number that it was answered.
+struct Known {
+    key: Key,
+    after: Option<usize>,
+    value: Option<u64>,
+}
+
+static KNOWN: [Known; 4] = [
+    Known {
+        key: FIRST,
+        after: Some(0),
+        value: Some(1),
+    },
+    Known {
+        key: OTHER,
+        after: Some(0),
+        value: Some(2),
+    },
+    Known {
+        key: SECOND,
+        after: Some(2),
+        value: Some(5),
+    },
+    Known {
+        key: UNKNOWN,
+        after: None,
+        value: None,
+    },
+];
+
+/// Whether the recorder finds this of the key.
+fn finds(recorder: &Recorder<RegisterOp, RegisterReply>, row: &Known) -> bool {
+    let after = recorder.submission_of(row.key).map(|found| found.after);
+    let reply = recorder.answer_to(row.key).copied();
+    after == row.after && reply == row.value.map(RegisterReply::Value)
+}
+
 #[test]
 fn the_first_of_each_key_counts(rt: HostRuntime) -> Result<(), Fail> {
-    let mut recorder = Recorder::new(rt.alloc());
-    submit(&mut recorder, FIRST, 5, true)?;
-    submit(&mut recorder, OTHER, 6, true)?;
-    give(&mut recorder, FIRST, 1, rt.alloc())?;
-    give(&mut recorder, OTHER, 2, rt.alloc())?;
-    submit(&mut recorder, SECOND, 6, true)?;
-    submit(&mut recorder, FIRST, 7, false)?;
-    give(&mut recorder, OTHER, 4, rt.alloc())?;
-    give(&mut recorder, SECOND, 5, rt.alloc())?;
+    let recorder = recorder_of(rt.alloc(), &TOLD)?;
     let known = vec![in rt.alloc(); answer(FIRST, 1), answer(OTHER, 2), answer(SECOND, 5)]?;
     assert!(rt; recorder.answers() == known.as_slice());
-    for (key, after) in [
-        (FIRST, Some(0)),
-        (OTHER, Some(0)),
-        (SECOND, Some(2)),
-        (UNKNOWN, None),
-    ] {
-        assert!(rt; recorder.submission_of(key).map(|s| s.after) == after);
-    }
-    for (key, value) in [
-        (FIRST, Some(1)),
-        (SECOND, Some(5)),
-        (OTHER, Some(2)),
-        (UNKNOWN, None),
-    ] {
-        assert!(rt; recorder.answer_to(key).copied() == value.map(RegisterReply::Value));
+    for row in &KNOWN {
+        assert!(rt; finds(&recorder, row), "{:?}", row.key);
     }
     assert_eq!(rt; recorder.submitted().len(), 3);
     Ok(())

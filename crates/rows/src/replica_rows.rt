@@ -61,7 +61,10 @@ fn replica_of(alloc: Global, rows: &[Decided]) -> Result<Replica<Register>, Fail
     let mut replica = Replica::new(alloc)?;
     for row in rows {
         let command = command(row.session, row.op)?;
-        replica.learn(slot(row.slot)?, command).ok().ok_or("not learnt")?;
+        replica
+            .learn(slot(row.slot)?, command)
+            .ok()
+            .ok_or("not learnt")?;
     }
     Ok(replica)
 }
@@ -71,10 +74,12 @@ fn performs(alloc: Global, replica: &mut Replica<Register>, row: &Decided) -> Re
     let mut answers = Vec::new(alloc);
     let done = replica.perform(&mut answers)?.ok_or("nothing performed")?;
     let reply = answers.pop().map(|answer| answer.reply);
-    Ok(done.slot.number() == row.slot
-        && done.key.session == row.session
-        && done.effect == row.effect
-        && reply == row.reply)
+    Ok(
+        done.slot.number() == row.slot
+            && done.key.session == row.session
+            && done.effect == row.effect
+            && reply == row.reply,
+    )
 }
 
 #[test]
