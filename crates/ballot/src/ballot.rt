@@ -28,7 +28,8 @@ impl Model for Ballot {
 impl Ballot {
     /// The ballot of these numbers, where they are within their limits.
     pub fn new(round: u64, node: u8, boot: u64) -> Option<Ballot>
-        ensures { SomeIff result (IsBallot (record { round = round; node = node; boot = boot })) (record { round = round; node = node; boot = boot }) }
+        ensures { SomeIff result (IsBallot (record { round = round; node = node; boot = boot }))
+            (record { round = round; node = node; boot = boot }) }
     {
         if round <= 1 << 62 && node >= 1 && node <= 7 && boot <= 1 << 62 {
             Some(Ballot { round, node, boot })
@@ -39,7 +40,8 @@ impl Ballot {
 
     /// The ballot of the next round, of this node and boot, where it is within the limits.
     pub fn next_after(&self, node: u8, boot: u64) -> Option<Ballot>
-        ensures { SomeIff result (IsBallot (next_after self.now node boot)) (next_after self.now node boot) }
+        ensures { SomeIff result (IsBallot (next_after self.now node boot))
+            (next_after self.now node boot) }
     {
         Ballot::new(self.round + 1, node, boot)
     }

@@ -91,7 +91,8 @@ fn complete_put(
         ((length rest.now < size + 2) × (size ≤ longest_body))) }
     ensures drop { IfOk result (λ read. IfDrop read (λ used want.
         (used ≡ start) × (want ≡ wants.Big (size + 2)) × (longest_body < size))) }
-    ensures memory { OnErr result (TakesMemory (put_item pri delay ttr size (take (size + 2) rest.now))
+    ensures memory { OnErr result
+        (TakesMemory (put_item pri delay ttr size (take (size + 2) rest.now))
         × (size + 2 ≤ length rest.now)) }
 {
     if size > LONGEST_BODY {

@@ -56,7 +56,8 @@ impl<M: JobMap> JobDraft<M> {
 
     /// Sets the priority and the state of the job at an id, if there is one.
     pub fn set(&mut self, id: u64, pri: u32, state: State) -> Result<(), AllocError>
-        ensures now { OnOk result (self.new.now ≡ altered id (with_pri_and_state pri state) self.old.now) }
+        ensures now { OnOk result (self.new.now
+            ≡ altered id (with_pri_and_state pri state) self.old.now) }
         ensures before { self.new.before ≡ self.old.before }
         ensures err { OnErr result (self.new.now ≡ self.old.now) }
     {

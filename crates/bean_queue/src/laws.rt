@@ -21,7 +21,8 @@ use job_store::{Job, least_is_least};
 pub fn one_holder()
     ensures once { (commands : List (Command Op)) → IsGivenOnce (places commands) }
     ensures ended { (commands : List (Command Op)) → IsHeldByOne (places commands) }
-    ensures replay { (commands : List (Command Op)) → queue_replay commands ≡ placed_from 0 (places commands) }
+    ensures replay { (commands : List (Command Op))
+        → queue_replay commands ≡ placed_from 0 (places commands) }
 {}
 
 /// Where no key stands twice among the commands that a new queue obeys, no key is answered twice.
@@ -34,7 +35,8 @@ pub fn one_answer()
 /// until there is no ready job in a tube that a waiting session watches.
 pub fn serve_gives_the_best()
     ensures turn { (s : QueueState) (t : Turn) → serve_turn s ≡ Some t → IsBestTurn s t }
-    ensures end { (s : QueueState) (w : ℕ × Session) → In w (serve s).state.sessions → is_waiting w.1 ≡ true →
+    ensures end { (s : QueueState) (w : ℕ × Session) → In w (serve s).state.sessions
+        → is_waiting w.1 ≡ true →
         best_ready w.1.watched (serve s).state.jobs ≡ None }
 {
     // What is least is least, of jobs and of sessions.

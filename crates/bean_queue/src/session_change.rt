@@ -21,7 +21,8 @@ pub fn set_wait(sessions: &mut BTreeMap<u32, Session>, session: u32, wait: Optio
 /// Lets a session use a tube, if it is there.
 pub fn set_used(sessions: &mut BTreeMap<u32, Session>, session: u32, name: Name)
     requires { Rising 0 (2 ^ 32) sessions.old.entries }
-    ensures { sessions.new.entries ≡ altered session (λ c. record c { used = name }) sessions.old.entries }
+    ensures { sessions.new.entries
+        ≡ altered session (λ c. record c { used = name }) sessions.old.entries }
 {
     if let Some(found) = sessions.get_mut(&session) {
         found.used = name;
@@ -36,9 +37,12 @@ pub fn watch(
 ) -> Result<usize, AllocError>
     requires there { IsSome (value_at session sessions.old.entries) }
     requires rising { Rising 0 (2 ^ 32) sessions.old.entries }
-    ensures count { IfOk result (λ count. count ≡ length (joined name (session_of session sessions.old.entries).watched)) }
+    ensures count { IfOk result (λ count. count
+        ≡ length (joined name (session_of session sessions.old.entries).watched)) }
     ensures ok { OnOk result
-        (sessions.new.entries ≡ altered session (λ c. record c { watched = joined name c.watched }) sessions.old.entries) }
+        (sessions.new.entries
+        ≡ altered session
+        (λ c. record c { watched = joined name c.watched }) sessions.old.entries) }
     ensures err { OnErr result (sessions.new.entries ≡ sessions.old.entries) }
 {
     match sessions.get_mut(&session) {
@@ -54,9 +58,11 @@ pub fn watch(
 pub fn ignore(sessions: &mut BTreeMap<u32, Session>, session: u32, name: &Name) -> usize
     requires there { IsSome (value_at session sessions.old.entries) }
     requires rising { Rising 0 (2 ^ 32) sessions.old.entries }
-    ensures count { result ≡ length (left_out name.now (session_of session sessions.old.entries).watched) }
+    ensures count { result ≡ length
+        (left_out name.now (session_of session sessions.old.entries).watched) }
     ensures sessions { sessions.new.entries
-        ≡ altered session (λ c. record c { watched = left_out name.now c.watched }) sessions.old.entries }
+        ≡ altered session
+        (λ c. record c { watched = left_out name.now c.watched }) sessions.old.entries }
 {
     match sessions.get_mut(&session) {
         Some(found) => {

@@ -118,7 +118,8 @@ impl SessionDraft {
     /// Keeps all changes, and lets a session use a tube.
     pub fn use_tube(&mut self, session: u32, name: Name)
         ensures now { self.new.now ≡ altered session (λ c. record c { used = name }) self.old.now }
-        ensures before { self.new.before ≡ altered session (λ c. record c { used = name }) self.old.now }
+        ensures before { self.new.before
+            ≡ altered session (λ c. record c { used = name }) self.old.now }
     {
         self.steps.clear();
         set_used(&mut self.sessions, session, name);
@@ -127,9 +128,11 @@ impl SessionDraft {
     /// Keeps all changes, and lets a session that is there watch one tube more. It tells how many it watches then.
     pub fn watch(&mut self, session: u32, name: Name) -> Result<usize, AllocError>
         requires { IsSome (value_at session self.old.now) }
-        ensures count { IfOk result (λ count. count ≡ length (joined name (session_of session self.old.now).watched)) }
+        ensures count { IfOk result (λ count. count
+            ≡ length (joined name (session_of session self.old.now).watched)) }
         ensures now { OnOk result
-            (self.new.now ≡ altered session (λ c. record c { watched = joined name c.watched }) self.old.now) }
+            (self.new.now
+            ≡ altered session (λ c. record c { watched = joined name c.watched }) self.old.now) }
         ensures before { OnOk result (self.new.before ≡ self.new.now) }
         ensures err { OnErr result (self.new ≡ self.old) }
     {
@@ -141,8 +144,11 @@ impl SessionDraft {
     /// Keeps all changes, and lets a session that is there watch a tube no more. It tells how many it watches then.
     pub fn ignore(&mut self, session: u32, name: &Name) -> usize
         requires { IsSome (value_at session self.old.now) }
-        ensures count { result ≡ length (left_out name.now (session_of session self.old.now).watched) }
-        ensures now { self.new.now ≡ altered session (λ c. record c { watched = left_out name.now c.watched }) self.old.now }
+        ensures count { result ≡ length
+            (left_out name.now (session_of session self.old.now).watched) }
+        ensures now { self.new.now
+            ≡ altered session
+            (λ c. record c { watched = left_out name.now c.watched }) self.old.now }
         ensures before { self.new.before ≡ self.new.now }
     {
         self.steps.clear();

@@ -13,7 +13,8 @@ use std::collections::BTreeMap;
 /// Of two jobs under their ids that there may be, the more urgent.
 fn urgent<'a>(a: Option<(u64, &'a Job)>, b: Option<(u64, &'a Job)>) -> Option<(u64, &'a Job)>
     ensures { option_map (λ e. (e.0, e.1.now)) result
-        ≡ first_of pri_of_job (option_map (λ e. (e.0, e.1.now)) a.entry) (option_map (λ e. (e.0, e.1.now)) b.entry) }
+        ≡ first_of pri_of_job (option_map (λ e. (e.0, e.1.now)) a.entry)
+        (option_map (λ e. (e.0, e.1.now)) b.entry) }
 {
     match (a, b) {
         (None, b) => b,
@@ -34,7 +35,8 @@ pub fn next_job<'a, M: JobMap>(
     sessions: &BTreeMap<u32, Session>,
 ) -> Option<(u64, &'a Job)>
     ensures { option_map (λ e. (e.0, e.1.now)) result
-        ≡ least (λ e. true) pri_of_job (filter_map (wanted (M.entries jobs.now)) sessions.now.entries) }
+        ≡ least (λ e. true) pri_of_job
+        (filter_map (wanted (M.entries jobs.now)) sessions.now.entries) }
 {
     let mut best = None;
     for (_, session) in sessions {
@@ -51,7 +53,8 @@ fn first<'a>(
     other: (u32, &'a Session),
 ) -> Option<(u32, &'a Session)>
     ensures { option_map (λ e. (e.0, e.1.now)) result
-        ≡ first_of wait_rank (option_map (λ e. (e.0, e.1.now)) best.entry) (Some (other.entry.0, other.entry.1.now)) }
+        ≡ first_of wait_rank (option_map (λ e. (e.0, e.1.now)) best.entry)
+        (Some (other.entry.0, other.entry.1.now)) }
 {
     match best {
         Some(best) => {

@@ -31,7 +31,8 @@ pub fn program<R: ByteIn, W: ByteOut, E: ByteOut>(
 ) -> u8
     ensures known { result ≤ WRONG_WORDS }
     ensures right { result ≡ DONE
-        → (AskForRun (map string_bytes words.now) × IsRun (R.remaining input.old) (R.remaining input.new)
+        → (AskForRun (map string_bytes words.now)
+        × IsRun (R.remaining input.old) (R.remaining input.new)
         (W.contents output.old) (W.contents output.new))
         ⊎ (AskForHelp (map string_bytes words.now) × (input.new ≡ input.old)) }
     ensures silent { result ≡ DONE → errors.new ≡ errors.old }

@@ -6,7 +6,8 @@ use bean_codec::one_item;
 
 /// Every input has one transcript at most: what a client is told is a function of the bytes that it sent.
 pub fn one_transcript()
-    ensures unique { (input a b : List ℕ) (d e : End) → IsTold input a d → IsTold input b e → (a ≡ b) × (d ≡ e) }
+    ensures unique { (input a b : List ℕ) (d e : End) → IsTold input a d → IsTold input b e
+        → (a ≡ b) × (d ≡ e) }
 {
     one_item();
 }

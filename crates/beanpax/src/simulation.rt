@@ -18,7 +18,10 @@ pub struct Simulation {
 impl Simulation {
     /// New nodes; the seed draws what happens between them.
     pub fn new(alloc: Global, members: Members, seed: u64) -> Result<Simulation, AllocError>
-        ensures { IfOk result (λ s. Stand (queue_with ⟦<Op as PartialEq>⟧.eq) s.nodes.carrier.world s.nodes.next s.nodes.second (opened queue)) }
+        ensures { IfOk result
+            (λ s. Stand
+            (queue_with ⟦<Op as PartialEq>⟧.eq) s.nodes.carrier.world s.nodes.next s.nodes.second
+            (opened queue)) }
     {
         Ok(Simulation {
             nodes: Nodes::new(alloc, members, seed)?,

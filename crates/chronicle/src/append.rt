@@ -38,7 +38,8 @@ pub fn append_body(body: &[u8], out: &mut Vec<u8>) -> Result<(), AllocError>
 
 /// Writes two words at the end, each after a space. Where memory runs out, a part of them may stand there.
 pub fn append_two(first: &[u8], second: &[u8], out: &mut Vec<u8>) -> Result<(), AllocError>
-    ensures ok { OnOk result (out.new.items ≡ out.old.items ++ spaced (first.now ∷ second.now ∷ [])) }
+    ensures ok { OnOk result (out.new.items
+        ≡ out.old.items ++ spaced (first.now ∷ second.now ∷ [])) }
     ensures front { take (vec_len out.old) out.new.items ≡ out.old.items }
 {
     append_word(first, out)?;
@@ -47,7 +48,8 @@ pub fn append_two(first: &[u8], second: &[u8], out: &mut Vec<u8>) -> Result<(), 
 
 /// Writes a word and a number at the end, each after a space. Where memory runs out, a part of them may stand there.
 pub fn append_count(word: &[u8], number: u64, out: &mut Vec<u8>) -> Result<(), AllocError>
-    ensures ok { OnOk result (out.new.items ≡ out.old.items ++ spaced (word.now ∷ decimal number ∷ [])) }
+    ensures ok { OnOk result (out.new.items
+        ≡ out.old.items ++ spaced (word.now ∷ decimal number ∷ [])) }
     ensures front { take (vec_len out.old) out.new.items ≡ out.old.items }
 {
     append_word(word, out)?;
@@ -58,7 +60,8 @@ pub fn append_count(word: &[u8], number: u64, out: &mut Vec<u8>) -> Result<(), A
 /// stand there.
 pub fn append_job(word: &[u8], id: u64, body: &[u8], out: &mut Vec<u8>) -> Result<(), AllocError>
     ensures ok { OnOk result
-        (out.new.items ≡ out.old.items ++ spaced (word.now ∷ decimal id ∷ body_word body.now ∷ [])) }
+        (out.new.items
+        ≡ out.old.items ++ spaced (word.now ∷ decimal id ∷ body_word body.now ∷ [])) }
     ensures front { take (vec_len out.old) out.new.items ≡ out.old.items }
 {
     append_word(word, out)?;

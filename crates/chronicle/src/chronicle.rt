@@ -50,8 +50,19 @@ impl<Op: Value, Reply: Value> Chronicle<Op, Reply> {
         order: Vec<Key>,
     ) -> Option<Chronicle<Op, Reply>>
         ensures { SomeIff result
-            (IsChronicle (record { members = members; submitted = submitted.items; answers = answers.items; order = order.items }))
-            (record { members = members; submitted = submitted.items; answers = answers.items; order = order.items }) }
+            (IsChronicle
+            (record {
+              members = members;
+              submitted = submitted.items;
+              answers = answers.items;
+              order = order.items;
+            }))
+            (record {
+              members = members;
+              submitted = submitted.items;
+              answers = answers.items;
+              order = order.items;
+            }) }
     {
         if members < 1 || members > 7 || !is_timeline(&submitted, &answers) {
             return None;

@@ -7,6 +7,7 @@ ghost use Rattle.chronicle.specs.Fits.{FitsChronicle};
 
 /// Two chronicles of queues have one text only where they are one.
 pub fn one_chronicle()
-    ensures { (c d : Chronicle Op Reply) → IsChronicle c → IsChronicle d → FitsChronicle c → FitsChronicle d →
+    ensures { (c d : Chronicle Op Reply) → IsChronicle c → IsChronicle d → FitsChronicle c
+        → FitsChronicle d →
         dump_text c ≡ dump_text d → c ≡ d }
 {}

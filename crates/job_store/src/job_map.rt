@@ -67,13 +67,15 @@ pub trait JobMap: Drop + Sized {
 
     /// Sets the state of the job at an id, if there is one.
     fn set_state(&mut self, id: u64, state: State) -> Result<(), AllocError>
-        ensures ok { OnOk result (entries self.new ≡ altered id (with_state state) (entries self.old)) }
+        ensures ok { OnOk result (entries self.new
+            ≡ altered id (with_state state) (entries self.old)) }
         ensures err { OnErr result (entries self.new ≡ entries self.old) }
         ensures before { before self.new ≡ before self.old };
 
     /// Sets the priority and the state of the job at an id, if there is one.
     fn set(&mut self, id: u64, pri: u32, state: State) -> Result<(), AllocError>
-        ensures ok { OnOk result (entries self.new ≡ altered id (with_pri_and_state pri state) (entries self.old)) }
+        ensures ok { OnOk result (entries self.new
+            ≡ altered id (with_pri_and_state pri state) (entries self.old)) }
         ensures err { OnErr result (entries self.new ≡ entries self.old) }
         ensures before { before self.new ≡ before self.old };
 
@@ -85,37 +87,49 @@ pub trait JobMap: Drop + Sized {
 
     /// The best job for one who watches these tubes, and its id: of the ready ones that of the least (priority, id).
     fn best_ready(&self, tubes: &IndexSet<Name>) -> Option<(u64, &Job)>
-        ensures job { option_map (λ e. (e.0, e.1.now)) result ≡ best_ready tubes.now.keys (entries self.now) }
-        ensures found { IfSome result (λ e. IsLeast (ready_in tubes.now.keys) pri_of_job (entries self.now) (e.0, e.1.now)) }
+        ensures job { option_map (λ e. (e.0, e.1.now)) result
+            ≡ best_ready tubes.now.keys (entries self.now) }
+        ensures found { IfSome result
+            (λ e. IsLeast (ready_in tubes.now.keys) pri_of_job (entries self.now) (e.0, e.1.now)) }
         ensures none { IfNone result (NonePasses (ready_in tubes.now.keys) (entries self.now)) };
 
     /// The tube's ready job of the least (priority, id).
     fn first_ready(&self, tube: &Name) -> Option<(u64, &Job)>
-        ensures job { option_map (λ e. (e.0, e.1.now)) result ≡ first_ready tube.now (entries self.now) }
-        ensures found { IfSome result (λ e. IsLeast (ready_in (tube.now ∷ [])) pri_of_job (entries self.now) (e.0, e.1.now)) }
+        ensures job { option_map (λ e. (e.0, e.1.now)) result
+            ≡ first_ready tube.now (entries self.now) }
+        ensures found { IfSome result
+            (λ e. IsLeast (ready_in (tube.now ∷ [])) pri_of_job (entries self.now) (e.0, e.1.now)) }
         ensures none { IfNone result (NonePasses (ready_in (tube.now ∷ [])) (entries self.now)) };
 
     /// The tube's delayed job of the least (due, id).
     fn first_delayed(&self, tube: &Name) -> Option<(u64, &Job)>
-        ensures job { option_map (λ e. (e.0, e.1.now)) result ≡ first_delayed tube.now (entries self.now) }
-        ensures found { IfSome result (λ e. IsLeast (delayed_in tube.now) due_of_job (entries self.now) (e.0, e.1.now)) }
+        ensures job { option_map (λ e. (e.0, e.1.now)) result
+            ≡ first_delayed tube.now (entries self.now) }
+        ensures found { IfSome result
+            (λ e. IsLeast (delayed_in tube.now) due_of_job (entries self.now) (e.0, e.1.now)) }
         ensures none { IfNone result (NonePasses (delayed_in tube.now) (entries self.now)) };
 
     /// The tube's buried job of the least (rank, id).
     fn first_buried(&self, tube: &Name) -> Option<(u64, &Job)>
-        ensures job { option_map (λ e. (e.0, e.1.now)) result ≡ first_buried tube.now (entries self.now) }
-        ensures found { IfSome result (λ e. IsLeast (buried_in tube.now) rank_of_job (entries self.now) (e.0, e.1.now)) }
+        ensures job { option_map (λ e. (e.0, e.1.now)) result
+            ≡ first_buried tube.now (entries self.now) }
+        ensures found { IfSome result
+            (λ e. IsLeast (buried_in tube.now) rank_of_job (entries self.now) (e.0, e.1.now)) }
         ensures none { IfNone result (NonePasses (buried_in tube.now) (entries self.now)) };
 
     /// Of the delayed and reserved jobs that are due at this second, that of the least (due, id).
     fn due(&self, second: u64) -> Option<(u64, &Job)>
-        ensures job { option_map (λ e. (e.0, e.1.now)) result ≡ first_due second (entries self.now) }
-        ensures found { IfSome result (λ e. IsLeast (due_by second) due_of_job (entries self.now) (e.0, e.1.now)) }
+        ensures job { option_map (λ e. (e.0, e.1.now)) result
+            ≡ first_due second (entries self.now) }
+        ensures found { IfSome result
+            (λ e. IsLeast (due_by second) due_of_job (entries self.now) (e.0, e.1.now)) }
         ensures none { IfNone result (NonePasses (due_by second) (entries self.now)) };
 
     /// Of the jobs that the session has, that of the least (due, id).
     fn first_held(&self, session: u32) -> Option<(u64, &Job)>
-        ensures job { option_map (λ e. (e.0, e.1.now)) result ≡ first_held session (entries self.now) }
-        ensures found { IfSome result (λ e. IsLeast (held_by session) due_of_job (entries self.now) (e.0, e.1.now)) }
+        ensures job { option_map (λ e. (e.0, e.1.now)) result
+            ≡ first_held session (entries self.now) }
+        ensures found { IfSome result
+            (λ e. IsLeast (held_by session) due_of_job (entries self.now) (e.0, e.1.now)) }
         ensures none { IfNone result (NonePasses (held_by session) (entries self.now)) };
 }

@@ -17,5 +17,6 @@ pub fn least_is_least<X>()
 
 /// A name is among some names exactly where it is one of them.
 pub fn among_is_member()
-    ensures { (tube : List ℕ) (tubes : List (List ℕ)) → (is_among tube tubes ≡ true) ↔ In tube tubes }
+    ensures { (tube : List ℕ) (tubes : List (List ℕ)) → (is_among tube tubes ≡ true)
+        ↔ In tube tubes }
 {}

@@ -52,7 +52,8 @@ impl<'a> LookUp<'a> {
 
     /// Whether the pair of number and id of the first of two entries is the smaller.
     fn comes_before(&self, a: (u64, &Job), b: (u64, &Job)) -> bool
-        ensures { result ≡ comes_before (number self.now) (a.entry.0, a.entry.1.now) (b.entry.0, b.entry.1.now) }
+        ensures { result ≡ comes_before (number self.now) (a.entry.0, a.entry.1.now)
+            (b.entry.0, b.entry.1.now) }
     {
         let (number, other) = (self.number(a.1), self.number(b.1));
         number < other || number == other && a.0 < b.0
@@ -61,7 +62,8 @@ impl<'a> LookUp<'a> {
     /// Of the least entry so far and one more, the one that comes first.
     fn first_of<'b>(&self, least: Option<(u64, &'b Job)>, other: (u64, &'b Job)) -> (u64, &'b Job)
         ensures { Some (result.0, result.1.now)
-            ≡ first_of (number self.now) (option_map (λ e. (e.0, e.1.now)) least.entry) (Some (other.entry.0, other.entry.1.now)) }
+            ≡ first_of (number self.now) (option_map (λ e. (e.0, e.1.now)) least.entry)
+            (Some (other.entry.0, other.entry.1.now)) }
     {
         match least {
             Some(least) if !self.comes_before(other, least) => least,
@@ -71,8 +73,10 @@ impl<'a> LookUp<'a> {
 
     /// The entry with the least pair of number and id among those that are looked for.
     pub fn least<'b>(&self, jobs: &'b BTreeMap<u64, Job>) -> Option<(u64, &'b Job)>
-        ensures job { option_map (λ e. (e.0, e.1.now)) result ≡ least (passes self.now) (number self.now) jobs.now.entries }
-        ensures found { IfSome result (λ e. IsLeast (passes self.now) (number self.now) jobs.now.entries (e.0, e.1.now)) }
+        ensures job { option_map (λ e. (e.0, e.1.now)) result
+            ≡ least (passes self.now) (number self.now) jobs.now.entries }
+        ensures found { IfSome result
+            (λ e. IsLeast (passes self.now) (number self.now) jobs.now.entries (e.0, e.1.now)) }
         ensures none { IfNone result (NonePasses (passes self.now) jobs.now.entries) }
     {
         let mut least = None;

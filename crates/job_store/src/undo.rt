@@ -26,7 +26,8 @@ pub fn note(
     id: u64,
     jobs: &BTreeMap<u64, Job>,
 ) -> Result<(), AllocError>
-    ensures ok { OnOk result (log.new.items ≡ log.old.items ++ set_back is_trial id (value_at id jobs.now.entries)) }
+    ensures ok { OnOk result (log.new.items
+        ≡ log.old.items ++ set_back is_trial id (value_at id jobs.now.entries)) }
     ensures err { OnErr result (log.new.items ≡ log.old.items) }
 {
     match jobs.get(&id) {
@@ -48,7 +49,8 @@ pub fn put(
     job: Job,
 ) -> Result<(), AllocError>
     ensures jobs { OnOk result (jobs.new.entries ≡ with_value id job jobs.old.entries) }
-    ensures log { OnOk result (log.new.items ≡ log.old.items ++ put_back id (value_at id jobs.old.entries) ∷ []) }
+    ensures log { OnOk result (log.new.items
+        ≡ log.old.items ++ put_back id (value_at id jobs.old.entries) ∷ []) }
     ensures jobs_stay { OnErr result (jobs.new.entries ≡ jobs.old.entries) }
     ensures log_stays { OnErr result (log.new.items ≡ log.old.items) }
 {

@@ -116,7 +116,8 @@ impl<C: Value> Leader<C> {
     /// Where the leader isn't active and has no scout, it sends one out. Else it does nothing, which takes no memory.
     pub fn wake(&mut self, out: &mut Vec<Letter<C>>) -> Result<(), AllocError>
         ensures state { OnOk result (self.new ≡ (woken self.old).state) }
-        ensures out { OnOk result (Sends self.old (woken self.old).says out.old.items out.new.items) }
+        ensures out { OnOk result
+            (Sends self.old (woken self.old).says out.old.items out.new.items) }
         ensures idle { (self.old.active ≡ true) ⊎ IsSome self.old.scout → IsOk result }
         ensures err { OnErr result ((self.new ≡ self.old) × (out.new.items ≡ out.old.items)) }
     {
@@ -130,7 +131,8 @@ impl<C: Value> Leader<C> {
 
     /// Says again what the scout and the commanders wait for.
     pub fn nudge(&self, out: &mut Vec<Letter<C>>) -> Result<(), AllocError>
-        ensures ok { OnOk result (Sends self.now (says_again self.now) out.old.items out.new.items) }
+        ensures ok { OnOk result
+            (Sends self.now (says_again self.now) out.old.items out.new.items) }
         ensures err { OnErr result (out.new.items ≡ out.old.items) }
         ensures leader { IsLeader self.now }
     {
@@ -144,7 +146,8 @@ impl<C: Value> Leader<C> {
 
     // The same, but for what was sent before memory ran out.
     fn append_again(&self, out: &mut Vec<Letter<C>>) -> Result<(), AllocError>
-        ensures ok { OnOk result (Sends self.now (says_again self.now) out.old.items out.new.items) }
+        ensures ok { OnOk result
+            (Sends self.now (says_again self.now) out.old.items out.new.items) }
         ensures front { take (vec_len out.old) out.new.items ≡ out.old.items }
         ensures leader { IsLeader self.now }
     {
@@ -158,7 +161,8 @@ impl<C: Value> Leader<C> {
 
     // Says again what the scout waits for.
     fn repeat_scout(&self, out: &mut Vec<Letter<C>>) -> Result<(), AllocError>
-        ensures ok { OnOk result (Sends self.now (scout_says self.now.scout) out.old.items out.new.items) }
+        ensures ok { OnOk result
+            (Sends self.now (scout_says self.now.scout) out.old.items out.new.items) }
         ensures err { OnErr result (out.new.items ≡ out.old.items) }
         ensures leader { IsLeader self.now }
     {

@@ -40,8 +40,11 @@ impl<C: Value> Mail<C> {
     /// Takes the first of these letters to its back.
     pub(crate) fn take_first(&mut self, letters: &mut VecDeque<Letter<C>>) -> Result<(), AllocError>
         requires { is_some (front letters.old.items) ≡ true }
-        ensures ok { OnOk result ((l : Letter C) → (ls : List (Letter C)) → letters.old.items ≡ l ∷ ls → (self.new ≡ self.old ++ (l ∷ [])) × (letters.new.items ≡ ls)) }
-        ensures err { OnErr result ((self.new ≡ self.old) × (letters.new.items ≡ letters.old.items)) }
+        ensures ok { OnOk result ((l : Letter C) → (ls : List (Letter C))
+            → letters.old.items ≡ l ∷ ls
+            → (self.new ≡ self.old ++ (l ∷ [])) × (letters.new.items ≡ ls)) }
+        ensures err { OnErr result ((self.new ≡ self.old)
+            × (letters.new.items ≡ letters.old.items)) }
     {
         self.letters.reserve(1)?;
         if let Some(letter) = letters.pop_front() {

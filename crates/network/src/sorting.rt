@@ -33,7 +33,8 @@ fn sort_each<C: Value>(
     letters: &mut VecDeque<Letter<C>>,
 ) -> Result<(), AllocError>
     requires { IsPost mails.old.items letters.old.items }
-    ensures same { posted letters.new.items mails.new.items ≡ posted letters.old.items mails.old.items }
+    ensures same { posted letters.new.items mails.new.items
+        ≡ posted letters.old.items mails.old.items }
     ensures size { length mails.new.items ≡ length mails.old.items }
     ensures post { IsPost mails.new.items letters.new.items }
     ensures ok { OnOk result (letters.new.items ≡ []) }
@@ -50,7 +51,8 @@ fn sort_first<C: Value>(
     letters: &mut VecDeque<Letter<C>>,
 ) -> Result<(), AllocError>
     requires { IsPost mails.old.items letters.old.items }
-    ensures same { posted letters.new.items mails.new.items ≡ posted letters.old.items mails.old.items }
+    ensures same { posted letters.new.items mails.new.items
+        ≡ posted letters.old.items mails.old.items }
     ensures size { length mails.new.items ≡ length mails.old.items }
     ensures post { IsPost mails.new.items letters.new.items }
     ensures ok { OnOk result (letters.new.items ≡ drop 1 letters.old.items) }

@@ -10,5 +10,6 @@ pub mod Legal
 pub mod Registers
 pub mod Obeying
 pub mod ListLaws
+pub mod KeyLaws
 pub mod ReplayLaws
 pub mod FilterLaws

@@ -51,7 +51,8 @@ impl<Op> Command<Op> {
     pub fn new(key: Key, act: Act<Op>) -> Option<Command<Op>>
     where
         Op: Drop,
-        ensures { SomeIff result (IsCommand (record { key = key; act = act })) (record { key = key; act = act }) }
+        ensures { SomeIff result (IsCommand (record { key = key; act = act }))
+            (record { key = key; act = act }) }
     {
         let may = match act {
             Act::Do(_) | Act::Close => key.session != 0,

@@ -8,7 +8,8 @@ ghost use Rattle.object.specs.OnceOnly.{LatestNumbers, Remembers, is_later, note
 pub fn filter_remembers<Op>()
     ensures none { Remembers {Op = Op} empty [] }
     ensures done { (latest : LatestNumbers) (earlier : List (Command Op)) (c : Command Op) →
-        Remembers latest earlier → is_later c.key latest ≡ true → Remembers (noted c.key latest) (c ∷ earlier) }
+        Remembers latest earlier → is_later c.key latest ≡ true
+        → Remembers (noted c.key latest) (c ∷ earlier) }
     ensures stale { (latest : LatestNumbers) (earlier : List (Command Op)) (c : Command Op) →
         Remembers latest earlier → is_later c.key latest ≡ false → Remembers latest (c ∷ earlier) }
 {}

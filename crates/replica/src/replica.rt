@@ -57,7 +57,9 @@ impl<O: Object> Replica<O> {
     /// A command is asked for. It goes last in the requests, unless it is known.
     pub fn request(&mut self, command: Command<O::Op>) -> Result<(), AllocError>
         ensures state { OnOk result (self.new
-            ≡ record self.old { slots = requested (same_commands O.Op.eq) self.old.slots command }) }
+            ≡ record self.old {
+              slots = requested (same_commands O.Op.eq) self.old.slots command;
+            }) }
         ensures known { is_known (same_commands O.Op.eq) self.old.slots command ≡ true →
             IsOk result }
         ensures err { OnErr result (self.new ≡ self.old) }
@@ -69,7 +71,8 @@ impl<O: Object> Replica<O> {
     pub fn learn(&mut self, slot: Slot, command: Command<O::Op>) -> Result<(), LearnError>
         ensures state { OnOk result (self.new
             ≡ record self.old { slots = deciding.learnt self.old.slots slot command }) }
-        ensures clash { IsErrOf result LearnError.Clash ↔ deciding.IsClash self.old.slots slot command }
+        ensures clash { IsErrOf result LearnError.Clash
+            ↔ deciding.IsClash self.old.slots slot command }
         ensures again { get self.old.slots.decisions slot ≡ Some command → IsOk result }
         ensures err { OnErr result (self.new ≡ self.old) }
     {

@@ -71,7 +71,8 @@ impl<C> Commander<C> {
         ensures says { result ≡ (voting self.old from ballot).says }
 
         ensures decided { (result ≡ Voted.Decided) ↔ IsDeciding self.old from ballot }
-        ensures preempted { (b : Numbers) → (result ≡ Voted.Preempted b) ↔ ((ballot ≡ Some b) × IsPreempting self.old.members self.old.pvalue.ballot from b) }
+        ensures preempted { (b : Numbers) → (result ≡ Voted.Preempted b)
+            ↔ ((ballot ≡ Some b) × IsPreempting self.old.members self.old.pvalue.ballot from b) }
     {
         let Some(ballot) = ballot else {
             return Voted::Wait;

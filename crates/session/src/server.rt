@@ -19,9 +19,11 @@ const PIECE_LEN: usize = 4096;
 
 // Writes out what the client is to be told.
 fn send<W: ByteOut>(session: &mut Session, writer: &mut W) -> Result<(), Failed>
-    ensures ok { OnOk result (Appends (W.contents writer.old) (W.contents writer.new) session.old.unsent) }
+    ensures ok { OnOk result
+        (Appends (W.contents writer.old) (W.contents writer.new) session.old.unsent) }
     ensures sent { OnOk result (session.new ≡ record session.old { unsent = [] }) }
-    ensures err { OnErr result (AppendsBeginning (W.contents writer.old) (W.contents writer.new) session.old.unsent) }
+    ensures err { OnErr result
+        (AppendsBeginning (W.contents writer.old) (W.contents writer.new) session.old.unsent) }
     ensures failed { OnErr result (W.has_failed writer.new ≡ true) }
 {
     write_all(writer, session.unsent())?;
@@ -33,11 +35,18 @@ fn send<W: ByteOut>(session: &mut Session, writer: &mut W) -> Result<(), Failed>
 // Asks the service, and takes down what it answers.
 fn answer<S: Service>(session: &mut Session, service: &mut S, op: Op) -> Result<(), SessionFault>
     requires { session.old.is_open ≡ true }
-    ensures ok { OnOk result ((answer : Answer) × S.asks service.old op (result_of answer) service.new
-        × (session.new ≡ record session.old { unsent = session.old.unsent ++ answer_text answer; is_open = false })) }
+    ensures ok { OnOk result ((answer : Answer)
+        × S.asks service.old op (result_of answer) service.new
+        × (session.new
+        ≡ record session.old {
+          unsent = session.old.unsent ++ answer_text answer;
+          is_open = false;
+        })) }
     ensures err { IfErr result (λ fault.
-        ((fault ≡ SessionFault.OutOfMemory) × (answer : Answer) × S.asks service.old op (result_of answer) service.new)
-        ⊎ ((fault ≡ SessionFault.ServiceStopped) × S.asks service.old op (Err ServiceFault.Stopped) service.new)) }
+        ((fault ≡ SessionFault.OutOfMemory) × (answer : Answer)
+        × S.asks service.old op (result_of answer) service.new)
+        ⊎ ((fault ≡ SessionFault.ServiceStopped)
+        × S.asks service.old op (Err ServiceFault.Stopped) service.new)) }
 {
     match service.ask(op) {
         Ok(reply) => session.reply(&reply)?,
@@ -54,14 +63,19 @@ fn read_piece<R: ByteIn>(
     session: &mut Session,
 ) -> Result<bool, SessionFault>
     requires { 0 < length piece.old }
-    ensures fed { IfOk result (λ some. some ≡ true → (bytes : List ℕ) × (0 < length bytes) × Consumes (R.remaining reader.old) (R.remaining reader.new) bytes
+    ensures fed { IfOk result (λ some. some ≡ true
+        → (bytes : List ℕ) × (0 < length bytes)
+        × Consumes (R.remaining reader.old) (R.remaining reader.new) bytes
         × (session.new.unsent ≡ session.old.unsent) × (session.new.is_open ≡ session.old.is_open)
         × ((text : List ℕ) → StandsAt session.old text → StandsAt session.new (text ++ bytes))) }
-    ensures ended { IfOk result (λ some. some ≡ false → (R.has_ended reader.new ≡ true) × IsAtEnd (R.remaining reader.new)
+    ensures ended { IfOk result (λ some. some ≡ false
+        → (R.has_ended reader.new ≡ true) × IsAtEnd (R.remaining reader.new)
         × Consumes (R.remaining reader.old) (R.remaining reader.new) []) }
     ensures err { IfErr result (λ fault.
-        ((fault ≡ SessionFault.OutOfMemory) × ConsumesSome (R.remaining reader.old) (R.remaining reader.new))
-        ⊎ ((fault ≡ SessionFault.ReadFailed) × (R.has_failed reader.new ≡ true) × Keeps (R.remaining reader.old) (R.remaining reader.new))) }
+        ((fault ≡ SessionFault.OutOfMemory)
+        × ConsumesSome (R.remaining reader.old) (R.remaining reader.new))
+        ⊎ ((fault ≡ SessionFault.ReadFailed) × (R.has_failed reader.new ≡ true)
+        × Keeps (R.remaining reader.old) (R.remaining reader.new))) }
 {
     let n = reader.read(piece).map_err(|_| SessionFault::ReadFailed)?;
     if n == 0 {
@@ -78,12 +92,15 @@ fn converse<R: ByteIn, W: ByteOut, S: Service>(
     writer: &mut W,
     service: &mut S,
 ) -> Result<End, SessionFault>
-    ensures run { Over (R.remaining reader.old) (R.remaining reader.new) (W.contents writer.old) (W.contents writer.new)
+    ensures run { Over (R.remaining reader.old) (R.remaining reader.new) (W.contents writer.old)
+        (W.contents writer.new)
         (λ input output. Ending S.asks service.old service.new input output result) }
     ensures ended { IfOk result (λ end. end ≡ End.Eof → R.has_ended reader.new ≡ true) }
     ensures nothing_left { IfOk result (λ end. end ≡ End.Eof → IsAtEnd (R.remaining reader.new)) }
-    ensures read_failed { IfErr result (λ fault. fault ≡ SessionFault.ReadFailed → R.has_failed reader.new ≡ true) }
-    ensures write_failed { IfErr result (λ fault. fault ≡ SessionFault.WriteFailed → W.has_failed writer.new ≡ true) }
+    ensures read_failed { IfErr result (λ fault. fault ≡ SessionFault.ReadFailed
+        → R.has_failed reader.new ≡ true) }
+    ensures write_failed { IfErr result (λ fault. fault ≡ SessionFault.WriteFailed
+        → W.has_failed writer.new ≡ true) }
 {
     let mut session = Session::new(alloc);
     let mut piece = [0; PIECE_LEN];
@@ -114,22 +131,42 @@ pub fn serve<R: ByteIn, W: ByteOut, S: Service>(
     writer: &mut W,
     service: &mut S,
 ) -> Result<End, SessionFault>
-    ensures ok { IfOk result (λ end. Over (R.remaining reader.old) (R.remaining reader.new) (W.contents writer.old) (W.contents writer.new)
-        (λ input output. ClosedAfter S.closes (λ s. Whole S.asks service.old s input output end) (Ok tt) service.new)) }
+    ensures ok { IfOk result
+        (λ end. Over (R.remaining reader.old) (R.remaining reader.new) (W.contents writer.old)
+        (W.contents writer.new)
+        (λ input output. ClosedAfter S.closes (λ s. Whole S.asks service.old s input output end)
+        (Ok tt) service.new)) }
     ensures ended { IfOk result (λ end. end ≡ End.Eof → R.has_ended reader.new ≡ true) }
     ensures nothing_left { IfOk result (λ end. end ≡ End.Eof → IsAtEnd (R.remaining reader.new)) }
     ensures read_failed { result ≡ Err SessionFault.ReadFailed → (R.has_failed reader.new ≡ true) }
-    ensures all_was_told { result ≡ Err SessionFault.ReadFailed → Over (R.remaining reader.old) (R.remaining reader.new) (W.contents writer.old) (W.contents writer.new)
-        (λ input output. ClosedOnce S.closes (λ s. Whole S.asks service.old s input output End.Eof) service.new) }
-    ensures write_failed { result ≡ Err SessionFault.WriteFailed → (W.has_failed writer.new ≡ true) }
-    ensures breaks_off { result ≡ Err SessionFault.WriteFailed → Over (R.remaining reader.old) (R.remaining reader.new) (W.contents writer.old) (W.contents writer.new)
-        (λ input output. ClosedOnce S.closes (λ s. BreaksOff S.asks service.old s input output) service.new) }
-    ensures stopped { result ≡ Err SessionFault.ServiceStopped → Over (R.remaining reader.old) (R.remaining reader.new) (W.contents writer.old) (W.contents writer.new)
-        (λ input output. ClosedOnce S.closes (λ s. StopsAt S.asks service.old s input output) service.new
-        ⊎ ((end : End) × ClosedAfter S.closes (λ s. Whole S.asks service.old s input output end) (Err ServiceFault.Stopped) service.new × (end ≡ End.Eof → R.has_ended reader.new ≡ true))) }
-    ensures out_of_memory { result ≡ Err SessionFault.OutOfMemory → Over (R.remaining reader.old) (R.remaining reader.new) (W.contents writer.old) (W.contents writer.new)
-        (λ input output. ClosedOnce S.closes (λ s. Partly S.asks service.old s input output) service.new
-        ⊎ ((end : End) × ClosedAfter S.closes (λ s. Whole S.asks service.old s input output end) (Err ServiceFault.Refused) service.new × (end ≡ End.Eof → R.has_ended reader.new ≡ true))) }
+    ensures all_was_told { result ≡ Err SessionFault.ReadFailed
+        → Over (R.remaining reader.old) (R.remaining reader.new) (W.contents writer.old)
+        (W.contents writer.new)
+        (λ input output. ClosedOnce S.closes
+        (λ s. Whole S.asks service.old s input output End.Eof) service.new) }
+    ensures write_failed { result ≡ Err SessionFault.WriteFailed
+        → (W.has_failed writer.new ≡ true) }
+    ensures breaks_off { result ≡ Err SessionFault.WriteFailed
+        → Over (R.remaining reader.old) (R.remaining reader.new) (W.contents writer.old)
+        (W.contents writer.new)
+        (λ input output. ClosedOnce S.closes
+        (λ s. BreaksOff S.asks service.old s input output) service.new) }
+    ensures stopped { result ≡ Err SessionFault.ServiceStopped
+        → Over (R.remaining reader.old) (R.remaining reader.new) (W.contents writer.old)
+        (W.contents writer.new)
+        (λ input output. ClosedOnce S.closes
+        (λ s. StopsAt S.asks service.old s input output) service.new
+        ⊎ ((end : End)
+        × ClosedAfter S.closes (λ s. Whole S.asks service.old s input output end)
+        (Err ServiceFault.Stopped) service.new × (end ≡ End.Eof → R.has_ended reader.new ≡ true))) }
+    ensures out_of_memory { result ≡ Err SessionFault.OutOfMemory
+        → Over (R.remaining reader.old) (R.remaining reader.new) (W.contents writer.old)
+        (W.contents writer.new)
+        (λ input output. ClosedOnce S.closes
+        (λ s. Partly S.asks service.old s input output) service.new
+        ⊎ ((end : End)
+        × ClosedAfter S.closes (λ s. Whole S.asks service.old s input output end)
+        (Err ServiceFault.Refused) service.new × (end ≡ End.Eof → R.has_ended reader.new ≡ true))) }
 {
     let ended = converse(alloc, reader, writer, service);
     let closed = service.close();

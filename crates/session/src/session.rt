@@ -57,8 +57,10 @@ impl Session {
 
     /// The next bytes of the client, which are copied.
     pub fn feed(&mut self, piece: &[u8]) -> Result<(), AllocError>
-        ensures ok { OnOk result (self.new ≡ record self.old { kept = self.old.kept ++ piece.now }) }
-        ensures stands { OnOk result ((text : List ℕ) → StandsAt self.old text → StandsAt self.new (text ++ piece.now)) }
+        ensures ok { OnOk result (self.new
+            ≡ record self.old { kept = self.old.kept ++ piece.now }) }
+        ensures stands { OnOk result ((text : List ℕ) → StandsAt self.old text
+            → StandsAt self.new (text ++ piece.now)) }
         ensures err { OnErr result (self.new ≡ self.old) }
     {
         self.append(piece)
@@ -66,7 +68,8 @@ impl Session {
 
     // A piece more is kept.
     fn append(&mut self, piece: &[u8]) -> Result<(), AllocError>
-        ensures ok { OnOk result (self.new ≡ record self.old { kept = self.old.kept ++ piece.now }) }
+        ensures ok { OnOk result (self.new
+            ≡ record self.old { kept = self.old.kept ++ piece.now }) }
         ensures err { OnErr result (self.new ≡ self.old) }
     {
         self.shift_down();
@@ -89,7 +92,8 @@ impl Session {
     /// text to send. After a quit it goes on with what follows.
     pub fn next_ask(&mut self) -> Result<Option<Request>, AllocError>
         requires { self.old.is_open ≡ false }
-        ensures found { IfOk result (λ found. (text : List ℕ) → StandsAt self.old text → Finds self.old self.new text found) }
+        ensures found { IfOk result (λ found. (text : List ℕ) → StandsAt self.old text
+            → Finds self.old self.new text found) }
         ensures open { IfOk result (λ found. self.new.is_open ≡ is_asked found) }
         ensures small { IfOk result (λ found. found ≡ None → length self.new.kept ≤ longest_wait) }
         ensures err { OnErr result (self.new ≡ self.old) }
@@ -137,7 +141,11 @@ impl Session {
     /// The reply to the open ask.
     pub fn reply(&mut self, reply: &Reply) -> Result<(), AllocError>
         requires { self.old.is_open ≡ true }
-        ensures ok { OnOk result (self.new ≡ record self.old { unsent = self.old.unsent ++ reply_text reply.now; is_open = false }) }
+        ensures ok { OnOk result (self.new
+            ≡ record self.old {
+              unsent = self.old.unsent ++ reply_text reply.now;
+              is_open = false;
+            }) }
         ensures err { OnErr result (self.new ≡ self.old) }
     {
         write_reply(reply, &mut self.text)?;
@@ -149,7 +157,8 @@ impl Session {
     #[tactic(auto, unfolding(crate::specs::Items::refused_text))]
     pub fn refused(&mut self) -> Result<(), AllocError>
         requires { self.old.is_open ≡ true }
-        ensures ok { OnOk result (self.new ≡ record self.old { unsent = self.old.unsent ++ refused_text; is_open = false }) }
+        ensures ok { OnOk result (self.new
+            ≡ record self.old { unsent = self.old.unsent ++ refused_text; is_open = false }) }
         ensures err { OnErr result (self.new ≡ self.old) }
     {
         self.text.extend_from_slice(b"OUT_OF_MEMORY\r\n")?;
@@ -179,9 +188,12 @@ fn look_on(
     requires kept { MayKeep want (drop start bytes.now) }
     ensures within { IfOk result (λ found. found.start ≤ length bytes.now) }
     ensures kept { IfOk result (λ found. MayKeep found.want (drop found.start bytes.now)) }
-    ensures found { IfOk result (λ found. (t : List ℕ) → StandsAt (holding want (drop start bytes.now) text.old.items) t →
-        Finds (holding want (drop start bytes.now) text.old.items) (holding found.want (drop found.start bytes.now) text.new.items) t found.request) }
-    ensures small { IfOk result (λ found. found.request ≡ None → length (drop found.start bytes.now) ≤ longest_wait) }
+    ensures found { IfOk result (λ found. (t : List ℕ)
+        → StandsAt (holding want (drop start bytes.now) text.old.items) t →
+        Finds (holding want (drop start bytes.now) text.old.items)
+        (holding found.want (drop found.start bytes.now) text.new.items) t found.request) }
+    ensures small { IfOk result (λ found. found.request ≡ None
+        → length (drop found.start bytes.now) ≤ longest_wait) }
     ensures front { take (vec_len text.old) text.new.items ≡ text.old.items }
 {
     let mut at = start;

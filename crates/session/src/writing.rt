@@ -65,7 +65,8 @@ fn write_uninterrupted<W: Write>(writer: &mut W, bytes: &[u8]) -> Result<usize, 
 /// Writes all the bytes, or fails after some first ones.
 pub fn write_all<W: ByteOut>(writer: &mut W, bytes: &[u8]) -> Result<(), Failed>
     ensures ok { OnOk result (Appends (W.contents writer.old) (W.contents writer.new) bytes.now) }
-    ensures err { OnErr result (AppendsBeginning (W.contents writer.old) (W.contents writer.new) bytes.now) }
+    ensures err { OnErr result
+        (AppendsBeginning (W.contents writer.old) (W.contents writer.new) bytes.now) }
 
     ensures stays { OnOk result (W.has_failed writer.new ≡ W.has_failed writer.old) }
     ensures failed { OnErr result (W.has_failed writer.new ≡ true) }

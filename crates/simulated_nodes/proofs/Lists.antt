@@ -52,14 +52,6 @@ In-take (suc n) x [] i = absurd i
 In-take (suc n) x (y ∷ xs) (inl e) = inl e
 In-take (suc n) x (y ∷ xs) (inr i) = inr (In-take n x xs i)
 
--- the keys are compared by their numbers
-pub key_same : (a b : Key) → (nat_eq a.session b.session && nat_eq a.number b.number) ≡ true → a ≡ b
-key_same a b e =
-    let both = and_parts (nat_eq a.session b.session) (nat_eq a.number b.number) e in
-    let session : a.session ≡ b.session = grind (arith, nat_tests) in
-    let number : a.number ≡ b.number = grind (arith, nat_tests) in
-    ap₂ (λ s n. record { session = s; number = n }) session number
-
 -- the last of a list, or this where there is none
 abbrev pub last_or : {A : Type 0} → A → List A → A
 last_or x [] = x

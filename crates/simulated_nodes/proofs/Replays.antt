@@ -11,9 +11,10 @@ use Rattle.object.specs.declared.command.Command.{Command}
 use Rattle.object.specs.declared.command.Key.{Key}
 use Rattle.object.specs.Objects.{Rules}
 use Rattle.object.specs.Keys.{same_key}
+use Rattle.object.specs.KeyLaws.{same_is, same_itself}
 use Rattle.simulated_nodes.specs.OneClient.{reply_to}
 use Rattle.simulated_nodes.specs.Standing.{state_after}
-use Rattle.simulated_nodes.proofs.Lists.{In-left, In-right, In-cases, In-image, key_same}
+use Rattle.simulated_nodes.proofs.Lists.{In-left, In-right, In-cases, In-image}
 
 -- these answers, at this place
 abbrev pub at_place : {Reply : Type 0} → ℕ → List (Answer Reply) → List (Placed Reply)
@@ -64,14 +65,11 @@ once-right (x ∷ xs) ys once = once-right xs ys once.1
 -- the reply to a key, where no key stands twice
 pub reply_found : {Reply : Type 0} (xs : List (Answer Reply)) (a : Answer Reply) → AnswersOnce xs → In a xs → reply_to a.to xs ≡ Some a.reply
 reply_found [] a once i = absurd i
-reply_found {Reply} (x ∷ xs) a once (inl e) = ap (λ b. cond b (Some x.reply) (reply_to a.to xs)) (subst (λ (y : Answer Reply). same_key x.to y.to ≡ true) (sym e) (itself x.to)) ∙ ap (λ (y : Answer Reply). Some y.reply) (sym e)
-  where
-    itself : (k : Key) → same_key k k ≡ true
-    itself k = grind (arith, nat_tests)
+reply_found {Reply} (x ∷ xs) a once (inl e) = ap (λ b. cond b (Some x.reply) (reply_to a.to xs)) (subst (λ (y : Answer Reply). same_key x.to y.to ≡ true) (sym e) (same_itself x.to)) ∙ ap (λ (y : Answer Reply). Some y.reply) (sym e)
 reply_found (x ∷ xs) a once (inr i) = at (same_key x.to a.to) refl (reply_found xs a once.1 i)
   where
     at : (b : Bool) → same_key x.to a.to ≡ b → reply_to a.to xs ≡ Some a.reply → cond b (Some x.reply) (reply_to a.to xs) ≡ Some a.reply
-    at true e later = absurd (once.0 a i (sym (key_same x.to a.to e)))
+    at true e later = absurd (once.0 a i (sym (same_is x.to a.to e)))
     at false e later = later
 
 pub reply_missing : {Reply : Type 0} (xs : List (Answer Reply)) (key : Key) → ((a : Answer Reply) → In a xs → a.to ≢ key) → reply_to key xs ≡ None
@@ -79,5 +77,5 @@ reply_missing [] key none = refl
 reply_missing (x ∷ xs) key none = at (same_key x.to key) refl (reply_missing xs key (λ a i. none a (inr i)))
   where
     at : (b : Bool) → same_key x.to key ≡ b → reply_to key xs ≡ None → cond b (Some x.reply) (reply_to key xs) ≡ None
-    at true e later = absurd (none x (inl refl) (key_same x.to key e))
+    at true e later = absurd (none x (inl refl) (same_is x.to key e))
     at false e later = later

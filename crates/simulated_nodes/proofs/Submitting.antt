@@ -15,9 +15,9 @@ use Rattle.world.specs.Nodes.{node}
 use Rattle.world.specs.Worlds.{World}
 use Rattle.object.specs.Happenings.{Happenings, is_submitted, with_submission}
 use Rattle.object.specs.Keys.{same_key}
+use Rattle.object.specs.KeyLaws.{same_is, same_itself}
 use Rattle.world.specs.Steps.{Step, submit, deliver, wake, nudge, propose, perform, restart, performed}
 use Rattle.simulated_nodes.specs.Standing.{SubmitsOnly, IsFresh, submitted_to}
-use Rattle.simulated_nodes.proofs.Lists.{key_same}
 
 abbrev pub commands_of : {Op : Type 0} → List (Submission Op) → List (Command Op)
 commands_of submitted = map (λ s. s.command) submitted
@@ -28,18 +28,15 @@ not_submitted k [] other = refl
 not_submitted {Op} k (s ∷ more) other = at (same_key s.command.key k) refl (not_submitted k more (λ d i. other d (inr i)))
   where
     at : (b : Bool) → same_key s.command.key k ≡ b → is_submitted k more ≡ false → (b || is_submitted k more) ≡ false
-    at true e rest = absurd (other s.command (inl refl) (key_same s.command.key k e))
+    at true e rest = absurd (other s.command (inl refl) (same_is s.command.key k e))
     at false e rest = rest
 
 -- a key that some submitted command has is submitted
 pub was_submitted : {Op : Type 0} (c : Command Op) (submitted : List (Submission Op)) → In c (commands_of submitted) → is_submitted c.key submitted ≡ true
 was_submitted c [] i = absurd i
 was_submitted {Op} c (s ∷ more) (inl e) =
-    let same : same_key s.command.key c.key ≡ true = subst (λ (d : Command Op). same_key s.command.key d.key ≡ true) (sym e) (itself s.command.key) in
+    let same : same_key s.command.key c.key ≡ true = subst (λ (d : Command Op). same_key s.command.key d.key ≡ true) (sym e) (same_itself s.command.key) in
     ap (λ b. b || is_submitted c.key more) same
-  where
-    itself : (k : Key) → same_key k k ≡ true
-    itself k = grind (arith, nat_tests)
 was_submitted c (s ∷ more) (inr i) = at (same_key s.command.key c.key) (was_submitted c more i)
   where
     at : (b : Bool) → is_submitted c.key more ≡ true → (b || is_submitted c.key more) ≡ true

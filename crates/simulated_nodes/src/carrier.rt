@@ -101,9 +101,11 @@ impl<O: Object> Carrier<O> {
     // Lets events happen until the command is placed.
     fn place(&mut self, command: &Command<O::Op>) -> Result<(), Stopped>
         ensures placed { OnOk result (IsPlaced self.new.world command.now.key) }
-        ensures carries { OnOk result ((before : List (Command O.Op)) → Carries O.rules self.old.world before command.now
+        ensures carries { OnOk result ((before : List (Command O.Op))
+            → Carries O.rules self.old.world before command.now
             → Carries O.rules self.new.world before command.now) }
-        ensures later { OnOk result (IsBeginning self.old.world.happenings.answers self.new.world.happenings.answers) }
+        ensures later { OnOk result
+            (IsBeginning self.old.world.happenings.answers self.new.world.happenings.answers) }
     {
         let mut refused = None;
         for count in 0..MOST_EVENTS {
@@ -127,9 +129,11 @@ impl<O: Object> Carrier<O> {
     ) -> (bool, Option<Event<O::Op>>)
         requires { SubmitsOnlyIfSome command.now refused }
         ensures left { SubmitsOnlyIfSome command.now result.1 }
-        ensures carries { (before : List (Command O.Op)) → Carries O.rules self.old.world before command.now
+        ensures carries { (before : List (Command O.Op))
+            → Carries O.rules self.old.world before command.now
             → Carries O.rules self.new.world before command.now }
-        ensures later { IsBeginning self.old.world.happenings.answers self.new.world.happenings.answers }
+        ensures later { IsBeginning self.old.world.happenings.answers
+            self.new.world.happenings.answers }
     {
         let Some(event) = self.choose(refused, command, count) else {
             return (false, None);

@@ -41,9 +41,11 @@ impl<O: Object> Nodes<O> {
 
     /// What one object replies to the next request. Where it has no reply yet, seconds pass, 3,600 at most.
     pub fn ask(&mut self, op: O::Op) -> Result<O::Reply, Stopped>
-        ensures reply { IfOk result (λ reply. (t : Talk O) → Stand O.rules self.old.carrier.world self.old.next self.old.second t
+        ensures reply { IfOk result (λ reply. (t : Talk O)
+            → Stand O.rules self.old.carrier.world self.old.next self.old.second t
             → (answered O.rules t op).reply ≡ Some reply) }
-        ensures stand { OnOk result ((t : Talk O) → Stand O.rules self.old.carrier.world self.old.next self.old.second t
+        ensures stand { OnOk result ((t : Talk O)
+            → Stand O.rules self.old.carrier.world self.old.next self.old.second t
             → Stand O.rules self.new.carrier.world self.new.next self.new.second
             (answered O.rules t op).talk) }
     {
@@ -67,7 +69,8 @@ impl<O: Object> Nodes<O> {
 
     /// The client leaves.
     pub fn close(&mut self) -> Result<(), Stopped>
-        ensures { OnOk result ((t : Talk O) → Stand O.rules self.old.carrier.world self.old.next self.old.second t
+        ensures { OnOk result ((t : Talk O)
+            → Stand O.rules self.old.carrier.world self.old.next self.old.second t
             → Stand O.rules self.new.carrier.world self.new.next self.new.second (left O.rules t)) }
     {
         let key = Key {
@@ -84,7 +87,8 @@ impl<O: Object> Nodes<O> {
     // Carries the next request.
     fn request(&mut self, key: Key, act: Act<O::Op>) -> Result<Option<O::Reply>, Stopped>
         requires { key ≡ record { session = 1; number = self.old.next } }
-        ensures said { IfOk result (λ said. (t : Talk O) → Stand O.rules self.old.carrier.world self.old.next self.old.second t
+        ensures said { IfOk result (λ said. (t : Talk O)
+            → Stand O.rules self.old.carrier.world self.old.next self.old.second t
             → IsSaid O.rules self.new.carrier.world self.new.next self.new.second key
             (obeyed O.rules t act) said) }
     {
@@ -98,7 +102,8 @@ impl<O: Object> Nodes<O> {
 
     // Lets a second pass, while the request of the key waits.
     fn pass_second(&mut self, key: Key) -> Result<Option<O::Reply>, Stopped>
-        ensures said { IfOk result (λ said. (t : Talk O) → Stand O.rules self.old.carrier.world self.old.next self.old.second t
+        ensures said { IfOk result (λ said. (t : Talk O)
+            → Stand O.rules self.old.carrier.world self.old.next self.old.second t
             → HasNotReplied self.old.carrier.world key
             → IsSaid O.rules self.new.carrier.world self.new.next self.new.second key
             (passed O.rules key t) said) }

@@ -15,7 +15,8 @@ use Rattle.slot_log.specs.declared.places.Place.{Place}
 use Rattle.slot_log.specs.declared.places.Place.TheVariants.{Requested, Proposed, Decided}
 use Rattle.slot_log.specs.declared.places.Places.{Places}
 use Rattle.slot_log.specs.declared.slot_log.SlotLog.TheInside.{Inside}
-use Rattle.slot_log.specs.Places.{key_cmp, ranked, put_at, is_found}
+use Rattle.object.specs.Keys.{key_cmp}
+use Rattle.slot_log.specs.Places.{ranked, put_at, is_found}
 use Rattle.slot_log.specs.Requests.{is_known}
 use Rattle.slot_log.specs.Proposals.{IsInWindow}
 use Rattle.slot_log.specs.Kept.{book_of, standing, IsKept}

@@ -1,38 +1,16 @@
 -- Commands that are found where they stand.
-use Rattle.std.proofs.Common.{◌≡◌, ◌⊎◌, inl, inr, ⊎_elim, Bool, true, false, cond, ◌||◌, Option, Some, None, List, [], ◌∷◌, ◌++◌, refl, sym, ap, ap₂, subst, ◌∙◌, Less, Equal, Greater}
+use Rattle.std.proofs.Common.{◌≡◌, ◌⊎◌, inl, inr, ⊎_elim, Bool, true, false, cond, ◌||◌, Option, Some, None, List, [], ◌∷◌, ◌++◌, refl, sym, ap, ap₂, subst, ◌∙◌}
 use Rattle.std.proofs.lemmas.Bool.{false≢true, or_left, or_right}
 use Rattle.std.proofs.lemmas.List.Folds.{list_any-append}
-use Rattle.std.proofs.lemmas.Map.Lookups.{CmpEqualImpliesEq, exact_unsigned}
 use Rattle.std.proofs.lemmas.Option.{same_Some}
 use Rattle.std.specs.List.{list_any}
 use Rattle.std.specs.Option.{option_map_or, option_and_then, is_some}
-use Rattle.std.specs.Ordering.{nat_cmp, ordering_then, is_eq}
-use Rattle.std.specs.Cmp.{nat_cmp_total, tied_itself}
-use Rattle.std.specs.declared.cmp.Ordering.{Ordering}
+use Rattle.std.specs.Ordering.{is_eq}
 use Rattle.object.specs.declared.command.Key.{Key}
 use Rattle.slot_log.specs.declared.places.Place.{Place}
-use Rattle.slot_log.specs.Places.{key_cmp, put_at, noted_at, others_noted, is_found}
-
-then_equal : (x y : Ordering) → ordering_then x y ≡ Equal → (x ≡ Equal) × (y ≡ Equal)
-then_equal Less y h = cc
-then_equal Equal y h = (refl, h)
-then_equal Greater y h = cc
-
--- keys that compare alike are one
-exact_keys : CmpEqualImpliesEq key_cmp
-exact_keys a b h =
-    let parts = then_equal (nat_cmp a.session b.session) (nat_cmp a.number b.number) h in
-    let s : a.session ≡ b.session = exact_unsigned a.session b.session parts.0 in
-    let n : a.number ≡ b.number = exact_unsigned a.number b.number parts.1 in
-    λ i. record { session = s i; number = n i }
-
-key_itself : (k : Key) → is_eq (key_cmp k k) ≡ true
-key_itself k = ap is_eq (ap₂ ordering_then (tied_itself nat_cmp_total k.session) (tied_itself nat_cmp_total k.number))
-
-when_equal : (o : Ordering) → is_eq o ≡ true → o ≡ Equal
-when_equal Less h = cc
-when_equal Equal h = refl
-when_equal Greater h = cc
+use Rattle.object.specs.Keys.{key_cmp}
+use Rattle.object.specs.KeyLaws.{exact_keys, key_itself, when_equal}
+use Rattle.slot_log.specs.Places.{put_at, noted_at, others_noted, is_found}
 
 -- two tests that hold together are one
 pub same_tests : (a b : Bool) → (a ≡ true → b ≡ true) → (b ≡ true → a ≡ true) → a ≡ b

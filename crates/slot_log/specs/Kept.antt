@@ -8,7 +8,8 @@ use Rattle.object.specs.declared.command.Key.{Key}
 use Rattle.slot_log.specs.Books.{SlotBook}
 use Rattle.slot_log.specs.Requests.{is_known}
 use Rattle.slot_log.specs.Proposals.{IsInWindow}
-use Rattle.slot_log.specs.Places.{key_cmp, ranked, is_found}
+use Rattle.object.specs.Keys.{key_cmp}
+use Rattle.slot_log.specs.Places.{ranked, is_found}
 use Rattle.slot_log.specs.declared.places.Place.{Place}
 use Rattle.slot_log.specs.declared.places.Place.TheVariants.{Requested, Proposed, Decided}
 use Rattle.slot_log.specs.declared.slot_log.SlotLog.TheInside.{Inside}

@@ -2,14 +2,10 @@
 use Rattle.std.specs.Prelude.{ℕ, ◌-◌, Bool, false, ◌||◌, nat_le, List, [], ◌∷◌, ◌++◌, slice_get, Option, None, Some, is_some, option_and_then, if◌then◌else◌}
 use Rattle.std.specs.List.{list_any}
 use Rattle.std.specs.Option.{option_map_or}
-use Rattle.std.specs.Ordering.{nat_cmp, ordering_then, is_eq}
-use Rattle.std.specs.declared.cmp.Ordering.{Ordering}
+use Rattle.std.specs.Ordering.{is_eq}
 use Rattle.object.specs.declared.command.Key.{Key}
+use Rattle.object.specs.Keys.{key_cmp}
 use Rattle.slot_log.specs.declared.places.Place.{Place}
-
--- keys in order: by session, and then by number
-abbrev pub key_cmp : Key → Key → Ordering
-key_cmp a b = ordering_then (nat_cmp a.session b.session) (nat_cmp a.number b.number)
 
 -- the places, with this one for the key
 abbrev pub put_at : (Key → Option Place) → Key → Place → Key → Option Place

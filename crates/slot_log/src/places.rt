@@ -2,7 +2,8 @@ ghost use Rattle.std.specs.Prelude.{◌≡◌, true, false, [], IsSome, OnOk, On
 ghost use Rattle.std.specs.List.{list_any};
 ghost use Rattle.std.specs.BTreeMap.{get};
 ghost use Rattle.object.specs.declared.command.Key.{Key};
-ghost use Rattle.slot_log.specs.Places.{key_cmp, put_at, noted_at, others_noted};
+ghost use Rattle.object.specs.Keys.{key_cmp};
+ghost use Rattle.slot_log.specs.Places.{put_at, noted_at, others_noted};
 
 use ballot::Slot;
 use object::{Key, Keyed, Value};
@@ -60,8 +61,11 @@ impl<C: Value + Keyed> Places<C> {
         ensures places { OnOk result ((q : Key) → get key_cmp self.new.by_key q
             ≡ noted_at (get key_cmp self.old.by_key) (C.key_of command.now) place q) }
         ensures others { OnOk result (self.new.others.items
-            ≡ others_noted (get key_cmp self.old.by_key (C.key_of command.now)) self.old.others.items command.now) }
-        ensures err { OnErr result (((q : Key) → get key_cmp self.new.by_key q ≡ get key_cmp self.old.by_key q)
+            ≡ others_noted
+            (get key_cmp self.old.by_key
+            (C.key_of command.now)) self.old.others.items command.now) }
+        ensures err { OnErr result (((q : Key)
+            → get key_cmp self.new.by_key q ≡ get key_cmp self.old.by_key q)
             × (self.new.others.items ≡ self.old.others.items)) }
     {
         let key = command.key();

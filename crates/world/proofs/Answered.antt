@@ -29,7 +29,7 @@ use Rattle.world.proofs.Invariants.{IsSound}
 use Rattle.world.proofs.Grows.{Grows}
 use Rattle.world.proofs.Reach.{opened_at, opening_sound, leads_sound, step_sound, reachable_sound}
 use Rattle.world.proofs.Deciding.{any_from}
-use Rattle.world.proofs.Timeline.{key_itself}
+use Rattle.object.specs.KeyLaws.{same_when}
 use Rattle.world.proofs.Submitted.{chosen_submitted}
 use Rattle.world.proofs.Performed.{run_stays, run_push, run_chosen, run_of_all, AllPerformed, history_run, step_full}
 
@@ -99,7 +99,7 @@ module _ {O Op Reply : Type 0} (rules : Rules O Op Reply) (v : World Op Reply) (
       let at = run_chosen v.cluster 1 told.reached told.chosen d i in
       let was = submitted at.0 d at.1 in
       let e : was.0.command.key ≡ c.key = ap (λ (x : Command Op). x.key) was.2 ∙ same in
-      not_both (any_from (λ s. same_key s.command.key c.key) was.0 v.happenings.submitted was.1 (key_itself was.0.command.key c.key e)) new
+      not_both (any_from (λ s. same_key s.command.key c.key) was.0 v.happenings.submitted was.1 (same_when was.0.command.key c.key e)) new
 
   new_past : (z : Cluster (Command Op)) → Grows v.cluster z → (c : Command Op) → ((d : Command Op) → In d told.reached → d.key ≡ c.key → ⊥) → IsPast rules z v.happenings.answers (record { command = c; after = length v.happenings.answers })
   new_past z g c others = record {

@@ -22,6 +22,7 @@ use Rattle.object.specs.Objects.{Rules}
 use Rattle.world.specs.Nodes.{Cluster, node, turned}
 use Rattle.world.specs.Worlds.{World, opening}
 use Rattle.object.specs.Keys.{same_key}
+use Rattle.object.specs.KeyLaws.{same_is}
 use Rattle.world.specs.Steps.{Step, IsItsOwn, counted, with_cluster, deliver}
 use Rattle.world.specs.Runs.{Leads, IsReachable, IsWorld}
 use Rattle.world.specs.Runs as Runs
@@ -144,12 +145,6 @@ acts_same same exact Tick (Do p) h = absurd (true≢false (sym h))
 acts_same same exact Tick Close h = absurd (true≢false (sym h))
 acts_same same exact Tick Tick h = refl
 
-key_same : (a b : Key) → same_key a b ≡ true → a ≡ b
-key_same a b h =
-    let s : a.session ≡ b.session = grind (arith, nat_tests) in
-    let n : a.number ≡ b.number = grind (arith, nat_tests) in
-    λ i. record { session = s i; number = n i }
-
 both : (a b rest : Bool) → ((a && not b) || rest) ≡ false → a ≡ true → b ≡ true
 both true true rest h e = refl
 both true false rest h e = absurd (true≢false h)
@@ -164,7 +159,7 @@ its_own same exact [] c h s at k = absurd at
 its_own same exact (x ∷ xs) c h s (inl e) k =
     let l : same_key x.command.key c.key ≡ true = ap (λ y. same_key y.command.key c.key) (sym e) ∙ k in
     let act = acts_same same exact x.command.act c.act (both (same_key x.command.key c.key) (same_acts same x.command.act c.act) (has_other_act same xs c) h l) in
-    ap (λ y. y.command) e ∙ (λ i. record { key = key_same x.command.key c.key l i; act = act i })
+    ap (λ y. y.command) e ∙ (λ i. record { key = same_is x.command.key c.key l i; act = act i })
 its_own same exact (x ∷ xs) c h s (inr at) k = its_own same exact xs c (later (same_key x.command.key c.key && not (same_acts same x.command.act c.act)) (has_other_act same xs c) h) s at k
 
 -- what is not refused is allowed

@@ -17,7 +17,7 @@ use Rattle.world.proofs.Invariants.{IsSound}
 use Rattle.world.proofs.Performed.{same_run}
 use Rattle.object.specs.ReplayLaws.{is_before}
 use Rattle.world.proofs.Rising.{kept_new}
-use Rattle.world.proofs.Timeline.{key_itself}
+use Rattle.object.specs.KeyLaws.{same_is, same_when}
 
 -- of the key's session, and with no lower number
 abbrev pub is_as_late : Key → Key → Bool
@@ -44,16 +44,6 @@ late_after cs cn s n e f = grind (arith, nat_tests)
 late_itself : (s n : ℕ) → (s == s && nat_le n n) ≡ true
 late_itself s n = grind (arith, nat_tests)
 
-same_numbers : (a b : ℕ) → (a == b) ≡ true → a ≡ b
-same_numbers a b e = grind (arith, nat_tests)
-
-key_same : (a b : Key) → same_key a b ≡ true → a ≡ b
-key_same a b e =
-    let t = and_parts (a.session == b.session) (a.number == b.number) e in
-    let s = same_numbers a.session b.session t.0 in
-    let n = same_numbers a.number b.number t.1 in
-    λ j. record { session = s j; number = n j }
-
 module _ {Op : Type 0} (key : Key) where
   new_here : (c : Command Op) → c.key ≡ key → (seen : List (Command Op)) → AllLower key seen → is_new c seen ≡ true
   new_here c same [] low = refl
@@ -79,7 +69,7 @@ module _ {Op : Type 0} (key : Key) where
   found_kept seen [] low e = absurd (true≢false (sym e))
   found_kept seen (c ∷ cs) low e = ⊎_elim
       (λ (t : is_as_late c.key key ≡ true).
-      let same = key_same c.key key (sym (ap (λ b. cond b (same_key c.key key) (finds key (keys_of cs))) t) ∙ e) in
+      let same = same_is c.key key (sym (ap (λ b. cond b (same_key c.key key) (finds key (keys_of cs))) t) ∙ e) in
       first_kept c (is_new c seen) (kept_after (c ∷ seen) cs) same (new_here c same seen low))
       (λ (f : is_as_late c.key key ≡ false).
       later_too c (is_new c seen) (kept_after (c ∷ seen) cs)
@@ -105,7 +95,7 @@ module _ {Op : Type 0} (key : Key) where
   pub kept_found : (seen cs : List (Command Op)) → HasKey key (kept_after seen cs) → finds key (keys_of cs) ≡ true
   kept_found seen [] h = absurd h.1
   kept_found seen (c ∷ cs) h = ⊎_elim
-      (λ (same : c.key ≡ key). ap (λ b. cond b (same_key c.key key) (finds key (keys_of cs))) (has_late c same) ∙ key_itself c.key key same)
+      (λ (same : c.key ≡ key). ap (λ b. cond b (same_key c.key key) (finds key (keys_of cs))) (has_late c same) ∙ same_when c.key key same)
       (λ (rest : HasKey key (kept_after (c ∷ seen) cs)). ⊎_elim
       (λ (t : is_as_late c.key key ≡ true). absurd (none_behind c seen cs t rest))
       (λ (f : is_as_late c.key key ≡ false). ap (λ b. cond b (same_key c.key key) (finds key (keys_of cs))) f ∙ kept_found (c ∷ seen) cs rest)

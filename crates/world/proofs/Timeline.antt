@@ -20,6 +20,7 @@ use Rattle.object.specs.Keys.{same_key}
 use Rattle.world.specs.Steps.{Step, submit, deliver, wake, nudge, propose, perform, restart, performed}
 use Rattle.world.specs.Runs.{Leads, at_once, after, IsReachable}
 use Rattle.object.specs.ListLaws.{In-cases}
+use Rattle.object.specs.KeyLaws.{same_when}
 use Rattle.ballot.specs.OrderLaws.{not_both}
 use Rattle.world.proofs.Deciding.{any_from}
 
@@ -28,12 +29,6 @@ pub record IsInTime {Op Reply : Type 0} (h : Happenings Op Reply) : Type 0 where
   pub once : SubmittedOnce h.submitted
   pub ordered : ComeInOrder h.submitted
   pub within : (s : Submission Op) → In s h.submitted → s.after ≤ length h.answers
-
-pub key_itself : (a b : Key) → a ≡ b → same_key a b ≡ true
-key_itself a b e = subst (λ k. same_key a k ≡ true) e (and_from (a.session == a.session) (a.number == a.number) (same a.session) (same a.number))
-  where
-    same : (n : ℕ) → (n == n) ≡ true
-    same n = grind (arith, nat_tests)
 
 -- a list with a key that it doesn't have yet
 once_push : {Op : Type 0} (submitted : List (Submission Op)) (new : Submission Op) → SubmittedOnce submitted → ((s : Submission Op) → In s submitted → new.command.key ≢ s.command.key) → SubmittedOnce (submitted ++ (new ∷ []))
@@ -63,7 +58,7 @@ with_one_more {Op} {Reply} c h t = at (is_submitted c.key h.submitted) refl
     new = record { command = c; after = length h.answers }
 
     other : is_submitted c.key h.submitted ≡ false → (s : Submission Op) → In s h.submitted → c.key ≢ s.command.key
-    other e s i same = not_both (any_from (λ s. same_key s.command.key c.key) s h.submitted i (key_itself s.command.key c.key (sym same))) e
+    other e s i same = not_both (any_from (λ s. same_key s.command.key c.key) s h.submitted i (same_when s.command.key c.key (sym same))) e
 
     at : (test : Bool) → is_submitted c.key h.submitted ≡ test → IsInTime (cond test h (record h { submitted = h.submitted ++ (new ∷ []) }))
     at true e = t

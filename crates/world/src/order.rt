@@ -149,7 +149,9 @@ fn is_new<Op: Value>(command: &Command<Op>, earlier: &[Command<Op>]) -> bool
 
 // Whether the one command is of another session, or has a lower number.
 fn is_passed<Op: Value>(other: &Command<Op>, command: &Command<Op>) -> bool
-    ensures { result ≡ (not (other.now.key.session == command.now.key.session) || nat_lt other.now.key.number command.now.key.number) }
+    ensures { result ≡
+        (not (other.now.key.session == command.now.key.session) || nat_lt other.now.key.number
+        command.now.key.number) }
 {
     let (other, own) = (other.key(), command.key());
     other.session != own.session || other.number < own.number

@@ -56,7 +56,8 @@ impl<O: Object> Watched<O> {
         out: &mut Vec<Letter<Command<O::Op>>>,
     ) -> Result<(), AllocError>
         requires { IsFit self.old body.now }
-        ensures ok { OnOk result (Received «from» self.old body.now self.new out.old.items out.new.items) }
+        ensures ok { OnOk result
+            (Received «from» self.old body.now self.new out.old.items out.new.items) }
         ensures err { OnErr result ((self.new ≡ self.old) × (out.new.items ≡ out.old.items)) }
     {
         self.accepted.reserve(1)?;

@@ -53,7 +53,8 @@ impl<M: JobMap> Logic<M> {
     #[tactic(auto, unfolding(crate::specs::Rows::touch_row))]
     pub fn touch(&mut self, session: u32, id: u64) -> Result<Reply, AllocError>
         ensures state { OnOk result (self.new.now ≡ (touch_row self.old.now session id).state) }
-        ensures reply { IfOk result (λ reply. (touch_row self.old.now session id).reply ≡ Some reply) }
+        ensures reply { IfOk result (λ reply. (touch_row self.old.now session id).reply
+            ≡ Some reply) }
         ensures before { self.new.before ≡ self.old.before }
     {
         match self.jobs.map().get(id) {
@@ -75,8 +76,10 @@ impl<M: JobMap> Logic<M> {
         pri: u32,
         delay: u32,
     ) -> Result<Reply, AllocError>
-        ensures state { OnOk result (self.new.now ≡ (release_row self.old.now session id pri delay).state) }
-        ensures reply { IfOk result (λ reply. (release_row self.old.now session id pri delay).reply ≡ Some reply) }
+        ensures state { OnOk result (self.new.now
+            ≡ (release_row self.old.now session id pri delay).state) }
+        ensures reply { IfOk result (λ reply. (release_row self.old.now session id pri delay).reply
+            ≡ Some reply) }
         ensures before { self.new.before ≡ self.old.before }
     {
         if !self.has(session, id) {
@@ -91,7 +94,8 @@ impl<M: JobMap> Logic<M> {
     #[tactic(auto, unfolding(crate::specs::Rows::bury_row))]
     pub fn bury(&mut self, session: u32, id: u64, pri: u32) -> Result<Reply, AllocError>
         ensures state { OnOk result (self.new.now ≡ (bury_row self.old.now session id pri).state) }
-        ensures reply { IfOk result (λ reply. (bury_row self.old.now session id pri).reply ≡ Some reply) }
+        ensures reply { IfOk result (λ reply. (bury_row self.old.now session id pri).reply
+            ≡ Some reply) }
         ensures before { self.new.before ≡ self.old.before }
     {
         let rank = self.counters.next_rank;

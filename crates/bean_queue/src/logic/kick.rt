@@ -16,8 +16,10 @@ fn kick_buried<M: JobMap>(
     tube: &Name,
     bound: u32,
 ) -> Result<u64, AllocError>
-    ensures now { OnOk result (jobs.new.now ≡ (kicked (first_buried tube.now) bound jobs.old.now).jobs) }
-    ensures count { IfOk result (λ count. count ≡ (kicked (first_buried tube.now) bound jobs.old.now).count) }
+    ensures now { OnOk result (jobs.new.now
+        ≡ (kicked (first_buried tube.now) bound jobs.old.now).jobs) }
+    ensures count { IfOk result (λ count. count
+        ≡ (kicked (first_buried tube.now) bound jobs.old.now).count) }
     ensures before { jobs.new.before ≡ jobs.old.before }
 {
     for count in 0..bound {
@@ -35,8 +37,10 @@ fn kick_delayed<M: JobMap>(
     tube: &Name,
     bound: u32,
 ) -> Result<u64, AllocError>
-    ensures now { OnOk result (jobs.new.now ≡ (kicked (first_delayed tube.now) bound jobs.old.now).jobs) }
-    ensures count { IfOk result (λ count. count ≡ (kicked (first_delayed tube.now) bound jobs.old.now).count) }
+    ensures now { OnOk result (jobs.new.now
+        ≡ (kicked (first_delayed tube.now) bound jobs.old.now).jobs) }
+    ensures count { IfOk result (λ count. count
+        ≡ (kicked (first_delayed tube.now) bound jobs.old.now).count) }
     ensures before { jobs.new.before ≡ jobs.old.before }
 {
     for count in 0..bound {
@@ -54,7 +58,8 @@ impl<M: JobMap> Logic<M> {
     pub fn kick(&mut self, session: u32, bound: u32) -> Result<Reply, AllocError>
         requires { IsSome (value_at session self.old.now.sessions) }
         ensures state { OnOk result (self.new.now ≡ (kick_row self.old.now session bound).state) }
-        ensures reply { IfOk result (λ reply. (kick_row self.old.now session bound).reply ≡ Some reply) }
+        ensures reply { IfOk result (λ reply. (kick_row self.old.now session bound).reply
+            ≡ Some reply) }
         ensures before { self.new.before ≡ self.old.before }
     {
         let tube = self.session(session).used.copy()?;

@@ -17,7 +17,8 @@ use std::collections::{BTreeMap, BTreeSet};
 /// Puts the tubes of the jobs among the names.
 fn insert_of_jobs(names: &mut BTreeSet<Name>, jobs: &BTreeMap<u64, Job>) -> Result<(), AllocError>
     ensures { OnOk result (names.new.keys
-        ≡ fold (insert_key (slice_cmp nat_cmp)) names.old.keys (map (λ e. e.1.tube) jobs.now.entries)) }
+        ≡ fold (insert_key (slice_cmp nat_cmp)) names.old.keys
+        (map (λ e. e.1.tube) jobs.now.entries)) }
 {
     for (_, job) in jobs {
         names.insert(job.tube.copy()?)?;
@@ -27,7 +28,8 @@ fn insert_of_jobs(names: &mut BTreeSet<Name>, jobs: &BTreeMap<u64, Job>) -> Resu
 
 /// Puts names among others.
 fn insert_all(names: &mut BTreeSet<Name>, more: &[Name]) -> Result<(), AllocError>
-    ensures { OnOk result (names.new.keys ≡ fold (insert_key (slice_cmp nat_cmp)) names.old.keys more.now) }
+    ensures { OnOk result (names.new.keys
+        ≡ fold (insert_key (slice_cmp nat_cmp)) names.old.keys more.now) }
 {
     for name in more {
         names.insert(name.copy()?)?;
@@ -38,7 +40,8 @@ fn insert_all(names: &mut BTreeSet<Name>, more: &[Name]) -> Result<(), AllocErro
 /// Puts the tubes of a session among the names.
 fn insert_of_session(names: &mut BTreeSet<Name>, session: &Session) -> Result<(), AllocError>
     ensures { OnOk result (names.new.keys
-        ≡ fold (insert_key (slice_cmp nat_cmp)) names.old.keys (session.now.used ∷ session.now.watched)) }
+        ≡ fold (insert_key (slice_cmp nat_cmp)) names.old.keys
+        (session.now.used ∷ session.now.watched)) }
 {
     names.insert(session.used.copy()?)?;
     insert_all(names, session.watched.as_slice())
@@ -50,7 +53,8 @@ fn insert_of_sessions(
     sessions: &BTreeMap<u32, Session>,
 ) -> Result<(), AllocError>
     ensures { OnOk result (names.new.keys
-        ≡ fold (insert_key (slice_cmp nat_cmp)) names.old.keys (flat_map (λ e. e.1.used ∷ e.1.watched) sessions.now.entries)) }
+        ≡ fold (insert_key (slice_cmp nat_cmp)) names.old.keys
+        (flat_map (λ e. e.1.used ∷ e.1.watched) sessions.now.entries)) }
 {
     for (_, session) in sessions {
         insert_of_session(names, session)?;

@@ -37,7 +37,8 @@ impl<M: JobMap> Logic<M> {
     /// Shows the next ready job of the tube that a session uses.
     pub fn peek_ready(&self, session: u32) -> Result<Reply, AllocError>
         requires { IsSome (value_at session self.now.now.sessions) }
-        ensures { IfOk result (λ reply. reply ≡ shown (first_ready (used_by self.now.now session) self.now.now.jobs)) }
+        ensures { IfOk result (λ reply. reply
+            ≡ shown (first_ready (used_by self.now.now session) self.now.now.jobs)) }
     {
         shown(self.jobs.map().first_ready(&self.session(session).used))
     }
@@ -45,7 +46,8 @@ impl<M: JobMap> Logic<M> {
     /// Shows the delayed job of the tube that a session uses that is ready first.
     pub fn peek_delayed(&self, session: u32) -> Result<Reply, AllocError>
         requires { IsSome (value_at session self.now.now.sessions) }
-        ensures { IfOk result (λ reply. reply ≡ shown (first_delayed (used_by self.now.now session) self.now.now.jobs)) }
+        ensures { IfOk result (λ reply. reply
+            ≡ shown (first_delayed (used_by self.now.now session) self.now.now.jobs)) }
     {
         shown(self.jobs.map().first_delayed(&self.session(session).used))
     }
@@ -53,7 +55,8 @@ impl<M: JobMap> Logic<M> {
     /// Shows the job of the tube that a session uses that was buried first.
     pub fn peek_buried(&self, session: u32) -> Result<Reply, AllocError>
         requires { IsSome (value_at session self.now.now.sessions) }
-        ensures { IfOk result (λ reply. reply ≡ shown (first_buried (used_by self.now.now session) self.now.now.jobs)) }
+        ensures { IfOk result (λ reply. reply
+            ≡ shown (first_buried (used_by self.now.now session) self.now.now.jobs)) }
     {
         shown(self.jobs.map().first_buried(&self.session(session).used))
     }

@@ -50,7 +50,8 @@ impl<M: JobMap> Logic<M> {
         requires calm { serve_turn self.old.now ≡ None }
         ensures state { OnOk result (self.new.now ≡ (do_effect op.now key self.old.now).state) }
         ensures reply { IfOk result
-            (λ reply. (do_effect op.now key self.old.now).answers ≡ record { to = key; reply = reply } ∷ []) }
+            (λ reply. (do_effect op.now key self.old.now).answers
+            ≡ record { to = key; reply = reply } ∷ []) }
         ensures err { OnErr result (self.new.before ≡ self.old.before) }
     {
         self.call(key.session)?;

@@ -35,8 +35,10 @@ impl<M: JobMap> Logic<M> {
         body: &Body,
     ) -> Result<Reply, AllocError>
         requires { IsSome (value_at session self.old.now.sessions) }
-        ensures state { OnOk result (self.new.now ≡ (put_row self.old.now session pri delay ttr body.now).state) }
-        ensures reply { IfOk result (λ reply. (put_row self.old.now session pri delay ttr body.now).reply ≡ Some reply) }
+        ensures state { OnOk result (self.new.now
+            ≡ (put_row self.old.now session pri delay ttr body.now).state) }
+        ensures reply { IfOk result
+            (λ reply. (put_row self.old.now session pri delay ttr body.now).reply ≡ Some reply) }
         ensures before { self.new.before ≡ self.old.before }
     {
         let id = self.counters.next_id;

@@ -28,8 +28,10 @@ impl<M: JobMap> Logic<M> {
     /// Lets a session wait for a job. It has a reply only where no rank is left.
     #[tactic(auto, unfolding(crate::specs::Rows::reserve_row))]
     pub fn reserve(&mut self, key: Key, seconds: Option<u32>) -> Result<Option<Reply>, AllocError>
-        ensures state { OnOk result (self.new.now ≡ (reserve_row self.old.now key.session key.number seconds).state) }
-        ensures reply { IfOk result (λ reply. (reserve_row self.old.now key.session key.number seconds).reply ≡ reply) }
+        ensures state { OnOk result (self.new.now
+            ≡ (reserve_row self.old.now key.session key.number seconds).state) }
+        ensures reply { IfOk result
+            (λ reply. (reserve_row self.old.now key.session key.number seconds).reply ≡ reply) }
         ensures before { self.new.before ≡ self.old.before }
     {
         let rank = self.counters.next_rank;
@@ -64,9 +66,11 @@ impl<M: JobMap> Logic<M> {
         seconds: Option<u32>,
         answers: &mut Vec<Answer<Reply>>,
     ) -> Result<(), AllocError>
-        ensures state { OnOk result (self.new.now ≡ (settled (Op.Reserve seconds) key self.old.now).state) }
+        ensures state { OnOk result (self.new.now
+            ≡ (settled (Op.Reserve seconds) key self.old.now).state) }
         ensures answers { OnOk result
-            (answers.new.items ≡ answers.old.items ++ (settled (Op.Reserve seconds) key self.old.now).answers) }
+            (answers.new.items
+            ≡ answers.old.items ++ (settled (Op.Reserve seconds) key self.old.now).answers) }
         ensures before { self.new.before ≡ self.old.before }
     {
         if !self.is_waiting(key.session) {

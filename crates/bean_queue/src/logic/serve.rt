@@ -12,7 +12,8 @@ impl<M: JobMap> Logic<M> {
     /// Gives the next job to the session whose turn it is, and tells whether there was one.
     fn serve_one(&mut self, answers: &mut Vec<Answer<Reply>>) -> Result<bool, AllocError>
         ensures turn { IfOk result
-            (λ more. IsTurn serve_turn self.old.now self.new.now answers.old.items answers.new.items more) }
+            (λ more. IsTurn serve_turn self.old.now self.new.now answers.old.items answers.new.items
+            more) }
         ensures before { self.new.before ≡ self.old.before }
     {
         let Some((id, job)) = next_job(self.jobs.map(), self.sessions.map()) else {
@@ -50,7 +51,8 @@ impl<M: JobMap> Logic<M> {
     /// Tells the first waiting session with a job due within a second so, and whether there was one.
     fn tell_deadline(&mut self, answers: &mut Vec<Answer<Reply>>) -> Result<bool, AllocError>
         ensures turn { IfOk result
-            (λ more. IsTurn deadline_turn self.old.now self.new.now answers.old.items answers.new.items more) }
+            (λ more. IsTurn deadline_turn self.old.now self.new.now answers.old.items
+            answers.new.items more) }
         ensures before { self.new.before ≡ self.old.before }
     {
         let second = self.counters.now + 1;
@@ -74,7 +76,8 @@ impl<M: JobMap> Logic<M> {
     pub fn tell_deadlines(&mut self, answers: &mut Vec<Answer<Reply>>) -> Result<(), AllocError>
         ensures state { OnOk result (self.new.now ≡ (all_turns deadline_turn self.old.now).state) }
         ensures answers { OnOk result
-            (answers.new.items ≡ answers.old.items ++ (all_turns deadline_turn self.old.now).answers) }
+            (answers.new.items
+            ≡ answers.old.items ++ (all_turns deadline_turn self.old.now).answers) }
         ensures before { self.new.before ≡ self.old.before }
     {
         'turns: while self.tell_deadline(answers)? {}
@@ -84,7 +87,8 @@ impl<M: JobMap> Logic<M> {
     /// Tells the first session whose wait is over so, and whether there was one.
     fn tell_timeout(&mut self, answers: &mut Vec<Answer<Reply>>) -> Result<bool, AllocError>
         ensures turn { IfOk result
-            (λ more. IsTurn timeout_turn self.old.now self.new.now answers.old.items answers.new.items more) }
+            (λ more. IsTurn timeout_turn self.old.now self.new.now answers.old.items
+            answers.new.items more) }
         ensures before { self.new.before ≡ self.old.before }
     {
         let Some((session, late)) = first_late(self.sessions.map(), self.counters.now) else {
@@ -106,7 +110,8 @@ impl<M: JobMap> Logic<M> {
     pub fn tell_timeouts(&mut self, answers: &mut Vec<Answer<Reply>>) -> Result<(), AllocError>
         ensures state { OnOk result (self.new.now ≡ (all_turns timeout_turn self.old.now).state) }
         ensures answers { OnOk result
-            (answers.new.items ≡ answers.old.items ++ (all_turns timeout_turn self.old.now).answers) }
+            (answers.new.items
+            ≡ answers.old.items ++ (all_turns timeout_turn self.old.now).answers) }
         ensures before { self.new.before ≡ self.old.before }
     {
         'turns: while self.tell_timeout(answers)? {}

@@ -56,7 +56,8 @@ impl<M: JobMap> Logic<M> {
     ) -> Result<(), AllocError>
         ensures state { OnOk result (self.new.now ≡ (serve (released session self.old.now)).state) }
         ensures answers { OnOk result
-            (answers.new.items ≡ answers.old.items ++ (serve (released session self.old.now)).answers) }
+            (answers.new.items
+            ≡ answers.old.items ++ (serve (released session self.old.now)).answers) }
         ensures before { self.new.before ≡ self.old.before }
     {
         self.give_back(session)?;

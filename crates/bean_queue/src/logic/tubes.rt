@@ -13,7 +13,8 @@ impl<M: JobMap> Logic<M> {
     #[tactic(auto, unfolding(crate::specs::Rows::use_row))]
     pub fn use_tube(&mut self, session: u32, tube: &Name) -> Result<Reply, AllocError>
         ensures state { OnOk result (self.new.now ≡ (use_row self.old.now session tube.now).state) }
-        ensures reply { IfOk result (λ reply. (use_row self.old.now session tube.now).reply ≡ Some reply) }
+        ensures reply { IfOk result (λ reply. (use_row self.old.now session tube.now).reply
+            ≡ Some reply) }
         ensures err { OnErr result (self.new.before ≡ self.old.before) }
     {
         let shown = tube.copy()?;
@@ -25,8 +26,10 @@ impl<M: JobMap> Logic<M> {
     #[tactic(auto, unfolding(crate::specs::Rows::watch_row))]
     pub fn watch(&mut self, session: u32, tube: &Name) -> Result<Reply, AllocError>
         requires { IsSome (value_at session self.old.now.sessions) }
-        ensures state { OnOk result (self.new.now ≡ (watch_row self.old.now session tube.now).state) }
-        ensures reply { IfOk result (λ reply. (watch_row self.old.now session tube.now).reply ≡ Some reply) }
+        ensures state { OnOk result (self.new.now
+            ≡ (watch_row self.old.now session tube.now).state) }
+        ensures reply { IfOk result (λ reply. (watch_row self.old.now session tube.now).reply
+            ≡ Some reply) }
         ensures err { OnErr result (self.new.before ≡ self.old.before) }
     {
         let count = self.sessions.watch(session, tube.copy()?)?;

@@ -19,9 +19,12 @@ impl<C: Value> Leader<C> {
         out: &mut Vec<Letter<C>>,
     ) -> Result<(), AllocError>
         requires { IsSome self.old.scout }
-        ensures taken { OnOk result (TakesGreatest self.old.proposals gathered.items self.new.proposals) }
+        ensures taken { OnOk result
+            (TakesGreatest self.old.proposals gathered.items self.new.proposals) }
         ensures state { OnOk result (self.new ≡ (adopted self.old self.new.proposals).state) }
-        ensures out { OnOk result (Sends self.old (adopted self.old self.new.proposals).says out.old.items out.new.items) }
+        ensures out { OnOk result
+            (Sends self.old
+            (adopted self.old self.new.proposals).says out.old.items out.new.items) }
         ensures err { OnErr result ((self.new ≡ self.old) × (out.new.items ≡ out.old.items)) }
     {
         let report = Vec::new(self.alloc);
@@ -41,7 +44,8 @@ impl<C: Value> Leader<C> {
         out: &mut Vec<Letter<C>>,
     ) -> Result<(), AllocError>
         ensures state { OnOk result (self.new ≡ (adopted self.old proposals).state) }
-        ensures out { OnOk result (Sends self.old (adopted self.old proposals).says out.old.items out.new.items) }
+        ensures out { OnOk result
+            (Sends self.old (adopted self.old proposals).says out.old.items out.new.items) }
         ensures err { OnErr result ((self.new ≡ self.old) × (out.new.items ≡ out.old.items)) }
     {
         let commanders = self.start_commanders(&proposals, out)?;
@@ -60,7 +64,8 @@ impl<C: Value> Leader<C> {
     ) -> Result<SlotMap<Commander<C>>, AllocError>
         ensures commanders { IfOk result (λ commanders. commanders
             ≡ commanders_for self.now proposals.now) }
-        ensures out { OnOk result (Sends self.now (asks_for self.now proposals.now) out.old.items out.new.items) }
+        ensures out { OnOk result
+            (Sends self.now (asks_for self.now proposals.now) out.old.items out.new.items) }
         ensures err { OnErr result (out.new.items ≡ out.old.items) }
     {
         let len = out.len();
@@ -79,7 +84,8 @@ impl<C: Value> Leader<C> {
     ) -> Result<SlotMap<Commander<C>>, AllocError>
         ensures commanders { IfOk result (λ commanders. commanders
             ≡ commanders_for self.now proposals.now) }
-        ensures out { OnOk result (Sends self.now (asks_for self.now proposals.now) out.old.items out.new.items) }
+        ensures out { OnOk result
+            (Sends self.now (asks_for self.now proposals.now) out.old.items out.new.items) }
         ensures front { take (vec_len out.old) out.new.items ≡ out.old.items }
     {
         let mut commanders = SlotMap::new(self.alloc);

@@ -18,7 +18,8 @@ impl<C: Value> Leader<C> {
         out: &mut Vec<Letter<C>>,
     ) -> Result<(), AllocError>
         ensures state { OnOk result (self.new ≡ (proposed self.old slot command).state) }
-        ensures out { OnOk result (Sends self.old (proposed self.old slot command).says out.old.items out.new.items) }
+        ensures out { OnOk result
+            (Sends self.old (proposed self.old slot command).says out.old.items out.new.items) }
         ensures idle { slots.contains_key self.old.proposals slot ≡ true → IsOk result }
         ensures err { OnErr result ((self.new ≡ self.old) × (out.new.items ≡ out.old.items)) }
     {
@@ -40,7 +41,8 @@ impl<C: Value> Leader<C> {
     ) -> Result<(), AllocError>
         requires { slots.contains_key self.old.proposals slot ≡ false }
         ensures state { OnOk result (self.new ≡ (commands self.old slot command).state) }
-        ensures out { OnOk result (Sends self.old (commands self.old slot command).says out.old.items out.new.items) }
+        ensures out { OnOk result
+            (Sends self.old (commands self.old slot command).says out.old.items out.new.items) }
         ensures err { OnErr result ((self.new ≡ self.old) × (out.new.items ≡ out.old.items)) }
     {
         let pvalue = Pvalue {

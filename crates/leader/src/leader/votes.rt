@@ -22,7 +22,9 @@ impl<C: Value> Leader<C> {
         out: &mut Vec<Letter<C>>,
     ) -> Result<(), LeaderError>
         ensures state { OnOk result (self.new ≡ (voting self.old from ballot slot asked).state) }
-        ensures out { OnOk result (Sends self.old (voting self.old from ballot slot asked).says out.old.items out.new.items) }
+        ensures out { OnOk result
+            (Sends self.old
+            (voting self.old from ballot slot asked).says out.old.items out.new.items) }
         ensures no_ballot { (result
             ≡ Err LeaderError.NoBallotLeft) ↔ (IsSome (slots.get self.old.commanders slot)
             × ((b : Numbers) × (ballot ≡ Some b) × LeavesNoBallot self.old from b)) }
@@ -56,7 +58,10 @@ impl<C: Value> Leader<C> {
     ) -> Result<(), AllocError>
         ensures state { OnOk result (self.new
             ≡ (voting self.old from (Some self.old.ballot) slot self.old.ballot).state) }
-        ensures out { OnOk result (Sends self.old (voting self.old from (Some self.old.ballot) slot self.old.ballot).says out.old.items out.new.items) }
+        ensures out { OnOk result
+            (Sends self.old
+            (voting self.old from
+            (Some self.old.ballot) slot self.old.ballot).says out.old.items out.new.items) }
         ensures err { OnErr result ((self.new ≡ self.old) × (out.new.items ≡ out.old.items)) }
     {
         let Some(commander) = self.commanders.get(slot) else {

@@ -1,6 +1,7 @@
 use Rattle.std.proofs.Common.{◌≡◌, ⊎_elim, sym, subst, ap, ◌∙◌, take_all, le_refl, length, arith}
 use Rattle.object.specs.Lists.{In}
-use Rattle.simulated_nodes.proofs.Lists.{In-at, In-next, key_same, key_other}
+use Rattle.object.specs.KeyLaws.{same_is}
+use Rattle.simulated_nodes.proofs.Lists.{In-at, In-next, key_other}
 use Rattle.simulated_nodes.proofs.carrier.answer_to.Goals as goal
 
 pub loop-answer-init : goal.loop-answer-init
@@ -9,7 +10,7 @@ loop-answer-init g c = λ a i. absurd i
 pub returns-then-eq-clause-some : goal.returns-then-eq-clause-some
 returns-then-eq-clause-some g c = (
   In-at c.args.answers.now c.loop-answer.answer-index c.answer-item.result _ c.loop-answer-test.true c.answer-item.is,
-  key_same c.answer-item.result.to c.args.key (sym c.eq.ensures ∙ c.if-eq.true),
+  same_is c.answer-item.result.to c.args.key (sym c.eq.ensures ∙ c.if-eq.true),
 )
 
 pub loop-answer-preserved : goal.loop-answer-preserved

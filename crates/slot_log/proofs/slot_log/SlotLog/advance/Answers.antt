@@ -8,7 +8,8 @@ use Rattle.slot_log.specs.Books.{SlotBook}
 use Rattle.slot_log.specs.Decisions.{next_decided}
 use Rattle.std.specs.BTreeMap.{get as place_at}
 use Rattle.slot_log.specs.declared.places.Place.TheVariants.{Decided}
-use Rattle.slot_log.specs.Places.{key_cmp, put_at}
+use Rattle.object.specs.Keys.{key_cmp}
+use Rattle.slot_log.specs.Places.{put_at}
 use Rattle.slot_log.specs.Kept.{IsKept}
 use Rattle.slot_log.proofs.Maps.{len_removed}
 use Rattle.slot_log.proofs.Advancing.{none_kept, proposal_placed, won_kept, lost_kept}

@@ -3,7 +3,7 @@ use Rattle.std.proofs.lemmas.Bool.{or_left}
 use Rattle.std.specs.List.{list_any}
 use Rattle.std.specs.Option.{option_copied, option_map_or}
 use Rattle.std.specs.BTreeMap.{get}
-use Rattle.slot_log.specs.Places.{key_cmp}
+use Rattle.object.specs.Keys.{key_cmp}
 use Rattle.slot_log.specs.Requests.{is_known}
 use Rattle.slot_log.specs.Kept.{standing}
 use Rattle.slot_log.proofs.Known.{known_is, found_nowhere, found_at}
