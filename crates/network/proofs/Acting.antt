@@ -1,5 +1,5 @@
 -- A network after one of its nodes did something.
-use Rattle.std.proofs.Common.{◌≡◌, ℕ, List, [], ◌++◌, Option, Some, None, length, refl, sym, ap, ◌∙◌, subst}
+use Rattle.std.proofs.Common.{◌≡◌, ℕ, List, ◌++◌, Option, Some, None, length, refl, sym, ap, ◌∙◌, subst}
 use Rattle.std.specs.Prelude.{true, slice_index_or, slice_set}
 use Rattle.object.specs.declared.command.Command.{Command}
 use Rattle.object.specs.Objects.{Rules}
@@ -10,7 +10,7 @@ use Rattle.slot_log.specs.Proposals.{next_proposal}
 use Rattle.slot_log.specs.Decisions.{next_decided}
 use Rattle.replica.specs.Replicas.{asks_for}
 use Rattle.node.specs.Nodes.{NodeState, IsSeated}
-use Rattle.node.specs.Deeds.{Turn, acted, own_turn, performing, IsAble}
+use Rattle.node.specs.Deeds.{Turn, acted, own_turn, performing, IsAble, ComesToNothing}
 use Rattle.node.specs.declared.deed.Deed.{Deed}
 use Rattle.node.specs.declared.deed.Deed.TheVariants as deeds
 use Rattle.network.specs.Networks.{NetworkState, node_of, turned_net, turn_of, acted_net}
@@ -45,6 +45,9 @@ module _ {O Op Reply : Type 0} (rules : Rules O Op Reply) {members : List ℕ} {
 
   pub able : IsAble (node_of k n) d → IsAble y d
   able a = subst (λ (z : NodeState (Command Op)). IsAble z d) (sym (node_read h y at)) a
+
+  pub idle : ComesToNothing rules (node_of k n) d → ComesToNothing rules y d
+  idle i = subst (λ (z : NodeState (Command Op)). ComesToNothing rules z d) (sym (node_read h y at)) i
 
   module _ (x : NodeState (Command Op)) (now : List (Letter (Command Op))) (new : x ≡ (own_turn rules y d).state) (sent : now ≡ fresh ++ (own_turn rules y d).sent) where
     pub acted_whole : IsNetwork members (slice_set nodes p x) mails now

@@ -1,5 +1,5 @@
 -- A network after one of its nodes did something.
-use Rattle.std.proofs.Common.{◌≡◌, Bool, false, cond, map, ℕ, zero, suc, ◌+◌, ◌-◌, ◌<◌, ◌≤◌, true, List, [], ◌∷◌, ◌++◌, length, Result, Ok, Err, refl, sym, ap, ◌∙◌, subst, arith, length-set}
+use Rattle.std.proofs.Common.{◌≡◌, Bool, false, cond, map, ℕ, zero, suc, ◌-◌, ◌<◌, ◌≤◌, true, List, [], ◌∷◌, ◌++◌, length, Result, Ok, Err, refl, sym, ap, ◌∙◌, subst, arith, length-set}
 use Rattle.std.specs.Prelude.{slice_index_or, slice_set, OnErr, nat_le, not, ◌==◌, ◌^◌}
 use Rattle.std.proofs.lemmas.List.{append-nil, get_or_default}
 use Rattle.ballot.specs.declared.letter.Letter.{Letter}

@@ -1,9 +1,9 @@
-ghost use Rattle.std.specs.Prelude.{◌≡◌, ◌++◌, None, Some, true, IfOk, OnOk, OnErr};
+ghost use Rattle.std.specs.Prelude.{◌≡◌, ◌++◌, None, Some, true, IsOk, IfOk, OnOk, OnErr};
 ghost use Rattle.object.specs.declared.command.Command.{Command};
 ghost use Rattle.ballot.specs.Members.{is_member};
 ghost use Rattle.ballot.specs.declared.letter.Letter.{Letter};
 ghost use Rattle.slot_log.specs.Decisions.{undecided};
-ghost use Rattle.node.specs.Deeds.{outcome_of, IsAble};
+ghost use Rattle.node.specs.Deeds.{outcome_of, IsAble, ComesToNothing};
 ghost use Rattle.node.specs.Receiving.{IsFit};
 ghost use Rattle.network.specs.Networks.{new_network, node_of, mail_of, front, has_mail, turn_of, acted_net, without_front, with_last, IsDelivered};
 
@@ -86,7 +86,7 @@ impl<O: Object> Network<O> {
         self.mails[usize::from(id - 1)].has_letters() || has_any(&self.fresh, id)
     }
 
-    /// A node does this, and appends the answers that it gives.
+    /// A node does this, and appends the answers that it gives. Where there is nothing to do it takes no memory.
     pub fn act(
         &mut self,
         id: u8,
@@ -99,6 +99,7 @@ impl<O: Object> Network<O> {
         ensures answers { OnOk result (answers.new.items
             ≡ answers.old.items ++ (turn_of O.rules self.old id deed).answers) }
         ensures outcome { IfOk result (λ outcome. outcome ≡ outcome_of (node_of self.old id) deed) }
+        ensures idle { ComesToNothing O.rules (node_of self.old id) deed → IsOk result }
         ensures err { OnErr result (self.new ≡ self.old) }
         ensures unsaid { OnErr result (answers.new.items ≡ answers.old.items) }
     {

@@ -1,5 +1,5 @@
 -- What a node tells of the command that its replica performed.
-use Rattle.std.proofs.Common.{ℕ, ◌≡◌, Bool, true, false, cond, ◌++◌, List, Some, None, Option, refl, sym, ap, ◌∙◌, subst}
+use Rattle.std.proofs.Common.{ℕ, ◌≡◌, Bool, true, false, cond, Some, None, Option, refl, sym, ap, ◌∙◌}
 use Rattle.std.specs.Prelude.{◌↔◌, IfSome, option_map, Result, Ok, Err, OnOk}
 use Rattle.object.specs.declared.command.Command.{Command}
 use Rattle.object.specs.declared.once.Effect.{Effect}
@@ -7,7 +7,6 @@ use Rattle.object.specs.declared.once.Effect.TheVariants as effects
 use Rattle.object.specs.Commands.{same_commands}
 use Rattle.object.specs.Objects.{Rules, is_one}
 use Rattle.object.specs.OnceOnly.{is_later}
-use Rattle.object.specs.Obeying.{obeyed}
 use Rattle.object.specs.Replays.{is_new}
 use Rattle.object.specs.FilterLaws.{FilterLaws, later_obeyed}
 use Rattle.slot_log.specs.Books.{SlotBook}
@@ -19,7 +18,7 @@ use Rattle.replica.specs.Replicas.{Replicating, performed_answers, answers_as}
 use Rattle.replica.specs.declared.performed.Performed.{Performed}
 use Rattle.node.specs.Histories.{history}
 use Rattle.node.specs.Nodes.{NodeState}
-use Rattle.node.specs.Deeds.{performing, performed_as, performs}
+use Rattle.node.specs.Deeds.{performing, performs}
 use Rattle.node.specs.Kept.{IsKept}
 use Rattle.node.specs.declared.deed.Outcome.{Outcome}
 use Rattle.node.specs.declared.deed.Outcome.TheVariants as outcomes

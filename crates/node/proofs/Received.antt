@@ -1,5 +1,5 @@
 -- What a node received, from what its parts did; and what it shows then of each node that it showed.
-use Rattle.std.proofs.Common.{◌≡◌, ℕ, List, [], ◌∷◌, ◌++◌, map, Some, Option, refl, sym, ap, ap₂, ◌∙◌, subst}
+use Rattle.std.proofs.Common.{◌≡◌, ℕ, List, [], ◌∷◌, ◌++◌, map, Option, sym, ap, ap₂, ◌∙◌, subst}
 use Rattle.std.proofs.lemmas.List.{append-nil}
 use Rattle.ballot.specs.Ballots.{Numbers, higher}
 use Rattle.ballot.specs.Letters.{letter, all_to_all}

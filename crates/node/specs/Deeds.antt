@@ -1,5 +1,5 @@
 -- What a node does by itself. Each case of `acted` is one row of the node table in docs/NODES.md.
-use Rattle.std.specs.Prelude.{ℕ, ◌<◌, ◌^◌, ⊤, is_some, List, [], ◌++◌, Option, None, Some, if◌then◌else◌}
+use Rattle.std.specs.Prelude.{◌≡◌, ◌⊎◌, ℕ, ◌<◌, ◌^◌, ⊤, true, IsSome, List, [], ◌++◌, Option, None, Some, if◌then◌else◌}
 use Rattle.object.specs.declared.command.Answer.{Answer}
 use Rattle.object.specs.declared.command.Command.{Command}
 use Rattle.object.specs.declared.once.Effect.TheVariants as effects
@@ -10,7 +10,7 @@ use Rattle.ballot.specs.Letters.{all_to_all}
 use Rattle.ballot.specs.declared.letter.Letter.{Letter}
 use Rattle.leader.specs.Leaders.{Leading, Done, woken, says_again}
 use Rattle.slot_log.specs.Books.{SlotBook}
-use Rattle.slot_log.specs.Requests.{requested}
+use Rattle.slot_log.specs.Requests.{is_known, requested}
 use Rattle.slot_log.specs.Proposals.{next_proposal, proposed_next}
 use Rattle.slot_log.specs.Decisions.{next_decided}
 use Rattle.slot_log.specs.Advances.{advanced}
@@ -102,3 +102,13 @@ IsAble x Nudge = ⊤
 IsAble x Propose = ⊤
 IsAble x Perform = ⊤
 IsAble x Restart = x.boot < 2 ^ 62
+
+-- there is nothing to do, which takes no memory: the request is known, the leader is active or has a scout, or no
+-- decision is known to perform
+abbrev pub ComesToNothing : {O Op Reply : Type 0} → Rules O Op Reply → NodeState (Command Op) → Deed Op → Type 0
+ComesToNothing rules x (Request c) = is_known (is_one rules) x.replica c ≡ true
+ComesToNothing rules x Wake = (x.leader.active ≡ true) ⊎ IsSome x.leader.scout
+ComesToNothing rules x Nudge = ⊥
+ComesToNothing rules x Propose = ⊥
+ComesToNothing rules x Perform = next_decided x.replica ≡ None
+ComesToNothing rules x Restart = ⊥

@@ -1,6 +1,6 @@
 -- What a node makes of a letter. Each case of `Receives` is one row of the node table in docs/NODES.md.
-use Rattle.std.specs.Prelude.{◌≡◌, ℕ, ◌<◌, ◌^◌, ⊤, List, [], ◌∷◌, ◌++◌, map, Option, Some}
-use Rattle.std.specs.FinMap.{get}
+use Rattle.std.specs.Prelude.{◌≡◌, ℕ, ◌<◌, ◌^◌, ⊤, true, List, [], ◌∷◌, ◌++◌, map, Option, None, Some}
+use Rattle.std.specs.FinMap.{get, contains_key}
 use Rattle.ballot.specs.Ballots.{Numbers, higher}
 use Rattle.ballot.specs.Letters.{letter, all_to_all}
 use Rattle.ballot.specs.declared.pvalue.Pvalue.{Pvalue}
@@ -56,6 +56,17 @@ IsFit x (P2b o s by) = (b : Numbers) → o ≡ Some b → b.round < 2 ^ 62
 IsFit x (Propose s c) = ⊤
 IsFit {C} x (Decision s c) = (d : C) → get x.replica.decisions s ≡ Some d → d ≡ c
 IsFit x (Ask s) = ⊤
+
+-- what is received says nothing new, which takes no memory: a promise or a vote that nobody waits for, a proposal for a
+-- slot that has one, or a decision that is known
+abbrev pub SaysNothingNew : {C : Type 0} → NodeState C → Body C → Type 0
+SaysNothingNew x (P1a b) = ⊥
+SaysNothingNew x (P1b b report) = x.leader.scout ≡ None
+SaysNothingNew x (P2a p) = ⊥
+SaysNothingNew x (P2b o s by) = get x.leader.commanders s ≡ None
+SaysNothingNew x (Propose s c) = contains_key x.leader.proposals s ≡ true
+SaysNothingNew x (Decision s c) = contains_key x.replica.decisions s ≡ true
+SaysNothingNew x (Ask s) = ⊥
 
 -- node x received a body from m: it became y, and the letters that it sent stand after those before
 abbrev pub Received : {C : Type 0} → ℕ → NodeState C → Body C → NodeState C → List (Letter C) → List (Letter C) → Type 0

@@ -1,4 +1,4 @@
-ghost use Rattle.std.specs.Prelude.{◌≡◌, ◌++◌, ◌<◌, ◌^◌, true, is_some, IfOk, OnOk, OnErr, if◌then◌else◌};
+ghost use Rattle.std.specs.Prelude.{◌≡◌, ◌++◌, ◌<◌, ◌^◌, true, None, is_some, IsOk, IfOk, OnOk, OnErr, if◌then◌else◌};
 ghost use Rattle.ballot.specs.Ballots.{is_promise};
 ghost use Rattle.ballot.specs.Members.{is_member};
 ghost use Rattle.ballot.specs.Letters.{all_to_all};
@@ -6,7 +6,7 @@ ghost use Rattle.slot_log.specs.Proposals.{next_proposal, proposed_next};
 ghost use Rattle.slot_log.specs.Decisions.{next_decided, undecided};
 ghost use Rattle.replica.specs.Replicas.{asks_for};
 ghost use Rattle.node.specs.Nodes.{members_of, number_of, new_node, restarted};
-ghost use Rattle.node.specs.Deeds.{said_again, performing, own_turn, performs, done_if, outcome_of, IsAble};
+ghost use Rattle.node.specs.Deeds.{said_again, performing, own_turn, performs, done_if, outcome_of, IsAble, ComesToNothing};
 
 use crate::deed::{Deed, Outcome};
 use acceptor::Acceptor;
@@ -93,7 +93,7 @@ impl<O: Object> Node<O> {
     }
 
     /// Does this, and appends the letters that it sends and the answers that it gives. For want of memory it changes
-    /// nothing.
+    /// nothing. Where there is nothing to do it takes no memory.
     pub fn act(
         &mut self,
         deed: Deed<O::Op>,
@@ -107,6 +107,7 @@ impl<O: Object> Node<O> {
         ensures answers { OnOk result (answers.new.items ≡ answers.old.items
             ++ (own_turn O.rules self.old deed).answers) }
         ensures outcome { IfOk result (λ outcome. outcome ≡ outcome_of self.old deed) }
+        ensures idle { ComesToNothing O.rules self.old deed → IsOk result }
         ensures err { OnErr result (self.new ≡ self.old) }
         ensures unsaid { OnErr result ((sent.new.items ≡ sent.old.items)
             × (answers.new.items ≡ answers.old.items)) }
@@ -175,6 +176,7 @@ impl<O: Object> Node<O> {
             ≡ (performing O.rules self.old (next_decided self.old.replica)).state) }
         ensures answers { OnOk result (answers.new.items ≡ answers.old.items
             ++ (performing O.rules self.old (next_decided self.old.replica)).answers) }
+        ensures idle { next_decided self.old.replica ≡ None → IsOk result }
         ensures err { OnErr result ((self.new ≡ self.old)
             × (answers.new.items ≡ answers.old.items)) }
     {

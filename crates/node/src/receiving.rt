@@ -1,4 +1,4 @@
-ghost use Rattle.std.specs.Prelude.{◌≡◌, ◌<◌, ◌^◌, ◌++◌, map, IfOk, OnOk, OnErr, Some};
+ghost use Rattle.std.specs.Prelude.{◌≡◌, ◌<◌, ◌^◌, ◌++◌, true, map, IsOk, IfOk, OnOk, OnErr, None, Some};
 ghost use Rattle.std.specs.FinMap as slots;
 ghost use Rattle.object.specs.declared.command.Command.{Command};
 ghost use Rattle.ballot.specs.Ballots.{Numbers};
@@ -9,7 +9,7 @@ ghost use Rattle.leader.specs.Leaders.{Sends, proposed};
 ghost use Rattle.leader.specs.Promises.{HearsP1b};
 ghost use Rattle.leader.specs.Votes as votes;
 ghost use Rattle.slot_log.specs.Decisions.{learnt};
-ghost use Rattle.node.specs.Receiving.{IsFit, ShowsReceived};
+ghost use Rattle.node.specs.Receiving.{IsFit, SaysNothingNew, ShowsReceived};
 
 use crate::node::{Letters, Node};
 use acceptor::Acceptor;
@@ -22,7 +22,7 @@ use std::alloc::AllocError;
 
 impl<O: Object> Node<O> {
     /// Receives a body from a member, and appends what it sends. What it keeps of the body it copies. For want of memory
-    /// it changes nothing.
+    /// it changes nothing. What says nothing new takes no memory.
     pub fn receive(
         &mut self,
         from: u8,
@@ -31,6 +31,7 @@ impl<O: Object> Node<O> {
     ) -> Result<(), AllocError>
         requires { IsFit self.old body.now }
         ensures ok { OnOk result (ShowsReceived «from» self.old body.now self.new out.old.items out.new.items) }
+        ensures idle { SaysNothingNew self.old body.now → IsOk result }
         ensures err { OnErr result ((self.new ≡ self.old) × (out.new.items ≡ out.old.items)) }
     {
         match body {
@@ -101,6 +102,7 @@ impl<O: Object> Node<O> {
     ) -> Result<(), AllocError>
         requires not_last { ballot.round < 2 ^ 62 }
         ensures ok { OnOk result (ShowsReceived «from» self.old (P1b ballot report.now) self.new out.old.items out.new.items) }
+        ensures idle { self.old.leader.scout ≡ None → IsOk result }
         ensures err { OnErr result ((self.new ≡ self.old) × (out.new.items ≡ out.old.items)) }
     {
         hear_promise(&mut self.leader, from, ballot, report.as_slice(), out)?;
@@ -118,6 +120,7 @@ impl<O: Object> Node<O> {
     ) -> Result<(), AllocError>
         requires not_last { (b : Numbers) → ballot ≡ Some b → b.round < 2 ^ 62 }
         ensures ok { OnOk result (ShowsReceived «from» self.old (P2b ballot slot asked) self.new out.old.items out.new.items) }
+        ensures idle { slots.get self.old.leader.commanders slot ≡ None → IsOk result }
         ensures err { OnErr result ((self.new ≡ self.old) × (out.new.items ≡ out.old.items)) }
     {
         hear_vote(&mut self.leader, from, ballot, slot, asked, out)?;
@@ -133,6 +136,7 @@ impl<O: Object> Node<O> {
         out: &mut Letters<O>,
     ) -> Result<(), AllocError>
         ensures ok { OnOk result (ShowsReceived «from» self.old (Propose slot command.now) self.new out.old.items out.new.items) }
+        ensures idle { slots.contains_key self.old.leader.proposals slot ≡ true → IsOk result }
         ensures err { OnErr result ((self.new ≡ self.old) × (out.new.items ≡ out.old.items)) }
     {
         hear_proposal(&mut self.leader, slot, command, out)?;
@@ -150,6 +154,7 @@ impl<O: Object> Node<O> {
         requires agrees { (d : Command O.Op) → slots.get self.old.replica.decisions slot
             ≡ Some d → d ≡ command.now }
         ensures ok { OnOk result (ShowsReceived «from» self.old (Decision slot command.now) self.new out.old.items out.new.items) }
+        ensures idle { slots.contains_key self.old.replica.decisions slot ≡ true → IsOk result }
         ensures err { OnErr result ((self.new ≡ self.old) × (out.new.items ≡ out.old.items)) }
     {
         learn(&mut self.replica, slot, command)?;
@@ -215,6 +220,7 @@ fn hear_promise<C: Value>(
 ) -> Result<(), AllocError>
     requires { ballot.round < 2 ^ 62 }
     ensures hears { OnOk result (HearsP1b leader.old from ballot report.now leader.new out.old.items out.new.items) }
+    ensures idle { leader.old.scout ≡ None → IsOk result }
     ensures err { OnErr result ((leader.new ≡ leader.old) × (out.new.items ≡ out.old.items)) }
 {
     match leader.on_p1b(from, ballot, report, out) {
@@ -237,6 +243,7 @@ fn hear_vote<C: Value>(
     ensures state { OnOk result (leader.new
         ≡ (votes.on_p2b leader.old from ballot slot asked).state) }
     ensures out { OnOk result (Sends leader.old (votes.on_p2b leader.old from ballot slot asked).says out.old.items out.new.items) }
+    ensures idle { slots.get leader.old.commanders slot ≡ None → IsOk result }
     ensures err { OnErr result ((leader.new ≡ leader.old) × (out.new.items ≡ out.old.items)) }
 {
     match leader.on_p2b(from, ballot, slot, asked, out) {
@@ -255,6 +262,7 @@ fn hear_proposal<C: Value>(
 ) -> Result<(), AllocError>
     ensures state { OnOk result (leader.new ≡ (proposed leader.old slot command.now).state) }
     ensures out { OnOk result (Sends leader.old (proposed leader.old slot command.now).says out.old.items out.new.items) }
+    ensures idle { slots.contains_key leader.old.proposals slot ≡ true → IsOk result }
     ensures err { OnErr result ((leader.new ≡ leader.old) × (out.new.items ≡ out.old.items)) }
 {
     if leader.has_proposal(slot) {
@@ -273,6 +281,7 @@ fn learn<O: Object>(
         ≡ command.now }
     ensures state { OnOk result (replica.new
         ≡ record replica.old { slots = learnt replica.old.slots slot command.now }) }
+    ensures idle { slots.contains_key replica.old.slots.decisions slot ≡ true → IsOk result }
     ensures err { OnErr result (replica.new ≡ replica.old) }
 {
     if replica.knows(slot) {

@@ -10,7 +10,7 @@ use Rattle.object.specs.Happenings.{submitted_key, is_submitted, ComeInOrder}
 use Rattle.object.specs.declared.command.Answer.{Answer}
 use Rattle.object.specs.declared.command.Key.{Key}
 use Rattle.object.specs.declared.command.Submission.{Submission}
-use Rattle.recorder.specs.Records.{IsRecord, record_of, own_key}
+use Rattle.recorder.specs.Records.{IsRecord, EndsOpen, record_of, own_key}
 use Rattle.recorder.specs.Fates.{fate_at}
 use Rattle.recorder.specs.declared.fate.Fate.{Fate}
 use Rattle.recorder.proofs.Same.{same_is, same_itself}
@@ -76,6 +76,17 @@ module _ {Op Reply : Type 0} where
       ap₂ (λ fs (f : Fate). fs ++ f ∷ []) fated
       (sym (ap₂ (λ a p. record { answer = a; is_placed = p }) (place_none answered_key k A (no_answer S A O k told new)) (no_place S A O k told new)))
       ∙ sym (map-append (λ (t : Submission Op). F (submitted_key t)) S (s ∷ []))
+
+  -- nothing followed from it yet
+  pub submitted_open : (S : List (Submission Op)) (A : List (Answer Reply)) (O : List Key) (s : Submission Op) →
+      IsRecord (record_of S A O) → is_submitted (submitted_key s) S ≡ false → EndsOpen (record_of (S ++ s ∷ []) A O)
+  submitted_open S A O s told new = record {
+    before = S;
+    last = s;
+    ends = refl;
+    unanswered = no_answer S A O (submitted_key s) told new;
+    unplaced = no_place S A O (submitted_key s) told new;
+  }
 
   -- an answer is added
   pub answered_told : (S : List (Submission Op)) (A : List (Answer Reply)) (O : List Key) (a : Answer Reply) →

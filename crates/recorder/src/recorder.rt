@@ -1,4 +1,4 @@
-ghost use Rattle.std.specs.Prelude.{◌≡◌, List, [], ◌∷◌, true, false, None, Some, if◌then◌else◌, not, option_map, IfOk, OnOk, OnErr};
+ghost use Rattle.std.specs.Prelude.{◌≡◌, List, [], ◌∷◌, true, false, None, Some, if◌then◌else◌, not, option_map, IsOk, IfOk, OnOk, OnErr};
 ghost use Rattle.std.specs.Option.{option_copied};
 ghost use Rattle.object.specs.Lists.{In};
 ghost use Rattle.object.specs.Keys.{stands, found};
@@ -60,12 +60,15 @@ impl<Op: Value, Reply: Value> Recorder<Op, Reply> {
     }
 
     /// A copy of the command is submitted after all answers so far, unless its key was submitted; tells
-    /// which. It fails for want of memory alone.
+    /// which. It fails for want of memory alone, and takes none for a key that was submitted. What is new can be withdrawn.
     pub fn submit(&mut self, command: &Command<Op>) -> Result<bool, AllocError>
         ensures ok { OnOk result
             (self.new ≡ record self.old { happenings = with_submission command.now self.old.happenings }) }
         ensures new { IfOk result (λ is_new.
             is_new ≡ not (is_submitted command.now.key self.old.happenings.submitted)) }
+        ensures open { IfOk result (λ is_new. is_new ≡ true → EndsOpen self.new) }
+        ensures idle { is_submitted command.now.key self.old.happenings.submitted ≡ true
+            → IsOk result }
         ensures err { OnErr result (self.new ≡ self.old) }
     {
         if self.submitted.has(command.key()) {

@@ -1,6 +1,5 @@
-use Rattle.std.proofs.Common.{◌≡◌, ◌≢◌, ℕ, ◌+◌, ◌<◌, length, refl, sym, ap, subst, ◌∙◌, arith}
-use Rattle.std.specs.Prelude.{slice_index_or, is_some}
-use Rattle.ballot.specs.declared.letter.Letter.{Letter}
+use Rattle.std.proofs.Common.{length, sym, ap, ◌∙◌, arith}
+use Rattle.std.specs.Prelude.{is_some}
 use Rattle.network.specs.Networks.{letters_to, front}
 use Rattle.network.specs.Posting.{but_first}
 use Rattle.network.proofs.Posts.{found, not_found, one_more_not}

@@ -1,4 +1,4 @@
-use Rattle.std.proofs.Common.{◌≡◌, ◌≢◌, ℕ, ◌<◌}
+use Rattle.std.proofs.Common.{◌≢◌, ℕ, ◌<◌}
 use Rattle.std.specs.Prelude.{slice_index_or}
 use Rattle.ballot.specs.declared.letter.Letter.{Letter}
 use Rattle.network.proofs.sorting.has_any.Given as goal

@@ -1,4 +1,4 @@
-use Rattle.std.proofs.Common.{drop, ap, refl, ◌∙◌, arith, ◌≡◌, suc, ◌+◌, ℕ}
+use Rattle.std.proofs.Common.{drop, ap, refl, ◌∙◌, arith, ◌≡◌, suc, ◌+◌}
 use Rattle.std.proofs.lemmas.List.{drop_all}
 use Rattle.network.proofs.Posts.{drop_one_more}
 use Rattle.network.proofs.sorting.sort_each.Goals as goal

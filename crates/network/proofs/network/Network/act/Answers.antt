@@ -1,7 +1,8 @@
 use Rattle.std.proofs.Common.{◌++◌, ap, ◌∙◌, arith}
+use Rattle.std.proofs.lemmas.Bool.{false≢true}
 use Rattle.node.specs.Deeds.{Turn, outcome_of}
 use Rattle.network.proofs.Turned.{on_err, at_place, within_nodes, node_read, turned_not, stays_quiet}
-use Rattle.network.proofs.Acting.{able, turn_is, acted_whole, acted_ok}
+use Rattle.network.proofs.Acting.{able, idle, turn_is, acted_whole, acted_ok}
 use Rattle.network.proofs.network.Network.act.Goals as goal
 
 pub index_mut-requires : goal.index_mut-requires
@@ -39,3 +40,6 @@ pub returns-clause-outcome : goal.returns-clause-outcome
 returns-clause-outcome g c =
     c.in_ok-outcome.ensures.outcome
     ∙ ap (λ z. outcome_of z c.args.deed) (node_read (at_place c.self.invariant c.self.view_is c.from.ensures c.requires.member) c.index_mut.result.now c.index_mut.ensures.value)
+
+pub returns-in_err-outcome-clause-idle : goal.returns-in_err-outcome-clause-idle
+returns-in_err-outcome-clause-idle g c = λ i. absurd (false≢true (c.in_err-outcome.ensures.idle (idle g.O.Object.rules (at_place c.self.invariant c.self.view_is c.from.ensures c.requires.member) c.index_mut.result.now c.index_mut.ensures.value c.args.deed i)))

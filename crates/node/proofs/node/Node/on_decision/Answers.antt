@@ -1,4 +1,4 @@
-use Rattle.std.proofs.Common.{refl, ap}
+use Rattle.std.proofs.Common.{ap}
 use Rattle.node.proofs.Keeping.{kept_learns}
 use Rattle.node.proofs.Received.{received_decision}
 use Rattle.node.proofs.node.Node.on_decision.Goals as goal

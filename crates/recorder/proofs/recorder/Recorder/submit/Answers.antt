@@ -3,8 +3,8 @@ use Rattle.std.proofs.lemmas.List.{length-append, length-map}
 use Rattle.object.specs.Happenings.{submitted_key, is_submitted}
 use Rattle.object.specs.declared.command.Submission.{Submission}
 use Rattle.recorder.specs.Fates.{fate_at}
-use Rattle.recorder.specs.Records.{IsRecord, record_of}
-use Rattle.recorder.proofs.Steps.{submitted_told, submitted_fates}
+use Rattle.recorder.specs.Records.{IsRecord, EndsOpen, record_of}
+use Rattle.recorder.proofs.Steps.{submitted_told, submitted_fates, submitted_open}
 use Rattle.recorder.proofs.recorder.Recorder.submit.Goals as goal
 
 pub invariant_of-self-2 : goal.invariant_of-self-2
@@ -34,3 +34,14 @@ invariant_of-self-2 g c =
       answers_fit = omega arith;
       places_fit = omega arith;
     }
+
+pub returns-clause-open : goal.returns-clause-open
+returns-clause-open g c =
+    let S = c.self.inside.submitted in
+    let A = c.self.inside.answers.items in
+    let O = c.self.inside.order.items in
+    let s : Submission g.row.Op.Denot = record { command = c.in_ok-command.command; after = c.len-after.result } in
+    let new = ap (λ k. is_submitted k S) (ap (λ q. q.key) c.in_ok-command.ensures ∙ sym c.key.ensures.key) ∙ sym c.has.ensures ∙ c.if-has.false in
+    let now : record_of c.push.new.self c.make_room.new.items.items c.make_room-2.new.items.items ≡ record_of (S ++ s ∷ []) A O =
+    λ i. record_of (c.in_ok-push.ensures.ok i) (c.in_ok-make_room.ensures.items i) (c.in_ok-make_room-2.ensures.items i) in
+    λ _. subst EndsOpen (sym now) (submitted_open S A O s c.self.invariant.told new)
