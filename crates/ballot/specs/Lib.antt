@@ -3,6 +3,7 @@ pub mod Members
 pub mod Letters
 pub mod Ones
 pub mod Exact
+pub mod BallotOrder
 pub mod PvalueLaws
 pub mod BallotLaws
 pub mod OrderLaws

@@ -158,7 +158,8 @@ impl<O: Object> Node<O> {
         ensures state { OnOk result (self.new
             ≡ record self.old { replica = proposed_next self.old.replica }) }
         ensures sent { OnOk result (sent.new.items ≡ sent.old.items
-            ++ all_to_all (members_of self.old) (number_of self.old) (asks_for (next_proposal self.old.replica))) }
+            ++ all_to_all (members_of self.old) (number_of self.old)
+            (asks_for (next_proposal self.old.replica))) }
         ensures err { OnErr result ((self.new ≡ self.old)
             × (sent.new.items ≡ sent.old.items)) }
     {

@@ -30,7 +30,8 @@ impl<O: Object> Node<O> {
         out: &mut Letters<O>,
     ) -> Result<(), AllocError>
         requires { IsFit self.old body.now }
-        ensures ok { OnOk result (ShowsReceived «from» self.old body.now self.new out.old.items out.new.items) }
+        ensures ok { OnOk result
+            (ShowsReceived «from» self.old body.now self.new out.old.items out.new.items) }
         ensures idle { SaysNothingNew self.old body.now → IsOk result }
         ensures err { OnErr result ((self.new ≡ self.old) × (out.new.items ≡ out.old.items)) }
     {
@@ -51,7 +52,8 @@ impl<O: Object> Node<O> {
 
     // A leader asks for a promise.
     fn on_p1a(&mut self, from: u8, ballot: Ballot, out: &mut Letters<O>) -> Result<(), AllocError>
-        ensures ok { OnOk result (ShowsReceived «from» self.old (P1a ballot) self.new out.old.items out.new.items) }
+        ensures ok { OnOk result
+            (ShowsReceived «from» self.old (P1a ballot) self.new out.old.items out.new.items) }
         ensures err { OnErr result ((self.new ≡ self.old) × (out.new.items ≡ out.old.items)) }
     {
         ballot_laws();
@@ -73,7 +75,8 @@ impl<O: Object> Node<O> {
         pvalue: &Pvalue<Command<O::Op>>,
         out: &mut Letters<O>,
     ) -> Result<(), AllocError>
-        ensures ok { OnOk result (ShowsReceived «from» self.old (P2a pvalue.now) self.new out.old.items out.new.items) }
+        ensures ok { OnOk result
+            (ShowsReceived «from» self.old (P2a pvalue.now) self.new out.old.items out.new.items) }
         ensures err { OnErr result ((self.new ≡ self.old) × (out.new.items ≡ out.old.items)) }
     {
         ballot_laws();
@@ -101,7 +104,9 @@ impl<O: Object> Node<O> {
         out: &mut Letters<O>,
     ) -> Result<(), AllocError>
         requires not_last { ballot.round < 2 ^ 62 }
-        ensures ok { OnOk result (ShowsReceived «from» self.old (P1b ballot report.now) self.new out.old.items out.new.items) }
+        ensures ok { OnOk result
+            (ShowsReceived «from» self.old
+            (P1b ballot report.now) self.new out.old.items out.new.items) }
         ensures idle { self.old.leader.scout ≡ None → IsOk result }
         ensures err { OnErr result ((self.new ≡ self.old) × (out.new.items ≡ out.old.items)) }
     {
@@ -119,7 +124,9 @@ impl<O: Object> Node<O> {
         out: &mut Letters<O>,
     ) -> Result<(), AllocError>
         requires not_last { (b : Numbers) → ballot ≡ Some b → b.round < 2 ^ 62 }
-        ensures ok { OnOk result (ShowsReceived «from» self.old (P2b ballot slot asked) self.new out.old.items out.new.items) }
+        ensures ok { OnOk result
+            (ShowsReceived «from» self.old
+            (P2b ballot slot asked) self.new out.old.items out.new.items) }
         ensures idle { slots.get self.old.leader.commanders slot ≡ None → IsOk result }
         ensures err { OnErr result ((self.new ≡ self.old) × (out.new.items ≡ out.old.items)) }
     {
@@ -135,7 +142,9 @@ impl<O: Object> Node<O> {
         command: &Command<O::Op>,
         out: &mut Letters<O>,
     ) -> Result<(), AllocError>
-        ensures ok { OnOk result (ShowsReceived «from» self.old (Propose slot command.now) self.new out.old.items out.new.items) }
+        ensures ok { OnOk result
+            (ShowsReceived «from» self.old
+            (Propose slot command.now) self.new out.old.items out.new.items) }
         ensures idle { slots.contains_key self.old.leader.proposals slot ≡ true → IsOk result }
         ensures err { OnErr result ((self.new ≡ self.old) × (out.new.items ≡ out.old.items)) }
     {
@@ -153,7 +162,9 @@ impl<O: Object> Node<O> {
     ) -> Result<(), AllocError>
         requires agrees { (d : Command O.Op) → slots.get self.old.replica.decisions slot
             ≡ Some d → d ≡ command.now }
-        ensures ok { OnOk result (ShowsReceived «from» self.old (Decision slot command.now) self.new out.old.items out.new.items) }
+        ensures ok { OnOk result
+            (ShowsReceived «from» self.old
+            (Decision slot command.now) self.new out.old.items out.new.items) }
         ensures idle { slots.contains_key self.old.replica.decisions slot ≡ true → IsOk result }
         ensures err { OnErr result ((self.new ≡ self.old) × (out.new.items ≡ out.old.items)) }
     {
@@ -163,7 +174,8 @@ impl<O: Object> Node<O> {
 
     // A replica asks what is decided from a slot on.
     fn on_ask(&mut self, from: u8, slot: Slot, out: &mut Letters<O>) -> Result<(), AllocError>
-        ensures ok { OnOk result (ShowsReceived «from» self.old (Ask slot) self.new out.old.items out.new.items) }
+        ensures ok { OnOk result
+            (ShowsReceived «from» self.old (Ask slot) self.new out.old.items out.new.items) }
         ensures same { self.new ≡ self.old }
         ensures err { OnErr result (out.new.items ≡ out.old.items) }
     {
@@ -219,7 +231,8 @@ fn hear_promise<C: Value>(
     out: &mut Vec<Letter<C>>,
 ) -> Result<(), AllocError>
     requires { ballot.round < 2 ^ 62 }
-    ensures hears { OnOk result (HearsP1b leader.old from ballot report.now leader.new out.old.items out.new.items) }
+    ensures hears { OnOk result
+        (HearsP1b leader.old from ballot report.now leader.new out.old.items out.new.items) }
     ensures idle { leader.old.scout ≡ None → IsOk result }
     ensures err { OnErr result ((leader.new ≡ leader.old) × (out.new.items ≡ out.old.items)) }
 {
@@ -242,7 +255,9 @@ fn hear_vote<C: Value>(
     requires { (b : Numbers) → ballot ≡ Some b → b.round < 2 ^ 62 }
     ensures state { OnOk result (leader.new
         ≡ (votes.on_p2b leader.old from ballot slot asked).state) }
-    ensures out { OnOk result (Sends leader.old (votes.on_p2b leader.old from ballot slot asked).says out.old.items out.new.items) }
+    ensures out { OnOk result
+        (Sends leader.old
+        (votes.on_p2b leader.old from ballot slot asked).says out.old.items out.new.items) }
     ensures idle { slots.get leader.old.commanders slot ≡ None → IsOk result }
     ensures err { OnErr result ((leader.new ≡ leader.old) × (out.new.items ≡ out.old.items)) }
 {
@@ -261,7 +276,8 @@ fn hear_proposal<C: Value>(
     out: &mut Vec<Letter<C>>,
 ) -> Result<(), AllocError>
     ensures state { OnOk result (leader.new ≡ (proposed leader.old slot command.now).state) }
-    ensures out { OnOk result (Sends leader.old (proposed leader.old slot command.now).says out.old.items out.new.items) }
+    ensures out { OnOk result
+        (Sends leader.old (proposed leader.old slot command.now).says out.old.items out.new.items) }
     ensures idle { slots.contains_key leader.old.proposals slot ≡ true → IsOk result }
     ensures err { OnErr result ((leader.new ≡ leader.old) × (out.new.items ≡ out.old.items)) }
 {

@@ -8,7 +8,8 @@ use Rattle.std.specs.declared.cmp.Ordering.{Ordering}
 use Rattle.object.specs.declared.command.Key.{Key}
 use Rattle.object.specs.Keys.{same_key, key_cmp}
 
-then_equal : (x y : Ordering) → ordering_then x y ≡ Equal → (x ≡ Equal) × (y ≡ Equal)
+-- what comes first, and then what comes second, is tied only where both are
+pub then_equal : (x y : Ordering) → ordering_then x y ≡ Equal → (x ≡ Equal) × (y ≡ Equal)
 then_equal Less y h = cc
 then_equal Equal y h = (refl, h)
 then_equal Greater y h = cc

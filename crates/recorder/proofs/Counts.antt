@@ -4,7 +4,7 @@ use Rattle.std.proofs.lemmas.Bool.{false_from_ne_true}
 use Rattle.object.specs.Lists.{In}
 use Rattle.object.specs.Keys.{same_key, stands, KeysOnce}
 use Rattle.object.specs.declared.command.Key.{Key}
-use Rattle.recorder.proofs.Same.{same_is}
+use Rattle.object.specs.KeyLaws.{same_is}
 
 module _ {X Y : Type 0} (key_x : X → Key) (key_y : Y → Key) where
   -- a list without the item of one key has all other keys

@@ -5,7 +5,7 @@ use Rattle.std.proofs.lemmas.List.Elements.{filter-append}
 use Rattle.object.specs.declared.command.Key.{Key}
 use Rattle.object.specs.Keys.{same_key, stands, KeysOnce}
 use Rattle.recorder.specs.Firsts.{others, firsts, CutsBefore}
-use Rattle.recorder.proofs.Same.{same_is, same_turned}
+use Rattle.object.specs.KeyLaws.{same_is, same_turned}
 use Rattle.recorder.proofs.Onces.{first_lacks, once_first}
 
 module _ {X : Type 0} where

@@ -1,4 +1,3 @@
-pub mod Same
 pub mod Onces
 pub mod Places
 pub mod Cuts

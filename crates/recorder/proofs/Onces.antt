@@ -4,7 +4,7 @@ use Rattle.std.proofs.lemmas.Bool.{false≢true, false_from_ne_true}
 use Rattle.object.specs.Lists.{In}
 use Rattle.object.specs.Keys.{same_key, stands, KeysOnce}
 use Rattle.object.specs.declared.command.Key.{Key}
-use Rattle.recorder.proofs.Same.{same_is, is_same}
+use Rattle.object.specs.KeyLaws.{same_is, same_when}
 
 pub fst_false : (a b : Bool) → (a || b) ≡ false → a ≡ false
 fst_false true b h = cc
@@ -18,7 +18,7 @@ module _ {X : Type 0} (key_of : X → Key) where
   -- an item's own key stands
   pub in_stands : (y : X) (xs : List X) → In y xs → stands key_of (key_of y) xs ≡ true
   in_stands y [] i = absurd i
-  in_stands y (x ∷ xs) (inl e) = ap (λ b. b || stands key_of (key_of y) xs) (is_same (key_of x) (key_of y) (ap key_of (sym e)))
+  in_stands y (x ∷ xs) (inl e) = ap (λ b. b || stands key_of (key_of y) xs) (same_when (key_of x) (key_of y) (ap key_of (sym e)))
   in_stands y (x ∷ xs) (inr i) =
       elim (same_key (key_of x) (key_of y)) as (λ b. (b || stands key_of (key_of y) xs) ≡ true) [ true ↦ refl | false ↦ in_stands y xs i ]
 

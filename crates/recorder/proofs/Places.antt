@@ -6,7 +6,7 @@ use Rattle.std.specs.List.{slice_get}
 use Rattle.std.specs.Option.{is_some, option_map, option_and_then}
 use Rattle.object.specs.declared.command.Key.{Key}
 use Rattle.object.specs.Keys.{same_key, stands, found, place_of, KeysOnce}
-use Rattle.recorder.proofs.Same.{same_is, is_same, same_turned}
+use Rattle.object.specs.KeyLaws.{same_is, same_turned, same_when}
 use Rattle.recorder.proofs.Onces.{fst_false, snd_false, first_lacks, once_first}
 
 or_falses : (a b : Bool) → a ≡ false → b ≡ false → (a || b) ≡ false
@@ -55,7 +55,7 @@ module _ {X : Type 0} (key_of : X → Key) where
       ∙ elim (same_key (key_of x) q) as (λ b. same_key (key_of x) q ≡ b →
       cond b (Some 0) (option_map suc (cond (same_key (key_of y) q) (Some (length xs)) (place_of key_of q xs))) ≡ cond (same_key (key_of y) q) (Some (suc (length xs))) (cond b (Some 0) (option_map suc (place_of key_of q xs)))) [
         | true ↦ λ h. elim (same_key (key_of y) q) as (λ c. same_key (key_of y) q ≡ c → Some 0 ≡ cond c (Some (suc (length xs))) (Some 0)) [
-          | true ↦ λ g. absurd (false≢true (sym (fst_false (same_key (key_of x) (key_of y)) (stands key_of (key_of y) xs) new) ∙ is_same (key_of x) (key_of y) (same_is (key_of x) q h ∙ sym (same_is (key_of y) q g))))
+          | true ↦ λ g. absurd (false≢true (sym (fst_false (same_key (key_of x) (key_of y)) (stands key_of (key_of y) xs) new) ∙ same_when (key_of x) (key_of y) (same_is (key_of x) q h ∙ sym (same_is (key_of y) q g))))
           | false ↦ λ g. refl
         ] refl
         | false ↦ λ h. later (same_key (key_of y) q) (length xs) (place_of key_of q xs)

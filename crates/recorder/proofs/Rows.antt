@@ -3,7 +3,7 @@ use Rattle.std.proofs.Common.{◌≡◌, ◌<◌, ℕ, suc, true, false, cond, L
 use Rattle.std.specs.Option.{option_map}
 use Rattle.object.specs.Keys.{same_key, stands, place_of, KeysOnce}
 use Rattle.object.specs.declared.command.Key.{Key}
-use Rattle.recorder.proofs.Same.{same_is, same_turned}
+use Rattle.object.specs.KeyLaws.{same_is, same_turned}
 use Rattle.recorder.proofs.Onces.{fst_false, snd_false, first_lacks}
 
 -- a place after the first

@@ -13,7 +13,7 @@ use Rattle.object.specs.declared.command.Submission.{Submission}
 use Rattle.recorder.specs.Records.{IsRecord, EndsOpen, record_of, own_key}
 use Rattle.recorder.specs.Fates.{fate_at}
 use Rattle.recorder.specs.declared.fate.Fate.{Fate}
-use Rattle.recorder.proofs.Same.{same_is, same_itself}
+use Rattle.object.specs.KeyLaws.{same_is, same_itself}
 use Rattle.recorder.proofs.Onces.{lacks, lacked}
 use Rattle.recorder.proofs.Places.{place_more, place_none, stands_more, once_more, once_less, or_nil}
 use Rattle.recorder.proofs.Counts.{no_more}

@@ -63,7 +63,8 @@ impl<Op: Value, Reply: Value> Recorder<Op, Reply> {
     /// which. It fails for want of memory alone, and takes none for a key that was submitted. What is new can be withdrawn.
     pub fn submit(&mut self, command: &Command<Op>) -> Result<bool, AllocError>
         ensures ok { OnOk result
-            (self.new ≡ record self.old { happenings = with_submission command.now self.old.happenings }) }
+            (self.new
+            ≡ record self.old { happenings = with_submission command.now self.old.happenings }) }
         ensures new { IfOk result (λ is_new.
             is_new ≡ not (is_submitted command.now.key self.old.happenings.submitted)) }
         ensures open { IfOk result (λ is_new. is_new ≡ true → EndsOpen self.new) }
@@ -156,7 +157,8 @@ impl<Op: Value, Reply: Value> Recorder<Op, Reply> {
     // What became of the submission of this key.
     fn fate_of(&self, key: Key) -> Option<Fate>
         ensures fate { result ≡
-            (if is_submitted key self.now.happenings.submitted then Some (fate_at self.now key) else None) }
+            (if is_submitted key self.now.happenings.submitted then Some
+            (fate_at self.now key) else None) }
         ensures kept { IsRecord self.now }
     {
         let place = self.submitted.place_of(key)?;

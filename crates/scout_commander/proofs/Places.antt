@@ -12,24 +12,11 @@ use Rattle.std.specs.declared.cmp.Ordering.{Ordering}
 use Rattle.std.specs.BTreeMap.{BTreeMap, get, is_at, Updates}
 use Rattle.object.specs.Lists.{In}
 use Rattle.ballot.specs.Ballots.{Numbers}
+use Rattle.ballot.specs.BallotOrder.{ballot_cmp, exact_ballots}
 use Rattle.ballot.specs.PvalueLaws.{same_pvalues}
 use Rattle.ballot.specs.declared.pvalue.Pvalue.{Pvalue}
-use Rattle.scout_commander.specs.Starts.{ballot_cmp, place_cmp, start, IsIndexed}
+use Rattle.scout_commander.specs.Starts.{place_cmp, start, IsIndexed}
 use Rattle.scout_commander.proofs.Members.{in_cases, in_right, in_take, in_take_take, found}
-
-then_equal : (x y : Ordering) → ordering_then x y ≡ Equal → (x ≡ Equal) × (y ≡ Equal)
-then_equal Less y h = cc
-then_equal Equal y h = (refl, h)
-then_equal Greater y h = cc
-
-exact_ballots : CmpEqualImpliesEq ballot_cmp
-exact_ballots a b h =
-    let rounds = then_equal (nat_cmp a.round b.round) (ordering_then (nat_cmp a.node b.node) (nat_cmp a.boot b.boot)) h in
-    let nodes = then_equal (nat_cmp a.node b.node) (nat_cmp a.boot b.boot) rounds.1 in
-    let r : a.round ≡ b.round = exact_unsigned a.round b.round rounds.0 in
-    let n : a.node ≡ b.node = exact_unsigned a.node b.node nodes.0 in
-    let t : a.boot ≡ b.boot = exact_unsigned a.boot b.boot nodes.1 in
-    λ i. record { round = r i; node = n i; boot = t i }
 
 exact_places : CmpEqualImpliesEq place_cmp
 exact_places = exact_pairs nat_cmp ballot_cmp exact_unsigned exact_ballots

@@ -6,11 +6,8 @@ use Rattle.std.specs.declared.cmp.Ordering.{Ordering}
 use Rattle.std.specs.BTreeMap.{BTreeMap, get}
 use Rattle.object.specs.Lists.{In}
 use Rattle.ballot.specs.Ballots.{Numbers}
+use Rattle.ballot.specs.BallotOrder.{ballot_cmp}
 use Rattle.ballot.specs.declared.pvalue.Pvalue.{Pvalue}
-
--- by round, then node, then boot
-abbrev pub ballot_cmp : Numbers → Numbers → Ordering
-ballot_cmp a b = ordering_then (nat_cmp a.round b.round) (ordering_then (nat_cmp a.node b.node) (nat_cmp a.boot b.boot))
 
 -- by slot, and then by ballot
 abbrev pub place_cmp : ℕ × Numbers → ℕ × Numbers → Ordering

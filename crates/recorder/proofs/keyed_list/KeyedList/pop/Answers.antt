@@ -2,7 +2,7 @@ use Rattle.std.proofs.Common.{◌≡◌, cond, List, [], ◌∷◌, ◌++◌, No
 use Rattle.object.specs.declared.command.Key.{Key}
 use Rattle.object.specs.Keys.{same_key, place_of, KeysOnce}
 use Rattle.recorder.proofs.Places.{place_less, once_less}
-use Rattle.recorder.proofs.Same.{tied_is_same}
+use Rattle.object.specs.KeyLaws.{tied_is_same}
 use Rattle.recorder.proofs.keyed_list.KeyedList.pop.Goals as goal
 
 pub invariant_of-self : goal.invariant_of-self

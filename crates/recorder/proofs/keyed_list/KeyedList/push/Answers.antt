@@ -2,7 +2,7 @@ use Rattle.std.proofs.Common.{◌≡◌, cond, [], ◌∷◌, ◌++◌, Some, ap
 use Rattle.object.specs.declared.command.Key.{Key}
 use Rattle.object.specs.Keys.{same_key, stands, place_of, KeysOnce}
 use Rattle.recorder.proofs.Places.{place_more, once_more}
-use Rattle.recorder.proofs.Same.{tied_is_same}
+use Rattle.object.specs.KeyLaws.{tied_is_same}
 use Rattle.recorder.proofs.keyed_list.KeyedList.push.Goals as goal
 
 pub invariant_of-self-2 : goal.invariant_of-self-2
