@@ -1,9 +1,14 @@
-//! What a map of jobs finds and keeps.
+//! What a map of jobs finds and keeps, as tables.
+ghost use Rattle.std.specs.Prelude.{◌≡◌};
+
 use indexmap::IndexSet;
 use job_store::{Body, Job, JobMap, Jobs, Name, State};
 use object::Value;
 use std::alloc::{AllocError, Global};
 use std::test::Fail;
+
+/// The id, the priority and the state of a job.
+type Row = (u64, u32, State);
 
 fn new_job(alloc: Global, tube: &Name, pri: u32, state: State) -> Result<Job, AllocError> {
     Ok(Job {
@@ -15,94 +20,271 @@ fn new_job(alloc: Global, tube: &Name, pri: u32, state: State) -> Result<Job, Al
     })
 }
 
-/// A map of jobs of one tube, each of an id, a priority and a state.
-fn map_of<M: JobMap>(
-    alloc: Global,
-    tube: &Name,
-    rows: Vec<(u64, u32, State)>,
-) -> Result<M, AllocError> {
+/// A map of jobs of one tube.
+fn map_of<M: JobMap>(alloc: Global, tube: &Name, rows: &[Row]) -> Result<M, AllocError> {
     let mut jobs = M::new(alloc);
     for (id, pri, state) in rows {
-        jobs.insert(id, new_job(alloc, tube, pri, state)?)?;
+        jobs.insert(*id, new_job(alloc, tube, *pri, *state)?)?;
     }
     Ok(jobs)
 }
 
-/// The id, the priority and the state of each job.
-fn rows_of<M: JobMap>(alloc: Global, jobs: &M) -> Result<Vec<(u64, u32, State)>, AllocError> {
+fn row(id: u64, job: &Job) -> Row {
+    (id, job.pri, job.state)
+}
+
+/// All its jobs, by rising id.
+fn rows_of<M: JobMap>(alloc: Global, jobs: &M) -> Result<Vec<Row>, AllocError> {
     let mut rows = Vec::new(alloc);
     for (id, job) in jobs.by_id() {
-        rows.push((*id, job.pri, job.state))?;
+        rows.push(row(*id, job))?;
     }
     Ok(rows)
+}
+
+/// A look-up in a map of jobs of one tube.
+enum LookUp {
+    /// For one who watches no tube.
+    BestReadyOfNone,
+    /// For one who watches the tube.
+    BestReady,
+    FirstReady,
+    FirstDelayed,
+    FirstBuried,
+    /// What is due in this second.
+    Due(u64),
+    /// What this session has.
+    FirstHeld(u32),
+}
+
+fn only(alloc: Global, tube: &Name) -> Result<IndexSet<Name>, AllocError> {
+    let mut tubes = IndexSet::new(alloc);
+    tubes.insert(tube.copy()?)?;
+    Ok(tubes)
 }
 
 fn id_of(found: Option<(u64, &Job)>) -> Option<u64> {
     found.map(|(id, _)| id)
 }
 
+/// The id of the job that is found.
+fn found<M: JobMap>(
+    alloc: Global,
+    tube: &Name,
+    jobs: &M,
+    look_up: &LookUp,
+) -> Result<Option<u64>, AllocError> {
+    Ok(id_of(match look_up {
+        LookUp::BestReadyOfNone => jobs.best_ready(&IndexSet::new(alloc)),
+        LookUp::BestReady => jobs.best_ready(&only(alloc, tube)?),
+        LookUp::FirstReady => jobs.first_ready(tube),
+        LookUp::FirstDelayed => jobs.first_delayed(tube),
+        LookUp::FirstBuried => jobs.first_buried(tube),
+        LookUp::Due(second) => jobs.due(*second),
+        LookUp::FirstHeld(session) => jobs.first_held(*session),
+    }))
+}
+
+static STORED: [Row; 8] = [
+    (1, 5, State::Ready),
+    (2, 3, State::Ready),
+    (3, 3, State::Ready),
+    (4, 0, State::Delayed { due: 9 }),
+    (5, 0, State::Delayed { due: 8 }),
+    (6, 0, State::Reserved { session: 7, due: 8 }),
+    (7, 0, State::Buried { rank: 2 }),
+    (8, 0, State::Buried { rank: 1 }),
+];
+
+/// Look-ups in the stored jobs, and the ids that they find.
+static FOUND: [(LookUp, Option<u64>); 9] = [
+    (LookUp::BestReadyOfNone, None),
+    (LookUp::BestReady, Some(2)),
+    (LookUp::FirstReady, Some(2)),
+    (LookUp::FirstDelayed, Some(5)),
+    (LookUp::FirstBuried, Some(8)),
+    (LookUp::Due(7), None),
+    (LookUp::Due(8), Some(5)),
+    (LookUp::FirstHeld(7), Some(6)),
+    (LookUp::FirstHeld(8), None),
+];
+
+/// The place of the first look-up that finds another job.
+fn wrong_look_up<M: JobMap>(
+    alloc: Global,
+    tube: &Name,
+    jobs: &M,
+    look_ups: &[(LookUp, Option<u64>)],
+) -> Result<Option<usize>, AllocError> {
+    for (place, (look_up, id)) in look_ups.iter().enumerate() {
+        if found(alloc, tube, jobs, look_up)? != *id {
+            return Ok(Some(place));
+        }
+    }
+    Ok(None)
+}
+
 #[test]
 fn look_ups_find_the_least(rt: HostRuntime) -> Result<(), Fail> {
     let alloc = rt.alloc();
     let tube = Name::default_tube();
-    let rows = vec![in alloc;
-        (1, 5, State::Ready),
-        (2, 3, State::Ready),
-        (3, 3, State::Ready),
-        (4, 0, State::Delayed { due: 9 }),
-        (5, 0, State::Delayed { due: 8 }),
-        (6, 0, State::Reserved { session: 7, due: 8 }),
-        (7, 0, State::Buried { rank: 2 }),
-        (8, 0, State::Buried { rank: 1 }),
-    ]?;
-    let jobs: Jobs = map_of(alloc, &tube, rows)?;
-    let mut tubes = IndexSet::new(alloc);
-    assert_eq!(rt; id_of(jobs.best_ready(&tubes)), None);
-    tubes.insert(tube.copy()?)?;
-    assert_eq!(rt; id_of(jobs.best_ready(&tubes)), Some(2));
-    assert_eq!(rt; id_of(jobs.first_ready(&tube)), Some(2));
-    assert_eq!(rt; id_of(jobs.first_delayed(&tube)), Some(5));
-    assert_eq!(rt; id_of(jobs.first_buried(&tube)), Some(8));
-    assert_eq!(rt; id_of(jobs.due(7)), None);
-    assert_eq!(rt; id_of(jobs.due(8)), Some(5));
-    assert_eq!(rt; id_of(jobs.first_held(7)), Some(6));
-    assert_eq!(rt; id_of(jobs.first_held(8)), None);
+    let jobs: Jobs = map_of(alloc, &tube, &STORED)?;
+    assert_eq!(rt; wrong_look_up(alloc, &tube, &jobs, &FOUND)?, None);
     Ok(())
 }
+
+/// A change of a map of jobs of one tube.
+enum Change {
+    /// A new job.
+    Insert(Row),
+    /// A copy of a new job.
+    InsertCopy(Row),
+    /// The priority and the state of the job at the id.
+    Set(Row),
+    /// The state of the job at the id.
+    SetState(u64, State),
+}
+
+fn make<M: JobMap>(
+    alloc: Global,
+    tube: &Name,
+    jobs: &mut M,
+    change: &Change,
+) -> Result<(), AllocError>
+    ensures { M.before jobs.new ≡ M.before jobs.old }
+{
+    match change {
+        Change::Insert((id, pri, state)) => {
+            jobs.insert(*id, new_job(alloc, tube, *pri, *state)?)
+        }
+        Change::InsertCopy((id, pri, state)) => {
+            jobs.insert(*id, new_job(alloc, tube, *pri, *state)?.copy()?)
+        }
+        Change::Set((id, pri, state)) => jobs.set(*id, *pri, state.copy()?),
+        Change::SetState(id, state) => jobs.set_state(*id, *state),
+    }
+}
+
+fn make_all<M: JobMap>(
+    alloc: Global,
+    tube: &Name,
+    jobs: &mut M,
+    changes: &[Change],
+) -> Result<(), AllocError>
+    ensures { M.before jobs.new ≡ M.before jobs.old }
+{
+    for change in changes {
+        make(alloc, tube, jobs, change)?;
+    }
+    Ok(())
+}
+
+/// What a map of jobs of one tube goes through.
+enum Step {
+    /// These are all its jobs.
+    Holds(&'static [Row]),
+    /// The priority of the job at the id.
+    Get(u64, Option<u32>),
+    /// A trial of changes, in which these are all its jobs, and its copy's. Then the changes are taken back.
+    TakenBack(&'static [Change], &'static [Row]),
+    /// A trial whose changes stay.
+    Kept(&'static [Change]),
+    /// The body of the job at the id, which is taken out.
+    Remove(u64, &'static [u8]),
+    /// No job at the id is taken out.
+    RemoveNone(u64),
+}
+
+fn holds<M: JobMap>(alloc: Global, jobs: &M, rows: &[Row]) -> Result<bool, AllocError> {
+    Ok(rows_of(alloc, jobs)?.as_slice() == rows)
+}
+
+/// Whether the map and its copy hold these jobs in the trial of the changes, which are then taken back.
+fn is_taken_back<M: JobMap>(
+    alloc: Global,
+    tube: &Name,
+    jobs: &mut M,
+    changes: &[Change],
+    rows: &[Row],
+) -> Result<bool, AllocError> {
+    jobs.begin();
+    make_all(alloc, tube, jobs, changes)?;
+    let is_changed = holds(alloc, jobs, rows)?;
+    let is_copied = holds(alloc, &jobs.copy()?, rows)?;
+    jobs.roll_back();
+    Ok(is_changed && is_copied)
+}
+
+/// The step goes as it says.
+fn goes<M: JobMap>(
+    alloc: Global,
+    tube: &Name,
+    jobs: &mut M,
+    step: &Step,
+) -> Result<bool, AllocError> {
+    match step {
+        Step::Holds(rows) => holds(alloc, jobs, *rows),
+        Step::Get(id, pri) => Ok(jobs.get(*id).map(|job| job.pri) == *pri),
+        Step::TakenBack(changes, rows) => is_taken_back(alloc, tube, jobs, *changes, *rows),
+        Step::Kept(changes) => {
+            jobs.begin();
+            make_all(alloc, tube, jobs, *changes)?;
+            jobs.commit();
+            Ok(true)
+        }
+        Step::Remove(id, body) => match jobs.remove(*id) {
+            Some(job) => Ok(job.body.as_slice() == *body),
+            None => Ok(false),
+        },
+        Step::RemoveNone(id) => Ok(jobs.remove(*id).is_none()),
+    }
+}
+
+/// The place of the first step that the map takes otherwise.
+fn wrong_step<M: JobMap>(
+    alloc: Global,
+    tube: &Name,
+    jobs: &mut M,
+    steps: &[Step],
+) -> Result<Option<usize>, AllocError> {
+    for (place, step) in steps.iter().enumerate() {
+        if !goes(alloc, tube, jobs, step)? {
+            return Ok(Some(place));
+        }
+    }
+    Ok(None)
+}
+
+static FIRST: [Row; 2] = [(1, 5, State::Ready), (2, 3, State::Ready)];
+
+static CHANGES: [Step; 8] = [
+    Step::Get(2, Some(3)),
+    Step::Get(3, None),
+    Step::TakenBack(
+        &[
+            Change::InsertCopy((3, 3, State::Ready)),
+            Change::Insert((1, 3, State::Ready)),
+            Change::Set((2, 0, State::Buried { rank: 4 })),
+            Change::SetState(3, State::Delayed { due: 6 }),
+        ],
+        &[
+            (1, 3, State::Ready),
+            (2, 0, State::Buried { rank: 4 }),
+            (3, 3, State::Delayed { due: 6 }),
+        ],
+    ),
+    Step::Holds(&[(1, 5, State::Ready), (2, 3, State::Ready)]),
+    Step::Kept(&[Change::Set((1, 4, State::Ready))]),
+    Step::Holds(&[(1, 4, State::Ready), (2, 3, State::Ready)]),
+    Step::Remove(2, b"hello"),
+    Step::RemoveNone(2),
+];
 
 #[test]
 fn changes_stay_or_are_taken_back(rt: HostRuntime) -> Result<(), Fail> {
     let alloc = rt.alloc();
     let tube = Name::default_tube();
-    let first = vec![in alloc; (1, 5, State::Ready), (2, 3, State::Ready)]?;
-    let mut jobs: Jobs = map_of(alloc, &tube, first)?;
-    let before = rows_of(alloc, &jobs)?;
-    assert_eq!(rt; jobs.get(2).map(|job| job.pri), Some(3));
-    assert!(rt; jobs.get(3).is_none());
-    let job = new_job(alloc, &tube, 3, State::Ready)?;
-    jobs.begin();
-    jobs.insert(3, job.copy()?)?;
-    jobs.insert(1, job)?;
-    jobs.set(2, 0, State::Buried { rank: 4 })?;
-    jobs.set_state(3, State::Delayed { due: 6 })?;
-    let after = vec![in alloc;
-        (1, 3, State::Ready),
-        (2, 0, State::Buried { rank: 4 }),
-        (3, 3, State::Delayed { due: 6 }),
-    ]?;
-    assert!(rt; rows_of(alloc, &jobs)? == after);
-    assert!(rt; rows_of(alloc, &jobs.copy()?)? == after);
-    jobs.roll_back();
-    assert!(rt; rows_of(alloc, &jobs)? == before);
-    jobs.begin();
-    jobs.set(1, 4, State::Ready.copy()?)?;
-    jobs.commit();
-    let kept = vec![in alloc; (1, 4, State::Ready), (2, 3, State::Ready)]?;
-    assert!(rt; rows_of(alloc, &jobs)? == kept);
-    assert!(rt;
-        jobs.remove(2)
-            .is_some_and(|job| job.body.as_slice() == b"hello".as_slice())
-    );
-    assert!(rt; jobs.remove(2).is_none());
+    let mut jobs: Jobs = map_of(alloc, &tube, &FIRST)?;
+    assert_eq!(rt; wrong_step(alloc, &tube, &mut jobs, &CHANGES)?, None);
     Ok(())
 }

@@ -1,3 +1,4 @@
+//! What a leader says, as tables.
 use ballot::{Ballot, Body, Letter, Members, Pvalue, Slot};
 use leader::{Leader, LeaderError};
 use object::Value;
@@ -19,6 +20,9 @@ impl Value for Word {
     }
 }
 
+/// Round, slot and command of a pvalue.
+type Parts = (u64, u64, Word);
+
 fn ballot(round: u64) -> Result<Ballot, Fail> {
     Ok(Ballot::new(round, 1, 0).ok_or("no ballot")?)
 }
@@ -27,12 +31,21 @@ fn slot(number: u64) -> Result<Slot, Fail> {
     Ok(Slot::new(number).ok_or("no slot")?)
 }
 
-fn pvalue(round: u64, number: u64, value: Word) -> Result<Pvalue<Word>, Fail> {
+fn pvalue(parts: Parts) -> Result<Pvalue<Word>, Fail> {
+    let (round, number, value) = parts;
     Ok(Pvalue {
         ballot: ballot(round)?,
         slot: slot(number)?,
         value,
     })
+}
+
+fn pvalues(alloc: Global, parts: &[Parts]) -> Result<Vec<Pvalue<Word>>, Fail> {
+    let mut all = Vec::new(alloc);
+    for part in parts {
+        all.push(pvalue(*part)?)?;
+    }
+    Ok(all)
 }
 
 /// The leader of the only member.
@@ -42,102 +55,184 @@ fn alone(alloc: Global) -> Result<Leader<Word>, Fail> {
 }
 
 /// What the only member says to itself.
-fn to_itself(alloc: Global, bodies: Vec<Body<Word>>) -> Result<Vec<Letter<Word>>, AllocError> {
+enum Said {
+    /// A P1a of the ballot of a round.
+    P1a(u64),
+    P2a(Parts),
+    /// A slot and its command.
+    Decision(u64, Word),
+}
+
+fn letter_of(said: &Said) -> Result<Letter<Word>, Fail> {
+    let body = match said {
+        Said::P1a(round) => Body::P1a(ballot(*round)?),
+        Said::P2a(parts) => Body::P2a(pvalue(*parts)?),
+        Said::Decision(number, value) => Body::Decision(slot(*number)?, *value),
+    };
+    Ok(Letter {
+        from: 1,
+        to: 1,
+        body,
+    })
+}
+
+fn letters_of(alloc: Global, said: &[Said]) -> Result<Vec<Letter<Word>>, Fail> {
     let mut letters = Vec::new(alloc);
-    for body in bodies {
-        letters.push(Letter {
-            from: 1,
-            to: 1,
-            body,
-        })?;
+    for one in said {
+        letters.push(letter_of(one)?)?;
     }
     Ok(letters)
 }
 
+/// What the leader of the only member is told, or is to do. Each ballot is told by its round.
+enum Step {
+    /// It sends out its scout.
+    Wake,
+    /// It says again what it waits for.
+    Nudge,
+    /// A command is proposed for a slot.
+    Propose(u64, Word),
+    /// A ballot preempts it.
+    Preempted(u64),
+    /// A ballot preempts it, and none is left for it.
+    LastPreempted(u64),
+    /// A P1b: the promised ballot and the report.
+    P1b(u64, &'static [Parts]),
+    /// A P1b of a promised ballot and no report, after which no ballot is left for it.
+    LastP1b(u64),
+    /// A P2b: the promised ballot, the slot, and the ballot of the P2a that it answers.
+    P2b(u64, u64, u64),
+    /// What it said so far is forgotten.
+    Forget,
+    /// It has said this, since the last that was forgotten.
+    Says(&'static [Said]),
+}
+
+/// The step goes as it says.
+fn goes(
+    alloc: Global,
+    leader: &mut Leader<Word>,
+    step: &Step,
+    letters: &mut Vec<Letter<Word>>,
+) -> Result<bool, Fail> {
+    match step {
+        Step::Wake => leader.wake(letters)?,
+        Step::Nudge => leader.nudge(letters)?,
+        Step::Propose(number, value) => leader.propose(slot(*number)?, *value, letters)?,
+        Step::Preempted(round) => leader.preempted(ballot(*round)?)?,
+        Step::LastPreempted(round) => {
+            return Ok(leader.preempted(ballot(*round)?) == Err(LeaderError::NoBallotLeft));
+        }
+        Step::P1b(round, report) => {
+            let report = pvalues(alloc, *report)?;
+            leader.on_p1b(1, ballot(*round)?, report.as_slice(), letters)?
+        }
+        Step::LastP1b(round) => {
+            let heard = leader.on_p1b(1, ballot(*round)?, &[], letters);
+            return Ok(heard == Err(LeaderError::NoBallotLeft));
+        }
+        Step::P2b(promised, number, asked) => {
+            let promised = Some(ballot(*promised)?);
+            leader.on_p2b(1, promised, slot(*number)?, ballot(*asked)?, letters)?
+        }
+        Step::Forget => letters.clear(),
+        Step::Says(said) => return Ok(*letters == letters_of(alloc, *said)?),
+    }
+    Ok(true)
+}
+
+/// The place of the first step that a new leader takes otherwise.
+fn wrong_step(alloc: Global, steps: &[Step]) -> Result<Option<usize>, Fail> {
+    let mut leader = alone(alloc)?;
+    let mut letters = Vec::new(alloc);
+    for (place, step) in steps.iter().enumerate() {
+        if !goes(alloc, &mut leader, step, &mut letters)? {
+            return Ok(Some(place));
+        }
+    }
+    Ok(None)
+}
+
+static DECIDED: [Step; 9] = [
+    Step::Wake,
+    Step::Nudge,
+    Step::P1b(0, &[]),
+    Step::Propose(1, Word(7)),
+    Step::Nudge,
+    Step::P2b(0, 1, 0),
+    Step::Propose(1, Word(8)),
+    Step::Nudge,
+    Step::Says(&[
+        Said::P1a(0),
+        Said::P1a(0),
+        Said::P2a((0, 1, Word(7))),
+        Said::P2a((0, 1, Word(7))),
+        Said::Decision(1, Word(7)),
+    ]),
+];
+
 #[test]
 fn a_leader_of_one_member_decides(rt: HostRuntime) -> Result<(), Fail> {
-    let alloc = rt.alloc();
-    let own = ballot(0)?;
-    let first = slot(1)?;
-    let mut leader = alone(alloc)?;
-    let mut out = Vec::new(alloc);
-    leader.wake(&mut out)?;
-    leader.nudge(&mut out)?;
-    leader.on_p1b(1, own, &[], &mut out)?;
-    leader.propose(first, Word(7), &mut out)?;
-    leader.nudge(&mut out)?;
-    leader.on_p2b(1, Some(own), first, own, &mut out)?;
-    leader.propose(first, Word(8), &mut out)?;
-    leader.nudge(&mut out)?;
-    let bodies = vec![in alloc;
-        Body::P1a(own),
-        Body::P1a(own),
-        Body::P2a(pvalue(0, 1, Word(7))?),
-        Body::P2a(pvalue(0, 1, Word(7))?),
-        Body::Decision(first, Word(7)),
-    ]?;
-    assert!(rt; out.as_slice() == to_itself(alloc, bodies)?.as_slice());
+    assert_eq!(rt; wrong_step(rt.alloc(), &DECIDED)?, None);
     Ok(())
 }
+
+static ADOPTED: [Step; 6] = [
+    Step::Propose(3, Word(3)),
+    Step::Propose(1, Word(1)),
+    Step::Preempted(4),
+    Step::Wake,
+    Step::P1b(
+        5,
+        &[
+            (1, 3, Word(31)),
+            (3, 3, Word(33)),
+            (2, 3, Word(32)),
+            (0, 2, Word(20)),
+        ],
+    ),
+    Step::Says(&[
+        Said::P1a(5),
+        Said::P2a((5, 1, Word(1))),
+        Said::P2a((5, 2, Word(20))),
+        Said::P2a((5, 3, Word(33))),
+    ]),
+];
 
 #[test]
 fn the_greatest_ballot_goes_before_the_own_proposal(rt: HostRuntime) -> Result<(), Fail> {
-    let alloc = rt.alloc();
-    let mut leader = alone(alloc)?;
-    let mut out = Vec::new(alloc);
-    leader.propose(slot(3)?, Word(3), &mut out)?;
-    leader.propose(slot(1)?, Word(1), &mut out)?;
-    leader.preempted(ballot(4)?)?;
-    leader.wake(&mut out)?;
-    let report = vec![in alloc;
-        pvalue(1, 3, Word(31))?,
-        pvalue(3, 3, Word(33))?,
-        pvalue(2, 3, Word(32))?,
-        pvalue(0, 2, Word(20))?,
-    ]?;
-    leader.on_p1b(1, ballot(5)?, report.as_slice(), &mut out)?;
-    let bodies = vec![in alloc;
-        Body::P1a(ballot(5)?),
-        Body::P2a(pvalue(5, 1, Word(1))?),
-        Body::P2a(pvalue(5, 2, Word(20))?),
-        Body::P2a(pvalue(5, 3, Word(33))?),
-    ]?;
-    assert!(rt; out.as_slice() == to_itself(alloc, bodies)?.as_slice());
+    assert_eq!(rt; wrong_step(rt.alloc(), &ADOPTED)?, None);
     Ok(())
 }
+
+static OLDER_VOTE: [Step; 9] = [
+    Step::Propose(1, Word(7)),
+    Step::Preempted(1),
+    Step::Wake,
+    Step::P1b(2, &[]),
+    Step::Forget,
+    Step::P2b(2, 1, 0),
+    Step::Says(&[]),
+    Step::P2b(2, 1, 2),
+    Step::Says(&[Said::Decision(1, Word(7))]),
+];
 
 #[test]
 fn a_vote_for_an_older_p2a_does_not_count(rt: HostRuntime) -> Result<(), Fail> {
-    let alloc = rt.alloc();
-    let own = ballot(2)?;
-    let first = slot(1)?;
-    let mut leader = alone(alloc)?;
-    let mut out = Vec::new(alloc);
-    leader.propose(first, Word(7), &mut out)?;
-    leader.preempted(ballot(1)?)?;
-    leader.wake(&mut out)?;
-    leader.on_p1b(1, own, &[], &mut out)?;
-    out.clear();
-    leader.on_p2b(1, Some(own), first, ballot(0)?, &mut out)?;
-    assert!(rt; out.is_empty());
-    leader.on_p2b(1, Some(own), first, own, &mut out)?;
-    let bodies = vec![in alloc; Body::Decision(first, Word(7))]?;
-    assert!(rt; out.as_slice() == to_itself(alloc, bodies)?.as_slice());
+    assert_eq!(rt; wrong_step(rt.alloc(), &OLDER_VOTE)?, None);
     Ok(())
 }
 
+static LAST_ROUND: [Step; 5] = [
+    Step::LastPreempted(1 << 62),
+    Step::Wake,
+    Step::LastP1b(1 << 62),
+    Step::Nudge,
+    Step::Says(&[Said::P1a(0), Said::P1a(0)]),
+];
+
 #[test]
 fn no_ballot_comes_after_the_last_round(rt: HostRuntime) -> Result<(), Fail> {
-    let alloc = rt.alloc();
-    let last = ballot(1 << 62)?;
-    let mut leader = alone(alloc)?;
-    assert_eq!(rt; leader.preempted(last), Err(LeaderError::NoBallotLeft));
-    let mut out = Vec::new(alloc);
-    leader.wake(&mut out)?;
-    let heard = leader.on_p1b(1, last, &[], &mut out);
-    assert_eq!(rt; heard, Err(LeaderError::NoBallotLeft));
-    leader.nudge(&mut out)?;
-    let bodies = vec![in alloc; Body::P1a(ballot(0)?), Body::P1a(ballot(0)?)]?;
-    assert!(rt; out.as_slice() == to_itself(alloc, bodies)?.as_slice());
+    assert_eq!(rt; wrong_step(rt.alloc(), &LAST_ROUND)?, None);
     Ok(())
 }
