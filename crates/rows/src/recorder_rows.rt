@@ -44,6 +44,21 @@ fn submit(
     Ok(())
 }
 
+/// A write of the number is submitted, which is to be new, and taken back.
+fn withdraw(
+    recorder: &mut Recorder<RegisterOp, RegisterReply>,
+    key: Key,
+    value: u64,
+) -> Result<(), Fail> {
+    let act = Act::Do(RegisterOp::Write(value));
+    let command = Command::new(key, act).ok_or("no command")?;
+    if !recorder.submit(&command)? {
+        return Err("not new".into());
+    }
+    recorder.withdraw();
+    Ok(())
+}
+
 /// A key that was submitted is answered, once or again.
 fn give(
     recorder: &mut Recorder<RegisterOp, RegisterReply>,
@@ -89,15 +104,18 @@ fn place(
 enum Step {
     /// A write of the number is submitted, where it is to be new or not.
     Submit(Key, u64, bool),
+    /// A write of the number is submitted and taken back.
+    Withdraw(Key, u64),
     /// The number is given as an answer.
     Give(Key, u64),
 }
 
-static TOLD: [Step; 8] = [
+static TOLD: [Step; 9] = [
     Step::Submit(FIRST, 5, true),
     Step::Submit(OTHER, 6, true),
     Step::Give(FIRST, 1),
     Step::Give(OTHER, 2),
+    Step::Withdraw(SECOND, 9),
     Step::Submit(SECOND, 6, true),
     Step::Submit(FIRST, 7, false),
     Step::Give(OTHER, 4),
@@ -110,6 +128,7 @@ fn recorder_of(alloc: Global, steps: &[Step]) -> Result<Recorder<RegisterOp, Reg
     for step in steps {
         match step {
             Step::Submit(key, value, is_new) => submit(&mut recorder, *key, *value, *is_new)?,
+            Step::Withdraw(key, value) => withdraw(&mut recorder, *key, *value)?,
             Step::Give(key, value) => give(&mut recorder, *key, *value, alloc)?,
         }
     }
