@@ -11,13 +11,14 @@ use Rattle.ballot.specs.declared.letter.Body.{Body}
 use Rattle.ballot.specs.Letters.{letter}
 use Rattle.ballot.specs.Members.{is_member}
 use Rattle.node.specs.Nodes.{NodeState, members_of, put}
+use Rattle.node.specs.PlaceLaws.{put_at}
 use Rattle.node.specs.Receiving.{IsFit, Receives, promises_ballot, accepts_pvalue, hears_promise, hears_vote, hears_proposal, learns, tells_decisions, ShowsNode, ShowsReceived}
 use Rattle.network.proofs.Sent.{of_map, member_bounds}
 use Rattle.network.specs.Networks.{NetworkState, node_of, mail_in, mail_of, front, put_mail, posted, with_last, IsDelivered}
 use Rattle.network.specs.Posting.{IsAmong, IsBetween, AreBetween, IsPost, IsNetwork}
 use Rattle.network.proofs.Posts.{none_posted, in_at, post_put, between_append}
 use Rattle.network.proofs.Seats.{HasSeat, received_seat, seated_by}
-use Rattle.network.proofs.Turned.{seen, IsPlace, put_at, all_between, none_between, own_member, low, within_mails, node_read, node_seated, stays_whole, set_again}
+use Rattle.network.proofs.Turned.{seen, IsPlace, all_between, none_between, own_member, low, within_mails, node_read, node_seated, stays_whole, set_again}
 
 lt_itself : (n : ℕ) → nat_lt n n ≡ false
 lt_itself n = grind (arith, nat_tests)

@@ -8,7 +8,8 @@ use Rattle.ballot.specs.declared.letter.Letter.{Letter}
 use Rattle.node.specs.Nodes.{NodeState}
 use Rattle.network.specs.Networks.{NetworkState, mail_of, has_mail, front, letters_to, put_mail, posted, without_front}
 use Rattle.network.specs.Posting.{AreBetween, IsNetwork, but_first}
-use Rattle.network.proofs.Posts.{length-posted, posted_at, posted_put, first_dropped, in_at, post_put}
+use Rattle.network.specs.MailLaws.{in_behind, length-posted}
+use Rattle.network.proofs.Posts.{posted_at, posted_put, first_dropped, in_at, post_put}
 use Rattle.network.proofs.Turned.{seen, IsPlace, low, within_mails, set_again}
 use Rattle.network.proofs.Delivering.{mail_at, put_mail_at}
 
@@ -29,10 +30,6 @@ in_but_first : {C : Type 0} (n : ℕ) (xs : List (Letter C)) (l : Letter C) → 
 in_but_first n [] l at = at
 in_but_first n (x ∷ xs) l at = in_kept l x xs (but_first n xs) (x.to == n) (in_but_first n xs) at
 
-in_behind : {C : Type 0} (xs : List (Letter C)) (l : Letter C) → In l (drop 1 xs) → In l xs
-in_behind [] l at = at
-in_behind (x ∷ xs) l at = inr at
-
 module _ {C : Type 0} {members : List ℕ} {nodes : List (NodeState C)} {mails : List (List (Letter C))} {fresh : List (Letter C)} {k : NetworkState C} {n p : ℕ} (h : IsPlace members nodes mails fresh k n p) (m : List (Letter C)) (at : m ≡ slice_index_or mails p m) where
   there : p < length mails
   there = within_mails h
@@ -47,7 +44,7 @@ module _ {C : Type 0} {members : List ℕ} {nodes : List (NodeState C)} {mails :
   its_mail : mail_of k n ≡ m ++ letters_to n fresh
   its_mail =
       ap (λ z. mail_of z n) (sym h.is)
-      ∙ sym (mail_at (posted fresh mails) n p (slice_index_or (posted fresh mails) p []) h.place (low h) (subst (λ z. p < z) (sym (length-posted 1 fresh mails)) there) (get_or_default (posted fresh mails) p [] (slice_index_or (posted fresh mails) p []) (subst (λ z. p < z) (sym (length-posted 1 fresh mails)) there)))
+      ∙ sym (mail_at (posted fresh mails) n p (slice_index_or (posted fresh mails) p []) h.place (low h) (subst (λ z. p < z) (sym (length-posted fresh mails)) there) (get_or_default (posted fresh mails) p [] (slice_index_or (posted fresh mails) p []) (subst (λ z. p < z) (sym (length-posted fresh mails)) there)))
       ∙ posted_at 1 fresh mails p there
       ∙ ap₂ (λ a j. a ++ letters_to j fresh) its_own next
 

@@ -10,7 +10,7 @@ use Rattle.ballot.specs.declared.letter.Letter.{Letter}
 use Rattle.network.specs.Networks.{posted_from, letters_to, front}
 use Rattle.network.specs.Posting.{IsBetween, AreBetween, IsPost, but_first}
 use Rattle.object.specs.Lists.{In}
-use Rattle.network.proofs.Sent.{in_either}
+use Rattle.object.specs.ListLaws.{In-cases}
 
 pub test_yes : (a b : ℕ) → a ≡ b → (a == b) ≡ true
 test_yes a b e = grind (arith, nat_tests)
@@ -59,10 +59,6 @@ module _ {C : Type 0} where
       ap₂ (λ a b. a ∷ b)
       (ap (λ z. m ++ z) (filter-append (λ (l : Letter C). l.to == n) xs ys) ∙ sym (append_assoc m (letters_to n xs) (letters_to n ys)))
       (both_posted (suc n) xs ys ms)
-
-  pub length-posted : (n : ℕ) (ls : List (Letter C)) (mails : List (List (Letter C))) → length (posted_from n ls mails) ≡ length mails
-  length-posted n ls [] = refl
-  length-posted n ls (m ∷ ms) = ap suc (length-posted (suc n) ls ms)
 
   -- a letter to a node before n
   passed : (n : ℕ) (l : Letter C) (ls : List (Letter C)) (mails : List (List (Letter C))) → l.to < n → posted_from n (l ∷ ls) mails ≡ posted_from n ls mails
@@ -152,7 +148,7 @@ module _ {C : Type 0} where
   post_fresh mails fresh now post h = record { mailed = post.mailed; unsorted = h }
 
   pub between_append : (count : ℕ) (xs ys : List (Letter C)) → AreBetween count xs → AreBetween count ys → AreBetween count (xs ++ ys)
-  between_append count xs ys a b = λ l at. ⊎_elim (λ (h : In l xs). a l h) (λ (h : In l ys). b l h) (in_either l xs ys at)
+  between_append count xs ys a b = λ l at. ⊎_elim (λ (h : In l xs). a l h) (λ (h : In l ys). b l h) (In-cases l xs ys at)
 
   pub between_first : (count : ℕ) (l : Letter C) (ls : List (Letter C)) → AreBetween count (l ∷ ls) → IsBetween count l
   between_first count l ls h = h l (inl refl)

@@ -1,6 +1,6 @@
 -- A node stays seated, whatever it does and receives: no leader changes its members or the node of its ballot.
-use Rattle.std.proofs.Common.{◌≡◌, ◌≢◌, ⊎_elim, Bool, true, false, cond, not, ◌&&◌, ℕ, zero, suc, ◌+◌, ◌-◌, ◌<◌, ◌≤◌, List, [], ◌∷◌, map, length, Option, Some, None, refl, sym, ap, ◌∙◌, subst, arith}
-use Rattle.std.specs.Prelude.{slice_index_or, slice_set, is_none}
+use Rattle.std.proofs.Common.{◌≡◌, ◌≢◌, ⊎_elim, Bool, true, false, cond, not, ◌&&◌, ℕ, ◌-◌, ◌<◌, ◌≤◌, List, map, length, Option, Some, None, refl, sym, ap, ◌∙◌, subst, arith}
+use Rattle.std.specs.Prelude.{slice_set, is_none}
 use Rattle.std.specs.List.{range_with_len}
 use Rattle.std.specs.FinMap.{get, contains_key}
 use Rattle.std.proofs.lemmas.Bool.{cases_eq}
@@ -26,7 +26,8 @@ use Rattle.leader.specs.Promises as promises
 use Rattle.leader.specs.Votes.{answers_another, at_voted, at_commander}
 use Rattle.leader.specs.Votes as votes
 use Rattle.slot_log.specs.Decisions.{next_decided}
-use Rattle.node.specs.Nodes.{NodeState, IsSeated, new_node, node_in}
+use Rattle.node.specs.Nodes.{NodeState, IsSeated, new_node, node_in, put}
+use Rattle.node.specs.PlaceLaws.{node_put_same, node_put_other, put_at, new_in}
 use Rattle.node.specs.Deeds.{acted, performing}
 use Rattle.node.specs.Receiving.{Receives, promises_ballot, accepts_pvalue, hears_promise, hears_vote, hears_proposal, learns, tells_decisions}
 use Rattle.node.specs.declared.deed.Deed.{Deed}
@@ -114,46 +115,15 @@ module _ {O Op Reply : Type 0} (rules : Rules O Op Reply) (members : List ℕ) (
   pub acted_seated : (d : Deed Op) → IsSeated members n (acted rules members n x d).state
   acted_seated d = seated_by members n x (acted rules members n x d).state at (acted_seat d)
 
--- a node in the place of another
-read_put : {A : Type 0} (xs : List A) (i : ℕ) (x d : A) → i < length xs → slice_index_or (slice_set xs i x) i d ≡ x
-read_put [] i x d h = absurd (omega (arith, h))
-read_put (y ∷ ys) zero x d h = refl
-read_put (y ∷ ys) (suc i) x d h = read_put ys i x d (omega (arith, h))
-
-read_beside : {A : Type 0} (xs : List A) (i j : ℕ) (x d : A) → i ≢ j → slice_index_or (slice_set xs i x) j d ≡ slice_index_or xs j d
-read_beside [] i j x d apart = refl
-read_beside (y ∷ ys) zero zero x d apart = absurd (apart refl)
-read_beside (y ∷ ys) zero (suc j) x d apart = refl
-read_beside (y ∷ ys) (suc i) zero x d apart = refl
-read_beside (y ∷ ys) (suc i) (suc j) x d apart = read_beside ys i j x d (λ e. apart (ap suc e))
-
-node_put : {C : Type 0} (members : List ℕ) (nodes : List (NodeState C)) (n p : ℕ) (x : NodeState C) → p ≡ n - 1 → 1 ≤ n → p < length nodes → node_in members (slice_set nodes p x) n ≡ x
-node_put members nodes zero p x place low h = absurd (omega (arith, low))
-node_put members nodes (suc i) p x place low h =
-    let here : p ≡ i = omega (arith, place) in
-    ap (λ j. slice_index_or (slice_set nodes j x) i (new_node members (suc i))) here
-    ∙ read_put nodes i x (new_node members (suc i)) (omega (arith, here, h))
-
-node_beside : {C : Type 0} (members : List ℕ) (nodes : List (NodeState C)) (n m p : ℕ) (x : NodeState C) → p ≡ n - 1 → 1 ≤ n → m ≢ n → node_in members (slice_set nodes p x) m ≡ node_in members nodes m
-node_beside members nodes n zero p x place low apart = refl
-node_beside members nodes n (suc i) p x place low apart = read_beside nodes p i x (new_node members (suc i)) (λ e. apart (omega (arith, e, place, low)))
-
 -- the nodes stay seated when one of them becomes another node that is seated there
 pub seats_stay : {C : Type 0} (members : List ℕ) (nodes : List (NodeState C)) (n p : ℕ) (x : NodeState C) → p ≡ n - 1 → 1 ≤ n → p < length nodes → ((m : ℕ) → is_member members m ≡ true → IsSeated members m (node_in members nodes m)) → IsSeated members n x → (m : ℕ) → is_member members m ≡ true → IsSeated members m (node_in members (slice_set nodes p x) m)
-seats_stay members nodes n p x place low h all seated m member = ⊎_elim
-    (λ (e : m ≡ n). subst (λ j. IsSeated members j (node_in members (slice_set nodes p x) j)) (sym e) (subst (IsSeated members n) (sym (node_put members nodes n p x place low h)) seated))
-    (λ (e : m ≢ n). subst (IsSeated members m) (sym (node_beside members nodes n m p x place low e)) (all m member))
-    (cases_eq m n)
+seats_stay members nodes n p x place low h all seated m member =
+    subst (λ ns. IsSeated members m (node_in members ns m)) (sym (ap (λ j. slice_set nodes j x) place ∙ put_at nodes n x low))
+    (⊎_elim
+    (λ (e : m ≡ n). subst (λ j. IsSeated members j (node_in members (put nodes n x) j)) (sym e) (subst (IsSeated members n) (sym (node_put_same members nodes n x low (omega (arith, place, low, h)))) seated))
+    (λ (e : m ≢ n). subst (IsSeated members m) (sym (node_put_other members nodes n x m e)) (all m member))
+    (cases_eq m n))
 
 -- new nodes are seated
-range_at : {X : Type 0} (f : ℕ → X) (len base i j : ℕ) → j ≡ base + i → slice_index_or (map f (range_with_len base len)) i (f j) ≡ f j
-range_at f zero base i j e = refl
-range_at f (suc len) base zero j e = ap f (omega (arith, e))
-range_at f (suc len) base (suc i) j e = range_at f len (base + 1) i j (omega (arith, e))
-
-new_in : {C : Type 0} (members : List ℕ) (len n : ℕ) → node_in {C = C} members (map (new_node members) (range_with_len 1 len)) n ≡ new_node members n
-new_in members len zero = refl
-new_in members len (suc i) = range_at (new_node members) len 1 i (suc i) (omega arith)
-
 pub new_seated : {C : Type 0} (members : List ℕ) (len n : ℕ) → is_member members n ≡ true → IsSeated {C = C} members n (node_in members (map (new_node members) (range_with_len 1 len)) n)
 new_seated members len n member = subst (IsSeated members n) (sym (new_in members len n)) (record { member = member; speaks = refl; node = refl })

@@ -1,32 +1,19 @@
 -- Who the letters are from and to that a node sends.
-use Rattle.std.proofs.Common.{◌≡◌, ◌⊎◌, inl, inr, ⊎_elim, ℕ, zero, suc, ◌+◌, ◌<◌, ◌≤◌, Bool, true, false, cond, List, [], ◌∷◌, ◌++◌, map, length, refl, sym, subst, arith}
-use Rattle.std.specs.List.{filter, range_with_len}
+use Rattle.std.proofs.Common.{◌≡◌, inl, inr, ⊎_elim, ℕ, zero, suc, ◌+◌, ◌<◌, ◌≤◌, true, List, [], ◌∷◌, map, length, refl, sym, subst, arith}
+use Rattle.std.specs.List.{range_with_len}
 use Rattle.std.proofs.lemmas.Bool.Decides.{nat_tests}
 use Rattle.object.specs.Lists.{In}
+use Rattle.object.specs.ListLaws.{In-cases}
 use Rattle.ballot.specs.Letters.{letter, to_all, all_to_all}
 use Rattle.ballot.specs.Members.{is_member, numbers}
 use Rattle.ballot.specs.declared.letter.Body.{Body}
 use Rattle.ballot.specs.declared.letter.Letter.{Letter}
 use Rattle.network.specs.Posting.{IsBetween}
 
-pub in_either : {A : Type 0} (x : A) (xs ys : List A) → In x (xs ++ ys) → In x xs ⊎ In x ys
-in_either x [] ys at = inr at
-in_either x (y ∷ xs) ys (inl e) = inl (inl e)
-in_either x (y ∷ xs) ys (inr at) = ⊎_elim (λ (h : In x xs). inl (inr h)) (λ (h : In x ys). inr h) (in_either x xs ys at)
-
 pub of_map : {A B : Type 0} (f : A → B) (y : B) (xs : List A) → In y (map f xs) → (x : A) × In x xs × (y ≡ f x)
 of_map f y [] at = absurd at
 of_map f y (x ∷ xs) (inl e) = (x, inl refl, e)
 of_map f y (x ∷ xs) (inr at) = let r = of_map f y xs at in (r.0, inr r.1, r.2)
-
-of_filter_if : {A : Type 0} (x y : A) (xs rest : List A) (test : Bool) → (In x rest → In x xs) → In x (cond test (y ∷ rest) rest) → In x (y ∷ xs)
-of_filter_if x y xs rest true sub (inl e) = inl e
-of_filter_if x y xs rest true sub (inr at) = inr (sub at)
-of_filter_if x y xs rest false sub at = inr (sub at)
-
-pub of_filter : {A : Type 0} (test : A → Bool) (x : A) (xs : List A) → In x (filter test xs) → In x xs
-of_filter test x [] at = at
-of_filter test x (y ∷ xs) at = of_filter_if x y xs (filter test xs) (test y) (of_filter test x xs) at
 
 of_range : (len base m : ℕ) → In m (range_with_len base len) → (base ≤ m) × (m < base + len)
 of_range zero base m at = absurd at
@@ -48,4 +35,4 @@ sent_to_all {C} members n (b ∷ bs) member l at = ⊎_elim
     let s = of_map (letter n b) l (numbers members) h in
     subst (IsBetween (length members)) (sym s.2) (record { sender = member_bounds members n member; receiver = among_numbers members s.0 s.1 }))
     (λ (h : In l (all_to_all members n bs)). sent_to_all members n bs member l h)
-    (in_either l (to_all members n b) (all_to_all members n bs) at)
+    (In-cases l (to_all members n b) (all_to_all members n bs) at)

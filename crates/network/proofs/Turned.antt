@@ -1,12 +1,13 @@
 -- A network after one of its nodes did something.
 use Rattle.std.proofs.Common.{◌≡◌, Bool, false, cond, map, ℕ, zero, suc, ◌-◌, ◌<◌, ◌≤◌, true, List, [], ◌∷◌, ◌++◌, length, Result, Ok, Err, refl, sym, ap, ◌∙◌, subst, arith, length-set}
 use Rattle.std.specs.Prelude.{slice_index_or, slice_set, OnErr, nat_le, not, ◌==◌, ◌^◌}
-use Rattle.std.proofs.lemmas.List.{append-nil, get_or_default}
+use Rattle.std.proofs.lemmas.List.{append-nil}
 use Rattle.ballot.specs.declared.letter.Letter.{Letter}
 use Rattle.ballot.specs.declared.letter.Body.{Body}
 use Rattle.ballot.specs.Letters.{letter, all_to_all}
 use Rattle.ballot.specs.Members.{is_member, numbers}
-use Rattle.node.specs.Nodes.{NodeState, IsSeated, new_node, node_in, put}
+use Rattle.node.specs.Nodes.{NodeState, IsSeated, node_in}
+use Rattle.node.specs.PlaceLaws.{node_at, put_at}
 use Rattle.std.specs.List.{filter}
 use Rattle.ballot.specs.declared.letter.Body.TheVariants.{Ask}
 use Rattle.leader.specs.Leaders.{says_again}
@@ -14,7 +15,8 @@ use Rattle.replica.specs.Replicas.{proposes_again, asks_others, nudges}
 use Rattle.node.specs.Deeds.{said_again}
 use Rattle.network.specs.Networks.{NetworkState, node_of, posted, turned_net}
 use Rattle.network.specs.Posting.{IsBetween, AreBetween, IsNetwork}
-use Rattle.network.proofs.Sent.{of_map, of_filter, among_numbers, member_bounds, sent_to_all}
+use Rattle.network.specs.MailLaws.{of_filter}
+use Rattle.network.proofs.Sent.{of_map, among_numbers, member_bounds, sent_to_all}
 use Rattle.network.proofs.Posts.{both_posted, between_append}
 use Rattle.network.proofs.Seats.{seats_stay}
 
@@ -27,18 +29,6 @@ set_again [] i y e = refl
 set_again (x ∷ xs) zero y e = ap (λ z. z ∷ xs) e
 set_again (x ∷ xs) (suc i) y e = ap (λ zs. x ∷ zs) (set_again xs i y e)
 
--- the node that is read at its place, counted from 0
-node_at : {C : Type 0} (members : List ℕ) (nodes : List (NodeState C)) (n : ℕ) (y : NodeState C) → 1 ≤ n → n ≤ length nodes → y ≡ slice_index_or nodes (n - 1) y → y ≡ node_in members nodes n
-node_at members nodes zero y low high at = absurd (omega (arith, low))
-node_at members nodes (suc i) y low high at =
-    let here : suc i - 1 ≡ i = omega arith in
-    at ∙ ap (λ j. slice_index_or nodes j y) here ∙ get_or_default nodes i y (new_node members (suc i)) (omega (arith, high))
-
--- and a node that is put there
-pub put_at : {C : Type 0} (nodes : List (NodeState C)) (n : ℕ) (x : NodeState C) → 1 ≤ n → slice_set nodes (n - 1) x ≡ put nodes n x
-put_at nodes zero x low = absurd (omega (arith, low))
-put_at nodes (suc i) x low = let here : suc i - 1 ≡ i = omega arith in ap (λ j. slice_set nodes j x) here
-
 -- what is sent to all is between members
 pub all_between : {C : Type 0} (members : List ℕ) (n : ℕ) (bodies : List (Body C)) (count : ℕ) → count ≡ length members → is_member members n ≡ true → AreBetween count (all_to_all members n bodies)
 all_between members n bodies count same member = λ l at. subst (λ z. IsBetween z l) (sym same) (sent_to_all members n bodies member l at)
@@ -47,7 +37,7 @@ asks_between : {C : Type 0} (members : List ℕ) (n s count : ℕ) (test : Bool)
 asks_between {C} members n s count true same member = λ l at.
     let sent = of_map (letter n (Ask s)) l (filter (λ m. not (m == n)) (numbers members)) at in
     subst (λ z. IsBetween z l) (sym same)
-    (subst (IsBetween (length members)) (sym sent.2) (record { sender = member_bounds members n member; receiver = among_numbers members sent.0 (of_filter (λ m. not (m == n)) sent.0 (numbers members) sent.1) }))
+    (subst (IsBetween (length members)) (sym sent.2) (record { sender = member_bounds members n member; receiver = among_numbers members sent.0 (of_filter (λ m. not (m == n)) sent.0 (numbers members) sent.1).0 }))
 asks_between members n s count false same member = λ l at. absurd at
 
 -- what a node says again is between members

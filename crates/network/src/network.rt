@@ -1,8 +1,9 @@
-ghost use Rattle.std.specs.Prelude.{◌≡◌, ◌++◌, None, Some, true, IsOk, IfOk, OnOk, OnErr};
+ghost use Rattle.std.specs.Prelude.{◌≡◌, ◌++◌, None, Some, true, is_some, IsOk, IfOk, OnOk, OnErr};
 ghost use Rattle.object.specs.declared.command.Command.{Command};
 ghost use Rattle.ballot.specs.Members.{is_member};
 ghost use Rattle.ballot.specs.declared.letter.Letter.{Letter};
-ghost use Rattle.slot_log.specs.Decisions.{undecided};
+ghost use Rattle.slot_log.specs.Proposals.{next_proposal};
+ghost use Rattle.slot_log.specs.Decisions.{next_decided, undecided};
 ghost use Rattle.node.specs.Deeds.{outcome_of, IsAble, ComesToNothing};
 ghost use Rattle.node.specs.Receiving.{IsFit};
 ghost use Rattle.network.specs.Networks.{new_network, node_of, mail_of, front, has_mail, turn_of, acted_net, without_front, with_last, IsDelivered};
@@ -76,6 +77,22 @@ impl<O: Object> Network<O> {
         ensures { result ≡ undecided (node_of self.now id).replica }
     {
         self.nodes[usize::from(id - 1)].undecided()
+    }
+
+    /// Whether a node's replica has a request that it can propose.
+    pub fn can_propose(&self, id: u8) -> bool
+        requires { is_member self.now.members id ≡ true }
+        ensures { result ≡ is_some (next_proposal (node_of self.now id).replica) }
+    {
+        self.nodes[usize::from(id - 1)].can_propose()
+    }
+
+    /// Whether a node's replica knows the decision that it performs next.
+    pub fn can_perform(&self, id: u8) -> bool
+        requires { is_member self.now.members id ≡ true }
+        ensures { result ≡ is_some (next_decided (node_of self.now id).replica) }
+    {
+        self.nodes[usize::from(id - 1)].can_perform()
     }
 
     /// Whether a letter is on its way to a node.

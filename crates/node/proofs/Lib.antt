@@ -1,3 +1,4 @@
 pub mod Keeping
 pub mod Received
 pub mod Performing
+pub mod Shown

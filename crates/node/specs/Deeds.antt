@@ -103,12 +103,12 @@ IsAble x Propose = ⊤
 IsAble x Perform = ⊤
 IsAble x Restart = x.boot < 2 ^ 62
 
--- there is nothing to do, which takes no memory: the request is known, the leader is active or has a scout, or no
--- decision is known to perform
+-- there is nothing to do, which takes no memory: the request is known, the leader is active or has a scout, no request
+-- can be proposed, or no decision is known to perform
 abbrev pub ComesToNothing : {O Op Reply : Type 0} → Rules O Op Reply → NodeState (Command Op) → Deed Op → Type 0
 ComesToNothing rules x (Request c) = is_known (is_one rules) x.replica c ≡ true
 ComesToNothing rules x Wake = (x.leader.active ≡ true) ⊎ IsSome x.leader.scout
 ComesToNothing rules x Nudge = ⊥
-ComesToNothing rules x Propose = ⊥
+ComesToNothing rules x Propose = next_proposal x.replica ≡ None
 ComesToNothing rules x Perform = next_decided x.replica ≡ None
 ComesToNothing rules x Restart = ⊥

@@ -3,4 +3,6 @@ pub mod Nodes
 pub mod Deeds
 pub mod Receiving
 pub mod Kept
+pub mod Turns
 pub mod SlotLaws
+pub mod PlaceLaws

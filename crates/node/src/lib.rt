@@ -2,8 +2,10 @@
 #![tactic(auto)]
 
 mod deed;
+mod laws;
 mod node;
 mod receiving;
 
 pub use deed::{Deed, Outcome};
+pub use laws::deeds_are_shown;
 pub use node::Node;

@@ -85,6 +85,20 @@ impl<O: Object> Node<O> {
         self.replica.undecided()
     }
 
+    /// Whether its replica has a request that it can propose. It takes no memory.
+    pub fn can_propose(&self) -> bool
+        ensures { result ≡ is_some (next_proposal self.now.replica) }
+    {
+        self.replica.can_propose()
+    }
+
+    /// Whether its replica knows the decision that it performs next. It takes no memory.
+    pub fn can_perform(&self) -> bool
+        ensures { result ≡ is_some (next_decided self.now.replica) }
+    {
+        self.replica.can_perform()
+    }
+
     /// Whether its acceptor has promised this ballot, and no higher one.
     pub fn has_promised(&self, ballot: Ballot) -> bool
         ensures { result ≡ is_promise self.now.acceptor.promised ballot }
@@ -160,6 +174,7 @@ impl<O: Object> Node<O> {
         ensures sent { OnOk result (sent.new.items ≡ sent.old.items
             ++ all_to_all (members_of self.old) (number_of self.old)
             (asks_for (next_proposal self.old.replica))) }
+        ensures idle { next_proposal self.old.replica ≡ None → IsOk result }
         ensures err { OnErr result ((self.new ≡ self.old)
             × (sent.new.items ≡ sent.old.items)) }
     {

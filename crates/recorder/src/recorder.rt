@@ -60,7 +60,8 @@ impl<Op: Value, Reply: Value> Recorder<Op, Reply> {
     }
 
     /// A copy of the command is submitted after all answers so far, unless its key was submitted; tells
-    /// which. It fails for want of memory alone, and takes none for a key that was submitted. What is new can be withdrawn.
+    /// which. It fails for want of memory alone, and takes none for a key that was submitted. What is new
+    /// can be withdrawn, and then all is as it was.
     pub fn submit(&mut self, command: &Command<Op>) -> Result<bool, AllocError>
         ensures ok { OnOk result
             (self.new
@@ -68,6 +69,8 @@ impl<Op: Value, Reply: Value> Recorder<Op, Reply> {
         ensures new { IfOk result (λ is_new.
             is_new ≡ not (is_submitted command.now.key self.old.happenings.submitted)) }
         ensures open { IfOk result (λ is_new. is_new ≡ true → EndsOpen self.new) }
+        ensures back { IfOk result (λ is_new. is_new ≡ true
+            → without_last_submission self.new ≡ self.old) }
         ensures idle { is_submitted command.now.key self.old.happenings.submitted ≡ true
             → IsOk result }
         ensures err { OnErr result (self.new ≡ self.old) }

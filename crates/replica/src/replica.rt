@@ -93,6 +93,20 @@ impl<O: Object> Replica<O> {
         self.slots.undecided()
     }
 
+    /// Whether a request waits and a slot is open to it. It takes no memory.
+    pub fn can_propose(&self) -> bool
+        ensures { result ≡ is_some (next_proposal self.now.slots) }
+    {
+        self.slots.next_proposal().is_some()
+    }
+
+    /// Whether the decision of `slot_out` is known. It takes no memory.
+    pub fn can_perform(&self) -> bool
+        ensures { result ≡ is_some (deciding.next_decided self.now.slots) }
+    {
+        self.slots.next_decided().is_some()
+    }
+
     /// The decisions that answer an Ask: those known of the slot and the 63 that follow it, in rising slot.
     pub fn ask(&self, slot: Slot) -> Result<Vec<Body<Command<O::Op>>>, AllocError>
         ensures { IfOk result (λ bodies. bodies.items ≡ tells self.now.slots slot) }
@@ -105,7 +119,7 @@ impl<O: Object> Replica<O> {
     }
 
     /// Proposes the first request in the least slot that is open to it, and asks all leaders for it. It answers false
-    /// where it does nothing.
+    /// where it does nothing, which takes no memory.
     pub fn propose(
         &mut self,
         members: Members,
@@ -117,6 +131,7 @@ impl<O: Object> Replica<O> {
             ≡ record self.old { slots = proposed_next self.old.slots }) }
         ensures out { OnOk result (out.new.items ≡ out.old.items
             ++ all_to_all members node (asks_for (next_proposal self.old.slots))) }
+        ensures idle { next_proposal self.old.slots ≡ None → IsOk result }
         ensures err { OnErr result ((self.new ≡ self.old) × (out.new.items ≡ out.old.items)) }
     {
         let len = out.len();
@@ -140,6 +155,7 @@ impl<O: Object> Replica<O> {
             ≡ record self.old { slots = proposed_next self.old.slots }) }
         ensures out { OnOk result (out.new.items
             ≡ out.old.items ++ all_to_all members node (asks_for (next_proposal self.old.slots))) }
+        ensures idle { next_proposal self.old.slots ≡ None → IsOk result }
         ensures err { OnErr result (self.new ≡ self.old) }
         ensures front { take (vec_len out.old) out.new.items ≡ out.old.items }
     {

@@ -28,7 +28,7 @@ use Rattle.world.specs.Showing.{HasNode}
 use Rattle.world.specs.Kept.{HasNoted, IsNoted, submission_by, reach_after, key_past}
 use Rattle.world.proofs.Events.{next_world, own_event, has_node, boots}
 use Rattle.world.proofs.Noted.{noted_stays, performs_noted}
-use Rattle.world.proofs.Places.{node_at, put_at}
+use Rattle.node.specs.PlaceLaws.{node_at, put_at}
 use Rattle.world.proofs.Reach.{reachable_sound, step_sound}
 use Rattle.world.proofs.Sets.{member_bounds}
 use Rattle.world.proofs.Told.{reachable_within_reach}

@@ -15,7 +15,6 @@ use Rattle.object.specs.Obeying.{answers_after}
 use Rattle.node.specs.Kept.{IsPerformed}
 use Rattle.world.specs.Nodes.{Cluster, node}
 use Rattle.world.specs.Worlds.{World, opening}
-use Rattle.object.specs.Keys.{same_key}
 use Rattle.object.specs.Happenings.{is_submitted, with_submission}
 use Rattle.world.specs.Steps.{Step, submit, deliver, wake, nudge, propose, perform, restart, performed, with_cluster, counted}
 use Rattle.world.specs.Runs.{Leads, at_once, after, IsReachable}
@@ -28,9 +27,7 @@ use Rattle.ballot.specs.OrderLaws.{BallotLaws, not_both}
 use Rattle.world.proofs.Invariants.{IsSound}
 use Rattle.world.proofs.Grows.{Grows}
 use Rattle.world.proofs.Reach.{opened_at, opening_sound, leads_sound, step_sound, reachable_sound}
-use Rattle.world.proofs.Deciding.{any_from}
-use Rattle.object.specs.KeyLaws.{same_when}
-use Rattle.world.proofs.Submitted.{chosen_submitted}
+use Rattle.world.proofs.Submitted.{chosen_submitted, key_submitted}
 use Rattle.world.proofs.Performed.{run_stays, run_push, run_chosen, run_of_all, AllPerformed, history_run, step_full}
 
 -- the answer came when this command was performed after those, which are chosen in the slots from 1 on
@@ -97,9 +94,7 @@ module _ {O Op Reply : Type 0} (rules : Rules O Op Reply) (v : World Op Reply) (
   fresh_key : ((s : ℕ) (d : Command Op) → IsChosen v.cluster s d → WasSubmitted d v.happenings.submitted) → (c : Command Op) → is_submitted c.key v.happenings.submitted ≡ false → (d : Command Op) → In d told.reached → d.key ≡ c.key → ⊥
   fresh_key submitted c new d i same =
       let at = run_chosen v.cluster 1 told.reached told.chosen d i in
-      let was = submitted at.0 d at.1 in
-      let e : was.0.command.key ≡ c.key = ap (λ (x : Command Op). x.key) was.2 ∙ same in
-      not_both (any_from (λ s. same_key s.command.key c.key) was.0 v.happenings.submitted was.1 (same_when was.0.command.key c.key e)) new
+      not_both (ap (λ k. is_submitted k v.happenings.submitted) (sym same) ∙ key_submitted d v.happenings.submitted (submitted at.0 d at.1)) new
 
   new_past : (z : Cluster (Command Op)) → Grows v.cluster z → (c : Command Op) → ((d : Command Op) → In d told.reached → d.key ≡ c.key → ⊥) → IsPast rules z v.happenings.answers (record { command = c; after = length v.happenings.answers })
   new_past z g c others = record {

@@ -19,7 +19,8 @@ use Rattle.world.specs.Steps.{Step, deliver}
 use Rattle.world.specs.Worlds.{World}
 use Rattle.world.proofs.Acting.{set_own}
 use Rattle.world.proofs.Events.{receiver, fit, next_noted, sent_in_view}
-use Rattle.world.proofs.Places.{node_at, delivered}
+use Rattle.node.specs.PlaceLaws.{node_at}
+use Rattle.world.proofs.Places.{delivered}
 use Rattle.world.proofs.Sets.{member_bounds}
 
 -- what was lent is put back

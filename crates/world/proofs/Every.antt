@@ -15,8 +15,10 @@ use Rattle.world.specs.Runs.{IsWorld, InEvery, AfterEach}
 use Rattle.world.specs.Showing.{IsReceivable}
 use Rattle.world.specs.Chosen.{IsChosen}
 use Rattle.object.specs.Happenings.{SubmittedOnce, IsTimeline}
+use Rattle.object.specs.Legal.{WasSubmitted}
 use Rattle.world.specs.Told.{IsGivenByReached}
 use Rattle.world.proofs.Legal.{reached_gives}
+use Rattle.world.proofs.Submitted.{chosen_submitted}
 use Rattle.world.proofs.Timeline.{reachable_timeline}
 use Rattle.world.specs.Agreements.{HasOneCommand, KeepsChosen, DecidesChosen, ChoosesOne, StaysChosen}
 use Rattle.ballot.specs.OrderLaws.{BallotLaws}
@@ -35,7 +37,7 @@ module _ (laws : BallotLaws) {O Op Reply : Type 0} (rules : Rules O Op Reply) wh
   perform_counts w n book (Some c) = refl
 
   -- each event is counted
-  counts : (w v : World Op Reply) (e : Event Op) → Step rules w e v → v.taken ≡ w.taken + 1
+  pub counts : (w v : World Op Reply) (e : Event Op) → Step rules w e v → v.taken ≡ w.taken + 1
   counts w v e (submit n c member own) = refl
   counts w v e (deliver j l x out at receives) = refl
   counts w v e (wake n member) = refl
@@ -76,6 +78,10 @@ module _ (laws : BallotLaws) {O Op Reply : Type 0} (rules : Rules O Op Reply) wh
 
   pub decides_what_is_chosen : InEvery rules (λ w. DecidesChosen w.cluster)
   decides_what_is_chosen w i = decides_chosen laws w.cluster (sound w i)
+
+  -- each chosen command was submitted
+  pub knows_chosen : InEvery rules (λ w. (s : ℕ) (c : Command Op) → IsChosen w.cluster s c → WasSubmitted c w.happenings.submitted)
+  knows_chosen w i s c chosen = chosen_submitted laws rules w.cluster.members w i.reachable.0 i.reachable.1 s c chosen
 
   pub is_given : InEvery rules (IsGivenByReached rules)
   is_given w i = reached_gives laws rules w i.reachable

@@ -22,7 +22,9 @@ pub mod Legal
 pub mod Told
 pub mod Noted
 pub mod Placed
+pub mod Placing
 pub mod OneOrder
+pub mod SoFar
 pub mod Watching
 pub mod Events
 pub mod Every

@@ -12,6 +12,7 @@ use Rattle.world.specs.Nodes.{node}
 use Rattle.world.specs.Worlds.{World, opening}
 use Rattle.node.specs.Deeds.{performs}
 use Rattle.world.specs.Kept.{HasNoted, key_past, reach_after}
+use Rattle.world.specs.Reached.{IsReached}
 use Rattle.world.proofs.Invariants.{IsSound}
 use Rattle.world.proofs.Grows.{Grows}
 use Rattle.world.proofs.Performed.{run_stays, run_push}
@@ -20,27 +21,37 @@ use Rattle.world.proofs.Told.{AllWithin}
 pub opening_noted : {Op Reply : Type 0} (members : List ℕ) → HasNoted {Op = Op} {Reply = Reply} (opening members) []
 opening_noted members = ([], record { chosen = tt; count = refl }, refl)
 
+module _ {Op Reply : Type 0} (v u : World Op Reply) (grows : Grows v.cluster u.cluster) (cs : List (Command Op)) (reached : IsReached v cs) where
+  -- where the reach stays, so do the commands up to it
+  pub reached_stays : u.reach ≡ v.reach → IsReached u cs
+  reached_stays same = record { chosen = run_stays v.cluster u.cluster grows 1 cs reached.chosen; count = reached.count ∙ sym same }
+
+  -- and where it grows by one slot, its command is one more
+  pub reached_more : (c : Command Op) → IsChosen v.cluster u.reach c → u.reach ≡ v.reach + 1 → IsReached u (cs ++ (c ∷ []))
+  reached_more c chosen more =
+      let count = reached.count in
+      record {
+        chosen = run_stays v.cluster u.cluster grows 1 (cs ++ (c ∷ [])) (run_push v.cluster 1 cs c reached.chosen (subst (λ s. IsChosen v.cluster s c) (omega arith) chosen));
+        count = let f = length-append cs (c ∷ []) in omega arith;
+      }
+
 module _ {Op Reply : Type 0} (v u : World Op Reply) (grows : Grows v.cluster u.cluster) (keys : List Key) (noted : HasNoted v keys) where
   -- where the reach stays, so do the keys
   pub noted_stays : u.reach ≡ v.reach → HasNoted u keys
-  noted_stays same = (noted.0, record { chosen = run_stays v.cluster u.cluster grows 1 noted.0 noted.1.chosen; count = noted.1.count ∙ sym same }, noted.2)
+  noted_stays same = (noted.0, reached_stays v u grows noted.0 noted.1 same, noted.2)
 
   -- and where it grows by one slot, the key of its command is one more
   pub noted_more : (c : Command Op) → IsChosen v.cluster u.reach c → u.reach ≡ v.reach + 1 → HasNoted u (keys ++ (c.key ∷ []))
-  noted_more c chosen more =
-      let count = noted.1.count in (
-        noted.0 ++ (c ∷ []),
-        record {
-          chosen = run_stays v.cluster u.cluster grows 1 (noted.0 ++ (c ∷ [])) (run_push v.cluster 1 noted.0 c noted.1.chosen (subst (λ s. IsChosen v.cluster s c) (omega arith) chosen));
-          count = let f = length-append noted.0 (c ∷ []) in omega arith;
-        },
-        ap (λ ks. ks ++ (c.key ∷ [])) noted.2 ∙ sym (map-append (λ (x : Command Op). x.key) noted.0 (c ∷ [])),
-      )
+  noted_more c chosen more = (
+    noted.0 ++ (c ∷ []),
+    reached_more v u grows noted.0 noted.1 c chosen more,
+    ap (λ ks. ks ++ (c.key ∷ [])) noted.2 ∙ sym (map-append (λ (x : Command Op). x.key) noted.0 (c ∷ [])),
+  )
 
-past_when : (reach slot : ℕ) → nat_lt reach slot ≡ true → reach < slot
+pub past_when : (reach slot : ℕ) → nat_lt reach slot ≡ true → reach < slot
 past_when reach slot e = grind (arith, nat_tests)
 
-within_when : (reach slot : ℕ) → nat_lt reach slot ≡ false → slot ≤ reach
+pub within_when : (reach slot : ℕ) → nat_lt reach slot ≡ false → slot ≤ reach
 within_when reach slot e = grind (arith, nat_tests)
 
 -- a replica performs

@@ -90,7 +90,7 @@ module _ {O Op Reply : Type 0} (rules : Rules O Op Reply) where
     pub replay_once : (cs : List (Command Op)) → IsRising cs → AnswersOnce (answers_in (replay_of rules cs))
     replay_once cs rises = subst AnswersOnce (sym (replay_answers rules.fresh 0 cs)) (once_from rules.fresh cs rises (λ d i w. laws.idle d.key w))
 
-In-placed : {Reply : Type 0} (x : Placed Reply) (xs : List (Placed Reply)) → In x xs → In x.answer (answers_in xs)
+pub In-placed : {Reply : Type 0} (x : Placed Reply) (xs : List (Placed Reply)) → In x xs → In x.answer (answers_in xs)
 In-placed x [] i = absurd i
 In-placed x (y ∷ ys) (inl e) = inl (ap (λ (z : Placed _). z.answer) e)
 In-placed x (y ∷ ys) (inr i) = inr (In-placed x ys i)

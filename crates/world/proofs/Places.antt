@@ -7,34 +7,11 @@ use Rattle.std.proofs.lemmas.List.{get_or-set_same, get_or-set_other, get_or_def
 use Rattle.ballot.specs.declared.letter.Letter.{Letter}
 use Rattle.node.specs.Nodes.{NodeState, members_of, number_of, new_node, node_in, put}
 use Rattle.world.specs.Nodes.{Cluster, new_cluster, node}
+use Rattle.node.specs.PlaceLaws.{node_at, put_at}
 use Rattle.node.specs.Receiving.{Receives, Received}
 use Rattle.world.specs.Showing.{HasNode}
 use Rattle.world.specs.Kept.{Delivered}
 use Rattle.world.proofs.Sets.{member_bounds}
-
-pub node_put_same : {C : Type 0} (members : List ℕ) (nodes : List (NodeState C)) (n : ℕ) (x : NodeState C) → 1 ≤ n → n ≤ length nodes → node_in members (put nodes n x) n ≡ x
-node_put_same members nodes zero x h k = absurd (omega arith)
-node_put_same members nodes (suc i) x h k = get_or-set_same nodes i x (new_node members (suc i)) (omega arith)
-
-pub node_put_other : {C : Type 0} (members : List ℕ) (nodes : List (NodeState C)) (n : ℕ) (x : NodeState C) (m : ℕ) → m ≢ n → node_in members (put nodes n x) m ≡ node_in members nodes m
-node_put_other members nodes zero x m h = refl
-node_put_other members nodes (suc i) x zero h = refl
-node_put_other members nodes (suc i) x (suc j) h = get_or-set_other nodes i j x (new_node members (suc j)) (λ e. h (ap suc e))
-
-pub length-put : {C : Type 0} (nodes : List (NodeState C)) (n : ℕ) (x : NodeState C) → length (put nodes n x) ≡ length nodes
-length-put nodes zero x = refl
-length-put nodes (suc i) x = length-set nodes i x
-
--- the place of a node, counted from 0
-pub node_at : {C : Type 0} (members : List ℕ) (nodes : List (NodeState C)) (n : ℕ) (y : NodeState C) → 1 ≤ n → n ≤ length nodes → y ≡ slice_index_or nodes (n - 1) y → y ≡ node_in members nodes n
-node_at members nodes zero y h k e = absurd (omega arith)
-node_at members nodes (suc i) y h k e =
-    let here : suc i - 1 ≡ i = omega arith in
-    e ∙ ap (λ j. slice_index_or nodes j y) here ∙ get_or_default nodes i y (new_node members (suc i)) (omega arith)
-
-pub put_at : {C : Type 0} (nodes : List (NodeState C)) (n : ℕ) (x : NodeState C) → 1 ≤ n → slice_set nodes (n - 1) x ≡ put nodes n x
-put_at nodes zero x h = absurd (omega arith)
-put_at nodes (suc i) x h = let here : suc i - 1 ≡ i = omega arith in ap (λ j. slice_set nodes j x) here
 
 -- a letter that was received where it was to, by the node at place p
 pub delivered : {C : Type 0} (k : Cluster C) (l : Letter C) (y x : NodeState C) (p : ℕ) (letters : List (Letter C)) → p ≡ l.to - 1 → HasNode l.to k → y ≡ slice_index_or k.nodes p y → Received l.«from» y l.body x k.letters letters → Delivered k l (record { members = k.members; nodes = slice_set k.nodes p x; letters = letters })

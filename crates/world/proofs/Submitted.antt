@@ -1,5 +1,5 @@
 -- Each chosen command was submitted.
-use Rattle.std.proofs.Common.{◌≡◌, inl, ℕ, Bool, true, false, cond, List, [], ◌∷◌, ◌++◌, length, Option, Some, None, refl, sym, subst}
+use Rattle.std.proofs.Common.{◌≡◌, inl, ℕ, Bool, true, false, cond, List, [], ◌∷◌, ◌++◌, length, Option, Some, None, refl, sym, ap, subst}
 use Rattle.object.specs.Lists.{In}
 use Rattle.object.specs.declared.command.Command.{Command}
 use Rattle.object.specs.declared.command.Submission.{Submission}
@@ -18,16 +18,21 @@ use Rattle.world.specs.Runs.{Leads, at_once, after}
 use Rattle.world.specs.Chosen.{IsChosen}
 use Rattle.object.specs.Legal.{WasSubmitted, GoesOn}
 use Rattle.object.specs.ListLaws.{Each-at, In-get, In-left, In-right}
+use Rattle.object.specs.KeyLaws.{same_when}
 use Rattle.ballot.specs.OrderLaws.{BallotLaws}
 use Rattle.world.proofs.Invariants.{IsFair, IsSound}
 use Rattle.world.proofs.Reach.{leads_sound, opening_sound, opened_at}
 use Rattle.world.proofs.Origins.{Of, OfNode, OfBody, empty_at, asked_of, wake_of, nudge_of, proposes_of, submit_of, perform_of, receive_of, restart_of}
 use Rattle.world.proofs.Growing.{step_goes_on}
-use Rattle.world.proofs.Deciding.{any_found}
+use Rattle.world.proofs.Deciding.{any_found, any_from}
 
 -- what was submitted stays submitted
 pub still_submitted : {Op Reply : Type 0} (h g : Happenings Op Reply) → GoesOn h g → (c : Command Op) → WasSubmitted c h.submitted → WasSubmitted c g.submitted
 still_submitted h g on c was = (was.0, subst (In was.0) (sym on.submitted.1) (In-left was.0 h.submitted on.submitted.0 was.1), was.2)
+
+-- so was the key of a command that was submitted
+pub key_submitted : {Op : Type 0} (c : Command Op) (submitted : List (Submission Op)) → WasSubmitted c submitted → is_submitted c.key submitted ≡ true
+key_submitted {Op} c submitted was = any_from (λ s. same_key s.command.key c.key) was.0 submitted was.1 (same_when was.0.command.key c.key (ap (λ (x : Command Op). x.key) was.2))
 
 -- a command that is submitted was so before, or is from now on
 now_submitted : {Op Reply : Type 0} (c : Command Op) (h : Happenings Op Reply) → IsItsOwn c h.submitted → WasSubmitted c (with_submission c h).submitted

@@ -13,7 +13,7 @@ use Rattle.leader.specs.Leaders.{Leading}
 use Rattle.node.specs.Nodes.{NodeState}
 use Rattle.world.specs.Nodes.{Cluster, node, turned}
 use Rattle.object.specs.ListLaws.{Each, Each-at, Each-append, Each-weaker, In-left, In-cases}
-use Rattle.world.proofs.Places.{node_put_same, node_put_other, length-put}
+use Rattle.node.specs.PlaceLaws.{node_put_same, node_put_other, length-put}
 use Rattle.world.proofs.Sets.{member_bounds}
 use Rattle.ballot.specs.OrderLaws.{BallotLaws}
 use Rattle.world.proofs.Invariants.{Asked, IsSafe, IsOwned, IsFair, IsNode, IsSound}

@@ -12,4 +12,5 @@ pub mod Agreements
 pub mod OneOrder
 pub mod Reached
 pub mod Kept
+pub mod Placing
 pub mod Told

@@ -1,5 +1,5 @@
 -- The commands of the slots that were performed.
-use Rattle.std.specs.Prelude.{◌≡◌, ℕ, ◌+◌, ⊤, List, [], ◌∷◌, length}
+use Rattle.std.specs.Prelude.{◌≡◌, ℕ, ◌+◌, ⊤, List, [], ◌∷◌, map, length}
 use Rattle.object.specs.Lists.{In}
 use Rattle.object.specs.Replays.{kept}
 use Rattle.object.specs.declared.command.Command.{Command}
@@ -25,3 +25,7 @@ HasKey {Op} key cs = (c : Command Op) × In c cs × (c.key ≡ key)
 -- the key stands among those of them that are kept
 abbrev pub IsPlaced : {Op Reply : Type 0} → World Op Reply → Key → Type 0
 IsPlaced {Op} w key = (cs : List (Command Op)) × IsReached w cs × HasKey key (kept cs)
+
+-- these are the keys of the commands that took effect in the slots from 1 to the reach: of those chosen there, the kept ones
+abbrev pub HasPlaced : {Op Reply : Type 0} → World Op Reply → List Key → Type 0
+HasPlaced {Op} w keys = (cs : List (Command Op)) × IsReached w cs × (keys ≡ map (λ c. c.key) (kept cs))

@@ -1,7 +1,9 @@
 use Rattle.std.proofs.Common.{refl}
 use Rattle.world.proofs.Events.{has_node, boots, order_now, later_step}
-use Rattle.world.proofs.Every.{opens, goes_on, may_receive, within_reach, is_decided, agrees, chosen_for_good, has_one_command, keeps_what_is_chosen, decides_what_is_chosen, submitted_once, in_time, is_given}
+use Rattle.world.proofs.Every.{opens, goes_on, may_receive, within_reach, is_decided, agrees, chosen_for_good, has_one_command, keeps_what_is_chosen, decides_what_is_chosen, submitted_once, in_time, is_given, knows_chosen, counts}
 use Rattle.world.proofs.Told.{answered_now}
+use Rattle.world.proofs.Placing.{placed_next, one_place_each}
+use Rattle.world.proofs.SoFar.{reached_legal, answered_submitted}
 use Rattle.world.proofs.laws.every_world.Goals as goal
 
 pub returns-clause-opening : goal.returns-clause-opening
@@ -60,3 +62,27 @@ returns-clause-timeline g c = in_time g.O.Object.rules
 
 pub returns-clause-given : goal.returns-clause-given
 returns-clause-given g c = is_given c.ballot_laws.ensures g.O.Object.rules
+
+pub returns-clause-placed : goal.returns-clause-placed
+returns-clause-placed g c = placed_next c.ballot_laws.ensures g.O.Object.rules
+
+pub returns-clause-placed_once : goal.returns-clause-placed_once
+returns-clause-placed_once g c = λ w i keys placed. one_place_each w keys placed
+
+pub returns-clause-legal_so_far : goal.returns-clause-legal_so_far
+returns-clause-legal_so_far g c = λ w i.
+    reached_legal c.ballot_laws.ensures g.O.Object.rules g.O.Object.waits
+    (record { idle = g.met.O.Object.idle; waited = g.met.O.Object.waited; named = g.met.O.Object.named; over = g.met.O.Object.over; once = g.met.O.Object.once })
+    w i.reachable
+
+pub returns-clause-chosen_known : goal.returns-clause-chosen_known
+returns-clause-chosen_known g c = knows_chosen c.ballot_laws.ensures g.O.Object.rules
+
+pub returns-clause-answered_known : goal.returns-clause-answered_known
+returns-clause-answered_known g c = λ w i.
+    answered_submitted c.ballot_laws.ensures g.O.Object.rules g.O.Object.waits
+    (record { idle = g.met.O.Object.idle; waited = g.met.O.Object.waited; named = g.met.O.Object.named; over = g.met.O.Object.over; once = g.met.O.Object.once })
+    w i.reachable
+
+pub returns-clause-counted : goal.returns-clause-counted
+returns-clause-counted g c = λ w v e i s. counts c.ballot_laws.ensures g.O.Object.rules w v e s

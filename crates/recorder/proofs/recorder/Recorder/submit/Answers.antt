@@ -3,7 +3,8 @@ use Rattle.std.proofs.lemmas.List.{length-append, length-map}
 use Rattle.object.specs.Happenings.{submitted_key, is_submitted}
 use Rattle.object.specs.declared.command.Submission.{Submission}
 use Rattle.recorder.specs.Fates.{fate_at}
-use Rattle.recorder.specs.Records.{IsRecord, EndsOpen, record_of}
+use Rattle.recorder.specs.Records.{IsRecord, EndsOpen, record_of, without_last_submission}
+use Rattle.recorder.proofs.LookUps.{all_but_last}
 use Rattle.recorder.proofs.Steps.{submitted_told, submitted_fates, submitted_open}
 use Rattle.recorder.proofs.recorder.Recorder.submit.Goals as goal
 
@@ -45,3 +46,13 @@ returns-clause-open g c =
     let now : record_of c.push.new.self c.make_room.new.items.items c.make_room-2.new.items.items ≡ record_of (S ++ s ∷ []) A O =
     λ i. record_of (c.in_ok-push.ensures.ok i) (c.in_ok-make_room.ensures.items i) (c.in_ok-make_room-2.ensures.items i) in
     λ _. subst EndsOpen (sym now) (submitted_open S A O s c.self.invariant.told new)
+
+pub returns-clause-back : goal.returns-clause-back
+returns-clause-back g c =
+    let S = c.self.inside.submitted in
+    let A = c.self.inside.answers.items in
+    let O = c.self.inside.order.items in
+    let s : Submission g.row.Op.Denot = record { command = c.in_ok-command.command; after = c.len-after.result } in
+    let now : record_of c.push.new.self c.make_room.new.items.items c.make_room-2.new.items.items ≡ record_of (S ++ s ∷ []) A O =
+    λ i. record_of (c.in_ok-push.ensures.ok i) (c.in_ok-make_room.ensures.items i) (c.in_ok-make_room-2.ensures.items i) in
+    λ _. ap without_last_submission now ∙ ap (λ xs. record_of xs A O) (all_but_last S s) ∙ c.self.view_is
