@@ -6,10 +6,10 @@ use Rattle.job_store.specs.declared.job.Job.{Job}
 use Rattle.job_store.specs.Least.{ComesBefore, IsLeast, least}
 use Rattle.job_store.specs.LookUps.{is_among, ready_in, best_ready, pri_of_job}
 use Rattle.job_store.specs.States.{is_ready}
-use Rattle.bean_queue.specs.declared.session.Session.{Session}
+use Rattle.session_store.specs.declared.session.Session.{Session}
+use Rattle.session_store.specs.Sessions.{first_waiting, is_waiting, wait_rank}
 use Rattle.bean_queue.specs.Best.{IsWanted, IsBestTurn}
 use Rattle.bean_queue.specs.Queue.{QueueState}
-use Rattle.bean_queue.specs.Sessions.{first_waiting, is_waiting, wait_rank}
 use Rattle.bean_queue.specs.TurnLaws.{least-none, next_job-in}
 use Rattle.bean_queue.specs.Turns.{Turn, wanted, next_job, give, give_to, given, serve_turn}
 use Rattle.bean_queue.proofs.Served.{filter_map-there, wanted-by}

@@ -2,15 +2,15 @@
 use Rattle.std.proofs.Common.{◌≡◌, ℕ, true, false, cond, Option, None, Some, IsSome, is_some, option_map, [], ◌∷◌, refl, sym, ap, subst, ◌∙◌}
 use Rattle.job_store.specs.Entries.{value_at, with_value}
 use Rattle.object.specs.declared.command.Key.{Key}
+use Rattle.session_store.specs.declared.session.Session.{Session}
+use Rattle.session_store.specs.Sessions.{new_session, with_wait, ended}
+use Rattle.session_store.specs.EntryLaws.{value_at-altered, value_at-insert}
 use Rattle.bean_queue.specs.declared.op.Op.{Op}
 use Rattle.bean_queue.specs.declared.reply.Reply.{Reply}
-use Rattle.bean_queue.specs.declared.session.Session.{Session}
-use Rattle.bean_queue.specs.Sessions.{new_session, with_wait, ended}
 use Rattle.bean_queue.specs.Queue.{QueueState}
 use Rattle.bean_queue.specs.Rows.{row}
 use Rattle.bean_queue.specs.Turns.{Outcome, serve_turn}
 use Rattle.bean_queue.specs.Effects.{own, called, do_effect, is_quiet}
-use Rattle.bean_queue.specs.EntryLaws.{value_at-altered, value_at-insert}
 use Rattle.bean_queue.proofs.Calm.{quiet-effect}
 
 still_some : (o : Option Session) → is_some o ≡ true → is_some (option_map (with_wait None) o) ≡ true

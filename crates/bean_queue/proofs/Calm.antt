@@ -9,19 +9,19 @@ use Rattle.job_store.specs.Entries.{value_at, with_value, altered}
 use Rattle.job_store.specs.Least.{least}
 use Rattle.job_store.specs.LookUps.{best_ready, ready_in, is_among, pri_of_job}
 use Rattle.job_store.specs.States.{is_ready, is_held}
+use Rattle.session_store.specs.declared.session.Session.{Session}
+use Rattle.session_store.specs.declared.session.Wait.{Wait}
+use Rattle.session_store.specs.Sessions.{session_of, new_session, with_wait, ended, known, is_waiting}
+use Rattle.session_store.specs.WatchLists.{is_alone}
+use Rattle.session_store.specs.EntryLaws.{altered-in, insert-in, without-in}
+use Rattle.session_store.specs.WaitLaws.{known-waits}
 use Rattle.bean_queue.specs.declared.op.Op.{Op}
 use Rattle.bean_queue.specs.declared.reply.Reply.{Reply}
-use Rattle.bean_queue.specs.declared.session.Session.{Session}
-use Rattle.bean_queue.specs.declared.session.Wait.{Wait}
-use Rattle.bean_queue.specs.Sessions.{session_of, new_session, with_wait, ended, known, is_waiting}
-use Rattle.bean_queue.specs.WatchLists.{is_alone}
 use Rattle.bean_queue.specs.Queue.{QueueState, with_sessions, fresh, watched_by, holds_by}
 use Rattle.bean_queue.specs.Rows.{Row, row, put_row, use_row, watch_row, ignore_row, reserve_row, delete_row, may_delete, is_found, release_row, touch_row, bury_row, kick_row, kick_job_row, peek_row}
 use Rattle.bean_queue.specs.Turns.{Outcome, after_option, Turn, stop, all_turns, wanted, give, serve_turn, told, deadline_turn, timeout_turn, serve}
 use Rattle.bean_queue.specs.Effects.{own, own_outcome, then_do, called, is_zero, settled, do_effect, released, forgotten, at_second, tick_effect, is_quiet}
-use Rattle.bean_queue.specs.EntryLaws.{altered-in, insert-in, without-in}
 use Rattle.bean_queue.specs.TurnLaws.{least-none, none-least, turns-keep, deadline_turn-is, timeout_turn-is, IsTold, IfSome-map}
-use Rattle.bean_queue.specs.WaitLaws.{known-waits}
 use Rattle.bean_queue.proofs.Served.{serve-done, idle_none, turns-unroll, serves}
 
 -- every ready job and every session that waits was there before

@@ -8,16 +8,16 @@ use Rattle.object.specs.declared.command.Answer.{Answer}
 use Rattle.object.specs.declared.command.Command.{Command}
 use Rattle.object.specs.declared.command.Key.{Key}
 use Rattle.job_store.specs.States.{is_held, is_due}
+use Rattle.session_store.specs.Sessions.{session_of, is_waiting}
+use Rattle.session_store.specs.EntryLaws.{Rising-each}
 use Rattle.bean_queue.specs.declared.op.Op.{Op}
 use Rattle.bean_queue.specs.declared.reply.Reply.{Reply}
-use Rattle.bean_queue.specs.Sessions.{session_of, is_waiting}
 use Rattle.bean_queue.specs.Queue.{QueueState, holds_by}
 use Rattle.bean_queue.specs.Rows.{row}
 use Rattle.bean_queue.specs.Turns.{Outcome, stop, serve, all_turns, deadline_turn, timeout_turn}
 use Rattle.bean_queue.specs.Effects.{own, called, waited_for, is_zero, settled, then_do, own_outcome, do_effect, released, close_effect, at_second, tick_effect, act_effect, effect}
 use Rattle.bean_queue.specs.Places.{Place, place}
 use Rattle.bean_queue.specs.Holds.{is_reserved, is_touched, is_touch, reserved_in, touches, Ends}
-use Rattle.bean_queue.specs.EntryLaws.{Rising-each}
 use Rattle.bean_queue.proofs.Held.{HasRisingIds, Held, Held-each, KeepsHold, IsQuiet, IsAside, quiet-append, reserved_in-append, sound-along, aside-keeps, serve-keeps, deadlines-aside, timeouts-aside}
 use Rattle.bean_queue.proofs.Given.{Gave, GivesOnce, serve-gives}
 use Rattle.bean_queue.proofs.RowHolds.{row-ok, EndsHold, HoldAfter, row-holds}

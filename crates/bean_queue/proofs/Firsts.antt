@@ -5,8 +5,8 @@ use Rattle.job_store.specs.declared.job.Job.{Job}
 use Rattle.job_store.specs.Least.{comes_before, lesser}
 use Rattle.job_store.specs.LookUps.{due_of_job, first_held}
 use Rattle.job_store.specs.States.{is_held, due_of}
+use Rattle.session_store.specs.Firsts.{first_of}
 use Rattle.bean_queue.specs.Queue.{holds_by}
-use Rattle.bean_queue.specs.Firsts.{first_of}
 
 module _ {X : Type 0} (by : X → ℕ) where
   between : (d e f : ℕ × X) → comes_before by d e ≡ true → comes_before by f d ≡ true → comes_before by f e ≡ true

@@ -7,12 +7,12 @@ use Rattle.job_store.specs.declared.job.Job.{Job}
 use Rattle.job_store.specs.declared.state.State.{State}
 use Rattle.job_store.specs.Entries.{altered}
 use Rattle.job_store.specs.States.{with_state}
+use Rattle.session_store.specs.declared.session.Session.{Session}
+use Rattle.session_store.specs.EntryLaws.{value_at-In, Rising-altered}
 use Rattle.bean_queue.specs.declared.reply.Reply.{Reply}
-use Rattle.bean_queue.specs.declared.session.Session.{Session}
 use Rattle.bean_queue.specs.Queue.{QueueState}
 use Rattle.bean_queue.specs.Turns.{Outcome, Turn, turns, all_turns, after_turn, after_option, given, serve_turn, serve}
 use Rattle.bean_queue.specs.Holds.{is_reserved, reserved_in}
-use Rattle.bean_queue.specs.EntryLaws.{value_at-In, Rising-altered}
 use Rattle.bean_queue.specs.TurnLaws.{turns-keep, serve_turn-is, IsServed}
 use Rattle.bean_queue.proofs.Held.{HasRisingIds, Held, Held-reserved, Keeps, IsQuietReply, IsQuiet, quiet-all, serve-keeps_turn}
 

@@ -8,12 +8,12 @@ use Rattle.job_store.specs.declared.job.Job.{Job}
 use Rattle.job_store.specs.declared.state.State.{State}
 use Rattle.job_store.specs.Entries.{Rising, value_at, each_value, altered}
 use Rattle.job_store.specs.States.{is_ready}
+use Rattle.session_store.specs.declared.session.Session.{Session}
+use Rattle.session_store.specs.EntryLaws.{value_at-each, value_at-altered_same, value_at-altered_other, value_at-In, Rising-altered}
 use Rattle.bean_queue.specs.declared.reply.Reply.{Reply}
-use Rattle.bean_queue.specs.declared.session.Session.{Session}
 use Rattle.bean_queue.specs.Queue.{QueueState}
 use Rattle.bean_queue.specs.Turns.{Outcome, Turn, all_turns, given, serve_turn, told, deadline_turn, timeout_turn, serve}
 use Rattle.bean_queue.specs.Holds.{is_reserved, reserved_in}
-use Rattle.bean_queue.specs.EntryLaws.{value_at-each, value_at-altered_same, value_at-altered_other, value_at-In, Rising-altered}
 use Rattle.bean_queue.specs.TurnLaws.{turns-keep, serve_turn-is, deadline_turn-is, timeout_turn-is, IsServed, IsTold, IfSome-map}
 
 -- the ids rise, and the next one is above them

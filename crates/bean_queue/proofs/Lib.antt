@@ -5,8 +5,6 @@ pub mod EffectHolds
 pub mod OneHolder
 pub mod OneAnswer
 pub mod Worked
-pub mod Bridges
-pub mod SessionDrafts
 pub mod Served
 pub mod Firsts
 pub mod Kicks

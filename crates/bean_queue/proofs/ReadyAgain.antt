@@ -7,7 +7,7 @@ use Rattle.job_store.specs.declared.state.State.{State}
 use Rattle.job_store.specs.Entries.{Rising, value_at, each_value, altered}
 use Rattle.job_store.specs.Least.{lesser, least}
 use Rattle.job_store.specs.States.{with_state}
-use Rattle.bean_queue.specs.EntryLaws.{value_at-here, value_at-next, value_at-In, altered-none}
+use Rattle.session_store.specs.EntryLaws.{value_at-here, value_at-next, value_at-In, altered-none}
 use Rattle.bean_queue.specs.TurnLaws.{least-in}
 
 module _ (test : State → Bool) (ready : test State.Ready ≡ false) where

@@ -9,14 +9,14 @@ use Rattle.job_store.specs.declared.state.State.{State}
 use Rattle.job_store.specs.Entries.{Rising, value_at, altered}
 use Rattle.job_store.specs.States.{is_held, is_buried, is_delayed, with_state}
 use Rattle.job_store.specs.LookUps.{first_buried, first_delayed, first_ready, buried_in, delayed_in, due_of_job, rank_of_job}
+use Rattle.session_store.specs.WatchLists.{is_alone}
+use Rattle.session_store.specs.EntryLaws.{value_at-without_other, value_at-insert_other, value_at-below, value_at-In, Rising-altered, Rising-without, Rising-insert, Rising-wider, Rising-end}
 use Rattle.bean_queue.specs.declared.op.Op.{Op}
 use Rattle.bean_queue.specs.declared.reply.Reply.{Reply}
 use Rattle.bean_queue.specs.Queue.{QueueState, with_jobs, used_by, watched_by}
-use Rattle.bean_queue.specs.WatchLists.{is_alone}
 use Rattle.bean_queue.specs.Rows.{is_idle, Row, replies, row, put_row, use_row, watch_row, ignore_row, reserve_row, delete_row, may_delete, is_found, release_row, touch_row, bury_row, kicked, kicked_option, kick_row, kick_job_row, peek_row, shown, at_id}
 use Rattle.bean_queue.specs.Effects.{own}
 use Rattle.bean_queue.specs.Holds.{is_touch}
-use Rattle.bean_queue.specs.EntryLaws.{value_at-without_other, value_at-insert_other, value_at-below, value_at-In, Rising-altered, Rising-without, Rising-insert, Rising-wider, Rising-end}
 use Rattle.bean_queue.specs.TurnLaws.{least-in, IfSome-map}
 use Rattle.bean_queue.proofs.Held.{HasRisingIds, Held, Held-altered_other, Held-reserved, IsQuiet}
 

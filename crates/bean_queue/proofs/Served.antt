@@ -7,9 +7,9 @@ use Rattle.object.specs.declared.command.Answer.{Answer}
 use Rattle.job_store.specs.declared.job.Job.{Job}
 use Rattle.job_store.specs.LookUps.{best_ready, is_among, pri_of_job}
 use Rattle.job_store.specs.States.{is_ready}
+use Rattle.session_store.specs.declared.session.Session.{Session}
+use Rattle.session_store.specs.Sessions.{first_waiting, ended, with_wait, is_waiting, wait_rank}
 use Rattle.bean_queue.specs.declared.reply.Reply.{Reply}
-use Rattle.bean_queue.specs.declared.session.Session.{Session}
-use Rattle.bean_queue.specs.Sessions.{first_waiting, ended, with_wait, is_waiting, wait_rank}
 use Rattle.bean_queue.specs.Queue.{QueueState}
 use Rattle.bean_queue.specs.Turns.{Outcome, Turn, IsTurn, stop, turns, all_turns, after_turn, after_option, wanted, next_job, give, give_to, given, serve_turn, deadline_turn, timeout_turn, serve}
 use Rattle.bean_queue.specs.TurnLaws.{serve_turn-is, deadline_turn-is, timeout_turn-is, least-in, least-none, IfSome-map, best_ready-in}

@@ -5,9 +5,9 @@ use Rattle.job_store.specs.declared.job.Job.{Job}
 use Rattle.job_store.specs.declared.state.State.{State}
 use Rattle.job_store.specs.Entries.{Rising, value_at, altered}
 use Rattle.job_store.specs.States.{is_held, with_state}
+use Rattle.session_store.specs.EntryLaws.{altered-alike}
 use Rattle.bean_queue.specs.Queue.{QueueState, with_jobs}
 use Rattle.bean_queue.specs.Rows.{Row, is_found, touch_row}
-use Rattle.bean_queue.specs.EntryLaws.{altered-alike}
 
 pub touched : (s : QueueState) (x id hi : ℕ) (job : Job) (jobs : List (ℕ × Job)) → Rising 0 hi s.jobs → value_at id s.jobs ≡ Some job → is_held x job.state ≡ true → jobs ≡ altered id (with_state (State.Reserved x (s.now + job.ttr))) s.jobs → with_jobs s jobs ≡ (touch_row s x id).state
 unfolding touch_row

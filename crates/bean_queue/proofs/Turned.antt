@@ -7,9 +7,9 @@ use Rattle.job_store.specs.Entries.{altered}
 use Rattle.job_store.specs.Least.{least}
 use Rattle.job_store.specs.LookUps.{is_among, pri_of_job}
 use Rattle.job_store.specs.States.{with_state}
+use Rattle.session_store.specs.declared.session.Session.{Session}
+use Rattle.session_store.specs.Sessions.{first_waiting, ended, has_timed_out}
 use Rattle.bean_queue.specs.declared.reply.Reply.{Reply}
-use Rattle.bean_queue.specs.declared.session.Session.{Session}
-use Rattle.bean_queue.specs.Sessions.{first_waiting, ended, has_timed_out}
 use Rattle.bean_queue.specs.Queue.{QueueState, holds_by}
 use Rattle.bean_queue.specs.Turns.{IsTurn, wanted, next_job, answer_to, given, give, give_to, serve_turn, told, tell, deadline_turn, timeout_turn}
 

@@ -5,8 +5,8 @@ use Rattle.job_store.specs.declared.job.Job.{Job}
 use Rattle.job_store.specs.Least.{ComesBefore, IsLeast}
 use Rattle.job_store.specs.LookUps.{is_among, pri_of_job}
 use Rattle.job_store.specs.States.{is_ready}
-use Rattle.bean_queue.specs.declared.session.Session.{Session}
-use Rattle.bean_queue.specs.Sessions.{is_waiting, wait_rank}
+use Rattle.session_store.specs.declared.session.Session.{Session}
+use Rattle.session_store.specs.Sessions.{is_waiting, wait_rank}
 use Rattle.bean_queue.specs.Queue.{QueueState}
 use Rattle.bean_queue.specs.Turns.{Turn, given}
 

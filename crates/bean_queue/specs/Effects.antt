@@ -8,9 +8,9 @@ use Rattle.job_store.specs.declared.job.Job.{Job}
 use Rattle.job_store.specs.declared.state.State.{State}
 use Rattle.job_store.specs.Entries.{without, each_value}
 use Rattle.job_store.specs.States.{is_due, is_held, with_state}
+use Rattle.session_store.specs.Sessions.{session_of, known, ended, is_waiting}
 use Rattle.bean_queue.specs.declared.op.Op.{Op}
 use Rattle.bean_queue.specs.declared.reply.Reply.{Reply}
-use Rattle.bean_queue.specs.Sessions.{session_of, known, ended, is_waiting}
 use Rattle.bean_queue.specs.Queue.{QueueState, with_sessions, holds_by}
 use Rattle.bean_queue.specs.Rows.{Row, row}
 use Rattle.bean_queue.specs.Turns.{Outcome, stop, serve, all_turns, deadline_turn, timeout_turn}

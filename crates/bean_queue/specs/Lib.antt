@@ -1,6 +1,3 @@
-pub mod Names
-pub mod WatchLists
-pub mod Sessions
 pub mod Queue
 pub mod Rows
 pub mod Turns
@@ -9,8 +6,5 @@ pub mod Effects
 pub mod Places
 pub mod Waits
 pub mod Holds
-pub mod Firsts
-pub mod Drafts
-pub mod EntryLaws
 pub mod TurnLaws
 pub mod WaitLaws

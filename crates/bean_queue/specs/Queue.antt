@@ -3,8 +3,9 @@ use Rattle.std.specs.Prelude.{ℕ, Bool, ◌&&◌, List, [], nat_le}
 use Rattle.std.specs.List.{list_any}
 use Rattle.job_store.specs.declared.job.Job.{Job}
 use Rattle.job_store.specs.States.{is_held, due_of}
-use Rattle.bean_queue.specs.declared.session.Session.{Session}
-use Rattle.bean_queue.specs.Sessions.{session_of}
+use Rattle.session_store.specs.declared.session.Session.{Session}
+use Rattle.session_store.specs.Sessions.{session_of}
+use Rattle.bean_queue.specs.declared.counters.Counters.{Counters}
 
 -- the jobs by id and the sessions by number, each a list of entries whose keys rise
 pub record QueueState : Type 0 where
@@ -13,6 +14,16 @@ pub record QueueState : Type 0 where
   pub next_rank : ℕ
   pub jobs : List (ℕ × Job)
   pub sessions : List (ℕ × Session)
+
+-- the state of these parts
+abbrev pub state_of : Counters → List (ℕ × Job) → List (ℕ × Session) → QueueState
+state_of counters jobs sessions = record {
+  now = counters.now;
+  next_id = counters.next_id;
+  next_rank = counters.next_rank;
+  jobs = jobs;
+  sessions = sessions;
+}
 
 -- a new queue
 abbrev pub fresh : QueueState

@@ -9,11 +9,11 @@ use Rattle.job_store.specs.declared.state.State.{State}
 use Rattle.job_store.specs.Entries.{value_at, with_value, altered, without}
 use Rattle.job_store.specs.States.{is_held, is_delayed, is_buried, with_state, with_pri_and_state}
 use Rattle.job_store.specs.LookUps.{first_ready, first_delayed, first_buried}
+use Rattle.session_store.specs.declared.session.Session.{Session}
+use Rattle.session_store.specs.Sessions.{with_wait}
+use Rattle.session_store.specs.WatchLists.{joined, left_out, is_alone}
 use Rattle.bean_queue.specs.declared.op.Op.{Op}
 use Rattle.bean_queue.specs.declared.reply.Reply.{Reply}
-use Rattle.bean_queue.specs.declared.session.Session.{Session}
-use Rattle.bean_queue.specs.Sessions.{with_wait}
-use Rattle.bean_queue.specs.WatchLists.{joined, left_out, is_alone}
 use Rattle.bean_queue.specs.Queue.{QueueState, with_jobs, used_by, watched_by}
 
 -- the state after an operation, and its own reply, if it has one by now

@@ -8,9 +8,9 @@ use Rattle.job_store.specs.declared.job.Job.{Job}
 use Rattle.job_store.specs.Least.{comes_before, lesser, least}
 use Rattle.job_store.specs.LookUps.{is_among, best_ready, ready_in, pri_of_job}
 use Rattle.job_store.specs.States.{is_ready}
+use Rattle.session_store.specs.declared.session.Session.{Session}
+use Rattle.session_store.specs.Sessions.{first_waiting, is_waiting, wait_rank, has_timed_out}
 use Rattle.bean_queue.specs.declared.reply.Reply.{Reply}
-use Rattle.bean_queue.specs.declared.session.Session.{Session}
-use Rattle.bean_queue.specs.Sessions.{first_waiting, is_waiting, wait_rank, has_timed_out}
 use Rattle.bean_queue.specs.Queue.{QueueState, holds_by}
 use Rattle.bean_queue.specs.Turns.{Turn, turns, after_option, wanted, next_job, given, give, give_to, serve_turn, told, tell, deadline_turn, timeout_turn}
 

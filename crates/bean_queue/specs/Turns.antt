@@ -7,9 +7,9 @@ use Rattle.job_store.specs.Entries.{altered}
 use Rattle.job_store.specs.Least.{least}
 use Rattle.job_store.specs.LookUps.{is_among, best_ready, pri_of_job}
 use Rattle.job_store.specs.States.{with_state}
+use Rattle.session_store.specs.declared.session.Session.{Session}
+use Rattle.session_store.specs.Sessions.{first_waiting, ended, is_waiting, wait_number, has_timed_out}
 use Rattle.bean_queue.specs.declared.reply.Reply.{Reply}
-use Rattle.bean_queue.specs.declared.session.Session.{Session}
-use Rattle.bean_queue.specs.Sessions.{first_waiting, ended, is_waiting, wait_number, has_timed_out}
 use Rattle.bean_queue.specs.Queue.{QueueState, holds_by}
 
 -- the state after, and the answers in their order

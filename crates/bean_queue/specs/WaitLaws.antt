@@ -1,25 +1,25 @@
 -- The laws of every effect: who waits, and whom the answers name.
-use Rattle.std.proofs.Common.{◌≡◌, ℕ, zero, suc, ◌+◌, ◌^◌, Bool, true, false, cond, ◌⊎◌, inl, inr, List, [], ◌∷◌, ◌++◌, length, Option, Some, None, IfSome, is_some, unwrap_or, ◌==◌, nat_lt, refl, sym, ap, subst, ◌∙◌, eq-eqb, eqb-true, append_assoc, true≢false}
+use Rattle.std.proofs.Common.{◌≡◌, ℕ, zero, suc, ◌+◌, ◌^◌, Bool, true, false, cond, ◌⊎◌, inl, inr, List, [], ◌∷◌, ◌++◌, length, Option, Some, None, IfSome, ◌==◌, nat_lt, refl, sym, ap, subst, ◌∙◌, append_assoc}
 use Rattle.object.specs.Lists.{In}
 use Rattle.object.specs.Answers.{AnswersOnce}
 use Rattle.object.specs.declared.command.Act.{Act}
 use Rattle.object.specs.declared.command.Answer.{Answer}
 use Rattle.object.specs.declared.command.Command.{Command}
 use Rattle.object.specs.declared.command.Key.{Key}
-use Rattle.job_store.specs.Entries.{value_at, with_value, altered, without}
+use Rattle.job_store.specs.Entries.{value_at}
 use Rattle.job_store.specs.States.{is_held}
+use Rattle.session_store.specs.declared.session.Session.{Session}
+use Rattle.session_store.specs.Sessions.{session_of, ended, is_waiting, wait_number}
+use Rattle.session_store.specs.WatchLists.{is_alone}
+use Rattle.session_store.specs.Waits.{WaitsIn}
+use Rattle.session_store.specs.WaitLaws.{altered-waits, ended-waits, forgotten-waits, known-waits, waiting-waits, some_wait, session_waits}
 use Rattle.bean_queue.specs.declared.op.Op.{Op}
 use Rattle.bean_queue.specs.declared.reply.Reply.{Reply}
-use Rattle.bean_queue.specs.declared.session.Session.{Session}
-use Rattle.bean_queue.specs.declared.session.Wait.{Wait}
-use Rattle.bean_queue.specs.Sessions.{new_session, session_of, with_wait, ended, known, is_waiting, wait_number}
 use Rattle.bean_queue.specs.Queue.{QueueState, fresh, holds_by, watched_by}
 use Rattle.bean_queue.specs.Turns.{Outcome, Turn, stop, turns, all_turns, after_option, given, told, serve_turn, deadline_turn, timeout_turn, serve}
-use Rattle.bean_queue.specs.WatchLists.{is_alone}
 use Rattle.bean_queue.specs.Rows.{is_idle, Row, row, put_row, use_row, watch_row, ignore_row, reserve_row, delete_row, may_delete, is_found, release_row, touch_row, bury_row, kick_row, kick_job_row, peek_row}
 use Rattle.bean_queue.specs.Effects.{own, called, waited_for, is_zero, settled, then_do, do_effect, released, close_effect, at_second, tick_effect, act_effect, effect}
-use Rattle.bean_queue.specs.Waits.{WaitsIn, Waits, AreApart, IsLawful}
-use Rattle.bean_queue.specs.EntryLaws.{altered-in, without-in, insert-in, in-found, value_at-found}
+use Rattle.bean_queue.specs.Waits.{Waits, AreApart, IsLawful}
 use Rattle.bean_queue.specs.TurnLaws.{IsServed, IsTold, serve_turn-is, deadline_turn-is, timeout_turn-is, IfSome-map}
 
 module _ {X : Type 0} where
@@ -34,64 +34,6 @@ apart-append (x ∷ xs) ys p q h = (
   λ b i e. elim (in-append xs ys b i) as (λ v. ⊥) [ inl j ↦ p.0 b j e | inr j ↦ h x b (inl refl) j e ],
   apart-append xs ys p.1 q (λ a b i j. h a b (inr i) j),
 )
-
--- Who waits after a change of the sessions
-
--- a change of x's session that keeps its wait
-altered-waits : (x : ℕ) (f : Session → Session) (sessions : List (ℕ × Session)) (k : Key) → ((c : Session) → (f c).wait ≡ c.wait) → WaitsIn (altered x f sessions) k → WaitsIn sessions k
-altered-waits x f sessions k same h =
-    altered-in x f (λ e. (w : Wait) → e.0 ≡ k.session → e.1.wait ≡ Some w → w.number ≡ k.number → WaitsIn sessions k) sessions
-    (λ d i.
-    elim (x == d.0) as (λ b. (w : Wait) → d.0 ≡ k.session → (cond b (f d.1) d.1).wait ≡ Some w → w.number ≡ k.number → WaitsIn sessions k) [
-      | true ↦ λ w s e n. (d, w, i, s, sym (same d.1) ∙ e, n)
-      | false ↦ λ w s e n. (d, w, i, s, e, n)
-    ])
-    h.0 h.2 h.1 h.3 h.4 h.5
-
--- the wait of x has ended
-pub ended-waits : (x : ℕ) (sessions : List (ℕ × Session)) (k : Key) → WaitsIn (ended x sessions) k → WaitsIn sessions k × (k.session ≡ x → ⊥)
-ended-waits x sessions k h =
-    altered-in x (with_wait None) (λ e. (w : Wait) → e.0 ≡ k.session → e.1.wait ≡ Some w → w.number ≡ k.number → WaitsIn sessions k × (k.session ≡ x → ⊥)) sessions
-    (λ d i.
-    elim (x == d.0) as (λ b. (x == d.0) ≡ b → (w : Wait) → d.0 ≡ k.session → (cond b (with_wait None d.1) d.1).wait ≡ Some w → w.number ≡ k.number → WaitsIn sessions k × (k.session ≡ x → ⊥)) [
-      | true ↦ λ t w s e n. cc
-      | false ↦ λ t w s e n. ((d, w, i, s, e, n), λ same. true≢false (sym (eq-eqb x d.0 (sym (s ∙ same))) ∙ t))
-    ] refl)
-    h.0 h.2 h.1 h.3 h.4 h.5
-
--- x is gone
-forgotten-waits : (x : ℕ) (sessions : List (ℕ × Session)) (k : Key) → WaitsIn (without x sessions) k → WaitsIn sessions k
-forgotten-waits x sessions k w = (w.0, w.1, without-in x sessions w.0 w.2, w.3, w.4, w.5)
-
-pub known-waits : (x : ℕ) (sessions : List (ℕ × Session)) (k : Key) → WaitsIn (known x sessions) k → WaitsIn sessions k × (k.session ≡ x → ⊥)
-known-waits x sessions k h =
-    elim (is_some (value_at x sessions)) as (λ b. is_some (value_at x sessions) ≡ b → WaitsIn (cond b (ended x sessions) (with_value x new_session sessions)) k → WaitsIn sessions k × (k.session ≡ x → ⊥)) [
-      | true ↦ λ t h. ended-waits x sessions k h
-      | false ↦ λ t h.
-          insert-in (λ e. (w : Wait) → e.0 ≡ k.session → e.1.wait ≡ Some w → w.number ≡ k.number → WaitsIn sessions k × (k.session ≡ x → ⊥)) x new_session sessions
-          (λ q w s e n. cc)
-          (λ d i w s e n. ((d, w, i, s, e, n), λ same. true≢false (sym (in-found sessions d i) ∙ ap (λ q. is_some (value_at q sessions)) (s ∙ same) ∙ t)))
-          h.0 h.2 h.1 h.3 h.4 h.5
-    ] refl h
-
-same_key : (k key : Key) → k.session ≡ key.session → k.number ≡ key.number → k ≡ key
-same_key k key s n = λ i. record { session = s i; number = n i }
-
-some_same : (v w : Wait) → Some v ≡ Some w → v ≡ w
-some_same v w e = cc
-
--- x waits anew
-waiting-waits : (x : ℕ) (f : Session → Session) (w : Wait) (sessions : List (ℕ × Session)) (k key : Key) → key.session ≡ x → w.number ≡ key.number → ((c : Session) → (f c).wait ≡ Some w) → WaitsIn (altered x f sessions) k → WaitsIn sessions k ⊎ (k ≡ key)
-waiting-waits x f w sessions k key who number sets h =
-    altered-in x f (λ e. (v : Wait) → e.0 ≡ k.session → e.1.wait ≡ Some v → v.number ≡ k.number → WaitsIn sessions k ⊎ (k ≡ key)) sessions
-    (λ d i.
-    elim (x == d.0) as (λ b. (x == d.0) ≡ b → (v : Wait) → d.0 ≡ k.session → (cond b (f d.1) d.1).wait ≡ Some v → v.number ≡ k.number → WaitsIn sessions k ⊎ (k ≡ key)) [
-      | true ↦ λ t v s e n.
-          let same : w ≡ v = some_same w v (sym (sets d.1) ∙ e) in
-          inr (same_key k key (sym s ∙ sym (eqb-true x d.0 t) ∙ sym who) (sym n ∙ sym (ap (λ (u : Wait). u.number) same) ∙ number))
-      | false ↦ λ t v s e n. inl (d, v, i, s, e, n)
-    ] refl)
-    h.0 h.2 h.1 h.3 h.4 h.5
 
 -- Turns
 
@@ -127,10 +69,6 @@ given-waiter s t i = record { session = i.session; known = i.known; waits = i.wa
 pub told-waiter : (reply : Reply) (s : QueueState) (t : Turn) → IsTold reply s t → IsWaiterTurn s t
 unfolding told
 told-waiter reply s t i = record { session = i.session; known = i.known; waits = i.waits; sessions = ap (λ (t : Turn). t.state.sessions) i.made; to = ap (λ (t : Turn). t.answer.to) i.made }
-
-some_wait : (o : Option Wait) → is_some o ≡ true → (w : Wait) × (o ≡ Some w) × (w.number ≡ wait_number o)
-some_wait None e = cc
-some_wait (Some w) e = (w, refl, refl)
 
 dealt-turn : (s : QueueState) (t : Turn) → IsWaiterTurn s t → IsDealt s (record { state = t.state; answers = t.answer ∷ [] })
 dealt-turn s t i =
@@ -203,17 +141,6 @@ row-waits Op.PeekBuried key s = same key s _ refl
 row-waits Op.ListTubes key s = same key s _ refl
 row-waits Op.ListTubeUsed key s = same key s _ refl
 row-waits Op.ListTubesWatched key s = same key s _ refl
-
--- a session that is seen to wait does so by some key
-session_waits : (x : ℕ) (sessions : List (ℕ × Session)) → is_waiting (session_of x sessions) ≡ true → (k : Key) × WaitsIn sessions k × (k.session ≡ x)
-session_waits x sessions e =
-    elim (value_at x sessions) as (λ o. value_at x sessions ≡ o → is_waiting (unwrap_or o new_session) ≡ true → (k : Key) × WaitsIn sessions k × (k.session ≡ x)) [
-      | None ↦ λ f e. absurd (true≢false (sym e))
-      | Some c ↦ λ f e.
-          let there = value_at-found x sessions c f in
-          let w = some_wait c.wait e in
-          (record { session = x; number = w.0.number }, (there.0, w.0, there.1, there.2, ap (λ (c : Session). c.wait) there.3 ∙ w.1, refl), refl)
-    ] refl e
 
 waited_for-dealt : (s : QueueState) (key : Key) (reply : Reply) → Waits s key → IsDealt s (waited_for s key reply)
 waited_for-dealt s key reply h =

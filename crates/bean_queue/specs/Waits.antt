@@ -1,24 +1,13 @@
 -- Who waits, and what is said of every effect.
-use Rattle.std.specs.Prelude.{◌≡◌, ℕ, List, [], ◌∷◌, Some, ◌⊎◌}
+use Rattle.std.specs.Prelude.{◌≡◌, List, [], ◌∷◌, ◌⊎◌}
 use Rattle.std.specs.Bool.{⊤}
 use Rattle.object.specs.Lists.{In}
 use Rattle.object.specs.declared.command.Answer.{Answer}
 use Rattle.object.specs.declared.command.Key.{Key}
+use Rattle.session_store.specs.Waits.{WaitsIn}
 use Rattle.bean_queue.specs.declared.reply.Reply.{Reply}
-use Rattle.bean_queue.specs.declared.session.Session.{Session}
-use Rattle.bean_queue.specs.declared.session.Wait.{Wait}
 use Rattle.bean_queue.specs.Queue.{QueueState}
 use Rattle.bean_queue.specs.Turns.{Outcome}
-
--- a session waits by its command of this key
-abbrev pub WaitsIn : List (ℕ × Session) → Key → Type 0
-WaitsIn sessions key =
-    (e : ℕ × Session) ×
-    (w : Wait) ×
-    In e sessions ×
-    (e.0 ≡ key.session) ×
-    (e.1.wait ≡ Some w) ×
-    (w.number ≡ key.number)
 
 -- the command of this key waits for its answer
 abbrev pub Waits : QueueState → Key → Type 0

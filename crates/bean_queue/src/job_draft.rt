@@ -15,7 +15,7 @@ pub(crate) struct JobDraft<M: JobMap> {
 impl<M: JobMap> Model for JobDraft<M> {
     ghost use Rattle.std.specs.Prelude.{ℕ, List, [], IsSome, unwrap_or};
     ghost use Rattle.job_store.specs.declared.job.Job.{Job};
-    ghost use Rattle.bean_queue.specs.Drafts.{Draft};
+    ghost use Rattle.session_store.specs.Drafts.{Draft};
 
     ghost Value = { Draft (List (ℕ × Job)) };
 

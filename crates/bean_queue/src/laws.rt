@@ -1,19 +1,19 @@
 ghost use Rattle.std.specs.Prelude.{◌≡◌, ℕ, List, map, None, Some, true};
 ghost use Rattle.object.specs.declared.command.Command.{Command};
 ghost use Rattle.object.specs.Answers.{AnswersOnce};
+ghost use Rattle.session_store.specs.declared.session.Session.{Session};
+ghost use Rattle.session_store.specs.Sessions.{is_waiting};
 ghost use Rattle.bean_queue.specs.declared.op.Op.{Op};
 ghost use Rattle.bean_queue.specs.Places.{places, placed_from, queue_replay, HasDistinctKeys};
 ghost use Rattle.bean_queue.specs.Holds.{IsGivenOnce, IsHeldByOne};
 ghost use Rattle.job_store.specs.LookUps.{best_ready};
-ghost use Rattle.bean_queue.specs.declared.session.Session.{Session};
 ghost use Rattle.bean_queue.specs.Best.{IsBestTurn};
 ghost use Rattle.bean_queue.specs.Queue.{QueueState};
-ghost use Rattle.bean_queue.specs.Sessions.{is_waiting};
 ghost use Rattle.bean_queue.specs.Turns.{Turn, serve_turn, serve};
 ghost use Rattle.object.specs.Lists.{In};
 
-use crate::session::Session;
 use job_store::{Job, least_is_least};
+use session_store::Session;
 
 /// No job is held by two sessions at once, whatever commands a new queue obeys, be their keys distinct or not: no
 /// place gives two RESERVED of one job; and where a session gets a job and the job is given again later, the first

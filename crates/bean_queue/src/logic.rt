@@ -1,7 +1,7 @@
 ghost use Rattle.std.specs.Prelude.{◌≡◌, IsSome, OnOk};
 ghost use Rattle.job_store.specs.Entries.{value_at};
+ghost use Rattle.session_store.specs.Sessions.{session_of};
 ghost use Rattle.bean_queue.specs.Queue.{fresh};
-ghost use Rattle.bean_queue.specs.Sessions.{session_of};
 ghost use Rattle.bean_queue.specs.Effects.{called};
 
 mod held;
@@ -17,9 +17,8 @@ mod tubes;
 
 use crate::counters::Counters;
 use crate::job_draft::JobDraft;
-use crate::session::Session;
-use crate::session_draft::SessionDraft;
 use job_store::JobMap;
+use session_store::{Session, SessionDraft};
 use std::alloc::{AllocError, Global};
 use std::marker::Model;
 
@@ -34,8 +33,8 @@ pub(crate) struct Logic<M: JobMap> {
 }
 
 impl<M: JobMap> Model for Logic<M> {
-    ghost use Rattle.bean_queue.specs.Queue.{QueueState};
-    ghost use Rattle.bean_queue.specs.Drafts.{Draft, state_of};
+    ghost use Rattle.session_store.specs.Drafts.{Draft};
+    ghost use Rattle.bean_queue.specs.Queue.{QueueState, state_of};
 
     ghost Value = { Draft QueueState };
 

@@ -1,6 +1,6 @@
-use crate::names::Names;
 use job_store::{Body, Name};
 use object::Value;
+use session_store::Names;
 use std::alloc::AllocError;
 
 /// What the queue answers. Replies that read alike are one value: `Using` answers two operations, and so does `Tubes`.
@@ -41,7 +41,7 @@ impl Value for Reply {
     ghost use Rattle.std.specs.Prelude.{◌≡◌, true, List, ℕ};
     ghost use Rattle.std.proofs.Common.{rules};
     ghost use Rattle.std.proofs.lemmas.Grind.{common_steps};
-    ghost use Rattle.bean_queue.specs.Names.{same_names, same_names-exact};
+    ghost use Rattle.session_store.specs.Names.{same_names, same_names-exact};
 
     ghost exact = { let names : (x y : List (List ℕ)) → same_names x y ≡ true → x ≡ y = same_names-exact in
         Prim.grind (rules, common_steps, names) };

@@ -7,10 +7,9 @@ ghost use Rattle.bean_queue.specs.Queue.{used_by, watched_by};
 ghost use Rattle.bean_queue.specs.Rows.{all_tubes};
 
 use crate::logic::Logic;
-use crate::names::Names;
-use crate::session::Session;
 use job_store::{Job, JobMap, Name};
 use object::Value;
+use session_store::{Names, Session};
 use std::alloc::{AllocError, Global};
 use std::collections::{BTreeMap, BTreeSet};
 

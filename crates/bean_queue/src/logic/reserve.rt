@@ -1,16 +1,16 @@
 ghost use Rattle.std.specs.Prelude.{◌≡◌, ◌≤◌, ◌^◌, ◌++◌, IfOk, OnOk};
+ghost use Rattle.session_store.specs.Sessions.{is_waiting, session_of};
 ghost use Rattle.bean_queue.specs.Rows.{time_out, reserve_row};
-ghost use Rattle.bean_queue.specs.Sessions.{is_waiting, session_of};
 ghost use Rattle.bean_queue.specs.Effects.{settled};
 ghost use Rattle.bean_queue.specs.declared.op.Op.{Op};
 
 use crate::counters::LIMIT;
 use crate::logic::Logic;
 use crate::reply::Reply;
-use crate::session::Wait;
 use crate::waiting::holds_by;
 use job_store::JobMap;
 use object::{Answer, Key};
+use session_store::Wait;
 use std::alloc::AllocError;
 
 /// The second in which a wait of so many seconds is over.

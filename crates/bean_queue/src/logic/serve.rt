@@ -3,9 +3,10 @@ ghost use Rattle.bean_queue.specs.Turns.{IsTurn, serve_turn, deadline_turn, time
 
 use crate::logic::Logic;
 use crate::reply::Reply;
-use crate::waiting::{first_holder, first_late, first_watcher, next_job};
+use crate::waiting::{first_holder, next_job};
 use job_store::{JobMap, State};
 use object::{Answer, Key, Value};
+use session_store::{first_late, first_watcher};
 use std::alloc::AllocError;
 
 impl<M: JobMap> Logic<M> {

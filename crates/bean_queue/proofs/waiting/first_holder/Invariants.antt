@@ -1,7 +1,7 @@
 use Rattle.std.proofs.Common.{◌≡◌, option_map}
+use Rattle.session_store.specs.Firsts.{first_of}
+use Rattle.session_store.specs.Sessions.{first_waiting, wait_rank}
 use Rattle.bean_queue.specs.Queue.{holds_by}
-use Rattle.bean_queue.specs.Firsts.{first_of}
-use Rattle.bean_queue.specs.Sessions.{first_waiting, wait_rank}
 use Rattle.bean_queue.proofs.waiting.first_holder.Given as goal
 
 abbrev pub invariant-loop-number : goal.invariant-loop-number

@@ -1,7 +1,7 @@
 use Rattle.std.proofs.Common.{◌≡◌, true, filter_map, option_map}
 use Rattle.job_store.specs.Least.{least}
 use Rattle.job_store.specs.LookUps.{pri_of_job}
-use Rattle.bean_queue.specs.Firsts.{first_of}
+use Rattle.session_store.specs.Firsts.{first_of}
 use Rattle.bean_queue.specs.Turns.{wanted}
 use Rattle.bean_queue.proofs.waiting.next_job.Given as goal
 

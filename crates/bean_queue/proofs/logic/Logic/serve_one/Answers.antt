@@ -4,12 +4,12 @@ use Rattle.job_store.specs.declared.state.State.{State}
 use Rattle.job_store.specs.Entries.{altered}
 use Rattle.job_store.specs.States.{with_state}
 use Rattle.object.specs.declared.command.Answer.{Answer}
+use Rattle.session_store.specs.declared.session.Session.{Session}
+use Rattle.session_store.specs.Sessions.{first_waiting}
+use Rattle.session_store.specs.Drafts.{Draft}
 use Rattle.bean_queue.specs.declared.reply.Reply.{Reply}
 use Rattle.job_store.specs.LookUps.{is_among}
-use Rattle.bean_queue.specs.declared.session.Session.{Session}
-use Rattle.bean_queue.specs.Sessions.{first_waiting}
-use Rattle.bean_queue.specs.Queue.{QueueState}
-use Rattle.bean_queue.specs.Drafts.{Draft, state_of}
+use Rattle.bean_queue.specs.Queue.{QueueState, state_of}
 use Rattle.bean_queue.specs.Turns.{IsTurn, next_job, serve_turn}
 use Rattle.bean_queue.proofs.Turned.{next-is, none-served, nobody-served, served}
 use Rattle.bean_queue.proofs.logic.Logic.serve_one.Goals as goal

@@ -1,10 +1,10 @@
 use Rattle.std.proofs.Common.{◌≡◌, ◌∙◌, ℕ, true, ◌∷◌, [], ◌++◌, Some, None, refl, sym, ap, subst}
 use Rattle.object.specs.declared.command.Answer.{Answer}
+use Rattle.session_store.specs.declared.session.Session.{Session}
+use Rattle.session_store.specs.Sessions.{first_waiting, has_timed_out}
+use Rattle.session_store.specs.Drafts.{Draft}
 use Rattle.bean_queue.specs.declared.reply.Reply.{Reply}
-use Rattle.bean_queue.specs.declared.session.Session.{Session}
-use Rattle.bean_queue.specs.Sessions.{first_waiting, has_timed_out}
-use Rattle.bean_queue.specs.Queue.{QueueState}
-use Rattle.bean_queue.specs.Drafts.{Draft, state_of}
+use Rattle.bean_queue.specs.Queue.{QueueState, state_of}
 use Rattle.bean_queue.specs.Turns.{IsTurn, timeout_turn}
 use Rattle.bean_queue.proofs.Turned.{none-told_timeout, told_timeout}
 use Rattle.bean_queue.proofs.logic.Logic.tell_timeout.Goals as goal

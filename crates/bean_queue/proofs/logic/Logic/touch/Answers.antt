@@ -1,7 +1,7 @@
 use Rattle.std.proofs.Common.{◌∙◌, sym, ap, rules}
 use Rattle.job_store.specs.Entries.{value_at}
-use Rattle.bean_queue.specs.Queue.{QueueState}
-use Rattle.bean_queue.specs.Drafts.{Draft, state_of}
+use Rattle.session_store.specs.Drafts.{Draft}
+use Rattle.bean_queue.specs.Queue.{QueueState, state_of}
 use Rattle.bean_queue.specs.Rows.{touch_row}
 use Rattle.bean_queue.proofs.Touched.{touched}
 use Rattle.bean_queue.proofs.logic.Logic.touch.Goals as goal

@@ -1,6 +1,0 @@
-use Rattle.bean_queue.specs.declared.session.Session.{Session}
-use Rattle.bean_queue.proofs.SessionDrafts.{change-rises}
-use Rattle.bean_queue.proofs.session_draft.SessionDraft.use_tube.Goals as goal
-
-pub invariant_of-self : goal.invariant_of-self
-invariant_of-self c = change-rises c.args.session _ (λ (s : Session). record s { used = c.args.name }) _ _ c.self.invariant c.set_used.ensures

@@ -1,0 +1,83 @@
+ghost use Rattle.std.specs.Prelude.{◌≡◌, ◌&&◌, IfOk};
+ghost use Rattle.job_store.specs.LookUps.{is_among};
+ghost use Rattle.session_store.specs.Sessions.{new_session, is_waiting, wait_number, wait_rank, has_timed_out};
+
+use crate::watch_list::WatchList;
+use job_store::Name;
+use std::alloc::{AllocError, Global};
+
+/// What a session waits for: the answer to its reserve.
+#[derive(Clone, Copy, Debug, PartialEq, Eq)]
+pub struct Wait {
+    /// The number of the command that reserved.
+    pub number: u64,
+    /// Of the sessions that wait for a job that of the least rank gets it.
+    pub rank: u64,
+    /// The second in which it waits no longer.
+    pub time_out: Option<u64>,
+}
+
+/// What the queue knows of a client's session.
+#[derive(Drop)]
+pub struct Session {
+    /// The tube that its jobs are put into.
+    pub used: Name,
+    /// The tubes that it reserves jobs from.
+    pub watched: WatchList,
+    pub wait: Option<Wait>,
+}
+
+impl Session {
+    /// A session that uses `default`, and watches it alone.
+    pub(crate) fn new(alloc: Global) -> Result<Session, AllocError>
+        ensures { IfOk result (λ session. session ≡ new_session) }
+    {
+        Ok(Session {
+            used: Name::default_tube(),
+            watched: WatchList::only(alloc, Name::default_tube())?,
+            wait: None,
+        })
+    }
+
+    /// The rank of its wait, and 0 where it does not wait.
+    pub(crate) fn rank(&self) -> u64
+        ensures { result ≡ wait_rank self.now }
+    {
+        match self.wait {
+            Some(wait) => wait.rank,
+            None => 0,
+        }
+    }
+
+    /// Whether it waits, and at this second does so no longer.
+    pub(crate) fn has_timed_out(&self, second: u64) -> bool
+        ensures { result ≡ has_timed_out second self.now.wait }
+    {
+        match self.wait {
+            Some(
+                Wait {
+                    time_out: Some(time_out),
+                    ..
+                },
+            ) => time_out <= second,
+            _ => false,
+        }
+    }
+
+    /// Whether it waits, for a job of this tube among others.
+    pub(crate) fn waits_for(&self, tube: &Name) -> bool
+        ensures { result ≡ (is_waiting self.now && is_among tube.now self.now.watched) }
+    {
+        self.wait.is_some() && self.watched.contains(tube)
+    }
+
+    /// The number of the command that waits, and 0 where none does.
+    pub fn wait_number(&self) -> u64
+        ensures { result ≡ wait_number self.now.wait }
+    {
+        match self.wait {
+            Some(wait) => wait.number,
+            None => 0,
+        }
+    }
+}
