@@ -218,6 +218,7 @@ impl<Op: Value, Reply: Value> Recorder<Op, Reply> {
         ensures submitted { IfOk result (λ copies. copies.0.items ≡ self.now.happenings.submitted) }
         ensures answers { IfOk result (λ copies. copies.1.items ≡ self.now.happenings.answers) }
         ensures order { IfOk result (λ copies. copies.2.items ≡ self.now.order) }
+        ensures kept { IsRecord self.now }
     {
         let submitted = copies(self.submitted.as_slice(), self.alloc)?;
         let answers = copies(self.answers.as_slice(), self.alloc)?;

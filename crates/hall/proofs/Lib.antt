@@ -1,0 +1,14 @@
+pub mod Told
+pub mod Clusters
+pub mod Placing
+pub mod Events
+pub mod Explains
+pub mod Known
+pub mod Lawful
+pub mod Booking
+pub mod Halls
+pub mod Recording
+pub mod Called
+pub mod Handing
+pub mod Noting
+pub mod Again

@@ -1,0 +1,52 @@
+ghost use Rattle.std.specs.Prelude.{◌≡◌, is_some, IfOk, OnOk, OnErr};
+ghost use Rattle.std.specs.Option.{option_copied};
+ghost use Rattle.hall.specs.Explained.{IsExplained};
+ghost use Rattle.hall.specs.Halls.{reply_to, to_note, chronicle_of};
+ghost use Rattle.hall.specs.Tickets.{last_key, noted};
+
+use super::Hall;
+use crate::laws::every_hall;
+use crate::ticket::Ticket;
+use chronicle::Chronicle;
+use object::{Object, Value};
+use std::alloc::AllocError;
+
+impl<O: Object> Hall<O> {
+    /// The answer to the ticket's last command.
+    pub fn take_answer(&self, ticket: &Ticket<O>) -> Option<&O::Reply>
+        ensures answer { option_copied result ≡ reply_to self.now (last_key ticket.now) }
+        ensures legal { IsExplained O.rules O.promise self.now.nodes.past }
+    {
+        every_hall::<O>();
+        let key = ticket.last_key();
+        self.nodes.recorder.answer_to(key)
+    }
+
+    /// Notes a copy of the answer to the ticket's last command in the ticket; false where there is none, or it is noted.
+    pub fn note(&self, ticket: &mut Ticket<O>) -> Result<bool, AllocError>
+        ensures does { IfOk result (λ does. does ≡ is_some (to_note self.now ticket.old)) }
+        ensures noted { OnOk result (ticket.new ≡ noted ticket.old (to_note self.now ticket.old)) }
+        ensures err { OnErr result (ticket.new ≡ ticket.old) }
+    {
+        if ticket.noted().is_some() {
+            return Ok(false);
+        }
+        let Some(reply) = self.nodes.recorder.answer_to(ticket.last_key()) else {
+            return Ok(false);
+        };
+        ticket.note(reply.copy()?);
+        Ok(true)
+    }
+
+    /// What happened, as a chronicle: what was submitted and answered so far, and the order of what took effect. That
+    /// order explains it.
+    pub fn dump(&self) -> Result<Chronicle<O::Op, O::Reply>, AllocError>
+        ensures dump { IfOk result (λ c. c ≡ chronicle_of self.now) }
+        ensures legal { IsExplained O.rules O.promise self.now.nodes.past }
+    {
+        every_hall::<O>();
+        let (submitted, answers, order) = self.nodes.recorder.copies()?;
+        let members = self.nodes.network.members().count();
+        Ok(Chronicle::new(members, submitted, answers, order).unwrap())
+    }
+}

@@ -1,0 +1,16 @@
+//! The hall: all nodes with their mail, what happened there, and the sessions that use them.
+//!
+//! A `Hall` shows a world that events lead to, and each of its calls is one event or none, so what is proved of every
+//! world is so of it. `specs/Shows.antt` says what showing is, and `specs/Explained.antt` what follows.
+#![tactic(auto)]
+
+mod error;
+mod hall;
+mod laws;
+mod recorded;
+mod ticket;
+
+pub use error::HallError;
+pub use hall::Hall;
+pub use laws::every_hall;
+pub use ticket::{NotedAct, Ticket};
