@@ -7,6 +7,8 @@ mod command_rows;
 #[cfg(test)]
 mod fault_rows;
 #[cfg(test)]
+mod hall_rows;
+#[cfg(test)]
 mod job_rows;
 #[cfg(test)]
 mod leader_rows;
