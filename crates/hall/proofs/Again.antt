@@ -1,5 +1,5 @@
 -- A ticket's last command, handed in again.
-use Rattle.std.proofs.Common.{◌≡◌, inl, inr, ℕ, ◌<◌, ◌==◌, Bool, true, false, true≢false, not, cond, List, [], ◌∷◌, ◌++◌, map, length, Option, Some, None, refl, sym, ap, ◌∙◌, subst}
+use Rattle.std.proofs.Common.{◌≡◌, inl, inr, ℕ, ◌<◌, Bool, true, false, true≢false, not, cond, List, [], ◌∷◌, ◌++◌, map, length, Option, Some, None, refl, sym, ap, ◌∙◌, subst}
 use Rattle.std.specs.Prelude.{◌&&◌, is_some}
 use Rattle.std.proofs.lemmas.Option.{none-some}
 use Rattle.std.proofs.lemmas.Bool.{and_parts}
@@ -19,11 +19,10 @@ use Rattle.world.specs.Refusals.{most_events}
 use Rattle.world.specs.Steps.{IsItsOwn}
 use Rattle.world.specs.declared.event.Event.TheVariants.{Submit}
 use Rattle.hall.specs.declared.ticket.NotedAct.{NotedAct}
-use Rattle.hall.specs.Books.{is_opened, last_number}
 use Rattle.hall.specs.HallLaws.{HallLaws}
 use Rattle.hall.specs.Halls.{HallState, IsHall, with_nodes}
 use Rattle.hall.specs.Recorded.{RecordedState, asked}
-use Rattle.hall.specs.Refusals.{is_stranger, is_full, is_own, has_act, is_submitted_as, resubmit_refusal}
+use Rattle.hall.specs.Refusals.{is_stranger, is_full, is_last, is_own, has_act, is_submitted_as, resubmit_refusal}
 use Rattle.hall.specs.Shows.{Follows}
 use Rattle.hall.specs.Tickets.{TicketState, last_key, last_noted, last_command}
 use Rattle.hall.proofs.Called.{passed, not_not, member_in, room_in}
@@ -61,7 +60,7 @@ once_one key_of (z ∷ zs) once x y (inl p) (inr j) e = absurd (once.0 y j (sym 
 once_one key_of (z ∷ zs) once x y (inr i) (inl q) e = absurd (once.0 x i (e ∙ ap key_of q))
 once_one key_of (z ∷ zs) once x y (inr i) (inr j) e = once_one key_of zs once.1 x y i j e
 
-once_told : {Op Reply : Type 0} (h : Happenings Op Reply) (xs : List (Submission Op)) → SubmittedOnce xs → SubmittedOnce (map (told_at h.answers) xs)
+pub once_told : {Op Reply : Type 0} (h : Happenings Op Reply) (xs : List (Submission Op)) → SubmittedOnce xs → SubmittedOnce (map (told_at h.answers) xs)
 once_told h [] once = tt
 once_told h (x ∷ xs) once = (λ y i e. let was = mapped_from (told_at h.answers) y xs i in once.0 was.0 was.1 (ap submitted_key (sym was.2) ∙ e), once_told h xs once.1)
 
@@ -78,12 +77,6 @@ module _ {O Op Reply : Type 0} (rules : Rules O Op Reply) (laws : HallLaws rules
   pub again_room : v.nodes.taken < most_events
   again_room = room_in v h is clear.2
 
-  abbrev own_session : Bool
-  own_session = is_opened h.book t.session
-
-  abbrev own_count : Bool
-  own_count = length t.acts == last_number h.book t.session
-
   abbrev own_act : Bool
   own_act = is_submitted_as same h t (last_noted t)
 
@@ -92,7 +85,7 @@ module _ {O Op Reply : Type 0} (rules : Rules O Op Reply) (laws : HallLaws rules
   has_last =
       ap (λ (x : HallState Op Reply). has_act same a.act (found submitted_key (last_key t) x.nodes.past.happenings.submitted)) is
       ∙ ap (is_submitted_as same h t) (sym last)
-      ∙ (and_parts (own_session && own_count) own_act clear.1).1
+      ∙ (and_parts (is_last h (last_key t)) own_act clear.1).1
 
   found_one : (o : Option (Submission Op)) → has_act same a.act o ≡ true → (s : Submission Op) × (o ≡ Some s)
   found_one None e = absurd (true≢false (sym e))

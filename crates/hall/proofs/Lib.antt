@@ -12,3 +12,4 @@ pub mod Called
 pub mod Handing
 pub mod Noting
 pub mod Again
+pub mod Agreeing

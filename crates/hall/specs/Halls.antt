@@ -1,18 +1,20 @@
 -- A hall: recorded nodes, and a book of the sessions that use them.
-use Rattle.std.specs.Prelude.{◌≡◌, ℕ, nat_lt, max, Bool, true, false, List, [], length, Option, None, option_map, is_some, if◌then◌else◌}
+use Rattle.std.specs.Prelude.{◌≡◌, ℕ, ◌+◌, nat_lt, max, Bool, true, false, List, [], map, length, slice_get, Option, None, Some, option_map, is_some, if◌then◌else◌}
 use Rattle.object.specs.declared.command.Act.TheVariants.{Tick}
 use Rattle.object.specs.declared.command.Command.{Command}
 use Rattle.object.specs.declared.command.Key.{Key}
 use Rattle.object.specs.Keys.{found}
 use Rattle.object.specs.Answers.{answered_key}
+use Rattle.object.specs.Happenings.{submitted_key}
 use Rattle.object.specs.Objects.{Rules}
 use Rattle.chronicle.specs.Chronicles.{Chronicle}
 use Rattle.node.specs.declared.deed.Outcome.{Outcome}
 use Rattle.node.specs.declared.deed.Outcome.TheVariants.{Idle, Done, Performed}
+use Rattle.hall.specs.declared.ticket.NotedAct.{NotedAct}
 use Rattle.hall.specs.Recorded.{RecordedState, untouched, asked}
 use Rattle.hall.specs.Shows.{IsShown}
 use Rattle.hall.specs.Tickets.{TicketState, last_key, last_noted, reply_of}
-use Rattle.hall.specs.Books.{IsBooked, with_number, last_second}
+use Rattle.hall.specs.Books.{IsBooked, is_opened, with_number, last_second, submissions_of}
 
 -- the nodes with what happened there, the number of each session's last command, and the greatest second so far
 pub record HallState (Op Reply : Type 0) : Type 0 where
@@ -77,3 +79,22 @@ chronicle_of h = record {
   answers = h.nodes.past.happenings.answers;
   order = h.nodes.past.order;
 }
+
+-- the noted act was submitted under the key, and its reply, where one is noted, is the one that was given first
+pub record IsHeld {Op Reply : Type 0} (h : HallState Op Reply) (key : Key) (a : NotedAct Op Reply) : Type 0 where
+  pub act : option_map (λ s. s.command.act) (found submitted_key key h.nodes.past.happenings.submitted) ≡ Some a.act
+  pub reply : (reply : Reply) → a.reply ≡ Some reply → reply_to h key ≡ Some reply
+
+-- and so are these acts of a session, from the first on
+abbrev pub AreHeld : {Op Reply : Type 0} → HallState Op Reply → ℕ → List (NotedAct Op Reply) → Type 0
+AreHeld {Op} {Reply} h session acts =
+    (i : ℕ) (a : NotedAct Op Reply) → slice_get acts i ≡ Some a → IsHeld h (record { session = session; number = i + 1 }) a
+
+-- The ticket's session was opened; its acts are all that were submitted of that session, in order; and each reply in it is
+-- the one that was given first.
+pub record Agrees {Op Reply : Type 0} (h : HallState Op Reply) (t : TicketState Op Reply) : Type 0 where
+  pub opened : is_opened h.book t.session ≡ true
+  pub acts : map (λ a. a.act) t.acts ≡ map (λ s. s.command.act) (submissions_of t.session h.nodes.past.happenings.submitted)
+  pub replies :
+      (i : ℕ) (a : NotedAct Op Reply) (reply : Reply) → slice_get t.acts i ≡ Some a → a.reply ≡ Some reply
+      → reply_to h (record { session = t.session; number = i + 1 }) ≡ Some reply

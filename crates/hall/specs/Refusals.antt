@@ -1,7 +1,8 @@
 -- Which calls a hall refuses, and why, want of memory aside. Of several reasons the first in this order is told: no such
 -- node, bad number, busy, full.
-use Rattle.std.specs.Prelude.{ℕ, ◌^◌, Bool, true, false, not, ◌&&◌, ◌||◌, ◌==◌, nat_le, length, Option, None, Some, is_some, if◌then◌else◌}
+use Rattle.std.specs.Prelude.{ℕ, ◌^◌, Bool, true, false, not, ◌&&◌, ◌||◌, ◌==◌, nat_le, Option, None, Some, is_some, if◌then◌else◌}
 use Rattle.object.specs.declared.command.Act.{Act}
+use Rattle.object.specs.declared.command.Key.{Key}
 use Rattle.object.specs.declared.command.Submission.{Submission}
 use Rattle.object.specs.Commands.{same_acts}
 use Rattle.object.specs.Happenings.{submitted_key}
@@ -33,12 +34,13 @@ abbrev pub is_submitted_as : {Op Reply : Type 0} → (Op → Op → Bool) → Ha
 is_submitted_as same h t None = true
 is_submitted_as same h t (Some a) = has_act same a.act (found submitted_key (last_key t) h.nodes.past.happenings.submitted)
 
+-- the key is that of the last command of a session that was opened here, of number 0 where it has none
+abbrev pub is_last : {Op Reply : Type 0} → HallState Op Reply → Key → Bool
+is_last h key = is_opened h.book key.session && (key.number == last_number h.book key.session)
+
 -- the ticket's session was opened here, and its last command is the last one of that session
 abbrev pub is_own : {Op Reply : Type 0} → (Op → Op → Bool) → HallState Op Reply → TicketState Op Reply → Bool
-is_own same h t =
-    is_opened h.book t.session
-    && (length t.acts == last_number h.book t.session)
-    && is_submitted_as same h t (last_noted t)
+is_own same h t = is_last h (last_key t) && is_submitted_as same h t (last_noted t)
 
 -- the last act leaves no room for this one: it ended the session, or has no reply yet, and this one doesn't end it
 abbrev pub keeps_busy : {Op Reply : Type 0} → HallState Op Reply → TicketState Op Reply → Act Op → Option (NotedAct Op Reply) → Bool

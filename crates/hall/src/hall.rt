@@ -5,6 +5,7 @@ ghost use Rattle.hall.specs.Halls.{new_hall, most_sessions};
 ghost use Rattle.hall.specs.Tickets.{new_ticket};
 
 mod acting;
+mod agreeing;
 mod looking;
 mod mailing;
 mod refusing;

@@ -189,6 +189,7 @@ fn a_put_is_answered_and_dumped(rt: HostRuntime) -> Result<(), Fail> {
     assert!(rt; text(alloc, &hall)?.as_slice() == ONE_PUT);
     assert!(rt; walk(alloc, &mut hall, &mut ticket, AFTER)?);
     assert!(rt; ticket.noted() == Some(&Reply::Inserted(1)));
+    assert!(rt; hall.agrees(&ticket));
     assert!(rt; hall.last_second() == 1);
     Ok(())
 }
@@ -215,5 +216,6 @@ fn a_ticket_is_refused(rt: HostRuntime) -> Result<(), Fail> {
     let mut other = one_node(alloc)?.open_session()?;
     let foreign = hall.submit(&mut other, Act::Close, 1);
     assert!(rt; foreign == Err(HallError::BadNumber));
+    assert!(rt; !hall.agrees(&other));
     Ok(())
 }

@@ -1,11 +1,11 @@
 ghost use Rattle.std.specs.Prelude.{◌≡◌};
-ghost use Rattle.hall.specs.Refusals.{is_stranger, is_full, is_second, is_own, keeps_busy, is_submitted_as, submit_refusal, resubmit_refusal, tick_refusal, event_refusal, node_refusal};
+ghost use Rattle.hall.specs.Refusals.{is_stranger, is_full, is_second, is_last, is_own, keeps_busy, is_submitted_as, submit_refusal, resubmit_refusal, tick_refusal, event_refusal, node_refusal};
 ghost use Rattle.hall.specs.Tickets.{last_noted, is_close, is_tick};
 
 use super::Hall;
 use crate::error::HallError;
 use crate::ticket::Ticket;
-use object::{Act, Object};
+use object::{Act, Key, Object};
 
 /// A hall takes so many events.
 const MOST_EVENTS: u64 = 1 << 48;
@@ -102,10 +102,7 @@ impl<O: Object> Hall<O> {
         ensures { result ≡ is_own O.Op.eq self.now ticket.now }
     {
         let key = ticket.last_key();
-        if key.session < 1 || key.session as usize > self.book.len() {
-            return false;
-        }
-        if self.book[key.session as usize - 1] != key.number {
+        if !self.is_last(key) {
             return false;
         }
         match ticket.last() {
@@ -115,6 +112,16 @@ impl<O: Object> Hall<O> {
                 Some(submission) => *submission.command.act() == last.act,
             },
         }
+    }
+
+    // The key is that of the last command of a session that was opened here, of number 0 where it has none.
+    pub(super) fn is_last(&self, key: Key) -> bool
+        ensures { result ≡ is_last self.now key }
+    {
+        if key.session < 1 || key.session as usize > self.book.len() {
+            return false;
+        }
+        self.book[key.session as usize - 1] == key.number
     }
 
     // The ticket's last command leaves no room for this act: it ended the session, or has no reply yet, and this act
