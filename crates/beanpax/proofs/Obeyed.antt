@@ -1,5 +1,5 @@
--- What nodes that stand for a queue answer to a client.
-use Rattle.std.proofs.Common.{◌≡◌, ℕ, zero, suc, Bool, List, [], ◌∷◌, Option, None, Some, Ok, length, map, refl, sym, ap, subst, ◌∙◌}
+-- What a hall that stands for a queue answers to a client.
+use Rattle.std.proofs.Common.{◌≡◌, ℕ, zero, suc, Bool, List, [], ◌∷◌, Option, None, Some, Ok, map, refl, sym, ap, ap₂, subst, ◌∙◌}
 use Rattle.object.specs.declared.command.Act.TheVariants.{Do}
 use Rattle.object.specs.declared.command.Key.{Key}
 use Rattle.bean_queue.specs.declared.op.Op.{Op}
@@ -8,8 +8,8 @@ use Rattle.bean_queue.specs.Queue.{QueueState}
 use Rattle.session.specs.Items.{Answer}
 use Rattle.session.specs.Items.Answer.{Replied, Refused}
 use Rattle.session.specs.Serving.{Asks, Asked, Closes}
-use Rattle.simulated_nodes.specs.OneClient.{Talk, Said, answered, obeyed, passed, waited, unless_said, longest_wait, next_key}
-use Rattle.beanpax.specs.Sessions.{queue, queue_with, with_reply, replies_from}
+use Rattle.simulated_hall.specs.OneClient.{Talk, Said, answered, obeyed, passed, waited, unless_said, longest_wait, next_key}
+use Rattle.beanpax.specs.Sessions.{queue, queue_with, AreAnswers, is_refused}
 use Rattle.beanpax.specs.Simulations.{Obeys, Leaves}
 
 unless_same : (s : Said QueueState Reply) (o : Option Reply) (f g : Talk QueueState → Said QueueState Reply) → ((t : Talk QueueState) → f t ≡ g t) → unless_said f s o ≡ unless_said g s o
@@ -43,25 +43,27 @@ AsksOf stand old op result new = Obeys (stand old) (stand new) op result
 abbrev pub ClosesOf : {S : Type 0} → (S → Talk QueueState → Type 0) → Closes S
 ClosesOf stand old result new = Leaves (stand old) (stand new) result
 
--- all operations that were asked have their replies
-pub record AreReplies (t : Talk QueueState) (ops : List Op) (answers : List Answer) : Type 0 where
-  pub replies : answers ≡ map Replied (replies_from t ops)
-  pub all : length (replies_from t ops) ≡ length ops
-
-one_reply : (t : Talk QueueState) (op : Op) (ops : List Op) (answers : List Answer) (reply : Reply) → (answered queue t op).reply ≡ Some reply → AreReplies (answered queue t op).talk ops answers → AreReplies t (op ∷ ops) (Replied reply ∷ answers)
-one_reply t op ops answers reply is r =
-    let next = replies_from (answered queue t op).talk ops in
-    let first : with_reply (answered queue t op).reply next ≡ reply ∷ next = ap (λ o. with_reply o next) is in
-    record {
-      replies = ap (λ xs. Replied reply ∷ xs) r.replies ∙ ap (map Replied) (sym first);
-      all = ap (λ rs. length rs) first ∙ ap suc r.all;
-    }
-
-pub are_replies : {S : Type 0} (stand : S → Talk QueueState → Type 0) (old new : S) (ops : List Op) (answers : List Answer) (t : Talk QueueState) → Asked (AsksOf stand) old ops answers new → stand old t → AreReplies t ops answers
-are_replies stand old new [] [] t asked stands = record { replies = refl; all = refl }
-are_replies stand old new [] (a ∷ answers) t asked stands = absurd asked
-are_replies stand old new (op ∷ ops) [] t asked stands = absurd asked
-are_replies stand old new (op ∷ ops) (Refused ∷ answers) t asked stands = absurd asked.1
-are_replies stand old new (op ∷ ops) (Replied reply ∷ answers) t asked stands =
+-- what was answered is what the queue answers
+pub are_answers : {S : Type 0} (stand : S → Talk QueueState → Type 0) (old new : S) (ops : List Op) (answers : List Answer) (t : Talk QueueState) → Asked (AsksOf stand) old ops answers new → stand old t → AreAnswers t ops answers
+are_answers stand old new [] [] t asked stands = tt
+are_answers stand old new [] (a ∷ answers) t asked stands = absurd asked
+are_answers stand old new (op ∷ ops) [] t asked stands = absurd asked
+are_answers stand old new (op ∷ ops) (Refused ∷ answers) t asked stands =
+    are_answers stand asked.0 new ops answers t asked.2 (asked.1 t stands)
+are_answers stand old new (op ∷ ops) (Replied reply ∷ answers) t asked stands =
     let one = asked.1 t stands in
-    one_reply t op ops answers reply one.0 (are_replies stand asked.0 new ops answers (answered queue t op).talk asked.2 one.1)
+    (one.0, are_answers stand asked.0 new ops answers (answered queue t op).talk asked.2 one.1)
+
+-- and there is one answer to each operation, but that it may be refused
+pub one_answers : (t : Talk QueueState) (ops : List Op) (xs ys : List Answer) → AreAnswers t ops xs → AreAnswers t ops ys → map is_refused xs ≡ map is_refused ys → xs ≡ ys
+one_answers t [] [] [] a b same = refl
+one_answers t [] [] (y ∷ ys) a b same = absurd b
+one_answers t [] (x ∷ xs) ys a b same = absurd a
+one_answers t (op ∷ ops) [] ys a b same = absurd a
+one_answers t (op ∷ ops) (x ∷ xs) [] a b same = absurd b
+one_answers t (op ∷ ops) (Refused ∷ xs) (Refused ∷ ys) a b same = ap (λ zs. Refused ∷ zs) (one_answers t ops xs ys a b (cc))
+one_answers t (op ∷ ops) (Refused ∷ xs) (Replied y ∷ ys) a b same = absurd (cc)
+one_answers t (op ∷ ops) (Replied x ∷ xs) (Refused ∷ ys) a b same = absurd (cc)
+one_answers t (op ∷ ops) (Replied x ∷ xs) (Replied y ∷ ys) a b same =
+    let reply : x ≡ y = cc in
+    ap₂ (λ r zs. Replied r ∷ zs) reply (one_answers (answered queue t op).talk ops xs ys a.1 b.1 (cc))

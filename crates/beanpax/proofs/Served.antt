@@ -1,59 +1,53 @@
--- What was told where nodes that stand for a queue were the service.
+-- What was told where a hall that stands for a queue was the service.
 use Rattle.std.proofs.Common.{◌≡◌, ◌⊎◌, inl, inr, ℕ, List, [], ◌∷◌, ◌++◌, Option, Result, Ok, Err, IfOk, OnErr, refl, sym, ap, subst, ◌∙◌}
 use Rattle.std.proofs.lemmas.List.{append-nil}
 use Rattle.std.proofs.KnownBytes.{Appends-nil, Consumes-nil}
 use Rattle.bean_codec.specs.declared.request.Request.TheVariants.{Do}
-use Rattle.bean_codec.specs.Grammar.{Item}
 use Rattle.bean_queue.specs.Queue.{QueueState}
 use Rattle.session.specs.declared.faults.End.{End}
 use Rattle.session.specs.declared.faults.ServiceFault.{ServiceFault}
 use Rattle.session.specs.declared.faults.SessionFault.{SessionFault}
 use Rattle.session.specs.declared.faults.SessionFault.TheVariants.{OutOfMemory, ReadFailed, WriteFailed, ServiceStopped}
-use Rattle.session.specs.Items.{Answer, Reads, ReadsFirst, operations, told}
+use Rattle.session.specs.Items.{Reads, ReadsFirst, operations, told}
 use Rattle.session.specs.Serving.{Whole, StopsAt, Partly, BreaksOff, Closes, ClosedAfter, ClosedOnce, Over}
-use Rattle.simulated_nodes.specs.OneClient.{Talk, opened}
+use Rattle.simulated_hall.specs.OneClient.{Talk, opened}
 use Rattle.beanpax.specs.Sessions.{queue}
-use Rattle.beanpax.specs.Told.{IsTold, BeginsTold, text_for}
+use Rattle.beanpax.specs.Told.{IsTold, BeginsTold}
 use Rattle.beanpax.specs.Runs.{Answers, BreaksOff as Breaks}
 use Rattle.beanpax.proofs.Whole.{HasFront, reads_as_items}
 use Rattle.beanpax.proofs.Beginnings.{told_begins, begins, begins_first}
-use Rattle.beanpax.proofs.Obeyed.{AsksOf, AreReplies, are_replies}
-
-text_of_answers : (items : List Item) (answers : List Answer) → AreReplies (opened queue) (operations items) answers → told items answers ≡ text_for items
-text_of_answers items answers r = ap (λ xs. told items xs) r.replies
+use Rattle.beanpax.proofs.Obeyed.{AsksOf, are_answers}
 
 pub whole : {S : Type 0} (stand : S → Talk QueueState → Type 0) (old new : S) (input output : List ℕ) (end : End) → stand old (opened queue) → Whole (AsksOf stand) old new input output end → IsTold input output end
-whole stand old new input output end stands w =
-    let r = are_replies stand old new (operations w.0) w.1 (opened queue) w.3 stands in
-    (w.0, w.2, r.all, w.4 ∙ text_of_answers w.0 w.1 r)
+whole stand old new input output end stands w = (w.1, (w.0, w.2, are_answers stand old new (operations w.0) w.1 (opened queue) w.3 stands, w.4))
 
 -- all is a beginning of it
 pub told_begins_told : (input output : List ℕ) (end : End) → IsTold input output end → BeginsTold input output
 told_begins_told input output end t =
-    begins input output [] t.0 [] end (subst (λ items. Reads input items end) (sym (append-nil t.0)) t.1) (append-nil output ∙ t.3)
+    let items = t.1.0 in
+    begins input output [] items [] end t.0 (subst (λ is. Reads input is end) (sym (append-nil items)) t.1.1) t.1.2 (append-nil output ∙ t.1.3)
 
 pub nothing_begins : ((text : List ℕ) → HasFront text) → (input : List ℕ) → BeginsTold input []
-nothing_begins front input = let r = reads_as_items front input in (r.0, r.1, text_for r.0, r.2, refl)
+nothing_begins front input = let r = reads_as_items front input in (r.0, r.1, [], told r.0 [], r.2, ([], operations r.0, refl, tt), refl)
 
 pub stops_at : {S : Type 0} (stand : S → Talk QueueState → Type 0) (old new : S) (input output : List ℕ) → ((text : List ℕ) → HasFront text) → stand old (opened queue) → StopsAt (AsksOf stand) old new input output → BeginsTold input output
 stops_at stand old new input output front stands s =
-    let r = are_replies stand old s.4 (operations s.0) s.1 (opened queue) s.6 stands in
-    begins_first front input output [] s.0 (Ok (Do s.2) ∷ []) s.3 s.5 (append-nil output ∙ s.8 ∙ text_of_answers s.0 s.1 r)
+    let r = are_answers stand old s.4 (operations s.0) s.1 (opened queue) s.6 stands in
+    begins_first front input output [] s.0 (Ok (Do s.2) ∷ []) s.3 s.1 s.5 r (append-nil output ∙ s.8)
 
 pub partly : {S : Type 0} (stand : S → Talk QueueState → Type 0) (old new : S) (input output : List ℕ) → ((text : List ℕ) → HasFront text) → stand old (opened queue) → Partly (AsksOf stand) old new input output → BeginsTold input output
 partly stand old new input output front stands p =
     let items = p.0 ++ p.1 in
-    let r = are_replies stand old new (operations items) p.2 (opened queue) p.6 stands in
+    let r = are_answers stand old new (operations items) p.2 (opened queue) p.6 stands in
     let l = told_begins p.0 p.1 p.2 [] in
-    begins_first front input output l.0 items [] p.3 (subst (λ is. ReadsFirst input is p.3) (sym (append-nil items)) p.4)
-    (ap (λ text. text ++ l.0) p.7 ∙ l.1 ∙ ap (λ xs. told items xs) (append-nil p.2) ∙ text_of_answers items p.2 r)
+    begins_first front input output l.0 items [] p.3 p.2 (subst (λ is. ReadsFirst input is p.3) (sym (append-nil items)) p.4) r
+    (ap (λ text. text ++ l.0) p.7 ∙ l.1 ∙ ap (λ xs. told items xs) (append-nil p.2))
 
 pub breaks_off : {S : Type 0} (stand : S → Talk QueueState → Type 0) (old new : S) (input output : List ℕ) → ((text : List ℕ) → HasFront text) → stand old (opened queue) → BreaksOff (AsksOf stand) old new input output → BeginsTold input output
 breaks_off stand old new input output front stands b =
     let items = b.0 ++ b.1 in
-    let r = are_replies stand old new (operations items) b.2 (opened queue) b.8 stands in
-    begins_first front input output b.5 items [] b.3 (subst (λ is. ReadsFirst input is b.3) (sym (append-nil items)) b.6)
-    (b.10 ∙ text_of_answers items b.2 r)
+    let r = are_answers stand old new (operations items) b.2 (opened queue) b.8 stands in
+    begins_first front input output b.5 items [] b.3 b.2 (subst (λ is. ReadsFirst input is b.3) (sym (append-nil items)) b.6) r b.10
 
 -- Over streams: a is what the reader would give at first and b what it would now, h what the writer held at first and
 -- k what it holds now.

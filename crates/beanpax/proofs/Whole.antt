@@ -1,13 +1,16 @@
 -- Every text reads as items, in one way.
-use Rattle.std.proofs.Common.{◌≡◌, ◌⊎◌, inl, inr, ℕ, zero, suc, ◌≤◌, Bool, true, false, List, [], ◌∷◌, ◌++◌, MatchBool, length, take, drop, refl, sym, ap, ap₂, subst, ◌∙◌, length-append, length-take, length-drop, arith}
+use Rattle.std.proofs.Common.{◌≡◌, ◌⊎◌, inl, inr, ℕ, zero, suc, ◌≤◌, Bool, true, false, List, [], ◌∷◌, ◌++◌, MatchBool, map, length, take, drop, refl, sym, ap, ap₂, subst, ◌∙◌, length-append, length-take, length-drop, arith}
 use Rattle.std.proofs.lemmas.List.{take-append-drop}
 use Rattle.std.proofs.Math.Seq.{take-append_seam, drop-append_seam}
 use Rattle.bean_codec.specs.Lines.{crlf}
 use Rattle.bean_codec.specs.Grammar.{Item, Spells}
 use Rattle.bean_codec.specs.Reads.{BeginsWith, BeginsWithNone}
 use Rattle.session.specs.declared.faults.End.{End}
-use Rattle.session.specs.Items.{Reads, is_quit}
-use Rattle.beanpax.specs.Told.{IsTold, text_for}
+use Rattle.session.specs.Items.{Answer, Reads, is_quit, operations, told}
+use Rattle.simulated_hall.specs.OneClient.{opened}
+use Rattle.beanpax.specs.Sessions.{queue, IsAnswered, is_refused}
+use Rattle.beanpax.specs.Told.{IsToldWith}
+use Rattle.beanpax.proofs.Obeyed.{one_answers}
 
 -- the law of the front: a text begins with an item or with none
 abbrev pub HasFront : List ℕ → Type 0
@@ -102,8 +105,9 @@ one_reading one text (i ∷ is) (j ∷ js) d e r q =
     ] r.4 more in
     (ap₂ (λ k ks. k ∷ ks) fronts.1 tails.0, tails.1)
 
--- what is told for one input is one text
-pub one_told : IsOneItem → (input a b : List ℕ) (d e : End) → IsTold input a d → IsTold input b e → (a ≡ b) × (d ≡ e)
-one_told one input a b d e r q =
+-- what is told for one input is one text, where the same operations are refused
+pub one_told : IsOneItem → (input a b : List ℕ) (d e : End) (xs ys : List Answer) → IsToldWith xs input a d → IsToldWith ys input b e → map is_refused xs ≡ map is_refused ys → (a ≡ b) × (d ≡ e)
+one_told one input a b d e xs ys r q refused =
     let same = one_reading one input r.0 q.0 d e r.1 q.1 in
-    (r.3 ∙ ap (λ items. text_for items) same.0 ∙ sym q.3, same.1)
+    let answers : xs ≡ ys = one_answers (opened queue) (operations q.0) xs ys (subst (λ items. IsAnswered (operations items) xs) same.0 r.2) q.2 refused in
+    (r.3 ∙ ap₂ told same.0 answers ∙ sym q.3, same.1)

@@ -1,11 +1,13 @@
--- What one queue replies to one client.
-use Rattle.std.specs.Prelude.{Bool, false, List, [], ◌∷◌, Option, None, Some}
+-- What one queue answers to one client.
+use Rattle.std.specs.Prelude.{◌≡◌, ⊤, Bool, true, false, List, [], ◌∷◌, ◌++◌, Some}
 use Rattle.bean_queue.specs.declared.op.Op.{Op}
 use Rattle.bean_queue.specs.declared.reply.Reply.{Reply}
 use Rattle.bean_queue.specs.Queue.{QueueState, fresh}
 use Rattle.bean_queue.specs.Effects.{effect}
 use Rattle.object.specs.Objects.{Rules}
-use Rattle.simulated_nodes.specs.OneClient.{Talk, opened, answered}
+use Rattle.session.specs.Items.{Answer}
+use Rattle.session.specs.Items.Answer.{Replied, Refused}
+use Rattle.simulated_hall.specs.OneClient.{Talk, opened, answered}
 
 -- the queue, where this says which operations are one
 abbrev pub queue_with : (Op → Op → Bool) → Rules QueueState Op Reply
@@ -15,16 +17,25 @@ queue_with same = record { fresh = fresh; after = λ s c. (effect c s).state; an
 abbrev pub queue : Rules QueueState Op Reply
 queue = queue_with (λ a b. false)
 
--- a reply before others, or none at all where it never came
-abbrev pub with_reply : Option Reply → List Reply → List Reply
-with_reply None replies = []
-with_reply (Some reply) replies = reply ∷ replies
+-- The operations were asked in turn and answered so, from here on: with what the queue replies, or refused, and then the
+-- queue never knew of them.
+abbrev pub AreAnswers : Talk QueueState → List Op → List Answer → Type 0
+AreAnswers t [] [] = ⊤
+AreAnswers t [] (answer ∷ answers) = ⊥
+AreAnswers t (op ∷ ops) [] = ⊥
+AreAnswers t (op ∷ ops) (Replied reply ∷ answers) =
+    ((answered queue t op).reply ≡ Some reply) × AreAnswers (answered queue t op).talk ops answers
+AreAnswers t (op ∷ ops) (Refused ∷ answers) = AreAnswers t ops answers
 
--- the replies from here on, up to the first operation that has none within the longest wait
-abbrev pub replies_from : Talk QueueState → List Op → List Reply
-replies_from t [] = []
-replies_from t (op ∷ ops) = with_reply (answered queue t op).reply (replies_from (answered queue t op).talk ops)
+-- a new queue answers so
+abbrev pub IsAnswered : List Op → List Answer → Type 0
+IsAnswered ops answers = AreAnswers (opened queue) ops answers
 
--- what a new queue replies to these operations, asked in turn
-abbrev pub replies_to : List Op → List Reply
-replies_to ops = replies_from (opened queue) ops
+-- a new queue answers so to some first operations
+abbrev pub IsAnsweredFirst : List Op → List Answer → Type 0
+IsAnsweredFirst ops answers = (firsts rest : List Op) × (ops ≡ firsts ++ rest) × IsAnswered firsts answers
+
+-- the operation was refused
+abbrev pub is_refused : Answer → Bool
+is_refused (Replied reply) = false
+is_refused Refused = true

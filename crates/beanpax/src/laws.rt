@@ -1,13 +1,17 @@
-ghost use Rattle.std.specs.Prelude.{◌≡◌, ℕ, List};
+ghost use Rattle.std.specs.Prelude.{◌≡◌, ℕ, List, map};
 ghost use Rattle.session.specs.declared.faults.End.{End};
-ghost use Rattle.beanpax.specs.Told.{IsTold};
+ghost use Rattle.session.specs.Items.{Answer};
+ghost use Rattle.beanpax.specs.Sessions.{is_refused};
+ghost use Rattle.beanpax.specs.Told.{IsToldWith};
 
 use bean_codec::one_item;
 
-/// Every input has one transcript at most: what a client is told is a function of the bytes that it sent.
+/// Every input has one transcript at most, but for which operations were refused for want of memory: what a client is
+/// told is a function of the bytes that it sent, and of that.
 pub fn one_transcript()
-    ensures unique { (input a b : List ℕ) (d e : End) → IsTold input a d → IsTold input b e
-        → (a ≡ b) × (d ≡ e) }
+    ensures unique { (input a b : List ℕ) (d e : End) (xs ys : List Answer)
+        → IsToldWith xs input a d → IsToldWith ys input b e
+        → map is_refused xs ≡ map is_refused ys → (a ≡ b) × (d ≡ e) }
 {
     one_item();
 }

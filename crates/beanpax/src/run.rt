@@ -9,11 +9,13 @@ use bean_codec::front_item;
 use session::{ByteIn, ByteOut, End, SessionFault, serve};
 use std::alloc::Global;
 
-/// Answers one client on so many simulated nodes: 1 to 7. Each reply is written out before the next request is obeyed.
+/// Answers one client on a hall of so many simulated nodes: 1 to 7. Each reply is written out before the next request is
+/// obeyed.
 ///
 /// The seed draws what happens between the nodes: which letters are lost, repeated and reordered, and which nodes restart.
-/// What is written doesn't depend on it, nor on how many nodes there are; but where 100,000 events bring no answer to a
-/// request, the service stops. It also stops where the client would have to wait for more than an hour.
+/// What is written doesn't depend on it, nor on how many nodes there are; but where 100,000 calls of the hall bring no
+/// answer to a request, the service stops. It also stops where the client would have to wait for more than an hour. A
+/// request for which there is no memory is refused, and is as if it had not been made.
 pub fn run_bytes<R: ByteIn, W: ByteOut>(
     alloc: Global,
     nodes: u8,

@@ -30,7 +30,7 @@ use Rattle.hall.proofs.Events.{asks_follow}
 use Rattle.hall.proofs.Explains.{mapped_from}
 use Rattle.hall.proofs.Halls.{again_is}
 use Rattle.hall.proofs.Known.{key_stands}
-use Rattle.hall.proofs.Told.{told_at}
+use Rattle.hall.proofs.Told.{once_one, told_at}
 
 pub acts_same : {Op : Type 0} (same : Op → Op → Bool) → ((x y : Op) → same x y ≡ true → x ≡ y) → (a b : Act Op) → same_acts same a b ≡ true → a ≡ b
 acts_same same exact (Do o) (Do p) h = ap Do (exact o p h)
@@ -51,14 +51,6 @@ found_at {X} key_of key x (y ∷ ys) e = at (same_key (key_of y) key) refl (λ h
     at : (b : Bool) → same_key (key_of y) key ≡ b → (found key_of key ys ≡ Some x → In x ys × (key_of x ≡ key)) → cond b (Some y) (found key_of key ys) ≡ Some x → In x (y ∷ ys) × (key_of x ≡ key)
     at true s more h = let same : y ≡ x = cc in (inl (sym same), subst (λ z. key_of z ≡ key) same (same_is (key_of y) key s))
     at false s more h = let r = more h in (inr r.0, r.1)
-
--- keys that stand once tell which item it is
-once_one : {X : Type 0} (key_of : X → Key) (xs : List X) → KeysOnce key_of xs → (x y : X) → In x xs → In y xs → key_of x ≡ key_of y → x ≡ y
-once_one key_of [] once x y i j e = absurd i
-once_one key_of (z ∷ zs) once x y (inl p) (inl q) e = p ∙ sym q
-once_one key_of (z ∷ zs) once x y (inl p) (inr j) e = absurd (once.0 y j (sym e ∙ ap key_of p))
-once_one key_of (z ∷ zs) once x y (inr i) (inl q) e = absurd (once.0 x i (e ∙ ap key_of q))
-once_one key_of (z ∷ zs) once x y (inr i) (inr j) e = once_one key_of zs once.1 x y i j e
 
 pub once_told : {Op Reply : Type 0} (h : Happenings Op Reply) (xs : List (Submission Op)) → SubmittedOnce xs → SubmittedOnce (map (told_at h.answers) xs)
 once_told h [] once = tt

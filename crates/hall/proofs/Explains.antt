@@ -1,17 +1,18 @@
--- What happened, told once, is legal for the order so far; and what a node answers and performs was submitted.
+-- What happened, told once, is legal for the order so far, and no answer that the order brings is missing.
 use Rattle.std.proofs.Common.{◌≡◌, inl, inr, ℕ, List, [], ◌∷◌, map, take, length, refl, sym, ap, ◌∙◌, subst}
 use Rattle.std.proofs.Math.Seq.{take-append_seam}
 use Rattle.std.proofs.lemmas.List.{take-append-drop}
 use Rattle.std.specs.Prelude.{drop}
+use Rattle.object.specs.declared.command.Answer.{Answer}
 use Rattle.object.specs.declared.command.Command.{Command}
 use Rattle.object.specs.declared.command.Submission.{Submission}
 use Rattle.object.specs.Answers.{answered_key}
 use Rattle.object.specs.Happenings.{Happenings}
-use Rattle.object.specs.Legal.{IsLegal, WasSubmitted, StandsAt, given_before}
+use Rattle.object.specs.Legal.{IsLegal, IsGivenAt, WasSubmitted, StandsAt, given_before}
 use Rattle.object.specs.Lists.{In}
 use Rattle.object.specs.ListLaws.{In-map}
 use Rattle.object.specs.Objects.{Rules}
-use Rattle.object.specs.Replays.{kept}
+use Rattle.object.specs.Replays.{Placed, kept, replay}
 use Rattle.recorder.specs.Firsts.{firsts}
 use Rattle.world.specs.Worlds.{World}
 use Rattle.world.specs.Runs.{IsWorld}
@@ -19,7 +20,7 @@ use Rattle.hall.specs.Recorded.{RecordedState}
 use Rattle.hall.specs.Shows.{Shows, told_once}
 use Rattle.hall.specs.Explained.{IsExplained}
 use Rattle.hall.specs.HallLaws.{HallLaws}
-use Rattle.hall.proofs.Told.{told_at, firsts_begin, firsts_in}
+use Rattle.hall.proofs.Told.{once_one, first_of, told_at, firsts_begin, firsts_in}
 
 -- of a mapped list's elements
 pub mapped_from : {A B : Type 0} (f : A → B) (y : B) (xs : List A) → In y (map f xs) → (x : A) × In x xs × (y ≡ f x)
@@ -52,11 +53,26 @@ module _ {O Op Reply : Type 0} (rules : Rules O Op Reply) (h : Happenings Op Rep
         (subst (λ (q : Submission Op). StandsAt q.command.key order n) was.2 stands);
   }
 
+  -- the first answer to a key is the only one that the order brings
+  pub told_first : ((place : ℕ) (a : Answer Reply) → IsGivenAt rules order place a → In a h.answers) → (place : ℕ) (a : Answer Reply) → IsGivenAt rules order place a → In a (firsts answered_key h.answers)
+  told_first told place a given =
+      let first = first_of answered_key a h.answers (told place a given) in
+      let own = legal.answered first.0 (firsts_in answered_key first.0 h.answers first.1) in
+      let placed = replay rules.fresh rules.after rules.answers order in
+      let one : first.0 ≡ a = once_one answered_key (map (λ (p : Placed Reply). p.answer) placed) legal.once first.0 a
+          (In-map (λ (p : Placed Reply). p.answer) (record { place = own.0; answer = first.0 }) placed own.1)
+          (In-map (λ (p : Placed Reply). p.answer) (record { place = place; answer = a }) placed given)
+          first.2 in
+      subst (λ (b : Answer Reply). In b (firsts answered_key h.answers)) one first.1
+
 -- what a hall shows is explained
 pub explains : {O Op Reply : Type 0} (rules : Rules O Op Reply) (laws : HallLaws rules) (promise : List (Command Op) → Type 0) → ((cs : List (Command Op)) → promise cs) → (k : RecordedState Op Reply) (w : World Op Reply) → IsWorld rules w → Shows k w → IsExplained rules promise k.past
-explains rules laws promise promises k w i s = record {
+explains {Op = Op} {Reply = Reply} rules laws promise promises k w i s = record {
   order = kept s.order.0;
   keys = s.order.2;
   legal = subst (λ h. IsLegal rules h (kept s.order.0)) (sym s.happenings) (legal_once rules w.happenings (kept s.order.0) (laws.legal_so_far w i s.order.0 s.order.1));
+  told = λ place a given.
+      subst (λ (h : Happenings Op Reply). In a h.answers) (sym s.happenings)
+      (told_first rules w.happenings (kept s.order.0) (laws.legal_so_far w i s.order.0 s.order.1) (laws.told w i s.order.0 s.order.1) place a given);
   promised = promises (kept s.order.0);
 }

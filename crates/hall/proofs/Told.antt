@@ -11,7 +11,8 @@ use Rattle.object.specs.declared.command.Key.{Key}
 use Rattle.object.specs.declared.command.Submission.{Submission}
 use Rattle.object.specs.Answers.{answered_key}
 use Rattle.object.specs.Lists.{In, IsBeginning}
-use Rattle.object.specs.Keys.{same_key}
+use Rattle.object.specs.Keys.{same_key, KeysOnce}
+use Rattle.object.specs.KeyLaws.{same_is}
 use Rattle.object.specs.Happenings.{Happenings, IsTimeline, is_submitted, with_submission, with_answers}
 use Rattle.recorder.specs.Firsts.{others, firsts}
 use Rattle.hall.specs.Shows.{told_once}
@@ -40,6 +41,40 @@ pub firsts_in : {X : Type 0} (key_of : X → Key) (x : X) (xs : List X) → In x
 firsts_in key_of x [] i = i
 firsts_in key_of x (y ∷ ys) (inl e) = inl e
 firsts_in key_of x (y ∷ ys) (inr i) = inr (firsts_in key_of x ys (filtered_in (λ z. not (same_key (key_of z) (key_of y))) x (firsts key_of ys) i))
+
+filter_in : {X : Type 0} (p : X → Bool) (x : X) (xs : List X) → p x ≡ true → In x xs → In x (filter p xs)
+filter_in p x [] e i = absurd i
+filter_in {X} p x (y ∷ ys) e (inl same) = at (p y) (sym (ap p same) ∙ e)
+  where
+    at : (b : Bool) → b ≡ true → In x (cond b (y ∷ filter p ys) (filter p ys))
+    at true is = inl same
+    at false is = absurd (cc)
+filter_in p x (y ∷ ys) e (inr i) = at (p y) (filter_in p x ys e i)
+  where
+    at : (b : Bool) → In x (filter p ys) → In x (cond b (y ∷ filter p ys) (filter p ys))
+    at true j = inr j
+    at false j = j
+
+-- the first item of a key
+pub first_of : {X : Type 0} (key_of : X → Key) (x : X) (xs : List X) → In x xs → (y : X) × In y (firsts key_of xs) × (key_of y ≡ key_of x)
+first_of key_of x [] i = absurd i
+first_of key_of x (y ∷ ys) (inl e) = (y, inl refl, sym (ap key_of e))
+first_of {X} key_of x (y ∷ ys) (inr i) = at (first_of key_of x ys i)
+  where
+    at : ((z : X) × In z (firsts key_of ys) × (key_of z ≡ key_of x)) → (z : X) × In z (firsts key_of (y ∷ ys)) × (key_of z ≡ key_of x)
+    at first = by (same_key (key_of first.0) (key_of y)) refl
+      where
+        by : (b : Bool) → same_key (key_of first.0) (key_of y) ≡ b → (z : X) × In z (firsts key_of (y ∷ ys)) × (key_of z ≡ key_of x)
+        by true e = (y, inl refl, sym (same_is (key_of first.0) (key_of y) e) ∙ first.2)
+        by false e = (first.0, inr (filter_in (λ z. not (same_key (key_of z) (key_of y))) first.0 (firsts key_of ys) (ap not e) first.1), first.2)
+
+-- keys that stand once tell which item it is
+pub once_one : {X : Type 0} (key_of : X → Key) (xs : List X) → KeysOnce key_of xs → (x y : X) → In x xs → In y xs → key_of x ≡ key_of y → x ≡ y
+once_one key_of [] once x y i j e = absurd i
+once_one key_of (z ∷ zs) once x y (inl p) (inl q) e = p ∙ sym q
+once_one key_of (z ∷ zs) once x y (inl p) (inr j) e = absurd (once.0 y j (sym e ∙ ap key_of p))
+once_one key_of (z ∷ zs) once x y (inr i) (inl q) e = absurd (once.0 x i (e ∙ ap key_of q))
+once_one key_of (z ∷ zs) once x y (inr i) (inr j) e = once_one key_of zs once.1 x y i j e
 
 -- what is the same of each element is the same of the list
 pub same_maps : {A B : Type 0} (f g : A → B) (xs : List A) → ((x : A) → In x xs → f x ≡ g x) → map f xs ≡ map g xs

@@ -71,7 +71,7 @@ impl<O: Object> Ticket<O> {
     }
 
     /// The key of its last command, of number 0 where there is none.
-    pub(crate) fn last_key(&self) -> Key
+    pub fn last_key(&self) -> Key
         ensures { result ≡ last_key self.now }
     {
         Key {

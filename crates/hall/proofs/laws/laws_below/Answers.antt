@@ -12,6 +12,7 @@ returns g c = record {
   placed = c.every_world.ensures.placed;
   placed_once = c.every_world.ensures.placed_once;
   legal_so_far = c.every_world.ensures.legal_so_far;
+  told = λ w i. (c.every_world.ensures.answered w i).told;
   answered_known = c.every_world.ensures.answered_known;
   able = c.deeds_are_shown.ensures.able;
   turn = c.deeds_are_shown.ensures.turn;

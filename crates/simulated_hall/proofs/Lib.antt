@@ -1,0 +1,5 @@
+pub mod Lists
+pub mod Orders
+pub mod Replays
+pub mod HandedIn
+pub mod Said

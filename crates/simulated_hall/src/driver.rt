@@ -1,0 +1,189 @@
+use ballot::Members;
+use hall::Hall;
+use object::Object;
+use world::Schedule;
+
+/// The node at which the client hands in its commands.
+pub(crate) const HOME: u8 = 1;
+
+/// After so many calls for one command the driver goes its plain rounds.
+const DRAWN_CALLS: u32 = 2_000;
+
+/// The commands for which calls may be drawn, since what a restarted node has to learn again grows with them.
+const ROUGH_COMMANDS: u32 = 1_000;
+
+/// So many calls at most are drawn for one command.
+const LONGEST_STORM: u32 = 300;
+
+/// A call of the hall. All but the last are of a node.
+#[derive(Clone, Copy, Debug, PartialEq, Eq)]
+pub(crate) enum Call {
+    Deliver(u8),
+    Lose(u8),
+    Repeat(u8),
+    Wake(u8),
+    Nudge(u8),
+    Propose(u8),
+    Perform(u8),
+    Restart(u8),
+    /// The command that is carried is handed in once more.
+    HandInAgain,
+}
+
+/// How a plain round goes on.
+#[derive(Clone, Copy, Debug, PartialEq, Eq)]
+enum Round {
+    Restart,
+    HandInAgain,
+    Wake,
+    Deliver,
+    Perform,
+}
+
+/// Chooses the calls of a hall, as a seed draws them: letters are lost, repeated and reordered, nodes restart, and then
+/// again all goes well for a while.
+#[derive(Drop)]
+pub(crate) struct Driver {
+    schedule: Schedule,
+    members: Members,
+    /// How many commands were carried so far.
+    commands: u32,
+    /// So many calls of this command are drawn.
+    storm: u32,
+    /// The letters that are on their way are lost.
+    loses: bool,
+    /// How often nothing was left to deliver.
+    idle: u32,
+    round: Round,
+}
+
+impl Driver {
+    /// The driver of these members, whose choices are drawn from the seed.
+    pub fn new(members: Members, seed: u64) -> Driver {
+        Driver {
+            schedule: Schedule::new(seed),
+            members,
+            commands: 0,
+            storm: 0,
+            loses: false,
+            idle: 0,
+            round: Round::Restart,
+        }
+    }
+
+    /// Another command is to be carried.
+    pub fn begin(&mut self) {
+        self.commands = self.commands.saturating_add(1);
+        self.idle = 0;
+        self.round = Round::Restart;
+        self.storm = 0;
+        if self.commands <= ROUGH_COMMANDS && self.schedule.pick(self.commands) == 0 {
+            self.storm = self.schedule.pick(LONGEST_STORM);
+        }
+    }
+
+    /// The next call for the command, after `count` others.
+    pub fn next<O: Object>(&mut self, hall: &Hall<O>, count: u32) -> Call {
+        if count >= DRAWN_CALLS {
+            return self.plain(hall);
+        }
+        if count < self.storm {
+            return self.drawn();
+        }
+        if count == self.storm {
+            self.loses = self.schedule.pick(2) == 0;
+        }
+        self.calm(hall)
+    }
+}
+
+impl Driver {
+    // A call that is drawn. Mostly a letter is delivered; a restart is among the rarest.
+    fn drawn(&mut self) -> Call {
+        let node = self.member();
+        match self.schedule.pick(20) {
+            0 => Call::Lose(node),
+            1 => Call::Repeat(node),
+            2 => Call::Wake(node),
+            3 => Call::Nudge(node),
+            4 | 5 => Call::Propose(node),
+            6 | 7 => Call::Perform(node),
+            8 => Call::Restart(node),
+            _ => Call::Deliver(node),
+        }
+    }
+
+    // What there is to do, or where there is nothing what may bring some.
+    fn calm<O: Object>(&mut self, hall: &Hall<O>) -> Call {
+        if let Some(node) = first_with_mail(self.members, hall) {
+            return if self.loses {
+                Call::Lose(node)
+            } else {
+                Call::Deliver(node)
+            };
+        }
+        self.loses = false;
+        if let Some(node) = first_to_perform(self.members, hall) {
+            return Call::Perform(node);
+        }
+        if hall.can_propose(HOME) {
+            return Call::Propose(HOME);
+        }
+        self.rouse()
+    }
+
+    // What may bring something to do.
+    fn rouse(&mut self) -> Call {
+        let turn = self.idle % 5;
+        self.idle = self.idle.saturating_add(1);
+        match turn {
+            1 => Call::Nudge(HOME),
+            2 => Call::HandInAgain,
+            3 => Call::Nudge(self.member()),
+            _ => Call::Wake(HOME),
+        }
+    }
+
+    // Begins the node anew, and then again and again hands the command in, wakes the leader, empties every mail,
+    // proposes and performs.
+    fn plain<O: Object>(&mut self, hall: &Hall<O>) -> Call {
+        let (call, next) = match self.round {
+            Round::Restart => (Call::Restart(HOME), Round::HandInAgain),
+            Round::HandInAgain => (Call::HandInAgain, Round::Wake),
+            Round::Wake => (Call::Wake(HOME), Round::Deliver),
+            Round::Deliver => match first_with_mail(self.members, hall) {
+                Some(node) => (Call::Deliver(node), Round::Deliver),
+                None => (Call::Propose(HOME), Round::Perform),
+            },
+            Round::Perform => (Call::Perform(HOME), Round::HandInAgain),
+        };
+        self.round = next;
+        call
+    }
+
+    // One of the members.
+    fn member(&mut self) -> u8 {
+        let before = self.schedule.pick(u32::from(self.members.count()));
+        before as u8 + 1
+    }
+}
+
+// The first member to which a letter is on its way.
+fn first_with_mail<O: Object>(members: Members, hall: &Hall<O>) -> Option<u8> {
+    for before in 0..members.count() {
+        if hall.has_mail(before + 1) {
+            return Some(before + 1);
+        }
+    }
+    None
+}
+
+// The first member that knows the decision which it is to perform next.
+fn first_to_perform<O: Object>(members: Members, hall: &Hall<O>) -> Option<u8> {
+    for before in 0..members.count() {
+        if hall.can_perform(before + 1) {
+            return Some(before + 1);
+        }
+    }
+    None
+}
