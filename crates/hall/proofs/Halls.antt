@@ -17,7 +17,7 @@ use Rattle.node.specs.Deeds.{outcome_of}
 use Rattle.node.specs.declared.deed.Deed.{Deed}
 use Rattle.network.specs.Networks.{node_of, mail_of, front, turn_of}
 use Rattle.recorder.specs.Records.{with_first_answers}
-use Rattle.world.specs.Placing.{key_placed}
+use Rattle.node.specs.Outcomes.{key_placed}
 use Rattle.world.specs.Refusals.{most_events}
 use Rattle.world.specs.Steps.{IsItsOwn}
 use Rattle.world.specs.Tasks.{event_of}

@@ -13,7 +13,7 @@ use Rattle.node.specs.declared.deed.Deed.{Deed}
 use Rattle.network.specs.Networks.{node_of, mail_of, front, turn_of}
 use Rattle.recorder.specs.Firsts.{firsts}
 use Rattle.recorder.specs.Records.{Record, own_key, with_first_answers}
-use Rattle.world.specs.Placing.{key_placed}
+use Rattle.node.specs.Outcomes.{key_placed}
 use Rattle.world.specs.Refusals.{most_events}
 use Rattle.world.specs.Worlds.{World, opening}
 use Rattle.world.specs.declared.event.Event.{Event}
