@@ -56,8 +56,8 @@ HasReceived {Op} k n l z =
     (network : NetworkState (Command Op)) × IsDelivered k.network n l network × (z ≡ record k { network = network; taken = k.taken + 1 })
 
 -- the letter in front of node n's mail is lost
-abbrev pub lost : {Op Reply : Type 0} → RecordedState Op Reply → ℕ → RecordedState Op Reply
-lost k n = record k { network = without_front k.network n }
+abbrev pub without_front_letter : {Op Reply : Type 0} → RecordedState Op Reply → ℕ → RecordedState Op Reply
+without_front_letter k n = record k { network = without_front k.network n }
 
 -- the letter comes once more, at the back of node n's mail
 abbrev pub repeated : {Op Reply : Type 0} → RecordedState Op Reply → ℕ → Letter (Command Op) → RecordedState Op Reply

@@ -11,7 +11,7 @@ ghost use Rattle.node.specs.Outcomes.{key_placed};
 ghost use Rattle.node.specs.Receiving.{IsFit};
 ghost use Rattle.network.specs.Networks.{node_of, mail_of, front, has_mail, turn_of};
 ghost use Rattle.world.specs.Refusals.{most_events};
-ghost use Rattle.hall.specs.Recorded.{untouched, asked, done, HasReceived, lost, repeated};
+ghost use Rattle.hall.specs.Recorded.{untouched, asked, done, HasReceived, without_front_letter, repeated};
 
 use ballot::Members;
 use network::Network;
@@ -129,7 +129,7 @@ impl<O: Object> RecordedNetwork<O> {
     pub(crate) fn lose(&mut self, node: u8) -> bool
         requires { is_member self.old.network.members node ≡ true }
         ensures came { result ≡ has_mail self.old.network node }
-        ensures left { self.new ≡ lost self.old node }
+        ensures left { self.new ≡ without_front_letter self.old node }
     {
         self.network.lose(node)
     }
