@@ -1,4 +1,4 @@
-ghost use Rattle.std.specs.Prelude.{◌≡◌, ◌<◌, true, Some, None, List, IfOk, OnOk, OnErr};
+ghost use Rattle.std.specs.Prelude.{◌≡◌, ◌<◌, true, Some, None, List, IsOk, IfOk, OnOk, OnErr};
 ghost use Rattle.object.specs.declared.command.Answer.{Answer};
 ghost use Rattle.object.specs.declared.command.Command.{Command};
 ghost use Rattle.object.specs.declared.command.Key.{Key};
@@ -6,7 +6,7 @@ ghost use Rattle.object.specs.Lists.{In};
 ghost use Rattle.object.specs.Happenings.{is_submitted};
 ghost use Rattle.ballot.specs.Members.{is_member};
 ghost use Rattle.ballot.specs.declared.letter.Letter.{Letter};
-ghost use Rattle.node.specs.Deeds.{outcome_of, IsAble};
+ghost use Rattle.node.specs.Deeds.{outcome_of, IsAble, ComesToNothing};
 ghost use Rattle.node.specs.Outcomes.{key_placed};
 ghost use Rattle.node.specs.Receiving.{IsFit};
 ghost use Rattle.network.specs.Networks.{node_of, mail_of, front, has_mail, turn_of};
@@ -91,6 +91,7 @@ impl<O: Object> RecordedNetwork<O> {
         ensures outcome { IfOk result (λ outcome.
             outcome ≡ outcome_of (node_of self.old.network node) deed) }
         ensures err { OnErr result (self.new ≡ self.old) }
+        ensures idle { ComesToNothing O.rules (node_of self.old.network node) deed → IsOk result }
     {
         let mut given = Vec::new(self.alloc);
         let outcome = self.network.act(node, deed, &mut given)?;

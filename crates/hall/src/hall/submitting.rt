@@ -1,4 +1,4 @@
-ghost use Rattle.std.specs.Prelude.{◌≡◌, ◌<◌, true, false, None, Some, IfOk, IfErr, OnOk, OnErr, max};
+ghost use Rattle.std.specs.Prelude.{◌≡◌, ◌<◌, true, false, None, Some, IsOk, IfOk, IfErr, OnOk, OnErr, max};
 ghost use Rattle.object.specs.declared.command.Command.{Command};
 ghost use Rattle.ballot.specs.Members.{is_member};
 ghost use Rattle.world.specs.Refusals.{most_events};
@@ -70,6 +70,8 @@ impl<O: Object> Hall<O> {
             resubmit_refusal O.Op.eq self.old ticket.now node ≡ Some r → result ≡ Err r }
         ensures memory { resubmit_refusal O.Op.eq self.old ticket.now node ≡ None →
             IfErr result (λ r. r ≡ OutOfMemory) }
+        ensures idle { resubmit_refusal O.Op.eq self.old ticket.now node ≡ None →
+            last_noted ticket.now ≡ None → IsOk result }
     {
         laws_below::<O>();
         if let Some(refused) = self.resubmit_refusal(ticket, node) {

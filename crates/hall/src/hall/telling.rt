@@ -1,4 +1,4 @@
-ghost use Rattle.std.specs.Prelude.{◌≡◌, is_some, IfOk, OnOk, OnErr};
+ghost use Rattle.std.specs.Prelude.{◌≡◌, None, is_some, IsOk, IfOk, OnOk, OnErr};
 ghost use Rattle.std.specs.Option.{option_copied};
 ghost use Rattle.hall.specs.Explained.{IsExplained};
 ghost use Rattle.hall.specs.Halls.{reply_to, to_note, chronicle_of};
@@ -27,6 +27,7 @@ impl<O: Object> Hall<O> {
         ensures does { IfOk result (λ does. does ≡ is_some (to_note self.now ticket.old)) }
         ensures noted { OnOk result (ticket.new ≡ with_noted ticket.old (to_note self.now ticket.old)) }
         ensures err { OnErr result (ticket.new ≡ ticket.old) }
+        ensures idle { to_note self.now ticket.old ≡ None → IsOk result }
     {
         if ticket.noted().is_some() {
             return Ok(false);
