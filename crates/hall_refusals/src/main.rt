@@ -65,7 +65,7 @@ fn session(hall: &mut Hall<Queue>) -> Option<Ticket<Queue>> {
 fn status(course: Course) -> u8 {
     match course {
         Course::Plain => 0,
-        Course::Refused(place) => 10 + place,
+        Course::Refused(place) => place.saturating_add(10),
         Course::Wrong => 1,
     }
 }
