@@ -17,7 +17,7 @@ use Rattle.object.specs.Keys.{same_key, stands}
 use Rattle.object.specs.KeyLaws.{same_is}
 use Rattle.object.specs.Lists.{In}
 use Rattle.object.specs.ListLaws.{In-cases, In-map}
-use Rattle.hall.specs.Books.{submissions_of, numbers_of, last_second, is_opened, last_number, with_number, IsNext, IsBooked}
+use Rattle.hall.specs.Books.{submissions_of, numbers_of, last_second, is_opened, last_number, with_number, IsNextKey, IsBooked}
 
 -- one submission more of a session
 numbers_push : {Op : Type 0} (session : ℕ) (xs : List (Submission Op)) (s : Submission Op) → numbers_of session (xs ++ (s ∷ [])) ≡ numbers_of session xs ++ map (λ (t : Submission Op). t.command.key.number) (cond (s.command.key.session == session) (s ∷ []) [])
@@ -129,7 +129,7 @@ module _ {Op : Type 0} (book : List ℕ) where
   }
 
   -- a session's next command wasn't handed in yet
-  pub next_new : (submitted : List (Submission Op)) (taken : ℕ) (key : Key) → IsBooked book submitted taken → IsNext book key → is_submitted key submitted ≡ false
+  pub next_new : (submitted : List (Submission Op)) (taken : ℕ) (key : Key) → IsBooked book submitted taken → IsNextKey book key → is_submitted key submitted ≡ false
   next_new submitted taken key b next = false_from_ne_true (is_submitted key submitted) (λ e.
       let found = found_in submitted_key key submitted e in
       let pos = (opened_bounds book key.session next.opened).0 in
@@ -147,7 +147,7 @@ module _ {Op : Type 0} (book : List ℕ) where
       (In-cases t submitted (s ∷ []) i)
 
   -- and then it is the last one
-  pub booked_next : (submitted : List (Submission Op)) (taken : ℕ) (s : Submission Op) → IsBooked book submitted taken → IsNext book s.command.key → IsCommand s.command → IsBooked (with_number book s.command.key.session s.command.key.number) (submitted ++ (s ∷ [])) (taken + 1)
+  pub booked_next : (submitted : List (Submission Op)) (taken : ℕ) (s : Submission Op) → IsBooked book submitted taken → IsNextKey book s.command.key → IsCommand s.command → IsBooked (with_number book s.command.key.session s.command.key.number) (submitted ++ (s ∷ [])) (taken + 1)
   booked_next submitted taken s b next is =
       let session = s.command.key.session in
       let number = s.command.key.number in

@@ -23,8 +23,8 @@ use Rattle.network.specs.Networks.{NetworkState, node_of, mail_of, front, turn_o
 use Rattle.recorder.specs.Records.{with_first_answers}
 use Rattle.world.specs.Nodes.{node, turned}
 use Rattle.world.specs.Worlds.{World}
-use Rattle.world.specs.Kept.{reach_after}
-use Rattle.world.specs.Placing.{key_placed, placed_after}
+use Rattle.node.specs.Outcomes.{reach_after, key_placed}
+use Rattle.world.specs.Placing.{placed_after}
 use Rattle.world.specs.Reached.{HasPlaced}
 use Rattle.world.specs.Refusals.{most_events}
 use Rattle.world.specs.Runs.{IsWorld}

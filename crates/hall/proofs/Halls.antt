@@ -17,14 +17,14 @@ use Rattle.node.specs.Deeds.{outcome_of}
 use Rattle.node.specs.declared.deed.Deed.{Deed}
 use Rattle.network.specs.Networks.{node_of, mail_of, front, turn_of}
 use Rattle.recorder.specs.Records.{with_first_answers}
-use Rattle.world.specs.Placing.{key_placed}
+use Rattle.node.specs.Outcomes.{key_placed}
 use Rattle.world.specs.Refusals.{most_events}
 use Rattle.world.specs.Steps.{IsItsOwn}
 use Rattle.world.specs.Tasks.{event_of}
 use Rattle.world.specs.declared.event.Event.TheVariants.{Submit}
 use Rattle.hall.specs.Recorded.{RecordedState, untouched, asked, done, HasReceived, IsOwnDeed}
 use Rattle.hall.specs.Shows.{IsShown, Follows, ShowsOn}
-use Rattle.hall.specs.Books.{last_second, last_number, with_number, IsNext, IsBooked}
+use Rattle.hall.specs.Books.{last_second, last_number, with_number, IsNextKey, IsBooked}
 use Rattle.hall.specs.Halls.{HallState, IsHall, new_hall, with_nodes, after_submit, tick_of, after_tick}
 use Rattle.hall.specs.HallLaws.{HallLaws}
 use Rattle.hall.proofs.Booking.{booked_later, booked_open, booked_next, booked_tick, next_new, second_push, second_beside, second_known, opened_bounds}
@@ -133,7 +133,7 @@ module _ {O Op Reply : Type 0} (rules : Rules O Op Reply) (laws : HallLaws rules
       new_own : (c : Command Op) → is_submitted c.key h.nodes.past.happenings.submitted ≡ false → IsItsOwn c h.nodes.past.happenings.submitted
       new_own c new s i e = absurd (true≢false (sym (key_stands submitted_key c.key s h.nodes.past.happenings.submitted i (same_is s.command.key c.key e)) ∙ new))
 
-      module _ (c : Command Op) (next : IsNext h.book c.key) (command : IsCommand c) where
+      module _ (c : Command Op) (next : IsNextKey h.book c.key) (command : IsCommand c) where
         new : is_submitted c.key h.nodes.past.happenings.submitted ≡ false
         new = next_new h.book h.nodes.past.happenings.submitted h.nodes.taken c.key is.booked next
 

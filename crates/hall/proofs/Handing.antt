@@ -10,7 +10,7 @@ use Rattle.object.specs.declared.command.Key.{Key}
 use Rattle.object.specs.Objects.{Rules}
 use Rattle.ballot.specs.Members.{is_member}
 use Rattle.world.specs.Refusals.{most_events}
-use Rattle.hall.specs.Books.{last_number, with_number, IsNext}
+use Rattle.hall.specs.Books.{last_number, with_number, IsNextKey}
 use Rattle.hall.specs.Halls.{HallState, IsHall, tick_of}
 use Rattle.hall.specs.HallLaws.{HallLaws}
 use Rattle.hall.specs.Recorded.{RecordedState, asked}
@@ -49,9 +49,9 @@ module _ {O Op Reply : Type 0} (rules : Rules O Op Reply) (laws : HallLaws rules
   member_there n member = subst (λ (x : HallState Op Reply). is_member x.nodes.network.members n ≡ true) (sym is) member
 
   -- a session's next command
-  module _ (key : Key) (act : Act Op) (next : IsNext h.book key) (own : is_tick act ≡ false) (room : h.nodes.taken < most_events) where
-    pub next_in : IsNext v.book key
-    next_in = subst (λ (x : HallState Op Reply). IsNext x.book key) (sym is) next
+  module _ (key : Key) (act : Act Op) (next : IsNextKey h.book key) (own : is_tick act ≡ false) (room : h.nodes.taken < most_events) where
+    pub next_in : IsNextKey v.book key
+    next_in = subst (λ (x : HallState Op Reply). IsNextKey x.book key) (sym is) next
 
     pub room_there : v.nodes.taken < most_events
     room_there = subst (λ (x : HallState Op Reply). x.nodes.taken < most_events) (sym is) room

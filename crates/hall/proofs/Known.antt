@@ -25,7 +25,7 @@ use Rattle.node.specs.declared.deed.Deed.TheVariants as deeds
 use Rattle.network.specs.Networks.{node_of, mail_of, front, turn_of}
 use Rattle.world.specs.Nodes.{node}
 use Rattle.world.specs.Worlds.{World}
-use Rattle.world.specs.Placing.{key_placed}
+use Rattle.node.specs.Outcomes.{key_placed}
 use Rattle.world.specs.Reached.{HasPlaced}
 use Rattle.world.specs.Refusals.{most_events}
 use Rattle.world.specs.Runs.{IsWorld}

@@ -13,11 +13,11 @@ use Rattle.node.specs.declared.deed.Deed.{Deed}
 use Rattle.network.specs.Networks.{node_of, mail_of, front, turn_of}
 use Rattle.recorder.specs.Firsts.{firsts}
 use Rattle.recorder.specs.Records.{Record, own_key, with_first_answers}
-use Rattle.world.specs.Placing.{key_placed}
+use Rattle.node.specs.Outcomes.{key_placed}
 use Rattle.world.specs.Refusals.{most_events}
 use Rattle.world.specs.Worlds.{World, opening}
 use Rattle.world.specs.declared.event.Event.{Event}
-use Rattle.hall.specs.Recorded.{RecordedState, untouched, asked, done, with_place_if, lost, repeated}
+use Rattle.hall.specs.Recorded.{RecordedState, untouched, asked, done, with_place_if, without_front_letter, repeated}
 use Rattle.hall.specs.Shows.{Shows, IsShown, Follows, FollowsDelivery, ShowsOn}
 use Rattle.hall.specs.Explained.{IsBegun}
 use Rattle.hall.proofs.Clusters.{opening_shows, lost_shows, repeated_shows}
@@ -58,7 +58,7 @@ module _ {O Op Reply : Type 0} (rules : Rules O Op Reply) (laws : HallLaws rules
   pub shown_still : (k z : RecordedState Op Reply) → ShowsOn k z → IsShown rules k → IsShown rules z
   shown_still k z on h = (h.0, h.1, on h.0 h.2)
 
-  pub lost_still : (k : RecordedState Op Reply) (n : ℕ) → ShowsOn k (lost k n)
+  pub lost_still : (k : RecordedState Op Reply) (n : ℕ) → ShowsOn k (without_front_letter k n)
   lost_still k n w s = record {
     cluster = lost_shows k.network w.cluster s.cluster n;
     happenings = s.happenings;

@@ -12,7 +12,7 @@ use Rattle.node.specs.declared.deed.Deed.{Deed}
 use Rattle.node.specs.declared.deed.Outcome.{Outcome}
 use Rattle.network.specs.Networks.{NetworkState, node_of, mail_of, front, turn_of, IsDelivered}
 use Rattle.recorder.specs.Records.{Record, with_first_answers}
-use Rattle.world.specs.Placing.{key_placed}
+use Rattle.node.specs.Outcomes.{key_placed}
 use Rattle.hall.specs.Recorded.{RecordedState, HasReceived}
 
 module _ {Op Reply : Type 0} (k j : RecordedState Op Reply) (is : k ≡ j) (n : ℕ) where

@@ -33,7 +33,7 @@ with_number book zero number = book
 with_number book (suc i) number = slice_set book i number
 
 -- the key is the next one of a session that was opened
-pub record IsNext (book : List ℕ) (key : Key) : Type 0 where
+pub record IsNextKey (book : List ℕ) (key : Key) : Type 0 where
   pub opened : is_opened book key.session ≡ true
   pub number : key.number ≡ last_number book key.session + 1
 

@@ -6,12 +6,11 @@ use Rattle.object.specs.Happenings.{with_submission}
 use Rattle.object.specs.Objects.{Rules}
 use Rattle.ballot.specs.declared.letter.Letter.{Letter}
 use Rattle.node.specs.Deeds.{outcome_of}
+use Rattle.node.specs.Outcomes.{reach_after, key_placed}
 use Rattle.node.specs.declared.deed.Deed.{Deed}
 use Rattle.node.specs.declared.deed.Deed.TheVariants.{Request, Wake, Nudge, Propose, Perform, Restart}
 use Rattle.network.specs.Networks.{NetworkState, new_network, node_of, turn_of, acted_net, without_front, with_last, IsDelivered}
 use Rattle.recorder.specs.Records.{Record, blank, with_first_answers, with_place}
-use Rattle.world.specs.Kept.{reach_after}
-use Rattle.world.specs.Placing.{key_placed}
 
 -- the nodes and their mail; what happened; the greatest slot that any of them performed so far is the reach, 0 at first;
 -- and the events are counted
@@ -57,8 +56,8 @@ HasReceived {Op} k n l z =
     (network : NetworkState (Command Op)) × IsDelivered k.network n l network × (z ≡ record k { network = network; taken = k.taken + 1 })
 
 -- the letter in front of node n's mail is lost
-abbrev pub lost : {Op Reply : Type 0} → RecordedState Op Reply → ℕ → RecordedState Op Reply
-lost k n = record k { network = without_front k.network n }
+abbrev pub without_front_letter : {Op Reply : Type 0} → RecordedState Op Reply → ℕ → RecordedState Op Reply
+without_front_letter k n = record k { network = without_front k.network n }
 
 -- the letter comes once more, at the back of node n's mail
 abbrev pub repeated : {Op Reply : Type 0} → RecordedState Op Reply → ℕ → Letter (Command Op) → RecordedState Op Reply

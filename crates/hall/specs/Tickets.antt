@@ -49,15 +49,15 @@ reply_of None = None
 reply_of (Some noted) = noted.reply
 
 -- the reply is noted for the last act, where there is one
-abbrev pub with_reply : {Op Reply : Type 0} → List (NotedAct Op Reply) → Reply → List (NotedAct Op Reply)
-with_reply [] reply = []
-with_reply (a ∷ []) reply = record a { reply = Some reply } ∷ []
-with_reply (a ∷ b ∷ more) reply = a ∷ with_reply (b ∷ more) reply
+abbrev pub with_last_reply : {Op Reply : Type 0} → List (NotedAct Op Reply) → Reply → List (NotedAct Op Reply)
+with_last_reply [] reply = []
+with_last_reply (a ∷ []) reply = record a { reply = Some reply } ∷ []
+with_last_reply (a ∷ b ∷ more) reply = a ∷ with_last_reply (b ∷ more) reply
 
 -- and so the ticket, where there is a reply to note
-abbrev pub noted : {Op Reply : Type 0} → TicketState Op Reply → Option Reply → TicketState Op Reply
-noted t None = t
-noted t (Some reply) = record t { acts = with_reply t.acts reply }
+abbrev pub with_noted : {Op Reply : Type 0} → TicketState Op Reply → Option Reply → TicketState Op Reply
+with_noted t None = t
+with_noted t (Some reply) = record t { acts = with_last_reply t.acts reply }
 
 -- the act ends the session
 abbrev pub is_close : {Op : Type 0} → Act Op → Bool

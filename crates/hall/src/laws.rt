@@ -7,16 +7,16 @@ ghost use Rattle.object.specs.Happenings.{is_submitted};
 ghost use Rattle.ballot.specs.Members.{is_member};
 ghost use Rattle.ballot.specs.declared.letter.Letter.{Letter};
 ghost use Rattle.node.specs.Deeds.{outcome_of, IsAble};
+ghost use Rattle.node.specs.Outcomes.{key_placed};
 ghost use Rattle.node.specs.Receiving.{IsFit};
 ghost use Rattle.node.specs.declared.deed.Deed.{Deed};
 ghost use Rattle.network.specs.Networks.{node_of, mail_of, front, turn_of};
-ghost use Rattle.world.specs.Placing.{key_placed};
 ghost use Rattle.world.specs.Refusals.{most_events};
 ghost use Rattle.world.specs.Steps.{IsItsOwn};
 ghost use Rattle.world.specs.Tasks.{event_of};
 ghost use Rattle.world.specs.declared.event.Event.{Event};
 ghost use Rattle.world.specs.declared.event.Event.TheVariants.{Submit};
-ghost use Rattle.hall.specs.Recorded.{RecordedState, untouched, asked, done, HasReceived, lost, repeated, IsOwnDeed};
+ghost use Rattle.hall.specs.Recorded.{RecordedState, untouched, asked, done, HasReceived, without_front_letter, repeated, IsOwnDeed};
 ghost use Rattle.hall.specs.Shows.{IsShown, Follows, FollowsDelivery, ShowsOn};
 ghost use Rattle.hall.specs.Explained.{IsExplained, IsBegun};
 ghost use Rattle.hall.specs.HallLaws.{HallLaws};
@@ -43,7 +43,7 @@ pub fn every_hall<O: Object>()
     ensures receives { (k z : RecordedState O.Op O.Reply) (n : ℕ) (l : Letter (Command O.Op))
         → is_member k.network.members n ≡ true → front (mail_of k.network n) ≡ Some l
         → HasReceived k n l z → FollowsDelivery O.rules k l z }
-    ensures loses { (k : RecordedState O.Op O.Reply) (n : ℕ) → ShowsOn k (lost k n) }
+    ensures loses { (k : RecordedState O.Op O.Reply) (n : ℕ) → ShowsOn k (without_front_letter k n) }
     ensures repeats { (k : RecordedState O.Op O.Reply) (n : ℕ) (l : Letter (Command O.Op))
         → front (mail_of k.network n) ≡ Some l → ShowsOn k (repeated k n l) }
     ensures next { (k z : RecordedState O.Op O.Reply) (e : Event O.Op)

@@ -1,4 +1,4 @@
-ghost use Rattle.std.specs.Prelude.{◌≡◌, ◌<◌, true, Some, None, List, IfOk, OnOk, OnErr};
+ghost use Rattle.std.specs.Prelude.{◌≡◌, ◌<◌, true, Some, None, List, IsOk, IfOk, OnOk, OnErr};
 ghost use Rattle.object.specs.declared.command.Answer.{Answer};
 ghost use Rattle.object.specs.declared.command.Command.{Command};
 ghost use Rattle.object.specs.declared.command.Key.{Key};
@@ -6,18 +6,17 @@ ghost use Rattle.object.specs.Lists.{In};
 ghost use Rattle.object.specs.Happenings.{is_submitted};
 ghost use Rattle.ballot.specs.Members.{is_member};
 ghost use Rattle.ballot.specs.declared.letter.Letter.{Letter};
-ghost use Rattle.node.specs.Deeds.{outcome_of, IsAble};
+ghost use Rattle.node.specs.Deeds.{outcome_of, IsAble, ComesToNothing};
+ghost use Rattle.node.specs.Outcomes.{key_placed};
 ghost use Rattle.node.specs.Receiving.{IsFit};
 ghost use Rattle.network.specs.Networks.{node_of, mail_of, front, has_mail, turn_of};
 ghost use Rattle.world.specs.Refusals.{most_events};
-ghost use Rattle.world.specs.Kept.{reach_after};
-ghost use Rattle.world.specs.Placing.{key_placed};
-ghost use Rattle.hall.specs.Recorded.{untouched, asked, done, HasReceived, lost, repeated};
+ghost use Rattle.hall.specs.Recorded.{untouched, asked, done, HasReceived, without_front_letter, repeated};
 
-use ballot::{Members, Slot};
+use ballot::Members;
 use network::Network;
 use node::{Deed, Outcome};
-use object::{Command, Effect, Key, Object};
+use object::{Command, Object};
 use recorder::Recorder;
 use std::alloc::{AllocError, Global};
 use std::marker::Model;
@@ -92,14 +91,15 @@ impl<O: Object> RecordedNetwork<O> {
         ensures outcome { IfOk result (λ outcome.
             outcome ≡ outcome_of (node_of self.old.network node) deed) }
         ensures err { OnErr result (self.new ≡ self.old) }
+        ensures idle { ComesToNothing O.rules (node_of self.old.network node) deed → IsOk result }
     {
         let mut given = Vec::new(self.alloc);
         let outcome = self.network.act(node, deed, &mut given)?;
         self.recorder.answer_all(&mut given);
-        if let Some(key) = key_placed(self.reach, &outcome) {
+        if let Some(key) = outcome.key_placed(self.reach) {
             self.recorder.place(key);
         }
-        self.reach = reach_after(self.reach, &outcome);
+        self.reach = outcome.reach_after(self.reach);
         self.taken += 1;
         Ok(outcome)
     }
@@ -130,7 +130,7 @@ impl<O: Object> RecordedNetwork<O> {
     pub(crate) fn lose(&mut self, node: u8) -> bool
         requires { is_member self.old.network.members node ≡ true }
         ensures came { result ≡ has_mail self.old.network node }
-        ensures left { self.new ≡ lost self.old node }
+        ensures left { self.new ≡ without_front_letter self.old node }
     {
         self.network.lose(node)
     }
@@ -146,28 +146,5 @@ impl<O: Object> RecordedNetwork<O> {
         ensures err { OnErr result (self.new ≡ self.old) }
     {
         self.network.repeat(node)
-    }
-}
-
-// The key that takes effect with what came of a deed, or none: that of a slot past the reach, unless it is stale.
-fn key_placed(reach: u64, came: &Outcome) -> Option<Key>
-    ensures { result ≡ key_placed reach came.now }
-{
-    match came {
-        Outcome::Performed(performed)
-            if performed.slot.number() > reach && performed.effect == Effect::Done => {
-            Some(performed.key)
-        }
-        _ => None,
-    }
-}
-
-// The reach after what came of a deed.
-fn reach_after(reach: u64, came: &Outcome) -> u64
-    ensures { result ≡ reach_after reach came.now }
-{
-    match came {
-        Outcome::Performed(performed) => reach.max(performed.slot.number()),
-        _ => reach,
     }
 }

@@ -1,6 +1,6 @@
 ghost use Rattle.std.specs.Prelude.{◌≡◌, Some, OnOk, OnErr};
 ghost use Rattle.std.specs.Option.{option_copied};
-ghost use Rattle.hall.specs.Tickets.{new_ticket, last_key, next_key, last_noted, reply_of, with_act, without_last, noted};
+ghost use Rattle.hall.specs.Tickets.{new_ticket, last_key, next_key, last_noted, reply_of, with_act, without_last, with_noted};
 
 use object::{Act, Key, Object};
 use std::alloc::{AllocError, Global};
@@ -122,7 +122,7 @@ impl<O: Object> Ticket<O> {
 
     /// Notes a reply for the last act, where there is one.
     pub(crate) fn note(&mut self, reply: O::Reply)
-        ensures { self.new ≡ noted self.old (Some reply) }
+        ensures { self.new ≡ with_noted self.old (Some reply) }
     {
         if let Some(last) = self.acts.pop() {
             self.acts.push_reserved(last.with_reply(reply));

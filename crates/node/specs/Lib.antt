@@ -1,6 +1,7 @@
 pub mod Histories
 pub mod Nodes
 pub mod Deeds
+pub mod Outcomes
 pub mod Receiving
 pub mod Kept
 pub mod Turns

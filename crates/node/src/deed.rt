@@ -1,4 +1,7 @@
-use object::Command;
+ghost use Rattle.std.specs.Prelude.{◌≡◌};
+ghost use Rattle.node.specs.Outcomes.{reach_after, key_placed};
+
+use object::{Command, Effect, Key};
 use replica::Performed;
 
 /// What a node does by itself.
@@ -25,4 +28,30 @@ pub enum Outcome {
     Idle,
     Done,
     Performed(Performed),
+}
+
+impl Outcome {
+    /// The greatest slot that was performed, where it was this one before.
+    pub fn reach_after(&self, reach: u64) -> u64
+        ensures { result ≡ reach_after reach self.now }
+    {
+        match self {
+            Outcome::Performed(performed) => reach.max(performed.slot.number()),
+            _ => reach,
+        }
+    }
+
+    /// The key that takes effect, where the slots up to this one were performed before: that of a later slot, unless its
+    /// command is stale.
+    pub fn key_placed(&self, reach: u64) -> Option<Key>
+        ensures { result ≡ key_placed reach self.now }
+    {
+        match self {
+            Outcome::Performed(performed)
+                if performed.slot.number() > reach && performed.effect == Effect::Done => {
+                Some(performed.key)
+            }
+            _ => None,
+        }
+    }
 }

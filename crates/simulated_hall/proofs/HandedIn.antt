@@ -14,7 +14,7 @@ use Rattle.node.specs.declared.deed.Deed.{Deed}
 use Rattle.node.specs.Deeds.{outcome_of}
 use Rattle.network.specs.Networks.{node_of, turn_of}
 use Rattle.recorder.specs.Records.{Record, own_key, with_first_answers}
-use Rattle.world.specs.Placing.{key_placed}
+use Rattle.node.specs.Outcomes.{key_placed}
 use Rattle.hall.specs.Explained.{IsBegun}
 use Rattle.hall.specs.Recorded.{done, with_place_if}
 use Rattle.hall.specs.Halls.{HallState, with_nodes, after_tick, tick_of}

@@ -25,7 +25,8 @@ use Rattle.world.specs.Steps.{Step, submit, wake, nudge, propose, perform, resta
 use Rattle.ballot.specs.Members.{is_member}
 use Rattle.world.specs.Refusals.{most_events, IsAllowed, is_at_member}
 use Rattle.world.specs.Showing.{HasNode}
-use Rattle.world.specs.Kept.{HasNoted, IsNoted, submission_by, reach_after, key_past}
+use Rattle.node.specs.Outcomes.{reach_after}
+use Rattle.world.specs.Kept.{HasNoted, IsNoted, submission_by, key_past}
 use Rattle.world.proofs.Events.{next_world, own_event, has_node, boots}
 use Rattle.world.proofs.Noted.{noted_stays, performs_noted}
 use Rattle.node.specs.PlaceLaws.{node_at, put_at}

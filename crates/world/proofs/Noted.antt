@@ -11,7 +11,8 @@ use Rattle.world.specs.Chosen.{IsChosen}
 use Rattle.world.specs.Nodes.{node}
 use Rattle.world.specs.Worlds.{World, opening}
 use Rattle.node.specs.Deeds.{performs}
-use Rattle.world.specs.Kept.{HasNoted, key_past, reach_after}
+use Rattle.node.specs.Outcomes.{reach_after}
+use Rattle.world.specs.Kept.{HasNoted, key_past}
 use Rattle.world.specs.Reached.{IsReached}
 use Rattle.world.proofs.Invariants.{IsSound}
 use Rattle.world.proofs.Grows.{Grows}

@@ -20,8 +20,8 @@ use Rattle.world.specs.declared.event.Event.{Event}
 use Rattle.world.specs.Chosen.{IsChosen}
 use Rattle.world.specs.Nodes.{node}
 use Rattle.world.specs.Worlds.{World}
-use Rattle.world.specs.Kept.{reach_after}
-use Rattle.world.specs.Placing.{takes_effect, key_placed, placed_after}
+use Rattle.node.specs.Outcomes.{reach_after, takes_effect, key_placed}
+use Rattle.world.specs.Placing.{placed_after}
 use Rattle.world.specs.Reached.{IsReached, HasKey, HasPlaced}
 use Rattle.world.specs.Runs.{IsWorld}
 use Rattle.world.specs.Steps.{Step, submit, deliver, wake, nudge, propose, perform, restart, performed}

@@ -1,5 +1,5 @@
 -- How a world keeps its nodes, and what an event adds to what it keeps.
-use Rattle.std.specs.Prelude.{◌≡◌, ℕ, nat_lt, max, List, map, Option, None, Some, if◌then◌else◌}
+use Rattle.std.specs.Prelude.{◌≡◌, ℕ, nat_lt, List, map, Option, None, Some, if◌then◌else◌}
 use Rattle.object.specs.declared.command.Command.{Command}
 use Rattle.object.specs.declared.command.Key.{Key}
 use Rattle.object.specs.declared.command.Submission.{Submission}
@@ -61,12 +61,6 @@ submission_by deeds.Nudge submitted after = None
 submission_by deeds.Propose submitted after = None
 submission_by deeds.Perform submitted after = None
 submission_by deeds.Restart submitted after = None
-
--- the reach after what came of a deed
-abbrev pub reach_after : ℕ → Outcome → ℕ
-reach_after reach Idle = reach
-reach_after reach Done = reach
-reach_after reach (Performed p) = max reach p.slot
 
 -- the key that is noted then, or none: that of a slot past the reach
 abbrev pub key_past : ℕ → Outcome → Option Key

@@ -1,28 +1,14 @@
 -- The keys of what took effect, from event to event.
-use Rattle.std.specs.Prelude.{ℕ, Bool, true, false, ◌&&◌, nat_lt, if◌then◌else◌, List, ◌++◌, Option, None, Some}
+use Rattle.std.specs.Prelude.{List, ◌++◌}
 use Rattle.std.specs.Option.{option_to_list}
 use Rattle.object.specs.declared.command.Key.{Key}
-use Rattle.object.specs.declared.once.Effect.{Effect}
-use Rattle.object.specs.declared.once.Effect.TheVariants as effects
 use Rattle.node.specs.Deeds.{outcome_of}
 use Rattle.node.specs.declared.deed.Deed.TheVariants as deeds
-use Rattle.node.specs.declared.deed.Outcome.{Outcome}
-use Rattle.node.specs.declared.deed.Outcome.TheVariants.{Idle, Done, Performed}
+use Rattle.node.specs.Outcomes.{key_placed}
 use Rattle.world.specs.Nodes.{node}
 use Rattle.world.specs.Worlds.{World}
 use Rattle.world.specs.declared.event.Event.{Event}
 use Rattle.world.specs.declared.event.Event.TheVariants.{Submit, Deliver, Wake, Nudge, Propose, Perform, Restart}
-
--- the command isn't stale
-abbrev pub takes_effect : Effect → Bool
-takes_effect effects.Done = true
-takes_effect effects.Stale = false
-
--- the key that takes effect with what came of a deed, or none: that of a slot past the reach, unless its command is stale
-abbrev pub key_placed : ℕ → Outcome → Option Key
-key_placed reach Idle = None
-key_placed reach Done = None
-key_placed reach (Performed p) = if nat_lt reach p.slot && takes_effect p.effect then Some p.key else None
 
 -- the keys in their order after the event: one more, where a replica performs past the reach what isn't stale
 abbrev pub placed_after : {Op Reply : Type 0} → World Op Reply → Event Op → List Key → List Key

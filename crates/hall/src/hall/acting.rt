@@ -1,7 +1,7 @@
-ghost use Rattle.std.specs.Prelude.{◌≡◌, None, Some, IfOk, IfErr, OnOk, OnErr, is_some};
+ghost use Rattle.std.specs.Prelude.{◌≡◌, None, Some, IsOk, IfOk, IfErr, OnOk, OnErr, is_some};
 ghost use Rattle.slot_log.specs.Decisions.{next_decided};
 ghost use Rattle.slot_log.specs.Proposals.{next_proposal};
-ghost use Rattle.node.specs.Deeds.{outcome_of};
+ghost use Rattle.node.specs.Deeds.{outcome_of, ComesToNothing};
 ghost use Rattle.node.specs.declared.deed.Deed.TheVariants as deeds;
 ghost use Rattle.network.specs.Networks.{node_of};
 ghost use Rattle.world.specs.Tasks.{event_of};
@@ -32,6 +32,9 @@ impl<O: Object> Hall<O> {
         ensures refused { (r : HallError) → event_refusal self.old node ≡ Some r → result ≡ Err r }
         ensures memory { event_refusal self.old node ≡ None →
             IfErr result (λ r. r ≡ OutOfMemory) }
+        ensures idle { event_refusal self.old node ≡ None →
+            ComesToNothing O.rules (node_of self.old.nodes.network node) deeds.Wake →
+            IsOk result }
     {
         self.act(node, Deed::Wake)?;
         Ok(())
@@ -66,6 +69,8 @@ impl<O: Object> Hall<O> {
         ensures refused { (r : HallError) → event_refusal self.old node ≡ Some r → result ≡ Err r }
         ensures memory { event_refusal self.old node ≡ None →
             IfErr result (λ r. r ≡ OutOfMemory) }
+        ensures idle { event_refusal self.old node ≡ None →
+            next_proposal (node_of self.old.nodes.network node).replica ≡ None → IsOk result }
     {
         let outcome = self.act(node, Deed::Propose)?;
         Ok(has_done(&outcome))
@@ -84,6 +89,8 @@ impl<O: Object> Hall<O> {
         ensures refused { (r : HallError) → event_refusal self.old node ≡ Some r → result ≡ Err r }
         ensures memory { event_refusal self.old node ≡ None →
             IfErr result (λ r. r ≡ OutOfMemory) }
+        ensures idle { event_refusal self.old node ≡ None →
+            next_decided (node_of self.old.nodes.network node).replica ≡ None → IsOk result }
     {
         let outcome = self.act(node, Deed::Perform)?;
         Ok(has_done(&outcome))
@@ -119,6 +126,8 @@ impl<O: Object> Hall<O> {
         ensures refused { (r : HallError) → event_refusal self.old node ≡ Some r → result ≡ Err r }
         ensures memory { event_refusal self.old node ≡ None →
             IfErr result (λ r. r ≡ OutOfMemory) }
+        ensures idle { event_refusal self.old node ≡ None →
+            ComesToNothing O.rules (node_of self.old.nodes.network node) deed → IsOk result }
     {
         laws_below::<O>();
         if let Some(refused) = self.event_refusal(node) {

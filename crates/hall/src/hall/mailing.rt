@@ -4,7 +4,7 @@ ghost use Rattle.ballot.specs.declared.letter.Letter.{Letter};
 ghost use Rattle.network.specs.Networks.{mail_of, front, has_mail};
 ghost use Rattle.hall.specs.declared.error.HallError.{HallError};
 ghost use Rattle.hall.specs.declared.error.HallError.TheVariants.{OutOfMemory, NoSuchNode};
-ghost use Rattle.hall.specs.Recorded.{RecordedState, HasReceived, lost, repeated};
+ghost use Rattle.hall.specs.Recorded.{RecordedState, HasReceived, without_front_letter, repeated};
 ghost use Rattle.hall.specs.Shows.{FollowsDelivery, ShowsOn};
 ghost use Rattle.hall.specs.Halls.{with_nodes};
 ghost use Rattle.hall.specs.Refusals.{event_refusal, node_refusal};
@@ -44,7 +44,7 @@ impl<O: Object> Hall<O> {
     /// Drops the letter in front of a node's mail; false where there is none. It takes no memory.
     pub fn lose(&mut self, node: u8) -> Result<bool, HallError>
         ensures came { IfOk result (λ came. came ≡ has_mail self.old.nodes.network node) }
-        ensures ok { OnOk result (self.new ≡ with_nodes self.old (lost self.old.nodes node)) }
+        ensures ok { OnOk result (self.new ≡ with_nodes self.old (without_front_letter self.old.nodes node)) }
         ensures still { ShowsOn self.old.nodes self.new.nodes }
         ensures past { self.new.nodes.past ≡ self.old.nodes.past }
         ensures err { OnErr result (self.new ≡ self.old) }

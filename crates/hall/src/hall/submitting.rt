@@ -1,4 +1,4 @@
-ghost use Rattle.std.specs.Prelude.{◌≡◌, ◌<◌, true, false, None, Some, IfOk, IfErr, OnOk, OnErr, max};
+ghost use Rattle.std.specs.Prelude.{◌≡◌, ◌<◌, true, false, None, Some, IsOk, IfOk, IfErr, OnOk, OnErr, max};
 ghost use Rattle.object.specs.declared.command.Command.{Command};
 ghost use Rattle.ballot.specs.Members.{is_member};
 ghost use Rattle.world.specs.Refusals.{most_events};
@@ -9,7 +9,7 @@ ghost use Rattle.hall.specs.declared.ticket.NotedAct.{NotedAct};
 ghost use Rattle.hall.specs.Recorded.{asked};
 ghost use Rattle.hall.specs.Shows.{Follows};
 ghost use Rattle.hall.specs.Explained.{IsBegun};
-ghost use Rattle.hall.specs.Books.{IsNext};
+ghost use Rattle.hall.specs.Books.{IsNextKey};
 ghost use Rattle.hall.specs.Tickets.{next_command, last_command, last_noted, with_act, is_tick};
 ghost use Rattle.hall.specs.Halls.{after_submit, after_tick, with_nodes, tick_of};
 ghost use Rattle.hall.specs.Refusals.{submit_refusal, resubmit_refusal, tick_refusal};
@@ -70,6 +70,8 @@ impl<O: Object> Hall<O> {
             resubmit_refusal O.Op.eq self.old ticket.now node ≡ Some r → result ≡ Err r }
         ensures memory { resubmit_refusal O.Op.eq self.old ticket.now node ≡ None →
             IfErr result (λ r. r ≡ OutOfMemory) }
+        ensures idle { resubmit_refusal O.Op.eq self.old ticket.now node ≡ None →
+            last_noted ticket.now ≡ None → IsOk result }
     {
         laws_below::<O>();
         if let Some(refused) = self.resubmit_refusal(ticket, node) {
@@ -114,7 +116,7 @@ impl<O: Object> Hall<O> {
     fn submit_next(&mut self, key: Key, act: Act<O::Op>, node: u8) -> Result<(), HallError>
         requires member { is_member self.old.nodes.network.members node ≡ true }
         requires room { self.old.nodes.taken < most_events }
-        requires next { IsNext self.old.book key }
+        requires next { IsNextKey self.old.book key }
         requires own { is_tick act ≡ false }
         ensures ok { OnOk result (self.new
             ≡ after_submit O.rules self.old node (record { key = key; act = act })) }

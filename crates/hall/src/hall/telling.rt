@@ -1,8 +1,8 @@
-ghost use Rattle.std.specs.Prelude.{◌≡◌, is_some, IfOk, OnOk, OnErr};
+ghost use Rattle.std.specs.Prelude.{◌≡◌, None, is_some, IsOk, IfOk, OnOk, OnErr};
 ghost use Rattle.std.specs.Option.{option_copied};
 ghost use Rattle.hall.specs.Explained.{IsExplained};
 ghost use Rattle.hall.specs.Halls.{reply_to, to_note, chronicle_of};
-ghost use Rattle.hall.specs.Tickets.{last_key, noted};
+ghost use Rattle.hall.specs.Tickets.{last_key, with_noted};
 
 use super::Hall;
 use crate::laws::every_hall;
@@ -25,8 +25,9 @@ impl<O: Object> Hall<O> {
     /// Notes a copy of the answer to the ticket's last command in the ticket; false where there is none, or it is noted.
     pub fn note(&self, ticket: &mut Ticket<O>) -> Result<bool, AllocError>
         ensures does { IfOk result (λ does. does ≡ is_some (to_note self.now ticket.old)) }
-        ensures noted { OnOk result (ticket.new ≡ noted ticket.old (to_note self.now ticket.old)) }
+        ensures noted { OnOk result (ticket.new ≡ with_noted ticket.old (to_note self.now ticket.old)) }
         ensures err { OnErr result (ticket.new ≡ ticket.old) }
+        ensures idle { to_note self.now ticket.old ≡ None → IsOk result }
     {
         if ticket.noted().is_some() {
             return Ok(false);

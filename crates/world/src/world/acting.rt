@@ -4,7 +4,7 @@ ghost use Rattle.world.specs.declared.event.Event.TheVariants as events;
 ghost use Rattle.world.specs.Tasks.{event_of};
 ghost use Rattle.world.specs.Steps.{Step, AsksForItsOwn};
 ghost use Rattle.world.specs.Refusals.{most_events};
-ghost use Rattle.world.specs.Kept.{key_past, reach_after};
+ghost use Rattle.world.specs.Kept.{key_past};
 
 use super::World;
 use crate::submissions::{push_in_room, submission_by};
@@ -32,7 +32,7 @@ impl<O: Object> World<O> {
         let came = node.act(deed, &mut self.letters, &mut self.answers)?;
         push_in_room(&mut self.submitted, added);
         push_in_room(&mut self.performed, key_past(self.reach, &came));
-        self.reach = reach_after(self.reach, &came);
+        self.reach = came.reach_after(self.reach);
         self.taken += 1;
         Ok(())
     }
@@ -72,15 +72,5 @@ fn key_past(reach: u64, came: &Outcome) -> Option<Key>
     match came {
         Outcome::Performed(performed) if performed.slot.number() > reach => Some(performed.key),
         _ => None,
-    }
-}
-
-// The reach after what came of a deed.
-fn reach_after(reach: u64, came: &Outcome) -> u64
-    ensures { result ≡ reach_after reach came.now }
-{
-    match came {
-        Outcome::Performed(performed) => reach.max(performed.slot.number()),
-        _ => reach,
     }
 }
