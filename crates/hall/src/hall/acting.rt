@@ -28,6 +28,7 @@ impl<O: Object> Hall<O> {
         ensures event { OnOk result
             (Follows O.rules self.old.nodes (events.Wake node) self.new.nodes) }
         ensures begun { IsBegun self.old.nodes.past self.new.nodes.past }
+        ensures book { self.new.book ≡ self.old.book }
         ensures err { OnErr result (self.new ≡ self.old) }
         ensures refused { (r : HallError) → event_refusal self.old node ≡ Some r → result ≡ Err r }
         ensures memory { event_refusal self.old node ≡ None →
@@ -47,6 +48,7 @@ impl<O: Object> Hall<O> {
         ensures event { OnOk result
             (Follows O.rules self.old.nodes (events.Nudge node) self.new.nodes) }
         ensures begun { IsBegun self.old.nodes.past self.new.nodes.past }
+        ensures book { self.new.book ≡ self.old.book }
         ensures err { OnErr result (self.new ≡ self.old) }
         ensures refused { (r : HallError) → event_refusal self.old node ≡ Some r → result ≡ Err r }
         ensures memory { event_refusal self.old node ≡ None →
@@ -65,6 +67,7 @@ impl<O: Object> Hall<O> {
         ensures event { OnOk result
             (Follows O.rules self.old.nodes (events.Propose node) self.new.nodes) }
         ensures begun { IsBegun self.old.nodes.past self.new.nodes.past }
+        ensures book { self.new.book ≡ self.old.book }
         ensures err { OnErr result (self.new ≡ self.old) }
         ensures refused { (r : HallError) → event_refusal self.old node ≡ Some r → result ≡ Err r }
         ensures memory { event_refusal self.old node ≡ None →
@@ -85,6 +88,7 @@ impl<O: Object> Hall<O> {
         ensures event { OnOk result
             (Follows O.rules self.old.nodes (events.Perform node) self.new.nodes) }
         ensures begun { IsBegun self.old.nodes.past self.new.nodes.past }
+        ensures book { self.new.book ≡ self.old.book }
         ensures err { OnErr result (self.new ≡ self.old) }
         ensures refused { (r : HallError) → event_refusal self.old node ≡ Some r → result ≡ Err r }
         ensures memory { event_refusal self.old node ≡ None →
@@ -103,6 +107,7 @@ impl<O: Object> Hall<O> {
         ensures event { OnOk result
             (Follows O.rules self.old.nodes (events.Restart node) self.new.nodes) }
         ensures begun { IsBegun self.old.nodes.past self.new.nodes.past }
+        ensures book { self.new.book ≡ self.old.book }
         ensures err { OnErr result (self.new ≡ self.old) }
         ensures refused { (r : HallError) → event_refusal self.old node ≡ Some r → result ≡ Err r }
         ensures memory { event_refusal self.old node ≡ None →
@@ -122,6 +127,7 @@ impl<O: Object> Hall<O> {
         ensures event { OnOk result
             (Follows O.rules self.old.nodes (event_of node deed) self.new.nodes) }
         ensures begun { IsBegun self.old.nodes.past self.new.nodes.past }
+        ensures book { self.new.book ≡ self.old.book }
         ensures err { OnErr result (self.new ≡ self.old) }
         ensures refused { (r : HallError) → event_refusal self.old node ≡ Some r → result ≡ Err r }
         ensures memory { event_refusal self.old node ≡ None →

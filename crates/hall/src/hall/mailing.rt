@@ -28,6 +28,7 @@ impl<O: Object> Hall<O> {
         ensures none { OnOk result (front (mail_of self.old.nodes.network node) ≡ None
             → self.new ≡ self.old) }
         ensures past { self.new.nodes.past ≡ self.old.nodes.past }
+        ensures book { self.new.book ≡ self.old.book }
         ensures err { OnErr result (self.new ≡ self.old) }
         ensures refused { (r : HallError) → event_refusal self.old node ≡ Some r → result ≡ Err r }
         ensures memory { event_refusal self.old node ≡ None →
@@ -47,6 +48,7 @@ impl<O: Object> Hall<O> {
         ensures ok { OnOk result (self.new ≡ with_nodes self.old (without_front_letter self.old.nodes node)) }
         ensures still { ShowsOn self.old.nodes self.new.nodes }
         ensures past { self.new.nodes.past ≡ self.old.nodes.past }
+        ensures book { self.new.book ≡ self.old.book }
         ensures err { OnErr result (self.new ≡ self.old) }
         ensures refused { (r : HallError) → node_refusal self.old node ≡ Some r → result ≡ Err r }
         ensures succeeds { node_refusal self.old node ≡ None → IsOk result }
@@ -68,6 +70,7 @@ impl<O: Object> Hall<O> {
             → self.new ≡ self.old) }
         ensures still { ShowsOn self.old.nodes self.new.nodes }
         ensures past { self.new.nodes.past ≡ self.old.nodes.past }
+        ensures book { self.new.book ≡ self.old.book }
         ensures err { OnErr result (self.new ≡ self.old) }
         ensures refused { (r : HallError) → node_refusal self.old node ≡ Some r → result ≡ Err r }
         ensures memory { node_refusal self.old node ≡ None → IfErr result (λ r. r ≡ OutOfMemory) }

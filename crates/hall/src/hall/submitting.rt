@@ -10,7 +10,7 @@ ghost use Rattle.hall.specs.Recorded.{asked};
 ghost use Rattle.hall.specs.Shows.{Follows};
 ghost use Rattle.hall.specs.Explained.{IsBegun};
 ghost use Rattle.hall.specs.Books.{IsNextKey};
-ghost use Rattle.hall.specs.Tickets.{next_command, last_command, last_noted, with_act, is_tick};
+ghost use Rattle.hall.specs.Tickets.{next_key, next_command, last_command, last_noted, with_act, is_tick};
 ghost use Rattle.hall.specs.Halls.{after_submit, after_tick, with_nodes, tick_of};
 ghost use Rattle.hall.specs.Refusals.{submit_refusal, resubmit_refusal, tick_refusal};
 
@@ -33,6 +33,7 @@ impl<O: Object> Hall<O> {
             ≡ after_submit O.rules self.old node (next_command ticket.old act)) }
         ensures event { OnOk result (Follows O.rules self.old.nodes
             (Submit node (next_command ticket.old act)) self.new.nodes) }
+        ensures next { OnOk result (IsNextKey self.old.book (next_key ticket.old)) }
         ensures ticket { OnOk result (ticket.new ≡ with_act ticket.old act) }
         ensures begun { IsBegun self.old.nodes.past self.new.nodes.past }
         ensures err { OnErr result (self.new ≡ self.old) }
@@ -65,6 +66,7 @@ impl<O: Object> Hall<O> {
             (Submit node (last_command ticket.now noted.act)) self.new.nodes) }
         ensures none { OnOk result (last_noted ticket.now ≡ None → self.new ≡ self.old) }
         ensures past { self.new.nodes.past ≡ self.old.nodes.past }
+        ensures book { self.new.book ≡ self.old.book }
         ensures err { OnErr result (self.new ≡ self.old) }
         ensures refused { (r : HallError) →
             resubmit_refusal O.Op.eq self.old ticket.now node ≡ Some r → result ≡ Err r }
@@ -92,6 +94,7 @@ impl<O: Object> Hall<O> {
         ensures event { OnOk result (Follows O.rules self.old.nodes
             (Submit node (tick_of second)) self.new.nodes) }
         ensures begun { IsBegun self.old.nodes.past self.new.nodes.past }
+        ensures book { self.new.book ≡ self.old.book }
         ensures err { OnErr result (self.new ≡ self.old) }
         ensures refused { (r : HallError) → tick_refusal self.old second node ≡ Some r →
             result ≡ Err r }

@@ -1,0 +1,47 @@
+-- What a session says of a service, as it is said of what is seen of that service.
+use Rattle.std.proofs.Common.{ℕ, List, [], ◌∷◌, Option, Result, Ok, Err, IfOk, ap}
+use Rattle.bean_queue.specs.declared.op.Op.{Op}
+use Rattle.session.specs.declared.faults.End.{End}
+use Rattle.session.specs.declared.faults.ServiceFault.{ServiceFault}
+use Rattle.session.specs.Items.{Answer, operations}
+use Rattle.session.specs.Serving.{Asks, Asked, Closes, Whole, StopsAt, Partly, BreaksOff, ClosedAfter, ClosedOnce, Over}
+
+module _ {S T : Type 0} (seen : S → T) (asks : Asks T) (closes : Closes T) where
+  abbrev pub AsksBy : Asks S
+  AsksBy old op result new = asks (seen old) op result (seen new)
+
+  abbrev pub ClosesBy : Closes S
+  ClosesBy old result new = closes (seen old) result (seen new)
+
+  pub asked : (old new : S) (ops : List Op) (answers : List Answer) → Asked AsksBy old ops answers new → Asked asks (seen old) ops answers (seen new)
+  asked old new [] [] a = ap seen a
+  asked old new [] (x ∷ answers) a = absurd a
+  asked old new (op ∷ ops) [] a = absurd a
+  asked old new (op ∷ ops) (x ∷ answers) a = (seen a.0, a.1, asked a.0 new ops answers a.2)
+
+  pub whole : (old new : S) (input output : List ℕ) (end : End) → Whole AsksBy old new input output end → Whole asks (seen old) (seen new) input output end
+  whole old new input output end w = (w.0, w.1, w.2, asked old new (operations w.0) w.1 w.3, w.4)
+
+  pub stops_at : (old new : S) (input output : List ℕ) → StopsAt AsksBy old new input output → StopsAt asks (seen old) (seen new) input output
+  stops_at old new input output s = (s.0, s.1, s.2, s.3, seen s.4, s.5, asked old s.4 (operations s.0) s.1 s.6, s.7, s.8)
+
+  pub partly : (old new : S) (input output : List ℕ) → Partly AsksBy old new input output → Partly asks (seen old) (seen new) input output
+  partly old new input output p = (p.0, p.1, p.2, p.3, p.4, p.5, asked old new _ p.2 p.6, p.7)
+
+  pub breaks_off : (old new : S) (input output : List ℕ) → BreaksOff AsksBy old new input output → BreaksOff asks (seen old) (seen new) input output
+  breaks_off old new input output b = (b.0, b.1, b.2, b.3, b.4, b.5, b.6, b.7, asked old new _ b.2 b.8, b.9, b.10)
+
+  module _ (P : S → Type 0) (Q : T → Type 0) (f : (s : S) → P s → Q (seen s)) where
+    pub closed_after : (r : Result Unit ServiceFault) (new : S) → ClosedAfter ClosesBy P r new → ClosedAfter closes Q r (seen new)
+    closed_after r new c = (seen c.0, f c.0 c.1, c.2)
+
+    pub closed_once : (new : S) → ClosedOnce ClosesBy P new → ClosedOnce closes Q (seen new)
+    closed_once new c = (c.0, closed_after c.0 new c.1)
+
+-- over the same streams
+pub over : (a b h k : Option (List ℕ)) (P Q : List ℕ → List ℕ → Type 0) → ((input output : List ℕ) → P input output → Q input output) → Over a b h k P → Over a b h k Q
+over a b h k P Q f o = (o.0, o.1, o.2, o.3, f o.0 o.1 o.4)
+
+pub if_ok : {X E : Type 0} (r : Result X E) (P Q : X → Type 0) → ((x : X) → P x → Q x) → IfOk r P → IfOk r Q
+if_ok (Ok x) P Q f p = f x p
+if_ok (Err e) P Q f p = tt

@@ -1,0 +1,13 @@
+use Rattle.std.proofs.Common.{◌∙◌, ◌+◌, length, sum, sym, ap}
+use Rattle.hall.specs.Halls.{HallState}
+use Rattle.node_threads.proofs.Counts.{book_sum, book_length}
+use Rattle.node_threads.proofs.counted_hall.CountedHall.submit.Goals as goal
+
+pub invariant_of-self-2 : goal.invariant_of-self-2
+invariant_of-self-2 g c =
+    let book = ap (λ (h : HallState _ _). h.book) c.in_ok-submit.ensures.ok in
+    let next = c.in_ok-submit.ensures.next in
+    record {
+      opened = ap (λ b. length b) book ∙ book_length c.args.self.now.hall.book _ _ ∙ c.args.self.now.opened;
+      handed_in = ap sum book ∙ book_sum c.args.self.now.hall.book _ _ next.opened next.number ∙ ap (λ n. n + 1) c.args.self.now.handed_in ∙ sym c.add.ensures.total;
+    }

@@ -1,0 +1,107 @@
+ghost use Rattle.std.specs.Prelude.{◌≡◌, ◌+◌, Option, Some, IfOk, IfErr, OnOk, OnErr};
+ghost use Rattle.session.specs.declared.faults.ServiceFault.TheVariants.{Stopped};
+ghost use Rattle.hall.specs.Tickets.{with_act, with_noted};
+
+use crate::gate::{Actor, Gate, Point};
+use crate::shared::Shared;
+use bean_queue::{Op, Reply};
+use hall::{HallError, Ticket};
+use object::{Act, Object, Value};
+use session::{Service, ServiceFault};
+use std::sync::Wait;
+use std::sync::ledger::{Ledger, Share};
+
+/// A worker with the ticket of the client that it serves: it hands in what the client asks for, and waits for the answer.
+#[derive(Drop)]
+pub(crate) struct Attendant<'a, O: Object, S: Ledger, C: Ledger, R, G> {
+    pub(crate) rt: &'a R,
+    pub(crate) shared: &'a Shared<O, S, C>,
+    pub(crate) gate: &'a G,
+    pub(crate) worker: u32,
+    /// The node at which it hands in.
+    pub(crate) node: u8,
+    pub(crate) ticket: Ticket<O>,
+    /// How many commands it has handed in.
+    pub(crate) commands: Share<C>,
+    ghost one_part: { commands.parts ≡ 1 },
+}
+
+impl<'a, O: Object<Op = Op, Reply = Reply>, S: Ledger, C: Ledger, R: Wait, G: Gate> Service
+    for Attendant<'a, O, S, C, R, G>
+{
+    ghost use Rattle.node_threads.specs.Attending.{Adds, Ends, held_by};
+
+    ghost asks = { λ old op result new. Adds (held_by old.ticket old.commands.amount) op result
+        (held_by new.ticket new.commands.amount) };
+
+    ghost closes = { λ old result new. Ends (held_by old.ticket old.commands.amount) result
+        (held_by new.ticket new.commands.amount) };
+
+    fn ask(&mut self, op: Op) -> Result<Reply, ServiceFault> {
+        self.gate.at(Actor::Worker(self.worker), Point::Asked);
+        self.hand_in(Act::Do(op))?;
+        let reply = self.answer()?;
+        self.gate.at(Actor::Worker(self.worker), Point::Answered);
+        Ok(reply)
+    }
+
+    fn close(&mut self) -> Result<(), ServiceFault> {
+        for _ in self.rt.forever() {
+            match self.hand_in(Act::Close) {
+                Ok(()) => return Ok(()),
+                Err(ServiceFault::Refused) => std::thread::yield_now(),
+                Err(ServiceFault::Stopped) => return Err(ServiceFault::Stopped),
+            }
+        }
+        unreachable!()
+    }
+}
+
+impl<'a, O: Object, S: Ledger, C: Ledger, R: Wait, G> Attendant<'a, O, S, C, R, G> {
+    // Hands in the session's next command.
+    fn hand_in(&mut self, act: Act<O::Op>) -> Result<(), ServiceFault>
+        ensures ticket { OnOk result (self.new.ticket ≡ with_act self.old.ticket act) }
+        ensures counted { OnOk result
+            (self.new.commands.amount ≡ self.old.commands.amount + 1) }
+        ensures kept { OnErr result (self.new.ticket ≡ self.old.ticket) }
+        ensures err { OnErr result
+            (self.new.commands.amount ≡ self.old.commands.amount) }
+    {
+        let Attendant {
+            rt,
+            shared,
+            ticket,
+            commands,
+            node,
+            ..
+        } = self;
+        match shared.submit(*rt, commands, ticket, act, *node) {
+            Ok(()) => Ok(()),
+            Err(HallError::OutOfMemory) => Err(ServiceFault::Refused),
+            Err(_) => Err(ServiceFault::Stopped),
+        }
+    }
+
+    // Waits for the answer to it.
+    fn answer(&mut self) -> Result<O::Reply, ServiceFault>
+        ensures noted { IfOk result (λ reply.
+            self.new.ticket ≡ with_noted self.old.ticket (Some reply)) }
+        ensures stopped { IfErr result (λ fault. (fault ≡ Stopped)
+            × ((noted : Option O.Reply) × (self.new.ticket ≡ with_noted self.old.ticket noted))) }
+        ensures commands { self.new.commands ≡ self.old.commands }
+    {
+        let Ok(()) =
+            self.shared
+                .note_answer(self.rt, &mut self.ticket, self.worker, self.node)
+        else {
+            return Err(ServiceFault::Stopped);
+        };
+        let Some(reply) = self.ticket.noted() else {
+            return Err(ServiceFault::Stopped);
+        };
+        match reply.copy() {
+            Ok(reply) => Ok(reply),
+            Err(_) => Err(ServiceFault::Stopped),
+        }
+    }
+}

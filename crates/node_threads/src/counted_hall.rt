@@ -1,0 +1,79 @@
+ghost use Rattle.std.specs.Prelude.{◌≡◌, ◌+◌, ◌<◌, ℕ, length, sum, IfOk, OnOk, OnErr};
+ghost use Rattle.hall.specs.Tickets.{new_ticket, with_act};
+
+use hall::{Hall, HallError, Ticket};
+use object::{Act, Object};
+use std::sync::ledger::{Book, Ledger, Share};
+
+/// A hall, and beside it how many sessions were opened there and how many commands these handed in. The counts are the
+/// totals of two ledgers, in which each thread has its share.
+#[derive(Drop)]
+pub(crate) struct CountedHall<O: Object, S: Ledger, C: Ledger> {
+    hall: Hall<O>,
+    sessions: Book<S>,
+    commands: Book<C>,
+    ghost opened: { length hall.book ≡ sessions.total },
+    ghost handed_in: { sum hall.book ≡ commands.total },
+}
+
+impl<O: Object, S: Ledger, C: Ledger> CountedHall<O, S, C> {
+    /// Opens a session, which counts in this share.
+    pub(crate) fn open_session(&mut self, mine: &mut Share<S>) -> Result<Ticket<O>, HallError>
+        requires { 0 < mine.old.parts }
+        ensures ticket { IfOk result (λ t. (session : ℕ) × (t ≡ new_ticket session)) }
+        ensures counted { OnOk result (mine.new.amount ≡ mine.old.amount + 1) }
+        ensures err { OnErr result (mine.new.amount ≡ mine.old.amount) }
+        ensures parts { mine.new.parts ≡ mine.old.parts }
+    {
+        let CountedHall {
+            hall,
+            sessions,
+            commands: _,
+        } = self;
+        let ticket = hall.open_session()?;
+        sessions.add(mine, 1);
+        Ok(ticket)
+    }
+
+    /// Hands in the next command of a session, which counts in this share.
+    pub(crate) fn submit(
+        &mut self,
+        mine: &mut Share<C>,
+        ticket: &mut Ticket<O>,
+        act: Act<O::Op>,
+        node: u8,
+    ) -> Result<(), HallError>
+        requires { 0 < mine.old.parts }
+        ensures ticket { OnOk result (ticket.new ≡ with_act ticket.old act) }
+        ensures counted { OnOk result (mine.new.amount ≡ mine.old.amount + 1) }
+        ensures kept { OnErr result (ticket.new ≡ ticket.old) }
+        ensures err { OnErr result (mine.new.amount ≡ mine.old.amount) }
+        ensures parts { mine.new.parts ≡ mine.old.parts }
+    {
+        let CountedHall {
+            hall,
+            sessions: _,
+            commands,
+        } = self;
+        hall.submit(ticket, act, node)?;
+        commands.add(mine, 1);
+        Ok(())
+    }
+
+    /// Hands the last command of a session in again.
+    pub(crate) fn resubmit(&mut self, ticket: &Ticket<O>, node: u8) -> Result<(), HallError> {
+        let CountedHall {
+            hall,
+            sessions: _,
+            commands: _,
+        } = self;
+        hall.resubmit(ticket, node)
+    }
+
+    /// The hall, to look at it.
+    pub(crate) fn hall(&self) -> &Hall<O>
+        ensures { result.now ≡ self.now.hall }
+    {
+        &self.hall
+    }
+}
