@@ -1,6 +1,7 @@
-//! A hall of queues on which sessions put, reserve and delete, and which says when it comes by some of the commands.
+//! A hall of queues on which sessions put, reserve and delete, and what the commands cost, for `bench/hall_growth`.
 //!
-//! It reads how many nodes there are and how many jobs. `bench/hall_growth` reads the time at each line that it writes.
+//! It reads how many nodes there are and how many jobs, and whether it tells the processor time. It writes a line after
+//! some of the jobs.
 #![tactic(auto)]
 
 use ballot::Members;
@@ -8,8 +9,8 @@ use bean_queue::{Body, Op, Queue, Reply};
 use hall::{Hall, Ticket};
 use object::Act;
 use std::alloc::Global;
-use std::io::Write;
 use std::process::ExitCode;
+use std::time::CpuClock;
 
 /// So many jobs come before those that are timed first.
 const WARM_UP: u64 = 1_000;
@@ -30,29 +31,39 @@ fn main(rt: HostRuntime) -> ExitCode {
 fn run(rt: &HostRuntime) -> Option<()> {
     let mut line = String::new(rt.alloc());
     rt.read_line(&mut line).ok()?;
-    let (nodes, jobs) = line.trim().split_once(' ')?;
-    let nodes: u8 = nodes.parse().ok()?;
-    let jobs: u32 = jobs.parse().ok()?;
-    let members = Members::new(nodes)?;
-    handle_all(rt.alloc(), members, jobs, &mut rt.stdout())
+    let mut words = line.split_whitespace();
+    let nodes: u8 = words.next()?.parse().ok()?;
+    let jobs: u32 = words.next()?.parse().ok()?;
+    let is_timed = words.next().is_some();
+    handle_all(rt, Members::new(nodes)?, jobs, is_timed)
 }
 
 // So many jobs, one after the other, by two sessions in turn.
-fn handle_all<W: Write>(alloc: Global, members: Members, jobs: u32, out: &mut W) -> Option<()> {
+fn handle_all(rt: &HostRuntime, members: Members, jobs: u32, is_timed: bool) -> Option<()> {
     let jobs = u64::from(jobs);
     let marks = [WARM_UP, WARM_UP + TIMED, jobs.saturating_sub(TIMED), jobs];
-    let mut hall = Hall::new(alloc, members).ok()?;
+    let mut hall = Hall::new(rt.alloc(), members).ok()?;
     let mut odd = hall.open_session().ok()?;
     let mut even = hall.open_session().ok()?;
     hall.wake(1).ok()?;
     for job in 1..jobs + 1 {
         let ticket = if job % 2 == 1 { &mut odd } else { &mut even };
-        handle(alloc, &mut hall, members.count(), ticket, job)?;
+        handle(rt.alloc(), &mut hall, members.count(), ticket, job)?;
         if marks.contains(&job) {
-            writeln!(out, "{job}").ok()?;
+            tell(rt, job, is_timed)?;
         }
     }
     Some(())
+}
+
+// Writes how many jobs there were, and the processor time that they took, in microseconds, or 0.
+fn tell(rt: &HostRuntime, job: u64, is_timed: bool) -> Option<()> {
+    let spent = if is_timed {
+        rt.process_cpu_time().ok()?.as_micros()
+    } else {
+        0
+    };
+    println!(rt; "{job} {spent}").ok()
 }
 
 // A job is put, reserved and deleted by one session. Jobs have the numbers 1, 2, ...
