@@ -1,3 +1,2 @@
 pub mod Memberships
-pub mod PlaceOrder
 pub mod Kept

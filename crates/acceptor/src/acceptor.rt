@@ -1,31 +1,33 @@
 ghost use Rattle.std.specs.Prelude.{◌≡◌, false, IfOk, OnOk, OnErr};
+ghost use Rattle.std.specs.Option.{option_copied};
 ghost use Rattle.ballot.specs.Ballots.{higher, is_promise};
 ghost use Rattle.acceptor.specs.Reports.{IsReport};
+ghost use Rattle.acceptor.specs.Places.{is_higher};
 ghost use Rattle.acceptor.specs.Acceptors.{new_acceptor, after_p1a, after_p2a, Keeps};
 
-use crate::place::Place;
-use ballot::{Ballot, Pvalue};
+use crate::accepted::Accepted;
+use ballot::{Ballot, Pvalue, SlotRow};
 use object::Value;
 use std::alloc::{AllocError, Global};
-use std::collections::BTreeMap;
 use std::marker::Model;
 
-/// An acceptor. It keeps all that it accepted, by slot and then by ballot.
+/// An acceptor. Of each slot it keeps what it accepted under the highest ballot.
 #[derive(Drop)]
 pub struct Acceptor<C: Value> {
     promised: Option<Ballot>,
-    accepted: BTreeMap<Place, C>,
+    accepted: SlotRow<Accepted<C>>,
     alloc: Global,
 }
 
 impl<C: Value> Model for Acceptor<C> {
     ghost use Rattle.std.specs.Prelude.{map};
+    ghost use Rattle.std.specs.FinMap.{entries};
     ghost use Rattle.acceptor.specs.Acceptors.{Acceptances};
     ghost use Rattle.acceptor.specs.Places.{pvalue_of};
 
     ghost Value = { Acceptances C };
 
-    ghost view = { λ a. record { promised = a.promised; accepted = map pvalue_of a.accepted.entries } };
+    ghost view = { λ a. record { promised = a.promised; accepted = map pvalue_of (entries a.accepted) } };
 }
 
 impl<C: Value> Acceptor<C> {
@@ -35,7 +37,7 @@ impl<C: Value> Acceptor<C> {
     {
         Acceptor {
             promised: None,
-            accepted: BTreeMap::new(alloc),
+            accepted: SlotRow::new(alloc),
             alloc,
         }
     }
@@ -69,11 +71,14 @@ impl<C: Value> Acceptor<C> {
         if self.promised != Some(pvalue.ballot) {
             return Ok(self.promised);
         }
-        let place = Place {
-            slot: pvalue.slot,
+        if is_higher(self.accepted.get(pvalue.slot), pvalue.ballot) {
+            return Ok(self.promised);
+        }
+        let accepted = Accepted {
             ballot: pvalue.ballot,
+            value: pvalue.value,
         };
-        self.accepted.insert(place, pvalue.value)?;
+        self.accepted.insert(pvalue.slot, accepted)?;
         Ok(self.promised)
     }
 
@@ -91,19 +96,30 @@ impl<C: Value> Acceptor<C> {
         self.promised == Some(ballot)
     }
 
-    // All that was accepted, in rising slot and then in rising ballot.
+    // What was accepted in each slot, in rising slot.
     fn report(&self) -> Result<Vec<Pvalue<C>>, AllocError>
         ensures { IfOk result (λ report. report.items ≡ self.now.accepted) }
     {
         let mut report = Vec::new(self.alloc);
-        let accepted = &self.accepted;
-        for (place, value) in accepted {
+        let kept = self.accepted.to_map()?;
+        let entries = kept.entries();
+        for (slot, accepted) in entries {
             report.push(Pvalue {
-                ballot: place.ballot,
-                slot: place.slot,
-                value: value.copy()?,
+                ballot: accepted.ballot,
+                slot: *slot,
+                value: accepted.value.copy()?,
             })?;
         }
         Ok(report)
+    }
+}
+
+// What is kept is of a higher ballot than this.
+fn is_higher<C>(kept: Option<&Accepted<C>>, ballot: Ballot) -> bool
+    ensures { result ≡ is_higher (option_copied kept.entry) ballot }
+{
+    match kept {
+        None => false,
+        Some(kept) => ballot < kept.ballot,
     }
 }

@@ -1,7 +1,7 @@
 //! Acceptors: what they promise, and what they accept.
 #![tactic(auto)]
 
+mod accepted;
 mod acceptor;
-mod place;
 
 pub use acceptor::Acceptor;

@@ -3,4 +3,5 @@ pub mod Weights
 pub mod Sending
 pub mod Lending
 pub mod SlotMaps
+pub mod SlotRows
 pub mod Turns

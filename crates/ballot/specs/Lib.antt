@@ -8,3 +8,4 @@ pub mod PvalueLaws
 pub mod BallotLaws
 pub mod OrderLaws
 pub mod Slots
+pub mod SlotRows

@@ -9,6 +9,7 @@ mod members;
 mod pvalue;
 mod slot;
 mod slot_map;
+mod slot_row;
 
 pub use ballot::Ballot;
 pub use laws::{ballot_laws, ballot_order, majorities_share_a_member};
@@ -18,3 +19,4 @@ pub use members::Members;
 pub use pvalue::{Pvalue, Pvalues};
 pub use slot::Slot;
 pub use slot_map::SlotMap;
+pub use slot_row::SlotRow;

@@ -1,6 +1,7 @@
 -- What a tube may be called (protocol.txt of beanstalkd, the part on names at its beginning, and "use": a tube's name
 -- has at most 200 bytes).
-use Rattle.std.specs.Prelude.{◌≡◌, ℕ, ◌≤◌, ◌⊎◌, List, length, slice_get, Some, codes}
+use Rattle.std.specs.Prelude.{◌≡◌, ℕ, ◌≤◌, ◌⊎◌, List, length, slice_get, Option, Some, codes}
+use Rattle.std.specs.Option.{unwrap_or}
 use Rattle.object.specs.Lists.{In}
 
 -- A to Z, a to z, 0 to 9, or one of the nine signs
@@ -22,3 +23,7 @@ pub record IsName (name : List ℕ) : Type 0 where
   pub few : length name ≤ 200
   pub bytes : AreNameBytes name
   pub first : BeginsWithHyphen name → ⊥
+
+-- the bytes of a name, where no bytes of its own stand for `default`
+abbrev pub name_bytes : Option (List ℕ) → List ℕ
+name_bytes own = unwrap_or own (codes "default")

@@ -1,6 +1,6 @@
 ghost use Rattle.std.specs.Prelude.{◌≡◌, IfOk, true};
 
-use bytes::Bytes;
+use crate::shared_bytes::SharedBytes;
 use object::Value;
 use std::alloc::{AllocError, Global};
 use std::marker::Model;
@@ -8,7 +8,7 @@ use std::marker::Model;
 /// The bytes of a job. They are stored once: copies share them.
 #[derive(Drop, PartialEq, Eq)]
 pub struct Body {
-    bytes: Bytes<Global>,
+    bytes: SharedBytes,
 }
 
 impl Model for Body {
@@ -27,7 +27,7 @@ impl Body {
         ensures { IfOk result (λ b. b ≡ bytes.now) }
     {
         Ok(Body {
-            bytes: Bytes::copy_from_slice(alloc, bytes)?,
+            bytes: SharedBytes::new(alloc, bytes)?,
         })
     }
 
@@ -47,7 +47,7 @@ impl Value for Body {
 
     fn copy(&self) -> Result<Self, AllocError> {
         Ok(Body {
-            bytes: self.bytes.clone()?,
+            bytes: self.bytes.share()?,
         })
     }
 }

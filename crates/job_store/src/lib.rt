@@ -10,6 +10,8 @@ mod jobs;
 mod laws;
 mod look_up;
 mod name;
+mod name_bytes;
+mod shared_bytes;
 mod state;
 mod undo;
 

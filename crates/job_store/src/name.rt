@@ -1,7 +1,7 @@
 ghost use Rattle.std.specs.Prelude.{◌≡◌, ◌↔◌, IfOk, OnErr, SomeIff, IsTrue, true, codes};
 ghost use Rattle.job_store.specs.Names.{IsName, IsNameByte, AreNameBytes};
 
-use bytes::Bytes;
+use crate::name_bytes::NameBytes;
 use object::Value;
 use std::alloc::{AllocError, Global};
 use std::marker::Model;
@@ -11,7 +11,7 @@ use std::marker::Model;
 /// It has 1 to 200 bytes, each a letter, a digit or one of `-+/;.$_()`, and does not begin with `-`.
 #[derive(Drop, PartialEq, Eq, PartialOrd, Ord, Hash)]
 pub struct Name {
-    bytes: Bytes<Global>,
+    bytes: NameBytes,
 }
 
 impl Model for Name {
@@ -61,7 +61,7 @@ impl Name {
             return Ok(None);
         }
         Ok(Some(Name {
-            bytes: Bytes::copy_from_slice(alloc, bytes)?,
+            bytes: NameBytes::new(alloc, bytes)?,
         }))
     }
 
@@ -70,7 +70,7 @@ impl Name {
         ensures { result ≡ codes "default" }
     {
         Name {
-            bytes: Bytes::from_static(b"default"),
+            bytes: NameBytes::of_default(),
         }
     }
 
@@ -91,7 +91,7 @@ impl Value for Name {
 
     fn copy(&self) -> Result<Self, AllocError> {
         Ok(Name {
-            bytes: self.bytes.clone()?,
+            bytes: self.bytes.share()?,
         })
     }
 }

@@ -4,7 +4,7 @@ ghost use Rattle.std.specs.FinMap as slots;
 ghost use Rattle.leader.specs.Adoptions.{TakesGreatest};
 ghost use Rattle.leader.specs.Greatest.{all_noted, all_taken};
 
-use ballot::{Ballot, Pvalue, SlotMap};
+use ballot::{Ballot, Pvalue, SlotMap, SlotRow};
 use object::Value;
 use std::alloc::{AllocError, Global};
 
@@ -12,7 +12,7 @@ use std::alloc::{AllocError, Global};
 /// Of each slot one value is copied.
 pub(crate) fn with_greatest<C: Value>(
     alloc: Global,
-    proposals: &SlotMap<C>,
+    proposals: &SlotRow<C>,
     gathered: &[Pvalue<C>],
     report: &[Pvalue<C>],
 ) -> Result<SlotMap<C>, AllocError>
@@ -25,7 +25,8 @@ pub(crate) fn with_greatest<C: Value>(
     let mut taken = SlotMap::new(alloc);
     take_greatest(gathered, &greatest, &mut taken)?;
     take_greatest(report, &greatest, &mut taken)?;
-    take_open(proposals, &mut taken)?;
+    let own = proposals.to_map()?;
+    take_open(&own, &mut taken)?;
     Ok(taken)
 }
 

@@ -11,7 +11,7 @@ mod votes;
 
 use crate::commanding::send_p2a;
 use crate::error::LeaderError;
-use ballot::{Ballot, Body, Letter, Members, Slot, SlotMap, send_to_all};
+use ballot::{Ballot, Body, Letter, Members, Slot, SlotMap, SlotRow, send_to_all};
 use object::Value;
 use scout_commander::{Commander, Scout};
 use std::alloc::{AllocError, Global};
@@ -25,7 +25,7 @@ pub struct Leader<C: Value> {
     boot: u64,
     ballot: Ballot,
     active: bool,
-    proposals: SlotMap<C>,
+    proposals: SlotRow<C>,
     scout: Option<Scout<C>>,
     commanders: SlotMap<Commander<C>>,
     alloc: Global,
@@ -59,7 +59,7 @@ impl<C: Value> Leader<C> {
             boot,
             ballot,
             active: false,
-            proposals: SlotMap::new(alloc),
+            proposals: SlotRow::new(alloc),
             scout: None,
             commanders: SlotMap::new(alloc),
             alloc,

@@ -1,4 +1,4 @@
-ghost use Rattle.std.specs.Prelude.{◌≡◌, ◌↔◌, ◌+◌, ◌^◌, ◌<◌, ◌≤◌, ℕ, true, None, Some, IsOk, IsSome, IfSome, IfOk, OnOk, OnErr, IsErrOf};
+ghost use Rattle.std.specs.Prelude.{◌≡◌, ◌↔◌, ◌++◌, ◌+◌, ◌^◌, ◌<◌, ◌≤◌, ℕ, true, None, Some, IsOk, IsSome, IfSome, IfOk, OnOk, OnErr, IsErrOf};
 ghost use Rattle.std.specs.Option.{option_map, option_copied};
 ghost use Rattle.std.specs.FinMap as map;
 ghost use Rattle.slot_log.specs.Books.{new_book};
@@ -10,7 +10,7 @@ ghost use Rattle.slot_log.specs.Advances.{advanced};
 
 use crate::errors::LearnError;
 use crate::places::{Place, Places};
-use ballot::{Slot, SlotMap};
+use ballot::{Slot, SlotMap, SlotRow};
 use object::{Keyed, Value};
 use std::alloc::{AllocError, Global};
 use std::collections::{BTreeMap, VecDeque};
@@ -28,7 +28,7 @@ pub struct SlotLog<C: Value + Keyed> {
     slot_out: u64,
     requests: VecDeque<C>,
     proposals: SlotMap<C>,
-    decisions: SlotMap<C>,
+    decisions: SlotRow<C>,
     // The rank of the first request, which is how many have left before it.
     front_rank: usize,
     // Where each command of the three stands.
@@ -62,7 +62,7 @@ impl<C: Value + Keyed> SlotLog<C> {
             slot_out: 1,
             requests: VecDeque::new(alloc),
             proposals: SlotMap::new(alloc),
-            decisions: SlotMap::new(alloc),
+            decisions: SlotRow::new(alloc),
             front_rank: 0,
             places: Places::new(alloc),
             alloc,
@@ -225,8 +225,9 @@ impl<C: Value + Keyed> SlotLog<C> {
     {
         let last = Slot::new((slot.number() + (WINDOW - 1)).min(LAST_SLOT)).unwrap();
         let mut known = Vec::new(self.alloc);
-        for (slot, command) in self.decisions.entries().range(slot..=last) {
-            known.push((*slot, command.copy()?))?;
+        for number in slot.number()..last.number() + 1 {
+            let slot = Slot::new(number).unwrap();
+            push_copy(slot, self.decisions.get(slot), &mut known)?;
         }
         Ok(known)
     }
@@ -279,4 +280,22 @@ fn ranked<C>(requests: &VecDeque<C>, front: usize, rank: usize) -> Option<&C>
 {
     let index = rank.checked_sub(front)?;
     requests.get(index)
+}
+
+// Appends the slot with a copy of the command, if there is one.
+fn push_copy<C: Value>(
+    slot: Slot,
+    command: Option<&C>,
+    known: &mut Vec<(Slot, C)>,
+) -> Result<(), AllocError>
+    ensures { OnOk result (known.new.items ≡ known.old.items
+        ++ deciding.entry_of slot (option_copied command.entry)) }
+{
+    match command {
+        None => Ok(()),
+        Some(command) => {
+            known.push((slot, command.copy()?))?;
+            Ok(())
+        }
+    }
 }

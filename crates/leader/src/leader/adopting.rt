@@ -5,7 +5,7 @@ ghost use Rattle.leader.specs.Adoptions.{TakesGreatest, adopted, commanders_for,
 use super::Leader;
 use crate::commanding::start_commander;
 use crate::greatest::with_greatest;
-use ballot::{Letter, Pvalue, SlotMap};
+use ballot::{Letter, Pvalue, SlotMap, SlotRow};
 use object::Value;
 use scout_commander::Commander;
 use std::alloc::AllocError;
@@ -50,7 +50,7 @@ impl<C: Value> Leader<C> {
     {
         let commanders = self.start_commanders(&proposals, out)?;
         self.active = true;
-        self.proposals = proposals;
+        self.proposals = SlotRow::from_map(self.alloc, proposals);
         self.scout = None;
         self.commanders = commanders;
         Ok(())

@@ -20,4 +20,5 @@ returns g c =
     ap (λ m. all_taken c.note_greatest-2.new.greatest m qs) (c.in_ok-take_greatest.ensures ∙ ap (λ m. all_taken c.note_greatest-2.new.greatest m ps) c.new-taken.ensures) ∙
     sym (all_taken-append c.note_greatest-2.new.greatest empty ps qs) ∙ ap (λ m. all_taken m empty all) greatest in
     takes c.args.proposals.now c.take_open.new.taken all
-    (λ s. c.in_ok-take_open.ensures s ∙ ap (λ (m : Slots g.row.C.Denot). option_or (get m s) (get c.args.proposals.now s)) taken)
+    (λ s. c.in_ok-take_open.ensures s ∙ ap (λ (m : Slots g.row.C.Denot). option_or (get m s) (get c.in_ok-own.own s)) taken ∙
+    ap (λ (m : Slots g.row.C.Denot). option_or (get (all_taken (all_noted empty all) empty all) s) (get m s)) c.in_ok-own.ensures)

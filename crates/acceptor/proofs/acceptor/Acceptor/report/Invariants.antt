@@ -3,5 +3,5 @@ use Rattle.std.specs.Map.Iter.{deref_pair}
 use Rattle.acceptor.specs.Places.{pvalue_of}
 use Rattle.acceptor.proofs.acceptor.Acceptor.report.Given as goal
 
-abbrev pub invariant-loop-place : goal.invariant-loop-place
-invariant-loop-place g l = l.report.items ≡ map pvalue_of (map deref_pair l.yielded)
+abbrev pub invariant-loop-slot : goal.invariant-loop-slot
+invariant-loop-slot g l = l.report.items ≡ map pvalue_of (map deref_pair l.yielded)
