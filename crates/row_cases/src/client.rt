@@ -3,7 +3,7 @@ use crate::values::count_of;
 use crate::wanted::{Wanted, add_bytes};
 use anyhow::{Context, Result, bail, ensure};
 use beanpax::memory::{Ending, PieceReader, PieceWriter};
-use beanpax::{End, SessionFault, program, run_bytes};
+use beanpax::{ByteIn, ByteOut, End, SessionFault, program, run_bytes};
 use std::alloc::{AllocError, Global};
 
 /// What a client sends, and what it is told.
@@ -123,7 +123,7 @@ impl Client {
         let piece_len = ran.output.piece_len;
         ensure!(piece_len > 0, "no bytes at a time");
         let mut input = PieceReader::new(self.input.as_slice(), piece_len, self.ending);
-        Ok(program(alloc, words, &mut input, &mut ran.output, &mut ran.errors))
+        Ok(status_of(alloc, words, &mut input, &mut ran.output, &mut ran.errors))
     }
 
     /// Answers the bytes on so many nodes, and notes what differs.
@@ -148,9 +148,8 @@ impl Client {
         seed: u64,
         output: &mut PieceWriter,
     ) -> Result<String> {
-        ensure!(nodes > 0 && nodes <= 7, "too many nodes");
         let mut input = PieceReader::new(self.input.as_slice(), 3, self.ending);
-        let ended = run_bytes(alloc, nodes, seed, &mut input, output);
+        let ended = end_of(alloc, nodes, seed, &mut input, output);
         Ok(end_words(alloc, ended)?)
     }
 
@@ -186,6 +185,31 @@ impl Ran {
             self.errors.bytes().escape_ascii()
         )
     }
+}
+
+// The program's status.
+fn status_of<R: ByteIn, W: ByteOut>(
+    alloc: Global,
+    words: &[String],
+    input: &mut R,
+    output: &mut W,
+    errors: &mut W,
+) -> u8 {
+    program(alloc, words, input, output, errors)
+}
+
+// How a run over bytes ends, on 1 to 7 nodes.
+fn end_of<R: ByteIn, W: ByteOut>(
+    alloc: Global,
+    nodes: u8,
+    seed: u64,
+    input: &mut R,
+    output: &mut W,
+) -> Result<End, SessionFault> {
+    if nodes == 0 || nodes > 7 {
+        return Err(SessionFault::ServiceStopped);
+    }
+    run_bytes(alloc, nodes, seed, input, output)
 }
 
 fn end_words(alloc: Global, ended: Result<End, SessionFault>) -> Result<String, AllocError> {
