@@ -15,22 +15,30 @@ pub struct Case<'a> {
 pub fn cases_of<'a>(alloc: Global, text: &'a str) -> Result<Vec<Case<'a>>> {
     let mut cases: Vec<Case<'a>> = Vec::new(alloc);
     for line in text.lines() {
-        if line.is_empty() || line.starts_with('#') {
-            continue;
-        }
-        match title_line(line) {
-            Some((kind, title)) => cases.push(Case {
-                kind,
-                title,
-                lines: Vec::new(alloc),
-            })?,
-            None => {
-                let case = cases.last_mut().context("a line before the first case")?;
-                case.lines.push(line)?;
-            }
+        if !line.is_empty() && !line.starts_with('#') {
+            add_line(alloc, &mut cases, line)?;
         }
     }
     Ok(cases)
+}
+
+// Begins a case, or goes on with the last one.
+fn add_line<'a>(alloc: Global, cases: &mut Vec<Case<'a>>, line: &'a str) -> Result<()> {
+    match title_line(line) {
+        Some((kind, title)) => Ok(cases.push(new_case(alloc, kind, title))?),
+        None => {
+            let case = cases.last_mut().context("a line before the first case")?;
+            Ok(case.lines.push(line)?)
+        }
+    }
+}
+
+fn new_case<'a>(alloc: Global, kind: &'a str, title: &'a str) -> Case<'a> {
+    Case {
+        kind,
+        title,
+        lines: Vec::new(alloc),
+    }
 }
 
 // The kind and the title, where the line has them.

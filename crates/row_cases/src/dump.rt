@@ -1,7 +1,8 @@
 //! Dumps of what happened. A step is a part of it, or the number of nodes, with which the parts so far are dumped.
 use crate::replies::reply_of;
-use crate::script::Stage;
+use crate::script::{Stage, tell_line};
 use crate::spoken::{command_of, key_of};
+use crate::values::{count_of, node_of};
 use anyhow::{Context, Result, bail};
 use bean_queue::{Op, Queue, Reply};
 use chronicle::Chronicle;
@@ -27,66 +28,79 @@ impl Parts {
         }
     }
 
-    // A submission: the words of its command, `after`, and how many answers came before it.
     fn submit(&mut self, alloc: Global, text: &str) -> Result<()> {
-        let (command, after) = text
-            .split_once(" after ")
-            .context("after how many answers")?;
-        let words: Vec<&str> = command.split_whitespace().collect(alloc)?;
-        self.submitted.push(Submission {
-            command: command_of::<Queue>(alloc, words.as_slice())?,
-            after: after.parse::<usize>()?,
-        })?;
-        Ok(())
+        let submission = submission_of(alloc, text)?;
+        Ok(self.submitted.push(submission)?)
     }
 
-    // An answer: the key, and the words of the reply.
     fn answer(&mut self, alloc: Global, text: &str) -> Result<()> {
-        let (key, reply) = text.split_once(' ').context("no reply")?;
-        let words: Vec<&str> = reply.split_whitespace().collect(alloc)?;
-        self.answers.push(Answer {
-            to: key_of(key)?,
-            reply: reply_of(alloc, words.as_slice())?,
-        })?;
-        Ok(())
+        let answer = answer_of(alloc, text)?;
+        Ok(self.answers.push(answer)?)
     }
 
-    // Tells each line of the dump, where there is one.
-    fn tell_dump(&mut self, alloc: Global, members: u8, told: &mut Vec<String>) -> Result<()> {
+    fn place(&mut self, key: &str) -> Result<()> {
+        let key = key_of(key)?;
+        Ok(self.order.push(key)?)
+    }
+
+    // Tells the dump of the parts so far, and forgets them.
+    fn tell_dump(&mut self, alloc: Global, members: &str, told: &mut String) -> Result<()> {
+        let members = node_of(members)?;
         let parts = mem::replace(self, Parts::new(alloc));
-        let dump = dump_of(alloc, members, parts)?;
-        let text = dump.as_ref().map_or("no chronicle", |text| text.as_str());
-        for line in text.lines() {
-            told.push(format!(in alloc; "  {line}")?)?;
+        match dump_of(alloc, members, parts)? {
+            Some(dump) => tell_lines(dump.as_str(), told),
+            None => Ok(told.push_str("  no chronicle\n")?),
         }
-        Ok(())
     }
 }
 
+fn tell_lines(text: &str, told: &mut String) -> Result<()> {
+    for line in text.lines() {
+        tell_line("  ", line, told)?;
+    }
+    Ok(())
+}
+
 impl Stage for Parts {
-    fn step(&mut self, alloc: Global, step: &str, told: &mut Vec<String>) -> Result<()> {
-        match step.split_once(' ') {
-            Some(("submit", text)) => self.submit(alloc, text),
-            Some(("answer", text)) => self.answer(alloc, text),
-            Some(("order", key)) => Ok(self.order.push(key_of(key)?)?),
-            Some(("nodes", count)) => self.tell_dump(alloc, count.parse::<u8>()?, told),
+    fn step(&mut self, alloc: Global, step: &str, told: &mut String) -> Result<()> {
+        let (word, text) = step.split_once(' ').context("no part")?;
+        match word {
+            "submit" => self.submit(alloc, text),
+            "answer" => self.answer(alloc, text),
+            "order" => self.place(text),
+            "nodes" => self.tell_dump(alloc, text, told),
             _ => bail!("no such part"),
         }
     }
 }
 
+// A submission: the words of its command, `after`, and how many answers came before it.
+fn submission_of(alloc: Global, text: &str) -> Result<Submission<Op>> {
+    let (command, after) = text.split_once(" after ").context("after what")?;
+    let after = count_of(after)?;
+    let command = command_of::<Queue>(alloc, command)?;
+    Ok(Submission { command, after })
+}
+
+// An answer: the key, and the words of the reply.
+fn answer_of(alloc: Global, text: &str) -> Result<Answer<Reply>> {
+    let (key, reply) = text.split_once(' ').context("no reply")?;
+    let to = key_of(key)?;
+    let reply = reply_of(alloc, reply)?;
+    Ok(Answer { to, reply })
+}
+
 /// The text of a dump of these parts, where they make a chronicle.
 pub fn dump_of(alloc: Global, members: u8, parts: Parts) -> Result<Option<String>> {
-    let Parts {
-        submitted,
-        answers,
-        order,
-    } = parts;
-    let Some(chronicle) = Chronicle::new(members, submitted, answers, order) else {
-        return Ok(None);
-    };
+    match Chronicle::new(members, parts.submitted, parts.answers, parts.order) {
+        Some(chronicle) => text_of(alloc, &chronicle).map(Some),
+        None => Ok(None),
+    }
+}
+
+fn text_of(alloc: Global, chronicle: &Chronicle<Op, Reply>) -> Result<String> {
     let mut bytes = Vec::new(alloc);
     chronicle.write_text(&mut bytes)?;
     let text = str::from_utf8(bytes.as_slice()).ok().context("no text")?;
-    Ok(Some(String::from_str(alloc, text)?))
+    Ok(String::from_str(alloc, text)?)
 }

@@ -2,18 +2,27 @@
 use crate::script::Stage;
 use crate::spoken::{Spoken, command_of, tell_answers};
 use anyhow::Result;
-use object::{Effect, Once};
+use object::{Answer, Command, Effect, Once};
 use std::alloc::Global;
 
 impl<O: Spoken> Stage for Once<O> {
-    fn step(&mut self, alloc: Global, step: &str, told: &mut Vec<String>) -> Result<()> {
-        let words: Vec<&str> = step.split_whitespace().collect(alloc)?;
-        let command = command_of::<O>(alloc, words.as_slice())?;
+    fn step(&mut self, alloc: Global, step: &str, told: &mut String) -> Result<()> {
+        let command = command_of::<O>(alloc, step)?;
         let mut answers = Vec::new(alloc);
-        let effect = self.apply(&command, &mut answers)?;
-        if effect == Effect::Stale {
-            told.push(String::from_str(alloc, "  stale")?)?;
-        }
-        tell_answers::<O>(alloc, answers.as_slice(), told)
+        obey(self, &command, &mut answers, told)?;
+        tell_answers::<O>(answers.as_slice(), told)
     }
+}
+
+// Obeys a command, and tells whether it is stale.
+fn obey<O: Spoken>(
+    filter: &mut Once<O>,
+    command: &Command<O::Op>,
+    answers: &mut Vec<Answer<O::Reply>>,
+    told: &mut String,
+) -> Result<()> {
+    if filter.apply(command, answers)? == Effect::Stale {
+        told.push_str("  stale\n")?;
+    }
+    Ok(())
 }

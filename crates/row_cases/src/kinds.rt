@@ -5,8 +5,9 @@ use crate::dump::Parts;
 use crate::nodes::Nodes;
 use crate::replies::Replies;
 use crate::requests::Requests;
-use crate::script::script_fault;
+use crate::script::run_script;
 use crate::spoken::Spoken;
+use crate::values::node_of;
 use anyhow::{Context, Result, bail};
 use bean_queue::{PlainQueue, Queue};
 use object::{Once, Register};
@@ -15,83 +16,104 @@ use std::alloc::Global;
 /// The nodes and seeds with which a run over bytes is tried.
 const RUNS: [(u8, u64); 3] = [(1, 0), (3, 1), (7, u64::MAX)];
 
-/// What differs in a case, where something does.
-pub fn fault_of(alloc: Global, case: &Case<'_>) -> Result<Option<String>> {
+/// Tries a case, and notes what differs.
+pub fn try_case(alloc: Global, case: &Case<'_>, faults: &mut Vec<String>) -> Result<()> {
     let lines = case.lines.as_slice();
     match case.kind {
-        "client" => client_fault(alloc, &Client::new(alloc, lines)?),
-        "program" => program_fault(alloc, &Client::new(alloc, lines)?),
-        "run" => run_fault(alloc, &Client::new(alloc, lines)?),
-        "register" => filter_fault::<Register>(alloc, lines),
-        "queue" => match filter_fault::<PlainQueue>(alloc, lines)? {
-            Some(fault) => Ok(Some(fault)),
-            None => filter_fault::<Queue>(alloc, lines),
-        },
-        "requests" => script_fault(alloc, &mut Requests, lines),
-        "replies" => script_fault(alloc, &mut Replies, lines),
-        "dump" => script_fault(alloc, &mut Parts::new(alloc), lines),
-        "nodes of a register" => nodes_fault::<Register>(alloc, lines),
-        "nodes of a queue" => match nodes_fault::<PlainQueue>(alloc, lines)? {
-            Some(fault) => Ok(Some(fault)),
-            None => nodes_fault::<Queue>(alloc, lines),
-        },
+        "client" => try_client(alloc, lines, faults),
+        "program" => try_program(alloc, lines, faults),
+        "run" => try_run(alloc, lines, faults),
+        "register" => try_filter::<Register>(alloc, lines, faults),
+        "queue" => try_queues(alloc, lines, faults),
+        "requests" => run_script(alloc, &mut Requests, lines, faults),
+        "replies" => run_script(alloc, &mut Replies, lines, faults),
+        "dump" => try_dump(alloc, lines, faults),
+        "nodes of a register" => try_nodes::<Register>(alloc, lines, faults),
+        "nodes of a queue" => try_queue_nodes(alloc, lines, faults),
         _ => bail!("no such kind"),
     }
 }
 
 // A client is told the same in pieces of 1, 7 and 4096 bytes, and on 1 to 7 nodes with seeds 0 to 9.
-fn client_fault(alloc: Global, client: &Client<'_>) -> Result<Option<String>> {
-    for piece_len in [1, 7, 4096] {
-        let fault = client.program_fault(alloc, "run", piece_len)?;
-        if fault.is_some() {
-            return Ok(fault);
-        }
-    }
+fn try_client(alloc: Global, lines: &[&str], faults: &mut Vec<String>) -> Result<()> {
+    let client = Client::of(alloc, "0", lines)?;
+    try_lengths(alloc, &client, "run", &[1, 7, 4096], faults)?;
     for nodes in 1..=7 {
-        for seed in 0..10 {
-            let words = format!(in alloc; "run --nodes {nodes} --seed {seed}")?;
-            let fault = client.program_fault(alloc, words.as_str(), 4096)?;
-            if fault.is_some() {
-                return Ok(fault);
-            }
-        }
+        try_seeds(alloc, &client, nodes, faults)?;
     }
-    Ok(None)
+    Ok(())
+}
+
+fn try_seeds(alloc: Global, client: &Client, nodes: u8, faults: &mut Vec<String>) -> Result<()> {
+    for seed in 0..10 {
+        let words = format!(in alloc; "run --nodes {nodes} --seed {seed}")?;
+        client.try_program(alloc, words.as_str(), 4096, faults)?;
+    }
+    Ok(())
 }
 
 // The program does the same with each of the words, and with pieces of each length.
-fn program_fault(alloc: Global, client: &Client<'_>) -> Result<Option<String>> {
+fn try_program(alloc: Global, lines: &[&str], faults: &mut Vec<String>) -> Result<()> {
+    let client = Client::of(alloc, "0", lines)?;
     for words in client.words.iter() {
-        for piece_len in client.pieces.iter() {
-            let fault = client.program_fault(alloc, *words, *piece_len)?;
-            if fault.is_some() {
-                return Ok(fault);
-            }
-        }
+        try_lengths(
+            alloc,
+            &client,
+            words.as_str(),
+            client.pieces.as_slice(),
+            faults,
+        )?;
     }
-    Ok(None)
+    Ok(())
 }
 
-fn run_fault(alloc: Global, client: &Client<'_>) -> Result<Option<String>> {
-    for (nodes, seed) in RUNS {
-        let fault = client.run_fault(alloc, nodes, seed)?;
-        if fault.is_some() {
-            return Ok(fault);
-        }
+fn try_lengths(
+    alloc: Global,
+    client: &Client,
+    words: &str,
+    piece_lens: &[usize],
+    faults: &mut Vec<String>,
+) -> Result<()> {
+    for piece_len in piece_lens {
+        client.try_program(alloc, words, *piece_len, faults)?;
     }
-    Ok(None)
+    Ok(())
+}
+
+fn try_run(alloc: Global, lines: &[&str], faults: &mut Vec<String>) -> Result<()> {
+    let client = Client::of(alloc, "eof", lines)?;
+    for (nodes, seed) in RUNS {
+        client.try_run(alloc, nodes, seed, faults)?;
+    }
+    Ok(())
 }
 
 // The script of an object behind its once-only filter.
-fn filter_fault<O: Spoken>(alloc: Global, lines: &[&str]) -> Result<Option<String>> {
+fn try_filter<O: Spoken>(alloc: Global, lines: &[&str], faults: &mut Vec<String>) -> Result<()> {
     let mut filter: Once<O> = Once::new(alloc)?;
-    script_fault(alloc, &mut filter, lines)
+    run_script(alloc, &mut filter, lines, faults)
+}
+
+// The plain queue and the indexed one do the same.
+fn try_queues(alloc: Global, lines: &[&str], faults: &mut Vec<String>) -> Result<()> {
+    try_filter::<PlainQueue>(alloc, lines, faults)?;
+    try_filter::<Queue>(alloc, lines, faults)
+}
+
+fn try_dump(alloc: Global, lines: &[&str], faults: &mut Vec<String>) -> Result<()> {
+    let mut parts = Parts::new(alloc);
+    run_script(alloc, &mut parts, lines, faults)
 }
 
 // The script of a world, whose first line says how many nodes there are.
-fn nodes_fault<O: Spoken>(alloc: Global, lines: &[&str]) -> Result<Option<String>> {
+fn try_nodes<O: Spoken>(alloc: Global, lines: &[&str], faults: &mut Vec<String>) -> Result<()> {
     let (first, steps) = lines.split_first().context("no nodes")?;
     let count = first.strip_prefix("nodes ").context("no nodes")?;
-    let mut nodes: Nodes<O> = Nodes::new(alloc, count.parse::<u8>()?)?;
-    script_fault(alloc, &mut nodes, steps)
+    let mut nodes: Nodes<O> = Nodes::new(alloc, node_of(count)?)?;
+    run_script(alloc, &mut nodes, steps, faults)
+}
+
+fn try_queue_nodes(alloc: Global, lines: &[&str], faults: &mut Vec<String>) -> Result<()> {
+    try_nodes::<PlainQueue>(alloc, lines, faults)?;
+    try_nodes::<Queue>(alloc, lines, faults)
 }

@@ -1,7 +1,6 @@
 //! Letters in words.
-use crate::spoken::key_words;
-use anyhow::Result;
-use ballot::{Ballot, Body, Letter, Pvalue};
+use crate::spoken::tell_key;
+use ballot::{Ballot, Body, Letter, Pvalue, Slot};
 use object::{Command, Value};
 use std::alloc::{AllocError, Global};
 
@@ -19,121 +18,150 @@ impl<Op: Value> Known<Op> {
         }
     }
 
-    /// Keeps a command, unless one of its key is known.
-    pub fn learn(&mut self, command: Command<Op>) -> Result<(), AllocError> {
-        for own in &self.commands {
-            if own.key() == command.key() {
-                return Ok(());
-            }
+    /// Keeps a copy of a command, unless one of its key is known.
+    pub fn learn(&mut self, command: &Command<Op>) -> Result<(), AllocError> {
+        if !self.has_key_of(command) {
+            self.commands.push(command.copy()?)?;
         }
-        self.commands.push(command)?;
         Ok(())
     }
 
-    /// The key of a command, where it is the one that was submitted under that key.
-    pub fn words(&self, alloc: Global, command: &Command<Op>) -> Result<String> {
-        for own in &self.commands {
-            if *own == *command {
-                return key_words(alloc, own.key());
-            }
+    fn has_key_of(&self, command: &Command<Op>) -> bool {
+        self.commands.iter().any(|own| own.key() == command.key())
+    }
+
+    /// Tells a command between these texts.
+    pub fn tell_between(
+        &self,
+        begin: &str,
+        command: &Command<Op>,
+        end: &str,
+        told: &mut String,
+    ) -> Result<(), AllocError> {
+        told.push_str(begin)?;
+        self.tell(command, told)?;
+        told.push_str(end)
+    }
+
+    /// Tells the key of a command, where it is the one that was submitted under that key.
+    fn tell(&self, command: &Command<Op>, told: &mut String) -> Result<(), AllocError> {
+        if self.commands.contains(command) {
+            tell_key(command.key(), told)
+        } else {
+            told.push_str("unknown")
         }
-        Ok(String::from_str(alloc, "unknown")?)
     }
 }
 
-/// Who sent a letter to whom, and what it says.
-pub fn letter_words<Op: Value>(
-    alloc: Global,
+/// Tells a letter's number, who sent it to whom, and what it says.
+pub fn tell_letter<Op: Value>(
     known: &Known<Op>,
+    number: usize,
     letter: &Letter<Command<Op>>,
-) -> Result<String> {
-    let Letter { from, to, body } = letter;
-    let words = body_words(alloc, known, body)?;
-    Ok(format!(in alloc; "{from} -> {to} {words}")?)
+    told: &mut String,
+) -> Result<(), AllocError> {
+    write!(told, "  {number}: {} -> {} ", letter.from, letter.to)?;
+    tell_body(known, &letter.body, told)?;
+    told.push_str("\n")
 }
 
-fn body_words<Op: Value>(
-    alloc: Global,
+fn tell_body<Op: Value>(
     known: &Known<Op>,
     body: &Body<Command<Op>>,
-) -> Result<String> {
+    told: &mut String,
+) -> Result<(), AllocError> {
     match body {
-        Body::P1a(ballot) => {
-            let ballot = ballot_words(alloc, *ballot)?;
-            Ok(format!(in alloc; "p1a {ballot}")?)
-        }
-        Body::P1b(ballot, report) => report_words(alloc, known, *ballot, report.as_slice()),
-        Body::P2a(pvalue) => {
-            let pvalue = pvalue_words(alloc, known, pvalue)?;
-            Ok(format!(in alloc; "p2a {pvalue}")?)
-        }
+        Body::P1a(ballot) => tell_ballot("p1a ", *ballot, told),
+        Body::P1b(ballot, report) => tell_report(known, *ballot, report.as_slice(), told),
+        Body::P2a(pvalue) => tell_pvalue(known, "p2a ", pvalue, told),
         Body::P2b {
             ballot,
             slot,
             asked,
-        } => vote_words(alloc, *ballot, slot.number(), *asked),
-        Body::Propose(slot, command) => {
-            let command = known.words(alloc, command)?;
-            Ok(format!(in alloc; "propose {} {command}", slot.number())?)
-        }
-        Body::Decision(slot, command) => {
-            let command = known.words(alloc, command)?;
-            Ok(format!(in alloc; "decision {} {command}", slot.number())?)
-        }
-        Body::Ask(slot) => Ok(format!(in alloc; "ask {}", slot.number())?),
+        } => tell_vote(*ballot, *slot, *asked, told),
+        Body::Propose(slot, command) => tell_placed(known, "propose", *slot, command, told),
+        Body::Decision(slot, command) => tell_placed(known, "decision", *slot, command, told),
+        Body::Ask(slot) => tell_slot("ask", *slot, told),
     }
 }
 
 // A promise, and each pvalue of its report.
-fn report_words<Op: Value>(
-    alloc: Global,
+fn tell_report<Op: Value>(
     known: &Known<Op>,
     ballot: Ballot,
     report: &[Pvalue<Command<Op>>],
-) -> Result<String> {
-    let ballot = ballot_words(alloc, ballot)?;
-    let mut words = format!(in alloc; "p1b {ballot}")?;
+    told: &mut String,
+) -> Result<(), AllocError> {
+    tell_ballot("p1b ", ballot, told)?;
     for pvalue in report {
-        let pvalue = pvalue_words(alloc, known, pvalue)?;
-        words.push_str(format!(in alloc; ", {pvalue}")?.as_str())?;
+        tell_pvalue(known, ", ", pvalue, told)?;
     }
-    Ok(words)
+    Ok(())
 }
 
 // A vote: its slot, the promised ballot, and the ballot that was asked for.
-fn vote_words(alloc: Global, promised: Option<Ballot>, slot: u64, asked: Ballot) -> Result<String> {
-    let asked = ballot_words(alloc, asked)?;
+fn tell_vote(
+    promised: Option<Ballot>,
+    slot: Slot,
+    asked: Ballot,
+    told: &mut String,
+) -> Result<(), AllocError> {
+    tell_slot("p2b", slot, told)?;
     match promised {
-        Some(promised) => {
-            let promised = ballot_words(alloc, promised)?;
-            Ok(format!(in alloc; "p2b {slot} {promised} asked {asked}")?)
-        }
-        None => Ok(format!(in alloc; "p2b {slot} nothing asked {asked}")?),
+        Some(ballot) => tell_ballot(" ", ballot, told)?,
+        None => told.push_str(" nothing")?,
     }
+    tell_ballot(" asked ", asked, told)
 }
 
 // Ballot, slot and command.
-fn pvalue_words<Op: Value>(
-    alloc: Global,
+fn tell_pvalue<Op: Value>(
     known: &Known<Op>,
+    begin: &str,
     pvalue: &Pvalue<Command<Op>>,
-) -> Result<String> {
-    let ballot = ballot_words(alloc, pvalue.ballot)?;
-    let command = known.words(alloc, &pvalue.value)?;
-    Ok(format!(in alloc; "{ballot} {} {command}", pvalue.slot.number())?)
+    told: &mut String,
+) -> Result<(), AllocError> {
+    tell_ballot(begin, pvalue.ballot, told)?;
+    tell_placed(known, "", pvalue.slot, &pvalue.value, told)
+}
+
+// A command in its slot.
+fn tell_placed<Op: Value>(
+    known: &Known<Op>,
+    word: &str,
+    slot: Slot,
+    command: &Command<Op>,
+    told: &mut String,
+) -> Result<(), AllocError> {
+    tell_slot(word, slot, told)?;
+    known.tell_between(" ", command, "", told)
+}
+
+fn tell_slot(word: &str, slot: Slot, told: &mut String) -> Result<(), AllocError> {
+    write!(told, "{word} {}", slot.number())
 }
 
 // Round, node and boot with dots between them: the numbers that a ballot shows for debugging.
-fn ballot_words(alloc: Global, ballot: Ballot) -> Result<String> {
-    let shown = format!(in alloc; "{ballot:?}")?;
-    let mut words = String::new(alloc);
-    for number in shown.split(|c: char| !c.is_ascii_digit()) {
+fn tell_ballot(begin: &str, ballot: Ballot, told: &mut String) -> Result<(), AllocError> {
+    let shown = format!(in *told.allocator(); "{ballot:?}")?;
+    told.push_str(begin)?;
+    tell_numbers(shown.as_str(), told)
+}
+
+fn tell_numbers(text: &str, told: &mut String) -> Result<(), AllocError> {
+    let numbers = numbers_of(*told.allocator(), text)?;
+    match *numbers.as_slice() {
+        [round, node, boot] => write!(told, "{round}.{node}.{boot}"),
+        _ => told.push_str("no ballot"),
+    }
+}
+
+fn numbers_of(alloc: Global, text: &str) -> Result<Vec<&str>, AllocError> {
+    let mut numbers = Vec::new(alloc);
+    for number in text.split(|c: char| !c.is_ascii_digit()) {
         if !number.is_empty() {
-            if !words.is_empty() {
-                words.push('.')?;
-            }
-            words.push_str(number)?;
+            numbers.push(number)?;
         }
     }
-    Ok(words)
+    Ok(numbers)
 }

@@ -15,38 +15,33 @@ mod replies;
 mod requests;
 mod script;
 mod spoken;
+mod values;
 mod wanted;
 
 use anyhow::{Context, Result, ensure};
-use case_file::cases_of;
-use kinds::fault_of;
+use case_file::{Case, cases_of};
+use kinds::try_case;
 use std::rt::{Env, Files};
 use std::{env, fs};
 
 fn main(rt: HostRuntime) -> Result<()> {
-    let mut total = Tally::default();
+    let mut cases = 0usize;
+    let mut differ = 0usize;
     for name in file_names(&rt)?.iter() {
         let tally = run_file(&rt, name.as_str())?;
-        println!(rt; "{name}: {} cases, {} differ", tally.cases, tally.differ)?;
-        total.add(tally);
+        cases = cases.saturating_add(tally.cases);
+        differ = differ.saturating_add(tally.differ);
     }
-    println!(rt; "{} cases, {} differ", total.cases, total.differ)?;
-    ensure!(total.differ == 0, "cases differ");
+    println!(rt; "{cases} cases, {differ} differ")?;
+    ensure!(differ == 0, "cases differ");
     Ok(())
 }
 
 /// How many cases were run, and how many of them went otherwise than they should.
-#[derive(Clone, Copy, Default)]
+#[derive(Clone, Copy)]
 struct Tally {
-    cases: u64,
-    differ: u64,
-}
-
-impl Tally {
-    fn add(&mut self, more: Tally) {
-        self.cases = self.cases.saturating_add(more.cases);
-        self.differ = self.differ.saturating_add(more.differ);
-    }
+    cases: usize,
+    differ: usize,
 }
 
 // The words of the command line after the program's name.
@@ -54,19 +49,37 @@ fn file_names<R: Env + AllocGlobal>(rt: &R) -> Result<Vec<String>> {
     Ok(env::args(rt)?.skip(1).collect(rt.alloc())?)
 }
 
-/// Runs the cases of a file, and prints those that go otherwise than they should.
+/// Runs the cases of a file, and prints how many of them differ.
 fn run_file<R: Files + Print + AllocGlobal>(rt: &R, name: &str) -> Result<Tally> {
-    let text = fs::read_to_string(rt, name).context(format_args!("reading {name}"))?;
-    let mut tally = Tally::default();
-    for case in cases_of(rt.alloc(), text.as_str())?.iter() {
-        let fault = fault_of(rt.alloc(), case).context(case.title)?;
-        if let Some(fault) = &fault {
-            println!(rt; "{name}: {}: {fault}", case.title)?;
-        }
-        tally.add(Tally {
-            cases: 1,
-            differ: u64::from(fault.is_some()),
-        });
-    }
+    let text = fs::read_to_string(rt, name).context(name)?;
+    let tally = run_text(rt, name, text.as_str())?;
+    println!(rt; "{name}: {} cases, {} differ", tally.cases, tally.differ)?;
     Ok(tally)
+}
+
+fn run_text<R: Print + AllocGlobal>(rt: &R, name: &str, text: &str) -> Result<Tally> {
+    let cases = cases_of(rt.alloc(), text)?;
+    Ok(Tally {
+        cases: cases.len(),
+        differ: run_cases(rt, name, cases.as_slice())?,
+    })
+}
+
+// Counts those that differ.
+fn run_cases<R: Print + AllocGlobal>(rt: &R, name: &str, cases: &[Case<'_>]) -> Result<usize> {
+    let mut differ = 0usize;
+    for case in cases {
+        differ = differ.saturating_add(faults_of(rt, name, case)?.min(1));
+    }
+    Ok(differ)
+}
+
+/// Runs a case, prints what goes otherwise than it should, and counts that.
+fn faults_of<R: Print + AllocGlobal>(rt: &R, name: &str, case: &Case<'_>) -> Result<usize> {
+    let mut faults = Vec::new(rt.alloc());
+    try_case(rt.alloc(), case, &mut faults).context(case.title)?;
+    for fault in faults.iter() {
+        println!(rt; "{name}: {}: {fault}", case.title)?;
+    }
+    Ok(faults.len())
 }

@@ -1,10 +1,11 @@
 //! A world of nodes. A step is an event, or a question about what happened.
-use crate::letter_words::{Known, letter_words};
+use crate::letter_words::{Known, tell_letter};
 use crate::script::Stage;
-use crate::spoken::{Spoken, command_of, key_of, tell_answers};
+use crate::spoken::{Spoken, command_of, key_of, tell_answer};
+use crate::values::{count_of, node_of};
 use anyhow::{Context, Result, bail};
 use ballot::Members;
-use object::Value;
+use object::{Command, Value};
 use std::alloc::Global;
 use world::{Event, World};
 
@@ -18,120 +19,149 @@ pub struct Nodes<O: Spoken> {
 impl<O: Spoken> Nodes<O> {
     /// So many nodes.
     pub fn new(alloc: Global, count: u8) -> Result<Nodes<O>> {
+        let members = Members::new(count).context("no members")?;
         Ok(Nodes {
-            world: World::new(alloc, Members::new(count).context("no members")?)?,
+            world: World::new(alloc, members)?,
             known: Known::new(alloc),
         })
     }
 
-    // Takes an event, and tells the letters and answers that it brings, or why it was refused.
-    fn take(&mut self, alloc: Global, event: Event<O::Op>, told: &mut Vec<String>) -> Result<()> {
-        let letters = self.world.letters().len();
-        let answers = self.world.answers().len();
+    // Takes an event, and tells why it was refused, if it was.
+    fn take(&mut self, event: Event<O::Op>, told: &mut String) -> Result<()> {
         self.learn(&event)?;
         if let Err(refusal) = self.world.step(event) {
-            told.push(format!(in alloc; "  refused: {refusal}")?)?;
+            write!(told, "  refused: {refusal}\n")?;
         }
-        self.tell_since(alloc, letters, answers, told)
-    }
-
-    // Takes events up to the first that is refused, and tells the same.
-    fn run(&mut self, alloc: Global, events: &str, told: &mut Vec<String>) -> Result<()> {
-        let mut all = Vec::new(alloc);
-        for event in events.split("; ") {
-            all.push(event_of::<O>(alloc, event)?)?;
-        }
-        let letters = self.world.letters().len();
-        let answers = self.world.answers().len();
-        if let Err((place, refusal)) = self.world.run(all.as_slice()) {
-            told.push(format!(in alloc; "  refused at {place}: {refusal}")?)?;
-        }
-        self.tell_since(alloc, letters, answers, told)
+        Ok(())
     }
 
     // Keeps a command that is submitted, unless its key was submitted before.
     fn learn(&mut self, event: &Event<O::Op>) -> Result<()> {
         if let Event::Submit(_, command) = event {
-            self.known.learn(command.copy()?)?;
+            self.known.learn(command)?;
         }
         Ok(())
     }
 
-    // Tells what came after so many letters and so many answers.
-    fn tell_since(
-        &self,
-        alloc: Global,
-        letters: usize,
-        answers: usize,
-        told: &mut Vec<String>,
-    ) -> Result<()> {
-        for (number, letter) in self.world.letters().iter().enumerate().skip(letters) {
-            let words = letter_words(alloc, &self.known, letter)?;
-            told.push(format!(in alloc; "  {number}: {words}")?)?;
+    // Takes events up to the first that is refused, and tells which it is.
+    fn run(&mut self, events: &[Event<O::Op>], told: &mut String) -> Result<()> {
+        if let Err((place, refusal)) = self.world.run(events) {
+            write!(told, "  refused at {place}: {refusal}\n")?;
         }
-        let given = self
-            .world
-            .answers()
-            .get(answers..)
-            .context("fewer answers")?;
-        tell_answers::<O>(alloc, given, told)
+        Ok(())
+    }
+
+    // Takes an event, or several after the word `run`.
+    fn go(&mut self, alloc: Global, step: &str, told: &mut String) -> Result<()> {
+        match step.strip_prefix("run ") {
+            Some(events) => self.run(events_of::<O>(alloc, events)?.as_slice(), told),
+            None => self.take(event_of::<O>(alloc, step)?, told),
+        }
+    }
+
+    // Does the same, and tells the letters and answers that come of it.
+    fn go_and_tell(&mut self, alloc: Global, step: &str, told: &mut String) -> Result<()> {
+        let letters = self.world.letters().len();
+        let answers = self.world.answers().len();
+        self.go(alloc, step, told)?;
+        self.tell_letters(letters, told)?;
+        self.tell_answers(answers, told)
+    }
+
+    // Tells what came after so many letters.
+    fn tell_letters(&self, seen: usize, told: &mut String) -> Result<()> {
+        for (number, letter) in self.world.letters().iter().enumerate().skip(seen) {
+            tell_letter(&self.known, number, letter, told)?;
+        }
+        Ok(())
+    }
+
+    // Tells what came after so many answers.
+    fn tell_answers(&self, seen: usize, told: &mut String) -> Result<()> {
+        for answer in self.world.answers().iter().skip(seen) {
+            tell_answer::<O>(answer, told)?;
+        }
+        Ok(())
     }
 
     // Tells the one order.
-    fn tell_order(&self, alloc: Global, told: &mut Vec<String>) -> Result<()> {
-        for command in self.world.order()?.iter() {
-            let words = self.known.words(alloc, command)?;
-            told.push(format!(in alloc; "  {words}")?)?;
+    fn tell_order(&self, told: &mut String) -> Result<()> {
+        let order = self.world.order()?;
+        self.tell_commands(order.as_slice(), told)
+    }
+
+    fn tell_commands(&self, commands: &[Command<O::Op>], told: &mut String) -> Result<()> {
+        for command in commands {
+            self.known.tell_between("  ", command, "\n", told)?;
         }
         Ok(())
     }
 
     // Tells what was submitted, and after how many answers.
-    fn tell_submitted(&self, alloc: Global, told: &mut Vec<String>) -> Result<()> {
+    fn tell_submitted(&self, told: &mut String) -> Result<()> {
         for submission in self.world.submitted() {
-            let words = self.known.words(alloc, &submission.command)?;
-            told.push(format!(in alloc; "  {words} after {}", submission.after)?)?;
+            self.known
+                .tell_between("  ", &submission.command, " after ", told)?;
+            write!(told, "{}\n", submission.after)?;
         }
         Ok(())
     }
 
     // Tells whether a key stands in the order.
-    fn tell_placed(&self, alloc: Global, key: &str, told: &mut Vec<String>) -> Result<()> {
-        let answer = if self.world.placed(key_of(key)?) {
-            "  yes"
-        } else {
-            "  no"
-        };
-        told.push(String::from_str(alloc, answer)?)?;
-        Ok(())
+    fn tell_placed(&self, key: &str, told: &mut String) -> Result<()> {
+        let is_placed = self.world.placed(key_of(key)?);
+        let answer = if is_placed { "  yes\n" } else { "  no\n" };
+        Ok(told.push_str(answer)?)
     }
 }
 
 impl<O: Spoken> Stage for Nodes<O> {
-    fn step(&mut self, alloc: Global, step: &str, told: &mut Vec<String>) -> Result<()> {
-        match step.split_once(' ') {
-            None if step == "order" => self.tell_order(alloc, told),
-            None if step == "submitted" => self.tell_submitted(alloc, told),
-            Some(("placed", key)) => self.tell_placed(alloc, key, told),
-            Some(("run", events)) => self.run(alloc, events, told),
-            _ => self.take(alloc, event_of::<O>(alloc, step)?, told),
+    fn step(&mut self, alloc: Global, step: &str, told: &mut String) -> Result<()> {
+        match step.strip_prefix("placed ") {
+            Some(key) => self.tell_placed(key, told),
+            None if step == "order" => self.tell_order(told),
+            None if step == "submitted" => self.tell_submitted(told),
+            None => self.go_and_tell(alloc, step, told),
         }
     }
 }
 
+fn events_of<O: Spoken>(alloc: Global, text: &str) -> Result<Vec<Event<O::Op>>> {
+    let mut events = Vec::new(alloc);
+    for event in text.split("; ") {
+        events.push(event_of::<O>(alloc, event)?)?;
+    }
+    Ok(events)
+}
+
 // The event of these words.
 fn event_of<O: Spoken>(alloc: Global, text: &str) -> Result<Event<O::Op>> {
-    let words: Vec<&str> = text.split_whitespace().collect(alloc)?;
-    match words.as_slice() {
-        ["submit", node, command @ ..] => {
-            Ok(Event::Submit(node.parse::<u8>()?, command_of::<O>(alloc, command)?))
-        }
-        ["deliver", letter] => Ok(Event::Deliver(letter.parse::<usize>()?)),
-        ["wake", node] => Ok(Event::Wake(node.parse::<u8>()?)),
-        ["nudge", node] => Ok(Event::Nudge(node.parse::<u8>()?)),
-        ["propose", node] => Ok(Event::Propose(node.parse::<u8>()?)),
-        ["perform", node] => Ok(Event::Perform(node.parse::<u8>()?)),
-        ["restart", node] => Ok(Event::Restart(node.parse::<u8>()?)),
+    let (word, rest) = text.split_once(' ').context("no event")?;
+    match word {
+        "submit" => submit_of::<O>(alloc, rest),
+        "deliver" => delivery_of(rest),
+        _ => node_event(word, node_of(rest)?),
+    }
+}
+
+fn submit_of<O: Spoken>(alloc: Global, text: &str) -> Result<Event<O::Op>> {
+    let (node, command) = text.split_once(' ').context("no command")?;
+    let command = command_of::<O>(alloc, command)?;
+    Ok(Event::Submit(node_of(node)?, command))
+}
+
+fn delivery_of<Op: Value>(letter: &str) -> Result<Event<Op>> {
+    Ok(Event::Deliver(count_of(letter)?))
+}
+
+// What a node does by itself.
+fn node_event<Op: Value>(word: &str, node: u8) -> Result<Event<Op>> {
+    match word {
+        "wake" => Ok(Event::Wake(node)),
+        "nudge" => Ok(Event::Nudge(node)),
+        "propose" => Ok(Event::Propose(node)),
+        "perform" => Ok(Event::Perform(node)),
+        "restart" => Ok(Event::Restart(node)),
         _ => bail!("no such event"),
     }
 }

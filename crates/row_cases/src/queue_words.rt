@@ -1,6 +1,7 @@
 //! The work queue in words.
 use crate::spoken::Spoken;
-use anyhow::{Context, Result, bail};
+use crate::values::{body_of, large, name_of, small};
+use anyhow::{Result, bail};
 use bean_queue::{Body, Name, Op, QueueOver, Reply};
 use job_store::JobMap;
 use std::alloc::{AllocError, Global};
@@ -10,120 +11,147 @@ impl<M: JobMap> Spoken for QueueOver<M> {
         op_of(alloc, words)
     }
 
-    fn reply_words(alloc: Global, reply: &Reply) -> Result<String> {
-        Ok(reply_words(alloc, reply)?)
+    fn tell_reply(reply: &Reply, told: &mut String) -> Result<(), AllocError> {
+        tell_reply(reply, told)
     }
 }
 
-fn name(alloc: Global, word: &str) -> Result<Name> {
-    Name::new(alloc, word.as_bytes())?.context("no name")
-}
-
-fn small(word: &str) -> Result<u32> {
-    Ok(word.parse::<u32>()?)
-}
-
-fn large(word: &str) -> Result<u64> {
-    Ok(word.parse::<u64>()?)
-}
-
-// Any operation; a put has its body where the protocol has the body's length.
+// Any operation, by how many words it has.
 fn op_of(alloc: Global, words: &[&str]) -> Result<Op> {
     match *words {
-        ["reserve"] => Ok(Op::Reserve { seconds: None }),
-        ["reserve-with-timeout", seconds] => Ok(Op::Reserve {
-            seconds: Some(small(seconds)?),
-        }),
-        ["put", pri, delay, ttr, body] => Ok(Op::Put {
-            pri: small(pri)?,
-            delay: small(delay)?,
-            ttr: small(ttr)?,
-            body: Body::new(alloc, body.as_bytes())?,
-        }),
-        _ => change(alloc, words),
-    }
-}
-
-// An operation on the job of an id, or one of those of `look`.
-fn change(alloc: Global, words: &[&str]) -> Result<Op> {
-    match *words {
-        ["delete", id] => Ok(Op::Delete(large(id)?)),
-        ["touch", id] => Ok(Op::Touch(large(id)?)),
-        ["kick-job", id] => Ok(Op::KickJob(large(id)?)),
-        ["kick", bound] => Ok(Op::Kick(small(bound)?)),
-        ["bury", id, pri] => Ok(Op::Bury {
-            id: large(id)?,
-            pri: small(pri)?,
-        }),
-        ["release", id, pri, delay] => Ok(Op::Release {
-            id: large(id)?,
-            pri: small(pri)?,
-            delay: small(delay)?,
-        }),
-        _ => look(alloc, words),
-    }
-}
-
-// An operation on tubes, or a look at jobs.
-fn look(alloc: Global, words: &[&str]) -> Result<Op> {
-    match *words {
-        ["use", tube] => Ok(Op::Use(name(alloc, tube)?)),
-        ["watch", tube] => Ok(Op::Watch(name(alloc, tube)?)),
-        ["ignore", tube] => Ok(Op::Ignore(name(alloc, tube)?)),
-        ["peek", id] => Ok(Op::Peek(large(id)?)),
-        ["peek-ready"] => Ok(Op::PeekReady),
-        ["peek-delayed"] => Ok(Op::PeekDelayed),
-        ["peek-buried"] => Ok(Op::PeekBuried),
-        ["list-tubes"] => Ok(Op::ListTubes),
-        ["list-tube-used"] => Ok(Op::ListTubeUsed),
-        ["list-tubes-watched"] => Ok(Op::ListTubesWatched),
+        [word] => plain_op(word),
+        [word, other] => short_op(alloc, word, other),
+        ["bury", id, pri] => bury(id, pri),
+        ["release", id, pri, delay] => release(id, pri, delay),
+        ["put", pri, delay, ttr, body] => put(alloc, pri, delay, ttr, body),
         _ => bail!("no such operation"),
     }
 }
 
-// A word and the bytes that follow it.
-fn with_bytes(alloc: Global, word: &str, bytes: &[u8]) -> Result<String, AllocError> {
-    let mut text = format!(in alloc; "{word} ")?;
-    for byte in bytes {
-        text.push(char::from(*byte))?;
+fn plain_op(word: &str) -> Result<Op> {
+    match word {
+        "reserve" => Ok(Op::Reserve { seconds: None }),
+        "peek-ready" => Ok(Op::PeekReady),
+        "peek-delayed" => Ok(Op::PeekDelayed),
+        "peek-buried" => Ok(Op::PeekBuried),
+        "list-tubes" => Ok(Op::ListTubes),
+        "list-tube-used" => Ok(Op::ListTubeUsed),
+        "list-tubes-watched" => Ok(Op::ListTubesWatched),
+        _ => bail!("no such operation"),
     }
-    Ok(text)
 }
 
-// A word, an id, and the length and bytes of a body.
-fn with_job(alloc: Global, word: &str, id: u64, body: &Body) -> Result<String, AllocError> {
-    let bytes = body.as_slice();
-    let first = format!(in alloc; "{word} {id} {}", bytes.len())?;
-    with_bytes(alloc, first.as_str(), bytes)
+// An operation of two words, the second of which is a tube or a number.
+fn short_op(alloc: Global, word: &str, other: &str) -> Result<Op> {
+    match word {
+        "use" => name_of(alloc, other).map(Op::Use),
+        "watch" => name_of(alloc, other).map(Op::Watch),
+        "ignore" => name_of(alloc, other).map(Op::Ignore),
+        "kick" => small(other).map(Op::Kick),
+        "reserve-with-timeout" => reserve_for(other),
+        _ => job_op(word, large(other)?),
+    }
+}
+
+// An operation on the job of an id.
+fn job_op(word: &str, id: u64) -> Result<Op> {
+    match word {
+        "delete" => Ok(Op::Delete(id)),
+        "touch" => Ok(Op::Touch(id)),
+        "kick-job" => Ok(Op::KickJob(id)),
+        "peek" => Ok(Op::Peek(id)),
+        _ => bail!("no such operation"),
+    }
+}
+
+fn reserve_for(seconds: &str) -> Result<Op> {
+    let seconds = Some(small(seconds)?);
+    Ok(Op::Reserve { seconds })
+}
+
+fn bury(id: &str, pri: &str) -> Result<Op> {
+    Ok(Op::Bury {
+        id: large(id)?,
+        pri: small(pri)?,
+    })
+}
+
+fn release(id: &str, pri: &str, delay: &str) -> Result<Op> {
+    Ok(Op::Release {
+        id: large(id)?,
+        pri: small(pri)?,
+        delay: small(delay)?,
+    })
+}
+
+// A put has its body where the protocol has the body's length.
+fn put(alloc: Global, pri: &str, delay: &str, ttr: &str, body: &str) -> Result<Op> {
+    Ok(Op::Put {
+        pri: small(pri)?,
+        delay: small(delay)?,
+        ttr: small(ttr)?,
+        body: body_of(alloc, body.as_bytes())?,
+    })
 }
 
 // A reply: its first line, and what follows it.
-fn reply_words(alloc: Global, reply: &Reply) -> Result<String, AllocError> {
+fn tell_reply(reply: &Reply, told: &mut String) -> Result<(), AllocError> {
     match reply {
-        Reply::Inserted(id) => format!(in alloc; "INSERTED {id}"),
-        Reply::Using(tube) => with_bytes(alloc, "USING", tube.as_slice()),
-        Reply::Watching(count) => format!(in alloc; "WATCHING {count}"),
-        Reply::NotIgnored => String::from_str(alloc, "NOT_IGNORED"),
-        Reply::Reserved { id, body } => with_job(alloc, "RESERVED", *id, body),
-        Reply::DeadlineSoon => String::from_str(alloc, "DEADLINE_SOON"),
-        Reply::TimedOut => String::from_str(alloc, "TIMED_OUT"),
-        Reply::Deleted => String::from_str(alloc, "DELETED"),
-        Reply::NotFound => String::from_str(alloc, "NOT_FOUND"),
-        Reply::Released => String::from_str(alloc, "RELEASED"),
-        Reply::Buried => String::from_str(alloc, "BURIED"),
-        Reply::Touched => String::from_str(alloc, "TOUCHED"),
-        Reply::KickedCount(count) => format!(in alloc; "KICKED {count}"),
-        Reply::Kicked => String::from_str(alloc, "KICKED"),
-        Reply::Found { id, body } => with_job(alloc, "FOUND", *id, body),
-        Reply::Tubes(names) => tubes(alloc, names.as_slice()),
-        Reply::InternalError => String::from_str(alloc, "INTERNAL_ERROR"),
+        Reply::Inserted(id) => tell_number("INSERTED", *id, told),
+        Reply::Watching(count) => tell_number("WATCHING", *count, told),
+        Reply::KickedCount(count) => tell_number("KICKED", *count, told),
+        Reply::Using(tube) => tell_name("USING", tube, told),
+        Reply::Tubes(names) => tell_names(names.as_slice(), told),
+        Reply::Reserved { id, body } => tell_job("RESERVED", *id, body, told),
+        Reply::Found { id, body } => tell_job("FOUND", *id, body, told),
+        _ => told.push_str(plain_reply(reply)),
     }
 }
 
-fn tubes(alloc: Global, names: &[Name]) -> Result<String, AllocError> {
-    let mut text = String::from_str(alloc, "OK")?;
-    for name in names {
-        text.push_str(with_bytes(alloc, "", name.as_slice())?.as_str())?;
+// The word of a reply that has no other.
+fn plain_reply(reply: &Reply) -> &'static str {
+    match reply {
+        Reply::NotIgnored => "NOT_IGNORED",
+        Reply::DeadlineSoon => "DEADLINE_SOON",
+        Reply::TimedOut => "TIMED_OUT",
+        Reply::Deleted => "DELETED",
+        Reply::NotFound => "NOT_FOUND",
+        Reply::Released => "RELEASED",
+        Reply::Buried => "BURIED",
+        Reply::Touched => "TOUCHED",
+        Reply::Kicked => "KICKED",
+        Reply::InternalError => "INTERNAL_ERROR",
+        _ => "more than a word",
     }
-    Ok(text)
+}
+
+fn tell_number(word: &str, number: u64, told: &mut String) -> Result<(), AllocError> {
+    write!(told, "{word} {number}")
+}
+
+// A word, an id, and the length and bytes of a body.
+fn tell_job(word: &str, id: u64, body: &Body, told: &mut String) -> Result<(), AllocError> {
+    let bytes = body.as_slice();
+    write!(told, "{word} {id} {} ", bytes.len())?;
+    tell_bytes(bytes, told)
+}
+
+fn tell_name(word: &str, name: &Name, told: &mut String) -> Result<(), AllocError> {
+    write!(told, "{word} ")?;
+    tell_bytes(name.as_slice(), told)
+}
+
+fn tell_names(names: &[Name], told: &mut String) -> Result<(), AllocError> {
+    told.push_str("OK")?;
+    for name in names {
+        tell_name("", name, told)?;
+    }
+    Ok(())
+}
+
+fn tell_bytes(bytes: &[u8], told: &mut String) -> Result<(), AllocError> {
+    for byte in bytes {
+        told.push(char::from(*byte))?;
+    }
+    Ok(())
 }

@@ -2,7 +2,7 @@
 ghost use Rattle.std.specs.Prelude.{◌<◌, IfOk};
 
 use anyhow::{Context, Result, bail, ensure};
-use std::alloc::Global;
+use std::alloc::{AllocError, Global};
 
 /// The bytes of a line such as `"put 0 0 1 3\r\n" 3*"a" "\r\n"`: those of its quotations, one after the other. A number
 /// and `*` before a quotation say how often it stands there.
@@ -13,10 +13,7 @@ pub fn bytes_of(alloc: Global, line: &str) -> Result<Vec<u8>> {
         if place % 2 == 0 {
             times = times_of(piece.trim())?;
         } else {
-            let quoted = unescaped(alloc, piece)?;
-            for _ in 0..times {
-                bytes.extend_from_slice(quoted.as_slice())?;
-            }
+            add_quoted(alloc, &mut bytes, piece, times)?;
         }
     }
     Ok(bytes)
@@ -25,27 +22,45 @@ pub fn bytes_of(alloc: Global, line: &str) -> Result<Vec<u8>> {
 // How often the next quotation stands there.
 fn times_of(text: &str) -> Result<usize> {
     match text.strip_suffix('*') {
-        Some(number) => Ok(number.parse::<usize>().context("how often")?),
+        Some(number) => number.parse::<usize>().context("how often"),
         None => {
-            ensure!(text.is_empty(), "not quoted: {text}");
+            ensure!(text.is_empty(), "not quoted");
             Ok(1)
         }
     }
 }
 
+// Adds a quotation so often.
+fn add_quoted(alloc: Global, bytes: &mut Vec<u8>, text: &str, times: usize) -> Result<()> {
+    let quoted = unescaped(alloc, text)?;
+    Ok(add_times(bytes, quoted.as_slice(), times)?)
+}
+
+fn add_times(bytes: &mut Vec<u8>, more: &[u8], times: usize) -> Result<(), AllocError> {
+    for _ in 0..times {
+        bytes.extend_from_slice(more)?;
+    }
+    Ok(())
+}
+
 // A quotation, in which `\r`, `\n`, `\t` and `\x` with two digits are one byte each.
 fn unescaped(alloc: Global, text: &str) -> Result<Vec<u8>> {
-    let mut pieces = text.split('\\');
     let mut bytes = Vec::new(alloc);
-    if let Some(first) = pieces.next() {
-        bytes.extend_from_slice(first.as_bytes())?;
-    }
-    for piece in pieces {
-        let (byte, rest) = escape(piece.as_bytes())?;
-        bytes.push(byte)?;
-        bytes.extend_from_slice(rest)?;
+    for (place, piece) in text.split('\\').enumerate() {
+        if place == 0 {
+            bytes.extend_from_slice(piece.as_bytes())?;
+        } else {
+            add_escaped(&mut bytes, piece.as_bytes())?;
+        }
     }
     Ok(bytes)
+}
+
+// Adds what stands after a backslash.
+fn add_escaped(bytes: &mut Vec<u8>, text: &[u8]) -> Result<()> {
+    let (byte, rest) = escape(text)?;
+    bytes.push(byte)?;
+    Ok(bytes.extend_from_slice(rest)?)
 }
 
 // The byte that stands after a backslash, and what follows it.
@@ -54,9 +69,13 @@ fn escape(text: &[u8]) -> Result<(u8, &[u8])> {
         [b'r', rest @ ..] => Ok((b'\r', rest)),
         [b'n', rest @ ..] => Ok((b'\n', rest)),
         [b't', rest @ ..] => Ok((b'\t', rest)),
-        [b'x', high, low, rest @ ..] => Ok((digit(*high)? * 16 + digit(*low)?, rest)),
+        [b'x', high, low, rest @ ..] => Ok((two_digits(*high, *low)?, rest)),
         _ => bail!("no such escape"),
     }
+}
+
+fn two_digits(high: u8, low: u8) -> Result<u8> {
+    Ok(digit(high)? * 16 + digit(low)?)
 }
 
 fn digit(byte: u8) -> Result<u8>

@@ -1,22 +1,23 @@
 //! A register in words.
 use crate::spoken::Spoken;
+use crate::values::large;
 use anyhow::{Result, bail};
 use object::{Register, RegisterOp, RegisterReply};
-use std::alloc::Global;
+use std::alloc::{AllocError, Global};
 
 impl Spoken for Register {
     fn op_of(_alloc: Global, words: &[&str]) -> Result<RegisterOp> {
         match *words {
             ["read"] => Ok(RegisterOp::Read),
-            ["write", value] => Ok(RegisterOp::Write(value.parse::<u64>()?)),
+            ["write", value] => large(value).map(RegisterOp::Write),
             _ => bail!("no such operation"),
         }
     }
 
-    fn reply_words(alloc: Global, reply: &RegisterReply) -> Result<String> {
+    fn tell_reply(reply: &RegisterReply, told: &mut String) -> Result<(), AllocError> {
         match reply {
-            RegisterReply::Done => Ok(String::from_str(alloc, "done")?),
-            RegisterReply::Value(value) => Ok(format!(in alloc; "value {value}")?),
+            RegisterReply::Done => told.push_str("done"),
+            RegisterReply::Value(value) => write!(told, "value {value}"),
         }
     }
 }

@@ -1,11 +1,11 @@
 //! Writing replies. A step is a reply, and its body is quoted.
 use crate::dump::Parts;
-use crate::quoted::bytes_of;
 use crate::requests::line_of;
-use crate::script::Stage;
+use crate::script::{Stage, tell_line};
+use crate::values::{large, name_of, quoted_body_of};
 use anyhow::{Context, Result, bail};
 use bean_codec::write_reply;
-use bean_queue::{Body, Name, Names, Reply};
+use bean_queue::{Names, Reply};
 use object::{Answer, Key};
 use std::alloc::Global;
 
@@ -14,16 +14,19 @@ use std::alloc::Global;
 pub struct Replies;
 
 impl Stage for Replies {
-    fn step(&mut self, alloc: Global, step: &str, told: &mut Vec<String>) -> Result<()> {
-        let words: Vec<&str> = step.split_whitespace().collect(alloc)?;
-        let reply = reply_of(alloc, words.as_slice())?;
-        let mut bytes = Vec::from_slice(alloc, b"> ")?;
-        write_reply(&reply, &mut bytes)?;
-        told.push(format!(in alloc; "  \"{}\"", bytes.escape_ascii())?)?;
+    fn step(&mut self, alloc: Global, step: &str, told: &mut String) -> Result<()> {
+        let reply = reply_of(alloc, step)?;
+        tell_text(alloc, &reply, told)?;
         let line = answer_line(alloc, reply)?;
-        told.push(format!(in alloc; "  {line}")?)?;
-        Ok(())
+        Ok(tell_line("  ", line.as_str(), told)?)
     }
+}
+
+// Tells the text of a reply, after two bytes that were there.
+fn tell_text(alloc: Global, reply: &Reply, told: &mut String) -> Result<()> {
+    let mut bytes = Vec::from_slice(alloc, b"> ")?;
+    write_reply(reply, &mut bytes)?;
+    Ok(write!(told, "  \"{}\"\n", bytes.escape_ascii())?)
 }
 
 // The line of a dump for the reply, to session 2's third command.
@@ -37,23 +40,35 @@ fn answer_line(alloc: Global, reply: Reply) -> Result<String> {
     line_of(alloc, parts)
 }
 
-/// The reply of these words.
-pub fn reply_of(alloc: Global, words: &[&str]) -> Result<Reply> {
-    match *words {
-        ["INSERTED", id] => Ok(Reply::Inserted(id.parse::<u64>()?)),
-        ["USING", tube] => Ok(Reply::Using(name_of(alloc, tube)?)),
-        ["WATCHING", count] => Ok(Reply::Watching(count.parse::<u64>()?)),
-        ["KICKED", count] => Ok(Reply::KickedCount(count.parse::<u64>()?)),
-        ["RESERVED", id, body] => Ok(Reply::Reserved {
-            id: id.parse::<u64>()?,
-            body: body_of(alloc, body)?,
-        }),
-        ["FOUND", id, body] => Ok(Reply::Found {
-            id: id.parse::<u64>()?,
-            body: body_of(alloc, body)?,
-        }),
-        ["OK", ref tubes @ ..] => Ok(Reply::Tubes(names_of(alloc, tubes)?)),
-        [word] => plain_reply_of(word),
+/// The reply of a text.
+pub fn reply_of(alloc: Global, text: &str) -> Result<Reply> {
+    match text.split_once(' ') {
+        Some((word, rest)) => long_reply_of(alloc, word, rest),
+        None if text == "OK" => Ok(Reply::Tubes(Names::new(alloc))),
+        None => plain_reply_of(text),
+    }
+}
+
+// A reply of a word and what follows it.
+fn long_reply_of(alloc: Global, word: &str, rest: &str) -> Result<Reply> {
+    match word {
+        "INSERTED" => large(rest).map(Reply::Inserted),
+        "WATCHING" => large(rest).map(Reply::Watching),
+        "KICKED" => large(rest).map(Reply::KickedCount),
+        "USING" => name_of(alloc, rest).map(Reply::Using),
+        "OK" => names_of(alloc, rest).map(Reply::Tubes),
+        _ => job_reply_of(alloc, word, rest),
+    }
+}
+
+// A reply of an id and a body.
+fn job_reply_of(alloc: Global, word: &str, rest: &str) -> Result<Reply> {
+    let (id, body) = rest.split_once(' ').context("no body")?;
+    let id = large(id)?;
+    let body = quoted_body_of(alloc, body)?;
+    match word {
+        "RESERVED" => Ok(Reply::Reserved { id, body }),
+        "FOUND" => Ok(Reply::Found { id, body }),
         _ => bail!("no such reply"),
     }
 }
@@ -75,18 +90,10 @@ fn plain_reply_of(word: &str) -> Result<Reply> {
     }
 }
 
-fn name_of(alloc: Global, word: &str) -> Result<Name> {
-    Name::new(alloc, word.as_bytes())?.context("no name")
-}
-
-fn names_of(alloc: Global, words: &[&str]) -> Result<Names> {
+fn names_of(alloc: Global, words: &str) -> Result<Names> {
     let mut names = Names::new(alloc);
-    for word in words {
-        names.push(name_of(alloc, *word)?)?;
+    for word in words.split_whitespace() {
+        names.push(name_of(alloc, word)?)?;
     }
     Ok(names)
-}
-
-fn body_of(alloc: Global, quoted: &str) -> Result<Body> {
-    Ok(Body::new(alloc, bytes_of(alloc, quoted)?.as_slice())?)
 }

@@ -2,6 +2,7 @@
 use crate::dump::{Parts, dump_of};
 use crate::quoted::bytes_of;
 use crate::script::Stage;
+use crate::values::large;
 use anyhow::{Context, Result, bail};
 use bean_codec::{Fault, Read, Request, Want, read_request, write_fault};
 use bean_queue::Op;
@@ -13,12 +14,10 @@ use std::alloc::Global;
 pub struct Requests;
 
 impl Stage for Requests {
-    fn step(&mut self, alloc: Global, step: &str, told: &mut Vec<String>) -> Result<()> {
+    fn step(&mut self, alloc: Global, step: &str, told: &mut String) -> Result<()> {
         let (want, text) = want_of(step)?;
         let bytes = bytes_of(alloc, text)?;
-        let read = read_request(alloc, want, bytes.as_slice())?;
-        told.push(read_words(alloc, read)?)?;
-        Ok(())
+        tell_read(alloc, read_request(alloc, want, bytes.as_slice())?, told)
     }
 }
 
@@ -28,37 +27,42 @@ fn want_of(step: &str) -> Result<(Want, &str)> {
     match word {
         "line" => Ok((Want::Line, text)),
         "rest" => Ok((Want::Rest, text)),
-        "big" => {
-            let (count, text) = text.split_once(' ').context("no bytes")?;
-            Ok((Want::Big(count.parse::<u64>()?), text))
-        }
+        "big" => big_want_of(text),
         _ => bail!("no such want"),
     }
 }
 
-fn read_words(alloc: Global, read: Read) -> Result<String> {
+// A number of bytes that end a body, and the bytes as they are quoted.
+fn big_want_of(text: &str) -> Result<(Want, &str)> {
+    let (count, text) = text.split_once(' ').context("no bytes")?;
+    Ok((Want::Big(large(count)?), text))
+}
+
+fn tell_read(alloc: Global, read: Read, told: &mut String) -> Result<()> {
     match read {
-        Read::More => Ok(String::from_str(alloc, "  more")?),
-        Read::Drop { used, want } => {
-            let want = want_words(alloc, want)?;
-            Ok(format!(in alloc; "  drop {used}, and wait for {want}")?)
-        }
+        Read::More => Ok(told.push_str("  more\n")?),
+        Read::Drop { used, want } => tell_drop(used, want, told),
         Read::Request { request, used } => {
-            let words = request_words(alloc, request)?;
-            Ok(format!(in alloc; "  {used} bytes: {words}")?)
+            tell_used(used, request_words(alloc, request)?.as_str(), told)
         }
-        Read::Bad { fault, used } => {
-            let words = fault_words(alloc, fault)?;
-            Ok(format!(in alloc; "  {used} bytes: {words}")?)
-        }
+        Read::Bad { fault, used } => tell_used(used, fault_words(alloc, fault)?.as_str(), told),
     }
 }
 
-fn want_words(alloc: Global, want: Want) -> Result<String> {
+fn tell_used(used: usize, words: &str, told: &mut String) -> Result<()> {
+    Ok(write!(told, "  {used} bytes: {words}\n")?)
+}
+
+fn tell_drop(used: usize, want: Want, told: &mut String) -> Result<()> {
+    write!(told, "  drop {used}, and wait for ")?;
+    tell_want(want, told)
+}
+
+fn tell_want(want: Want, told: &mut String) -> Result<()> {
     match want {
-        Want::Line => Ok(String::from_str(alloc, "line")?),
-        Want::Rest => Ok(String::from_str(alloc, "rest")?),
-        Want::Big(count) => Ok(format!(in alloc; "big {count}")?),
+        Want::Line => Ok(told.push_str("line\n")?),
+        Want::Rest => Ok(told.push_str("rest\n")?),
+        Want::Big(count) => Ok(write!(told, "big {count}\n")?),
     }
 }
 

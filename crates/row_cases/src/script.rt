@@ -5,38 +5,49 @@ use std::alloc::{AllocError, Global};
 /// What takes the steps of a script.
 pub trait Stage {
     /// Takes a step, and tells what came of it: each thing one line, which begins with two spaces.
-    fn step(&mut self, alloc: Global, step: &str, told: &mut Vec<String>) -> Result<()>;
+    fn step(&mut self, alloc: Global, step: &str, told: &mut String) -> Result<()>;
 }
 
-/// The first line of a script that is told otherwise. A line that begins with spaces is what came of the step above it.
-pub fn script_fault<S: Stage>(
+/// Takes the steps of a script. A line that begins with spaces is what is to come of the step above it.
+pub fn run_script<S: Stage>(
     alloc: Global,
     stage: &mut S,
     lines: &[&str],
-) -> Result<Option<String>> {
-    let mut told = Vec::new(alloc);
-    for step in lines {
-        if !step.starts_with("  ") {
-            told.push(String::from_str(alloc, *step)?)?;
-            stage.step(alloc, *step, &mut told).context(*step)?;
+    faults: &mut Vec<String>,
+) -> Result<()> {
+    let mut told = String::new(alloc);
+    for line in lines {
+        if !line.starts_with("  ") {
+            take(alloc, stage, *line, &mut told)?;
         }
     }
-    Ok(first_difference(alloc, lines, told.as_slice())?)
+    compare(alloc, lines, told.as_str(), faults)
 }
 
-// The first line that is wanted and not told, or told and not wanted.
-fn first_difference(
-    alloc: Global,
-    wanted: &[&str],
-    told: &[String],
-) -> Result<Option<String>, AllocError> {
-    for (line, own) in wanted.iter().zip(told) {
-        if own.as_str() != *line {
-            return Ok(Some(format!(in alloc; "wanted \"{line}\", told \"{own}\"")?));
-        }
+// Tells a step and what comes of it.
+fn take<S: Stage>(alloc: Global, stage: &mut S, step: &str, told: &mut String) -> Result<()> {
+    tell_line("", step, told)?;
+    stage.step(alloc, step, told).context(step)
+}
+
+/// Tells a line, which begins so.
+pub fn tell_line(begin: &str, line: &str, told: &mut String) -> Result<(), AllocError> {
+    write!(told, "{begin}{line}\n")
+}
+
+// Notes all that is told, where it isn't these lines.
+fn compare(alloc: Global, lines: &[&str], told: &str, faults: &mut Vec<String>) -> Result<()> {
+    let wanted = text_of(alloc, lines)?;
+    if wanted.as_str() != told {
+        faults.push(format!(in alloc; "told otherwise:\n{told}")?)?;
     }
-    if wanted.len() == told.len() {
-        return Ok(None);
+    Ok(())
+}
+
+fn text_of(alloc: Global, lines: &[&str]) -> Result<String, AllocError> {
+    let mut text = String::new(alloc);
+    for line in lines {
+        tell_line("", *line, &mut text)?;
     }
-    Ok(Some(format!(in alloc; "wanted {} lines, told {}", wanted.len(), told.len())?))
+    Ok(text)
 }

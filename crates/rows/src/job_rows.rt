@@ -124,12 +124,16 @@ fn wrong_look_up<M: JobMap>(
     Ok(None)
 }
 
+/// The same in a map of these jobs.
+fn wrong_look_up_of<M: JobMap>(alloc: Global, rows: &[Row]) -> Result<Option<usize>, AllocError> {
+    let tube = Name::default_tube();
+    let jobs: M = map_of(alloc, &tube, rows)?;
+    wrong_look_up(alloc, &tube, &jobs, &FOUND)
+}
+
 #[test]
 fn look_ups_find_the_least(rt: HostRuntime) -> Result<(), Fail> {
-    let alloc = rt.alloc();
-    let tube = Name::default_tube();
-    let jobs: Jobs = map_of(alloc, &tube, &STORED)?;
-    assert_eq!(rt; wrong_look_up(alloc, &tube, &jobs, &FOUND)?, None);
+    assert_eq!(rt; wrong_look_up_of::<Jobs>(rt.alloc(), &STORED)?, None);
     Ok(())
 }
 
@@ -145,6 +149,27 @@ enum Change {
     SetState(u64, State),
 }
 
+fn insert<M: JobMap>(alloc: Global, tube: &Name, jobs: &mut M, row: Row) -> Result<(), AllocError>
+    ensures { M.before jobs.new ≡ M.before jobs.old }
+{
+    let (id, pri, state) = row;
+    let job = new_job(alloc, tube, pri, state)?;
+    jobs.insert(id, job)
+}
+
+fn insert_copy<M: JobMap>(
+    alloc: Global,
+    tube: &Name,
+    jobs: &mut M,
+    row: Row,
+) -> Result<(), AllocError>
+    ensures { M.before jobs.new ≡ M.before jobs.old }
+{
+    let (id, pri, state) = row;
+    let job = new_job(alloc, tube, pri, state)?;
+    jobs.insert(id, job.copy()?)
+}
+
 fn make<M: JobMap>(
     alloc: Global,
     tube: &Name,
@@ -154,12 +179,8 @@ fn make<M: JobMap>(
     ensures { M.before jobs.new ≡ M.before jobs.old }
 {
     match change {
-        Change::Insert((id, pri, state)) => {
-            jobs.insert(*id, new_job(alloc, tube, *pri, *state)?)
-        }
-        Change::InsertCopy((id, pri, state)) => {
-            jobs.insert(*id, new_job(alloc, tube, *pri, *state)?.copy()?)
-        }
+        Change::Insert(row) => insert(alloc, tube, jobs, *row),
+        Change::InsertCopy(row) => insert_copy(alloc, tube, jobs, *row),
         Change::Set((id, pri, state)) => jobs.set(*id, *pri, state.copy()?),
         Change::SetState(id, state) => jobs.set_state(*id, *state),
     }
@@ -215,6 +236,27 @@ fn is_taken_back<M: JobMap>(
     Ok(is_changed && is_copied)
 }
 
+/// Makes these changes, which stay.
+fn is_kept<M: JobMap>(
+    alloc: Global,
+    tube: &Name,
+    jobs: &mut M,
+    changes: &[Change],
+) -> Result<bool, AllocError> {
+    jobs.begin();
+    make_all(alloc, tube, jobs, changes)?;
+    jobs.commit();
+    Ok(true)
+}
+
+/// Whether a job of this body is taken out.
+fn is_removed<M: JobMap>(jobs: &mut M, id: u64, body: &[u8]) -> bool {
+    match jobs.remove(id) {
+        Some(job) => job.body.as_slice() == body,
+        None => false,
+    }
+}
+
 /// The step goes as it says.
 fn goes<M: JobMap>(
     alloc: Global,
@@ -226,16 +268,8 @@ fn goes<M: JobMap>(
         Step::Holds(rows) => holds(alloc, jobs, *rows),
         Step::Get(id, pri) => Ok(jobs.get(*id).map(|job| job.pri) == *pri),
         Step::TakenBack(changes, rows) => is_taken_back(alloc, tube, jobs, *changes, *rows),
-        Step::Kept(changes) => {
-            jobs.begin();
-            make_all(alloc, tube, jobs, *changes)?;
-            jobs.commit();
-            Ok(true)
-        }
-        Step::Remove(id, body) => match jobs.remove(*id) {
-            Some(job) => Ok(job.body.as_slice() == *body),
-            None => Ok(false),
-        },
+        Step::Kept(changes) => is_kept(alloc, tube, jobs, *changes),
+        Step::Remove(id, body) => Ok(is_removed(jobs, *id, *body)),
         Step::RemoveNone(id) => Ok(jobs.remove(*id).is_none()),
     }
 }
@@ -280,11 +314,15 @@ static CHANGES: [Step; 8] = [
     Step::RemoveNone(2),
 ];
 
+/// The place of the first change that a map of these jobs takes otherwise.
+fn wrong_change_of<M: JobMap>(alloc: Global, rows: &[Row]) -> Result<Option<usize>, AllocError> {
+    let tube = Name::default_tube();
+    let mut jobs: M = map_of(alloc, &tube, rows)?;
+    wrong_step(alloc, &tube, &mut jobs, &CHANGES)
+}
+
 #[test]
 fn changes_stay_or_are_taken_back(rt: HostRuntime) -> Result<(), Fail> {
-    let alloc = rt.alloc();
-    let tube = Name::default_tube();
-    let mut jobs: Jobs = map_of(alloc, &tube, &FIRST)?;
-    assert_eq!(rt; wrong_step(alloc, &tube, &mut jobs, &CHANGES)?, None);
+    assert_eq!(rt; wrong_change_of::<Jobs>(rt.alloc(), &FIRST)?, None);
     Ok(())
 }

@@ -119,38 +119,69 @@ fn goes(
         Step::Wake => leader.wake(letters)?,
         Step::Nudge => leader.nudge(letters)?,
         Step::Propose(number, value) => leader.propose(slot(*number)?, *value, letters)?,
-        Step::Preempted(round) => leader.preempted(ballot(*round)?)?,
-        Step::LastPreempted(round) => {
-            return Ok(leader.preempted(ballot(*round)?) == Err(LeaderError::NoBallotLeft));
-        }
-        Step::P1b(round, report) => {
-            let report = pvalues(alloc, *report)?;
-            leader.on_p1b(1, ballot(*round)?, report.as_slice(), letters)?
-        }
-        Step::LastP1b(round) => {
-            let heard = leader.on_p1b(1, ballot(*round)?, &[], letters);
-            return Ok(heard == Err(LeaderError::NoBallotLeft));
-        }
-        Step::P2b(promised, number, asked) => {
-            let promised = Some(ballot(*promised)?);
-            leader.on_p2b(1, promised, slot(*number)?, ballot(*asked)?, letters)?
-        }
         Step::Forget => letters.clear(),
         Step::Says(said) => return Ok(*letters == letters_of(alloc, *said)?),
+        _ => return hears(alloc, leader, step, letters),
     }
     Ok(true)
 }
 
-/// The place of the first step that a new leader takes otherwise.
-fn wrong_step(alloc: Global, steps: &[Step]) -> Result<Option<usize>, Fail> {
-    let mut leader = alone(alloc)?;
+/// What the leader hears goes as the step says.
+fn hears(
+    alloc: Global,
+    leader: &mut Leader<Word>,
+    step: &Step,
+    letters: &mut Vec<Letter<Word>>,
+) -> Result<bool, Fail> {
+    match step {
+        Step::Preempted(round) => Ok(leader.preempted(ballot(*round)?).is_ok()),
+        Step::LastPreempted(round) => {
+            Ok(leader.preempted(ballot(*round)?) == Err(LeaderError::NoBallotLeft))
+        }
+        Step::P1b(round, report) => {
+            let report = pvalues(alloc, *report)?;
+            Ok(
+                leader
+                    .on_p1b(1, ballot(*round)?, report.as_slice(), letters)
+                    .is_ok(),
+            )
+        }
+        Step::LastP1b(round) => {
+            let heard = leader.on_p1b(1, ballot(*round)?, &[], letters);
+            Ok(heard == Err(LeaderError::NoBallotLeft))
+        }
+        Step::P2b(promised, number, asked) => {
+            let promised = Some(ballot(*promised)?);
+            let asked = ballot(*asked)?;
+            Ok(
+                leader
+                    .on_p2b(1, promised, slot(*number)?, asked, letters)
+                    .is_ok(),
+            )
+        }
+        _ => Ok(false),
+    }
+}
+
+/// The place of the first step that the leader takes otherwise.
+fn wrong_step(
+    alloc: Global,
+    leader: &mut Leader<Word>,
+    steps: &[Step],
+) -> Result<Option<usize>, Fail> {
     let mut letters = Vec::new(alloc);
     for (place, step) in steps.iter().enumerate() {
-        if !goes(alloc, &mut leader, step, &mut letters)? {
+        if !goes(alloc, leader, step, &mut letters)? {
             return Ok(Some(place));
         }
     }
     Ok(None)
+}
+
+/// The same of a new leader.
+fn wrong_step_of_new(alloc: Global, steps: &[Step]) -> Result<Option<usize>, Fail> {
+    let mut leader = alone(alloc)?;
+    wrong_step(alloc, &mut leader, steps)
 }
 
 static DECIDED: [Step; 9] = [
@@ -170,12 +201,6 @@ static DECIDED: [Step; 9] = [
         Said::Decision(1, Word(7)),
     ]),
 ];
-
-#[test]
-fn a_leader_of_one_member_decides(rt: HostRuntime) -> Result<(), Fail> {
-    assert_eq!(rt; wrong_step(rt.alloc(), &DECIDED)?, None);
-    Ok(())
-}
 
 static ADOPTED: [Step; 6] = [
     Step::Propose(3, Word(3)),
@@ -199,12 +224,6 @@ static ADOPTED: [Step; 6] = [
     ]),
 ];
 
-#[test]
-fn the_greatest_ballot_goes_before_the_own_proposal(rt: HostRuntime) -> Result<(), Fail> {
-    assert_eq!(rt; wrong_step(rt.alloc(), &ADOPTED)?, None);
-    Ok(())
-}
-
 static OLDER_VOTE: [Step; 9] = [
     Step::Propose(1, Word(7)),
     Step::Preempted(1),
@@ -217,12 +236,6 @@ static OLDER_VOTE: [Step; 9] = [
     Step::Says(&[Said::Decision(1, Word(7))]),
 ];
 
-#[test]
-fn a_vote_for_an_older_p2a_does_not_count(rt: HostRuntime) -> Result<(), Fail> {
-    assert_eq!(rt; wrong_step(rt.alloc(), &OLDER_VOTE)?, None);
-    Ok(())
-}
-
 static LAST_ROUND: [Step; 5] = [
     Step::LastPreempted(1 << 62),
     Step::Wake,
@@ -232,7 +245,23 @@ static LAST_ROUND: [Step; 5] = [
 ];
 
 #[test]
-fn no_ballot_comes_after_the_last_round(rt: HostRuntime) -> Result<(), Fail> {
-    assert_eq!(rt; wrong_step(rt.alloc(), &LAST_ROUND)?, None);
+fn leaders_go_so(rt: HostRuntime) -> Result<(), Fail> {
+    for (title, steps) in [
+        ("a leader of one member decides", DECIDED.as_slice()),
+        (
+            "the greatest ballot goes before the own proposal",
+            ADOPTED.as_slice(),
+        ),
+        (
+            "a vote for an older p2a doesn't count",
+            OLDER_VOTE.as_slice(),
+        ),
+        (
+            "no ballot comes after the last round",
+            LAST_ROUND.as_slice(),
+        ),
+    ] {
+        assert_eq!(rt; wrong_step_of_new(rt.alloc(), steps)?, None, "{title}");
+    }
     Ok(())
 }

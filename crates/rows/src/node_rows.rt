@@ -56,13 +56,25 @@ fn members(count: u8) -> Result<Members, Fail> {
     Ok(Members::new(count).ok_or("no members")?)
 }
 
+/// Whether so many members have this majority, and are these.
+fn is_majority(count: u8, majority: u32) -> Result<bool, Fail> {
+    let members = members(count)?;
+    Ok(
+        members.majority() == majority
+            && members.count() == count
+            && members.has(count)
+            && !members.has(0)
+            && !members.has(count.saturating_add(1)),
+    )
+}
+
+/// How many members there are, and their majority.
+static MAJORITIES: [(u8, u32); 7] = [(1, 1), (2, 2), (3, 2), (4, 3), (5, 3), (6, 4), (7, 4)];
+
 #[test]
 fn majorities_of_one_to_seven(rt: HostRuntime) -> Result<(), Fail> {
-    for (count, majority) in [(1, 1), (2, 2), (3, 2), (4, 3), (5, 3), (6, 4), (7, 4)] {
-        let members = members(count)?;
-        assert_eq!(rt; members.majority(), majority, "of {count}");
-        assert_eq!(rt; members.count(), count);
-        assert!(rt; members.has(count) && !members.has(0) && !members.has(count + 1));
+    for (count, majority) in MAJORITIES.iter() {
+        assert!(rt; is_majority(*count, *majority)?, "of {count}");
     }
     assert!(rt; Members::new(0).is_none());
     assert!(rt; Members::new(8).is_none());
@@ -79,33 +91,48 @@ static RISING: [Numbers; 6] = [
     (1 << 62, 7, 1 << 62),
 ];
 
+/// Whether the first ballot is less.
+fn is_less(lower: Numbers, greater: Numbers) -> Result<bool, Fail> {
+    Ok(ballot(lower)? < ballot(greater)?)
+}
+
+/// Numbers of no ballot.
+static NO_BALLOTS: [Numbers; 4] = [
+    ((1 << 62) + 1, 1, 0),
+    (0, 0, 0),
+    (0, 8, 0),
+    (0, 1, (1 << 62) + 1),
+];
+
+fn is_ballot(numbers: Numbers) -> bool {
+    let (round, node, boot) = numbers;
+    Ballot::new(round, node, boot).is_some()
+}
+
 #[test]
 fn ballots_are_ordered_by_round_node_and_boot(rt: HostRuntime) -> Result<(), Fail> {
     for (lower, greater) in RISING.iter().zip(RISING.iter().skip(1)) {
-        assert!(rt;
-            ballot(*lower)? < ballot(*greater)?,
-            "{lower:?} {greater:?}"
-        );
+        assert!(rt; is_less(*lower, *greater)?, "{lower:?} {greater:?}");
     }
-    let above = 1u64 << 62;
-    for (round, node, boot) in [(above + 1, 1, 0), (0, 0, 0), (0, 8, 0), (0, 1, above + 1)] {
-        assert!(rt; Ballot::new(round, node, boot).is_none());
+    for numbers in NO_BALLOTS.iter() {
+        assert!(rt; !is_ballot(*numbers), "{numbers:?}");
     }
     Ok(())
 }
 
+/// Whether the next ballot of the node and boot is this one.
+fn is_next(own: Numbers, node: u8, boot: u64, next: Option<Numbers>) -> Result<bool, Fail> {
+    let found = ballot(own)?.next_after(node, boot);
+    match next {
+        Some(numbers) => Ok(found == Some(ballot(numbers)?)),
+        None => Ok(found.is_none()),
+    }
+}
+
 #[test]
 fn a_later_ballot_is_of_the_next_round(rt: HostRuntime) -> Result<(), Fail> {
-    for (own, node, boot, next) in [
-        ((4, 1, 9), 3, 2, Some((5, 3, 2))),
-        ((1 << 62, 1, 0), 1, 0, None),
-    ] {
-        let found = ballot(own)?.next_after(node, boot);
-        match next {
-            Some(numbers) => assert_eq!(rt; found, Some(ballot(numbers)?)),
-            None => assert_eq!(rt; found, None),
-        }
-    }
+    assert!(rt; is_next((4, 1, 9), 3, 2, Some((5, 3, 2)))?);
+    assert!(rt; is_next((1 << 62, 1, 0), 1, 0, None)?);
     Ok(())
 }
 
@@ -232,20 +259,30 @@ fn hear_alike(alloc: Global, scout: &mut Scout<Token>, row: &Scouted) -> Result<
     Ok(said && twin.gathered() == scout.copy()?.gathered())
 }
 
+/// The place of the first row that the scout hears otherwise.
+fn wrong_scouted(
+    alloc: Global,
+    scout: &mut Scout<Token>,
+    rows: &[Scouted],
+) -> Result<Option<usize>, Fail> {
+    for (place, row) in rows.iter().enumerate() {
+        if !hear_alike(alloc, scout, row)? {
+            return Ok(Some(place));
+        }
+    }
+    Ok(None)
+}
+
+/// Whether the scout has gathered these.
+fn has_gathered(alloc: Global, scout: &Scout<Token>, parts: &[Parts]) -> Result<bool, Fail> {
+    Ok(scout.copy()?.gathered() == pvalues(alloc, parts)?)
+}
+
 #[test]
 fn a_scout_hears_each_member_once(rt: HostRuntime) -> Result<(), Fail> {
-    let alloc = rt.alloc();
-    let mut scout: Scout<Token> = Scout::new(alloc, members(3)?, ballot(FIRST)?);
-    for row in &SCOUTED {
-        assert!(rt;
-            hear_alike(alloc, &mut scout, row)?,
-            "{} {:?}",
-            row.0,
-            row.1
-        );
-    }
-    let expected = pvalues(alloc, &[(FIRST, 1, Token::X)])?;
-    assert!(rt; scout.gathered() == expected);
+    let mut scout: Scout<Token> = Scout::new(rt.alloc(), members(3)?, ballot(FIRST)?);
+    assert_eq!(rt; wrong_scouted(rt.alloc(), &mut scout, &SCOUTED)?, None);
+    assert!(rt; has_gathered(rt.alloc(), &scout, &[(FIRST, 1, Token::X)])?);
     Ok(())
 }
 
@@ -271,18 +308,29 @@ fn is_voted(voted: Voted, told: Option<Ballot>, said: &Said) -> bool {
     }
 }
 
+/// Whether the commander says so.
+fn votes(
+    commander: &mut Commander<Token>,
+    from: u8,
+    numbers: Option<Numbers>,
+    said: &Said,
+) -> Result<bool, Fail> {
+    let told = match numbers {
+        Some(numbers) => Some(ballot(numbers)?),
+        None => None,
+    };
+    let voted = commander.on_p2b(from, told);
+    Ok(is_voted(voted, told, said))
+}
+
 #[test]
 fn a_commander_counts_each_member_once(rt: HostRuntime) -> Result<(), Fail> {
     let own = pvalue((OWN, 5, Token::Y))?;
     let mut commander = Commander::new(members(3)?, own.copy()?);
     assert!(rt; *commander.pvalue() == own);
     for (from, numbers, said) in VOTES.iter() {
-        let told = match numbers {
-            Some(numbers) => Some(ballot(*numbers)?),
-            None => None,
-        };
-        let voted = commander.on_p2b(*from, told);
-        assert!(rt; is_voted(voted, told, said), "{from} {numbers:?}");
+        let right = votes(&mut commander, *from, *numbers, said)?;
+        assert!(rt; right, "{from} {numbers:?}");
     }
     Ok(())
 }

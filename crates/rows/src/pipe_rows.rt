@@ -1,6 +1,6 @@
 //! What a client is told that waits for each reply before it sends the next command.
 use beanpax::memory::PieceWriter;
-use beanpax::{Reading, Writing, program};
+use beanpax::{ByteIn, ByteOut, Reading, Writing, program};
 use std::alloc::Global;
 use std::io::{PipeReader, PipeWriter, Read, Write, pipe};
 use std::test::Fail;
@@ -16,10 +16,21 @@ static TALK: [(&[u8], &[u8]); 6] = [
     (b"delete 1\r\n", b"DELETED\r\n"),
 ];
 
+/// The program's status.
+fn status_of<R: ByteIn, W: ByteOut, E: ByteOut>(
+    alloc: Global,
+    words: &[String],
+    input: &mut R,
+    output: &mut W,
+    errors: &mut E,
+) -> u8 {
+    program(alloc, words, input, output, errors)
+}
+
 /// Serves the client at the other ends of the pipes. Answers the status.
 fn serve(alloc: Global, words: &[String], input: PipeReader, output: PipeWriter) -> u8 {
     let mut errors = PieceWriter::new(alloc, 64, 64);
-    program(
+    status_of(
         alloc,
         words,
         &mut Reading::new(input),

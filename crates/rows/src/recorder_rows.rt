@@ -172,32 +172,50 @@ fn finds(recorder: &Recorder<RegisterOp, RegisterReply>, row: &Known) -> bool {
     after == row.after && reply == row.value.map(RegisterReply::Value)
 }
 
-#[test]
-fn the_first_of_each_key_counts(rt: HostRuntime) -> Result<(), Fail> {
-    let recorder = recorder_of(rt.alloc(), &TOLD)?;
-    let known = vec![in rt.alloc(); answer(FIRST, 1), answer(OTHER, 2), answer(SECOND, 5)]?;
-    assert!(rt; recorder.answers() == known.as_slice());
-    for row in &KNOWN {
-        assert!(rt; finds(&recorder, row), "{:?}", row.key);
-    }
-    assert_eq!(rt; recorder.submitted().len(), 3);
-    Ok(())
+/// Whether the recorder finds what is known, and no more.
+fn finds_all(alloc: Global, recorder: &Recorder<RegisterOp, RegisterReply>) -> Result<bool, Fail> {
+    let answers = vec![in alloc; answer(FIRST, 1), answer(OTHER, 2), answer(SECOND, 5)]?;
+    Ok(
+        recorder.answers() == answers.as_slice()
+            && recorder.submitted().len() == 3
+            && KNOWN.iter().all(|row| finds(recorder, row)),
+    )
 }
 
 #[test]
-fn a_key_is_placed_once(rt: HostRuntime) -> Result<(), Fail> {
-    let mut recorder: Recorder<RegisterOp, RegisterReply> = Recorder::new(rt.alloc());
+fn the_first_of_each_key_counts(rt: HostRuntime) -> Result<(), Fail> {
+    let recorder = recorder_of(rt.alloc(), &TOLD)?;
+    assert!(rt; finds_all(rt.alloc(), &recorder)?);
+    Ok(())
+}
+
+/// A recorder of three commands, two of which were placed.
+fn placed(alloc: Global) -> Result<Recorder<RegisterOp, RegisterReply>, Fail> {
+    let mut recorder: Recorder<RegisterOp, RegisterReply> = Recorder::new(alloc);
     for key in [FIRST, SECOND, OTHER] {
         submit(&mut recorder, key, 5, true)?;
     }
     for (key, is_new) in [(OTHER, true), (FIRST, true), (OTHER, false)] {
         place(&mut recorder, key, is_new)?;
     }
+    Ok(recorder)
+}
+
+/// Whether copies of the recorder's lists are alike, and none of its keys was answered.
+fn copies_alike(recorder: &Recorder<RegisterOp, RegisterReply>) -> Result<bool, Fail> {
+    let (submitted, answers, order) = recorder.copies()?;
+    Ok(
+        submitted.as_slice() == recorder.submitted()
+            && answers.is_empty()
+            && order.as_slice() == recorder.order(),
+    )
+}
+
+#[test]
+fn a_key_is_placed_once(rt: HostRuntime) -> Result<(), Fail> {
+    let recorder = placed(rt.alloc())?;
     assert!(rt; recorder.is_placed(FIRST) && !recorder.is_placed(SECOND));
     assert!(rt; recorder.order() == [OTHER, FIRST].as_slice());
-    let (submitted, answers, order) = recorder.copies()?;
-    assert!(rt; submitted.as_slice() == recorder.submitted());
-    assert!(rt; answers.is_empty());
-    assert!(rt; order.as_slice() == recorder.order());
+    assert!(rt; copies_alike(&recorder)?);
     Ok(())
 }

@@ -155,15 +155,24 @@ fn proposes_to(log: &mut SlotLog<Command<Word>>, last: u64) -> Result<bool, Fail
     Ok(true)
 }
 
-/// The place of the first step that a new log takes otherwise.
-fn wrong_step(alloc: Global, steps: &[Step]) -> Result<Option<usize>, Fail> {
-    let mut log = SlotLog::new(alloc);
+/// The place of the first step that the log takes otherwise.
+fn wrong_step(
+    alloc: Global,
+    log: &mut SlotLog<Command<Word>>,
+    steps: &[Step],
+) -> Result<Option<usize>, Fail> {
     for (place, step) in steps.iter().enumerate() {
-        if !goes(alloc, &mut log, step)? {
+        if !goes(alloc, log, step)? {
             return Ok(Some(place));
         }
     }
     Ok(None)
+}
+
+/// The same of a new log.
+fn wrong_step_of_new(alloc: Global, steps: &[Step]) -> Result<Option<usize>, Fail> {
+    let mut log = SlotLog::new(alloc);
+    wrong_step(alloc, &mut log, steps)
 }
 
 static WINDOW: [Step; 8] = [
@@ -177,12 +186,6 @@ static WINDOW: [Step; 8] = [
     Step::Propose(Some((65, (65, 0)))),
 ];
 
-#[test]
-fn proposals_stop_at_the_window(rt: HostRuntime) -> Result<(), Fail> {
-    assert_eq!(rt; wrong_step(rt.alloc(), &WINDOW)?, None);
-    Ok(())
-}
-
 static KNOWN: [Step; 10] = [
     Step::Request((1, 0)),
     Step::Request((1, 0)),
@@ -195,12 +198,6 @@ static KNOWN: [Step; 10] = [
     Step::Request((2, 0)),
     Step::Propose(None),
 ];
-
-#[test]
-fn a_known_command_is_no_request(rt: HostRuntime) -> Result<(), Fail> {
-    assert_eq!(rt; wrong_step(rt.alloc(), &KNOWN)?, None);
-    Ok(())
-}
 
 static LOST: [Step; 12] = [
     Step::Request((1, 0)),
@@ -217,12 +214,6 @@ static LOST: [Step; 12] = [
     Step::Propose(Some((3, (1, 0)))),
 ];
 
-#[test]
-fn a_lost_proposal_goes_back(rt: HostRuntime) -> Result<(), Fail> {
-    assert_eq!(rt; wrong_step(rt.alloc(), &LOST)?, None);
-    Ok(())
-}
-
 static DECIDED: [Step; 8] = [
     Step::Learn((70, (70, 0))),
     Step::Learn((69, (69, 0))),
@@ -235,7 +226,14 @@ static DECIDED: [Step; 8] = [
 ];
 
 #[test]
-fn a_slot_is_decided_once(rt: HostRuntime) -> Result<(), Fail> {
-    assert_eq!(rt; wrong_step(rt.alloc(), &DECIDED)?, None);
+fn slot_logs_go_so(rt: HostRuntime) -> Result<(), Fail> {
+    for (title, steps) in [
+        ("proposals stop at the window", WINDOW.as_slice()),
+        ("a known command is no request", KNOWN.as_slice()),
+        ("a lost proposal goes back", LOST.as_slice()),
+        ("a slot is decided once", DECIDED.as_slice()),
+    ] {
+        assert_eq!(rt; wrong_step_of_new(rt.alloc(), steps)?, None, "{title}");
+    }
     Ok(())
 }
