@@ -60,9 +60,9 @@ module _ {O Op Reply : Type 0} (rules : Rules O Op Reply) (h : Happenings Op Rep
       let own = legal.answered first.0 (firsts_in answered_key first.0 h.answers first.1) in
       let placed = replay rules.fresh rules.after rules.answers order in
       let one : first.0 ≡ a = once_one answered_key (map (λ (p : Placed Reply). p.answer) placed) legal.once first.0 a
-          (In-map (λ (p : Placed Reply). p.answer) (record { place = own.0; answer = first.0 }) placed own.1)
-          (In-map (λ (p : Placed Reply). p.answer) (record { place = place; answer = a }) placed given)
-          first.2 in
+      (In-map (λ (p : Placed Reply). p.answer) (record { place = own.0; answer = first.0 }) placed own.1)
+      (In-map (λ (p : Placed Reply). p.answer) (record { place = place; answer = a }) placed given)
+      first.2 in
       subst (λ (b : Answer Reply). In b (firsts answered_key h.answers)) one first.1
 
 -- what a hall shows is explained

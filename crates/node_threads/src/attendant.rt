@@ -27,8 +27,7 @@ pub(crate) struct Attendant<'a, O: Object, S: Ledger, C: Ledger, R, G> {
 }
 
 impl<'a, O: Object<Op = Op, Reply = Reply>, S: Ledger, C: Ledger, R: Wait, G: Gate> Service
-    for Attendant<'a, O, S, C, R, G>
-{
+    for Attendant<'a, O, S, C, R, G> {
     ghost use Rattle.node_threads.specs.Attending.{Adds, Ends, held_by};
 
     ghost asks = { λ old op result new. Adds (held_by old.ticket old.commands.amount) op result
@@ -90,9 +89,9 @@ impl<'a, O: Object, S: Ledger, C: Ledger, R: Wait, G> Attendant<'a, O, S, C, R, 
             × ((noted : Option O.Reply) × (self.new.ticket ≡ with_noted self.old.ticket noted))) }
         ensures commands { self.new.commands ≡ self.old.commands }
     {
-        let Ok(()) =
-            self.shared
-                .note_answer(self.rt, &mut self.ticket, self.worker, self.node)
+        let Ok(()) = self
+            .shared
+            .note_answer(self.rt, &mut self.ticket, self.worker, self.node)
         else {
             return Err(ServiceFault::Stopped);
         };

@@ -41,11 +41,7 @@ impl<O: Object> Model for SimulatedHall<O> {
 
 impl<O: Object> SimulatedHall<O> {
     /// A new hall, at second 0.
-    pub fn new(
-        alloc: Global,
-        members: Members,
-        seed: u64,
-    ) -> Result<SimulatedHall<O>, AllocError>
+    pub fn new(alloc: Global, members: Members, seed: u64) -> Result<SimulatedHall<O>, AllocError>
         ensures { IfOk result (λ s. StandsFor O.rules s (opened O.rules)) }
     {
         Ok(SimulatedHall {

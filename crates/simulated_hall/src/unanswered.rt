@@ -1,4 +1,3 @@
-
 /// Why an operation has no reply.
 #[derive(Clone, Copy, Debug, PartialEq, Eq)]
 pub enum Unanswered {
