@@ -118,7 +118,7 @@ turns-preserved g c =
     let going : Goes g.S.Service.asks c.args.service.now c.turns.service a b h l [] (ComesTo found t) =
     sends g.S.Service.asks c.args.service.now c.turns.service a b h k l t.unsent (ComesTo found t) sent
     (finds g.S.Service.asks c.args.service.now c.turns.service a b h k c.turns.session t found c.in_ok-found.ensures.found c.turns.invariant.goes) in
-    elim c.match-found-5.branch [
+    elim c.match-found-4.branch [
       | in-None+in_ok-read_piece-in-None+else-not-branch w ↦
           let m = g.R.ByteIn.remaining w.read_piece.new.reader in
           let s = w.read_piece.new.session in
@@ -126,7 +126,7 @@ turns-preserved g c =
           let fed = w.in_ok-read_piece-in-None.ensures.fed some in
           let stands : (text : List ℕ) → StandsAt t text → StandsAt s (text ++ fed.0) = subst (λ (u : Held). (text : List ℕ) → StandsAt u text → StandsAt s (text ++ fed.0)) cleared fed.5 in
           record {
-            goes = goes_as g.S.Service.asks c.args.service.now c.turns.service c.match-found-5.service a m (g.R.ByteIn.remaining c.match-found-5.reader) h l [] s c.match-found-5.session w.service-is (ap g.R.ByteIn.remaining w.reader-is) w.session-is (fed.3 ∙ ap (λ (u : Held). u.unsent) cleared)
+            goes = goes_as g.S.Service.asks c.args.service.now c.turns.service c.match-found-4.service a m (g.R.ByteIn.remaining c.match-found-4.reader) h l [] s c.match-found-4.session w.service-is (ap g.R.ByteIn.remaining w.reader-is) w.session-is (fed.3 ∙ ap (λ (u : Held). u.unsent) cleared)
                 (reads g.S.Service.asks c.args.service.now c.turns.service a b m h l fed.0 t s fed.2 stands
                 (subst (λ found. Goes g.S.Service.asks c.args.service.now c.turns.service a b h l [] (ComesTo found t)) w.in-None.is going));
             closed = ap (λ (u : Held). u.is_open) w.session-is ∙ (fed.4 ∙ (ap (λ (u : Held). u.is_open) cleared ∙ (closed ∙ ap is_asked w.in-None.is)));
@@ -138,7 +138,7 @@ turns-preserved g c =
           let s : Held = record t { unsent = answer_text given.0; is_open = false } in
           let after : w.answer.new.session ≡ s = given.2 ∙ ap (λ (u : Held). record u { unsent = u.unsent ++ answer_text given.0; is_open = false }) cleared in
           record {
-            goes = goes_as g.S.Service.asks c.args.service.now w.answer.new.service c.match-found-5.service a b (g.R.ByteIn.remaining c.match-found-5.reader) h l (answer_text given.0) s c.match-found-5.session w.service-is (ap g.R.ByteIn.remaining w.reader-is) (w.session-is ∙ after) refl
+            goes = goes_as g.S.Service.asks c.args.service.now w.answer.new.service c.match-found-4.service a b (g.R.ByteIn.remaining c.match-found-4.reader) h l (answer_text given.0) s c.match-found-4.session w.service-is (ap g.R.ByteIn.remaining w.reader-is) (w.session-is ∙ after) refl
                 (answers g.S.Service.asks c.args.service.now c.turns.service w.answer.new.service a b h l t op given.0 given.1
                 (subst (λ found. Goes g.S.Service.asks c.args.service.now c.turns.service a b h l [] (ComesTo found t)) asks going));
             closed = ap (λ (u : Held). u.is_open) (w.session-is ∙ after);
