@@ -1,3 +1,4 @@
 pub mod Counts
 pub mod Noting
 pub mod Seen
+pub mod Balances

@@ -1,5 +1,5 @@
 -- What a worker holds while it serves a client, and how an ask changes that.
-use Rattle.std.specs.Prelude.{◌≡◌, ◌⊎◌, ℕ, ◌+◌, Option, None, Some, Result, Ok, Err}
+use Rattle.std.specs.Prelude.{◌≡◌, ◌⊎◌, ℕ, ◌+◌, List, map, length, sum, Option, None, Some, Result, Ok, Err}
 use Rattle.object.specs.declared.command.Act.{Act}
 use Rattle.object.specs.declared.command.Act.TheVariants.{Do, Close}
 use Rattle.session.specs.declared.faults.ServiceFault.{ServiceFault}
@@ -31,3 +31,7 @@ Ends old (Err Stopped) new = (new ≡ old) ⊎ (new ≡ with_one old Close None)
 -- the ticket, and so many commands
 abbrev pub held_by : {Op Reply : Type 0} → TicketState Op Reply → ℕ → Held Op Reply
 held_by ticket count = record { ticket = ticket; count = count }
+
+-- how many acts all these tickets have
+abbrev pub acts_in : {Op Reply : Type 0} → List (TicketState Op Reply) → ℕ
+acts_in tickets = sum (map (λ t. length t.acts) tickets)

@@ -1,4 +1,4 @@
-ghost use Rattle.std.specs.Prelude.{◌≡◌, ◌⊎◌, true, Ok, Err, IfOk};
+ghost use Rattle.std.specs.Prelude.{◌≡◌, ◌⊎◌, ◌+◌, true, length, Ok, Err, IfOk};
 ghost use Rattle.std.specs.Io.KnownBytes.{IsAtEnd};
 ghost use Rattle.session.specs.declared.faults.End.{End};
 ghost use Rattle.session.specs.declared.faults.ServiceFault.{ServiceFault};
@@ -58,6 +58,8 @@ pub fn attend<
 ) -> Attended<O, C, I>
     requires { commands.parts ≡ 1 }
     ensures one_part { result.commands.parts ≡ 1 }
+    ensures counted { result.commands.amount + length ticket.acts
+        ≡ commands.amount + length result.ticket.acts }
     ensures ok { IfOk result.ended (λ end. Over (I.remaining reader) (I.remaining result.reader)
         (W.contents writer.old) (W.contents writer.new)
         (λ input output. ClosedAfter Ends

@@ -1,9 +1,9 @@
-ghost use Rattle.std.specs.Prelude.{◌≡◌, ◌+◌, ◌<◌, ℕ, length, sum, IfOk, OnOk, OnErr};
+ghost use Rattle.std.specs.Prelude.{◌≡◌, ◌+◌, ◌<◌, [], ℕ, length, sum, IfOk, OnOk, OnErr};
 ghost use Rattle.hall.specs.Tickets.{new_ticket, with_act};
 
 use hall::{Hall, HallError, Ticket};
 use object::{Act, Object};
-use std::sync::ledger::{Book, Ledger, Share};
+use std::sync::ledger::{Blank, Book, Ledger, Share};
 
 /// A hall, and beside it how many sessions were opened there and how many commands these handed in. The counts are the
 /// totals of two ledgers, in which each thread has its share.
@@ -17,6 +17,56 @@ pub(crate) struct CountedHall<O: Object, S: Ledger, C: Ledger> {
 }
 
 impl<O: Object, S: Ledger, C: Ledger> CountedHall<O, S, C> {
+    /// A hall in which no session was opened yet, with the shares of all of both counts.
+    pub(crate) fn new(
+        hall: Hall<O>,
+        sessions: Blank,
+        commands: Blank,
+    ) -> (CountedHall<O, S, C>, Share<S>, Share<C>)
+        requires none { hall.book ≡ [] }
+        requires sessions_name { sessions.name ≡ S.name }
+        requires sessions_parts { sessions.parts ≡ S.parts }
+        requires commands_name { commands.name ≡ C.name }
+        requires commands_parts { commands.parts ≡ C.parts }
+        ensures sessions { (result.1.parts ≡ S.parts) × (result.1.amount ≡ 0) }
+        ensures commands { (result.2.parts ≡ C.parts) × (result.2.amount ≡ 0) }
+    {
+        let (sessions, all_sessions) = sessions.open::<S>();
+        let (commands, all_commands) = commands.open::<C>();
+        (
+            CountedHall {
+                hall,
+                sessions,
+                commands,
+            },
+            all_sessions,
+            all_commands,
+        )
+    }
+
+    /// The hall, and what all shares together say of it.
+    pub(crate) fn into_hall(
+        self,
+        all_sessions: &mut Share<S>,
+        all_commands: &mut Share<C>,
+    ) -> Hall<O>
+        requires sessions { all_sessions.old.parts ≡ S.parts }
+        requires commands { all_commands.old.parts ≡ C.parts }
+        ensures opened { length result.book ≡ all_sessions.new.amount }
+        ensures handed_in { sum result.book ≡ all_commands.new.amount }
+        ensures sessions { all_sessions.new.amount ≡ all_sessions.old.amount }
+        ensures commands { all_commands.new.amount ≡ all_commands.old.amount }
+    {
+        let CountedHall {
+            hall,
+            mut sessions,
+            mut commands,
+        } = self;
+        sessions.audit(all_sessions);
+        commands.audit(all_commands);
+        hall
+    }
+
     /// Opens a session, which counts in this share.
     pub(crate) fn open_session(&mut self, mine: &mut Share<S>) -> Result<Ticket<O>, HallError>
         requires { 0 < mine.old.parts }

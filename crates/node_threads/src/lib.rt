@@ -7,7 +7,9 @@ mod counted_hall;
 mod gate;
 mod shared;
 mod watched_reader;
+mod worker;
 
 pub use attending::{Attended, Desk, attend};
 pub use gate::{Actor, Gate, Point};
 pub use shared::Shared;
+pub use worker::Worker;

@@ -1,11 +1,11 @@
-ghost use Rattle.std.specs.Prelude.{◌≡◌, ◌+◌, ◌<◌, Some, OnOk, OnErr};
-ghost use Rattle.hall.specs.Tickets.{with_act, with_noted};
+ghost use Rattle.std.specs.Prelude.{◌≡◌, ◌+◌, ◌<◌, [], ℕ, Some, IfOk, OnOk, OnErr, length, sum};
+ghost use Rattle.hall.specs.Tickets.{new_ticket, with_act, with_noted};
 
 use crate::counted_hall::CountedHall;
-use hall::{HallError, Ticket};
+use hall::{Hall, HallError, Ticket};
 use object::{Act, Object};
-use std::alloc::AllocError;
-use std::sync::ledger::{Ledger, Share};
+use std::alloc::{AllocError, Global};
+use std::sync::ledger::{Blank, Ledger, Share};
 use std::sync::{Condvar, Mutex, Wait};
 
 /// The hall under its lock, and the places where its threads sleep until there is something for them to do.
@@ -19,6 +19,66 @@ pub struct Shared<O: Object, S: Ledger, C: Ledger> {
 }
 
 impl<O: Object, S: Ledger, C: Ledger> Shared<O, S, C> {
+    /// A hall in which no session was opened yet, for so many workers, with the shares of all of both counts.
+    pub fn new(
+        alloc: Global,
+        hall: Hall<O>,
+        workers: u32,
+        sessions: Blank,
+        commands: Blank,
+    ) -> Result<(Shared<O, S, C>, Share<S>, Share<C>), AllocError>
+        requires none { hall.book ≡ [] }
+        requires sessions_name { sessions.name ≡ S.name }
+        requires sessions_parts { sessions.parts ≡ S.parts }
+        requires commands_name { commands.name ≡ C.name }
+        requires commands_parts { commands.parts ≡ C.parts }
+        ensures sessions { IfOk result (λ r. (r.1.parts ≡ S.parts) × (r.1.amount ≡ 0)) }
+        ensures commands { IfOk result (λ r. (r.2.parts ≡ C.parts) × (r.2.amount ≡ 0)) }
+    {
+        let nodes = places(alloc, u32::from(hall.members().count()))?;
+        let workers = places(alloc, workers)?;
+        let (hall, sessions, commands) = CountedHall::new(hall, sessions, commands);
+        let shared = Shared {
+            hall: Mutex::new(hall),
+            nodes,
+            workers,
+        };
+        Ok((shared, sessions, commands))
+    }
+
+    /// The hall, once nobody shares it, and what all shares of the counts together say of it: how many sessions were opened
+    /// there, and how many commands these handed in.
+    pub fn into_hall(self, all_sessions: &mut Share<S>, all_commands: &mut Share<C>) -> Hall<O>
+        requires sessions { all_sessions.old.parts ≡ S.parts }
+        requires commands { all_commands.old.parts ≡ C.parts }
+        ensures opened { length result.book ≡ all_sessions.new.amount }
+        ensures handed_in { sum result.book ≡ all_commands.new.amount }
+        ensures sessions { all_sessions.new.amount ≡ all_sessions.old.amount }
+        ensures commands { all_commands.new.amount ≡ all_commands.old.amount }
+    {
+        let Shared {
+            hall,
+            nodes: _,
+            workers: _,
+        } = self;
+        hall.into_inner().into_hall(all_sessions, all_commands)
+    }
+
+    /// Opens a session.
+    pub(crate) fn open_session<R: Wait>(
+        &self,
+        rt: &R,
+        mine: &mut Share<S>,
+    ) -> Result<Ticket<O>, HallError>
+        requires { 0 < mine.old.parts }
+        ensures ticket { IfOk result (λ t. (session : ℕ) × (t ≡ new_ticket session)) }
+        ensures counted { OnOk result (mine.new.amount ≡ mine.old.amount + 1) }
+        ensures err { OnErr result (mine.new.amount ≡ mine.old.amount) }
+        ensures parts { mine.new.parts ≡ mine.old.parts }
+    {
+        self.hall.lock(rt).open_session(mine)
+    }
+
     /// Hands in the next command of a session at a node, and wakes the node.
     pub(crate) fn submit<R: Wait>(
         &self,
@@ -89,6 +149,15 @@ impl<O: Object, S: Ledger, C: Ledger> Shared<O, S, C> {
             1
         }
     }
+}
+
+// So many places to sleep.
+fn places(alloc: Global, count: u32) -> Result<Vec<Condvar>, AllocError> {
+    let mut places = Vec::new(alloc);
+    for _ in 0..count {
+        places.push(Condvar::new())?;
+    }
+    Ok(places)
 }
 
 // The place of a number. Numbers count from 1.

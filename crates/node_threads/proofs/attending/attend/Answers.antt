@@ -2,6 +2,7 @@ use Rattle.std.proofs.Common.{inl, inr, ⊎_elim, Ok, Err}
 use Rattle.session.specs.declared.faults.End.{End}
 use Rattle.session.specs.declared.faults.ServiceFault.{ServiceFault}
 use Rattle.node_threads.specs.Attending.{Adds, Ends, held_by}
+use Rattle.node_threads.proofs.Balances.{served_balance}
 use Rattle.node_threads.proofs.Seen.{whole, stops_at, partly, breaks_off, closed_after, closed_once, over, if_ok}
 use Rattle.node_threads.proofs.attending.attend.Goals as goal
 
@@ -50,3 +51,8 @@ returns-clause-out_of_memory g c = λ e.
     (λ w. absurd w.1.2)
     o)
     (c.serve-ended.ensures.out_of_memory e)
+
+pub returns-clause-counted : goal.returns-clause-counted
+returns-clause-counted g c =
+    served_balance (held_by c.args.ticket c.args.commands.amount) (held_by c.serve-ended.new.service.ticket c.serve-ended.new.service.commands.amount) _ _ _ _ c.serve-ended.result _
+    (returns-clause-ok g c) (returns-clause-all_was_told g c) (returns-clause-breaks_off g c) (returns-clause-stopped g c) (returns-clause-out_of_memory g c)
