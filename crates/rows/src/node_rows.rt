@@ -274,15 +274,16 @@ fn wrong_scouted(
 }
 
 /// Whether the scout has gathered these.
-fn has_gathered(alloc: Global, scout: &Scout<Token>, parts: &[Parts]) -> Result<bool, Fail> {
-    Ok(scout.copy()?.gathered() == pvalues(alloc, parts)?)
+fn has_gathered(alloc: Global, scout: Scout<Token>, parts: &[Parts]) -> Result<bool, Fail> {
+    let expected = pvalues(alloc, parts)?;
+    Ok(scout.gathered() == expected)
 }
 
 #[test]
 fn a_scout_hears_each_member_once(rt: HostRuntime) -> Result<(), Fail> {
     let mut scout: Scout<Token> = Scout::new(rt.alloc(), members(3)?, ballot(FIRST)?);
     assert_eq!(rt; wrong_scouted(rt.alloc(), &mut scout, &SCOUTED)?, None);
-    assert!(rt; has_gathered(rt.alloc(), &scout, &[(FIRST, 1, Token::X)])?);
+    assert!(rt; has_gathered(rt.alloc(), scout, &[(FIRST, 1, Token::X)])?);
     Ok(())
 }
 
