@@ -158,7 +158,7 @@ static PROMISES: [Heed; 7] = [
     Heed::P1a(SECOND, SECOND, &[(FIRST, 1, Token::X)]),
 ];
 
-// A report goes by slot and then by ballot.
+// A report has one pvalue a slot, of the greatest ballot, in rising slot.
 static REPORTS: [Heed; 6] = [
     Heed::P1a(FIRST, FIRST, &[]),
     Heed::P2a((FIRST, 2, Token::Y), Some(FIRST)),
@@ -172,11 +172,7 @@ static REPORTS: [Heed; 6] = [
     Heed::P1a(
         SECOND,
         SECOND,
-        &[
-            (FIRST, 1, Token::X),
-            (SECOND, 1, Token::X),
-            (FIRST, 2, Token::Y),
-        ],
+        &[(SECOND, 1, Token::X), (FIRST, 2, Token::Y)],
     ),
 ];
 
