@@ -14,9 +14,9 @@ use Rattle.session.specs.declared.faults.SessionFault.{SessionFault}
 use Rattle.session.specs.declared.faults.SessionFault.TheVariants.{OutOfMemory, ReadFailed, WriteFailed, ServiceStopped}
 use Rattle.session.specs.Items.{Answer}
 use Rattle.session.specs.Serving.{Asked, result_of, Whole, StopsAt, Partly, BreaksOff, ClosedAfter, ClosedOnce, Over}
-use Rattle.node_threads.specs.Attending.{Held, Adds, Ends, with_one}
+use Rattle.node_threads.specs.Attending.{Attendance, Adds, TakesLeave, with_one}
 
-abbrev pub Balances : {Op Reply : Type 0} → Held Op Reply → Held Op Reply → Type 0
+abbrev pub Balances : {Op Reply : Type 0} → Attendance Op Reply → Attendance Op Reply → Type 0
 Balances old new = new.count + length old.ticket.acts ≡ old.count + length new.ticket.acts
 
 module _ {Op Reply : Type 0} where
@@ -32,47 +32,47 @@ module _ {Op Reply : Type 0} where
   one_long : (t : TicketState Op Reply) (act : Act Op) (noted : Option Reply) → length (with_noted (with_act t act) noted).acts ≡ length t.acts + 1
   one_long t act noted = noted_long (with_act t act) noted ∙ length-append t.acts (record { act = act; reply = None } ∷ [])
 
-  one_balances : (old new : Held Op Reply) (act : Act Op) (noted : Option Reply) → new ≡ with_one old act noted → Balances old new
+  one_balances : (old new : Attendance Op Reply) (act : Act Op) (noted : Option Reply) → new ≡ with_one old act noted → Balances old new
   one_balances old new act noted is =
-      let count : new.count ≡ old.count + 1 = ap (λ (h : Held Op Reply). h.count) is in
-      let acts : length new.ticket.acts ≡ length old.ticket.acts + 1 = ap (λ (h : Held Op Reply). length h.ticket.acts) is ∙ one_long old.ticket act noted in
+      let count : new.count ≡ old.count + 1 = ap (λ (h : Attendance Op Reply). h.count) is in
+      let acts : length new.ticket.acts ≡ length old.ticket.acts + 1 = ap (λ (h : Attendance Op Reply). length h.ticket.acts) is ∙ one_long old.ticket act noted in
       omega (arith, count, acts)
 
-  same_balances : (old new : Held Op Reply) → new ≡ old → Balances old new
+  same_balances : (old new : Attendance Op Reply) → new ≡ old → Balances old new
   same_balances old new is = subst (λ h. Balances old h) (sym is) refl
 
-  then_balances : (a b c : Held Op Reply) → Balances a b → Balances b c → Balances a c
+  then_balances : (a b c : Attendance Op Reply) → Balances a b → Balances b c → Balances a c
   then_balances a b c first next = omega (arith, first, next)
 
-  adds_balance : (old : Held Op Reply) (op : Op) (r : Result Reply ServiceFault) (new : Held Op Reply) → Adds old op r new → Balances old new
+  adds_balance : (old : Attendance Op Reply) (op : Op) (r : Result Reply ServiceFault) (new : Attendance Op Reply) → Adds old op r new → Balances old new
   adds_balance old op (Ok reply) new is = one_balances old new (Do op) (Some reply) is
   adds_balance old op (Err Refused) new is = same_balances old new is
   adds_balance old op (Err Stopped) new (inl is) = same_balances old new is
   adds_balance old op (Err Stopped) new (inr is) = one_balances old new (Do op) is.0 is.1
 
-  ends_balance : (old : Held Op Reply) (r : Result Unit ServiceFault) (new : Held Op Reply) → Ends old r new → Balances old new
+  ends_balance : (old : Attendance Op Reply) (r : Result Unit ServiceFault) (new : Attendance Op Reply) → TakesLeave old r new → Balances old new
   ends_balance old (Ok done) new is = one_balances old new Close None is
   ends_balance old (Err Refused) new is = absurd is
   ends_balance old (Err Stopped) new (inl is) = same_balances old new is
   ends_balance old (Err Stopped) new (inr is) = one_balances old new Close None is
 
-asked_balance : (old new : Held Op Reply) (ops : List Op) (answers : List Answer) → Asked Adds old ops answers new → Balances old new
+asked_balance : (old new : Attendance Op Reply) (ops : List Op) (answers : List Answer) → Asked Adds old ops answers new → Balances old new
 asked_balance old new [] [] is = same_balances old new (sym is)
 asked_balance old new [] (x ∷ answers) is = absurd is
 asked_balance old new (op ∷ ops) [] is = absurd is
 asked_balance old new (op ∷ ops) (x ∷ answers) is = then_balances old is.0 new (adds_balance old op (result_of x) is.0 is.1) (asked_balance is.0 new ops answers is.2)
 
-closed_balance : (old new : Held Op Reply) (P : Held Op Reply → Type 0) (r : Result Unit ServiceFault) → ((last : Held Op Reply) → P last → Balances old last) → ClosedAfter Ends P r new → Balances old new
+closed_balance : (old new : Attendance Op Reply) (P : Attendance Op Reply → Type 0) (r : Result Unit ServiceFault) → ((last : Attendance Op Reply) → P last → Balances old last) → ClosedAfter TakesLeave P r new → Balances old new
 closed_balance old new P r before c = then_balances old c.0 new (before c.0 c.1) (ends_balance c.0 r new c.2)
 
 -- however the session ended
-pub served_balance : (old new : Held Op Reply) (a b h k : Option (List ℕ)) (r : Result End SessionFault) (Ended : End → Type 0)
-    → IfOk r (λ end. Over a b h k (λ input output. ClosedAfter Ends (λ s. Whole Adds old s input output end) (Ok tt) new))
-    → (r ≡ Err ReadFailed → Over a b h k (λ input output. ClosedOnce Ends (λ s. Whole Adds old s input output End.Eof) new))
-    → (r ≡ Err WriteFailed → Over a b h k (λ input output. ClosedOnce Ends (λ s. BreaksOff Adds old s input output) new))
-    → (r ≡ Err ServiceStopped → Over a b h k (λ input output. ClosedOnce Ends (λ s. StopsAt Adds old s input output) new
-    ⊎ ((end : End) × ClosedAfter Ends (λ s. Whole Adds old s input output end) (Err ServiceFault.Stopped) new × Ended end)))
-    → (r ≡ Err OutOfMemory → Over a b h k (λ input output. ClosedOnce Ends (λ s. Partly Adds old s input output) new))
+pub served_balance : (old new : Attendance Op Reply) (a b h k : Option (List ℕ)) (r : Result End SessionFault) (Ended : End → Type 0)
+    → IfOk r (λ end. Over a b h k (λ input output. ClosedAfter TakesLeave (λ s. Whole Adds old s input output end) (Ok tt) new))
+    → (r ≡ Err ReadFailed → Over a b h k (λ input output. ClosedOnce TakesLeave (λ s. Whole Adds old s input output End.Eof) new))
+    → (r ≡ Err WriteFailed → Over a b h k (λ input output. ClosedOnce TakesLeave (λ s. BreaksOff Adds old s input output) new))
+    → (r ≡ Err ServiceStopped → Over a b h k (λ input output. ClosedOnce TakesLeave (λ s. StopsAt Adds old s input output) new
+    ⊎ ((end : End) × ClosedAfter TakesLeave (λ s. Whole Adds old s input output end) (Err ServiceFault.Stopped) new × Ended end)))
+    → (r ≡ Err OutOfMemory → Over a b h k (λ input output. ClosedOnce TakesLeave (λ s. Partly Adds old s input output) new))
     → Balances old new
 served_balance old new a b h k (Ok end) Ended went reading writing stopping memory =
     closed_balance old new _ (Ok tt) (λ last w. asked_balance old last _ w.1 w.3) went.4
@@ -82,7 +82,7 @@ served_balance old new a b h k (Err WriteFailed) Ended went reading writing stop
     let o = (writing refl).4 in closed_balance old new _ o.0 (λ last w. asked_balance old last _ w.2 w.8) o.1
 served_balance old new a b h k (Err ServiceStopped) Ended went reading writing stopping memory = at (stopping refl).4
   where
-    at : {input output : List ℕ} → (ClosedOnce Ends (λ s. StopsAt Adds old s input output) new ⊎ ((end : End) × ClosedAfter Ends (λ s. Whole Adds old s input output end) (Err ServiceFault.Stopped) new × Ended end)) → Balances old new
+    at : {input output : List ℕ} → (ClosedOnce TakesLeave (λ s. StopsAt Adds old s input output) new ⊎ ((end : End) × ClosedAfter TakesLeave (λ s. Whole Adds old s input output end) (Err ServiceFault.Stopped) new × Ended end)) → Balances old new
     at (inl o) = closed_balance old new _ o.0 (λ last s. then_balances old s.4 last (asked_balance old s.4 _ s.1 s.6) (adds_balance s.4 s.2 (Err Stopped) last s.7)) o.1
     at (inr o) = closed_balance old new _ (Err Stopped) (λ last w. asked_balance old last _ w.1 w.3) o.1
 served_balance old new a b h k (Err OutOfMemory) Ended went reading writing stopping memory =

@@ -7,30 +7,30 @@ use Rattle.session.specs.declared.faults.ServiceFault.TheVariants.{Refused, Stop
 use Rattle.hall.specs.Tickets.{TicketState, with_act, with_noted}
 
 -- the ticket of the client's session, and how many commands its worker has handed in
-pub record Held (Op Reply : Type 0) : Type 0 where
+pub record Attendance (Op Reply : Type 0) : Type 0 where
   pub ticket : TicketState Op Reply
   pub count : ℕ
 
 -- one act more, and the reply that was noted for it, if any
-abbrev pub with_one : {Op Reply : Type 0} → Held Op Reply → Act Op → Option Reply → Held Op Reply
+abbrev pub with_one : {Op Reply : Type 0} → Attendance Op Reply → Act Op → Option Reply → Attendance Op Reply
 with_one held act noted = record { ticket = with_noted (with_act held.ticket act) noted; count = held.count + 1 }
 
 -- An operation that has a reply is handed in, and the reply noted; one that is refused changes nothing; and where the
 -- worker stops, it was handed in or it wasn't.
-abbrev pub Adds : {Op Reply : Type 0} → Held Op Reply → Op → Result Reply ServiceFault → Held Op Reply → Type 0
+abbrev pub Adds : {Op Reply : Type 0} → Attendance Op Reply → Op → Result Reply ServiceFault → Attendance Op Reply → Type 0
 Adds old op (Ok reply) new = new ≡ with_one old (Do op) (Some reply)
 Adds old op (Err Refused) new = new ≡ old
 Adds {Op} {Reply} old op (Err Stopped) new = (new ≡ old) ⊎ ((noted : Option Reply) × (new ≡ with_one old (Do op) noted))
 
 -- The client's end is handed in; where the worker stops, it was or it wasn't. It is never refused.
-abbrev pub Ends : {Op Reply : Type 0} → Held Op Reply → Result Unit ServiceFault → Held Op Reply → Type 0
-Ends old (Ok done) new = new ≡ with_one old Close None
-Ends old (Err Refused) new = ⊥
-Ends old (Err Stopped) new = (new ≡ old) ⊎ (new ≡ with_one old Close None)
+abbrev pub TakesLeave : {Op Reply : Type 0} → Attendance Op Reply → Result Unit ServiceFault → Attendance Op Reply → Type 0
+TakesLeave old (Ok done) new = new ≡ with_one old Close None
+TakesLeave old (Err Refused) new = ⊥
+TakesLeave old (Err Stopped) new = (new ≡ old) ⊎ (new ≡ with_one old Close None)
 
 -- the ticket, and so many commands
-abbrev pub held_by : {Op Reply : Type 0} → TicketState Op Reply → ℕ → Held Op Reply
-held_by ticket count = record { ticket = ticket; count = count }
+abbrev pub attendance_of : {Op Reply : Type 0} → TicketState Op Reply → ℕ → Attendance Op Reply
+attendance_of ticket count = record { ticket = ticket; count = count }
 
 -- how many acts all these tickets have
 abbrev pub acts_in : {Op Reply : Type 0} → List (TicketState Op Reply) → ℕ

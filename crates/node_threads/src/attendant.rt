@@ -28,13 +28,13 @@ pub(crate) struct Attendant<'a, O: Object, S: Ledger, C: Ledger, R, G> {
 
 impl<'a, O: Object<Op = Op, Reply = Reply>, S: Ledger, C: Ledger, R: Wait, G: Gate> Service
     for Attendant<'a, O, S, C, R, G> {
-    ghost use Rattle.node_threads.specs.Attending.{Adds, Ends, held_by};
+    ghost use Rattle.node_threads.specs.Attending.{Adds, TakesLeave, attendance_of};
 
-    ghost asks = { λ old op result new. Adds (held_by old.ticket old.commands.amount) op result
-        (held_by new.ticket new.commands.amount) };
+    ghost asks = { λ old op result new. Adds (attendance_of old.ticket old.commands.amount) op result
+        (attendance_of new.ticket new.commands.amount) };
 
-    ghost closes = { λ old result new. Ends (held_by old.ticket old.commands.amount) result
-        (held_by new.ticket new.commands.amount) };
+    ghost closes = { λ old result new. TakesLeave (attendance_of old.ticket old.commands.amount) result
+        (attendance_of new.ticket new.commands.amount) };
 
     fn ask(&mut self, op: Op) -> Result<Reply, ServiceFault> {
         self.gate.at(Actor::Worker(self.worker), Point::Asked);

@@ -4,7 +4,7 @@ ghost use Rattle.session.specs.declared.faults.End.{End};
 ghost use Rattle.session.specs.declared.faults.ServiceFault.{ServiceFault};
 ghost use Rattle.session.specs.declared.faults.SessionFault.{SessionFault};
 ghost use Rattle.session.specs.Serving.{Over, Whole, StopsAt, Partly, BreaksOff, ClosedAfter, ClosedOnce};
-ghost use Rattle.node_threads.specs.Attending.{Adds, Ends, held_by};
+ghost use Rattle.node_threads.specs.Attending.{Adds, TakesLeave, attendance_of};
 
 use crate::attendant::Attendant;
 use crate::gate::Gate;
@@ -62,9 +62,9 @@ pub fn attend<
         ≡ commands.amount + length result.ticket.acts }
     ensures ok { IfOk result.ended (λ end. Over (I.remaining reader) (I.remaining result.reader)
         (W.contents writer.old) (W.contents writer.new)
-        (λ input output. ClosedAfter Ends
-        (λ s. Whole Adds (held_by ticket commands.amount) s input output end) (Ok tt)
-        (held_by result.ticket result.commands.amount))) }
+        (λ input output. ClosedAfter TakesLeave
+        (λ s. Whole Adds (attendance_of ticket commands.amount) s input output end) (Ok tt)
+        (attendance_of result.ticket result.commands.amount))) }
     ensures ended { IfOk result.ended (λ end. end ≡ End.Eof → I.has_ended result.reader ≡ true) }
     ensures nothing_left { IfOk result.ended (λ end. end ≡ End.Eof →
         IsAtEnd (I.remaining result.reader)) }
@@ -73,33 +73,33 @@ pub fn attend<
     ensures all_was_told { result.ended ≡ Err SessionFault.ReadFailed →
         Over (I.remaining reader) (I.remaining result.reader)
         (W.contents writer.old) (W.contents writer.new)
-        (λ input output. ClosedOnce Ends
-        (λ s. Whole Adds (held_by ticket commands.amount) s input output End.Eof)
-        (held_by result.ticket result.commands.amount)) }
+        (λ input output. ClosedOnce TakesLeave
+        (λ s. Whole Adds (attendance_of ticket commands.amount) s input output End.Eof)
+        (attendance_of result.ticket result.commands.amount)) }
     ensures write_failed { result.ended ≡ Err SessionFault.WriteFailed →
         W.has_failed writer.new ≡ true }
     ensures breaks_off { result.ended ≡ Err SessionFault.WriteFailed →
         Over (I.remaining reader) (I.remaining result.reader)
         (W.contents writer.old) (W.contents writer.new)
-        (λ input output. ClosedOnce Ends
-        (λ s. BreaksOff Adds (held_by ticket commands.amount) s input output)
-        (held_by result.ticket result.commands.amount)) }
+        (λ input output. ClosedOnce TakesLeave
+        (λ s. BreaksOff Adds (attendance_of ticket commands.amount) s input output)
+        (attendance_of result.ticket result.commands.amount)) }
     ensures stopped { result.ended ≡ Err SessionFault.ServiceStopped →
         Over (I.remaining reader) (I.remaining result.reader)
         (W.contents writer.old) (W.contents writer.new)
-        (λ input output. ClosedOnce Ends
-        (λ s. StopsAt Adds (held_by ticket commands.amount) s input output)
-        (held_by result.ticket result.commands.amount)
-        ⊎ ((end : End) × ClosedAfter Ends
-        (λ s. Whole Adds (held_by ticket commands.amount) s input output end)
-        (Err ServiceFault.Stopped) (held_by result.ticket result.commands.amount)
+        (λ input output. ClosedOnce TakesLeave
+        (λ s. StopsAt Adds (attendance_of ticket commands.amount) s input output)
+        (attendance_of result.ticket result.commands.amount)
+        ⊎ ((end : End) × ClosedAfter TakesLeave
+        (λ s. Whole Adds (attendance_of ticket commands.amount) s input output end)
+        (Err ServiceFault.Stopped) (attendance_of result.ticket result.commands.amount)
         × (end ≡ End.Eof → I.has_ended result.reader ≡ true))) }
     ensures out_of_memory { result.ended ≡ Err SessionFault.OutOfMemory →
         Over (I.remaining reader) (I.remaining result.reader)
         (W.contents writer.old) (W.contents writer.new)
-        (λ input output. ClosedOnce Ends
-        (λ s. Partly Adds (held_by ticket commands.amount) s input output)
-        (held_by result.ticket result.commands.amount)) }
+        (λ input output. ClosedOnce TakesLeave
+        (λ s. Partly Adds (attendance_of ticket commands.amount) s input output)
+        (attendance_of result.ticket result.commands.amount)) }
 {
     let mut reader = WatchedReader {
         reader,
