@@ -21,7 +21,12 @@ mod tube_list;
 mod words;
 mod writer;
 
+pub use command::{Command, command_of};
 pub use laws::{front_item, one_item};
+pub use line::{Meaning, line_of};
+pub use name_lines::name_of;
+pub use number::{u32_of, u64_of};
 pub use reader::{Read, Want, read_request};
 pub use request::{Fault, Request};
+pub use words::Words;
 pub use writer::{write_fault, write_reply};

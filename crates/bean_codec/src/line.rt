@@ -64,7 +64,11 @@ fn command_line(alloc: Global, mut words: Words<'_>) -> Result<Result<Meaning, F
 
 /// What the words after the first one make of the command.
 #[tactic(auto, unfolding(crate::specs::Arguments::line_of))]
-fn line_of(alloc: Global, command: Command, words: Words<'_>) -> Result<Option<Meaning>, AllocError>
+pub fn line_of(
+    alloc: Global,
+    command: Command,
+    words: Words<'_>,
+) -> Result<Option<Meaning>, AllocError>
     ensures says { IfOk result (λ says. says ≡ arguments.line_of command words.entry) }
     ensures memory { OnErr result (HasName (arguments.line_of command words.entry)) }
 {

@@ -10,7 +10,7 @@ use bean_queue::{Name, Op};
 use std::alloc::{AllocError, Global};
 
 /// The name that the word is.
-fn name_of(alloc: Global, word: &[u8]) -> Result<Option<Name>, AllocError>
+pub fn name_of(alloc: Global, word: &[u8]) -> Result<Option<Name>, AllocError>
     ensures name { IfOk result (λ name. name ≡ tube_names.name_of word.now) }
     ensures memory { OnErr result ((name : List ℕ) × (tube_names.name_of word.now ≡ Some name)) }
 {

@@ -14,6 +14,7 @@ pub fn u64_of(word: &[u8]) -> Option<u64>
     str::from_utf8(word).ok()?.parse().ok()
 }
 
+/// The same for a number of 32 bits.
 #[tactic(auto, unfolding(crate::specs::Numbers::number_below))]
 pub fn u32_of(word: &[u8]) -> Option<u32>
     ensures { result ≡ numbers.u32_of word.now }

@@ -1,21 +1,20 @@
 -- From what clap says of a parse to what the words ask for.
-use Rattle.std.proofs.Common.{◌≡◌, ◌≢◌, ◌∙◌, ◌<◌, ◌≤◌, ◌^◌, ℕ, arith, decimal, true, List, Option, None, Some, Result, Ok, Err, unwrap_or, option_map, refl, sym, ap, subst, inl, inr}
-use Rattle.std.specs.Prelude.{option_and_then}
+use Rattle.std.proofs.Common.{◌≡◌, ◌≢◌, ◌∙◌, ◌<◌, ◌≤◌, ◌^◌, ℕ, arith, decimal, true, List, Option, None, Some, Result, Ok, Err, unwrap_or, refl, sym, ap, subst, inl, inr}
 use Rattle.std.specs.Str.Parse.{ParsesUnsigned}
 use Rattle.std.proofs.lemmas.Fmt.{parse-decimal}
-use Rattle.clap.specs.Words.{App, HasKind, IsAmong, Kinds, ReadsOne, Row, fault_of, is_simple, is_simple_and_free, kind_of, one_of, subcommand_of}
+use Rattle.clap.specs.Words.{App, HasKind, IsAmong, Kinds, ReadsOne, fault_of, is_simple, is_simple_and_free, kind_of}
 use Rattle.clap.specs.declared.error.Error.{Error}
 use Rattle.clap.specs.declared.error.kind.ErrorKind.{ErrorKind}
 use Rattle.clap.specs.declared.error.kind.ErrorKind.TheVariants.{OutOfMemory}
 use Rattle.clap.proofs.OnLiterals.{clap_on_literals}
-use Rattle.beanpax.specs.Words.{IsNumberOr, errors_in, program_command, run_command, text_given}
+use Rattle.beanpax.specs.Words.{IsNumberOr, IsNumberIfGiven, errors_in, program_command, run_command, serve_command}
 
 pub is_simple-program_command : is_simple program_command ≡ true
-unfolding program_command run_command clap_on_literals
+unfolding program_command run_command serve_command clap_on_literals
 is_simple-program_command = refl
 
 pub is_simple_and_free-program_command : is_simple_and_free program_command ≡ true
-unfolding program_command run_command clap_on_literals
+unfolding program_command run_command serve_command clap_on_literals
 is_simple_and_free-program_command = refl
 
 -- what holds of the errors of a simple command holds of those of the program's
@@ -25,21 +24,10 @@ unfolding errors_in
 holds_of_errors P a words is h =
     subst (λ (b : App). P (fault_of b words)) is (h (ap is_simple_and_free is ∙ is_simple_and_free-program_command))
 
-of_rows : (option : List ℕ) (run : Option (List ℕ × List Row)) (rows : List Row) → option_map (λ r. r.1) run ≡ Some rows
-    → option_and_then (λ r. one_of option r.1) run ≡ one_of option rows
-of_rows option None rows e = cc
-of_rows option (Some r) rows e = let same : r.1 ≡ rows = cc in ap (one_of option) same
-
 -- a kind that is not want of memory is one of those that clap found
 pub among_errors : (k : ErrorKind) (kinds : Kinds) (e : Error) → k ≡ kind_of e → k ≢ OutOfMemory → HasKind kinds e → IsAmong k kinds
 among_errors k kinds e is not_memory (inl memory) = absurd (not_memory (is ∙ memory))
 among_errors k kinds e is not_memory (inr among) = subst (λ (j : ErrorKind). IsAmong j kinds) (sym is) among
-
--- the text of an option is that of the command that was met
-pub text_given-of_rows : (option : List ℕ) (words : List (List ℕ)) (rows : List Row)
-    → option_map (λ run. run.1) (subcommand_of program_command words) ≡ Some rows → text_given option words ≡ one_of option rows
-unfolding text_given
-text_given-of_rows option words rows is = of_rows option (subcommand_of program_command words) rows is
 
 -- a number that is written in digits is read, where the bits are enough for it
 digits_read : (bits : ℕ) (E : Type 0) (gives : List ℕ → Result ℕ E → Type 0)
@@ -61,6 +49,15 @@ pub number_read : (bits default least most : ℕ) → most < 2 ^ bits → most <
 number_read bits default least most fits small E gives parses None read none some = ap (λ r. unwrap_or r default) (none refl)
 number_read bits default least most fits small E gives parses (Some t) read none some = λ m above below is.
     ap (λ r. unwrap_or r default) (digits_read bits E gives parses m t (omega (arith, below, fits)) (omega (arith, below, small)) is read (some t refl))
+
+-- without a default there is no number then
+pub number_if_read : (bits least most : ℕ) → most < 2 ^ bits → most < 2 ^ 64 → (E : Type 0) (gives : List ℕ → Result ℕ E → Type 0)
+    → ((t : List ℕ) (r : Result ℕ E) → gives t r → ParsesUnsigned bits 10 t r)
+    → (text : Option (List ℕ)) (read : Option ℕ) → (text ≡ None → read ≡ None)
+    → ((t : List ℕ) → text ≡ Some t → ReadsOne gives t read) → IsNumberIfGiven least most text read
+number_if_read bits least most fits small E gives parses None read none some = none refl
+number_if_read bits least most fits small E gives parses (Some t) read none some = λ m above below is.
+    digits_read bits E gives parses m t (omega (arith, below, fits)) (omega (arith, below, small)) is read (some t refl)
 
 -- the default stands for a number out of range, which no text writes
 pub out_of_range : (default least most n : ℕ) (text : Option (List ℕ)) → IsNumberOr default least most text n → least ≤ default → default ≤ most → ((least ≤ n) → (n ≤ most) → ⊥) → IsNumberOr default least most text default

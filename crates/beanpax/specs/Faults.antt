@@ -2,22 +2,48 @@
 use Rattle.std.specs.Prelude.{ℕ, List, ◌++◌, codes}
 use Rattle.std.specs.Fmt.{decimal}
 use Rattle.session.specs.declared.faults.SessionFault.{SessionFault}
-use Rattle.session.specs.declared.faults.SessionFault.TheVariants.{OutOfMemory, ReadFailed, WriteFailed, ServiceStopped}
+use Rattle.session.specs.declared.faults.SessionFault.TheVariants as of
+use Rattle.node_threads.specs.declared.cluster_error.ClusterError.{ClusterError}
+use Rattle.node_threads.specs.declared.cluster_error.ClusterError.TheVariants as cluster
+use Rattle.beanpax.specs.declared.faults.ProgramFault.{ProgramFault}
+use Rattle.beanpax.specs.declared.faults.ProgramFault.TheVariants.{OutOfMemory, BadNumber, ReadFailed, WriteFailed, ServiceStopped, ListenFailed, FileFailed, ThreadFailed}
+
+-- the fault of a session, as one of the program
+abbrev pub of_session : SessionFault → ProgramFault
+of_session of.OutOfMemory = OutOfMemory
+of_session of.ReadFailed = ReadFailed
+of_session of.WriteFailed = WriteFailed
+of_session of.ServiceStopped = ServiceStopped
+
+-- and that of a cluster
+abbrev pub of_cluster : ClusterError → ProgramFault
+of_cluster cluster.OutOfMemory = OutOfMemory
+of_cluster cluster.BadNumber = BadNumber
+of_cluster cluster.ListenFailed = ListenFailed
+of_cluster cluster.ThreadFailed = ThreadFailed
 
 -- the number by which a fault is told
-abbrev pub number_of : SessionFault → ℕ
+abbrev pub number_of : ProgramFault → ℕ
 number_of OutOfMemory = 1
+number_of BadNumber = 6
 number_of ReadFailed = 7
 number_of WriteFailed = 8
 number_of ServiceStopped = 9
+number_of ListenFailed = 12
+number_of FileFailed = 13
+number_of ThreadFailed = 14
 
 -- what a fault is called
-abbrev pub text_of : SessionFault → List ℕ
+abbrev pub text_of : ProgramFault → List ℕ
 text_of OutOfMemory = codes "out of memory"
+text_of BadNumber = codes "bad number"
 text_of ReadFailed = codes "read failed"
 text_of WriteFailed = codes "write failed"
 text_of ServiceStopped = codes "service stopped"
+text_of ListenFailed = codes "cannot listen"
+text_of FileFailed = codes "file failed"
+text_of ThreadFailed = codes "cannot start a thread"
 
 -- the line by which a fault is told
-unfoldable pub line_of : SessionFault → List ℕ
+unfoldable pub line_of : ProgramFault → List ℕ
 line_of fault = codes "beanpax: " ++ decimal (number_of fault) ++ codes " " ++ text_of fault ++ codes "\n"

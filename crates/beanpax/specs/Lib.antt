@@ -3,5 +3,6 @@ pub mod Sessions
 pub mod Told
 pub mod Simulations
 pub mod Runs
-pub mod Program
 pub mod Words
+pub mod Servers
+pub mod Program

@@ -1,12 +1,13 @@
 -- What the words of a command line ask for.
-use Rattle.std.specs.Prelude.{◌≡◌, ◌≢◌, ◌≤◌, ◌^◌, ◌-◌, ℕ, pos, true, List, [], Option, None, Some, codes, option_and_then}
+use Rattle.std.specs.Prelude.{◌≡◌, ◌≢◌, ◌≤◌, ◌^◌, ◌-◌, ℕ, pos, true, List, [], Option, None, Some, codes, option_map, option_and_then}
 use Rattle.std.specs.Fmt.{decimal}
-use Rattle.clap.specs.Words.{App, Rule, IsAmong, Kinds, fault_of, new_app, new_rule, one_of, subcommand_of, with_rule, with_subcommand}
+use Rattle.clap.specs.Words.{App, Rule, IsAmong, Kinds, fault_of, first_of, new_app, new_rule, one_of, subcommand_of, with_rule, with_subcommand}
 use Rattle.clap.specs.declared.builder.value_parser.ValueParser.TheVariants as parser
 use Rattle.clap.specs.declared.error.kind.ErrorKind.{ErrorKind}
 use Rattle.clap.specs.declared.error.kind.ErrorKind.TheVariants.{DisplayHelp}
 use Rattle.beanpax.specs.declared.words.Asked.{Asked}
-use Rattle.beanpax.specs.declared.words.Asked.TheVariants.{Run, Help, Wrong}
+use Rattle.beanpax.specs.declared.words.Asked.TheVariants.{Run, Serve, Help, Wrong}
+use Rattle.beanpax.specs.declared.words.ServerOptions.{ServerOptions}
 
 -- `--nodes N`, where N is 1 to 7
 abbrev pub nodes_option : Rule
@@ -16,32 +17,86 @@ nodes_option = record (new_rule (codes "nodes")) { long = Some (codes "nodes"); 
 abbrev pub seed_option : Rule
 seed_option = record (new_rule (codes "seed")) { long = Some (codes "seed"); value_names = 1; parser = Some (parser.Unsigned 0 18446744073709551615) }
 
+-- `--port P`, where P is 1 to 65535
+abbrev pub port_option : Rule
+port_option = record (new_rule (codes "port")) { long = Some (codes "port"); value_names = 1; parser = Some (parser.Signed (pos 1) (pos 65535)) }
+
+-- `--workers K`, where K is 1 to 64
+abbrev pub workers_option : Rule
+workers_option = record (new_rule (codes "workers")) { long = Some (codes "workers"); value_names = 1; parser = Some (parser.Signed (pos 1) (pos 64)) }
+
+-- `--sessions M`, where M is 1 to 1000000
+abbrev pub sessions_option : Rule
+sessions_option = record (new_rule (codes "sessions")) { long = Some (codes "sessions"); value_names = 1; parser = Some (parser.Signed (pos 1) (pos 1000000)) }
+
+-- `--dump FILE`
+abbrev pub dump_option : Rule
+dump_option = record (new_rule (codes "dump")) { long = Some (codes "dump"); value_names = 1 }
+
 -- `run` with its options
 unfoldable pub run_command : App
 run_command = with_rule (with_rule (new_app (codes "run")) nodes_option) seed_option
+
+-- `serve` with its options
+unfoldable pub serve_command : App
+serve_command =
+    with_rule (with_rule (with_rule (with_rule (with_rule (new_app (codes "serve")) port_option) nodes_option) workers_option) sessions_option) dump_option
 
 -- the program's name, and then one of its commands
 unfoldable pub program_command : App
 program_command =
     let named = new_app (codes "beanpax") in
-    with_subcommand (record named { top = record named.top { subcommand_required = true } }) run_command.top
+    with_subcommand (with_subcommand (record named { top = record named.top { subcommand_required = true } }) run_command.top) serve_command.top
 
 -- which errors clap finds in the words
 unfoldable pub errors_in : List (List ℕ) → Kinds
 errors_in words = fault_of program_command words
 
--- the text that the words give an option of `run`
-unfoldable pub text_given : List ℕ → List (List ℕ) → Option (List ℕ)
-text_given option words = option_and_then (λ run. one_of option run.1) (subcommand_of program_command words)
+-- the command that the words name
+unfoldable pub command_given : List (List ℕ) → Option (List ℕ)
+command_given words = option_map (λ command. command.0) (subcommand_of program_command words)
+
+-- the text that the words give an option of that command, where a number is read from it
+unfoldable pub text_given : List (List ℕ) → List ℕ → Option (List ℕ)
+text_given words option = option_and_then (λ command. one_of option command.1) (subcommand_of program_command words)
+
+-- and where it is taken as it stands
+unfoldable pub word_given : List (List ℕ) → List ℕ → Option (List ℕ)
+word_given words option = option_and_then (λ command. first_of option command.1) (subcommand_of program_command words)
 
 -- the number from least to most that the text writes, or the default where there is no text
 abbrev pub IsNumberOr : ℕ → ℕ → ℕ → Option (List ℕ) → ℕ → Type 0
 IsNumberOr default least most None n = n ≡ default
 IsNumberOr default least most (Some text) n = (m : ℕ) → least ≤ m → m ≤ most → text ≡ decimal m → n ≡ m
 
--- nothing is wrong with the words, and they ask for a run
+-- the number from least to most that the text writes, or none where there is no text
+abbrev pub IsNumberIfGiven : ℕ → ℕ → Option (List ℕ) → Option ℕ → Type 0
+IsNumberIfGiven least most None n = n ≡ None
+IsNumberIfGiven least most (Some text) n = (m : ℕ) → least ≤ m → m ≤ most → text ≡ decimal m → n ≡ Some m
+
+-- what a server is to do, by the texts of its options: those from which numbers are read, and those that are taken as they stand
+pub record IsServerOf (text word : List ℕ → Option (List ℕ)) (options : ServerOptions) : Type 0 where
+  pub port : IsNumberOr 11300 1 65535 (text (codes "port")) options.port
+  pub nodes : IsNumberOr 3 1 7 (text (codes "nodes")) options.nodes
+  pub some_nodes : 1 ≤ options.nodes
+  pub few_nodes : options.nodes ≤ 7
+  pub workers : IsNumberOr 4 1 64 (text (codes "workers")) options.workers
+  pub some_workers : 1 ≤ options.workers
+  pub few_workers : options.workers ≤ 64
+  pub sessions : IsNumberIfGiven 1 1000000 (text (codes "sessions")) options.sessions
+  pub dump : option_map (λ file. file.now) options.dump ≡ word (codes "dump")
+
+-- nothing is wrong with the words, and they name this command
+abbrev pub AskFor : List ℕ → List (List ℕ) → Type 0
+AskFor command words = (errors_in words ≡ []) × (command_given words ≡ Some command)
+
+-- they ask for a run
 abbrev pub AskForRun : List (List ℕ) → Type 0
-AskForRun words = errors_in words ≡ []
+AskForRun words = AskFor (codes "run") words
+
+-- they ask for a server with these options
+abbrev pub AskForServer : List (List ℕ) → ServerOptions → Type 0
+AskForServer words options = AskFor (codes "serve") words × IsServerOf (text_given words) (word_given words) options
 
 -- the words call for help
 abbrev pub AskForHelp : List (List ℕ) → Type 0
@@ -55,6 +110,7 @@ AreWrong words = (kind : ErrorKind) × (kind ≢ DisplayHelp) × IsAmong kind (e
 abbrev pub IsAskedBy : List (List ℕ) → Asked → Type 0
 IsAskedBy words (Run nodes seed) =
     AskForRun words × (1 ≤ nodes) × (nodes ≤ 7) ×
-    IsNumberOr 3 1 7 (text_given (codes "nodes") words) nodes × IsNumberOr 0 0 (2 ^ 64 - 1) (text_given (codes "seed") words) seed
+    IsNumberOr 3 1 7 (text_given words (codes "nodes")) nodes × IsNumberOr 0 0 (2 ^ 64 - 1) (text_given words (codes "seed")) seed
+IsAskedBy words (Serve options) = AskForServer words options
 IsAskedBy words (Help text) = AskForHelp words
 IsAskedBy words (Wrong text) = AreWrong words

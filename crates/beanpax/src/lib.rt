@@ -4,18 +4,23 @@
 //! bytes, and `specs/Runs.antt` what a run over streams has read and written.
 #![tactic(auto)]
 
+mod connections;
 mod entry;
 mod faults;
+mod host;
 mod laws;
 mod run;
+mod seconds;
+mod server;
 mod simulation;
 mod words;
 
 pub use entry::{DONE, FAULT, WRONG_WORDS, program};
-pub use faults::{fault_line, fault_number};
+pub use faults::{ProgramFault, fault_line, fault_number};
+pub use host::{Host, no_sockets};
 pub use laws::one_transcript;
 pub use run::run_bytes;
 pub use session::{
     ByteIn, ByteOut, End, Failed, Reading, SessionFault, Writing, memory, write_all,
 };
-pub use words::{Asked, parse_words};
+pub use words::{Asked, ServerOptions, parse_words};

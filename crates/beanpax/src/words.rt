@@ -1,7 +1,10 @@
-ghost use Rattle.std.specs.Prelude.{◌≡◌, ◌≤◌, ◌^◌, ◌-◌, false, codes, map, string_bytes, IfOk};
-ghost use Rattle.clap.specs.Words.{app_of, found_of, one_text};
+ghost use Rattle.std.specs.Prelude.{◌≡◌, ◌≤◌, ◌^◌, ◌-◌, codes, false, map, string_bytes, IfOk};
+ghost use Rattle.clap.specs.Words.{app_of, first_value, found_of, one_text, rule_of};
 ghost use Rattle.clap.specs.declared.builder.command.Command.TheViews.{out-Command as fields_of};
-ghost use Rattle.beanpax.specs.Words.{IsAskedBy, IsNumberOr, program_command, run_command};
+ghost use Rattle.beanpax.specs.Words.{IsAskedBy, IsNumberOr, IsServerOf};
+ghost use Rattle.beanpax.specs.Words.{program_command, run_command, serve_command};
+ghost use Rattle.beanpax.specs.Words.{nodes_option, seed_option, port_option};
+ghost use Rattle.beanpax.specs.Words.{workers_option, sessions_option, dump_option};
 
 use clap::error::ErrorKind;
 use clap::{Arg, ArgMatches, Command, value_parser};
@@ -13,29 +16,60 @@ const MOST_NODES: u8 = 7;
 /// How many nodes there are where no word says it.
 const DEFAULT_NODES: u8 = 3;
 
+/// The port where no word names one. Clients of beanstalkd try it first.
+const DEFAULT_PORT: u16 = 11300;
+
+/// There are so many workers at most.
+const MOST_WORKERS: u32 = 64;
+
+/// How many workers there are where no word says it.
+const DEFAULT_WORKERS: u32 = 4;
+
 /// What the words of a command line ask for.
 #[derive(Drop)]
-pub enum Asked {
+pub enum Asked<'a> {
     /// A run with so many nodes, whose order of events is drawn from the seed.
     Run { nodes: u8, seed: u64 },
+    /// A server.
+    Serve(ServerOptions<'a>),
     /// This help.
     Help(String),
     /// Nothing: the words are wrong, and the text says why.
     Wrong(String),
 }
 
+/// What a server is to do.
+#[derive(Drop)]
+pub struct ServerOptions<'a> {
+    /// It listens at this port of the loopback.
+    pub port: u16,
+    /// So many nodes keep the queue: 1 to 7.
+    pub nodes: u8,
+    /// So many clients are served at a time: 1 to 64.
+    pub workers: u32,
+    /// It ends after so many connections.
+    pub sessions: Option<u32>,
+    /// The file for the dump at its end.
+    pub dump: Option<&'a str>,
+}
+
 /// What the words ask for; the first is the program's name.
-pub fn parse_words(alloc: Global, words: &[String]) -> Result<Asked, AllocError>
+pub fn parse_words<'a>(alloc: Global, words: &'a [String]) -> Result<Asked<'a>, AllocError>
     ensures { IfOk result (IsAskedBy (map string_bytes words.now)) }
 {
     match program_words(alloc)?.try_get_matches_from(words) {
         Ok(matches) => {
-            // A command is required, and there is no other than `run`.
-            let (_, run) = matches.subcommand().unwrap();
-            Ok(Asked::Run {
-                nodes: nodes_of(run),
-                seed: seed_of(run),
-            })
+            if let Some(run) = matches.subcommand_matches("run") {
+                return Ok(Asked::Run {
+                    nodes: nodes_of(run),
+                    seed: seed_of(run),
+                });
+            }
+            // A command is required, and `help` is never matched.
+            match matches.subcommand_matches("serve") {
+                Some(serve) => Ok(Asked::Serve(server_of(serve))),
+                None => unreachable!(),
+            }
         }
         Err(error) => match error.kind() {
             ErrorKind::OutOfMemory => Err(AllocError),
@@ -45,18 +79,52 @@ pub fn parse_words(alloc: Global, words: &[String]) -> Result<Asked, AllocError>
     }
 }
 
+// What the words ask of a server.
+fn server_of<'a>(serve: &ArgMatches<'a>) -> ServerOptions<'a>
+    ensures { IsServerOf (one_text (found_of serve.now)) (first_value (found_of serve.now)) result }
+{
+    ServerOptions {
+        port: port_of(serve),
+        nodes: nodes_of(serve),
+        workers: workers_of(serve),
+        sessions: serve.get_one("sessions"),
+        dump: serve.get_str("dump"),
+    }
+}
+
 // How many nodes the words ask for. The option takes no other numbers than these.
-fn nodes_of(run: &ArgMatches<'_>) -> u8
-    ensures nodes { IsNumberOr 3 1 7 (one_text (found_of run.now) (codes "nodes")) result }
+fn nodes_of(found: &ArgMatches<'_>) -> u8
+    ensures nodes { IsNumberOr 3 1 7 (one_text (found_of found.now) (codes "nodes")) result }
     ensures some { 1 ≤ result }
     ensures few { result ≤ 7 }
 {
-    let nodes = run.get_one("nodes").unwrap_or(DEFAULT_NODES);
+    let nodes = found.get_one("nodes").unwrap_or(DEFAULT_NODES);
     if nodes >= 1 && nodes <= MOST_NODES {
         nodes
     } else {
         DEFAULT_NODES
     }
+}
+
+// How many workers the words ask for. The option takes no other numbers than these.
+fn workers_of(serve: &ArgMatches<'_>) -> u32
+    ensures workers { IsNumberOr 4 1 64 (one_text (found_of serve.now) (codes "workers")) result }
+    ensures some { 1 ≤ result }
+    ensures few { result ≤ 64 }
+{
+    let workers = serve.get_one("workers").unwrap_or(DEFAULT_WORKERS);
+    if workers >= 1 && workers <= MOST_WORKERS {
+        workers
+    } else {
+        DEFAULT_WORKERS
+    }
+}
+
+// The port that the words name.
+fn port_of(serve: &ArgMatches<'_>) -> u16
+    ensures { IsNumberOr 11300 1 65535 (one_text (found_of serve.now) (codes "port")) result }
+{
+    serve.get_one("port").unwrap_or(DEFAULT_PORT)
 }
 
 // The seed that the words give.
@@ -74,7 +142,8 @@ fn program_words<'a>(alloc: Global) -> Result<Command<'a>, AllocError>
     Command::new(alloc, "beanpax")
         .about("A work queue")
         .subcommand_required(true)
-        .subcommand(run_words(alloc)?)
+        .subcommand(run_words(alloc)?)?
+        .subcommand(serve_words(alloc)?)
 }
 
 // The words of `run`.
@@ -82,18 +151,86 @@ fn run_words<'a>(alloc: Global) -> Result<Command<'a>, AllocError>
     ensures app { IfOk result (λ c. app_of c ≡ run_command) }
     ensures no_globals { IfOk result (λ c. (fields_of c).has_globals ≡ false) }
 {
-    let nodes = Arg::new(alloc, "nodes")
+    Command::new(alloc, "run")
+        .about("Answers the requests of standard input on standard output")
+        .arg(nodes_words(alloc))?
+        .arg(seed_words(alloc))
+}
+
+// The words of `serve`.
+fn serve_words<'a>(alloc: Global) -> Result<Command<'a>, AllocError>
+    ensures app { IfOk result (λ c. app_of c ≡ serve_command) }
+    ensures no_globals { IfOk result (λ c. (fields_of c).has_globals ≡ false) }
+{
+    Command::new(alloc, "serve")
+        .about("Answers clients over TCP")
+        .arg(port_words(alloc))?
+        .arg(nodes_words(alloc))?
+        .arg(workers_words(alloc))?
+        .arg(sessions_words(alloc))?
+        .arg(dump_words(alloc))
+}
+
+fn nodes_words<'a>(alloc: Global) -> Arg<'a>
+    ensures rule { rule_of result ≡ nodes_option }
+    ensures local { result.global ≡ false }
+{
+    Arg::new(alloc, "nodes")
         .long("nodes")
         .value_name("N")
         .help("How many nodes there are: 1 to 7 [default: 3]")
-        .value_parser(value_parser!(u8).range(1..=7));
-    let seed = Arg::new(alloc, "seed")
+        .value_parser(value_parser!(u8).range(1..=7))
+}
+
+fn seed_words<'a>(alloc: Global) -> Arg<'a>
+    ensures rule { rule_of result ≡ seed_option }
+    ensures local { result.global ≡ false }
+{
+    Arg::new(alloc, "seed")
         .long("seed")
         .value_name("S")
         .help("What the order of events is drawn from [default: 0]")
-        .value_parser(value_parser!(u64));
-    Command::new(alloc, "run")
-        .about("Answers the requests of standard input on standard output")
-        .arg(nodes)?
-        .arg(seed)
+        .value_parser(value_parser!(u64))
+}
+
+fn port_words<'a>(alloc: Global) -> Arg<'a>
+    ensures rule { rule_of result ≡ port_option }
+    ensures local { result.global ≡ false }
+{
+    Arg::new(alloc, "port")
+        .long("port")
+        .value_name("P")
+        .help("The port of 127.0.0.1 that it listens at: 1 to 65535 [default: 11300]")
+        .value_parser(value_parser!(u16).range(1..=65535))
+}
+
+fn workers_words<'a>(alloc: Global) -> Arg<'a>
+    ensures rule { rule_of result ≡ workers_option }
+    ensures local { result.global ≡ false }
+{
+    Arg::new(alloc, "workers")
+        .long("workers")
+        .value_name("K")
+        .help("How many clients are served at a time: 1 to 64 [default: 4]")
+        .value_parser(value_parser!(u32).range(1..=64))
+}
+
+fn sessions_words<'a>(alloc: Global) -> Arg<'a>
+    ensures rule { rule_of result ≡ sessions_option }
+    ensures local { result.global ≡ false }
+{
+    Arg::new(alloc, "sessions")
+        .long("sessions")
+        .value_name("M")
+        .help("It ends after so many connections: 1 to 1000000 [default: it goes on]")
+        .value_parser(value_parser!(u32).range(1..=1_000_000))
+}
+
+fn dump_words<'a>(alloc: Global) -> Arg<'a>
+    ensures rule { rule_of result ≡ dump_option }
+    ensures local { result.global ≡ false }
+{
+    Arg::new(alloc, "dump").long("dump").value_name("FILE").help(
+        "Where what happened is written at the end [default: nowhere]",
+    )
 }

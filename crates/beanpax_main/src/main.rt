@@ -1,27 +1,22 @@
 //! The program: its words, and the standard streams.
 #![tactic(auto)]
 
-use beanpax::{Reading, SessionFault, Writing, fault_line, program, write_all};
+use beanpax::{ProgramFault, Reading, Writing, fault_line, no_sockets, program, write_all};
 use std::process::ExitCode;
 use std::rt::Env;
 use std::{env, io};
 
 fn main(rt: HostRuntime) -> ExitCode {
+    let _sockets = no_sockets();
     let mut input = Reading::new(rt.stdin());
     let mut output = Writing::new(rt.stdout());
     let mut errors = Writing::new(rt.stderr());
     let status = match words(&rt) {
-        Ok(words) => program(
-            rt.alloc(),
-            words.as_slice(),
-            &mut input,
-            &mut output,
-            &mut errors,
-        ),
+        Ok(words) => program(&rt, words.as_slice(), &mut input, &mut output, &mut errors),
         Err(e) if e.kind() == io::ErrorKind::OutOfMemory => {
             let _ = write_all(
                 &mut errors,
-                fault_line(SessionFault::OutOfMemory).as_bytes(),
+                fault_line(ProgramFault::OutOfMemory).as_bytes(),
             );
             1
         }

@@ -5,3 +5,15 @@ pub mod Words
 pub mod Back
 pub mod LineLists
 pub mod OneChronicle
+pub mod Spelled
+pub mod ToldBack
+pub mod ToldValues
+pub mod Grown
+pub mod Drafted
+pub mod EntryLines
+pub mod Stops
+pub mod Tells
+pub mod ReadOn
+pub mod Legal
+pub mod OneFault
+pub mod OneBadLine

@@ -81,7 +81,7 @@ tail_texts hs order =
     (flat_map-append text (map order_words order) (end_words ∷ [])
     ∙ ap₂ (λ a b. a ++ b) (order_texts order) (append-nil (text end_words)))
 
-to_right : (a b c d e : List ℕ) → a ++ b ++ c ++ d ++ e ≡ a ++ (b ++ (c ++ (d ++ e)))
+pub to_right : (a b c d e : List ℕ) → a ++ b ++ c ++ d ++ e ≡ a ++ (b ++ (c ++ (d ++ e)))
 to_right a b c d e = append_assoc (a ++ b ++ c) d e ∙ append_assoc (a ++ b) c (d ++ e) ∙ append_assoc a b (c ++ (d ++ e))
 
 -- the text of a chronicle is that of its lines

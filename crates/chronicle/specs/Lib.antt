@@ -5,3 +5,12 @@ pub mod Acts
 pub mod Replies
 pub mod Dump
 pub mod Fits
+pub mod Values
+pub mod Entries
+pub mod Told
+pub mod Growing
+pub mod Drafts
+pub mod Reading
+pub mod Faults
+pub mod Checking
+pub mod CheckFaults

@@ -1,8 +1,10 @@
-ghost use Rattle.std.specs.Prelude.{◌≡◌, SomeIff};
+ghost use Rattle.std.specs.Prelude.{◌≡◌, SomeIff, OnOk, OnErr};
 ghost use Rattle.chronicle.specs.Chronicles.{IsChronicle};
+ghost use Rattle.chronicle.specs.Growing.{submitted_last, answered_last, placed_last};
 
 use crate::timeline::is_timeline;
-use object::{Answer, Key, Submission, Value};
+use object::{Answer, Command, Key, Submission, Value};
+use std::alloc::AllocError;
 use std::marker::Model;
 
 /// What happened in a run of nodes.
@@ -105,5 +107,35 @@ impl<Op: Value, Reply: Value> Chronicle<Op, Reply> {
         ensures kept { IsChronicle self.now }
     {
         self.order.as_slice()
+    }
+
+    /// A command more was submitted, after all that happened.
+    pub(crate) fn submit(&mut self, command: Command<Op>) -> Result<(), AllocError>
+        ensures ok { OnOk result (self.new ≡ submitted_last command self.old) }
+        ensures err { OnErr result (self.new ≡ self.old) }
+    {
+        self.submitted.push(Submission {
+            command,
+            after: self.answers.len(),
+        })?;
+        Ok(())
+    }
+
+    /// An answer more was given, after all that happened.
+    pub(crate) fn answer(&mut self, answer: Answer<Reply>) -> Result<(), AllocError>
+        ensures ok { OnOk result (self.new ≡ answered_last answer self.old) }
+        ensures err { OnErr result (self.new ≡ self.old) }
+    {
+        self.answers.push(answer)?;
+        Ok(())
+    }
+
+    /// A command more counted, after all others.
+    pub(crate) fn place(&mut self, key: Key) -> Result<(), AllocError>
+        ensures ok { OnOk result (self.new ≡ placed_last key self.old) }
+        ensures err { OnErr result (self.new ≡ self.old) }
+    {
+        self.order.push(key)?;
+        Ok(())
     }
 }

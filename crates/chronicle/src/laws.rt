@@ -1,13 +1,48 @@
-ghost use Rattle.std.specs.Prelude.{◌≡◌};
+ghost use Rattle.std.specs.Prelude.{◌≡◌, ℕ, Bool, List};
+ghost use Rattle.object.specs.Legal.{IsLegal};
+ghost use Rattle.bean_queue.specs.Holds.{IsGivenOnce, IsHeldByOne};
+ghost use Rattle.bean_queue.specs.Places.{places};
 ghost use Rattle.bean_queue.specs.declared.op.Op.{Op};
 ghost use Rattle.bean_queue.specs.declared.reply.Reply.{Reply};
 ghost use Rattle.chronicle.specs.Chronicles.{Chronicle, IsChronicle};
+ghost use Rattle.chronicle.specs.Checking.{IsFaultless, ordered_commands, queue_rules};
+ghost use Rattle.chronicle.specs.CheckFaults.{IsFaultAt};
 ghost use Rattle.chronicle.specs.Dump.{dump_text};
+ghost use Rattle.chronicle.specs.Reading.{IsBadLine};
+ghost use Rattle.chronicle.specs.declared.check_fault.What.{What};
 ghost use Rattle.chronicle.specs.Fits.{FitsChronicle};
+
+use bean_queue::{one_answer, one_holder};
 
 /// Two chronicles of queues have one text only where they are one.
 pub fn one_chronicle()
     ensures { (c d : Chronicle Op Reply) → IsChronicle c → IsChronicle d → FitsChronicle c
         → FitsChronicle d →
         dump_text c ≡ dump_text d → c ≡ d }
+{}
+
+/// Where each line of a queue's dump is right, what happened is legal for the commands of its order.
+/// No job is held by two sessions at once as a queue obeys these.
+pub fn faultless_is_legal()
+    ensures legal { (same : Op → Op → Bool) (c : Chronicle Op Reply) → IsChronicle c → IsFaultless c
+        → IsLegal (queue_rules same) (record { submitted = c.submitted; answers = c.answers })
+        (ordered_commands c) }
+    ensures once { (c : Chronicle Op Reply) → IsGivenOnce (places (ordered_commands c)) }
+    ensures held { (c : Chronicle Op Reply) → IsHeldByOne (places (ordered_commands c)) }
+{
+    one_answer();
+    one_holder();
+}
+
+/// A chronicle has one fault at most, and none where each line of its dump is right.
+pub fn one_fault()
+    ensures one { (c : Chronicle Op Reply) (n m : ℕ) (v w : What) → IsFaultAt c n v → IsFaultAt c m w
+        → (n ≡ m) × (v ≡ w) }
+    ensures none { (c : Chronicle Op Reply) (n : ℕ) (what : What) → IsFaultless c
+        → IsFaultAt c n what → ⊥ }
+{}
+
+/// A text has one bad line at most.
+pub fn one_bad_line()
+    ensures { (text : List ℕ) (n m : ℕ) → IsBadLine n text → IsBadLine m text → n ≡ m }
 {}

@@ -1,17 +1,30 @@
 //! What happened in a run of nodes, and its text.
 //!
 //! `specs/Happenings.antt` says in which order submissions and answers came, and `specs/Dump.antt` how a chronicle is
-//! written.
+//! written. `specs/Reading.antt` says which text is read, and where reading stops;
+//! `specs/Checking.antt` when each line of a dump is right, and `specs/CheckFaults.antt` what is
+//! wrong with one.
 #![tactic(auto)]
 
 mod acts;
 mod append;
+mod check_fault;
 mod chronicle;
+mod draft;
+mod entry;
+mod faults;
 mod laws;
 mod lines;
+mod reader;
 mod replies;
+mod tell;
+mod tell_acts;
+mod tell_replies;
 mod timeline;
 mod writer;
 
+pub use check_fault::{CheckFault, What};
 pub use chronicle::Chronicle;
-pub use laws::one_chronicle;
+pub use faults::ReadFault;
+pub use laws::{faultless_is_legal, one_bad_line, one_chronicle, one_fault};
+pub use reader::read_text;

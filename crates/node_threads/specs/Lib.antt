@@ -1,1 +1,3 @@
 pub mod Attending
+pub mod Clusters
+pub mod Marks

@@ -2,8 +2,9 @@ ghost use Rattle.std.specs.Prelude.{◌≡◌, ◌+◌, Option, Some, IfOk, IfEr
 ghost use Rattle.session.specs.declared.faults.ServiceFault.TheVariants.{Stopped};
 ghost use Rattle.hall.specs.Tickets.{with_act, with_noted};
 
+use crate::bell::Patience;
 use crate::gate::{Actor, Gate, Point};
-use crate::shared::Shared;
+use crate::shared::{HandedIn, Shared};
 use bean_queue::{Op, Reply};
 use hall::{HallError, Ticket};
 use object::{Act, Object, Value};
@@ -23,6 +24,7 @@ pub(crate) struct Attendant<'a, O: Object, S: Ledger, C: Ledger, R, G> {
     pub(crate) ticket: Ticket<O>,
     /// How many commands it has handed in.
     pub(crate) commands: Share<C>,
+    pub(crate) patience: Patience,
     ghost one_part: { commands.parts ≡ 1 },
 }
 
@@ -38,8 +40,8 @@ impl<'a, O: Object<Op = Op, Reply = Reply>, S: Ledger, C: Ledger, R: Wait, G: Ga
 
     fn ask(&mut self, op: Op) -> Result<Reply, ServiceFault> {
         self.gate.at(Actor::Worker(self.worker), Point::Asked);
-        self.hand_in(Act::Do(op))?;
-        let reply = self.answer()?;
+        let handed_in = self.hand_in(Act::Do(op))?;
+        let reply = self.answer(handed_in)?;
         self.gate.at(Actor::Worker(self.worker), Point::Answered);
         Ok(reply)
     }
@@ -47,7 +49,7 @@ impl<'a, O: Object<Op = Op, Reply = Reply>, S: Ledger, C: Ledger, R: Wait, G: Ga
     fn close(&mut self) -> Result<(), ServiceFault> {
         for _ in self.rt.forever() {
             match self.hand_in(Act::Close) {
-                Ok(()) => return Ok(()),
+                Ok(_) => return Ok(()),
                 Err(ServiceFault::Refused) => std::thread::yield_now(),
                 Err(ServiceFault::Stopped) => return Err(ServiceFault::Stopped),
             }
@@ -58,7 +60,7 @@ impl<'a, O: Object<Op = Op, Reply = Reply>, S: Ledger, C: Ledger, R: Wait, G: Ga
 
 impl<'a, O: Object, S: Ledger, C: Ledger, R: Wait, G> Attendant<'a, O, S, C, R, G> {
     // Hands in the session's next command.
-    fn hand_in(&mut self, act: Act<O::Op>) -> Result<(), ServiceFault>
+    fn hand_in(&mut self, act: Act<O::Op>) -> Result<HandedIn, ServiceFault>
         ensures ticket { OnOk result (self.new.ticket ≡ with_act self.old.ticket act) }
         ensures counted { OnOk result
             (self.new.commands.amount ≡ self.old.commands.amount + 1) }
@@ -75,23 +77,27 @@ impl<'a, O: Object, S: Ledger, C: Ledger, R: Wait, G> Attendant<'a, O, S, C, R, 
             ..
         } = self;
         match shared.submit(*rt, commands, ticket, act, *node) {
-            Ok(()) => Ok(()),
+            Ok(handed_in) => Ok(handed_in),
             Err(HallError::OutOfMemory) => Err(ServiceFault::Refused),
             Err(_) => Err(ServiceFault::Stopped),
         }
     }
 
     // Waits for the answer to it.
-    fn answer(&mut self) -> Result<O::Reply, ServiceFault>
+    fn answer(&mut self, handed_in: HandedIn) -> Result<O::Reply, ServiceFault>
         ensures noted { IfOk result (λ reply.
             self.new.ticket ≡ with_noted self.old.ticket (Some reply)) }
         ensures stopped { IfErr result (λ fault. (fault ≡ Stopped)
             × ((noted : Option O.Reply) × (self.new.ticket ≡ with_noted self.old.ticket noted))) }
         ensures commands { self.new.commands ≡ self.old.commands }
     {
-        let Ok(()) = self
-            .shared
-            .note_answer(self.rt, &mut self.ticket, self.worker, self.node)
+        let Ok(()) = self.shared.note_answer(
+            self.rt,
+            &mut self.ticket,
+            self.worker,
+            handed_in,
+            &mut self.patience,
+        )
         else {
             return Err(ServiceFault::Stopped);
         };

@@ -7,6 +7,7 @@ ghost use Rattle.session.specs.Serving.{Over, Whole, StopsAt, Partly, BreaksOff,
 ghost use Rattle.node_threads.specs.Attending.{Adds, TakesLeave, attendance_of};
 
 use crate::attendant::Attendant;
+use crate::bell::Patience;
 use crate::gate::Gate;
 use crate::shared::Shared;
 use crate::watched_reader::WatchedReader;
@@ -114,6 +115,7 @@ pub fn attend<
         node: desk.node,
         ticket,
         commands,
+        patience: Patience::new(),
     };
     let ended = serve(alloc, &mut reader, writer, &mut attendant);
     Attended {

@@ -1,8 +1,10 @@
 ghost use Rattle.std.specs.Prelude.{◌≡◌, ◌+◌, ◌<◌, [], ℕ, length, sum, IfOk, OnOk, OnErr};
 ghost use Rattle.hall.specs.Tickets.{new_ticket, with_act};
 
+use crate::turn::Watch;
 use hall::{Hall, HallError, Ticket};
 use object::{Act, Object};
+use std::alloc::Global;
 use std::sync::ledger::{Blank, Book, Ledger, Share};
 
 /// A hall, and beside it how many sessions were opened there and how many commands these handed in. The counts are the
@@ -12,6 +14,9 @@ pub(crate) struct CountedHall<O: Object, S: Ledger, C: Ledger> {
     hall: Hall<O>,
     sessions: Book<S>,
     commands: Book<C>,
+    /// A place for each session that was opened, so that there is room to mark them in the end.
+    marks: Vec<bool>,
+    ghost marked: { length marks.items ≡ length hall.book },
     ghost opened: { length hall.book ≡ sessions.total },
     ghost handed_in: { sum hall.book ≡ commands.total },
 }
@@ -19,6 +24,7 @@ pub(crate) struct CountedHall<O: Object, S: Ledger, C: Ledger> {
 impl<O: Object, S: Ledger, C: Ledger> CountedHall<O, S, C> {
     /// A hall in which no session was opened yet, with the shares of all of both counts.
     pub(crate) fn new(
+        alloc: Global,
         hall: Hall<O>,
         sessions: Blank,
         commands: Blank,
@@ -38,22 +44,24 @@ impl<O: Object, S: Ledger, C: Ledger> CountedHall<O, S, C> {
                 hall,
                 sessions,
                 commands,
+                marks: Vec::new(alloc),
             },
             all_sessions,
             all_commands,
         )
     }
 
-    /// The hall, and what all shares together say of it.
+    /// The hall, with a mark for each session that was opened, and what all shares together say of it.
     pub(crate) fn into_hall(
         self,
         all_sessions: &mut Share<S>,
         all_commands: &mut Share<C>,
-    ) -> Hall<O>
+    ) -> (Hall<O>, Vec<bool>)
         requires sessions { all_sessions.old.parts ≡ S.parts }
         requires commands { all_commands.old.parts ≡ C.parts }
-        ensures opened { length result.book ≡ all_sessions.new.amount }
-        ensures handed_in { sum result.book ≡ all_commands.new.amount }
+        ensures opened { length result.0.book ≡ all_sessions.new.amount }
+        ensures handed_in { sum result.0.book ≡ all_commands.new.amount }
+        ensures marks { length result.1.items ≡ length result.0.book }
         ensures sessions { all_sessions.new.amount ≡ all_sessions.old.amount }
         ensures commands { all_commands.new.amount ≡ all_commands.old.amount }
     {
@@ -61,10 +69,11 @@ impl<O: Object, S: Ledger, C: Ledger> CountedHall<O, S, C> {
             hall,
             mut sessions,
             mut commands,
+            marks,
         } = self;
         sessions.audit(all_sessions);
         commands.audit(all_commands);
-        hall
+        (hall, marks)
     }
 
     /// Opens a session, which counts in this share.
@@ -78,9 +87,12 @@ impl<O: Object, S: Ledger, C: Ledger> CountedHall<O, S, C> {
         let CountedHall {
             hall,
             sessions,
-            commands: _,
+            marks,
+            ..
         } = self;
+        marks.reserve(1)?;
         let ticket = hall.open_session()?;
+        marks.push_reserved(false);
         sessions.add(mine, 1);
         Ok(ticket)
     }
@@ -100,11 +112,7 @@ impl<O: Object, S: Ledger, C: Ledger> CountedHall<O, S, C> {
         ensures err { OnErr result (mine.new.amount ≡ mine.old.amount) }
         ensures parts { mine.new.parts ≡ mine.old.parts }
     {
-        let CountedHall {
-            hall,
-            sessions: _,
-            commands,
-        } = self;
+        let CountedHall { hall, commands, .. } = self;
         hall.submit(ticket, act, node)?;
         commands.add(mine, 1);
         Ok(())
@@ -112,12 +120,20 @@ impl<O: Object, S: Ledger, C: Ledger> CountedHall<O, S, C> {
 
     /// Hands the last command of a session in again.
     pub(crate) fn resubmit(&mut self, ticket: &Ticket<O>, node: u8) -> Result<(), HallError> {
-        let CountedHall {
-            hall,
-            sessions: _,
-            commands: _,
-        } = self;
+        let CountedHall { hall, .. } = self;
         hall.resubmit(ticket, node)
+    }
+
+    /// One turn of a node.
+    pub(crate) fn take_turn(&mut self, watch: &mut Watch) -> Result<(), HallError> {
+        let CountedHall { hall, .. } = self;
+        watch.take_turn(hall)
+    }
+
+    /// Hands in a second of the clock.
+    pub(crate) fn tick(&mut self, second: u64, node: u8) -> Result<(), HallError> {
+        let CountedHall { hall, .. } = self;
+        hall.tick(second, node)
     }
 
     /// The hall, to look at it.

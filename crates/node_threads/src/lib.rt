@@ -1,15 +1,31 @@
 //! Threads round a hall: each node, the clock and the workers that serve clients have one, and share the hall under a lock.
 #![tactic(auto)]
 
+mod accept;
 mod attendant;
 mod attending;
+mod bell;
+mod clock;
+mod cluster;
+mod cluster_error;
+mod comparing;
 mod counted_hall;
 mod gate;
+mod news;
+mod node_thread;
+mod places;
 mod shared;
+mod staff;
+mod tally;
+mod turn;
 mod watched_reader;
 mod worker;
 
+pub use accept::Accept;
 pub use attending::{Attended, Desk, attend};
+pub use clock::Seconds;
+pub use cluster::{Ended, run_cluster};
+pub use cluster_error::ClusterError;
 pub use gate::{Actor, Gate, Point};
 pub use shared::Shared;
 pub use worker::Worker;

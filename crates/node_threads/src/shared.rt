@@ -1,74 +1,85 @@
-ghost use Rattle.std.specs.Prelude.{◌≡◌, ◌+◌, ◌<◌, [], ℕ, Some, IfOk, OnOk, OnErr, length, sum};
+ghost use Rattle.std.specs.Prelude.{◌≡◌, ◌+◌, ◌<◌, [], ℕ, true, false, Some, IfOk, OnOk, OnErr, length, sum};
 ghost use Rattle.hall.specs.Tickets.{new_ticket, with_act, with_noted};
 
+use crate::bell::Patience;
 use crate::counted_hall::CountedHall;
+use crate::news::News;
+use crate::places::Places;
+use crate::turn::{Watch, has_more};
 use hall::{Hall, HallError, Ticket};
 use object::{Act, Object};
 use std::alloc::{AllocError, Global};
 use std::sync::ledger::{Blank, Ledger, Share};
-use std::sync::{Condvar, Mutex, Wait};
+use std::sync::{Mutex, MutexGuard, Wait};
+use std::thread::yield_now;
 
-/// The hall under its lock, and the places where its threads sleep until there is something for them to do.
+/// So often a thread looks whether the lock is free before it sleeps until it is.
+const LOOKS_AT_LOCK: u32 = 16;
+
+/// The hall under its lock, and the places where its threads wait until there is something for them to do.
 #[derive(Drop)]
 pub struct Shared<O: Object, S: Ledger, C: Ledger> {
     hall: Mutex<CountedHall<O, S, C>>,
-    /// Node n sleeps at place n - 1.
-    nodes: Vec<Condvar>,
-    /// Worker k sleeps at place k - 1.
-    workers: Vec<Condvar>,
+    places: Places,
+}
+
+/// Where and when a worker handed in its client's last command.
+#[derive(Clone, Copy)]
+pub(crate) struct HandedIn {
+    pub(crate) node: u8,
+    pub(crate) second: u64,
 }
 
 impl<O: Object, S: Ledger, C: Ledger> Shared<O, S, C> {
-    /// A hall in which no session was opened yet, for so many workers, with the shares of all of both counts.
-    pub fn new(
+    /// A hall in which no session was opened yet, with the shares of all of both counts.
+    pub(crate) fn new(
         alloc: Global,
         hall: Hall<O>,
-        workers: u32,
+        places: Places,
         sessions: Blank,
         commands: Blank,
-    ) -> Result<(Shared<O, S, C>, Share<S>, Share<C>), AllocError>
+    ) -> (Shared<O, S, C>, Share<S>, Share<C>)
         requires none { hall.book ≡ [] }
         requires sessions_name { sessions.name ≡ S.name }
         requires sessions_parts { sessions.parts ≡ S.parts }
         requires commands_name { commands.name ≡ C.name }
         requires commands_parts { commands.parts ≡ C.parts }
-        ensures sessions { IfOk result (λ r. (r.1.parts ≡ S.parts) × (r.1.amount ≡ 0)) }
-        ensures commands { IfOk result (λ r. (r.2.parts ≡ C.parts) × (r.2.amount ≡ 0)) }
+        ensures sessions { (result.1.parts ≡ S.parts) × (result.1.amount ≡ 0) }
+        ensures commands { (result.2.parts ≡ C.parts) × (result.2.amount ≡ 0) }
     {
-        let nodes = places(alloc, u32::from(hall.members().count()))?;
-        let workers = places(alloc, workers)?;
-        let (hall, sessions, commands) = CountedHall::new(hall, sessions, commands);
+        let (hall, sessions, commands) = CountedHall::new(alloc, hall, sessions, commands);
         let shared = Shared {
             hall: Mutex::new(hall),
-            nodes,
-            workers,
+            places,
         };
-        Ok((shared, sessions, commands))
+        (shared, sessions, commands)
     }
 
-    /// The hall, once nobody shares it, and what all shares of the counts together say of it: how many sessions were opened
-    /// there, and how many commands these handed in.
-    pub fn into_hall(self, all_sessions: &mut Share<S>, all_commands: &mut Share<C>) -> Hall<O>
+    /// The hall, once nobody shares it, with a mark for each session that was opened, and what all shares of the counts
+    /// together say of it: how many sessions were opened there, and how many commands these handed in.
+    pub(crate) fn into_hall(
+        self,
+        all_sessions: &mut Share<S>,
+        all_commands: &mut Share<C>,
+    ) -> (Hall<O>, Vec<bool>)
         requires sessions { all_sessions.old.parts ≡ S.parts }
         requires commands { all_commands.old.parts ≡ C.parts }
-        ensures opened { length result.book ≡ all_sessions.new.amount }
-        ensures handed_in { sum result.book ≡ all_commands.new.amount }
+        ensures opened { length result.0.book ≡ all_sessions.new.amount }
+        ensures handed_in { sum result.0.book ≡ all_commands.new.amount }
+        ensures marks { length result.1.items ≡ length result.0.book }
         ensures sessions { all_sessions.new.amount ≡ all_sessions.old.amount }
         ensures commands { all_commands.new.amount ≡ all_commands.old.amount }
     {
-        let Shared {
-            hall,
-            nodes: _,
-            workers: _,
-        } = self;
+        let Shared { hall, places: _ } = self;
         hall.into_inner().into_hall(all_sessions, all_commands)
     }
 
-    /// Opens a session.
+    /// Opens a session for a worker.
     pub(crate) fn open_session<R: Wait>(
         &self,
         rt: &R,
         mine: &mut Share<S>,
+        worker: u32,
     ) -> Result<Ticket<O>, HallError>
         requires { 0 < mine.old.parts }
         ensures ticket { IfOk result (λ t. (session : ℕ) × (t ≡ new_ticket session)) }
@@ -76,10 +87,12 @@ impl<O: Object, S: Ledger, C: Ledger> Shared<O, S, C> {
         ensures err { OnErr result (mine.new.amount ≡ mine.old.amount) }
         ensures parts { mine.new.parts ≡ mine.old.parts }
     {
-        self.hall.lock(rt).open_session(mine)
+        let ticket = self.lock(rt).open_session(mine)?;
+        self.places.sit(worker, ticket.session());
+        Ok(ticket)
     }
 
-    /// Hands in the next command of a session at a node, and wakes the node.
+    /// Hands in the next command of a session at a node, and tells the node. Answers where and when that was.
     pub(crate) fn submit<R: Wait>(
         &self,
         rt: &R,
@@ -87,7 +100,7 @@ impl<O: Object, S: Ledger, C: Ledger> Shared<O, S, C> {
         ticket: &mut Ticket<O>,
         act: Act<O::Op>,
         node: u8,
-    ) -> Result<(), HallError>
+    ) -> Result<HandedIn, HallError>
         requires { 0 < mine.old.parts }
         ensures ticket { OnOk result (ticket.new ≡ with_act ticket.old act) }
         ensures counted { OnOk result (mine.new.amount ≡ mine.old.amount + 1) }
@@ -95,9 +108,12 @@ impl<O: Object, S: Ledger, C: Ledger> Shared<O, S, C> {
         ensures err { OnErr result (mine.new.amount ≡ mine.old.amount) }
         ensures parts { mine.new.parts ≡ mine.old.parts }
     {
-        self.hall.lock(rt).submit(mine, ticket, act, node)?;
-        self.wake_node(node);
-        Ok(())
+        let mut guard = self.lock(rt);
+        guard.submit(mine, ticket, act, node)?;
+        let second = guard.hall().last_second();
+        drop(guard);
+        self.places.ring_node(node);
+        Ok(HandedIn { node, second })
     }
 
     /// Waits for the answer to a session's last command, and notes it in the ticket. At each second without one the
@@ -107,60 +123,99 @@ impl<O: Object, S: Ledger, C: Ledger> Shared<O, S, C> {
         rt: &R,
         ticket: &mut Ticket<O>,
         worker: u32,
-        node: u8,
+        handed_in: HandedIn,
+        patience: &mut Patience,
     ) -> Result<(), AllocError>
         ensures noted { OnOk result ((reply : O.Reply)
             × (ticket.new ≡ with_noted ticket.old (Some reply))) }
         ensures err { OnErr result (ticket.new ≡ ticket.old) }
     {
-        let mut guard = self.hall.lock(rt);
-        let mut second = guard.hall().last_second();
-        let mut node = node;
+        let mut handed_in = handed_in;
         for _ in rt.forever() {
-            if guard.hall().note(ticket)? {
+            self.places.wait_as_worker(rt, worker, patience);
+            if self.look_for_answer(rt, ticket, &mut handed_in)? {
                 return Ok(());
             }
-            if guard.hall().last_second() > second {
-                second = guard.hall().last_second();
-                node = self.next_node(node);
-                let _ = guard.resubmit(ticket, node);
-                self.wake_node(node);
-            }
-            let Some(place) = place_of(self.workers.as_slice(), worker) else {
-                continue;
-            };
-            guard = place.wait(rt, guard);
         }
         unreachable!()
     }
 
-    // Wakes a node.
-    fn wake_node(&self, node: u8) {
-        if let Some(place) = place_of(self.nodes.as_slice(), u32::from(node)) {
-            place.notify_all();
+    /// One turn of a node: who got something by it is told when the lock is free. Answers whether there is something for
+    /// the node at once; where it was refused memory, it tries again when it is rung.
+    pub(crate) fn take_turn<R: Wait>(&self, rt: &R, watch: &mut Watch) -> bool {
+        let node = watch.node();
+        let mut guard = self.lock(rt);
+        let answers = guard.hall().answer_count();
+        let went = guard.take_turn(watch).is_ok();
+        let news = News::since(guard.hall(), node, answers, &self.places);
+        let has_more = went && has_more(guard.hall(), node);
+        drop(guard);
+        news.tell(&self.places);
+        has_more
+    }
+
+    /// Hands in a second of the clock, at one node after the other, and tells everybody that it has passed.
+    pub(crate) fn tick<R: Wait>(&self, rt: &R, second: u64) {
+        let node = self.places.node_at(second);
+        let _ = self.lock(rt).tick(second, node);
+        self.places.ring_all();
+    }
+
+    /// A node waits until there is something for it.
+    pub(crate) fn wait_as_node<R: Wait>(&self, rt: &R, node: u8, patience: &mut Patience) {
+        self.places.wait_as_node(rt, node, patience)
+    }
+
+    /// The node after this one, in a ring.
+    pub(crate) fn next_node(&self, node: u8) -> u8 {
+        self.places.next_node(node)
+    }
+
+    /// Nodes and clock are to end.
+    pub(crate) fn end(&self) {
+        self.places.end();
+    }
+
+    /// Whether they are.
+    pub(crate) fn is_over(&self) -> bool {
+        self.places.is_over()
+    }
+
+    // Looks once for the answer, and hands in again where a second has passed.
+    fn look_for_answer<R: Wait>(
+        &self,
+        rt: &R,
+        ticket: &mut Ticket<O>,
+        handed_in: &mut HandedIn,
+    ) -> Result<bool, AllocError>
+        ensures noted { IfOk result (λ noted. noted ≡ true → (reply : O.Reply)
+            × (ticket.new ≡ with_noted ticket.old (Some reply))) }
+        ensures none { IfOk result (λ noted. noted ≡ false → ticket.new ≡ ticket.old) }
+        ensures err { OnErr result (ticket.new ≡ ticket.old) }
+    {
+        let mut guard = self.lock(rt);
+        if guard.hall().note(ticket)? {
+            return Ok(true);
         }
-    }
-
-    // The node after this one, in a ring.
-    fn next_node(&self, node: u8) -> u8 {
-        if usize::from(node) < self.nodes.len() && node < u8::MAX {
-            node + 1
-        } else {
-            1
+        let second = guard.hall().last_second();
+        if second > handed_in.second {
+            let node = self.places.next_node(handed_in.node);
+            let _ = guard.resubmit(ticket, node);
+            drop(guard);
+            self.places.ring_node(node);
+            *handed_in = HandedIn { node, second };
         }
+        Ok(false)
     }
-}
 
-// So many places to sleep.
-fn places(alloc: Global, count: u32) -> Result<Vec<Condvar>, AllocError> {
-    let mut places = Vec::new(alloc);
-    for _ in 0..count {
-        places.push(Condvar::new())?;
+    // Takes the lock. It looks for a while before it sleeps, and lets others go on meanwhile.
+    fn lock<R: Wait>(&self, rt: &R) -> MutexGuard<'_, CountedHall<O, S, C>> {
+        for _ in 0..LOOKS_AT_LOCK {
+            if let Some(guard) = self.hall.try_lock() {
+                return guard;
+            }
+            yield_now();
+        }
+        self.hall.lock(rt)
     }
-    Ok(places)
-}
-
-// The place of a number. Numbers count from 1.
-fn place_of(places: &[Condvar], number: u32) -> Option<&Condvar> {
-    places.get((number as usize).checked_sub(1)?)
 }

@@ -5,6 +5,7 @@ use crate::attending::{Desk, attend};
 use crate::gate::Gate;
 use crate::shared::Shared;
 use bean_queue::{Op, Reply};
+use crossbeam_channel::Receiver;
 use hall::Ticket;
 use object::Object;
 use session::{ByteIn, ByteOut};
@@ -72,7 +73,7 @@ impl<O: Object<Op = Op, Reply = Reply>, S: Ledger, C: Ledger> Worker<O, S, C> {
             mut commands,
         } = self;
         if tickets.reserve(1).is_ok() {
-            if let Ok(ticket) = shared.open_session(rt, &mut sessions) {
+            if let Ok(ticket) = shared.open_session(rt, &mut sessions, desk.worker) {
                 let attended = attend(
                     rt, alloc, shared, commands, ticket, reader, writer, desk, gate,
                 );
@@ -85,5 +86,22 @@ impl<O: Object<Op = Op, Reply = Reply>, S: Ledger, C: Ledger> Worker<O, S, C> {
             sessions,
             commands,
         }
+    }
+
+    /// Serves one client after the other, until no more are let in.
+    pub(crate) fn serve_clients<R: Wait, G: Gate, I: ByteIn + Drop, W: ByteOut + Drop>(
+        self,
+        rt: &R,
+        alloc: Global,
+        shared: &Shared<O, S, C>,
+        clients: &Receiver<(I, W), Global>,
+        desk: Desk,
+        gate: &G,
+    ) -> Worker<O, S, C> {
+        let mut worker = self;
+        for (reader, mut writer) in clients.iter(rt) {
+            worker = worker.serve_client(rt, alloc, shared, reader, &mut writer, desk, gate);
+        }
+        worker
     }
 }

@@ -3,7 +3,7 @@ use crate::values::count_of;
 use crate::wanted::{Wanted, add_bytes};
 use anyhow::{Context, Result, bail, ensure};
 use beanpax::memory::{Ending, PieceReader, PieceWriter};
-use beanpax::{ByteIn, ByteOut, End, SessionFault, program, run_bytes};
+use beanpax::{ByteIn, ByteOut, End, Host, SessionFault, program, run_bytes};
 use std::alloc::{AllocError, Global};
 
 /// What a client sends, and what it is told.
@@ -95,16 +95,17 @@ impl Client {
     }
 
     /// Starts the program with these words, where it reads and writes so many bytes at a time, and notes what differs.
-    pub fn try_program(
+    pub fn try_program<H: Host>(
         &self,
-        alloc: Global,
+        rt: &H,
         words: &str,
         piece_len: usize,
         faults: &mut Vec<String>,
     ) -> Result<()> {
+        let alloc = rt.alloc();
         let line = command_line(alloc, words)?;
         let mut ran = self.not_ran(alloc, piece_len);
-        let status = self.start(alloc, line.as_slice(), &mut ran)?;
+        let status = self.start(rt, line.as_slice(), &mut ran)?;
         ran.end = format!(in alloc; "{status}")?;
         self.compare(alloc, words, &ran, faults)
     }
@@ -119,11 +120,11 @@ impl Client {
     }
 
     // The status of the program, which reads as many bytes at a time as it writes.
-    fn start(&self, alloc: Global, words: &[String], ran: &mut Ran) -> Result<u8> {
+    fn start<H: Host>(&self, rt: &H, words: &[String], ran: &mut Ran) -> Result<u8> {
         let piece_len = ran.output.piece_len;
         ensure!(piece_len > 0, "no bytes at a time");
         let mut input = PieceReader::new(self.input.as_slice(), piece_len, self.ending);
-        Ok(status_of(alloc, words, &mut input, &mut ran.output, &mut ran.errors))
+        Ok(status_of(rt, words, &mut input, &mut ran.output, &mut ran.errors))
     }
 
     /// Answers the bytes on so many nodes, and notes what differs.
@@ -188,14 +189,14 @@ impl Ran {
 }
 
 // The program's status.
-fn status_of<R: ByteIn, W: ByteOut>(
-    alloc: Global,
+fn status_of<H: Host, R: ByteIn, W: ByteOut>(
+    rt: &H,
     words: &[String],
     input: &mut R,
     output: &mut W,
     errors: &mut W,
 ) -> u8 {
-    program(alloc, words, input, output, errors)
+    program(rt, words, input, output, errors)
 }
 
 // How a run over bytes ends, on 1 to 7 nodes.

@@ -3,6 +3,7 @@ use crate::case_file::Case;
 use crate::client::Client;
 use crate::dump::Parts;
 use crate::nodes::Nodes;
+use crate::reading::Text;
 use crate::replies::Replies;
 use crate::requests::Requests;
 use crate::script::run_script;
@@ -10,6 +11,7 @@ use crate::spoken::Spoken;
 use crate::values::node_of;
 use anyhow::{Context, Result, bail};
 use bean_queue::{PlainQueue, Queue};
+use beanpax::Host;
 use object::{Once, Register};
 use std::alloc::Global;
 
@@ -17,17 +19,19 @@ use std::alloc::Global;
 const RUNS: [(u8, u64); 3] = [(1, 0), (3, 1), (7, u64::MAX)];
 
 /// Tries a case, and notes what differs.
-pub fn try_case(alloc: Global, case: &Case<'_>, faults: &mut Vec<String>) -> Result<()> {
+pub fn try_case<H: Host>(rt: &H, case: &Case<'_>, faults: &mut Vec<String>) -> Result<()> {
+    let alloc = rt.alloc();
     let lines = case.lines.as_slice();
     match case.kind {
-        "client" => try_client(alloc, lines, faults),
-        "program" => try_program(alloc, lines, faults),
+        "client" => try_client(rt, lines, faults),
+        "program" => try_program(rt, lines, faults),
         "run" => try_run(alloc, lines, faults),
         "register" => try_filter::<Register>(alloc, lines, faults),
         "queue" => try_queues(alloc, lines, faults),
         "requests" => run_script(alloc, &mut Requests, lines, faults),
         "replies" => run_script(alloc, &mut Replies, lines, faults),
         "dump" => try_dump(alloc, lines, faults),
+        "reading" => run_script(alloc, &mut Text::new(alloc), lines, faults),
         "nodes of a register" => try_nodes::<Register>(alloc, lines, faults),
         "nodes of a queue" => try_queue_nodes(alloc, lines, faults),
         _ => bail!("no such kind"),
@@ -35,29 +39,29 @@ pub fn try_case(alloc: Global, case: &Case<'_>, faults: &mut Vec<String>) -> Res
 }
 
 // A client is told the same in pieces of 1, 7 and 4096 bytes, and on 1 to 7 nodes with seeds 0 to 9.
-fn try_client(alloc: Global, lines: &[&str], faults: &mut Vec<String>) -> Result<()> {
-    let client = Client::of(alloc, "0", lines)?;
-    try_lengths(alloc, &client, "run", &[1, 7, 4096], faults)?;
+fn try_client<H: Host>(rt: &H, lines: &[&str], faults: &mut Vec<String>) -> Result<()> {
+    let client = Client::of(rt.alloc(), "0", lines)?;
+    try_lengths(rt, &client, "run", &[1, 7, 4096], faults)?;
     for nodes in 1..=7 {
-        try_seeds(alloc, &client, nodes, faults)?;
+        try_seeds(rt, &client, nodes, faults)?;
     }
     Ok(())
 }
 
-fn try_seeds(alloc: Global, client: &Client, nodes: u8, faults: &mut Vec<String>) -> Result<()> {
+fn try_seeds<H: Host>(rt: &H, client: &Client, nodes: u8, faults: &mut Vec<String>) -> Result<()> {
     for seed in 0..10 {
-        let words = format!(in alloc; "run --nodes {nodes} --seed {seed}")?;
-        client.try_program(alloc, words.as_str(), 4096, faults)?;
+        let words = format!(in rt.alloc(); "run --nodes {nodes} --seed {seed}")?;
+        client.try_program(rt, words.as_str(), 4096, faults)?;
     }
     Ok(())
 }
 
 // The program does the same with each of the words, and with pieces of each length.
-fn try_program(alloc: Global, lines: &[&str], faults: &mut Vec<String>) -> Result<()> {
-    let client = Client::of(alloc, "0", lines)?;
+fn try_program<H: Host>(rt: &H, lines: &[&str], faults: &mut Vec<String>) -> Result<()> {
+    let client = Client::of(rt.alloc(), "0", lines)?;
     for words in client.words.iter() {
         try_lengths(
-            alloc,
+            rt,
             &client,
             words.as_str(),
             client.pieces.as_slice(),
@@ -67,15 +71,15 @@ fn try_program(alloc: Global, lines: &[&str], faults: &mut Vec<String>) -> Resul
     Ok(())
 }
 
-fn try_lengths(
-    alloc: Global,
+fn try_lengths<H: Host>(
+    rt: &H,
     client: &Client,
     words: &str,
     piece_lens: &[usize],
     faults: &mut Vec<String>,
 ) -> Result<()> {
     for piece_len in piece_lens {
-        client.try_program(alloc, words, *piece_len, faults)?;
+        client.try_program(rt, words, *piece_len, faults)?;
     }
     Ok(())
 }

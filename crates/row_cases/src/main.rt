@@ -10,6 +10,7 @@ mod letter_words;
 mod nodes;
 mod queue_words;
 mod quoted;
+mod reading;
 mod register_words;
 mod replies;
 mod requests;
@@ -19,12 +20,14 @@ mod values;
 mod wanted;
 
 use anyhow::{Context, Result, ensure};
+use beanpax::{Host, no_sockets};
 use case_file::{Case, cases_of};
 use kinds::try_case;
-use std::rt::{Env, Files};
+use std::rt::Env;
 use std::{env, fs};
 
 fn main(rt: HostRuntime) -> Result<()> {
+    let _sockets = no_sockets();
     let mut cases = 0usize;
     let mut differ = 0usize;
     for name in file_names(&rt)?.iter() {
@@ -50,14 +53,14 @@ fn file_names<R: Env + AllocGlobal>(rt: &R) -> Result<Vec<String>> {
 }
 
 /// Runs the cases of a file, and prints how many of them differ.
-fn run_file<R: Files + Print + AllocGlobal>(rt: &R, name: &str) -> Result<Tally> {
+fn run_file<H: Host + Print>(rt: &H, name: &str) -> Result<Tally> {
     let text = fs::read_to_string(rt, name).context(name)?;
     let tally = run_text(rt, name, text.as_str())?;
     println!(rt; "{name}: {} cases, {} differ", tally.cases, tally.differ)?;
     Ok(tally)
 }
 
-fn run_text<R: Print + AllocGlobal>(rt: &R, name: &str, text: &str) -> Result<Tally> {
+fn run_text<H: Host + Print>(rt: &H, name: &str, text: &str) -> Result<Tally> {
     let cases = cases_of(rt.alloc(), text)?;
     Ok(Tally {
         cases: cases.len(),
@@ -66,7 +69,7 @@ fn run_text<R: Print + AllocGlobal>(rt: &R, name: &str, text: &str) -> Result<Ta
 }
 
 // Counts those that differ.
-fn run_cases<R: Print + AllocGlobal>(rt: &R, name: &str, cases: &[Case<'_>]) -> Result<usize> {
+fn run_cases<H: Host + Print>(rt: &H, name: &str, cases: &[Case<'_>]) -> Result<usize> {
     let mut differ = 0usize;
     for case in cases {
         differ = differ.saturating_add(usize::from(differs(rt, name, case)?));
@@ -75,9 +78,9 @@ fn run_cases<R: Print + AllocGlobal>(rt: &R, name: &str, cases: &[Case<'_>]) -> 
 }
 
 /// Runs a case, and prints the first thing that goes otherwise than it should.
-fn differs<R: Print + AllocGlobal>(rt: &R, name: &str, case: &Case<'_>) -> Result<bool> {
+fn differs<H: Host + Print>(rt: &H, name: &str, case: &Case<'_>) -> Result<bool> {
     let mut faults = Vec::new(rt.alloc());
-    try_case(rt.alloc(), case, &mut faults).context(case.title)?;
+    try_case(rt, case, &mut faults).context(case.title)?;
     if let Some(fault) = faults.first() {
         println!(rt; "{name}: {}: {fault}", case.title)?;
     }

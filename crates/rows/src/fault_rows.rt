@@ -1,14 +1,18 @@
 //! What faults are called.
-use beanpax::{SessionFault, fault_number};
+use beanpax::{ProgramFault, fault_number};
 use std::test::Fail;
 
 #[test]
 fn a_fault_is_told_by_its_name(rt: HostRuntime) -> Result<(), Fail> {
     let faults = [
-        (SessionFault::OutOfMemory, "1 out of memory"),
-        (SessionFault::ReadFailed, "7 read failed"),
-        (SessionFault::WriteFailed, "8 write failed"),
-        (SessionFault::ServiceStopped, "9 service stopped"),
+        (ProgramFault::OutOfMemory, "1 out of memory"),
+        (ProgramFault::BadNumber, "6 bad number"),
+        (ProgramFault::ReadFailed, "7 read failed"),
+        (ProgramFault::WriteFailed, "8 write failed"),
+        (ProgramFault::ServiceStopped, "9 service stopped"),
+        (ProgramFault::ListenFailed, "12 cannot listen"),
+        (ProgramFault::FileFailed, "13 file failed"),
+        (ProgramFault::ThreadFailed, "14 cannot start a thread"),
     ];
     for (fault, text) in faults {
         let number = fault_number(fault);

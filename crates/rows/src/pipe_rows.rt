@@ -1,6 +1,5 @@
 //! What a client is told that waits for each reply before it sends the next command.
-use beanpax::memory::PieceWriter;
-use beanpax::{ByteIn, ByteOut, Reading, Writing, program};
+use beanpax::{End, Reading, SessionFault, Writing, run_bytes};
 use std::alloc::Global;
 use std::io::{PipeReader, PipeWriter, Read, Write, pipe};
 use std::test::Fail;
@@ -16,26 +15,14 @@ static TALK: [(&[u8], &[u8]); 6] = [
     (b"delete 1\r\n", b"DELETED\r\n"),
 ];
 
-/// The program's status.
-fn status_of<R: ByteIn, W: ByteOut, E: ByteOut>(
-    alloc: Global,
-    words: &[String],
-    input: &mut R,
-    output: &mut W,
-    errors: &mut E,
-) -> u8 {
-    program(alloc, words, input, output, errors)
-}
-
-/// Serves the client at the other ends of the pipes. Answers the status.
-fn serve(alloc: Global, words: &[String], input: PipeReader, output: PipeWriter) -> u8 {
-    let mut errors = PieceWriter::new(alloc, 64, 64);
-    status_of(
+/// Serves the client at the other ends of the pipes, over three nodes.
+fn serve(alloc: Global, input: PipeReader, output: PipeWriter) -> Result<End, SessionFault> {
+    run_bytes(
         alloc,
-        words,
+        3,
+        0,
         &mut Reading::new(input),
         &mut Writing::new(output),
-        &mut errors,
     )
 }
 
@@ -64,18 +51,10 @@ fn talk(mut to: PipeWriter, mut from: PipeReader) -> usize {
 #[test]
 fn each_command_is_sent_after_the_reply_before_it(rt: HostRuntime) -> Result<(), Fail> {
     let alloc = rt.alloc();
-    let words = vec![in alloc;
-        String::from_str(alloc, "beanpax")?,
-        String::from_str(alloc, "run")?,
-    ]?;
     let (input, to) = pipe(&rt)?;
     let (from, output) = pipe(&rt)?;
-    let (status, heard) = thread::join(
-        &rt,
-        || serve(alloc, words.as_slice(), input, output),
-        || talk(to, from),
-    );
+    let (ended, heard) = thread::join(&rt, || serve(alloc, input, output), || talk(to, from));
     assert_eq!(rt; heard, TALK.len());
-    assert_eq!(rt; status, 0);
+    assert!(rt; ended == Ok(End::Eof));
     Ok(())
 }

@@ -1,35 +1,48 @@
-use Rattle.std.proofs.Common.{◌≡◌, ◌∙◌, ◌^◌, ◌-◌, true, [], Some, is_some, codes, option_map, map, string_bytes, rules, sym, ap, subst}
-use Rattle.clap.specs.Words.{App, IsAmong, found_of, has_subcommand, is_simple, rows_of, subcommand_of}
+use Rattle.std.proofs.Common.{◌≡◌, ◌∙◌, ◌^◌, ◌-◌, true, false, [], codes, map, string_bytes, refl, sym, ap, subst}
+use Rattle.clap.specs.Words.{App, IsAmong, found_of, has_subcommand}
 use Rattle.clap.specs.declared.error.kind.ErrorKind.TheVariants.{DisplayHelp}
 use Rattle.clap.proofs.CallerLemmas.{subcommand_required}
-use Rattle.clap.proofs.WalkLemmas.{one_text-rows}
 use Rattle.beanpax.specs.Words.{IsNumberOr, program_command}
-use Rattle.beanpax.proofs.WordsLemmas.{among_errors, holds_of_errors, is_simple-program_command, text_given-of_rows}
+use Rattle.beanpax.proofs.CommandLemmas.{command_given-of, meets_one, met_by, server_same, text_given-of, word_given-of}
+use Rattle.beanpax.proofs.WordsLemmas.{among_errors, holds_of_errors}
 use Rattle.beanpax.proofs.words.parse_words.Goals as goal
 
-pub unwrap-requires : goal.unwrap-requires
-unfolding program_command
-unwrap-requires c =
-    let is_required = ap (λ (a : App). a.top.subcommand_required) c.in_ok-program_words.ensures.app in
-    let met : has_subcommand c.in-Ok.matches ≡ true =
-    subcommand_required _ _ c.in-Ok.ensures.parsed c.in_ok-program_words.ensures.no_globals is_required in
-    let is_some : is_some c.subcommand.result ≡ true = c.subcommand.ensures.variant ∙ met in
-    search rules
-
-pub returns-in-Ok : goal.returns-in-Ok
-returns-in-Ok c =
+pub returns-in-Some : goal.returns-in-Some
+returns-in-Some c =
     let is_program = c.in_ok-program_words.ensures.app in
-    let texts = map string_bytes c.args.words.now in
-    let run = c.unwrap.result.1.now in
-    let met : option_map (λ p. p.1) (subcommand_of program_command texts) ≡ Some (rows_of (found_of run)) =
-    ap (option_map (λ p. p.1)) (sym ((c.in-Ok.ensures.matches (ap is_simple is_program ∙ is_simple-program_command)).1 ∙ ap (λ (a : App). subcommand_of a texts) is_program))
-    ∙ sym c.subcommand.ensures.rows ∙ ap (option_map (λ p. rows_of (found_of p.1.now))) c.unwrap.ensures in (
-      holds_of_errors (λ kinds. kinds ≡ []) _ _ is_program c.in-Ok.ensures.kinds,
+    let words = map string_bytes c.args.words.now in
+    let met = met_by _ words c.in-Ok.matches is_program c.in-Ok.ensures.matches in
+    let text = text_given-of words c.in-Ok.matches (found_of c.in-Some.run'.now) met c.in-Some.ensures.rows in (
+      (holds_of_errors (λ kinds. kinds ≡ []) _ _ is_program c.in-Ok.ensures.kinds, command_given-of words c.in-Ok.matches (codes "run") met (c.in-Some.ensures.found.0 refl)),
       c.nodes_of.ensures.some,
       c.nodes_of.ensures.few,
-      subst (λ text. IsNumberOr 3 1 7 text c.nodes_of.result) (one_text-rows (found_of run) (codes "nodes") ∙ sym (text_given-of_rows _ _ _ met)) c.nodes_of.ensures.nodes,
-      subst (λ text. IsNumberOr 0 0 (2 ^ 64 - 1) text c.seed_of.result) (one_text-rows (found_of run) (codes "seed") ∙ sym (text_given-of_rows _ _ _ met)) c.seed_of.ensures,
+      subst (λ t. IsNumberOr 3 1 7 t c.nodes_of.result) (text (codes "nodes")) c.nodes_of.ensures.nodes,
+      subst (λ t. IsNumberOr 0 0 (2 ^ 64 - 1) t c.seed_of.result) (text (codes "seed")) c.seed_of.ensures,
     )
+
+pub returns-in-Some-subcommand_matches : goal.returns-in-Some-subcommand_matches
+returns-in-Some-subcommand_matches c =
+    let is_program = c.in_ok-program_words.ensures.app in
+    let words = map string_bytes c.args.words.now in
+    let met = met_by _ words c.in-Ok.matches is_program c.in-Ok.ensures.matches in
+    let found = found_of c.in-Some-subcommand_matches.serve.now in
+    let rows = c.in-Some-subcommand_matches.ensures.rows in (
+      (holds_of_errors (λ kinds. kinds ≡ []) _ _ is_program c.in-Ok.ensures.kinds, command_given-of words c.in-Ok.matches (codes "serve") met (c.in-Some-subcommand_matches.ensures.found.0 refl)),
+      server_same _ _ _ _ (text_given-of words c.in-Ok.matches found met rows) (word_given-of words c.in-Ok.matches found met rows) c.server_of.result c.server_of.ensures,
+    )
+
+never : false ≡ true → ⊥
+never e = absurd (cc)
+
+pub unreachable-requires : goal.unreachable-requires
+unfolding program_command
+unreachable-requires c =
+    let is_program = c.in_ok-program_words.ensures.app in
+    let words = map string_bytes c.args.words.now in
+    let is_required = ap (λ (a : App). a.top.subcommand_required) is_program in
+    let met : has_subcommand c.in-Ok.matches ≡ true = subcommand_required _ _ c.in-Ok.ensures.parsed c.in_ok-program_words.ensures.no_globals is_required in
+    meets_one words c.in-Ok.matches (holds_of_errors (λ kinds. kinds ≡ []) _ _ is_program c.in-Ok.ensures.kinds) (met_by _ words c.in-Ok.matches is_program c.in-Ok.ensures.matches) met
+    (λ e. never (c.in_default.ensures.found.1 e)) (λ e. never (c.in-None.ensures.found.1 e))
 
 pub returns-in-DisplayHelp : goal.returns-in-DisplayHelp
 returns-in-DisplayHelp c =
@@ -39,7 +52,7 @@ returns-in-DisplayHelp c =
 pub returns : goal.returns
 returns c = (
   c.kind.result,
-  c.in_default.not-DisplayHelp,
+  c.in_default-kind.not-DisplayHelp,
   holds_of_errors (λ kinds. IsAmong c.kind.result kinds) _ _ c.in_ok-program_words.ensures.app
-      (λ simple. among_errors _ _ c.in-Err.error c.kind.ensures c.in_default.not-OutOfMemory (c.in-Err.ensures.kinds simple)),
+      (λ simple. among_errors _ _ c.in-Err.error c.kind.ensures c.in_default-kind.not-OutOfMemory (c.in-Err.ensures.kinds simple)),
 )

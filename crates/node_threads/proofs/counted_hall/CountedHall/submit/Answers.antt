@@ -7,7 +7,9 @@ pub invariant_of-self-2 : goal.invariant_of-self-2
 invariant_of-self-2 g c =
     let book = ap (λ (h : HallState _ _). h.book) c.in_ok-submit.ensures.ok in
     let next = c.in_ok-submit.ensures.next in
+    let long = ap (λ b. length b) book ∙ book_length c.args.self.now.hall.book _ _ in
     record {
-      opened = ap (λ b. length b) book ∙ book_length c.args.self.now.hall.book _ _ ∙ c.args.self.now.opened;
+      marked = c.args.self.now.marked ∙ sym long;
+      opened = long ∙ c.args.self.now.opened;
       handed_in = ap sum book ∙ book_sum c.args.self.now.hall.book _ _ next.opened next.number ∙ ap (λ n. n + 1) c.args.self.now.handed_in ∙ sym c.add.ensures.total;
     }

@@ -1,0 +1,139 @@
+"""Servers to be measured: beanpax, and beanstalkd where it is installed. Each runs on a free port of this machine, and ends
+with the block that started it."""
+
+import contextlib
+import os
+import re
+import shutil
+import signal
+import socket
+import statistics
+import subprocess
+import sys
+import tempfile
+import time
+
+ROOT = os.path.dirname(os.path.dirname(os.path.abspath(__file__)))
+LOAD_CRATE = os.path.join(ROOT, "crates", "serve_load")
+LOAD = os.path.join(LOAD_CRATE, "out", "serve_load")
+
+# What is started as `BEANPAX serve --port P --nodes N --workers K`.
+BEANPAX = os.environ.get("BEANPAX", os.path.join(ROOT, "beanpax"))
+BEANSTALKD = shutil.which("beanstalkd")
+
+# The bytes of a job.
+SIZE = 100
+
+TICK = os.sysconf("SC_CLK_TCK")
+PRINTED = re.compile(r"(\d+) commands a second, median ([\d.]+) us, 99th percentile ([\d.]+) us\n")
+
+
+def build(with_beanpax):
+    """Builds the load program, and beanpax where it is wanted and no other program stands for it."""
+    end_on_a_signal()
+    subprocess.run(["rt", "run", "--", "0", "0", "0", "0"], cwd=LOAD_CRATE, stdout=subprocess.DEVNULL, check=True)
+    if with_beanpax and "BEANPAX" not in os.environ:
+        subprocess.run([BEANPAX, "--help"], stdout=subprocess.DEVNULL, check=True)
+
+
+def end_on_a_signal():
+    """A signal that ends the script ends its servers, too."""
+    for one in (signal.SIGTERM, signal.SIGHUP):
+        signal.signal(one, lambda *_: sys.exit(1))
+
+
+class Server:
+    """A server that runs."""
+
+    def __init__(self, process, port):
+        self.process, self.port = process, port
+        self.folder = f"/proc/{process.pid}"
+
+    def load(self, connections, jobs):
+        """The commands a second, and the median and the 99th percentile of a command's time in microseconds."""
+        words = [LOAD, *map(str, (self.port, connections, jobs, SIZE))]
+        run = subprocess.run(words, stdout=subprocess.PIPE, text=True, check=True, timeout=600)
+        return [float(number) for number in PRINTED.fullmatch(run.stdout).groups()]
+
+    def switches(self):
+        """How often its threads were taken off a processor so far."""
+        total = 0
+        for thread in os.listdir(f"{self.folder}/task"):
+            with open(f"{self.folder}/task/{thread}/status") as status:
+                total += sum(int(line.split()[1]) for line in status if "ctxt_switches" in line)
+        return total
+
+    def seconds(self):
+        """The processor time that it used so far."""
+        with open(f"{self.folder}/stat") as stat:
+            fields = stat.read().rsplit(")", 1)[1].split()
+        return (int(fields[11]) + int(fields[12])) / TICK
+
+    def resident(self):
+        """The bytes of its resident set."""
+        with open(f"{self.folder}/status") as status:
+            return next(int(line.split()[1]) * 1024 for line in status if line.startswith("VmRSS"))
+
+
+def free_port():
+    with socket.create_server(("127.0.0.1", 0)) as listener:
+        return listener.getsockname()[1]
+
+
+@contextlib.contextmanager
+def running(words, port, is_told):
+    """A server that was started by these words, and serves. It says on its first line that it listens, or is asked."""
+    process = subprocess.Popen(words, stdout=subprocess.PIPE, text=True)
+    try:
+        if is_told:
+            line = process.stdout.readline()
+            assert line == f"listening on 127.0.0.1:{port}\n", f"{words[0]} printed {line!r} first"
+        else:
+            wait_until_it_listens(port)
+        yield Server(process, port)
+        assert process.poll() is None, f"{words[0]} ended by itself"
+    finally:
+        process.terminate()
+        try:
+            process.wait(10)
+        except subprocess.TimeoutExpired:
+            process.kill()
+            process.wait()
+        process.stdout.close()
+
+
+def wait_until_it_listens(port):
+    for _ in range(500):
+        try:
+            socket.create_connection(("127.0.0.1", port)).close()
+            return
+        except ConnectionRefusedError:
+            time.sleep(0.01)
+    raise TimeoutError(f"nobody listens on {port}")
+
+
+@contextlib.contextmanager
+def beanpax(nodes, workers):
+    port = free_port()
+    words = [BEANPAX, "serve", "--port", port, "--nodes", nodes, "--workers", workers]
+    with running([str(word) for word in words], port, is_told=True) as server:
+        yield server
+
+
+@contextlib.contextmanager
+def beanstalkd(*more):
+    port = free_port()
+    with running([BEANSTALKD, "-l", "127.0.0.1", "-p", str(port), *more], port, is_told=False) as server:
+        yield server
+
+
+@contextlib.contextmanager
+def synced_beanstalkd():
+    """One that syncs its log at each command that changes it. The log is no file in memory."""
+    with tempfile.TemporaryDirectory(dir="/var/tmp") as folder, beanstalkd("-b", folder, "-f", "0") as server:
+        yield server
+
+
+def medians(rows):
+    """The median of each column."""
+    return [statistics.median(column) for column in zip(*rows)]

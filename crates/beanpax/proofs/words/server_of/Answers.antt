@@ -1,0 +1,17 @@
+use Rattle.std.proofs.Common.{arith}
+use Rattle.std.specs.Str.Parse.{ParsesUnsigned, ExplainsUnsignedError, HasUnsignedDigitsIfOk}
+use Rattle.beanpax.proofs.WordsLemmas.{number_if_read}
+use Rattle.beanpax.proofs.words.server_of.Goals as goal
+
+pub returns : goal.returns
+returns c = record {
+  port = c.port_of.ensures;
+  nodes = c.nodes_of.ensures.nodes;
+  some_nodes = c.nodes_of.ensures.some;
+  few_nodes = c.nodes_of.ensures.few;
+  workers = c.workers_of.ensures.workers;
+  some_workers = c.workers_of.ensures.some;
+  few_workers = c.workers_of.ensures.few;
+  sessions = number_if_read 32 1 1000000 (omega arith) (omega arith) _ (λ t r. ParsesUnsigned 32 10 t r × ExplainsUnsignedError 10 t r × HasUnsignedDigitsIfOk t r) (λ t r given. given.0) _ c.get_one.result c.get_one.ensures.none c.get_one.ensures.value;
+  dump = c.get_str.ensures;
+}

@@ -1,0 +1,69 @@
+ghost use Rattle.std.specs.Prelude.{◌≡◌};
+
+use node_threads::Accept;
+use session::{Failed, Reading, Writing};
+use std::io;
+use std::io::ErrorKind;
+use std::net::{TcpListener, TcpStream};
+
+/// Clients that connect over TCP, up to so many.
+#[derive(Drop)]
+pub(crate) struct Connections {
+    listener: TcpListener,
+    left: Option<u32>,
+}
+
+impl Connections {
+    /// Those that connect here: as many as there is said, or without end.
+    pub(crate) fn new(listener: TcpListener, left: Option<u32>) -> Connections {
+        Connections { listener, left }
+    }
+
+    // The next connection that can be used. One that has gone before it is accepted is left out.
+    fn accept(&self) -> Result<(Reading<TcpStream>, Writing<TcpStream>), Failed> {
+        for _ in 0..u64::MAX {
+            match self.listener.accept() {
+                Ok((stream, _)) => {
+                    if let Ok(ends) = ends_of(stream) {
+                        return Ok(ends);
+                    }
+                }
+                Err(e) if is_of_one_client(e.kind()) => {}
+                Err(_) => return Err(Failed),
+            }
+        }
+        Err(Failed)
+    }
+}
+
+impl Accept for Connections {
+    type R = Reading<TcpStream>;
+
+    type W = Writing<TcpStream>;
+
+    fn next(&mut self) -> Result<Option<(Reading<TcpStream>, Writing<TcpStream>)>, Failed> {
+        if let Some(left) = self.left {
+            let Some(rest) = left.checked_sub(1) else {
+                return Ok(None);
+            };
+            self.left = Some(rest);
+        }
+        Ok(Some(self.accept()?))
+    }
+}
+
+// Whether it went wrong for one client alone, and the next can be accepted.
+fn is_of_one_client(kind: ErrorKind) -> bool {
+    matches!(
+        kind,
+        ErrorKind::ConnectionAborted | ErrorKind::ConnectionReset | ErrorKind::Interrupted
+    )
+}
+
+// What is read from the connection, and what is written to it. A reply isn't held back until more
+// can be sent.
+fn ends_of(stream: TcpStream) -> io::Result<(Reading<TcpStream>, Writing<TcpStream>)> {
+    stream.set_nodelay(true)?;
+    let output = stream.try_clone()?;
+    Ok((Reading::new(stream), Writing::new(output)))
+}

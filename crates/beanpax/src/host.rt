@@ -1,0 +1,29 @@
+use std::net::{Net, TcpListener, TcpStream};
+use std::rt::{Clock, Files};
+use std::sync::Wait;
+use std::thread::Threads;
+
+/// What the program takes of the machine beside its words and streams: sockets, a clock, files,
+/// threads, and leave to wait.
+pub trait Host: Net<Listener = TcpListener, Stream = TcpStream>
+    + Clock
+    + Files
+    + Threads
+    + Wait
+    + AllocGlobal
+    + Sync {}
+
+impl<
+    R: Net<Listener = TcpListener, Stream = TcpStream>
+        + Clock
+        + Files
+        + Threads
+        + Wait
+        + AllocGlobal
+        + Sync,
+> Host for R {}
+
+/// No sockets. Whoever hands on a runtime as a `Host` names the types of its sockets by this call.
+pub fn no_sockets() -> (Option<TcpListener>, Option<TcpStream>) {
+    (None, None)
+}

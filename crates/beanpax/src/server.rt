@@ -1,0 +1,105 @@
+ghost use Rattle.std.specs.Prelude.{◌≡◌, ◌≢◌, ◌≤◌, true, Err, IfOk, OnOk};
+ghost use Rattle.std.specs.Io.KnownBytes.{Appends};
+ghost use Rattle.beanpax.specs.declared.faults.ProgramFault.TheVariants.{ReadFailed, WriteFailed};
+ghost use Rattle.chronicle.specs.Dump.{dump_text};
+ghost use Rattle.hall.specs.Halls.{chronicle_of};
+ghost use Rattle.beanpax.specs.Servers.{listening_line};
+
+use crate::connections::Connections;
+use crate::faults::ProgramFault;
+use crate::host::Host;
+use crate::seconds::ClockSeconds;
+use crate::words::ServerOptions;
+use ballot::Members;
+use bean_queue::Queue;
+use hall::Hall;
+use node_threads::{Actor, Gate, Point, run_cluster};
+use session::{ByteOut, write_all};
+use std::alloc::{AllocError, Global};
+use std::fs;
+use std::net::{Ipv4Addr, SocketAddr, TcpListener};
+
+/// Serves clients over TCP, as the options say, and tells on the output where it listens before it
+/// accepts the first.
+///
+/// It returns when as many connections as were asked for have ended, and has written the dump then,
+/// where that was asked for. What goes wrong with one client ends that client's session alone.
+pub(crate) fn serve_tcp<R: Host, W: ByteOut>(
+    rt: &R,
+    options: &ServerOptions<'_>,
+    output: &mut W,
+) -> Result<(), ProgramFault>
+    requires some_nodes { 1 ≤ options.now.nodes }
+    requires few_nodes { options.now.nodes ≤ 7 }
+    requires some_workers { 1 ≤ options.now.workers }
+    requires few_workers { options.now.workers ≤ 64 }
+    ensures told { OnOk result (Appends (W.contents output.old) (W.contents output.new)
+        (listening_line options.now.port)) }
+    ensures write_failed { result ≡ Err WriteFailed → W.has_failed output.new ≡ true }
+    ensures reads_nothing { result ≢ Err ReadFailed }
+{
+    let listener = TcpListener::bind(
+        rt,
+        SocketAddr::from((Ipv4Addr::LOCALHOST, options.port)),
+    ).map_err(|_| ProgramFault::ListenFailed)?;
+    tell_port(rt.alloc(), options.port, output)?;
+    let Some(members) = Members::new(options.nodes) else {
+        unreachable!()
+    };
+    let hall: Hall<Queue> = Hall::new(rt.alloc(), members)?;
+    let connections = Connections::new(listener, options.sessions);
+    let seconds = ClockSeconds::new(rt);
+    let ended = run_cluster(
+        rt,
+        rt.alloc(),
+        hall,
+        connections,
+        seconds,
+        options.workers,
+        &Open,
+    );
+    if let Some(fault) = ended.fault {
+        return Err(ProgramFault::from(fault));
+    }
+    match options.dump {
+        Some(file) => write_dump(rt, &ended.hall, file),
+        None => Ok(()),
+    }
+}
+
+// Tells at which port it listens.
+#[tactic(auto, unfolding(crate::specs::Servers::listening_line))]
+fn tell_port<W: ByteOut>(alloc: Global, port: u16, output: &mut W) -> Result<(), ProgramFault>
+    ensures told { OnOk result
+        (Appends (W.contents output.old) (W.contents output.new) (listening_line port)) }
+    ensures write_failed { result ≡ Err WriteFailed → W.has_failed output.new ≡ true }
+    ensures reads_nothing { result ≢ Err ReadFailed }
+{
+    let line = format!(in alloc; "listening on 127.0.0.1:{port}\n")?;
+    write_all(output, line.as_bytes()).map_err(|_| ProgramFault::WriteFailed)
+}
+
+// Writes the dump of the hall to the file.
+fn write_dump<R: Host>(rt: &R, hall: &Hall<Queue>, file: &str) -> Result<(), ProgramFault>
+    ensures reads_nothing { result ≢ Err ReadFailed }
+    ensures writes_nothing_out { result ≢ Err WriteFailed }
+{
+    let text = dump_of(rt.alloc(), hall)?;
+    fs::write(rt, file, text.as_slice()).map_err(|_| ProgramFault::FileFailed)
+}
+
+// The text of what happened in the hall.
+fn dump_of(alloc: Global, hall: &Hall<Queue>) -> Result<Vec<u8>, AllocError>
+    ensures { IfOk result (λ text. text.items ≡ dump_text (chronicle_of hall.now)) }
+{
+    let mut text = Vec::new(alloc);
+    hall.dump()?.write_text(&mut text)?;
+    Ok(text)
+}
+
+/// Holds nobody up.
+struct Open;
+
+impl Gate for Open {
+    fn at(&self, _who: Actor, _point: Point) {}
+}

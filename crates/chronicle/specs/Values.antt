@@ -1,0 +1,71 @@
+-- What the values of a chronicle are, as their types keep them: numbers of 32 or 64 bits, names of tubes, bodies of bytes, and
+-- keys that may ask for their acts.
+use Rattle.std.specs.Prelude.{ℕ, ◌<◌, ◌^◌, ⊤, Some}
+use Rattle.std.specs.List.{AllByRecursion}
+use Rattle.object.specs.Commands.{IsCommand}
+use Rattle.object.specs.declared.command.Act.{Act}
+use Rattle.object.specs.declared.command.Act.TheVariants.{Do}
+use Rattle.object.specs.declared.command.Answer.{Answer}
+use Rattle.object.specs.declared.command.Command.{Command}
+use Rattle.object.specs.declared.command.Key.{Key}
+use Rattle.object.specs.declared.command.Submission.{Submission}
+use Rattle.job_store.specs.Names.{IsName}
+use Rattle.bean_queue.specs.declared.op.Op.{Op}
+use Rattle.bean_queue.specs.declared.op.Op.TheVariants.{Put, Use, Watch, Ignore, Reserve, Delete, Touch, Release, Bury, Kick, KickJob, Peek}
+use Rattle.bean_queue.specs.declared.reply.Reply.{Reply}
+use Rattle.bean_queue.specs.declared.reply.Reply.TheVariants.{Inserted, Using, Watching, Reserved, KickedCount, Found, Tubes}
+use Rattle.chronicle.specs.Chronicles.{Chronicle, IsChronicle}
+use Rattle.hex.specs.Hex.{IsBytes}
+
+-- it has 32 bits
+abbrev pub IsShort : ℕ → Type 0
+IsShort n = n < 2 ^ 32
+
+-- it has 64 bits
+abbrev pub IsLong : ℕ → Type 0
+IsLong n = n < 2 ^ 64
+
+abbrev pub IsKeyValue : Key → Type 0
+IsKeyValue key = IsShort key.session × IsLong key.number
+
+abbrev pub IsOpValue : Op → Type 0
+IsOpValue (Put pri delay ttr body) = IsShort pri × IsShort delay × IsShort ttr × IsBytes body
+IsOpValue (Use tube) = IsName tube
+IsOpValue (Watch tube) = IsName tube
+IsOpValue (Ignore tube) = IsName tube
+IsOpValue (Reserve (Some seconds)) = IsShort seconds
+IsOpValue (Delete id) = IsLong id
+IsOpValue (Touch id) = IsLong id
+IsOpValue (Release id pri delay) = IsLong id × IsShort pri × IsShort delay
+IsOpValue (Bury id pri) = IsLong id × IsShort pri
+IsOpValue (Kick bound) = IsShort bound
+IsOpValue (KickJob id) = IsLong id
+IsOpValue (Peek id) = IsLong id
+IsOpValue _ = ⊤
+
+abbrev pub IsActValue : Act Op → Type 0
+IsActValue (Do op) = IsOpValue op
+IsActValue _ = ⊤
+
+abbrev pub IsReplyValue : Reply → Type 0
+IsReplyValue (Inserted id) = IsLong id
+IsReplyValue (Using tube) = IsName tube
+IsReplyValue (Watching count) = IsLong count
+IsReplyValue (Reserved id body) = IsLong id × IsBytes body
+IsReplyValue (KickedCount count) = IsLong count
+IsReplyValue (Found id body) = IsLong id × IsBytes body
+IsReplyValue (Tubes names) = AllByRecursion IsName names
+IsReplyValue _ = ⊤
+
+abbrev pub IsCommandValue : Command Op → Type 0
+IsCommandValue c = IsKeyValue c.key × IsActValue c.act × IsCommand c
+
+abbrev pub IsAnswerValue : Answer Reply → Type 0
+IsAnswerValue a = IsKeyValue a.to × IsReplyValue a.reply
+
+-- a chronicle of a queue
+pub record IsChronicleValue (c : Chronicle Op Reply) : Type 0 where
+  pub chronicle : IsChronicle c
+  pub submitted : AllByRecursion (λ (s : Submission Op). IsCommandValue s.command) c.submitted
+  pub answers : AllByRecursion IsAnswerValue c.answers
+  pub order : AllByRecursion IsKeyValue c.order

@@ -1,0 +1,13 @@
+//! Runs of a cluster over pipes, threads and all. The expected values were worked out by hand.
+#![tactic(auto)]
+
+#[cfg(test)]
+mod clients;
+#[cfg(test)]
+mod clusters;
+#[cfg(test)]
+mod gates;
+#[cfg(test)]
+mod held_rows;
+#[cfg(test)]
+mod served_rows;

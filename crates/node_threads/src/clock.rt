@@ -1,0 +1,30 @@
+use crate::gate::{Actor, Gate, Point};
+use crate::shared::Shared;
+use object::Object;
+use std::sync::Wait;
+use std::sync::ledger::Ledger;
+
+/// Where the seconds of a clock come from.
+pub trait Seconds {
+    /// Waits for the next second; none at its end. Seconds rise, from 1 to 2^40.
+    fn next(&mut self) -> Option<u64>;
+}
+
+/// What the thread of the clock does: it hands in each second, at one node after the other, until all is over.
+pub(crate) fn run_clock<O: Object, S: Ledger, C: Ledger, R: Wait, T: Seconds + Drop, G: Gate>(
+    rt: &R,
+    shared: &Shared<O, S, C>,
+    mut seconds: T,
+    gate: &G,
+) {
+    for _ in rt.forever() {
+        let Some(second) = seconds.next() else {
+            return;
+        };
+        if shared.is_over() {
+            return;
+        }
+        gate.at(Actor::Clock, Point::Turn);
+        shared.tick(rt, second);
+    }
+}

@@ -1,0 +1,200 @@
+ghost use Rattle.std.specs.Prelude.{◌≡◌, ◌≢◌, ◌+◌, ◌≤◌, [], Some, IfOk, length, sum, vec_capacity};
+ghost use Rattle.node_threads.specs.declared.cluster_error.ClusterError.TheVariants.{BadNumber};
+ghost use Rattle.node_threads.specs.Attending.{acts_in};
+ghost use Rattle.node_threads.specs.Clusters.{AreItsTickets, all_tickets};
+
+use crate::accept::Accept;
+use crate::clock::Seconds;
+use crate::cluster_error::ClusterError;
+use crate::comparing::are_its_tickets;
+use crate::gate::Gate;
+use crate::places::Places;
+use crate::shared::Shared;
+use crate::staff::{Common, Door, run_threads};
+use crate::tally::Tally;
+use bean_queue::{Op, Reply};
+use crossbeam_channel::{Receiver, Sender};
+use hall::{Hall, Ticket};
+use object::Object;
+use std::alloc::{AllocError, Global};
+use std::marker::Brand;
+use std::sync::Wait;
+use std::sync::ledger::{Blank, Ledger};
+use std::thread::Threads;
+
+/// What is left when a cluster has ended: its hall, the tickets of its sessions, a list for each worker, and what went
+/// wrong, where something did.
+#[derive(Drop)]
+pub struct Ended<O: Object> {
+    pub hall: Hall<O>,
+    pub tickets: Vec<Vec<Ticket<O>>>,
+    pub fault: Option<ClusterError>,
+}
+
+/// Serves the clients that are accepted, over the nodes of this hall: each node, the clock and each worker has a thread.
+/// It returns when no client more is accepted and all were served; all threads have ended then.
+pub fn run_cluster<
+    O: Object<Op = Op, Reply = Reply> + Send,
+    A: Accept + Drop,
+    T: Seconds + Send + Drop,
+    G: Gate + Sync,
+    R: Threads + Wait + Sync,
+>(rt: &R, alloc: Global, hall: Hall<O>, accept: A, seconds: T, workers: u32, gate: &G) -> Ended<O>
+    requires none { hall.book ≡ [] }
+    requires some { 1 ≤ workers }
+    requires few { workers ≤ 64 }
+    ensures opened { length result.hall.book ≡ length (all_tickets result.tickets.items) }
+    ensures handed_in { sum result.hall.book ≡ acts_in (all_tickets result.tickets.items) }
+    ensures agree { result.fault ≢ Some BadNumber →
+        AreItsTickets result.hall (all_tickets result.tickets.items) }
+    ensures disagree { result.fault ≡ Some BadNumber →
+        AreItsTickets result.hall (all_tickets result.tickets.items) → ⊥ }
+{
+    let Ok(room) = Room::new(alloc, &hall, workers) else {
+        return Ended {
+            hall,
+            tickets: Vec::new(alloc),
+            fault: Some(ClusterError::OutOfMemory),
+        };
+    };
+    let parts = u64::from(workers) + 1;
+    let outside = Outside { accept, seconds };
+    run_counted::<O, Brand, Brand, A, T, G, R>(
+        rt,
+        alloc,
+        hall,
+        room,
+        outside,
+        workers,
+        gate,
+        Blank::new(parts),
+        Blank::new(parts),
+    )
+}
+
+// What a cluster takes memory for before it takes a client.
+#[derive(Drop)]
+struct Room<O: Object, A: Accept> {
+    places: Places,
+    tickets: Vec<Vec<Ticket<O>>>,
+    sender: Sender<(A::R, A::W), Global>,
+    receiver: Receiver<(A::R, A::W), Global>,
+}
+
+impl<O: Object, A: Accept> Room<O, A> {
+    // Room for the nodes of this hall and so many workers.
+    fn new(alloc: Global, hall: &Hall<O>, workers: u32) -> Result<Room<O, A>, AllocError>
+        ensures tickets { IfOk result (λ room. room.tickets.items ≡ []) }
+        ensures room { IfOk result (λ room. workers ≤ vec_capacity room.tickets) }
+    {
+        let (sender, receiver) = crossbeam_channel::bounded(alloc, workers as usize)?;
+        Ok(Room {
+            places: Places::new(alloc, hall.members().count(), workers)?,
+            tickets: Vec::with_capacity(alloc, workers as usize)?,
+            sender,
+            receiver,
+        })
+    }
+}
+
+// A clock, and clients.
+#[derive(Drop)]
+struct Outside<A, T> {
+    accept: A,
+    seconds: T,
+}
+
+// Runs the cluster over counts of sessions and of commands.
+fn run_counted<
+    O: Object<Op = Op, Reply = Reply> + Send,
+    S: Ledger + Send + Sync,
+    C: Ledger + Send + Sync,
+    A: Accept + Drop,
+    T: Seconds + Send + Drop,
+    G: Gate + Sync,
+    R: Threads + Wait + Sync,
+>(
+    rt: &R,
+    alloc: Global,
+    hall: Hall<O>,
+    room: Room<O, A>,
+    outside: Outside<A, T>,
+    workers: u32,
+    gate: &G,
+    sessions: Blank,
+    commands: Blank,
+) -> Ended<O>
+    requires none { hall.book ≡ [] }
+    requires few { workers ≤ 64 }
+    requires tickets { room.tickets.items ≡ [] }
+    requires room { workers ≤ vec_capacity room.tickets }
+    requires sessions_name { sessions.name ≡ S.name }
+    requires sessions_parts { (sessions.parts ≡ S.parts) × (S.parts ≡ workers + 1) }
+    requires commands_name { commands.name ≡ C.name }
+    requires commands_parts { (commands.parts ≡ C.parts) × (C.parts ≡ workers + 1) }
+    ensures opened { length result.hall.book ≡ length (all_tickets result.tickets.items) }
+    ensures handed_in { sum result.hall.book ≡ acts_in (all_tickets result.tickets.items) }
+    ensures agree { result.fault ≢ Some BadNumber →
+        AreItsTickets result.hall (all_tickets result.tickets.items) }
+    ensures disagree { result.fault ≡ Some BadNumber →
+        AreItsTickets result.hall (all_tickets result.tickets.items) → ⊥ }
+{
+    let nodes = hall.members().count();
+    let Room {
+        places,
+        tickets,
+        sender,
+        receiver,
+    } = room;
+    let (shared, sessions, commands) = Shared::<O, S, C>::new(
+        alloc, hall, places, sessions, commands,
+    );
+    let tally = Tally::new(tickets, sessions, commands);
+    let common = Common {
+        rt,
+        alloc,
+        shared: &shared,
+        clients: &receiver,
+        gate,
+    };
+    let door = Door {
+        accept: outside.accept,
+        clients: sender,
+    };
+    let (tally, fault) = run_threads(&common, nodes, outside.seconds, workers, tally, door);
+    end(shared, tally, fault)
+}
+
+// Compares what the workers have brought back with the hall.
+fn end<O: Object, S: Ledger, C: Ledger>(
+    shared: Shared<O, S, C>,
+    tally: Tally<O, S, C>,
+    fault: Option<ClusterError>,
+) -> Ended<O>
+    requires sessions { tally.sessions.parts ≡ S.parts }
+    requires commands { tally.commands.parts ≡ C.parts }
+    requires fault { fault ≢ Some BadNumber }
+    ensures opened { length result.hall.book ≡ length (all_tickets result.tickets.items) }
+    ensures handed_in { sum result.hall.book ≡ acts_in (all_tickets result.tickets.items) }
+    ensures agree { result.fault ≢ Some BadNumber →
+        AreItsTickets result.hall (all_tickets result.tickets.items) }
+    ensures disagree { result.fault ≡ Some BadNumber →
+        AreItsTickets result.hall (all_tickets result.tickets.items) → ⊥ }
+{
+    let Tally {
+        tickets,
+        mut sessions,
+        mut commands,
+    } = tally;
+    let (hall, mut marks) = shared.into_hall(&mut sessions, &mut commands);
+    let fault = if are_its_tickets(&hall, tickets.as_slice(), marks.as_mut_slice()) {
+        fault
+    } else {
+        Some(ClusterError::BadNumber)
+    };
+    Ended {
+        hall,
+        tickets,
+        fault,
+    }
+}

@@ -1,0 +1,28 @@
+use crate::bell::Patience;
+use crate::gate::{Actor, Gate, Point};
+use crate::shared::Shared;
+use crate::turn::Watch;
+use object::Object;
+use std::sync::Wait;
+use std::sync::ledger::Ledger;
+
+/// What the thread of a node does: it takes its turn when there is something for it, until all is over.
+pub(crate) fn run_node<O: Object, S: Ledger, C: Ledger, R: Wait, G: Gate>(
+    rt: &R,
+    shared: &Shared<O, S, C>,
+    node: u8,
+    gate: &G,
+) {
+    let mut watch = Watch::new(node);
+    let mut patience = Patience::new();
+    for _ in rt.forever() {
+        gate.at(Actor::Node(node), Point::Turn);
+        let has_more = shared.take_turn(rt, &mut watch);
+        if shared.is_over() {
+            return;
+        }
+        if !has_more {
+            shared.wait_as_node(rt, node, &mut patience);
+        }
+    }
+}

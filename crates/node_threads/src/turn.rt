@@ -1,0 +1,124 @@
+ghost use Rattle.std.specs.Prelude.{◌≡◌};
+
+use ballot::Slot;
+use hall::{Hall, HallError};
+use object::Object;
+
+/// A node receives so many letters in one turn at most.
+const MOST_LETTERS: u32 = 64;
+
+/// The node that wakes at the start.
+const FIRST_NODE: u8 = 1;
+
+/// What a node keeps in mind from one of its turns to the next.
+#[derive(Drop)]
+pub(crate) struct Watch {
+    node: u8,
+    has_begun: bool,
+    /// The last second that it has seen.
+    second: u64,
+    /// The least slot that it proposed a command for without a known decision, and for how many seconds in a row.
+    undecided: Option<Slot>,
+    seconds: u8,
+}
+
+impl Watch {
+    /// A node that has had no turn.
+    pub(crate) fn new(node: u8) -> Watch {
+        Watch {
+            node,
+            has_begun: false,
+            second: 0,
+            undecided: None,
+            seconds: 0,
+        }
+    }
+
+    /// The node.
+    pub(crate) fn node(&self) -> u8 {
+        self.node
+    }
+
+    /// One turn of the node: it proposes a request, receives what is in its mail, up to 64 letters, and performs what was
+    /// decided. At the start the first node wakes, and after a second each node says again what it waits for.
+    pub(crate) fn take_turn<O: Object>(&mut self, hall: &mut Hall<O>) -> Result<(), HallError>
+        ensures book { hall.new.book ≡ hall.old.book }
+    {
+        self.begin(hall)?;
+        self.pass_second(hall)?;
+        hall.propose(self.node)?;
+        receive(hall, self.node)?;
+        perform(hall, self.node)
+    }
+
+    // The first node wakes in its first turn.
+    fn begin<O: Object>(&mut self, hall: &mut Hall<O>) -> Result<(), HallError>
+        ensures book { hall.new.book ≡ hall.old.book }
+    {
+        if self.node == FIRST_NODE && !self.has_begun {
+            hall.wake(self.node)?;
+        }
+        self.has_begun = true;
+        Ok(())
+    }
+
+    // Where a second has passed, the node says again what it waits for. Node n wakes where a proposal of its own stood
+    // undecided for n seconds.
+    fn pass_second<O: Object>(&mut self, hall: &mut Hall<O>) -> Result<(), HallError>
+        ensures book { hall.new.book ≡ hall.old.book }
+    {
+        let second = hall.last_second();
+        if second <= self.second {
+            return Ok(());
+        }
+        self.second = second;
+        hall.nudge(self.node)?;
+        self.count_undecided(hall.undecided(self.node));
+        if self.seconds >= self.node {
+            self.seconds = 0;
+            hall.wake(self.node)?;
+        }
+        Ok(())
+    }
+
+    // One second more with this slot undecided.
+    fn count_undecided(&mut self, undecided: Option<Slot>) {
+        self.seconds = if undecided.is_none() {
+            0
+        } else if undecided == self.undecided {
+            self.seconds.saturating_add(1)
+        } else {
+            1
+        };
+        self.undecided = undecided;
+    }
+}
+
+/// Whether there is something for the node at once.
+pub(crate) fn has_more<O: Object>(hall: &Hall<O>, node: u8) -> bool {
+    hall.has_mail(node) || hall.can_propose(node)
+}
+
+// The node receives what is in its mail.
+fn receive<O: Object>(hall: &mut Hall<O>, node: u8) -> Result<(), HallError>
+    ensures book { hall.new.book ≡ hall.old.book }
+{
+    for _ in 0..MOST_LETTERS {
+        if !hall.deliver(node)? {
+            break;
+        }
+    }
+    Ok(())
+}
+
+// It performs what was decided.
+fn perform<O: Object>(hall: &mut Hall<O>, node: u8) -> Result<(), HallError>
+    ensures book { hall.new.book ≡ hall.old.book }
+{
+    for _ in 0..u64::MAX {
+        if !hall.perform(node)? {
+            break;
+        }
+    }
+    Ok(())
+}

@@ -1,0 +1,90 @@
+//! Texts of dumps, as they are read. A step adds to the text, or reads it.
+use crate::quoted::bytes_of;
+use crate::script::{Stage, tell_line};
+use anyhow::{Context, Result, bail};
+use chronicle::{ReadFault, read_text};
+use std::alloc::Global;
+
+/// A text.
+#[derive(Drop)]
+pub struct Text {
+    bytes: Vec<u8>,
+}
+
+impl Text {
+    /// Nothing.
+    pub fn new(alloc: Global) -> Text {
+        Text {
+            bytes: Vec::new(alloc),
+        }
+    }
+
+    // Adds what the step says.
+    fn add(&mut self, alloc: Global, step: &str) -> Result<()> {
+        let (word, text) = step.split_once(' ').context("no text")?;
+        match word {
+            "line" => self.add_line(text),
+            "bytes" => self.add_bytes(alloc, text),
+            _ => bail!("no such step"),
+        }
+    }
+
+    fn add_line(&mut self, line: &str) -> Result<()> {
+        self.bytes.extend_from_slice(line.as_bytes())?;
+        Ok(self.bytes.push(b'\n')?)
+    }
+
+    fn add_bytes(&mut self, alloc: Global, quoted: &str) -> Result<()> {
+        let bytes = bytes_of(alloc, quoted)?;
+        Ok(self.bytes.extend_from_slice(bytes.as_slice())?)
+    }
+
+    // Tells what comes of reading the text.
+    fn tell_reading(&self, alloc: Global, told: &mut String) -> Result<()> {
+        let reading = reading_of(alloc, self.bytes.as_slice())?;
+        Ok(tell_line("  ", reading.as_str(), told)?)
+    }
+
+    // Tells for which beginnings of the text the bad line isn't the one after the last whole line.
+    fn tell_cuts(&self, alloc: Global, told: &mut String) -> Result<()> {
+        let text = self.bytes.as_slice();
+        for len in 0..text.len() {
+            let reading = reading_of(alloc, &text[..len])?;
+            let wanted = wanted_of_cut(alloc, &text[..len])?;
+            if reading.as_str() != wanted.as_str() {
+                write!(told, "  {len} bytes: {reading}\n")?;
+            }
+        }
+        Ok(())
+    }
+}
+
+// The line after the last whole line is bad.
+fn wanted_of_cut(alloc: Global, text: &[u8]) -> Result<String> {
+    let lines = text.iter().filter(|byte| **byte == b'\n').count();
+    Ok(format!(in alloc; "line {}: bad line", lines.saturating_add(1))?)
+}
+
+// What comes of reading the text. What was read is written again as it was.
+fn reading_of(alloc: Global, text: &[u8]) -> Result<String> {
+    match read_text(alloc, text) {
+        Ok(chronicle) => {
+            let mut written = Vec::new(alloc);
+            chronicle.write_text(&mut written)?;
+            let same = written.as_slice() == text;
+            Ok(String::from_str(alloc, if same { "read" } else { "changed" })?)
+        }
+        Err(ReadFault::BadLine(line)) => Ok(format!(in alloc; "line {line}: bad line")?),
+        Err(ReadFault::OutOfMemory) => bail!("out of memory"),
+    }
+}
+
+impl Stage for Text {
+    fn step(&mut self, alloc: Global, step: &str, told: &mut String) -> Result<()> {
+        match step {
+            "read" => self.tell_reading(alloc, told),
+            "cut" => self.tell_cuts(alloc, told),
+            _ => self.add(alloc, step),
+        }
+    }
+}

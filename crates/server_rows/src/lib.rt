@@ -1,0 +1,12 @@
+//! Runs of the program as a server over TCP, with clients on the loopback. The expected values were
+//! worked out by hand.
+#![tactic(auto)]
+
+#[cfg(test)]
+mod client;
+#[cfg(test)]
+mod cycle_rows;
+#[cfg(test)]
+mod session_rows;
+#[cfg(test)]
+mod started;
