@@ -1,5 +1,5 @@
 -- A command line in which clap finds no error names one of the program's commands, and not `help`.
-use Rattle.std.proofs.Common.{◌≡◌, ◌≢◌, ◌⊎◌, ⊎_elim, inl, inr, ◌∙◌, ◌&&◌, ◌||◌, ℕ, Bool, true, false, not, List, [], ◌∷◌, Option, None, Some, is_some, if◌then◌else◌, option_map, codes, refl, sym, ap, ap₂, subst}
+use Rattle.std.proofs.Common.{◌≡◌, ◌≢◌, ◌⊎◌, inl, inr, ◌∙◌, ◌&&◌, ◌||◌, ℕ, Bool, true, false, not, List, [], ◌∷◌, Option, None, Some, is_some, if◌then◌else◌, option_map, codes, refl, sym, ap, ap₂, subst}
 use Rattle.std.specs.Prelude.{option_and_then, find, fold, cond}
 use Rattle.std.specs.Bool.{⊤}
 use Rattle.std.specs.Str.{bytes_eq}
@@ -19,7 +19,7 @@ use Rattle.clap.specs.declared.parser.matches.ArgMatches.TheViews.{out-ArgMatche
 use Rattle.clap.specs.declared.parser.matches.Found.{Found}
 use Rattle.clap.proofs.OnLiterals.{clap_on_literals}
 use Rattle.clap.proofs.WalkLemmas.{first_value-rows, one_text-rows}
-use Rattle.beanpax.specs.Words.{IsNumberIfGiven, IsNumberOr, IsServerOf, command_given, errors_in, program_command, run_command, serve_command, text_given, word_given}
+use Rattle.beanpax.specs.Words.{IsNumberIfGiven, IsNumberOr, IsServerOf, command_given, errors_in, program_command, run_command, serve_command, inspect_command, text_given, word_given}
 use Rattle.beanpax.specs.declared.words.ServerOptions.{ServerOptions}
 use Rattle.beanpax.proofs.WordsLemmas.{is_simple-program_command}
 
@@ -127,35 +127,41 @@ answers_help word other is =
     either_false true e = refl
     either_false false e = absurd (cc)
 
--- which of three commands is entered, of which the last is `help`
-entered_is : (a b : Shape) (c : Shape) (stop : Option (Text × List Text)) (rows : Text × List Row) → c.name ≡ codes "help" → c.aliases ≡ []
-    → IsNoHelp stop → option_and_then (λ p. option_map (λ s. rows_at s p.1) (find (λ s. answers_to p.0 (label_of s)) (a ∷ b ∷ c ∷ []))) stop ≡ Some rows
-    → (rows.0 ≡ a.name) ⊎ (rows.0 ≡ b.name)
-entered_is a b c None rows named alone fine is = absurd (cc)
-entered_is a b c (Some p) rows named alone fine is =
-    elim (answers_to p.0 (label_of a)) as (λ t. option_map (λ s. rows_at s p.1) (cond t (Some a) (cond (answers_to p.0 (label_of b)) (Some b) (cond (answers_to p.0 (label_of c)) (Some c) None))) ≡ Some rows → (rows.0 ≡ a.name) ⊎ (rows.0 ≡ b.name)) [
+-- the name is that of one of the program's commands
+abbrev IsNamed : Text → Type 0
+IsNamed name = (name ≡ codes "run") ⊎ (name ≡ codes "serve") ⊎ (name ≡ codes "inspect")
+
+-- which of four commands is entered, of which the last is `help`
+entered_is : (a b c d : Shape) (stop : Option (Text × List Text)) (rows : Text × List Row) → d.name ≡ codes "help" → d.aliases ≡ []
+    → IsNoHelp stop → option_and_then (λ p. option_map (λ s. rows_at s p.1) (find (λ s. answers_to p.0 (label_of s)) (a ∷ b ∷ c ∷ d ∷ []))) stop ≡ Some rows
+    → (rows.0 ≡ a.name) ⊎ (rows.0 ≡ b.name) ⊎ (rows.0 ≡ c.name)
+entered_is a b c d None rows named alone fine is = absurd (cc)
+entered_is a b c d (Some p) rows named alone fine is =
+    elim (answers_to p.0 (label_of a)) as (λ t. option_map (λ s. rows_at s p.1) (cond t (Some a) (cond (answers_to p.0 (label_of b)) (Some b) (cond (answers_to p.0 (label_of c)) (Some c) (cond (answers_to p.0 (label_of d)) (Some d) None)))) ≡ Some rows → (rows.0 ≡ a.name) ⊎ (rows.0 ≡ b.name) ⊎ (rows.0 ≡ c.name)) [
       | true ↦ λ e. inl (sym (name_of a e))
-      | false ↦ elim (answers_to p.0 (label_of b)) as (λ t. option_map (λ s. rows_at s p.1) (cond t (Some b) (cond (answers_to p.0 (label_of c)) (Some c) None)) ≡ Some rows → (rows.0 ≡ a.name) ⊎ (rows.0 ≡ b.name)) [
-        | true ↦ λ e. inr (sym (name_of b e))
-        | false ↦ λ e. absurd (last (answers_to p.0 (label_of c)) refl e)
+      | false ↦ elim (answers_to p.0 (label_of b)) as (λ t. option_map (λ s. rows_at s p.1) (cond t (Some b) (cond (answers_to p.0 (label_of c)) (Some c) (cond (answers_to p.0 (label_of d)) (Some d) None))) ≡ Some rows → (rows.0 ≡ a.name) ⊎ (rows.0 ≡ b.name) ⊎ (rows.0 ≡ c.name)) [
+        | true ↦ λ e. inr (inl (sym (name_of b e)))
+        | false ↦ elim (answers_to p.0 (label_of c)) as (λ t. option_map (λ s. rows_at s p.1) (cond t (Some c) (cond (answers_to p.0 (label_of d)) (Some d) None)) ≡ Some rows → (rows.0 ≡ a.name) ⊎ (rows.0 ≡ b.name) ⊎ (rows.0 ≡ c.name)) [
+          | true ↦ λ e. inr (inr (sym (name_of c e)))
+          | false ↦ λ e. absurd (last (answers_to p.0 (label_of d)) refl e)
+        ]
       ]
     ] is
   where
     name_of : (s : Shape) → Some (rows_at s p.1) ≡ Some rows → s.name ≡ rows.0
     name_of s e = let same : rows_at s p.1 ≡ rows = cc in ap (λ r. r.0) same
 
-    last : (t : Bool) → answers_to p.0 (label_of c) ≡ t → option_map (λ s. rows_at s p.1) (cond t (Some c) None) ≡ Some rows → ⊥
+    last : (t : Bool) → answers_to p.0 (label_of d) ≡ t → option_map (λ s. rows_at s p.1) (cond t (Some d) None) ≡ Some rows → ⊥
     last true answers e =
-        let label : label_of c ≡ (codes "help", []) = ap₂ (λ name aliases. (name, aliases)) named alone in
+        let label : label_of d ≡ (codes "help", []) = ap₂ (λ name aliases. (name, aliases)) named alone in
         answers_help p.0 fine (subst (λ l. answers_to p.0 l ≡ true) label answers)
     last false answers e = absurd (cc)
 
 -- the command that is met at a built program, where the code finds no fault in the words
-met_is : (words : List Text) (rows : Text × List Row) → errors_in words ≡ [] → subcommand_of program_command words ≡ Some rows
-    → (rows.0 ≡ codes "run") ⊎ (rows.0 ≡ codes "serve")
-unfolding errors_in program_command run_command serve_command clap_on_literals
+met_is : (words : List Text) (rows : Text × List Row) → errors_in words ≡ [] → subcommand_of program_command words ≡ Some rows → IsNamed rows.0
+unfolding errors_in program_command run_command serve_command inspect_command clap_on_literals
 met_is words rows none is =
-    entered_is run serve help _ rows refl refl
+    entered_is run serve inspect help _ rows refl refl
     (walk_is (built program_command).top (names_of (built program_command)) (argument_words program_command words) (walk_from nothing_held) refl tt (first_none _ _ none)) is
   where
     run : Shape
@@ -164,20 +170,22 @@ met_is words rows none is =
     serve : Shape
     serve = slice_index_or (built program_command).subs 1 help_shape
 
-    help : Shape
-    help = slice_index_or (built program_command).subs 2 help_shape
+    inspect : Shape
+    inspect = slice_index_or (built program_command).subs 2 help_shape
 
-given_is : (words : List Text) (met : Option (Text × List Row)) (name : Text) → subcommand_of program_command words ≡ met → errors_in words ≡ [] → option_map (λ c. c.0) met ≡ Some name
-    → (name ≡ codes "run") ⊎ (name ≡ codes "serve")
+    help : Shape
+    help = slice_index_or (built program_command).subs 3 help_shape
+
+given_is : (words : List Text) (met : Option (Text × List Row)) (name : Text) → subcommand_of program_command words ≡ met → errors_in words ≡ [] → option_map (λ c. c.0) met ≡ Some name → IsNamed name
 given_is words None name is none named = absurd (cc)
 given_is words (Some rows) name is none named =
     let same : rows.0 ≡ name = cc in
-    subst (λ n. (n ≡ codes "run") ⊎ (n ≡ codes "serve")) same (met_is words rows none is)
+    subst IsNamed same (met_is words rows none is)
 
--- nothing is wrong with the words, so that they name one of the two
-pub names_one_of_two : (words : List Text) (name : Text) → errors_in words ≡ [] → command_given words ≡ Some name → (name ≡ codes "run") ⊎ (name ≡ codes "serve")
+-- nothing is wrong with the words, so that they name one of the commands
+names_a_command : (words : List Text) (name : Text) → errors_in words ≡ [] → command_given words ≡ Some name → IsNamed name
 unfolding command_given
-names_one_of_two words name none named = given_is words (subcommand_of program_command words) name refl none named
+names_a_command words name none named = given_is words (subcommand_of program_command words) name refl none named
 
 mapped_twice : {A B C : Type 0} (f : B → C) (g : A → B) (x : Option A) → option_map f (option_map g x) ≡ option_map (λ y. f (g y)) x
 mapped_twice f g None = refl
@@ -224,13 +232,15 @@ server_same text other word another texts words options is = record {
   dump = is.dump ∙ words (codes "dump");
 }
 
--- a parse met one of the two commands
+-- a parse met one of the commands
 pub meets_one : (words : List Text) (m : ArgMatches) → errors_in words ≡ [] → subcommand_rows_of m ≡ subcommand_of program_command words → has_subcommand m ≡ true
-    → (subcommand_name_of m ≡ Some (codes "run") → ⊥) → (subcommand_name_of m ≡ Some (codes "serve") → ⊥) → ⊥
-meets_one words m none met some no_run no_serve = go (subcommand_name_of m) refl (is_some-map _ (out-ArgMatches m).subcommand some)
+    → (subcommand_name_of m ≡ Some (codes "run") → ⊥) → (subcommand_name_of m ≡ Some (codes "serve") → ⊥) → (subcommand_name_of m ≡ Some (codes "inspect") → ⊥) → ⊥
+meets_one words m none met some no_run no_serve no_inspect = go (subcommand_name_of m) refl (is_some-map _ (out-ArgMatches m).subcommand some)
   where
     go : (name : Option Text) → subcommand_name_of m ≡ name → is_some name ≡ true → ⊥
     go None e is = absurd (cc)
-    go (Some name) e is =
-        ⊎_elim (λ (n : name ≡ codes "run"). no_run (e ∙ ap (λ x. Some x) n)) (λ (n : name ≡ codes "serve"). no_serve (e ∙ ap (λ x. Some x) n))
-        (names_one_of_two words name none (command_given-of words m name met e))
+    go (Some name) e is = elim (names_a_command words name none (command_given-of words m name met e)) as (λ v. ⊥) [
+      | inl n ↦ no_run (e ∙ ap (λ x. Some x) n)
+      | inr (inl n) ↦ no_serve (e ∙ ap (λ x. Some x) n)
+      | inr (inr n) ↦ no_inspect (e ∙ ap (λ x. Some x) n)
+    ]

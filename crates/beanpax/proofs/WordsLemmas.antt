@@ -7,14 +7,14 @@ use Rattle.clap.specs.declared.error.Error.{Error}
 use Rattle.clap.specs.declared.error.kind.ErrorKind.{ErrorKind}
 use Rattle.clap.specs.declared.error.kind.ErrorKind.TheVariants.{OutOfMemory}
 use Rattle.clap.proofs.OnLiterals.{clap_on_literals}
-use Rattle.beanpax.specs.Words.{IsNumberOr, IsNumberIfGiven, errors_in, program_command, run_command, serve_command}
+use Rattle.beanpax.specs.Words.{IsNumberOr, IsNumberIfGiven, errors_in, program_command, run_command, serve_command, inspect_command}
 
 pub is_simple-program_command : is_simple program_command ≡ true
-unfolding program_command run_command serve_command clap_on_literals
+unfolding program_command run_command serve_command inspect_command clap_on_literals
 is_simple-program_command = refl
 
 pub is_simple_and_free-program_command : is_simple_and_free program_command ≡ true
-unfolding program_command run_command serve_command clap_on_literals
+unfolding program_command run_command serve_command inspect_command clap_on_literals
 is_simple_and_free-program_command = refl
 
 -- what holds of the errors of a simple command holds of those of the program's

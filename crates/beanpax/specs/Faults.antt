@@ -1,5 +1,5 @@
 -- What is told of a fault.
-use Rattle.std.specs.Prelude.{ℕ, List, ◌++◌, codes}
+use Rattle.std.specs.Prelude.{◌≡◌, ◌⊎◌, ℕ, List, ◌++◌, codes}
 use Rattle.std.specs.Fmt.{decimal}
 use Rattle.session.specs.declared.faults.SessionFault.{SessionFault}
 use Rattle.session.specs.declared.faults.SessionFault.TheVariants as of
@@ -21,6 +21,14 @@ of_cluster cluster.OutOfMemory = OutOfMemory
 of_cluster cluster.BadNumber = BadNumber
 of_cluster cluster.ListenFailed = ListenFailed
 of_cluster cluster.ThreadFailed = ThreadFailed
+
+-- what can go wrong while a line is written to the output
+abbrev pub IsOfOutput : ProgramFault → Type 0
+IsOfOutput fault = (fault ≡ OutOfMemory) ⊎ (fault ≡ WriteFailed)
+
+-- and while a dump is written to its file
+abbrev pub IsOfDump : ProgramFault → Type 0
+IsOfDump fault = (fault ≡ OutOfMemory) ⊎ (fault ≡ FileFailed)
 
 -- the number by which a fault is told
 abbrev pub number_of : ProgramFault → ℕ

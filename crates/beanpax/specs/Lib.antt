@@ -5,4 +5,5 @@ pub mod Simulations
 pub mod Runs
 pub mod Words
 pub mod Servers
+pub mod Verdicts
 pub mod Program

@@ -1,5 +1,5 @@
 -- What the program tells of its end.
-use Rattle.std.specs.Prelude.{◌≡◌, ℕ, Bool, true, false, Option, List, codes}
+use Rattle.std.specs.Prelude.{◌≡◌, ◌⊎◌, ℕ, Bool, true, false, Option, List, codes}
 use Rattle.std.specs.Bool.{⊤}
 use Rattle.std.specs.Io.KnownBytes.{Appends}
 use Rattle.session.specs.Streams.{AppendsBeginning}
@@ -9,26 +9,53 @@ use Rattle.beanpax.specs.declared.faults.ProgramFault.{ProgramFault}
 use Rattle.beanpax.specs.declared.faults.ProgramFault.TheVariants.{OutOfMemory, BadNumber, ReadFailed, WriteFailed, ServiceStopped, ListenFailed, FileFailed, ThreadFailed}
 use Rattle.beanpax.specs.declared.words.ServerOptions.{ServerOptions}
 use Rattle.beanpax.specs.Servers.{listening_line}
-use Rattle.beanpax.specs.Words.{AskFor}
+use Rattle.beanpax.specs.Verdicts.{IsVerdict, is_legal, verdict_line}
+use Rattle.beanpax.specs.Words.{AskFor, AskForDump, AskForRun}
+use Rattle.beanpax.specs.declared.verdict.Verdict.{Verdict}
 
--- a failure is told only of a stream that has failed, and what only a server meets only where the words ask for one
+-- A failure is told only of a stream that has failed, that the service stopped only where the words ask for a run, and
+-- what only a server meets only where they ask for one: of a file only where they name one for its dump, or ask for an
+-- inspection.
 abbrev pub IsCaused : List (List ℕ) → ProgramFault → Bool → Bool → Type 0
 IsCaused words OutOfMemory input_failed output_failed = ⊤
 IsCaused words ReadFailed input_failed output_failed = input_failed ≡ true
 IsCaused words WriteFailed input_failed output_failed = output_failed ≡ true
-IsCaused words ServiceStopped input_failed output_failed = ⊤
+IsCaused words ServiceStopped input_failed output_failed = AskForRun words
 IsCaused words BadNumber input_failed output_failed = AskFor (codes "serve") words
 IsCaused words ListenFailed input_failed output_failed = AskFor (codes "serve") words
-IsCaused words FileFailed input_failed output_failed = AskFor (codes "serve") words
+IsCaused words FileFailed input_failed output_failed = AskForDump words ⊎ AskFor (codes "inspect") words
 IsCaused words ThreadFailed input_failed output_failed = AskFor (codes "serve") words
 
 -- a client was answered to the end of its session
 abbrev pub IsRun : Option (List ℕ) → Option (List ℕ) → Option (List ℕ) → Option (List ℕ) → Type 0
 IsRun left rest held holds = (end : End) × Answers left rest held holds end
 
+-- why a run ended before: no memory, a service that stopped, or a stream that failed
+abbrev pub IsRunFault : Bool → Bool → ProgramFault → Type 0
+IsRunFault input_failed output_failed OutOfMemory = ⊤
+IsRunFault input_failed output_failed ServiceStopped = ⊤
+IsRunFault input_failed output_failed ReadFailed = input_failed ≡ true
+IsRunFault input_failed output_failed WriteFailed = output_failed ≡ true
+IsRunFault input_failed output_failed fault = ⊥
+
 -- a server has told at which port it listens, and nothing else
 abbrev pub HasListened : ServerOptions → Option (List ℕ) → Option (List ℕ) → Type 0
 HasListened options held holds = Appends held holds (listening_line options.port)
+
+-- the verdict on some text was told
+abbrev pub HasInspected : Option (List ℕ) → Option (List ℕ) → Verdict → Type 0
+HasInspected held holds verdict = ((text : List ℕ) × IsVerdict text verdict) × Appends held holds (verdict_line verdict)
+
+-- and it was that nothing is wrong, or another
+abbrev pub EndsWith : Bool → Option (List ℕ) → Option (List ℕ) → Type 0
+EndsWith legal held holds = (verdict : Verdict) × (is_legal verdict ≡ legal) × HasInspected held holds verdict
+
+-- why nothing was found: there is no such file to be read, no memory, or no output
+abbrev pub IsInspectionFault : Bool → ProgramFault → Type 0
+IsInspectionFault output_failed OutOfMemory = ⊤
+IsInspectionFault output_failed FileFailed = ⊤
+IsInspectionFault output_failed WriteFailed = output_failed ≡ true
+IsInspectionFault output_failed fault = ⊥
 
 -- known bytes grow by the text, or by a beginning of it where the writer has failed
 pub record WritesText (old new : Option (List ℕ)) (has_failed : Bool) (text : List ℕ) : Type 0 where

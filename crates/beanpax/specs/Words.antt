@@ -1,12 +1,12 @@
 -- What the words of a command line ask for.
-use Rattle.std.specs.Prelude.{◌≡◌, ◌≢◌, ◌≤◌, ◌^◌, ◌-◌, ℕ, pos, true, List, [], Option, None, Some, codes, option_map, option_and_then}
+use Rattle.std.specs.Prelude.{◌≡◌, ◌≢◌, ◌≤◌, ◌^◌, ◌-◌, ℕ, pos, true, List, [], Option, None, Some, codes, option_map, option_and_then, unwrap_or}
 use Rattle.std.specs.Fmt.{decimal}
 use Rattle.clap.specs.Words.{App, Rule, IsAmong, Kinds, fault_of, first_of, new_app, new_rule, one_of, subcommand_of, with_rule, with_subcommand}
 use Rattle.clap.specs.declared.builder.value_parser.ValueParser.TheVariants as parser
 use Rattle.clap.specs.declared.error.kind.ErrorKind.{ErrorKind}
 use Rattle.clap.specs.declared.error.kind.ErrorKind.TheVariants.{DisplayHelp}
 use Rattle.beanpax.specs.declared.words.Asked.{Asked}
-use Rattle.beanpax.specs.declared.words.Asked.TheVariants.{Run, Serve, Help, Wrong}
+use Rattle.beanpax.specs.declared.words.Asked.TheVariants.{Run, Serve, Inspect, Help, Wrong}
 use Rattle.beanpax.specs.declared.words.ServerOptions.{ServerOptions}
 
 -- `--nodes N`, where N is 1 to 7
@@ -33,6 +33,10 @@ sessions_option = record (new_rule (codes "sessions")) { long = Some (codes "ses
 abbrev pub dump_option : Rule
 dump_option = record (new_rule (codes "dump")) { long = Some (codes "dump"); value_names = 1 }
 
+-- `FILE`, which has to be given
+abbrev pub file_argument : Rule
+file_argument = record (new_rule (codes "file")) { value_names = 1; required = true }
+
 -- `run` with its options
 unfoldable pub run_command : App
 run_command = with_rule (with_rule (new_app (codes "run")) nodes_option) seed_option
@@ -42,11 +46,16 @@ unfoldable pub serve_command : App
 serve_command =
     with_rule (with_rule (with_rule (with_rule (with_rule (new_app (codes "serve")) port_option) nodes_option) workers_option) sessions_option) dump_option
 
+-- `inspect` with its file
+unfoldable pub inspect_command : App
+inspect_command = with_rule (new_app (codes "inspect")) file_argument
+
 -- the program's name, and then one of its commands
 unfoldable pub program_command : App
 program_command =
     let named = new_app (codes "beanpax") in
-    with_subcommand (with_subcommand (record named { top = record named.top { subcommand_required = true } }) run_command.top) serve_command.top
+    let required = record named { top = record named.top { subcommand_required = true } } in
+    with_subcommand (with_subcommand (with_subcommand required run_command.top) serve_command.top) inspect_command.top
 
 -- which errors clap finds in the words
 unfoldable pub errors_in : List (List ℕ) → Kinds
@@ -98,6 +107,14 @@ AskForRun words = AskFor (codes "run") words
 abbrev pub AskForServer : List (List ℕ) → ServerOptions → Type 0
 AskForServer words options = AskFor (codes "serve") words × IsServerOf (text_given words) (word_given words) options
 
+-- they ask for a server that writes a dump
+abbrev pub AskForDump : List (List ℕ) → Type 0
+AskForDump words = (options : ServerOptions) × AskForServer words options × (options.dump ≢ None)
+
+-- they ask for an inspection of this file; clap finds a fault where they name none
+abbrev pub AskForInspection : List (List ℕ) → List ℕ → Type 0
+AskForInspection words file = AskFor (codes "inspect") words × (file ≡ unwrap_or (word_given words (codes "file")) [])
+
 -- the words call for help
 abbrev pub AskForHelp : List (List ℕ) → Type 0
 AskForHelp words = IsAmong DisplayHelp (errors_in words)
@@ -112,5 +129,6 @@ IsAskedBy words (Run nodes seed) =
     AskForRun words × (1 ≤ nodes) × (nodes ≤ 7) ×
     IsNumberOr 3 1 7 (text_given words (codes "nodes")) nodes × IsNumberOr 0 0 (2 ^ 64 - 1) (text_given words (codes "seed")) seed
 IsAskedBy words (Serve options) = AskForServer words options
+IsAskedBy words (Inspect file) = AskForInspection words file.now
 IsAskedBy words (Help text) = AskForHelp words
 IsAskedBy words (Wrong text) = AreWrong words

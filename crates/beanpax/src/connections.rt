@@ -1,4 +1,4 @@
-ghost use Rattle.std.specs.Prelude.{◌≡◌};
+ghost use Rattle.std.specs.Prelude.{◌≡◌, ◌↔◌, ◌-◌, None, Some, Ok, IfSome};
 
 use node_threads::Accept;
 use session::{Failed, Reading, Writing};
@@ -41,7 +41,11 @@ impl Accept for Connections {
 
     type W = Writing<TcpStream>;
 
-    fn next(&mut self) -> Result<Option<(Reading<TcpStream>, Writing<TcpStream>)>, Failed> {
+    fn next(&mut self) -> Result<Option<(Reading<TcpStream>, Writing<TcpStream>)>, Failed>
+        ensures ended { result ≡ Ok None ↔ self.old.left ≡ Some 0 }
+        ensures counted { IfSome self.old.left (λ left. self.new.left ≡ Some (left - 1)) }
+        ensures endless { self.old.left ≡ None → self.new.left ≡ None }
+    {
         if let Some(left) = self.left {
             let Some(rest) = left.checked_sub(1) else {
                 return Ok(None);

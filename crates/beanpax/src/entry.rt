@@ -1,17 +1,21 @@
-ghost use Rattle.std.specs.Prelude.{◌≡◌, ◌≤◌, ◌⊎◌, map, string_bytes, IfErr, OnOk};
+ghost use Rattle.std.specs.Prelude.{◌≡◌, ◌≤◌, ◌⊎◌, ℕ, List, true, false, map, string_bytes, Ok, IfOk, IfErr, OnOk};
 ghost use Rattle.beanpax.specs.declared.faults.ProgramFault.{ProgramFault};
 ghost use Rattle.beanpax.specs.declared.words.ServerOptions.{ServerOptions};
 ghost use Rattle.beanpax.specs.Faults.{line_of};
-ghost use Rattle.beanpax.specs.Program.{HasListened, IsCaused, IsRun, WritesText};
-ghost use Rattle.beanpax.specs.Words.{AreWrong, AskForHelp, AskForRun, AskForServer};
+ghost use Rattle.beanpax.specs.Program.{EndsWith, HasListened, IsCaused, IsRun, IsRunFault, WritesText};
+ghost use Rattle.beanpax.specs.declared.verdict.Verdict.{Verdict};
+ghost use Rattle.beanpax.specs.Verdicts.{is_legal};
+ghost use Rattle.beanpax.specs.Words.{AreWrong, AskForHelp, AskForInspection, AskForRun, AskForServer};
 
 use crate::faults::{ProgramFault, fault_line};
 use crate::host::Host;
+use crate::inspecting::inspect_file;
 use crate::run::run_bytes;
 use crate::server::serve_tcp;
+use crate::verdict::Verdict;
 use crate::words::{Asked, parse_words};
 use session::{ByteIn, ByteOut, write_all};
-use std::alloc::AllocError;
+use std::alloc::{AllocError, Global};
 
 /// The status of a program that did what was asked.
 pub const DONE: u8 = 0;
@@ -21,6 +25,9 @@ pub const FAULT: u8 = 1;
 
 /// The status at wrong words.
 pub const WRONG_WORDS: u8 = 2;
+
+/// The status where something is wrong with a dump.
+pub const DUMP_REFUSED: u8 = 3;
 
 /// Does what the program does with these words, of which the first is its name. Answers the status.
 ///
@@ -34,15 +41,22 @@ pub fn program<H: Host, R: ByteIn, W: ByteOut, E: ByteOut>(
     output: &mut W,
     errors: &mut E,
 ) -> u8
-    ensures known { result ≤ WRONG_WORDS }
+    ensures known { result ≤ DUMP_REFUSED }
     ensures right { result ≡ DONE
         → (AskForRun (map string_bytes words.now)
         × IsRun (R.remaining input.old) (R.remaining input.new)
         (W.contents output.old) (W.contents output.new))
         ⊎ ((AskForHelp (map string_bytes words.now) × (input.new ≡ input.old))
-        ⊎ ((options : ServerOptions) × AskForServer (map string_bytes words.now) options
+        ⊎ (((options : ServerOptions) × AskForServer (map string_bytes words.now) options
         × HasListened options (W.contents output.old) (W.contents output.new)
-        × (input.new ≡ input.old))) }
+        × (input.new ≡ input.old))
+        ⊎ ((file : List ℕ) × AskForInspection (map string_bytes words.now) file
+        × EndsWith true (W.contents output.old) (W.contents output.new)
+        × (input.new ≡ input.old)))) }
+    ensures refused { result ≡ DUMP_REFUSED
+        → (file : List ℕ) × AskForInspection (map string_bytes words.now) file
+        × EndsWith false (W.contents output.old) (W.contents output.new)
+        × (input.new ≡ input.old) × (errors.new ≡ errors.old) }
     ensures silent { result ≡ DONE → errors.new ≡ errors.old }
     ensures fault { result ≡ FAULT → (fault : ProgramFault)
         × IsCaused (map string_bytes words.now) fault
@@ -54,12 +68,16 @@ pub fn program<H: Host, R: ByteIn, W: ByteOut, E: ByteOut>(
 {
     match parse_words(rt.alloc(), words) {
         Ok(Asked::Run { nodes, seed }) => {
-            let ended = run_bytes(rt.alloc(), nodes, seed, input, output);
-            status_after(ended.map(|_| ()).map_err(ProgramFault::from), errors)
+            let ended = run(rt.alloc(), nodes, seed, input, output);
+            status_after(ended, errors)
         }
         Ok(Asked::Serve(options)) => {
             let ended = serve_tcp(rt, &options, output);
             status_after(ended, errors)
+        }
+        Ok(Asked::Inspect { file }) => {
+            let found = inspect_file(rt, file, output);
+            status_of(found, errors)
         }
         Ok(Asked::Help(text)) => {
             let shown = write_all(output, text.as_bytes());
@@ -71,6 +89,24 @@ pub fn program<H: Host, R: ByteIn, W: ByteOut, E: ByteOut>(
         }
         Err(AllocError) => status_after(Err(ProgramFault::OutOfMemory), errors),
     }
+}
+
+// Answers a client of so many nodes, and leaves out how its session ended.
+fn run<R: ByteIn, W: ByteOut>(
+    alloc: Global,
+    nodes: u8,
+    seed: u64,
+    input: &mut R,
+    output: &mut W,
+) -> Result<(), ProgramFault>
+    requires some { 1 ≤ nodes }
+    requires few { nodes ≤ 7 }
+    ensures ok { OnOk result (IsRun (R.remaining input.old) (R.remaining input.new)
+        (W.contents output.old) (W.contents output.new)) }
+    ensures err { IfErr result (IsRunFault (R.has_failed input.new) (W.has_failed output.new)) }
+{
+    run_bytes(alloc, nodes, seed, input, output)?;
+    Ok(())
 }
 
 // Tells the fault, where there is one.
@@ -86,5 +122,24 @@ fn status_after<E: ByteOut>(ended: Result<(), ProgramFault>, errors: &mut E) -> 
             let _ = write_all(errors, fault_line(fault).as_bytes());
             FAULT
         }
+    }
+}
+
+// Tells why nothing was found, where that is so.
+fn status_of<E: ByteOut>(found: Result<Verdict, ProgramFault>, errors: &mut E) -> u8
+    ensures known { result ≤ DUMP_REFUSED }
+    ensures done { result ≡ DONE → (verdict : Verdict) × (found ≡ Ok verdict)
+        × (is_legal verdict ≡ true) × (errors.new ≡ errors.old) }
+    ensures refused { result ≡ DUMP_REFUSED → (verdict : Verdict) × (found ≡ Ok verdict)
+        × (is_legal verdict ≡ false) × (errors.new ≡ errors.old) }
+    ensures right { IfOk found (λ verdict. (result ≡ DONE) ⊎ (result ≡ DUMP_REFUSED)) }
+    ensures fault { IfErr found (λ fault. (result ≡ FAULT)
+        × WritesText (E.contents errors.old) (E.contents errors.new) (E.has_failed errors.new)
+        (line_of fault)) }
+{
+    match found {
+        Ok(verdict) if verdict.is_legal() => DONE,
+        Ok(_) => DUMP_REFUSED,
+        Err(fault) => status_after(Err(fault), errors),
     }
 }

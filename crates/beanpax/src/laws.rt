@@ -1,10 +1,18 @@
-ghost use Rattle.std.specs.Prelude.{◌≡◌, ℕ, List, map};
+ghost use Rattle.std.specs.Prelude.{◌≡◌, ℕ, Bool, List, map};
+ghost use Rattle.object.specs.Happenings.{SubmittedOnce};
+ghost use Rattle.bean_queue.specs.Holds.{HasOneHolder};
+ghost use Rattle.bean_queue.specs.declared.op.Op.{Op};
+ghost use Rattle.bean_queue.specs.declared.reply.Reply.{Reply};
+ghost use Rattle.chronicle.specs.Checking.{IsFaultless, queue_rules};
+ghost use Rattle.hall.specs.Explained.{IsExplained};
+ghost use Rattle.hall.specs.Halls.{HallState, chronicle_of};
 ghost use Rattle.session.specs.declared.faults.End.{End};
 ghost use Rattle.session.specs.Items.{Answer};
 ghost use Rattle.beanpax.specs.Sessions.{is_refused};
 ghost use Rattle.beanpax.specs.Told.{IsToldWith};
 
 use bean_codec::one_item;
+use chronicle::legal_is_faultless;
 
 /// Every input has one transcript at most, but for which operations were refused for want of memory: what a client is
 /// told is a function of the bytes that it sent, and of that.
@@ -14,4 +22,13 @@ pub fn one_transcript()
         → map is_refused xs ≡ map is_refused ys → (a ≡ b) × (d ≡ e) }
 {
     one_item();
+}
+
+/// The dump of a hall of queues has no fault: `Hall::dump` ensures what this asks for.
+pub fn no_fault_in_a_dump()
+    ensures { (same : Op → Op → Bool) (h : HallState Op Reply)
+        → IsExplained (queue_rules same) HasOneHolder h.nodes.past
+        → SubmittedOnce h.nodes.past.happenings.submitted → IsFaultless (chronicle_of h) }
+{
+    legal_is_faultless();
 }

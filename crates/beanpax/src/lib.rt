@@ -8,19 +8,23 @@ mod connections;
 mod entry;
 mod faults;
 mod host;
+mod inspecting;
 mod laws;
 mod run;
 mod seconds;
 mod server;
 mod simulation;
+mod verdict;
 mod words;
 
-pub use entry::{DONE, FAULT, WRONG_WORDS, program};
+pub use entry::{DONE, DUMP_REFUSED, FAULT, WRONG_WORDS, program};
 pub use faults::{ProgramFault, fault_line, fault_number};
 pub use host::{Host, no_sockets};
-pub use laws::one_transcript;
+pub use inspecting::inspect_text;
+pub use laws::{no_fault_in_a_dump, one_transcript};
 pub use run::run_bytes;
 pub use session::{
     ByteIn, ByteOut, End, Failed, Reading, SessionFault, Writing, memory, write_all,
 };
+pub use verdict::Verdict;
 pub use words::{Asked, ServerOptions, parse_words};

@@ -1,3 +1,5 @@
+ghost use Rattle.std.specs.Prelude.{◌≡◌, ◌↔◌, ◌+◌, ◌≤◌, ◌^◌, None, IfSome};
+
 use node_threads::Seconds;
 use std::rt::Clock;
 use std::thread;
@@ -33,7 +35,11 @@ impl<'a, R: Clock> ClockSeconds<'a, R> {
 }
 
 impl<'a, R: Clock> Seconds for ClockSeconds<'a, R> {
-    fn next(&mut self) -> Option<u64> {
+    fn next(&mut self) -> Option<u64>
+        ensures ended { result ≡ None ↔ 2 ^ 40 ≤ self.old.second }
+        ensures next { IfSome result (λ second. second ≡ self.old.second + 1) }
+        ensures told { IfSome result (λ second. self.new.second ≡ second) }
+    {
         if self.second >= LAST_SECOND {
             return None;
         }

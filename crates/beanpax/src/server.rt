@@ -1,6 +1,10 @@
-ghost use Rattle.std.specs.Prelude.{◌≡◌, ◌≢◌, ◌≤◌, true, Err, IfOk, OnOk};
+ghost use Rattle.std.specs.Prelude.{◌≡◌, ◌≢◌, ◌≤◌, true, None, Ok, Err, IfOk, IfErr, IfSome, OnOk};
 ghost use Rattle.std.specs.Io.KnownBytes.{Appends};
 ghost use Rattle.beanpax.specs.declared.faults.ProgramFault.TheVariants.{ReadFailed, WriteFailed};
+ghost use Rattle.beanpax.specs.declared.faults.ProgramFault.TheVariants.{FileFailed, ListenFailed};
+ghost use Rattle.beanpax.specs.declared.faults.ProgramFault.TheVariants.{ServiceStopped};
+ghost use Rattle.beanpax.specs.Faults.{IsOfDump, IsOfOutput, of_cluster};
+ghost use Rattle.chronicle.specs.Checking.{IsFaultless};
 ghost use Rattle.chronicle.specs.Dump.{dump_text};
 ghost use Rattle.hall.specs.Halls.{chronicle_of};
 ghost use Rattle.beanpax.specs.Servers.{listening_line};
@@ -8,12 +12,13 @@ ghost use Rattle.beanpax.specs.Servers.{listening_line};
 use crate::connections::Connections;
 use crate::faults::ProgramFault;
 use crate::host::Host;
+use crate::laws::no_fault_in_a_dump;
 use crate::seconds::ClockSeconds;
 use crate::words::ServerOptions;
 use ballot::Members;
 use bean_queue::Queue;
 use hall::Hall;
-use node_threads::{Actor, Gate, Point, run_cluster};
+use node_threads::{Actor, Ended, Gate, Point, run_cluster};
 use session::{ByteOut, write_all};
 use std::alloc::{AllocError, Global};
 use std::fs;
@@ -37,11 +42,10 @@ pub(crate) fn serve_tcp<R: Host, W: ByteOut>(
         (listening_line options.now.port)) }
     ensures write_failed { result ≡ Err WriteFailed → W.has_failed output.new ≡ true }
     ensures reads_nothing { result ≢ Err ReadFailed }
+    ensures never_stops { result ≢ Err ServiceStopped }
+    ensures dumps { result ≡ Err FileFailed → options.now.dump ≢ None }
 {
-    let listener = TcpListener::bind(
-        rt,
-        SocketAddr::from((Ipv4Addr::LOCALHOST, options.port)),
-    ).map_err(|_| ProgramFault::ListenFailed)?;
+    let listener = listen(rt, options.port)?;
     tell_port(rt.alloc(), options.port, output)?;
     let Some(members) = Members::new(options.nodes) else {
         unreachable!()
@@ -58,6 +62,40 @@ pub(crate) fn serve_tcp<R: Host, W: ByteOut>(
         options.workers,
         &Open,
     );
+    conclude(rt, &ended, options)
+}
+
+// Listens at this port of the loopback.
+fn listen<R: Host>(rt: &R, port: u16) -> Result<TcpListener, ProgramFault>
+    ensures { IfErr result (λ fault. fault ≡ ListenFailed) }
+{
+    let address = SocketAddr::from((Ipv4Addr::LOCALHOST, port));
+    TcpListener::bind(rt, address).map_err(|_| ProgramFault::ListenFailed)
+}
+
+// Tells at which port it listens.
+#[tactic(auto, unfolding(crate::specs::Servers::listening_line))]
+fn tell_port<W: ByteOut>(alloc: Global, port: u16, output: &mut W) -> Result<(), ProgramFault>
+    ensures told { OnOk result
+        (Appends (W.contents output.old) (W.contents output.new) (listening_line port)) }
+    ensures fault { IfErr result IsOfOutput }
+    ensures write_failed { result ≡ Err WriteFailed → W.has_failed output.new ≡ true }
+{
+    let line = format!(in alloc; "listening on 127.0.0.1:{port}\n")?;
+    write_all(output, line.as_bytes()).map_err(|_| ProgramFault::WriteFailed)
+}
+
+// Tells what went wrong with the cluster. Where nothing did, it writes the dump, if that was asked
+// for.
+fn conclude<R: Host>(
+    rt: &R,
+    ended: &Ended<Queue>,
+    options: &ServerOptions<'_>,
+) -> Result<(), ProgramFault>
+    ensures fault { IfSome ended.now.fault (λ fault. result ≡ Err (of_cluster fault)) }
+    ensures no_fault { ended.now.fault ≡ None → IfErr result IsOfDump }
+    ensures no_dump { ended.now.fault ≡ None → options.now.dump ≡ None → result ≡ Ok tt }
+{
     if let Some(fault) = ended.fault {
         return Err(ProgramFault::from(fault));
     }
@@ -67,31 +105,20 @@ pub(crate) fn serve_tcp<R: Host, W: ByteOut>(
     }
 }
 
-// Tells at which port it listens.
-#[tactic(auto, unfolding(crate::specs::Servers::listening_line))]
-fn tell_port<W: ByteOut>(alloc: Global, port: u16, output: &mut W) -> Result<(), ProgramFault>
-    ensures told { OnOk result
-        (Appends (W.contents output.old) (W.contents output.new) (listening_line port)) }
-    ensures write_failed { result ≡ Err WriteFailed → W.has_failed output.new ≡ true }
-    ensures reads_nothing { result ≢ Err ReadFailed }
-{
-    let line = format!(in alloc; "listening on 127.0.0.1:{port}\n")?;
-    write_all(output, line.as_bytes()).map_err(|_| ProgramFault::WriteFailed)
-}
-
 // Writes the dump of the hall to the file.
 fn write_dump<R: Host>(rt: &R, hall: &Hall<Queue>, file: &str) -> Result<(), ProgramFault>
-    ensures reads_nothing { result ≢ Err ReadFailed }
-    ensures writes_nothing_out { result ≢ Err WriteFailed }
+    ensures { IfErr result IsOfDump }
 {
     let text = dump_of(rt.alloc(), hall)?;
     fs::write(rt, file, text.as_slice()).map_err(|_| ProgramFault::FileFailed)
 }
 
-// The text of what happened in the hall.
+// The text of what happened in the hall, in which no line is wrong.
 fn dump_of(alloc: Global, hall: &Hall<Queue>) -> Result<Vec<u8>, AllocError>
-    ensures { IfOk result (λ text. text.items ≡ dump_text (chronicle_of hall.now)) }
+    ensures text { IfOk result (λ text. text.items ≡ dump_text (chronicle_of hall.now)) }
+    ensures right { OnOk result (IsFaultless (chronicle_of hall.now)) }
 {
+    no_fault_in_a_dump();
     let mut text = Vec::new(alloc);
     hall.dump()?.write_text(&mut text)?;
     Ok(text)

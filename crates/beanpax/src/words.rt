@@ -1,8 +1,9 @@
-ghost use Rattle.std.specs.Prelude.{◌≡◌, ◌≤◌, ◌^◌, ◌-◌, codes, false, map, string_bytes, IfOk};
+ghost use Rattle.std.specs.Prelude.{◌≡◌, ◌≤◌, ◌^◌, ◌-◌, [], codes, false, map, string_bytes, unwrap_or, IfOk};
 ghost use Rattle.clap.specs.Words.{app_of, first_value, found_of, one_text, rule_of};
 ghost use Rattle.clap.specs.declared.builder.command.Command.TheViews.{out-Command as fields_of};
 ghost use Rattle.beanpax.specs.Words.{IsAskedBy, IsNumberOr, IsServerOf};
-ghost use Rattle.beanpax.specs.Words.{program_command, run_command, serve_command};
+ghost use Rattle.beanpax.specs.Words.{program_command, run_command, serve_command, inspect_command};
+ghost use Rattle.beanpax.specs.Words.{file_argument};
 ghost use Rattle.beanpax.specs.Words.{nodes_option, seed_option, port_option};
 ghost use Rattle.beanpax.specs.Words.{workers_option, sessions_option, dump_option};
 
@@ -32,6 +33,8 @@ pub enum Asked<'a> {
     Run { nodes: u8, seed: u64 },
     /// A server.
     Serve(ServerOptions<'a>),
+    /// What is found of the dump in this file.
+    Inspect { file: &'a str },
     /// This help.
     Help(String),
     /// Nothing: the words are wrong, and the text says why.
@@ -65,9 +68,14 @@ pub fn parse_words<'a>(alloc: Global, words: &'a [String]) -> Result<Asked<'a>, 
                     seed: seed_of(run),
                 });
             }
+            if let Some(serve) = matches.subcommand_matches("serve") {
+                return Ok(Asked::Serve(server_of(serve)));
+            }
             // A command is required, and `help` is never matched.
-            match matches.subcommand_matches("serve") {
-                Some(serve) => Ok(Asked::Serve(server_of(serve))),
+            match matches.subcommand_matches("inspect") {
+                Some(inspect) => Ok(Asked::Inspect {
+                    file: file_of(inspect),
+                }),
                 None => unreachable!(),
             }
         }
@@ -90,6 +98,13 @@ fn server_of<'a>(serve: &ArgMatches<'a>) -> ServerOptions<'a>
         sessions: serve.get_one("sessions"),
         dump: serve.get_str("dump"),
     }
+}
+
+// The file that the words name. There is none where it is missing, and then clap finds the words wrong.
+fn file_of<'a>(inspect: &ArgMatches<'a>) -> &'a str
+    ensures { result.now ≡ unwrap_or (first_value (found_of inspect.now) (codes "file")) [] }
+{
+    inspect.get_str("file").unwrap_or("")
 }
 
 // How many nodes the words ask for. The option takes no other numbers than these.
@@ -143,7 +158,8 @@ fn program_words<'a>(alloc: Global) -> Result<Command<'a>, AllocError>
         .about("A work queue")
         .subcommand_required(true)
         .subcommand(run_words(alloc)?)?
-        .subcommand(serve_words(alloc)?)
+        .subcommand(serve_words(alloc)?)?
+        .subcommand(inspect_words(alloc)?)
 }
 
 // The words of `run`.
@@ -169,6 +185,16 @@ fn serve_words<'a>(alloc: Global) -> Result<Command<'a>, AllocError>
         .arg(workers_words(alloc))?
         .arg(sessions_words(alloc))?
         .arg(dump_words(alloc))
+}
+
+// The words of `inspect`.
+fn inspect_words<'a>(alloc: Global) -> Result<Command<'a>, AllocError>
+    ensures app { IfOk result (λ c. app_of c ≡ inspect_command) }
+    ensures no_globals { IfOk result (λ c. (fields_of c).has_globals ≡ false) }
+{
+    Command::new(alloc, "inspect")
+        .about("Tells what is wrong with a dump, or that nothing is")
+        .arg(file_words(alloc))
 }
 
 fn nodes_words<'a>(alloc: Global) -> Arg<'a>
@@ -233,4 +259,14 @@ fn dump_words<'a>(alloc: Global) -> Arg<'a>
     Arg::new(alloc, "dump").long("dump").value_name("FILE").help(
         "Where what happened is written at the end [default: nowhere]",
     )
+}
+
+fn file_words<'a>(alloc: Global) -> Arg<'a>
+    ensures rule { rule_of result ≡ file_argument }
+    ensures local { result.global ≡ false }
+{
+    Arg::new(alloc, "file")
+        .value_name("FILE")
+        .help("The dump")
+        .required(true)
 }

@@ -23,12 +23,12 @@ use Rattle.chronicle.specs.Happenings.Happening.{Submitted, Answered}
 
 -- ---- lists
 
-record Split {X : Type 0} (x : X) (xs : List X) : Type 0 where
-  before : List X
-  after : List X
-  is : xs ≡ before ++ (x ∷ after)
+pub record Split {X : Type 0} (x : X) (xs : List X) : Type 0 where
+  pub before : List X
+  pub after : List X
+  pub is : xs ≡ before ++ (x ∷ after)
 
-split : {X : Type 0} (x : X) (xs : List X) → In x xs → Split x xs
+pub split : {X : Type 0} (x : X) (xs : List X) → In x xs → Split x xs
 split x [] i = absurd i
 split x (y ∷ xs) (inl same) = record { before = []; after = xs; is = ap (λ z. z ∷ xs) (sym same) }
 split x (y ∷ xs) (inr more) =
@@ -61,10 +61,10 @@ here key (s ∷ rest) h =
     ] refl
 
 -- the commands of keys that were submitted
-abbrev command_at : Chronicle Op Reply → Key → Option (Command Op)
+abbrev pub command_at : Chronicle Op Reply → Key → Option (Command Op)
 command_at c key = option_map (λ (s : Submission Op). s.command) (found submitted_key key c.submitted)
 
-abbrev commands_of : Chronicle Op Reply → List Key → List (Command Op)
+abbrev pub commands_of : Chronicle Op Reply → List Key → List (Command Op)
 commands_of c order = filter_map (command_at c) order
 
 -- one command of the order, by its key
@@ -94,7 +94,7 @@ in_commands c (key ∷ rest) d all i =
           record { among = inr r.among; was = r.was }
     ]
 
-rising : (c : Chronicle Op Reply) (order : List Key) → ((key : Key) → In key order → stands submitted_key key c.submitted ≡ true) →
+pub rising : (c : Chronicle Op Reply) (order : List Key) → ((key : Key) → In key order → stands submitted_key key c.submitted ≡ true) →
     ((before : List Key) (key : Key) (after : List Key) → order ≡ before ++ (key ∷ after) → IsAbove key before) → IsRising (commands_of c order)
 rising c [] all above = tt
 rising c (key ∷ rest) all above =
@@ -108,7 +108,7 @@ rising c (key ∷ rest) all above =
       rising c rest (λ k j. all k (inr j)) (λ before k after is x j same. above (key ∷ before) k after (ap (λ t. key ∷ t) is) x (inr j) same),
     )
 
-distinct : (cs : List (Command Op)) → IsRising cs → HasDistinctKeys cs
+pub distinct : (cs : List (Command Op)) → IsRising cs → HasDistinctKeys cs
 distinct [] h = tt
 distinct (c ∷ cs) h = (
   (λ d i same. let less = h.0 d i (ap (λ (k : Key). k.session) same) in let number = ap (λ (k : Key). k.number) same in absurd (omega arith)),

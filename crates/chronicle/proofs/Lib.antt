@@ -16,4 +16,11 @@ pub mod Tells
 pub mod ReadOn
 pub mod Legal
 pub mod OneFault
+pub mod Faultless
 pub mod OneBadLine
+pub mod FirstPlaces
+pub mod HappeningCounts
+pub mod EndCuts
+pub mod Obeyed
+pub mod Answered
+pub mod Walked

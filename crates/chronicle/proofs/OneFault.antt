@@ -14,18 +14,18 @@ use Rattle.chronicle.specs.Happenings.Happening.{Submitted, Answered}
 
 -- ---- two cuts of one list
 
-record Same {X : Type 0} (a b : List X) (x y : X) : Type 0 where
-  front : a ≡ b
-  item : x ≡ y
+pub record Same {X : Type 0} (a b : List X) (x y : X) : Type 0 where
+  pub front : a ≡ b
+  pub item : x ≡ y
 
-record Before {X : Type 0} (a b : List X) (x : X) : Type 0 where
-  more : List X
-  is : b ≡ a ++ (x ∷ more)
+pub record Before {X : Type 0} (a b : List X) (x : X) : Type 0 where
+  pub more : List X
+  pub is : b ≡ a ++ (x ∷ more)
 
 heads : {X : Type 0} (x y : X) (xs ys : List X) → x ∷ xs ≡ y ∷ ys → (x ≡ y) × (xs ≡ ys)
 heads x y xs ys same = let first : x ≡ y = cc in let rest : xs ≡ ys = cc in (first, rest)
 
-cuts : {X : Type 0} (a b : List X) (x y : X) (c d : List X) → a ++ (x ∷ c) ≡ b ++ (y ∷ d) → Same a b x y ⊎ Before a b x ⊎ Before b a y
+pub cuts : {X : Type 0} (a b : List X) (x y : X) (c d : List X) → a ++ (x ∷ c) ≡ b ++ (y ∷ d) → Same a b x y ⊎ Before a b x ⊎ Before b a y
 cuts [] [] x y c d same = inl (record { front = refl; item = (heads x y c d same).0 })
 cuts [] (z ∷ b) x y c d same = inr (inl (record { more = b; is = ap (λ u. u ∷ b) (sym (heads x z c (b ++ (y ∷ d)) same).0) }))
 cuts (z ∷ a) [] x y c d same = inr (inr (record { more = a; is = ap (λ u. u ∷ a) (heads z y (a ++ (x ∷ c)) d same).0 }))

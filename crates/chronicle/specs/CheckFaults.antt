@@ -1,10 +1,12 @@
 -- What is wrong with a chronicle of a queue, by the line of its dump.
-use Rattle.std.specs.Prelude.{◌≡◌, ℕ, ◌+◌, ◌⊎◌, true, false, List, ◌∷◌, ◌++◌, length}
+use Rattle.std.specs.Prelude.{◌≡◌, ⊤, ℕ, ◌+◌, ◌⊎◌, true, false, List, ◌∷◌, ◌++◌, length}
 use Rattle.object.specs.Happenings.{submitted_key}
 use Rattle.object.specs.Keys.{stands}
 use Rattle.object.specs.declared.command.Key.{Key}
 use Rattle.bean_queue.specs.declared.op.Op.{Op}
 use Rattle.bean_queue.specs.declared.reply.Reply.{Reply}
+use Rattle.chronicle.specs.declared.check_fault.CheckFault.{CheckFault}
+use Rattle.chronicle.specs.declared.check_fault.CheckFault.TheVariants.{OutOfMemory, At}
 use Rattle.chronicle.specs.declared.check_fault.What.{What}
 use Rattle.chronicle.specs.declared.check_fault.What.TheVariants.{NotSubmitted, NotKept, SubmittedTwice, PlacedTooEarly, NotTheQueuesAnswer}
 use Rattle.chronicle.specs.Checking.{IsGivenBy, IsAbove, IsFirstOfKey, IsPlacedLater, AreRightPlaces, AreRightLines}
@@ -49,3 +51,8 @@ pub record IsWrongHappening (c : Chronicle Op Reply) (n : ℕ) (what : What) : T
 -- this is the fault that is told
 abbrev pub IsFaultAt : Chronicle Op Reply → ℕ → What → Type 0
 IsFaultAt c n what = IsWrongOrder c n what ⊎ IsWrongHappening c n what
+
+-- what a fault says of the chronicle
+abbrev pub IsCheckFault : Chronicle Op Reply → CheckFault → Type 0
+IsCheckFault c OutOfMemory = ⊤
+IsCheckFault c (At n what) = IsFaultAt c n what

@@ -14,3 +14,5 @@ pub mod Reading
 pub mod Faults
 pub mod Checking
 pub mod CheckFaults
+pub mod Replaying
+pub mod Walks

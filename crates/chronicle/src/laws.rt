@@ -1,4 +1,6 @@
-ghost use Rattle.std.specs.Prelude.{◌≡◌, ℕ, Bool, List};
+ghost use Rattle.std.specs.Prelude.{◌≡◌, ℕ, Bool, List, map};
+ghost use Rattle.object.specs.declared.command.Command.{Command};
+ghost use Rattle.object.specs.Happenings.{SubmittedOnce};
 ghost use Rattle.object.specs.Legal.{IsLegal};
 ghost use Rattle.bean_queue.specs.Holds.{IsGivenOnce, IsHeldByOne};
 ghost use Rattle.bean_queue.specs.Places.{places};
@@ -33,6 +35,15 @@ pub fn faultless_is_legal()
     one_answer();
     one_holder();
 }
+
+/// The other way round: what is legal for commands whose keys are the order has no fault, where no key was submitted
+/// twice.
+pub fn legal_is_faultless()
+    ensures { (same : Op → Op → Bool) (c : Chronicle Op Reply) (commands : List (Command Op))
+        → SubmittedOnce c.submitted → c.order ≡ map (λ d. d.key) commands
+        → IsLegal (queue_rules same) (record { submitted = c.submitted; answers = c.answers })
+        commands → IsFaultless c }
+{}
 
 /// A chronicle has one fault at most, and none where each line of its dump is right.
 pub fn one_fault()

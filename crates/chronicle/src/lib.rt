@@ -9,22 +9,27 @@
 mod acts;
 mod append;
 mod check_fault;
+mod checker;
 mod chronicle;
 mod draft;
 mod entry;
 mod faults;
+mod first_places;
 mod laws;
 mod lines;
 mod reader;
+mod replay;
 mod replies;
 mod tell;
 mod tell_acts;
 mod tell_replies;
 mod timeline;
+mod walk;
 mod writer;
 
 pub use check_fault::{CheckFault, What};
+pub use checker::check;
 pub use chronicle::Chronicle;
 pub use faults::ReadFault;
-pub use laws::{faultless_is_legal, one_bad_line, one_chronicle, one_fault};
+pub use laws::{faultless_is_legal, legal_is_faultless, one_bad_line, one_chronicle, one_fault};
 pub use reader::read_text;

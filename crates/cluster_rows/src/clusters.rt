@@ -2,6 +2,7 @@
 use crate::clients::{Hasty, Queued, Served};
 use ballot::Members;
 use bean_queue::Queue;
+use chronicle::{CheckFault, ReadFault, What, check, read_text};
 use hall::Hall;
 use node_threads::{Ended, Gate, run_cluster};
 use std::alloc::{AllocError, Global};
@@ -23,6 +24,36 @@ pub fn serve<R: Threads + Wait + Sync, G: Gate + Sync>(
         is_stopped,
     };
     Ok(run_cluster(rt, alloc, hall, Queued { clients }, seconds, 2, gate))
+}
+
+/// Whether nothing is wrong with the dump, and something is where the first command of session 1 has another answer.
+pub fn is_explained(alloc: Global, ended: &Ended<Queue>) -> Result<bool, ReadFault> {
+    let mut text = Vec::new(alloc);
+    ended.hall.dump()?.write_text(&mut text)?;
+    let other = with_another_answer(alloc, text.as_slice())?;
+    let is_legal = found_of(alloc, text.as_slice())?.is_ok();
+    let refusal = found_of(alloc, other.as_slice())?;
+    Ok(is_legal && matches!(refusal, Err(CheckFault::At(_, What::NotTheQueuesAnswer))))
+}
+
+// What is found of the dump.
+fn found_of(alloc: Global, text: &[u8]) -> Result<Result<(), CheckFault>, ReadFault> {
+    let chronicle = read_text(alloc, text)?;
+    Ok(check(alloc, &chronicle))
+}
+
+// The dump, in which the first command of session 1 put the job 9.
+fn with_another_answer(alloc: Global, text: &[u8]) -> Result<Vec<u8>, AllocError> {
+    let mut changed = Vec::new(alloc);
+    for line in text.split_inclusive(|byte| *byte == b'\n') {
+        let is_answer = line.starts_with(b"A 1 1 INSERTED ");
+        changed.extend_from_slice(if is_answer {
+            b"A 1 1 INSERTED 9\n"
+        } else {
+            line
+        })?;
+    }
+    Ok(changed)
 }
 
 /// The lines of the dump, but for those of the clock, of how sessions ended, and of the order.

@@ -1,6 +1,6 @@
 //! One thread of a cluster is held while others serve a client.
 use crate::clients::{Client, connect};
-use crate::clusters::{lines_of, serve};
+use crate::clusters::{is_explained, lines_of, serve};
 use crate::gates::{Hold, HoldsNode, HoldsReader};
 use std::sync::atomic::{AtomicBool, AtomicU64, Ordering};
 use std::test::Fail;
@@ -61,10 +61,12 @@ fn one_thread(rt: HostRuntime) -> Result<(), Fail> {
     );
     let ended = ended?;
     let lines = lines_of(alloc, &ended)?;
+    let is_explained = is_explained(alloc, &ended)?;
     assert!(rt; heard);
     assert!(rt; gate.hold.was_released());
     assert!(rt; ended.fault.is_none());
     assert!(rt; lines.as_slice() == ONE_PUT);
+    assert!(rt; is_explained);
     Ok(())
 }
 
@@ -104,9 +106,11 @@ fn lock_held_while_reading(rt: HostRuntime) -> Result<(), Fail> {
     );
     let ended = ended?;
     let lines = lines_of(alloc, &ended)?;
+    let is_explained = is_explained(alloc, &ended)?;
     assert!(rt; heard);
     assert!(rt; gate.hold.was_released());
     assert!(rt; ended.fault.is_none());
+    assert!(rt; is_explained);
     let is_either = lines.as_slice() == SECOND_OF_TWO || lines.as_slice() == FIRST_OF_TWO;
     assert!(rt; is_either);
     Ok(())

@@ -1,11 +1,14 @@
 -- The tickets of all workers, and the hall of whose sessions they are.
-use Rattle.std.specs.Prelude.{◌≡◌, ◌==◌, ℕ, true, List, map, flat_map}
+use Rattle.std.specs.Prelude.{◌≡◌, ◌≢◌, ◌==◌, ℕ, true, List, length, sum, map, flat_map, Option, Some}
 use Rattle.std.specs.Global.{Vec}
 use Rattle.std.specs.List.{IsDistinct}
 use Rattle.object.specs.Lists.{In}
 use Rattle.hall.specs.Books.{is_opened}
 use Rattle.hall.specs.Halls.{HallState, Agrees}
 use Rattle.hall.specs.Tickets.{TicketState}
+use Rattle.node_threads.specs.declared.cluster_error.ClusterError.{ClusterError}
+use Rattle.node_threads.specs.declared.cluster_error.ClusterError.TheVariants.{BadNumber}
+use Rattle.node_threads.specs.Attending.{acts_in}
 
 -- the lists of all workers, one after the other
 abbrev pub all_tickets : {Op Reply : Type 0} → List (Vec (TicketState Op Reply)) → List (TicketState Op Reply)
@@ -20,3 +23,11 @@ pub record AreItsTickets {Op Reply : Type 0} (h : HallState Op Reply) (tickets :
   pub agree : (t : TicketState Op Reply) → In t tickets → Agrees h t
   pub once : IsDistinct (λ a b. a == b) (sessions_of tickets)
   pub each : (session : ℕ) → is_opened h.book session ≡ true → (t : TicketState Op Reply) × In t tickets × (t.session ≡ session)
+
+-- There are as many tickets as sessions were opened, and as many acts in them as these handed in; and the fault is bad
+-- number exactly where they aren't the tickets of the hall's sessions.
+pub record IsAccountedFor {Op Reply : Type 0} (h : HallState Op Reply) (tickets : List (TicketState Op Reply)) (fault : Option ClusterError) : Type 0 where
+  pub opened : length h.book ≡ length tickets
+  pub handed_in : sum h.book ≡ acts_in tickets
+  pub agree : fault ≢ Some BadNumber → AreItsTickets h tickets
+  pub disagree : fault ≡ Some BadNumber → AreItsTickets h tickets → ⊥

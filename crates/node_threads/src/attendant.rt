@@ -32,10 +32,12 @@ impl<'a, O: Object<Op = Op, Reply = Reply>, S: Ledger, C: Ledger, R: Wait, G: Ga
     for Attendant<'a, O, S, C, R, G> {
     ghost use Rattle.node_threads.specs.Attending.{Adds, TakesLeave, attendance_of};
 
-    ghost asks = { λ old op result new. Adds (attendance_of old.ticket old.commands.amount) op result
+    ghost asks = { λ old op result new. Adds
+        (attendance_of old.ticket old.commands.amount) op result
         (attendance_of new.ticket new.commands.amount) };
 
-    ghost closes = { λ old result new. TakesLeave (attendance_of old.ticket old.commands.amount) result
+    ghost closes = { λ old result new. TakesLeave
+        (attendance_of old.ticket old.commands.amount) result
         (attendance_of new.ticket new.commands.amount) };
 
     fn ask(&mut self, op: Op) -> Result<Reply, ServiceFault> {
@@ -49,7 +51,10 @@ impl<'a, O: Object<Op = Op, Reply = Reply>, S: Ledger, C: Ledger, R: Wait, G: Ga
     fn close(&mut self) -> Result<(), ServiceFault> {
         for _ in self.rt.forever() {
             match self.hand_in(Act::Close) {
-                Ok(_) => return Ok(()),
+                Ok(_) => {
+                    self.shared.leave(self.rt, self.gate, self.worker);
+                    return Ok(());
+                }
                 Err(ServiceFault::Refused) => std::thread::yield_now(),
                 Err(ServiceFault::Stopped) => return Err(ServiceFault::Stopped),
             }
@@ -58,7 +63,7 @@ impl<'a, O: Object<Op = Op, Reply = Reply>, S: Ledger, C: Ledger, R: Wait, G: Ga
     }
 }
 
-impl<'a, O: Object, S: Ledger, C: Ledger, R: Wait, G> Attendant<'a, O, S, C, R, G> {
+impl<'a, O: Object, S: Ledger, C: Ledger, R: Wait, G: Gate> Attendant<'a, O, S, C, R, G> {
     // Hands in the session's next command.
     fn hand_in(&mut self, act: Act<O::Op>) -> Result<HandedIn, ServiceFault>
         ensures ticket { OnOk result (self.new.ticket ≡ with_act self.old.ticket act) }
@@ -93,6 +98,7 @@ impl<'a, O: Object, S: Ledger, C: Ledger, R: Wait, G> Attendant<'a, O, S, C, R, 
     {
         let Ok(()) = self.shared.note_answer(
             self.rt,
+            self.gate,
             &mut self.ticket,
             self.worker,
             handed_in,

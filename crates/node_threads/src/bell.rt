@@ -2,10 +2,8 @@ use std::sync::Wait;
 use std::sync::atomic::{AtomicBool, Ordering};
 use std::thread::{Parker, yield_now};
 
-/// How often a thread looks for news, at least and at most, before it sleeps.
+/// How often a thread looks for news at least before it sleeps.
 const FEWEST_LOOKS: u32 = 4;
-
-const MOST_LOOKS: u32 = 1024;
 
 /// Where one thread waits until another has something for it. It is rung also where nobody waits: then the next wait ends
 /// at once.
@@ -31,11 +29,12 @@ impl Bell {
         }
     }
 
-    /// Waits for the bell. It looks for a while before it sleeps: longer where that paid, and shorter where it didn't.
-    pub(crate) fn wait<R: Wait>(&self, rt: &R, patience: &mut Patience) {
+    /// Waits for the bell. It looks for a while before it sleeps: longer where that paid, so many times at most, and shorter
+    /// where it didn't.
+    pub(crate) fn wait<R: Wait>(&self, rt: &R, patience: &mut Patience, most: u32) {
         for _ in 0..patience.looks {
             if self.take() {
-                patience.paid();
+                patience.paid(most);
                 return;
             }
             yield_now();
@@ -49,8 +48,8 @@ impl Bell {
         }
     }
 
-    // Whether it has rung since the last wait.
-    fn take(&self) -> bool {
+    /// Whether it has rung since it was last waited for, or looked at.
+    pub(crate) fn take(&self) -> bool {
         self.has_rung.load(Ordering::SeqCst) && self.has_rung.swap(false, Ordering::SeqCst)
     }
 }
@@ -70,8 +69,8 @@ impl Patience {
     }
 
     // A look found something.
-    fn paid(&mut self) {
-        self.looks = self.looks.saturating_mul(2).min(MOST_LOOKS);
+    fn paid(&mut self, most: u32) {
+        self.looks = self.looks.saturating_mul(2).min(most);
     }
 
     // None did.

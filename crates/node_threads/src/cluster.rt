@@ -1,7 +1,6 @@
-ghost use Rattle.std.specs.Prelude.{◌≡◌, ◌≢◌, ◌+◌, ◌≤◌, [], Some, IfOk, length, sum, vec_capacity};
-ghost use Rattle.node_threads.specs.declared.cluster_error.ClusterError.TheVariants.{BadNumber};
-ghost use Rattle.node_threads.specs.Attending.{acts_in};
-ghost use Rattle.node_threads.specs.Clusters.{AreItsTickets, all_tickets};
+ghost use Rattle.std.specs.Prelude.{◌≡◌, ◌≢◌, ◌+◌, ◌≤◌, [], Some, IfOk, vec_capacity};
+ghost use Rattle.node_threads.specs.declared.cluster_error.ClusterError.TheVariants.{BadNumber, OutOfMemory};
+ghost use Rattle.node_threads.specs.Clusters.{IsAccountedFor, all_tickets};
 
 use crate::accept::Accept;
 use crate::clock::Seconds;
@@ -43,12 +42,8 @@ pub fn run_cluster<
     requires none { hall.book ≡ [] }
     requires some { 1 ≤ workers }
     requires few { workers ≤ 64 }
-    ensures opened { length result.hall.book ≡ length (all_tickets result.tickets.items) }
-    ensures handed_in { sum result.hall.book ≡ acts_in (all_tickets result.tickets.items) }
-    ensures agree { result.fault ≢ Some BadNumber →
-        AreItsTickets result.hall (all_tickets result.tickets.items) }
-    ensures disagree { result.fault ≡ Some BadNumber →
-        AreItsTickets result.hall (all_tickets result.tickets.items) → ⊥ }
+    ensures accounted { IsAccountedFor result.hall (all_tickets result.tickets.items) result.fault }
+    ensures untouched { result.fault ≡ Some OutOfMemory → result.hall ≡ hall }
 {
     let Ok(room) = Room::new(alloc, &hall, workers) else {
         return Ended {
@@ -132,12 +127,8 @@ fn run_counted<
     requires sessions_parts { (sessions.parts ≡ S.parts) × (S.parts ≡ workers + 1) }
     requires commands_name { commands.name ≡ C.name }
     requires commands_parts { (commands.parts ≡ C.parts) × (C.parts ≡ workers + 1) }
-    ensures opened { length result.hall.book ≡ length (all_tickets result.tickets.items) }
-    ensures handed_in { sum result.hall.book ≡ acts_in (all_tickets result.tickets.items) }
-    ensures agree { result.fault ≢ Some BadNumber →
-        AreItsTickets result.hall (all_tickets result.tickets.items) }
-    ensures disagree { result.fault ≡ Some BadNumber →
-        AreItsTickets result.hall (all_tickets result.tickets.items) → ⊥ }
+    ensures accounted { IsAccountedFor result.hall (all_tickets result.tickets.items) result.fault }
+    ensures memory { result.fault ≢ Some OutOfMemory }
 {
     let nodes = hall.members().count();
     let Room {
@@ -174,12 +165,9 @@ fn end<O: Object, S: Ledger, C: Ledger>(
     requires sessions { tally.sessions.parts ≡ S.parts }
     requires commands { tally.commands.parts ≡ C.parts }
     requires fault { fault ≢ Some BadNumber }
-    ensures opened { length result.hall.book ≡ length (all_tickets result.tickets.items) }
-    ensures handed_in { sum result.hall.book ≡ acts_in (all_tickets result.tickets.items) }
-    ensures agree { result.fault ≢ Some BadNumber →
-        AreItsTickets result.hall (all_tickets result.tickets.items) }
-    ensures disagree { result.fault ≡ Some BadNumber →
-        AreItsTickets result.hall (all_tickets result.tickets.items) → ⊥ }
+    requires memory { fault ≢ Some OutOfMemory }
+    ensures accounted { IsAccountedFor result.hall (all_tickets result.tickets.items) result.fault }
+    ensures memory { result.fault ≢ Some OutOfMemory }
 {
     let Tally {
         tickets,

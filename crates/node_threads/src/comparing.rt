@@ -25,8 +25,8 @@ pub(crate) fn are_its_tickets<O: Object>(
 
 // Whether each ticket agrees with the hall.
 fn all_agree<O: Object>(hall: &Hall<O>, tickets: &[Vec<Ticket<O>>]) -> bool
-    ensures { (result ≡ true) ↔ ((t : TicketState O.Op O.Reply) → In t (all_tickets tickets.now) →
-        Agrees hall.now t) }
+    ensures { (result ≡ true) ↔ ((t : TicketState O.Op O.Reply)
+        → In t (all_tickets tickets.now) → Agrees hall.now t) }
 {
     for place in 0..tickets.len() {
         if !each_agrees(hall, tickets[place].as_slice()) {
@@ -38,8 +38,8 @@ fn all_agree<O: Object>(hall: &Hall<O>, tickets: &[Vec<Ticket<O>>]) -> bool
 
 // Whether each of these does.
 fn each_agrees<O: Object>(hall: &Hall<O>, tickets: &[Ticket<O>]) -> bool
-    ensures { (result ≡ true) ↔ ((t : TicketState O.Op O.Reply) → In t tickets.now →
-        Agrees hall.now t) }
+    ensures { (result ≡ true) ↔ ((t : TicketState O.Op O.Reply)
+        → In t tickets.now → Agrees hall.now t) }
 {
     for place in 0..tickets.len() {
         if !hall.agrees(&tickets[place]) {

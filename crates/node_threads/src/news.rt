@@ -1,3 +1,5 @@
+ghost use Rattle.std.specs.Prelude.{◌<◌, IfSome};
+
 use crate::places::Places;
 use hall::Hall;
 use object::Object;
@@ -7,39 +9,66 @@ pub(crate) const MOST_NODES: usize = 7;
 
 pub(crate) const MOST_WORKERS: usize = 64;
 
-/// Who got something while the lock was held: nodes with mail, and workers whose clients were answered, by their places.
-/// They are told when it is free.
+/// What there is after a turn: nodes that have something to do, and workers whose clients were answered by it, by their
+/// places. They are told when the lock is free.
 #[derive(Drop)]
 pub(crate) struct News {
-    nodes: [bool; MOST_NODES],
+    mail: [bool; MOST_NODES],
+    requests: [bool; MOST_NODES],
     workers: [bool; MOST_WORKERS],
+    has_answers: bool,
+    was_refused: bool,
 }
 
 impl News {
-    /// What there is for others than this node in a hall where so many answers had been given before.
-    pub(crate) fn since<O: Object>(
-        hall: &Hall<O>,
-        node: u8,
-        answers: usize,
-        places: &Places,
-    ) -> News {
-        let mut news = News {
-            nodes: [false; MOST_NODES],
-            workers: [false; MOST_WORKERS],
-        };
-        news.note_mail(hall, node);
+    /// What there is in a hall where so many answers had been given before.
+    pub(crate) fn since<O: Object>(hall: &Hall<O>, answers: usize, places: &Places) -> News {
+        let mut news = News::none();
+        for node in 1..=hall.members().count() {
+            if let Some(place) = place_of(node) {
+                news.mail[place] = hall.has_mail(node);
+                news.requests[place] = hall.can_propose(node);
+            }
+        }
         for index in answers..hall.answer_count() {
             news.note_answer(hall, index, places);
         }
         news
     }
 
-    /// Tells them.
-    pub(crate) fn tell(&self, places: &Places) {
-        for place in 0..MOST_NODES {
-            if self.nodes[place] {
-                places.ring_node(place as u8 + 1);
-            }
+    /// The node was refused memory: it tries again when it is rung.
+    pub(crate) fn refuse(&mut self, node: u8) {
+        if let Some(place) = place_of(node) {
+            self.mail[place] = false;
+            self.requests[place] = false;
+        }
+        self.was_refused = true;
+    }
+
+    /// Whether a node was refused memory.
+    pub(crate) fn was_refused(&self) -> bool {
+        self.was_refused
+    }
+
+    /// Whether a node has something to do.
+    pub(crate) fn is_for(&self, node: u8) -> bool {
+        self.has_mail(node) || self.has_request(node)
+    }
+
+    /// Whether a node has mail.
+    pub(crate) fn has_mail(&self, node: u8) -> bool {
+        place_of(node).is_some_and(|place| self.mail[place])
+    }
+
+    /// Whether a node has a request that it can propose.
+    pub(crate) fn has_request(&self, node: u8) -> bool {
+        place_of(node).is_some_and(|place| self.requests[place])
+    }
+
+    /// Tells the workers.
+    pub(crate) fn tell_workers(&self, places: &Places) {
+        if !self.has_answers {
+            return;
         }
         for place in 0..MOST_WORKERS {
             if self.workers[place] {
@@ -48,13 +77,23 @@ impl News {
         }
     }
 
-    // Who has mail, but for this node.
-    fn note_mail<O: Object>(&mut self, hall: &Hall<O>, node: u8) {
-        for place in 0..MOST_NODES {
-            let other = place as u8 + 1;
-            if other != node && hall.has_mail(other) {
-                self.nodes[place] = true;
+    /// Tells the nodes, but for one, where it is given.
+    pub(crate) fn tell_nodes(&self, places: &Places, but: Option<u8>) {
+        for node in 1..=MOST_NODES as u8 {
+            if but != Some(node) && self.is_for(node) {
+                places.ring_node(node);
             }
+        }
+    }
+
+    // Nothing.
+    fn none() -> News {
+        News {
+            mail: [false; MOST_NODES],
+            requests: [false; MOST_NODES],
+            workers: [false; MOST_WORKERS],
+            has_answers: false,
+            was_refused: false,
         }
     }
 
@@ -68,6 +107,19 @@ impl News {
         };
         if place < MOST_WORKERS {
             self.workers[place] = true;
+            self.has_answers = true;
         }
+    }
+}
+
+// Where a node stands in a list of nodes, which count from 1.
+fn place_of(node: u8) -> Option<usize>
+    ensures { IfSome result (λ place. place < 7) }
+{
+    let place = usize::from(node).checked_sub(1)?;
+    if place < MOST_NODES {
+        Some(place)
+    } else {
+        None
     }
 }

@@ -1,7 +1,6 @@
 use crate::bell::Patience;
-use crate::gate::{Actor, Gate, Point};
+use crate::gate::Gate;
 use crate::shared::Shared;
-use crate::turn::Watch;
 use object::Object;
 use std::sync::Wait;
 use std::sync::ledger::Ledger;
@@ -13,11 +12,9 @@ pub(crate) fn run_node<O: Object, S: Ledger, C: Ledger, R: Wait, G: Gate>(
     node: u8,
     gate: &G,
 ) {
-    let mut watch = Watch::new(node);
     let mut patience = Patience::new();
     for _ in rt.forever() {
-        gate.at(Actor::Node(node), Point::Turn);
-        let has_more = shared.take_turn(rt, &mut watch);
+        let has_more = shared.take_own_turn(rt, node, gate);
         if shared.is_over() {
             return;
         }

@@ -1,16 +1,34 @@
 use crate::bell::{Bell, Patience};
+use crate::turn::Watch;
 use std::alloc::{AllocError, Global};
-use std::sync::Wait;
 use std::sync::atomic::{AtomicBool, AtomicU64, Ordering};
+use std::sync::{Mutex, MutexGuard, Wait};
 use std::thread::yield_now;
+
+/// Up to so many workers take turns of nodes. Where there are more, the nodes' own threads take all, since they have
+/// enough to do not to fall asleep.
+const MOST_HELPERS: usize = 8;
+
+/// How often a thread looks for news at most before it sleeps, where workers take turns of nodes, and where they don't.
+const FEW_LOOKS: u32 = 64;
+
+const MANY_LOOKS: u32 = 1024;
 
 /// Where the threads wait: node n at place n - 1 of the nodes, worker k at place k - 1 of the workers. And whether all is
 /// over.
 #[derive(Drop)]
 pub(crate) struct Places {
-    nodes: Vec<Bell>,
+    nodes: Vec<Post>,
     workers: Vec<Seat>,
+    has_helper: AtomicBool,
     is_over: AtomicBool,
+}
+
+/// A node's place: where its own thread waits, and its watch, which whoever takes its turn has to himself.
+#[derive(Drop)]
+struct Post {
+    bell: Bell,
+    watch: Mutex<Watch>,
 }
 
 /// A worker's place, and the session that it serves, 0 where it serves none.
@@ -24,8 +42,9 @@ impl Places {
     /// Places for so many nodes and workers.
     pub(crate) fn new(alloc: Global, nodes: u8, workers: u32) -> Result<Places, AllocError> {
         Ok(Places {
-            nodes: bells(alloc, nodes)?,
+            nodes: posts(alloc, nodes, workers as usize <= MOST_HELPERS)?,
             workers: seats(alloc, workers)?,
+            has_helper: AtomicBool::new(false),
             is_over: AtomicBool::new(false),
         })
     }
@@ -45,10 +64,50 @@ impl Places {
             .position(|seat| seat.session.load(Ordering::SeqCst) == session)
     }
 
+    /// Whether workers take turns of nodes.
+    pub(crate) fn can_help(&self) -> bool {
+        self.workers.len() <= MOST_HELPERS
+    }
+
+    /// A worker is to take turns of nodes, unless another one does; tells which.
+    pub(crate) fn begin_to_help(&self) -> bool {
+        !self.has_helper.load(Ordering::SeqCst) && !self.has_helper.swap(true, Ordering::SeqCst)
+    }
+
+    /// The worker takes no more.
+    pub(crate) fn end_help(&self) {
+        self.has_helper.store(false, Ordering::SeqCst);
+    }
+
+    /// Whether a worker takes turns of nodes.
+    pub(crate) fn has_helper(&self) -> bool {
+        self.has_helper.load(Ordering::SeqCst)
+    }
+
+    /// A node's watch for its own thread, which waits for it.
+    pub(crate) fn watch<R: Wait>(&self, rt: &R, node: u8) -> Option<MutexGuard<'_, Watch>> {
+        let post = self.post(node)?;
+        Some(post.watch.lock(rt))
+    }
+
+    /// A node's watch for another thread, where the node has begun and no thread is at its turn.
+    pub(crate) fn free_watch(&self, node: u8) -> Option<MutexGuard<'_, Watch>> {
+        let watch = self.post(node)?.watch.try_lock()?;
+        if watch.has_begun() { Some(watch) } else { None }
+    }
+
+    /// Whether a worker's bell has rung since it waited, or asked this.
+    pub(crate) fn was_rung(&self, worker: u32) -> bool {
+        match self.seat(worker) {
+            Some(seat) => seat.bell.take(),
+            None => false,
+        }
+    }
+
     /// A node waits until there is something for it.
     pub(crate) fn wait_as_node<R: Wait>(&self, rt: &R, node: u8, patience: &mut Patience) {
-        match self.bell(node) {
-            Some(bell) => bell.wait(rt, patience),
+        match self.post(node) {
+            Some(post) => post.bell.wait(rt, patience, self.most_looks()),
             None => yield_now(),
         }
     }
@@ -56,15 +115,15 @@ impl Places {
     /// A worker does.
     pub(crate) fn wait_as_worker<R: Wait>(&self, rt: &R, worker: u32, patience: &mut Patience) {
         match self.seat(worker) {
-            Some(seat) => seat.bell.wait(rt, patience),
+            Some(seat) => seat.bell.wait(rt, patience, self.most_looks()),
             None => yield_now(),
         }
     }
 
     /// There is something for a node.
     pub(crate) fn ring_node(&self, node: u8) {
-        if let Some(bell) = self.bell(node) {
-            bell.ring();
+        if let Some(post) = self.post(node) {
+            post.bell.ring();
         }
     }
 
@@ -77,7 +136,7 @@ impl Places {
 
     /// There is something for everybody: a second has passed, or all is over.
     pub(crate) fn ring_all(&self) {
-        self.nodes.iter().for_each(|bell| bell.ring());
+        self.nodes.iter().for_each(|post| post.bell.ring());
         self.workers.iter().for_each(|seat| seat.bell.ring());
     }
 
@@ -107,8 +166,17 @@ impl Places {
         self.is_over.load(Ordering::SeqCst)
     }
 
-    // Where a node waits. Numbers count from 1.
-    fn bell(&self, node: u8) -> Option<&Bell> {
+    // How often a thread looks before it sleeps, at most.
+    fn most_looks(&self) -> u32 {
+        if self.can_help() {
+            FEW_LOOKS
+        } else {
+            MANY_LOOKS
+        }
+    }
+
+    // A node's place. Numbers count from 1.
+    fn post(&self, node: u8) -> Option<&Post> {
         self.nodes.get(usize::from(node).checked_sub(1)?)
     }
 
@@ -118,13 +186,16 @@ impl Places {
     }
 }
 
-// So many bells.
-fn bells(alloc: Global, count: u8) -> Result<Vec<Bell>, AllocError> {
-    let mut bells = Vec::with_capacity(alloc, usize::from(count))?;
-    for _ in 0..count {
-        bells.push(Bell::new())?;
+// Posts for the nodes 1, 2, .., which read their mail before they propose, or don't.
+fn posts(alloc: Global, count: u8, reads_first: bool) -> Result<Vec<Post>, AllocError> {
+    let mut posts = Vec::with_capacity(alloc, usize::from(count))?;
+    for before in 0..count {
+        posts.push(Post {
+            bell: Bell::new(),
+            watch: Mutex::new(Watch::new(before + 1, reads_first)),
+        })?;
     }
-    Ok(bells)
+    Ok(posts)
 }
 
 // So many seats.

@@ -1,11 +1,12 @@
 ghost use Rattle.std.specs.Prelude.{◌≡◌, ◌+◌, ◌<◌, [], ℕ, true, false, Some, IfOk, OnOk, OnErr, length, sum};
 ghost use Rattle.hall.specs.Tickets.{new_ticket, with_act, with_noted};
 
+mod helping;
+
 use crate::bell::Patience;
 use crate::counted_hall::CountedHall;
-use crate::news::News;
+use crate::gate::Gate;
 use crate::places::Places;
-use crate::turn::{Watch, has_more};
 use hall::{Hall, HallError, Ticket};
 use object::{Act, Object};
 use std::alloc::{AllocError, Global};
@@ -26,8 +27,10 @@ pub struct Shared<O: Object, S: Ledger, C: Ledger> {
 /// Where and when a worker handed in its client's last command.
 #[derive(Clone, Copy)]
 pub(crate) struct HandedIn {
-    pub(crate) node: u8,
-    pub(crate) second: u64,
+    node: u8,
+    second: u64,
+    /// A node that has something to do since.
+    work: Option<u8>,
 }
 
 impl<O: Object, S: Ledger, C: Ledger> Shared<O, S, C> {
@@ -92,7 +95,7 @@ impl<O: Object, S: Ledger, C: Ledger> Shared<O, S, C> {
         Ok(ticket)
     }
 
-    /// Hands in the next command of a session at a node, and tells the node. Answers where and when that was.
+    /// Hands in the next command of a session at a node. Answers where and when that was.
     pub(crate) fn submit<R: Wait>(
         &self,
         rt: &R,
@@ -110,17 +113,20 @@ impl<O: Object, S: Ledger, C: Ledger> Shared<O, S, C> {
     {
         let mut guard = self.lock(rt);
         guard.submit(mine, ticket, act, node)?;
-        let second = guard.hall().last_second();
-        drop(guard);
-        self.places.ring_node(node);
-        Ok(HandedIn { node, second })
+        let hall = guard.hall();
+        Ok(HandedIn {
+            node,
+            second: hall.last_second(),
+            work: self.first_work(hall, node),
+        })
     }
 
     /// Waits for the answer to a session's last command, and notes it in the ticket. At each second without one the
     /// command is handed in again, at the next node.
-    pub(crate) fn note_answer<R: Wait>(
+    pub(crate) fn note_answer<R: Wait, G: Gate>(
         &self,
         rt: &R,
+        gate: &G,
         ticket: &mut Ticket<O>,
         worker: u32,
         handed_in: HandedIn,
@@ -132,26 +138,15 @@ impl<O: Object, S: Ledger, C: Ledger> Shared<O, S, C> {
     {
         let mut handed_in = handed_in;
         for _ in rt.forever() {
-            self.places.wait_as_worker(rt, worker, patience);
+            if !self.help(rt, gate, worker, handed_in.work) {
+                self.places.wait_as_worker(rt, worker, patience);
+            }
             if self.look_for_answer(rt, ticket, &mut handed_in)? {
+                self.tidy(rt, gate, worker);
                 return Ok(());
             }
         }
         unreachable!()
-    }
-
-    /// One turn of a node: who got something by it is told when the lock is free. Answers whether there is something for
-    /// the node at once; where it was refused memory, it tries again when it is rung.
-    pub(crate) fn take_turn<R: Wait>(&self, rt: &R, watch: &mut Watch) -> bool {
-        let node = watch.node();
-        let mut guard = self.lock(rt);
-        let answers = guard.hall().answer_count();
-        let went = guard.take_turn(watch).is_ok();
-        let news = News::since(guard.hall(), node, answers, &self.places);
-        let has_more = went && has_more(guard.hall(), node);
-        drop(guard);
-        news.tell(&self.places);
-        has_more
     }
 
     /// Hands in a second of the clock, at one node after the other, and tells everybody that it has passed.
@@ -197,15 +192,46 @@ impl<O: Object, S: Ledger, C: Ledger> Shared<O, S, C> {
         if guard.hall().note(ticket)? {
             return Ok(true);
         }
+        handed_in.work = self.work_for_helper(guard.hall());
         let second = guard.hall().last_second();
         if second > handed_in.second {
             let node = self.places.next_node(handed_in.node);
             let _ = guard.resubmit(ticket, node);
-            drop(guard);
-            self.places.ring_node(node);
-            *handed_in = HandedIn { node, second };
+            *handed_in = HandedIn {
+                node,
+                second,
+                work: Some(node),
+            };
         }
         Ok(false)
+    }
+
+    // The node that is to have a turn first after a command was handed in at this one.
+    fn first_work(&self, hall: &Hall<O>, node: u8) -> Option<u8> {
+        if self.places.can_help() {
+            self.work_in(hall)
+        } else {
+            Some(node)
+        }
+    }
+
+    // A node that has something to do, where workers take turns.
+    fn work_for_helper(&self, hall: &Hall<O>) -> Option<u8> {
+        if self.places.can_help() {
+            self.work_in(hall)
+        } else {
+            None
+        }
+    }
+
+    // A node that has something to do. Mail comes before requests.
+    fn work_in(&self, hall: &Hall<O>) -> Option<u8> {
+        let count = hall.members().count();
+        let with_mail = (1..=count).find(|node| hall.has_mail(*node));
+        if with_mail.is_some() {
+            return with_mail;
+        }
+        (1..=count).find(|node| hall.can_propose(*node))
     }
 
     // Takes the lock. It looks for a while before it sleeps, and lets others go on meanwhile.

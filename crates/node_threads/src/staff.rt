@@ -1,5 +1,5 @@
-ghost use Rattle.std.specs.Prelude.{◌≡◌, ◌≢◌, ◌+◌, ◌≤◌, ◌<◌, ◌-◌, ◌^◌, Some, Err, OnErr, vec_len, vec_capacity};
-ghost use Rattle.node_threads.specs.declared.cluster_error.ClusterError.TheVariants.{BadNumber, ThreadFailed};
+ghost use Rattle.std.specs.Prelude.{◌≡◌, ◌≢◌, ◌+◌, ◌≤◌, ◌<◌, ◌-◌, ◌^◌, Some, Err, IfSome, OnErr, vec_len, vec_capacity};
+ghost use Rattle.node_threads.specs.declared.cluster_error.ClusterError.TheVariants.{BadNumber, ListenFailed, OutOfMemory, ThreadFailed};
 
 use crate::accept::Accept;
 use crate::attending::Desk;
@@ -84,7 +84,7 @@ pub(crate) struct Door<A: Accept> {
 impl<A: Accept + Drop> Door<A> {
     // Hands in clients until no more are accepted. One for whom there is no memory ends unanswered.
     fn let_in<R: Wait>(mut self, rt: &R) -> Option<ClusterError>
-        ensures { result ≢ Some BadNumber }
+        ensures { IfSome result (λ fault. fault ≡ ListenFailed) }
     {
         for _ in rt.forever() {
             match self.accept.next() {
@@ -124,6 +124,7 @@ pub(crate) fn run_threads<
     ensures session_parts { result.0.sessions.parts ≡ tally.sessions.parts }
     ensures command_parts { result.0.commands.parts ≡ tally.commands.parts }
     ensures fault { result.1 ≢ Some BadNumber }
+    ensures memory { result.1 ≢ Some OutOfMemory }
 {
     thread::scope(
         thread::scope_env(),
@@ -136,6 +137,7 @@ pub(crate) fn run_threads<
             ensures session_parts { result.0.sessions.parts ≡ tally.sessions.parts }
             ensures command_parts { result.0.commands.parts ≡ tally.commands.parts }
             ensures fault { result.1 ≢ Some BadNumber }
+            ensures memory { result.1 ≢ Some OutOfMemory }
         {
             let ended = match start_nodes_and_clock(scope, common, nodes, seconds) {
                 Ok(()) => run_workers(scope, common, common.first_desk(), workers, tally, door),
@@ -214,6 +216,7 @@ fn run_workers<
     ensures room { vec_capacity result.0.tickets ≡ vec_capacity tally.tickets }
     ensures count { vec_len result.0.tickets + desk.worker ≤ vec_len tally.tickets + workers + 1 }
     ensures fault { result.1 ≢ Some BadNumber }
+    ensures memory { result.1 ≢ Some OutOfMemory }
 {
     if desk.worker > workers {
         let fault = door.let_in(common.rt);

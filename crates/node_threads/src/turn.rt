@@ -14,6 +14,8 @@ const FIRST_NODE: u8 = 1;
 #[derive(Drop)]
 pub(crate) struct Watch {
     node: u8,
+    /// Whether it reads its mail before it proposes.
+    reads_first: bool,
     has_begun: bool,
     /// The last second that it has seen.
     second: u64,
@@ -24,9 +26,10 @@ pub(crate) struct Watch {
 
 impl Watch {
     /// A node that has had no turn.
-    pub(crate) fn new(node: u8) -> Watch {
+    pub(crate) fn new(node: u8, reads_first: bool) -> Watch {
         Watch {
             node,
+            reads_first,
             has_begun: false,
             second: 0,
             undecided: None,
@@ -39,16 +42,34 @@ impl Watch {
         self.node
     }
 
-    /// One turn of the node: it proposes a request, receives what is in its mail, up to 64 letters, and performs what was
-    /// decided. At the start the first node wakes, and after a second each node says again what it waits for.
+    /// Whether it has had a turn.
+    pub(crate) fn has_begun(&self) -> bool {
+        self.has_begun
+    }
+
+    /// One turn of the node: it proposes a request, unless it is to read its mail first; receives what is in its mail, up to
+    /// 64 letters; and performs what was decided. At the start the first node wakes, and after a second each node says again
+    /// what it waits for.
     pub(crate) fn take_turn<O: Object>(&mut self, hall: &mut Hall<O>) -> Result<(), HallError>
         ensures book { hall.new.book ≡ hall.old.book }
     {
         self.begin(hall)?;
         self.pass_second(hall)?;
-        hall.propose(self.node)?;
+        self.propose(hall)?;
         receive(hall, self.node)?;
         perform(hall, self.node)
+    }
+
+    // It proposes a request, unless it is to read its mail first: this may tell it that another node's command takes the
+    // slot.
+    fn propose<O: Object>(&self, hall: &mut Hall<O>) -> Result<(), HallError>
+        ensures book { hall.new.book ≡ hall.old.book }
+    {
+        let waits = self.reads_first && hall.has_mail(self.node);
+        if !waits && hall.can_propose(self.node) {
+            hall.propose(self.node)?;
+        }
+        Ok(())
     }
 
     // The first node wakes in its first turn.
@@ -94,19 +115,15 @@ impl Watch {
     }
 }
 
-/// Whether there is something for the node at once.
-pub(crate) fn has_more<O: Object>(hall: &Hall<O>, node: u8) -> bool {
-    hall.has_mail(node) || hall.can_propose(node)
-}
-
 // The node receives what is in its mail.
 fn receive<O: Object>(hall: &mut Hall<O>, node: u8) -> Result<(), HallError>
     ensures book { hall.new.book ≡ hall.old.book }
 {
     for _ in 0..MOST_LETTERS {
-        if !hall.deliver(node)? {
+        if !hall.has_mail(node) {
             break;
         }
+        hall.deliver(node)?;
     }
     Ok(())
 }
@@ -116,9 +133,10 @@ fn perform<O: Object>(hall: &mut Hall<O>, node: u8) -> Result<(), HallError>
     ensures book { hall.new.book ≡ hall.old.book }
 {
     for _ in 0..u64::MAX {
-        if !hall.perform(node)? {
+        if !hall.can_perform(node) {
             break;
         }
+        hall.perform(node)?;
     }
     Ok(())
 }

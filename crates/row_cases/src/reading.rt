@@ -1,7 +1,8 @@
-//! Texts of dumps, as they are read. A step adds to the text, or reads it.
+//! Texts of dumps, as they are read and inspected. A step adds to the text, or tells what comes of it.
 use crate::quoted::bytes_of;
 use crate::script::{Stage, tell_line};
 use anyhow::{Context, Result, bail};
+use beanpax::inspect_text;
 use chronicle::{ReadFault, read_text};
 use std::alloc::Global;
 
@@ -45,6 +46,23 @@ impl Text {
         Ok(tell_line("  ", reading.as_str(), told)?)
     }
 
+    // Tells what is found of the text.
+    fn tell_verdict(&self, alloc: Global, told: &mut String) -> Result<()> {
+        let line = verdict_of(alloc, self.bytes.as_slice())?;
+        Ok(write!(told, "  {line}")?)
+    }
+
+    // Tells what is found of the text where each of its lines is changed in this way.
+    fn tell_changes(&self, alloc: Global, change: Change, told: &mut String) -> Result<()> {
+        let count = lines_in(self.bytes.as_slice());
+        for place in 0..count {
+            let text = changed(alloc, self.bytes.as_slice(), place, change)?;
+            let line = verdict_of(alloc, text.as_slice())?;
+            write!(told, "  {}: {line}", place.saturating_add(1))?;
+        }
+        Ok(())
+    }
+
     // Tells for which beginnings of the text the bad line isn't the one after the last whole line.
     fn tell_cuts(&self, alloc: Global, told: &mut String) -> Result<()> {
         let text = self.bytes.as_slice();
@@ -61,8 +79,52 @@ impl Text {
 
 // The line after the last whole line is bad.
 fn wanted_of_cut(alloc: Global, text: &[u8]) -> Result<String> {
-    let lines = text.iter().filter(|byte| **byte == b'\n').count();
-    Ok(format!(in alloc; "line {}: bad line", lines.saturating_add(1))?)
+    Ok(format!(in alloc; "line {}: bad line", lines_in(text).saturating_add(1))?)
+}
+
+// How many whole lines there are.
+fn lines_in(text: &[u8]) -> usize {
+    text.iter().filter(|byte| **byte == b'\n').count()
+}
+
+// What is found of the text, as a line.
+fn verdict_of(alloc: Global, text: &[u8]) -> Result<String> {
+    let verdict = inspect_text(alloc, text)?;
+    Ok(verdict.line(alloc)?)
+}
+
+/// What is done to one line of a text.
+#[derive(Clone, Copy)]
+enum Change {
+    LeaveOut,
+    Double,
+    SwapWithNext,
+}
+
+// The text, whose line at this place is changed.
+fn changed(alloc: Global, text: &[u8], place: usize, change: Change) -> Result<Vec<u8>> {
+    let mut lines = lines_of(alloc, text)?;
+    match change {
+        Change::LeaveOut => {
+            lines.remove(place);
+        }
+        Change::Double => lines.insert(place, lines[place])?,
+        Change::SwapWithNext => {
+            if place + 1 < lines.len() {
+                lines.swap(place, place + 1);
+            }
+        }
+    }
+    Ok(lines.as_slice().concat(alloc)?)
+}
+
+// The lines of the text, each with its line feed.
+fn lines_of(alloc: Global, text: &[u8]) -> Result<Vec<&[u8]>> {
+    let mut lines = Vec::new(alloc);
+    for line in text.split_inclusive(|byte| *byte == b'\n') {
+        lines.push(line)?;
+    }
+    Ok(lines)
 }
 
 // What comes of reading the text. What was read is written again as it was.
@@ -84,6 +146,10 @@ impl Stage for Text {
         match step {
             "read" => self.tell_reading(alloc, told),
             "cut" => self.tell_cuts(alloc, told),
+            "inspect" => self.tell_verdict(alloc, told),
+            "leave out" => self.tell_changes(alloc, Change::LeaveOut, told),
+            "double" => self.tell_changes(alloc, Change::Double, told),
+            "swap" => self.tell_changes(alloc, Change::SwapWithNext, told),
             _ => self.add(alloc, step),
         }
     }

@@ -7,6 +7,8 @@ mod client;
 #[cfg(test)]
 mod cycle_rows;
 #[cfg(test)]
+mod dump_rows;
+#[cfg(test)]
 mod session_rows;
 #[cfg(test)]
 mod started;

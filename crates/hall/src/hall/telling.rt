@@ -1,5 +1,7 @@
 ghost use Rattle.std.specs.Prelude.{◌≡◌, None, is_some, IsOk, IfOk, OnOk, OnErr};
 ghost use Rattle.std.specs.Option.{option_copied};
+ghost use Rattle.object.specs.Happenings.{SubmittedOnce};
+ghost use Rattle.hall.specs.Books.{IsBooked};
 ghost use Rattle.hall.specs.Explained.{IsExplained};
 ghost use Rattle.hall.specs.Halls.{reply_to, to_note, chronicle_of};
 ghost use Rattle.hall.specs.Tickets.{last_key, with_noted};
@@ -40,10 +42,13 @@ impl<O: Object> Hall<O> {
     }
 
     /// What happened, as a chronicle: what was submitted and answered so far, and the order of what took effect. That
-    /// order explains it.
+    /// order explains it, no key was submitted twice, and the book counts what each session submitted.
     pub fn dump(&self) -> Result<Chronicle<O::Op, O::Reply>, AllocError>
         ensures dump { IfOk result (λ c. c ≡ chronicle_of self.now) }
         ensures legal { IsExplained O.rules O.promise self.now.nodes.past }
+        ensures once { SubmittedOnce self.now.nodes.past.happenings.submitted }
+        ensures booked { IsBooked self.now.book self.now.nodes.past.happenings.submitted
+            self.now.nodes.taken }
     {
         every_hall::<O>();
         let (submitted, answers, order) = self.nodes.recorder.copies()?;

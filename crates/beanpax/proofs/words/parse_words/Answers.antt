@@ -1,4 +1,4 @@
-use Rattle.std.proofs.Common.{◌≡◌, ◌∙◌, ◌^◌, ◌-◌, true, false, [], codes, map, string_bytes, refl, sym, ap, subst}
+use Rattle.std.proofs.Common.{◌≡◌, ◌∙◌, ◌^◌, ◌-◌, true, false, [], codes, map, string_bytes, unwrap_or, refl, sym, ap, subst}
 use Rattle.clap.specs.Words.{App, IsAmong, found_of, has_subcommand}
 use Rattle.clap.specs.declared.error.kind.ErrorKind.TheVariants.{DisplayHelp}
 use Rattle.clap.proofs.CallerLemmas.{subcommand_required}
@@ -31,6 +31,17 @@ returns-in-Some-subcommand_matches c =
       server_same _ _ _ _ (text_given-of words c.in-Ok.matches found met rows) (word_given-of words c.in-Ok.matches found met rows) c.server_of.result c.server_of.ensures,
     )
 
+pub returns-in-Some-subcommand_matches-2 : goal.returns-in-Some-subcommand_matches-2
+returns-in-Some-subcommand_matches-2 c =
+    let is_program = c.in_ok-program_words.ensures.app in
+    let words = map string_bytes c.args.words.now in
+    let met = met_by _ words c.in-Ok.matches is_program c.in-Ok.ensures.matches in
+    let found = found_of c.in-Some-subcommand_matches-2.inspect.now in
+    let rows = c.in-Some-subcommand_matches-2.ensures.rows in (
+      (holds_of_errors (λ kinds. kinds ≡ []) _ _ is_program c.in-Ok.ensures.kinds, command_given-of words c.in-Ok.matches (codes "inspect") met (c.in-Some-subcommand_matches-2.ensures.found.0 refl)),
+      c.file_of.ensures ∙ ap (λ w. unwrap_or w []) (word_given-of words c.in-Ok.matches found met rows (codes "file")),
+    )
+
 never : false ≡ true → ⊥
 never e = absurd (cc)
 
@@ -42,7 +53,7 @@ unreachable-requires c =
     let is_required = ap (λ (a : App). a.top.subcommand_required) is_program in
     let met : has_subcommand c.in-Ok.matches ≡ true = subcommand_required _ _ c.in-Ok.ensures.parsed c.in_ok-program_words.ensures.no_globals is_required in
     meets_one words c.in-Ok.matches (holds_of_errors (λ kinds. kinds ≡ []) _ _ is_program c.in-Ok.ensures.kinds) (met_by _ words c.in-Ok.matches is_program c.in-Ok.ensures.matches) met
-    (λ e. never (c.in_default.ensures.found.1 e)) (λ e. never (c.in-None.ensures.found.1 e))
+    (λ e. never (c.in_default.ensures.found.1 e)) (λ e. never (c.in_default-subcommand_matches.ensures.found.1 e)) (λ e. never (c.in-None.ensures.found.1 e))
 
 pub returns-in-DisplayHelp : goal.returns-in-DisplayHelp
 returns-in-DisplayHelp c =

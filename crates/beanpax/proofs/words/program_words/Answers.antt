@@ -16,9 +16,11 @@ returns-clause-app c =
     let named_is : app_of c.subcommand_required.result ≡ named = search rules in
     let run_is = c.in_ok-subcommand.ensures.shape c.in_ok-run_words.ensures.no_globals
     ∙ ap₂ with_subcommand named_is (ap (λ (a : App). a.top) c.in_ok-run_words.ensures.app) in
-    IfOk-weaker c.subcommand-2.result _ _
-    (λ r adds. adds.shape c.in_ok-serve_words.ensures.no_globals ∙ ap₂ with_subcommand run_is (ap (λ (a : App). a.top) c.in_ok-serve_words.ensures.app))
-    c.subcommand-2.ensures
+    let serve_is = c.in_ok-subcommand-2.ensures.shape c.in_ok-serve_words.ensures.no_globals
+    ∙ ap₂ with_subcommand run_is (ap (λ (a : App). a.top) c.in_ok-serve_words.ensures.app) in
+    IfOk-weaker c.subcommand-3.result _ _
+    (λ r adds. adds.shape c.in_ok-inspect_words.ensures.no_globals ∙ ap₂ with_subcommand serve_is (ap (λ (a : App). a.top) c.in_ok-inspect_words.ensures.app))
+    c.subcommand-3.ensures
 
 none_global : (a b : Bool) → a ≡ false → b ≡ false → (a || b) ≡ false
 none_global a b p q = ap₂ (λ x y. x || y) p q
@@ -27,6 +29,7 @@ pub returns-clause-no_globals : goal.returns-clause-no_globals
 returns-clause-no_globals c =
     let named_local : (out-Command c.subcommand_required.result).has_globals ≡ false = search rules in
     let run_local = c.in_ok-subcommand.ensures.globals ∙ none_global _ _ named_local c.in_ok-run_words.ensures.no_globals in
-    IfOk-weaker c.subcommand-2.result _ _
-    (λ r adds. adds.globals ∙ none_global _ _ run_local c.in_ok-serve_words.ensures.no_globals)
-    c.subcommand-2.ensures
+    let serve_local = c.in_ok-subcommand-2.ensures.globals ∙ none_global _ _ run_local c.in_ok-serve_words.ensures.no_globals in
+    IfOk-weaker c.subcommand-3.result _ _
+    (λ r adds. adds.globals ∙ none_global _ _ serve_local c.in_ok-inspect_words.ensures.no_globals)
+    c.subcommand-3.ensures

@@ -1,7 +1,12 @@
-use Rattle.std.proofs.Common.{ap}
+use Rattle.std.proofs.Common.{ap, rules}
 use Rattle.node_threads.specs.Clusters.{all_tickets}
 use Rattle.node_threads.proofs.Judging.{none_opened}
 use Rattle.node_threads.proofs.cluster.run_cluster.Goals as goal
 
-pub returns-in_default-clause-agree : goal.returns-in_default-clause-agree
-returns-in_default-clause-agree g c = λ other. none_opened c.args.hall (all_tickets c.new-in_default.result.items) c.requires.none (ap (λ l. all_tickets l) c.new-in_default.ensures.items)
+pub returns-in_default-clause-accounted : goal.returns-in_default-clause-accounted
+returns-in_default-clause-accounted g c = record {
+  opened = search rules;
+  handed_in = search rules;
+  agree = λ other. none_opened c.args.hall (all_tickets c.new-in_default.result.items) c.requires.none (ap (λ l. all_tickets l) c.new-in_default.ensures.items);
+  disagree = search rules;
+}

@@ -1,0 +1,80 @@
+ghost use Rattle.std.specs.Prelude.{◌≡◌, string_bytes, IfOk};
+ghost use Rattle.beanpax.specs.Verdicts.{is_legal, legal_line, name_of, verdict_line, wrong_line};
+
+use chronicle::What;
+use std::alloc::{AllocError, Global};
+
+/// What is found of a dump. Lines are counted from 1.
+#[derive(Clone, Copy, Debug, PartialEq, Eq)]
+pub enum Verdict {
+    /// Nothing is wrong; and so many commands were submitted, answered, and took effect.
+    Legal {
+        submitted: usize,
+        answered: usize,
+        ordered: usize,
+    },
+    /// This is the first line that no dump has there.
+    BadLine(u64),
+    /// This is wrong with the line.
+    At(u64, What),
+}
+
+impl Verdict {
+    /// Whether nothing is wrong.
+    pub fn is_legal(&self) -> bool
+        ensures { result ≡ is_legal self.now }
+    {
+        match self {
+            Verdict::Legal { .. } => true,
+            Verdict::BadLine(_) => false,
+            Verdict::At(..) => false,
+        }
+    }
+
+    /// The line by which it is told.
+    pub fn line(&self, alloc: Global) -> Result<String, AllocError>
+        ensures { IfOk result (λ line. string_bytes line ≡ verdict_line self.now) }
+    {
+        match *self {
+            Verdict::Legal {
+                submitted,
+                answered,
+                ordered,
+            } => legal_line(alloc, submitted, answered, ordered),
+            Verdict::BadLine(line) => wrong_line(alloc, line, "bad line"),
+            Verdict::At(line, what) => wrong_line(alloc, line, name_of(what)),
+        }
+    }
+}
+
+// The line where nothing is wrong.
+fn legal_line(
+    alloc: Global,
+    submitted: usize,
+    answered: usize,
+    ordered: usize,
+) -> Result<String, AllocError>
+    ensures { IfOk result (λ line. string_bytes line ≡ legal_line submitted answered ordered) }
+{
+    format!(in alloc; "legal: {submitted} submitted, {answered} answered, {ordered} ordered\n")
+}
+
+// The line where this is wrong with a line of the dump.
+fn wrong_line(alloc: Global, line: u64, name: &str) -> Result<String, AllocError>
+    ensures { IfOk result (λ told. string_bytes told ≡ wrong_line line name.now) }
+{
+    format!(in alloc; "line {line}: {name}\n")
+}
+
+// What is wrong with a line is called so.
+fn name_of(what: What) -> &'static str
+    ensures { result.now ≡ name_of what }
+{
+    match what {
+        What::NotSubmitted => "not submitted",
+        What::NotKept => "not kept",
+        What::SubmittedTwice => "submitted twice",
+        What::PlacedTooEarly => "placed too early",
+        What::NotTheQueuesAnswer => "not the queue's answer",
+    }
+}

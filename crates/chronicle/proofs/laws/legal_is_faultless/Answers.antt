@@ -1,0 +1,5 @@
+use Rattle.chronicle.proofs.Faultless.{legal_is_faultless}
+use Rattle.chronicle.proofs.laws.legal_is_faultless.Goals as goal
+
+pub returns : goal.returns
+returns c = legal_is_faultless
