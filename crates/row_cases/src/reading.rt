@@ -103,28 +103,32 @@ enum Change {
 
 // The text, whose line at this place is changed.
 fn changed(alloc: Global, text: &[u8], place: usize, change: Change) -> Result<Vec<u8>> {
-    let mut lines = lines_of(alloc, text)?;
-    match change {
-        Change::LeaveOut => {
-            lines.remove(place);
-        }
-        Change::Double => lines.insert(place, lines[place])?,
-        Change::SwapWithNext => {
-            if place + 1 < lines.len() {
-                lines.swap(place, place + 1);
-            }
+    let mut changed = Vec::new(alloc);
+    let mut held: &[u8] = &[];
+    for (index, line) in text.split_inclusive(|byte| *byte == b'\n').enumerate() {
+        if index == place {
+            held = put_changed(&mut changed, line, change)?;
+        } else {
+            changed.extend_from_slice(line)?;
+            changed.extend_from_slice(held)?;
+            held = &[];
         }
     }
-    Ok(lines.as_slice().concat(alloc)?)
+    changed.extend_from_slice(held)?;
+    Ok(changed)
 }
 
-// The lines of the text, each with its line feed.
-fn lines_of(alloc: Global, text: &[u8]) -> Result<Vec<&[u8]>> {
-    let mut lines = Vec::new(alloc);
-    for line in text.split_inclusive(|byte| *byte == b'\n') {
-        lines.push(line)?;
+// Puts the line as it is changed, and gives what is to stand behind the next.
+fn put_changed<'a>(text: &mut Vec<u8>, line: &'a [u8], change: Change) -> Result<&'a [u8]> {
+    match change {
+        Change::LeaveOut => Ok(&[]),
+        Change::Double => {
+            text.extend_from_slice(line)?;
+            text.extend_from_slice(line)?;
+            Ok(&[])
+        }
+        Change::SwapWithNext => Ok(line),
     }
-    Ok(lines)
 }
 
 // What comes of reading the text. What was read is written again as it was.
