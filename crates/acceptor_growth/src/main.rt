@@ -1,0 +1,51 @@
+//! One acceptor that accepts in slot after slot, and says when it comes by some of them.
+//!
+//! `bench/acceptor_growth` reads the time at each line.
+#![tactic(auto)]
+
+use acceptor::Acceptor;
+use ballot::{Ballot, Pvalue, Slot};
+use object::{Act, Command, Key, RegisterOp};
+use std::alloc::Global;
+use std::io::{self, Write};
+use std::process::ExitCode;
+
+const SLOTS: u64 = 1_010_000;
+
+/// After these many slots a line is written.
+const MARKS: [u64; 4] = [1_000, 11_000, 1_000_000, SLOTS];
+
+fn main(rt: HostRuntime) -> ExitCode {
+    match accept_all(rt.alloc(), &mut rt.stdout()) {
+        Some(()) => ExitCode::SUCCESS,
+        None => ExitCode::FAILURE,
+    }
+}
+
+fn accept_all<W: Write>(alloc: Global, out: &mut W) -> Option<()> {
+    let ballot = Ballot::new(0, 1, 0)?;
+    let mut acceptor = Acceptor::new(alloc);
+    acceptor.on_p1a(ballot).ok()?;
+    for number in 1..SLOTS + 1 {
+        accept(&mut acceptor, ballot, number)?;
+        if MARKS.contains(&number) {
+            writeln!(out, "{number}").ok()?;
+        }
+    }
+    Some(())
+}
+
+// A command is accepted in the slot of its number.
+fn accept(acceptor: &mut Acceptor<Command<RegisterOp>>, ballot: Ballot, number: u64) -> Option<()> {
+    let key = Key { session: 1, number };
+    let value = Command::new(key, Act::Do(RegisterOp::Write(number)))?;
+    let slot = Slot::new(number)?;
+    let promised = acceptor
+        .on_p2a(Pvalue {
+            ballot,
+            slot,
+            value,
+        })
+        .ok()??;
+    if promised == ballot { Some(()) } else { None }
+}
