@@ -11,5 +11,5 @@ mod watch_list;
 pub use names::Names;
 pub use session::{Session, Wait};
 pub use session_draft::SessionDraft;
-pub use waiting::{first, first_late, first_watcher};
+pub use waiting::first;
 pub use watch_list::WatchList;

@@ -1,11 +1,13 @@
-ghost use Rattle.std.specs.Prelude.{◌≡◌, ◌^◌, [], None, IsSome, IfOk, OnOk, OnErr, length};
+ghost use Rattle.std.specs.Prelude.{◌≡◌, ◌^◌, [], None, IsSome, IfOk, OnOk, OnErr, length, option_map};
 ghost use Rattle.job_store.specs.Entries.{Rising, value_at, with_value, altered, without};
-ghost use Rattle.session_store.specs.Sessions.{new_session, session_of, with_wait};
+ghost use Rattle.job_store.specs.LookUps.{is_among};
+ghost use Rattle.session_store.specs.Sessions.{new_session, session_of, with_wait, first_waiting, has_timed_out};
 ghost use Rattle.session_store.specs.WatchLists.{joined, left_out};
 ghost use Rattle.session_store.specs.Drafts.{session_step_back};
 
 use crate::session::{Session, Wait};
 use crate::session_change::{ignore, set_used, set_wait, watch};
+use crate::waiting::{first_late, first_watcher};
 use job_store::Name;
 use std::alloc::{AllocError, Global};
 use std::collections::BTreeMap;
@@ -73,6 +75,22 @@ impl SessionDraft {
         ensures rising { Rising 0 (2 ^ 32) self.now.now }
     {
         &self.sessions
+    }
+
+    /// The waiting session of the least rank that watches the tube.
+    pub fn first_watcher(&self, tube: &Name) -> Option<(u32, &Session)>
+        ensures { option_map (λ e. (e.0, e.1.now)) result
+            ≡ first_waiting (λ e. is_among tube.now e.1.watched) self.now.now }
+    {
+        first_watcher(&self.sessions, tube)
+    }
+
+    /// The waiting session of the least rank whose wait is over at this second.
+    pub fn first_late(&self, second: u64) -> Option<(u32, &Session)>
+        ensures { option_map (λ e. (e.0, e.1.now)) result
+            ≡ first_waiting (λ e. has_timed_out second e.1.wait) self.now.now }
+    {
+        first_late(&self.sessions, second)
     }
 
     /// Makes a session that is not there.

@@ -30,7 +30,7 @@ pub fn first<'a>(
 }
 
 /// The waiting session of the least rank that watches the tube.
-pub fn first_watcher<'a>(
+pub(crate) fn first_watcher<'a>(
     sessions: &'a BTreeMap<u32, Session>,
     tube: &Name,
 ) -> Option<(u32, &'a Session)>
@@ -47,7 +47,7 @@ pub fn first_watcher<'a>(
 }
 
 /// The waiting session of the least rank whose wait is over at this second.
-pub fn first_late(sessions: &BTreeMap<u32, Session>, second: u64) -> Option<(u32, &Session)>
+pub(crate) fn first_late(sessions: &BTreeMap<u32, Session>, second: u64) -> Option<(u32, &Session)>
     ensures { option_map (λ e. (e.0, e.1.now)) result
         ≡ first_waiting (λ e. has_timed_out second e.1.wait) sessions.now.entries }
 {
