@@ -1,2 +1,3 @@
 pub mod Bridges
+pub mod Standing
 pub mod SessionDrafts

@@ -1,6 +1,7 @@
 //! The sessions of a work queue: the tubes that they use and watch, who waits, and changes that can be taken back.
 #![tactic(auto)]
 
+mod lines;
 mod names;
 mod session;
 mod session_change;

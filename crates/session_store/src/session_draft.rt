@@ -2,12 +2,14 @@ ghost use Rattle.std.specs.Prelude.{◌≡◌, ◌^◌, [], None, IsSome, IfOk, 
 ghost use Rattle.job_store.specs.Entries.{Rising, value_at, with_value, altered, without};
 ghost use Rattle.job_store.specs.LookUps.{is_among};
 ghost use Rattle.session_store.specs.Sessions.{new_session, session_of, with_wait, first_waiting, has_timed_out};
+ghost use Rattle.session_store.specs.Lines.{AreComplete};
 ghost use Rattle.session_store.specs.WatchLists.{joined, left_out};
-ghost use Rattle.session_store.specs.Drafts.{session_step_back};
+ghost use Rattle.session_store.specs.Drafts.{session_step_back, sessions_before};
 
+use crate::lines::Lines;
 use crate::session::{Session, Wait};
 use crate::session_change::{ignore, set_used, set_wait, watch};
-use crate::waiting::{first_late, first_watcher};
+use crate::waiting::first_watcher;
 use job_store::Name;
 use std::alloc::{AllocError, Global};
 use std::collections::BTreeMap;
@@ -16,8 +18,12 @@ use std::marker::Model;
 /// How a change of the sessions is taken back.
 #[derive(Clone, Copy, Debug, PartialEq, Eq)]
 pub(crate) enum SessionStep {
-    /// The session waits as it did.
-    Waited { session: u32, wait: Option<Wait> },
+    /// The session waits as it did before, and no longer as it did after.
+    Waited {
+        session: u32,
+        before: Option<Wait>,
+        after: Option<Wait>,
+    },
     /// The session goes.
     Made(u32),
 }
@@ -27,20 +33,22 @@ pub(crate) enum SessionStep {
 pub struct SessionDraft {
     alloc: Global,
     sessions: BTreeMap<u32, Session>,
+    /// A session that waits, now or before the steps, has its places here. Others may have some until changes are
+    /// kept or taken back.
+    lines: Lines,
     steps: Vec<SessionStep>,
 }
 
 impl Model for SessionDraft {
-    ghost use Rattle.std.specs.Prelude.{ℕ, List, ◌^◌};
-    ghost use Rattle.job_store.specs.Entries.{Rising};
+    ghost use Rattle.std.specs.Prelude.{ℕ, List};
     ghost use Rattle.session_store.specs.declared.session.Session.{Session};
-    ghost use Rattle.session_store.specs.Drafts.{Draft, sessions_before};
+    ghost use Rattle.session_store.specs.Drafts.{Draft, sessions_before, AreInLines};
 
     ghost Value = { Draft (List (ℕ × Session)) };
 
     ghost view = { λ d. record { now = d.sessions.entries; before = sessions_before d.steps.items d.sessions.entries } };
 
-    ghost invariant = { λ d. Rising 0 (2 ^ 32) d.sessions.entries };
+    ghost invariant = { λ d. AreInLines d.lines d.steps.items d.sessions.entries };
 }
 
 /// Takes one step back.
@@ -49,10 +57,58 @@ fn take_step_back(sessions: &mut BTreeMap<u32, Session>, step: SessionStep)
     ensures { sessions.new.entries ≡ session_step_back step sessions.old.entries }
 {
     match step {
-        SessionStep::Waited { session, wait } => set_wait(sessions, session, wait),
+        SessionStep::Waited {
+            session,
+            before,
+            ..
+        } => set_wait(sessions, session, before),
         SessionStep::Made(session) => {
             sessions.remove(&session);
         }
+    }
+}
+
+/// Takes all these steps back, the last one first.
+fn take_steps_back(sessions: &mut BTreeMap<u32, Session>, steps: &[SessionStep])
+    requires { Rising 0 (2 ^ 32) sessions.old.entries }
+    ensures rising { Rising 0 (2 ^ 32) sessions.new.entries }
+    ensures sessions { sessions.new.entries ≡ sessions_before steps.now sessions.old.entries }
+{
+    let mut left = steps.len();
+    while left > 0 {
+        left -= 1;
+        take_step_back(sessions, steps[left]);
+    }
+}
+
+/// Takes out of the lines where sessions stood before and after these steps, except where they still stand.
+fn leave_lines(lines: &mut Lines, sessions: &BTreeMap<u32, Session>, steps: &[SessionStep])
+    requires { Rising 0 (2 ^ 32) sessions.now.entries }
+    ensures { AreComplete lines.old sessions.now.entries
+        → AreComplete lines.new sessions.now.entries }
+{
+    for step in steps {
+        if let SessionStep::Waited {
+            session,
+            before,
+            after,
+        } = *step
+        {
+            lines.leave(sessions, session, before);
+            lines.leave(sessions, session, after);
+        }
+    }
+}
+
+/// Takes out a session, and out of the lines where it stood.
+fn forget(lines: &mut Lines, sessions: &mut BTreeMap<u32, Session>, session: u32)
+    requires { Rising 0 (2 ^ 32) sessions.old.entries }
+    ensures sessions { sessions.new.entries ≡ without session sessions.old.entries }
+    ensures complete { AreComplete lines.old sessions.old.entries
+        → AreComplete lines.new sessions.new.entries }
+{
+    if let Some(gone) = sessions.remove(&session) {
+        lines.leave(sessions, session, gone.wait);
     }
 }
 
@@ -65,6 +121,7 @@ impl SessionDraft {
         SessionDraft {
             alloc,
             sessions: BTreeMap::new(alloc),
+            lines: Lines::new(alloc),
             steps: Vec::new(alloc),
         }
     }
@@ -90,7 +147,7 @@ impl SessionDraft {
         ensures { option_map (λ e. (e.0, e.1.now)) result
             ≡ first_waiting (λ e. has_timed_out second e.1.wait) self.now.now }
     {
-        first_late(&self.sessions, second)
+        self.lines.first_late(&self.sessions, second)
     }
 
     /// Makes a session that is not there.
@@ -116,11 +173,13 @@ impl SessionDraft {
         let Some(found) = self.sessions.get(&session) else {
             return Ok(());
         };
-        let wait_before = found.wait;
+        let before = found.wait;
         self.steps.push(SessionStep::Waited {
             session,
-            wait: wait_before,
+            before,
+            after: wait,
         })?;
+        self.lines.join(session, wait)?;
         set_wait(&mut self.sessions, session, wait);
         Ok(())
     }
@@ -130,6 +189,7 @@ impl SessionDraft {
         ensures now { self.new.now ≡ self.old.now }
         ensures before { self.new.before ≡ self.old.now }
     {
+        leave_lines(&mut self.lines, &self.sessions, self.steps.as_slice());
         self.steps.clear();
     }
 
@@ -139,6 +199,7 @@ impl SessionDraft {
         ensures before { self.new.before
             ≡ altered session (λ c. record c { used = name }) self.old.now }
     {
+        leave_lines(&mut self.lines, &self.sessions, self.steps.as_slice());
         self.steps.clear();
         set_used(&mut self.sessions, session, name);
     }
@@ -155,6 +216,7 @@ impl SessionDraft {
         ensures err { OnErr result (self.new ≡ self.old) }
     {
         let count = watch(&mut self.sessions, session, name)?;
+        leave_lines(&mut self.lines, &self.sessions, self.steps.as_slice());
         self.steps.clear();
         Ok(count)
     }
@@ -169,6 +231,7 @@ impl SessionDraft {
             (λ c. record c { watched = left_out name.now c.watched }) self.old.now }
         ensures before { self.new.before ≡ self.new.now }
     {
+        leave_lines(&mut self.lines, &self.sessions, self.steps.as_slice());
         self.steps.clear();
         ignore(&mut self.sessions, session, name)
     }
@@ -178,8 +241,9 @@ impl SessionDraft {
         ensures now { self.new.now ≡ without session self.old.now }
         ensures before { self.new.before ≡ without session self.old.now }
     {
+        leave_lines(&mut self.lines, &self.sessions, self.steps.as_slice());
         self.steps.clear();
-        self.sessions.remove(&session);
+        forget(&mut self.lines, &mut self.sessions, session);
     }
 
     /// Takes back all changes since they were kept last.
@@ -187,8 +251,8 @@ impl SessionDraft {
         ensures now { self.new.now ≡ self.old.before }
         ensures before { self.new.before ≡ self.old.before }
     {
-        while let Some(step) = self.steps.pop() {
-            take_step_back(&mut self.sessions, step);
-        }
+        take_steps_back(&mut self.sessions, self.steps.as_slice());
+        leave_lines(&mut self.lines, &self.sessions, self.steps.as_slice());
+        self.steps.clear();
     }
 }

@@ -1,6 +1,6 @@
 ghost use Rattle.std.specs.Prelude.{◌≡◌, Some, option_map};
 ghost use Rattle.job_store.specs.LookUps.{is_among};
-ghost use Rattle.session_store.specs.Sessions.{first_waiting, wait_rank, has_timed_out};
+ghost use Rattle.session_store.specs.Sessions.{first_waiting, wait_rank};
 ghost use Rattle.session_store.specs.Firsts.{first_of};
 
 use crate::session::Session;
@@ -40,20 +40,6 @@ pub(crate) fn first_watcher<'a>(
     let mut best = None;
     for (number, session) in sessions {
         if session.waits_for(tube) {
-            best = first(best, (*number, session));
-        }
-    }
-    best
-}
-
-/// The waiting session of the least rank whose wait is over at this second.
-pub(crate) fn first_late(sessions: &BTreeMap<u32, Session>, second: u64) -> Option<(u32, &Session)>
-    ensures { option_map (λ e. (e.0, e.1.now)) result
-        ≡ first_waiting (λ e. has_timed_out second e.1.wait) sessions.now.entries }
-{
-    let mut best = None;
-    for (number, session) in sessions {
-        if session.wait.is_some() && session.has_timed_out(second) {
             best = first(best, (*number, session));
         }
     }
