@@ -8,9 +8,9 @@ use Rattle.session_store.specs.declared.session.Wait.{Wait}
 use Rattle.session_store.specs.declared.session_draft.SessionStep.{SessionStep}
 use Rattle.session_store.specs.declared.lines.Lines.{Lines}
 use Rattle.session_store.specs.Sessions.{with_wait}
-use Rattle.session_store.specs.Lines.{AreComplete, HasGrown}
+use Rattle.session_store.specs.Lines.{StandsIn, EachStands, HasGrown}
 use Rattle.session_store.specs.Drafts.{session_step_back, sessions_before, AreInLines}
-use Rattle.session_store.proofs.Standing.{complete-grown}
+use Rattle.session_store.proofs.Standing.{each-grown}
 use Rattle.session_store.specs.EntryLaws.{altered-alike, altered-back, without-insert, Rising-altered, Rising-without, Rising-insert}
 
 sessions_before-push : (steps : List SessionStep) (step : SessionStep) (sessions : List (ℕ × Session)) → sessions_before (steps ++ step ∷ []) sessions ≡ sessions_before steps (session_step_back step sessions)
@@ -53,19 +53,19 @@ pub waited-still : (x lo hi : ℕ) (wait : Option Wait) (v : Session) (sessions 
 waited-still x lo hi wait v sessions r there = altered_itself x lo hi (with_wait v.wait) sessions v r there refl
 
 -- the sessions in the lines, where nothing can be taken back
-pub kept : (lines : Lines) (steps : List SessionStep) (sessions : List (ℕ × Session)) → steps ≡ [] → Rising 0 (2 ^ 32) sessions → AreComplete lines sessions → AreInLines lines steps sessions
+pub kept : (lines : Lines) (steps : List SessionStep) (sessions : List (ℕ × Session)) → steps ≡ [] → Rising 0 (2 ^ 32) sessions → EachStands (StandsIn lines) sessions → AreInLines lines steps sessions
 kept lines steps sessions none r complete = record {
   rising = r;
   now = complete;
-  before = subst (λ zs. AreComplete lines (sessions_before zs sessions)) (sym none) complete;
+  before = subst (λ zs. EachStands (StandsIn lines) (sessions_before zs sessions)) (sym none) complete;
 }
 
 -- and where they are taken back to what they were
-pub stepped : (lines lines' : Lines) (steps steps' : List SessionStep) (sessions sessions' : List (ℕ × Session)) → HasGrown lines lines' → sessions_before steps' sessions' ≡ sessions_before steps sessions → Rising 0 (2 ^ 32) sessions' → AreComplete lines' sessions' → AreInLines lines steps sessions → AreInLines lines' steps' sessions'
+pub stepped : (lines lines' : Lines) (steps steps' : List SessionStep) (sessions sessions' : List (ℕ × Session)) → HasGrown lines lines' → sessions_before steps' sessions' ≡ sessions_before steps sessions → Rising 0 (2 ^ 32) sessions' → EachStands (StandsIn lines') sessions' → AreInLines lines steps sessions → AreInLines lines' steps' sessions'
 stepped lines lines' steps steps' sessions sessions' grown same r complete h = record {
   rising = r;
   now = complete;
-  before = subst (AreComplete lines') (sym same) (complete-grown lines lines' (sessions_before steps sessions) grown h.before);
+  before = subst (EachStands (StandsIn lines')) (sym same) (each-grown lines lines' (sessions_before steps sessions) grown h.before);
 }
 
 pub made-rises : (x hi : ℕ) (v : Session) (sessions sessions' : List (ℕ × Session)) → x < hi → Rising 0 hi sessions → sessions' ≡ with_value x v sessions → Rising 0 hi sessions'

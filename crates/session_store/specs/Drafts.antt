@@ -5,7 +5,7 @@ use Rattle.session_store.specs.declared.session.Session.{Session}
 use Rattle.session_store.specs.declared.session_draft.SessionStep.{SessionStep}
 use Rattle.session_store.specs.declared.lines.Lines.{Lines}
 use Rattle.session_store.specs.Sessions.{with_wait}
-use Rattle.session_store.specs.Lines.{AreComplete}
+use Rattle.session_store.specs.Lines.{StandsIn, EachStands}
 
 -- something as it is by now, and as it was when it was kept last
 pub record Draft (X : Type 0) : Type 0 where
@@ -25,5 +25,5 @@ sessions_before (step ∷ steps) sessions = session_step_back step (sessions_bef
 -- the sessions stand in the lines where they wait, now and before the steps
 pub record AreInLines (lines : Lines) (steps : List SessionStep) (sessions : List (ℕ × Session)) : Type 0 where
   pub rising : Rising 0 (2 ^ 32) sessions
-  pub now : AreComplete lines sessions
-  pub before : AreComplete lines (sessions_before steps sessions)
+  pub now : EachStands (StandsIn lines) sessions
+  pub before : EachStands (StandsIn lines) (sessions_before steps sessions)

@@ -3,9 +3,12 @@
 
 mod lines;
 mod names;
+mod place;
 mod session;
 mod session_change;
 mod session_draft;
+mod time_outs;
+mod tube_lines;
 mod waiting;
 mod watch_list;
 

@@ -2,14 +2,14 @@ ghost use Rattle.std.specs.Prelude.{◌≡◌, ◌^◌, [], None, IsSome, IfOk, 
 ghost use Rattle.job_store.specs.Entries.{Rising, value_at, with_value, altered, without};
 ghost use Rattle.job_store.specs.LookUps.{is_among};
 ghost use Rattle.session_store.specs.Sessions.{new_session, session_of, with_wait, first_waiting, has_timed_out};
-ghost use Rattle.session_store.specs.Lines.{AreComplete};
+ghost use Rattle.session_store.specs.Lines.{EachStands, StandsIn};
 ghost use Rattle.session_store.specs.WatchLists.{joined, left_out};
 ghost use Rattle.session_store.specs.Drafts.{session_step_back, sessions_before};
 
 use crate::lines::Lines;
 use crate::session::{Session, Wait};
 use crate::session_change::{ignore, set_used, set_wait, watch};
-use crate::waiting::first_watcher;
+use crate::time_outs::wait_of;
 use job_store::Name;
 use std::alloc::{AllocError, Global};
 use std::collections::BTreeMap;
@@ -81,22 +81,51 @@ fn take_steps_back(sessions: &mut BTreeMap<u32, Session>, steps: &[SessionStep])
     }
 }
 
-/// Takes out of the lines where sessions stood before and after these steps, except where they still stand.
-fn leave_lines(lines: &mut Lines, sessions: &BTreeMap<u32, Session>, steps: &[SessionStep])
+/// Takes a session out of the lines where it stood with this wait, unless it still stands there. One that is not there
+/// was made, and watched `default` alone.
+fn leave_lines(
+    lines: &mut Lines,
+    sessions: &BTreeMap<u32, Session>,
+    session: u32,
+    wait: Option<Wait>,
+)
     requires { Rising 0 (2 ^ 32) sessions.now.entries }
-    ensures { AreComplete lines.old sessions.now.entries
-        → AreComplete lines.new sessions.now.entries }
+    ensures { EachStands (StandsIn lines.old) sessions.now.entries
+        → EachStands (StandsIn lines.new) sessions.now.entries }
 {
-    for step in steps {
-        if let SessionStep::Waited {
+    match sessions.get(&session) {
+        Some(found) => lines.leave(sessions, found.watched.as_slice(), session, wait),
+        None => lines.leave(sessions, &[Name::default_tube()], session, wait),
+    }
+}
+
+/// Takes a session out of the lines where it stood before and after a step, unless it still stands there.
+fn leave_step(lines: &mut Lines, sessions: &BTreeMap<u32, Session>, step: SessionStep)
+    requires { Rising 0 (2 ^ 32) sessions.now.entries }
+    ensures { EachStands (StandsIn lines.old) sessions.now.entries
+        → EachStands (StandsIn lines.new) sessions.now.entries }
+{
+    match step {
+        SessionStep::Waited {
             session,
             before,
             after,
-        } = *step
-        {
-            lines.leave(sessions, session, before);
-            lines.leave(sessions, session, after);
+        } => {
+            leave_lines(lines, sessions, session, before);
+            leave_lines(lines, sessions, session, after);
         }
+        SessionStep::Made(_) => {}
+    }
+}
+
+/// Takes sessions out of the lines where they stood before and after these steps, unless they still stand there.
+fn leave_steps(lines: &mut Lines, sessions: &BTreeMap<u32, Session>, steps: &[SessionStep])
+    requires { Rising 0 (2 ^ 32) sessions.now.entries }
+    ensures { EachStands (StandsIn lines.old) sessions.now.entries
+        → EachStands (StandsIn lines.new) sessions.now.entries }
+{
+    for step in steps {
+        leave_step(lines, sessions, *step);
     }
 }
 
@@ -104,11 +133,11 @@ fn leave_lines(lines: &mut Lines, sessions: &BTreeMap<u32, Session>, steps: &[Se
 fn forget(lines: &mut Lines, sessions: &mut BTreeMap<u32, Session>, session: u32)
     requires { Rising 0 (2 ^ 32) sessions.old.entries }
     ensures sessions { sessions.new.entries ≡ without session sessions.old.entries }
-    ensures complete { AreComplete lines.old sessions.old.entries
-        → AreComplete lines.new sessions.new.entries }
+    ensures complete { EachStands (StandsIn lines.old) sessions.old.entries
+        → EachStands (StandsIn lines.new) sessions.new.entries }
 {
     if let Some(gone) = sessions.remove(&session) {
-        lines.leave(sessions, session, gone.wait);
+        lines.leave(sessions, gone.watched.as_slice(), session, gone.wait);
     }
 }
 
@@ -139,7 +168,7 @@ impl SessionDraft {
         ensures { option_map (λ e. (e.0, e.1.now)) result
             ≡ first_waiting (λ e. is_among tube.now e.1.watched) self.now.now }
     {
-        first_watcher(&self.sessions, tube)
+        self.lines.first_watcher(&self.sessions, tube)
     }
 
     /// The waiting session of the least rank whose wait is over at this second.
@@ -179,7 +208,7 @@ impl SessionDraft {
             before,
             after: wait,
         })?;
-        self.lines.join(session, wait)?;
+        self.lines.join(session, found, wait)?;
         set_wait(&mut self.sessions, session, wait);
         Ok(())
     }
@@ -189,7 +218,7 @@ impl SessionDraft {
         ensures now { self.new.now ≡ self.old.now }
         ensures before { self.new.before ≡ self.old.now }
     {
-        leave_lines(&mut self.lines, &self.sessions, self.steps.as_slice());
+        leave_steps(&mut self.lines, &self.sessions, self.steps.as_slice());
         self.steps.clear();
     }
 
@@ -199,7 +228,7 @@ impl SessionDraft {
         ensures before { self.new.before
             ≡ altered session (λ c. record c { used = name }) self.old.now }
     {
-        leave_lines(&mut self.lines, &self.sessions, self.steps.as_slice());
+        leave_steps(&mut self.lines, &self.sessions, self.steps.as_slice());
         self.steps.clear();
         set_used(&mut self.sessions, session, name);
     }
@@ -215,8 +244,10 @@ impl SessionDraft {
         ensures before { OnOk result (self.new.before ≡ self.new.now) }
         ensures err { OnErr result (self.new ≡ self.old) }
     {
+        let wait = wait_of(&self.sessions, session);
+        self.lines.join_tube(&name, session, wait)?;
         let count = watch(&mut self.sessions, session, name)?;
-        leave_lines(&mut self.lines, &self.sessions, self.steps.as_slice());
+        leave_steps(&mut self.lines, &self.sessions, self.steps.as_slice());
         self.steps.clear();
         Ok(count)
     }
@@ -231,9 +262,12 @@ impl SessionDraft {
             (λ c. record c { watched = left_out name.now c.watched }) self.old.now }
         ensures before { self.new.before ≡ self.new.now }
     {
-        leave_lines(&mut self.lines, &self.sessions, self.steps.as_slice());
+        leave_steps(&mut self.lines, &self.sessions, self.steps.as_slice());
         self.steps.clear();
-        ignore(&mut self.sessions, session, name)
+        let count = ignore(&mut self.sessions, session, name);
+        let wait = wait_of(&self.sessions, session);
+        self.lines.leave_tube(&self.sessions, name, session, wait);
+        count
     }
 
     /// Keeps all changes, and takes out a session.
@@ -241,7 +275,7 @@ impl SessionDraft {
         ensures now { self.new.now ≡ without session self.old.now }
         ensures before { self.new.before ≡ without session self.old.now }
     {
-        leave_lines(&mut self.lines, &self.sessions, self.steps.as_slice());
+        leave_steps(&mut self.lines, &self.sessions, self.steps.as_slice());
         self.steps.clear();
         forget(&mut self.lines, &mut self.sessions, session);
     }
@@ -252,7 +286,7 @@ impl SessionDraft {
         ensures before { self.new.before ≡ self.old.before }
     {
         take_steps_back(&mut self.sessions, self.steps.as_slice());
-        leave_lines(&mut self.lines, &self.sessions, self.steps.as_slice());
+        leave_steps(&mut self.lines, &self.sessions, self.steps.as_slice());
         self.steps.clear();
     }
 }

@@ -1,5 +1,6 @@
-use Rattle.session_store.proofs.Standing.{stays}
+use Rattle.std.proofs.Common.{◌∙◌, ap}
+use Rattle.job_store.specs.LookUps.{is_among}
 use Rattle.session_store.proofs.lines.Lines.join.Goals as goal
 
-pub returns-in_ok-insert-clause-grown : goal.returns-in_ok-insert-clause-grown
-returns-in_ok-insert-clause-grown c = λ p. stays c.in-Some.place p _ _ (c.in_ok-insert.ensures.updates.0 p)
+pub returns-clause-stands : goal.returns-clause-stands
+returns-clause-stands c = (c.in_ok-join.ensures.stands, λ tube among. c.in_ok-join-2.ensures.stands tube (ap (is_among tube) c.as_slice.ensures ∙ among))

@@ -1,11 +1,4 @@
-use Rattle.std.proofs.Common.{◌∙◌, sym, ap}
-use Rattle.session_store.specs.Lines.{time_out_place}
-use Rattle.session_store.proofs.Standing.{complete-left, time_out_place-of, another}
 use Rattle.session_store.proofs.lines.Lines.leave.Goals as goal
 
-pub returns-then-ne : goal.returns-then-ne
-returns-then-ne c =
-    complete-left c.args.number c.in-Some.place c.args.self.now (record { time_outs = c.remove.new.self }) c.args.sessions.now.entries c.requires
-    (time_out_place-of c.args.number c.args.wait c.in-Some.place (sym c.time_out_place.ensures ∙ c.in-Some.is))
-    (λ same. another c.time_out_place-2.result c.in-Some.place (sym c.if-ne.true ∙ c.ne.ensures) (c.time_out_place-2.ensures ∙ ap (time_out_place c.args.number) c.wait_of-standing.ensures ∙ same))
-    c.remove.ensures.updates.0
+pub returns : goal.returns
+returns c = λ h e i. (c.leave.ensures (λ d j. (h d j).0) e i, c.leave-2.ensures (λ d j. (h d j).1) e i)

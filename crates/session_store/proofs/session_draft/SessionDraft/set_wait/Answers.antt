@@ -5,7 +5,8 @@ use Rattle.session_store.specs.declared.session.Session.{Session}
 use Rattle.session_store.specs.Sessions.{with_wait}
 use Rattle.session_store.specs.Drafts.{Draft}
 use Rattle.session_store.specs.EntryLaws.{altered-absent}
-use Rattle.session_store.proofs.Standing.{complete-altered, complete-grown}
+use Rattle.session_store.specs.Lines.{StandsIn}
+use Rattle.session_store.proofs.Standing.{each-altered, each-grown, stands-again}
 use Rattle.session_store.proofs.SessionDrafts.{before-step, waited-back, waited-still, change-rises, stepped}
 use Rattle.session_store.proofs.session_draft.SessionDraft.set_wait.Goals as goal
 
@@ -21,7 +22,7 @@ invariant_of-self-in_err-join c =
     (before-step c.self.inside.steps.items c.self.inside.steps.items c.push.new.self.items _ _ _ _ refl refl c.in_ok-push.ensures.items
     (waited-still c.args.session 0 _ c.args.wait c.in-Some.found.now _ c.self.invariant.rising (sym c.in-Some.ensures.value)))
     c.self.invariant.rising
-    (complete-grown c.self.inside.lines c.join.new.self _ c.join.ensures.grown c.self.invariant.now)
+    (each-grown c.self.inside.lines c.join.new.self _ c.join.ensures.grown c.self.invariant.now)
     c.self.invariant
 
 pub returns-in_err-join-clause-before : goal.returns-in_err-join-clause-before
@@ -35,8 +36,8 @@ invariant_of-self-2 c =
     (before-step c.self.inside.steps.items c.self.inside.steps.items c.push.new.self.items _ _ _ _ refl refl c.in_ok-push.ensures.items
     (waited-back c.args.session 0 _ c.args.wait c.in-Some.found.now _ _ c.self.invariant.rising (sym c.in-Some.ensures.value) c.set_wait.ensures))
     (change-rises c.args.session _ (with_wait c.args.wait) _ _ c.self.invariant.rising c.set_wait.ensures)
-    (complete-altered c.join.new.self c.args.session (with_wait c.args.wait) _ _ c.set_wait.ensures (λ s i. c.in_ok-join.ensures.stands (c.args.session, with_wait c.args.wait s) refl refl)
-    (complete-grown c.self.inside.lines c.join.new.self _ c.join.ensures.grown c.self.invariant.now))
+    (each-altered (StandsIn c.join.new.self) c.args.session (with_wait c.args.wait) _ _ c.set_wait.ensures (λ s i. stands-again c.join.new.self c.args.session _ c.self.inside.sessions.entries c.args.wait c.in-Some.found.now s c.self.invariant.rising (sym c.in-Some.ensures.value) i c.in_ok-join.ensures.stands)
+    (each-grown c.self.inside.lines c.join.new.self _ c.join.ensures.grown c.self.invariant.now))
     c.self.invariant
 
 pub returns-clause-before : goal.returns-clause-before

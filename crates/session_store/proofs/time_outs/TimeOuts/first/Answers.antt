@@ -1,8 +1,9 @@
 use Rattle.std.proofs.Common.{◌∙◌, sym}
 use Rattle.session_store.specs.Sessions.{wait_rank}
 use Rattle.session_store.specs.Lines.{over_at}
-use Rattle.session_store.proofs.Standing.{first-step, first-end, over_found}
-use Rattle.session_store.proofs.lines.Lines.first_late.Goals as goal
+use Rattle.session_store.proofs.Found.{first-step, first-end}
+use Rattle.session_store.proofs.Late.{over_found}
+use Rattle.session_store.proofs.time_outs.TimeOuts.first.Goals as goal
 
 pub loop-place-preserved-in-Some-over_at : goal.loop-place-preserved-in-Some-over_at
 loop-place-preserved-in-Some-over_at c =
