@@ -2,7 +2,7 @@
 use Rattle.std.specs.Prelude.{ℕ, ◌^◌, List, [], ◌∷◌}
 use Rattle.job_store.specs.Entries.{Rising, altered, without}
 use Rattle.session_store.specs.declared.session.Session.{Session}
-use Rattle.session_store.specs.declared.session_draft.SessionStep.{SessionStep}
+use Rattle.session_store.specs.declared.session_step.SessionStep.{SessionStep}
 use Rattle.session_store.specs.declared.lines.Lines.{Lines}
 use Rattle.session_store.specs.Sessions.{with_wait}
 use Rattle.session_store.specs.Lines.{StandsIn, EachStands}

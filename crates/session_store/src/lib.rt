@@ -7,6 +7,7 @@ mod place;
 mod session;
 mod session_change;
 mod session_draft;
+mod session_step;
 mod time_outs;
 mod tube_lines;
 mod waiting;

@@ -1,6 +1,6 @@
 use Rattle.std.proofs.Common.{arith}
 use Rattle.session_store.proofs.SessionDrafts.{step_back-rises, steps-less}
-use Rattle.session_store.proofs.session_draft.take_steps_back.Goals as goal
+use Rattle.session_store.proofs.session_step.take_steps_back.Goals as goal
 
 pub loop-left-preserved : goal.loop-left-preserved
 loop-left-preserved c = (

@@ -1,7 +1,7 @@
 use Rattle.std.proofs.Common.{◌≡◌, ◌^◌, ◌≤◌, length, take}
 use Rattle.job_store.specs.Entries.{Rising}
 use Rattle.session_store.specs.Drafts.{sessions_before}
-use Rattle.session_store.proofs.session_draft.take_steps_back.Given as goal
+use Rattle.session_store.proofs.session_step.take_steps_back.Given as goal
 
 abbrev pub invariant-loop-left : goal.invariant-loop-left
 invariant-loop-left l =
