@@ -5,7 +5,6 @@ use Rattle.std.specs.declared.cmp.Ordering.TheVariants.{Less, Equal, Greater}
 use Rattle.std.specs.Ordering.{nat_cmp, ordering_then}
 use Rattle.std.specs.List.{list_any, cons_option, slice_get, AllByRecursion}
 use Rattle.std.specs.Cmp.Lexicographic.{slice_cmp}
-use Rattle.std.specs.Map.{lookup}
 use Rattle.std.specs.BTreeMap.{BTreeMap, get, is_at, WritesThrough}
 use Rattle.std.specs.List.Sorted.{IsStrictlySortedBy}
 use Rattle.std.proofs.lemmas.Map.Keys.{sorted_head, sorted_tail}
@@ -49,14 +48,10 @@ line-kept tube t p tubes tubes' w e kept h =
       | inr apart ↦ subst (λ l. IsIn l p) (sym apart) h
     ]
 
--- the same of a map that has the same entries
-pub line-same : (t : List ℕ) (tubes tubes' : TubeLines) → tubes'.lines.entries ≡ tubes.lines.entries → line_of t tubes' ≡ line_of t tubes
-line-same t tubes tubes' same = ap (λ es. unwrap_or (lookup (is_at (slice_cmp nat_cmp t)) es) (record { keys = [] })) same
-
-pub found-line : (tube : List ℕ) (tubes : TubeLines) (line : BTreeSet Place) → get (slice_cmp nat_cmp) tubes.lines tube ≡ Some line → line_of tube tubes ≡ line
+found-line : (tube : List ℕ) (tubes : TubeLines) (line : BTreeSet Place) → get (slice_cmp nat_cmp) tubes.lines tube ≡ Some line → line_of tube tubes ≡ line
 found-line tube tubes line e = ap (λ o. unwrap_or o (record { keys = [] })) e
 
-pub no-line : (tube : List ℕ) (tubes : TubeLines) → get (slice_cmp nat_cmp) tubes.lines tube ≡ None → line_of tube tubes ≡ record { keys = [] }
+no-line : (tube : List ℕ) (tubes : TubeLines) → get (slice_cmp nat_cmp) tubes.lines tube ≡ None → line_of tube tubes ≡ record { keys = [] }
 no-line tube tubes e = ap (λ o. unwrap_or o (record { keys = [] })) e
 
 -- the same of what is written through a reference to the line
@@ -200,7 +195,7 @@ nobody-served tube sessions tubes r complete none =
       | Some e ↦ λ found. absurd (not_empty e _ none (seen-in tube sessions tubes r complete e found.member found.passes))
     ] (least-found (λ e. is_waiting e.1 && is_among tube e.1.watched) wait_rank sessions)
 
-pub first-served : (tube : List ℕ) (sessions : List (ℕ × Session)) (tubes : TubeLines) → Rising 0 (2 ^ 32) sessions → EachStands (StandsByTubes tubes) sessions → IsStrictlySortedBy place_cmp (line_of tube tubes).keys → slice_get (filter_map (standing tube sessions) (line_of tube tubes).keys) 0 ≡ first_waiting (λ e. is_among tube e.1.watched) sessions
+first-served : (tube : List ℕ) (sessions : List (ℕ × Session)) (tubes : TubeLines) → Rising 0 (2 ^ 32) sessions → EachStands (StandsByTubes tubes) sessions → IsStrictlySortedBy place_cmp (line_of tube tubes).keys → slice_get (filter_map (standing tube sessions) (line_of tube tubes).keys) 0 ≡ first_waiting (λ e. is_among tube e.1.watched) sessions
 first-served tube sessions tubes r complete sorted =
     elim (slice_get (filter_map (standing tube sessions) (line_of tube tubes).keys) 0) as (λ o. slice_get (filter_map (standing tube sessions) (line_of tube tubes).keys) 0 ≡ o → o ≡ first_waiting (λ e. is_among tube e.1.watched) sessions) [
       | None ↦ λ none. nobody-served tube sessions tubes r complete none
