@@ -3,3 +3,7 @@ pub mod Entries
 pub mod Undone
 pub mod Least
 pub mod Searches
+pub mod Members
+pub mod Places
+pub mod Shelving
+pub mod Following

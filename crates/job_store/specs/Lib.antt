@@ -6,3 +6,4 @@ pub mod Undone
 pub mod Least
 pub mod LookUps
 pub mod Searches
+pub mod Shelves

@@ -31,6 +31,13 @@ is_held x (State.Delayed due) = false
 is_held x (State.Reserved y due) = x == y
 is_held x (State.Buried rank) = false
 
+-- the job is delayed or reserved, and so due in some second
+abbrev pub is_scheduled : State → Bool
+is_scheduled State.Ready = false
+is_scheduled (State.Delayed due) = true
+is_scheduled (State.Reserved y due) = true
+is_scheduled (State.Buried rank) = false
+
 -- the job's delay, or its time to run, is over at this second
 abbrev pub is_due : ℕ → State → Bool
 is_due second State.Ready = false

@@ -17,7 +17,7 @@ pub enum State {
 }
 
 impl State {
-    ghost use Rattle.job_store.specs.States.{is_ready, is_delayed, is_buried, is_held, is_due, due_of, rank_of};
+    ghost use Rattle.job_store.specs.States.{is_ready, is_delayed, is_buried, is_held, is_scheduled, is_due, due_of, rank_of};
 
     /// Whether anyone who watches its tube may reserve the job.
     pub fn is_ready(&self) -> bool
@@ -45,6 +45,13 @@ impl State {
         ensures { result ≡ is_held session self.now }
     {
         matches!(self, State::Reserved { session: holder, .. } if session == *holder)
+    }
+
+    /// Whether the job is delayed or reserved, and so due in some second.
+    pub fn is_scheduled(&self) -> bool
+        ensures { result ≡ is_scheduled self.now }
+    {
+        matches!(self, State::Delayed { .. } | State::Reserved { .. })
     }
 
     /// Whether the job's delay, or its time to run, is over at this second.
