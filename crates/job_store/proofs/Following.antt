@@ -1,5 +1,5 @@
 -- Shelves that follow the jobs: in a trial by more places, and at its end by those that go.
-use Rattle.std.proofs.Common.{◌≡◌, ℕ, ◌<◌, ◌≤◌, arith, ap₂, IsSome, nat_le, ◌⊎◌, inl, inr, List, [], ◌∷◌, ◌++◌, Option, Some, None, IfSome, IfNone, ◌^◌, refl, sym, ap, subst, ◌∙◌, Bool, true, false}
+use Rattle.std.proofs.Common.{◌≡◌, ℕ, ◌<◌, ◌≤◌, arith, ap₂, IsSome, nat_le, ◌⊎◌, inl, inr, List, [], ◌++◌, Option, Some, None, IfSome, IfNone, ◌^◌, refl, sym, subst, ◌∙◌, Bool, true, false}
 use Rattle.std.proofs.lemmas.List.{append-nil}
 use Rattle.std.proofs.lemmas.Bool.{both_ways, leb-true}
 use Rattle.std.proofs.lemmas.Bool.Decides.{leb_tells}
@@ -14,7 +14,7 @@ use Rattle.job_store.specs.Undone.{MapState, set_back, with_log, all_undone}
 use Rattle.job_store.specs.States.{is_due, is_scheduled, due_of}
 use Rattle.job_store.specs.LookUps.{due_by, due_of_job}
 use Rattle.job_store.specs.Least.{IsLeast, NonePasses}
-use Rattle.job_store.specs.Shelves.{belongs, BelongsAt, places, HasPlaces, HavePlaces, IsListed, AreKnown, HasGrown, HasFollowed, IsKept}
+use Rattle.job_store.specs.Shelves.{belongs, BelongsAt, places, HasPlaces, HavePlaces, IsListed, AreKnown, HasTaken, HasGrown, HasFollowed, IsKept}
 use Rattle.job_store.proofs.Members.{altered-new, altered-old, inserted-new, inserted-old, value-here, value-is, without-was, without-others}
 
 -- The jobs that went and came
@@ -164,14 +164,14 @@ kept-none s jobs none empty listed =
     kept-swept s (record { jobs = jobs; before = None }) refl (subst (Rising 0 (2 ^ 64)) (sym none) (omega arith)) (subst (HavePlaces s) (sym none) (λ e i. absurd i)) (λ l p i. absurd (empty l p i)) listed
 
 -- A job that is removed
-pub kept-removed : (s t : Shelves) (is_trial : Bool) (log : List Undo) (jobs new : List (ℕ × Job)) (id : ℕ) (job : Job) → IsKept s (with_log is_trial log jobs) → (with_log is_trial log jobs).before ≡ None → Rising 0 (2 ^ 64) new → new ≡ without id jobs → value_at id jobs ≡ Some job → ((l : Label) (p : ℕ × ℕ) (e : ℕ × Job) → In e new → BelongsAt l p e → In p (places s l) → In p (places t l)) → ((l : Label) (p : ℕ × ℕ) → In p (places t l) → In p (places s l)) → ((l : Label) (p : ℕ × ℕ) → In p (places t l) → BelongsAt l p (id, job) → (e : ℕ × Job) × BelongsAt l p e × In e new) → t.listed.items ≡ s.listed.items → IsKept t (with_log is_trial log new)
-kept-removed s t true log jobs new id job kept none r is there keeps only gone listed = cc
-kept-removed s t false log jobs new id job kept none r is there keeps only gone listed =
+pub kept-removed : (s t : Shelves) (is_trial : Bool) (log : List Undo) (jobs new : List (ℕ × Job)) (id : ℕ) (job : Job) → IsKept s (with_log is_trial log jobs) → (with_log is_trial log jobs).before ≡ None → Rising 0 (2 ^ 64) new → new ≡ without id jobs → value_at id jobs ≡ Some job → HasTaken s t new → ((l : Label) (p : ℕ × ℕ) → In p (places t l) → BelongsAt l p (id, job) → (e : ℕ × Job) × BelongsAt l p e × In e new) → IsKept t (with_log is_trial log new)
+kept-removed s t true log jobs new id job kept none r is there taken gone = cc
+kept-removed s t false log jobs new id job kept none r is there taken gone =
     let empty : s.listed.items ≡ [] = kept.none_listed in
     kept-swept t (with_log false log new) refl r
-    (λ e i l p b. keeps l p e i b (kept.placed e (without-was id e jobs (subst (In e) is i)) l p b))
+    (λ e i l p b. taken.keeps l p e i b (kept.placed e (without-was id e jobs (subst (In e) is i)) l p b))
     (λ l p i.
-    let w = kept.known l p (only l p i) in
+    let w = kept.known l p (taken.only l p i) in
     elim w.2 as (λ v. (e : ℕ × Job) × BelongsAt l p e × (In e new ⊎ IsListed t e)) [
       | inl old ↦ elim (without-others id w.0 jobs old) as (λ v. (e : ℕ × Job) × BelongsAt l p e × (In e new ⊎ IsListed t e)) [
         | inl still ↦ (w.0, w.1, inl (subst (In w.0) (sym is) still))
@@ -181,7 +181,7 @@ kept-removed s t false log jobs new id job kept none r is there keeps only gone 
       ]
       | inr listed ↦ absurd (subst (In w.0) empty listed)
     ])
-    (listed ∙ empty)
+    (taken.lists ∙ empty)
 
 -- Which job is due
 

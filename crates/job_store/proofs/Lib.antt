@@ -7,3 +7,7 @@ pub mod Members
 pub mod Places
 pub mod Shelving
 pub mod Following
+pub mod Racks
+pub mod ShelfFields
+pub mod Everywhere
+pub mod Readiness

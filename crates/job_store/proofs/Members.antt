@@ -1,5 +1,5 @@
 -- Which entries a finite map has, before and after a change.
-use Rattle.std.proofs.Common.{◌≡◌, ℕ, suc, inl, inr, ◌⊎◌, List, [], ◌∷◌, Option, Some, None, true, false, cond, not, ◌==◌, nat_cmp, Less, Equal, Greater, refl, sym, ap, ap₂, subst, ◌∙◌, arith, eq-eqb, ne_eqb}
+use Rattle.std.proofs.Common.{◌≡◌, ℕ, suc, inl, inr, ◌⊎◌, List, [], ◌∷◌, Some, true, false, cond, not, ◌==◌, nat_cmp, Less, Equal, Greater, refl, sym, ap, ap₂, subst, ◌∙◌, arith, eq-eqb, ne_eqb}
 use Rattle.std.proofs.lemmas.Bool.{cases_eq, cases_order, cond-true, cond-false}
 use Rattle.std.specs.Ordering.{match_ordering}
 use Rattle.std.specs.BTreeMap.{insert_entry}

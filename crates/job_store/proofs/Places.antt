@@ -1,5 +1,5 @@
 -- What stands on a shelf, in its order, and after a place is put or taken out.
-use Rattle.std.proofs.Common.{◌≡◌, ℕ, ◌<◌, Bool, true, false, cond, ◌⊎◌, inl, inr, List, [], ◌∷◌, Option, Some, None, refl, sym, ap, ap₂, subst, eq-eqb, eqb-true, ◌&&◌, ◌==◌, ◌∙◌, arith, Less, Equal, Greater, nat_cmp, Ordering}
+use Rattle.std.proofs.Common.{◌≡◌, ℕ, ◌<◌, Bool, true, false, cond, ◌⊎◌, inl, inr, List, [], ◌∷◌, Some, refl, sym, ap, ap₂, subst, eq-eqb, eqb-true, ◌&&◌, ◌==◌, ◌∙◌, arith, Less, Equal, Greater, nat_cmp, Ordering}
 use Rattle.std.proofs.lemmas.Bool.{cases_order, both_ways, and_parts, and_from, or_left, or_right}
 use Rattle.std.specs.Ordering.{ordering_then, match_ordering}
 use Rattle.std.specs.List.Sorted.{IsStrictlySortedBy}
@@ -14,7 +14,7 @@ use Rattle.job_store.specs.Entries.{Rising, value_at}
 use Rattle.job_store.specs.Least.{ComesBefore, IsLeast, NonePasses}
 use Rattle.job_store.specs.Shelves.{belongs, number, belongs_at, BelongsAt, AreAllOn}
 use Rattle.job_store.proofs.Members.{value-in, in-value}
-use Rattle.job_store.proofs.Entries.{cmp_less, cmp_equal, cmp_greater, same_number}
+use Rattle.job_store.proofs.Entries.{cmp_equal, cmp_greater, same_number}
 
 -- The order of places
 

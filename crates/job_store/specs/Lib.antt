@@ -7,3 +7,4 @@ pub mod Least
 pub mod LookUps
 pub mod Searches
 pub mod Shelves
+pub mod Racks

@@ -1,20 +1,30 @@
 -- On which shelf a job stands, and where.
-use Rattle.std.specs.Prelude.{◌≡◌, ◌^◌, ℕ, Bool, true, ◌&&◌, ◌⊎◌, ◌==◌, List, [], IfSome, IfNone}
+use Rattle.std.specs.Prelude.{◌≡◌, ◌^◌, ℕ, Bool, true, ◌&&◌, ◌⊎◌, ◌==◌, List, [], IfSome, IfNone, bytes_eq}
+use Rattle.std.specs.Ordering.{nat_cmp}
 use Rattle.object.specs.Lists.{In}
 use Rattle.job_store.specs.declared.job.Job.{Job}
 use Rattle.job_store.specs.declared.label.Label.{Label}
 use Rattle.job_store.specs.declared.shelves.Shelves.{Shelves}
 use Rattle.job_store.specs.Entries.{Rising}
 use Rattle.job_store.specs.Undone.{MapState}
-use Rattle.job_store.specs.States.{is_scheduled}
-use Rattle.job_store.specs.LookUps.{due_of_job}
+use Rattle.job_store.specs.States.{is_ready, is_scheduled}
+use Rattle.job_store.specs.LookUps.{delayed_in, buried_in, held_by, pri_of_job, due_of_job, rank_of_job}
+use Rattle.job_store.specs.Racks.{shelf_at, name_cmp}
 
 -- whether a job belongs on the shelf
 abbrev pub belongs : Label → ℕ × Job → Bool
+belongs (Label.Ready tube) e = is_ready e.1.state && bytes_eq tube.now e.1.tube
+belongs (Label.Delayed tube) e = delayed_in tube.now e
+belongs (Label.Buried tube) e = buried_in tube.now e
+belongs (Label.Held x) e = held_by x e
 belongs Label.Scheduled e = is_scheduled e.1.state
 
 -- the number by which the shelf is ordered
 abbrev pub number : Label → Job → ℕ
+number (Label.Ready tube) job = pri_of_job job
+number (Label.Delayed tube) job = due_of_job job
+number (Label.Buried tube) job = rank_of_job job
+number (Label.Held x) job = due_of_job job
 number Label.Scheduled job = due_of_job job
 
 -- the job belongs at this place of the shelf
@@ -31,6 +41,10 @@ AreAllOn label places jobs = (p : ℕ × ℕ) (e : ℕ × Job) → In e jobs →
 
 -- the places on the shelf with this label
 abbrev pub places : Shelves → Label → List (ℕ × ℕ)
+places s (Label.Ready tube) = shelf_at name_cmp s.ready.shelves tube.now
+places s (Label.Delayed tube) = shelf_at name_cmp s.delayed.shelves tube.now
+places s (Label.Buried tube) = shelf_at name_cmp s.buried.shelves tube.now
+places s (Label.Held x) = shelf_at nat_cmp s.held.shelves x
 places s Label.Scheduled = s.scheduled
 
 -- the job stands on each shelf on which it belongs
@@ -48,6 +62,18 @@ IsListed s e = In e s.listed.items
 -- at each place belongs one of the jobs, or one that is listed
 abbrev pub AreKnown : Shelves → List (ℕ × Job) → Type 0
 AreKnown s jobs = (label : Label) (p : ℕ × ℕ) → In p (places s label) → (e : ℕ × Job) × BelongsAt label p e × (In e jobs ⊎ IsListed s e)
+
+-- places more, at which the job belongs
+pub record HasPut (old new : Shelves) (e : ℕ × Job) : Type 0 where
+  pub keeps : (label : Label) (p : ℕ × ℕ) → In p (places old label) → In p (places new label)
+  pub only : (label : Label) (p : ℕ × ℕ) → In p (places new label) → In p (places old label) ⊎ BelongsAt label p e
+  pub lists : new.listed.items ≡ old.listed.items
+
+-- places less, where none of the jobs belongs
+pub record HasTaken (old new : Shelves) (jobs : List (ℕ × Job)) : Type 0 where
+  pub keeps : (label : Label) (p : ℕ × ℕ) (e : ℕ × Job) → In e jobs → BelongsAt label p e → In p (places old label) → In p (places new label)
+  pub only : (label : Label) (p : ℕ × ℕ) → In p (places new label) → In p (places old label)
+  pub lists : new.listed.items ≡ old.listed.items
 
 -- there are places and listed jobs more, and those jobs are listed that belong at the places
 pub record HasGrown (old new : Shelves) : Type 0 where

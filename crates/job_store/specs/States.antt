@@ -45,6 +45,13 @@ is_due second (State.Delayed due) = nat_le due second
 is_due second (State.Reserved y due) = nat_le due second
 is_due second (State.Buried rank) = false
 
+-- the session that has a reserved job, and 0 for others
+abbrev pub holder_of : State → ℕ
+holder_of State.Ready = 0
+holder_of (State.Delayed due) = 0
+holder_of (State.Reserved y due) = y
+holder_of (State.Buried rank) = 0
+
 -- the second in which a delayed or reserved job is due, and 0 for others
 abbrev pub due_of : State → ℕ
 due_of State.Ready = 0

@@ -158,15 +158,21 @@ impl JobMap for Jobs {
     }
 
     fn first_ready(&self, tube: &Name) -> Option<(u64, &Job)> {
-        LookUp::Ready(tube).least(&self.jobs)
+        self.shelves
+            .ready
+            .first(tube, Label::Ready(tube), &self.jobs)
     }
 
     fn first_delayed(&self, tube: &Name) -> Option<(u64, &Job)> {
-        LookUp::Delayed(tube).least(&self.jobs)
+        self.shelves
+            .delayed
+            .first(tube, Label::Delayed(tube), &self.jobs)
     }
 
     fn first_buried(&self, tube: &Name) -> Option<(u64, &Job)> {
-        LookUp::Buried(tube).least(&self.jobs)
+        self.shelves
+            .buried
+            .first(tube, Label::Buried(tube), &self.jobs)
     }
 
     fn due(&self, second: u64) -> Option<(u64, &Job)> {
@@ -177,6 +183,8 @@ impl JobMap for Jobs {
     }
 
     fn first_held(&self, session: u32) -> Option<(u64, &Job)> {
-        LookUp::Held(session).least(&self.jobs)
+        self.shelves
+            .held
+            .first(&session, Label::Held(session), &self.jobs)
     }
 }

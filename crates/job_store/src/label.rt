@@ -5,21 +5,34 @@ ghost use Rattle.job_store.specs.Entries.{Rising};
 ghost use Rattle.job_store.specs.Shelves.{belongs, number, belongs_at, BelongsAt};
 
 use crate::job::Job;
+use crate::name::Name;
 use std::collections::BTreeMap;
 
 /// Which jobs stand on a shelf.
 #[derive(Clone, Copy)]
-pub enum Label {
+pub enum Label<'a> {
+    /// Those that are ready in this tube, by priority.
+    Ready(&'a Name),
+    /// Those that are delayed in this tube, by the second in which they are due.
+    Delayed(&'a Name),
+    /// Those that are buried in this tube, by rank.
+    Buried(&'a Name),
+    /// Those that this session has, by the second in which they are due.
+    Held(u32),
     /// All that are delayed or reserved, by the second in which they are due.
     Scheduled,
 }
 
-impl Label {
+impl<'a> Label<'a> {
     /// Whether the job, under whatever id, stands on the shelf.
     pub fn fits(&self, job: &Job) -> bool
         ensures { (id : ℕ) → result ≡ belongs self.now (id, job.now) }
     {
         match self {
+            Label::Ready(tube) => job.state.is_ready() && **tube == job.tube,
+            Label::Delayed(tube) => job.state.is_delayed() && **tube == job.tube,
+            Label::Buried(tube) => job.state.is_buried() && **tube == job.tube,
+            Label::Held(session) => job.state.is_held_by(*session),
             Label::Scheduled => job.state.is_scheduled(),
         }
     }
@@ -29,7 +42,9 @@ impl Label {
         ensures { result ≡ number self.now job.now }
     {
         match self {
-            Label::Scheduled => job.state.due(),
+            Label::Ready(_) => u64::from(job.pri),
+            Label::Buried(_) => job.state.rank(),
+            Label::Delayed(_) | Label::Held(_) | Label::Scheduled => job.state.due(),
         }
     }
 

@@ -13,6 +13,7 @@ mod look_up;
 mod moves;
 mod name;
 mod name_bytes;
+mod rack;
 mod shared_bytes;
 mod shelf;
 mod shelves;

@@ -1,4 +1,4 @@
-ghost use Rattle.std.specs.Prelude.{◌≡◌, ◌⊎◌, ℕ, OnOk, IfSome, IfNone, option_map, ◌^◌};
+ghost use Rattle.std.specs.Prelude.{◌≡◌, ◌⊎◌, ℕ, OnOk, IfSome, IfNone, option_map, true, ◌^◌};
 ghost use Rattle.object.specs.Lists.{In};
 ghost use Rattle.job_store.specs.Entries.{Rising};
 ghost use Rattle.job_store.specs.Least.{IsLeast, NonePasses, least};
@@ -54,15 +54,22 @@ impl Shelf {
         self.places.remove(&(number, id));
     }
 
+    /// Whether nothing stands on the shelf.
+    pub fn is_empty(&self) -> bool
+        ensures { result ≡ true → (p : ℕ × ℕ) → In p self.now → ⊥ }
+    {
+        self.places.is_empty()
+    }
+
     /// The first of the jobs that belong on the shelf, where all of them stand there.
     pub fn first<'a>(&self, label: Label, jobs: &'a BTreeMap<u64, Job>) -> Option<(u64, &'a Job)>
         requires rising { Rising 0 (2 ^ 64) jobs.now.entries }
         requires all { AreAllOn label self.now jobs.now.entries }
         ensures job { option_map (λ e. (e.0, e.1.now)) result
-            ≡ least (belongs label) (number label) jobs.now.entries }
+            ≡ least (belongs label.entry) (number label.entry) jobs.now.entries }
         ensures found { IfSome result
-            (λ e. IsLeast (belongs label) (number label) jobs.now.entries (e.0, e.1.now)) }
-        ensures none { IfNone result (NonePasses (belongs label) jobs.now.entries) }
+            (λ e. IsLeast (belongs label.entry) (number label.entry) jobs.now.entries (e.0, e.1.now)) }
+        ensures none { IfNone result (NonePasses (belongs label.entry) jobs.now.entries) }
     {
         for (number, id) in self.places.iter() {
             if let Some(job) = label.job_at(jobs, *number, *id) {

@@ -4,10 +4,12 @@ ghost use Rattle.job_store.specs.declared.job.Job.{Job};
 ghost use Rattle.job_store.specs.declared.label.Label.{Label};
 ghost use Rattle.job_store.specs.Entries.{Rising, value_at};
 ghost use Rattle.job_store.specs.States.{with_pri_and_state};
-ghost use Rattle.job_store.specs.Shelves.{places, BelongsAt, HasPlaces, HavePlaces, IsListed, AreKnown, HasGrown};
+ghost use Rattle.job_store.specs.Shelves.{places, BelongsAt, HasPlaces, HavePlaces, HasPut, HasTaken, IsListed, AreKnown, HasGrown};
 
 use crate::job::Job;
 use crate::label::Label;
+use crate::name::Name;
+use crate::rack::Rack;
 use crate::shelf::Shelf;
 use crate::state::State;
 use object::Value;
@@ -20,6 +22,10 @@ use std::collections::BTreeMap;
 /// listed job stands no more.
 #[derive(Drop)]
 pub struct Shelves {
+    pub ready: Rack<Name>,
+    pub delayed: Rack<Name>,
+    pub buried: Rack<Name>,
+    pub held: Rack<u32>,
     pub scheduled: Shelf,
     pub listed: Vec<(u64, Job)>,
 }
@@ -31,6 +37,10 @@ impl Shelves {
         ensures listed { result.listed.items ≡ [] }
     {
         Shelves {
+            ready: Rack::new(alloc),
+            delayed: Rack::new(alloc),
+            buried: Rack::new(alloc),
+            held: Rack::new(alloc),
             scheduled: Shelf::new(alloc),
             listed: Vec::new(alloc),
         }
@@ -51,19 +61,19 @@ impl Shelves {
 
     /// Puts a job onto the shelf with this label, if it belongs there.
     fn put_on(&mut self, label: Label, id: u64, job: &Job) -> Result<(), AllocError>
-        ensures ok { OnOk result ((p : ℕ × ℕ) → BelongsAt label p (id, job.now)
-            → In p (places self.new label)) }
-        ensures keeps { (l : Label) (p : ℕ × ℕ) → In p (places self.old l)
-            → In p (places self.new l) }
-        ensures only { (l : Label) (p : ℕ × ℕ) → In p (places self.new l)
-            → In p (places self.old l) ⊎ BelongsAt l p (id, job.now) }
-        ensures listed { self.new.listed.items ≡ self.old.listed.items }
+        ensures ok { OnOk result ((p : ℕ × ℕ) → BelongsAt label.entry p (id, job.now)
+            → In p (places self.new label.entry)) }
+        ensures put { HasPut self.old self.new (id, job.now) }
     {
         if !label.fits(job) {
             return Ok(());
         }
         let number = label.number(job);
         match label {
+            Label::Ready(tube) => self.ready.put(tube, number, id),
+            Label::Delayed(tube) => self.delayed.put(tube, number, id),
+            Label::Buried(tube) => self.buried.put(tube, number, id),
+            Label::Held(session) => self.held.put(&session, number, id),
             Label::Scheduled => self.scheduled.put(number, id),
         }
     }
@@ -71,12 +81,10 @@ impl Shelves {
     /// Takes a job from the shelf with this label, unless the map has a job that belongs there.
     fn take_from(&mut self, label: Label, jobs: &BTreeMap<u64, Job>, id: u64, job: &Job)
         requires { Rising 0 (2 ^ 64) jobs.now.entries }
-        ensures keeps { (l : Label) (p : ℕ × ℕ) (e : ℕ × Job) → In e jobs.now.entries → BelongsAt l p e
-            → In p (places self.old l) → In p (places self.new l) }
-        ensures only { (l : Label) (p : ℕ × ℕ) → In p (places self.new l) → In p (places self.old l) }
-        ensures gone { (p : ℕ × ℕ) → In p (places self.new label) → BelongsAt label p (id, job.now)
-            → ((e : ℕ × Job) × BelongsAt label p e × In e jobs.now.entries) }
-        ensures listed { self.new.listed.items ≡ self.old.listed.items }
+        ensures taken { HasTaken self.old self.new jobs.now.entries }
+        ensures gone { (p : ℕ × ℕ) → In p (places self.new label.entry)
+            → BelongsAt label.entry p (id, job.now)
+            → ((e : ℕ × Job) × BelongsAt label.entry p e × In e jobs.now.entries) }
     {
         if !label.fits(job) {
             return;
@@ -86,6 +94,10 @@ impl Shelves {
             return;
         }
         match label {
+            Label::Ready(tube) => self.ready.take(tube, number, id),
+            Label::Delayed(tube) => self.delayed.take(tube, number, id),
+            Label::Buried(tube) => self.buried.take(tube, number, id),
+            Label::Held(session) => self.held.take(&session, number, id),
             Label::Scheduled => self.scheduled.take(number, id),
         }
     }
@@ -93,25 +105,27 @@ impl Shelves {
     /// Puts a job onto the shelves where it belongs.
     fn put_everywhere(&mut self, id: u64, job: &Job) -> Result<(), AllocError>
         ensures ok { OnOk result (HasPlaces self.new (id, job.now)) }
-        ensures keeps { (l : Label) (p : ℕ × ℕ) → In p (places self.old l)
-            → In p (places self.new l) }
-        ensures only { (l : Label) (p : ℕ × ℕ) → In p (places self.new l)
-            → In p (places self.old l) ⊎ BelongsAt l p (id, job.now) }
-        ensures listed { self.new.listed.items ≡ self.old.listed.items }
+        ensures put { HasPut self.old self.new (id, job.now) }
     {
-        self.put_on(Label::Scheduled, id, job)
+        self.put_on(Label::Ready(&job.tube), id, job)?;
+        self.put_on(Label::Delayed(&job.tube), id, job)?;
+        self.put_on(Label::Buried(&job.tube), id, job)?;
+        self.put_on(Label::Held(job.state.holder()), id, job)?;
+        self.put_on(Label::Scheduled, id, job)?;
+        Ok(())
     }
 
     /// Takes a job from the shelves where the map has no job that belongs there.
     pub fn take_everywhere(&mut self, jobs: &BTreeMap<u64, Job>, id: u64, job: &Job)
         requires { Rising 0 (2 ^ 64) jobs.now.entries }
-        ensures keeps { (l : Label) (p : ℕ × ℕ) (e : ℕ × Job) → In e jobs.now.entries → BelongsAt l p e
-            → In p (places self.old l) → In p (places self.new l) }
-        ensures only { (l : Label) (p : ℕ × ℕ) → In p (places self.new l) → In p (places self.old l) }
+        ensures taken { HasTaken self.old self.new jobs.now.entries }
         ensures gone { (l : Label) (p : ℕ × ℕ) → In p (places self.new l) → BelongsAt l p (id, job.now)
             → ((e : ℕ × Job) × BelongsAt l p e × In e jobs.now.entries) }
-        ensures listed { self.new.listed.items ≡ self.old.listed.items }
     {
+        self.take_from(Label::Ready(&job.tube), jobs, id, job);
+        self.take_from(Label::Delayed(&job.tube), jobs, id, job);
+        self.take_from(Label::Buried(&job.tube), jobs, id, job);
+        self.take_from(Label::Held(job.state.holder()), jobs, id, job);
         self.take_from(Label::Scheduled, jobs, id, job);
     }
 

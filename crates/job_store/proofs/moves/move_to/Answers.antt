@@ -1,4 +1,4 @@
-use Rattle.std.proofs.Common.{None, refl, sym}
+use Rattle.std.proofs.Common.{refl, sym}
 use Rattle.job_store.specs.States.{with_pri_and_state}
 use Rattle.job_store.proofs.Entries.{altered-absent, Rising-same, Rising-altered}
 use Rattle.job_store.proofs.Undone.{before-set}

@@ -1,4 +1,4 @@
-use Rattle.std.proofs.Common.{◌≡◌, ◌^◌, ap, subst, sym, ◌∙◌}
+use Rattle.std.proofs.Common.{◌^◌, ap, subst, sym, ◌∙◌}
 use Rattle.job_store.specs.declared.label.Label.{Label}
 use Rattle.job_store.specs.Undone.{MapState}
 use Rattle.job_store.specs.Entries.{Rising}

@@ -21,7 +21,7 @@ invariant_of-self-2 c =
     (Rising-same _ _ _ _ (c.remove.ensures.entries ∙ remove_entry-without c.args.id _ _ _ c.self.invariant.rising) (Rising-without c.args.id _ _ _ c.self.invariant.rising))
     (c.remove.ensures.entries ∙ remove_entry-without c.args.id _ _ _ c.self.invariant.rising)
     (sym c.in_ok-job.ensures.value)
-    c.take_everywhere.ensures.keeps c.take_everywhere.ensures.only c.take_everywhere.ensures.gone c.take_everywhere.ensures.listed
+    c.take_everywhere.ensures.taken c.take_everywhere.ensures.gone
 
 pub returns-clause-jobs : goal.returns-clause-jobs
 returns-clause-jobs c =

@@ -1,4 +1,4 @@
-use Rattle.std.proofs.Common.{◌≡◌, Some, None, Option, false, sym, subst, ◌∙◌}
+use Rattle.std.proofs.Common.{◌≡◌, Some, None, false, sym, subst, ◌∙◌}
 use Rattle.job_store.specs.declared.job.Job.{Job}
 use Rattle.job_store.specs.Shelves.{belongs_at}
 use Rattle.job_store.proofs.Places.{at-id, none-at-id}

@@ -1,4 +1,4 @@
-use Rattle.std.proofs.Common.{subst, sym, rules, ap, ◌∙◌, ◌≡◌, ◌∷◌, []}
+use Rattle.std.proofs.Common.{subst, sym, rules, ◌≡◌, ◌∷◌, []}
 use Rattle.std.specs.List.Sorted.{IsStrictlySortedBy}
 use Rattle.job_store.specs.Shelves.{belongs, number, AreAllOn}
 use Rattle.job_store.proofs.Places.{place_cmp, sorted-rest, none-here, none-on, first-is-least}

@@ -5,7 +5,7 @@ use Rattle.job_store.proofs.shelves.Shelves.list.Goals as goal
 
 pub returns-clause-grown : goal.returns-clause-grown
 returns-clause-grown c =
-    list-grown c.args.self.now _ (c.args.id, c.in_ok-copy.field-0) (elim [ Label.Scheduled ↦ refl ]) c.in_ok-push.ensures.items
+    list-grown c.args.self.now _ (c.args.id, c.in_ok-copy.field-0) (elim [ Label.Ready tube ↦ refl | Label.Delayed tube ↦ refl | Label.Buried tube ↦ refl | Label.Held x ↦ refl | Label.Scheduled ↦ refl ]) c.in_ok-push.ensures.items
 
 pub returns-clause-ok : goal.returns-clause-ok
 returns-clause-ok c =

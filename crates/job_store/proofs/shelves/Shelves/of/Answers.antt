@@ -1,4 +1,4 @@
-use Rattle.std.proofs.Common.{rules, ◌≡◌, ◌∷◌, [], subst, sym}
+use Rattle.std.proofs.Common.{rules, ◌≡◌, [], subst, sym}
 use Rattle.job_store.proofs.Shelving.{ArePut, none-put, one-put, all-put}
 use Rattle.job_store.proofs.shelves.Shelves.of.Goals as goal
 
@@ -11,7 +11,7 @@ loop-id-init c =
 pub loop-id-preserved : goal.loop-id-preserved
 loop-id-preserved c =
     one-put c.loop-id.shelves c.put_everywhere.new.self (c.in-Some.id.now, c.in-Some.job.now) c.loop-id.id-iterator c.next.new.self c.args.jobs.now.entries (search rules)
-    c.in_ok-put_everywhere.ensures.ok c.in_ok-put_everywhere.ensures.keeps c.in_ok-put_everywhere.ensures.only c.in_ok-put_everywhere.ensures.listed c.loop-id.invariant
+    c.in_ok-put_everywhere.ensures.ok c.in_ok-put_everywhere.ensures.put c.loop-id.invariant
 
 pub returns-clause-placed : goal.returns-clause-placed
 returns-clause-placed c =
