@@ -76,12 +76,12 @@ module _ {X : Type 0} (by : X → ℕ) where
 -- An entry is the only one at its key
 
 module _ {X : Type 0} where
-  key_from : (lo hi : ℕ) (es : List (ℕ × X)) (e : ℕ × X) → Rising lo hi es → In e es → lo ≤ e.0
+  pub key_from : (lo hi : ℕ) (es : List (ℕ × X)) (e : ℕ × X) → Rising lo hi es → In e es → lo ≤ e.0
   key_from lo hi [] e r i = absurd i
   key_from lo hi (d ∷ es) e r (inl same) = omega (arith, ap (λ (p : ℕ × X). p.0) same, r.0)
   key_from lo hi (d ∷ es) e r (inr later) = omega (arith, key_from (suc d.0) hi es e r.1 later, r.0)
 
-  same_entry : (lo hi : ℕ) (es : List (ℕ × X)) (d e : ℕ × X) → Rising lo hi es → In d es → In e es → d.0 ≡ e.0 → d ≡ e
+  pub same_entry : (lo hi : ℕ) (es : List (ℕ × X)) (d e : ℕ × X) → Rising lo hi es → In d es → In e es → d.0 ≡ e.0 → d ≡ e
   same_entry lo hi [] d e r i j same = absurd i
   same_entry lo hi (z ∷ es) d e r (inl i) (inl j) same = i ∙ sym j
   same_entry lo hi (z ∷ es) d e r (inl i) (inr j) same = absurd (omega (arith, ap (λ (p : ℕ × X). p.0) i, key_from (suc z.0) hi es e r.1 j, same))
@@ -164,6 +164,15 @@ module _ {X : Type 0} (test : ℕ × X → Bool) (by : X → ℕ) where
   pub least-shown : {A : Type 0} (show : A → ℕ × X) (es : List (ℕ × X)) (o : Option A) → option_map show o ≡ least test by es → IfSome o (λ a. IsLeast test by es (show a)) × IfNone o (NonePasses test es)
   least-shown show es None e = (tt, subst (λ o. IfNone o (NonePasses test es)) (sym e) (least-none es))
   least-shown show es (Some a) e = (subst (λ o. IfSome o (IsLeast test by es)) (sym e) (least-found es), tt)
+
+  pub least-nothing : (es : List (ℕ × X)) → NonePasses test es → None ≡ least test by es
+  least-nothing es none =
+      elim (least test by es) as (λ o. IsAnswer es o → None ≡ o) [ None ↦ λ w. refl | Some d ↦ λ it. absurd (none d it.member it.passes) ] (answer es)
+
+  -- what is answered by a least one, or by nothing where nothing passes, is the least
+  pub least-shown-by : {A : Type 0} (show : A → ℕ × X) (es : List (ℕ × X)) (lo hi : ℕ) (o : Option A) → Rising lo hi es → IfSome o (λ a. IsLeast test by es (show a)) → IfNone o (NonePasses test es) → option_map show o ≡ least test by es
+  least-shown-by show es lo hi (Some a) r best none = sym (least-only es lo hi (show a) r best)
+  least-shown-by show es lo hi None r best none = least-nothing es none
 
 -- A name among some names
 
