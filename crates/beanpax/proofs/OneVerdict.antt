@@ -1,5 +1,5 @@
 -- One thing is found of a text.
-use Rattle.std.proofs.Common.{◌≡◌, ◌<◌, ◌≤◌, ◌^◌, ◌∙◌, ℕ, arith, List, [], ◌∷◌, Some, None, sym, ap, subst}
+use Rattle.std.proofs.Common.{◌≡◌, ◌≤◌, ◌∙◌, ℕ, arith, List, [], ◌∷◌, Some, None, sym, ap, subst}
 use Rattle.std.specs.List.{AllByRecursion}
 use Rattle.object.specs.declared.command.Act.{Act}
 use Rattle.object.specs.declared.command.Act.TheVariants.{Do, Close, Tick}
