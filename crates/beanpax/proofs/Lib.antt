@@ -4,3 +4,4 @@ pub mod Whole
 pub mod Beginnings
 pub mod Obeyed
 pub mod Served
+pub mod OneVerdict

@@ -1,13 +1,12 @@
 -- From what clap says of a parse to what the words ask for.
-use Rattle.std.proofs.Common.{◌≡◌, ◌≢◌, ◌∙◌, ◌<◌, ◌≤◌, ◌^◌, ℕ, arith, decimal, true, List, Option, None, Some, Result, Ok, Err, unwrap_or, refl, sym, ap, subst, inl, inr}
+use Rattle.std.proofs.Common.{◌≡◌, ◌≢◌, ◌∙◌, ◌<◌, ◌≤◌, ◌^◌, ℕ, arith, true, List, Option, None, Some, Result, Ok, Err, unwrap_or, refl, sym, ap, subst, inl, inr}
 use Rattle.std.specs.Str.Parse.{ParsesUnsigned}
-use Rattle.std.proofs.lemmas.Fmt.{parse-decimal}
 use Rattle.clap.specs.Words.{App, HasKind, IsAmong, Kinds, ReadsOne, fault_of, is_simple, is_simple_and_free, kind_of}
 use Rattle.clap.specs.declared.error.Error.{Error}
 use Rattle.clap.specs.declared.error.kind.ErrorKind.{ErrorKind}
 use Rattle.clap.specs.declared.error.kind.ErrorKind.TheVariants.{OutOfMemory}
 use Rattle.clap.proofs.OnLiterals.{clap_on_literals}
-use Rattle.beanpax.specs.Words.{IsNumberOr, IsNumberIfGiven, errors_in, program_command, run_command, serve_command, inspect_command}
+use Rattle.beanpax.specs.Words.{IsNumberOr, IsNumberIfGiven, Writes, errors_in, program_command, run_command, serve_command, inspect_command}
 
 pub is_simple-program_command : is_simple program_command ≡ true
 unfolding program_command run_command serve_command inspect_command clap_on_literals
@@ -29,35 +28,35 @@ pub among_errors : (k : ErrorKind) (kinds : Kinds) (e : Error) → k ≡ kind_of
 among_errors k kinds e is not_memory (inl memory) = absurd (not_memory (is ∙ memory))
 among_errors k kinds e is not_memory (inr among) = subst (λ (j : ErrorKind). IsAmong j kinds) (sym is) among
 
--- a number that is written in digits is read, where the bits are enough for it
+-- a number that a text writes is read, where the bits are enough for it
 digits_read : (bits : ℕ) (E : Type 0) (gives : List ℕ → Result ℕ E → Type 0)
     → ((t : List ℕ) (r : Result ℕ E) → gives t r → ParsesUnsigned bits 10 t r)
-    → (m : ℕ) (t : List ℕ) → m < 2 ^ bits → m < 2 ^ 64 → t ≡ decimal m
+    → (m : ℕ) (t : List ℕ) → m < 2 ^ bits → Writes t m
     → (read : Option ℕ) → ReadsOne gives t read → read ≡ Some m
-digits_read bits E gives parses m t small few is None (e, given) =
+digits_read bits E gives parses m t fits writes None (e, given) =
     let r : Result ℕ E = Err e in
-    let read : r ≡ Ok m = parse-decimal bits m t r small few is (parses t r given) in cc
-digits_read bits E gives parses m t small few is (Some v) given =
+    absurd (parses t r given (writes.0, subst (λ v. v < 2 ^ bits) (sym writes.1) fits))
+digits_read bits E gives parses m t fits writes (Some v) given =
     let r : Result ℕ E = Ok v in
-    let read : r ≡ Ok m = parse-decimal bits m t r small few is (parses t r given) in cc
+    ap (λ n. Some n) ((parses t r given).1 ∙ writes.1)
 
 -- and without a text it is the default
-pub number_read : (bits default least most : ℕ) → most < 2 ^ bits → most < 2 ^ 64 → (E : Type 0) (gives : List ℕ → Result ℕ E → Type 0)
+pub number_read : (bits default least most : ℕ) → most < 2 ^ bits → (E : Type 0) (gives : List ℕ → Result ℕ E → Type 0)
     → ((t : List ℕ) (r : Result ℕ E) → gives t r → ParsesUnsigned bits 10 t r)
     → (text : Option (List ℕ)) (read : Option ℕ) → (text ≡ None → read ≡ None)
     → ((t : List ℕ) → text ≡ Some t → ReadsOne gives t read) → IsNumberOr default least most text (unwrap_or read default)
-number_read bits default least most fits small E gives parses None read none some = ap (λ r. unwrap_or r default) (none refl)
-number_read bits default least most fits small E gives parses (Some t) read none some = λ m above below is.
-    ap (λ r. unwrap_or r default) (digits_read bits E gives parses m t (omega (arith, below, fits)) (omega (arith, below, small)) is read (some t refl))
+number_read bits default least most fits E gives parses None read none some = ap (λ r. unwrap_or r default) (none refl)
+number_read bits default least most fits E gives parses (Some t) read none some = λ m above below writes.
+    ap (λ r. unwrap_or r default) (digits_read bits E gives parses m t (omega (arith, below, fits)) writes read (some t refl))
 
 -- without a default there is no number then
-pub number_if_read : (bits least most : ℕ) → most < 2 ^ bits → most < 2 ^ 64 → (E : Type 0) (gives : List ℕ → Result ℕ E → Type 0)
+pub number_if_read : (bits least most : ℕ) → most < 2 ^ bits → (E : Type 0) (gives : List ℕ → Result ℕ E → Type 0)
     → ((t : List ℕ) (r : Result ℕ E) → gives t r → ParsesUnsigned bits 10 t r)
     → (text : Option (List ℕ)) (read : Option ℕ) → (text ≡ None → read ≡ None)
     → ((t : List ℕ) → text ≡ Some t → ReadsOne gives t read) → IsNumberIfGiven least most text read
-number_if_read bits least most fits small E gives parses None read none some = none refl
-number_if_read bits least most fits small E gives parses (Some t) read none some = λ m above below is.
-    digits_read bits E gives parses m t (omega (arith, below, fits)) (omega (arith, below, small)) is read (some t refl)
+number_if_read bits least most fits E gives parses None read none some = none refl
+number_if_read bits least most fits E gives parses (Some t) read none some = λ m above below writes.
+    digits_read bits E gives parses m t (omega (arith, below, fits)) writes read (some t refl)
 
 -- the default stands for a number out of range, which no text writes
 pub out_of_range : (default least most n : ℕ) (text : Option (List ℕ)) → IsNumberOr default least most text n → least ≤ default → default ≤ most → ((least ≤ n) → (n ≤ most) → ⊥) → IsNumberOr default least most text default

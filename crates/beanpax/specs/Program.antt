@@ -1,16 +1,17 @@
 -- What the program tells of its end.
-use Rattle.std.specs.Prelude.{◌≡◌, ◌⊎◌, ℕ, Bool, true, false, Option, List, codes}
+use Rattle.std.specs.Prelude.{◌≡◌, ◌⊎◌, ℕ, Bool, true, false, Option, List, [], codes}
 use Rattle.std.specs.Bool.{⊤}
-use Rattle.std.specs.Io.KnownBytes.{Appends}
+use Rattle.std.specs.Io.KnownBytes.{Appends, IsAtEnd}
 use Rattle.session.specs.Streams.{AppendsBeginning}
 use Rattle.beanpax.specs.Runs.{Answers}
 use Rattle.session.specs.declared.faults.End.{End}
+use Rattle.session.specs.declared.faults.End.TheVariants.{Eof}
 use Rattle.beanpax.specs.declared.faults.ProgramFault.{ProgramFault}
 use Rattle.beanpax.specs.declared.faults.ProgramFault.TheVariants.{OutOfMemory, BadNumber, ReadFailed, WriteFailed, ServiceStopped, ListenFailed, FileFailed, ThreadFailed}
 use Rattle.beanpax.specs.declared.words.ServerOptions.{ServerOptions}
 use Rattle.beanpax.specs.Servers.{listening_line}
 use Rattle.beanpax.specs.Verdicts.{IsVerdict, is_legal, verdict_line}
-use Rattle.beanpax.specs.Words.{AskFor, AskForDump, AskForRun}
+use Rattle.beanpax.specs.Words.{AskFor, AskForDump, AskForHelp, AskForRun, AskForServer}
 use Rattle.beanpax.specs.declared.verdict.Verdict.{Verdict}
 
 -- A failure is told only of a stream that has failed, that the service stopped only where the words ask for a run, and
@@ -29,6 +30,11 @@ IsCaused words ThreadFailed input_failed output_failed = AskFor (codes "serve") 
 -- a client was answered to the end of its session
 abbrev pub IsRun : Option (List ℕ) → Option (List ℕ) → Option (List ℕ) → Option (List ℕ) → Type 0
 IsRun left rest held holds = (end : End) × Answers left rest held holds end
+
+-- the same, and where the client didn't quit, the reader has come to its end
+abbrev pub IsWholeRun : Option (List ℕ) → Option (List ℕ) → Bool → Option (List ℕ) → Option (List ℕ) → Type 0
+IsWholeRun left rest has_ended held holds =
+    (end : End) × Answers left rest held holds end × (end ≡ Eof → IsAtEnd rest × (has_ended ≡ true))
 
 -- why a run ended before: no memory, a service that stopped, or a stream that failed
 abbrev pub IsRunFault : Bool → Bool → ProgramFault → Type 0
@@ -49,6 +55,26 @@ HasInspected held holds verdict = ((text : List ℕ) × IsVerdict text verdict) 
 -- and it was that nothing is wrong, or another
 abbrev pub EndsWith : Bool → Option (List ℕ) → Option (List ℕ) → Type 0
 EndsWith legal held holds = (verdict : Verdict) × (is_legal verdict ≡ legal) × HasInspected held holds verdict
+
+-- the line by which the verdict on some text is told
+abbrev pub IsVerdictLine : List ℕ → Type 0
+IsVerdictLine line = (verdict : Verdict) × ((text : List ℕ) × IsVerdict text verdict) × (line ≡ verdict_line verdict)
+
+-- a beginning of such a line was told, or nothing
+abbrev pub BeginsVerdict : Option (List ℕ) → Option (List ℕ) → Type 0
+BeginsVerdict held holds = (line : List ℕ) × ((line ≡ []) ⊎ IsVerdictLine line) × AppendsBeginning held holds line
+
+-- What these words let the program tell on its output, where they ask for no run: nothing, the help, the line by which a
+-- server tells its port, or a verdict.
+abbrev pub MayTell : List (List ℕ) → List ℕ → Type 0
+MayTell words text =
+    (text ≡ []) ⊎ AskForHelp words ⊎
+    ((options : ServerOptions) × AskForServer words options × (text ≡ listening_line options.port)) ⊎
+    (AskFor (codes "inspect") words × IsVerdictLine text)
+
+-- a beginning of what it may tell was told, and nothing else
+abbrev pub BeginsToTell : List (List ℕ) → Option (List ℕ) → Option (List ℕ) → Type 0
+BeginsToTell words held holds = (text : List ℕ) × MayTell words text × AppendsBeginning held holds text
 
 -- why nothing was found: there is no such file to be read, no memory, or no output
 abbrev pub IsInspectionFault : Bool → ProgramFault → Type 0

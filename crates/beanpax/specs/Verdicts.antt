@@ -8,6 +8,7 @@ use Rattle.chronicle.specs.Checking.{IsFaultless}
 use Rattle.chronicle.specs.CheckFaults.{IsFaultAt}
 use Rattle.chronicle.specs.Dump.{dump_text}
 use Rattle.chronicle.specs.Reading.{IsBadLine}
+use Rattle.chronicle.specs.Values.{IsChronicleValue}
 use Rattle.chronicle.specs.declared.check_fault.What.{What}
 use Rattle.chronicle.specs.declared.check_fault.What.TheVariants.{NotSubmitted, NotKept, SubmittedTwice, PlacedTooEarly, NotTheQueuesAnswer}
 use Rattle.beanpax.specs.declared.verdict.Verdict.{Verdict}
@@ -20,11 +21,15 @@ IsVerdictOn c (Legal submitted answered ordered) =
 IsVerdictOn c (BadLine n) = ⊥
 IsVerdictOn c (At n what) = IsFaultAt c n what
 
+-- the verdict on the chronicle whose dump the text is
+abbrev pub IsVerdictOnDump : List ℕ → Verdict → Type 0
+IsVerdictOnDump text verdict = (c : Chronicle Op Reply) × IsChronicleValue c × (dump_text c ≡ text) × IsVerdictOn c verdict
+
 -- the verdict on a text: that on the chronicle whose dump it is, or its first line outside the form
 abbrev pub IsVerdict : List ℕ → Verdict → Type 0
 IsVerdict text (BadLine n) = IsBadLine n text
-IsVerdict text (Legal submitted answered ordered) = (c : Chronicle Op Reply) × (dump_text c ≡ text) × IsVerdictOn c (Legal submitted answered ordered)
-IsVerdict text (At n what) = (c : Chronicle Op Reply) × (dump_text c ≡ text) × IsVerdictOn c (At n what)
+IsVerdict text (Legal submitted answered ordered) = IsVerdictOnDump text (Legal submitted answered ordered)
+IsVerdict text (At n what) = IsVerdictOnDump text (At n what)
 
 -- nothing is wrong
 abbrev pub is_legal : Verdict → Bool

@@ -1,6 +1,6 @@
 -- What the words of a command line ask for.
 use Rattle.std.specs.Prelude.{◌≡◌, ◌≢◌, ◌≤◌, ◌^◌, ◌-◌, ℕ, pos, true, List, [], Option, None, Some, codes, option_map, option_and_then, unwrap_or}
-use Rattle.std.specs.Fmt.{decimal}
+use Rattle.std.specs.Str.Parse.{IsNumeral, digits_value, without_leading_plus}
 use Rattle.clap.specs.Words.{App, Rule, IsAmong, Kinds, fault_of, first_of, new_app, new_rule, one_of, subcommand_of, with_rule, with_subcommand}
 use Rattle.clap.specs.declared.builder.value_parser.ValueParser.TheVariants as parser
 use Rattle.clap.specs.declared.error.kind.ErrorKind.{ErrorKind}
@@ -73,15 +73,19 @@ text_given words option = option_and_then (λ command. one_of option command.1) 
 unfoldable pub word_given : List (List ℕ) → List ℕ → Option (List ℕ)
 word_given words option = option_and_then (λ command. first_of option command.1) (subcommand_of program_command words)
 
+-- the text writes this number: in digits, with any zeros and perhaps a plus in front
+abbrev pub Writes : List ℕ → ℕ → Type 0
+Writes text n = IsNumeral 10 (without_leading_plus text) × (digits_value 10 (without_leading_plus text) ≡ n)
+
 -- the number from least to most that the text writes, or the default where there is no text
 abbrev pub IsNumberOr : ℕ → ℕ → ℕ → Option (List ℕ) → ℕ → Type 0
 IsNumberOr default least most None n = n ≡ default
-IsNumberOr default least most (Some text) n = (m : ℕ) → least ≤ m → m ≤ most → text ≡ decimal m → n ≡ m
+IsNumberOr default least most (Some text) n = (m : ℕ) → least ≤ m → m ≤ most → Writes text m → n ≡ m
 
 -- the number from least to most that the text writes, or none where there is no text
 abbrev pub IsNumberIfGiven : ℕ → ℕ → Option (List ℕ) → Option ℕ → Type 0
 IsNumberIfGiven least most None n = n ≡ None
-IsNumberIfGiven least most (Some text) n = (m : ℕ) → least ≤ m → m ≤ most → text ≡ decimal m → n ≡ Some m
+IsNumberIfGiven least most (Some text) n = (m : ℕ) → least ≤ m → m ≤ most → Writes text m → n ≡ Some m
 
 -- what a server is to do, by the texts of its options: those from which numbers are read, and those that are taken as they stand
 pub record IsServerOf (text word : List ℕ → Option (List ℕ)) (options : ServerOptions) : Type 0 where

@@ -15,7 +15,9 @@ pub(crate) struct Connections {
 
 impl Connections {
     /// Those that connect here: as many as there is said, or without end.
-    pub(crate) fn new(listener: TcpListener, left: Option<u32>) -> Connections {
+    pub(crate) fn new(listener: TcpListener, left: Option<u32>) -> Connections
+        ensures { result.left ≡ left }
+    {
         Connections { listener, left }
     }
 

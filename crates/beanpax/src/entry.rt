@@ -1,8 +1,10 @@
-ghost use Rattle.std.specs.Prelude.{◌≡◌, ◌≤◌, ◌⊎◌, ℕ, List, true, false, map, string_bytes, Ok, IfOk, IfErr, OnOk};
+ghost use Rattle.std.specs.Prelude.{◌≡◌, ◌≤◌, ◌⊎◌, ℕ, List, true, false, map, string_bytes, Ok, IfOk, IfErr, OnOk, OnErr};
 ghost use Rattle.beanpax.specs.declared.faults.ProgramFault.{ProgramFault};
 ghost use Rattle.beanpax.specs.declared.words.ServerOptions.{ServerOptions};
 ghost use Rattle.beanpax.specs.Faults.{line_of};
 ghost use Rattle.beanpax.specs.Program.{EndsWith, HasListened, IsCaused, IsRun, IsRunFault, WritesText};
+ghost use Rattle.beanpax.specs.Program.{BeginsToTell, IsWholeRun};
+ghost use Rattle.beanpax.specs.Runs.{BreaksOff};
 ghost use Rattle.beanpax.specs.declared.verdict.Verdict.{Verdict};
 ghost use Rattle.beanpax.specs.Verdicts.{is_legal};
 ghost use Rattle.beanpax.specs.Words.{AreWrong, AskForHelp, AskForInspection, AskForRun, AskForServer};
@@ -14,6 +16,7 @@ use crate::run::run_bytes;
 use crate::server::serve_tcp;
 use crate::verdict::Verdict;
 use crate::words::{Asked, parse_words};
+use bean_codec::front_item;
 use session::{ByteIn, ByteOut, write_all};
 use std::alloc::{AllocError, Global};
 
@@ -65,6 +68,16 @@ pub fn program<H: Host, R: ByteIn, W: ByteOut, E: ByteOut>(
         (line_of fault) }
     ensures wrong { result ≡ WRONG_WORDS → AreWrong (map string_bytes words.now) }
     ensures untouched { result ≡ WRONG_WORDS → (input.new ≡ input.old) × (output.new ≡ output.old) }
+
+    ensures whole { result ≡ DONE → AskForRun (map string_bytes words.now)
+        → IsWholeRun (R.remaining input.old) (R.remaining input.new) (R.has_ended input.new)
+        (W.contents output.old) (W.contents output.new) }
+    ensures breaks_off { result ≡ FAULT → AskForRun (map string_bytes words.now)
+        → BreaksOff (R.remaining input.old) (R.remaining input.new)
+        (W.contents output.old) (W.contents output.new) }
+    ensures unread { (AskForRun (map string_bytes words.now) → ⊥) → input.new ≡ input.old }
+    ensures begins { (AskForRun (map string_bytes words.now) → ⊥)
+        → BeginsToTell (map string_bytes words.now) (W.contents output.old) (W.contents output.new) }
 {
     match parse_words(rt.alloc(), words) {
         Ok(Asked::Run { nodes, seed }) => {
@@ -87,7 +100,10 @@ pub fn program<H: Host, R: ByteIn, W: ByteOut, E: ByteOut>(
             let _ = write_all(errors, text.as_bytes());
             WRONG_WORDS
         }
-        Err(AllocError) => status_after(Err(ProgramFault::OutOfMemory), errors),
+        Err(AllocError) => {
+            front_item();
+            status_after(Err(ProgramFault::OutOfMemory), errors)
+        }
     }
 }
 
@@ -103,7 +119,11 @@ fn run<R: ByteIn, W: ByteOut>(
     requires few { nodes ≤ 7 }
     ensures ok { OnOk result (IsRun (R.remaining input.old) (R.remaining input.new)
         (W.contents output.old) (W.contents output.new)) }
+    ensures whole { OnOk result (IsWholeRun (R.remaining input.old) (R.remaining input.new)
+        (R.has_ended input.new) (W.contents output.old) (W.contents output.new)) }
     ensures err { IfErr result (IsRunFault (R.has_failed input.new) (W.has_failed output.new)) }
+    ensures breaks_off { OnErr result (BreaksOff (R.remaining input.old) (R.remaining input.new)
+        (W.contents output.old) (W.contents output.new)) }
 {
     run_bytes(alloc, nodes, seed, input, output)?;
     Ok(())

@@ -1,5 +1,5 @@
 ghost use Rattle.std.specs.Prelude.{IfOk, IfErr};
-ghost use Rattle.beanpax.specs.Program.{HasInspected, IsInspectionFault};
+ghost use Rattle.beanpax.specs.Program.{BeginsVerdict, HasInspected, IsInspectionFault};
 ghost use Rattle.beanpax.specs.Verdicts.{IsVerdict, IsVerdictOn};
 
 use crate::faults::ProgramFault;
@@ -45,6 +45,7 @@ pub(crate) fn inspect_file<R: Host, W: ByteOut>(
 ) -> Result<Verdict, ProgramFault>
     ensures ok { IfOk result (HasInspected (W.contents output.old) (W.contents output.new)) }
     ensures err { IfErr result (IsInspectionFault (W.has_failed output.new)) }
+    ensures begins { BeginsVerdict (W.contents output.old) (W.contents output.new) }
 {
     let text = fs::read(rt, file).map_err(|_| ProgramFault::FileFailed)?;
     let verdict = inspect_text(rt.alloc(), text.as_slice())?;

@@ -10,9 +10,11 @@ ghost use Rattle.session.specs.declared.faults.End.{End};
 ghost use Rattle.session.specs.Items.{Answer};
 ghost use Rattle.beanpax.specs.Sessions.{is_refused};
 ghost use Rattle.beanpax.specs.Told.{IsToldWith};
+ghost use Rattle.beanpax.specs.Verdicts.{IsVerdict};
+ghost use Rattle.beanpax.specs.declared.verdict.Verdict.{Verdict};
 
 use bean_codec::one_item;
-use chronicle::legal_is_faultless;
+use chronicle::{legal_is_faultless, one_bad_line, one_chronicle, one_fault};
 
 /// Every input has one transcript at most, but for which operations were refused for want of memory: what a client is
 /// told is a function of the bytes that it sent, and of that.
@@ -31,4 +33,13 @@ pub fn no_fault_in_a_dump()
         → SubmittedOnce h.nodes.past.happenings.submitted → IsFaultless (chronicle_of h) }
 {
     legal_is_faultless();
+}
+
+/// One thing at most is found of a text: its counts, or its fault, or its bad line.
+pub fn one_verdict()
+    ensures { (text : List ℕ) (v w : Verdict) → IsVerdict text v → IsVerdict text w → v ≡ w }
+{
+    one_chronicle();
+    one_fault();
+    one_bad_line();
 }

@@ -19,7 +19,9 @@ pub(crate) struct ClockSeconds<'a, R> {
 
 impl<'a, R: Clock> ClockSeconds<'a, R> {
     /// They begin now.
-    pub(crate) fn new(clock: &'a R) -> ClockSeconds<'a, R> {
+    pub(crate) fn new(clock: &'a R) -> ClockSeconds<'a, R>
+        ensures { result.second ≡ 0 }
+    {
         ClockSeconds {
             clock,
             start: Instant::now(clock).ok(),

@@ -1,5 +1,6 @@
 ghost use Rattle.std.specs.Prelude.{◌≡◌, ◌≢◌, ◌≤◌, true, None, Ok, Err, IfOk, IfErr, IfSome, OnOk};
 ghost use Rattle.std.specs.Io.KnownBytes.{Appends};
+ghost use Rattle.session.specs.Streams.{AppendsBeginning};
 ghost use Rattle.beanpax.specs.declared.faults.ProgramFault.TheVariants.{ReadFailed, WriteFailed};
 ghost use Rattle.beanpax.specs.declared.faults.ProgramFault.TheVariants.{FileFailed, ListenFailed};
 ghost use Rattle.beanpax.specs.declared.faults.ProgramFault.TheVariants.{ServiceStopped};
@@ -40,6 +41,8 @@ pub(crate) fn serve_tcp<R: Host, W: ByteOut>(
     requires few_workers { options.now.workers ≤ 64 }
     ensures told { OnOk result (Appends (W.contents output.old) (W.contents output.new)
         (listening_line options.now.port)) }
+    ensures begins { AppendsBeginning (W.contents output.old) (W.contents output.new)
+        (listening_line options.now.port) }
     ensures write_failed { result ≡ Err WriteFailed → W.has_failed output.new ≡ true }
     ensures reads_nothing { result ≢ Err ReadFailed }
     ensures never_stops { result ≢ Err ServiceStopped }
@@ -78,6 +81,8 @@ fn listen<R: Host>(rt: &R, port: u16) -> Result<TcpListener, ProgramFault>
 fn tell_port<W: ByteOut>(alloc: Global, port: u16, output: &mut W) -> Result<(), ProgramFault>
     ensures told { OnOk result
         (Appends (W.contents output.old) (W.contents output.new) (listening_line port)) }
+    ensures begins { AppendsBeginning (W.contents output.old) (W.contents output.new)
+        (listening_line port) }
     ensures fault { IfErr result IsOfOutput }
     ensures write_failed { result ≡ Err WriteFailed → W.has_failed output.new ≡ true }
 {
