@@ -1,11 +1,12 @@
-ghost use Rattle.std.specs.Prelude.{◌≡◌, ◌^◌, IfOk};
+ghost use Rattle.std.specs.Prelude.{◌≡◌, ◌^◌, IfOk, option_map};
+ghost use Rattle.job_store.specs.LookUps.{pri_of_job};
+ghost use Rattle.job_store.specs.Searches.{first_of};
 ghost use Rattle.job_store.specs.Entries.{Rising};
 
 use crate::change::Change;
 use crate::job::Job;
 use crate::job_map::JobMap;
 use crate::label::Label;
-use crate::look_up::LookUp;
 use crate::moves::{move_to, move_to_state, store};
 use crate::name::Name;
 use crate::shelves::Shelves;
@@ -50,6 +51,25 @@ fn copy_of(alloc: Global, jobs: &BTreeMap<u64, Job>) -> Result<BTreeMap<u64, Job
         copy.insert(*id, job.copy()?)?;
     }
     Ok(copy)
+}
+
+/// Of two jobs that there may be, that of the least (priority, id).
+fn more_urgent<'a>(
+    one: Option<(u64, &'a Job)>,
+    other: Option<(u64, &'a Job)>,
+) -> Option<(u64, &'a Job)>
+    ensures { option_map (λ e. (e.0, e.1.now)) result
+        ≡ first_of pri_of_job (option_map (λ e. (e.0, e.1.now)) one.entry)
+        (option_map (λ e. (e.0, e.1.now)) other.entry) }
+{
+    let Some((id, job)) = one else {
+        return other;
+    };
+    match other {
+        Some((other_id, other_job))
+            if other_job.pri < job.pri || other_job.pri == job.pri && other_id < id => { other }
+        _ => one,
+    }
 }
 
 impl Jobs {
@@ -154,7 +174,13 @@ impl JobMap for Jobs {
     }
 
     fn best_ready(&self, tubes: &IndexSet<Name>) -> Option<(u64, &Job)> {
-        LookUp::ReadyIn(tubes).least(&self.jobs)
+        // Gives the proof that the ids rise.
+        let _ = &self.jobs;
+        let mut best = None;
+        for tube in tubes.iter() {
+            best = more_urgent(best, self.first_ready(tube));
+        }
+        best
     }
 
     fn first_ready(&self, tube: &Name) -> Option<(u64, &Job)> {
