@@ -1,6 +1,5 @@
 -- Shelves that follow the jobs: in a trial by more places, and at its end by those that go.
-use Rattle.std.proofs.Common.{◌≡◌, ℕ, ◌<◌, ◌≤◌, arith, ap₂, IsSome, nat_le, ◌⊎◌, inl, inr, List, [], ◌++◌, Option, Some, None, IfSome, IfNone, ◌^◌, refl, sym, subst, ◌∙◌, Bool, true, false}
-use Rattle.std.proofs.lemmas.List.{append-nil}
+use Rattle.std.proofs.Common.{◌≡◌, ℕ, ◌<◌, ◌≤◌, arith, ap₂, IsSome, nat_le, ◌⊎◌, inl, inr, List, [], Some, None, IfSome, IfNone, ◌^◌, refl, sym, subst, ◌∙◌, Bool, true, false}
 use Rattle.std.proofs.lemmas.Bool.{both_ways, leb-true}
 use Rattle.std.proofs.lemmas.Bool.Decides.{leb_tells}
 use Rattle.object.specs.Lists.{In}
@@ -10,7 +9,7 @@ use Rattle.job_store.specs.declared.undo.Undo.{Undo}
 use Rattle.job_store.specs.declared.state.State.{State}
 use Rattle.job_store.specs.declared.shelves.Shelves.{Shelves}
 use Rattle.job_store.specs.Entries.{Rising, value_at, with_value, altered, without}
-use Rattle.job_store.specs.Undone.{MapState, set_back, with_log, all_undone}
+use Rattle.job_store.specs.Undone.{MapState, with_log, all_undone}
 use Rattle.job_store.specs.States.{is_due, is_scheduled, due_of}
 use Rattle.job_store.specs.LookUps.{due_by, due_of_job}
 use Rattle.job_store.specs.Least.{IsLeast, NonePasses}
@@ -52,13 +51,6 @@ followed-put s id lo hi job jobs new r old is it = record {
         | inr same ↦ inr (subst (λ d. HasPlaces s d × IsListed s d) (sym same) it)
       ];
 }
-
--- Where a job is absent, nothing is noted
-
-pub none-noted : (is_trial : Bool) (id : ℕ) (o : Option Job) (log : List Undo) → None ≡ o → log ≡ log ++ set_back is_trial id o
-none-noted false id o log e = sym (append-nil log)
-none-noted true id None log e = sym (append-nil log)
-none-noted true id (Some job) log e = cc
 
 -- A change, before any place goes
 
@@ -108,21 +100,7 @@ kept-swept s b none r placed known listed = record {
   none_listed = subst (λ o. IfNone o (s.listed.items ≡ [])) (sym none) listed;
 }
 
--- A trial that begins
-pub kept-begun : (s : Shelves) (b : MapState) → b.before ≡ Some b.jobs → Rising 0 (2 ^ 64) b.jobs → HavePlaces s b.jobs → AreKnown s b.jobs → IsKept s b
-kept-begun s b is r placed known = record {
-  rising = r;
-  placed = placed;
-  known = known;
-  placed_before = subst (λ o. IfSome o (HavePlaces s)) (sym is) placed;
-  listed = subst (λ o. IfSome o (λ before. (e : ℕ × Job) → In e b.jobs → In e before ⊎ IsListed s e)) (sym is) (λ e i. inl i);
-  none_listed = subst (λ o. IfNone o (s.listed.items ≡ [])) (sym is) tt;
-}
-
 -- A trial whose changes are taken back
-
-pub placed-before : (s : Shelves) (a : MapState) (before : List (ℕ × Job)) → IsKept s a → a.before ≡ Some before → HavePlaces s before
-placed-before s a before kept is = subst (λ o. IfSome o (HavePlaces s)) is kept.placed_before
 
 pub known-before : (s : Shelves) (a : MapState) (before : List (ℕ × Job)) → IsKept s a → a.before ≡ Some before → AreKnown s before
 known-before s a before kept is label p i =

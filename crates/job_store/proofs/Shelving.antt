@@ -1,11 +1,11 @@
 -- Shelves after jobs were put, listed and taken out.
-use Rattle.std.proofs.Common.{◌≡◌, ℕ, true, false, ◌⊎◌, inl, inr, List, [], ◌∷◌, ◌++◌, Option, Some, None, IfNone, refl, sym, ap, subst, ◌∙◌}
+use Rattle.std.proofs.Common.{◌≡◌, ℕ, false, ◌⊎◌, inl, inr, List, [], ◌∷◌, ◌++◌, Option, Some, None, IfNone, refl, sym, ap, subst, ◌∙◌}
 use Rattle.std.specs.Prelude.{is_some}
 use Rattle.object.specs.Lists.{In}
 use Rattle.job_store.specs.declared.job.Job.{Job}
 use Rattle.job_store.specs.declared.label.Label.{Label}
 use Rattle.job_store.specs.declared.shelves.Shelves.{Shelves}
-use Rattle.job_store.specs.Shelves.{belongs, number, BelongsAt, places, HasPlaces, HavePlaces, HasPut, HasTaken, IsListed, AreKnown, HasGrown}
+use Rattle.job_store.specs.Shelves.{number, BelongsAt, places, HasPlaces, HavePlaces, HasPut, HasTaken, IsListed, AreKnown, HasGrown}
 
 module _ {X : Type 0} where
   pub in-front : (x : X) (xs ys : List X) → In x xs → In x (xs ++ ys)
@@ -78,9 +78,6 @@ sweep-step s t u jobs x same popped taken gone h = (
 )
 
 -- The place of a job
-
-pub its-place : (label : Label) (id n : ℕ) (job : Job) (p : ℕ × ℕ) → true ≡ belongs label (id, job) → n ≡ number label job → p ≡ (n, id) → BelongsAt label p (id, job)
-its-place label id n job p t e same = (sym t, same ∙ ap (λ m. (m, id)) e)
 
 pub only-place : (label : Label) (id n : ℕ) (job : Job) (p : ℕ × ℕ) → n ≡ number label job → BelongsAt label p (id, job) → p ≡ (n, id)
 only-place label id n job p e b = b.1 ∙ ap (λ m. (m, id)) (sym e)
