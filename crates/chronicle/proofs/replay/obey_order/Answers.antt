@@ -1,10 +1,13 @@
-use Rattle.std.proofs.Common.{◌≡◌, [], length, take, get_or, sym, ap, subst, ◌∙◌, arith, rules}
+use Rattle.std.proofs.Common.{◌≡◌, [], length, map, take, get_or, sym, ap, subst, ◌∙◌, arith, rules}
 use Rattle.std.proofs.lemmas.List.{take_all}
 use Rattle.object.specs.FilterLaws.{FilterLaws}
 use Rattle.bean_queue.specs.declared.op.Op.{Op}
 use Rattle.object.specs.Happenings.{submitted_key}
 use Rattle.chronicle.specs.declared.check_fault.What.TheVariants.{NotSubmitted, NotKept}
+use Rattle.bean_queue.specs.Places.{queue_replay}
 use Rattle.chronicle.specs.Checking.{AreRightPlaces}
+use Rattle.chronicle.specs.Replaying.{placed}
+use Rattle.chronicle.proofs.Legal.{commands_of}
 use Rattle.chronicle.proofs.FirstPlaces.{first_at, no_place, read_first}
 use Rattle.chronicle.proofs.Obeyed.{HasObeyed, nothing_obeyed, one_more, one_obeyed, so_many, above_later, wrong_place}
 use Rattle.chronicle.proofs.replay.obey_order.Goals as goal
@@ -71,3 +74,9 @@ returns-clause-right c =
     let h = c.args.chronicle.now in
     let same = ap length c.order-key-items.ensures.order in
     subst (AreRightPlaces h) (take_all c.loop-place.place h.order (omega arith)) c.loop-place.invariant.right
+
+pub returns-clause-given : goal.returns-clause-given
+returns-clause-given c =
+    let h = c.args.chronicle.now in
+    let same = ap length c.order-key-items.ensures.order in
+    subst (λ done. map placed c.loop-place.given.items ≡ queue_replay (commands_of h done)) (take_all c.loop-place.place h.order (omega arith)) c.loop-place.invariant.says
