@@ -3,3 +3,11 @@ pub mod Entries
 pub mod Undone
 pub mod Least
 pub mod Searches
+pub mod Members
+pub mod Places
+pub mod Shelving
+pub mod Following
+pub mod Racks
+pub mod ShelfFields
+pub mod Everywhere
+pub mod Readiness

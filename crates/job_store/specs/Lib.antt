@@ -6,3 +6,5 @@ pub mod Undone
 pub mod Least
 pub mod LookUps
 pub mod Searches
+pub mod Shelves
+pub mod Racks

@@ -24,6 +24,6 @@ number (LookUp.Due second) job = due_of_job job
 number (LookUp.Held x) job = due_of_job job
 
 -- of two entries that there may be, the one that comes first
-abbrev pub first_of : (Job → ℕ) → Option (ℕ × Job) → Option (ℕ × Job) → Option (ℕ × Job)
+abbrev pub first_of : {X : Type 0} → (X → ℕ) → Option (ℕ × X) → Option (ℕ × X) → Option (ℕ × X)
 first_of by None o = o
 first_of by (Some e) o = Some (lesser by e o)

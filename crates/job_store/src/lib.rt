@@ -7,11 +7,16 @@ mod changes;
 mod job;
 mod job_map;
 mod jobs;
+mod label;
 mod laws;
 mod look_up;
+mod moves;
 mod name;
 mod name_bytes;
+mod rack;
 mod shared_bytes;
+mod shelf;
+mod shelves;
 mod state;
 mod undo;
 

@@ -6,7 +6,6 @@ use crate::reply::Reply;
 use crate::waiting::{first_holder, next_job};
 use job_store::{JobMap, State};
 use object::{Answer, Key, Value};
-use session_store::{first_late, first_watcher};
 use std::alloc::AllocError;
 
 impl<M: JobMap> Logic<M> {
@@ -20,7 +19,7 @@ impl<M: JobMap> Logic<M> {
         let Some((id, job)) = next_job(self.jobs.map(), self.sessions.map()) else {
             return Ok(false);
         };
-        let Some((session, watcher)) = first_watcher(self.sessions.map(), &job.tube) else {
+        let Some((session, watcher)) = self.sessions.first_watcher(&job.tube) else {
             return Ok(false);
         };
         let to = Key {
@@ -92,7 +91,7 @@ impl<M: JobMap> Logic<M> {
             answers.new.items more) }
         ensures before { self.new.before ≡ self.old.before }
     {
-        let Some((session, late)) = first_late(self.sessions.map(), self.counters.now) else {
+        let Some((session, late)) = self.sessions.first_late(self.counters.now) else {
             return Ok(false);
         };
         let to = Key {

@@ -1,16 +1,26 @@
-use Rattle.std.proofs.Common.{ap, ◌∙◌, arith}
+use Rattle.std.proofs.Common.{ap, ◌∙◌}
 use Rattle.job_store.specs.Undone.{MapState}
-use Rattle.job_store.proofs.Entries.{inserted-rises}
-use Rattle.job_store.proofs.Undone.{before-put}
+use Rattle.job_store.proofs.Following.{placed-step, known-step, kept-trial, kept-outside}
 use Rattle.job_store.proofs.jobs.JobsJobMap.insert.Goals as goal
 
-pub invariant_of-self-then-self : goal.invariant_of-self-then-self
-invariant_of-self-then-self c = inserted-rises c.args.id 0 _ _ _ _ (omega arith) (omega arith) c.self.invariant c.in_ok-put.ensures.jobs
+pub sweep-requires-clause-rising : goal.sweep-requires-clause-rising
+sweep-requires-clause-rising c = c.store-done.ensures.rising
 
-pub returns-then-self-clause-before : goal.returns-then-self-clause-before
-returns-then-self-clause-before c =
-    before-put c.self.inside.is_trial c.args.id _ _ c.args.job c.self.inside.log.items c.put.new.log.items c.self.inside.jobs.entries c.put.new.jobs.entries c.if-self.true c.self.invariant c.in_ok-put.ensures.log c.in_ok-put.ensures.jobs ∙
-    ap (λ (m : MapState). m.before) c.self.view_is
+pub sweep-requires-clause-placed : goal.sweep-requires-clause-placed
+sweep-requires-clause-placed c =
+    placed-step c.self.inside.shelves c.store-done.new.shelves c.self.inside.jobs.entries c.store-done.new.jobs.entries c.self.invariant.placed c.store-done.ensures.grown c.store-done.ensures.followed
 
-pub invariant_of-self-2 : goal.invariant_of-self-2
-invariant_of-self-2 c = inserted-rises c.args.id 0 _ _ _ _ (omega arith) (omega arith) c.self.invariant c.in_ok-insert.ensures.entries
+pub sweep-requires-clause-known : goal.sweep-requires-clause-known
+sweep-requires-clause-known c =
+    known-step c.self.inside.shelves c.store-done.new.shelves c.self.inside.jobs.entries c.store-done.new.jobs.entries c.self.invariant.known c.store-done.ensures.grown c.store-done.ensures.followed
+
+pub invariant_of-self : goal.invariant_of-self
+invariant_of-self c =
+    kept-outside c.sweep.new.self c.self.inside.is_trial c.store-done.new.log.items c.store-done.new.jobs.entries c.if-not-self.true c.store-done.ensures.rising c.sweep.ensures.placed c.sweep.ensures.known c.sweep.ensures.listed
+
+pub invariant_of-self-else-not-self : goal.invariant_of-self-else-not-self
+invariant_of-self-else-not-self c =
+    kept-trial c.self.inside.shelves c.store-done.new.shelves c.self.inside.is_trial c.self.inside.log.items c.store-done.new.log.items c.self.inside.jobs.entries c.store-done.new.jobs.entries c.if-not-self.false c.self.invariant c.store-done.ensures.before c.store-done.ensures.grown c.store-done.ensures.followed c.store-done.ensures.rising
+
+pub returns-else-not-self-clause-before : goal.returns-else-not-self-clause-before
+returns-else-not-self-clause-before c = c.store-done.ensures.before ∙ ap (λ (m : MapState). m.before) c.self.view_is

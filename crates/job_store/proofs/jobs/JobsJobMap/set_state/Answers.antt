@@ -1,14 +1,26 @@
-use Rattle.std.proofs.Common.{refl, ap, ◌∙◌}
-use Rattle.job_store.specs.States.{with_state}
+use Rattle.std.proofs.Common.{ap, ◌∙◌}
 use Rattle.job_store.specs.Undone.{MapState}
-use Rattle.job_store.proofs.Entries.{Rising-same, Rising-altered}
-use Rattle.job_store.proofs.Undone.{before-set}
+use Rattle.job_store.proofs.Following.{placed-step, known-step, kept-trial, kept-outside}
 use Rattle.job_store.proofs.jobs.JobsJobMap.set_state.Goals as goal
 
-pub invariant_of-self-2 : goal.invariant_of-self-2
-invariant_of-self-2 c = Rising-same _ _ _ _ c.set_state.ensures (Rising-altered c.args.id (with_state c.args.state) _ _ _ c.self.invariant)
+pub sweep-requires-clause-rising : goal.sweep-requires-clause-rising
+sweep-requires-clause-rising c = c.move_to_state-done.ensures.rising
 
-pub returns-clause-before : goal.returns-clause-before
-returns-clause-before c =
-    before-set c.self.inside.is_trial c.args.id _ _ (with_state c.args.state) c.self.inside.log.items c.note.new.log.items c.self.inside.jobs.entries c.set_state.new.jobs.entries (λ job. refl) c.self.invariant c.in_ok-note.ensures.ok c.set_state.ensures ∙
-    ap (λ (m : MapState). m.before) c.self.view_is
+pub sweep-requires-clause-placed : goal.sweep-requires-clause-placed
+sweep-requires-clause-placed c =
+    placed-step c.self.inside.shelves c.move_to_state-done.new.shelves c.self.inside.jobs.entries c.move_to_state-done.new.jobs.entries c.self.invariant.placed c.move_to_state-done.ensures.grown c.move_to_state-done.ensures.followed
+
+pub sweep-requires-clause-known : goal.sweep-requires-clause-known
+sweep-requires-clause-known c =
+    known-step c.self.inside.shelves c.move_to_state-done.new.shelves c.self.inside.jobs.entries c.move_to_state-done.new.jobs.entries c.self.invariant.known c.move_to_state-done.ensures.grown c.move_to_state-done.ensures.followed
+
+pub invariant_of-self : goal.invariant_of-self
+invariant_of-self c =
+    kept-outside c.sweep.new.self c.self.inside.is_trial c.move_to_state-done.new.log.items c.move_to_state-done.new.jobs.entries c.if-not-self.true c.move_to_state-done.ensures.rising c.sweep.ensures.placed c.sweep.ensures.known c.sweep.ensures.listed
+
+pub invariant_of-self-else-not-self : goal.invariant_of-self-else-not-self
+invariant_of-self-else-not-self c =
+    kept-trial c.self.inside.shelves c.move_to_state-done.new.shelves c.self.inside.is_trial c.self.inside.log.items c.move_to_state-done.new.log.items c.self.inside.jobs.entries c.move_to_state-done.new.jobs.entries c.if-not-self.false c.self.invariant c.move_to_state-done.ensures.before c.move_to_state-done.ensures.grown c.move_to_state-done.ensures.followed c.move_to_state-done.ensures.rising
+
+pub returns-else-not-self-clause-before : goal.returns-else-not-self-clause-before
+returns-else-not-self-clause-before c = c.move_to_state-done.ensures.before ∙ ap (λ (m : MapState). m.before) c.self.view_is

@@ -1,0 +1,199 @@
+-- Shelves that follow the jobs: in a trial by more places, and at its end by those that go.
+use Rattle.std.proofs.Common.{◌≡◌, ℕ, ◌<◌, ◌≤◌, arith, ap₂, IsSome, nat_le, ◌⊎◌, inl, inr, List, [], Some, None, IfSome, IfNone, ◌^◌, refl, sym, subst, ◌∙◌, Bool, true, false}
+use Rattle.std.proofs.lemmas.Bool.{both_ways, leb-true}
+use Rattle.std.proofs.lemmas.Bool.Decides.{leb_tells}
+use Rattle.object.specs.Lists.{In}
+use Rattle.job_store.specs.declared.job.Job.{Job}
+use Rattle.job_store.specs.declared.label.Label.{Label}
+use Rattle.job_store.specs.declared.undo.Undo.{Undo}
+use Rattle.job_store.specs.declared.state.State.{State}
+use Rattle.job_store.specs.declared.shelves.Shelves.{Shelves}
+use Rattle.job_store.specs.Entries.{Rising, value_at, with_value, altered, without}
+use Rattle.job_store.specs.Undone.{MapState, with_log, all_undone}
+use Rattle.job_store.specs.States.{is_due, is_scheduled, due_of}
+use Rattle.job_store.specs.LookUps.{due_by, due_of_job}
+use Rattle.job_store.specs.Least.{IsLeast, NonePasses}
+use Rattle.job_store.specs.Shelves.{belongs, BelongsAt, places, HasPlaces, HavePlaces, IsListed, AreKnown, HasTaken, HasGrown, HasFollowed, IsKept}
+use Rattle.job_store.proofs.Members.{altered-new, altered-old, inserted-new, inserted-old, value-here, value-is, without-was, without-others}
+
+-- The jobs that went and came
+
+pub followed-same : (s : Shelves) (jobs : List (ℕ × Job)) → HasFollowed s jobs jobs
+followed-same s jobs = record { went = λ e i. inl i; came = λ e i. inl i }
+
+pub followed-stay : (s : Shelves) (jobs new : List (ℕ × Job)) → new ≡ jobs → HasFollowed s jobs new
+followed-stay s jobs new same = subst (HasFollowed s jobs) (sym same) (followed-same s jobs)
+
+pub followed-altered : (s : Shelves) (id lo hi : ℕ) (f : Job → Job) (job : Job) (jobs new : List (ℕ × Job)) → Rising lo hi jobs → Some job ≡ value_at id jobs → new ≡ altered id f jobs → IsListed s (id, job) → HasPlaces s (id, f job) × IsListed s (id, f job) → HasFollowed s jobs new
+followed-altered s id lo hi f job jobs new r there is old it = record {
+  went = λ e i.
+      elim (altered-old id lo hi f job e jobs r (sym there) i) as (λ v. In e new ⊎ IsListed s e) [
+        | inl still ↦ inl (subst (In e) (sym is) still)
+        | inr same ↦ inr (subst (IsListed s) (sym same) old)
+      ];
+  came = λ e i.
+      elim (altered-new id lo hi f job e jobs r (sym there) (subst (In e) is i)) as (λ v. In e jobs ⊎ (HasPlaces s e × IsListed s e)) [
+        | inl before ↦ inl before
+        | inr same ↦ inr (subst (λ d. HasPlaces s d × IsListed s d) (sym same) it)
+      ];
+}
+
+pub followed-put : (s : Shelves) (id lo hi : ℕ) (job : Job) (jobs new : List (ℕ × Job)) → Rising lo hi jobs → ((old : Job) → value_at id jobs ≡ Some old → IsListed s (id, old)) → new ≡ with_value id job jobs → HasPlaces s (id, job) × IsListed s (id, job) → HasFollowed s jobs new
+followed-put s id lo hi job jobs new r old is it = record {
+  went = λ e i.
+      elim (inserted-old id job e jobs i) as (λ v. In e new ⊎ IsListed s e) [
+        | inl still ↦ inl (subst (In e) (sym is) still)
+        | inr same ↦ inr (subst (λ k. IsListed s (k, e.1)) (sym same) (old e.1 (value-here id lo hi e jobs r i same)))
+      ];
+  came = λ e i.
+      elim (inserted-new id job e jobs (subst (In e) is i)) as (λ v. In e jobs ⊎ (HasPlaces s e × IsListed s e)) [
+        | inl before ↦ inl before
+        | inr same ↦ inr (subst (λ d. HasPlaces s d × IsListed s d) (sym same) it)
+      ];
+}
+
+-- A change, before any place goes
+
+pub placed-step : (s t : Shelves) (jobs new : List (ℕ × Job)) → HavePlaces s jobs → HasGrown s t → HasFollowed t jobs new → HavePlaces t new
+placed-step s t jobs new placed grown followed e i label p b =
+    elim (followed.came e i) as (λ v. In p (places t label)) [
+      | inl before ↦ grown.keeps label p (placed e before label p b)
+      | inr w ↦ w.0 label p b
+    ]
+
+pub known-step : (s t : Shelves) (jobs new : List (ℕ × Job)) → AreKnown s jobs → HasGrown s t → HasFollowed t jobs new → AreKnown t new
+known-step s t jobs new known grown followed label p i =
+    elim (grown.only label p i) as (λ v. (e : ℕ × Job) × BelongsAt label p e × (In e new ⊎ IsListed t e)) [
+      | inl old ↦
+          let w = known label p old in
+          (w.0, w.1, elim w.2 as (λ v. In w.0 new ⊎ IsListed t w.0) [ inl job ↦ followed.went w.0 job | inr listed ↦ inr (grown.lists w.0 listed) ])
+      | inr w ↦ (w.0, w.1, inr w.2)
+    ]
+
+-- A change in a trial
+pub kept-step : (s t : Shelves) (a b : MapState) (before : List (ℕ × Job)) → IsKept s a → a.before ≡ Some before → b.before ≡ a.before → HasGrown s t → HasFollowed t a.jobs b.jobs → Rising 0 (2 ^ 64) b.jobs → IsKept t b
+kept-step s t a b before kept is same grown followed r =
+    let placed : HavePlaces s before = subst (λ o. IfSome o (HavePlaces s)) is kept.placed_before in
+    let listed : (e : ℕ × Job) → In e a.jobs → In e before ⊎ IsListed s e = subst (λ o. IfSome o (λ before. (e : ℕ × Job) → In e a.jobs → In e before ⊎ IsListed s e)) is kept.listed in
+    let there : b.before ≡ Some before = same ∙ is in
+    record {
+      rising = r;
+      placed = placed-step s t a.jobs b.jobs kept.placed grown followed;
+      known = known-step s t a.jobs b.jobs kept.known grown followed;
+      placed_before = subst (λ o. IfSome o (HavePlaces t)) (sym there) (λ e i label p k. grown.keeps label p (placed e i label p k));
+      listed = subst (λ o. IfSome o (λ before. (e : ℕ × Job) → In e b.jobs → In e before ⊎ IsListed t e)) (sym there)
+          (λ e i. elim (followed.came e i) as (λ v. In e before ⊎ IsListed t e) [
+            | inl old ↦ elim (listed e old) as (λ v. In e before ⊎ IsListed t e) [ inl first ↦ inl first | inr l ↦ inr (grown.lists e l) ]
+            | inr w ↦ inr w.1
+          ]);
+      none_listed = subst (λ o. IfNone o (t.listed.items ≡ [])) (sym there) tt;
+    }
+
+-- Outside a trial, where none is listed
+pub kept-swept : (s : Shelves) (b : MapState) → b.before ≡ None → Rising 0 (2 ^ 64) b.jobs → HavePlaces s b.jobs → AreKnown s b.jobs → s.listed.items ≡ [] → IsKept s b
+kept-swept s b none r placed known listed = record {
+  rising = r;
+  placed = placed;
+  known = known;
+  placed_before = subst (λ o. IfSome o (HavePlaces s)) (sym none) tt;
+  listed = subst (λ o. IfSome o (λ before. (e : ℕ × Job) → In e b.jobs → In e before ⊎ IsListed s e)) (sym none) tt;
+  none_listed = subst (λ o. IfNone o (s.listed.items ≡ [])) (sym none) listed;
+}
+
+-- A trial whose changes are taken back
+
+pub known-before : (s : Shelves) (a : MapState) (before : List (ℕ × Job)) → IsKept s a → a.before ≡ Some before → AreKnown s before
+known-before s a before kept is label p i =
+    let listed : (e : ℕ × Job) → In e a.jobs → In e before ⊎ IsListed s e = subst (λ o. IfSome o (λ before. (e : ℕ × Job) → In e a.jobs → In e before ⊎ IsListed s e)) is kept.listed in
+    let w = kept.known label p i in
+    (w.0, w.1, elim w.2 as (λ v. In w.0 before ⊎ IsListed s w.0) [ inl job ↦ listed w.0 job | inr l ↦ inr l ])
+
+-- The jobs before a trial
+
+pub before-same : (is_trial : Bool) (log new-log : List Undo) (jobs new : List (ℕ × Job)) → new-log ≡ log → new ≡ jobs → (with_log is_trial new-log new).before ≡ (with_log is_trial log jobs).before
+before-same is_trial log new-log jobs new l n = ap₂ (λ us js. (with_log is_trial us js).before) l n
+
+in-trial : (is_trial : Bool) (log : List Undo) (jobs : List (ℕ × Job)) → is_trial ≡ true → (with_log is_trial log jobs).before ≡ Some (all_undone log jobs)
+in-trial true log jobs t = refl
+in-trial false log jobs t = cc
+
+no-trial : (is_trial : Bool) (log : List Undo) (jobs : List (ℕ × Job)) → is_trial ≡ false → (with_log is_trial log jobs).before ≡ None
+no-trial true log jobs t = cc
+no-trial false log jobs t = refl
+
+pub before-outside : (is_trial : Bool) (log new-log : List Undo) (jobs new : List (ℕ × Job)) → is_trial ≡ false → (with_log is_trial new-log new).before ≡ (with_log is_trial log jobs).before
+before-outside true log new-log jobs new t = cc
+before-outside false log new-log jobs new t = refl
+
+pub kept-trial : (s t : Shelves) (is_trial : Bool) (log new-log : List Undo) (jobs new : List (ℕ × Job)) → is_trial ≡ true → IsKept s (with_log is_trial log jobs) → (with_log is_trial new-log new).before ≡ (with_log is_trial log jobs).before → HasGrown s t → HasFollowed t jobs new → Rising 0 (2 ^ 64) new → IsKept t (with_log is_trial new-log new)
+kept-trial s t is_trial log new-log jobs new true-trial kept same grown followed r =
+    kept-step s t (with_log is_trial log jobs) (with_log is_trial new-log new) (all_undone log jobs) kept (in-trial is_trial log jobs true-trial) same grown followed r
+
+pub kept-outside : (s : Shelves) (is_trial : Bool) (log : List Undo) (jobs : List (ℕ × Job)) → is_trial ≡ false → Rising 0 (2 ^ 64) jobs → HavePlaces s jobs → AreKnown s jobs → s.listed.items ≡ [] → IsKept s (with_log is_trial log jobs)
+kept-outside s is_trial log jobs f r placed known listed =
+    kept-swept s (with_log is_trial log jobs) (no-trial is_trial log jobs f) r placed known listed
+
+pub known-undone : (s : Shelves) (is_trial : Bool) (log : List Undo) (jobs : List (ℕ × Job)) → IsKept s (with_log is_trial log jobs) → IsSome (with_log is_trial log jobs).before → AreKnown s (all_undone log jobs)
+known-undone s true log jobs kept some = known-before s (with_log true log jobs) (all_undone log jobs) kept refl
+known-undone s false log jobs kept some = cc
+
+pub kept-none : (s : Shelves) (jobs : List (ℕ × Job)) → jobs ≡ [] → ((l : Label) (p : ℕ × ℕ) → In p (places s l) → ⊥) → s.listed.items ≡ [] → IsKept s (record { jobs = jobs; before = None })
+kept-none s jobs none empty listed =
+    kept-swept s (record { jobs = jobs; before = None }) refl (subst (Rising 0 (2 ^ 64)) (sym none) (omega arith)) (subst (HavePlaces s) (sym none) (λ e i. absurd i)) (λ l p i. absurd (empty l p i)) listed
+
+-- A job that is removed
+pub kept-removed : (s t : Shelves) (is_trial : Bool) (log : List Undo) (jobs new : List (ℕ × Job)) (id : ℕ) (job : Job) → IsKept s (with_log is_trial log jobs) → (with_log is_trial log jobs).before ≡ None → Rising 0 (2 ^ 64) new → new ≡ without id jobs → value_at id jobs ≡ Some job → HasTaken s t new → ((l : Label) (p : ℕ × ℕ) → In p (places t l) → BelongsAt l p (id, job) → (e : ℕ × Job) × BelongsAt l p e × In e new) → IsKept t (with_log is_trial log new)
+kept-removed s t true log jobs new id job kept none r is there taken gone = cc
+kept-removed s t false log jobs new id job kept none r is there taken gone =
+    let empty : s.listed.items ≡ [] = kept.none_listed in
+    kept-swept t (with_log false log new) refl r
+    (λ e i l p b. taken.keeps l p e i b (kept.placed e (without-was id e jobs (subst (In e) is i)) l p b))
+    (λ l p i.
+    let w = kept.known l p (taken.only l p i) in
+    elim w.2 as (λ v. (e : ℕ × Job) × BelongsAt l p e × (In e new ⊎ IsListed t e)) [
+      | inl old ↦ elim (without-others id w.0 jobs old) as (λ v. (e : ℕ × Job) × BelongsAt l p e × (In e new ⊎ IsListed t e)) [
+        | inl still ↦ (w.0, w.1, inl (subst (In w.0) (sym is) still))
+        | inr same ↦
+            let y = gone l p i (subst (BelongsAt l p) (value-is id 0 (2 ^ 64) job w.0 jobs kept.rising there old same) w.1) in
+            (y.0, y.1, inl y.2)
+      ]
+      | inr listed ↦ absurd (subst (In w.0) empty listed)
+    ])
+    (taken.lists ∙ empty)
+
+-- Which job is due
+
+scheduled-due : (second : ℕ) (state : State) → is_due second state ≡ true → is_scheduled state ≡ true
+scheduled-due second State.Ready t = cc
+scheduled-due second (State.Delayed due) t = refl
+scheduled-due second (State.Reserved y due) t = refl
+scheduled-due second (State.Buried rank) t = cc
+
+due-time : (second : ℕ) (state : State) → is_due second state ≡ true → due_of state ≤ second
+due-time second State.Ready t = cc
+due-time second (State.Delayed due) t = leb-true due second t
+due-time second (State.Reserved y due) t = leb-true due second t
+due-time second (State.Buried rank) t = cc
+
+not-yet : (a b : ℕ) → nat_le a b ≡ false → b < a
+not-yet a b f = elim (leb_tells a b) as (λ v. b < a) [ inl h ↦ absurd (both_ways (nat_le a b) f h.0) | inr h ↦ h.1 ]
+
+late-time : (second : ℕ) (state : State) → is_scheduled state ≡ true → is_due second state ≡ false → second < due_of state
+late-time second State.Ready t f = cc
+late-time second (State.Delayed due) t f = not-yet due second f
+late-time second (State.Reserved y due) t f = not-yet due second f
+late-time second (State.Buried rank) t f = cc
+
+pub due-found : (second : ℕ) (jobs : List (ℕ × Job)) (e : ℕ × Job) → IsLeast (belongs Label.Scheduled) due_of_job jobs e → is_due second e.1.state ≡ true → IsLeast (due_by second) due_of_job jobs e
+due-found second jobs e best t = record {
+  member = best.member;
+  passes = t;
+  least = λ d i u. best.least d i (scheduled-due second d.1.state u);
+}
+
+pub due-later : (second : ℕ) (jobs : List (ℕ × Job)) (e : ℕ × Job) → IsLeast (belongs Label.Scheduled) due_of_job jobs e → is_due second e.1.state ≡ false → NonePasses (due_by second) jobs
+due-later second jobs e best f d i u =
+    best.least d i (scheduled-due second d.1.state u) (inl (omega (arith, due-time second d.1.state u, late-time second e.1.state best.passes f)))
+
+pub due-none : (second : ℕ) (jobs : List (ℕ × Job)) → NonePasses (belongs Label.Scheduled) jobs → NonePasses (due_by second) jobs
+due-none second jobs none d i u = none d i (scheduled-due second d.1.state u)

@@ -1,0 +1,36 @@
+use Rattle.std.proofs.Common.{◌^◌, ap, subst, sym, ◌∙◌}
+use Rattle.job_store.specs.declared.label.Label.{Label}
+use Rattle.job_store.specs.Undone.{MapState}
+use Rattle.job_store.specs.Entries.{Rising}
+use Rattle.job_store.specs.Least.{IsLeast, NonePasses}
+use Rattle.job_store.specs.LookUps.{due_by, due_of_job}
+use Rattle.job_store.proofs.Least.{least-only, least-nothing}
+use Rattle.job_store.proofs.Following.{due-found, due-later, due-none}
+use Rattle.job_store.proofs.jobs.JobsJobMap.due.Goals as goal
+use Rattle.job_store.proofs.jobs.JobsJobMap.due.Goals.{in_default-via-in-Some+else-is_due, in_default-via-in_default}
+
+pub first-requires-clause-all : goal.first-requires-clause-all
+first-requires-clause-all c p e i b = c.self.invariant.placed e i Label.Scheduled p b
+
+pub returns-in-Some-clause-found : goal.returns-in-Some-clause-found
+returns-in-Some-clause-found c =
+    subst (λ jobs. IsLeast (due_by c.args.second) due_of_job jobs (c.in-Some.id, c.in-Some.job.now)) (ap (λ (m : MapState). m.jobs) c.self.view_is)
+    (due-found c.args.second c.self.inside.jobs.entries (c.in-Some.id, c.in-Some.job.now) c.in-Some.ensures.found (sym c.is_due.ensures ∙ c.if-is_due.true))
+
+pub returns-in-Some-clause-job : goal.returns-in-Some-clause-job
+returns-in-Some-clause-job c =
+    sym (least-only (due_by c.args.second) due_of_job c.args.self.now.jobs _ _ (c.in-Some.id, c.in-Some.job.now)
+    (subst (Rising 0 (2 ^ 64)) (ap (λ (m : MapState). m.jobs) c.self.view_is) c.self.invariant.rising) (returns-in-Some-clause-found c))
+
+pub returns-in_default-clause-none : goal.returns-in_default-clause-none
+returns-in_default-clause-none c =
+    subst (NonePasses (due_by c.args.second)) (ap (λ (m : MapState). m.jobs) c.self.view_is)
+    (elim c.in_default.branch as (λ b. NonePasses (due_by c.args.second) c.self.inside.jobs.entries) [
+      | in_default-via-in-Some+else-is_due w ↦
+          due-later c.args.second c.self.inside.jobs.entries (w.in-Some.id, w.in-Some.job.now) w.in-Some.ensures.found (sym w.is_due.ensures ∙ w.if-is_due.false)
+      | in_default-via-in_default w ↦ due-none c.args.second c.self.inside.jobs.entries w.in_default.ensures.none
+    ])
+
+pub returns-in_default-clause-job : goal.returns-in_default-clause-job
+returns-in_default-clause-job c =
+    least-nothing (due_by c.args.second) due_of_job c.args.self.now.jobs (returns-in_default-clause-none c)
