@@ -1,7 +1,7 @@
 -- What stands on a shelf, in its order, and after a place is put or taken out.
-use Rattle.std.proofs.Common.{◌≡◌, ℕ, ◌<◌, Bool, true, false, cond, ◌⊎◌, inl, inr, List, [], ◌∷◌, Some, refl, sym, ap, ap₂, subst, eq-eqb, eqb-true, ◌&&◌, ◌==◌, ◌∙◌, arith, Less, Equal, Greater, nat_cmp, Ordering}
+use Rattle.std.proofs.Common.{◌≡◌, ℕ, ◌<◌, ◌≤◌, Bool, true, false, cond, ◌⊎◌, inl, inr, List, [], ◌∷◌, Some, refl, sym, ap, ap₂, subst, eq-eqb, eqb-true, ◌&&◌, ◌==◌, ◌∙◌, arith, Less, Equal, Greater, nat_cmp, Ordering}
 use Rattle.std.proofs.lemmas.Bool.{cases_order, both_ways, and_parts, and_from, or_left, or_right}
-use Rattle.std.specs.Ordering.{ordering_then, match_ordering}
+use Rattle.std.specs.Ordering.{ordering_then, match_ordering, is_le}
 use Rattle.std.specs.List.Sorted.{IsStrictlySortedBy}
 use Rattle.std.specs.List.{AllByRecursion, list_any}
 use Rattle.std.specs.BTreeMap.{is_at}
@@ -12,9 +12,10 @@ use Rattle.job_store.specs.declared.job.Job.{Job}
 use Rattle.job_store.specs.declared.label.Label.{Label}
 use Rattle.job_store.specs.Entries.{Rising, value_at}
 use Rattle.job_store.specs.Least.{ComesBefore, IsLeast, NonePasses}
-use Rattle.job_store.specs.Shelves.{belongs, number, belongs_at, BelongsAt, AreAllOn}
+use Rattle.job_store.specs.ShelfStates.{ShelfState, IsFrom, bare, HasLost, HasReached, HasGained, IsFound}
+use Rattle.job_store.specs.Shelves.{belongs, number, belongs_at, BelongsAt, AreAllFound, IsPassed}
 use Rattle.job_store.proofs.Members.{value-in, in-value}
-use Rattle.job_store.proofs.Entries.{cmp_equal, cmp_greater, same_number}
+use Rattle.job_store.proofs.Entries.{cmp_less, cmp_equal, cmp_greater, same_number}
 
 -- The order of places
 
@@ -44,6 +45,52 @@ before_place p q h =
       | Equal ↦ λ o e. inr (same_number p.0 q.0 o, below_number p.1 q.1 e)
       | Greater ↦ λ o e. cc
     ] refl h
+
+above_number : (a b : ℕ) → nat_cmp a b ≡ Greater → b < a
+above_number a b h =
+    elim (cases_order a b) [
+      | inl same ↦ let e : Equal ≡ Greater = sym (cmp_equal a b same) ∙ h in cc
+      | inr (inl below) ↦ let e : Less ≡ Greater = sym (cmp_less a b below) ∙ h in cc
+      | inr (inr above) ↦ above
+    ]
+
+-- From which place on
+
+pub from-zero : (p : ℕ × ℕ) → IsFrom (0, 0) p
+from-zero p =
+    elim (cases_order 0 p.0) as (λ v. IsFrom (0, 0) p) [
+      | inl same ↦ inr (same, omega arith)
+      | inr (inl below) ↦ inl below
+      | inr (inr above) ↦ absurd (omega (arith, above))
+    ]
+
+pub from-itself : (p : ℕ × ℕ) → IsFrom p p
+from-itself p = inr (refl, omega arith)
+
+pub from-less : (p q : ℕ × ℕ) → place_cmp p q ≡ Less → IsFrom p q
+from-less p q h =
+    elim (before_place p q h) as (λ v. IsFrom p q) [ inl below ↦ inl below | inr w ↦ inr (w.0, omega (arith, w.1)) ]
+
+pub from-greater : (p q : ℕ × ℕ) → place_cmp p q ≡ Greater → IsFrom q p
+from-greater p q h =
+    elim (nat_cmp p.0 q.0) as (λ o. nat_cmp p.0 q.0 ≡ o → ordering_then o (nat_cmp p.1 q.1) ≡ Greater → IsFrom q p) [
+      | Less ↦ λ o e. cc
+      | Equal ↦ λ o e. inr (sym (same_number p.0 q.0 o), let h : q.1 < p.1 = above_number p.1 q.1 e in omega (arith, h))
+      | Greater ↦ λ o e. inl (above_number p.0 q.0 o)
+    ] refl h
+
+pub from-before : (p q r : ℕ × ℕ) → place_cmp p q ≡ Less → IsFrom q r → IsFrom p r
+from-before p q r h from = let less = before_place p q h in grind arith
+
+pub from-le : (p q : ℕ × ℕ) → IsFrom p q → is_le (place_cmp p q) ≡ true
+from-le p q (inl below) = rw (cmp_less p.0 q.0 below) refl
+from-le p q (inr w) =
+    rw (cmp_equal p.0 q.0 w.0)
+    (elim (cases_order p.1 q.1) as (λ v. is_le (nat_cmp p.1 q.1) ≡ true) [
+      | inl same ↦ rw (cmp_equal p.1 q.1 same) refl
+      | inr (inl below) ↦ rw (cmp_less p.1 q.1 below) refl
+      | inr (inr above) ↦ absurd (omega (arith, w.1, above))
+    ])
 
 at_place : (p q : ℕ × ℕ) → is_at (place_cmp p) q ≡ true → p ≡ q
 at_place p q h =
@@ -148,7 +195,49 @@ none-at-id label number id lo hi jobs r none e i b =
     let there : value_at id jobs ≡ Some e.1 = ap (λ k. value_at k jobs) same ∙ in-value lo hi e jobs r i in
     both_ways (belongs_at label (number, id) (id, e.1)) (none e.1 there) (belongs-passes label (number, id) (id, e.1) (subst (λ k. BelongsAt label (number, id) (k, e.1)) (sym same) b))
 
+-- A shelf whose places have changed
+
+pub gained-by : (old mid new : ShelfState) (k : ℕ × ℕ) → mid.places ≡ insert_key place_cmp old.places k → mid.from ≡ old.from → HasReached mid new k → HasGained old new k
+gained-by old mid new k put same reached = record {
+  keeps = λ p i. subst (In p) (sym (reached.places ∙ put)) (put-keeps k p old.places i);
+  only = λ p i.
+      elim (put-only k p old.places (subst (In p) (reached.places ∙ put) i)) as (λ v. In p old.places ⊎ (p ≡ k)) [ inl it ↦ inr it | inr before ↦ inl before ];
+  ahead = λ p h. reached.ahead p (subst (λ from. IsFrom from p) (sym same) h);
+}
+
+pub gained-none : (old new : ShelfState) (k : ℕ × ℕ) → new.places ≡ old.places → new.from ≡ old.from → HasGained old new k
+gained-none old new k places from = record {
+  keeps = λ p i. subst (In p) (sym places) i;
+  only = λ p i. inl (subst (In p) places i);
+  ahead = λ p h. subst (λ from. IsFrom from p) (sym from) h;
+}
+
+pub found-by : (old mid new : ShelfState) (k : ℕ × ℕ) → mid.places ≡ insert_key place_cmp old.places k → HasReached mid new k → IsFound new k
+found-by old mid new k put reached = (subst (In k) (sym (reached.places ∙ put)) (put-there k old.places), reached.reached)
+
+pub lost-by : (old new : ShelfState) (k : ℕ × ℕ) → new.places ≡ remove_key (is_at (place_cmp k)) old.places → list_any (is_at (place_cmp k)) new.places ≡ false → new.from ≡ old.from → HasLost old new k
+lost-by old new k taken gone same = record {
+  keeps = λ p i apart. subst (In p) (sym taken) (take-keeps k p old.places i apart);
+  only = λ p i. (take-was (is_at (place_cmp k)) p old.places (subst (In p) taken i), take-gone k p new.places gone i);
+  ahead = λ p h. subst (λ from. IsFrom from p) (sym same) h;
+}
+
+pub lost-all : (old new : ShelfState) (k : ℕ × ℕ) → HasLost old new k → ((p : ℕ × ℕ) → In p new.places → ⊥) → HasLost old bare k
+lost-all old new k lost none = record {
+  keeps = λ p i apart. none p (lost.keeps p i apart);
+  only = λ p i. absurd i;
+  ahead = λ p h. from-zero p;
+}
+
 -- The first place where a job stands by the map
+
+-- each of the jobs that a look-up of the shelf finds stands at one of these places
+abbrev pub AreAllFrom : Label → ShelfState → List (ℕ × Job) → List (ℕ × ℕ) → Type 0
+AreAllFrom label s jobs places = (p : ℕ × ℕ) (e : ℕ × Job) → In e jobs → BelongsAt label p e → IsFound s p → In p places
+
+-- each of the jobs that belongs on the shelf stands at one of these places
+abbrev pub AreAllOn : Label → List (ℕ × ℕ) → List (ℕ × Job) → Type 0
+AreAllOn label places jobs = (p : ℕ × ℕ) (e : ℕ × Job) → In e jobs → BelongsAt label p e → In p places
 
 pub sorted-rest : (k : ℕ × ℕ) (ps : List (ℕ × ℕ)) → IsStrictlySortedBy place_cmp (k ∷ ps) → IsStrictlySortedBy place_cmp ps
 unfolding IsStrictlySortedBy
@@ -162,6 +251,20 @@ all-in P p (x ∷ xs) a (inr later) = all-in P p xs a.1 later
 sorted-first : (k p : ℕ × ℕ) (ps : List (ℕ × ℕ)) → IsStrictlySortedBy place_cmp (k ∷ ps) → In p ps → place_cmp k p ≡ Less
 unfolding IsStrictlySortedBy
 sorted-first k p ps s i = all-in (λ q. place_cmp k q ≡ Less) p ps s.0 i
+
+pub first-from : (k p : ℕ × ℕ) (ps : List (ℕ × ℕ)) → IsStrictlySortedBy place_cmp (k ∷ ps) → In p (k ∷ ps) → IsFrom k p
+first-from k p ps s (inl here) = subst (IsFrom k) (sym here) (from-itself k)
+first-from k p ps s (inr later) = from-less k p (sorted-first k p ps s later)
+
+pub passed-none : (label : Label) (s : ShelfState) (jobs : List (ℕ × Job)) (place : ℕ × ℕ) → AreAllFrom label s jobs [] → IsPassed label jobs s place
+passed-none label s jobs place all p e i b f = absurd (all p e i b f)
+
+pub passed-to : (label : Label) (s : ShelfState) (jobs : List (ℕ × Job)) (k : ℕ × ℕ) (ps : List (ℕ × ℕ)) → AreAllFrom label s jobs (k ∷ ps) → IsStrictlySortedBy place_cmp (k ∷ ps) → IsPassed label jobs s k
+passed-to label s jobs k ps all sorted p e i b f = first-from k p ps sorted (all p e i b f)
+
+pub passed-here : (label : Label) (s : ShelfState) (jobs : List (ℕ × Job)) (k : ℕ × ℕ) (ps : List (ℕ × ℕ)) → ((e : ℕ × Job) → In e jobs → BelongsAt label k e → ⊥) → AreAllFrom label s jobs (k ∷ ps) → AreAllFrom label s jobs ps
+passed-here label s jobs k ps none all p e i b f =
+    elim (all p e i b f) as (λ v. In p ps) [ inl here ↦ absurd (none e i (subst (λ q. BelongsAt label q e) here b)) | inr later ↦ later ]
 
 pub none-here : (label : Label) (k : ℕ × ℕ) (ps : List (ℕ × ℕ)) (jobs : List (ℕ × Job)) → ((e : ℕ × Job) → In e jobs → BelongsAt label k e → ⊥) → AreAllOn label (k ∷ ps) jobs → AreAllOn label ps jobs
 none-here label k ps jobs none all p e i b =
@@ -185,3 +288,6 @@ first-is-least label k ps jobs e all s i b = record {
 
 pub none-on : (label : Label) (jobs : List (ℕ × Job)) → AreAllOn label [] jobs → NonePasses (belongs label) jobs
 none-on label jobs all e i t = all (number label e.1, e.0) e i (t, refl)
+
+pub none-found : (label : Label) (jobs : List (ℕ × Job)) → AreAllFound label bare jobs → NonePasses (belongs label) jobs
+none-found label jobs all e i t = (all (number label e.1, e.0) e i (t, refl)).0
