@@ -2,7 +2,7 @@
 use Rattle.std.proofs.Common.{◌≡◌, ℕ, true, false, cond, not, ◌&&◌, ◌∙◌, inl, inr, List, [], ◌∷◌, map, refl, sym, ap, ap₂, subst, ◌||◌, Less, Equal, Greater, nat_cmp, Ordering}
 use Rattle.std.proofs.lemmas.Bool.{both_ways}
 use Rattle.std.proofs.lemmas.List.Kept.{IsStrictlySortedBy-filter}
-use Rattle.std.specs.Ordering.{ordering_then, match_ordering, is_eq, is_le, is_lt, ord_min}
+use Rattle.std.specs.Ordering.{ordering_then, match_ordering, is_eq, is_le}
 use Rattle.std.specs.List.Sorted.{IsStrictlySortedBy}
 use Rattle.std.specs.List.{AllByRecursion, filter, list_any}
 use Rattle.std.specs.declared.ops.Bound.TheVariants.{Included, Unbounded}
@@ -12,13 +12,13 @@ use Rattle.std.specs.BTreeSet.{insert_key}
 use Rattle.std.specs.Set.{remove_key}
 use Rattle.object.specs.Lists.{In}
 use Rattle.job_store.specs.ShelfStates.{place_of, IsFrom}
-use Rattle.job_store.proofs.Places.{place_cmp, same_place, from-itself, from-before, from-greater, from-le}
+use Rattle.job_store.proofs.Places.{place_cmp, from-le}
 
 module _ {N : Type 0} (cmp : N → N → Ordering) (value : N → ℕ) (law : (x y : N) → cmp x y ≡ nat_cmp (value x) (value y)) where
   abbrev pub pair_cmp : N × ℕ → N × ℕ → Ordering
   pair_cmp p q = ordering_then (cmp p.0 q.0) (nat_cmp p.1 q.1)
 
-  pub as_places : (p q : N × ℕ) → pair_cmp p q ≡ place_cmp (place_of value p) (place_of value q)
+  as_places : (p q : N × ℕ) → pair_cmp p q ≡ place_cmp (place_of value p) (place_of value q)
   as_places p q = ap (λ o. ordering_then o (nat_cmp p.1 q.1)) (law p.0 q.0)
 
   pub put-of : (k : N × ℕ) (ks : List (N × ℕ)) → map (place_of value) (insert_key pair_cmp ks k) ≡ insert_key place_cmp (map (place_of value) ks) (place_of value k)
@@ -48,7 +48,7 @@ module _ {N : Type 0} (cmp : N → N → Ordering) (value : N → ℕ) (law : (x
   after-of x [] a = a
   after-of x (y ∷ ys) a = (sym (as_places x y) ∙ a.0, after-of x ys a.1)
 
-  pub sorted-of : (ks : List (N × ℕ)) → IsStrictlySortedBy pair_cmp ks → IsStrictlySortedBy place_cmp (map (place_of value) ks)
+  sorted-of : (ks : List (N × ℕ)) → IsStrictlySortedBy pair_cmp ks → IsStrictlySortedBy place_cmp (map (place_of value) ks)
   unfolding IsStrictlySortedBy
   sorted-of [] s = s
   sorted-of (x ∷ xs) s = (after-of x xs s.0, sorted-of xs s.1)
@@ -71,21 +71,3 @@ module _ {N : Type 0} (cmp : N → N → Ordering) (value : N → ℕ) (law : (x
   ranged-sorted from ks s =
       let test = range_contains pair_cmp (Included from) Unbounded in
       sorted-of (filter test ks) (IsStrictlySortedBy-filter pair_cmp test ks s)
-
-  -- the lesser of two places
-
-  pub min-from : (a b : N × ℕ) (p : ℕ × ℕ) → IsFrom (place_of value a) p → IsFrom (place_of value (ord_min pair_cmp a b)) p
-  min-from a b p h =
-      elim (pair_cmp b a) as (λ o. pair_cmp b a ≡ o → IsFrom (place_of value (cond (is_lt o) b a)) p) [
-        | Less ↦ λ o. from-before (place_of value b) (place_of value a) p (sym (as_places b a) ∙ o) h
-        | Equal ↦ λ o. h
-        | Greater ↦ λ o. h
-      ] refl
-
-  pub min-there : (a b : N × ℕ) → IsFrom (place_of value (ord_min pair_cmp a b)) (place_of value b)
-  min-there a b =
-      elim (pair_cmp b a) as (λ o. pair_cmp b a ≡ o → IsFrom (place_of value (cond (is_lt o) b a)) (place_of value b)) [
-        | Less ↦ λ o. from-itself (place_of value b)
-        | Equal ↦ λ o. subst (IsFrom (place_of value a)) (sym (same_place (place_of value b) (place_of value a) (sym (as_places b a) ∙ o))) (from-itself (place_of value a))
-        | Greater ↦ λ o. from-greater (place_of value b) (place_of value a) (sym (as_places b a) ∙ o)
-      ] refl

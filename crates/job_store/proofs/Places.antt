@@ -1,5 +1,5 @@
 -- What stands on a shelf, in its order, and after a place is put or taken out.
-use Rattle.std.proofs.Common.{◌≡◌, ℕ, ◌<◌, ◌≤◌, Bool, true, false, cond, ◌⊎◌, inl, inr, List, [], ◌∷◌, Some, refl, sym, ap, ap₂, subst, eq-eqb, eqb-true, ◌&&◌, ◌==◌, ◌∙◌, arith, Less, Equal, Greater, nat_cmp, Ordering}
+use Rattle.std.proofs.Common.{◌≡◌, ℕ, ◌<◌, Bool, true, false, cond, ◌⊎◌, inl, inr, List, [], ◌∷◌, Some, refl, sym, ap, ap₂, subst, eq-eqb, eqb-true, ◌&&◌, ◌==◌, ◌∙◌, arith, Less, Equal, Greater, nat_cmp, Ordering}
 use Rattle.std.proofs.lemmas.Bool.{cases_order, both_ways, and_parts, and_from, or_left, or_right}
 use Rattle.std.specs.Ordering.{ordering_then, match_ordering, is_le}
 use Rattle.std.specs.List.Sorted.{IsStrictlySortedBy}
@@ -30,7 +30,7 @@ below_number a b h =
       | inr (inr above) ↦ let e : Greater ≡ Less = sym (cmp_greater a b above) ∙ h in cc
     ]
 
-pub same_place : (p q : ℕ × ℕ) → place_cmp p q ≡ Equal → p ≡ q
+same_place : (p q : ℕ × ℕ) → place_cmp p q ≡ Equal → p ≡ q
 same_place p q h =
     elim (nat_cmp p.0 q.0) as (λ o. nat_cmp p.0 q.0 ≡ o → ordering_then o (nat_cmp p.1 q.1) ≡ Equal → p ≡ q) [
       | Less ↦ λ o e. cc
@@ -46,17 +46,9 @@ before_place p q h =
       | Greater ↦ λ o e. cc
     ] refl h
 
-above_number : (a b : ℕ) → nat_cmp a b ≡ Greater → b < a
-above_number a b h =
-    elim (cases_order a b) [
-      | inl same ↦ let e : Equal ≡ Greater = sym (cmp_equal a b same) ∙ h in cc
-      | inr (inl below) ↦ let e : Less ≡ Greater = sym (cmp_less a b below) ∙ h in cc
-      | inr (inr above) ↦ above
-    ]
-
 -- From which place on
 
-pub from-zero : (p : ℕ × ℕ) → IsFrom (0, 0) p
+from-zero : (p : ℕ × ℕ) → IsFrom (0, 0) p
 from-zero p =
     elim (cases_order 0 p.0) as (λ v. IsFrom (0, 0) p) [
       | inl same ↦ inr (same, omega arith)
@@ -64,23 +56,12 @@ from-zero p =
       | inr (inr above) ↦ absurd (omega (arith, above))
     ]
 
-pub from-itself : (p : ℕ × ℕ) → IsFrom p p
+from-itself : (p : ℕ × ℕ) → IsFrom p p
 from-itself p = inr (refl, omega arith)
 
-pub from-less : (p q : ℕ × ℕ) → place_cmp p q ≡ Less → IsFrom p q
+from-less : (p q : ℕ × ℕ) → place_cmp p q ≡ Less → IsFrom p q
 from-less p q h =
     elim (before_place p q h) as (λ v. IsFrom p q) [ inl below ↦ inl below | inr w ↦ inr (w.0, omega (arith, w.1)) ]
-
-pub from-greater : (p q : ℕ × ℕ) → place_cmp p q ≡ Greater → IsFrom q p
-from-greater p q h =
-    elim (nat_cmp p.0 q.0) as (λ o. nat_cmp p.0 q.0 ≡ o → ordering_then o (nat_cmp p.1 q.1) ≡ Greater → IsFrom q p) [
-      | Less ↦ λ o e. cc
-      | Equal ↦ λ o e. inr (sym (same_number p.0 q.0 o), let h : q.1 < p.1 = above_number p.1 q.1 e in omega (arith, h))
-      | Greater ↦ λ o e. inl (above_number p.0 q.0 o)
-    ] refl h
-
-pub from-before : (p q r : ℕ × ℕ) → place_cmp p q ≡ Less → IsFrom q r → IsFrom p r
-from-before p q r h from = let less = before_place p q h in grind arith
 
 pub from-le : (p q : ℕ × ℕ) → IsFrom p q → is_le (place_cmp p q) ≡ true
 from-le p q (inl below) = rw (cmp_less p.0 q.0 below) refl
@@ -105,7 +86,7 @@ at_itself p = rw (cmp_equal p.0 p.0 refl) (rw (cmp_equal p.1 p.1 refl) refl)
 
 -- A place that is put
 
-pub put-keeps : (k p : ℕ × ℕ) (ps : List (ℕ × ℕ)) → In p ps → In p (insert_key place_cmp ps k)
+put-keeps : (k p : ℕ × ℕ) (ps : List (ℕ × ℕ)) → In p ps → In p (insert_key place_cmp ps k)
 put-keeps k p [] i = absurd i
 put-keeps k p (x ∷ xs) i =
     elim (place_cmp k x) as (λ o. In p (match_ordering o (k ∷ x ∷ xs) (x ∷ xs) (x ∷ insert_key place_cmp xs k))) [
@@ -114,7 +95,7 @@ put-keeps k p (x ∷ xs) i =
       | Greater ↦ elim i as (λ i. In p (x ∷ insert_key place_cmp xs k)) [ inl here ↦ inl here | inr later ↦ inr (put-keeps k p xs later) ]
     ]
 
-pub put-only : (k p : ℕ × ℕ) (ps : List (ℕ × ℕ)) → In p (insert_key place_cmp ps k) → (p ≡ k) ⊎ In p ps
+put-only : (k p : ℕ × ℕ) (ps : List (ℕ × ℕ)) → In p (insert_key place_cmp ps k) → (p ≡ k) ⊎ In p ps
 put-only k p [] i = i
 put-only k p (x ∷ xs) i =
     elim (place_cmp k x) as (λ o. In p (match_ordering o (k ∷ x ∷ xs) (x ∷ xs) (x ∷ insert_key place_cmp xs k)) → (p ≡ k) ⊎ In p (x ∷ xs)) [
@@ -126,7 +107,7 @@ put-only k p (x ∷ xs) i =
       ]
     ] i
 
-pub put-there : (k : ℕ × ℕ) (ps : List (ℕ × ℕ)) → In k (insert_key place_cmp ps k)
+put-there : (k : ℕ × ℕ) (ps : List (ℕ × ℕ)) → In k (insert_key place_cmp ps k)
 put-there k [] = inl refl
 put-there k (x ∷ xs) =
     elim (place_cmp k x) as (λ o. place_cmp k x ≡ o → In k (match_ordering o (k ∷ x ∷ xs) (x ∷ xs) (x ∷ insert_key place_cmp xs k))) [
@@ -137,7 +118,7 @@ put-there k (x ∷ xs) =
 
 -- A place that is taken out
 
-pub take-was : (test : ℕ × ℕ → Bool) (p : ℕ × ℕ) (ps : List (ℕ × ℕ)) → In p (remove_key test ps) → In p ps
+take-was : (test : ℕ × ℕ → Bool) (p : ℕ × ℕ) (ps : List (ℕ × ℕ)) → In p (remove_key test ps) → In p ps
 take-was test p [] i = i
 take-was test p (x ∷ xs) i =
     elim (test x) as (λ b. In p (cond b xs (x ∷ remove_key test xs)) → In p (x ∷ xs)) [
@@ -153,7 +134,7 @@ take-others test p (x ∷ xs) i t =
       | false ↦ λ b. elim i as (λ i. In p (x ∷ remove_key test xs)) [ inl here ↦ inl here | inr later ↦ inr (take-others test p xs later t) ]
     ] refl
 
-pub take-keeps : (k p : ℕ × ℕ) (ps : List (ℕ × ℕ)) → In p ps → (p ≡ k → ⊥) → In p (remove_key (is_at (place_cmp k)) ps)
+take-keeps : (k p : ℕ × ℕ) (ps : List (ℕ × ℕ)) → In p ps → (p ≡ k → ⊥) → In p (remove_key (is_at (place_cmp k)) ps)
 take-keeps k p ps i apart =
     elim (is_at (place_cmp k) p) as (λ b. is_at (place_cmp k) p ≡ b → In p (remove_key (is_at (place_cmp k)) ps)) [
       | true ↦ λ b. absurd (apart (sym (at_place k p b)))
@@ -165,19 +146,19 @@ list_any-in test p [] i t = absurd i
 list_any-in test p (x ∷ xs) (inl here) t = or_left (test x) (list_any test xs) (ap test (sym here) ∙ t)
 list_any-in test p (x ∷ xs) (inr later) t = or_right (test x) (list_any test xs) (list_any-in test p xs later t)
 
-pub take-gone : (k p : ℕ × ℕ) (ps : List (ℕ × ℕ)) → list_any (is_at (place_cmp k)) ps ≡ false → In p ps → p ≡ k → ⊥
+take-gone : (k p : ℕ × ℕ) (ps : List (ℕ × ℕ)) → list_any (is_at (place_cmp k)) ps ≡ false → In p ps → p ≡ k → ⊥
 take-gone k p ps none i same =
     both_ways (list_any (is_at (place_cmp k)) ps) none (list_any-in (is_at (place_cmp k)) p ps i (ap (is_at (place_cmp k)) same ∙ at_itself k))
 
 -- The test for a place
 
-pub passes-belongs : (label : Label) (p : ℕ × ℕ) (e : ℕ × Job) → belongs_at label p e ≡ true → BelongsAt label p e
+passes-belongs : (label : Label) (p : ℕ × ℕ) (e : ℕ × Job) → belongs_at label p e ≡ true → BelongsAt label p e
 passes-belongs label p e t =
     let a = and_parts (belongs label e && number label e.1 == p.0) (e.0 == p.1) t in
     let b = and_parts (belongs label e) (number label e.1 == p.0) a.0 in
     (b.0, ap₂ (λ x y. (x, y)) (sym (eqb-true (number label e.1) p.0 b.1)) (sym (eqb-true e.0 p.1 a.1)))
 
-pub belongs-passes : (label : Label) (p : ℕ × ℕ) (e : ℕ × Job) → BelongsAt label p e → belongs_at label p e ≡ true
+belongs-passes : (label : Label) (p : ℕ × ℕ) (e : ℕ × Job) → BelongsAt label p e → belongs_at label p e ≡ true
 belongs-passes label p e b =
     and_from (belongs label e && number label e.1 == p.0) (e.0 == p.1)
     (and_from (belongs label e) (number label e.1 == p.0) b.0
@@ -252,12 +233,9 @@ sorted-first : (k p : ℕ × ℕ) (ps : List (ℕ × ℕ)) → IsStrictlySortedB
 unfolding IsStrictlySortedBy
 sorted-first k p ps s i = all-in (λ q. place_cmp k q ≡ Less) p ps s.0 i
 
-pub first-from : (k p : ℕ × ℕ) (ps : List (ℕ × ℕ)) → IsStrictlySortedBy place_cmp (k ∷ ps) → In p (k ∷ ps) → IsFrom k p
+first-from : (k p : ℕ × ℕ) (ps : List (ℕ × ℕ)) → IsStrictlySortedBy place_cmp (k ∷ ps) → In p (k ∷ ps) → IsFrom k p
 first-from k p ps s (inl here) = subst (IsFrom k) (sym here) (from-itself k)
 first-from k p ps s (inr later) = from-less k p (sorted-first k p ps s later)
-
-pub passed-none : (label : Label) (s : ShelfState) (jobs : List (ℕ × Job)) (place : ℕ × ℕ) → AreAllFrom label s jobs [] → IsPassed label jobs s place
-passed-none label s jobs place all p e i b f = absurd (all p e i b f)
 
 pub passed-to : (label : Label) (s : ShelfState) (jobs : List (ℕ × Job)) (k : ℕ × ℕ) (ps : List (ℕ × ℕ)) → AreAllFrom label s jobs (k ∷ ps) → IsStrictlySortedBy place_cmp (k ∷ ps) → IsPassed label jobs s k
 passed-to label s jobs k ps all sorted p e i b f = first-from k p ps sorted (all p e i b f)

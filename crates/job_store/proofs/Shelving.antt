@@ -104,9 +104,6 @@ ahead-swept s t jobs same none h e i =
 
 -- Look-ups begin later
 
-pub settled-none : (s : Shelves) (jobs : List (ℕ × Job)) → HasSettled s s jobs
-settled-none s jobs = record { shelves = λ l. record { places = refl; passed = λ p e i b f. f.1 }; lists = refl }
-
 pub settled-twice : (s t u : Shelves) (jobs : List (ℕ × Job)) → HasSettled s t jobs → HasSettled t u jobs → HasSettled s u jobs
 settled-twice s t u jobs one two = record {
   shelves = λ l. record {

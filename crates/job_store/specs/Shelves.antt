@@ -69,11 +69,11 @@ HasPlaces s e = (label : Label) (p : ℕ × ℕ) → BelongsAt label p e → In 
 abbrev pub HavePlaces : Shelves → List (ℕ × Job) → Type 0
 HavePlaces s jobs = (e : ℕ × Job) → In e jobs → HasPlaces s e
 
--- the job stands nowhere before the place at which look-ups begin
+-- the job belongs nowhere before the place at which look-ups begin
 abbrev pub IsAhead : Shelves → ℕ × Job → Type 0
 IsAhead s e = (label : Label) (p : ℕ × ℕ) → BelongsAt label p e → IsFrom (shelf s label).from p
 
--- none of the jobs does
+-- none of the jobs belongs there
 abbrev pub AreAhead : Shelves → List (ℕ × Job) → Type 0
 AreAhead s jobs = (e : ℕ × Job) → In e jobs → IsAhead s e
 
@@ -81,7 +81,7 @@ AreAhead s jobs = (e : ℕ × Job) → In e jobs → IsAhead s e
 abbrev pub IsListed : Shelves → ℕ × Job → Type 0
 IsListed s e = In e s.listed.items
 
--- none but listed jobs do
+-- each of the jobs is ahead so, or listed
 abbrev pub AreAheadOrListed : Shelves → List (ℕ × Job) → Type 0
 AreAheadOrListed s jobs = (e : ℕ × Job) → In e jobs → IsAhead s e ⊎ IsListed s e
 

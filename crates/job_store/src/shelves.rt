@@ -83,7 +83,6 @@ impl Shelves {
     /// Lets look-ups of the shelf with this label begin at the place of a job, if they begin after it.
     fn reach_on(&mut self, label: Label, id: u64, job: &Job)
         ensures taken { (jobs : List (ℕ × Job)) → HasTaken self.old self.new jobs }
-        ensures same { places self.new label.entry ≡ places self.old label.entry }
         ensures reached { (p : ℕ × ℕ) → BelongsAt label.entry p (id, job.now)
             → IsFrom (shelf self.new label.entry).from p }
     {

@@ -1,4 +1,4 @@
-use Rattle.std.proofs.Common.{map, subst, sym, ap, ◌∙◌}
+use Rattle.std.proofs.Common.{map, ap, ◌∙◌}
 use Rattle.job_store.specs.ShelfStates.{ShelfState, place_of}
 use Rattle.std.specs.BTreeSet.{insert_key}
 use Rattle.job_store.proofs.Places.{place_cmp, gained-by, gained-none, found-by}
