@@ -13,7 +13,9 @@ use Rattle.job_store.specs.Undone.{MapState, with_log, all_undone}
 use Rattle.job_store.specs.States.{is_due, is_scheduled, due_of}
 use Rattle.job_store.specs.LookUps.{due_by, due_of_job}
 use Rattle.job_store.specs.Least.{IsLeast, NonePasses}
-use Rattle.job_store.specs.Shelves.{belongs, BelongsAt, places, HasPlaces, HavePlaces, IsListed, AreKnown, HasTaken, HasGrown, HasFollowed, IsKept}
+use Rattle.job_store.specs.ShelfStates.{IsFrom, bare}
+use Rattle.job_store.specs.Shelves.{belongs, BelongsAt, shelf, places, HavePlaces, IsAhead, AreAhead, AreAheadOrListed, IsListed, AreKnown, HasTaken, HasSettled, HasGrown, HasCome, HasFollowed, IsKept}
+use Rattle.job_store.proofs.Shelving.{placed-settled, known-settled, ahead-settled}
 use Rattle.job_store.proofs.Members.{altered-new, altered-old, inserted-new, inserted-old, value-here, value-is, without-was, without-others}
 
 -- The jobs that went and came
@@ -24,7 +26,7 @@ followed-same s jobs = record { went = λ e i. inl i; came = λ e i. inl i }
 pub followed-stay : (s : Shelves) (jobs new : List (ℕ × Job)) → new ≡ jobs → HasFollowed s jobs new
 followed-stay s jobs new same = subst (HasFollowed s jobs) (sym same) (followed-same s jobs)
 
-pub followed-altered : (s : Shelves) (id lo hi : ℕ) (f : Job → Job) (job : Job) (jobs new : List (ℕ × Job)) → Rising lo hi jobs → Some job ≡ value_at id jobs → new ≡ altered id f jobs → IsListed s (id, job) → HasPlaces s (id, f job) × IsListed s (id, f job) → HasFollowed s jobs new
+pub followed-altered : (s : Shelves) (id lo hi : ℕ) (f : Job → Job) (job : Job) (jobs new : List (ℕ × Job)) → Rising lo hi jobs → Some job ≡ value_at id jobs → new ≡ altered id f jobs → IsListed s (id, job) → HasCome s (id, f job) → HasFollowed s jobs new
 followed-altered s id lo hi f job jobs new r there is old it = record {
   went = λ e i.
       elim (altered-old id lo hi f job e jobs r (sym there) i) as (λ v. In e new ⊎ IsListed s e) [
@@ -32,13 +34,13 @@ followed-altered s id lo hi f job jobs new r there is old it = record {
         | inr same ↦ inr (subst (IsListed s) (sym same) old)
       ];
   came = λ e i.
-      elim (altered-new id lo hi f job e jobs r (sym there) (subst (In e) is i)) as (λ v. In e jobs ⊎ (HasPlaces s e × IsListed s e)) [
+      elim (altered-new id lo hi f job e jobs r (sym there) (subst (In e) is i)) as (λ v. In e jobs ⊎ HasCome s e) [
         | inl before ↦ inl before
-        | inr same ↦ inr (subst (λ d. HasPlaces s d × IsListed s d) (sym same) it)
+        | inr same ↦ inr (subst (HasCome s) (sym same) it)
       ];
 }
 
-pub followed-put : (s : Shelves) (id lo hi : ℕ) (job : Job) (jobs new : List (ℕ × Job)) → Rising lo hi jobs → ((old : Job) → value_at id jobs ≡ Some old → IsListed s (id, old)) → new ≡ with_value id job jobs → HasPlaces s (id, job) × IsListed s (id, job) → HasFollowed s jobs new
+pub followed-put : (s : Shelves) (id lo hi : ℕ) (job : Job) (jobs new : List (ℕ × Job)) → Rising lo hi jobs → ((old : Job) → value_at id jobs ≡ Some old → IsListed s (id, old)) → new ≡ with_value id job jobs → HasCome s (id, job) → HasFollowed s jobs new
 followed-put s id lo hi job jobs new r old is it = record {
   went = λ e i.
       elim (inserted-old id job e jobs i) as (λ v. In e new ⊎ IsListed s e) [
@@ -46,9 +48,9 @@ followed-put s id lo hi job jobs new r old is it = record {
         | inr same ↦ inr (subst (λ k. IsListed s (k, e.1)) (sym same) (old e.1 (value-here id lo hi e jobs r i same)))
       ];
   came = λ e i.
-      elim (inserted-new id job e jobs (subst (In e) is i)) as (λ v. In e jobs ⊎ (HasPlaces s e × IsListed s e)) [
+      elim (inserted-new id job e jobs (subst (In e) is i)) as (λ v. In e jobs ⊎ HasCome s e) [
         | inl before ↦ inl before
-        | inr same ↦ inr (subst (λ d. HasPlaces s d × IsListed s d) (sym same) it)
+        | inr same ↦ inr (subst (HasCome s) (sym same) it)
       ];
 }
 
@@ -58,7 +60,14 @@ pub placed-step : (s t : Shelves) (jobs new : List (ℕ × Job)) → HavePlaces 
 placed-step s t jobs new placed grown followed e i label p b =
     elim (followed.came e i) as (λ v. In p (places t label)) [
       | inl before ↦ grown.keeps label p (placed e before label p b)
-      | inr w ↦ w.0 label p b
+      | inr come ↦ come.placed label p b
+    ]
+
+pub ahead-step : (s t : Shelves) (jobs new : List (ℕ × Job)) → AreAhead s jobs → HasGrown s t → HasFollowed t jobs new → AreAhead t new
+ahead-step s t jobs new ahead grown followed e i label p b =
+    elim (followed.came e i) as (λ v. IsFrom (shelf t label).from p) [
+      | inl before ↦ grown.ahead label p (ahead e before label p b)
+      | inr come ↦ come.ahead label p b
     ]
 
 pub known-step : (s t : Shelves) (jobs new : List (ℕ × Job)) → AreKnown s jobs → HasGrown s t → HasFollowed t jobs new → AreKnown t new
@@ -74,29 +83,50 @@ known-step s t jobs new known grown followed label p i =
 pub kept-step : (s t : Shelves) (a b : MapState) (before : List (ℕ × Job)) → IsKept s a → a.before ≡ Some before → b.before ≡ a.before → HasGrown s t → HasFollowed t a.jobs b.jobs → Rising 0 (2 ^ 64) b.jobs → IsKept t b
 kept-step s t a b before kept is same grown followed r =
     let placed : HavePlaces s before = subst (λ o. IfSome o (HavePlaces s)) is kept.placed_before in
-    let listed : (e : ℕ × Job) → In e a.jobs → In e before ⊎ IsListed s e = subst (λ o. IfSome o (λ before. (e : ℕ × Job) → In e a.jobs → In e before ⊎ IsListed s e)) is kept.listed in
+    let came : (e : ℕ × Job) → In e a.jobs → In e before ⊎ IsListed s e = subst (λ o. IfSome o (λ before. (e : ℕ × Job) → In e a.jobs → In e before ⊎ IsListed s e)) is kept.came in
+    let went : (e : ℕ × Job) → In e before → In e a.jobs ⊎ IsListed s e = subst (λ o. IfSome o (λ before. (e : ℕ × Job) → In e before → In e a.jobs ⊎ IsListed s e)) is kept.went in
     let there : b.before ≡ Some before = same ∙ is in
     record {
       rising = r;
       placed = placed-step s t a.jobs b.jobs kept.placed grown followed;
+      ahead = ahead-step s t a.jobs b.jobs kept.ahead grown followed;
       known = known-step s t a.jobs b.jobs kept.known grown followed;
       placed_before = subst (λ o. IfSome o (HavePlaces t)) (sym there) (λ e i label p k. grown.keeps label p (placed e i label p k));
-      listed = subst (λ o. IfSome o (λ before. (e : ℕ × Job) → In e b.jobs → In e before ⊎ IsListed t e)) (sym there)
+      came = subst (λ o. IfSome o (λ before. (e : ℕ × Job) → In e b.jobs → In e before ⊎ IsListed t e)) (sym there)
           (λ e i. elim (followed.came e i) as (λ v. In e before ⊎ IsListed t e) [
-            | inl old ↦ elim (listed e old) as (λ v. In e before ⊎ IsListed t e) [ inl first ↦ inl first | inr l ↦ inr (grown.lists e l) ]
-            | inr w ↦ inr w.1
+            | inl old ↦ elim (came e old) as (λ v. In e before ⊎ IsListed t e) [ inl first ↦ inl first | inr l ↦ inr (grown.lists e l) ]
+            | inr come ↦ inr come.listed
           ]);
+      went = subst (λ o. IfSome o (λ before. (e : ℕ × Job) → In e before → In e b.jobs ⊎ IsListed t e)) (sym there)
+          (λ e i. elim (went e i) as (λ v. In e b.jobs ⊎ IsListed t e) [ inl old ↦ followed.went e old | inr l ↦ inr (grown.lists e l) ]);
       none_listed = subst (λ o. IfNone o (t.listed.items ≡ [])) (sym there) tt;
     }
 
+-- Look-ups begin later
+pub kept-settled : (s t : Shelves) (a : MapState) (before : List (ℕ × Job)) → IsKept s a → a.before ≡ Some before → HasSettled s t a.jobs → IsKept t a
+kept-settled s t a before kept is settled =
+    let placed : HavePlaces s before = subst (λ o. IfSome o (HavePlaces s)) is kept.placed_before in
+    record {
+      rising = kept.rising;
+      placed = placed-settled s t a.jobs a.jobs settled kept.placed;
+      ahead = ahead-settled s t a.jobs settled kept.placed kept.ahead;
+      known = known-settled s t a.jobs settled kept.known;
+      placed_before = subst (λ o. IfSome o (HavePlaces t)) (sym is) (placed-settled s t a.jobs before settled placed);
+      came = subst (λ (l : List (ℕ × Job)). IfSome a.before (λ before. (e : ℕ × Job) → In e a.jobs → In e before ⊎ In e l)) (sym settled.lists) kept.came;
+      went = subst (λ (l : List (ℕ × Job)). IfSome a.before (λ before. (e : ℕ × Job) → In e before → In e a.jobs ⊎ In e l)) (sym settled.lists) kept.went;
+      none_listed = subst (λ (l : List (ℕ × Job)). IfNone a.before (l ≡ [])) (sym settled.lists) kept.none_listed;
+    }
+
 -- Outside a trial, where none is listed
-pub kept-swept : (s : Shelves) (b : MapState) → b.before ≡ None → Rising 0 (2 ^ 64) b.jobs → HavePlaces s b.jobs → AreKnown s b.jobs → s.listed.items ≡ [] → IsKept s b
-kept-swept s b none r placed known listed = record {
+pub kept-swept : (s : Shelves) (b : MapState) → b.before ≡ None → Rising 0 (2 ^ 64) b.jobs → HavePlaces s b.jobs → AreAhead s b.jobs → AreKnown s b.jobs → s.listed.items ≡ [] → IsKept s b
+kept-swept s b none r placed ahead known listed = record {
   rising = r;
   placed = placed;
+  ahead = ahead;
   known = known;
   placed_before = subst (λ o. IfSome o (HavePlaces s)) (sym none) tt;
-  listed = subst (λ o. IfSome o (λ before. (e : ℕ × Job) → In e b.jobs → In e before ⊎ IsListed s e)) (sym none) tt;
+  came = subst (λ o. IfSome o (λ before. (e : ℕ × Job) → In e b.jobs → In e before ⊎ IsListed s e)) (sym none) tt;
+  went = subst (λ o. IfSome o (λ before. (e : ℕ × Job) → In e before → In e b.jobs ⊎ IsListed s e)) (sym none) tt;
   none_listed = subst (λ o. IfNone o (s.listed.items ≡ [])) (sym none) listed;
 }
 
@@ -104,18 +134,19 @@ kept-swept s b none r placed known listed = record {
 
 pub known-before : (s : Shelves) (a : MapState) (before : List (ℕ × Job)) → IsKept s a → a.before ≡ Some before → AreKnown s before
 known-before s a before kept is label p i =
-    let listed : (e : ℕ × Job) → In e a.jobs → In e before ⊎ IsListed s e = subst (λ o. IfSome o (λ before. (e : ℕ × Job) → In e a.jobs → In e before ⊎ IsListed s e)) is kept.listed in
+    let came : (e : ℕ × Job) → In e a.jobs → In e before ⊎ IsListed s e = subst (λ o. IfSome o (λ before. (e : ℕ × Job) → In e a.jobs → In e before ⊎ IsListed s e)) is kept.came in
     let w = kept.known label p i in
-    (w.0, w.1, elim w.2 as (λ v. In w.0 before ⊎ IsListed s w.0) [ inl job ↦ listed w.0 job | inr l ↦ inr l ])
+    (w.0, w.1, elim w.2 as (λ v. In w.0 before ⊎ IsListed s w.0) [ inl job ↦ came w.0 job | inr l ↦ inr l ])
+
+pub ahead-before : (s : Shelves) (a : MapState) (before : List (ℕ × Job)) → IsKept s a → a.before ≡ Some before → AreAheadOrListed s before
+ahead-before s a before kept is e i =
+    let went : (e : ℕ × Job) → In e before → In e a.jobs ⊎ IsListed s e = subst (λ o. IfSome o (λ before. (e : ℕ × Job) → In e before → In e a.jobs ⊎ IsListed s e)) is kept.went in
+    elim (went e i) as (λ v. IsAhead s e ⊎ IsListed s e) [ inl job ↦ inl (kept.ahead e job) | inr l ↦ inr l ]
 
 -- The jobs before a trial
 
 pub before-same : (is_trial : Bool) (log new-log : List Undo) (jobs new : List (ℕ × Job)) → new-log ≡ log → new ≡ jobs → (with_log is_trial new-log new).before ≡ (with_log is_trial log jobs).before
 before-same is_trial log new-log jobs new l n = ap₂ (λ us js. (with_log is_trial us js).before) l n
-
-in-trial : (is_trial : Bool) (log : List Undo) (jobs : List (ℕ × Job)) → is_trial ≡ true → (with_log is_trial log jobs).before ≡ Some (all_undone log jobs)
-in-trial true log jobs t = refl
-in-trial false log jobs t = cc
 
 no-trial : (is_trial : Bool) (log : List Undo) (jobs : List (ℕ × Job)) → is_trial ≡ false → (with_log is_trial log jobs).before ≡ None
 no-trial true log jobs t = cc
@@ -125,21 +156,29 @@ pub before-outside : (is_trial : Bool) (log new-log : List Undo) (jobs new : Lis
 before-outside true log new-log jobs new t = cc
 before-outside false log new-log jobs new t = refl
 
-pub kept-trial : (s t : Shelves) (is_trial : Bool) (log new-log : List Undo) (jobs new : List (ℕ × Job)) → is_trial ≡ true → IsKept s (with_log is_trial log jobs) → (with_log is_trial new-log new).before ≡ (with_log is_trial log jobs).before → HasGrown s t → HasFollowed t jobs new → Rising 0 (2 ^ 64) new → IsKept t (with_log is_trial new-log new)
-kept-trial s t is_trial log new-log jobs new true-trial kept same grown followed r =
-    kept-step s t (with_log is_trial log jobs) (with_log is_trial new-log new) (all_undone log jobs) kept (in-trial is_trial log jobs true-trial) same grown followed r
+pub kept-outside : (s : Shelves) (is_trial : Bool) (log : List Undo) (jobs : List (ℕ × Job)) → is_trial ≡ false → Rising 0 (2 ^ 64) jobs → HavePlaces s jobs → AreAhead s jobs → AreKnown s jobs → s.listed.items ≡ [] → IsKept s (with_log is_trial log jobs)
+kept-outside s is_trial log jobs f r placed ahead known listed =
+    kept-swept s (with_log is_trial log jobs) (no-trial is_trial log jobs f) r placed ahead known listed
 
-pub kept-outside : (s : Shelves) (is_trial : Bool) (log : List Undo) (jobs : List (ℕ × Job)) → is_trial ≡ false → Rising 0 (2 ^ 64) jobs → HavePlaces s jobs → AreKnown s jobs → s.listed.items ≡ [] → IsKept s (with_log is_trial log jobs)
-kept-outside s is_trial log jobs f r placed known listed =
-    kept-swept s (with_log is_trial log jobs) (no-trial is_trial log jobs f) r placed known listed
+-- A change, and the shelves after it
+pub kept-followed : (s t u : Shelves) (is_trial : Bool) (log new-log : List Undo) (jobs new : List (ℕ × Job)) → IsKept s (with_log is_trial log jobs) → (with_log is_trial new-log new).before ≡ (with_log is_trial log jobs).before → HasGrown s t → HasFollowed t jobs new → Rising 0 (2 ^ 64) new → (is_trial ≡ true → HasSettled t u new) → (is_trial ≡ false → u.listed.items ≡ []) → HavePlaces u new → AreAhead u new → AreKnown u new → IsKept u (with_log is_trial new-log new)
+kept-followed s t u true log new-log jobs new kept same grown followed r settled swept placed ahead known =
+    kept-settled t u (with_log true new-log new) (all_undone new-log new) (kept-step s t (with_log true log jobs) (with_log true new-log new) (all_undone log jobs) kept refl same grown followed r) refl (settled refl)
+kept-followed s t u false log new-log jobs new kept same grown followed r settled swept placed ahead known =
+    kept-outside u false new-log new refl r placed ahead known (swept refl)
 
 pub known-undone : (s : Shelves) (is_trial : Bool) (log : List Undo) (jobs : List (ℕ × Job)) → IsKept s (with_log is_trial log jobs) → IsSome (with_log is_trial log jobs).before → AreKnown s (all_undone log jobs)
 known-undone s true log jobs kept some = known-before s (with_log true log jobs) (all_undone log jobs) kept refl
 known-undone s false log jobs kept some = cc
 
-pub kept-none : (s : Shelves) (jobs : List (ℕ × Job)) → jobs ≡ [] → ((l : Label) (p : ℕ × ℕ) → In p (places s l) → ⊥) → s.listed.items ≡ [] → IsKept s (record { jobs = jobs; before = None })
+pub ahead-undone : (s : Shelves) (is_trial : Bool) (log : List Undo) (jobs : List (ℕ × Job)) → IsKept s (with_log is_trial log jobs) → IsSome (with_log is_trial log jobs).before → AreAheadOrListed s (all_undone log jobs)
+ahead-undone s true log jobs kept some = ahead-before s (with_log true log jobs) (all_undone log jobs) kept refl
+ahead-undone s false log jobs kept some = cc
+
+pub kept-none : (s : Shelves) (jobs : List (ℕ × Job)) → jobs ≡ [] → ((l : Label) → shelf s l ≡ bare) → s.listed.items ≡ [] → IsKept s (record { jobs = jobs; before = None })
 kept-none s jobs none empty listed =
-    kept-swept s (record { jobs = jobs; before = None }) refl (subst (Rising 0 (2 ^ 64)) (sym none) (omega arith)) (subst (HavePlaces s) (sym none) (λ e i. absurd i)) (λ l p i. absurd (empty l p i)) listed
+    kept-swept s (record { jobs = jobs; before = None }) refl (subst (Rising 0 (2 ^ 64)) (sym none) (omega arith)) (subst (HavePlaces s) (sym none) (λ e i. absurd i)) (subst (AreAhead s) (sym none) (λ e i. absurd i))
+    (λ l p i. absurd (subst (λ x. In p x.places) (empty l) i)) listed
 
 -- A job that is removed
 pub kept-removed : (s t : Shelves) (is_trial : Bool) (log : List Undo) (jobs new : List (ℕ × Job)) (id : ℕ) (job : Job) → IsKept s (with_log is_trial log jobs) → (with_log is_trial log jobs).before ≡ None → Rising 0 (2 ^ 64) new → new ≡ without id jobs → value_at id jobs ≡ Some job → HasTaken s t new → ((l : Label) (p : ℕ × ℕ) → In p (places t l) → BelongsAt l p (id, job) → (e : ℕ × Job) × BelongsAt l p e × In e new) → IsKept t (with_log is_trial log new)
@@ -148,6 +187,7 @@ kept-removed s t false log jobs new id job kept none r is there taken gone =
     let empty : s.listed.items ≡ [] = kept.none_listed in
     kept-swept t (with_log false log new) refl r
     (λ e i l p b. taken.keeps l p e i b (kept.placed e (without-was id e jobs (subst (In e) is i)) l p b))
+    (λ e i l p b. taken.ahead l p (kept.ahead e (without-was id e jobs (subst (In e) is i)) l p b))
     (λ l p i.
     let w = kept.known l p (taken.only l p i) in
     elim w.2 as (λ v. (e : ℕ × Job) × BelongsAt l p e × (In e new ⊎ IsListed t e)) [

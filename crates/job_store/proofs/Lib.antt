@@ -5,6 +5,7 @@ pub mod Least
 pub mod Searches
 pub mod Members
 pub mod Places
+pub mod Numbered
 pub mod Shelving
 pub mod Following
 pub mod Racks

@@ -1,14 +1,20 @@
 -- What is ready in one tube, and in some tubes.
-use Rattle.std.proofs.Common.{◌≡◌, ℕ, Bool, true, false, inl, inr, ◌&&◌, List, [], ◌∷◌, bytes_eq, refl, sym, ◌++◌, ◌⊎◌, Option, Some, None, option_map, IfSome, IfNone, ap, subst, ◌∙◌}
+use Rattle.std.proofs.Common.{◌≡◌, ℕ, Bool, true, false, inl, inr, ◌&&◌, List, [], ◌∷◌, bytes_eq, refl, sym, ◌++◌, ◌⊎◌, ◌↔◌, Option, Some, None, option_map, map, IfSome, IfNone, IsNone, Bor, ap, subst, ◌∙◌}
 use Rattle.std.proofs.lemmas.Bool.{and_parts, and_from}
 use Rattle.std.proofs.lemmas.List.{append_assoc, append-nil}
 use Rattle.std.proofs.lemmas.Slice.Eq.{bytes_eq-Decides}
 use Rattle.object.specs.Lists.{In}
 use Rattle.job_store.specs.declared.job.Job.{Job}
+use Rattle.job_store.specs.declared.name.Name.{Name}
+use Rattle.job_store.specs.declared.label.Label.{Label}
+use Rattle.job_store.specs.declared.shelves.Shelves.{Shelves}
 use Rattle.job_store.specs.States.{is_ready}
-use Rattle.job_store.specs.LookUps.{is_among, ready_in, pri_of_job}
+use Rattle.job_store.specs.LookUps.{is_among, ready_in, pri_of_job, AreReadyPlaces}
 use Rattle.job_store.specs.Least.{IsLeast, NonePasses, least}
 use Rattle.job_store.specs.Searches.{first_of}
+use Rattle.job_store.specs.Undone.{MapState}
+use Rattle.job_store.specs.ShelfStates.{place_of}
+use Rattle.job_store.specs.Shelves.{places, IsKept}
 use Rattle.job_store.proofs.Least.{IsAnswer, answer, answer-either, among-member}
 use Rattle.job_store.proofs.Shelving.{in-front, in-last, in-push}
 
@@ -87,3 +93,38 @@ module _ {A : Type 0} (show : A → ℕ × Job) (tubes : List (List ℕ)) (jobs 
   pub best-missed : (o : Option A) → IsAnswer (ready_in tubes) pri_of_job jobs (option_map show o) → IfNone o (NonePasses (ready_in tubes) jobs)
   best-missed None h = h
   best-missed (Some a) h = tt
+
+-- The places on the shelf of a tube's ready jobs
+
+same-places : (keys : List (ℕ × ℕ)) → map (place_of (λ n. n)) keys ≡ keys
+same-places [] = refl
+same-places (p ∷ ps) = ap (λ qs. p ∷ qs) (same-places ps)
+
+module _ (s : Shelves) (state : MapState) (tube : Bor Name) (kept : IsKept s state) (none : state.before ≡ None) where
+  ready-places : (keys : List (ℕ × ℕ)) → map (place_of (λ n. n)) keys ≡ places s (Label.Ready tube) → AreReadyPlaces keys tube.now state.jobs
+  ready-places keys same p = (
+    λ i.
+        let w = kept.known (Label.Ready tube) p (subst (In p) (sym (same-places keys) ∙ same) i) in
+        let unlisted : s.listed.items ≡ [] = subst (λ o. IfNone o (s.listed.items ≡ [])) none kept.none_listed in
+        let job : In w.0 state.jobs = elim w.2 as (λ v. In w.0 state.jobs) [ inl job ↦ job | inr l ↦ absurd (subst (In w.0) unlisted l) ] in
+        (w.0, job, ap (λ (test : ℕ × Job → Bool). test w.0) (ready-test tube.now) ∙ w.1.0, w.1.1),
+    λ w.
+        subst (In p) (sym same ∙ same-places keys)
+        (kept.placed w.0 w.1 (Label.Ready tube) p (ap (λ (test : ℕ × Job → Bool). test w.0) (sym (ready-test tube.now)) ∙ w.2, w.3)),
+  )
+
+  module _ {X : Type 0} (keys : X → List (ℕ × ℕ)) where
+    pub ready-some : (o : Option X) → IfSome o (λ x. map (place_of (λ n. n)) (keys x) ≡ places s (Label.Ready tube)) → IfSome o (λ x. AreReadyPlaces (keys x) tube.now state.jobs)
+    ready-some None same = tt
+    ready-some (Some x) same = ready-places (keys x) same
+
+    none-passes : (ps : List (ℕ × ℕ)) → AreReadyPlaces ps tube.now state.jobs → NonePasses (ready_in (tube.now ∷ [])) state.jobs → ps ≡ []
+    none-passes [] are passes = refl
+    none-passes (p ∷ ps) are passes = let w = (are p).0 (inl refl) in absurd (passes w.0 w.1 w.2)
+
+    pub ready-none : (o : Option X) → IfSome o (λ x. map (place_of (λ n. n)) (keys x) ≡ places s (Label.Ready tube)) → IfSome o (λ x. keys x ≡ [] → ⊥) → IfNone o (places s (Label.Ready tube) ≡ []) → IsNone o ↔ NonePasses (ready_in (tube.now ∷ [])) state.jobs
+    ready-none None same filled empty = (
+      λ is e i t. subst (In (e.1.pri, e.0)) empty (kept.placed e i (Label.Ready tube) (e.1.pri, e.0) (ap (λ (test : ℕ × Job → Bool). test e) (sym (ready-test tube.now)) ∙ t, refl)),
+      λ passes. refl,
+    )
+    ready-none (Some x) same filled empty = (λ is. cc, λ passes. absurd (filled (none-passes (keys x) (ready-places (keys x) same) passes)))

@@ -8,3 +8,4 @@ pub mod LookUps
 pub mod Searches
 pub mod Shelves
 pub mod Racks
+pub mod ShelfStates

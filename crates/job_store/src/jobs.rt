@@ -1,5 +1,6 @@
-ghost use Rattle.std.specs.Prelude.{◌≡◌, ◌^◌, IfOk, option_map};
-ghost use Rattle.job_store.specs.LookUps.{pri_of_job};
+ghost use Rattle.std.specs.Prelude.{◌≡◌, ◌↔◌, ◌^◌, [], ◌∷◌, IfOk, IfSome, IsNone, option_map};
+ghost use Rattle.job_store.specs.Least.{NonePasses};
+ghost use Rattle.job_store.specs.LookUps.{pri_of_job, ready_in, AreReadyPlaces};
 ghost use Rattle.job_store.specs.Searches.{first_of};
 ghost use Rattle.job_store.specs.Entries.{Rising};
 
@@ -15,7 +16,7 @@ use crate::undo::{Undo, undo_all};
 use indexmap::IndexSet;
 use object::Value;
 use std::alloc::{AllocError, Global};
-use std::collections::BTreeMap;
+use std::collections::{BTreeMap, BTreeSet};
 use std::marker::Model;
 
 /// A map of jobs by id, beside which it keeps what it looks for in order.
@@ -90,6 +91,15 @@ impl Jobs {
             log: Vec::new(alloc),
         }
     }
+
+    /// The ready jobs of a tube by (priority, id), if there are any.
+    pub fn ready(&self, tube: &Name) -> Option<&BTreeSet<(u32, u64)>>
+        requires { self.now.before ≡ None }
+        ensures some { IfSome result (λ places. AreReadyPlaces places.now.keys tube.now self.now.jobs) }
+        ensures none { IsNone result ↔ NonePasses (ready_in (tube.now ∷ [])) self.now.jobs }
+    {
+        self.shelves.ready.places(tube)
+    }
 }
 
 impl JobMap for Jobs {
@@ -136,18 +146,14 @@ impl JobMap for Jobs {
     fn insert(&mut self, id: u64, job: Job) -> Result<(), AllocError> {
         let (shelves, jobs, log) = (&mut self.shelves, &mut self.jobs, &mut self.log);
         let done = store(shelves, jobs, log, self.is_trial, id, job);
-        if !self.is_trial {
-            self.shelves.sweep(&self.jobs);
-        }
+        self.shelves.follow(&self.jobs, self.is_trial);
         done
     }
 
     fn set_state(&mut self, id: u64, state: State) -> Result<(), AllocError> {
         let (shelves, jobs, log) = (&mut self.shelves, &mut self.jobs, &mut self.log);
         let done = move_to_state(shelves, jobs, log, self.is_trial, id, state);
-        if !self.is_trial {
-            self.shelves.sweep(&self.jobs);
-        }
+        self.shelves.follow(&self.jobs, self.is_trial);
         done
     }
 
@@ -160,9 +166,7 @@ impl JobMap for Jobs {
             self.is_trial,
             &Change { id, pri, state },
         );
-        if !self.is_trial {
-            self.shelves.sweep(&self.jobs);
-        }
+        self.shelves.follow(&self.jobs, self.is_trial);
         done
     }
 

@@ -16,6 +16,7 @@ mod name_bytes;
 mod rack;
 mod shared_bytes;
 mod shelf;
+mod shelf_number;
 mod shelves;
 mod state;
 mod undo;

@@ -85,8 +85,8 @@ pub fn store(
         ≡ (with_log is_trial log.old.items jobs.old.entries).before }
     ensures jobs_stay { OnErr result (jobs.new.entries ≡ jobs.old.entries) }
 {
-    shelves.list_at(jobs, id)?;
     shelves.put(id, &job)?;
+    shelves.list_at(jobs, id)?;
     if is_trial {
         put(jobs, log, id, job)?;
         return Ok(());

@@ -1,17 +1,18 @@
-ghost use Rattle.std.specs.Prelude.{◌≡◌, ◌⊎◌, ◌^◌, ℕ, true, IfOk, OnOk, IfSome, IfNone, option_map};
-ghost use Rattle.object.specs.Lists.{In};
+ghost use Rattle.std.specs.Prelude.{◌≡◌, ◌^◌, [], true, map, IfOk, OnOk, IfSome, IfNone, option_map};
 ghost use Rattle.job_store.specs.Entries.{Rising};
 ghost use Rattle.job_store.specs.Least.{IsLeast, NonePasses, least};
-ghost use Rattle.job_store.specs.Shelves.{belongs, number, AreAllOn};
-ghost use Rattle.job_store.specs.Racks.{shelf_at};
+ghost use Rattle.job_store.specs.ShelfStates.{bare, place_of, IsFound, HasGained, HasLost, HasReached};
+ghost use Rattle.job_store.specs.Shelves.{belongs, number, AreAllFound, HasMovedOn};
+ghost use Rattle.job_store.specs.Racks.{shelf_at, AreOthersKept};
 
 use crate::job::Job;
 use crate::label::Label;
 use crate::name::Name;
 use crate::shelf::Shelf;
+use crate::shelf_number::ShelfNumber;
 use object::Value;
 use std::alloc::{AllocError, Global};
-use std::collections::BTreeMap;
+use std::collections::{BTreeMap, BTreeSet};
 
 /// What shelves are told apart by.
 pub trait ShelfName: Ord + Drop + Sized {
@@ -45,15 +46,15 @@ impl ShelfName for u32 {
 
 /// Shelves by name, as by tube or by session. A shelf is there while it has a place.
 #[derive(Drop)]
-pub struct Rack<K: ShelfName> {
+pub struct Rack<K: ShelfName, N: ShelfNumber> {
     pub alloc: Global,
-    pub shelves: BTreeMap<K, Shelf>,
+    pub shelves: BTreeMap<K, Shelf<N>>,
 }
 
-impl<K: ShelfName> Rack<K> {
+impl<K: ShelfName, N: ShelfNumber> Rack<K, N> {
     /// No shelves.
-    pub fn new(alloc: Global) -> Rack<K>
-        ensures { (k : K) (p : ℕ × ℕ) → In p (shelf_at K.cmp result.shelves k) → ⊥ }
+    pub fn new(alloc: Global) -> Rack<K, N>
+        ensures { (k : K) → shelf_at K.cmp result.shelves k ≡ bare }
     {
         Rack {
             alloc,
@@ -62,12 +63,11 @@ impl<K: ShelfName> Rack<K> {
     }
 
     /// Adds a place to a shelf, unless it is there.
-    pub fn put(&mut self, key: &K, number: u64, id: u64) -> Result<(), AllocError>
-        ensures ok { OnOk result (In (number, id) (shelf_at K.cmp self.new.shelves key.now)) }
-        ensures keeps { (k : K) (p : ℕ × ℕ) → In p (shelf_at K.cmp self.old.shelves k)
-            → In p (shelf_at K.cmp self.new.shelves k) }
-        ensures only { (k : K) (p : ℕ × ℕ) → In p (shelf_at K.cmp self.new.shelves k)
-            → In p (shelf_at K.cmp self.old.shelves k) ⊎ ((k ≡ key.now) × (p ≡ (number, id))) }
+    pub fn put(&mut self, key: &K, number: N, id: u64) -> Result<(), AllocError>
+        ensures ok { OnOk result (IsFound (shelf_at K.cmp self.new.shelves key.now) (N.value number, id)) }
+        ensures gained { HasGained (shelf_at K.cmp self.old.shelves key.now)
+            (shelf_at K.cmp self.new.shelves key.now) (N.value number, id) }
+        ensures others { AreOthersKept K.cmp key.now self.old.shelves self.new.shelves }
     {
         if let Some(shelf) = self.shelves.get_mut(key) {
             shelf.put(number, id)?;
@@ -80,11 +80,10 @@ impl<K: ShelfName> Rack<K> {
     }
 
     /// Takes a place from a shelf, if it is there.
-    pub fn take(&mut self, key: &K, number: u64, id: u64)
-        ensures keeps { (k : K) (p : ℕ × ℕ) → In p (shelf_at K.cmp self.old.shelves k)
-            → (k ≡ key.now → p ≡ (number, id) → ⊥) → In p (shelf_at K.cmp self.new.shelves k) }
-        ensures only { (k : K) (p : ℕ × ℕ) → In p (shelf_at K.cmp self.new.shelves k)
-            → In p (shelf_at K.cmp self.old.shelves k) × (k ≡ key.now → p ≡ (number, id) → ⊥) }
+    pub fn take(&mut self, key: &K, number: N, id: u64)
+        ensures lost { HasLost (shelf_at K.cmp self.old.shelves key.now)
+            (shelf_at K.cmp self.new.shelves key.now) (N.value number, id) }
+        ensures others { AreOthersKept K.cmp key.now self.old.shelves self.new.shelves }
     {
         let Some(shelf) = self.shelves.get_mut(key) else {
             return;
@@ -95,7 +94,43 @@ impl<K: ShelfName> Rack<K> {
         }
     }
 
-    /// The first of the jobs that belong on a shelf, where all of them stand there.
+    /// Lets look-ups of a shelf begin at a place, if they begin after it.
+    pub fn reach(&mut self, key: &K, number: N, id: u64)
+        ensures reached { HasReached (shelf_at K.cmp self.old.shelves key.now)
+            (shelf_at K.cmp self.new.shelves key.now) (N.value number, id) }
+        ensures others { AreOthersKept K.cmp key.now self.old.shelves self.new.shelves }
+    {
+        if let Some(shelf) = self.shelves.get_mut(key) {
+            shelf.reach(number, id);
+        }
+    }
+
+    /// Lets look-ups of a shelf begin after the places that were left, as far as the first job stands behind them.
+    pub fn settle(&mut self, key: &K, label: Label, jobs: &BTreeMap<u64, Job>)
+        requires { Rising 0 (2 ^ 64) jobs.now.entries }
+        ensures moved_on { HasMovedOn label.entry jobs.now.entries
+            (shelf_at K.cmp self.old.shelves key.now) (shelf_at K.cmp self.new.shelves key.now) }
+        ensures others { AreOthersKept K.cmp key.now self.old.shelves self.new.shelves }
+    {
+        if let Some(shelf) = self.shelves.get_mut(key) {
+            shelf.settle(label, jobs);
+        }
+    }
+
+    /// The places on a shelf, if there are any.
+    pub fn places(&self, key: &K) -> Option<&BTreeSet<(N, u64)>>
+        ensures some { IfSome result (λ set. map (place_of N.value) set.now.keys
+            ≡ (shelf_at K.cmp self.now.shelves key.now).places) }
+        ensures filled { IfSome result (λ set. set.now.keys ≡ [] → ⊥) }
+        ensures none { IfNone result ((shelf_at K.cmp self.now.shelves key.now).places ≡ []) }
+    {
+        match self.shelves.get(key) {
+            Some(shelf) if !shelf.places().is_empty() => Some(shelf.places()),
+            _ => None,
+        }
+    }
+
+    /// The first of the jobs that belong on a shelf, where a look-up finds all of them.
     pub fn first<'a>(
         &self,
         key: &K,
@@ -103,7 +138,7 @@ impl<K: ShelfName> Rack<K> {
         jobs: &'a BTreeMap<u64, Job>,
     ) -> Option<(u64, &'a Job)>
         requires rising { Rising 0 (2 ^ 64) jobs.now.entries }
-        requires all { AreAllOn label (shelf_at K.cmp self.now.shelves key.now) jobs.now.entries }
+        requires all { AreAllFound label (shelf_at K.cmp self.now.shelves key.now) jobs.now.entries }
         ensures job { option_map (λ e. (e.0, e.1.now)) result
             ≡ least (belongs label.entry) (number label.entry) jobs.now.entries }
         ensures found { IfSome result

@@ -10,7 +10,7 @@ use Rattle.job_store.proofs.jobs.JobsJobMap.due.Goals as goal
 use Rattle.job_store.proofs.jobs.JobsJobMap.due.Goals.{in_default-via-in-Some+else-is_due, in_default-via-in_default}
 
 pub first-requires-clause-all : goal.first-requires-clause-all
-first-requires-clause-all c p e i b = c.self.invariant.placed e i Label.Scheduled p b
+first-requires-clause-all c p e i b = (c.self.invariant.placed e i Label.Scheduled p b, c.self.invariant.ahead e i Label.Scheduled p b)
 
 pub returns-in-Some-clause-found : goal.returns-in-Some-clause-found
 returns-in-Some-clause-found c =

@@ -8,7 +8,7 @@ use Rattle.job_store.proofs.Readiness.{ready-test}
 use Rattle.job_store.proofs.jobs.JobsJobMap.first_ready.Goals as goal
 
 pub first-requires-clause-all : goal.first-requires-clause-all
-first-requires-clause-all c p e i b = c.self.invariant.placed e i (Label.Ready c.args.tube) p b
+first-requires-clause-all c p e i b = (c.self.invariant.placed e i (Label.Ready c.args.tube) p b, c.self.invariant.ahead e i (Label.Ready c.args.tube) p b)
 
 pub returns-clause-job : goal.returns-clause-job
 returns-clause-job c =

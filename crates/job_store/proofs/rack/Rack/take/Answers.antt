@@ -1,21 +1,23 @@
-use Rattle.std.proofs.Common.{[], IsSome, refl, subst, sym, ap}
-use Rattle.std.specs.Option.{unwrap_or}
-use Rattle.job_store.proofs.Racks.{exact_by, take-keeps, take-only, drop-keeps}
+use Rattle.std.proofs.Common.{Some, None, IsSome, refl, subst, sym, ◌∙◌}
+use Rattle.job_store.specs.ShelfStates.{HasLost}
+use Rattle.job_store.proofs.Places.{lost-all}
+use Rattle.job_store.proofs.Racks.{exact_by, one-changed, others-kept}
 use Rattle.job_store.proofs.rack.Rack.take.Goals as goal
 
-pub returns-then-is_empty-clause-keeps : goal.returns-then-is_empty-clause-keeps
-returns-then-is_empty-clause-keeps g c k p i apart =
-    drop-keeps g.K.Ord.cmp (exact_by g.K.Ord.cmp g.K.PartialEq.eq g.met.K.Ord.matches_eq g.met.K.ShelfName.exact) (c.get_mut.follows.lender c.take.new.self) c.remove.new.self c.args.key.now c.take.new.self
-    ((c.get_mut.follows.holds c.take.new.self).3 (subst IsSome c.in-Some.ensures.value refl)).1 c.remove.ensures.updates.0 (c.is_empty.ensures c.if-is_empty.true) k p
-    (take-keeps g.K.Ord.cmp (exact_by g.K.Ord.cmp g.K.PartialEq.eq g.met.K.Ord.matches_eq g.met.K.ShelfName.exact) c.args.self.now.shelves (c.get_mut.follows.lender c.take.new.self) c.args.key.now c.in-Some.shelf.now c.take.new.self (c.args.number, c.args.id)
-    (ap (λ o. unwrap_or o []) (sym c.in-Some.ensures.value)) ((c.get_mut.follows.holds c.take.new.self).3 (subst IsSome c.in-Some.ensures.value refl)).0 c.take.ensures.keeps k p i apart)
+pub returns-else-is_empty-clause-lost : goal.returns-else-is_empty-clause-lost
+returns-else-is_empty-clause-lost g c =
+    one-changed g.K.Ord.cmp c.args.self.now.shelves (c.get_mut.follows.lender c.take.new.self) c.args.key.now (Some c.in-Some.shelf.now) (Some c.take.new.self) (λ x y. HasLost x y (g.N.ShelfNumber.value c.args.number, c.args.id)) (sym c.in-Some.ensures.value) ((c.get_mut.follows.holds c.take.new.self).3 (subst IsSome c.in-Some.ensures.value refl)).1 c.take.ensures
 
-pub returns-else-is_empty-clause-keeps : goal.returns-else-is_empty-clause-keeps
-returns-else-is_empty-clause-keeps g c =
-    take-keeps g.K.Ord.cmp (exact_by g.K.Ord.cmp g.K.PartialEq.eq g.met.K.Ord.matches_eq g.met.K.ShelfName.exact) c.args.self.now.shelves (c.get_mut.follows.lender c.take.new.self) c.args.key.now c.in-Some.shelf.now c.take.new.self (c.args.number, c.args.id)
-    (ap (λ o. unwrap_or o []) (sym c.in-Some.ensures.value)) ((c.get_mut.follows.holds c.take.new.self).3 (subst IsSome c.in-Some.ensures.value refl)).0 c.take.ensures.keeps
+pub returns-else-is_empty-clause-others : goal.returns-else-is_empty-clause-others
+returns-else-is_empty-clause-others g c =
+    others-kept g.K.Ord.cmp (exact_by g.K.Ord.cmp g.K.PartialEq.eq g.met.K.Ord.matches_eq g.met.K.ShelfName.exact) c.args.self.now.shelves (c.get_mut.follows.lender c.take.new.self) c.args.key.now (Some c.take.new.self) ((c.get_mut.follows.holds c.take.new.self).3 (subst IsSome c.in-Some.ensures.value refl)).0
 
-pub returns-else-is_empty-clause-only : goal.returns-else-is_empty-clause-only
-returns-else-is_empty-clause-only g c =
-    take-only g.K.Ord.cmp (exact_by g.K.Ord.cmp g.K.PartialEq.eq g.met.K.Ord.matches_eq g.met.K.ShelfName.exact) c.args.self.now.shelves (c.get_mut.follows.lender c.take.new.self) c.args.key.now c.in-Some.shelf.now c.take.new.self (c.args.number, c.args.id)
-    (ap (λ o. unwrap_or o []) (sym c.in-Some.ensures.value)) ((c.get_mut.follows.holds c.take.new.self).3 (subst IsSome c.in-Some.ensures.value refl)).0 ((c.get_mut.follows.holds c.take.new.self).3 (subst IsSome c.in-Some.ensures.value refl)).1 c.take.ensures.only
+pub returns-then-is_empty-clause-lost : goal.returns-then-is_empty-clause-lost
+returns-then-is_empty-clause-lost g c =
+    one-changed g.K.Ord.cmp c.args.self.now.shelves c.remove.new.self c.args.key.now (Some c.in-Some.shelf.now) None (λ x y. HasLost x y (g.N.ShelfNumber.value c.args.number, c.args.id)) (sym c.in-Some.ensures.value) c.remove.ensures.updates.1
+    (lost-all c.in-Some.shelf.now c.take.new.self (g.N.ShelfNumber.value c.args.number, c.args.id) c.take.ensures (c.is_empty.ensures c.if-is_empty.true))
+
+pub returns-then-is_empty-clause-others : goal.returns-then-is_empty-clause-others
+returns-then-is_empty-clause-others g c q apart =
+    others-kept g.K.Ord.cmp (exact_by g.K.Ord.cmp g.K.PartialEq.eq g.met.K.Ord.matches_eq g.met.K.ShelfName.exact) (c.get_mut.follows.lender c.take.new.self) c.remove.new.self c.args.key.now None c.remove.ensures.updates.0 q apart ∙
+    others-kept g.K.Ord.cmp (exact_by g.K.Ord.cmp g.K.PartialEq.eq g.met.K.Ord.matches_eq g.met.K.ShelfName.exact) c.args.self.now.shelves (c.get_mut.follows.lender c.take.new.self) c.args.key.now (Some c.take.new.self) ((c.get_mut.follows.holds c.take.new.self).3 (subst IsSome c.in-Some.ensures.value refl)).0 q apart

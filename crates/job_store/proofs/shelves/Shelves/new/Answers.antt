@@ -1,8 +1,8 @@
 use Rattle.job_store.specs.declared.label.Label.{Label}
 use Rattle.job_store.proofs.shelves.Shelves.new.Goals as goal
 
-pub returns-clause-places : goal.returns-clause-places
-returns-clause-places c = elim [
+pub returns-clause-shelves : goal.returns-clause-shelves
+returns-clause-shelves c = elim [
   | Label.Ready tube ↦ c.new.ensures tube.now
   | Label.Delayed tube ↦ c.new-2.ensures tube.now
   | Label.Buried tube ↦ c.new-3.ensures tube.now
