@@ -7,8 +7,7 @@ use Rattle.object.specs.Lists.{In}
 use Rattle.job_store.specs.declared.job.Job.{Job}
 use Rattle.job_store.specs.States.{is_ready}
 use Rattle.job_store.specs.LookUps.{is_among, ready_in, pri_of_job}
-use Rattle.job_store.specs.Least.{IsLeast, NonePasses, least}
-use Rattle.job_store.specs.Searches.{first_of}
+use Rattle.job_store.specs.Least.{first_of, IsLeast, NonePasses, least}
 use Rattle.job_store.proofs.Least.{IsAnswer, answer, answer-either, among-member}
 use Rattle.job_store.proofs.Shelving.{in-front, in-last, in-push}
 
