@@ -162,7 +162,11 @@ impl JobMap for Jobs {
     }
 
     fn due(&self, second: u64) -> Option<(u64, &Job)> {
-        match self.shelves.scheduled.first(Label::Scheduled, self.jobs.by_id()) {
+        match self
+            .shelves
+            .scheduled
+            .first(Label::Scheduled, self.jobs.by_id())
+        {
             Some((id, job)) if job.state.is_due(second) => Some((id, job)),
             _ => None,
         }

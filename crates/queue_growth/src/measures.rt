@@ -15,6 +15,7 @@ const WORKER: u32 = 1;
 
 /// The sessions that wait on the other tubes stand between these numbers.
 const FIRST_WAITING: u32 = 1_000;
+
 const END_OF_WAITING: u32 = 2_000;
 
 /// In so many seconds all jobs that are released are ready.

@@ -1,3 +1,5 @@
+use Rattle.std.proofs.Common.{ap, ◌∙◌}
+use Rattle.job_store.specs.Entries.{value_at}
 use Rattle.job_store.proofs.Shelving.{grown-twice}
 use Rattle.job_store.proofs.Following.{followed-put, followed-stay}
 use Rattle.job_store.proofs.moves.store.Goals as goal
@@ -20,4 +22,4 @@ returns-in_err-insert-clause-followed c = followed-stay c.put.new.self c.args.jo
 pub returns-clause-followed : goal.returns-clause-followed
 returns-clause-followed c =
     followed-put c.put.new.self c.args.id _ _ c.args.job c.args.jobs.now.jobs c.insert.new.self.jobs c.by_id.ensures.rising
-    (λ old there. c.in_ok-put.ensures.grown.lists (c.args.id, old) (c.in_ok-list_at.ensures.ok old there)) c.in_ok-insert.ensures.ok c.in_ok-put.ensures.ok
+    (λ old there. c.in_ok-put.ensures.grown.lists (c.args.id, old) (c.in_ok-list_at.ensures.ok old (ap (value_at c.args.id) c.by_id.ensures.jobs ∙ there))) c.in_ok-insert.ensures.ok c.in_ok-put.ensures.ok

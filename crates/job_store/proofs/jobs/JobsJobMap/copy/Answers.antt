@@ -5,4 +5,4 @@ use Rattle.job_store.proofs.jobs.JobsJobMap.copy.Goals as goal
 
 pub invariant_of-result : goal.invariant_of-result
 invariant_of-result c =
-    kept-swept c.of.result c.copy.result c.in_ok-copy.ensures.before c.by_id.ensures.rising (subst (HavePlaces c.of.result) c.by_id.ensures.jobs c.in_ok-of.ensures.placed) (subst (AreKnown c.of.result) c.by_id.ensures.jobs c.in_ok-of.ensures.known) c.in_ok-of.ensures.listed
+    kept-swept c.in_ok-shelves.shelves c.in_ok-jobs.jobs c.in_ok-jobs.ensures.before c.by_id.ensures.rising (subst (HavePlaces c.in_ok-shelves.shelves) c.by_id.ensures.jobs c.in_ok-shelves.ensures.placed) (subst (AreKnown c.in_ok-shelves.shelves) c.by_id.ensures.jobs c.in_ok-shelves.ensures.known) c.in_ok-shelves.ensures.listed

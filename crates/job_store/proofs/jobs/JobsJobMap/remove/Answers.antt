@@ -5,11 +5,11 @@ use Rattle.job_store.specs.Shelves.{HasTaken}
 use Rattle.job_store.proofs.Following.{kept-removed, kept-absent}
 use Rattle.job_store.proofs.jobs.JobsJobMap.remove.Goals as goal
 
-pub invariant_of-self-in_err-job : goal.invariant_of-self-in_err-job
-invariant_of-self-in_err-job c =
+pub invariant_of-self : goal.invariant_of-self
+invariant_of-self c =
     kept-absent c.self.inside.shelves c.self.inside.jobs c.remove.new.self c.args.id c.self.invariant
     (ap (λ (m : MapState). m.before) c.self.view_is ∙ c.commit.ensures.before)
-    c.remove.ensures.before c.remove.ensures.jobs (sym c.remove.ensures.job)
+    c.remove.ensures.before c.remove.ensures.jobs (sym c.in_err-job.ensures.job)
 
 pub invariant_of-self-2 : goal.invariant_of-self-2
 invariant_of-self-2 c =
