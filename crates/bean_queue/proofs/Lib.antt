@@ -14,3 +14,4 @@ pub mod ReadyAgain
 pub mod Calm
 pub mod Called
 pub mod Best
+pub mod Searches

@@ -8,3 +8,4 @@ pub mod Waits
 pub mod Holds
 pub mod TurnLaws
 pub mod WaitLaws
+pub mod Searches

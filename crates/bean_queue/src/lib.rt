@@ -5,10 +5,12 @@ mod counters;
 mod job_draft;
 mod laws;
 mod logic;
+mod look_up;
 mod op;
 mod queue;
 mod ready_again;
 mod reply;
+mod scan_jobs;
 mod waiting;
 
 pub use job_store::{Body, Job, Name, State};

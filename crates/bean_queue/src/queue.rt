@@ -5,6 +5,7 @@ use crate::laws::one_holder;
 use crate::logic::Logic;
 use crate::op::Op;
 use crate::reply::Reply;
+use crate::scan_jobs::ScanJobs;
 use job_store::{JobMap, Jobs};
 use object::{Act, Answer, Command, Key, Object};
 use std::alloc::{AllocError, Global};
@@ -18,9 +19,9 @@ pub struct QueueOver<M: JobMap> {
 }
 
 /// The queue that goes over all jobs to find one.
-pub type PlainQueue = QueueOver<Jobs>;
+pub type PlainQueue = QueueOver<ScanJobs>;
 
-/// The queue.
+/// The queue, which keeps what it looks for in order.
 pub type Queue = QueueOver<Jobs>;
 
 impl<M: JobMap> Model for QueueOver<M> {

@@ -1,20 +1,21 @@
 -- Shelves that follow the jobs: in a trial by more places, and at its end by those that go.
-use Rattle.std.proofs.Common.{◌≡◌, ℕ, ◌<◌, ◌≤◌, arith, ap₂, IsSome, nat_le, ◌⊎◌, inl, inr, List, [], Some, None, IfSome, IfNone, ◌^◌, refl, sym, subst, ◌∙◌, Bool, true, false}
+use Rattle.std.proofs.Common.{◌≡◌, ℕ, ◌<◌, ◌≤◌, arith, nat_le, ◌⊎◌, inl, inr, List, [], Option, Some, None, IfSome, IfNone, ◌^◌, refl, sym, subst, ◌∙◌, true, false}
+use Rattle.std.specs.Prelude.{is_some}
 use Rattle.std.proofs.lemmas.Bool.{both_ways, leb-true}
 use Rattle.std.proofs.lemmas.Bool.Decides.{leb_tells}
 use Rattle.object.specs.Lists.{In}
 use Rattle.job_store.specs.declared.job.Job.{Job}
 use Rattle.job_store.specs.declared.label.Label.{Label}
-use Rattle.job_store.specs.declared.undo.Undo.{Undo}
 use Rattle.job_store.specs.declared.state.State.{State}
 use Rattle.job_store.specs.declared.shelves.Shelves.{Shelves}
 use Rattle.job_store.specs.Entries.{Rising, value_at, with_value, altered, without}
-use Rattle.job_store.specs.Undone.{MapState, with_log, all_undone}
+use Rattle.job_store.specs.Undone.{MapState}
 use Rattle.job_store.specs.States.{is_due, is_scheduled, due_of}
 use Rattle.job_store.specs.LookUps.{due_by, due_of_job}
 use Rattle.job_store.specs.Least.{IsLeast, NonePasses}
 use Rattle.job_store.specs.ShelfStates.{IsFrom, bare}
 use Rattle.job_store.specs.Shelves.{belongs, BelongsAt, shelf, places, HavePlaces, IsAhead, AreAhead, AreAheadOrListed, IsListed, AreKnown, HasTaken, HasSettled, HasGrown, HasCome, HasFollowed, IsKept}
+use Rattle.job_store.proofs.Entries.{without-absent}
 use Rattle.job_store.proofs.Shelving.{placed-settled, known-settled, ahead-settled}
 use Rattle.job_store.proofs.Members.{altered-new, altered-old, inserted-new, inserted-old, value-here, value-is, without-was, without-others}
 
@@ -132,6 +133,9 @@ kept-swept s b none r placed ahead known listed = record {
 
 -- A trial whose changes are taken back
 
+pub placed-before : (s : Shelves) (a : MapState) (before : List (ℕ × Job)) → IsKept s a → a.before ≡ Some before → HavePlaces s before
+placed-before s a before kept is = subst (λ o. IfSome o (HavePlaces s)) is kept.placed_before
+
 pub known-before : (s : Shelves) (a : MapState) (before : List (ℕ × Job)) → IsKept s a → a.before ≡ Some before → AreKnown s before
 known-before s a before kept is label p i =
     let came : (e : ℕ × Job) → In e a.jobs → In e before ⊎ IsListed s e = subst (λ o. IfSome o (λ before. (e : ℕ × Job) → In e a.jobs → In e before ⊎ IsListed s e)) is kept.came in
@@ -143,63 +147,76 @@ ahead-before s a before kept is e i =
     let went : (e : ℕ × Job) → In e before → In e a.jobs ⊎ IsListed s e = subst (λ o. IfSome o (λ before. (e : ℕ × Job) → In e before → In e a.jobs ⊎ IsListed s e)) is kept.went in
     elim (went e i) as (λ v. IsAhead s e ⊎ IsListed s e) [ inl job ↦ inl (kept.ahead e job) | inr l ↦ inr l ]
 
--- The jobs before a trial
+-- Whether a trial is on
 
-pub before-same : (is_trial : Bool) (log new-log : List Undo) (jobs new : List (ℕ × Job)) → new-log ≡ log → new ≡ jobs → (with_log is_trial new-log new).before ≡ (with_log is_trial log jobs).before
-before-same is_trial log new-log jobs new l n = ap₂ (λ us js. (with_log is_trial us js).before) l n
+some-is : {X : Type 0} (o : Option X) → is_some o ≡ true → (x : X) × (o ≡ Some x)
+some-is None t = cc
+some-is (Some x) t = (x, refl)
 
-no-trial : (is_trial : Bool) (log : List Undo) (jobs : List (ℕ × Job)) → is_trial ≡ false → (with_log is_trial log jobs).before ≡ None
-no-trial true log jobs t = cc
-no-trial false log jobs t = refl
-
-pub before-outside : (is_trial : Bool) (log new-log : List Undo) (jobs new : List (ℕ × Job)) → is_trial ≡ false → (with_log is_trial new-log new).before ≡ (with_log is_trial log jobs).before
-before-outside true log new-log jobs new t = cc
-before-outside false log new-log jobs new t = refl
-
-pub kept-outside : (s : Shelves) (is_trial : Bool) (log : List Undo) (jobs : List (ℕ × Job)) → is_trial ≡ false → Rising 0 (2 ^ 64) jobs → HavePlaces s jobs → AreAhead s jobs → AreKnown s jobs → s.listed.items ≡ [] → IsKept s (with_log is_trial log jobs)
-kept-outside s is_trial log jobs f r placed ahead known listed =
-    kept-swept s (with_log is_trial log jobs) (no-trial is_trial log jobs f) r placed ahead known listed
+none-is : {X : Type 0} (o : Option X) → is_some o ≡ false → o ≡ None
+none-is None f = refl
+none-is (Some x) f = cc
 
 -- A change, and the shelves after it
-pub kept-followed : (s t u : Shelves) (is_trial : Bool) (log new-log : List Undo) (jobs new : List (ℕ × Job)) → IsKept s (with_log is_trial log jobs) → (with_log is_trial new-log new).before ≡ (with_log is_trial log jobs).before → HasGrown s t → HasFollowed t jobs new → Rising 0 (2 ^ 64) new → (is_trial ≡ true → HasSettled t u new) → (is_trial ≡ false → u.listed.items ≡ []) → HavePlaces u new → AreAhead u new → AreKnown u new → IsKept u (with_log is_trial new-log new)
-kept-followed s t u true log new-log jobs new kept same grown followed r settled swept placed ahead known =
-    kept-settled t u (with_log true new-log new) (all_undone new-log new) (kept-step s t (with_log true log jobs) (with_log true new-log new) (all_undone log jobs) kept refl same grown followed r) refl (settled refl)
-kept-followed s t u false log new-log jobs new kept same grown followed r settled swept placed ahead known =
-    kept-outside u false new-log new refl r placed ahead known (swept refl)
+pub kept-followed : (s t u : Shelves) (a b : MapState) → IsKept s a → b.before ≡ a.before → HasGrown s t → HasFollowed t a.jobs b.jobs → Rising 0 (2 ^ 64) b.jobs → (is_some b.before ≡ true → HasSettled t u b.jobs) → (is_some b.before ≡ false → u.listed.items ≡ []) → HavePlaces u b.jobs → AreAhead u b.jobs → AreKnown u b.jobs → IsKept u b
+kept-followed s t u a b kept same grown followed r settled swept placed ahead known =
+    elim (is_some b.before) as (λ v. is_some b.before ≡ v → IsKept u b) [
+      | true ↦ λ e.
+          let w = some-is b.before e in
+          kept-settled t u b w.0 (kept-step s t a b w.0 kept (sym same ∙ w.1) same grown followed r) w.1 (settled e)
+      | false ↦ λ e. kept-swept u b (none-is b.before e) r placed ahead known (swept e)
+    ] refl
 
-pub known-undone : (s : Shelves) (is_trial : Bool) (log : List Undo) (jobs : List (ℕ × Job)) → IsKept s (with_log is_trial log jobs) → IsSome (with_log is_trial log jobs).before → AreKnown s (all_undone log jobs)
-known-undone s true log jobs kept some = known-before s (with_log true log jobs) (all_undone log jobs) kept refl
-known-undone s false log jobs kept some = cc
+-- At the end of a trial, or its beginning, the jobs are as they were
 
-pub ahead-undone : (s : Shelves) (is_trial : Bool) (log : List Undo) (jobs : List (ℕ × Job)) → IsKept s (with_log is_trial log jobs) → IsSome (with_log is_trial log jobs).before → AreAheadOrListed s (all_undone log jobs)
-ahead-undone s true log jobs kept some = ahead-before s (with_log true log jobs) (all_undone log jobs) kept refl
-ahead-undone s false log jobs kept some = cc
+pub kept-ended : (s : Shelves) (a b : MapState) → b.jobs ≡ a.jobs → b.before ≡ None → Rising 0 (2 ^ 64) a.jobs → HavePlaces s a.jobs → AreAhead s a.jobs → AreKnown s a.jobs → s.listed.items ≡ [] → IsKept s b
+kept-ended s a b same none r placed ahead known listed =
+    kept-swept s b none (subst (Rising 0 (2 ^ 64)) (sym same) r) (subst (HavePlaces s) (sym same) placed) (subst (AreAhead s) (sym same) ahead) (subst (AreKnown s) (sym same) known) listed
 
-pub kept-none : (s : Shelves) (jobs : List (ℕ × Job)) → jobs ≡ [] → ((l : Label) → shelf s l ≡ bare) → s.listed.items ≡ [] → IsKept s (record { jobs = jobs; before = None })
-kept-none s jobs none empty listed =
-    kept-swept s (record { jobs = jobs; before = None }) refl (subst (Rising 0 (2 ^ 64)) (sym none) (omega arith)) (subst (HavePlaces s) (sym none) (λ e i. absurd i)) (subst (AreAhead s) (sym none) (λ e i. absurd i))
+pub kept-begun : (s : Shelves) (a b : MapState) → b.jobs ≡ a.jobs → b.before ≡ Some a.jobs → Rising 0 (2 ^ 64) a.jobs → HavePlaces s a.jobs → AreAhead s a.jobs → AreKnown s a.jobs → IsKept s b
+kept-begun s a b same some r placed ahead known = record {
+  rising = subst (Rising 0 (2 ^ 64)) (sym same) r;
+  placed = subst (HavePlaces s) (sym same) placed;
+  ahead = subst (AreAhead s) (sym same) ahead;
+  known = subst (AreKnown s) (sym same) known;
+  placed_before = subst (λ o. IfSome o (HavePlaces s)) (sym some) placed;
+  came = subst (λ o. IfSome o (λ before. (e : ℕ × Job) → In e b.jobs → In e before ⊎ IsListed s e)) (sym some) (λ e i. inl (subst (In e) same i));
+  went = subst (λ o. IfSome o (λ before. (e : ℕ × Job) → In e before → In e b.jobs ⊎ IsListed s e)) (sym some) (λ e i. inl (subst (In e) (sym same) i));
+  none_listed = subst (λ o. IfNone o (s.listed.items ≡ [])) (sym some) tt;
+}
+
+pub kept-none : (s : Shelves) (b : MapState) → b.jobs ≡ [] → b.before ≡ None → ((l : Label) → shelf s l ≡ bare) → s.listed.items ≡ [] → IsKept s b
+kept-none s b no-jobs none empty listed =
+    kept-swept s b none (subst (Rising 0 (2 ^ 64)) (sym no-jobs) (omega arith)) (subst (HavePlaces s) (sym no-jobs) (λ e i. absurd i)) (subst (AreAhead s) (sym no-jobs) (λ e i. absurd i))
     (λ l p i. absurd (subst (λ x. In p x.places) (empty l) i)) listed
 
 -- A job that is removed
-pub kept-removed : (s t : Shelves) (is_trial : Bool) (log : List Undo) (jobs new : List (ℕ × Job)) (id : ℕ) (job : Job) → IsKept s (with_log is_trial log jobs) → (with_log is_trial log jobs).before ≡ None → Rising 0 (2 ^ 64) new → new ≡ without id jobs → value_at id jobs ≡ Some job → HasTaken s t new → ((l : Label) (p : ℕ × ℕ) → In p (places t l) → BelongsAt l p (id, job) → (e : ℕ × Job) × BelongsAt l p e × In e new) → IsKept t (with_log is_trial log new)
-kept-removed s t true log jobs new id job kept none r is there taken gone = cc
-kept-removed s t false log jobs new id job kept none r is there taken gone =
-    let empty : s.listed.items ≡ [] = kept.none_listed in
-    kept-swept t (with_log false log new) refl r
-    (λ e i l p b. taken.keeps l p e i b (kept.placed e (without-was id e jobs (subst (In e) is i)) l p b))
-    (λ e i l p b. taken.ahead l p (kept.ahead e (without-was id e jobs (subst (In e) is i)) l p b))
+
+none-listed : (s : Shelves) (a : MapState) → IsKept s a → a.before ≡ None → s.listed.items ≡ []
+none-listed s a kept none = subst (λ o. IfNone o (s.listed.items ≡ [])) none kept.none_listed
+
+pub kept-removed : (s t : Shelves) (a b : MapState) (id : ℕ) (job : Job) → IsKept s a → a.before ≡ None → b.before ≡ None → Rising 0 (2 ^ 64) b.jobs → b.jobs ≡ without id a.jobs → value_at id a.jobs ≡ Some job → HasTaken s t b.jobs → ((l : Label) (p : ℕ × ℕ) → In p (places t l) → BelongsAt l p (id, job) → (e : ℕ × Job) × BelongsAt l p e × In e b.jobs) → IsKept t b
+kept-removed s t a b id job kept none ended r is there taken gone =
+    let empty : s.listed.items ≡ [] = none-listed s a kept none in
+    kept-swept t b ended r
+    (λ e i l p k. taken.keeps l p e i k (kept.placed e (without-was id e a.jobs (subst (In e) is i)) l p k))
+    (λ e i l p k. taken.ahead l p (kept.ahead e (without-was id e a.jobs (subst (In e) is i)) l p k))
     (λ l p i.
     let w = kept.known l p (taken.only l p i) in
-    elim w.2 as (λ v. (e : ℕ × Job) × BelongsAt l p e × (In e new ⊎ IsListed t e)) [
-      | inl old ↦ elim (without-others id w.0 jobs old) as (λ v. (e : ℕ × Job) × BelongsAt l p e × (In e new ⊎ IsListed t e)) [
+    elim w.2 as (λ v. (e : ℕ × Job) × BelongsAt l p e × (In e b.jobs ⊎ IsListed t e)) [
+      | inl old ↦ elim (without-others id w.0 a.jobs old) as (λ v. (e : ℕ × Job) × BelongsAt l p e × (In e b.jobs ⊎ IsListed t e)) [
         | inl still ↦ (w.0, w.1, inl (subst (In w.0) (sym is) still))
         | inr same ↦
-            let y = gone l p i (subst (BelongsAt l p) (value-is id 0 (2 ^ 64) job w.0 jobs kept.rising there old same) w.1) in
+            let y = gone l p i (subst (BelongsAt l p) (value-is id 0 (2 ^ 64) job w.0 a.jobs kept.rising there old same) w.1) in
             (y.0, y.1, inl y.2)
       ]
       | inr listed ↦ absurd (subst (In w.0) empty listed)
     ])
     (taken.lists ∙ empty)
+
+pub kept-absent : (s : Shelves) (a b : MapState) (id : ℕ) → IsKept s a → a.before ≡ None → b.before ≡ None → b.jobs ≡ without id a.jobs → value_at id a.jobs ≡ None → IsKept s b
+kept-absent s a b id kept none ended is absent =
+    kept-ended s a b (is ∙ without-absent id a.jobs absent) ended kept.rising kept.placed kept.ahead kept.known (none-listed s a kept none)
 
 -- Which job is due
 

@@ -4,9 +4,8 @@ use Rattle.std.proofs.lemmas.Bool.{both_ways, cond-true, cond-false, or_cases, o
 use Rattle.std.proofs.lemmas.Slice.Eq.{bytes_eq-Decides}
 use Rattle.object.specs.Lists.{In}
 use Rattle.job_store.specs.Entries.{Rising}
-use Rattle.job_store.specs.Least.{ComesBefore, comes_before, lesser, IsLeast, NonePasses, least}
+use Rattle.job_store.specs.Least.{ComesBefore, comes_before, lesser, first_of, IsLeast, NonePasses, least}
 use Rattle.job_store.specs.LookUps.{is_among}
-use Rattle.job_store.specs.Searches.{first_of}
 
 module _ {X : Type 0} (by : X → ℕ) where
   -- The test decides which of two comes before

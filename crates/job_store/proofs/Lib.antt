@@ -2,7 +2,6 @@ pub mod Names
 pub mod Entries
 pub mod Undone
 pub mod Least
-pub mod Searches
 pub mod Members
 pub mod Places
 pub mod Numbered

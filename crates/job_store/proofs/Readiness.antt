@@ -10,8 +10,7 @@ use Rattle.job_store.specs.declared.label.Label.{Label}
 use Rattle.job_store.specs.declared.shelves.Shelves.{Shelves}
 use Rattle.job_store.specs.States.{is_ready}
 use Rattle.job_store.specs.LookUps.{is_among, ready_in, pri_of_job, AreReadyPlaces}
-use Rattle.job_store.specs.Least.{IsLeast, NonePasses, least}
-use Rattle.job_store.specs.Searches.{first_of}
+use Rattle.job_store.specs.Least.{first_of, IsLeast, NonePasses, least}
 use Rattle.job_store.specs.Undone.{MapState}
 use Rattle.job_store.specs.ShelfStates.{place_of}
 use Rattle.job_store.specs.Shelves.{places, IsKept}

@@ -1,20 +1,17 @@
-ghost use Rattle.std.specs.Prelude.{◌≡◌, ◌↔◌, ◌^◌, [], ◌∷◌, IfOk, IfSome, IsNone, option_map};
-ghost use Rattle.job_store.specs.Least.{NonePasses};
+ghost use Rattle.std.specs.Prelude.{◌≡◌, ◌↔◌, [], ◌∷◌, None, IfSome, IsNone, option_map};
+ghost use Rattle.job_store.specs.Least.{NonePasses, first_of};
 ghost use Rattle.job_store.specs.LookUps.{pri_of_job, ready_in, AreReadyPlaces};
-ghost use Rattle.job_store.specs.Searches.{first_of};
-ghost use Rattle.job_store.specs.Entries.{Rising};
 
 use crate::change::Change;
 use crate::job::Job;
 use crate::job_map::JobMap;
 use crate::label::Label;
-use crate::moves::{move_to, move_to_state, store};
+use crate::logged_jobs::LoggedJobs;
+use crate::moves::{follow, move_to, move_to_state, store, sweep};
 use crate::name::Name;
 use crate::shelves::Shelves;
 use crate::state::State;
-use crate::undo::{Undo, undo_all};
 use indexmap::IndexSet;
-use object::Value;
 use std::alloc::{AllocError, Global};
 use std::collections::{BTreeMap, BTreeSet};
 use std::marker::Model;
@@ -23,35 +20,20 @@ use std::marker::Model;
 #[derive(Drop)]
 pub struct Jobs {
     alloc: Global,
-    jobs: BTreeMap<u64, Job>,
+    jobs: LoggedJobs,
     /// In a trial places are only added, so that to take its changes back takes no memory.
     shelves: Shelves,
-    is_trial: bool,
-    /// What takes back the changes of the trial.
-    log: Vec<Undo>,
 }
 
 impl Model for Jobs {
-    ghost use Rattle.job_store.specs.Undone.{MapState, with_log};
+    ghost use Rattle.job_store.specs.Undone.{MapState};
     ghost use Rattle.job_store.specs.Shelves.{IsKept};
 
     ghost Value = { MapState };
 
-    ghost view = { λ m. with_log m.is_trial m.log.items m.jobs.entries };
+    ghost view = { λ m. m.jobs };
 
-    ghost invariant = { λ m. IsKept m.shelves (with_log m.is_trial m.log.items m.jobs.entries) };
-}
-
-/// The same jobs under the same ids.
-fn copy_of(alloc: Global, jobs: &BTreeMap<u64, Job>) -> Result<BTreeMap<u64, Job>, AllocError>
-    requires { Rising 0 (2 ^ 64) jobs.now.entries }
-    ensures { IfOk result (λ copy. copy.entries ≡ jobs.now.entries) }
-{
-    let mut copy = BTreeMap::new(alloc);
-    for (id, job) in jobs {
-        copy.insert(*id, job.copy()?)?;
-    }
-    Ok(copy)
+    ghost invariant = { λ m. IsKept m.shelves m.jobs };
 }
 
 /// Of two jobs that there may be, that of the least (priority, id).
@@ -74,24 +56,6 @@ fn more_urgent<'a>(
 }
 
 impl Jobs {
-    ghost use Rattle.std.specs.Prelude.{None};
-    ghost use Rattle.job_store.specs.Shelves.{IsKept};
-
-    /// A map of these jobs, in no trial.
-    fn of(alloc: Global, jobs: BTreeMap<u64, Job>, shelves: Shelves) -> Jobs
-        requires { IsKept shelves (record { jobs = jobs.entries; before = None }) }
-        ensures jobs { result.jobs ≡ jobs.entries }
-        ensures before { result.before ≡ None }
-    {
-        Jobs {
-            alloc,
-            jobs,
-            shelves,
-            is_trial: false,
-            log: Vec::new(alloc),
-        }
-    }
-
     /// The ready jobs of a tube by (priority, id), if there are any.
     pub fn ready(&self, tube: &Name) -> Option<&BTreeSet<(u32, u64)>>
         requires { self.now.before ≡ None }
@@ -108,72 +72,69 @@ impl JobMap for Jobs {
     ghost before = { λ m. m.before };
 
     fn new(alloc: Global) -> Self {
-        Jobs::of(alloc, BTreeMap::new(alloc), Shelves::new(alloc))
+        Jobs {
+            alloc,
+            jobs: LoggedJobs::new(alloc),
+            shelves: Shelves::new(alloc),
+        }
     }
 
     fn copy(&self) -> Result<Self, AllocError> {
-        let jobs = copy_of(self.alloc, &self.jobs)?;
-        let shelves = Shelves::of(self.alloc, &jobs)?;
-        Ok(Jobs::of(self.alloc, jobs, shelves))
+        let jobs = self.jobs.copy()?;
+        let shelves = Shelves::of(self.alloc, jobs.by_id())?;
+        Ok(Jobs {
+            alloc: self.alloc,
+            jobs,
+            shelves,
+        })
     }
 
     fn begin(&mut self) {
-        self.shelves.sweep(&self.jobs);
-        self.is_trial = true;
-        self.log.clear();
+        sweep(&mut self.shelves, &self.jobs);
+        self.jobs.begin();
     }
 
     fn commit(&mut self) {
-        self.shelves.sweep(&self.jobs);
-        self.is_trial = false;
-        self.log.clear();
+        sweep(&mut self.shelves, &self.jobs);
+        self.jobs.commit();
     }
 
     fn roll_back(&mut self) {
-        undo_all(&mut self.jobs, &mut self.log);
-        self.shelves.sweep(&self.jobs);
-        self.is_trial = false;
+        self.jobs.roll_back();
+        sweep(&mut self.shelves, &self.jobs);
     }
 
     fn by_id(&self) -> &BTreeMap<u64, Job> {
-        &self.jobs
+        self.jobs.by_id()
     }
 
     fn get(&self, id: u64) -> Option<&Job> {
-        self.jobs.get(&id)
+        self.jobs.get(id)
     }
 
     fn insert(&mut self, id: u64, job: Job) -> Result<(), AllocError> {
-        let (shelves, jobs, log) = (&mut self.shelves, &mut self.jobs, &mut self.log);
-        let done = store(shelves, jobs, log, self.is_trial, id, job);
-        self.shelves.follow(&self.jobs, self.is_trial);
+        let done = store(&mut self.shelves, &mut self.jobs, id, job);
+        follow(&mut self.shelves, &self.jobs);
         done
     }
 
     fn set_state(&mut self, id: u64, state: State) -> Result<(), AllocError> {
-        let (shelves, jobs, log) = (&mut self.shelves, &mut self.jobs, &mut self.log);
-        let done = move_to_state(shelves, jobs, log, self.is_trial, id, state);
-        self.shelves.follow(&self.jobs, self.is_trial);
+        let done = move_to_state(&mut self.shelves, &mut self.jobs, id, state);
+        follow(&mut self.shelves, &self.jobs);
         done
     }
 
     fn set(&mut self, id: u64, pri: u32, state: State) -> Result<(), AllocError> {
-        let (shelves, jobs, log) = (&mut self.shelves, &mut self.jobs, &mut self.log);
-        let done = move_to(
-            shelves,
-            jobs,
-            log,
-            self.is_trial,
-            &Change { id, pri, state },
-        );
-        self.shelves.follow(&self.jobs, self.is_trial);
+        let change = Change { id, pri, state };
+        let done = move_to(&mut self.shelves, &mut self.jobs, &change);
+        follow(&mut self.shelves, &self.jobs);
         done
     }
 
     fn remove(&mut self, id: u64) -> Option<Job> {
         self.commit();
-        let job = self.jobs.remove(&id)?;
-        self.shelves.take_everywhere(&self.jobs, id, &job);
+        let job = self.jobs.remove(id)?;
+        self.shelves.take_everywhere(self.jobs.by_id(), id, &job);
         Some(job)
     }
 
@@ -190,23 +151,27 @@ impl JobMap for Jobs {
     fn first_ready(&self, tube: &Name) -> Option<(u64, &Job)> {
         self.shelves
             .ready
-            .first(tube, Label::Ready(tube), &self.jobs)
+            .first(tube, Label::Ready(tube), self.jobs.by_id())
     }
 
     fn first_delayed(&self, tube: &Name) -> Option<(u64, &Job)> {
         self.shelves
             .delayed
-            .first(tube, Label::Delayed(tube), &self.jobs)
+            .first(tube, Label::Delayed(tube), self.jobs.by_id())
     }
 
     fn first_buried(&self, tube: &Name) -> Option<(u64, &Job)> {
         self.shelves
             .buried
-            .first(tube, Label::Buried(tube), &self.jobs)
+            .first(tube, Label::Buried(tube), self.jobs.by_id())
     }
 
     fn due(&self, second: u64) -> Option<(u64, &Job)> {
-        match self.shelves.scheduled.first(Label::Scheduled, &self.jobs) {
+        match self
+            .shelves
+            .scheduled
+            .first(Label::Scheduled, self.jobs.by_id())
+        {
             Some((id, job)) if job.state.is_due(second) => Some((id, job)),
             _ => None,
         }
@@ -215,6 +180,6 @@ impl JobMap for Jobs {
     fn first_held(&self, session: u32) -> Option<(u64, &Job)> {
         self.shelves
             .held
-            .first(&session, Label::Held(session), &self.jobs)
+            .first(&session, Label::Held(session), self.jobs.by_id())
     }
 }

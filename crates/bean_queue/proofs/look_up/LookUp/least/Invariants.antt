@@ -1,7 +1,7 @@
 use Rattle.std.proofs.Common.{◌≡◌, option_map}
-use Rattle.job_store.specs.Least.{least}
-use Rattle.job_store.specs.Searches.{passes, number, first_of}
-use Rattle.job_store.proofs.look_up.LookUp.least.Given as goal
+use Rattle.job_store.specs.Least.{least, first_of}
+use Rattle.bean_queue.specs.Searches.{passes, number}
+use Rattle.bean_queue.proofs.look_up.LookUp.least.Given as goal
 
 abbrev pub invariant-loop-id : goal.invariant-loop-id
 invariant-loop-id l =

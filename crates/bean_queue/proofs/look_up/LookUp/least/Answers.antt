@@ -1,9 +1,9 @@
 use Rattle.std.proofs.Common.{◌≡◌, rules, option_map, sym, ◌∙◌}
 use Rattle.job_store.specs.Least.{least}
-use Rattle.job_store.specs.Searches.{passes, number}
+use Rattle.bean_queue.specs.Searches.{passes, number}
 use Rattle.job_store.proofs.Least.{least-shown}
-use Rattle.job_store.proofs.Searches.{least-step}
-use Rattle.job_store.proofs.look_up.LookUp.least.Goals as goal
+use Rattle.bean_queue.proofs.Searches.{least-step}
+use Rattle.bean_queue.proofs.look_up.LookUp.least.Goals as goal
 
 pub loop-id-preserved-then-passes : goal.loop-id-preserved-then-passes
 loop-id-preserved-then-passes c =

@@ -1,8 +1,7 @@
 -- A look-up as a value: what passes, and by which number the least is found.
-use Rattle.std.specs.Prelude.{ℕ, Bool, [], ◌∷◌, Option, None, Some}
+use Rattle.std.specs.Prelude.{ℕ, Bool, [], ◌∷◌}
 use Rattle.job_store.specs.declared.job.Job.{Job}
-use Rattle.job_store.specs.declared.look_up.LookUp.{LookUp}
-use Rattle.job_store.specs.Least.{lesser}
+use Rattle.bean_queue.specs.declared.look_up.LookUp.{LookUp}
 use Rattle.job_store.specs.LookUps.{ready_in, delayed_in, buried_in, due_by, held_by, pri_of_job, due_of_job, rank_of_job}
 
 -- whether a job passes
@@ -22,8 +21,3 @@ number (LookUp.Delayed tube) job = due_of_job job
 number (LookUp.Buried tube) job = rank_of_job job
 number (LookUp.Due second) job = due_of_job job
 number (LookUp.Held x) job = due_of_job job
-
--- of two entries that there may be, the one that comes first
-abbrev pub first_of : {X : Type 0} → (X → ℕ) → Option (ℕ × X) → Option (ℕ × X) → Option (ℕ × X)
-first_of by None o = o
-first_of by (Some e) o = Some (lesser by e o)

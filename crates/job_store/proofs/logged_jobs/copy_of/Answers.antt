@@ -1,6 +1,6 @@
 use Rattle.job_store.proofs.Entries.{insert_entry-next}
 use Rattle.std.proofs.Common.{◌++◌, rules, ap, sym, ◌∙◌}
-use Rattle.job_store.proofs.jobs.copy_of.Goals as goal
+use Rattle.job_store.proofs.logged_jobs.copy_of.Goals as goal
 
 pub loop-id-preserved-in_ok-insert : goal.loop-id-preserved-in_ok-insert
 loop-id-preserved-in_ok-insert c =

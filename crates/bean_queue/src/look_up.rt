@@ -1,6 +1,5 @@
-use crate::job::Job;
-use crate::name::Name;
 use indexmap::IndexSet;
+use job_store::{Job, Name};
 use std::collections::BTreeMap;
 
 /// What is looked for among the jobs.
@@ -22,8 +21,8 @@ pub enum LookUp<'a> {
 
 impl<'a> LookUp<'a> {
     ghost use Rattle.std.specs.Prelude.{◌≡◌, ℕ, option_map, Some, IfSome, IfNone};
-    ghost use Rattle.job_store.specs.Least.{least, comes_before, IsLeast, NonePasses};
-    ghost use Rattle.job_store.specs.Searches.{passes, number, first_of};
+    ghost use Rattle.job_store.specs.Least.{least, comes_before, first_of, IsLeast, NonePasses};
+    ghost use Rattle.bean_queue.specs.Searches.{passes, number};
 
     /// Whether the job, under whatever id, is one that is looked for.
     fn passes(&self, job: &Job) -> bool

@@ -2,8 +2,7 @@
 use Rattle.std.proofs.Common.{◌≡◌, ℕ, Bool, true, List, ◌∷◌, Option, Some, None, sym, ap, ◌∙◌}
 use Rattle.std.proofs.lemmas.Bool.{cond-true}
 use Rattle.job_store.specs.declared.job.Job.{Job}
-use Rattle.job_store.specs.Least.{lesser, least}
-use Rattle.job_store.specs.Searches.{first_of}
+use Rattle.job_store.specs.Least.{lesser, first_of, least}
 use Rattle.job_store.proofs.Least.{lesser-lesser}
 
 first_of-lesser : (by : Job → ℕ) (o : Option (ℕ × Job)) (e new : ℕ × Job) (r : Option (ℕ × Job)) → Some new ≡ first_of by o (Some e) → Some (lesser by new r) ≡ first_of by o (Some (lesser by e r))
