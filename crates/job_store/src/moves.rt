@@ -68,6 +68,8 @@ pub fn store(
     ensures before { jobs.new.before ≡ jobs.old.before }
     ensures jobs_stay { OnErr result (jobs.new.jobs ≡ jobs.old.jobs) }
 {
+    // Gives the proof that the ids rise.
+    let _ = jobs.by_id();
     shelves.put(id, &job)?;
     shelves.list_at(jobs.by_id(), id)?;
     jobs.insert(id, job)?;

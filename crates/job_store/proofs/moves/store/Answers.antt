@@ -22,5 +22,5 @@ returns-in_err-insert-clause-followed c = followed-stay c.list_at.new.self c.arg
 pub returns-clause-followed : goal.returns-clause-followed
 returns-clause-followed c =
     followed-put c.list_at.new.self c.args.id _ _ c.args.job c.args.jobs.now.jobs c.insert.new.self.jobs c.by_id.ensures.rising
-    (λ old there. c.in_ok-list_at.ensures.ok old (ap (value_at c.args.id) c.by_id.ensures.jobs ∙ there)) c.in_ok-insert.ensures.ok
+    (λ old there. c.in_ok-list_at.ensures.ok old (ap (value_at c.args.id) c.by_id-2.ensures.jobs ∙ there)) c.in_ok-insert.ensures.ok
     (come-grown c.put.new.self c.list_at.new.self (c.args.id, c.args.job) c.in_ok-list_at.ensures.grown c.in_ok-put.ensures.ok)
