@@ -14,3 +14,5 @@ pub mod ReadyAgain
 pub mod Calm
 pub mod Called
 pub mod Best
+pub mod Offers
+pub mod Woken
