@@ -1,6 +1,7 @@
 -- The best of what is offered in some tubes is the next job, where the tubes cover all that is wanted.
-use Rattle.std.proofs.Common.{◌≡◌, ℕ, Bool, true, false, cond, ◌&&◌, inl, inr, List, [], ◌∷◌, Option, Some, None, IfSome, filter_map, is_some, refl, sym, ap, subst, ◌∙◌, arith}
-use Rattle.std.proofs.lemmas.Bool.{cond-true, and_parts, and_from}
+use Rattle.std.proofs.Common.{◌≡◌, ℕ, suc, ◌+◌, ◌<◌, Bool, true, false, cond, ◌&&◌, inl, inr, List, [], ◌∷◌, Option, Some, None, IfSome, filter_map, option_map, is_some, length, drop, get_or, drop-cons, refl, sym, ap, ap₂, subst, ◌∙◌, arith}
+use Rattle.std.proofs.lemmas.Bool.{cond-true, cond-false, and_parts, and_from}
+use Rattle.std.specs.List.{cons_option}
 use Rattle.object.specs.Lists.{In}
 use Rattle.job_store.specs.declared.job.Job.{Job}
 use Rattle.job_store.specs.Entries.{Rising}
@@ -10,12 +11,14 @@ use Rattle.job_store.specs.States.{is_ready}
 use Rattle.job_store.proofs.Least.{least-found, same_entry, among-member}
 use Rattle.session_store.specs.declared.session.Session.{Session}
 use Rattle.session_store.specs.Sessions.{first_waiting, is_waiting, wait_rank}
+use Rattle.session_store.specs.Firsts.{first_of}
 use Rattle.session_store.proofs.Found.{mapped-in, mapped-from}
 use Rattle.bean_queue.specs.Best.{IsWanted}
 use Rattle.bean_queue.specs.Queue.{QueueState}
 use Rattle.bean_queue.specs.TurnLaws.{least-none, first_waiting-in}
 use Rattle.bean_queue.specs.Turns.{wanted, next_job}
 use Rattle.bean_queue.specs.Woken.{Covers, offered, best_offer}
+use Rattle.bean_queue.proofs.Firsts.{first_of-assoc}
 
 -- Two lists with one least
 
@@ -129,3 +132,39 @@ next-offered tubes s hi r covers =
     let best = best_for (c.1.tube ∷ []) s.jobs c w.1.there (and_from (is_ready c.1.state) (is_among c.1.tube (c.1.tube ∷ [])) w.1.ready alone) in
     let named : In c.1.tube tubes = covers c (record { there = w.1.there; ready = w.1.ready; watched = (w.0, w.1.known, w.1.waits, w.1.watches) }) in
     (best.0, mapped-in (offered s.jobs s.sessions) c.1.tube best.0 tubes named (cond-true (is_some (first_waiting (λ e. is_among c.1.tube e.1.watched) s.sessions)) (first_ready c.1.tube s.jobs) None (waits_for s.sessions c.1.tube w.0 w.1.known w.1.waits w.1.watches) ∙ best.1), best.2))
+
+-- Offers one by one
+
+offer-first : (o : Option (ℕ × Job)) (es : List (ℕ × Job)) → least (λ e. true) pri_of_job (cons_option o es) ≡ first_of pri_of_job o (least (λ e. true) pri_of_job es)
+offer-first None es = refl
+offer-first (Some e) es = refl
+
+-- the next tube's offer is taken along
+pub offer-more : (jobs : List (ℕ × Job)) (sessions : List (ℕ × Session)) (tubes : List (List ℕ)) (i : ℕ) (tube : List ℕ) (best best' all : Option (ℕ × Job)) → i < length tubes → tube ≡ get_or tubes i tube → best' ≡ first_of pri_of_job best (offered jobs sessions tube) → first_of pri_of_job best (best_offer jobs sessions (drop i tubes)) ≡ all → first_of pri_of_job best' (best_offer jobs sessions (drop (i + 1) tubes)) ≡ all
+offer-more jobs sessions tubes i tube best best' all below here new was =
+    let rest = best_offer jobs sessions (drop (i + 1) tubes) in
+    let next : suc i ≡ i + 1 = omega arith in
+    let cut : drop i tubes ≡ tube ∷ drop (i + 1) tubes = drop-cons tubes i tube below ∙ ap₂ (λ t n. t ∷ drop n tubes) (sym here) next in
+    ap (λ b. first_of pri_of_job b rest) new ∙
+    first_of-assoc pri_of_job best (offered jobs sessions tube) rest ∙
+    ap (first_of pri_of_job best) (sym (offer-first (offered jobs sessions tube) (filter_map (offered jobs sessions) (drop (i + 1) tubes)))) ∙
+    ap (λ ts. first_of pri_of_job best (best_offer jobs sessions ts)) (sym cut) ∙
+    was
+
+seen-same : {A B : Type 0} (view : A → B) (o : Option A) (p : Option B) (b : Bool) → option_map view o ≡ p → is_some o ≡ b → is_some p ≡ b
+seen-same view None p b e s = ap is_some (sym e) ∙ s
+seen-same view (Some a) p b e s = ap is_some (sym e) ∙ s
+
+-- where somebody waits for the tube
+pub offer-taken : {A B : Type 0} (view : A → ℕ × Session) (show : B → ℕ × Job) (watcher : Option A) (best best' job : Option B) (jobs : List (ℕ × Job)) (sessions : List (ℕ × Session)) (tube : List ℕ) → option_map view watcher ≡ first_waiting (λ e. is_among tube e.1.watched) sessions → is_some watcher ≡ true → option_map show job ≡ first_ready tube jobs → option_map show best' ≡ first_of pri_of_job (option_map show best) (option_map show job) → option_map show best' ≡ first_of pri_of_job (option_map show best) (offered jobs sessions tube)
+offer-taken view show watcher best best' job jobs sessions tube seen some found new =
+    new ∙
+    ap (first_of pri_of_job (option_map show best))
+    (found ∙ sym (cond-true (is_some (first_waiting (λ e. is_among tube e.1.watched) sessions)) (first_ready tube jobs) None (seen-same view watcher _ true seen some)))
+
+-- where nobody does
+pub offer-passed : {A B : Type 0} (view : A → ℕ × Session) (show : B → ℕ × Job) (watcher : Option A) (best : Option B) (jobs : List (ℕ × Job)) (sessions : List (ℕ × Session)) (tube : List ℕ) → option_map view watcher ≡ first_waiting (λ e. is_among tube e.1.watched) sessions → is_some watcher ≡ false → option_map show best ≡ first_of pri_of_job (option_map show best) (offered jobs sessions tube)
+offer-passed view show watcher best jobs sessions tube seen none =
+    elim (option_map show best) as (λ b. b ≡ first_of pri_of_job b None) [ None ↦ refl | Some b ↦ refl ] ∙
+    ap (first_of pri_of_job (option_map show best))
+    (sym (cond-false (is_some (first_waiting (λ e. is_among tube e.1.watched) sessions)) (first_ready tube jobs) None (seen-same view watcher _ false seen none)))
