@@ -13,7 +13,6 @@ use Rattle.session_store.specs.declared.session.Session.{Session}
 use Rattle.session_store.specs.Sessions.{first_waiting, is_waiting, wait_rank}
 use Rattle.session_store.specs.Firsts.{first_of}
 use Rattle.session_store.proofs.Found.{mapped-in, mapped-from}
-use Rattle.bean_queue.specs.Best.{IsWanted}
 use Rattle.bean_queue.specs.Queue.{QueueState}
 use Rattle.bean_queue.specs.TurnLaws.{least-none, first_waiting-in}
 use Rattle.bean_queue.specs.Turns.{wanted, next_job}

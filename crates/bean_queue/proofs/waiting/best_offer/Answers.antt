@@ -1,7 +1,4 @@
-use Rattle.std.proofs.Common.{◌≡◌, ◌∙◌, sym, ap, option_map, rules}
-use Rattle.job_store.specs.LookUps.{pri_of_job}
-use Rattle.session_store.specs.Firsts.{first_of}
-use Rattle.bean_queue.specs.Woken.{offered}
+use Rattle.std.proofs.Common.{◌∙◌, sym, ap, option_map, rules}
 use Rattle.bean_queue.proofs.Offers.{offer-more, offer-taken, offer-passed}
 use Rattle.bean_queue.proofs.waiting.best_offer.Goals.{then-is_some, else-is_some}
 use Rattle.bean_queue.proofs.waiting.best_offer.Goals as goal
