@@ -15,3 +15,6 @@ pub mod Calm
 pub mod Called
 pub mod Best
 pub mod Searches
+pub mod Offers
+pub mod Woken
+pub mod Naming

@@ -2,6 +2,7 @@ pub mod Queue
 pub mod Rows
 pub mod Turns
 pub mod Best
+pub mod Woken
 pub mod Effects
 pub mod Places
 pub mod Waits

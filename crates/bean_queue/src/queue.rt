@@ -68,7 +68,7 @@ impl<M: JobMap> QueueOver<M> {
         ensures err { OnErr result ((self.new ≡ self.old) × (out.new.items ≡ out.old.items)) }
     {
         let mut answers = Vec::new(self.alloc);
-        if let Err(e) = self.logic.act(key, op, &mut answers) {
+        if let Err(e) = self.logic.act(self.alloc, key, op, &mut answers) {
             self.logic.take_back();
             return Err(e);
         }
@@ -89,7 +89,7 @@ impl<M: JobMap> QueueOver<M> {
         ensures err { OnErr result ((self.new ≡ self.old) × (out.new.items ≡ out.old.items)) }
     {
         let mut answers = Vec::new(self.alloc);
-        if let Err(e) = self.logic.release_all(session, &mut answers) {
+        if let Err(e) = self.logic.release_all(self.alloc, session, &mut answers) {
             self.logic.take_back();
             return Err(e);
         }
@@ -111,7 +111,7 @@ impl<M: JobMap> QueueOver<M> {
         ensures err { OnErr result ((self.new ≡ self.old) × (out.new.items ≡ out.old.items)) }
     {
         let mut answers = Vec::new(self.alloc);
-        if let Err(e) = self.logic.tick(second, &mut answers) {
+        if let Err(e) = self.logic.tick(self.alloc, second, &mut answers) {
             self.logic.take_back();
             return Err(e);
         }

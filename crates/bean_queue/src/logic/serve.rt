@@ -1,22 +1,37 @@
-ghost use Rattle.std.specs.Prelude.{◌≡◌, ◌++◌, IfOk, OnOk};
-ghost use Rattle.bean_queue.specs.Turns.{IsTurn, serve_turn, deadline_turn, timeout_turn, all_turns};
+ghost use Rattle.std.specs.Prelude.{◌≡◌, ◌++◌, IfOk, OnOk, option_map};
+ghost use Rattle.bean_queue.specs.Turns.{IsTurn, next_job, serve_turn, deadline_turn, timeout_turn, all_turns};
+ghost use Rattle.bean_queue.specs.Woken.{Covers};
 
 use crate::logic::Logic;
 use crate::reply::Reply;
-use crate::waiting::{first_holder, next_job};
-use job_store::{JobMap, State};
+use crate::waiting::{best_offer, first_holder};
+use job_store::{Job, JobMap, Name, State};
 use object::{Answer, Key, Value};
 use std::alloc::AllocError;
 
 impl<M: JobMap> Logic<M> {
-    /// Gives the next job to the session whose turn it is, and tells whether there was one.
-    fn serve_one(&mut self, answers: &mut Vec<Answer<Reply>>) -> Result<bool, AllocError>
+    /// Of the best jobs of all waiting sessions, the most urgent. It is looked for in these tubes alone.
+    fn next_job(&self, woken: &[Name]) -> Option<(u64, &Job)>
+        requires { Covers woken.now self.now.now }
+        ensures { option_map (λ e. (e.0, e.1.now)) result ≡ next_job self.now.now }
+    {
+        best_offer(self.jobs.map(), &self.sessions, woken)
+    }
+
+    /// Gives the next job to the session whose turn it is, and tells whether there was one. It is in one of these
+    /// tubes.
+    fn serve_one(
+        &mut self,
+        woken: &[Name],
+        answers: &mut Vec<Answer<Reply>>,
+    ) -> Result<bool, AllocError>
+        requires { Covers woken.now self.old.now }
         ensures turn { IfOk result
             (λ more. IsTurn serve_turn self.old.now self.new.now answers.old.items answers.new.items
             more) }
         ensures before { self.new.before ≡ self.old.before }
     {
-        let Some((id, job)) = next_job(self.jobs.map(), self.sessions.map()) else {
+        let Some((id, job)) = self.next_job(woken) else {
             return Ok(false);
         };
         let Some((session, watcher)) = self.sessions.first_watcher(&job.tube) else {
@@ -37,14 +52,19 @@ impl<M: JobMap> Logic<M> {
         Ok(true)
     }
 
-    /// Gives jobs to waiting sessions, while there is one for them.
-    pub fn serve(&mut self, answers: &mut Vec<Answer<Reply>>) -> Result<(), AllocError>
+    /// Gives jobs of these tubes to waiting sessions, while there is one for them.
+    pub fn serve(
+        &mut self,
+        woken: &[Name],
+        answers: &mut Vec<Answer<Reply>>,
+    ) -> Result<(), AllocError>
+        requires { Covers woken.now self.old.now }
         ensures state { OnOk result (self.new.now ≡ (all_turns serve_turn self.old.now).state) }
         ensures answers { OnOk result
             (answers.new.items ≡ answers.old.items ++ (all_turns serve_turn self.old.now).answers) }
         ensures before { self.new.before ≡ self.old.before }
     {
-        'turns: while self.serve_one(answers)? {}
+        'turns: while self.serve_one(woken, answers)? {}
         Ok(())
     }
 
