@@ -56,7 +56,7 @@ fn more_urgent<'a>(
 }
 
 impl Jobs {
-    /// The ready jobs of a tube by (priority, id), if there are any.
+    /// The ready jobs of a tube by (priority, id), if there are any. It can't be asked in a trial.
     pub fn ready(&self, tube: &Name) -> Option<&BTreeSet<(u32, u64)>>
         requires { self.now.before ≡ None }
         ensures some { IfSome result (λ places. AreReadyPlaces places.now.keys tube.now self.now.jobs) }

@@ -19,8 +19,8 @@ use std::collections::BTreeMap;
 
 /// The shelves that jobs stand on, in the orders in which they are looked for.
 ///
-/// A change of a job only adds places, and lists the job before and after. `sweep` takes out the places where a
-/// listed job stands no more.
+/// A change of a job only adds places, and lists the job after and before. Then look-ups begin after the places that it
+/// has left, as far as they are the first ones. `sweep` takes out the places where a listed job stands no more.
 #[derive(Drop)]
 pub struct Shelves {
     pub ready: Rack<Name, u32>,
