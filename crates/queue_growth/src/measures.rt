@@ -22,7 +22,7 @@ const END_OF_WAITING: u32 = 2_000;
 const SECONDS: u32 = 100;
 
 /// So often a job is touched in each second.
-const TOUCHES: u32 = 100;
+const TOUCHES: u32 = 1_000;
 
 /// So many jobs, in tens, are put into ten tubes, and then reserved and deleted one after another, while others wait.
 pub fn serve(rt: &HostRuntime, marks: Marks, clients: &mut Clients, jobs: u32) -> Option<()> {
