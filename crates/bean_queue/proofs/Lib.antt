@@ -16,3 +16,4 @@ pub mod Called
 pub mod Best
 pub mod Offers
 pub mod Woken
+pub mod Holders
