@@ -1,6 +1,6 @@
 -- Sessions that have a job due by a second: those that were found, and the first of them.
 use Rattle.std.proofs.Common.{◌≡◌, ℕ, ◌+◌, Bool, true, false, cond, ◌&&◌, ◌||◌, ◌⊎◌, inl, inr, List, [], ◌∷◌, ◌++◌, Option, Some, None, IfSome, filter_map, option_map, is_some, nat_le, refl, sym, ap, subst, ◌∙◌, true≢false}
-use Rattle.std.proofs.lemmas.Bool.{cond-true, and_parts, and_from}
+use Rattle.std.proofs.lemmas.Bool.{cond-true, and_parts}
 use Rattle.object.specs.Lists.{In}
 use Rattle.object.specs.declared.command.Answer.{Answer}
 use Rattle.job_store.specs.declared.job.Job.{Job}

@@ -85,9 +85,12 @@ impl<M: JobMap> Logic<M> {
         ensures before { self.new.before ≡ self.old.before }
     {
         let second = self.counters.now + 1;
-        let Some((session, holder)) =
-            first_holder(self.jobs.map(), self.sessions.map(), holders, second)
-        else {
+        let Some((session, holder)) = first_holder(
+            self.jobs.map(),
+            self.sessions.map(),
+            holders,
+            second,
+        ) else {
             return Ok(false);
         };
         let to = Key {
