@@ -1,17 +1,14 @@
 -- What comes first among some entries, and with one more before them.
-use Rattle.std.proofs.Common.{◌≡◌, ℕ, Bool, true, false, cond, ◌||◌, ◌&&◌, inl, inr, List, [], ◌∷◌, Option, None, Some, nat_le, is_some, option_map, refl, sym, ap, ◌∙◌, arith, true≢false}
-use Rattle.std.proofs.lemmas.Bool.{and_parts}
+use Rattle.std.proofs.Common.{◌≡◌, ℕ, suc, ◌+◌, ◌<◌, ◌≤◌, Bool, true, false, cond, ◌||◌, ◌&&◌, List, [], ◌∷◌, Option, None, Some, length, get_or, drop, drop-cons, filter_map, nat_le, refl, sym, ap, ap₂, ◌∙◌, arith}
 use Rattle.std.proofs.lemmas.Bool.Decides.{nat_tests}
+use Rattle.std.proofs.lemmas.List.{drop_all}
+use Rattle.std.specs.List.{cons_option}
 use Rattle.job_store.specs.declared.job.Job.{Job}
-use Rattle.job_store.specs.declared.state.State.{State}
-use Rattle.job_store.specs.Least.{NonePasses, comes_before, lesser}
-use Rattle.job_store.specs.LookUps.{due_by, due_of_job, first_due, first_held}
-use Rattle.job_store.specs.States.{is_due, is_held, due_of}
-use Rattle.session_store.specs.declared.session.Session.{Session}
+use Rattle.job_store.specs.Least.{comes_before, lesser, least}
+use Rattle.job_store.specs.LookUps.{due_of_job, first_held}
+use Rattle.job_store.specs.States.{is_held, due_of}
 use Rattle.session_store.specs.Firsts.{first_of}
-use Rattle.session_store.specs.Sessions.{first_waiting, is_waiting, wait_rank}
 use Rattle.bean_queue.specs.Queue.{holds_by}
-use Rattle.bean_queue.specs.TurnLaws.{least-none, none-least}
 
 module _ {X : Type 0} (by : X → ℕ) where
   between : (d e f : ℕ × X) → comes_before by d e ≡ true → comes_before by f d ≡ true → comes_before by f e ≡ true
@@ -40,6 +37,32 @@ module _ {X : Type 0} (by : X → ℕ) where
   first_of-assoc None b c = refl
   first_of-assoc (Some e) None c = refl
   first_of-assoc (Some e) (Some d) c = ap Some (lesser-assoc e d c)
+
+-- with nothing after it
+pub first_of-none : {X : Type 0} (by : X → ℕ) (o : Option (ℕ × X)) → o ≡ first_of by o None
+first_of-none by None = refl
+first_of-none by (Some e) = refl
+
+-- What is first of what is made of the elements of a list, one by one
+module _ {A X : Type 0} (by : X → ℕ) (f : A → Option (ℕ × X)) where
+  first-made : (o : Option (ℕ × X)) (es : List (ℕ × X)) → least (λ e. true) by (cons_option o es) ≡ first_of by o (least (λ e. true) by es)
+  first-made None es = refl
+  first-made (Some e) es = refl
+
+  pub first-along : (xs : List A) (i : ℕ) (x y : A) (best best' all : Option (ℕ × X)) → i < length xs → x ≡ get_or xs i y → best' ≡ first_of by best (f x) → first_of by best (least (λ e. true) by (filter_map f (drop i xs))) ≡ all → first_of by best' (least (λ e. true) by (filter_map f (drop (i + 1) xs))) ≡ all
+  first-along xs i x y best best' all below here new was =
+      let rest = filter_map f (drop (i + 1) xs) in
+      let next : suc i ≡ i + 1 = omega arith in
+      let cut : drop i xs ≡ x ∷ drop (i + 1) xs = drop-cons xs i y below ∙ ap₂ (λ z n. z ∷ drop n xs) (sym here) next in
+      ap (λ b. first_of by b (least (λ e. true) by rest)) new ∙
+      first_of-assoc by best (f x) (least (λ e. true) by rest) ∙
+      ap (first_of by best) (sym (first-made (f x) rest)) ∙
+      ap (λ ys. first_of by best (least (λ e. true) by (filter_map f ys))) (sym cut) ∙
+      was
+
+  pub first-whole : (xs : List A) (i : ℕ) (best all : Option (ℕ × X)) → length xs ≤ i → first_of by best (least (λ e. true) by (filter_map f (drop i xs))) ≡ all → best ≡ all
+  first-whole xs i best all end was =
+      first_of-none by best ∙ ap (λ ys. first_of by best (least (λ e. true) by (filter_map f ys))) (sym (drop_all i xs end)) ∙ was
 
 -- the job that there may be is due by the second
 is_by : ℕ → Option (ℕ × Job) → Bool
@@ -78,29 +101,3 @@ held_none x second jobs e = holds-first x second jobs ∙ ap (is_by second) e
 pub held_some : (x second : ℕ) (jobs : List (ℕ × Job)) (e : ℕ × Job) → first_held x jobs ≡ Some e → holds_by x second jobs ≡ nat_le (due_of e.1.state) second
 unfolding is_by
 held_some x second jobs e f = holds-first x second jobs ∙ ap (is_by second) f
-
--- Where no job is due, no session has one that is
-
-held-due : (x second : ℕ) (state : State) → (is_held x state && nat_le (due_of state) second) ≡ true → is_due second state ≡ true
-held-due x second State.Ready h = cc
-held-due x second (State.Delayed due) h = cc
-held-due x second (State.Reserved y due) h = (and_parts (is_held x (State.Reserved y due)) (nat_le due second) h).1
-held-due x second (State.Buried rank) h = cc
-
-holds-none : (x second : ℕ) (jobs : List (ℕ × Job)) → NonePasses (due_by second) jobs → holds_by x second jobs ≡ false
-holds-none x second [] none = refl
-holds-none x second (e ∷ es) none =
-    elim (is_held x e.1.state && nat_le (due_of e.1.state) second) as (λ b. (is_held x e.1.state && nat_le (due_of e.1.state) second) ≡ b → (b || holds_by x second es) ≡ false) [
-      | true ↦ λ h. absurd (none e (inl refl) (held-due x second e.1.state h))
-      | false ↦ λ h. holds-none x second es (λ d i t. none d (inr i) t)
-    ] refl
-
-pub no-holder : (second : ℕ) (jobs : List (ℕ × Job)) (sessions : List (ℕ × Session)) → first_due second jobs ≡ None → first_waiting (λ e. holds_by e.0 second jobs) sessions ≡ None
-no-holder second jobs sessions none =
-    none-least (λ e. is_waiting e.1 && holds_by e.0 second jobs) wait_rank sessions
-    (λ w i t. true≢false (sym (and_parts (is_waiting w.1) (holds_by w.0 second jobs) t).1 ∙ holds-none w.0 second jobs (λ e i t. least-none (due_by second) due_of_job jobs e none i t)))
-
--- what is not there is not seen
-pub none-seen : {A B : Type 0} (view : A → B) (o : Option A) → is_some o ≡ false → option_map view o ≡ None
-none-seen view None e = refl
-none-seen view (Some a) e = cc

@@ -18,3 +18,4 @@ pub mod Searches
 pub mod Offers
 pub mod Woken
 pub mod Naming
+pub mod Holders

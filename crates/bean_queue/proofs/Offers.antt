@@ -1,7 +1,6 @@
 -- The best of what is offered in some tubes is the next job, where the tubes cover all that is wanted.
-use Rattle.std.proofs.Common.{◌≡◌, ℕ, suc, ◌+◌, ◌<◌, Bool, true, false, cond, ◌&&◌, inl, inr, List, [], ◌∷◌, Option, Some, None, IfSome, filter_map, option_map, is_some, length, drop, get_or, drop-cons, refl, sym, ap, ap₂, subst, ◌∙◌, arith}
+use Rattle.std.proofs.Common.{◌≡◌, ℕ, Bool, true, false, cond, ◌&&◌, inl, inr, List, [], ◌∷◌, Option, Some, None, IfSome, filter_map, option_map, is_some, refl, sym, ap, subst, ◌∙◌, arith}
 use Rattle.std.proofs.lemmas.Bool.{cond-true, cond-false, and_parts, and_from}
-use Rattle.std.specs.List.{cons_option}
 use Rattle.object.specs.Lists.{In}
 use Rattle.job_store.specs.declared.job.Job.{Job}
 use Rattle.job_store.specs.Entries.{Rising}
@@ -17,7 +16,7 @@ use Rattle.bean_queue.specs.Queue.{QueueState}
 use Rattle.bean_queue.specs.TurnLaws.{least-none, first_waiting-in}
 use Rattle.bean_queue.specs.Turns.{wanted, next_job}
 use Rattle.bean_queue.specs.Woken.{Covers, offered, best_offer}
-use Rattle.bean_queue.proofs.Firsts.{first_of-assoc}
+use Rattle.bean_queue.proofs.Firsts.{first_of-none}
 
 -- Two lists with one least
 
@@ -134,22 +133,6 @@ next-offered tubes s hi r covers =
 
 -- Offers one by one
 
-offer-first : (o : Option (ℕ × Job)) (es : List (ℕ × Job)) → least (λ e. true) pri_of_job (cons_option o es) ≡ first_of pri_of_job o (least (λ e. true) pri_of_job es)
-offer-first None es = refl
-offer-first (Some e) es = refl
-
--- the next tube's offer is taken along
-pub offer-more : (jobs : List (ℕ × Job)) (sessions : List (ℕ × Session)) (tubes : List (List ℕ)) (i : ℕ) (tube : List ℕ) (best best' all : Option (ℕ × Job)) → i < length tubes → tube ≡ get_or tubes i tube → best' ≡ first_of pri_of_job best (offered jobs sessions tube) → first_of pri_of_job best (best_offer jobs sessions (drop i tubes)) ≡ all → first_of pri_of_job best' (best_offer jobs sessions (drop (i + 1) tubes)) ≡ all
-offer-more jobs sessions tubes i tube best best' all below here new was =
-    let rest = best_offer jobs sessions (drop (i + 1) tubes) in
-    let next : suc i ≡ i + 1 = omega arith in
-    let cut : drop i tubes ≡ tube ∷ drop (i + 1) tubes = drop-cons tubes i tube below ∙ ap₂ (λ t n. t ∷ drop n tubes) (sym here) next in
-    ap (λ b. first_of pri_of_job b rest) new ∙
-    first_of-assoc pri_of_job best (offered jobs sessions tube) rest ∙
-    ap (first_of pri_of_job best) (sym (offer-first (offered jobs sessions tube) (filter_map (offered jobs sessions) (drop (i + 1) tubes)))) ∙
-    ap (λ ts. first_of pri_of_job best (best_offer jobs sessions ts)) (sym cut) ∙
-    was
-
 seen-same : {A B : Type 0} (view : A → B) (o : Option A) (p : Option B) (b : Bool) → option_map view o ≡ p → is_some o ≡ b → is_some p ≡ b
 seen-same view None p b e s = ap is_some (sym e) ∙ s
 seen-same view (Some a) p b e s = ap is_some (sym e) ∙ s
@@ -164,6 +147,6 @@ offer-taken view show watcher best best' job jobs sessions tube seen some found 
 -- where nobody does
 pub offer-passed : {A B : Type 0} (view : A → ℕ × Session) (show : B → ℕ × Job) (watcher : Option A) (best : Option B) (jobs : List (ℕ × Job)) (sessions : List (ℕ × Session)) (tube : List ℕ) → option_map view watcher ≡ first_waiting (λ e. is_among tube e.1.watched) sessions → is_some watcher ≡ false → option_map show best ≡ first_of pri_of_job (option_map show best) (offered jobs sessions tube)
 offer-passed view show watcher best jobs sessions tube seen none =
-    elim (option_map show best) as (λ b. b ≡ first_of pri_of_job b None) [ None ↦ refl | Some b ↦ refl ] ∙
+    first_of-none pri_of_job (option_map show best) ∙
     ap (first_of pri_of_job (option_map show best))
     (sym (cond-false (is_some (first_waiting (λ e. is_among tube e.1.watched) sessions)) (first_ready tube jobs) None (seen-same view watcher _ false seen none)))

@@ -3,6 +3,7 @@ pub mod Rows
 pub mod Turns
 pub mod Best
 pub mod Woken
+pub mod Holders
 pub mod Effects
 pub mod Places
 pub mod Waits

@@ -2,6 +2,7 @@
 #![tactic(auto)]
 
 mod counters;
+mod deadlines;
 mod job_draft;
 mod laws;
 mod logic;

@@ -1,13 +1,15 @@
-ghost use Rattle.std.specs.Prelude.{◌≡◌, ◌++◌, IfOk, OnOk, option_map};
+ghost use Rattle.std.specs.Prelude.{◌≡◌, ◌+◌, ◌++◌, IfOk, OnOk, option_map};
 ghost use Rattle.bean_queue.specs.Turns.{IsTurn, next_job, serve_turn, deadline_turn, timeout_turn, all_turns};
 ghost use Rattle.bean_queue.specs.Woken.{Covers};
+ghost use Rattle.bean_queue.specs.Holders.{HasHolders};
 
+use crate::deadlines::{first_holder, holders_by};
 use crate::logic::Logic;
 use crate::reply::Reply;
-use crate::waiting::{best_offer, first_holder};
+use crate::waiting::best_offer;
 use job_store::{Job, JobMap, Name, State};
 use object::{Answer, Key, Value};
-use std::alloc::AllocError;
+use std::alloc::{AllocError, Global};
 
 impl<M: JobMap> Logic<M> {
     /// Of the best jobs of all waiting sessions, the most urgent. It is looked for in these tubes alone.
@@ -68,16 +70,27 @@ impl<M: JobMap> Logic<M> {
         Ok(())
     }
 
-    /// Tells the first waiting session with a job due within a second so, and whether there was one.
-    fn tell_deadline(&mut self, answers: &mut Vec<Answer<Reply>>) -> Result<bool, AllocError>
+    /// Tells the first waiting session with a job due within a second so, and whether there was one. Its number is
+    /// among these.
+    fn tell_deadline(
+        &mut self,
+        holders: &[u32],
+        answers: &mut Vec<Answer<Reply>>,
+    ) -> Result<bool, AllocError>
+        requires { HasHolders holders.now (self.old.now.now + 1) self.old.now.jobs
+            self.old.now.sessions }
         ensures turn { IfOk result
             (λ more. IsTurn deadline_turn self.old.now self.new.now answers.old.items
             answers.new.items more) }
         ensures before { self.new.before ≡ self.old.before }
     {
         let second = self.counters.now + 1;
-        let Some((session, holder)) = first_holder(self.jobs.map(), self.sessions.map(), second)
-        else {
+        let Some((session, holder)) = first_holder(
+            self.jobs.map(),
+            self.sessions.map(),
+            holders,
+            second,
+        ) else {
             return Ok(false);
         };
         let to = Key {
@@ -93,14 +106,20 @@ impl<M: JobMap> Logic<M> {
     }
 
     /// Tells all waiting sessions with a job due within a second so.
-    pub fn tell_deadlines(&mut self, answers: &mut Vec<Answer<Reply>>) -> Result<(), AllocError>
+    pub fn tell_deadlines(
+        &mut self,
+        alloc: Global,
+        answers: &mut Vec<Answer<Reply>>,
+    ) -> Result<(), AllocError>
         ensures state { OnOk result (self.new.now ≡ (all_turns deadline_turn self.old.now).state) }
         ensures answers { OnOk result
             (answers.new.items
             ≡ answers.old.items ++ (all_turns deadline_turn self.old.now).answers) }
         ensures before { self.new.before ≡ self.old.before }
     {
-        'turns: while self.tell_deadline(answers)? {}
+        let second = self.counters.now + 1;
+        let holders = holders_by(alloc, self.jobs.map(), self.sessions.map(), second)?;
+        'turns: while self.tell_deadline(holders.as_slice(), answers)? {}
         Ok(())
     }
 

@@ -44,7 +44,7 @@ impl<M: JobMap> Logic<M> {
         }
         let woken = self.at_second(alloc, second)?;
         self.serve(woken.as_slice(), answers)?;
-        self.tell_deadlines(answers)?;
+        self.tell_deadlines(alloc, answers)?;
         self.tell_timeouts(answers)
     }
 
