@@ -14,7 +14,6 @@ mod reserve;
 mod serve;
 mod time;
 mod tubes;
-mod woken;
 
 use crate::counters::Counters;
 use crate::job_draft::JobDraft;

@@ -2,12 +2,4 @@ pub mod Names
 pub mod Entries
 pub mod Undone
 pub mod Least
-pub mod Members
-pub mod Places
-pub mod Numbered
-pub mod Shelving
-pub mod Following
-pub mod Racks
-pub mod ShelfFields
-pub mod Everywhere
-pub mod Readiness
+pub mod Searches

@@ -5,6 +5,4 @@ pub mod Changes
 pub mod Undone
 pub mod Least
 pub mod LookUps
-pub mod Shelves
-pub mod Racks
-pub mod ShelfStates
+pub mod Searches

@@ -1,4 +1,2 @@
-pub mod NumberMaps
-pub mod KeyMaps
 pub mod LatestMaps
 pub mod Filters

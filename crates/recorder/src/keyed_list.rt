@@ -2,15 +2,16 @@ ghost use Rattle.std.specs.Prelude.{◌≡◌, ◌∷◌, ◌++◌, ◌-◌, [],
 ghost use Rattle.std.specs.Option.{option_copied};
 ghost use Rattle.object.specs.Keys.{stands, found, place_of, KeysOnce};
 
-use object::{Key, KeyMap, Keyed};
+use object::{Key, Keyed};
 use std::alloc::{AllocError, Global};
+use std::collections::BTreeMap;
 use std::marker::Model;
 
 /// Items of different keys, in the order in which they came, and the place of each.
 #[derive(Drop)]
 pub(crate) struct KeyedList<X: Keyed + Drop> {
     items: Vec<X>,
-    places: KeyMap<usize>,
+    places: BTreeMap<Key, usize>,
 }
 
 impl<X: Keyed + Drop> Model for KeyedList<X> {
@@ -34,7 +35,7 @@ impl<X: Keyed + Drop> KeyedList<X> {
     {
         KeyedList {
             items: Vec::new(alloc),
-            places: KeyMap::new(alloc),
+            places: BTreeMap::new(alloc),
         }
     }
 
@@ -50,22 +51,22 @@ impl<X: Keyed + Drop> KeyedList<X> {
     pub(crate) fn has(&self, key: Key) -> bool
         ensures { result ≡ stands X.key_of key self.now }
     {
-        self.places.get(key).is_some()
+        self.places.contains_key(&key)
     }
 
     /// The place of the item that has the key.
     pub(crate) fn place_of(&self, key: Key) -> Option<usize>
         ensures { result ≡ place_of X.key_of key self.now }
     {
-        self.places.get(key)
+        self.places.get(&key).copied()
     }
 
     /// The item that has the key.
     pub(crate) fn get(&self, key: Key) -> Option<&X>
         ensures { option_copied result ≡ found X.key_of key self.now }
     {
-        let place = self.places.get(key)?;
-        self.items.get(place)
+        let place = self.places.get(&key)?;
+        self.items.get(*place)
     }
 
     /// Puts an item of a new key at the end.
@@ -87,7 +88,7 @@ impl<X: Keyed + Drop> KeyedList<X> {
         ensures { self.new ≡ take (length self.old - 1) self.old }
     {
         if let Some(item) = self.items.pop() {
-            self.places.remove(item.key());
+            self.places.remove(&item.key());
         }
     }
 }

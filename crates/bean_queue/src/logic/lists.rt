@@ -13,19 +13,6 @@ use session_store::{Names, Session};
 use std::alloc::{AllocError, Global};
 use std::collections::{BTreeMap, BTreeSet};
 
-/// Puts a name among others. It is copied only where it isn't there yet.
-fn insert(names: &mut BTreeSet<Name>, name: &Name) -> Result<(), AllocError>
-    ensures { OnOk result (names.new.keys
-        ≡ insert_key (slice_cmp nat_cmp) names.old.keys name.now) }
-{
-    // Gives the proof that the names are in order.
-    let _ = names.len();
-    if !names.contains(name) {
-        names.insert(name.copy()?)?;
-    }
-    Ok(())
-}
-
 /// Puts the tubes of the jobs among the names.
 fn insert_of_jobs(names: &mut BTreeSet<Name>, jobs: &BTreeMap<u64, Job>) -> Result<(), AllocError>
     ensures { OnOk result (names.new.keys
@@ -33,7 +20,7 @@ fn insert_of_jobs(names: &mut BTreeSet<Name>, jobs: &BTreeMap<u64, Job>) -> Resu
         (map (λ e. e.1.tube) jobs.now.entries)) }
 {
     for (_, job) in jobs {
-        insert(names, &job.tube)?;
+        names.insert(job.tube.copy()?)?;
     }
     Ok(())
 }
@@ -44,7 +31,7 @@ fn insert_all(names: &mut BTreeSet<Name>, more: &[Name]) -> Result<(), AllocErro
         ≡ fold (insert_key (slice_cmp nat_cmp)) names.old.keys more.now) }
 {
     for name in more {
-        insert(names, name)?;
+        names.insert(name.copy()?)?;
     }
     Ok(())
 }
@@ -55,7 +42,7 @@ fn insert_of_session(names: &mut BTreeSet<Name>, session: &Session) -> Result<()
         ≡ fold (insert_key (slice_cmp nat_cmp)) names.old.keys
         (session.now.used ∷ session.now.watched)) }
 {
-    insert(names, &session.used)?;
+    names.insert(session.used.copy()?)?;
     insert_all(names, session.watched.as_slice())
 }
 
