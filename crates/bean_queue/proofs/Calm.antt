@@ -60,7 +60,7 @@ the_wait : (o : Option Wait) → is_some o ≡ true → (w : Wait) × (o ≡ Som
 the_wait None e = cc
 the_wait (Some w) e = (w, refl)
 
-ended-calmer : (x : ℕ) (sessions : List (ℕ × Session)) (w : ℕ × Session) → In w (ended x sessions) → is_waiting w.1 ≡ true → In w sessions
+pub ended-calmer : (x : ℕ) (sessions : List (ℕ × Session)) (w : ℕ × Session) → In w (ended x sessions) → is_waiting w.1 ≡ true → In w sessions
 ended-calmer x sessions w i =
     altered-in x (with_wait None) (λ w. is_waiting w.1 ≡ true → In w sessions) sessions
     (λ d there.
@@ -96,7 +96,7 @@ known-idle x sessions d i same t =
 -- Jobs
 
 -- a change to a state that is not ready
-changed-calmer : (k : ℕ) (f : Job → Job) (jobs : List (ℕ × Job)) → ((job : Job) → is_ready (f job).state ≡ false) → (j : ℕ × Job) → In j (altered k f jobs) → is_ready j.1.state ≡ true → In j jobs
+pub changed-calmer : (k : ℕ) (f : Job → Job) (jobs : List (ℕ × Job)) → ((job : Job) → is_ready (f job).state ≡ false) → (j : ℕ × Job) → In j (altered k f jobs) → is_ready j.1.state ≡ true → In j jobs
 changed-calmer k f jobs unready j i =
     altered-in k f (λ j. is_ready j.1.state ≡ true → In j jobs) jobs
     (λ d there.
@@ -145,7 +145,7 @@ quiet-row Op.ListTubes key s q = same-calmer (called key.session s)
 quiet-row Op.ListTubeUsed key s q = same-calmer (called key.session s)
 quiet-row Op.ListTubesWatched key s q = same-calmer (called key.session s)
 
-called-calm : (x : ℕ) (s : QueueState) → serve_turn s ≡ None → serve_turn (called x s) ≡ None
+pub called-calm : (x : ℕ) (s : QueueState) → serve_turn s ≡ None → serve_turn (called x s) ≡ None
 called-calm x s none = calm s (called x s) none (record { jobs = λ j i t. i; sessions = known-calmer x s.sessions })
 
 quiet-settled : (op : Op) (key : Key) (s : QueueState) → is_quiet op ≡ true → settled op key s ≡ stop s

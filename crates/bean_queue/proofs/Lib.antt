@@ -14,3 +14,8 @@ pub mod ReadyAgain
 pub mod Calm
 pub mod Called
 pub mod Best
+pub mod Searches
+pub mod Offers
+pub mod Woken
+pub mod Naming
+pub mod Holders

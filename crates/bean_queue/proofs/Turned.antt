@@ -1,21 +1,16 @@
 -- One turn, in the words of the code.
-use Rattle.std.proofs.Common.{◌≡◌, ℕ, ◌+◌, true, List, [], ◌∷◌, ◌++◌, filter_map, Option, Some, None, sym, ap, ap₂, ◌∙◌}
+use Rattle.std.proofs.Common.{◌≡◌, ℕ, ◌+◌, true, List, [], ◌∷◌, ◌++◌, Some, None, ap, ap₂, ◌∙◌}
 use Rattle.object.specs.declared.command.Answer.{Answer}
 use Rattle.job_store.specs.declared.job.Job.{Job}
 use Rattle.job_store.specs.declared.state.State.{State}
 use Rattle.job_store.specs.Entries.{altered}
-use Rattle.job_store.specs.Least.{least}
-use Rattle.job_store.specs.LookUps.{is_among, pri_of_job}
+use Rattle.job_store.specs.LookUps.{is_among}
 use Rattle.job_store.specs.States.{with_state}
 use Rattle.session_store.specs.declared.session.Session.{Session}
 use Rattle.session_store.specs.Sessions.{first_waiting, ended, has_timed_out}
 use Rattle.bean_queue.specs.declared.reply.Reply.{Reply}
 use Rattle.bean_queue.specs.Queue.{QueueState, holds_by}
-use Rattle.bean_queue.specs.Turns.{IsTurn, wanted, next_job, answer_to, given, give, give_to, serve_turn, told, tell, deadline_turn, timeout_turn}
-
--- what was looked up in maps that are the state's
-pub next-is : (s : QueueState) (jobs : List (ℕ × Job)) (sessions : List (ℕ × Session)) (o : Option (ℕ × Job)) → jobs ≡ s.jobs → sessions ≡ s.sessions → o ≡ least (λ e. true) pri_of_job (filter_map (wanted jobs) sessions) → next_job s ≡ o
-next-is s jobs sessions o e f g = sym (g ∙ ap₂ (λ es ss. least (λ e. true) pri_of_job (filter_map (wanted es) ss)) e f)
+use Rattle.bean_queue.specs.Turns.{IsTurn, next_job, answer_to, given, give, give_to, serve_turn, told, tell, deadline_turn, timeout_turn}
 
 -- no turn
 pub none-served : (s : QueueState) → next_job s ≡ None → serve_turn s ≡ None

@@ -2,9 +2,12 @@ pub mod Queue
 pub mod Rows
 pub mod Turns
 pub mod Best
+pub mod Woken
+pub mod Holders
 pub mod Effects
 pub mod Places
 pub mod Waits
 pub mod Holds
 pub mod TurnLaws
 pub mod WaitLaws
+pub mod Searches

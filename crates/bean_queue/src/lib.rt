@@ -2,13 +2,16 @@
 #![tactic(auto)]
 
 mod counters;
+mod deadlines;
 mod job_draft;
 mod laws;
 mod logic;
+mod look_up;
 mod op;
 mod queue;
 mod ready_again;
 mod reply;
+mod scan_jobs;
 mod waiting;
 
 pub use job_store::{Body, Job, Name, State};

@@ -14,6 +14,7 @@ mod reserve;
 mod serve;
 mod time;
 mod tubes;
+mod woken;
 
 use crate::counters::Counters;
 use crate::job_draft::JobDraft;

@@ -5,6 +5,7 @@ use crate::laws::one_holder;
 use crate::logic::Logic;
 use crate::op::Op;
 use crate::reply::Reply;
+use crate::scan_jobs::ScanJobs;
 use job_store::{JobMap, Jobs};
 use object::{Act, Answer, Command, Key, Object};
 use std::alloc::{AllocError, Global};
@@ -18,9 +19,9 @@ pub struct QueueOver<M: JobMap> {
 }
 
 /// The queue that goes over all jobs to find one.
-pub type PlainQueue = QueueOver<Jobs>;
+pub type PlainQueue = QueueOver<ScanJobs>;
 
-/// The queue.
+/// The queue, which keeps what it looks for in order.
 pub type Queue = QueueOver<Jobs>;
 
 impl<M: JobMap> Model for QueueOver<M> {
@@ -67,7 +68,7 @@ impl<M: JobMap> QueueOver<M> {
         ensures err { OnErr result ((self.new ≡ self.old) × (out.new.items ≡ out.old.items)) }
     {
         let mut answers = Vec::new(self.alloc);
-        if let Err(e) = self.logic.act(key, op, &mut answers) {
+        if let Err(e) = self.logic.act(self.alloc, key, op, &mut answers) {
             self.logic.take_back();
             return Err(e);
         }
@@ -88,7 +89,7 @@ impl<M: JobMap> QueueOver<M> {
         ensures err { OnErr result ((self.new ≡ self.old) × (out.new.items ≡ out.old.items)) }
     {
         let mut answers = Vec::new(self.alloc);
-        if let Err(e) = self.logic.release_all(session, &mut answers) {
+        if let Err(e) = self.logic.release_all(self.alloc, session, &mut answers) {
             self.logic.take_back();
             return Err(e);
         }
@@ -110,7 +111,7 @@ impl<M: JobMap> QueueOver<M> {
         ensures err { OnErr result ((self.new ≡ self.old) × (out.new.items ≡ out.old.items)) }
     {
         let mut answers = Vec::new(self.alloc);
-        if let Err(e) = self.logic.tick(second, &mut answers) {
+        if let Err(e) = self.logic.tick(self.alloc, second, &mut answers) {
             self.logic.take_back();
             return Err(e);
         }

@@ -19,7 +19,7 @@ use std::alloc::Global;
 
 /// Whether each line of the chronicle's dump is right; else the fault that is told. No copy of a command is made.
 ///
-/// Beside what the plain queue takes to obey the order, the time is in proportion to the dump, times the logarithm of
+/// Beside what the queue takes to obey the order, the time is in proportion to the dump, times the logarithm of
 /// its lines for looking up keys.
 pub fn check(alloc: Global, chronicle: &Chronicle<Op, Reply>) -> Result<(), CheckFault>
     ensures ok { OnOk result (IsFaultless chronicle.now) }
@@ -35,7 +35,7 @@ pub fn check(alloc: Global, chronicle: &Chronicle<Op, Reply>) -> Result<(), Chec
     check_happenings(chronicle, &replayed)
 }
 
-/// Lets the plain queue obey the order, and keeps what the other lines are looked up in; or tells the first wrong
+/// Lets a queue obey the order, and keeps what the other lines are looked up in; or tells the first wrong
 /// place.
 fn replay(alloc: Global, chronicle: &Chronicle<Op, Reply>) -> Result<Replayed, CheckFault>
     ensures right { OnOk result (AreRightPlaces chronicle.now chronicle.now.order) }

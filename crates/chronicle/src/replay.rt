@@ -7,12 +7,12 @@ ghost use Rattle.chronicle.specs.Replaying.{HasFirstPlaces, AreGiven, IsOrderFau
 
 use crate::check_fault::{CheckFault, What};
 use crate::chronicle::Chronicle;
-use bean_queue::{Op, PlainQueue, Reply};
+use bean_queue::{Op, Queue, Reply};
 use object::{Answer, Command, Effect, Key, Keyed, Once, filter_remembers};
 use std::alloc::{AllocError, Global};
 use std::collections::BTreeMap;
 
-/// An answer of the plain queue, and the place of the command that brought it.
+/// An answer of the queue, and the place of the command that brought it.
 #[derive(Drop)]
 pub(crate) struct Given {
     pub(crate) place: usize,
@@ -42,7 +42,7 @@ pub(crate) fn obey_order(
     filter_remembers::<Op>();
     let submitted = chronicle.submitted();
     let first_line = order_line(chronicle);
-    let mut queue = Once::<PlainQueue>::new(alloc)?;
+    let mut queue = Once::<Queue>::new(alloc)?;
     let mut given = Vec::new(alloc);
     for (place, key) in chronicle.order().iter().enumerate() {
         let line = first_line + place as u64;
@@ -66,7 +66,7 @@ pub(crate) fn obey_order(
 /// Lets the queue obey a command, and puts its answers at the end with this place.
 fn obey(
     alloc: Global,
-    queue: &mut Once<PlainQueue>,
+    queue: &mut Once<Queue>,
     command: &Command<Op>,
     place: usize,
     given: &mut Vec<Given>,

@@ -9,14 +9,22 @@ use Rattle.job_store.specs.Entries.{Rising, value_at, each_value, altered, witho
 
 -- How `BTreeMap` compares keys
 
-cmp_less : (k q : ℕ) → k < q → nat_cmp k q ≡ Less
+pub cmp_less : (k q : ℕ) → k < q → nat_cmp k q ≡ Less
 cmp_less k q h = rw (lt-ltb k q h) refl
 
-cmp_equal : (k q : ℕ) → k ≡ q → nat_cmp k q ≡ Equal
+pub cmp_equal : (k q : ℕ) → k ≡ q → nat_cmp k q ≡ Equal
 cmp_equal k q e = rw (le-ltb k q (omega arith), eq-eqb k q e) refl
 
-cmp_greater : (k q : ℕ) → q < k → nat_cmp k q ≡ Greater
+pub cmp_greater : (k q : ℕ) → q < k → nat_cmp k q ≡ Greater
 cmp_greater k q h = rw (le-ltb k q (omega arith), ne_eqb k q (λ e. omega arith)) refl
+
+pub same_number : (a b : ℕ) → nat_cmp a b ≡ Equal → a ≡ b
+same_number a b h =
+    elim (cases_order a b) [
+      | inl same ↦ same
+      | inr (inl below) ↦ let e : Less ≡ Equal = sym (cmp_less a b below) ∙ h in cc
+      | inr (inr above) ↦ let e : Greater ≡ Equal = sym (cmp_greater a b above) ∙ h in cc
+    ]
 
 at_same : (k q : ℕ) → k ≡ q → is_at (nat_cmp k) q ≡ true
 at_same k q e = rw (le-ltb k q (omega arith), eq-eqb k q e) refl
@@ -25,10 +33,10 @@ at_other : (k q : ℕ) → (k ≡ q → ⊥) → is_at (nat_cmp k) q ≡ false
 at_other k q apart = rw (ne_eqb k q apart) (elim (nat_lt k q) as (λ b. is_at (λ (r : ℕ). cond b Less Greater) q ≡ false) [ true ↦ refl | false ↦ refl ])
 
 module _ {X : Type 0} where
-  value_at-here : (k : ℕ) (e : ℕ × X) (es : List (ℕ × X)) → k ≡ e.0 → value_at k (e ∷ es) ≡ Some e.1
+  pub value_at-here : (k : ℕ) (e : ℕ × X) (es : List (ℕ × X)) → k ≡ e.0 → value_at k (e ∷ es) ≡ Some e.1
   value_at-here k e es same = cond-true _ (Some e.1) (value_at k es) (at_same k e.0 same)
 
-  value_at-next : (k : ℕ) (e : ℕ × X) (es : List (ℕ × X)) → (k ≡ e.0 → ⊥) → value_at k (e ∷ es) ≡ value_at k es
+  pub value_at-next : (k : ℕ) (e : ℕ × X) (es : List (ℕ × X)) → (k ≡ e.0 → ⊥) → value_at k (e ∷ es) ≡ value_at k es
   value_at-next k e es apart = cond-false _ (Some e.1) (value_at k es) (at_other k e.0 apart)
 
   -- Keys that rise

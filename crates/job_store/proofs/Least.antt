@@ -1,10 +1,10 @@
 -- What is least: the test decides what it is named after, and the answer is what is asked for.
-use Rattle.std.proofs.Common.{◌≡◌, ◌↔◌, ℕ, suc, ◌≤◌, Bool, true, false, cond, ◌&&◌, inl, inr, List, [], ◌∷◌, Option, Some, None, option_map, MatchOption, IfSome, IfNone, ◌==◌, nat_lt, bytes_eq, refl, sym, ap, subst, ◌∙◌, arith, eq-eqb, eqb-true, ltb-true, lt-ltb}
+use Rattle.std.proofs.Common.{◌≡◌, ◌↔◌, ℕ, suc, ◌≤◌, Bool, true, false, cond, ◌&&◌, ◌⊎◌, inl, inr, List, [], ◌∷◌, Option, Some, None, option_map, MatchOption, IfSome, IfNone, ◌==◌, nat_lt, bytes_eq, refl, sym, ap, subst, ◌∙◌, arith, eq-eqb, eqb-true, ltb-true, lt-ltb}
 use Rattle.std.proofs.lemmas.Bool.{both_ways, cond-true, cond-false, or_cases, or_left, or_right, and_parts, and_from}
 use Rattle.std.proofs.lemmas.Slice.Eq.{bytes_eq-Decides}
 use Rattle.object.specs.Lists.{In}
 use Rattle.job_store.specs.Entries.{Rising}
-use Rattle.job_store.specs.Least.{ComesBefore, comes_before, lesser, IsLeast, NonePasses, least}
+use Rattle.job_store.specs.Least.{ComesBefore, comes_before, lesser, first_of, IsLeast, NonePasses, least}
 use Rattle.job_store.specs.LookUps.{is_among}
 
 module _ {X : Type 0} (by : X → ℕ) where
@@ -76,12 +76,12 @@ module _ {X : Type 0} (by : X → ℕ) where
 -- An entry is the only one at its key
 
 module _ {X : Type 0} where
-  key_from : (lo hi : ℕ) (es : List (ℕ × X)) (e : ℕ × X) → Rising lo hi es → In e es → lo ≤ e.0
+  pub key_from : (lo hi : ℕ) (es : List (ℕ × X)) (e : ℕ × X) → Rising lo hi es → In e es → lo ≤ e.0
   key_from lo hi [] e r i = absurd i
   key_from lo hi (d ∷ es) e r (inl same) = omega (arith, ap (λ (p : ℕ × X). p.0) same, r.0)
   key_from lo hi (d ∷ es) e r (inr later) = omega (arith, key_from (suc d.0) hi es e r.1 later, r.0)
 
-  same_entry : (lo hi : ℕ) (es : List (ℕ × X)) (d e : ℕ × X) → Rising lo hi es → In d es → In e es → d.0 ≡ e.0 → d ≡ e
+  pub same_entry : (lo hi : ℕ) (es : List (ℕ × X)) (d e : ℕ × X) → Rising lo hi es → In d es → In e es → d.0 ≡ e.0 → d ≡ e
   same_entry lo hi [] d e r i j same = absurd i
   same_entry lo hi (z ∷ es) d e r (inl i) (inl j) same = i ∙ sym j
   same_entry lo hi (z ∷ es) d e r (inl i) (inr j) same = absurd (omega (arith, ap (λ (p : ℕ × X). p.0) i, key_from (suc z.0) hi es e r.1 j, same))
@@ -91,7 +91,7 @@ module _ {X : Type 0} where
 -- What is found among some entries, and with one more before them
 
 module _ {X : Type 0} (test : ℕ × X → Bool) (by : X → ℕ) where
-  abbrev IsAnswer : List (ℕ × X) → Option (ℕ × X) → Type 0
+  abbrev pub IsAnswer : List (ℕ × X) → Option (ℕ × X) → Type 0
   IsAnswer es o = MatchOption o (NonePasses test es) (IsLeast test by es)
 
   with_passing : (e : ℕ × X) (es : List (ℕ × X)) (o : Option (ℕ × X)) → test e ≡ true → IsAnswer es o → IsAnswer (e ∷ es) (Some (lesser by e o))
@@ -126,7 +126,7 @@ module _ {X : Type 0} (test : ℕ × X → Bool) (by : X → ℕ) where
     least = λ d i v first. elim i as (λ i. ⊥) [ inl same ↦ both_ways (test e) other (subst (λ z. test z ≡ true) same v) | inr later ↦ best.least d later v first ];
   }
 
-  answer : (es : List (ℕ × X)) → IsAnswer es (least test by es)
+  pub answer : (es : List (ℕ × X)) → IsAnswer es (least test by es)
   answer [] = λ d i v. i
   answer (e ∷ es) =
       elim (test e) as (λ b. test e ≡ b → IsAnswer (e ∷ es) (cond b (Some (lesser by e (least test by es))) (least test by es))) [
@@ -164,6 +164,51 @@ module _ {X : Type 0} (test : ℕ × X → Bool) (by : X → ℕ) where
   pub least-shown : {A : Type 0} (show : A → ℕ × X) (es : List (ℕ × X)) (o : Option A) → option_map show o ≡ least test by es → IfSome o (λ a. IsLeast test by es (show a)) × IfNone o (NonePasses test es)
   least-shown show es None e = (tt, subst (λ o. IfNone o (NonePasses test es)) (sym e) (least-none es))
   least-shown show es (Some a) e = (subst (λ o. IfSome o (IsLeast test by es)) (sym e) (least-found es), tt)
+
+  pub least-nothing : (es : List (ℕ × X)) → NonePasses test es → None ≡ least test by es
+  least-nothing es none =
+      elim (least test by es) as (λ o. IsAnswer es o → None ≡ o) [ None ↦ λ w. refl | Some d ↦ λ it. absurd (none d it.member it.passes) ] (answer es)
+
+  -- what is answered by a least one, or by nothing where nothing passes, is the least
+  pub least-shown-by : {A : Type 0} (show : A → ℕ × X) (es : List (ℕ × X)) (lo hi : ℕ) (o : Option A) → Rising lo hi es → IfSome o (λ a. IsLeast test by es (show a)) → IfNone o (NonePasses test es) → option_map show o ≡ least test by es
+  least-shown-by show es lo hi (Some a) r best none = sym (least-only es lo hi (show a) r best)
+  least-shown-by show es lo hi None r best none = least-nothing es none
+
+-- What is least of those that pass one test or another
+
+module _ {X : Type 0} (one two either : ℕ × X → Bool) (by : X → ℕ) (from-either : (e : ℕ × X) → either e ≡ true → (one e ≡ true) ⊎ (two e ≡ true)) (from-one : (e : ℕ × X) → one e ≡ true → either e ≡ true) (from-two : (e : ℕ × X) → two e ≡ true → either e ≡ true) where
+  pub answer-either : (es : List (ℕ × X)) (o p : Option (ℕ × X)) → IsAnswer one by es o → IsAnswer two by es p → IsAnswer either by es (first_of by o p)
+  answer-either es None None a b =
+      λ d i t. elim (from-either d t) as (λ v. ⊥) [ inl h ↦ a d i h | inr h ↦ b d i h ]
+  answer-either es None (Some y) a b = record {
+    member = b.member;
+    passes = from-two y b.passes;
+    least = λ d i t first. elim (from-either d t) as (λ v. ⊥) [ inl h ↦ a d i h | inr h ↦ b.least d i h first ];
+  }
+  answer-either es (Some x) None a b = record {
+    member = a.member;
+    passes = from-one x a.passes;
+    least = λ d i t first. elim (from-either d t) as (λ v. ⊥) [ inl h ↦ a.least d i h first | inr h ↦ b d i h ];
+  }
+  answer-either es (Some x) (Some y) a b =
+      elim (comes_before by y x) as (λ c. comes_before by y x ≡ c → IsLeast either by es (cond c y x)) [
+        | true ↦ λ c. record {
+          member = b.member;
+          passes = from-two y b.passes;
+          least = λ d i t first. elim (from-either d t) as (λ v. ⊥) [
+            | inl h ↦ a.least d i h (before_twice by d y x first (before by y x c))
+            | inr h ↦ b.least d i h first
+          ];
+        }
+        | false ↦ λ c. record {
+          member = a.member;
+          passes = from-one x a.passes;
+          least = λ d i t first. elim (from-either d t) as (λ v. ⊥) [
+            | inl h ↦ a.least d i h first
+            | inr h ↦ never_between by d x y (not_before by y x c) (b.least d i h) first
+          ];
+        }
+      ] refl
 
 -- A name among some names
 

@@ -2,4 +2,12 @@ pub mod Names
 pub mod Entries
 pub mod Undone
 pub mod Least
-pub mod Searches
+pub mod Members
+pub mod Places
+pub mod Numbered
+pub mod Shelving
+pub mod Following
+pub mod Racks
+pub mod ShelfFields
+pub mod Everywhere
+pub mod Readiness

@@ -16,6 +16,11 @@ module _ {X : Type 0} (by : X → ℕ) where
   lesser e None = e
   lesser e (Some d) = if comes_before d e then d else e
 
+  -- of two entries that there may be, the one that comes first
+  abbrev pub first_of : Option (ℕ × X) → Option (ℕ × X) → Option (ℕ × X)
+  first_of None o = o
+  first_of (Some e) o = Some (lesser e o)
+
 module _ {X : Type 0} (test : ℕ × X → Bool) where
   -- an entry of es passes, and of those that pass none comes before it
   pub record IsLeast (by : X → ℕ) (es : List (ℕ × X)) (e : ℕ × X) : Type 0 where

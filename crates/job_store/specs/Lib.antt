@@ -5,4 +5,6 @@ pub mod Changes
 pub mod Undone
 pub mod Least
 pub mod LookUps
-pub mod Searches
+pub mod Shelves
+pub mod Racks
+pub mod ShelfStates

@@ -1,6 +1,7 @@
 -- What is looked up among the jobs, each with its id.
-use Rattle.std.specs.Prelude.{ℕ, Bool, ◌&&◌, List, [], ◌∷◌, Option, bytes_eq}
+use Rattle.std.specs.Prelude.{◌≡◌, ◌↔◌, ℕ, Bool, true, ◌&&◌, List, [], ◌∷◌, Option, bytes_eq}
 use Rattle.std.specs.List.{list_any}
+use Rattle.object.specs.Lists.{In}
 use Rattle.job_store.specs.declared.job.Job.{Job}
 use Rattle.job_store.specs.States.{is_ready, is_delayed, is_buried, is_held, is_due, due_of, rank_of}
 use Rattle.job_store.specs.Least.{least}
@@ -63,3 +64,7 @@ first_due second jobs = least (due_by second) due_of_job jobs
 -- the first of session x's jobs whose time to run will be over
 abbrev pub first_held : ℕ → List (ℕ × Job) → Option (ℕ × Job)
 first_held x jobs = least (held_by x) due_of_job jobs
+
+-- these are the pairs of priority and id of the tube's ready jobs
+abbrev pub AreReadyPlaces : List (ℕ × ℕ) → List ℕ → List (ℕ × Job) → Type 0
+AreReadyPlaces places tube jobs = (p : ℕ × ℕ) → In p places ↔ ((e : ℕ × Job) × In e jobs × (ready_in (tube ∷ []) e ≡ true) × (p ≡ (e.1.pri, e.0)))

@@ -31,12 +31,26 @@ is_held x (State.Delayed due) = false
 is_held x (State.Reserved y due) = x == y
 is_held x (State.Buried rank) = false
 
+-- the job is delayed or reserved, and so due in some second
+abbrev pub is_scheduled : State → Bool
+is_scheduled State.Ready = false
+is_scheduled (State.Delayed due) = true
+is_scheduled (State.Reserved y due) = true
+is_scheduled (State.Buried rank) = false
+
 -- the job's delay, or its time to run, is over at this second
 abbrev pub is_due : ℕ → State → Bool
 is_due second State.Ready = false
 is_due second (State.Delayed due) = nat_le due second
 is_due second (State.Reserved y due) = nat_le due second
 is_due second (State.Buried rank) = false
+
+-- the session that has a reserved job, and 0 for others
+abbrev pub holder_of : State → ℕ
+holder_of State.Ready = 0
+holder_of (State.Delayed due) = 0
+holder_of (State.Reserved y due) = y
+holder_of (State.Buried rank) = 0
 
 -- the second in which a delayed or reserved job is due, and 0 for others
 abbrev pub due_of : State → ℕ

@@ -1,69 +1,68 @@
-ghost use Rattle.std.specs.Prelude.{◌≡◌, ◌^◌, IfOk};
-ghost use Rattle.job_store.specs.Entries.{Rising};
+ghost use Rattle.std.specs.Prelude.{◌≡◌, ◌↔◌, [], ◌∷◌, None, IfSome, IsNone, option_map};
+ghost use Rattle.job_store.specs.Least.{NonePasses, first_of};
+ghost use Rattle.job_store.specs.LookUps.{pri_of_job, ready_in, AreReadyPlaces};
 
 use crate::change::Change;
-use crate::changes::{make, set_state};
 use crate::job::Job;
 use crate::job_map::JobMap;
-use crate::look_up::LookUp;
+use crate::label::Label;
+use crate::logged_jobs::LoggedJobs;
+use crate::moves::{follow, move_to, move_to_state, store, sweep};
 use crate::name::Name;
+use crate::shelves::Shelves;
 use crate::state::State;
-use crate::undo::{Undo, note, put, undo_all};
 use indexmap::IndexSet;
-use object::Value;
 use std::alloc::{AllocError, Global};
-use std::collections::BTreeMap;
+use std::collections::{BTreeMap, BTreeSet};
 use std::marker::Model;
 
-/// A map of jobs by id whose look-ups go over all jobs.
+/// A map of jobs by id, beside which it keeps what it looks for in order.
 #[derive(Drop)]
 pub struct Jobs {
     alloc: Global,
-    jobs: BTreeMap<u64, Job>,
-    is_trial: bool,
-    /// What takes back the changes of the trial.
-    log: Vec<Undo>,
+    jobs: LoggedJobs,
+    /// In a trial places are only added, so that to take its changes back takes no memory.
+    shelves: Shelves,
 }
 
 impl Model for Jobs {
-    ghost use Rattle.std.specs.Prelude.{◌^◌};
-    ghost use Rattle.job_store.specs.Entries.{Rising};
-    ghost use Rattle.job_store.specs.Undone.{MapState, with_log};
+    ghost use Rattle.job_store.specs.Undone.{MapState};
+    ghost use Rattle.job_store.specs.Shelves.{IsKept};
 
     ghost Value = { MapState };
 
-    ghost view = { λ m. with_log m.is_trial m.log.items m.jobs.entries };
+    ghost view = { λ m. m.jobs };
 
-    ghost invariant = { λ m. Rising 0 (2 ^ 64) m.jobs.entries };
+    ghost invariant = { λ m. IsKept m.shelves m.jobs };
 }
 
-/// The same jobs under the same ids.
-fn copy_of(alloc: Global, jobs: &BTreeMap<u64, Job>) -> Result<BTreeMap<u64, Job>, AllocError>
-    requires { Rising 0 (2 ^ 64) jobs.now.entries }
-    ensures { IfOk result (λ copy. copy.entries ≡ jobs.now.entries) }
+/// Of two jobs that there may be, that of the least (priority, id).
+fn more_urgent<'a>(
+    one: Option<(u64, &'a Job)>,
+    other: Option<(u64, &'a Job)>,
+) -> Option<(u64, &'a Job)>
+    ensures { option_map (λ e. (e.0, e.1.now)) result
+        ≡ first_of pri_of_job (option_map (λ e. (e.0, e.1.now)) one.entry)
+        (option_map (λ e. (e.0, e.1.now)) other.entry) }
 {
-    let mut copy = BTreeMap::new(alloc);
-    for (id, job) in jobs {
-        copy.insert(*id, job.copy()?)?;
+    let Some((id, job)) = one else {
+        return other;
+    };
+    match other {
+        Some((other_id, other_job))
+            if other_job.pri < job.pri || other_job.pri == job.pri && other_id < id => { other }
+        _ => one,
     }
-    Ok(copy)
 }
 
 impl Jobs {
-    ghost use Rattle.std.specs.Prelude.{None};
-
-    /// A map of these jobs, in no trial.
-    fn of(alloc: Global, jobs: BTreeMap<u64, Job>) -> Jobs
-        requires { Rising 0 (2 ^ 64) jobs.entries }
-        ensures jobs { result.jobs ≡ jobs.entries }
-        ensures before { result.before ≡ None }
+    /// The ready jobs of a tube by (priority, id), if there are any. It can't be asked in a trial.
+    pub fn ready(&self, tube: &Name) -> Option<&BTreeSet<(u32, u64)>>
+        requires { self.now.before ≡ None }
+        ensures some { IfSome result (λ places. AreReadyPlaces places.now.keys tube.now self.now.jobs) }
+        ensures none { IsNone result ↔ NonePasses (ready_in (tube.now ∷ [])) self.now.jobs }
     {
-        Jobs {
-            alloc,
-            jobs,
-            is_trial: false,
-            log: Vec::new(alloc),
-        }
+        self.shelves.ready.places(tube)
     }
 }
 
@@ -73,84 +72,114 @@ impl JobMap for Jobs {
     ghost before = { λ m. m.before };
 
     fn new(alloc: Global) -> Self {
-        Jobs::of(alloc, BTreeMap::new(alloc))
+        Jobs {
+            alloc,
+            jobs: LoggedJobs::new(alloc),
+            shelves: Shelves::new(alloc),
+        }
     }
 
     fn copy(&self) -> Result<Self, AllocError> {
-        let jobs = copy_of(self.alloc, &self.jobs)?;
-        Ok(Jobs::of(self.alloc, jobs))
+        let jobs = self.jobs.copy()?;
+        let shelves = Shelves::of(self.alloc, jobs.by_id())?;
+        Ok(Jobs {
+            alloc: self.alloc,
+            jobs,
+            shelves,
+        })
     }
 
     fn begin(&mut self) {
-        self.is_trial = true;
-        self.log.clear();
+        sweep(&mut self.shelves, &self.jobs);
+        self.jobs.begin();
     }
 
     fn commit(&mut self) {
-        self.is_trial = false;
-        self.log.clear();
+        sweep(&mut self.shelves, &self.jobs);
+        self.jobs.commit();
     }
 
     fn roll_back(&mut self) {
-        undo_all(&mut self.jobs, &mut self.log);
-        self.is_trial = false;
+        self.jobs.roll_back();
+        sweep(&mut self.shelves, &self.jobs);
     }
 
     fn by_id(&self) -> &BTreeMap<u64, Job> {
-        &self.jobs
+        self.jobs.by_id()
     }
 
     fn get(&self, id: u64) -> Option<&Job> {
-        self.jobs.get(&id)
+        self.jobs.get(id)
     }
 
     fn insert(&mut self, id: u64, job: Job) -> Result<(), AllocError> {
-        if self.is_trial {
-            put(&mut self.jobs, &mut self.log, id, job)?;
-            return Ok(());
-        }
-        self.jobs.insert(id, job)?;
-        Ok(())
+        let done = store(&mut self.shelves, &mut self.jobs, id, job);
+        follow(&mut self.shelves, &self.jobs);
+        done
     }
 
     fn set_state(&mut self, id: u64, state: State) -> Result<(), AllocError> {
-        note(&mut self.log, self.is_trial, id, &self.jobs)?;
-        set_state(&mut self.jobs, id, state);
-        Ok(())
+        let done = move_to_state(&mut self.shelves, &mut self.jobs, id, state);
+        follow(&mut self.shelves, &self.jobs);
+        done
     }
 
     fn set(&mut self, id: u64, pri: u32, state: State) -> Result<(), AllocError> {
-        note(&mut self.log, self.is_trial, id, &self.jobs)?;
-        make(&mut self.jobs, &Change { id, pri, state });
-        Ok(())
+        let change = Change { id, pri, state };
+        let done = move_to(&mut self.shelves, &mut self.jobs, &change);
+        follow(&mut self.shelves, &self.jobs);
+        done
     }
 
     fn remove(&mut self, id: u64) -> Option<Job> {
         self.commit();
-        self.jobs.remove(&id)
+        let job = self.jobs.remove(id)?;
+        self.shelves.take_everywhere(self.jobs.by_id(), id, &job);
+        Some(job)
     }
 
     fn best_ready(&self, tubes: &IndexSet<Name>) -> Option<(u64, &Job)> {
-        LookUp::ReadyIn(tubes).least(&self.jobs)
+        // Gives the proof that the ids rise.
+        let _ = &self.jobs;
+        let mut best = None;
+        for tube in tubes.iter() {
+            best = more_urgent(best, self.first_ready(tube));
+        }
+        best
     }
 
     fn first_ready(&self, tube: &Name) -> Option<(u64, &Job)> {
-        LookUp::Ready(tube).least(&self.jobs)
+        self.shelves
+            .ready
+            .first(tube, Label::Ready(tube), self.jobs.by_id())
     }
 
     fn first_delayed(&self, tube: &Name) -> Option<(u64, &Job)> {
-        LookUp::Delayed(tube).least(&self.jobs)
+        self.shelves
+            .delayed
+            .first(tube, Label::Delayed(tube), self.jobs.by_id())
     }
 
     fn first_buried(&self, tube: &Name) -> Option<(u64, &Job)> {
-        LookUp::Buried(tube).least(&self.jobs)
+        self.shelves
+            .buried
+            .first(tube, Label::Buried(tube), self.jobs.by_id())
     }
 
     fn due(&self, second: u64) -> Option<(u64, &Job)> {
-        LookUp::Due(second).least(&self.jobs)
+        match self
+            .shelves
+            .scheduled
+            .first(Label::Scheduled, self.jobs.by_id())
+        {
+            Some((id, job)) if job.state.is_due(second) => Some((id, job)),
+            _ => None,
+        }
     }
 
     fn first_held(&self, session: u32) -> Option<(u64, &Job)> {
-        LookUp::Held(session).least(&self.jobs)
+        self.shelves
+            .held
+            .first(&session, Label::Held(session), self.jobs.by_id())
     }
 }

@@ -17,7 +17,7 @@ pub enum State {
 }
 
 impl State {
-    ghost use Rattle.job_store.specs.States.{is_ready, is_delayed, is_buried, is_held, is_due, due_of, rank_of};
+    ghost use Rattle.job_store.specs.States.{is_ready, is_delayed, is_buried, is_held, is_scheduled, is_due, holder_of, due_of, rank_of};
 
     /// Whether anyone who watches its tube may reserve the job.
     pub fn is_ready(&self) -> bool
@@ -47,6 +47,13 @@ impl State {
         matches!(self, State::Reserved { session: holder, .. } if session == *holder)
     }
 
+    /// Whether the job is delayed or reserved, and so due in some second.
+    pub fn is_scheduled(&self) -> bool
+        ensures { result ≡ is_scheduled self.now }
+    {
+        matches!(self, State::Delayed { .. } | State::Reserved { .. })
+    }
+
     /// Whether the job's delay, or its time to run, is over at this second.
     pub fn is_due(&self, second: u64) -> bool
         ensures { result ≡ is_due second self.now }
@@ -54,6 +61,16 @@ impl State {
         match self {
             State::Delayed { due } | State::Reserved { due, .. } => *due <= second,
             State::Ready | State::Buried { .. } => false,
+        }
+    }
+
+    /// The session that has a reserved job, and 0 for others.
+    pub fn holder(&self) -> u32
+        ensures { result ≡ holder_of self.now }
+    {
+        match self {
+            State::Reserved { session, .. } => *session,
+            State::Ready | State::Delayed { .. } | State::Buried { .. } => 0,
         }
     }
 

@@ -21,6 +21,9 @@ pub(crate) fn sort<C: Value>(
     ensures post { IsPost mails.new.items fresh.new.items }
     ensures ok { OnOk result (fresh.new.items ≡ []) }
 {
+    if fresh.is_empty() {
+        return Ok(());
+    }
     let mut letters = VecDeque::from_vec(mem::replace(fresh, Vec::new(alloc)));
     let sorted = sort_each(mails, &mut letters);
     *fresh = letters.into_vec();

@@ -1,2 +1,4 @@
+pub mod NumberMaps
+pub mod KeyMaps
 pub mod LatestMaps
 pub mod Filters

@@ -2,6 +2,8 @@ pub mod Lists
 pub mod Commands
 pub mod Keys
 pub mod Answers
+pub mod NumberMaps
+pub mod KeyMaps
 pub mod Replays
 pub mod Objects
 pub mod OnceOnly

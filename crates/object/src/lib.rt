@@ -2,15 +2,18 @@
 #![tactic(auto)]
 
 mod command;
+mod key_map;
 mod keyed;
 mod latest;
 mod laws;
+mod number_map;
 mod objects;
 mod once;
 mod register;
 mod value;
 
 pub use command::{Act, Answer, Command, Key, Submission};
+pub use key_map::KeyMap;
 pub use keyed::Keyed;
 pub use laws::filter_remembers;
 pub use objects::Object;

@@ -2,16 +2,15 @@ ghost use Rattle.std.specs.Prelude.{◌≡◌, ◌∷◌, ◌++◌, ◌-◌, [],
 ghost use Rattle.std.specs.Option.{option_copied};
 ghost use Rattle.object.specs.Keys.{stands, found, place_of, KeysOnce};
 
-use object::{Key, Keyed};
+use object::{Key, KeyMap, Keyed};
 use std::alloc::{AllocError, Global};
-use std::collections::BTreeMap;
 use std::marker::Model;
 
 /// Items of different keys, in the order in which they came, and the place of each.
 #[derive(Drop)]
 pub(crate) struct KeyedList<X: Keyed + Drop> {
     items: Vec<X>,
-    places: BTreeMap<Key, usize>,
+    places: KeyMap<usize>,
 }
 
 impl<X: Keyed + Drop> Model for KeyedList<X> {
@@ -35,7 +34,7 @@ impl<X: Keyed + Drop> KeyedList<X> {
     {
         KeyedList {
             items: Vec::new(alloc),
-            places: BTreeMap::new(alloc),
+            places: KeyMap::new(alloc),
         }
     }
 
@@ -51,22 +50,22 @@ impl<X: Keyed + Drop> KeyedList<X> {
     pub(crate) fn has(&self, key: Key) -> bool
         ensures { result ≡ stands X.key_of key self.now }
     {
-        self.places.contains_key(&key)
+        self.places.get(key).is_some()
     }
 
     /// The place of the item that has the key.
     pub(crate) fn place_of(&self, key: Key) -> Option<usize>
         ensures { result ≡ place_of X.key_of key self.now }
     {
-        self.places.get(&key).copied()
+        self.places.get(key)
     }
 
     /// The item that has the key.
     pub(crate) fn get(&self, key: Key) -> Option<&X>
         ensures { option_copied result ≡ found X.key_of key self.now }
     {
-        let place = self.places.get(&key)?;
-        self.items.get(*place)
+        let place = self.places.get(key)?;
+        self.items.get(place)
     }
 
     /// Puts an item of a new key at the end.
@@ -88,7 +87,7 @@ impl<X: Keyed + Drop> KeyedList<X> {
         ensures { self.new ≡ take (length self.old - 1) self.old }
     {
         if let Some(item) = self.items.pop() {
-            self.places.remove(&item.key());
+            self.places.remove(item.key());
         }
     }
 }

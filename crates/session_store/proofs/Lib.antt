@@ -1,2 +1,7 @@
 pub mod Bridges
+pub mod Places
+pub mod Found
+pub mod Late
+pub mod Served
+pub mod Standing
 pub mod SessionDrafts

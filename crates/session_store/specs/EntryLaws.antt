@@ -11,10 +11,10 @@ use Rattle.job_store.specs.Entries.{Rising, value_at, with_value, each_value, al
 cmp_less : (k q : ℕ) → k < q → nat_cmp k q ≡ Less
 cmp_less k q h = rw (lt-ltb k q h) refl
 
-cmp_equal : (k q : ℕ) → k ≡ q → nat_cmp k q ≡ Equal
+pub cmp_equal : (k q : ℕ) → k ≡ q → nat_cmp k q ≡ Equal
 cmp_equal k q e = rw (le-ltb k q (omega arith), eq-eqb k q e) refl
 
-cmp_greater : (k q : ℕ) → q < k → nat_cmp k q ≡ Greater
+pub cmp_greater : (k q : ℕ) → q < k → nat_cmp k q ≡ Greater
 cmp_greater k q h = rw (le-ltb k q (omega arith), ne_eqb k q (λ e. omega arith)) refl
 
 pub at_same : (k q : ℕ) → k ≡ q → is_at (nat_cmp k) q ≡ true

@@ -3,6 +3,7 @@ pub mod WatchLists
 pub mod Sessions
 pub mod Waits
 pub mod Firsts
+pub mod Lines
 pub mod Drafts
 pub mod EntryLaws
 pub mod WaitLaws

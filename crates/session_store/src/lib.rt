@@ -1,15 +1,20 @@
 //! The sessions of a work queue: the tubes that they use and watch, who waits, and changes that can be taken back.
 #![tactic(auto)]
 
+mod lines;
 mod names;
+mod place;
 mod session;
 mod session_change;
 mod session_draft;
+mod session_step;
+mod time_outs;
+mod tube_lines;
 mod waiting;
 mod watch_list;
 
 pub use names::Names;
 pub use session::{Session, Wait};
 pub use session_draft::SessionDraft;
-pub use waiting::{first, first_late, first_watcher};
+pub use waiting::first;
 pub use watch_list::WatchList;

@@ -1,56 +1,52 @@
-ghost use Rattle.std.specs.Prelude.{◌≡◌, ◌^◌, [], None, IsSome, IfOk, OnOk, OnErr, length};
+ghost use Rattle.std.specs.Prelude.{◌≡◌, ◌^◌, [], None, IsSome, IfOk, OnOk, OnErr, length, option_map};
 ghost use Rattle.job_store.specs.Entries.{Rising, value_at, with_value, altered, without};
-ghost use Rattle.session_store.specs.Sessions.{new_session, session_of, with_wait};
+ghost use Rattle.job_store.specs.LookUps.{is_among};
+ghost use Rattle.session_store.specs.Sessions.{new_session, session_of, with_wait, first_waiting, has_timed_out};
+ghost use Rattle.session_store.specs.Lines.{EachStands, StandsIn};
 ghost use Rattle.session_store.specs.WatchLists.{joined, left_out};
-ghost use Rattle.session_store.specs.Drafts.{session_step_back};
 
+use crate::lines::Lines;
 use crate::session::{Session, Wait};
 use crate::session_change::{ignore, set_used, set_wait, watch};
+use crate::session_step::{SessionStep, leave_steps, take_steps_back};
+use crate::time_outs::wait_of;
 use job_store::Name;
 use std::alloc::{AllocError, Global};
 use std::collections::BTreeMap;
 use std::marker::Model;
-
-/// How a change of the sessions is taken back.
-#[derive(Clone, Copy, Debug, PartialEq, Eq)]
-pub(crate) enum SessionStep {
-    /// The session waits as it did.
-    Waited { session: u32, wait: Option<Wait> },
-    /// The session goes.
-    Made(u32),
-}
 
 /// Sessions by number, whose changes can be taken back until they are kept. That takes no memory.
 #[derive(Drop)]
 pub struct SessionDraft {
     alloc: Global,
     sessions: BTreeMap<u32, Session>,
+    /// A session that waits, now or before the steps, has its places here. Others may have some until changes are
+    /// kept or taken back.
+    lines: Lines,
     steps: Vec<SessionStep>,
 }
 
 impl Model for SessionDraft {
-    ghost use Rattle.std.specs.Prelude.{ℕ, List, ◌^◌};
-    ghost use Rattle.job_store.specs.Entries.{Rising};
+    ghost use Rattle.std.specs.Prelude.{ℕ, List};
     ghost use Rattle.session_store.specs.declared.session.Session.{Session};
-    ghost use Rattle.session_store.specs.Drafts.{Draft, sessions_before};
+    ghost use Rattle.session_store.specs.Drafts.{Draft, sessions_before, AreInLines};
 
     ghost Value = { Draft (List (ℕ × Session)) };
 
     ghost view = { λ d. record { now = d.sessions.entries; before = sessions_before d.steps.items d.sessions.entries } };
 
-    ghost invariant = { λ d. Rising 0 (2 ^ 32) d.sessions.entries };
+    ghost invariant = { λ d. AreInLines d.lines d.steps.items d.sessions.entries };
 }
 
-/// Takes one step back.
-fn take_step_back(sessions: &mut BTreeMap<u32, Session>, step: SessionStep)
+/// Takes out a session, and out of the lines where it stood.
+fn forget(lines: &mut Lines, sessions: &mut BTreeMap<u32, Session>, session: u32)
     requires { Rising 0 (2 ^ 32) sessions.old.entries }
-    ensures { sessions.new.entries ≡ session_step_back step sessions.old.entries }
+    ensures sessions { sessions.new.entries ≡ without session sessions.old.entries }
+    ensures complete { EachStands (StandsIn lines.old) sessions.old.entries
+        → EachStands (StandsIn lines.new) sessions.new.entries }
 {
-    match step {
-        SessionStep::Waited { session, wait } => set_wait(sessions, session, wait),
-        SessionStep::Made(session) => {
-            sessions.remove(&session);
-        }
+    if let Some(gone) = sessions.remove(&session) {
+        lines.leave(sessions, gone.watched.as_slice(), session, gone.wait);
     }
 }
 
@@ -63,6 +59,7 @@ impl SessionDraft {
         SessionDraft {
             alloc,
             sessions: BTreeMap::new(alloc),
+            lines: Lines::new(alloc),
             steps: Vec::new(alloc),
         }
     }
@@ -73,6 +70,22 @@ impl SessionDraft {
         ensures rising { Rising 0 (2 ^ 32) self.now.now }
     {
         &self.sessions
+    }
+
+    /// The waiting session of the least rank that watches the tube.
+    pub fn first_watcher(&self, tube: &Name) -> Option<(u32, &Session)>
+        ensures { option_map (λ e. (e.0, e.1.now)) result
+            ≡ first_waiting (λ e. is_among tube.now e.1.watched) self.now.now }
+    {
+        self.lines.first_watcher(&self.sessions, tube)
+    }
+
+    /// The waiting session of the least rank whose wait is over at this second.
+    pub fn first_late(&self, second: u64) -> Option<(u32, &Session)>
+        ensures { option_map (λ e. (e.0, e.1.now)) result
+            ≡ first_waiting (λ e. has_timed_out second e.1.wait) self.now.now }
+    {
+        self.lines.first_late(&self.sessions, second)
     }
 
     /// Makes a session that is not there.
@@ -98,11 +111,13 @@ impl SessionDraft {
         let Some(found) = self.sessions.get(&session) else {
             return Ok(());
         };
-        let wait_before = found.wait;
+        let before = found.wait;
         self.steps.push(SessionStep::Waited {
             session,
-            wait: wait_before,
+            before,
+            after: wait,
         })?;
+        self.lines.join(session, found, wait)?;
         set_wait(&mut self.sessions, session, wait);
         Ok(())
     }
@@ -112,6 +127,7 @@ impl SessionDraft {
         ensures now { self.new.now ≡ self.old.now }
         ensures before { self.new.before ≡ self.old.now }
     {
+        leave_steps(&mut self.lines, &self.sessions, self.steps.as_slice());
         self.steps.clear();
     }
 
@@ -121,6 +137,7 @@ impl SessionDraft {
         ensures before { self.new.before
             ≡ altered session (λ c. record c { used = name }) self.old.now }
     {
+        leave_steps(&mut self.lines, &self.sessions, self.steps.as_slice());
         self.steps.clear();
         set_used(&mut self.sessions, session, name);
     }
@@ -136,7 +153,11 @@ impl SessionDraft {
         ensures before { OnOk result (self.new.before ≡ self.new.now) }
         ensures err { OnErr result (self.new ≡ self.old) }
     {
+        // Where memory is refused after this, the place is left over in the line, and passed over.
+        let wait = wait_of(&self.sessions, session);
+        self.lines.join_tube(&name, session, wait)?;
         let count = watch(&mut self.sessions, session, name)?;
+        leave_steps(&mut self.lines, &self.sessions, self.steps.as_slice());
         self.steps.clear();
         Ok(count)
     }
@@ -151,8 +172,12 @@ impl SessionDraft {
             (λ c. record c { watched = left_out name.now c.watched }) self.old.now }
         ensures before { self.new.before ≡ self.new.now }
     {
+        leave_steps(&mut self.lines, &self.sessions, self.steps.as_slice());
         self.steps.clear();
-        ignore(&mut self.sessions, session, name)
+        let count = ignore(&mut self.sessions, session, name);
+        let wait = wait_of(&self.sessions, session);
+        self.lines.leave_tube(&self.sessions, name, session, wait);
+        count
     }
 
     /// Keeps all changes, and takes out a session.
@@ -160,8 +185,9 @@ impl SessionDraft {
         ensures now { self.new.now ≡ without session self.old.now }
         ensures before { self.new.before ≡ without session self.old.now }
     {
+        leave_steps(&mut self.lines, &self.sessions, self.steps.as_slice());
         self.steps.clear();
-        self.sessions.remove(&session);
+        forget(&mut self.lines, &mut self.sessions, session);
     }
 
     /// Takes back all changes since they were kept last.
@@ -169,8 +195,8 @@ impl SessionDraft {
         ensures now { self.new.now ≡ self.old.before }
         ensures before { self.new.before ≡ self.old.before }
     {
-        while let Some(step) = self.steps.pop() {
-            take_step_back(&mut self.sessions, step);
-        }
+        take_steps_back(&mut self.sessions, self.steps.as_slice());
+        leave_steps(&mut self.lines, &self.sessions, self.steps.as_slice());
+        self.steps.clear();
     }
 }

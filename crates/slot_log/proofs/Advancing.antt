@@ -4,7 +4,7 @@ use Rattle.std.proofs.lemmas.Bool.{cases_lt, false≢true}
 use Rattle.std.proofs.lemmas.List.Folds.{list_any-append}
 use Rattle.std.specs.List.{list_any}
 use Rattle.std.specs.Option.{is_some}
-use Rattle.std.specs.BTreeMap.{get as place_at}
+use Rattle.object.specs.KeyMaps.{at_key, with_key}
 use Rattle.std.specs.declared.collections.VecDeque.{VecDeque}
 use Rattle.std.specs.declared.alloc.Global.{Global}
 use Rattle.std.specs.VecDeque.{deque_len, deque_capacity}
@@ -15,8 +15,7 @@ use Rattle.slot_log.specs.declared.places.Place.{Place}
 use Rattle.slot_log.specs.declared.places.Place.TheVariants.{Requested, Proposed, Decided}
 use Rattle.slot_log.specs.declared.places.Places.{Places}
 use Rattle.slot_log.specs.declared.slot_log.SlotLog.TheInside.{Inside}
-use Rattle.object.specs.Keys.{key_cmp}
-use Rattle.slot_log.specs.Places.{ranked, put_at, is_found}
+use Rattle.slot_log.specs.Places.{ranked, is_found}
 use Rattle.slot_log.specs.Requests.{is_known}
 use Rattle.slot_log.specs.Proposals.{IsInWindow}
 use Rattle.slot_log.specs.Kept.{book_of, standing, IsKept}
@@ -60,7 +59,7 @@ module _ {C : Type 0} (same : C → C → Bool) (key_of : C → Key) (exact : (x
   -- the fields are kept so, where the places find the same commands
   out_kept : (rs : VecDeque C Global) (places : Places C) → is_some (get a.decisions a.slot_out) ≡ true → deque_len rs + len (remove a.proposals a.slot_out) ≤ deque_capacity rs
       → ((c : C) → is_known same (book_of a) c ≡ is_known same (book_of (then rs places)) c) → places.others.items ≡ a.places.others.items
-      → ((c : C) → is_known same (book_of a) c ≡ true → is_found same key_of (place_at key_cmp places.by_key) (standing (then rs places)) a.places.others.items c ≡ true)
+      → ((c : C) → is_known same (book_of a) c ≡ true → is_found same key_of (at_key places.by_key) (standing (then rs places)) a.places.others.items c ≡ true)
       → IsKept same key_of (then rs places)
   out_kept rs places there room held others found =
       let within = kept.within a.slot_out there in
@@ -74,7 +73,7 @@ module _ {C : Type 0} (same : C → C → Bool) (key_of : C → Key) (exact : (x
         ahead = λ s h. gone s (kept.ahead s h);
         room = room;
         others = λ c h. sym (held c) ∙ kept.others c (ap (λ (os : List C). among same os c) (sym others) ∙ h);
-        found = λ c h. ap (λ (os : List C). is_found same key_of (place_at key_cmp places.by_key) (standing (then rs places)) os c) others ∙ found c (held c ∙ h);
+        found = λ c h. ap (λ (os : List C). is_found same key_of (at_key places.by_key) (standing (then rs places)) os c) others ∙ found c (held c ∙ h);
       }
 
   -- no proposal was there
@@ -83,7 +82,7 @@ module _ {C : Type 0} (same : C → C → Bool) (key_of : C → Key) (exact : (x
       let left : remove a.proposals a.slot_out ≡ a.proposals = remove_none a.proposals a.slot_out none in
       out_kept a.requests a.places there (subst (λ (m : Slots C). deque_len a.requests + len m ≤ deque_capacity a.requests) (sym left) kept.room)
       (λ c. ap (λ (m : Slots C). is_known same (record (book_of a) { proposals = m }) c) (sym left)) refl
-      (λ c h. ap (λ (m : Slots C). is_found same key_of (place_at key_cmp a.places.by_key) (standing (record a { proposals = m })) a.places.others.items c) left ∙ kept.found c h)
+      (λ c h. ap (λ (m : Slots C). is_found same key_of (at_key a.places.by_key) (standing (record a { proposals = m })) a.places.others.items c) left ∙ kept.found c h)
 
   module _ (x : C) (own : get a.proposals a.slot_out ≡ Some x) where
     proposal_known : is_known same (book_of a) x ≡ true
@@ -94,8 +93,8 @@ module _ {C : Type 0} (same : C → C → Bool) (key_of : C → Key) (exact : (x
         or_known false = refl
 
     -- the proposal has a place, unless it is among the others
-    pub proposal_placed : among same a.places.others.items x ≡ false → is_some (place_at key_cmp a.places.by_key (key_of x)) ≡ true
-    proposal_placed = placed same key_of exact itself (place_at key_cmp a.places.by_key) (standing a) a.places.others.items x (kept.found x proposal_known)
+    pub proposal_placed : among same a.places.others.items x ≡ false → is_some (at_key a.places.by_key (key_of x)) ≡ true
+    proposal_placed = placed same key_of exact itself (at_key a.places.by_key) (standing a) a.places.others.items x (kept.found x proposal_known)
 
     elsewhere : (s : ℕ) (c : C) → get a.proposals s ≡ Some c → (c ≡ x) ⊎ (get (remove a.proposals a.slot_out) s ≡ Some c)
     elsewhere s c there =
@@ -105,18 +104,18 @@ module _ {C : Type 0} (same : C → C → Bool) (key_of : C → Key) (exact : (x
         (remove_cases a.proposals a.slot_out s)
 
     module _ (places : Places C) (to : Place)
-        (puts : among same a.places.others.items x ≡ false → (q : Key) → place_at key_cmp places.by_key q ≡ put_at (place_at key_cmp a.places.by_key) (key_of x) to q)
-        (leaves : among same a.places.others.items x ≡ true → (q : Key) → place_at key_cmp places.by_key q ≡ place_at key_cmp a.places.by_key q) where
+        (puts : among same a.places.others.items x ≡ false → (q : Key) → at_key places.by_key q ≡ with_key (at_key a.places.by_key) (key_of x) to q)
+        (leaves : among same a.places.others.items x ≡ true → (q : Key) → at_key places.by_key q ≡ at_key a.places.by_key q) where
       found_then : (rs : VecDeque C Global) → standing (then rs places) to ≡ Some x → ((p : Place) (c : C) → standing a p ≡ Some c → (c ≡ x) ⊎ (standing (then rs places) p ≡ Some c))
-          → (c : C) → is_known same (book_of a) c ≡ true → is_found same key_of (place_at key_cmp places.by_key) (standing (then rs places)) a.places.others.items c ≡ true
+          → (c : C) → is_known same (book_of a) c ≡ true → is_found same key_of (at_key places.by_key) (standing (then rs places)) a.places.others.items c ≡ true
       found_then rs here keep c h =
-          found_moved same key_of exact itself (place_at key_cmp a.places.by_key) (place_at key_cmp places.by_key) (standing a) (standing (then rs places)) a.places.others.items x to
+          found_moved same key_of exact itself (at_key a.places.by_key) (at_key places.by_key) (standing a) (standing (then rs places)) a.places.others.items x to
           (kept.found x proposal_known) puts leaves here keep c (kept.found c h)
 
     -- the proposal was decided
     pub won_kept : get a.decisions a.slot_out ≡ Some x → (places : Places C)
-        → (among same a.places.others.items x ≡ false → (q : Key) → place_at key_cmp places.by_key q ≡ put_at (place_at key_cmp a.places.by_key) (key_of x) (Decided a.slot_out) q)
-        → (among same a.places.others.items x ≡ true → (q : Key) → place_at key_cmp places.by_key q ≡ place_at key_cmp a.places.by_key q)
+        → (among same a.places.others.items x ≡ false → (q : Key) → at_key places.by_key q ≡ with_key (at_key a.places.by_key) (key_of x) (Decided a.slot_out) q)
+        → (among same a.places.others.items x ≡ true → (q : Key) → at_key places.by_key q ≡ at_key a.places.by_key q)
         → places.others.items ≡ a.places.others.items → deque_len a.requests + len (remove a.proposals a.slot_out) ≤ deque_capacity a.requests → IsKept same key_of (then a.requests places)
     won_kept decided places puts leaves others room =
         let keep : (p : Place) (c : C) → standing a p ≡ Some c → (c ≡ x) ⊎ (standing (then a.requests places) p ≡ Some c) = still places in
@@ -134,8 +133,8 @@ module _ {C : Type 0} (same : C → C → Bool) (key_of : C → Key) (exact : (x
 
     -- the proposal was lost, and goes last in the requests
     pub lost_kept : is_some (get a.decisions a.slot_out) ≡ true → (rs : VecDeque C Global) → rs.items ≡ a.requests.items ++ x ∷ [] → (rank : ℕ) → rank ≡ a.front_rank + length a.requests.items → (places : Places C)
-        → (among same a.places.others.items x ≡ false → (q : Key) → place_at key_cmp places.by_key q ≡ put_at (place_at key_cmp a.places.by_key) (key_of x) (Requested rank) q)
-        → (among same a.places.others.items x ≡ true → (q : Key) → place_at key_cmp places.by_key q ≡ place_at key_cmp a.places.by_key q)
+        → (among same a.places.others.items x ≡ false → (q : Key) → at_key places.by_key q ≡ with_key (at_key a.places.by_key) (key_of x) (Requested rank) q)
+        → (among same a.places.others.items x ≡ true → (q : Key) → at_key places.by_key q ≡ at_key a.places.by_key q)
         → places.others.items ≡ a.places.others.items → deque_len rs + len (remove a.proposals a.slot_out) ≤ deque_capacity rs → IsKept same key_of (then rs places)
     lost_kept there rs last rank behind places puts leaves others room =
         out_kept rs places there room

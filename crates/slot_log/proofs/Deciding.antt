@@ -1,7 +1,7 @@
 -- A command is decided in a slot.
 use Rattle.std.proofs.Common.{◌≡◌, ◌⊎◌, inl, inr, ⊎_elim, ℕ, ◌≤◌, ◌^◌, Bool, true, false, ◌||◌, Some, None, List, refl, sym, ap, subst, ◌∙◌}
 use Rattle.std.specs.List.{list_any}
-use Rattle.std.specs.BTreeMap.{get as place_at}
+use Rattle.object.specs.KeyMaps.{at_key}
 use Rattle.std.specs.FinMap.{get, insert, values}
 use Rattle.object.specs.declared.command.Key.{Key}
 use Rattle.ballot.proofs.SlotMaps.{insert_cases}
@@ -9,7 +9,6 @@ use Rattle.slot_log.specs.declared.places.Place.{Place}
 use Rattle.slot_log.specs.declared.places.Place.TheVariants.{Requested, Proposed, Decided}
 use Rattle.slot_log.specs.declared.places.Places.{Places}
 use Rattle.slot_log.specs.declared.slot_log.SlotLog.TheInside.{Inside}
-use Rattle.object.specs.Keys.{key_cmp}
 use Rattle.slot_log.specs.Places.{noted_at, others_noted, is_found}
 use Rattle.slot_log.specs.Requests.{is_known}
 use Rattle.slot_log.specs.Kept.{book_of, standing, IsKept}
@@ -39,7 +38,7 @@ was false false false d h = inl h
 module _ {C : Type 0} (same : C → C → Bool) (key_of : C → Key) (exact : (x y : C) → same x y ≡ true → x ≡ y) (itself : (x : C) → same x x ≡ true)
     (a : Inside C) (kept : IsKept same key_of a) where
   -- the places stay as they are
-  pub places_kept : (places : Places C) → ((q : Key) → place_at key_cmp places.by_key q ≡ place_at key_cmp a.places.by_key q) → places.others.items ≡ a.places.others.items → IsKept same key_of (record a { places = places })
+  pub places_kept : (places : Places C) → ((q : Key) → at_key places.by_key q ≡ at_key a.places.by_key q) → places.others.items ≡ a.places.others.items → IsKept same key_of (record a { places = places })
   places_kept places looks others = record {
     slot_in = kept.slot_in;
     slot_out = kept.slot_out;
@@ -51,8 +50,8 @@ module _ {C : Type 0} (same : C → C → Bool) (key_of : C → Key) (exact : (x
     room = kept.room;
     others = λ c h. kept.others c (ap (λ (os : List C). among same os c) (sym others) ∙ h);
     found = λ c h.
-        ap (λ (os : List C). is_found same key_of (place_at key_cmp places.by_key) (standing a) os c) others
-        ∙ found_still same key_of exact itself (place_at key_cmp a.places.by_key) (place_at key_cmp places.by_key) (standing a) (standing a) a.places.others.items looks (λ p c there. there) c (kept.found c h);
+        ap (λ (os : List C). is_found same key_of (at_key places.by_key) (standing a) os c) others
+        ∙ found_still same key_of exact itself (at_key a.places.by_key) (at_key places.by_key) (standing a) (standing a) a.places.others.items looks (λ p c there. there) c (kept.found c h);
   }
 
   module _ (slot : ℕ) (x : C) (numbered : slot ≤ 2 ^ 62) (free : get a.decisions slot ≡ None) (places : Places C) where
@@ -83,7 +82,7 @@ module _ {C : Type 0} (same : C → C → Bool) (key_of : C → Key) (exact : (x
         (insert_cases a.decisions slot x s)
 
     decision_kept : ((c : C) → among same places.others.items c ≡ true → is_known same (book_of then) c ≡ true)
-        → ((c : C) → is_known same (book_of then) c ≡ true → is_found same key_of (place_at key_cmp places.by_key) (standing then) places.others.items c ≡ true)
+        → ((c : C) → is_known same (book_of then) c ≡ true → is_found same key_of (at_key places.by_key) (standing then) places.others.items c ≡ true)
         → IsKept same key_of then
     decision_kept others found = record {
       slot_in = kept.slot_in;
@@ -99,11 +98,11 @@ module _ {C : Type 0} (same : C → C → Bool) (key_of : C → Key) (exact : (x
     }
 
     -- the command is noted
-    pub noted_kept : ((q : Key) → place_at key_cmp places.by_key q ≡ noted_at (place_at key_cmp a.places.by_key) (key_of x) (Decided slot) q)
-        → places.others.items ≡ others_noted (place_at key_cmp a.places.by_key (key_of x)) a.places.others.items x → IsKept same key_of then
+    pub noted_kept : ((q : Key) → at_key places.by_key q ≡ noted_at (at_key a.places.by_key) (key_of x) (Decided slot) q)
+        → places.others.items ≡ others_noted (at_key a.places.by_key (key_of x)) a.places.others.items x → IsKept same key_of then
     noted_kept looks more =
-        let old = place_at key_cmp a.places.by_key in
-        let new = place_at key_cmp places.by_key in
+        let old = at_key a.places.by_key in
+        let new = at_key places.by_key in
         let here = some_inserted a.decisions slot x in
         decision_kept
         (λ c h.
@@ -125,7 +124,7 @@ module _ {C : Type 0} (same : C → C → Bool) (key_of : C → Key) (exact : (x
       (λ c h. known_still slot x numbered free a.places c (kept.others c h))
       (λ c h.
       ⊎_elim (λ (k : is_known same (book_of a) c ≡ true).
-      found_still same key_of exact itself (place_at key_cmp a.places.by_key) (place_at key_cmp a.places.by_key) (standing a) (standing now) a.places.others.items (λ q. refl) (keep slot x numbered free a.places) c (kept.found c k))
+      found_still same key_of exact itself (at_key a.places.by_key) (at_key a.places.by_key) (standing a) (standing now) a.places.others.items (λ q. refl) (keep slot x numbered free a.places) c (kept.found c k))
       (λ (e : x ≡ c).
-      found_still same key_of exact itself (place_at key_cmp a.places.by_key) (place_at key_cmp a.places.by_key) (standing a) (standing now) a.places.others.items (λ q. refl) (keep slot x numbered free a.places) c (kept.found c (ap (is_known same (book_of a)) (sym e) ∙ known)))
+      found_still same key_of exact itself (at_key a.places.by_key) (at_key a.places.by_key) (standing a) (standing now) a.places.others.items (λ q. refl) (keep slot x numbered free a.places) c (kept.found c (ap (is_known same (book_of a)) (sym e) ∙ known)))
       (known_before slot x numbered free a.places c h))

@@ -4,13 +4,12 @@ use Rattle.std.proofs.lemmas.Bool.{or_left, or_right}
 use Rattle.std.proofs.lemmas.Option.{same_Some}
 use Rattle.std.specs.List.{list_any, slice_get}
 use Rattle.std.specs.Option.{option_map_or, option_and_then}
-use Rattle.std.specs.BTreeMap.{get as place_at}
+use Rattle.object.specs.KeyMaps.{at_key}
 use Rattle.std.specs.FinMap.{values}
 use Rattle.object.specs.declared.command.Key.{Key}
 use Rattle.slot_log.specs.declared.places.Place.{Place}
 use Rattle.slot_log.specs.declared.places.Place.TheVariants.{Requested, Proposed, Decided}
 use Rattle.slot_log.specs.declared.slot_log.SlotLog.TheInside.{Inside}
-use Rattle.object.specs.Keys.{key_cmp}
 use Rattle.slot_log.specs.Places.{ranked, is_found}
 use Rattle.slot_log.specs.Requests.{is_known}
 use Rattle.slot_log.specs.Kept.{book_of, standing, IsKept}
@@ -43,13 +42,13 @@ module _ {C : Type 0} (same : C → C → Bool) (key_of : C → Key) (exact : (x
       (or_right (list_any (λ d. same d c) (values a.proposals)) (list_any (λ d. same d c) (values a.decisions)) (any_found (λ d. same d c) a.decisions s c there (itself c)))
 
   -- the places find what the book knows
-  pub known_is : (a : Inside C) → IsKept same key_of a → (c : C) → is_found same key_of (place_at key_cmp a.places.by_key) (standing a) a.places.others.items c ≡ is_known same (book_of a) c
+  pub known_is : (a : Inside C) → IsKept same key_of a → (c : C) → is_found same key_of (at_key a.places.by_key) (standing a) a.places.others.items c ≡ is_known same (book_of a) c
   known_is a kept c =
       same_tests _ _
       (λ h.
-      ⊎_elim (λ (is : IsInPlace key_of (place_at key_cmp a.places.by_key) (standing a) c). known_standing a is.place c is.there)
+      ⊎_elim (λ (is : IsInPlace key_of (at_key a.places.by_key) (standing a) c). known_standing a is.place c is.there)
       (λ (t : among same a.places.others.items c ≡ true). kept.others c t)
-      (found_cases same key_of exact itself (place_at key_cmp a.places.by_key) (standing a) a.places.others.items c h))
+      (found_cases same key_of exact itself (at_key a.places.by_key) (standing a) a.places.others.items c h))
       (kept.found c)
 
 -- a search where the key has no place

@@ -2,7 +2,7 @@
 use Rattle.std.proofs.Common.{◌≡◌, ◌⊎◌, inr, ⊎_elim, ℕ, ◌+◌, ◌≤◌, Bool, true, false, ◌||◌, Some, None, List, ◌∷◌, sym, ap, ◌∙◌, arith}
 use Rattle.std.proofs.lemmas.Bool.{or_left}
 use Rattle.std.specs.List.{list_any}
-use Rattle.std.specs.BTreeMap.{get as place_at}
+use Rattle.object.specs.KeyMaps.{at_key, with_key}
 use Rattle.std.specs.FinMap.{get, insert, len, values}
 use Rattle.std.specs.declared.collections.VecDeque.{VecDeque}
 use Rattle.std.specs.declared.alloc.Global.{Global}
@@ -13,8 +13,7 @@ use Rattle.slot_log.specs.declared.places.Place.{Place}
 use Rattle.slot_log.specs.declared.places.Place.TheVariants.{Requested, Proposed, Decided}
 use Rattle.slot_log.specs.declared.places.Places.{Places}
 use Rattle.slot_log.specs.declared.slot_log.SlotLog.TheInside.{Inside}
-use Rattle.object.specs.Keys.{key_cmp}
-use Rattle.slot_log.specs.Places.{ranked, put_at, is_found}
+use Rattle.slot_log.specs.Places.{ranked, is_found}
 use Rattle.slot_log.specs.Requests.{is_known}
 use Rattle.slot_log.specs.Proposals.{IsLeastOpen, IsInWindow}
 use Rattle.slot_log.specs.Kept.{book_of, standing, IsKept}
@@ -33,8 +32,8 @@ module _ {C : Type 0} (same : C → C → Bool) (key_of : C → Key) (exact : (x
       (or_left (same x x) (list_any (λ d. same d x) rs.items) (itself x))
 
   module _ (slot next : ℕ) (least : IsLeastOpen (book_of a) slot) (behind : next ≡ slot + 1) (places : Places C)
-      (puts : among same a.places.others.items x ≡ false → (q : Key) → place_at key_cmp places.by_key q ≡ put_at (place_at key_cmp a.places.by_key) (key_of x) (Proposed slot) q)
-      (leaves : among same a.places.others.items x ≡ true → (q : Key) → place_at key_cmp places.by_key q ≡ place_at key_cmp a.places.by_key q)
+      (puts : among same a.places.others.items x ≡ false → (q : Key) → at_key places.by_key q ≡ with_key (at_key a.places.by_key) (key_of x) (Proposed slot) q)
+      (leaves : among same a.places.others.items x ≡ true → (q : Key) → at_key places.by_key q ≡ at_key a.places.by_key q)
       (others : places.others.items ≡ a.places.others.items) where
     abbrev then : Inside C
     then = record a { slot_in = next; requests = rs; proposals = insert a.proposals slot x; front_rank = a.front_rank + 1; places = places }
@@ -57,9 +56,9 @@ module _ {C : Type 0} (same : C → C → Bool) (key_of : C → Key) (exact : (x
         (insert_cases a.proposals slot x s)
     keep (Decided s) c there = inr there
 
-    found : (c : C) → is_known same (book_of a) c ≡ true → is_found same key_of (place_at key_cmp places.by_key) (standing then) a.places.others.items c ≡ true
+    found : (c : C) → is_known same (book_of a) c ≡ true → is_found same key_of (at_key places.by_key) (standing then) a.places.others.items c ≡ true
     found c h =
-        found_moved same key_of exact itself (place_at key_cmp a.places.by_key) (place_at key_cmp places.by_key) (standing a) (standing then) a.places.others.items x (Proposed slot) (kept.found x first_known)
+        found_moved same key_of exact itself (at_key a.places.by_key) (at_key places.by_key) (standing a) (standing then) a.places.others.items x (Proposed slot) (kept.found x first_known)
         puts leaves (some_inserted a.proposals slot x) keep c (kept.found c h)
 
     -- the fields are kept so
@@ -78,5 +77,5 @@ module _ {C : Type 0} (same : C → C → Bool) (key_of : C → Key) (exact : (x
           ahead = λ s h. others_inserted a.proposals slot x s (λ e. absurd (omega arith)) ∙ kept.ahead s (omega arith);
           room = room;
           others = λ c h. sym (known_still c) ∙ kept.others c (ap (λ (os : List C). among same os c) (sym others) ∙ h);
-          found = λ c h. ap (λ (os : List C). is_found same key_of (place_at key_cmp places.by_key) (standing then) os c) others ∙ found c (known_still c ∙ h);
+          found = λ c h. ap (λ (os : List C). is_found same key_of (at_key places.by_key) (standing then) os c) others ∙ found c (known_still c ∙ h);
         }

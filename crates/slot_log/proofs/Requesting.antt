@@ -2,7 +2,7 @@
 use Rattle.std.proofs.Common.{◌≡◌, ◌⊎◌, inl, inr, ⊎_elim, ℕ, ◌+◌, ◌≤◌, Bool, true, false, ◌||◌, Some, List, [], ◌∷◌, ◌++◌, length, refl, sym, ap, subst, ◌∙◌}
 use Rattle.std.proofs.lemmas.List.Folds.{list_any-append}
 use Rattle.std.specs.List.{list_any}
-use Rattle.std.specs.BTreeMap.{get as place_at}
+use Rattle.object.specs.KeyMaps.{at_key}
 use Rattle.std.specs.FinMap.{len, values}
 use Rattle.std.specs.declared.collections.VecDeque.{VecDeque}
 use Rattle.std.specs.declared.alloc.Global.{Global}
@@ -12,7 +12,6 @@ use Rattle.slot_log.specs.declared.places.Place.{Place}
 use Rattle.slot_log.specs.declared.places.Place.TheVariants.{Requested, Proposed, Decided}
 use Rattle.slot_log.specs.declared.places.Places.{Places}
 use Rattle.slot_log.specs.declared.slot_log.SlotLog.TheInside.{Inside}
-use Rattle.object.specs.Keys.{key_cmp}
 use Rattle.slot_log.specs.Places.{ranked, noted_at, others_noted, is_found}
 use Rattle.slot_log.specs.Requests.{is_known}
 use Rattle.slot_log.specs.Kept.{book_of, standing, IsKept}
@@ -37,8 +36,8 @@ was false false p d h = inl h
 
 module _ {C : Type 0} (same : C → C → Bool) (key_of : C → Key) (exact : (x y : C) → same x y ≡ true → x ≡ y) (itself : (x : C) → same x x ≡ true)
     (a : Inside C) (kept : IsKept same key_of a) (rs : VecDeque C Global) (places : Places C) (x : C) (rank : ℕ) (last : rs.items ≡ a.requests.items ++ x ∷ [])
-    (looks : (q : Key) → place_at key_cmp places.by_key q ≡ noted_at (place_at key_cmp a.places.by_key) (key_of x) (Requested rank) q)
-    (more : places.others.items ≡ others_noted (place_at key_cmp a.places.by_key (key_of x)) a.places.others.items x) where
+    (looks : (q : Key) → at_key places.by_key q ≡ noted_at (at_key a.places.by_key) (key_of x) (Requested rank) q)
+    (more : places.others.items ≡ others_noted (at_key a.places.by_key (key_of x)) a.places.others.items x) where
   abbrev then : Inside C
   then = record a { requests = rs; places = places }
 
@@ -70,8 +69,8 @@ module _ {C : Type 0} (same : C → C → Bool) (key_of : C → Key) (exact : (x
     -- the fields are kept so
     pub request_kept : deque_len rs + len a.proposals ≤ deque_capacity rs → IsKept same key_of then
     request_kept room =
-        let old = place_at key_cmp a.places.by_key in
-        let new = place_at key_cmp places.by_key in
+        let old = at_key a.places.by_key in
+        let new = at_key places.by_key in
         record {
           slot_in = kept.slot_in;
           slot_out = kept.slot_out;

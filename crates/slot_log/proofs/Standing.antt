@@ -5,12 +5,12 @@ use Rattle.std.proofs.lemmas.List.Folds.{list_any-append}
 use Rattle.std.proofs.lemmas.Option.{same_Some}
 use Rattle.std.specs.List.{list_any}
 use Rattle.std.specs.Option.{option_map_or, option_and_then, is_some}
-use Rattle.std.specs.Ordering.{is_eq}
 use Rattle.object.specs.declared.command.Key.{Key}
 use Rattle.slot_log.specs.declared.places.Place.{Place}
-use Rattle.object.specs.Keys.{key_cmp}
-use Rattle.object.specs.KeyLaws.{exact_keys, key_itself, when_equal}
-use Rattle.slot_log.specs.Places.{put_at, noted_at, others_noted, is_found}
+use Rattle.object.specs.Keys.{same_key}
+use Rattle.object.specs.KeyLaws.{same_is, same_itself}
+use Rattle.object.specs.KeyMaps.{with_key}
+use Rattle.slot_log.specs.Places.{noted_at, others_noted, is_found}
 
 -- two tests that hold together are one
 pub same_tests : (a b : Bool) → (a ≡ true → b ≡ true) → (b ≡ true → a ≡ true) → a ≡ b
@@ -78,10 +78,10 @@ module _ {C : Type 0} (same : C → C → Bool) (key_of : C → Key) (exact : (x
     in_new false t c h = ap (λ (os : List C). among same os c) (more ∙ ap (λ b. cond b (others ++ x ∷ []) others) t) ∙ h
 
     looked_still : (q : Key) (p : Place) → look q ≡ Some p → now q ≡ Some p
-    looked_still q p looked = looks q ∙ elim (is_some (look (key_of x))) as (λ b. is_some (look (key_of x)) ≡ b → cond b (look q) (cond (is_eq (key_cmp (key_of x) q)) (Some to) (look q)) ≡ Some p) [
+    looked_still q p looked = looks q ∙ elim (is_some (look (key_of x))) as (λ b. is_some (look (key_of x)) ≡ b → cond b (look q) (cond (same_key (key_of x) q) (Some to) (look q)) ≡ Some p) [
       | true ↦ λ t. looked
-      | false ↦ λ f. elim (is_eq (key_cmp (key_of x) q)) as (λ b. is_eq (key_cmp (key_of x) q) ≡ b → cond b (Some to) (look q) ≡ Some p) [
-        | true ↦ λ t. absurd (false≢true (sym f ∙ ap (λ k. is_some (look k)) (exact_keys (key_of x) q (when_equal (key_cmp (key_of x) q) t)) ∙ ap is_some looked))
+      | false ↦ λ f. elim (same_key (key_of x) q) as (λ b. same_key (key_of x) q ≡ b → cond b (Some to) (look q) ≡ Some p) [
+        | true ↦ λ t. absurd (false≢true (sym f ∙ ap (λ k. is_some (look k)) (same_is (key_of x) q t) ∙ ap is_some looked))
         | false ↦ λ e. looked
       ] refl
     ] refl
@@ -98,8 +98,8 @@ module _ {C : Type 0} (same : C → C → Bool) (key_of : C → Key) (exact : (x
       | true ↦ λ t. found_among now then new x (ap (λ (os : List C). among same os x) (more ∙ ap (λ b. cond b (others ++ x ∷ []) others) t) ∙ among_last others x)
       | false ↦ λ f. found_in_place now then new x (record {
         place = to;
-        looked = looks (key_of x) ∙ ap (λ b. cond b (look (key_of x)) (cond (is_eq (key_cmp (key_of x) (key_of x))) (Some to) (look (key_of x)))) f
-            ∙ ap (λ b. cond b (Some to) (look (key_of x))) (key_itself (key_of x));
+        looked = looks (key_of x) ∙ ap (λ b. cond b (look (key_of x)) (cond (same_key (key_of x) (key_of x)) (Some to) (look (key_of x)))) f
+            ∙ ap (λ b. cond b (Some to) (look (key_of x))) (same_itself (key_of x));
         there = here;
       })
     ] refl
@@ -122,7 +122,7 @@ module _ {C : Type 0} (same : C → C → Bool) (key_of : C → Key) (exact : (x
 
   -- a command that is found stands at another place now
   module _ (look now : Key → Option Place) (stands then : Place → Option C) (others : List C) (x : C) (to : Place) (known : is_found same key_of look stands others x ≡ true)
-      (puts : among same others x ≡ false → (q : Key) → now q ≡ put_at look (key_of x) to q) (leaves : among same others x ≡ true → (q : Key) → now q ≡ look q)
+      (puts : among same others x ≡ false → (q : Key) → now q ≡ with_key look (key_of x) to q) (leaves : among same others x ≡ true → (q : Key) → now q ≡ look q)
       (here : then to ≡ Some x) (keep : (p : Place) (c : C) → stands p ≡ Some c → (c ≡ x) ⊎ (then p ≡ Some c)) where
     -- where it is among the others
     found_beside : among same others x ≡ true → (c : C) → IsInPlace key_of look stands c → is_found same key_of now then others c ≡ true
@@ -135,7 +135,7 @@ module _ {C : Type 0} (same : C → C → Bool) (key_of : C → Key) (exact : (x
       found_there : is_found same key_of now then others x ≡ true
       found_there = found_in_place now then others x (record {
         place = to;
-        looked = puts f (key_of x) ∙ ap (λ b. cond b (Some to) (look (key_of x))) (key_itself (key_of x));
+        looked = puts f (key_of x) ∙ ap (λ b. cond b (Some to) (look (key_of x))) (same_itself (key_of x));
         there = here;
       })
 
@@ -148,15 +148,15 @@ module _ {C : Type 0} (same : C → C → Bool) (key_of : C → Key) (exact : (x
           (λ (t : among same others x ≡ true). absurd (false≢true (sym f ∙ t)))
           (found_cases look stands others x known)
 
-      found_away : (c : C) → is_eq (key_cmp (key_of x) (key_of c)) ≡ false → IsInPlace key_of look stands c → is_found same key_of now then others c ≡ true
+      found_away : (c : C) → same_key (key_of x) (key_of c) ≡ false → IsInPlace key_of look stands c → is_found same key_of now then others c ≡ true
       found_away c apart is =
-          ⊎_elim (λ (e : c ≡ x). absurd (false≢true (sym apart ∙ ap (λ d. is_eq (key_cmp (key_of x) (key_of d))) e ∙ key_itself (key_of x))))
+          ⊎_elim (λ (e : c ≡ x). absurd (false≢true (sym apart ∙ ap (λ d. same_key (key_of x) (key_of d)) e ∙ same_itself (key_of x))))
           (λ (k : then is.place ≡ Some c). found_in_place now then others c (record { place = is.place; looked = puts f (key_of c) ∙ ap (λ b. cond b (Some to) (look (key_of c))) apart ∙ is.looked; there = k }))
           (keep is.place c is.there)
 
       found_alone : (c : C) → IsInPlace key_of look stands c → is_found same key_of now then others c ≡ true
-      found_alone c is = elim (is_eq (key_cmp (key_of x) (key_of c))) as (λ b. is_eq (key_cmp (key_of x) (key_of c)) ≡ b → is_found same key_of now then others c ≡ true) [
-        | true ↦ λ t. subst (λ d. is_found same key_of now then others d ≡ true) (only c (exact_keys (key_of x) (key_of c) (when_equal (key_cmp (key_of x) (key_of c)) t)) is) found_there
+      found_alone c is = elim (same_key (key_of x) (key_of c)) as (λ b. same_key (key_of x) (key_of c) ≡ b → is_found same key_of now then others c ≡ true) [
+        | true ↦ λ t. subst (λ d. is_found same key_of now then others d ≡ true) (only c (same_is (key_of x) (key_of c) t) is) found_there
         | false ↦ λ e. found_away c e is
       ] refl
 

@@ -1,14 +1,13 @@
 -- How a log keeps its book.
 use Rattle.std.specs.Prelude.{◌≡◌, ℕ, ◌+◌, ◌^◌, ◌<◌, ◌≤◌, Bool, true, Option, None, IsSome}
 use Rattle.std.specs.List.{list_any}
-use Rattle.std.specs.BTreeMap.{get as place_at}
+use Rattle.object.specs.KeyMaps.{at_key}
 use Rattle.std.specs.FinMap.{get, len}
 use Rattle.std.specs.VecDeque.{deque_len, deque_capacity}
 use Rattle.object.specs.declared.command.Key.{Key}
 use Rattle.slot_log.specs.Books.{SlotBook}
 use Rattle.slot_log.specs.Requests.{is_known}
 use Rattle.slot_log.specs.Proposals.{IsInWindow}
-use Rattle.object.specs.Keys.{key_cmp}
 use Rattle.slot_log.specs.Places.{ranked, is_found}
 use Rattle.slot_log.specs.declared.places.Place.{Place}
 use Rattle.slot_log.specs.declared.places.Place.TheVariants.{Requested, Proposed, Decided}
@@ -48,4 +47,4 @@ pub record IsKept {C : Type 0} (same : C → C → Bool) (key_of : C → Key) (a
   pub room : deque_len a.requests + len a.proposals ≤ deque_capacity a.requests
   pub others : (c : C) → list_any (λ d. same d c) a.places.others.items ≡ true → is_known same (book_of a) c ≡ true
   pub found : (c : C) → is_known same (book_of a) c ≡ true
-      → is_found same key_of (place_at key_cmp a.places.by_key) (standing a) a.places.others.items c ≡ true
+      → is_found same key_of (at_key a.places.by_key) (standing a) a.places.others.items c ≡ true

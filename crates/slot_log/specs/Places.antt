@@ -2,18 +2,13 @@
 use Rattle.std.specs.Prelude.{ℕ, ◌-◌, Bool, false, ◌||◌, nat_le, List, [], ◌∷◌, ◌++◌, slice_get, Option, None, Some, is_some, option_and_then, if◌then◌else◌}
 use Rattle.std.specs.List.{list_any}
 use Rattle.std.specs.Option.{option_map_or}
-use Rattle.std.specs.Ordering.{is_eq}
 use Rattle.object.specs.declared.command.Key.{Key}
-use Rattle.object.specs.Keys.{key_cmp}
+use Rattle.object.specs.KeyMaps.{with_key}
 use Rattle.slot_log.specs.declared.places.Place.{Place}
-
--- the places, with this one for the key
-abbrev pub put_at : (Key → Option Place) → Key → Place → Key → Option Place
-put_at look key place q = if is_eq (key_cmp key q) then Some place else look q
 
 -- a place that is noted for a key, unless it has one
 abbrev pub noted_at : (Key → Option Place) → Key → Place → Key → Option Place
-noted_at look key place q = if is_some (look key) then look q else put_at look key place q
+noted_at look key place q = if is_some (look key) then look q else with_key look key place q
 
 -- and the other commands, to which this one comes where its key has a place
 abbrev pub others_noted : {C : Type 0} → Option Place → List C → C → List C

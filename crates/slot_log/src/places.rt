@@ -1,14 +1,12 @@
 ghost use Rattle.std.specs.Prelude.{◌≡◌, true, false, [], IsSome, OnOk, OnErr};
 ghost use Rattle.std.specs.List.{list_any};
-ghost use Rattle.std.specs.BTreeMap.{get};
 ghost use Rattle.object.specs.declared.command.Key.{Key};
-ghost use Rattle.object.specs.Keys.{key_cmp};
-ghost use Rattle.slot_log.specs.Places.{put_at, noted_at, others_noted};
+ghost use Rattle.object.specs.KeyMaps.{at_key, with_key};
+ghost use Rattle.slot_log.specs.Places.{noted_at, others_noted};
 
 use ballot::Slot;
-use object::{Key, Keyed, Value};
+use object::{Key, KeyMap, Keyed, Value};
 use std::alloc::{AllocError, Global};
-use std::collections::BTreeMap;
 
 /// Where a command stands.
 #[derive(Clone, Copy)]
@@ -24,7 +22,7 @@ pub(crate) enum Place {
 /// Where the command of each key stands.
 #[derive(Drop)]
 pub(crate) struct Places<C> {
-    by_key: BTreeMap<Key, Place>,
+    by_key: KeyMap<Place>,
     // Copies of the commands whose key stands for another command. There are none, unless somebody uses a
     // key twice.
     others: Vec<C>,
@@ -33,20 +31,20 @@ pub(crate) struct Places<C> {
 impl<C: Value + Keyed> Places<C> {
     /// No commands.
     pub(crate) fn new(alloc: Global) -> Places<C>
-        ensures places { result.by_key.entries ≡ [] }
+        ensures places { result.by_key ≡ [] }
         ensures others { result.others.items ≡ [] }
     {
         Places {
-            by_key: BTreeMap::new(alloc),
+            by_key: KeyMap::new(alloc),
             others: Vec::new(alloc),
         }
     }
 
     /// Where the command of the key stands.
     pub(crate) fn of(&self, key: Key) -> Option<Place>
-        ensures { result ≡ get key_cmp self.now.by_key key }
+        ensures { result ≡ at_key self.now.by_key key }
     {
-        self.by_key.get(&key).copied()
+        self.by_key.get(key)
     }
 
     /// Whether the command's key stands for another command.
@@ -58,18 +56,18 @@ impl<C: Value + Keyed> Places<C> {
 
     /// Notes where a new command stands.
     pub(crate) fn note(&mut self, command: &C, place: Place) -> Result<(), AllocError>
-        ensures places { OnOk result ((q : Key) → get key_cmp self.new.by_key q
-            ≡ noted_at (get key_cmp self.old.by_key) (C.key_of command.now) place q) }
+        ensures places { OnOk result ((q : Key) → at_key self.new.by_key q
+            ≡ noted_at (at_key self.old.by_key) (C.key_of command.now) place q) }
         ensures others { OnOk result (self.new.others.items
             ≡ others_noted
-            (get key_cmp self.old.by_key
+            (at_key self.old.by_key
             (C.key_of command.now)) self.old.others.items command.now) }
         ensures err { OnErr result (((q : Key)
-            → get key_cmp self.new.by_key q ≡ get key_cmp self.old.by_key q)
+            → at_key self.new.by_key q ≡ at_key self.old.by_key q)
             × (self.new.others.items ≡ self.old.others.items)) }
     {
         let key = command.key();
-        if self.by_key.contains_key(&key) {
+        if self.by_key.get(key).is_some() {
             self.others.push(command.copy()?)?;
         } else {
             self.by_key.insert(key, place)?;
@@ -80,18 +78,17 @@ impl<C: Value + Keyed> Places<C> {
     /// Notes where a command stands now. It takes no memory.
     pub(crate) fn relocate(&mut self, command: &C, place: Place)
         requires { list_any (λ d. C.eq d command.now) self.old.others.items ≡ false
-            → IsSome (get key_cmp self.old.by_key (C.key_of command.now)) }
+            → IsSome (at_key self.old.by_key (C.key_of command.now)) }
         ensures here { list_any (λ d. C.eq d command.now) self.old.others.items ≡ false
-            → (q : Key) → get key_cmp self.new.by_key q
-            ≡ put_at (get key_cmp self.old.by_key) (C.key_of command.now) place q }
+            → (q : Key) → at_key self.new.by_key q
+            ≡ with_key (at_key self.old.by_key) (C.key_of command.now) place q }
         ensures other { list_any (λ d. C.eq d command.now) self.old.others.items ≡ true
-            → (q : Key) → get key_cmp self.new.by_key q ≡ get key_cmp self.old.by_key q }
+            → (q : Key) → at_key self.new.by_key q ≡ at_key self.old.by_key q }
         ensures others { self.new.others.items ≡ self.old.others.items }
     {
         if self.has_other(command) {
             return;
         }
-        let standing = self.by_key.get_mut(&command.key()).unwrap();
-        *standing = place;
+        self.by_key.replace(command.key(), place);
     }
 }

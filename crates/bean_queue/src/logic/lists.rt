@@ -13,6 +13,19 @@ use session_store::{Names, Session};
 use std::alloc::{AllocError, Global};
 use std::collections::{BTreeMap, BTreeSet};
 
+/// Puts a name among others. It is copied only where it isn't there yet.
+fn insert(names: &mut BTreeSet<Name>, name: &Name) -> Result<(), AllocError>
+    ensures { OnOk result (names.new.keys
+        ≡ insert_key (slice_cmp nat_cmp) names.old.keys name.now) }
+{
+    // Gives the proof that the names are in order.
+    let _ = names.len();
+    if !names.contains(name) {
+        names.insert(name.copy()?)?;
+    }
+    Ok(())
+}
+
 /// Puts the tubes of the jobs among the names.
 fn insert_of_jobs(names: &mut BTreeSet<Name>, jobs: &BTreeMap<u64, Job>) -> Result<(), AllocError>
     ensures { OnOk result (names.new.keys
@@ -20,7 +33,7 @@ fn insert_of_jobs(names: &mut BTreeSet<Name>, jobs: &BTreeMap<u64, Job>) -> Resu
         (map (λ e. e.1.tube) jobs.now.entries)) }
 {
     for (_, job) in jobs {
-        names.insert(job.tube.copy()?)?;
+        insert(names, &job.tube)?;
     }
     Ok(())
 }
@@ -31,7 +44,7 @@ fn insert_all(names: &mut BTreeSet<Name>, more: &[Name]) -> Result<(), AllocErro
         ≡ fold (insert_key (slice_cmp nat_cmp)) names.old.keys more.now) }
 {
     for name in more {
-        names.insert(name.copy()?)?;
+        insert(names, name)?;
     }
     Ok(())
 }
@@ -42,7 +55,7 @@ fn insert_of_session(names: &mut BTreeSet<Name>, session: &Session) -> Result<()
         ≡ fold (insert_key (slice_cmp nat_cmp)) names.old.keys
         (session.now.used ∷ session.now.watched)) }
 {
-    names.insert(session.used.copy()?)?;
+    insert(names, &session.used)?;
     insert_all(names, session.watched.as_slice())
 }
 

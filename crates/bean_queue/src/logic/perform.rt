@@ -125,23 +125,26 @@ impl<M: JobMap> Logic<M> {
         }
     }
 
-    /// Obeys an operation that is not quiet, and then serves the sessions that wait.
+    /// Obeys an operation that is not quiet, where nothing is left to give, and then serves the sessions that wait.
     #[tactic(auto, unfolding(crate::specs::Effects::do_effect, crate::specs::Turns::serve))]
     pub fn act(
         &mut self,
+        alloc: Global,
         key: Key,
         op: &Op,
         answers: &mut Vec<Answer<Reply>>,
     ) -> Result<(), AllocError>
-        requires { is_quiet op.now ≡ false }
+        requires loud { is_quiet op.now ≡ false }
+        requires calm { serve_turn self.old.now ≡ None }
         ensures state { OnOk result (self.new.now ≡ (do_effect op.now key self.old.now).state) }
         ensures answers { OnOk result
             (answers.new.items ≡ answers.old.items ++ (do_effect op.now key self.old.now).answers) }
         ensures before { self.new.before ≡ self.old.before }
     {
         self.call(key.session)?;
+        let woken = self.woken_by(alloc, key, op)?;
         self.loud_answer(key, op, answers)?;
-        self.serve(answers)?;
+        self.serve(woken.as_slice(), answers)?;
         self.settle_after(key, op, answers)
     }
 }

@@ -5,9 +5,9 @@ ghost use Rattle.bean_queue.specs.Effects.{settled};
 ghost use Rattle.bean_queue.specs.declared.op.Op.{Op};
 
 use crate::counters::LIMIT;
+use crate::deadlines::holds_by;
 use crate::logic::Logic;
 use crate::reply::Reply;
-use crate::waiting::holds_by;
 use job_store::JobMap;
 use object::{Answer, Key};
 use session_store::Wait;

@@ -1,26 +1,42 @@
-ghost use Rattle.std.specs.Prelude.{◌≡◌, ◌++◌, IfOk, OnOk};
-ghost use Rattle.bean_queue.specs.Turns.{IsTurn, serve_turn, deadline_turn, timeout_turn, all_turns};
+ghost use Rattle.std.specs.Prelude.{◌≡◌, ◌+◌, ◌++◌, IfOk, OnOk, option_map};
+ghost use Rattle.bean_queue.specs.Turns.{IsTurn, next_job, serve_turn, deadline_turn, timeout_turn, all_turns};
+ghost use Rattle.bean_queue.specs.Woken.{Covers};
+ghost use Rattle.bean_queue.specs.Holders.{HasHolders};
 
+use crate::deadlines::{first_holder, holders_by};
 use crate::logic::Logic;
 use crate::reply::Reply;
-use crate::waiting::{first_holder, next_job};
-use job_store::{JobMap, State};
+use crate::waiting::best_offer;
+use job_store::{Job, JobMap, Name, State};
 use object::{Answer, Key, Value};
-use session_store::{first_late, first_watcher};
-use std::alloc::AllocError;
+use std::alloc::{AllocError, Global};
 
 impl<M: JobMap> Logic<M> {
-    /// Gives the next job to the session whose turn it is, and tells whether there was one.
-    fn serve_one(&mut self, answers: &mut Vec<Answer<Reply>>) -> Result<bool, AllocError>
+    /// Of the best jobs of all waiting sessions, the most urgent. It is looked for in these tubes alone.
+    fn next_job(&self, woken: &[Name]) -> Option<(u64, &Job)>
+        requires { Covers woken.now self.now.now }
+        ensures { option_map (λ e. (e.0, e.1.now)) result ≡ next_job self.now.now }
+    {
+        best_offer(self.jobs.map(), &self.sessions, woken)
+    }
+
+    /// Gives the next job to the session whose turn it is, and tells whether there was one. It is in one of these
+    /// tubes.
+    fn serve_one(
+        &mut self,
+        woken: &[Name],
+        answers: &mut Vec<Answer<Reply>>,
+    ) -> Result<bool, AllocError>
+        requires { Covers woken.now self.old.now }
         ensures turn { IfOk result
             (λ more. IsTurn serve_turn self.old.now self.new.now answers.old.items answers.new.items
             more) }
         ensures before { self.new.before ≡ self.old.before }
     {
-        let Some((id, job)) = next_job(self.jobs.map(), self.sessions.map()) else {
+        let Some((id, job)) = self.next_job(woken) else {
             return Ok(false);
         };
-        let Some((session, watcher)) = first_watcher(self.sessions.map(), &job.tube) else {
+        let Some((session, watcher)) = self.sessions.first_watcher(&job.tube) else {
             return Ok(false);
         };
         let to = Key {
@@ -38,27 +54,43 @@ impl<M: JobMap> Logic<M> {
         Ok(true)
     }
 
-    /// Gives jobs to waiting sessions, while there is one for them.
-    pub fn serve(&mut self, answers: &mut Vec<Answer<Reply>>) -> Result<(), AllocError>
+    /// Gives jobs of these tubes to waiting sessions, while there is one for them.
+    pub fn serve(
+        &mut self,
+        woken: &[Name],
+        answers: &mut Vec<Answer<Reply>>,
+    ) -> Result<(), AllocError>
+        requires { Covers woken.now self.old.now }
         ensures state { OnOk result (self.new.now ≡ (all_turns serve_turn self.old.now).state) }
         ensures answers { OnOk result
             (answers.new.items ≡ answers.old.items ++ (all_turns serve_turn self.old.now).answers) }
         ensures before { self.new.before ≡ self.old.before }
     {
-        'turns: while self.serve_one(answers)? {}
+        'turns: while self.serve_one(woken, answers)? {}
         Ok(())
     }
 
-    /// Tells the first waiting session with a job due within a second so, and whether there was one.
-    fn tell_deadline(&mut self, answers: &mut Vec<Answer<Reply>>) -> Result<bool, AllocError>
+    /// Tells the first waiting session with a job due within a second so, and whether there was one. Its number is
+    /// among these.
+    fn tell_deadline(
+        &mut self,
+        holders: &[u32],
+        answers: &mut Vec<Answer<Reply>>,
+    ) -> Result<bool, AllocError>
+        requires { HasHolders holders.now (self.old.now.now + 1) self.old.now.jobs
+            self.old.now.sessions }
         ensures turn { IfOk result
             (λ more. IsTurn deadline_turn self.old.now self.new.now answers.old.items
             answers.new.items more) }
         ensures before { self.new.before ≡ self.old.before }
     {
         let second = self.counters.now + 1;
-        let Some((session, holder)) = first_holder(self.jobs.map(), self.sessions.map(), second)
-        else {
+        let Some((session, holder)) = first_holder(
+            self.jobs.map(),
+            self.sessions.map(),
+            holders,
+            second,
+        ) else {
             return Ok(false);
         };
         let to = Key {
@@ -74,14 +106,20 @@ impl<M: JobMap> Logic<M> {
     }
 
     /// Tells all waiting sessions with a job due within a second so.
-    pub fn tell_deadlines(&mut self, answers: &mut Vec<Answer<Reply>>) -> Result<(), AllocError>
+    pub fn tell_deadlines(
+        &mut self,
+        alloc: Global,
+        answers: &mut Vec<Answer<Reply>>,
+    ) -> Result<(), AllocError>
         ensures state { OnOk result (self.new.now ≡ (all_turns deadline_turn self.old.now).state) }
         ensures answers { OnOk result
             (answers.new.items
             ≡ answers.old.items ++ (all_turns deadline_turn self.old.now).answers) }
         ensures before { self.new.before ≡ self.old.before }
     {
-        'turns: while self.tell_deadline(answers)? {}
+        let second = self.counters.now + 1;
+        let holders = holders_by(alloc, self.jobs.map(), self.sessions.map(), second)?;
+        'turns: while self.tell_deadline(holders.as_slice(), answers)? {}
         Ok(())
     }
 
@@ -92,7 +130,7 @@ impl<M: JobMap> Logic<M> {
             answers.new.items more) }
         ensures before { self.new.before ≡ self.old.before }
     {
-        let Some((session, late)) = first_late(self.sessions.map(), self.counters.now) else {
+        let Some((session, late)) = self.sessions.first_late(self.counters.now) else {
             return Ok(false);
         };
         let to = Key {

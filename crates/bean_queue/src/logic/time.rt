@@ -1,29 +1,39 @@
-ghost use Rattle.std.specs.Prelude.{◌≡◌, ◌≤◌, ◌<◌, ◌^◌, ◌++◌, OnOk};
+ghost use Rattle.std.specs.Prelude.{◌≡◌, ◌≤◌, ◌<◌, ◌^◌, ◌++◌, None, IfOk, OnOk};
 ghost use Rattle.bean_queue.specs.Effects.{released, forgotten, at_second, tick_effect};
-ghost use Rattle.bean_queue.specs.Turns.{serve};
+ghost use Rattle.bean_queue.specs.Turns.{serve, serve_turn};
+ghost use Rattle.bean_queue.specs.Woken.{AreWoken};
 
 use crate::logic::Logic;
 use crate::ready_again::{make_due_ready, release_held};
 use crate::reply::Reply;
-use job_store::JobMap;
+use indexmap::IndexSet;
+use job_store::{JobMap, Name};
 use object::Answer;
-use std::alloc::AllocError;
+use std::alloc::{AllocError, Global};
 
 impl<M: JobMap> Logic<M> {
-    /// Lets a second come.
-    fn at_second(&mut self, second: u64) -> Result<(), AllocError>
+    /// Lets a second come, and tells the tubes of the jobs that it makes ready.
+    fn at_second(&mut self, alloc: Global, second: u64) -> Result<IndexSet<Name>, AllocError>
         requires { second ≤ 2 ^ 40 }
         ensures state { OnOk result (self.new.now ≡ at_second second self.old.now) }
+        ensures woken { IfOk result
+            (λ tubes. AreWoken tubes.keys self.old.now.jobs self.new.now.jobs) }
         ensures before { self.new.before ≡ self.old.before }
     {
         self.counters.now = second;
-        make_due_ready(&mut self.jobs, second)
+        make_due_ready(alloc, &mut self.jobs, second)
     }
 
-    /// Lets a second come, unless it has come before.
+    /// Lets a second come, unless it has come before, where nothing is left to give.
     #[tactic(auto, unfolding(crate::specs::Effects::tick_effect, crate::specs::Turns::serve))]
-    pub fn tick(&mut self, second: u64, answers: &mut Vec<Answer<Reply>>) -> Result<(), AllocError>
-        requires { second ≤ 2 ^ 40 }
+    pub fn tick(
+        &mut self,
+        alloc: Global,
+        second: u64,
+        answers: &mut Vec<Answer<Reply>>,
+    ) -> Result<(), AllocError>
+        requires second { second ≤ 2 ^ 40 }
+        requires calm { serve_turn self.old.now ≡ None }
         ensures state { OnOk result (self.new.now ≡ (tick_effect second self.old.now).state) }
         ensures answers { OnOk result
             (answers.new.items ≡ answers.old.items ++ (tick_effect second self.old.now).answers) }
@@ -32,36 +42,41 @@ impl<M: JobMap> Logic<M> {
         if second <= self.counters.now {
             return Ok(());
         }
-        self.at_second(second)?;
-        self.serve(answers)?;
-        self.tell_deadlines(answers)?;
+        let woken = self.at_second(alloc, second)?;
+        self.serve(woken.as_slice(), answers)?;
+        self.tell_deadlines(alloc, answers)?;
         self.tell_timeouts(answers)
     }
 
-    /// Ends the wait of a session, and makes its jobs ready.
-    fn give_back(&mut self, session: u32) -> Result<(), AllocError>
+    /// Ends the wait of a session, makes its jobs ready, and tells their tubes.
+    fn give_back(&mut self, alloc: Global, session: u32) -> Result<IndexSet<Name>, AllocError>
         ensures state { OnOk result (self.new.now ≡ released session self.old.now) }
+        ensures woken { IfOk result
+            (λ tubes. AreWoken tubes.keys self.old.now.jobs self.new.now.jobs) }
         ensures before { self.new.before ≡ self.old.before }
     {
-        release_held(&mut self.jobs, session)?;
-        self.sessions.set_wait(session, None)
+        let woken = release_held(alloc, &mut self.jobs, session)?;
+        self.sessions.set_wait(session, None)?;
+        Ok(woken)
     }
 
-    /// Gives the jobs of a session back, to others that wait.
+    /// Gives the jobs of a session back, to others that wait, where nothing was left to give before.
     #[tactic(auto, unfolding(crate::specs::Turns::serve))]
     pub fn release_all(
         &mut self,
+        alloc: Global,
         session: u32,
         answers: &mut Vec<Answer<Reply>>,
     ) -> Result<(), AllocError>
+        requires { serve_turn self.old.now ≡ None }
         ensures state { OnOk result (self.new.now ≡ (serve (released session self.old.now)).state) }
         ensures answers { OnOk result
             (answers.new.items
             ≡ answers.old.items ++ (serve (released session self.old.now)).answers) }
         ensures before { self.new.before ≡ self.old.before }
     {
-        self.give_back(session)?;
-        self.serve(answers)
+        let woken = self.give_back(alloc, session)?;
+        self.serve(woken.as_slice(), answers)
     }
 
     /// Forgets a session.

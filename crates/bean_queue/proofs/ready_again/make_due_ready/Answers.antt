@@ -1,19 +1,29 @@
 use Rattle.std.proofs.Common.{◌≡◌, ◌∙◌, None, Some, refl, sym, ap}
-use Rattle.job_store.specs.LookUps.{due_of_job, first_due}
+use Rattle.job_store.specs.LookUps.{due_by, due_of_job, first_due}
 use Rattle.job_store.specs.States.{is_due}
 use Rattle.bean_queue.proofs.ReadyAgain.{one_more, none_left}
+use Rattle.bean_queue.proofs.Woken.{gathered, none-woken}
 use Rattle.bean_queue.proofs.ready_again.make_due_ready.Goals as goal
+
+pub again-init : goal.again-init
+again-init g c = record { all = refl; woken = none-woken _ c.args.jobs.now.now; before = refl }
 
 pub again-smaller : goal.again-smaller
 again-smaller g c =
-    let found : first_due c.args.second c.again.jobs.now ≡ Some (c.in-Some.id, c.in-Some.field-0-1.now) = ap (first_due c.args.second) (sym c.map.ensures.jobs) ∙ sym c.in-Some.ensures.job in
-    (one_more (is_due c.args.second) refl due_of_job 0 _ c.again.jobs.now c.set_state.new.self.now (c.in-Some.id, c.in-Some.field-0-1.now) c.map.ensures.rising found c.in_ok-set_state.ensures.now).less
+    let found : first_due c.args.second c.again.jobs.now ≡ Some (c.in-Some.id, c.in-Some.job.now) = ap (first_due c.args.second) (sym c.map.ensures.jobs) ∙ sym c.in-Some.ensures.job in
+    (one_more (is_due c.args.second) refl due_of_job 0 _ c.again.jobs.now c.set_state.new.self.now (c.in-Some.id, c.in-Some.job.now) c.map.ensures.rising found c.in_ok-set_state.ensures.now).less
 
 pub again-preserved : goal.again-preserved
 again-preserved g c =
-    let found : first_due c.args.second c.again.jobs.now ≡ Some (c.in-Some.id, c.in-Some.field-0-1.now) = ap (first_due c.args.second) (sym c.map.ensures.jobs) ∙ sym c.in-Some.ensures.job in
-    let r = one_more (is_due c.args.second) refl due_of_job 0 _ c.again.jobs.now c.set_state.new.self.now (c.in-Some.id, c.in-Some.field-0-1.now) c.map.ensures.rising found c.in_ok-set_state.ensures.now in
-    record { all = r.all ∙ c.again.invariant.all; before = c.set_state.ensures.before ∙ c.again.invariant.before }
+    let found : first_due c.args.second c.again.jobs.now ≡ Some (c.in-Some.id, c.in-Some.job.now) = ap (first_due c.args.second) (sym c.map.ensures.jobs) ∙ sym c.in-Some.ensures.job in
+    let r = one_more (is_due c.args.second) refl due_of_job 0 _ c.again.jobs.now c.set_state.new.self.now (c.in-Some.id, c.in-Some.job.now) c.map.ensures.rising found c.in_ok-set_state.ensures.now in
+    record {
+      all = r.all ∙ c.again.invariant.all;
+      woken =
+          gathered (due_by c.args.second) due_of_job _ c.args.jobs.now.now c.again.jobs.now c.set_state.new.self.now (c.in-Some.id, c.in-Some.job.now) c.again.woken.keys c.insert.new.self.keys _
+          c.map.ensures.rising found c.in_ok-set_state.ensures.now c.in_ok-copy.ensures c.in_ok-insert.ensures.keys c.again.invariant.woken;
+      before = c.set_state.ensures.before ∙ c.again.invariant.before;
+    }
 
 pub returns-clause-now : goal.returns-clause-now
 returns-clause-now g c =

@@ -1,10 +1,12 @@
 use Rattle.std.proofs.Common.{◌≡◌, ◌++◌}
 use Rattle.bean_queue.specs.Turns.{serve_turn, all_turns}
+use Rattle.bean_queue.specs.Woken.{Covers}
 use Rattle.bean_queue.proofs.Served.{waiters}
 use Rattle.bean_queue.proofs.logic.Logic.serve.Given as goal
 
 abbrev pub invariant-turns : goal.invariant-turns
 invariant-turns g l = record {
+  covers : Covers l.woken l.self.now;
   state : (all_turns serve_turn l.self.now).state ≡ (all_turns serve_turn l.fn.self.now).state;
   answers : l.answers.items ++ (all_turns serve_turn l.self.now).answers ≡ l.fn.answers.items ++ (all_turns serve_turn l.fn.self.now).answers;
   before : l.self.before ≡ l.fn.self.before;

@@ -1,13 +1,25 @@
-use Rattle.std.proofs.Common.{◌≡◌, ◌∙◌, ℕ, ◌+◌, true, ◌∷◌, [], ◌++◌, Some, None, refl, sym, ap, ap₂, subst}
+use Rattle.std.proofs.Common.{◌≡◌, ◌∙◌, ℕ, ◌+◌, ◌^◌, true, ◌∷◌, [], ◌++◌, Some, None, refl, sym, ap, ap₂, subst}
 use Rattle.object.specs.declared.command.Answer.{Answer}
+use Rattle.job_store.specs.Entries.{Rising}
 use Rattle.session_store.specs.declared.session.Session.{Session}
 use Rattle.session_store.specs.Sessions.{first_waiting}
 use Rattle.session_store.specs.Drafts.{Draft}
 use Rattle.bean_queue.specs.declared.reply.Reply.{Reply}
+use Rattle.bean_queue.specs.Holders.{HasHolders}
 use Rattle.bean_queue.specs.Queue.{QueueState, holds_by, state_of}
 use Rattle.bean_queue.specs.Turns.{IsTurn, deadline_turn}
 use Rattle.bean_queue.proofs.Turned.{none-told_deadline, told_deadline}
 use Rattle.bean_queue.proofs.logic.Logic.tell_deadline.Goals as goal
+
+pub first_holder-requires-clause-rising : goal.first_holder-requires-clause-rising
+first_holder-requires-clause-rising g c = subst (Rising 0 (2 ^ 32)) (sym c.map-2.ensures.sessions) c.map-2.ensures.rising
+
+pub first_holder-requires-clause-holders : goal.first_holder-requires-clause-holders
+first_holder-requires-clause-holders g c =
+    let s = state_of c.self.inside.counters c.self.inside.jobs.now c.self.inside.sessions.now in
+    subst (λ jobs. HasHolders c.args.holders.now (s.now + 1) jobs c.map-2.result.now.entries) (sym c.map.ensures.jobs)
+    (subst (HasHolders c.args.holders.now (s.now + 1) s.jobs) (sym c.map-2.ensures.sessions)
+    (subst (λ (d : Draft QueueState). HasHolders c.args.holders.now (d.now.now + 1) d.now.jobs d.now.sessions) (sym c.self.view_is) c.requires))
 
 pub returns-in_default-clause-turn : goal.returns-in_default-clause-turn
 returns-in_default-clause-turn g c =

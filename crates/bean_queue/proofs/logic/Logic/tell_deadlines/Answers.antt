@@ -1,7 +1,25 @@
-use Rattle.std.proofs.Common.{◌∙◌}
+use Rattle.std.proofs.Common.{◌∙◌, ◌+◌, refl, subst}
+use Rattle.session_store.specs.Drafts.{Draft}
+use Rattle.bean_queue.specs.Holders.{HasHolders}
+use Rattle.bean_queue.specs.Queue.{QueueState, state_of}
 use Rattle.bean_queue.specs.Turns.{deadline_turn}
 use Rattle.bean_queue.proofs.Served.{tells_deadline, turn_made, no_turn}
+use Rattle.bean_queue.proofs.Holders.{holders-turn}
 use Rattle.bean_queue.proofs.logic.Logic.tell_deadlines.Goals as goal
+
+pub turns-init : goal.turns-init
+turns-init g c =
+    let s = state_of c.self.inside.counters c.self.inside.jobs.now c.self.inside.sessions.now in
+    let holders = c.in_ok-holders.holders.items in
+    record {
+      holders =
+          subst (λ (d : Draft QueueState). HasHolders holders (d.now.now + 1) d.now.jobs d.now.sessions) c.self.view_is
+          (subst (λ jobs. HasHolders holders (s.now + 1) jobs s.sessions) c.map.ensures.jobs
+          (subst (HasHolders holders (s.now + 1) (g.M.JobMap.entries c.map.result.now)) c.map-2.ensures.sessions c.in_ok-holders.ensures));
+      state = refl;
+      answers = refl;
+      before = refl;
+    }
 
 pub turns-smaller : goal.turns-smaller
 turns-smaller g c = (turn_made deadline_turn tells_deadline _ _ _ _ c.in_ok-tell_deadline.field-0 c.if-branch.true c.in_ok-tell_deadline.ensures.turn).fewer
@@ -10,6 +28,7 @@ pub turns-preserved : goal.turns-preserved
 turns-preserved g c =
     let r = turn_made deadline_turn tells_deadline _ _ _ _ c.in_ok-tell_deadline.field-0 c.if-branch.true c.in_ok-tell_deadline.ensures.turn in
     record {
+      holders = holders-turn _ c.turns.self.now _ _ _ _ c.in_ok-tell_deadline.ensures.turn c.turns.invariant.holders;
       state = r.state ∙ c.turns.invariant.state;
       answers = r.answers ∙ c.turns.invariant.answers;
       before = c.tell_deadline.ensures.before ∙ c.turns.invariant.before;

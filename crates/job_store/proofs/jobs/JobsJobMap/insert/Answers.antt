@@ -1,16 +1,19 @@
-use Rattle.std.proofs.Common.{ap, ◌∙◌, arith}
-use Rattle.job_store.specs.Undone.{MapState}
-use Rattle.job_store.proofs.Entries.{inserted-rises}
-use Rattle.job_store.proofs.Undone.{before-put}
+use Rattle.job_store.proofs.Following.{placed-step, known-step, ahead-step, kept-followed}
 use Rattle.job_store.proofs.jobs.JobsJobMap.insert.Goals as goal
 
-pub invariant_of-self-then-self : goal.invariant_of-self-then-self
-invariant_of-self-then-self c = inserted-rises c.args.id 0 _ _ _ _ (omega arith) (omega arith) c.self.invariant c.in_ok-put.ensures.jobs
+pub follow-requires-clause-placed : goal.follow-requires-clause-placed
+follow-requires-clause-placed c =
+    placed-step c.self.inside.shelves c.store-done.new.shelves c.self.inside.jobs.jobs c.store-done.new.jobs.jobs c.self.invariant.placed c.store-done.ensures.grown c.store-done.ensures.followed
 
-pub returns-then-self-clause-before : goal.returns-then-self-clause-before
-returns-then-self-clause-before c =
-    before-put c.self.inside.is_trial c.args.id _ _ c.args.job c.self.inside.log.items c.put.new.log.items c.self.inside.jobs.entries c.put.new.jobs.entries c.if-self.true c.self.invariant c.in_ok-put.ensures.log c.in_ok-put.ensures.jobs ∙
-    ap (λ (m : MapState). m.before) c.self.view_is
+pub follow-requires-clause-known : goal.follow-requires-clause-known
+follow-requires-clause-known c =
+    known-step c.self.inside.shelves c.store-done.new.shelves c.self.inside.jobs.jobs c.store-done.new.jobs.jobs c.self.invariant.known c.store-done.ensures.grown c.store-done.ensures.followed
 
-pub invariant_of-self-2 : goal.invariant_of-self-2
-invariant_of-self-2 c = inserted-rises c.args.id 0 _ _ _ _ (omega arith) (omega arith) c.self.invariant c.in_ok-insert.ensures.entries
+pub follow-requires-clause-ahead : goal.follow-requires-clause-ahead
+follow-requires-clause-ahead c =
+    ahead-step c.self.inside.shelves c.store-done.new.shelves c.self.inside.jobs.jobs c.store-done.new.jobs.jobs c.self.invariant.ahead c.store-done.ensures.grown c.store-done.ensures.followed
+
+pub invariant_of-self : goal.invariant_of-self
+invariant_of-self c =
+    kept-followed c.self.inside.shelves c.store-done.new.shelves c.follow.new.shelves c.self.inside.jobs c.store-done.new.jobs c.self.invariant c.store-done.ensures.before c.store-done.ensures.grown c.store-done.ensures.followed c.store-done.ensures.rising
+    c.follow.ensures.settled c.follow.ensures.swept c.follow.ensures.placed c.follow.ensures.ahead c.follow.ensures.known

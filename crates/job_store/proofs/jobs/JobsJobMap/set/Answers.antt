@@ -1,14 +1,19 @@
-use Rattle.std.proofs.Common.{refl, ap, ◌∙◌}
-use Rattle.job_store.specs.States.{with_pri_and_state}
-use Rattle.job_store.specs.Undone.{MapState}
-use Rattle.job_store.proofs.Entries.{Rising-same, Rising-altered}
-use Rattle.job_store.proofs.Undone.{before-set}
+use Rattle.job_store.proofs.Following.{placed-step, known-step, ahead-step, kept-followed}
 use Rattle.job_store.proofs.jobs.JobsJobMap.set.Goals as goal
 
-pub invariant_of-self-2 : goal.invariant_of-self-2
-invariant_of-self-2 c = Rising-same _ _ _ _ c.make.ensures (Rising-altered c.args.id (with_pri_and_state c.args.pri c.args.state) _ _ _ c.self.invariant)
+pub follow-requires-clause-placed : goal.follow-requires-clause-placed
+follow-requires-clause-placed c =
+    placed-step c.self.inside.shelves c.move_to-done.new.shelves c.self.inside.jobs.jobs c.move_to-done.new.jobs.jobs c.self.invariant.placed c.move_to-done.ensures.grown c.move_to-done.ensures.followed
 
-pub returns-clause-before : goal.returns-clause-before
-returns-clause-before c =
-    before-set c.self.inside.is_trial c.args.id _ _ (with_pri_and_state c.args.pri c.args.state) c.self.inside.log.items c.note.new.log.items c.self.inside.jobs.entries c.make.new.jobs.entries (λ job. refl) c.self.invariant c.in_ok-note.ensures.ok c.make.ensures ∙
-    ap (λ (m : MapState). m.before) c.self.view_is
+pub follow-requires-clause-known : goal.follow-requires-clause-known
+follow-requires-clause-known c =
+    known-step c.self.inside.shelves c.move_to-done.new.shelves c.self.inside.jobs.jobs c.move_to-done.new.jobs.jobs c.self.invariant.known c.move_to-done.ensures.grown c.move_to-done.ensures.followed
+
+pub follow-requires-clause-ahead : goal.follow-requires-clause-ahead
+follow-requires-clause-ahead c =
+    ahead-step c.self.inside.shelves c.move_to-done.new.shelves c.self.inside.jobs.jobs c.move_to-done.new.jobs.jobs c.self.invariant.ahead c.move_to-done.ensures.grown c.move_to-done.ensures.followed
+
+pub invariant_of-self : goal.invariant_of-self
+invariant_of-self c =
+    kept-followed c.self.inside.shelves c.move_to-done.new.shelves c.follow.new.shelves c.self.inside.jobs c.move_to-done.new.jobs c.self.invariant c.move_to-done.ensures.before c.move_to-done.ensures.grown c.move_to-done.ensures.followed c.move_to-done.ensures.rising
+    c.follow.ensures.settled c.follow.ensures.swept c.follow.ensures.placed c.follow.ensures.ahead c.follow.ensures.known

@@ -9,7 +9,7 @@ use Rattle.recorder.proofs.keyed_list.KeyedList.get.Goals as goal
 pub returns-in_err-place : goal.returns-in_err-place
 returns-in_err-place g c =
     ap option_copied c.from_residual.ensures
-    ∙ ap (option_and_then (slice_get c.self.inside.items.items)) (c.in_err-place.ensures.value ∙ c.self.invariant.at c.args.key)
+    ∙ ap (option_and_then (slice_get c.self.inside.items.items)) (c.in_err-place.ensures ∙ c.self.invariant.at c.args.key)
     ∙ sym (found_at g.X.Keyed.key_of c.args.key c.self.inside.items.items)
     ∙ ap (found g.X.Keyed.key_of c.args.key) c.self.view_is
 
@@ -20,8 +20,8 @@ given xs i (Some x) h = sym (slice_get_read xs (length xs) i x.now refl h.0 (h.1
 
 pub returns : goal.returns
 returns g c =
-    given c.deref.result.now c.in_ok-place.place.now c.get-2.result c.get-2.ensures.lookup.3
-    ∙ ap (λ xs. slice_get xs c.in_ok-place.place.now) c.deref.ensures.value
-    ∙ ap (option_and_then (slice_get c.self.inside.items.items)) (c.in_ok-place.ensures.value ∙ c.self.invariant.at c.args.key)
+    given c.deref.result.now c.in_ok-place.place c.get-2.result c.get-2.ensures.lookup.3
+    ∙ ap (λ xs. slice_get xs c.in_ok-place.place) c.deref.ensures.value
+    ∙ ap (option_and_then (slice_get c.self.inside.items.items)) (c.in_ok-place.ensures ∙ c.self.invariant.at c.args.key)
     ∙ sym (found_at g.X.Keyed.key_of c.args.key c.self.inside.items.items)
     ∙ ap (found g.X.Keyed.key_of c.args.key) c.self.view_is

@@ -6,7 +6,8 @@ use Rattle.recorder.proofs.keyed_list.KeyedList.has.Goals as goal
 
 pub returns : goal.returns
 returns g c =
-    c.contains_key.ensures
+    c.is_some.ensures
+    ∙ ap is_some c.get.ensures
     ∙ ap is_some (c.self.invariant.at c.args.key)
     ∙ stands_at g.X.Keyed.key_of c.args.key c.self.inside.items.items
     ∙ ap (stands g.X.Keyed.key_of c.args.key) c.self.view_is

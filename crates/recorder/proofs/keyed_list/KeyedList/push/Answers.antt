@@ -2,7 +2,6 @@ use Rattle.std.proofs.Common.{◌≡◌, cond, [], ◌∷◌, ◌++◌, Some, ap
 use Rattle.object.specs.declared.command.Key.{Key}
 use Rattle.object.specs.Keys.{same_key, stands, place_of, KeysOnce}
 use Rattle.recorder.proofs.Places.{place_more, once_more}
-use Rattle.object.specs.KeyLaws.{tied_is_same}
 use Rattle.recorder.proofs.keyed_list.KeyedList.push.Goals as goal
 
 pub invariant_of-self-2 : goal.invariant_of-self-2
@@ -13,8 +12,8 @@ invariant_of-self-2 g c =
     let items : c.push_reserved.new.self.items ≡ old ++ c.args.item ∷ [] = c.push_reserved.ensures.items ∙ ap (λ xs. xs ++ c.args.item ∷ []) c.in_ok-reserve.ensures.items in
     record {
       at = λ q.
-          c.in_ok-insert.ensures.updates.0 q
-          ∙ ap₂ (λ b o. cond b (Some c.len-place.result) o) (tied_is_same c.key.result q) (c.self.invariant.at q)
+          c.in_ok-insert.ensures.ok q
+          ∙ ap (λ o. cond (same_key c.key.result q) (Some c.len-place.result) o) (c.self.invariant.at q)
           ∙ ap₂ (λ (k : Key) n. cond (same_key k q) (Some n) (place_of key_of q old)) c.key.ensures (c.len-place.ensures ∙ c.self.inside.items.ok.0)
           ∙ sym (place_more key_of c.args.item q old new)
           ∙ ap (place_of key_of q) (sym items);

@@ -1,8 +1,11 @@
-use Rattle.session_store.proofs.SessionDrafts.{before-less, step_back-rises}
+use Rattle.std.proofs.Common.{◌∙◌, ap, sym, subst}
+use Rattle.session_store.specs.Drafts.{sessions_before}
+use Rattle.session_store.specs.Lines.{EachStands, StandsIn}
+use Rattle.session_store.proofs.SessionDrafts.{kept}
 use Rattle.session_store.proofs.session_draft.SessionDraft.take_back.Goals as goal
 
-pub loop-step-preserved : goal.loop-step-preserved
-loop-step-preserved c = (
-  step_back-rises _ c.in-Some.step _ _ c.loop-step.invariant.0 c.take_step_back.ensures,
-  before-less _ _ c.in-Some.step _ _ _ c.in-Some.ensures.items c.loop-step.invariant.1 c.take_step_back.ensures,
-)
+pub invariant_of-self : goal.invariant_of-self
+invariant_of-self c =
+    kept _ _ _ c.clear.ensures.items c.take_steps_back.ensures.rising
+    (c.leave_steps.ensures
+    (subst (EachStands (StandsIn c.self.inside.lines)) (sym (c.take_steps_back.ensures.sessions ∙ ap (λ steps. sessions_before steps c.self.inside.sessions.entries) c.as_slice.ensures.value)) c.self.invariant.before))

@@ -6,10 +6,8 @@ use Rattle.std.specs.Option.{SomeIff, is_some, option_copied}
 use Rattle.ballot.specs.Slots.{Slots}
 use Rattle.slot_log.specs.Books.{SlotBook}
 use Rattle.slot_log.specs.Decisions.{next_decided}
-use Rattle.std.specs.BTreeMap.{get as place_at}
+use Rattle.object.specs.KeyMaps.{at_key, with_key}
 use Rattle.slot_log.specs.declared.places.Place.TheVariants.{Decided}
-use Rattle.object.specs.Keys.{key_cmp}
-use Rattle.slot_log.specs.Places.{put_at}
 use Rattle.slot_log.specs.Kept.{IsKept}
 use Rattle.slot_log.proofs.Maps.{len_removed}
 use Rattle.slot_log.proofs.Advancing.{none_kept, proposal_placed, won_kept, lost_kept}
@@ -58,7 +56,7 @@ invariant_of-self-then-eq g c =
     let room = c.self.invariant.room in
     subst (λ (ps : Slots g.row.C.Denot). IsKept g.C.PartialEq.eq g.C.Keyed.key_of (record a { slot_out = a.slot_out + 1; proposals = ps; places = c.relocate.new.self })) (sym (c.remove.ensures.rest ∙ ap (remove a.proposals) own))
     (won_kept g.C.PartialEq.eq g.C.Keyed.key_of g.met.C.Value.exact g.met.C.Eq.laws.refl a c.self.invariant x there decided c.relocate.new.self
-    (λ f q. c.relocate.ensures.here f q ∙ ap (λ s. put_at (place_at key_cmp a.places.by_key) (g.C.Keyed.key_of x) (Decided s) q) own) c.relocate.ensures.other c.relocate.ensures.others (omega arith))
+    (λ f q. c.relocate.ensures.here f q ∙ ap (λ s. with_key (at_key a.places.by_key) (g.C.Keyed.key_of x) (Decided s) q) own) c.relocate.ensures.other c.relocate.ensures.others (omega arith))
 
 pub unwrap-requires-else-eq : goal.unwrap-requires-else-eq
 unwrap-requires-else-eq g c =

@@ -2,8 +2,7 @@ use Rattle.std.proofs.Common.{◌≡◌, Option, Bor, false, sym, ap, ◌∙◌}
 use Rattle.std.proofs.lemmas.Bool.{or_left}
 use Rattle.std.specs.List.{list_any}
 use Rattle.std.specs.Option.{option_copied, option_map_or}
-use Rattle.std.specs.BTreeMap.{get}
-use Rattle.object.specs.Keys.{key_cmp}
+use Rattle.object.specs.KeyMaps.{at_key}
 use Rattle.slot_log.specs.Requests.{is_known}
 use Rattle.slot_log.specs.Kept.{standing}
 use Rattle.slot_log.proofs.Known.{known_is, found_nowhere, found_at}
@@ -13,7 +12,7 @@ use Rattle.slot_log.proofs.slot_log.SlotLog.is_known.Goals.{in-Requested, in-Pro
 pub returns-in_default : goal.returns-in_default
 returns-in_default g c =
     let a = c.self.inside in
-    let look = get key_cmp a.places.by_key in
+    let look = at_key a.places.by_key in
     c.has_other.ensures
     ∙ sym (found_nowhere g.C.PartialEq.eq g.C.Keyed.key_of look (standing a) a.places.others.items c.args.command.now (ap look (sym c.key.ensures) ∙ sym c.of.ensures ∙ c.in_default.is))
     ∙ known_is g.C.PartialEq.eq g.C.Keyed.key_of g.met.C.Value.exact g.met.C.Eq.laws.refl a c.self.invariant c.args.command.now
@@ -22,7 +21,7 @@ returns-in_default g c =
 pub returns-in-Some-standing : goal.returns-in-Some-standing
 returns-in-Some-standing g c =
     let a = c.self.inside in
-    let look = get key_cmp a.places.by_key in
+    let look = at_key a.places.by_key in
     let E = λ (d : g.row.C.Denot). g.C.PartialEq.eq d c.args.command.now in
     let here : option_copied c.match-place.standing ≡ standing a c.in-Some.place =
     elim c.match-place.branch as (λ _. option_copied c.match-place.standing ≡ standing a c.in-Some.place) [

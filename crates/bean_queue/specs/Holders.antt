@@ -1,0 +1,25 @@
+-- Whom a tick may have to tell of a job that is due soon.
+use Rattle.std.specs.Prelude.{◌≡◌, ℕ, true, ◌&&◌, List, Option, None, Some, if◌then◌else◌}
+use Rattle.object.specs.Lists.{In}
+use Rattle.job_store.specs.declared.job.Job.{Job}
+use Rattle.job_store.specs.Entries.{value_at}
+use Rattle.session_store.specs.declared.session.Session.{Session}
+use Rattle.session_store.specs.Sessions.{is_waiting}
+use Rattle.bean_queue.specs.Queue.{holds_by}
+
+-- the session of this number, if it waits and has a job that is due by this second
+abbrev pub holder_by : ℕ → List (ℕ × Job) → List (ℕ × Session) → ℕ → Option (ℕ × Session)
+holder_by second jobs sessions number =
+    elim (value_at number sessions) [
+      | None ↦ None
+      | Some c ↦ if is_waiting c && holds_by number second jobs then Some (number, c) else None
+    ]
+
+-- each waiting session that has a job due by this second has its number among these
+abbrev pub HasHolders : List ℕ → ℕ → List (ℕ × Job) → List (ℕ × Session) → Type 0
+HasHolders numbers second jobs sessions =
+    (w : ℕ × Session) →
+    In w sessions →
+    is_waiting w.1 ≡ true →
+    holds_by w.0 second jobs ≡ true →
+    In w.0 numbers

@@ -1,0 +1,45 @@
+-- The tubes in which there may be a job for a session that waits, where there was none before.
+use Rattle.std.specs.Prelude.{◌≡◌, ℕ, true, ◌⊎◌, List, [], ◌∷◌, Option, None, Some, filter_map, is_some, if◌then◌else◌}
+use Rattle.object.specs.Lists.{In}
+use Rattle.object.specs.declared.command.Key.{Key}
+use Rattle.job_store.specs.declared.job.Job.{Job}
+use Rattle.job_store.specs.Entries.{value_at}
+use Rattle.job_store.specs.Least.{least}
+use Rattle.job_store.specs.LookUps.{is_among, first_ready, pri_of_job}
+use Rattle.job_store.specs.States.{is_ready}
+use Rattle.session_store.specs.declared.session.Session.{Session}
+use Rattle.session_store.specs.Sessions.{first_waiting}
+use Rattle.bean_queue.specs.declared.op.Op.{Op}
+use Rattle.bean_queue.specs.Best.{IsWanted}
+use Rattle.bean_queue.specs.Queue.{QueueState, used_by, watched_by}
+
+-- each job that a waiting session may have is in one of these tubes
+abbrev pub Covers : List (List ℕ) → QueueState → Type 0
+Covers tubes s = (j : ℕ × Job) → IsWanted s j → In j.1.tube tubes
+
+-- the next ready job of a tube, if a waiting session watches the tube
+abbrev pub offered : List (ℕ × Job) → List (ℕ × Session) → List ℕ → Option (ℕ × Job)
+offered jobs sessions tube =
+    if is_some (first_waiting (λ e. is_among tube e.1.watched) sessions) then first_ready tube jobs else None
+
+-- of the jobs that are offered in these tubes, that of the least (priority, id)
+abbrev pub best_offer : List (ℕ × Job) → List (ℕ × Session) → List (List ℕ) → Option (ℕ × Job)
+best_offer jobs sessions tubes = least (λ e. true) pri_of_job (filter_map (offered jobs sessions) tubes)
+
+-- each job that is ready after, and was not so before, is in one of these tubes
+abbrev pub AreWoken : List (List ℕ) → List (ℕ × Job) → List (ℕ × Job) → Type 0
+AreWoken tubes before after = (j : ℕ × Job) → In j after → is_ready j.1.state ≡ true → In j before ⊎ In j.1.tube tubes
+
+-- the tube of the job that there may be
+abbrev pub tube_of : Option Job → List (List ℕ)
+tube_of None = []
+tube_of (Some job) = job.tube ∷ []
+
+-- the tubes in which an operation may make a job ready, or for which its session begins to wait
+abbrev pub woken_by : Op → Key → QueueState → List (List ℕ)
+woken_by (Op.Put pri delay ttr body) key s = used_by s key.session ∷ []
+woken_by (Op.Reserve seconds) key s = watched_by s key.session
+woken_by (Op.Release id pri delay) key s = tube_of (value_at id s.jobs)
+woken_by (Op.Kick bound) key s = used_by s key.session ∷ []
+woken_by (Op.KickJob id) key s = tube_of (value_at id s.jobs)
+woken_by _ key s = []

@@ -1,0 +1,89 @@
+ghost use Rattle.std.specs.Prelude.{◌≡◌, ◌^◌, ◌&&◌, IfOk, option_map};
+ghost use Rattle.job_store.specs.Entries.{Rising};
+ghost use Rattle.session_store.specs.Sessions.{first_waiting, is_waiting};
+ghost use Rattle.bean_queue.specs.Queue.{holds_by};
+ghost use Rattle.bean_queue.specs.Holders.{holder_by, HasHolders};
+
+use job_store::JobMap;
+use session_store::{Session, first};
+use std::alloc::{AllocError, Global};
+use std::collections::BTreeMap;
+
+/// Whether the session has a job that is due by this second.
+pub fn holds_by<M: JobMap>(jobs: &M, session: u32, second: u64) -> bool
+    ensures { result ≡ holds_by session second (M.entries jobs.now) }
+{
+    match jobs.first_held(session) {
+        Some((_, job)) => job.state.due() <= second,
+        None => false,
+    }
+}
+
+/// Whether the session of this number waits and has a job that is due by this second.
+fn is_holder<M: JobMap>(jobs: &M, number: u32, session: &Session, second: u64) -> bool
+    ensures { result ≡ (is_waiting session.now && holds_by number second (M.entries jobs.now)) }
+{
+    session.wait.is_some() && holds_by(jobs, number, second)
+}
+
+/// The session of this number, if it waits and has a job that is due by this second.
+fn holder_by<'a, M: JobMap>(
+    jobs: &M,
+    sessions: &'a BTreeMap<u32, Session>,
+    number: u32,
+    second: u64,
+) -> Option<(u32, &'a Session)>
+    ensures { option_map (λ e. (e.0, e.1.now)) result
+        ≡ holder_by second (M.entries jobs.now) sessions.now.entries number }
+{
+    let session = sessions.get(&number)?;
+    if is_holder(jobs, number, session, second) {
+        Some((number, session))
+    } else {
+        None
+    }
+}
+
+/// The numbers of the waiting sessions that have a job due by this second. Where no job is due by it, no session is
+/// looked at.
+pub fn holders_by<M: JobMap>(
+    alloc: Global,
+    jobs: &M,
+    sessions: &BTreeMap<u32, Session>,
+    second: u64,
+) -> Result<Vec<u32>, AllocError>
+    ensures { IfOk result
+        (λ numbers. HasHolders numbers.items second (M.entries jobs.now) sessions.now.entries) }
+{
+    let mut numbers = Vec::new(alloc);
+    if jobs.due(second).is_none() {
+        return Ok(numbers);
+    }
+    for (number, session) in sessions {
+        if is_holder(jobs, *number, session, second) {
+            numbers.push(*number)?;
+        }
+    }
+    Ok(numbers)
+}
+
+/// The waiting session of the least rank that has a job due by this second. It is looked for among these numbers.
+pub fn first_holder<'a, M: JobMap>(
+    jobs: &M,
+    sessions: &'a BTreeMap<u32, Session>,
+    numbers: &[u32],
+    second: u64,
+) -> Option<(u32, &'a Session)>
+    requires rising { Rising 0 (2 ^ 32) sessions.now.entries }
+    requires holders { HasHolders numbers.now second (M.entries jobs.now) sessions.now.entries }
+    ensures { option_map (λ e. (e.0, e.1.now)) result
+        ≡ first_waiting (λ e. holds_by e.0 second (M.entries jobs.now)) sessions.now.entries }
+{
+    let mut best = None;
+    for number in numbers {
+        if let Some(holder) = holder_by(jobs, sessions, *number, second) {
+            best = first(best, holder);
+        }
+    }
+    best
+}

@@ -1,0 +1,89 @@
+use indexmap::IndexSet;
+use job_store::{Job, Name};
+use std::collections::BTreeMap;
+
+/// What is looked for among the jobs.
+#[derive(Clone, Copy)]
+pub enum LookUp<'a> {
+    /// Ready, in one of these tubes.
+    ReadyIn(&'a IndexSet<Name>),
+    /// Ready, in this tube.
+    Ready(&'a Name),
+    /// Delayed, in this tube.
+    Delayed(&'a Name),
+    /// Buried, in this tube.
+    Buried(&'a Name),
+    /// Delayed or reserved, and due at this second.
+    Due(u64),
+    /// Reserved by this session.
+    Held(u32),
+}
+
+impl<'a> LookUp<'a> {
+    ghost use Rattle.std.specs.Prelude.{◌≡◌, ℕ, option_map, Some, IfSome, IfNone};
+    ghost use Rattle.job_store.specs.Least.{least, comes_before, first_of, IsLeast, NonePasses};
+    ghost use Rattle.bean_queue.specs.Searches.{passes, number};
+
+    /// Whether the job, under whatever id, is one that is looked for.
+    fn passes(&self, job: &Job) -> bool
+        ensures { (id : ℕ) → result ≡ passes self.now (id, job.now) }
+    {
+        match self {
+            LookUp::ReadyIn(tubes) => job.state.is_ready() && tubes.contains(&job.tube),
+            LookUp::Ready(tube) => job.state.is_ready() && job.tube == **tube,
+            LookUp::Delayed(tube) => job.state.is_delayed() && **tube == job.tube,
+            LookUp::Buried(tube) => job.state.is_buried() && **tube == job.tube,
+            LookUp::Due(second) => job.state.is_due(*second),
+            LookUp::Held(session) => job.state.is_held_by(*session),
+        }
+    }
+
+    /// The number of which the least is looked for.
+    fn number(&self, job: &Job) -> u64
+        ensures { result ≡ number self.now job.now }
+    {
+        match self {
+            LookUp::ReadyIn(_) | LookUp::Ready(_) => u64::from(job.pri),
+            LookUp::Delayed(_) | LookUp::Due(_) | LookUp::Held(_) => job.state.due(),
+            LookUp::Buried(_) => job.state.rank(),
+        }
+    }
+
+    /// Whether the pair of number and id of the first of two entries is the smaller.
+    fn comes_before(&self, a: (u64, &Job), b: (u64, &Job)) -> bool
+        ensures { result ≡ comes_before (number self.now) (a.entry.0, a.entry.1.now)
+            (b.entry.0, b.entry.1.now) }
+    {
+        let (number, other) = (self.number(a.1), self.number(b.1));
+        number < other || number == other && a.0 < b.0
+    }
+
+    /// Of the least entry so far and one more, the one that comes first.
+    fn first_of<'b>(&self, least: Option<(u64, &'b Job)>, other: (u64, &'b Job)) -> (u64, &'b Job)
+        ensures { Some (result.0, result.1.now)
+            ≡ first_of (number self.now) (option_map (λ e. (e.0, e.1.now)) least.entry)
+            (Some (other.entry.0, other.entry.1.now)) }
+    {
+        match least {
+            Some(least) if !self.comes_before(other, least) => least,
+            _ => other,
+        }
+    }
+
+    /// The entry with the least pair of number and id among those that are looked for.
+    pub fn least<'b>(&self, jobs: &'b BTreeMap<u64, Job>) -> Option<(u64, &'b Job)>
+        ensures job { option_map (λ e. (e.0, e.1.now)) result
+            ≡ least (passes self.now) (number self.now) jobs.now.entries }
+        ensures found { IfSome result
+            (λ e. IsLeast (passes self.now) (number self.now) jobs.now.entries (e.0, e.1.now)) }
+        ensures none { IfNone result (NonePasses (passes self.now) jobs.now.entries) }
+    {
+        let mut least = None;
+        for (id, job) in jobs {
+            if self.passes(job) {
+                least = Some(self.first_of(least, (*id, job)));
+            }
+        }
+        least
+    }
+}

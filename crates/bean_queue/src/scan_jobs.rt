@@ -1,0 +1,98 @@
+use crate::look_up::LookUp;
+use indexmap::IndexSet;
+use job_store::{Job, JobMap, LoggedJobs, Name, State};
+use std::alloc::{AllocError, Global};
+use std::collections::BTreeMap;
+use std::marker::Model;
+
+/// A map of jobs that goes over all of them to find one. Outside of this crate it has no name but in `PlainQueue`.
+#[derive(Drop)]
+pub struct ScanJobs {
+    jobs: LoggedJobs,
+}
+
+impl Model for ScanJobs {
+    ghost use Rattle.job_store.specs.Undone.{MapState};
+
+    ghost Value = { MapState };
+
+    ghost view = { λ m. m.jobs };
+}
+
+impl JobMap for ScanJobs {
+    ghost entries = { λ m. m.jobs };
+
+    ghost before = { λ m. m.before };
+
+    fn new(alloc: Global) -> Self {
+        ScanJobs {
+            jobs: LoggedJobs::new(alloc),
+        }
+    }
+
+    fn copy(&self) -> Result<Self, AllocError> {
+        Ok(ScanJobs {
+            jobs: self.jobs.copy()?,
+        })
+    }
+
+    fn begin(&mut self) {
+        self.jobs.begin();
+    }
+
+    fn commit(&mut self) {
+        self.jobs.commit();
+    }
+
+    fn roll_back(&mut self) {
+        self.jobs.roll_back();
+    }
+
+    fn by_id(&self) -> &BTreeMap<u64, Job> {
+        self.jobs.by_id()
+    }
+
+    fn get(&self, id: u64) -> Option<&Job> {
+        self.jobs.get(id)
+    }
+
+    fn insert(&mut self, id: u64, job: Job) -> Result<(), AllocError> {
+        self.jobs.insert(id, job)
+    }
+
+    fn set_state(&mut self, id: u64, state: State) -> Result<(), AllocError> {
+        self.jobs.set_state(id, state)
+    }
+
+    fn set(&mut self, id: u64, pri: u32, state: State) -> Result<(), AllocError> {
+        self.jobs.set(id, pri, state)
+    }
+
+    fn remove(&mut self, id: u64) -> Option<Job> {
+        self.jobs.remove(id)
+    }
+
+    fn best_ready(&self, tubes: &IndexSet<Name>) -> Option<(u64, &Job)> {
+        LookUp::ReadyIn(tubes).least(self.jobs.by_id())
+    }
+
+    fn first_ready(&self, tube: &Name) -> Option<(u64, &Job)> {
+        LookUp::Ready(tube).least(self.jobs.by_id())
+    }
+
+    fn first_delayed(&self, tube: &Name) -> Option<(u64, &Job)> {
+        LookUp::Delayed(tube).least(self.jobs.by_id())
+    }
+
+    fn first_buried(&self, tube: &Name) -> Option<(u64, &Job)> {
+        LookUp::Buried(tube).least(self.jobs.by_id())
+    }
+
+    fn due(&self, second: u64) -> Option<(u64, &Job)> {
+        LookUp::Due(second).least(self.jobs.by_id())
+    }
+
+    fn first_held(&self, session: u32) -> Option<(u64, &Job)> {
+        LookUp::Held(session).least(self.jobs.by_id())
+    }
+}

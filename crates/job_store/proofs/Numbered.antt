@@ -1,0 +1,73 @@
+-- Places by numbers of any kind, seen as places by numbers alone.
+use Rattle.std.proofs.Common.{◌≡◌, ℕ, true, false, cond, not, ◌&&◌, ◌∙◌, inl, inr, List, [], ◌∷◌, map, refl, sym, ap, ap₂, subst, ◌||◌, Less, Equal, Greater, nat_cmp, Ordering}
+use Rattle.std.proofs.lemmas.Bool.{both_ways}
+use Rattle.std.proofs.lemmas.List.Kept.{IsStrictlySortedBy-filter}
+use Rattle.std.specs.Ordering.{ordering_then, match_ordering, is_eq, is_le}
+use Rattle.std.specs.List.Sorted.{IsStrictlySortedBy}
+use Rattle.std.specs.List.{AllByRecursion, filter, list_any}
+use Rattle.std.specs.declared.ops.Bound.TheVariants.{Included, Unbounded}
+use Rattle.std.specs.BTreeMap.{is_at}
+use Rattle.std.specs.BTreeMap.Range.{range_contains}
+use Rattle.std.specs.BTreeSet.{insert_key}
+use Rattle.std.specs.Set.{remove_key}
+use Rattle.object.specs.Lists.{In}
+use Rattle.job_store.specs.ShelfStates.{place_of, IsFrom}
+use Rattle.job_store.proofs.Places.{place_cmp, from-le}
+
+module _ {N : Type 0} (cmp : N → N → Ordering) (value : N → ℕ) (law : (x y : N) → cmp x y ≡ nat_cmp (value x) (value y)) where
+  abbrev pub pair_cmp : N × ℕ → N × ℕ → Ordering
+  pair_cmp p q = ordering_then (cmp p.0 q.0) (nat_cmp p.1 q.1)
+
+  as_places : (p q : N × ℕ) → pair_cmp p q ≡ place_cmp (place_of value p) (place_of value q)
+  as_places p q = ap (λ o. ordering_then o (nat_cmp p.1 q.1)) (law p.0 q.0)
+
+  pub put-of : (k : N × ℕ) (ks : List (N × ℕ)) → map (place_of value) (insert_key pair_cmp ks k) ≡ insert_key place_cmp (map (place_of value) ks) (place_of value k)
+  put-of k [] = refl
+  put-of k (x ∷ xs) =
+      subst (λ o. map (place_of value) (insert_key pair_cmp (x ∷ xs) k) ≡ match_ordering o (place_of value k ∷ map (place_of value) (x ∷ xs)) (map (place_of value) (x ∷ xs)) (place_of value x ∷ insert_key place_cmp (map (place_of value) xs) (place_of value k))) (as_places k x)
+      (elim (pair_cmp k x) as (λ o. map (place_of value) (match_ordering o (k ∷ x ∷ xs) (x ∷ xs) (x ∷ insert_key pair_cmp xs k)) ≡ match_ordering o (place_of value k ∷ map (place_of value) (x ∷ xs)) (map (place_of value) (x ∷ xs)) (place_of value x ∷ insert_key place_cmp (map (place_of value) xs) (place_of value k))) [
+        | Less ↦ refl
+        | Equal ↦ refl
+        | Greater ↦ ap (λ zs. place_of value x ∷ zs) (put-of k xs)
+      ])
+
+  pub taken-of : (k : N × ℕ) (ks : List (N × ℕ)) → map (place_of value) (remove_key (is_at (pair_cmp k)) ks) ≡ remove_key (is_at (place_cmp (place_of value k))) (map (place_of value) ks)
+  taken-of k [] = refl
+  taken-of k (x ∷ xs) =
+      subst (λ o. map (place_of value) (remove_key (is_at (pair_cmp k)) (x ∷ xs)) ≡ cond (is_eq o) (map (place_of value) xs) (place_of value x ∷ remove_key (is_at (place_cmp (place_of value k))) (map (place_of value) xs))) (as_places k x)
+      (elim (is_eq (pair_cmp k x)) as (λ b. map (place_of value) (cond b xs (x ∷ remove_key (is_at (pair_cmp k)) xs)) ≡ cond b (map (place_of value) xs) (place_of value x ∷ remove_key (is_at (place_cmp (place_of value k))) (map (place_of value) xs))) [
+        | true ↦ refl
+        | false ↦ ap (λ zs. place_of value x ∷ zs) (taken-of k xs)
+      ])
+
+  pub gone-of : (k : N × ℕ) (ks : List (N × ℕ)) → list_any (is_at (place_cmp (place_of value k))) (map (place_of value) ks) ≡ list_any (is_at (pair_cmp k)) ks
+  gone-of k [] = refl
+  gone-of k (x ∷ xs) = ap₂ (λ a b. a || b) (ap is_eq (sym (as_places k x))) (gone-of k xs)
+
+  after-of : (x : N × ℕ) (xs : List (N × ℕ)) → AllByRecursion (λ y. pair_cmp x y ≡ Less) xs → AllByRecursion (λ y. place_cmp (place_of value x) y ≡ Less) (map (place_of value) xs)
+  after-of x [] a = a
+  after-of x (y ∷ ys) a = (sym (as_places x y) ∙ a.0, after-of x ys a.1)
+
+  sorted-of : (ks : List (N × ℕ)) → IsStrictlySortedBy pair_cmp ks → IsStrictlySortedBy place_cmp (map (place_of value) ks)
+  unfolding IsStrictlySortedBy
+  sorted-of [] s = s
+  sorted-of (x ∷ xs) s = (after-of x xs s.0, sorted-of xs s.1)
+
+  -- the places from one on
+
+  pub ranged-of : (from : N × ℕ) (p : ℕ × ℕ) (ks : List (N × ℕ)) → In p (map (place_of value) ks) → IsFrom (place_of value from) p → In p (map (place_of value) (filter (range_contains pair_cmp (Included from) Unbounded) ks))
+  ranged-of from p [] i h = i
+  ranged-of from p (x ∷ xs) i h =
+      let rest = filter (range_contains pair_cmp (Included from) Unbounded) xs in
+      elim (is_le (pair_cmp from x)) as (λ b. is_le (pair_cmp from x) ≡ b → In p (map (place_of value) (cond (b && not false) (x ∷ rest) rest))) [
+        | true ↦ λ b. elim i as (λ i. In p (place_of value x ∷ map (place_of value) rest)) [ inl here ↦ inl here | inr later ↦ inr (ranged-of from p xs later h) ]
+        | false ↦ λ b. elim i as (λ i. In p (map (place_of value) rest)) [
+          | inl here ↦ absurd (both_ways (is_le (pair_cmp from x)) b (ap is_le (as_places from x) ∙ from-le (place_of value from) (place_of value x) (subst (IsFrom (place_of value from)) here h)))
+          | inr later ↦ ranged-of from p xs later h
+        ]
+      ] refl
+
+  pub ranged-sorted : (from : N × ℕ) (ks : List (N × ℕ)) → IsStrictlySortedBy pair_cmp ks → IsStrictlySortedBy place_cmp (map (place_of value) (filter (range_contains pair_cmp (Included from) Unbounded) ks))
+  ranged-sorted from ks s =
+      let test = range_contains pair_cmp (Included from) Unbounded in
+      sorted-of (filter test ks) (IsStrictlySortedBy-filter pair_cmp test ks s)

@@ -1,0 +1,10 @@
+use Rattle.std.proofs.Common.{inl}
+use Rattle.job_store.proofs.Following.{kept-ended}
+use Rattle.job_store.proofs.jobs.JobsJobMap.commit.Goals as goal
+
+pub sweep-requires-clause-ahead : goal.sweep-requires-clause-ahead
+sweep-requires-clause-ahead c e i = inl (c.self.invariant.ahead e i)
+
+pub invariant_of-self : goal.invariant_of-self
+invariant_of-self c =
+    kept-ended c.sweep.new.shelves c.self.inside.jobs c.commit.new.self c.commit.ensures.jobs c.commit.ensures.before c.sweep.ensures.rising c.sweep.ensures.placed c.sweep.ensures.ahead c.sweep.ensures.known c.sweep.ensures.listed

@@ -1,0 +1,24 @@
+use Rattle.std.proofs.Common.{rules, ◌≡◌, [], subst, sym}
+use Rattle.job_store.proofs.Shelving.{ArePut, none-put, one-put, all-put}
+use Rattle.job_store.proofs.shelves.Shelves.of.Goals as goal
+
+pub loop-id-init : goal.loop-id-init
+loop-id-init c =
+    let all : c.into_iter-id-iterator.result ≡ c.args.jobs.now.entries = search rules in
+    subst (λ rest. ArePut c.new-shelves.result rest c.args.jobs.now.entries) (sym all)
+    (none-put c.new-shelves.result c.args.jobs.now.entries c.new-shelves.ensures.shelves c.new-shelves.ensures.listed)
+
+pub loop-id-preserved : goal.loop-id-preserved
+loop-id-preserved c =
+    one-put c.loop-id.shelves c.put_everywhere.new.self (c.in-Some.id.now, c.in-Some.job.now) c.loop-id.id-iterator c.next.new.self c.args.jobs.now.entries (search rules)
+    c.in_ok-put_everywhere.ensures.placed c.in_ok-put_everywhere.ensures.ahead c.in_ok-put_everywhere.ensures.put c.loop-id.invariant
+
+pub returns-clause-placed : goal.returns-clause-placed
+returns-clause-placed c =
+    let none : c.loop-id.id-iterator ≡ [] = search rules in
+    (all-put c.loop-id.shelves c.args.jobs.now.entries (subst (λ rest. ArePut c.loop-id.shelves rest c.args.jobs.now.entries) none c.loop-id.invariant)).0
+
+pub returns-clause-ahead : goal.returns-clause-ahead
+returns-clause-ahead c =
+    let none : c.loop-id.id-iterator ≡ [] = search rules in
+    (all-put c.loop-id.shelves c.args.jobs.now.entries (subst (λ rest. ArePut c.loop-id.shelves rest c.args.jobs.now.entries) none c.loop-id.invariant)).1

@@ -1,0 +1,143 @@
+-- On which shelf a job stands, and where.
+use Rattle.std.specs.Prelude.{◌≡◌, ◌^◌, ℕ, Bool, true, ◌&&◌, ◌⊎◌, ◌==◌, List, [], IfSome, IfNone, bytes_eq}
+use Rattle.std.specs.Ordering.{nat_cmp}
+use Rattle.object.specs.Lists.{In}
+use Rattle.job_store.specs.declared.job.Job.{Job}
+use Rattle.job_store.specs.declared.label.Label.{Label}
+use Rattle.job_store.specs.declared.shelves.Shelves.{Shelves}
+use Rattle.job_store.specs.Entries.{Rising}
+use Rattle.job_store.specs.Undone.{MapState}
+use Rattle.job_store.specs.States.{is_ready, is_scheduled}
+use Rattle.job_store.specs.LookUps.{delayed_in, buried_in, held_by, pri_of_job, due_of_job, rank_of_job}
+use Rattle.job_store.specs.ShelfStates.{ShelfState, IsFrom, IsFound}
+use Rattle.job_store.specs.Racks.{shelf_at, name_cmp}
+
+-- whether a job belongs on the shelf
+abbrev pub belongs : Label → ℕ × Job → Bool
+belongs (Label.Ready tube) e = is_ready e.1.state && bytes_eq tube.now e.1.tube
+belongs (Label.Delayed tube) e = delayed_in tube.now e
+belongs (Label.Buried tube) e = buried_in tube.now e
+belongs (Label.Held x) e = held_by x e
+belongs Label.Scheduled e = is_scheduled e.1.state
+
+-- the number by which the shelf is ordered
+abbrev pub number : Label → Job → ℕ
+number (Label.Ready tube) job = pri_of_job job
+number (Label.Delayed tube) job = due_of_job job
+number (Label.Buried tube) job = rank_of_job job
+number (Label.Held x) job = due_of_job job
+number Label.Scheduled job = due_of_job job
+
+-- the job belongs at this place of the shelf
+abbrev pub BelongsAt : Label → ℕ × ℕ → ℕ × Job → Type 0
+BelongsAt label p e = (belongs label e ≡ true) × (p ≡ (number label e.1, e.0))
+
+-- whether it does
+abbrev pub belongs_at : Label → ℕ × ℕ → ℕ × Job → Bool
+belongs_at label p e = belongs label e && number label e.1 == p.0 && e.0 == p.1
+
+-- a look-up of the shelf finds each of the jobs that belongs there
+abbrev pub AreAllFound : Label → ShelfState → List (ℕ × Job) → Type 0
+AreAllFound label s jobs = (p : ℕ × ℕ) (e : ℕ × Job) → In e jobs → BelongsAt label p e → IsFound s p
+
+-- no job that a look-up of the shelf finds stands before this place
+abbrev pub IsPassed : Label → List (ℕ × Job) → ShelfState → ℕ × ℕ → Type 0
+IsPassed label jobs s place = (p : ℕ × ℕ) (e : ℕ × Job) → In e jobs → BelongsAt label p e → IsFound s p → IsFrom place p
+
+-- the places are the same, and look-ups begin after none of the jobs that they found
+pub record HasMovedOn (label : Label) (jobs : List (ℕ × Job)) (old new : ShelfState) : Type 0 where
+  pub places : new.places ≡ old.places
+  pub passed : IsPassed label jobs old new.from
+
+-- the shelf with this label
+abbrev pub shelf : Shelves → Label → ShelfState
+shelf s (Label.Ready tube) = shelf_at name_cmp s.ready.shelves tube.now
+shelf s (Label.Delayed tube) = shelf_at name_cmp s.delayed.shelves tube.now
+shelf s (Label.Buried tube) = shelf_at name_cmp s.buried.shelves tube.now
+shelf s (Label.Held x) = shelf_at nat_cmp s.held.shelves x
+shelf s Label.Scheduled = s.scheduled
+
+-- the places on it
+abbrev pub places : Shelves → Label → List (ℕ × ℕ)
+places s label = (shelf s label).places
+
+-- the job stands on each shelf on which it belongs
+abbrev pub HasPlaces : Shelves → ℕ × Job → Type 0
+HasPlaces s e = (label : Label) (p : ℕ × ℕ) → BelongsAt label p e → In p (places s label)
+
+-- each of the jobs does
+abbrev pub HavePlaces : Shelves → List (ℕ × Job) → Type 0
+HavePlaces s jobs = (e : ℕ × Job) → In e jobs → HasPlaces s e
+
+-- the job belongs nowhere before the place at which look-ups begin
+abbrev pub IsAhead : Shelves → ℕ × Job → Type 0
+IsAhead s e = (label : Label) (p : ℕ × ℕ) → BelongsAt label p e → IsFrom (shelf s label).from p
+
+-- none of the jobs belongs there
+abbrev pub AreAhead : Shelves → List (ℕ × Job) → Type 0
+AreAhead s jobs = (e : ℕ × Job) → In e jobs → IsAhead s e
+
+-- the job is listed, as one whose places may have to go
+abbrev pub IsListed : Shelves → ℕ × Job → Type 0
+IsListed s e = In e s.listed.items
+
+-- each of the jobs is ahead so, or listed
+abbrev pub AreAheadOrListed : Shelves → List (ℕ × Job) → Type 0
+AreAheadOrListed s jobs = (e : ℕ × Job) → In e jobs → IsAhead s e ⊎ IsListed s e
+
+-- at each place belongs one of the jobs, or one that is listed
+abbrev pub AreKnown : Shelves → List (ℕ × Job) → Type 0
+AreKnown s jobs = (label : Label) (p : ℕ × ℕ) → In p (places s label) → (e : ℕ × Job) × BelongsAt label p e × (In e jobs ⊎ IsListed s e)
+
+-- look-ups of each shelf begin nowhere later
+abbrev pub BeginNoLater : Shelves → Shelves → Type 0
+BeginNoLater old new = (label : Label) (p : ℕ × ℕ) → IsFrom (shelf old label).from p → IsFrom (shelf new label).from p
+
+-- places more, at which the job belongs
+pub record HasPut (old new : Shelves) (e : ℕ × Job) : Type 0 where
+  pub keeps : (label : Label) (p : ℕ × ℕ) → In p (places old label) → In p (places new label)
+  pub only : (label : Label) (p : ℕ × ℕ) → In p (places new label) → In p (places old label) ⊎ BelongsAt label p e
+  pub ahead : BeginNoLater old new
+  pub lists : new.listed.items ≡ old.listed.items
+
+-- places less, where none of the jobs belongs
+pub record HasTaken (old new : Shelves) (jobs : List (ℕ × Job)) : Type 0 where
+  pub keeps : (label : Label) (p : ℕ × ℕ) (e : ℕ × Job) → In e jobs → BelongsAt label p e → In p (places old label) → In p (places new label)
+  pub only : (label : Label) (p : ℕ × ℕ) → In p (places new label) → In p (places old label)
+  pub ahead : BeginNoLater old new
+  pub lists : new.listed.items ≡ old.listed.items
+
+-- the same places, and look-ups begin after none of the jobs that they found
+pub record HasSettled (old new : Shelves) (jobs : List (ℕ × Job)) : Type 0 where
+  pub shelves : (label : Label) → HasMovedOn label jobs (shelf old label) (shelf new label)
+  pub lists : new.listed.items ≡ old.listed.items
+
+-- there are places and listed jobs more, and those jobs are listed that belong at the places
+pub record HasGrown (old new : Shelves) : Type 0 where
+  pub keeps : (label : Label) (p : ℕ × ℕ) → In p (places old label) → In p (places new label)
+  pub lists : (e : ℕ × Job) → IsListed old e → IsListed new e
+  pub only : (label : Label) (p : ℕ × ℕ) → In p (places new label) → In p (places old label) ⊎ ((e : ℕ × Job) × BelongsAt label p e × IsListed new e)
+  pub ahead : BeginNoLater old new
+
+-- the job stands where it belongs, look-ups find it there, and it is listed
+pub record HasCome (s : Shelves) (e : ℕ × Job) : Type 0 where
+  pub placed : HasPlaces s e
+  pub ahead : IsAhead s e
+  pub listed : IsListed s e
+
+-- after a change of the jobs those that went are listed, and those that came are found and listed
+pub record HasFollowed (s : Shelves) (old new : List (ℕ × Job)) : Type 0 where
+  pub went : (e : ℕ × Job) → In e old → In e new ⊎ IsListed s e
+  pub came : (e : ℕ × Job) → In e new → In e old ⊎ HasCome s e
+
+-- The jobs have their places, and look-ups find them there. The jobs before the trial have theirs too. At each place
+-- belongs one of the jobs or a listed one. What came or went in the trial is listed, and outside a trial nothing is.
+pub record IsKept (s : Shelves) (state : MapState) : Type 0 where
+  pub rising : Rising 0 (2 ^ 64) state.jobs
+  pub placed : HavePlaces s state.jobs
+  pub ahead : AreAhead s state.jobs
+  pub known : AreKnown s state.jobs
+  pub placed_before : IfSome state.before (HavePlaces s)
+  pub came : IfSome state.before (λ before. (e : ℕ × Job) → In e state.jobs → In e before ⊎ IsListed s e)
+  pub went : IfSome state.before (λ before. (e : ℕ × Job) → In e before → In e state.jobs ⊎ IsListed s e)
+  pub none_listed : IfNone state.before (s.listed.items ≡ [])

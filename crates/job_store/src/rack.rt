@@ -1,0 +1,153 @@
+ghost use Rattle.std.specs.Prelude.{◌≡◌, ◌^◌, [], true, map, IfOk, OnOk, IfSome, IfNone, option_map};
+ghost use Rattle.job_store.specs.Entries.{Rising};
+ghost use Rattle.job_store.specs.Least.{IsLeast, NonePasses, least};
+ghost use Rattle.job_store.specs.ShelfStates.{bare, place_of, IsFound, HasGained, HasLost, HasReached};
+ghost use Rattle.job_store.specs.Shelves.{belongs, number, AreAllFound, HasMovedOn};
+ghost use Rattle.job_store.specs.Racks.{shelf_at, AreOthersKept};
+
+use crate::job::Job;
+use crate::label::Label;
+use crate::name::Name;
+use crate::shelf::Shelf;
+use crate::shelf_number::ShelfNumber;
+use object::Value;
+use std::alloc::{AllocError, Global};
+use std::collections::{BTreeMap, BTreeSet};
+
+/// What shelves are told apart by.
+pub trait ShelfName: Ord + Drop + Sized {
+    /// The same name once more.
+    fn copy_name(&self) -> Result<Self, AllocError>
+        ensures { IfOk result (λ name. name ≡ self.now) };
+
+    ghost exact: { (x y : Self) → Self.eq x y ≡ true → x ≡ y };
+}
+
+impl ShelfName for Name {
+    ghost use Rattle.std.proofs.Common.{rules};
+    ghost use Rattle.std.proofs.lemmas.Grind.{common_steps};
+
+    ghost exact = { Prim.grind (rules, common_steps) };
+
+    fn copy_name(&self) -> Result<Self, AllocError> {
+        self.copy()
+    }
+}
+
+impl ShelfName for u32 {
+    ghost use Rattle.std.proofs.Common.{eqb-true};
+
+    ghost exact = { eqb-true };
+
+    fn copy_name(&self) -> Result<Self, AllocError> {
+        Ok(*self)
+    }
+}
+
+/// Shelves by name, as by tube or by session. A shelf is there while it has a place.
+#[derive(Drop)]
+pub struct Rack<K: ShelfName, N: ShelfNumber> {
+    pub alloc: Global,
+    pub shelves: BTreeMap<K, Shelf<N>>,
+}
+
+impl<K: ShelfName, N: ShelfNumber> Rack<K, N> {
+    /// No shelves.
+    pub fn new(alloc: Global) -> Rack<K, N>
+        ensures { (k : K) → shelf_at K.cmp result.shelves k ≡ bare }
+    {
+        Rack {
+            alloc,
+            shelves: BTreeMap::new(alloc),
+        }
+    }
+
+    /// Adds a place to a shelf, unless it is there.
+    pub fn put(&mut self, key: &K, number: N, id: u64) -> Result<(), AllocError>
+        ensures ok { OnOk result (IsFound (shelf_at K.cmp self.new.shelves key.now) (N.value number, id)) }
+        ensures gained { HasGained (shelf_at K.cmp self.old.shelves key.now)
+            (shelf_at K.cmp self.new.shelves key.now) (N.value number, id) }
+        ensures others { AreOthersKept K.cmp key.now self.old.shelves self.new.shelves }
+    {
+        if let Some(shelf) = self.shelves.get_mut(key) {
+            shelf.put(number, id)?;
+            return Ok(());
+        }
+        let mut shelf = Shelf::new(self.alloc);
+        shelf.put(number, id)?;
+        self.shelves.insert(key.copy_name()?, shelf)?;
+        Ok(())
+    }
+
+    /// Takes a place from a shelf, if it is there.
+    pub fn take(&mut self, key: &K, number: N, id: u64)
+        ensures lost { HasLost (shelf_at K.cmp self.old.shelves key.now)
+            (shelf_at K.cmp self.new.shelves key.now) (N.value number, id) }
+        ensures others { AreOthersKept K.cmp key.now self.old.shelves self.new.shelves }
+    {
+        let Some(shelf) = self.shelves.get_mut(key) else {
+            return;
+        };
+        shelf.take(number, id);
+        if shelf.is_empty() {
+            self.shelves.remove(key);
+        }
+    }
+
+    /// Lets look-ups of a shelf begin at a place, if they begin after it.
+    pub fn reach(&mut self, key: &K, number: N, id: u64)
+        ensures reached { HasReached (shelf_at K.cmp self.old.shelves key.now)
+            (shelf_at K.cmp self.new.shelves key.now) (N.value number, id) }
+        ensures others { AreOthersKept K.cmp key.now self.old.shelves self.new.shelves }
+    {
+        if let Some(shelf) = self.shelves.get_mut(key) {
+            shelf.reach(number, id);
+        }
+    }
+
+    /// Lets look-ups of a shelf begin after the places that were left, as far as the first job stands behind them.
+    pub fn settle(&mut self, key: &K, label: Label, jobs: &BTreeMap<u64, Job>)
+        requires { Rising 0 (2 ^ 64) jobs.now.entries }
+        ensures moved_on { HasMovedOn label.entry jobs.now.entries
+            (shelf_at K.cmp self.old.shelves key.now) (shelf_at K.cmp self.new.shelves key.now) }
+        ensures others { AreOthersKept K.cmp key.now self.old.shelves self.new.shelves }
+    {
+        if let Some(shelf) = self.shelves.get_mut(key) {
+            shelf.settle(label, jobs);
+        }
+    }
+
+    /// The places on a shelf, if there are any.
+    pub fn places(&self, key: &K) -> Option<&BTreeSet<(N, u64)>>
+        ensures some { IfSome result (λ set. map (place_of N.value) set.now.keys
+            ≡ (shelf_at K.cmp self.now.shelves key.now).places) }
+        ensures filled { IfSome result (λ set. set.now.keys ≡ [] → ⊥) }
+        ensures none { IfNone result ((shelf_at K.cmp self.now.shelves key.now).places ≡ []) }
+    {
+        match self.shelves.get(key) {
+            Some(shelf) if !shelf.places().is_empty() => Some(shelf.places()),
+            _ => None,
+        }
+    }
+
+    /// The first of the jobs that belong on a shelf, where a look-up finds all of them.
+    pub fn first<'a>(
+        &self,
+        key: &K,
+        label: Label,
+        jobs: &'a BTreeMap<u64, Job>,
+    ) -> Option<(u64, &'a Job)>
+        requires rising { Rising 0 (2 ^ 64) jobs.now.entries }
+        requires all { AreAllFound label (shelf_at K.cmp self.now.shelves key.now) jobs.now.entries }
+        ensures job { option_map (λ e. (e.0, e.1.now)) result
+            ≡ least (belongs label.entry) (number label.entry) jobs.now.entries }
+        ensures found { IfSome result
+            (λ e. IsLeast (belongs label.entry) (number label.entry) jobs.now.entries (e.0, e.1.now)) }
+        ensures none { IfNone result (NonePasses (belongs label.entry) jobs.now.entries) }
+    {
+        match self.shelves.get(key) {
+            Some(shelf) => shelf.first(label, jobs),
+            None => None,
+        }
+    }
+}

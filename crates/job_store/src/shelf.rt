@@ -1,0 +1,124 @@
+ghost use Rattle.std.specs.Prelude.{◌≡◌, ◌^◌, ℕ, true, map, OnOk, IfSome, IfNone, option_map};
+ghost use Rattle.object.specs.Lists.{In};
+ghost use Rattle.job_store.specs.Entries.{Rising};
+ghost use Rattle.job_store.specs.Least.{IsLeast, NonePasses, least};
+ghost use Rattle.job_store.specs.ShelfStates.{bare, place_of, IsFound, HasGained, HasLost, HasReached};
+ghost use Rattle.job_store.specs.Shelves.{belongs, number, AreAllFound, IsPassed, HasMovedOn};
+
+use crate::job::Job;
+use crate::label::Label;
+use crate::shelf_number::ShelfNumber;
+use std::alloc::{AllocError, Global};
+use std::cmp::min;
+use std::collections::{BTreeMap, BTreeSet};
+use std::marker::Model;
+
+/// Places of jobs in their order. A place is a number, as the second that is due, and the id of a job.
+///
+/// A job may stand at places that it has left. So who looks for a job asks the map of jobs what stands at a place.
+/// Before `from` there are left places alone, so a look-up begins there.
+#[derive(Drop)]
+pub struct Shelf<N: ShelfNumber> {
+    places: BTreeSet<(N, u64)>,
+    from: (N, u64),
+}
+
+impl<N: ShelfNumber> Model for Shelf<N> {
+    ghost use Rattle.std.specs.Prelude.{map};
+    ghost use Rattle.job_store.specs.ShelfStates.{ShelfState, place_of};
+
+    ghost Value = { ShelfState };
+
+    ghost view = { λ s. record { places = map (place_of N.value) s.places.keys; from = place_of N.value s.from } };
+}
+
+impl<N: ShelfNumber> Shelf<N> {
+    /// A shelf where nothing stands.
+    pub fn new(alloc: Global) -> Shelf<N>
+        ensures { result ≡ bare }
+    {
+        Shelf {
+            places: BTreeSet::new(alloc),
+            from: (N::zero(), 0),
+        }
+    }
+
+    /// Adds a place, unless it is there.
+    pub fn put(&mut self, number: N, id: u64) -> Result<(), AllocError>
+        ensures ok { OnOk result (IsFound self.new (N.value number, id)) }
+        ensures gained { HasGained self.old self.new (N.value number, id) }
+    {
+        self.places.insert((number, id))?;
+        self.reach(number, id);
+        Ok(())
+    }
+
+    /// Takes a place out, if it is there.
+    pub fn take(&mut self, number: N, id: u64)
+        ensures { HasLost self.old self.new (N.value number, id) }
+    {
+        self.places.remove(&(number, id));
+    }
+
+    /// Lets look-ups begin at a place, if they begin after it.
+    pub fn reach(&mut self, number: N, id: u64)
+        ensures { HasReached self.old self.new (N.value number, id) }
+    {
+        self.from = min(self.from, (number, id));
+    }
+
+    /// Lets look-ups begin after the places that were left, as far as the first job stands behind them.
+    pub fn settle(&mut self, label: Label, jobs: &BTreeMap<u64, Job>)
+        requires { Rising 0 (2 ^ 64) jobs.now.entries }
+        ensures { HasMovedOn label.entry jobs.now.entries self.old self.new }
+    {
+        self.from = self.front(label, jobs);
+    }
+
+    /// The first place at which a job stands, or the last one where there is no job.
+    fn front(&self, label: Label, jobs: &BTreeMap<u64, Job>) -> (N, u64)
+        requires { Rising 0 (2 ^ 64) jobs.now.entries }
+        ensures { IsPassed label.entry jobs.now.entries self.now (place_of N.value result) }
+    {
+        let mut front = self.from;
+        for place in self.places.range(self.from..) {
+            front = *place;
+            if label.job_at(jobs, place.0.wide(), place.1).is_some() {
+                break;
+            }
+        }
+        front
+    }
+
+    /// Whether nothing stands on the shelf.
+    pub fn is_empty(&self) -> bool
+        ensures { result ≡ true → (p : ℕ × ℕ) → In p self.now.places → ⊥ }
+    {
+        self.places.is_empty()
+    }
+
+    /// All places.
+    pub fn places(&self) -> &BTreeSet<(N, u64)>
+        ensures { map (place_of N.value) result.now.keys ≡ self.now.places }
+    {
+        &self.places
+    }
+
+    /// The first of the jobs that belong on the shelf, where a look-up finds all of them.
+    pub fn first<'a>(&self, label: Label, jobs: &'a BTreeMap<u64, Job>) -> Option<(u64, &'a Job)>
+        requires rising { Rising 0 (2 ^ 64) jobs.now.entries }
+        requires all { AreAllFound label self.now jobs.now.entries }
+        ensures job { option_map (λ e. (e.0, e.1.now)) result
+            ≡ least (belongs label.entry) (number label.entry) jobs.now.entries }
+        ensures found { IfSome result
+            (λ e. IsLeast (belongs label.entry) (number label.entry) jobs.now.entries (e.0, e.1.now)) }
+        ensures none { IfNone result (NonePasses (belongs label.entry) jobs.now.entries) }
+    {
+        for place in self.places.range(self.from..) {
+            if let Some(job) = label.job_at(jobs, place.0.wide(), place.1) {
+                return Some((place.1, job));
+            }
+        }
+        None
+    }
+}

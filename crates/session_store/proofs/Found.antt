@@ -1,0 +1,74 @@
+-- The least of what a list gives.
+use Rattle.std.proofs.Common.{◌≡◌, ℕ, Bool, true, false, cond, inl, inr, List, [], ◌∷◌, Option, Some, None, IfSome, IfNone, filter, filter_map, refl, sym, ap, subst, ◌∙◌}
+use Rattle.std.specs.List.{cons_option}
+use Rattle.object.specs.Lists.{In}
+use Rattle.job_store.specs.Entries.{Rising}
+use Rattle.job_store.specs.Least.{IsLeast, NonePasses, lesser, least}
+use Rattle.job_store.proofs.Least.{lesser-lesser, least-found, least-none, least-only}
+use Rattle.session_store.specs.Firsts.{first_of}
+
+-- Lists with the same elements have the same least
+
+module _ {X : Type 0} (test test' : ℕ × X → Bool) (by : X → ℕ) where
+  nothing_passes : (cs : List (ℕ × X)) → least test' by cs ≡ None → (e : ℕ × X) → In e cs × (test' e ≡ true) → ⊥
+  nothing_passes cs none e there = (subst (λ o. IfNone o (NonePasses test' cs)) none (least-none test' by cs)) e there.0 there.1
+
+  pub least_alike : (es cs : List (ℕ × X)) (lo hi : ℕ) → Rising lo hi es → ((e : ℕ × X) → In e cs → test' e ≡ true → In e es × (test e ≡ true)) → ((e : ℕ × X) → In e es → test e ≡ true → In e cs × (test' e ≡ true)) → least test' by cs ≡ least test by es
+  least_alike es cs lo hi r back forth =
+      elim (least test' by cs) as (λ o. least test' by cs ≡ o → IfSome o (IsLeast test' by cs) → o ≡ least test by es) [
+        | None ↦ λ none _.
+            elim (least test by es) as (λ o. IfSome o (IsLeast test by es) → None ≡ o) [
+              | None ↦ λ _. refl
+              | Some e ↦ λ found. absurd (nothing_passes cs none e (forth e found.member found.passes))
+            ] (least-found test by es)
+        | Some e ↦ λ some found.
+            let there = back e found.member found.passes in
+            sym (least-only test by es lo hi e r (record {
+              member = there.0;
+              passes = there.1;
+              least = λ d i v. let other = forth d i v in found.least d other.0 other.1;
+            }))
+      ] refl (least-found test' by cs)
+
+-- The first of some entries and of those that a list gives
+
+module _ {A X : Type 0} (by : X → ℕ) (f : A → Option (ℕ × X)) where
+  pub first-step : (best best' : Option (ℕ × X)) (late : ℕ × X) (a : A) (items rest : List A) (all : Option (ℕ × X)) → best' ≡ first_of by best (Some late) → items ≡ a ∷ rest → f a ≡ Some late → first_of by best (least (λ e. true) by (filter_map f items)) ≡ all → first_of by best' (least (λ e. true) by (filter_map f rest)) ≡ all
+  first-step best best' late a items rest all new one gives was =
+      ap (λ b. first_of by b (least (λ e. true) by (filter_map f rest))) new ∙
+      elim best as (λ best. first_of by (first_of by best (Some late)) (least (λ e. true) by (filter_map f rest)) ≡ first_of by best (Some (lesser by late (least (λ e. true) by (filter_map f rest))))) [
+        | None ↦ refl
+        | Some b ↦ ap Some (lesser-lesser by b late (least (λ e. true) by (filter_map f rest)))
+      ] ∙
+      ap (λ o. first_of by best (least (λ e. true) by (cons_option o (filter_map f rest)))) (sym gives) ∙
+      ap (λ bs. first_of by best (least (λ e. true) by (filter_map f bs))) (sym one) ∙ was
+
+  pub first-end : (best : Option (ℕ × X)) (items : List A) (all : Option (ℕ × X)) → items ≡ [] → first_of by best (least (λ e. true) by (filter_map f items)) ≡ all → best ≡ all
+  first-end best items all none was =
+      elim best as (λ best. best ≡ first_of by best None) [ None ↦ refl | Some b ↦ refl ] ∙ ap (λ bs. first_of by best (least (λ e. true) by (filter_map f bs))) (sym none) ∙ was
+
+-- What a list gives
+
+module _ {A B : Type 0} (f : A → Option B) where
+  pub mapped-in : (a : A) (b : B) (xs : List A) → In a xs → f a ≡ Some b → In b (filter_map f xs)
+  mapped-in a b [] i e = absurd i
+  mapped-in a b (x ∷ xs) (inl same) e = rw (ap f (sym same) ∙ e) (inl refl)
+  mapped-in a b (x ∷ xs) (inr later) e =
+      elim (f x) as (λ o. In b (cons_option o (filter_map f xs))) [ None ↦ mapped-in a b xs later e | Some c ↦ inr (mapped-in a b xs later e) ]
+
+  pub mapped-from : (b : B) (xs : List A) → In b (filter_map f xs) → (a : A) × In a xs × (f a ≡ Some b)
+  mapped-from b [] i = absurd i
+  mapped-from b (x ∷ xs) i =
+      elim (f x) as (λ o. f x ≡ o → In b (cons_option o (filter_map f xs)) → (a : A) × In a (x ∷ xs) × (f a ≡ Some b)) [
+        | None ↦ λ e i. let r = mapped-from b xs i in (r.0, inr r.1, r.2)
+        | Some c ↦ λ e i.
+            elim i as (λ i. (a : A) × In a (x ∷ xs) × (f a ≡ Some b)) [
+              | inl same ↦ (x, inl refl, e ∙ ap Some (sym same))
+              | inr later ↦ let r = mapped-from b xs later in (r.0, inr r.1, r.2)
+            ]
+      ] refl i
+
+pub filtered-in : {A : Type 0} (test : A → Bool) (a : A) (xs : List A) → In a xs → test a ≡ true → In a (filter test xs)
+filtered-in test a [] i e = absurd i
+filtered-in test a (x ∷ xs) (inl same) e = rw (ap test (sym same) ∙ e) (inl same)
+filtered-in test a (x ∷ xs) (inr later) e = elim (test x) as (λ b. In a (cond b (x ∷ filter test xs) (filter test xs))) [ true ↦ inr (filtered-in test a xs later e) | false ↦ filtered-in test a xs later e ]

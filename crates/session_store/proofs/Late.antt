@@ -1,0 +1,106 @@
+-- Waits that are over.
+use Rattle.std.proofs.Common.{◌≡◌, ℕ, ◌<◌, ◌≤◌, ◌^◌, Bool, true, false, cond, ◌&&◌, List, Option, Some, None, IfSome, option_map, filter_map, is_some, nat_le, refl, sym, ap, subst, ◌∙◌, arith, leb-true, unwrap_or}
+use Rattle.std.specs.declared.ops.Bound.TheVariants.{Included, Unbounded}
+use Rattle.std.specs.BTreeMap.{is_at}
+use Rattle.std.specs.BTreeMap.Range.{range_contains}
+use Rattle.std.specs.BTreeSet.{BTreeSet, contains}
+use Rattle.std.proofs.lemmas.Bool.{cond-true, and_parts, and_from}
+use Rattle.std.proofs.lemmas.Bool.Decides.{nat_tests}
+use Rattle.object.specs.Lists.{In}
+use Rattle.job_store.specs.Entries.{Rising, value_at}
+use Rattle.job_store.specs.Least.{least}
+use Rattle.session_store.specs.declared.session.Session.{Session}
+use Rattle.session_store.specs.declared.session.Wait.{Wait}
+use Rattle.session_store.specs.declared.place.Place.{Place}
+use Rattle.session_store.specs.declared.time_outs.TimeOuts.{TimeOuts}
+use Rattle.session_store.specs.Sessions.{new_session, session_of, is_waiting, wait_rank, has_timed_out, first_waiting}
+use Rattle.session_store.specs.Lines.{place_cmp, place, IsIn, time_out_place, places_by, StandsByTimeOut, EachStands, over_at}
+use Rattle.session_store.specs.EntryLaws.{value_at-In, value_at-found, value_at-below}
+use Rattle.session_store.proofs.Places.{in_keys, stays_but, some_place}
+use Rattle.session_store.proofs.Found.{least_alike, mapped-in, mapped-from, filtered-in}
+
+pub some_entry : (d e : ℕ × Session) → Some d ≡ Some e → d ≡ e
+some_entry d e h = cc
+
+-- a time-out is over by the second
+abbrev has_ended : ℕ → Option ℕ → Bool
+has_ended second None = false
+has_ended second (Some s) = nat_le s second
+
+up_to : (second s x : ℕ) → x < 2 ^ 32 → s ≤ second → range_contains place_cmp Unbounded (Included (place second 4294967295)) (place s x) ≡ true
+up_to second s x below h = grind (arith, nat_tests)
+
+over_waits : (second : ℕ) (wait : Option Wait) → has_timed_out second wait ≡ true → is_some wait ≡ true
+over_waits second None e = e
+over_waits second (Some w) e = refl
+
+over-at : (second : ℕ) (sessions : List (ℕ × Session)) (p : Place) (c : Session) → value_at p.session sessions ≡ Some c → has_timed_out second c.wait ≡ true → over_at second sessions p ≡ Some (p.session, c)
+over-at second sessions p c there over =
+    let seen : Option Session → Option (ℕ × Session) = λ o. elim o as (λ _. Option (ℕ × Session)) [ None ↦ None | Some s ↦ cond (has_timed_out second s.wait) (Some (p.session, s)) None ] in
+    ap seen there ∙ cond-true (has_timed_out second c.wait) (Some (p.session, c)) None over
+
+-- who is seen at a place is there, and its wait is over
+over-from : (second : ℕ) (sessions : List (ℕ × Session)) (p : Place) (e : ℕ × Session) → over_at second sessions p ≡ Some e → In e sessions × (has_timed_out second e.1.wait ≡ true)
+over-from second sessions p e seen =
+    elim (value_at p.session sessions) as (λ o. value_at p.session sessions ≡ o → (elim o as (λ o. Option (ℕ × Session)) [ None ↦ None | Some s ↦ cond (has_timed_out second s.wait) (Some (p.session, s)) None ]) ≡ Some e → In e sessions × (has_timed_out second e.1.wait ≡ true)) [
+      | None ↦ λ v h. cc
+      | Some c ↦ λ v.
+          elim (has_timed_out second c.wait) as (λ b. has_timed_out second c.wait ≡ b → cond b (Some (p.session, c)) None ≡ Some e → In e sessions × (has_timed_out second e.1.wait ≡ true)) [
+            | false ↦ λ t h. cc
+            | true ↦ λ t h.
+                let same : (p.session, c) ≡ e = some_entry (p.session, c) e h in
+                let there = value_at-found p.session sessions c v in
+                let it : there.0 ≡ (p.session, c) = λ i. (there.2 i, there.3 i) in
+                (subst (λ d. In d sessions) (it ∙ same) there.1, subst (λ d. has_timed_out second d.1.wait ≡ true) same t)
+          ] refl
+    ] refl seen
+
+over_by : (second x : ℕ) (time_out : Option ℕ) (line : BTreeSet Place) → x < 2 ^ 32 → IfSome (option_map (λ s. place s x) time_out) (IsIn line) → has_ended second time_out ≡ true → (p : Place) × In p (places_by second line) × (p.session ≡ x)
+over_by second x None line below h e = cc
+over_by second x (Some s) line below h e =
+    (place s x, filtered-in (range_contains place_cmp Unbounded (Included (place second 4294967295))) (place s x) line.keys (in_keys (place s x) line.keys h) (up_to second s x below (leb-true s second e)), refl)
+
+-- the place of a wait that is over by the second stands among the places up to it
+over_in : (second x : ℕ) (wait : Option Wait) (line : BTreeSet Place) → x < 2 ^ 32 → IfSome (time_out_place x wait) (IsIn line) → has_timed_out second wait ≡ true → (p : Place) × In p (places_by second line) × (p.session ≡ x)
+over_in second x None line below h e = cc
+over_in second x (Some w) line below h e = over_by second x w.time_out line below h e
+
+pub over_found : (second : ℕ) (sessions : List (ℕ × Session)) (time_outs : TimeOuts) → Rising 0 (2 ^ 32) sessions → EachStands (StandsByTimeOut time_outs) sessions → least (λ e. true) wait_rank (filter_map (over_at second sessions) (places_by second time_outs.line)) ≡ first_waiting (λ e. has_timed_out second e.1.wait) sessions
+over_found second sessions time_outs r complete =
+    least_alike (λ e. is_waiting e.1 && has_timed_out second e.1.wait) (λ e. true) wait_rank sessions _ 0 (2 ^ 32) r
+    (λ e i _.
+    let from = mapped-from (over_at second sessions) e _ i in
+    let there = over-from second sessions from.0 e from.2 in
+    (there.0, and_from (is_waiting e.1) (has_timed_out second e.1.wait) (over_waits second e.1.wait there.1) there.1))
+    (λ e i t.
+    let over = (and_parts (is_waiting e.1) (has_timed_out second e.1.wait) t).1 in
+    let v : value_at e.0 sessions ≡ Some e.1 = value_at-In 0 (2 ^ 32) sessions e r i in
+    let p = over_in second e.0 e.1.wait time_outs.line (value_at-below 0 (2 ^ 32) e.0 sessions e.1 r v) (complete e i) over in
+    let seen : over_at second sessions p.0 ≡ Some e = over-at second sessions p.0 e.1 (ap (λ x. value_at x sessions) p.2 ∙ v) over ∙ ap (λ x. Some (x, e.1)) p.2 in
+    (mapped-in (over_at second sessions) p.0 e _ p.1 seen, refl))
+
+-- Places that are left
+
+time_out_of : (x : ℕ) (time_out : Option ℕ) (p : Place) → option_map (λ s. place s x) time_out ≡ Some p → p.session ≡ x
+time_out_of x None p e = cc
+time_out_of x (Some s) p e = ap (λ (q : Place). q.session) (sym (some_place (place s x) p e))
+
+-- whose place it is
+pub time_out_place-of : (x : ℕ) (wait : Option Wait) (p : Place) → time_out_place x wait ≡ Some p → p.session ≡ x
+time_out_place-of x None p e = cc
+time_out_place-of x (Some w) p e = time_out_of x w.time_out p e
+
+-- a place at which nobody stands is taken out
+pub late-left : (x : ℕ) (k : Place) (time_outs time_outs' : TimeOuts) (sessions : List (ℕ × Session)) → Rising 0 (2 ^ 32) sessions → k.session ≡ x → (time_out_place x (session_of x sessions).wait ≡ Some k → ⊥) → ((p : Place) → contains place_cmp time_outs'.line p ≡ cond (is_at (place_cmp k) p) false (contains place_cmp time_outs.line p)) → EachStands (StandsByTimeOut time_outs) sessions → EachStands (StandsByTimeOut time_outs') sessions
+late-left x k time_outs time_outs' sessions r whose gone updates h =
+    λ e i.
+    elim (time_out_place e.0 e.1.wait) as (λ o. time_out_place e.0 e.1.wait ≡ o → IfSome o (IsIn time_outs.line) → IfSome o (IsIn time_outs'.line)) [
+      | None ↦ λ _ _. tt
+      | Some p ↦ λ at there.
+          stays_but k p time_outs.line time_outs'.line (updates p)
+          (λ same.
+          let who : e.0 ≡ x = sym (time_out_place-of e.0 e.1.wait p at) ∙ ap (λ (q : Place). q.session) (sym same) ∙ whose in
+          let found : value_at x sessions ≡ Some e.1 = ap (λ q. value_at q sessions) (sym who) ∙ value_at-In 0 (2 ^ 32) sessions e r i in
+          gone (ap (λ o. time_out_place x (unwrap_or o new_session).wait) found ∙ ap (λ q. time_out_place q e.1.wait) (sym who) ∙ at ∙ ap Some (sym same)))
+          there
+    ] refl (h e i)

@@ -1,0 +1,125 @@
+-- Who stands in the lines.
+use Rattle.std.proofs.Common.{◌≡◌, ℕ, ◌<◌, true, false, cond, inl, inr, List, [], ◌∷◌, Option, Some, IfSome, refl, sym, ap, subst, ◌∙◌, eqb-true, ◌==◌, unwrap_or, not, bytes_eq, ◌++◌, ◌⊎◌, ◌+◌, length, take}
+use Rattle.std.proofs.lemmas.Bool.{or_cases, or_left, or_right}
+use Rattle.std.proofs.lemmas.Slice.Eq.{bytes_eq-Decides}
+use Rattle.object.specs.Lists.{In}
+use Rattle.job_store.specs.Entries.{Rising, value_at, with_value, altered, without}
+use Rattle.std.proofs.Math.ListN.{get_or}
+use Rattle.std.proofs.lemmas.List.Folds.{list_any_more}
+use Rattle.session_store.proofs.Places.{some_in}
+use Rattle.session_store.specs.declared.session.Session.{Session}
+use Rattle.session_store.specs.declared.session.Wait.{Wait}
+use Rattle.session_store.specs.declared.lines.Lines.{Lines}
+use Rattle.session_store.specs.Sessions.{new_session, session_of, with_wait}
+use Rattle.session_store.specs.Lines.{IsIn, time_out_place, rank_place, line_of, StandsIn, EachStands, HasGrown}
+use Rattle.session_store.specs.WatchLists.{joined, left_out}
+use Rattle.job_store.specs.LookUps.{is_among}
+use Rattle.session_store.specs.EntryLaws.{value_at-In, altered-in, without-in, insert-in}
+
+-- Tubes that are watched
+
+among-left_out : (tube t : List ℕ) (names : List (List ℕ)) → is_among t (left_out tube names) ≡ true → is_among t names ≡ true
+among-left_out tube t [] e = e
+among-left_out tube t (n ∷ ns) e =
+    elim (not (bytes_eq tube n)) as (λ b. is_among t (cond b (n ∷ left_out tube ns) (left_out tube ns)) ≡ true → is_among t (n ∷ ns) ≡ true) [
+      | false ↦ λ e. or_right (bytes_eq t n) (is_among t ns) (among-left_out tube t ns e)
+      | true ↦ λ e.
+          elim (or_cases (bytes_eq t n) (is_among t (left_out tube ns)) e) as (λ v. is_among t (n ∷ ns) ≡ true) [
+            | inl here ↦ or_left (bytes_eq t n) (is_among t ns) here
+            | inr later ↦ or_right (bytes_eq t n) (is_among t ns) (among-left_out tube t ns later)
+          ]
+    ] e
+
+among-last : (tube t : List ℕ) (names : List (List ℕ)) → is_among t (names ++ tube ∷ []) ≡ true → (is_among t names ≡ true) ⊎ (t ≡ tube)
+among-last tube t [] e = elim (or_cases (bytes_eq t tube) false e) as (λ v. (is_among t [] ≡ true) ⊎ (t ≡ tube)) [ inl here ↦ inr ((bytes_eq-Decides t tube).0 here) | inr never ↦ inl never ]
+among-last tube t (n ∷ ns) e =
+    elim (or_cases (bytes_eq t n) (is_among t (ns ++ tube ∷ [])) e) as (λ v. (is_among t (n ∷ ns) ≡ true) ⊎ (t ≡ tube)) [
+      | inl here ↦ inl (or_left (bytes_eq t n) (is_among t ns) here)
+      | inr later ↦
+          elim (among-last tube t ns later) as (λ v. (is_among t (n ∷ ns) ≡ true) ⊎ (t ≡ tube)) [ inl old ↦ inl (or_right (bytes_eq t n) (is_among t ns) old) | inr same ↦ inr same ]
+    ]
+
+-- one tube more of some
+pub among-more : (t : List ℕ) (names : List (List ℕ)) (i : ℕ) (d : List ℕ) → i < length names → is_among t (take (i + 1) names) ≡ true → (is_among t (take i names) ≡ true) ⊎ (t ≡ get_or names i d)
+among-more t names i d inside e =
+    elim (or_cases (is_among t (take i names)) (bytes_eq t (get_or names i d)) (sym (list_any_more (bytes_eq t) names i d inside) ∙ e)) as (λ v. (is_among t (take i names) ≡ true) ⊎ (t ≡ get_or names i d)) [
+      | inl old ↦ inl old
+      | inr here ↦ inr ((bytes_eq-Decides t (get_or names i d)).0 here)
+    ]
+
+among-joined : (tube t : List ℕ) (names : List (List ℕ)) → is_among t (joined tube names) ≡ true → (is_among t names ≡ true) ⊎ (t ≡ tube)
+among-joined tube t names e =
+    elim (is_among tube names) as (λ b. is_among t (cond b names (names ++ tube ∷ [])) ≡ true → (is_among t names ≡ true) ⊎ (t ≡ tube)) [
+      | true ↦ λ e. inl e
+      | false ↦ λ e. among-last tube t names e
+    ] e
+
+-- Sessions that change
+
+module _ (stands : ℕ × Session → Type 0) where
+  -- a change of one session
+  pub each-altered : (x : ℕ) (f : Session → Session) (sessions sessions' : List (ℕ × Session)) → sessions' ≡ altered x f sessions → ((c : Session) → In (x, c) sessions → stands (x, f c)) → EachStands stands sessions → EachStands stands sessions'
+  each-altered x f sessions sessions' same new h =
+      subst (EachStands stands) (sym same)
+      (altered-in x f stands sessions
+      (λ d i.
+      elim (x == d.0) as (λ b. (x == d.0) ≡ b → stands (d.0, cond b (f d.1) d.1)) [
+        | true ↦ λ t. subst (λ q. In (q, d.1) sessions → stands (q, f d.1)) (eqb-true x d.0 t) (new d.1) i
+        | false ↦ λ t. h d i
+      ] refl))
+
+  -- a change that does not matter to where it stands
+  pub each-kept : (x : ℕ) (f : Session → Session) (sessions sessions' : List (ℕ × Session)) → sessions' ≡ altered x f sessions → ((c : Session) → stands (x, c) → stands (x, f c)) → EachStands stands sessions → EachStands stands sessions'
+  each-kept x f sessions sessions' same new h = each-altered x f sessions sessions' same (λ c i. new c (h (x, c) i)) h
+
+  pub each-without : (x : ℕ) (sessions sessions' : List (ℕ × Session)) → sessions' ≡ without x sessions → EachStands stands sessions → EachStands stands sessions'
+  each-without x sessions sessions' same h = subst (EachStands stands) (sym same) (λ e i. h e (without-in x sessions e i))
+
+pub each-made : (lines : Lines) (x : ℕ) (sessions sessions' : List (ℕ × Session)) → sessions' ≡ with_value x new_session sessions → EachStands (StandsIn lines) sessions → EachStands (StandsIn lines) sessions'
+each-made lines x sessions sessions' same h = subst (EachStands (StandsIn lines)) (sym same) (insert-in (StandsIn lines) x new_session sessions (λ q. (tt, λ tube among. tt)) h)
+
+-- Lines that grow
+
+pub stands-grown : (lines lines' : Lines) (e : ℕ × Session) → HasGrown lines lines' → StandsIn lines e → StandsIn lines' e
+stands-grown lines lines' e more h = (
+  some_in lines.time_outs.line lines'.time_outs.line (time_out_place e.0 e.1.wait) more.0 h.0,
+  λ tube among. some_in (line_of tube lines.tubes) (line_of tube lines'.tubes) (rank_place e.0 e.1.wait) (more.1 tube) (h.1 tube among),
+)
+
+pub each-grown : (lines lines' : Lines) (sessions : List (ℕ × Session)) → HasGrown lines lines' → EachStands (StandsIn lines) sessions → EachStands (StandsIn lines') sessions
+each-grown lines lines' sessions more h = λ e i. stands-grown lines lines' e more (h e i)
+
+-- A session that watches other tubes
+
+pub stands-less : (lines : Lines) (x : ℕ) (tube : List ℕ) (c : Session) → StandsIn lines (x, c) → StandsIn lines (x, record c { watched = left_out tube c.watched })
+stands-less lines x tube c h = (h.0, λ t among. h.1 t (among-left_out tube t c.watched among))
+
+pub stands-more : (lines lines' : Lines) (x : ℕ) (tube : List ℕ) (c : Session) → HasGrown lines lines' → IfSome (rank_place x c.wait) (IsIn (line_of tube lines'.tubes)) → StandsIn lines (x, c) → StandsIn lines' (x, record c { watched = joined tube c.watched })
+stands-more lines lines' x tube c more new h =
+    let grown = stands-grown lines lines' (x, c) more h in (
+      grown.0,
+      λ t among.
+          elim (among-joined tube t c.watched among) as (λ v. IfSome (rank_place x c.wait) (IsIn (line_of t lines'.tubes))) [
+            | inl old ↦ grown.1 t old
+            | inr same ↦ subst (λ u. IfSome (rank_place x c.wait) (IsIn (line_of u lines'.tubes))) (sym same) new
+          ],
+    )
+
+some_session : (c d : Session) → Some c ≡ Some d → c ≡ d
+some_session c d e = cc
+
+-- the session that is found is the one that is meant
+pub only-session : (x hi : ℕ) (sessions : List (ℕ × Session)) (c d : Session) → Rising 0 hi sessions → value_at x sessions ≡ Some c → In (x, d) sessions → c ≡ d
+only-session x hi sessions c d r found i = some_session c d (sym found ∙ value_at-In 0 hi sessions (x, d) r i)
+
+pub stands-again : (lines : Lines) (x hi : ℕ) (sessions : List (ℕ × Session)) (wait : Option Wait) (c d : Session) → Rising 0 hi sessions → value_at x sessions ≡ Some c → In (x, d) sessions → StandsIn lines (x, with_wait wait c) → StandsIn lines (x, with_wait wait d)
+stands-again lines x hi sessions wait c d r found i h = subst (λ s. StandsIn lines (x, with_wait wait s)) (only-session x hi sessions c d r found i) h
+
+-- a session that watches one tube more stands in its line too
+pub each-watching : (lines lines' : Lines) (x hi : ℕ) (tube : List ℕ) (sessions sessions' : List (ℕ × Session)) → Rising 0 hi sessions → HasGrown lines lines' → IfSome (rank_place x (session_of x sessions).wait) (IsIn (line_of tube lines'.tubes)) → sessions' ≡ altered x (λ (s : Session). record s { watched = joined tube s.watched }) sessions → EachStands (StandsIn lines) sessions → EachStands (StandsIn lines') sessions'
+each-watching lines lines' x hi tube sessions sessions' r more new same h =
+    each-altered (StandsIn lines') x (λ (s : Session). record s { watched = joined tube s.watched }) sessions sessions' same
+    (λ c i.
+    stands-more lines lines' x tube c more
+    (subst (λ (s : Session). IfSome (rank_place x s.wait) (IsIn (line_of tube lines'.tubes))) (ap (λ o. unwrap_or o new_session) (value_at-In 0 hi sessions (x, c) r i)) new) (h (x, c) i))
+    (each-grown lines lines' sessions more h)

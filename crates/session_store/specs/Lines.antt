@@ -1,0 +1,83 @@
+-- The lines in which waiting sessions stand.
+use Rattle.std.specs.Prelude.{◌≡◌, ℕ, true, ◌&&◌, List, [], Option, None, Some, option_map, unwrap_or, IfSome, ◌==◌, if◌then◌else◌}
+use Rattle.std.specs.declared.cmp.Ordering.{Ordering}
+use Rattle.std.specs.Ordering.{nat_cmp, ordering_then}
+use Rattle.std.specs.declared.ops.Bound.TheVariants.{Included, Unbounded}
+use Rattle.std.specs.Cmp.Lexicographic.{slice_cmp}
+use Rattle.std.specs.BTreeMap.{get}
+use Rattle.std.specs.BTreeSet.{BTreeSet, contains, keys_between}
+use Rattle.object.specs.Lists.{In}
+use Rattle.job_store.specs.Entries.{value_at}
+use Rattle.job_store.specs.LookUps.{is_among}
+use Rattle.session_store.specs.declared.session.Session.{Session}
+use Rattle.session_store.specs.declared.session.Wait.{Wait}
+use Rattle.session_store.specs.declared.place.Place.{Place}
+use Rattle.session_store.specs.declared.time_outs.TimeOuts.{TimeOuts}
+use Rattle.session_store.specs.declared.tube_lines.TubeLines.{TubeLines}
+use Rattle.session_store.specs.declared.lines.Lines.{Lines}
+use Rattle.session_store.specs.Sessions.{is_waiting, wait_rank, has_timed_out}
+
+-- places go by their number, and then by the session's
+abbrev pub place_cmp : Place → Place → Ordering
+place_cmp p q = ordering_then (nat_cmp p.order q.order) (nat_cmp p.session q.session)
+
+-- the place is in the line
+abbrev pub IsIn : BTreeSet Place → Place → Type 0
+IsIn line place = contains place_cmp line place ≡ true
+
+-- session x, at this number
+abbrev pub place : ℕ → ℕ → Place
+place order x = record { order = order; session = x }
+
+-- the places in the line up to this second
+abbrev pub places_by : ℕ → BTreeSet Place → List Place
+places_by second line = keys_between place_cmp Unbounded (Included (place second 4294967295)) line
+
+-- the place of a wait among those that end
+abbrev pub time_out_place : ℕ → Option Wait → Option Place
+time_out_place x None = None
+time_out_place x (Some wait) = option_map (λ second. place second x) wait.time_out
+
+-- the place of a wait in the line of a tube
+abbrev pub rank_place : ℕ → Option Wait → Option Place
+rank_place x wait = option_map (λ w. place w.rank x) wait
+
+-- the line of a tube, in which nobody stands where there is none
+abbrev pub line_of : List ℕ → TubeLines → BTreeSet Place
+line_of tube tubes = unwrap_or (get (slice_cmp nat_cmp) tubes.lines tube) (record { keys = [] })
+
+-- the session stands among the time-outs, if it waits and its wait ends
+abbrev pub StandsByTimeOut : TimeOuts → ℕ × Session → Type 0
+StandsByTimeOut time_outs e = IfSome (time_out_place e.0 e.1.wait) (IsIn time_outs.line)
+
+-- the session stands in the line of each tube that it watches, if it waits
+abbrev pub StandsByTubes : TubeLines → ℕ × Session → Type 0
+StandsByTubes tubes e = (tube : List ℕ) → is_among tube e.1.watched ≡ true → IfSome (rank_place e.0 e.1.wait) (IsIn (line_of tube tubes))
+
+-- the session stands in the lines wherever it waits
+abbrev pub StandsIn : Lines → ℕ × Session → Type 0
+StandsIn lines e = StandsByTimeOut lines.time_outs e × StandsByTubes lines.tubes e
+
+-- each session stands so
+abbrev pub EachStands : (ℕ × Session → Type 0) → List (ℕ × Session) → Type 0
+EachStands stands sessions = (e : ℕ × Session) → In e sessions → stands e
+
+-- the other line has all places of the one
+abbrev pub HasAll : BTreeSet Place → BTreeSet Place → Type 0
+HasAll line line' = (p : Place) → IsIn line p → IsIn line' p
+
+-- each line has all places that it had
+abbrev pub HasGrown : Lines → Lines → Type 0
+HasGrown lines lines' =
+    HasAll lines.time_outs.line lines'.time_outs.line ×
+    ((tube : List ℕ) → HasAll (line_of tube lines.tubes) (line_of tube lines'.tubes))
+
+-- the session at a place, if its wait is over by the second
+abbrev pub over_at : ℕ → List (ℕ × Session) → Place → Option (ℕ × Session)
+over_at second sessions p =
+    elim (value_at p.session sessions) [ None ↦ None | Some s ↦ if has_timed_out second s.wait then Some (p.session, s) else None ]
+
+-- the session at a place, if it waits there for a job of the tube
+abbrev pub standing : List ℕ → List (ℕ × Session) → Place → Option (ℕ × Session)
+standing tube sessions p =
+    elim (value_at p.session sessions) [ None ↦ None | Some s ↦ if is_waiting s && is_among tube s.watched && wait_rank s == p.order then Some (p.session, s) else None ]

@@ -1,0 +1,195 @@
+ghost use Rattle.std.specs.Prelude.{◌≡◌, ◌^◌, ℕ, List, [], IsTrue, true, OnOk, IfSome, option_map, filter_map, slice_get};
+ghost use Rattle.std.specs.BTreeSet.{IsOrdered};
+ghost use Rattle.job_store.specs.Entries.{Rising};
+ghost use Rattle.job_store.specs.LookUps.{is_among};
+ghost use Rattle.session_store.specs.Sessions.{first_waiting};
+ghost use Rattle.session_store.specs.declared.place.Place.{Place};
+ghost use Rattle.session_store.specs.Lines.{EachStands, HasAll, IsIn, StandsByTubes, line_of, place_cmp, rank_place, standing};
+
+use crate::place::{Place, rank_place};
+use crate::session::{Session, Wait};
+use job_store::Name;
+use object::Value;
+use std::alloc::{AllocError, Global};
+use std::collections::{BTreeMap, BTreeSet};
+
+/// For each tube the line of the sessions that wait for a job of it, by their ranks. A line may also have places at
+/// which nobody stands any more.
+#[derive(Drop)]
+pub(crate) struct TubeLines {
+    alloc: Global,
+    lines: BTreeMap<Name, BTreeSet<Place>>,
+}
+
+/// The session at a place, if it waits there for a job of the tube.
+fn standing<'a>(
+    sessions: &'a BTreeMap<u32, Session>,
+    tube: &Name,
+    place: Place,
+) -> Option<(u32, &'a Session)>
+    ensures { option_map (λ e. (e.0, e.1.now)) result
+        ≡ standing tube.now sessions.now.entries place }
+{
+    let session = sessions.get(&place.session)?;
+    if session.waits_for(tube) && session.rank() == place.order {
+        Some((place.session, session))
+    } else {
+        None
+    }
+}
+
+/// The first session in a line that stands there.
+fn first_standing<'a>(
+    line: &BTreeSet<Place>,
+    sessions: &'a BTreeMap<u32, Session>,
+    tube: &Name,
+) -> Option<(u32, &'a Session)>
+    ensures first { option_map (λ e. (e.0, e.1.now)) result
+        ≡ slice_get (filter_map (standing tube.now sessions.now.entries) line.now.keys) 0 }
+    ensures ordered { IsOrdered place_cmp line.now }
+{
+    for place in line {
+        if let Some(found) = standing(sessions, tube, *place) {
+            return Some(found);
+        }
+    }
+    None
+}
+
+impl TubeLines {
+    /// No lines.
+    pub fn new(alloc: Global) -> TubeLines {
+        TubeLines {
+            alloc,
+            lines: BTreeMap::new(alloc),
+        }
+    }
+
+    /// Puts a place into the line of a tube.
+    fn put(&mut self, tube: &Name, place: Place) -> Result<(), AllocError>
+        ensures grown { (t : List ℕ) → HasAll (line_of t self.old) (line_of t self.new) }
+        ensures put { OnOk result (IsIn (line_of tube.now self.new) place) }
+    {
+        if let Some(line) = self.lines.get_mut(tube) {
+            line.insert(place)?;
+            return Ok(());
+        }
+        let mut line = BTreeSet::new(self.alloc);
+        line.insert(place)?;
+        self.lines.insert(tube.copy()?, line)?;
+        Ok(())
+    }
+
+    /// Takes a place out of the line of a tube, and tells whether that leaves none.
+    fn take_place(&mut self, tube: &Name, place: Place) -> bool
+        ensures stays { (t : List ℕ) (p : Place) → (t ≡ tube.now → place ≡ p → ⊥)
+            → IsIn (line_of t self.old) p → IsIn (line_of t self.new) p }
+        ensures none { IsTrue result → (line_of tube.now self.new).keys ≡ [] }
+    {
+        match self.lines.get_mut(tube) {
+            Some(line) => {
+                line.remove(&place);
+                line.is_empty()
+            }
+            None => false,
+        }
+    }
+
+    /// Takes a place out of the line of a tube, and the line where that leaves none.
+    fn take_out(&mut self, tube: &Name, place: Place)
+        ensures { (t : List ℕ) (p : Place) → (t ≡ tube.now → place ≡ p → ⊥)
+            → IsIn (line_of t self.old) p → IsIn (line_of t self.new) p }
+    {
+        if self.take_place(tube, place) {
+            self.lines.remove(tube);
+        }
+    }
+
+    /// Puts a session into the line of a tube, where it is to stand with this wait.
+    pub fn join_tube(
+        &mut self,
+        tube: &Name,
+        number: u32,
+        wait: Option<Wait>,
+    ) -> Result<(), AllocError>
+        ensures grown { (t : List ℕ) → HasAll (line_of t self.old) (line_of t self.new) }
+        ensures stands { OnOk result
+            (IfSome (rank_place number wait) (IsIn (line_of tube.now self.new))) }
+    {
+        match rank_place(number, wait) {
+            Some(place) => self.put(tube, place),
+            None => Ok(()),
+        }
+    }
+
+    /// Puts a session into the lines of the tubes that it watches, where it is to stand with this wait.
+    pub fn join(
+        &mut self,
+        watched: &[Name],
+        number: u32,
+        wait: Option<Wait>,
+    ) -> Result<(), AllocError>
+        ensures grown { (t : List ℕ) → HasAll (line_of t self.old) (line_of t self.new) }
+        ensures stands { OnOk result
+            ((t : List ℕ) → is_among t watched.now ≡ true
+            → IfSome (rank_place number wait) (IsIn (line_of t self.new))) }
+    {
+        for tube in watched {
+            self.join_tube(tube, number, wait)?;
+        }
+        Ok(())
+    }
+
+    /// Takes a session out of the line of a tube, where it stood with this wait, unless it still stands there.
+    pub fn leave_tube(
+        &mut self,
+        sessions: &BTreeMap<u32, Session>,
+        tube: &Name,
+        number: u32,
+        wait: Option<Wait>,
+    )
+        requires { Rising 0 (2 ^ 32) sessions.now.entries }
+        ensures { EachStands (StandsByTubes self.old) sessions.now.entries
+            → EachStands (StandsByTubes self.new) sessions.now.entries }
+    {
+        if let Some(place) = rank_place(number, wait)
+            && standing(sessions, tube, place).is_none()
+        {
+            self.take_out(tube, place);
+        }
+    }
+
+    /// Takes a session out of the lines of these tubes, where it stood with this wait, unless it still stands there.
+    pub fn leave(
+        &mut self,
+        sessions: &BTreeMap<u32, Session>,
+        watched: &[Name],
+        number: u32,
+        wait: Option<Wait>,
+    )
+        requires { Rising 0 (2 ^ 32) sessions.now.entries }
+        ensures { EachStands (StandsByTubes self.old) sessions.now.entries
+            → EachStands (StandsByTubes self.new) sessions.now.entries }
+    {
+        for tube in watched {
+            self.leave_tube(sessions, tube, number, wait);
+        }
+    }
+
+    /// The waiting session of the least rank that watches the tube.
+    pub fn first<'a>(
+        &self,
+        sessions: &'a BTreeMap<u32, Session>,
+        tube: &Name,
+    ) -> Option<(u32, &'a Session)>
+        requires rising { Rising 0 (2 ^ 32) sessions.now.entries }
+        requires complete { EachStands (StandsByTubes self.now) sessions.now.entries }
+        ensures { option_map (λ e. (e.0, e.1.now)) result
+            ≡ first_waiting (λ e. is_among tube.now e.1.watched) sessions.now.entries }
+    {
+        match self.lines.get(tube) {
+            Some(line) => first_standing(line, sessions, tube),
+            None => None,
+        }
+    }
+}
