@@ -1,10 +1,11 @@
 //! What a map of jobs finds and keeps, as tables.
-ghost use Rattle.std.specs.Prelude.{◌≡◌};
+ghost use Rattle.std.specs.Prelude.{◌≡◌, None};
 
 use indexmap::IndexSet;
 use job_store::{Body, Job, JobMap, Jobs, Name, State};
 use object::Value;
 use std::alloc::{AllocError, Global};
+use std::collections::BTreeSet;
 use std::test::Fail;
 
 /// The id, the priority and the state of a job.
@@ -324,5 +325,43 @@ fn wrong_change_of<M: JobMap>(alloc: Global, rows: &[Row]) -> Result<Option<usiz
 #[test]
 fn changes_stay_or_are_taken_back(rt: HostRuntime) -> Result<(), Fail> {
     assert_eq!(rt; wrong_change_of::<Jobs>(rt.alloc(), &FIRST)?, None);
+    Ok(())
+}
+
+/// A priority and an id.
+type Place = (u32, u64);
+
+fn places_of(alloc: Global, places: &BTreeSet<Place>) -> Result<Vec<Place>, AllocError> {
+    let mut list = Vec::new(alloc);
+    for place in places {
+        list.push(*place)?;
+    }
+    Ok(list)
+}
+
+/// The ready jobs of the tube that the map lends are these, or there are none and it lends nothing.
+fn lends(alloc: Global, jobs: &Jobs, tube: &Name, places: &[Place]) -> Result<bool, AllocError>
+    requires { jobs.now.before ≡ None }
+{
+    match jobs.ready(tube) {
+        Some(lent) => Ok(!places.is_empty() && places_of(alloc, lent)?.as_slice() == places),
+        None => Ok(places.is_empty()),
+    }
+}
+
+#[test]
+fn the_ready_jobs_of_a_tube_are_lent(rt: HostRuntime) -> Result<(), Fail> {
+    let alloc = rt.alloc();
+    let one = Name::new(alloc, b"a")?.ok_or("no name")?;
+    let other = Name::new(alloc, b"b")?.ok_or("no name")?;
+    let mut jobs = Jobs::new(alloc);
+    jobs.insert(1, new_job(alloc, &one, 2, State::Ready)?)?;
+    jobs.insert(2, new_job(alloc, &one, 1, State::Ready)?)?;
+    assert!(rt; lends(alloc, &jobs, &one, &[(1, 2), (2, 1)])?);
+    assert!(rt; lends(alloc, &jobs, &other, &[])?);
+    assert!(rt; jobs.remove(2).is_some());
+    assert!(rt; lends(alloc, &jobs, &one, &[(2, 1)])?);
+    assert!(rt; jobs.remove(1).is_some());
+    assert!(rt; lends(alloc, &jobs, &one, &[])?);
     Ok(())
 }
