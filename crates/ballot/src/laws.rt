@@ -1,7 +1,7 @@
 ghost use Rattle.std.specs.Prelude.{◌≡◌, ℕ, List, Bool, true, false, ◌⊎◌};
 ghost use Rattle.ballot.specs.Ballots.{Numbers, is_below, is_same};
 ghost use Rattle.ballot.specs.BallotLaws.{BallotLaws};
-ghost use Rattle.ballot.specs.Members.{has, is_majority};
+ghost use Rattle.ballot.specs.Members.{is_member, has, is_majority};
 
 /// The order of ballots is a total order, and a ballot is determined by its three numbers.
 pub fn ballot_order()
@@ -16,7 +16,8 @@ pub fn ballot_order()
 /// Any two majorities of the same members share a member.
 pub fn majorities_share_a_member()
     ensures { (weights : List ℕ) (a b : List Bool) → is_majority weights a ≡ true →
-        is_majority weights b ≡ true → (m : ℕ) × (has a m ≡ true) × (has b m ≡ true) }
+        is_majority weights b ≡ true → (m : ℕ) × (has a m ≡ true) × (has b m ≡ true)
+        × (is_member weights m ≡ true) }
 {}
 
 /// What is promised of the order of ballots and of majorities, in one place.
