@@ -6,6 +6,6 @@ pub enum LearnError {
     #[error("out of memory")]
     OutOfMemory,
     /// Another command is known to be decided in that slot.
-    #[error("another command is decided in that slot")]
+    #[error("clash")]
     Clash,
 }
