@@ -44,7 +44,8 @@ fn holder_by<'a, M: JobMap>(
     }
 }
 
-/// The numbers of the sessions that have a job due by this second. It goes over the jobs that are due, and no others.
+/// The numbers of the sessions that have a job due by this second, each as often as it has one. It goes over the jobs
+/// that are due, and no others.
 pub fn holders_by<M: JobMap>(alloc: Global, jobs: &M, second: u64) -> Result<Vec<u32>, AllocError>
     ensures { IfOk result (λ numbers. AreHolders numbers.items second (M.entries jobs.now)) }
 {

@@ -123,7 +123,8 @@ impl<N: ShelfNumber> Shelf<N> {
         None
     }
 
-    /// The first of the jobs that belong on the shelf after a place, where a look-up finds all of them.
+    /// The first of the jobs that belong on the shelf after a place, where a look-up finds all of them. It begins right
+    /// after that place.
     pub fn first_after<'a>(
         &self,
         label: Label,
