@@ -1,27 +1,35 @@
 -- Sessions that have a job due by a second: those that were found, and the first of them.
-use Rattle.std.proofs.Common.{◌≡◌, ℕ, ◌+◌, Bool, true, false, cond, ◌&&◌, ◌||◌, ◌⊎◌, inl, inr, List, [], ◌∷◌, ◌++◌, Option, Some, None, IfSome, filter_map, option_map, is_some, nat_le, refl, sym, ap, subst, ◌∙◌, true≢false}
-use Rattle.std.proofs.lemmas.Bool.{cond-true, and_parts}
+use Rattle.std.proofs.Common.{◌≡◌, ℕ, ◌+◌, ◌-◌, ◌*◌, ◌^◌, ◌<◌, ◌≤◌, Bool, true, false, cond, ◌&&◌, ◌||◌, ◌==◌, ◌⊎◌, inl, inr, List, [], ◌∷◌, ◌++◌, Option, Some, None, IfSome, filter_map, nat_le, nat_lt, refl, sym, ap, subst, ◌∙◌, arith, eq-eqb, eqb-true, ltb-true, lt-ltb}
+use Rattle.std.proofs.lemmas.Bool.{cond-true, cases_order, and_parts, and_from, or_cases, or_left, or_right, leb-true}
 use Rattle.object.specs.Lists.{In}
 use Rattle.object.specs.declared.command.Answer.{Answer}
 use Rattle.job_store.specs.declared.job.Job.{Job}
 use Rattle.job_store.specs.declared.state.State.{State}
 use Rattle.job_store.specs.Entries.{Rising, value_at}
-use Rattle.job_store.specs.Least.{least}
-use Rattle.job_store.specs.LookUps.{due_by, due_of_job, first_due}
+use Rattle.job_store.specs.Least.{ComesBefore, least}
+use Rattle.job_store.specs.LookUps.{is_after, due_by, due_after, due_of_job, first_due, first_due_after}
 use Rattle.job_store.specs.States.{is_due, is_held, due_of}
+use Rattle.job_store.proofs.Least.{IsAnswer, answer, same_entry}
 use Rattle.job_store.proofs.Shelving.{in-front, in-last}
 use Rattle.session_store.specs.declared.session.Session.{Session}
-use Rattle.session_store.specs.EntryLaws.{value_at-In, value_at-found}
+use Rattle.session_store.specs.EntryLaws.{value_at-In, value_at-found, value_at-below}
 use Rattle.session_store.specs.Sessions.{first_waiting, is_waiting, wait_rank, ended}
 use Rattle.session_store.proofs.Found.{least_alike, mapped-in, mapped-from}
 use Rattle.bean_queue.specs.declared.reply.Reply.{Reply}
-use Rattle.bean_queue.specs.Holders.{holder_by, HasHolders}
+use Rattle.bean_queue.specs.Holders.{holder_by, AreHolders, HasHolders}
 use Rattle.bean_queue.specs.Queue.{QueueState, holds_by}
-use Rattle.bean_queue.specs.TurnLaws.{IsTold, deadline_turn-is, least-none}
+use Rattle.bean_queue.specs.TurnLaws.{IsTold, deadline_turn-is}
 use Rattle.bean_queue.specs.Turns.{Turn, IsTurn, told, deadline_turn}
+use Rattle.bean_queue.specs.WaitLaws.{in-append}
 use Rattle.bean_queue.proofs.Calm.{ended-calmer}
 
--- Where no job is due, no session has one that is
+-- A session has a due job where it is the holder of one
+
+due-time : (second : ℕ) (state : State) → is_due second state ≡ true → nat_le (due_of state) second ≡ true
+due-time second State.Ready t = cc
+due-time second (State.Delayed due) t = t
+due-time second (State.Reserved y due) t = t
+due-time second (State.Buried rank) t = cc
 
 held-due : (x second : ℕ) (state : State) → (is_held x state && nat_le (due_of state) second) ≡ true → is_due second state ≡ true
 held-due x second State.Ready h = cc
@@ -29,45 +37,156 @@ held-due x second (State.Delayed due) h = cc
 held-due x second (State.Reserved y due) h = (and_parts (is_held x (State.Reserved y due)) (nat_le due second) h).1
 held-due x second (State.Buried rank) h = cc
 
-holds-none : (x second : ℕ) (jobs : List (ℕ × Job)) → ((e : ℕ × Job) → In e jobs → due_by second e ≡ true → ⊥) → holds_by x second jobs ≡ false
-holds-none x second [] none = refl
-holds-none x second (e ∷ es) none =
-    elim (is_held x e.1.state && nat_le (due_of e.1.state) second) as (λ b. (is_held x e.1.state && nat_le (due_of e.1.state) second) ≡ b → (b || holds_by x second es) ≡ false) [
-      | true ↦ λ h. absurd (none e (inl refl) (held-due x second e.1.state h))
-      | false ↦ λ h. holds-none x second es (λ d i t. none d (inr i) t)
-    ] refl
+holds-one : (x second : ℕ) (jobs : List (ℕ × Job)) (e : ℕ × Job) → In e jobs → due_by second e ≡ true → is_held x e.1.state ≡ true → holds_by x second jobs ≡ true
+holds-one x second [] e i t h = absurd i
+holds-one x second (d ∷ ds) e (inl same) t h =
+    or_left (is_held x d.1.state && nat_le (due_of d.1.state) second) (holds_by x second ds)
+    (subst (λ (z : ℕ × Job). (is_held x z.1.state && nat_le (due_of z.1.state) second) ≡ true) same (and_from (is_held x e.1.state) (nat_le (due_of e.1.state) second) h (due-time second e.1.state t)))
+holds-one x second (d ∷ ds) e (inr later) t h =
+    or_right (is_held x d.1.state && nat_le (due_of d.1.state) second) (holds_by x second ds) (holds-one x second ds e later t h)
 
-nothing-seen : {A B : Type 0} (view : A → B) (o : Option A) → is_some o ≡ false → option_map view o ≡ None
-nothing-seen view None e = refl
-nothing-seen view (Some a) e = cc
+-- the job is due by the second, and the session has it
+abbrev pub IsDueOf : ℕ → ℕ → ℕ × Job → Type 0
+IsDueOf x second e = (due_by second e ≡ true) × (is_held x e.1.state ≡ true)
 
-pub none-due : {A : Type 0} (view : A → ℕ × Job) (found : Option A) (numbers : List ℕ) (second : ℕ) (jobs : List (ℕ × Job)) (sessions : List (ℕ × Session)) → option_map view found ≡ first_due second jobs → is_some found ≡ false → HasHolders numbers second jobs sessions
-none-due view found numbers second jobs sessions seen none w i waits holds =
-    let nothing : first_due second jobs ≡ None = sym seen ∙ nothing-seen view found none in
-    absurd (true≢false (sym holds ∙ holds-none w.0 second jobs (λ e j t. least-none (due_by second) due_of_job jobs e nothing j t)))
-
--- Sessions that are looked at one by one
-
--- each that has such a job has its number among these, or is left to be looked at
-abbrev pub AreFoundBut : List (ℕ × Session) → List ℕ → ℕ → List (ℕ × Job) → List (ℕ × Session) → Type 0
-AreFoundBut left numbers second jobs sessions =
-    (w : ℕ × Session) → In w sessions → is_waiting w.1 ≡ true → holds_by w.0 second jobs ≡ true → In w.0 numbers ⊎ In w left
-
-pub found-begin : (left : List (ℕ × Session)) (numbers : List ℕ) (second : ℕ) (jobs : List (ℕ × Job)) (sessions : List (ℕ × Session)) → left ≡ sessions → AreFoundBut left numbers second jobs sessions
-found-begin left numbers second jobs sessions all w i waits holds = inr (subst (In w) (sym all) i)
-
--- one that has such a job is noted
-pub found-more : (e : ℕ × Session) (left left' : List (ℕ × Session)) (numbers numbers' : List ℕ) (second : ℕ) (jobs : List (ℕ × Job)) (sessions : List (ℕ × Session)) → left ≡ e ∷ left' → numbers' ≡ numbers ++ e.0 ∷ [] → AreFoundBut left numbers second jobs sessions → AreFoundBut left' numbers' second jobs sessions
-found-more e left left' numbers numbers' second jobs sessions next noted were w i waits holds =
-    let in-noted : In w.0 (numbers ++ e.0 ∷ []) → In w.0 numbers' = λ j. subst (In w.0) (sym noted) j in
-    elim (were w i waits holds) as (λ v. In w.0 numbers' ⊎ In w left') [
-      | inl known ↦ inl (in-noted (in-front w.0 numbers (e.0 ∷ []) known))
-      | inr ahead ↦
-          elim (subst (In w) next ahead) as (λ v. In w.0 numbers' ⊎ In w left') [
-            | inl same ↦ inl (in-noted (subst (λ (d : ℕ × Session). In w.0 (numbers ++ d.0 ∷ [])) same (in-last w.0 numbers)))
-            | inr later ↦ inr later
-          ]
+one-held : (x second : ℕ) (jobs : List (ℕ × Job)) → holds_by x second jobs ≡ true → (e : ℕ × Job) × In e jobs × IsDueOf x second e
+one-held x second [] t = cc
+one-held x second (d ∷ ds) t =
+    elim (or_cases (is_held x d.1.state && nat_le (due_of d.1.state) second) (holds_by x second ds) t) as (λ v. (e : ℕ × Job) × In e (d ∷ ds) × IsDueOf x second e) [
+      | inl h ↦ (d, inl refl, (held-due x second d.1.state h, (and_parts (is_held x d.1.state) (nat_le (due_of d.1.state) second) h).0))
+      | inr h ↦ let w = one-held x second ds h in (w.0, inr w.1, w.2)
     ]
+
+-- Due jobs that are gone over one by one
+
+-- each due job that comes before the next one, or each where there is none, has its holder among these numbers
+pub record AreNoted (next : Option (ℕ × Job)) (numbers : List ℕ) (second : ℕ) (jobs : List (ℕ × Job)) : Type 0 where
+  pub noted : (x : ℕ) (e : ℕ × Job) → In e jobs → IsDueOf x second e → IfSome next (ComesBefore due_of_job e) → In x numbers
+  pub only : (x : ℕ) → In x numbers → holds_by x second jobs ≡ true
+  pub due : IfSome next (λ n. In n jobs × (due_by second n ≡ true))
+
+-- the holder of a job in this state, where it has one, is noted
+pub record IsNoted (state : State) (old new : List ℕ) : Type 0 where
+  pub keeps : (x : ℕ) → In x old → In x new
+  pub holder : (x : ℕ) → is_held x state ≡ true → In x new
+  pub only : (x : ℕ) → In x new → In x old ⊎ (is_held x state ≡ true)
+
+pub noted-holder : (y due : ℕ) (old new : List ℕ) → new ≡ old ++ y ∷ [] → IsNoted (State.Reserved y due) old new
+noted-holder y due old new is = record {
+  keeps = λ x i. subst (In x) (sym is) (in-front x old (y ∷ []) i);
+  holder = λ x t. subst (In x) (sym is) (subst (λ z. In x (old ++ z ∷ [])) (eqb-true x y t) (in-last x old));
+  only = λ x i.
+      elim (in-append old (y ∷ []) x (subst (In x) is i)) as (λ v. In x old ⊎ ((x == y) ≡ true)) [
+        | inl before ↦ inl before
+        | inr it ↦ inr (elim it as (λ v. (x == y) ≡ true) [ inl same ↦ eq-eqb x y same | inr none ↦ absurd none ])
+      ];
+}
+
+pub noted-nobody : (state : State) (numbers : List ℕ) → ((y due : ℕ) → state ≡ State.Reserved y due → ⊥) → IsNoted state numbers numbers
+noted-nobody State.Ready numbers other = record { keeps = λ x i. i; holder = λ x t. cc; only = λ x i. inl i }
+noted-nobody (State.Delayed due) numbers other = record { keeps = λ x i. i; holder = λ x t. cc; only = λ x i. inl i }
+noted-nobody (State.Reserved y due) numbers other = absurd (other y due refl)
+noted-nobody (State.Buried rank) numbers other = record { keeps = λ x i. i; holder = λ x t. cc; only = λ x i. inl i }
+
+-- nothing that passes comes before the answer
+never-sooner : (test : ℕ × Job → Bool) (jobs : List (ℕ × Job)) (next : Option (ℕ × Job)) (e : ℕ × Job) → IsAnswer test due_of_job jobs next → In e jobs → test e ≡ true → IfSome next (ComesBefore due_of_job e) → ⊥
+never-sooner test jobs None e none i t b = none e i t
+never-sooner test jobs (Some n) e best i t b = best.least e i t b
+
+answer-passes : (test : ℕ × Job → Bool) (jobs : List (ℕ × Job)) (next : Option (ℕ × Job)) → IsAnswer test due_of_job jobs next → IfSome next (λ n. In n jobs × (test n ≡ true))
+answer-passes test jobs None none = tt
+answer-passes test jobs (Some n) best = (best.member, best.passes)
+
+pub noted-first : (next : Option (ℕ × Job)) (second : ℕ) (jobs : List (ℕ × Job)) → next ≡ first_due second jobs → AreNoted next [] second jobs
+noted-first next second jobs is =
+    let it : IsAnswer (due_by second) due_of_job jobs next = subst (IsAnswer (due_by second) due_of_job jobs) (sym is) (answer (due_by second) due_of_job jobs) in
+    record {
+      noted = λ x e i d before. absurd (never-sooner (due_by second) jobs next e it i d.0 before);
+      only = λ x i. absurd i;
+      due = answer-passes (due_by second) jobs next it;
+    }
+
+-- of two due jobs one comes first, or they are the same
+which : (d n : ℕ × Job) → ComesBefore due_of_job d n ⊎ ((d.0 ≡ n.0) ⊎ (is_after (due_of_job n.1, n.0) (due_of_job d.1, d.0) ≡ true))
+which d n =
+    let a = due_of_job d.1 in
+    let b = due_of_job n.1 in
+    let later : (b < a) ⊎ ((b ≡ a) × (n.0 < d.0)) → is_after (b, n.0) (a, d.0) ≡ true = λ v.
+    elim v as (λ v. (nat_lt b a || (b == a && nat_lt n.0 d.0)) ≡ true) [
+      | inl h ↦ or_left (nat_lt b a) (b == a && nat_lt n.0 d.0) (lt-ltb b a h)
+      | inr h ↦ or_right (nat_lt b a) (b == a && nat_lt n.0 d.0) (and_from (b == a) (nat_lt n.0 d.0) (eq-eqb b a h.0) (lt-ltb n.0 d.0 h.1))
+    ] in
+    elim (cases_order a b) as (λ v. ComesBefore due_of_job d n ⊎ ((d.0 ≡ n.0) ⊎ (is_after (b, n.0) (a, d.0) ≡ true))) [
+      | inl same ↦
+          elim (cases_order d.0 n.0) as (λ v. ComesBefore due_of_job d n ⊎ ((d.0 ≡ n.0) ⊎ (is_after (b, n.0) (a, d.0) ≡ true))) [
+            | inl id ↦ inr (inl id)
+            | inr (inl below) ↦ inl (inr (same, below))
+            | inr (inr above) ↦ inr (inr (later (inr (sym same, above))))
+          ]
+      | inr (inl below) ↦ inl (inl below)
+      | inr (inr above) ↦ inr (inr (later (inl above)))
+    ]
+
+still-due : (second : ℕ) (place : ℕ × ℕ) (jobs : List (ℕ × Job)) (next : Option (ℕ × Job)) → IfSome next (λ n. In n jobs × (due_after second place n ≡ true)) → IfSome next (λ n. In n jobs × (due_by second n ≡ true))
+still-due second place jobs None it = tt
+still-due second place jobs (Some n) it = (it.0, (and_parts (due_by second n) (is_after place (due_of_job n.1, n.0)) it.1).0)
+
+pub noted-next : (n : ℕ × Job) (next : Option (ℕ × Job)) (numbers numbers' : List ℕ) (second hi : ℕ) (jobs : List (ℕ × Job)) → Rising 0 hi jobs → AreNoted (Some n) numbers second jobs → IsNoted n.1.state numbers numbers' → next ≡ first_due_after second (due_of_job n.1, n.0) jobs → AreNoted next numbers' second jobs
+noted-next n next numbers numbers' second hi jobs r were more is =
+    let place : ℕ × ℕ = (due_of_job n.1, n.0) in
+    let it : IsAnswer (due_after second place) due_of_job jobs next = subst (IsAnswer (due_after second place) due_of_job jobs) (sym is) (answer (due_after second place) due_of_job jobs) in
+    record {
+      noted = λ x e i d before.
+          elim (which e n) as (λ v. In x numbers') [
+            | inl sooner ↦ more.keeps x (were.noted x e i d sooner)
+            | inr (inl same) ↦ more.holder x (subst (λ (z : ℕ × Job). is_held x z.1.state ≡ true) (same_entry 0 hi jobs e n r i were.due.0 same) d.1)
+            | inr (inr later) ↦ absurd (never-sooner (due_after second place) jobs next e it i (and_from (due_by second e) (is_after place (due_of_job e.1, e.0)) d.0 later) before)
+          ];
+      only = λ x i.
+          elim (more.only x i) as (λ v. holds_by x second jobs ≡ true) [
+            | inl old ↦ were.only x old
+            | inr held ↦ holds-one x second jobs n were.due.0 were.due.1 held
+          ];
+      due = still-due second place jobs next (answer-passes (due_after second place) jobs next it);
+    }
+
+pub noted-all : (next : Option (ℕ × Job)) (numbers : List ℕ) (second : ℕ) (jobs : List (ℕ × Job)) → next ≡ None → AreNoted next numbers second jobs → AreHolders numbers second jobs
+noted-all next numbers second jobs end were x = (
+  were.only x,
+  λ t.
+      let w = one-held x second jobs t in
+      were.noted x w.0 w.1 w.2 (subst (λ o. IfSome o (ComesBefore due_of_job w.0)) (sym end) tt),
+)
+
+-- how far the next job is from the last that may be due
+abbrev pub far : ℕ → Option (ℕ × Job) → ℕ
+far second None = 0
+far second (Some n) = 1 + (second - due_of n.1.state) * 2 ^ 64 + (2 ^ 64 - n.0)
+
+pub nearer : (n : ℕ × Job) (next : Option (ℕ × Job)) (numbers : List ℕ) (second : ℕ) (jobs : List (ℕ × Job)) → Rising 0 (2 ^ 64) jobs → AreNoted (Some n) numbers second jobs → next ≡ first_due_after second (due_of_job n.1, n.0) jobs → far second next < far second (Some n)
+nearer n next numbers second jobs r were is =
+    let fits : n.0 < 2 ^ 64 = value_at-below 0 (2 ^ 64) n.0 jobs n.1 r (value_at-In 0 (2 ^ 64) jobs n r were.due.0) in
+    let place : ℕ × ℕ = (due_of_job n.1, n.0) in
+    let it : IfSome next (λ m. In m jobs × (due_after second place m ≡ true)) = answer-passes (due_after second place) jobs next (subst (IsAnswer (due_after second place) due_of_job jobs) (sym is) (answer (due_after second place) due_of_job jobs)) in
+    elim next as (λ o. IfSome o (λ m. In m jobs × (due_after second place m ≡ true)) → far second o < far second (Some n)) [
+      | None ↦ λ it. omega arith
+      | Some m ↦ λ it.
+          let both = and_parts (due_by second m) (is_after place (due_of_job m.1, m.0)) it.1 in
+          let a : due_of n.1.state ≤ second = leb-true (due_of n.1.state) second (due-time second n.1.state were.due.1) in
+          let b : due_of m.1.state ≤ second = leb-true (due_of m.1.state) second (due-time second m.1.state both.0) in
+          elim (or_cases (nat_lt (due_of n.1.state) (due_of m.1.state)) (due_of n.1.state == due_of m.1.state && nat_lt n.0 m.0) both.1) as (λ v. far second (Some m) < far second (Some n)) [
+            | inl h ↦ let later : due_of n.1.state < due_of m.1.state = ltb-true (due_of n.1.state) (due_of m.1.state) h in omega arith
+            | inr h ↦
+                let p = and_parts (due_of n.1.state == due_of m.1.state) (nat_lt n.0 m.0) h in
+                let same : due_of n.1.state ≡ due_of m.1.state = eqb-true (due_of n.1.state) (due_of m.1.state) p.0 in
+                let later : n.0 < m.0 = ltb-true n.0 m.0 p.1 in
+                omega arith
+          ]
+    ] it
+
+-- the numbers of all those that have such a job include those that wait
+pub has-holders : (numbers : List ℕ) (second : ℕ) (jobs : List (ℕ × Job)) (sessions : List (ℕ × Session)) → AreHolders numbers second jobs → HasHolders numbers second jobs sessions
+has-holders numbers second jobs sessions holders w i waits holds = (holders w.0).1 holds
 
 -- The first of those that were found
 

@@ -1,5 +1,5 @@
 -- Whom a tick may have to tell of a job that is due soon.
-use Rattle.std.specs.Prelude.{◌≡◌, ℕ, true, ◌&&◌, List, Option, None, Some, if◌then◌else◌}
+use Rattle.std.specs.Prelude.{◌≡◌, ◌↔◌, ℕ, true, ◌&&◌, List, Option, None, Some, if◌then◌else◌}
 use Rattle.object.specs.Lists.{In}
 use Rattle.job_store.specs.declared.job.Job.{Job}
 use Rattle.job_store.specs.Entries.{value_at}
@@ -23,3 +23,7 @@ HasHolders numbers second jobs sessions =
     is_waiting w.1 ≡ true →
     holds_by w.0 second jobs ≡ true →
     In w.0 numbers
+
+-- these are the numbers of the sessions that have a job due by this second
+abbrev pub AreHolders : List ℕ → ℕ → List (ℕ × Job) → Type 0
+AreHolders numbers second jobs = (x : ℕ) → In x numbers ↔ (holds_by x second jobs ≡ true)

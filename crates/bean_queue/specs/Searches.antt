@@ -2,7 +2,7 @@
 use Rattle.std.specs.Prelude.{ℕ, Bool, [], ◌∷◌}
 use Rattle.job_store.specs.declared.job.Job.{Job}
 use Rattle.bean_queue.specs.declared.look_up.LookUp.{LookUp}
-use Rattle.job_store.specs.LookUps.{ready_in, delayed_in, buried_in, due_by, held_by, pri_of_job, due_of_job, rank_of_job}
+use Rattle.job_store.specs.LookUps.{ready_in, delayed_in, buried_in, due_by, due_after, held_by, pri_of_job, due_of_job, rank_of_job}
 
 -- whether a job passes
 abbrev pub passes : LookUp → ℕ × Job → Bool
@@ -11,6 +11,7 @@ passes (LookUp.Ready tube) e = ready_in (tube.now ∷ []) e
 passes (LookUp.Delayed tube) e = delayed_in tube.now e
 passes (LookUp.Buried tube) e = buried_in tube.now e
 passes (LookUp.Due second) e = due_by second e
+passes (LookUp.DueAfter second place) e = due_after second place e
 passes (LookUp.Held x) e = held_by x e
 
 -- the number of which the least is wanted
@@ -20,4 +21,5 @@ number (LookUp.Ready tube) job = pri_of_job job
 number (LookUp.Delayed tube) job = due_of_job job
 number (LookUp.Buried tube) job = rank_of_job job
 number (LookUp.Due second) job = due_of_job job
+number (LookUp.DueAfter second place) job = due_of_job job
 number (LookUp.Held x) job = due_of_job job

@@ -2,9 +2,9 @@ ghost use Rattle.std.specs.Prelude.{◌≡◌, ◌^◌, ◌&&◌, IfOk, option_m
 ghost use Rattle.job_store.specs.Entries.{Rising};
 ghost use Rattle.session_store.specs.Sessions.{first_waiting, is_waiting};
 ghost use Rattle.bean_queue.specs.Queue.{holds_by};
-ghost use Rattle.bean_queue.specs.Holders.{holder_by, HasHolders};
+ghost use Rattle.bean_queue.specs.Holders.{holder_by, AreHolders, HasHolders};
 
-use job_store::JobMap;
+use job_store::{JobMap, State};
 use session_store::{Session, first};
 use std::alloc::{AllocError, Global};
 use std::collections::BTreeMap;
@@ -44,25 +44,20 @@ fn holder_by<'a, M: JobMap>(
     }
 }
 
-/// The numbers of the waiting sessions that have a job due by this second. Where no job is due by it, no session is
-/// looked at.
-pub fn holders_by<M: JobMap>(
-    alloc: Global,
-    jobs: &M,
-    sessions: &BTreeMap<u32, Session>,
-    second: u64,
-) -> Result<Vec<u32>, AllocError>
-    ensures { IfOk result
-        (λ numbers. HasHolders numbers.items second (M.entries jobs.now) sessions.now.entries) }
+/// The numbers of the sessions that have a job due by this second, each as often as it has one. It goes over the jobs
+/// that are due, and no others.
+pub fn holders_by<M: JobMap>(alloc: Global, jobs: &M, second: u64) -> Result<Vec<u32>, AllocError>
+    ensures { IfOk result (λ numbers. AreHolders numbers.items second (M.entries jobs.now)) }
 {
+    // Gives the proof that the ids rise.
+    let _ = jobs.by_id();
     let mut numbers = Vec::new(alloc);
-    if jobs.due(second).is_none() {
-        return Ok(numbers);
-    }
-    for (number, session) in sessions {
-        if is_holder(jobs, *number, session, second) {
-            numbers.push(*number)?;
+    let mut next = jobs.due(second);
+    'jobs: while let Some((id, job)) = next {
+        if let State::Reserved { session, .. } = job.state {
+            numbers.push(session)?;
         }
+        next = jobs.due_after(second, (job.state.due(), id));
     }
     Ok(numbers)
 }

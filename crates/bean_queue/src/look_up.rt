@@ -15,18 +15,20 @@ pub enum LookUp<'a> {
     Buried(&'a Name),
     /// Delayed or reserved, and due at this second.
     Due(u64),
+    /// Delayed or reserved, due at this second, and after this place by (due, id).
+    DueAfter(u64, (u64, u64)),
     /// Reserved by this session.
     Held(u32),
 }
 
 impl<'a> LookUp<'a> {
-    ghost use Rattle.std.specs.Prelude.{◌≡◌, ℕ, option_map, Some, IfSome, IfNone};
+    ghost use Rattle.std.specs.Prelude.{◌≡◌, option_map, Some, IfSome, IfNone};
     ghost use Rattle.job_store.specs.Least.{least, comes_before, first_of, IsLeast, NonePasses};
     ghost use Rattle.bean_queue.specs.Searches.{passes, number};
 
-    /// Whether the job, under whatever id, is one that is looked for.
-    fn passes(&self, job: &Job) -> bool
-        ensures { (id : ℕ) → result ≡ passes self.now (id, job.now) }
+    /// Whether the job under this id is one that is looked for.
+    fn passes(&self, id: u64, job: &Job) -> bool
+        ensures { result ≡ passes self.now (id, job.now) }
     {
         match self {
             LookUp::ReadyIn(tubes) => job.state.is_ready() && tubes.contains(&job.tube),
@@ -34,6 +36,9 @@ impl<'a> LookUp<'a> {
             LookUp::Delayed(tube) => job.state.is_delayed() && **tube == job.tube,
             LookUp::Buried(tube) => job.state.is_buried() && **tube == job.tube,
             LookUp::Due(second) => job.state.is_due(*second),
+            LookUp::DueAfter(second, place) => {
+                job.state.is_due(*second) && *place < (job.state.due(), id)
+            }
             LookUp::Held(session) => job.state.is_held_by(*session),
         }
     }
@@ -44,7 +49,9 @@ impl<'a> LookUp<'a> {
     {
         match self {
             LookUp::ReadyIn(_) | LookUp::Ready(_) => u64::from(job.pri),
-            LookUp::Delayed(_) | LookUp::Due(_) | LookUp::Held(_) => job.state.due(),
+            LookUp::Delayed(_) | LookUp::Due(_) | LookUp::DueAfter(_, _) | LookUp::Held(_) => {
+                job.state.due()
+            }
             LookUp::Buried(_) => job.state.rank(),
         }
     }
@@ -80,7 +87,7 @@ impl<'a> LookUp<'a> {
     {
         let mut least = None;
         for (id, job) in jobs {
-            if self.passes(job) {
+            if self.passes(*id, job) {
                 least = Some(self.first_of(least, (*id, job)));
             }
         }

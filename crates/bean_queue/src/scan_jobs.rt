@@ -92,6 +92,10 @@ impl JobMap for ScanJobs {
         LookUp::Due(second).least(self.jobs.by_id())
     }
 
+    fn due_after(&self, second: u64, place: (u64, u64)) -> Option<(u64, &Job)> {
+        LookUp::DueAfter(second, place).least(self.jobs.by_id())
+    }
+
     fn first_held(&self, session: u32) -> Option<(u64, &Job)> {
         LookUp::Held(session).least(self.jobs.by_id())
     }

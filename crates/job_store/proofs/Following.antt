@@ -1,7 +1,7 @@
 -- Shelves that follow the jobs: in a trial by more places, and at its end by those that go.
 use Rattle.std.proofs.Common.{◌≡◌, ℕ, ◌<◌, ◌≤◌, arith, nat_le, ◌⊎◌, inl, inr, List, [], Option, Some, None, IfSome, IfNone, ◌^◌, refl, sym, subst, ◌∙◌, true, false}
 use Rattle.std.specs.Prelude.{is_some}
-use Rattle.std.proofs.lemmas.Bool.{both_ways, leb-true}
+use Rattle.std.proofs.lemmas.Bool.{both_ways, leb-true, and_parts, and_from}
 use Rattle.std.proofs.lemmas.Bool.Decides.{leb_tells}
 use Rattle.object.specs.Lists.{In}
 use Rattle.job_store.specs.declared.job.Job.{Job}
@@ -11,10 +11,10 @@ use Rattle.job_store.specs.declared.shelves.Shelves.{Shelves}
 use Rattle.job_store.specs.Entries.{Rising, value_at, with_value, altered, without}
 use Rattle.job_store.specs.Undone.{MapState}
 use Rattle.job_store.specs.States.{is_due, is_scheduled, due_of}
-use Rattle.job_store.specs.LookUps.{due_by, due_of_job}
+use Rattle.job_store.specs.LookUps.{due_by, due_after, due_of_job, is_after}
 use Rattle.job_store.specs.Least.{IsLeast, NonePasses}
 use Rattle.job_store.specs.ShelfStates.{IsFrom, bare}
-use Rattle.job_store.specs.Shelves.{belongs, BelongsAt, shelf, places, HavePlaces, IsAhead, AreAhead, AreAheadOrListed, IsListed, AreKnown, HasTaken, HasSettled, HasGrown, HasCome, HasFollowed, IsKept}
+use Rattle.job_store.specs.Shelves.{belongs, belongs_after, BelongsAt, shelf, places, HavePlaces, IsAhead, AreAhead, AreAheadOrListed, IsListed, AreKnown, HasTaken, HasSettled, HasGrown, HasCome, HasFollowed, IsKept}
 use Rattle.job_store.proofs.Entries.{without-absent}
 use Rattle.job_store.proofs.Shelving.{placed-settled, known-settled, ahead-settled}
 use Rattle.job_store.proofs.Members.{altered-new, altered-old, inserted-new, inserted-old, value-here, value-is, without-was, without-others}
@@ -254,3 +254,26 @@ due-later second jobs e best f d i u =
 
 pub due-none : (second : ℕ) (jobs : List (ℕ × Job)) → NonePasses (belongs Label.Scheduled) jobs → NonePasses (due_by second) jobs
 due-none second jobs none d i u = none d i (scheduled-due second d.1.state u)
+
+-- Which job is due after a place
+
+due-on : (second : ℕ) (place : ℕ × ℕ) (e : ℕ × Job) → due_after second place e ≡ true → belongs_after Label.Scheduled place e ≡ true
+due-on second place e t =
+    let both = and_parts (is_due second e.1.state) (is_after place (due_of_job e.1, e.0)) t in
+    and_from (is_scheduled e.1.state) (is_after place (due_of_job e.1, e.0)) (scheduled-due second e.1.state both.0) both.1
+
+pub due-found-after : (second : ℕ) (place : ℕ × ℕ) (jobs : List (ℕ × Job)) (e : ℕ × Job) → IsLeast (belongs_after Label.Scheduled place) due_of_job jobs e → is_due second e.1.state ≡ true → IsLeast (due_after second place) due_of_job jobs e
+due-found-after second place jobs e best t = record {
+  member = best.member;
+  passes = and_from (is_due second e.1.state) (is_after place (due_of_job e.1, e.0)) t (and_parts (is_scheduled e.1.state) (is_after place (due_of_job e.1, e.0)) best.passes).1;
+  least = λ d i u. best.least d i (due-on second place d u);
+}
+
+pub due-later-after : (second : ℕ) (place : ℕ × ℕ) (jobs : List (ℕ × Job)) (e : ℕ × Job) → IsLeast (belongs_after Label.Scheduled place) due_of_job jobs e → is_due second e.1.state ≡ false → NonePasses (due_after second place) jobs
+due-later-after second place jobs e best f d i u =
+    let soon = due-time second d.1.state (and_parts (is_due second d.1.state) (is_after place (due_of_job d.1, d.0)) u).0 in
+    let late = late-time second e.1.state (and_parts (is_scheduled e.1.state) (is_after place (due_of_job e.1, e.0)) best.passes).0 f in
+    best.least d i (due-on second place d u) (inl (omega (arith, soon, late)))
+
+pub due-none-after : (second : ℕ) (place : ℕ × ℕ) (jobs : List (ℕ × Job)) → NonePasses (belongs_after Label.Scheduled place) jobs → NonePasses (due_after second place) jobs
+due-none-after second place jobs none d i u = none d i (due-on second place d u)

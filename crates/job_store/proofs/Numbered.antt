@@ -2,17 +2,18 @@
 use Rattle.std.proofs.Common.{◌≡◌, ℕ, true, false, cond, not, ◌&&◌, ◌∙◌, inl, inr, List, [], ◌∷◌, map, refl, sym, ap, ap₂, subst, ◌||◌, Less, Equal, Greater, nat_cmp, Ordering}
 use Rattle.std.proofs.lemmas.Bool.{both_ways}
 use Rattle.std.proofs.lemmas.List.Kept.{IsStrictlySortedBy-filter}
-use Rattle.std.specs.Ordering.{ordering_then, match_ordering, is_eq, is_le}
+use Rattle.std.specs.Ordering.{ordering_then, match_ordering, is_eq, is_le, is_lt}
 use Rattle.std.specs.List.Sorted.{IsStrictlySortedBy}
 use Rattle.std.specs.List.{AllByRecursion, filter, list_any}
-use Rattle.std.specs.declared.ops.Bound.TheVariants.{Included, Unbounded}
+use Rattle.std.specs.declared.ops.Bound.TheVariants.{Included, Excluded, Unbounded}
 use Rattle.std.specs.BTreeMap.{is_at}
 use Rattle.std.specs.BTreeMap.Range.{range_contains}
 use Rattle.std.specs.BTreeSet.{insert_key}
 use Rattle.std.specs.Set.{remove_key}
 use Rattle.object.specs.Lists.{In}
+use Rattle.job_store.specs.LookUps.{is_after}
 use Rattle.job_store.specs.ShelfStates.{place_of, IsFrom}
-use Rattle.job_store.proofs.Places.{place_cmp, from-le}
+use Rattle.job_store.proofs.Places.{place_cmp, from-le, lt-after}
 
 module _ {N : Type 0} (cmp : N → N → Ordering) (value : N → ℕ) (law : (x y : N) → cmp x y ≡ nat_cmp (value x) (value y)) where
   abbrev pub pair_cmp : N × ℕ → N × ℕ → Ordering
@@ -70,4 +71,43 @@ module _ {N : Type 0} (cmp : N → N → Ordering) (value : N → ℕ) (law : (x
   pub ranged-sorted : (from : N × ℕ) (ks : List (N × ℕ)) → IsStrictlySortedBy pair_cmp ks → IsStrictlySortedBy place_cmp (map (place_of value) (filter (range_contains pair_cmp (Included from) Unbounded) ks))
   ranged-sorted from ks s =
       let test = range_contains pair_cmp (Included from) Unbounded in
+      sorted-of (filter test ks) (IsStrictlySortedBy-filter pair_cmp test ks s)
+
+  -- the places after one
+
+  after-is : (after x : N × ℕ) → range_contains pair_cmp (Excluded after) Unbounded x ≡ is_after (place_of value after) (place_of value x)
+  after-is after x =
+      elim (is_lt (pair_cmp after x)) as (λ b. (b && not false) ≡ b) [ true ↦ refl | false ↦ refl ] ∙
+      ap is_lt (as_places after x) ∙
+      lt-after (place_of value after) (place_of value x)
+
+  pub after-kept : (after : N × ℕ) (p : ℕ × ℕ) (ks : List (N × ℕ)) → In p (map (place_of value) ks) → is_after (place_of value after) p ≡ true → In p (map (place_of value) (filter (range_contains pair_cmp (Excluded after) Unbounded) ks))
+  after-kept after p [] i t = i
+  after-kept after p (x ∷ xs) i t =
+      let test = range_contains pair_cmp (Excluded after) Unbounded in
+      let rest = filter test xs in
+      elim (test x) as (λ b. test x ≡ b → In p (map (place_of value) (cond b (x ∷ rest) rest))) [
+        | true ↦ λ b. elim i as (λ i. In p (place_of value x ∷ map (place_of value) rest)) [ inl here ↦ inl here | inr later ↦ inr (after-kept after p xs later t) ]
+        | false ↦ λ b. elim i as (λ i. In p (map (place_of value) rest)) [
+          | inl here ↦ absurd (both_ways (is_after (place_of value after) p) (ap (is_after (place_of value after)) here ∙ sym (after-is after x) ∙ b) t)
+          | inr later ↦ after-kept after p xs later t
+        ]
+      ] refl
+
+  pub after-only : (after : N × ℕ) (p : ℕ × ℕ) (ks : List (N × ℕ)) → In p (map (place_of value) (filter (range_contains pair_cmp (Excluded after) Unbounded) ks)) → is_after (place_of value after) p ≡ true
+  after-only after p [] i = absurd i
+  after-only after p (x ∷ xs) i =
+      let test = range_contains pair_cmp (Excluded after) Unbounded in
+      let rest = filter test xs in
+      elim (test x) as (λ b. test x ≡ b → In p (map (place_of value) (cond b (x ∷ rest) rest)) → is_after (place_of value after) p ≡ true) [
+        | true ↦ λ b i. elim i as (λ i. is_after (place_of value after) p ≡ true) [
+          | inl here ↦ ap (is_after (place_of value after)) here ∙ sym (after-is after x) ∙ b
+          | inr later ↦ after-only after p xs later
+        ]
+        | false ↦ λ b i. after-only after p xs i
+      ] refl i
+
+  pub after-sorted : (after : N × ℕ) (ks : List (N × ℕ)) → IsStrictlySortedBy pair_cmp ks → IsStrictlySortedBy place_cmp (map (place_of value) (filter (range_contains pair_cmp (Excluded after) Unbounded) ks))
+  after-sorted after ks s =
+      let test = range_contains pair_cmp (Excluded after) Unbounded in
       sorted-of (filter test ks) (IsStrictlySortedBy-filter pair_cmp test ks s)

@@ -1,7 +1,7 @@
 -- What stands on a shelf, in its order, and after a place is put or taken out.
-use Rattle.std.proofs.Common.{◌≡◌, ℕ, ◌<◌, Bool, true, false, cond, ◌⊎◌, inl, inr, List, [], ◌∷◌, Some, refl, sym, ap, ap₂, subst, eq-eqb, eqb-true, ◌&&◌, ◌==◌, ◌∙◌, arith, Less, Equal, Greater, nat_cmp, Ordering}
+use Rattle.std.proofs.Common.{◌≡◌, ℕ, ◌<◌, Bool, true, false, cond, ◌⊎◌, inl, inr, List, [], ◌∷◌, Some, refl, sym, ap, ap₂, subst, eq-eqb, eqb-true, ◌&&◌, ◌==◌, ◌∙◌, arith, Less, Equal, Greater, nat_cmp, nat_lt, ◌||◌, Ordering}
 use Rattle.std.proofs.lemmas.Bool.{cases_order, both_ways, and_parts, and_from, or_left, or_right}
-use Rattle.std.specs.Ordering.{ordering_then, match_ordering, is_le}
+use Rattle.std.specs.Ordering.{ordering_then, match_ordering, is_le, is_lt}
 use Rattle.std.specs.List.Sorted.{IsStrictlySortedBy}
 use Rattle.std.specs.List.{AllByRecursion, list_any}
 use Rattle.std.specs.BTreeMap.{is_at}
@@ -12,8 +12,9 @@ use Rattle.job_store.specs.declared.job.Job.{Job}
 use Rattle.job_store.specs.declared.label.Label.{Label}
 use Rattle.job_store.specs.Entries.{Rising, value_at}
 use Rattle.job_store.specs.Least.{ComesBefore, IsLeast, NonePasses}
+use Rattle.job_store.specs.LookUps.{is_after}
 use Rattle.job_store.specs.ShelfStates.{ShelfState, IsFrom, bare, HasLost, HasReached, HasGained, IsFound}
-use Rattle.job_store.specs.Shelves.{belongs, number, belongs_at, BelongsAt, AreAllFound, IsPassed}
+use Rattle.job_store.specs.Shelves.{belongs, belongs_after, number, belongs_at, BelongsAt, AreAllFound, IsPassed}
 use Rattle.job_store.proofs.Members.{value-in, in-value}
 use Rattle.job_store.proofs.Entries.{cmp_less, cmp_equal, cmp_greater, same_number}
 
@@ -72,6 +73,25 @@ from-le p q (inr w) =
       | inr (inl below) ↦ rw (cmp_less p.1 q.1 below) refl
       | inr (inr above) ↦ absurd (omega (arith, w.1, above))
     ])
+
+-- After which place
+
+pub lt-after : (p q : ℕ × ℕ) → is_lt (place_cmp p q) ≡ is_after p q
+lt-after p q =
+    elim (nat_lt p.0 q.0) as (λ b. is_lt (ordering_then (cond b Less (cond (p.0 == q.0) Equal Greater)) (nat_cmp p.1 q.1)) ≡ (b || (p.0 == q.0 && nat_lt p.1 q.1))) [
+      | true ↦ refl
+      | false ↦
+          elim (p.0 == q.0) as (λ b. is_lt (ordering_then (cond b Equal Greater) (nat_cmp p.1 q.1)) ≡ (b && nat_lt p.1 q.1)) [
+            | true ↦
+                elim (nat_lt p.1 q.1) as (λ b. is_lt (cond b Less (cond (p.1 == q.1) Equal Greater)) ≡ b) [
+                  | true ↦ refl
+                  | false ↦ elim (p.1 == q.1) as (λ b. is_lt (cond b Equal Greater) ≡ false) [ true ↦ refl | false ↦ refl ]
+                ]
+            | false ↦ refl
+          ]
+    ]
+
+-- At which place
 
 at_place : (p q : ℕ × ℕ) → is_at (place_cmp p) q ≡ true → p ≡ q
 at_place p q h =
@@ -269,3 +289,32 @@ none-on label jobs all e i t = all (number label e.1, e.0) e i (t, refl)
 
 pub none-found : (label : Label) (jobs : List (ℕ × Job)) → AreAllFound label bare jobs → NonePasses (belongs label) jobs
 none-found label jobs all e i t = (all (number label e.1, e.0) e i (t, refl)).0
+
+-- The first place after another where a job stands by the map
+
+-- each of the jobs that belongs on the shelf after a place stands at one of these places
+abbrev pub AreAllAfter : Label → ℕ × ℕ → List (ℕ × ℕ) → List (ℕ × Job) → Type 0
+AreAllAfter label after places jobs =
+    (p : ℕ × ℕ) (e : ℕ × Job) → In e jobs → BelongsAt label p e → is_after after p ≡ true → In p places
+
+-- each of these places comes after one
+abbrev pub AreAfter : ℕ × ℕ → List (ℕ × ℕ) → Type 0
+AreAfter after places = (p : ℕ × ℕ) → In p places → is_after after p ≡ true
+
+pub none-here-after : (label : Label) (after k : ℕ × ℕ) (ps : List (ℕ × ℕ)) (jobs : List (ℕ × Job)) → ((e : ℕ × Job) → In e jobs → BelongsAt label k e → ⊥) → AreAllAfter label after (k ∷ ps) jobs → AreAllAfter label after ps jobs
+none-here-after label after k ps jobs none all p e i b t =
+    elim (all p e i b t) as (λ v. In p ps) [ inl here ↦ absurd (none e i (subst (λ q. BelongsAt label q e) here b)) | inr later ↦ later ]
+
+pub first-after-is-least : (label : Label) (after k : ℕ × ℕ) (ps : List (ℕ × ℕ)) (jobs : List (ℕ × Job)) (e : ℕ × Job) → AreAllAfter label after (k ∷ ps) jobs → IsStrictlySortedBy place_cmp (k ∷ ps) → AreAfter after (k ∷ ps) → In e jobs → BelongsAt label k e → IsLeast (belongs_after label after) (number label) jobs e
+first-after-is-least label after k ps jobs e all s later i b = record {
+  member = i;
+  passes = and_from (belongs label e) (is_after after (number label e.1, e.0)) b.0 (subst (λ p. is_after after p ≡ true) b.1 (later k (inl refl)));
+  least = λ d j t first.
+      let both = and_parts (belongs label d) (is_after after (number label d.1, d.0)) t in
+      never-before label k ps d e s b.1 (all (number label d.1, d.0) d j (both.0, refl) both.1) first;
+}
+
+pub none-after : (label : Label) (after : ℕ × ℕ) (jobs : List (ℕ × Job)) → AreAllAfter label after [] jobs → NonePasses (belongs_after label after) jobs
+none-after label after jobs all e i t =
+    let both = and_parts (belongs label e) (is_after after (number label e.1, e.0)) t in
+    all (number label e.1, e.0) e i (both.0, refl) both.1

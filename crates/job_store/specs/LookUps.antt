@@ -1,5 +1,5 @@
 -- What is looked up among the jobs, each with its id.
-use Rattle.std.specs.Prelude.{◌≡◌, ◌↔◌, ℕ, Bool, true, ◌&&◌, List, [], ◌∷◌, Option, bytes_eq}
+use Rattle.std.specs.Prelude.{◌≡◌, ◌↔◌, ℕ, Bool, true, ◌&&◌, ◌||◌, ◌==◌, nat_lt, List, [], ◌∷◌, Option, bytes_eq}
 use Rattle.std.specs.List.{list_any}
 use Rattle.object.specs.Lists.{In}
 use Rattle.job_store.specs.declared.job.Job.{Job}
@@ -40,6 +40,14 @@ due_of_job job = due_of job.state
 abbrev pub rank_of_job : Job → ℕ
 rank_of_job job = rank_of job.state
 
+-- place p comes after this one
+abbrev pub is_after : ℕ × ℕ → ℕ × ℕ → Bool
+is_after place p = nat_lt place.0 p.0 || (place.0 == p.0 && nat_lt place.1 p.1)
+
+-- the job is due by this second, and comes after a place by (due, id)
+abbrev pub due_after : ℕ → ℕ × ℕ → ℕ × Job → Bool
+due_after second place e = due_by second e && is_after place (due_of_job e.1, e.0)
+
 -- the job that a reserve takes from these tubes: of the ready ones that of the least (priority, id) (protocol.txt of
 -- beanstalkd, "put": the most urgent priority is 0)
 abbrev pub best_ready : List (List ℕ) → List (ℕ × Job) → Option (ℕ × Job)
@@ -60,6 +68,10 @@ first_buried tube jobs = least (buried_in tube) rank_of_job jobs
 -- the first of the jobs whose delay or time to run is over at this second
 abbrev pub first_due : ℕ → List (ℕ × Job) → Option (ℕ × Job)
 first_due second jobs = least (due_by second) due_of_job jobs
+
+-- the first of those that come after a place by (due, id)
+abbrev pub first_due_after : ℕ → ℕ × ℕ → List (ℕ × Job) → Option (ℕ × Job)
+first_due_after second place jobs = least (due_after second place) due_of_job jobs
 
 -- the first of session x's jobs whose time to run will be over
 abbrev pub first_held : ℕ → List (ℕ × Job) → Option (ℕ × Job)

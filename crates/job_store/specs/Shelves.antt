@@ -8,7 +8,7 @@ use Rattle.job_store.specs.declared.shelves.Shelves.{Shelves}
 use Rattle.job_store.specs.Entries.{Rising}
 use Rattle.job_store.specs.Undone.{MapState}
 use Rattle.job_store.specs.States.{is_ready, is_scheduled}
-use Rattle.job_store.specs.LookUps.{delayed_in, buried_in, held_by, pri_of_job, due_of_job, rank_of_job}
+use Rattle.job_store.specs.LookUps.{delayed_in, buried_in, held_by, is_after, pri_of_job, due_of_job, rank_of_job}
 use Rattle.job_store.specs.ShelfStates.{ShelfState, IsFrom, IsFound}
 use Rattle.job_store.specs.Racks.{shelf_at, name_cmp}
 
@@ -27,6 +27,10 @@ number (Label.Delayed tube) job = due_of_job job
 number (Label.Buried tube) job = rank_of_job job
 number (Label.Held x) job = due_of_job job
 number Label.Scheduled job = due_of_job job
+
+-- whether a job belongs on the shelf, after a place
+abbrev pub belongs_after : Label → ℕ × ℕ → ℕ × Job → Bool
+belongs_after label place e = belongs label e && is_after place (number label e.1, e.0)
 
 -- the job belongs at this place of the shelf
 abbrev pub BelongsAt : Label → ℕ × ℕ → ℕ × Job → Type 0

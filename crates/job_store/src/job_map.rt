@@ -3,7 +3,7 @@ ghost use Rattle.job_store.specs.declared.job.Job.{Job};
 ghost use Rattle.job_store.specs.Entries.{Rising, value_at, with_value, altered, without};
 ghost use Rattle.job_store.specs.States.{with_state, with_pri_and_state};
 ghost use Rattle.job_store.specs.Least.{IsLeast, NonePasses};
-ghost use Rattle.job_store.specs.LookUps.{ready_in, delayed_in, buried_in, due_by, held_by, pri_of_job, due_of_job, rank_of_job, best_ready, first_ready, first_delayed, first_buried, first_due, first_held};
+ghost use Rattle.job_store.specs.LookUps.{ready_in, delayed_in, buried_in, due_by, due_after, held_by, pri_of_job, due_of_job, rank_of_job, best_ready, first_ready, first_delayed, first_buried, first_due, first_due_after, first_held};
 
 use crate::job::Job;
 use crate::name::Name;
@@ -124,6 +124,14 @@ pub trait JobMap: Drop + Sized {
         ensures found { IfSome result
             (λ e. IsLeast (due_by second) due_of_job (entries self.now) (e.0, e.1.now)) }
         ensures none { IfNone result (NonePasses (due_by second) (entries self.now)) };
+
+    /// Of the delayed and reserved jobs that are due at this second and come after a place by (due, id), the first one.
+    fn due_after(&self, second: u64, place: (u64, u64)) -> Option<(u64, &Job)>
+        ensures job { option_map (λ e. (e.0, e.1.now)) result
+            ≡ first_due_after second place (entries self.now) }
+        ensures found { IfSome result
+            (λ e. IsLeast (due_after second place) due_of_job (entries self.now) (e.0, e.1.now)) }
+        ensures none { IfNone result (NonePasses (due_after second place) (entries self.now)) };
 
     /// Of the jobs that the session has, that of the least (due, id).
     fn first_held(&self, session: u32) -> Option<(u64, &Job)>

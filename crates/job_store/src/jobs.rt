@@ -177,6 +177,17 @@ impl JobMap for Jobs {
         }
     }
 
+    fn due_after(&self, second: u64, place: (u64, u64)) -> Option<(u64, &Job)> {
+        match self
+            .shelves
+            .scheduled
+            .first_after(Label::Scheduled, self.jobs.by_id(), place)
+        {
+            Some((id, job)) if job.state.is_due(second) => Some((id, job)),
+            _ => None,
+        }
+    }
+
     fn first_held(&self, session: u32) -> Option<(u64, &Job)> {
         self.shelves
             .held

@@ -3,7 +3,7 @@ ghost use Rattle.object.specs.Lists.{In};
 ghost use Rattle.job_store.specs.Entries.{Rising};
 ghost use Rattle.job_store.specs.Least.{IsLeast, NonePasses, least};
 ghost use Rattle.job_store.specs.ShelfStates.{bare, place_of, IsFound, HasGained, HasLost, HasReached};
-ghost use Rattle.job_store.specs.Shelves.{belongs, number, AreAllFound, IsPassed, HasMovedOn};
+ghost use Rattle.job_store.specs.Shelves.{belongs, belongs_after, number, AreAllFound, IsPassed, HasMovedOn};
 
 use crate::job::Job;
 use crate::label::Label;
@@ -12,6 +12,7 @@ use std::alloc::{AllocError, Global};
 use std::cmp::min;
 use std::collections::{BTreeMap, BTreeSet};
 use std::marker::Model;
+use std::ops::Bound;
 
 /// Places of jobs in their order. A place is a number, as the second that is due, and the id of a job.
 ///
@@ -115,6 +116,33 @@ impl<N: ShelfNumber> Shelf<N> {
         ensures none { IfNone result (NonePasses (belongs label.entry) jobs.now.entries) }
     {
         for place in self.places.range(self.from..) {
+            if let Some(job) = label.job_at(jobs, place.0.wide(), place.1) {
+                return Some((place.1, job));
+            }
+        }
+        None
+    }
+
+    /// The first of the jobs that belong on the shelf after a place, where a look-up finds all of them. It begins right
+    /// after that place.
+    pub fn first_after<'a>(
+        &self,
+        label: Label,
+        jobs: &'a BTreeMap<u64, Job>,
+        after: (N, u64),
+    ) -> Option<(u64, &'a Job)>
+        requires rising { Rising 0 (2 ^ 64) jobs.now.entries }
+        requires all { AreAllFound label self.now jobs.now.entries }
+        ensures found { IfSome result
+            (λ e. IsLeast (belongs_after label.entry (place_of N.value after)) (number label.entry)
+            jobs.now.entries (e.0, e.1.now)) }
+        ensures none { IfNone result
+            (NonePasses (belongs_after label.entry (place_of N.value after)) jobs.now.entries) }
+    {
+        for place in self
+            .places
+            .range((Bound::Excluded(after), Bound::Unbounded))
+        {
             if let Some(job) = label.job_at(jobs, place.0.wide(), place.1) {
                 return Some((place.1, job));
             }

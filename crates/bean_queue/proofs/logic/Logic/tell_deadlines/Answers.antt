@@ -4,7 +4,7 @@ use Rattle.bean_queue.specs.Holders.{HasHolders}
 use Rattle.bean_queue.specs.Queue.{QueueState, state_of}
 use Rattle.bean_queue.specs.Turns.{deadline_turn}
 use Rattle.bean_queue.proofs.Served.{tells_deadline, turn_made, no_turn}
-use Rattle.bean_queue.proofs.Holders.{holders-turn}
+use Rattle.bean_queue.proofs.Holders.{has-holders, holders-turn}
 use Rattle.bean_queue.proofs.logic.Logic.tell_deadlines.Goals as goal
 
 pub turns-init : goal.turns-init
@@ -15,7 +15,7 @@ turns-init g c =
       holders =
           subst (λ (d : Draft QueueState). HasHolders holders (d.now.now + 1) d.now.jobs d.now.sessions) c.self.view_is
           (subst (λ jobs. HasHolders holders (s.now + 1) jobs s.sessions) c.map.ensures.jobs
-          (subst (HasHolders holders (s.now + 1) (g.M.JobMap.entries c.map.result.now)) c.map-2.ensures.sessions c.in_ok-holders.ensures));
+          (has-holders holders (s.now + 1) (g.M.JobMap.entries c.map.result.now) s.sessions c.in_ok-holders.ensures));
       state = refl;
       answers = refl;
       before = refl;
