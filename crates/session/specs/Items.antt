@@ -3,7 +3,7 @@ use Rattle.std.specs.Prelude.{◌≡◌, ℕ, Bool, true, false, MatchBool, List
 use Rattle.bean_queue.specs.declared.op.Op.{Op}
 use Rattle.bean_queue.specs.declared.reply.Reply.{Reply}
 use Rattle.bean_codec.specs.declared.request.Request.TheVariants.{Do, Quit}
-use Rattle.bean_codec.specs.Lines.{ended}
+use Rattle.bean_codec.specs.Lines.{line_text}
 use Rattle.bean_codec.specs.Grammar.{Item, Spells}
 use Rattle.bean_codec.specs.Reads.{BeginsWithNone}
 use Rattle.bean_codec.specs.Replies.{reply_text, fault_text}
@@ -49,7 +49,7 @@ pub data Answer : Type 0 where
 
 -- the line that answers a refused operation (protocol.txt of beanstalkd, "Protocol")
 unfoldable pub refused_text : List ℕ
-refused_text = ended (codes "OUT_OF_MEMORY")
+refused_text = line_text (codes "OUT_OF_MEMORY")
 
 -- the text of an answer
 abbrev pub answer_text : Answer → List ℕ
