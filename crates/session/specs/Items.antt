@@ -57,13 +57,13 @@ answer_text (Replied reply) = reply_text reply
 answer_text Refused = refused_text
 
 -- item by item: the next answer to an operation, the line of a fault, and nothing for quit
-abbrev pub told : List Item → List Answer → List ℕ
-told [] answers = []
-told (Ok (Do op) ∷ items) [] = []
-told (Ok (Do op) ∷ items) (answer ∷ answers) = answer_text answer ++ told items answers
-told (Ok Quit ∷ items) answers = told items answers
-told (Err fault ∷ items) answers = fault_text fault ++ told items answers
+abbrev pub told_text : List Item → List Answer → List ℕ
+told_text [] answers = []
+told_text (Ok (Do op) ∷ items) [] = []
+told_text (Ok (Do op) ∷ items) (answer ∷ answers) = answer_text answer ++ told_text items answers
+told_text (Ok Quit ∷ items) answers = told_text items answers
+told_text (Err fault ∷ items) answers = fault_text fault ++ told_text items answers
 
 -- the output is what the client is told for this input with these answers, and the session ends so
 abbrev pub IsTranscript : List ℕ → List Answer → List ℕ → End → Type 0
-IsTranscript input answers output end = (items : List Item) × Reads input items end × (output ≡ told items answers)
+IsTranscript input answers output end = (items : List Item) × Reads input items end × (output ≡ told_text items answers)
