@@ -13,10 +13,10 @@ use Rattle.session.specs.declared.faults.ServiceFault.{ServiceFault}
 use Rattle.session.specs.declared.faults.SessionFault.{SessionFault}
 use Rattle.session.specs.declared.faults.SessionFault.TheVariants.{OutOfMemory, ReadFailed, WriteFailed, ServiceStopped}
 use Rattle.session.specs.Streams.{AppendsBeginning, ConsumesSome}
-use Rattle.session.specs.Items.{Answer, Reads, ReadsFirst, operations, told, answer_text}
+use Rattle.session.specs.Items.{Answer, Reads, ReadsFirst, operations, told_text, answer_text}
 use Rattle.session.specs.Held.{Held, StandsAt, ComesTo, Finds, nothing_held}
 use Rattle.session.specs.Serving.{Asks, Asked, Whole, StopsAt, Ending, Over, result_of}
-use Rattle.session.proofs.Items.{reads_one, operations-append, told-append}
+use Rattle.session.proofs.Items.{reads_one, operations-append, told_text-append}
 use Rattle.session.proofs.Going.{Going, asked_length, asked_one, goes_at_first, goes_finding, goes_reading, goes_sending, is_partly, breaks_off}
 
 -- no item is left
@@ -32,7 +32,7 @@ reads_to_quit t (i ∷ items) rest front more r cut spelled =
     (r.0, r.1, r.2, r.3, subst (λ (b : Bool). MatchBool b ((items ++ Ok Quit ∷ [] ≡ []) × (End.Quit ≡ End.Quit)) (Reads r.1 (items ++ Ok Quit ∷ []) End.Quit)) (sym r.4) (reads_to_quit r.1 items rest front more r.5 cut spelled))
 
 -- where nothing is unsent, the output is what is told for all that was read
-all_told : {S : Type 0} (asks : Asks S) (old now : S) (input output : List ℕ) (P : List ℕ → Type 0) (g : Going asks old now input output [] P) → output ≡ told (g.items ++ g.more) g.answers
+all_told : {S : Type 0} (asks : Asks S) (old now : S) (input output : List ℕ) (P : List ℕ → Type 0) (g : Going asks old now input output [] P) → output ≡ told_text (g.items ++ g.more) g.answers
 all_told asks old now input output P g = sym (append-nil output) ∙ g.all
 
 as_many : {S : Type 0} (asks : Asks S) (old now : S) (input output unsent : List ℕ) (P : List ℕ → Type 0) (g : Going asks old now input output unsent P) → length g.answers ≡ length (operations (g.items ++ g.more))
@@ -50,9 +50,9 @@ whole_quit asks old now input output t g =
       reads_to_quit input items g.rest g.left.0 g.left.1 g.reads g.left.2 g.left.3,
       subst (λ ops. Asked asks old ops g.answers now) (sym (operations-append items (Ok Quit ∷ []) ∙ append-nil (operations items))) g.asked,
       all_told asks old now input output _ g ∙
-          (sym (append-nil (told items g.answers)) ∙
-          (sym (told-append items (Ok Quit ∷ []) g.answers [] (as_many asks old now input output [] _ g)) ∙
-          ap (λ xs. told (items ++ Ok Quit ∷ []) xs) (append-nil g.answers))),
+          (sym (append-nil (told_text items g.answers)) ∙
+          (sym (told_text-append items (Ok Quit ∷ []) g.answers [] (as_many asks old now input output [] _ g)) ∙
+          ap (λ xs. told_text (items ++ Ok Quit ∷ []) xs) (append-nil g.answers))),
     )
 
 pub stops_at : {S : Type 0} (asks : Asks S) (old now last : S) (input output : List ℕ) (t : Held) (op : Op) → asks now op (Err ServiceFault.Stopped) last → Going asks old now input output [] (ComesTo (Some (Do op)) t) → StopsAt asks old last input output
@@ -81,11 +81,11 @@ goes_answered asks old now last input output t op answer one g =
       reads = reads_one input items g.rest g.left.0 g.left.1 (Ok (Do op)) g.reads g.left.2 g.left.3 refl;
       few = omega arith;
       asked = subst (λ ops. Asked asks old ops (g.answers ++ answer ∷ []) last) (sym (operations-append items (Ok (Do op) ∷ []))) (asked_one asks old now last (operations items) g.answers op answer g.asked one);
-      whole = so_far ∙ (sym (append-nil (told items g.answers)) ∙ (sym (told-append items [] g.answers (answer ∷ []) many) ∙ ap (λ is. told is (g.answers ++ answer ∷ [])) (append-nil items)));
+      whole = so_far ∙ (sym (append-nil (told_text items g.answers)) ∙ (sym (told_text-append items [] g.answers (answer ∷ []) many) ∙ ap (λ is. told_text is (g.answers ++ answer ∷ [])) (append-nil items)));
       all =
           ap (λ u. u ++ answer_text answer) so_far ∙
-          (ap (λ u. told items g.answers ++ u) (sym (append-nil (answer_text answer))) ∙
-          sym (told-append items (Ok (Do op) ∷ []) g.answers (answer ∷ []) many));
+          (ap (λ u. told_text items g.answers ++ u) (sym (append-nil (answer_text answer))) ∙
+          sym (told_text-append items (Ok (Do op) ∷ []) g.answers (answer ∷ []) many));
       left = g.left.4;
     }
 

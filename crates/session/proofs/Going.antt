@@ -8,10 +8,10 @@ use Rattle.bean_codec.specs.Grammar.{Item}
 use Rattle.session.specs.declared.faults.ServiceFault.{ServiceFault}
 use Rattle.session.specs.declared.faults.SessionFault.{SessionFault}
 use Rattle.session.specs.declared.faults.SessionFault.TheVariants.{OutOfMemory, ServiceStopped}
-use Rattle.session.specs.Items.{Answer, ReadsFirst, operations, told}
+use Rattle.session.specs.Items.{Answer, ReadsFirst, operations, told_text}
 use Rattle.session.specs.Held.{Held, StandsAt, ComesTo, Finds, nothing_held, faulty}
 use Rattle.session.specs.Serving.{Asks, Asked, Partly, BreaksOff, result_of}
-use Rattle.session.proofs.Items.{reads_more, operations_faulty, operations-append, told-append}
+use Rattle.session.proofs.Items.{reads_more, operations_faulty, operations-append, told_text-append}
 
 -- an answer that could not be written down
 pub refuses : {X S : Type 0} (asks : Asks S) (old new : S) (op : Op) (answer : Answer) (r : Result X SessionFault) → IfErr r (λ f. f ≡ OutOfMemory) → asks old op (result_of answer) new → IfErr r (λ f. ((f ≡ OutOfMemory) × (a : Answer) × asks old op (result_of a) new) ⊎ ((f ≡ ServiceStopped) × asks old op (Err ServiceFault.Stopped) new))
@@ -42,8 +42,8 @@ pub record Going {S : Type 0} (asks : Asks S) (old now : S) (input output unsent
   pub reads : ReadsFirst input (items ++ more) rest
   pub few : length (operations more) ≤ 1
   pub asked : Asked asks old (operations (items ++ more)) answers now
-  pub whole : output ≡ told items answers
-  pub all : output ++ unsent ≡ told (items ++ more) answers
+  pub whole : output ≡ told_text items answers
+  pub all : output ++ unsent ≡ told_text (items ++ more) answers
   pub left : IsLeft rest
 
 -- at first nothing is read, asked or written
@@ -103,11 +103,11 @@ goes_finding asks old now input output s t found finds g =
       whole = g.whole;
       all =
           ap (λ u. output ++ u) f.3 ∙
-          (sym (append_assoc output s.unsent (told (faulty f.0) [])) ∙
-          (ap (λ u. u ++ told (faulty f.0) []) g.all ∙
-          (sym (told-append (g.items ++ g.more) (faulty f.0) g.answers [] (asked_length asks old now (operations (g.items ++ g.more)) g.answers g.asked)) ∙
-          (ap (λ xs. told ((g.items ++ g.more) ++ faulty f.0) xs) (append-nil g.answers) ∙
-          ap (λ is. told is g.answers) items))));
+          (sym (append_assoc output s.unsent (told_text (faulty f.0) [])) ∙
+          (ap (λ u. u ++ told_text (faulty f.0) []) g.all ∙
+          (sym (told_text-append (g.items ++ g.more) (faulty f.0) g.answers [] (asked_length asks old now (operations (g.items ++ g.more)) g.answers g.asked)) ∙
+          (ap (λ xs. told_text ((g.items ++ g.more) ++ faulty f.0) xs) (append-nil g.answers) ∙
+          ap (λ is. told_text is g.answers) items))));
       left = f.4;
     }
 
@@ -124,7 +124,7 @@ goes_sending asks old now input output unsent P g =
       few = omega arith;
       asked = subst (λ is. Asked asks old (operations is) g.answers now) items g.asked;
       whole = g.all;
-      all = append-nil (output ++ unsent) ∙ (g.all ∙ ap (λ is. told is g.answers) items);
+      all = append-nil (output ++ unsent) ∙ (g.all ∙ ap (λ is. told_text is g.answers) items);
       left = g.left;
     }
 

@@ -9,7 +9,7 @@ use Rattle.session.specs.declared.faults.End.{End}
 use Rattle.session.specs.declared.faults.ServiceFault.{ServiceFault}
 use Rattle.session.specs.declared.faults.SessionFault.{SessionFault}
 use Rattle.session.specs.declared.faults.SessionFault.TheVariants.{OutOfMemory, ReadFailed, WriteFailed, ServiceStopped}
-use Rattle.session.specs.Items.{Answer, Reads, ReadsFirst, operations, told}
+use Rattle.session.specs.Items.{Answer, Reads, ReadsFirst, operations, told_text}
 use Rattle.session.specs.Items.Answer.{Replied, Refused}
 
 -- a service by its asks: it before, the operation, its result, and it after
@@ -39,7 +39,7 @@ Whole asks old new input output end =
     (answers : List Answer) ×
     Reads input items end ×
     Asked asks old (operations items) answers new ×
-    (output ≡ told items answers)
+    (output ≡ told_text items answers)
 
 -- the next ask after some first items was answered Stopped, and the output is what is told for these items
 abbrev pub StopsAt : {S : Type 0} → Asks S → S → S → List ℕ → List ℕ → Type 0
@@ -52,7 +52,7 @@ StopsAt asks old new input output =
     ReadsFirst input (items ++ Ok (Do op) ∷ []) rest ×
     Asked asks old (operations items) answers last ×
     asks last op (Err ServiceFault.Stopped) new ×
-    (output ≡ told items answers)
+    (output ≡ told_text items answers)
 
 -- the output is what is told for some first items, and at most one operation more was asked
 abbrev pub Partly : {S : Type 0} → Asks S → S → S → List ℕ → List ℕ → Type 0
@@ -63,7 +63,7 @@ Partly asks old new input output =
     ReadsFirst input (items ++ more) rest ×
     (length (operations more) ≤ 1) ×
     Asked asks old (operations (items ++ more)) answers new ×
-    (output ≡ told items answers)
+    (output ≡ told_text items answers)
 
 -- the output is a beginning of what is told for some first items, whose operations were asked, and it has, whole, what
 -- is told for those before the last operation
@@ -75,8 +75,8 @@ BreaksOff asks old new input output =
     ReadsFirst input (items ++ more) rest ×
     (length (operations more) ≤ 1) ×
     Asked asks old (operations (items ++ more)) answers new ×
-    (output ≡ told items answers ++ part) ×
-    (output ++ left ≡ told (items ++ more) answers)
+    (output ≡ told_text items answers ++ part) ×
+    (output ++ left ≡ told_text (items ++ more) answers)
 
 -- how a session ended before it closed the service
 abbrev pub Ending : {S : Type 0} → Asks S → S → S → List ℕ → List ℕ → Result End SessionFault → Type 0

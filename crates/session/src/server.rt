@@ -21,7 +21,7 @@ const PIECE_LEN: usize = 4096;
 fn send<W: ByteOut>(session: &mut Session, writer: &mut W) -> Result<(), Failed>
     ensures ok { OnOk result
         (Appends (W.contents writer.old) (W.contents writer.new) session.old.unsent) }
-    ensures sent { OnOk result (session.new ≡ record session.old { unsent = [] }) }
+    ensures sent { OnOk result (session.new ≡ record session.old { unsent = []; sent_len = 0 }) }
     ensures err { OnErr result
         (AppendsBeginning (W.contents writer.old) (W.contents writer.new) session.old.unsent) }
     ensures failed { OnErr result (W.has_failed writer.new ≡ true) }

@@ -113,7 +113,7 @@ turns-preserved g c =
     let t = c.next_ask.new.self in
     let found = c.in_ok-found.found in
     let sent : Appends k l t.unsent = search rules in
-    let cleared : c.send.new.session ≡ record t { unsent = [] } = search rules in
+    let cleared : c.send.new.session ≡ record t { unsent = []; sent_len = 0 } = search rules in
     let closed : t.is_open ≡ is_asked found = search rules in
     let going : Goes g.S.Service.asks c.args.service.now c.turns.service a b h l [] (ComesTo found t) =
     sends g.S.Service.asks c.args.service.now c.turns.service a b h k l t.unsent (ComesTo found t) sent
@@ -135,7 +135,7 @@ turns-preserved g c =
           let op = w.in-Some-Do.op in
           let asks : found ≡ Some (Do op) = search rules in
           let given = w.in_ok-answer-in-Some-Do.ensures.ok in
-          let s : Held = record t { unsent = answer_text given.0; is_open = false } in
+          let s : Held = record t { unsent = answer_text given.0; is_open = false; sent_len = 0 } in
           let after : w.answer.new.session ≡ s = given.2 ∙ ap (λ (u : Held). record u { unsent = u.unsent ++ answer_text given.0; is_open = false }) cleared in
           record {
             goes = goes_as g.S.Service.asks c.args.service.now w.answer.new.service c.match-found-4.service a b (g.R.ByteIn.remaining c.match-found-4.reader) h l (answer_text given.0) s c.match-found-4.session w.service-is (ap g.R.ByteIn.remaining w.reader-is) (w.session-is ∙ after) refl
