@@ -20,7 +20,7 @@ use Rattle.bean_queue.specs.declared.reply.Reply.{Reply}
 use Rattle.bean_queue.specs.Queue.{QueueState, with_sessions, fresh, watched_by, holds_by}
 use Rattle.bean_queue.specs.Rows.{Row, row, put_row, use_row, watch_row, ignore_row, reserve_row, delete_row, may_delete, is_found, release_row, touch_row, bury_row, kick_row, kick_job_row, peek_row}
 use Rattle.bean_queue.specs.Turns.{Outcome, after_option, Turn, stop, all_turns, wanted, give, serve_turn, told, deadline_turn, timeout_turn, serve}
-use Rattle.bean_queue.specs.Effects.{own, own_outcome, then_do, called, is_zero, settled, do_effect, released, forgotten, at_second, tick_effect, is_quiet}
+use Rattle.bean_queue.specs.Effects.{own, own_outcome, then_do, called, ends_wait, is_zero, settled, has_no_number, carried_out, do_effect, released, forgotten, at_second, tick_effect, is_quiet}
 use Rattle.bean_queue.specs.TurnLaws.{least-none, none-least, turns-keep, deadline_turn-is, timeout_turn-is, IsTold, IfSome-map}
 use Rattle.bean_queue.proofs.Served.{serve-done, idle_none, turns-unroll, serves}
 
@@ -132,9 +132,8 @@ quiet-row (Op.Touch id) key s q =
     (record { jobs = changed-calmer id _ s.jobs (λ job. refl); sessions = λ w i t. i }) (same-calmer (called key.session s))
 quiet-row (Op.Release id pri delay) key s q = cc
 quiet-row (Op.Bury id pri) key s q =
-    calmer_if (called key.session s) (s.next_rank == 2 ^ 63) _ _ (same-calmer (called key.session s))
-    (calmer_if (called key.session s) (is_found (is_held key.session) (value_at id s.jobs)) _ _
-    (record { jobs = changed-calmer id _ s.jobs (λ job. refl); sessions = λ w i t. i }) (same-calmer (called key.session s)))
+    calmer_if (called key.session s) (is_found (is_held key.session) (value_at id s.jobs)) _ _
+    (record { jobs = changed-calmer id _ s.jobs (λ job. refl); sessions = λ w i t. i }) (same-calmer (called key.session s))
 quiet-row (Op.Kick bound) key s q = cc
 quiet-row (Op.KickJob id) key s q = cc
 quiet-row (Op.Peek id) key s q = same-calmer (called key.session s)
@@ -158,8 +157,8 @@ unfolding serve
 serve-none s none = turns-unroll serve_turn serves s ∙ ap (after_option (all_turns serve_turn) s) none
 
 -- after a quiet operation nobody is served
-pub quiet-effect : (op : Op) (key : Key) (s : QueueState) → is_quiet op ≡ true → serve_turn s ≡ None → do_effect op key s ≡ own_outcome key (row op key (called key.session s))
-unfolding do_effect
+pub quiet-effect : (op : Op) (key : Key) (s : QueueState) → is_quiet op ≡ true → serve_turn s ≡ None → carried_out op key s ≡ own_outcome key (row op key (called key.session s))
+unfolding carried_out
 quiet-effect op key s q none =
     let r = row op key (called key.session s) in
     let after : serve_turn r.state ≡ None = calm (called key.session s) r.state (called-calm key.session s none) (quiet-row op key s q) in
@@ -189,17 +188,21 @@ told-calm : (reply : Reply) (s : QueueState) (t : Turn) → IsTold reply s t →
 unfolding told
 told-calm reply s t i none = subst (λ (t : Turn). serve_turn t.state ≡ None) (sym i.made) (ended-calm i.session.0 s none)
 
-deadlines-calm : (s : QueueState) → serve_turn s ≡ None → serve_turn (all_turns deadline_turn s).state ≡ None
+pub deadlines-calm : (s : QueueState) → serve_turn s ≡ None → serve_turn (all_turns deadline_turn s).state ≡ None
 unfolding all_turns
 deadlines-calm s none = (turns-keep deadline_turn (λ s. serve_turn s ≡ None) (λ a. Unit {0}) (λ s n. IfSome-map _ _ (deadline_turn s) (λ t i. (told-calm Reply.DeadlineSoon s t i n, tt)) (deadline_turn-is s)) (length s.sessions) s none).0
 
-timeouts-calm : (s : QueueState) → serve_turn s ≡ None → serve_turn (all_turns timeout_turn s).state ≡ None
+pub timeouts-calm : (s : QueueState) → serve_turn s ≡ None → serve_turn (all_turns timeout_turn s).state ≡ None
 unfolding all_turns
 timeouts-calm s none = (turns-keep timeout_turn (λ s. serve_turn s ≡ None) (λ a. Unit {0}) (λ s n. IfSome-map _ _ (timeout_turn s) (λ t i. (told-calm Reply.TimedOut s t i n, tt)) (timeout_turn-is s)) (length s.sessions) s none).0
 
-pub do-calm : (op : Op) (key : Key) (s : QueueState) → serve_turn (do_effect op key s).state ≡ None
+carried_out-calm : (op : Op) (key : Key) (s : QueueState) → serve_turn (carried_out op key s).state ≡ None
+unfolding carried_out
+carried_out-calm op key s = settled-calm op key _ (serve-done (row op key (called key.session s)).state)
+
+pub do-calm : (op : Op) (key : Key) (s : QueueState) → serve_turn s ≡ None → serve_turn (do_effect op key s).state ≡ None
 unfolding do_effect
-do-calm op key s = settled-calm op key _ (serve-done (row op key (called key.session s)).state)
+do-calm op key s none = outcome_if (has_no_number op s) (ends_wait s key Reply.InternalError) (carried_out op key s) (ended-calm key.session s none) (carried_out-calm op key s)
 
 pub close-calm : (x : ℕ) (s : QueueState) → serve_turn (forgotten x (serve (released x s)).state) ≡ None
 close-calm x s =

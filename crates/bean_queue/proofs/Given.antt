@@ -10,11 +10,11 @@ use Rattle.job_store.specs.States.{with_state}
 use Rattle.session_store.specs.declared.session.Session.{Session}
 use Rattle.session_store.specs.EntryLaws.{value_at-In, Rising-altered}
 use Rattle.bean_queue.specs.declared.reply.Reply.{Reply}
-use Rattle.bean_queue.specs.Queue.{QueueState}
+use Rattle.bean_queue.specs.Queue.{QueueState, HasRisingIds}
 use Rattle.bean_queue.specs.Turns.{Outcome, Turn, turns, all_turns, after_turn, after_option, given, serve_turn, serve}
 use Rattle.bean_queue.specs.Holds.{is_reserved, reserved_in}
 use Rattle.bean_queue.specs.TurnLaws.{turns-keep, serve_turn-is, IsServed}
-use Rattle.bean_queue.proofs.Held.{HasRisingIds, Held, Held-reserved, Keeps, IsQuietReply, IsQuiet, quiet-all, serve-keeps_turn}
+use Rattle.bean_queue.proofs.Held.{Held, Held-reserved, Keeps, IsQuietReply, IsQuiet, quiet-all, serve-keeps_turn}
 
 -- one RESERVED of the job, whose receiver holds it from the second on
 pub record Gave (id now : ℕ) (o : Outcome) : Type 0 where

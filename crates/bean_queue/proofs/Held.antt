@@ -11,14 +11,10 @@ use Rattle.job_store.specs.States.{is_ready}
 use Rattle.session_store.specs.declared.session.Session.{Session}
 use Rattle.session_store.specs.EntryLaws.{value_at-each, value_at-altered_same, value_at-altered_other, value_at-In, Rising-altered}
 use Rattle.bean_queue.specs.declared.reply.Reply.{Reply}
-use Rattle.bean_queue.specs.Queue.{QueueState}
+use Rattle.bean_queue.specs.Queue.{QueueState, HasRisingIds}
 use Rattle.bean_queue.specs.Turns.{Outcome, Turn, all_turns, given, serve_turn, told, deadline_turn, timeout_turn, serve}
 use Rattle.bean_queue.specs.Holds.{is_reserved, reserved_in}
 use Rattle.bean_queue.specs.TurnLaws.{turns-keep, serve_turn-is, deadline_turn-is, timeout_turn-is, IsServed, IsTold, IfSome-map}
-
--- the ids rise, and the next one is above them
-abbrev pub HasRisingIds : QueueState → Type 0
-HasRisingIds s = Rising 1 s.next_id s.jobs
 
 -- session x holds the job id, whose time to run counts from the second
 pub record Held (jobs : List (ℕ × Job)) (x id ttr second : ℕ) : Type 0 where

@@ -31,13 +31,13 @@ due-time second (State.Delayed due) t = t
 due-time second (State.Reserved y due) t = t
 due-time second (State.Buried rank) t = cc
 
-held-due : (x second : ℕ) (state : State) → (is_held x state && nat_le (due_of state) second) ≡ true → is_due second state ≡ true
+pub held-due : (x second : ℕ) (state : State) → (is_held x state && nat_le (due_of state) second) ≡ true → is_due second state ≡ true
 held-due x second State.Ready h = cc
 held-due x second (State.Delayed due) h = cc
 held-due x second (State.Reserved y due) h = (and_parts (is_held x (State.Reserved y due)) (nat_le due second) h).1
 held-due x second (State.Buried rank) h = cc
 
-holds-one : (x second : ℕ) (jobs : List (ℕ × Job)) (e : ℕ × Job) → In e jobs → due_by second e ≡ true → is_held x e.1.state ≡ true → holds_by x second jobs ≡ true
+pub holds-one : (x second : ℕ) (jobs : List (ℕ × Job)) (e : ℕ × Job) → In e jobs → due_by second e ≡ true → is_held x e.1.state ≡ true → holds_by x second jobs ≡ true
 holds-one x second [] e i t h = absurd i
 holds-one x second (d ∷ ds) e (inl same) t h =
     or_left (is_held x d.1.state && nat_le (due_of d.1.state) second) (holds_by x second ds)

@@ -20,7 +20,7 @@ abbrev pub waiters : List (ℕ × Session) → ℕ
 waiters [] = 0
 waiters (e ∷ es) = cond (is_waiting e.1) 1 0 + waiters es
 
-waiters-length : (es : List (ℕ × Session)) → waiters es ≤ length es
+pub waiters-length : (es : List (ℕ × Session)) → waiters es ≤ length es
 waiters-length [] = omega arith
 waiters-length (e ∷ es) =
     let h = waiters-length es in
@@ -50,7 +50,7 @@ waiters-less w (e ∷ es) (inr later) t =
       | false ↦ omega arith
     ]
 
-turns-done : (turn : QueueState → Option Turn) → ((s : QueueState) → IfSome (turn s) (IsWaiterTurn s)) → (n : ℕ) (s : QueueState) → waiters s.sessions ≤ n → turn (turns turn n s).state ≡ None
+pub turns-done : (turn : QueueState → Option Turn) → ((s : QueueState) → IfSome (turn s) (IsWaiterTurn s)) → (n : ℕ) (s : QueueState) → waiters s.sessions ≤ n → turn (turns turn n s).state ≡ None
 unfolding turns
 turns-done turn good zero s few =
     elim (turn s) as (λ o. IfSome o (IsWaiterTurn s) → o ≡ None) [

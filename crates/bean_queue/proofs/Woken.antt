@@ -32,7 +32,7 @@ use Rattle.bean_queue.proofs.Served.{idle_none}
 
 -- Where nothing is left to give
 
-nothing-wanted : (s : QueueState) (j : ℕ × Job) → serve_turn s ≡ None → IsWanted s j → ⊥
+pub nothing-wanted : (s : QueueState) (j : ℕ × Job) → serve_turn s ≡ None → IsWanted s j → ⊥
 nothing-wanted s j none w =
     least-none (ready_in w.watched.0.1.watched) pri_of_job s.jobs j
     (idle_none s none w.watched.0 w.watched.1 w.watched.2)
@@ -168,11 +168,9 @@ covers_if tubes false r q h k = k
 row-covers : (op : Op) (key : Key) (s : QueueState) → is_quiet op ≡ false → serve_turn s ≡ None → Rising 0 (2 ^ 64) s.jobs → Rising 0 (2 ^ 32) s.sessions → Covers (woken_by op key s) (row op key s).state
 unfolding row put_row reserve_row release_row kick_row kick_job_row
 row-covers (Op.Put pri delay ttr body) key s q none ids numbers =
-    covers_if (used_by s key.session ∷ []) (s.next_id == 2 ^ 63) _ _ (covers-nothing (used_by s key.session ∷ []) s none)
-    (covers-new (used_by s key.session ∷ []) s _ none (λ w i t. i) (put-woken s.next_id (put_job s key.session pri delay ttr body) s.jobs))
+    covers-new (used_by s key.session ∷ []) s _ none (λ w i t. i) (put-woken s.next_id (put_job s key.session pri delay ttr body) s.jobs)
 row-covers (Op.Reserve seconds) key s q none ids numbers =
-    covers_if (watched_by s key.session) (s.next_rank == 2 ^ 63) _ _ (covers-nothing (watched_by s key.session) s none)
-    (covers-wait key.session (2 ^ 32) (Some (record { number = key.number; rank = s.next_rank; time_out = time_out s.now seconds })) s _ none numbers refl refl)
+    covers-wait key.session (2 ^ 32) (Some (record { number = key.number; rank = s.next_rank; time_out = time_out s.now seconds })) s _ none numbers refl refl
 row-covers (Op.Release id pri delay) key s q none ids numbers =
     covers_if (tube_of (value_at id s.jobs)) (is_found (is_held key.session) (value_at id s.jobs)) _ _
     (covers-new (tube_of (value_at id s.jobs)) s _ none (λ w i t. i) (altered-woken id (2 ^ 64) (with_pri_and_state pri (ready_after s.now delay)) s.jobs ids (λ job. refl)))

@@ -2,6 +2,7 @@
 use Rattle.std.specs.Prelude.{ℕ, Bool, ◌&&◌, List, [], nat_le}
 use Rattle.std.specs.List.{list_any}
 use Rattle.job_store.specs.declared.job.Job.{Job}
+use Rattle.job_store.specs.Entries.{Rising}
 use Rattle.job_store.specs.States.{is_held, due_of}
 use Rattle.session_store.specs.declared.session.Session.{Session}
 use Rattle.session_store.specs.Sessions.{session_of}
@@ -28,6 +29,10 @@ state_of counters jobs sessions = record {
 -- a new queue
 abbrev pub fresh : QueueState
 fresh = record { now = 0; next_id = 1; next_rank = 1; jobs = []; sessions = [] }
+
+-- the ids rise, from 1 on, and the next one is above them
+abbrev pub HasRisingIds : QueueState → Type 0
+HasRisingIds s = Rising 1 s.next_id s.jobs
 
 -- the state, with these jobs
 abbrev pub with_jobs : QueueState → List (ℕ × Job) → QueueState

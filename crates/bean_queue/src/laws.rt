@@ -1,4 +1,7 @@
-ghost use Rattle.std.specs.Prelude.{◌≡◌, ℕ, List, map, None, Some, true};
+ghost use Rattle.std.specs.Prelude.{◌≡◌, ◌<◌, ◌↔◌, ℕ, List, length, map, min, None, Some, true};
+ghost use Rattle.std.specs.Ordering.{nat_cmp};
+ghost use Rattle.std.specs.Cmp.Lexicographic.{slice_cmp};
+ghost use Rattle.std.specs.List.Sorted.{IsStrictlySortedBy};
 ghost use Rattle.object.specs.declared.command.Command.{Command};
 ghost use Rattle.object.specs.Answers.{AnswersOnce};
 ghost use Rattle.session_store.specs.declared.session.Session.{Session};
@@ -8,7 +11,12 @@ ghost use Rattle.bean_queue.specs.Places.{places, placed_from, queue_replay, Has
 ghost use Rattle.bean_queue.specs.Holds.{IsGivenOnce, IsHeldByOne};
 ghost use Rattle.job_store.specs.LookUps.{best_ready};
 ghost use Rattle.bean_queue.specs.Best.{IsBestTurn};
-ghost use Rattle.bean_queue.specs.Queue.{QueueState};
+ghost use Rattle.bean_queue.specs.declared.reply.Reply.{Reply};
+ghost use Rattle.bean_queue.specs.Effects.{tick_effect, effect};
+ghost use Rattle.bean_queue.specs.Owed.{OwesNothing};
+ghost use Rattle.bean_queue.specs.Queue.{QueueState, HasRisingIds, fresh, used_by};
+ghost use Rattle.bean_queue.specs.Rows.{kick_row, kickable, all_tubes, IsTube};
+ghost use Rattle.bean_queue.specs.Sound.{IsSoundQueue};
 ghost use Rattle.bean_queue.specs.Turns.{Turn, serve_turn, serve};
 ghost use Rattle.object.specs.Lists.{In};
 
@@ -43,3 +51,29 @@ pub fn serve_gives_the_best()
     least_is_least::<Job>();
     least_is_least::<Session>();
 }
+
+/// After a second has come, nothing is due to a session that waits: no job for it is ready, none that it has is due
+/// within a second, and its wait is not over.
+pub fn tick_owes_nothing()
+    ensures { (s : QueueState) (second : ℕ) → s.now < second →
+        OwesNothing (tick_effect second s).state }
+{}
+
+/// A kick tells the least of its bound and of how many jobs are there for it.
+pub fn kick_counts()
+    ensures { (s : QueueState) (x bound : ℕ) → HasRisingIds s →
+        (kick_row s x bound).reply
+        ≡ Some (Reply.KickedCount (min bound (length (kickable (used_by s x) s.jobs)))) }
+{}
+
+/// The list of all tubes has each of them once, in the order of their bytes, and no other name.
+pub fn tubes_are_listed_once()
+    ensures order { (s : QueueState) → IsStrictlySortedBy (slice_cmp nat_cmp) (all_tubes s) }
+    ensures exact { (s : QueueState) (tube : List ℕ) → In tube (all_tubes s) ↔ IsTube s tube }
+{}
+
+/// A new queue's state is sound, and stays so whatever it obeys.
+pub fn queue_stays_sound()
+    ensures fresh { IsSoundQueue fresh }
+    ensures effect { (c : Command Op) (s : QueueState) → IsSoundQueue s → IsSoundQueue (effect c s).state }
+{}

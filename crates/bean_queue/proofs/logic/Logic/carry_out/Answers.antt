@@ -2,7 +2,7 @@ use Rattle.std.proofs.Common.{sym, subst}
 use Rattle.bean_queue.specs.Woken.{Covers}
 use Rattle.bean_queue.proofs.Called.{called-there}
 use Rattle.bean_queue.proofs.Woken.{covers-loud}
-use Rattle.bean_queue.proofs.logic.Logic.act.Goals as goal
+use Rattle.bean_queue.proofs.logic.Logic.carry_out.Goals as goal
 
 pub woken_by-requires : goal.woken_by-requires
 woken_by-requires g c = called-there c.args.self.now.now c.call.new.self.now c.args.key.session c.in_ok-call.ensures.now

@@ -1,6 +1,6 @@
 use Rattle.std.proofs.lemmas.Result.{on_ok_weaker, IfOk-weaker}
 use Rattle.bean_queue.proofs.Called.{called-there, quiet-state, quiet-reply}
-use Rattle.bean_queue.proofs.logic.Logic.answer.Goals as goal
+use Rattle.bean_queue.proofs.logic.Logic.carry_out_quietly.Goals as goal
 
 pub quiet_row-requires-clause-there : goal.quiet_row-requires-clause-there
 quiet_row-requires-clause-there g c = called-there c.args.self.now.now c.call.new.self.now c.args.key.session c.in_ok-call.ensures.now
