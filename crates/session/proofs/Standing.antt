@@ -1,5 +1,5 @@
 -- Where a session stands in a text.
-use Rattle.std.proofs.Common.{◌≡◌, ℕ, ◌+◌, ◌*◌, ◌<◌, ◌≤◌, Bool, true, false, if◌then◌else◌, List, [], ◌∷◌, ◌++◌, Option, Some, None, Result, Ok, Err, OnOk, length, take, drop, refl, sym, ap, subst, ◌∙◌, length-append, length-take, arith}
+use Rattle.std.proofs.Common.{◌≡◌, ℕ, ◌+◌, ◌*◌, ◌<◌, ◌≤◌, Bool, true, false, if◌then◌else◌, List, [], ◌∷◌, ◌++◌, Option, Some, None, Result, Ok, Err, OnOk, OnErr, length, take, drop, refl, sym, ap, subst, ◌∙◌, length-append, length-take, arith}
 use Rattle.std.proofs.lemmas.List.{append-nil, append_assoc, take-append-drop, take-append-le, drop-append-le}
 use Rattle.bean_codec.specs.declared.reader.Want.{Want}
 use Rattle.bean_codec.specs.declared.reader.Want.TheVariants.{Line, Rest, Big}
@@ -7,11 +7,12 @@ use Rattle.bean_codec.specs.declared.request.Fault.{Fault}
 use Rattle.bean_codec.specs.declared.request.Request.{Request}
 use Rattle.bean_codec.specs.Lines.{crlf}
 use Rattle.bean_codec.specs.Grammar.{Item, Spells}
+use Rattle.bean_codec.specs.Memory.{TakesMemory}
 use Rattle.bean_codec.specs.Wants.{Fits}
-use Rattle.bean_codec.specs.Reads.{BeginsWithNone, EndsItem}
+use Rattle.bean_codec.specs.Reads.{BeginsWith, BeginsWithNone, EndsItem}
 use Rattle.bean_codec.specs.Replies.{fault_text}
 use Rattle.session.specs.Items.{ReadsFirst, told_text}
-use Rattle.session.specs.Held.{Held, MayKeep, StandsAt, ComesTo, Finds, holding, faulty}
+use Rattle.session.specs.Held.{Held, MayKeep, StandsAt, TakesRoom, FrontTakesRoom, ComesTo, Finds, holding, faulty}
 use Rattle.session.proofs.FitsMore.{fits_more}
 use Rattle.session.proofs.Items.{reads_one, told_text-fault, faulty-one}
 
@@ -28,6 +29,10 @@ NeedsMore want kept = (dropped : List ℕ) → Fits want dropped kept → Begins
 pub on_ok : {X E P Q : Type 0} (r : Result X E) → (P → Q) → OnOk r P → OnOk r Q
 on_ok (Ok x) f p = f p
 on_ok (Err e) f p = tt
+
+pub if_err : {X E P : Type 0} (r : Result X E) → P → OnErr r P
+if_err (Ok x) p = tt
+if_err (Err e) p = p
 
 -- a piece more
 pub stands_more : (s t : Held) (piece : List ℕ) → t ≡ record s { kept = s.kept ++ piece; read_len = 0 } → (text : List ℕ) → StandsAt s text → StandsAt t (text ++ piece)
@@ -73,6 +78,29 @@ finds_request old want kept unsent request used item looks t st =
     let l = looks t st in
     let d = l.4.0 in
     (l.0, l.1, l.2, l.3, (d ++ take used kept, drop used kept, l.4.2 ∙ cut_in d kept used, (item d l.4.1).1, ([], refl, refl)))
+
+-- what stands behind faults takes memory, and so does what stands in front
+front_of_faults : (t rest : List ℕ) (faults : List Fault) → ReadsFirst t (faulty faults) rest → FrontTakesRoom rest → FrontTakesRoom t
+front_of_faults t rest [] r room = subst FrontTakesRoom (sym r) room
+front_of_faults t rest (fault ∷ faults) r room = (Err fault, r.0, r.1, r.2, r.3, tt)
+
+takes_room : (item : Item) → TakesMemory item → TakesRoom item
+takes_room (Ok request) takes = takes
+takes_room (Err fault) takes = tt
+
+pub request_takes_room : (old : Held) (want : Want) (kept unsent : List ℕ) → (want ≡ Line) × ((found : Item × ℕ) × TakesMemory found.0 × BeginsWith kept found) → Looks old (holding want kept unsent) → (t : List ℕ) → StandsAt old t → FrontTakesRoom t
+request_takes_room old want kept unsent (line, needs) looks t st =
+    let l = looks t st in
+    let none : l.4.0 ≡ [] = subst (λ w. Fits w l.4.0 kept) line l.4.1 in
+    let same : l.1 ≡ kept = l.4.2 ∙ ap (λ d. d ++ kept) none in
+    let here : FrontTakesRoom kept = (needs.0.0, take needs.0.1 kept, drop needs.0.1 kept, sym (take-append-drop needs.0.1 kept), needs.2.1, takes_room needs.0.0 needs.1) in
+    front_of_faults t l.1 l.0 l.2 (subst FrontTakesRoom (sym same) here)
+
+pub fault_takes_room : (old : Held) (want : Want) (kept unsent : List ℕ) (fault : Fault) (used : ℕ) → Continues want kept (Err fault, used) → Looks old (holding want kept unsent) → (t : List ℕ) → StandsAt old t → FrontTakesRoom t
+fault_takes_room old want kept unsent fault used item looks t st =
+    let l = looks t st in
+    let d = l.4.0 in
+    front_of_faults t l.1 l.0 l.2 (Err fault, d ++ take used kept, drop used kept, l.4.2 ∙ cut_in d kept used, (item d l.4.1).1, tt)
 
 -- what a reader has yet to do: each byte counts twice, and what is dropped once more
 abbrev pub rank : Want → ℕ

@@ -6,6 +6,7 @@ use Rattle.bean_codec.specs.declared.request.Fault.{Fault}
 use Rattle.bean_codec.specs.declared.request.Request.{Request}
 use Rattle.bean_codec.specs.declared.request.Request.TheVariants.{Do, Quit}
 use Rattle.bean_codec.specs.Grammar.{Item, Spells}
+use Rattle.bean_codec.specs.Memory.{TakesMemory}
 use Rattle.bean_codec.specs.Wants.{Fits}
 use Rattle.bean_codec.specs.Reads.{BeginsWithNone}
 use Rattle.session.specs.Items.{ReadsFirst, told_text}
@@ -57,6 +58,15 @@ ComesTo (Some request) s text =
     (text ≡ front ++ rest) ×
     Spells front (Ok request) ×
     StandsAt s rest
+
+-- the item takes memory: the line of a fault, or what a request keeps
+abbrev pub TakesRoom : Item → Type 0
+TakesRoom (Ok request) = TakesMemory (Ok request)
+TakesRoom (Err fault) = Unit {0}
+
+-- the text begins with such an item
+abbrev pub FrontTakesRoom : List ℕ → Type 0
+FrontTakesRoom text = (item : Item) × (front rest : List ℕ) × (text ≡ front ++ rest) × Spells front item × TakesRoom item
 
 -- the items that are faults
 abbrev pub faulty : List Fault → List Item

@@ -2,7 +2,7 @@ ghost use Rattle.std.specs.Prelude.{◌≡◌, ◌<◌, ◌≤◌, ◌+◌, ◌+
 ghost use Rattle.bean_codec.specs.Reads.{longest_wait};
 ghost use Rattle.bean_codec.specs.Replies.{reply_text};
 ghost use Rattle.session.specs.Items.{refused_text};
-ghost use Rattle.session.specs.Held.{holding, nothing_held, is_asked, fed_buffer_len, text_buffer_len, MayKeep, StandsAt, Finds};
+ghost use Rattle.session.specs.Held.{holding, nothing_held, is_asked, fed_buffer_len, text_buffer_len, MayKeep, StandsAt, FrontTakesRoom, Finds};
 
 use bean_codec::{Read, Request, Want, read_request, write_fault, write_reply};
 use bean_queue::Reply;
@@ -101,6 +101,7 @@ impl Session {
         ensures small { IfOk result (λ found. found ≡ None → length self.new.kept ≤ longest_wait) }
         ensures buffer { OnOk result (fed_buffer_len self.new ≡ fed_buffer_len self.old) }
         ensures sent_len { OnOk result (self.new.sent_len ≡ self.old.sent_len) }
+        ensures memory { OnErr result ((text : List ℕ) → StandsAt self.old text → FrontTakesRoom text) }
         ensures err { OnErr result (self.new ≡ self.old) }
     {
         let len = self.text.len();
@@ -206,6 +207,8 @@ fn look_on(
         (holding found.want (drop found.start bytes.now) text.new.items) t found.request) }
     ensures small { IfOk result (λ found. found.request ≡ None
         → length (drop found.start bytes.now) ≤ longest_wait) }
+    ensures memory { OnErr result ((t : List ℕ)
+        → StandsAt (holding want (drop start bytes.now) text.old.items) t → FrontTakesRoom t) }
     ensures front { take (vec_len text.old) text.new.items ≡ text.old.items }
 {
     let mut at = start;
