@@ -1,18 +1,16 @@
 -- After a second has come, nothing is due to a session that waits.
-use Rattle.std.proofs.Common.{◌≡◌, ℕ, ◌+◌, ◌<◌, Bool, true, false, cond, ◌&&◌, inl, inr, List, Option, None, Some, nat_le, nat_lt, length, refl, sym, ap, subst, ◌∙◌, arith, true≢false, lt-ltb}
+use Rattle.std.proofs.Common.{◌≡◌, ℕ, ◌+◌, ◌<◌, Bool, true, false, cond, ◌&&◌, inl, inr, None, Some, nat_le, length, refl, sym, subst, lt-ltb}
 use Rattle.std.proofs.lemmas.Bool.{and_from, cases_Bool, leb-false}
 use Rattle.object.specs.Lists.{In}
-use Rattle.job_store.specs.declared.job.Job.{Job}
-use Rattle.job_store.specs.LookUps.{is_among}
-use Rattle.job_store.specs.States.{is_ready, is_held, is_due, due_of}
+use Rattle.job_store.specs.States.{is_held, due_of}
 use Rattle.session_store.specs.declared.session.SessionState.{SessionState}
-use Rattle.session_store.specs.Sessions.{first_waiting, is_waiting, wait_rank, has_timed_out, with_wait_ended}
+use Rattle.session_store.specs.Sessions.{first_waiting, is_waiting, wait_rank, has_timed_out}
 use Rattle.bean_queue.specs.declared.reply.Reply.{Reply}
 use Rattle.bean_queue.specs.Effects.{at_second, tick_effect, then_do}
-use Rattle.bean_queue.specs.Owed.{IsOwedNothing, OwesNothing}
+use Rattle.bean_queue.specs.Owed.{OwesNothing}
 use Rattle.bean_queue.specs.Queue.{QueueState, holds_by}
 use Rattle.bean_queue.specs.TurnLaws.{least-none, turns-keep, timeout_turn-is, IsTold, IfSome-map}
-use Rattle.bean_queue.specs.Turns.{Outcome, Turn, all_turns, serve, serve_turn, tell, told_turn, deadline_turn, timeout_turn, stop}
+use Rattle.bean_queue.specs.Turns.{Turn, all_turns, serve, serve_turn, tell, told_turn, deadline_turn, timeout_turn, stop}
 use Rattle.bean_queue.proofs.Calm.{ended-calmer, deadlines-calm, timeouts-calm}
 use Rattle.bean_queue.proofs.Holders.{held-due, holds-one}
 use Rattle.bean_queue.proofs.Served.{waiters-length, turns-done, serve-done, tells_deadline, tells_timeout}

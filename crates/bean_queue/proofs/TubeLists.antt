@@ -1,7 +1,6 @@
 -- The list of all tubes: in order, each once, and no others.
-use Rattle.std.proofs.Common.{◌≡◌, ◌↔◌, ℕ, Bool, ◌⊎◌, inl, inr, List, [], ◌∷◌, ◌++◌, map, flat_map, fold, codes, nat_cmp, Ordering, Less, Equal, Greater, refl, sym, ap, subst, ◌∙◌}
+use Rattle.std.proofs.Common.{◌≡◌, ◌↔◌, ℕ, ◌⊎◌, inl, inr, List, [], ◌∷◌, ◌++◌, map, flat_map, fold, codes, nat_cmp, Ordering, Less, Equal, Greater, refl, ap, subst, ◌∙◌}
 use Rattle.std.specs.Ordering.{match_ordering, ordering_reverse}
-use Rattle.std.specs.Cmp.{IsTotalOrder}
 use Rattle.std.specs.Cmp.Lexicographic.{slice_cmp}
 use Rattle.std.specs.BTreeSet.{insert_key}
 use Rattle.std.specs.List.{AllByRecursion}
@@ -12,7 +11,7 @@ use Rattle.object.specs.Lists.{In}
 use Rattle.job_store.specs.declared.job.Job.{Job}
 use Rattle.session_store.specs.declared.session.SessionState.{SessionState}
 use Rattle.bean_queue.specs.Queue.{QueueState}
-use Rattle.bean_queue.specs.Rows.{in_order, all_tubes, IsTube}
+use Rattle.bean_queue.specs.Rows.{all_tubes, IsTube}
 use Rattle.bean_queue.specs.WaitLaws.{in-append}
 
 abbrev cmp : List ℕ → List ℕ → Ordering

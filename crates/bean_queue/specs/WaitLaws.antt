@@ -1,5 +1,5 @@
 -- The laws of every effect: who waits, and whom the answers name.
-use Rattle.std.proofs.Common.{◌≡◌, ℕ, zero, suc, ◌+◌, Bool, true, false, cond, ◌⊎◌, inl, inr, List, [], ◌∷◌, ◌++◌, length, Option, Some, None, IfSome, ◌==◌, nat_lt, refl, sym, ap, subst, ◌∙◌, append_assoc}
+use Rattle.std.proofs.Common.{◌≡◌, ℕ, zero, suc, ◌+◌, Bool, true, false, cond, ◌⊎◌, inl, inr, List, [], ◌∷◌, ◌++◌, length, Option, Some, None, IfSome, nat_lt, refl, sym, ap, subst, ◌∙◌, append_assoc}
 use Rattle.object.specs.Lists.{In}
 use Rattle.object.specs.Answers.{AnswersOnce}
 use Rattle.object.specs.declared.command.Act.{Act}

@@ -1,4 +1,4 @@
-use Rattle.std.proofs.Common.{◌≡◌, ℕ, ◌<◌, ◌^◌, Option, Some, option_map, Bor, Vec, Global, sym, ap, subst}
+use Rattle.std.proofs.Common.{◌≡◌, ℕ, ◌<◌, ◌^◌, Option, Some, option_map, Bor, sym, ap, subst}
 use Rattle.job_store.specs.declared.job.Job.{Job}
 use Rattle.job_store.specs.LookUps.{first_due_after}
 use Rattle.bean_queue.proofs.Holders.{AreNoted, IsNoted, far, noted-first, noted-next, noted-all, noted-by, nearer}
