@@ -2,8 +2,8 @@
 use Rattle.std.proofs.Common.{◌≡◌, ℕ, true, false, cond, Option, None, Some, IsSome, is_some, option_map, [], ◌∷◌, refl, sym, ap, subst, ◌∙◌}
 use Rattle.job_store.specs.Entries.{value_at, with_value}
 use Rattle.object.specs.declared.command.Key.{Key}
-use Rattle.session_store.specs.declared.session.Session.{Session}
-use Rattle.session_store.specs.Sessions.{new_session, with_wait, ended}
+use Rattle.session_store.specs.declared.session.SessionState.{SessionState}
+use Rattle.session_store.specs.Sessions.{new_session, with_wait, with_wait_ended}
 use Rattle.session_store.specs.EntryLaws.{value_at-altered, value_at-insert}
 use Rattle.bean_queue.specs.declared.op.Op.{Op}
 use Rattle.bean_queue.specs.declared.reply.Reply.{Reply}
@@ -13,14 +13,14 @@ use Rattle.bean_queue.specs.Turns.{Outcome, serve_turn}
 use Rattle.bean_queue.specs.Effects.{own, called, carried_out, is_quiet}
 use Rattle.bean_queue.proofs.Calm.{quiet-effect}
 
-still_some : (o : Option Session) → is_some o ≡ true → is_some (option_map (with_wait None) o) ≡ true
+still_some : (o : Option SessionState) → is_some o ≡ true → is_some (option_map (with_wait None) o) ≡ true
 still_some None e = e
 still_some (Some v) e = refl
 
 pub called-there : (s t : QueueState) (x : ℕ) → t ≡ called x s → IsSome (value_at x t.sessions)
 called-there s t x e =
     subst (λ (t : QueueState). IsSome (value_at x t.sessions)) (sym e)
-    (elim (is_some (value_at x s.sessions)) as (λ b. is_some (value_at x s.sessions) ≡ b → is_some (value_at x (cond b (ended x s.sessions) (with_value x new_session s.sessions))) ≡ true) [
+    (elim (is_some (value_at x s.sessions)) as (λ b. is_some (value_at x s.sessions) ≡ b → is_some (value_at x (cond b (with_wait_ended x s.sessions) (with_value x new_session s.sessions))) ≡ true) [
       | true ↦ λ there. ap is_some (value_at-altered x (with_wait None) s.sessions) ∙ still_some (value_at x s.sessions) there
       | false ↦ λ absent. ap is_some (value_at-insert x new_session s.sessions)
     ] refl)

@@ -1,5 +1,5 @@
 -- How many jobs a kick makes ready.
-use Rattle.std.proofs.Common.{◌≡◌, ℕ, zero, suc, ◌+◌, ◌<◌, ◌≤◌, Bool, true, false, cond, ◌||◌, inl, inr, List, [], ◌∷◌, filter, length, Option, None, Some, IfSome, is_some, ◌==◌, refl, sym, ap, subst, ◌∙◌, arith, eq-eqb, ne_eqb, true≢false}
+use Rattle.std.proofs.Common.{◌≡◌, ℕ, zero, suc, ◌+◌, ◌<◌, ◌≤◌, Bool, true, false, cond, ◌||◌, inl, inr, List, [], ◌∷◌, filter, length, None, Some, IfSome, is_some, ◌==◌, refl, sym, ap, ◌∙◌, arith, eq-eqb, ne_eqb}
 use Rattle.std.specs.Prelude.{min}
 use Rattle.std.proofs.Math.Nat.{min-zero, zero-min, suc-min-suc}
 use Rattle.std.proofs.lemmas.Bool.{cond-true, cond-false}
@@ -14,7 +14,7 @@ use Rattle.job_store.specs.States.{with_state}
 use Rattle.session_store.specs.EntryLaws.{Rising-altered, altered-none, key_from}
 use Rattle.bean_queue.specs.declared.reply.Reply.{Reply}
 use Rattle.bean_queue.specs.Queue.{QueueState, HasRisingIds, used_by}
-use Rattle.bean_queue.specs.Rows.{Kicked, and_one, kicked_option, kicked, kick_row, kickable}
+use Rattle.bean_queue.specs.Rows.{kicked_option, kicked, kick_row, kickable}
 use Rattle.bean_queue.specs.TurnLaws.{least-in, least-none}
 
 -- the job under an id, made ready

@@ -1,28 +1,26 @@
 -- After a second has come, nothing is due to a session that waits.
-use Rattle.std.proofs.Common.{◌≡◌, ℕ, ◌+◌, ◌<◌, Bool, true, false, cond, ◌&&◌, inl, inr, List, Option, None, Some, nat_le, nat_lt, length, refl, sym, ap, subst, ◌∙◌, arith, true≢false, lt-ltb}
+use Rattle.std.proofs.Common.{◌≡◌, ℕ, ◌+◌, ◌<◌, Bool, true, false, cond, ◌&&◌, inl, inr, None, Some, nat_le, length, refl, sym, subst, lt-ltb}
 use Rattle.std.proofs.lemmas.Bool.{and_from, cases_Bool, leb-false}
 use Rattle.object.specs.Lists.{In}
-use Rattle.job_store.specs.declared.job.Job.{Job}
-use Rattle.job_store.specs.LookUps.{is_among}
-use Rattle.job_store.specs.States.{is_ready, is_held, is_due, due_of}
-use Rattle.session_store.specs.declared.session.Session.{Session}
-use Rattle.session_store.specs.Sessions.{first_waiting, is_waiting, wait_rank, has_timed_out, ended}
+use Rattle.job_store.specs.States.{is_held, due_of}
+use Rattle.session_store.specs.declared.session.SessionState.{SessionState}
+use Rattle.session_store.specs.Sessions.{first_waiting, is_waiting, wait_rank, has_timed_out}
 use Rattle.bean_queue.specs.declared.reply.Reply.{Reply}
 use Rattle.bean_queue.specs.Effects.{at_second, tick_effect, then_do}
-use Rattle.bean_queue.specs.Owed.{IsOwedNothing, OwesNothing}
+use Rattle.bean_queue.specs.Owed.{OwesNothing}
 use Rattle.bean_queue.specs.Queue.{QueueState, holds_by}
 use Rattle.bean_queue.specs.TurnLaws.{least-none, turns-keep, timeout_turn-is, IsTold, IfSome-map}
-use Rattle.bean_queue.specs.Turns.{Outcome, Turn, all_turns, serve, serve_turn, tell, told, deadline_turn, timeout_turn, stop}
+use Rattle.bean_queue.specs.Turns.{Turn, all_turns, serve, serve_turn, tell, told_turn, deadline_turn, timeout_turn, stop}
 use Rattle.bean_queue.proofs.Calm.{ended-calmer, deadlines-calm, timeouts-calm}
 use Rattle.bean_queue.proofs.Holders.{held-due, holds-one}
 use Rattle.bean_queue.proofs.Served.{waiters-length, turns-done, serve-done, tells_deadline, tells_timeout}
 use Rattle.bean_queue.proofs.Woken.{nothing-wanted}
 
 -- nobody waits who passes
-abbrev NobodyWaits : (ℕ × Session → Bool) → QueueState → Type 0
-NobodyWaits test s = (w : ℕ × Session) → In w s.sessions → is_waiting w.1 ≡ true → test w ≡ true → ⊥
+abbrev NobodyWaits : (ℕ × SessionState → Bool) → QueueState → Type 0
+NobodyWaits test s = (w : ℕ × SessionState) → In w s.sessions → is_waiting w.1 ≡ true → test w ≡ true → ⊥
 
-nobody : (reply : Reply) (test : ℕ × Session → Bool) (s : QueueState) → tell s reply (first_waiting test s.sessions) ≡ None → NobodyWaits test s
+nobody : (reply : Reply) (test : ℕ × SessionState → Bool) (s : QueueState) → tell s reply (first_waiting test s.sessions) ≡ None → NobodyWaits test s
 nobody reply test s none w i waits passes =
     elim (first_waiting test s.sessions) as (λ o. first_waiting test s.sessions ≡ o → tell s reply o ≡ None → ⊥) [
       | None ↦ λ f e. least-none (λ e. is_waiting e.1 && test e) wait_rank s.sessions w f i (and_from (is_waiting w.1) (test w) waits passes)
@@ -42,7 +40,7 @@ unfolding all_turns
 holds-done s = none-holds _ (turns-done deadline_turn tells_deadline (length s.sessions) s (waiters-length s.sessions))
 
 told-holds : (reply : Reply) (s : QueueState) (t : Turn) → IsTold reply s t → NobodyHolds s → NobodyHolds t.state
-unfolding told
+unfolding told_turn
 told-holds reply s t i h = subst (λ (t : Turn). NobodyHolds t.state) (sym i.made) (λ w there waits holds. h w (ended-calmer i.session.0 s.sessions w there waits) waits holds)
 
 timeouts-hold : (s : QueueState) → NobodyHolds s → NobodyHolds (all_turns timeout_turn s).state

@@ -1,7 +1,6 @@
 -- The list of all tubes: in order, each once, and no others.
-use Rattle.std.proofs.Common.{◌≡◌, ◌↔◌, ℕ, Bool, ◌⊎◌, inl, inr, List, [], ◌∷◌, ◌++◌, map, flat_map, fold, codes, nat_cmp, Ordering, Less, Equal, Greater, refl, sym, ap, subst, ◌∙◌}
+use Rattle.std.proofs.Common.{◌≡◌, ◌↔◌, ℕ, ◌⊎◌, inl, inr, List, [], ◌∷◌, ◌++◌, map, flat_map, fold, codes, nat_cmp, Ordering, Less, Equal, Greater, refl, ap, subst, ◌∙◌}
 use Rattle.std.specs.Ordering.{match_ordering, ordering_reverse}
-use Rattle.std.specs.Cmp.{IsTotalOrder}
 use Rattle.std.specs.Cmp.Lexicographic.{slice_cmp}
 use Rattle.std.specs.BTreeSet.{insert_key}
 use Rattle.std.specs.List.{AllByRecursion}
@@ -10,9 +9,9 @@ use Rattle.std.proofs.lemmas.Cmp.{nat_list_cmp_total}
 use Rattle.std.proofs.lemmas.Map.Lookups.{exact_bytes}
 use Rattle.object.specs.Lists.{In}
 use Rattle.job_store.specs.declared.job.Job.{Job}
-use Rattle.session_store.specs.declared.session.Session.{Session}
+use Rattle.session_store.specs.declared.session.SessionState.{SessionState}
 use Rattle.bean_queue.specs.Queue.{QueueState}
-use Rattle.bean_queue.specs.Rows.{in_order, all_tubes, IsTube}
+use Rattle.bean_queue.specs.Rows.{all_tubes, IsTube}
 use Rattle.bean_queue.specs.WaitLaws.{in-append}
 
 abbrev cmp : List ℕ → List ℕ → Ordering
@@ -100,7 +99,7 @@ module _ {X : Type 0} where
 abbrev tubes_of_jobs : List (ℕ × Job) → List (List ℕ)
 tubes_of_jobs jobs = map (λ e. e.1.tube) jobs
 
-abbrev tubes_of_sessions : List (ℕ × Session) → List (List ℕ)
+abbrev tubes_of_sessions : List (ℕ × SessionState) → List (List ℕ)
 tubes_of_sessions sessions = flat_map (λ e. e.1.used ∷ e.1.watched) sessions
 
 from-jobs : (t : List ℕ) (jobs : List (ℕ × Job)) → In t (tubes_of_jobs jobs) → (j : ℕ × Job) × In j jobs × (t ≡ j.1.tube)
@@ -113,18 +112,18 @@ to-jobs t [] j i e = absurd i
 to-jobs t (d ∷ ds) j (inl same) e = inl (e ∙ ap (λ (p : ℕ × Job). p.1.tube) same)
 to-jobs t (d ∷ ds) j (inr later) e = inr (to-jobs t ds j later e)
 
-from-sessions : (t : List ℕ) (sessions : List (ℕ × Session)) → In t (tubes_of_sessions sessions) → (w : ℕ × Session) × In w sessions × ((t ≡ w.1.used) ⊎ In t w.1.watched)
+from-sessions : (t : List ℕ) (sessions : List (ℕ × SessionState)) → In t (tubes_of_sessions sessions) → (w : ℕ × SessionState) × In w sessions × ((t ≡ w.1.used) ⊎ In t w.1.watched)
 from-sessions t [] i = absurd i
 from-sessions t (e ∷ es) i =
-    elim (in-append (e.1.used ∷ e.1.watched) (tubes_of_sessions es) t i) as (λ v. (w : ℕ × Session) × In w (e ∷ es) × ((t ≡ w.1.used) ⊎ In t w.1.watched)) [
+    elim (in-append (e.1.used ∷ e.1.watched) (tubes_of_sessions es) t i) as (λ v. (w : ℕ × SessionState) × In w (e ∷ es) × ((t ≡ w.1.used) ⊎ In t w.1.watched)) [
       | inl here ↦ (e, inl refl, here)
       | inr later ↦ let r = from-sessions t es later in (r.0, inr r.1, r.2)
     ]
 
-to-sessions : (t : List ℕ) (sessions : List (ℕ × Session)) (w : ℕ × Session) → In w sessions → (t ≡ w.1.used) ⊎ In t w.1.watched → In t (tubes_of_sessions sessions)
+to-sessions : (t : List ℕ) (sessions : List (ℕ × SessionState)) (w : ℕ × SessionState) → In w sessions → (t ≡ w.1.used) ⊎ In t w.1.watched → In t (tubes_of_sessions sessions)
 to-sessions t [] w i h = absurd i
 to-sessions t (e ∷ es) w (inl same) h =
-    before t (e.1.used ∷ e.1.watched) (tubes_of_sessions es) (subst (λ (p : ℕ × Session). (t ≡ p.1.used) ⊎ In t p.1.watched) same h)
+    before t (e.1.used ∷ e.1.watched) (tubes_of_sessions es) (subst (λ (p : ℕ × SessionState). (t ≡ p.1.used) ⊎ In t p.1.watched) same h)
 to-sessions t (e ∷ es) w (inr later) h = behind t (e.1.used ∷ e.1.watched) (tubes_of_sessions es) (to-sessions t es w later h)
 
 pub tubes-sorted : (s : QueueState) → IsStrictlySortedBy cmp (all_tubes s)

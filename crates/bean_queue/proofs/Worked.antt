@@ -7,7 +7,7 @@ use Rattle.object.specs.declared.command.Command.{Command}
 use Rattle.bean_queue.specs.declared.op.Op.{Op}
 use Rattle.bean_queue.specs.declared.reply.Reply.{Reply}
 use Rattle.bean_queue.specs.Rows.{row, put_row, reserve_row, delete_row, all_tubes, kick_row, kicked, kick_job_row, use_row, watch_row, bury_row, peek_row}
-use Rattle.bean_queue.specs.Turns.{turns, all_turns, given, serve_turn, told, deadline_turn, timeout_turn, serve}
+use Rattle.bean_queue.specs.Turns.{turns, all_turns, given, serve_turn, told_turn, deadline_turn, timeout_turn, serve}
 use Rattle.bean_queue.specs.Effects.{settled, carried_out, do_effect, close_effect, tick_effect, act_effect, effect}
 use Rattle.bean_queue.specs.Places.{queue_replay}
 
@@ -64,7 +64,7 @@ time_runs_out :
     to 2 1 (Reply.Reserved 1 j) ∷
     to 1 4 Reply.NotFound ∷
     []
-unfolding effect act_effect do_effect carried_out tick_effect settled row put_row reserve_row delete_row serve all_turns turns serve_turn given deadline_turn timeout_turn told
+unfolding effect act_effect do_effect carried_out tick_effect settled row put_row reserve_row delete_row serve all_turns turns serve_turn given deadline_turn timeout_turn told_turn
 time_runs_out = refl
 
 -- a delayed job is ready in the second that is due; a second that came before does nothing
@@ -72,7 +72,7 @@ a_delay_is_over :
     all_answers
     (asks 1 1 (Op.Put 0 4 10 j) ∷ tick 5 ∷ tick 5 ∷ tick 3 ∷ asks 1 2 (Op.Reserve (Some 0)) ∷ []) ≡
     to 1 1 (Reply.Inserted 1) ∷ to 1 2 (Reply.Reserved 1 j) ∷ []
-unfolding effect act_effect do_effect carried_out tick_effect settled row put_row reserve_row delete_row serve all_turns turns serve_turn given deadline_turn timeout_turn told
+unfolding effect act_effect do_effect carried_out tick_effect settled row put_row reserve_row delete_row serve all_turns turns serve_turn given deadline_turn timeout_turn told_turn
 a_delay_is_over = refl
 
 -- a command whose number is not above those before is not obeyed

@@ -8,7 +8,7 @@ use Rattle.job_store.specs.declared.job.Job.{Job}
 use Rattle.job_store.specs.declared.state.State.{State}
 use Rattle.job_store.specs.Entries.{without, each_value}
 use Rattle.job_store.specs.States.{is_due, is_held, with_state}
-use Rattle.session_store.specs.Sessions.{session_of, known, ended, is_waiting}
+use Rattle.session_store.specs.Sessions.{session_of, known, with_wait_ended, is_waiting}
 use Rattle.bean_queue.specs.declared.op.Op.{Op}
 use Rattle.bean_queue.specs.declared.reply.Reply.{Reply}
 use Rattle.bean_queue.specs.Queue.{QueueState, with_sessions, holds_by}
@@ -34,7 +34,7 @@ called x s = with_sessions s (known x s.sessions)
 
 -- the command is answered, and its session waits no longer
 abbrev pub ends_wait : QueueState → Key → Reply → Outcome
-ends_wait s key reply = own_outcome key (record { state = with_sessions s (ended key.session s.sessions); reply = Some reply })
+ends_wait s key reply = own_outcome key (record { state = with_sessions s (with_wait_ended key.session s.sessions); reply = Some reply })
 
 -- the seconds are none
 abbrev pub is_zero : Option ℕ → Bool
@@ -78,7 +78,7 @@ released_by x job = if is_held x job.state then with_state State.Ready job else 
 
 -- session x waits no longer, and its jobs are ready again
 abbrev pub released : ℕ → QueueState → QueueState
-released x s = record s { jobs = each_value (released_by x) s.jobs; sessions = ended x s.sessions }
+released x s = record s { jobs = each_value (released_by x) s.jobs; sessions = with_wait_ended x s.sessions }
 
 -- session x is gone
 abbrev pub forgotten : ℕ → QueueState → QueueState

@@ -4,7 +4,7 @@ use Rattle.std.specs.List.{list_any}
 use Rattle.job_store.specs.declared.job.Job.{Job}
 use Rattle.job_store.specs.Entries.{Rising}
 use Rattle.job_store.specs.States.{is_held, due_of}
-use Rattle.session_store.specs.declared.session.Session.{Session}
+use Rattle.session_store.specs.declared.session.SessionState.{SessionState}
 use Rattle.session_store.specs.Sessions.{session_of}
 use Rattle.bean_queue.specs.declared.counters.Counters.{Counters}
 
@@ -14,10 +14,10 @@ pub record QueueState : Type 0 where
   pub next_id : ℕ
   pub next_rank : ℕ
   pub jobs : List (ℕ × Job)
-  pub sessions : List (ℕ × Session)
+  pub sessions : List (ℕ × SessionState)
 
 -- the state of these parts
-abbrev pub state_of : Counters → List (ℕ × Job) → List (ℕ × Session) → QueueState
+abbrev pub state_of : Counters → List (ℕ × Job) → List (ℕ × SessionState) → QueueState
 state_of counters jobs sessions = record {
   now = counters.now;
   next_id = counters.next_id;
@@ -39,7 +39,7 @@ abbrev pub with_jobs : QueueState → List (ℕ × Job) → QueueState
 with_jobs s jobs = record s { jobs = jobs }
 
 -- the state, with these sessions
-abbrev pub with_sessions : QueueState → List (ℕ × Session) → QueueState
+abbrev pub with_sessions : QueueState → List (ℕ × SessionState) → QueueState
 with_sessions s sessions = record s { sessions = sessions }
 
 -- the tube that session x uses

@@ -1,5 +1,5 @@
 -- What each operation does before waiting sessions are served: the state after, and the operation's own reply.
-use Rattle.std.specs.Prelude.{◌≡◌, ℕ, zero, suc, ◌+◌, ◌^◌, max, Bool, true, false, ◌||◌, List, [], ◌∷◌, ◌++◌, map, filter, flat_map, fold, Option, None, Some, ◌==◌, length, is_some, codes, if◌then◌else◌}
+use Rattle.std.specs.Prelude.{◌≡◌, ℕ, zero, suc, ◌+◌, max, Bool, true, false, ◌||◌, List, [], ◌∷◌, ◌++◌, map, filter, flat_map, fold, Option, None, Some, ◌==◌, length, is_some, codes, if◌then◌else◌}
 use Rattle.std.specs.List.{list_any}
 use Rattle.std.specs.Ordering.{nat_cmp}
 use Rattle.std.specs.Cmp.Lexicographic.{slice_cmp}
@@ -11,7 +11,7 @@ use Rattle.job_store.specs.declared.state.State.{State}
 use Rattle.job_store.specs.Entries.{value_at, with_value, altered, without}
 use Rattle.job_store.specs.States.{is_held, is_delayed, is_buried, with_state, with_pri_and_state}
 use Rattle.job_store.specs.LookUps.{delayed_in, buried_in, first_ready, first_delayed, first_buried}
-use Rattle.session_store.specs.declared.session.Session.{Session}
+use Rattle.session_store.specs.declared.session.SessionState.{SessionState}
 use Rattle.session_store.specs.Sessions.{with_wait}
 use Rattle.session_store.specs.WatchLists.{joined, left_out, is_alone}
 use Rattle.bean_queue.specs.declared.op.Op.{Op}
@@ -28,7 +28,7 @@ abbrev pub replies : QueueState → Reply → Row
 replies s reply = record { state = s; reply = Some reply }
 
 -- the state, with session x changed
-abbrev pub with_session : QueueState → ℕ → (Session → Session) → QueueState
+abbrev pub with_session : QueueState → ℕ → (SessionState → SessionState) → QueueState
 with_session s x f = record s { sessions = altered x f s.sessions }
 
 -- Ready, or Delayed where there is a delay (protocol.txt of beanstalkd, "put": delay)
@@ -208,8 +208,8 @@ all_tubes s =
 pub data IsTube (s : QueueState) (tube : List ℕ) : Type 0 where
   default : tube ≡ codes "default" → IsTube s tube
   of_job : (j : ℕ × Job) → In j s.jobs → tube ≡ j.1.tube → IsTube s tube
-  used : (w : ℕ × Session) → In w s.sessions → tube ≡ w.1.used → IsTube s tube
-  watched : (w : ℕ × Session) → In w s.sessions → In tube w.1.watched → IsTube s tube
+  used : (w : ℕ × SessionState) → In w s.sessions → tube ≡ w.1.used → IsTube s tube
+  watched : (w : ℕ × SessionState) → In w s.sessions → In tube w.1.watched → IsTube s tube
 
 -- what an operation under this key does
 unfoldable pub row : Op → Key → QueueState → Row

@@ -1,5 +1,5 @@
 -- The laws of every effect: who waits, and whom the answers name.
-use Rattle.std.proofs.Common.{◌≡◌, ℕ, zero, suc, ◌+◌, Bool, true, false, cond, ◌⊎◌, inl, inr, List, [], ◌∷◌, ◌++◌, length, Option, Some, None, IfSome, ◌==◌, nat_lt, refl, sym, ap, subst, ◌∙◌, append_assoc}
+use Rattle.std.proofs.Common.{◌≡◌, ℕ, zero, suc, ◌+◌, Bool, true, false, cond, ◌⊎◌, inl, inr, List, [], ◌∷◌, ◌++◌, length, Option, Some, None, IfSome, nat_lt, refl, sym, ap, subst, ◌∙◌, append_assoc}
 use Rattle.object.specs.Lists.{In}
 use Rattle.object.specs.Answers.{AnswersOnce}
 use Rattle.object.specs.declared.command.Act.{Act}
@@ -8,15 +8,15 @@ use Rattle.object.specs.declared.command.Command.{Command}
 use Rattle.object.specs.declared.command.Key.{Key}
 use Rattle.job_store.specs.Entries.{value_at}
 use Rattle.job_store.specs.States.{is_held}
-use Rattle.session_store.specs.declared.session.Session.{Session}
-use Rattle.session_store.specs.Sessions.{session_of, ended, is_waiting, wait_number}
+use Rattle.session_store.specs.declared.session.SessionState.{SessionState}
+use Rattle.session_store.specs.Sessions.{session_of, with_wait_ended, is_waiting, wait_number}
 use Rattle.session_store.specs.WatchLists.{is_alone}
 use Rattle.session_store.specs.Waits.{WaitsIn}
 use Rattle.session_store.specs.WaitLaws.{altered-waits, ended-waits, forgotten-waits, known-waits, waiting-waits, some_wait, session_waits}
 use Rattle.bean_queue.specs.declared.op.Op.{Op}
 use Rattle.bean_queue.specs.declared.reply.Reply.{Reply}
 use Rattle.bean_queue.specs.Queue.{QueueState, fresh, holds_by, watched_by}
-use Rattle.bean_queue.specs.Turns.{Outcome, Turn, stop, turns, all_turns, after_option, given, told, serve_turn, deadline_turn, timeout_turn, serve}
+use Rattle.bean_queue.specs.Turns.{Outcome, Turn, stop, turns, all_turns, after_option, given, told_turn, serve_turn, deadline_turn, timeout_turn, serve}
 use Rattle.bean_queue.specs.Rows.{is_idle, Row, row, put_row, use_row, watch_row, ignore_row, reserve_row, delete_row, may_delete, is_found, release_row, touch_row, bury_row, kick_row, kick_job_row, peek_row}
 use Rattle.bean_queue.specs.Effects.{own, called, ends_wait, is_zero, settled, then_do, has_no_number, carried_out, do_effect, released, close_effect, at_second, tick_effect, act_effect, effect}
 use Rattle.bean_queue.specs.Waits.{Waits, AreApart, IsLawful}
@@ -56,10 +56,10 @@ dealt-then s t u xs ys p q =
     }
 
 pub record IsWaiterTurn (s : QueueState) (t : Turn) : Type 0 where
-  pub session : ℕ × Session
+  pub session : ℕ × SessionState
   pub known : In session s.sessions
   pub waits : is_waiting session.1 ≡ true
-  pub sessions : t.state.sessions ≡ ended session.0 s.sessions
+  pub sessions : t.state.sessions ≡ with_wait_ended session.0 s.sessions
   pub to : t.answer.to ≡ record { session = session.0; number = wait_number session.1.wait }
 
 pub given-waiter : (s : QueueState) (t : Turn) → IsServed s t → IsWaiterTurn s t
@@ -67,7 +67,7 @@ unfolding given
 given-waiter s t i = record { session = i.session; known = i.known; waits = i.waits; sessions = ap (λ (t : Turn). t.state.sessions) i.made; to = ap (λ (t : Turn). t.answer.to) i.made }
 
 pub told-waiter : (reply : Reply) (s : QueueState) (t : Turn) → IsTold reply s t → IsWaiterTurn s t
-unfolding told
+unfolding told_turn
 told-waiter reply s t i = record { session = i.session; known = i.known; waits = i.waits; sessions = ap (λ (t : Turn). t.state.sessions) i.made; to = ap (λ (t : Turn). t.answer.to) i.made }
 
 dealt-turn : (s : QueueState) (t : Turn) → IsWaiterTurn s t → IsDealt s (record { state = t.state; answers = t.answer ∷ [] })

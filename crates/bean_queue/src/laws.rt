@@ -4,7 +4,7 @@ ghost use Rattle.std.specs.Cmp.Lexicographic.{slice_cmp};
 ghost use Rattle.std.specs.List.Sorted.{IsStrictlySortedBy};
 ghost use Rattle.object.specs.declared.command.Command.{Command};
 ghost use Rattle.object.specs.Answers.{AnswersOnce};
-ghost use Rattle.session_store.specs.declared.session.Session.{Session};
+ghost use Rattle.session_store.specs.declared.session.SessionState.{SessionState};
 ghost use Rattle.session_store.specs.Sessions.{is_waiting};
 ghost use Rattle.bean_queue.specs.declared.op.Op.{Op};
 ghost use Rattle.bean_queue.specs.Places.{places, placed_from, queue_replay, HasDistinctKeys};
@@ -21,7 +21,7 @@ ghost use Rattle.bean_queue.specs.Turns.{Turn, serve_turn, serve};
 ghost use Rattle.object.specs.Lists.{In};
 
 use job_store::{Job, least_is_least};
-use session_store::Session;
+use session_store::SessionState;
 
 /// No job is held by two sessions at once, whatever commands a new queue obeys, be their keys distinct or not: no
 /// place gives two RESERVED of one job; and where a session gets a job and the job is given again later, the first
@@ -43,13 +43,13 @@ pub fn one_answer()
 /// until there is no ready job in a tube that a waiting session watches.
 pub fn serve_gives_the_best()
     ensures turn { (s : QueueState) (t : Turn) → serve_turn s ≡ Some t → IsBestTurn s t }
-    ensures end { (s : QueueState) (w : ℕ × Session) → In w (serve s).state.sessions
+    ensures end { (s : QueueState) (w : ℕ × SessionState) → In w (serve s).state.sessions
         → is_waiting w.1 ≡ true →
         best_ready w.1.watched (serve s).state.jobs ≡ None }
 {
     // What is least is least, of jobs and of sessions.
     least_is_least::<Job>();
-    least_is_least::<Session>();
+    least_is_least::<SessionState>();
 }
 
 /// After a second has come, nothing is due to a session that waits: no job for it is ready, none that it has is due

@@ -22,4 +22,4 @@ pub use laws::{
 pub use op::Op;
 pub use queue::{PlainQueue, Queue, QueueOver};
 pub use reply::Reply;
-pub use session_store::{Names, Session, Wait, WatchList};
+pub use session_store::{Names, SessionState, Wait, WatchList};

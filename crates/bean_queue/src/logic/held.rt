@@ -41,7 +41,7 @@ impl<M: JobMap> Logic<M> {
     {
         match self.jobs.map().get(id) {
             Some(job) if may_delete(session, job.state) => {
-                self.jobs.remove(id);
+                self.jobs.remove_for_good(id);
                 Reply::Deleted
             }
             _ => Reply::NotFound,

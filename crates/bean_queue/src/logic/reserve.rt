@@ -1,11 +1,11 @@
 ghost use Rattle.std.specs.Prelude.{◌≡◌, ◌≤◌, ◌^◌, ◌==◌, ◌++◌, false, OnOk};
-ghost use Rattle.session_store.specs.Sessions.{ended, is_waiting, session_of};
+ghost use Rattle.session_store.specs.Sessions.{with_wait_ended, is_waiting, session_of};
 ghost use Rattle.bean_queue.specs.Queue.{with_sessions};
 ghost use Rattle.bean_queue.specs.Rows.{time_out, reserve_row};
 ghost use Rattle.bean_queue.specs.Effects.{ends_wait, settled};
 ghost use Rattle.bean_queue.specs.declared.op.Op.{Op};
 
-use crate::deadlines::holds_by;
+use crate::deadlines::{holds_by, waits_at};
 use crate::logic::Logic;
 use crate::reply::Reply;
 use job_store::JobMap;
@@ -48,16 +48,13 @@ impl<M: JobMap> Logic<M> {
     fn is_waiting(&self, session: u32) -> bool
         ensures { result ≡ is_waiting (session_of session self.now.now.sessions) }
     {
-        match self.sessions.map().get(&session) {
-            Some(found) => found.wait.is_some(),
-            None => false,
-        }
+        waits_at(self.sessions.map(), session)
     }
 
     /// Lets a session wait no longer.
     pub fn stop_waiting(&mut self, session: u32) -> Result<(), AllocError>
         ensures now { OnOk result (self.new.now
-            ≡ with_sessions self.old.now (ended session self.old.now.sessions)) }
+            ≡ with_sessions self.old.now (with_wait_ended session self.old.now.sessions)) }
         ensures before { self.new.before ≡ self.old.before }
     {
         self.sessions.set_wait(session, None)

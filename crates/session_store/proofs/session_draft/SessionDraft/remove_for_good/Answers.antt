@@ -1,5 +1,5 @@
 use Rattle.session_store.proofs.SessionDrafts.{removal-rises, kept}
-use Rattle.session_store.proofs.session_draft.SessionDraft.remove.Goals as goal
+use Rattle.session_store.proofs.session_draft.SessionDraft.remove_for_good.Goals as goal
 
 pub invariant_of-self : goal.invariant_of-self
 invariant_of-self c =
