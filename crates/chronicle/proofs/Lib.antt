@@ -5,6 +5,8 @@ pub mod Words
 pub mod Back
 pub mod LineLists
 pub mod OneChronicle
+pub mod ValuesFit
+pub mod ValueLists
 pub mod Spelled
 pub mod ToldBack
 pub mod ToldValues

@@ -1,6 +1,8 @@
 ghost use Rattle.std.specs.Prelude.{◌≡◌, ◌++◌, ◌∷◌, [], take, vec_len, codes, decimal, OnOk};
 ghost use Rattle.chronicle.specs.Acts.{op_words, act_words};
 ghost use Rattle.chronicle.specs.Lines.{spaced, body_word};
+ghost use Rattle.chronicle.specs.Values.{IsActValue, IsOpValue};
+ghost use Rattle.hex.specs.Hex.{IsBytes};
 
 use crate::append::{append_body, append_count, append_number, append_two, append_word};
 use bean_queue::{Body, Op};
@@ -12,6 +14,7 @@ use std::alloc::AllocError;
 pub fn append_act(act: &Act<Op>, out: &mut Vec<u8>) -> Result<(), AllocError>
     ensures ok { OnOk result (out.new.items ≡ out.old.items ++ spaced (act_words act.now)) }
     ensures front { take (vec_len out.old) out.new.items ≡ out.old.items }
+    ensures value { OnOk result (IsActValue act.now) }
 {
     match act {
         Act::Do(op) => append_op(op, out),
@@ -25,6 +28,7 @@ pub fn append_act(act: &Act<Op>, out: &mut Vec<u8>) -> Result<(), AllocError>
 fn append_op(op: &Op, out: &mut Vec<u8>) -> Result<(), AllocError>
     ensures ok { OnOk result (out.new.items ≡ out.old.items ++ spaced (op_words op.now)) }
     ensures front { take (vec_len out.old) out.new.items ≡ out.old.items }
+    ensures value { OnOk result (IsOpValue op.now) }
 {
     match op {
         Op::Put {
@@ -67,6 +71,7 @@ fn append_put(
     ensures ok { OnOk result (out.new.items ≡ out.old.items ++
         spaced (codes "put" ∷ decimal pri ∷ decimal delay ∷ decimal ttr ∷ body_word body.now ∷ [])) }
     ensures front { take (vec_len out.old) out.new.items ≡ out.old.items }
+    ensures value { OnOk result (IsBytes body.now) }
 {
     append_count(b"put", pri as u64, out)?;
     append_number(delay as u64, out)?;

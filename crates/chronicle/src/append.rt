@@ -1,4 +1,7 @@
 ghost use Rattle.std.specs.Prelude.{◌≡◌, ◌++◌, ◌∷◌, [], take, vec_len, decimal, OnOk};
+ghost use Rattle.std.specs.List.{AllByRecursion};
+ghost use Rattle.hex.specs.Hex.{IsBytes};
+ghost use Rattle.job_store.specs.Names.{IsName};
 ghost use Rattle.chronicle.specs.Lines.{after_space, spaced, body_word};
 
 use bean_queue::Name;
@@ -28,6 +31,7 @@ pub fn append_number(number: u64, out: &mut Vec<u8>) -> Result<(), AllocError>
 pub fn append_body(body: &[u8], out: &mut Vec<u8>) -> Result<(), AllocError>
     ensures ok { OnOk result (out.new.items ≡ out.old.items ++ after_space (body_word body.now)) }
     ensures front { take (vec_len out.old) out.new.items ≡ out.old.items }
+    ensures value { IsBytes body.now }
 {
     if body.is_empty() {
         return append_word(b"-", out);
@@ -63,6 +67,7 @@ pub fn append_job(word: &[u8], id: u64, body: &[u8], out: &mut Vec<u8>) -> Resul
         (out.new.items
         ≡ out.old.items ++ spaced (word.now ∷ decimal id ∷ body_word body.now ∷ [])) }
     ensures front { take (vec_len out.old) out.new.items ≡ out.old.items }
+    ensures value { OnOk result (IsBytes body.now) }
 {
     append_word(word, out)?;
     append_number(id, out)?;
@@ -73,6 +78,7 @@ pub fn append_job(word: &[u8], id: u64, body: &[u8], out: &mut Vec<u8>) -> Resul
 pub fn append_names(names: &[Name], out: &mut Vec<u8>) -> Result<(), AllocError>
     ensures ok { OnOk result (out.new.items ≡ out.old.items ++ spaced names.now) }
     ensures front { take (vec_len out.old) out.new.items ≡ out.old.items }
+    ensures value { OnOk result (AllByRecursion IsName names.now) }
 {
     for name in names {
         append_word(name.as_slice(), out)?;

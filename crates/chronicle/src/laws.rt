@@ -13,6 +13,7 @@ ghost use Rattle.chronicle.specs.Dump.{dump_text};
 ghost use Rattle.chronicle.specs.Reading.{IsBadLine};
 ghost use Rattle.chronicle.specs.declared.check_fault.What.{What};
 ghost use Rattle.chronicle.specs.Fits.{FitsChronicle};
+ghost use Rattle.chronicle.specs.Values.{IsChronicleValue};
 
 use bean_queue::{one_answer, one_holder};
 
@@ -21,6 +22,13 @@ pub fn one_chronicle()
     ensures { (c d : Chronicle Op Reply) → IsChronicle c → IsChronicle d → FitsChronicle c
         → FitsChronicle d →
         dump_text c ≡ dump_text d → c ≡ d }
+{}
+
+/// The same of chronicles as their types keep them: each that was written or read is one (`Chronicle::write_text`,
+/// `read_text`).
+pub fn one_dump()
+    ensures { (c d : Chronicle Op Reply) → IsChronicleValue c → IsChronicleValue d
+        → dump_text c ≡ dump_text d → c ≡ d }
 {}
 
 /// Where each line of a queue's dump is right, what happened is legal for the commands of its order.

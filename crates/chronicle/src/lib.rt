@@ -31,5 +31,7 @@ pub use check_fault::{CheckFault, What};
 pub use checker::check;
 pub use chronicle::Chronicle;
 pub use faults::ReadFault;
-pub use laws::{faultless_is_legal, legal_is_faultless, one_bad_line, one_chronicle, one_fault};
+pub use laws::{
+    faultless_is_legal, legal_is_faultless, one_bad_line, one_chronicle, one_dump, one_fault,
+};
 pub use reader::read_text;

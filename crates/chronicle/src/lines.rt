@@ -1,6 +1,7 @@
 ghost use Rattle.std.specs.Prelude.{◌≡◌, ◌++◌, ◌∷◌, [], take, vec_len, decimal, OnOk};
 ghost use Rattle.chronicle.specs.Dump.{submission_line, answer_line, order_line, version_line, members_line, end_line};
 ghost use Rattle.chronicle.specs.Lines.{spaced};
+ghost use Rattle.chronicle.specs.Values.{IsAnswerValue, IsCommandValue, IsKeyValue};
 
 use crate::acts::append_act;
 use crate::append::append_number;
@@ -15,6 +16,7 @@ fn append_key(letter: &[u8], key: Key, out: &mut Vec<u8>) -> Result<(), AllocErr
     ensures ok { OnOk result (out.new.items ≡ out.old.items ++
         (letter.now ++ spaced (decimal key.session ∷ decimal key.number ∷ []))) }
     ensures front { take (vec_len out.old) out.new.items ≡ out.old.items }
+    ensures value { IsKeyValue key }
 {
     out.extend_from_slice(letter)?;
     append_number(key.session as u64, out)?;
@@ -26,6 +28,7 @@ fn append_key(letter: &[u8], key: Key, out: &mut Vec<u8>) -> Result<(), AllocErr
 pub fn append_submission(command: &Command<Op>, out: &mut Vec<u8>) -> Result<(), AllocError>
     ensures ok { OnOk result (out.new.items ≡ out.old.items ++ submission_line command.now) }
     ensures front { take (vec_len out.old) out.new.items ≡ out.old.items }
+    ensures value { OnOk result (IsCommandValue command.now) }
 {
     append_key(b"S", command.key(), out)?;
     append_act(command.act(), out)?;
@@ -37,6 +40,7 @@ pub fn append_submission(command: &Command<Op>, out: &mut Vec<u8>) -> Result<(),
 pub fn append_answer(answer: &Answer<Reply>, out: &mut Vec<u8>) -> Result<(), AllocError>
     ensures ok { OnOk result (out.new.items ≡ out.old.items ++ answer_line answer.now) }
     ensures front { take (vec_len out.old) out.new.items ≡ out.old.items }
+    ensures value { OnOk result (IsAnswerValue answer.now) }
 {
     append_key(b"A", answer.to, out)?;
     append_reply(&answer.reply, out)?;
@@ -48,6 +52,7 @@ pub fn append_answer(answer: &Answer<Reply>, out: &mut Vec<u8>) -> Result<(), Al
 pub fn append_place(key: Key, out: &mut Vec<u8>) -> Result<(), AllocError>
     ensures ok { OnOk result (out.new.items ≡ out.old.items ++ order_line key) }
     ensures front { take (vec_len out.old) out.new.items ≡ out.old.items }
+    ensures value { IsKeyValue key }
 {
     append_key(b"O", key, out)?;
     out.extend_from_slice(b"\n")

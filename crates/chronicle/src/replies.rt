@@ -1,6 +1,9 @@
 ghost use Rattle.std.specs.Prelude.{◌≡◌, ◌++◌, ◌∷◌, take, vec_len, codes, OnOk};
 ghost use Rattle.chronicle.specs.Lines.{spaced};
 ghost use Rattle.chronicle.specs.Replies.{reply_words};
+ghost use Rattle.chronicle.specs.Values.{IsReplyValue};
+ghost use Rattle.std.specs.List.{AllByRecursion};
+ghost use Rattle.job_store.specs.Names.{IsName};
 
 use crate::append::{append_count, append_job, append_names, append_two, append_word};
 use bean_queue::{Name, Reply};
@@ -11,6 +14,7 @@ use std::alloc::AllocError;
 pub fn append_reply(reply: &Reply, out: &mut Vec<u8>) -> Result<(), AllocError>
     ensures ok { OnOk result (out.new.items ≡ out.old.items ++ spaced (reply_words reply.now)) }
     ensures front { take (vec_len out.old) out.new.items ≡ out.old.items }
+    ensures value { OnOk result (IsReplyValue reply.now) }
 {
     match reply {
         Reply::Inserted(id) => append_count(b"INSERTED", *id, out),
@@ -37,6 +41,7 @@ pub fn append_reply(reply: &Reply, out: &mut Vec<u8>) -> Result<(), AllocError>
 fn append_tubes(names: &[Name], out: &mut Vec<u8>) -> Result<(), AllocError>
     ensures ok { OnOk result (out.new.items ≡ out.old.items ++ spaced (codes "OK" ∷ names.now)) }
     ensures front { take (vec_len out.old) out.new.items ≡ out.old.items }
+    ensures value { OnOk result (AllByRecursion IsName names.now) }
 {
     append_word(b"OK", out)?;
     append_names(names, out)

@@ -1,9 +1,12 @@
 ghost use Rattle.std.specs.Prelude.{◌≡◌, ◌++◌, take, vec_len, OnOk, OnErr};
-ghost use Rattle.std.specs.List.{flat_map};
+ghost use Rattle.std.specs.List.{AllByRecursion, flat_map};
 ghost use Rattle.chronicle.specs.Chronicles.{IsChronicle};
 ghost use Rattle.chronicle.specs.Dump.{answer_line, order_line, happening_line, dump_text};
 ghost use Rattle.chronicle.specs.Happenings.{happenings};
+ghost use Rattle.chronicle.specs.Values.{IsAnswerValue, IsChronicleValue, IsCommandValue, IsKeyValue};
 ghost use Rattle.object.specs.Happenings.{IsTimeline};
+ghost use Rattle.object.specs.declared.command.Submission.{Submission};
+ghost use Rattle.bean_queue.specs.declared.op.Op.{Op};
 
 use crate::chronicle::Chronicle;
 use crate::lines::{
@@ -18,6 +21,7 @@ impl Chronicle<Op, Reply> {
     pub fn write_text(&self, out: &mut Vec<u8>) -> Result<(), AllocError>
         ensures ok { OnOk result (out.new.items ≡ out.old.items ++ dump_text self.now) }
         ensures err { OnErr result (out.new.items ≡ out.old.items) }
+        ensures value { OnOk result (IsChronicleValue self.now) }
     {
         let len = out.len();
         let written = append_dump(self, out);
@@ -33,6 +37,7 @@ impl Chronicle<Op, Reply> {
 fn append_dump(chronicle: &Chronicle<Op, Reply>, out: &mut Vec<u8>) -> Result<(), AllocError>
     ensures ok { OnOk result (out.new.items ≡ out.old.items ++ dump_text chronicle.now) }
     ensures front { take (vec_len out.old) out.new.items ≡ out.old.items }
+    ensures value { OnOk result (IsChronicleValue chronicle.now) }
 {
     append_version(out)?;
     append_members(chronicle.members(), out)?;
@@ -51,6 +56,9 @@ fn append_happenings(
     ensures ok { OnOk result (out.new.items ≡ out.old.items ++
         flat_map happening_line (happenings submitted.now answers.now)) }
     ensures front { take (vec_len out.old) out.new.items ≡ out.old.items }
+    ensures submitted { OnOk result
+        (AllByRecursion (λ (s : Submission Op). IsCommandValue s.command) submitted.now) }
+    ensures answered { OnOk result (AllByRecursion IsAnswerValue answers.now) }
 {
     let mut given = 0;
     for submission in submitted {
@@ -65,6 +73,7 @@ fn append_happenings(
 fn append_answers(answers: &[Answer<Reply>], out: &mut Vec<u8>) -> Result<(), AllocError>
     ensures ok { OnOk result (out.new.items ≡ out.old.items ++ flat_map answer_line answers.now) }
     ensures front { take (vec_len out.old) out.new.items ≡ out.old.items }
+    ensures value { OnOk result (AllByRecursion IsAnswerValue answers.now) }
 {
     for answer in answers {
         append_answer(answer, out)?;
@@ -76,6 +85,7 @@ fn append_answers(answers: &[Answer<Reply>], out: &mut Vec<u8>) -> Result<(), Al
 fn append_order(order: &[Key], out: &mut Vec<u8>) -> Result<(), AllocError>
     ensures ok { OnOk result (out.new.items ≡ out.old.items ++ flat_map order_line order.now) }
     ensures front { take (vec_len out.old) out.new.items ≡ out.old.items }
+    ensures value { OnOk result (AllByRecursion IsKeyValue order.now) }
 {
     for key in order {
         append_place(*key, out)?;

@@ -1,7 +1,11 @@
 use Rattle.std.proofs.Common.{◌≡◌, ◌++◌, take}
-use Rattle.std.specs.List.{flat_map}
+use Rattle.std.specs.List.{AllByRecursion, flat_map}
 use Rattle.chronicle.specs.Dump.{answer_line}
+use Rattle.chronicle.specs.Values.{IsAnswerValue}
 use Rattle.chronicle.proofs.writer.append_answers.Given as goal
 
 abbrev pub invariant-loop-answer : goal.invariant-loop-answer
-invariant-loop-answer l = l.out.items ≡ l.fn.out.items ++ flat_map answer_line (take l.answer-index l.answers)
+invariant-loop-answer l = record {
+  told : l.out.items ≡ l.fn.out.items ++ flat_map answer_line (take l.answer-index l.answers);
+  value : AllByRecursion IsAnswerValue (take l.answer-index l.answers);
+}

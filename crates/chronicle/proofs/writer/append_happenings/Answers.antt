@@ -1,7 +1,10 @@
-use Rattle.std.proofs.Common.{◌+◌, ◌-◌, [], ◌++◌, length, take, drop, refl, sym, ap, ◌∙◌, arith, rules, length-drop}
+use Rattle.std.proofs.Common.{◌+◌, ◌-◌, [], ◌++◌, length, take, drop, refl, sym, subst, ap, ◌∙◌, arith, rules, length-drop}
 use Rattle.std.proofs.lemmas.List.{drop_all, take_all}
 use Rattle.std.proofs.lemmas.Result.{on_ok_weaker}
-use Rattle.std.specs.List.{flat_map}
+use Rattle.std.specs.List.{AllByRecursion, flat_map}
+use Rattle.object.specs.declared.command.Submission.{Submission}
+use Rattle.chronicle.specs.Values.{IsAnswerValue, IsCommandValue}
+use Rattle.chronicle.proofs.ValueLists.{all_joined, all_next, all_through}
 use Rattle.chronicle.specs.Dump.{submission_line, answer_line, happening_line}
 use Rattle.chronicle.specs.Happenings.{happenings_from}
 use Rattle.chronicle.proofs.Between.{between_timeline, between_rest, drop_item, from_item, least, most}
@@ -14,6 +17,8 @@ loop-submission-init c = record {
   grown = ([], search rules);
   between = between_timeline (record { submitted = c.args.submitted.now; answers = c.args.answers.now }) c.requires;
   within = omega arith;
+  submitted = tt;
+  answered = tt;
 }
 
 pub slice_bounds-append_answers-count : goal.slice_bounds-append_answers-count
@@ -72,6 +77,8 @@ loop-submission-preserved c =
       );
       between = between_rest given (length answers) s rest b;
       within = high;
+      submitted = all_next (λ (t : Submission _). IsCommandValue t.command) c.args.submitted.now c.loop-submission.submission-index s c.loop-submission-test.true c.submission-item.is c.loop-submission.invariant.submitted c.in_ok-append_submission.ensures.value;
+      answered = subst (λ n. AllByRecursion IsAnswerValue (take n answers)) (omega (arith, low)) (all_joined IsAnswerValue answers given (s.after - given) c.loop-submission.invariant.answered c.in_ok-append_answers.ensures.value);
     }
 
 pub returns-clause-ok : goal.returns-clause-ok
@@ -87,3 +94,13 @@ returns-clause-ok c =
 pub returns-clause-front : goal.returns-clause-front
 returns-clause-front c =
     front_kept c.args.out.now.items c.loop-submission.invariant.grown.0 c.loop-submission.out.items c.append_answers-2.new.out.items _ _ c.args.out.now.ok.0 c.loop-submission.out.ok.0 c.loop-submission.invariant.grown.1 c.append_answers-2.ensures.front
+
+pub returns-clause-submitted : goal.returns-clause-submitted
+returns-clause-submitted c =
+    on_ok_weaker c.append_answers-2.result (λ value. all_through (λ (t : Submission _). IsCommandValue t.command) c.args.submitted.now c.loop-submission.submission-index c.loop-submission-test.false c.loop-submission.invariant.submitted) c.append_answers-2.ensures.value
+
+pub returns-clause-answered : goal.returns-clause-answered
+returns-clause-answered c =
+    let given = c.loop-submission.given in
+    let answers = c.args.answers.now in
+    on_ok_weaker c.append_answers-2.result (λ value. all_through IsAnswerValue answers (given + (length answers - given)) (omega arith) (all_joined IsAnswerValue answers given (length answers - given) c.loop-submission.invariant.answered value)) c.append_answers-2.ensures.value

@@ -1,7 +1,9 @@
-use Rattle.std.proofs.Common.{◌≡◌, ◌≤◌, ℕ, List, ◌++◌, length, drop}
-use Rattle.std.specs.List.{flat_map}
+use Rattle.std.proofs.Common.{◌≡◌, ◌≤◌, ℕ, List, ◌++◌, length, take, drop}
+use Rattle.std.specs.List.{AllByRecursion, flat_map}
+use Rattle.object.specs.declared.command.Submission.{Submission}
 use Rattle.chronicle.specs.Dump.{happening_line}
 use Rattle.chronicle.specs.Happenings.{happenings, happenings_from}
+use Rattle.chronicle.specs.Values.{IsAnswerValue, IsCommandValue}
 use Rattle.chronicle.proofs.Between.{ComeBetween}
 use Rattle.chronicle.proofs.writer.append_happenings.Given as goal
 
@@ -12,4 +14,6 @@ invariant-loop-submission l = record {
   grown : (text : List ℕ) × (l.out.items ≡ l.fn.out.items ++ text);
   between : ComeBetween l.given (length l.answers) (drop l.submission-index l.submitted);
   within : l.given ≤ length l.answers;
+  submitted : AllByRecursion (λ (s : Submission _). IsCommandValue s.command) (take l.submission-index l.submitted);
+  answered : AllByRecursion IsAnswerValue (take l.given l.answers);
 }
