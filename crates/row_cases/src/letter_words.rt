@@ -1,6 +1,6 @@
 //! Letters in words.
 use crate::spoken::tell_key;
-use ballot::{Ballot, LetterBody, Letter, Pvalue, Slot};
+use ballot::{Ballot, Letter, LetterBody, Pvalue, Slot};
 use object::{Command, Value};
 use std::alloc::{AllocError, Global};
 
