@@ -86,7 +86,7 @@ impl<M: JobMap> JobDraft<M> {
         ensures now { self.new.now ≡ without id self.old.now }
         ensures before { self.new.before ≡ without id self.old.now }
     {
-        self.jobs.remove_for_good(id);
+        self.jobs.remove(id);
         self.jobs.begin();
     }
 

@@ -68,8 +68,8 @@ impl JobMap for ScanJobs {
         self.jobs.set(id, pri, state)
     }
 
-    fn remove_for_good(&mut self, id: u64) -> Option<Job> {
-        self.jobs.remove_for_good(id)
+    fn remove(&mut self, id: u64) -> Option<Job> {
+        self.jobs.remove(id)
     }
 
     fn best_ready(&self, tubes: &IndexSet<Name>) -> Option<(u64, &Job)> {

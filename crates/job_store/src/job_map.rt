@@ -80,7 +80,7 @@ pub trait JobMap: Drop + Sized {
         ensures before { before self.new ≡ before self.old };
 
     /// Takes out the job at an id. It can't be taken back: a trial that is on ends, and its changes stay.
-    fn remove_for_good(&mut self, id: u64) -> Option<Job>
+    fn remove(&mut self, id: u64) -> Option<Job>
         ensures job { result ≡ value_at id (entries self.old) }
         ensures jobs { entries self.new ≡ without id (entries self.old) }
         ensures before { before self.new ≡ None };

@@ -131,9 +131,9 @@ impl JobMap for Jobs {
         done
     }
 
-    fn remove_for_good(&mut self, id: u64) -> Option<Job> {
+    fn remove(&mut self, id: u64) -> Option<Job> {
         self.commit();
-        let job = self.jobs.remove_for_good(id)?;
+        let job = self.jobs.remove(id)?;
         self.shelves.take_everywhere(self.jobs.by_id(), id, &job);
         Some(job)
     }

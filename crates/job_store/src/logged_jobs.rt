@@ -172,7 +172,7 @@ impl LoggedJobs {
     }
 
     /// Takes out the job at an id. It can't be taken back: a trial that is on ends, and its changes stay.
-    pub fn remove_for_good(&mut self, id: u64) -> Option<Job>
+    pub fn remove(&mut self, id: u64) -> Option<Job>
         ensures job { result ≡ value_at id self.old.jobs }
         ensures jobs { self.new.jobs ≡ without id self.old.jobs }
         ensures before { self.new.before ≡ None }

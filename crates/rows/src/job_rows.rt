@@ -252,7 +252,7 @@ fn is_kept<M: JobMap>(
 
 /// Whether a job of this body is taken out.
 fn is_removed<M: JobMap>(jobs: &mut M, id: u64, body: &[u8]) -> bool {
-    match jobs.remove_for_good(id) {
+    match jobs.remove(id) {
         Some(job) => job.body.as_slice() == body,
         None => false,
     }
@@ -271,7 +271,7 @@ fn goes<M: JobMap>(
         Step::TakenBack(changes, rows) => is_taken_back(alloc, tube, jobs, *changes, *rows),
         Step::Kept(changes) => is_kept(alloc, tube, jobs, *changes),
         Step::Remove(id, body) => Ok(is_removed(jobs, *id, *body)),
-        Step::RemoveNone(id) => Ok(jobs.remove_for_good(*id).is_none()),
+        Step::RemoveNone(id) => Ok(jobs.remove(*id).is_none()),
     }
 }
 
@@ -359,9 +359,9 @@ fn the_ready_jobs_of_a_tube_are_lent(rt: HostRuntime) -> Result<(), Fail> {
     jobs.insert(2, new_job(alloc, &one, 1, State::Ready)?)?;
     assert!(rt; lends(alloc, &jobs, &one, &[(1, 2), (2, 1)])?);
     assert!(rt; lends(alloc, &jobs, &other, &[])?);
-    assert!(rt; jobs.remove_for_good(2).is_some());
+    assert!(rt; jobs.remove(2).is_some());
     assert!(rt; lends(alloc, &jobs, &one, &[(2, 1)])?);
-    assert!(rt; jobs.remove_for_good(1).is_some());
+    assert!(rt; jobs.remove(1).is_some());
     assert!(rt; lends(alloc, &jobs, &one, &[])?);
     Ok(())
 }
