@@ -100,7 +100,7 @@ impl<O: Object> Carrier<O> {
         ensures nothing { SubmitsNothing self.old.hall.nodes.past self.new.hall.nodes.past }
         ensures ticket { self.new.ticket ≡ self.old.ticket }
     {
-        self.driver.begin();
+        self.driver.begin(key.session != 0);
         let mut refused = None;
         for count in 0..MOST_CALLS {
             self.count()?;

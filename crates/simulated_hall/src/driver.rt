@@ -12,6 +12,9 @@ const DRAWN_CALLS: u32 = 2_000;
 /// The commands for which calls may be drawn, since what a restarted node has to learn again grows with them.
 const ROUGH_COMMANDS: u32 = 1_000;
 
+/// Before a request, so much of what waits at the nodes is done. What is left waits for the next one.
+const CATCH_UP: u32 = 64;
+
 /// So many calls at most are drawn for one command.
 const LONGEST_STORM: u32 = 300;
 
@@ -52,6 +55,8 @@ pub(crate) struct Driver {
     storm: u32,
     /// The letters that are on their way are lost.
     loses: bool,
+    /// So much of what waits is done before the command is proposed.
+    behind: u32,
     /// How often nothing was left to deliver.
     idle: u32,
     round: Round,
@@ -66,14 +71,17 @@ impl Driver {
             commands: 0,
             storm: 0,
             loses: false,
+            behind: 0,
             idle: 0,
             round: Round::Restart,
         }
     }
 
-    /// Another command is to be carried.
-    pub fn begin(&mut self) {
+    /// Another command is to be carried: a request, or a second of the clock. While seconds pass nobody waits for the
+    /// nodes that are not needed.
+    pub fn begin(&mut self, is_request: bool) {
         self.commands = self.commands.saturating_add(1);
+        self.behind = if is_request { CATCH_UP } else { 0 };
         self.idle = 0;
         self.round = Round::Restart;
         self.storm = 0;
@@ -91,7 +99,8 @@ impl Driver {
             return self.drawn();
         }
         if count == self.storm {
-            self.loses = self.schedule.pick(2) == 0;
+            self.loses = self.storm > 0 && self.schedule.pick(2) == 0;
+            return Call::Wake(HOME);
         }
         self.calm(hall)
     }
@@ -113,23 +122,39 @@ impl Driver {
         }
     }
 
-    // What there is to do, or where there is nothing what may bring some.
+    // The shortest way to an effect: node 1 proposes and performs as soon as it can. Before a request others are not left
+    // behind.
     fn calm<O: Object>(&mut self, hall: &Hall<O>) -> Call {
-        if let Some(node) = first_with_mail(self.members, hall) {
-            return if self.loses {
-                Call::Lose(node)
-            } else {
-                Call::Deliver(node)
-            };
+        if self.behind == 0 {
+            if hall.can_perform(HOME) {
+                return Call::Perform(HOME);
+            }
+            if hall.can_propose(HOME) {
+                return Call::Propose(HOME);
+            }
         }
-        self.loses = false;
-        if let Some(node) = first_to_perform(self.members, hall) {
-            return Call::Perform(node);
+        if let Some(call) = self.waiting(hall) {
+            self.behind = self.behind.saturating_sub(1);
+            return call;
         }
-        if hall.can_propose(HOME) {
+        if self.behind > 0 {
+            self.behind = 0;
             return Call::Propose(HOME);
         }
         self.rouse()
+    }
+
+    // The first letter that is on its way, or the first decision that is to be performed.
+    fn waiting<O: Object>(&mut self, hall: &Hall<O>) -> Option<Call> {
+        if let Some(node) = first_with_mail(self.members, hall) {
+            return Some(if self.loses {
+                Call::Lose(node)
+            } else {
+                Call::Deliver(node)
+            });
+        }
+        self.loses = false;
+        first_to_perform(self.members, hall).map(Call::Perform)
     }
 
     // What may bring something to do.
