@@ -10,7 +10,7 @@ use std::alloc::AllocError;
 
 /// What a letter says.
 #[derive(Drop, PartialEq, Eq)]
-pub enum Body<C> {
+pub enum LetterBody<C> {
     /// A leader asks for a promise of its ballot.
     P1a(Ballot),
     /// An acceptor tells the ballot that it promised, and what it accepted.
@@ -36,10 +36,10 @@ pub enum Body<C> {
 pub struct Letter<C> {
     pub from: u8,
     pub to: u8,
-    pub body: Body<C>,
+    pub body: LetterBody<C>,
 }
 
-impl<C: Value> Value for Body<C> {
+impl<C: Value> Value for LetterBody<C> {
     ghost use Rattle.std.specs.Prelude.{◌≡◌, List, true};
     ghost use Rattle.std.proofs.Common.{rules};
     ghost use Rattle.std.proofs.lemmas.Grind.{common_steps};
@@ -51,21 +51,21 @@ impl<C: Value> Value for Body<C> {
 
     fn copy(&self) -> Result<Self, AllocError> {
         match self {
-            Body::P1a(ballot) => Ok(Body::P1a(*ballot)),
-            Body::P1b(ballot, report) => Ok(Body::P1b(*ballot, report.copy()?)),
-            Body::P2a(pvalue) => Ok(Body::P2a(pvalue.copy()?)),
-            Body::P2b {
+            LetterBody::P1a(ballot) => Ok(LetterBody::P1a(*ballot)),
+            LetterBody::P1b(ballot, report) => Ok(LetterBody::P1b(*ballot, report.copy()?)),
+            LetterBody::P2a(pvalue) => Ok(LetterBody::P2a(pvalue.copy()?)),
+            LetterBody::P2b {
                 ballot,
                 slot,
                 asked,
-            } => Ok(Body::P2b {
+            } => Ok(LetterBody::P2b {
                 ballot: *ballot,
                 slot: *slot,
                 asked: *asked,
             }),
-            Body::Propose(slot, command) => Ok(Body::Propose(*slot, command.copy()?)),
-            Body::Decision(slot, command) => Ok(Body::Decision(*slot, command.copy()?)),
-            Body::Ask(slot) => Ok(Body::Ask(*slot)),
+            LetterBody::Propose(slot, command) => Ok(LetterBody::Propose(*slot, command.copy()?)),
+            LetterBody::Decision(slot, command) => Ok(LetterBody::Decision(*slot, command.copy()?)),
+            LetterBody::Ask(slot) => Ok(LetterBody::Ask(*slot)),
         }
     }
 }
@@ -94,7 +94,7 @@ impl<C: Value> Value for Letter<C> {
 pub fn send_to_all<C: Value>(
     members: Members,
     from: u8,
-    body: Body<C>,
+    body: LetterBody<C>,
     out: &mut Vec<Letter<C>>,
 ) -> Result<(), AllocError>
     ensures ok { OnOk result (out.new.items ≡ out.old.items ++ to_all members from body) }
@@ -112,7 +112,7 @@ pub fn send_to_all<C: Value>(
 fn append_to_all<C: Value>(
     members: Members,
     from: u8,
-    body: Body<C>,
+    body: LetterBody<C>,
     out: &mut Vec<Letter<C>>,
 ) -> Result<(), AllocError>
     ensures ok { OnOk result (out.new.items ≡ out.old.items ++ to_all members from body) }

@@ -13,7 +13,7 @@ mod slot_row;
 
 pub use ballot::Ballot;
 pub use laws::{ballot_laws, ballot_order, less_is_below, majorities_share_a_member};
-pub use letter::{Body, Letter, send_to_all};
+pub use letter::{Letter, LetterBody, send_to_all};
 pub use member_set::MemberSet;
 pub use members::Members;
 pub use pvalue::{Pvalue, Pvalues};

@@ -7,7 +7,7 @@ use Rattle.bean_codec.specs.declared.request.Fault.TheVariants.{BadFormat, JobTo
 use Rattle.bean_codec.specs.declared.reader.Want.{Want}
 use Rattle.bean_codec.specs.declared.reader.Read.{Read}
 use Rattle.bean_codec.specs.declared.reader.Read.TheVariants as read
-use Rattle.bean_codec.specs.Lines.{crlf, ended, IsLine}
+use Rattle.bean_codec.specs.Lines.{crlf, line_text, IsLine}
 use Rattle.bean_codec.specs.Grammar.{Item, Spells, Completes, put_item, longest_line, longest_body}
 use Rattle.bean_codec.specs.Wants.{EndsWithCr, FitsRest, FitsBig, Fits}
 use Rattle.bean_codec.specs.Reads.{item_read, IsDrop, BeginsWith, BeginsWithNone, EndsItem, TellsItem, TellsMore, IsBeforeCr}
@@ -27,7 +27,7 @@ rest_item dropped bytes k fits cut =
     let line = dropped ++ take k bytes in
     let text : dropped ++ take (k + 2) bytes ≡ line ++ (crlf ++ []) =
     ap (λ t. dropped ++ t) (cut_text bytes k cut) ∙ sym (append_assoc dropped (take k bytes) (crlf ++ [])) in
-    let long : longest_line < length (ended line) =
+    let long : longest_line < length (line_text line) =
     let h = fits.long in omega (arith, h, length-append dropped crlf, length-append line crlf, length-append dropped (take k bytes)) in
     let says = meaning-long line long in
     (cut.2, record { line = line; rest = []; is_line = IsLine-join_take dropped bytes k fits.is_line cut.0; cut = text; completes = subst (λ m. Completes m [] (Err BadFormat)) (sym says) (refl, refl) })

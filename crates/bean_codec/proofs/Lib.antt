@@ -10,3 +10,4 @@ pub mod TubeNames
 pub mod TubeLists
 pub mod DroppedTexts
 pub mod FirstLines
+pub mod Due

@@ -2,8 +2,8 @@
 -- and "Other Commands").
 use Rattle.std.specs.Prelude.{ℕ, List, [], ◌∷◌, Option, Some, None}
 use Rattle.bean_queue.specs.declared.op.Op.TheVariants as op
-use Rattle.bean_codec.specs.declared.command.Command.{Command}
-use Rattle.bean_codec.specs.declared.command.Command.TheVariants.{Put, Use, Watch, Ignore, Reserve, ReserveWithTimeout, Delete, Touch, Release, Bury, Kick, KickJob, Peek, PeekReady, PeekDelayed, PeekBuried, ListTubes, ListTubeUsed, ListTubesWatched, Quit}
+use Rattle.bean_codec.specs.declared.command.CommandName.{CommandName}
+use Rattle.bean_codec.specs.declared.command.CommandName.TheVariants.{Put, Use, Watch, Ignore, Reserve, ReserveWithTimeout, Delete, Touch, Release, Bury, Kick, KickJob, Peek, PeekReady, PeekDelayed, PeekBuried, ListTubes, ListTubeUsed, ListTubesWatched, Quit}
 use Rattle.bean_codec.specs.declared.request.Request.{Request}
 use Rattle.bean_codec.specs.declared.request.Request.TheVariants.{Do}
 use Rattle.bean_codec.specs.declared.request.Request.TheVariants as request
@@ -114,7 +114,7 @@ ignore_line words = do
   Some (Whole (Do (op.Ignore tube)))
 
 -- what the words after the first make of a command; nothing, where they have not its form
-unfoldable pub line_of : Command → List (List ℕ) → Option Meaning
+unfoldable pub line_of : CommandName → List (List ℕ) → Option Meaning
 line_of Put words = put_line words
 line_of Use words = use_line words
 line_of Watch words = watch_line words

@@ -2,11 +2,11 @@
 use Rattle.std.specs.Prelude.{ℕ, List, codes, Option, Some, None, if◌then◌else◌}
 use Rattle.std.specs.Option.{option_or}
 use Rattle.std.specs.Str.{bytes_eq}
-use Rattle.bean_codec.specs.declared.command.Command.{Command}
-use Rattle.bean_codec.specs.declared.command.Command.TheVariants.{Put, Use, Watch, Ignore, Reserve, ReserveWithTimeout, Delete, Touch, Release, Bury, Kick, KickJob, Peek, PeekReady, PeekDelayed, PeekBuried, ListTubes, ListTubeUsed, ListTubesWatched, Quit}
+use Rattle.bean_codec.specs.declared.command.CommandName.{CommandName}
+use Rattle.bean_codec.specs.declared.command.CommandName.TheVariants.{Put, Use, Watch, Ignore, Reserve, ReserveWithTimeout, Delete, Touch, Release, Bury, Kick, KickJob, Peek, PeekReady, PeekDelayed, PeekBuried, ListTubes, ListTubeUsed, ListTubesWatched, Quit}
 
 -- those that make, take or change jobs
-unfoldable pub job_command : List ℕ → Option Command
+unfoldable pub job_command : List ℕ → Option CommandName
 job_command word =
     if bytes_eq word (codes "put") then Some Put
     else if bytes_eq word (codes "reserve") then Some Reserve
@@ -20,7 +20,7 @@ job_command word =
     else None
 
 -- those that are about tubes
-unfoldable pub tube_command : List ℕ → Option Command
+unfoldable pub tube_command : List ℕ → Option CommandName
 tube_command word =
     if bytes_eq word (codes "use") then Some Use
     else if bytes_eq word (codes "watch") then Some Watch
@@ -31,7 +31,7 @@ tube_command word =
     else None
 
 -- those that look at jobs, and the last one
-unfoldable pub look_command : List ℕ → Option Command
+unfoldable pub look_command : List ℕ → Option CommandName
 look_command word =
     if bytes_eq word (codes "peek") then Some Peek
     else if bytes_eq word (codes "peek-ready") then Some PeekReady
@@ -41,5 +41,5 @@ look_command word =
     else None
 
 -- the command that the word names, compared byte by byte
-unfoldable pub command_of : List ℕ → Option Command
+unfoldable pub command_of : List ℕ → Option CommandName
 command_of word = option_or (option_or (job_command word) (tube_command word)) (look_command word)

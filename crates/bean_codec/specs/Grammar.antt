@@ -8,7 +8,7 @@ use Rattle.bean_codec.specs.declared.request.Request.{Request}
 use Rattle.bean_codec.specs.declared.request.Request.TheVariants.{Do}
 use Rattle.bean_codec.specs.declared.request.Fault.{Fault}
 use Rattle.bean_codec.specs.declared.request.Fault.TheVariants.{BadFormat, UnknownCommand, ExpectedCrlf, JobTooBig}
-use Rattle.bean_codec.specs.declared.command.Command.{Command}
+use Rattle.bean_codec.specs.declared.command.CommandName.{CommandName}
 use Rattle.bean_codec.specs.declared.line.Meaning.{Meaning}
 use Rattle.bean_codec.specs.declared.line.Meaning.TheVariants.{Whole, WithBody}
 use Rattle.bean_codec.specs.Lines.{crlf, IsLine}
@@ -29,7 +29,7 @@ abbrev pub longest_body : ℕ
 longest_body = 65535
 
 -- the words after the first, where it names this command, or none
-abbrev line_with : Option Command → List (List ℕ) → Result Meaning Fault
+abbrev line_with : Option CommandName → List (List ℕ) → Result Meaning Fault
 line_with (Some command) words = ok_or (line_of command words) BadFormat
 line_with None words = Err UnknownCommand
 

@@ -12,5 +12,5 @@ IsLine (b ∷ []) = Unit {0}
 IsLine (b ∷ c ∷ rest) = (b ∷ c ∷ [] ≢ crlf) × IsLine (c ∷ rest)
 
 -- a text, with the end of its line
-abbrev pub ended : List ℕ → List ℕ
-ended text = text ++ crlf
+abbrev pub line_text : List ℕ → List ℕ
+line_text text = text ++ crlf

@@ -1,13 +1,14 @@
 -- What a reader tells of the bytes before it.
-use Rattle.std.specs.Prelude.{◌≡◌, ◌⊎◌, ◌<◌, ℕ, ◌+◌, ◌≤◌, List, ◌++◌, length, take, drop, Option, Some, None, Result, Ok, Err, IfSome}
+use Rattle.std.specs.Prelude.{◌≡◌, ◌⊎◌, ◌<◌, ℕ, ◌+◌, ◌-◌, ◌≤◌, List, [], ◌++◌, length, take, drop, codes, Option, Some, None, Result, Ok, Err, IfSome}
 use Rattle.bean_codec.specs.declared.request.Fault.{Fault}
 use Rattle.bean_codec.specs.declared.line.Meaning.{Meaning}
 use Rattle.bean_codec.specs.declared.line.Meaning.TheVariants.{WithBody}
 use Rattle.bean_codec.specs.declared.reader.Want.{Want}
-use Rattle.bean_codec.specs.declared.reader.Want.TheVariants.{Big}
+use Rattle.bean_codec.specs.declared.reader.Want.TheVariants.{Line, Rest, Big}
 use Rattle.bean_codec.specs.declared.reader.Read.{Read}
 use Rattle.bean_codec.specs.declared.reader.Read.TheVariants.{More, Drop, Request, Bad}
-use Rattle.bean_codec.specs.Grammar.{Item, Completes, Spells, longest_line, longest_body}
+use Rattle.bean_codec.specs.Lines.{crlf, line_text, IsLine}
+use Rattle.bean_codec.specs.Grammar.{Item, Completes, Spells, longest_line, longest_body, meaning}
 use Rattle.bean_codec.specs.Wants.{EndsWithCr, Fits}
 
 -- the item that was read, and how many bytes it takes
@@ -71,6 +72,50 @@ abbrev pub DropsBig : Result Meaning Fault → Want → Type 0
 DropsBig (Ok (WithBody pri delay ttr size)) want = (want ≡ Big (size + 2)) × (longest_body < size)
 DropsBig _ want = ⊥
 
+-- it is a put line whose body isn't too large, and the body and the two bytes after it aren't all there
+abbrev pub AwaitsBody : Result Meaning Fault → List ℕ → Type 0
+AwaitsBody (Ok (WithBody pri delay ttr size)) rest = (size ≤ longest_body) × (length rest < size + 2)
+AwaitsBody _ rest = ⊥
+
 -- all bytes, or all but a carriage return that stands last
 abbrev pub IsBeforeCr : List ℕ → ℕ → Type 0
 IsBeforeCr bytes n = ((n ≡ length bytes) × (EndsWithCr bytes → ⊥)) ⊎ ((n + 1 ≡ length bytes) × EndsWithCr bytes)
+
+-- no line ends within the bytes of a longest line
+abbrev pub NoLineEnds : List ℕ → Type 0
+NoLineEnds bytes = IsLine (take longest_line bytes)
+
+-- this line is the first, and the rest follows its CR LF
+abbrev pub IsFirstLine : List ℕ → List ℕ → List ℕ → Type 0
+IsFirstLine bytes line rest = IsLine line × (bytes ≡ line ++ (crlf ++ rest))
+
+-- more bytes are wanted: of a line that may yet end in time, or of the body of a put; where nothing came of the rest of a
+-- line that is too long, or a carriage return alone; where nothing came of a body that is too large
+abbrev pub Awaits : Want → List ℕ → Type 0
+Awaits Line bytes =
+    (NoLineEnds bytes × (length bytes < longest_line))
+    ⊎ ((line rest : List ℕ) × IsFirstLine bytes line rest × AwaitsBody (meaning line) rest)
+Awaits Rest bytes = (bytes ≡ []) ⊎ (bytes ≡ codes "\r")
+Awaits (Big n) bytes = (bytes ≡ []) × (0 < n)
+
+-- so many bytes are dropped, and this is wanted then: of a line that is too long, all but one of the bytes of a longest
+-- line; the whole line of a put whose body is too large; of the rest of a line that is too long, all but a last carriage
+-- return; of a body that is too large, all that came
+abbrev pub IsDropped : Want → List ℕ → ℕ → Want → Type 0
+IsDropped Line bytes used next =
+    (NoLineEnds bytes × (longest_line ≤ length bytes) × (used + 1 ≡ longest_line) × (next ≡ Rest))
+    ⊎ ((line rest : List ℕ) × IsFirstLine bytes line rest × DropsBig (meaning line) next × (used ≡ length (line_text line)))
+IsDropped Rest bytes used next = IsLine bytes × IsBeforeCr bytes used × (0 < used) × (next ≡ Rest)
+IsDropped (Big n) bytes used next = (used ≡ length bytes) × (0 < used) × (used < n) × (next ≡ Big (n - used))
+
+-- what is told is what is due: more are awaited, some are dropped, or neither
+abbrev pub IsDue : Want → List ℕ → Read → Type 0
+IsDue want bytes More = Awaits want bytes
+IsDue want bytes (Drop used next) = IsDropped want bytes used next
+IsDue want bytes _ = (Awaits want bytes → ⊥) × ((used : ℕ) (next : Want) → IsDropped want bytes used next → ⊥)
+
+-- the same of the rest after a line with this meaning
+abbrev pub IsRestDue : Result Meaning Fault → List ℕ → Read → Type 0
+IsRestDue meaning rest More = AwaitsBody meaning rest
+IsRestDue meaning rest (Drop used next) = DropsBig meaning next
+IsRestDue meaning rest _ = (AwaitsBody meaning rest → ⊥) × ((next : Want) → DropsBig meaning next → ⊥)

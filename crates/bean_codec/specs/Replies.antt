@@ -5,15 +5,15 @@ use Rattle.bean_queue.specs.declared.reply.Reply.{Reply}
 use Rattle.bean_queue.specs.declared.reply.Reply.TheVariants.{Inserted, Using, Watching, NotIgnored, Reserved, DeadlineSoon, TimedOut, Deleted, NotFound, Released, Buried, Touched, KickedCount, Kicked, Found, Tubes, InternalError}
 use Rattle.bean_codec.specs.declared.request.Fault.{Fault}
 use Rattle.bean_codec.specs.declared.request.Fault.TheVariants.{BadFormat, UnknownCommand, ExpectedCrlf, JobTooBig}
-use Rattle.bean_codec.specs.Lines.{ended}
+use Rattle.bean_codec.specs.Lines.{line_text}
 
 -- a word and a number
 unfoldable pub count_text : List ℕ → ℕ → List ℕ
-count_text word n = ended (word ++ codes " " ++ decimal n)
+count_text word n = line_text (word ++ codes " " ++ decimal n)
 
 -- a job: a line with its id and the size of its body, and the body
 unfoldable pub job_text : List ℕ → ℕ → List ℕ → List ℕ
-job_text word id body = ended (word ++ codes " " ++ decimal id ++ codes " " ++ decimal (length body)) ++ ended body
+job_text word id body = line_text (word ++ codes " " ++ decimal id ++ codes " " ++ decimal (length body)) ++ line_text body
 
 -- one tube of a list
 unfoldable pub tube_text : List ℕ → List ℕ
@@ -25,31 +25,31 @@ tubes_data names = codes "---\n" ++ flat_map tube_text names
 
 -- a list of tubes: a line with the size of the data, and the data
 unfoldable pub tubes_text : List (List ℕ) → List ℕ
-tubes_text names = count_text (codes "OK") (length (tubes_data names)) ++ ended (tubes_data names)
+tubes_text names = count_text (codes "OK") (length (tubes_data names)) ++ line_text (tubes_data names)
 
 -- the text of a reply
 unfoldable pub reply_text : Reply → List ℕ
 reply_text (Inserted id) = count_text (codes "INSERTED") id
-reply_text (Using tube) = ended (codes "USING " ++ tube)
+reply_text (Using tube) = line_text (codes "USING " ++ tube)
 reply_text (Watching count) = count_text (codes "WATCHING") count
-reply_text NotIgnored = ended (codes "NOT_IGNORED")
+reply_text NotIgnored = line_text (codes "NOT_IGNORED")
 reply_text (Reserved id body) = job_text (codes "RESERVED") id body
-reply_text DeadlineSoon = ended (codes "DEADLINE_SOON")
-reply_text TimedOut = ended (codes "TIMED_OUT")
-reply_text Deleted = ended (codes "DELETED")
-reply_text NotFound = ended (codes "NOT_FOUND")
-reply_text Released = ended (codes "RELEASED")
-reply_text Buried = ended (codes "BURIED")
-reply_text Touched = ended (codes "TOUCHED")
+reply_text DeadlineSoon = line_text (codes "DEADLINE_SOON")
+reply_text TimedOut = line_text (codes "TIMED_OUT")
+reply_text Deleted = line_text (codes "DELETED")
+reply_text NotFound = line_text (codes "NOT_FOUND")
+reply_text Released = line_text (codes "RELEASED")
+reply_text Buried = line_text (codes "BURIED")
+reply_text Touched = line_text (codes "TOUCHED")
 reply_text (KickedCount count) = count_text (codes "KICKED") count
-reply_text Kicked = ended (codes "KICKED")
+reply_text Kicked = line_text (codes "KICKED")
 reply_text (Found id body) = job_text (codes "FOUND") id body
 reply_text (Tubes names) = tubes_text names
-reply_text InternalError = ended (codes "INTERNAL_ERROR")
+reply_text InternalError = line_text (codes "INTERNAL_ERROR")
 
 -- the text that answers a fault
 unfoldable pub fault_text : Fault → List ℕ
-fault_text BadFormat = ended (codes "BAD_FORMAT")
-fault_text UnknownCommand = ended (codes "UNKNOWN_COMMAND")
-fault_text ExpectedCrlf = ended (codes "EXPECTED_CRLF")
-fault_text JobTooBig = ended (codes "JOB_TOO_BIG")
+fault_text BadFormat = line_text (codes "BAD_FORMAT")
+fault_text UnknownCommand = line_text (codes "UNKNOWN_COMMAND")
+fault_text ExpectedCrlf = line_text (codes "EXPECTED_CRLF")
+fault_text JobTooBig = line_text (codes "JOB_TOO_BIG")

@@ -3,7 +3,7 @@ use Rattle.std.specs.Prelude.{◌≡◌, ℕ, ◌+◌, ◌≤◌, ◌<◌, List,
 use Rattle.bean_codec.specs.declared.line.Meaning.TheVariants.{WithBody}
 use Rattle.bean_codec.specs.declared.reader.Want.{Want}
 use Rattle.bean_codec.specs.declared.reader.Want.TheVariants.{Line, Rest, Big}
-use Rattle.bean_codec.specs.Lines.{crlf, ended, IsLine}
+use Rattle.bean_codec.specs.Lines.{crlf, line_text, IsLine}
 use Rattle.bean_codec.specs.Grammar.{longest_line, longest_body, meaning}
 
 -- a carriage return stands last
@@ -12,7 +12,7 @@ EndsWithCr text = (front : List ℕ) × (text ≡ front ++ codes "\r")
 
 -- the beginning of a line that is too long. The next byte makes no CR LF of it, and where there is none it ends with no CR
 pub record FitsRest (dropped bytes : List ℕ) : Type 0 where
-  pub long : longest_line < length (ended dropped)
+  pub long : longest_line < length (line_text dropped)
   pub is_line : IsLine (dropped ++ take 1 bytes)
   pub last : bytes ≡ [] → EndsWithCr dropped → ⊥
 

@@ -1,5 +1,5 @@
 ghost use Rattle.std.specs.Prelude.{◌≡◌, ◌<◌, ◌≤◌, ◌+◌, ◌++◌, length, take, vec_len, vec_capacity, decimal, OnOk, OnErr};
-ghost use Rattle.bean_codec.specs.Lines.{ended};
+ghost use Rattle.bean_codec.specs.Lines.{line_text};
 ghost use Rattle.bean_codec.specs.Replies.{count_text};
 
 use itoa::Buffer;
@@ -18,10 +18,10 @@ pub fn append_number(number: u64, out: &mut Vec<u8>) -> Result<(), AllocError>
 
 /// Writes a line at the end. Where memory runs out, a part of it may stand there.
 pub fn append_line(text: &[u8], out: &mut Vec<u8>) -> Result<(), AllocError>
-    ensures ok { OnOk result (out.new.items ≡ out.old.items ++ ended text.now) }
+    ensures ok { OnOk result (out.new.items ≡ out.old.items ++ line_text text.now) }
     ensures front { take (vec_len out.old) out.new.items ≡ out.old.items }
     ensures full { OnErr result
-        (vec_capacity out.old < vec_len out.old + length (ended text.now)) }
+        (vec_capacity out.old < vec_len out.old + length (line_text text.now)) }
 {
     out.extend_from_slice(text)?;
     out.extend_from_slice(b"\r\n")

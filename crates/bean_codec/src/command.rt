@@ -3,7 +3,7 @@ ghost use Rattle.bean_codec.specs.Commands as commands;
 
 /// What the first word of a line names.
 #[derive(Clone, Copy, PartialEq, Eq, Debug)]
-pub enum Command {
+pub enum CommandName {
     Put,
     Use,
     Watch,
@@ -28,7 +28,7 @@ pub enum Command {
 
 /// The command that this word names.
 #[tactic(auto, unfolding(crate::specs::Commands::command_of))]
-pub fn command_of(word: &[u8]) -> Option<Command>
+pub fn command_of(word: &[u8]) -> Option<CommandName>
     ensures { result ≡ commands.command_of word.now }
 {
     job_command(word)
@@ -38,27 +38,27 @@ pub fn command_of(word: &[u8]) -> Option<Command>
 
 /// The commands that make, take or change jobs.
 #[tactic(auto, unfolding(crate::specs::Commands::job_command))]
-fn job_command(word: &[u8]) -> Option<Command>
+fn job_command(word: &[u8]) -> Option<CommandName>
     ensures { result ≡ commands.job_command word.now }
 {
     if word == b"put".as_slice() {
-        Some(Command::Put)
+        Some(CommandName::Put)
     } else if word == b"reserve".as_slice() {
-        Some(Command::Reserve)
+        Some(CommandName::Reserve)
     } else if word == b"reserve-with-timeout".as_slice() {
-        Some(Command::ReserveWithTimeout)
+        Some(CommandName::ReserveWithTimeout)
     } else if word == b"delete".as_slice() {
-        Some(Command::Delete)
+        Some(CommandName::Delete)
     } else if word == b"touch".as_slice() {
-        Some(Command::Touch)
+        Some(CommandName::Touch)
     } else if word == b"release".as_slice() {
-        Some(Command::Release)
+        Some(CommandName::Release)
     } else if word == b"bury".as_slice() {
-        Some(Command::Bury)
+        Some(CommandName::Bury)
     } else if word == b"kick".as_slice() {
-        Some(Command::Kick)
+        Some(CommandName::Kick)
     } else if word == b"kick-job".as_slice() {
-        Some(Command::KickJob)
+        Some(CommandName::KickJob)
     } else {
         None
     }
@@ -66,21 +66,21 @@ fn job_command(word: &[u8]) -> Option<Command>
 
 /// The commands that are about tubes.
 #[tactic(auto, unfolding(crate::specs::Commands::tube_command))]
-fn tube_command(word: &[u8]) -> Option<Command>
+fn tube_command(word: &[u8]) -> Option<CommandName>
     ensures { result ≡ commands.tube_command word.now }
 {
     if word == b"use".as_slice() {
-        Some(Command::Use)
+        Some(CommandName::Use)
     } else if word == b"watch".as_slice() {
-        Some(Command::Watch)
+        Some(CommandName::Watch)
     } else if word == b"ignore".as_slice() {
-        Some(Command::Ignore)
+        Some(CommandName::Ignore)
     } else if word == b"list-tubes".as_slice() {
-        Some(Command::ListTubes)
+        Some(CommandName::ListTubes)
     } else if word == b"list-tube-used".as_slice() {
-        Some(Command::ListTubeUsed)
+        Some(CommandName::ListTubeUsed)
     } else if word == b"list-tubes-watched".as_slice() {
-        Some(Command::ListTubesWatched)
+        Some(CommandName::ListTubesWatched)
     } else {
         None
     }
@@ -88,19 +88,19 @@ fn tube_command(word: &[u8]) -> Option<Command>
 
 /// The commands that look at jobs, and the last one.
 #[tactic(auto, unfolding(crate::specs::Commands::look_command))]
-fn look_command(word: &[u8]) -> Option<Command>
+fn look_command(word: &[u8]) -> Option<CommandName>
     ensures { result ≡ commands.look_command word.now }
 {
     if word == b"peek".as_slice() {
-        Some(Command::Peek)
+        Some(CommandName::Peek)
     } else if word == b"peek-ready".as_slice() {
-        Some(Command::PeekReady)
+        Some(CommandName::PeekReady)
     } else if word == b"peek-delayed".as_slice() {
-        Some(Command::PeekDelayed)
+        Some(CommandName::PeekDelayed)
     } else if word == b"peek-buried".as_slice() {
-        Some(Command::PeekBuried)
+        Some(CommandName::PeekBuried)
     } else if word == b"quit".as_slice() {
-        Some(Command::Quit)
+        Some(CommandName::Quit)
     } else {
         None
     }

@@ -1,6 +1,6 @@
 ghost use Rattle.std.specs.Prelude.{◌≡◌, ℕ, ◌≤◌, ◌-◌, length, Some};
 ghost use Rattle.bean_codec.specs.declared.reader.Want.TheVariants as wants;
-ghost use Rattle.bean_codec.specs.Reads.{IfMore, IsBeforeCr, TellsItem, TellsMore, TellsDrop};
+ghost use Rattle.bean_codec.specs.Reads.{IfMore, IsBeforeCr, TellsItem, TellsMore, TellsDrop, IsDue};
 
 use crate::reader::{Read, Want};
 use crate::request::Fault;
@@ -11,6 +11,7 @@ pub fn read_rest(bytes: &[u8]) -> Read
     ensures item { TellsItem wants.Rest bytes.now result }
     ensures more { TellsMore wants.Rest bytes.now result }
     ensures drop { TellsDrop wants.Rest bytes.now result }
+    ensures due { IsDue wants.Rest bytes.now result }
     ensures bound { IfMore result (length bytes.now ≤ 1) }
 {
     let Some(end) = bytes.find(b"\r\n") else {
@@ -41,6 +42,7 @@ pub fn read_big(left: u64, bytes: &[u8]) -> Read
     ensures item { TellsItem (wants.Big left) bytes.now result }
     ensures more { TellsMore (wants.Big left) bytes.now result }
     ensures drop { TellsDrop (wants.Big left) bytes.now result }
+    ensures due { IsDue (wants.Big left) bytes.now result }
     ensures bound { IfMore result (length bytes.now ≤ 0) }
 {
     let here = bytes.len() as u64;

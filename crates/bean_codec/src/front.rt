@@ -2,7 +2,7 @@ ghost use Rattle.std.specs.Prelude.{◌≡◌, ℕ, ◌+◌, ◌<◌, ◌≤◌,
 ghost use Rattle.bean_codec.specs.declared.reader.Want.TheVariants as wants;
 ghost use Rattle.bean_codec.specs.Grammar.{Item, put_item, longest_body};
 ghost use Rattle.bean_codec.specs.Memory.{TakesMemory};
-ghost use Rattle.bean_codec.specs.Reads.{item_read, IfMore, IfDrop, BeginsWith, CompletesFront, DropsBig, TellsItem, TellsMore, TellsDrop, longest_wait};
+ghost use Rattle.bean_codec.specs.Reads.{item_read, IfMore, IfDrop, BeginsWith, CompletesFront, DropsBig, TellsItem, TellsMore, TellsDrop, IsDue, IsRestDue, longest_wait};
 
 use crate::line::{LONGEST_LINE, Meaning, meaning_of};
 use crate::reader::{Read, Want};
@@ -19,6 +19,7 @@ pub fn read_line(alloc: Global, bytes: &[u8]) -> Result<Read, AllocError>
     ensures item { IfOk result (TellsItem wants.Line bytes.now) }
     ensures more { IfOk result (TellsMore wants.Line bytes.now) }
     ensures drop { IfOk result (TellsDrop wants.Line bytes.now) }
+    ensures due { IfOk result (IsDue wants.Line bytes.now) }
     ensures bound { IfOk result (λ read. IfMore read (length bytes.now ≤ longest_wait)) }
     ensures memory { OnErr result
         ((found : Item × ℕ) × TakesMemory found.0 × BeginsWith bytes.now found) }
@@ -52,6 +53,7 @@ fn complete(
     ensures bound { IfOk result (λ read. IfMore read (length rest.now ≤ longest_body + 1)) }
     ensures drop { IfOk result (λ read. IfDrop read (λ used want.
         (used ≡ start) × DropsBig meaning want)) }
+    ensures due { IfOk result (IsRestDue meaning rest.now) }
     ensures memory { OnErr result ((put : Item × ℕ) × TakesMemory put.0 ×
         CompletesFront meaning start rest.now put) }
 {
@@ -86,7 +88,7 @@ fn complete_put(
     requires { start + length rest.now < 2 ^ 64 }
     ensures item { IfOk result (λ read. IfSome (item_read read) (λ found.
         (found ≡ (put_item pri delay ttr size (take (size + 2) rest.now), start + (size + 2)))
-        × (size + 2 ≤ length rest.now))) }
+        × (size + 2 ≤ length rest.now) × (size ≤ longest_body))) }
     ensures more { IfOk result (λ read. IfMore read
         ((length rest.now < size + 2) × (size ≤ longest_body))) }
     ensures drop { IfOk result (λ read. IfDrop read (λ used want.

@@ -21,7 +21,7 @@ mod tube_list;
 mod words;
 mod writer;
 
-pub use command::{Command, command_of};
+pub use command::{CommandName, command_of};
 pub use laws::{front_item, one_item};
 pub use line::{Meaning, line_of};
 pub use name_lines::name_of;

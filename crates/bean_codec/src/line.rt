@@ -3,7 +3,7 @@ ghost use Rattle.bean_codec.specs.Grammar as grammar;
 ghost use Rattle.bean_codec.specs.Arguments as arguments;
 ghost use Rattle.bean_codec.specs.Memory.{HasName, LineHasName};
 
-use crate::command::{Command, command_of};
+use crate::command::{CommandName, command_of};
 use crate::name_lines::{ignore_line, use_line, watch_line};
 use crate::number_lines::{
     alone, bury_line, delete_line, kick_job_line, kick_line, peek_line, put_line, release_line,
@@ -66,32 +66,32 @@ fn command_line(alloc: Global, mut words: Words<'_>) -> Result<Result<Meaning, F
 #[tactic(auto, unfolding(crate::specs::Arguments::line_of))]
 pub fn line_of(
     alloc: Global,
-    command: Command,
+    command: CommandName,
     words: Words<'_>,
 ) -> Result<Option<Meaning>, AllocError>
     ensures says { IfOk result (λ says. says ≡ arguments.line_of command words.entry) }
     ensures memory { OnErr result (HasName (arguments.line_of command words.entry)) }
 {
     match command {
-        Command::Put => Ok(put_line(words)),
-        Command::Use => use_line(alloc, words),
-        Command::Watch => watch_line(alloc, words),
-        Command::Ignore => ignore_line(alloc, words),
-        Command::Reserve => Ok(alone(words, Request::Do(Op::Reserve { seconds: None }))),
-        Command::ReserveWithTimeout => Ok(reserve_line(words)),
-        Command::Delete => Ok(delete_line(words)),
-        Command::Touch => Ok(touch_line(words)),
-        Command::Release => Ok(release_line(words)),
-        Command::Bury => Ok(bury_line(words)),
-        Command::Kick => Ok(kick_line(words)),
-        Command::KickJob => Ok(kick_job_line(words)),
-        Command::Peek => Ok(peek_line(words)),
-        Command::PeekReady => Ok(alone(words, Request::Do(Op::PeekReady))),
-        Command::PeekDelayed => Ok(alone(words, Request::Do(Op::PeekDelayed))),
-        Command::PeekBuried => Ok(alone(words, Request::Do(Op::PeekBuried))),
-        Command::ListTubes => Ok(alone(words, Request::Do(Op::ListTubes))),
-        Command::ListTubeUsed => Ok(alone(words, Request::Do(Op::ListTubeUsed))),
-        Command::ListTubesWatched => Ok(alone(words, Request::Do(Op::ListTubesWatched))),
-        Command::Quit => Ok(alone(words, Request::Quit)),
+        CommandName::Put => Ok(put_line(words)),
+        CommandName::Use => use_line(alloc, words),
+        CommandName::Watch => watch_line(alloc, words),
+        CommandName::Ignore => ignore_line(alloc, words),
+        CommandName::Reserve => Ok(alone(words, Request::Do(Op::Reserve { seconds: None }))),
+        CommandName::ReserveWithTimeout => Ok(reserve_line(words)),
+        CommandName::Delete => Ok(delete_line(words)),
+        CommandName::Touch => Ok(touch_line(words)),
+        CommandName::Release => Ok(release_line(words)),
+        CommandName::Bury => Ok(bury_line(words)),
+        CommandName::Kick => Ok(kick_line(words)),
+        CommandName::KickJob => Ok(kick_job_line(words)),
+        CommandName::Peek => Ok(peek_line(words)),
+        CommandName::PeekReady => Ok(alone(words, Request::Do(Op::PeekReady))),
+        CommandName::PeekDelayed => Ok(alone(words, Request::Do(Op::PeekDelayed))),
+        CommandName::PeekBuried => Ok(alone(words, Request::Do(Op::PeekBuried))),
+        CommandName::ListTubes => Ok(alone(words, Request::Do(Op::ListTubes))),
+        CommandName::ListTubeUsed => Ok(alone(words, Request::Do(Op::ListTubeUsed))),
+        CommandName::ListTubesWatched => Ok(alone(words, Request::Do(Op::ListTubesWatched))),
+        CommandName::Quit => Ok(alone(words, Request::Quit)),
     }
 }

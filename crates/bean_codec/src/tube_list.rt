@@ -1,6 +1,6 @@
 ghost use Rattle.std.specs.Prelude.{◌≡◌, ◌<◌, ◌≤◌, ◌+◌, ◌^◌, ◌++◌, length, take, vec_len, vec_capacity, codes, IfSome, IfNone, OnOk, OnErr};
 ghost use Rattle.std.specs.List.{flat_map};
-ghost use Rattle.bean_codec.specs.Lines.{ended};
+ghost use Rattle.bean_codec.specs.Lines.{line_text};
 ghost use Rattle.bean_codec.specs.Replies.{tube_text, tubes_data, tubes_text};
 
 use crate::append::append_count;

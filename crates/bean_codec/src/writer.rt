@@ -1,5 +1,5 @@
 ghost use Rattle.std.specs.Prelude.{◌≡◌, ◌<◌, ◌≤◌, ◌+◌, ◌++◌, length, take, vec_len, vec_capacity, codes, OnOk, OnErr};
-ghost use Rattle.bean_codec.specs.Lines.{ended};
+ghost use Rattle.bean_codec.specs.Lines.{line_text};
 ghost use Rattle.bean_codec.specs.Replies.{reply_text, fault_text, job_text};
 
 use crate::append::{append_count, append_line, append_number};
@@ -55,10 +55,10 @@ fn append_reply(reply: &Reply, out: &mut Vec<u8>) -> Result<(), AllocError>
 /// The tube that is used.
 fn append_using(tube: &Name, out: &mut Vec<u8>) -> Result<(), AllocError>
     ensures ok { OnOk result
-        (out.new.items ≡ out.old.items ++ ended (codes "USING " ++ tube.now)) }
+        (out.new.items ≡ out.old.items ++ line_text (codes "USING " ++ tube.now)) }
     ensures front { take (vec_len out.old) out.new.items ≡ out.old.items }
     ensures full { OnErr result
-        (vec_capacity out.old < vec_len out.old + length (ended (codes "USING " ++ tube.now))) }
+        (vec_capacity out.old < vec_len out.old + length (line_text (codes "USING " ++ tube.now))) }
 {
     out.extend_from_slice(b"USING ")?;
     out.extend_from_slice(tube.as_slice())?;

@@ -6,7 +6,7 @@ use Rattle.job_store.specs.declared.job.Job.{Job}
 use Rattle.job_store.specs.Least.{ComesBefore, IsLeast, least}
 use Rattle.job_store.specs.LookUps.{is_among, ready_in, best_ready, pri_of_job}
 use Rattle.job_store.specs.States.{is_ready}
-use Rattle.session_store.specs.declared.session.Session.{Session}
+use Rattle.session_store.specs.declared.session.SessionState.{SessionState}
 use Rattle.session_store.specs.Sessions.{first_waiting, is_waiting, wait_rank}
 use Rattle.bean_queue.specs.Best.{IsWanted, IsBestTurn}
 use Rattle.bean_queue.specs.Queue.{QueueState}
@@ -40,7 +40,7 @@ none≢some x e = cc
 same_turn : (t u : Turn) → Some t ≡ Some u → u ≡ t
 same_turn t u e = cc
 
-pub turn-best : FindsLeast Job → FindsLeast Session → (s : QueueState) (t : Turn) → serve_turn s ≡ Some t → IsBestTurn s t
+pub turn-best : FindsLeast Job → FindsLeast SessionState → (s : QueueState) (t : Turn) → serve_turn s ≡ Some t → IsBestTurn s t
 unfolding serve_turn
 turn-best jobs sessions s t e =
     elim (next_job s) as (λ o. IfSome o (λ j. In j s.jobs × (is_ready j.1.state ≡ true)) → IfSome o (IsLeast (λ e. true) pri_of_job (filter_map (wanted s.jobs) s.sessions)) → give s o ≡ Some t → IsBestTurn s t) [

@@ -1,5 +1,5 @@
 -- Where nothing is left to give, nothing is after less: fewer ready jobs, and fewer sessions that wait.
-use Rattle.std.proofs.Common.{◌≡◌, ℕ, ◌+◌, ◌^◌, Bool, true, false, cond, inl, inr, List, [], ◌∷◌, ◌++◌, append-nil, filter_map, length, Option, Some, None, is_some, ◌==◌, nat_lt, refl, sym, ap, subst, ◌∙◌, eqb-true, true≢false}
+use Rattle.std.proofs.Common.{◌≡◌, ℕ, ◌+◌, Bool, true, false, cond, inl, inr, List, [], ◌∷◌, ◌++◌, append-nil, filter_map, length, Option, Some, None, is_some, ◌==◌, nat_lt, refl, sym, ap, subst, ◌∙◌, eqb-true, true≢false}
 use Rattle.std.proofs.lemmas.Bool.{and_parts}
 use Rattle.std.specs.List.{cons_option}
 use Rattle.object.specs.Lists.{In}
@@ -9,9 +9,9 @@ use Rattle.job_store.specs.Entries.{value_at, with_value, altered}
 use Rattle.job_store.specs.Least.{least}
 use Rattle.job_store.specs.LookUps.{best_ready, ready_in, is_among, pri_of_job}
 use Rattle.job_store.specs.States.{is_ready, is_held}
-use Rattle.session_store.specs.declared.session.Session.{Session}
+use Rattle.session_store.specs.declared.session.SessionState.{SessionState}
 use Rattle.session_store.specs.declared.session.Wait.{Wait}
-use Rattle.session_store.specs.Sessions.{session_of, new_session, with_wait, ended, known, is_waiting}
+use Rattle.session_store.specs.Sessions.{session_of, new_session, with_wait, with_wait_ended, known, is_waiting}
 use Rattle.session_store.specs.WatchLists.{is_alone}
 use Rattle.session_store.specs.EntryLaws.{altered-in, insert-in, without-in}
 use Rattle.session_store.specs.WaitLaws.{known-waits}
@@ -19,17 +19,17 @@ use Rattle.bean_queue.specs.declared.op.Op.{Op}
 use Rattle.bean_queue.specs.declared.reply.Reply.{Reply}
 use Rattle.bean_queue.specs.Queue.{QueueState, with_sessions, fresh, watched_by, holds_by}
 use Rattle.bean_queue.specs.Rows.{Row, row, put_row, use_row, watch_row, ignore_row, reserve_row, delete_row, may_delete, is_found, release_row, touch_row, bury_row, kick_row, kick_job_row, peek_row}
-use Rattle.bean_queue.specs.Turns.{Outcome, after_option, Turn, stop, all_turns, wanted, give, serve_turn, told, deadline_turn, timeout_turn, serve}
-use Rattle.bean_queue.specs.Effects.{own, own_outcome, then_do, called, is_zero, settled, do_effect, released, forgotten, at_second, tick_effect, is_quiet}
+use Rattle.bean_queue.specs.Turns.{Outcome, after_option, Turn, stop, all_turns, wanted, give, serve_turn, told_turn, deadline_turn, timeout_turn, serve}
+use Rattle.bean_queue.specs.Effects.{own, own_outcome, then_do, called, ends_wait, is_zero, settled, has_no_number, carried_out, do_effect, released, forgotten, at_second, tick_effect, is_quiet}
 use Rattle.bean_queue.specs.TurnLaws.{least-none, none-least, turns-keep, deadline_turn-is, timeout_turn-is, IsTold, IfSome-map}
 use Rattle.bean_queue.proofs.Served.{serve-done, idle_none, turns-unroll, serves}
 
 -- every ready job and every session that waits was there before
 pub record IsCalmer (s t : QueueState) : Type 0 where
   pub jobs : (j : ℕ × Job) → In j t.jobs → is_ready j.1.state ≡ true → In j s.jobs
-  pub sessions : (w : ℕ × Session) → In w t.sessions → is_waiting w.1 ≡ true → In w s.sessions
+  pub sessions : (w : ℕ × SessionState) → In w t.sessions → is_waiting w.1 ≡ true → In w s.sessions
 
-none-wanted : (jobs : List (ℕ × Job)) (sessions : List (ℕ × Session)) → ((w : ℕ × Session) → In w sessions → is_waiting w.1 ≡ true → best_ready w.1.watched jobs ≡ None) → filter_map (wanted jobs) sessions ≡ []
+none-wanted : (jobs : List (ℕ × Job)) (sessions : List (ℕ × SessionState)) → ((w : ℕ × SessionState) → In w sessions → is_waiting w.1 ≡ true → best_ready w.1.watched jobs ≡ None) → filter_map (wanted jobs) sessions ≡ []
 none-wanted jobs [] h = refl
 none-wanted jobs (w ∷ ws) h =
     elim (is_waiting w.1) as (λ b. is_waiting w.1 ≡ b → cons_option (cond b (best_ready w.1.watched jobs) None) (filter_map (wanted jobs) ws) ≡ []) [
@@ -37,7 +37,7 @@ none-wanted jobs (w ∷ ws) h =
       | false ↦ λ t. none-wanted jobs ws (λ v i. h v (inr i))
     ] refl
 
-no-turn : (s : QueueState) → ((w : ℕ × Session) → In w s.sessions → is_waiting w.1 ≡ true → best_ready w.1.watched s.jobs ≡ None) → serve_turn s ≡ None
+no-turn : (s : QueueState) → ((w : ℕ × SessionState) → In w s.sessions → is_waiting w.1 ≡ true → best_ready w.1.watched s.jobs ≡ None) → serve_turn s ≡ None
 unfolding serve_turn
 no-turn s h = ap (λ es. give s (least (λ e. true) pri_of_job es)) (none-wanted s.jobs s.sessions h)
 
@@ -60,7 +60,7 @@ the_wait : (o : Option Wait) → is_some o ≡ true → (w : Wait) × (o ≡ Som
 the_wait None e = cc
 the_wait (Some w) e = (w, refl)
 
-pub ended-calmer : (x : ℕ) (sessions : List (ℕ × Session)) (w : ℕ × Session) → In w (ended x sessions) → is_waiting w.1 ≡ true → In w sessions
+pub ended-calmer : (x : ℕ) (sessions : List (ℕ × SessionState)) (w : ℕ × SessionState) → In w (with_wait_ended x sessions) → is_waiting w.1 ≡ true → In w sessions
 ended-calmer x sessions w i =
     altered-in x (with_wait None) (λ w. is_waiting w.1 ≡ true → In w sessions) sessions
     (λ d there.
@@ -70,15 +70,15 @@ ended-calmer x sessions w i =
     ])
     w i
 
-known-calmer : (x : ℕ) (sessions : List (ℕ × Session)) (w : ℕ × Session) → In w (known x sessions) → is_waiting w.1 ≡ true → In w sessions
+known-calmer : (x : ℕ) (sessions : List (ℕ × SessionState)) (w : ℕ × SessionState) → In w (known x sessions) → is_waiting w.1 ≡ true → In w sessions
 known-calmer x sessions w i =
-    elim (is_some (value_at x sessions)) as (λ b. In w (cond b (ended x sessions) (with_value x new_session sessions)) → is_waiting w.1 ≡ true → In w sessions) [
+    elim (is_some (value_at x sessions)) as (λ b. In w (cond b (with_wait_ended x sessions) (with_value x new_session sessions)) → is_waiting w.1 ≡ true → In w sessions) [
       | true ↦ λ i. ended-calmer x sessions w i
       | false ↦ λ i. insert-in (λ w. is_waiting w.1 ≡ true → In w sessions) x new_session sessions (λ q t. cc) (λ d there t. there) w i
     ] i
 
 -- of sessions among which x does not wait, a change of x that keeps its wait
-kept-calmer : (x : ℕ) (f : Session → Session) (sessions : List (ℕ × Session)) → ((c : Session) → (f c).wait ≡ c.wait) → ((d : ℕ × Session) → In d sessions → x ≡ d.0 → is_waiting d.1 ≡ true → ⊥) → (w : ℕ × Session) → In w (altered x f sessions) → is_waiting w.1 ≡ true → In w sessions
+kept-calmer : (x : ℕ) (f : SessionState → SessionState) (sessions : List (ℕ × SessionState)) → ((c : SessionState) → (f c).wait ≡ c.wait) → ((d : ℕ × SessionState) → In d sessions → x ≡ d.0 → is_waiting d.1 ≡ true → ⊥) → (w : ℕ × SessionState) → In w (altered x f sessions) → is_waiting w.1 ≡ true → In w sessions
 kept-calmer x f sessions same idle w i =
     altered-in x f (λ w. is_waiting w.1 ≡ true → In w sessions) sessions
     (λ d there.
@@ -88,7 +88,7 @@ kept-calmer x f sessions same idle w i =
     ] refl)
     w i
 
-known-idle : (x : ℕ) (sessions : List (ℕ × Session)) (d : ℕ × Session) → In d (known x sessions) → x ≡ d.0 → is_waiting d.1 ≡ true → ⊥
+known-idle : (x : ℕ) (sessions : List (ℕ × SessionState)) (d : ℕ × SessionState) → In d (known x sessions) → x ≡ d.0 → is_waiting d.1 ≡ true → ⊥
 known-idle x sessions d i same t =
     let w = the_wait d.1.wait t in
     (known-waits x sessions (record { session = d.0; number = w.0.number }) (d, w.0, i, refl, w.1, refl)).1 (sym same)
@@ -132,9 +132,8 @@ quiet-row (Op.Touch id) key s q =
     (record { jobs = changed-calmer id _ s.jobs (λ job. refl); sessions = λ w i t. i }) (same-calmer (called key.session s))
 quiet-row (Op.Release id pri delay) key s q = cc
 quiet-row (Op.Bury id pri) key s q =
-    calmer_if (called key.session s) (s.next_rank == 2 ^ 63) _ _ (same-calmer (called key.session s))
-    (calmer_if (called key.session s) (is_found (is_held key.session) (value_at id s.jobs)) _ _
-    (record { jobs = changed-calmer id _ s.jobs (λ job. refl); sessions = λ w i t. i }) (same-calmer (called key.session s)))
+    calmer_if (called key.session s) (is_found (is_held key.session) (value_at id s.jobs)) _ _
+    (record { jobs = changed-calmer id _ s.jobs (λ job. refl); sessions = λ w i t. i }) (same-calmer (called key.session s))
 quiet-row (Op.Kick bound) key s q = cc
 quiet-row (Op.KickJob id) key s q = cc
 quiet-row (Op.Peek id) key s q = same-calmer (called key.session s)
@@ -158,8 +157,8 @@ unfolding serve
 serve-none s none = turns-unroll serve_turn serves s ∙ ap (after_option (all_turns serve_turn) s) none
 
 -- after a quiet operation nobody is served
-pub quiet-effect : (op : Op) (key : Key) (s : QueueState) → is_quiet op ≡ true → serve_turn s ≡ None → do_effect op key s ≡ own_outcome key (row op key (called key.session s))
-unfolding do_effect
+pub quiet-effect : (op : Op) (key : Key) (s : QueueState) → is_quiet op ≡ true → serve_turn s ≡ None → carried_out op key s ≡ own_outcome key (row op key (called key.session s))
+unfolding carried_out
 quiet-effect op key s q none =
     let r = row op key (called key.session s) in
     let after : serve_turn r.state ≡ None = calm (called key.session s) r.state (called-calm key.session s none) (quiet-row op key s q) in
@@ -173,7 +172,7 @@ outcome_if : (b : Bool) (o p : Outcome) → serve_turn o.state ≡ None → serv
 outcome_if true o p h k = h
 outcome_if false o p h k = k
 
-ended-calm : (x : ℕ) (s : QueueState) → serve_turn s ≡ None → serve_turn (with_sessions s (ended x s.sessions)) ≡ None
+ended-calm : (x : ℕ) (s : QueueState) → serve_turn s ≡ None → serve_turn (with_sessions s (with_wait_ended x s.sessions)) ≡ None
 ended-calm x s none = calm s _ none (record { jobs = λ j i t. i; sessions = ended-calmer x s.sessions })
 
 settled-calm : (op : Op) (key : Key) (s : QueueState) → serve_turn s ≡ None → serve_turn (settled op key s).state ≡ None
@@ -186,20 +185,24 @@ settled-calm (Op.Reserve seconds) key s none =
 settled-calm _ key s none = none
 
 told-calm : (reply : Reply) (s : QueueState) (t : Turn) → IsTold reply s t → serve_turn s ≡ None → serve_turn t.state ≡ None
-unfolding told
+unfolding told_turn
 told-calm reply s t i none = subst (λ (t : Turn). serve_turn t.state ≡ None) (sym i.made) (ended-calm i.session.0 s none)
 
-deadlines-calm : (s : QueueState) → serve_turn s ≡ None → serve_turn (all_turns deadline_turn s).state ≡ None
+pub deadlines-calm : (s : QueueState) → serve_turn s ≡ None → serve_turn (all_turns deadline_turn s).state ≡ None
 unfolding all_turns
 deadlines-calm s none = (turns-keep deadline_turn (λ s. serve_turn s ≡ None) (λ a. Unit {0}) (λ s n. IfSome-map _ _ (deadline_turn s) (λ t i. (told-calm Reply.DeadlineSoon s t i n, tt)) (deadline_turn-is s)) (length s.sessions) s none).0
 
-timeouts-calm : (s : QueueState) → serve_turn s ≡ None → serve_turn (all_turns timeout_turn s).state ≡ None
+pub timeouts-calm : (s : QueueState) → serve_turn s ≡ None → serve_turn (all_turns timeout_turn s).state ≡ None
 unfolding all_turns
 timeouts-calm s none = (turns-keep timeout_turn (λ s. serve_turn s ≡ None) (λ a. Unit {0}) (λ s n. IfSome-map _ _ (timeout_turn s) (λ t i. (told-calm Reply.TimedOut s t i n, tt)) (timeout_turn-is s)) (length s.sessions) s none).0
 
-pub do-calm : (op : Op) (key : Key) (s : QueueState) → serve_turn (do_effect op key s).state ≡ None
+carried_out-calm : (op : Op) (key : Key) (s : QueueState) → serve_turn (carried_out op key s).state ≡ None
+unfolding carried_out
+carried_out-calm op key s = settled-calm op key _ (serve-done (row op key (called key.session s)).state)
+
+pub do-calm : (op : Op) (key : Key) (s : QueueState) → serve_turn s ≡ None → serve_turn (do_effect op key s).state ≡ None
 unfolding do_effect
-do-calm op key s = settled-calm op key _ (serve-done (row op key (called key.session s)).state)
+do-calm op key s none = outcome_if (has_no_number op s) (ends_wait s key Reply.InternalError) (carried_out op key s) (ended-calm key.session s none) (carried_out-calm op key s)
 
 pub close-calm : (x : ℕ) (s : QueueState) → serve_turn (forgotten x (serve (released x s)).state) ≡ None
 close-calm x s =

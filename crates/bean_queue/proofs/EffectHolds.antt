@@ -12,13 +12,13 @@ use Rattle.session_store.specs.Sessions.{session_of, is_waiting}
 use Rattle.session_store.specs.EntryLaws.{Rising-each}
 use Rattle.bean_queue.specs.declared.op.Op.{Op}
 use Rattle.bean_queue.specs.declared.reply.Reply.{Reply}
-use Rattle.bean_queue.specs.Queue.{QueueState, holds_by}
+use Rattle.bean_queue.specs.Queue.{QueueState, holds_by, HasRisingIds}
 use Rattle.bean_queue.specs.Rows.{row}
 use Rattle.bean_queue.specs.Turns.{Outcome, stop, serve, all_turns, deadline_turn, timeout_turn}
-use Rattle.bean_queue.specs.Effects.{own, called, waited_for, is_zero, settled, then_do, own_outcome, do_effect, released, close_effect, at_second, tick_effect, act_effect, effect}
+use Rattle.bean_queue.specs.Effects.{own, called, ends_wait, is_zero, settled, then_do, own_outcome, has_no_number, carried_out, do_effect, released, close_effect, at_second, tick_effect, act_effect, effect}
 use Rattle.bean_queue.specs.Places.{Place, place}
 use Rattle.bean_queue.specs.Holds.{is_reserved, is_touched, is_touch, reserved_in, touches, Ends}
-use Rattle.bean_queue.proofs.Held.{HasRisingIds, Held, Held-each, KeepsHold, IsQuiet, IsAside, quiet-append, reserved_in-append, sound-along, aside-keeps, serve-keeps, deadlines-aside, timeouts-aside}
+use Rattle.bean_queue.proofs.Held.{Held, Held-each, KeepsHold, IsQuiet, IsAside, quiet-append, reserved_in-append, sound-along, aside-keeps, serve-keeps, deadlines-aside, timeouts-aside}
 use Rattle.bean_queue.proofs.Given.{Gave, GivesOnce, serve-gives}
 use Rattle.bean_queue.proofs.RowHolds.{row-ok, EndsHold, HoldAfter, row-holds}
 
@@ -29,16 +29,16 @@ aside_if : (s : QueueState) (b : Bool) (o p : Outcome) → IsAside s o → IsAsi
 aside_if s true o p h k = h
 aside_if s false o p h k = k
 
-aside-waited_for : (s : QueueState) (key : Key) (reply : Reply) → ((id : ℕ) → is_reserved id reply ≡ false) → IsAside s (waited_for s key reply)
-aside-waited_for s key reply e =
+aside-ends_wait : (s : QueueState) (key : Key) (reply : Reply) → ((id : ℕ) → is_reserved id reply ≡ false) → IsAside s (ends_wait s key reply)
+aside-ends_wait s key reply e =
     record { jobs = refl; at = refl; next = refl; quiet = λ id. cond-false (is_reserved id reply) (record { to = key; reply = reply } ∷ []) [] (e id) }
 
 settled-aside : (op : Op) (key : Key) (s : QueueState) → IsAside s (settled op key s)
 unfolding settled
 settled-aside (Op.Reserve seconds) key s =
     aside_if s (is_waiting (session_of key.session s.sessions)) _ _
-    (aside_if s (holds_by key.session (s.now + 1) s.jobs) _ _ (aside-waited_for s key Reply.DeadlineSoon (λ id. refl))
-    (aside_if s (is_zero seconds) _ _ (aside-waited_for s key Reply.TimedOut (λ id. refl)) (aside-stop s)))
+    (aside_if s (holds_by key.session (s.now + 1) s.jobs) _ _ (aside-ends_wait s key Reply.DeadlineSoon (λ id. refl))
+    (aside_if s (is_zero seconds) _ _ (aside-ends_wait s key Reply.TimedOut (λ id. refl)) (aside-stop s)))
     (aside-stop s)
 settled-aside _ key s = aside-stop s
 
@@ -76,15 +76,25 @@ gives-then id now o f g a =
           ];
     }
 
-pub do-gives : (id : ℕ) (op : Op) (key : Key) (s : QueueState) → HasRisingIds s → GivesOnce id s.now (do_effect op key s)
-unfolding do_effect
-do-gives id op key s sound =
+carried_out-gives : (id : ℕ) (op : Op) (key : Key) (s : QueueState) → HasRisingIds s → GivesOnce id s.now (carried_out op key s)
+unfolding carried_out
+carried_out-gives id op key s sound =
     let ok = row-ok op key (called key.session s) sound in
     let r = row op key (called key.session s) in
     gives-then id s.now (then_do (own_outcome key r) serve) (settled op key)
     (gives-after id s.now (own key r.reply) (serve r.state) (ok.quiet id)
     (subst (λ n. GivesOnce id n (serve r.state)) ok.at (serve-gives id r.state ok.sound)))
     (settled-aside op key (serve r.state).state)
+
+pub do-gives : (id : ℕ) (op : Op) (key : Key) (s : QueueState) → HasRisingIds s → GivesOnce id s.now (do_effect op key s)
+unfolding do_effect
+do-gives id op key s sound =
+    elim (has_no_number op s) as (λ b. GivesOnce id s.now (cond b (ends_wait s key Reply.InternalError) (carried_out op key s))) [
+      | true ↦
+          gives-then id s.now (stop s) (λ t. ends_wait t key Reply.InternalError) (record { sound = sound; at = refl; given = inl refl })
+          (aside-ends_wait s key Reply.InternalError (λ id. refl))
+      | false ↦ carried_out-gives id op key s sound
+    ]
 
 pub close-gives : (id x : ℕ) (s : QueueState) → HasRisingIds s → GivesOnce id s.now (close_effect x s)
 unfolding close_effect
@@ -131,9 +141,9 @@ keeps-then x id ttr second now o f k a =
     record { keeps = r.keeps; quiet = quiet-append id o.answers (f o.state).answers k.quiet r.quiet }
 
 -- after a row that keeps the hold
-do-keeps : (x id ttr second : ℕ) (op : Op) (key : Key) (s : QueueState) → HasRisingIds s → Held (row op key (called key.session s)).state.jobs x id ttr second → KeepsHold x id ttr second s.now (do_effect op key s)
-unfolding do_effect
-do-keeps x id ttr second op key s sound h =
+carried_out-keeps : (x id ttr second : ℕ) (op : Op) (key : Key) (s : QueueState) → HasRisingIds s → Held (row op key (called key.session s)).state.jobs x id ttr second → KeepsHold x id ttr second s.now (carried_out op key s)
+unfolding carried_out
+carried_out-keeps x id ttr second op key s sound h =
     let ok = row-ok op key (called key.session s) sound in
     let r = row op key (called key.session s) in
     let served = serve-keeps x id ttr second s.now r.state (record { sound = ok.sound; held = h; at = ok.at }) in
@@ -148,18 +158,18 @@ own_there key o reply xs ys e = subst (λ o. In (record { to = key; reply = repl
 own_touched : (key : Key) (o : Option Reply) (xs ys : List (Answer Reply)) → o ≡ Some Reply.Touched → list_any (λ a. is_touched a.reply) ((own key o ++ xs) ++ ys) ≡ true
 own_touched key o xs ys e = subst (λ o. list_any (λ (a : Answer Reply). is_touched a.reply) ((own key o ++ xs) ++ ys) ≡ true) (sym e) refl
 
-do-own : (op : Op) (key : Key) (s : QueueState) (reply : Reply) → (row op key (called key.session s)).reply ≡ Some reply → In (record { to = key; reply = reply }) (do_effect op key s).answers
-unfolding do_effect
-do-own op key s reply e = own_there key _ reply _ _ e
+carried_out-own : (op : Op) (key : Key) (s : QueueState) (reply : Reply) → (row op key (called key.session s)).reply ≡ Some reply → In (record { to = key; reply = reply }) (carried_out op key s).answers
+unfolding carried_out
+carried_out-own op key s reply e = own_there key _ reply _ _ e
 
-do-touched : (op : Op) (key : Key) (s : QueueState) → (row op key (called key.session s)).reply ≡ Some Reply.Touched → list_any (λ a. is_touched a.reply) (do_effect op key s).answers ≡ true
-unfolding do_effect
-do-touched op key s e = own_touched key _ _ _ e
+carried_out-touched : (op : Op) (key : Key) (s : QueueState) → (row op key (called key.session s)).reply ≡ Some Reply.Touched → list_any (λ a. is_touched a.reply) (carried_out op key s).answers ≡ true
+unfolding carried_out
+carried_out-touched op key s e = own_touched key _ _ _ e
 
-do-ends : (x id due : ℕ) (op : Op) (key : Key) (s : QueueState) (reply : Reply) → EndsHold id op reply → key.session ≡ x → (row op key (called key.session s)).reply ≡ Some reply → Ends (place (record { key = key; act = Act.Do op }) (do_effect op key s)) x id due
-do-ends x id due op key s reply (EndsHold.by_delete j same) who e = Ends.deleted (who, ap (λ q. Act.Do (Op.Delete q)) same, do-own (Op.Delete j) key s Reply.Deleted e)
-do-ends x id due op key s reply (EndsHold.by_release j pri delay same) who e = Ends.released pri delay (who, ap (λ q. Act.Do (Op.Release q pri delay)) same, do-own (Op.Release j pri delay) key s Reply.Released e)
-do-ends x id due op key s reply (EndsHold.by_bury j pri same) who e = Ends.buried pri (who, ap (λ q. Act.Do (Op.Bury q pri)) same, do-own (Op.Bury j pri) key s Reply.Buried e)
+carried_out-ends : (x id due : ℕ) (op : Op) (key : Key) (s : QueueState) (reply : Reply) → EndsHold id op reply → key.session ≡ x → (row op key (called key.session s)).reply ≡ Some reply → Ends (place (record { key = key; act = Act.Do op }) (carried_out op key s)) x id due
+carried_out-ends x id due op key s reply (EndsHold.by_delete j same) who e = Ends.deleted (who, ap (λ q. Act.Do (Op.Delete q)) same, carried_out-own (Op.Delete j) key s Reply.Deleted e)
+carried_out-ends x id due op key s reply (EndsHold.by_release j pri delay same) who e = Ends.released pri delay (who, ap (λ q. Act.Do (Op.Release q pri delay)) same, carried_out-own (Op.Release j pri delay) key s Reply.Released e)
+carried_out-ends x id due op key s reply (EndsHold.by_bury j pri same) who e = Ends.buried pri (who, ap (λ q. Act.Do (Op.Bury q pri)) same, carried_out-own (Op.Bury j pri) key s Reply.Buried e)
 
 untouched : (a b c : Bool) → (a && b) ≡ false → (a && (b && c)) ≡ false
 untouched true true c e = cc
@@ -169,17 +179,36 @@ untouched false b c e = refl
 touched : (a b c : Bool) → a ≡ true → b ≡ true → c ≡ true → (a && (b && c)) ≡ true
 touched a b c p q r = cc
 
-pub do-holds : (x id ttr second : ℕ) (op : Op) (key : Key) (s : QueueState) → HasRisingIds s → Held s.jobs x id ttr second → HoldsOn x id ttr second (place (record { key = key; act = Act.Do op }) (do_effect op key s))
-do-holds x id ttr second op key s sound h =
-    let p : Place = place (record { key = key; act = Act.Do op }) (do_effect op key s) in
+carried_out-holds : (x id ttr second : ℕ) (op : Op) (key : Key) (s : QueueState) → HasRisingIds s → Held s.jobs x id ttr second → HoldsOn x id ttr second (place (record { key = key; act = Act.Do op }) (carried_out op key s))
+carried_out-holds x id ttr second op key s sound h =
+    let p : Place = place (record { key = key; act = Act.Do op }) (carried_out op key s) in
     elim (row-holds x id ttr second op key (called key.session s) sound h) as (λ v. HoldsOn x id ttr second p) [
-      | HoldAfter.ended reply e who said ↦ ends (do-ends x id (second + ttr) op key s reply e who said)
+      | HoldAfter.ended reply e who said ↦ ends (carried_out-ends x id (second + ttr) op key s reply e who said)
       | HoldAfter.stays h e ↦
-          let k = do-keeps x id ttr second op key s sound h in
-          on k.quiet k.keeps.sound (subst (λ n. Held (do_effect op key s).state.jobs x id ttr n) (sym (cond-false (touches p x id) p.state.now second (untouched (is_touch id (Act.Do op)) (key.session == x) (list_any (λ (a : Answer Reply). is_touched a.reply) p.answers) e))) k.keeps.held)
+          let k = carried_out-keeps x id ttr second op key s sound h in
+          on k.quiet k.keeps.sound (subst (λ n. Held (carried_out op key s).state.jobs x id ttr n) (sym (cond-false (touches p x id) p.state.now second (untouched (is_touch id (Act.Do op)) (key.session == x) (list_any (λ (a : Answer Reply). is_touched a.reply) p.answers) e))) k.keeps.held)
       | HoldAfter.renewed h e who said ↦
-          let k = do-keeps x id ttr s.now op key s sound h in
-          on k.quiet k.keeps.sound (subst (λ n. Held (do_effect op key s).state.jobs x id ttr n) (sym (cond-true (touches p x id) p.state.now second (touched (is_touch id (Act.Do op)) (key.session == x) (list_any (λ (a : Answer Reply). is_touched a.reply) p.answers) e (eq-eqb key.session x who) (do-touched op key s said)) ∙ k.keeps.at)) k.keeps.held)
+          let k = carried_out-keeps x id ttr s.now op key s sound h in
+          on k.quiet k.keeps.sound (subst (λ n. Held (carried_out op key s).state.jobs x id ttr n) (sym (cond-true (touches p x id) p.state.now second (touched (is_touch id (Act.Do op)) (key.session == x) (list_any (λ (a : Answer Reply). is_touched a.reply) p.answers) e (eq-eqb key.session x who) (carried_out-touched op key s said)) ∙ k.keeps.at)) k.keeps.held)
+    ]
+
+without_touch : (a b : Bool) → (a && (b && false)) ≡ false
+without_touch true true = refl
+without_touch true false = refl
+without_touch false b = refl
+
+-- nothing but the end of a wait
+refused-holds : (x id ttr second : ℕ) (op : Op) (key : Key) (s : QueueState) → HasRisingIds s → Held s.jobs x id ttr second → HoldsOn x id ttr second (place (record { key = key; act = Act.Do op }) (ends_wait s key Reply.InternalError))
+refused-holds x id ttr second op key s sound h =
+    on refl sound
+    (subst (λ n. Held s.jobs x id ttr n) (sym (cond-false (touches (place (record { key = key; act = Act.Do op }) (ends_wait s key Reply.InternalError)) x id) s.now second (without_touch (is_touch id (Act.Do op)) (key.session == x)))) h)
+
+pub do-holds : (x id ttr second : ℕ) (op : Op) (key : Key) (s : QueueState) → HasRisingIds s → Held s.jobs x id ttr second → HoldsOn x id ttr second (place (record { key = key; act = Act.Do op }) (do_effect op key s))
+unfolding do_effect
+do-holds x id ttr second op key s sound h =
+    elim (has_no_number op s) as (λ b. HoldsOn x id ttr second (place (record { key = key; act = Act.Do op }) (cond b (ends_wait s key Reply.InternalError) (carried_out op key s)))) [
+      | true ↦ refused-holds x id ttr second op key s sound h
+      | false ↦ carried_out-holds x id ttr second op key s sound h
     ]
 
 pub close-holds : (x id ttr second : ℕ) (key : Key) (s : QueueState) → HasRisingIds s → Held s.jobs x id ttr second → HoldsOn x id ttr second (place (record { key = key; act = Act.Close }) (close_effect key.session s))

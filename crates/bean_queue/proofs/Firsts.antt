@@ -7,7 +7,7 @@ use Rattle.job_store.specs.declared.job.Job.{Job}
 use Rattle.job_store.specs.Least.{comes_before, lesser, least}
 use Rattle.job_store.specs.LookUps.{due_of_job, first_held}
 use Rattle.job_store.specs.States.{is_held, due_of}
-use Rattle.session_store.specs.Firsts.{first_of}
+use Rattle.job_store.specs.Least.{first_of}
 use Rattle.bean_queue.specs.Queue.{holds_by}
 
 module _ {X : Type 0} (by : X → ℕ) where

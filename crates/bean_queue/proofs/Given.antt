@@ -7,14 +7,14 @@ use Rattle.job_store.specs.declared.job.Job.{Job}
 use Rattle.job_store.specs.declared.state.State.{State}
 use Rattle.job_store.specs.Entries.{altered}
 use Rattle.job_store.specs.States.{with_state}
-use Rattle.session_store.specs.declared.session.Session.{Session}
+use Rattle.session_store.specs.declared.session.SessionState.{SessionState}
 use Rattle.session_store.specs.EntryLaws.{value_at-In, Rising-altered}
 use Rattle.bean_queue.specs.declared.reply.Reply.{Reply}
-use Rattle.bean_queue.specs.Queue.{QueueState}
+use Rattle.bean_queue.specs.Queue.{QueueState, HasRisingIds}
 use Rattle.bean_queue.specs.Turns.{Outcome, Turn, turns, all_turns, after_turn, after_option, given, serve_turn, serve}
 use Rattle.bean_queue.specs.Holds.{is_reserved, reserved_in}
 use Rattle.bean_queue.specs.TurnLaws.{turns-keep, serve_turn-is, IsServed}
-use Rattle.bean_queue.proofs.Held.{HasRisingIds, Held, Held-reserved, Keeps, IsQuietReply, IsQuiet, quiet-all, serve-keeps_turn}
+use Rattle.bean_queue.proofs.Held.{Held, Held-reserved, Keeps, IsQuietReply, IsQuiet, quiet-all, serve-keeps_turn}
 
 -- one RESERVED of the job, whose receiver holds it from the second on
 pub record Gave (id now : ℕ) (o : Outcome) : Type 0 where
@@ -28,7 +28,7 @@ pub record GivesOnce (id now : ℕ) (o : Outcome) : Type 0 where
   pub at : o.state.now ≡ now
   pub given : IsQuiet id o.answers ⊎ Gave id now o
 
-now_held : (id now : ℕ) (s : QueueState) (j : ℕ × Job) (w : ℕ × Session) → id ≡ j.0 → In j s.jobs → HasRisingIds s → s.now ≡ now → Keeps w.0 id j.1.ttr now now (given s j w).state
+now_held : (id now : ℕ) (s : QueueState) (j : ℕ × Job) (w : ℕ × SessionState) → id ≡ j.0 → In j s.jobs → HasRisingIds s → s.now ≡ now → Keeps w.0 id j.1.ttr now now (given s j w).state
 unfolding given
 now_held id now s j w same i sound at =
     record {
@@ -40,23 +40,23 @@ now_held id now s j w same i sound at =
       at = at;
     }
 
-given-sound : (s : QueueState) (j : ℕ × Job) (w : ℕ × Session) → HasRisingIds s → HasRisingIds (given s j w).state
+given-sound : (s : QueueState) (j : ℕ × Job) (w : ℕ × SessionState) → HasRisingIds s → HasRisingIds (given s j w).state
 unfolding given
 given-sound s j w sound = Rising-altered _ _ 1 s.next_id s.jobs sound
 
-given-now : (s : QueueState) (j : ℕ × Job) (w : ℕ × Session) → (given s j w).state.now ≡ s.now
+given-now : (s : QueueState) (j : ℕ × Job) (w : ℕ × SessionState) → (given s j w).state.now ≡ s.now
 unfolding given
 given-now s j w = refl
 
-given-reserved : (id : ℕ) (s : QueueState) (j : ℕ × Job) (w : ℕ × Session) → is_reserved id (given s j w).answer.reply ≡ (id == j.0)
+given-reserved : (id : ℕ) (s : QueueState) (j : ℕ × Job) (w : ℕ × SessionState) → is_reserved id (given s j w).answer.reply ≡ (id == j.0)
 unfolding given
 given-reserved id s j w = refl
 
-given-to : (s : QueueState) (j : ℕ × Job) (w : ℕ × Session) → (given s j w).answer.to.session ≡ w.0
+given-to : (s : QueueState) (j : ℕ × Job) (w : ℕ × SessionState) → (given s j w).answer.to.session ≡ w.0
 unfolding given
 given-to s j w = refl
 
-once_given : (id now : ℕ) (s : QueueState) (j : ℕ × Job) (w : ℕ × Session) (o : Outcome) → IsQuiet id o.answers → Keeps w.0 id j.1.ttr now now o.state → id ≡ j.0 → GivesOnce id now (after_turn (given s j w).answer o)
+once_given : (id now : ℕ) (s : QueueState) (j : ℕ × Job) (w : ℕ × SessionState) (o : Outcome) → IsQuiet id o.answers → Keeps w.0 id j.1.ttr now now o.state → id ≡ j.0 → GivesOnce id now (after_turn (given s j w).answer o)
 once_given id now s j w o quiet k same =
     record {
       sound = k.sound;

@@ -8,17 +8,13 @@ use Rattle.job_store.specs.declared.job.Job.{Job}
 use Rattle.job_store.specs.declared.state.State.{State}
 use Rattle.job_store.specs.Entries.{Rising, value_at, each_value, altered}
 use Rattle.job_store.specs.States.{is_ready}
-use Rattle.session_store.specs.declared.session.Session.{Session}
+use Rattle.session_store.specs.declared.session.SessionState.{SessionState}
 use Rattle.session_store.specs.EntryLaws.{value_at-each, value_at-altered_same, value_at-altered_other, value_at-In, Rising-altered}
 use Rattle.bean_queue.specs.declared.reply.Reply.{Reply}
-use Rattle.bean_queue.specs.Queue.{QueueState}
-use Rattle.bean_queue.specs.Turns.{Outcome, Turn, all_turns, given, serve_turn, told, deadline_turn, timeout_turn, serve}
+use Rattle.bean_queue.specs.Queue.{QueueState, HasRisingIds}
+use Rattle.bean_queue.specs.Turns.{Outcome, Turn, all_turns, given, serve_turn, told_turn, deadline_turn, timeout_turn, serve}
 use Rattle.bean_queue.specs.Holds.{is_reserved, reserved_in}
 use Rattle.bean_queue.specs.TurnLaws.{turns-keep, serve_turn-is, deadline_turn-is, timeout_turn-is, IsServed, IsTold, IfSome-map}
-
--- the ids rise, and the next one is above them
-abbrev pub HasRisingIds : QueueState → Type 0
-HasRisingIds s = Rising 1 s.next_id s.jobs
 
 -- session x holds the job id, whose time to run counts from the second
 pub record Held (jobs : List (ℕ × Job)) (x id ttr second : ℕ) : Type 0 where
@@ -128,12 +124,12 @@ pub record IsLike (s t : QueueState) : Type 0 where
   pub at : t.now ≡ s.now
   pub next : t.next_id ≡ s.next_id
 
-told-like : (s t : QueueState) (reply : Reply) (w : ℕ × Session) → IsLike s t → IsLike s (told t reply w).state
-unfolding told
+told-like : (s t : QueueState) (reply : Reply) (w : ℕ × SessionState) → IsLike s t → IsLike s (told_turn t reply w).state
+unfolding told_turn
 told-like s t reply w l = record { jobs = l.jobs; at = l.at; next = l.next }
 
-told-quiet : (s : QueueState) (reply : Reply) (w : ℕ × Session) (id : ℕ) → is_reserved id reply ≡ false → is_reserved id (told s reply w).answer.reply ≡ false
-unfolding told
+told-quiet : (s : QueueState) (reply : Reply) (w : ℕ × SessionState) (id : ℕ) → is_reserved id reply ≡ false → is_reserved id (told_turn s reply w).answer.reply ≡ false
+unfolding told_turn
 told-quiet s reply w id e = e
 
 told-aside : (reply : Reply) → ((id : ℕ) → is_reserved id reply ≡ false) → (turn : QueueState → Option Turn) → ((s : QueueState) → IfSome (turn s) (IsTold reply s)) → (s : QueueState) → IsAside s (all_turns turn s)

@@ -1,6 +1,6 @@
 -- Sessions that have a job due by a second: those that were found, and the first of them.
-use Rattle.std.proofs.Common.{◌≡◌, ℕ, ◌+◌, ◌-◌, ◌*◌, ◌^◌, ◌<◌, ◌≤◌, Bool, true, false, cond, ◌&&◌, ◌||◌, ◌==◌, ◌⊎◌, inl, inr, List, [], ◌∷◌, ◌++◌, Option, Some, None, IfSome, filter_map, nat_le, nat_lt, refl, sym, ap, subst, ◌∙◌, arith, eq-eqb, eqb-true, ltb-true, lt-ltb}
-use Rattle.std.proofs.lemmas.Bool.{cond-true, cases_order, and_parts, and_from, or_cases, or_left, or_right, leb-true}
+use Rattle.std.proofs.Common.{◌≡◌, ℕ, ◌+◌, ◌-◌, ◌*◌, ◌^◌, ◌<◌, ◌≤◌, Bool, true, false, cond, ◌&&◌, ◌||◌, ◌==◌, ◌⊎◌, inl, inr, List, [], ◌∷◌, ◌++◌, Option, Some, None, IfSome, filter_map, nat_le, nat_lt, refl, sym, ap, subst, ◌∙◌, arith, eq-eqb, eqb-true, ltb-true, lt-ltb, true≢false, append-nil, unwrap_or}
+use Rattle.std.proofs.lemmas.Bool.{cases_Bool, cond-true, cases_order, and_parts, and_from, or_cases, or_left, or_right, leb-true}
 use Rattle.object.specs.Lists.{In}
 use Rattle.object.specs.declared.command.Answer.{Answer}
 use Rattle.job_store.specs.declared.job.Job.{Job}
@@ -11,15 +11,15 @@ use Rattle.job_store.specs.LookUps.{is_after, due_by, due_after, due_of_job, fir
 use Rattle.job_store.specs.States.{is_due, is_held, due_of}
 use Rattle.job_store.proofs.Least.{IsAnswer, answer, same_entry}
 use Rattle.job_store.proofs.Shelving.{in-front, in-last}
-use Rattle.session_store.specs.declared.session.Session.{Session}
+use Rattle.session_store.specs.declared.session.SessionState.{SessionState}
 use Rattle.session_store.specs.EntryLaws.{value_at-In, value_at-found, value_at-below}
-use Rattle.session_store.specs.Sessions.{first_waiting, is_waiting, wait_rank, ended}
+use Rattle.session_store.specs.Sessions.{first_waiting, is_waiting, new_session, wait_rank, with_wait_ended}
 use Rattle.session_store.proofs.Found.{least_alike, mapped-in, mapped-from}
 use Rattle.bean_queue.specs.declared.reply.Reply.{Reply}
-use Rattle.bean_queue.specs.Holders.{holder_by, AreHolders, HasHolders}
+use Rattle.bean_queue.specs.Holders.{holder_by, waits_at, waiting_holder, AreHolders, HasHolders}
 use Rattle.bean_queue.specs.Queue.{QueueState, holds_by}
 use Rattle.bean_queue.specs.TurnLaws.{IsTold, deadline_turn-is}
-use Rattle.bean_queue.specs.Turns.{Turn, IsTurn, told, deadline_turn}
+use Rattle.bean_queue.specs.Turns.{Turn, IsTurn, told_turn, deadline_turn}
 use Rattle.bean_queue.specs.WaitLaws.{in-append}
 use Rattle.bean_queue.proofs.Calm.{ended-calmer}
 
@@ -31,13 +31,13 @@ due-time second (State.Delayed due) t = t
 due-time second (State.Reserved y due) t = t
 due-time second (State.Buried rank) t = cc
 
-held-due : (x second : ℕ) (state : State) → (is_held x state && nat_le (due_of state) second) ≡ true → is_due second state ≡ true
+pub held-due : (x second : ℕ) (state : State) → (is_held x state && nat_le (due_of state) second) ≡ true → is_due second state ≡ true
 held-due x second State.Ready h = cc
 held-due x second (State.Delayed due) h = cc
 held-due x second (State.Reserved y due) h = (and_parts (is_held x (State.Reserved y due)) (nat_le due second) h).1
 held-due x second (State.Buried rank) h = cc
 
-holds-one : (x second : ℕ) (jobs : List (ℕ × Job)) (e : ℕ × Job) → In e jobs → due_by second e ≡ true → is_held x e.1.state ≡ true → holds_by x second jobs ≡ true
+pub holds-one : (x second : ℕ) (jobs : List (ℕ × Job)) (e : ℕ × Job) → In e jobs → due_by second e ≡ true → is_held x e.1.state ≡ true → holds_by x second jobs ≡ true
 holds-one x second [] e i t h = absurd i
 holds-one x second (d ∷ ds) e (inl same) t h =
     or_left (is_held x d.1.state && nat_le (due_of d.1.state) second) (holds_by x second ds)
@@ -59,34 +59,47 @@ one-held x second (d ∷ ds) t =
 
 -- Due jobs that are gone over one by one
 
--- each due job that comes before the next one, or each where there is none, has its holder among these numbers
-pub record AreNoted (next : Option (ℕ × Job)) (numbers : List ℕ) (second : ℕ) (jobs : List (ℕ × Job)) : Type 0 where
-  pub noted : (x : ℕ) (e : ℕ × Job) → In e jobs → IsDueOf x second e → IfSome next (ComesBefore due_of_job e) → In x numbers
-  pub only : (x : ℕ) → In x numbers → holds_by x second jobs ≡ true
+-- each due job that comes before the next one, or each where there is none, has its holder among these numbers, if it
+-- waits
+pub record AreNoted (waits : ℕ → Bool) (next : Option (ℕ × Job)) (numbers : List ℕ) (second : ℕ) (jobs : List (ℕ × Job)) : Type 0 where
+  pub noted : (x : ℕ) (e : ℕ × Job) → In e jobs → IsDueOf x second e → waits x ≡ true → IfSome next (ComesBefore due_of_job e) → In x numbers
+  pub only : (x : ℕ) → In x numbers → (waits x && holds_by x second jobs) ≡ true
   pub due : IfSome next (λ n. In n jobs × (due_by second n ≡ true))
 
--- the holder of a job in this state, where it has one, is noted
-pub record IsNoted (state : State) (old new : List ℕ) : Type 0 where
+-- the holder of a job in this state, where it has one, is noted if it waits
+pub record IsNoted (waits : ℕ → Bool) (state : State) (old new : List ℕ) : Type 0 where
   pub keeps : (x : ℕ) → In x old → In x new
-  pub holder : (x : ℕ) → is_held x state ≡ true → In x new
-  pub only : (x : ℕ) → In x new → In x old ⊎ (is_held x state ≡ true)
+  pub holder : (x : ℕ) → waits x ≡ true → is_held x state ≡ true → In x new
+  pub only : (x : ℕ) → In x new → In x old ⊎ ((waits x && is_held x state) ≡ true)
 
-pub noted-holder : (y due : ℕ) (old new : List ℕ) → new ≡ old ++ y ∷ [] → IsNoted (State.Reserved y due) old new
-noted-holder y due old new is = record {
+noted-holder : (waits : ℕ → Bool) (y due : ℕ) (old new : List ℕ) → waits y ≡ true → new ≡ old ++ y ∷ [] → IsNoted waits (State.Reserved y due) old new
+noted-holder waits y due old new w is = record {
   keeps = λ x i. subst (In x) (sym is) (in-front x old (y ∷ []) i);
-  holder = λ x t. subst (In x) (sym is) (subst (λ z. In x (old ++ z ∷ [])) (eqb-true x y t) (in-last x old));
+  holder = λ x v t. subst (In x) (sym is) (subst (λ z. In x (old ++ z ∷ [])) (eqb-true x y t) (in-last x old));
   only = λ x i.
-      elim (in-append old (y ∷ []) x (subst (In x) is i)) as (λ v. In x old ⊎ ((x == y) ≡ true)) [
+      elim (in-append old (y ∷ []) x (subst (In x) is i)) as (λ v. In x old ⊎ ((waits x && (x == y)) ≡ true)) [
         | inl before ↦ inl before
-        | inr it ↦ inr (elim it as (λ v. (x == y) ≡ true) [ inl same ↦ eq-eqb x y same | inr none ↦ absurd none ])
+        | inr it ↦ inr (elim it as (λ v. (waits x && (x == y)) ≡ true) [ inl same ↦ and_from (waits x) (x == y) (ap waits same ∙ w) (eq-eqb x y same) | inr none ↦ absurd none ])
       ];
 }
 
-pub noted-nobody : (state : State) (numbers : List ℕ) → ((y due : ℕ) → state ≡ State.Reserved y due → ⊥) → IsNoted state numbers numbers
-noted-nobody State.Ready numbers other = record { keeps = λ x i. i; holder = λ x t. cc; only = λ x i. inl i }
-noted-nobody (State.Delayed due) numbers other = record { keeps = λ x i. i; holder = λ x t. cc; only = λ x i. inl i }
-noted-nobody (State.Reserved y due) numbers other = absurd (other y due refl)
-noted-nobody (State.Buried rank) numbers other = record { keeps = λ x i. i; holder = λ x t. cc; only = λ x i. inl i }
+noted-nobody : (waits : ℕ → Bool) (state : State) (old new : List ℕ) → new ≡ old ++ [] → ((x : ℕ) → waits x ≡ true → is_held x state ≡ true → ⊥) → IsNoted waits state old new
+noted-nobody waits state old new is nobody =
+    subst (λ ns. IsNoted waits state old ns) (sym (is ∙ append-nil old))
+    (record { keeps = λ x i. i; holder = λ x w t. absurd (nobody x w t); only = λ x i. inl i })
+
+-- the holder that waits was noted
+pub noted-by : (sessions : List (ℕ × SessionState)) (state : State) (old new : List ℕ) → new ≡ old ++ waiting_holder sessions state → IsNoted (waits_at sessions) state old new
+noted-by sessions State.Ready old new is = noted-nobody (waits_at sessions) State.Ready old new is (λ x w t. cc)
+noted-by sessions (State.Delayed due) old new is = noted-nobody (waits_at sessions) (State.Delayed due) old new is (λ x w t. cc)
+noted-by sessions (State.Buried rank) old new is = noted-nobody (waits_at sessions) (State.Buried rank) old new is (λ x w t. cc)
+noted-by sessions (State.Reserved y due) old new is =
+    elim (cases_Bool (waits_at sessions y)) as (λ v. IsNoted (waits_at sessions) (State.Reserved y due) old new) [
+      | inl w ↦ noted-holder (waits_at sessions) y due old new w (is ∙ ap (λ b. old ++ cond b (y ∷ []) []) w)
+      | inr idle ↦
+          noted-nobody (waits_at sessions) (State.Reserved y due) old new (is ∙ ap (λ b. old ++ cond b (y ∷ []) []) idle)
+          (λ x w t. true≢false (sym w ∙ ap (waits_at sessions) (eqb-true x y t) ∙ idle))
+    ]
 
 -- nothing that passes comes before the answer
 never-sooner : (test : ℕ × Job → Bool) (jobs : List (ℕ × Job)) (next : Option (ℕ × Job)) (e : ℕ × Job) → IsAnswer test due_of_job jobs next → In e jobs → test e ≡ true → IfSome next (ComesBefore due_of_job e) → ⊥
@@ -97,11 +110,11 @@ answer-passes : (test : ℕ × Job → Bool) (jobs : List (ℕ × Job)) (next : 
 answer-passes test jobs None none = tt
 answer-passes test jobs (Some n) best = (best.member, best.passes)
 
-pub noted-first : (next : Option (ℕ × Job)) (second : ℕ) (jobs : List (ℕ × Job)) → next ≡ first_due second jobs → AreNoted next [] second jobs
-noted-first next second jobs is =
+pub noted-first : (waits : ℕ → Bool) (next : Option (ℕ × Job)) (second : ℕ) (jobs : List (ℕ × Job)) → next ≡ first_due second jobs → AreNoted waits next [] second jobs
+noted-first waits next second jobs is =
     let it : IsAnswer (due_by second) due_of_job jobs next = subst (IsAnswer (due_by second) due_of_job jobs) (sym is) (answer (due_by second) due_of_job jobs) in
     record {
-      noted = λ x e i d before. absurd (never-sooner (due_by second) jobs next e it i d.0 before);
+      noted = λ x e i d w before. absurd (never-sooner (due_by second) jobs next e it i d.0 before);
       only = λ x i. absurd i;
       due = answer-passes (due_by second) jobs next it;
     }
@@ -131,31 +144,34 @@ still-due : (second : ℕ) (place : ℕ × ℕ) (jobs : List (ℕ × Job)) (next
 still-due second place jobs None it = tt
 still-due second place jobs (Some n) it = (it.0, (and_parts (due_by second n) (is_after place (due_of_job n.1, n.0)) it.1).0)
 
-pub noted-next : (n : ℕ × Job) (next : Option (ℕ × Job)) (numbers numbers' : List ℕ) (second hi : ℕ) (jobs : List (ℕ × Job)) → Rising 0 hi jobs → AreNoted (Some n) numbers second jobs → IsNoted n.1.state numbers numbers' → next ≡ first_due_after second (due_of_job n.1, n.0) jobs → AreNoted next numbers' second jobs
-noted-next n next numbers numbers' second hi jobs r were more is =
+pub noted-next : (waits : ℕ → Bool) (n : ℕ × Job) (next : Option (ℕ × Job)) (numbers numbers' : List ℕ) (second hi : ℕ) (jobs : List (ℕ × Job)) → Rising 0 hi jobs → AreNoted waits (Some n) numbers second jobs → IsNoted waits n.1.state numbers numbers' → next ≡ first_due_after second (due_of_job n.1, n.0) jobs → AreNoted waits next numbers' second jobs
+noted-next waits n next numbers numbers' second hi jobs r were more is =
     let place : ℕ × ℕ = (due_of_job n.1, n.0) in
     let it : IsAnswer (due_after second place) due_of_job jobs next = subst (IsAnswer (due_after second place) due_of_job jobs) (sym is) (answer (due_after second place) due_of_job jobs) in
     record {
-      noted = λ x e i d before.
+      noted = λ x e i d w before.
           elim (which e n) as (λ v. In x numbers') [
-            | inl sooner ↦ more.keeps x (were.noted x e i d sooner)
-            | inr (inl same) ↦ more.holder x (subst (λ (z : ℕ × Job). is_held x z.1.state ≡ true) (same_entry 0 hi jobs e n r i were.due.0 same) d.1)
+            | inl sooner ↦ more.keeps x (were.noted x e i d w sooner)
+            | inr (inl same) ↦ more.holder x w (subst (λ (z : ℕ × Job). is_held x z.1.state ≡ true) (same_entry 0 hi jobs e n r i were.due.0 same) d.1)
             | inr (inr later) ↦ absurd (never-sooner (due_after second place) jobs next e it i (and_from (due_by second e) (is_after place (due_of_job e.1, e.0)) d.0 later) before)
           ];
       only = λ x i.
-          elim (more.only x i) as (λ v. holds_by x second jobs ≡ true) [
+          elim (more.only x i) as (λ v. (waits x && holds_by x second jobs) ≡ true) [
             | inl old ↦ were.only x old
-            | inr held ↦ holds-one x second jobs n were.due.0 were.due.1 held
+            | inr held ↦
+                let both = and_parts (waits x) (is_held x n.1.state) held in
+                and_from (waits x) (holds_by x second jobs) both.0 (holds-one x second jobs n were.due.0 were.due.1 both.1)
           ];
       due = still-due second place jobs next (answer-passes (due_after second place) jobs next it);
     }
 
-pub noted-all : (next : Option (ℕ × Job)) (numbers : List ℕ) (second : ℕ) (jobs : List (ℕ × Job)) → next ≡ None → AreNoted next numbers second jobs → AreHolders numbers second jobs
-noted-all next numbers second jobs end were x = (
+pub noted-all : (next : Option (ℕ × Job)) (numbers : List ℕ) (second : ℕ) (jobs : List (ℕ × Job)) (sessions : List (ℕ × SessionState)) → next ≡ None → AreNoted (waits_at sessions) next numbers second jobs → AreHolders numbers second jobs sessions
+noted-all next numbers second jobs sessions end were x = (
   were.only x,
   λ t.
-      let w = one-held x second jobs t in
-      were.noted x w.0 w.1 w.2 (subst (λ o. IfSome o (ComesBefore due_of_job w.0)) (sym end) tt),
+      let both = and_parts (waits_at sessions x) (holds_by x second jobs) t in
+      let w = one-held x second jobs both.1 in
+      were.noted x w.0 w.1 w.2 both.0 (subst (λ o. IfSome o (ComesBefore due_of_job w.0)) (sym end) tt),
 )
 
 -- how far the next job is from the last that may be due
@@ -163,8 +179,8 @@ abbrev pub far : ℕ → Option (ℕ × Job) → ℕ
 far second None = 0
 far second (Some n) = 1 + (second - due_of n.1.state) * 2 ^ 64 + (2 ^ 64 - n.0)
 
-pub nearer : (n : ℕ × Job) (next : Option (ℕ × Job)) (numbers : List ℕ) (second : ℕ) (jobs : List (ℕ × Job)) → Rising 0 (2 ^ 64) jobs → AreNoted (Some n) numbers second jobs → next ≡ first_due_after second (due_of_job n.1, n.0) jobs → far second next < far second (Some n)
-nearer n next numbers second jobs r were is =
+pub nearer : (waits : ℕ → Bool) (n : ℕ × Job) (next : Option (ℕ × Job)) (numbers : List ℕ) (second : ℕ) (jobs : List (ℕ × Job)) → Rising 0 (2 ^ 64) jobs → AreNoted waits (Some n) numbers second jobs → next ≡ first_due_after second (due_of_job n.1, n.0) jobs → far second next < far second (Some n)
+nearer waits n next numbers second jobs r were is =
     let fits : n.0 < 2 ^ 64 = value_at-below 0 (2 ^ 64) n.0 jobs n.1 r (value_at-In 0 (2 ^ 64) jobs n r were.due.0) in
     let place : ℕ × ℕ = (due_of_job n.1, n.0) in
     let it : IfSome next (λ m. In m jobs × (due_after second place m ≡ true)) = answer-passes (due_after second place) jobs next (subst (IsAnswer (due_after second place) due_of_job jobs) (sym is) (answer (due_after second place) due_of_job jobs)) in
@@ -184,15 +200,17 @@ nearer n next numbers second jobs r were is =
           ]
     ] it
 
--- the numbers of all those that have such a job include those that wait
-pub has-holders : (numbers : List ℕ) (second : ℕ) (jobs : List (ℕ × Job)) (sessions : List (ℕ × Session)) → AreHolders numbers second jobs → HasHolders numbers second jobs sessions
-has-holders numbers second jobs sessions holders w i waits holds = (holders w.0).1 holds
+-- a session that waits and has such a job is among those
+pub has-holders : (numbers : List ℕ) (second hi : ℕ) (jobs : List (ℕ × Job)) (sessions : List (ℕ × SessionState)) → Rising 0 hi sessions → AreHolders numbers second jobs sessions → HasHolders numbers second jobs sessions
+has-holders numbers second hi jobs sessions r holders w i waits holds =
+    let seen : waits_at sessions w.0 ≡ is_waiting w.1 = ap (λ o. is_waiting (unwrap_or o new_session)) (value_at-In 0 hi sessions w r i) in
+    (holders w.0).1 (and_from (waits_at sessions w.0) (holds_by w.0 second jobs) (seen ∙ waits) holds)
 
 -- The first of those that were found
 
-holder-is : (second : ℕ) (jobs : List (ℕ × Job)) (sessions : List (ℕ × Session)) (number : ℕ) (e : ℕ × Session) → holder_by second jobs sessions number ≡ Some e → In e sessions × ((is_waiting e.1 && holds_by e.0 second jobs) ≡ true)
+holder-is : (second : ℕ) (jobs : List (ℕ × Job)) (sessions : List (ℕ × SessionState)) (number : ℕ) (e : ℕ × SessionState) → holder_by second jobs sessions number ≡ Some e → In e sessions × ((is_waiting e.1 && holds_by e.0 second jobs) ≡ true)
 holder-is second jobs sessions number e seen =
-    elim (value_at number sessions) as (λ o. value_at number sessions ≡ o → (elim o as (λ o. Option (ℕ × Session)) [ None ↦ None | Some c ↦ cond (is_waiting c && holds_by number second jobs) (Some (number, c)) None ]) ≡ Some e → In e sessions × ((is_waiting e.1 && holds_by e.0 second jobs) ≡ true)) [
+    elim (value_at number sessions) as (λ o. value_at number sessions ≡ o → (elim o as (λ o. Option (ℕ × SessionState)) [ None ↦ None | Some c ↦ cond (is_waiting c && holds_by number second jobs) (Some (number, c)) None ]) ≡ Some e → In e sessions × ((is_waiting e.1 && holds_by e.0 second jobs) ≡ true)) [
       | None ↦ λ v h. cc
       | Some c ↦ λ v.
           elim (is_waiting c && holds_by number second jobs) as (λ b. (is_waiting c && holds_by number second jobs) ≡ b → cond b (Some (number, c)) None ≡ Some e → In e sessions × ((is_waiting e.1 && holds_by e.0 second jobs) ≡ true)) [
@@ -201,16 +219,16 @@ holder-is second jobs sessions number e seen =
                 let same : (number, c) ≡ e = cc in
                 let there = value_at-found number sessions c v in
                 let it : there.0 ≡ (number, c) = λ i. (there.2 i, there.3 i) in
-                subst (λ (d : ℕ × Session). In d sessions × ((is_waiting d.1 && holds_by d.0 second jobs) ≡ true)) same (subst (λ d. In d sessions) it there.1, t)
+                subst (λ (d : ℕ × SessionState). In d sessions × ((is_waiting d.1 && holds_by d.0 second jobs) ≡ true)) same (subst (λ d. In d sessions) it there.1, t)
           ] refl
     ] refl seen
 
-holder-at : (second hi : ℕ) (jobs : List (ℕ × Job)) (sessions : List (ℕ × Session)) (e : ℕ × Session) → Rising 0 hi sessions → In e sessions → (is_waiting e.1 && holds_by e.0 second jobs) ≡ true → holder_by second jobs sessions e.0 ≡ Some e
+holder-at : (second hi : ℕ) (jobs : List (ℕ × Job)) (sessions : List (ℕ × SessionState)) (e : ℕ × SessionState) → Rising 0 hi sessions → In e sessions → (is_waiting e.1 && holds_by e.0 second jobs) ≡ true → holder_by second jobs sessions e.0 ≡ Some e
 holder-at second hi jobs sessions e r i t =
-    let seen : Option Session → Option (ℕ × Session) = λ o. elim o as (λ _. Option (ℕ × Session)) [ None ↦ None | Some c ↦ cond (is_waiting c && holds_by e.0 second jobs) (Some (e.0, c)) None ] in
+    let seen : Option SessionState → Option (ℕ × SessionState) = λ o. elim o as (λ _. Option (ℕ × SessionState)) [ None ↦ None | Some c ↦ cond (is_waiting c && holds_by e.0 second jobs) (Some (e.0, c)) None ] in
     ap seen (value_at-In 0 hi sessions e r i) ∙ cond-true (is_waiting e.1 && holds_by e.0 second jobs) (Some (e.0, e.1)) None t
 
-pub holders-first : (numbers : List ℕ) (second hi : ℕ) (jobs : List (ℕ × Job)) (sessions : List (ℕ × Session)) → Rising 0 hi sessions → HasHolders numbers second jobs sessions → least (λ e. true) wait_rank (filter_map (holder_by second jobs sessions) numbers) ≡ first_waiting (λ e. holds_by e.0 second jobs) sessions
+pub holders-first : (numbers : List ℕ) (second hi : ℕ) (jobs : List (ℕ × Job)) (sessions : List (ℕ × SessionState)) → Rising 0 hi sessions → HasHolders numbers second jobs sessions → least (λ e. true) wait_rank (filter_map (holder_by second jobs sessions) numbers) ≡ first_waiting (λ e. holds_by e.0 second jobs) sessions
 holders-first numbers second hi jobs sessions r holders =
     least_alike (λ e. is_waiting e.1 && holds_by e.0 second jobs) (λ e. true) wait_rank sessions (filter_map (holder_by second jobs sessions) numbers) 0 hi r
     (λ e i t. let from = mapped-from (holder_by second jobs sessions) e numbers i in holder-is second jobs sessions from.0 e from.2)
@@ -222,9 +240,9 @@ holders-first numbers second hi jobs sessions r holders =
 
 -- a turn ends a wait, and changes nothing else
 pub holders-turn : (numbers : List ℕ) (s t : QueueState) (xs ys : List (Answer Reply)) (more : Bool) → IsTurn deadline_turn s t xs ys more → HasHolders numbers (s.now + 1) s.jobs s.sessions → HasHolders numbers (t.now + 1) t.jobs t.sessions
-unfolding told
+unfolding told_turn
 holders-turn numbers s t xs ys false i holders = subst (λ (u : QueueState). HasHolders numbers (u.now + 1) u.jobs u.sessions) (sym i.1) holders
 holders-turn numbers s t xs ys true i holders =
     let was : IsTold Reply.DeadlineSoon s i.0 = subst (λ o. IfSome o (IsTold Reply.DeadlineSoon s)) i.1 (deadline_turn-is s) in
-    let after : HasHolders numbers (s.now + 1) s.jobs (ended was.session.0 s.sessions) = λ w j waits holds. holders w (ended-calmer was.session.0 s.sessions w j waits) waits holds in
+    let after : HasHolders numbers (s.now + 1) s.jobs (with_wait_ended was.session.0 s.sessions) = λ w j waits holds. holders w (ended-calmer was.session.0 s.sessions w j waits) waits holds in
     subst (λ (u : QueueState). HasHolders numbers (u.now + 1) u.jobs u.sessions) (sym (i.2 ∙ ap (λ (u : Turn). u.state) was.made)) after

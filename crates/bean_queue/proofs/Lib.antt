@@ -19,3 +19,7 @@ pub mod Offers
 pub mod Woken
 pub mod Naming
 pub mod Holders
+pub mod Owed
+pub mod KickCount
+pub mod TubeLists
+pub mod Sound

@@ -8,9 +8,9 @@ use Rattle.job_store.specs.Least.{ComesBefore, IsLeast, least}
 use Rattle.job_store.specs.LookUps.{is_among, ready_in, best_ready, first_ready, pri_of_job}
 use Rattle.job_store.specs.States.{is_ready}
 use Rattle.job_store.proofs.Least.{least-found, same_entry, among-member}
-use Rattle.session_store.specs.declared.session.Session.{Session}
+use Rattle.session_store.specs.declared.session.SessionState.{SessionState}
 use Rattle.session_store.specs.Sessions.{first_waiting, is_waiting, wait_rank}
-use Rattle.session_store.specs.Firsts.{first_of}
+use Rattle.job_store.specs.Least.{first_of}
 use Rattle.session_store.proofs.Found.{mapped-in, mapped-from}
 use Rattle.bean_queue.specs.Queue.{QueueState}
 use Rattle.bean_queue.specs.TurnLaws.{least-none, first_waiting-in}
@@ -76,7 +76,7 @@ best_for tubes jobs c there passes =
     ] refl (least-found (ready_in tubes) pri_of_job jobs)
 
 -- a session that waits for the tube is found
-waits_for : (sessions : List (ℕ × Session)) (tube : List ℕ) (w : ℕ × Session) → In w sessions → is_waiting w.1 ≡ true → is_among tube w.1.watched ≡ true → is_some (first_waiting (λ e. is_among tube e.1.watched) sessions) ≡ true
+waits_for : (sessions : List (ℕ × SessionState)) (tube : List ℕ) (w : ℕ × SessionState) → In w sessions → is_waiting w.1 ≡ true → is_among tube w.1.watched ≡ true → is_some (first_waiting (λ e. is_among tube e.1.watched) sessions) ≡ true
 waits_for sessions tube w there waits watches =
     elim (first_waiting (λ e. is_among tube e.1.watched) sessions) as (λ o. first_waiting (λ e. is_among tube e.1.watched) sessions ≡ o → is_some o ≡ true) [
       | None ↦ λ none. absurd (least-none (λ e. is_waiting e.1 && is_among tube e.1.watched) wait_rank sessions w none there (and_from (is_waiting w.1) (is_among tube w.1.watched) waits watches))
@@ -86,14 +86,14 @@ waits_for sessions tube w there waits watches =
 -- What is wanted, and what is offered
 
 -- what a waiting session wants most
-record IsBestOf (s : QueueState) (c : ℕ × Job) (w : ℕ × Session) : Type 0 where
+record IsBestOf (s : QueueState) (c : ℕ × Job) (w : ℕ × SessionState) : Type 0 where
   pub known : In w s.sessions
   pub waits : is_waiting w.1 ≡ true
   pub there : In c s.jobs
   pub ready : is_ready c.1.state ≡ true
   pub watches : is_among c.1.tube w.1.watched ≡ true
 
-wanted_by : (s : QueueState) (c : ℕ × Job) → In c (filter_map (wanted s.jobs) s.sessions) → (w : ℕ × Session) × IsBestOf s c w
+wanted_by : (s : QueueState) (c : ℕ × Job) → In c (filter_map (wanted s.jobs) s.sessions) → (w : ℕ × SessionState) × IsBestOf s c w
 wanted_by s c i =
     let from = mapped-from (wanted s.jobs) c s.sessions i in
     let both = chosen (is_waiting from.0.1) (best_ready from.0.1.watched s.jobs) c from.2 in
@@ -104,7 +104,7 @@ wanted_by s c i =
 in_one : (tube t : List ℕ) → is_among t (tube ∷ []) ≡ true → t ≡ tube
 in_one tube t e = elim ((among-member t (tube ∷ [])).0 e) as (λ v. t ≡ tube) [ inl same ↦ same | inr never ↦ absurd never ]
 
-offered_by : (s : QueueState) (tubes : List (List ℕ)) (d : ℕ × Job) → In d (filter_map (offered s.jobs s.sessions) tubes) → (w : ℕ × Session) × IsBestOf s d w
+offered_by : (s : QueueState) (tubes : List (List ℕ)) (d : ℕ × Job) → In d (filter_map (offered s.jobs s.sessions) tubes) → (w : ℕ × SessionState) × IsBestOf s d w
 offered_by s tubes d i =
     let from = mapped-from (offered s.jobs s.sessions) d tubes i in
     let both = chosen (is_some (first_waiting (λ e. is_among from.0 e.1.watched) s.sessions)) (first_ready from.0 s.jobs) d from.2 in
@@ -138,14 +138,14 @@ seen-same view None p b e s = ap is_some (sym e) ∙ s
 seen-same view (Some a) p b e s = ap is_some (sym e) ∙ s
 
 -- where somebody waits for the tube
-pub offer-taken : {A B : Type 0} (view : A → ℕ × Session) (show : B → ℕ × Job) (watcher : Option A) (best best' job : Option B) (jobs : List (ℕ × Job)) (sessions : List (ℕ × Session)) (tube : List ℕ) → option_map view watcher ≡ first_waiting (λ e. is_among tube e.1.watched) sessions → is_some watcher ≡ true → option_map show job ≡ first_ready tube jobs → option_map show best' ≡ first_of pri_of_job (option_map show best) (option_map show job) → option_map show best' ≡ first_of pri_of_job (option_map show best) (offered jobs sessions tube)
+pub offer-taken : {A B : Type 0} (view : A → ℕ × SessionState) (show : B → ℕ × Job) (watcher : Option A) (best best' job : Option B) (jobs : List (ℕ × Job)) (sessions : List (ℕ × SessionState)) (tube : List ℕ) → option_map view watcher ≡ first_waiting (λ e. is_among tube e.1.watched) sessions → is_some watcher ≡ true → option_map show job ≡ first_ready tube jobs → option_map show best' ≡ first_of pri_of_job (option_map show best) (option_map show job) → option_map show best' ≡ first_of pri_of_job (option_map show best) (offered jobs sessions tube)
 offer-taken view show watcher best best' job jobs sessions tube seen some found new =
     new ∙
     ap (first_of pri_of_job (option_map show best))
     (found ∙ sym (cond-true (is_some (first_waiting (λ e. is_among tube e.1.watched) sessions)) (first_ready tube jobs) None (seen-same view watcher _ true seen some)))
 
 -- where nobody does
-pub offer-passed : {A B : Type 0} (view : A → ℕ × Session) (show : B → ℕ × Job) (watcher : Option A) (best : Option B) (jobs : List (ℕ × Job)) (sessions : List (ℕ × Session)) (tube : List ℕ) → option_map view watcher ≡ first_waiting (λ e. is_among tube e.1.watched) sessions → is_some watcher ≡ false → option_map show best ≡ first_of pri_of_job (option_map show best) (offered jobs sessions tube)
+pub offer-passed : {A B : Type 0} (view : A → ℕ × SessionState) (show : B → ℕ × Job) (watcher : Option A) (best : Option B) (jobs : List (ℕ × Job)) (sessions : List (ℕ × SessionState)) (tube : List ℕ) → option_map view watcher ≡ first_waiting (λ e. is_among tube e.1.watched) sessions → is_some watcher ≡ false → option_map show best ≡ first_of pri_of_job (option_map show best) (offered jobs sessions tube)
 offer-passed view show watcher best jobs sessions tube seen none =
     first_of-none pri_of_job (option_map show best) ∙
     ap (first_of pri_of_job (option_map show best))

@@ -5,12 +5,12 @@ use Rattle.object.specs.declared.command.Answer.{Answer}
 use Rattle.object.specs.declared.command.Command.{Command}
 use Rattle.bean_queue.specs.declared.op.Op.{Op}
 use Rattle.bean_queue.specs.declared.reply.Reply.{Reply}
-use Rattle.bean_queue.specs.Queue.{QueueState, fresh}
+use Rattle.bean_queue.specs.Queue.{QueueState, fresh, HasRisingIds}
 use Rattle.bean_queue.specs.Turns.{Outcome}
 use Rattle.bean_queue.specs.Effects.{effect}
 use Rattle.bean_queue.specs.Places.{Place, place, places_from, places}
 use Rattle.bean_queue.specs.Holds.{reserved_in, Gets, HasEnded, touches, ttr_in, ttr_of, IsGivenOnce, IsHeldByOne}
-use Rattle.bean_queue.proofs.Held.{HasRisingIds, Held, IsQuiet}
+use Rattle.bean_queue.proofs.Held.{Held, IsQuiet}
 use Rattle.bean_queue.proofs.Given.{GivesOnce}
 use Rattle.bean_queue.proofs.EffectHolds.{effect-gives, effect-holds, HoldsOn}
 

@@ -1,5 +1,5 @@
 -- What each row does to the jobs, and to one that is held.
-use Rattle.std.proofs.Common.{◌≡◌, ℕ, zero, suc, ◌+◌, ◌^◌, Bool, true, false, cond, ◌&&◌, inl, inr, List, Option, Some, None, IfSome, is_some, ◌==◌, bytes_eq, refl, sym, ap, subst, ◌∙◌, arith, eq-eqb, eqb-true, true≢false}
+use Rattle.std.proofs.Common.{◌≡◌, ℕ, zero, suc, ◌+◌, Bool, true, false, cond, ◌&&◌, inl, inr, List, Option, Some, None, IfSome, is_some, ◌==◌, bytes_eq, refl, sym, ap, subst, ◌∙◌, arith, eq-eqb, eqb-true, true≢false}
 use Rattle.std.proofs.lemmas.Bool.{cases_eq, and_parts}
 use Rattle.object.specs.Lists.{In}
 use Rattle.object.specs.declared.command.Act.{Act}
@@ -13,12 +13,12 @@ use Rattle.session_store.specs.WatchLists.{is_alone}
 use Rattle.session_store.specs.EntryLaws.{value_at-without_other, value_at-insert_other, value_at-below, value_at-In, Rising-altered, Rising-without, Rising-insert, Rising-wider, Rising-end}
 use Rattle.bean_queue.specs.declared.op.Op.{Op}
 use Rattle.bean_queue.specs.declared.reply.Reply.{Reply}
-use Rattle.bean_queue.specs.Queue.{QueueState, with_jobs, used_by, watched_by}
+use Rattle.bean_queue.specs.Queue.{QueueState, with_jobs, used_by, watched_by, HasRisingIds}
 use Rattle.bean_queue.specs.Rows.{is_idle, Row, replies, row, put_row, use_row, watch_row, ignore_row, reserve_row, delete_row, may_delete, is_found, release_row, touch_row, bury_row, kicked, kicked_option, kick_row, kick_job_row, peek_row, shown, at_id}
 use Rattle.bean_queue.specs.Effects.{own}
 use Rattle.bean_queue.specs.Holds.{is_touch}
 use Rattle.bean_queue.specs.TurnLaws.{least-in, IfSome-map}
-use Rattle.bean_queue.proofs.Held.{HasRisingIds, Held, Held-altered_other, Held-reserved, IsQuiet}
+use Rattle.bean_queue.proofs.Held.{Held, Held-altered_other, Held-reserved, IsQuiet}
 
 -- a row leaves the jobs in order and the second as it was, and its reply is no RESERVED
 pub record IsRowOk (s : QueueState) (key : Key) (r : Row) : Type 0 where
@@ -53,22 +53,19 @@ shown-quiet key (Some e) id = refl
 pub row-ok : (op : Op) (key : Key) (s : QueueState) → HasRisingIds s → IsRowOk s key (row op key s)
 unfolding row put_row use_row watch_row ignore_row reserve_row delete_row release_row touch_row bury_row kick_row kick_job_row peek_row
 row-ok (Op.Put pri delay ttr body) key s sound =
-    ok_if s key (s.next_id == 2 ^ 63) _ _ (ok_same s key Reply.InternalError (λ id. refl) sound)
-    (record {
+    record {
       sound =
           Rising-insert s.next_id 1 (s.next_id + 1) _ s.jobs (Rising-end 1 s.next_id s.jobs sound) (omega arith)
           (Rising-wider 1 1 s.next_id (s.next_id + 1) s.jobs (omega arith) (omega arith) sound);
       at = refl;
       quiet = λ id. refl;
-    })
+    }
 row-ok (Op.Use tube) key s sound = record { sound = sound; at = refl; quiet = λ id. refl }
 row-ok (Op.Watch tube) key s sound = record { sound = sound; at = refl; quiet = λ id. refl }
 row-ok (Op.Ignore tube) key s sound =
     ok_if s key (is_alone tube (watched_by s key.session)) _ _ (ok_same s key Reply.NotIgnored (λ id. refl) sound)
     (record { sound = sound; at = refl; quiet = λ id. refl })
-row-ok (Op.Reserve seconds) key s sound =
-    ok_if s key (s.next_rank == 2 ^ 63) _ _ (ok_same s key Reply.InternalError (λ id. refl) sound)
-    (record { sound = sound; at = refl; quiet = λ id. refl })
+row-ok (Op.Reserve seconds) key s sound = record { sound = sound; at = refl; quiet = λ id. refl }
 row-ok (Op.Delete j) key s sound =
     ok_if s key (is_found (may_delete key.session) (value_at j s.jobs)) _ _
     (record { sound = Rising-without j 1 s.next_id s.jobs sound; at = refl; quiet = λ id. refl })
@@ -76,10 +73,9 @@ row-ok (Op.Delete j) key s sound =
 row-ok (Op.Release j pri delay) key s sound =
     ok_if s key (is_found (is_held key.session) (value_at j s.jobs)) _ _ (ok_altered s key j _ Reply.Released (λ id. refl) sound) (ok_same s key Reply.NotFound (λ id. refl) sound)
 row-ok (Op.Bury j pri) key s sound =
-    ok_if s key (s.next_rank == 2 ^ 63) _ _ (ok_same s key Reply.InternalError (λ id. refl) sound)
-    (ok_if s key (is_found (is_held key.session) (value_at j s.jobs)) _ _
+    ok_if s key (is_found (is_held key.session) (value_at j s.jobs)) _ _
     (record { sound = Rising-altered _ _ 1 s.next_id s.jobs sound; at = refl; quiet = λ id. refl })
-    (ok_same s key Reply.NotFound (λ id. refl) sound))
+    (ok_same s key Reply.NotFound (λ id. refl) sound)
 row-ok (Op.Touch j) key s sound =
     ok_if s key (is_found (is_held key.session) (value_at j s.jobs)) _ _ (ok_altered s key j _ Reply.Touched (λ id. refl) sound) (ok_same s key Reply.NotFound (λ id. refl) sound)
 row-ok (Op.Kick bound) key s sound =
@@ -190,21 +186,19 @@ touched_held x id ttr second y j s h same who =
 pub row-holds : (x id ttr second : ℕ) (op : Op) (key : Key) (s : QueueState) → HasRisingIds s → Held s.jobs x id ttr second → HoldAfter x id ttr second s.now op key (row op key s)
 unfolding row put_row use_row watch_row ignore_row reserve_row delete_row release_row touch_row bury_row kick_row kick_job_row peek_row
 row-holds x id ttr second (Op.Put pri delay t body) key s sound h =
-    hold_if x id ttr second s.now _ key (s.next_id == 2 ^ 63) _ _ (λ e. stays_same x id ttr second s.now _ key s _ refl h)
-    (λ e. stays_same x id ttr second s.now _ key s _ refl (record {
+    stays_same x id ttr second s.now _ key s _ refl (record {
       job = h.job;
       there =
           value_at-insert_other s.next_id id _ s.jobs (λ same. omega (arith, same, value_at-below 1 s.next_id id s.jobs h.job sound h.there)) ∙
           h.there;
       runs = h.runs;
       held = h.held;
-    }))
+    })
 row-holds x id ttr second (Op.Use tube) key s sound h = stays_same x id ttr second s.now _ key s _ refl h
 row-holds x id ttr second (Op.Watch tube) key s sound h = stays_same x id ttr second s.now _ key s _ refl h
 row-holds x id ttr second (Op.Ignore tube) key s sound h =
     hold_if x id ttr second s.now _ key (is_alone tube (watched_by s key.session)) _ _ (λ e. stays_same x id ttr second s.now _ key s _ refl h) (λ e. stays_same x id ttr second s.now _ key s _ refl h)
-row-holds x id ttr second (Op.Reserve seconds) key s sound h =
-    hold_if x id ttr second s.now _ key (s.next_rank == 2 ^ 63) _ _ (λ e. stays_same x id ttr second s.now _ key s _ refl h) (λ e. stays_same x id ttr second s.now _ key s _ refl h)
+row-holds x id ttr second (Op.Reserve seconds) key s sound h = stays_same x id ttr second s.now _ key s _ refl h
 row-holds x id ttr second (Op.Delete j) key s sound h =
     held_row-ends x id ttr second s.now (Op.Delete j) key s j (may_delete key.session) _ Reply.Deleted (λ due. refl) (λ e. by_delete j e) refl h
     (λ apart. record { job = h.job; there = value_at-without_other j id s.jobs apart ∙ h.there; runs = h.runs; held = h.held })
@@ -212,9 +206,8 @@ row-holds x id ttr second (Op.Release j pri delay) key s sound h =
     held_row-ends x id ttr second s.now (Op.Release j pri delay) key s j (is_held key.session) _ Reply.Released (λ due. refl) (λ e. by_release j pri delay e) refl h
     (λ apart. Held-altered_other j _ s.jobs x id ttr second apart h)
 row-holds x id ttr second (Op.Bury j pri) key s sound h =
-    hold_if x id ttr second s.now _ key (s.next_rank == 2 ^ 63) _ _ (λ e. stays_same x id ttr second s.now _ key s _ refl h)
-    (λ e. held_row-ends x id ttr second s.now (Op.Bury j pri) key s j (is_held key.session) _ Reply.Buried (λ due. refl) (λ e. by_bury j pri e) refl h
-    (λ apart. Held-altered_other j _ s.jobs x id ttr second apart h))
+    held_row-ends x id ttr second s.now (Op.Bury j pri) key s j (is_held key.session) _ Reply.Buried (λ due. refl) (λ e. by_bury j pri e) refl h
+    (λ apart. Held-altered_other j _ s.jobs x id ttr second apart h)
 row-holds x id ttr second (Op.Touch j) key s sound h =
     elim (cases_eq j id) [
       | inr apart ↦

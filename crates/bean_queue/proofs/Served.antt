@@ -7,8 +7,8 @@ use Rattle.object.specs.declared.command.Answer.{Answer}
 use Rattle.job_store.specs.declared.job.Job.{Job}
 use Rattle.job_store.specs.LookUps.{best_ready, is_among, pri_of_job}
 use Rattle.job_store.specs.States.{is_ready}
-use Rattle.session_store.specs.declared.session.Session.{Session}
-use Rattle.session_store.specs.Sessions.{first_waiting, ended, with_wait, is_waiting, wait_rank}
+use Rattle.session_store.specs.declared.session.SessionState.{SessionState}
+use Rattle.session_store.specs.Sessions.{first_waiting, with_wait_ended, with_wait, is_waiting, wait_rank}
 use Rattle.bean_queue.specs.declared.reply.Reply.{Reply}
 use Rattle.bean_queue.specs.Queue.{QueueState}
 use Rattle.bean_queue.specs.Turns.{Outcome, Turn, IsTurn, stop, turns, all_turns, after_turn, after_option, wanted, next_job, give, give_to, given, serve_turn, deadline_turn, timeout_turn, serve}
@@ -16,53 +16,53 @@ use Rattle.bean_queue.specs.TurnLaws.{serve_turn-is, deadline_turn-is, timeout_t
 use Rattle.bean_queue.specs.WaitLaws.{IsWaiterTurn, given-waiter, told-waiter}
 
 -- how many sessions wait
-abbrev pub waiters : List (ℕ × Session) → ℕ
+abbrev pub waiters : List (ℕ × SessionState) → ℕ
 waiters [] = 0
 waiters (e ∷ es) = cond (is_waiting e.1) 1 0 + waiters es
 
-waiters-length : (es : List (ℕ × Session)) → waiters es ≤ length es
+pub waiters-length : (es : List (ℕ × SessionState)) → waiters es ≤ length es
 waiters-length [] = omega arith
 waiters-length (e ∷ es) =
     let h = waiters-length es in
     elim (is_waiting e.1) as (λ b. cond b 1 0 + waiters es ≤ suc (length es)) [ true ↦ omega arith | false ↦ omega arith ]
 
-waiters-ended : (x : ℕ) (es : List (ℕ × Session)) → waiters (ended x es) ≤ waiters es
+waiters-ended : (x : ℕ) (es : List (ℕ × SessionState)) → waiters (with_wait_ended x es) ≤ waiters es
 waiters-ended x [] = omega arith
 waiters-ended x (e ∷ es) =
-    let h : waiters (ended x es) ≤ waiters es = waiters-ended x es in
-    elim (x == e.0) as (λ b. cond (is_waiting (cond b (with_wait None e.1) e.1)) 1 0 + waiters (ended x es) ≤ cond (is_waiting e.1) 1 0 + waiters es) [
+    let h : waiters (with_wait_ended x es) ≤ waiters es = waiters-ended x es in
+    elim (x == e.0) as (λ b. cond (is_waiting (cond b (with_wait None e.1) e.1)) 1 0 + waiters (with_wait_ended x es) ≤ cond (is_waiting e.1) 1 0 + waiters es) [
       | true ↦ omega arith
       | false ↦ omega arith
     ]
 
-waiters-less : (w : ℕ × Session) (es : List (ℕ × Session)) → In w es → is_waiting w.1 ≡ true → waiters (ended w.0 es) < waiters es
+waiters-less : (w : ℕ × SessionState) (es : List (ℕ × SessionState)) → In w es → is_waiting w.1 ≡ true → waiters (with_wait_ended w.0 es) < waiters es
 waiters-less w [] i t = absurd i
 waiters-less w (e ∷ es) (inl same) t =
-    let h : waiters (ended w.0 es) ≤ waiters es = waiters-ended w.0 es in
+    let h : waiters (with_wait_ended w.0 es) ≤ waiters es = waiters-ended w.0 es in
     let a : cond (w.0 == e.0) (with_wait None e.1) e.1 ≡ with_wait None e.1 = cond-true (w.0 == e.0) (with_wait None e.1) e.1 (eq-eqb w.0 e.0 (ap (λ p. p.0) same)) in
-    let b : is_waiting e.1 ≡ true = ap (λ (p : ℕ × Session). is_waiting p.1) (sym same) ∙ t in
-    subst (λ c. cond (is_waiting c) 1 0 + waiters (ended w.0 es) < cond (is_waiting e.1) 1 0 + waiters es) (sym a)
-    (subst (λ v. 0 + waiters (ended w.0 es) < cond v 1 0 + waiters es) (sym b) (omega arith))
+    let b : is_waiting e.1 ≡ true = ap (λ (p : ℕ × SessionState). is_waiting p.1) (sym same) ∙ t in
+    subst (λ c. cond (is_waiting c) 1 0 + waiters (with_wait_ended w.0 es) < cond (is_waiting e.1) 1 0 + waiters es) (sym a)
+    (subst (λ v. 0 + waiters (with_wait_ended w.0 es) < cond v 1 0 + waiters es) (sym b) (omega arith))
 waiters-less w (e ∷ es) (inr later) t =
-    let h : waiters (ended w.0 es) < waiters es = waiters-less w es later t in
-    elim (w.0 == e.0) as (λ b. cond (is_waiting (cond b (with_wait None e.1) e.1)) 1 0 + waiters (ended w.0 es) < cond (is_waiting e.1) 1 0 + waiters es) [
+    let h : waiters (with_wait_ended w.0 es) < waiters es = waiters-less w es later t in
+    elim (w.0 == e.0) as (λ b. cond (is_waiting (cond b (with_wait None e.1) e.1)) 1 0 + waiters (with_wait_ended w.0 es) < cond (is_waiting e.1) 1 0 + waiters es) [
       | true ↦ omega arith
       | false ↦ omega arith
     ]
 
-turns-done : (turn : QueueState → Option Turn) → ((s : QueueState) → IfSome (turn s) (IsWaiterTurn s)) → (n : ℕ) (s : QueueState) → waiters s.sessions ≤ n → turn (turns turn n s).state ≡ None
+pub turns-done : (turn : QueueState → Option Turn) → ((s : QueueState) → IfSome (turn s) (IsWaiterTurn s)) → (n : ℕ) (s : QueueState) → waiters s.sessions ≤ n → turn (turns turn n s).state ≡ None
 unfolding turns
 turns-done turn good zero s few =
     elim (turn s) as (λ o. IfSome o (IsWaiterTurn s) → o ≡ None) [
       | None ↦ λ i. refl
-      | Some t ↦ λ i. let h : waiters (ended i.session.0 s.sessions) < waiters s.sessions = waiters-less i.session s.sessions i.known i.waits in absurd (omega arith)
+      | Some t ↦ λ i. let h : waiters (with_wait_ended i.session.0 s.sessions) < waiters s.sessions = waiters-less i.session s.sessions i.known i.waits in absurd (omega arith)
     ] (good s)
 turns-done turn good (suc n) s few =
     elim (turn s) as (λ o. turn s ≡ o → IfSome o (IsWaiterTurn s) → turn (after_option (turns turn n) s o).state ≡ None) [
       | None ↦ λ e i. e
       | Some t ↦ λ e i.
-          let h : waiters (ended i.session.0 s.sessions) < waiters s.sessions = waiters-less i.session s.sessions i.known i.waits in
-          let g : waiters t.state.sessions ≡ waiters (ended i.session.0 s.sessions) = ap waiters i.sessions in
+          let h : waiters (with_wait_ended i.session.0 s.sessions) < waiters s.sessions = waiters-less i.session s.sessions i.known i.waits in
+          let g : waiters t.state.sessions ≡ waiters (with_wait_ended i.session.0 s.sessions) = ap waiters i.sessions in
           turns-done turn good n t.state (omega arith)
     ] refl (good s)
 
@@ -82,16 +82,16 @@ module _ {X Y : Type 0} where
       elim (h d) as (λ o. In y (cons_option o (filter_map h xs))) [ None ↦ r | Some z ↦ inr r ]
 
 -- what is wanted is wanted by a session that waits and watches its tube
-pub wanted-by : (jobs : List (ℕ × Job)) (xs : List (ℕ × Session)) (j : ℕ × Job) → In j (filter_map (wanted jobs) xs) → (w : ℕ × Session) × In w xs × (is_waiting w.1 ≡ true) × (is_among j.1.tube w.1.watched ≡ true)
+pub wanted-by : (jobs : List (ℕ × Job)) (xs : List (ℕ × SessionState)) (j : ℕ × Job) → In j (filter_map (wanted jobs) xs) → (w : ℕ × SessionState) × In w xs × (is_waiting w.1 ≡ true) × (is_among j.1.tube w.1.watched ≡ true)
 wanted-by jobs [] j i = absurd i
 wanted-by jobs (x ∷ xs) j i =
-    elim (is_waiting x.1) as (λ b. is_waiting x.1 ≡ b → In j (cons_option (cond b (best_ready x.1.watched jobs) None) (filter_map (wanted jobs) xs)) → (w : ℕ × Session) × In w (x ∷ xs) × (is_waiting w.1 ≡ true) × (is_among j.1.tube w.1.watched ≡ true)) [
+    elim (is_waiting x.1) as (λ b. is_waiting x.1 ≡ b → In j (cons_option (cond b (best_ready x.1.watched jobs) None) (filter_map (wanted jobs) xs)) → (w : ℕ × SessionState) × In w (x ∷ xs) × (is_waiting w.1 ≡ true) × (is_among j.1.tube w.1.watched ≡ true)) [
       | false ↦ λ t i. let r = wanted-by jobs xs j i in (r.0, inr r.1, r.2, r.3)
       | true ↦ λ t i.
-          elim (best_ready x.1.watched jobs) as (λ o. IfSome o (λ j. In j jobs × (is_ready j.1.state ≡ true) × (is_among j.1.tube x.1.watched ≡ true)) → In j (cons_option o (filter_map (wanted jobs) xs)) → (w : ℕ × Session) × In w (x ∷ xs) × (is_waiting w.1 ≡ true) × (is_among j.1.tube w.1.watched ≡ true)) [
+          elim (best_ready x.1.watched jobs) as (λ o. IfSome o (λ j. In j jobs × (is_ready j.1.state ≡ true) × (is_among j.1.tube x.1.watched ≡ true)) → In j (cons_option o (filter_map (wanted jobs) xs)) → (w : ℕ × SessionState) × In w (x ∷ xs) × (is_waiting w.1 ≡ true) × (is_among j.1.tube w.1.watched ≡ true)) [
             | None ↦ λ h i. let r = wanted-by jobs xs j i in (r.0, inr r.1, r.2, r.3)
             | Some k ↦ λ h i.
-                elim i as (λ i. (w : ℕ × Session) × In w (x ∷ xs) × (is_waiting w.1 ≡ true) × (is_among j.1.tube w.1.watched ≡ true)) [
+                elim i as (λ i. (w : ℕ × SessionState) × In w (x ∷ xs) × (is_waiting w.1 ≡ true) × (is_among j.1.tube w.1.watched ≡ true)) [
                   | inl same ↦ (x, inl refl, t, ap (λ (k : ℕ × Job). is_among k.1.tube x.1.watched) same ∙ h.2)
                   | inr later ↦ let r = wanted-by jobs xs j later in (r.0, inr r.1, r.2, r.3)
                 ]
@@ -102,7 +102,7 @@ some≢none : {X : Type 0} (x : X) → Some x ≡ None → ⊥
 some≢none x e = cc
 
 -- where no turn is left, no waiting session has a best job
-pub idle_none : (s : QueueState) → serve_turn s ≡ None → (e : ℕ × Session) → In e s.sessions → is_waiting e.1 ≡ true → best_ready e.1.watched s.jobs ≡ None
+pub idle_none : (s : QueueState) → serve_turn s ≡ None → (e : ℕ × SessionState) → In e s.sessions → is_waiting e.1 ≡ true → best_ready e.1.watched s.jobs ≡ None
 unfolding serve_turn
 idle_none s idle e i t =
     elim (best_ready e.1.watched s.jobs) as (λ o. best_ready e.1.watched s.jobs ≡ o → o ≡ None) [
@@ -127,19 +127,19 @@ turns-enough turn good zero zero s a b = refl
 turns-enough turn good zero (suc m) s a b =
     elim (turn s) as (λ o. IfSome o (IsWaiterTurn s) → stop s ≡ after_option (turns turn m) s o) [
       | None ↦ λ i. refl
-      | Some t ↦ λ i. let h : waiters (ended i.session.0 s.sessions) < waiters s.sessions = waiters-less i.session s.sessions i.known i.waits in absurd (omega arith)
+      | Some t ↦ λ i. let h : waiters (with_wait_ended i.session.0 s.sessions) < waiters s.sessions = waiters-less i.session s.sessions i.known i.waits in absurd (omega arith)
     ] (good s)
 turns-enough turn good (suc n) zero s a b =
     elim (turn s) as (λ o. IfSome o (IsWaiterTurn s) → after_option (turns turn n) s o ≡ stop s) [
       | None ↦ λ i. refl
-      | Some t ↦ λ i. let h : waiters (ended i.session.0 s.sessions) < waiters s.sessions = waiters-less i.session s.sessions i.known i.waits in absurd (omega arith)
+      | Some t ↦ λ i. let h : waiters (with_wait_ended i.session.0 s.sessions) < waiters s.sessions = waiters-less i.session s.sessions i.known i.waits in absurd (omega arith)
     ] (good s)
 turns-enough turn good (suc n) (suc m) s a b =
     elim (turn s) as (λ o. IfSome o (IsWaiterTurn s) → after_option (turns turn n) s o ≡ after_option (turns turn m) s o) [
       | None ↦ λ i. refl
       | Some t ↦ λ i.
-          let h : waiters (ended i.session.0 s.sessions) < waiters s.sessions = waiters-less i.session s.sessions i.known i.waits in
-          let g : waiters t.state.sessions ≡ waiters (ended i.session.0 s.sessions) = ap waiters i.sessions in
+          let h : waiters (with_wait_ended i.session.0 s.sessions) < waiters s.sessions = waiters-less i.session s.sessions i.known i.waits in
+          let g : waiters t.state.sessions ≡ waiters (with_wait_ended i.session.0 s.sessions) = ap waiters i.sessions in
           ap (after_turn t.answer) (turns-enough turn good n m t.state (omega arith) (omega arith))
     ] (good s)
 
@@ -164,8 +164,8 @@ turns-unroll turn good s =
     elim (turn s) as (λ o. IfSome o (IsWaiterTurn s) → after_option (turns turn (length s.sessions)) s o ≡ after_option (all_turns turn) s o) [
       | None ↦ λ i. refl
       | Some t ↦ λ i.
-          let h : waiters (ended i.session.0 s.sessions) < waiters s.sessions = waiters-less i.session s.sessions i.known i.waits in
-          let g : waiters t.state.sessions ≡ waiters (ended i.session.0 s.sessions) = ap waiters i.sessions in
+          let h : waiters (with_wait_ended i.session.0 s.sessions) < waiters s.sessions = waiters-less i.session s.sessions i.known i.waits in
+          let g : waiters t.state.sessions ≡ waiters (with_wait_ended i.session.0 s.sessions) = ap waiters i.sessions in
           let l : waiters s.sessions ≤ length s.sessions = waiters-length s.sessions in
           ap (after_turn t.answer) (turns-enough turn good (length s.sessions) (length t.state.sessions) t.state (omega arith) (waiters-length t.state.sessions))
     ] (good s)
@@ -175,8 +175,8 @@ turn-fewer : (turn : QueueState → Option Turn) → IsTurnOfWaiters turn → (s
 turn-fewer turn good s =
     IfSome-map _ _ (turn s)
     (λ t i.
-    let h : waiters (ended i.session.0 s.sessions) < waiters s.sessions = waiters-less i.session s.sessions i.known i.waits in
-    let g : waiters t.state.sessions ≡ waiters (ended i.session.0 s.sessions) = ap waiters i.sessions in
+    let h : waiters (with_wait_ended i.session.0 s.sessions) < waiters s.sessions = waiters-less i.session s.sessions i.known i.waits in
+    let g : waiters t.state.sessions ≡ waiters (with_wait_ended i.session.0 s.sessions) = ap waiters i.sessions in
     omega arith)
     (good s)
 

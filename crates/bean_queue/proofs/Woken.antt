@@ -13,7 +13,7 @@ use Rattle.job_store.specs.LookUps.{is_among, ready_in, first_buried, first_dela
 use Rattle.job_store.specs.States.{is_ready, is_held, is_buried, is_delayed, with_state, with_pri_and_state}
 use Rattle.job_store.proofs.Least.{among-member}
 use Rattle.job_store.proofs.Shelving.{in-front, in-last}
-use Rattle.session_store.specs.declared.session.Session.{Session}
+use Rattle.session_store.specs.declared.session.SessionState.{SessionState}
 use Rattle.session_store.specs.declared.session.Wait.{Wait}
 use Rattle.session_store.specs.Sessions.{session_of, new_session, with_wait, is_waiting}
 use Rattle.session_store.specs.WatchLists.{joined}
@@ -32,7 +32,7 @@ use Rattle.bean_queue.proofs.Served.{idle_none}
 
 -- Where nothing is left to give
 
-nothing-wanted : (s : QueueState) (j : ℕ × Job) → serve_turn s ≡ None → IsWanted s j → ⊥
+pub nothing-wanted : (s : QueueState) (j : ℕ × Job) → serve_turn s ≡ None → IsWanted s j → ⊥
 nothing-wanted s j none w =
     least-none (ready_in w.watched.0.1.watched) pri_of_job s.jobs j
     (idle_none s none w.watched.0 w.watched.1 w.watched.2)
@@ -43,7 +43,7 @@ covers-nothing : (tubes : List (List ℕ)) (s : QueueState) → serve_turn s ≡
 covers-nothing tubes s none j w = absurd (nothing-wanted s j none w)
 
 -- what can be given is of a job that became ready
-covers-new : (tubes : List (List ℕ)) (s t : QueueState) → serve_turn s ≡ None → ((w : ℕ × Session) → In w t.sessions → is_waiting w.1 ≡ true → In w s.sessions) → AreWoken tubes s.jobs t.jobs → Covers tubes t
+covers-new : (tubes : List (List ℕ)) (s t : QueueState) → serve_turn s ≡ None → ((w : ℕ × SessionState) → In w t.sessions → is_waiting w.1 ≡ true → In w s.sessions) → AreWoken tubes s.jobs t.jobs → Covers tubes t
 covers-new tubes s t none fewer woken j w =
     elim (woken j w.there w.ready) as (λ v. In j.1.tube tubes) [
       | inl was ↦ absurd (nothing-wanted s j none (record { there = was; ready = w.ready; watched = (w.watched.0, fewer w.watched.0 w.watched.1 w.watched.2, w.watched.2, w.watched.3) }))
@@ -56,7 +56,7 @@ covers-calmer : (tubes : List (List ℕ)) (s t : QueueState) → IsCalmer s t �
 covers-calmer tubes s t c covers j w =
     covers j (record { there = c.jobs j w.there w.ready; ready = w.ready; watched = (w.watched.0, c.sessions w.watched.0 w.watched.1 w.watched.2, w.watched.2, w.watched.3) })
 
-given-calmer : (s : QueueState) (j : ℕ × Job) (w : ℕ × Session) → IsCalmer s (given s j w).state
+given-calmer : (s : QueueState) (j : ℕ × Job) (w : ℕ × SessionState) → IsCalmer s (given s j w).state
 unfolding given
 given-calmer s j w = record {
   jobs = changed-calmer j.0 (with_state (State.Reserved w.0 (s.now + j.1.ttr))) s.jobs (λ job. refl);
@@ -139,7 +139,7 @@ kick-woken tube false bound hi jobs r = kicked-woken tube (first_delayed tube) (
 
 -- A session that begins to wait
 
-begins_to_wait : (x hi : ℕ) (wait : Option Wait) (sessions : List (ℕ × Session)) (tube : List ℕ) → Rising 0 hi sessions → (w : ℕ × Session) → In w (altered x (with_wait wait) sessions) → is_among tube w.1.watched ≡ true → In w sessions ⊎ In tube (session_of x sessions).watched
+begins_to_wait : (x hi : ℕ) (wait : Option Wait) (sessions : List (ℕ × SessionState)) (tube : List ℕ) → Rising 0 hi sessions → (w : ℕ × SessionState) → In w (altered x (with_wait wait) sessions) → is_among tube w.1.watched ≡ true → In w sessions ⊎ In tube (session_of x sessions).watched
 begins_to_wait x hi wait sessions tube r =
     altered-in x (with_wait wait) (λ w. is_among tube w.1.watched ≡ true → In w sessions ⊎ In tube (session_of x sessions).watched) sessions
     (λ d there.
@@ -168,11 +168,9 @@ covers_if tubes false r q h k = k
 row-covers : (op : Op) (key : Key) (s : QueueState) → is_quiet op ≡ false → serve_turn s ≡ None → Rising 0 (2 ^ 64) s.jobs → Rising 0 (2 ^ 32) s.sessions → Covers (woken_by op key s) (row op key s).state
 unfolding row put_row reserve_row release_row kick_row kick_job_row
 row-covers (Op.Put pri delay ttr body) key s q none ids numbers =
-    covers_if (used_by s key.session ∷ []) (s.next_id == 2 ^ 63) _ _ (covers-nothing (used_by s key.session ∷ []) s none)
-    (covers-new (used_by s key.session ∷ []) s _ none (λ w i t. i) (put-woken s.next_id (put_job s key.session pri delay ttr body) s.jobs))
+    covers-new (used_by s key.session ∷ []) s _ none (λ w i t. i) (put-woken s.next_id (put_job s key.session pri delay ttr body) s.jobs)
 row-covers (Op.Reserve seconds) key s q none ids numbers =
-    covers_if (watched_by s key.session) (s.next_rank == 2 ^ 63) _ _ (covers-nothing (watched_by s key.session) s none)
-    (covers-wait key.session (2 ^ 32) (Some (record { number = key.number; rank = s.next_rank; time_out = time_out s.now seconds })) s _ none numbers refl refl)
+    covers-wait key.session (2 ^ 32) (Some (record { number = key.number; rank = s.next_rank; time_out = time_out s.now seconds })) s _ none numbers refl refl
 row-covers (Op.Release id pri delay) key s q none ids numbers =
     covers_if (tube_of (value_at id s.jobs)) (is_found (is_held key.session) (value_at id s.jobs)) _ _
     (covers-new (tube_of (value_at id s.jobs)) s _ none (λ w i t. i) (altered-woken id (2 ^ 64) (with_pri_and_state pri (ready_after s.now delay)) s.jobs ids (λ job. refl)))

@@ -5,7 +5,7 @@ use Rattle.job_store.specs.declared.job.Job.{Job}
 use Rattle.job_store.specs.Least.{ComesBefore, IsLeast}
 use Rattle.job_store.specs.LookUps.{is_among, pri_of_job}
 use Rattle.job_store.specs.States.{is_ready}
-use Rattle.session_store.specs.declared.session.Session.{Session}
+use Rattle.session_store.specs.declared.session.SessionState.{SessionState}
 use Rattle.session_store.specs.Sessions.{is_waiting, wait_rank}
 use Rattle.bean_queue.specs.Queue.{QueueState}
 use Rattle.bean_queue.specs.Turns.{Turn, given}
@@ -13,7 +13,7 @@ use Rattle.bean_queue.specs.Turns.{Turn, given}
 -- a session that waits watches the tube
 abbrev pub IsWatched : QueueState → List ℕ → Type 0
 IsWatched s tube =
-    (w : ℕ × Session) × In w s.sessions × (is_waiting w.1 ≡ true) × (is_among tube w.1.watched ≡ true)
+    (w : ℕ × SessionState) × In w s.sessions × (is_waiting w.1 ≡ true) × (is_among tube w.1.watched ≡ true)
 
 -- the job is ready, and a session that waits watches its tube
 pub record IsWanted (s : QueueState) (j : ℕ × Job) : Type 0 where
@@ -25,7 +25,7 @@ pub record IsWanted (s : QueueState) (j : ℕ × Job) : Type 0 where
 -- watches its tube
 pub record IsBestTurn (s : QueueState) (t : Turn) : Type 0 where
   pub job : ℕ × Job
-  pub session : ℕ × Session
+  pub session : ℕ × SessionState
   pub made : t ≡ given s job session
   pub wanted : IsWanted s job
   pub urgent : (d : ℕ × Job) → IsWanted s d → ComesBefore pri_of_job d job → ⊥

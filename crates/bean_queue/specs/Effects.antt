@@ -1,5 +1,5 @@
 -- What each command does.
-use Rattle.std.specs.Prelude.{ℕ, Bool, true, false, ◌+◌, List, [], ◌∷◌, ◌++◌, Option, None, Some, ◌==◌, nat_lt, if◌then◌else◌}
+use Rattle.std.specs.Prelude.{ℕ, Bool, true, false, ◌+◌, ◌^◌, List, [], ◌∷◌, ◌++◌, Option, None, Some, ◌==◌, nat_lt, if◌then◌else◌}
 use Rattle.object.specs.declared.command.Act.{Act}
 use Rattle.object.specs.declared.command.Answer.{Answer}
 use Rattle.object.specs.declared.command.Command.{Command}
@@ -8,7 +8,7 @@ use Rattle.job_store.specs.declared.job.Job.{Job}
 use Rattle.job_store.specs.declared.state.State.{State}
 use Rattle.job_store.specs.Entries.{without, each_value}
 use Rattle.job_store.specs.States.{is_due, is_held, with_state}
-use Rattle.session_store.specs.Sessions.{session_of, known, ended, is_waiting}
+use Rattle.session_store.specs.Sessions.{session_of, known, with_wait_ended, is_waiting}
 use Rattle.bean_queue.specs.declared.op.Op.{Op}
 use Rattle.bean_queue.specs.declared.reply.Reply.{Reply}
 use Rattle.bean_queue.specs.Queue.{QueueState, with_sessions, holds_by}
@@ -32,9 +32,9 @@ own_outcome key r = record { state = r.state; answers = own key r.reply }
 abbrev pub called : ℕ → QueueState → QueueState
 called x s = with_sessions s (known x s.sessions)
 
--- the command that waits is answered
-abbrev pub waited_for : QueueState → Key → Reply → Outcome
-waited_for s key reply = own_outcome key (record { state = with_sessions s (ended key.session s.sessions); reply = Some reply })
+-- the command is answered, and its session waits no longer
+abbrev pub ends_wait : QueueState → Key → Reply → Outcome
+ends_wait s key reply = own_outcome key (record { state = with_sessions s (with_wait_ended key.session s.sessions); reply = Some reply })
 
 -- the seconds are none
 abbrev pub is_zero : Option ℕ → Bool
@@ -48,15 +48,29 @@ settled (Op.Reserve seconds) key s =
     if is_waiting (session_of key.session s.sessions)
     then
     (if holds_by key.session (s.now + 1) s.jobs
-    then waited_for s key Reply.DeadlineSoon
-    else (if is_zero seconds then waited_for s key Reply.TimedOut else stop s))
+    then ends_wait s key Reply.DeadlineSoon
+    else (if is_zero seconds then ends_wait s key Reply.TimedOut else stop s))
     else stop s
 settled _ key s = stop s
 
--- an operation: its own answer, then those of waiting sessions
+-- no number is left for the operation: no id for a put, or no rank for a reserve or a bury
+abbrev pub has_no_number : Op → QueueState → Bool
+has_no_number (Op.Put pri delay ttr body) s = s.next_id == 2 ^ 63
+has_no_number (Op.Reserve seconds) s = s.next_rank == 2 ^ 63
+has_no_number (Op.Bury id pri) s = s.next_rank == 2 ^ 63
+has_no_number _ s = false
+
+-- an operation is carried out for its session, which is there from now on: its own answer, then those of waiting
+-- sessions
+unfoldable pub carried_out : Op → Key → QueueState → Outcome
+carried_out op key s =
+    then_do (then_do (own_outcome key (row op key (called key.session s))) serve) (settled op key)
+
+-- an operation is carried out; where no number is left for it, an older wait of its session ends, and nothing else
+-- happens
 unfoldable pub do_effect : Op → Key → QueueState → Outcome
 do_effect op key s =
-    then_do (then_do (own_outcome key (row op key (called key.session s))) serve) (settled op key)
+    if has_no_number op s then ends_wait s key Reply.InternalError else carried_out op key s
 
 -- the job is ready again if session x has it
 abbrev pub released_by : ℕ → Job → Job
@@ -64,7 +78,7 @@ released_by x job = if is_held x job.state then with_state State.Ready job else 
 
 -- session x waits no longer, and its jobs are ready again
 abbrev pub released : ℕ → QueueState → QueueState
-released x s = record s { jobs = each_value (released_by x) s.jobs; sessions = ended x s.sessions }
+released x s = record s { jobs = each_value (released_by x) s.jobs; sessions = with_wait_ended x s.sessions }
 
 -- session x is gone
 abbrev pub forgotten : ℕ → QueueState → QueueState

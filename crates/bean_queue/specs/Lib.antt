@@ -9,5 +9,7 @@ pub mod Places
 pub mod Waits
 pub mod Holds
 pub mod TurnLaws
+pub mod Owed
+pub mod Sound
 pub mod WaitLaws
 pub mod Searches

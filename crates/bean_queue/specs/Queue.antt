@@ -2,8 +2,9 @@
 use Rattle.std.specs.Prelude.{ℕ, Bool, ◌&&◌, List, [], nat_le}
 use Rattle.std.specs.List.{list_any}
 use Rattle.job_store.specs.declared.job.Job.{Job}
+use Rattle.job_store.specs.Entries.{Rising}
 use Rattle.job_store.specs.States.{is_held, due_of}
-use Rattle.session_store.specs.declared.session.Session.{Session}
+use Rattle.session_store.specs.declared.session.SessionState.{SessionState}
 use Rattle.session_store.specs.Sessions.{session_of}
 use Rattle.bean_queue.specs.declared.counters.Counters.{Counters}
 
@@ -13,10 +14,10 @@ pub record QueueState : Type 0 where
   pub next_id : ℕ
   pub next_rank : ℕ
   pub jobs : List (ℕ × Job)
-  pub sessions : List (ℕ × Session)
+  pub sessions : List (ℕ × SessionState)
 
 -- the state of these parts
-abbrev pub state_of : Counters → List (ℕ × Job) → List (ℕ × Session) → QueueState
+abbrev pub state_of : Counters → List (ℕ × Job) → List (ℕ × SessionState) → QueueState
 state_of counters jobs sessions = record {
   now = counters.now;
   next_id = counters.next_id;
@@ -29,12 +30,16 @@ state_of counters jobs sessions = record {
 abbrev pub fresh : QueueState
 fresh = record { now = 0; next_id = 1; next_rank = 1; jobs = []; sessions = [] }
 
+-- the ids rise, from 1 on, and the next one is above them
+abbrev pub HasRisingIds : QueueState → Type 0
+HasRisingIds s = Rising 1 s.next_id s.jobs
+
 -- the state, with these jobs
 abbrev pub with_jobs : QueueState → List (ℕ × Job) → QueueState
 with_jobs s jobs = record s { jobs = jobs }
 
 -- the state, with these sessions
-abbrev pub with_sessions : QueueState → List (ℕ × Session) → QueueState
+abbrev pub with_sessions : QueueState → List (ℕ × SessionState) → QueueState
 with_sessions s sessions = record s { sessions = sessions }
 
 -- the tube that session x uses

@@ -1,15 +1,17 @@
 -- What each operation does before waiting sessions are served: the state after, and the operation's own reply.
-use Rattle.std.specs.Prelude.{ℕ, zero, suc, ◌+◌, ◌^◌, max, Bool, true, false, ◌||◌, List, [], ◌∷◌, ◌++◌, map, flat_map, fold, Option, None, Some, ◌==◌, length, is_some, codes, if◌then◌else◌}
+use Rattle.std.specs.Prelude.{◌≡◌, ℕ, zero, suc, ◌+◌, max, Bool, true, false, ◌||◌, List, [], ◌∷◌, ◌++◌, map, filter, flat_map, fold, Option, None, Some, ◌==◌, length, is_some, codes, if◌then◌else◌}
+use Rattle.std.specs.List.{list_any}
 use Rattle.std.specs.Ordering.{nat_cmp}
 use Rattle.std.specs.Cmp.Lexicographic.{slice_cmp}
 use Rattle.std.specs.BTreeSet.{insert_key}
+use Rattle.object.specs.Lists.{In}
 use Rattle.object.specs.declared.command.Key.{Key}
 use Rattle.job_store.specs.declared.job.Job.{Job}
 use Rattle.job_store.specs.declared.state.State.{State}
 use Rattle.job_store.specs.Entries.{value_at, with_value, altered, without}
 use Rattle.job_store.specs.States.{is_held, is_delayed, is_buried, with_state, with_pri_and_state}
-use Rattle.job_store.specs.LookUps.{first_ready, first_delayed, first_buried}
-use Rattle.session_store.specs.declared.session.Session.{Session}
+use Rattle.job_store.specs.LookUps.{delayed_in, buried_in, first_ready, first_delayed, first_buried}
+use Rattle.session_store.specs.declared.session.SessionState.{SessionState}
 use Rattle.session_store.specs.Sessions.{with_wait}
 use Rattle.session_store.specs.WatchLists.{joined, left_out, is_alone}
 use Rattle.bean_queue.specs.declared.op.Op.{Op}
@@ -26,7 +28,7 @@ abbrev pub replies : QueueState → Reply → Row
 replies s reply = record { state = s; reply = Some reply }
 
 -- the state, with session x changed
-abbrev pub with_session : QueueState → ℕ → (Session → Session) → QueueState
+abbrev pub with_session : QueueState → ℕ → (SessionState → SessionState) → QueueState
 with_session s x f = record s { sessions = altered x f s.sessions }
 
 -- Ready, or Delayed where there is a delay (protocol.txt of beanstalkd, "put": delay)
@@ -39,12 +41,9 @@ abbrev pub put_job : QueueState → ℕ → ℕ → ℕ → ℕ → List ℕ →
 put_job s x pri delay ttr body =
     record { tube = used_by s x; pri = pri; ttr = max ttr 1; body = body; state = ready_after s.now delay }
 
--- the job stands under the next id, unless no id is left (protocol.txt of beanstalkd, "put")
+-- the job stands under the next id (protocol.txt of beanstalkd, "put")
 unfoldable pub put_row : QueueState → ℕ → ℕ → ℕ → ℕ → List ℕ → Row
 put_row s x pri delay ttr body =
-    if s.next_id == 2 ^ 63
-    then replies s Reply.InternalError
-    else
     replies
     (record s { next_id = s.next_id + 1; jobs = with_value s.next_id (put_job s x pri delay ttr body) s.jobs })
     (Reply.Inserted s.next_id)
@@ -84,12 +83,9 @@ waiting s x number seconds =
           s.sessions;
     }
 
--- session x waits under the next rank, unless no rank is left (protocol.txt of beanstalkd, "reserve")
+-- session x waits under the next rank (protocol.txt of beanstalkd, "reserve")
 unfoldable pub reserve_row : QueueState → ℕ → ℕ → Option ℕ → Row
-reserve_row s x number seconds =
-    if s.next_rank == 2 ^ 63
-    then replies s Reply.InternalError
-    else record { state = waiting s x number seconds; reply = None }
+reserve_row s x number seconds = record { state = waiting s x number seconds; reply = None }
 
 -- nobody but session x has the job
 abbrev pub may_delete : ℕ → State → Bool
@@ -125,13 +121,10 @@ release_row s x id pri delay = held_row s x id (with_pri_and_state pri (ready_af
 unfoldable pub touch_row : QueueState → ℕ → ℕ → Row
 touch_row s x id = held_row s x id (λ job. with_state (State.Reserved x (s.now + job.ttr)) job) Reply.Touched
 
--- session x lays a job aside, under the next rank unless none is left (protocol.txt of beanstalkd, "bury")
+-- session x lays a job aside, under the next rank (protocol.txt of beanstalkd, "bury")
 unfoldable pub bury_row : QueueState → ℕ → ℕ → ℕ → Row
 bury_row s x id pri =
-    if s.next_rank == 2 ^ 63
-    then replies s Reply.InternalError
-    else
-    (if is_found (is_held x) (value_at id s.jobs)
+    if is_found (is_held x) (value_at id s.jobs)
     then
     replies
     (record s {
@@ -139,7 +132,7 @@ bury_row s x id pri =
       jobs = altered id (with_pri_and_state pri (State.Buried s.next_rank)) s.jobs;
     })
     Reply.Buried
-    else replies s Reply.NotFound)
+    else replies s Reply.NotFound
 
 -- jobs, and how many of them were kicked
 pub record Kicked : Type 0 where
@@ -173,6 +166,11 @@ kick_row s x bound =
     s
     (kicked (if is_some (first_buried tube s.jobs) then first_buried tube else first_delayed tube) bound s.jobs)
 
+-- the jobs that a kick of the tube may make ready: its buried ones, or its delayed ones where none is buried
+abbrev pub kickable : List ℕ → List (ℕ × Job) → List (ℕ × Job)
+kickable tube jobs =
+    if list_any (buried_in tube) jobs then filter (buried_in tube) jobs else filter (delayed_in tube) jobs
+
 -- the job is buried or delayed
 abbrev pub is_idle : State → Bool
 is_idle state = is_buried state || is_delayed state
@@ -205,6 +203,13 @@ in_order names = fold (insert_key (slice_cmp nat_cmp)) [] names
 unfoldable pub all_tubes : QueueState → List (List ℕ)
 all_tubes s =
     in_order (codes "default" ∷ map (λ e. e.1.tube) s.jobs ++ flat_map (λ e. e.1.used ∷ e.1.watched) s.sessions)
+
+-- the tube is `default`, or has a job, or a session uses or watches it
+pub data IsTube (s : QueueState) (tube : List ℕ) : Type 0 where
+  default : tube ≡ codes "default" → IsTube s tube
+  of_job : (j : ℕ × Job) → In j s.jobs → tube ≡ j.1.tube → IsTube s tube
+  used : (w : ℕ × SessionState) → In w s.sessions → tube ≡ w.1.used → IsTube s tube
+  watched : (w : ℕ × SessionState) → In w s.sessions → In tube w.1.watched → IsTube s tube
 
 -- what an operation under this key does
 unfoldable pub row : Op → Key → QueueState → Row

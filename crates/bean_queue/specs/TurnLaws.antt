@@ -8,11 +8,11 @@ use Rattle.job_store.specs.declared.job.Job.{Job}
 use Rattle.job_store.specs.Least.{comes_before, lesser, least}
 use Rattle.job_store.specs.LookUps.{is_among, best_ready, ready_in, pri_of_job}
 use Rattle.job_store.specs.States.{is_ready}
-use Rattle.session_store.specs.declared.session.Session.{Session}
+use Rattle.session_store.specs.declared.session.SessionState.{SessionState}
 use Rattle.session_store.specs.Sessions.{first_waiting, is_waiting, wait_rank, has_timed_out}
 use Rattle.bean_queue.specs.declared.reply.Reply.{Reply}
 use Rattle.bean_queue.specs.Queue.{QueueState, holds_by}
-use Rattle.bean_queue.specs.Turns.{Turn, turns, after_option, wanted, next_job, given, give, give_to, serve_turn, told, tell, deadline_turn, timeout_turn}
+use Rattle.bean_queue.specs.Turns.{Turn, turns, after_option, wanted, next_job, given, give, give_to, serve_turn, told_turn, tell, deadline_turn, timeout_turn}
 
 module _ {X : Type 0} where
   -- what is least is there, and passes
@@ -78,7 +78,7 @@ best_ready-in tubes jobs =
     (λ j h. let b = and_parts (is_ready j.1.state) (is_among j.1.tube tubes) h.1 in (h.0, b.0, b.1))
     (least-in (ready_in tubes) pri_of_job jobs)
 
-pub wanted-in : (jobs : List (ℕ × Job)) (e : ℕ × Session) → IfSome (wanted jobs e) (λ j. In j jobs × (is_ready j.1.state ≡ true))
+pub wanted-in : (jobs : List (ℕ × Job)) (e : ℕ × SessionState) → IfSome (wanted jobs e) (λ j. In j jobs × (is_ready j.1.state ≡ true))
 wanted-in jobs e =
     elim (is_waiting e.1) as (λ b. IfSome (cond b (best_ready e.1.watched jobs) None) (λ j. In j jobs × (is_ready j.1.state ≡ true))) [
       | true ↦ IfSome-map _ _ (best_ready e.1.watched jobs) (λ j h. (h.0, h.1)) (best_ready-in e.1.watched jobs)
@@ -91,7 +91,7 @@ next_job-in s =
     (λ j h. filter_map-in (wanted s.jobs) (λ j. In j s.jobs × (is_ready j.1.state ≡ true)) (wanted-in s.jobs) s.sessions j h.0)
     (least-in (λ e. true) pri_of_job (filter_map (wanted s.jobs) s.sessions))
 
-pub first_waiting-in : (test : ℕ × Session → Bool) (sessions : List (ℕ × Session)) → IfSome (first_waiting test sessions) (λ w. In w sessions × (is_waiting w.1 ≡ true) × (test w ≡ true))
+pub first_waiting-in : (test : ℕ × SessionState → Bool) (sessions : List (ℕ × SessionState)) → IfSome (first_waiting test sessions) (λ w. In w sessions × (is_waiting w.1 ≡ true) × (test w ≡ true))
 first_waiting-in test sessions =
     IfSome-map _ _ (first_waiting test sessions)
     (λ w h. let b = and_parts (is_waiting w.1) (test w) h.1 in (h.0, b.0, b.1))
@@ -100,7 +100,7 @@ first_waiting-in test sessions =
 -- a turn of Serve: a Ready job goes to a session that waits
 pub record IsServed (s : QueueState) (t : Turn) : Type 0 where
   pub job : ℕ × Job
-  pub session : ℕ × Session
+  pub session : ℕ × SessionState
   pub there : In job s.jobs
   pub ready : is_ready job.1.state ≡ true
   pub known : In session s.sessions
@@ -122,12 +122,12 @@ serve_turn-is s =
 
 -- a session that waits is told, and nothing else changes
 pub record IsTold (reply : Reply) (s : QueueState) (t : Turn) : Type 0 where
-  pub session : ℕ × Session
+  pub session : ℕ × SessionState
   pub known : In session s.sessions
   pub waits : is_waiting session.1 ≡ true
-  pub made : t ≡ told s reply session
+  pub made : t ≡ told_turn s reply session
 
-pub tell-is : (s : QueueState) (reply : Reply) (test : ℕ × Session → Bool) → IfSome (tell s reply (first_waiting test s.sessions)) (IsTold reply s)
+pub tell-is : (s : QueueState) (reply : Reply) (test : ℕ × SessionState → Bool) → IfSome (tell s reply (first_waiting test s.sessions)) (IsTold reply s)
 tell-is s reply test =
     elim (first_waiting test s.sessions) as (λ o. IfSome o (λ w. In w s.sessions × (is_waiting w.1 ≡ true) × (test w ≡ true)) → IfSome (tell s reply o) (IsTold reply s)) [
       | None ↦ λ k. tt

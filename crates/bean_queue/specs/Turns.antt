@@ -7,8 +7,8 @@ use Rattle.job_store.specs.Entries.{altered}
 use Rattle.job_store.specs.Least.{least}
 use Rattle.job_store.specs.LookUps.{is_among, best_ready, pri_of_job}
 use Rattle.job_store.specs.States.{with_state}
-use Rattle.session_store.specs.declared.session.Session.{Session}
-use Rattle.session_store.specs.Sessions.{first_waiting, ended, is_waiting, wait_number, has_timed_out}
+use Rattle.session_store.specs.declared.session.SessionState.{SessionState}
+use Rattle.session_store.specs.Sessions.{first_waiting, with_wait_ended, is_waiting, wait_number, has_timed_out}
 use Rattle.bean_queue.specs.declared.reply.Reply.{Reply}
 use Rattle.bean_queue.specs.Queue.{QueueState, holds_by}
 
@@ -45,11 +45,11 @@ unfoldable pub all_turns : (QueueState → Option Turn) → QueueState → Outco
 all_turns turn s = turns turn (length s.sessions) s
 
 -- the reply, to the command by which the session waits
-abbrev pub answer_to : ℕ × Session → Reply → Answer Reply
+abbrev pub answer_to : ℕ × SessionState → Reply → Answer Reply
 answer_to e reply = record { to = record { session = e.0; number = wait_number e.1.wait }; reply = reply }
 
 -- the best job of a session that waits
-abbrev pub wanted : List (ℕ × Job) → ℕ × Session → Option (ℕ × Job)
+abbrev pub wanted : List (ℕ × Job) → ℕ × SessionState → Option (ℕ × Job)
 wanted jobs e = if is_waiting e.1 then best_ready e.1.watched jobs else None
 
 -- of the best jobs of all waiting sessions, that of the least (priority, id)
@@ -57,17 +57,17 @@ abbrev pub next_job : QueueState → Option (ℕ × Job)
 next_job s = least (λ e. true) pri_of_job (filter_map (wanted s.jobs) s.sessions)
 
 -- session w gets job j until its time to run is over, and waits no longer (protocol.txt of beanstalkd, "reserve")
-unfoldable pub given : QueueState → ℕ × Job → ℕ × Session → Turn
+unfoldable pub given : QueueState → ℕ × Job → ℕ × SessionState → Turn
 given s j w = record {
   state = record s {
     jobs = altered j.0 (with_state (State.Reserved w.0 (s.now + j.1.ttr))) s.jobs;
-    sessions = ended w.0 s.sessions;
+    sessions = with_wait_ended w.0 s.sessions;
   };
   answer = answer_to w (Reply.Reserved j.0 j.1.body);
 }
 
 -- the job goes to the session that there may be
-abbrev pub give_to : QueueState → ℕ × Job → Option (ℕ × Session) → Option Turn
+abbrev pub give_to : QueueState → ℕ × Job → Option (ℕ × SessionState) → Option Turn
 give_to s j None = None
 give_to s j (Some w) = Some (given s j w)
 
@@ -81,13 +81,13 @@ unfoldable pub serve_turn : QueueState → Option Turn
 serve_turn s = give s (next_job s)
 
 -- a session that waits is told, and waits no longer
-unfoldable pub told : QueueState → Reply → ℕ × Session → Turn
-told s reply w = record { state = record s { sessions = ended w.0 s.sessions }; answer = answer_to w reply }
+unfoldable pub told_turn : QueueState → Reply → ℕ × SessionState → Turn
+told_turn s reply w = record { state = record s { sessions = with_wait_ended w.0 s.sessions }; answer = answer_to w reply }
 
 -- the session that there may be is told
-abbrev pub tell : QueueState → Reply → Option (ℕ × Session) → Option Turn
+abbrev pub tell : QueueState → Reply → Option (ℕ × SessionState) → Option Turn
 tell s reply None = None
-tell s reply (Some w) = Some (told s reply w)
+tell s reply (Some w) = Some (told_turn s reply w)
 
 -- a waiting session with a job that is due within a second is told so (protocol.txt of beanstalkd, "reserve":
 -- DEADLINE_SOON)

@@ -1,5 +1,5 @@
 -- The laws of every effect: who waits, and whom the answers name.
-use Rattle.std.proofs.Common.{◌≡◌, ℕ, zero, suc, ◌+◌, ◌^◌, Bool, true, false, cond, ◌⊎◌, inl, inr, List, [], ◌∷◌, ◌++◌, length, Option, Some, None, IfSome, ◌==◌, nat_lt, refl, sym, ap, subst, ◌∙◌, append_assoc}
+use Rattle.std.proofs.Common.{◌≡◌, ℕ, zero, suc, ◌+◌, Bool, true, false, cond, ◌⊎◌, inl, inr, List, [], ◌∷◌, ◌++◌, length, Option, Some, None, IfSome, nat_lt, refl, sym, ap, subst, ◌∙◌, append_assoc}
 use Rattle.object.specs.Lists.{In}
 use Rattle.object.specs.Answers.{AnswersOnce}
 use Rattle.object.specs.declared.command.Act.{Act}
@@ -8,17 +8,17 @@ use Rattle.object.specs.declared.command.Command.{Command}
 use Rattle.object.specs.declared.command.Key.{Key}
 use Rattle.job_store.specs.Entries.{value_at}
 use Rattle.job_store.specs.States.{is_held}
-use Rattle.session_store.specs.declared.session.Session.{Session}
-use Rattle.session_store.specs.Sessions.{session_of, ended, is_waiting, wait_number}
+use Rattle.session_store.specs.declared.session.SessionState.{SessionState}
+use Rattle.session_store.specs.Sessions.{session_of, with_wait_ended, is_waiting, wait_number}
 use Rattle.session_store.specs.WatchLists.{is_alone}
 use Rattle.session_store.specs.Waits.{WaitsIn}
 use Rattle.session_store.specs.WaitLaws.{altered-waits, ended-waits, forgotten-waits, known-waits, waiting-waits, some_wait, session_waits}
 use Rattle.bean_queue.specs.declared.op.Op.{Op}
 use Rattle.bean_queue.specs.declared.reply.Reply.{Reply}
 use Rattle.bean_queue.specs.Queue.{QueueState, fresh, holds_by, watched_by}
-use Rattle.bean_queue.specs.Turns.{Outcome, Turn, stop, turns, all_turns, after_option, given, told, serve_turn, deadline_turn, timeout_turn, serve}
+use Rattle.bean_queue.specs.Turns.{Outcome, Turn, stop, turns, all_turns, after_option, given, told_turn, serve_turn, deadline_turn, timeout_turn, serve}
 use Rattle.bean_queue.specs.Rows.{is_idle, Row, row, put_row, use_row, watch_row, ignore_row, reserve_row, delete_row, may_delete, is_found, release_row, touch_row, bury_row, kick_row, kick_job_row, peek_row}
-use Rattle.bean_queue.specs.Effects.{own, called, waited_for, is_zero, settled, then_do, do_effect, released, close_effect, at_second, tick_effect, act_effect, effect}
+use Rattle.bean_queue.specs.Effects.{own, called, ends_wait, is_zero, settled, then_do, has_no_number, carried_out, do_effect, released, close_effect, at_second, tick_effect, act_effect, effect}
 use Rattle.bean_queue.specs.Waits.{Waits, AreApart, IsLawful}
 use Rattle.bean_queue.specs.TurnLaws.{IsServed, IsTold, serve_turn-is, deadline_turn-is, timeout_turn-is, IfSome-map}
 
@@ -56,10 +56,10 @@ dealt-then s t u xs ys p q =
     }
 
 pub record IsWaiterTurn (s : QueueState) (t : Turn) : Type 0 where
-  pub session : ℕ × Session
+  pub session : ℕ × SessionState
   pub known : In session s.sessions
   pub waits : is_waiting session.1 ≡ true
-  pub sessions : t.state.sessions ≡ ended session.0 s.sessions
+  pub sessions : t.state.sessions ≡ with_wait_ended session.0 s.sessions
   pub to : t.answer.to ≡ record { session = session.0; number = wait_number session.1.wait }
 
 pub given-waiter : (s : QueueState) (t : Turn) → IsServed s t → IsWaiterTurn s t
@@ -67,7 +67,7 @@ unfolding given
 given-waiter s t i = record { session = i.session; known = i.known; waits = i.waits; sessions = ap (λ (t : Turn). t.state.sessions) i.made; to = ap (λ (t : Turn). t.answer.to) i.made }
 
 pub told-waiter : (reply : Reply) (s : QueueState) (t : Turn) → IsTold reply s t → IsWaiterTurn s t
-unfolding told
+unfolding told_turn
 told-waiter reply s t i = record { session = i.session; known = i.known; waits = i.waits; sessions = ap (λ (t : Turn). t.state.sessions) i.made; to = ap (λ (t : Turn). t.answer.to) i.made }
 
 dealt-turn : (s : QueueState) (t : Turn) → IsWaiterTurn s t → IsDealt s (record { state = t.state; answers = t.answer ∷ [] })
@@ -118,19 +118,17 @@ same key s r e = RowWaits.still (λ k h. subst (λ ss. WaitsIn ss k) e h)
 
 row-waits : (op : Op) (key : Key) (s : QueueState) → RowWaits key s (row op key s)
 unfolding row put_row use_row watch_row ignore_row reserve_row delete_row release_row touch_row bury_row kick_row kick_job_row peek_row
-row-waits (Op.Put pri delay ttr body) key s = still_if key s (s.next_id == 2 ^ 63) _ _ (same key s _ refl) (same key s _ refl)
+row-waits (Op.Put pri delay ttr body) key s = same key s _ refl
 row-waits (Op.Use tube) key s = RowWaits.still (λ k h. altered-waits key.session _ s.sessions k (λ c. refl) h)
 row-waits (Op.Watch tube) key s = RowWaits.still (λ k h. altered-waits key.session _ s.sessions k (λ c. refl) h)
 row-waits (Op.Ignore tube) key s =
     still_if key s (is_alone tube (watched_by s key.session)) _ _ (same key s _ refl) (RowWaits.still (λ k h. altered-waits key.session _ s.sessions k (λ c. refl) h))
 row-waits (Op.Reserve seconds) key s =
-    still_if key s (s.next_rank == 2 ^ 63) _ _ (same key s _ refl)
-    (RowWaits.anew refl (λ k h. waiting-waits key.session _ _ s.sessions k key refl refl (λ c. refl) h))
+    RowWaits.anew refl (λ k h. waiting-waits key.session _ _ s.sessions k key refl refl (λ c. refl) h)
 row-waits (Op.Delete j) key s = still_if key s (is_found (may_delete key.session) (value_at j s.jobs)) _ _ (same key s _ refl) (same key s _ refl)
 row-waits (Op.Release j pri delay) key s = still_if key s (is_found (is_held key.session) (value_at j s.jobs)) _ _ (same key s _ refl) (same key s _ refl)
 row-waits (Op.Bury j pri) key s =
-    still_if key s (s.next_rank == 2 ^ 63) _ _ (same key s _ refl)
-    (still_if key s (is_found (is_held key.session) (value_at j s.jobs)) _ _ (same key s _ refl) (same key s _ refl))
+    still_if key s (is_found (is_held key.session) (value_at j s.jobs)) _ _ (same key s _ refl) (same key s _ refl)
 row-waits (Op.Touch j) key s = still_if key s (is_found (is_held key.session) (value_at j s.jobs)) _ _ (same key s _ refl) (same key s _ refl)
 row-waits (Op.Kick bound) key s = same key s _ refl
 row-waits (Op.KickJob j) key s = still_if key s (is_found is_idle (value_at j s.jobs)) _ _ (same key s _ refl) (same key s _ refl)
@@ -142,8 +140,8 @@ row-waits Op.ListTubes key s = same key s _ refl
 row-waits Op.ListTubeUsed key s = same key s _ refl
 row-waits Op.ListTubesWatched key s = same key s _ refl
 
-waited_for-dealt : (s : QueueState) (key : Key) (reply : Reply) → Waits s key → IsDealt s (waited_for s key reply)
-waited_for-dealt s key reply h =
+ends_wait-dealt : (s : QueueState) (key : Key) (reply : Reply) → Waits s key → IsDealt s (ends_wait s key reply)
+ends_wait-dealt s key reply h =
     record {
       fewer = λ k w. (ended-waits key.session s.sessions k w).0;
       named = λ a j. elim j as (λ j. Waits s a.to) [ inl e ↦ subst (λ (a : Answer Reply). Waits s a.to) (sym e) h | inr never ↦ absurd never ];
@@ -163,8 +161,8 @@ settled-dealt (Op.Reserve seconds) key s only =
     (λ e.
     let w = session_waits key.session s.sessions e in
     let h : Waits s key = subst (λ k. Waits s k) (only w.0 w.1 w.2) w.1 in
-    dealt_if s (holds_by key.session (s.now + 1) s.jobs) _ _ (λ e. waited_for-dealt s key Reply.DeadlineSoon h)
-    (dealt_if s (is_zero seconds) _ _ (λ e. waited_for-dealt s key Reply.TimedOut h) (dealt-none s)))
+    dealt_if s (holds_by key.session (s.now + 1) s.jobs) _ _ (λ e. ends_wait-dealt s key Reply.DeadlineSoon h)
+    (dealt_if s (is_zero seconds) _ _ (λ e. ends_wait-dealt s key Reply.TimedOut h) (dealt-none s)))
     (dealt-none s)
 settled-dealt _ key s only = dealt-none s
 
@@ -190,9 +188,9 @@ without_own key s t u ys h d =
       once = d.once;
     }
 
-do-lawful : (op : Op) (key : Key) (s : QueueState) → IsLawful key s (do_effect op key s)
-unfolding do_effect
-do-lawful op key s =
+carried_out-lawful : (op : Op) (key : Key) (s : QueueState) → IsLawful key s (carried_out op key s)
+unfolding carried_out
+carried_out-lawful op key s =
     let t = called key.session s in
     let r = row op key (called key.session s) in
     let start : (k : Key) → Waits (called key.session s) k → Waits s k × (k.session ≡ key.session → ⊥) = known-waits key.session s.sessions in
@@ -217,6 +215,14 @@ do-lawful op key s =
           subst (λ o. IsLawful key s (record { state = (settled op key (serve r.state).state).state; answers = own key o ++ ((serve r.state).answers ++ (settled op key (serve r.state).state).answers) })) (sym none)
           (without_own key s r.state _ _ (λ k w. elim (h k w) [ inl was ↦ inl (start k was).0 | inr it ↦ inr it ]) d)
     ])
+
+do-lawful : (op : Op) (key : Key) (s : QueueState) → IsLawful key s (do_effect op key s)
+unfolding do_effect
+do-lawful op key s =
+    elim (has_no_number op s) as (λ b. IsLawful key s (cond b (ends_wait s key Reply.InternalError) (carried_out op key s))) [
+      | true ↦ with_own key s (ends_wait s key Reply.InternalError).state (ends_wait s key Reply.InternalError).state Reply.InternalError [] (ended-waits key.session s.sessions) (dealt-none (ends_wait s key Reply.InternalError).state)
+      | false ↦ carried_out-lawful op key s
+    ]
 
 close-lawful : (key : Key) (s : QueueState) → IsLawful key s (close_effect key.session s)
 unfolding close_effect

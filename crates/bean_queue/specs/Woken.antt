@@ -7,7 +7,7 @@ use Rattle.job_store.specs.Entries.{value_at}
 use Rattle.job_store.specs.Least.{least}
 use Rattle.job_store.specs.LookUps.{is_among, first_ready, pri_of_job}
 use Rattle.job_store.specs.States.{is_ready}
-use Rattle.session_store.specs.declared.session.Session.{Session}
+use Rattle.session_store.specs.declared.session.SessionState.{SessionState}
 use Rattle.session_store.specs.Sessions.{first_waiting}
 use Rattle.bean_queue.specs.declared.op.Op.{Op}
 use Rattle.bean_queue.specs.Best.{IsWanted}
@@ -18,12 +18,12 @@ abbrev pub Covers : List (List ℕ) → QueueState → Type 0
 Covers tubes s = (j : ℕ × Job) → IsWanted s j → In j.1.tube tubes
 
 -- the next ready job of a tube, if a waiting session watches the tube
-abbrev pub offered : List (ℕ × Job) → List (ℕ × Session) → List ℕ → Option (ℕ × Job)
+abbrev pub offered : List (ℕ × Job) → List (ℕ × SessionState) → List ℕ → Option (ℕ × Job)
 offered jobs sessions tube =
     if is_some (first_waiting (λ e. is_among tube e.1.watched) sessions) then first_ready tube jobs else None
 
 -- of the jobs that are offered in these tubes, that of the least (priority, id)
-abbrev pub best_offer : List (ℕ × Job) → List (ℕ × Session) → List (List ℕ) → Option (ℕ × Job)
+abbrev pub best_offer : List (ℕ × Job) → List (ℕ × SessionState) → List (List ℕ) → Option (ℕ × Job)
 best_offer jobs sessions tubes = least (λ e. true) pri_of_job (filter_map (offered jobs sessions) tubes)
 
 -- each job that is ready after, and was not so before, is in one of these tubes

@@ -81,8 +81,8 @@ impl<M: JobMap> JobDraft<M> {
         self.jobs.begin();
     }
 
-    /// Keeps all changes, and takes out the job at an id.
-    pub fn remove(&mut self, id: u64)
+    /// Keeps all changes, and takes out the job at an id. That can't be taken back.
+    pub fn remove_for_good(&mut self, id: u64)
         ensures now { self.new.now ≡ without id self.old.now }
         ensures before { self.new.before ≡ without id self.old.now }
     {

@@ -1,19 +1,27 @@
-ghost use Rattle.std.specs.Prelude.{◌≡◌, ℕ, List, map, None, Some, true};
+ghost use Rattle.std.specs.Prelude.{◌≡◌, ◌<◌, ◌↔◌, ℕ, List, length, map, min, None, Some, true};
+ghost use Rattle.std.specs.Ordering.{nat_cmp};
+ghost use Rattle.std.specs.Cmp.Lexicographic.{slice_cmp};
+ghost use Rattle.std.specs.List.Sorted.{IsStrictlySortedBy};
 ghost use Rattle.object.specs.declared.command.Command.{Command};
 ghost use Rattle.object.specs.Answers.{AnswersOnce};
-ghost use Rattle.session_store.specs.declared.session.Session.{Session};
+ghost use Rattle.session_store.specs.declared.session.SessionState.{SessionState};
 ghost use Rattle.session_store.specs.Sessions.{is_waiting};
 ghost use Rattle.bean_queue.specs.declared.op.Op.{Op};
 ghost use Rattle.bean_queue.specs.Places.{places, placed_from, queue_replay, HasDistinctKeys};
 ghost use Rattle.bean_queue.specs.Holds.{IsGivenOnce, IsHeldByOne};
 ghost use Rattle.job_store.specs.LookUps.{best_ready};
 ghost use Rattle.bean_queue.specs.Best.{IsBestTurn};
-ghost use Rattle.bean_queue.specs.Queue.{QueueState};
+ghost use Rattle.bean_queue.specs.declared.reply.Reply.{Reply};
+ghost use Rattle.bean_queue.specs.Effects.{tick_effect, effect};
+ghost use Rattle.bean_queue.specs.Owed.{OwesNothing};
+ghost use Rattle.bean_queue.specs.Queue.{QueueState, HasRisingIds, fresh, used_by};
+ghost use Rattle.bean_queue.specs.Rows.{kick_row, kickable, all_tubes, IsTube};
+ghost use Rattle.bean_queue.specs.Sound.{IsSoundQueue};
 ghost use Rattle.bean_queue.specs.Turns.{Turn, serve_turn, serve};
 ghost use Rattle.object.specs.Lists.{In};
 
 use job_store::{Job, least_is_least};
-use session_store::Session;
+use session_store::SessionState;
 
 /// No job is held by two sessions at once, whatever commands a new queue obeys, be their keys distinct or not: no
 /// place gives two RESERVED of one job; and where a session gets a job and the job is given again later, the first
@@ -35,11 +43,37 @@ pub fn one_answer()
 /// until there is no ready job in a tube that a waiting session watches.
 pub fn serve_gives_the_best()
     ensures turn { (s : QueueState) (t : Turn) → serve_turn s ≡ Some t → IsBestTurn s t }
-    ensures end { (s : QueueState) (w : ℕ × Session) → In w (serve s).state.sessions
+    ensures end { (s : QueueState) (w : ℕ × SessionState) → In w (serve s).state.sessions
         → is_waiting w.1 ≡ true →
         best_ready w.1.watched (serve s).state.jobs ≡ None }
 {
     // What is least is least, of jobs and of sessions.
     least_is_least::<Job>();
-    least_is_least::<Session>();
+    least_is_least::<SessionState>();
 }
+
+/// After a second has come, nothing is due to a session that waits: no job for it is ready, none that it has is due
+/// within a second, and its wait is not over.
+pub fn tick_owes_nothing()
+    ensures { (s : QueueState) (second : ℕ) → s.now < second →
+        OwesNothing (tick_effect second s).state }
+{}
+
+/// A kick tells the least of its bound and of how many jobs are there for it.
+pub fn kick_counts()
+    ensures { (s : QueueState) (x bound : ℕ) → HasRisingIds s →
+        (kick_row s x bound).reply
+        ≡ Some (Reply.KickedCount (min bound (length (kickable (used_by s x) s.jobs)))) }
+{}
+
+/// The list of all tubes has each of them once, in the order of their bytes, and no other name.
+pub fn tubes_are_listed_once()
+    ensures order { (s : QueueState) → IsStrictlySortedBy (slice_cmp nat_cmp) (all_tubes s) }
+    ensures exact { (s : QueueState) (tube : List ℕ) → In tube (all_tubes s) ↔ IsTube s tube }
+{}
+
+/// A new queue's state is sound, and stays so whatever it obeys.
+pub fn queue_stays_sound()
+    ensures fresh { IsSoundQueue fresh }
+    ensures effect { (c : Command Op) (s : QueueState) → IsSoundQueue s → IsSoundQueue (effect c s).state }
+{}

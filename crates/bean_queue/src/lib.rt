@@ -15,8 +15,11 @@ mod scan_jobs;
 mod waiting;
 
 pub use job_store::{Body, Job, Name, State};
-pub use laws::{one_answer, one_holder, serve_gives_the_best};
+pub use laws::{
+    kick_counts, one_answer, one_holder, queue_stays_sound, serve_gives_the_best,
+    tick_owes_nothing, tubes_are_listed_once,
+};
 pub use op::Op;
 pub use queue::{PlainQueue, Queue, QueueOver};
 pub use reply::Reply;
-pub use session_store::{Names, Session, Wait, WatchList};
+pub use session_store::{Names, SessionState, Wait, WatchList};

@@ -19,7 +19,7 @@ mod woken;
 use crate::counters::Counters;
 use crate::job_draft::JobDraft;
 use job_store::JobMap;
-use session_store::{Session, SessionDraft};
+use session_store::{SessionDraft, SessionState};
 use std::alloc::{AllocError, Global};
 use std::marker::Model;
 
@@ -97,7 +97,7 @@ impl<M: JobMap> Logic<M> {
     }
 
     /// A session that is there.
-    fn session(&self, number: u32) -> &Session
+    fn session(&self, number: u32) -> &SessionState
         requires { IsSome (value_at number self.now.now.sessions) }
         ensures { result.now ≡ session_of number self.now.now.sessions }
     {

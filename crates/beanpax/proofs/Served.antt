@@ -9,7 +9,7 @@ use Rattle.session.specs.declared.faults.End.{End}
 use Rattle.session.specs.declared.faults.ServiceFault.{ServiceFault}
 use Rattle.session.specs.declared.faults.SessionFault.{SessionFault}
 use Rattle.session.specs.declared.faults.SessionFault.TheVariants.{OutOfMemory, ReadFailed, WriteFailed, ServiceStopped}
-use Rattle.session.specs.Items.{Reads, ReadsFirst, operations, told}
+use Rattle.session.specs.Items.{Reads, ReadsFirst, operations, told_text}
 use Rattle.session.specs.Serving.{Whole, StopsAt, Partly, BreaksOff, Closes, ClosedAfter, ClosedOnce, Over}
 use Rattle.simulated_hall.specs.OneClient.{Talk, opened}
 use Rattle.beanpax.specs.Sessions.{queue}
@@ -29,7 +29,7 @@ told_begins_told input output end t =
     begins input output [] items [] end t.0 (subst (λ is. Reads input is end) (sym (append-nil items)) t.1.1) t.1.2 (append-nil output ∙ t.1.3)
 
 pub nothing_begins : ((text : List ℕ) → HasFront text) → (input : List ℕ) → BeginsTold input []
-nothing_begins front input = let r = reads_as_items front input in (r.0, r.1, [], told r.0 [], r.2, ([], operations r.0, refl, tt), refl)
+nothing_begins front input = let r = reads_as_items front input in (r.0, r.1, [], told_text r.0 [], r.2, ([], operations r.0, refl, tt), refl)
 
 pub stops_at : {S : Type 0} (stand : S → Talk QueueState → Type 0) (stopped : S → S → Op → Type 0) (old new : S) (input output : List ℕ) → ((text : List ℕ) → HasFront text) → stand old (opened queue) → StopsAt (AsksOf stand stopped) old new input output → BeginsTold input output
 stops_at stand stopped old new input output front stands s =
@@ -42,7 +42,7 @@ partly stand stopped old new input output front stands p =
     let r = are_answers stand stopped old new (operations items) p.2 (opened queue) p.6 stands in
     let l = told_begins p.0 p.1 p.2 [] in
     begins_first front input output l.0 items [] p.3 p.2 (subst (λ is. ReadsFirst input is p.3) (sym (append-nil items)) p.4) r
-    (ap (λ text. text ++ l.0) p.7 ∙ l.1 ∙ ap (λ xs. told items xs) (append-nil p.2))
+    (ap (λ text. text ++ l.0) p.7 ∙ l.1 ∙ ap (λ xs. told_text items xs) (append-nil p.2))
 
 pub breaks_off : {S : Type 0} (stand : S → Talk QueueState → Type 0) (stopped : S → S → Op → Type 0) (old new : S) (input output : List ℕ) → ((text : List ℕ) → HasFront text) → stand old (opened queue) → BreaksOff (AsksOf stand stopped) old new input output → BeginsTold input output
 breaks_off stand stopped old new input output front stands b =

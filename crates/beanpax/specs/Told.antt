@@ -2,7 +2,7 @@
 use Rattle.std.specs.Prelude.{◌≡◌, ℕ, List, ◌++◌}
 use Rattle.bean_codec.specs.Grammar.{Item}
 use Rattle.session.specs.declared.faults.End.{End}
-use Rattle.session.specs.Items.{Answer, Reads, operations, told}
+use Rattle.session.specs.Items.{Answer, Reads, operations, told_text}
 use Rattle.beanpax.specs.Sessions.{IsAnswered, IsAnsweredFirst}
 
 -- one queue answers so to the operations of the input, the output is what the client is told then, and the session ends so
@@ -11,7 +11,7 @@ IsToldWith answers input output end =
     (items : List Item) ×
     Reads input items end ×
     IsAnswered (operations items) answers ×
-    (output ≡ told items answers)
+    (output ≡ told_text items answers)
 
 -- whichever operations were refused
 abbrev pub IsTold : List ℕ → List ℕ → End → Type 0
@@ -23,4 +23,4 @@ BeginsTold input output =
     (items : List Item) × (end : End) × (answers : List Answer) × (more : List ℕ) ×
     Reads input items end ×
     IsAnsweredFirst (operations items) answers ×
-    (output ++ more ≡ told items answers)
+    (output ++ more ≡ told_text items answers)

@@ -17,8 +17,8 @@ use Rattle.bean_queue.specs.declared.op.Op.{Op}
 use Rattle.bean_queue.specs.declared.reply.Reply.{Reply}
 use Rattle.bean_queue.specs.declared.reply.Reply.TheVariants.{Using, Reserved, Found, Tubes}
 use Rattle.bean_queue.specs.declared.op.Op.TheVariants as op
-use Rattle.bean_codec.specs.declared.command.Command.{Command}
-use Rattle.bean_codec.specs.declared.command.Command.TheVariants as command
+use Rattle.bean_codec.specs.declared.command.CommandName.{CommandName}
+use Rattle.bean_codec.specs.declared.command.CommandName.TheVariants as command
 use Rattle.bean_codec.specs.declared.line.Meaning.{Meaning}
 use Rattle.bean_codec.specs.declared.line.Meaning.TheVariants.{Whole, WithBody}
 use Rattle.bean_codec.specs.declared.request.Request.TheVariants as request
@@ -207,7 +207,7 @@ unfolding put_line
 put_line_value (pri ∷ delay ∷ ttr ∷ size ∷ []) = numbers_value pri delay ttr size
 put_line_value _ = tt
 
-line_value : (c : Command) (words : List (List ℕ)) → IfSome (line_of c words) Means
+line_value : (c : CommandName) (words : List (List ℕ)) → IfSome (line_of c words) Means
 unfolding line_of reserve_line kick_line delete_line touch_line kick_job_line peek_line use_line watch_line ignore_line
 line_value command.Put words = put_line_value words
 line_value command.Use words = bind (one_name words) _ IsName Means (tube_value words) (λ n h. h)
@@ -235,7 +235,7 @@ act_in_value (Whole (request.Do op)) h = h
 act_in_value (Whole request.Quit) h = tt
 act_in_value (WithBody pri delay ttr size) h = tt
 
-with_value : (c : Option Command) (words : List (List ℕ)) → IfSome (act_with c words) IsActValue
+with_value : (c : Option CommandName) (words : List (List ℕ)) → IfSome (act_with c words) IsActValue
 unfolding act_with
 with_value None words = tt
 with_value (Some command.Put) words = put_value words

@@ -9,8 +9,8 @@ use Rattle.bean_queue.specs.declared.op.Op.{Op}
 use Rattle.bean_queue.specs.declared.op.Op.TheVariants.{Put}
 use Rattle.bean_queue.specs.declared.reply.Reply.{Reply}
 use Rattle.bean_queue.specs.declared.reply.Reply.TheVariants.{Inserted, Using, Watching, NotIgnored, Reserved, DeadlineSoon, TimedOut, Deleted, NotFound, Released, Buried, Touched, KickedCount, Kicked, Found, Tubes, InternalError}
-use Rattle.bean_codec.specs.declared.command.Command.{Command}
-use Rattle.bean_codec.specs.declared.command.Command.TheVariants as command
+use Rattle.bean_codec.specs.declared.command.CommandName.{CommandName}
+use Rattle.bean_codec.specs.declared.command.CommandName.TheVariants as command
 use Rattle.bean_codec.specs.declared.line.Meaning.{Meaning}
 use Rattle.bean_codec.specs.declared.line.Meaning.TheVariants.{Whole}
 use Rattle.bean_codec.specs.declared.request.Request.TheVariants as request
@@ -51,7 +51,7 @@ act_in (Whole (request.Do op)) = Some (Do op)
 act_in _ = None
 
 -- the act that the words after the command tell
-unfoldable pub act_with : Option Command → List (List ℕ) → Option (Act Op)
+unfoldable pub act_with : Option CommandName → List (List ℕ) → Option (Act Op)
 act_with None words = None
 act_with (Some command.Put) words = put_of words
 act_with (Some command) words = option_and_then act_in (line_of command words)

@@ -1,7 +1,7 @@
 ghost use Rattle.std.specs.Prelude.{◌≡◌, IfOk};
 ghost use Rattle.chronicle.specs.Told as told;
 
-use bean_codec::{Command, Meaning, Request, Words, command_of, line_of, u32_of};
+use bean_codec::{CommandName, Meaning, Request, Words, command_of, line_of, u32_of};
 use bean_queue::{Body, Op};
 use hex::FromHexError;
 use object::Act;
@@ -29,14 +29,14 @@ pub fn act_of(alloc: Global, mut words: Words<'_>) -> Result<Option<Act<Op>>, Al
 #[tactic(auto, unfolding(crate::specs::Told::act_with))]
 fn act_with(
     alloc: Global,
-    command: Option<Command>,
+    command: Option<CommandName>,
     words: Words<'_>,
 ) -> Result<Option<Act<Op>>, AllocError>
     ensures { IfOk result (λ act. act ≡ told.act_with command words.entry) }
 {
     match command {
         None => Ok(None),
-        Some(Command::Put) => put_of(alloc, words),
+        Some(CommandName::Put) => put_of(alloc, words),
         Some(command) => Ok(line_of(alloc, command, words)?.and_then(act_in)),
     }
 }

@@ -11,7 +11,7 @@ use Rattle.object.specs.Lists.{In}
 use Rattle.object.specs.Objects.{Rules}
 use Rattle.object.specs.Replays.{kept}
 use Rattle.ballot.specs.Members.{is_member}
-use Rattle.ballot.specs.declared.letter.Body.{Body}
+use Rattle.ballot.specs.declared.letter.LetterBody.{LetterBody}
 use Rattle.ballot.specs.declared.letter.Letter.{Letter}
 use Rattle.node.specs.Nodes.{NodeState}
 use Rattle.node.specs.Deeds.{acted, outcome_of, IsAble}
@@ -48,5 +48,5 @@ pub record HallLaws {O Op Reply : Type 0} (rules : Rules O Op Reply) : Type 0 wh
   pub able : (kept x : NodeState (Command Op)) (d : Deed Op) → ShowsNode kept x → IsAble x d → IsAble kept d
   pub turn : (members : List ℕ) (n : ℕ) (kept x : NodeState (Command Op)) (d : Deed Op) → ShowsNode kept x → IsSameTurn (acted rules members n kept d) (acted rules members n x d)
   pub outcome : (kept x : NodeState (Command Op)) (d : Deed Op) → ShowsNode kept x → outcome_of kept d ≡ outcome_of x d
-  pub fit : (kept x : NodeState (Command Op)) (body : Body (Command Op)) → ShowsNode kept x → IsFit x body → IsFit kept body
+  pub fit : (kept x : NodeState (Command Op)) (body : LetterBody (Command Op)) → ShowsNode kept x → IsFit x body → IsFit kept body
   pub cut : (xs ys : List (Answer Reply)) → CutsBefore answered_key xs ys

@@ -14,7 +14,7 @@ use Rattle.job_store.specs.States.{is_due, is_scheduled, due_of}
 use Rattle.job_store.specs.LookUps.{due_by, due_after, due_of_job, is_after}
 use Rattle.job_store.specs.Least.{IsLeast, NonePasses}
 use Rattle.job_store.specs.ShelfStates.{IsFrom, bare}
-use Rattle.job_store.specs.Shelves.{belongs, belongs_after, BelongsAt, shelf, places, HavePlaces, IsAhead, AreAhead, AreAheadOrListed, IsListed, AreKnown, HasTaken, HasSettled, HasGrown, HasCome, HasFollowed, IsKept}
+use Rattle.job_store.specs.Shelves.{belongs, belongs_after, BelongsAt, shelf, places, HavePlaces, IsAhead, AreAhead, AreAheadOrListed, IsListed, AreKnown, HasTaken, HasSettled, HasGrown, HasCome, HasFollowed, ShelvesMatch}
 use Rattle.job_store.proofs.Entries.{without-absent}
 use Rattle.job_store.proofs.Shelving.{placed-settled, known-settled, ahead-settled}
 use Rattle.job_store.proofs.Members.{altered-new, altered-old, inserted-new, inserted-old, value-here, value-is, without-was, without-others}
@@ -81,7 +81,7 @@ known-step s t jobs new known grown followed label p i =
     ]
 
 -- A change in a trial
-pub kept-step : (s t : Shelves) (a b : MapState) (before : List (ℕ × Job)) → IsKept s a → a.before ≡ Some before → b.before ≡ a.before → HasGrown s t → HasFollowed t a.jobs b.jobs → Rising 0 (2 ^ 64) b.jobs → IsKept t b
+pub kept-step : (s t : Shelves) (a b : MapState) (before : List (ℕ × Job)) → ShelvesMatch s a → a.before ≡ Some before → b.before ≡ a.before → HasGrown s t → HasFollowed t a.jobs b.jobs → Rising 0 (2 ^ 64) b.jobs → ShelvesMatch t b
 kept-step s t a b before kept is same grown followed r =
     let placed : HavePlaces s before = subst (λ o. IfSome o (HavePlaces s)) is kept.placed_before in
     let came : (e : ℕ × Job) → In e a.jobs → In e before ⊎ IsListed s e = subst (λ o. IfSome o (λ before. (e : ℕ × Job) → In e a.jobs → In e before ⊎ IsListed s e)) is kept.came in
@@ -104,7 +104,7 @@ kept-step s t a b before kept is same grown followed r =
     }
 
 -- Look-ups begin later
-pub kept-settled : (s t : Shelves) (a : MapState) (before : List (ℕ × Job)) → IsKept s a → a.before ≡ Some before → HasSettled s t a.jobs → IsKept t a
+pub kept-settled : (s t : Shelves) (a : MapState) (before : List (ℕ × Job)) → ShelvesMatch s a → a.before ≡ Some before → HasSettled s t a.jobs → ShelvesMatch t a
 kept-settled s t a before kept is settled =
     let placed : HavePlaces s before = subst (λ o. IfSome o (HavePlaces s)) is kept.placed_before in
     record {
@@ -119,7 +119,7 @@ kept-settled s t a before kept is settled =
     }
 
 -- Outside a trial, where none is listed
-pub kept-swept : (s : Shelves) (b : MapState) → b.before ≡ None → Rising 0 (2 ^ 64) b.jobs → HavePlaces s b.jobs → AreAhead s b.jobs → AreKnown s b.jobs → s.listed.items ≡ [] → IsKept s b
+pub kept-swept : (s : Shelves) (b : MapState) → b.before ≡ None → Rising 0 (2 ^ 64) b.jobs → HavePlaces s b.jobs → AreAhead s b.jobs → AreKnown s b.jobs → s.listed.items ≡ [] → ShelvesMatch s b
 kept-swept s b none r placed ahead known listed = record {
   rising = r;
   placed = placed;
@@ -133,16 +133,16 @@ kept-swept s b none r placed ahead known listed = record {
 
 -- A trial whose changes are taken back
 
-pub placed-before : (s : Shelves) (a : MapState) (before : List (ℕ × Job)) → IsKept s a → a.before ≡ Some before → HavePlaces s before
+pub placed-before : (s : Shelves) (a : MapState) (before : List (ℕ × Job)) → ShelvesMatch s a → a.before ≡ Some before → HavePlaces s before
 placed-before s a before kept is = subst (λ o. IfSome o (HavePlaces s)) is kept.placed_before
 
-pub known-before : (s : Shelves) (a : MapState) (before : List (ℕ × Job)) → IsKept s a → a.before ≡ Some before → AreKnown s before
+pub known-before : (s : Shelves) (a : MapState) (before : List (ℕ × Job)) → ShelvesMatch s a → a.before ≡ Some before → AreKnown s before
 known-before s a before kept is label p i =
     let came : (e : ℕ × Job) → In e a.jobs → In e before ⊎ IsListed s e = subst (λ o. IfSome o (λ before. (e : ℕ × Job) → In e a.jobs → In e before ⊎ IsListed s e)) is kept.came in
     let w = kept.known label p i in
     (w.0, w.1, elim w.2 as (λ v. In w.0 before ⊎ IsListed s w.0) [ inl job ↦ came w.0 job | inr l ↦ inr l ])
 
-pub ahead-before : (s : Shelves) (a : MapState) (before : List (ℕ × Job)) → IsKept s a → a.before ≡ Some before → AreAheadOrListed s before
+pub ahead-before : (s : Shelves) (a : MapState) (before : List (ℕ × Job)) → ShelvesMatch s a → a.before ≡ Some before → AreAheadOrListed s before
 ahead-before s a before kept is e i =
     let went : (e : ℕ × Job) → In e before → In e a.jobs ⊎ IsListed s e = subst (λ o. IfSome o (λ before. (e : ℕ × Job) → In e before → In e a.jobs ⊎ IsListed s e)) is kept.went in
     elim (went e i) as (λ v. IsAhead s e ⊎ IsListed s e) [ inl job ↦ inl (kept.ahead e job) | inr l ↦ inr l ]
@@ -158,9 +158,9 @@ none-is None f = refl
 none-is (Some x) f = cc
 
 -- A change, and the shelves after it
-pub kept-followed : (s t u : Shelves) (a b : MapState) → IsKept s a → b.before ≡ a.before → HasGrown s t → HasFollowed t a.jobs b.jobs → Rising 0 (2 ^ 64) b.jobs → (is_some b.before ≡ true → HasSettled t u b.jobs) → (is_some b.before ≡ false → u.listed.items ≡ []) → HavePlaces u b.jobs → AreAhead u b.jobs → AreKnown u b.jobs → IsKept u b
+pub kept-followed : (s t u : Shelves) (a b : MapState) → ShelvesMatch s a → b.before ≡ a.before → HasGrown s t → HasFollowed t a.jobs b.jobs → Rising 0 (2 ^ 64) b.jobs → (is_some b.before ≡ true → HasSettled t u b.jobs) → (is_some b.before ≡ false → u.listed.items ≡ []) → HavePlaces u b.jobs → AreAhead u b.jobs → AreKnown u b.jobs → ShelvesMatch u b
 kept-followed s t u a b kept same grown followed r settled swept placed ahead known =
-    elim (is_some b.before) as (λ v. is_some b.before ≡ v → IsKept u b) [
+    elim (is_some b.before) as (λ v. is_some b.before ≡ v → ShelvesMatch u b) [
       | true ↦ λ e.
           let w = some-is b.before e in
           kept-settled t u b w.0 (kept-step s t a b w.0 kept (sym same ∙ w.1) same grown followed r) w.1 (settled e)
@@ -169,11 +169,11 @@ kept-followed s t u a b kept same grown followed r settled swept placed ahead kn
 
 -- At the end of a trial, or its beginning, the jobs are as they were
 
-pub kept-ended : (s : Shelves) (a b : MapState) → b.jobs ≡ a.jobs → b.before ≡ None → Rising 0 (2 ^ 64) a.jobs → HavePlaces s a.jobs → AreAhead s a.jobs → AreKnown s a.jobs → s.listed.items ≡ [] → IsKept s b
+pub kept-ended : (s : Shelves) (a b : MapState) → b.jobs ≡ a.jobs → b.before ≡ None → Rising 0 (2 ^ 64) a.jobs → HavePlaces s a.jobs → AreAhead s a.jobs → AreKnown s a.jobs → s.listed.items ≡ [] → ShelvesMatch s b
 kept-ended s a b same none r placed ahead known listed =
     kept-swept s b none (subst (Rising 0 (2 ^ 64)) (sym same) r) (subst (HavePlaces s) (sym same) placed) (subst (AreAhead s) (sym same) ahead) (subst (AreKnown s) (sym same) known) listed
 
-pub kept-begun : (s : Shelves) (a b : MapState) → b.jobs ≡ a.jobs → b.before ≡ Some a.jobs → Rising 0 (2 ^ 64) a.jobs → HavePlaces s a.jobs → AreAhead s a.jobs → AreKnown s a.jobs → IsKept s b
+pub kept-begun : (s : Shelves) (a b : MapState) → b.jobs ≡ a.jobs → b.before ≡ Some a.jobs → Rising 0 (2 ^ 64) a.jobs → HavePlaces s a.jobs → AreAhead s a.jobs → AreKnown s a.jobs → ShelvesMatch s b
 kept-begun s a b same some r placed ahead known = record {
   rising = subst (Rising 0 (2 ^ 64)) (sym same) r;
   placed = subst (HavePlaces s) (sym same) placed;
@@ -185,17 +185,17 @@ kept-begun s a b same some r placed ahead known = record {
   none_listed = subst (λ o. IfNone o (s.listed.items ≡ [])) (sym some) tt;
 }
 
-pub kept-none : (s : Shelves) (b : MapState) → b.jobs ≡ [] → b.before ≡ None → ((l : Label) → shelf s l ≡ bare) → s.listed.items ≡ [] → IsKept s b
+pub kept-none : (s : Shelves) (b : MapState) → b.jobs ≡ [] → b.before ≡ None → ((l : Label) → shelf s l ≡ bare) → s.listed.items ≡ [] → ShelvesMatch s b
 kept-none s b no-jobs none empty listed =
     kept-swept s b none (subst (Rising 0 (2 ^ 64)) (sym no-jobs) (omega arith)) (subst (HavePlaces s) (sym no-jobs) (λ e i. absurd i)) (subst (AreAhead s) (sym no-jobs) (λ e i. absurd i))
     (λ l p i. absurd (subst (λ x. In p x.places) (empty l) i)) listed
 
 -- A job that is removed
 
-none-listed : (s : Shelves) (a : MapState) → IsKept s a → a.before ≡ None → s.listed.items ≡ []
+none-listed : (s : Shelves) (a : MapState) → ShelvesMatch s a → a.before ≡ None → s.listed.items ≡ []
 none-listed s a kept none = subst (λ o. IfNone o (s.listed.items ≡ [])) none kept.none_listed
 
-pub kept-removed : (s t : Shelves) (a b : MapState) (id : ℕ) (job : Job) → IsKept s a → a.before ≡ None → b.before ≡ None → Rising 0 (2 ^ 64) b.jobs → b.jobs ≡ without id a.jobs → value_at id a.jobs ≡ Some job → HasTaken s t b.jobs → ((l : Label) (p : ℕ × ℕ) → In p (places t l) → BelongsAt l p (id, job) → (e : ℕ × Job) × BelongsAt l p e × In e b.jobs) → IsKept t b
+pub kept-removed : (s t : Shelves) (a b : MapState) (id : ℕ) (job : Job) → ShelvesMatch s a → a.before ≡ None → b.before ≡ None → Rising 0 (2 ^ 64) b.jobs → b.jobs ≡ without id a.jobs → value_at id a.jobs ≡ Some job → HasTaken s t b.jobs → ((l : Label) (p : ℕ × ℕ) → In p (places t l) → BelongsAt l p (id, job) → (e : ℕ × Job) × BelongsAt l p e × In e b.jobs) → ShelvesMatch t b
 kept-removed s t a b id job kept none ended r is there taken gone =
     let empty : s.listed.items ≡ [] = none-listed s a kept none in
     kept-swept t b ended r
@@ -214,7 +214,7 @@ kept-removed s t a b id job kept none ended r is there taken gone =
     ])
     (taken.lists ∙ empty)
 
-pub kept-absent : (s : Shelves) (a b : MapState) (id : ℕ) → IsKept s a → a.before ≡ None → b.before ≡ None → b.jobs ≡ without id a.jobs → value_at id a.jobs ≡ None → IsKept s b
+pub kept-absent : (s : Shelves) (a b : MapState) (id : ℕ) → ShelvesMatch s a → a.before ≡ None → b.before ≡ None → b.jobs ≡ without id a.jobs → value_at id a.jobs ≡ None → ShelvesMatch s b
 kept-absent s a b id kept none ended is absent =
     kept-ended s a b (is ∙ without-absent id a.jobs absent) ended kept.rising kept.placed kept.ahead kept.known (none-listed s a kept none)
 

@@ -13,7 +13,7 @@ use Rattle.job_store.specs.LookUps.{is_among, ready_in, pri_of_job, AreReadyPlac
 use Rattle.job_store.specs.Least.{first_of, IsLeast, NonePasses, least}
 use Rattle.job_store.specs.Undone.{MapState}
 use Rattle.job_store.specs.ShelfStates.{place_of}
-use Rattle.job_store.specs.Shelves.{places, IsKept}
+use Rattle.job_store.specs.Shelves.{places, ShelvesMatch}
 use Rattle.job_store.proofs.Least.{IsAnswer, answer, answer-either, among-member}
 use Rattle.job_store.proofs.Shelving.{in-front, in-last, in-push}
 
@@ -99,7 +99,7 @@ same-places : (keys : List (ℕ × ℕ)) → map (place_of (λ n. n)) keys ≡ k
 same-places [] = refl
 same-places (p ∷ ps) = ap (λ qs. p ∷ qs) (same-places ps)
 
-module _ (s : Shelves) (state : MapState) (tube : Bor Name) (kept : IsKept s state) (none : state.before ≡ None) where
+module _ (s : Shelves) (state : MapState) (tube : Bor Name) (kept : ShelvesMatch s state) (none : state.before ≡ None) where
   ready-places : (keys : List (ℕ × ℕ)) → map (place_of (λ n. n)) keys ≡ places s (Label.Ready tube) → AreReadyPlaces keys tube.now state.jobs
   ready-places keys same p = (
     λ i.

@@ -136,7 +136,7 @@ pub record HasFollowed (s : Shelves) (old new : List (ℕ × Job)) : Type 0 wher
 
 -- The jobs have their places, and look-ups find them there. The jobs before the trial have theirs too. At each place
 -- belongs one of the jobs or a listed one. What came or went in the trial is listed, and outside a trial nothing is.
-pub record IsKept (s : Shelves) (state : MapState) : Type 0 where
+pub record ShelvesMatch (s : Shelves) (state : MapState) : Type 0 where
   pub rising : Rising 0 (2 ^ 64) state.jobs
   pub placed : HavePlaces s state.jobs
   pub ahead : AreAhead s state.jobs

@@ -27,17 +27,17 @@ pub struct Jobs {
 
 impl Model for Jobs {
     ghost use Rattle.job_store.specs.Undone.{MapState};
-    ghost use Rattle.job_store.specs.Shelves.{IsKept};
+    ghost use Rattle.job_store.specs.Shelves.{ShelvesMatch};
 
     ghost Value = { MapState };
 
     ghost view = { λ m. m.jobs };
 
-    ghost invariant = { λ m. IsKept m.shelves m.jobs };
+    ghost invariant = { λ m. ShelvesMatch m.shelves m.jobs };
 }
 
 /// Of two jobs that there may be, that of the least (priority, id).
-fn more_urgent<'a>(
+pub fn more_urgent<'a>(
     one: Option<(u64, &'a Job)>,
     other: Option<(u64, &'a Job)>,
 ) -> Option<(u64, &'a Job)>

@@ -24,7 +24,7 @@ mod undo;
 pub use body::Body;
 pub use job::Job;
 pub use job_map::JobMap;
-pub use jobs::Jobs;
+pub use jobs::{Jobs, more_urgent};
 pub use laws::{among_is_member, least_is_least};
 pub use logged_jobs::LoggedJobs;
 pub use name::Name;

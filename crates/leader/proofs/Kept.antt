@@ -9,7 +9,7 @@ use Rattle.scout_commander.specs.Commanders.{Commanding, new_commander}
 use Rattle.ballot.specs.Slots.{Slots}
 use Rattle.ballot.proofs.SlotMaps.{insert_cases, kept_by_remove}
 use Rattle.ballot.proofs.Turns.{made, find_made}
-use Rattle.leader.specs.Leaders.{Leading, IsKept, IsCommanderOf, pvalue}
+use Rattle.leader.specs.Leaders.{Leading, IsLeaderOf, IsCommanderOf, pvalue}
 use Rattle.leader.specs.Adoptions.{commanders_for}
 
 pub not_none : {X P : Type 0} (o : Option X) (x : X) → o ≡ None → o ≡ Some x → P
@@ -18,7 +18,7 @@ not_none o x e f = absurd (cc)
 pub nothing_in_empty : {X P : Type 0} (m : Slots X) (s : ℕ) (x : X) → m ≡ empty → get m s ≡ Some x → P
 nothing_in_empty {X = X} m s x e f = not_none (get m s) x (ap (λ (n : Slots X). get n s) e ∙ get-empty nat_cmp s) f
 
-pub kept_new : {C : Type 0} (members : List ℕ) (node boot : ℕ) (ballot : Numbers) (proposals : Slots C) (commanders : Slots (Commanding C)) → is_member members node ≡ true → boot ≤ 2 ^ 62 → ballot.node ≡ node → ballot.boot ≡ boot → commanders ≡ empty → IsKept {C = C} node boot (record { members = members; ballot = ballot; active = false; proposals = proposals; scout = None; commanders = commanders })
+pub kept_new : {C : Type 0} (members : List ℕ) (node boot : ℕ) (ballot : Numbers) (proposals : Slots C) (commanders : Slots (Commanding C)) → is_member members node ≡ true → boot ≤ 2 ^ 62 → ballot.node ≡ node → ballot.boot ≡ boot → commanders ≡ empty → IsLeaderOf {C = C} node boot (record { members = members; ballot = ballot; active = false; proposals = proposals; scout = None; commanders = commanders })
 kept_new {C = C} members node boot ballot proposals commanders member within same_node same_boot none = record {
   same_node = same_node;
   same_boot = same_boot;
@@ -31,7 +31,7 @@ kept_new {C = C} members node boot ballot proposals commanders member within sam
 }
 
 -- the scout and the members stay, and each commander is of the leader's ballot
-pub kept_commanders : {C : Type 0} (node boot : ℕ) (l : Leading C) (active : Bool) (proposals : Slots C) (commanders : Slots (Commanding C)) → IsKept node boot l → ((s : ℕ) (c : Commanding C) → get commanders s ≡ Some c → IsCommanderOf l s c) → IsKept node boot (record l { active = active; proposals = proposals; commanders = commanders })
+pub kept_commanders : {C : Type 0} (node boot : ℕ) (l : Leading C) (active : Bool) (proposals : Slots C) (commanders : Slots (Commanding C)) → IsLeaderOf node boot l → ((s : ℕ) (c : Commanding C) → get commanders s ≡ Some c → IsCommanderOf l s c) → IsLeaderOf node boot (record l { active = active; proposals = proposals; commanders = commanders })
 kept_commanders node boot l active proposals commanders k of = record {
   same_node = k.same_node;
   same_boot = k.same_boot;
@@ -44,7 +44,7 @@ kept_commanders node boot l active proposals commanders k of = record {
 }
 
 -- one commander more
-pub kept_insert : {C : Type 0} (node boot : ℕ) (l : Leading C) (proposals : Slots C) (commanders : Slots (Commanding C)) (s : ℕ) (c : Commanding C) → IsKept node boot l → commanders ≡ insert l.commanders s c → IsCommanderOf l s c → IsKept node boot (record l { proposals = proposals; commanders = commanders })
+pub kept_insert : {C : Type 0} (node boot : ℕ) (l : Leading C) (proposals : Slots C) (commanders : Slots (Commanding C)) (s : ℕ) (c : Commanding C) → IsLeaderOf node boot l → commanders ≡ insert l.commanders s c → IsCommanderOf l s c → IsLeaderOf node boot (record l { proposals = proposals; commanders = commanders })
 kept_insert {C} node boot l proposals commanders s c k e of =
     kept_commanders node boot l l.active proposals commanders k
     (λ q d there.
@@ -56,13 +56,13 @@ kept_insert {C} node boot l proposals commanders s c k e of =
     (insert_cases l.commanders s c q))
 
 -- one commander less
-pub kept_remove : {C : Type 0} (node boot : ℕ) (l : Leading C) (commanders : Slots (Commanding C)) (s : ℕ) → IsKept node boot l → commanders ≡ remove l.commanders s → IsKept node boot (record l { commanders = commanders })
+pub kept_remove : {C : Type 0} (node boot : ℕ) (l : Leading C) (commanders : Slots (Commanding C)) (s : ℕ) → IsLeaderOf node boot l → commanders ≡ remove l.commanders s → IsLeaderOf node boot (record l { commanders = commanders })
 kept_remove {C} node boot l commanders s k e =
     kept_commanders node boot l l.active l.proposals commanders k
     (λ q d there. k.leader.commanders q d (kept_by_remove l.commanders s q d (ap (λ (m : Slots (Commanding C)). get m q) (sym e) ∙ there)))
 
 -- adopted, with a commander for each proposal
-pub kept_adopted : {C : Type 0} (node boot : ℕ) (l : Leading C) (proposals : Slots C) (commanders : Slots (Commanding C)) → IsKept node boot l → commanders ≡ commanders_for l proposals → IsKept node boot (record l { active = true; proposals = proposals; scout = None; commanders = commanders })
+pub kept_adopted : {C : Type 0} (node boot : ℕ) (l : Leading C) (proposals : Slots C) (commanders : Slots (Commanding C)) → IsLeaderOf node boot l → commanders ≡ commanders_for l proposals → IsLeaderOf node boot (record l { active = true; proposals = proposals; scout = None; commanders = commanders })
 kept_adopted {C} node boot l proposals commanders k e = record {
   same_node = k.same_node;
   same_boot = k.same_boot;

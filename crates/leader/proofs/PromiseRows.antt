@@ -15,7 +15,7 @@ use Rattle.scout_commander.specs.declared.scout.Heard.TheVariants.{Wait, Adopted
 use Rattle.ballot.specs.Slots.{Slots}
 use Rattle.scout_commander.proofs.Fresh.{some_fresh}
 use Rattle.scout_commander.proofs.Members.{in_cases, in_left, in_right}
-use Rattle.leader.specs.Leaders.{Leading, Done, IsKept, IsLeader, IsScoutOf, Sends, preempted, silently}
+use Rattle.leader.specs.Leaders.{Leading, Done, IsLeaderOf, IsLeader, IsScoutOf, Sends, preempted, silently}
 use Rattle.leader.specs.Adoptions.{IsGreatest, IsOpen, TakesGreatest, adopted}
 use Rattle.leader.specs.Promises.{on_p1b, at_scout, at_heard, AllowsAt, MayTake, HearsP1b}
 use Rattle.leader.proofs.Kept.{not_none}
@@ -38,7 +38,7 @@ same_scout {C} l s m b report of =
     (either P (is_below s.ballot b) (unmoved s (Preempted b)) (unmoved s Wait) of of)) of
 
 -- a leader whose scout has heard more
-pub kept_scout : {C : Type 0} (node boot : ℕ) (l : Leading C) (s : Scouting C) → IsKept node boot l → IsScoutOf l s → IsKept node boot (record l { scout = Some s })
+pub kept_scout : {C : Type 0} (node boot : ℕ) (l : Leading C) (s : Scouting C) → IsLeaderOf node boot l → IsScoutOf l s → IsLeaderOf node boot (record l { scout = Some s })
 kept_scout {C} node boot l s k of = record {
   same_node = k.same_node;
   same_boot = k.same_boot;

@@ -4,8 +4,8 @@ use Rattle.std.specs.FinMap.{get, entries}
 use Rattle.object.specs.Lists.{In}
 use Rattle.ballot.specs.Ballots.{is_below}
 use Rattle.ballot.specs.declared.pvalue.Pvalue.{Pvalue}
-use Rattle.ballot.specs.declared.letter.Body.{Body}
-use Rattle.ballot.specs.declared.letter.Body.TheVariants.{P2a}
+use Rattle.ballot.specs.declared.letter.LetterBody.{LetterBody}
+use Rattle.ballot.specs.declared.letter.LetterBody.TheVariants.{P2a}
 use Rattle.scout_commander.specs.Commanders.{Commanding, new_commander}
 use Rattle.ballot.specs.Slots.{Slots, each_value}
 use Rattle.leader.specs.Leaders.{Leading, Done, pvalue}
@@ -33,12 +33,12 @@ abbrev pub commanders_for : {C : Type 0} → Leading C → Slots C → Slots (Co
 commanders_for l proposals = each_value (λ s c. new_commander l.members (pvalue l.ballot s c)) proposals
 
 -- what they say
-abbrev pub asks_for : {C : Type 0} → Leading C → Slots C → List (Body C)
-asks_for l proposals = map (λ e. P2a (pvalue l.ballot e.0 e.1)) (entries proposals)
+abbrev pub asks_acceptors : {C : Type 0} → Leading C → Slots C → List (LetterBody C)
+asks_acceptors l proposals = map (λ e. P2a (pvalue l.ballot e.0 e.1)) (entries proposals)
 
 -- Adopted: active with these proposals, and a commander for each
 abbrev pub adopted : {C : Type 0} → Leading C → Slots C → Done (Leading C) C
 adopted l proposals = record {
   state = record l { active = true; proposals = proposals; scout = None; commanders = commanders_for l proposals };
-  says = asks_for l proposals;
+  says = asks_acceptors l proposals;
 }

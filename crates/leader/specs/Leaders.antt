@@ -7,8 +7,8 @@ use Rattle.ballot.specs.Members.{is_member}
 use Rattle.ballot.specs.declared.pvalue.Pvalue.{Pvalue}
 use Rattle.ballot.specs.Letters.{all_to_all}
 use Rattle.ballot.specs.declared.letter.Letter.{Letter}
-use Rattle.ballot.specs.declared.letter.Body.{Body}
-use Rattle.ballot.specs.declared.letter.Body.TheVariants.{P1a, P2a}
+use Rattle.ballot.specs.declared.letter.LetterBody.{LetterBody}
+use Rattle.ballot.specs.declared.letter.LetterBody.TheVariants.{P1a, P2a}
 use Rattle.scout_commander.specs.Scouts.{Scouting, IsPreempting, new_scout}
 use Rattle.scout_commander.specs.Commanders.{Commanding, new_commander}
 use Rattle.ballot.specs.Slots.{Slots}
@@ -52,7 +52,7 @@ pub record IsLeader {C : Type 0} (l : Leading C) : Type 0 where
   pub commanders : (slot : ℕ) (c : Commanding C) → get l.commanders slot ≡ Some c → IsCommanderOf l slot c
 
 -- a leader that keeps the node and the boot of its ballot beside it
-pub record IsKept {C : Type 0} (node boot : ℕ) (l : Leading C) : Type 0 where
+pub record IsLeaderOf {C : Type 0} (node boot : ℕ) (l : Leading C) : Type 0 where
   pub same_node : l.ballot.node ≡ node
   pub same_boot : l.ballot.boot ≡ boot
   pub leader : IsLeader l
@@ -60,7 +60,7 @@ pub record IsKept {C : Type 0} (node boot : ℕ) (l : Leading C) : Type 0 where
 -- what a part of a node becomes, and what it says to all members
 pub record Done (S C : Type 0) : Type 0 where
   pub state : S
-  pub says : List (Body C)
+  pub says : List (LetterBody C)
 
 -- nothing is said
 abbrev pub silently : {S C : Type 0} → S → Done S C
@@ -80,8 +80,8 @@ commands l s c =
     }
 
 -- a command is proposed for a slot: it is kept where there is none, and an active leader has it accepted
-abbrev pub proposed : {C : Type 0} → Leading C → ℕ → C → Done (Leading C) C
-proposed l s c =
+abbrev pub on_propose : {C : Type 0} → Leading C → ℕ → C → Done (Leading C) C
+on_propose l s c =
     if contains_key l.proposals s
     then silently l
     else (if l.active then commands l s c else silently (record l { proposals = insert l.proposals s c }))
@@ -102,16 +102,16 @@ woken l =
     else silently l
 
 -- what a scout waits for, if there is one
-abbrev pub scout_says : {C : Type 0} → Option (Scouting C) → List (Body C)
+abbrev pub scout_says : {C : Type 0} → Option (Scouting C) → List (LetterBody C)
 scout_says None = []
 scout_says (Some s) = P1a s.ballot ∷ []
 
 -- Nudge: what the scout and the commanders wait for, said again
-abbrev pub says_again : {C : Type 0} → Leading C → List (Body C)
+abbrev pub says_again : {C : Type 0} → Leading C → List (LetterBody C)
 says_again l = scout_says l.scout ++ map (λ e. P2a e.1.pvalue) (entries l.commanders)
 
 -- what the leader says goes to all members, in letters after those that are there
-abbrev pub Sends : {C : Type 0} → Leading C → List (Body C) → List (Letter C) → List (Letter C) → Type 0
+abbrev pub Sends : {C : Type 0} → Leading C → List (LetterBody C) → List (Letter C) → List (Letter C) → Type 0
 Sends l says before after = after ≡ before ++ all_to_all l.members l.ballot.node says
 
 -- the leader is preempted by this ballot of m, and no round comes after it

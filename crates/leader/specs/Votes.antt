@@ -2,7 +2,7 @@
 use Rattle.std.specs.Prelude.{ℕ, Bool, not, ◌&&◌, [], ◌∷◌, if◌then◌else◌, Option, None, Some}
 use Rattle.std.specs.FinMap.{get, insert, remove}
 use Rattle.ballot.specs.Ballots.{Numbers, is_same, is_promise}
-use Rattle.ballot.specs.declared.letter.Body.TheVariants.{Decision}
+use Rattle.ballot.specs.declared.letter.LetterBody.TheVariants.{Decision}
 use Rattle.scout_commander.specs.Commanders.{Commanding}
 use Rattle.scout_commander.specs.Commanders as commanders
 use Rattle.scout_commander.specs.declared.commander.Voted.{Voted}

@@ -3,7 +3,7 @@ ghost use Rattle.std.specs.FinMap as slots;
 ghost use Rattle.ballot.specs.Letters.{to_all};
 ghost use Rattle.scout_commander.specs.Commanders.{new_commander, on_p2b as voting};
 
-use ballot::{Ballot, Body, Letter, Members, Pvalue, Slot, SlotMap, send_to_all};
+use ballot::{Ballot, Letter, LetterBody, Members, Pvalue, Slot, SlotMap, send_to_all};
 use object::Value;
 use scout_commander::Commander;
 use std::alloc::AllocError;
@@ -16,10 +16,10 @@ pub(crate) fn send_p2a<C: Value>(
     out: &mut Vec<Letter<C>>,
 ) -> Result<(), AllocError>
     ensures ok { OnOk result (out.new.items ≡ out.old.items
-        ++ to_all members from (Body.P2a pvalue.now)) }
+        ++ to_all members from (LetterBody.P2a pvalue.now)) }
     ensures err { OnErr result (out.new.items ≡ out.old.items) }
 {
-    send_to_all(members, from, Body::P2a(pvalue.copy()?), out)
+    send_to_all(members, from, LetterBody::P2a(pvalue.copy()?), out)
 }
 
 /// Starts a commander of the pvalue, which asks all members to accept it. For want of memory nothing is done.
@@ -33,7 +33,7 @@ pub(crate) fn start_commander<C: Value>(
     ensures commander { OnOk result (commanders.new
         ≡ slots.insert commanders.old pvalue.slot (new_commander members pvalue)) }
     ensures out { OnOk result (out.new.items ≡ out.old.items
-        ++ to_all members from (Body.P2a pvalue)) }
+        ++ to_all members from (LetterBody.P2a pvalue)) }
     ensures err { OnErr result ((commanders.new ≡ commanders.old)
         × (out.new.items ≡ out.old.items)) }
 {
@@ -56,10 +56,15 @@ pub(crate) fn send_decision<C: Value>(
     out: &mut Vec<Letter<C>>,
 ) -> Result<(), AllocError>
     ensures ok { OnOk result (out.new.items ≡ out.old.items
-        ++ to_all members from (Body.Decision slot command.now)) }
+        ++ to_all members from (LetterBody.Decision slot command.now)) }
     ensures err { OnErr result (out.new.items ≡ out.old.items) }
 {
-    send_to_all(members, from, Body::Decision(slot, command.copy()?), out)
+    send_to_all(
+        members,
+        from,
+        LetterBody::Decision(slot, command.copy()?),
+        out,
+    )
 }
 
 /// The slot's commander, if it has one, hears a P2b.

@@ -11,7 +11,7 @@ mod votes;
 
 use crate::commanding::send_p2a;
 use crate::error::LeaderError;
-use ballot::{Ballot, Body, Letter, Members, Slot, SlotMap, SlotRow, send_to_all};
+use ballot::{Ballot, Letter, LetterBody, Members, Slot, SlotMap, SlotRow, send_to_all};
 use object::Value;
 use scout_commander::{Commander, Scout};
 use std::alloc::{AllocError, Global};
@@ -34,7 +34,7 @@ pub struct Leader<C: Value> {
 impl<C: Value> Model for Leader<C> {
     ghost use Rattle.ballot.specs.Slots.{slots_code};
     ghost use Rattle.std.specs.Coded.{codes};
-    ghost use Rattle.leader.specs.Leaders.{Leading, IsKept};
+    ghost use Rattle.leader.specs.Leaders.{Leading, IsLeaderOf};
 
     ghost Value = { Leading C };
 
@@ -42,7 +42,7 @@ impl<C: Value> Model for Leader<C> {
 
     ghost view = { λ l. record { members = l.members; ballot = l.ballot; active = l.active; proposals = l.proposals; scout = l.scout; commanders = l.commanders } };
 
-    ghost invariant = { λ l. IsKept l.node l.boot (record { members = l.members; ballot = l.ballot; active = l.active; proposals = l.proposals; scout = l.scout; commanders = l.commanders }) };
+    ghost invariant = { λ l. IsLeaderOf l.node l.boot (record { members = l.members; ballot = l.ballot; active = l.active; proposals = l.proposals; scout = l.scout; commanders = l.commanders }) };
 }
 
 impl<C: Value> Leader<C> {
@@ -124,7 +124,7 @@ impl<C: Value> Leader<C> {
         if self.active || self.scout.is_some() {
             return Ok(());
         }
-        send_to_all(self.members, self.node, Body::P1a(self.ballot), out)?;
+        send_to_all(self.members, self.node, LetterBody::P1a(self.ballot), out)?;
         self.scout = Some(Scout::new(self.alloc, self.members, self.ballot));
         Ok(())
     }
@@ -169,6 +169,6 @@ impl<C: Value> Leader<C> {
         if self.scout.is_none() {
             return Ok(());
         }
-        send_to_all(self.members, self.node, Body::P1a(self.ballot), out)
+        send_to_all(self.members, self.node, LetterBody::P1a(self.ballot), out)
     }
 }

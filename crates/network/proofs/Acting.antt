@@ -8,7 +8,7 @@ use Rattle.ballot.specs.Members.{is_member}
 use Rattle.leader.specs.Leaders.{woken}
 use Rattle.slot_log.specs.Proposals.{next_proposal}
 use Rattle.slot_log.specs.Decisions.{next_decided}
-use Rattle.replica.specs.Replicas.{asks_for}
+use Rattle.replica.specs.Replicas.{proposes_first}
 use Rattle.node.specs.Nodes.{NodeState, IsSeated}
 use Rattle.node.specs.Deeds.{Turn, acted, own_turn, performing, IsAble, ComesToNothing}
 use Rattle.node.specs.declared.deed.Deed.{Deed}
@@ -27,7 +27,7 @@ acted_between : {O Op Reply : Type 0} (rules : Rules O Op Reply) (members : List
 acted_between rules members n x member (deeds.Request c) = none_between (length members)
 acted_between rules members n x member deeds.Wake = all_between members n (woken x.leader).says (length members) refl member
 acted_between rules members n x member deeds.Nudge = again_between members n x (length members) refl member
-acted_between rules members n x member deeds.Propose = all_between members n (asks_for (next_proposal x.replica)) (length members) refl member
+acted_between rules members n x member deeds.Propose = all_between members n (proposes_first (next_proposal x.replica)) (length members) refl member
 acted_between rules members n x member deeds.Perform = performing_between rules x (length members) (next_decided x.replica)
 acted_between rules members n x member deeds.Restart = none_between (length members)
 

@@ -7,7 +7,7 @@ use Rattle.std.proofs.lemmas.Option.{same_Some}
 use Rattle.std.proofs.lemmas.List.{get_or_default}
 use Rattle.object.specs.Lists.{In}
 use Rattle.ballot.specs.declared.letter.Letter.{Letter}
-use Rattle.ballot.specs.declared.letter.Body.{Body}
+use Rattle.ballot.specs.declared.letter.LetterBody.{LetterBody}
 use Rattle.ballot.specs.Letters.{letter}
 use Rattle.ballot.specs.Members.{is_member}
 use Rattle.node.specs.Nodes.{NodeState, members_of, put}
@@ -44,7 +44,7 @@ put_mail_at mails zero p x place low = absurd (omega (arith, low))
 put_mail_at mails (suc i) p x place low = let here : p ≡ i = omega (arith, place) in ap (λ j. slice_set mails j x) here
 
 -- what a node sends when it receives a letter of a member is between members
-received_between : {C : Type 0} (members : List ℕ) (m n : ℕ) (x : NodeState C) (body : Body C) (y : NodeState C) (sent : List (Letter C)) → IsAmong (length members) m → is_member members n ≡ true → Receives members m n x body y sent → AreBetween (length members) sent
+received_between : {C : Type 0} (members : List ℕ) (m n : ℕ) (x : NodeState C) (body : LetterBody C) (y : NodeState C) (sent : List (Letter C)) → IsAmong (length members) m → is_member members n ≡ true → Receives members m n x body y sent → AreBetween (length members) sent
 received_between members m n x body y sent from_m member (promises_ballot b report r) = λ l at. ⊎_elim (λ e. subst (IsBetween (length members)) (sym e) (record { sender = member_bounds members n member; receiver = from_m })) (λ h. absurd h) at
 received_between members m n x body y sent from_m member (accepts_pvalue p) = λ l at. ⊎_elim (λ e. subst (IsBetween (length members)) (sym e) (record { sender = member_bounds members n member; receiver = from_m })) (λ h. absurd h) at
 received_between members m n x body y sent from_m member (hears_promise b report fresh taken may) = all_between members n _ (length members) refl member
@@ -52,7 +52,7 @@ received_between members m n x body y sent from_m member (hears_vote b s by) = a
 received_between members m n x body y sent from_m member (hears_proposal s c) = all_between members n _ (length members) refl member
 received_between members m n x body y sent from_m member (learns s c) = none_between (length members)
 received_between {C} members m n x body y sent from_m member (tells_decisions s) = λ l at.
-    let told = of_map (λ (b : Body C). letter n b m) l _ at in
+    let told = of_map (λ (b : LetterBody C). letter n b m) l _ at in
     subst (IsBetween (length members)) (sym told.2) (record { sender = member_bounds members n member; receiver = from_m })
 
 module _ {C : Type 0} {members : List ℕ} {nodes : List (NodeState C)} {mails : List (List (Letter C))} {fresh : List (Letter C)} where

@@ -9,7 +9,7 @@ use Rattle.object.specs.Objects.{Rules}
 use Rattle.ballot.specs.Ballots.{Numbers, is_below}
 use Rattle.ballot.specs.Members.{is_member}
 use Rattle.ballot.specs.Slots.{Slots}
-use Rattle.ballot.specs.declared.letter.Body.{Body}
+use Rattle.ballot.specs.declared.letter.LetterBody.{LetterBody}
 use Rattle.ballot.specs.declared.letter.Letter.{Letter}
 use Rattle.ballot.specs.declared.pvalue.Pvalue.{Pvalue}
 use Rattle.scout_commander.specs.Scouts.{Scouting}
@@ -20,7 +20,7 @@ use Rattle.scout_commander.specs.Commanders.{Commanding}
 use Rattle.scout_commander.specs.Commanders as commanders
 use Rattle.scout_commander.specs.declared.commander.Voted.{Voted}
 use Rattle.scout_commander.specs.declared.commander.Voted.TheVariants as voted
-use Rattle.leader.specs.Leaders.{Leading, Done, woken, preempted, proposed}
+use Rattle.leader.specs.Leaders.{Leading, Done, woken, preempted, on_propose}
 use Rattle.leader.specs.Promises.{at_heard, at_scout}
 use Rattle.leader.specs.Promises as promises
 use Rattle.leader.specs.Votes.{answers_another, at_voted, at_commander}
@@ -56,7 +56,7 @@ module _ {C : Type 0} (l : Leading C) where
   preempted_seat : (b : Numbers) → HasSeat l (preempted l b)
   preempted_seat b = either_state (is_below l.ballot b) _ _ (record { members = refl; node = refl }) same_seat
 
-  pub proposed_seat : (s : ℕ) (c : C) → HasSeat l (proposed l s c).state
+  pub proposed_seat : (s : ℕ) (c : C) → HasSeat l (on_propose l s c).state
   proposed_seat s c =
       either (contains_key l.proposals s) _ _ same_seat
       (either l.active _ _ (record { members = refl; node = refl }) (record { members = refl; node = refl }))
@@ -86,7 +86,7 @@ module _ {C : Type 0} (l : Leading C) where
   vote_seat m b s asked = either (answers_another l b asked) _ _ same_seat (commander_seat m b s (get l.commanders s))
 
 -- and so has the leader of a node that receives a letter
-pub received_seat : {C : Type 0} (members : List ℕ) (m n : ℕ) (x : NodeState C) (body : Body C) (y : NodeState C) (sent : List (Letter C)) → Receives members m n x body y sent → HasSeat x.leader y.leader
+pub received_seat : {C : Type 0} (members : List ℕ) (m n : ℕ) (x : NodeState C) (body : LetterBody C) (y : NodeState C) (sent : List (Letter C)) → Receives members m n x body y sent → HasSeat x.leader y.leader
 received_seat members m n x body y sent (promises_ballot b report r) = same_seat x.leader
 received_seat members m n x body y sent (accepts_pvalue p) = same_seat x.leader
 received_seat members m n x body y sent (hears_promise b report fresh taken h) = promised_seat x.leader m b fresh taken

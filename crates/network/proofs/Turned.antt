@@ -3,13 +3,13 @@ use Rattle.std.proofs.Common.{◌≡◌, Bool, false, cond, map, ℕ, zero, suc,
 use Rattle.std.specs.Prelude.{slice_index_or, slice_set, OnErr, nat_le, not, ◌==◌, ◌^◌}
 use Rattle.std.proofs.lemmas.List.{append-nil}
 use Rattle.ballot.specs.declared.letter.Letter.{Letter}
-use Rattle.ballot.specs.declared.letter.Body.{Body}
+use Rattle.ballot.specs.declared.letter.LetterBody.{LetterBody}
 use Rattle.ballot.specs.Letters.{letter, all_to_all}
 use Rattle.ballot.specs.Members.{is_member, numbers}
 use Rattle.node.specs.Nodes.{NodeState, IsSeated, node_in}
 use Rattle.node.specs.PlaceLaws.{node_at, put_at}
 use Rattle.std.specs.List.{filter}
-use Rattle.ballot.specs.declared.letter.Body.TheVariants.{Ask}
+use Rattle.ballot.specs.declared.letter.LetterBody.TheVariants.{Ask}
 use Rattle.leader.specs.Leaders.{says_again}
 use Rattle.replica.specs.Replicas.{proposes_again, asks_others, nudges}
 use Rattle.node.specs.Deeds.{said_again}
@@ -30,7 +30,7 @@ set_again (x ∷ xs) zero y e = ap (λ z. z ∷ xs) e
 set_again (x ∷ xs) (suc i) y e = ap (λ zs. x ∷ zs) (set_again xs i y e)
 
 -- what is sent to all is between members
-pub all_between : {C : Type 0} (members : List ℕ) (n : ℕ) (bodies : List (Body C)) (count : ℕ) → count ≡ length members → is_member members n ≡ true → AreBetween count (all_to_all members n bodies)
+pub all_between : {C : Type 0} (members : List ℕ) (n : ℕ) (bodies : List (LetterBody C)) (count : ℕ) → count ≡ length members → is_member members n ≡ true → AreBetween count (all_to_all members n bodies)
 all_between members n bodies count same member = λ l at. subst (λ z. IsBetween z l) (sym same) (sent_to_all members n bodies member l at)
 
 asks_between : {C : Type 0} (members : List ℕ) (n s count : ℕ) (test : Bool) → count ≡ length members → is_member members n ≡ true → AreBetween {C = C} count (cond test (map (letter n (Ask s)) (filter (λ m. not (m == n)) (numbers members))) [])

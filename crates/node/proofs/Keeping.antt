@@ -24,7 +24,7 @@ use Rattle.object.specs.Objects.{Rules}
 use Rattle.replica.specs.Replicas.{Replicating, performed, performed_as, performed_answers, answers_as}
 use Rattle.node.specs.Histories.{history, commands_upto}
 use Rattle.object.specs.Obeying.{obeyed, answers_after}
-use Rattle.node.specs.Kept.{IsKept, IsPerformed}
+use Rattle.node.specs.Kept.{ObeysBook, IsPerformed}
 use Rattle.object.specs.ListLaws.{In-left, In-right, In-cases}
 use Rattle.node.specs.SlotLaws.{get_insert_cases}
 use Rattle.ballot.specs.OrderLaws.{BallotLaws, upto_trans}
@@ -124,14 +124,14 @@ learnt_known decisions s c t known = ⊎_elim
 
 module _ {O Op Reply : Type 0} (rules : Rules O Op Reply) where
   -- a new replica
-  pub kept_new : (object : Filtered O) (book : SlotBook (Command Op)) → object.object ≡ rules.fresh → object.latest ≡ empty → book ≡ new_book → IsKept rules object book
+  pub kept_new : (object : Filtered O) (book : SlotBook (Command Op)) → object.object ≡ rules.fresh → object.latest ≡ empty → book ≡ new_book → ObeysBook rules object book
   kept_new object book fresh none new = record {
     obeys = (λ i. record { object = fresh i; latest = none i }) ∙ sym (ap (λ b. obeyed rules (history b)) new);
     performed = subst IsPerformed (sym new) (record { first = omega arith; known = λ s low high. absurd (omega arith) });
   }
 
   -- a replica that performed and learnt nothing
-  pub kept_same : (object : Filtered O) (x y : SlotBook (Command Op)) → IsKept rules object x → y.slot_out ≡ x.slot_out → y.decisions ≡ x.decisions → IsKept rules object y
+  pub kept_same : (object : Filtered O) (x y : SlotBook (Command Op)) → ObeysBook rules object x → y.slot_out ≡ x.slot_out → y.decisions ≡ x.decisions → ObeysBook rules object y
   kept_same object x y k slot decisions = record {
     obeys = k.obeys ∙ (λ i. obeyed rules (commands_upto (slot_same i - 1) (decisions_same i)));
     performed = record { first = subst (λ n. 0 < n) (sym slot) k.performed.first; known = λ s low high. subst (λ m. IsSome (get m s)) (sym decisions) (k.performed.known s low (subst (λ n. s < n) slot high)) };
@@ -143,13 +143,13 @@ module _ {O Op Reply : Type 0} (rules : Rules O Op Reply) where
       decisions_same : x.decisions ≡ y.decisions
       decisions_same = sym decisions
 
-  pub kept_learnt : (object : Filtered O) (x : SlotBook (Command Op)) (s : ℕ) (c : Command Op) → IsKept rules object x → ((d : Command Op) → get x.decisions s ≡ Some d → d ≡ c) → IsKept rules object (learnt x s c)
+  pub kept_learnt : (object : Filtered O) (x : SlotBook (Command Op)) (s : ℕ) (c : Command Op) → ObeysBook rules object x → ((d : Command Op) → get x.decisions s ≡ Some d → d ≡ c) → ObeysBook rules object (learnt x s c)
   kept_learnt object x s c k agrees = record {
     obeys = k.obeys ∙ ap (obeyed rules) (sym (history_learnt x s c k.performed agrees));
     performed = record { first = k.performed.first; known = λ t low high. learnt_known x.decisions s c t (k.performed.known t low high) };
   }
 
-  pub kept_performed : (same : Command Op → Command Op → Bool) (object : Filtered O) (x : SlotBook (Command Op)) (c : Command Op) → IsKept rules object x → next_decided x ≡ Some c → IsKept rules (filtered rules.after object c) (advanced same x)
+  pub kept_performed : (same : Command Op → Command Op → Bool) (object : Filtered O) (x : SlotBook (Command Op)) (c : Command Op) → ObeysBook rules object x → next_decided x ≡ Some c → ObeysBook rules (filtered rules.after object c) (advanced same x)
   kept_performed same object x c k e =
       let out : x.slot_out - 1 + 1 ≡ x.slot_out = omega (arith, k.performed.first) in
       let out' : x.slot_out - 1 + 1 ≡ x.slot_out + 1 - 1 = omega (arith, k.performed.first) in
@@ -171,23 +171,23 @@ module _ {O Op Reply : Type 0} (rules : Rules O Op Reply) where
   requested_if book c true = (refl, refl)
   requested_if book c false = (refl, refl)
 
-  pub kept_requested : (same : Command Op → Command Op → Bool) (object : Filtered O) (x : SlotBook (Command Op)) (c : Command Op) → IsKept rules object x → IsKept rules object (requested same x c)
+  pub kept_requested : (same : Command Op → Command Op → Bool) (object : Filtered O) (x : SlotBook (Command Op)) (c : Command Op) → ObeysBook rules object x → ObeysBook rules object (requested same x c)
   kept_requested same object x c k = let r = requested_if x c (is_known same x c) in kept_same object x _ k r.0 r.1
 
   proposed_if : (book : SlotBook (Command Op)) (o : Option (ℕ × Command Op)) → ((proposed book o).slot_out ≡ book.slot_out) × ((proposed book o).decisions ≡ book.decisions)
   proposed_if book None = (refl, refl)
   proposed_if book (Some p) = (refl, refl)
 
-  pub kept_proposed : (object : Filtered O) (x : SlotBook (Command Op)) (o : Option (ℕ × Command Op)) → IsKept rules object x → IsKept rules object (proposed x o)
+  pub kept_proposed : (object : Filtered O) (x : SlotBook (Command Op)) (o : Option (ℕ × Command Op)) → ObeysBook rules object x → ObeysBook rules object (proposed x o)
   kept_proposed object x o k = let r = proposed_if x o in kept_same object x _ k r.0 r.1
 
-  performed_if : (same : Command Op → Command Op → Bool) (r : Replicating Op O) → IsKept rules r.object r.slots → (o : Option (Command Op)) → next_decided r.slots ≡ o → IsKept rules (performed_as same rules.after r o).object (performed_as same rules.after r o).slots
+  performed_if : (same : Command Op → Command Op → Bool) (r : Replicating Op O) → ObeysBook rules r.object r.slots → (o : Option (Command Op)) → next_decided r.slots ≡ o → ObeysBook rules (performed_as same rules.after r o).object (performed_as same rules.after r o).slots
   performed_if same r k None e = k
   performed_if same r k (Some c) e = kept_performed same r.object r.slots c k e
 
-  pub kept_perform : (same : Command Op → Command Op → Bool) (r z : Replicating Op O) → z ≡ performed same rules.after r → IsKept rules r.object r.slots → IsKept rules z.object z.slots
+  pub kept_perform : (same : Command Op → Command Op → Bool) (r z : Replicating Op O) → z ≡ performed same rules.after r → ObeysBook rules r.object r.slots → ObeysBook rules z.object z.slots
   kept_perform same r z new k =
-      subst (λ (y : Replicating Op O). IsKept rules y.object y.slots) (sym new) (performed_if same r k (next_decided r.slots) refl)
+      subst (λ (y : Replicating Op O). ObeysBook rules y.object y.slots) (sym new) (performed_if same r k (next_decided r.slots) refl)
 
   pub answers_performed : FilterLaws Op → (r : Replicating Op O) (book : SlotBook (Command Op)) → book ≡ r.slots → r.object ≡ obeyed rules (history r.slots) → (c : Command Op) → next_decided book ≡ Some c → performed_answers rules.answers r ≡ answers_after rules (history book) c
   answers_performed laws r book slots obeys c e =
@@ -196,7 +196,7 @@ module _ {O Op Reply : Type 0} (rules : Rules O Op Reply) where
       answers_obeyed laws rules (history r.slots) c ∙
       ap (λ b. answers_after rules (history b) c) (sym slots)
 
-  pub kept_learns : (r z : Replicating Op O) (book : SlotBook (Command Op)) (s : ℕ) (c : Command Op) → r.slots ≡ book → z ≡ record r { slots = learnt r.slots s c } → IsKept rules r.object r.slots → ((d : Command Op) → get book.decisions s ≡ Some d → d ≡ c) → IsKept rules z.object z.slots
+  pub kept_learns : (r z : Replicating Op O) (book : SlotBook (Command Op)) (s : ℕ) (c : Command Op) → r.slots ≡ book → z ≡ record r { slots = learnt r.slots s c } → ObeysBook rules r.object r.slots → ((d : Command Op) → get book.decisions s ≡ Some d → d ≡ c) → ObeysBook rules z.object z.slots
   kept_learns r z book s c is new k agrees =
-      subst (λ (y : Replicating Op O). IsKept rules y.object y.slots) (sym new)
+      subst (λ (y : Replicating Op O). ObeysBook rules y.object y.slots) (sym new)
       (kept_learnt r.object r.slots s c k (λ d e. agrees d (ap (λ b. get b.decisions s) (sym is) ∙ e)))

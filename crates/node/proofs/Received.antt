@@ -4,12 +4,12 @@ use Rattle.std.proofs.lemmas.List.{append-nil}
 use Rattle.ballot.specs.Ballots.{Numbers, higher}
 use Rattle.ballot.specs.Letters.{letter, all_to_all}
 use Rattle.ballot.specs.declared.pvalue.Pvalue.{Pvalue}
-use Rattle.ballot.specs.declared.letter.Body.{Body}
-use Rattle.ballot.specs.declared.letter.Body.TheVariants.{P1a, P1b, P2a, P2b, Propose, Decision, Ask}
+use Rattle.ballot.specs.declared.letter.LetterBody.{LetterBody}
+use Rattle.ballot.specs.declared.letter.LetterBody.TheVariants.{P1a, P1b, P2a, P2b, Propose, Decision, Ask}
 use Rattle.ballot.specs.declared.letter.Letter.{Letter}
 use Rattle.acceptor.specs.Acceptors.{Acceptances, Keeps, after_p1a, after_p2a}
 use Rattle.acceptor.specs.Reports.{IsReport}
-use Rattle.leader.specs.Leaders.{Leading, Done, Sends, proposed}
+use Rattle.leader.specs.Leaders.{Leading, Done, Sends, on_propose}
 use Rattle.leader.specs.Promises.{Hears, HearsP1b}
 use Rattle.leader.specs.Promises as promises
 use Rattle.leader.specs.Votes as votes
@@ -64,7 +64,7 @@ module _ {C : Type 0} (m : ℕ) (v k : NodeState C) (is : v ≡ k) where
   )
 
   -- what its leader did
-  received_led : (d : Leading C → Done (Leading C) C) (l : Leading C) (body : Body C) (before now : List (Letter C)) → l ≡ (d v.leader).state → Sends v.leader (d v.leader).says before now → ((x : NodeState C) → v.leader ≡ x.leader → Receives (members_of x) m (number_of x) x body (led x (d x.leader)) (all_to_all (members_of x) (number_of x) (d x.leader).says)) → ShowsReceived m k body (record v { leader = l }) before now
+  received_led : (d : Leading C → Done (Leading C) C) (l : Leading C) (body : LetterBody C) (before now : List (Letter C)) → l ≡ (d v.leader).state → Sends v.leader (d v.leader).says before now → ((x : NodeState C) → v.leader ≡ x.leader → Receives (members_of x) m (number_of x) x body (led x (d x.leader)) (all_to_all (members_of x) (number_of x) (d x.leader).says)) → ShowsReceived m k body (record v { leader = l }) before now
   received_led d l body before now new sends receives = λ x shows. let shown = shown_of x shows in (
     led x (d x.leader),
     record {
@@ -88,8 +88,8 @@ module _ {C : Type 0} (m : ℕ) (v k : NodeState C) (is : v ≡ k) where
   pub received_p2b : (l : Leading C) (b : Option Numbers) (s : ℕ) (by : Numbers) (before now : List (Letter C)) → l ≡ (votes.on_p2b v.leader m b s by).state → Sends v.leader (votes.on_p2b v.leader m b s by).says before now → ShowsReceived m k (P2b b s by) (record v { leader = l }) before now
   received_p2b l b s by before now new sends = received_led (λ y. votes.on_p2b y m b s by) l (P2b b s by) before now new sends (λ x leads. hears_vote b s by)
 
-  pub received_proposal : (l : Leading C) (s : ℕ) (c : C) (before now : List (Letter C)) → l ≡ (proposed v.leader s c).state → Sends v.leader (proposed v.leader s c).says before now → ShowsReceived m k (Propose s c) (record v { leader = l }) before now
-  received_proposal l s c before now new sends = received_led (λ y. proposed y s c) l (Propose s c) before now new sends (λ x leads. hears_proposal s c)
+  pub received_proposal : (l : Leading C) (s : ℕ) (c : C) (before now : List (Letter C)) → l ≡ (on_propose v.leader s c).state → Sends v.leader (on_propose v.leader s c).says before now → ShowsReceived m k (Propose s c) (record v { leader = l }) before now
+  received_proposal l s c before now new sends = received_led (λ y. on_propose y s c) l (Propose s c) before now new sends (λ x leads. hears_proposal s c)
 
   pub received_decision : (book : SlotBook C) (s : ℕ) (c : C) (before : List (Letter C)) → book ≡ learnt v.replica s c → ShowsReceived m k (Decision s c) (record v { replica = book }) before before
   received_decision book s c before new = λ x shows. let shown = shown_of x shows in (

@@ -5,14 +5,14 @@ use Rattle.object.specs.declared.command.Command.{Command}
 use Rattle.object.specs.Objects.{Rules, is_one}
 use Rattle.object.specs.Obeying.{answers_after}
 use Rattle.ballot.specs.Letters.{all_to_all}
-use Rattle.ballot.specs.declared.letter.Body.{Body}
-use Rattle.ballot.specs.declared.letter.Body.TheVariants.{P1a, P1b, P2a, P2b, Propose, Decision, Ask}
+use Rattle.ballot.specs.declared.letter.LetterBody.{LetterBody}
+use Rattle.ballot.specs.declared.letter.LetterBody.TheVariants.{P1a, P1b, P2a, P2b, Propose, Decision, Ask}
 use Rattle.leader.specs.Leaders.{new_leader, woken, says_again}
 use Rattle.slot_log.specs.Requests.{requested}
 use Rattle.slot_log.specs.Proposals.{next_proposal, proposed_next}
 use Rattle.slot_log.specs.Decisions.{next_decided}
 use Rattle.slot_log.specs.Advances.{advanced}
-use Rattle.replica.specs.Replicas.{asks_for, nudges}
+use Rattle.replica.specs.Replicas.{proposes_first, nudges}
 use Rattle.node.specs.Histories.{history}
 use Rattle.node.specs.Nodes.{NodeState}
 use Rattle.node.specs.Deeds.{acted, performing, performs, done_if, outcome_of, IsAble}
@@ -48,7 +48,7 @@ module _ {O Op Reply : Type 0} (rules : Rules O Op Reply) (members : List ℕ) (
   }
   acted_shown deeds.Propose = record {
     state = record { acceptor = shows.acceptor; boot = shows.boot; leader = shows.leader; replica = ap proposed_next shows.replica };
-    sent = ap (λ b. all_to_all members n (asks_for (next_proposal b))) shows.replica;
+    sent = ap (λ b. all_to_all members n (proposes_first (next_proposal b))) shows.replica;
     answers = refl;
   }
   acted_shown deeds.Perform =
@@ -84,7 +84,7 @@ outcome_shown shows deeds.Perform = ap (λ b. performs b (next_decided b)) shows
 outcome_shown shows deeds.Restart = refl
 
 -- and it may receive what they may receive
-pub fit_shown : {C : Type 0} {kept x : NodeState C} → ShowsNode kept x → (body : Body C) → IsFit x body → IsFit kept body
+pub fit_shown : {C : Type 0} {kept x : NodeState C} → ShowsNode kept x → (body : LetterBody C) → IsFit x body → IsFit kept body
 fit_shown shows (P1a b) fit = tt
 fit_shown shows (P1b b report) fit = fit
 fit_shown shows (P2a p) fit = tt

@@ -15,7 +15,7 @@ use Rattle.slot_log.specs.Proposals.{next_proposal, proposed_next}
 use Rattle.slot_log.specs.Decisions.{next_decided}
 use Rattle.slot_log.specs.Advances.{advanced}
 use Rattle.replica.specs.declared.performed.Performed.{Performed}
-use Rattle.replica.specs.Replicas.{asks_for, nudges}
+use Rattle.replica.specs.Replicas.{proposes_first, nudges}
 use Rattle.node.specs.Histories.{history}
 use Rattle.node.specs.Nodes.{NodeState, members_of, number_of, restarted}
 use Rattle.node.specs.declared.deed.Deed.{Deed}
@@ -60,7 +60,7 @@ acted rules members n x (Request c) = quietly (record x { replica = requested (i
 acted rules members n x Wake = sending (led x (woken x.leader)) (all_to_all members n (woken x.leader).says)
 acted rules members n x Nudge = sending x (said_again members n x)
 acted rules members n x Propose =
-    sending (record x { replica = proposed_next x.replica }) (all_to_all members n (asks_for (next_proposal x.replica)))
+    sending (record x { replica = proposed_next x.replica }) (all_to_all members n (proposes_first (next_proposal x.replica)))
 acted rules members n x Perform = performing rules x (next_decided x.replica)
 acted rules members n x Restart = quietly (restarted members n x)
 

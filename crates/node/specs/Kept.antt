@@ -14,6 +14,6 @@ pub record IsPerformed {C : Type 0} (book : SlotBook C) : Type 0 where
   pub known : (s : ℕ) → 0 < s → s < book.slot_out → IsSome (get book.decisions s)
 
 -- the object has obeyed the commands before slot_out
-pub record IsKept {O Op Reply : Type 0} (rules : Rules O Op Reply) (object : Filtered O) (book : SlotBook (Command Op)) : Type 0 where
+pub record ObeysBook {O Op Reply : Type 0} (rules : Rules O Op Reply) (object : Filtered O) (book : SlotBook (Command Op)) : Type 0 where
   pub obeys : object ≡ obeyed rules (history book)
   pub performed : IsPerformed book

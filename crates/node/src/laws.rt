@@ -1,6 +1,6 @@
 ghost use Rattle.std.specs.Prelude.{◌≡◌, ℕ, List};
 ghost use Rattle.object.specs.declared.command.Command.{Command};
-ghost use Rattle.ballot.specs.declared.letter.Body.{Body};
+ghost use Rattle.ballot.specs.declared.letter.LetterBody.{LetterBody};
 ghost use Rattle.node.specs.Nodes.{NodeState};
 ghost use Rattle.node.specs.Deeds.{acted, outcome_of, IsAble};
 ghost use Rattle.node.specs.Receiving.{IsFit, ShowsNode};
@@ -20,6 +20,6 @@ pub fn deeds_are_shown<O: Object>()
         IsSameTurn (acted O.rules members n kept d) (acted O.rules members n x d) }
     ensures outcome { (kept x : NodeState (Command O.Op)) (d : Deed O.Op) → ShowsNode kept x →
         outcome_of kept d ≡ outcome_of x d }
-    ensures fit { (kept x : NodeState (Command O.Op)) (body : Body (Command O.Op)) →
+    ensures fit { (kept x : NodeState (Command O.Op)) (body : LetterBody (Command O.Op)) →
         ShowsNode kept x → IsFit x body → IsFit kept body }
 {}

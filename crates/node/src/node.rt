@@ -4,7 +4,7 @@ ghost use Rattle.ballot.specs.Members.{is_member};
 ghost use Rattle.ballot.specs.Letters.{all_to_all};
 ghost use Rattle.slot_log.specs.Proposals.{next_proposal, proposed_next};
 ghost use Rattle.slot_log.specs.Decisions.{next_decided, undecided};
-ghost use Rattle.replica.specs.Replicas.{asks_for};
+ghost use Rattle.replica.specs.Replicas.{proposes_first};
 ghost use Rattle.node.specs.Nodes.{members_of, number_of, new_node, restarted};
 ghost use Rattle.node.specs.Deeds.{said_again, performing, own_turn, performs, done_if, outcome_of, IsAble, ComesToNothing};
 
@@ -36,7 +36,7 @@ impl<O: Object> Model for Node<O> {
     ghost use Rattle.std.specs.Coded.{codes};
     ghost use Rattle.ballot.specs.Slots.{slots_code};
     ghost use Rattle.node.specs.Nodes.{NodeState};
-    ghost use Rattle.node.specs.Kept.{IsKept};
+    ghost use Rattle.node.specs.Kept.{ObeysBook};
     ghost use Rattle.object.specs.declared.command.Command.{Command};
 
     ghost Value = { NodeState (Command O.Op) };
@@ -45,7 +45,7 @@ impl<O: Object> Model for Node<O> {
 
     ghost view = { λ n. record { acceptor = n.acceptor; boot = n.boot; leader = n.leader; replica = n.replica.slots } };
 
-    ghost invariant = { λ n. IsKept O.rules n.replica.object n.replica.slots };
+    ghost invariant = { λ n. ObeysBook O.rules n.replica.object n.replica.slots };
 }
 
 impl<O: Object> Node<O> {
@@ -173,7 +173,7 @@ impl<O: Object> Node<O> {
             ≡ record self.old { replica = proposed_next self.old.replica }) }
         ensures sent { OnOk result (sent.new.items ≡ sent.old.items
             ++ all_to_all (members_of self.old) (number_of self.old)
-            (asks_for (next_proposal self.old.replica))) }
+            (proposes_first (next_proposal self.old.replica))) }
         ensures idle { next_proposal self.old.replica ≡ None → IsOk result }
         ensures err { OnErr result ((self.new ≡ self.old)
             × (sent.new.items ≡ sent.old.items)) }

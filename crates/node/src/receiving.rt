@@ -3,9 +3,9 @@ ghost use Rattle.std.specs.FinMap as slots;
 ghost use Rattle.object.specs.declared.command.Command.{Command};
 ghost use Rattle.ballot.specs.Ballots.{Numbers};
 ghost use Rattle.ballot.specs.Letters.{letter};
-ghost use Rattle.ballot.specs.declared.letter.Body.TheVariants.{P1a, P1b, P2a, P2b, Propose, Decision, Ask};
+ghost use Rattle.ballot.specs.declared.letter.LetterBody.TheVariants.{P1a, P1b, P2a, P2b, Propose, Decision, Ask};
 ghost use Rattle.acceptor.specs.Acceptors.{Keeps, after_p2a};
-ghost use Rattle.leader.specs.Leaders.{Sends, proposed};
+ghost use Rattle.leader.specs.Leaders.{Sends, on_propose};
 ghost use Rattle.leader.specs.Promises.{HearsP1b};
 ghost use Rattle.leader.specs.Votes as votes;
 ghost use Rattle.slot_log.specs.Decisions.{learnt};
@@ -13,7 +13,7 @@ ghost use Rattle.node.specs.Receiving.{IsFit, SaysNothingNew, ShowsReceived};
 
 use crate::node::{Letters, Node};
 use acceptor::Acceptor;
-use ballot::{Ballot, Body, Letter, Pvalue, Pvalues, Slot, ballot_laws};
+use ballot::{Ballot, Letter, LetterBody, Pvalue, Pvalues, Slot, ballot_laws};
 use leader::{Leader, LeaderError};
 use object::{Command, Object, Value};
 use replica::Replica;
@@ -26,7 +26,7 @@ impl<O: Object> Node<O> {
     pub fn receive(
         &mut self,
         from: u8,
-        body: &Body<Command<O::Op>>,
+        body: &LetterBody<Command<O::Op>>,
         out: &mut Letters<O>,
     ) -> Result<(), AllocError>
         requires { IsFit self.old body.now }
@@ -36,17 +36,17 @@ impl<O: Object> Node<O> {
         ensures err { OnErr result ((self.new ≡ self.old) × (out.new.items ≡ out.old.items)) }
     {
         match body {
-            Body::P1a(ballot) => self.on_p1a(from, *ballot, out),
-            Body::P2a(pvalue) => self.on_p2a(from, pvalue, out),
-            Body::P1b(ballot, report) => self.on_p1b(from, *ballot, report, out),
-            Body::P2b {
+            LetterBody::P1a(ballot) => self.on_p1a(from, *ballot, out),
+            LetterBody::P2a(pvalue) => self.on_p2a(from, pvalue, out),
+            LetterBody::P1b(ballot, report) => self.on_p1b(from, *ballot, report, out),
+            LetterBody::P2b {
                 ballot,
                 slot,
                 asked,
             } => self.on_p2b(from, *ballot, *slot, *asked, out),
-            Body::Propose(slot, command) => self.on_propose(from, *slot, command, out),
-            Body::Decision(slot, command) => self.on_decision(from, *slot, command, out),
-            Body::Ask(slot) => self.on_ask(from, *slot, out),
+            LetterBody::Propose(slot, command) => self.on_propose(from, *slot, command, out),
+            LetterBody::Decision(slot, command) => self.on_decision(from, *slot, command, out),
+            LetterBody::Ask(slot) => self.on_ask(from, *slot, out),
         }
     }
 
@@ -63,7 +63,7 @@ impl<O: Object> Node<O> {
         out.push(Letter {
             from: number,
             to: from,
-            body: Body::P1b(promised, Pvalues::from_vec(report)),
+            body: LetterBody::P1b(promised, Pvalues::from_vec(report)),
         })?;
         Ok(())
     }
@@ -86,7 +86,7 @@ impl<O: Object> Node<O> {
         out.push(Letter {
             from: number,
             to: from,
-            body: Body::P2b {
+            body: LetterBody::P2b {
                 ballot,
                 slot: pvalue.slot,
                 asked: pvalue.ballot,
@@ -189,7 +189,7 @@ impl<O: Object> Node<O> {
 fn send_each<C: Value>(
     from: u8,
     to: u8,
-    bodies: Vec<Body<C>>,
+    bodies: Vec<LetterBody<C>>,
     out: &mut Vec<Letter<C>>,
 ) -> Result<(), AllocError>
     ensures ok { OnOk result (out.new.items ≡ out.old.items
@@ -275,9 +275,9 @@ fn hear_proposal<C: Value>(
     command: &C,
     out: &mut Vec<Letter<C>>,
 ) -> Result<(), AllocError>
-    ensures state { OnOk result (leader.new ≡ (proposed leader.old slot command.now).state) }
+    ensures state { OnOk result (leader.new ≡ (on_propose leader.old slot command.now).state) }
     ensures out { OnOk result
-        (Sends leader.old (proposed leader.old slot command.now).says out.old.items out.new.items) }
+        (Sends leader.old (on_propose leader.old slot command.now).says out.old.items out.new.items) }
     ensures idle { slots.contains_key leader.old.proposals slot ≡ true → IsOk result }
     ensures err { OnErr result ((leader.new ≡ leader.old) × (out.new.items ≡ out.old.items)) }
 {

@@ -20,23 +20,23 @@ written r Act.Close = r
 written r Act.Tick = r
 
 -- each operation is answered at once, and nothing else is
-abbrev pub told : Register → Key → Act RegisterOp → List (Answer RegisterReply)
-told r key (Act.Do (Write value)) = record { to = key; reply = Done } ∷ []
-told r key (Act.Do Read) = record { to = key; reply = Value r.value } ∷ []
-told r key Act.Close = []
-told r key Act.Tick = []
+abbrev pub register_answers : Register → Key → Act RegisterOp → List (Answer RegisterReply)
+register_answers r key (Act.Do (Write value)) = record { to = key; reply = Done } ∷ []
+register_answers r key (Act.Do Read) = record { to = key; reply = Value r.value } ∷ []
+register_answers r key Act.Close = []
+register_answers r key Act.Tick = []
 
 only_to : (key : Key) (reply : RegisterReply) (a : Answer RegisterReply) → In a (record { to = key; reply = reply } ∷ []) → a.to ≡ key
 only_to key reply a (inl same) = ap (λ (b : Answer RegisterReply). b.to) same
 only_to key reply a (inr never) = absurd never
 
-pub told-to : (r : Register) (key : Key) (act : Act RegisterOp) (a : Answer RegisterReply) → In a (told r key act) → a.to ≡ key
+pub told-to : (r : Register) (key : Key) (act : Act RegisterOp) (a : Answer RegisterReply) → In a (register_answers r key act) → a.to ≡ key
 told-to r key (Act.Do (Write value)) a i = only_to key Done a i
 told-to r key (Act.Do Read) a i = only_to key (Value r.value) a i
 told-to r key Act.Close a i = absurd i
 told-to r key Act.Tick a i = absurd i
 
-pub told-once : (r : Register) (key : Key) (act : Act RegisterOp) → AnswersOnce (told r key act)
+pub told-once : (r : Register) (key : Key) (act : Act RegisterOp) → AnswersOnce (register_answers r key act)
 told-once r key (Act.Do (Write value)) = (λ b i. absurd i, tt)
 told-once r key (Act.Do Read) = (λ b i. absurd i, tt)
 told-once r key Act.Close = tt

@@ -56,12 +56,12 @@ impl Object for Register {
     type Reply = RegisterReply;
 
     ghost use Rattle.std.specs.Bool.{⊤};
-    ghost use Rattle.object.specs.Registers.{written, told, told-once, told-to};
+    ghost use Rattle.object.specs.Registers.{written, register_answers, told-once, told-to};
 
     ghost rules = { record {
       fresh = record { value = 0 };
       after = λ r c. written r c.act;
-      answers = λ r c. told r c.key c.act;
+      answers = λ r c. register_answers r c.key c.act;
       same = ⟦<RegisterOp as PartialEq>⟧.eq;
     } };
 

@@ -33,7 +33,7 @@ impl<Op: Value, Reply: Value> Model for Recorder<Op, Reply> {
     ghost use Rattle.std.specs.Prelude.{vec_capacity};
     ghost use Rattle.std.specs.Coded.{codes};
     ghost use Rattle.recorder.specs.Records.{Record, record_of};
-    ghost use Rattle.recorder.specs.Fates.{IsKept};
+    ghost use Rattle.recorder.specs.Fates.{IsRecorded};
 
     ghost Value = { Record Op Reply };
 
@@ -41,7 +41,7 @@ impl<Op: Value, Reply: Value> Model for Recorder<Op, Reply> {
 
     ghost view = { λ r. record_of r.submitted r.answers.items r.order.items };
 
-    ghost invariant = { λ r. IsKept (record_of r.submitted r.answers.items r.order.items)
+    ghost invariant = { λ r. IsRecorded (record_of r.submitted r.answers.items r.order.items)
         r.fates.items (vec_capacity r.answers) (vec_capacity r.order) };
 }
 

@@ -2,8 +2,8 @@
 use Rattle.std.specs.Prelude.{ℕ, ◌-◌, ◌^◌, Bool, not, ◌==◌, nat_le, List, [], ◌∷◌, ◌++◌, length, map, filter, Option, None, Some, if◌then◌else◌}
 use Rattle.std.specs.List.{range_with_len}
 use Rattle.std.specs.FinMap.{entries}
-use Rattle.ballot.specs.declared.letter.Body.{Body}
-use Rattle.ballot.specs.declared.letter.Body.TheVariants.{Propose, Decision, Ask}
+use Rattle.ballot.specs.declared.letter.LetterBody.{LetterBody}
+use Rattle.ballot.specs.declared.letter.LetterBody.TheVariants.{Propose, Decision, Ask}
 use Rattle.ballot.specs.declared.letter.Letter.{Letter}
 use Rattle.ballot.specs.Letters.{letter, all_to_all}
 use Rattle.ballot.specs.Members.{numbers}
@@ -41,16 +41,16 @@ abbrev pub but_last : List ℕ → List ℕ
 but_last weights = range_with_len 1 (length weights - 1)
 
 -- Propose: the first request is proposed in the least open slot
-abbrev pub asks_for : {C : Type 0} → Option (ℕ × C) → List (Body C)
-asks_for None = []
-asks_for (Some p) = Propose p.0 p.1 ∷ []
+abbrev pub proposes_first : {C : Type 0} → Option (ℕ × C) → List (LetterBody C)
+proposes_first None = []
+proposes_first (Some p) = Propose p.0 p.1 ∷ []
 
 -- Ask: the decisions that answer it
-abbrev pub tells : {C : Type 0} → SlotBook C → ℕ → List (Body C)
+abbrev pub tells : {C : Type 0} → SlotBook C → ℕ → List (LetterBody C)
 tells book s = map (λ e. Decision e.0 e.1) (decided_from book s)
 
 -- Nudge: each proposal once more to all, and to the others the question what is decided from slot_out on
-abbrev pub proposes_again : {C : Type 0} → SlotBook C → List (Body C)
+abbrev pub proposes_again : {C : Type 0} → SlotBook C → List (LetterBody C)
 proposes_again book = map (λ e. Propose e.0 e.1) (entries book.proposals)
 
 abbrev pub asks_others : {C : Type 0} → List ℕ → ℕ → ℕ → List (Letter C)

@@ -10,10 +10,10 @@ ghost use Rattle.slot_log.specs.Books.{new_book};
 ghost use Rattle.slot_log.specs.Requests.{is_known, requested};
 ghost use Rattle.slot_log.specs.Proposals.{next_proposal, proposed_next};
 ghost use Rattle.slot_log.specs.Decisions as deciding;
-ghost use Rattle.replica.specs.Replicas.{but_last, asks_for, tells, nudges, proposes_again, asks_others, performed, performed_answers};
+ghost use Rattle.replica.specs.Replicas.{but_last, proposes_first, tells, nudges, proposes_again, asks_others, performed, performed_answers};
 
 use crate::performed::Performed;
-use ballot::{Body, Letter, Members, Slot, send_to_all};
+use ballot::{Letter, LetterBody, Members, Slot, send_to_all};
 use object::{Answer, Command, Object, Once, Value};
 use slot_log::{LearnError, SlotLog};
 use std::alloc::{AllocError, Global};
@@ -108,13 +108,13 @@ impl<O: Object> Replica<O> {
     }
 
     /// The decisions that answer an Ask: those known of the slot and the 63 that follow it, in rising slot.
-    pub fn ask(&self, slot: Slot) -> Result<Vec<Body<Command<O::Op>>>, AllocError>
+    pub fn ask(&self, slot: Slot) -> Result<Vec<LetterBody<Command<O::Op>>>, AllocError>
         ensures { IfOk result (λ bodies. bodies.items ≡ tells self.now.slots slot) }
     {
         let decided = self.slots.decided_from(slot)?;
         decided
             .into_iter()
-            .map(|(slot, command)| Body::Decision(slot, command))
+            .map(|(slot, command)| LetterBody::Decision(slot, command))
             .collect(self.alloc)
     }
 
@@ -130,7 +130,7 @@ impl<O: Object> Replica<O> {
         ensures state { OnOk result (self.new
             ≡ record self.old { slots = proposed_next self.old.slots }) }
         ensures out { OnOk result (out.new.items ≡ out.old.items
-            ++ all_to_all members node (asks_for (next_proposal self.old.slots))) }
+            ++ all_to_all members node (proposes_first (next_proposal self.old.slots))) }
         ensures idle { next_proposal self.old.slots ≡ None → IsOk result }
         ensures err { OnErr result ((self.new ≡ self.old) × (out.new.items ≡ out.old.items)) }
     {
@@ -154,7 +154,7 @@ impl<O: Object> Replica<O> {
         ensures state { OnOk result (self.new
             ≡ record self.old { slots = proposed_next self.old.slots }) }
         ensures out { OnOk result (out.new.items
-            ≡ out.old.items ++ all_to_all members node (asks_for (next_proposal self.old.slots))) }
+            ≡ out.old.items ++ all_to_all members node (proposes_first (next_proposal self.old.slots))) }
         ensures idle { next_proposal self.old.slots ≡ None → IsOk result }
         ensures err { OnErr result (self.new ≡ self.old) }
         ensures front { take (vec_len out.old) out.new.items ≡ out.old.items }
@@ -169,7 +169,7 @@ impl<O: Object> Replica<O> {
         out.push(Letter {
             from: node,
             to: members.count(),
-            body: Body::Propose(slot, command),
+            body: LetterBody::Propose(slot, command),
         })
         .unwrap();
         Ok(true)
@@ -251,7 +251,7 @@ impl<O: Object> Replica<O> {
     {
         let proposals = self.slots.proposals();
         for (slot, command) in proposals {
-            let body = Body::Propose(*slot, command.copy()?);
+            let body = LetterBody::Propose(*slot, command.copy()?);
             send_to_all(members, node, body, out)?;
         }
         Ok(())
@@ -274,7 +274,7 @@ impl<O: Object> Replica<O> {
         for before in 0..members.count() {
             let to = before + 1;
             if to != node {
-                let body = Body::Ask(slot);
+                let body = LetterBody::Ask(slot);
                 out.push(Letter {
                     from: node,
                     to,
@@ -295,11 +295,11 @@ fn send_copies<C: Value>(
     out: &mut Vec<Letter<C>>,
 ) -> Result<(), AllocError>
     ensures ok { OnOk result (out.new.items
-        ≡ out.old.items ++ map (letter node (Body.Propose slot command.now)) (but_last members)) }
+        ≡ out.old.items ++ map (letter node (LetterBody.Propose slot command.now)) (but_last members)) }
     ensures front { take (vec_len out.old) out.new.items ≡ out.old.items }
 {
     for before in 0..members.count() - 1 {
-        let body = Body::Propose(slot, command.copy()?);
+        let body = LetterBody::Propose(slot, command.copy()?);
         out.push(Letter {
             from: node,
             to: before + 1,

@@ -1,6 +1,6 @@
 //! Letters in words.
 use crate::spoken::tell_key;
-use ballot::{Ballot, Body, Letter, Pvalue, Slot};
+use ballot::{Ballot, Letter, LetterBody, Pvalue, Slot};
 use object::{Command, Value};
 use std::alloc::{AllocError, Global};
 
@@ -67,21 +67,21 @@ pub fn tell_letter<Op: Value>(
 
 fn tell_body<Op: Value>(
     known: &Known<Op>,
-    body: &Body<Command<Op>>,
+    body: &LetterBody<Command<Op>>,
     told: &mut String,
 ) -> Result<(), AllocError> {
     match body {
-        Body::P1a(ballot) => tell_ballot("p1a ", *ballot, told),
-        Body::P1b(ballot, report) => tell_report(known, *ballot, report.as_slice(), told),
-        Body::P2a(pvalue) => tell_pvalue(known, "p2a ", pvalue, told),
-        Body::P2b {
+        LetterBody::P1a(ballot) => tell_ballot("p1a ", *ballot, told),
+        LetterBody::P1b(ballot, report) => tell_report(known, *ballot, report.as_slice(), told),
+        LetterBody::P2a(pvalue) => tell_pvalue(known, "p2a ", pvalue, told),
+        LetterBody::P2b {
             ballot,
             slot,
             asked,
         } => tell_vote(*ballot, *slot, *asked, told),
-        Body::Propose(slot, command) => tell_placed(known, "propose", *slot, command, told),
-        Body::Decision(slot, command) => tell_placed(known, "decision", *slot, command, told),
-        Body::Ask(slot) => tell_slot("ask", *slot, told),
+        LetterBody::Propose(slot, command) => tell_placed(known, "propose", *slot, command, told),
+        LetterBody::Decision(slot, command) => tell_placed(known, "decision", *slot, command, told),
+        LetterBody::Ask(slot) => tell_slot("ask", *slot, told),
     }
 }
 

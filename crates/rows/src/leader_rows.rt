@@ -1,5 +1,5 @@
 //! What a leader says, as tables.
-use ballot::{Ballot, Body, Letter, Members, Pvalue, Slot};
+use ballot::{Ballot, Letter, LetterBody, Members, Pvalue, Slot};
 use leader::{Leader, LeaderError};
 use object::Value;
 use std::alloc::{AllocError, Global};
@@ -65,9 +65,9 @@ enum Said {
 
 fn letter_of(said: &Said) -> Result<Letter<Word>, Fail> {
     let body = match said {
-        Said::P1a(round) => Body::P1a(ballot(*round)?),
-        Said::P2a(parts) => Body::P2a(pvalue(*parts)?),
-        Said::Decision(number, value) => Body::Decision(slot(*number)?, *value),
+        Said::P1a(round) => LetterBody::P1a(ballot(*round)?),
+        Said::P2a(parts) => LetterBody::P2a(pvalue(*parts)?),
+        Said::Decision(number, value) => LetterBody::Decision(slot(*number)?, *value),
     };
     Ok(Letter {
         from: 1,

@@ -13,6 +13,8 @@ mod job_rows;
 #[cfg(test)]
 mod leader_rows;
 #[cfg(test)]
+mod limit_rows;
+#[cfg(test)]
 mod network_rows;
 #[cfg(test)]
 mod node_rows;
@@ -27,8 +29,12 @@ mod replica_rows;
 #[cfg(test)]
 mod schedule_rows;
 #[cfg(test)]
+mod served_rows;
+#[cfg(test)]
 mod session_rows;
 #[cfg(test)]
 mod slot_rows;
 #[cfg(test)]
 mod stream_rows;
+#[cfg(test)]
+mod world_rows;

@@ -1,5 +1,5 @@
 //! What replicas do with what is asked for and decided, as tables.
-use ballot::{Body, Letter, Members, Slot};
+use ballot::{Letter, LetterBody, Members, Slot};
 use object::{Act, Command, Effect, Key, Register, RegisterOp, RegisterReply};
 use replica::Replica;
 use slot_log::LearnError;
@@ -97,7 +97,7 @@ fn tells(
 fn decisions(
     alloc: Global,
     expected: &[(u64, u32)],
-) -> Result<Vec<Body<Command<RegisterOp>>>, Fail> {
+) -> Result<Vec<LetterBody<Command<RegisterOp>>>, Fail> {
     let mut bodies = Vec::new(alloc);
     for (number, session) in expected {
         bodies.push(decision(*number, *session)?)?;
@@ -105,9 +105,9 @@ fn decisions(
     Ok(bodies)
 }
 
-fn decision(number: u64, session: u32) -> Result<Body<Command<RegisterOp>>, Fail> {
+fn decision(number: u64, session: u32) -> Result<LetterBody<Command<RegisterOp>>, Fail> {
     let command = command((session, READ))?;
-    Ok(Body::Decision(slot(number)?, command))
+    Ok(LetterBody::Decision(slot(number)?, command))
 }
 
 fn letter(sent: Sent) -> Result<Letter<Command<RegisterOp>>, Fail> {
@@ -116,10 +116,10 @@ fn letter(sent: Sent) -> Result<Letter<Command<RegisterOp>>, Fail> {
     Ok(Letter { from, to, body })
 }
 
-fn body(slot: Slot, session: Option<u32>) -> Result<Body<Command<RegisterOp>>, Fail> {
+fn body(slot: Slot, session: Option<u32>) -> Result<LetterBody<Command<RegisterOp>>, Fail> {
     match session {
-        Some(session) => Ok(Body::Propose(slot, command((session, READ))?)),
-        None => Ok(Body::Ask(slot)),
+        Some(session) => Ok(LetterBody::Propose(slot, command((session, READ))?)),
+        None => Ok(LetterBody::Ask(slot)),
     }
 }
 

@@ -1,5 +1,5 @@
 -- How a session that is on its way goes on or ends.
-use Rattle.std.proofs.Common.{◌≡◌, ◌⊎◌, inl, inr, ℕ, Bool, List, [], ◌∷◌, ◌++◌, Option, Some, None, Result, Ok, Err, OnOk, OnErr, MatchBool, length, take, refl, sym, ap, subst, ◌∙◌, arith}
+use Rattle.std.proofs.Common.{◌≡◌, ◌⊎◌, inl, inr, ℕ, ◌+◌, ◌<◌, ◌≤◌, ◌^◌, Bool, List, [], ◌∷◌, ◌++◌, Option, Some, None, Result, Ok, Err, OnOk, OnErr, MatchBool, length, take, refl, sym, ap, subst, ◌∙◌, length-append, arith}
 use Rattle.std.proofs.lemmas.List.{append-nil}
 use Rattle.std.proofs.Math.Seq.{take-length}
 use Rattle.std.proofs.KnownBytes.{Appends-nil, Appends-trans, Consumes-nil, Consumes-trans, Consumes-kept}
@@ -12,12 +12,12 @@ use Rattle.session.specs.declared.faults.End.{End}
 use Rattle.session.specs.declared.faults.ServiceFault.{ServiceFault}
 use Rattle.session.specs.declared.faults.SessionFault.{SessionFault}
 use Rattle.session.specs.declared.faults.SessionFault.TheVariants.{OutOfMemory, ReadFailed, WriteFailed, ServiceStopped}
-use Rattle.session.specs.Streams.{AppendsBeginning, ConsumesSome}
-use Rattle.session.specs.Items.{Answer, Reads, ReadsFirst, operations, told, answer_text}
-use Rattle.session.specs.Held.{Held, StandsAt, ComesTo, Finds, nothing_held}
-use Rattle.session.specs.Serving.{Asks, Asked, Whole, StopsAt, Ending, Over, result_of}
-use Rattle.session.proofs.Items.{reads_one, operations-append, told-append}
-use Rattle.session.proofs.Going.{Going, asked_length, asked_one, goes_at_first, goes_finding, goes_reading, goes_sending, is_partly, breaks_off}
+use Rattle.session.specs.Streams.{AppendsBeginning}
+use Rattle.session.specs.Items.{Answer, Reads, ReadsFirst, operations, told_text, answer_text}
+use Rattle.session.specs.Held.{Held, StandsAt, FrontTakesRoom, ComesTo, Finds, nothing_held}
+use Rattle.session.specs.Serving.{Asks, Asked, Whole, StopsAt, Ending, Over, Shortage, longest_piece, result_of}
+use Rattle.session.proofs.Items.{reads_one, operations-append, told_text-append}
+use Rattle.session.proofs.Going.{Going, asked_length, asked_one, goes_at_first, goes_finding, goes_reading, goes_sending, runs_short, breaks_off}
 
 -- no item is left
 reads_to_end : (t : List ℕ) (items : List Item) (rest : List ℕ) → ReadsFirst t items rest → BeginsWithNone rest → Reads t items End.Eof
@@ -32,31 +32,31 @@ reads_to_quit t (i ∷ items) rest front more r cut spelled =
     (r.0, r.1, r.2, r.3, subst (λ (b : Bool). MatchBool b ((items ++ Ok Quit ∷ [] ≡ []) × (End.Quit ≡ End.Quit)) (Reads r.1 (items ++ Ok Quit ∷ []) End.Quit)) (sym r.4) (reads_to_quit r.1 items rest front more r.5 cut spelled))
 
 -- where nothing is unsent, the output is what is told for all that was read
-all_told : {S : Type 0} (asks : Asks S) (old now : S) (input output : List ℕ) (P : List ℕ → Type 0) (g : Going asks old now input output [] P) → output ≡ told (g.items ++ g.more) g.answers
-all_told asks old now input output P g = sym (append-nil output) ∙ g.all
+all_told : {S : Type 0} (asks : Asks S) (old now : S) (turns : ℕ) (input output : List ℕ) (P : List ℕ → Type 0) (g : Going asks old now turns input output [] P) → output ≡ told_text (g.items ++ g.more) g.answers
+all_told asks old now turns input output P g = sym (append-nil output) ∙ g.all
 
-as_many : {S : Type 0} (asks : Asks S) (old now : S) (input output unsent : List ℕ) (P : List ℕ → Type 0) (g : Going asks old now input output unsent P) → length g.answers ≡ length (operations (g.items ++ g.more))
-as_many asks old now input output unsent P g = asked_length asks old now (operations (g.items ++ g.more)) g.answers g.asked
+as_many : {S : Type 0} (asks : Asks S) (old now : S) (turns : ℕ) (input output unsent : List ℕ) (P : List ℕ → Type 0) (g : Going asks old now turns input output unsent P) → length g.answers ≡ length (operations (g.items ++ g.more))
+as_many asks old now turns input output unsent P g = asked_length asks old now (operations (g.items ++ g.more)) g.answers g.asked
 
-pub whole_eof : {S : Type 0} (asks : Asks S) (old now : S) (input output : List ℕ) (t : Held) → Going asks old now input output [] (ComesTo None t) → Whole asks old now input output End.Eof
-whole_eof asks old now input output t g =
-    (g.items ++ g.more, g.answers, reads_to_end input (g.items ++ g.more) g.rest g.reads g.left.1, g.asked, all_told asks old now input output _ g)
+pub whole_eof : {S : Type 0} (asks : Asks S) (old now : S) (turns : ℕ) (input output : List ℕ) (t : Held) → Going asks old now turns input output [] (ComesTo None t) → Whole asks old now input output End.Eof
+whole_eof asks old now turns input output t g =
+    (g.items ++ g.more, g.answers, reads_to_end input (g.items ++ g.more) g.rest g.reads g.left.1, g.asked, all_told asks old now turns input output _ g)
 
-pub whole_quit : {S : Type 0} (asks : Asks S) (old now : S) (input output : List ℕ) (t : Held) → Going asks old now input output [] (ComesTo (Some Quit) t) → Whole asks old now input output End.Quit
-whole_quit asks old now input output t g =
+pub whole_quit : {S : Type 0} (asks : Asks S) (old now : S) (turns : ℕ) (input output : List ℕ) (t : Held) → Going asks old now turns input output [] (ComesTo (Some Quit) t) → Whole asks old now input output End.Quit
+whole_quit asks old now turns input output t g =
     let items = g.items ++ g.more in (
       items ++ Ok Quit ∷ [],
       g.answers,
       reads_to_quit input items g.rest g.left.0 g.left.1 g.reads g.left.2 g.left.3,
       subst (λ ops. Asked asks old ops g.answers now) (sym (operations-append items (Ok Quit ∷ []) ∙ append-nil (operations items))) g.asked,
-      all_told asks old now input output _ g ∙
-          (sym (append-nil (told items g.answers)) ∙
-          (sym (told-append items (Ok Quit ∷ []) g.answers [] (as_many asks old now input output [] _ g)) ∙
-          ap (λ xs. told (items ++ Ok Quit ∷ []) xs) (append-nil g.answers))),
+      all_told asks old now turns input output _ g ∙
+          (sym (append-nil (told_text items g.answers)) ∙
+          (sym (told_text-append items (Ok Quit ∷ []) g.answers [] (as_many asks old now turns input output [] _ g)) ∙
+          ap (λ xs. told_text (items ++ Ok Quit ∷ []) xs) (append-nil g.answers))),
     )
 
-pub stops_at : {S : Type 0} (asks : Asks S) (old now last : S) (input output : List ℕ) (t : Held) (op : Op) → asks now op (Err ServiceFault.Stopped) last → Going asks old now input output [] (ComesTo (Some (Do op)) t) → StopsAt asks old last input output
-stops_at asks old now last input output t op one g = (
+pub stops_at : {S : Type 0} (asks : Asks S) (old now last : S) (turns : ℕ) (input output : List ℕ) (t : Held) (op : Op) → asks now op (Err ServiceFault.Stopped) last → Going asks old now turns input output [] (ComesTo (Some (Do op)) t) → StopsAt asks old last input output
+stops_at asks old now last turns input output t op one g = (
   g.items ++ g.more,
   g.answers,
   op,
@@ -65,14 +65,14 @@ stops_at asks old now last input output t op one g = (
   reads_one input (g.items ++ g.more) g.rest g.left.0 g.left.1 (Ok (Do op)) g.reads g.left.2 g.left.3 refl,
   g.asked,
   one,
-  all_told asks old now input output _ g,
+  all_told asks old now turns input output _ g,
 )
 
-pub goes_answered : {S : Type 0} (asks : Asks S) (old now last : S) (input output : List ℕ) (t : Held) (op : Op) (answer : Answer) → asks now op (result_of answer) last → Going asks old now input output [] (ComesTo (Some (Do op)) t) → Going asks old last input output (answer_text answer) (StandsAt t)
-goes_answered asks old now last input output t op answer one g =
+pub goes_answered : {S : Type 0} (asks : Asks S) (old now last : S) (turns : ℕ) (input output : List ℕ) (t : Held) (op : Op) (answer : Answer) → asks now op (result_of answer) last → Going asks old now turns input output [] (ComesTo (Some (Do op)) t) → Going asks old last (turns + 1) input output (answer_text answer) (StandsAt t)
+goes_answered asks old now last turns input output t op answer one g =
     let items = g.items ++ g.more in
-    let many = as_many asks old now input output [] _ g in
-    let so_far = all_told asks old now input output _ g in
+    let many = as_many asks old now turns input output [] _ g in
+    let so_far = all_told asks old now turns input output _ g in
     record {
       items = items;
       more = Ok (Do op) ∷ [];
@@ -81,63 +81,80 @@ goes_answered asks old now last input output t op answer one g =
       reads = reads_one input items g.rest g.left.0 g.left.1 (Ok (Do op)) g.reads g.left.2 g.left.3 refl;
       few = omega arith;
       asked = subst (λ ops. Asked asks old ops (g.answers ++ answer ∷ []) last) (sym (operations-append items (Ok (Do op) ∷ []))) (asked_one asks old now last (operations items) g.answers op answer g.asked one);
-      whole = so_far ∙ (sym (append-nil (told items g.answers)) ∙ (sym (told-append items [] g.answers (answer ∷ []) many) ∙ ap (λ is. told is (g.answers ++ answer ∷ [])) (append-nil items)));
+      whole = so_far ∙ (sym (append-nil (told_text items g.answers)) ∙ (sym (told_text-append items [] g.answers (answer ∷ []) many) ∙ ap (λ is. told_text is (g.answers ++ answer ∷ [])) (append-nil items)));
       all =
           ap (λ u. u ++ answer_text answer) so_far ∙
-          (ap (λ u. told items g.answers ++ u) (sym (append-nil (answer_text answer))) ∙
-          sym (told-append items (Ok (Do op) ∷ []) g.answers (answer ∷ []) many));
+          (ap (λ u. told_text items g.answers ++ u) (sym (append-nil (answer_text answer))) ∙
+          sym (told_text-append items (Ok (Do op) ∷ []) g.answers (answer ∷ []) many));
       left = g.left.4;
+      counted = let count = g.counted in omega (arith, count, length-append g.answers (answer ∷ []));
     }
 
 -- Over streams: a is what the reader would give at first and b what it would now, h what the writer held at first and
 -- k what it holds now.
-abbrev pub Goes : {S : Type 0} → Asks S → S → S → Option (List ℕ) → Option (List ℕ) → Option (List ℕ) → Option (List ℕ) → List ℕ → (List ℕ → Type 0) → Type 0
-Goes asks old now a b h k unsent P = Over a b h k (λ input output. Going asks old now input output unsent P)
+abbrev pub Goes : {S : Type 0} → Asks S → S → S → ℕ → Option (List ℕ) → Option (List ℕ) → Option (List ℕ) → Option (List ℕ) → List ℕ → (List ℕ → Type 0) → Type 0
+Goes asks old now turns a b h k unsent P = Over a b h k (λ input output. Going asks old now turns input output unsent P)
 
 abbrev pub Ends : {S : Type 0} → Asks S → S → S → Option (List ℕ) → Option (List ℕ) → Option (List ℕ) → Option (List ℕ) → Result End SessionFault → Type 0
 Ends asks old now a b h k result = Over a b h k (λ input output. Ending asks old now input output result)
 
-pub sets_out : {S : Type 0} (asks : Asks S) (s : S) (a h : Option (List ℕ)) → Goes asks s s a a h h [] (StandsAt nothing_held)
+pub sets_out : {S : Type 0} (asks : Asks S) (s : S) (a h : Option (List ℕ)) → Goes asks s s 0 a a h h [] (StandsAt nothing_held)
 sets_out asks s a h = ([], [], Consumes-nil a, Appends-nil h, goes_at_first asks s)
 
-pub finds : {S : Type 0} (asks : Asks S) (old now : S) (a b h k : Option (List ℕ)) (s t : Held) (found : _) → ((text : List ℕ) → StandsAt s text → Finds s t text found) → Goes asks old now a b h k s.unsent (StandsAt s) → Goes asks old now a b h k t.unsent (ComesTo found t)
-finds asks old now a b h k s t found f g = (g.0, g.1, g.2, g.3, goes_finding asks old now g.0 g.1 s t found f g.4)
+pub finds : {S : Type 0} (asks : Asks S) (old now : S) (turns : ℕ) (a b h k : Option (List ℕ)) (s t : Held) (found : _) → ((text : List ℕ) → StandsAt s text → Finds s t text found) → Goes asks old now turns a b h k s.unsent (StandsAt s) → Goes asks old now turns a b h k t.unsent (ComesTo found t)
+finds asks old now turns a b h k s t found f g = (g.0, g.1, g.2, g.3, goes_finding asks old now turns g.0 g.1 s t found f g.4)
 
-pub sends : {S : Type 0} (asks : Asks S) (old now : S) (a b h k l : Option (List ℕ)) (unsent : List ℕ) (P : List ℕ → Type 0) → Appends k l unsent → Goes asks old now a b h k unsent P → Goes asks old now a b h l [] P
-sends asks old now a b h k l unsent P sent g = (g.0, g.1 ++ unsent, g.2, Appends-trans h k l g.1 unsent g.3 sent, goes_sending asks old now g.0 g.1 unsent P g.4)
+pub sends : {S : Type 0} (asks : Asks S) (old now : S) (turns : ℕ) (a b h k l : Option (List ℕ)) (unsent : List ℕ) (P : List ℕ → Type 0) → Appends k l unsent → Goes asks old now turns a b h k unsent P → Goes asks old now turns a b h l [] P
+sends asks old now turns a b h k l unsent P sent g = (g.0, g.1 ++ unsent, g.2, Appends-trans h k l g.1 unsent g.3 sent, goes_sending asks old now turns g.0 g.1 unsent P g.4)
 
-pub reads : {S : Type 0} (asks : Asks S) (old now : S) (a b c h k : Option (List ℕ)) (bytes : List ℕ) (t s : Held) → Consumes b c bytes → ((text : List ℕ) → StandsAt t text → StandsAt s (text ++ bytes)) → Goes asks old now a b h k [] (ComesTo None t) → Goes asks old now a c h k [] (StandsAt s)
-reads asks old now a b c h k bytes t s read f g = (g.0 ++ bytes, g.1, Consumes-trans a b c g.0 bytes g.2 read, g.3, goes_reading asks old now g.0 g.1 [] bytes (ComesTo None t) (StandsAt s) (λ text l. f text l.0) g.4)
+pub reads : {S : Type 0} (asks : Asks S) (old now : S) (turns : ℕ) (a b c h k : Option (List ℕ)) (bytes : List ℕ) (t s : Held) → 0 < length bytes → Consumes b c bytes → ((text : List ℕ) → StandsAt t text → StandsAt s (text ++ bytes)) → Goes asks old now turns a b h k [] (ComesTo None t) → Goes asks old now (turns + 1) a c h k [] (StandsAt s)
+reads asks old now turns a b c h k bytes t s some read f g = (g.0 ++ bytes, g.1, Consumes-trans a b c g.0 bytes g.2 read, g.3, goes_reading asks old now turns (turns + 1) g.0 g.1 [] bytes (ComesTo None t) (StandsAt s) (omega (arith, some)) (λ text l. f text l.0) g.4)
 
-pub answers : {S : Type 0} (asks : Asks S) (old now last : S) (a b h k : Option (List ℕ)) (t : Held) (op : Op) (answer : Answer) → asks now op (result_of answer) last → Goes asks old now a b h k [] (ComesTo (Some (Do op)) t) → Goes asks old last a b h k (answer_text answer) (StandsAt t)
-answers asks old now last a b h k t op answer one g = (g.0, g.1, g.2, g.3, goes_answered asks old now last g.0 g.1 t op answer one g.4)
+pub answers : {S : Type 0} (asks : Asks S) (old now last : S) (turns : ℕ) (a b h k : Option (List ℕ)) (t : Held) (op : Op) (answer : Answer) → asks now op (result_of answer) last → Goes asks old now turns a b h k [] (ComesTo (Some (Do op)) t) → Goes asks old last (turns + 1) a b h k (answer_text answer) (StandsAt t)
+answers asks old now last turns a b h k t op answer one g = (g.0, g.1, g.2, g.3, goes_answered asks old now last turns g.0 g.1 t op answer one g.4)
 
-pub ends_partly : {S : Type 0} (asks : Asks S) (old now : S) (a b h k : Option (List ℕ)) (unsent : List ℕ) (P : List ℕ → Type 0) (r : Result End SessionFault) → r ≡ Err OutOfMemory → Goes asks old now a b h k unsent P → Ends asks old now a b h k r
-ends_partly asks old now a b h k unsent P r e g =
-    (g.0, g.1, g.2, g.3, subst (Ending asks old now g.0 g.1) (sym e) (is_partly asks old now g.0 g.1 unsent P g.4))
+-- the text at which it stood begins with an item that takes memory
+pub ends_looking : {S : Type 0} (asks : Asks S) (old now : S) (turns : ℕ) (a b h k : Option (List ℕ)) (s : Held) (r : Result End SessionFault) → r ≡ Err OutOfMemory → ((text : List ℕ) → StandsAt s text → FrontTakesRoom text) → Goes asks old now turns a b h k s.unsent (StandsAt s) → Ends asks old now a b h k r
+ends_looking asks old now turns a b h k s r e room g =
+    (g.0, g.1, g.2, g.3, subst (Ending asks old now g.0 g.1) (sym e) (runs_short asks old now turns g.0 g.1 s.unsent (StandsAt s) g.4 (Shortage.item (room g.4.rest g.4.left))))
 
-pub ends_writing : {S : Type 0} (asks : Asks S) (old now : S) (a b h k l : Option (List ℕ)) (unsent : List ℕ) (P : List ℕ → Type 0) (r : Result End SessionFault) → r ≡ Err WriteFailed → AppendsBeginning k l unsent → Goes asks old now a b h k unsent P → Ends asks old now a b h l r
-ends_writing asks old now a b h k l unsent P r e some g =
-    (g.0, g.1 ++ take some.0 unsent, g.2, Appends-trans h k l g.1 (take some.0 unsent) g.3 some.1, subst (Ending asks old now g.0 (g.1 ++ take some.0 unsent)) (sym e) (breaks_off asks old now g.0 g.1 unsent P some.0 g.4))
+-- so many turns were taken as can be counted
+pub ends_counting : {S : Type 0} (asks : Asks S) (old now : S) (turns : ℕ) (a b h k : Option (List ℕ)) (unsent : List ℕ) (P : List ℕ → Type 0) (r : Result End SessionFault) → r ≡ Err OutOfMemory → 2 ^ 64 ≤ turns + 1 → Goes asks old now turns a b h k unsent P → Ends asks old now a b h k r
+ends_counting asks old now turns a b h k unsent P r e many g =
+    (g.0, g.1, g.2, g.3, subst (Ending asks old now g.0 g.1) (sym e) (runs_short asks old now turns g.0 g.1 unsent P g.4 (Shortage.turns (let count = g.4.counted in omega (arith, count, many)))))
 
-pub ends_eof : {S : Type 0} (asks : Asks S) (old now : S) (a b c h k : Option (List ℕ)) (t : Held) (r : Result End SessionFault) → r ≡ Ok End.Eof → Consumes b c [] → Goes asks old now a b h k [] (ComesTo None t) → Ends asks old now a c h k r
-ends_eof asks old now a b c h k t r e read g =
-    (g.0, g.1, subst (Consumes a c) (append-nil g.0) (Consumes-trans a b c g.0 [] g.2 read), g.3, subst (Ending asks old now g.0 g.1) (sym e) (whole_eof asks old now g.0 g.1 t g.4))
+pub ends_writing : {S : Type 0} (asks : Asks S) (old now : S) (turns : ℕ) (a b h k l : Option (List ℕ)) (unsent : List ℕ) (P : List ℕ → Type 0) (r : Result End SessionFault) → r ≡ Err WriteFailed → AppendsBeginning k l unsent → Goes asks old now turns a b h k unsent P → Ends asks old now a b h l r
+ends_writing asks old now turns a b h k l unsent P r e some g =
+    (g.0, g.1 ++ take some.0 unsent, g.2, Appends-trans h k l g.1 (take some.0 unsent) g.3 some.1, subst (Ending asks old now g.0 (g.1 ++ take some.0 unsent)) (sym e) (breaks_off asks old now turns g.0 g.1 unsent P some.0 g.4))
 
-pub ends_quit : {S : Type 0} (asks : Asks S) (old now : S) (a b h k : Option (List ℕ)) (t : Held) → Goes asks old now a b h k [] (ComesTo (Some Quit) t) → Ends asks old now a b h k (Ok End.Quit)
-ends_quit asks old now a b h k t g = (g.0, g.1, g.2, g.3, whole_quit asks old now g.0 g.1 t g.4)
+pub ends_eof : {S : Type 0} (asks : Asks S) (old now : S) (turns : ℕ) (a b c h k : Option (List ℕ)) (t : Held) (r : Result End SessionFault) → r ≡ Ok End.Eof → Consumes b c [] → Goes asks old now turns a b h k [] (ComesTo None t) → Ends asks old now a c h k r
+ends_eof asks old now turns a b c h k t r e read g =
+    (g.0, g.1, subst (Consumes a c) (append-nil g.0) (Consumes-trans a b c g.0 [] g.2 read), g.3, subst (Ending asks old now g.0 g.1) (sym e) (whole_eof asks old now turns g.0 g.1 t g.4))
 
-pub ends_reading : {S : Type 0} (asks : Asks S) (old now : S) (a b c h k : Option (List ℕ)) (t : Held) (fault : SessionFault) (Failed : Type 0) → ((fault ≡ OutOfMemory) × ConsumesSome b c) ⊎ ((fault ≡ ReadFailed) × Failed × Keeps b c) → Goes asks old now a b h k [] (ComesTo None t) → Ends asks old now a c h k (Err fault)
-ends_reading asks old now a b c h k t fault Failed (inl lost) g =
-    (g.0 ++ lost.1.0, g.1, Consumes-trans a b c g.0 lost.1.0 g.2 lost.1.1, g.3, subst (λ f. Ending asks old now (g.0 ++ lost.1.0) g.1 (Err f)) (sym lost.0) (is_partly asks old now (g.0 ++ lost.1.0) g.1 [] (λ text. Unit {0}) (goes_reading asks old now g.0 g.1 [] lost.1.0 (ComesTo None t) (λ text. Unit {0}) (λ text l. tt) g.4)))
-ends_reading asks old now a b c h k t fault Failed (inr failed) g =
-    (g.0, g.1, Consumes-kept a b c g.0 g.2 failed.2, g.3, subst (λ f. Ending asks old now g.0 g.1 (Err f)) (sym failed.0) (whole_eof asks old now g.0 g.1 t g.4))
+pub ends_quit : {S : Type 0} (asks : Asks S) (old now : S) (turns : ℕ) (a b h k : Option (List ℕ)) (t : Held) → Goes asks old now turns a b h k [] (ComesTo (Some Quit) t) → Ends asks old now a b h k (Ok End.Quit)
+ends_quit asks old now turns a b h k t g = (g.0, g.1, g.2, g.3, whole_quit asks old now turns g.0 g.1 t g.4)
 
-pub ends_answering : {S : Type 0} (asks : Asks S) (old now last : S) (a b h k : Option (List ℕ)) (t : Held) (op : Op) (fault : SessionFault) → ((fault ≡ OutOfMemory) × (answer : Answer) × asks now op (result_of answer) last) ⊎ ((fault ≡ ServiceStopped) × asks now op (Err ServiceFault.Stopped) last) → Goes asks old now a b h k [] (ComesTo (Some (Do op)) t) → Ends asks old last a b h k (Err fault)
-ends_answering asks old now last a b h k t op fault (inl lost) g =
-    (g.0, g.1, g.2, g.3, subst (λ f. Ending asks old last g.0 g.1 (Err f)) (sym lost.0) (is_partly asks old last g.0 g.1 (answer_text lost.1) (StandsAt t) (goes_answered asks old now last g.0 g.1 t op lost.1 lost.2 g.4)))
-ends_answering asks old now last a b h k t op fault (inr stopped) g =
-    (g.0, g.1, g.2, g.3, subst (λ f. Ending asks old last g.0 g.1 (Err f)) (sym stopped.0) (stops_at asks old now last g.0 g.1 t op stopped.1 g.4))
+pub ends_reading : {S : Type 0} (asks : Asks S) (old now : S) (turns : ℕ) (a b c h k : Option (List ℕ)) (t : Held) (fault : SessionFault) (Failed : Type 0) → ((fault ≡ OutOfMemory) × (bytes : List ℕ) × (0 < length bytes) × (length bytes ≤ longest_piece) × Consumes b c bytes) ⊎ ((fault ≡ ReadFailed) × Failed × Keeps b c) → Goes asks old now turns a b h k [] (ComesTo None t) → Ends asks old now a c h k (Err fault)
+unfolding goes_reading
+ends_reading asks old now turns a b c h k t fault Failed (inl lost) g =
+    let bytes = lost.1 in
+    let going = goes_reading asks old now turns turns g.0 g.1 [] bytes (ComesTo None t) (λ text. Unit {0}) (omega arith) (λ text l. tt) g.4 in (
+      g.0 ++ bytes,
+      g.1,
+      Consumes-trans a b c g.0 bytes g.2 lost.4,
+      g.3,
+      subst (λ f. Ending asks old now (g.0 ++ bytes) g.1 (Err f)) (sym lost.0)
+          (runs_short asks old now turns (g.0 ++ bytes) g.1 [] (λ text. Unit {0}) going (Shortage.piece g.4.rest bytes refl g.4.left.1 lost.2 lost.3)),
+    )
+ends_reading asks old now turns a b c h k t fault Failed (inr failed) g =
+    (g.0, g.1, Consumes-kept a b c g.0 g.2 failed.2, g.3, subst (λ f. Ending asks old now g.0 g.1 (Err f)) (sym failed.0) (whole_eof asks old now turns g.0 g.1 t g.4))
+
+pub ends_answering : {S : Type 0} (asks : Asks S) (old now last : S) (turns : ℕ) (a b h k : Option (List ℕ)) (t : Held) (op : Op) (fault : SessionFault) → ((fault ≡ OutOfMemory) × (answer : Answer) × asks now op (result_of answer) last) ⊎ ((fault ≡ ServiceStopped) × asks now op (Err ServiceFault.Stopped) last) → Goes asks old now turns a b h k [] (ComesTo (Some (Do op)) t) → Ends asks old last a b h k (Err fault)
+unfolding goes_answered
+ends_answering asks old now last turns a b h k t op fault (inl lost) g =
+    (g.0, g.1, g.2, g.3, subst (λ f. Ending asks old last g.0 g.1 (Err f)) (sym lost.0) (runs_short asks old last (turns + 1) g.0 g.1 (answer_text lost.1) (StandsAt t) (goes_answered asks old now last turns g.0 g.1 t op lost.1 lost.2 g.4) (Shortage.answer refl)))
+ends_answering asks old now last turns a b h k t op fault (inr stopped) g =
+    (g.0, g.1, g.2, g.3, subst (λ f. Ending asks old last g.0 g.1 (Err f)) (sym stopped.0) (stops_at asks old now last turns g.0 g.1 t op stopped.1 g.4))
 
 -- whether it went wrong or not, a beginning of the text was written
 pub began : {X E : Type 0} (r : Result X E) (k l : Option (List ℕ)) (text : List ℕ) → OnOk r (Appends k l text) → OnErr r (AppendsBeginning k l text) → AppendsBeginning k l text
@@ -145,9 +162,9 @@ began (Ok x) k l text all some = (length text, subst (Appends k l) (sym (take-le
 began (Err e) k l text all some = some
 
 -- the same state under other names
-pub goes_as : {S : Type 0} (asks : Asks S) (old now last : S) (a b c h k : Option (List ℕ)) (unsent : List ℕ) (s t : Held) → last ≡ now → c ≡ b → t ≡ s → s.unsent ≡ unsent → Goes asks old now a b h k unsent (StandsAt s) → Goes asks old last a c h k t.unsent (StandsAt t)
-goes_as asks old now last a b c h k unsent s t services readers sessions text g =
-    subst (λ (u : Held). Goes asks old last a c h k u.unsent (StandsAt u)) (sym sessions)
-    (subst (λ (r : Option (List ℕ)). Goes asks old last a r h k s.unsent (StandsAt s)) (sym readers)
-    (subst (λ v. Goes asks old v a b h k s.unsent (StandsAt s)) (sym services)
-    (subst (λ u. Goes asks old now a b h k u (StandsAt s)) (sym text) g)))
+pub goes_as : {S : Type 0} (asks : Asks S) (old now last : S) (turns : ℕ) (a b c h k : Option (List ℕ)) (unsent : List ℕ) (s t : Held) → last ≡ now → c ≡ b → t ≡ s → s.unsent ≡ unsent → Goes asks old now turns a b h k unsent (StandsAt s) → Goes asks old last turns a c h k t.unsent (StandsAt t)
+goes_as asks old now last turns a b c h k unsent s t services readers sessions text g =
+    subst (λ (u : Held). Goes asks old last turns a c h k u.unsent (StandsAt u)) (sym sessions)
+    (subst (λ (r : Option (List ℕ)). Goes asks old last turns a r h k s.unsent (StandsAt s)) (sym readers)
+    (subst (λ v. Goes asks old v turns a b h k s.unsent (StandsAt s)) (sym services)
+    (subst (λ u. Goes asks old now turns a b h k u (StandsAt s)) (sym text) g)))

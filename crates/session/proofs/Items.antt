@@ -5,7 +5,7 @@ use Rattle.bean_codec.specs.declared.request.Fault.{Fault}
 use Rattle.bean_codec.specs.declared.request.Request.TheVariants.{Do, Quit}
 use Rattle.bean_codec.specs.Grammar.{Item, Spells}
 use Rattle.bean_codec.specs.Replies.{fault_text}
-use Rattle.session.specs.Items.{Answer, ReadsFirst, is_quit, operations, told, answer_text}
+use Rattle.session.specs.Items.{Answer, ReadsFirst, is_quit, operations, told_text, answer_text}
 use Rattle.session.specs.Held.{faulty}
 
 -- one item more
@@ -29,21 +29,21 @@ operations-append (Ok Quit ∷ is) js = operations-append is js
 operations-append (Err f ∷ is) js = operations-append is js
 
 -- with xs many answers xs operations, what is told comes one after the other
-pub told-append : (is js : List Item) (xs ys : List Answer) → length xs ≡ length (operations is) → told (is ++ js) (xs ++ ys) ≡ told is xs ++ told js ys
-told-append [] js [] ys n = refl
-told-append [] js (a ∷ xs) ys n = absurd (omega (arith, n))
-told-append (Ok (Do op) ∷ is) js [] ys n = absurd (omega (arith, n))
-told-append (Ok (Do op) ∷ is) js (a ∷ xs) ys n =
-    ap (λ text. answer_text a ++ text) (told-append is js xs ys (omega (arith, n))) ∙ sym (append_assoc (answer_text a) (told is xs) (told js ys))
-told-append (Ok Quit ∷ is) js xs ys n = told-append is js xs ys n
-told-append (Err f ∷ is) js xs ys n =
-    ap (λ text. fault_text f ++ text) (told-append is js xs ys n) ∙ sym (append_assoc (fault_text f) (told is xs) (told js ys))
+pub told_text-append : (is js : List Item) (xs ys : List Answer) → length xs ≡ length (operations is) → told_text (is ++ js) (xs ++ ys) ≡ told_text is xs ++ told_text js ys
+told_text-append [] js [] ys n = refl
+told_text-append [] js (a ∷ xs) ys n = absurd (omega (arith, n))
+told_text-append (Ok (Do op) ∷ is) js [] ys n = absurd (omega (arith, n))
+told_text-append (Ok (Do op) ∷ is) js (a ∷ xs) ys n =
+    ap (λ text. answer_text a ++ text) (told_text-append is js xs ys (omega (arith, n))) ∙ sym (append_assoc (answer_text a) (told_text is xs) (told_text js ys))
+told_text-append (Ok Quit ∷ is) js xs ys n = told_text-append is js xs ys n
+told_text-append (Err f ∷ is) js xs ys n =
+    ap (λ text. fault_text f ++ text) (told_text-append is js xs ys n) ∙ sym (append_assoc (fault_text f) (told_text is xs) (told_text js ys))
 
 pub faulty-one : (faults : List Fault) (fault : Fault) → faulty (faults ++ fault ∷ []) ≡ faulty faults ++ Err fault ∷ []
 faulty-one faults fault = map-append Err faults (fault ∷ [])
 
-pub told-fault : (faults : List Fault) (fault : Fault) → told (faulty (faults ++ fault ∷ [])) [] ≡ told (faulty faults) [] ++ fault_text fault
-told-fault faults fault =
-    ap (λ items. told items []) (faulty-one faults fault) ∙
-    (told-append (faulty faults) (Err fault ∷ []) [] [] (sym (ap (λ ops. length ops) (operations_faulty faults))) ∙
-    ap (λ text. told (faulty faults) [] ++ text) (append-nil (fault_text fault)))
+pub told_text-fault : (faults : List Fault) (fault : Fault) → told_text (faulty (faults ++ fault ∷ [])) [] ≡ told_text (faulty faults) [] ++ fault_text fault
+told_text-fault faults fault =
+    ap (λ items. told_text items []) (faulty-one faults fault) ∙
+    (told_text-append (faulty faults) (Err fault ∷ []) [] [] (sym (ap (λ ops. length ops) (operations_faulty faults))) ∙
+    ap (λ text. told_text (faulty faults) [] ++ text) (append-nil (fault_text fault)))

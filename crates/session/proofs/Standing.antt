@@ -1,5 +1,5 @@
 -- Where a session stands in a text.
-use Rattle.std.proofs.Common.{◌≡◌, ℕ, ◌+◌, ◌*◌, ◌<◌, ◌≤◌, Bool, true, false, if◌then◌else◌, List, [], ◌∷◌, ◌++◌, Option, Some, None, Result, Ok, Err, OnOk, length, take, drop, refl, sym, ap, subst, ◌∙◌, length-append, length-take, arith}
+use Rattle.std.proofs.Common.{◌≡◌, ℕ, ◌+◌, ◌*◌, ◌<◌, ◌≤◌, Bool, true, false, if◌then◌else◌, List, [], ◌∷◌, ◌++◌, Option, Some, None, Result, Ok, Err, OnOk, OnErr, length, take, drop, refl, sym, ap, subst, ◌∙◌, length-append, length-take, arith}
 use Rattle.std.proofs.lemmas.List.{append-nil, append_assoc, take-append-drop, take-append-le, drop-append-le}
 use Rattle.bean_codec.specs.declared.reader.Want.{Want}
 use Rattle.bean_codec.specs.declared.reader.Want.TheVariants.{Line, Rest, Big}
@@ -7,13 +7,14 @@ use Rattle.bean_codec.specs.declared.request.Fault.{Fault}
 use Rattle.bean_codec.specs.declared.request.Request.{Request}
 use Rattle.bean_codec.specs.Lines.{crlf}
 use Rattle.bean_codec.specs.Grammar.{Item, Spells}
+use Rattle.bean_codec.specs.Memory.{TakesMemory}
 use Rattle.bean_codec.specs.Wants.{Fits}
-use Rattle.bean_codec.specs.Reads.{BeginsWithNone, EndsItem}
+use Rattle.bean_codec.specs.Reads.{BeginsWith, BeginsWithNone, EndsItem}
 use Rattle.bean_codec.specs.Replies.{fault_text}
-use Rattle.session.specs.Items.{ReadsFirst, told}
-use Rattle.session.specs.Held.{Held, MayKeep, StandsAt, ComesTo, Finds, holding, faulty}
+use Rattle.session.specs.Items.{ReadsFirst, told_text}
+use Rattle.session.specs.Held.{Held, MayKeep, StandsAt, TakesRoom, FrontTakesRoom, ComesTo, Finds, holding, faulty}
 use Rattle.session.proofs.FitsMore.{fits_more}
-use Rattle.session.proofs.Items.{reads_one, told-fault, faulty-one}
+use Rattle.session.proofs.Items.{reads_one, told_text-fault, faulty-one}
 
 -- what a reader tells of the bytes that it keeps: an item, that some may be dropped, or that more are wanted
 abbrev pub Continues : Want → List ℕ → Item × ℕ → Type 0
@@ -29,8 +30,12 @@ pub on_ok : {X E P Q : Type 0} (r : Result X E) → (P → Q) → OnOk r P → O
 on_ok (Ok x) f p = f p
 on_ok (Err e) f p = tt
 
+pub if_err : {X E P : Type 0} (r : Result X E) → P → OnErr r P
+if_err (Ok x) p = tt
+if_err (Err e) p = p
+
 -- a piece more
-pub stands_more : (s t : Held) (piece : List ℕ) → t ≡ record s { kept = s.kept ++ piece } → (text : List ℕ) → StandsAt s text → StandsAt t (text ++ piece)
+pub stands_more : (s t : Held) (piece : List ℕ) → t ≡ record s { kept = s.kept ++ piece; read_len = 0 } → (text : List ℕ) → StandsAt s text → StandsAt t (text ++ piece)
 stands_more s t piece e text st =
     subst (λ h. StandsAt h (text ++ piece)) (sym e)
     (st.0, fits_more s.want st.0 s.kept piece st.1, ap (λ u. u ++ piece) st.2 ∙ append_assoc st.0 s.kept piece)
@@ -38,7 +43,7 @@ stands_more s t piece e text st =
 -- the faults in front of any text at which it stood are told, and it stands behind them
 abbrev pub Looks : Held → Held → Type 0
 Looks old now = (t : List ℕ) → StandsAt old t →
-    (faults : List Fault) × (rest : List ℕ) × ReadsFirst t (faulty faults) rest × (now.unsent ≡ old.unsent ++ told (faulty faults) []) × StandsAt now rest
+    (faults : List Fault) × (rest : List ℕ) × ReadsFirst t (faulty faults) rest × (now.unsent ≡ old.unsent ++ told_text (faulty faults) []) × StandsAt now rest
 
 pub looks_at_first : (s : Held) → Looks s s
 looks_at_first s t st = ([], t, refl, sym (append-nil s.unsent), st)
@@ -59,7 +64,7 @@ looks_past_fault old want kept unsent new fault used item e looks t st =
       l.0 ++ fault ∷ [],
       drop used kept,
       subst (λ items. ReadsFirst t items (drop used kept)) (sym (faulty-one l.0 fault)) (reads_one t (faulty l.0) l.1 (d ++ take used kept) (drop used kept) (Err fault) l.2 (l.4.2 ∙ cut_in d kept used) ((item d l.4.1).1) refl),
-      e ∙ (ap (λ u. u ++ fault_text fault) l.3 ∙ (append_assoc old.unsent (told (faulty l.0) []) (fault_text fault) ∙ ap (λ u. old.unsent ++ u) (sym (told-fault l.0 fault)))),
+      e ∙ (ap (λ u. u ++ fault_text fault) l.3 ∙ (append_assoc old.unsent (told_text (faulty l.0) []) (fault_text fault) ∙ ap (λ u. old.unsent ++ u) (sym (told_text-fault l.0 fault)))),
       ([], refl, refl),
     )
 
@@ -73,6 +78,29 @@ finds_request old want kept unsent request used item looks t st =
     let l = looks t st in
     let d = l.4.0 in
     (l.0, l.1, l.2, l.3, (d ++ take used kept, drop used kept, l.4.2 ∙ cut_in d kept used, (item d l.4.1).1, ([], refl, refl)))
+
+-- what stands behind faults takes memory, and so does what stands in front
+front_of_faults : (t rest : List ℕ) (faults : List Fault) → ReadsFirst t (faulty faults) rest → FrontTakesRoom rest → FrontTakesRoom t
+front_of_faults t rest [] r room = subst FrontTakesRoom (sym r) room
+front_of_faults t rest (fault ∷ faults) r room = (Err fault, r.0, r.1, r.2, r.3, tt)
+
+takes_room : (item : Item) → TakesMemory item → TakesRoom item
+takes_room (Ok request) takes = takes
+takes_room (Err fault) takes = tt
+
+pub request_takes_room : (old : Held) (want : Want) (kept unsent : List ℕ) → (want ≡ Line) × ((found : Item × ℕ) × TakesMemory found.0 × BeginsWith kept found) → Looks old (holding want kept unsent) → (t : List ℕ) → StandsAt old t → FrontTakesRoom t
+request_takes_room old want kept unsent (line, needs) looks t st =
+    let l = looks t st in
+    let none : l.4.0 ≡ [] = subst (λ w. Fits w l.4.0 kept) line l.4.1 in
+    let same : l.1 ≡ kept = l.4.2 ∙ ap (λ d. d ++ kept) none in
+    let here : FrontTakesRoom kept = (needs.0.0, take needs.0.1 kept, drop needs.0.1 kept, sym (take-append-drop needs.0.1 kept), needs.2.1, takes_room needs.0.0 needs.1) in
+    front_of_faults t l.1 l.0 l.2 (subst FrontTakesRoom (sym same) here)
+
+pub fault_takes_room : (old : Held) (want : Want) (kept unsent : List ℕ) (fault : Fault) (used : ℕ) → Continues want kept (Err fault, used) → Looks old (holding want kept unsent) → (t : List ℕ) → StandsAt old t → FrontTakesRoom t
+fault_takes_room old want kept unsent fault used item looks t st =
+    let l = looks t st in
+    let d = l.4.0 in
+    front_of_faults t l.1 l.0 l.2 (Err fault, d ++ take used kept, drop used kept, l.4.2 ∙ cut_in d kept used, (item d l.4.1).1, tt)
 
 -- what a reader has yet to do: each byte counts twice, and what is dropped once more
 abbrev pub rank : Want → ℕ
@@ -100,16 +128,16 @@ takes (Big n) kept item used c = omega arith
 pub still_front : (n : ℕ) (text more front new : List ℕ) → new ≡ text ++ more → n ≤ length text → take n text ≡ front → take n new ≡ front
 still_front n text more front new e within same = ap (take n) e ∙ (take-append-le n text more within ∙ same)
 
-comes_same : (found : Option Request) (want : Want) (kept a b t : List ℕ) (p q : Bool) → ComesTo found (record { want = want; kept = kept; unsent = a; is_open = p }) t → ComesTo found (record { want = want; kept = kept; unsent = b; is_open = q }) t
-comes_same None want kept a b t p q c = c
-comes_same (Some request) want kept a b t p q c = c
+comes_same : (found : Option Request) (want : Want) (kept a b t : List ℕ) (p q : Bool) (i j k l : ℕ) → ComesTo found (record { want = want; kept = kept; unsent = a; is_open = p; read_len = i; sent_len = j }) t → ComesTo found (record { want = want; kept = kept; unsent = b; is_open = q; read_len = k; sent_len = l }) t
+comes_same None want kept a b t p q i j k l c = c
+comes_same (Some request) want kept a b t p q i j k l c = c
 
 -- what is found where only a part of the text is unsent
-pub finds_unsent : (want next : Want) (kept rest text new : List ℕ) (sent : ℕ) (p q : Bool) (found : Option Request) → sent ≤ length text → ((t : List ℕ) → StandsAt (holding want kept text) t → Finds (holding want kept text) (holding next rest new) t found)
-    → (t : List ℕ) → StandsAt (record { want = want; kept = kept; unsent = drop sent text; is_open = p }) t → Finds (record { want = want; kept = kept; unsent = drop sent text; is_open = p }) (record { want = next; kept = rest; unsent = drop sent new; is_open = q }) t found
-finds_unsent want next kept rest text new sent p q found within finds t st =
+pub finds_unsent : (want next : Want) (kept rest text new : List ℕ) (sent start at : ℕ) (p q : Bool) (found : Option Request) → sent ≤ length text → ((t : List ℕ) → StandsAt (holding want kept text) t → Finds (holding want kept text) (holding next rest new) t found)
+    → (t : List ℕ) → StandsAt (record { want = want; kept = kept; unsent = drop sent text; is_open = p; read_len = start; sent_len = sent }) t → Finds (record { want = want; kept = kept; unsent = drop sent text; is_open = p; read_len = start; sent_len = sent }) (record { want = next; kept = rest; unsent = drop sent new; is_open = q; read_len = at; sent_len = sent }) t found
+finds_unsent want next kept rest text new sent start at p q found within finds t st =
     let f = finds t st in
-    (f.0, f.1, f.2, ap (drop sent) f.3 ∙ drop-append-le sent text (told (faulty f.0) []) within, comes_same found next rest new (drop sent new) f.1 false q f.4)
+    (f.0, f.1, f.2, ap (drop sent) f.3 ∙ drop-append-le sent text (told_text (faulty f.0) []) within, comes_same found next rest new (drop sent new) f.1 false q 0 0 at sent f.4)
 
 -- bytes that may be kept, and perhaps a piece more
 pub keeps_more : (want : Want) (start : ℕ) (old new piece : List ℕ) (ok : Bool) → start ≤ length old → new ≡ (if ok then old ++ piece else old) → MayKeep want (drop start old) → MayKeep want (drop start new)

@@ -6,7 +6,7 @@ use Rattle.bean_codec.specs.Lines.{crlf}
 use Rattle.bean_codec.specs.Grammar.{Item, Spells}
 use Rattle.bean_codec.specs.Reads.{BeginsWith, BeginsWithNone}
 use Rattle.session.specs.declared.faults.End.{End}
-use Rattle.session.specs.Items.{Answer, Reads, IsTranscript, is_quit, told}
+use Rattle.session.specs.Items.{Answer, Reads, IsTranscript, is_quit, told_text}
 
 -- the law of the front: a text begins with an item or with none
 abbrev pub HasFront : List ℕ → Type 0
@@ -73,7 +73,7 @@ reads_within front (suc bound) text within =
 pub has_transcript : ((text : List ℕ) → HasFront text) → (input : List ℕ) (answers : List Answer) → (output : List ℕ) × (end : End) × IsTranscript input answers output end
 has_transcript front input answers =
     let r = reads_within front (length input) input (omega arith) in
-    (told r.0 answers, r.1, (r.0, r.2, refl))
+    (told_text r.0 answers, r.1, (r.0, r.2, refl))
 
 -- an item that is read stands at the front
 stands : (text front rest : List ℕ) (item : Item) → text ≡ front ++ rest → Spells front item → BeginsWithNone text → ⊥
@@ -107,7 +107,7 @@ one_reading one text (i ∷ is) (j ∷ js) d e r q =
 pub one_transcript : IsOneItem → (input : List ℕ) (answers : List Answer) (a b : List ℕ) (d e : End) → IsTranscript input answers a d → IsTranscript input answers b e → (a ≡ b) × (d ≡ e)
 one_transcript one input answers a b d e r q =
     let same = one_reading one input r.0 q.0 d e r.1 q.1 in
-    (r.2 ∙ ap (λ items. told items answers) same.0 ∙ sym q.2, same.1)
+    (r.2 ∙ ap (λ items. told_text items answers) same.0 ∙ sym q.2, same.1)
 
 pub any_cut : IsOneItem → (input other : List ℕ) (answers : List Answer) (a b : List ℕ) (d e : End) → input ≡ other → IsTranscript input answers a d → IsTranscript other answers b e → (a ≡ b) × (d ≡ e)
 any_cut one input other answers a b d e same r q = one_transcript one input answers a b d e r (subst (λ i. IsTranscript i answers b e) (sym same) q)

@@ -1,25 +1,36 @@
 -- What a session holds: of the bytes that it was fed, and of the text that it has yet to send.
-use Rattle.std.specs.Prelude.{◌≡◌, ℕ, Bool, true, false, List, [], ◌++◌, map, Option, None, Some, Ok, Err}
+use Rattle.std.specs.Prelude.{◌≡◌, ℕ, ◌+◌, Bool, true, false, List, [], ◌++◌, length, map, Option, None, Some, Ok, Err}
 use Rattle.bean_codec.specs.declared.reader.Want.{Want}
 use Rattle.bean_codec.specs.declared.reader.Want.TheVariants.{Line}
 use Rattle.bean_codec.specs.declared.request.Fault.{Fault}
 use Rattle.bean_codec.specs.declared.request.Request.{Request}
 use Rattle.bean_codec.specs.declared.request.Request.TheVariants.{Do, Quit}
 use Rattle.bean_codec.specs.Grammar.{Item, Spells}
+use Rattle.bean_codec.specs.Memory.{TakesMemory}
 use Rattle.bean_codec.specs.Wants.{Fits}
 use Rattle.bean_codec.specs.Reads.{BeginsWithNone}
-use Rattle.session.specs.Items.{ReadsFirst, told}
+use Rattle.session.specs.Items.{ReadsFirst, told_text}
 
--- what its reader waits for, the bytes that it keeps, the text not sent yet, and whether an ask is open
+-- what its reader waits for, the bytes that it keeps, the text not sent yet, and whether an ask is open; and how many bytes
+-- lie before these in its two buffers, which were read or sent and not let go of yet
 pub record Held : Type 0 where
   pub want : Want
   pub kept : List ℕ
   pub unsent : List ℕ
   pub is_open : Bool
+  pub read_len : ℕ
+  pub sent_len : ℕ
 
--- holding this, with no ask open
+-- how many bytes its buffers have: that of what it was fed, and that of what it sends
+abbrev pub fed_buffer_len : Held → ℕ
+fed_buffer_len s = s.read_len + length s.kept
+
+abbrev pub text_buffer_len : Held → ℕ
+text_buffer_len s = s.sent_len + length s.unsent
+
+-- holding this and no more, with no ask open
 abbrev pub holding : Want → List ℕ → List ℕ → Held
-holding want kept unsent = record { want = want; kept = kept; unsent = unsent; is_open = false }
+holding want kept unsent = record { want = want; kept = kept; unsent = unsent; is_open = false; read_len = 0; sent_len = 0 }
 
 -- at first it has nothing
 abbrev pub nothing_held : Held
@@ -48,6 +59,15 @@ ComesTo (Some request) s text =
     Spells front (Ok request) ×
     StandsAt s rest
 
+-- the item takes memory: the line of a fault, or what a request keeps
+abbrev pub TakesRoom : Item → Type 0
+TakesRoom (Ok request) = TakesMemory (Ok request)
+TakesRoom (Err fault) = Unit {0}
+
+-- the text begins with such an item
+abbrev pub FrontTakesRoom : List ℕ → Type 0
+FrontTakesRoom text = (item : Item) × (front rest : List ℕ) × (text ≡ front ++ rest) × Spells front item × TakesRoom item
+
 -- the items that are faults
 abbrev pub faulty : List Fault → List Item
 faulty faults = map Err faults
@@ -58,5 +78,5 @@ Finds old new text found =
     (faults : List Fault) ×
     (rest : List ℕ) ×
     ReadsFirst text (faulty faults) rest ×
-    (new.unsent ≡ old.unsent ++ told (faulty faults) []) ×
+    (new.unsent ≡ old.unsent ++ told_text (faulty faults) []) ×
     ComesTo found new rest

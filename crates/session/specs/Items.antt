@@ -3,7 +3,7 @@ use Rattle.std.specs.Prelude.{◌≡◌, ℕ, Bool, true, false, MatchBool, List
 use Rattle.bean_queue.specs.declared.op.Op.{Op}
 use Rattle.bean_queue.specs.declared.reply.Reply.{Reply}
 use Rattle.bean_codec.specs.declared.request.Request.TheVariants.{Do, Quit}
-use Rattle.bean_codec.specs.Lines.{ended}
+use Rattle.bean_codec.specs.Lines.{line_text}
 use Rattle.bean_codec.specs.Grammar.{Item, Spells}
 use Rattle.bean_codec.specs.Reads.{BeginsWithNone}
 use Rattle.bean_codec.specs.Replies.{reply_text, fault_text}
@@ -49,7 +49,7 @@ pub data Answer : Type 0 where
 
 -- the line that answers a refused operation (protocol.txt of beanstalkd, "Protocol")
 unfoldable pub refused_text : List ℕ
-refused_text = ended (codes "OUT_OF_MEMORY")
+refused_text = line_text (codes "OUT_OF_MEMORY")
 
 -- the text of an answer
 abbrev pub answer_text : Answer → List ℕ
@@ -57,13 +57,13 @@ answer_text (Replied reply) = reply_text reply
 answer_text Refused = refused_text
 
 -- item by item: the next answer to an operation, the line of a fault, and nothing for quit
-abbrev pub told : List Item → List Answer → List ℕ
-told [] answers = []
-told (Ok (Do op) ∷ items) [] = []
-told (Ok (Do op) ∷ items) (answer ∷ answers) = answer_text answer ++ told items answers
-told (Ok Quit ∷ items) answers = told items answers
-told (Err fault ∷ items) answers = fault_text fault ++ told items answers
+abbrev pub told_text : List Item → List Answer → List ℕ
+told_text [] answers = []
+told_text (Ok (Do op) ∷ items) [] = []
+told_text (Ok (Do op) ∷ items) (answer ∷ answers) = answer_text answer ++ told_text items answers
+told_text (Ok Quit ∷ items) answers = told_text items answers
+told_text (Err fault ∷ items) answers = fault_text fault ++ told_text items answers
 
 -- the output is what the client is told for this input with these answers, and the session ends so
 abbrev pub IsTranscript : List ℕ → List Answer → List ℕ → End → Type 0
-IsTranscript input answers output end = (items : List Item) × Reads input items end × (output ≡ told items answers)
+IsTranscript input answers output end = (items : List Item) × Reads input items end × (output ≡ told_text items answers)

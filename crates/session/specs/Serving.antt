@@ -1,5 +1,5 @@
 -- What a session over streams has read, asked and written.
-use Rattle.std.specs.Prelude.{◌≡◌, ◌≤◌, ℕ, List, [], ◌∷◌, ◌++◌, length, Option, Result, Ok, Err}
+use Rattle.std.specs.Prelude.{◌≡◌, ◌≤◌, ◌<◌, ◌+◌, ◌^◌, ℕ, List, [], ◌∷◌, ◌++◌, length, Option, Result, Ok, Err}
 use Rattle.std.specs.Io.KnownBytes.{Consumes, Appends}
 use Rattle.bean_queue.specs.declared.op.Op.{Op}
 use Rattle.bean_queue.specs.declared.reply.Reply.{Reply}
@@ -9,7 +9,9 @@ use Rattle.session.specs.declared.faults.End.{End}
 use Rattle.session.specs.declared.faults.ServiceFault.{ServiceFault}
 use Rattle.session.specs.declared.faults.SessionFault.{SessionFault}
 use Rattle.session.specs.declared.faults.SessionFault.TheVariants.{OutOfMemory, ReadFailed, WriteFailed, ServiceStopped}
-use Rattle.session.specs.Items.{Answer, Reads, ReadsFirst, operations, told}
+use Rattle.bean_codec.specs.Reads.{BeginsWithNone}
+use Rattle.session.specs.Held.{FrontTakesRoom}
+use Rattle.session.specs.Items.{Answer, Reads, ReadsFirst, operations, told_text}
 use Rattle.session.specs.Items.Answer.{Replied, Refused}
 
 -- a service by its asks: it before, the operation, its result, and it after
@@ -39,7 +41,7 @@ Whole asks old new input output end =
     (answers : List Answer) ×
     Reads input items end ×
     Asked asks old (operations items) answers new ×
-    (output ≡ told items answers)
+    (output ≡ told_text items answers)
 
 -- the next ask after some first items was answered Stopped, and the output is what is told for these items
 abbrev pub StopsAt : {S : Type 0} → Asks S → S → S → List ℕ → List ℕ → Type 0
@@ -52,7 +54,7 @@ StopsAt asks old new input output =
     ReadsFirst input (items ++ Ok (Do op) ∷ []) rest ×
     Asked asks old (operations items) answers last ×
     asks last op (Err ServiceFault.Stopped) new ×
-    (output ≡ told items answers)
+    (output ≡ told_text items answers)
 
 -- the output is what is told for some first items, and at most one operation more was asked
 abbrev pub Partly : {S : Type 0} → Asks S → S → S → List ℕ → List ℕ → Type 0
@@ -63,7 +65,32 @@ Partly asks old new input output =
     ReadsFirst input (items ++ more) rest ×
     (length (operations more) ≤ 1) ×
     Asked asks old (operations (items ++ more)) answers new ×
-    (output ≡ told items answers)
+    (output ≡ told_text items answers)
+
+-- the most bytes of a read
+abbrev pub longest_piece : ℕ
+longest_piece = 4096
+
+-- memory was short, behind items of which these are not told yet, and in front of this rest: for the next item; for the
+-- answer to the last operation; or for a last piece, before which no item was left. Or the bytes that were read and the
+-- answers are 2^64 - 1 or more
+pub data Shortage (more : List Item) (rest : List ℕ) (count : ℕ) : Type 0 where
+  item : FrontTakesRoom rest → Shortage more rest count
+  answer : length (operations more) ≡ 1 → Shortage more rest count
+  piece : (seen bytes : List ℕ) → rest ≡ seen ++ bytes → BeginsWithNone seen → 0 < length bytes → length bytes ≤ longest_piece → Shortage more rest count
+  turns : 2 ^ 64 ≤ count + 1 → Shortage more rest count
+
+-- the same as Partly, and memory was refused there
+abbrev pub RunsShort : {S : Type 0} → Asks S → S → S → List ℕ → List ℕ → Type 0
+RunsShort asks old new input output =
+    (items more : List Item) ×
+    (answers : List Answer) ×
+    (rest : List ℕ) ×
+    ReadsFirst input (items ++ more) rest ×
+    (length (operations more) ≤ 1) ×
+    Asked asks old (operations (items ++ more)) answers new ×
+    (output ≡ told_text items answers) ×
+    Shortage more rest (length input + length answers)
 
 -- the output is a beginning of what is told for some first items, whose operations were asked, and it has, whole, what
 -- is told for those before the last operation
@@ -75,13 +102,13 @@ BreaksOff asks old new input output =
     ReadsFirst input (items ++ more) rest ×
     (length (operations more) ≤ 1) ×
     Asked asks old (operations (items ++ more)) answers new ×
-    (output ≡ told items answers ++ part) ×
-    (output ++ left ≡ told (items ++ more) answers)
+    (output ≡ told_text items answers ++ part) ×
+    (output ++ left ≡ told_text (items ++ more) answers)
 
 -- how a session ended before it closed the service
 abbrev pub Ending : {S : Type 0} → Asks S → S → S → List ℕ → List ℕ → Result End SessionFault → Type 0
 Ending asks old new input output (Ok end) = Whole asks old new input output end
-Ending asks old new input output (Err OutOfMemory) = Partly asks old new input output
+Ending asks old new input output (Err OutOfMemory) = RunsShort asks old new input output
 Ending asks old new input output (Err ReadFailed) = Whole asks old new input output End.Eof
 Ending asks old new input output (Err WriteFailed) = BreaksOff asks old new input output
 Ending asks old new input output (Err ServiceStopped) = StopsAt asks old new input output

@@ -1,5 +1,8 @@
 //! Streams over memory, for tests: they go in pieces, and fail where they are told to.
-ghost use Rattle.std.specs.Prelude.{◌≡◌, ◌<◌, false, true, [], Some};
+ghost use Rattle.std.specs.Prelude.{◌≡◌, ◌<◌, ◌≤◌, ◌+◌, ◌||◌, false, true, [], Some, length, IfOk, OnOk, OnErr};
+ghost use Rattle.std.specs.Io.{ReadsAtMost, WritesAtMost};
+ghost use Rattle.std.specs.Io.KnownBytes.{ReadConsumes, WriteAppends};
+ghost use Rattle.session.specs.Streams.{finds_end};
 
 use crate::streams::{ByteIn, ByteOut, Failed};
 use std::alloc::Global;
@@ -50,7 +53,17 @@ impl ByteIn for PieceReader<'_> {
 
     ghost has_ended = { λ s. s.ended };
 
-    fn read(&mut self, buf: &mut [u8]) -> Result<usize, Failed> {
+    fn read(&mut self, buf: &mut [u8]) -> Result<usize, Failed>
+        ensures bound { ReadsAtMost result buf.new }
+        ensures bytes { ReadConsumes (Some self.old.rest.now) (Some self.new.rest.now) result buf.new }
+        ensures end { self.new.ended ≡ (self.old.ended || finds_end result buf.new) }
+        ensures piece { IfOk result (λ n. n ≤ self.old.piece_len) }
+        ensures piece_len { self.new.piece_len ≡ self.old.piece_len }
+
+        ensures never_failed { OnOk result (self.old.failed ≡ false) }
+        ensures ok { OnOk result (self.new.failed ≡ false) }
+        ensures err { OnErr result (self.new.failed ≡ true) }
+    {
         if self.failed {
             return Err(Failed);
         }
@@ -109,7 +122,18 @@ impl ByteOut for PieceWriter {
 
     ghost has_failed = { λ s. s.failed };
 
-    fn write(&mut self, bytes: &[u8]) -> Result<usize, Failed> {
+    fn write(&mut self, bytes: &[u8]) -> Result<usize, Failed>
+        ensures bound { WritesAtMost result bytes.now }
+        ensures some { IfOk result (λ n. 0 < length bytes.now → 0 < n) }
+        ensures bytes { WriteAppends (Some self.old.bytes.items) (Some self.new.bytes.items) result bytes.now }
+        ensures piece { IfOk result (λ n. n ≤ self.old.piece_len) }
+        ensures piece_len { self.new.piece_len ≡ self.old.piece_len }
+        ensures room { IfOk result (λ n. self.new.room + n ≡ self.old.room) }
+
+        ensures never_failed { OnOk result (self.old.failed ≡ false) }
+        ensures ok { OnOk result (self.new.failed ≡ false) }
+        ensures err { OnErr result (self.new.failed ≡ true) }
+    {
         if self.failed {
             return Err(Failed);
         }

@@ -1,9 +1,9 @@
-ghost use Rattle.std.specs.Prelude.{◌≡◌, ◌<◌, ◌⊎◌, ◌++◌, ℕ, List, [], true, false, Ok, Err, length, IfOk, IfErr, OnOk, OnErr};
+ghost use Rattle.std.specs.Prelude.{◌≡◌, ◌<◌, ◌≤◌, ◌⊎◌, ◌++◌, ℕ, List, [], true, false, Ok, Err, length, IfOk, IfErr, OnOk, OnErr};
 ghost use Rattle.std.specs.Io.KnownBytes.{Appends, Consumes, IsAtEnd, Keeps};
-ghost use Rattle.session.specs.Streams.{AppendsBeginning, ConsumesSome};
+ghost use Rattle.session.specs.Streams.{AppendsBeginning};
 ghost use Rattle.session.specs.Items.{Answer, answer_text};
 ghost use Rattle.session.specs.Held.{StandsAt};
-ghost use Rattle.session.specs.Serving.{Over, Ending, Whole, StopsAt, Partly, BreaksOff, ClosedAfter, ClosedOnce, result_of};
+ghost use Rattle.session.specs.Serving.{Over, Ending, Whole, StopsAt, Partly, RunsShort, BreaksOff, longest_piece, ClosedAfter, ClosedOnce, result_of};
 
 use crate::faults::{End, ServiceFault, SessionFault};
 use crate::service::Service;
@@ -21,7 +21,7 @@ const PIECE_LEN: usize = 4096;
 fn send<W: ByteOut>(session: &mut Session, writer: &mut W) -> Result<(), Failed>
     ensures ok { OnOk result
         (Appends (W.contents writer.old) (W.contents writer.new) session.old.unsent) }
-    ensures sent { OnOk result (session.new ≡ record session.old { unsent = [] }) }
+    ensures sent { OnOk result (session.new ≡ record session.old { unsent = []; sent_len = 0 }) }
     ensures err { OnErr result
         (AppendsBeginning (W.contents writer.old) (W.contents writer.new) session.old.unsent) }
     ensures failed { OnErr result (W.has_failed writer.new ≡ true) }
@@ -62,7 +62,8 @@ fn read_piece<R: ByteIn>(
     piece: &mut [u8],
     session: &mut Session,
 ) -> Result<bool, SessionFault>
-    requires { 0 < length piece.old }
+    requires some { 0 < length piece.old }
+    requires few { length piece.old ≤ longest_piece }
     ensures fed { IfOk result (λ some. some ≡ true
         → (bytes : List ℕ) × (0 < length bytes)
         × Consumes (R.remaining reader.old) (R.remaining reader.new) bytes
@@ -72,10 +73,14 @@ fn read_piece<R: ByteIn>(
         → (R.has_ended reader.new ≡ true) × IsAtEnd (R.remaining reader.new)
         × Consumes (R.remaining reader.old) (R.remaining reader.new) []) }
     ensures err { IfErr result (λ fault.
-        ((fault ≡ SessionFault.OutOfMemory)
-        × ConsumesSome (R.remaining reader.old) (R.remaining reader.new))
+        ((fault ≡ SessionFault.OutOfMemory) × (bytes : List ℕ) × (0 < length bytes)
+        × (length bytes ≤ longest_piece)
+        × Consumes (R.remaining reader.old) (R.remaining reader.new) bytes)
         ⊎ ((fault ≡ SessionFault.ReadFailed) × (R.has_failed reader.new ≡ true)
         × Keeps (R.remaining reader.old) (R.remaining reader.new))) }
+    ensures goes_on { IfOk result (λ some. some ≡ true
+        → R.has_ended reader.new ≡ R.has_ended reader.old) }
+    ensures not_ended { OnErr result (R.has_ended reader.new ≡ R.has_ended reader.old) }
 {
     let n = reader.read(piece).map_err(|_| SessionFault::ReadFailed)?;
     if n == 0 {
@@ -101,10 +106,12 @@ fn converse<R: ByteIn, W: ByteOut, S: Service>(
         → R.has_failed reader.new ≡ true) }
     ensures write_failed { IfErr result (λ fault. fault ≡ SessionFault.WriteFailed
         → W.has_failed writer.new ≡ true) }
+    ensures ran_short { IfErr result (λ fault. fault ≡ SessionFault.OutOfMemory
+        → R.has_ended reader.new ≡ R.has_ended reader.old) }
 {
     let mut session = Session::new(alloc);
     let mut piece = [0; PIECE_LEN];
-    'turns: for _ in 0..u64::MAX {
+    'turns: for _turn in 0..u64::MAX {
         let found = session.next_ask()?;
         send(&mut session, writer).map_err(|_| SessionFault::WriteFailed)?;
         match found {
@@ -117,7 +124,7 @@ fn converse<R: ByteIn, W: ByteOut, S: Service>(
             Some(Request::Do(op)) => answer(&mut session, service, op)?,
         }
     }
-    // No client lives for so many turns.
+    // No client lives for so many turns, each of which reads a byte or asks for an operation.
     Err(SessionFault::OutOfMemory)
 }
 
@@ -164,6 +171,15 @@ pub fn serve<R: ByteIn, W: ByteOut, S: Service>(
         (W.contents writer.new)
         (λ input output. ClosedOnce S.closes
         (λ s. Partly S.asks service.old s input output) service.new
+        ⊎ ((end : End)
+        × ClosedAfter S.closes (λ s. Whole S.asks service.old s input output end)
+        (Err ServiceFault.Refused) service.new × (end ≡ End.Eof → R.has_ended reader.new ≡ true))) }
+    ensures ran_short { result ≡ Err SessionFault.OutOfMemory
+        → Over (R.remaining reader.old) (R.remaining reader.new) (W.contents writer.old)
+        (W.contents writer.new)
+        (λ input output. (ClosedOnce S.closes
+        (λ s. RunsShort S.asks service.old s input output) service.new
+        × (R.has_ended reader.new ≡ R.has_ended reader.old))
         ⊎ ((end : End)
         × ClosedAfter S.closes (λ s. Whole S.asks service.old s input output end)
         (Err ServiceFault.Refused) service.new × (end ≡ End.Eof → R.has_ended reader.new ≡ true))) }

@@ -1,8 +1,8 @@
-ghost use Rattle.std.specs.Prelude.{◌≡◌, ◌≤◌, ◌++◌, ℕ, List, true, false, None, length, take, drop, vec_len, IfOk, OnOk, OnErr};
+ghost use Rattle.std.specs.Prelude.{◌≡◌, ◌<◌, ◌≤◌, ◌+◌, ◌++◌, ℕ, List, true, false, None, length, take, drop, vec_len, IfOk, OnOk, OnErr};
 ghost use Rattle.bean_codec.specs.Reads.{longest_wait};
 ghost use Rattle.bean_codec.specs.Replies.{reply_text};
 ghost use Rattle.session.specs.Items.{refused_text};
-ghost use Rattle.session.specs.Held.{holding, nothing_held, is_asked, MayKeep, StandsAt, Finds};
+ghost use Rattle.session.specs.Held.{holding, nothing_held, is_asked, fed_buffer_len, text_buffer_len, MayKeep, StandsAt, FrontTakesRoom, Finds};
 
 use bean_codec::{Read, Request, Want, read_request, write_fault, write_reply};
 use bean_queue::Reply;
@@ -12,7 +12,8 @@ use std::marker::Model;
 /// One client's bytes on their way to asks, and its answers on their way back to bytes.
 ///
 /// Bytes are fed as they come. Asks are taken one by one, each is answered before the next is taken, and what is to be
-/// told gathers until it is sent. Where no ask is left, no more is kept than a request that isn't finished.
+/// told gathers until it is sent. Where no ask is left, no more is kept than a request that isn't finished, and the next
+/// piece takes the place of what was read.
 #[derive(Drop)]
 pub struct Session {
     /// What was fed, as far as it is kept.
@@ -34,7 +35,7 @@ impl Model for Session {
 
     ghost Value = { Held };
 
-    ghost view = { λ s. record { want = s.want; kept = drop s.start s.bytes.items; unsent = drop s.sent s.text.items; is_open = s.is_open } };
+    ghost view = { λ s. record { want = s.want; kept = drop s.start s.bytes.items; unsent = drop s.sent s.text.items; is_open = s.is_open; read_len = s.start; sent_len = s.sent } };
 
     ghost invariant = { λ s. (s.start ≤ vec_len s.bytes) × (s.sent ≤ vec_len s.text) × MayKeep s.want (drop s.start s.bytes.items) };
 }
@@ -55,13 +56,15 @@ impl Session {
         }
     }
 
-    /// The next bytes of the client, which are copied.
+    /// The next bytes of the client, which are copied. What was read is let go of, even where memory is refused.
     pub fn feed(&mut self, piece: &[u8]) -> Result<(), AllocError>
         ensures ok { OnOk result (self.new
-            ≡ record self.old { kept = self.old.kept ++ piece.now }) }
+            ≡ record self.old { kept = self.old.kept ++ piece.now; read_len = 0 }) }
         ensures stands { OnOk result ((text : List ℕ) → StandsAt self.old text
             → StandsAt self.new (text ++ piece.now)) }
-        ensures err { OnErr result (self.new ≡ self.old) }
+        ensures buffer { OnOk result (fed_buffer_len self.new
+            ≡ length self.old.kept + length piece.now) }
+        ensures err { OnErr result (self.new ≡ record self.old { read_len = 0 }) }
     {
         self.append(piece)
     }
@@ -69,8 +72,8 @@ impl Session {
     // A piece more is kept.
     fn append(&mut self, piece: &[u8]) -> Result<(), AllocError>
         ensures ok { OnOk result (self.new
-            ≡ record self.old { kept = self.old.kept ++ piece.now }) }
-        ensures err { OnErr result (self.new ≡ self.old) }
+            ≡ record self.old { kept = self.old.kept ++ piece.now; read_len = 0 }) }
+        ensures err { OnErr result (self.new ≡ record self.old { read_len = 0 }) }
     {
         self.shift_down();
         self.bytes.extend_from_slice(piece)
@@ -78,7 +81,7 @@ impl Session {
 
     // Lets go of what is read.
     fn shift_down(&mut self)
-        ensures { self.new ≡ self.old }
+        ensures { self.new ≡ record self.old { read_len = 0 } }
     {
         if self.start > 0 {
             let kept = self.bytes.len() - self.start;
@@ -96,6 +99,9 @@ impl Session {
             → Finds self.old self.new text found) }
         ensures open { IfOk result (λ found. self.new.is_open ≡ is_asked found) }
         ensures small { IfOk result (λ found. found ≡ None → length self.new.kept ≤ longest_wait) }
+        ensures buffer { OnOk result (fed_buffer_len self.new ≡ fed_buffer_len self.old) }
+        ensures sent_len { OnOk result (self.new.sent_len ≡ self.old.sent_len) }
+        ensures memory { OnErr result ((text : List ℕ) → StandsAt self.old text → FrontTakesRoom text) }
         ensures err { OnErr result (self.new ≡ self.old) }
     {
         let len = self.text.len();
@@ -126,10 +132,17 @@ impl Session {
         &self.text[self.sent..]
     }
 
-    /// So many bytes more are sent.
+    /// So many bytes more are sent. Once all are, none is kept.
     pub fn sent(&mut self, n: usize)
         requires { n ≤ length self.old.unsent }
-        ensures { self.new ≡ record self.old { unsent = drop n self.old.unsent } }
+        ensures unsent { self.new
+            ≡ record self.old {
+              unsent = drop n self.old.unsent;
+              sent_len = self.new.sent_len;
+            } }
+        ensures all { n ≡ length self.old.unsent → text_buffer_len self.new ≡ 0 }
+        ensures some { n < length self.old.unsent → text_buffer_len self.new
+            ≡ text_buffer_len self.old }
     {
         self.sent += n;
         if self.sent == self.text.len() {
@@ -194,6 +207,8 @@ fn look_on(
         (holding found.want (drop found.start bytes.now) text.new.items) t found.request) }
     ensures small { IfOk result (λ found. found.request ≡ None
         → length (drop found.start bytes.now) ≤ longest_wait) }
+    ensures memory { OnErr result ((t : List ℕ)
+        → StandsAt (holding want (drop start bytes.now) text.old.items) t → FrontTakesRoom t) }
     ensures front { take (vec_len text.old) text.new.items ≡ text.old.items }
 {
     let mut at = start;

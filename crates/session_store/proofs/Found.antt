@@ -5,7 +5,7 @@ use Rattle.object.specs.Lists.{In}
 use Rattle.job_store.specs.Entries.{Rising}
 use Rattle.job_store.specs.Least.{IsLeast, NonePasses, lesser, least}
 use Rattle.job_store.proofs.Least.{lesser-lesser, least-found, least-none, least-only}
-use Rattle.session_store.specs.Firsts.{first_of}
+use Rattle.job_store.specs.Least.{first_of}
 
 -- Lists with the same elements have the same least
 

@@ -9,7 +9,7 @@ use Rattle.std.proofs.lemmas.Bool.Decides.{nat_tests}
 use Rattle.object.specs.Lists.{In}
 use Rattle.job_store.specs.Entries.{Rising, value_at}
 use Rattle.job_store.specs.Least.{least}
-use Rattle.session_store.specs.declared.session.Session.{Session}
+use Rattle.session_store.specs.declared.session.SessionState.{SessionState}
 use Rattle.session_store.specs.declared.session.Wait.{Wait}
 use Rattle.session_store.specs.declared.place.Place.{Place}
 use Rattle.session_store.specs.declared.time_outs.TimeOuts.{TimeOuts}
@@ -19,7 +19,7 @@ use Rattle.session_store.specs.EntryLaws.{value_at-In, value_at-found, value_at-
 use Rattle.session_store.proofs.Places.{in_keys, stays_but, some_place}
 use Rattle.session_store.proofs.Found.{least_alike, mapped-in, mapped-from, filtered-in}
 
-pub some_entry : (d e : ℕ × Session) → Some d ≡ Some e → d ≡ e
+pub some_entry : (d e : ℕ × SessionState) → Some d ≡ Some e → d ≡ e
 some_entry d e h = cc
 
 -- a time-out is over by the second
@@ -34,15 +34,15 @@ over_waits : (second : ℕ) (wait : Option Wait) → has_timed_out second wait �
 over_waits second None e = e
 over_waits second (Some w) e = refl
 
-over-at : (second : ℕ) (sessions : List (ℕ × Session)) (p : Place) (c : Session) → value_at p.session sessions ≡ Some c → has_timed_out second c.wait ≡ true → over_at second sessions p ≡ Some (p.session, c)
+over-at : (second : ℕ) (sessions : List (ℕ × SessionState)) (p : Place) (c : SessionState) → value_at p.session sessions ≡ Some c → has_timed_out second c.wait ≡ true → over_at second sessions p ≡ Some (p.session, c)
 over-at second sessions p c there over =
-    let seen : Option Session → Option (ℕ × Session) = λ o. elim o as (λ _. Option (ℕ × Session)) [ None ↦ None | Some s ↦ cond (has_timed_out second s.wait) (Some (p.session, s)) None ] in
+    let seen : Option SessionState → Option (ℕ × SessionState) = λ o. elim o as (λ _. Option (ℕ × SessionState)) [ None ↦ None | Some s ↦ cond (has_timed_out second s.wait) (Some (p.session, s)) None ] in
     ap seen there ∙ cond-true (has_timed_out second c.wait) (Some (p.session, c)) None over
 
 -- who is seen at a place is there, and its wait is over
-over-from : (second : ℕ) (sessions : List (ℕ × Session)) (p : Place) (e : ℕ × Session) → over_at second sessions p ≡ Some e → In e sessions × (has_timed_out second e.1.wait ≡ true)
+over-from : (second : ℕ) (sessions : List (ℕ × SessionState)) (p : Place) (e : ℕ × SessionState) → over_at second sessions p ≡ Some e → In e sessions × (has_timed_out second e.1.wait ≡ true)
 over-from second sessions p e seen =
-    elim (value_at p.session sessions) as (λ o. value_at p.session sessions ≡ o → (elim o as (λ o. Option (ℕ × Session)) [ None ↦ None | Some s ↦ cond (has_timed_out second s.wait) (Some (p.session, s)) None ]) ≡ Some e → In e sessions × (has_timed_out second e.1.wait ≡ true)) [
+    elim (value_at p.session sessions) as (λ o. value_at p.session sessions ≡ o → (elim o as (λ o. Option (ℕ × SessionState)) [ None ↦ None | Some s ↦ cond (has_timed_out second s.wait) (Some (p.session, s)) None ]) ≡ Some e → In e sessions × (has_timed_out second e.1.wait ≡ true)) [
       | None ↦ λ v h. cc
       | Some c ↦ λ v.
           elim (has_timed_out second c.wait) as (λ b. has_timed_out second c.wait ≡ b → cond b (Some (p.session, c)) None ≡ Some e → In e sessions × (has_timed_out second e.1.wait ≡ true)) [
@@ -65,7 +65,7 @@ over_in : (second x : ℕ) (wait : Option Wait) (line : BTreeSet Place) → x < 
 over_in second x None line below h e = cc
 over_in second x (Some w) line below h e = over_by second x w.time_out line below h e
 
-pub over_found : (second : ℕ) (sessions : List (ℕ × Session)) (time_outs : TimeOuts) → Rising 0 (2 ^ 32) sessions → EachStands (StandsByTimeOut time_outs) sessions → least (λ e. true) wait_rank (filter_map (over_at second sessions) (places_by second time_outs.line)) ≡ first_waiting (λ e. has_timed_out second e.1.wait) sessions
+pub over_found : (second : ℕ) (sessions : List (ℕ × SessionState)) (time_outs : TimeOuts) → Rising 0 (2 ^ 32) sessions → EachStands (StandsByTimeOut time_outs) sessions → least (λ e. true) wait_rank (filter_map (over_at second sessions) (places_by second time_outs.line)) ≡ first_waiting (λ e. has_timed_out second e.1.wait) sessions
 over_found second sessions time_outs r complete =
     least_alike (λ e. is_waiting e.1 && has_timed_out second e.1.wait) (λ e. true) wait_rank sessions _ 0 (2 ^ 32) r
     (λ e i _.
@@ -91,7 +91,7 @@ time_out_place-of x None p e = cc
 time_out_place-of x (Some w) p e = time_out_of x w.time_out p e
 
 -- a place at which nobody stands is taken out
-pub late-left : (x : ℕ) (k : Place) (time_outs time_outs' : TimeOuts) (sessions : List (ℕ × Session)) → Rising 0 (2 ^ 32) sessions → k.session ≡ x → (time_out_place x (session_of x sessions).wait ≡ Some k → ⊥) → ((p : Place) → contains place_cmp time_outs'.line p ≡ cond (is_at (place_cmp k) p) false (contains place_cmp time_outs.line p)) → EachStands (StandsByTimeOut time_outs) sessions → EachStands (StandsByTimeOut time_outs') sessions
+pub late-left : (x : ℕ) (k : Place) (time_outs time_outs' : TimeOuts) (sessions : List (ℕ × SessionState)) → Rising 0 (2 ^ 32) sessions → k.session ≡ x → (time_out_place x (session_of x sessions).wait ≡ Some k → ⊥) → ((p : Place) → contains place_cmp time_outs'.line p ≡ cond (is_at (place_cmp k) p) false (contains place_cmp time_outs.line p)) → EachStands (StandsByTimeOut time_outs) sessions → EachStands (StandsByTimeOut time_outs') sessions
 late-left x k time_outs time_outs' sessions r whose gone updates h =
     λ e i.
     elim (time_out_place e.0 e.1.wait) as (λ o. time_out_place e.0 e.1.wait ≡ o → IfSome o (IsIn time_outs.line) → IfSome o (IsIn time_outs'.line)) [

@@ -15,7 +15,7 @@ use Rattle.object.specs.Lists.{In}
 use Rattle.job_store.specs.Entries.{Rising, value_at}
 use Rattle.job_store.specs.Least.{ComesBefore, IsLeast}
 use Rattle.job_store.proofs.Least.{least-found, least-only}
-use Rattle.session_store.specs.declared.session.Session.{Session}
+use Rattle.session_store.specs.declared.session.SessionState.{SessionState}
 use Rattle.session_store.specs.declared.session.Wait.{Wait}
 use Rattle.session_store.specs.declared.place.Place.{Place}
 use Rattle.session_store.specs.declared.tube_lines.TubeLines.{TubeLines}
@@ -72,16 +72,16 @@ empty-line p line none h = subst (λ ks. list_any (is_at (place_cmp p)) ks ≡ t
 
 -- Who stands at a place
 
-standing-at : (tube : List ℕ) (sessions : List (ℕ × Session)) (p : Place) (c : Session) → value_at p.session sessions ≡ Some c → is_waiting c ≡ true → is_among tube c.watched ≡ true → wait_rank c ≡ p.order → standing tube sessions p ≡ Some (p.session, c)
+standing-at : (tube : List ℕ) (sessions : List (ℕ × SessionState)) (p : Place) (c : SessionState) → value_at p.session sessions ≡ Some c → is_waiting c ≡ true → is_among tube c.watched ≡ true → wait_rank c ≡ p.order → standing tube sessions p ≡ Some (p.session, c)
 standing-at tube sessions p c there waits watches rank =
-    let seen : Option Session → Option (ℕ × Session) = λ o. elim o as (λ _. Option (ℕ × Session)) [ None ↦ None | Some s ↦ cond (is_waiting s && is_among tube s.watched && wait_rank s == p.order) (Some (p.session, s)) None ] in
+    let seen : Option SessionState → Option (ℕ × SessionState) = λ o. elim o as (λ _. Option (ℕ × SessionState)) [ None ↦ None | Some s ↦ cond (is_waiting s && is_among tube s.watched && wait_rank s == p.order) (Some (p.session, s)) None ] in
     ap seen there ∙
     cond-true (is_waiting c && is_among tube c.watched && wait_rank c == p.order) (Some (p.session, c)) None
     (and_from (is_waiting c && is_among tube c.watched) (wait_rank c == p.order) (and_from (is_waiting c) (is_among tube c.watched) waits watches) (eq-eqb (wait_rank c) p.order rank))
 
-standing-from : (tube : List ℕ) (sessions : List (ℕ × Session)) (p : Place) (e : ℕ × Session) → standing tube sessions p ≡ Some e → In e sessions × ((is_waiting e.1 && is_among tube e.1.watched) ≡ true) × (wait_rank e.1 ≡ p.order) × (e.0 ≡ p.session)
+standing-from : (tube : List ℕ) (sessions : List (ℕ × SessionState)) (p : Place) (e : ℕ × SessionState) → standing tube sessions p ≡ Some e → In e sessions × ((is_waiting e.1 && is_among tube e.1.watched) ≡ true) × (wait_rank e.1 ≡ p.order) × (e.0 ≡ p.session)
 standing-from tube sessions p e seen =
-    elim (value_at p.session sessions) as (λ o. value_at p.session sessions ≡ o → (elim o as (λ o. Option (ℕ × Session)) [ None ↦ None | Some s ↦ cond (is_waiting s && is_among tube s.watched && wait_rank s == p.order) (Some (p.session, s)) None ]) ≡ Some e → In e sessions × ((is_waiting e.1 && is_among tube e.1.watched) ≡ true) × (wait_rank e.1 ≡ p.order) × (e.0 ≡ p.session)) [
+    elim (value_at p.session sessions) as (λ o. value_at p.session sessions ≡ o → (elim o as (λ o. Option (ℕ × SessionState)) [ None ↦ None | Some s ↦ cond (is_waiting s && is_among tube s.watched && wait_rank s == p.order) (Some (p.session, s)) None ]) ≡ Some e → In e sessions × ((is_waiting e.1 && is_among tube e.1.watched) ≡ true) × (wait_rank e.1 ≡ p.order) × (e.0 ≡ p.session)) [
       | None ↦ λ v h. cc
       | Some c ↦ λ v.
           elim (is_waiting c && is_among tube c.watched && wait_rank c == p.order) as (λ b. (is_waiting c && is_among tube c.watched && wait_rank c == p.order) ≡ b → cond b (Some (p.session, c)) None ≡ Some e → In e sessions × ((is_waiting e.1 && is_among tube e.1.watched) ≡ true) × (wait_rank e.1 ≡ p.order) × (e.0 ≡ p.session)) [
@@ -91,7 +91,7 @@ standing-from tube sessions p e seen =
                 let there = value_at-found p.session sessions c v in
                 let it : there.0 ≡ (p.session, c) = λ i. (there.2 i, there.3 i) in
                 let both = and_parts (is_waiting c && is_among tube c.watched) (wait_rank c == p.order) t in
-                subst (λ (d : ℕ × Session). In d sessions × ((is_waiting d.1 && is_among tube d.1.watched) ≡ true) × (wait_rank d.1 ≡ p.order) × (d.0 ≡ p.session)) same
+                subst (λ (d : ℕ × SessionState). In d sessions × ((is_waiting d.1 && is_among tube d.1.watched) ≡ true) × (wait_rank d.1 ≡ p.order) × (d.0 ≡ p.session)) same
                 (subst (λ d. In d sessions) it there.1, both.0, eqb-true (wait_rank c) p.order both.1, refl)
           ] refl
     ] refl seen
@@ -106,26 +106,26 @@ some_place_of x (Some w) p e =
     let it : place w.rank x ≡ p = some_place (place w.rank x) p e in
     (refl, ap (λ (q : Place). q.order) it, ap (λ (q : Place). q.session) (sym it))
 
-rank_place-of : (x : ℕ) (c : Session) (p : Place) → rank_place x c.wait ≡ Some p → (is_waiting c ≡ true) × (wait_rank c ≡ p.order) × (p.session ≡ x)
+rank_place-of : (x : ℕ) (c : SessionState) (p : Place) → rank_place x c.wait ≡ Some p → (is_waiting c ≡ true) × (wait_rank c ≡ p.order) × (p.session ≡ x)
 rank_place-of x c p e = some_place_of x c.wait p e
 
-none_some : (e : ℕ × Session) → None ≡ Some e → ⊥
+none_some : (e : ℕ × SessionState) → None ≡ Some e → ⊥
 none_some e h = cc
 
-not_empty : (e : ℕ × Session) (es : List (ℕ × Session)) → slice_get es 0 ≡ None → In e es → ⊥
+not_empty : (e : ℕ × SessionState) (es : List (ℕ × SessionState)) → slice_get es 0 ≡ None → In e es → ⊥
 not_empty e [] none i = i
 not_empty e (d ∷ ds) none i = none_some d (sym none)
 
-never_itself : (by : Session → ℕ) (e : ℕ × Session) → ComesBefore by e e → ⊥
+never_itself : (by : SessionState → ℕ) (e : ℕ × SessionState) → ComesBefore by e e → ⊥
 never_itself by e (inl h) = omega arith
 never_itself by e (inr h) = omega (arith, h.1)
 
 -- the place of a session that waits
-waiting-place : (x : ℕ) (c : Session) → is_waiting c ≡ true → rank_place x c.wait ≡ Some (place (wait_rank c) x)
+waiting-place : (x : ℕ) (c : SessionState) → is_waiting c ≡ true → rank_place x c.wait ≡ Some (place (wait_rank c) x)
 waiting-place x c e = waiting_place_of x c.wait e
 
 -- each session that waits for a job of the tube is seen at its place in the line
-seen-in : (tube : List ℕ) (sessions : List (ℕ × Session)) (tubes : TubeLines) → Rising 0 (2 ^ 32) sessions → EachStands (StandsByTubes tubes) sessions → (e : ℕ × Session) → In e sessions → (is_waiting e.1 && is_among tube e.1.watched) ≡ true → In e (filter_map (standing tube sessions) (line_of tube tubes).keys)
+seen-in : (tube : List ℕ) (sessions : List (ℕ × SessionState)) (tubes : TubeLines) → Rising 0 (2 ^ 32) sessions → EachStands (StandsByTubes tubes) sessions → (e : ℕ × SessionState) → In e sessions → (is_waiting e.1 && is_among tube e.1.watched) ≡ true → In e (filter_map (standing tube sessions) (line_of tube tubes).keys)
 seen-in tube sessions tubes r complete e i t =
     let both = and_parts (is_waiting e.1) (is_among tube e.1.watched) t in
     let p : Place = place (wait_rank e.1) e.0 in
@@ -161,17 +161,17 @@ less_by p q e =
     ]
 
 -- who stands later in the line does not come before who stands earlier
-later-not : (p q : Place) (d e : ℕ × Session) → place_cmp p q ≡ Less → wait_rank e.1 ≡ p.order → e.0 ≡ p.session → wait_rank d.1 ≡ q.order → d.0 ≡ q.session → ComesBefore wait_rank d e → ⊥
+later-not : (p q : Place) (d e : ℕ × SessionState) → place_cmp p q ≡ Less → wait_rank e.1 ≡ p.order → e.0 ≡ p.session → wait_rank d.1 ≡ q.order → d.0 ≡ q.session → ComesBefore wait_rank d e → ⊥
 later-not p q d e less re se rd sd before =
     elim (less_by p q less) as (λ v. ⊥) [
       | inl order ↦ elim before as (λ v. ⊥) [ inl h ↦ omega (arith, re, rd, h, order) | inr h ↦ omega (arith, re, rd, h.0, order) ]
       | inr both ↦ elim before as (λ v. ⊥) [ inl h ↦ omega (arith, re, rd, h, both.0) | inr h ↦ omega (arith, se, sd, h.1, both.1) ]
     ]
 
-first-least : (tube : List ℕ) (sessions : List (ℕ × Session)) (e : ℕ × Session) (ks : List Place) → IsStrictlySortedBy place_cmp ks → slice_get (filter_map (standing tube sessions) ks) 0 ≡ Some e → In e (filter_map (standing tube sessions) ks) × ((d : ℕ × Session) → In d (filter_map (standing tube sessions) ks) → ComesBefore wait_rank d e → ⊥)
+first-least : (tube : List ℕ) (sessions : List (ℕ × SessionState)) (e : ℕ × SessionState) (ks : List Place) → IsStrictlySortedBy place_cmp ks → slice_get (filter_map (standing tube sessions) ks) 0 ≡ Some e → In e (filter_map (standing tube sessions) ks) × ((d : ℕ × SessionState) → In d (filter_map (standing tube sessions) ks) → ComesBefore wait_rank d e → ⊥)
 first-least tube sessions e [] sorted f = cc
 first-least tube sessions e (k ∷ ks) sorted f =
-    elim (standing tube sessions k) as (λ o. standing tube sessions k ≡ o → slice_get (cons_option o (filter_map (standing tube sessions) ks)) 0 ≡ Some e → In e (cons_option o (filter_map (standing tube sessions) ks)) × ((d : ℕ × Session) → In d (cons_option o (filter_map (standing tube sessions) ks)) → ComesBefore wait_rank d e → ⊥)) [
+    elim (standing tube sessions k) as (λ o. standing tube sessions k ≡ o → slice_get (cons_option o (filter_map (standing tube sessions) ks)) 0 ≡ Some e → In e (cons_option o (filter_map (standing tube sessions) ks)) × ((d : ℕ × SessionState) → In d (cons_option o (filter_map (standing tube sessions) ks)) → ComesBefore wait_rank d e → ⊥)) [
       | None ↦ λ s f. first-least tube sessions e ks (sorted_tail place_cmp k ks sorted) f
       | Some c ↦ λ s f.
           let it : c ≡ e = some_entry c e f in
@@ -188,14 +188,14 @@ first-least tube sessions e (k ∷ ks) sorted f =
           )
     ] refl f
 
-nobody-served : (tube : List ℕ) (sessions : List (ℕ × Session)) (tubes : TubeLines) → Rising 0 (2 ^ 32) sessions → EachStands (StandsByTubes tubes) sessions → slice_get (filter_map (standing tube sessions) (line_of tube tubes).keys) 0 ≡ None → None ≡ first_waiting (λ e. is_among tube e.1.watched) sessions
+nobody-served : (tube : List ℕ) (sessions : List (ℕ × SessionState)) (tubes : TubeLines) → Rising 0 (2 ^ 32) sessions → EachStands (StandsByTubes tubes) sessions → slice_get (filter_map (standing tube sessions) (line_of tube tubes).keys) 0 ≡ None → None ≡ first_waiting (λ e. is_among tube e.1.watched) sessions
 nobody-served tube sessions tubes r complete none =
     elim (first_waiting (λ e. is_among tube e.1.watched) sessions) as (λ o. IfSome o (IsLeast (λ e. is_waiting e.1 && is_among tube e.1.watched) wait_rank sessions) → None ≡ o) [
       | None ↦ λ _. refl
       | Some e ↦ λ found. absurd (not_empty e _ none (seen-in tube sessions tubes r complete e found.member found.passes))
     ] (least-found (λ e. is_waiting e.1 && is_among tube e.1.watched) wait_rank sessions)
 
-first-served : (tube : List ℕ) (sessions : List (ℕ × Session)) (tubes : TubeLines) → Rising 0 (2 ^ 32) sessions → EachStands (StandsByTubes tubes) sessions → IsStrictlySortedBy place_cmp (line_of tube tubes).keys → slice_get (filter_map (standing tube sessions) (line_of tube tubes).keys) 0 ≡ first_waiting (λ e. is_among tube e.1.watched) sessions
+first-served : (tube : List ℕ) (sessions : List (ℕ × SessionState)) (tubes : TubeLines) → Rising 0 (2 ^ 32) sessions → EachStands (StandsByTubes tubes) sessions → IsStrictlySortedBy place_cmp (line_of tube tubes).keys → slice_get (filter_map (standing tube sessions) (line_of tube tubes).keys) 0 ≡ first_waiting (λ e. is_among tube e.1.watched) sessions
 first-served tube sessions tubes r complete sorted =
     elim (slice_get (filter_map (standing tube sessions) (line_of tube tubes).keys) 0) as (λ o. slice_get (filter_map (standing tube sessions) (line_of tube tubes).keys) 0 ≡ o → o ≡ first_waiting (λ e. is_among tube e.1.watched) sessions) [
       | None ↦ λ none. nobody-served tube sessions tubes r complete none
@@ -211,18 +211,18 @@ first-served tube sessions tubes r complete sorted =
     ] refl
 
 -- the same of a line that is found, and where there is none
-pub first-in-line : (tube : List ℕ) (sessions : List (ℕ × Session)) (tubes : TubeLines) (line : BTreeSet Place) → Some line ≡ get (slice_cmp nat_cmp) tubes.lines tube → Rising 0 (2 ^ 32) sessions → EachStands (StandsByTubes tubes) sessions → IsStrictlySortedBy place_cmp line.keys → slice_get (filter_map (standing tube sessions) line.keys) 0 ≡ first_waiting (λ e. is_among tube e.1.watched) sessions
+pub first-in-line : (tube : List ℕ) (sessions : List (ℕ × SessionState)) (tubes : TubeLines) (line : BTreeSet Place) → Some line ≡ get (slice_cmp nat_cmp) tubes.lines tube → Rising 0 (2 ^ 32) sessions → EachStands (StandsByTubes tubes) sessions → IsStrictlySortedBy place_cmp line.keys → slice_get (filter_map (standing tube sessions) line.keys) 0 ≡ first_waiting (λ e. is_among tube e.1.watched) sessions
 first-in-line tube sessions tubes line value r complete sorted =
     let it : line ≡ line_of tube tubes = sym (found-line tube tubes line (sym value)) in
     ap (λ (l : BTreeSet Place). slice_get (filter_map (standing tube sessions) l.keys) 0) it ∙
     first-served tube sessions tubes r complete (subst (λ (l : BTreeSet Place). IsStrictlySortedBy place_cmp l.keys) it sorted)
 
-pub none-in-line : (tube : List ℕ) (sessions : List (ℕ × Session)) (tubes : TubeLines) → None ≡ get (slice_cmp nat_cmp) tubes.lines tube → Rising 0 (2 ^ 32) sessions → EachStands (StandsByTubes tubes) sessions → None ≡ first_waiting (λ e. is_among tube e.1.watched) sessions
+pub none-in-line : (tube : List ℕ) (sessions : List (ℕ × SessionState)) (tubes : TubeLines) → None ≡ get (slice_cmp nat_cmp) tubes.lines tube → Rising 0 (2 ^ 32) sessions → EachStands (StandsByTubes tubes) sessions → None ≡ first_waiting (λ e. is_among tube e.1.watched) sessions
 none-in-line tube sessions tubes value r complete = nobody-served tube sessions tubes r complete (ap (λ (l : BTreeSet Place). slice_get (filter_map (standing tube sessions) l.keys) 0) (no-line tube tubes (sym value)))
 
 -- Places that are left
 
-pub tube-left : (tube : List ℕ) (k : Place) (tubes tubes' : TubeLines) (sessions : List (ℕ × Session)) → Rising 0 (2 ^ 32) sessions → standing tube sessions k ≡ None → ((t : List ℕ) (p : Place) → (t ≡ tube → k ≡ p → ⊥) → IsIn (line_of t tubes) p → IsIn (line_of t tubes') p) → EachStands (StandsByTubes tubes) sessions → EachStands (StandsByTubes tubes') sessions
+pub tube-left : (tube : List ℕ) (k : Place) (tubes tubes' : TubeLines) (sessions : List (ℕ × SessionState)) → Rising 0 (2 ^ 32) sessions → standing tube sessions k ≡ None → ((t : List ℕ) (p : Place) → (t ≡ tube → k ≡ p → ⊥) → IsIn (line_of t tubes) p → IsIn (line_of t tubes') p) → EachStands (StandsByTubes tubes) sessions → EachStands (StandsByTubes tubes') sessions
 tube-left tube k tubes tubes' sessions r gone stays h =
     λ e i t among.
     elim (rank_place e.0 e.1.wait) as (λ o. rank_place e.0 e.1.wait ≡ o → IfSome o (IsIn (line_of t tubes)) → IfSome o (IsIn (line_of t tubes'))) [
@@ -237,6 +237,6 @@ tube-left tube k tubes tubes' sessions r gone stays h =
           there
     ] refl (h e i t among)
 
-pub none-seen : {A : Type 0} (view : A → ℕ × Session) (o : Option A) → is_some o ≡ false → option_map view o ≡ None
+pub none-seen : {A : Type 0} (view : A → ℕ × SessionState) (o : Option A) → is_some o ≡ false → option_map view o ≡ None
 none-seen view None e = refl
 none-seen view (Some a) e = cc

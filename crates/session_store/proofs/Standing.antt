@@ -7,7 +7,7 @@ use Rattle.job_store.specs.Entries.{Rising, value_at, with_value, altered, witho
 use Rattle.std.proofs.Math.ListN.{get_or}
 use Rattle.std.proofs.lemmas.List.Folds.{list_any_more}
 use Rattle.session_store.proofs.Places.{some_in}
-use Rattle.session_store.specs.declared.session.Session.{Session}
+use Rattle.session_store.specs.declared.session.SessionState.{SessionState}
 use Rattle.session_store.specs.declared.session.Wait.{Wait}
 use Rattle.session_store.specs.declared.lines.Lines.{Lines}
 use Rattle.session_store.specs.Sessions.{new_session, session_of, with_wait}
@@ -56,9 +56,9 @@ among-joined tube t names e =
 
 -- Sessions that change
 
-module _ (stands : ℕ × Session → Type 0) where
+module _ (stands : ℕ × SessionState → Type 0) where
   -- a change of one session
-  pub each-altered : (x : ℕ) (f : Session → Session) (sessions sessions' : List (ℕ × Session)) → sessions' ≡ altered x f sessions → ((c : Session) → In (x, c) sessions → stands (x, f c)) → EachStands stands sessions → EachStands stands sessions'
+  pub each-altered : (x : ℕ) (f : SessionState → SessionState) (sessions sessions' : List (ℕ × SessionState)) → sessions' ≡ altered x f sessions → ((c : SessionState) → In (x, c) sessions → stands (x, f c)) → EachStands stands sessions → EachStands stands sessions'
   each-altered x f sessions sessions' same new h =
       subst (EachStands stands) (sym same)
       (altered-in x f stands sessions
@@ -69,32 +69,32 @@ module _ (stands : ℕ × Session → Type 0) where
       ] refl))
 
   -- a change that does not matter to where it stands
-  pub each-kept : (x : ℕ) (f : Session → Session) (sessions sessions' : List (ℕ × Session)) → sessions' ≡ altered x f sessions → ((c : Session) → stands (x, c) → stands (x, f c)) → EachStands stands sessions → EachStands stands sessions'
+  pub each-kept : (x : ℕ) (f : SessionState → SessionState) (sessions sessions' : List (ℕ × SessionState)) → sessions' ≡ altered x f sessions → ((c : SessionState) → stands (x, c) → stands (x, f c)) → EachStands stands sessions → EachStands stands sessions'
   each-kept x f sessions sessions' same new h = each-altered x f sessions sessions' same (λ c i. new c (h (x, c) i)) h
 
-  pub each-without : (x : ℕ) (sessions sessions' : List (ℕ × Session)) → sessions' ≡ without x sessions → EachStands stands sessions → EachStands stands sessions'
+  pub each-without : (x : ℕ) (sessions sessions' : List (ℕ × SessionState)) → sessions' ≡ without x sessions → EachStands stands sessions → EachStands stands sessions'
   each-without x sessions sessions' same h = subst (EachStands stands) (sym same) (λ e i. h e (without-in x sessions e i))
 
-pub each-made : (lines : Lines) (x : ℕ) (sessions sessions' : List (ℕ × Session)) → sessions' ≡ with_value x new_session sessions → EachStands (StandsIn lines) sessions → EachStands (StandsIn lines) sessions'
+pub each-made : (lines : Lines) (x : ℕ) (sessions sessions' : List (ℕ × SessionState)) → sessions' ≡ with_value x new_session sessions → EachStands (StandsIn lines) sessions → EachStands (StandsIn lines) sessions'
 each-made lines x sessions sessions' same h = subst (EachStands (StandsIn lines)) (sym same) (insert-in (StandsIn lines) x new_session sessions (λ q. (tt, λ tube among. tt)) h)
 
 -- Lines that grow
 
-pub stands-grown : (lines lines' : Lines) (e : ℕ × Session) → HasGrown lines lines' → StandsIn lines e → StandsIn lines' e
+pub stands-grown : (lines lines' : Lines) (e : ℕ × SessionState) → HasGrown lines lines' → StandsIn lines e → StandsIn lines' e
 stands-grown lines lines' e more h = (
   some_in lines.time_outs.line lines'.time_outs.line (time_out_place e.0 e.1.wait) more.0 h.0,
   λ tube among. some_in (line_of tube lines.tubes) (line_of tube lines'.tubes) (rank_place e.0 e.1.wait) (more.1 tube) (h.1 tube among),
 )
 
-pub each-grown : (lines lines' : Lines) (sessions : List (ℕ × Session)) → HasGrown lines lines' → EachStands (StandsIn lines) sessions → EachStands (StandsIn lines') sessions
+pub each-grown : (lines lines' : Lines) (sessions : List (ℕ × SessionState)) → HasGrown lines lines' → EachStands (StandsIn lines) sessions → EachStands (StandsIn lines') sessions
 each-grown lines lines' sessions more h = λ e i. stands-grown lines lines' e more (h e i)
 
 -- A session that watches other tubes
 
-pub stands-less : (lines : Lines) (x : ℕ) (tube : List ℕ) (c : Session) → StandsIn lines (x, c) → StandsIn lines (x, record c { watched = left_out tube c.watched })
+pub stands-less : (lines : Lines) (x : ℕ) (tube : List ℕ) (c : SessionState) → StandsIn lines (x, c) → StandsIn lines (x, record c { watched = left_out tube c.watched })
 stands-less lines x tube c h = (h.0, λ t among. h.1 t (among-left_out tube t c.watched among))
 
-pub stands-more : (lines lines' : Lines) (x : ℕ) (tube : List ℕ) (c : Session) → HasGrown lines lines' → IfSome (rank_place x c.wait) (IsIn (line_of tube lines'.tubes)) → StandsIn lines (x, c) → StandsIn lines' (x, record c { watched = joined tube c.watched })
+pub stands-more : (lines lines' : Lines) (x : ℕ) (tube : List ℕ) (c : SessionState) → HasGrown lines lines' → IfSome (rank_place x c.wait) (IsIn (line_of tube lines'.tubes)) → StandsIn lines (x, c) → StandsIn lines' (x, record c { watched = joined tube c.watched })
 stands-more lines lines' x tube c more new h =
     let grown = stands-grown lines lines' (x, c) more h in (
       grown.0,
@@ -105,21 +105,21 @@ stands-more lines lines' x tube c more new h =
           ],
     )
 
-some_session : (c d : Session) → Some c ≡ Some d → c ≡ d
+some_session : (c d : SessionState) → Some c ≡ Some d → c ≡ d
 some_session c d e = cc
 
 -- the session that is found is the one that is meant
-pub only-session : (x hi : ℕ) (sessions : List (ℕ × Session)) (c d : Session) → Rising 0 hi sessions → value_at x sessions ≡ Some c → In (x, d) sessions → c ≡ d
+pub only-session : (x hi : ℕ) (sessions : List (ℕ × SessionState)) (c d : SessionState) → Rising 0 hi sessions → value_at x sessions ≡ Some c → In (x, d) sessions → c ≡ d
 only-session x hi sessions c d r found i = some_session c d (sym found ∙ value_at-In 0 hi sessions (x, d) r i)
 
-pub stands-again : (lines : Lines) (x hi : ℕ) (sessions : List (ℕ × Session)) (wait : Option Wait) (c d : Session) → Rising 0 hi sessions → value_at x sessions ≡ Some c → In (x, d) sessions → StandsIn lines (x, with_wait wait c) → StandsIn lines (x, with_wait wait d)
+pub stands-again : (lines : Lines) (x hi : ℕ) (sessions : List (ℕ × SessionState)) (wait : Option Wait) (c d : SessionState) → Rising 0 hi sessions → value_at x sessions ≡ Some c → In (x, d) sessions → StandsIn lines (x, with_wait wait c) → StandsIn lines (x, with_wait wait d)
 stands-again lines x hi sessions wait c d r found i h = subst (λ s. StandsIn lines (x, with_wait wait s)) (only-session x hi sessions c d r found i) h
 
 -- a session that watches one tube more stands in its line too
-pub each-watching : (lines lines' : Lines) (x hi : ℕ) (tube : List ℕ) (sessions sessions' : List (ℕ × Session)) → Rising 0 hi sessions → HasGrown lines lines' → IfSome (rank_place x (session_of x sessions).wait) (IsIn (line_of tube lines'.tubes)) → sessions' ≡ altered x (λ (s : Session). record s { watched = joined tube s.watched }) sessions → EachStands (StandsIn lines) sessions → EachStands (StandsIn lines') sessions'
+pub each-watching : (lines lines' : Lines) (x hi : ℕ) (tube : List ℕ) (sessions sessions' : List (ℕ × SessionState)) → Rising 0 hi sessions → HasGrown lines lines' → IfSome (rank_place x (session_of x sessions).wait) (IsIn (line_of tube lines'.tubes)) → sessions' ≡ altered x (λ (s : SessionState). record s { watched = joined tube s.watched }) sessions → EachStands (StandsIn lines) sessions → EachStands (StandsIn lines') sessions'
 each-watching lines lines' x hi tube sessions sessions' r more new same h =
-    each-altered (StandsIn lines') x (λ (s : Session). record s { watched = joined tube s.watched }) sessions sessions' same
+    each-altered (StandsIn lines') x (λ (s : SessionState). record s { watched = joined tube s.watched }) sessions sessions' same
     (λ c i.
     stands-more lines lines' x tube c more
-    (subst (λ (s : Session). IfSome (rank_place x s.wait) (IsIn (line_of tube lines'.tubes))) (ap (λ o. unwrap_or o new_session) (value_at-In 0 hi sessions (x, c) r i)) new) (h (x, c) i))
+    (subst (λ (s : SessionState). IfSome (rank_place x s.wait) (IsIn (line_of tube lines'.tubes))) (ap (λ o. unwrap_or o new_session) (value_at-In 0 hi sessions (x, c) r i)) new) (h (x, c) i))
     (each-grown lines lines' sessions more h)

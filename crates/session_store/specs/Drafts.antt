@@ -1,7 +1,7 @@
 -- Changes that may be taken back.
 use Rattle.std.specs.Prelude.{ℕ, ◌^◌, List, [], ◌∷◌}
 use Rattle.job_store.specs.Entries.{Rising, altered, without}
-use Rattle.session_store.specs.declared.session.Session.{Session}
+use Rattle.session_store.specs.declared.session.SessionState.{SessionState}
 use Rattle.session_store.specs.declared.session_step.SessionStep.{SessionStep}
 use Rattle.session_store.specs.declared.lines.Lines.{Lines}
 use Rattle.session_store.specs.Sessions.{with_wait}
@@ -13,17 +13,17 @@ pub record Draft (X : Type 0) : Type 0 where
   pub before : X
 
 -- the sessions, where a step is taken back
-abbrev pub session_step_back : SessionStep → List (ℕ × Session) → List (ℕ × Session)
+abbrev pub session_step_back : SessionStep → List (ℕ × SessionState) → List (ℕ × SessionState)
 session_step_back (SessionStep.Waited x before after) sessions = altered x (with_wait before) sessions
 session_step_back (SessionStep.Made x) sessions = without x sessions
 
 -- the sessions, where all these steps are taken back, the last one first
-abbrev pub sessions_before : List SessionStep → List (ℕ × Session) → List (ℕ × Session)
+abbrev pub sessions_before : List SessionStep → List (ℕ × SessionState) → List (ℕ × SessionState)
 sessions_before [] sessions = sessions
 sessions_before (step ∷ steps) sessions = session_step_back step (sessions_before steps sessions)
 
 -- the sessions stand in the lines where they wait, now and before the steps
-pub record AreInLines (lines : Lines) (steps : List SessionStep) (sessions : List (ℕ × Session)) : Type 0 where
+pub record AreInLines (lines : Lines) (steps : List SessionStep) (sessions : List (ℕ × SessionState)) : Type 0 where
   pub rising : Rising 0 (2 ^ 32) sessions
   pub now : EachStands (StandsIn lines) sessions
   pub before : EachStands (StandsIn lines) (sessions_before steps sessions)

@@ -2,7 +2,6 @@ pub mod Names
 pub mod WatchLists
 pub mod Sessions
 pub mod Waits
-pub mod Firsts
 pub mod Lines
 pub mod Drafts
 pub mod EntryLaws

@@ -9,7 +9,7 @@ use Rattle.std.specs.BTreeSet.{BTreeSet, contains, keys_between}
 use Rattle.object.specs.Lists.{In}
 use Rattle.job_store.specs.Entries.{value_at}
 use Rattle.job_store.specs.LookUps.{is_among}
-use Rattle.session_store.specs.declared.session.Session.{Session}
+use Rattle.session_store.specs.declared.session.SessionState.{SessionState}
 use Rattle.session_store.specs.declared.session.Wait.{Wait}
 use Rattle.session_store.specs.declared.place.Place.{Place}
 use Rattle.session_store.specs.declared.time_outs.TimeOuts.{TimeOuts}
@@ -47,20 +47,20 @@ abbrev pub line_of : List ℕ → TubeLines → BTreeSet Place
 line_of tube tubes = unwrap_or (get (slice_cmp nat_cmp) tubes.lines tube) (record { keys = [] })
 
 -- the session stands among the time-outs, if it waits and its wait ends
-abbrev pub StandsByTimeOut : TimeOuts → ℕ × Session → Type 0
+abbrev pub StandsByTimeOut : TimeOuts → ℕ × SessionState → Type 0
 StandsByTimeOut time_outs e = IfSome (time_out_place e.0 e.1.wait) (IsIn time_outs.line)
 
 -- the session stands in the line of each tube that it watches, if it waits
-abbrev pub StandsByTubes : TubeLines → ℕ × Session → Type 0
+abbrev pub StandsByTubes : TubeLines → ℕ × SessionState → Type 0
 StandsByTubes tubes e = (tube : List ℕ) → is_among tube e.1.watched ≡ true → IfSome (rank_place e.0 e.1.wait) (IsIn (line_of tube tubes))
 
 -- the session stands in the lines wherever it waits
-abbrev pub StandsIn : Lines → ℕ × Session → Type 0
+abbrev pub StandsIn : Lines → ℕ × SessionState → Type 0
 StandsIn lines e = StandsByTimeOut lines.time_outs e × StandsByTubes lines.tubes e
 
 -- each session stands so
-abbrev pub EachStands : (ℕ × Session → Type 0) → List (ℕ × Session) → Type 0
-EachStands stands sessions = (e : ℕ × Session) → In e sessions → stands e
+abbrev pub EachStands : (ℕ × SessionState → Type 0) → List (ℕ × SessionState) → Type 0
+EachStands stands sessions = (e : ℕ × SessionState) → In e sessions → stands e
 
 -- the other line has all places of the one
 abbrev pub HasAll : BTreeSet Place → BTreeSet Place → Type 0
@@ -73,11 +73,11 @@ HasGrown lines lines' =
     ((tube : List ℕ) → HasAll (line_of tube lines.tubes) (line_of tube lines'.tubes))
 
 -- the session at a place, if its wait is over by the second
-abbrev pub over_at : ℕ → List (ℕ × Session) → Place → Option (ℕ × Session)
+abbrev pub over_at : ℕ → List (ℕ × SessionState) → Place → Option (ℕ × SessionState)
 over_at second sessions p =
     elim (value_at p.session sessions) [ None ↦ None | Some s ↦ if has_timed_out second s.wait then Some (p.session, s) else None ]
 
 -- the session at a place, if it waits there for a job of the tube
-abbrev pub standing : List ℕ → List (ℕ × Session) → Place → Option (ℕ × Session)
+abbrev pub standing : List ℕ → List (ℕ × SessionState) → Place → Option (ℕ × SessionState)
 standing tube sessions p =
     elim (value_at p.session sessions) [ None ↦ None | Some s ↦ if is_waiting s && is_among tube s.watched && wait_rank s == p.order then Some (p.session, s) else None ]

@@ -2,31 +2,31 @@
 use Rattle.std.specs.Prelude.{ℕ, Bool, false, ◌&&◌, List, [], ◌∷◌, Option, None, Some, nat_le, is_some, unwrap_or, codes, if◌then◌else◌}
 use Rattle.job_store.specs.Entries.{value_at, with_value, altered}
 use Rattle.job_store.specs.Least.{least}
-use Rattle.session_store.specs.declared.session.Session.{Session}
+use Rattle.session_store.specs.declared.session.SessionState.{SessionState}
 use Rattle.session_store.specs.declared.session.Wait.{Wait}
 
 -- a new session uses `default`, and watches it alone (protocol.txt of beanstalkd, "use" and "watch")
-abbrev pub new_session : Session
+abbrev pub new_session : SessionState
 new_session = record { used = codes "default"; watched = codes "default" ∷ []; wait = None }
 
 -- session x, as it is or as it would be made
-abbrev pub session_of : ℕ → List (ℕ × Session) → Session
+abbrev pub session_of : ℕ → List (ℕ × SessionState) → SessionState
 session_of x sessions = unwrap_or (value_at x sessions) new_session
 
 -- the session, with this wait or none
-abbrev pub with_wait : Option Wait → Session → Session
+abbrev pub with_wait : Option Wait → SessionState → SessionState
 with_wait wait session = record session { wait = wait }
 
 -- session x waits no longer
-abbrev pub ended : ℕ → List (ℕ × Session) → List (ℕ × Session)
-ended x sessions = altered x (with_wait None) sessions
+abbrev pub with_wait_ended : ℕ → List (ℕ × SessionState) → List (ℕ × SessionState)
+with_wait_ended x sessions = altered x (with_wait None) sessions
 
 -- session x is there, and waits no longer
-abbrev pub known : ℕ → List (ℕ × Session) → List (ℕ × Session)
-known x sessions = if is_some (value_at x sessions) then ended x sessions else with_value x new_session sessions
+abbrev pub known : ℕ → List (ℕ × SessionState) → List (ℕ × SessionState)
+known x sessions = if is_some (value_at x sessions) then with_wait_ended x sessions else with_value x new_session sessions
 
 -- the session waits for a job
-abbrev pub is_waiting : Session → Bool
+abbrev pub is_waiting : SessionState → Bool
 is_waiting session = is_some session.wait
 
 -- the number of the command that waits, and 0 where none does
@@ -35,11 +35,11 @@ wait_number None = 0
 wait_number (Some wait) = wait.number
 
 -- the rank of a session that waits, and 0 of others
-abbrev pub wait_rank : Session → ℕ
+abbrev pub wait_rank : SessionState → ℕ
 wait_rank session = elim session.wait [ None ↦ 0 | Some wait ↦ wait.rank ]
 
 -- of the waiting sessions that pass, that of the least rank
-abbrev pub first_waiting : (ℕ × Session → Bool) → List (ℕ × Session) → Option (ℕ × Session)
+abbrev pub first_waiting : (ℕ × SessionState → Bool) → List (ℕ × SessionState) → Option (ℕ × SessionState)
 first_waiting test sessions = least (λ e. is_waiting e.1 && test e) wait_rank sessions
 
 -- at this second the wait is over (protocol.txt of beanstalkd, "reserve-with-timeout")

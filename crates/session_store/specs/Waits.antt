@@ -2,13 +2,13 @@
 use Rattle.std.specs.Prelude.{◌≡◌, ℕ, List, Some}
 use Rattle.object.specs.Lists.{In}
 use Rattle.object.specs.declared.command.Key.{Key}
-use Rattle.session_store.specs.declared.session.Session.{Session}
+use Rattle.session_store.specs.declared.session.SessionState.{SessionState}
 use Rattle.session_store.specs.declared.session.Wait.{Wait}
 
 -- a session waits by its command of this key
-abbrev pub WaitsIn : List (ℕ × Session) → Key → Type 0
+abbrev pub WaitsIn : List (ℕ × SessionState) → Key → Type 0
 WaitsIn sessions key =
-    (e : ℕ × Session) ×
+    (e : ℕ × SessionState) ×
     (w : Wait) ×
     In e sessions ×
     (e.0 ≡ key.session) ×

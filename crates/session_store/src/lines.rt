@@ -4,7 +4,7 @@ ghost use Rattle.job_store.specs.LookUps.{is_among};
 ghost use Rattle.session_store.specs.Sessions.{first_waiting, has_timed_out, with_wait};
 ghost use Rattle.session_store.specs.Lines.{EachStands, HasGrown, IsIn, StandsIn, line_of, rank_place};
 
-use crate::session::{Session, Wait};
+use crate::session::{SessionState, Wait};
 use crate::time_outs::TimeOuts;
 use crate::tube_lines::TubeLines;
 use job_store::Name;
@@ -31,7 +31,7 @@ impl Lines {
     pub fn join(
         &mut self,
         number: u32,
-        session: &Session,
+        session: &SessionState,
         wait: Option<Wait>,
     ) -> Result<(), AllocError>
         ensures grown { HasGrown self.old self.new }
@@ -46,7 +46,7 @@ impl Lines {
     /// Takes a session out where it stood with this wait while it watched these tubes, unless it still stands there.
     pub fn leave(
         &mut self,
-        sessions: &BTreeMap<u32, Session>,
+        sessions: &BTreeMap<u32, SessionState>,
         watched: &[Name],
         number: u32,
         wait: Option<Wait>,
@@ -76,7 +76,7 @@ impl Lines {
     /// Takes a session out of the line of a tube, where it stood with this wait, unless it still stands there.
     pub fn leave_tube(
         &mut self,
-        sessions: &BTreeMap<u32, Session>,
+        sessions: &BTreeMap<u32, SessionState>,
         tube: &Name,
         number: u32,
         wait: Option<Wait>,
@@ -91,9 +91,9 @@ impl Lines {
     /// The waiting session of the least rank that watches the tube.
     pub fn first_watcher<'a>(
         &self,
-        sessions: &'a BTreeMap<u32, Session>,
+        sessions: &'a BTreeMap<u32, SessionState>,
         tube: &Name,
-    ) -> Option<(u32, &'a Session)>
+    ) -> Option<(u32, &'a SessionState)>
         requires rising { Rising 0 (2 ^ 32) sessions.now.entries }
         requires complete { EachStands (StandsIn self.now) sessions.now.entries }
         ensures { option_map (λ e. (e.0, e.1.now)) result
@@ -105,9 +105,9 @@ impl Lines {
     /// The waiting session of the least rank whose wait is over at this second.
     pub fn first_late<'a>(
         &self,
-        sessions: &'a BTreeMap<u32, Session>,
+        sessions: &'a BTreeMap<u32, SessionState>,
         second: u64,
-    ) -> Option<(u32, &'a Session)>
+    ) -> Option<(u32, &'a SessionState)>
         requires rising { Rising 0 (2 ^ 32) sessions.now.entries }
         requires complete { EachStands (StandsIn self.now) sessions.now.entries }
         ensures { option_map (λ e. (e.0, e.1.now)) result

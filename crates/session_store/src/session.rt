@@ -19,7 +19,7 @@ pub struct Wait {
 
 /// What the queue knows of a client's session.
 #[derive(Drop)]
-pub struct Session {
+pub struct SessionState {
     /// The tube that its jobs are put into.
     pub used: Name,
     /// The tubes that it reserves jobs from.
@@ -27,12 +27,12 @@ pub struct Session {
     pub wait: Option<Wait>,
 }
 
-impl Session {
+impl SessionState {
     /// A session that uses `default`, and watches it alone.
-    pub(crate) fn new(alloc: Global) -> Result<Session, AllocError>
+    pub(crate) fn new(alloc: Global) -> Result<SessionState, AllocError>
         ensures { IfOk result (λ session. session ≡ new_session) }
     {
-        Ok(Session {
+        Ok(SessionState {
             used: Name::default_tube(),
             watched: WatchList::only(alloc, Name::default_tube())?,
             wait: None,

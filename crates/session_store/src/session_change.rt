@@ -3,13 +3,13 @@ ghost use Rattle.job_store.specs.Entries.{Rising, value_at, altered};
 ghost use Rattle.session_store.specs.Sessions.{session_of, with_wait};
 ghost use Rattle.session_store.specs.WatchLists.{joined, left_out};
 
-use crate::session::{Session, Wait};
+use crate::session::{SessionState, Wait};
 use job_store::Name;
 use std::alloc::AllocError;
 use std::collections::BTreeMap;
 
 /// Lets a session wait, or wait no longer, if it is there.
-pub fn set_wait(sessions: &mut BTreeMap<u32, Session>, session: u32, wait: Option<Wait>)
+pub fn set_wait(sessions: &mut BTreeMap<u32, SessionState>, session: u32, wait: Option<Wait>)
     requires { Rising 0 (2 ^ 32) sessions.old.entries }
     ensures { sessions.new.entries ≡ altered session (with_wait wait) sessions.old.entries }
 {
@@ -19,7 +19,7 @@ pub fn set_wait(sessions: &mut BTreeMap<u32, Session>, session: u32, wait: Optio
 }
 
 /// Lets a session use a tube, if it is there.
-pub fn set_used(sessions: &mut BTreeMap<u32, Session>, session: u32, name: Name)
+pub fn set_used(sessions: &mut BTreeMap<u32, SessionState>, session: u32, name: Name)
     requires { Rising 0 (2 ^ 32) sessions.old.entries }
     ensures { sessions.new.entries
         ≡ altered session (λ c. record c { used = name }) sessions.old.entries }
@@ -31,7 +31,7 @@ pub fn set_used(sessions: &mut BTreeMap<u32, Session>, session: u32, name: Name)
 
 /// Lets a session that is there watch one tube more, and tells how many it watches then.
 pub fn watch(
-    sessions: &mut BTreeMap<u32, Session>,
+    sessions: &mut BTreeMap<u32, SessionState>,
     session: u32,
     name: Name,
 ) -> Result<usize, AllocError>
@@ -55,7 +55,7 @@ pub fn watch(
 }
 
 /// Lets a session that is there watch a tube no more, and tells how many it watches then.
-pub fn ignore(sessions: &mut BTreeMap<u32, Session>, session: u32, name: &Name) -> usize
+pub fn ignore(sessions: &mut BTreeMap<u32, SessionState>, session: u32, name: &Name) -> usize
     requires there { IsSome (value_at session sessions.old.entries) }
     requires rising { Rising 0 (2 ^ 32) sessions.old.entries }
     ensures count { result ≡ length

@@ -6,7 +6,7 @@ ghost use Rattle.session_store.specs.Lines.{EachStands, StandsIn};
 ghost use Rattle.session_store.specs.WatchLists.{joined, left_out};
 
 use crate::lines::Lines;
-use crate::session::{Session, Wait};
+use crate::session::{SessionState, Wait};
 use crate::session_change::{ignore, set_used, set_wait, watch};
 use crate::session_step::{SessionStep, leave_steps, take_steps_back};
 use crate::time_outs::wait_of;
@@ -19,7 +19,7 @@ use std::marker::Model;
 #[derive(Drop)]
 pub struct SessionDraft {
     alloc: Global,
-    sessions: BTreeMap<u32, Session>,
+    sessions: BTreeMap<u32, SessionState>,
     /// A session that waits, now or before the steps, has its places here. Others may have some until changes are
     /// kept or taken back.
     lines: Lines,
@@ -28,10 +28,10 @@ pub struct SessionDraft {
 
 impl Model for SessionDraft {
     ghost use Rattle.std.specs.Prelude.{ℕ, List};
-    ghost use Rattle.session_store.specs.declared.session.Session.{Session};
+    ghost use Rattle.session_store.specs.declared.session.SessionState.{SessionState};
     ghost use Rattle.session_store.specs.Drafts.{Draft, sessions_before, AreInLines};
 
-    ghost Value = { Draft (List (ℕ × Session)) };
+    ghost Value = { Draft (List (ℕ × SessionState)) };
 
     ghost view = { λ d. record { now = d.sessions.entries; before = sessions_before d.steps.items d.sessions.entries } };
 
@@ -39,7 +39,7 @@ impl Model for SessionDraft {
 }
 
 /// Takes out a session, and out of the lines where it stood.
-fn forget(lines: &mut Lines, sessions: &mut BTreeMap<u32, Session>, session: u32)
+fn forget(lines: &mut Lines, sessions: &mut BTreeMap<u32, SessionState>, session: u32)
     requires { Rising 0 (2 ^ 32) sessions.old.entries }
     ensures sessions { sessions.new.entries ≡ without session sessions.old.entries }
     ensures complete { EachStands (StandsIn lines.old) sessions.old.entries
@@ -65,7 +65,7 @@ impl SessionDraft {
     }
 
     /// The sessions.
-    pub fn map(&self) -> &BTreeMap<u32, Session>
+    pub fn map(&self) -> &BTreeMap<u32, SessionState>
         ensures sessions { result.now.entries ≡ self.now.now }
         ensures rising { Rising 0 (2 ^ 32) self.now.now }
     {
@@ -73,7 +73,7 @@ impl SessionDraft {
     }
 
     /// The waiting session of the least rank that watches the tube.
-    pub fn first_watcher(&self, tube: &Name) -> Option<(u32, &Session)>
+    pub fn first_watcher(&self, tube: &Name) -> Option<(u32, &SessionState)>
         ensures { option_map (λ e. (e.0, e.1.now)) result
             ≡ first_waiting (λ e. is_among tube.now e.1.watched) self.now.now }
     {
@@ -81,7 +81,7 @@ impl SessionDraft {
     }
 
     /// The waiting session of the least rank whose wait is over at this second.
-    pub fn first_late(&self, second: u64) -> Option<(u32, &Session)>
+    pub fn first_late(&self, second: u64) -> Option<(u32, &SessionState)>
         ensures { option_map (λ e. (e.0, e.1.now)) result
             ≡ first_waiting (λ e. has_timed_out second e.1.wait) self.now.now }
     {
@@ -95,7 +95,7 @@ impl SessionDraft {
         ensures before { self.new.before ≡ self.old.before }
         ensures err { OnErr result (self.new.now ≡ self.old.now) }
     {
-        let made = Session::new(self.alloc)?;
+        let made = SessionState::new(self.alloc)?;
         self.steps.reserve(1)?;
         self.sessions.insert(session, made)?;
         self.steps.push(SessionStep::Made(session))?;
@@ -131,8 +131,8 @@ impl SessionDraft {
         self.steps.clear();
     }
 
-    /// Keeps all changes, and lets a session use a tube.
-    pub fn use_tube(&mut self, session: u32, name: Name)
+    /// Keeps all changes, and lets a session use a tube. That can't be taken back.
+    pub fn use_tube_for_good(&mut self, session: u32, name: Name)
         ensures now { self.new.now ≡ altered session (λ c. record c { used = name }) self.old.now }
         ensures before { self.new.before
             ≡ altered session (λ c. record c { used = name }) self.old.now }
@@ -142,8 +142,9 @@ impl SessionDraft {
         set_used(&mut self.sessions, session, name);
     }
 
-    /// Keeps all changes, and lets a session that is there watch one tube more. It tells how many it watches then.
-    pub fn watch(&mut self, session: u32, name: Name) -> Result<usize, AllocError>
+    /// Keeps all changes, and lets a session that is there watch one tube more. That can't be taken back. It tells how
+    /// many it watches then.
+    pub fn watch_for_good(&mut self, session: u32, name: Name) -> Result<usize, AllocError>
         requires { IsSome (value_at session self.old.now) }
         ensures count { IfOk result (λ count. count
             ≡ length (joined name (session_of session self.old.now).watched)) }
@@ -162,8 +163,9 @@ impl SessionDraft {
         Ok(count)
     }
 
-    /// Keeps all changes, and lets a session that is there watch a tube no more. It tells how many it watches then.
-    pub fn ignore(&mut self, session: u32, name: &Name) -> usize
+    /// Keeps all changes, and lets a session that is there watch a tube no more. That can't be taken back. It tells how
+    /// many it watches then.
+    pub fn ignore_for_good(&mut self, session: u32, name: &Name) -> usize
         requires { IsSome (value_at session self.old.now) }
         ensures count { result ≡ length
             (left_out name.now (session_of session self.old.now).watched) }
@@ -180,8 +182,8 @@ impl SessionDraft {
         count
     }
 
-    /// Keeps all changes, and takes out a session.
-    pub fn remove(&mut self, session: u32)
+    /// Keeps all changes, and takes out a session. That can't be taken back.
+    pub fn remove_for_good(&mut self, session: u32)
         ensures now { self.new.now ≡ without session self.old.now }
         ensures before { self.new.before ≡ without session self.old.now }
     {

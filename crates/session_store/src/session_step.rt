@@ -4,7 +4,7 @@ ghost use Rattle.session_store.specs.Lines.{EachStands, StandsIn};
 ghost use Rattle.session_store.specs.Drafts.{session_step_back, sessions_before};
 
 use crate::lines::Lines;
-use crate::session::{Session, Wait};
+use crate::session::{SessionState, Wait};
 use crate::session_change::set_wait;
 use job_store::Name;
 use std::collections::BTreeMap;
@@ -23,7 +23,7 @@ pub(crate) enum SessionStep {
 }
 
 /// Takes one step back.
-fn take_step_back(sessions: &mut BTreeMap<u32, Session>, step: SessionStep)
+fn take_step_back(sessions: &mut BTreeMap<u32, SessionState>, step: SessionStep)
     requires { Rising 0 (2 ^ 32) sessions.old.entries }
     ensures { sessions.new.entries ≡ session_step_back step sessions.old.entries }
 {
@@ -40,7 +40,7 @@ fn take_step_back(sessions: &mut BTreeMap<u32, Session>, step: SessionStep)
 }
 
 /// Takes all these steps back, the last one first.
-pub(crate) fn take_steps_back(sessions: &mut BTreeMap<u32, Session>, steps: &[SessionStep])
+pub(crate) fn take_steps_back(sessions: &mut BTreeMap<u32, SessionState>, steps: &[SessionStep])
     requires { Rising 0 (2 ^ 32) sessions.old.entries }
     ensures rising { Rising 0 (2 ^ 32) sessions.new.entries }
     ensures sessions { sessions.new.entries ≡ sessions_before steps.now sessions.old.entries }
@@ -56,7 +56,7 @@ pub(crate) fn take_steps_back(sessions: &mut BTreeMap<u32, Session>, steps: &[Se
 /// was made, and watched `default` alone.
 fn leave_lines(
     lines: &mut Lines,
-    sessions: &BTreeMap<u32, Session>,
+    sessions: &BTreeMap<u32, SessionState>,
     session: u32,
     wait: Option<Wait>,
 )
@@ -71,7 +71,7 @@ fn leave_lines(
 }
 
 /// Takes a session out of the lines where it stood before and after a step, unless it still stands there.
-fn leave_step(lines: &mut Lines, sessions: &BTreeMap<u32, Session>, step: SessionStep)
+fn leave_step(lines: &mut Lines, sessions: &BTreeMap<u32, SessionState>, step: SessionStep)
     requires { Rising 0 (2 ^ 32) sessions.now.entries }
     ensures { EachStands (StandsIn lines.old) sessions.now.entries
         → EachStands (StandsIn lines.new) sessions.now.entries }
@@ -92,7 +92,7 @@ fn leave_step(lines: &mut Lines, sessions: &BTreeMap<u32, Session>, step: Sessio
 /// Takes sessions out of the lines where they stood before and after these steps, unless they still stand there.
 pub(crate) fn leave_steps(
     lines: &mut Lines,
-    sessions: &BTreeMap<u32, Session>,
+    sessions: &BTreeMap<u32, SessionState>,
     steps: &[SessionStep],
 )
     requires { Rising 0 (2 ^ 32) sessions.now.entries }

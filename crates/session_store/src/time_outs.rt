@@ -4,7 +4,7 @@ ghost use Rattle.session_store.specs.Sessions.{first_waiting, has_timed_out, ses
 ghost use Rattle.session_store.specs.Lines.{EachStands, HasAll, IsIn, StandsByTimeOut, over_at, time_out_place};
 
 use crate::place::{Place, time_out_place};
-use crate::session::{Session, Wait};
+use crate::session::{SessionState, Wait};
 use crate::waiting::first;
 use std::alloc::{AllocError, Global};
 use std::collections::{BTreeMap, BTreeSet};
@@ -18,10 +18,10 @@ pub(crate) struct TimeOuts {
 
 /// The session at a place, if its wait is over at this second.
 fn over_at<'a>(
-    sessions: &'a BTreeMap<u32, Session>,
+    sessions: &'a BTreeMap<u32, SessionState>,
     second: u64,
     place: Place,
-) -> Option<(u32, &'a Session)>
+) -> Option<(u32, &'a SessionState)>
     ensures { option_map (λ e. (e.0, e.1.now)) result
         ≡ over_at second sessions.now.entries place }
 {
@@ -34,7 +34,7 @@ fn over_at<'a>(
 }
 
 /// The wait of a session, if it is there and waits.
-pub(crate) fn wait_of(sessions: &BTreeMap<u32, Session>, number: u32) -> Option<Wait>
+pub(crate) fn wait_of(sessions: &BTreeMap<u32, SessionState>, number: u32) -> Option<Wait>
     ensures { result ≡ (session_of number sessions.now.entries).wait }
 {
     match sessions.get(&number) {
@@ -63,7 +63,7 @@ impl TimeOuts {
     }
 
     /// Takes a session out where it stood with this wait, unless it still stands there.
-    pub fn leave(&mut self, sessions: &BTreeMap<u32, Session>, number: u32, wait: Option<Wait>)
+    pub fn leave(&mut self, sessions: &BTreeMap<u32, SessionState>, number: u32, wait: Option<Wait>)
         requires { Rising 0 (2 ^ 32) sessions.now.entries }
         ensures { EachStands (StandsByTimeOut self.old) sessions.now.entries
             → EachStands (StandsByTimeOut self.new) sessions.now.entries }
@@ -79,9 +79,9 @@ impl TimeOuts {
     /// The waiting session of the least rank whose wait is over at this second.
     pub fn first<'a>(
         &self,
-        sessions: &'a BTreeMap<u32, Session>,
+        sessions: &'a BTreeMap<u32, SessionState>,
         second: u64,
-    ) -> Option<(u32, &'a Session)>
+    ) -> Option<(u32, &'a SessionState)>
         requires rising { Rising 0 (2 ^ 32) sessions.now.entries }
         requires complete { EachStands (StandsByTimeOut self.now) sessions.now.entries }
         ensures { option_map (λ e. (e.0, e.1.now)) result

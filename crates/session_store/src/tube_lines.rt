@@ -7,7 +7,7 @@ ghost use Rattle.session_store.specs.declared.place.Place.{Place};
 ghost use Rattle.session_store.specs.Lines.{EachStands, HasAll, IsIn, StandsByTubes, line_of, place_cmp, rank_place, standing};
 
 use crate::place::{Place, rank_place};
-use crate::session::{Session, Wait};
+use crate::session::{SessionState, Wait};
 use job_store::Name;
 use object::Value;
 use std::alloc::{AllocError, Global};
@@ -23,10 +23,10 @@ pub(crate) struct TubeLines {
 
 /// The session at a place, if it waits there for a job of the tube.
 fn standing<'a>(
-    sessions: &'a BTreeMap<u32, Session>,
+    sessions: &'a BTreeMap<u32, SessionState>,
     tube: &Name,
     place: Place,
-) -> Option<(u32, &'a Session)>
+) -> Option<(u32, &'a SessionState)>
     ensures { option_map (λ e. (e.0, e.1.now)) result
         ≡ standing tube.now sessions.now.entries place }
 {
@@ -41,9 +41,9 @@ fn standing<'a>(
 /// The first session in a line that stands there.
 fn first_standing<'a>(
     line: &BTreeSet<Place>,
-    sessions: &'a BTreeMap<u32, Session>,
+    sessions: &'a BTreeMap<u32, SessionState>,
     tube: &Name,
-) -> Option<(u32, &'a Session)>
+) -> Option<(u32, &'a SessionState)>
     ensures first { option_map (λ e. (e.0, e.1.now)) result
         ≡ slice_get (filter_map (standing tube.now sessions.now.entries) line.now.keys) 0 }
     ensures ordered { IsOrdered place_cmp line.now }
@@ -143,7 +143,7 @@ impl TubeLines {
     /// Takes a session out of the line of a tube, where it stood with this wait, unless it still stands there.
     pub fn leave_tube(
         &mut self,
-        sessions: &BTreeMap<u32, Session>,
+        sessions: &BTreeMap<u32, SessionState>,
         tube: &Name,
         number: u32,
         wait: Option<Wait>,
@@ -162,7 +162,7 @@ impl TubeLines {
     /// Takes a session out of the lines of these tubes, where it stood with this wait, unless it still stands there.
     pub fn leave(
         &mut self,
-        sessions: &BTreeMap<u32, Session>,
+        sessions: &BTreeMap<u32, SessionState>,
         watched: &[Name],
         number: u32,
         wait: Option<Wait>,
@@ -179,9 +179,9 @@ impl TubeLines {
     /// The waiting session of the least rank that watches the tube.
     pub fn first<'a>(
         &self,
-        sessions: &'a BTreeMap<u32, Session>,
+        sessions: &'a BTreeMap<u32, SessionState>,
         tube: &Name,
-    ) -> Option<(u32, &'a Session)>
+    ) -> Option<(u32, &'a SessionState)>
         requires rising { Rising 0 (2 ^ 32) sessions.now.entries }
         requires complete { EachStands (StandsByTubes self.now) sessions.now.entries }
         ensures { option_map (λ e. (e.0, e.1.now)) result

@@ -1,14 +1,14 @@
 ghost use Rattle.std.specs.Prelude.{◌≡◌, Some, option_map};
 ghost use Rattle.session_store.specs.Sessions.{wait_rank};
-ghost use Rattle.session_store.specs.Firsts.{first_of};
+ghost use Rattle.job_store.specs.Least.{first_of};
 
-use crate::session::Session;
+use crate::session::SessionState;
 
 /// Of a session that there may be and one more, the one of the lesser rank.
 pub fn first<'a>(
-    best: Option<(u32, &'a Session)>,
-    other: (u32, &'a Session),
-) -> Option<(u32, &'a Session)>
+    best: Option<(u32, &'a SessionState)>,
+    other: (u32, &'a SessionState),
+) -> Option<(u32, &'a SessionState)>
     ensures { option_map (λ e. (e.0, e.1.now)) result
         ≡ first_of wait_rank (option_map (λ e. (e.0, e.1.now)) best.entry)
         (Some (other.entry.0, other.entry.1.now)) }

@@ -18,14 +18,14 @@ use Rattle.slot_log.specs.declared.slot_log.SlotLog.TheInside.{Inside}
 use Rattle.slot_log.specs.Places.{ranked, is_found}
 use Rattle.slot_log.specs.Requests.{is_known}
 use Rattle.slot_log.specs.Proposals.{IsInWindow}
-use Rattle.slot_log.specs.Kept.{book_of, standing, IsKept}
+use Rattle.slot_log.specs.Kept.{book_of, standing, KeepsBook}
 use Rattle.slot_log.proofs.Maps.{remove_cases, none_removed, remove_none}
 use Rattle.slot_log.proofs.Held.{any_taken, any_found, goes_back, is_decided}
 use Rattle.slot_log.proofs.Ranks.{ranked_more, ranked_last}
 use Rattle.slot_log.proofs.Standing.{among, found_moved, placed}
 
 module _ {C : Type 0} (same : C → C → Bool) (key_of : C → Key) (exact : (x y : C) → same x y ≡ true → x ≡ y) (itself : (x : C) → same x x ≡ true)
-    (a : Inside C) (kept : IsKept same key_of a) where
+    (a : Inside C) (kept : KeepsBook same key_of a) where
   out_performed : is_some (get a.decisions a.slot_out) ≡ true → (s : ℕ) → 0 < s → s < a.slot_out + 1 → is_some (get a.decisions s) ≡ true
   out_performed there s low high =
       ⊎_elim (λ (l : s < a.slot_out). kept.performed s low l)
@@ -60,7 +60,7 @@ module _ {C : Type 0} (same : C → C → Bool) (key_of : C → Key) (exact : (x
   out_kept : (rs : VecDeque C Global) (places : Places C) → is_some (get a.decisions a.slot_out) ≡ true → deque_len rs + len (remove a.proposals a.slot_out) ≤ deque_capacity rs
       → ((c : C) → is_known same (book_of a) c ≡ is_known same (book_of (then rs places)) c) → places.others.items ≡ a.places.others.items
       → ((c : C) → is_known same (book_of a) c ≡ true → is_found same key_of (at_key places.by_key) (standing (then rs places)) a.places.others.items c ≡ true)
-      → IsKept same key_of (then rs places)
+      → KeepsBook same key_of (then rs places)
   out_kept rs places there room held others found =
       let within = kept.within a.slot_out there in
       record {
@@ -77,7 +77,7 @@ module _ {C : Type 0} (same : C → C → Bool) (key_of : C → Key) (exact : (x
       }
 
   -- no proposal was there
-  pub none_kept : get a.proposals a.slot_out ≡ None → is_some (get a.decisions a.slot_out) ≡ true → IsKept same key_of (then a.requests a.places)
+  pub none_kept : get a.proposals a.slot_out ≡ None → is_some (get a.decisions a.slot_out) ≡ true → KeepsBook same key_of (then a.requests a.places)
   none_kept none there =
       let left : remove a.proposals a.slot_out ≡ a.proposals = remove_none a.proposals a.slot_out none in
       out_kept a.requests a.places there (subst (λ (m : Slots C). deque_len a.requests + len m ≤ deque_capacity a.requests) (sym left) kept.room)
@@ -116,7 +116,7 @@ module _ {C : Type 0} (same : C → C → Bool) (key_of : C → Key) (exact : (x
     pub won_kept : get a.decisions a.slot_out ≡ Some x → (places : Places C)
         → (among same a.places.others.items x ≡ false → (q : Key) → at_key places.by_key q ≡ with_key (at_key a.places.by_key) (key_of x) (Decided a.slot_out) q)
         → (among same a.places.others.items x ≡ true → (q : Key) → at_key places.by_key q ≡ at_key a.places.by_key q)
-        → places.others.items ≡ a.places.others.items → deque_len a.requests + len (remove a.proposals a.slot_out) ≤ deque_capacity a.requests → IsKept same key_of (then a.requests places)
+        → places.others.items ≡ a.places.others.items → deque_len a.requests + len (remove a.proposals a.slot_out) ≤ deque_capacity a.requests → KeepsBook same key_of (then a.requests places)
     won_kept decided places puts leaves others room =
         let keep : (p : Place) (c : C) → standing a p ≡ Some c → (c ≡ x) ⊎ (standing (then a.requests places) p ≡ Some c) = still places in
         out_kept a.requests places (ap is_some decided) room
@@ -135,7 +135,7 @@ module _ {C : Type 0} (same : C → C → Bool) (key_of : C → Key) (exact : (x
     pub lost_kept : is_some (get a.decisions a.slot_out) ≡ true → (rs : VecDeque C Global) → rs.items ≡ a.requests.items ++ x ∷ [] → (rank : ℕ) → rank ≡ a.front_rank + length a.requests.items → (places : Places C)
         → (among same a.places.others.items x ≡ false → (q : Key) → at_key places.by_key q ≡ with_key (at_key a.places.by_key) (key_of x) (Requested rank) q)
         → (among same a.places.others.items x ≡ true → (q : Key) → at_key places.by_key q ≡ at_key a.places.by_key q)
-        → places.others.items ≡ a.places.others.items → deque_len rs + len (remove a.proposals a.slot_out) ≤ deque_capacity rs → IsKept same key_of (then rs places)
+        → places.others.items ≡ a.places.others.items → deque_len rs + len (remove a.proposals a.slot_out) ≤ deque_capacity rs → KeepsBook same key_of (then rs places)
     lost_kept there rs last rank behind places puts leaves others room =
         out_kept rs places there room
         (λ c.

@@ -11,7 +11,7 @@ use Rattle.slot_log.specs.declared.places.Places.{Places}
 use Rattle.slot_log.specs.declared.slot_log.SlotLog.TheInside.{Inside}
 use Rattle.slot_log.specs.Places.{noted_at, others_noted, is_found}
 use Rattle.slot_log.specs.Requests.{is_known}
-use Rattle.slot_log.specs.Kept.{book_of, standing, IsKept}
+use Rattle.slot_log.specs.Kept.{book_of, standing, KeepsBook}
 use Rattle.slot_log.proofs.Maps.{some_inserted, stays_inserted, within_inserted}
 use Rattle.slot_log.proofs.Held.{any_insert}
 use Rattle.slot_log.proofs.Standing.{among, found_still, found_old, found_new, among_new}
@@ -36,9 +36,9 @@ was true false false d h = inr refl
 was false false false d h = inl h
 
 module _ {C : Type 0} (same : C → C → Bool) (key_of : C → Key) (exact : (x y : C) → same x y ≡ true → x ≡ y) (itself : (x : C) → same x x ≡ true)
-    (a : Inside C) (kept : IsKept same key_of a) where
+    (a : Inside C) (kept : KeepsBook same key_of a) where
   -- the places stay as they are
-  pub places_kept : (places : Places C) → ((q : Key) → at_key places.by_key q ≡ at_key a.places.by_key q) → places.others.items ≡ a.places.others.items → IsKept same key_of (record a { places = places })
+  pub places_kept : (places : Places C) → ((q : Key) → at_key places.by_key q ≡ at_key a.places.by_key q) → places.others.items ≡ a.places.others.items → KeepsBook same key_of (record a { places = places })
   places_kept places looks others = record {
     slot_in = kept.slot_in;
     slot_out = kept.slot_out;
@@ -83,7 +83,7 @@ module _ {C : Type 0} (same : C → C → Bool) (key_of : C → Key) (exact : (x
 
     decision_kept : ((c : C) → among same places.others.items c ≡ true → is_known same (book_of then) c ≡ true)
         → ((c : C) → is_known same (book_of then) c ≡ true → is_found same key_of (at_key places.by_key) (standing then) places.others.items c ≡ true)
-        → IsKept same key_of then
+        → KeepsBook same key_of then
     decision_kept others found = record {
       slot_in = kept.slot_in;
       slot_out = kept.slot_out;
@@ -99,7 +99,7 @@ module _ {C : Type 0} (same : C → C → Bool) (key_of : C → Key) (exact : (x
 
     -- the command is noted
     pub noted_kept : ((q : Key) → at_key places.by_key q ≡ noted_at (at_key a.places.by_key) (key_of x) (Decided slot) q)
-        → places.others.items ≡ others_noted (at_key a.places.by_key (key_of x)) a.places.others.items x → IsKept same key_of then
+        → places.others.items ≡ others_noted (at_key a.places.by_key (key_of x)) a.places.others.items x → KeepsBook same key_of then
     noted_kept looks more =
         let old = at_key a.places.by_key in
         let new = at_key places.by_key in
@@ -117,7 +117,7 @@ module _ {C : Type 0} (same : C → C → Bool) (key_of : C → Key) (exact : (x
         (known_before c h))
 
   -- a known command is decided
-  pub known_kept : (slot : ℕ) (x : C) → slot ≤ 2 ^ 62 → get a.decisions slot ≡ None → is_known same (book_of a) x ≡ true → IsKept same key_of (record a { decisions = insert a.decisions slot x })
+  pub known_kept : (slot : ℕ) (x : C) → slot ≤ 2 ^ 62 → get a.decisions slot ≡ None → is_known same (book_of a) x ≡ true → KeepsBook same key_of (record a { decisions = insert a.decisions slot x })
   known_kept slot x numbered free known =
       let now = record a { decisions = insert a.decisions slot x } in
       decision_kept slot x numbered free a.places

@@ -12,7 +12,7 @@ use Rattle.slot_log.specs.declared.places.Place.TheVariants.{Requested, Proposed
 use Rattle.slot_log.specs.declared.slot_log.SlotLog.TheInside.{Inside}
 use Rattle.slot_log.specs.Places.{ranked, is_found}
 use Rattle.slot_log.specs.Requests.{is_known}
-use Rattle.slot_log.specs.Kept.{book_of, standing, IsKept}
+use Rattle.slot_log.specs.Kept.{book_of, standing, KeepsBook}
 use Rattle.slot_log.proofs.Held.{any_found}
 use Rattle.slot_log.proofs.Standing.{IsInPlace, among, found_cases, same_tests}
 
@@ -42,7 +42,7 @@ module _ {C : Type 0} (same : C → C → Bool) (key_of : C → Key) (exact : (x
       (or_right (list_any (λ d. same d c) (values a.proposals)) (list_any (λ d. same d c) (values a.decisions)) (any_found (λ d. same d c) a.decisions s c there (itself c)))
 
   -- the places find what the book knows
-  pub known_is : (a : Inside C) → IsKept same key_of a → (c : C) → is_found same key_of (at_key a.places.by_key) (standing a) a.places.others.items c ≡ is_known same (book_of a) c
+  pub known_is : (a : Inside C) → KeepsBook same key_of a → (c : C) → is_found same key_of (at_key a.places.by_key) (standing a) a.places.others.items c ≡ is_known same (book_of a) c
   known_is a kept c =
       same_tests _ _
       (λ h.

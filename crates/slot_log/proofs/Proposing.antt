@@ -16,7 +16,7 @@ use Rattle.slot_log.specs.declared.slot_log.SlotLog.TheInside.{Inside}
 use Rattle.slot_log.specs.Places.{ranked, is_found}
 use Rattle.slot_log.specs.Requests.{is_known}
 use Rattle.slot_log.specs.Proposals.{IsLeastOpen, IsInWindow}
-use Rattle.slot_log.specs.Kept.{book_of, standing, IsKept}
+use Rattle.slot_log.specs.Kept.{book_of, standing, KeepsBook}
 use Rattle.slot_log.proofs.Maps.{some_inserted, others_inserted, within_inserted}
 use Rattle.slot_log.proofs.Held.{any_insert, goes_to_proposals}
 use Rattle.slot_log.proofs.Books.{new_near}
@@ -24,7 +24,7 @@ use Rattle.slot_log.proofs.Ranks.{ranked_rest}
 use Rattle.slot_log.proofs.Standing.{among, found_moved}
 
 module _ {C : Type 0} (same : C → C → Bool) (key_of : C → Key) (exact : (x y : C) → same x y ≡ true → x ≡ y) (itself : (x : C) → same x x ≡ true)
-    (a : Inside C) (kept : IsKept same key_of a) (rs : VecDeque C Global) (x : C) (first : a.requests.items ≡ x ∷ rs.items) where
+    (a : Inside C) (kept : KeepsBook same key_of a) (rs : VecDeque C Global) (x : C) (first : a.requests.items ≡ x ∷ rs.items) where
   first_known : is_known same (book_of a) x ≡ true
   first_known =
       ap (λ (ds : List C). list_any (λ d. same d x) ds || (list_any (λ d. same d x) (values a.proposals) || list_any (λ d. same d x) (values a.decisions))) first
@@ -62,7 +62,7 @@ module _ {C : Type 0} (same : C → C → Bool) (key_of : C → Key) (exact : (x
         puts leaves (some_inserted a.proposals slot x) keep c (kept.found c h)
 
     -- the fields are kept so
-    pub proposal_kept : deque_len rs + len (insert a.proposals slot x) ≤ deque_capacity rs → IsKept same key_of then
+    pub proposal_kept : deque_len rs + len (insert a.proposals slot x) ≤ deque_capacity rs → KeepsBook same key_of then
     proposal_kept room =
         let low = least.next in
         let high = least.numbered in

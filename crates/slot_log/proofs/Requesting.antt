@@ -14,7 +14,7 @@ use Rattle.slot_log.specs.declared.places.Places.{Places}
 use Rattle.slot_log.specs.declared.slot_log.SlotLog.TheInside.{Inside}
 use Rattle.slot_log.specs.Places.{ranked, noted_at, others_noted, is_found}
 use Rattle.slot_log.specs.Requests.{is_known}
-use Rattle.slot_log.specs.Kept.{book_of, standing, IsKept}
+use Rattle.slot_log.specs.Kept.{book_of, standing, KeepsBook}
 use Rattle.slot_log.proofs.Ranks.{ranked_more, ranked_last}
 use Rattle.slot_log.proofs.Standing.{among, found_old, found_new, among_new}
 
@@ -35,7 +35,7 @@ was true false p d h = inr refl
 was false false p d h = inl h
 
 module _ {C : Type 0} (same : C → C → Bool) (key_of : C → Key) (exact : (x y : C) → same x y ≡ true → x ≡ y) (itself : (x : C) → same x x ≡ true)
-    (a : Inside C) (kept : IsKept same key_of a) (rs : VecDeque C Global) (places : Places C) (x : C) (rank : ℕ) (last : rs.items ≡ a.requests.items ++ x ∷ [])
+    (a : Inside C) (kept : KeepsBook same key_of a) (rs : VecDeque C Global) (places : Places C) (x : C) (rank : ℕ) (last : rs.items ≡ a.requests.items ++ x ∷ [])
     (looks : (q : Key) → at_key places.by_key q ≡ noted_at (at_key a.places.by_key) (key_of x) (Requested rank) q)
     (more : places.others.items ≡ others_noted (at_key a.places.by_key (key_of x)) a.places.others.items x) where
   abbrev then : Inside C
@@ -67,7 +67,7 @@ module _ {C : Type 0} (same : C → C → Bool) (key_of : C → Key) (exact : (x
     keep (Decided s) c there = there
 
     -- the fields are kept so
-    pub request_kept : deque_len rs + len a.proposals ≤ deque_capacity rs → IsKept same key_of then
+    pub request_kept : deque_len rs + len a.proposals ≤ deque_capacity rs → KeepsBook same key_of then
     request_kept room =
         let old = at_key a.places.by_key in
         let new = at_key places.by_key in

@@ -36,7 +36,7 @@ IsNext s = (0 < s) × (s ≤ 2 ^ 62 + 1)
 -- What is true of the fields. Each request that was proposed had a slot of its own. A known decision is of a slot, and
 -- each slot before slot_out has one. Proposals stand in the window, before slot_in. The requests have room for the
 -- proposals, which may come back to them. The known commands are found by the places.
-pub record IsKept {C : Type 0} (same : C → C → Bool) (key_of : C → Key) (a : Inside C) : Type 0 where
+pub record KeepsBook {C : Type 0} (same : C → C → Bool) (key_of : C → Key) (a : Inside C) : Type 0 where
   pub slot_in : IsNext a.slot_in
   pub slot_out : IsNext a.slot_out
   pub front_rank : a.front_rank < a.slot_in

@@ -45,11 +45,11 @@ impl<C: Value + Keyed> Model for SlotLog<C> {
 
     ghost coded = { Prim.hlevel (codes, slots_code, C.code) };
 
-    ghost use Rattle.slot_log.specs.Kept.{book_of, IsKept};
+    ghost use Rattle.slot_log.specs.Kept.{book_of, KeepsBook};
 
     ghost view = { book_of };
 
-    ghost invariant = { λ a. IsKept C.eq C.key_of a };
+    ghost invariant = { λ a. KeepsBook C.eq C.key_of a };
 }
 
 impl<C: Value + Keyed> SlotLog<C> {

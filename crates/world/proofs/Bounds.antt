@@ -8,15 +8,15 @@ use Rattle.ballot.specs.Ballots.{Numbers, is_below, higher, is_same, next_after}
 use Rattle.ballot.specs.Members.{is_member, numbers, add, is_majority}
 use Rattle.ballot.specs.Letters.{letter, all_to_all}
 use Rattle.ballot.specs.declared.pvalue.Pvalue.{Pvalue}
-use Rattle.ballot.specs.declared.letter.Body.{Body}
+use Rattle.ballot.specs.declared.letter.LetterBody.{LetterBody}
 use Rattle.ballot.specs.declared.letter.Letter.{Letter}
-use Rattle.ballot.specs.declared.letter.Body.TheVariants.{P1a, P1b, P2a, P2b, Propose, Decision, Ask}
+use Rattle.ballot.specs.declared.letter.LetterBody.TheVariants.{P1a, P1b, P2a, P2b, Propose, Decision, Ask}
 use Rattle.scout_commander.specs.Scouts.{Scouting, Hearing, new_scout, gathers, unmoved}
 use Rattle.scout_commander.specs.declared.scout.Heard.TheVariants.{Wait, Adopted, Preempted}
 use Rattle.scout_commander.specs.Commanders.{Commanding, Voting, counts, votes}
 use Rattle.scout_commander.specs.declared.commander.Voted.TheVariants.{Wait as VoteWaits, Decided}
 use Rattle.ballot.specs.Slots.{Slots}
-use Rattle.leader.specs.Leaders.{Leading, Done, silently, pvalue, woken, preempted, commands, proposed, scout_says, says_again}
+use Rattle.leader.specs.Leaders.{Leading, Done, silently, pvalue, woken, preempted, commands, on_propose, scout_says, says_again}
 use Rattle.leader.specs.Adoptions.{adopted}
 use Rattle.leader.specs.Promises.{at_heard, at_scout}
 use Rattle.leader.specs.Promises as promises
@@ -25,7 +25,7 @@ use Rattle.leader.specs.Votes as votes_of
 use Rattle.slot_log.specs.Books.{SlotBook}
 use Rattle.slot_log.specs.Proposals.{next_proposal}
 use Rattle.slot_log.specs.Decisions.{decided_from, next_decided}
-use Rattle.replica.specs.Replicas.{asks_for, tells, proposes_again, asks_others, nudges}
+use Rattle.replica.specs.Replicas.{proposes_first, tells, proposes_again, asks_others, nudges}
 use Rattle.world.specs.declared.event.Event.{Event}
 use Rattle.object.specs.Objects.{Rules}
 use Rattle.node.specs.Nodes.{NodeState, restarted}
@@ -43,7 +43,7 @@ use Rattle.world.proofs.Good.{Each-to_all}
 use Rattle.world.proofs.Reach.{opened_at, leads_sound, opening_sound}
 
 -- the ballots in it are of no round above r
-abbrev pub BodyWithin : {C : Type 0} → ℕ → Body C → Type 0
+abbrev pub BodyWithin : {C : Type 0} → ℕ → LetterBody C → Type 0
 BodyWithin r (P1a b) = b.round ≤ r
 BodyWithin r (P1b b report) = b.round ≤ r
 BodyWithin r (P2a p) = ⊤
@@ -61,7 +61,7 @@ pub record IsWithin {C : Type 0} (r : ℕ) (k : Cluster C) : Type 0 where
   pub nodes : (n : ℕ) → NodeWithin r (node k n)
   pub letters : Each (λ l. BodyWithin r l.body) k.letters
 
-body_more : {C : Type 0} (r : ℕ) (body : Body C) → BodyWithin r body → BodyWithin (r + 1) body
+body_more : {C : Type 0} (r : ℕ) (body : LetterBody C) → BodyWithin r body → BodyWithin (r + 1) body
 body_more r (P1a b) h = omega arith
 body_more r (P1b b report) h = omega arith
 body_more r (P2a p) h = tt
@@ -160,7 +160,7 @@ module _ {C : Type 0} (r : ℕ) (l : Leading C) (h : l.ballot.round ≤ r) where
   p2b_bounded : (m : ℕ) (b : Option Numbers) (s : ℕ) (by : Numbers) → ((y : Numbers) → b ≡ Some y → y.round ≤ r) → Bounded r (votes_of.on_p2b l m b s by)
   p2b_bounded m b s by low = bounded_if (silently l) _ (answers_another l b by) (λ e. silent_bounded l refl) (λ e. at_commander_bounded m b s low (Rattle.std.specs.FinMap.get l.commanders s))
 
-  proposed_bounded : (s : ℕ) (c : C) → Bounded r (proposed l s c)
+  proposed_bounded : (s : ℕ) (c : C) → Bounded r (on_propose l s c)
   proposed_bounded s c =
       bounded_if (silently l) _ _ (λ e. silent_bounded l refl)
       (λ e. bounded_if (commands l s c) _ l.active (λ f. record { round = low_now; says = (tt, tt) }) (λ f. silent_bounded _ refl))
@@ -188,7 +188,7 @@ module _ (laws : BallotLaws) {C : Type 0} (k : Cluster C) (i : IsSound k) (r : �
     }
 
   module _ (n : ℕ) (member : is_member k.members n ≡ true) where
-    said : (bodies : List (Body C)) → Each (BodyWithin (r + 1)) bodies → Each (λ l. BodyWithin (r + 1) l.body) (all_to_all k.members n bodies)
+    said : (bodies : List (LetterBody C)) → Each (BodyWithin (r + 1)) bodies → Each (λ l. BodyWithin (r + 1) l.body) (all_to_all k.members n bodies)
     said bodies h = Each-to_all (λ l. BodyWithin (r + 1) l.body) k.members n bodies (λ b at m to. Each-at (BodyWithin (r + 1)) bodies b h at)
 
     old : NodeWithin (r + 1) (node k n)
@@ -200,7 +200,7 @@ module _ (laws : BallotLaws) {C : Type 0} (k : Cluster C) (i : IsSound k) (r : �
     replica_within : (book : SlotBook C) (out : List (Letter C)) → Each (λ l. BodyWithin (r + 1) l.body) out → IsWithin (r + 1) (turned k n (record (node k n) { replica = book }) out)
     replica_within book out h = turn_within n member _ out (record { boot = old.boot; leader = old.leader; promised = old.promised }) h
 
-    receive_within : (m : ℕ) (body : Body C) → BodyWithin r body → (x : NodeState C) (out : List (Letter C)) → Receives k.members m n (node k n) body x out → IsWithin (r + 1) (turned k n x out)
+    receive_within : (m : ℕ) (body : LetterBody C) → BodyWithin r body → (x : NodeState C) (out : List (Letter C)) → Receives k.members m n (node k n) body x out → IsWithin (r + 1) (turned k n x out)
     receive_within m body low x out (promises_ballot b report is) =
         let top = promised_more r (node k n).acceptor.promised b (w.nodes n).promised low in
         turn_within n member _ _
@@ -244,7 +244,7 @@ module _ (laws : BallotLaws) {C : Type 0} (k : Cluster C) (i : IsSound k) (r : �
     restart_within : IsWithin (r + 1) (turned k n (restarted k.members n (node k n)) [])
     restart_within = turn_within n member _ [] (record { boot = let q = (w.nodes n).boot in omega arith; leader = omega arith; promised = old.promised }) tt
 
-    asked_within : (o : Option (ℕ × C)) → Each (BodyWithin (r + 1)) (asks_for o)
+    asked_within : (o : Option (ℕ × C)) → Each (BodyWithin (r + 1)) (proposes_first o)
     asked_within None = tt
     asked_within (Some p) = (tt, tt)
 

@@ -1,5 +1,5 @@
 -- One event of a world, from what was done to its parts.
-use Rattle.std.proofs.Common.{◌≡◌, ◌⊎◌, inl, inr, ℕ, zero, suc, ◌+◌, ◌<◌, ◌^◌, Bool, true, false, true≢false, cond, not, ◌&&◌, ◌||◌, List, [], ◌∷◌, ◌++◌, length, take, Some, None, Option, refl, sym, ap, ◌∙◌, subst, arith}
+use Rattle.std.proofs.Common.{◌≡◌, inl, inr, ℕ, zero, suc, ◌+◌, ◌<◌, ◌^◌, Bool, true, false, true≢false, cond, not, ◌&&◌, ◌||◌, List, [], ◌∷◌, ◌++◌, length, take, Some, None, Option, refl, sym, ap, ◌∙◌, subst, arith}
 use Rattle.std.specs.Prelude.{slice_get, slice_index_or, nat_le}
 use Rattle.std.proofs.lemmas.Bool.Decides.{nat_tests}
 use Rattle.std.proofs.lemmas.List.{take_more}
@@ -11,8 +11,8 @@ use Rattle.object.specs.declared.command.Key.{Key}
 use Rattle.object.specs.declared.command.Submission.{Submission}
 use Rattle.object.specs.Commands.{same_acts}
 use Rattle.ballot.specs.Members.{is_member}
-use Rattle.ballot.specs.declared.letter.Body.{Body}
-use Rattle.ballot.specs.declared.letter.Body.TheVariants.{P1a, P1b, P2a, P2b, Propose, Decision, Ask}
+use Rattle.ballot.specs.declared.letter.LetterBody.{LetterBody}
+use Rattle.ballot.specs.declared.letter.LetterBody.TheVariants.{P1a, P1b, P2a, P2b, Propose, Decision, Ask}
 use Rattle.ballot.specs.declared.letter.Letter.{Letter}
 use Rattle.world.specs.declared.event.Event.{Event}
 use Rattle.world.specs.declared.event.Event.TheVariants as events
@@ -26,7 +26,7 @@ use Rattle.object.specs.KeyLaws.{same_is}
 use Rattle.world.specs.Steps.{Step, IsItsOwn, counted, with_cluster, deliver}
 use Rattle.world.specs.Runs.{Leads, IsReachable, IsWorld}
 use Rattle.world.specs.Runs as Runs
-use Rattle.world.specs.Refusals.{IsAllowed, has_other_act, is_at_member, is_sent, keeps_acts, most_events, refusal, IsRefused}
+use Rattle.world.specs.Refusals.{IsAllowed, has_other_act, is_at_member, is_sent, keeps_acts, most_events, refusal, reason_for, IsRefused}
 use Rattle.world.specs.Showing.{HasNode}
 use Rattle.node.specs.Receiving.{IsFit}
 use Rattle.world.specs.Kept.{Delivered, IsNoted}
@@ -81,7 +81,7 @@ module _ (laws : BallotLaws) {O Op Reply : Type 0} (rules : Rules O Op Reply) wh
     boots n room = let b = ((reachable_within laws rules v i.reachable).nodes n).boot in let few = i.few in omega arith
 
     -- what is known to be decided is what a Decision says
-    fit_body : (k : Cluster (Command Op)) → k ≡ v.cluster → (m n : ℕ) (body : Body (Command Op)) → IsTrueOf v.cluster m body → BodyWithin v.taken body → IsFit (node v.cluster n) body
+    fit_body : (k : Cluster (Command Op)) → k ≡ v.cluster → (m n : ℕ) (body : LetterBody (Command Op)) → IsTrueOf v.cluster m body → BodyWithin v.taken body → IsFit (node v.cluster n) body
     fit_body k same m n (P1a b) says low = tt
     fit_body k same m n (P1b b report) says low = let few = i.few in omega arith
     fit_body k same m n (P2a p) says low = tt
@@ -212,10 +212,12 @@ run_more rules w v u es j e within at l s =
     subst (λ t. Leads rules w t u) (sym (take_more es j e within ∙ ap (λ x. take j es ++ (x ∷ [])) (sym at))) (Runs.after e u l s)
 
 -- an event of a run that is refused
-pub refused_at : {Op Reply : Type 0} (same : Op → Op → Bool) (old new : World Op Reply) (es : List (Event Op)) (j : ℕ) (e : Event Op) (reason : WorldError) → j < length es → e ≡ slice_index_or es j e → new ≡ old → (reason ≡ reasons.OutOfMemory) ⊎ (refusal same old e ≡ Some reason) → IsRefused same new es j reason
-refused_at same old new es j e reason within at kept (inl memory) = inl memory
-refused_at same old new es j e reason within at kept (inr cause) =
-    inr (e, slice_get-get_or es j e within ∙ ap (λ x. Some x) (sym at), ap (λ w. refusal same w e) kept ∙ cause)
+pub refused_at : {Op Reply : Type 0} (same : Op → Op → Bool) (old new : World Op Reply) (es : List (Event Op)) (j : ℕ) (e : Event Op) (reason : WorldError) → j < length es → e ≡ slice_index_or es j e → new ≡ old → reason ≡ reason_for same old e → IsRefused same new es j reason
+refused_at same old new es j e reason within at kept cause = record {
+  event = e;
+  at = slice_get-get_or es j e within ∙ ap (λ x. Some x) (sym at);
+  because = cause ∙ sym (ap (λ w. reason_for same w e) kept);
+}
 
 module _ (laws : BallotLaws) {O Op Reply : Type 0} (rules : Rules O Op Reply) where
   -- what came later is later

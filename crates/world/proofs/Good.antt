@@ -4,9 +4,9 @@ use Rattle.std.specs.FinMap.{get}
 use Rattle.object.specs.Lists.{In}
 use Rattle.ballot.specs.Members.{is_member, numbers}
 use Rattle.ballot.specs.declared.pvalue.Pvalue.{Pvalue}
-use Rattle.ballot.specs.declared.letter.Body.{Body}
+use Rattle.ballot.specs.declared.letter.LetterBody.{LetterBody}
 use Rattle.ballot.specs.declared.letter.Letter.{Letter}
-use Rattle.ballot.specs.declared.letter.Body.TheVariants.{P2a}
+use Rattle.ballot.specs.declared.letter.LetterBody.TheVariants.{P2a}
 use Rattle.ballot.specs.Letters.{letter, to_all, all_to_all}
 use Rattle.leader.specs.Leaders.{Leading, Done, silently}
 use Rattle.slot_log.specs.Books.{SlotBook}
@@ -21,14 +21,14 @@ use Rattle.world.proofs.Invariants.{Asked, IsTrueOf, IsFair, IsLeading, IsNode, 
 use Rattle.world.proofs.Grows.{Grows, stays, leader_stays, acceptor_stays, chosen_stays}
 use Rattle.world.proofs.Turns.{Keeps, IsOwn, turn_sound, Kept}
 
-pub Each-to_all : {C : Type 0} (P : Letter C → Type 0) (ws : List ℕ) (n : ℕ) (bodies : List (Body C)) → ((b : Body C) → In b bodies → (m : ℕ) → is_member ws m ≡ true → P (letter n b m)) → Each P (all_to_all ws n bodies)
+pub Each-to_all : {C : Type 0} (P : Letter C → Type 0) (ws : List ℕ) (n : ℕ) (bodies : List (LetterBody C)) → ((b : LetterBody C) → In b bodies → (m : ℕ) → is_member ws m ≡ true → P (letter n b m)) → Each P (all_to_all ws n bodies)
 Each-to_all P ws n [] h = tt
 Each-to_all P ws n (b ∷ bs) h =
     Each-append P (to_all ws n b) (all_to_all ws n bs)
     (Each-map P (letter n b) (numbers ws) (Each-from (λ m. P (letter n b m)) (numbers ws) (λ m at. h b (inl refl) m (numbers_members ws m at))))
     (Each-to_all P ws n bs (λ c at m member. h c (inr at) m member))
 
-pub In-to_all : {C : Type 0} (ws : List ℕ) (n : ℕ) (bodies : List (Body C)) (b : Body C) → is_member ws n ≡ true → In b bodies → In (letter n b n) (all_to_all ws n bodies)
+pub In-to_all : {C : Type 0} (ws : List ℕ) (n : ℕ) (bodies : List (LetterBody C)) (b : LetterBody C) → is_member ws n ≡ true → In b bodies → In (letter n b n) (all_to_all ws n bodies)
 In-to_all ws n [] b member i = absurd i
 In-to_all ws n (c ∷ cs) b member (inl e) = In-left (letter n b n) (to_all ws n c) (all_to_all ws n cs) (Rattle.std.proofs.Common.subst (λ z. In (letter n b n) (to_all ws n z)) e (In-map (letter n b) n (numbers ws) (In-numbers ws n member)))
 In-to_all ws n (c ∷ cs) b member (inr i) = In-right (letter n b n) (to_all ws n c) (all_to_all ws n cs) (In-to_all ws n cs b member i)

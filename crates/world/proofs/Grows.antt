@@ -4,9 +4,9 @@ use Rattle.object.specs.Lists.{In}
 use Rattle.ballot.specs.Ballots.{Numbers, is_below}
 use Rattle.ballot.specs.Members.{is_member, is_majority}
 use Rattle.ballot.specs.declared.pvalue.Pvalue.{Pvalue}
-use Rattle.ballot.specs.declared.letter.Body.{Body}
+use Rattle.ballot.specs.declared.letter.LetterBody.{LetterBody}
 use Rattle.ballot.specs.declared.letter.Letter.{Letter}
-use Rattle.ballot.specs.declared.letter.Body.TheVariants.{P1a, P1b, P2a, P2b, Propose, Decision, Ask}
+use Rattle.ballot.specs.declared.letter.LetterBody.TheVariants.{P1a, P1b, P2a, P2b, Propose, Decision, Ask}
 use Rattle.acceptor.specs.Acceptors.{Acceptances}
 use Rattle.scout_commander.specs.Scouts.{Scouting}
 use Rattle.scout_commander.specs.Commanders.{Commanding}
@@ -95,7 +95,7 @@ module _ (laws : BallotLaws) {C : Type 0} (k z : Cluster C) (g : Grows k z) wher
     greatest = λ p i x. ⊎_elim (λ (was : In p (node k m).acceptor.accepted). h.greatest p was x) (λ (late : IsLate (node k m).acceptor.promised p.ballot). not_both x (late b h.promised)) ((g.acceptors m).new p i);
   }
 
-  pub true_stays : (m : ℕ) (body : Body C) → IsTrueOf k m body → IsTrueOf z m body
+  pub true_stays : (m : ℕ) (body : LetterBody C) → IsTrueOf k m body → IsTrueOf z m body
   true_stays m (P1a b) h = tt
   true_stays m (P1b b report) h = promise_stays m b report h
   true_stays m (P2a p) h = tt

@@ -6,9 +6,9 @@ use Rattle.object.specs.Lists.{In}
 use Rattle.ballot.specs.Ballots.{Numbers, is_below}
 use Rattle.ballot.specs.Members.{has, is_member, is_majority}
 use Rattle.ballot.specs.declared.pvalue.Pvalue.{Pvalue}
-use Rattle.ballot.specs.declared.letter.Body.{Body}
+use Rattle.ballot.specs.declared.letter.LetterBody.{LetterBody}
 use Rattle.ballot.specs.declared.letter.Letter.{Letter}
-use Rattle.ballot.specs.declared.letter.Body.TheVariants.{P1a, P1b, P2a, P2b, Propose, Decision, Ask}
+use Rattle.ballot.specs.declared.letter.LetterBody.TheVariants.{P1a, P1b, P2a, P2b, Propose, Decision, Ask}
 use Rattle.acceptor.specs.Acceptors.{Acceptances}
 use Rattle.scout_commander.specs.Scouts.{Scouting}
 use Rattle.scout_commander.specs.Commanders.{Commanding}
@@ -53,7 +53,7 @@ abbrev pub IsVote : {C : Type 0} → Cluster C → ℕ → ℕ → Numbers → T
 IsVote {C} k m s b = (c : C) × In (pvalue b s c) (node k m).acceptor.accepted
 
 -- what a letter's body says, by its sender
-abbrev pub IsTrueOf : {C : Type 0} → Cluster C → ℕ → Body C → Type 0
+abbrev pub IsTrueOf : {C : Type 0} → Cluster C → ℕ → LetterBody C → Type 0
 IsTrueOf k m (P1a b) = ⊤
 IsTrueOf k m (P1b b report) = IsPromise k m b report
 IsTrueOf k m (P2a p) = ⊤

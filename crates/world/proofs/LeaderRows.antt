@@ -6,7 +6,7 @@ use Rattle.object.specs.Lists.{In}
 use Rattle.ballot.specs.Ballots.{Numbers, is_below, is_same, is_promise, next_after}
 use Rattle.ballot.specs.Members.{has, add, is_majority, is_member}
 use Rattle.ballot.specs.declared.pvalue.Pvalue.{Pvalue}
-use Rattle.ballot.specs.declared.letter.Body.TheVariants.{P2a}
+use Rattle.ballot.specs.declared.letter.LetterBody.TheVariants.{P2a}
 use Rattle.scout_commander.specs.Reports.{IsFresh}
 use Rattle.scout_commander.specs.Scouts.{Scouting, Hearing, new_scout, gathers, unmoved, TakesFresh}
 use Rattle.scout_commander.specs.Scouts as scouts
@@ -14,8 +14,8 @@ use Rattle.scout_commander.specs.declared.scout.Heard.TheVariants.{Wait, Adopted
 use Rattle.scout_commander.specs.Commanders.{Commanding, Voting, new_commander, counts, votes}
 use Rattle.scout_commander.specs.declared.commander.Voted.TheVariants.{Wait as VoteWaits, Decided}
 use Rattle.ballot.specs.Slots.{Slots}
-use Rattle.leader.specs.Leaders.{Leading, silently, pvalue, woken, preempted, commands, proposed}
-use Rattle.leader.specs.Adoptions.{IsGreatest, IsOpen, TakesGreatest, adopted, asks_for}
+use Rattle.leader.specs.Leaders.{Leading, silently, pvalue, woken, preempted, commands, on_propose}
+use Rattle.leader.specs.Adoptions.{IsGreatest, IsOpen, TakesGreatest, adopted, asks_acceptors}
 use Rattle.leader.specs.Promises.{at_heard, at_scout, AllowsAt, Hears}
 use Rattle.leader.specs.Votes.{at_voted, at_commander, answers_another}
 use Rattle.leader.specs.Votes as votes_of
@@ -158,7 +158,7 @@ module _ (laws : BallotLaws) {C : Type 0} (k : Cluster C) (i : IsSound k) (n : �
     is_own : (new : Slots C) (e : ℕ × C) (p : Pvalue C) → pvalue x.leader.ballot e.0 e.1 ≡ p → get new e.0 ≡ Some e.1 → (p.ballot ≡ x.leader.ballot) × (true ≡ true) × (get new p.slot ≡ Some p.value)
     is_own new e p same there = subst (λ (q : Pvalue C). (q.ballot ≡ x.leader.ballot) × (true ≡ true) × (get new q.slot ≡ Some q.value)) same (refl, refl, there)
 
-    commander_of : (z : Cluster C) → Grows k z → (new : Slots C) → ((p : Pvalue C) → In (P2a p) (asks_for x.leader new) → Asked z.letters p) → (s : ℕ) (v : C) → get new s ≡ Some v → IsVoting z (adopted x.leader new).state s (new_commander x.leader.members (pvalue x.leader.ballot s v))
+    commander_of : (z : Cluster C) → Grows k z → (new : Slots C) → ((p : Pvalue C) → In (P2a p) (asks_acceptors x.leader new) → Asked z.letters p) → (s : ℕ) (v : C) → get new s ≡ Some v → IsVoting z (adopted x.leader new).state s (new_commander x.leader.members (pvalue x.leader.ballot s v))
     commander_of z g new said s v there = record {
       own = record { members = refl; ballot = refl; slot = refl };
       sent = said (pvalue x.leader.ballot s v) (In-map (λ e. P2a (pvalue x.leader.ballot e.0 e.1)) (s, v) (entries new) (get_entries new s v there));
@@ -375,7 +375,7 @@ module _ (laws : BallotLaws) {C : Type 0} (k : Cluster C) (i : IsSound k) (n : �
     true_says = λ z g. tt;
   }
 
-  pub proposed_good : (s : ℕ) (c : C) → IsGood k n x (proposed x.leader s c)
+  pub proposed_good : (s : ℕ) (c : C) → IsGood k n x (on_propose x.leader s c)
   proposed_good s c = good_if k n x (silently x.leader) _ (contains_key x.leader.proposals s)
       (λ there. good_silent laws k n x h)
       (λ free. good_if k n x _ _ x.leader.active

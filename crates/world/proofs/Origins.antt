@@ -9,8 +9,8 @@ use Rattle.ballot.specs.Ballots.{Numbers, is_below, is_same}
 use Rattle.ballot.specs.Members.{is_member, numbers, add, is_majority}
 use Rattle.ballot.specs.Letters.{letter, all_to_all}
 use Rattle.ballot.specs.declared.pvalue.Pvalue.{Pvalue}
-use Rattle.ballot.specs.declared.letter.Body.{Body}
-use Rattle.ballot.specs.declared.letter.Body.TheVariants.{P1a, P1b, P2a, P2b, Propose, Decision, Ask}
+use Rattle.ballot.specs.declared.letter.LetterBody.{LetterBody}
+use Rattle.ballot.specs.declared.letter.LetterBody.TheVariants.{P1a, P1b, P2a, P2b, Propose, Decision, Ask}
 use Rattle.ballot.specs.declared.letter.Letter.{Letter}
 use Rattle.scout_commander.specs.Scouts.{Scouting, Hearing, new_scout, gathers, unmoved, TakesFresh}
 use Rattle.scout_commander.specs.Scouts as scouts
@@ -18,7 +18,7 @@ use Rattle.scout_commander.specs.declared.scout.Heard.TheVariants.{Wait, Adopted
 use Rattle.scout_commander.specs.Commanders.{Commanding, Voting, counts, votes}
 use Rattle.scout_commander.specs.declared.commander.Voted.TheVariants.{Wait as VoteWaits, Decided}
 use Rattle.ballot.specs.Slots.{Slots}
-use Rattle.leader.specs.Leaders.{Leading, Done, silently, pvalue, woken, preempted, commands, proposed, scout_says, says_again}
+use Rattle.leader.specs.Leaders.{Leading, Done, silently, pvalue, woken, preempted, commands, on_propose, scout_says, says_again}
 use Rattle.leader.specs.Adoptions.{IsGreatest, IsOpen, TakesGreatest, adopted}
 use Rattle.leader.specs.Promises.{at_heard, at_scout, AllowsAt, Hears}
 use Rattle.leader.specs.Votes.{at_voted, at_commander, answers_another}
@@ -28,7 +28,7 @@ use Rattle.slot_log.specs.Requests.{is_known, requested}
 use Rattle.slot_log.specs.Proposals.{open_slot, first_for, next_proposal, proposed as proposed_as, proposed_next}
 use Rattle.slot_log.specs.Decisions.{decided_from, next_decided}
 use Rattle.slot_log.specs.Advances.{lost, advanced}
-use Rattle.replica.specs.Replicas.{asks_for, tells, proposes_again, asks_others, nudges}
+use Rattle.replica.specs.Replicas.{proposes_first, tells, proposes_again, asks_others, nudges}
 use Rattle.node.specs.Nodes.{NodeState, restarted}
 use Rattle.world.specs.Nodes.{Cluster, node, turned}
 use Rattle.node.specs.Deeds.{led, said_again}
@@ -46,7 +46,7 @@ module _ {C : Type 0} (P : C → Type 0) where
   abbrev pub AllAt : Slots C → Type 0
   AllAt m = (s : ℕ) (c : C) → get m s ≡ Some c → P c
 
-  abbrev pub OfBody : Body C → Type 0
+  abbrev pub OfBody : LetterBody C → Type 0
   OfBody (P1a b) = ⊤
   OfBody (P1b b report) = ⊤
   OfBody (P2a p) = P p.value
@@ -190,7 +190,7 @@ module _ {C : Type 0} (P : C → Type 0) where
   p2b_of : (l : Leading C) (m : ℕ) (b : Option Numbers) (s : ℕ) (by : Numbers) → AllAt l.proposals → OfDone (votes_by.on_p2b l m b s by)
   p2b_of l m b s by h = done_if (silently l) _ (answers_another l b by) (of_silent l h) (commander_of l m b s h (get l.commanders s))
 
-  propose_of : (l : Leading C) (s : ℕ) (c : C) → AllAt l.proposals → P c → OfDone (proposed l s c)
+  propose_of : (l : Leading C) (s : ℕ) (c : C) → AllAt l.proposals → P c → OfDone (on_propose l s c)
   propose_of l s c h p =
       done_if (silently l) _ (contains_key l.proposals s) (of_silent l h)
       (done_if (commands l s c) _ l.active (record { state = insert_at l.proposals s c h p; says = (p, tt) }) (of_silent _ (insert_at l.proposals s c h p)))
@@ -231,11 +231,11 @@ module _ {C : Type 0} (P : C → Type 0) where
   proposed_of r h None first = h
   proposed_of r h (Some p) first = record { requests = rest_of r.requests h.requests; proposals = insert_at r.proposals p.0 p.1 h.proposals (first p refl) }
 
-  asks_of : (o : Option (ℕ × C)) → ((p : ℕ × C) → o ≡ Some p → P p.1) → Each OfBody (asks_for o)
+  asks_of : (o : Option (ℕ × C)) → ((p : ℕ × C) → o ≡ Some p → P p.1) → Each OfBody (proposes_first o)
   asks_of None first = tt
   asks_of (Some p) first = (first p refl, tt)
 
-  sends_of : (ws : List ℕ) (n : ℕ) (bodies : List (Body C)) → Each OfBody bodies → Each (λ l. OfBody l.body) (all_to_all ws n bodies)
+  sends_of : (ws : List ℕ) (n : ℕ) (bodies : List (LetterBody C)) → Each OfBody bodies → Each (λ l. OfBody l.body) (all_to_all ws n bodies)
   sends_of ws n bodies h = Each-to_all (λ l. OfBody l.body) ws n bodies (λ b at m to. Each-at OfBody bodies b h at)
 
   others_of : (ws : List ℕ) (n s : ℕ) (test : Bool) → Each (λ (l : Letter C). OfBody l.body) (cond test (map (letter n (Ask s)) (filter (λ m. not (m == n)) (numbers ws))) [])
@@ -278,11 +278,11 @@ module _ {C : Type 0} (P : C → Type 0) where
         (sends_of k.members n (proposes_again (node k n).replica) (Each-map OfBody (λ e. Propose e.0 e.1) (entries (node k n).replica.proposals) (entries_at (node k n).replica.proposals (f.nodes n).replica.proposals)))
         (others_of k.members n (node k n).replica.slot_out (nat_le (node k n).replica.slot_out (2 ^ 62)))))
 
-    pub proposes_of : Of (replica_turn k n (proposed_next (node k n).replica) (all_to_all k.members n (asks_for (next_proposal (node k n).replica))))
+    pub proposes_of : Of (replica_turn k n (proposed_next (node k n).replica) (all_to_all k.members n (proposes_first (next_proposal (node k n).replica))))
     proposes_of =
         let r : SlotBook C = (node k n).replica in
         let first : (p : ℕ × C) → next_proposal r ≡ Some p → P p.1 = λ p e. first_of r.requests (f.nodes n).replica.requests (open_slot r) p e in
-        of_replica (proposed_next r) (all_to_all k.members n (asks_for (next_proposal r))) (proposed_of r (f.nodes n).replica (next_proposal r) first) (sends_of k.members n (asks_for (next_proposal r)) (asks_of (next_proposal r) first))
+        of_replica (proposed_next r) (all_to_all k.members n (proposes_first (next_proposal r))) (proposed_of r (f.nodes n).replica (next_proposal r) first) (sends_of k.members n (proposes_first (next_proposal r)) (asks_of (next_proposal r) first))
 
     pub submit_of : (same : C → C → Bool) (c : C) → P c → Of (replica_turn k n (requested same (node k n).replica c) [])
     submit_of same c p = of_replica (requested same (node k n).replica c) [] (requested_of same (node k n).replica c (f.nodes n).replica p) tt
@@ -293,7 +293,7 @@ module _ {C : Type 0} (P : C → Type 0) where
     gathered_of : (s : Scouting C) → (node k n).leader.scout ≡ Some s → (p : Pvalue C) → In p s.gathered → P p.value
     gathered_of s e p at = asked_of k f p (((i.nodes n).leader.scouting s e).gathering.sent p at)
 
-    pub receive_of : (m : ℕ) (body : Body C) → OfBody body → IsTrueOf k m body → (x : NodeState C) (out : List (Letter C)) → Receives k.members m n (node k n) body x out → Of (turned k n x out)
+    pub receive_of : (m : ℕ) (body : LetterBody C) → OfBody body → IsTrueOf k m body → (x : NodeState C) (out : List (Letter C)) → Receives k.members m n (node k n) body x out → Of (turned k n x out)
     receive_of m body h fair x out (promises_ballot b report r) = same_node x out refl refl (tt, tt)
     receive_of m body h fair x out (accepts_pvalue p) = same_node x out refl refl (tt, tt)
     receive_of m body h fair x out (hears_promise b report fresh taken may) =

@@ -7,11 +7,11 @@ use Rattle.std.proofs.lemmas.Bool.{cases_eq}
 use Rattle.object.specs.Lists.{In, IsBeginning}
 use Rattle.object.specs.declared.command.Command.{Command}
 use Rattle.ballot.specs.Members.{is_member}
-use Rattle.ballot.specs.declared.letter.Body.{Body}
+use Rattle.ballot.specs.declared.letter.LetterBody.{LetterBody}
 use Rattle.ballot.specs.declared.letter.Letter.{Letter}
 use Rattle.ballot.specs.Letters.{all_to_all}
 use Rattle.leader.specs.Leaders.{woken}
-use Rattle.replica.specs.Replicas.{asks_for}
+use Rattle.replica.specs.Replicas.{proposes_first}
 use Rattle.ballot.specs.Slots.{Slots}
 use Rattle.slot_log.specs.Books.{SlotBook}
 use Rattle.slot_log.specs.Requests.{is_known, requested}
@@ -139,7 +139,7 @@ advanced_full {C} same r c e h = record {
       (cases_eq t r.slot_out);
 }
 
-receives_full : {C : Type 0} (members : List ℕ) (m n : ℕ) (x : NodeState C) (body : Body C) (z : NodeState C) (out : List (Letter C)) → Receives members m n x body z out → IsPerformed x.replica → IsPerformed z.replica
+receives_full : {C : Type 0} (members : List ℕ) (m n : ℕ) (x : NodeState C) (body : LetterBody C) (z : NodeState C) (out : List (Letter C)) → Receives members m n x body z out → IsPerformed x.replica → IsPerformed z.replica
 receives_full members m n x body z out (promises_ballot b report r) h = h
 receives_full members m n x body z out (accepts_pvalue p) h = h
 receives_full members m n x body z out (hears_promise b report fresh taken may) h = h
@@ -174,6 +174,6 @@ module _ (laws : BallotLaws) {O Op Reply : Type 0} (rules : Rules O Op Reply) wh
       turn_full laws v.cluster i l.to fair.receiver x out f (receives_full v.cluster.members l.«from» l.to (node v.cluster l.to) l.body x out receives (f l.to))
   step_full v e u i (wake n member) f = turn_full laws v.cluster i n member _ (all_to_all v.cluster.members n (woken (node v.cluster n).leader).says) f (f n)
   step_full v e u i (nudge n member) f = turn_full laws v.cluster i n member (node v.cluster n) (said_again v.cluster.members n (node v.cluster n)) f (f n)
-  step_full v e u i (propose n member) f = turn_full laws v.cluster i n member _ (all_to_all v.cluster.members n (asks_for (next_proposal (node v.cluster n).replica))) f (proposed_full (node v.cluster n).replica (next_proposal (node v.cluster n).replica) (f n))
+  step_full v e u i (propose n member) f = turn_full laws v.cluster i n member _ (all_to_all v.cluster.members n (proposes_first (next_proposal (node v.cluster n).replica))) f (proposed_full (node v.cluster n).replica (next_proposal (node v.cluster n).replica) (f n))
   step_full v e u i (perform n member) f = performs_full v i n member f (next_decided (node v.cluster n).replica) refl
   step_full v e u i (restart n member) f = turn_full laws v.cluster i n member _ [] f (record { first = omega arith; known = λ s low high. absurd (omega arith) })

@@ -1,11 +1,10 @@
 -- The nodes after one has changed.
-use Rattle.std.proofs.Common.{◌≡◌, ◌≢◌, ℕ, zero, suc, ◌-◌, ◌+◌, ◌≤◌, List, [], ◌∷◌, ◌++◌, map, length, refl, sym, ap, ap₂, ◌∙◌, subst, arith, length-set}
+use Rattle.std.proofs.Common.{◌≡◌, ℕ, ◌-◌, ◌+◌, ◌≤◌, List, [], ◌∷◌, ◌++◌, map, length, sym, ap, ap₂, ◌∙◌, subst, arith}
 use Rattle.std.specs.Prelude.{slice_index_or, slice_set}
 use Rattle.std.specs.List.{range_with_len}
 use Rattle.std.proofs.lemmas.List.FromFn.{map-range_with_len_more}
-use Rattle.std.proofs.lemmas.List.{get_or-set_same, get_or-set_other, get_or_default}
 use Rattle.ballot.specs.declared.letter.Letter.{Letter}
-use Rattle.node.specs.Nodes.{NodeState, members_of, number_of, new_node, node_in, put}
+use Rattle.node.specs.Nodes.{NodeState, members_of, number_of, new_node}
 use Rattle.world.specs.Nodes.{Cluster, new_cluster, node}
 use Rattle.node.specs.PlaceLaws.{node_at, put_at}
 use Rattle.node.specs.Receiving.{Receives, Received}

@@ -7,9 +7,9 @@ use Rattle.ballot.specs.Ballots.{Numbers, is_below, higher, is_promise}
 use Rattle.ballot.specs.Members.{is_member, numbers}
 use Rattle.ballot.specs.Letters.{letter, all_to_all}
 use Rattle.ballot.specs.declared.pvalue.Pvalue.{Pvalue}
-use Rattle.ballot.specs.declared.letter.Body.{Body}
+use Rattle.ballot.specs.declared.letter.LetterBody.{LetterBody}
 use Rattle.ballot.specs.declared.letter.Letter.{Letter}
-use Rattle.ballot.specs.declared.letter.Body.TheVariants.{P1b, P2a, P2b, Propose, Decision, Ask}
+use Rattle.ballot.specs.declared.letter.LetterBody.TheVariants.{P1b, P2a, P2b, Propose, Decision, Ask}
 use Rattle.acceptor.specs.Acceptors.{Acceptances, after_p1a, after_p2a}
 use Rattle.acceptor.specs.Reports.{IsReport}
 use Rattle.scout_commander.specs.Scouts.{Scouting}
@@ -19,7 +19,7 @@ use Rattle.slot_log.specs.Books.{SlotBook, window}
 use Rattle.slot_log.specs.Proposals.{next_proposal, proposed, proposed_next}
 use Rattle.slot_log.specs.Requests.{is_known, requested}
 use Rattle.slot_log.specs.Decisions.{learnt, decided_from}
-use Rattle.replica.specs.Replicas.{asks_for, tells, proposes_again, asks_others, nudges}
+use Rattle.replica.specs.Replicas.{proposes_first, tells, proposes_again, asks_others, nudges}
 use Rattle.node.specs.Nodes.{NodeState, restarted}
 use Rattle.world.specs.Nodes.{Cluster, node, turned}
 use Rattle.world.specs.Steps.{replica_turn}
@@ -82,7 +82,7 @@ p2a_grows laws {C = C} a p = record {
 
 module _ (laws : BallotLaws) {C : Type 0} (k : Cluster C) (i : IsSound k) (n : ℕ) (member : is_member k.members n ≡ true) where
   -- a node whose acceptor alone has changed, and that answers m
-  acceptor_sound : (a : Acceptances C) (body : Body C) (m : ℕ) → is_member k.members m ≡ true → AcceptorGrows (node k n).acceptor a → ((z : Cluster C) → Grows k z → IsAcceptor z a) → IsOwn (node k n).leader body → ((z : Cluster C) → Grows k z → (node z n).acceptor ≡ a → IsTrueOf z n body) → Kept k (turned k n (record (node k n) { acceptor = a }) (letter n body m ∷ []))
+  acceptor_sound : (a : Acceptances C) (body : LetterBody C) (m : ℕ) → is_member k.members m ≡ true → AcceptorGrows (node k n).acceptor a → ((z : Cluster C) → Grows k z → IsAcceptor z a) → IsOwn (node k n).leader body → ((z : Cluster C) → Grows k z → (node z n).acceptor ≡ a → IsTrueOf z n body) → Kept k (turned k n (record (node k n) { acceptor = a }) (letter n body m ∷ []))
   acceptor_sound a body m to grows fine own says =
       turn_sound laws k i n member x out
       grows
@@ -154,13 +154,13 @@ module _ (laws : BallotLaws) {C : Type 0} (k : Cluster C) (i : IsSound k) (n : �
       (λ g. tt)
 
   -- what a node says to all: each body is its leader's own, and true
-  abbrev SaysOwn : Body C → Type 0
+  abbrev SaysOwn : LetterBody C → Type 0
   SaysOwn body = IsOwn (node k n).leader body
 
-  to_all_own : (bodies : List (Body C)) → Each SaysOwn bodies → Each (λ l. IsOwn (node k n).leader l.body) (all_to_all k.members n bodies)
+  to_all_own : (bodies : List (LetterBody C)) → Each SaysOwn bodies → Each (λ l. IsOwn (node k n).leader l.body) (all_to_all k.members n bodies)
   to_all_own bodies own = Each-to_all (λ l. IsOwn (node k n).leader l.body) k.members n bodies (λ b at m to. Each-at SaysOwn bodies b own at)
 
-  to_all_fair : (z : Cluster C) → Grows k z → (bodies : List (Body C)) → Each (IsTrueOf z n) bodies → Each (IsFair z) (all_to_all k.members n bodies)
+  to_all_fair : (z : Cluster C) → Grows k z → (bodies : List (LetterBody C)) → Each (IsTrueOf z n) bodies → Each (IsFair z) (all_to_all k.members n bodies)
   to_all_fair z g bodies says = Each-to_all (IsFair z) k.members n bodies (λ b at m to. record {
     says = Each-at (IsTrueOf z n) bodies b says at;
     sender = subst (λ ws. is_member ws n ≡ true) (sym g.members) member;
@@ -262,7 +262,7 @@ module _ (laws : BallotLaws) {C : Type 0} (k : Cluster C) (i : IsSound k) (n : �
       tt
       (λ z g. tt)
 
-  pub receive_sound : (m : ℕ) → is_member k.members m ≡ true → (body : Body C) → IsTrueOf k m body → ((p : Pvalue C) → body ≡ P2a p → Asked k.letters p) → (x : NodeState C) (out : List (Letter C)) → Receives k.members m n (node k n) body x out → Kept k (turned k n x out)
+  pub receive_sound : (m : ℕ) → is_member k.members m ≡ true → (body : LetterBody C) → IsTrueOf k m body → ((p : Pvalue C) → body ≡ P2a p → Asked k.letters p) → (x : NodeState C) (out : List (Letter C)) → Receives k.members m n (node k n) body x out → Kept k (turned k n x out)
   receive_sound m to body true_of asked x out (promises_ballot b report r) = p1a_sound m to b report r
   receive_sound m to body true_of asked x out (accepts_pvalue p) = p2a_sound m to p (asked p refl)
   receive_sound m to body true_of asked x out (hears_promise b report fresh taken may) = leader_sound laws k i n member _ (p1b_good laws k i n (node k n) (i.nodes n) m b report fresh true_of taken may (node k n).leader.scout refl)
@@ -286,20 +286,20 @@ module _ (laws : BallotLaws) {C : Type 0} (k : Cluster C) (i : IsSound k) (n : �
   proposed_known r None = refl
   proposed_known r (Some p) = refl
 
-  proposed_own : (o : Option (ℕ × C)) → Each SaysOwn (asks_for o)
+  proposed_own : (o : Option (ℕ × C)) → Each SaysOwn (proposes_first o)
   proposed_own None = tt
   proposed_own (Some p) = ((λ q e. absurd (cc)), tt)
 
-  proposed_true : (z : Cluster C) (o : Option (ℕ × C)) → Each (IsTrueOf z n) (asks_for o)
+  proposed_true : (z : Cluster C) (o : Option (ℕ × C)) → Each (IsTrueOf z n) (proposes_first o)
   proposed_true z None = tt
   proposed_true z (Some p) = (tt, tt)
 
-  pub propose_sound : Kept k (replica_turn k n (proposed_next (node k n).replica) (all_to_all k.members n (asks_for (next_proposal (node k n).replica))))
+  pub propose_sound : Kept k (replica_turn k n (proposed_next (node k n).replica) (all_to_all k.members n (proposes_first (next_proposal (node k n).replica))))
   propose_sound =
-      replica_sound laws k i n member (proposed_next r) (all_to_all k.members n (asks_for next))
+      replica_sound laws k i n member (proposed_next r) (all_to_all k.members n (proposes_first next))
       (λ s c e. (i.nodes n).decisions s c (ap (λ m. get m s) (sym (proposed_known r next)) ∙ e))
-      (to_all_own (asks_for next) (proposed_own next))
-      (λ z g. to_all_fair z g (asks_for next) (proposed_true z next))
+      (to_all_own (proposes_first next) (proposed_own next))
+      (λ z g. to_all_fair z g (proposes_first next) (proposed_true z next))
     where
       r : SlotBook C
       r = (node k n).replica

@@ -5,11 +5,11 @@ use Rattle.object.specs.Lists.{In}
 use Rattle.object.specs.Replays.{Placed, replay_from, is_new, kept}
 use Rattle.object.specs.declared.command.Answer.{Answer}
 use Rattle.object.specs.declared.command.Command.{Command}
-use Rattle.ballot.specs.declared.letter.Body.{Body}
+use Rattle.ballot.specs.declared.letter.LetterBody.{LetterBody}
 use Rattle.ballot.specs.declared.letter.Letter.{Letter}
 use Rattle.ballot.specs.Letters.{all_to_all}
 use Rattle.leader.specs.Leaders.{woken}
-use Rattle.replica.specs.Replicas.{asks_for}
+use Rattle.replica.specs.Replicas.{proposes_first}
 use Rattle.slot_log.specs.Books.{SlotBook}
 use Rattle.slot_log.specs.Requests.{is_known, requested}
 use Rattle.slot_log.specs.Proposals.{next_proposal, proposed}
@@ -56,7 +56,7 @@ proposed_slot : {C : Type 0} (r : SlotBook C) (o : Option (ℕ × C)) → (propo
 proposed_slot r None = refl
 proposed_slot r (Some p) = refl
 
-receives_slot : {C : Type 0} (members : List ℕ) (m n : ℕ) (x : NodeState C) (body : Body C) (z : NodeState C) (out : List (Letter C)) → Receives members m n x body z out → z.replica.slot_out ≡ x.replica.slot_out
+receives_slot : {C : Type 0} (members : List ℕ) (m n : ℕ) (x : NodeState C) (body : LetterBody C) (z : NodeState C) (out : List (Letter C)) → Receives members m n x body z out → z.replica.slot_out ≡ x.replica.slot_out
 receives_slot members m n x body z out (promises_ballot b report r) = refl
 receives_slot members m n x body z out (accepts_pvalue p) = refl
 receives_slot members m n x body z out (hears_promise b report fresh taken may) = refl
@@ -82,7 +82,7 @@ module _ (laws : BallotLaws) {O Op Reply : Type 0} (rules : Rules O Op Reply) wh
       turn_within v.cluster i l.to fair.receiver x out (v.reach + 1) f (let same = receives_slot v.cluster.members l.«from» l.to (node v.cluster l.to) l.body x out receives in let low = f l.to in omega arith)
   step_within v e u i (wake n member) f = turn_within v.cluster i n member _ (all_to_all v.cluster.members n (woken (node v.cluster n).leader).says) (v.reach + 1) f (f n)
   step_within v e u i (nudge n member) f = turn_within v.cluster i n member (node v.cluster n) (said_again v.cluster.members n (node v.cluster n)) (v.reach + 1) f (f n)
-  step_within v e u i (propose n member) f = turn_within v.cluster i n member _ (all_to_all v.cluster.members n (asks_for (next_proposal (node v.cluster n).replica))) (v.reach + 1) f (let same = proposed_slot (node v.cluster n).replica (next_proposal (node v.cluster n).replica) in let l = f n in omega arith)
+  step_within v e u i (propose n member) f = turn_within v.cluster i n member _ (all_to_all v.cluster.members n (proposes_first (next_proposal (node v.cluster n).replica))) (v.reach + 1) f (let same = proposed_slot (node v.cluster n).replica (next_proposal (node v.cluster n).replica) in let l = f n in omega arith)
   step_within v e u i (perform n member) f = performs_within v i n member f (next_decided (node v.cluster n).replica)
   step_within v e u i (restart n member) f = turn_within v.cluster i n member _ [] (v.reach + 1) f (omega arith)
 

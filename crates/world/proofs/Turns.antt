@@ -6,9 +6,9 @@ use Rattle.object.specs.Lists.{In}
 use Rattle.ballot.specs.Ballots.{Numbers}
 use Rattle.ballot.specs.Members.{is_member}
 use Rattle.ballot.specs.declared.pvalue.Pvalue.{Pvalue}
-use Rattle.ballot.specs.declared.letter.Body.{Body}
+use Rattle.ballot.specs.declared.letter.LetterBody.{LetterBody}
 use Rattle.ballot.specs.declared.letter.Letter.{Letter}
-use Rattle.ballot.specs.declared.letter.Body.TheVariants.{P2a}
+use Rattle.ballot.specs.declared.letter.LetterBody.TheVariants.{P2a}
 use Rattle.leader.specs.Leaders.{Leading}
 use Rattle.node.specs.Nodes.{NodeState}
 use Rattle.world.specs.Nodes.{Cluster, node, turned}
@@ -32,7 +32,7 @@ pub record Kept {C : Type 0} (k z : Cluster C) : Type 0 where
   pub grows : Grows k z
 
 -- a P2a is of a proposal of the active leader that sends it
-abbrev pub IsOwn : {C : Type 0} → Leading C → Body C → Type 0
+abbrev pub IsOwn : {C : Type 0} → Leading C → LetterBody C → Type 0
 IsOwn {C} l body = (p : Pvalue C) → body ≡ P2a p → (p.ballot ≡ l.ballot) × (l.active ≡ true) × (get l.proposals p.slot ≡ Some p.value)
 
 owned_moves : {C : Type 0} (x z : NodeState C) (p : Pvalue C) → z.leader.ballot.boot ≡ z.boot → Moves x z → IsOwned x p → IsOwned z p

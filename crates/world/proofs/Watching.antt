@@ -4,7 +4,7 @@ use Rattle.std.specs.Option.{option_to_list}
 use Rattle.std.proofs.lemmas.List.{append-nil}
 use Rattle.ballot.specs.Ballots.{is_promise}
 use Rattle.ballot.specs.declared.pvalue.Pvalue.{Pvalue}
-use Rattle.ballot.specs.declared.letter.Body.{Body}
+use Rattle.ballot.specs.declared.letter.LetterBody.{LetterBody}
 use Rattle.ballot.specs.declared.letter.Letter.{Letter}
 use Rattle.acceptor.specs.Acceptors.{Acceptances, Keeps, new_acceptor}
 use Rattle.node.specs.Nodes.{NodeState}
@@ -16,7 +16,7 @@ accepted_if all p true = refl
 accepted_if all p false = sym (append-nil all)
 
 -- what was accepted grows by what the body gives
-accepted_after : {C : Type 0} (members : List ℕ) (m n : ℕ) (x y : NodeState C) (body : Body C) (sent : List (Letter C)) → Receives members m n x body y sent → y.acceptor.accepted ≡ x.acceptor.accepted ++ option_to_list (accepts_of x.acceptor body)
+accepted_after : {C : Type 0} (members : List ℕ) (m n : ℕ) (x y : NodeState C) (body : LetterBody C) (sent : List (Letter C)) → Receives members m n x body y sent → y.acceptor.accepted ≡ x.acceptor.accepted ++ option_to_list (accepts_of x.acceptor body)
 accepted_after members m n x y body sent (promises_ballot b report is) = sym (append-nil x.acceptor.accepted)
 accepted_after members m n x y body sent (accepts_pvalue p) = accepted_if x.acceptor.accepted p (is_promise x.acceptor.promised p.ballot)
 accepted_after members m n x y body sent (hears_promise b report fresh taken may) = sym (append-nil x.acceptor.accepted)
@@ -45,7 +45,7 @@ new_shows {C} nd all new none = record {
   replica = refl;
 }
 
-module _ {C : Type 0} (m : ℕ) (nd z k : NodeState C) (all room now : List (Pvalue C)) (is : with_accepted nd all ≡ k) (same : room ≡ all) (body : Body C) (more : Option (Pvalue C)) (gives : more ≡ accepts_of (with_accepted nd room).acceptor body) (grown : now ≡ room ++ option_to_list more) (before after : List (Letter C)) (received : ShowsReceived m nd body z before after) (shows : ShowsNode nd (with_accepted nd all)) where
+module _ {C : Type 0} (m : ℕ) (nd z k : NodeState C) (all room now : List (Pvalue C)) (is : with_accepted nd all ≡ k) (same : room ≡ all) (body : LetterBody C) (more : Option (Pvalue C)) (gives : more ≡ accepts_of (with_accepted nd room).acceptor body) (grown : now ≡ room ++ option_to_list more) (before after : List (Letter C)) (received : ShowsReceived m nd body z before after) (shows : ShowsNode nd (with_accepted nd all)) where
   -- what the watched node became
   became : (y : NodeState C) → ShowsNode z y → Received m (with_accepted nd all) body y before after → y ≡ with_accepted z now
   became y shown r = λ i. record {

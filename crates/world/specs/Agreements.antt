@@ -4,7 +4,7 @@ use Rattle.object.specs.Lists.{In}
 use Rattle.ballot.specs.Ballots.{Numbers, is_below}
 use Rattle.ballot.specs.declared.pvalue.Pvalue.{Pvalue}
 use Rattle.ballot.specs.declared.letter.Letter.{Letter}
-use Rattle.ballot.specs.declared.letter.Body.TheVariants.{P1b, P2a, Decision}
+use Rattle.ballot.specs.declared.letter.LetterBody.TheVariants.{P1b, P2a, Decision}
 use Rattle.world.specs.Nodes.{Cluster, node}
 use Rattle.world.specs.Chosen.{IsChosenAt, IsChosen}
 

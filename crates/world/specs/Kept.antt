@@ -6,8 +6,8 @@ use Rattle.object.specs.declared.command.Submission.{Submission}
 use Rattle.object.specs.Happenings.{is_submitted}
 use Rattle.object.specs.Objects.{Rules}
 use Rattle.ballot.specs.Ballots.{is_promise}
-use Rattle.ballot.specs.declared.letter.Body.{Body}
-use Rattle.ballot.specs.declared.letter.Body.TheVariants.{P1a, P1b, P2a, P2b, Propose, Decision, Ask}
+use Rattle.ballot.specs.declared.letter.LetterBody.{LetterBody}
+use Rattle.ballot.specs.declared.letter.LetterBody.TheVariants.{P1a, P1b, P2a, P2b, Propose, Decision, Ask}
 use Rattle.ballot.specs.declared.letter.Letter.{Letter}
 use Rattle.ballot.specs.declared.pvalue.Pvalue.{Pvalue}
 use Rattle.acceptor.specs.Acceptors.{Acceptances}
@@ -27,7 +27,7 @@ abbrev pub with_accepted : {C : Type 0} → NodeState C → List (Pvalue C) → 
 with_accepted x all = record x { acceptor = record { promised = x.acceptor.promised; accepted = all } }
 
 -- what an acceptor accepts of a letter with this body
-abbrev pub accepts_of : {C : Type 0} → Acceptances C → Body C → Option (Pvalue C)
+abbrev pub accepts_of : {C : Type 0} → Acceptances C → LetterBody C → Option (Pvalue C)
 accepts_of a (P1a b) = None
 accepts_of a (P1b b report) = None
 accepts_of a (P2a p) = if is_promise a.promised p.ballot then Some p else None

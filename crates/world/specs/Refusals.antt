@@ -1,5 +1,5 @@
 -- Which events a world refuses, and why. Of several reasons the first in this order is told.
-use Rattle.std.specs.Prelude.{◌≡◌, ◌⊎◌, ℕ, ◌<◌, ◌^◌, Bool, true, not, ◌&&◌, nat_lt, nat_le, List, length, slice_get, Option, None, Some, if◌then◌else◌}
+use Rattle.std.specs.Prelude.{◌≡◌, ℕ, ◌<◌, ◌^◌, Bool, true, not, ◌&&◌, nat_lt, nat_le, List, length, slice_get, Option, None, Some, unwrap_or, if◌then◌else◌}
 use Rattle.std.specs.List.{list_any}
 use Rattle.object.specs.declared.command.Command.{Command}
 use Rattle.object.specs.declared.command.Submission.{Submission}
@@ -65,7 +65,12 @@ pub record IsAllowed {Op Reply : Type 0} (same : Op → Op → Bool) (w : World 
   pub acts : keeps_acts same w.happenings.submitted e ≡ true
   pub room : w.taken < most_events
 
--- the event of this place is refused by this world for this reason, or memory was
-abbrev pub IsRefused : {Op Reply : Type 0} → (Op → Op → Bool) → World Op Reply → List (Event Op) → ℕ → WorldError → Type 0
-IsRefused {Op} same w events place reason =
-    (reason ≡ OutOfMemory) ⊎ ((e : Event Op) × (slice_get events place ≡ Some e) × (refusal same w e ≡ Some reason))
+-- why the event is refused: the first reason that there is, and want of memory only where there is none
+abbrev pub reason_for : {Op Reply : Type 0} → (Op → Op → Bool) → World Op Reply → Event Op → WorldError
+reason_for same w e = unwrap_or (refusal same w e) OutOfMemory
+
+-- the event of this place is the one that this world refuses, for this reason
+pub record IsRefused {Op Reply : Type 0} (same : Op → Op → Bool) (w : World Op Reply) (events : List (Event Op)) (place : ℕ) (reason : WorldError) : Type 0 where
+  pub event : Event Op
+  pub at : slice_get events place ≡ Some event
+  pub because : reason ≡ reason_for same w event

@@ -17,7 +17,7 @@ use Rattle.slot_log.specs.Requests.{requested}
 use Rattle.slot_log.specs.Proposals.{next_proposal, proposed_next}
 use Rattle.slot_log.specs.Decisions.{next_decided}
 use Rattle.slot_log.specs.Advances.{advanced}
-use Rattle.replica.specs.Replicas.{asks_for}
+use Rattle.replica.specs.Replicas.{proposes_first}
 use Rattle.node.specs.Histories.{history}
 use Rattle.node.specs.Nodes.{NodeState, restarted}
 use Rattle.node.specs.Deeds.{led, said_again}
@@ -92,7 +92,7 @@ pub data Step {O Op Reply : Type 0} (rules : Rules O Op Reply) (w : World Op Rep
   propose :
       (n : ℕ)
       → is_member w.cluster.members n ≡ true
-      → Step rules w (ProposeNext n) (counted (with_cluster w (replica_turn w.cluster n (proposed_next (node w.cluster n).replica) (all_to_all w.cluster.members n (asks_for (next_proposal (node w.cluster n).replica))))))
+      → Step rules w (ProposeNext n) (counted (with_cluster w (replica_turn w.cluster n (proposed_next (node w.cluster n).replica) (all_to_all w.cluster.members n (proposes_first (next_proposal (node w.cluster n).replica))))))
   perform :
       (n : ℕ)
       → is_member w.cluster.members n ≡ true

@@ -1,14 +1,15 @@
-ghost use Rattle.std.specs.Prelude.{◌≡◌, ◌<◌, true, false};
+ghost use Rattle.std.specs.Prelude.{◌≡◌, ◌<◌, ◌%◌, true, false, nat_lt};
 ghost use Rattle.ballot.specs.Members.{is_member};
 ghost use Rattle.rand_core.specs.Pcg32Seed.{pcg32_seed};
-ghost use Rattle.rand_pcg.specs.Pcg.{pcg32_of_seed};
+ghost use Rattle.rand_pcg.specs.Pcg.{pcg32, pcg32_of_seed};
 ghost use Rattle.world.specs.Refusals.{is_at_member, is_sent};
-ghost use Rattle.world.specs.Schedules.{submits};
+ghost use Rattle.world.specs.Schedules.{submits, IsDrawnBy};
 
 use crate::event::Event;
 use ballot::Members;
 use object::Value;
-use rand_core::{Rng, SeedableRng};
+use rand_core::SeedableRng;
+use rand_core::utils::NextWord;
 use rand_pcg::Lcg64Xsh32;
 use std::marker::Model;
 
@@ -42,20 +43,23 @@ impl Schedule {
         }
     }
 
-    /// A number below `n`.
+    /// A number below `n`: what is left of the next word.
     pub fn pick(&mut self, n: u32) -> u32
         requires { 0 < n }
-        ensures { result < n }
+        ensures below { result < n }
+        ensures drawn { result ≡ (pcg32 self.old).0 % n }
+        ensures next { self.new ≡ (pcg32 self.old).1 }
     {
-        self.words.next_u32() % n
+        self.words.next_word() % n
     }
 
-    /// The next event of a world with these members and so many letters. Mostly a late letter is delivered; a restart is
-    /// the rarest. What clients submit is not drawn.
+    /// The next event of a world with these members and so many letters: the next word draws its kind. Mostly a late
+    /// letter is delivered; a restart is the rarest. What clients submit is not drawn.
     pub fn next<Op: Value>(&mut self, members: Members, letters: usize) -> Event<Op>
         ensures never_submits { submits result ≡ false }
         ensures sent { is_sent letters result ≡ true }
         ensures member { is_at_member members result ≡ true }
+        ensures drawn { IsDrawnBy (nat_lt 0 letters) ((pcg32 self.old).0 % 256) result }
     {
         let word = self.pick(256);
         if word < 216 && letters > 0 {

@@ -6,7 +6,7 @@ ghost use Rattle.world.specs.Voters.{accepts};
 ghost use Rattle.world.specs.Kept.{accepts_of};
 
 use crate::submissions::push_in_room;
-use ballot::{Ballot, Body, Letter, Members, Pvalue, Slot};
+use ballot::{Ballot, Letter, LetterBody, Members, Pvalue, Slot};
 use node::Node;
 use object::{Command, Object, Value};
 use std::alloc::{AllocError, Global};
@@ -52,7 +52,7 @@ impl<O: Object> Watched<O> {
     pub(crate) fn receive(
         &mut self,
         from: u8,
-        body: &Body<Command<O::Op>>,
+        body: &LetterBody<Command<O::Op>>,
         out: &mut Vec<Letter<Command<O::Op>>>,
     ) -> Result<(), AllocError>
         requires { IsFit self.old body.now }
@@ -70,12 +70,14 @@ impl<O: Object> Watched<O> {
     // A copy of what its acceptor accepts of a letter with this body.
     fn accepts_of(
         &self,
-        body: &Body<Command<O::Op>>,
+        body: &LetterBody<Command<O::Op>>,
     ) -> Result<Option<Pvalue<Command<O::Op>>>, AllocError>
         ensures { IfOk result (λ accepted. accepted ≡ accepts_of self.now.acceptor body.now) }
     {
         match body {
-            Body::P2a(pvalue) if self.node.has_promised(pvalue.ballot) => Ok(Some(pvalue.copy()?)),
+            LetterBody::P2a(pvalue) if self.node.has_promised(pvalue.ballot) => Ok(Some(
+                pvalue.copy()?,
+            )),
             _ => Ok(None),
         }
     }

@@ -1,10 +1,10 @@
-ghost use Rattle.std.specs.Prelude.{◌≡◌, ◌<◌, ◌⊎◌, length, take, None, Some, IfOk, IfErr, OnOk, OnErr};
+ghost use Rattle.std.specs.Prelude.{◌≡◌, ◌<◌, length, take, None, Some, IfOk, IfErr, OnOk, OnErr};
 ghost use Rattle.world.specs.declared.error.WorldError.{WorldError};
 ghost use Rattle.world.specs.declared.error.WorldError.TheVariants.{OutOfMemory};
 ghost use Rattle.world.specs.Worlds.{opening};
 ghost use Rattle.world.specs.Steps.{Step};
 ghost use Rattle.world.specs.Runs.{Leads};
-ghost use Rattle.world.specs.Refusals.{refusal, IsRefused};
+ghost use Rattle.world.specs.Refusals.{refusal, reason_for, IsRefused};
 ghost use Rattle.world.specs.OneOrder.{HasOneOrder, KeepsPromise, IsLater};
 ghost use Rattle.world.specs.Told.{IsAnswered};
 ghost use Rattle.world.specs.Agreements.{HasOneCommand, KeepsChosen, ChoosesOne, DecidesChosen, StaysChosen};
@@ -125,8 +125,8 @@ impl<O: Object> World<O> {
         Ok(())
     }
 
-    /// Takes these events in turn, up to the first that is refused, and tells its place and the refusal. Those before it
-    /// were taken.
+    /// Takes these events in turn, up to the first that is refused, and tells its place and the refusal, as `step` would
+    /// tell it. Those before it were taken.
     pub fn run(&mut self, events: &[Event<O::Op>]) -> Result<(), (usize, WorldError)>
         ensures ok { OnOk result (Leads O.rules self.old events.now self.new) }
         ensures err { IfErr result (λ e. Leads O.rules self.old (take e.0 events.now) self.new) }
@@ -170,13 +170,15 @@ impl<O: Object> World<O> {
     fn take_copy(&mut self, event: &Event<O::Op>) -> Result<(), WorldError>
         ensures ok { OnOk result (Step O.rules self.old event.now self.new) }
         ensures err { OnErr result (self.new ≡ self.old) }
-        ensures refused { IfErr result (λ r. (r ≡ OutOfMemory)
-            ⊎ (refusal O.Op.eq self.old event.now ≡ Some r)) }
+        ensures refused { IfErr result (λ r. r ≡ reason_for O.Op.eq self.old event.now) }
         ensures stays { StaysChosen self.old.cluster self.new.cluster }
         ensures later { IsLater self.old self.new }
     {
         let _ = &self.alloc;
         ballot_laws();
+        if let Some(refused) = self.refusal(event) {
+            return Err(refused);
+        }
         let event = event.copy()?;
         self.step(event)
     }

@@ -1,9 +1,8 @@
-ghost use Rattle.std.specs.Prelude.{◌≡◌, Some, IfOk, OnOk};
+ghost use Rattle.std.specs.Prelude.{◌≡◌, ◌^◌, ◌==◌, false, Some, IfOk, OnOk};
 ghost use Rattle.job_store.specs.Entries.{value_at};
 ghost use Rattle.job_store.specs.States.{is_held};
 ghost use Rattle.bean_queue.specs.Rows.{is_found, may_delete, delete_row, touch_row, release_row, bury_row};
 
-use crate::counters::LIMIT;
 use crate::logic::Logic;
 use crate::logic::put::ready_after;
 use crate::reply::Reply;
@@ -42,7 +41,7 @@ impl<M: JobMap> Logic<M> {
     {
         match self.jobs.map().get(id) {
             Some(job) if may_delete(session, job.state) => {
-                self.jobs.remove(id);
+                self.jobs.remove_for_good(id);
                 Reply::Deleted
             }
             _ => Reply::NotFound,
@@ -90,18 +89,16 @@ impl<M: JobMap> Logic<M> {
         Ok(Reply::Released)
     }
 
-    /// Lays a job aside.
+    /// Lays a job aside, where a rank is left.
     #[tactic(auto, unfolding(crate::specs::Rows::bury_row))]
     pub fn bury(&mut self, session: u32, id: u64, pri: u32) -> Result<Reply, AllocError>
+        requires { (self.old.now.next_rank == 2 ^ 63) ≡ false }
         ensures state { OnOk result (self.new.now ≡ (bury_row self.old.now session id pri).state) }
         ensures reply { IfOk result (λ reply. (bury_row self.old.now session id pri).reply
             ≡ Some reply) }
         ensures before { self.new.before ≡ self.old.before }
     {
         let rank = self.counters.next_rank;
-        if rank == LIMIT {
-            return Ok(Reply::InternalError);
-        }
         if !self.has(session, id) {
             return Ok(Reply::NotFound);
         }

@@ -1,4 +1,4 @@
-ghost use Rattle.std.specs.Prelude.{◌≡◌, Some, IsSome, IfOk, OnOk};
+ghost use Rattle.std.specs.Prelude.{◌≡◌, Some, IsSome, IfOk, OnOk, option_map, if◌then◌else◌};
 ghost use Rattle.job_store.specs.Entries.{value_at};
 ghost use Rattle.job_store.specs.LookUps.{first_buried, first_delayed};
 ghost use Rattle.bean_queue.specs.Rows.{kicked, kick_row, kick_job_row};
@@ -6,45 +6,39 @@ ghost use Rattle.bean_queue.specs.Rows.{kicked, kick_row, kick_job_row};
 use crate::job_draft::JobDraft;
 use crate::logic::Logic;
 use crate::reply::Reply;
-use job_store::{JobMap, Name, State};
+use job_store::{Job, JobMap, Name, State};
 use object::Value;
 use std::alloc::AllocError;
 
-/// Makes up to `bound` buried jobs of the tube ready, and tells how many.
-fn kick_buried<M: JobMap>(
-    jobs: &mut JobDraft<M>,
-    tube: &Name,
-    bound: u32,
-) -> Result<u64, AllocError>
-    ensures now { OnOk result (jobs.new.now
-        ≡ (kicked (first_buried tube.now) bound jobs.old.now).jobs) }
-    ensures count { IfOk result (λ count. count
-        ≡ (kicked (first_buried tube.now) bound jobs.old.now).count) }
-    ensures before { jobs.new.before ≡ jobs.old.before }
+/// The next job of the tube for a kick: a buried one, or else a delayed one.
+fn first_idle<'a, M: JobMap>(jobs: &'a M, tube: &Name, buried: bool) -> Option<(u64, &'a Job)>
+    ensures { option_map (λ e. (e.0, e.1.now)) result
+        ≡ (if buried then first_buried tube.now else first_delayed tube.now) (M.entries jobs.now) }
 {
-    for count in 0..bound {
-        let Some((id, _)) = jobs.map().first_buried(tube) else {
-            return Ok(u64::from(count));
-        };
-        jobs.set_state(id, State::Ready)?;
+    if buried {
+        jobs.first_buried(tube)
+    } else {
+        jobs.first_delayed(tube)
     }
-    Ok(u64::from(bound))
 }
 
-/// Makes up to `bound` delayed jobs of the tube ready, and tells how many.
-fn kick_delayed<M: JobMap>(
+/// Makes up to `bound` buried jobs of the tube ready, or else delayed ones, and tells how many.
+fn kick_idle<M: JobMap>(
     jobs: &mut JobDraft<M>,
     tube: &Name,
+    buried: bool,
     bound: u32,
 ) -> Result<u64, AllocError>
     ensures now { OnOk result (jobs.new.now
-        ≡ (kicked (first_delayed tube.now) bound jobs.old.now).jobs) }
+        ≡ (kicked (if buried then first_buried tube.now else first_delayed tube.now) bound
+        jobs.old.now).jobs) }
     ensures count { IfOk result (λ count. count
-        ≡ (kicked (first_delayed tube.now) bound jobs.old.now).count) }
+        ≡ (kicked (if buried then first_buried tube.now else first_delayed tube.now) bound
+        jobs.old.now).count) }
     ensures before { jobs.new.before ≡ jobs.old.before }
 {
     for count in 0..bound {
-        let Some((id, _)) = jobs.map().first_delayed(tube) else {
+        let Some((id, _)) = first_idle(jobs.map(), tube, buried) else {
             return Ok(u64::from(count));
         };
         jobs.set_state(id, State::Ready)?;
@@ -63,13 +57,9 @@ impl<M: JobMap> Logic<M> {
         ensures before { self.new.before ≡ self.old.before }
     {
         let tube = self.session(session).used.copy()?;
-        if self.jobs.map().first_buried(&tube).is_some() {
-            let count = kick_buried(&mut self.jobs, &tube, bound)?;
-            Ok(Reply::KickedCount(count))
-        } else {
-            let count = kick_delayed(&mut self.jobs, &tube, bound)?;
-            Ok(Reply::KickedCount(count))
-        }
+        let buried = self.jobs.map().first_buried(&tube).is_some();
+        let count = kick_idle(&mut self.jobs, &tube, buried, bound)?;
+        Ok(Reply::KickedCount(count))
     }
 
     /// Makes a job ready that is buried or delayed.

@@ -9,7 +9,7 @@ ghost use Rattle.bean_queue.specs.Rows.{all_tubes};
 use crate::logic::Logic;
 use job_store::{Job, JobMap, Name};
 use object::Value;
-use session_store::{Names, Session};
+use session_store::{Names, SessionState};
 use std::alloc::{AllocError, Global};
 use std::collections::{BTreeMap, BTreeSet};
 
@@ -50,7 +50,7 @@ fn insert_all(names: &mut BTreeSet<Name>, more: &[Name]) -> Result<(), AllocErro
 }
 
 /// Puts the tubes of a session among the names.
-fn insert_of_session(names: &mut BTreeSet<Name>, session: &Session) -> Result<(), AllocError>
+fn insert_of_session(names: &mut BTreeSet<Name>, session: &SessionState) -> Result<(), AllocError>
     ensures { OnOk result (names.new.keys
         ≡ fold (insert_key (slice_cmp nat_cmp)) names.old.keys
         (session.now.used ∷ session.now.watched)) }
@@ -62,7 +62,7 @@ fn insert_of_session(names: &mut BTreeSet<Name>, session: &Session) -> Result<()
 /// Puts the tubes of the sessions among the names.
 fn insert_of_sessions(
     names: &mut BTreeSet<Name>,
-    sessions: &BTreeMap<u32, Session>,
+    sessions: &BTreeMap<u32, SessionState>,
 ) -> Result<(), AllocError>
     ensures { OnOk result (names.new.keys
         ≡ fold (insert_key (slice_cmp nat_cmp)) names.old.keys

@@ -2,8 +2,9 @@ ghost use Rattle.std.specs.Prelude.{◌≡◌, ◌∷◌, [], ◌++◌, true, fa
 ghost use Rattle.job_store.specs.Entries.{value_at};
 ghost use Rattle.bean_queue.specs.Rows.{row};
 ghost use Rattle.bean_queue.specs.Turns.{serve_turn};
-ghost use Rattle.bean_queue.specs.Effects.{own, settled, do_effect, is_quiet};
+ghost use Rattle.bean_queue.specs.Effects.{own, settled, has_no_number, carried_out, do_effect, is_quiet};
 
+use crate::counters::LIMIT;
 use crate::logic::Logic;
 use crate::op::Op;
 use crate::reply::Reply;
@@ -12,11 +13,23 @@ use object::{Answer, Key};
 use std::alloc::{AllocError, Global};
 
 impl<M: JobMap> Logic<M> {
-    /// Obeys a quiet operation of a session that is there.
+    /// Whether no id or no rank is left for an operation that needs one.
+    fn has_no_number(&self, op: &Op) -> bool
+        ensures { result ≡ has_no_number op.now self.now.now }
+    {
+        match op {
+            Op::Put { .. } => self.counters.next_id == LIMIT,
+            Op::Reserve { .. } | Op::Bury { .. } => self.counters.next_rank == LIMIT,
+            _ => false,
+        }
+    }
+
+    /// Obeys a quiet operation of a session that is there, where a number is left for it.
     #[tactic(auto, unfolding(crate::specs::Rows::row, crate::specs::Rows::peek_row))]
     fn quiet_row(&mut self, alloc: Global, key: Key, op: &Op) -> Result<Reply, AllocError>
         requires there { IsSome (value_at key.session self.old.now.sessions) }
         requires quiet { is_quiet op.now ≡ true }
+        requires numbered { has_no_number op.now self.old.now ≡ false }
         ensures state { OnOk result (self.new.now ≡ (row op.now key self.old.now).state) }
         ensures reply { IfOk result (λ reply. (row op.now key self.old.now).reply ≡ Some reply) }
         ensures err { OnErr result (self.new.before ≡ self.old.before) }
@@ -44,7 +57,23 @@ impl<M: JobMap> Logic<M> {
         }
     }
 
+    /// Carries out a quiet operation, where a number is left for it and nothing is left to give.
+    fn carry_out_quietly(&mut self, alloc: Global, key: Key, op: &Op) -> Result<Reply, AllocError>
+        requires quiet { is_quiet op.now ≡ true }
+        requires numbered { has_no_number op.now self.old.now ≡ false }
+        requires calm { serve_turn self.old.now ≡ None }
+        ensures state { OnOk result (self.new.now ≡ (carried_out op.now key self.old.now).state) }
+        ensures reply { IfOk result
+            (λ reply. (carried_out op.now key self.old.now).answers
+            ≡ record { to = key; reply = reply } ∷ []) }
+        ensures err { OnErr result (self.new.before ≡ self.old.before) }
+    {
+        self.call(key.session)?;
+        self.quiet_row(alloc, key, op)
+    }
+
     /// Obeys a quiet operation, where nothing is left to give.
+    #[tactic(auto, unfolding(crate::specs::Effects::do_effect))]
     pub fn answer(&mut self, alloc: Global, key: Key, op: &Op) -> Result<Reply, AllocError>
         requires quiet { is_quiet op.now ≡ true }
         requires calm { serve_turn self.old.now ≡ None }
@@ -54,16 +83,20 @@ impl<M: JobMap> Logic<M> {
             ≡ record { to = key; reply = reply } ∷ []) }
         ensures err { OnErr result (self.new.before ≡ self.old.before) }
     {
-        self.call(key.session)?;
-        self.quiet_row(alloc, key, op)
+        if self.has_no_number(op) {
+            self.stop_waiting(key.session)?;
+            return Ok(Reply::InternalError);
+        }
+        self.carry_out_quietly(alloc, key, op)
     }
 
-    /// Obeys another operation of a session that is there, but for the sessions that wait. It has a reply unless it
-    /// waits itself.
-    #[tactic(auto, unfolding(crate::specs::Rows::row))]
+    /// Obeys another operation of a session that is there, where a number is left for it, but for the sessions that
+    /// wait. It has a reply unless it waits itself.
+    #[tactic(auto, unfolding(crate::specs::Rows::row, crate::specs::Rows::reserve_row))]
     fn loud_row(&mut self, key: Key, op: &Op) -> Result<Option<Reply>, AllocError>
         requires there { IsSome (value_at key.session self.old.now.sessions) }
         requires loud { is_quiet op.now ≡ false }
+        requires numbered { has_no_number op.now self.old.now ≡ false }
         ensures state { OnOk result (self.new.now ≡ (row op.now key self.old.now).state) }
         ensures reply { IfOk result (λ reply. (row op.now key self.old.now).reply ≡ reply) }
         ensures before { self.new.before ≡ self.old.before }
@@ -76,7 +109,10 @@ impl<M: JobMap> Logic<M> {
                 ttr,
                 body,
             } => Ok(Some(self.put(session, *pri, *delay, *ttr, body)?)),
-            Op::Reserve { seconds } => self.reserve(key, *seconds),
+            Op::Reserve { seconds } => {
+                self.reserve(key, *seconds)?;
+                Ok(None)
+            }
             Op::Release { id, pri, delay } => {
                 Ok(Some(self.release(session, *id, *pri, *delay)?))
             }
@@ -95,6 +131,7 @@ impl<M: JobMap> Logic<M> {
     ) -> Result<(), AllocError>
         requires there { IsSome (value_at key.session self.old.now.sessions) }
         requires loud { is_quiet op.now ≡ false }
+        requires numbered { has_no_number op.now self.old.now ≡ false }
         ensures state { OnOk result (self.new.now ≡ (row op.now key self.old.now).state) }
         ensures answers { OnOk result
             (answers.new.items ≡ answers.old.items ++ own key (row op.now key self.old.now).reply) }
@@ -125,8 +162,34 @@ impl<M: JobMap> Logic<M> {
         }
     }
 
-    /// Obeys an operation that is not quiet, where nothing is left to give, and then serves the sessions that wait.
-    #[tactic(auto, unfolding(crate::specs::Effects::do_effect, crate::specs::Turns::serve))]
+    /// Carries out an operation that is not quiet, where a number is left for it and nothing is left to give, and then
+    /// serves the sessions that wait.
+    #[tactic(auto, unfolding(crate::specs::Effects::carried_out, crate::specs::Turns::serve))]
+    fn carry_out(
+        &mut self,
+        alloc: Global,
+        key: Key,
+        op: &Op,
+        answers: &mut Vec<Answer<Reply>>,
+    ) -> Result<(), AllocError>
+        requires loud { is_quiet op.now ≡ false }
+        requires numbered { has_no_number op.now self.old.now ≡ false }
+        requires calm { serve_turn self.old.now ≡ None }
+        ensures state { OnOk result (self.new.now ≡ (carried_out op.now key self.old.now).state) }
+        ensures answers { OnOk result
+            (answers.new.items
+            ≡ answers.old.items ++ (carried_out op.now key self.old.now).answers) }
+        ensures before { self.new.before ≡ self.old.before }
+    {
+        self.call(key.session)?;
+        let woken = self.woken_by(alloc, key, op)?;
+        self.loud_answer(key, op, answers)?;
+        self.serve(woken.as_slice(), answers)?;
+        self.settle_after(key, op, answers)
+    }
+
+    /// Obeys an operation that is not quiet, where nothing is left to give.
+    #[tactic(auto, unfolding(crate::specs::Effects::do_effect))]
     pub fn act(
         &mut self,
         alloc: Global,
@@ -141,10 +204,9 @@ impl<M: JobMap> Logic<M> {
             (answers.new.items ≡ answers.old.items ++ (do_effect op.now key self.old.now).answers) }
         ensures before { self.new.before ≡ self.old.before }
     {
-        self.call(key.session)?;
-        let woken = self.woken_by(alloc, key, op)?;
-        self.loud_answer(key, op, answers)?;
-        self.serve(woken.as_slice(), answers)?;
-        self.settle_after(key, op, answers)
+        if self.has_no_number(op) {
+            return self.end_wait(key, Reply::InternalError, answers);
+        }
+        self.carry_out(alloc, key, op, answers)
     }
 }

@@ -1,8 +1,7 @@
-ghost use Rattle.std.specs.Prelude.{◌≡◌, ◌≤◌, ◌^◌, Some, IsSome, IfOk, OnOk};
+ghost use Rattle.std.specs.Prelude.{◌≡◌, ◌≤◌, ◌^◌, ◌==◌, false, Some, IsSome, IfOk, OnOk};
 ghost use Rattle.job_store.specs.Entries.{value_at};
 ghost use Rattle.bean_queue.specs.Rows.{ready_after, put_row};
 
-use crate::counters::LIMIT;
 use crate::logic::Logic;
 use crate::reply::Reply;
 use job_store::{Body, Job, JobMap, State};
@@ -24,7 +23,7 @@ pub fn ready_after(now: u64, delay: u32) -> State
 }
 
 impl<M: JobMap> Logic<M> {
-    /// Puts a job, for a session that is there.
+    /// Puts a job, for a session that is there, where an id is left.
     #[tactic(auto, unfolding(crate::specs::Rows::put_row))]
     pub fn put(
         &mut self,
@@ -34,7 +33,8 @@ impl<M: JobMap> Logic<M> {
         ttr: u32,
         body: &Body,
     ) -> Result<Reply, AllocError>
-        requires { IsSome (value_at session self.old.now.sessions) }
+        requires there { IsSome (value_at session self.old.now.sessions) }
+        requires numbered { (self.old.now.next_id == 2 ^ 63) ≡ false }
         ensures state { OnOk result (self.new.now
             ≡ (put_row self.old.now session pri delay ttr body.now).state) }
         ensures reply { IfOk result
@@ -42,9 +42,6 @@ impl<M: JobMap> Logic<M> {
         ensures before { self.new.before ≡ self.old.before }
     {
         let id = self.counters.next_id;
-        if id == LIMIT {
-            return Ok(Reply::InternalError);
-        }
         let job = Job {
             tube: self.session(session).used.copy()?,
             pri,

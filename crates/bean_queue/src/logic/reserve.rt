@@ -1,11 +1,11 @@
-ghost use Rattle.std.specs.Prelude.{◌≡◌, ◌≤◌, ◌^◌, ◌++◌, IfOk, OnOk};
-ghost use Rattle.session_store.specs.Sessions.{is_waiting, session_of};
+ghost use Rattle.std.specs.Prelude.{◌≡◌, ◌≤◌, ◌^◌, ◌==◌, ◌++◌, false, OnOk};
+ghost use Rattle.session_store.specs.Sessions.{with_wait_ended, is_waiting, session_of};
+ghost use Rattle.bean_queue.specs.Queue.{with_sessions};
 ghost use Rattle.bean_queue.specs.Rows.{time_out, reserve_row};
-ghost use Rattle.bean_queue.specs.Effects.{settled};
+ghost use Rattle.bean_queue.specs.Effects.{ends_wait, settled};
 ghost use Rattle.bean_queue.specs.declared.op.Op.{Op};
 
-use crate::counters::LIMIT;
-use crate::deadlines::holds_by;
+use crate::deadlines::{holds_by, waits_at};
 use crate::logic::Logic;
 use crate::reply::Reply;
 use job_store::JobMap;
@@ -25,19 +25,15 @@ fn time_out(now: u64, seconds: Option<u32>) -> Option<u64>
 }
 
 impl<M: JobMap> Logic<M> {
-    /// Lets a session wait for a job. It has a reply only where no rank is left.
+    /// Lets a session wait for a job, where a rank is left.
     #[tactic(auto, unfolding(crate::specs::Rows::reserve_row))]
-    pub fn reserve(&mut self, key: Key, seconds: Option<u32>) -> Result<Option<Reply>, AllocError>
+    pub fn reserve(&mut self, key: Key, seconds: Option<u32>) -> Result<(), AllocError>
+        requires { (self.old.now.next_rank == 2 ^ 63) ≡ false }
         ensures state { OnOk result (self.new.now
             ≡ (reserve_row self.old.now key.session key.number seconds).state) }
-        ensures reply { IfOk result
-            (λ reply. (reserve_row self.old.now key.session key.number seconds).reply ≡ reply) }
         ensures before { self.new.before ≡ self.old.before }
     {
         let rank = self.counters.next_rank;
-        if rank == LIMIT {
-            return Ok(Some(Reply::InternalError));
-        }
         let wait = Wait {
             number: key.number,
             rank,
@@ -45,17 +41,39 @@ impl<M: JobMap> Logic<M> {
         };
         self.sessions.set_wait(key.session, Some(wait))?;
         self.counters.next_rank = rank + 1;
-        Ok(None)
+        Ok(())
     }
 
     /// Whether a session waits.
     fn is_waiting(&self, session: u32) -> bool
         ensures { result ≡ is_waiting (session_of session self.now.now.sessions) }
     {
-        match self.sessions.map().get(&session) {
-            Some(found) => found.wait.is_some(),
-            None => false,
-        }
+        waits_at(self.sessions.map(), session)
+    }
+
+    /// Lets a session wait no longer.
+    pub fn stop_waiting(&mut self, session: u32) -> Result<(), AllocError>
+        ensures now { OnOk result (self.new.now
+            ≡ with_sessions self.old.now (with_wait_ended session self.old.now.sessions)) }
+        ensures before { self.new.before ≡ self.old.before }
+    {
+        self.sessions.set_wait(session, None)
+    }
+
+    /// Answers a command, and lets its session wait no longer.
+    pub fn end_wait(
+        &mut self,
+        key: Key,
+        reply: Reply,
+        answers: &mut Vec<Answer<Reply>>,
+    ) -> Result<(), AllocError>
+        ensures state { OnOk result (self.new.now ≡ (ends_wait self.old.now key reply).state) }
+        ensures answers { OnOk result
+            (answers.new.items ≡ answers.old.items ++ (ends_wait self.old.now key reply).answers) }
+        ensures before { self.new.before ≡ self.old.before }
+    {
+        answers.push(Answer { to: key, reply })?;
+        self.stop_waiting(key.session)
     }
 
     /// Tells a session that still waits after its reserve of a job that is due soon, or that it may not wait.
@@ -84,7 +102,6 @@ impl<M: JobMap> Logic<M> {
         } else {
             return Ok(());
         };
-        answers.push(Answer { to: key, reply })?;
-        self.sessions.set_wait(key.session, None)
+        self.end_wait(key, reply, answers)
     }
 }

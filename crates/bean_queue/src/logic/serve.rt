@@ -118,7 +118,7 @@ impl<M: JobMap> Logic<M> {
         ensures before { self.new.before ≡ self.old.before }
     {
         let second = self.counters.now + 1;
-        let holders = holders_by(alloc, self.jobs.map(), second)?;
+        let holders = holders_by(alloc, self.jobs.map(), self.sessions.map(), second)?;
         'turns: while self.tell_deadline(holders.as_slice(), answers)? {}
         Ok(())
     }

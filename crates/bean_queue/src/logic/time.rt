@@ -83,6 +83,6 @@ impl<M: JobMap> Logic<M> {
     pub fn forget(&mut self, session: u32)
         ensures { self.new.now ≡ forgotten session self.old.now }
     {
-        self.sessions.remove(session);
+        self.sessions.remove_for_good(session);
     }
 }

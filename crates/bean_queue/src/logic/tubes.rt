@@ -18,7 +18,7 @@ impl<M: JobMap> Logic<M> {
         ensures err { OnErr result (self.new.before ≡ self.old.before) }
     {
         let shown = tube.copy()?;
-        self.sessions.use_tube(session, tube.copy()?);
+        self.sessions.use_tube_for_good(session, tube.copy()?);
         Ok(Reply::Using(shown))
     }
 
@@ -32,7 +32,7 @@ impl<M: JobMap> Logic<M> {
             ≡ Some reply) }
         ensures err { OnErr result (self.new.before ≡ self.old.before) }
     {
-        let count = self.sessions.watch(session, tube.copy()?)?;
+        let count = self.sessions.watch_for_good(session, tube.copy()?)?;
         Ok(Reply::Watching(count as u64))
     }
 
@@ -46,7 +46,7 @@ impl<M: JobMap> Logic<M> {
         if self.session(session).watched.is_only(tube) {
             return Reply::NotIgnored;
         }
-        let count = self.sessions.ignore(session, tube);
+        let count = self.sessions.ignore_for_good(session, tube);
         Reply::Watching(count as u64)
     }
 }

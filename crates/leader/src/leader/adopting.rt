@@ -1,6 +1,6 @@
 ghost use Rattle.std.specs.Prelude.{◌≡◌, IfOk, OnOk, OnErr, IsSome, take, vec_len};
 ghost use Rattle.leader.specs.Leaders.{Sends};
-ghost use Rattle.leader.specs.Adoptions.{TakesGreatest, adopted, commanders_for, asks_for};
+ghost use Rattle.leader.specs.Adoptions.{TakesGreatest, adopted, commanders_for, asks_acceptors};
 
 use super::Leader;
 use crate::commanding::start_commander;
@@ -65,7 +65,7 @@ impl<C: Value> Leader<C> {
         ensures commanders { IfOk result (λ commanders. commanders
             ≡ commanders_for self.now proposals.now) }
         ensures out { OnOk result
-            (Sends self.now (asks_for self.now proposals.now) out.old.items out.new.items) }
+            (Sends self.now (asks_acceptors self.now proposals.now) out.old.items out.new.items) }
         ensures err { OnErr result (out.new.items ≡ out.old.items) }
     {
         let len = out.len();
@@ -85,7 +85,7 @@ impl<C: Value> Leader<C> {
         ensures commanders { IfOk result (λ commanders. commanders
             ≡ commanders_for self.now proposals.now) }
         ensures out { OnOk result
-            (Sends self.now (asks_for self.now proposals.now) out.old.items out.new.items) }
+            (Sends self.now (asks_acceptors self.now proposals.now) out.old.items out.new.items) }
         ensures front { take (vec_len out.old) out.new.items ≡ out.old.items }
     {
         let mut commanders = SlotMap::new(self.alloc);

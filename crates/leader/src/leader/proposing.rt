@@ -1,6 +1,6 @@
 ghost use Rattle.std.specs.Prelude.{◌≡◌, IsOk, OnOk, OnErr, true, false};
 ghost use Rattle.std.specs.FinMap as slots;
-ghost use Rattle.leader.specs.Leaders.{proposed, commands, Sends};
+ghost use Rattle.leader.specs.Leaders.{on_propose, commands, Sends};
 
 use super::Leader;
 use crate::commanding::start_commander;
@@ -17,9 +17,9 @@ impl<C: Value> Leader<C> {
         command: C,
         out: &mut Vec<Letter<C>>,
     ) -> Result<(), AllocError>
-        ensures state { OnOk result (self.new ≡ (proposed self.old slot command).state) }
+        ensures state { OnOk result (self.new ≡ (on_propose self.old slot command).state) }
         ensures out { OnOk result
-            (Sends self.old (proposed self.old slot command).says out.old.items out.new.items) }
+            (Sends self.old (on_propose self.old slot command).says out.old.items out.new.items) }
         ensures idle { slots.contains_key self.old.proposals slot ≡ true → IsOk result }
         ensures err { OnErr result ((self.new ≡ self.old) × (out.new.items ≡ out.old.items)) }
     {

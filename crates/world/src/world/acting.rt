@@ -8,7 +8,7 @@ ghost use Rattle.world.specs.Kept.{key_past};
 
 use super::World;
 use crate::submissions::{push_in_room, submission_by};
-use ballot::{Body, Letter, Slot, ballot_laws};
+use ballot::{Letter, LetterBody, Slot, ballot_laws};
 use node::{Deed, Outcome};
 use object::{Key, Object};
 use std::alloc::AllocError;
@@ -61,7 +61,7 @@ fn stand_in<C>() -> Letter<C> {
     Letter {
         from: 0,
         to: 0,
-        body: Body::Ask(slot),
+        body: LetterBody::Ask(slot),
     }
 }
 

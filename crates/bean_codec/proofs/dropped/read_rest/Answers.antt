@@ -1,7 +1,8 @@
-use Rattle.std.proofs.Common.{◌≤◌, arith}
+use Rattle.std.proofs.Common.{◌≤◌, ◌<◌, refl, arith}
 use Rattle.bean_codec.proofs.LineCuts.{first_cut}
 use Rattle.bean_codec.proofs.LongLines.{found_none}
 use Rattle.bean_codec.proofs.DroppedTexts.{before_within, rest_item, rest_more, rest_drop}
+use Rattle.bean_codec.proofs.Due.{rest_ends, rest_waits}
 use Rattle.bean_codec.proofs.dropped.read_rest.Goals as goal
 
 pub returns-then-used-eq0-clause-more : goal.returns-then-used-eq0-clause-more
@@ -15,3 +16,14 @@ returns-in_default-clause-drop c = λ dropped fits.
 
 pub returns-clause-item : goal.returns-clause-item
 returns-clause-item c = λ dropped fits. rest_item dropped c.args.bytes.now c.in-Some.end fits (first_cut c.args.bytes.now c.in-Some.end c.in-Some.ensures)
+
+pub returns-then-used-eq0-clause-due : goal.returns-then-used-eq0-clause-due
+returns-then-used-eq0-clause-due c = rest_waits c.args.bytes.now c.len_without_cr-used.result c.if-used-eq0.true c.len_without_cr-used.ensures
+
+pub returns-in_default-clause-due : goal.returns-in_default-clause-due
+returns-in_default-clause-due c =
+    let some : 0 < c.len_without_cr-used.result = omega (arith, c.if-used-eq0.false) in
+    (found_none c.args.bytes.now c.in_default.ensures, c.len_without_cr-used.ensures, some, refl)
+
+pub returns-clause-due : goal.returns-clause-due
+returns-clause-due c = rest_ends c.args.bytes.now c.in-Some.end (first_cut c.args.bytes.now c.in-Some.end c.in-Some.ensures)

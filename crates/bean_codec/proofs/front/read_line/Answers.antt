@@ -1,4 +1,4 @@
-use Rattle.std.proofs.Common.{◌+◌, take, drop, arith}
+use Rattle.std.proofs.Common.{◌+◌, inl, inr, take, drop, refl, arith}
 use Rattle.std.proofs.lemmas.List.{take_rest}
 use Rattle.std.proofs.lemmas.Result.{on_err_weaker}
 use Rattle.bean_codec.specs.Grammar.{meaning}
@@ -6,6 +6,7 @@ use Rattle.bean_codec.proofs.Told.{if_err}
 use Rattle.bean_codec.proofs.LongLines.{found_none, found_front}
 use Rattle.bean_codec.proofs.Fronts.{name_completes, begins_from_completes}
 use Rattle.bean_codec.proofs.FirstLines.{line_more, line_rest, forth, told_item, told_more, told_drop}
+use Rattle.bean_codec.proofs.Due.{none_ends, due_after}
 use Rattle.bean_codec.proofs.front.read_line.Goals as goal
 
 pub returns-then-bytes-lt-LONGEST_LINE-clause-more : goal.returns-then-bytes-lt-LONGEST_LINE-clause-more
@@ -44,3 +45,16 @@ returns-clause-memory c =
     on_err_weaker c.complete.result
     (λ put. (put.0, put.1, forth c.args.bytes.now c.in-Some.end cut.0 c.in_ok-meaning.meaning c.in_ok-meaning.ensures.says _ (take_rest c.args.bytes.now (c.in-Some.end + 2)) put.0 put.2))
     c.complete.ensures.memory
+
+pub returns-then-bytes-lt-LONGEST_LINE-clause-due : goal.returns-then-bytes-lt-LONGEST_LINE-clause-due
+returns-then-bytes-lt-LONGEST_LINE-clause-due c =
+    inl (none_ends c.args.bytes.now c.min.result (inr (omega (arith, c.min.ensures, c.if-bytes-lt-LONGEST_LINE.true), omega (arith, c.if-bytes-lt-LONGEST_LINE.true))) (found_none (take c.min.result c.args.bytes.now) c.in_default.ensures), omega (arith, c.if-bytes-lt-LONGEST_LINE.true))
+
+pub returns-in_default-clause-due : goal.returns-in_default-clause-due
+returns-in_default-clause-due c =
+    inl (none_ends c.args.bytes.now c.min.result (inl (omega (arith, c.min.ensures, c.if-bytes-lt-LONGEST_LINE.false))) (found_none (take c.min.result c.args.bytes.now) c.in_default.ensures), omega (arith, c.if-bytes-lt-LONGEST_LINE.false), omega arith, refl)
+
+pub returns-clause-due : goal.returns-clause-due
+returns-clause-due c =
+    let cut = found_front c.args.bytes.now c.min.result c.in-Some.end c.in-Some.ensures in
+    due_after c.args.bytes.now c.in-Some.end cut.0 (omega (arith, cut.1, c.min.ensures)) c.in_ok-meaning.meaning _ c.complete.result c.in_ok-meaning.ensures.says (take_rest c.args.bytes.now (c.in-Some.end + 2)) c.complete.ensures.due c.complete.ensures.drop

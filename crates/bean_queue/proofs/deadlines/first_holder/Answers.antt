@@ -1,5 +1,5 @@
 use Rattle.std.proofs.Common.{◌∙◌, refl, ap, get_or, option_map, rules}
-use Rattle.session_store.specs.Firsts.{first_of}
+use Rattle.job_store.specs.Least.{first_of}
 use Rattle.session_store.specs.Sessions.{wait_rank}
 use Rattle.bean_queue.specs.Holders.{holder_by}
 use Rattle.bean_queue.proofs.Firsts.{first-along, first-whole, first_of-none}

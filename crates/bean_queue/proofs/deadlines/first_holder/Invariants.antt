@@ -1,6 +1,6 @@
 use Rattle.std.proofs.Common.{◌≡◌, true, drop, filter_map, option_map}
 use Rattle.job_store.specs.Least.{least}
-use Rattle.session_store.specs.Firsts.{first_of}
+use Rattle.job_store.specs.Least.{first_of}
 use Rattle.session_store.specs.Sessions.{wait_rank}
 use Rattle.bean_queue.specs.Holders.{holder_by}
 use Rattle.bean_queue.proofs.deadlines.first_holder.Given as goal

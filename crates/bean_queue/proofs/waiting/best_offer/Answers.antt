@@ -13,7 +13,7 @@ loop-tube-preserved g c =
     let tube = c.tube-item.result in
     first-along pri_of_job (offered jobs sessions) c.args.tubes.now c.loop-tube.tube-index tube tube _ _ _ (search rules) c.tube-item.is
     (elim c.if-is_some.branch [
-      | then-is_some w ↦ ap (option_map _) w.best-is ∙ offer-taken _ _ c.first_watcher.result c.loop-tube.best _ w.first_ready.result jobs sessions tube c.first_watcher.ensures (sym w.if-is_some.ensures) w.first_ready.ensures.job w.urgent-best.ensures
+      | then-is_some w ↦ ap (option_map _) w.best-is ∙ offer-taken _ _ c.first_watcher.result c.loop-tube.best _ w.first_ready.result jobs sessions tube c.first_watcher.ensures (sym w.if-is_some.ensures) w.first_ready.ensures.job w.more_urgent-best.ensures
       | else-is_some w ↦ ap (option_map _) w.best-is ∙ offer-passed _ _ c.first_watcher.result c.loop-tube.best jobs sessions tube c.first_watcher.ensures (sym w.if-is_some.ensures)
     ])
     c.loop-tube.invariant

@@ -1,7 +1,7 @@
 use Rattle.std.proofs.Common.{◌≡◌, true, drop, filter_map, option_map}
 use Rattle.job_store.specs.Least.{least}
 use Rattle.job_store.specs.LookUps.{pri_of_job}
-use Rattle.session_store.specs.Firsts.{first_of}
+use Rattle.job_store.specs.Least.{first_of}
 use Rattle.bean_queue.specs.Woken.{offered}
 use Rattle.bean_queue.proofs.waiting.best_offer.Given as goal
 

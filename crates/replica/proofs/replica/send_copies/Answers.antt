@@ -1,6 +1,6 @@
 use Rattle.std.proofs.Common.{ap, arith}
 use Rattle.std.proofs.lemmas.Grind.{common_steps}
-use Rattle.ballot.specs.declared.letter.Body.TheVariants.{Propose}
+use Rattle.ballot.specs.declared.letter.LetterBody.TheVariants.{Propose}
 use Rattle.ballot.proofs.Sending.{one_more}
 use Rattle.replica.proofs.replica.send_copies.Goals as goal
 

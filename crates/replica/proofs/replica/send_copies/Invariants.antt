@@ -1,7 +1,7 @@
 use Rattle.std.proofs.Common.{◌≡◌, ◌++◌, map, take, vec_len}
 use Rattle.std.specs.List.{range_with_len}
 use Rattle.ballot.specs.Letters.{letter}
-use Rattle.ballot.specs.declared.letter.Body.TheVariants.{Propose}
+use Rattle.ballot.specs.declared.letter.LetterBody.TheVariants.{Propose}
 use Rattle.replica.proofs.replica.send_copies.Given as goal
 
 abbrev pub invariant-loop-before : goal.invariant-loop-before

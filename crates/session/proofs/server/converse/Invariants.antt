@@ -1,4 +1,4 @@
--- The session is on its way, and no ask is open.
+-- The session is on its way, no ask is open, and the reader has not come to the end.
 use Rattle.std.proofs.Common.{◌≡◌, false}
 use Rattle.session.specs.Held.{StandsAt}
 use Rattle.session.proofs.Endings.{Goes}
@@ -6,6 +6,7 @@ use Rattle.session.proofs.server.converse.Given as goal
 
 abbrev pub invariant-turns : goal.invariant-turns
 invariant-turns g l = record {
-  goes : Goes g.S.Service.asks l.initial.service l.service (g.R.ByteIn.remaining l.initial.reader) (g.R.ByteIn.remaining l.reader) (g.W.ByteOut.contents l.initial.writer) (g.W.ByteOut.contents l.writer) l.session.unsent (StandsAt l.session);
+  goes : Goes g.S.Service.asks l.initial.service l.service l._turn (g.R.ByteIn.remaining l.initial.reader) (g.R.ByteIn.remaining l.reader) (g.W.ByteOut.contents l.initial.writer) (g.W.ByteOut.contents l.writer) l.session.unsent (StandsAt l.session);
   closed : l.session.is_open ≡ false;
+  not_ended : g.R.ByteIn.has_ended l.reader ≡ g.R.ByteIn.has_ended l.initial.reader;
 }

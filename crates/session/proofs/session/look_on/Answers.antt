@@ -1,8 +1,8 @@
-use Rattle.std.proofs.Common.{[], Ok, Err, length, drop, refl, ap, subst, length-append, arith}
+use Rattle.std.proofs.Common.{[], Ok, Err, length, drop, refl, sym, ap, subst, length-append, arith}
 use Rattle.bean_codec.specs.Reads.{TellsItem, TellsDrop, TellsMore}
 use Rattle.bean_codec.specs.Replies.{fault_text}
 use Rattle.session.specs.Held.{holding}
-use Rattle.session.proofs.Standing.{Continues, Drops, NeedsMore, still_front}
+use Rattle.session.proofs.Standing.{Continues, Drops, NeedsMore, Looks, if_err, request_takes_room, fault_takes_room, still_front}
 use Rattle.session.proofs.Slices.{drops_on, goes_past_fault, comes_to_none, comes_to_request, within, may_keep, drop_fits, item_fits, less_past_fault, less_dropping}
 use Rattle.session.proofs.session.look_on.Goals as goal
 
@@ -10,6 +10,21 @@ pub returns-in-More-clause-found : goal.returns-in-More-clause-found
 returns-in-More-clause-found c =
     let more : NeedsMore c.items.next c.split_at.result.1.now = subst (TellsMore c.items.next c.split_at.result.1.now) c.in-More.is c.in_ok-read_request.ensures.more in
     comes_to_none (holding c.args.want (drop c.args.start c.args.bytes.now) c.args.text.now.items) c.items.next c.args.bytes.now _ c.items.text.items c.items.at c.split_at.ensures.back more c.items.invariant.looks
+
+pub returns-in_err-read_request-clause-memory : goal.returns-in_err-read_request-clause-memory
+returns-in_err-read_request-clause-memory c =
+    let old = holding c.args.want (drop c.args.start c.args.bytes.now) c.args.text.now.items in
+    let kept = c.split_at.result.1.now in
+    let looks = subst (λ k. Looks old (holding c.items.next k c.items.text.items)) (sym c.split_at.ensures.back) c.items.invariant.looks in
+    if_err c.from_residual.result (request_takes_room old c.items.next kept c.items.text.items c.in_err-read_request.ensures.memory looks)
+
+pub returns-in_err-write_fault-in-Bad-clause-memory : goal.returns-in_err-write_fault-in-Bad-clause-memory
+returns-in_err-write_fault-in-Bad-clause-memory c =
+    let old = holding c.args.want (drop c.args.start c.args.bytes.now) c.args.text.now.items in
+    let kept = c.split_at.result.1.now in
+    let item : Continues c.items.next kept (Err c.in-Bad.fault, c.in-Bad.used) = subst (TellsItem c.items.next kept) c.in-Bad.is c.in_ok-read_request.ensures.item in
+    let looks = subst (λ k. Looks old (holding c.items.next k c.items.text.items)) (sym c.split_at.ensures.back) c.items.invariant.looks in
+    if_err c.from_residual-in_err-write_fault-in-Bad.result (fault_takes_room old c.items.next kept c.items.text.items c.in-Bad.fault c.in-Bad.used item looks)
 
 pub items-preserved-in-Drop : goal.items-preserved-in-Drop
 items-preserved-in-Drop c =

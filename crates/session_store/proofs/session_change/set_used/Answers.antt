@@ -1,19 +1,19 @@
 use Rattle.std.proofs.Common.{◌≡◌, ◌∙◌, ℕ, ap, sym, refl, None, BTreeMap}
 use Rattle.std.specs.Option.{option_copied_mut}
 use Rattle.job_store.specs.Entries.{value_at}
-use Rattle.session_store.specs.declared.session.Session.{Session}
+use Rattle.session_store.specs.declared.session.SessionState.{SessionState}
 use Rattle.session_store.specs.EntryLaws.{altered-absent}
 use Rattle.session_store.proofs.Bridges.{set_value-altered}
 use Rattle.session_store.proofs.session_change.set_used.Goals as goal
 
 pub returns-in-Some : goal.returns-in-Some
 returns-in-Some c =
-    let f : Session → Session = (λ (s : Session). record s { used = c.args.name }) in
+    let f : SessionState → SessionState = (λ (s : SessionState). record s { used = c.args.name }) in
     (c.get_mut.follows.holds (f c.in-Some.found.now)).0 ∙
-    set_value-altered c.args.session 0 _ ((λ (s : Session). record s { used = c.args.name })) c.in-Some.found.now _ c.args.sessions.now.entries c.requires (sym c.in-Some.ensures.value) refl
+    set_value-altered c.args.session 0 _ ((λ (s : SessionState). record s { used = c.args.name })) c.in-Some.found.now _ c.args.sessions.now.entries c.requires (sym c.in-Some.ensures.value) refl
 
 pub returns-in_default : goal.returns-in_default
 returns-in_default c =
     let none : value_at c.args.session c.args.sessions.now.entries ≡ None = sym c.get_mut.ensures.value ∙ ap option_copied_mut c.in_default.is in
-    ap (λ (m : BTreeMap ℕ Session). m.entries) c.get_mut.follows.holds-at-none ∙
-    sym (altered-absent c.args.session ((λ (s : Session). record s { used = c.args.name })) c.args.sessions.now.entries none)
+    ap (λ (m : BTreeMap ℕ SessionState). m.entries) c.get_mut.follows.holds-at-none ∙
+    sym (altered-absent c.args.session ((λ (s : SessionState). record s { used = c.args.name })) c.args.sessions.now.entries none)

@@ -4,7 +4,7 @@ use Rattle.job_store.specs.declared.state.State.{State}
 use Rattle.job_store.specs.Entries.{altered}
 use Rattle.job_store.specs.States.{with_state}
 use Rattle.object.specs.declared.command.Answer.{Answer}
-use Rattle.session_store.specs.declared.session.Session.{Session}
+use Rattle.session_store.specs.declared.session.SessionState.{SessionState}
 use Rattle.session_store.specs.Sessions.{first_waiting}
 use Rattle.session_store.specs.Drafts.{Draft}
 use Rattle.bean_queue.specs.declared.reply.Reply.{Reply}
@@ -32,7 +32,7 @@ pub returns-clause-turn : goal.returns-clause-turn
 returns-clause-turn g c =
     let s = state_of c.self.inside.counters c.self.inside.jobs.now c.self.inside.sessions.now in
     let j : ℕ × Job = (c.in-Some.id, c.in-Some.job.now) in
-    let w : ℕ × Session = (c.in-Some-first_watcher.session, c.in-Some-first_watcher.watcher.now) in
+    let w : ℕ × SessionState = (c.in-Some-first_watcher.session, c.in-Some-first_watcher.watcher.now) in
     let next : next_job s ≡ Some j = ap (λ (d : Draft QueueState). next_job d.now) c.self.view_is ∙ sym c.in-Some.ensures in
     let first : first_waiting (λ e. is_among j.1.tube e.1.watched) s.sessions ≡ Some w = sym c.in-Some-first_watcher.ensures in
     subst (λ (d : Draft QueueState). IsTurn serve_turn d.now (state_of c.self.inside.counters c.set_state.new.self.now c.set_wait.new.self.now) c.args.answers.now.items c.push.new.self.items true) c.self.view_is

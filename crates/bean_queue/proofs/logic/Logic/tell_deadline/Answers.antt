@@ -1,7 +1,7 @@
 use Rattle.std.proofs.Common.{◌≡◌, ◌∙◌, ℕ, ◌+◌, ◌^◌, true, ◌∷◌, [], ◌++◌, Some, None, refl, sym, ap, ap₂, subst}
 use Rattle.object.specs.declared.command.Answer.{Answer}
 use Rattle.job_store.specs.Entries.{Rising}
-use Rattle.session_store.specs.declared.session.Session.{Session}
+use Rattle.session_store.specs.declared.session.SessionState.{SessionState}
 use Rattle.session_store.specs.Sessions.{first_waiting}
 use Rattle.session_store.specs.Drafts.{Draft}
 use Rattle.bean_queue.specs.declared.reply.Reply.{Reply}
@@ -31,7 +31,7 @@ returns-in_default-clause-turn g c =
 pub returns-clause-turn : goal.returns-clause-turn
 returns-clause-turn g c =
     let s = state_of c.self.inside.counters c.self.inside.jobs.now c.self.inside.sessions.now in
-    let w : ℕ × Session = (c.in-Some.session, c.in-Some.holder.now) in
+    let w : ℕ × SessionState = (c.in-Some.session, c.in-Some.holder.now) in
     let first : first_waiting (λ e. holds_by e.0 (s.now + 1) s.jobs) s.sessions ≡ Some w =
     ap₂ (λ jobs. first_waiting (λ e. holds_by e.0 (s.now + 1) jobs)) (sym c.map.ensures.jobs) (sym c.map-2.ensures.sessions) ∙ sym c.in-Some.ensures in
     subst (λ (d : Draft QueueState). IsTurn deadline_turn d.now (state_of c.self.inside.counters c.self.inside.jobs.now c.set_wait.new.self.now) c.args.answers.now.items c.push.new.self.items true) c.self.view_is

@@ -1,4 +1,5 @@
-use Rattle.std.proofs.Common.{◌∙◌, ◌+◌, refl, subst}
+use Rattle.std.proofs.Common.{◌∙◌, ◌+◌, ◌^◌, refl, sym, subst}
+use Rattle.job_store.specs.Entries.{Rising}
 use Rattle.session_store.specs.Drafts.{Draft}
 use Rattle.bean_queue.specs.Holders.{HasHolders}
 use Rattle.bean_queue.specs.Queue.{QueueState, state_of}
@@ -15,7 +16,9 @@ turns-init g c =
       holders =
           subst (λ (d : Draft QueueState). HasHolders holders (d.now.now + 1) d.now.jobs d.now.sessions) c.self.view_is
           (subst (λ jobs. HasHolders holders (s.now + 1) jobs s.sessions) c.map.ensures.jobs
-          (has-holders holders (s.now + 1) (g.M.JobMap.entries c.map.result.now) s.sessions c.in_ok-holders.ensures));
+          (subst (HasHolders holders (s.now + 1) (g.M.JobMap.entries c.map.result.now)) c.map-2.ensures.sessions
+          (has-holders holders (s.now + 1) (2 ^ 32) (g.M.JobMap.entries c.map.result.now) c.map-2.result.now.entries
+          (subst (Rising 0 (2 ^ 32)) (sym c.map-2.ensures.sessions) c.map-2.ensures.rising) c.in_ok-holders.ensures)));
       state = refl;
       answers = refl;
       before = refl;

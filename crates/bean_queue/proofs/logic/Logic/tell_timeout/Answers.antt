@@ -1,6 +1,6 @@
 use Rattle.std.proofs.Common.{◌≡◌, ◌∙◌, ℕ, true, ◌∷◌, [], ◌++◌, Some, None, refl, sym, ap, subst}
 use Rattle.object.specs.declared.command.Answer.{Answer}
-use Rattle.session_store.specs.declared.session.Session.{Session}
+use Rattle.session_store.specs.declared.session.SessionState.{SessionState}
 use Rattle.session_store.specs.Sessions.{first_waiting, has_timed_out}
 use Rattle.session_store.specs.Drafts.{Draft}
 use Rattle.bean_queue.specs.declared.reply.Reply.{Reply}
@@ -18,7 +18,7 @@ returns-in_default-clause-turn g c =
 pub returns-clause-turn : goal.returns-clause-turn
 returns-clause-turn g c =
     let s = state_of c.self.inside.counters c.self.inside.jobs.now c.self.inside.sessions.now in
-    let w : ℕ × Session = (c.in-Some.session, c.in-Some.late.now) in
+    let w : ℕ × SessionState = (c.in-Some.session, c.in-Some.late.now) in
     let first : first_waiting (λ e. has_timed_out s.now e.1.wait) s.sessions ≡ Some w = sym c.in-Some.ensures in
     subst (λ (d : Draft QueueState). IsTurn timeout_turn d.now (state_of c.self.inside.counters c.self.inside.jobs.now c.set_wait.new.self.now) c.args.answers.now.items c.push.new.self.items true) c.self.view_is
     (told_timeout s w c.set_wait.new.self.now c.args.answers.now.items c.push.new.self.items first c.in_ok-set_wait.ensures.now

@@ -1,7 +1,7 @@
 use Rattle.std.proofs.Common.{◌≡◌, ◌++◌, map, take, vec_len}
 use Rattle.std.specs.Map.Iter.{deref_pair}
 use Rattle.ballot.specs.Letters.{all_to_all}
-use Rattle.ballot.specs.declared.letter.Body.TheVariants.{P2a}
+use Rattle.ballot.specs.declared.letter.LetterBody.TheVariants.{P2a}
 use Rattle.leader.specs.Leaders.{scout_says}
 use Rattle.leader.proofs.leader.Leader.append_again.Given as goal
 

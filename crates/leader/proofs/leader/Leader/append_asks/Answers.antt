@@ -7,8 +7,8 @@ use Rattle.scout_commander.specs.Commanders.{Commanding, new_commander}
 use Rattle.ballot.specs.Slots.{Slots}
 use Rattle.leader.specs.Leaders.{Leading, pvalue}
 use Rattle.ballot.specs.Letters.{to_all, all_to_all}
-use Rattle.ballot.specs.declared.letter.Body.{Body}
-use Rattle.ballot.specs.declared.letter.Body.TheVariants.{P2a}
+use Rattle.ballot.specs.declared.letter.LetterBody.{LetterBody}
+use Rattle.ballot.specs.declared.letter.LetterBody.TheVariants.{P2a}
 use Rattle.leader.proofs.Saying.{said_next}
 use Rattle.ballot.proofs.Turns.{made, turn, whole}
 use Rattle.leader.proofs.leader.Leader.append_asks.Goals as goal
@@ -18,7 +18,7 @@ loop-slot-preserved g c =
     let p = c.self.inside in
     let s = c.in-Some.slot.now in
     let commander : ℕ → g.row.C.Denot → Commanding g.row.C.Denot = λ s v. new_commander c.args.self.now.members (pvalue c.args.self.now.ballot s v) in
-    let ask : ℕ × g.row.C.Denot → Body g.row.C.Denot = λ e. P2a (pvalue c.args.self.now.ballot e.0 e.1) in
+    let ask : ℕ × g.row.C.Denot → LetterBody g.row.C.Denot = λ e. P2a (pvalue c.args.self.now.ballot e.0 e.1) in
     record {
       commanders =
           c.in_ok-start_commander.ensures.commander ∙

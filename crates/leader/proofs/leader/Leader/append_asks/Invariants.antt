@@ -2,7 +2,7 @@ use Rattle.std.proofs.Common.{◌≡◌, ◌++◌, map, take, vec_len}
 use Rattle.std.specs.FinMap.{from_entries}
 use Rattle.std.specs.Map.Iter.{deref_pair}
 use Rattle.ballot.specs.Letters.{all_to_all}
-use Rattle.ballot.specs.declared.letter.Body.TheVariants.{P2a}
+use Rattle.ballot.specs.declared.letter.LetterBody.TheVariants.{P2a}
 use Rattle.scout_commander.specs.Commanders.{new_commander}
 use Rattle.leader.specs.Leaders.{pvalue}
 use Rattle.ballot.proofs.Turns.{made}

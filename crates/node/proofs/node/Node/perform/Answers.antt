@@ -3,7 +3,7 @@ use Rattle.std.specs.Prelude.{IfOk}
 use Rattle.slot_log.specs.Decisions.{next_decided}
 use Rattle.node.specs.Deeds.{performs}
 use Rattle.node.proofs.Keeping.{kept_perform}
-use Rattle.node.proofs.Performing.{on_ok, told, answers_performing, told_performing}
+use Rattle.node.proofs.Performing.{on_ok, outcome_told, answers_performing, told_performing}
 use Rattle.node.proofs.node.Node.perform.Goals.{in-None, in-Some}
 use Rattle.node.proofs.node.Node.perform.Goals as goal
 
@@ -26,6 +26,6 @@ returns-clause-outcome g c =
     g.O.Object.rules c.self.inside.replica c.args.self.now (sym (ap (λ n. n.replica) c.self.view_is)) c.self.invariant
     c.in_ok-perform.field-0 c.in_ok-perform.ensures.slot c.in_ok-perform.ensures.key c.in_ok-perform.ensures.effect in
     elim c.match-branch-2.branch [
-      | in-None w ↦ subst (λ r. IfOk r (λ outcome. outcome ≡ performs c.args.self.now.replica (next_decided c.args.self.now.replica))) (sym w.result-is) (sym (ap told w.in-None.is) ∙ own)
-      | in-Some w ↦ subst (λ r. IfOk r (λ outcome. outcome ≡ performs c.args.self.now.replica (next_decided c.args.self.now.replica))) (sym w.result-is) (sym (ap told w.in-Some.is) ∙ own)
+      | in-None w ↦ subst (λ r. IfOk r (λ outcome. outcome ≡ performs c.args.self.now.replica (next_decided c.args.self.now.replica))) (sym w.result-is) (sym (ap outcome_told w.in-None.is) ∙ own)
+      | in-Some w ↦ subst (λ r. IfOk r (λ outcome. outcome ≡ performs c.args.self.now.replica (next_decided c.args.self.now.replica))) (sym w.result-is) (sym (ap outcome_told w.in-Some.is) ∙ own)
     ]

@@ -1,6 +1,6 @@
 use Rattle.std.proofs.Common.{arith, ◌+◌, ap, ◌∙◌, eq-eqb, ne_eqb}
 use Rattle.std.proofs.lemmas.Grind.{common_steps}
-use Rattle.ballot.specs.declared.letter.Body.TheVariants.{Ask}
+use Rattle.ballot.specs.declared.letter.LetterBody.TheVariants.{Ask}
 use Rattle.replica.proofs.Others.{other_more, self_more}
 use Rattle.replica.proofs.replica.Replica.append_asks.Goals as goal
 use Rattle.replica.proofs.replica.Replica.append_asks.Goals.{then-to-node+in_ok-push, else-to-node}

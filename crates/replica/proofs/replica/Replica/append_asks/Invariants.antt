@@ -1,6 +1,6 @@
 use Rattle.std.proofs.Common.{◌≡◌, ◌++◌, map, take, vec_len}
 use Rattle.ballot.specs.Letters.{letter}
-use Rattle.ballot.specs.declared.letter.Body.TheVariants.{Ask}
+use Rattle.ballot.specs.declared.letter.LetterBody.TheVariants.{Ask}
 use Rattle.replica.proofs.Others.{others}
 use Rattle.replica.proofs.replica.Replica.append_asks.Given as goal
 

@@ -3,7 +3,7 @@ use Rattle.std.specs.Result.{is_ok}
 use Rattle.slot_log.specs.Proposals.{next_proposal}
 use Rattle.ballot.specs.Letters.{letter}
 use Rattle.ballot.specs.declared.letter.Letter.{Letter}
-use Rattle.ballot.specs.declared.letter.Body.TheVariants.{Propose}
+use Rattle.ballot.specs.declared.letter.LetterBody.TheVariants.{Propose}
 use Rattle.replica.specs.Replicas.{Replicating}
 use Rattle.replica.proofs.Proposing.{proposal_sent}
 use Rattle.replica.proofs.replica.Replica.append_proposal.Goals as goal

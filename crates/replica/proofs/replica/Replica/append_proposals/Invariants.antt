@@ -1,7 +1,7 @@
 use Rattle.std.proofs.Common.{◌≡◌, ◌++◌, map, take, vec_len}
 use Rattle.std.specs.Map.Iter.{deref_pair}
 use Rattle.ballot.specs.Letters.{all_to_all}
-use Rattle.ballot.specs.declared.letter.Body.TheVariants.{Propose}
+use Rattle.ballot.specs.declared.letter.LetterBody.TheVariants.{Propose}
 use Rattle.replica.proofs.replica.Replica.append_proposals.Given as goal
 
 abbrev pub invariant-loop-slot : goal.invariant-loop-slot

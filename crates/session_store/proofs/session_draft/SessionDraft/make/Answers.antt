@@ -1,6 +1,6 @@
 use Rattle.std.proofs.Common.{◌∙◌, ap, List, ℕ, refl}
 use Rattle.job_store.specs.Entries.{value_at, with_value}
-use Rattle.session_store.specs.declared.session.Session.{Session}
+use Rattle.session_store.specs.declared.session.SessionState.{SessionState}
 use Rattle.session_store.specs.Drafts.{Draft}
 use Rattle.session_store.proofs.Standing.{each-made}
 use Rattle.session_store.proofs.SessionDrafts.{before-step, made-back, made-rises, stepped}
@@ -10,12 +10,12 @@ pub invariant_of-self-2 : goal.invariant_of-self-2
 invariant_of-self-2 c =
     stepped c.self.inside.lines c.self.inside.lines c.self.inside.steps.items c.push.new.self.items c.self.inside.sessions.entries c.insert.new.self.entries (λ p h. h, λ t p h. h)
     (before-step c.self.inside.steps.items c.reserve.new.self.items c.push.new.self.items _ c.self.inside.sessions.entries c.insert.new.self.entries _ refl c.in_ok-reserve.ensures.items c.in_ok-push.ensures.items
-    (made-back c.args.session _ _ _ (ap (λ (d : Draft (List (ℕ × Session))). value_at c.args.session d.now) c.self.view_is ∙ c.requires) c.in_ok-insert.ensures.entries))
+    (made-back c.args.session _ _ _ (ap (λ (d : Draft (List (ℕ × SessionState))). value_at c.args.session d.now) c.self.view_is ∙ c.requires) c.in_ok-insert.ensures.entries))
     (made-rises c.args.session _ _ _ _ c.ranges.session.fits c.self.invariant.rising c.in_ok-insert.ensures.entries)
     (each-made c.self.inside.lines c.args.session _ _ (c.in_ok-insert.ensures.entries ∙ ap (λ s. with_value c.args.session s c.self.inside.sessions.entries) c.in_ok-made.ensures) c.self.invariant.now)
     c.self.invariant
 
 pub returns-clause-before : goal.returns-clause-before
 returns-clause-before c =
-    before-step c.self.inside.steps.items c.reserve.new.self.items _ _ _ _ _ (ap (λ (d : Draft (List (ℕ × Session))). d.before) c.self.view_is) c.in_ok-reserve.ensures.items c.in_ok-push.ensures.items
-    (made-back c.args.session _ _ _ (ap (λ (d : Draft (List (ℕ × Session))). value_at c.args.session d.now) c.self.view_is ∙ c.requires) c.in_ok-insert.ensures.entries)
+    before-step c.self.inside.steps.items c.reserve.new.self.items _ _ _ _ _ (ap (λ (d : Draft (List (ℕ × SessionState))). d.before) c.self.view_is) c.in_ok-reserve.ensures.items c.in_ok-push.ensures.items
+    (made-back c.args.session _ _ _ (ap (λ (d : Draft (List (ℕ × SessionState))). value_at c.args.session d.now) c.self.view_is ∙ c.requires) c.in_ok-insert.ensures.entries)

@@ -1,7 +1,7 @@
 use Rattle.std.proofs.Common.{◌≡◌, true, option_map, filter_map}
 use Rattle.job_store.specs.Least.{least}
 use Rattle.session_store.specs.Sessions.{wait_rank}
-use Rattle.session_store.specs.Firsts.{first_of}
+use Rattle.job_store.specs.Least.{first_of}
 use Rattle.session_store.specs.Lines.{places_by, over_at}
 use Rattle.session_store.proofs.time_outs.TimeOuts.first.Given as goal
 

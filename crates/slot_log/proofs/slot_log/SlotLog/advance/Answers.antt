@@ -8,7 +8,7 @@ use Rattle.slot_log.specs.Books.{SlotBook}
 use Rattle.slot_log.specs.Decisions.{next_decided}
 use Rattle.object.specs.KeyMaps.{at_key, with_key}
 use Rattle.slot_log.specs.declared.places.Place.TheVariants.{Decided}
-use Rattle.slot_log.specs.Kept.{IsKept}
+use Rattle.slot_log.specs.Kept.{KeepsBook}
 use Rattle.slot_log.proofs.Maps.{len_removed}
 use Rattle.slot_log.proofs.Advancing.{none_kept, proposal_placed, won_kept, lost_kept}
 use Rattle.slot_log.proofs.slot_log.SlotLog.advance.Goals as goal
@@ -29,7 +29,7 @@ invariant_of-self g c =
     let own = value_when ((0 < a.slot_out) × (a.slot_out ≤ 2 ^ 62)) c.new.result a.slot_out c.unwrap-slot.result c.new.ensures c.unwrap-slot.ensures in
     let there = ap (λ (b : SlotBook _). is_some (next_decided b)) c.self.view_is ∙ c.requires in
     let none : get a.proposals a.slot_out ≡ None = ap (get a.proposals) (sym own) ∙ sym c.in_default.ensures.value in
-    subst (λ (ps : Slots g.row.C.Denot). IsKept g.C.PartialEq.eq g.C.Keyed.key_of (record a { slot_out = a.slot_out + 1; proposals = ps })) (sym (c.remove.ensures.rest ∙ ap (remove a.proposals) own))
+    subst (λ (ps : Slots g.row.C.Denot). KeepsBook g.C.PartialEq.eq g.C.Keyed.key_of (record a { slot_out = a.slot_out + 1; proposals = ps })) (sym (c.remove.ensures.rest ∙ ap (remove a.proposals) own))
     (none_kept g.C.PartialEq.eq g.C.Keyed.key_of g.met.C.Value.exact g.met.C.Eq.laws.refl a c.self.invariant none there)
 
 pub relocate-requires : goal.relocate-requires
@@ -54,7 +54,7 @@ invariant_of-self-then-eq g c =
     let decided : get a.decisions a.slot_out ≡ Some x = ap (get a.decisions) (sym own) ∙ sym c.get.ensures ∙ ap option_copied c.unwrap.ensures ∙ ap (λ y. Some y) (sym won) in
     let less = len_removed a.proposals a.slot_out x there in
     let room = c.self.invariant.room in
-    subst (λ (ps : Slots g.row.C.Denot). IsKept g.C.PartialEq.eq g.C.Keyed.key_of (record a { slot_out = a.slot_out + 1; proposals = ps; places = c.relocate.new.self })) (sym (c.remove.ensures.rest ∙ ap (remove a.proposals) own))
+    subst (λ (ps : Slots g.row.C.Denot). KeepsBook g.C.PartialEq.eq g.C.Keyed.key_of (record a { slot_out = a.slot_out + 1; proposals = ps; places = c.relocate.new.self })) (sym (c.remove.ensures.rest ∙ ap (remove a.proposals) own))
     (won_kept g.C.PartialEq.eq g.C.Keyed.key_of g.met.C.Value.exact g.met.C.Eq.laws.refl a c.self.invariant x there decided c.relocate.new.self
     (λ f q. c.relocate.ensures.here f q ∙ ap (λ s. with_key (at_key a.places.by_key) (g.C.Keyed.key_of x) (Decided s) q) own) c.relocate.ensures.other c.relocate.ensures.others (omega arith))
 
@@ -82,6 +82,6 @@ invariant_of-self-else-eq g c =
     let items = pushed c.push_back.new.self.items a.requests.items x c.push_back.result c.unwrap-else-eq.result c.push_back.ensures.items c.unwrap-else-eq.ensures in
     let rank = a.front_rank + c.len.result in
     let last : rank ≡ a.front_rank + length a.requests.items = let len = c.len.ensures in let all = a.requests.ok.0 in omega arith in
-    subst (λ (ps : Slots g.row.C.Denot). IsKept g.C.PartialEq.eq g.C.Keyed.key_of (record a { slot_out = a.slot_out + 1; requests = c.push_back.new.self; proposals = ps; places = c.relocate-else-eq.new.self })) (sym (c.remove.ensures.rest ∙ ap (remove a.proposals) own))
+    subst (λ (ps : Slots g.row.C.Denot). KeepsBook g.C.PartialEq.eq g.C.Keyed.key_of (record a { slot_out = a.slot_out + 1; requests = c.push_back.new.self; proposals = ps; places = c.relocate-else-eq.new.self })) (sym (c.remove.ensures.rest ∙ ap (remove a.proposals) own))
     (lost_kept g.C.PartialEq.eq g.C.Keyed.key_of g.met.C.Value.exact g.met.C.Eq.laws.refl a c.self.invariant x there decided c.push_back.new.self items rank last c.relocate-else-eq.new.self
     c.relocate-else-eq.ensures.here c.relocate-else-eq.ensures.other c.relocate-else-eq.ensures.others (omega arith))

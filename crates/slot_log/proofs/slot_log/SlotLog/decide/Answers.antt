@@ -5,7 +5,7 @@ use Rattle.std.specs.Option.{is_some, option_copied}
 use Rattle.ballot.specs.Slots.{Slots}
 use Rattle.ballot.proofs.SlotMaps.{remove-insert}
 use Rattle.slot_log.specs.Requests.{is_known}
-use Rattle.slot_log.specs.Kept.{book_of, IsKept}
+use Rattle.slot_log.specs.Kept.{book_of, KeepsBook}
 use Rattle.slot_log.proofs.Maps.{some_inserted}
 use Rattle.slot_log.proofs.Books.{decision_at}
 use Rattle.slot_log.proofs.Deciding.{places_kept, noted_kept, known_kept}
@@ -17,7 +17,7 @@ invariant_of-self-then-known g c =
     let numbered : c.args.slot ≤ 2 ^ 62 = omega arith in
     let free = sym (decision_at a c.args.self.now c.self.view_is c.args.slot) ∙ c.requires in
     let known = ap (λ b. is_known g.C.PartialEq.eq b c.args.command) c.self.view_is ∙ sym c.is_known-known.ensures ∙ c.if-known.true in
-    subst (λ (ds : Slots g.row.C.Denot). IsKept g.C.PartialEq.eq g.C.Keyed.key_of (record a { decisions = ds })) (sym c.in_ok-insert.ensures.ok)
+    subst (λ (ds : Slots g.row.C.Denot). KeepsBook g.C.PartialEq.eq g.C.Keyed.key_of (record a { decisions = ds })) (sym c.in_ok-insert.ensures.ok)
     (known_kept g.C.PartialEq.eq g.C.Keyed.key_of g.met.C.Value.exact g.met.C.Eq.laws.refl a c.self.invariant c.args.slot c.args.command numbered free known)
 
 -- the decision that was put
@@ -39,7 +39,7 @@ invariant_of-self-in-Ok g c =
     let numbered : c.args.slot ≤ 2 ^ 62 = omega arith in
     let free = sym (decision_at a c.args.self.now c.self.view_is c.args.slot) ∙ c.requires in
     let is : c.args.command ≡ x = same_Some c.args.command x (sym (put_there a.decisions c.insert.new.self c.args.slot c.args.command c.get.result c.in_ok-insert.ensures.ok c.get.ensures) ∙ ap option_copied c.unwrap-command.ensures) in
-    subst (λ (ds : Slots g.row.C.Denot). IsKept g.C.PartialEq.eq g.C.Keyed.key_of (record a { decisions = ds; places = c.note.new.self })) (sym (c.in_ok-insert.ensures.ok ∙ ap (insert a.decisions c.args.slot) is))
+    subst (λ (ds : Slots g.row.C.Denot). KeepsBook g.C.PartialEq.eq g.C.Keyed.key_of (record a { decisions = ds; places = c.note.new.self })) (sym (c.in_ok-insert.ensures.ok ∙ ap (insert a.decisions c.args.slot) is))
     (noted_kept g.C.PartialEq.eq g.C.Keyed.key_of g.met.C.Value.exact g.met.C.Eq.laws.refl a c.self.invariant c.args.slot x numbered free c.note.new.self c.in-Ok.ensures.places c.in-Ok.ensures.others)
 
 -- what is put in a new place and taken out again
@@ -50,7 +50,7 @@ pub invariant_of-self-in-Err : goal.invariant_of-self-in-Err
 invariant_of-self-in-Err g c =
     let a = c.self.inside in
     let free = sym (decision_at a c.args.self.now c.self.view_is c.args.slot) ∙ c.requires in
-    subst (λ (ds : Slots g.row.C.Denot). IsKept g.C.PartialEq.eq g.C.Keyed.key_of (record a { decisions = ds; places = c.note.new.self }))
+    subst (λ (ds : Slots g.row.C.Denot). KeepsBook g.C.PartialEq.eq g.C.Keyed.key_of (record a { decisions = ds; places = c.note.new.self }))
     (restored a.decisions c.insert.new.self c.remove.new.self c.args.slot c.args.command free c.in_ok-insert.ensures.ok c.remove.ensures.rest)
     (places_kept g.C.PartialEq.eq g.C.Keyed.key_of g.met.C.Value.exact g.met.C.Eq.laws.refl a c.self.invariant c.note.new.self c.in-Err.ensures.err.0 c.in-Err.ensures.err.1)
 

@@ -4,7 +4,7 @@ use Rattle.std.specs.Option.{option_to_list}
 use Rattle.std.specs.List.{slice_index_or}
 use Rattle.ballot.specs.Slots.{Slots}
 use Rattle.slot_log.specs.Proposals.{open_slot, IsLeastOpen}
-use Rattle.slot_log.specs.Kept.{book_of, IsKept}
+use Rattle.slot_log.specs.Kept.{book_of, KeepsBook}
 use Rattle.slot_log.proofs.Maps.{len_inserted}
 use Rattle.slot_log.proofs.OpenSlots.{open_is}
 use Rattle.slot_log.proofs.Proposing.{proposal_kept}
@@ -25,6 +25,6 @@ invariant_of-self-2 g c =
     let puts : c.insert.new.self ≡ insert a.proposals slot x = c.in_ok-insert.ensures.ok ∙ ap (insert a.proposals slot) copy in
     let room = kept.room in
     let rest = c.pop_front.ensures.capacity in
-    subst (λ (ps : Slots g.row.C.Denot). IsKept g.C.PartialEq.eq g.C.Keyed.key_of (record a { slot_in = c.number.result + 1; requests = c.pop_front.new.self; proposals = ps; front_rank = a.front_rank + 1; places = c.relocate.new.self })) (sym puts)
+    subst (λ (ps : Slots g.row.C.Denot). KeepsBook g.C.PartialEq.eq g.C.Keyed.key_of (record a { slot_in = c.number.result + 1; requests = c.pop_front.new.self; proposals = ps; front_rank = a.front_rank + 1; places = c.relocate.new.self })) (sym puts)
     (proposal_kept g.C.PartialEq.eq g.C.Keyed.key_of g.met.C.Value.exact g.met.C.Eq.laws.refl a kept c.pop_front.new.self x first slot (c.number.result + 1) least (ap (λ n. n + 1) c.number.ensures.number) c.relocate.new.self
     c.relocate.ensures.here c.relocate.ensures.other c.relocate.ensures.others (omega arith))

@@ -1,0 +1,18 @@
+use Rattle.std.proofs.lemmas.Result.{on_ok_weaker, IfOk-weaker}
+use Rattle.bean_queue.proofs.Called.{called-there, quiet-state, quiet-reply}
+use Rattle.bean_queue.proofs.logic.Logic.carry_out_quietly.Goals as goal
+
+pub quiet_row-requires-clause-there : goal.quiet_row-requires-clause-there
+quiet_row-requires-clause-there g c = called-there c.args.self.now.now c.call.new.self.now c.args.key.session c.in_ok-call.ensures.now
+
+pub returns-clause-state : goal.returns-clause-state
+returns-clause-state g c =
+    on_ok_weaker c.quiet_row.result
+    (quiet-state c.args.op.now c.args.key c.args.self.now.now c.call.new.self.now c.quiet_row.new.self.now c.requires.quiet c.requires.calm c.in_ok-call.ensures.now)
+    c.quiet_row.ensures.state
+
+pub returns-clause-reply : goal.returns-clause-reply
+returns-clause-reply g c =
+    IfOk-weaker c.quiet_row.result _ _
+    (λ reply. quiet-reply c.args.op.now c.args.key c.args.self.now.now c.call.new.self.now reply c.requires.quiet c.requires.calm c.in_ok-call.ensures.now)
+    c.quiet_row.ensures.reply
