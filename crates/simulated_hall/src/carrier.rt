@@ -114,7 +114,7 @@ impl<O: Object> Carrier<O> {
         ensures ticket { self.new.ticket ≡ self.old.ticket }
         ensures stopped { OnErr result (most_calls ≤ self.new.calls) }
     {
-        self.driver.begin();
+        self.driver.begin(key.session != 0);
         let mut refused = None;
         for count in 0..MOST_CALLS {
             self.count()?;

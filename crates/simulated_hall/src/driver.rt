@@ -1,4 +1,4 @@
-ghost use Rattle.std.specs.Prelude.{◌≡◌, ◌<◌, true, is_some};
+ghost use Rattle.std.specs.Prelude.{◌≡◌, ◌<◌, true, is_some, IfSome};
 ghost use Rattle.ballot.specs.Members.{is_member};
 ghost use Rattle.slot_log.specs.Decisions.{next_decided};
 ghost use Rattle.network.specs.Networks.{node_of, has_mail};
@@ -17,6 +17,9 @@ const DRAWN_CALLS: u32 = 2_000;
 
 /// The commands for which calls may be drawn, since what a restarted node has to learn again grows with them.
 const ROUGH_COMMANDS: u32 = 1_000;
+
+/// Before a request, so much of what waits at the nodes is done; what is left waits for the next one.
+const CATCH_UP: u32 = 64;
 
 /// So many calls at most are drawn for one command.
 const LONGEST_STORM: u32 = 300;
@@ -57,6 +60,8 @@ pub(crate) struct Driver {
     storm: u32,
     /// The letters that are on their way are lost.
     loses: bool,
+    /// So much of what waits is done before the command goes its shortest way.
+    behind: u32,
     /// How often nothing was left to deliver.
     idle: u32,
     round: Round,
@@ -70,14 +75,17 @@ impl Driver {
             commands: 0,
             storm: 0,
             loses: false,
+            behind: 0,
             idle: 0,
             round: Round::Restart,
         }
     }
 
-    /// Another command is to be carried.
-    pub fn begin(&mut self) {
+    /// Another command is to be carried: a request, or a second of the clock. While seconds pass nobody waits for the
+    /// nodes that aren't needed.
+    pub fn begin(&mut self, is_request: bool) {
         self.commands = self.commands.saturating_add(1);
+        self.behind = if is_request { CATCH_UP } else { 0 };
         self.idle = 0;
         self.round = Round::Restart;
         self.storm = 0;
@@ -98,7 +106,8 @@ impl Driver {
             return self.drawn(hall.members());
         }
         if count == self.storm {
-            self.loses = self.schedule.pick(2) == 0;
+            self.loses = self.storm > 0 && self.schedule.pick(2) == 0;
+            return Call::Wake(HOME);
         }
         self.calm(hall)
     }
@@ -122,26 +131,46 @@ impl Driver {
         }
     }
 
-    // What there is to do, or where there is nothing what may bring some.
+    // What there is to do, or where there is nothing what may bring some. Where it is not behind, node 1 proposes and
+    // performs as soon as it can.
     fn calm<O: Object>(&mut self, hall: &Hall<O>) -> Call
         requires { is_member hall.now.nodes.network.members 1 ≡ true }
         ensures { is_member hall.now.nodes.network.members (node_called result) ≡ true }
     {
-        if let Some(node) = first_with_mail(hall) {
-            return if self.loses {
-                Call::Lose(node)
-            } else {
-                Call::Deliver(node)
-            };
+        if self.behind == 0 && hall.can_perform(HOME) {
+            return Call::Perform(HOME);
         }
-        self.loses = false;
-        if let Some(node) = first_to_perform(hall) {
-            return Call::Perform(node);
+        if self.behind == 0 && hall.can_propose(HOME) {
+            return Call::Propose(HOME);
         }
-        if hall.can_propose(HOME) {
+        if let Some(call) = self.waiting(hall) {
+            self.behind = self.behind.saturating_sub(1);
+            return call;
+        }
+        if self.behind > 0 {
+            self.behind = 0;
             return Call::Propose(HOME);
         }
         self.rouse(hall.members())
+    }
+
+    // What the first letter that is on its way asks for, or the first decision that is to be performed.
+    fn waiting<O: Object>(&mut self, hall: &Hall<O>) -> Option<Call>
+        ensures { IfSome result (λ call.
+            is_member hall.now.nodes.network.members (node_called call) ≡ true) }
+    {
+        if let Some(node) = first_with_mail(hall) {
+            return if self.loses {
+                Some(Call::Lose(node))
+            } else {
+                Some(Call::Deliver(node))
+            };
+        }
+        self.loses = false;
+        match first_to_perform(hall) {
+            Some(node) => Some(Call::Perform(node)),
+            None => None,
+        }
     }
 
     // What may bring something to do.
