@@ -1,4 +1,2 @@
 pub mod OneClient
 pub mod Standing
-pub mod Stopping
-pub mod Driving

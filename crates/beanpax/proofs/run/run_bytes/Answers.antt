@@ -1,7 +1,4 @@
-use Rattle.std.proofs.Common.{◌⊎◌}
-use Rattle.object.specs.declared.command.Act.TheVariants.{Close}
 use Rattle.simulated_hall.specs.Standing.{StandsFor}
-use Rattle.simulated_hall.specs.Stopping.{HasNoCallLeft, IsStopped, RefusesAct}
 use Rattle.beanpax.specs.Sessions.{queue_with}
 use Rattle.beanpax.proofs.Obeyed.{ClosesOf}
 use Rattle.beanpax.proofs.Served.{served, served_partly, nothing_served}
@@ -12,10 +9,10 @@ returns-in_err-simulation-clause-breaks_off g c = nothing_served _ _ _ c.front_i
 
 pub returns-clause-answers : goal.returns-clause-answers
 returns-clause-answers g c =
-    served (λ s. StandsFor (queue_with _) s.hall) (λ old new op. IsStopped (queue_with _) _ old.hall new.hall op) (ClosesOf (λ s. StandsFor (queue_with _) s.hall) (λ old new. HasNoCallLeft new.hall ⊎ RefusesAct _ old.hall.hall old.hall.ticket Close)) c.in_ok-simulation.simulation c.serve.new.service _ _ _ _ c.serve.result
-    c.in_ok-simulation.ensures.stands c.serve.ensures.ok
+    served (λ s. StandsFor (queue_with _) s.hall) (ClosesOf (λ s. StandsFor (queue_with _) s.hall)) c.in_ok-simulation.simulation c.serve.new.service _ _ _ _ c.serve.result
+    c.in_ok-simulation.ensures c.serve.ensures.ok
 
 pub returns-clause-breaks_off : goal.returns-clause-breaks_off
 returns-clause-breaks_off g c =
-    served_partly (λ s. StandsFor (queue_with _) s.hall) (λ old new op. IsStopped (queue_with _) _ old.hall new.hall op) (ClosesOf (λ s. StandsFor (queue_with _) s.hall) (λ old new. HasNoCallLeft new.hall ⊎ RefusesAct _ old.hall.hall old.hall.ticket Close)) c.in_ok-simulation.simulation c.serve.new.service _ _ _ _ c.serve.result _
-    c.front_item.ensures c.in_ok-simulation.ensures.stands c.serve.ensures.all_was_told c.serve.ensures.breaks_off c.serve.ensures.stopped c.serve.ensures.out_of_memory
+    served_partly (λ s. StandsFor (queue_with _) s.hall) (ClosesOf (λ s. StandsFor (queue_with _) s.hall)) c.in_ok-simulation.simulation c.serve.new.service _ _ _ _ c.serve.result _
+    c.front_item.ensures c.in_ok-simulation.ensures c.serve.ensures.all_was_told c.serve.ensures.breaks_off c.serve.ensures.stopped c.serve.ensures.out_of_memory
