@@ -1,6 +1,7 @@
 //! Clients at the ends of pipes, and a clock that doesn't sleep.
 use node_threads::{Accept, Seconds};
-use session::{Failed, Reading, Writing};
+use session::{ByteOut, Failed, Reading, Writing};
+use std::alloc::Global;
 use std::fs::Files;
 use std::io::{PipeReader, PipeWriter, Read, Write, pipe};
 use std::sync::atomic::{AtomicBool, Ordering};
@@ -31,13 +32,40 @@ impl Client {
     /// Whether the next bytes that it hears are these.
     pub fn hears(&mut self, reply: &[u8]) -> bool {
         for byte in reply {
-            let mut heard = [0];
-            match self.from.read(&mut heard) {
-                Ok(1) if heard[0] == *byte => {}
-                _ => return false,
+            if self.next_byte() != Some(*byte) {
+                return false;
             }
         }
         true
+    }
+
+    /// The number that it hears next, with the byte behind it.
+    pub fn number(&mut self) -> Option<u64> {
+        let mut number: u64 = 0;
+        for _ in 0..20u32 {
+            let byte = self.next_byte()?;
+            if !byte.is_ascii_digit() {
+                return Some(number);
+            }
+            let digit = u64::from(byte.saturating_sub(b'0'));
+            number = number.checked_mul(10)?.checked_add(digit)?;
+        }
+        None
+    }
+
+    /// Sends no more. What it is told is to be read.
+    pub fn hang_up(self) -> PipeReader {
+        let Client { to, from } = self;
+        drop(to);
+        from
+    }
+
+    fn next_byte(&mut self) -> Option<u8> {
+        let mut heard = [0];
+        match self.from.read(&mut heard) {
+            Ok(1) => Some(heard[0]),
+            _ => None,
+        }
     }
 }
 
@@ -51,18 +79,32 @@ pub fn connect(rt: &impl Files) -> Result<(Client, Served), Fail> {
     ))
 }
 
-/// Clients that come one after the other, the last of the list first.
-#[derive(Drop)]
-pub struct Queued {
-    pub clients: Vec<Served>,
+/// A client that has sent this and sends no more, and what serves it.
+pub fn connect_once(rt: &impl Files, sent: &[u8]) -> Result<(PipeReader, Served), Fail> {
+    let (mut client, served) = connect(rt)?;
+    let _ = client.says(sent);
+    Ok((client.hang_up(), served))
 }
 
-impl Accept for Queued {
+/// All that a client was told, when the server has gone.
+pub fn told(alloc: Global, mut from: PipeReader) -> Result<Vec<u8>, Fail> {
+    let mut told = Vec::new(alloc);
+    from.read_to_end(&mut told)?;
+    Ok(told)
+}
+
+/// Clients that come one after the other, the last of the list first.
+#[derive(Drop)]
+pub struct Queued<W> {
+    pub clients: Vec<(Reading<PipeReader>, W)>,
+}
+
+impl<W: ByteOut + Send + Drop> Accept for Queued<W> {
     type R = Reading<PipeReader>;
 
-    type W = Writing<PipeWriter>;
+    type W = W;
 
-    fn next(&mut self) -> Result<Option<Served>, Failed> {
+    fn next(&mut self) -> Result<Option<(Reading<PipeReader>, W)>, Failed> {
         Ok(self.clients.pop())
     }
 }

@@ -1,10 +1,10 @@
-//! A cluster of three nodes and two workers, and what it leaves.
+//! Clusters, and what they leave.
 use crate::clients::{Hasty, Queued, Served};
 use ballot::Members;
 use bean_queue::Queue;
 use chronicle::{CheckFault, ReadFault, What, check, read_text};
 use hall::Hall;
-use node_threads::{Ended, Gate, run_cluster};
+use node_threads::{Accept, Ended, Faults, Gate, Seconds, run_cluster, run_cluster_faulty};
 use std::alloc::{AllocError, Global};
 use std::sync::Wait;
 use std::sync::atomic::AtomicBool;
@@ -24,6 +24,32 @@ pub fn serve<R: Threads + Wait + Sync, G: Gate + Sync>(
         is_stopped,
     };
     Ok(run_cluster(rt, alloc, hall, Queued { clients }, seconds, 2, gate))
+}
+
+/// These nodes and so many workers, 1 to 64, serve the clients that come, while mishaps befall the nodes.
+pub fn serve_faulty<
+    R: Threads + Wait + Sync,
+    A: Accept + Drop,
+    T: Seconds + Send + Drop,
+    G: Gate + Sync,
+    F: Faults + Sync,
+>(
+    rt: &R,
+    alloc: Global,
+    members: Members,
+    workers: u32,
+    accept: A,
+    seconds: T,
+    gate: &G,
+    faults: &F,
+) -> Result<Ended<Queue>, AllocError> {
+    let hall = Hall::new(alloc, members)?;
+    let workers = if workers < 1 || workers > 64 {
+        1
+    } else {
+        workers
+    };
+    Ok(run_cluster_faulty(rt, alloc, hall, accept, seconds, workers, gate, faults))
 }
 
 /// Whether nothing is wrong with the dump, and something is where the first command of session 1 has another answer.
@@ -70,4 +96,15 @@ pub fn lines_of(alloc: Global, ended: &Ended<Queue>) -> Result<Vec<u8>, AllocErr
         }
     }
     Ok(lines)
+}
+
+/// Whether the dump has this line.
+pub fn has_line(alloc: Global, ended: &Ended<Queue>, wanted: &[u8]) -> Result<bool, AllocError> {
+    let mut text = Vec::new(alloc);
+    ended.hall.dump()?.write_text(&mut text)?;
+    Ok(
+        text.as_slice()
+            .split_inclusive(|byte| *byte == b'\n')
+            .any(|line| line == wanted),
+    )
 }

@@ -34,7 +34,7 @@ end
 ";
 
 /// Puts a job, and lets the thread that is held go on when it has heard of it.
-fn put_and_release(mut client: Client, hold: &Hold, is_stopped: &AtomicBool) -> bool {
+pub fn put_and_release(mut client: Client, hold: &Hold, is_stopped: &AtomicBool) -> bool {
     hold.await_held();
     let heard = client.asks(b"put 0 0 9 1\r\nx\r\n", b"INSERTED 1\r\n");
     hold.release();

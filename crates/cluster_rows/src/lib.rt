@@ -10,4 +10,16 @@ mod gates;
 #[cfg(test)]
 mod held_rows;
 #[cfg(test)]
+mod leaving_rows;
+#[cfg(test)]
+mod mishap_rows;
+#[cfg(test)]
+mod mishaps;
+#[cfg(test)]
+mod missed_rows;
+#[cfg(test)]
+mod narrow;
+#[cfg(test)]
 mod served_rows;
+#[cfg(test)]
+mod soak_rows;

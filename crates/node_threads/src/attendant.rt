@@ -3,6 +3,7 @@ ghost use Rattle.session.specs.declared.faults.ServiceFault.TheVariants.{Stopped
 ghost use Rattle.hall.specs.Tickets.{with_act, with_noted};
 
 use crate::bell::Patience;
+use crate::faults::Faults;
 use crate::gate::{Actor, Gate, Point};
 use crate::shared::{HandedIn, Shared};
 use bean_queue::{Op, Reply};
@@ -14,10 +15,11 @@ use std::sync::ledger::{Ledger, Share};
 
 /// A worker with the ticket of the client that it serves: it hands in what the client asks for, and waits for the answer.
 #[derive(Drop)]
-pub(crate) struct Attendant<'a, O: Object, S: Ledger, C: Ledger, R, G> {
+pub(crate) struct Attendant<'a, O: Object, S: Ledger, C: Ledger, R, G, F> {
     pub(crate) rt: &'a R,
     pub(crate) shared: &'a Shared<O, S, C>,
     pub(crate) gate: &'a G,
+    pub(crate) faults: &'a F,
     pub(crate) worker: u32,
     /// The node at which it hands in.
     pub(crate) node: u8,
@@ -28,8 +30,15 @@ pub(crate) struct Attendant<'a, O: Object, S: Ledger, C: Ledger, R, G> {
     ghost one_part: { commands.parts ≡ 1 },
 }
 
-impl<'a, O: Object<Op = Op, Reply = Reply>, S: Ledger, C: Ledger, R: Wait, G: Gate> Service
-    for Attendant<'a, O, S, C, R, G> {
+impl<
+    'a,
+    O: Object<Op = Op, Reply = Reply>,
+    S: Ledger,
+    C: Ledger,
+    R: Wait,
+    G: Gate,
+    F: Faults,
+> Service for Attendant<'a, O, S, C, R, G, F> {
     ghost use Rattle.node_threads.specs.Attending.{Adds, TakesLeave, attendance_of};
 
     ghost asks = { λ old op result new. Adds
@@ -52,7 +61,8 @@ impl<'a, O: Object<Op = Op, Reply = Reply>, S: Ledger, C: Ledger, R: Wait, G: Ga
         for _ in self.rt.forever() {
             match self.hand_in(Act::Close) {
                 Ok(_) => {
-                    self.shared.leave(self.rt, self.gate, self.worker);
+                    self.shared
+                        .leave(self.rt, self.gate, self.faults, self.worker);
                     return Ok(());
                 }
                 Err(ServiceFault::Refused) => std::thread::yield_now(),
@@ -63,7 +73,15 @@ impl<'a, O: Object<Op = Op, Reply = Reply>, S: Ledger, C: Ledger, R: Wait, G: Ga
     }
 }
 
-impl<'a, O: Object, S: Ledger, C: Ledger, R: Wait, G: Gate> Attendant<'a, O, S, C, R, G> {
+impl<'a, O: Object, S: Ledger, C: Ledger, R: Wait, G: Gate, F: Faults> Attendant<
+    'a,
+    O,
+    S,
+    C,
+    R,
+    G,
+    F,
+> {
     // Hands in the session's next command.
     fn hand_in(&mut self, act: Act<O::Op>) -> Result<HandedIn, ServiceFault>
         ensures ticket { OnOk result (self.new.ticket ≡ with_act self.old.ticket act) }
@@ -99,6 +117,7 @@ impl<'a, O: Object, S: Ledger, C: Ledger, R: Wait, G: Gate> Attendant<'a, O, S, 
         let Ok(()) = self.shared.note_answer(
             self.rt,
             self.gate,
+            self.faults,
             &mut self.ticket,
             self.worker,
             handed_in,

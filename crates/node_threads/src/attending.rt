@@ -8,6 +8,7 @@ ghost use Rattle.node_threads.specs.Attending.{Adds, TakesLeave, attendance_of};
 
 use crate::attendant::Attendant;
 use crate::bell::Patience;
+use crate::faults::Faults;
 use crate::gate::Gate;
 use crate::shared::Shared;
 use crate::watched_reader::WatchedReader;
@@ -44,6 +45,7 @@ pub fn attend<
     C: Ledger,
     R: Wait,
     G: Gate,
+    F: Faults,
     I: ByteIn,
     W: ByteOut,
 >(
@@ -56,6 +58,7 @@ pub fn attend<
     writer: &mut W,
     desk: Desk,
     gate: &G,
+    faults: &F,
 ) -> Attended<O, C, I>
     requires { commands.parts ≡ 1 }
     ensures one_part { result.commands.parts ≡ 1 }
@@ -111,6 +114,7 @@ pub fn attend<
         rt,
         shared,
         gate,
+        faults,
         worker: desk.worker,
         node: desk.node,
         ticket,

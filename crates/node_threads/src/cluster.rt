@@ -6,6 +6,7 @@ use crate::accept::Accept;
 use crate::clock::Seconds;
 use crate::cluster_error::ClusterError;
 use crate::comparing::are_its_tickets;
+use crate::faults::{Faults, NoFaults};
 use crate::gate::Gate;
 use crate::places::Places;
 use crate::shared::Shared;
@@ -45,6 +46,33 @@ pub fn run_cluster<
     ensures accounted { IsAccountedFor result.hall (all_tickets result.tickets.items) result.fault }
     ensures untouched { result.fault ≡ Some OutOfMemory → result.hall ≡ hall }
 {
+    run_cluster_faulty(rt, alloc, hall, accept, seconds, workers, gate, &NoFaults)
+}
+
+/// Does the same while mishaps befall the nodes: before each turn of a node, whoever takes it, one is chosen.
+pub fn run_cluster_faulty<
+    O: Object<Op = Op, Reply = Reply> + Send,
+    A: Accept + Drop,
+    T: Seconds + Send + Drop,
+    G: Gate + Sync,
+    F: Faults + Sync,
+    R: Threads + Wait + Sync,
+>(
+    rt: &R,
+    alloc: Global,
+    hall: Hall<O>,
+    accept: A,
+    seconds: T,
+    workers: u32,
+    gate: &G,
+    faults: &F,
+) -> Ended<O>
+    requires none { hall.book ≡ [] }
+    requires some { 1 ≤ workers }
+    requires few { workers ≤ 64 }
+    ensures accounted { IsAccountedFor result.hall (all_tickets result.tickets.items) result.fault }
+    ensures untouched { result.fault ≡ Some OutOfMemory → result.hall ≡ hall }
+{
     let Ok(room) = Room::new(alloc, &hall, workers) else {
         return Ended {
             hall,
@@ -53,15 +81,19 @@ pub fn run_cluster<
         };
     };
     let parts = u64::from(workers) + 1;
-    let outside = Outside { accept, seconds };
-    run_counted::<O, Brand, Brand, A, T, G, R>(
+    let outside = Outside {
+        accept,
+        seconds,
+        gate,
+        faults,
+    };
+    run_counted::<O, Brand, Brand, A, T, G, F, R>(
         rt,
         alloc,
         hall,
         room,
         outside,
         workers,
-        gate,
         Blank::new(parts),
         Blank::new(parts),
     )
@@ -92,11 +124,13 @@ impl<O: Object, A: Accept> Room<O, A> {
     }
 }
 
-// A clock, and clients.
+// What comes from outside: clients, the seconds of the clock, who is told where threads stand, and mishaps.
 #[derive(Drop)]
-struct Outside<A, T> {
+struct Outside<'a, A, T, G, F> {
     accept: A,
     seconds: T,
+    gate: &'a G,
+    faults: &'a F,
 }
 
 // Runs the cluster over counts of sessions and of commands.
@@ -107,15 +141,15 @@ fn run_counted<
     A: Accept + Drop,
     T: Seconds + Send + Drop,
     G: Gate + Sync,
+    F: Faults + Sync,
     R: Threads + Wait + Sync,
 >(
     rt: &R,
     alloc: Global,
     hall: Hall<O>,
     room: Room<O, A>,
-    outside: Outside<A, T>,
+    outside: Outside<'_, A, T, G, F>,
     workers: u32,
-    gate: &G,
     sessions: Blank,
     commands: Blank,
 ) -> Ended<O>
@@ -146,7 +180,8 @@ fn run_counted<
         alloc,
         shared: &shared,
         clients: &receiver,
-        gate,
+        gate: outside.gate,
+        faults: outside.faults,
     };
     let door = Door {
         accept: outside.accept,

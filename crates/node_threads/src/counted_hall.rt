@@ -1,6 +1,7 @@
 ghost use Rattle.std.specs.Prelude.{◌≡◌, ◌+◌, ◌<◌, [], ℕ, length, sum, IfOk, OnOk, OnErr};
 ghost use Rattle.hall.specs.Tickets.{new_ticket, with_act};
 
+use crate::faults::Mishap;
 use crate::turn::Watch;
 use hall::{Hall, HallError, Ticket};
 use object::{Act, Object};
@@ -124,10 +125,10 @@ impl<O: Object, S: Ledger, C: Ledger> CountedHall<O, S, C> {
         hall.resubmit(ticket, node)
     }
 
-    /// One turn of a node.
-    pub(crate) fn take_turn(&mut self, watch: &mut Watch) -> Result<(), HallError> {
+    /// One turn of a node, after a mishap.
+    pub(crate) fn take_turn(&mut self, watch: &mut Watch, mishap: Mishap) -> Result<(), HallError> {
         let CountedHall { hall, .. } = self;
-        watch.take_turn(hall)
+        watch.take_turn(hall, mishap)
     }
 
     /// Hands in a second of the clock.

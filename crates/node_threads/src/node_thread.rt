@@ -1,4 +1,5 @@
 use crate::bell::Patience;
+use crate::faults::Faults;
 use crate::gate::Gate;
 use crate::shared::Shared;
 use object::Object;
@@ -6,15 +7,16 @@ use std::sync::Wait;
 use std::sync::ledger::Ledger;
 
 /// What the thread of a node does: it takes its turn when there is something for it, until all is over.
-pub(crate) fn run_node<O: Object, S: Ledger, C: Ledger, R: Wait, G: Gate>(
+pub(crate) fn run_node<O: Object, S: Ledger, C: Ledger, R: Wait, G: Gate, F: Faults>(
     rt: &R,
     shared: &Shared<O, S, C>,
     node: u8,
     gate: &G,
+    faults: &F,
 ) {
     let mut patience = Patience::new();
     for _ in rt.forever() {
-        let has_more = shared.take_own_turn(rt, node, gate);
+        let has_more = shared.take_own_turn(rt, node, gate, faults);
         if shared.is_over() {
             return;
         }

@@ -5,6 +5,7 @@ mod helping;
 
 use crate::bell::Patience;
 use crate::counted_hall::CountedHall;
+use crate::faults::Faults;
 use crate::gate::Gate;
 use crate::places::Places;
 use hall::{Hall, HallError, Ticket};
@@ -123,10 +124,11 @@ impl<O: Object, S: Ledger, C: Ledger> Shared<O, S, C> {
 
     /// Waits for the answer to a session's last command, and notes it in the ticket. At each second without one the
     /// command is handed in again, at the next node.
-    pub(crate) fn note_answer<R: Wait, G: Gate>(
+    pub(crate) fn note_answer<R: Wait, G: Gate, F: Faults>(
         &self,
         rt: &R,
         gate: &G,
+        faults: &F,
         ticket: &mut Ticket<O>,
         worker: u32,
         handed_in: HandedIn,
@@ -138,11 +140,11 @@ impl<O: Object, S: Ledger, C: Ledger> Shared<O, S, C> {
     {
         let mut handed_in = handed_in;
         for _ in rt.forever() {
-            if !self.help(rt, gate, worker, handed_in.work) {
+            if !self.help(rt, gate, faults, worker, handed_in.work) {
                 self.places.wait_as_worker(rt, worker, patience);
             }
             if self.look_for_answer(rt, ticket, &mut handed_in)? {
-                self.tidy(rt, gate, worker);
+                self.tidy(rt, gate, faults, worker);
                 return Ok(());
             }
         }

@@ -5,6 +5,7 @@ use crate::accept::Accept;
 use crate::attending::Desk;
 use crate::clock::{Seconds, run_clock};
 use crate::cluster_error::ClusterError;
+use crate::faults::Faults;
 use crate::gate::Gate;
 use crate::node_thread::run_node;
 use crate::shared::Shared;
@@ -22,12 +23,13 @@ use std::thread::{Scope, Threads};
 
 /// What the threads of a cluster have in common.
 #[derive(Drop)]
-pub(crate) struct Common<'s, O: Object, S: Ledger, C: Ledger, I, W, R, G> {
+pub(crate) struct Common<'s, O: Object, S: Ledger, C: Ledger, I, W, R, G, F> {
     pub(crate) rt: &'s R,
     pub(crate) alloc: Global,
     pub(crate) shared: &'s Shared<O, S, C>,
     pub(crate) clients: &'s Receiver<(I, W), Global>,
     pub(crate) gate: &'s G,
+    pub(crate) faults: &'s F,
 }
 
 impl<
@@ -39,7 +41,8 @@ impl<
     W: ByteOut + Drop,
     R: Wait,
     G: Gate,
-> Common<'s, O, S, C, I, W, R, G> {
+    F: Faults,
+> Common<'s, O, S, C, I, W, R, G, F> {
     // What the thread of a worker does.
     fn work(&self, worker: Worker<O, S, C>, desk: Desk) -> Worker<O, S, C> {
         worker.serve_clients(
@@ -49,6 +52,7 @@ impl<
             self.clients,
             desk,
             self.gate,
+            self.faults,
         )
     }
 
@@ -109,8 +113,9 @@ pub(crate) fn run_threads<
     T: Seconds + Send + Drop + 's,
     R: Threads + Wait + Sync,
     G: Gate + Sync,
+    F: Faults + Sync,
 >(
-    common: &'s Common<'s, O, S, C, A::R, A::W, R, G>,
+    common: &'s Common<'s, O, S, C, A::R, A::W, R, G, F>,
     nodes: u8,
     seconds: T,
     workers: u32,
@@ -161,9 +166,10 @@ fn start_nodes_and_clock<
     T: Seconds + Send + Drop + 's,
     R: Wait + Sync,
     G: Gate + Sync,
+    F: Faults + Sync,
 >(
     scope: &Scope<'s, E>,
-    common: &'s Common<'s, O, S, C, I, W, R, G>,
+    common: &'s Common<'s, O, S, C, I, W, R, G, F>,
     nodes: u8,
     seconds: T,
 ) -> Result<(), ClusterError>
@@ -173,10 +179,11 @@ fn start_nodes_and_clock<
         rt,
         shared,
         gate,
+        faults,
         ..
     } = common;
     for node in 1..=nodes {
-        let started = scope.spawn(move || run_node(*rt, *shared, node, *gate));
+        let started = scope.spawn(move || run_node(*rt, *shared, node, *gate, *faults));
         if started.is_err() {
             return Err(ClusterError::ThreadFailed);
         }
@@ -198,9 +205,10 @@ fn run_workers<
     A: Accept + Drop,
     R: Threads + Wait + Sync,
     G: Gate + Sync,
+    F: Faults + Sync,
 >(
     scope: &Scope<'s, E>,
-    common: &'s Common<'s, O, S, C, A::R, A::W, R, G>,
+    common: &'s Common<'s, O, S, C, A::R, A::W, R, G, F>,
     desk: Desk,
     workers: u32,
     mut tally: Tally<O, S, C>,

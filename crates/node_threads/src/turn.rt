@@ -1,5 +1,6 @@
 ghost use Rattle.std.specs.Prelude.{◌≡◌};
 
+use crate::faults::Mishap;
 use ballot::Slot;
 use hall::{Hall, HallError};
 use object::Object;
@@ -17,6 +18,8 @@ pub(crate) struct Watch {
     /// Whether it reads its mail before it proposes.
     reads_first: bool,
     has_begun: bool,
+    /// How many turns it has had, 2^64 - 1 where there were more.
+    turns: u64,
     /// The last second that it has seen.
     second: u64,
     /// The least slot that it proposed a command for without a known decision, and for how many seconds in a row.
@@ -31,6 +34,7 @@ impl Watch {
             node,
             reads_first,
             has_begun: false,
+            turns: 0,
             second: 0,
             undecided: None,
             seconds: 0,
@@ -47,12 +51,23 @@ impl Watch {
         self.has_begun
     }
 
-    /// One turn of the node: it proposes a request, unless it is to read its mail first; receives what is in its mail, up to
-    /// 64 letters; and performs what was decided. At the start the first node wakes, and after a second each node says again
-    /// what it waits for.
-    pub(crate) fn take_turn<O: Object>(&mut self, hall: &mut Hall<O>) -> Result<(), HallError>
+    /// The number of the node's next turn, which it has now. Turns count from 1, and stay at 2^64 - 1.
+    pub(crate) fn count_turn(&mut self) -> u64 {
+        self.turns = self.turns.saturating_add(1);
+        self.turns
+    }
+
+    /// One turn of the node, after a mishap: it proposes a request, unless it is to read its mail first; receives what is in
+    /// its mail, up to 64 letters; and performs what was decided. At the start the first node wakes, and after a second each
+    /// node says again what it waits for.
+    pub(crate) fn take_turn<O: Object>(
+        &mut self,
+        hall: &mut Hall<O>,
+        mishap: Mishap,
+    ) -> Result<(), HallError>
         ensures book { hall.new.book ≡ hall.old.book }
     {
+        befall(hall, self.node, mishap);
         self.begin(hall)?;
         self.pass_second(hall)?;
         self.propose(hall)?;
@@ -112,6 +127,24 @@ impl Watch {
             1
         };
         self.undecided = undecided;
+    }
+}
+
+// The mishap befalls the node. One that the hall refuses is left out.
+fn befall<O: Object>(hall: &mut Hall<O>, node: u8, mishap: Mishap)
+    ensures book { hall.new.book ≡ hall.old.book }
+{
+    match mishap {
+        Mishap::None => {}
+        Mishap::Lose => {
+            let _ = hall.lose(node);
+        }
+        Mishap::Repeat => {
+            let _ = hall.repeat(node);
+        }
+        Mishap::Restart => {
+            let _ = hall.restart(node);
+        }
     }
 }
 

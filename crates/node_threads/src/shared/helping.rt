@@ -1,4 +1,5 @@
 use super::Shared;
+use crate::faults::Faults;
 use crate::gate::{Actor, Gate, Point};
 use crate::news::{MOST_NODES, News};
 use crate::turn::Watch;
@@ -18,11 +19,17 @@ const MOST_LEFT: u32 = 6;
 impl<O: Object, S: Ledger, C: Ledger> Shared<O, S, C> {
     /// One turn of a node by its own thread. Answers whether there is something for the node at once; where it was refused
     /// memory, it tries again when it is rung. Other nodes are told by a worker, where one helps.
-    pub(crate) fn take_own_turn<R: Wait, G: Gate>(&self, rt: &R, node: u8, gate: &G) -> bool {
+    pub(crate) fn take_own_turn<R: Wait, G: Gate, F: Faults>(
+        &self,
+        rt: &R,
+        node: u8,
+        gate: &G,
+        faults: &F,
+    ) -> bool {
         let Some(mut watch) = self.places.watch(rt, node) else {
             return false;
         };
-        let news = self.take_turn(rt, gate, &mut watch);
+        let news = self.take_turn(rt, gate, faults, &mut watch);
         drop(watch);
         if !self.places.has_helper() {
             news.tell_nodes(&self.places, Some(node));
@@ -33,10 +40,11 @@ impl<O: Object, S: Ledger, C: Ledger> Shared<O, S, C> {
     /// A worker takes the turns of the nodes that have something to do, this one first, until no node has or its bell has
     /// rung. Answers false where it need not look for its answer before it waits: another worker takes these turns; or the
     /// node was told, since it has its turns itself; or there was none to take, or memory was refused, and then all were.
-    pub(crate) fn help<R: Wait, G: Gate>(
+    pub(crate) fn help<R: Wait, G: Gate, F: Faults>(
         &self,
         rt: &R,
         gate: &G,
+        faults: &F,
         worker: u32,
         first: Option<u8>,
     ) -> bool {
@@ -50,7 +58,7 @@ impl<O: Object, S: Ledger, C: Ledger> Shared<O, S, C> {
         if !self.places.begin_to_help() {
             return false;
         }
-        let has_helped = self.take_turns(rt, gate, worker, first, MOST_TURNS);
+        let has_helped = self.take_turns(rt, gate, faults, worker, first, MOST_TURNS);
         self.places.end_help();
         if !has_helped {
             self.ring_nodes(rt);
@@ -60,7 +68,13 @@ impl<O: Object, S: Ledger, C: Ledger> Shared<O, S, C> {
 
     /// A worker that goes on takes some of the turns that are left, where workers do, and no other does. What is left then
     /// is told to the nodes.
-    pub(crate) fn tidy<R: Wait, G: Gate>(&self, rt: &R, gate: &G, worker: u32) {
+    pub(crate) fn tidy<R: Wait, G: Gate, F: Faults>(
+        &self,
+        rt: &R,
+        gate: &G,
+        faults: &F,
+        worker: u32,
+    ) {
         if !self.places.can_help() {
             return;
         }
@@ -68,16 +82,22 @@ impl<O: Object, S: Ledger, C: Ledger> Shared<O, S, C> {
             return;
         };
         if self.places.begin_to_help() {
-            let _ = self.take_turns(rt, gate, worker, first, MOST_LEFT);
+            let _ = self.take_turns(rt, gate, faults, worker, first, MOST_LEFT);
             self.places.end_help();
             self.ring_nodes(rt);
         }
     }
 
     /// A worker hands in its client's end, for which it doesn't wait.
-    pub(crate) fn leave<R: Wait, G: Gate>(&self, rt: &R, gate: &G, worker: u32) {
+    pub(crate) fn leave<R: Wait, G: Gate, F: Faults>(
+        &self,
+        rt: &R,
+        gate: &G,
+        faults: &F,
+        worker: u32,
+    ) {
         if self.places.can_help() {
-            self.tidy(rt, gate, worker);
+            self.tidy(rt, gate, faults, worker);
         } else {
             self.ring_nodes(rt);
         }
@@ -99,10 +119,11 @@ impl<O: Object, S: Ledger, C: Ledger> Shared<O, S, C> {
     }
 
     // Takes turns, so many at most, as long as there are some and the worker's bell hasn't rung.
-    fn take_turns<R: Wait, G: Gate>(
+    fn take_turns<R: Wait, G: Gate, F: Faults>(
         &self,
         rt: &R,
         gate: &G,
+        faults: &F,
         worker: u32,
         first: u8,
         most: u32,
@@ -115,7 +136,7 @@ impl<O: Object, S: Ledger, C: Ledger> Shared<O, S, C> {
                 return has_helped;
             };
             let node = watch.node();
-            let news = self.take_turn(rt, gate, &mut watch);
+            let news = self.take_turn(rt, gate, faults, &mut watch);
             drop(watch);
             if news.was_refused() {
                 return false;
@@ -181,13 +202,21 @@ impl<O: Object, S: Ledger, C: Ledger> Shared<O, S, C> {
         watch
     }
 
-    // One turn of a node. The workers whose clients were answered are told when the lock is free.
-    fn take_turn<R: Wait, G: Gate>(&self, rt: &R, gate: &G, watch: &mut Watch) -> News {
+    // One turn of a node, after the mishap that is chosen for it. The workers whose clients were answered are told when the
+    // lock is free.
+    fn take_turn<R: Wait, G: Gate, F: Faults>(
+        &self,
+        rt: &R,
+        gate: &G,
+        faults: &F,
+        watch: &mut Watch,
+    ) -> News {
         let node = watch.node();
         gate.at(Actor::Node(node), Point::Turn);
+        let mishap = faults.choose(node, watch.count_turn());
         let mut guard = self.lock(rt);
         let answers = guard.hall().answer_count();
-        let went = guard.take_turn(watch).is_ok();
+        let went = guard.take_turn(watch, mishap).is_ok();
         let mut news = News::since(guard.hall(), answers, &self.places);
         drop(guard);
         if !went {

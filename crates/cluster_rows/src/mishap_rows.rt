@@ -1,0 +1,122 @@
+//! Clients are answered while nodes restart, and letters are lost or come again.
+use crate::clients::{Hasty, Queued, Served, connect, connect_once, told};
+use crate::clusters::{is_explained, serve_faulty};
+use crate::gates::{Bounded, Hold, HoldsChoice};
+use crate::held_rows::put_and_release;
+use crate::mishaps::{Counted, RestartsOnce};
+use ballot::Members;
+use node_threads::Accept;
+use session::{Failed, Reading, Writing};
+use std::io::{PipeReader, PipeWriter};
+use std::sync::atomic::{AtomicBool, Ordering};
+use std::test::Fail;
+use std::thread;
+
+/// So often a thread looks whether it may go on.
+const MOST_LOOKS: u64 = 100_000_000;
+
+/// Clients, the last of whom comes when all three nodes have restarted.
+#[derive(Drop)]
+struct AfterRestarts<'a> {
+    clients: Vec<Served>,
+    faults: &'a Counted<RestartsOnce>,
+}
+
+impl<'a> Accept for AfterRestarts<'a> {
+    type R = Reading<PipeReader>;
+
+    type W = Writing<PipeWriter>;
+
+    fn next(&mut self) -> Result<Option<Served>, Failed> {
+        if self.clients.len() == 1 {
+            for _ in 0..MOST_LOOKS {
+                if self.faults.restarts() == 3 {
+                    break;
+                }
+                thread::yield_now();
+            }
+        }
+        Ok(self.clients.pop())
+    }
+}
+
+/// The number of the job that a put was answered with, where that was all.
+fn inserted(told: &[u8]) -> Option<u64> {
+    let number = told.strip_prefix(b"INSERTED ")?.strip_suffix(b"\r\n")?;
+    std::str::from_utf8(number).ok()?.parse().ok()
+}
+
+// Five clients put a job each. Each node restarts once, and letters come again.
+#[test]
+fn nodes_restart_while_clients_put(rt: HostRuntime) -> Result<(), Fail> {
+    let alloc = rt.alloc();
+    let mut clients = Vec::new(alloc);
+    let mut puts = Vec::new(alloc);
+    for _ in 0..5u8 {
+        let (from, served) = connect_once(&rt, b"put 0 0 9 1\r\nx\r\n")?;
+        clients.push(served)?;
+        puts.push(from)?;
+    }
+    let is_stopped = AtomicBool::new(false);
+    let seconds = Hasty {
+        second: 0,
+        is_stopped: &is_stopped,
+    };
+    let gate = Bounded::new(&rt, 10_000);
+    let faults = Counted::new(alloc, RestartsOnce)?;
+    let accept = AfterRestarts {
+        clients,
+        faults: &faults,
+    };
+    let members = Members::new(3).unwrap();
+    let ended = serve_faulty(&rt, alloc, members, 2, accept, seconds, &gate, &faults)?;
+    let mut ids = Vec::new(alloc);
+    for from in puts {
+        ids.push(inserted(told(alloc, from)?.as_slice()))?;
+    }
+    ids.sort_unstable();
+    let is_explained = is_explained(alloc, &ended)?;
+    assert!(rt; ids.iter().copied().eq((1..=5).map(Some)));
+    assert!(rt; ended.fault.is_none());
+    assert!(rt; is_explained);
+    assert_eq!(rt; faults.restarts(), 3);
+    assert!(rt; faults.was_asked_in_turn(gate.turns_of_nodes()));
+    Ok(())
+}
+
+// A put is answered while node 1 is held where the mishap of its first turn is chosen. Tried: with the lock held over
+// the choice, the put isn't answered until the hold is given up.
+#[test]
+fn lock_held_while_choosing(rt: HostRuntime) -> Result<(), Fail> {
+    let alloc = rt.alloc();
+    let (client, served) = connect(&rt)?;
+    let clients = vec![in alloc; served]?;
+    let is_stopped = AtomicBool::new(false);
+    let seconds = Hasty {
+        second: 0,
+        is_stopped: &is_stopped,
+    };
+    let held = HoldsChoice {
+        node: 1,
+        hold: Hold::new(),
+    };
+    let members = Members::new(3).unwrap();
+    let (ended, heard) = thread::join(
+        &rt,
+        || serve_faulty(
+            &rt,
+            alloc,
+            members,
+            2,
+            Queued { clients },
+            seconds,
+            &held,
+            &held,
+        ),
+        || put_and_release(client, &held.hold, &is_stopped),
+    );
+    assert!(rt; heard);
+    assert!(rt; held.hold.was_released());
+    assert!(rt; ended?.fault.is_none());
+    Ok(())
+}
