@@ -26,33 +26,33 @@ unfolding answered
 answered_same same t op = waited_same same (next_key t) longest_wait (obeyed queue t (Do op))
 
 -- an ask that was answered
-pub obeys : (same : Op → Op → Bool) (before after : Talk QueueState → Type 0) (op : Op) (reply : Reply)
+pub obeys : (same : Op → Op → Bool) (before after : Talk QueueState → Type 0) (stopped : Type 0) (op : Op) (reply : Reply)
     → ((t : Talk QueueState) → before t → (answered (queue_with same) t op).reply ≡ Some reply)
     → ((t : Talk QueueState) → before t → after (answered (queue_with same) t op).talk)
-    → Obeys before after op (Ok reply)
-obeys same before after op reply replied stood = λ t stands. (
+    → Obeys before after stopped op (Ok reply)
+obeys same before after stopped op reply replied stood = λ t stands. (
   ap (λ (s : Said QueueState Reply). s.reply) (sym (answered_same same t op)) ∙ replied t stands,
   subst (λ (s : Said QueueState Reply). after s.talk) (answered_same same t op) (stood t stands),
 )
 
--- the asks of a service that stands for a queue
-abbrev pub AsksOf : {S : Type 0} → (S → Talk QueueState → Type 0) → Asks S
-AsksOf stand old op result new = Obeys (stand old) (stand new) op result
+-- the asks of a service that stands for a queue, and stops for such reasons
+abbrev pub AsksOf : {S : Type 0} → (S → Talk QueueState → Type 0) → (S → S → Op → Type 0) → Asks S
+AsksOf stand stopped old op result new = Obeys (stand old) (stand new) (stopped old new op) op result
 
 -- and its end
-abbrev pub ClosesOf : {S : Type 0} → (S → Talk QueueState → Type 0) → Closes S
-ClosesOf stand old result new = Leaves (stand old) (stand new) result
+abbrev pub ClosesOf : {S : Type 0} → (S → Talk QueueState → Type 0) → (S → S → Type 0) → Closes S
+ClosesOf stand stopped old result new = Leaves (stand old) (stand new) (stopped old new) result
 
 -- what was answered is what the queue answers
-pub are_answers : {S : Type 0} (stand : S → Talk QueueState → Type 0) (old new : S) (ops : List Op) (answers : List Answer) (t : Talk QueueState) → Asked (AsksOf stand) old ops answers new → stand old t → AreAnswers t ops answers
-are_answers stand old new [] [] t asked stands = tt
-are_answers stand old new [] (a ∷ answers) t asked stands = absurd asked
-are_answers stand old new (op ∷ ops) [] t asked stands = absurd asked
-are_answers stand old new (op ∷ ops) (Refused ∷ answers) t asked stands =
-    are_answers stand asked.0 new ops answers t asked.2 (asked.1 t stands)
-are_answers stand old new (op ∷ ops) (Replied reply ∷ answers) t asked stands =
+pub are_answers : {S : Type 0} (stand : S → Talk QueueState → Type 0) (stopped : S → S → Op → Type 0) (old new : S) (ops : List Op) (answers : List Answer) (t : Talk QueueState) → Asked (AsksOf stand stopped) old ops answers new → stand old t → AreAnswers t ops answers
+are_answers stand stopped old new [] [] t asked stands = tt
+are_answers stand stopped old new [] (a ∷ answers) t asked stands = absurd asked
+are_answers stand stopped old new (op ∷ ops) [] t asked stands = absurd asked
+are_answers stand stopped old new (op ∷ ops) (Refused ∷ answers) t asked stands =
+    are_answers stand stopped asked.0 new ops answers t asked.2 (asked.1 t stands)
+are_answers stand stopped old new (op ∷ ops) (Replied reply ∷ answers) t asked stands =
     let one = asked.1 t stands in
-    (one.0, are_answers stand asked.0 new ops answers (answered queue t op).talk asked.2 one.1)
+    (one.0, are_answers stand stopped asked.0 new ops answers (answered queue t op).talk asked.2 one.1)
 
 -- and there is one answer to each operation, but that it may be refused
 pub one_answers : (t : Talk QueueState) (ops : List Op) (xs ys : List Answer) → AreAnswers t ops xs → AreAnswers t ops ys → map is_refused xs ≡ map is_refused ys → xs ≡ ys

@@ -1,107 +1,20 @@
 -- One thing is found of a text.
-use Rattle.std.proofs.Common.{◌≡◌, ◌≤◌, ◌∙◌, ℕ, arith, List, [], ◌∷◌, Some, None, sym, ap, subst}
-use Rattle.std.specs.List.{AllByRecursion}
-use Rattle.object.specs.declared.command.Act.{Act}
-use Rattle.object.specs.declared.command.Act.TheVariants.{Do, Close, Tick}
-use Rattle.object.specs.declared.command.Answer.{Answer}
-use Rattle.object.specs.declared.command.Key.{Key}
-use Rattle.object.specs.declared.command.Submission.{Submission}
+use Rattle.std.proofs.Common.{◌≡◌, ◌∙◌, ℕ, List, sym, ap, subst}
 use Rattle.bean_queue.specs.declared.op.Op.{Op}
-use Rattle.bean_queue.specs.declared.op.Op.TheVariants.{Put, Use, Watch, Ignore, Reserve, Delete, Touch, Release, Bury, Kick, KickJob, Peek, PeekReady, PeekDelayed, PeekBuried, ListTubes, ListTubeUsed, ListTubesWatched}
 use Rattle.bean_queue.specs.declared.reply.Reply.{Reply}
-use Rattle.bean_queue.specs.declared.reply.Reply.TheVariants.{Inserted, Using, Watching, NotIgnored, Reserved, DeadlineSoon, TimedOut, Deleted, NotFound, Released, Buried, Touched, KickedCount, Kicked, Found, Tubes, InternalError}
-use Rattle.chronicle.specs.Chronicles.{Chronicle, IsChronicle}
+use Rattle.chronicle.specs.Chronicles.{Chronicle}
 use Rattle.chronicle.specs.CheckFaults.{IsFaultAt}
 use Rattle.chronicle.specs.Checking.{IsFaultless}
 use Rattle.chronicle.specs.Dump.{dump_text}
-use Rattle.chronicle.specs.Fits.{FitsAct, FitsAnswer, FitsChronicle, FitsCommand, FitsKey, FitsOp, FitsReply, IsNumber}
 use Rattle.chronicle.specs.Reading.{IsBadLine}
-use Rattle.chronicle.specs.Values.{IsActValue, IsAnswerValue, IsChronicleValue, IsCommandValue, IsKeyValue, IsOpValue, IsReplyValue, IsShort}
+use Rattle.chronicle.specs.Values.{IsChronicleValue}
 use Rattle.chronicle.specs.declared.check_fault.What.{What}
 use Rattle.beanpax.specs.Verdicts.{IsVerdict, IsVerdictOn, IsVerdictOnDump}
 use Rattle.beanpax.specs.declared.verdict.Verdict.{Verdict}
 use Rattle.beanpax.specs.declared.verdict.Verdict.TheVariants.{Legal, BadLine, At}
 
--- ---- what a chronicle's values are, their texts can tell
-
-short : (n : ℕ) → IsShort n → IsNumber n
-short n is = omega (arith, is)
-
-key_fits : (key : Key) → IsKeyValue key → FitsKey key
-key_fits key is = (short key.session is.0, is.1)
-
-op_fits : (op : Op) → IsOpValue op → FitsOp op
-op_fits (Put pri delay ttr body) is = (short pri is.0, short delay is.1, short ttr is.2, is.3)
-op_fits (Use tube) is = is
-op_fits (Watch tube) is = is
-op_fits (Ignore tube) is = is
-op_fits (Reserve None) is = tt
-op_fits (Reserve (Some seconds)) is = short seconds is
-op_fits (Delete id) is = is
-op_fits (Touch id) is = is
-op_fits (Release id pri delay) is = (is.0, short pri is.1, short delay is.2)
-op_fits (Bury id pri) is = (is.0, short pri is.1)
-op_fits (Kick bound) is = short bound is
-op_fits (KickJob id) is = is
-op_fits (Peek id) is = is
-op_fits PeekReady is = tt
-op_fits PeekDelayed is = tt
-op_fits PeekBuried is = tt
-op_fits ListTubes is = tt
-op_fits ListTubeUsed is = tt
-op_fits ListTubesWatched is = tt
-
-act_fits : (act : Act Op) → IsActValue act → FitsAct act
-act_fits (Do op) is = op_fits op is
-act_fits Close is = tt
-act_fits Tick is = tt
-
-reply_fits : (reply : Reply) → IsReplyValue reply → FitsReply reply
-reply_fits (Inserted id) is = is
-reply_fits (Using tube) is = is
-reply_fits (Watching count) is = is
-reply_fits NotIgnored is = tt
-reply_fits (Reserved id body) is = is
-reply_fits DeadlineSoon is = tt
-reply_fits TimedOut is = tt
-reply_fits Deleted is = tt
-reply_fits NotFound is = tt
-reply_fits Released is = tt
-reply_fits Buried is = tt
-reply_fits Touched is = tt
-reply_fits (KickedCount count) is = is
-reply_fits Kicked is = tt
-reply_fits (Found id body) is = is
-reply_fits (Tubes names) is = is
-reply_fits InternalError is = tt
-
-submitted_fit : (submitted : List (Submission Op)) → AllByRecursion (λ (s : Submission Op). IsCommandValue s.command) submitted → AllByRecursion (λ (s : Submission Op). FitsCommand s.command) submitted
-submitted_fit [] is = tt
-submitted_fit (s ∷ more) is = ((key_fits s.command.key is.0.0, act_fits s.command.act is.0.1), submitted_fit more is.1)
-
-answers_fit : (answers : List (Answer Reply)) → AllByRecursion IsAnswerValue answers → AllByRecursion FitsAnswer answers
-answers_fit [] is = tt
-answers_fit (a ∷ more) is = ((key_fits a.to is.0.0, reply_fits a.reply is.0.1), answers_fit more is.1)
-
-order_fits : (order : List Key) → AllByRecursion IsKeyValue order → AllByRecursion FitsKey order
-order_fits [] is = tt
-order_fits (key ∷ more) is = (key_fits key is.0, order_fits more is.1)
-
-members_fit : (n : ℕ) → n ≤ 7 → IsNumber n
-members_fit n few = omega (arith, few)
-
-values_fit : (c : Chronicle Op Reply) → IsChronicleValue c → FitsChronicle c
-values_fit c is = record {
-  members = members_fit c.members is.chronicle.few;
-  submitted = submitted_fit c.submitted is.submitted;
-  answers = answers_fit c.answers is.answers;
-  order = order_fits c.order is.order;
-}
-
--- ---- and so one verdict is on a text
-
 module _
-    (one_chronicle : (c d : Chronicle Op Reply) → IsChronicle c → IsChronicle d → FitsChronicle c → FitsChronicle d → dump_text c ≡ dump_text d → c ≡ d)
+    (one_dump : (c d : Chronicle Op Reply) → IsChronicleValue c → IsChronicleValue d → dump_text c ≡ dump_text d → c ≡ d)
     (one_fault : (c : Chronicle Op Reply) (n m : ℕ) (v w : What) → IsFaultAt c n v → IsFaultAt c m w → (n ≡ m) × (v ≡ w))
     (faultless : (c : Chronicle Op Reply) (n : ℕ) (what : What) → IsFaultless c → IsFaultAt c n what → ⊥)
     (one_bad_line : (text : List ℕ) (n m : ℕ) → IsBadLine n text → IsBadLine m text → n ≡ m)
@@ -123,7 +36,7 @@ module _
 
     one_on_dump : (text : List ℕ) (v w : Verdict) → IsVerdictOnDump text v → IsVerdictOnDump text w → v ≡ w
     one_on_dump text v w (c, is_value, is_text, is) (d, other_value, other_text, other) =
-        let same = one_chronicle c d is_value.chronicle other_value.chronicle (values_fit c is_value) (values_fit d other_value) (is_text ∙ sym other_text) in
+        let same = one_dump c d is_value other_value (is_text ∙ sym other_text) in
         one_on d v w (subst (λ e. IsVerdictOn e v) same is) other
 
     no_dump : (text : List ℕ) (n : ℕ) (v w : Verdict) → IsBadLine n text → IsVerdictOnDump text v → w ≡ v

@@ -4,6 +4,7 @@ use Rattle.std.proofs.lemmas.List.{append-nil}
 use Rattle.std.proofs.KnownBytes.{Appends-nil, Consumes-nil}
 use Rattle.bean_codec.specs.declared.request.Request.TheVariants.{Do}
 use Rattle.bean_queue.specs.Queue.{QueueState}
+use Rattle.bean_queue.specs.declared.op.Op.{Op}
 use Rattle.session.specs.declared.faults.End.{End}
 use Rattle.session.specs.declared.faults.ServiceFault.{ServiceFault}
 use Rattle.session.specs.declared.faults.SessionFault.{SessionFault}
@@ -18,8 +19,8 @@ use Rattle.beanpax.proofs.Whole.{HasFront, reads_as_items}
 use Rattle.beanpax.proofs.Beginnings.{told_begins, begins, begins_first}
 use Rattle.beanpax.proofs.Obeyed.{AsksOf, are_answers}
 
-pub whole : {S : Type 0} (stand : S → Talk QueueState → Type 0) (old new : S) (input output : List ℕ) (end : End) → stand old (opened queue) → Whole (AsksOf stand) old new input output end → IsTold input output end
-whole stand old new input output end stands w = (w.1, (w.0, w.2, are_answers stand old new (operations w.0) w.1 (opened queue) w.3 stands, w.4))
+pub whole : {S : Type 0} (stand : S → Talk QueueState → Type 0) (stopped : S → S → Op → Type 0) (old new : S) (input output : List ℕ) (end : End) → stand old (opened queue) → Whole (AsksOf stand stopped) old new input output end → IsTold input output end
+whole stand stopped old new input output end stands w = (w.1, (w.0, w.2, are_answers stand stopped old new (operations w.0) w.1 (opened queue) w.3 stands, w.4))
 
 -- all is a beginning of it
 pub told_begins_told : (input output : List ℕ) (end : End) → IsTold input output end → BeginsTold input output
@@ -30,23 +31,23 @@ told_begins_told input output end t =
 pub nothing_begins : ((text : List ℕ) → HasFront text) → (input : List ℕ) → BeginsTold input []
 nothing_begins front input = let r = reads_as_items front input in (r.0, r.1, [], told_text r.0 [], r.2, ([], operations r.0, refl, tt), refl)
 
-pub stops_at : {S : Type 0} (stand : S → Talk QueueState → Type 0) (old new : S) (input output : List ℕ) → ((text : List ℕ) → HasFront text) → stand old (opened queue) → StopsAt (AsksOf stand) old new input output → BeginsTold input output
-stops_at stand old new input output front stands s =
-    let r = are_answers stand old s.4 (operations s.0) s.1 (opened queue) s.6 stands in
+pub stops_at : {S : Type 0} (stand : S → Talk QueueState → Type 0) (stopped : S → S → Op → Type 0) (old new : S) (input output : List ℕ) → ((text : List ℕ) → HasFront text) → stand old (opened queue) → StopsAt (AsksOf stand stopped) old new input output → BeginsTold input output
+stops_at stand stopped old new input output front stands s =
+    let r = are_answers stand stopped old s.4 (operations s.0) s.1 (opened queue) s.6 stands in
     begins_first front input output [] s.0 (Ok (Do s.2) ∷ []) s.3 s.1 s.5 r (append-nil output ∙ s.8)
 
-pub partly : {S : Type 0} (stand : S → Talk QueueState → Type 0) (old new : S) (input output : List ℕ) → ((text : List ℕ) → HasFront text) → stand old (opened queue) → Partly (AsksOf stand) old new input output → BeginsTold input output
-partly stand old new input output front stands p =
+pub partly : {S : Type 0} (stand : S → Talk QueueState → Type 0) (stopped : S → S → Op → Type 0) (old new : S) (input output : List ℕ) → ((text : List ℕ) → HasFront text) → stand old (opened queue) → Partly (AsksOf stand stopped) old new input output → BeginsTold input output
+partly stand stopped old new input output front stands p =
     let items = p.0 ++ p.1 in
-    let r = are_answers stand old new (operations items) p.2 (opened queue) p.6 stands in
+    let r = are_answers stand stopped old new (operations items) p.2 (opened queue) p.6 stands in
     let l = told_begins p.0 p.1 p.2 [] in
     begins_first front input output l.0 items [] p.3 p.2 (subst (λ is. ReadsFirst input is p.3) (sym (append-nil items)) p.4) r
     (ap (λ text. text ++ l.0) p.7 ∙ l.1 ∙ ap (λ xs. told_text items xs) (append-nil p.2))
 
-pub breaks_off : {S : Type 0} (stand : S → Talk QueueState → Type 0) (old new : S) (input output : List ℕ) → ((text : List ℕ) → HasFront text) → stand old (opened queue) → BreaksOff (AsksOf stand) old new input output → BeginsTold input output
-breaks_off stand old new input output front stands b =
+pub breaks_off : {S : Type 0} (stand : S → Talk QueueState → Type 0) (stopped : S → S → Op → Type 0) (old new : S) (input output : List ℕ) → ((text : List ℕ) → HasFront text) → stand old (opened queue) → BreaksOff (AsksOf stand stopped) old new input output → BeginsTold input output
+breaks_off stand stopped old new input output front stands b =
     let items = b.0 ++ b.1 in
-    let r = are_answers stand old new (operations items) b.2 (opened queue) b.8 stands in
+    let r = are_answers stand stopped old new (operations items) b.2 (opened queue) b.8 stands in
     begins_first front input output b.5 items [] b.3 b.2 (subst (λ is. ReadsFirst input is b.3) (sym (append-nil items)) b.6) r b.10
 
 -- Over streams: a is what the reader would give at first and b what it would now, h what the writer held at first and
@@ -60,36 +61,36 @@ either : {S : Type 0} (P : S → Type 0) (Q : S → End → Type 0) (R : Type 0)
 either P Q R broke went closes r new Ended (inl w) = broke w.1.0 w.1.1
 either P Q R broke went closes r new Ended (inr w) = went w.1.0 w.0 w.1.1
 
-pub served : {S : Type 0} (stand : S → Talk QueueState → Type 0) (closes : Closes S) (old new : S) (a b h k : Option (List ℕ)) (r : Result End SessionFault)
+pub served : {S : Type 0} (stand : S → Talk QueueState → Type 0) (stopped : S → S → Op → Type 0) (closes : Closes S) (old new : S) (a b h k : Option (List ℕ)) (r : Result End SessionFault)
     → stand old (opened queue)
-    → IfOk r (λ end. Over a b h k (λ input output. ClosedAfter closes (λ s. Whole (AsksOf stand) old s input output end) (Ok tt) new))
+    → IfOk r (λ end. Over a b h k (λ input output. ClosedAfter closes (λ s. Whole (AsksOf stand stopped) old s input output end) (Ok tt) new))
     → IfOk r (Answers a b h k)
-served stand closes old new a b h k (Ok end) stands o = over a b h k _ _ (λ input output w. whole stand old w.0 input output end stands w.1) o
-served stand closes old new a b h k (Err e) stands o = tt
+served stand stopped closes old new a b h k (Ok end) stands o = over a b h k _ _ (λ input output w. whole stand stopped old w.0 input output end stands w.1) o
+served stand stopped closes old new a b h k (Err e) stands o = tt
 
-pub served_partly : {S : Type 0} (stand : S → Talk QueueState → Type 0) (closes : Closes S) (old new : S) (a b h k : Option (List ℕ)) (r : Result End SessionFault) (Ended : End → Type 0)
+pub served_partly : {S : Type 0} (stand : S → Talk QueueState → Type 0) (stopped : S → S → Op → Type 0) (closes : Closes S) (old new : S) (a b h k : Option (List ℕ)) (r : Result End SessionFault) (Ended : End → Type 0)
     → ((text : List ℕ) → HasFront text)
     → stand old (opened queue)
-    → (r ≡ Err ReadFailed → Over a b h k (λ input output. ClosedOnce closes (λ s. Whole (AsksOf stand) old s input output End.Eof) new))
-    → (r ≡ Err WriteFailed → Over a b h k (λ input output. ClosedOnce closes (λ s. BreaksOff (AsksOf stand) old s input output) new))
-    → (r ≡ Err ServiceStopped → Over a b h k (λ input output. ClosedOnce closes (λ s. StopsAt (AsksOf stand) old s input output) new
-    ⊎ ((end : End) × ClosedAfter closes (λ s. Whole (AsksOf stand) old s input output end) (Err ServiceFault.Stopped) new × Ended end)))
-    → (r ≡ Err OutOfMemory → Over a b h k (λ input output. ClosedOnce closes (λ s. Partly (AsksOf stand) old s input output) new
-    ⊎ ((end : End) × ClosedAfter closes (λ s. Whole (AsksOf stand) old s input output end) (Err ServiceFault.Refused) new × Ended end)))
+    → (r ≡ Err ReadFailed → Over a b h k (λ input output. ClosedOnce closes (λ s. Whole (AsksOf stand stopped) old s input output End.Eof) new))
+    → (r ≡ Err WriteFailed → Over a b h k (λ input output. ClosedOnce closes (λ s. BreaksOff (AsksOf stand stopped) old s input output) new))
+    → (r ≡ Err ServiceStopped → Over a b h k (λ input output. ClosedOnce closes (λ s. StopsAt (AsksOf stand stopped) old s input output) new
+    ⊎ ((end : End) × ClosedAfter closes (λ s. Whole (AsksOf stand stopped) old s input output end) (Err ServiceFault.Stopped) new × Ended end)))
+    → (r ≡ Err OutOfMemory → Over a b h k (λ input output. ClosedOnce closes (λ s. Partly (AsksOf stand stopped) old s input output) new
+    ⊎ ((end : End) × ClosedAfter closes (λ s. Whole (AsksOf stand stopped) old s input output end) (Err ServiceFault.Refused) new × Ended end)))
     → OnErr r (Breaks a b h k)
-served_partly stand closes old new a b h k (Ok end) Ended front stands reading writing stopping memory = tt
-served_partly stand closes old new a b h k (Err ReadFailed) Ended front stands reading writing stopping memory =
-    over a b h k _ _ (λ input output w. told_begins_told input output End.Eof (whole stand old w.1.0 input output End.Eof stands w.1.1)) (reading refl)
-served_partly stand closes old new a b h k (Err WriteFailed) Ended front stands reading writing stopping memory =
-    over a b h k _ _ (λ input output w. breaks_off stand old w.1.0 input output front stands w.1.1) (writing refl)
-served_partly stand closes old new a b h k (Err ServiceStopped) Ended front stands reading writing stopping memory =
+served_partly stand stopped closes old new a b h k (Ok end) Ended front stands reading writing halted memory = tt
+served_partly stand stopped closes old new a b h k (Err ReadFailed) Ended front stands reading writing halted memory =
+    over a b h k _ _ (λ input output w. told_begins_told input output End.Eof (whole stand stopped old w.1.0 input output End.Eof stands w.1.1)) (reading refl)
+served_partly stand stopped closes old new a b h k (Err WriteFailed) Ended front stands reading writing halted memory =
+    over a b h k _ _ (λ input output w. breaks_off stand stopped old w.1.0 input output front stands w.1.1) (writing refl)
+served_partly stand stopped closes old new a b h k (Err ServiceStopped) Ended front stands reading writing halted memory =
     over a b h k _ _ (λ input output. either _ _ (BeginsTold input output)
-    (λ last. stops_at stand old last input output front stands)
-    (λ last end w. told_begins_told input output end (whole stand old last input output end stands w)) closes (Err ServiceFault.Stopped) new Ended) (stopping refl)
-served_partly stand closes old new a b h k (Err OutOfMemory) Ended front stands reading writing stopping memory =
+    (λ last. stops_at stand stopped old last input output front stands)
+    (λ last end w. told_begins_told input output end (whole stand stopped old last input output end stands w)) closes (Err ServiceFault.Stopped) new Ended) (halted refl)
+served_partly stand stopped closes old new a b h k (Err OutOfMemory) Ended front stands reading writing halted memory =
     over a b h k _ _ (λ input output. either _ _ (BeginsTold input output)
-    (λ last. partly stand old last input output front stands)
-    (λ last end w. told_begins_told input output end (whole stand old last input output end stands w)) closes (Err ServiceFault.Refused) new Ended) (memory refl)
+    (λ last. partly stand stopped old last input output front stands)
+    (λ last end w. told_begins_told input output end (whole stand stopped old last input output end stands w)) closes (Err ServiceFault.Refused) new Ended) (memory refl)
 
 -- nothing was read and nothing written
 pub nothing_served : {X E : Type 0} (r : Result X E) (a h : Option (List ℕ)) → ((text : List ℕ) → HasFront text) → OnErr r (Breaks a a h h)

@@ -1,5 +1,5 @@
 -- What the program tells of its end.
-use Rattle.std.specs.Prelude.{◌≡◌, ◌⊎◌, ℕ, Bool, true, false, Option, List, [], codes}
+use Rattle.std.specs.Prelude.{◌≡◌, ◌≢◌, ◌⊎◌, ℕ, Bool, true, false, Option, List, [], codes}
 use Rattle.std.specs.Bool.{⊤}
 use Rattle.std.specs.Io.KnownBytes.{Appends, IsAtEnd}
 use Rattle.session.specs.Streams.{AppendsBeginning}
@@ -44,6 +44,10 @@ IsRunFault input_failed output_failed ReadFailed = input_failed ≡ true
 IsRunFault input_failed output_failed WriteFailed = output_failed ≡ true
 IsRunFault input_failed output_failed fault = ⊥
 
+-- some text was told
+abbrev pub TellsSome : Option (List ℕ) → Option (List ℕ) → Type 0
+TellsSome held holds = (text : List ℕ) × (text ≢ []) × Appends held holds text
+
 -- a server has told at which port it listens, and nothing else
 abbrev pub HasListened : ServerOptions → Option (List ℕ) → Option (List ℕ) → Type 0
 HasListened options held holds = Appends held holds (listening_line options.port)
@@ -87,3 +91,7 @@ IsInspectionFault output_failed fault = ⊥
 pub record WritesText (old new : Option (List ℕ)) (has_failed : Bool) (text : List ℕ) : Type 0 where
   pub some : AppendsBeginning old new text
   pub whole : has_failed ≡ false → Appends old new text
+
+-- and this of some text
+abbrev pub WritesSome : Option (List ℕ) → Option (List ℕ) → Bool → Type 0
+WritesSome old new has_failed = (text : List ℕ) × (text ≢ []) × WritesText old new has_failed text

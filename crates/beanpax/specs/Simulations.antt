@@ -1,6 +1,5 @@
 -- A simulated hall as a service.
 use Rattle.std.specs.Prelude.{◌≡◌, Some, Result, Ok, Err}
-use Rattle.std.specs.Bool.{⊤}
 use Rattle.bean_queue.specs.declared.op.Op.{Op}
 use Rattle.bean_queue.specs.declared.reply.Reply.{Reply}
 use Rattle.bean_queue.specs.Queue.{QueueState}
@@ -10,15 +9,15 @@ use Rattle.simulated_hall.specs.OneClient.{Talk, answered, left}
 use Rattle.beanpax.specs.Sessions.{queue}
 
 -- Of how far one queue has come before and after: a reply is that of the queue, which then has come so far. Where the
--- operation is refused, the queue is where it was; and who is told that the hall stopped is told no more.
-abbrev pub Obeys : (before after : Talk QueueState → Type 0) → Op → Result Reply ServiceFault → Type 0
-Obeys before after op (Ok reply) =
+-- operation is refused, the queue is where it was; and the hall stops for one of its reasons alone.
+abbrev pub Obeys : (before after : Talk QueueState → Type 0) → Type 0 → Op → Result Reply ServiceFault → Type 0
+Obeys before after stopped op (Ok reply) =
     (t : Talk QueueState) → before t → ((answered queue t op).reply ≡ Some reply) × after (answered queue t op).talk
-Obeys before after op (Err Refused) = (t : Talk QueueState) → before t → after t
-Obeys before after op (Err Stopped) = ⊤
+Obeys before after stopped op (Err Refused) = (t : Talk QueueState) → before t → after t
+Obeys before after stopped op (Err Stopped) = stopped
 
--- The client has left the queue, or the hall stopped. That is never refused.
-abbrev pub Leaves : (before after : Talk QueueState → Type 0) → Result Unit ServiceFault → Type 0
-Leaves before after (Ok done) = (t : Talk QueueState) → before t → after (left queue t)
-Leaves before after (Err Refused) = ⊥
-Leaves before after (Err Stopped) = ⊤
+-- The client has left the queue, or the hall stopped for one of its reasons. That is never refused.
+abbrev pub Leaves : (before after : Talk QueueState → Type 0) → Type 0 → Result Unit ServiceFault → Type 0
+Leaves before after stopped (Ok done) = (t : Talk QueueState) → before t → after (left queue t)
+Leaves before after stopped (Err Refused) = ⊥
+Leaves before after stopped (Err Stopped) = stopped

@@ -1,5 +1,5 @@
 -- What the words of a command line ask for.
-use Rattle.std.specs.Prelude.{◌≡◌, ◌≢◌, ◌≤◌, ◌^◌, ◌-◌, ℕ, pos, true, List, [], Option, None, Some, codes, option_map, option_and_then, unwrap_or}
+use Rattle.std.specs.Prelude.{◌≡◌, ◌≢◌, ◌≤◌, ◌^◌, ◌-◌, ℕ, pos, true, List, [], Option, None, Some, codes, option_map, option_and_then, string_bytes, unwrap_or}
 use Rattle.std.specs.Str.Parse.{IsNumeral, digits_value, without_leading_plus}
 use Rattle.clap.specs.Words.{App, Rule, IsAmong, Kinds, fault_of, first_of, new_app, new_rule, one_of, subcommand_of, with_rule, with_subcommand}
 use Rattle.clap.specs.declared.builder.value_parser.ValueParser.TheVariants as parser
@@ -127,12 +127,12 @@ AskForHelp words = IsAmong DisplayHelp (errors_in words)
 abbrev pub AreWrong : List (List ℕ) → Type 0
 AreWrong words = (kind : ErrorKind) × (kind ≢ DisplayHelp) × IsAmong kind (errors_in words)
 
--- this is what the words ask for
+-- this is what the words ask for; the help, and what is wrong with them, is some text
 abbrev pub IsAskedBy : List (List ℕ) → Asked → Type 0
 IsAskedBy words (Run nodes seed) =
     AskForRun words × (1 ≤ nodes) × (nodes ≤ 7) ×
     IsNumberOr 3 1 7 (text_given words (codes "nodes")) nodes × IsNumberOr 0 0 (2 ^ 64 - 1) (text_given words (codes "seed")) seed
 IsAskedBy words (Serve options) = AskForServer words options
 IsAskedBy words (Inspect file) = AskForInspection words file.now
-IsAskedBy words (Help text) = AskForHelp words
-IsAskedBy words (Wrong text) = AreWrong words
+IsAskedBy words (Help text) = AskForHelp words × (string_bytes text ≢ [])
+IsAskedBy words (Wrong text) = AreWrong words × (string_bytes text ≢ [])

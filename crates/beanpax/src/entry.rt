@@ -1,8 +1,11 @@
 ghost use Rattle.std.specs.Prelude.{◌≡◌, ◌≤◌, ◌⊎◌, ℕ, List, true, false, map, string_bytes, Ok, IfOk, IfErr, OnOk, OnErr};
 ghost use Rattle.beanpax.specs.declared.faults.ProgramFault.{ProgramFault};
+ghost use Rattle.beanpax.specs.declared.faults.ProgramFault.TheVariants.{WriteFailed};
+ghost use Rattle.std.specs.Io.KnownBytes.{Appends};
+ghost use Rattle.session.specs.Streams.{AppendsBeginning};
 ghost use Rattle.beanpax.specs.declared.words.ServerOptions.{ServerOptions};
 ghost use Rattle.beanpax.specs.Faults.{line_of};
-ghost use Rattle.beanpax.specs.Program.{EndsWith, HasListened, IsCaused, IsRun, IsRunFault, WritesText};
+ghost use Rattle.beanpax.specs.Program.{EndsWith, HasListened, IsCaused, IsRun, IsRunFault, TellsSome, WritesSome, WritesText};
 ghost use Rattle.beanpax.specs.Program.{BeginsToTell, IsWholeRun};
 ghost use Rattle.beanpax.specs.Runs.{BreaksOff};
 ghost use Rattle.beanpax.specs.declared.verdict.Verdict.{Verdict};
@@ -49,7 +52,8 @@ pub fn program<H: Host, R: ByteIn, W: ByteOut, E: ByteOut>(
         → (AskForRun (map string_bytes words.now)
         × IsRun (R.remaining input.old) (R.remaining input.new)
         (W.contents output.old) (W.contents output.new))
-        ⊎ ((AskForHelp (map string_bytes words.now) × (input.new ≡ input.old))
+        ⊎ ((AskForHelp (map string_bytes words.now)
+        × TellsSome (W.contents output.old) (W.contents output.new) × (input.new ≡ input.old))
         ⊎ (((options : ServerOptions) × AskForServer (map string_bytes words.now) options
         × HasListened options (W.contents output.old) (W.contents output.new)
         × (input.new ≡ input.old))
@@ -66,7 +70,8 @@ pub fn program<H: Host, R: ByteIn, W: ByteOut, E: ByteOut>(
         (R.has_failed input.new) (W.has_failed output.new)
         × WritesText (E.contents errors.old) (E.contents errors.new) (E.has_failed errors.new)
         (line_of fault) }
-    ensures wrong { result ≡ WRONG_WORDS → AreWrong (map string_bytes words.now) }
+    ensures wrong { result ≡ WRONG_WORDS → AreWrong (map string_bytes words.now)
+        × WritesSome (E.contents errors.old) (E.contents errors.new) (E.has_failed errors.new) }
     ensures untouched { result ≡ WRONG_WORDS → (input.new ≡ input.old) × (output.new ≡ output.old) }
 
     ensures whole { result ≡ DONE → AskForRun (map string_bytes words.now)
@@ -93,11 +98,11 @@ pub fn program<H: Host, R: ByteIn, W: ByteOut, E: ByteOut>(
             status_of(found, errors)
         }
         Ok(Asked::Help(text)) => {
-            let shown = write_all(output, text.as_bytes());
-            status_after(shown.map_err(|_| ProgramFault::WriteFailed), errors)
+            let shown = show_help(text.as_str(), output);
+            status_after(shown, errors)
         }
         Ok(Asked::Wrong(text)) => {
-            let _ = write_all(errors, text.as_bytes());
+            tell_error(text.as_str(), errors);
             WRONG_WORDS
         }
         Err(AllocError) => {
@@ -129,6 +134,24 @@ fn run<R: ByteIn, W: ByteOut>(
     Ok(())
 }
 
+// Writes the help.
+fn show_help<W: ByteOut>(text: &str, output: &mut W) -> Result<(), ProgramFault>
+    ensures ok { OnOk result (Appends (W.contents output.old) (W.contents output.new) text.now) }
+    ensures begins { AppendsBeginning (W.contents output.old) (W.contents output.new) text.now }
+    ensures fault { IfErr result (λ fault. fault ≡ WriteFailed) }
+    ensures write_failed { OnErr result (W.has_failed output.new ≡ true) }
+{
+    write_all(output, text.as_bytes()).map_err(|_| ProgramFault::WriteFailed)
+}
+
+// Writes the text to the errors, or a beginning of it where they fail.
+fn tell_error<E: ByteOut>(text: &str, errors: &mut E)
+    ensures { WritesText (E.contents errors.old) (E.contents errors.new) (E.has_failed errors.new)
+        text.now }
+{
+    let _ = write_all(errors, text.as_bytes());
+}
+
 // Tells the fault, where there is one.
 fn status_after<E: ByteOut>(ended: Result<(), ProgramFault>, errors: &mut E) -> u8
     ensures done { OnOk ended ((result ≡ DONE) × (errors.new ≡ errors.old)) }
@@ -139,7 +162,7 @@ fn status_after<E: ByteOut>(ended: Result<(), ProgramFault>, errors: &mut E) -> 
     match ended {
         Ok(()) => DONE,
         Err(fault) => {
-            let _ = write_all(errors, fault_line(fault).as_bytes());
+            tell_error(fault_line(fault), errors);
             FAULT
         }
     }

@@ -14,7 +14,7 @@ ghost use Rattle.beanpax.specs.Verdicts.{IsVerdict};
 ghost use Rattle.beanpax.specs.declared.verdict.Verdict.{Verdict};
 
 use bean_codec::one_item;
-use chronicle::{legal_is_faultless, one_bad_line, one_chronicle, one_fault};
+use chronicle::{legal_is_faultless, one_bad_line, one_dump, one_fault};
 
 /// Every input has one transcript at most, but for which operations were refused for want of memory: what a client is
 /// told is a function of the bytes that it sent, and of that.
@@ -39,7 +39,7 @@ pub fn no_fault_in_a_dump()
 pub fn one_verdict()
     ensures { (text : List ℕ) (v w : Verdict) → IsVerdict text v → IsVerdict text w → v ≡ w }
 {
-    one_chronicle();
+    one_dump();
     one_fault();
     one_bad_line();
 }

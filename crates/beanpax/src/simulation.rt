@@ -1,4 +1,4 @@
-ghost use Rattle.std.specs.Prelude.{IfOk};
+ghost use Rattle.std.specs.Prelude.{◌≡◌, IfOk};
 ghost use Rattle.simulated_hall.specs.OneClient.{opened};
 ghost use Rattle.simulated_hall.specs.Standing.{StandsFor};
 ghost use Rattle.beanpax.specs.Sessions.{queue, queue_with};
@@ -16,10 +16,11 @@ pub struct Simulation {
 }
 
 impl Simulation {
-    /// A new hall; the seed draws what happens between its nodes.
+    /// A new hall of these members; the seed draws what happens between its nodes.
     pub fn new(alloc: Global, members: Members, seed: u64) -> Result<Simulation, AllocError>
-        ensures { IfOk result (λ s.
+        ensures stands { IfOk result (λ s.
             StandsFor (queue_with ⟦<Op as PartialEq>⟧.eq) s.hall (opened queue)) }
+        ensures members { IfOk result (λ s. s.hall.hall.nodes.network.members ≡ members) }
     {
         Ok(Simulation {
             hall: SimulatedHall::new(alloc, members, seed)?,
@@ -31,14 +32,21 @@ impl Service for Simulation {
     ghost use Rattle.simulated_hall.specs.Standing.{StandsFor};
     ghost use Rattle.beanpax.specs.Sessions.{queue_with};
     ghost use Rattle.beanpax.specs.Simulations.{Obeys, Leaves};
+    ghost use Rattle.simulated_hall.specs.Stopping.{HasNoCallLeft, IsStopped, RefusesAct};
+    ghost use Rattle.object.specs.declared.command.Act.TheVariants.{Close};
+    ghost use Rattle.std.specs.Prelude.{◌⊎◌};
 
     ghost asks = { λ old op result new. Obeys
         (StandsFor (queue_with ⟦<Op as PartialEq>⟧.eq) old.hall)
-        (StandsFor (queue_with ⟦<Op as PartialEq>⟧.eq) new.hall) op result };
+        (StandsFor (queue_with ⟦<Op as PartialEq>⟧.eq) new.hall)
+        (IsStopped (queue_with ⟦<Op as PartialEq>⟧.eq) ⟦<Op as PartialEq>⟧.eq old.hall new.hall op)
+        op result };
 
     ghost closes = { λ old result new. Leaves
         (StandsFor (queue_with ⟦<Op as PartialEq>⟧.eq) old.hall)
-        (StandsFor (queue_with ⟦<Op as PartialEq>⟧.eq) new.hall) result };
+        (StandsFor (queue_with ⟦<Op as PartialEq>⟧.eq) new.hall)
+        (HasNoCallLeft new.hall
+        ⊎ RefusesAct ⟦<Op as PartialEq>⟧.eq old.hall.hall old.hall.ticket Close) result };
 
     fn ask(&mut self, op: Op) -> Result<Reply, ServiceFault> {
         match self.hall.ask(op) {

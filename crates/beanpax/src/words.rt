@@ -1,4 +1,4 @@
-ghost use Rattle.std.specs.Prelude.{◌≡◌, ◌≤◌, ◌^◌, ◌-◌, [], codes, false, map, string_bytes, unwrap_or, IfOk};
+ghost use Rattle.std.specs.Prelude.{◌≡◌, ◌≢◌, ◌≤◌, ◌^◌, ◌-◌, [], codes, false, map, string_bytes, unwrap_or, IfOk};
 ghost use Rattle.clap.specs.Words.{app_of, first_value, found_of, one_text, rule_of};
 ghost use Rattle.clap.specs.declared.builder.command.Command.TheViews.{out-Command as fields_of};
 ghost use Rattle.beanpax.specs.Words.{IsAskedBy, IsNumberOr, IsServerOf};
@@ -8,7 +8,7 @@ ghost use Rattle.beanpax.specs.Words.{nodes_option, seed_option, port_option};
 ghost use Rattle.beanpax.specs.Words.{workers_option, sessions_option, dump_option};
 
 use clap::error::ErrorKind;
-use clap::{Arg, ArgMatches, Command, value_parser};
+use clap::{Arg, ArgMatches, Command, Error, value_parser};
 use std::alloc::{AllocError, Global};
 
 /// There are so many nodes at most.
@@ -81,10 +81,21 @@ pub fn parse_words<'a>(alloc: Global, words: &'a [String]) -> Result<Asked<'a>, 
         }
         Err(error) => match error.kind() {
             ErrorKind::OutOfMemory => Err(AllocError),
-            ErrorKind::DisplayHelp => Ok(Asked::Help(error.to_string(alloc)?)),
-            _ => Ok(Asked::Wrong(error.to_string(alloc)?)),
+            ErrorKind::DisplayHelp => Ok(Asked::Help(text_of(alloc, &error)?)),
+            _ => Ok(Asked::Wrong(text_of(alloc, &error)?)),
         },
     }
+}
+
+// The text of clap's error. Clap promises none; where it gave none, there is at least a line feed.
+fn text_of(alloc: Global, error: &Error) -> Result<String, AllocError>
+    ensures { IfOk result (λ text. string_bytes text ≢ []) }
+{
+    let mut text = error.to_string(alloc)?;
+    if text.is_empty() {
+        text.push('\n')?;
+    }
+    Ok(text)
 }
 
 // What the words ask of a server.

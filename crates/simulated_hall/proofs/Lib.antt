@@ -3,3 +3,5 @@ pub mod Orders
 pub mod Replays
 pub mod HandedIn
 pub mod Said
+pub mod FirstMembers
+pub mod NoSecond

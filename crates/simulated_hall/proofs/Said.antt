@@ -166,12 +166,12 @@ module _ {O Op Reply : Type 0} (rules : Rules O Op Reply) (promise : List (Comma
     (idle : (k : Key) → waits rules.fresh k → ⊥)
     (waiting : (s : O) (c : Command Op) (k : Key) → waits (rules.after s c) k → waits s k ⊎ (k ≡ c.key))
     (named : (s : O) (c : Command Op) (a : Answer Reply) → In a (rules.answers s c) → (a.to ≡ c.key) ⊎ waits s a.to) where
-  pub request_said : (s : SimulatedState Op Reply) (t : Talk O) (act : Act Op) (asked new : HallState Op Reply) (reply : Option Reply)
+  pub request_said : (s : SimulatedState Op Reply) (t : Talk O) (act : Act Op) (asked new : HallState Op Reply) (reply : Option Reply) (calls : ℕ)
       → StandsFor rules s t → asked ≡ after_submit rules s.hall 1 (next_command s.ticket act)
       → SubmitsNothing asked.nodes.past new.nodes.past → stands own_key (last_key (with_act s.ticket act)) new.nodes.past.order ≡ true
       → IsExplained rules promise new.nodes.past → reply ≡ reply_to new (last_key (with_act s.ticket act))
-      → IsSaid rules (record { hall = new; ticket = with_act s.ticket act; second = s.second }) (obeyed rules t act) reply
-  request_said s t act asked new reply stands_for is nothing placed explained reply_is = record {
+      → IsSaid rules (record { hall = new; ticket = with_act s.ticket act; second = s.second; calls = calls }) (obeyed rules t act) reply
+  request_said s t act asked new reply calls stands_for is nothing placed explained reply_is = record {
     stands = record {
       past = obeyed_then rules promise s.hall.nodes.past asked.nodes.past new.nodes.past t (request t act) stands_for.past fresh last same_order nothing there explained (obeyed rules t act).talk refl (request_unused t (submitted_in s.hall.nodes.past) stands_for.past.unused act);
       session = stands_for.session;
@@ -212,12 +212,12 @@ module _ {O Op Reply : Type 0} (rules : Rules O Op Reply) (promise : List (Comma
       reply_then = reply_is ∙ ap (λ k. reply_to new k) key_is
 
 -- and what a second says to it
-pub second_said : {O Op Reply : Type 0} (rules : Rules O Op Reply) (promise : List (Command Op) → Type 0) (s : SimulatedState Op Reply) (t : Talk O) (asked new : HallState Op Reply) (reply : Option Reply)
+pub second_said : {O Op Reply : Type 0} (rules : Rules O Op Reply) (promise : List (Command Op) → Type 0) (s : SimulatedState Op Reply) (t : Talk O) (asked new : HallState Op Reply) (reply : Option Reply) (calls : ℕ)
     → StandsFor rules s t → IsUnanswered rules s → asked ≡ after_tick rules s.hall 1 (s.second + 1)
     → SubmitsNothing asked.nodes.past new.nodes.past → stands own_key (record { session = 0; number = s.second + 1 }) new.nodes.past.order ≡ true
     → IsExplained rules promise new.nodes.past → reply ≡ reply_to new (last_key s.ticket)
-    → IsSaid rules (record { hall = new; ticket = s.ticket; second = s.second + 1 }) (passed rules (last_key s.ticket) t) reply
-second_said {O} {Op} {Reply} rules promise s t asked new reply stands_for not_yet is nothing placed explained reply_is = record {
+    → IsSaid rules (record { hall = new; ticket = s.ticket; second = s.second + 1; calls = calls }) (passed rules (last_key s.ticket) t) reply
+second_said {O} {Op} {Reply} rules promise s t asked new reply calls stands_for not_yet is nothing placed explained reply_is = record {
   stands = record {
     past = obeyed_then rules promise s.hall.nodes.past asked.nodes.past new.nodes.past t (next_second t) stands_for.past fresh last same_order nothing there explained (passed rules (last_key s.ticket) t).talk refl (second_unused t (submitted_in s.hall.nodes.past) stands_for.past.unused);
     session = stands_for.session;
@@ -244,16 +244,20 @@ second_said {O} {Op} {Reply} rules promise s t asked new reply stands_for not_ye
     there = subst (λ n. stands own_key (record { session = 0; number = n + 1 }) new.nodes.past.order ≡ true) (sym stands_for.second) placed
 
 -- a new hall stands for a new object
-pub opening_stands : {O Op Reply : Type 0} (rules : Rules O Op Reply) (members : List ℕ) (hall : HallState Op Reply) (ticket : TicketState Op Reply) → hall ≡ record (new_hall members) { book = 0 ∷ [] } → ticket ≡ new_ticket 1 → StandsFor rules (record { hall = hall; ticket = ticket; second = 0 }) (opened rules)
-opening_stands {O} {Op} {Reply} rules members hall ticket is ticket_is =
-    subst (λ (h : HallState Op Reply). StandsFor rules (record { hall = h; ticket = ticket; second = 0 }) (opened rules)) (sym is)
-    (subst (λ (q : TicketState Op Reply). StandsFor rules (record { hall = record { nodes = untouched members; book = 0 ∷ []; second = 0 }; ticket = q; second = 0 }) (opened rules)) (sym ticket_is)
+pub opening_stands : {O Op Reply : Type 0} (rules : Rules O Op Reply) (members : List ℕ) (hall : HallState Op Reply) (ticket : TicketState Op Reply) (calls : ℕ) → hall ≡ record (new_hall members) { book = 0 ∷ [] } → ticket ≡ new_ticket 1 → StandsFor rules (record { hall = hall; ticket = ticket; second = 0; calls = calls }) (opened rules)
+opening_stands {O} {Op} {Reply} rules members hall ticket calls is ticket_is =
+    subst (λ (h : HallState Op Reply). StandsFor rules (record { hall = h; ticket = ticket; second = 0; calls = calls }) (opened rules)) (sym is)
+    (subst (λ (q : TicketState Op Reply). StandsFor rules (record { hall = record { nodes = untouched members; book = 0 ∷ []; second = 0 }; ticket = q; second = 0; calls = calls }) (opened rules)) (sym ticket_is)
     (record {
       past = record { order = refl; rising = tt; object = refl; unused = record { requests = λ c i s. absurd i; ticks = λ c i s. absurd i } };
       session = refl;
       next = refl;
       second = refl;
     }))
+
+-- how many calls were made makes no difference to that
+pub still_stands : {O Op Reply : Type 0} (rules : Rules O Op Reply) (s : SimulatedState Op Reply) (calls : ℕ) (t : Talk O) → StandsFor rules s t → StandsFor rules (record s { calls = calls }) t
+still_stands rules s calls t stands_for = record { past = stands_for.past; session = stands_for.session; next = stands_for.next; second = stands_for.second }
 
 -- a wait that is over
 pub wait_over : {O Op Reply : Type 0} (rules : Rules O Op Reply) (key : Key) (n : ℕ) (s : Said O Reply) (reply : Reply) → s.reply ≡ Some reply → waited rules key n s ≡ s

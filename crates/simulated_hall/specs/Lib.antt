@@ -1,2 +1,4 @@
 pub mod OneClient
 pub mod Standing
+pub mod Stopping
+pub mod Driving

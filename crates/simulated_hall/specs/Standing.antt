@@ -11,11 +11,12 @@ use Rattle.hall.specs.Halls.{HallState}
 use Rattle.hall.specs.Tickets.{TicketState, last_key}
 use Rattle.simulated_hall.specs.OneClient.{Talk, Said}
 
--- a hall, the ticket of its one session, and the second that it is
+-- a hall, the ticket of its one session, the second that it is, and how many calls were made since the last request began
 pub record SimulatedState (Op Reply : Type 0) : Type 0 where
   pub hall : HallState Op Reply
   pub ticket : TicketState Op Reply
   pub second : ℕ
+  pub calls : ℕ
 
 -- the commands that were submitted, in the order in which they came
 abbrev pub submitted_in : {Op Reply : Type 0} → Record Op Reply → List (Command Op)

@@ -1,13 +1,16 @@
-ghost use Rattle.std.specs.Prelude.{◌≡◌, ◌∷◌, [], true, IfOk, OnOk, OnErr};
+ghost use Rattle.std.specs.Prelude.{◌≡◌, ◌⊎◌, ◌+◌, ◌<◌, ◌≤◌, ◌^◌, ◌∷◌, [], true, Err, IfOk, OnOk, OnErr};
+ghost use Rattle.simulated_hall.specs.declared.unanswered.Unanswered.TheVariants as unanswered;
 ghost use Rattle.object.specs.Happenings.{is_submitted};
 ghost use Rattle.object.specs.Keys.{stands};
 ghost use Rattle.recorder.specs.Records.{own_key};
 ghost use Rattle.hall.specs.Explained.{IsExplained};
 ghost use Rattle.hall.specs.Halls.{new_hall, after_submit, after_tick, reply_to};
+ghost use Rattle.hall.specs.Refusals.{is_full};
 ghost use Rattle.hall.specs.Tickets.{new_ticket, last_key, next_command, with_act};
 ghost use Rattle.simulated_hall.specs.Standing.{SubmitsNothing};
+ghost use Rattle.simulated_hall.specs.Stopping.{RefusesAct, most_calls};
 
-use crate::driver::{Call, Driver, HOME};
+use crate::driver::{Call, Driver, HOME, home_is_member};
 use crate::unanswered::{Stopped, Unanswered};
 use ballot::Members;
 use hall::{Hall, HallError, Ticket};
@@ -41,13 +44,14 @@ impl<O: Object> Carrier<O> {
         Ok(Carrier {
             hall,
             ticket,
-            driver: Driver::new(members, seed),
+            driver: Driver::new(seed),
             calls: 0,
         })
     }
 
     /// A request begins: its calls are counted from here.
     pub fn begin(&mut self)
+        ensures calls { self.new.calls ≡ 0 }
         ensures hall { self.new.hall ≡ self.old.hall }
         ensures ticket { self.new.ticket ≡ self.old.ticket }
     {
@@ -61,6 +65,11 @@ impl<O: Object> Carrier<O> {
         ensures ticket { OnOk result (self.new.ticket ≡ with_act self.old.ticket act) }
         ensures err { OnErr result (self.new.hall ≡ self.old.hall) }
         ensures kept { OnErr result (self.new.ticket ≡ self.old.ticket) }
+        ensures counted { OnOk result (self.new.calls ≡ self.old.calls + 1) }
+        ensures refused { result ≡ Err unanswered.Refused →
+            self.new.calls ≡ self.old.calls + 1 }
+        ensures stopped { result ≡ Err unanswered.Stopped → most_calls ≤ self.new.calls
+            ⊎ RefusesAct O.Op.eq self.old.hall self.old.ticket act }
     {
         self.count()?;
         match self.hall.submit(&mut self.ticket, act, HOME) {
@@ -72,9 +81,13 @@ impl<O: Object> Carrier<O> {
 
     /// Hands in a second of the clock.
     pub fn tick(&mut self, second: u64) -> Result<(), Stopped>
+        requires some { 1 ≤ second }
+        requires known { second ≤ 2 ^ 40 }
         ensures ok { OnOk result (self.new.hall ≡ after_tick O.rules self.old.hall 1 second) }
         ensures ticket { self.new.ticket ≡ self.old.ticket }
+        ensures stopped { OnErr result (most_calls ≤ self.new.calls ⊎ (is_full self.new.hall ≡ true)) }
     {
+        home_is_member(&self.hall);
         for _ in 0..MOST_CALLS {
             self.count()?;
             match self.hall.tick(second, HOME) {
@@ -99,6 +112,7 @@ impl<O: Object> Carrier<O> {
         ensures placed { OnOk result (stands own_key key self.new.hall.nodes.past.order ≡ true) }
         ensures nothing { SubmitsNothing self.old.hall.nodes.past self.new.hall.nodes.past }
         ensures ticket { self.new.ticket ≡ self.old.ticket }
+        ensures stopped { OnErr result (most_calls ≤ self.new.calls) }
     {
         self.driver.begin(key.session != 0);
         let mut refused = None;
@@ -126,6 +140,7 @@ impl<O: Object> Carrier<O> {
         ensures legal { OnOk result (IsExplained O.rules O.promise self.old.hall.nodes.past) }
         ensures hall { self.new.hall ≡ self.old.hall }
         ensures ticket { self.new.ticket ≡ self.old.ticket }
+        ensures stopped { OnErr result (most_calls ≤ self.new.calls) }
     {
         for _ in 0..MOST_CALLS {
             self.count()?;
@@ -141,8 +156,12 @@ impl<O: Object> Carrier<O> {
 }
 
 impl<O: Object> Carrier<O> {
-    // One call more.
+    // One call more, where one is left.
     fn count(&mut self) -> Result<(), Stopped>
+        ensures left { OnOk result (self.old.calls < most_calls) }
+        ensures ok { OnOk result (self.new.calls ≡ self.old.calls + 1) }
+        ensures stopped { OnErr result (most_calls ≤ self.old.calls) }
+        ensures err { OnErr result (self.new.calls ≡ self.old.calls) }
         ensures hall { self.new.hall ≡ self.old.hall }
         ensures ticket { self.new.ticket ≡ self.old.ticket }
     {
@@ -158,6 +177,7 @@ impl<O: Object> Carrier<O> {
         requires { is_submitted key self.old.hall.nodes.past.happenings.submitted ≡ true }
         ensures nothing { SubmitsNothing self.old.hall.nodes.past self.new.hall.nodes.past }
         ensures ticket { self.new.ticket ≡ self.old.ticket }
+        ensures calls { self.new.calls ≡ self.old.calls }
     {
         match call {
             Call::Deliver(node) => {
@@ -188,6 +208,7 @@ impl<O: Object> Carrier<O> {
         requires { is_submitted key self.old.hall.nodes.past.happenings.submitted ≡ true }
         ensures nothing { SubmitsNothing self.old.hall.nodes.past self.new.hall.nodes.past }
         ensures ticket { self.new.ticket ≡ self.old.ticket }
+        ensures calls { self.new.calls ≡ self.old.calls }
     {
         if key.session == 0 {
             self.hall.tick(key.number, HOME)

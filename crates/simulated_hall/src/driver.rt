@@ -1,3 +1,9 @@
+ghost use Rattle.std.specs.Prelude.{◌≡◌, ◌<◌, true, is_some, IfSome};
+ghost use Rattle.ballot.specs.Members.{is_member};
+ghost use Rattle.slot_log.specs.Decisions.{next_decided};
+ghost use Rattle.network.specs.Networks.{node_of, has_mail};
+ghost use Rattle.simulated_hall.specs.Driving.{IsFirstMember, node_called};
+
 use ballot::Members;
 use hall::Hall;
 use object::Object;
@@ -12,7 +18,7 @@ const DRAWN_CALLS: u32 = 2_000;
 /// The commands for which calls may be drawn, since what a restarted node has to learn again grows with them.
 const ROUGH_COMMANDS: u32 = 1_000;
 
-/// Before a request, so much of what waits at the nodes is done. What is left waits for the next one.
+/// Before a request, so much of what waits at the nodes is done; what is left waits for the next one.
 const CATCH_UP: u32 = 64;
 
 /// So many calls at most are drawn for one command.
@@ -48,14 +54,13 @@ enum Round {
 #[derive(Drop)]
 pub(crate) struct Driver {
     schedule: Schedule,
-    members: Members,
     /// How many commands were carried so far.
     commands: u32,
     /// So many calls of this command are drawn.
     storm: u32,
     /// The letters that are on their way are lost.
     loses: bool,
-    /// So much of what waits is done before the command is proposed.
+    /// So much of what waits is done before the command goes its shortest way.
     behind: u32,
     /// How often nothing was left to deliver.
     idle: u32,
@@ -63,11 +68,10 @@ pub(crate) struct Driver {
 }
 
 impl Driver {
-    /// The driver of these members, whose choices are drawn from the seed.
-    pub fn new(members: Members, seed: u64) -> Driver {
+    /// A driver whose choices are drawn from the seed.
+    pub fn new(seed: u64) -> Driver {
         Driver {
             schedule: Schedule::new(seed),
-            members,
             commands: 0,
             storm: 0,
             loses: false,
@@ -78,7 +82,7 @@ impl Driver {
     }
 
     /// Another command is to be carried: a request, or a second of the clock. While seconds pass nobody waits for the
-    /// nodes that are not needed.
+    /// nodes that aren't needed.
     pub fn begin(&mut self, is_request: bool) {
         self.commands = self.commands.saturating_add(1);
         self.behind = if is_request { CATCH_UP } else { 0 };
@@ -90,13 +94,16 @@ impl Driver {
         }
     }
 
-    /// The next call for the command, after `count` others.
-    pub fn next<O: Object>(&mut self, hall: &Hall<O>, count: u32) -> Call {
+    /// The next call for the command, after `count` others. It is one of a member of the hall.
+    pub fn next<O: Object>(&mut self, hall: &Hall<O>, count: u32) -> Call
+        ensures { is_member hall.now.nodes.network.members (node_called result) ≡ true }
+    {
+        home_is_member(hall);
         if count >= DRAWN_CALLS {
             return self.plain(hall);
         }
         if count < self.storm {
-            return self.drawn();
+            return self.drawn(hall.members());
         }
         if count == self.storm {
             self.loses = self.storm > 0 && self.schedule.pick(2) == 0;
@@ -108,8 +115,10 @@ impl Driver {
 
 impl Driver {
     // A call that is drawn. Mostly a letter is delivered; a restart is among the rarest.
-    fn drawn(&mut self) -> Call {
-        let node = self.member();
+    fn drawn(&mut self, members: Members) -> Call
+        ensures { is_member members (node_called result) ≡ true }
+    {
+        let node = self.member(members);
         match self.schedule.pick(20) {
             0 => Call::Lose(node),
             1 => Call::Repeat(node),
@@ -122,16 +131,17 @@ impl Driver {
         }
     }
 
-    // The shortest way to an effect: node 1 proposes and performs as soon as it can. Before a request others are not left
-    // behind.
-    fn calm<O: Object>(&mut self, hall: &Hall<O>) -> Call {
-        if self.behind == 0 {
-            if hall.can_perform(HOME) {
-                return Call::Perform(HOME);
-            }
-            if hall.can_propose(HOME) {
-                return Call::Propose(HOME);
-            }
+    // What there is to do, or where there is nothing what may bring some. Where it is not behind, node 1 proposes and
+    // performs as soon as it can.
+    fn calm<O: Object>(&mut self, hall: &Hall<O>) -> Call
+        requires { is_member hall.now.nodes.network.members 1 ≡ true }
+        ensures { is_member hall.now.nodes.network.members (node_called result) ≡ true }
+    {
+        if self.behind == 0 && hall.can_perform(HOME) {
+            return Call::Perform(HOME);
+        }
+        if self.behind == 0 && hall.can_propose(HOME) {
+            return Call::Propose(HOME);
         }
         if let Some(call) = self.waiting(hall) {
             self.behind = self.behind.saturating_sub(1);
@@ -141,42 +151,54 @@ impl Driver {
             self.behind = 0;
             return Call::Propose(HOME);
         }
-        self.rouse()
+        self.rouse(hall.members())
     }
 
-    // The first letter that is on its way, or the first decision that is to be performed.
-    fn waiting<O: Object>(&mut self, hall: &Hall<O>) -> Option<Call> {
-        if let Some(node) = first_with_mail(self.members, hall) {
-            return Some(if self.loses {
-                Call::Lose(node)
+    // What the first letter that is on its way asks for, or the first decision that is to be performed.
+    fn waiting<O: Object>(&mut self, hall: &Hall<O>) -> Option<Call>
+        ensures { IfSome result (λ call.
+            is_member hall.now.nodes.network.members (node_called call) ≡ true) }
+    {
+        if let Some(node) = first_with_mail(hall) {
+            return if self.loses {
+                Some(Call::Lose(node))
             } else {
-                Call::Deliver(node)
-            });
+                Some(Call::Deliver(node))
+            };
         }
         self.loses = false;
-        first_to_perform(self.members, hall).map(Call::Perform)
+        match first_to_perform(hall) {
+            Some(node) => Some(Call::Perform(node)),
+            None => None,
+        }
     }
 
     // What may bring something to do.
-    fn rouse(&mut self) -> Call {
+    fn rouse(&mut self, members: Members) -> Call
+        requires { is_member members 1 ≡ true }
+        ensures { is_member members (node_called result) ≡ true }
+    {
         let turn = self.idle % 5;
         self.idle = self.idle.saturating_add(1);
         match turn {
             1 => Call::Nudge(HOME),
             2 => Call::HandInAgain,
-            3 => Call::Nudge(self.member()),
+            3 => Call::Nudge(self.member(members)),
             _ => Call::Wake(HOME),
         }
     }
 
     // Begins the node anew, and then again and again hands the command in, wakes the leader, empties every mail,
     // proposes and performs.
-    fn plain<O: Object>(&mut self, hall: &Hall<O>) -> Call {
+    fn plain<O: Object>(&mut self, hall: &Hall<O>) -> Call
+        requires { is_member hall.now.nodes.network.members 1 ≡ true }
+        ensures { is_member hall.now.nodes.network.members (node_called result) ≡ true }
+    {
         let (call, next) = match self.round {
             Round::Restart => (Call::Restart(HOME), Round::HandInAgain),
             Round::HandInAgain => (Call::HandInAgain, Round::Wake),
             Round::Wake => (Call::Wake(HOME), Round::Deliver),
-            Round::Deliver => match first_with_mail(self.members, hall) {
+            Round::Deliver => match first_with_mail(hall) {
                 Some(node) => (Call::Deliver(node), Round::Deliver),
                 None => (Call::Propose(HOME), Round::Perform),
             },
@@ -187,15 +209,27 @@ impl Driver {
     }
 
     // One of the members.
-    fn member(&mut self) -> u8 {
-        let before = self.schedule.pick(u32::from(self.members.count()));
+    fn member(&mut self, members: Members) -> u8
+        ensures { is_member members result ≡ true }
+    {
+        let before = self.schedule.pick(u32::from(members.count()));
         before as u8 + 1
     }
 }
 
+/// Every hall has the node at which the client hands in.
+pub(crate) fn home_is_member<O: Object>(hall: &Hall<O>)
+    ensures { is_member hall.now.nodes.network.members 1 ≡ true }
+{
+    let _ = hall.members().count();
+}
+
 // The first member to which a letter is on its way.
-fn first_with_mail<O: Object>(members: Members, hall: &Hall<O>) -> Option<u8> {
-    for before in 0..members.count() {
+fn first_with_mail<O: Object>(hall: &Hall<O>) -> Option<u8>
+    ensures { IsFirstMember hall.now.nodes.network.members
+        (λ n. has_mail hall.now.nodes.network n) result }
+{
+    for before in 0..hall.members().count() {
         if hall.has_mail(before + 1) {
             return Some(before + 1);
         }
@@ -204,8 +238,11 @@ fn first_with_mail<O: Object>(members: Members, hall: &Hall<O>) -> Option<u8> {
 }
 
 // The first member that knows the decision which it is to perform next.
-fn first_to_perform<O: Object>(members: Members, hall: &Hall<O>) -> Option<u8> {
-    for before in 0..members.count() {
+fn first_to_perform<O: Object>(hall: &Hall<O>) -> Option<u8>
+    ensures { IsFirstMember hall.now.nodes.network.members
+        (λ n. is_some (next_decided (node_of hall.now.nodes.network n).replica)) result }
+{
+    for before in 0..hall.members().count() {
         if hall.can_perform(before + 1) {
             return Some(before + 1);
         }

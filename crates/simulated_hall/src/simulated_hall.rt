@@ -1,8 +1,10 @@
-ghost use Rattle.std.specs.Prelude.{◌≡◌, Some, Err, IfOk, IfErr, OnOk};
+ghost use Rattle.std.specs.Prelude.{◌≡◌, ◌⊎◌, ◌+◌, Some, Err, IfOk, IfErr, OnOk, OnErr};
 ghost use Rattle.simulated_hall.specs.declared.unanswered.Unanswered.TheVariants as unanswered;
 ghost use Rattle.simulated_hall.specs.OneClient.{Talk, opened, obeyed, passed, answered, left};
 ghost use Rattle.hall.specs.Tickets.{last_key, with_act};
+ghost use Rattle.object.specs.declared.command.Act.TheVariants.{Close};
 ghost use Rattle.simulated_hall.specs.Standing.{StandsFor, IsSaid, IsUnanswered};
+ghost use Rattle.simulated_hall.specs.Stopping.{HasNoCallLeft, HasNoSecondLeft, IsStopped, RefusesAct};
 
 use crate::carrier::{Carrier, MOST_CALLS};
 use crate::unanswered::{Stopped, Unanswered};
@@ -36,13 +38,14 @@ impl<O: Object> Model for SimulatedHall<O> {
 
     ghost coded = { Prim.hlevel (codes, slots_code, O.code, O.Op.code, O.Reply.code) };
 
-    ghost view = { λ s. record { hall = s.carrier.hall; ticket = s.carrier.ticket; second = s.second } };
+    ghost view = { λ s. record { hall = s.carrier.hall; ticket = s.carrier.ticket; second = s.second; calls = s.carrier.calls } };
 }
 
 impl<O: Object> SimulatedHall<O> {
-    /// A new hall, at second 0.
+    /// A new hall of these members, at second 0.
     pub fn new(alloc: Global, members: Members, seed: u64) -> Result<SimulatedHall<O>, AllocError>
-        ensures { IfOk result (λ s. StandsFor O.rules s (opened O.rules)) }
+        ensures stands { IfOk result (λ s. StandsFor O.rules s (opened O.rules)) }
+        ensures members { IfOk result (λ s. s.hall.nodes.network.members ≡ members) }
     {
         Ok(SimulatedHall {
             carrier: Carrier::new(alloc, members, seed)?,
@@ -57,7 +60,12 @@ impl<O: Object> SimulatedHall<O> {
             → (answered O.rules t op).reply ≡ Some reply) }
         ensures stands { OnOk result ((t : Talk O) → StandsFor O.rules self.old t
             → StandsFor O.rules self.new (answered O.rules t op).talk) }
-        ensures refused { result ≡ Err unanswered.Refused → self.new ≡ self.old }
+        ensures refused { result ≡ Err unanswered.Refused →
+            self.new ≡ record self.old { calls = 1 } }
+        ensures kept { result ≡ Err unanswered.Refused → (t : Talk O)
+            → StandsFor O.rules self.old t → StandsFor O.rules self.new t }
+        ensures stopped { result ≡ Err unanswered.Stopped →
+            IsStopped O.rules O.Op.eq self.old self.new op }
     {
         self.carrier.begin();
         let mut reply = self.request(Act::Do(op))?;
@@ -77,7 +85,9 @@ impl<O: Object> SimulatedHall<O> {
     pub fn close(&mut self) -> Result<(), Unanswered>
         ensures stands { OnOk result ((t : Talk O) → StandsFor O.rules self.old t
             → StandsFor O.rules self.new (left O.rules t)) }
-        ensures stopped { IfErr result (λ e. e ≡ unanswered.Stopped) }
+        ensures never_refused { IfErr result (λ e. e ≡ unanswered.Stopped) }
+        ensures stopped { OnErr result (HasNoCallLeft self.new
+            ⊎ RefusesAct O.Op.eq self.old.hall self.old.ticket Close) }
     {
         self.carrier.begin();
         for _ in 0..MOST_CALLS {
@@ -97,7 +107,11 @@ impl<O: Object> SimulatedHall<O> {
         ensures said { IfOk result (λ reply. (t : Talk O) → StandsFor O.rules self.old t
             → IsSaid O.rules self.new (obeyed O.rules t act) reply) }
         ensures ticket { OnOk result (self.new.ticket ≡ with_act self.old.ticket act) }
-        ensures refused { result ≡ Err unanswered.Refused → self.new ≡ self.old }
+        ensures second { OnOk result (self.new.second ≡ self.old.second) }
+        ensures refused { result ≡ Err unanswered.Refused →
+            self.new ≡ record self.old { calls = self.old.calls + 1 } }
+        ensures stopped { result ≡ Err unanswered.Stopped → HasNoCallLeft self.new
+            ⊎ RefusesAct O.Op.eq self.old.hall self.old.ticket act }
     {
         self.carrier.submit(act)?;
         let key = self.carrier.last_key();
@@ -111,6 +125,8 @@ impl<O: Object> SimulatedHall<O> {
             → IsUnanswered O.rules self.old
             → IsSaid O.rules self.new (passed O.rules (last_key self.old.ticket) t) reply) }
         ensures ticket { self.new.ticket ≡ self.old.ticket }
+        ensures second { OnOk result (self.new.second ≡ self.old.second + 1) }
+        ensures stopped { OnErr result (HasNoCallLeft self.new ⊎ HasNoSecondLeft self.new) }
     {
         if self.second >= LAST_SECOND {
             return Err(Stopped);

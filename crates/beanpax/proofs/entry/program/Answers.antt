@@ -1,6 +1,8 @@
-use Rattle.std.proofs.Common.{rules, ◌≡◌, ◌⊎◌, inl, inr, ℕ, List, [], map, string_bytes, refl, subst, IfOk}
+use Rattle.std.proofs.Common.{◌≡◌, inl, inr, ℕ, [], map, string_bytes, refl, subst, arith, Result, Ok, Err, OnOk, IfOk, IfErr}
+use Rattle.std.specs.Io.KnownBytes.{Appends}
+use Rattle.beanpax.specs.declared.faults.ProgramFault.{ProgramFault}
 use Rattle.std.proofs.KnownBytes.{Appends-nil, Consumes-nil}
-use Rattle.beanpax.specs.Program.{HasInspected}
+use Rattle.beanpax.specs.Program.{HasInspected, WritesText}
 use Rattle.beanpax.specs.Words.{IsAskedBy}
 use Rattle.beanpax.proofs.Served.{nothing_begins}
 use Rattle.beanpax.proofs.entry.program.Goals as goal
@@ -15,3 +17,18 @@ returns-in-Ok-Inspect-clause-right g c = λ done.
 pub returns-in-Err-clause-breaks_off : goal.returns-in-Err-clause-breaks_off
 returns-in-Err-clause-breaks_off g c = λ fault run.
     ([], [], Consumes-nil (g.R.ByteIn.remaining c.args.input.now), Appends-nil (g.W.ByteOut.contents c.args.output.now), nothing_begins c.front_item.ensures [])
+
+-- where the status tells of no fault, there was none
+ok_told : (r : Result Unit ProgramFault) (status : ℕ) (P : Type 0) (X : ProgramFault → Type 0) → OnOk r P → IfErr r (λ fault. (status ≡ 1) × X fault) → status ≡ 0 → P
+ok_told (Ok done) status P X ok err is = ok
+ok_told (Err fault) status P X ok err is = let told = err.0 in absurd (omega (arith, told, is))
+
+pub returns-in-Ok-Help-clause-right : goal.returns-in-Ok-Help-clause-right
+returns-in-Ok-Help-clause-right g c = λ done.
+    let asked = subst (IsAskedBy (map string_bytes c.args.words.now)) c.in-Ok-Help.field-0-is c.in-Ok-Help.ensures in
+    inr (inl (asked.0, (string_bytes c.in-Ok-Help.text, asked.1, subst (Appends _ _) c.as_str.ensures.value (ok_told c.show_help-shown.result _ _ _ c.show_help-shown.ensures.ok c.status_after-in-Ok-Help.ensures.fault done)), refl))
+
+pub returns-in-Ok-Wrong-clause-wrong : goal.returns-in-Ok-Wrong-clause-wrong
+returns-in-Ok-Wrong-clause-wrong g c = λ wrong.
+    let asked = subst (IsAskedBy (map string_bytes c.args.words.now)) c.in-Ok-Wrong.field-0-is c.in-Ok-Wrong.ensures in
+    (asked.0, (string_bytes c.in-Ok-Wrong.text, asked.1, subst (WritesText _ _ _) c.as_str-in-Ok-Wrong.ensures.value c.tell_error.ensures))

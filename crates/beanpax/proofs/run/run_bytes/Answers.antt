@@ -1,18 +1,36 @@
+use Rattle.std.proofs.Common.{◌⊎◌}
+use Rattle.object.specs.declared.command.Act.TheVariants.{Close}
+use Rattle.bean_queue.specs.contracts.op.OpPartialEq.TheImpl.{ghosts}
+use Rattle.bean_queue.specs.Queue.{QueueState}
+use Rattle.bean_queue.specs.declared.op.Op.{Op}
+use Rattle.session.specs.Serving.{Closes}
+use Rattle.simulated_hall.specs.OneClient.{Talk}
 use Rattle.simulated_hall.specs.Standing.{StandsFor}
+use Rattle.simulated_hall.specs.Stopping.{HasNoCallLeft, IsStopped, RefusesAct}
+use Rattle.beanpax.specs.declared.simulation.Simulation.{Simulation}
 use Rattle.beanpax.specs.Sessions.{queue_with}
 use Rattle.beanpax.proofs.Obeyed.{ClosesOf}
 use Rattle.beanpax.proofs.Served.{served, served_partly, nothing_served}
 use Rattle.beanpax.proofs.run.run_bytes.Goals as goal
+
+abbrev Stands : Simulation → Talk QueueState → Type 0
+Stands s = StandsFor (queue_with ghosts.eq) s.hall
+
+abbrev Stops : Simulation → Simulation → Op → Type 0
+Stops old new op = IsStopped (queue_with ghosts.eq) ghosts.eq old.hall new.hall op
+
+abbrev Ends : Closes Simulation
+Ends = ClosesOf Stands (λ old new. HasNoCallLeft new.hall ⊎ RefusesAct ghosts.eq old.hall.hall old.hall.ticket Close)
 
 pub returns-in_err-simulation-clause-breaks_off : goal.returns-in_err-simulation-clause-breaks_off
 returns-in_err-simulation-clause-breaks_off g c = nothing_served _ _ _ c.front_item.ensures
 
 pub returns-clause-answers : goal.returns-clause-answers
 returns-clause-answers g c =
-    served (λ s. StandsFor (queue_with _) s.hall) (ClosesOf (λ s. StandsFor (queue_with _) s.hall)) c.in_ok-simulation.simulation c.serve.new.service _ _ _ _ c.serve.result
-    c.in_ok-simulation.ensures c.serve.ensures.ok
+    served Stands Stops Ends c.in_ok-simulation.simulation c.serve.new.service _ _ _ _ c.serve.result
+    c.in_ok-simulation.ensures.stands c.serve.ensures.ok
 
 pub returns-clause-breaks_off : goal.returns-clause-breaks_off
 returns-clause-breaks_off g c =
-    served_partly (λ s. StandsFor (queue_with _) s.hall) (ClosesOf (λ s. StandsFor (queue_with _) s.hall)) c.in_ok-simulation.simulation c.serve.new.service _ _ _ _ c.serve.result _
-    c.front_item.ensures c.in_ok-simulation.ensures c.serve.ensures.all_was_told c.serve.ensures.breaks_off c.serve.ensures.stopped c.serve.ensures.out_of_memory
+    served_partly Stands Stops Ends c.in_ok-simulation.simulation c.serve.new.service _ _ _ _ c.serve.result _
+    c.front_item.ensures c.in_ok-simulation.ensures.stands c.serve.ensures.all_was_told c.serve.ensures.breaks_off c.serve.ensures.stopped c.serve.ensures.out_of_memory

@@ -56,14 +56,19 @@ unreachable-requires c =
     (λ e. never (c.in_default.ensures.found.1 e)) (λ e. never (c.in_default-subcommand_matches.ensures.found.1 e)) (λ e. never (c.in-None.ensures.found.1 e))
 
 pub returns-in-DisplayHelp : goal.returns-in-DisplayHelp
-returns-in-DisplayHelp c =
-    holds_of_errors (λ kinds. IsAmong DisplayHelp kinds) _ _ c.in_ok-program_words.ensures.app
-    (λ simple. among_errors DisplayHelp _ c.in-Err.error (sym c.in-DisplayHelp.is ∙ c.kind.ensures) (λ e. cc) (c.in-Err.ensures.kinds simple))
+returns-in-DisplayHelp c = (
+  holds_of_errors (λ kinds. IsAmong DisplayHelp kinds) _ _ c.in_ok-program_words.ensures.app
+      (λ simple. among_errors DisplayHelp _ c.in-Err.error (sym c.in-DisplayHelp.is ∙ c.kind.ensures) (λ e. cc) (c.in-Err.ensures.kinds simple)),
+  c.in_ok-text_of-in-DisplayHelp.ensures,
+)
 
 pub returns : goal.returns
 returns c = (
-  c.kind.result,
-  c.in_default-kind.not-DisplayHelp,
-  holds_of_errors (λ kinds. IsAmong c.kind.result kinds) _ _ c.in_ok-program_words.ensures.app
-      (λ simple. among_errors _ _ c.in-Err.error c.kind.ensures c.in_default-kind.not-OutOfMemory (c.in-Err.ensures.kinds simple)),
+  (
+    c.kind.result,
+    c.in_default-kind.not-DisplayHelp,
+    holds_of_errors (λ kinds. IsAmong c.kind.result kinds) _ _ c.in_ok-program_words.ensures.app
+        (λ simple. among_errors _ _ c.in-Err.error c.kind.ensures c.in_default-kind.not-OutOfMemory (c.in-Err.ensures.kinds simple)),
+  ),
+  c.in_ok-text_of-in_default-kind.ensures,
 )

@@ -1,6 +1,6 @@
-use Rattle.std.proofs.Common.{◌≡◌}
+use Rattle.std.proofs.Common.{◌≡◌, ◌≤◌}
 use Rattle.simulated_hall.specs.Standing.{SubmitsNothing}
 use Rattle.simulated_hall.proofs.carrier.Carrier.place.Given as goal
 
 abbrev pub invariant-loop-count : goal.invariant-loop-count
-invariant-loop-count g l = SubmitsNothing l.fn.self.hall.nodes.past l.self.hall.nodes.past × (l.self.ticket ≡ l.fn.self.ticket)
+invariant-loop-count g l = SubmitsNothing l.fn.self.hall.nodes.past l.self.hall.nodes.past × (l.self.ticket ≡ l.fn.self.ticket) × (l.count ≤ l.self.calls)
