@@ -127,21 +127,22 @@ impl Client {
         Ok(status_of(rt, words, &mut input, &mut ran.output, &mut ran.errors))
     }
 
-    /// Answers the bytes on so many nodes, and notes what differs.
+    /// Answers the bytes on so many nodes, where it reads and writes so many bytes at a time, and notes what differs.
     pub fn try_run(
         &self,
         alloc: Global,
         nodes: u8,
         seed: u64,
+        piece_len: usize,
         faults: &mut Vec<String>,
     ) -> Result<()> {
-        let mut ran = self.not_ran(alloc, 3);
+        let mut ran = self.not_ran(alloc, piece_len);
         ran.end = self.answer(alloc, nodes, seed, &mut ran.output)?;
         let tried = format!(in alloc; "{nodes} nodes, seed {seed}")?;
         self.compare(alloc, tried.as_str(), &ran, faults)
     }
 
-    // How a run over bytes ends, which reads 3 bytes at a time.
+    // How a run over bytes ends, which reads as many bytes at a time as it writes.
     fn answer(
         &self,
         alloc: Global,
@@ -149,7 +150,9 @@ impl Client {
         seed: u64,
         output: &mut PieceWriter,
     ) -> Result<String> {
-        let mut input = PieceReader::new(self.input.as_slice(), 3, self.ending);
+        let piece_len = output.piece_len;
+        ensure!(piece_len > 0, "no bytes at a time");
+        let mut input = PieceReader::new(self.input.as_slice(), piece_len, self.ending);
         let ended = end_of(alloc, nodes, seed, &mut input, output);
         Ok(end_words(alloc, ended)?)
     }

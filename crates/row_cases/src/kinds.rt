@@ -18,6 +18,9 @@ use std::alloc::Global;
 /// The nodes and seeds with which a run over bytes is tried.
 const RUNS: [(u8, u64); 3] = [(1, 0), (3, 1), (7, u64::MAX)];
 
+/// How many bytes a session is given at a time: all that there is room for, or one.
+const WHOLE_AND_BYTE_BY_BYTE: [usize; 2] = [usize::MAX, 1];
+
 /// Tries a case, and notes what differs.
 pub fn try_case<H: Host>(rt: &H, case: &Case<'_>, faults: &mut Vec<String>) -> Result<()> {
     let alloc = rt.alloc();
@@ -26,6 +29,7 @@ pub fn try_case<H: Host>(rt: &H, case: &Case<'_>, faults: &mut Vec<String>) -> R
         "client" => try_client(rt, lines, faults),
         "program" => try_program(rt, lines, faults),
         "run" => try_run(alloc, lines, faults),
+        "session" => try_session(alloc, lines, faults),
         "register" => try_filter::<Register>(alloc, lines, faults),
         "queue" => try_queues(alloc, lines, faults),
         "requests" => run_script(alloc, &mut Requests, lines, faults),
@@ -87,7 +91,16 @@ fn try_lengths<H: Host>(
 fn try_run(alloc: Global, lines: &[&str], faults: &mut Vec<String>) -> Result<()> {
     let client = Client::of(alloc, "eof", lines)?;
     for (nodes, seed) in RUNS {
-        client.try_run(alloc, nodes, seed, faults)?;
+        client.try_run(alloc, nodes, seed, 3, faults)?;
+    }
+    Ok(())
+}
+
+// A session over one node goes alike, however its bytes come and go.
+fn try_session(alloc: Global, lines: &[&str], faults: &mut Vec<String>) -> Result<()> {
+    let client = Client::of(alloc, "eof", lines)?;
+    for piece_len in WHOLE_AND_BYTE_BY_BYTE {
+        client.try_run(alloc, 1, 0, piece_len, faults)?;
     }
     Ok(())
 }

@@ -3,7 +3,13 @@
 #![tactic(auto)]
 
 #[cfg(test)]
+mod always_rows;
+#[cfg(test)]
+mod break_rows;
+#[cfg(test)]
 mod command_rows;
+#[cfg(test)]
+mod echo;
 #[cfg(test)]
 mod fault_rows;
 #[cfg(test)]
@@ -12,6 +18,8 @@ mod hall_rows;
 mod job_rows;
 #[cfg(test)]
 mod leader_rows;
+#[cfg(test)]
+mod lent_rows;
 #[cfg(test)]
 mod limit_rows;
 #[cfg(test)]
@@ -26,6 +34,8 @@ mod queue_draws;
 mod recorder_rows;
 #[cfg(test)]
 mod replica_rows;
+#[cfg(test)]
+mod restart_rows;
 #[cfg(test)]
 mod schedule_rows;
 #[cfg(test)]
