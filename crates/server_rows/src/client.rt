@@ -19,8 +19,8 @@ pub struct Client {
 }
 
 impl Client {
-    /// Connects to the server at this port, once it listens. A reply that is waited for in vain is
-    /// none.
+    /// Connects to the server at this port, once it listens. What is sent goes out at once, and a
+    /// reply that is waited for in vain is none.
     pub fn connect<H: Net<Listener = TcpListener, Stream = TcpStream> + Clock>(
         rt: &H,
         port: u16,
@@ -28,6 +28,7 @@ impl Client {
         for _ in 0..TRIES {
             let address = SocketAddr::from((Ipv4Addr::LOCALHOST, port));
             if let Ok(stream) = TcpStream::connect(rt, address) {
+                stream.set_nodelay(true).ok()?;
                 stream
                     .set_read_timeout(Some(Duration::from_secs(PATIENCE)))
                     .ok()?;
@@ -61,6 +62,23 @@ impl Client {
     /// Waits for a byte, and leaves it unread.
     pub fn waits(&self) -> bool {
         matches!(self.stream.peek(&mut [0]), Ok(1))
+    }
+
+    /// Whether no byte has come.
+    pub fn hears_nothing(&self) -> bool {
+        let is_unblocked = self.stream.set_nonblocking(true).is_ok();
+        let has_heard = self.stream.peek(&mut [0]).is_ok();
+        is_unblocked && !has_heard && self.stream.set_nonblocking(false).is_ok()
+    }
+
+    /// Whether so many bytes come, and the end of a line.
+    pub fn skips(&mut self, len: usize) -> bool {
+        for _ in 0..len {
+            if self.next_byte().is_none() {
+                return false;
+            }
+        }
+        self.hears(b"\r\n")
     }
 
     /// The next line, without its end.

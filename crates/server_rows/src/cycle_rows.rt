@@ -16,7 +16,7 @@ const CYCLES: usize = 100;
 
 /// Puts a job, reserves one and deletes it, and answers the number of the one that was reserved;
 /// none where a reply is another.
-fn cycle<H: AllocGlobal>(rt: &H, client: &mut Client) -> Result<Option<u64>, AllocError> {
+pub fn cycle<H: AllocGlobal>(rt: &H, client: &mut Client) -> Result<Option<u64>, AllocError> {
     if !client.is_told(b"put 0 0 60 3\r\njob\r\n", b"INSERTED ") {
         return Ok(None);
     }

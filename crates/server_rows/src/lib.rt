@@ -5,9 +5,13 @@
 #[cfg(test)]
 mod client;
 #[cfg(test)]
+mod crowd_rows;
+#[cfg(test)]
 mod cycle_rows;
 #[cfg(test)]
 mod dump_rows;
+#[cfg(test)]
+mod resources;
 #[cfg(test)]
 mod session_rows;
 #[cfg(test)]
