@@ -1,4 +1,12 @@
-ghost use Rattle.std.specs.Prelude.{◌≡◌};
+ghost use Rattle.std.specs.Prelude.{◌≡◌, None, Some, IsOk, OnOk, OnErr};
+ghost use Rattle.object.specs.declared.command.Command.{Command};
+ghost use Rattle.ballot.specs.declared.letter.Letter.{Letter};
+ghost use Rattle.node.specs.declared.deed.Deed.TheVariants as deeds;
+ghost use Rattle.network.specs.Networks.{mail_of, front};
+ghost use Rattle.hall.specs.Recorded.{done, without_front_letter, repeated};
+ghost use Rattle.hall.specs.Halls.{with_nodes};
+ghost use Rattle.hall.specs.Refusals.{node_refusal};
+ghost use Rattle.node_threads.specs.declared.faults.Mishap.TheVariants as mishaps;
 
 use crate::faults::Mishap;
 use ballot::Slot;
@@ -67,7 +75,8 @@ impl Watch {
     ) -> Result<(), HallError>
         ensures book { hall.new.book ≡ hall.old.book }
     {
-        befall(hall, self.node, mishap);
+        // one that the hall refuses is left out
+        let _ = befall(hall, self.node, mishap);
         self.begin(hall)?;
         self.pass_second(hall)?;
         self.propose(hall)?;
@@ -130,21 +139,33 @@ impl Watch {
     }
 }
 
-// The mishap befalls the node. One that the hall refuses is left out.
-fn befall<O: Object>(hall: &mut Hall<O>, node: u8, mishap: Mishap)
+// The mishap befalls the node. One that the hall refuses changes nothing.
+fn befall<O: Object>(hall: &mut Hall<O>, node: u8, mishap: Mishap) -> Result<(), HallError>
+    ensures none { mishap ≡ mishaps.None → hall.new ≡ hall.old }
+    ensures lost { OnOk result (mishap ≡ mishaps.Lose →
+        hall.new ≡ with_nodes hall.old (without_front_letter hall.old.nodes node)) }
+    ensures repeated { OnOk result (mishap ≡ mishaps.Repeat → (l : Letter (Command O.Op))
+        → front (mail_of hall.old.nodes.network node) ≡ Some l
+        → hall.new ≡ with_nodes hall.old (repeated hall.old.nodes node l)) }
+    ensures no_letter { OnOk result (mishap ≡ mishaps.Repeat →
+        front (mail_of hall.old.nodes.network node) ≡ None → hall.new ≡ hall.old) }
+    ensures restarted { OnOk result (mishap ≡ mishaps.Restart →
+        hall.new ≡ with_nodes hall.old (done O.rules hall.old.nodes node deeds.Restart)) }
+    ensures succeeds { mishap ≡ mishaps.Lose → node_refusal hall.old node ≡ None → IsOk result }
+    ensures err { OnErr result (hall.new ≡ hall.old) }
     ensures book { hall.new.book ≡ hall.old.book }
 {
     match mishap {
-        Mishap::None => {}
+        Mishap::None => Ok(()),
         Mishap::Lose => {
-            let _ = hall.lose(node);
+            hall.lose(node)?;
+            Ok(())
         }
         Mishap::Repeat => {
-            let _ = hall.repeat(node);
+            hall.repeat(node)?;
+            Ok(())
         }
-        Mishap::Restart => {
-            let _ = hall.restart(node);
-        }
+        Mishap::Restart => hall.restart(node),
     }
 }
 
