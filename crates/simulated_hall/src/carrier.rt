@@ -87,7 +87,7 @@ impl<O: Object> Carrier<O> {
         ensures ticket { self.new.ticket ≡ self.old.ticket }
         ensures stopped { OnErr result (most_calls ≤ self.new.calls ⊎ (is_full self.new.hall ≡ true)) }
     {
-        home_is_member(&self.hall);
+        home_is_member(self.hall.members());
         for _ in 0..MOST_CALLS {
             self.count()?;
             match self.hall.tick(second, HOME) {

@@ -98,7 +98,7 @@ impl Driver {
     pub fn next<O: Object>(&mut self, hall: &Hall<O>, count: u32) -> Call
         ensures { is_member hall.now.nodes.network.members (node_called result) ≡ true }
     {
-        home_is_member(hall);
+        home_is_member(hall.members());
         if count >= DRAWN_CALLS {
             return self.plain(hall);
         }
@@ -134,9 +134,9 @@ impl Driver {
     // What there is to do, or where there is nothing what may bring some. Where it is not behind, node 1 proposes and
     // performs as soon as it can.
     fn calm<O: Object>(&mut self, hall: &Hall<O>) -> Call
-        requires { is_member hall.now.nodes.network.members 1 ≡ true }
         ensures { is_member hall.now.nodes.network.members (node_called result) ≡ true }
     {
+        home_is_member(hall.members());
         if self.behind == 0 && hall.can_perform(HOME) {
             return Call::Perform(HOME);
         }
@@ -175,9 +175,9 @@ impl Driver {
 
     // What may bring something to do.
     fn rouse(&mut self, members: Members) -> Call
-        requires { is_member members 1 ≡ true }
         ensures { is_member members (node_called result) ≡ true }
     {
+        home_is_member(members);
         let turn = self.idle % 5;
         self.idle = self.idle.saturating_add(1);
         match turn {
@@ -191,9 +191,9 @@ impl Driver {
     // Begins the node anew, and then again and again hands the command in, wakes the leader, empties every mail,
     // proposes and performs.
     fn plain<O: Object>(&mut self, hall: &Hall<O>) -> Call
-        requires { is_member hall.now.nodes.network.members 1 ≡ true }
         ensures { is_member hall.now.nodes.network.members (node_called result) ≡ true }
     {
+        home_is_member(hall.members());
         let (call, next) = match self.round {
             Round::Restart => (Call::Restart(HOME), Round::HandInAgain),
             Round::HandInAgain => (Call::HandInAgain, Round::Wake),
@@ -217,11 +217,11 @@ impl Driver {
     }
 }
 
-/// Every hall has the node at which the client hands in.
-pub(crate) fn home_is_member<O: Object>(hall: &Hall<O>)
-    ensures { is_member hall.now.nodes.network.members 1 ≡ true }
+/// The node at which the client hands in is a member, whoever the others are.
+pub(crate) fn home_is_member(members: Members)
+    ensures { is_member members 1 ≡ true }
 {
-    let _ = hall.members().count();
+    let _ = members.count();
 }
 
 // The first member to which a letter is on its way.
