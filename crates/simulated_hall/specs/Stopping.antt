@@ -1,7 +1,7 @@
 -- Why a request isn't carried on.
 use Rattle.std.specs.Prelude.{◌≡◌, ◌≢◌, ◌⊎◌, ℕ, ◌+◌, ◌≤◌, ◌^◌, Bool, true, None}
 use Rattle.object.specs.declared.command.Act.{Act}
-use Rattle.object.specs.declared.command.Act.TheVariants.{Do}
+use Rattle.object.specs.declared.command.Act.TheVariants.{Do, Close}
 use Rattle.object.specs.Objects.{Rules}
 use Rattle.hall.specs.Halls.{HallState}
 use Rattle.hall.specs.Refusals.{is_full, submit_refusal}
@@ -21,6 +21,10 @@ HasNoCallLeft s = most_calls ≤ s.calls
 -- session, or the ticket isn't the hall's
 abbrev pub RefusesAct : {Op Reply : Type 0} → (Op → Op → Bool) → HallState Op Reply → TicketState Op Reply → Act Op → Type 0
 RefusesAct same hall ticket act = submit_refusal same hall ticket act 1 ≢ None
+
+-- a client that leaves isn't let go where the calls are used up, or the hall refuses that
+abbrev pub IsNotLetGo : {Op Reply : Type 0} → (Op → Op → Bool) → SimulatedState Op Reply → SimulatedState Op Reply → Type 0
+IsNotLetGo same old new = HasNoCallLeft new ⊎ RefusesAct same old.hall old.ticket Close
 
 -- no second more can pass: the hall takes no event more, or the clock shows its last second
 abbrev pub HasNoSecondLeft : {Op Reply : Type 0} → SimulatedState Op Reply → Type 0

@@ -2,9 +2,8 @@ ghost use Rattle.std.specs.Prelude.{◌≡◌, ◌⊎◌, ◌+◌, Some, Err, If
 ghost use Rattle.simulated_hall.specs.declared.unanswered.Unanswered.TheVariants as unanswered;
 ghost use Rattle.simulated_hall.specs.OneClient.{Talk, opened, obeyed, passed, answered, left};
 ghost use Rattle.hall.specs.Tickets.{last_key, with_act};
-ghost use Rattle.object.specs.declared.command.Act.TheVariants.{Close};
 ghost use Rattle.simulated_hall.specs.Standing.{StandsFor, IsSaid, IsUnanswered};
-ghost use Rattle.simulated_hall.specs.Stopping.{HasNoCallLeft, HasNoSecondLeft, IsStopped, RefusesAct};
+ghost use Rattle.simulated_hall.specs.Stopping.{HasNoCallLeft, HasNoSecondLeft, IsNotLetGo, IsStopped, RefusesAct};
 
 use crate::carrier::{Carrier, MOST_CALLS};
 use crate::unanswered::{Stopped, Unanswered};
@@ -86,8 +85,7 @@ impl<O: Object> SimulatedHall<O> {
         ensures stands { OnOk result ((t : Talk O) → StandsFor O.rules self.old t
             → StandsFor O.rules self.new (left O.rules t)) }
         ensures never_refused { IfErr result (λ e. e ≡ unanswered.Stopped) }
-        ensures stopped { OnErr result (HasNoCallLeft self.new
-            ⊎ RefusesAct O.Op.eq self.old.hall self.old.ticket Close) }
+        ensures stopped { OnErr result (IsNotLetGo O.Op.eq self.old self.new) }
     {
         self.carrier.begin();
         for _ in 0..MOST_CALLS {
