@@ -1,12 +1,18 @@
 -- A simulated hall as a service.
-use Rattle.std.specs.Prelude.{◌≡◌, Some, Result, Ok, Err}
+use Rattle.std.specs.Prelude.{◌≡◌, Bool, Some, Result, Ok, Err}
 use Rattle.bean_queue.specs.declared.op.Op.{Op}
 use Rattle.bean_queue.specs.declared.reply.Reply.{Reply}
 use Rattle.bean_queue.specs.Queue.{QueueState}
 use Rattle.session.specs.declared.faults.ServiceFault.{ServiceFault}
 use Rattle.session.specs.declared.faults.ServiceFault.TheVariants.{Refused, Stopped}
 use Rattle.simulated_hall.specs.OneClient.{Talk, answered, left}
-use Rattle.beanpax.specs.Sessions.{queue}
+use Rattle.simulated_hall.specs.Standing.{SimulatedState}
+use Rattle.simulated_hall.specs.Stopping.{IsStopped}
+use Rattle.beanpax.specs.Sessions.{queue, queue_with}
+
+-- an operation of a hall of queues isn't carried on, where this says which operations are one
+abbrev pub IsStoppedBy : (Op → Op → Bool) → SimulatedState Op Reply → SimulatedState Op Reply → Op → Type 0
+IsStoppedBy same old new op = IsStopped (queue_with same) same old new op
 
 -- Of how far one queue has come before and after: a reply is that of the queue, which then has come so far. Where the
 -- operation is refused, the queue is where it was; and the hall stops for one of its reasons alone.

@@ -31,22 +31,20 @@ impl Simulation {
 impl Service for Simulation {
     ghost use Rattle.simulated_hall.specs.Standing.{StandsFor};
     ghost use Rattle.beanpax.specs.Sessions.{queue_with};
-    ghost use Rattle.beanpax.specs.Simulations.{Obeys, Leaves};
-    ghost use Rattle.simulated_hall.specs.Stopping.{HasNoCallLeft, IsStopped, RefusesAct};
-    ghost use Rattle.object.specs.declared.command.Act.TheVariants.{Close};
-    ghost use Rattle.std.specs.Prelude.{◌⊎◌};
+    ghost use Rattle.simulated_hall.specs.Stopping.{IsNotLetGo};
+    ghost use Rattle.beanpax.specs.Simulations.{IsStoppedBy, Obeys, Leaves};
 
     ghost asks = { λ old op result new. Obeys
         (StandsFor (queue_with ⟦<Op as PartialEq>⟧.eq) old.hall)
         (StandsFor (queue_with ⟦<Op as PartialEq>⟧.eq) new.hall)
-        (IsStopped (queue_with ⟦<Op as PartialEq>⟧.eq) ⟦<Op as PartialEq>⟧.eq old.hall new.hall op)
+        (IsStoppedBy ⟦<Op as PartialEq>⟧.eq old.hall new.hall op)
         op result };
 
     ghost closes = { λ old result new. Leaves
         (StandsFor (queue_with ⟦<Op as PartialEq>⟧.eq) old.hall)
         (StandsFor (queue_with ⟦<Op as PartialEq>⟧.eq) new.hall)
-        (HasNoCallLeft new.hall
-        ⊎ RefusesAct ⟦<Op as PartialEq>⟧.eq old.hall.hall old.hall.ticket Close) result };
+        (IsNotLetGo ⟦<Op as PartialEq>⟧.eq old.hall new.hall)
+        result };
 
     fn ask(&mut self, op: Op) -> Result<Reply, ServiceFault> {
         match self.hall.ask(op) {

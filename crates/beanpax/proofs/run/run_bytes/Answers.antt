@@ -1,14 +1,13 @@
-use Rattle.std.proofs.Common.{◌⊎◌}
-use Rattle.object.specs.declared.command.Act.TheVariants.{Close}
 use Rattle.bean_queue.specs.contracts.op.OpPartialEq.TheImpl.{ghosts}
 use Rattle.bean_queue.specs.Queue.{QueueState}
 use Rattle.bean_queue.specs.declared.op.Op.{Op}
 use Rattle.session.specs.Serving.{Closes}
 use Rattle.simulated_hall.specs.OneClient.{Talk}
 use Rattle.simulated_hall.specs.Standing.{StandsFor}
-use Rattle.simulated_hall.specs.Stopping.{HasNoCallLeft, IsStopped, RefusesAct}
+use Rattle.simulated_hall.specs.Stopping.{IsNotLetGo}
 use Rattle.beanpax.specs.declared.simulation.Simulation.{Simulation}
 use Rattle.beanpax.specs.Sessions.{queue_with}
+use Rattle.beanpax.specs.Simulations.{IsStoppedBy}
 use Rattle.beanpax.proofs.Obeyed.{ClosesOf}
 use Rattle.beanpax.proofs.Served.{served, served_partly, nothing_served}
 use Rattle.beanpax.proofs.run.run_bytes.Goals as goal
@@ -17,10 +16,10 @@ abbrev Stands : Simulation → Talk QueueState → Type 0
 Stands s = StandsFor (queue_with ghosts.eq) s.hall
 
 abbrev Stops : Simulation → Simulation → Op → Type 0
-Stops old new op = IsStopped (queue_with ghosts.eq) ghosts.eq old.hall new.hall op
+Stops old new op = IsStoppedBy ghosts.eq old.hall new.hall op
 
 abbrev Ends : Closes Simulation
-Ends = ClosesOf Stands (λ old new. HasNoCallLeft new.hall ⊎ RefusesAct ghosts.eq old.hall.hall old.hall.ticket Close)
+Ends = ClosesOf Stands (λ old new. IsNotLetGo ghosts.eq old.hall new.hall)
 
 pub returns-in_err-simulation-clause-breaks_off : goal.returns-in_err-simulation-clause-breaks_off
 returns-in_err-simulation-clause-breaks_off g c = nothing_served _ _ _ c.front_item.ensures
