@@ -1,2 +1,0 @@
-pub mod Seconds
-pub mod Ends
