@@ -1,5 +1,5 @@
 -- What a schedule chooses among.
-use Rattle.std.specs.Prelude.{◌≡◌, ◌⊎◌, ℕ, ◌<◌, ◌≤◌, Bool, true, false}
+use Rattle.std.specs.Prelude.{◌≡◌, ◌⊎◌, ℕ, ◌<◌, ◌≤◌, ◌+◌, ◌-◌, ◌^◌, ◌%◌, nat_lt, if◌then◌else◌, Bool, true, false, List, length}
 use Rattle.world.specs.declared.event.Event.{Event}
 use Rattle.world.specs.declared.event.Event.TheVariants.{Submit, Deliver, Wake, Nudge, Propose, Perform, Restart}
 
@@ -13,13 +13,22 @@ submits (Propose n) = false
 submits (Perform n) = false
 submits (Restart n) = false
 
+-- From how many of the last letters the word chooses: mostly from 32, and for eight words in 256 from as many as a word counts.
+abbrev pub window : ℕ → ℕ
+window word = if nat_lt word 208 then 32 else 2 ^ 32 - 1
+
+-- the member that the next word chooses: they are equally likely
+abbrev pub chosen_member : List ℕ → ℕ → ℕ
+chosen_member members next = next % length members + 1
+
 -- Of 256 words so many draw each kind of event: 216 a delivery, where there is a letter, 14 that a node performs, 6 a nudge,
--- 4 a wake, 1 a restart; the others, and those of a delivery where there is no letter, that a node proposes.
-abbrev pub IsDrawnBy : {Op : Type 0} → Bool → ℕ → Event Op → Type 0
-IsDrawnBy any_letter word (Submit n c) = ⊥
-IsDrawnBy any_letter word (Deliver i) = (any_letter ≡ true) × (word < 216)
-IsDrawnBy any_letter word (Perform n) = (216 ≤ word) × (word < 230)
-IsDrawnBy any_letter word (Nudge n) = (230 ≤ word) × (word < 236)
-IsDrawnBy any_letter word (Wake n) = (236 ≤ word) × (word < 240)
-IsDrawnBy any_letter word (Restart n) = word ≡ 240
-IsDrawnBy any_letter word (Propose n) = (240 < word) ⊎ ((any_letter ≡ false) × (word < 216))
+-- 4 a wake, 1 a restart; the others, and those of a delivery where there is no letter, that a node proposes. The next word
+-- chooses the node, or the letter, counted back from the last one.
+abbrev pub IsDrawnBy : {Op : Type 0} → List ℕ → ℕ → ℕ → ℕ → Event Op → Type 0
+IsDrawnBy members letters word next (Submit n c) = ⊥
+IsDrawnBy members letters word next (Deliver i) = (0 < letters) × (word < 216) × (i + 1 + next % window word % letters ≡ letters)
+IsDrawnBy members letters word next (Perform n) = (216 ≤ word) × (word < 230) × (n ≡ chosen_member members next)
+IsDrawnBy members letters word next (Nudge n) = (230 ≤ word) × (word < 236) × (n ≡ chosen_member members next)
+IsDrawnBy members letters word next (Wake n) = (236 ≤ word) × (word < 240) × (n ≡ chosen_member members next)
+IsDrawnBy members letters word next (Restart n) = (word ≡ 240) × (n ≡ chosen_member members next)
+IsDrawnBy members letters word next (Propose n) = ((240 < word) ⊎ ((letters ≡ 0) × (word < 216))) × (n ≡ chosen_member members next)

@@ -1,9 +1,9 @@
-ghost use Rattle.std.specs.Prelude.{◌≡◌, ◌<◌, ◌%◌, true, false, nat_lt};
+ghost use Rattle.std.specs.Prelude.{◌≡◌, ◌<◌, ◌+◌, ◌%◌, true, false};
 ghost use Rattle.ballot.specs.Members.{is_member};
 ghost use Rattle.rand_core.specs.Pcg32Seed.{pcg32_seed};
 ghost use Rattle.rand_pcg.specs.Pcg.{pcg32, pcg32_of_seed};
 ghost use Rattle.world.specs.Refusals.{is_at_member, is_sent};
-ghost use Rattle.world.specs.Schedules.{submits, IsDrawnBy};
+ghost use Rattle.world.specs.Schedules.{submits, window, chosen_member, IsDrawnBy};
 
 use crate::event::Event;
 use ballot::Members;
@@ -53,18 +53,20 @@ impl Schedule {
         self.words.next_word() % n
     }
 
-    /// The next event of a world with these members and so many letters: the next word draws its kind. Mostly a late
-    /// letter is delivered; a restart is the rarest. What clients submit is not drawn.
+    /// The next event of a world with these members and so many letters: the next word draws its kind, and the one after
+    /// it the node or the letter. Mostly a late letter is delivered; a restart is the rarest. What clients submit is not
+    /// drawn.
     pub fn next<Op: Value>(&mut self, members: Members, letters: usize) -> Event<Op>
         ensures never_submits { submits result ≡ false }
         ensures sent { is_sent letters result ≡ true }
         ensures member { is_at_member members result ≡ true }
-        ensures drawn { IsDrawnBy (nat_lt 0 letters) ((pcg32 self.old).0 % 256) result }
+        ensures drawn { IsDrawnBy members letters ((pcg32 self.old).0 % 256)
+            (pcg32 (pcg32 self.old).1).0 result }
+        ensures next { self.new ≡ (pcg32 (pcg32 self.old).1).1 }
     {
         let word = self.pick(256);
         if word < 216 && letters > 0 {
-            let window = if word < 208 { LATE } else { u32::MAX };
-            return Event::Deliver(self.letter(letters, window));
+            return Event::Deliver(self.letter(letters, window(word)));
         }
         let node = self.member(members);
         match word {
@@ -80,7 +82,9 @@ impl Schedule {
     fn letter(&mut self, letters: usize, window: u32) -> usize
         requires sent { 0 < letters }
         requires open { 0 < window }
-        ensures { result < letters }
+        ensures sent { result < letters }
+        ensures drawn { result + 1 + (pcg32 self.old).0 % window % letters ≡ letters }
+        ensures next { self.new ≡ (pcg32 self.old).1 }
     {
         let back = self.pick(window) as usize % letters;
         letters - 1 - back
@@ -88,9 +92,19 @@ impl Schedule {
 
     // One of the members.
     fn member(&mut self, members: Members) -> u8
-        ensures { is_member members result ≡ true }
+        ensures member { is_member members result ≡ true }
+        ensures drawn { result ≡ chosen_member members (pcg32 self.old).0 }
+        ensures next { self.new ≡ (pcg32 self.old).1 }
     {
         let before = self.pick(u32::from(members.count()));
         before as u8 + 1
     }
+}
+
+// From how many of the last letters this word chooses.
+fn window(word: u32) -> u32
+    ensures open { 0 < result }
+    ensures drawn { result ≡ window word }
+{
+    if word < 208 { LATE } else { u32::MAX }
 }
