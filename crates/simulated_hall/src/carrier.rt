@@ -1,12 +1,14 @@
-ghost use Rattle.std.specs.Prelude.{◌≡◌, ◌⊎◌, ◌+◌, ◌<◌, ◌≤◌, ◌^◌, ◌∷◌, [], true, Err, IfOk, OnOk, OnErr};
+ghost use Rattle.std.specs.Prelude.{◌≡◌, ◌≢◌, ◌⊎◌, ◌+◌, ◌<◌, ◌≤◌, ◌^◌, ◌∷◌, [], true, Some, Err, IfOk, OnOk, OnErr};
 ghost use Rattle.simulated_hall.specs.declared.unanswered.Unanswered.TheVariants as unanswered;
 ghost use Rattle.object.specs.Happenings.{is_submitted};
 ghost use Rattle.object.specs.Keys.{stands};
 ghost use Rattle.recorder.specs.Records.{own_key};
+ghost use Rattle.hall.specs.declared.ticket.NotedAct.{NotedAct};
+ghost use Rattle.hall.specs.Recorded.{asked};
 ghost use Rattle.hall.specs.Explained.{IsExplained};
-ghost use Rattle.hall.specs.Halls.{new_hall, after_submit, after_tick, reply_to};
+ghost use Rattle.hall.specs.Halls.{new_hall, after_submit, after_tick, with_nodes, reply_to};
 ghost use Rattle.hall.specs.Refusals.{is_full};
-ghost use Rattle.hall.specs.Tickets.{new_ticket, last_key, next_command, with_act};
+ghost use Rattle.hall.specs.Tickets.{new_ticket, last_key, last_noted, last_command, next_command, with_act};
 ghost use Rattle.simulated_hall.specs.Standing.{SubmitsNothing};
 ghost use Rattle.simulated_hall.specs.Stopping.{RefusesAct, most_calls};
 
@@ -206,6 +208,12 @@ impl<O: Object> Carrier<O> {
     // Hands the command of the key in again: a second of the clock, or the session's last command.
     fn hand_in_again(&mut self, key: Key) -> Result<(), HallError>
         requires { is_submitted key self.old.hall.nodes.past.happenings.submitted ≡ true }
+        ensures second { key.session ≡ 0 → OnOk result
+            (self.new.hall ≡ after_tick O.rules self.old.hall 1 key.number) }
+        ensures command { key.session ≢ 0 → OnOk result ((noted : NotedAct O.Op O.Reply) →
+            last_noted self.old.ticket ≡ Some noted → self.new.hall
+            ≡ with_nodes self.old.hall (asked O.rules self.old.hall.nodes 1
+            (last_command self.old.ticket noted.act))) }
         ensures nothing { SubmitsNothing self.old.hall.nodes.past self.new.hall.nodes.past }
         ensures ticket { self.new.ticket ≡ self.old.ticket }
         ensures calls { self.new.calls ≡ self.old.calls }

@@ -124,6 +124,7 @@ impl<O: Object> SimulatedHall<O> {
             → IsSaid O.rules self.new (passed O.rules (last_key self.old.ticket) t) reply) }
         ensures ticket { self.new.ticket ≡ self.old.ticket }
         ensures second { OnOk result (self.new.second ≡ self.old.second + 1) }
+        ensures not_passed { OnErr result (self.new.second ≡ self.old.second) }
         ensures stopped { OnErr result (HasNoCallLeft self.new ⊎ HasNoSecondLeft self.new) }
     {
         if self.second >= LAST_SECOND {
@@ -135,8 +136,8 @@ impl<O: Object> SimulatedHall<O> {
             session: 0,
             number: second,
         })?;
-        self.second = second;
         let reply = self.carrier.reply()?;
+        self.second = second;
         Ok(reply)
     }
 }
