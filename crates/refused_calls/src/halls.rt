@@ -172,7 +172,7 @@ impl Subject for Visited {
         }
     }
 
-    fn is_like(&self, other: &Self) -> Result<bool, AllocError> {
+    fn is_like(&mut self, other: &mut Self) -> Result<bool, AllocError> {
         Ok(self.looks_like(other) && self.dump()? == other.dump()?)
     }
 }

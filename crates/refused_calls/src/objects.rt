@@ -3,7 +3,8 @@ use crate::dumps::{QUEUE, STALE, read};
 use crate::outcome::Outcome;
 use crate::subject::{Refusal, Subject, Then, walk};
 use ballot::Slot;
-use bean_queue::{PlainQueue, Queue};
+use bean_queue::{Op, PlainQueue, Queue, Reply};
+use chronicle::Chronicle;
 use object::{
     Act, Answer, Command, Effect, Key, Object, Once, Register, RegisterOp, RegisterReply,
     Submission, Value,
@@ -67,21 +68,39 @@ impl<O: Object> Obeys<O> for Replica<O> {
     }
 }
 
+/// The commands of a course, and questions by which an object shows how it stands: commands that change nothing.
+#[derive(Drop)]
+struct Script<'a, Op> {
+    commands: &'a [Submission<Op>],
+    questions: &'a [Submission<Op>],
+}
+
 /// What obeys these commands, and its answers so far.
 #[derive(Drop)]
 struct Obeying<'a, O: Object, T: Obeys<O>> {
+    alloc: Global,
     obeying: T,
-    commands: &'a [Submission<O::Op>],
+    script: &'a Script<'a, O::Op>,
     answers: Vec<Answer<O::Reply>>,
 }
 
 impl<'a, O: Object, T: Obeys<O>> Obeying<'a, O, T> {
-    fn new(alloc: Global, obeying: T, commands: &'a [Submission<O::Op>]) -> Obeying<'a, O, T> {
+    fn new(alloc: Global, obeying: T, script: &'a Script<'a, O::Op>) -> Obeying<'a, O, T> {
         Obeying {
+            alloc,
             obeying,
-            commands,
+            script,
             answers: Vec::new(alloc),
         }
+    }
+
+    // What it answers to the questions.
+    fn shows(&mut self) -> Result<Vec<Answer<O::Reply>>, AllocError> {
+        let mut shown = Vec::new(self.alloc);
+        for question in self.script.questions {
+            self.obeying.obey(&question.command, &mut shown)?;
+        }
+        Ok(shown)
     }
 }
 
@@ -89,13 +108,13 @@ impl<O: Object, T: Obeys<O>> Subject for Obeying<'_, O, T> {
     type Told = T::Told;
 
     fn make(&mut self, place: usize) -> Result<T::Told, Refusal> {
-        let submission = self.commands.get(place).ok_or(Refusal::Other)?;
+        let submission = self.script.commands.get(place).ok_or(Refusal::Other)?;
         let told = self.obeying.obey(&submission.command, &mut self.answers)?;
         Ok(told)
     }
 
-    fn is_like(&self, other: &Self) -> Result<bool, AllocError> {
-        Ok(self.answers == other.answers)
+    fn is_like(&mut self, other: &mut Self) -> Result<bool, AllocError> {
+        Ok(self.answers == other.answers && self.shows()? == other.shows()?)
     }
 }
 
@@ -103,36 +122,41 @@ impl<O: Object, T: Obeys<O>> Subject for Obeying<'_, O, T> {
 fn obey_all<O: Object, T: Obeys<O>>(
     alloc: Global,
     both: (T, T),
-    commands: &[Submission<O::Op>],
+    script: &Script<'_, O::Op>,
     expected: &[Answer<O::Reply>],
     then: Then,
 ) -> Outcome {
     let (first, second) = both;
-    let mut tried = Obeying::<O, T>::new(alloc, first, commands);
-    let mut other = Obeying::<O, T>::new(alloc, second, commands);
-    let outcome = walk(alloc, &mut tried, &mut other, commands.len(), then);
+    let calls = script.commands.len();
+    let mut tried = Obeying::<O, T>::new(alloc, first, script);
+    let mut other = Obeying::<O, T>::new(alloc, second, script);
+    let outcome = walk(alloc, &mut tried, &mut other, calls, then);
     let is_expected = then == Then::Stop || tried.answers.as_slice() == expected;
-    outcome.if_so(is_expected, commands.len())
+    outcome.if_so(is_expected, calls)
 }
 
 /// A queue.
 pub fn queue(alloc: Global, then: Then) -> Option<Outcome> {
     let dump = read(alloc, QUEUE)?;
     let both = two_bare::<Queue>(alloc)?;
-    Some(obey_all::<Queue, Bare<Queue>>(alloc, both, dump.submitted(), dump.answers(), then))
+    let script = commands_of(&dump);
+    Some(obey_all::<Queue, Bare<Queue>>(alloc, both, &script, dump.answers(), then))
 }
 
 /// A queue that goes over all jobs.
 pub fn plain_queue(alloc: Global, then: Then) -> Option<Outcome> {
     let dump = read(alloc, QUEUE)?;
     let both = two_bare::<PlainQueue>(alloc)?;
-    Some(obey_all::<PlainQueue, Bare<PlainQueue>>(
-        alloc,
-        both,
-        dump.submitted(),
-        dump.answers(),
-        then,
-    ))
+    let script = commands_of(&dump);
+    Some(obey_all::<PlainQueue, Bare<PlainQueue>>(alloc, both, &script, dump.answers(), then))
+}
+
+// The commands of a dump. A queue shows how it stands by what it answers to the next ones.
+fn commands_of(dump: &Chronicle<Op, Reply>) -> Script<'_, Op> {
+    Script {
+        commands: dump.submitted(),
+        questions: &[],
+    }
 }
 
 fn two_bare<O: Object>(alloc: Global) -> Option<(Bare<O>, Bare<O>)> {
@@ -148,7 +172,8 @@ fn by_itself<O: Object>(alloc: Global) -> Option<Bare<O>> {
 pub fn filter(alloc: Global, then: Then) -> Option<Outcome> {
     let dump = read(alloc, STALE)?;
     let both = (Once::new(alloc).ok()?, Once::new(alloc).ok()?);
-    Some(obey_all::<Queue, Once<Queue>>(alloc, both, dump.submitted(), dump.answers(), then))
+    let script = commands_of(&dump);
+    Some(obey_all::<Queue, Once<Queue>>(alloc, both, &script, dump.answers(), then))
 }
 
 /// A replica of a queue, to which all commands are decided.
@@ -158,7 +183,8 @@ pub fn replica(alloc: Global, then: Then) -> Option<Outcome> {
         told(alloc, dump.submitted())?,
         told(alloc, dump.submitted())?,
     );
-    Some(obey_all::<Queue, Replica<Queue>>(alloc, both, dump.submitted(), dump.answers(), then))
+    let script = commands_of(&dump);
+    Some(obey_all::<Queue, Replica<Queue>>(alloc, both, &script, dump.answers(), then))
 }
 
 // A replica that knows these commands to be decided, from slot 1 on.
@@ -173,17 +199,23 @@ fn told<O: Object>(alloc: Global, commands: &[Submission<O::Op>]) -> Option<Repl
     Some(replica)
 }
 
-/// A register that is written and read ten times.
+/// A register that is written and read ten times. It shows how it stands by a read.
 pub fn register(alloc: Global, then: Then) -> Option<Outcome> {
     let (commands, expected) = writes_and_reads(alloc)?;
+    let read = asked(
+        Key {
+            session: 3,
+            number: 1,
+        },
+        RegisterOp::Read,
+    )?;
+    let script = Script {
+        commands: commands.as_slice(),
+        questions: std::slice::from_ref(&read),
+    };
     let both = two_bare::<Register>(alloc)?;
-    Some(obey_all::<Register, Bare<Register>>(
-        alloc,
-        both,
-        commands.as_slice(),
-        expected.as_slice(),
-        then,
-    ))
+    let expected = expected.as_slice();
+    Some(obey_all::<Register, Bare<Register>>(alloc, both, &script, expected, then))
 }
 
 type RegisterCourse = (Vec<Submission<RegisterOp>>, Vec<Answer<RegisterReply>>);

@@ -55,7 +55,7 @@ pub trait Subject {
     fn make(&mut self, place: usize) -> Result<Self::Told, Refusal>;
 
     /// Whether all that can be seen of both is the same.
-    fn is_like(&self, other: &Self) -> Result<bool, AllocError>;
+    fn is_like(&mut self, other: &mut Self) -> Result<bool, AllocError>;
 }
 
 /// How one call went.
@@ -114,7 +114,7 @@ fn told_alike<S: Subject>(told: S::Told, other: &mut S, place: usize, step: Step
 }
 
 // Whether both are alike; where memory is refused, they are compared once more.
-fn are_alike<S: Subject>(tried: &S, other: &S) -> bool {
+fn are_alike<S: Subject>(tried: &mut S, other: &mut S) -> bool {
     match tried.is_like(other) {
         Ok(alike) => alike,
         Err(AllocError) => tried.is_like(other) == Ok(true),

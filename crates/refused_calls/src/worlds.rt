@@ -70,7 +70,7 @@ impl Subject for Nodes<'_> {
         self.take(turn)
     }
 
-    fn is_like(&self, other: &Self) -> Result<bool, AllocError> {
+    fn is_like(&mut self, other: &mut Self) -> Result<bool, AllocError> {
         let tells_alike = self.world.letters() == other.world.letters()
             && self.world.submitted() == other.world.submitted()
             && self.world.answers() == other.world.answers();
