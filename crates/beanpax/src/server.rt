@@ -94,7 +94,7 @@ fn tell_port<W: ByteOut>(alloc: Global, port: u16, output: &mut W) -> Result<(),
 // for.
 fn conclude<R: Host>(
     rt: &R,
-    ended: &Ended<Queue>,
+    ended: &Ended<Queue, Connections>,
     options: &ServerOptions<'_>,
 ) -> Result<(), ProgramFault>
     ensures fault { IfSome ended.now.fault (λ fault. result ≡ Err (of_cluster fault)) }

@@ -1,4 +1,6 @@
 //! Clients at the ends of pipes, and a clock that doesn't sleep.
+ghost use Rattle.std.specs.Prelude.{false};
+
 use node_threads::{Accept, Seconds};
 use session::{ByteOut, Failed, Reading, Writing};
 use std::alloc::Global;
@@ -96,7 +98,18 @@ pub fn told(alloc: Global, mut from: PipeReader) -> Result<Vec<u8>, Fail> {
 /// Clients that come one after the other, the last of the list first.
 #[derive(Drop)]
 pub struct Queued<W> {
-    pub clients: Vec<(Reading<PipeReader>, W)>,
+    clients: Vec<(Reading<PipeReader>, W)>,
+    has_ended: bool,
+}
+
+impl<W> Queued<W> {
+    /// These clients.
+    pub fn new(clients: Vec<(Reading<PipeReader>, W)>) -> Queued<W> {
+        Queued {
+            clients,
+            has_ended: false,
+        }
+    }
 }
 
 impl<W: ByteOut + Send + Drop> Accept for Queued<W> {
@@ -104,8 +117,18 @@ impl<W: ByteOut + Send + Drop> Accept for Queued<W> {
 
     type W = W;
 
+    ghost has_failed = { λ _. false };
+
+    ghost has_ended = { λ queued. queued.has_ended };
+
     fn next(&mut self) -> Result<Option<(Reading<PipeReader>, W)>, Failed> {
-        Ok(self.clients.pop())
+        match self.clients.pop() {
+            Some(client) => Ok(Some(client)),
+            None => {
+                self.has_ended = true;
+                Ok(None)
+            }
+        }
     }
 }
 

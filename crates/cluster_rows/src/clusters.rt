@@ -5,7 +5,9 @@ use bean_queue::Queue;
 use chronicle::{CheckFault, ReadFault, What, check, read_text};
 use hall::Hall;
 use node_threads::{Accept, Ended, Faults, Gate, Seconds, run_cluster, run_cluster_faulty};
+use session::Writing;
 use std::alloc::{AllocError, Global};
+use std::io::PipeWriter;
 use std::sync::Wait;
 use std::sync::atomic::AtomicBool;
 use std::thread::Threads;
@@ -17,13 +19,13 @@ pub fn serve<R: Threads + Wait + Sync, G: Gate + Sync>(
     clients: Vec<Served>,
     is_stopped: &AtomicBool,
     gate: &G,
-) -> Result<Ended<Queue>, AllocError> {
+) -> Result<Ended<Queue, Queued<Writing<PipeWriter>>>, AllocError> {
     let hall = Hall::new(alloc, Members::new(3).unwrap())?;
     let seconds = Hasty {
         second: 0,
         is_stopped,
     };
-    Ok(run_cluster(rt, alloc, hall, Queued { clients }, seconds, 2, gate))
+    Ok(run_cluster(rt, alloc, hall, Queued::new(clients), seconds, 2, gate))
 }
 
 /// These nodes and so many workers, 1 to 64, serve the clients that come, while mishaps befall the nodes.
@@ -42,7 +44,7 @@ pub fn serve_faulty<
     seconds: T,
     gate: &G,
     faults: &F,
-) -> Result<Ended<Queue>, AllocError> {
+) -> Result<Ended<Queue, A>, AllocError> {
     let hall = Hall::new(alloc, members)?;
     let workers = if workers < 1 || workers > 64 {
         1
@@ -53,7 +55,7 @@ pub fn serve_faulty<
 }
 
 /// Whether nothing is wrong with the dump, and something is where the first command of session 1 has another answer.
-pub fn is_explained(alloc: Global, ended: &Ended<Queue>) -> Result<bool, ReadFault> {
+pub fn is_explained<A>(alloc: Global, ended: &Ended<Queue, A>) -> Result<bool, ReadFault> {
     let mut text = Vec::new(alloc);
     ended.hall.dump()?.write_text(&mut text)?;
     let other = with_another_answer(alloc, text.as_slice())?;
@@ -83,7 +85,7 @@ fn with_another_answer(alloc: Global, text: &[u8]) -> Result<Vec<u8>, AllocError
 }
 
 /// The lines of the dump, but for those of the clock, of how sessions ended, and of the order.
-pub fn lines_of(alloc: Global, ended: &Ended<Queue>) -> Result<Vec<u8>, AllocError> {
+pub fn lines_of<A>(alloc: Global, ended: &Ended<Queue, A>) -> Result<Vec<u8>, AllocError> {
     let mut text = Vec::new(alloc);
     ended.hall.dump()?.write_text(&mut text)?;
     let mut lines = Vec::new(alloc);
@@ -99,7 +101,11 @@ pub fn lines_of(alloc: Global, ended: &Ended<Queue>) -> Result<Vec<u8>, AllocErr
 }
 
 /// Whether the dump has this line.
-pub fn has_line(alloc: Global, ended: &Ended<Queue>, wanted: &[u8]) -> Result<bool, AllocError> {
+pub fn has_line<A>(
+    alloc: Global,
+    ended: &Ended<Queue, A>,
+    wanted: &[u8],
+) -> Result<bool, AllocError> {
     let mut text = Vec::new(alloc);
     ended.hall.dump()?.write_text(&mut text)?;
     Ok(

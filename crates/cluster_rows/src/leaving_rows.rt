@@ -47,7 +47,7 @@ fn leave<R: Threads + Wait + Sync + Abort + Files + AllocGlobal>(
     };
     let gate = Bounded::new(rt, 10_000);
     let hall = Hall::new(alloc, Members::new(3).unwrap())?;
-    let ended = run_cluster(rt, alloc, hall, Queued { clients }, seconds, 1, &gate);
+    let ended = run_cluster(rt, alloc, hall, Queued::new(clients), seconds, 1, &gate);
     let is_right = ended.fault.is_none()
         && is_explained(alloc, &ended)?
         && has_line(alloc, &ended, b"S 1 3 close\n")?;

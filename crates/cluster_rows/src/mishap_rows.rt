@@ -1,4 +1,6 @@
 //! Clients are answered while nodes restart, and letters are lost or come again.
+ghost use Rattle.std.specs.Prelude.{false};
+
 use crate::clients::{Hasty, Queued, Served, connect, connect_once, told};
 use crate::clusters::{is_explained, serve_faulty};
 use crate::gates::{Bounded, Hold, HoldsChoice};
@@ -20,12 +22,17 @@ const MOST_LOOKS: u64 = 100_000_000;
 struct AfterRestarts<'a> {
     clients: Vec<Served>,
     faults: &'a Counted<RestartsOnce>,
+    has_ended: bool,
 }
 
 impl<'a> Accept for AfterRestarts<'a> {
     type R = Reading<PipeReader>;
 
     type W = Writing<PipeWriter>;
+
+    ghost has_failed = { λ _. false };
+
+    ghost has_ended = { λ accept. accept.has_ended };
 
     fn next(&mut self) -> Result<Option<Served>, Failed> {
         if self.clients.len() == 1 {
@@ -36,7 +43,13 @@ impl<'a> Accept for AfterRestarts<'a> {
                 thread::yield_now();
             }
         }
-        Ok(self.clients.pop())
+        match self.clients.pop() {
+            Some(client) => Ok(Some(client)),
+            None => {
+                self.has_ended = true;
+                Ok(None)
+            }
+        }
     }
 }
 
@@ -67,6 +80,7 @@ fn nodes_restart_while_clients_put(rt: HostRuntime) -> Result<(), Fail> {
     let accept = AfterRestarts {
         clients,
         faults: &faults,
+        has_ended: false,
     };
     let members = Members::new(3).unwrap();
     let ended = serve_faulty(&rt, alloc, members, 2, accept, seconds, &gate, &faults)?;
@@ -108,7 +122,7 @@ fn lock_held_while_choosing(rt: HostRuntime) -> Result<(), Fail> {
             alloc,
             members,
             2,
-            Queued { clients },
+            Queued::new(clients),
             seconds,
             &held,
             &held,

@@ -78,7 +78,7 @@ fn is_late<R: Threads + Wait + Sync + Abort + Files + AllocGlobal, F: Faults + S
             alloc,
             members,
             1,
-            Queued { clients },
+            Queued::new(clients),
             seconds,
             &gate,
             faults,

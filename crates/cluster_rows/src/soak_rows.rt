@@ -147,7 +147,7 @@ fn soak<R: Threads + Wait + Sync + Abort + Clock + Files + AllocGlobal>(
         is_stopped: &is_stopped,
     };
     let faults = Counted::new(alloc, Drawn { seed })?;
-    let accept = Queued { clients: served };
+    let accept = Queued::new(served);
     let (ended, ids) = thread::join(
         rt,
         || serve_faulty(rt, alloc, members, workers, accept, seconds, &gate, &faults),

@@ -1,5 +1,5 @@
-ghost use Rattle.std.specs.Prelude.{◌≡◌, ◌≢◌, ◌+◌, ◌≤◌, [], Some, IfOk, vec_capacity};
-ghost use Rattle.node_threads.specs.declared.cluster_error.ClusterError.TheVariants.{BadNumber, OutOfMemory};
+ghost use Rattle.std.specs.Prelude.{◌≡◌, ◌≢◌, ◌+◌, ◌≤◌, [], true, None, Some, IfOk, length, vec_capacity};
+ghost use Rattle.node_threads.specs.declared.cluster_error.ClusterError.TheVariants.{BadNumber, ListenFailed, OutOfMemory};
 ghost use Rattle.node_threads.specs.Clusters.{IsAccountedFor, all_tickets};
 
 use crate::accept::Accept;
@@ -10,7 +10,7 @@ use crate::faults::{Faults, NoFaults};
 use crate::gate::Gate;
 use crate::places::Places;
 use crate::shared::Shared;
-use crate::staff::{Common, Door, run_threads};
+use crate::staff::{Common, Door, Finished, run_threads};
 use crate::tally::Tally;
 use bean_queue::{Op, Reply};
 use crossbeam_channel::{Receiver, Sender};
@@ -20,14 +20,15 @@ use std::alloc::{AllocError, Global};
 use std::marker::Brand;
 use std::sync::Wait;
 use std::sync::ledger::{Blank, Ledger};
-use std::thread::Threads;
+use std::thread::{JoinHandle, Threads};
 
-/// What is left when a cluster has ended: its hall, the tickets of its sessions, a list for each worker, and what went
-/// wrong, where something did.
+/// What is left when a cluster has ended: its hall, the tickets of its sessions, a list for each worker, what accepted its
+/// clients, and what went wrong, where something did.
 #[derive(Drop)]
-pub struct Ended<O: Object> {
+pub struct Ended<O: Object, A> {
     pub hall: Hall<O>,
     pub tickets: Vec<Vec<Ticket<O>>>,
+    pub accept: A,
     pub fault: Option<ClusterError>,
 }
 
@@ -39,12 +40,25 @@ pub fn run_cluster<
     T: Seconds + Send + Drop,
     G: Gate + Sync,
     R: Threads + Wait + Sync,
->(rt: &R, alloc: Global, hall: Hall<O>, accept: A, seconds: T, workers: u32, gate: &G) -> Ended<O>
+>(
+    rt: &R,
+    alloc: Global,
+    hall: Hall<O>,
+    accept: A,
+    seconds: T,
+    workers: u32,
+    gate: &G,
+) -> Ended<O, A>
     requires none { hall.book ≡ [] }
     requires some { 1 ≤ workers }
     requires few { workers ≤ 64 }
     ensures accounted { IsAccountedFor result.hall (all_tickets result.tickets.items) result.fault }
     ensures untouched { result.fault ≡ Some OutOfMemory → result.hall ≡ hall }
+    ensures each_worker { result.fault ≡ None → length result.tickets.items ≡ workers }
+    ensures ended { result.fault ≡ None → A.has_ended result.accept ≡ true }
+    ensures none_failed { result.fault ≡ None →
+        A.has_failed result.accept ≡ A.has_failed accept }
+    ensures failed { result.fault ≡ Some ListenFailed → A.has_failed result.accept ≡ true }
 {
     run_cluster_faulty(rt, alloc, hall, accept, seconds, workers, gate, &NoFaults)
 }
@@ -66,17 +80,23 @@ pub fn run_cluster_faulty<
     workers: u32,
     gate: &G,
     faults: &F,
-) -> Ended<O>
+) -> Ended<O, A>
     requires none { hall.book ≡ [] }
     requires some { 1 ≤ workers }
     requires few { workers ≤ 64 }
     ensures accounted { IsAccountedFor result.hall (all_tickets result.tickets.items) result.fault }
     ensures untouched { result.fault ≡ Some OutOfMemory → result.hall ≡ hall }
+    ensures each_worker { result.fault ≡ None → length result.tickets.items ≡ workers }
+    ensures ended { result.fault ≡ None → A.has_ended result.accept ≡ true }
+    ensures none_failed { result.fault ≡ None →
+        A.has_failed result.accept ≡ A.has_failed accept }
+    ensures failed { result.fault ≡ Some ListenFailed → A.has_failed result.accept ≡ true }
 {
     let Ok(room) = Room::new(alloc, &hall, workers) else {
         return Ended {
             hall,
             tickets: Vec::new(alloc),
+            accept,
             fault: Some(ClusterError::OutOfMemory),
         };
     };
@@ -104,6 +124,7 @@ pub fn run_cluster_faulty<
 struct Room<O: Object, A: Accept> {
     places: Places,
     tickets: Vec<Vec<Ticket<O>>>,
+    crew: Vec<JoinHandle<()>>,
     sender: Sender<(A::R, A::W), Global>,
     receiver: Receiver<(A::R, A::W), Global>,
 }
@@ -113,11 +134,16 @@ impl<O: Object, A: Accept> Room<O, A> {
     fn new(alloc: Global, hall: &Hall<O>, workers: u32) -> Result<Room<O, A>, AllocError>
         ensures tickets { IfOk result (λ room. room.tickets.items ≡ []) }
         ensures room { IfOk result (λ room. workers ≤ vec_capacity room.tickets) }
+        ensures crew { IfOk result (λ room. room.crew.items ≡ []) }
+        ensures crew_room { IfOk result (λ room.
+            length hall.now.nodes.network.members + 1 ≤ vec_capacity room.crew) }
     {
         let (sender, receiver) = crossbeam_channel::bounded(alloc, workers as usize)?;
+        let nodes = hall.members().count();
         Ok(Room {
-            places: Places::new(alloc, hall.members().count(), workers)?,
+            places: Places::new(alloc, nodes, workers)?,
             tickets: Vec::with_capacity(alloc, workers as usize)?,
+            crew: Vec::with_capacity(alloc, usize::from(nodes) + 1)?,
             sender,
             receiver,
         })
@@ -152,22 +178,30 @@ fn run_counted<
     workers: u32,
     sessions: Blank,
     commands: Blank,
-) -> Ended<O>
+) -> Ended<O, A>
     requires none { hall.book ≡ [] }
     requires few { workers ≤ 64 }
     requires tickets { room.tickets.items ≡ [] }
     requires room { workers ≤ vec_capacity room.tickets }
+    requires crew { room.crew.items ≡ [] }
+    requires crew_room { length hall.nodes.network.members + 1 ≤ vec_capacity room.crew }
     requires sessions_name { sessions.name ≡ S.name }
     requires sessions_parts { (sessions.parts ≡ S.parts) × (S.parts ≡ workers + 1) }
     requires commands_name { commands.name ≡ C.name }
     requires commands_parts { (commands.parts ≡ C.parts) × (C.parts ≡ workers + 1) }
     ensures accounted { IsAccountedFor result.hall (all_tickets result.tickets.items) result.fault }
     ensures memory { result.fault ≢ Some OutOfMemory }
+    ensures each_worker { result.fault ≡ None → length result.tickets.items ≡ workers }
+    ensures ended { result.fault ≡ None → A.has_ended result.accept ≡ true }
+    ensures none_failed { result.fault ≡ None →
+        A.has_failed result.accept ≡ A.has_failed outside.entry.accept }
+    ensures failed { result.fault ≡ Some ListenFailed → A.has_failed result.accept ≡ true }
 {
     let nodes = hall.members().count();
     let Room {
         places,
         tickets,
+        crew,
         sender,
         receiver,
     } = room;
@@ -187,23 +221,38 @@ fn run_counted<
         accept: outside.accept,
         clients: sender,
     };
-    let (tally, fault) = run_threads(&common, nodes, outside.seconds, workers, tally, door);
-    end(shared, tally, fault)
+    let (finished, _crew) = run_threads(
+        &common,
+        nodes,
+        outside.seconds,
+        workers,
+        tally,
+        door,
+        crew,
+    );
+    end(shared, finished)
 }
 
 // Compares what the workers have brought back with the hall.
-fn end<O: Object, S: Ledger, C: Ledger>(
+fn end<O: Object, S: Ledger, C: Ledger, A>(
     shared: Shared<O, S, C>,
-    tally: Tally<O, S, C>,
-    fault: Option<ClusterError>,
-) -> Ended<O>
-    requires sessions { tally.sessions.parts ≡ S.parts }
-    requires commands { tally.commands.parts ≡ C.parts }
-    requires fault { fault ≢ Some BadNumber }
-    requires memory { fault ≢ Some OutOfMemory }
+    finished: Finished<O, S, C, A>,
+) -> Ended<O, A>
+    requires sessions { finished.tally.sessions.parts ≡ S.parts }
+    requires commands { finished.tally.commands.parts ≡ C.parts }
+    requires fault { finished.fault ≢ Some BadNumber }
+    requires memory { finished.fault ≢ Some OutOfMemory }
     ensures accounted { IsAccountedFor result.hall (all_tickets result.tickets.items) result.fault }
     ensures memory { result.fault ≢ Some OutOfMemory }
+    ensures tickets { result.tickets ≡ finished.tally.tickets }
+    ensures accept { result.accept ≡ finished.accept }
+    ensures same { result.fault ≢ Some BadNumber → result.fault ≡ finished.fault }
 {
+    let Finished {
+        tally,
+        accept,
+        fault,
+    } = finished;
     let Tally {
         tickets,
         mut sessions,
@@ -218,6 +267,7 @@ fn end<O: Object, S: Ledger, C: Ledger>(
     Ended {
         hall,
         tickets,
+        accept,
         fault,
     }
 }

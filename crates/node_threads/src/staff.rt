@@ -1,4 +1,4 @@
-ghost use Rattle.std.specs.Prelude.{◌≡◌, ◌≢◌, ◌+◌, ◌≤◌, ◌<◌, ◌-◌, ◌^◌, Some, Err, IfSome, OnErr, vec_len, vec_capacity};
+ghost use Rattle.std.specs.Prelude.{◌≡◌, ◌≢◌, ◌+◌, ◌≤◌, ◌<◌, ◌-◌, ◌^◌, true, None, Some, Err, IfSome, OnOk, OnErr, vec_len, vec_capacity};
 ghost use Rattle.node_threads.specs.declared.cluster_error.ClusterError.TheVariants.{BadNumber, ListenFailed, OutOfMemory, ThreadFailed};
 
 use crate::accept::Accept;
@@ -19,7 +19,7 @@ use std::alloc::Global;
 use std::sync::Wait;
 use std::sync::ledger::Ledger;
 use std::thread;
-use std::thread::{Scope, Threads};
+use std::thread::{JoinHandle, Scope, Threads};
 
 /// What the threads of a cluster have in common.
 #[derive(Drop)]
@@ -86,24 +86,49 @@ pub(crate) struct Door<A: Accept> {
 }
 
 impl<A: Accept + Drop> Door<A> {
-    // Hands in clients until no more are accepted. One for whom there is no memory ends unanswered.
-    fn let_in<R: Wait>(mut self, rt: &R) -> Option<ClusterError>
-        ensures { IfSome result (λ fault. fault ≡ ListenFailed) }
+    // Hands in clients until no more are accepted, and answers what accepts them, as it is then. One for whom there is no
+    // memory ends unanswered.
+    fn let_in<R: Wait>(self, rt: &R) -> (A, Option<ClusterError>)
+        ensures fault { IfSome result.1 (λ fault. fault ≡ ListenFailed) }
+        ensures ended { result.1 ≡ None → A.has_ended result.0 ≡ true }
+        ensures none_failed { result.1 ≡ None → A.has_failed result.0 ≡ A.has_failed self.accept }
+        ensures failed { result.1 ≡ Some ListenFailed → A.has_failed result.0 ≡ true }
     {
+        let Door {
+            mut accept,
+            clients,
+        } = self;
         for _ in rt.forever() {
-            match self.accept.next() {
+            match accept.next() {
                 Ok(Some(client)) => {
-                    let _ = self.clients.send(rt, client);
+                    let _ = clients.send(rt, client);
                 }
-                Ok(None) => return None,
-                Err(Failed) => return Some(ClusterError::ListenFailed),
+                Ok(None) => return (accept, None),
+                Err(Failed) => return (accept, Some(ClusterError::ListenFailed)),
             }
         }
         unreachable!()
     }
+
+    // Lets nobody in any more.
+    fn shut(self) -> A
+        ensures { result ≡ self.accept }
+    {
+        let Door { accept, clients: _ } = self;
+        accept
+    }
 }
 
-/// Runs all threads of a cluster: they have ended when it returns.
+/// What the threads of a cluster leave when they have ended: what the workers have brought back, what accepted clients,
+/// as it was then, and what went wrong, where something did.
+#[derive(Drop)]
+pub(crate) struct Finished<O: Object, S: Ledger, C: Ledger, A> {
+    pub(crate) tally: Tally<O, S, C>,
+    pub(crate) accept: A,
+    pub(crate) fault: Option<ClusterError>,
+}
+
+/// Runs all threads of a cluster: they have ended when it returns. It answers those of the nodes and the clock, too.
 pub(crate) fn run_threads<
     's,
     O: Object<Op = Op, Reply = Reply> + Send,
@@ -121,35 +146,59 @@ pub(crate) fn run_threads<
     workers: u32,
     tally: Tally<O, S, C>,
     door: Door<A>,
-) -> (Tally<O, S, C>, Option<ClusterError>)
+    crew: Vec<JoinHandle<()>>,
+) -> (Finished<O, S, C, A>, Vec<JoinHandle<()>>)
     requires few { workers ≤ 64 }
     requires session_parts { workers < tally.sessions.parts }
     requires command_parts { workers < tally.commands.parts }
     requires room { vec_len tally.tickets + workers ≤ vec_capacity tally.tickets }
-    ensures session_parts { result.0.sessions.parts ≡ tally.sessions.parts }
-    ensures command_parts { result.0.commands.parts ≡ tally.commands.parts }
-    ensures fault { result.1 ≢ Some BadNumber }
-    ensures memory { result.1 ≢ Some OutOfMemory }
+    requires crew_room { vec_len crew + nodes + 1 ≤ vec_capacity crew }
+    ensures session_parts { result.0.tally.sessions.parts ≡ tally.sessions.parts }
+    ensures command_parts { result.0.tally.commands.parts ≡ tally.commands.parts }
+    ensures crew { result.0.fault ≡ None → vec_len result.1 ≡ vec_len crew + nodes + 1 }
+    ensures all { result.0.fault ≡ None →
+        vec_len result.0.tally.tickets ≡ vec_len tally.tickets + workers }
+    ensures ended { result.0.fault ≡ None → A.has_ended result.0.accept ≡ true }
+    ensures none_failed { result.0.fault ≡ None →
+        A.has_failed result.0.accept ≡ A.has_failed door.accept }
+    ensures failed { result.0.fault ≡ Some ListenFailed → A.has_failed result.0.accept ≡ true }
+    ensures fault { result.0.fault ≢ Some BadNumber }
+    ensures memory { result.0.fault ≢ Some OutOfMemory }
 {
     thread::scope(
         thread::scope_env(),
         common.rt,
-        move |scope| -> (Tally<O, S, C>, Option<ClusterError>)
+        move |scope| -> (Finished<O, S, C, A>, Vec<JoinHandle<()>>)
             requires few { workers ≤ 64 }
             requires session_parts { workers < tally.sessions.parts }
             requires command_parts { workers < tally.commands.parts }
             requires room { vec_len tally.tickets + workers ≤ vec_capacity tally.tickets }
-            ensures session_parts { result.0.sessions.parts ≡ tally.sessions.parts }
-            ensures command_parts { result.0.commands.parts ≡ tally.commands.parts }
-            ensures fault { result.1 ≢ Some BadNumber }
-            ensures memory { result.1 ≢ Some OutOfMemory }
+            requires crew_room { vec_len crew + nodes + 1 ≤ vec_capacity crew }
+            ensures session_parts { result.0.tally.sessions.parts ≡ tally.sessions.parts }
+            ensures command_parts { result.0.tally.commands.parts ≡ tally.commands.parts }
+            ensures crew { result.0.fault ≡ None → vec_len result.1 ≡ vec_len crew + nodes + 1 }
+            ensures all { result.0.fault ≡ None →
+                vec_len result.0.tally.tickets ≡ vec_len tally.tickets + workers }
+            ensures ended { result.0.fault ≡ None → A.has_ended result.0.accept ≡ true }
+            ensures none_failed { result.0.fault ≡ None →
+                A.has_failed result.0.accept ≡ A.has_failed door.accept }
+            ensures failed { result.0.fault ≡ Some ListenFailed →
+                A.has_failed result.0.accept ≡ true }
+            ensures fault { result.0.fault ≢ Some BadNumber }
+            ensures memory { result.0.fault ≢ Some OutOfMemory }
         {
-            let ended = match start_nodes_and_clock(scope, common, nodes, seconds) {
+            let mut crew = crew;
+            let started = start_nodes_and_clock(scope, common, nodes, seconds, &mut crew);
+            let finished = match started {
                 Ok(()) => run_workers(scope, common, common.first_desk(), workers, tally, door),
-                Err(fault) => (tally, Some(fault)),
+                Err(fault) => Finished {
+                    tally,
+                    accept: door.shut(),
+                    fault: Some(fault),
+                },
             };
             common.shared.end();
-            ended
+            (finished, crew)
         },
     )
 }
@@ -172,8 +221,11 @@ fn start_nodes_and_clock<
     common: &'s Common<'s, O, S, C, I, W, R, G, F>,
     nodes: u8,
     seconds: T,
+    crew: &mut Vec<JoinHandle<()>>,
 ) -> Result<(), ClusterError>
-    ensures { OnErr result (result ≡ Err ThreadFailed) }
+    requires room { vec_len crew.old + nodes + 1 ≤ vec_capacity crew.old }
+    ensures all { OnOk result (vec_len crew.new ≡ vec_len crew.old + nodes + 1) }
+    ensures fault { OnErr result (result ≡ Err ThreadFailed) }
 {
     let Common {
         rt,
@@ -182,16 +234,17 @@ fn start_nodes_and_clock<
         faults,
         ..
     } = common;
-    for node in 1..=nodes {
-        let started = scope.spawn(move || run_node(*rt, *shared, node, *gate, *faults));
-        if started.is_err() {
+    for before in 0..nodes {
+        let node = before + 1;
+        let Ok(thread) = scope.spawn(move || run_node(*rt, *shared, node, *gate, *faults)) else {
             return Err(ClusterError::ThreadFailed);
-        }
+        };
+        crew.push_reserved(thread);
     }
-    let started = scope.spawn(move || run_clock(*rt, *shared, seconds, *gate));
-    if started.is_err() {
+    let Ok(thread) = scope.spawn(move || run_clock(*rt, *shared, seconds, *gate)) else {
         return Err(ClusterError::ThreadFailed);
-    }
+    };
+    crew.push_reserved(thread);
     Ok(())
 }
 
@@ -213,36 +266,51 @@ fn run_workers<
     workers: u32,
     mut tally: Tally<O, S, C>,
     door: Door<A>,
-) -> (Tally<O, S, C>, Option<ClusterError>)
+) -> Finished<O, S, C, A>
     requires few { workers ≤ 64 }
     requires number { desk.worker ≤ workers + 1 }
     requires session_parts { workers + 1 < desk.worker + tally.sessions.parts }
     requires command_parts { workers + 1 < desk.worker + tally.commands.parts }
     requires room { vec_len tally.tickets + workers + 1 ≤ vec_capacity tally.tickets + desk.worker }
-    ensures session_parts { result.0.sessions.parts ≡ tally.sessions.parts }
-    ensures command_parts { result.0.commands.parts ≡ tally.commands.parts }
-    ensures room { vec_capacity result.0.tickets ≡ vec_capacity tally.tickets }
-    ensures count { vec_len result.0.tickets + desk.worker ≤ vec_len tally.tickets + workers + 1 }
-    ensures fault { result.1 ≢ Some BadNumber }
-    ensures memory { result.1 ≢ Some OutOfMemory }
+    ensures session_parts { result.tally.sessions.parts ≡ tally.sessions.parts }
+    ensures command_parts { result.tally.commands.parts ≡ tally.commands.parts }
+    ensures room { vec_capacity result.tally.tickets ≡ vec_capacity tally.tickets }
+    ensures count { vec_len result.tally.tickets + desk.worker
+        ≤ vec_len tally.tickets + workers + 1 }
+    ensures all { result.fault ≡ None → vec_len result.tally.tickets + desk.worker
+        ≡ vec_len tally.tickets + workers + 1 }
+    ensures ended { result.fault ≡ None → A.has_ended result.accept ≡ true }
+    ensures none_failed { result.fault ≡ None →
+        A.has_failed result.accept ≡ A.has_failed door.accept }
+    ensures failed { result.fault ≡ Some ListenFailed → A.has_failed result.accept ≡ true }
+    ensures fault { result.fault ≢ Some BadNumber }
+    ensures memory { result.fault ≢ Some OutOfMemory }
 {
     if desk.worker > workers {
-        let fault = door.let_in(common.rt);
-        return (tally, fault);
+        let (accept, fault) = door.let_in(common.rt);
+        return Finished {
+            tally,
+            accept,
+            fault,
+        };
     }
     let worker = tally.send_out(common.alloc);
     match scope.spawn(move || common.work(worker, desk)) {
         Ok(handle) => {
             let next = common.desk_after(desk);
-            let (mut tally, fault) = run_workers(scope, common, next, workers, tally, door);
-            tally.take_back(handle.join(common.rt));
-            (tally, fault)
+            let mut finished = run_workers(scope, common, next, workers, tally, door);
+            finished.tally.take_back(handle.join(common.rt));
+            finished
         }
         Err(refused) => {
-            drop(door);
+            let accept = door.shut();
             let work = refused.value;
             tally.take_back(work());
-            (tally, Some(ClusterError::ThreadFailed))
+            Finished {
+                tally,
+                accept,
+                fault: Some(ClusterError::ThreadFailed),
+            }
         }
     }
 }
