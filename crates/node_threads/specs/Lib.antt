@@ -1,3 +1,4 @@
 pub mod Attending
 pub mod Clusters
 pub mod Marks
+pub mod Rings

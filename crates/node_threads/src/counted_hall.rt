@@ -1,5 +1,8 @@
-ghost use Rattle.std.specs.Prelude.{◌≡◌, ◌+◌, ◌<◌, [], ℕ, length, sum, IfOk, OnOk, OnErr};
-ghost use Rattle.hall.specs.Tickets.{new_ticket, with_act};
+ghost use Rattle.std.specs.Prelude.{◌≡◌, ◌+◌, ◌<◌, [], ℕ, Some, length, sum, IfOk, OnOk, OnErr};
+ghost use Rattle.hall.specs.declared.ticket.NotedAct.{NotedAct};
+ghost use Rattle.hall.specs.Halls.{with_nodes};
+ghost use Rattle.hall.specs.Recorded.{asked};
+ghost use Rattle.hall.specs.Tickets.{new_ticket, last_command, last_noted, with_act};
 
 use crate::faults::Mishap;
 use crate::turn::Watch;
@@ -120,7 +123,12 @@ impl<O: Object, S: Ledger, C: Ledger> CountedHall<O, S, C> {
     }
 
     /// Hands the last command of a session in again.
-    pub(crate) fn resubmit(&mut self, ticket: &Ticket<O>, node: u8) -> Result<(), HallError> {
+    pub(crate) fn resubmit(&mut self, ticket: &Ticket<O>, node: u8) -> Result<(), HallError>
+        ensures ok { OnOk result ((noted : NotedAct O.Op O.Reply) →
+            last_noted ticket.now ≡ Some noted → self.new.hall ≡ with_nodes self.old.hall
+            (asked O.rules self.old.hall.nodes node (last_command ticket.now noted.act))) }
+        ensures err { OnErr result (self.new.hall ≡ self.old.hall) }
+    {
         let CountedHall { hall, .. } = self;
         hall.resubmit(ticket, node)
     }

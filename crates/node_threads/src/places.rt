@@ -1,3 +1,6 @@
+ghost use Rattle.std.specs.Prelude.{◌≡◌, ◌<◌, ◌≤◌, IfOk, vec_len};
+ghost use Rattle.node_threads.specs.Rings.{node_after};
+
 use crate::bell::{Bell, Patience};
 use crate::turn::Watch;
 use std::alloc::{AllocError, Global};
@@ -22,6 +25,8 @@ pub(crate) struct Places {
     workers: Vec<Seat>,
     has_helper: AtomicBool,
     is_over: AtomicBool,
+    ghost some: { 0 < vec_len nodes },
+    ghost few: { vec_len nodes < 256 },
 }
 
 /// A node's place: where its own thread waits, and its watch, which whoever takes its turn has to himself.
@@ -40,7 +45,10 @@ struct Seat {
 
 impl Places {
     /// Places for so many nodes and workers.
-    pub(crate) fn new(alloc: Global, nodes: u8, workers: u32) -> Result<Places, AllocError> {
+    pub(crate) fn new(alloc: Global, nodes: u8, workers: u32) -> Result<Places, AllocError>
+        requires { 0 < nodes }
+        ensures { IfOk result (λ places. vec_len places.nodes ≡ nodes) }
+    {
         Ok(Places {
             nodes: posts(alloc, nodes, workers as usize <= MOST_HELPERS)?,
             workers: seats(alloc, workers)?,
@@ -141,8 +149,12 @@ impl Places {
     }
 
     /// The node after this one, in a ring.
-    pub(crate) fn next_node(&self, node: u8) -> u8 {
-        if usize::from(node) < self.nodes.len() && node < u8::MAX {
+    pub(crate) fn next_node(&self, node: u8) -> u8
+        ensures next { result ≡ node_after (vec_len self.now.nodes) node }
+        ensures some { 1 ≤ result }
+        ensures within { result ≤ vec_len self.now.nodes }
+    {
+        if usize::from(node) < self.nodes.len() {
             node + 1
         } else {
             1
@@ -187,7 +199,9 @@ impl Places {
 }
 
 // Posts for the nodes 1, 2, .., which read their mail before they propose, or don't.
-fn posts(alloc: Global, count: u8, reads_first: bool) -> Result<Vec<Post>, AllocError> {
+fn posts(alloc: Global, count: u8, reads_first: bool) -> Result<Vec<Post>, AllocError>
+    ensures { IfOk result (λ posts. vec_len posts ≡ count) }
+{
     let mut posts = Vec::with_capacity(alloc, usize::from(count))?;
     for before in 0..count {
         posts.push(Post {

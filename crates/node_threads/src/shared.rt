@@ -1,5 +1,9 @@
-ghost use Rattle.std.specs.Prelude.{◌≡◌, ◌+◌, ◌<◌, [], ℕ, true, false, Some, IfOk, OnOk, OnErr, length, sum};
-ghost use Rattle.hall.specs.Tickets.{new_ticket, with_act, with_noted};
+ghost use Rattle.std.specs.Prelude.{◌≡◌, ◌+◌, ◌<◌, ◌≤◌, [], ℕ, true, false, Some, IfOk, OnOk, OnErr, length, sum, vec_len};
+ghost use Rattle.hall.specs.declared.ticket.NotedAct.{NotedAct};
+ghost use Rattle.hall.specs.Halls.{with_nodes};
+ghost use Rattle.hall.specs.Recorded.{asked};
+ghost use Rattle.hall.specs.Tickets.{new_ticket, last_command, last_noted, with_act, with_noted};
+ghost use Rattle.node_threads.specs.Rings.{node_after};
 
 mod helping;
 
@@ -107,6 +111,7 @@ impl<O: Object, S: Ledger, C: Ledger> Shared<O, S, C> {
     ) -> Result<HandedIn, HallError>
         requires { 0 < mine.old.parts }
         ensures ticket { OnOk result (ticket.new ≡ with_act ticket.old act) }
+        ensures at { IfOk result (λ handed_in. handed_in.node ≡ node) }
         ensures counted { OnOk result (mine.new.amount ≡ mine.old.amount + 1) }
         ensures kept { OnErr result (ticket.new ≡ ticket.old) }
         ensures err { OnErr result (mine.new.amount ≡ mine.old.amount) }
@@ -164,7 +169,9 @@ impl<O: Object, S: Ledger, C: Ledger> Shared<O, S, C> {
     }
 
     /// The node after this one, in a ring.
-    pub(crate) fn next_node(&self, node: u8) -> u8 {
+    pub(crate) fn next_node(&self, node: u8) -> u8
+        ensures { result ≡ node_after (vec_len self.now.places.nodes) node }
+    {
         self.places.next_node(node)
     }
 
@@ -189,23 +196,52 @@ impl<O: Object, S: Ledger, C: Ledger> Shared<O, S, C> {
             × (ticket.new ≡ with_noted ticket.old (Some reply))) }
         ensures none { IfOk result (λ noted. noted ≡ false → ticket.new ≡ ticket.old) }
         ensures err { OnErr result (ticket.new ≡ ticket.old) }
+        ensures stays { handed_in.new.second ≡ handed_in.old.second →
+            handed_in.new.node ≡ handed_in.old.node }
+        ensures next { handed_in.old.second < handed_in.new.second →
+            handed_in.new.node ≡ node_after (vec_len self.now.places.nodes) handed_in.old.node }
+        ensures rises { handed_in.old.second ≤ handed_in.new.second }
     {
         let mut guard = self.lock(rt);
         if guard.hall().note(ticket)? {
             return Ok(true);
         }
         handed_in.work = self.work_for_helper(guard.hall());
-        let second = guard.hall().last_second();
-        if second > handed_in.second {
-            let node = self.places.next_node(handed_in.node);
-            let _ = guard.resubmit(ticket, node);
-            *handed_in = HandedIn {
-                node,
-                second,
-                work: Some(node),
-            };
-        }
+        let _ = self.hand_in_again(&mut guard, ticket, handed_in);
         Ok(false)
+    }
+
+    // Where a second has passed since the command was handed in, it is handed in again, at the next node.
+    fn hand_in_again(
+        &self,
+        hall: &mut CountedHall<O, S, C>,
+        ticket: &Ticket<O>,
+        handed_in: &mut HandedIn,
+    ) -> Result<(), HallError>
+        ensures waits { hall.old.hall.second ≤ handed_in.old.second →
+            (handed_in.new ≡ handed_in.old) × (hall.new.hall ≡ hall.old.hall) }
+        ensures second { handed_in.old.second < hall.old.hall.second →
+            handed_in.new.second ≡ hall.old.hall.second }
+        ensures node { handed_in.old.second < hall.old.hall.second →
+            handed_in.new.node ≡ node_after (vec_len self.now.places.nodes) handed_in.old.node }
+        ensures again { handed_in.old.second < hall.old.hall.second →
+            OnOk result ((noted : NotedAct O.Op O.Reply) → last_noted ticket.now ≡ Some noted →
+            hall.new.hall ≡ with_nodes hall.old.hall
+            (asked O.rules hall.old.hall.nodes handed_in.new.node
+            (last_command ticket.now noted.act))) }
+        ensures err { OnErr result (hall.new.hall ≡ hall.old.hall) }
+    {
+        let second = hall.hall().last_second();
+        if second <= handed_in.second {
+            return Ok(());
+        }
+        let node = self.places.next_node(handed_in.node);
+        *handed_in = HandedIn {
+            node,
+            second,
+            work: Some(node),
+        };
+        hall.resubmit(ticket, node)
     }
 
     // The node that is to have a turn first after a command was handed in at this one.
