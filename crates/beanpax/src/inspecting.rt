@@ -1,6 +1,9 @@
-ghost use Rattle.std.specs.Prelude.{IfOk, IfErr};
+ghost use Rattle.std.specs.Prelude.{◌≡◌, true, Err, IfOk, IfErr};
+ghost use Rattle.std.specs.Io.KnownBytes.{Appends};
+ghost use Rattle.beanpax.specs.declared.faults.ProgramFault.TheVariants.{WriteFailed};
+ghost use Rattle.beanpax.specs.Faults.{IsOfOutput};
 ghost use Rattle.beanpax.specs.Program.{BeginsVerdict, HasInspected, IsInspectionFault};
-ghost use Rattle.beanpax.specs.Verdicts.{IsVerdict, IsVerdictOn};
+ghost use Rattle.beanpax.specs.Verdicts.{IsVerdict, IsVerdictOn, verdict_line};
 
 use crate::faults::ProgramFault;
 use crate::host::Host;
@@ -48,8 +51,24 @@ pub(crate) fn inspect_file<R: Host, W: ByteOut>(
     ensures begins { BeginsVerdict (W.contents output.old) (W.contents output.new) }
 {
     let text = fs::read(rt, file).map_err(|_| ProgramFault::FileFailed)?;
-    let verdict = inspect_text(rt.alloc(), text.as_slice())?;
-    let line = verdict.line(rt.alloc())?;
+    tell_verdict(rt.alloc(), text.as_slice(), output)
+}
+
+// Tells what is found of this text, of all of it.
+fn tell_verdict<W: ByteOut>(
+    alloc: Global,
+    text: &[u8],
+    output: &mut W,
+) -> Result<Verdict, ProgramFault>
+    ensures verdict { IfOk result (IsVerdict text.now) }
+    ensures told { IfOk result (λ verdict.
+        Appends (W.contents output.old) (W.contents output.new) (verdict_line verdict)) }
+    ensures fault { IfErr result IsOfOutput }
+    ensures write_failed { result ≡ Err WriteFailed → W.has_failed output.new ≡ true }
+    ensures begins { BeginsVerdict (W.contents output.old) (W.contents output.new) }
+{
+    let verdict = inspect_text(alloc, text)?;
+    let line = verdict.line(alloc)?;
     write_all(output, line.as_bytes()).map_err(|_| ProgramFault::WriteFailed)?;
     Ok(verdict)
 }

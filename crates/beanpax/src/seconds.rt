@@ -1,4 +1,5 @@
-ghost use Rattle.std.specs.Prelude.{◌≡◌, ◌↔◌, ◌+◌, ◌≤◌, ◌^◌, None, IfSome};
+ghost use Rattle.std.specs.Prelude.{◌≡◌, ◌↔◌, ◌+◌, ◌-◌, ◌*◌, ◌<◌, ◌≤◌, ◌^◌, None, IfNone, IfSome};
+ghost use Rattle.std.specs.Duration.{as_nanos};
 
 use node_threads::Seconds;
 use std::rt::Clock;
@@ -29,10 +30,23 @@ impl<'a, R: Clock> ClockSeconds<'a, R> {
         }
     }
 
-    // How long it is until then, where the clock can be read.
-    fn time_until(&self, second: u64) -> Option<Duration> {
-        let elapsed = self.start?.elapsed(self.clock).ok()?;
-        Some(Duration::from_secs(second).saturating_sub(elapsed))
+    // How much time has passed since the start, where the clock can be read.
+    fn passed(&self) -> Option<Duration> {
+        self.start?.elapsed(self.clock).ok()
+    }
+
+    // How long it is until the next second when so much time has passed: a second where that isn't
+    // known.
+    fn until_next(&self, passed: Option<Duration>) -> Duration
+        requires { self.now.second < 2 ^ 40 }
+        ensures known { IfSome passed (λ passed. as_nanos result
+            ≡ (self.now.second + 1) * 1000000000 - as_nanos passed) }
+        ensures unknown { IfNone passed (as_nanos result ≡ 1000000000) }
+    {
+        match passed {
+            Some(passed) => Duration::from_secs(self.second + 1).saturating_sub(passed),
+            None => Duration::from_secs(1),
+        }
     }
 }
 
@@ -45,10 +59,8 @@ impl<'a, R: Clock> Seconds for ClockSeconds<'a, R> {
         if self.second >= LAST_SECOND {
             return None;
         }
-        let next = self.second + 1;
-        let wait = self.time_until(next).unwrap_or(Duration::from_secs(1));
-        thread::sleep(self.clock, wait);
-        self.second = next;
-        Some(next)
+        thread::sleep(self.clock, self.until_next(self.passed()));
+        self.second += 1;
+        Some(self.second)
     }
 }

@@ -1,5 +1,7 @@
-ghost use Rattle.std.specs.Prelude.{◌≡◌, ◌≢◌, ◌≤◌, true, None, Ok, Err, IfOk, IfErr, IfSome, OnOk};
+ghost use Rattle.std.specs.Prelude.{◌≡◌, ◌≢◌, ◌≤◌, ◌∷◌, [], true, None, Ok, Err, replicate, IfOk, IfErr, IfSome, OnOk};
 ghost use Rattle.std.specs.Io.KnownBytes.{Appends};
+ghost use Rattle.std.specs.Net.Addr.{IsV4And, ipv4_octets};
+ghost use Rattle.std.specs.Net.Socket.{socket_ip, socket_port};
 ghost use Rattle.session.specs.Streams.{AppendsBeginning};
 ghost use Rattle.beanpax.specs.declared.faults.ProgramFault.TheVariants.{ReadFailed, WriteFailed};
 ghost use Rattle.beanpax.specs.declared.faults.ProgramFault.TheVariants.{FileFailed, ListenFailed};
@@ -7,7 +9,8 @@ ghost use Rattle.beanpax.specs.declared.faults.ProgramFault.TheVariants.{Service
 ghost use Rattle.beanpax.specs.Faults.{IsOfDump, IsOfOutput, of_cluster};
 ghost use Rattle.chronicle.specs.Checking.{IsFaultless};
 ghost use Rattle.chronicle.specs.Dump.{dump_text};
-ghost use Rattle.hall.specs.Halls.{chronicle_of};
+ghost use Rattle.hall.specs.Halls.{chronicle_of, new_hall};
+ghost use Rattle.node_threads.specs.Clusters.{IsAccountedFor, all_tickets};
 ghost use Rattle.beanpax.specs.Servers.{listening_line};
 
 use crate::connections::Connections;
@@ -50,21 +53,9 @@ pub(crate) fn serve_tcp<R: Host, W: ByteOut>(
 {
     let listener = listen(rt, options.port)?;
     tell_port(rt.alloc(), options.port, output)?;
-    let Some(members) = Members::new(options.nodes) else {
-        unreachable!()
-    };
-    let hall: Hall<Queue> = Hall::new(rt.alloc(), members)?;
+    let hall = hall_of(rt.alloc(), options.nodes)?;
     let connections = Connections::new(listener, options.sessions);
-    let seconds = ClockSeconds::new(rt);
-    let ended = run_cluster(
-        rt,
-        rt.alloc(),
-        hall,
-        connections,
-        seconds,
-        options.workers,
-        &Open,
-    );
+    let ended = run_as_asked(rt, hall, connections, options);
     conclude(rt, &ended, options)
 }
 
@@ -72,8 +63,15 @@ pub(crate) fn serve_tcp<R: Host, W: ByteOut>(
 fn listen<R: Host>(rt: &R, port: u16) -> Result<TcpListener, ProgramFault>
     ensures { IfErr result (λ fault. fault ≡ ListenFailed) }
 {
-    let address = SocketAddr::from((Ipv4Addr::LOCALHOST, port));
-    TcpListener::bind(rt, address).map_err(|_| ProgramFault::ListenFailed)
+    TcpListener::bind(rt, loopback(port)).map_err(|_| ProgramFault::ListenFailed)
+}
+
+// This port of the loopback.
+fn loopback(port: u16) -> SocketAddr
+    ensures ip { IsV4And (socket_ip result) (λ ip. ipv4_octets ip ≡ 127 ∷ 0 ∷ 0 ∷ 1 ∷ []) }
+    ensures port { socket_port result ≡ port }
+{
+    SocketAddr::from((Ipv4Addr::LOCALHOST, port))
 }
 
 // Tells at which port it listens.
@@ -88,6 +86,42 @@ fn tell_port<W: ByteOut>(alloc: Global, port: u16, output: &mut W) -> Result<(),
 {
     let line = format!(in alloc; "listening on 127.0.0.1:{port}\n")?;
     write_all(output, line.as_bytes()).map_err(|_| ProgramFault::WriteFailed)
+}
+
+// A new hall of so many nodes.
+fn hall_of(alloc: Global, nodes: u8) -> Result<Hall<Queue>, AllocError>
+    requires some { 1 ≤ nodes }
+    requires few { nodes ≤ 7 }
+    ensures { IfOk result (λ hall. hall ≡ new_hall (replicate nodes 1)) }
+{
+    let Some(members) = Members::new(nodes) else {
+        unreachable!()
+    };
+    Hall::new(alloc, members)
+}
+
+// Serves these connections on this hall, both of which are as the options ask.
+fn run_as_asked<R: Host>(
+    rt: &R,
+    hall: Hall<Queue>,
+    connections: Connections,
+    options: &ServerOptions<'_>,
+) -> Ended<Queue, Connections>
+    requires hall { hall ≡ new_hall (replicate options.now.nodes 1) }
+    requires connections { connections.left ≡ options.now.sessions }
+    requires some_workers { 1 ≤ options.now.workers }
+    requires few_workers { options.now.workers ≤ 64 }
+    ensures accounted { IsAccountedFor result.hall (all_tickets result.tickets.items) result.fault }
+{
+    run_cluster(
+        rt,
+        rt.alloc(),
+        hall,
+        connections,
+        ClockSeconds::new(rt),
+        options.workers,
+        &Open,
+    )
 }
 
 // Tells what went wrong with the cluster. Where nothing did, it writes the dump, if that was asked

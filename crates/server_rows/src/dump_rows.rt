@@ -15,6 +15,19 @@ fn talk<H: Host>(rt: &H, port: u16) -> Option<bool> {
     Some(is_right)
 }
 
+/// How many bytes the largest body has.
+const LARGEST: usize = 65_535;
+
+/// A client puts a job with the largest body.
+fn put_largest<H: Host>(rt: &H, port: u16) -> Option<bool> {
+    let body = vec![in rt.alloc(); b'a'; LARGEST].ok()?;
+    let mut client = Client::connect(rt, port)?;
+    let is_put = client.sends(b"put 0 0 60 65535\r\n")
+        && client.sends(body.as_slice())
+        && client.is_told(b"\r\n", b"INSERTED 1\r\n");
+    Some(is_put)
+}
+
 /// Starts the program with the words of this line.
 fn start_line<H: Host>(rt: &H, line: &str) -> Result<Ended, AllocError> {
     let words = words(rt.alloc(), line)?;
@@ -63,7 +76,38 @@ fn a_dump_is_legal_and_another_answer_is_not(rt: HostRuntime) -> Result<(), Fail
     assert_eq!(rt; ended?.status, 0);
     assert_eq!(rt; inspected.status, 0);
     assert!(rt; inspected.output.bytes().starts_with(b"legal: "));
+    assert!(rt; text.starts_with(b"beanpax-dump 1\nmembers 3\n"));
     assert!(rt; matches!(verdict, Verdict::Legal { answered: 2, .. }));
     assert!(rt; matches!(other, Verdict::At(..)));
+    Ok(())
+}
+
+#[test]
+fn a_long_dump_of_one_node_is_inspected_to_its_end(rt: HostRuntime) -> Result<(), Fail> {
+    let _sockets = no_sockets();
+    let alloc = rt.alloc();
+    let port = free_port(&rt)?;
+    let line = format!(in alloc; "serve --sessions 1 --nodes 1 --port {port} --dump {port}.dump")?;
+    let (ended, put) = thread::join(
+        &rt,
+        || {
+            let _sockets = no_sockets();
+            start_line(&rt, line.as_str())
+        },
+        || {
+            let _sockets = no_sockets();
+            put_largest(&rt, port)
+        },
+    );
+    let inspected = start_line(&rt, format!(in alloc; "inspect {port}.dump")?.as_str())?;
+    let file = format!(in alloc; "{port}.dump")?;
+    let text = fs::read(&rt, file.as_str())?;
+    fs::remove_file(&rt, file.as_str())?;
+    assert_eq!(rt; put, Some(true));
+    assert_eq!(rt; ended?.status, 0);
+    assert!(rt; text.starts_with(b"beanpax-dump 1\nmembers 1\n"));
+    assert!(rt; text.len() > 2 * LARGEST);
+    assert_eq!(rt; inspected.status, 0);
+    assert!(rt; inspected.output.bytes().starts_with(b"legal: "));
     Ok(())
 }

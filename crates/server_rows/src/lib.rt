@@ -3,7 +3,11 @@
 #![tactic(auto)]
 
 #[cfg(test)]
+mod address_rows;
+#[cfg(test)]
 mod client;
+#[cfg(test)]
+mod clock_rows;
 #[cfg(test)]
 mod crowd_rows;
 #[cfg(test)]
