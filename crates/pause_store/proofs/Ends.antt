@@ -1,0 +1,135 @@
+-- The ends of pauses, and the steps that take changes back.
+use Rattle.std.proofs.Common.{◌≡◌, ℕ, ◌≤◌, ◌⊎◌, inl, inr, List, [], ◌∷◌, ◌++◌, refl, sym, ap, ap₂, subst, ◌∙◌, arith, Some, None, Ordering, Less, Equal, Greater, nat_lt, ltb-false, ltb-true, true, false}
+use Rattle.std.specs.Ordering.{match_ordering, nat_cmp, ordering_then}
+use Rattle.std.specs.List.{AllByRecursion}
+use Rattle.std.specs.List.Sorted.{IsStrictlySortedBy}
+use Rattle.std.specs.Map.{keys_of, lookup}
+use Rattle.std.specs.BTreeMap.{insert_entry, is_at}
+use Rattle.std.specs.BTreeSet.{insert_key}
+use Rattle.std.proofs.lemmas.Map.Keys.{sorted_head, sorted_tail}
+use Rattle.std.proofs.lemmas.Map.Lookups.{exact_bytes, exact_unsigned}
+use Rattle.object.specs.Lists.{In}
+use Rattle.job_store.specs.Racks.{name_cmp}
+use Rattle.job_store.proofs.Entries.{cmp_greater}
+use Rattle.pause_store.specs.declared.pause.Pause.{Pause}
+use Rattle.pause_store.specs.declared.pause_step.PauseStep.{PauseStep}
+use Rattle.pause_store.specs.Pauses.{HasEnds, pause_cmp, step_back, before_steps}
+use Rattle.pause_store.proofs.Seconds.{remove-insert, set-insert}
+
+pub before-push : (steps : List PauseStep) (step : PauseStep) (es : List (List ℕ × ℕ)) → before_steps (steps ++ step ∷ []) es ≡ before_steps steps (step_back step es)
+before-push [] step es = refl
+before-push (s ∷ steps) step es = ap (step_back s) (before-push steps step es)
+
+-- an entry of a map in which a second was set
+in-insert : (p : List ℕ × ℕ) (tube : List ℕ) (v : ℕ) (es : List (List ℕ × ℕ)) → In p (insert_entry name_cmp es tube v) → (p ≡ (tube, v)) ⊎ In p es
+in-insert p tube v [] i = elim i [ inl e ↦ inl e | inr none ↦ absurd none ]
+in-insert p tube v (e ∷ es) i =
+    elim (name_cmp tube e.0) as (λ o. name_cmp tube e.0 ≡ o → In p (match_ordering o ((tube, v) ∷ e ∷ es) ((e.0, v) ∷ es) (e ∷ insert_entry name_cmp es tube v)) → (p ≡ (tube, v)) ⊎ In p (e ∷ es)) [
+      | Less ↦ λ o i. i
+      | Equal ↦ λ o i. elim i [ inl same ↦ inl (same ∙ ap (λ x. (x, v)) (sym (exact_bytes tube e.0 o))) | inr more ↦ inr (inr more) ]
+      | Greater ↦ λ o i. elim i [
+        | inl same ↦ inr (inl same)
+        | inr more ↦ elim (in-insert p tube v es more) [ inl new ↦ inl new | inr old ↦ inr (inr old) ]
+      ]
+    ] refl i
+
+pub ends-insert : (second : ℕ) (ends : List Pause) (tube : List ℕ) (v : ℕ) (es fs : List (List ℕ × ℕ)) → fs ≡ insert_entry name_cmp es tube v → In (record { until = v; tube = tube }) ends → HasEnds second ends es → HasEnds second ends fs
+ends-insert second ends tube v es fs is there h p i later =
+    elim (in-insert p tube v es (subst (In p) is i)) [
+      | inl new ↦ subst (λ (q : List ℕ × ℕ). In (record { until = q.1; tube = q.0 }) ends) (sym new) there
+      | inr old ↦ h p old later
+    ]
+
+pub ends-grown : (second : ℕ) (ends more : List Pause) (es fs : List (List ℕ × ℕ)) → fs ≡ es → ((p : Pause) → In p ends → In p more) → HasEnds second ends es → HasEnds second more fs
+ends-grown second ends more es fs is grown h p i later = grown (record { until = p.1; tube = p.0 }) (h p (subst (In p) is i) later)
+
+pub ends-later : (second later : ℕ) (ends : List Pause) (es : List (List ℕ × ℕ)) → second ≤ later → HasEnds second ends es → HasEnds later ends es
+ends-later second later ends es h e p i l = e p i (omega (arith, h, l))
+
+-- the first end is over, and went
+pub ends-less : (second : ℕ) (end : Pause) (ends rest : List Pause) (es fs : List (List ℕ × ℕ)) → end.until ≤ second → ends ≡ end ∷ rest → ((p : List ℕ × ℕ) → In p fs → In p es) → HasEnds second ends es → HasEnds second rest fs
+ends-less second end ends rest es fs over is fewer h p i later =
+    elim (subst (In (record { until = p.1; tube = p.0 })) is (h p (fewer p i) later)) [
+      | inl same ↦ absurd (omega (arith, over, later, ap (λ (q : Pause). q.until) same))
+      | inr more ↦ more
+    ]
+
+-- Ends in their order
+
+then_equal : (a b : Ordering) → ordering_then a b ≡ Equal → (a ≡ Equal) × (b ≡ Equal)
+then_equal Less b e = cc
+then_equal Equal b e = (refl, e)
+then_equal Greater b e = cc
+
+same-pause : (p q : Pause) → pause_cmp p q ≡ Equal → p ≡ q
+same-pause p q e =
+    let both = then_equal (nat_cmp p.until q.until) (name_cmp p.tube q.tube) e in
+    let u : p.until ≡ q.until = exact_unsigned p.until q.until both.0 in
+    let t : p.tube ≡ q.tube = exact_bytes p.tube q.tube both.1 in
+    λ i. record { until = u i; tube = t i }
+
+pub kept-key : (k p : Pause) (ks : List Pause) → In p ks → In p (insert_key pause_cmp ks k)
+kept-key k p [] i = absurd i
+kept-key k p (x ∷ xs) i =
+    elim (pause_cmp k x) as (λ o. In p (match_ordering o (k ∷ x ∷ xs) (x ∷ xs) (x ∷ insert_key pause_cmp xs k))) [
+      | Less ↦ inr i
+      | Equal ↦ i
+      | Greater ↦ elim i as (λ _. In p (x ∷ insert_key pause_cmp xs k)) [ inl same ↦ inl same | inr more ↦ inr (kept-key k p xs more) ]
+    ]
+
+pub new-key : (k : Pause) (ks : List Pause) → In k (insert_key pause_cmp ks k)
+new-key k [] = inl refl
+new-key k (x ∷ xs) =
+    elim (pause_cmp k x) as (λ o. pause_cmp k x ≡ o → In k (match_ordering o (k ∷ x ∷ xs) (x ∷ xs) (x ∷ insert_key pause_cmp xs k))) [
+      | Less ↦ λ o. inl refl
+      | Equal ↦ λ o. inl (same-pause k x o)
+      | Greater ↦ λ o. inr (new-key k xs)
+    ] refl
+
+-- the first of some ends is the soonest
+not-later : (k x : Pause) → pause_cmp k x ≡ Less → k.until ≤ x.until
+not-later k x l =
+    elim (nat_lt x.until k.until) as (λ b. nat_lt x.until k.until ≡ b → k.until ≤ x.until) [
+      | true ↦ λ t.
+          let e : Greater ≡ Less = sym (ap (λ o. ordering_then o (name_cmp k.tube x.tube)) (cmp_greater k.until x.until (ltb-true x.until k.until t))) ∙ l in
+          cc
+      | false ↦ λ t. ltb-false x.until k.until t
+    ] refl
+
+soonest-tail : (k p : Pause) (ks : List Pause) → AllByRecursion (λ q. pause_cmp k q ≡ Less) ks → In p ks → k.until ≤ p.until
+soonest-tail k p [] a i = absurd i
+soonest-tail k p (x ∷ xs) a i = elim i [
+  | inl same ↦ subst (λ (q : Pause). k.until ≤ q.until) (sym same) (not-later k x a.0)
+  | inr more ↦ soonest-tail k p xs a.1 more
+]
+
+pub soonest : (k p : Pause) (ks : List Pause) → IsStrictlySortedBy pause_cmp (k ∷ ks) → In p (k ∷ ks) → k.until ≤ p.until
+soonest k p ks s i = elim i [
+  | inl same ↦ subst (λ (q : Pause). k.until ≤ q.until) (sym same) (omega arith)
+  | inr more ↦ soonest-tail k p ks (sorted_head pause_cmp k ks s) more
+]
+
+-- Steps back
+
+pub changed-back : (tube t u : List ℕ) (v old : ℕ) (es fs : List (List ℕ × ℕ)) (step : PauseStep) → IsStrictlySortedBy name_cmp (keys_of es) → t ≡ tube → u ≡ tube → step ≡ PauseStep.Changed (record { until = old; tube = t }) → fs ≡ insert_entry name_cmp es u v → lookup (is_at (name_cmp tube)) es ≡ Some old → step_back step fs ≡ es
+changed-back tube t u v old es fs step s a b is set there =
+    ap₂ (λ z zs. step_back z zs) is set ∙
+    ap₂ (λ x y. step_back (PauseStep.Changed (record { until = old; tube = x })) (insert_entry name_cmp es y v)) a b ∙
+    set-insert tube v old es s there
+
+pub begun-back : (tube t u : List ℕ) (v : ℕ) (es fs : List (List ℕ × ℕ)) (step : PauseStep) → t ≡ tube → u ≡ tube → step ≡ PauseStep.Begun t → fs ≡ insert_entry name_cmp es u v → lookup (is_at (name_cmp tube)) es ≡ None → step_back step fs ≡ es
+begun-back tube t u v es fs step a b is set absent =
+    ap₂ (λ z zs. step_back z zs) is set ∙
+    ap₂ (λ x y. step_back (PauseStep.Begun x) (insert_entry name_cmp es y v)) a b ∙
+    remove-insert tube v es absent
+
+-- one step more
+pub before-step : (steps more : List PauseStep) (step : PauseStep) (es fs : List (List ℕ × ℕ)) → more ≡ steps ++ step ∷ [] → step_back step fs ≡ es → before_steps more fs ≡ before_steps steps es
+before-step steps more step es fs is back = ap (λ zs. before_steps zs fs) is ∙ before-push steps step fs ∙ ap (before_steps steps) back
+
+-- one step less
+pub before-less : (steps fewer : List PauseStep) (step : PauseStep) (es fs before : List (List ℕ × ℕ)) → steps ≡ fewer ++ step ∷ [] → before_steps steps es ≡ before → fs ≡ step_back step es → before_steps fewer fs ≡ before
+before-less steps fewer step es fs before is was back = ap (before_steps fewer) back ∙ sym (before-push fewer step es) ∙ sym (ap (λ zs. before_steps zs es) is) ∙ was
+
+pub sorted-rest : (items rest : List Pause) (first : Pause) → items ≡ first ∷ rest → IsStrictlySortedBy pause_cmp items → IsStrictlySortedBy pause_cmp rest
+sorted-rest items rest first is sorted = sorted_tail pause_cmp first rest (subst (IsStrictlySortedBy pause_cmp) is sorted)

@@ -1,0 +1,4 @@
+pub mod Seconds
+pub mod Ends
+pub mod Over
+pub mod Pausing

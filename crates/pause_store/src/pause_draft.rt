@@ -1,0 +1,223 @@
+ghost use Rattle.std.specs.Prelude.{◌≡◌, ◌≤◌, ◌^◌, ◌∷◌, ◌⊎◌, ◌↔◌, ℕ, List, true, IfSome, IfNone, OnOk, OnErr};
+ghost use Rattle.std.specs.List.Sorted.{IsStrictlySortedBy};
+ghost use Rattle.std.specs.Map.{keys_of};
+ghost use Rattle.object.specs.Lists.{In};
+ghost use Rattle.job_store.specs.Racks.{name_cmp};
+ghost use Rattle.pause_store.specs.declared.pause.Pause.{Pause};
+ghost use Rattle.pause_store.specs.Pauses.{fresh, is_paused, paused_for, at_second, left_at, tubes_over, HasEnds};
+
+use crate::pause::Pause;
+use crate::pause_step::{PauseStep, set_second, take_steps_back};
+use indexmap::IndexSet;
+use job_store::Name;
+use object::Value;
+use std::alloc::{AllocError, Global};
+use std::collections::{BTreeMap, BTreeSet};
+use std::marker::Model;
+
+/// The pauses of tubes, whose changes can be taken back until they are kept. That takes no memory.
+#[derive(Drop)]
+pub struct PauseDraft {
+    /// The second at which each tube's pause is over. It may be over already, until changes are kept.
+    seconds: BTreeMap<Name, u64>,
+    /// The pauses of `seconds`, now and before the steps, by the second at which they are over, and perhaps others.
+    ends: BTreeSet<Pause>,
+    second: u64,
+    /// The second of what was kept last.
+    kept: u64,
+    steps: Vec<PauseStep>,
+}
+
+impl Model for PauseDraft {
+    ghost use Rattle.session_store.specs.Drafts.{Draft};
+    ghost use Rattle.pause_store.specs.Pauses.{PauseState, pauses_at, before_steps, IsComplete};
+
+    ghost Value = { Draft PauseState };
+
+    ghost view = { λ d. record {
+      now = pauses_at d.second d.seconds.entries;
+      before = pauses_at d.kept (before_steps d.steps.items d.seconds.entries);
+    } };
+
+    ghost invariant = { λ d. IsComplete d.kept d.second d.ends.keys d.steps.items d.seconds.entries };
+}
+
+/// Adds the place of a pause to the ends.
+fn note_end(ends: &mut BTreeSet<Pause>, tube: &Name, until: u64) -> Result<(), AllocError>
+    ensures grown { (p : Pause) → In p ends.old.keys → In p ends.new.keys }
+    ensures ok { OnOk result (In (record { until = until; tube = tube.now }) ends.new.keys) }
+{
+    ends.insert(Pause {
+        until,
+        tube: tube.copy()?,
+    })?;
+    Ok(())
+}
+
+/// Whether a pause that isn't over at this second ends there.
+fn is_end(seconds: &BTreeMap<Name, u64>, second: u64, end: &Pause) -> bool
+    requires { IsStrictlySortedBy name_cmp (keys_of seconds.now.entries) }
+    ensures { (result ≡ true)
+        ↔ In (end.now.tube, end.now.until) (left_at second seconds.now.entries) }
+{
+    if end.until <= second {
+        return false;
+    }
+    match seconds.get(&end.tube) {
+        Some(until) => *until == end.until,
+        None => false,
+    }
+}
+
+/// Adds the tubes of pauses that are over at this second, and weren't at an earlier one. It looks at no end that comes
+/// later, but for one.
+fn add_tubes_over(
+    seconds: &BTreeMap<Name, u64>,
+    ends: &BTreeSet<Pause>,
+    earlier: u64,
+    second: u64,
+    tubes: &mut IndexSet<Name>,
+) -> Result<(), AllocError>
+    requires ordered { IsStrictlySortedBy name_cmp (keys_of seconds.now.entries) }
+    requires ends { HasEnds earlier ends.now.keys seconds.now.entries }
+    ensures grown { (tube : List ℕ) → In tube tubes.old.keys → In tube tubes.new.keys }
+    ensures over { OnOk result ((tube : List ℕ)
+        → In tube (tubes_over second (left_at earlier seconds.now.entries))
+        → In tube tubes.new.keys) }
+    ensures no_others { (tube : List ℕ) → In tube tubes.new.keys → In tube tubes.old.keys
+        ⊎ In tube (tubes_over second (left_at earlier seconds.now.entries)) }
+{
+    for end in ends {
+        if end.until > second {
+            break;
+        }
+        if is_end(seconds, earlier, end) {
+            tubes.insert(end.tube.copy()?)?;
+        }
+    }
+    Ok(())
+}
+
+/// Takes the first end out, if it is over at this second.
+fn pop_over(ends: &mut BTreeSet<Pause>, second: u64) -> Option<Pause>
+    ensures some { IfSome result (λ p. (p.until ≤ second) × (ends.old.keys ≡ p ∷ ends.new.keys)) }
+    ensures none { IfNone result (ends.new.keys ≡ ends.old.keys) }
+{
+    match ends.first() {
+        Some(end) if end.until <= second => ends.pop_first(),
+        _ => None,
+    }
+}
+
+/// Takes the second of a tube out, if it is over at this one.
+fn drop_over(seconds: &mut BTreeMap<Name, u64>, tube: &Name, second: u64)
+    requires { IsStrictlySortedBy name_cmp (keys_of seconds.old.entries) }
+    ensures left { left_at second seconds.new.entries ≡ left_at second seconds.old.entries }
+    ensures ordered { IsStrictlySortedBy name_cmp (keys_of seconds.new.entries) }
+    ensures fewer { (p : List ℕ × ℕ) → In p seconds.new.entries → In p seconds.old.entries }
+{
+    match seconds.get(tube) {
+        Some(until) if *until <= second => {
+            seconds.remove(tube);
+        }
+        _ => {}
+    }
+}
+
+/// Takes out what is over at this second.
+fn drop_all_over(seconds: &mut BTreeMap<Name, u64>, ends: &mut BTreeSet<Pause>, second: u64)
+    requires ordered { IsStrictlySortedBy name_cmp (keys_of seconds.old.entries) }
+    requires ends { HasEnds second ends.old.keys seconds.old.entries }
+    ensures left { left_at second seconds.new.entries ≡ left_at second seconds.old.entries }
+    ensures ordered { IsStrictlySortedBy name_cmp (keys_of seconds.new.entries) }
+    ensures ends { HasEnds second ends.new.keys seconds.new.entries }
+{
+    'over: while let Some(end) = pop_over(ends, second) {
+        drop_over(seconds, &end.tube, second);
+    }
+}
+
+impl PauseDraft {
+    /// No tube is paused.
+    pub fn new(alloc: Global) -> PauseDraft
+        ensures now { result.now ≡ fresh }
+        ensures before { result.before ≡ fresh }
+    {
+        PauseDraft {
+            seconds: BTreeMap::new(alloc),
+            ends: BTreeSet::new(alloc),
+            second: 0,
+            kept: 0,
+            steps: Vec::new(alloc),
+        }
+    }
+
+    /// The second that it is.
+    pub fn second(&self) -> u64
+        ensures second { result ≡ self.now.now.second }
+        ensures in_range { result ≤ 2 ^ 40 }
+    {
+        self.second
+    }
+
+    /// Whether a tube is paused. It takes no memory.
+    pub fn is_paused(&self, tube: &Name) -> bool
+        ensures { result ≡ is_paused tube.now self.now.now.pauses }
+    {
+        match self.seconds.get(tube) {
+            Some(until) => *until > self.second,
+            None => false,
+        }
+    }
+
+    /// Pauses a tube for so many seconds from now on, or no longer where they are none.
+    pub fn pause_for(&mut self, tube: &Name, seconds: u32) -> Result<(), AllocError>
+        ensures now { OnOk result (self.new.now ≡ paused_for tube.now seconds self.old.now) }
+        ensures before { self.new.before ≡ self.old.before }
+        ensures err { OnErr result (self.new.now ≡ self.old.now) }
+    {
+        let until = self.second + u64::from(seconds);
+        note_end(&mut self.ends, tube, until)?;
+        set_second(&mut self.seconds, &mut self.steps, tube, until)
+    }
+
+    /// It is a later second: pauses that are over by it are gone.
+    pub fn pass(&mut self, second: u64)
+        requires later { self.old.now.second ≤ second }
+        requires in_range { second ≤ 2 ^ 40 }
+        ensures now { self.new.now ≡ at_second second self.old.now }
+        ensures before { self.new.before ≡ self.old.before }
+    {
+        self.second = second;
+    }
+
+    /// Adds the tubes whose pauses are over at this second. It doesn't go over the others.
+    pub fn add_over(&self, second: u64, tubes: &mut IndexSet<Name>) -> Result<(), AllocError>
+        ensures grown { (tube : List ℕ) → In tube tubes.old.keys → In tube tubes.new.keys }
+        ensures over { OnOk result ((tube : List ℕ)
+            → In tube (tubes_over second self.now.now.pauses) → In tube tubes.new.keys) }
+        ensures no_others { (tube : List ℕ) → In tube tubes.new.keys → In tube tubes.old.keys
+            ⊎ In tube (tubes_over second self.now.now.pauses) }
+    {
+        add_tubes_over(&self.seconds, &self.ends, self.second, second, tubes)
+    }
+
+    /// Keeps all changes.
+    pub fn keep(&mut self)
+        ensures now { self.new.now ≡ self.old.now }
+        ensures before { self.new.before ≡ self.old.now }
+    {
+        self.steps.clear();
+        self.kept = self.second;
+        drop_all_over(&mut self.seconds, &mut self.ends, self.second);
+    }
+
+    /// Takes back all changes since they were kept last.
+    pub fn take_back(&mut self)
+        ensures now { self.new.now ≡ self.old.before }
+        ensures before { self.new.before ≡ self.old.before }
+    {
+        take_steps_back(&mut self.seconds, &mut self.steps);
+        self.second = self.kept;
+    }
+}
