@@ -1,5 +1,3 @@
-pub mod Named
-pub mod Paused
 pub mod Held
 pub mod Given
 pub mod RowHolds

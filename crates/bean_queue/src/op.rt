@@ -56,8 +56,6 @@ pub enum Op {
     ListTubeUsed,
     /// The watched tubes.
     ListTubesWatched,
-    /// No job of the tube is reserved for so many seconds; it is paused no longer where they are none.
-    PauseTube { tube: Name, seconds: u32 },
 }
 
 impl Op {
@@ -73,8 +71,7 @@ impl Op {
             | Op::Reserve { .. }
             | Op::Release { .. }
             | Op::Kick(_)
-            | Op::KickJob(_)
-            | Op::PauseTube { .. } => false,
+            | Op::KickJob(_) => false,
             Op::Use(_)
             | Op::Watch(_)
             | Op::Ignore(_)
@@ -132,10 +129,6 @@ impl Value for Op {
             Op::ListTubes => Op::ListTubes,
             Op::ListTubeUsed => Op::ListTubeUsed,
             Op::ListTubesWatched => Op::ListTubesWatched,
-            Op::PauseTube { tube, seconds } => Op::PauseTube {
-                tube: tube.copy()?,
-                seconds: *seconds,
-            },
         })
     }
 }

@@ -138,18 +138,12 @@ impl JobMap for Jobs {
         Some(job)
     }
 
-    fn best_ready(
-        &self,
-        tubes: &IndexSet<Name>,
-        paused: &BTreeMap<Name, u64>,
-    ) -> Option<(u64, &Job)> {
+    fn best_ready(&self, tubes: &IndexSet<Name>) -> Option<(u64, &Job)> {
         // Gives the proof that the ids rise.
         let _ = &self.jobs;
         let mut best = None;
         for tube in tubes.iter() {
-            if !paused.contains_key(tube) {
-                best = more_urgent(best, self.first_ready(tube));
-            }
+            best = more_urgent(best, self.first_ready(tube));
         }
         best
     }

@@ -53,8 +53,7 @@ impl<M: JobMap> Logic<M> {
             | Op::Reserve { .. }
             | Op::Release { .. }
             | Op::Kick(_)
-            | Op::KickJob(_)
-            | Op::PauseTube { .. } => unreachable!(),
+            | Op::KickJob(_) => unreachable!(),
         }
     }
 
@@ -119,7 +118,6 @@ impl<M: JobMap> Logic<M> {
             }
             Op::Kick(bound) => Ok(Some(self.kick(session, *bound)?)),
             Op::KickJob(id) => Ok(Some(self.kick_job(*id)?)),
-            Op::PauseTube { tube, seconds } => Ok(Some(self.pause_tube(tube, *seconds)?)),
             _ => unreachable!(),
         }
     }
