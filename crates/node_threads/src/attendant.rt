@@ -1,5 +1,6 @@
-ghost use Rattle.std.specs.Prelude.{◌≡◌, ◌+◌, Option, Some, IfOk, IfErr, OnOk, OnErr};
-ghost use Rattle.session.specs.declared.faults.ServiceFault.TheVariants.{Stopped};
+ghost use Rattle.std.specs.Prelude.{◌≡◌, ◌↔◌, ◌+◌, Option, Some, IfOk, IfErr, OnOk, OnErr};
+ghost use Rattle.session.specs.declared.faults.ServiceFault.TheVariants.{Refused, Stopped};
+ghost use Rattle.hall.specs.declared.error.HallError.TheVariants.{OutOfMemory};
 ghost use Rattle.hall.specs.Tickets.{with_act, with_noted};
 
 use crate::bell::Patience;
@@ -101,8 +102,7 @@ impl<'a, O: Object, S: Ledger, C: Ledger, R: Wait, G: Gate, F: Faults> Attendant
         } = self;
         match shared.submit(*rt, commands, ticket, act, *node) {
             Ok(handed_in) => Ok(handed_in),
-            Err(HallError::OutOfMemory) => Err(ServiceFault::Refused),
-            Err(_) => Err(ServiceFault::Stopped),
+            Err(error) => Err(fault_of(error)),
         }
     }
 
@@ -133,5 +133,15 @@ impl<'a, O: Object, S: Ledger, C: Ledger, R: Wait, G: Gate, F: Faults> Attendant
             Ok(reply) => Ok(reply),
             Err(_) => Err(ServiceFault::Stopped),
         }
+    }
+}
+
+// What the service tells where the hall takes a command no more, or has no memory for it.
+fn fault_of(error: HallError) -> ServiceFault
+    ensures refused { result ≡ Refused ↔ error ≡ OutOfMemory }
+{
+    match error {
+        HallError::OutOfMemory => ServiceFault::Refused,
+        _ => ServiceFault::Stopped,
     }
 }

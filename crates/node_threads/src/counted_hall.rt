@@ -1,6 +1,6 @@
 ghost use Rattle.std.specs.Prelude.{◌≡◌, ◌+◌, ◌<◌, [], ℕ, Some, length, sum, IfOk, OnOk, OnErr};
 ghost use Rattle.hall.specs.declared.ticket.NotedAct.{NotedAct};
-ghost use Rattle.hall.specs.Halls.{with_nodes};
+ghost use Rattle.hall.specs.Halls.{after_tick, with_nodes};
 ghost use Rattle.hall.specs.Recorded.{asked};
 ghost use Rattle.hall.specs.Tickets.{new_ticket, last_command, last_noted, with_act};
 
@@ -140,7 +140,10 @@ impl<O: Object, S: Ledger, C: Ledger> CountedHall<O, S, C> {
     }
 
     /// Hands in a second of the clock.
-    pub(crate) fn tick(&mut self, second: u64, node: u8) -> Result<(), HallError> {
+    pub(crate) fn tick(&mut self, second: u64, node: u8) -> Result<(), HallError>
+        ensures ok { OnOk result (self.new.hall ≡ after_tick O.rules self.old.hall node second) }
+        ensures err { OnErr result (self.new.hall ≡ self.old.hall) }
+    {
         let CountedHall { hall, .. } = self;
         hall.tick(second, node)
     }
