@@ -1,13 +1,13 @@
 -- Where nothing is left to give, nothing is after less: fewer ready jobs, and fewer sessions that wait.
 use Rattle.std.proofs.Common.{◌≡◌, ℕ, ◌+◌, Bool, true, false, cond, inl, inr, List, [], ◌∷◌, ◌++◌, append-nil, filter_map, length, Option, Some, None, is_some, ◌==◌, nat_lt, refl, sym, ap, subst, ◌∙◌, eqb-true, true≢false}
-use Rattle.std.proofs.lemmas.Bool.{and_parts}
+use Rattle.std.proofs.lemmas.Bool.{and_parts, and_from}
 use Rattle.std.specs.List.{cons_option}
 use Rattle.object.specs.Lists.{In}
 use Rattle.object.specs.declared.command.Key.{Key}
 use Rattle.job_store.specs.declared.job.Job.{Job}
 use Rattle.job_store.specs.Entries.{value_at, with_value, altered}
 use Rattle.job_store.specs.Least.{least}
-use Rattle.job_store.specs.LookUps.{best_ready, ready_in, is_among, pri_of_job}
+use Rattle.job_store.specs.LookUps.{best_ready, ready_in, is_among, pri_of_job, not_paused}
 use Rattle.job_store.specs.States.{is_ready, is_held}
 use Rattle.session_store.specs.declared.session.SessionState.{SessionState}
 use Rattle.session_store.specs.declared.session.Wait.{Wait}
@@ -15,41 +15,54 @@ use Rattle.session_store.specs.Sessions.{session_of, new_session, with_wait, wit
 use Rattle.session_store.specs.WatchLists.{is_alone}
 use Rattle.session_store.specs.EntryLaws.{altered-in, insert-in, without-in}
 use Rattle.session_store.specs.WaitLaws.{known-waits}
+use Rattle.pause_store.specs.Pauses.{is_paused}
 use Rattle.bean_queue.specs.declared.op.Op.{Op}
 use Rattle.bean_queue.specs.declared.reply.Reply.{Reply}
-use Rattle.bean_queue.specs.Queue.{QueueState, with_sessions, fresh, watched_by, holds_by}
+use Rattle.bean_queue.specs.Queue.{QueueState, paused_tubes, with_sessions, fresh, watched_by, holds_by}
 use Rattle.bean_queue.specs.Rows.{Row, row, put_row, use_row, watch_row, ignore_row, reserve_row, delete_row, may_delete, is_found, release_row, touch_row, bury_row, kick_row, kick_job_row, peek_row}
 use Rattle.bean_queue.specs.Turns.{Outcome, after_option, Turn, stop, all_turns, wanted, give, serve_turn, told_turn, deadline_turn, timeout_turn, serve}
 use Rattle.bean_queue.specs.Effects.{own, own_outcome, then_do, called, ends_wait, is_zero, settled, has_no_number, carried_out, do_effect, released, forgotten, at_second, tick_effect, is_quiet}
 use Rattle.bean_queue.specs.TurnLaws.{least-none, none-least, turns-keep, deadline_turn-is, timeout_turn-is, IsTold, IfSome-map}
+use Rattle.bean_queue.proofs.Paused.{open-watched, watched-open}
 use Rattle.bean_queue.proofs.Served.{serve-done, idle_none, turns-unroll, serves}
 
 -- every ready job and every session that waits was there before
 pub record IsCalmer (s t : QueueState) : Type 0 where
   pub jobs : (j : ℕ × Job) → In j t.jobs → is_ready j.1.state ≡ true → In j s.jobs
   pub sessions : (w : ℕ × SessionState) → In w t.sessions → is_waiting w.1 ≡ true → In w s.sessions
+  pub pauses : (tube : List ℕ) → is_paused tube s.pauses ≡ true → is_paused tube t.pauses ≡ true
 
-none-wanted : (jobs : List (ℕ × Job)) (sessions : List (ℕ × SessionState)) → ((w : ℕ × SessionState) → In w sessions → is_waiting w.1 ≡ true → best_ready w.1.watched jobs ≡ None) → filter_map (wanted jobs) sessions ≡ []
-none-wanted jobs [] h = refl
-none-wanted jobs (w ∷ ws) h =
-    elim (is_waiting w.1) as (λ b. is_waiting w.1 ≡ b → cons_option (cond b (best_ready w.1.watched jobs) None) (filter_map (wanted jobs) ws) ≡ []) [
-      | true ↦ λ t. ap (λ o. cons_option o (filter_map (wanted jobs) ws)) (h w (inl refl) t) ∙ none-wanted jobs ws (λ v i. h v (inr i))
-      | false ↦ λ t. none-wanted jobs ws (λ v i. h v (inr i))
+-- what is not paused after was not so before
+pub was-open : (s t : QueueState) (tube : List ℕ) → IsCalmer s t → is_paused tube t.pauses ≡ false → is_paused tube s.pauses ≡ false
+was-open s t tube c open-now =
+    elim (is_paused tube s.pauses) as (λ b. is_paused tube s.pauses ≡ b → b ≡ false) [
+      | true ↦ λ e. absurd (true≢false (sym (c.pauses tube e) ∙ open-now))
+      | false ↦ λ e. refl
     ] refl
 
-no-turn : (s : QueueState) → ((w : ℕ × SessionState) → In w s.sessions → is_waiting w.1 ≡ true → best_ready w.1.watched s.jobs ≡ None) → serve_turn s ≡ None
+none-wanted : (paused : List (List ℕ)) (jobs : List (ℕ × Job)) (sessions : List (ℕ × SessionState)) → ((w : ℕ × SessionState) → In w sessions → is_waiting w.1 ≡ true → best_ready (not_paused paused w.1.watched) jobs ≡ None) → filter_map (wanted paused jobs) sessions ≡ []
+none-wanted paused jobs [] h = refl
+none-wanted paused jobs (w ∷ ws) h =
+    elim (is_waiting w.1) as (λ b. is_waiting w.1 ≡ b → cons_option (cond b (best_ready (not_paused paused w.1.watched) jobs) None) (filter_map (wanted paused jobs) ws) ≡ []) [
+      | true ↦ λ t. ap (λ o. cons_option o (filter_map (wanted paused jobs) ws)) (h w (inl refl) t) ∙ none-wanted paused jobs ws (λ v i. h v (inr i))
+      | false ↦ λ t. none-wanted paused jobs ws (λ v i. h v (inr i))
+    ] refl
+
+no-turn : (s : QueueState) → ((w : ℕ × SessionState) → In w s.sessions → is_waiting w.1 ≡ true → best_ready (not_paused (paused_tubes s) w.1.watched) s.jobs ≡ None) → serve_turn s ≡ None
 unfolding serve_turn
-no-turn s h = ap (λ es. give s (least (λ e. true) pri_of_job es)) (none-wanted s.jobs s.sessions h)
+no-turn s h = ap (λ es. give s (least (λ e. true) pri_of_job es)) (none-wanted (paused_tubes s) s.jobs s.sessions h)
 
 pub calm : (s t : QueueState) → serve_turn s ≡ None → IsCalmer s t → serve_turn t ≡ None
 calm s t none c =
     no-turn t
     (λ w i waits.
-    let before : best_ready w.1.watched s.jobs ≡ None = idle_none s none w (c.sessions w i waits) waits in
-    none-least (ready_in w.1.watched) pri_of_job t.jobs
+    let before : best_ready (not_paused (paused_tubes s) w.1.watched) s.jobs ≡ None = idle_none s none w (c.sessions w i waits) waits in
+    none-least (ready_in (not_paused (paused_tubes t) w.1.watched)) pri_of_job t.jobs
     (λ j there passes.
-    least-none (ready_in w.1.watched) pri_of_job s.jobs j before
-    (c.jobs j there (and_parts (is_ready j.1.state) (is_among j.1.tube w.1.watched) passes).0) passes))
+    let parts = and_parts (is_ready j.1.state) (is_among j.1.tube (not_paused (paused_tubes t) w.1.watched)) passes in
+    let clear = open-watched (paused_tubes t) w.1.watched j.1.tube parts.1 in
+    least-none (ready_in (not_paused (paused_tubes s) w.1.watched)) pri_of_job s.jobs j before (c.jobs j there parts.0)
+    (and_from (is_ready j.1.state) (is_among j.1.tube (not_paused (paused_tubes s) w.1.watched)) parts.0 (watched-open (paused_tubes s) w.1.watched j.1.tube clear.0 (was-open s t j.1.tube c clear.1)))))
 
 -- Sessions
 
@@ -109,7 +122,7 @@ changed-calmer k f jobs unready j i =
 -- Rows of quiet operations
 
 same-calmer : (s : QueueState) → IsCalmer s s
-same-calmer s = record { jobs = λ j i t. i; sessions = λ w i t. i }
+same-calmer s = record { jobs = λ j i t. i; sessions = λ w i t. i; pauses = λ tube p. p }
 
 calmer_if : (s : QueueState) (b : Bool) (r q : Row) → IsCalmer s r.state → IsCalmer s q.state → IsCalmer s (cond b r q).state
 calmer_if s true r q h k = h
@@ -118,22 +131,22 @@ calmer_if s false r q h k = k
 quiet-row : (op : Op) (key : Key) (s : QueueState) → is_quiet op ≡ true → IsCalmer (called key.session s) (row op key (called key.session s)).state
 unfolding row put_row use_row watch_row ignore_row reserve_row delete_row release_row touch_row bury_row kick_row kick_job_row peek_row
 quiet-row (Op.Put pri delay ttr body) key s q = cc
-quiet-row (Op.Use tube) key s q = record { jobs = λ j i t. i; sessions = kept-calmer key.session _ (known key.session s.sessions) (λ c. refl) (known-idle key.session s.sessions) }
-quiet-row (Op.Watch tube) key s q = record { jobs = λ j i t. i; sessions = kept-calmer key.session _ (known key.session s.sessions) (λ c. refl) (known-idle key.session s.sessions) }
+quiet-row (Op.Use tube) key s q = record { jobs = λ j i t. i; sessions = kept-calmer key.session _ (known key.session s.sessions) (λ c. refl) (known-idle key.session s.sessions); pauses = λ tube p. p }
+quiet-row (Op.Watch tube) key s q = record { jobs = λ j i t. i; sessions = kept-calmer key.session _ (known key.session s.sessions) (λ c. refl) (known-idle key.session s.sessions); pauses = λ tube p. p }
 quiet-row (Op.Ignore tube) key s q =
     calmer_if (called key.session s) (is_alone tube (watched_by (called key.session s) key.session)) _ _ (same-calmer (called key.session s))
-    (record { jobs = λ j i t. i; sessions = kept-calmer key.session _ (known key.session s.sessions) (λ c. refl) (known-idle key.session s.sessions) })
+    (record { jobs = λ j i t. i; sessions = kept-calmer key.session _ (known key.session s.sessions) (λ c. refl) (known-idle key.session s.sessions); pauses = λ tube p. p })
 quiet-row (Op.Reserve seconds) key s q = cc
 quiet-row (Op.Delete id) key s q =
     calmer_if (called key.session s) (is_found (may_delete key.session) (value_at id s.jobs)) _ _
-    (record { jobs = λ j i t. without-in id s.jobs j i; sessions = λ w i t. i }) (same-calmer (called key.session s))
+    (record { jobs = λ j i t. without-in id s.jobs j i; sessions = λ w i t. i; pauses = λ tube p. p }) (same-calmer (called key.session s))
 quiet-row (Op.Touch id) key s q =
     calmer_if (called key.session s) (is_found (is_held key.session) (value_at id s.jobs)) _ _
-    (record { jobs = changed-calmer id _ s.jobs (λ job. refl); sessions = λ w i t. i }) (same-calmer (called key.session s))
+    (record { jobs = changed-calmer id _ s.jobs (λ job. refl); sessions = λ w i t. i; pauses = λ tube p. p }) (same-calmer (called key.session s))
 quiet-row (Op.Release id pri delay) key s q = cc
 quiet-row (Op.Bury id pri) key s q =
     calmer_if (called key.session s) (is_found (is_held key.session) (value_at id s.jobs)) _ _
-    (record { jobs = changed-calmer id _ s.jobs (λ job. refl); sessions = λ w i t. i }) (same-calmer (called key.session s))
+    (record { jobs = changed-calmer id _ s.jobs (λ job. refl); sessions = λ w i t. i; pauses = λ tube p. p }) (same-calmer (called key.session s))
 quiet-row (Op.Kick bound) key s q = cc
 quiet-row (Op.KickJob id) key s q = cc
 quiet-row (Op.Peek id) key s q = same-calmer (called key.session s)
@@ -143,9 +156,10 @@ quiet-row Op.PeekBuried key s q = same-calmer (called key.session s)
 quiet-row Op.ListTubes key s q = same-calmer (called key.session s)
 quiet-row Op.ListTubeUsed key s q = same-calmer (called key.session s)
 quiet-row Op.ListTubesWatched key s q = same-calmer (called key.session s)
+quiet-row (Op.Pause tube seconds) key s q = cc
 
 pub called-calm : (x : ℕ) (s : QueueState) → serve_turn s ≡ None → serve_turn (called x s) ≡ None
-called-calm x s none = calm s (called x s) none (record { jobs = λ j i t. i; sessions = known-calmer x s.sessions })
+called-calm x s none = calm s (called x s) none (record { jobs = λ j i t. i; sessions = known-calmer x s.sessions; pauses = λ tube p. p })
 
 quiet-settled : (op : Op) (key : Key) (s : QueueState) → is_quiet op ≡ true → settled op key s ≡ stop s
 unfolding settled
@@ -173,7 +187,7 @@ outcome_if true o p h k = h
 outcome_if false o p h k = k
 
 ended-calm : (x : ℕ) (s : QueueState) → serve_turn s ≡ None → serve_turn (with_sessions s (with_wait_ended x s.sessions)) ≡ None
-ended-calm x s none = calm s _ none (record { jobs = λ j i t. i; sessions = ended-calmer x s.sessions })
+ended-calm x s none = calm s _ none (record { jobs = λ j i t. i; sessions = ended-calmer x s.sessions; pauses = λ tube p. p })
 
 settled-calm : (op : Op) (key : Key) (s : QueueState) → serve_turn s ≡ None → serve_turn (settled op key s).state ≡ None
 unfolding settled
@@ -207,7 +221,7 @@ do-calm op key s none = outcome_if (has_no_number op s) (ends_wait s key Reply.I
 pub close-calm : (x : ℕ) (s : QueueState) → serve_turn (forgotten x (serve (released x s)).state) ≡ None
 close-calm x s =
     let o = serve (released x s) in
-    calm o.state (forgotten x o.state) (serve-done (released x s)) (record { jobs = λ j i t. i; sessions = λ w i t. without-in x o.state.sessions w i })
+    calm o.state (forgotten x o.state) (serve-done (released x s)) (record { jobs = λ j i t. i; sessions = λ w i t. without-in x o.state.sessions w i; pauses = λ tube p. p })
 
 pub tick-calm : (second : ℕ) (s : QueueState) → serve_turn s ≡ None → serve_turn (tick_effect second s).state ≡ None
 unfolding tick_effect

@@ -1,3 +1,5 @@
+pub mod Named
+pub mod Paused
 pub mod Held
 pub mod Given
 pub mod RowHolds

@@ -61,7 +61,7 @@ late-done s = none-late _ (turns-done timeout_turn tells_timeout (length s.sessi
 
 owes-nothing : (s : QueueState) → serve_turn s ≡ None → NobodyHolds s → NobodyIsLate s → OwesNothing s
 owes-nothing s none holds late w i waits = record {
-  no_job = λ j there ready among. nothing-wanted s j none (record { there = there; ready = ready; watched = (w, i, waits, among) });
+  no_job = λ j there ready clear among. nothing-wanted s j none (record { there = there; ready = ready; unpaused = clear; watched = (w, i, waits, among) });
   no_deadline = λ j there has.
       elim (cases_Bool (nat_le (due_of j.1.state) (s.now + 1))) as (λ v. s.now + 1 < due_of j.1.state) [
         | inl due ↦

@@ -8,13 +8,13 @@ use Rattle.job_store.specs.declared.job.Job.{Job}
 use Rattle.job_store.specs.declared.state.State.{State}
 use Rattle.job_store.specs.Entries.{Rising, value_at, altered}
 use Rattle.job_store.specs.States.{is_held, is_buried, is_delayed, with_state}
-use Rattle.job_store.specs.LookUps.{first_buried, first_delayed, first_ready, buried_in, delayed_in, due_of_job, rank_of_job}
+use Rattle.job_store.specs.LookUps.{is_among, first_buried, first_delayed, first_ready, buried_in, delayed_in, due_of_job, rank_of_job}
 use Rattle.session_store.specs.WatchLists.{is_alone}
 use Rattle.session_store.specs.EntryLaws.{value_at-without_other, value_at-insert_other, value_at-below, value_at-In, Rising-altered, Rising-without, Rising-insert, Rising-wider, Rising-end}
 use Rattle.bean_queue.specs.declared.op.Op.{Op}
 use Rattle.bean_queue.specs.declared.reply.Reply.{Reply}
 use Rattle.bean_queue.specs.Queue.{QueueState, with_jobs, used_by, watched_by, HasRisingIds}
-use Rattle.bean_queue.specs.Rows.{is_idle, Row, replies, row, put_row, use_row, watch_row, ignore_row, reserve_row, delete_row, may_delete, is_found, release_row, touch_row, bury_row, kicked, kicked_option, kick_row, kick_job_row, peek_row, shown, at_id}
+use Rattle.bean_queue.specs.Rows.{is_idle, Row, replies, row, put_row, use_row, watch_row, ignore_row, reserve_row, delete_row, may_delete, is_found, release_row, touch_row, bury_row, kicked, kicked_option, kick_row, kick_job_row, peek_row, shown, at_id, all_tubes, pause_row}
 use Rattle.bean_queue.specs.Effects.{own}
 use Rattle.bean_queue.specs.Holds.{is_touch}
 use Rattle.bean_queue.specs.TurnLaws.{least-in, IfSome-map}
@@ -51,7 +51,7 @@ shown-quiet key None id = refl
 shown-quiet key (Some e) id = refl
 
 pub row-ok : (op : Op) (key : Key) (s : QueueState) → HasRisingIds s → IsRowOk s key (row op key s)
-unfolding row put_row use_row watch_row ignore_row reserve_row delete_row release_row touch_row bury_row kick_row kick_job_row peek_row
+unfolding row put_row use_row watch_row ignore_row reserve_row delete_row release_row touch_row bury_row kick_row kick_job_row peek_row pause_row
 row-ok (Op.Put pri delay ttr body) key s sound =
     record {
       sound =
@@ -89,6 +89,8 @@ row-ok Op.PeekBuried key s sound = ok_same s key _ (shown-quiet key (first_burie
 row-ok Op.ListTubes key s sound = ok_same s key _ (λ id. refl) sound
 row-ok Op.ListTubeUsed key s sound = ok_same s key _ (λ id. refl) sound
 row-ok Op.ListTubesWatched key s sound = ok_same s key _ (λ id. refl) sound
+row-ok (Op.Pause tube seconds) key s sound =
+    ok_if s key (is_among tube (all_tubes s)) _ _ (record { sound = sound; at = refl; quiet = λ id. refl }) (ok_same s key Reply.NotFound (λ id. refl) sound)
 
 -- the commands that end a hold, with the replies that say so
 pub data EndsHold (id : ℕ) : Op → Reply → Type 0 where
@@ -184,7 +186,7 @@ touched_held x id ttr second y j s h same who =
     (Held-reserved s.jobs x id s.now (λ job. with_state (State.Reserved y (s.now + job.ttr)) job) h.job h.there (ap (λ z. State.Reserved z (s.now + h.job.ttr)) who) refl))
 
 pub row-holds : (x id ttr second : ℕ) (op : Op) (key : Key) (s : QueueState) → HasRisingIds s → Held s.jobs x id ttr second → HoldAfter x id ttr second s.now op key (row op key s)
-unfolding row put_row use_row watch_row ignore_row reserve_row delete_row release_row touch_row bury_row kick_row kick_job_row peek_row
+unfolding row put_row use_row watch_row ignore_row reserve_row delete_row release_row touch_row bury_row kick_row kick_job_row peek_row pause_row
 row-holds x id ttr second (Op.Put pri delay t body) key s sound h =
     stays_same x id ttr second s.now _ key s _ refl (record {
       job = h.job;
@@ -242,3 +244,5 @@ row-holds x id ttr second Op.PeekBuried key s sound h = stays_same x id ttr seco
 row-holds x id ttr second Op.ListTubes key s sound h = stays_same x id ttr second s.now _ key s _ refl h
 row-holds x id ttr second Op.ListTubeUsed key s sound h = stays_same x id ttr second s.now _ key s _ refl h
 row-holds x id ttr second Op.ListTubesWatched key s sound h = stays_same x id ttr second s.now _ key s _ refl h
+row-holds x id ttr second (Op.Pause tube seconds) key s sound h =
+    hold_if x id ttr second s.now _ key (is_among tube (all_tubes s)) _ _ (λ e. stays_same x id ttr second s.now _ key s _ refl h) (λ e. stays_same x id ttr second s.now _ key s _ refl h)

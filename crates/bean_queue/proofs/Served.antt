@@ -5,14 +5,15 @@ use Rattle.std.specs.List.{cons_option}
 use Rattle.object.specs.Lists.{In}
 use Rattle.object.specs.declared.command.Answer.{Answer}
 use Rattle.job_store.specs.declared.job.Job.{Job}
-use Rattle.job_store.specs.LookUps.{best_ready, is_among, pri_of_job}
+use Rattle.job_store.specs.LookUps.{best_ready, is_among, pri_of_job, not_paused}
 use Rattle.job_store.specs.States.{is_ready}
 use Rattle.session_store.specs.declared.session.SessionState.{SessionState}
 use Rattle.session_store.specs.Sessions.{first_waiting, with_wait_ended, with_wait, is_waiting, wait_rank}
 use Rattle.bean_queue.specs.declared.reply.Reply.{Reply}
-use Rattle.bean_queue.specs.Queue.{QueueState}
+use Rattle.bean_queue.specs.Queue.{QueueState, paused_tubes}
 use Rattle.bean_queue.specs.Turns.{Outcome, Turn, IsTurn, stop, turns, all_turns, after_turn, after_option, wanted, next_job, give, give_to, given, serve_turn, deadline_turn, timeout_turn, serve}
 use Rattle.bean_queue.specs.TurnLaws.{serve_turn-is, deadline_turn-is, timeout_turn-is, least-in, least-none, IfSome-map, best_ready-in}
+use Rattle.bean_queue.proofs.Paused.{open-watched}
 use Rattle.bean_queue.specs.WaitLaws.{IsWaiterTurn, given-waiter, told-waiter}
 
 -- how many sessions wait
@@ -82,42 +83,42 @@ module _ {X Y : Type 0} where
       elim (h d) as (λ o. In y (cons_option o (filter_map h xs))) [ None ↦ r | Some z ↦ inr r ]
 
 -- what is wanted is wanted by a session that waits and watches its tube
-pub wanted-by : (jobs : List (ℕ × Job)) (xs : List (ℕ × SessionState)) (j : ℕ × Job) → In j (filter_map (wanted jobs) xs) → (w : ℕ × SessionState) × In w xs × (is_waiting w.1 ≡ true) × (is_among j.1.tube w.1.watched ≡ true)
-wanted-by jobs [] j i = absurd i
-wanted-by jobs (x ∷ xs) j i =
-    elim (is_waiting x.1) as (λ b. is_waiting x.1 ≡ b → In j (cons_option (cond b (best_ready x.1.watched jobs) None) (filter_map (wanted jobs) xs)) → (w : ℕ × SessionState) × In w (x ∷ xs) × (is_waiting w.1 ≡ true) × (is_among j.1.tube w.1.watched ≡ true)) [
-      | false ↦ λ t i. let r = wanted-by jobs xs j i in (r.0, inr r.1, r.2, r.3)
+pub wanted-by : (paused : List (List ℕ)) (jobs : List (ℕ × Job)) (xs : List (ℕ × SessionState)) (j : ℕ × Job) → In j (filter_map (wanted paused jobs) xs) → (w : ℕ × SessionState) × In w xs × (is_waiting w.1 ≡ true) × (is_among j.1.tube (not_paused paused w.1.watched) ≡ true)
+wanted-by paused jobs [] j i = absurd i
+wanted-by paused jobs (x ∷ xs) j i =
+    elim (is_waiting x.1) as (λ b. is_waiting x.1 ≡ b → In j (cons_option (cond b (best_ready (not_paused paused x.1.watched) jobs) None) (filter_map (wanted paused jobs) xs)) → (w : ℕ × SessionState) × In w (x ∷ xs) × (is_waiting w.1 ≡ true) × (is_among j.1.tube (not_paused paused w.1.watched) ≡ true)) [
+      | false ↦ λ t i. let r = wanted-by paused jobs xs j i in (r.0, inr r.1, r.2, r.3)
       | true ↦ λ t i.
-          elim (best_ready x.1.watched jobs) as (λ o. IfSome o (λ j. In j jobs × (is_ready j.1.state ≡ true) × (is_among j.1.tube x.1.watched ≡ true)) → In j (cons_option o (filter_map (wanted jobs) xs)) → (w : ℕ × SessionState) × In w (x ∷ xs) × (is_waiting w.1 ≡ true) × (is_among j.1.tube w.1.watched ≡ true)) [
-            | None ↦ λ h i. let r = wanted-by jobs xs j i in (r.0, inr r.1, r.2, r.3)
+          elim (best_ready (not_paused paused x.1.watched) jobs) as (λ o. IfSome o (λ j. In j jobs × (is_ready j.1.state ≡ true) × (is_among j.1.tube (not_paused paused x.1.watched) ≡ true)) → In j (cons_option o (filter_map (wanted paused jobs) xs)) → (w : ℕ × SessionState) × In w (x ∷ xs) × (is_waiting w.1 ≡ true) × (is_among j.1.tube (not_paused paused w.1.watched) ≡ true)) [
+            | None ↦ λ h i. let r = wanted-by paused jobs xs j i in (r.0, inr r.1, r.2, r.3)
             | Some k ↦ λ h i.
-                elim i as (λ i. (w : ℕ × SessionState) × In w (x ∷ xs) × (is_waiting w.1 ≡ true) × (is_among j.1.tube w.1.watched ≡ true)) [
-                  | inl same ↦ (x, inl refl, t, ap (λ (k : ℕ × Job). is_among k.1.tube x.1.watched) same ∙ h.2)
-                  | inr later ↦ let r = wanted-by jobs xs j later in (r.0, inr r.1, r.2, r.3)
+                elim i as (λ i. (w : ℕ × SessionState) × In w (x ∷ xs) × (is_waiting w.1 ≡ true) × (is_among j.1.tube (not_paused paused w.1.watched) ≡ true)) [
+                  | inl same ↦ (x, inl refl, t, ap (λ (k : ℕ × Job). is_among k.1.tube (not_paused paused x.1.watched)) same ∙ h.2)
+                  | inr later ↦ let r = wanted-by paused jobs xs j later in (r.0, inr r.1, r.2, r.3)
                 ]
-          ] (best_ready-in x.1.watched jobs) i
+          ] (best_ready-in (not_paused paused x.1.watched) jobs) i
     ] refl i
 
 some≢none : {X : Type 0} (x : X) → Some x ≡ None → ⊥
 some≢none x e = cc
 
 -- where no turn is left, no waiting session has a best job
-pub idle_none : (s : QueueState) → serve_turn s ≡ None → (e : ℕ × SessionState) → In e s.sessions → is_waiting e.1 ≡ true → best_ready e.1.watched s.jobs ≡ None
+pub idle_none : (s : QueueState) → serve_turn s ≡ None → (e : ℕ × SessionState) → In e s.sessions → is_waiting e.1 ≡ true → best_ready (not_paused (paused_tubes s) e.1.watched) s.jobs ≡ None
 unfolding serve_turn
 idle_none s idle e i t =
-    elim (best_ready e.1.watched s.jobs) as (λ o. best_ready e.1.watched s.jobs ≡ o → o ≡ None) [
+    elim (best_ready (not_paused (paused_tubes s) e.1.watched) s.jobs) as (λ o. best_ready (not_paused (paused_tubes s) e.1.watched) s.jobs ≡ o → o ≡ None) [
       | None ↦ λ b. refl
       | Some j ↦ λ b.
-          let there : In j (filter_map (wanted s.jobs) s.sessions) = filter_map-there (wanted s.jobs) s.sessions e j i (cond-true (is_waiting e.1) (best_ready e.1.watched s.jobs) None t ∙ b) in
-          absurd (elim (next_job s) as (λ o. next_job s ≡ o → IfSome o (λ j. In j (filter_map (wanted s.jobs) s.sessions) × (true ≡ true)) → give s o ≡ None → ⊥) [
-            | None ↦ λ n h g. least-none (λ e. true) pri_of_job (filter_map (wanted s.jobs) s.sessions) j n there refl
+          let there : In j (filter_map (wanted (paused_tubes s) s.jobs) s.sessions) = filter_map-there (wanted (paused_tubes s) s.jobs) s.sessions e j i (cond-true (is_waiting e.1) (best_ready (not_paused (paused_tubes s) e.1.watched) s.jobs) None t ∙ b) in
+          absurd (elim (next_job s) as (λ o. next_job s ≡ o → IfSome o (λ j. In j (filter_map (wanted (paused_tubes s) s.jobs) s.sessions) × (true ≡ true)) → give s o ≡ None → ⊥) [
+            | None ↦ λ n h g. least-none (λ e. true) pri_of_job (filter_map (wanted (paused_tubes s) s.jobs) s.sessions) j n there refl
             | Some k ↦ λ n h g.
-                let w = wanted-by s.jobs s.sessions k h.0 in
+                let w = wanted-by (paused_tubes s) s.jobs s.sessions k h.0 in
                 elim (first_waiting (λ e. is_among k.1.tube e.1.watched) s.sessions) as (λ o. first_waiting (λ e. is_among k.1.tube e.1.watched) s.sessions ≡ o → give_to s k o ≡ None → ⊥) [
-                  | None ↦ λ f g. least-none (λ e. is_waiting e.1 && is_among k.1.tube e.1.watched) wait_rank s.sessions w.0 f w.1 (and_from (is_waiting w.0.1) (is_among k.1.tube w.0.1.watched) w.2 w.3)
+                  | None ↦ λ f g. least-none (λ e. is_waiting e.1 && is_among k.1.tube e.1.watched) wait_rank s.sessions w.0 f w.1 (and_from (is_waiting w.0.1) (is_among k.1.tube w.0.1.watched) w.2 (open-watched (paused_tubes s) w.0.1.watched k.1.tube w.3).0)
                   | Some v ↦ λ f g. some≢none (given s k v) g
                 ] refl g
-          ] refl (least-in (λ e. true) pri_of_job (filter_map (wanted s.jobs) s.sessions)) idle)
+          ] refl (least-in (λ e. true) pri_of_job (filter_map (wanted (paused_tubes s) s.jobs) s.sessions)) idle)
     ] refl
 
 -- turns that are enough are all alike

@@ -1,5 +1,5 @@
 -- The tubes that an operation wakes cover all that can be given after it.
-use Rattle.std.proofs.Common.{◌≡◌, ℕ, zero, suc, ◌+◌, ◌^◌, Bool, true, false, cond, ◌&&◌, ◌⊎◌, inl, inr, List, [], ◌∷◌, ◌++◌, Option, Some, None, IfSome, is_some, ◌==◌, bytes_eq, unwrap_or, refl, sym, ap, subst, ◌∙◌, eqb-true}
+use Rattle.std.proofs.Common.{◌≡◌, ℕ, zero, suc, ◌+◌, ◌^◌, Bool, true, false, cond, ◌&&◌, ◌⊎◌, inl, inr, List, [], ◌∷◌, ◌++◌, Option, Some, None, IfSome, is_some, ◌==◌, bytes_eq, unwrap_or, refl, sym, ap, subst, ◌∙◌, eqb-true, true≢false}
 use Rattle.std.proofs.lemmas.Bool.{and_parts, and_from}
 use Rattle.std.proofs.lemmas.Slice.Eq.{bytes_eq-Decides}
 use Rattle.object.specs.Lists.{In}
@@ -9,7 +9,7 @@ use Rattle.job_store.specs.declared.job.Job.{Job}
 use Rattle.job_store.specs.declared.state.State.{State}
 use Rattle.job_store.specs.Entries.{Rising, value_at, with_value, altered}
 use Rattle.job_store.specs.Least.{least}
-use Rattle.job_store.specs.LookUps.{is_among, ready_in, first_buried, first_delayed, buried_in, delayed_in, pri_of_job, rank_of_job, due_of_job}
+use Rattle.job_store.specs.LookUps.{is_among, ready_in, first_buried, first_delayed, buried_in, delayed_in, pri_of_job, rank_of_job, due_of_job, not_paused}
 use Rattle.job_store.specs.States.{is_ready, is_held, is_buried, is_delayed, with_state, with_pri_and_state}
 use Rattle.job_store.proofs.Least.{among-member}
 use Rattle.job_store.proofs.Shelving.{in-front, in-last}
@@ -18,35 +18,45 @@ use Rattle.session_store.specs.declared.session.Wait.{Wait}
 use Rattle.session_store.specs.Sessions.{session_of, new_session, with_wait, is_waiting}
 use Rattle.session_store.specs.WatchLists.{joined}
 use Rattle.session_store.specs.EntryLaws.{altered-in, insert-in, value_at-In, Rising-altered}
+use Rattle.pause_store.specs.Pauses.{is_paused, paused_for, tubes_over}
+use Rattle.pause_store.proofs.OneTube.{others, goes-on-or-over}
 use Rattle.bean_queue.specs.declared.op.Op.{Op}
 use Rattle.bean_queue.specs.declared.reply.Reply.{Reply}
 use Rattle.bean_queue.specs.Best.{IsWanted}
-use Rattle.bean_queue.specs.Queue.{QueueState, used_by, watched_by}
-use Rattle.bean_queue.specs.Rows.{Row, kicked, kicked_option, put_job, ready_after, time_out, is_found, is_idle, row, put_row, reserve_row, release_row, kick_row, kick_job_row}
+use Rattle.bean_queue.specs.Queue.{QueueState, paused_tubes, pauses_of, used_by, watched_by}
+use Rattle.bean_queue.specs.Rows.{Row, kicked, kicked_option, put_job, ready_after, time_out, is_found, is_idle, row, put_row, reserve_row, release_row, kick_row, kick_job_row, pause_row, all_tubes}
 use Rattle.bean_queue.specs.Turns.{Turn, IsTurn, given, serve_turn}
 use Rattle.bean_queue.specs.TurnLaws.{IsServed, serve_turn-is, least-none, least-in, IfSome-map}
 use Rattle.bean_queue.specs.Effects.{called, released, at_second, is_quiet}
 use Rattle.bean_queue.specs.Woken.{Covers, AreWoken, tube_of, woken_by}
-use Rattle.bean_queue.proofs.Calm.{IsCalmer, changed-calmer, ended-calmer, called-calm}
+use Rattle.bean_queue.proofs.Paused.{watched-open}
+use Rattle.bean_queue.proofs.Calm.{IsCalmer, was-open, changed-calmer, ended-calmer, called-calm}
 use Rattle.bean_queue.proofs.Served.{idle_none}
 
 -- Where nothing is left to give
 
 pub nothing-wanted : (s : QueueState) (j : ℕ × Job) → serve_turn s ≡ None → IsWanted s j → ⊥
 nothing-wanted s j none w =
-    least-none (ready_in w.watched.0.1.watched) pri_of_job s.jobs j
+    least-none (ready_in (not_paused (paused_tubes s) w.watched.0.1.watched)) pri_of_job s.jobs j
     (idle_none s none w.watched.0 w.watched.1 w.watched.2)
     w.there
-    (and_from (is_ready j.1.state) (is_among j.1.tube w.watched.0.1.watched) w.ready w.watched.3)
+    (and_from (is_ready j.1.state) (is_among j.1.tube (not_paused (paused_tubes s) w.watched.0.1.watched)) w.ready (watched-open (paused_tubes s) w.watched.0.1.watched j.1.tube w.watched.3 w.unpaused))
 
 covers-nothing : (tubes : List (List ℕ)) (s : QueueState) → serve_turn s ≡ None → Covers tubes s
 covers-nothing tubes s none j w = absurd (nothing-wanted s j none w)
 
--- what can be given is of a job that became ready
-covers-new : (tubes : List (List ℕ)) (s t : QueueState) → serve_turn s ≡ None → ((w : ℕ × SessionState) → In w t.sessions → is_waiting w.1 ≡ true → In w s.sessions) → AreWoken tubes s.jobs t.jobs → Covers tubes t
-covers-new tubes s t none fewer woken j w =
+-- a tube that is not paused was not so before, or is one of these
+abbrev Opens : List (List ℕ) → QueueState → QueueState → Type 0
+Opens tubes s t = (tube : List ℕ) → is_paused tube t.pauses ≡ false → (is_paused tube s.pauses ≡ false) ⊎ In tube tubes
+
+-- what can be given is of a job that became ready, or in a tube that is paused no longer
+covers-new : (tubes : List (List ℕ)) (s t : QueueState) → serve_turn s ≡ None → ((w : ℕ × SessionState) → In w t.sessions → is_waiting w.1 ≡ true → In w s.sessions) → Opens tubes s t → AreWoken tubes s.jobs t.jobs → Covers tubes t
+covers-new tubes s t none fewer opens woken j w =
     elim (woken j w.there w.ready) as (λ v. In j.1.tube tubes) [
-      | inl was ↦ absurd (nothing-wanted s j none (record { there = was; ready = w.ready; watched = (w.watched.0, fewer w.watched.0 w.watched.1 w.watched.2, w.watched.2, w.watched.3) }))
+      | inl was ↦ elim (opens j.1.tube w.unpaused) as (λ v. In j.1.tube tubes) [
+        | inl open-before ↦ absurd (nothing-wanted s j none (record { there = was; ready = w.ready; unpaused = open-before; watched = (w.watched.0, fewer w.watched.0 w.watched.1 w.watched.2, w.watched.2, w.watched.3) }))
+        | inr named ↦ named
+      ]
       | inr named ↦ named
     ]
 
@@ -54,13 +64,14 @@ covers-new tubes s t none fewer woken j w =
 
 covers-calmer : (tubes : List (List ℕ)) (s t : QueueState) → IsCalmer s t → Covers tubes s → Covers tubes t
 covers-calmer tubes s t c covers j w =
-    covers j (record { there = c.jobs j w.there w.ready; ready = w.ready; watched = (w.watched.0, c.sessions w.watched.0 w.watched.1 w.watched.2, w.watched.2, w.watched.3) })
+    covers j (record { there = c.jobs j w.there w.ready; ready = w.ready; unpaused = was-open s t j.1.tube c w.unpaused; watched = (w.watched.0, c.sessions w.watched.0 w.watched.1 w.watched.2, w.watched.2, w.watched.3) })
 
 given-calmer : (s : QueueState) (j : ℕ × Job) (w : ℕ × SessionState) → IsCalmer s (given s j w).state
 unfolding given
 given-calmer s j w = record {
   jobs = changed-calmer j.0 (with_state (State.Reserved w.0 (s.now + j.1.ttr))) s.jobs (λ job. refl);
   sessions = ended-calmer w.0 s.sessions;
+  pauses = λ tube p. p;
 }
 
 -- a turn takes a ready job and a waiting session away
@@ -79,7 +90,7 @@ none-woken tubes jobs j i t = inl i
 woken-then : (tubes : List (List ℕ)) (a b c : List (ℕ × Job)) → AreWoken tubes a b → AreWoken tubes b c → AreWoken tubes a c
 woken-then tubes a b c first then j i t = elim (then j i t) as (λ v. In j a ⊎ In j.1.tube tubes) [ inl was ↦ first j was t | inr named ↦ inr named ]
 
-woken-more : (tubes more : List (List ℕ)) (a b : List (ℕ × Job)) → ((tube : List ℕ) → In tube tubes → In tube more) → AreWoken tubes a b → AreWoken more a b
+pub woken-more : (tubes more : List (List ℕ)) (a b : List (ℕ × Job)) → ((tube : List ℕ) → In tube tubes → In tube more) → AreWoken tubes a b → AreWoken more a b
 woken-more tubes more a b keeps woken j i t = elim (woken j i t) as (λ v. In j a ⊎ In j.1.tube more) [ inl was ↦ inl was | inr named ↦ inr (keeps j.1.tube named) ]
 
 -- the job at an id
@@ -151,11 +162,11 @@ begins_to_wait x hi wait sessions tube r =
     ] refl)
 
 -- what can be given is in a tube that the session watches
-covers-wait : (x hi : ℕ) (wait : Option Wait) (s t : QueueState) → serve_turn s ≡ None → Rising 0 hi s.sessions → t.jobs ≡ s.jobs → t.sessions ≡ altered x (with_wait wait) s.sessions → Covers (watched_by s x) t
-covers-wait x hi wait s t none r jobs sessions j w =
+covers-wait : (x hi : ℕ) (wait : Option Wait) (s t : QueueState) → serve_turn s ≡ None → Rising 0 hi s.sessions → t.jobs ≡ s.jobs → t.pauses ≡ s.pauses → t.sessions ≡ altered x (with_wait wait) s.sessions → Covers (watched_by s x) t
+covers-wait x hi wait s t none r jobs pauses sessions j w =
     let there : In j s.jobs = subst (In j) jobs w.there in
     elim (begins_to_wait x hi wait s.sessions j.1.tube r w.watched.0 (subst (In w.watched.0) sessions w.watched.1) w.watched.3) as (λ v. In j.1.tube (watched_by s x)) [
-      | inl was ↦ absurd (nothing-wanted s j none (record { there = there; ready = w.ready; watched = (w.watched.0, was, w.watched.2, w.watched.3) }))
+      | inl was ↦ absurd (nothing-wanted s j none (record { there = there; ready = w.ready; unpaused = subst (λ ps. is_paused j.1.tube ps ≡ false) pauses w.unpaused; watched = (w.watched.0, was, w.watched.2, w.watched.3) }))
       | inr named ↦ named
     ]
 
@@ -165,21 +176,29 @@ covers_if : (tubes : List (List ℕ)) (b : Bool) (r q : Row) → Covers tubes r.
 covers_if tubes true r q h k = h
 covers_if tubes false r q h k = k
 
+-- a pause opens its own tube at most
+paused-opens : (tube : List ℕ) (seconds : ℕ) (s : QueueState) → Opens (tube ∷ []) s (record s { pauses = (paused_for tube seconds (pauses_of s)).pauses })
+paused-opens tube seconds s other u =
+    elim (bytes_eq other tube) as (λ b. bytes_eq other tube ≡ b → (is_paused other s.pauses ≡ false) ⊎ In other (tube ∷ [])) [
+      | true ↦ λ t. inr (inl ((bytes_eq-Decides other tube).0 t))
+      | false ↦ λ t. inl (sym (others tube other seconds (pauses_of s) (λ same. true≢false (sym ((bytes_eq-Decides other tube).1 same) ∙ t))) ∙ u)
+    ] refl
+
 row-covers : (op : Op) (key : Key) (s : QueueState) → is_quiet op ≡ false → serve_turn s ≡ None → Rising 0 (2 ^ 64) s.jobs → Rising 0 (2 ^ 32) s.sessions → Covers (woken_by op key s) (row op key s).state
-unfolding row put_row reserve_row release_row kick_row kick_job_row
+unfolding row put_row reserve_row release_row kick_row kick_job_row pause_row
 row-covers (Op.Put pri delay ttr body) key s q none ids numbers =
-    covers-new (used_by s key.session ∷ []) s _ none (λ w i t. i) (put-woken s.next_id (put_job s key.session pri delay ttr body) s.jobs)
+    covers-new (used_by s key.session ∷ []) s _ none (λ w i t. i) (λ tube u. inl u) (put-woken s.next_id (put_job s key.session pri delay ttr body) s.jobs)
 row-covers (Op.Reserve seconds) key s q none ids numbers =
-    covers-wait key.session (2 ^ 32) (Some (record { number = key.number; rank = s.next_rank; time_out = time_out s.now seconds })) s _ none numbers refl refl
+    covers-wait key.session (2 ^ 32) (Some (record { number = key.number; rank = s.next_rank; time_out = time_out s.now seconds })) s _ none numbers refl refl refl
 row-covers (Op.Release id pri delay) key s q none ids numbers =
     covers_if (tube_of (value_at id s.jobs)) (is_found (is_held key.session) (value_at id s.jobs)) _ _
-    (covers-new (tube_of (value_at id s.jobs)) s _ none (λ w i t. i) (altered-woken id (2 ^ 64) (with_pri_and_state pri (ready_after s.now delay)) s.jobs ids (λ job. refl)))
+    (covers-new (tube_of (value_at id s.jobs)) s _ none (λ w i t. i) (λ tube u. inl u) (altered-woken id (2 ^ 64) (with_pri_and_state pri (ready_after s.now delay)) s.jobs ids (λ job. refl)))
     (covers-nothing (tube_of (value_at id s.jobs)) s none)
 row-covers (Op.Kick bound) key s q none ids numbers =
-    covers-new (used_by s key.session ∷ []) s _ none (λ w i t. i) (kick-woken (used_by s key.session) (is_some (first_buried (used_by s key.session) s.jobs)) bound (2 ^ 64) s.jobs ids)
+    covers-new (used_by s key.session ∷ []) s _ none (λ w i t. i) (λ tube u. inl u) (kick-woken (used_by s key.session) (is_some (first_buried (used_by s key.session) s.jobs)) bound (2 ^ 64) s.jobs ids)
 row-covers (Op.KickJob id) key s q none ids numbers =
     covers_if (tube_of (value_at id s.jobs)) (is_found is_idle (value_at id s.jobs)) _ _
-    (covers-new (tube_of (value_at id s.jobs)) s _ none (λ w i t. i) (altered-woken id (2 ^ 64) (with_state State.Ready) s.jobs ids (λ job. refl)))
+    (covers-new (tube_of (value_at id s.jobs)) s _ none (λ w i t. i) (λ tube u. inl u) (altered-woken id (2 ^ 64) (with_state State.Ready) s.jobs ids (λ job. refl)))
     (covers-nothing (tube_of (value_at id s.jobs)) s none)
 row-covers (Op.Use tube) key s q none ids numbers = cc
 row-covers (Op.Watch tube) key s q none ids numbers = cc
@@ -194,6 +213,10 @@ row-covers Op.PeekBuried key s q none ids numbers = cc
 row-covers Op.ListTubes key s q none ids numbers = cc
 row-covers Op.ListTubeUsed key s q none ids numbers = cc
 row-covers Op.ListTubesWatched key s q none ids numbers = cc
+row-covers (Op.Pause tube seconds) key s q none ids numbers =
+    covers_if (tube ∷ []) (is_among tube (all_tubes s)) _ _
+    (covers-new (tube ∷ []) s _ none (λ w i t. i) (paused-opens tube seconds s) (none-woken (tube ∷ []) s.jobs))
+    (covers-nothing (tube ∷ []) s none)
 
 -- after a loud operation of a session that was called
 pub covers-loud : (op : Op) (key : Key) (s t u : QueueState) (tubes : List (List ℕ)) → is_quiet op ≡ false → serve_turn s ≡ None → t ≡ called key.session s → Rising 0 (2 ^ 64) t.jobs → Rising 0 (2 ^ 32) t.sessions → tubes ≡ woken_by op key t → u ≡ (row op key t).state → Covers tubes u
@@ -202,12 +225,19 @@ covers-loud op key s t u tubes loud none c ids numbers woken e =
     subst (λ ts. Covers ts u) (sym woken) (subst (Covers (woken_by op key t)) (sym e) (row-covers op key t loud calm ids numbers))
 
 -- after a second has come
-pub covers-second : (tubes : List (List ℕ)) (second : ℕ) (s t : QueueState) → serve_turn s ≡ None → t ≡ at_second second s → AreWoken tubes s.jobs t.jobs → Covers tubes t
-covers-second tubes second s t none e woken = covers-new tubes s t none (λ w i waits. subst (λ (u : QueueState). In w u.sessions) e i) woken
+pub covers-second : (tubes : List (List ℕ)) (second : ℕ) (s t : QueueState) → serve_turn s ≡ None → t ≡ at_second second s → AreWoken tubes s.jobs t.jobs → ((tube : List ℕ) → In tube (tubes_over second s.pauses) → In tube tubes) → Covers tubes t
+covers-second tubes second s t none e woken over =
+    covers-new tubes s t none (λ w i waits. subst (λ (u : QueueState). In w u.sessions) e i)
+    (λ tube u.
+    elim (is_paused tube s.pauses) as (λ b. is_paused tube s.pauses ≡ b → (b ≡ false) ⊎ In tube tubes) [
+      | true ↦ λ paused. inr (over tube (goes-on-or-over tube second s.pauses paused (subst (λ (v : QueueState). is_paused tube v.pauses ≡ false) e u)))
+      | false ↦ λ _. inl refl
+    ] refl)
+    woken
 
 -- after a session has given its jobs back
 pub covers-released : (tubes : List (List ℕ)) (x : ℕ) (s t : QueueState) → serve_turn s ≡ None → t ≡ released x s → AreWoken tubes s.jobs t.jobs → Covers tubes t
-covers-released tubes x s t none e woken = covers-new tubes s t none (λ w i waits. ended-calmer x s.sessions w (subst (λ (u : QueueState). In w u.sessions) e i) waits) woken
+covers-released tubes x s t none e woken = covers-new tubes s t none (λ w i waits. ended-calmer x s.sessions w (subst (λ (u : QueueState). In w u.sessions) e i) waits) (λ tube u. inl (subst (λ (v : QueueState). is_paused tube v.pauses ≡ false) e u)) woken
 
 -- Tubes that are gathered one by one
 

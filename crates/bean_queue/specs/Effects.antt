@@ -9,6 +9,7 @@ use Rattle.job_store.specs.declared.state.State.{State}
 use Rattle.job_store.specs.Entries.{without, each_value}
 use Rattle.job_store.specs.States.{is_due, is_held, with_state}
 use Rattle.session_store.specs.Sessions.{session_of, known, with_wait_ended, is_waiting}
+use Rattle.pause_store.specs.Pauses.{left_at}
 use Rattle.bean_queue.specs.declared.op.Op.{Op}
 use Rattle.bean_queue.specs.declared.reply.Reply.{Reply}
 use Rattle.bean_queue.specs.Queue.{QueueState, with_sessions, holds_by}
@@ -93,9 +94,9 @@ close_effect x s = let o = serve (released x s) in record { state = forgotten x 
 abbrev pub come_due : ℕ → Job → Job
 come_due second job = if is_due second job.state then with_state State.Ready job else job
 
--- it is this second
+-- it is this second: jobs that are due by it are ready, and pauses that are over by it are gone
 abbrev pub at_second : ℕ → QueueState → QueueState
-at_second second s = record s { now = second; jobs = each_value (come_due second) s.jobs }
+at_second second s = record s { now = second; jobs = each_value (come_due second) s.jobs; pauses = left_at second s.pauses }
 
 -- a second above now comes, and a lesser one does nothing
 unfoldable pub tick_effect : ℕ → QueueState → Outcome
@@ -134,3 +135,4 @@ is_quiet Op.PeekBuried = true
 is_quiet Op.ListTubes = true
 is_quiet Op.ListTubeUsed = true
 is_quiet Op.ListTubesWatched = true
+is_quiet (Op.Pause tube seconds) = false

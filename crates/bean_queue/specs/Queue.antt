@@ -1,11 +1,14 @@
 -- The state of the queue.
-use Rattle.std.specs.Prelude.{ℕ, Bool, ◌&&◌, List, [], nat_le}
+use Rattle.std.specs.Prelude.{◌≡◌, ℕ, Bool, ◌&&◌, List, [], nat_le}
 use Rattle.std.specs.List.{list_any}
+use Rattle.std.specs.Map.{keys_of}
 use Rattle.job_store.specs.declared.job.Job.{Job}
 use Rattle.job_store.specs.Entries.{Rising}
 use Rattle.job_store.specs.States.{is_held, due_of}
 use Rattle.session_store.specs.declared.session.SessionState.{SessionState}
 use Rattle.session_store.specs.Sessions.{session_of}
+use Rattle.session_store.specs.Drafts.{Draft}
+use Rattle.pause_store.specs.Pauses.{PauseState}
 use Rattle.bean_queue.specs.declared.counters.Counters.{Counters}
 
 -- the jobs by id and the sessions by number, each a list of entries whose keys rise
@@ -15,20 +18,35 @@ pub record QueueState : Type 0 where
   pub next_rank : ℕ
   pub jobs : List (ℕ × Job)
   pub sessions : List (ℕ × SessionState)
+  pub pauses : List (List ℕ × ℕ)
 
 -- the state of these parts
-abbrev pub state_of : Counters → List (ℕ × Job) → List (ℕ × SessionState) → QueueState
-state_of counters jobs sessions = record {
+abbrev pub state_of : Counters → List (ℕ × Job) → List (ℕ × SessionState) → List (List ℕ × ℕ) → QueueState
+state_of counters jobs sessions pauses = record {
   now = counters.now;
   next_id = counters.next_id;
   next_rank = counters.next_rank;
   jobs = jobs;
   sessions = sessions;
+  pauses = pauses;
 }
+
+-- the pauses are of the second that the counters have, now and before
+pub record AgreesOnTime (counters kept : Counters) (pauses : Draft PauseState) : Type 0 where
+  pub now : pauses.now.second ≡ counters.now
+  pub before : pauses.before.second ≡ kept.now
 
 -- a new queue
 abbrev pub fresh : QueueState
-fresh = record { now = 0; next_id = 1; next_rank = 1; jobs = []; sessions = [] }
+fresh = record { now = 0; next_id = 1; next_rank = 1; jobs = []; sessions = []; pauses = [] }
+
+-- its pauses, at its second
+abbrev pub pauses_of : QueueState → PauseState
+pauses_of s = record { second = s.now; pauses = s.pauses }
+
+-- the tubes that are paused
+abbrev pub paused_tubes : QueueState → List (List ℕ)
+paused_tubes s = keys_of s.pauses
 
 -- the ids rise, from 1 on, and the next one is above them
 abbrev pub HasRisingIds : QueueState → Type 0

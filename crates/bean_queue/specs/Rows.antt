@@ -10,13 +10,14 @@ use Rattle.job_store.specs.declared.job.Job.{Job}
 use Rattle.job_store.specs.declared.state.State.{State}
 use Rattle.job_store.specs.Entries.{value_at, with_value, altered, without}
 use Rattle.job_store.specs.States.{is_held, is_delayed, is_buried, with_state, with_pri_and_state}
-use Rattle.job_store.specs.LookUps.{delayed_in, buried_in, first_ready, first_delayed, first_buried}
+use Rattle.job_store.specs.LookUps.{is_among, delayed_in, buried_in, first_ready, first_delayed, first_buried}
 use Rattle.session_store.specs.declared.session.SessionState.{SessionState}
 use Rattle.session_store.specs.Sessions.{with_wait}
 use Rattle.session_store.specs.WatchLists.{joined, left_out, is_alone}
+use Rattle.pause_store.specs.Pauses.{paused_for}
 use Rattle.bean_queue.specs.declared.op.Op.{Op}
 use Rattle.bean_queue.specs.declared.reply.Reply.{Reply}
-use Rattle.bean_queue.specs.Queue.{QueueState, with_jobs, used_by, watched_by}
+use Rattle.bean_queue.specs.Queue.{QueueState, pauses_of, with_jobs, used_by, watched_by}
 
 -- the state after an operation, and its own reply, if it has one by now
 pub record Row : Type 0 where
@@ -211,6 +212,14 @@ pub data IsTube (s : QueueState) (tube : List ℕ) : Type 0 where
   used : (w : ℕ × SessionState) → In w s.sessions → tube ≡ w.1.used → IsTube s tube
   watched : (w : ℕ × SessionState) → In w s.sessions → In tube w.1.watched → IsTube s tube
 
+-- a tube that list-tubes names is paused for so many seconds, or no longer where they are none (protocol.txt of
+-- beanstalkd, "pause-tube")
+unfoldable pub pause_row : QueueState → List ℕ → ℕ → Row
+pause_row s tube seconds =
+    if is_among tube (all_tubes s)
+    then replies (record s { pauses = (paused_for tube seconds (pauses_of s)).pauses }) Reply.Paused
+    else replies s Reply.NotFound
+
 -- what an operation under this key does
 unfoldable pub row : Op → Key → QueueState → Row
 row (Op.Put pri delay ttr body) key s = put_row s key.session pri delay ttr body
@@ -231,3 +240,4 @@ row Op.PeekBuried key s = peek_row s (first_buried (used_by s key.session) s.job
 row Op.ListTubes key s = replies s (Reply.Tubes (all_tubes s))
 row Op.ListTubeUsed key s = replies s (Reply.Using (used_by s key.session))
 row Op.ListTubesWatched key s = replies s (Reply.Tubes (watched_by s key.session))
+row (Op.Pause tube seconds) key s = pause_row s tube seconds

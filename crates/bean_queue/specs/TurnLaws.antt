@@ -6,12 +6,12 @@ use Rattle.object.specs.Lists.{In}
 use Rattle.object.specs.declared.command.Answer.{Answer}
 use Rattle.job_store.specs.declared.job.Job.{Job}
 use Rattle.job_store.specs.Least.{comes_before, lesser, least}
-use Rattle.job_store.specs.LookUps.{is_among, best_ready, ready_in, pri_of_job}
+use Rattle.job_store.specs.LookUps.{is_among, best_ready, ready_in, pri_of_job, not_paused}
 use Rattle.job_store.specs.States.{is_ready}
 use Rattle.session_store.specs.declared.session.SessionState.{SessionState}
 use Rattle.session_store.specs.Sessions.{first_waiting, is_waiting, wait_rank, has_timed_out}
 use Rattle.bean_queue.specs.declared.reply.Reply.{Reply}
-use Rattle.bean_queue.specs.Queue.{QueueState, holds_by}
+use Rattle.bean_queue.specs.Queue.{QueueState, holds_by, paused_tubes}
 use Rattle.bean_queue.specs.Turns.{Turn, turns, after_option, wanted, next_job, given, give, give_to, serve_turn, told_turn, tell, deadline_turn, timeout_turn}
 
 module _ {X : Type 0} where
@@ -78,18 +78,18 @@ best_ready-in tubes jobs =
     (λ j h. let b = and_parts (is_ready j.1.state) (is_among j.1.tube tubes) h.1 in (h.0, b.0, b.1))
     (least-in (ready_in tubes) pri_of_job jobs)
 
-pub wanted-in : (jobs : List (ℕ × Job)) (e : ℕ × SessionState) → IfSome (wanted jobs e) (λ j. In j jobs × (is_ready j.1.state ≡ true))
-wanted-in jobs e =
-    elim (is_waiting e.1) as (λ b. IfSome (cond b (best_ready e.1.watched jobs) None) (λ j. In j jobs × (is_ready j.1.state ≡ true))) [
-      | true ↦ IfSome-map _ _ (best_ready e.1.watched jobs) (λ j h. (h.0, h.1)) (best_ready-in e.1.watched jobs)
+pub wanted-in : (paused : List (List ℕ)) (jobs : List (ℕ × Job)) (e : ℕ × SessionState) → IfSome (wanted paused jobs e) (λ j. In j jobs × (is_ready j.1.state ≡ true))
+wanted-in paused jobs e =
+    elim (is_waiting e.1) as (λ b. IfSome (cond b (best_ready (not_paused paused e.1.watched) jobs) None) (λ j. In j jobs × (is_ready j.1.state ≡ true))) [
+      | true ↦ IfSome-map _ _ (best_ready (not_paused paused e.1.watched) jobs) (λ j h. (h.0, h.1)) (best_ready-in (not_paused paused e.1.watched) jobs)
       | false ↦ tt
     ]
 
 pub next_job-in : (s : QueueState) → IfSome (next_job s) (λ j. In j s.jobs × (is_ready j.1.state ≡ true))
 next_job-in s =
     IfSome-map _ _ (next_job s)
-    (λ j h. filter_map-in (wanted s.jobs) (λ j. In j s.jobs × (is_ready j.1.state ≡ true)) (wanted-in s.jobs) s.sessions j h.0)
-    (least-in (λ e. true) pri_of_job (filter_map (wanted s.jobs) s.sessions))
+    (λ j h. filter_map-in (wanted (paused_tubes s) s.jobs) (λ j. In j s.jobs × (is_ready j.1.state ≡ true)) (wanted-in (paused_tubes s) s.jobs) s.sessions j h.0)
+    (least-in (λ e. true) pri_of_job (filter_map (wanted (paused_tubes s) s.jobs) s.sessions))
 
 pub first_waiting-in : (test : ℕ × SessionState → Bool) (sessions : List (ℕ × SessionState)) → IfSome (first_waiting test sessions) (λ w. In w sessions × (is_waiting w.1 ≡ true) × (test w ≡ true))
 first_waiting-in test sessions =

@@ -5,12 +5,12 @@ use Rattle.job_store.specs.declared.job.Job.{Job}
 use Rattle.job_store.specs.declared.state.State.{State}
 use Rattle.job_store.specs.Entries.{altered}
 use Rattle.job_store.specs.Least.{least}
-use Rattle.job_store.specs.LookUps.{is_among, best_ready, pri_of_job}
+use Rattle.job_store.specs.LookUps.{is_among, best_ready, pri_of_job, not_paused}
 use Rattle.job_store.specs.States.{with_state}
 use Rattle.session_store.specs.declared.session.SessionState.{SessionState}
 use Rattle.session_store.specs.Sessions.{first_waiting, with_wait_ended, is_waiting, wait_number, has_timed_out}
 use Rattle.bean_queue.specs.declared.reply.Reply.{Reply}
-use Rattle.bean_queue.specs.Queue.{QueueState, holds_by}
+use Rattle.bean_queue.specs.Queue.{QueueState, holds_by, paused_tubes}
 
 -- the state after, and the answers in their order
 pub record Outcome : Type 0 where
@@ -48,13 +48,13 @@ all_turns turn s = turns turn (length s.sessions) s
 abbrev pub answer_to : ℕ × SessionState → Reply → Answer Reply
 answer_to e reply = record { to = record { session = e.0; number = wait_number e.1.wait }; reply = reply }
 
--- the best job of a session that waits
-abbrev pub wanted : List (ℕ × Job) → ℕ × SessionState → Option (ℕ × Job)
-wanted jobs e = if is_waiting e.1 then best_ready e.1.watched jobs else None
+-- the best job of a session that waits, in those of its tubes that are not paused
+abbrev pub wanted : List (List ℕ) → List (ℕ × Job) → ℕ × SessionState → Option (ℕ × Job)
+wanted paused jobs e = if is_waiting e.1 then best_ready (not_paused paused e.1.watched) jobs else None
 
 -- of the best jobs of all waiting sessions, that of the least (priority, id)
 abbrev pub next_job : QueueState → Option (ℕ × Job)
-next_job s = least (λ e. true) pri_of_job (filter_map (wanted s.jobs) s.sessions)
+next_job s = least (λ e. true) pri_of_job (filter_map (wanted (paused_tubes s) s.jobs) s.sessions)
 
 -- session w gets job j until its time to run is over, and waits no longer (protocol.txt of beanstalkd, "reserve")
 unfoldable pub given : QueueState → ℕ × Job → ℕ × SessionState → Turn

@@ -7,6 +7,7 @@ use Rattle.object.specs.declared.command.Answer.{Answer}
 use Rattle.object.specs.declared.command.Command.{Command}
 use Rattle.object.specs.declared.command.Key.{Key}
 use Rattle.job_store.specs.Entries.{value_at}
+use Rattle.job_store.specs.LookUps.{is_among}
 use Rattle.job_store.specs.States.{is_held}
 use Rattle.session_store.specs.declared.session.SessionState.{SessionState}
 use Rattle.session_store.specs.Sessions.{session_of, with_wait_ended, is_waiting, wait_number}
@@ -17,7 +18,7 @@ use Rattle.bean_queue.specs.declared.op.Op.{Op}
 use Rattle.bean_queue.specs.declared.reply.Reply.{Reply}
 use Rattle.bean_queue.specs.Queue.{QueueState, fresh, holds_by, watched_by}
 use Rattle.bean_queue.specs.Turns.{Outcome, Turn, stop, turns, all_turns, after_option, given, told_turn, serve_turn, deadline_turn, timeout_turn, serve}
-use Rattle.bean_queue.specs.Rows.{is_idle, Row, row, put_row, use_row, watch_row, ignore_row, reserve_row, delete_row, may_delete, is_found, release_row, touch_row, bury_row, kick_row, kick_job_row, peek_row}
+use Rattle.bean_queue.specs.Rows.{is_idle, Row, row, put_row, use_row, watch_row, ignore_row, reserve_row, delete_row, may_delete, is_found, release_row, touch_row, bury_row, kick_row, kick_job_row, peek_row, all_tubes, pause_row}
 use Rattle.bean_queue.specs.Effects.{own, called, ends_wait, is_zero, settled, then_do, has_no_number, carried_out, do_effect, released, close_effect, at_second, tick_effect, act_effect, effect}
 use Rattle.bean_queue.specs.Waits.{Waits, AreApart, IsLawful}
 use Rattle.bean_queue.specs.TurnLaws.{IsServed, IsTold, serve_turn-is, deadline_turn-is, timeout_turn-is, IfSome-map}
@@ -117,7 +118,7 @@ same : (key : Key) (s : QueueState) (r : Row) → r.state.sessions ≡ s.session
 same key s r e = RowWaits.still (λ k h. subst (λ ss. WaitsIn ss k) e h)
 
 row-waits : (op : Op) (key : Key) (s : QueueState) → RowWaits key s (row op key s)
-unfolding row put_row use_row watch_row ignore_row reserve_row delete_row release_row touch_row bury_row kick_row kick_job_row peek_row
+unfolding row put_row use_row watch_row ignore_row reserve_row delete_row release_row touch_row bury_row kick_row kick_job_row peek_row pause_row
 row-waits (Op.Put pri delay ttr body) key s = same key s _ refl
 row-waits (Op.Use tube) key s = RowWaits.still (λ k h. altered-waits key.session _ s.sessions k (λ c. refl) h)
 row-waits (Op.Watch tube) key s = RowWaits.still (λ k h. altered-waits key.session _ s.sessions k (λ c. refl) h)
@@ -139,6 +140,7 @@ row-waits Op.PeekBuried key s = same key s _ refl
 row-waits Op.ListTubes key s = same key s _ refl
 row-waits Op.ListTubeUsed key s = same key s _ refl
 row-waits Op.ListTubesWatched key s = same key s _ refl
+row-waits (Op.Pause tube seconds) key s = still_if key s (is_among tube (all_tubes s)) _ _ (same key s _ refl) (same key s _ refl)
 
 ends_wait-dealt : (s : QueueState) (key : Key) (reply : Reply) → Waits s key → IsDealt s (ends_wait s key reply)
 ends_wait-dealt s key reply h =

@@ -1,5 +1,5 @@
 -- The tubes in which there may be a job for a session that waits, where there was none before.
-use Rattle.std.specs.Prelude.{◌≡◌, ℕ, true, ◌⊎◌, List, [], ◌∷◌, Option, None, Some, filter_map, is_some, if◌then◌else◌}
+use Rattle.std.specs.Prelude.{◌≡◌, ℕ, Bool, true, not, ◌&&◌, ◌⊎◌, List, [], ◌∷◌, Option, None, Some, filter_map, is_some, if◌then◌else◌}
 use Rattle.object.specs.Lists.{In}
 use Rattle.object.specs.declared.command.Key.{Key}
 use Rattle.job_store.specs.declared.job.Job.{Job}
@@ -17,14 +17,19 @@ use Rattle.bean_queue.specs.Queue.{QueueState, used_by, watched_by}
 abbrev pub Covers : List (List ℕ) → QueueState → Type 0
 Covers tubes s = (j : ℕ × Job) → IsWanted s j → In j.1.tube tubes
 
--- the next ready job of a tube, if a waiting session watches the tube
-abbrev pub offered : List (ℕ × Job) → List (ℕ × SessionState) → List ℕ → Option (ℕ × Job)
-offered jobs sessions tube =
-    if is_some (first_waiting (λ e. is_among tube e.1.watched) sessions) then first_ready tube jobs else None
+-- the tube is not paused, and a waiting session watches it
+abbrev pub has_taker : List (List ℕ) → List (ℕ × SessionState) → List ℕ → Bool
+has_taker paused sessions tube =
+    not (is_among tube paused) && is_some (first_waiting (λ e. is_among tube e.1.watched) sessions)
+
+-- the next ready job of a tube, if the tube is not paused and a waiting session watches it
+abbrev pub offered : List (List ℕ) → List (ℕ × Job) → List (ℕ × SessionState) → List ℕ → Option (ℕ × Job)
+offered paused jobs sessions tube =
+    if has_taker paused sessions tube then first_ready tube jobs else None
 
 -- of the jobs that are offered in these tubes, that of the least (priority, id)
-abbrev pub best_offer : List (ℕ × Job) → List (ℕ × SessionState) → List (List ℕ) → Option (ℕ × Job)
-best_offer jobs sessions tubes = least (λ e. true) pri_of_job (filter_map (offered jobs sessions) tubes)
+abbrev pub best_offer : List (List ℕ) → List (ℕ × Job) → List (ℕ × SessionState) → List (List ℕ) → Option (ℕ × Job)
+best_offer paused jobs sessions tubes = least (λ e. true) pri_of_job (filter_map (offered paused jobs sessions) tubes)
 
 -- each job that is ready after, and was not so before, is in one of these tubes
 abbrev pub AreWoken : List (List ℕ) → List (ℕ × Job) → List (ℕ × Job) → Type 0
@@ -42,4 +47,5 @@ woken_by (Op.Reserve seconds) key s = watched_by s key.session
 woken_by (Op.Release id pri delay) key s = tube_of (value_at id s.jobs)
 woken_by (Op.Kick bound) key s = used_by s key.session ∷ []
 woken_by (Op.KickJob id) key s = tube_of (value_at id s.jobs)
+woken_by (Op.Pause tube seconds) key s = tube ∷ []
 woken_by _ key s = []

@@ -9,12 +9,12 @@ ghost use Rattle.session_store.specs.Sessions.{is_waiting};
 ghost use Rattle.bean_queue.specs.declared.op.Op.{Op};
 ghost use Rattle.bean_queue.specs.Places.{places, placed_from, queue_replay, HasDistinctKeys};
 ghost use Rattle.bean_queue.specs.Holds.{IsGivenOnce, IsHeldByOne};
-ghost use Rattle.job_store.specs.LookUps.{best_ready};
+ghost use Rattle.job_store.specs.LookUps.{best_ready, not_paused};
 ghost use Rattle.bean_queue.specs.Best.{IsBestTurn};
 ghost use Rattle.bean_queue.specs.declared.reply.Reply.{Reply};
 ghost use Rattle.bean_queue.specs.Effects.{tick_effect, effect};
 ghost use Rattle.bean_queue.specs.Owed.{OwesNothing};
-ghost use Rattle.bean_queue.specs.Queue.{QueueState, HasRisingIds, fresh, used_by};
+ghost use Rattle.bean_queue.specs.Queue.{QueueState, paused_tubes, HasRisingIds, fresh, used_by};
 ghost use Rattle.bean_queue.specs.Rows.{kick_row, kickable, all_tubes, IsTube};
 ghost use Rattle.bean_queue.specs.Sound.{IsSoundQueue};
 ghost use Rattle.bean_queue.specs.Turns.{Turn, serve_turn, serve};
@@ -40,12 +40,13 @@ pub fn one_answer()
 {}
 
 /// Serve gives the most urgent job that is wanted, to the session that has waited longest for its tube; and it goes on
-/// until there is no ready job in a tube that a waiting session watches.
+/// until there is no ready job in a tube that a waiting session watches and that is not paused.
 pub fn serve_gives_the_best()
     ensures turn { (s : QueueState) (t : Turn) → serve_turn s ≡ Some t → IsBestTurn s t }
     ensures end { (s : QueueState) (w : ℕ × SessionState) → In w (serve s).state.sessions
         → is_waiting w.1 ≡ true →
-        best_ready w.1.watched (serve s).state.jobs ≡ None }
+        best_ready (not_paused (paused_tubes (serve s).state) w.1.watched) (serve s).state.jobs
+        ≡ None }
 {
     // What is least is least, of jobs and of sessions.
     least_is_least::<Job>();

@@ -7,6 +7,7 @@ ghost use Rattle.bean_queue.specs.Effects.{called};
 mod held;
 mod kick;
 mod lists;
+mod pause;
 mod peek;
 mod perform;
 mod put;
@@ -19,6 +20,7 @@ mod woken;
 use crate::counters::Counters;
 use crate::job_draft::JobDraft;
 use job_store::JobMap;
+use pause_store::PauseDraft;
 use session_store::{SessionDraft, SessionState};
 use std::alloc::{AllocError, Global};
 use std::marker::Model;
@@ -29,20 +31,23 @@ use std::marker::Model;
 pub(crate) struct Logic<M: JobMap> {
     counters: Counters,
     kept: Counters,
+    pauses: PauseDraft,
     jobs: JobDraft<M>,
     sessions: SessionDraft,
 }
 
 impl<M: JobMap> Model for Logic<M> {
     ghost use Rattle.session_store.specs.Drafts.{Draft};
-    ghost use Rattle.bean_queue.specs.Queue.{QueueState, state_of};
+    ghost use Rattle.bean_queue.specs.Queue.{QueueState, AgreesOnTime, state_of};
 
     ghost Value = { Draft QueueState };
 
     ghost view = { λ l. record {
-      now = state_of l.counters l.jobs.now l.sessions.now;
-      before = state_of l.kept l.jobs.before l.sessions.before;
+      now = state_of l.counters l.jobs.now l.sessions.now l.pauses.now.pauses;
+      before = state_of l.kept l.jobs.before l.sessions.before l.pauses.before.pauses;
     } };
+
+    ghost invariant = { λ l. AgreesOnTime l.counters l.kept l.pauses };
 }
 
 impl<M: JobMap> Logic<M> {
@@ -59,6 +64,7 @@ impl<M: JobMap> Logic<M> {
         Logic {
             counters,
             kept: counters,
+            pauses: PauseDraft::new(alloc),
             jobs: JobDraft::new(alloc),
             sessions: SessionDraft::new(alloc),
         }
@@ -70,6 +76,7 @@ impl<M: JobMap> Logic<M> {
         ensures before { self.new.before ≡ self.old.now }
     {
         self.kept = self.counters;
+        self.pauses.keep();
         self.jobs.keep();
         self.sessions.keep();
     }
@@ -80,6 +87,7 @@ impl<M: JobMap> Logic<M> {
         ensures before { self.new.before ≡ self.old.before }
     {
         self.counters = self.kept;
+        self.pauses.take_back();
         self.jobs.take_back();
         self.sessions.take_back();
     }

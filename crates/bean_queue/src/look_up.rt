@@ -1,3 +1,7 @@
+ghost use Rattle.std.specs.Prelude.{◌≡◌};
+ghost use Rattle.std.specs.Map.{keys_of};
+ghost use Rattle.job_store.specs.LookUps.{is_among, not_paused};
+
 use indexmap::IndexSet;
 use job_store::{Job, Name};
 use std::collections::BTreeMap;
@@ -5,8 +9,11 @@ use std::collections::BTreeMap;
 /// What is looked for among the jobs.
 #[derive(Clone, Copy)]
 pub enum LookUp<'a> {
-    /// Ready, in one of these tubes.
-    ReadyIn(&'a IndexSet<Name>),
+    /// Ready, in one of these tubes that isn't paused.
+    ReadyIn {
+        tubes: &'a IndexSet<Name>,
+        paused: &'a BTreeMap<Name, u64>,
+    },
     /// Ready, in this tube.
     Ready(&'a Name),
     /// Delayed, in this tube.
@@ -21,8 +28,19 @@ pub enum LookUp<'a> {
     Held(u32),
 }
 
+/// Whether a tube is one of these, and isn't paused.
+fn is_open(tubes: &IndexSet<Name>, paused: &BTreeMap<Name, u64>, tube: &Name) -> bool
+    ensures { result
+        ≡ is_among tube.now (not_paused (keys_of paused.now.entries) tubes.now.keys) }
+{
+    if paused.contains_key(tube) {
+        return false;
+    }
+    tubes.contains(tube)
+}
+
 impl<'a> LookUp<'a> {
-    ghost use Rattle.std.specs.Prelude.{◌≡◌, option_map, Some, IfSome, IfNone};
+    ghost use Rattle.std.specs.Prelude.{option_map, Some, IfSome, IfNone};
     ghost use Rattle.job_store.specs.Least.{least, comes_before, first_of, IsLeast, NonePasses};
     ghost use Rattle.bean_queue.specs.Searches.{passes, number};
 
@@ -31,7 +49,9 @@ impl<'a> LookUp<'a> {
         ensures { result ≡ passes self.now (id, job.now) }
     {
         match self {
-            LookUp::ReadyIn(tubes) => job.state.is_ready() && tubes.contains(&job.tube),
+            LookUp::ReadyIn { tubes, paused } => {
+                job.state.is_ready() && is_open(tubes, paused, &job.tube)
+            }
             LookUp::Ready(tube) => job.state.is_ready() && job.tube == **tube,
             LookUp::Delayed(tube) => job.state.is_delayed() && **tube == job.tube,
             LookUp::Buried(tube) => job.state.is_buried() && **tube == job.tube,
@@ -48,7 +68,7 @@ impl<'a> LookUp<'a> {
         ensures { result ≡ number self.now job.now }
     {
         match self {
-            LookUp::ReadyIn(_) | LookUp::Ready(_) => u64::from(job.pri),
+            LookUp::ReadyIn { .. } | LookUp::Ready(_) => u64::from(job.pri),
             LookUp::Delayed(_) | LookUp::Due(_) | LookUp::DueAfter(_, _) | LookUp::Held(_) => {
                 job.state.due()
             }

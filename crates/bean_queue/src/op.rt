@@ -56,6 +56,11 @@ pub enum Op {
     ListTubeUsed,
     /// The watched tubes.
     ListTubesWatched,
+    /// No job of the tube is reserved for so many seconds; it is paused no longer where they are none.
+    Pause {
+        tube: Name,
+        seconds: u32,
+    },
 }
 
 impl Op {
@@ -71,7 +76,8 @@ impl Op {
             | Op::Reserve { .. }
             | Op::Release { .. }
             | Op::Kick(_)
-            | Op::KickJob(_) => false,
+            | Op::KickJob(_)
+            | Op::Pause { .. } => false,
             Op::Use(_)
             | Op::Watch(_)
             | Op::Ignore(_)
@@ -129,6 +135,10 @@ impl Value for Op {
             Op::ListTubes => Op::ListTubes,
             Op::ListTubeUsed => Op::ListTubeUsed,
             Op::ListTubesWatched => Op::ListTubesWatched,
+            Op::Pause { tube, seconds } => Op::Pause {
+                tube: tube.copy()?,
+                seconds: *seconds,
+            },
         })
     }
 }

@@ -33,6 +33,8 @@ pub enum Reply {
     Found { id: u64, body: Body },
     /// The names of tubes.
     Tubes(Names),
+    /// The tube is paused, or no longer.
+    Paused,
     /// The queue has no number left to give.
     InternalError,
 }
@@ -70,6 +72,7 @@ impl Value for Reply {
                 body: body.copy()?,
             },
             Reply::Tubes(names) => Reply::Tubes(names.copy()?),
+            Reply::Paused => Reply::Paused,
             Reply::InternalError => Reply::InternalError,
         })
     }

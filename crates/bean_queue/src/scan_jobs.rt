@@ -72,8 +72,12 @@ impl JobMap for ScanJobs {
         self.jobs.remove(id)
     }
 
-    fn best_ready(&self, tubes: &IndexSet<Name>) -> Option<(u64, &Job)> {
-        LookUp::ReadyIn(tubes).least(self.jobs.by_id())
+    fn best_ready(
+        &self,
+        tubes: &IndexSet<Name>,
+        paused: &BTreeMap<Name, u64>,
+    ) -> Option<(u64, &Job)> {
+        LookUp::ReadyIn { tubes, paused }.least(self.jobs.by_id())
     }
 
     fn first_ready(&self, tube: &Name) -> Option<(u64, &Job)> {

@@ -1,21 +1,32 @@
 ghost use Rattle.std.specs.Prelude.{◌≡◌, option_map};
-ghost use Rattle.bean_queue.specs.Woken.{best_offer};
+ghost use Rattle.std.specs.Map.{keys_of};
+ghost use Rattle.bean_queue.specs.Woken.{best_offer, has_taker};
 
 use job_store::{Job, JobMap, Name, more_urgent};
+use pause_store::PauseDraft;
 use session_store::SessionDraft;
 
-/// The most urgent of the ready jobs in these tubes, but for tubes that no waiting session watches.
+/// Whether a tube is not paused, and a waiting session watches it.
+fn has_taker(sessions: &SessionDraft, pauses: &PauseDraft, tube: &Name) -> bool
+    ensures { result
+        ≡ has_taker (keys_of pauses.now.now.pauses) sessions.now.now tube.now }
+{
+    !pauses.is_paused(tube) && sessions.first_watcher(tube).is_some()
+}
+
+/// The most urgent of the ready jobs in these tubes, but for tubes that are paused or that no waiting session watches.
 pub fn best_offer<'a, M: JobMap>(
     jobs: &'a M,
     sessions: &SessionDraft,
+    pauses: &PauseDraft,
     tubes: &[Name],
 ) -> Option<(u64, &'a Job)>
     ensures { option_map (λ e. (e.0, e.1.now)) result
-        ≡ best_offer (M.entries jobs.now) sessions.now.now tubes.now }
+        ≡ best_offer (keys_of pauses.now.now.pauses) (M.entries jobs.now) sessions.now.now tubes.now }
 {
     let mut best = None;
     for tube in tubes {
-        if sessions.first_watcher(tube).is_some() {
+        if has_taker(sessions, pauses, tube) {
             best = more_urgent(best, jobs.first_ready(tube));
         }
     }

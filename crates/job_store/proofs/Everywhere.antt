@@ -11,7 +11,7 @@ use Rattle.job_store.specs.States.{is_ready, is_delayed, is_buried, is_held, is_
 use Rattle.job_store.specs.LookUps.{pri_of_job, due_of_job, rank_of_job}
 use Rattle.job_store.specs.ShelfStates.{ShelfState, IsFound}
 use Rattle.job_store.specs.Racks.{shelf_at, name_cmp}
-use Rattle.job_store.specs.Shelves.{BelongsAt, shelf, places, HasPut, HasTaken}
+use Rattle.job_store.specs.Shelves.{BelongsAt, shelf, places, AreAhead, HasPut, HasTaken, HasGoneBack, HasCome}
 
 pub put-twice : (s t u : Shelves) (e : ℕ × Job) → HasPut s t e → HasPut t u e → HasPut s u e
 put-twice s t u e one two = record {
@@ -29,6 +29,16 @@ taken-twice s t u jobs one two = record {
   lists = two.lists ∙ one.lists;
 }
 
+pub back-twice : (s t u : Shelves) → HasGoneBack s t → HasGoneBack t u → HasGoneBack s u
+back-twice s t u one two = record {
+  places = λ l. two.places l ∙ one.places l;
+  ahead = λ l p h. two.ahead l p (one.ahead l p h);
+  lists = two.lists ∙ one.lists;
+}
+
+pub ahead-taken : (s t : Shelves) (jobs of : List (ℕ × Job)) → HasTaken s t jobs → AreAhead s of → AreAhead t of
+ahead-taken s t jobs of taken ahead e i l p b = taken.ahead l p (ahead e i l p b)
+
 its-tube : (b : Bool) (tube of : List ℕ) → (b && bytes_eq tube of) ≡ true → tube ≡ of
 its-tube b tube of t = (bytes_eq-Decides tube of).0 (and_parts b (bytes_eq tube of) t).1
 
@@ -40,6 +50,12 @@ its-holder x (State.Buried rank) t = cc
 
 pub found-put : (s t : Shelves) (e : ℕ × Job) → HasPut s t e → (l : Label) (p : ℕ × ℕ) → IsFound (shelf s l) p → IsFound (shelf t l) p
 found-put s t e put l p f = (put.keeps l p f.0, put.ahead l p f.1)
+
+pub come-found : (s : Shelves) (e : ℕ × Job) → ((l : Label) (p : ℕ × ℕ) → BelongsAt l p e → IsFound (shelf s l) p) → HasCome s e
+come-found s e found = record {
+  placed = λ l p b. (found l p b).0;
+  ahead = λ l p b. (found l p b).1;
+}
 
 -- what holds of the place of a job on each of its shelves, and stays so, holds of all
 pub everywhere : (Q : ShelfState → ℕ × ℕ → Type 0) (a b c d e : Shelves) (id : ℕ) (job : Job) (holder : ℕ) → holder ≡ holder_of job.state → ((p : ℕ × ℕ) → ((is_ready job.state && bytes_eq job.tube job.tube) ≡ true) × (p ≡ (pri_of_job job, id)) → Q (shelf_at name_cmp a.ready.shelves job.tube) p) → ((p : ℕ × ℕ) → ((is_delayed job.state && bytes_eq job.tube job.tube) ≡ true) × (p ≡ (due_of_job job, id)) → Q (shelf_at name_cmp b.delayed.shelves job.tube) p) → ((p : ℕ × ℕ) → ((is_buried job.state && bytes_eq job.tube job.tube) ≡ true) × (p ≡ (rank_of_job job, id)) → Q (shelf_at name_cmp c.buried.shelves job.tube) p) → ((p : ℕ × ℕ) → ((is_held holder job.state) ≡ true) × (p ≡ (due_of_job job, id)) → Q (shelf_at nat_cmp d.held.shelves holder) p) → ((p : ℕ × ℕ) → ((is_scheduled job.state) ≡ true) × (p ≡ (due_of_job job, id)) → Q e.scheduled p) → ((l : Label) (p : ℕ × ℕ) → Q (shelf a l) p → Q (shelf b l) p) → ((l : Label) (p : ℕ × ℕ) → Q (shelf b l) p → Q (shelf c l) p) → ((l : Label) (p : ℕ × ℕ) → Q (shelf c l) p → Q (shelf d l) p) → ((l : Label) (p : ℕ × ℕ) → Q (shelf d l) p → Q (shelf e l) p) → (l : Label) (p : ℕ × ℕ) → BelongsAt l p (id, job) → Q (shelf e l) p

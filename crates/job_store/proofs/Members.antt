@@ -62,6 +62,10 @@ module _ {X : Type 0} where
             inl (subst (λ y. In (d.0, y) (altered k f es)) (cond-false (k == d.0) (f d.1) d.1 (ne_eqb k d.0 apart)) (altered-has k f d es i))
       ]
 
+  pub altered-here : (k : ℕ) (f : X → X) (v : X) (es : List (ℕ × X)) → value_at k es ≡ Some v → In (k, f v) (altered k f es)
+  altered-here k f v es there =
+      subst (λ y. In (k, y) (altered k f es)) (cond-true (k == k) (f v) v (eq-eqb k k refl)) (altered-has k f (k, v) es (value-in k v es there))
+
   -- An entry is put
 
   pub inserted-new : (k : ℕ) (v : X) (e : ℕ × X) (es : List (ℕ × X)) → In e (insert_entry nat_cmp es k v) → In e es ⊎ (e ≡ (k, v))

@@ -1,6 +1,7 @@
 -- What stands on a shelf, in its order, and after a place is put or taken out.
 use Rattle.std.proofs.Common.{◌≡◌, ℕ, ◌<◌, Bool, true, false, cond, ◌⊎◌, inl, inr, List, [], ◌∷◌, Some, refl, sym, ap, ap₂, subst, eq-eqb, eqb-true, ◌&&◌, ◌==◌, ◌∙◌, arith, Less, Equal, Greater, nat_cmp, nat_lt, ◌||◌, Ordering}
 use Rattle.std.proofs.lemmas.Bool.{cases_order, both_ways, and_parts, and_from, or_left, or_right}
+use Rattle.std.proofs.Math.Bool.{and-true}
 use Rattle.std.specs.Ordering.{ordering_then, match_ordering, is_le, is_lt}
 use Rattle.std.specs.List.Sorted.{IsStrictlySortedBy}
 use Rattle.std.specs.List.{AllByRecursion, list_any}
@@ -318,3 +319,13 @@ pub none-after : (label : Label) (after : ℕ × ℕ) (jobs : List (ℕ × Job))
 none-after label after jobs all e i t =
     let both = and_parts (belongs label e) (is_after after (number label e.1, e.0)) t in
     all (number label e.1, e.0) e i (both.0, refl) both.1
+
+-- Whether a job belongs at a place of its own id
+
+pub at-test : (label : Label) (at id n : ℕ) (job : Job) → belongs label (id, job) ≡ true → n ≡ number label job → (n == at) ≡ belongs_at label (at, id) (id, job)
+at-test label at id n job fits is =
+    ap (λ m. m == at) is ∙
+    sym (ap (λ t. t && number label job == at && id == id) fits ∙ ap (λ t. number label job == at && t) (eq-eqb id id refl) ∙ and-true (number label job == at))
+
+pub not-at : (label : Label) (at id : ℕ) (job : Job) → belongs label (id, job) ≡ false → false ≡ belongs_at label (at, id) (id, job)
+not-at label at id job apart = sym (ap (λ t. t && number label job == at && id == id) apart)

@@ -1,19 +1,24 @@
 -- What is ready in one tube, and in some tubes.
-use Rattle.std.proofs.Common.{◌≡◌, ℕ, Bool, true, false, inl, inr, ◌&&◌, List, [], ◌∷◌, bytes_eq, refl, sym, ◌++◌, ◌⊎◌, ◌↔◌, Option, Some, None, option_map, map, IfSome, IfNone, IsNone, Bor, ap, subst, ◌∙◌}
-use Rattle.std.proofs.lemmas.Bool.{and_parts, and_from}
+use Rattle.std.proofs.Common.{◌≡◌, ℕ, Bool, true, false, inl, inr, ◌&&◌, ◌||◌, not, cond, List, [], ◌∷◌, bytes_eq, refl, sym, ◌++◌, ◌⊎◌, ◌↔◌, Option, Some, None, option_map, map, IfSome, IfNone, IsNone, is_some, Bor, ap, subst, ◌∙◌}
+use Rattle.std.proofs.lemmas.Bool.{and_parts, and_from, cond-true, cond-false}
 use Rattle.std.proofs.lemmas.List.{append_assoc, append-nil}
 use Rattle.std.proofs.lemmas.Slice.Eq.{bytes_eq-Decides}
+use Rattle.std.specs.BTreeMap.{is_at}
+use Rattle.std.specs.Map.{keys_of, lookup}
+use Rattle.std.proofs.lemmas.Map.Text.{is_eq-slice_cmp}
 use Rattle.object.specs.Lists.{In}
 use Rattle.job_store.specs.declared.job.Job.{Job}
 use Rattle.job_store.specs.declared.name.Name.{Name}
 use Rattle.job_store.specs.declared.label.Label.{Label}
 use Rattle.job_store.specs.declared.shelves.Shelves.{Shelves}
+use Rattle.job_store.specs.declared.spot.Spot.{Spot}
 use Rattle.job_store.specs.States.{is_ready}
-use Rattle.job_store.specs.LookUps.{is_among, ready_in, pri_of_job, AreReadyPlaces}
+use Rattle.job_store.specs.LookUps.{is_among, not_paused, ready_in, pri_of_job, AreReadyPlaces}
 use Rattle.job_store.specs.Least.{first_of, IsLeast, NonePasses, least}
+use Rattle.job_store.specs.Racks.{name_cmp}
 use Rattle.job_store.specs.Undone.{MapState}
 use Rattle.job_store.specs.ShelfStates.{place_of}
-use Rattle.job_store.specs.Shelves.{places, ShelvesMatch}
+use Rattle.job_store.specs.Shelves.{places, lists, IsListed, ShelvesMatch}
 use Rattle.job_store.proofs.Least.{IsAnswer, answer, answer-either, among-member}
 use Rattle.job_store.proofs.Shelving.{in-front, in-last, in-push}
 
@@ -80,6 +85,27 @@ best-step all old rest tube jobs best first new is so-far f n = record {
       (answer-either (ready_in so-far.done) (ready_in (tube ∷ [])) (ready_in (so-far.done ++ tube ∷ [])) pri_of_job (ready-cases so-far.done tube) (ready-more so-far.done tube) (ready-last so-far.done tube) jobs best first so-far.answer (answer-of tube jobs first f));
 }
 
+-- a tube that is paused is passed over
+pub best-past : (paused all old rest : List (List ℕ)) (tube : List ℕ) (jobs : List (ℕ × Job)) (best : Option (ℕ × Job)) → old ≡ tube ∷ rest → is_among tube paused ≡ true → IsBestSoFar all (not_paused paused old) jobs best → IsBestSoFar all (not_paused paused rest) jobs best
+best-past paused all old rest tube jobs best is among so-far =
+    subst (λ r. IsBestSoFar all r jobs best)
+    (ap (not_paused paused) is ∙ cond-false (not (is_among tube paused)) (tube ∷ not_paused paused rest) (not_paused paused rest) (ap not among))
+    so-far
+
+pub best-open : (paused all old rest : List (List ℕ)) (tube : List ℕ) (jobs : List (ℕ × Job)) (best first new : Option (ℕ × Job)) → old ≡ tube ∷ rest → is_among tube paused ≡ false → IsBestSoFar all (not_paused paused old) jobs best → first ≡ least (ready_in (tube ∷ [])) pri_of_job jobs → new ≡ first_of pri_of_job best first → IsBestSoFar all (not_paused paused rest) jobs new
+best-open paused all old rest tube jobs best first new is apart =
+    best-step all (not_paused paused old) (not_paused paused rest) tube jobs best first new
+    (ap (not_paused paused) is ∙ cond-true (not (is_among tube paused)) (tube ∷ not_paused paused rest) (not_paused paused rest) (ap not apart))
+
+-- a key of a map of names
+pub key-among : {X : Type 0} (tube : List ℕ) (es : List (List ℕ × X)) → is_some (lookup (is_at (name_cmp tube)) es) ≡ is_among tube (keys_of es)
+key-among tube [] = refl
+key-among tube (e ∷ es) =
+    elim (bytes_eq tube e.0) as (λ b. is_at (name_cmp tube) e.0 ≡ b → is_some (cond (is_at (name_cmp tube) e.0) (Some e.1) (lookup (is_at (name_cmp tube)) es)) ≡ (b || is_among tube (keys_of es))) [
+      | true ↦ λ t. ap is_some (cond-true (is_at (name_cmp tube) e.0) (Some e.1) (lookup (is_at (name_cmp tube)) es) t)
+      | false ↦ λ t. ap is_some (cond-false (is_at (name_cmp tube) e.0) (Some e.1) (lookup (is_at (name_cmp tube)) es) t) ∙ key-among tube es
+    ] (is_eq-slice_cmp tube e.0)
+
 pub best-answer : (all : List (List ℕ)) (jobs : List (ℕ × Job)) (o : Option (ℕ × Job)) → IsBestSoFar all [] jobs o → IsAnswer (ready_in all) pri_of_job jobs o
 best-answer all jobs o so-far =
     subst (λ tubes. IsAnswer (ready_in tubes) pri_of_job jobs o) (sym (append-nil so-far.done) ∙ so-far.parts) so-far.answer
@@ -104,8 +130,8 @@ module _ (s : Shelves) (state : MapState) (tube : Bor Name) (kept : ShelvesMatch
   ready-places keys same p = (
     λ i.
         let w = kept.known (Label.Ready tube) p (subst (In p) (sym (same-places keys) ∙ same) i) in
-        let unlisted : s.listed.items ≡ [] = subst (λ o. IfNone o (s.listed.items ≡ [])) none kept.none_listed in
-        let job : In w.0 state.jobs = elim w.2 as (λ v. In w.0 state.jobs) [ inl job ↦ job | inr l ↦ absurd (subst (In w.0) unlisted l) ] in
+        let unlisted : lists s ≡ ([], []) = subst (λ o. IfNone o (lists s ≡ ([], []))) none kept.none_listed in
+        let job : In w.0 state.jobs = elim w.2 as (λ v. In w.0 state.jobs) [ inl job ↦ job | inr l ↦ absurd (subst (λ (x : List (ℕ × Spot) × List (ℕ × Spot)). IsListed x.1 w.0) unlisted l) ] in
         (w.0, job, ap (λ (test : ℕ × Job → Bool). test w.0) (ready-test tube.now) ∙ w.1.0, w.1.1),
     λ w.
         subst (In p) (sym same ∙ same-places keys)

@@ -11,7 +11,7 @@ use Rattle.job_store.specs.declared.shelves.Shelves.{Shelves}
 use Rattle.job_store.specs.States.{is_ready, is_delayed, is_buried, is_held}
 use Rattle.job_store.specs.ShelfStates.{ShelfState, IsFrom, HasGained, HasLost, HasReached}
 use Rattle.job_store.specs.Racks.{shelf_at, name_cmp, AreOthersKept}
-use Rattle.job_store.specs.Shelves.{belongs, number, BelongsAt, shelf, HasPut, HasTaken, HasMovedOn, HasSettled}
+use Rattle.job_store.specs.Shelves.{belongs, number, lists, BelongsAt, shelf, HasPut, HasTaken, HasGoneBack, HasMovedOn, HasSettled}
 
 -- two labels of one shelf
 pub record IsLike (s t : Shelves) (l k : Label) : Type 0 where
@@ -113,7 +113,7 @@ module _ (s t : Shelves) (k : Label) (only : IsOnly s t k) where
   belongs-like : (l : Label) → belongs l ≡ belongs k → number l ≡ number k → (p : ℕ × ℕ) (e : ℕ × Job) → BelongsAt l p e → BelongsAt k p e
   belongs-like l test by p e b = (ap (λ (f : ℕ × Job → Bool). f e) (sym test) ∙ b.0, b.1 ∙ ap (λ (f : Job → ℕ). (f e.1, e.0)) by)
 
-  module _ (lists : t.listed.items ≡ s.listed.items) where
+  module _ (same : lists t ≡ lists s) where
     pub put-at : (e : ℕ × Job) (n : ℕ) → true ≡ belongs k e → n ≡ number k e.1 → HasGained (shelf s k) (shelf t k) (n, e.0) → HasPut s t e
     put-at e n fits is gained = record {
       keeps = each-shelf (λ l x y. (p : ℕ × ℕ) → In p x.places → In p y.places) (λ l test by. gained.keeps) (λ l x p i. i);
@@ -124,7 +124,7 @@ module _ (s t : Shelves) (k : Label) (only : IsOnly s t k) where
           ])
           (λ l x p i. inl i);
       ahead = each-shelf (λ l x y. (p : ℕ × ℕ) → IsFrom x.from p → IsFrom y.from p) (λ l test by. gained.ahead) (λ l x p h. h);
-      lists = lists;
+      lists = same;
     }
 
     pub take-at : (jobs : List (ℕ × Job)) (place : ℕ × ℕ) → ((e : ℕ × Job) → In e jobs → BelongsAt k place e → ⊥) → HasLost (shelf s k) (shelf t k) place → HasTaken s t jobs
@@ -134,17 +134,14 @@ module _ (s t : Shelves) (k : Label) (only : IsOnly s t k) where
           (λ l x p e i b j. j);
       only = each-shelf (λ l x y. (p : ℕ × ℕ) → In p y.places → In p x.places) (λ l test by p i. (lost.only p i).0) (λ l x p i. i);
       ahead = each-shelf (λ l x y. (p : ℕ × ℕ) → IsFrom x.from p → IsFrom y.from p) (λ l test by. lost.ahead) (λ l x p h. h);
-      lists = lists;
+      lists = same;
     }
 
-    pub reach-at : (place : ℕ × ℕ) → HasReached (shelf s k) (shelf t k) place → (jobs : List (ℕ × Job)) → HasTaken s t jobs
-    reach-at place reached jobs = record {
-      keeps = each-shelf (λ l x y. (p : ℕ × ℕ) (e : ℕ × Job) → In e jobs → BelongsAt l p e → In p x.places → In p y.places)
-          (λ l test by p e i b j. subst (In p) (sym reached.places) j)
-          (λ l x p e i b j. j);
-      only = each-shelf (λ l x y. (p : ℕ × ℕ) → In p y.places → In p x.places) (λ l test by p i. subst (In p) reached.places i) (λ l x p i. i);
+    pub reach-at : (place : ℕ × ℕ) → HasReached (shelf s k) (shelf t k) place → HasGoneBack s t
+    reach-at place reached = record {
+      places = each-shelf (λ l x y. y.places ≡ x.places) (λ l test by. reached.places) (λ l x. refl);
       ahead = each-shelf (λ l x y. (p : ℕ × ℕ) → IsFrom x.from p → IsFrom y.from p) (λ l test by. reached.ahead) (λ l x p h. h);
-      lists = lists;
+      lists = same;
     }
 
     pub settle-at : (jobs : List (ℕ × Job)) → HasMovedOn k jobs (shelf s k) (shelf t k) → HasSettled s t jobs
@@ -152,7 +149,7 @@ module _ (s t : Shelves) (k : Label) (only : IsOnly s t k) where
       shelves = each-shelf (λ l x y. HasMovedOn l jobs x y)
           (λ l test by. record { places = moved.places; passed = λ p e i b. moved.passed p e i (belongs-like l test by p e b) })
           (λ l x. record { places = refl; passed = λ p e i b f. f.1 });
-      lists = lists;
+      lists = same;
     }
 
 pub settle-ready : (s : Shelves) (r : Rack Name ℕ) (jobs : List (ℕ × Job)) {tube : Bor Name} → HasMovedOn (Label.Ready tube) jobs (shelf_at name_cmp s.ready.shelves tube.now) (shelf_at name_cmp r.shelves tube.now) → AreOthersKept name_cmp tube.now s.ready.shelves r.shelves → HasSettled s (record s { ready = r }) jobs

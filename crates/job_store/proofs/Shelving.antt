@@ -1,12 +1,16 @@
 -- Shelves after jobs were put, listed and taken out.
-use Rattle.std.proofs.Common.{◌≡◌, ℕ, false, ◌⊎◌, inl, inr, List, [], ◌∷◌, ◌++◌, Option, Some, None, IfNone, refl, sym, ap, subst, ◌∙◌}
+use Rattle.std.proofs.Common.{◌≡◌, ℕ, true, false, ◌⊎◌, inl, inr, List, [], ◌∷◌, ◌++◌, Option, Some, None, IfNone, refl, sym, ap, subst, ◌∙◌}
 use Rattle.std.specs.Prelude.{is_some}
 use Rattle.object.specs.Lists.{In}
 use Rattle.job_store.specs.declared.job.Job.{Job}
 use Rattle.job_store.specs.declared.label.Label.{Label}
 use Rattle.job_store.specs.declared.shelves.Shelves.{Shelves}
+use Rattle.job_store.specs.declared.spot.Spot.{Spot}
+use Rattle.job_store.specs.declared.state.State.{State}
+use Rattle.job_store.specs.States.{with_pri_and_state}
 use Rattle.job_store.specs.ShelfStates.{IsFrom, bare}
-use Rattle.job_store.specs.Shelves.{number, BelongsAt, shelf, places, HasPlaces, HavePlaces, IsAhead, AreAhead, AreAheadOrListed, HasPut, HasTaken, HasSettled, HasCome, IsListed, AreKnown, HasGrown}
+use Rattle.job_store.specs.Spots.{spot_of, at_spot}
+use Rattle.job_store.specs.Shelves.{belongs, number, BelongsAt, shelf, places, lists, HasPlaces, HavePlaces, IsAhead, AreAhead, AreAheadOrListed, BeginNoLater, HasPut, HasTaken, HasGoneBack, HasSettled, HasCome, IsListed, AreKnown, HasGrown, AreInDoubt}
 
 module _ {X : Type 0} where
   pub in-front : (x : X) (xs ys : List X) → In x xs → In x (xs ++ ys)
@@ -29,77 +33,263 @@ module _ {X : Type 0} where
   nothing None e p = p
   nothing (Some x) e p = cc
 
--- Places that are the same
+-- A job stands where its spot says
 
-pub list-grown : (s t : Shelves) (e : ℕ × Job) → ((label : Label) → shelf t label ≡ shelf s label) → t.listed.items ≡ s.listed.items ++ (e ∷ []) → HasGrown s t
-list-grown s t e same l = record {
-  keeps = λ label p i. subst (λ x. In p x.places) (sym (same label)) i;
-  lists = λ d i. subst (In d) (sym l) (in-front d s.listed.items (e ∷ []) i);
-  only = λ label p i. inl (subst (λ x. In p x.places) (same label) i);
-  ahead = λ label p h. subst (λ x. IsFrom x.from p) (sym (same label)) h;
+pub of-spot : (l : Label) (p : ℕ × ℕ) (id : ℕ) (job : Job) → BelongsAt l p (id, at_spot (spot_of job)) → BelongsAt l p (id, job)
+of-spot (Label.Ready tube) p id job b = b
+of-spot (Label.Delayed tube) p id job b = b
+of-spot (Label.Buried tube) p id job b = b
+of-spot (Label.Held x) p id job b = b
+of-spot Label.Scheduled p id job b = b
+
+pub to-spot : (l : Label) (p : ℕ × ℕ) (id : ℕ) (job : Job) → BelongsAt l p (id, job) → BelongsAt l p (id, at_spot (spot_of job))
+to-spot (Label.Ready tube) p id job b = b
+to-spot (Label.Delayed tube) p id job b = b
+to-spot (Label.Buried tube) p id job b = b
+to-spot (Label.Held x) p id job b = b
+to-spot Label.Scheduled p id job b = b
+
+-- of two jobs at one spot, each stands where the other does
+pub like-spot : (l : Label) (p : ℕ × ℕ) (e : ℕ × Job) (x : ℕ × Spot) → (e.0, spot_of e.1) ≡ x → BelongsAt l p e → BelongsAt l p (x.0, at_spot x.1)
+like-spot l p e x same b = subst (λ (y : ℕ × Spot). BelongsAt l p (y.0, at_spot y.1)) same (to-spot l p e.0 e.1 b)
+
+pub come-at : (s : Shelves) (id : ℕ) (job : Job) → HasCome s (id, at_spot (spot_of job)) → HasCome s (id, job)
+come-at s id job come = record {
+  placed = λ l p b. come.placed l p (to-spot l p id job b);
+  ahead = λ l p b. come.ahead l p (to-spot l p id job b);
 }
 
-pub list-last : (s t : Shelves) (d e : ℕ × Job) → t.listed.items ≡ s.listed.items ++ (d ∷ []) → d ≡ e → IsListed t e
-list-last s t d e l same = subst (In e) (sym (l ∙ ap (λ x. s.listed.items ++ (x ∷ [])) same)) (in-last e s.listed.items)
+-- The same shelves
 
--- A listed job is put
+pub same-grown : (s t : Shelves) → ((l : Label) → shelf t l ≡ shelf s l) → ((e : ℕ × Job) → IsListed s.came.items e → IsListed t.came.items e) → HasGrown s t
+same-grown s t same came = record {
+  keeps = λ l p i. subst (λ x. In p x.places) (sym (same l)) i;
+  came = came;
+  only = λ l p i. inl (subst (λ x. In p x.places) (same l) i);
+  ahead = λ l p h. subst (λ x. IsFrom x.from p) (sym (same l)) h;
+}
 
-pub put-grown : (s t u : Shelves) (e : ℕ × Job) → HasGrown s t → IsListed t e → HasPut t u e → HasGrown s u
-put-grown s t u e grown there put = record {
-  keeps = λ l p i. put.keeps l p (grown.keeps l p i);
-  lists = λ d i. subst (In d) (sym put.lists) (grown.lists d i);
+pub same-doubt : (s t : Shelves) → ((l : Label) → shelf t l ≡ shelf s l) → ((e : ℕ × Job) → IsListed s.went.items e → IsListed t.went.items e) → AreInDoubt s t
+same-doubt s t same went = record {
+  went = went;
+  only = λ l p i. inl (subst (λ x. In p x.places) (same l) i);
+}
+
+pub more-listed : (old new : List (ℕ × Spot)) (x : ℕ × Spot) → new ≡ old ++ (x ∷ []) → (e : ℕ × Job) → IsListed old e → IsListed new e
+more-listed old new x is e i = subst (In (e.0, spot_of e.1)) (sym is) (in-front (e.0, spot_of e.1) old (x ∷ []) i)
+
+pub last-listed : (old new : List (ℕ × Spot)) (e : ℕ × Job) → new ≡ old ++ ((e.0, spot_of e.1) ∷ []) → IsListed new e
+last-listed old new e is = subst (In (e.0, spot_of e.1)) (sym is) (in-last (e.0, spot_of e.1) old)
+
+-- A job is put that is listed
+
+pub put-grown : (s t u : Shelves) (e : ℕ × Job) → HasGrown s t → IsListed t.came.items e → HasPut t u e → HasGrown s u
+put-grown s t u e grown there put =
+    let same : u.came.items ≡ t.came.items = ap (λ (x : List (ℕ × Spot) × List (ℕ × Spot)). x.0) put.lists in
+    record {
+      keeps = λ l p i. put.keeps l p (grown.keeps l p i);
+      came = λ d i. subst (λ x. IsListed x d) (sym same) (grown.came d i);
+      only = λ l p i.
+          elim (put.only l p i) as (λ v. In p (places s l) ⊎ ((d : ℕ × Job) × BelongsAt l p d × IsListed u.came.items d)) [
+            | inl old ↦ elim (grown.only l p old) as (λ v. In p (places s l) ⊎ ((d : ℕ × Job) × BelongsAt l p d × IsListed u.came.items d)) [
+              | inl older ↦ inl older
+              | inr w ↦ inr (w.0, w.1, subst (λ x. IsListed x w.0) (sym same) w.2)
+            ]
+            | inr b ↦ inr (e, b, subst (λ x. IsListed x e) (sym same) there)
+          ];
+      ahead = λ l p h. put.ahead l p (grown.ahead l p h);
+    }
+
+pub put-doubt : (s t u : Shelves) (e : ℕ × Job) → AreInDoubt s t → IsListed t.went.items e → HasPut t u e → AreInDoubt s u
+put-doubt s t u e doubt there put =
+    let same : u.went.items ≡ t.went.items = ap (λ (x : List (ℕ × Spot) × List (ℕ × Spot)). x.1) put.lists in
+    record {
+      went = λ d i. subst (λ x. IsListed x d) (sym same) (doubt.went d i);
+      only = λ l p i.
+          elim (put.only l p i) as (λ v. In p (places s l) ⊎ ((d : ℕ × Job) × BelongsAt l p d × IsListed u.went.items d)) [
+            | inl old ↦ elim (doubt.only l p old) as (λ v. In p (places s l) ⊎ ((d : ℕ × Job) × BelongsAt l p d × IsListed u.went.items d)) [
+              | inl older ↦ inl older
+              | inr w ↦ inr (w.0, w.1, subst (λ x. IsListed x w.0) (sym same) w.2)
+            ]
+            | inr b ↦ inr (e, b, subst (λ x. IsListed x e) (sym same) there)
+          ];
+    }
+
+-- A job is listed, and then put
+
+pub listed-put-grown : (s t u : Shelves) (id : ℕ) (spot copy : Spot) → ((l : Label) → shelf t l ≡ shelf s l) → t.came.items ≡ s.came.items ++ (id, copy) ∷ [] → copy ≡ spot → HasPut t u (id, at_spot spot) → HasGrown s u
+listed-put-grown s t u id spot copy same came is put =
+    put-grown s t u (id, at_spot spot) (same-grown s t same (more-listed s.came.items t.came.items (id, copy) came))
+    (last-listed s.came.items t.came.items (id, at_spot spot) (came ∙ ap (λ x. s.came.items ++ (id, x) ∷ []) is)) put
+
+pub listed-put-doubt : (s t u : Shelves) (id : ℕ) (spot copy : Spot) → ((l : Label) → shelf t l ≡ shelf s l) → t.went.items ≡ s.went.items ++ (id, copy) ∷ [] → copy ≡ spot → HasPut t u (id, at_spot spot) → AreInDoubt s u
+listed-put-doubt s t u id spot copy same went is put =
+    put-doubt s t u (id, at_spot spot) (same-doubt s t same (more-listed s.went.items t.went.items (id, copy) went))
+    (last-listed s.went.items t.went.items (id, at_spot spot) (went ∙ ap (λ x. s.went.items ++ (id, x) ∷ []) is)) put
+
+pub only-put : (s t u : Shelves) (e : ℕ × Job) → ((l : Label) → shelf t l ≡ shelf s l) → HasPut t u e → (l : Label) (p : ℕ × ℕ) → In p (places u l) → In p (places s l) ⊎ BelongsAt l p e
+only-put s t u e same put l p i =
+    elim (put.only l p i) as (λ v. In p (places s l) ⊎ BelongsAt l p e) [
+      | inl old ↦ inl (subst (λ x. In p x.places) (same l) old)
+      | inr b ↦ inr b
+    ]
+
+-- A changed job is put
+
+changed-spot : (pri : ℕ) (state : State) (tube : List ℕ) (job : Job) → tube ≡ job.tube → record { tube = tube; pri = pri; state = state } ≡ spot_of (with_pri_and_state pri state job)
+changed-spot pri state tube job same = ap (λ (t : List ℕ). record { tube = t; pri = pri; state = state }) same
+
+pub changed-only : (s t u : Shelves) (id pri : ℕ) (state : State) (tube : List ℕ) (job : Job) → tube ≡ job.tube → ((l : Label) → shelf t l ≡ shelf s l) → ((l : Label) (p : ℕ × ℕ) → In p (places u l) → In p (places t l) ⊎ BelongsAt l p (id, at_spot (record { tube = tube; pri = pri; state = state }))) → (l : Label) (p : ℕ × ℕ) → In p (places u l) → In p (places s l) ⊎ BelongsAt l p (id, with_pri_and_state pri state job)
+changed-only s t u id pri state tube job is same only l p i =
+    elim (only l p i) as (λ v. In p (places s l) ⊎ BelongsAt l p (id, with_pri_and_state pri state job)) [
+      | inl old ↦ inl (subst (λ x. In p x.places) (same l) old)
+      | inr b ↦ inr (of-spot l p id (with_pri_and_state pri state job) (subst (λ x. BelongsAt l p (id, at_spot x)) (changed-spot pri state tube job is) b))
+    ]
+
+pub changed-come : (u : Shelves) (id pri : ℕ) (state : State) (tube : List ℕ) (job : Job) → tube ≡ job.tube → HasCome u (id, at_spot (record { tube = tube; pri = pri; state = state })) → HasCome u (id, with_pri_and_state pri state job)
+changed-come u id pri state tube job is come =
+    come-at u id (with_pri_and_state pri state job) (subst (λ x. HasCome u (id, at_spot x)) (changed-spot pri state tube job is) come)
+
+pub changed-went : (s t u : Shelves) (id pri : ℕ) (state : State) (tube : List ℕ) (job : Job) → tube ≡ job.tube → t.went.items ≡ s.went.items ++ (id, spot_of job) ∷ [] → u.went.items ≡ t.went.items ++ (id, record { tube = tube; pri = pri; state = state }) ∷ [] → u.went.items ≡ (s.went.items ++ (id, spot_of job) ∷ []) ++ (id, spot_of (with_pri_and_state pri state job)) ∷ []
+changed-went s t u id pri state tube job is one two =
+    two ∙ ap (λ (xs : List (ℕ × Spot)). xs ++ (id, record { tube = tube; pri = pri; state = state }) ∷ []) one ∙ ap (λ (x : Spot). (s.went.items ++ (id, spot_of job) ∷ []) ++ (id, x) ∷ []) (changed-spot pri state tube job is)
+
+-- Growth on growth
+
+pub grown-twice : (s t u : Shelves) → HasGrown s t → HasGrown t u → HasGrown s u
+grown-twice s t u one two = record {
+  keeps = λ l p i. two.keeps l p (one.keeps l p i);
+  came = λ e i. two.came e (one.came e i);
   only = λ l p i.
-      elim (put.only l p i) as (λ v. In p (places s l) ⊎ ((d : ℕ × Job) × BelongsAt l p d × IsListed u d)) [
-        | inl old ↦ elim (grown.only l p old) as (λ v. In p (places s l) ⊎ ((d : ℕ × Job) × BelongsAt l p d × IsListed u d)) [
+      elim (two.only l p i) as (λ v. In p (places s l) ⊎ ((d : ℕ × Job) × BelongsAt l p d × IsListed u.came.items d)) [
+        | inl old ↦ elim (one.only l p old) as (λ v. In p (places s l) ⊎ ((d : ℕ × Job) × BelongsAt l p d × IsListed u.came.items d)) [
           | inl older ↦ inl older
-          | inr w ↦ inr (w.0, w.1, subst (In w.0) (sym put.lists) w.2)
+          | inr w ↦ inr (w.0, w.1, two.came w.0 w.2)
         ]
-        | inr b ↦ inr (e, b, subst (In e) (sym put.lists) there)
+        | inr w ↦ inr w
       ];
-  ahead = λ l p h. put.ahead l p (grown.ahead l p h);
+  ahead = λ l p h. two.ahead l p (one.ahead l p h);
 }
 
-pub come-grown : (s t : Shelves) (e : ℕ × Job) → HasGrown s t → HasCome s e → HasCome t e
-come-grown s t e grown come = record {
-  placed = λ l p b. grown.keeps l p (come.placed l p b);
-  ahead = λ l p b. grown.ahead l p (come.ahead l p b);
-  listed = grown.lists e come.listed;
+pub doubt-twice : (s t u : Shelves) → AreInDoubt s t → AreInDoubt t u → AreInDoubt s u
+doubt-twice s t u one two = record {
+  went = λ e i. two.went e (one.went e i);
+  only = λ l p i.
+      elim (two.only l p i) as (λ v. In p (places s l) ⊎ ((d : ℕ × Job) × BelongsAt l p d × IsListed u.went.items d)) [
+        | inl old ↦ elim (one.only l p old) as (λ v. In p (places s l) ⊎ ((d : ℕ × Job) × BelongsAt l p d × IsListed u.went.items d)) [
+          | inl older ↦ inl older
+          | inr w ↦ inr (w.0, w.1, two.went w.0 w.2)
+        ]
+        | inr w ↦ inr w
+      ];
 }
+
+-- Where no job of the map stands
+
+pub untaken : (label : Label) (id n : ℕ) (spot : Spot) (jobs : List (ℕ × Job)) → belongs label (id, at_spot spot) ≡ true → n ≡ number label (at_spot spot) → ((p : ℕ × ℕ) → BelongsAt label p (id, at_spot spot) → (e : ℕ × Job) → In e jobs → BelongsAt label p e → ⊥) → (e : ℕ × Job) → In e jobs → BelongsAt label (n, id) e → ⊥
+untaken label id n spot jobs fits is none = none (n, id) (fits, ap (λ m. (m, id)) is)
 
 -- A listed job is taken out
 
-pub known-same : (s t : Shelves) (jobs : List (ℕ × Job)) → ((label : Label) → shelf t label ≡ shelf s label) → s.listed.items ≡ t.listed.items → AreKnown s jobs → AreKnown t jobs
-known-same s t jobs same listed known label p i =
-    let w = known label p (subst (λ x. In p x.places) (same label) i) in
-    (w.0, w.1, elim w.2 as (λ v. In w.0 jobs ⊎ IsListed t w.0) [ inl job ↦ inl job | inr l ↦ inr (subst (In w.0) listed l) ])
+pub record IsSwept (s : Shelves) (jobs : List (ℕ × Job)) : Type 0 where
+  pub placed : HavePlaces s jobs
+  pub known : AreKnown s jobs s.went.items
+  pub ahead : AreAhead s jobs
+  pub none : s.came.items ≡ []
 
-pub sweep-step : (s t u : Shelves) (jobs : List (ℕ × Job)) (x : ℕ × Job) → ((label : Label) → shelf t label ≡ shelf s label) → s.listed.items ≡ t.listed.items ++ (x ∷ []) → HasTaken t u jobs → ((l : Label) (p : ℕ × ℕ) → In p (places u l) → BelongsAt l p x → (e : ℕ × Job) × BelongsAt l p e × In e jobs) → (In x jobs → IsAhead u x) → HavePlaces s jobs × AreKnown s jobs × AreAheadOrListed s jobs → HavePlaces u jobs × AreKnown u jobs × AreAheadOrListed u jobs
-sweep-step s t u jobs x same popped taken gone reached h = (
-  λ e i label p b. taken.keeps label p e i b (subst (λ y. In p y.places) (sym (same label)) (h.0 e i label p b)),
-  λ label p i.
-      let w = h.1 label p (subst (λ y. In p y.places) (same label) (taken.only label p i)) in
-      elim w.2 as (λ v. (e : ℕ × Job) × BelongsAt label p e × (In e jobs ⊎ IsListed u e)) [
-        | inl job ↦ (w.0, w.1, inl job)
-        | inr l ↦ elim (in-push w.0 x t.listed.items (subst (In w.0) popped l)) as (λ v. (e : ℕ × Job) × BelongsAt label p e × (In e jobs ⊎ IsListed u e)) [
-          | inl before ↦ (w.0, w.1, inr (subst (In w.0) (sym taken.lists) before))
-          | inr last ↦ let y = gone label p i (subst (BelongsAt label p) last w.1) in (y.0, y.1, inl y.2)
-        ]
-      ],
-  λ e i.
-      elim (h.2 e i) as (λ v. IsAhead u e ⊎ IsListed u e) [
-        | inl ahead ↦ inl (λ label p b. taken.ahead label p (subst (λ y. IsFrom y.from p) (sym (same label)) (ahead label p b)))
-        | inr l ↦ elim (in-push e x t.listed.items (subst (In e) popped l)) as (λ v. IsAhead u e ⊎ IsListed u e) [
-          | inl before ↦ inr (subst (In e) (sym taken.lists) before)
-          | inr last ↦ inl (subst (IsAhead u) (sym last) (reached (subst (λ d. In d jobs) last i)))
-        ]
-      ],
-)
+pub sweep-begins : (s t : Shelves) (jobs : List (ℕ × Job)) → ((l : Label) → shelf t l ≡ shelf s l) → t.came.items ≡ [] → t.went.items ≡ s.went.items → HavePlaces s jobs → AreKnown s jobs s.went.items → AreAhead s jobs → IsSwept t jobs
+sweep-begins s t jobs same none went placed known ahead = record {
+  placed = λ e i l p b. subst (λ y. In p y.places) (sym (same l)) (placed e i l p b);
+  known = λ l p i.
+      let w = known l p (subst (λ x. In p x.places) (same l) i) in
+      (w.0, w.1, elim w.2 as (λ v. In w.0 jobs ⊎ IsListed t.went.items w.0) [ inl job ↦ inl job | inr listed ↦ inr (subst (λ x. IsListed x w.0) (sym went) listed) ]);
+  ahead = λ e i l p b. subst (λ y. IsFrom y.from p) (sym (same l)) (ahead e i l p b);
+  none = none;
+}
 
-pub ahead-swept : (s t : Shelves) (jobs : List (ℕ × Job)) → ((label : Label) → shelf t label ≡ shelf s label) → s.listed.items ≡ [] → AreAheadOrListed s jobs → AreAhead t jobs
-ahead-swept s t jobs same none h e i =
-    elim (h e i) as (λ v. IsAhead t e) [
-      | inl ahead ↦ λ label p b. subst (λ y. IsFrom y.from p) (sym (same label)) (ahead label p b)
-      | inr l ↦ absurd (subst (In e) none l)
+pub sweep-step : (s t u : Shelves) (jobs : List (ℕ × Job)) (x : ℕ × Spot) → ((l : Label) → shelf t l ≡ shelf s l) → t.came.items ≡ s.came.items → s.went.items ≡ t.went.items ++ (x ∷ []) → HasTaken t u jobs → ((l : Label) (p : ℕ × ℕ) → In p (places u l) → BelongsAt l p (x.0, at_spot x.1) → (e : ℕ × Job) × BelongsAt l p e × In e jobs) → IsSwept s jobs → IsSwept u jobs
+sweep-step s t u jobs x same came popped taken gone swept =
+    let came-same : u.came.items ≡ t.came.items = ap (λ (y : List (ℕ × Spot) × List (ℕ × Spot)). y.0) taken.lists in
+    let went-same : u.went.items ≡ t.went.items = ap (λ (y : List (ℕ × Spot) × List (ℕ × Spot)). y.1) taken.lists in
+    record {
+      placed = λ e i l p b. taken.keeps l p e i b (subst (λ y. In p y.places) (sym (same l)) (swept.placed e i l p b));
+      known = λ l p i.
+          let w = swept.known l p (subst (λ y. In p y.places) (same l) (taken.only l p i)) in
+          elim w.2 as (λ v. (e : ℕ × Job) × BelongsAt l p e × (In e jobs ⊎ IsListed u.went.items e)) [
+            | inl job ↦ (w.0, w.1, inl job)
+            | inr listed ↦ elim (in-push (w.0.0, spot_of w.0.1) x t.went.items (subst (In (w.0.0, spot_of w.0.1)) popped listed)) as (λ v. (e : ℕ × Job) × BelongsAt l p e × (In e jobs ⊎ IsListed u.went.items e)) [
+              | inl before ↦ (w.0, w.1, inr (subst (λ y. IsListed y w.0) (sym went-same) before))
+              | inr last ↦ let y = gone l p i (like-spot l p w.0 x last w.1) in (y.0, y.1, inl y.2)
+            ]
+          ];
+      ahead = λ e i l p b. taken.ahead l p (subst (λ y. IsFrom y.from p) (sym (same l)) (swept.ahead e i l p b));
+      none = came-same ∙ came ∙ swept.none;
+    }
+
+pub ahead-same : (s t : Shelves) (jobs : List (ℕ × Job)) → ((l : Label) → shelf t l ≡ shelf s l) → AreAhead s jobs → AreAhead t jobs
+ahead-same s t jobs same ahead e i l p b = subst (λ y. IsFrom y.from p) (sym (same l)) (ahead e i l p b)
+
+pub known-none : (s t : Shelves) (jobs : List (ℕ × Job)) → ((l : Label) → shelf t l ≡ shelf s l) → s.went.items ≡ [] → AreKnown s jobs s.went.items → AreKnown t jobs []
+known-none s t jobs same none known l p i =
+    let w = known l p (subst (λ x. In p x.places) (same l) i) in
+    (w.0, w.1, elim w.2 as (λ v. In w.0 jobs ⊎ IsListed [] w.0) [ inl job ↦ inl job | inr listed ↦ absurd (subst (λ x. IsListed x w.0) none listed) ])
+
+pub placed-same : (s t : Shelves) (jobs : List (ℕ × Job)) → ((l : Label) → shelf t l ≡ shelf s l) → HavePlaces s jobs → HavePlaces t jobs
+placed-same s t jobs same placed e i l p b = subst (λ y. In p y.places) (sym (same l)) (placed e i l p b)
+
+pub known-moved : (s t : Shelves) (jobs : List (ℕ × Job)) (listed : List (ℕ × Spot)) → ((l : Label) → shelf t l ≡ shelf s l) → AreKnown s jobs listed → AreKnown t jobs listed
+known-moved s t jobs listed same known l p i = known l p (subst (λ x. In p x.places) (same l) i)
+
+-- Look-ups find those again that went
+
+pub record AreReached (first s : Shelves) : Type 0 where
+  pub places : (l : Label) → places s l ≡ places first l
+  pub ahead : BeginNoLater first s
+  pub came : s.came.items ≡ first.came.items
+  pub reached : (e : ℕ × Job) → IsListed first.went.items e → IsListed s.went.items e ⊎ IsAhead s e
+
+pub none-reached : (s : Shelves) → AreReached s s
+none-reached s = record { places = λ l. refl; ahead = λ l p h. h; came = refl; reached = λ e i. inl i }
+
+pub reach-step : (first s t u : Shelves) (x : ℕ × Spot) → ((l : Label) → shelf t l ≡ shelf s l) → t.came.items ≡ s.came.items → s.went.items ≡ t.went.items ++ (x ∷ []) → HasGoneBack t u → IsAhead u (x.0, at_spot x.1) → AreReached first s → AreReached first u
+reach-step first s t u x same came popped back ahead reached =
+    let came-same : u.came.items ≡ t.came.items = ap (λ (y : List (ℕ × Spot) × List (ℕ × Spot)). y.0) back.lists in
+    let went-same : u.went.items ≡ t.went.items = ap (λ (y : List (ℕ × Spot) × List (ℕ × Spot)). y.1) back.lists in
+    record {
+      places = λ l. back.places l ∙ ap (λ x. x.places) (same l) ∙ reached.places l;
+      ahead = λ l p h. back.ahead l p (subst (λ y. IsFrom y.from p) (sym (same l)) (reached.ahead l p h));
+      came = came-same ∙ came ∙ reached.came;
+      reached = λ e i.
+          elim (reached.reached e i) as (λ v. IsListed u.went.items e ⊎ IsAhead u e) [
+            | inl listed ↦ elim (in-push (e.0, spot_of e.1) x t.went.items (subst (In (e.0, spot_of e.1)) popped listed)) as (λ v. IsListed u.went.items e ⊎ IsAhead u e) [
+              | inl before ↦ inl (subst (λ y. IsListed y e) (sym went-same) before)
+              | inr last ↦ inr (λ l p b. ahead l p (like-spot l p e x last b))
+            ]
+            | inr old ↦ inr (λ l p b. back.ahead l p (subst (λ y. IsFrom y.from p) (sym (same l)) (old l p b)))
+          ];
+    }
+
+pub all-reached : (first s t : Shelves) → ((l : Label) → shelf t l ≡ shelf s l) → s.went.items ≡ [] → AreReached first s → (e : ℕ × Job) → IsListed first.went.items e → IsAhead t e
+all-reached first s t same none reached e i =
+    elim (reached.reached e i) as (λ v. IsAhead t e) [
+      | inl listed ↦ absurd (subst (λ x. IsListed x e) none listed)
+      | inr ahead ↦ λ l p b. subst (λ y. IsFrom y.from p) (sym (same l)) (ahead l p b)
+    ]
+
+-- what holds of the shelves before it holds after it
+pub back-placed : (s t : Shelves) (jobs : List (ℕ × Job)) → ((l : Label) → places t l ≡ places s l) → HavePlaces s jobs → HavePlaces t jobs
+back-placed s t jobs same placed e i l p b = subst (In p) (sym (same l)) (placed e i l p b)
+
+pub back-known : (s t : Shelves) (jobs : List (ℕ × Job)) (old new : List (ℕ × Spot)) → ((l : Label) → places t l ≡ places s l) → new ≡ old → AreKnown s jobs old → AreKnown t jobs new
+back-known s t jobs old new same is known l p i =
+    let w = known l p (subst (In p) (same l) i) in
+    (w.0, w.1, elim w.2 as (λ v. In w.0 jobs ⊎ IsListed new w.0) [ inl job ↦ inl job | inr listed ↦ inr (subst (λ x. IsListed x w.0) (sym is) listed) ])
+
+pub back-ahead : (s t : Shelves) (jobs : List (ℕ × Job)) → BeginNoLater s t → ((e : ℕ × Job) → IsListed s.went.items e → IsAhead t e) → AreAheadOrListed s jobs → AreAhead t jobs
+back-ahead s t jobs later reached ahead e i =
+    elim (ahead e i) as (λ v. IsAhead t e) [
+      | inl old ↦ λ l p b. later l p (old l p b)
+      | inr listed ↦ reached e listed
     ]
 
 -- Look-ups begin later
@@ -116,10 +306,8 @@ settled-twice s t u jobs one two = record {
 pub placed-settled : (s t : Shelves) (jobs of : List (ℕ × Job)) → HasSettled s t jobs → HavePlaces s of → HavePlaces t of
 placed-settled s t jobs of settled placed e i l p b = subst (In p) (sym (settled.shelves l).places) (placed e i l p b)
 
-pub known-settled : (s t : Shelves) (jobs : List (ℕ × Job)) → HasSettled s t jobs → AreKnown s jobs → AreKnown t jobs
-known-settled s t jobs settled known l p i =
-    let w = known l p (subst (In p) (settled.shelves l).places i) in
-    (w.0, w.1, elim w.2 as (λ v. In w.0 jobs ⊎ IsListed t w.0) [ inl job ↦ inl job | inr there ↦ inr (subst (In w.0) (sym settled.lists) there) ])
+pub known-settled : (s t : Shelves) (jobs of : List (ℕ × Job)) (listed : List (ℕ × Spot)) → HasSettled s t jobs → AreKnown s of listed → AreKnown t of listed
+known-settled s t jobs of listed settled known l p i = known l p (subst (In p) (settled.shelves l).places i)
 
 pub ahead-settled : (s t : Shelves) (jobs : List (ℕ × Job)) → HasSettled s t jobs → HavePlaces s jobs → AreAhead s jobs → AreAhead t jobs
 ahead-settled s t jobs settled placed ahead e i l p b = (settled.shelves l).passed p e i b (placed e i l p b, ahead e i l p b)
@@ -129,31 +317,15 @@ ahead-settled s t jobs settled placed ahead e i l p b = (settled.shelves l).pass
 pub only-place : (label : Label) (id n : ℕ) (job : Job) (p : ℕ × ℕ) → n ≡ number label job → BelongsAt label p (id, job) → p ≡ (n, id)
 only-place label id n job p e b = b.1 ∙ ap (λ m. (m, id)) (sym e)
 
--- Growth on growth
-pub grown-twice : (s t u : Shelves) → HasGrown s t → HasGrown t u → HasGrown s u
-grown-twice s t u one two = record {
-  keeps = λ l p i. two.keeps l p (one.keeps l p i);
-  lists = λ e i. two.lists e (one.lists e i);
-  only = λ l p i.
-      elim (two.only l p i) as (λ v. In p (places s l) ⊎ ((d : ℕ × Job) × BelongsAt l p d × IsListed u d)) [
-        | inl old ↦ elim (one.only l p old) as (λ v. In p (places s l) ⊎ ((d : ℕ × Job) × BelongsAt l p d × IsListed u d)) [
-          | inl older ↦ inl older
-          | inr w ↦ inr (w.0, w.1, two.lists w.0 w.2)
-        ]
-        | inr w ↦ inr w
-      ];
-  ahead = λ l p h. two.ahead l p (one.ahead l p h);
-}
-
 -- The jobs of a map are put one after another
 
 pub record ArePut (s : Shelves) (rest jobs : List (ℕ × Job)) : Type 0 where
-  pub found : (e : ℕ × Job) → In e jobs → In e rest ⊎ (HasPlaces s e × IsAhead s e)
-  pub known : AreKnown s jobs
+  pub found : (e : ℕ × Job) → In e jobs → In e rest ⊎ HasCome s e
+  pub known : AreKnown s jobs []
   pub within : (e : ℕ × Job) → In e rest → In e jobs
-  pub listed : s.listed.items ≡ []
+  pub listed : lists s ≡ ([], [])
 
-pub none-put : (s : Shelves) (jobs : List (ℕ × Job)) → ((l : Label) → shelf s l ≡ bare) → s.listed.items ≡ [] → ArePut s jobs jobs
+pub none-put : (s : Shelves) (jobs : List (ℕ × Job)) → ((l : Label) → shelf s l ≡ bare) → lists s ≡ ([], []) → ArePut s jobs jobs
 none-put s jobs none listed = record {
   found = λ e i. inl i;
   known = λ l p i. absurd (subst (λ x. In p x.places) (none l) i);
@@ -163,27 +335,27 @@ none-put s jobs none listed = record {
 
 pub all-put : (s : Shelves) (jobs : List (ℕ × Job)) → ArePut s [] jobs → HavePlaces s jobs × AreAhead s jobs
 all-put s jobs put = (
-  λ e i. elim (put.found e i) as (λ v. HasPlaces s e) [ inl rest ↦ absurd rest | inr there ↦ there.0 ],
-  λ e i. elim (put.found e i) as (λ v. IsAhead s e) [ inl rest ↦ absurd rest | inr there ↦ there.1 ],
+  λ e i. elim (put.found e i) as (λ v. HasPlaces s e) [ inl rest ↦ absurd rest | inr there ↦ there.placed ],
+  λ e i. elim (put.found e i) as (λ v. IsAhead s e) [ inl rest ↦ absurd rest | inr there ↦ there.ahead ],
 )
 
-pub one-put : (s t : Shelves) (e : ℕ × Job) (all rest jobs : List (ℕ × Job)) → all ≡ e ∷ rest → HasPlaces t e → IsAhead t e → HasPut s t e → ArePut s all jobs → ArePut t rest jobs
-one-put s t e all rest jobs is placed ahead one put = record {
-  found = λ d i.
-      elim (put.found d i) as (λ v. In d rest ⊎ (HasPlaces t d × IsAhead t d)) [
-        | inl j ↦ elim (subst (In d) is j) as (λ v. In d rest ⊎ (HasPlaces t d × IsAhead t d)) [
-          | inl here ↦ inr (subst (HasPlaces t) (sym here) placed, subst (IsAhead t) (sym here) ahead)
-          | inr later ↦ inl later
-        ]
-        | inr there ↦ inr (λ l p b. one.keeps l p (there.0 l p b), λ l p b. one.ahead l p (there.1 l p b))
-      ];
-  known = λ l p i.
-      elim (one.only l p i) as (λ v. (d : ℕ × Job) × BelongsAt l p d × (In d jobs ⊎ IsListed t d)) [
-        | inl old ↦
-            let w = put.known l p old in
-            (w.0, w.1, elim w.2 as (λ v. In w.0 jobs ⊎ IsListed t w.0) [ inl job ↦ inl job | inr l ↦ inr (subst (In w.0) (sym one.lists) l) ])
-        | inr b ↦ (e, b, inl (put.within e (subst (In e) (sym is) (inl refl))))
-      ];
-  within = λ d i. put.within d (subst (In d) (sym is) (inr i));
-  listed = one.lists ∙ put.listed;
-}
+pub one-put : (s t : Shelves) (e : ℕ × Job) (spot : Spot) (all rest jobs : List (ℕ × Job)) → all ≡ e ∷ rest → spot ≡ spot_of e.1 → HasCome t (e.0, at_spot spot) → HasPut s t (e.0, at_spot spot) → ArePut s all jobs → ArePut t rest jobs
+one-put s t e spot all rest jobs is at come one put =
+    let here : HasCome t e = come-at t e.0 e.1 (subst (λ x. HasCome t (e.0, at_spot x)) at come) in
+    record {
+      found = λ d i.
+          elim (put.found d i) as (λ v. In d rest ⊎ HasCome t d) [
+            | inl j ↦ elim (subst (In d) is j) as (λ v. In d rest ⊎ HasCome t d) [
+              | inl same ↦ inr (subst (HasCome t) (sym same) here)
+              | inr later ↦ inl later
+            ]
+            | inr there ↦ inr (record { placed = λ l p b. one.keeps l p (there.placed l p b); ahead = λ l p b. one.ahead l p (there.ahead l p b) })
+          ];
+      known = λ l p i.
+          elim (one.only l p i) as (λ v. (d : ℕ × Job) × BelongsAt l p d × (In d jobs ⊎ IsListed [] d)) [
+            | inl old ↦ put.known l p old
+            | inr b ↦ (e, of-spot l p e.0 e.1 (subst (λ x. BelongsAt l p (e.0, at_spot x)) at b), inl (put.within e (subst (In e) (sym is) (inl refl))))
+          ];
+      within = λ d i. put.within d (subst (In d) (sym is) (inr i));
+      listed = one.lists ∙ put.listed;
+    }

@@ -5,6 +5,7 @@ pub mod Changes
 pub mod Undone
 pub mod Least
 pub mod LookUps
+pub mod Spots
 pub mod Shelves
 pub mod Racks
 pub mod ShelfStates

@@ -1,6 +1,6 @@
 -- What is looked up among the jobs, each with its id.
-use Rattle.std.specs.Prelude.{◌≡◌, ◌↔◌, ℕ, Bool, true, ◌&&◌, ◌||◌, ◌==◌, nat_lt, List, [], ◌∷◌, Option, bytes_eq}
-use Rattle.std.specs.List.{list_any}
+use Rattle.std.specs.Prelude.{◌≡◌, ◌↔◌, ℕ, Bool, true, not, ◌&&◌, ◌||◌, ◌==◌, nat_lt, List, [], ◌∷◌, Option, bytes_eq}
+use Rattle.std.specs.List.{filter, list_any}
 use Rattle.object.specs.Lists.{In}
 use Rattle.job_store.specs.declared.job.Job.{Job}
 use Rattle.job_store.specs.States.{is_ready, is_delayed, is_buried, is_held, is_due, due_of, rank_of}
@@ -47,6 +47,10 @@ is_after place p = nat_lt place.0 p.0 || (place.0 == p.0 && nat_lt place.1 p.1)
 -- the job is due by this second, and comes after a place by (due, id)
 abbrev pub due_after : ℕ → ℕ × ℕ → ℕ × Job → Bool
 due_after second place e = due_by second e && is_after place (due_of_job e.1, e.0)
+
+-- the tubes but those that are paused
+abbrev pub not_paused : List (List ℕ) → List (List ℕ) → List (List ℕ)
+not_paused paused tubes = filter (λ t. not (is_among t paused)) tubes
 
 -- the job that a reserve takes from these tubes: of the ready ones that of the least (priority, id) (protocol.txt of
 -- beanstalkd, "put": the most urgent priority is 0)

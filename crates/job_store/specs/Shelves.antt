@@ -5,12 +5,14 @@ use Rattle.object.specs.Lists.{In}
 use Rattle.job_store.specs.declared.job.Job.{Job}
 use Rattle.job_store.specs.declared.label.Label.{Label}
 use Rattle.job_store.specs.declared.shelves.Shelves.{Shelves}
+use Rattle.job_store.specs.declared.spot.Spot.{Spot}
 use Rattle.job_store.specs.Entries.{Rising}
 use Rattle.job_store.specs.Undone.{MapState}
 use Rattle.job_store.specs.States.{is_ready, is_scheduled}
 use Rattle.job_store.specs.LookUps.{delayed_in, buried_in, held_by, is_after, pri_of_job, due_of_job, rank_of_job}
 use Rattle.job_store.specs.ShelfStates.{ShelfState, IsFrom, IsFound}
 use Rattle.job_store.specs.Racks.{shelf_at, name_cmp}
+use Rattle.job_store.specs.Spots.{spot_of}
 
 -- whether a job belongs on the shelf
 abbrev pub belongs : Label → ℕ × Job → Bool
@@ -81,17 +83,21 @@ IsAhead s e = (label : Label) (p : ℕ × ℕ) → BelongsAt label p e → IsFro
 abbrev pub AreAhead : Shelves → List (ℕ × Job) → Type 0
 AreAhead s jobs = (e : ℕ × Job) → In e jobs → IsAhead s e
 
--- the job is listed, as one whose places may have to go
-abbrev pub IsListed : Shelves → ℕ × Job → Type 0
-IsListed s e = In e s.listed.items
+-- what is listed: the jobs that came, and those that went
+abbrev pub lists : Shelves → List (ℕ × Spot) × List (ℕ × Spot)
+lists s = (s.came.items, s.went.items)
 
--- each of the jobs is ahead so, or listed
+-- the job is listed, without its body
+abbrev pub IsListed : List (ℕ × Spot) → ℕ × Job → Type 0
+IsListed listed e = In (e.0, spot_of e.1) listed
+
+-- each of the jobs is ahead so, or listed as one that went
 abbrev pub AreAheadOrListed : Shelves → List (ℕ × Job) → Type 0
-AreAheadOrListed s jobs = (e : ℕ × Job) → In e jobs → IsAhead s e ⊎ IsListed s e
+AreAheadOrListed s jobs = (e : ℕ × Job) → In e jobs → IsAhead s e ⊎ IsListed s.went.items e
 
 -- at each place belongs one of the jobs, or one that is listed
-abbrev pub AreKnown : Shelves → List (ℕ × Job) → Type 0
-AreKnown s jobs = (label : Label) (p : ℕ × ℕ) → In p (places s label) → (e : ℕ × Job) × BelongsAt label p e × (In e jobs ⊎ IsListed s e)
+abbrev pub AreKnown : Shelves → List (ℕ × Job) → List (ℕ × Spot) → Type 0
+AreKnown s jobs listed = (label : Label) (p : ℕ × ℕ) → In p (places s label) → (e : ℕ × Job) × BelongsAt label p e × (In e jobs ⊎ IsListed listed e)
 
 -- look-ups of each shelf begin nowhere later
 abbrev pub BeginNoLater : Shelves → Shelves → Type 0
@@ -102,46 +108,60 @@ pub record HasPut (old new : Shelves) (e : ℕ × Job) : Type 0 where
   pub keeps : (label : Label) (p : ℕ × ℕ) → In p (places old label) → In p (places new label)
   pub only : (label : Label) (p : ℕ × ℕ) → In p (places new label) → In p (places old label) ⊎ BelongsAt label p e
   pub ahead : BeginNoLater old new
-  pub lists : new.listed.items ≡ old.listed.items
+  pub lists : lists new ≡ lists old
 
 -- places less, where none of the jobs belongs
 pub record HasTaken (old new : Shelves) (jobs : List (ℕ × Job)) : Type 0 where
   pub keeps : (label : Label) (p : ℕ × ℕ) (e : ℕ × Job) → In e jobs → BelongsAt label p e → In p (places old label) → In p (places new label)
   pub only : (label : Label) (p : ℕ × ℕ) → In p (places new label) → In p (places old label)
   pub ahead : BeginNoLater old new
-  pub lists : new.listed.items ≡ old.listed.items
+  pub lists : lists new ≡ lists old
 
 -- the same places, and look-ups begin after none of the jobs that they found
 pub record HasSettled (old new : Shelves) (jobs : List (ℕ × Job)) : Type 0 where
   pub shelves : (label : Label) → HasMovedOn label jobs (shelf old label) (shelf new label)
-  pub lists : new.listed.items ≡ old.listed.items
+  pub lists : lists new ≡ lists old
 
--- there are places and listed jobs more, and those jobs are listed that belong at the places
+-- the same places, and look-ups begin nowhere later
+pub record HasGoneBack (old new : Shelves) : Type 0 where
+  pub places : (label : Label) → places new label ≡ places old label
+  pub ahead : BeginNoLater old new
+  pub lists : lists new ≡ lists old
+
+-- places more, of jobs that are listed as ones that came
 pub record HasGrown (old new : Shelves) : Type 0 where
   pub keeps : (label : Label) (p : ℕ × ℕ) → In p (places old label) → In p (places new label)
-  pub lists : (e : ℕ × Job) → IsListed old e → IsListed new e
-  pub only : (label : Label) (p : ℕ × ℕ) → In p (places new label) → In p (places old label) ⊎ ((e : ℕ × Job) × BelongsAt label p e × IsListed new e)
+  pub came : (e : ℕ × Job) → IsListed old.came.items e → IsListed new.came.items e
+  pub only : (label : Label) (p : ℕ × ℕ) → In p (places new label) → In p (places old label) ⊎ ((e : ℕ × Job) × BelongsAt label p e × IsListed new.came.items e)
   pub ahead : BeginNoLater old new
 
--- the job stands where it belongs, look-ups find it there, and it is listed
+-- of the places more it isn't known whether they stay: their jobs are listed as ones that went
+pub record AreInDoubt (old new : Shelves) : Type 0 where
+  pub went : (e : ℕ × Job) → IsListed old.went.items e → IsListed new.went.items e
+  pub only : (label : Label) (p : ℕ × ℕ) → In p (places new label) → In p (places old label) ⊎ ((e : ℕ × Job) × BelongsAt label p e × IsListed new.went.items e)
+
+-- the job stands where it belongs, and look-ups find it there
 pub record HasCome (s : Shelves) (e : ℕ × Job) : Type 0 where
   pub placed : HasPlaces s e
   pub ahead : IsAhead s e
-  pub listed : IsListed s e
 
--- after a change of the jobs those that went are listed, and those that came are found and listed
-pub record HasFollowed (s : Shelves) (old new : List (ℕ × Job)) : Type 0 where
-  pub went : (e : ℕ × Job) → In e old → In e new ⊎ IsListed s e
-  pub came : (e : ℕ × Job) → In e new → In e old ⊎ HasCome s e
+-- After a change of the jobs those that went are listed so, and those that came are found. The places more are of jobs
+-- that are there, or listed as ones that went.
+pub record HasFollowed (old new : Shelves) (jobs after : List (ℕ × Job)) : Type 0 where
+  pub listed : (e : ℕ × Job) → IsListed old.went.items e → IsListed new.went.items e
+  pub went : (e : ℕ × Job) → In e jobs → In e after ⊎ IsListed new.went.items e
+  pub came : (e : ℕ × Job) → In e after → In e jobs ⊎ HasCome new e
+  pub only : (label : Label) (p : ℕ × ℕ) → In p (places new label) → In p (places old label) ⊎ ((e : ℕ × Job) × BelongsAt label p e × (In e after ⊎ IsListed new.went.items e))
 
 -- The jobs have their places, and look-ups find them there. The jobs before the trial have theirs too. At each place
--- belongs one of the jobs or a listed one. What came or went in the trial is listed, and outside a trial nothing is.
+-- belongs one of the jobs or one that went, and one of those before the trial or one that came. What went in the trial
+-- is listed so, and outside a trial nothing is.
 pub record ShelvesMatch (s : Shelves) (state : MapState) : Type 0 where
   pub rising : Rising 0 (2 ^ 64) state.jobs
   pub placed : HavePlaces s state.jobs
   pub ahead : AreAhead s state.jobs
-  pub known : AreKnown s state.jobs
+  pub known : AreKnown s state.jobs s.went.items
   pub placed_before : IfSome state.before (HavePlaces s)
-  pub came : IfSome state.before (λ before. (e : ℕ × Job) → In e state.jobs → In e before ⊎ IsListed s e)
-  pub went : IfSome state.before (λ before. (e : ℕ × Job) → In e before → In e state.jobs ⊎ IsListed s e)
-  pub none_listed : IfNone state.before (s.listed.items ≡ [])
+  pub known_before : IfSome state.before (λ before. AreKnown s before s.came.items)
+  pub went : IfSome state.before (λ before. (e : ℕ × Job) → In e before → In e state.jobs ⊎ IsListed s.went.items e)
+  pub none_listed : IfNone state.before (lists s ≡ ([], []))

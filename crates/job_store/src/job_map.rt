@@ -1,9 +1,10 @@
 ghost use Rattle.std.specs.Prelude.{◌≡◌, ◌^◌, ℕ, List, [], ◌∷◌, Option, None, Some, IsSome, IfOk, OnOk, OnErr, IfSome, IfNone, option_map, option_copied};
+ghost use Rattle.std.specs.Map.{keys_of};
 ghost use Rattle.job_store.specs.declared.job.Job.{Job};
 ghost use Rattle.job_store.specs.Entries.{Rising, value_at, with_value, altered, without};
 ghost use Rattle.job_store.specs.States.{with_state, with_pri_and_state};
 ghost use Rattle.job_store.specs.Least.{IsLeast, NonePasses};
-ghost use Rattle.job_store.specs.LookUps.{ready_in, delayed_in, buried_in, due_by, due_after, held_by, pri_of_job, due_of_job, rank_of_job, best_ready, first_ready, first_delayed, first_buried, first_due, first_due_after, first_held};
+ghost use Rattle.job_store.specs.LookUps.{ready_in, delayed_in, buried_in, due_by, due_after, held_by, pri_of_job, due_of_job, rank_of_job, not_paused, best_ready, first_ready, first_delayed, first_buried, first_due, first_due_after, first_held};
 
 use crate::job::Job;
 use crate::name::Name;
@@ -85,13 +86,22 @@ pub trait JobMap: Drop + Sized {
         ensures jobs { entries self.new ≡ without id (entries self.old) }
         ensures before { before self.new ≡ None };
 
-    /// The best job for one who watches these tubes, and its id: of the ready ones that of the least (priority, id).
-    fn best_ready(&self, tubes: &IndexSet<Name>) -> Option<(u64, &Job)>
+    /// The best job for one who watches these tubes, and its id: of the ready ones in those of the tubes that are not
+    /// paused, that of the least (priority, id). It takes no memory.
+    fn best_ready(
+        &self,
+        tubes: &IndexSet<Name>,
+        paused: &BTreeMap<Name, u64>,
+    ) -> Option<(u64, &Job)>
         ensures job { option_map (λ e. (e.0, e.1.now)) result
-            ≡ best_ready tubes.now.keys (entries self.now) }
-        ensures found { IfSome result
-            (λ e. IsLeast (ready_in tubes.now.keys) pri_of_job (entries self.now) (e.0, e.1.now)) }
-        ensures none { IfNone result (NonePasses (ready_in tubes.now.keys) (entries self.now)) };
+            ≡ best_ready (not_paused (keys_of paused.now.entries) tubes.now.keys)
+            (entries self.now) }
+        ensures found { IfSome result (λ e.
+            IsLeast (ready_in (not_paused (keys_of paused.now.entries) tubes.now.keys)) pri_of_job
+            (entries self.now) (e.0, e.1.now)) }
+        ensures none { IfNone result
+            (NonePasses (ready_in (not_paused (keys_of paused.now.entries) tubes.now.keys))
+            (entries self.now)) };
 
     /// The tube's ready job of the least (priority, id).
     fn first_ready(&self, tube: &Name) -> Option<(u64, &Job)>

@@ -7,9 +7,10 @@ use crate::job::Job;
 use crate::job_map::JobMap;
 use crate::label::Label;
 use crate::logged_jobs::LoggedJobs;
-use crate::moves::{follow, move_to, move_to_state, store, sweep};
+use crate::moves::{follow, go_back, move_to, move_to_state, store, sweep};
 use crate::name::Name;
 use crate::shelves::Shelves;
+use crate::spot::Spot;
 use crate::state::State;
 use indexmap::IndexSet;
 use std::alloc::{AllocError, Global};
@@ -101,7 +102,7 @@ impl JobMap for Jobs {
 
     fn roll_back(&mut self) {
         self.jobs.roll_back();
-        sweep(&mut self.shelves, &self.jobs);
+        go_back(&mut self.shelves, &self.jobs);
     }
 
     fn by_id(&self) -> &BTreeMap<u64, Job> {
@@ -134,16 +135,37 @@ impl JobMap for Jobs {
     fn remove(&mut self, id: u64) -> Option<Job> {
         self.commit();
         let job = self.jobs.remove(id)?;
-        self.shelves.take_everywhere(self.jobs.by_id(), id, &job);
-        Some(job)
+        let Job {
+            tube,
+            pri,
+            ttr,
+            body,
+            state,
+        } = job;
+        let spot = Spot { tube, pri, state };
+        self.shelves.take_everywhere(self.jobs.by_id(), id, &spot);
+        let tube = spot.tube;
+        Some(Job {
+            tube,
+            pri,
+            ttr,
+            body,
+            state,
+        })
     }
 
-    fn best_ready(&self, tubes: &IndexSet<Name>) -> Option<(u64, &Job)> {
+    fn best_ready(
+        &self,
+        tubes: &IndexSet<Name>,
+        paused: &BTreeMap<Name, u64>,
+    ) -> Option<(u64, &Job)> {
         // Gives the proof that the ids rise.
         let _ = &self.jobs;
         let mut best = None;
         for tube in tubes.iter() {
-            best = more_urgent(best, self.first_ready(tube));
+            if !paused.contains_key(tube) {
+                best = more_urgent(best, self.first_ready(tube));
+            }
         }
         best
     }

@@ -1,4 +1,4 @@
-ghost use Rattle.std.specs.Prelude.{◌≡◌, ◌^◌, ℕ, IfSome, IfNone};
+ghost use Rattle.std.specs.Prelude.{◌≡◌, ◌^◌, ℕ, List, IfSome, IfNone};
 ghost use Rattle.object.specs.Lists.{In};
 ghost use Rattle.job_store.specs.declared.job.Job.{Job};
 ghost use Rattle.job_store.specs.Entries.{Rising};
@@ -6,6 +6,7 @@ ghost use Rattle.job_store.specs.Shelves.{belongs, number, belongs_at, BelongsAt
 
 use crate::job::Job;
 use crate::name::Name;
+use crate::state::State;
 use std::collections::BTreeMap;
 
 /// Which jobs stand on a shelf.
@@ -24,27 +25,29 @@ pub enum Label<'a> {
 }
 
 impl<'a> Label<'a> {
-    /// Whether the job, under whatever id, stands on the shelf.
-    pub fn fits(&self, job: &Job) -> bool
-        ensures { (id : ℕ) → result ≡ belongs self.now (id, job.now) }
+    /// Whether a job of this tube and in this state stands on the shelf.
+    pub fn fits(&self, tube: &Name, state: State) -> bool
+        ensures { (id pri ttr : ℕ) (body : List ℕ) → result ≡ belongs self.now
+            (id, record { tube = tube.now; pri = pri; ttr = ttr; body = body; state = state }) }
     {
         match self {
-            Label::Ready(tube) => job.state.is_ready() && **tube == job.tube,
-            Label::Delayed(tube) => job.state.is_delayed() && **tube == job.tube,
-            Label::Buried(tube) => job.state.is_buried() && **tube == job.tube,
-            Label::Held(session) => job.state.is_held_by(*session),
-            Label::Scheduled => job.state.is_scheduled(),
+            Label::Ready(own) => state.is_ready() && *own == tube,
+            Label::Delayed(own) => state.is_delayed() && *own == tube,
+            Label::Buried(own) => state.is_buried() && *own == tube,
+            Label::Held(session) => state.is_held_by(*session),
+            Label::Scheduled => state.is_scheduled(),
         }
     }
 
-    /// The number by which the shelf is ordered.
-    pub fn number(&self, job: &Job) -> u64
-        ensures { result ≡ number self.now job.now }
+    /// The number by which the shelf is ordered, of a job of this priority and in this state.
+    pub fn number(&self, pri: u32, state: State) -> u64
+        ensures { (ttr : ℕ) (tube body : List ℕ) → result ≡ number self.now
+            (record { tube = tube; pri = pri; ttr = ttr; body = body; state = state }) }
     {
         match self {
-            Label::Ready(_) => u64::from(job.pri),
-            Label::Buried(_) => job.state.rank(),
-            Label::Delayed(_) | Label::Held(_) | Label::Scheduled => job.state.due(),
+            Label::Ready(_) => u64::from(pri),
+            Label::Buried(_) => state.rank(),
+            Label::Delayed(_) | Label::Held(_) | Label::Scheduled => state.due(),
         }
     }
 
@@ -52,7 +55,7 @@ impl<'a> Label<'a> {
     pub fn fits_at(&self, job: &Job, number: u64) -> bool
         ensures { (id : ℕ) → result ≡ belongs_at self.now (number, id) (id, job.now) }
     {
-        self.fits(job) && self.number(job) == number
+        self.fits(&job.tube, job.state) && self.number(job.pri, job.state) == number
     }
 
     /// The job that belongs at this place of the shelf, as the map has it.

@@ -18,6 +18,7 @@ mod shared_bytes;
 mod shelf;
 mod shelf_number;
 mod shelves;
+mod spot;
 mod state;
 mod undo;
 

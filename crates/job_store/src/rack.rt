@@ -1,7 +1,7 @@
 ghost use Rattle.std.specs.Prelude.{◌≡◌, ◌^◌, [], true, map, IfOk, OnOk, IfSome, IfNone, option_map};
 ghost use Rattle.job_store.specs.Entries.{Rising};
 ghost use Rattle.job_store.specs.Least.{IsLeast, NonePasses, least};
-ghost use Rattle.job_store.specs.ShelfStates.{bare, place_of, IsFound, HasGained, HasLost, HasReached};
+ghost use Rattle.job_store.specs.ShelfStates.{bare, place_of, IsFound, HasGained, HasLost, HasReached, IsFrom};
 ghost use Rattle.job_store.specs.Shelves.{belongs, number, AreAllFound, HasMovedOn};
 ghost use Rattle.job_store.specs.Racks.{shelf_at, AreOthersKept};
 
@@ -91,6 +91,17 @@ impl<K: ShelfName, N: ShelfNumber> Rack<K, N> {
         shelf.take(number, id);
         if shelf.is_empty() {
             self.shelves.remove(key);
+        }
+    }
+
+    /// Whether look-ups of a shelf begin after a place.
+    pub fn is_behind(&self, key: &K, number: N, id: u64) -> bool
+        ensures { result ≡ true
+            → IsFrom (shelf_at K.cmp self.now.shelves key.now).from (N.value number, id) → ⊥ }
+    {
+        match self.shelves.get(key) {
+            Some(shelf) => shelf.is_behind(number, id),
+            None => false,
         }
     }
 

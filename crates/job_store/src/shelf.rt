@@ -2,7 +2,7 @@ ghost use Rattle.std.specs.Prelude.{◌≡◌, ◌^◌, ℕ, true, map, OnOk, If
 ghost use Rattle.object.specs.Lists.{In};
 ghost use Rattle.job_store.specs.Entries.{Rising};
 ghost use Rattle.job_store.specs.Least.{IsLeast, NonePasses, least};
-ghost use Rattle.job_store.specs.ShelfStates.{bare, place_of, IsFound, HasGained, HasLost, HasReached};
+ghost use Rattle.job_store.specs.ShelfStates.{bare, place_of, IsFound, HasGained, HasLost, HasReached, IsFrom};
 ghost use Rattle.job_store.specs.Shelves.{belongs, belongs_after, number, AreAllFound, IsPassed, HasMovedOn};
 
 use crate::job::Job;
@@ -59,6 +59,13 @@ impl<N: ShelfNumber> Shelf<N> {
         ensures { HasLost self.old self.new (N.value number, id) }
     {
         self.places.remove(&(number, id));
+    }
+
+    /// Whether look-ups begin after a place.
+    pub fn is_behind(&self, number: N, id: u64) -> bool
+        ensures { result ≡ true → IsFrom self.now.from (N.value number, id) → ⊥ }
+    {
+        (number, id) < self.from
     }
 
     /// Lets look-ups begin at a place, if they begin after it.

@@ -1,26 +1,31 @@
-ghost use Rattle.std.specs.Prelude.{◌≡◌, ◌^◌, [], ℕ, List, OnOk, IfOk, Some, true, false};
+ghost use Rattle.std.specs.Prelude.{◌≡◌, ◌^◌, ◌++◌, ◌∷◌, [], ℕ, List, OnOk, OnErr, IfOk, ◌⊎◌, Some, true, false};
 ghost use Rattle.object.specs.Lists.{In};
 ghost use Rattle.job_store.specs.declared.job.Job.{Job};
 ghost use Rattle.job_store.specs.declared.label.Label.{Label};
+ghost use Rattle.job_store.specs.declared.spot.Spot.{Spot};
 ghost use Rattle.job_store.specs.Entries.{Rising, value_at};
 ghost use Rattle.job_store.specs.States.{with_pri_and_state};
 ghost use Rattle.job_store.specs.ShelfStates.{bare, IsFrom, IsFound};
-ghost use Rattle.job_store.specs.Shelves.{shelf, places, BelongsAt, HasPlaces, HavePlaces, IsAhead, AreAhead, AreAheadOrListed, BeginNoLater, HasPut, HasTaken, HasSettled, HasCome, IsListed, AreKnown, HasGrown};
+ghost use Rattle.job_store.specs.Spots.{spot_of, at_spot};
+ghost use Rattle.job_store.specs.Shelves.{shelf, places, lists, BelongsAt, HasPlaces, HavePlaces, IsAhead, AreAhead, AreAheadOrListed, BeginNoLater, HasPut, HasTaken, HasGoneBack, HasSettled, HasCome, IsListed, AreKnown, HasGrown, AreInDoubt};
 
 use crate::job::Job;
 use crate::label::Label;
 use crate::name::Name;
 use crate::rack::Rack;
 use crate::shelf::Shelf;
+use crate::spot::Spot;
 use crate::state::State;
 use object::Value;
 use std::alloc::{AllocError, Global};
 use std::collections::BTreeMap;
+use std::mem::swap;
 
 /// The shelves that jobs stand on, in the orders in which they are looked for.
 ///
-/// A change of a job only adds places, and lists the job after and before. Then look-ups begin after the places that it
-/// has left, as far as they are the first ones. `sweep` takes out the places where a listed job stands no more.
+/// A change of a job only adds places, and lists the job as it comes and as it went. Then look-ups begin after the
+/// places that it has left, as far as they are the first ones. `sweep` takes out the places of those that went, and
+/// `go_back` of those that came.
 #[derive(Drop)]
 pub struct Shelves {
     pub ready: Rack<Name, u32>,
@@ -28,14 +33,17 @@ pub struct Shelves {
     pub buried: Rack<Name, u64>,
     pub held: Rack<u32, u64>,
     pub scheduled: Shelf<u64>,
-    pub listed: Vec<(u64, Job)>,
+    /// Where the changes of a trial are taken back, the places of these jobs go.
+    pub came: Vec<(u64, Spot)>,
+    /// Where the changes of a trial stay, the places of these jobs go.
+    pub went: Vec<(u64, Spot)>,
 }
 
 impl Shelves {
     /// Shelves where nothing stands.
     pub fn new(alloc: Global) -> Shelves
         ensures shelves { (label : Label) → shelf result label ≡ bare }
-        ensures listed { result.listed.items ≡ [] }
+        ensures listed { lists result ≡ ([], []) }
     {
         Shelves {
             ready: Rack::new(alloc),
@@ -43,7 +51,8 @@ impl Shelves {
             buried: Rack::new(alloc),
             held: Rack::new(alloc),
             scheduled: Shelf::new(alloc),
-            listed: Vec::new(alloc),
+            came: Vec::new(alloc),
+            went: Vec::new(alloc),
         }
     }
 
@@ -51,28 +60,29 @@ impl Shelves {
     pub fn of(alloc: Global, jobs: &BTreeMap<u64, Job>) -> Result<Shelves, AllocError>
         ensures placed { IfOk result (λ s. HavePlaces s jobs.now.entries) }
         ensures ahead { IfOk result (λ s. AreAhead s jobs.now.entries) }
-        ensures known { IfOk result (λ s. AreKnown s jobs.now.entries) }
-        ensures listed { IfOk result (λ s. s.listed.items ≡ []) }
+        ensures known { IfOk result (λ s. AreKnown s jobs.now.entries []) }
+        ensures listed { IfOk result (λ s. lists s ≡ ([], [])) }
     {
         let mut shelves = Shelves::new(alloc);
         for (id, job) in jobs {
-            shelves.put_everywhere(*id, job)?;
+            let spot = Spot::of(job)?;
+            shelves.put_everywhere(*id, &spot)?;
         }
         Ok(shelves)
     }
 
     /// Puts a job onto the shelf with this label, if it belongs there.
-    fn put_on(&mut self, label: Label, id: u64, job: &Job) -> Result<(), AllocError>
-        ensures ok { OnOk result ((p : ℕ × ℕ) → BelongsAt label.entry p (id, job.now)
+    fn put_on(&mut self, label: Label, id: u64, spot: &Spot) -> Result<(), AllocError>
+        ensures ok { OnOk result ((p : ℕ × ℕ) → BelongsAt label.entry p (id, at_spot spot.now)
             → IsFound (shelf self.new label.entry) p) }
-        ensures put { HasPut self.old self.new (id, job.now) }
+        ensures put { HasPut self.old self.new (id, at_spot spot.now) }
     {
-        if !label.fits(job) {
+        if !label.fits(&spot.tube, spot.state) {
             return Ok(());
         }
-        let number = label.number(job);
+        let number = label.number(spot.pri, spot.state);
         match label {
-            Label::Ready(tube) => self.ready.put(tube, job.pri, id),
+            Label::Ready(tube) => self.ready.put(tube, spot.pri, id),
             Label::Delayed(tube) => self.delayed.put(tube, number, id),
             Label::Buried(tube) => self.buried.put(tube, number, id),
             Label::Held(session) => self.held.put(&session, number, id),
@@ -81,14 +91,17 @@ impl Shelves {
     }
 
     /// Lets look-ups of the shelf with this label begin at the place of a job, if they begin after it.
-    fn reach_on(&mut self, label: Label, id: u64, job: &Job)
-        ensures taken { (jobs : List (ℕ × Job)) → HasTaken self.old self.new jobs }
-        ensures reached { (p : ℕ × ℕ) → BelongsAt label.entry p (id, job.now)
+    fn reach_on(&mut self, label: Label, id: u64, spot: &Spot)
+        ensures back { HasGoneBack self.old self.new }
+        ensures reached { (p : ℕ × ℕ) → BelongsAt label.entry p (id, at_spot spot.now)
             → IsFrom (shelf self.new label.entry).from p }
     {
-        let number = label.number(job);
+        if !label.fits(&spot.tube, spot.state) {
+            return;
+        }
+        let number = label.number(spot.pri, spot.state);
         match label {
-            Label::Ready(tube) => self.ready.reach(tube, job.pri, id),
+            Label::Ready(tube) => self.ready.reach(tube, spot.pri, id),
             Label::Delayed(tube) => self.delayed.reach(tube, number, id),
             Label::Buried(tube) => self.buried.reach(tube, number, id),
             Label::Held(session) => self.held.reach(&session, number, id),
@@ -96,27 +109,56 @@ impl Shelves {
         }
     }
 
-    /// Takes a job from the shelf with this label. Where the map has a job that belongs there, its place stays, and
-    /// look-ups begin no later.
-    fn take_from(&mut self, label: Label, jobs: &BTreeMap<u64, Job>, id: u64, job: &Job)
-        requires { Rising 0 (2 ^ 64) jobs.now.entries }
+    /// Whether look-ups of the shelf with this label begin after the place of a job.
+    fn is_behind(&self, label: Label, id: u64, spot: &Spot) -> bool
+        ensures { result ≡ true → (p : ℕ × ℕ) → BelongsAt label.entry p (id, at_spot spot.now)
+            → IsFrom (shelf self.now label.entry).from p → ⊥ }
+    {
+        let number = label.number(spot.pri, spot.state);
+        match label {
+            Label::Ready(tube) => self.ready.is_behind(tube, spot.pri, id),
+            Label::Delayed(tube) => self.delayed.is_behind(tube, number, id),
+            Label::Buried(tube) => self.buried.is_behind(tube, number, id),
+            Label::Held(session) => self.held.is_behind(&session, number, id),
+            Label::Scheduled => self.scheduled.is_behind(number, id),
+        }
+    }
+
+    /// Whether the map has a job that belongs on the shelf with this label at the place of a job. Where look-ups begin
+    /// after it there is none, and the map isn't looked at.
+    fn is_taken(&self, label: Label, jobs: &BTreeMap<u64, Job>, id: u64, spot: &Spot) -> bool
+        requires rising { Rising 0 (2 ^ 64) jobs.now.entries }
+        requires ahead { AreAhead self.now jobs.now.entries }
+        ensures yes { result ≡ true → (p : ℕ × ℕ) → BelongsAt label.entry p (id, at_spot spot.now)
+            → ((e : ℕ × Job) × BelongsAt label.entry p e × In e jobs.now.entries) }
+        ensures no { result ≡ false → (p : ℕ × ℕ) → BelongsAt label.entry p (id, at_spot spot.now)
+            → (e : ℕ × Job) → In e jobs.now.entries → BelongsAt label.entry p e → ⊥ }
+    {
+        if self.is_behind(label, id, spot) {
+            return false;
+        }
+        let number = label.number(spot.pri, spot.state);
+        label.job_at(jobs, number, id).is_some()
+    }
+
+    /// Takes a job from the shelf with this label, unless the map has a job that belongs there.
+    fn take_from(&mut self, label: Label, jobs: &BTreeMap<u64, Job>, id: u64, spot: &Spot)
+        requires rising { Rising 0 (2 ^ 64) jobs.now.entries }
+        requires ahead { AreAhead self.old jobs.now.entries }
         ensures taken { HasTaken self.old self.new jobs.now.entries }
         ensures gone { (p : ℕ × ℕ) → In p (places self.new label.entry)
-            → BelongsAt label.entry p (id, job.now)
+            → BelongsAt label.entry p (id, at_spot spot.now)
             → ((e : ℕ × Job) × BelongsAt label.entry p e × In e jobs.now.entries) }
-        ensures reached { In (id, job.now) jobs.now.entries → (p : ℕ × ℕ)
-            → BelongsAt label.entry p (id, job.now) → IsFrom (shelf self.new label.entry).from p }
     {
-        if !label.fits(job) {
+        if !label.fits(&spot.tube, spot.state) {
             return;
         }
-        let number = label.number(job);
-        if label.job_at(jobs, number, id).is_some() {
-            self.reach_on(label, id, job);
+        if self.is_taken(label, jobs, id, spot) {
             return;
         }
+        let number = label.number(spot.pri, spot.state);
         match label {
-            Label::Ready(tube) => self.ready.take(tube, job.pri, id),
+            Label::Ready(tube) => self.ready.take(tube, spot.pri, id),
             Label::Delayed(tube) => self.delayed.take(tube, number, id),
             Label::Buried(tube) => self.buried.take(tube, number, id),
             Label::Held(session) => self.held.take(&session, number, id),
@@ -125,65 +167,89 @@ impl Shelves {
     }
 
     /// Puts a job onto the shelves where it belongs.
-    fn put_everywhere(&mut self, id: u64, job: &Job) -> Result<(), AllocError>
-        ensures placed { OnOk result (HasPlaces self.new (id, job.now)) }
-        ensures ahead { OnOk result (IsAhead self.new (id, job.now)) }
-        ensures put { HasPut self.old self.new (id, job.now) }
+    fn put_everywhere(&mut self, id: u64, spot: &Spot) -> Result<(), AllocError>
+        ensures come { OnOk result (HasCome self.new (id, at_spot spot.now)) }
+        ensures put { HasPut self.old self.new (id, at_spot spot.now) }
     {
-        self.put_on(Label::Ready(&job.tube), id, job)?;
-        self.put_on(Label::Delayed(&job.tube), id, job)?;
-        self.put_on(Label::Buried(&job.tube), id, job)?;
-        self.put_on(Label::Held(job.state.holder()), id, job)?;
-        self.put_on(Label::Scheduled, id, job)?;
+        self.put_on(Label::Ready(&spot.tube), id, spot)?;
+        self.put_on(Label::Delayed(&spot.tube), id, spot)?;
+        self.put_on(Label::Buried(&spot.tube), id, spot)?;
+        self.put_on(Label::Held(spot.state.holder()), id, spot)?;
+        self.put_on(Label::Scheduled, id, spot)?;
         Ok(())
     }
 
-    /// Takes a job from its shelves, but for places where the map has a job that belongs there: those look-ups find.
-    pub fn take_everywhere(&mut self, jobs: &BTreeMap<u64, Job>, id: u64, job: &Job)
-        requires { Rising 0 (2 ^ 64) jobs.now.entries }
+    /// Lets look-ups of each shelf where a job belongs begin at its place, if they begin after it.
+    fn reach_everywhere(&mut self, id: u64, spot: &Spot)
+        ensures back { HasGoneBack self.old self.new }
+        ensures ahead { IsAhead self.new (id, at_spot spot.now) }
+    {
+        self.reach_on(Label::Ready(&spot.tube), id, spot);
+        self.reach_on(Label::Delayed(&spot.tube), id, spot);
+        self.reach_on(Label::Buried(&spot.tube), id, spot);
+        self.reach_on(Label::Held(spot.state.holder()), id, spot);
+        self.reach_on(Label::Scheduled, id, spot);
+    }
+
+    /// Takes a job from its shelves, but for places where the map has a job that belongs there.
+    pub fn take_everywhere(&mut self, jobs: &BTreeMap<u64, Job>, id: u64, spot: &Spot)
+        requires rising { Rising 0 (2 ^ 64) jobs.now.entries }
+        requires ahead { AreAhead self.old jobs.now.entries }
         ensures taken { HasTaken self.old self.new jobs.now.entries }
-        ensures gone { (l : Label) (p : ℕ × ℕ) → In p (places self.new l) → BelongsAt l p (id, job.now)
+        ensures gone { (l : Label) (p : ℕ × ℕ) → In p (places self.new l)
+            → BelongsAt l p (id, at_spot spot.now)
             → ((e : ℕ × Job) × BelongsAt l p e × In e jobs.now.entries) }
-        ensures ahead { In (id, job.now) jobs.now.entries → IsAhead self.new (id, job.now) }
     {
-        self.take_from(Label::Ready(&job.tube), jobs, id, job);
-        self.take_from(Label::Delayed(&job.tube), jobs, id, job);
-        self.take_from(Label::Buried(&job.tube), jobs, id, job);
-        self.take_from(Label::Held(job.state.holder()), jobs, id, job);
-        self.take_from(Label::Scheduled, jobs, id, job);
+        self.take_from(Label::Ready(&spot.tube), jobs, id, spot);
+        self.take_from(Label::Delayed(&spot.tube), jobs, id, spot);
+        self.take_from(Label::Buried(&spot.tube), jobs, id, spot);
+        self.take_from(Label::Held(spot.state.holder()), jobs, id, spot);
+        self.take_from(Label::Scheduled, jobs, id, spot);
     }
 
-    /// Lists a job, as one whose places may have to go.
-    pub fn list(&mut self, id: u64, job: &Job) -> Result<(), AllocError>
+    /// Lists a job as one that went.
+    fn leave(&mut self, id: u64, job: &Job) -> Result<(), AllocError>
         ensures grown { HasGrown self.old self.new }
-        ensures ok { OnOk result (IsListed self.new (id, job.now)) }
+        ensures doubt { AreInDoubt self.old self.new }
+        ensures same { (label : Label) → shelf self.new label ≡ shelf self.old label }
+        ensures ok { OnOk result (self.new.went.items
+            ≡ self.old.went.items ++ (id, spot_of job.now) ∷ []) }
     {
-        self.listed.push((id, job.copy()?))?;
+        self.went.push((id, Spot::of(job)?))?;
         Ok(())
     }
 
-    /// Lists the job that the map has at an id, if there is one.
-    pub fn list_at(&mut self, jobs: &BTreeMap<u64, Job>, id: u64) -> Result<(), AllocError>
+    /// Lists the job that the map has at an id, if there is one, as one that went.
+    pub fn leave_at(&mut self, jobs: &BTreeMap<u64, Job>, id: u64) -> Result<(), AllocError>
         ensures grown { HasGrown self.old self.new }
+        ensures doubt { AreInDoubt self.old self.new }
+        ensures same { (label : Label) → shelf self.new label ≡ shelf self.old label }
         ensures ok { OnOk result ((job : Job) → value_at id jobs.now.entries ≡ Some job
-            → IsListed self.new (id, job)) }
+            → IsListed self.new.went.items (id, job)) }
     {
-        match jobs.get(&id) {
-            Some(job) => self.list(id, job),
-            None => Ok(()),
+        if let Some(job) = jobs.get(&id) {
+            self.leave(id, job)?;
         }
+        Ok(())
     }
 
-    /// Lists a job, and puts it onto the shelves where it belongs.
-    pub fn put(&mut self, id: u64, job: &Job) -> Result<(), AllocError>
+    /// Puts a job onto the shelves where it belongs, and lists it as one that came. Until `keep_last` says that it stays
+    /// it is listed as one that went, too.
+    pub fn put(&mut self, id: u64, spot: Spot) -> Result<(), AllocError>
         ensures grown { HasGrown self.old self.new }
-        ensures ok { OnOk result (HasCome self.new (id, job.now)) }
+        ensures doubt { AreInDoubt self.old self.new }
+        ensures only { (label : Label) (p : ℕ × ℕ) → In p (places self.new label)
+            → In p (places self.old label) ⊎ BelongsAt label p (id, at_spot spot) }
+        ensures come { OnOk result (HasCome self.new (id, at_spot spot)) }
+        ensures went { OnOk result (self.new.went.items ≡ self.old.went.items ++ (id, spot) ∷ []) }
     {
-        self.list(id, job)?;
-        self.put_everywhere(id, job)
+        self.came.push((id, spot.copy()?))?;
+        self.went.push((id, spot.copy()?))?;
+        self.put_everywhere(id, &spot)?;
+        Ok(())
     }
 
-    /// Puts a job onto the shelves where it belongs after a change, and lists it after and before.
+    /// Puts a job, as it is after a change, onto the shelves where it belongs, and lists it as it was as one that went.
     pub fn put_changed(
         &mut self,
         id: u64,
@@ -192,27 +258,41 @@ impl Shelves {
         state: State,
     ) -> Result<(), AllocError>
         ensures grown { HasGrown self.old self.new }
-        ensures old { OnOk result (IsListed self.new (id, job.now)) }
-        ensures new { OnOk result (HasCome self.new (id, with_pri_and_state pri state job.now)) }
+        ensures doubt { AreInDoubt self.old self.new }
+        ensures only { (label : Label) (p : ℕ × ℕ) → In p (places self.new label)
+            → In p (places self.old label)
+            ⊎ BelongsAt label p (id, with_pri_and_state pri state job.now) }
+        ensures come { OnOk result (HasCome self.new (id, with_pri_and_state pri state job.now)) }
+        ensures went { OnOk result (self.new.went.items
+            ≡ (self.old.went.items ++ (id, spot_of job.now) ∷ [])
+            ++ (id, spot_of (with_pri_and_state pri state job.now)) ∷ []) }
     {
-        let mut changed = job.copy()?;
-        changed.pri = pri;
-        changed.state = state;
-        self.put(id, &changed)?;
-        self.list(id, job)?;
+        let tube = job.tube.copy()?;
+        self.leave(id, job)?;
+        self.put(id, Spot { tube, pri, state })?;
         Ok(())
     }
 
-    /// Lets look-ups begin after the places that were left, on the shelves where the job stood that was listed last.
+    /// The job that was put last stays: it isn't listed as one that went any more.
+    pub fn keep_last(&mut self)
+        ensures shelves { (label : Label) → shelf self.new label ≡ shelf self.old label }
+        ensures came { self.new.came.items ≡ self.old.came.items }
+        ensures went { (items : List (ℕ × Spot)) (last : ℕ × Spot)
+            → self.old.went.items ≡ items ++ last ∷ [] → self.new.went.items ≡ items }
+    {
+        self.went.pop();
+    }
+
+    /// Lets look-ups begin after the places that were left, on the shelves where the job stood that went last.
     fn settle(&mut self, jobs: &BTreeMap<u64, Job>)
         requires { Rising 0 (2 ^ 64) jobs.now.entries }
         ensures { HasSettled self.old self.new jobs.now.entries }
     {
-        let Some((_, job)) = self.listed.last() else {
+        let Some((_, spot)) = self.went.last() else {
             return;
         };
-        let tube = &job.tube;
-        match job.state {
+        let tube = &spot.tube;
+        match spot.state {
             State::Ready => self.ready.settle(tube, Label::Ready(tube), jobs),
             State::Buried { .. } => self.buried.settle(tube, Label::Buried(tube), jobs),
             State::Delayed { .. } => {
@@ -226,33 +306,64 @@ impl Shelves {
         }
     }
 
-    /// Takes out the places where a listed job stands no more, and lists none. Look-ups find all jobs.
+    /// Lets look-ups find the jobs that went, and lists them no more.
+    fn reach_all(&mut self)
+        ensures places { (label : Label) → places self.new label ≡ places self.old label }
+        ensures ahead { BeginNoLater self.old self.new }
+        ensures reached { (e : ℕ × Job) → IsListed self.old.went.items e → IsAhead self.new e }
+        ensures came { self.new.came.items ≡ self.old.came.items }
+        ensures went { self.new.went.items ≡ [] }
+    {
+        while let Some((id, spot)) = self.went.pop() {
+            self.reach_everywhere(id, &spot);
+        }
+    }
+
+    /// Takes out the places of the jobs that went, but for those where the map has a job, and lists none.
     pub fn sweep(&mut self, jobs: &BTreeMap<u64, Job>)
         requires rising { Rising 0 (2 ^ 64) jobs.now.entries }
         requires placed { HavePlaces self.old jobs.now.entries }
-        requires known { AreKnown self.old jobs.now.entries }
+        requires known { AreKnown self.old jobs.now.entries self.old.went.items }
+        requires ahead { AreAhead self.old jobs.now.entries }
+        ensures placed { HavePlaces self.new jobs.now.entries }
+        ensures known { AreKnown self.new jobs.now.entries [] }
+        ensures ahead { AreAhead self.new jobs.now.entries }
+        ensures listed { lists self.new ≡ ([], []) }
+    {
+        self.came.clear();
+        while let Some((id, spot)) = self.went.pop() {
+            self.take_everywhere(jobs, id, &spot);
+        }
+    }
+
+    /// After the changes of a trial were taken back: look-ups find the jobs that went, the places go of those that came,
+    /// but for those where the map has a job, and none is listed.
+    pub fn go_back(&mut self, jobs: &BTreeMap<u64, Job>)
+        requires rising { Rising 0 (2 ^ 64) jobs.now.entries }
+        requires placed { HavePlaces self.old jobs.now.entries }
+        requires known { AreKnown self.old jobs.now.entries self.old.came.items }
         requires ahead { AreAheadOrListed self.old jobs.now.entries }
         ensures placed { HavePlaces self.new jobs.now.entries }
-        ensures known { AreKnown self.new jobs.now.entries }
+        ensures known { AreKnown self.new jobs.now.entries [] }
         ensures ahead { AreAhead self.new jobs.now.entries }
-        ensures listed { self.new.listed.items ≡ [] }
+        ensures listed { lists self.new ≡ ([], []) }
     {
-        while let Some((id, job)) = self.listed.pop() {
-            self.take_everywhere(jobs, id, &job);
-        }
+        self.reach_all();
+        swap(&mut self.came, &mut self.went);
+        self.sweep(jobs);
     }
 
     /// After a change of a job: in a trial look-ups begin after the places that it has left, and else those go.
     pub fn follow(&mut self, jobs: &BTreeMap<u64, Job>, is_trial: bool)
         requires rising { Rising 0 (2 ^ 64) jobs.now.entries }
         requires placed { HavePlaces self.old jobs.now.entries }
-        requires known { AreKnown self.old jobs.now.entries }
+        requires known { AreKnown self.old jobs.now.entries self.old.went.items }
         requires ahead { AreAhead self.old jobs.now.entries }
         ensures placed { HavePlaces self.new jobs.now.entries }
-        ensures known { AreKnown self.new jobs.now.entries }
+        ensures known { AreKnown self.new jobs.now.entries self.new.went.items }
         ensures ahead { AreAhead self.new jobs.now.entries }
         ensures settled { is_trial ≡ true → HasSettled self.old self.new jobs.now.entries }
-        ensures swept { is_trial ≡ false → self.new.listed.items ≡ [] }
+        ensures swept { is_trial ≡ false → lists self.new ≡ ([], []) }
     {
         if is_trial {
             self.settle(jobs);

@@ -53,7 +53,8 @@ impl<M: JobMap> Logic<M> {
             | Op::Reserve { .. }
             | Op::Release { .. }
             | Op::Kick(_)
-            | Op::KickJob(_) => unreachable!(),
+            | Op::KickJob(_)
+            | Op::Pause { .. } => unreachable!(),
         }
     }
 
@@ -118,6 +119,7 @@ impl<M: JobMap> Logic<M> {
             }
             Op::Kick(bound) => Ok(Some(self.kick(session, *bound)?)),
             Op::KickJob(id) => Ok(Some(self.kick_job(*id)?)),
+            Op::Pause { tube, seconds } => Ok(Some(self.pause_tube(tube, *seconds)?)),
             _ => unreachable!(),
         }
     }

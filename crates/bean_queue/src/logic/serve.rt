@@ -17,7 +17,7 @@ impl<M: JobMap> Logic<M> {
         requires { Covers woken.now self.now.now }
         ensures { option_map (λ e. (e.0, e.1.now)) result ≡ next_job self.now.now }
     {
-        best_offer(self.jobs.map(), &self.sessions, woken)
+        best_offer(self.jobs.map(), &self.sessions, &self.pauses, woken)
     }
 
     /// Gives the next job to the session whose turn it is, and tells whether there was one. It is in one of these

@@ -1,4 +1,6 @@
-ghost use Rattle.std.specs.Prelude.{◌≡◌, ◌≤◌, ◌<◌, ◌^◌, ◌++◌, None, IfOk, OnOk};
+ghost use Rattle.std.specs.Prelude.{◌≡◌, ℕ, List, ◌≤◌, ◌<◌, ◌^◌, ◌++◌, None, IfOk, OnOk};
+ghost use Rattle.object.specs.Lists.{In};
+ghost use Rattle.pause_store.specs.Pauses.{tubes_over};
 ghost use Rattle.bean_queue.specs.Effects.{released, forgotten, at_second, tick_effect};
 ghost use Rattle.bean_queue.specs.Turns.{serve, serve_turn};
 ghost use Rattle.bean_queue.specs.Woken.{AreWoken};
@@ -14,14 +16,20 @@ use std::alloc::{AllocError, Global};
 impl<M: JobMap> Logic<M> {
     /// Lets a second come, and tells the tubes of the jobs that it makes ready.
     fn at_second(&mut self, alloc: Global, second: u64) -> Result<IndexSet<Name>, AllocError>
-        requires { second ≤ 2 ^ 40 }
+        requires later { self.old.now.now ≤ second }
+        requires in_range { second ≤ 2 ^ 40 }
         ensures state { OnOk result (self.new.now ≡ at_second second self.old.now) }
         ensures woken { IfOk result
             (λ tubes. AreWoken tubes.keys self.old.now.jobs self.new.now.jobs) }
+        ensures over { IfOk result (λ tubes. (tube : List ℕ)
+            → In tube (tubes_over second self.old.now.pauses) → In tube tubes.keys) }
         ensures before { self.new.before ≡ self.old.before }
     {
+        let mut woken = make_due_ready(alloc, &mut self.jobs, second)?;
+        self.pauses.add_over(second, &mut woken)?;
+        self.pauses.pass(second);
         self.counters.now = second;
-        make_due_ready(alloc, &mut self.jobs, second)
+        Ok(woken)
     }
 
     /// Lets a second come, unless it has come before, where nothing is left to give.

@@ -45,6 +45,11 @@ impl<M: JobMap> Logic<M> {
         match op {
             Op::Put { .. } | Op::Kick(_) => self.used_alone(alloc, key.session),
             Op::Reserve { .. } => self.watched(alloc, key.session),
+            Op::Pause { tube, .. } => {
+                let mut tubes = Names::new(alloc);
+                tubes.push(tube.copy()?)?;
+                Ok(tubes)
+            }
             Op::Release { id, .. } => self.tube_of(alloc, *id),
             Op::KickJob(id) => self.tube_of(alloc, *id),
             _ => Ok(Names::new(alloc)),

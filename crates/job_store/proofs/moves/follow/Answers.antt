@@ -3,7 +3,7 @@ use Rattle.job_store.specs.Shelves.{AreKnown}
 use Rattle.job_store.proofs.moves.follow.Goals as goal
 
 pub follow-requires-clause-known : goal.follow-requires-clause-known
-follow-requires-clause-known c = subst (AreKnown c.args.shelves.now) (sym c.by_id.ensures.jobs) c.requires.known
+follow-requires-clause-known c = subst (λ x. AreKnown c.args.shelves.now x c.args.shelves.now.went.items) (sym c.by_id.ensures.jobs) c.requires.known
 
 pub returns-clause-known : goal.returns-clause-known
-returns-clause-known c = subst (AreKnown c.follow.new.self) c.by_id.ensures.jobs c.follow.ensures.known
+returns-clause-known c = subst (λ x. AreKnown c.follow.new.self x c.follow.new.self.went.items) c.by_id.ensures.jobs c.follow.ensures.known

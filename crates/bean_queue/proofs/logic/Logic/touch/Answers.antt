@@ -8,7 +8,7 @@ use Rattle.bean_queue.proofs.logic.Logic.touch.Goals as goal
 
 pub returns-in_ok-set_state-in-Some-clause-state : goal.returns-in_ok-set_state-in-Some-clause-state
 returns-in_ok-set_state-in-Some-clause-state g c =
-    let s = state_of c.self.inside.counters c.self.inside.jobs.now c.self.inside.sessions.now in
+    let s = state_of c.self.inside.counters c.self.inside.jobs.now c.self.inside.sessions.now c.self.inside.pauses.now.pauses in
     touched s c.args.session c.args.id _ c.in-Some.job.now _ c.map.ensures.rising
     (ap (value_at c.args.id) (sym c.map.ensures.jobs) ∙ sym c.in-Some.ensures)
     (search rules)

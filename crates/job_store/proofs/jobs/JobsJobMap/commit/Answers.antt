@@ -1,9 +1,5 @@
-use Rattle.std.proofs.Common.{inl}
 use Rattle.job_store.proofs.Following.{kept-ended}
 use Rattle.job_store.proofs.jobs.JobsJobMap.commit.Goals as goal
-
-pub sweep-requires-clause-ahead : goal.sweep-requires-clause-ahead
-sweep-requires-clause-ahead c e i = inl (c.self.invariant.ahead e i)
 
 pub invariant_of-self : goal.invariant_of-self
 invariant_of-self c =

@@ -7,7 +7,7 @@ follow-requires-clause-placed c =
 
 pub follow-requires-clause-known : goal.follow-requires-clause-known
 follow-requires-clause-known c =
-    known-step c.self.inside.shelves c.store-done.new.shelves c.self.inside.jobs.jobs c.store-done.new.jobs.jobs c.self.invariant.known c.store-done.ensures.grown c.store-done.ensures.followed
+    known-step c.self.inside.shelves c.store-done.new.shelves c.self.inside.jobs.jobs c.store-done.new.jobs.jobs c.self.invariant.known c.store-done.ensures.followed
 
 pub follow-requires-clause-ahead : goal.follow-requires-clause-ahead
 follow-requires-clause-ahead c =

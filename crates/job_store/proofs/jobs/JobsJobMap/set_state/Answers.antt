@@ -7,7 +7,7 @@ follow-requires-clause-placed c =
 
 pub follow-requires-clause-known : goal.follow-requires-clause-known
 follow-requires-clause-known c =
-    known-step c.self.inside.shelves c.move_to_state-done.new.shelves c.self.inside.jobs.jobs c.move_to_state-done.new.jobs.jobs c.self.invariant.known c.move_to_state-done.ensures.grown c.move_to_state-done.ensures.followed
+    known-step c.self.inside.shelves c.move_to_state-done.new.shelves c.self.inside.jobs.jobs c.move_to_state-done.new.jobs.jobs c.self.invariant.known c.move_to_state-done.ensures.followed
 
 pub follow-requires-clause-ahead : goal.follow-requires-clause-ahead
 follow-requires-clause-ahead c =

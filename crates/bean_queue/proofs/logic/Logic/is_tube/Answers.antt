@@ -1,0 +1,29 @@
+use Rattle.std.proofs.Common.{◌≡◌, ◌∙◌, ◌||◌, ℕ, List, true, false, codes, bytes_eq, sym, ap}
+use Rattle.std.specs.List.{list_any}
+use Rattle.job_store.specs.declared.job.Job.{Job}
+use Rattle.job_store.specs.LookUps.{is_among}
+use Rattle.session_store.specs.Drafts.{Draft}
+use Rattle.session_store.specs.declared.session.SessionState.{SessionState}
+use Rattle.bean_queue.specs.Queue.{QueueState, state_of}
+use Rattle.bean_queue.specs.Rows.{all_tubes}
+use Rattle.bean_queue.proofs.Named.{by-default, by-job, by-rest}
+use Rattle.bean_queue.proofs.logic.Logic.is_tube.Goals as goal
+
+pub returns-then-eq : goal.returns-then-eq
+returns-then-eq g c =
+    sym (by-default c.args.self.now.now c.args.tube.now (ap (bytes_eq c.args.tube.now) (sym c.default_tube.ensures) ∙ sym c.eq-2.ensures ∙ c.if-eq.true))
+
+pub returns-then-has_jobs : goal.returns-then-has_jobs
+returns-then-has_jobs g c =
+    let s = state_of c.self.inside.counters c.self.inside.jobs.now c.self.inside.sessions.now c.self.inside.pauses.now.pauses in
+    sym (by-job s c.args.tube.now (ap (list_any (λ (e : ℕ × Job). bytes_eq c.args.tube.now e.1.tube)) (sym (c.by_id.ensures.jobs ∙ c.map.ensures.jobs)) ∙ sym c.has_jobs.ensures ∙ c.if-has_jobs.true)) ∙
+    ap (λ (d : Draft QueueState). is_among c.args.tube.now (all_tubes d.now)) c.self.view_is
+
+pub returns : goal.returns
+returns g c =
+    let s = state_of c.self.inside.counters c.self.inside.jobs.now c.self.inside.sessions.now c.self.inside.pauses.now.pauses in
+    c.has_sessions.ensures ∙
+    ap (list_any (λ (e : ℕ × SessionState). bytes_eq c.args.tube.now e.1.used || is_among c.args.tube.now e.1.watched)) c.map-2.ensures.sessions ∙
+    by-rest s c.args.tube.now (ap (bytes_eq c.args.tube.now) (sym c.default_tube.ensures) ∙ sym c.eq-2.ensures ∙ c.if-eq.false)
+    (ap (list_any (λ (e : ℕ × Job). bytes_eq c.args.tube.now e.1.tube)) (sym (c.by_id.ensures.jobs ∙ c.map.ensures.jobs)) ∙ sym c.has_jobs.ensures ∙ c.if-has_jobs.false) ∙
+    ap (λ (d : Draft QueueState). is_among c.args.tube.now (all_tubes d.now)) c.self.view_is
