@@ -3,7 +3,7 @@
 use Rattle.std.specs.Prelude.{ℕ, List, [], ◌∷◌, Option, Some, None}
 use Rattle.bean_queue.specs.declared.op.Op.TheVariants as op
 use Rattle.bean_codec.specs.declared.command.CommandName.{CommandName}
-use Rattle.bean_codec.specs.declared.command.CommandName.TheVariants.{Put, Use, Watch, Ignore, Reserve, ReserveWithTimeout, Delete, Touch, Release, Bury, Kick, KickJob, Peek, PeekReady, PeekDelayed, PeekBuried, ListTubes, ListTubeUsed, ListTubesWatched, Quit}
+use Rattle.bean_codec.specs.declared.command.CommandName.TheVariants.{Put, Use, Watch, Ignore, Reserve, ReserveWithTimeout, Delete, Touch, Release, Bury, Kick, KickJob, Peek, PeekReady, PeekDelayed, PeekBuried, ListTubes, ListTubeUsed, ListTubesWatched, PauseTube, Quit}
 use Rattle.bean_codec.specs.declared.request.Request.{Request}
 use Rattle.bean_codec.specs.declared.request.Request.TheVariants.{Do}
 use Rattle.bean_codec.specs.declared.request.Request.TheVariants as request
@@ -113,6 +113,14 @@ ignore_line words = do
   tube ← one_name words
   Some (Whole (Do (op.Ignore tube)))
 
+-- pause-tube <tube> <seconds>
+unfoldable pub pause_line : List (List ℕ) → Option Meaning
+pause_line (tube ∷ seconds ∷ []) = do
+  seconds ← u32_of seconds
+  tube ← name_of tube
+  Some (Whole (Do (op.Pause tube seconds)))
+pause_line _ = None
+
 -- what the words after the first make of a command; nothing, where they have not its form
 unfoldable pub line_of : CommandName → List (List ℕ) → Option Meaning
 line_of Put words = put_line words
@@ -134,4 +142,5 @@ line_of PeekBuried words = alone (Do op.PeekBuried) words
 line_of ListTubes words = alone (Do op.ListTubes) words
 line_of ListTubeUsed words = alone (Do op.ListTubeUsed) words
 line_of ListTubesWatched words = alone (Do op.ListTubesWatched) words
+line_of PauseTube words = pause_line words
 line_of Quit words = alone request.Quit words

@@ -3,7 +3,7 @@ use Rattle.std.specs.Prelude.{ℕ, List, codes, Option, Some, None, if◌then◌
 use Rattle.std.specs.Option.{option_or}
 use Rattle.std.specs.Str.{bytes_eq}
 use Rattle.bean_codec.specs.declared.command.CommandName.{CommandName}
-use Rattle.bean_codec.specs.declared.command.CommandName.TheVariants.{Put, Use, Watch, Ignore, Reserve, ReserveWithTimeout, Delete, Touch, Release, Bury, Kick, KickJob, Peek, PeekReady, PeekDelayed, PeekBuried, ListTubes, ListTubeUsed, ListTubesWatched, Quit}
+use Rattle.bean_codec.specs.declared.command.CommandName.TheVariants.{Put, Use, Watch, Ignore, Reserve, ReserveWithTimeout, Delete, Touch, Release, Bury, Kick, KickJob, Peek, PeekReady, PeekDelayed, PeekBuried, ListTubes, ListTubeUsed, ListTubesWatched, PauseTube, Quit}
 
 -- those that make, take or change jobs
 unfoldable pub job_command : List ℕ → Option CommandName
@@ -28,6 +28,7 @@ tube_command word =
     else if bytes_eq word (codes "list-tubes") then Some ListTubes
     else if bytes_eq word (codes "list-tube-used") then Some ListTubeUsed
     else if bytes_eq word (codes "list-tubes-watched") then Some ListTubesWatched
+    else if bytes_eq word (codes "pause-tube") then Some PauseTube
     else None
 
 -- those that look at jobs, and the last one

@@ -2,7 +2,7 @@
 use Rattle.std.specs.Prelude.{ℕ, List, ◌++◌, length, codes, decimal}
 use Rattle.std.specs.List.{flat_map}
 use Rattle.bean_queue.specs.declared.reply.Reply.{Reply}
-use Rattle.bean_queue.specs.declared.reply.Reply.TheVariants.{Inserted, Using, Watching, NotIgnored, Reserved, DeadlineSoon, TimedOut, Deleted, NotFound, Released, Buried, Touched, KickedCount, Kicked, Found, Tubes, InternalError}
+use Rattle.bean_queue.specs.declared.reply.Reply.TheVariants.{Inserted, Using, Watching, NotIgnored, Reserved, DeadlineSoon, TimedOut, Deleted, NotFound, Released, Buried, Touched, KickedCount, Kicked, Found, Tubes, Paused, InternalError}
 use Rattle.bean_codec.specs.declared.request.Fault.{Fault}
 use Rattle.bean_codec.specs.declared.request.Fault.TheVariants.{BadFormat, UnknownCommand, ExpectedCrlf, JobTooBig}
 use Rattle.bean_codec.specs.Lines.{line_text}
@@ -45,6 +45,7 @@ reply_text (KickedCount count) = count_text (codes "KICKED") count
 reply_text Kicked = line_text (codes "KICKED")
 reply_text (Found id body) = job_text (codes "FOUND") id body
 reply_text (Tubes names) = tubes_text names
+reply_text Paused = line_text (codes "PAUSED")
 reply_text InternalError = line_text (codes "INTERNAL_ERROR")
 
 -- the text that answers a fault

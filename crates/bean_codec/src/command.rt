@@ -23,6 +23,7 @@ pub enum CommandName {
     ListTubes,
     ListTubeUsed,
     ListTubesWatched,
+    PauseTube,
     Quit,
 }
 
@@ -81,6 +82,8 @@ fn tube_command(word: &[u8]) -> Option<CommandName>
         Some(CommandName::ListTubeUsed)
     } else if word == b"list-tubes-watched".as_slice() {
         Some(CommandName::ListTubesWatched)
+    } else if word == b"pause-tube".as_slice() {
+        Some(CommandName::PauseTube)
     } else {
         None
     }

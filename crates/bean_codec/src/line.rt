@@ -4,7 +4,7 @@ ghost use Rattle.bean_codec.specs.Arguments as arguments;
 ghost use Rattle.bean_codec.specs.Memory.{HasName, LineHasName};
 
 use crate::command::{CommandName, command_of};
-use crate::name_lines::{ignore_line, use_line, watch_line};
+use crate::name_lines::{ignore_line, pause_line, use_line, watch_line};
 use crate::number_lines::{
     alone, bury_line, delete_line, kick_job_line, kick_line, peek_line, put_line, release_line,
     reserve_line, touch_line,
@@ -92,6 +92,7 @@ pub fn line_of(
         CommandName::ListTubes => Ok(alone(words, Request::Do(Op::ListTubes))),
         CommandName::ListTubeUsed => Ok(alone(words, Request::Do(Op::ListTubeUsed))),
         CommandName::ListTubesWatched => Ok(alone(words, Request::Do(Op::ListTubesWatched))),
+        CommandName::PauseTube => pause_line(alloc, words),
         CommandName::Quit => Ok(alone(words, Request::Quit)),
     }
 }

@@ -4,6 +4,7 @@ ghost use Rattle.bean_codec.specs.Memory.{HasName};
 ghost use Rattle.bean_codec.specs.TubeNames as tube_names;
 
 use crate::line::Meaning;
+use crate::number::u32_of;
 use crate::request::Request;
 use crate::words::Words;
 use bean_queue::{Name, Op};
@@ -66,4 +67,26 @@ pub fn ignore_line(alloc: Global, words: Words<'_>) -> Result<Option<Meaning>, A
         return Ok(None);
     };
     Ok(Some(Meaning::Whole(Request::Do(Op::Ignore(tube)))))
+}
+
+/// `pause-tube <tube> <seconds>`
+#[tactic(auto, unfolding(crate::specs::Arguments::pause_line))]
+pub fn pause_line(alloc: Global, mut words: Words<'_>) -> Result<Option<Meaning>, AllocError>
+    ensures says { IfOk result (λ says. says ≡ arguments.pause_line words.entry) }
+    ensures memory { OnErr result (HasName (arguments.pause_line words.entry)) }
+{
+    let (Some(tube), Some(seconds)) = (words.next(), words.next()) else {
+        return Ok(None);
+    };
+    if words.next().is_some() {
+        return Ok(None);
+    }
+    // A line with a wrong number takes no memory.
+    let Some(seconds) = u32_of(seconds) else {
+        return Ok(None);
+    };
+    let Some(tube) = name_of(alloc, tube)? else {
+        return Ok(None);
+    };
+    Ok(Some(Meaning::Whole(Request::Do(Op::Pause { tube, seconds }))))
 }

@@ -48,6 +48,7 @@ fn append_reply(reply: &Reply, out: &mut Vec<u8>) -> Result<(), AllocError>
         Reply::Kicked => append_line(b"KICKED", out),
         Reply::Found { id, body } => append_job(b"FOUND", *id, body, out),
         Reply::Tubes(names) => append_tubes(names.as_slice(), out),
+        Reply::Paused => append_line(b"PAUSED", out),
         Reply::InternalError => append_line(b"INTERNAL_ERROR", out),
     }
 }

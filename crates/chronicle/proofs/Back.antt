@@ -12,9 +12,9 @@ use Rattle.object.specs.declared.command.Act.{Act}
 use Rattle.object.specs.declared.command.Act.TheVariants.{Do, Close, Tick}
 use Rattle.job_store.specs.Names.{IsName, IsNameByte, AreNameBytes}
 use Rattle.bean_queue.specs.declared.op.Op.{Op}
-use Rattle.bean_queue.specs.declared.op.Op.TheVariants.{Put, Use, Watch, Ignore, Reserve, Delete, Touch, Release, Bury, Kick, KickJob, Peek, PeekReady, PeekDelayed, PeekBuried, ListTubes, ListTubeUsed, ListTubesWatched}
+use Rattle.bean_queue.specs.declared.op.Op.TheVariants.{Put, Use, Watch, Ignore, Reserve, Delete, Touch, Release, Bury, Kick, KickJob, Peek, PeekReady, PeekDelayed, PeekBuried, ListTubes, ListTubeUsed, ListTubesWatched, Pause}
 use Rattle.bean_queue.specs.declared.reply.Reply.{Reply}
-use Rattle.bean_queue.specs.declared.reply.Reply.TheVariants.{Inserted, Using, Watching, NotIgnored, Reserved, DeadlineSoon, TimedOut, Deleted, NotFound, Released, Buried, Touched, KickedCount, Kicked, Found, Tubes, InternalError}
+use Rattle.bean_queue.specs.declared.reply.Reply.TheVariants.{Inserted, Using, Watching, NotIgnored, Reserved, DeadlineSoon, TimedOut, Deleted, NotFound, Released, Buried, Touched, KickedCount, Kicked, Found, Tubes, Paused, InternalError}
 use Rattle.chronicle.specs.Acts.{op_words, act_words}
 use Rattle.chronicle.specs.Fits.{IsNumber, FitsAct, FitsReply}
 use Rattle.chronicle.specs.Lines.{body_word}
@@ -127,12 +127,15 @@ with_one word a =
     else if bytes_eq word (codes "kick-job") then KickJob (number a)
     else Peek (number a)
 
+abbrev with_two : List ℕ → List ℕ → List ℕ → Op
+with_two word a b = if bytes_eq word (codes "pause-tube") then Pause a (number b) else Bury (number a) (number b)
+
 -- the act that the words tell, if they tell one
 abbrev pub act : List (List ℕ) → Act Op
 act [] = Tick
 act (word ∷ []) = alone word
 act (word ∷ a ∷ []) = Do (with_one word a)
-act (word ∷ a ∷ b ∷ []) = Do (Bury (number a) (number b))
+act (word ∷ a ∷ b ∷ []) = Do (with_two word a b)
 act (word ∷ a ∷ b ∷ c ∷ []) = Do (Release (number a) (number b) (number c))
 act (word ∷ a ∷ b ∷ c ∷ d ∷ more) = Do (Put (number a) (number b) (number c) (body d))
 
@@ -161,6 +164,7 @@ act_back (Do PeekBuried) h = refl
 act_back (Do ListTubes) h = refl
 act_back (Do ListTubeUsed) h = refl
 act_back (Do ListTubesWatched) h = refl
+act_back (Do (Pause tube seconds)) h = ap (λ n. Do (Pause tube n)) (number_back seconds h.1)
 
 pub act_plain : (a : Act Op) → FitsAct a → AllPlain (act_words a)
 unfolding act_words op_words
@@ -187,6 +191,7 @@ act_plain (Do PeekBuried) h = (by_test (codes "peek-buried") refl, tt)
 act_plain (Do ListTubes) h = (by_test (codes "list-tubes") refl, tt)
 act_plain (Do ListTubeUsed) h = (by_test (codes "list-tube-used") refl, tt)
 act_plain (Do ListTubesWatched) h = (by_test (codes "list-tubes-watched") refl, tt)
+act_plain (Do (Pause tube seconds)) h = (by_test (codes "pause-tube") refl, (name_plain tube h.0, (number_plain seconds h.1, tt)))
 
 -- ---- replies
 
@@ -201,6 +206,7 @@ said word =
     else if bytes_eq word (codes "BURIED") then Buried
     else if bytes_eq word (codes "TOUCHED") then Touched
     else if bytes_eq word (codes "KICKED") then Kicked
+    else if bytes_eq word (codes "PAUSED") then Paused
     else InternalError
 
 abbrev said_with : List ℕ → List ℕ → Reply
@@ -239,6 +245,7 @@ reply_back (KickedCount count) h = ap KickedCount (number_back count h)
 reply_back Kicked h = refl
 reply_back (Found id b) h = ap₂ Found (number_back id h.0) (body_back b h.1)
 reply_back (Tubes names) h = refl
+reply_back Paused h = refl
 reply_back InternalError h = refl
 
 pub reply_plain : (r : Reply) → FitsReply r → AllPlain (reply_words r)
@@ -259,4 +266,5 @@ reply_plain (KickedCount count) h = (by_test (codes "KICKED") refl, (number_plai
 reply_plain Kicked h = (by_test (codes "KICKED") refl, tt)
 reply_plain (Found id b) h = (by_test (codes "FOUND") refl, (number_plain id h.0, (body_plain b, tt)))
 reply_plain (Tubes names) h = (by_test (codes "OK") refl, names_plain names h)
+reply_plain Paused h = (by_test (codes "PAUSED") refl, tt)
 reply_plain InternalError h = (by_test (codes "INTERNAL_ERROR") refl, tt)

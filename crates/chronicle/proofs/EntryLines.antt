@@ -10,9 +10,9 @@ use Rattle.object.specs.declared.command.Act.TheVariants.{Do, Close, Tick}
 use Rattle.object.specs.declared.command.Key.{Key}
 use Rattle.job_store.specs.Names.{IsName}
 use Rattle.bean_queue.specs.declared.op.Op.{Op}
-use Rattle.bean_queue.specs.declared.op.Op.TheVariants.{Put, Use, Watch, Ignore, Reserve, Delete, Touch, Release, Bury, Kick, KickJob, Peek, PeekReady, PeekDelayed, PeekBuried, ListTubes, ListTubeUsed, ListTubesWatched}
+use Rattle.bean_queue.specs.declared.op.Op.TheVariants.{Put, Use, Watch, Ignore, Reserve, Delete, Touch, Release, Bury, Kick, KickJob, Peek, PeekReady, PeekDelayed, PeekBuried, ListTubes, ListTubeUsed, ListTubesWatched, Pause}
 use Rattle.bean_queue.specs.declared.reply.Reply.{Reply}
-use Rattle.bean_queue.specs.declared.reply.Reply.TheVariants.{Inserted, Using, Watching, NotIgnored, Reserved, DeadlineSoon, TimedOut, Deleted, NotFound, Released, Buried, Touched, KickedCount, Kicked, Found, Tubes, InternalError}
+use Rattle.bean_queue.specs.declared.reply.Reply.TheVariants.{Inserted, Using, Watching, NotIgnored, Reserved, DeadlineSoon, TimedOut, Deleted, NotFound, Released, Buried, Touched, KickedCount, Kicked, Found, Tubes, Paused, InternalError}
 use Rattle.bean_codec.specs.Words.{is_word, words}
 use Rattle.chronicle.specs.declared.entry.Entry.{Entry}
 use Rattle.chronicle.specs.declared.entry.Entry.TheVariants as entry
@@ -87,6 +87,7 @@ act_fits (Do PeekBuried) h = tt
 act_fits (Do ListTubes) h = tt
 act_fits (Do ListTubeUsed) h = tt
 act_fits (Do ListTubesWatched) h = tt
+act_fits (Do (Pause tube seconds)) h = (h.0, short_long seconds h.1)
 
 reply_fits : (r : Reply) → IsReplyValue r → FitsReply r
 reply_fits (Inserted id) h = h
@@ -105,6 +106,7 @@ reply_fits (KickedCount count) h = h
 reply_fits Kicked h = tt
 reply_fits (Found id b) h = h
 reply_fits (Tubes names) h = h
+reply_fits Paused h = tt
 reply_fits InternalError h = tt
 
 first_plain : (e : Entry) → Plain (first_word e)
@@ -168,6 +170,7 @@ act_some (Do PeekBuried) h = (refl, tt)
 act_some (Do ListTubes) h = (refl, tt)
 act_some (Do ListTubeUsed) h = (refl, tt)
 act_some (Do ListTubesWatched) h = (refl, tt)
+act_some (Do (Pause tube seconds)) h = (refl, (name_some tube h.0, (number_some seconds h.1, tt)))
 
 reply_some : (r : Reply) → FitsReply r → AllSome (reply_words r)
 unfolding reply_words
@@ -187,6 +190,7 @@ reply_some (KickedCount count) h = (refl, (number_some count h, tt))
 reply_some Kicked h = (refl, tt)
 reply_some (Found id b) h = (refl, (number_some id h.0, (body_some b, tt)))
 reply_some (Tubes names) h = (refl, names_some names h)
+reply_some Paused h = (refl, tt)
 reply_some InternalError h = (refl, tt)
 
 first_some : (e : Entry) → is_word (first_word e) ≡ true

@@ -23,7 +23,7 @@ use Rattle.bean_codec.specs.declared.line.Meaning.{Meaning}
 use Rattle.bean_codec.specs.declared.line.Meaning.TheVariants.{Whole, WithBody}
 use Rattle.bean_codec.specs.declared.request.Request.TheVariants as request
 use Rattle.bean_codec.specs.declared.request.Request.{Request}
-use Rattle.bean_codec.specs.Arguments.{line_of, alone, one_id, one_number, one_name, put_line, release_line, bury_line, reserve_line, kick_line, delete_line, touch_line, kick_job_line, peek_line, use_line, watch_line, ignore_line}
+use Rattle.bean_codec.specs.Arguments.{line_of, alone, one_id, one_number, one_name, put_line, release_line, bury_line, reserve_line, kick_line, delete_line, touch_line, kick_job_line, peek_line, use_line, watch_line, ignore_line, pause_line}
 use Rattle.bean_codec.specs.Commands.{command_of}
 use Rattle.bean_codec.specs.Numbers.{number_of, number_below, u32_of, u64_of}
 use Rattle.bean_codec.specs.TubeNames.{name_of, name_rule, word_if, Decided}
@@ -207,6 +207,11 @@ unfolding put_line
 put_line_value (pri ∷ delay ∷ ttr ∷ size ∷ []) = numbers_value pri delay ttr size
 put_line_value _ = tt
 
+pause_value : (words : List (List ℕ)) → IfSome (pause_line words) Means
+unfolding pause_line
+pause_value (tube ∷ seconds ∷ []) = bind (u32_of seconds) _ IsShort Means (short_value seconds) (λ n ns. bind (name_of tube) _ IsName Means (name_value tube) (λ t ts. (ts, ns)))
+pause_value _ = tt
+
 line_value : (c : CommandName) (words : List (List ℕ)) → IfSome (line_of c words) Means
 unfolding line_of reserve_line kick_line delete_line touch_line kick_job_line peek_line use_line watch_line ignore_line
 line_value command.Put words = put_line_value words
@@ -228,6 +233,7 @@ line_value command.PeekBuried words = alone_value (request.Do op.PeekBuried) wor
 line_value command.ListTubes words = alone_value (request.Do op.ListTubes) words tt
 line_value command.ListTubeUsed words = alone_value (request.Do op.ListTubeUsed) words tt
 line_value command.ListTubesWatched words = alone_value (request.Do op.ListTubesWatched) words tt
+line_value command.PauseTube words = pause_value words
 line_value command.Quit words = alone_value request.Quit words tt
 
 act_in_value : (m : Meaning) → Means m → IfSome (act_in m) IsActValue

@@ -7,9 +7,9 @@ use Rattle.object.specs.declared.command.Answer.{Answer}
 use Rattle.object.specs.declared.command.Key.{Key}
 use Rattle.object.specs.declared.command.Submission.{Submission}
 use Rattle.bean_queue.specs.declared.op.Op.{Op}
-use Rattle.bean_queue.specs.declared.op.Op.TheVariants.{Put, Use, Watch, Ignore, Reserve, Delete, Touch, Release, Bury, Kick, KickJob, Peek, PeekReady, PeekDelayed, PeekBuried, ListTubes, ListTubeUsed, ListTubesWatched}
+use Rattle.bean_queue.specs.declared.op.Op.TheVariants.{Put, Use, Watch, Ignore, Reserve, Delete, Touch, Release, Bury, Kick, KickJob, Peek, PeekReady, PeekDelayed, PeekBuried, ListTubes, ListTubeUsed, ListTubesWatched, Pause}
 use Rattle.bean_queue.specs.declared.reply.Reply.{Reply}
-use Rattle.bean_queue.specs.declared.reply.Reply.TheVariants.{Inserted, Using, Watching, NotIgnored, Reserved, DeadlineSoon, TimedOut, Deleted, NotFound, Released, Buried, Touched, KickedCount, Kicked, Found, Tubes, InternalError}
+use Rattle.bean_queue.specs.declared.reply.Reply.TheVariants.{Inserted, Using, Watching, NotIgnored, Reserved, DeadlineSoon, TimedOut, Deleted, NotFound, Released, Buried, Touched, KickedCount, Kicked, Found, Tubes, Paused, InternalError}
 use Rattle.chronicle.specs.Chronicles.{Chronicle}
 use Rattle.chronicle.specs.Dump.{dump_text}
 use Rattle.chronicle.specs.Fits.{FitsAct, FitsAnswer, FitsChronicle, FitsCommand, FitsKey, FitsOp, FitsReply, IsNumber}
@@ -42,6 +42,7 @@ op_fits PeekBuried is = tt
 op_fits ListTubes is = tt
 op_fits ListTubeUsed is = tt
 op_fits ListTubesWatched is = tt
+op_fits (Pause tube seconds) is = (is.0, short seconds is.1)
 
 act_fits : (act : Act Op) → IsActValue act → FitsAct act
 act_fits (Do op) is = op_fits op is
@@ -65,6 +66,7 @@ reply_fits (KickedCount count) is = is
 reply_fits Kicked is = tt
 reply_fits (Found id body) is = is
 reply_fits (Tubes names) is = is
+reply_fits Paused is = tt
 reply_fits InternalError is = tt
 
 submitted_fit : (submitted : List (Submission Op)) → AllByRecursion (λ (s : Submission Op). IsCommandValue s.command) submitted → AllByRecursion (λ (s : Submission Op). FitsCommand s.command) submitted

@@ -4,7 +4,7 @@ use Rattle.std.specs.Prelude.{ℕ, List, [], ◌∷◌, codes, decimal, Some, No
 use Rattle.object.specs.declared.command.Act.{Act}
 use Rattle.object.specs.declared.command.Act.TheVariants.{Do, Close, Tick}
 use Rattle.bean_queue.specs.declared.op.Op.{Op}
-use Rattle.bean_queue.specs.declared.op.Op.TheVariants.{Put, Use, Watch, Ignore, Reserve, Delete, Touch, Release, Bury, Kick, KickJob, Peek, PeekReady, PeekDelayed, PeekBuried, ListTubes, ListTubeUsed, ListTubesWatched}
+use Rattle.bean_queue.specs.declared.op.Op.TheVariants.{Put, Use, Watch, Ignore, Reserve, Delete, Touch, Release, Bury, Kick, KickJob, Peek, PeekReady, PeekDelayed, PeekBuried, ListTubes, ListTubeUsed, ListTubesWatched, Pause}
 use Rattle.chronicle.specs.Lines.{body_word}
 
 -- the words for an operation
@@ -28,6 +28,7 @@ op_words PeekBuried = codes "peek-buried" ∷ []
 op_words ListTubes = codes "list-tubes" ∷ []
 op_words ListTubeUsed = codes "list-tube-used" ∷ []
 op_words ListTubesWatched = codes "list-tubes-watched" ∷ []
+op_words (Pause tube seconds) = codes "pause-tube" ∷ tube ∷ decimal seconds ∷ []
 
 -- the words for an act
 unfoldable pub act_words : Act Op → List (List ℕ)

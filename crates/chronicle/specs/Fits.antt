@@ -9,7 +9,7 @@ use Rattle.object.specs.declared.command.Key.{Key}
 use Rattle.object.specs.declared.command.Submission.{Submission}
 use Rattle.job_store.specs.Names.{IsName}
 use Rattle.bean_queue.specs.declared.op.Op.{Op}
-use Rattle.bean_queue.specs.declared.op.Op.TheVariants.{Put, Use, Watch, Ignore, Reserve, Delete, Touch, Release, Bury, Kick, KickJob, Peek}
+use Rattle.bean_queue.specs.declared.op.Op.TheVariants.{Put, Use, Watch, Ignore, Reserve, Delete, Touch, Release, Bury, Kick, KickJob, Peek, Pause}
 use Rattle.bean_queue.specs.declared.reply.Reply.{Reply}
 use Rattle.bean_queue.specs.declared.reply.Reply.TheVariants.{Inserted, Using, Watching, Reserved, KickedCount, Found, Tubes}
 use Rattle.chronicle.specs.Chronicles.{Chronicle}
@@ -37,6 +37,7 @@ FitsOp (Bury id pri) = IsNumber id × IsNumber pri
 FitsOp (Kick bound) = IsNumber bound
 FitsOp (KickJob id) = IsNumber id
 FitsOp (Peek id) = IsNumber id
+FitsOp (Pause tube seconds) = IsName tube × IsNumber seconds
 FitsOp _ = ⊤
 
 -- the same of an act

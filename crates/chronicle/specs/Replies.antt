@@ -2,7 +2,7 @@
 -- the size of their list (protocol.txt of beanstalkd, the commands).
 use Rattle.std.specs.Prelude.{ℕ, List, [], ◌∷◌, codes, decimal}
 use Rattle.bean_queue.specs.declared.reply.Reply.{Reply}
-use Rattle.bean_queue.specs.declared.reply.Reply.TheVariants.{Inserted, Using, Watching, NotIgnored, Reserved, DeadlineSoon, TimedOut, Deleted, NotFound, Released, Buried, Touched, KickedCount, Kicked, Found, Tubes, InternalError}
+use Rattle.bean_queue.specs.declared.reply.Reply.TheVariants.{Inserted, Using, Watching, NotIgnored, Reserved, DeadlineSoon, TimedOut, Deleted, NotFound, Released, Buried, Touched, KickedCount, Kicked, Found, Tubes, Paused, InternalError}
 use Rattle.chronicle.specs.Lines.{body_word}
 
 -- the words for a reply
@@ -23,4 +23,5 @@ reply_words (KickedCount count) = codes "KICKED" ∷ decimal count ∷ []
 reply_words Kicked = codes "KICKED" ∷ []
 reply_words (Found id body) = codes "FOUND" ∷ decimal id ∷ body_word body ∷ []
 reply_words (Tubes names) = codes "OK" ∷ names
+reply_words Paused = codes "PAUSED" ∷ []
 reply_words InternalError = codes "INTERNAL_ERROR" ∷ []

@@ -8,7 +8,7 @@ use Rattle.object.specs.declared.command.Key.{Key}
 use Rattle.bean_queue.specs.declared.op.Op.{Op}
 use Rattle.bean_queue.specs.declared.op.Op.TheVariants.{Put}
 use Rattle.bean_queue.specs.declared.reply.Reply.{Reply}
-use Rattle.bean_queue.specs.declared.reply.Reply.TheVariants.{Inserted, Using, Watching, NotIgnored, Reserved, DeadlineSoon, TimedOut, Deleted, NotFound, Released, Buried, Touched, KickedCount, Kicked, Found, Tubes, InternalError}
+use Rattle.bean_queue.specs.declared.reply.Reply.TheVariants.{Inserted, Using, Watching, NotIgnored, Reserved, DeadlineSoon, TimedOut, Deleted, NotFound, Released, Buried, Touched, KickedCount, Kicked, Found, Tubes, Paused, InternalError}
 use Rattle.bean_codec.specs.declared.command.CommandName.{CommandName}
 use Rattle.bean_codec.specs.declared.command.CommandName.TheVariants as command
 use Rattle.bean_codec.specs.declared.line.Meaning.{Meaning}
@@ -78,6 +78,7 @@ lone_reply word =
     else if bytes_eq word (codes "BURIED") then Some Buried
     else if bytes_eq word (codes "TOUCHED") then Some Touched
     else if bytes_eq word (codes "KICKED") then Some Kicked
+    else if bytes_eq word (codes "PAUSED") then Some Paused
     else if bytes_eq word (codes "INTERNAL_ERROR") then Some InternalError
     else None
 

@@ -11,7 +11,7 @@ use Rattle.object.specs.declared.command.Key.{Key}
 use Rattle.object.specs.declared.command.Submission.{Submission}
 use Rattle.job_store.specs.Names.{IsName}
 use Rattle.bean_queue.specs.declared.op.Op.{Op}
-use Rattle.bean_queue.specs.declared.op.Op.TheVariants.{Put, Use, Watch, Ignore, Reserve, Delete, Touch, Release, Bury, Kick, KickJob, Peek}
+use Rattle.bean_queue.specs.declared.op.Op.TheVariants.{Put, Use, Watch, Ignore, Reserve, Delete, Touch, Release, Bury, Kick, KickJob, Peek, Pause}
 use Rattle.bean_queue.specs.declared.reply.Reply.{Reply}
 use Rattle.bean_queue.specs.declared.reply.Reply.TheVariants.{Inserted, Using, Watching, Reserved, KickedCount, Found, Tubes}
 use Rattle.chronicle.specs.Chronicles.{Chronicle, IsChronicle}
@@ -41,6 +41,7 @@ IsOpValue (Bury id pri) = IsLong id × IsShort pri
 IsOpValue (Kick bound) = IsShort bound
 IsOpValue (KickJob id) = IsLong id
 IsOpValue (Peek id) = IsLong id
+IsOpValue (Pause tube seconds) = IsName tube × IsShort seconds
 IsOpValue _ = ⊤
 
 abbrev pub IsActValue : Act Op → Type 0

@@ -1,11 +1,12 @@
 ghost use Rattle.std.specs.Prelude.{◌≡◌, ◌++◌, ◌∷◌, [], take, vec_len, codes, decimal, OnOk};
+ghost use Rattle.job_store.specs.Names.{IsName};
 ghost use Rattle.chronicle.specs.Acts.{op_words, act_words};
 ghost use Rattle.chronicle.specs.Lines.{spaced, body_word};
 ghost use Rattle.chronicle.specs.Values.{IsActValue, IsOpValue};
 ghost use Rattle.hex.specs.Hex.{IsBytes};
 
 use crate::append::{append_body, append_count, append_number, append_two, append_word};
-use bean_queue::{Body, Op};
+use bean_queue::{Body, Name, Op};
 use object::Act;
 use std::alloc::AllocError;
 
@@ -57,6 +58,7 @@ fn append_op(op: &Op, out: &mut Vec<u8>) -> Result<(), AllocError>
         Op::ListTubes => append_word(b"list-tubes", out),
         Op::ListTubeUsed => append_word(b"list-tube-used", out),
         Op::ListTubesWatched => append_word(b"list-tubes-watched", out),
+        Op::Pause { tube, seconds } => append_pause(tube, *seconds, out),
     }
 }
 
@@ -98,4 +100,15 @@ fn append_bury(id: u64, pri: u32, out: &mut Vec<u8>) -> Result<(), AllocError>
 {
     append_count(b"bury", id, out)?;
     append_number(pri as u64, out)
+}
+
+/// A pause of a tube, with its seconds.
+fn append_pause(tube: &Name, seconds: u32, out: &mut Vec<u8>) -> Result<(), AllocError>
+    ensures ok { OnOk result (out.new.items ≡ out.old.items ++
+        spaced (codes "pause-tube" ∷ tube.now ∷ decimal seconds ∷ [])) }
+    ensures front { take (vec_len out.old) out.new.items ≡ out.old.items }
+    ensures value { OnOk result (IsName tube.now) }
+{
+    append_two(b"pause-tube", tube.as_slice(), out)?;
+    append_number(seconds as u64, out)
 }

@@ -33,6 +33,7 @@ pub fn append_reply(reply: &Reply, out: &mut Vec<u8>) -> Result<(), AllocError>
         Reply::Kicked => append_word(b"KICKED", out),
         Reply::Found { id, body } => append_job(b"FOUND", *id, body.as_slice(), out),
         Reply::Tubes(names) => append_tubes(names.as_slice(), out),
+        Reply::Paused => append_word(b"PAUSED", out),
         Reply::InternalError => append_word(b"INTERNAL_ERROR", out),
     }
 }

@@ -61,6 +61,8 @@ fn lone_reply(word: &[u8]) -> Option<Reply>
         Some(Reply::Touched)
     } else if word == b"KICKED".as_slice() {
         Some(Reply::Kicked)
+    } else if word == b"PAUSED".as_slice() {
+        Some(Reply::Paused)
     } else if word == b"INTERNAL_ERROR".as_slice() {
         Some(Reply::InternalError)
     } else {
