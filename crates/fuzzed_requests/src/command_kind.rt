@@ -25,6 +25,7 @@ pub enum CommandKind {
     ListTubes,
     ListTubeUsed,
     ListTubesWatched,
+    PauseTube,
 }
 
 // What stands behind a command's word.
@@ -37,10 +38,11 @@ enum Argument {
     Timeout,
     Bound,
     Name,
+    Pause,
 }
 
 // From these one is drawn.
-static DRAWN: [CommandKind; 24] = [
+static DRAWN: [CommandKind; 25] = [
     CommandKind::Put,
     CommandKind::Put,
     CommandKind::Put,
@@ -65,6 +67,7 @@ static DRAWN: [CommandKind; 24] = [
     CommandKind::ListTubes,
     CommandKind::ListTubeUsed,
     CommandKind::ListTubesWatched,
+    CommandKind::PauseTube,
 ];
 
 impl CommandKind {
@@ -92,6 +95,7 @@ impl CommandKind {
             CommandKind::ListTubes => "list-tubes",
             CommandKind::ListTubeUsed => "list-tube-used",
             CommandKind::ListTubesWatched => "list-tubes-watched",
+            CommandKind::PauseTube => "pause-tube",
         }
     }
 
@@ -106,6 +110,7 @@ impl CommandKind {
             CommandKind::Release => &[Argument::Id, Argument::Priority, Argument::Delay],
             CommandKind::Bury => &[Argument::Id, Argument::Priority],
             CommandKind::Kick => &[Argument::Bound],
+            CommandKind::PauseTube => &[Argument::Name, Argument::Pause],
             _ => &[],
         }
     }
@@ -126,6 +131,7 @@ impl CommandKind {
             CommandKind::Bury => &[Head::Buried, Head::NotFound],
             CommandKind::Kick => &[Head::KickedCount],
             CommandKind::KickJob => &[Head::Kicked, Head::NotFound],
+            CommandKind::PauseTube => &[Head::Paused, Head::NotFound],
             CommandKind::ListTubes | CommandKind::ListTubesWatched => &[Head::Tubes],
             _ => &[Head::Found, Head::NotFound],
         }
@@ -172,6 +178,7 @@ impl Argument {
             Argument::Timeout => draws.pick(&["0", "0", "1", "2"]),
             Argument::Bound => draws.pick(&["0", "1", "2", "10", "4294967295"]),
             Argument::Name => draws.pick(&["a", "b", "default", "a-+/;.$_()9", "Z"]),
+            Argument::Pause => draws.pick(&["0", "00", "1", "2", "4294967295"]),
         }
     }
 }

@@ -22,6 +22,7 @@ pub enum Head {
     Found,
     /// `OK` with a list of tubes.
     Tubes,
+    Paused,
     BadFormat,
     UnknownCommand,
     ExpectedCrlf,

@@ -44,6 +44,7 @@ fn one_word(word: &str) -> Option<Head> {
         "BURIED" => Head::Buried,
         "TOUCHED" => Head::Touched,
         "KICKED" => Head::Kicked,
+        "PAUSED" => Head::Paused,
         "BAD_FORMAT" => Head::BadFormat,
         "UNKNOWN_COMMAND" => Head::UnknownCommand,
         "EXPECTED_CRLF" => Head::ExpectedCrlf,

@@ -6,7 +6,7 @@ use std::alloc::{AllocError, Global};
 // A text, and the heads of the replies that it is made of.
 type Row = (&'static [u8], Option<&'static [Head]>);
 
-static ROWS: [Row; 40] = [
+static ROWS: [Row; 41] = [
     (b"", Some(&[])),
     (b"INSERTED 1\r\n", Some(&[Head::Inserted])),
     (
@@ -40,6 +40,7 @@ static ROWS: [Row; 40] = [
         b"KICKED\r\nKICKED 0\r\n",
         Some(&[Head::Kicked, Head::KickedCount]),
     ),
+    (b"PAUSED\r\n", Some(&[Head::Paused])),
     (b"OK 8\r\n---\n- a\n\r\n", Some(&[Head::Tubes])),
     (b"OK 18\r\n---\n- default\n- a\n\r\n", Some(&[Head::Tubes])),
     (

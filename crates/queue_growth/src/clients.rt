@@ -1,6 +1,7 @@
 use bean_queue::{Body, Name, Op, Queue, Reply};
 use object::{Act, Answer, Command, Key, Object};
 use std::alloc::Global;
+use std::fmt::Write;
 
 /// A queue, and the sessions that use it.
 #[derive(Drop)]
@@ -62,6 +63,24 @@ impl Clients {
         self.ask(session, Op::Use(tube))
     }
 
+    /// A session uses the tube of this number, and puts a job into it.
+    pub fn put_into_other(&mut self, session: u32, number: u32) -> Option<()> {
+        let tube = self.other_tube(number)?;
+        self.ask(session, Op::Use(tube))?;
+        self.put(session)
+    }
+
+    /// A session pauses the tube of this number, for long.
+    pub fn pause_other(&mut self, session: u32, number: u32) -> Option<()> {
+        let tube = self.other_tube(number)?;
+        let pause = Op::Pause {
+            tube,
+            seconds: u32::MAX,
+        };
+        self.ask(session, pause)?;
+        self.expect(&Reply::Paused)
+    }
+
     /// A session watches the tube of this letter too.
     pub fn watch(&mut self, session: u32, letter: u8) -> Option<()> {
         let tube = self.tube(letter)?;
@@ -93,5 +112,12 @@ impl Clients {
     /// The name of the tube of this letter.
     fn tube(&self, letter: u8) -> Option<Name> {
         Name::new(self.alloc, &[letter]).ok()?
+    }
+
+    /// The name of the tube of this number: `other` and the number.
+    fn other_tube(&self, number: u32) -> Option<Name> {
+        let mut name = String::new(self.alloc);
+        write!(name, "other{number}").ok()?;
+        Name::new(self.alloc, name.as_bytes()).ok()?
     }
 }

@@ -1,7 +1,7 @@
 //! A queue with many jobs, and what its commands cost, for `bench/queue_growth`.
 //!
 //! It reads one line: `timed`, where it is to tell the processor time, or another word; how many jobs there are; and
-//! which measures it takes, as `timed 10000 serve release touch`. Each measure has a queue of its own. It writes a
+//! which measures it takes, as `timed 10000 serve beside paused release touch`. Each measure has a queue of its own. It writes a
 //! line after each part.
 #![tactic(auto)]
 
@@ -11,7 +11,7 @@ mod measures;
 
 use crate::clients::Clients;
 use crate::marks::Marks;
-use crate::measures::{release, serve, touch};
+use crate::measures::{release, serve, serve_beside, touch};
 use std::process::ExitCode;
 
 fn main(rt: HostRuntime) -> ExitCode {
@@ -32,7 +32,9 @@ fn run(rt: &HostRuntime) -> Option<()> {
     for measure in words {
         let mut clients = Clients::new(rt.alloc())?;
         match measure {
-            "serve" => serve(rt, marks, &mut clients, jobs)?,
+            "serve" => serve(rt, marks, &mut clients, jobs, 0)?,
+            "beside" => serve_beside(rt, marks, &mut clients, jobs, false)?,
+            "paused" => serve_beside(rt, marks, &mut clients, jobs, true)?,
             "release" => release(rt, marks, &mut clients, jobs)?,
             "touch" => touch(rt, marks, &mut clients, jobs)?,
             _ => return None,

@@ -18,6 +18,11 @@ const FIRST_WAITING: u32 = 1_000;
 
 const END_OF_WAITING: u32 = 2_000;
 
+/// So many tubes beside these have a job each, which a session of its own has put.
+const MORE_TUBES: u32 = 1_000;
+
+const PUTTER: u32 = 2;
+
 /// In so many seconds all jobs that are released are ready.
 const SECONDS: u32 = 100;
 
@@ -25,7 +30,14 @@ const SECONDS: u32 = 100;
 const TOUCHES: u32 = 1_000;
 
 /// So many jobs, in tens, are put into ten tubes, and then reserved and deleted one after another, while others wait.
-pub fn serve(rt: &HostRuntime, marks: Marks, clients: &mut Clients, jobs: u32) -> Option<()> {
+/// Before them so many ids were given.
+pub fn serve(
+    rt: &HostRuntime,
+    marks: Marks,
+    clients: &mut Clients,
+    jobs: u32,
+    given: u64,
+) -> Option<()> {
     let_others_wait(clients)?;
     for letter in TUBES {
         clients.use_tube(u32::from(letter), letter)?;
@@ -39,12 +51,30 @@ pub fn serve(rt: &HostRuntime, marks: Marks, clients: &mut Clients, jobs: u32) -
         }
     }
     marks.tell(rt, "put")?;
-    for id in 1..u64::from(tens) * 10 + 1 {
+    for job in 0..u64::from(tens) * 10 {
         clients.reserve(WORKER)?;
+        let id = given.checked_add(job)?.checked_add(1)?;
         clients.ask(WORKER, Op::Delete(id))?;
         clients.expect(&Reply::Deleted)?;
     }
     marks.tell(rt, "deleted")
+}
+
+/// The same, while a thousand tubes more have a job each, and are paused where that is asked for.
+pub fn serve_beside(
+    rt: &HostRuntime,
+    marks: Marks,
+    clients: &mut Clients,
+    jobs: u32,
+    are_paused: bool,
+) -> Option<()> {
+    for number in 0..MORE_TUBES {
+        clients.put_into_other(PUTTER, number)?;
+        if are_paused {
+            clients.pause_other(PUTTER, number)?;
+        }
+    }
+    serve(rt, marks, clients, jobs, u64::from(MORE_TUBES))
 }
 
 /// So many jobs that one session has are released with a delay, and then time goes on until all are ready.

@@ -8,8 +8,8 @@ pub fn read(alloc: Global, dump: &[u8]) -> Option<Chronicle<Op, Reply>> {
     read_text(alloc, dump).ok()
 }
 
-/// Sessions that reserve, lay aside, kick, delay, give back and delete jobs, use, watch and list tubes, wait, and end,
-/// while seconds pass.
+/// Sessions that reserve, lay aside, kick, delay, give back and delete jobs, use, watch, list and pause tubes, wait, and
+/// end, while seconds pass.
 pub const QUEUE: &[u8] = b"beanpax-dump 1
 members 1
 S 1 1 reserve
@@ -74,6 +74,24 @@ S 3 4 reserve
 S 4 1 reserve-with-timeout 1
 S 0 10 tick
 A 4 1 TIMED_OUT
+S 4 2 pause-tube default 3
+A 4 2 PAUSED
+S 4 3 put 0 0 9 63
+A 4 3 INSERTED 4
+S 4 4 pause-tube zz 3
+A 4 4 NOT_FOUND
+S 4 5 pause-tube default 2
+A 4 5 PAUSED
+S 0 12 tick
+A 3 4 RESERVED 4 63
+S 4 6 pause-tube default 9
+A 4 6 PAUSED
+S 4 7 put 0 0 9 64
+A 4 7 INSERTED 5
+S 4 8 reserve
+S 3 5 pause-tube default 0
+A 3 5 PAUSED
+A 4 8 RESERVED 5 64
 end
 ";
 

@@ -22,6 +22,7 @@ fn op_of(alloc: Global, words: &[&str]) -> Result<Op> {
         [word] => plain_op(word),
         [word, other] => short_op(alloc, word, other),
         ["bury", id, pri] => bury(id, pri),
+        ["pause-tube", tube, seconds] => pause(alloc, tube, seconds),
         ["release", id, pri, delay] => release(id, pri, delay),
         ["put", pri, delay, ttr, body] => put(alloc, pri, delay, ttr, body),
         _ => bail!("no such operation"),
@@ -76,6 +77,13 @@ fn bury(id: &str, pri: &str) -> Result<Op> {
     })
 }
 
+fn pause(alloc: Global, tube: &str, seconds: &str) -> Result<Op> {
+    Ok(Op::Pause {
+        tube: name_of(alloc, tube)?,
+        seconds: small(seconds)?,
+    })
+}
+
 fn release(id: &str, pri: &str, delay: &str) -> Result<Op> {
     Ok(Op::Release {
         id: large(id)?,
@@ -120,6 +128,7 @@ fn plain_reply(reply: &Reply) -> &'static str {
         Reply::Buried => "BURIED",
         Reply::Touched => "TOUCHED",
         Reply::Kicked => "KICKED",
+        Reply::Paused => "PAUSED",
         Reply::InternalError => "INTERNAL_ERROR",
         _ => "more than a word",
     }

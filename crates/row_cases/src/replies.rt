@@ -85,6 +85,7 @@ fn plain_reply_of(word: &str) -> Result<Reply> {
         "BURIED" => Ok(Reply::Buried),
         "TOUCHED" => Ok(Reply::Touched),
         "KICKED" => Ok(Reply::Kicked),
+        "PAUSED" => Ok(Reply::Paused),
         "INTERNAL_ERROR" => Ok(Reply::InternalError),
         _ => bail!("no such reply"),
     }

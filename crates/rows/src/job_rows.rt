@@ -5,7 +5,7 @@ use indexmap::IndexSet;
 use job_store::{Body, Job, JobMap, Jobs, Name, State};
 use object::Value;
 use std::alloc::{AllocError, Global};
-use std::collections::BTreeSet;
+use std::collections::{BTreeMap, BTreeSet};
 use std::test::Fail;
 
 /// The id, the priority and the state of a job.
@@ -49,6 +49,8 @@ enum LookUp {
     BestReadyOfNone,
     /// For one who watches the tube.
     BestReady,
+    /// For one who watches the tube, which is paused.
+    BestReadyWherePaused,
     FirstReady,
     FirstDelayed,
     FirstBuried,
@@ -64,6 +66,12 @@ fn only(alloc: Global, tube: &Name) -> Result<IndexSet<Name>, AllocError> {
     Ok(tubes)
 }
 
+fn paused(alloc: Global, tube: &Name) -> Result<BTreeMap<Name, u64>, AllocError> {
+    let mut seconds = BTreeMap::new(alloc);
+    seconds.insert(tube.copy()?, 9)?;
+    Ok(seconds)
+}
+
 fn id_of(found: Option<(u64, &Job)>) -> Option<u64> {
     found.map(|(id, _)| id)
 }
@@ -76,8 +84,11 @@ fn found<M: JobMap>(
     look_up: &LookUp,
 ) -> Result<Option<u64>, AllocError> {
     Ok(id_of(match look_up {
-        LookUp::BestReadyOfNone => jobs.best_ready(&IndexSet::new(alloc)),
-        LookUp::BestReady => jobs.best_ready(&only(alloc, tube)?),
+        LookUp::BestReadyOfNone => { jobs.best_ready(&IndexSet::new(alloc), &BTreeMap::new(alloc)) }
+        LookUp::BestReady => jobs.best_ready(&only(alloc, tube)?, &BTreeMap::new(alloc)),
+        LookUp::BestReadyWherePaused => {
+            jobs.best_ready(&only(alloc, tube)?, &paused(alloc, tube)?)
+        }
         LookUp::FirstReady => jobs.first_ready(tube),
         LookUp::FirstDelayed => jobs.first_delayed(tube),
         LookUp::FirstBuried => jobs.first_buried(tube),
@@ -98,9 +109,10 @@ static STORED: [Row; 8] = [
 ];
 
 /// Look-ups in the stored jobs, and the ids that they find.
-static FOUND: [(LookUp, Option<u64>); 9] = [
+static FOUND: [(LookUp, Option<u64>); 10] = [
     (LookUp::BestReadyOfNone, None),
     (LookUp::BestReady, Some(2)),
+    (LookUp::BestReadyWherePaused, None),
     (LookUp::FirstReady, Some(2)),
     (LookUp::FirstDelayed, Some(5)),
     (LookUp::FirstBuried, Some(8)),

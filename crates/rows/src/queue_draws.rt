@@ -68,11 +68,12 @@ impl Draws {
     }
 
     fn tube_op(&mut self, alloc: Global) -> Result<Op, Fail> {
-        let tube = self.tube(alloc)?;
-        Ok(match self.below(3) {
+        let (tube, seconds) = (self.tube(alloc)?, self.seconds());
+        Ok(match self.below(4) {
             0 => Op::Use(tube),
             1 => Op::Watch(tube),
-            _ => Op::Ignore(tube),
+            2 => Op::Ignore(tube),
+            _ => Op::Pause { tube, seconds },
         })
     }
 

@@ -6,35 +6,70 @@ use std::test::Fail;
 use std::thread;
 use std::time::{Duration, Instant};
 
-/// How long it takes from the instant before the server's start until a client's wait of three seconds is over.
-fn waited<H: Host>(rt: &H, port: u16, before: Instant) -> Option<Duration> {
-    let mut client = Client::connect(rt, port)?;
-    if !client.is_told(b"reserve-with-timeout 3\r\n", b"TIMED_OUT\r\n") {
-        return None;
+/// What a client asks, and what it has to be told.
+#[derive(Clone, Copy)]
+struct Talk {
+    requests: &'static [u8],
+    replies: &'static [u8],
+}
+
+/// How long it takes from the instant before the server's start until clients, one after another, have been told this.
+fn waited<H: Host>(rt: &H, port: u16, before: Instant, talks: &[Talk]) -> Option<Duration> {
+    for talk in talks {
+        let mut client = Client::connect(rt, port)?;
+        if !client.is_told(talk.requests, talk.replies) {
+            return None;
+        }
     }
     before.elapsed(rt).ok()
+}
+
+/// Whether a server's only clients are told this, the last one with the server's third second at the earliest.
+fn takes_three_seconds<H: Host>(rt: &H, talks: &[Talk]) -> Result<bool, Fail> {
+    let _sockets = no_sockets();
+    let port = free_port(rt)?;
+    let sessions = talks.len();
+    let line = format!(in rt.alloc(); "serve --sessions {sessions} --nodes 1 --port {port}")?;
+    let words = words(rt.alloc(), line.as_str())?;
+    let before = Instant::now(rt)?;
+    let (ended, waited) = thread::join(
+        rt,
+        || {
+            let _sockets = no_sockets();
+            start(rt, words.as_slice())
+        },
+        || {
+            let _sockets = no_sockets();
+            waited(rt, port, before, talks)
+        },
+    );
+    // However late the clock's thread runs, a second isn't told before it has passed.
+    let is_in_time = waited.is_some_and(|waited| waited >= Duration::from_secs(3));
+    Ok(is_in_time && ended.status == 0)
 }
 
 #[test]
 fn three_seconds_are_three_of_the_clock(rt: HostRuntime) -> Result<(), Fail> {
     let _sockets = no_sockets();
-    let port = free_port(&rt)?;
-    let line = format!(in rt.alloc(); "serve --sessions 1 --nodes 1 --port {port}")?;
-    let words = words(rt.alloc(), line.as_str())?;
-    let before = Instant::now(&rt)?;
-    let (ended, waited) = thread::join(
-        &rt,
-        || {
-            let _sockets = no_sockets();
-            start(&rt, words.as_slice())
-        },
-        || {
-            let _sockets = no_sockets();
-            waited(&rt, port, before)
-        },
-    );
-    // The wait ends with the server's third second at the earliest, however late the clock's thread runs.
-    assert!(rt; waited.is_some_and(|waited| waited >= Duration::from_secs(3)));
-    assert_eq!(rt; ended.status, 0);
+    let waits = Talk {
+        requests: b"reserve-with-timeout 3\r\n",
+        replies: b"TIMED_OUT\r\n",
+    };
+    assert!(rt; takes_three_seconds(&rt, &[waits])?);
+    Ok(())
+}
+
+#[test]
+fn a_pause_of_three_seconds_is_three_of_the_clock(rt: HostRuntime) -> Result<(), Fail> {
+    let _sockets = no_sockets();
+    let pauses = Talk {
+        requests: b"put 0 0 9 1\r\na\r\npause-tube default 3\r\n",
+        replies: b"INSERTED 1\r\nPAUSED\r\n",
+    };
+    let waits = Talk {
+        requests: b"reserve\r\n",
+        replies: b"RESERVED 1 1\r\na\r\n",
+    };
+    assert!(rt; takes_three_seconds(&rt, &[pauses, waits])?);
     Ok(())
 }
