@@ -24,52 +24,69 @@ fn waited<H: Host>(rt: &H, port: u16, before: Instant, talks: &[Talk]) -> Option
     before.elapsed(rt).ok()
 }
 
-/// Whether a server's only clients are told this, the last one with the server's third second at the earliest.
-fn takes_three_seconds<H: Host>(rt: &H, talks: &[Talk]) -> Result<bool, Fail> {
-    let _sockets = no_sockets();
-    let port = free_port(rt)?;
-    let sessions = talks.len();
-    let line = format!(in rt.alloc(); "serve --sessions {sessions} --nodes 1 --port {port}")?;
-    let words = words(rt.alloc(), line.as_str())?;
-    let before = Instant::now(rt)?;
-    let (ended, waited) = thread::join(
-        rt,
-        || {
-            let _sockets = no_sockets();
-            start(rt, words.as_slice())
-        },
-        || {
-            let _sockets = no_sockets();
-            waited(rt, port, before, talks)
-        },
-    );
-    // However late the clock's thread runs, a second isn't told before it has passed.
-    let is_in_time = waited.is_some_and(|waited| waited >= Duration::from_secs(3));
-    Ok(is_in_time && ended.status == 0)
+/// Whether it took three seconds at least, and the server ended well.
+///
+/// However late the clock's thread runs, a second isn't told before it has passed.
+fn is_in_time(waited: Option<Duration>, status: u8) -> bool {
+    waited.is_some_and(|waited| waited >= Duration::from_secs(3)) && status == 0
 }
+
+const WAITS: [Talk; 1] = [Talk {
+    requests: b"reserve-with-timeout 3\r\n",
+    replies: b"TIMED_OUT\r\n",
+}];
 
 #[test]
 fn three_seconds_are_three_of_the_clock(rt: HostRuntime) -> Result<(), Fail> {
     let _sockets = no_sockets();
-    let waits = Talk {
-        requests: b"reserve-with-timeout 3\r\n",
-        replies: b"TIMED_OUT\r\n",
-    };
-    assert!(rt; takes_three_seconds(&rt, &[waits])?);
+    let port = free_port(&rt)?;
+    let line = format!(in rt.alloc(); "serve --sessions 1 --nodes 1 --port {port}")?;
+    let words = words(rt.alloc(), line.as_str())?;
+    let before = Instant::now(&rt)?;
+    let (ended, waited) = thread::join(
+        &rt,
+        || {
+            let _sockets = no_sockets();
+            start(&rt, words.as_slice())
+        },
+        || {
+            let _sockets = no_sockets();
+            waited(&rt, port, before, &WAITS)
+        },
+    );
+    assert!(rt; is_in_time(waited, ended.status));
     Ok(())
 }
+
+const PAUSES: [Talk; 2] = [
+    Talk {
+        requests: b"put 0 0 9 1\r\na\r\npause-tube default 3\r\n",
+        replies: b"INSERTED 1\r\nPAUSED\r\n",
+    },
+    Talk {
+        requests: b"reserve\r\n",
+        replies: b"RESERVED 1 1\r\na\r\n",
+    },
+];
 
 #[test]
 fn a_pause_of_three_seconds_is_three_of_the_clock(rt: HostRuntime) -> Result<(), Fail> {
     let _sockets = no_sockets();
-    let pauses = Talk {
-        requests: b"put 0 0 9 1\r\na\r\npause-tube default 3\r\n",
-        replies: b"INSERTED 1\r\nPAUSED\r\n",
-    };
-    let waits = Talk {
-        requests: b"reserve\r\n",
-        replies: b"RESERVED 1 1\r\na\r\n",
-    };
-    assert!(rt; takes_three_seconds(&rt, &[pauses, waits])?);
+    let port = free_port(&rt)?;
+    let line = format!(in rt.alloc(); "serve --sessions 2 --nodes 1 --port {port}")?;
+    let words = words(rt.alloc(), line.as_str())?;
+    let before = Instant::now(&rt)?;
+    let (ended, waited) = thread::join(
+        &rt,
+        || {
+            let _sockets = no_sockets();
+            start(&rt, words.as_slice())
+        },
+        || {
+            let _sockets = no_sockets();
+            waited(&rt, port, before, &PAUSES)
+        },
+    );
+    assert!(rt; is_in_time(waited, ended.status));
     Ok(())
 }
