@@ -23,5 +23,3 @@ mod narrow;
 mod served_rows;
 #[cfg(test)]
 mod soak_rows;
-#[cfg(test)]
-mod weighted_rows;

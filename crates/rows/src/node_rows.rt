@@ -8,7 +8,7 @@ use std::test::Fail;
 
 /// A command of these rows.
 #[derive(Clone, Copy, Debug, PartialEq, Eq)]
-pub(crate) enum Token {
+enum Token {
     X,
     Y,
 }

@@ -6,7 +6,9 @@ use Rattle.beanpax.proofs.words.server_of.Goals as goal
 pub returns : goal.returns
 returns c = record {
   port = c.port_of.ensures;
-  members = c.requires;
+  nodes = c.nodes_of.ensures.nodes;
+  some_nodes = c.nodes_of.ensures.some;
+  few_nodes = c.nodes_of.ensures.few;
   workers = c.workers_of.ensures.workers;
   some_workers = c.workers_of.ensures.some;
   few_workers = c.workers_of.ensures.few;
