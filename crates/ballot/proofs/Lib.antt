@@ -1,5 +1,6 @@
 pub mod Majorities
 pub mod Weights
+pub mod WeightRows
 pub mod Sending
 pub mod Lending
 pub mod SlotMaps

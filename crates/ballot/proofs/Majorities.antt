@@ -12,10 +12,10 @@ Shared ws a b = (i : ℕ) × (slice_index_or a i false ≡ true) × (slice_index
 deeper : (w : ℕ) (ws : List ℕ) (x y : Bool) (a b : List Bool) → Shared ws a b → Shared (w ∷ ws) (x ∷ a) (y ∷ b)
 deeper w ws x y a b s = let h = s.3 in (suc s.0, s.1, s.2, omega arith)
 
-sum-cons : (w : ℕ) (ws : List ℕ) → sum (w ∷ ws) ≡ w + sum ws
+pub sum-cons : (w : ℕ) (ws : List ℕ) → sum (w ∷ ws) ≡ w + sum ws
 sum-cons w ws = sum_by-cons (λ x. x) w ws
 
-weigh-le : (ws : List ℕ) (a : List Bool) → weigh ws a ≤ sum ws
+pub weigh-le : (ws : List ℕ) (a : List Bool) → weigh ws a ≤ sum ws
 weigh-le [] a = omega arith
 weigh-le (w ∷ ws) [] = omega arith
 weigh-le (w ∷ ws) (true ∷ a) = let h = weigh-le ws a in omega (arith, sum-cons w ws)

@@ -1,7 +1,7 @@
 pub mod Ballots
 pub mod Members
 pub mod Letters
-pub mod Ones
+pub mod WeightRows
 pub mod Exact
 pub mod BallotOrder
 pub mod PvalueLaws

@@ -1,4 +1,4 @@
-ghost use Rattle.std.specs.Prelude.{◌≡◌, ◌≤◌, count_by, take};
+ghost use Rattle.std.specs.Prelude.{◌≡◌};
 ghost use Rattle.ballot.specs.Members.{nobody, has, add};
 
 use std::marker::Model;
@@ -44,13 +44,5 @@ impl MemberSet {
         if let 1..=7 = node {
             self.row[node as usize - 1] = true;
         }
-    }
-
-    /// How many of the nodes 1 to `last` are in the set.
-    pub(crate) fn count_up_to(&self, last: u8) -> u8
-        requires { last ≤ 7 }
-        ensures { result ≡ count_by (λ b. b) (take last self.now) }
-    {
-        self.row[..last as usize].iter().filter(|b| **b).count() as u8
     }
 }

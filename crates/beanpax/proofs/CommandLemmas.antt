@@ -1,5 +1,5 @@
 -- A command line in which clap finds no error names one of the program's commands, and not `help`.
-use Rattle.std.proofs.Common.{◌≡◌, ◌≢◌, ◌⊎◌, inl, inr, ◌∙◌, ◌&&◌, ◌||◌, ℕ, Bool, true, false, not, List, [], ◌∷◌, Option, None, Some, is_some, if◌then◌else◌, option_map, codes, refl, sym, ap, ap₂, subst}
+use Rattle.std.proofs.Common.{◌≡◌, ◌≢◌, ◌⊎◌, inl, inr, ◌∙◌, ◌&&◌, ◌||◌, ℕ, Bool, true, false, not, List, [], ◌∷◌, Option, None, Some, is_some, if◌then◌else◌, option_map, codes, refl, sym, ap, ap₂, subst, ◌^◌, ◌-◌}
 use Rattle.std.specs.Prelude.{option_and_then, find, fold, cond}
 use Rattle.std.specs.Bool.{⊤}
 use Rattle.std.specs.Str.{bytes_eq}
@@ -19,7 +19,11 @@ use Rattle.clap.specs.declared.parser.matches.ArgMatches.TheViews.{out-ArgMatche
 use Rattle.clap.specs.declared.parser.matches.Found.{Found}
 use Rattle.clap.proofs.OnLiterals.{clap_on_literals}
 use Rattle.clap.proofs.WalkLemmas.{first_value-rows, one_text-rows}
-use Rattle.beanpax.specs.Words.{IsNumberIfGiven, IsNumberOr, IsServerOf, command_given, errors_in, program_command, run_command, serve_command, inspect_command, text_given, word_given}
+use Rattle.beanpax.specs.Numbers.{IsNumberIfGiven, IsNumberOr}
+use Rattle.beanpax.specs.Weights.{AreMembersOf}
+use Rattle.beanpax.specs.declared.words.Asked.{Asked}
+use Rattle.beanpax.specs.declared.words.Asked.TheVariants.{Run, Serve, Inspect, BadWeights, Help, Wrong}
+use Rattle.beanpax.specs.Words.{AskFor, AskForRun, IsAskedBy, IsRunOf, IsServeOf, IsServerOf, command_given, errors_in, program_command, run_command, serve_command, inspect_command, text_given, word_given}
 use Rattle.beanpax.specs.declared.words.ServerOptions.{ServerOptions}
 use Rattle.beanpax.proofs.WordsLemmas.{is_simple-program_command}
 
@@ -217,14 +221,15 @@ pub word_given-of : (words : List Text) (m : ArgMatches) (f : Found) → subcomm
 unfolding word_given
 word_given-of words m f met rows id = first_value-rows f id ∙ sym (read_of (first_of id) _ (rows_of f) (ap (option_map (λ p. p.1)) (sym met) ∙ rows))
 
+pub members_same : (number other weights another : Option (List ℕ)) (members : Option (List ℕ)) → number ≡ other → weights ≡ another → AreMembersOf number weights members → AreMembersOf other another members
+members_same number other weights another members n w is = subst (λ (v : Option (List ℕ)). AreMembersOf other v members) w (subst (λ (m : Option (List ℕ)). AreMembersOf m weights members) n is)
+
 -- the options by one reading of the words are those by another that gives the same
 pub server_same : (text other word another : List ℕ → Option (List ℕ)) → ((id : List ℕ) → text id ≡ other id) → ((id : List ℕ) → word id ≡ another id)
     → (options : ServerOptions) → IsServerOf text word options → IsServerOf other another options
 server_same text other word another texts words options is = record {
   port = subst (λ t. IsNumberOr 11300 1 65535 t options.port) (texts (codes "port")) is.port;
-  nodes = subst (λ t. IsNumberOr 3 1 7 t options.nodes) (texts (codes "nodes")) is.nodes;
-  some_nodes = is.some_nodes;
-  few_nodes = is.few_nodes;
+  members = members_same (text (codes "nodes")) (other (codes "nodes")) (word (codes "weights")) (another (codes "weights")) (Some options.members) (texts (codes "nodes")) (words (codes "weights")) is.members;
   workers = subst (λ t. IsNumberOr 4 1 64 t options.workers) (texts (codes "workers")) is.workers;
   some_workers = is.some_workers;
   few_workers = is.few_workers;
@@ -244,3 +249,44 @@ meets_one words m none met some no_run no_serve no_inspect = go (subcommand_name
       | inr (inl n) ↦ no_serve (e ∙ ap (λ x. Some x) n)
       | inr (inr n) ↦ no_inspect (e ∙ ap (λ x. Some x) n)
     ]
+
+-- a run by one reading of the words is one by another that gives the same
+pub run_same : (text other word another : List ℕ → Option (List ℕ)) → ((id : List ℕ) → text id ≡ other id) → ((id : List ℕ) → word id ≡ another id)
+    → (asked : Asked) → IsRunOf text word asked → IsRunOf other another asked
+run_same text other word another texts words (Run members seed) is = (
+  members_same _ _ _ _ (Some members) (texts (codes "nodes")) (words (codes "weights")) is.0,
+  subst (λ t. IsNumberOr 0 0 (2 ^ 64 - 1) t seed) (texts (codes "seed")) is.1,
+)
+run_same text other word another texts words BadWeights is = members_same _ _ _ _ None (texts (codes "nodes")) (words (codes "weights")) is
+run_same text other word another texts words (Serve options) is = absurd is
+run_same text other word another texts words (Inspect file) is = absurd is
+run_same text other word another texts words (Help told) is = absurd is
+run_same text other word another texts words (Wrong told) is = absurd is
+
+-- and so is a server
+pub serve_same : (text other word another : List ℕ → Option (List ℕ)) → ((id : List ℕ) → text id ≡ other id) → ((id : List ℕ) → word id ≡ another id)
+    → (asked : Asked) → IsServeOf text word asked → IsServeOf other another asked
+serve_same text other word another texts words (Serve options) is = server_same text other word another texts words options is
+serve_same text other word another texts words BadWeights is = members_same _ _ _ _ None (texts (codes "nodes")) (words (codes "weights")) is
+serve_same text other word another texts words (Run members seed) is = absurd is
+serve_same text other word another texts words (Inspect file) is = absurd is
+serve_same text other word another texts words (Help told) is = absurd is
+serve_same text other word another texts words (Wrong told) is = absurd is
+
+-- what a run is asked of words that name it
+pub run_asked : (words : List Text) → AskForRun words → (asked : Asked) → IsRunOf (text_given words) (word_given words) asked → IsAskedBy words asked
+run_asked words run (Run members seed) is = (run, is)
+run_asked words run BadWeights is = (run.0, is)
+run_asked words run (Serve options) is = absurd is
+run_asked words run (Inspect file) is = absurd is
+run_asked words run (Help told) is = absurd is
+run_asked words run (Wrong told) is = absurd is
+
+-- what a server is asked of words that name it
+pub serve_asked : (words : List Text) → AskFor (codes "serve") words → (asked : Asked) → IsServeOf (text_given words) (word_given words) asked → IsAskedBy words asked
+serve_asked words serve (Serve options) is = (serve, is)
+serve_asked words serve BadWeights is = (serve.0, is)
+serve_asked words serve (Run members seed) is = absurd is
+serve_asked words serve (Inspect file) is = absurd is
+serve_asked words serve (Help told) is = absurd is
+serve_asked words serve (Wrong told) is = absurd is

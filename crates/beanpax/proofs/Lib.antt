@@ -1,5 +1,6 @@
 pub mod WordsLemmas
 pub mod CommandLemmas
+pub mod WeightWords
 pub mod Whole
 pub mod Beginnings
 pub mod Obeyed

@@ -6,7 +6,8 @@ use Rattle.clap.specs.declared.error.Error.{Error}
 use Rattle.clap.specs.declared.error.kind.ErrorKind.{ErrorKind}
 use Rattle.clap.specs.declared.error.kind.ErrorKind.TheVariants.{OutOfMemory}
 use Rattle.clap.proofs.OnLiterals.{clap_on_literals}
-use Rattle.beanpax.specs.Words.{IsNumberOr, IsNumberIfGiven, Writes, errors_in, program_command, run_command, serve_command, inspect_command}
+use Rattle.beanpax.specs.Numbers.{IsNumberOr, IsNumberIfGiven, Writes}
+use Rattle.beanpax.specs.Words.{errors_in, program_command, run_command, serve_command, inspect_command}
 
 pub is_simple-program_command : is_simple program_command ≡ true
 unfolding program_command run_command serve_command inspect_command clap_on_literals

@@ -3,6 +3,8 @@ pub mod Sessions
 pub mod Told
 pub mod Simulations
 pub mod Runs
+pub mod Numbers
+pub mod Weights
 pub mod Words
 pub mod Servers
 pub mod Verdicts

@@ -1,17 +1,22 @@
 -- What the words of a command line ask for.
 use Rattle.std.specs.Prelude.{◌≡◌, ◌≢◌, ◌≤◌, ◌^◌, ◌-◌, ℕ, pos, true, List, [], Option, None, Some, codes, option_map, option_and_then, string_bytes, unwrap_or}
-use Rattle.std.specs.Str.Parse.{IsNumeral, digits_value, without_leading_plus}
 use Rattle.clap.specs.Words.{App, Rule, IsAmong, Kinds, fault_of, first_of, new_app, new_rule, one_of, subcommand_of, with_rule, with_subcommand}
 use Rattle.clap.specs.declared.builder.value_parser.ValueParser.TheVariants as parser
 use Rattle.clap.specs.declared.error.kind.ErrorKind.{ErrorKind}
 use Rattle.clap.specs.declared.error.kind.ErrorKind.TheVariants.{DisplayHelp}
 use Rattle.beanpax.specs.declared.words.Asked.{Asked}
-use Rattle.beanpax.specs.declared.words.Asked.TheVariants.{Run, Serve, Inspect, Help, Wrong}
+use Rattle.beanpax.specs.declared.words.Asked.TheVariants.{Run, Serve, Inspect, BadWeights, Help, Wrong}
 use Rattle.beanpax.specs.declared.words.ServerOptions.{ServerOptions}
+use Rattle.beanpax.specs.Numbers.{IsNumberOr, IsNumberIfGiven}
+use Rattle.beanpax.specs.Weights.{AreMembersOf}
 
 -- `--nodes N`, where N is 1 to 7
 abbrev pub nodes_option : Rule
 nodes_option = record (new_rule (codes "nodes")) { long = Some (codes "nodes"); value_names = 1; parser = Some (parser.Signed (pos 1) (pos 7)) }
+
+-- `--weights W1,W2,..`, which are read by themselves
+abbrev pub weights_option : Rule
+weights_option = record (new_rule (codes "weights")) { long = Some (codes "weights"); value_names = 1 }
 
 -- `--seed S`, where S is any number of 64 bits
 abbrev pub seed_option : Rule
@@ -39,12 +44,13 @@ file_argument = record (new_rule (codes "file")) { value_names = 1; required = t
 
 -- `run` with its options
 unfoldable pub run_command : App
-run_command = with_rule (with_rule (new_app (codes "run")) nodes_option) seed_option
+run_command = with_rule (with_rule (with_rule (new_app (codes "run")) nodes_option) weights_option) seed_option
 
 -- `serve` with its options
 unfoldable pub serve_command : App
 serve_command =
-    with_rule (with_rule (with_rule (with_rule (with_rule (new_app (codes "serve")) port_option) nodes_option) workers_option) sessions_option) dump_option
+    let nodes = with_rule (with_rule (with_rule (new_app (codes "serve")) port_option) nodes_option) weights_option in
+    with_rule (with_rule (with_rule nodes workers_option) sessions_option) dump_option
 
 -- `inspect` with its file
 unfoldable pub inspect_command : App
@@ -73,31 +79,28 @@ text_given words option = option_and_then (λ command. one_of option command.1) 
 unfoldable pub word_given : List (List ℕ) → List ℕ → Option (List ℕ)
 word_given words option = option_and_then (λ command. first_of option command.1) (subcommand_of program_command words)
 
--- the text writes this number: in digits, with any zeros and perhaps a plus in front
-abbrev pub Writes : List ℕ → ℕ → Type 0
-Writes text n = IsNumeral 10 (without_leading_plus text) × (digits_value 10 (without_leading_plus text) ≡ n)
-
--- the number from least to most that the text writes, or the default where there is no text
-abbrev pub IsNumberOr : ℕ → ℕ → ℕ → Option (List ℕ) → ℕ → Type 0
-IsNumberOr default least most None n = n ≡ default
-IsNumberOr default least most (Some text) n = (m : ℕ) → least ≤ m → m ≤ most → Writes text m → n ≡ m
-
--- the number from least to most that the text writes, or none where there is no text
-abbrev pub IsNumberIfGiven : ℕ → ℕ → Option (List ℕ) → Option ℕ → Type 0
-IsNumberIfGiven least most None n = n ≡ None
-IsNumberIfGiven least most (Some text) n = (m : ℕ) → least ≤ m → m ≤ most → Writes text m → n ≡ Some m
-
 -- what a server is to do, by the texts of its options: those from which numbers are read, and those that are taken as they stand
 pub record IsServerOf (text word : List ℕ → Option (List ℕ)) (options : ServerOptions) : Type 0 where
   pub port : IsNumberOr 11300 1 65535 (text (codes "port")) options.port
-  pub nodes : IsNumberOr 3 1 7 (text (codes "nodes")) options.nodes
-  pub some_nodes : 1 ≤ options.nodes
-  pub few_nodes : options.nodes ≤ 7
+  pub members : AreMembersOf (text (codes "nodes")) (word (codes "weights")) (Some options.members)
   pub workers : IsNumberOr 4 1 64 (text (codes "workers")) options.workers
   pub some_workers : 1 ≤ options.workers
   pub few_workers : options.workers ≤ 64
   pub sessions : IsNumberIfGiven 1 1000000 (text (codes "sessions")) options.sessions
   pub dump : option_map (λ file. file.now) options.dump ≡ word (codes "dump")
+
+-- a run, by the texts of its options, unless the weights are bad
+abbrev pub IsRunOf : (List ℕ → Option (List ℕ)) → (List ℕ → Option (List ℕ)) → Asked → Type 0
+IsRunOf text word (Run members seed) =
+    AreMembersOf (text (codes "nodes")) (word (codes "weights")) (Some members) × IsNumberOr 0 0 (2 ^ 64 - 1) (text (codes "seed")) seed
+IsRunOf text word BadWeights = AreMembersOf (text (codes "nodes")) (word (codes "weights")) None
+IsRunOf text word _ = ⊥
+
+-- a server, by the texts of its options, unless the weights are bad
+abbrev pub IsServeOf : (List ℕ → Option (List ℕ)) → (List ℕ → Option (List ℕ)) → Asked → Type 0
+IsServeOf text word (Serve options) = IsServerOf text word options
+IsServeOf text word BadWeights = AreMembersOf (text (codes "nodes")) (word (codes "weights")) None
+IsServeOf text word _ = ⊥
 
 -- nothing is wrong with the words, and they name this command
 abbrev pub AskFor : List ℕ → List (List ℕ) → Type 0
@@ -127,12 +130,15 @@ AskForHelp words = IsAmong DisplayHelp (errors_in words)
 abbrev pub AreWrong : List (List ℕ) → Type 0
 AreWrong words = (kind : ErrorKind) × (kind ≢ DisplayHelp) × IsAmong kind (errors_in words)
 
+-- nothing is wrong with the words but the weights, which are outside their rule or stand beside a number of nodes
+abbrev pub HaveBadWeights : List (List ℕ) → Type 0
+HaveBadWeights words = (errors_in words ≡ []) × AreMembersOf (text_given words (codes "nodes")) (word_given words (codes "weights")) None
+
 -- this is what the words ask for; the help, and what is wrong with them, is some text
 abbrev pub IsAskedBy : List (List ℕ) → Asked → Type 0
-IsAskedBy words (Run nodes seed) =
-    AskForRun words × (1 ≤ nodes) × (nodes ≤ 7) ×
-    IsNumberOr 3 1 7 (text_given words (codes "nodes")) nodes × IsNumberOr 0 0 (2 ^ 64 - 1) (text_given words (codes "seed")) seed
+IsAskedBy words (Run members seed) = AskForRun words × IsRunOf (text_given words) (word_given words) (Run members seed)
 IsAskedBy words (Serve options) = AskForServer words options
 IsAskedBy words (Inspect file) = AskForInspection words file.now
+IsAskedBy words BadWeights = HaveBadWeights words
 IsAskedBy words (Help text) = AskForHelp words × (string_bytes text ≢ [])
 IsAskedBy words (Wrong text) = AreWrong words × (string_bytes text ≢ [])

@@ -1,4 +1,4 @@
-ghost use Rattle.std.specs.Prelude.{◌≡◌, ◌≤◌, ◌⊎◌, ℕ, List, true, false, map, string_bytes, Ok, IfOk, IfErr, OnOk, OnErr};
+ghost use Rattle.std.specs.Prelude.{◌≡◌, ◌≤◌, ◌⊎◌, ℕ, List, true, false, codes, map, string_bytes, Ok, IfOk, IfErr, OnOk, OnErr};
 ghost use Rattle.beanpax.specs.declared.faults.ProgramFault.{ProgramFault};
 ghost use Rattle.beanpax.specs.declared.faults.ProgramFault.TheVariants.{WriteFailed};
 ghost use Rattle.std.specs.Io.KnownBytes.{Appends};
@@ -10,15 +10,16 @@ ghost use Rattle.beanpax.specs.Program.{BeginsToTell, IsWholeRun};
 ghost use Rattle.beanpax.specs.Runs.{BreaksOff};
 ghost use Rattle.beanpax.specs.declared.verdict.Verdict.{Verdict};
 ghost use Rattle.beanpax.specs.Verdicts.{is_legal};
-ghost use Rattle.beanpax.specs.Words.{AreWrong, AskForHelp, AskForInspection, AskForRun, AskForServer};
+ghost use Rattle.beanpax.specs.Words.{AreWrong, HaveBadWeights, AskForHelp, AskForInspection, AskForRun, AskForServer};
 
 use crate::faults::{ProgramFault, fault_line};
 use crate::host::Host;
 use crate::inspecting::inspect_file;
-use crate::run::run_bytes;
+use crate::run::run_bytes_weighted;
 use crate::server::serve_tcp;
 use crate::verdict::Verdict;
 use crate::words::{Asked, parse_words};
+use ballot::Members;
 use bean_codec::front_item;
 use session::{ByteIn, ByteOut, write_all};
 use std::alloc::{AllocError, Global};
@@ -31,6 +32,9 @@ pub const FAULT: u8 = 1;
 
 /// The status at wrong words.
 pub const WRONG_WORDS: u8 = 2;
+
+/// What is told where the weights are outside their rule, or stand beside a number of nodes.
+const BAD_WEIGHTS: &str = "beanpax: bad weights\n";
 
 /// The status where something is wrong with a dump.
 pub const DUMP_REFUSED: u8 = 3;
@@ -70,8 +74,12 @@ pub fn program<H: Host, R: ByteIn, W: ByteOut, E: ByteOut>(
         (R.has_failed input.new) (W.has_failed output.new)
         × WritesText (E.contents errors.old) (E.contents errors.new) (E.has_failed errors.new)
         (line_of fault) }
-    ensures wrong { result ≡ WRONG_WORDS → AreWrong (map string_bytes words.now)
-        × WritesSome (E.contents errors.old) (E.contents errors.new) (E.has_failed errors.new) }
+    ensures wrong { result ≡ WRONG_WORDS
+        → (AreWrong (map string_bytes words.now)
+        × WritesSome (E.contents errors.old) (E.contents errors.new) (E.has_failed errors.new))
+        ⊎ (HaveBadWeights (map string_bytes words.now)
+        × WritesText (E.contents errors.old) (E.contents errors.new) (E.has_failed errors.new)
+        (codes "beanpax: bad weights\n")) }
     ensures untouched { result ≡ WRONG_WORDS → (input.new ≡ input.old) × (output.new ≡ output.old) }
 
     ensures whole { result ≡ DONE → AskForRun (map string_bytes words.now)
@@ -85,8 +93,8 @@ pub fn program<H: Host, R: ByteIn, W: ByteOut, E: ByteOut>(
         → BeginsToTell (map string_bytes words.now) (W.contents output.old) (W.contents output.new) }
 {
     match parse_words(rt.alloc(), words) {
-        Ok(Asked::Run { nodes, seed }) => {
-            let ended = run(rt.alloc(), nodes, seed, input, output);
+        Ok(Asked::Run { members, seed }) => {
+            let ended = run(rt.alloc(), members, seed, input, output);
             status_after(ended, errors)
         }
         Ok(Asked::Serve(options)) => {
@@ -96,6 +104,10 @@ pub fn program<H: Host, R: ByteIn, W: ByteOut, E: ByteOut>(
         Ok(Asked::Inspect { file }) => {
             let found = inspect_file(rt, file, output);
             status_of(found, errors)
+        }
+        Ok(Asked::BadWeights) => {
+            tell_error(BAD_WEIGHTS, errors);
+            WRONG_WORDS
         }
         Ok(Asked::Help(text)) => {
             let shown = show_help(text.as_str(), output);
@@ -112,16 +124,14 @@ pub fn program<H: Host, R: ByteIn, W: ByteOut, E: ByteOut>(
     }
 }
 
-// Answers a client of so many nodes, and leaves out how its session ended.
+// Answers a client of these nodes, and leaves out how its session ended.
 fn run<R: ByteIn, W: ByteOut>(
     alloc: Global,
-    nodes: u8,
+    members: Members,
     seed: u64,
     input: &mut R,
     output: &mut W,
 ) -> Result<(), ProgramFault>
-    requires some { 1 ≤ nodes }
-    requires few { nodes ≤ 7 }
     ensures ok { OnOk result (IsRun (R.remaining input.old) (R.remaining input.new)
         (W.contents output.old) (W.contents output.new)) }
     ensures whole { OnOk result (IsWholeRun (R.remaining input.old) (R.remaining input.new)
@@ -130,7 +140,7 @@ fn run<R: ByteIn, W: ByteOut>(
     ensures breaks_off { OnErr result (BreaksOff (R.remaining input.old) (R.remaining input.new)
         (W.contents output.old) (W.contents output.new)) }
 {
-    run_bytes(alloc, nodes, seed, input, output)?;
+    run_bytes_weighted(alloc, members.weights(), seed, input, output)?;
     Ok(())
 }
 

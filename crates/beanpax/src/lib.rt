@@ -15,6 +15,7 @@ mod seconds;
 mod server;
 mod simulation;
 mod verdict;
+mod weights;
 mod words;
 
 pub use entry::{DONE, DUMP_REFUSED, FAULT, WRONG_WORDS, program};
@@ -22,7 +23,7 @@ pub use faults::{ProgramFault, fault_line, fault_number};
 pub use host::{Host, no_sockets};
 pub use inspecting::inspect_text;
 pub use laws::{no_fault_in_a_dump, one_transcript, one_verdict};
-pub use run::run_bytes;
+pub use run::{run_bytes, run_bytes_weighted};
 pub use session::{
     ByteIn, ByteOut, End, Failed, Reading, SessionFault, Writing, memory, write_all,
 };

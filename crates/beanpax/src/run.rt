@@ -1,5 +1,6 @@
 ghost use Rattle.std.specs.Prelude.{◌≡◌, ◌≤◌, true, IfOk, OnErr};
 ghost use Rattle.std.specs.Io.KnownBytes.{IsAtEnd};
+ghost use Rattle.ballot.specs.Members.{IsMembers};
 ghost use Rattle.session.specs.declared.faults.End.{End};
 ghost use Rattle.beanpax.specs.Runs.{Answers, BreaksOff};
 
@@ -9,13 +10,7 @@ use bean_codec::front_item;
 use session::{ByteIn, ByteOut, End, SessionFault, serve};
 use std::alloc::Global;
 
-/// Answers one client on a hall of so many simulated nodes: 1 to 7. Each reply is written out before the next request is
-/// obeyed.
-///
-/// The seed draws what happens between the nodes: which letters are lost, repeated and reordered, and which nodes restart.
-/// What is written doesn't depend on it, nor on how many nodes there are; but where 100,000 calls of the hall bring no
-/// answer to a request, the service stops. It also stops where the client would have to wait for more than an hour. A
-/// request for which there is no memory is refused, and is as if it had not been made.
+/// Answers one client on a hall of so many simulated nodes, 1 to 7, of a weight of 1 each: what `run_bytes_weighted` does.
 pub fn run_bytes<R: ByteIn, W: ByteOut>(
     alloc: Global,
     nodes: u8,
@@ -35,8 +30,39 @@ pub fn run_bytes<R: ByteIn, W: ByteOut>(
     ensures read_failed { result ≡ Err SessionFault.ReadFailed → R.has_failed reader.new ≡ true }
     ensures write_failed { result ≡ Err SessionFault.WriteFailed → W.has_failed writer.new ≡ true }
 {
-    front_item();
     let Some(members) = Members::new(nodes) else {
+        unreachable!()
+    };
+    run_bytes_weighted(alloc, members.weights(), seed, reader, writer)
+}
+
+/// Answers one client on a hall of simulated nodes of these weights: 1 to 7 of them, each 1 to 1000. Each reply is written
+/// out before the next request is obeyed.
+///
+/// The seed draws what happens between the nodes: which letters are lost, repeated and reordered, and which nodes restart.
+/// What is written doesn't depend on it, nor on how many nodes there are or what they weigh; but where 100,000 calls of the hall bring no
+/// answer to a request, the service stops. It also stops where the client would have to wait for more than an hour. A
+/// request for which there is no memory is refused, and is as if it had not been made.
+pub fn run_bytes_weighted<R: ByteIn, W: ByteOut>(
+    alloc: Global,
+    weights: &[u32],
+    seed: u64,
+    reader: &mut R,
+    writer: &mut W,
+) -> Result<End, SessionFault>
+    requires { IsMembers weights.now }
+    ensures answers { IfOk result (Answers (R.remaining reader.old) (R.remaining reader.new)
+        (W.contents writer.old) (W.contents writer.new)) }
+    ensures nothing_left { IfOk result (λ end. end ≡ End.Eof → IsAtEnd (R.remaining reader.new)) }
+    ensures ended { IfOk result (λ end. end ≡ End.Eof → R.has_ended reader.new ≡ true) }
+
+    ensures breaks_off { OnErr result (BreaksOff (R.remaining reader.old) (R.remaining reader.new)
+        (W.contents writer.old) (W.contents writer.new)) }
+    ensures read_failed { result ≡ Err SessionFault.ReadFailed → R.has_failed reader.new ≡ true }
+    ensures write_failed { result ≡ Err SessionFault.WriteFailed → W.has_failed writer.new ≡ true }
+{
+    front_item();
+    let Some(members) = Members::weighted(weights) else {
         unreachable!()
     };
     let mut simulation = Simulation::new(alloc, members, seed)?;

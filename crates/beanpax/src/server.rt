@@ -1,4 +1,4 @@
-ghost use Rattle.std.specs.Prelude.{◌≡◌, ◌≢◌, ◌≤◌, ◌∷◌, [], true, None, Ok, Err, replicate, IfOk, IfErr, IfSome, OnOk};
+ghost use Rattle.std.specs.Prelude.{◌≡◌, ◌≢◌, ◌≤◌, ◌∷◌, [], true, None, Ok, Err, IfOk, IfErr, IfSome, OnOk};
 ghost use Rattle.std.specs.Io.KnownBytes.{Appends};
 ghost use Rattle.std.specs.Net.Addr.{IsV4And, ipv4_octets};
 ghost use Rattle.std.specs.Net.Socket.{socket_ip, socket_port};
@@ -19,7 +19,6 @@ use crate::host::Host;
 use crate::laws::no_fault_in_a_dump;
 use crate::seconds::ClockSeconds;
 use crate::words::ServerOptions;
-use ballot::Members;
 use bean_queue::Queue;
 use hall::Hall;
 use node_threads::{Actor, Ended, Gate, Point, run_cluster};
@@ -38,8 +37,6 @@ pub(crate) fn serve_tcp<R: Host, W: ByteOut>(
     options: &ServerOptions<'_>,
     output: &mut W,
 ) -> Result<(), ProgramFault>
-    requires some_nodes { 1 ≤ options.now.nodes }
-    requires few_nodes { options.now.nodes ≤ 7 }
     requires some_workers { 1 ≤ options.now.workers }
     requires few_workers { options.now.workers ≤ 64 }
     ensures told { OnOk result (Appends (W.contents output.old) (W.contents output.new)
@@ -53,7 +50,7 @@ pub(crate) fn serve_tcp<R: Host, W: ByteOut>(
 {
     let listener = listen(rt, options.port)?;
     tell_port(rt.alloc(), options.port, output)?;
-    let hall = hall_of(rt.alloc(), options.nodes)?;
+    let hall = Hall::new(rt.alloc(), options.members)?;
     let connections = Connections::new(listener, options.sessions);
     let ended = run_as_asked(rt, hall, connections, options);
     conclude(rt, &ended, options)
@@ -88,18 +85,6 @@ fn tell_port<W: ByteOut>(alloc: Global, port: u16, output: &mut W) -> Result<(),
     write_all(output, line.as_bytes()).map_err(|_| ProgramFault::WriteFailed)
 }
 
-// A new hall of so many nodes.
-fn hall_of(alloc: Global, nodes: u8) -> Result<Hall<Queue>, AllocError>
-    requires some { 1 ≤ nodes }
-    requires few { nodes ≤ 7 }
-    ensures { IfOk result (λ hall. hall ≡ new_hall (replicate nodes 1)) }
-{
-    let Some(members) = Members::new(nodes) else {
-        unreachable!()
-    };
-    Hall::new(alloc, members)
-}
-
 // Serves these connections on this hall, both of which are as the options ask.
 fn run_as_asked<R: Host>(
     rt: &R,
@@ -107,7 +92,7 @@ fn run_as_asked<R: Host>(
     connections: Connections,
     options: &ServerOptions<'_>,
 ) -> Ended<Queue, Connections>
-    requires hall { hall ≡ new_hall (replicate options.now.nodes 1) }
+    requires hall { hall ≡ new_hall options.now.members }
     requires connections { connections.left ≡ options.now.sessions }
     requires some_workers { 1 ≤ options.now.workers }
     requires few_workers { options.now.workers ≤ 64 }

@@ -1,12 +1,16 @@
-ghost use Rattle.std.specs.Prelude.{◌≡◌, ◌≢◌, ◌≤◌, ◌^◌, ◌-◌, [], codes, false, map, string_bytes, unwrap_or, IfOk};
+ghost use Rattle.std.specs.Prelude.{◌≡◌, ◌≢◌, ◌≤◌, ◌^◌, ◌-◌, [], Some, codes, false, map, string_bytes, unwrap_or, IfOk};
 ghost use Rattle.clap.specs.Words.{app_of, first_value, found_of, one_text, rule_of};
 ghost use Rattle.clap.specs.declared.builder.command.Command.TheViews.{out-Command as fields_of};
-ghost use Rattle.beanpax.specs.Words.{IsAskedBy, IsNumberOr, IsServerOf};
+ghost use Rattle.beanpax.specs.Numbers.{IsNumberOr};
+ghost use Rattle.beanpax.specs.Weights.{AreMembersOf};
+ghost use Rattle.beanpax.specs.Words.{IsAskedBy, IsRunOf, IsServeOf, IsServerOf};
 ghost use Rattle.beanpax.specs.Words.{program_command, run_command, serve_command, inspect_command};
 ghost use Rattle.beanpax.specs.Words.{file_argument};
-ghost use Rattle.beanpax.specs.Words.{nodes_option, seed_option, port_option};
+ghost use Rattle.beanpax.specs.Words.{nodes_option, weights_option, seed_option, port_option};
 ghost use Rattle.beanpax.specs.Words.{workers_option, sessions_option, dump_option};
 
+use crate::weights::members_in;
+use ballot::Members;
 use clap::error::ErrorKind;
 use clap::{Arg, ArgMatches, Command, Error, value_parser};
 use std::alloc::{AllocError, Global};
@@ -29,12 +33,14 @@ const DEFAULT_WORKERS: u32 = 4;
 /// What the words of a command line ask for.
 #[derive(Drop)]
 pub enum Asked<'a> {
-    /// A run with so many nodes, whose order of events is drawn from the seed.
-    Run { nodes: u8, seed: u64 },
+    /// A run with these nodes, whose order of events is drawn from the seed.
+    Run { members: Members, seed: u64 },
     /// A server.
     Serve(ServerOptions<'a>),
     /// What is found of the dump in this file.
     Inspect { file: &'a str },
+    /// Nothing: the weights are outside their rule, or stand beside a number of nodes.
+    BadWeights,
     /// This help.
     Help(String),
     /// Nothing: the words are wrong, and the text says why.
@@ -46,8 +52,8 @@ pub enum Asked<'a> {
 pub struct ServerOptions<'a> {
     /// It listens at this port of the loopback.
     pub port: u16,
-    /// So many nodes keep the queue: 1 to 7.
-    pub nodes: u8,
+    /// These nodes keep the queue.
+    pub members: Members,
     /// So many clients are served at a time: 1 to 64.
     pub workers: u32,
     /// It ends after so many connections.
@@ -63,13 +69,10 @@ pub fn parse_words<'a>(alloc: Global, words: &'a [String]) -> Result<Asked<'a>, 
     match program_words(alloc)?.try_get_matches_from(words) {
         Ok(matches) => {
             if let Some(run) = matches.subcommand_matches("run") {
-                return Ok(Asked::Run {
-                    nodes: nodes_of(run),
-                    seed: seed_of(run),
-                });
+                return run_of(alloc, run);
             }
             if let Some(serve) = matches.subcommand_matches("serve") {
-                return Ok(Asked::Serve(server_of(serve)));
+                return serve_of(alloc, serve);
             }
             // A command is required, and `help` is never matched.
             match matches.subcommand_matches("inspect") {
@@ -98,13 +101,40 @@ fn text_of(alloc: Global, error: &Error) -> Result<String, AllocError>
     Ok(text)
 }
 
+// What the words ask of a run.
+fn run_of<'a>(alloc: Global, run: &ArgMatches<'a>) -> Result<Asked<'a>, AllocError>
+    ensures { IfOk result
+        (IsRunOf (one_text (found_of run.now)) (first_value (found_of run.now))) }
+{
+    let Some(members) = members_of(alloc, run)? else {
+        return Ok(Asked::BadWeights);
+    };
+    Ok(Asked::Run {
+        members,
+        seed: seed_of(run),
+    })
+}
+
 // What the words ask of a server.
-fn server_of<'a>(serve: &ArgMatches<'a>) -> ServerOptions<'a>
+fn serve_of<'a>(alloc: Global, serve: &ArgMatches<'a>) -> Result<Asked<'a>, AllocError>
+    ensures { IfOk result
+        (IsServeOf (one_text (found_of serve.now)) (first_value (found_of serve.now))) }
+{
+    let Some(members) = members_of(alloc, serve)? else {
+        return Ok(Asked::BadWeights);
+    };
+    Ok(Asked::Serve(server_of(members, serve)))
+}
+
+// The options of a server of these nodes.
+fn server_of<'a>(members: Members, serve: &ArgMatches<'a>) -> ServerOptions<'a>
+    requires { AreMembersOf (one_text (found_of serve.now) (codes "nodes"))
+        (first_value (found_of serve.now) (codes "weights")) (Some members) }
     ensures { IsServerOf (one_text (found_of serve.now)) (first_value (found_of serve.now)) result }
 {
     ServerOptions {
         port: port_of(serve),
-        nodes: nodes_of(serve),
+        members,
         workers: workers_of(serve),
         sessions: serve.get_one("sessions"),
         dump: serve.get_str("dump"),
@@ -116,6 +146,20 @@ fn file_of<'a>(inspect: &ArgMatches<'a>) -> &'a str
     ensures { result.now ≡ unwrap_or (first_value (found_of inspect.now) (codes "file")) [] }
 {
     inspect.get_str("file").unwrap_or("")
+}
+
+// The nodes that the words ask for, unless the weights are outside their rule or stand beside a number of nodes.
+fn members_of(alloc: Global, found: &ArgMatches<'_>) -> Result<Option<Members>, AllocError>
+    ensures { IfOk result (AreMembersOf (one_text (found_of found.now) (codes "nodes"))
+        (first_value (found_of found.now) (codes "weights"))) }
+{
+    let Some(weights) = found.get_str("weights") else {
+        return Ok(Members::new(nodes_of(found)));
+    };
+    if found.get_str("nodes").is_some() {
+        return Ok(None);
+    }
+    members_in(alloc, weights)
 }
 
 // How many nodes the words ask for. The option takes no other numbers than these.
@@ -181,6 +225,7 @@ fn run_words<'a>(alloc: Global) -> Result<Command<'a>, AllocError>
     Command::new(alloc, "run")
         .about("Answers the requests of standard input on standard output")
         .arg(nodes_words(alloc))?
+        .arg(weights_words(alloc))?
         .arg(seed_words(alloc))
 }
 
@@ -193,6 +238,7 @@ fn serve_words<'a>(alloc: Global) -> Result<Command<'a>, AllocError>
         .about("Answers clients over TCP")
         .arg(port_words(alloc))?
         .arg(nodes_words(alloc))?
+        .arg(weights_words(alloc))?
         .arg(workers_words(alloc))?
         .arg(sessions_words(alloc))?
         .arg(dump_words(alloc))
@@ -217,6 +263,18 @@ fn nodes_words<'a>(alloc: Global) -> Arg<'a>
         .value_name("N")
         .help("How many nodes there are: 1 to 7 [default: 3]")
         .value_parser(value_parser!(u8).range(1..=7))
+}
+
+fn weights_words<'a>(alloc: Global) -> Arg<'a>
+    ensures rule { rule_of result ≡ weights_option }
+    ensures local { result.global ≡ false }
+{
+    Arg::new(alloc, "weights")
+        .long("weights")
+        .value_name("W1,W2,..")
+        .help(
+            "What each node weighs: 1 to 7 numbers from 1 to 1000, in place of --nodes [default: 1 each]",
+        )
 }
 
 fn seed_words<'a>(alloc: Global) -> Arg<'a>

@@ -1,9 +1,10 @@
 -- A line that says something says it alone.
-use Rattle.std.proofs.Common.{◌≡◌, ℕ, ◌<◌, ◌≤◌, ◌^◌, true, List, [], ◌∷◌, ◌++◌, length, Some, None, refl, sym, ap, ◌∙◌, arith, codes, decimal, append_assoc, length-append}
+use Rattle.std.proofs.Common.{◌≡◌, ℕ, ◌<◌, ◌≤◌, ◌^◌, true, List, [], ◌∷◌, ◌++◌, map, length, Some, None, refl, sym, ap, ◌∙◌, arith, codes, decimal, append_assoc, length-append}
 use Rattle.std.proofs.lemmas.Bool.{lt-ltb, le-leb, eq-eqb}
 use Rattle.std.proofs.lemmas.Fmt.{decimal_is_IsNumeral}
 use Rattle.std.specs.List.{AllByRecursion}
 use Rattle.hex.specs.Hex.{encode_with}
+use Rattle.ballot.specs.Members.{IsMembers}
 use Rattle.object.specs.Commands.{IsCommand, MayAsk}
 use Rattle.object.specs.declared.command.Act.{Act}
 use Rattle.object.specs.declared.command.Act.TheVariants.{Do, Close, Tick}
@@ -16,32 +17,37 @@ use Rattle.bean_queue.specs.declared.reply.Reply.TheVariants.{Inserted, Using, W
 use Rattle.bean_codec.specs.Words.{is_word, words}
 use Rattle.chronicle.specs.declared.entry.Entry.{Entry}
 use Rattle.chronicle.specs.declared.entry.Entry.TheVariants as entry
+use Rattle.chronicle.specs.declared.version.Version.{Version}
+use Rattle.chronicle.specs.declared.version.Version.TheVariants.{One, Two}
 use Rattle.chronicle.specs.Acts.{op_words, act_words}
-use Rattle.chronicle.specs.Dump.{version_line, members_line, submission_line, answer_line, order_line, end_line}
+use Rattle.chronicle.specs.Dump.{version_word, version_line, members_line, weights_line, submission_line, answer_line, order_line, end_line}
 use Rattle.chronicle.specs.Entries.{entry_line, IsEntryValue}
 use Rattle.chronicle.specs.Fits.{IsNumber, FitsAct, FitsReply}
 use Rattle.chronicle.specs.Lines.{line, spaced, body_word}
 use Rattle.chronicle.specs.Replies.{reply_words}
-use Rattle.chronicle.specs.Told.{may_ask, submitted_of, entry_under, key_of, keyed_entry, members_of, entry_of}
+use Rattle.chronicle.specs.Told.{may_ask, submitted_of, entry_under, key_of, keyed_entry, version_of, members_of, are_weights, weighted, weights_of, entry_of}
 use Rattle.chronicle.specs.Values.{IsShort, IsKeyValue, IsActValue, IsReplyValue}
 use Rattle.chronicle.proofs.Back.{number_plain, act_plain, reply_plain}
+use Rattle.chronicle.proofs.Heads.{short_weights, weight_numbers, weights_plain}
 use Rattle.chronicle.proofs.Spelled.{AllSome, words_back}
-use Rattle.chronicle.proofs.ToldBack.{long_back, short_back, act_back, reply_back}
+use Rattle.chronicle.proofs.ToldBack.{long_back, short_back, numbers_back, act_back, reply_back}
 use Rattle.chronicle.proofs.Words.{Plain, AllPlain, by_test}
 
 -- ---- the words of a line
 
 abbrev pub first_word : Entry → List ℕ
-first_word entry.Version = codes "beanpax-dump"
+first_word (entry.Version v) = codes "beanpax-dump"
 first_word (entry.Members n) = codes "members"
+first_word (entry.Weights ws) = codes "weights"
 first_word (entry.Submitted c) = codes "S"
 first_word (entry.Answered a) = codes "A"
 first_word (entry.Placed key) = codes "O"
 first_word entry.End = codes "end"
 
 abbrev pub other_words : Entry → List (List ℕ)
-other_words entry.Version = codes "1" ∷ []
+other_words (entry.Version v) = version_word v ∷ []
 other_words (entry.Members n) = decimal n ∷ []
+other_words (entry.Weights ws) = map decimal ws
 other_words (entry.Submitted c) = decimal c.key.session ∷ decimal c.key.number ∷ act_words c.act
 other_words (entry.Answered a) = decimal a.to.session ∷ decimal a.to.number ∷ reply_words a.reply
 other_words (entry.Placed key) = decimal key.session ∷ decimal key.number ∷ []
@@ -52,9 +58,10 @@ abbrev pub said : Entry → List ℕ
 said e = first_word e ++ spaced (other_words e)
 
 pub line_is : (e : Entry) → entry_line e ≡ said e ++ (10 ∷ [])
-unfolding version_line members_line submission_line answer_line order_line end_line line
-line_is entry.Version = refl
+unfolding version_line members_line weights_line submission_line answer_line order_line end_line line
+line_is (entry.Version v) = refl
 line_is (entry.Members n) = refl
+line_is (entry.Weights ws) = refl
 line_is (entry.Submitted c) = refl
 line_is (entry.Answered a) = refl
 line_is (entry.Placed key) = refl
@@ -110,8 +117,9 @@ reply_fits Paused h = tt
 reply_fits InternalError h = tt
 
 first_plain : (e : Entry) → Plain (first_word e)
-first_plain entry.Version = by_test (codes "beanpax-dump") refl
+first_plain (entry.Version v) = by_test (codes "beanpax-dump") refl
 first_plain (entry.Members n) = by_test (codes "members") refl
+first_plain (entry.Weights ws) = by_test (codes "weights") refl
 first_plain (entry.Submitted c) = by_test (codes "S") refl
 first_plain (entry.Answered a) = by_test (codes "A") refl
 first_plain (entry.Placed key) = by_test (codes "O") refl
@@ -120,9 +128,14 @@ first_plain entry.End = by_test (codes "end") refl
 key_plain : (key : Key) (others : List (List ℕ)) → IsKeyValue key → AllPlain others → AllPlain (decimal key.session ∷ decimal key.number ∷ others)
 key_plain key others h p = (number_plain key.session (short_long key.session h.0), (number_plain key.number h.1, p))
 
+version_plain : (v : Version) → Plain (version_word v)
+version_plain One = by_test (codes "1") refl
+version_plain Two = by_test (codes "2") refl
+
 others_plain : (e : Entry) → IsEntryValue e → AllPlain (other_words e)
-others_plain entry.Version h = (by_test (codes "1") refl, tt)
+others_plain (entry.Version v) h = (version_plain v, tt)
 others_plain (entry.Members n) h = (number_plain n (omega arith), tt)
+others_plain (entry.Weights ws) h = weights_plain ws h
 others_plain (entry.Submitted c) h = key_plain c.key (act_words c.act) h.0 (act_plain c.act (act_fits c.act h.1))
 others_plain (entry.Answered a) h = key_plain a.to (reply_words a.reply) h.0 (reply_plain a.reply (reply_fits a.reply h.1))
 others_plain (entry.Placed key) h = key_plain key [] h tt
@@ -194,16 +207,26 @@ reply_some Paused h = (refl, tt)
 reply_some InternalError h = (refl, tt)
 
 first_some : (e : Entry) → is_word (first_word e) ≡ true
-first_some entry.Version = refl
+first_some (entry.Version v) = refl
 first_some (entry.Members n) = refl
+first_some (entry.Weights ws) = refl
 first_some (entry.Submitted c) = refl
 first_some (entry.Answered a) = refl
 first_some (entry.Placed key) = refl
 first_some entry.End = refl
 
+version_some : (v : Version) → is_word (version_word v) ≡ true
+version_some One = refl
+version_some Two = refl
+
+numbers_some : (ns : List ℕ) → AllByRecursion IsNumber ns → AllSome (map decimal ns)
+numbers_some [] h = tt
+numbers_some (n ∷ ns) h = (number_some n h.0, numbers_some ns h.1)
+
 others_some : (e : Entry) → IsEntryValue e → AllSome (other_words e)
-others_some entry.Version h = (refl, tt)
+others_some (entry.Version v) h = (version_some v, tt)
 others_some (entry.Members n) h = (number_some n (omega arith), tt)
+others_some (entry.Weights ws) h = numbers_some ws (weight_numbers ws h)
 others_some (entry.Submitted c) h = (number_some c.key.session (short_long c.key.session h.0.0), (number_some c.key.number h.0.1, act_some c.act (act_fits c.act h.1)))
 others_some (entry.Answered a) h = (number_some a.to.session (short_long a.to.session h.0.0), (number_some a.to.number h.0.1, reply_some a.reply (reply_fits a.reply h.1)))
 others_some (entry.Placed key) h = (number_some key.session (short_long key.session h.0), (number_some key.number h.1, tt))
@@ -241,14 +264,32 @@ placed_told : (key : Key) → entry_under (codes "O") key [] ≡ Some (entry.Pla
 unfolding entry_under
 placed_told key = refl
 
+version_told : (v : Version) → version_of (version_word v ∷ []) ≡ Some (entry.Version v)
+unfolding version_of
+version_told One = refl
+version_told Two = refl
+
+-- members can have their weights
+may_weigh : (ws : List ℕ) → IsMembers ws → are_weights ws ≡ true
+may_weigh ws h = rw (lt-ltb 0 (length ws) h.some, le-leb (length ws) 7 h.few, h.each) refl
+
+pub weighted_told : (ws : List ℕ) → IsMembers ws → weighted ws ≡ Some (entry.Weights ws)
+unfolding weighted
+weighted_told ws h = rw (may_weigh ws h) refl
+
+weights_told : (ws : List ℕ) → IsMembers ws → weights_of (map decimal ws) ≡ Some (entry.Weights ws)
+unfolding weights_of
+weights_told ws h = rw (numbers_back [] ws (short_weights ws h)) (weighted_told ws h)
+
 members_told : (n : ℕ) → 0 < n → n ≤ 7 → members_of (decimal n ∷ []) ≡ Some (entry.Members n)
 unfolding members_of
 members_told n some few = rw (long_back n (omega arith), lt-ltb 0 n some, le-leb n 7 few) refl
 
 entry_told : (e : Entry) → IsEntryValue e → entry_of (first_word e ∷ other_words e) ≡ Some e
 unfolding entry_of
-entry_told entry.Version h = refl
+entry_told (entry.Version v) h = version_told v
 entry_told (entry.Members n) h = members_told n h.0 h.1
+entry_told (entry.Weights ws) h = weights_told ws h
 entry_told (entry.Submitted c) h = keyed_told (codes "S") c.key (act_words c.act) _ h.0 (submitted_told c.key c.act h.1 h.2)
 entry_told (entry.Answered a) h = keyed_told (codes "A") a.to (reply_words a.reply) _ h.0 (answered_told a.to a.reply h.1)
 entry_told (entry.Placed key) h = keyed_told (codes "O") key [] _ h (placed_told key)
@@ -305,8 +346,9 @@ pub line_long : (e : Entry) → 2 ≤ length (entry_line e)
 line_long e = omega (arith, ap length (line_is e), length-append (said e) (10 ∷ []), said_some e)
   where
     said_some : (e : Entry) → 1 ≤ length (said e)
-    said_some entry.Version = omega arith
+    said_some (entry.Version v) = omega arith
     said_some (entry.Members n) = omega arith
+    said_some (entry.Weights ws) = omega arith
     said_some (entry.Submitted c) = omega arith
     said_some (entry.Answered a) = omega arith
     said_some (entry.Placed key) = omega arith

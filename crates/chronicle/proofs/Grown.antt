@@ -2,6 +2,7 @@
 use Rattle.std.proofs.Common.{◌≡◌, ℕ, suc, ◌+◌, ◌<◌, ◌≤◌, ◌==◌, ◌⊎◌, Bool, true, false, cond, inl, inr, List, [], ◌∷◌, ◌++◌, map, length, refl, sym, ap, subst, ◌∙◌, arith, append_assoc, length-append}
 use Rattle.std.proofs.lemmas.Bool.{ne_eqb, eq-eqb}
 use Rattle.std.specs.List.{AllByRecursion}
+use Rattle.ballot.specs.Members.{IsMembers}
 use Rattle.object.specs.Lists.{In}
 use Rattle.object.specs.declared.command.Answer.{Answer}
 use Rattle.object.specs.declared.command.Command.{Command}
@@ -11,7 +12,7 @@ use Rattle.object.specs.Happenings.{ComeInOrder}
 use Rattle.bean_queue.specs.declared.op.Op.{Op}
 use Rattle.bean_queue.specs.declared.reply.Reply.{Reply}
 use Rattle.chronicle.specs.Chronicles.{Chronicle, IsChronicle}
-use Rattle.chronicle.specs.Growing.{submitted_last, answered_last, placed_last}
+use Rattle.chronicle.specs.Growing.{begun, submitted_last, answered_last, placed_last}
 use Rattle.chronicle.specs.Happenings.{came_at, moment, happenings, happenings_from}
 use Rattle.chronicle.specs.Happenings.Happening.{Submitted, Answered}
 use Rattle.chronicle.specs.Values.{IsChronicleValue, IsCommandValue, IsAnswerValue, IsKeyValue}
@@ -86,8 +87,7 @@ pub submitted_is : {Op Reply : Type 0} (command : Command Op) (c : Chronicle Op 
 submitted_is command c is =
     let s : Submission _ = record { command = command; after = length c.answers } in
     record {
-      some = is.some;
-      few = is.few;
+      members = is.members;
       timeline = record {
         ordered = ordered_last c.submitted s is.timeline.ordered is.timeline.within;
         within = λ t i. elim (in_last c.submitted s t i) as (λ v. t.after ≤ length c.answers) [
@@ -99,21 +99,23 @@ submitted_is command c is =
 
 pub answered_is : {Op Reply : Type 0} (a : Answer Reply) (c : Chronicle Op Reply) → IsChronicle c → IsChronicle (answered_last a c)
 answered_is a c is = record {
-  some = is.some;
-  few = is.few;
+  members = is.members;
   timeline = record { ordered = is.timeline.ordered; within = λ t i. let h = is.timeline.within t i in omega (arith, length-append c.answers (a ∷ [])) };
 }
 
 pub placed_is : {Op Reply : Type 0} (key : Key) (c : Chronicle Op Reply) → IsChronicle c → IsChronicle (placed_last key c)
-placed_is key c is = record { some = is.some; few = is.few; timeline = is.timeline }
+placed_is key c is = record { members = is.members; timeline = is.timeline }
 
 all_last : {A : Type 0} (P : A → Type 0) (xs : List A) (x : A) → AllByRecursion P xs → P x → AllByRecursion P (xs ++ (x ∷ []))
 all_last P [] x h p = (p, tt)
 all_last P (y ∷ xs) x h p = (h.0, all_last P xs x h.1 p)
 
-pub empty_value : (n : ℕ) → 0 < n → n ≤ 7 → IsChronicleValue (record { members = n; submitted = []; answers = []; order = [] })
-empty_value n some few = record {
-  chronicle = record { some = some; few = few; timeline = record { ordered = tt; within = λ s i. absurd i } };
+pub begun_is : {Op Reply : Type 0} (ws : List ℕ) → IsMembers ws → IsChronicle {Op = Op} {Reply = Reply} (begun ws)
+begun_is ws is = record { members = is; timeline = record { ordered = tt; within = λ s i. absurd i } }
+
+pub begun_value : (ws : List ℕ) → IsMembers ws → IsChronicleValue (begun ws)
+begun_value ws is = record {
+  chronicle = begun_is ws is;
   submitted = tt;
   answers = tt;
   order = tt;

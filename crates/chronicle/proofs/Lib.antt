@@ -3,6 +3,7 @@ pub mod InTime
 pub mod Texts
 pub mod Words
 pub mod Back
+pub mod Heads
 pub mod LineLists
 pub mod OneChronicle
 pub mod ValuesFit

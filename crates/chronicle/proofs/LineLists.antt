@@ -1,22 +1,27 @@
 -- A dump as lines of words, and back.
-use Rattle.std.proofs.Common.{◌≡◌, ℕ, List, [], ◌∷◌, ◌++◌, map, length, bytes_eq, refl, sym, ap, ap₂, ◌∙◌, arith, append_assoc, append-nil, length-append, codes, decimal}
+use Rattle.std.proofs.Common.{◌≡◌, ℕ, List, [], ◌∷◌, ◌++◌, map, length, replicate, bytes_eq, refl, sym, ap, ap₂, ◌∙◌, arith, append_assoc, append-nil, length-append, codes, decimal}
 use Rattle.std.specs.Prelude.{if◌then◌else◌}
 use Rattle.std.specs.List.{flat_map, AllByRecursion}
 use Rattle.std.proofs.lemmas.Grind.{flat_map-append}
+use Rattle.ballot.specs.Members.{IsMembers}
 use Rattle.object.specs.declared.command.Answer.{Answer}
 use Rattle.object.specs.declared.command.Command.{Command}
 use Rattle.object.specs.declared.command.Key.{Key}
 use Rattle.bean_queue.specs.declared.op.Op.{Op}
 use Rattle.bean_queue.specs.declared.reply.Reply.{Reply}
+use Rattle.chronicle.specs.declared.version.Version.{Version}
+use Rattle.chronicle.specs.declared.version.Version.TheVariants.{One, Two}
 use Rattle.chronicle.specs.Acts.{act_words}
 use Rattle.chronicle.specs.Chronicles.{Chronicle}
-use Rattle.chronicle.specs.Dump.{submission_line, answer_line, order_line, happening_line, version_line, members_line, end_line, dump_text}
+use Rattle.chronicle.specs.Dump.{submission_line, answer_line, order_line, happening_line, version_word, version_line, members_line, weights_line, version_of, head_of, head_lines, end_line, dump_text}
 use Rattle.chronicle.specs.Fits.{IsNumber, FitsKey, FitsCommand, FitsAnswer}
 use Rattle.chronicle.specs.Happenings.{Happening, happenings}
 use Rattle.chronicle.specs.Happenings.Happening.{Submitted, Answered}
-use Rattle.chronicle.specs.Lines.{line, spaced}
+use Rattle.chronicle.specs.Lines.{line, spaced, joined}
 use Rattle.chronicle.specs.Replies.{reply_words}
 use Rattle.chronicle.proofs.Back.{number, number_back, number_plain, act, act_back, act_plain, reply, reply_back, reply_plain}
+use Rattle.chronicle.proofs.Heads.{ones, one_unweighted, weight_numbers, weights_plain, count_number, count_plain}
+use Rattle.chronicle.proofs.ValueLists.{all_both}
 use Rattle.chronicle.proofs.Words.{Plain, AllPlain, by_test, line_is, one_line}
 
 -- a first word, and the words after it
@@ -59,8 +64,21 @@ end_words = (codes "end", [])
 abbrev pub tail_lines : List (Happening Op Reply) → List Key → List Line
 tail_lines hs order = map happening_words hs ++ (map order_words order ++ (end_words ∷ []))
 
+abbrev version_words : Version → Line
+version_words v = (codes "beanpax-dump", version_word v ∷ [])
+
+abbrev members_words : List ℕ → Line
+members_words ws = (codes "members", decimal (length ws) ∷ [])
+
+abbrev weights_words : List ℕ → Line
+weights_words ws = (codes "weights", map decimal ws)
+
+abbrev pub head_words : Version → List ℕ → List Line
+head_words One ws = version_words One ∷ members_words ws ∷ []
+head_words Two ws = version_words Two ∷ members_words ws ∷ weights_words ws ∷ []
+
 abbrev pub lines : Chronicle Op Reply → List Line
-lines c = (codes "beanpax-dump", codes "1" ∷ []) ∷ (codes "members", decimal c.members ∷ []) ∷ tail_lines (happenings c.submitted c.answers) c.order
+lines c = head_words (version_of c.members) c.members ++ tail_lines (happenings c.submitted c.answers) c.order
 
 happening_texts : (hs : List (Happening Op Reply)) → flat_map text (map happening_words hs) ≡ flat_map happening_line hs
 unfolding submission_line answer_line
@@ -81,15 +99,21 @@ tail_texts hs order =
     (flat_map-append text (map order_words order) (end_words ∷ [])
     ∙ ap₂ (λ a b. a ++ b) (order_texts order) (append-nil (text end_words)))
 
-pub to_right : (a b c d e : List ℕ) → a ++ b ++ c ++ d ++ e ≡ a ++ (b ++ (c ++ (d ++ e)))
-to_right a b c d e = append_assoc (a ++ b ++ c) d e ∙ append_assoc (a ++ b) c (d ++ e) ∙ append_assoc a b (c ++ (d ++ e))
+head_texts : (v : Version) (ws : List ℕ) → flat_map text (head_words v ws) ≡ joined (head_of v ws)
+unfolding version_line members_line weights_line
+head_texts One ws = refl
+head_texts Two ws = refl
+
+pub to_right : (a b c d : List ℕ) → a ++ b ++ c ++ d ≡ a ++ (b ++ (c ++ d))
+to_right a b c d = append_assoc (a ++ b) c d ∙ append_assoc a b (c ++ d)
 
 -- the text of a chronicle is that of its lines
 pub dump_is : (c : Chronicle Op Reply) → dump_text c ≡ flat_map text (lines c)
-unfolding dump_text version_line members_line
+unfolding dump_text
 dump_is c =
-    to_right version_line (members_line c.members) (flat_map happening_line (happenings c.submitted c.answers)) (flat_map order_line c.order) end_line
-    ∙ sym (ap (λ t. version_line ++ (members_line c.members ++ t)) (tail_texts (happenings c.submitted c.answers) c.order))
+    let hs = happenings c.submitted c.answers in
+    to_right (joined (head_lines c.members)) (flat_map happening_line hs) (flat_map order_line c.order) end_line
+    ∙ sym (flat_map-append text (head_words (version_of c.members) c.members) (tail_lines hs c.order) ∙ ap₂ (λ a b. a ++ b) (head_texts (version_of c.members) c.members) (tail_texts hs c.order))
 
 -- ---- and back
 
@@ -157,16 +181,32 @@ ordered_back [] order h = ordered_order order h
 ordered_back (Submitted c ∷ hs) order h = ordered_back hs order h
 ordered_back (Answered a ∷ hs) order h = ordered_back hs order h
 
--- the count of members that the lines tell
-abbrev pub counted : List Line → ℕ
-counted [] = 0
-counted (v ∷ []) = 0
-counted (v ∷ m ∷ ls) = number (first_word m.1)
+-- no line of a head tells either
+pub head_happened : (v : Version) (ws : List ℕ) (ls : List Line) → happened (head_words v ws ++ ls) ≡ happened ls
+head_happened One ws ls = refl
+head_happened Two ws ls = refl
 
-abbrev pub after_head : List Line → List Line
-after_head [] = []
-after_head (v ∷ []) = []
-after_head (v ∷ m ∷ ls) = ls
+pub head_ordered : (v : Version) (ws : List ℕ) (ls : List Line) → ordered (head_words v ws ++ ls) ≡ ordered ls
+head_ordered One ws ls = refl
+head_ordered Two ws ls = refl
+
+abbrev first_numbers : List Line → List ℕ
+first_numbers [] = []
+first_numbers (l ∷ ls) = map number l.1
+
+-- the weights that the lines tell, by the version
+abbrev pub weights : List Line → List ℕ
+weights [] = []
+weights (v ∷ []) = []
+weights (v ∷ m ∷ ls) = if bytes_eq (first_word v.1) (codes "1") then replicate (number (first_word m.1)) 1 else first_numbers ls
+
+numbers_back : (ns : List ℕ) → AllByRecursion IsNumber ns → map number (map decimal ns) ≡ ns
+numbers_back [] h = refl
+numbers_back (n ∷ ns) h = ap₂ (λ m ms. m ∷ ms) (number_back n h.0) (numbers_back ns h.1)
+
+pub weights_back : (v : Version) (ws : List ℕ) (ls : List Line) → version_of ws ≡ v → IsMembers ws → weights (head_words v ws ++ ls) ≡ ws
+weights_back One ws ls is h = ap (λ n. replicate n 1) (number_back (length ws) (count_number ws h)) ∙ ones ws (one_unweighted ws is)
+weights_back Two ws ls is h = numbers_back ws (weight_numbers ws h)
 
 -- ---- its lines are plain
 
@@ -179,8 +219,13 @@ tail_plain [] [] h k = ((by_test (codes "end") refl, tt), tt)
 tail_plain [] (key ∷ order) h k = ((by_test (codes "O") refl, (number_plain key.session k.0.0, (number_plain key.number k.0.1, tt))), tail_plain [] order h k.1)
 tail_plain (x ∷ hs) order h k = (happening_plain x h.0, tail_plain hs order h.1 k)
 
-pub lines_plain : (c : Chronicle Op Reply) → IsNumber c.members → AllByRecursion FitsHappening (happenings c.submitted c.answers) → AllByRecursion FitsKey c.order → AllByRecursion PlainLine (lines c)
-lines_plain c m h k = (
-  (by_test (codes "beanpax-dump") refl, (by_test (codes "1") refl, tt)),
-  ((by_test (codes "members") refl, (number_plain c.members m, tt)), tail_plain (happenings c.submitted c.answers) c.order h k),
+head_plain : (v : Version) (ws : List ℕ) → IsMembers ws → AllByRecursion PlainLine (head_words v ws)
+head_plain One ws h = ((by_test (codes "beanpax-dump") refl, (by_test (codes "1") refl, tt)), ((by_test (codes "members") refl, (count_plain ws h, tt)), tt))
+head_plain Two ws h = (
+  (by_test (codes "beanpax-dump") refl, (by_test (codes "2") refl, tt)),
+  ((by_test (codes "members") refl, (count_plain ws h, tt)), ((by_test (codes "weights") refl, weights_plain ws h), tt)),
 )
+
+pub lines_plain : (c : Chronicle Op Reply) → IsMembers c.members → AllByRecursion FitsHappening (happenings c.submitted c.answers) → AllByRecursion FitsKey c.order → AllByRecursion PlainLine (lines c)
+lines_plain c m h k =
+    all_both PlainLine (head_words (version_of c.members) c.members) (tail_lines (happenings c.submitted c.answers) c.order) (head_plain (version_of c.members) c.members m) (tail_plain (happenings c.submitted c.answers) c.order h k)

@@ -22,6 +22,7 @@ use Rattle.bean_queue.specs.declared.reply.Reply.{Reply}
 use Rattle.chronicle.specs.Checking.{IsAbove, AreRightPlaces}
 use Rattle.chronicle.specs.CheckFaults.{IsWrongPlace, IsWrongOrder}
 use Rattle.chronicle.specs.Chronicles.{Chronicle}
+use Rattle.chronicle.specs.Dump.{first_line}
 use Rattle.chronicle.specs.Happenings.{happenings}
 use Rattle.chronicle.specs.Replaying.{placed, queue_after, queue_answers}
 use Rattle.chronicle.specs.declared.replay.Given.{Given}
@@ -119,7 +120,7 @@ module _ (c : Chronicle Op Reply) (place : ℕ) (key : Key) (inside : place < le
   pub so_many : length (take place c.order) ≡ place
   so_many = length-take-le place c.order (omega arith)
 
-  pub wrong_place : (n : ℕ) (what : What) → AreRightPlaces c (take place c.order) → n ≡ 3 + length (happenings c.submitted c.answers) → IsWrongPlace c (take place c.order) key what → IsWrongOrder c (n + place) what
+  pub wrong_place : (n : ℕ) (what : What) → AreRightPlaces c (take place c.order) → n ≡ first_line c + length (happenings c.submitted c.answers) → IsWrongPlace c (take place c.order) key what → IsWrongOrder c (n + place) what
   wrong_place n what right line wrong = record {
     earlier = take place c.order;
     key = key;

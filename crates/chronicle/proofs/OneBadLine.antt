@@ -3,7 +3,8 @@ use Rattle.std.proofs.Common.{◌≡◌, ℕ, suc, ◌⊎◌, inl, inr, List, []
 use Rattle.std.specs.List.{AllByRecursion}
 use Rattle.chronicle.specs.declared.entry.Entry.{Entry}
 use Rattle.chronicle.specs.Entries.{entry_line, IsEntryValue}
-use Rattle.chronicle.specs.Reading.{joined, BeginsDump, IsBadLine}
+use Rattle.chronicle.specs.Lines.{joined}
+use Rattle.chronicle.specs.Reading.{BeginsDump, IsBadLine}
 use Rattle.chronicle.proofs.Drafted.{entries}
 use Rattle.chronicle.proofs.EntryLines.{one_front}
 use Rattle.chronicle.proofs.Stops.{lines_are, entry_values, map_more, map_length}

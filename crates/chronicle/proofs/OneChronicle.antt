@@ -8,14 +8,13 @@ use Rattle.object.specs.declared.command.Submission.{Submission}
 use Rattle.bean_queue.specs.declared.op.Op.{Op}
 use Rattle.bean_queue.specs.declared.reply.Reply.{Reply}
 use Rattle.chronicle.specs.Chronicles.{Chronicle, IsChronicle}
-use Rattle.chronicle.specs.Dump.{dump_text}
+use Rattle.chronicle.specs.Dump.{version_of, dump_text}
 use Rattle.chronicle.specs.Fits.{FitsChronicle, FitsCommand, FitsAnswer}
 use Rattle.chronicle.specs.Happenings.{Happening, happenings, happenings_from, moment, came_at}
 use Rattle.chronicle.specs.Happenings.Happening.{Submitted, Answered}
-use Rattle.chronicle.proofs.Back.{number_back}
 use Rattle.chronicle.proofs.Between.{ComeBetween, between_timeline, between_rest, after_first, least, most}
 use Rattle.chronicle.proofs.InTime.{comes, answers_first, answers_last}
-use Rattle.chronicle.proofs.LineLists.{Line, lines, PlainLine, one_text, dump_is, FitsHappening, happened, happened_back, ordered, ordered_back, counted, after_head, lines_plain}
+use Rattle.chronicle.proofs.LineLists.{Line, lines, PlainLine, one_text, dump_is, FitsHappening, happened, tail_lines, happened_back, ordered, ordered_back, head_happened, head_ordered, weights, weights_back, lines_plain}
 
 -- ---- submissions and answers, read off what happened
 
@@ -104,28 +103,29 @@ fits_happenings given submitted (a ∷ more) h k =
 
 abbrev chronicle_of : List Line → Chronicle Op Reply
 chronicle_of ls =
-    let hs = happened (after_head ls) in
-    record { members = counted ls; submitted = submissions_of 0 hs; answers = answers_of hs; order = ordered (after_head ls) }
+    let hs = happened ls in
+    record { members = weights ls; submitted = submissions_of 0 hs; answers = answers_of hs; order = ordered ls }
 
-built : (m n : ℕ) (s t : List (Submission Op)) (a b : List (Answer Reply)) (o p : List Key) → m ≡ n → s ≡ t → a ≡ b → o ≡ p →
+built : (m n : List ℕ) (s t : List (Submission Op)) (a b : List (Answer Reply)) (o p : List Key) → m ≡ n → s ≡ t → a ≡ b → o ≡ p →
     (let c : Chronicle Op Reply = record { members = m; submitted = s; answers = a; order = o } in c) ≡ record { members = n; submitted = t; answers = b; order = p }
 built m n s t a b o p members submitted answers order = cc
 
 back : (c : Chronicle Op Reply) → IsChronicle c → FitsChronicle c → chronicle_of (lines c) ≡ c
 back c is fits =
     let hs = happenings c.submitted c.answers in
-    let members = number_back c.members fits.members in
-    let all = happened_back hs c.order (fits_happenings 0 c.submitted c.answers fits.submitted fits.answers) in
-    let order = ordered_back hs c.order fits.order in
+    let v = version_of c.members in
+    let members = weights_back v c.members (tail_lines hs c.order) refl is.members in
+    let all = head_happened v c.members (tail_lines hs c.order) ∙ happened_back hs c.order (fits_happenings 0 c.submitted c.answers fits.submitted fits.answers) in
+    let order = head_ordered v c.members (tail_lines hs c.order) ∙ ordered_back hs c.order fits.order in
     let total : length c.answers ≡ 0 + length c.answers = omega arith in
     let submitted = ap (submissions_of 0) all ∙ submissions_back (length c.answers) 0 c.submitted c.answers total (between_timeline (record { submitted = c.submitted; answers = c.answers }) is.timeline) in
     let answers = ap answers_of all ∙ answers_back 0 c.submitted c.answers in
-    built (counted (lines c)) c.members _ c.submitted _ c.answers _ c.order members submitted answers order
+    built (weights (lines c)) c.members _ c.submitted _ c.answers _ c.order members submitted answers order
 
-plain : (c : Chronicle Op Reply) → FitsChronicle c → AllByRecursion PlainLine (lines c)
-plain c fits = lines_plain c fits.members (fits_happenings 0 c.submitted c.answers fits.submitted fits.answers) fits.order
+plain : (c : Chronicle Op Reply) → IsChronicle c → FitsChronicle c → AllByRecursion PlainLine (lines c)
+plain c is fits = lines_plain c is.members (fits_happenings 0 c.submitted c.answers fits.submitted fits.answers) fits.order
 
 pub one_chronicle : (c d : Chronicle Op Reply) → IsChronicle c → IsChronicle d → FitsChronicle c → FitsChronicle d → dump_text c ≡ dump_text d → c ≡ d
 one_chronicle c d is js fits gits same =
-    let one = one_text (lines c) (lines d) (plain c fits) (plain d gits) (sym (dump_is c) ∙ same ∙ dump_is d) in
+    let one = one_text (lines c) (lines d) (plain c is fits) (plain d js gits) (sym (dump_is c) ∙ same ∙ dump_is d) in
     sym (back c is fits) ∙ ap chronicle_of one ∙ back d js gits

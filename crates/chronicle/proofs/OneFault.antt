@@ -9,6 +9,7 @@ use Rattle.chronicle.specs.declared.check_fault.What.TheVariants.{NotSubmitted, 
 use Rattle.chronicle.specs.Checking.{IsRightPlace, IsRightLine, AreRightPlaces, IsFaultless}
 use Rattle.chronicle.specs.CheckFaults.{IsWrongPlace, IsWrongLine, IsWrongOrder, IsWrongHappening, IsFaultAt}
 use Rattle.chronicle.specs.Chronicles.{Chronicle}
+use Rattle.chronicle.specs.Dump.{first_line}
 use Rattle.chronicle.specs.Happenings.{Happening, happenings}
 use Rattle.chronicle.specs.Happenings.Happening.{Submitted, Answered}
 
@@ -105,7 +106,7 @@ one_order : (c : Chronicle Op Reply) (n m : ℕ) (v w : What) → IsWrongOrder c
 one_order c n m v w h k =
     elim (cuts h.earlier k.earlier h.key k.key h.later k.later (sym h.cut ∙ k.cut)) as (λ r. (n ≡ m) × (v ≡ w)) [
       | inl s ↦ (
-        h.line ∙ ap (λ (e : List Key). 3 + length (happenings c.submitted c.answers) + length e) s.front ∙ sym k.line,
+        h.line ∙ ap (λ (e : List Key). first_line c + length (happenings c.submitted c.answers) + length e) s.front ∙ sym k.line,
         one_place c k.earlier k.key v w (subst (λ (x : Key). IsWrongPlace c k.earlier x v) s.item (subst (λ (e : List Key). IsWrongPlace c e h.key v) s.front h.wrong)) k.wrong,
       )
       | inr (inl s) ↦ absurd (right_place c h.earlier h.key v (k.before h.earlier h.key s.more s.is) h.wrong)
@@ -116,7 +117,7 @@ one_happening : (c : Chronicle Op Reply) (n m : ℕ) (v w : What) → IsWrongHap
 one_happening c n m v w h k =
     elim (cuts h.earlier k.earlier h.happening k.happening h.later k.later (sym h.cut ∙ k.cut)) as (λ r. (n ≡ m) × (v ≡ w)) [
       | inl s ↦ (
-        h.line ∙ ap (λ (e : List (Happening Op Reply)). 3 + length e) s.front ∙ sym k.line,
+        h.line ∙ ap (λ (e : List (Happening Op Reply)). first_line c + length e) s.front ∙ sym k.line,
         one_line c k.earlier k.happening v w (subst (λ (x : Happening Op Reply). IsWrongLine c k.earlier x v) s.item (subst (λ (e : List (Happening Op Reply)). IsWrongLine c e h.happening v) s.front h.wrong)) k.wrong,
       )
       | inr (inl s) ↦ absurd (right_line c h.earlier h.happening v (k.before h.earlier h.happening s.more s.is) h.wrong)

@@ -7,16 +7,17 @@ use Rattle.bstr.specs.Find.{IsFirstByte, Nowhere, Passes, is_byte}
 use Rattle.bean_queue.specs.declared.op.Op.{Op}
 use Rattle.bean_queue.specs.declared.reply.Reply.{Reply}
 use Rattle.chronicle.specs.declared.draft.Draft.{Draft}
-use Rattle.chronicle.specs.declared.draft.Draft.TheVariants.{Start, Head, Happenings, Order, Whole}
+use Rattle.chronicle.specs.declared.draft.Draft.TheVariants.{Start, Head, Counted, Happenings, Order, Whole}
 use Rattle.chronicle.specs.declared.entry.Entry.{Entry}
 use Rattle.chronicle.specs.Chronicles.{Chronicle}
 use Rattle.chronicle.specs.Drafts.{next}
 use Rattle.chronicle.specs.Dump.{dump_text}
 use Rattle.chronicle.specs.Entries.{entry_line, IsEntryValue, Says}
-use Rattle.chronicle.specs.Reading.{joined, IsBadLine}
+use Rattle.chronicle.specs.Lines.{joined}
+use Rattle.chronicle.specs.Reading.{IsBadLine}
 use Rattle.chronicle.proofs.Drafted.{IsDraft, IsWhole, taken, entries, next_draft}
 use Rattle.chronicle.proofs.EntryLines.{NoFeed, said, said_no_feed, line_is, one_front}
-use Rattle.chronicle.proofs.Stops.{NoneFollows, bad_line, entries_text, map_more, lines_long}
+use Rattle.chronicle.proofs.Stops.{NoneFollows, bad_line, entries_text, joined_more, map_more, lines_long}
 
 -- ---- the first line of a text
 
@@ -68,10 +69,6 @@ pub record Reads (d : Draft) (text rest : List ℕ) (n : ℕ) : Type 0 where
   pub values : AllByRecursion IsEntryValue (taken d)
   pub cut : text ≡ joined (map entry_line (taken d)) ++ rest
   pub number : n ≡ suc (length (taken d))
-
-joined_more : (ls ms : List (List ℕ)) → joined (ls ++ ms) ≡ joined ls ++ joined ms
-joined_more [] ms = refl
-joined_more (l ∷ ls) ms = ap (λ t. l ++ t) (joined_more ls ms) ∙ sym (append_assoc l (joined ls) (joined ms))
 
 joined_last : (es : List Entry) (e : Entry) → joined (map entry_line (es ++ (e ∷ []))) ≡ joined (map entry_line es) ++ entry_line e
 joined_last es e = ap joined (map_more es (e ∷ [])) ∙ joined_more (map entry_line es) (entry_line e ∷ []) ∙ ap (λ t. joined (map entry_line es) ++ t) (append-nil (entry_line e))
@@ -127,7 +124,8 @@ some_rest rest end found none =
 pub whole_is : (d : Draft) → IsWhole d → ((c : Chronicle Op Reply) → d ≡ Whole c → ⊥) → ⊥
 whole_is (Whole c) h other = other c refl
 whole_is Start h other = h
-whole_is Head h other = h
+whole_is (Head v) h other = h
+whole_is (Counted n) h other = h
 whole_is (Happenings c) h other = h
 whole_is (Order c) h other = h
 

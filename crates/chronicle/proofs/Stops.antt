@@ -1,6 +1,7 @@
 -- Where reading stops, in the words of the lines of a dump.
-use Rattle.std.proofs.Common.{◌≡◌, ℕ, suc, ◌+◌, ◌≤◌, ◌==◌, true, false, cond, List, [], ◌∷◌, ◌++◌, map, length, None, refl, sym, ap, ap₂, ◌∙◌, arith, append_assoc, append-nil, length-append}
+use Rattle.std.proofs.Common.{◌≡◌, ℕ, suc, ◌+◌, ◌≤◌, ◌==◌, true, false, cond, List, [], ◌∷◌, ◌++◌, map, length, None, refl, sym, ap, ap₂, subst, ◌∙◌, arith, append_assoc, append-nil, length-append}
 use Rattle.std.specs.List.{flat_map, AllByRecursion}
+use Rattle.ballot.specs.Members.{IsMembers}
 use Rattle.object.specs.declared.command.Answer.{Answer}
 use Rattle.object.specs.declared.command.Key.{Key}
 use Rattle.object.specs.declared.command.Submission.{Submission}
@@ -9,17 +10,21 @@ use Rattle.bean_queue.specs.declared.reply.Reply.{Reply}
 use Rattle.chronicle.specs.declared.draft.Draft.{Draft}
 use Rattle.chronicle.specs.declared.entry.Entry.{Entry}
 use Rattle.chronicle.specs.declared.entry.Entry.TheVariants.{Placed, End}
+use Rattle.chronicle.specs.declared.version.Version.{Version}
+use Rattle.chronicle.specs.declared.version.Version.TheVariants.{One, Two}
 use Rattle.chronicle.specs.Chronicles.{Chronicle}
 use Rattle.chronicle.specs.Drafts.{next}
-use Rattle.chronicle.specs.Dump.{version_line, members_line, submission_line, answer_line, happening_line, order_line, end_line, dump_text}
+use Rattle.chronicle.specs.Dump.{version_of, head_of, head_lines, submission_line, answer_line, happening_line, order_line, end_line, dump_text}
 use Rattle.chronicle.specs.Entries.{entry_line, IsEntryValue}
 use Rattle.chronicle.specs.Happenings.{Happening, happenings, happenings_from, moment, came_at}
 use Rattle.chronicle.specs.Happenings.Happening.{Submitted as WasSubmitted, Answered as WasAnswered}
-use Rattle.chronicle.specs.Reading.{dump_lines, joined, BeginsDump, IsBadLine}
+use Rattle.chronicle.specs.Lines.{joined}
+use Rattle.chronicle.specs.Reading.{dump_lines, BeginsDump, IsBadLine}
 use Rattle.chronicle.specs.Values.{IsChronicleValue, IsCommandValue, IsAnswerValue, IsKeyValue}
-use Rattle.chronicle.proofs.Drafted.{happened, entries, taken, IsDraft, IsWhole, whole, whole_value, whole_begins, follows, all_read}
+use Rattle.chronicle.proofs.Drafted.{happened, head_entries, head, after_head, tail_entries, entries, taken, IsDraft, IsWhole, whole, whole_value, whole_begins, follows, all_read}
 use Rattle.chronicle.proofs.EntryLines.{one_front, line_long}
 use Rattle.chronicle.proofs.LineLists.{to_right}
+use Rattle.chronicle.proofs.ValueLists.{all_both}
 
 -- ---- the lines of a chronicle are those of its entries
 
@@ -32,21 +37,36 @@ tail_lines [] order = order_lines order
 tail_lines (WasSubmitted c ∷ hs) order = ap (λ t. submission_line c ∷ t) (tail_lines hs order)
 tail_lines (WasAnswered a ∷ hs) order = ap (λ t. answer_line a ∷ t) (tail_lines hs order)
 
+head_said : (v : Version) (ws : List ℕ) → map entry_line (head_entries v ws) ≡ head_of v ws
+head_said One ws = refl
+head_said Two ws = refl
+
+pub map_more : (xs ys : List Entry) → map entry_line (xs ++ ys) ≡ map entry_line xs ++ map entry_line ys
+map_more [] ys = refl
+map_more (x ∷ xs) ys = ap (λ t. entry_line x ∷ t) (map_more xs ys)
+
 pub lines_are : (c : Chronicle Op Reply) → map entry_line (entries c) ≡ dump_lines c
-lines_are c = ap (λ t. version_line ∷ members_line c.members ∷ t) (tail_lines (happenings c.submitted c.answers) c.order)
+lines_are c =
+    ap (map entry_line) (after_head c (End ∷ [])) ∙ map_more (head c.members) (tail_entries c)
+    ∙ ap₂ (λ (a b : List (List ℕ)). a ++ b) (head_said (version_of c.members) c.members) (tail_lines (happenings c.submitted c.answers) c.order)
 
 join_map : {A : Type 0} (f : A → List ℕ) (xs : List A) (more : List (List ℕ)) → joined (map f xs ++ more) ≡ flat_map f xs ++ joined more
 join_map f [] more = refl
 join_map f (x ∷ xs) more = ap (λ t. f x ++ t) (join_map f xs more) ∙ sym (append_assoc (f x) (flat_map f xs) (joined more))
 
+pub joined_more : (ls ms : List (List ℕ)) → joined (ls ++ ms) ≡ joined ls ++ joined ms
+joined_more [] ms = refl
+joined_more (l ∷ ls) ms = ap (λ t. l ++ t) (joined_more ls ms) ∙ sym (append_assoc l (joined ls) (joined ms))
+
 text_is : (c : Chronicle Op Reply) → dump_text c ≡ joined (dump_lines c)
 unfolding dump_text
 text_is c =
     let hs = happenings c.submitted c.answers in
-    to_right version_line (members_line c.members) (flat_map happening_line hs) (flat_map order_line c.order) end_line
-    ∙ ap (λ t. version_line ++ (members_line c.members ++ t))
+    to_right (joined (head_lines c.members)) (flat_map happening_line hs) (flat_map order_line c.order) end_line
+    ∙ ap (λ t. joined (head_lines c.members) ++ t)
     (ap (λ t. flat_map happening_line hs ++ t) (ap (λ t. flat_map order_line c.order ++ t) (sym (append-nil end_line)) ∙ sym (join_map order_line c.order (end_line ∷ [])))
     ∙ sym (join_map happening_line hs (map order_line c.order ++ (end_line ∷ []))))
+    ∙ sym (joined_more (head_lines c.members) (map happening_line hs ++ (map order_line c.order ++ (end_line ∷ []))))
 
 pub entries_text : (c : Chronicle Op Reply) → dump_text c ≡ joined (map entry_line (entries c))
 entries_text c = text_is c ∙ ap joined (sym (lines_are c))
@@ -65,14 +85,10 @@ values_each : (came : List (Submission Op)) → AllByRecursion (λ (s : Submissi
 values_each [] h = tt
 values_each (s ∷ came) h = (h.0, values_each came h.1)
 
-more : {A : Type 0} (P : A → Type 0) (xs ys : List A) → AllByRecursion P xs → AllByRecursion P ys → AllByRecursion P (xs ++ ys)
-more P [] ys h k = k
-more P (x ∷ xs) ys h k = (h.0, more P xs ys h.1 k)
-
 happening_values : (given : ℕ) (submitted : List (Submission Op)) (answers : List (Answer Reply)) → AllByRecursion (λ (s : Submission Op). IsCommandValue s.command) submitted → AllByRecursion IsAnswerValue answers → AllByRecursion (λ h. IsEntryValue (happened h)) (happenings_from given submitted answers)
 happening_values given submitted [] h k = values_each (came_at given submitted) (values_came given submitted h)
 happening_values given submitted (a ∷ later) h k =
-    more (λ x. IsEntryValue (happened x)) (moment given submitted) (WasAnswered a ∷ happenings_from (suc given) submitted later) (values_each (came_at given submitted) (values_came given submitted h))
+    all_both (λ x. IsEntryValue (happened x)) (moment given submitted) (WasAnswered a ∷ happenings_from (suc given) submitted later) (values_each (came_at given submitted) (values_came given submitted h))
     (k.0, happening_values (suc given) submitted later h k.1)
 
 happened_values : (hs : List (Happening Op Reply)) → AllByRecursion (λ h. IsEntryValue (happened h)) hs → AllByRecursion IsEntryValue (map happened hs)
@@ -83,23 +99,20 @@ placed_values : (order : List Key) → AllByRecursion IsKeyValue order → AllBy
 placed_values [] h = tt
 placed_values (key ∷ order) h = (h.0, placed_values order h.1)
 
+head_values : (v : Version) (ws : List ℕ) → IsMembers ws → AllByRecursion IsEntryValue (head_entries v ws)
+head_values One ws h = (tt, ((h.some, h.few), tt))
+head_values Two ws h = (tt, ((h.some, h.few), (h, tt)))
+
 pub entry_values : (c : Chronicle Op Reply) → IsChronicleValue c → AllByRecursion IsEntryValue (entries c)
 entry_values c v =
-    let hs = map happened (happenings c.submitted c.answers) in (
-      tt,
-      (
-        (v.chronicle.some, v.chronicle.few),
-        more IsEntryValue (hs ++ map Placed c.order) (End ∷ [])
-            (more IsEntryValue hs (map Placed c.order) (happened_values (happenings c.submitted c.answers) (happening_values 0 c.submitted c.answers v.submitted v.answers)) (placed_values c.order v.order))
-            (tt, tt),
-      ),
-    )
+    let hs = map happened (happenings c.submitted c.answers) in
+    subst (AllByRecursion IsEntryValue) (sym (after_head c (End ∷ [])))
+    (all_both IsEntryValue (head c.members) (tail_entries c) (head_values (version_of c.members) c.members v.chronicle.members)
+    (all_both IsEntryValue (hs ++ map Placed c.order) (End ∷ [])
+    (all_both IsEntryValue hs (map Placed c.order) (happened_values (happenings c.submitted c.answers) (happening_values 0 c.submitted c.answers v.submitted v.answers)) (placed_values c.order v.order))
+    (tt, tt)))
 
 -- ---- entries, from their lines
-
-pub map_more : (xs ys : List Entry) → map entry_line (xs ++ ys) ≡ map entry_line xs ++ map entry_line ys
-map_more [] ys = refl
-map_more (x ∷ xs) ys = ap (λ t. entry_line x ∷ t) (map_more xs ys)
 
 pub map_length : (xs : List Entry) → length (map entry_line xs) ≡ length xs
 map_length [] = refl
@@ -165,7 +178,7 @@ NoneFollows d rest = (e : Entry) (later : List ℕ) → IsEntryValue e → (next
 
 begins : (d : Draft) → IsDraft d → BeginsDump (map entry_line (taken d))
 begins d h =
-    let left = whole_begins d in
+    let left = whole_begins d h in
     record {
       chronicle = whole d;
       is_value = whole_value d h;

@@ -1,5 +1,5 @@
 -- What the words of a line tell is what was written.
-use Rattle.std.proofs.Common.{◌≡◌, ℕ, ◌<◌, ◌^◌, ◌/◌, ◌%◌, ◌==◌, ◌&&◌, inl, inr, Bool, true, false, slice_index, List, [], ◌∷◌, ◌++◌, Some, None, Ok, length, refl, sym, ap, ◌∙◌, arith, codes, decimal, append-nil, append_assoc}
+use Rattle.std.proofs.Common.{◌≡◌, ℕ, ◌<◌, ◌^◌, ◌/◌, ◌%◌, ◌==◌, ◌&&◌, inl, inr, Bool, true, false, slice_index, List, [], ◌∷◌, ◌++◌, map, Some, None, Ok, length, refl, sym, ap, ◌∙◌, arith, codes, decimal, append-nil, append_assoc}
 use Rattle.std.proofs.lemmas.Bool.{lt-ltb}
 use Rattle.std.proofs.lemmas.Fmt.{decimal_is_IsNumeral}
 use Rattle.std.proofs.lemmas.Str.Parse.{IsNumeralModel, numerals_by_value, tells_all_ascii_digits}
@@ -23,7 +23,7 @@ use Rattle.chronicle.specs.Acts.{op_words, act_words}
 use Rattle.chronicle.specs.Lines.{body_word}
 use Rattle.chronicle.specs.Replies.{reply_words}
 use Rattle.chronicle.specs.Values.{IsShort, IsLong, IsActValue, IsReplyValue}
-use Rattle.chronicle.specs.Told.{body_of, put_of, act_with, act_of, lone_reply, number_reply, reply_with, job_with, job_reply, names_after, other_reply, reply_of}
+use Rattle.chronicle.specs.Told.{body_of, put_of, act_with, act_of, lone_reply, number_reply, reply_with, job_with, job_reply, names_after, other_reply, reply_of, numbers_after}
 
 -- ---- numbers
 
@@ -45,6 +45,11 @@ long_back n h = number_back (2 ^ 64) n h h
 
 pub short_back : (n : ℕ) → IsShort n → u32_of (decimal n) ≡ Some n
 short_back n h = number_back (2 ^ 32) n (omega arith) h
+
+pub numbers_back : (taken numbers : List ℕ) → AllByRecursion IsShort numbers → numbers_after taken (map decimal numbers) ≡ Some (taken ++ numbers)
+numbers_back taken [] h = ap Some (sym (append-nil taken))
+numbers_back taken (n ∷ numbers) h =
+    rw (short_back n h.0) (numbers_back (taken ++ (n ∷ [])) numbers h.1 ∙ ap Some (append_assoc taken (n ∷ []) numbers))
 
 -- ---- names
 

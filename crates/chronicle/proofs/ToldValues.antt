@@ -1,13 +1,14 @@
 -- What the words of a line tell is a value of its type.
 use Rattle.std.proofs.Common.{rules, ◌≡◌, ℕ, zero, suc, ◌+◌, ◌-◌, ◌%◌, ◌<◌, ◌≤◌, ◌^◌, ◌&&◌, ◌==◌, inl, inr, Bool, true, false, List, [], ◌∷◌, ◌++◌, Option, Some, None, Result, Ok, Err, length, leb, refl, arith, codes}
 use Rattle.std.proofs.lemmas.Bool.{and_parts, ltb-true, leb-true, eqb-true}
-use Rattle.std.specs.List.{AllByRecursion}
+use Rattle.std.specs.List.{AllByRecursion, list_all}
 use Rattle.std.specs.Option.{option_map, option_and_then}
 use Rattle.std.specs.Prelude.{if◌then◌else◌, nat_lt, nat_le, IfSome, IfOk, ⊤}
 use Rattle.std.specs.Str.{bytes_eq}
 use Rattle.hex.specs.Hex.{◌>>=◌, IsBytes, decode_of, decode_pairs, pair_value, value_at, digit_or_error, hex_digit_value}
 use Rattle.hex.specs.declared.error.FromHexError.{FromHexError}
 use Rattle.hex.specs.declared.error.FromHexError.TheVariants.{OddLength}
+use Rattle.ballot.specs.Members.{IsMembers, is_weight}
 use Rattle.object.specs.Commands.{IsCommand, MayAsk}
 use Rattle.object.specs.declared.command.Act.{Act}
 use Rattle.object.specs.declared.command.Act.TheVariants.{Do, Close, Tick}
@@ -29,9 +30,10 @@ use Rattle.bean_codec.specs.Numbers.{number_of, number_below, u32_of, u64_of}
 use Rattle.bean_codec.specs.TubeNames.{name_of, name_rule, word_if, Decided}
 use Rattle.chronicle.specs.declared.entry.Entry.{Entry}
 use Rattle.chronicle.specs.declared.entry.Entry.TheVariants as entry
+use Rattle.chronicle.specs.declared.version.Version.TheVariants.{One, Two}
 use Rattle.chronicle.specs.Entries.{IsEntryValue}
 use Rattle.chronicle.specs.Values.{IsShort, IsLong, IsKeyValue, IsOpValue, IsActValue, IsReplyValue}
-use Rattle.chronicle.specs.Told.{decoded, body_of, put_of, act_in, act_with, act_of, lone_reply, number_reply, reply_with, job_with, job_reply, names_after, other_reply, reply_of, may_ask, submitted_of, entry_under, key_of, keyed_entry, members_of, entry_of}
+use Rattle.chronicle.specs.Told.{decoded, body_of, put_of, act_in, act_with, act_of, lone_reply, number_reply, reply_with, job_with, job_reply, names_after, other_reply, reply_of, may_ask, submitted_of, entry_under, key_of, keyed_entry, version_of, members_of, are_weights, weighted, numbers_after, weights_of, entry_of}
 
 -- ---- steps
 
@@ -47,20 +49,20 @@ either : {B : Type 0} (t : Bool) (x y : Option B) (Q : B → Type 0) → IfSome 
 either true x y Q h k = h
 either false x y Q h k = k
 
-where_so : {B : Type 0} (t : Bool) (x : B) (Q : B → Type 0) → (t ≡ true → Q x) → IfSome (if t then Some x else None) Q
+pub where_so : {B : Type 0} (t : Bool) (x : B) (Q : B → Type 0) → (t ≡ true → Q x) → IfSome (if t then Some x else None) Q
 where_so true x Q h = h refl
 where_so false x Q h = tt
 
 -- ---- numbers and names
 
+any : {A : Type 0} (o : Option A) → IfSome o (λ a. ⊤)
+any None = tt
+any (Some a) = tt
+
 below_value : (limit : ℕ) (word : List ℕ) → IfSome (number_below limit word) (λ n. n < limit)
 unfolding number_below
 below_value limit word =
     bind (number_of word) (λ n. if nat_lt n limit then Some n else None) (λ n. ⊤) (λ n. n < limit) (any (number_of word)) (λ n _. where_so (nat_lt n limit) n (λ m. m < limit) (ltb-true n limit))
-  where
-    any : (o : Option ℕ) → IfSome o (λ n. ⊤)
-    any None = tt
-    any (Some n) = tt
 
 short_value : (word : List ℕ) → IfSome (u32_of word) IsShort
 short_value word = below_value (2 ^ 32) word
@@ -343,6 +345,12 @@ keyed_value letter (session ∷ number ∷ words) = bind (key_of session number)
 keyed_value letter [] = tt
 keyed_value letter (session ∷ []) = tt
 
+version_value : (words : List (List ℕ)) → IfSome (version_of words) IsEntryValue
+unfolding version_of
+version_value [] = tt
+version_value (word ∷ words) =
+    either (bytes_eq word (codes "1")) (Some (entry.Version One)) _ IsEntryValue tt (either (bytes_eq word (codes "2")) (Some (entry.Version Two)) None IsEntryValue tt tt)
+
 members_value : (words : List (List ℕ)) → IfSome (members_of words) IsEntryValue
 unfolding members_of
 members_value [] = tt
@@ -350,10 +358,30 @@ members_value (word ∷ words) =
     bind (u64_of word) _ IsLong IsEntryValue (long_value word)
     (λ n ns. where_so (nat_lt 0 n && nat_le n 7) (entry.Members n) IsEntryValue (λ so. let both = and_parts (nat_lt 0 n) (nat_le n 7) so in (ltb-true 0 n both.0, leb-true n 7 both.1)))
 
+are_members : (ws : List ℕ) → are_weights ws ≡ true → IsMembers ws
+are_members ws so =
+    let both = and_parts (nat_lt 0 (length ws) && nat_le (length ws) 7) (list_all is_weight ws) so in
+    let count = and_parts (nat_lt 0 (length ws)) (nat_le (length ws) 7) both.0 in
+    record { some = ltb-true 0 (length ws) count.0; few = leb-true (length ws) 7 count.1; each = both.1 }
+
+-- weights that members can not have tell nothing
+pub not_weighted : (ws : List ℕ) → (IsMembers ws → ⊥) → weighted ws ≡ None
+unfolding weighted
+not_weighted ws h = none_where (are_weights ws) (entry.Weights ws) (λ so. h (are_members ws so))
+
+weighted_value : (ws : List ℕ) → IfSome (weighted ws) IsEntryValue
+unfolding weighted
+weighted_value ws = where_so (are_weights ws) (entry.Weights ws) IsEntryValue (are_members ws)
+
+weights_value : (words : List (List ℕ)) → IfSome (weights_of words) IsEntryValue
+unfolding weights_of
+weights_value words = bind (numbers_after [] words) weighted (λ ns. ⊤) IsEntryValue (any (numbers_after [] words)) (λ ws _. weighted_value ws)
+
 pub entry_value : (words : List (List ℕ)) → IfSome (entry_of words) IsEntryValue
 unfolding entry_of
 entry_value [] = tt
 entry_value (first ∷ words) =
-    either (bytes_eq first (codes "beanpax-dump")) (Some entry.Version) _ IsEntryValue tt
+    either (bytes_eq first (codes "beanpax-dump")) (version_of words) _ IsEntryValue (version_value words)
     (either (bytes_eq first (codes "end")) (Some entry.End) _ IsEntryValue tt
-    (either (bytes_eq first (codes "members")) (members_of words) (keyed_entry first words) IsEntryValue (members_value words) (keyed_value first words)))
+    (either (bytes_eq first (codes "members")) (members_of words) _ IsEntryValue (members_value words)
+    (either (bytes_eq first (codes "weights")) (weights_of words) (keyed_entry first words) IsEntryValue (weights_value words) (keyed_value first words))))

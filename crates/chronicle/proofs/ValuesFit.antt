@@ -1,5 +1,5 @@
 -- What a chronicle's values are, their texts can tell.
-use Rattle.std.proofs.Common.{◌≡◌, ◌≤◌, ℕ, arith, List, [], ◌∷◌, Some, None}
+use Rattle.std.proofs.Common.{◌≡◌, ℕ, arith, List, [], ◌∷◌, Some, None}
 use Rattle.std.specs.List.{AllByRecursion}
 use Rattle.object.specs.declared.command.Act.{Act}
 use Rattle.object.specs.declared.command.Act.TheVariants.{Do, Close, Tick}
@@ -81,12 +81,8 @@ order_fits : (order : List Key) → AllByRecursion IsKeyValue order → AllByRec
 order_fits [] is = tt
 order_fits (key ∷ more) is = (key_fits key is.0, order_fits more is.1)
 
-members_fit : (n : ℕ) → n ≤ 7 → IsNumber n
-members_fit n few = omega (arith, few)
-
 values_fit : (c : Chronicle Op Reply) → IsChronicleValue c → FitsChronicle c
 values_fit c is = record {
-  members = members_fit c.members is.chronicle.few;
   submitted = submitted_fit c.submitted is.submitted;
   answers = answers_fit c.answers is.answers;
   order = order_fits c.order is.order;

@@ -23,6 +23,7 @@ use Rattle.bean_queue.specs.declared.reply.Reply.{Reply}
 use Rattle.chronicle.specs.CheckFaults.{IsWrongLine, IsWrongHappening}
 use Rattle.chronicle.specs.Checking.{IsGivenBy, IsFirstOfKey, IsPlacedLater, IsRightLine, AreRightPlaces, AreRightLines, ordered_commands}
 use Rattle.chronicle.specs.Chronicles.{Chronicle, IsChronicle}
+use Rattle.chronicle.specs.Dump.{first_line}
 use Rattle.chronicle.specs.Happenings.{Happening, happenings, happenings_from}
 use Rattle.chronicle.specs.Happenings.Happening.{Submitted, Answered}
 use Rattle.chronicle.proofs.Legal.{rising, distinct, split}
@@ -262,13 +263,13 @@ module _ (c : Chronicle Op Reply) where
 
   module _ (w : Walk) (walked : HasWalked c w) where
     -- a wrong line is the fault
-    fault : (h : Happening Op Reply) (later : List (Happening Op Reply)) (what : What) → AreRightPlaces c c.order → happenings c.submitted c.answers ≡ seen c w ++ (h ∷ later) → IsWrongLine c (seen c w) h what → IsWrongHappening c (3 + (w.submitted + w.answered)) what
+    fault : (h : Happening Op Reply) (later : List (Happening Op Reply)) (what : What) → AreRightPlaces c c.order → happenings c.submitted c.answers ≡ seen c w ++ (h ∷ later) → IsWrongLine c (seen c w) h what → IsWrongHappening c (first_line c + (w.submitted + w.answered)) what
     fault h later what order cut wrong = record {
       earlier = seen c w;
       happening = h;
       later = later;
       cut = cut;
-      line = ap (λ n. 3 + n) (sym walked.passed.count);
+      line = ap (λ n. first_line c + n) (sym walked.passed.count);
       order = order;
       before = walked.right;
       wrong = wrong;
@@ -288,7 +289,7 @@ module _ (c : Chronicle Op Reply) where
           (reach_submission w.reach (seen c w) s.command walked.reach)
           (right_submission r told w.submitted w.answered w.reach (seen c w) walked.passed walked.reach s at first later)
 
-      pub submission_fault : (what : What) → AreRightPlaces c c.order → IsMisplaced r w.submitted s.command.key w.reach what → IsWrongHappening c (3 + (w.submitted + w.answered)) what
+      pub submission_fault : (what : What) → AreRightPlaces c c.order → IsMisplaced r w.submitted s.command.key w.reach what → IsWrongHappening c (first_line c + (w.submitted + w.answered)) what
       submission_fault what order wrong =
           fault (Submitted s.command) _ what order (submission_cut w.submitted w.answered (seen c w) walked.passed s (drop_at c.submitted w.submitted s at) due)
           (wrong_submission r told w.submitted w.answered w.reach (seen c w) walked.passed walked.reach s at what wrong)
@@ -302,9 +303,9 @@ module _ (c : Chronicle Op Reply) where
           (reach_answer w.reach (seen c w) a place (one_place r told once a place given) given walked.reach)
           (place, given)
 
-      pub answer_fault : (what : What) → AreRightPlaces c c.order → IsNotGiven r a what → IsWrongHappening c (3 + (w.submitted + w.answered)) what
+      pub answer_fault : (what : What) → AreRightPlaces c c.order → IsNotGiven r a what → IsWrongHappening c (first_line c + (w.submitted + w.answered)) what
       answer_fault what order wrong =
-          subst (IsWrongHappening c (3 + (w.submitted + w.answered))) (sym wrong.0)
+          subst (IsWrongHappening c (first_line c + (w.submitted + w.answered))) (sym wrong.0)
           (fault (Answered a) _ NotTheQueuesAnswer order (answer_cut w.submitted w.answered (seen c w) walked.passed a (drop_item c.answers w.answered a inside at) later) (not_given r told once a what wrong))
 
 -- an answer is left where no submission is due

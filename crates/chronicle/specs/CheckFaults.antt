@@ -11,6 +11,7 @@ use Rattle.chronicle.specs.declared.check_fault.What.{What}
 use Rattle.chronicle.specs.declared.check_fault.What.TheVariants.{NotSubmitted, NotKept, SubmittedTwice, PlacedTooEarly, NotTheQueuesAnswer}
 use Rattle.chronicle.specs.Checking.{IsGivenBy, IsAbove, IsFirstOfKey, IsPlacedLater, AreRightPlaces, AreRightLines}
 use Rattle.chronicle.specs.Chronicles.{Chronicle}
+use Rattle.chronicle.specs.Dump.{first_line}
 use Rattle.chronicle.specs.Happenings.{Happening, happenings}
 use Rattle.chronicle.specs.Happenings.Happening.{Submitted, Answered}
 
@@ -27,13 +28,13 @@ IsWrongLine c earlier (Submitted s) PlacedTooEarly = IsFirstOfKey s earlier × (
 IsWrongLine c earlier (Answered a) NotTheQueuesAnswer = (place : ℕ) → IsGivenBy c place a → ⊥
 IsWrongLine c earlier _ _ = ⊥
 
--- line n is the first wrong O line; two lines stand before what happened, and the O lines after it
+-- line n is the first wrong O line; the O lines stand after what happened
 pub record IsWrongOrder (c : Chronicle Op Reply) (n : ℕ) (what : What) : Type 0 where
   pub earlier : List Key
   pub key : Key
   pub later : List Key
   pub cut : c.order ≡ earlier ++ (key ∷ later)
-  pub line : n ≡ 3 + length (happenings c.submitted c.answers) + length earlier
+  pub line : n ≡ first_line c + length (happenings c.submitted c.answers) + length earlier
   pub before : AreRightPlaces c earlier
   pub wrong : IsWrongPlace c earlier key what
 
@@ -43,7 +44,7 @@ pub record IsWrongHappening (c : Chronicle Op Reply) (n : ℕ) (what : What) : T
   pub happening : Happening Op Reply
   pub later : List (Happening Op Reply)
   pub cut : happenings c.submitted c.answers ≡ earlier ++ (happening ∷ later)
-  pub line : n ≡ 3 + length earlier
+  pub line : n ≡ first_line c + length earlier
   pub order : AreRightPlaces c c.order
   pub before : AreRightLines c earlier
   pub wrong : IsWrongLine c earlier happening what

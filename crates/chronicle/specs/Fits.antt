@@ -65,7 +65,6 @@ FitsAnswer a = FitsKey a.to × FitsReply a.reply
 
 -- the same of all that a chronicle has
 pub record FitsChronicle (c : Chronicle Op Reply) : Type 0 where
-  pub members : IsNumber c.members
   pub submitted : AllByRecursion (λ (s : Submission Op). FitsCommand s.command) c.submitted
   pub answers : AllByRecursion FitsAnswer c.answers
   pub order : AllByRecursion FitsKey c.order

@@ -1,9 +1,13 @@
--- A chronicle with one thing more, which came last.
-use Rattle.std.specs.Prelude.{[], ◌∷◌, ◌++◌, length}
+-- A chronicle as it grows: with nothing yet, and with one thing more, which came last.
+use Rattle.std.specs.Prelude.{ℕ, List, [], ◌∷◌, ◌++◌, length}
 use Rattle.object.specs.declared.command.Answer.{Answer}
 use Rattle.object.specs.declared.command.Command.{Command}
 use Rattle.object.specs.declared.command.Key.{Key}
 use Rattle.chronicle.specs.Chronicles.{Chronicle}
+
+-- nothing happened yet among members of these weights
+abbrev pub begun : {Op Reply : Type 0} → List ℕ → Chronicle Op Reply
+begun weights = record { members = weights; submitted = []; answers = []; order = [] }
 
 -- the command is submitted after all that happened
 abbrev pub submitted_last : {Op Reply : Type 0} → Command Op → Chronicle Op Reply → Chronicle Op Reply

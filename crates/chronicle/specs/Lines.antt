@@ -15,6 +15,10 @@ spaced words = flat_map after_space words
 unfoldable pub line : List ℕ → List (List ℕ) → List ℕ
 line first words = first ++ spaced words ++ codes "\n"
 
+-- lines as one text
+abbrev pub joined : List (List ℕ) → List ℕ
+joined lines = flat_map (λ line. line) lines
+
 -- the word for a body: two digits a byte, in lower case, or a hyphen where it is empty
 unfoldable pub body_word : List ℕ → List ℕ
 body_word [] = codes "-"

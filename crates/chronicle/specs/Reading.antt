@@ -1,25 +1,20 @@
 -- Which text is read, and where reading stops.
 use Rattle.std.specs.Prelude.{◌≡◌, ℕ, suc, List, [], ◌∷◌, ◌++◌, map, length}
-use Rattle.std.specs.List.{flat_map}
 use Rattle.object.specs.Lists.{IsBeginning}
 use Rattle.bean_queue.specs.declared.op.Op.{Op}
 use Rattle.bean_queue.specs.declared.reply.Reply.{Reply}
 use Rattle.chronicle.specs.Chronicles.{Chronicle}
-use Rattle.chronicle.specs.Dump.{version_line, members_line, happening_line, order_line, end_line, dump_text}
+use Rattle.chronicle.specs.Dump.{head_lines, happening_line, order_line, end_line, dump_text}
 use Rattle.chronicle.specs.Happenings.{happenings}
+use Rattle.chronicle.specs.Lines.{joined}
 use Rattle.chronicle.specs.Values.{IsChronicleValue}
 
 -- the lines of a chronicle's text, each with its line feed
 abbrev pub dump_lines : Chronicle Op Reply → List (List ℕ)
 dump_lines c =
-    version_line ∷
-    members_line c.members ∷
+    head_lines c.members ++
     (map happening_line (happenings c.submitted c.answers) ++
     (map order_line c.order ++ (end_line ∷ [])))
-
--- lines as one text
-abbrev pub joined : List (List ℕ) → List ℕ
-joined lines = flat_map (λ line. line) lines
 
 -- some chronicle's text begins with these lines
 pub record BeginsDump (lines : List (List ℕ)) : Type 0 where

@@ -1,7 +1,9 @@
 -- What the words of a line tell, where they are those of a line as it is written. Of other words they may tell something too.
-use Rattle.std.specs.Prelude.{ℕ, ◌^◌, Bool, ◌&&◌, ◌==◌, nat_lt, nat_le, List, [], ◌∷◌, ◌++◌, codes, Option, Some, None, Result, Ok, Err, if◌then◌else◌}
+use Rattle.std.specs.Prelude.{ℕ, ◌^◌, Bool, ◌&&◌, ◌==◌, nat_lt, nat_le, List, [], ◌∷◌, ◌++◌, length, codes, Option, Some, None, Result, Ok, Err, if◌then◌else◌}
+use Rattle.std.specs.List.{list_all}
 use Rattle.std.specs.Option.{option_map, option_and_then}
 use Rattle.std.specs.Str.{bytes_eq}
+use Rattle.ballot.specs.Members.{is_weight}
 use Rattle.object.specs.declared.command.Act.{Act}
 use Rattle.object.specs.declared.command.Act.TheVariants.{Do, Close, Tick}
 use Rattle.object.specs.declared.command.Key.{Key}
@@ -20,6 +22,7 @@ use Rattle.bean_codec.specs.Numbers.{◌>>=◌, u32_of, u64_of}
 use Rattle.bean_codec.specs.TubeNames.{name_of}
 use Rattle.chronicle.specs.declared.entry.Entry.{Entry}
 use Rattle.chronicle.specs.declared.entry.Entry.TheVariants as entry
+use Rattle.chronicle.specs.declared.version.Version.TheVariants.{One, Two}
 use Rattle.hex.specs.Hex.{decode_of}
 use Rattle.hex.specs.declared.error.FromHexError.{FromHexError}
 
@@ -162,18 +165,46 @@ keyed_entry letter (session ∷ number ∷ words) = do
   entry_under letter key words
 keyed_entry letter _ = None
 
+-- the version that the words tell
+unfoldable pub version_of : List (List ℕ) → Option Entry
+version_of [] = None
+version_of (word ∷ _) =
+    if bytes_eq word (codes "1") then Some (entry.Version One)
+    else if bytes_eq word (codes "2") then Some (entry.Version Two)
+    else None
+
 -- how many members the words tell
 unfoldable pub members_of : List (List ℕ) → Option Entry
 members_of [] = None
 members_of (word ∷ _) = do
-  members ← u64_of word
-  if nat_lt 0 members && nat_le members 7 then Some (entry.Members members) else None
+  count ← u64_of word
+  if nat_lt 0 count && nat_le count 7 then Some (entry.Members count) else None
+
+-- members can have these weights
+abbrev pub are_weights : List ℕ → Bool
+are_weights weights = nat_lt 0 (length weights) && nat_le (length weights) 7 && list_all is_weight weights
+
+-- the weights, where members can have them
+unfoldable pub weighted : List ℕ → Option Entry
+weighted weights = if are_weights weights then Some (entry.Weights weights) else None
+
+-- the numbers that are told after these
+abbrev pub numbers_after : List ℕ → List (List ℕ) → Option (List ℕ)
+numbers_after numbers [] = Some numbers
+numbers_after numbers (word ∷ words) = do
+  number ← u32_of word
+  numbers_after (numbers ++ (number ∷ [])) words
+
+-- the weights that the words tell
+unfoldable pub weights_of : List (List ℕ) → Option Entry
+weights_of words = option_and_then weighted (numbers_after [] words)
 
 -- what the words of a line tell
 unfoldable pub entry_of : List (List ℕ) → Option Entry
 entry_of [] = None
 entry_of (first ∷ words) =
-    if bytes_eq first (codes "beanpax-dump") then Some entry.Version
+    if bytes_eq first (codes "beanpax-dump") then version_of words
     else if bytes_eq first (codes "end") then Some entry.End
     else if bytes_eq first (codes "members") then members_of words
+    else if bytes_eq first (codes "weights") then weights_of words
     else keyed_entry first words

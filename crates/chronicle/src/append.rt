@@ -1,4 +1,4 @@
-ghost use Rattle.std.specs.Prelude.{◌≡◌, ◌++◌, ◌∷◌, [], take, vec_len, decimal, OnOk};
+ghost use Rattle.std.specs.Prelude.{◌≡◌, ◌++◌, ◌∷◌, [], map, take, vec_len, decimal, OnOk};
 ghost use Rattle.std.specs.List.{AllByRecursion};
 ghost use Rattle.hex.specs.Hex.{IsBytes};
 ghost use Rattle.job_store.specs.Names.{IsName};
@@ -72,6 +72,17 @@ pub fn append_job(word: &[u8], id: u64, body: &[u8], out: &mut Vec<u8>) -> Resul
     append_word(word, out)?;
     append_number(id, out)?;
     append_body(body, out)
+}
+
+/// Writes the digits of numbers at the end, each after a space. Where memory runs out, a part of them may stand there.
+pub fn append_numbers(numbers: &[u32], out: &mut Vec<u8>) -> Result<(), AllocError>
+    ensures ok { OnOk result (out.new.items ≡ out.old.items ++ spaced (map decimal numbers.now)) }
+    ensures front { take (vec_len out.old) out.new.items ≡ out.old.items }
+{
+    for number in numbers {
+        append_number(*number as u64, out)?;
+    }
+    Ok(())
 }
 
 /// Writes words at the end, each after a space. Where memory runs out, a part of them may stand there.

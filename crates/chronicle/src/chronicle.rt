@@ -1,10 +1,14 @@
-ghost use Rattle.std.specs.Prelude.{◌≡◌, SomeIff, OnOk, OnErr};
+ghost use Rattle.std.specs.Prelude.{◌≡◌, ◌≤◌, SomeIff, OnOk, OnErr};
 ghost use Rattle.chronicle.specs.Chronicles.{IsChronicle};
-ghost use Rattle.chronicle.specs.Growing.{submitted_last, answered_last, placed_last};
+ghost use Rattle.chronicle.specs.Dump.{first_line};
+ghost use Rattle.object.specs.Happenings.{IsTimeline};
+ghost use Rattle.chronicle.specs.Growing.{begun, submitted_last, answered_last, placed_last};
 
 use crate::timeline::is_timeline;
+use crate::version::Version;
+use ballot::Members;
 use object::{Answer, Command, Key, Submission, Value};
-use std::alloc::AllocError;
+use std::alloc::{AllocError, Global};
 use std::marker::Model;
 
 /// What happened in a run of nodes.
@@ -13,7 +17,7 @@ use std::marker::Model;
 /// happened, in its order.
 #[derive(Drop)]
 pub struct Chronicle<Op: Value, Reply: Value> {
-    members: u8,
+    members: Members,
     submitted: Vec<Submission<Op>>,
     answers: Vec<Answer<Reply>>,
     order: Vec<Key>,
@@ -43,22 +47,16 @@ impl<Op: Value, Reply: Value> Model for Chronicle<Op, Reply> {
 }
 
 impl<Op: Value, Reply: Value> Chronicle<Op, Reply> {
-    /// The chronicle of these parts, where there are 1 to 7 members, no submission comes before an earlier one, and none
-    /// after more answers than were given.
+    /// The chronicle of these parts, where no submission comes before an earlier one, and none after more answers than
+    /// were given.
     pub fn new(
-        members: u8,
+        members: Members,
         submitted: Vec<Submission<Op>>,
         answers: Vec<Answer<Reply>>,
         order: Vec<Key>,
     ) -> Option<Chronicle<Op, Reply>>
         ensures { SomeIff result
-            (IsChronicle
-            (record {
-              members = members;
-              submitted = submitted.items;
-              answers = answers.items;
-              order = order.items;
-            }))
+            (IsTimeline (record { submitted = submitted.items; answers = answers.items }))
             (record {
               members = members;
               submitted = submitted.items;
@@ -66,7 +64,9 @@ impl<Op: Value, Reply: Value> Chronicle<Op, Reply> {
               order = order.items;
             }) }
     {
-        if members < 1 || members > 7 || !is_timeline(&submitted, &answers) {
+        // Members have weights that a chronicle may have.
+        let _weights = members.weights();
+        if !is_timeline(&submitted, &answers) {
             return None;
         }
         Some(Chronicle {
@@ -77,9 +77,22 @@ impl<Op: Value, Reply: Value> Chronicle<Op, Reply> {
         })
     }
 
-    /// How many nodes there are.
-    pub fn members(&self) -> u8
-        ensures count { result ≡ self.now.members }
+    /// The chronicle of these members before anything happens.
+    pub(crate) fn begin(alloc: Global, members: Members) -> Chronicle<Op, Reply>
+        ensures { result ≡ begun members }
+    {
+        let _weights = members.weights();
+        Chronicle {
+            members,
+            submitted: Vec::new(alloc),
+            answers: Vec::new(alloc),
+            order: Vec::new(alloc),
+        }
+    }
+
+    /// The nodes that ran, with their weights.
+    pub fn members(&self) -> Members
+        ensures members { result ≡ self.now.members }
         ensures kept { IsChronicle self.now }
     {
         self.members
@@ -107,6 +120,17 @@ impl<Op: Value, Reply: Value> Chronicle<Op, Reply> {
         ensures kept { IsChronicle self.now }
     {
         self.order.as_slice()
+    }
+
+    /// The number of the line in its text from which on stands what happened.
+    pub(crate) fn first_line(&self) -> u64
+        ensures line { result ≡ first_line self.now }
+        ensures few { result ≤ 4 }
+    {
+        match Version::of(self.members) {
+            Version::One => 3,
+            Version::Two => 4,
+        }
     }
 
     /// A command more was submitted, after all that happened.

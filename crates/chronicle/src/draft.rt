@@ -4,6 +4,8 @@ ghost use Rattle.chronicle.specs.Entries.{IsEntryValue};
 
 use crate::chronicle::Chronicle;
 use crate::entry::Entry;
+use crate::version::Version;
+use ballot::Members;
 use bean_queue::{Op, Reply};
 use std::alloc::{AllocError, Global};
 
@@ -12,8 +14,10 @@ use std::alloc::{AllocError, Global};
 pub enum Draft {
     /// Nothing was read.
     Start,
-    /// The first line was read.
-    Head,
+    /// The first line was read: it has this version, and the count of members comes next.
+    Head(Version),
+    /// The count of members was read, and their weights come next.
+    Counted(u8),
     /// What happened comes next.
     Happenings(Chronicle<Op, Reply>),
     /// The first command that counted was read: more of them come next, or the last line.
@@ -30,7 +34,8 @@ impl Draft {
     {
         match self {
             Draft::Start => Ok(after_nothing(entry)),
-            Draft::Head => Ok(after_head(alloc, entry)),
+            Draft::Head(version) => Ok(after_version(alloc, version, entry)),
+            Draft::Counted(count) => Ok(after_count(alloc, count, entry)),
             Draft::Happenings(chronicle) => after_happening(chronicle, entry),
             Draft::Order(chronicle) => after_place(chronicle, entry),
             Draft::Whole(_) => Ok(None),
@@ -43,27 +48,39 @@ fn after_nothing(entry: Entry) -> Option<Draft>
     ensures { result ≡ next Draft.Start entry }
 {
     match entry {
-        Entry::Version => Some(Draft::Head),
+        Entry::Version(version) => Some(Draft::Head(version)),
         _ => None,
     }
 }
 
-// The second is the count of members.
-fn after_head(alloc: Global, entry: Entry) -> Option<Draft>
+// The second is the count of members. In version 1 each of them weighs 1.
+fn after_version(alloc: Global, version: Version, entry: Entry) -> Option<Draft>
     requires { IsEntryValue entry }
-    ensures { result ≡ next Draft.Head entry }
+    ensures { result ≡ next (Draft.Head version) entry }
 {
-    match entry {
-        Entry::Members(members) => {
-            let nothing = Chronicle::new(
-                members,
-                Vec::new(alloc),
-                Vec::new(alloc),
-                Vec::new(alloc),
-            );
-            nothing.map(Draft::Happenings)
+    let Entry::Members(count) = entry else {
+        return None;
+    };
+    match version {
+        Version::One => {
+            let members = Members::new(count)?;
+            Some(Draft::Happenings(Chronicle::begin(alloc, members)))
         }
-        _ => None,
+        Version::Two => Some(Draft::Counted(count)),
+    }
+}
+
+// The third line of version 2 has a weight for each member, and not all of them are 1.
+fn after_count(alloc: Global, count: u8, entry: Entry) -> Option<Draft>
+    ensures { result ≡ next (Draft.Counted count) entry }
+{
+    let Entry::Weights(members) = entry else {
+        return None;
+    };
+    if members.count() == count && !members.is_unweighted() {
+        Some(Draft::Happenings(Chronicle::begin(alloc, members)))
+    } else {
+        None
     }
 }
 
@@ -75,7 +92,7 @@ fn after_happening(
     ensures { IfOk result (λ draft. draft ≡ next (Draft.Happenings chronicle) entry) }
 {
     match entry {
-        Entry::Version | Entry::Members(_) => return Ok(None),
+        Entry::Version(_) | Entry::Members(_) | Entry::Weights(_) => return Ok(None),
         Entry::Submitted(command) => chronicle.submit(command)?,
         Entry::Answered(answer) => chronicle.answer(answer)?,
         Entry::Placed(key) => {

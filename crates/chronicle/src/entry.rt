@@ -3,8 +3,11 @@ ghost use Rattle.chronicle.specs.Entries.{entry_line, Says};
 
 use crate::lines::{
     append_answer, append_end, append_members, append_place, append_submission, append_version,
+    append_weights,
 };
 use crate::tell::entry_of;
+use crate::version::Version;
+use ballot::Members;
 use bean_codec::Words;
 use bean_queue::{Op, Reply};
 use object::{Answer, Command, Key};
@@ -14,9 +17,11 @@ use std::alloc::{AllocError, Global};
 #[derive(Drop)]
 pub enum Entry {
     /// The first line, with the version.
-    Version,
+    Version(Version),
     /// How many members there are.
     Members(u8),
+    /// What each of them weighs.
+    Weights(Members),
     /// A command was submitted.
     Submitted(Command<Op>),
     /// An answer was given.
@@ -33,8 +38,9 @@ fn append_entry(entry: &Entry, out: &mut Vec<u8>) -> Result<(), AllocError>
     ensures front { take (vec_len out.old) out.new.items ≡ out.old.items }
 {
     match entry {
-        Entry::Version => append_version(out),
-        Entry::Members(members) => append_members(*members, out),
+        Entry::Version(version) => append_version(*version, out),
+        Entry::Members(count) => append_members(*count, out),
+        Entry::Weights(members) => append_weights(members.weights(), out),
         Entry::Submitted(command) => append_submission(command, out),
         Entry::Answered(answer) => append_answer(answer, out),
         Entry::Placed(key) => append_place(*key, out),

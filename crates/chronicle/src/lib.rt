@@ -22,8 +22,10 @@ mod replay;
 mod replies;
 mod tell;
 mod tell_acts;
+mod tell_head;
 mod tell_replies;
 mod timeline;
+mod version;
 mod walk;
 mod writer;
 

@@ -1,11 +1,12 @@
 ghost use Rattle.std.specs.Prelude.{◌≡◌, ◌++◌, ◌∷◌, [], take, vec_len, decimal, OnOk};
-ghost use Rattle.chronicle.specs.Dump.{submission_line, answer_line, order_line, version_line, members_line, end_line};
+ghost use Rattle.chronicle.specs.Dump.{submission_line, answer_line, order_line, version_line, members_line, weights_line, end_line};
 ghost use Rattle.chronicle.specs.Lines.{spaced};
 ghost use Rattle.chronicle.specs.Values.{IsAnswerValue, IsCommandValue, IsKeyValue};
 
 use crate::acts::append_act;
-use crate::append::append_number;
+use crate::append::{append_number, append_numbers};
 use crate::replies::append_reply;
+use crate::version::Version;
 use bean_queue::{Op, Reply};
 use object::{Answer, Command, Key};
 use std::alloc::AllocError;
@@ -60,21 +61,35 @@ pub fn append_place(key: Key, out: &mut Vec<u8>) -> Result<(), AllocError>
 
 /// Writes the first line, with the version, at the end. Where memory runs out, nothing is written.
 #[tactic(auto, unfolding(crate::specs::Dump::version_line, crate::specs::Lines::line))]
-pub fn append_version(out: &mut Vec<u8>) -> Result<(), AllocError>
-    ensures ok { OnOk result (out.new.items ≡ out.old.items ++ version_line) }
+pub fn append_version(version: Version, out: &mut Vec<u8>) -> Result<(), AllocError>
+    ensures ok { OnOk result (out.new.items ≡ out.old.items ++ version_line version) }
     ensures front { take (vec_len out.old) out.new.items ≡ out.old.items }
 {
-    out.extend_from_slice(b"beanpax-dump 1\n")
+    match version {
+        Version::One => out.extend_from_slice(b"beanpax-dump 1\n"),
+        Version::Two => out.extend_from_slice(b"beanpax-dump 2\n"),
+    }
 }
 
 /// Writes the line for the count of members at the end. Where memory runs out, a part of it may stand there.
 #[tactic(auto, unfolding(crate::specs::Dump::members_line, crate::specs::Lines::line))]
-pub fn append_members(members: u8, out: &mut Vec<u8>) -> Result<(), AllocError>
-    ensures ok { OnOk result (out.new.items ≡ out.old.items ++ members_line members) }
+pub fn append_members(count: u8, out: &mut Vec<u8>) -> Result<(), AllocError>
+    ensures ok { OnOk result (out.new.items ≡ out.old.items ++ members_line count) }
     ensures front { take (vec_len out.old) out.new.items ≡ out.old.items }
 {
     out.extend_from_slice(b"members")?;
-    append_number(members as u64, out)?;
+    append_number(count as u64, out)?;
+    out.extend_from_slice(b"\n")
+}
+
+/// Writes the line for the weights of members at the end. Where memory runs out, a part of it may stand there.
+#[tactic(auto, unfolding(crate::specs::Dump::weights_line, crate::specs::Lines::line))]
+pub fn append_weights(weights: &[u32], out: &mut Vec<u8>) -> Result<(), AllocError>
+    ensures ok { OnOk result (out.new.items ≡ out.old.items ++ weights_line weights.now) }
+    ensures front { take (vec_len out.old) out.new.items ≡ out.old.items }
+{
+    out.extend_from_slice(b"weights")?;
+    append_numbers(weights, out)?;
     out.extend_from_slice(b"\n")
 }
 

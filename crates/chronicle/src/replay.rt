@@ -2,6 +2,7 @@ ghost use Rattle.std.specs.Prelude.{◌≡◌, ◌+◌, ◌<◌, ◌^◌, ◌++�
 ghost use Rattle.object.specs.Happenings.{submitted_key};
 ghost use Rattle.object.specs.OnceOnly.{is_later, filtered, filtered_answers};
 ghost use Rattle.chronicle.specs.Checking.{AreRightPlaces};
+ghost use Rattle.chronicle.specs.Dump.{first_line};
 ghost use Rattle.chronicle.specs.Happenings.{happenings};
 ghost use Rattle.chronicle.specs.Replaying.{HasFirstPlaces, AreGiven, IsOrderFault, placed, queue_after, queue_answers};
 
@@ -88,9 +89,11 @@ fn obey(
 
 /// The number of the first O line, were there one.
 fn order_line(chronicle: &Chronicle<Op, Reply>) -> u64
-    ensures line { result ≡ 3 + length (happenings chronicle.now.submitted chronicle.now.answers) }
+    ensures line { result ≡ first_line chronicle.now
+        + length (happenings chronicle.now.submitted chronicle.now.answers) }
     ensures room { result + length chronicle.now.order < 2 ^ 64 }
 {
     let _order = chronicle.order().len();
-    3 + chronicle.submitted().len() as u64 + chronicle.answers().len() as u64
+    let happened = chronicle.submitted().len() as u64 + chronicle.answers().len() as u64;
+    chronicle.first_line() + happened
 }

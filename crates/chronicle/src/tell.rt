@@ -3,6 +3,7 @@ ghost use Rattle.chronicle.specs.Told as told;
 
 use crate::entry::Entry;
 use crate::tell_acts::act_of;
+use crate::tell_head::{members_of, version_of, weights_of};
 use crate::tell_replies::reply_of;
 use bean_codec::{Words, u32_of, u64_of};
 use bean_queue::Op;
@@ -18,7 +19,7 @@ pub fn entry_of(alloc: Global, mut words: Words<'_>) -> Result<Option<Entry>, Al
         return Ok(None);
     };
     if first == b"beanpax-dump".as_slice() {
-        return Ok(Some(Entry::Version));
+        return Ok(version_of(words));
     }
     if first == b"end".as_slice() {
         return Ok(Some(Entry::End));
@@ -26,19 +27,10 @@ pub fn entry_of(alloc: Global, mut words: Words<'_>) -> Result<Option<Entry>, Al
     if first == b"members".as_slice() {
         return Ok(members_of(words));
     }
-    keyed_entry(alloc, first, words)
-}
-
-// How many members the words tell.
-#[tactic(auto, unfolding(crate::specs::Told::members_of))]
-fn members_of(mut words: Words<'_>) -> Option<Entry>
-    ensures { result ≡ told.members_of words.entry }
-{
-    let members = u64_of(words.next()?)?;
-    if members < 1 || members > 7 {
-        return None;
+    if first == b"weights".as_slice() {
+        return weights_of(alloc, words);
     }
-    Some(Entry::Members(members as u8))
+    keyed_entry(alloc, first, words)
 }
 
 // What a line with a key tells.

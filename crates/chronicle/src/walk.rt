@@ -5,6 +5,7 @@ ghost use Rattle.object.specs.Lists.{In};
 ghost use Rattle.chronicle.specs.Checking.{AreRightPlaces, AreRightLines};
 ghost use Rattle.chronicle.specs.CheckFaults.{IsWrongHappening};
 ghost use Rattle.chronicle.specs.Chronicles.{IsChronicle};
+ghost use Rattle.chronicle.specs.Dump.{first_line};
 ghost use Rattle.chronicle.specs.Happenings.{happenings};
 ghost use Rattle.chronicle.specs.Replaying.{HasFirstPlaces, placed};
 ghost use Rattle.chronicle.specs.Walks.{IsReplayed, HasWalked, IsMisplaced, IsNotGiven, NoneIsDue, IsHappeningFault};
@@ -93,7 +94,8 @@ impl Walk {
         ensures count { IfOk result (λ w.
             w.submitted + w.answered ≡ self.submitted + self.answered + 1) }
         ensures err { IfErr result
-            (IsWrongHappening chronicle.now (3 + (self.submitted + self.answered))) }
+            (IsWrongHappening chronicle.now
+            (first_line chronicle.now + (self.submitted + self.answered))) }
     {
         one_answer();
         match self.due(chronicle) {
@@ -146,6 +148,7 @@ pub(crate) fn check_happenings(
     ensures kept { IsChronicle chronicle.now }
 {
     let count = chronicle.submitted().len() + chronicle.answers().len();
+    let first_line = chronicle.first_line();
     let mut walk = Walk {
         submitted: 0,
         answered: 0,
@@ -154,7 +157,7 @@ pub(crate) fn check_happenings(
     for line in 0..count {
         walk = match walk.next(chronicle, replayed) {
             Ok(next) => next,
-            Err(what) => return Err(CheckFault::At(line as u64 + 3, what)),
+            Err(what) => return Err(CheckFault::At(first_line + line as u64, what)),
         };
     }
     Ok(())

@@ -1,8 +1,9 @@
 ghost use Rattle.std.specs.Prelude.{◌≡◌, ◌++◌, take, vec_len, OnOk, OnErr};
 ghost use Rattle.std.specs.List.{AllByRecursion, flat_map};
 ghost use Rattle.chronicle.specs.Chronicles.{IsChronicle};
-ghost use Rattle.chronicle.specs.Dump.{answer_line, order_line, happening_line, dump_text};
+ghost use Rattle.chronicle.specs.Dump.{answer_line, order_line, happening_line, head_lines, dump_text};
 ghost use Rattle.chronicle.specs.Happenings.{happenings};
+ghost use Rattle.chronicle.specs.Lines.{joined};
 ghost use Rattle.chronicle.specs.Values.{IsAnswerValue, IsChronicleValue, IsCommandValue, IsKeyValue};
 ghost use Rattle.object.specs.Happenings.{IsTimeline};
 ghost use Rattle.object.specs.declared.command.Submission.{Submission};
@@ -11,7 +12,10 @@ ghost use Rattle.bean_queue.specs.declared.op.Op.{Op};
 use crate::chronicle::Chronicle;
 use crate::lines::{
     append_answer, append_end, append_members, append_place, append_submission, append_version,
+    append_weights,
 };
+use crate::version::Version;
+use ballot::Members;
 use bean_queue::{Op, Reply};
 use object::{Answer, Key, Submission};
 use std::alloc::AllocError;
@@ -39,11 +43,24 @@ fn append_dump(chronicle: &Chronicle<Op, Reply>, out: &mut Vec<u8>) -> Result<()
     ensures front { take (vec_len out.old) out.new.items ≡ out.old.items }
     ensures value { OnOk result (IsChronicleValue chronicle.now) }
 {
-    append_version(out)?;
-    append_members(chronicle.members(), out)?;
+    append_head(chronicle.members(), out)?;
     append_happenings(chronicle.submitted(), chronicle.answers(), out)?;
     append_order(chronicle.order(), out)?;
     append_end(out)
+}
+
+/// Writes the lines before what happened at the end. Where memory runs out, a part of them may stand there.
+fn append_head(members: Members, out: &mut Vec<u8>) -> Result<(), AllocError>
+    ensures ok { OnOk result (out.new.items ≡ out.old.items ++ joined (head_lines members)) }
+    ensures front { take (vec_len out.old) out.new.items ≡ out.old.items }
+{
+    let version = Version::of(members);
+    append_version(version, out)?;
+    append_members(members.count(), out)?;
+    match version {
+        Version::One => Ok(()),
+        Version::Two => append_weights(members.weights(), out),
+    }
 }
 
 /// Writes what happened at the end, a line each. Where memory runs out, a part of it may stand there.

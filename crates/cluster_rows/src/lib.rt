@@ -23,3 +23,5 @@ mod narrow;
 mod served_rows;
 #[cfg(test)]
 mod soak_rows;
+#[cfg(test)]
+mod weighted_rows;

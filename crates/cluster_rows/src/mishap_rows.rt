@@ -54,7 +54,7 @@ impl<'a> Accept for AfterRestarts<'a> {
 }
 
 /// The number of the job that a put was answered with, where that was all.
-fn inserted(told: &[u8]) -> Option<u64> {
+pub(crate) fn inserted(told: &[u8]) -> Option<u64> {
     let number = told.strip_prefix(b"INSERTED ")?.strip_suffix(b"\r\n")?;
     std::str::from_utf8(number).ok()?.parse().ok()
 }

@@ -33,6 +33,20 @@ impl Faults for RestartsAtFirst {
     }
 }
 
+/// Each node but the first restarts at each of its turns.
+#[derive(Drop)]
+pub struct OthersRestart;
+
+impl Faults for OthersRestart {
+    fn choose(&self, node: u8, _turn: u64) -> Mishap {
+        if node == 1 {
+            Mishap::None
+        } else {
+            Mishap::Restart
+        }
+    }
+}
+
 /// Before each turn of node 2 the letter in front of its mail is lost, until the clock goes.
 #[derive(Drop)]
 pub struct LosesUntil<'a> {

@@ -74,7 +74,7 @@ to_note h t = if is_some (reply_of (last_noted t)) then None else reply_to h (la
 -- the chronicle of a hall
 abbrev pub chronicle_of : {Op Reply : Type 0} → HallState Op Reply → Chronicle Op Reply
 chronicle_of h = record {
-  members = length h.nodes.network.members;
+  members = h.nodes.network.members;
   submitted = h.nodes.past.happenings.submitted;
   answers = h.nodes.past.happenings.answers;
   order = h.nodes.past.order;

@@ -2,7 +2,6 @@
 use crate::dumps::{KICK, LOST_LEADER, read};
 use crate::outcome::Outcome;
 use crate::subject::{Refusal, Subject, Then, walk};
-use ballot::Members;
 use bean_queue::{Op, Queue, Reply};
 use chronicle::Chronicle;
 use object::{Command, Submission, Value};
@@ -104,7 +103,7 @@ fn new_nodes<'a>(
     turns: &'a [Turn],
 ) -> Option<Nodes<'a>> {
     Some(Nodes {
-        world: World::new(alloc, Members::new(dump.members())?).ok()?,
+        world: World::new(alloc, dump.members()).ok()?,
         submitted: dump.submitted(),
         turns,
     })

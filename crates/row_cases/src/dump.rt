@@ -1,9 +1,11 @@
-//! Dumps of what happened. A step is a part of it, or the number of nodes, with which the parts so far are dumped.
+//! Dumps of what happened. A step is a part of it, or the number of nodes or their weights, with which the parts so far are
+//! dumped.
 use crate::replies::reply_of;
 use crate::script::{Stage, tell_line};
 use crate::spoken::{command_of, key_of};
 use crate::values::{count_of, node_of};
 use anyhow::{Context, Result, bail};
+use ballot::Members;
 use bean_queue::{Op, Queue, Reply};
 use chronicle::Chronicle;
 use object::{Answer, Key, Submission};
@@ -44,8 +46,12 @@ impl Parts {
     }
 
     // Tells the dump of the parts so far, and forgets them.
-    fn tell_dump(&mut self, alloc: Global, members: &str, told: &mut String) -> Result<()> {
-        let members = node_of(members)?;
+    fn tell_dump(
+        &mut self,
+        alloc: Global,
+        members: Option<Members>,
+        told: &mut String,
+    ) -> Result<()> {
         let parts = mem::replace(self, Parts::new(alloc));
         match dump_of(alloc, members, parts)? {
             Some(dump) => tell_lines(dump.as_str(), told),
@@ -68,10 +74,20 @@ impl Stage for Parts {
             "submit" => self.submit(alloc, text),
             "answer" => self.answer(alloc, text),
             "order" => self.place(text),
-            "nodes" => self.tell_dump(alloc, text, told),
+            "nodes" => self.tell_dump(alloc, Members::new(node_of(text)?), told),
+            "weights" => self.tell_dump(alloc, weighted(alloc, text)?, told),
             _ => bail!("no such part"),
         }
     }
+}
+
+// The members of these weights, where they are some.
+fn weighted(alloc: Global, text: &str) -> Result<Option<Members>> {
+    let mut weights = Vec::new(alloc);
+    for word in text.split(' ') {
+        weights.push(word.parse::<u32>().context("no weight")?)?;
+    }
+    Ok(Members::weighted(&weights))
 }
 
 // A submission: the words of its command, `after`, and how many answers came before it.
@@ -91,7 +107,10 @@ fn answer_of(alloc: Global, text: &str) -> Result<Answer<Reply>> {
 }
 
 /// The text of a dump of these parts, where they make a chronicle.
-pub fn dump_of(alloc: Global, members: u8, parts: Parts) -> Result<Option<String>> {
+pub fn dump_of(alloc: Global, members: Option<Members>, parts: Parts) -> Result<Option<String>> {
+    let Some(members) = members else {
+        return Ok(None);
+    };
     match Chronicle::new(members, parts.submitted, parts.answers, parts.order) {
         Some(chronicle) => text_of(alloc, &chronicle).map(Some),
         None => Ok(None),

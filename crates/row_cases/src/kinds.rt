@@ -18,6 +18,9 @@ use std::alloc::Global;
 /// The nodes and seeds with which a run over bytes is tried.
 const RUNS: [(u8, u64); 3] = [(1, 0), (3, 1), (7, u64::MAX)];
 
+/// Nodes of other weights than 1.
+const WEIGHTS: [&str; 3] = ["--weights 3,1,1", "--weights 1,2", "--weights 1,1,1,1,5"];
+
 /// How many bytes a session is given at a time: all that there is room for, or one.
 const WHOLE_AND_BYTE_BY_BYTE: [usize; 2] = [usize::MAX, 1];
 
@@ -42,19 +45,29 @@ pub fn try_case<H: Host>(rt: &H, case: &Case<'_>, faults: &mut Vec<String>) -> R
     }
 }
 
-// A client is told the same in pieces of 1, 7 and 4096 bytes, and on 1 to 7 nodes with seeds 0 to 9.
+// A client is told the same in pieces of 1, 7 and 4096 bytes, and on 1 to 7 nodes and on nodes of other weights, with seeds
+// 0 to 9.
 fn try_client<H: Host>(rt: &H, lines: &[&str], faults: &mut Vec<String>) -> Result<()> {
     let client = Client::of(rt.alloc(), "0", lines)?;
     try_lengths(rt, &client, "run", &[1, 7, 4096], faults)?;
     for nodes in 1..=7 {
-        try_seeds(rt, &client, nodes, faults)?;
+        let nodes = format!(in rt.alloc(); "--nodes {nodes}")?;
+        try_seeds(rt, &client, nodes.as_str(), faults)?;
+    }
+    for weights in WEIGHTS {
+        try_seeds(rt, &client, weights, faults)?;
     }
     Ok(())
 }
 
-fn try_seeds<H: Host>(rt: &H, client: &Client, nodes: u8, faults: &mut Vec<String>) -> Result<()> {
+fn try_seeds<H: Host>(
+    rt: &H,
+    client: &Client,
+    nodes: &str,
+    faults: &mut Vec<String>,
+) -> Result<()> {
     for seed in 0..10 {
-        let words = format!(in rt.alloc(); "run --nodes {nodes} --seed {seed}")?;
+        let words = format!(in rt.alloc(); "run {nodes} --seed {seed}")?;
         client.try_program(rt, words.as_str(), 4096, faults)?;
     }
     Ok(())

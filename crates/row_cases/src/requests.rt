@@ -4,6 +4,7 @@ use crate::quoted::bytes_of;
 use crate::script::Stage;
 use crate::values::large;
 use anyhow::{Context, Result, bail};
+use ballot::Members;
 use bean_codec::{Fault, Read, Request, Want, read_request, write_fault};
 use bean_queue::Op;
 use object::{Act, Command, Key, Submission};
@@ -93,7 +94,7 @@ fn op_line(alloc: Global, op: Op) -> Result<String> {
 
 /// The line of a dump that has one line between its head and its end.
 pub fn line_of(alloc: Global, parts: Parts) -> Result<String> {
-    let text = dump_of(alloc, 1, parts)?.context("no chronicle")?;
+    let text = dump_of(alloc, Members::new(1), parts)?.context("no chronicle")?;
     let line = text.lines().nth(2).context("no line")?;
     Ok(String::from_str(alloc, line)?)
 }

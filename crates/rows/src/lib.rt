@@ -47,4 +47,6 @@ mod slot_rows;
 #[cfg(test)]
 mod stream_rows;
 #[cfg(test)]
+mod weight_rows;
+#[cfg(test)]
 mod world_rows;

@@ -8,7 +8,7 @@ use std::test::Fail;
 
 /// A command of these rows.
 #[derive(Clone, Copy, Debug, PartialEq, Eq)]
-enum Token {
+pub(crate) enum Token {
     X,
     Y,
 }

@@ -52,7 +52,7 @@ impl<O: Object> Hall<O> {
     {
         every_hall::<O>();
         let (submitted, answers, order) = self.nodes.recorder.copies()?;
-        let members = self.nodes.network.members().count();
+        let members = self.nodes.network.members();
         Ok(Chronicle::new(members, submitted, answers, order).unwrap())
     }
 }

@@ -31,4 +31,4 @@ returns-in-Ok-Help-clause-right g c = λ done.
 pub returns-in-Ok-Wrong-clause-wrong : goal.returns-in-Ok-Wrong-clause-wrong
 returns-in-Ok-Wrong-clause-wrong g c = λ wrong.
     let asked = subst (IsAskedBy (map string_bytes c.args.words.now)) c.in-Ok-Wrong.field-0-is c.in-Ok-Wrong.ensures in
-    (asked.0, (string_bytes c.in-Ok-Wrong.text, asked.1, subst (WritesText _ _ _) c.as_str-in-Ok-Wrong.ensures.value c.tell_error.ensures))
+    inl (asked.0, (string_bytes c.in-Ok-Wrong.text, asked.1, subst (WritesText _ _ _) c.as_str-in-Ok-Wrong.ensures.value c.tell_error-in-Ok-Wrong.ensures))

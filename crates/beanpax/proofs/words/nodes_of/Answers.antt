@@ -1,7 +1,7 @@
 use Rattle.std.proofs.Common.{◌<◌, ◌≤◌, ⊎_elim, codes, sym, subst, arith}
 use Rattle.std.specs.Str.Parse.{ParsesUnsigned, ExplainsUnsignedError, HasUnsignedDigitsIfOk}
 use Rattle.clap.specs.Words.{found_of, one_text}
-use Rattle.beanpax.specs.Words.{IsNumberOr}
+use Rattle.beanpax.specs.Numbers.{IsNumberOr}
 use Rattle.beanpax.proofs.WordsLemmas.{number_read, out_of_range}
 use Rattle.beanpax.proofs.words.nodes_of.Goals as goal
 

@@ -1,9 +1,10 @@
-use Rattle.std.proofs.Common.{◌≡◌, ◌∙◌, ◌^◌, ◌-◌, true, false, [], codes, map, string_bytes, unwrap_or, refl, sym, ap, subst}
+use Rattle.std.proofs.Common.{◌≡◌, ◌∙◌, true, false, [], codes, map, string_bytes, unwrap_or, refl, sym, ap}
+use Rattle.std.proofs.lemmas.Result.{IfOk-weaker}
 use Rattle.clap.specs.Words.{App, IsAmong, found_of, has_subcommand}
 use Rattle.clap.specs.declared.error.kind.ErrorKind.TheVariants.{DisplayHelp}
 use Rattle.clap.proofs.CallerLemmas.{subcommand_required}
-use Rattle.beanpax.specs.Words.{IsNumberOr, program_command}
-use Rattle.beanpax.proofs.CommandLemmas.{command_given-of, meets_one, met_by, server_same, text_given-of, word_given-of}
+use Rattle.beanpax.specs.Words.{AskFor, AskForRun, program_command}
+use Rattle.beanpax.proofs.CommandLemmas.{command_given-of, meets_one, met_by, run_asked, run_same, serve_asked, serve_same, text_given-of, word_given-of}
 use Rattle.beanpax.proofs.WordsLemmas.{among_errors, holds_of_errors}
 use Rattle.beanpax.proofs.words.parse_words.Goals as goal
 
@@ -12,13 +13,12 @@ returns-in-Some c =
     let is_program = c.in_ok-program_words.ensures.app in
     let words = map string_bytes c.args.words.now in
     let met = met_by _ words c.in-Ok.matches is_program c.in-Ok.ensures.matches in
-    let text = text_given-of words c.in-Ok.matches (found_of c.in-Some.run'.now) met c.in-Some.ensures.rows in (
-      (holds_of_errors (λ kinds. kinds ≡ []) _ _ is_program c.in-Ok.ensures.kinds, command_given-of words c.in-Ok.matches (codes "run") met (c.in-Some.ensures.found.0 refl)),
-      c.nodes_of.ensures.some,
-      c.nodes_of.ensures.few,
-      subst (λ t. IsNumberOr 3 1 7 t c.nodes_of.result) (text (codes "nodes")) c.nodes_of.ensures.nodes,
-      subst (λ t. IsNumberOr 0 0 (2 ^ 64 - 1) t c.seed_of.result) (text (codes "seed")) c.seed_of.ensures,
-    )
+    let found = found_of c.in-Some.run'.now in
+    let rows = c.in-Some.ensures.rows in
+    let run : AskForRun words = (holds_of_errors (λ kinds. kinds ≡ []) _ _ is_program c.in-Ok.ensures.kinds, command_given-of words c.in-Ok.matches (codes "run") met (c.in-Some.ensures.found.0 refl)) in
+    IfOk-weaker c.run_of.result _ _
+    (λ asked is. run_asked words run asked (run_same _ _ _ _ (text_given-of words c.in-Ok.matches found met rows) (word_given-of words c.in-Ok.matches found met rows) asked is))
+    c.run_of.ensures
 
 pub returns-in-Some-subcommand_matches : goal.returns-in-Some-subcommand_matches
 returns-in-Some-subcommand_matches c =
@@ -26,10 +26,11 @@ returns-in-Some-subcommand_matches c =
     let words = map string_bytes c.args.words.now in
     let met = met_by _ words c.in-Ok.matches is_program c.in-Ok.ensures.matches in
     let found = found_of c.in-Some-subcommand_matches.serve.now in
-    let rows = c.in-Some-subcommand_matches.ensures.rows in (
-      (holds_of_errors (λ kinds. kinds ≡ []) _ _ is_program c.in-Ok.ensures.kinds, command_given-of words c.in-Ok.matches (codes "serve") met (c.in-Some-subcommand_matches.ensures.found.0 refl)),
-      server_same _ _ _ _ (text_given-of words c.in-Ok.matches found met rows) (word_given-of words c.in-Ok.matches found met rows) c.server_of.result c.server_of.ensures,
-    )
+    let rows = c.in-Some-subcommand_matches.ensures.rows in
+    let serve : AskFor (codes "serve") words = (holds_of_errors (λ kinds. kinds ≡ []) _ _ is_program c.in-Ok.ensures.kinds, command_given-of words c.in-Ok.matches (codes "serve") met (c.in-Some-subcommand_matches.ensures.found.0 refl)) in
+    IfOk-weaker c.serve_of.result _ _
+    (λ asked is. serve_asked words serve asked (serve_same _ _ _ _ (text_given-of words c.in-Ok.matches found met rows) (word_given-of words c.in-Ok.matches found met rows) asked is))
+    c.serve_of.ensures
 
 pub returns-in-Some-subcommand_matches-2 : goal.returns-in-Some-subcommand_matches-2
 returns-in-Some-subcommand_matches-2 c =

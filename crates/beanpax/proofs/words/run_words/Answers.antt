@@ -10,4 +10,5 @@ unfolding run_command
 returns-clause-app c =
     let named : app_of c.about.result ≡ new_app (codes "run") = search rules in
     let nodes = c.in_ok-arg.ensures.shape c.nodes_words.ensures.local ∙ ap₂ with_rule named c.nodes_words.ensures.rule in
-    IfOk-weaker c.arg-2.result _ _ (λ r adds. adds.shape c.seed_words.ensures.local ∙ ap₂ with_rule nodes c.seed_words.ensures.rule) c.arg-2.ensures
+    let weights = c.in_ok-arg-2.ensures.shape c.weights_words.ensures.local ∙ ap₂ with_rule nodes c.weights_words.ensures.rule in
+    IfOk-weaker c.arg-3.result _ _ (λ r adds. adds.shape c.seed_words.ensures.local ∙ ap₂ with_rule weights c.seed_words.ensures.rule) c.arg-3.ensures

@@ -1,7 +1,7 @@
 use Rattle.std.proofs.Common.{◌<◌, ◌^◌, ◌-◌, codes, sym, subst, arith}
 use Rattle.std.specs.Str.Parse.{ParsesUnsigned, ExplainsUnsignedError, HasUnsignedDigitsIfOk}
 use Rattle.clap.specs.Words.{found_of, one_text}
-use Rattle.beanpax.specs.Words.{IsNumberOr}
+use Rattle.beanpax.specs.Numbers.{IsNumberOr}
 use Rattle.beanpax.proofs.WordsLemmas.{number_read}
 use Rattle.beanpax.proofs.words.seed_of.Goals as goal
 

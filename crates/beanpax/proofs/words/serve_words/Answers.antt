@@ -12,9 +12,10 @@ returns-clause-app c =
     let named : app_of c.about.result ≡ new_app (codes "serve") = search rules in
     let port = c.in_ok-arg.ensures.shape c.port_words.ensures.local ∙ ap₂ with_rule named c.port_words.ensures.rule in
     let nodes = c.in_ok-arg-2.ensures.shape c.nodes_words.ensures.local ∙ ap₂ with_rule port c.nodes_words.ensures.rule in
-    let workers = c.in_ok-arg-3.ensures.shape c.workers_words.ensures.local ∙ ap₂ with_rule nodes c.workers_words.ensures.rule in
-    let sessions = c.in_ok-arg-4.ensures.shape c.sessions_words.ensures.local ∙ ap₂ with_rule workers c.sessions_words.ensures.rule in
-    IfOk-weaker c.arg-5.result _ _ (λ r adds. adds.shape c.dump_words.ensures.local ∙ ap₂ with_rule sessions c.dump_words.ensures.rule) c.arg-5.ensures
+    let weights = c.in_ok-arg-3.ensures.shape c.weights_words.ensures.local ∙ ap₂ with_rule nodes c.weights_words.ensures.rule in
+    let workers = c.in_ok-arg-4.ensures.shape c.workers_words.ensures.local ∙ ap₂ with_rule weights c.workers_words.ensures.rule in
+    let sessions = c.in_ok-arg-5.ensures.shape c.sessions_words.ensures.local ∙ ap₂ with_rule workers c.sessions_words.ensures.rule in
+    IfOk-weaker c.arg-6.result _ _ (λ r adds. adds.shape c.dump_words.ensures.local ∙ ap₂ with_rule sessions c.dump_words.ensures.rule) c.arg-6.ensures
 
 none_global : (a b : Bool) → a ≡ false → b ≡ false → (a || b) ≡ false
 none_global a b p q = ap₂ (λ x y. x || y) p q
@@ -24,6 +25,7 @@ returns-clause-no_globals c =
     let named : (out-Command c.about.result).has_globals ≡ false = search rules in
     let port = c.in_ok-arg.ensures.globals ∙ none_global _ _ named c.port_words.ensures.local in
     let nodes = c.in_ok-arg-2.ensures.globals ∙ none_global _ _ port c.nodes_words.ensures.local in
-    let workers = c.in_ok-arg-3.ensures.globals ∙ none_global _ _ nodes c.workers_words.ensures.local in
-    let sessions = c.in_ok-arg-4.ensures.globals ∙ none_global _ _ workers c.sessions_words.ensures.local in
-    IfOk-weaker c.arg-5.result _ _ (λ r adds. adds.globals ∙ none_global _ _ sessions c.dump_words.ensures.local) c.arg-5.ensures
+    let weights = c.in_ok-arg-3.ensures.globals ∙ none_global _ _ nodes c.weights_words.ensures.local in
+    let workers = c.in_ok-arg-4.ensures.globals ∙ none_global _ _ weights c.workers_words.ensures.local in
+    let sessions = c.in_ok-arg-5.ensures.globals ∙ none_global _ _ workers c.sessions_words.ensures.local in
+    IfOk-weaker c.arg-6.result _ _ (λ r adds. adds.globals ∙ none_global _ _ sessions c.dump_words.ensures.local) c.arg-6.ensures

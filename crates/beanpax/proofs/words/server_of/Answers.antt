@@ -6,9 +6,7 @@ use Rattle.beanpax.proofs.words.server_of.Goals as goal
 pub returns : goal.returns
 returns c = record {
   port = c.port_of.ensures;
-  nodes = c.nodes_of.ensures.nodes;
-  some_nodes = c.nodes_of.ensures.some;
-  few_nodes = c.nodes_of.ensures.few;
+  members = c.requires;
   workers = c.workers_of.ensures.workers;
   some_workers = c.workers_of.ensures.some;
   few_workers = c.workers_of.ensures.few;

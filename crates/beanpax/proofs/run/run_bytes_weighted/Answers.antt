@@ -10,7 +10,7 @@ use Rattle.beanpax.specs.Sessions.{queue_with}
 use Rattle.beanpax.specs.Simulations.{IsStoppedBy}
 use Rattle.beanpax.proofs.Obeyed.{ClosesOf}
 use Rattle.beanpax.proofs.Served.{served, served_partly, nothing_served}
-use Rattle.beanpax.proofs.run.run_bytes.Goals as goal
+use Rattle.beanpax.proofs.run.run_bytes_weighted.Goals as goal
 
 abbrev Stands : Simulation → Talk QueueState → Type 0
 Stands s = StandsFor (queue_with ghosts.eq) s.hall
