@@ -253,9 +253,9 @@ meets_one words m none met some no_run no_serve no_inspect = go (subcommand_name
 -- a run by one reading of the words is one by another that gives the same
 pub run_same : (text other word another : List ℕ → Option (List ℕ)) → ((id : List ℕ) → text id ≡ other id) → ((id : List ℕ) → word id ≡ another id)
     → (asked : Asked) → IsRunOf text word asked → IsRunOf other another asked
-run_same text other word another texts words (Run members seed) is = (
-  members_same _ _ _ _ (Some members) (texts (codes "nodes")) (words (codes "weights")) is.0,
-  subst (λ t. IsNumberOr 0 0 (2 ^ 64 - 1) t seed) (texts (codes "seed")) is.1,
+run_same text other word another texts words (Run options) is = (
+  members_same _ _ _ _ (Some options.members) (texts (codes "nodes")) (words (codes "weights")) is.0,
+  subst (λ t. IsNumberOr 0 0 (2 ^ 64 - 1) t options.seed) (texts (codes "seed")) is.1,
 )
 run_same text other word another texts words BadWeights is = members_same _ _ _ _ None (texts (codes "nodes")) (words (codes "weights")) is
 run_same text other word another texts words (Serve options) is = absurd is
@@ -268,14 +268,14 @@ pub serve_same : (text other word another : List ℕ → Option (List ℕ)) → 
     → (asked : Asked) → IsServeOf text word asked → IsServeOf other another asked
 serve_same text other word another texts words (Serve options) is = server_same text other word another texts words options is
 serve_same text other word another texts words BadWeights is = members_same _ _ _ _ None (texts (codes "nodes")) (words (codes "weights")) is
-serve_same text other word another texts words (Run members seed) is = absurd is
+serve_same text other word another texts words (Run options) is = absurd is
 serve_same text other word another texts words (Inspect file) is = absurd is
 serve_same text other word another texts words (Help told) is = absurd is
 serve_same text other word another texts words (Wrong told) is = absurd is
 
 -- what a run is asked of words that name it
 pub run_asked : (words : List Text) → AskForRun words → (asked : Asked) → IsRunOf (text_given words) (word_given words) asked → IsAskedBy words asked
-run_asked words run (Run members seed) is = (run, is)
+run_asked words run (Run options) is = (run, is)
 run_asked words run BadWeights is = (run.0, is)
 run_asked words run (Serve options) is = absurd is
 run_asked words run (Inspect file) is = absurd is
@@ -286,7 +286,7 @@ run_asked words run (Wrong told) is = absurd is
 pub serve_asked : (words : List Text) → AskFor (codes "serve") words → (asked : Asked) → IsServeOf (text_given words) (word_given words) asked → IsAskedBy words asked
 serve_asked words serve (Serve options) is = (serve, is)
 serve_asked words serve BadWeights is = (serve.0, is)
-serve_asked words serve (Run members seed) is = absurd is
+serve_asked words serve (Run options) is = absurd is
 serve_asked words serve (Inspect file) is = absurd is
 serve_asked words serve (Help told) is = absurd is
 serve_asked words serve (Wrong told) is = absurd is

@@ -91,8 +91,8 @@ pub record IsServerOf (text word : List ℕ → Option (List ℕ)) (options : Se
 
 -- a run, by the texts of its options, unless the weights are bad
 abbrev pub IsRunOf : (List ℕ → Option (List ℕ)) → (List ℕ → Option (List ℕ)) → Asked → Type 0
-IsRunOf text word (Run members seed) =
-    AreMembersOf (text (codes "nodes")) (word (codes "weights")) (Some members) × IsNumberOr 0 0 (2 ^ 64 - 1) (text (codes "seed")) seed
+IsRunOf text word (Run options) =
+    AreMembersOf (text (codes "nodes")) (word (codes "weights")) (Some options.members) × IsNumberOr 0 0 (2 ^ 64 - 1) (text (codes "seed")) options.seed
 IsRunOf text word BadWeights = AreMembersOf (text (codes "nodes")) (word (codes "weights")) None
 IsRunOf text word _ = ⊥
 
@@ -136,7 +136,7 @@ HaveBadWeights words = (errors_in words ≡ []) × AreMembersOf (text_given word
 
 -- this is what the words ask for; the help, and what is wrong with them, is some text
 abbrev pub IsAskedBy : List (List ℕ) → Asked → Type 0
-IsAskedBy words (Run members seed) = AskForRun words × IsRunOf (text_given words) (word_given words) (Run members seed)
+IsAskedBy words (Run options) = AskForRun words × IsRunOf (text_given words) (word_given words) (Run options)
 IsAskedBy words (Serve options) = AskForServer words options
 IsAskedBy words (Inspect file) = AskForInspection words file.now
 IsAskedBy words BadWeights = HaveBadWeights words

@@ -18,8 +18,7 @@ use crate::inspecting::inspect_file;
 use crate::run::run_bytes_weighted;
 use crate::server::serve_tcp;
 use crate::verdict::Verdict;
-use crate::words::{Asked, parse_words};
-use ballot::Members;
+use crate::words::{Asked, RunOptions, parse_words};
 use bean_codec::front_item;
 use session::{ByteIn, ByteOut, write_all};
 use std::alloc::{AllocError, Global};
@@ -93,8 +92,8 @@ pub fn program<H: Host, R: ByteIn, W: ByteOut, E: ByteOut>(
         → BeginsToTell (map string_bytes words.now) (W.contents output.old) (W.contents output.new) }
 {
     match parse_words(rt.alloc(), words) {
-        Ok(Asked::Run { members, seed }) => {
-            let ended = run(rt.alloc(), members, seed, input, output);
+        Ok(Asked::Run(options)) => {
+            let ended = run(rt.alloc(), &options, input, output);
             status_after(ended, errors)
         }
         Ok(Asked::Serve(options)) => {
@@ -127,8 +126,7 @@ pub fn program<H: Host, R: ByteIn, W: ByteOut, E: ByteOut>(
 // Answers a client of these nodes, and leaves out how its session ended.
 fn run<R: ByteIn, W: ByteOut>(
     alloc: Global,
-    members: Members,
-    seed: u64,
+    options: &RunOptions,
     input: &mut R,
     output: &mut W,
 ) -> Result<(), ProgramFault>
@@ -140,7 +138,8 @@ fn run<R: ByteIn, W: ByteOut>(
     ensures breaks_off { OnErr result (BreaksOff (R.remaining input.old) (R.remaining input.new)
         (W.contents output.old) (W.contents output.new)) }
 {
-    run_bytes_weighted(alloc, members.weights(), seed, input, output)?;
+    let weights = options.members.weights();
+    run_bytes_weighted(alloc, weights, options.seed, input, output)?;
     Ok(())
 }
 

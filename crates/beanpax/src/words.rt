@@ -33,8 +33,8 @@ const DEFAULT_WORKERS: u32 = 4;
 /// What the words of a command line ask for.
 #[derive(Drop)]
 pub enum Asked<'a> {
-    /// A run with these nodes, whose order of events is drawn from the seed.
-    Run { members: Members, seed: u64 },
+    /// A run.
+    Run(RunOptions),
     /// A server.
     Serve(ServerOptions<'a>),
     /// What is found of the dump in this file.
@@ -45,6 +45,15 @@ pub enum Asked<'a> {
     Help(String),
     /// Nothing: the words are wrong, and the text says why.
     Wrong(String),
+}
+
+/// What a run is to do.
+#[derive(Drop)]
+pub struct RunOptions {
+    /// These nodes keep the queue.
+    pub members: Members,
+    /// The order of events is drawn from it.
+    pub seed: u64,
 }
 
 /// What a server is to do.
@@ -109,10 +118,10 @@ fn run_of<'a>(alloc: Global, run: &ArgMatches<'a>) -> Result<Asked<'a>, AllocErr
     let Some(members) = members_of(alloc, run)? else {
         return Ok(Asked::BadWeights);
     };
-    Ok(Asked::Run {
+    Ok(Asked::Run(RunOptions {
         members,
         seed: seed_of(run),
-    })
+    }))
 }
 
 // What the words ask of a server.

@@ -32,3 +32,9 @@ pub returns-in-Ok-Wrong-clause-wrong : goal.returns-in-Ok-Wrong-clause-wrong
 returns-in-Ok-Wrong-clause-wrong g c = λ wrong.
     let asked = subst (IsAskedBy (map string_bytes c.args.words.now)) c.in-Ok-Wrong.field-0-is c.in-Ok-Wrong.ensures in
     inl (asked.0, (string_bytes c.in-Ok-Wrong.text, asked.1, subst (WritesText _ _ _) c.as_str-in-Ok-Wrong.ensures.value c.tell_error-in-Ok-Wrong.ensures))
+
+pub returns-in-Ok-BadWeights-clause-begins : goal.returns-in-Ok-BadWeights-clause-begins
+returns-in-Ok-BadWeights-clause-begins g c = λ no_run. ([], inl refl, (0, Appends-nil (g.W.ByteOut.contents c.args.output.now)))
+
+pub returns-in-Ok-Wrong-clause-begins : goal.returns-in-Ok-Wrong-clause-begins
+returns-in-Ok-Wrong-clause-begins g c = λ no_run. ([], inl refl, (0, Appends-nil (g.W.ByteOut.contents c.args.output.now)))
