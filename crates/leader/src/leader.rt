@@ -1,11 +1,10 @@
-ghost use Rattle.std.specs.Prelude.{◌≡◌, ◌≤◌, ◌^◌, ◌↔◌, ◌⊎◌, ◌==◌, true, not, IsOk, IsSome, OnOk, OnErr, IfErr, take, vec_len};
+ghost use Rattle.std.specs.Prelude.{◌≡◌, ◌≤◌, ◌^◌, ◌↔◌, ◌⊎◌, true, IsOk, IsSome, OnOk, OnErr, IfErr, take, vec_len};
 ghost use Rattle.std.specs.FinMap as slots;
 ghost use Rattle.ballot.specs.Members.{is_member};
 ghost use Rattle.ballot.specs.Ballots.{is_below};
 ghost use Rattle.leader.specs.Leaders.{new_leader, preempted, woken, scout_says, says_again, IsLeader, Sends};
 
 mod adopting;
-mod copying;
 mod promises;
 mod proposing;
 mod votes;
@@ -81,20 +80,6 @@ impl<C: Value> Leader<C> {
         ensures leader { IsLeader self.now }
     {
         self.node
-    }
-
-    /// Whether it leads: it is active.
-    pub fn is_active(&self) -> bool
-        ensures { result ≡ self.now.active }
-    {
-        self.active
-    }
-
-    /// Whether it has a commander.
-    pub fn is_commanding(&self) -> bool
-        ensures { result ≡ not (slots.len self.now.commanders == 0) }
-    {
-        !self.commanders.is_empty()
     }
 
     /// Whether a command is proposed for the slot.

@@ -10,7 +10,6 @@ ghost use Rattle.world.specs.Told.{IsAnswered};
 ghost use Rattle.world.specs.Agreements.{HasOneCommand, KeepsChosen, ChoosesOne, DecidesChosen, StaysChosen};
 
 mod acting;
-mod copying;
 mod refusing;
 
 use crate::error::WorldError;
