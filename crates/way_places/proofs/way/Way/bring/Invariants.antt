@@ -1,0 +1,16 @@
+use Rattle.std.proofs.Common.{◌+◌}
+use Rattle.way_places.specs.Rescues.{keeps_nodes}
+use Rattle.way_places.specs.WaysOut.{first_book, Finds, Proposes, Decides, Goes}
+use Rattle.way_places.proofs.Bringing.{IsBringing, left}
+use Rattle.way_places.proofs.way.Way.bring.Given as goal
+
+abbrev pub invariant-loop-places : goal.invariant-loop-places
+invariant-loop-places g l = record {
+  bringing : IsBringing l.fn.self.trial l.self.trial (l.fn.self.trial.reach + 64) l.command;
+  proposals : Finds Proposes l.self.trial.cluster.letters l.places.read l.places.proposals;
+  decisions : Finds Decides l.self.trial.cluster.letters l.places.read l.places.decisions;
+  goes : Goes g.O.Object.rules keeps_nodes l.fn.self.trial l.fn.self.events.items l.self.trial l.self.events.items;
+}
+
+abbrev pub decreases-loop-places : goal.decreases-loop-places
+decreases-loop-places g l = left (l.fn.self.trial.reach + 64) (first_book l.self.trial.cluster)
