@@ -1,3 +1,4 @@
+pub mod Histories
 pub mod Nodes
 pub mod Deeds
 pub mod Outcomes

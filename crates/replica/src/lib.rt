@@ -1,7 +1,6 @@
 //! A replica: its slots, and the object that obeys what they decide.
 #![tactic(auto)]
 
-mod obeying;
 mod performed;
 mod replica;
 

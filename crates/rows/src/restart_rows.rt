@@ -11,7 +11,7 @@ use world::{Event, Schedule, World};
 const EVENTS: u32 = 500;
 
 /// The first command.
-pub(crate) const FIRST: Key = Key {
+const FIRST: Key = Key {
     session: 1,
     number: 1,
 };
@@ -21,7 +21,7 @@ const CHOSEN_AFTER: usize = 10;
 
 /// What happens next.
 #[derive(Clone, Copy)]
-pub(crate) enum Step {
+enum Step {
     /// A session puts a job by its only command, at a node.
     Submit(u8, u32),
     Propose(u8),
@@ -32,7 +32,7 @@ pub(crate) enum Step {
 }
 
 /// A leader gets its command accepted by a majority and is lost; another leader has it decided in place of its own.
-pub(crate) static RUN: [Step; 25] = [
+static RUN: [Step; 25] = [
     Step::Submit(1, 1),
     Step::Propose(1),
     Step::Wake(1),
@@ -72,7 +72,7 @@ fn event(alloc: Global, step: Step) -> Result<Event<Op>, Fail> {
 }
 
 /// A session's first command, which puts a job.
-pub(crate) fn put(alloc: Global, session: u32) -> Result<Command<Op>, Fail> {
+fn put(alloc: Global, session: u32) -> Result<Command<Op>, Fail> {
     let op = Op::Put {
         pri: 0,
         delay: 0,
@@ -92,7 +92,7 @@ fn begin(alloc: Global, world: &mut World<Queue>, steps: &[Step]) -> Result<(), 
 }
 
 /// A world after so many steps of the run.
-pub(crate) fn begun(alloc: Global, members: Members, len: usize) -> Result<World<Queue>, Fail> {
+fn begun(alloc: Global, members: Members, len: usize) -> Result<World<Queue>, Fail> {
     let mut world = World::new(alloc, members)?;
     let steps = RUN.get(..len).ok_or("no such beginning")?;
     begin(alloc, &mut world, steps)?;

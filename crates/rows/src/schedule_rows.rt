@@ -13,15 +13,15 @@ const EVENTS: u32 = 99;
 
 /// A schedule with its world, and the order so far.
 #[derive(Drop)]
-pub(crate) struct Run {
+struct Run {
     members: Members,
     schedule: Schedule,
-    pub(crate) world: World<Register>,
+    world: World<Register>,
     order: Vec<Command<RegisterOp>>,
 }
 
 impl Run {
-    pub(crate) fn new(alloc: Global, seed: u64) -> Result<Run, Fail> {
+    fn new(alloc: Global, seed: u64) -> Result<Run, Fail> {
         let count = if seed % 2 == 0 { 3 } else { 5 };
         let members = Members::new(count).ok_or("no members")?;
         Ok(Run {
@@ -42,7 +42,7 @@ impl Run {
     }
 
     /// Submits a command, and takes the events that come next. Whether the order goes on from the one before them.
-    pub(crate) fn round(&mut self, session: u32) -> Result<bool, Fail> {
+    fn round(&mut self, session: u32) -> Result<bool, Fail> {
         self.submit(session)?;
         for _ in 0..EVENTS {
             let letters = self.world.letters().len();
