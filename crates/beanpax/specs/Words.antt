@@ -14,7 +14,7 @@ use Rattle.beanpax.specs.Weights.{AreMembersOf}
 abbrev pub nodes_option : Rule
 nodes_option = record (new_rule (codes "nodes")) { long = Some (codes "nodes"); value_names = 1; parser = Some (parser.Signed (pos 1) (pos 7)) }
 
--- `--weights W1,W2,..`, which are read by themselves
+-- `--weights W,W,..`, which are read by themselves
 abbrev pub weights_option : Rule
 weights_option = record (new_rule (codes "weights")) { long = Some (codes "weights"); value_names = 1 }
 

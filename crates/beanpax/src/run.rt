@@ -40,9 +40,9 @@ pub fn run_bytes<R: ByteIn, W: ByteOut>(
 /// out before the next request is obeyed.
 ///
 /// The seed draws what happens between the nodes: which letters are lost, repeated and reordered, and which nodes restart.
-/// What is written doesn't depend on it, nor on how many nodes there are or what they weigh; but where 100,000 calls of the hall bring no
-/// answer to a request, the service stops. It also stops where the client would have to wait for more than an hour. A
-/// request for which there is no memory is refused, and is as if it had not been made.
+/// What is written doesn't depend on it, nor on how many nodes there are or what they weigh; but where 100,000 calls of the
+/// hall bring no answer to a request, the service stops. It also stops where the client would have to wait for more than an
+/// hour. A request for which there is no memory is refused, and is as if it had not been made.
 pub fn run_bytes_weighted<R: ByteIn, W: ByteOut>(
     alloc: Global,
     weights: &[u32],

@@ -280,7 +280,7 @@ fn weights_words<'a>(alloc: Global) -> Arg<'a>
 {
     Arg::new(alloc, "weights")
         .long("weights")
-        .value_name("W1,W2,..")
+        .value_name("W,W,..")
         .help(
             "What each node weighs: 1 to 7 numbers from 1 to 1000, in place of --nodes [default: 1 each]",
         )
