@@ -42,6 +42,17 @@ impl<C: Value> Acceptor<C> {
         }
     }
 
+    /// The same acceptor once more.
+    pub fn copy(&self) -> Result<Acceptor<C>, AllocError>
+        ensures { IfOk result (λ copy. copy ≡ self.now) }
+    {
+        Ok(Acceptor {
+            promised: self.promised,
+            accepted: self.accepted.copy()?,
+            alloc: self.alloc,
+        })
+    }
+
     /// Hears a P1a: promises the ballot where it is higher, and answers with a P1b, which has the ballot
     /// that is promised now and a report of what was accepted.
     pub fn on_p1a(&mut self, ballot: Ballot) -> Result<(Ballot, Vec<Pvalue<C>>), AllocError>

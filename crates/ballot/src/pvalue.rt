@@ -2,7 +2,7 @@ ghost use Rattle.std.specs.Prelude.{◌≡◌, ◌++◌, ◌∷◌, [], IfOk, On
 
 use crate::ballot::Ballot;
 use crate::slot::Slot;
-use object::Value;
+use object::{Value, copies_of};
 use std::alloc::{AllocError, Global};
 use std::marker::Model;
 
@@ -112,11 +112,7 @@ impl<C: Value> Value for Pvalues<C> {
     ghost exact = { same_lists-exact C.exact };
 
     fn copy(&self) -> Result<Self, AllocError> {
-        let pvalues = &self.items;
-        let mut items = Vec::new(*pvalues.allocator());
-        for pvalue in pvalues {
-            items.push(pvalue.copy()?)?;
-        }
+        let items = copies_of(*self.items.allocator(), &self.items)?;
         Ok(Pvalues { items })
     }
 }

@@ -6,7 +6,7 @@ ghost use Rattle.ballot.specs.Slots.{Slots};
 
 use crate::slot::Slot;
 use crate::slot_map::SlotMap;
-use object::Value;
+use object::{Value, copies_of};
 use std::alloc::{AllocError, Global};
 use std::marker::Model;
 use std::mem;
@@ -105,6 +105,18 @@ impl<X> SlotRow<X> {
 }
 
 impl<X: Value> SlotRow<X> {
+    /// The same values once more.
+    pub fn copy(&self) -> Result<SlotRow<X>, AllocError>
+        ensures { IfOk result (λ copy. copy ≡ self.now) }
+    {
+        let row = copies_of(*self.row.allocator(), &self.row)?;
+        Ok(SlotRow {
+            first: self.first,
+            row,
+            beside: self.beside.copy()?,
+        })
+    }
+
     /// The same values once more, as a map.
     pub fn to_map(&self) -> Result<SlotMap<X>, AllocError>
         ensures { IfOk result (λ m. m ≡ self.now) }

@@ -1,10 +1,11 @@
-ghost use Rattle.std.specs.Prelude.{◌≡◌, ◌≤◌, ◌^◌, ◌↔◌, ◌⊎◌, true, IsOk, IsSome, OnOk, OnErr, IfErr, take, vec_len};
+ghost use Rattle.std.specs.Prelude.{◌≡◌, ◌≤◌, ◌^◌, ◌↔◌, ◌⊎◌, true, length, IsOk, IsSome, OnOk, OnErr, IfErr, take, vec_len};
 ghost use Rattle.std.specs.FinMap as slots;
 ghost use Rattle.ballot.specs.Members.{is_member};
 ghost use Rattle.ballot.specs.Ballots.{is_below};
 ghost use Rattle.leader.specs.Leaders.{new_leader, preempted, woken, scout_says, says_again, IsLeader, Sends};
 
 mod adopting;
+mod copying;
 mod promises;
 mod proposing;
 mod votes;
@@ -80,6 +81,20 @@ impl<C: Value> Leader<C> {
         ensures leader { IsLeader self.now }
     {
         self.node
+    }
+
+    /// Whether it leads: it is active.
+    pub fn is_active(&self) -> bool
+        ensures { result ≡ self.now.active }
+    {
+        self.active
+    }
+
+    /// How many things it waits for: the promises that its scout asks for, and the votes that each commander does.
+    pub fn waits(&self) -> usize
+        ensures { result ≡ length (says_again self.now) }
+    {
+        usize::from(self.scout.is_some()) + self.commanders.len()
     }
 
     /// Whether a command is proposed for the slot.

@@ -1,11 +1,10 @@
 -- A node keeps what its world knows of it.
-use Rattle.std.proofs.Common.{◌≡◌, ◌≢◌, ⊎_elim, ℕ, suc, zero, ◌+◌, ◌-◌, ◌<◌, ◌≤◌, Bool, true, false, cond, List, [], ◌∷◌, ◌++◌, Some, None, Option, refl, sym, ap, ap₂, ◌∙◌, subst, arith, append_assoc}
+use Rattle.std.proofs.Common.{◌≡◌, ◌≢◌, ⊎_elim, ℕ, suc, zero, ◌+◌, ◌-◌, ◌<◌, ◌≤◌, Bool, true, false, cond, List, [], ◌∷◌, ◌++◌, Some, None, Option, refl, sym, ap, ap₂, ◌∙◌, subst, arith}
 use Rattle.std.specs.Prelude.{IsSome}
 use Rattle.std.specs.List.{range_with_len, flat_map}
 use Rattle.std.specs.Option.{option_to_list}
 use Rattle.std.specs.FinMap.{get, insert, empty}
 use Rattle.std.proofs.lemmas.Bool.{cases_eq}
-use Rattle.std.proofs.lemmas.List.{append-nil}
 use Rattle.std.proofs.lemmas.List.Sums.{fold-append}
 use Rattle.object.specs.Lists.{In}
 use Rattle.object.specs.declared.command.Command.{Command}
@@ -22,7 +21,8 @@ use Rattle.slot_log.specs.Requests.{is_known, requested}
 use Rattle.slot_log.specs.Advances.{advanced}
 use Rattle.object.specs.Objects.{Rules}
 use Rattle.replica.specs.Replicas.{Replicating, performed, performed_as, performed_answers, answers_as}
-use Rattle.node.specs.Histories.{history, commands_upto}
+use Rattle.slot_log.specs.Histories.{history, commands_upto}
+use Rattle.slot_log.proofs.Histories.{commands_more}
 use Rattle.object.specs.Obeying.{obeyed, answers_after}
 use Rattle.node.specs.Kept.{ObeysBook, IsPerformed}
 use Rattle.object.specs.ListLaws.{In-left, In-right, In-cases}
@@ -78,24 +78,9 @@ keeps_refused laws a p refused =
     (sym (ap (λ b. record { promised = a.promised; accepted = cond b (a.accepted ++ (p ∷ [])) a.accepted }) refused))
     (keeps_all laws a)
 
--- one number more
-flat_more : {A : Type 0} (f : ℕ → List A) (base n : ℕ) → flat_map f (range_with_len base (n + 1)) ≡ flat_map f (range_with_len base n) ++ f (base + n)
-flat_more f base zero = append-nil (f base) ∙ ap f (omega arith)
-flat_more f base (suc n) =
-    let last : base + 1 + n ≡ base + suc n = omega arith in
-    let more : suc n + 1 ≡ suc (n + 1) = omega arith in
-    ap (λ m. flat_map f (range_with_len base m)) more ∙
-    ap (λ l. f base ++ l) (flat_more f (base + 1) n) ∙
-    sym (append_assoc (f base) (flat_map f (range_with_len (base + 1) n)) (f (base + 1 + n))) ∙
-    ap (λ j. (f base ++ flat_map f (range_with_len (base + 1) n)) ++ f j) last
-
 -- the slot that is performed next comes last
 pub history_more : {C : Type 0} (n : ℕ) (decisions : Slots C) (c : C) → get decisions (n + 1) ≡ Some c → commands_upto (n + 1) decisions ≡ commands_upto n decisions ++ (c ∷ [])
-history_more n decisions c e =
-    let same : 1 + n ≡ n + 1 = omega arith in
-    flat_more (λ s. option_to_list (get decisions s)) 1 n ∙
-    ap (λ j. commands_upto n decisions ++ option_to_list (get decisions j)) same ∙
-    ap (λ o. commands_upto n decisions ++ option_to_list o) e
+history_more n decisions c e = commands_more n decisions ∙ ap (λ o. commands_upto n decisions ++ option_to_list o) e
 
 -- what is decided elsewhere changes nothing
 flat_same : {A : Type 0} (f g : ℕ → List A) (base n : ℕ) → ((s : ℕ) → base ≤ s → s < base + n → f s ≡ g s) → flat_map f (range_with_len base n) ≡ flat_map g (range_with_len base n)
@@ -128,6 +113,13 @@ module _ {O Op Reply : Type 0} (rules : Rules O Op Reply) where
   kept_new object book fresh none new = record {
     obeys = (λ i. record { object = fresh i; latest = none i }) ∙ sym (ap (λ b. obeyed rules (history b)) new);
     performed = subst IsPerformed (sym new) (record { first = omega arith; known = λ s low high. absurd (omega arith) });
+  }
+
+  -- a replica that obeyed again what another one performed
+  pub kept_again : (x z : Replicating Op O) (slots : SlotBook (Command Op)) → ObeysBook rules x.object x.slots → slots ≡ x.slots → z.slots ≡ slots → z.object ≡ obeyed rules (history slots) → ObeysBook rules z.object z.slots
+  kept_again x z slots k same own obeys = record {
+    obeys = obeys ∙ ap (λ b. obeyed rules (history b)) (sym own);
+    performed = subst IsPerformed (sym (own ∙ same)) k.performed;
   }
 
   -- a replica that performed and learnt nothing

@@ -16,7 +16,7 @@ use Rattle.slot_log.specs.Requests.{requested}
 use Rattle.slot_log.specs.Decisions.{next_decided}
 use Rattle.replica.specs.Replicas.{Replicating, performed_answers, answers_as}
 use Rattle.replica.specs.declared.performed.Performed.{Performed}
-use Rattle.node.specs.Histories.{history}
+use Rattle.slot_log.specs.Histories.{history}
 use Rattle.node.specs.Nodes.{NodeState}
 use Rattle.node.specs.Deeds.{performing, performs}
 use Rattle.node.specs.Kept.{ObeysBook}

@@ -13,7 +13,7 @@ use Rattle.slot_log.specs.Proposals.{next_proposal, proposed_next}
 use Rattle.slot_log.specs.Decisions.{next_decided}
 use Rattle.slot_log.specs.Advances.{advanced}
 use Rattle.replica.specs.Replicas.{proposes_first, nudges}
-use Rattle.node.specs.Histories.{history}
+use Rattle.slot_log.specs.Histories.{history}
 use Rattle.node.specs.Nodes.{NodeState}
 use Rattle.node.specs.Deeds.{acted, performing, performs, done_if, outcome_of, IsAble}
 use Rattle.node.specs.Receiving.{IsFit, ShowsNode}

@@ -16,7 +16,7 @@ use Rattle.slot_log.specs.Decisions.{next_decided}
 use Rattle.slot_log.specs.Advances.{advanced}
 use Rattle.replica.specs.declared.performed.Performed.{Performed}
 use Rattle.replica.specs.Replicas.{proposes_first, nudges}
-use Rattle.node.specs.Histories.{history}
+use Rattle.slot_log.specs.Histories.{history}
 use Rattle.node.specs.Nodes.{NodeState, members_of, number_of, restarted}
 use Rattle.node.specs.declared.deed.Deed.{Deed}
 use Rattle.node.specs.declared.deed.Deed.TheVariants.{Request, Wake, Nudge, Propose, Perform, Restart}

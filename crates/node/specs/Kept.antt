@@ -6,7 +6,7 @@ use Rattle.object.specs.Objects.{Rules}
 use Rattle.object.specs.Obeying.{obeyed}
 use Rattle.object.specs.OnceOnly.{Filtered}
 use Rattle.slot_log.specs.Books.{SlotBook}
-use Rattle.node.specs.Histories.{history}
+use Rattle.slot_log.specs.Histories.{history}
 
 -- each slot before slot_out has a known decision
 pub record IsPerformed {C : Type 0} (book : SlotBook C) : Type 0 where

@@ -1,4 +1,3 @@
-pub mod Histories
 pub mod Nodes
 pub mod Deeds
 pub mod Outcomes

@@ -1,7 +1,9 @@
-ghost use Rattle.std.specs.Prelude.{◌≡◌, ◌++◌, ◌<◌, ◌^◌, true, None, is_some, IsOk, IfOk, OnOk, OnErr, if◌then◌else◌};
+ghost use Rattle.std.specs.Prelude.{◌≡◌, ◌++◌, ◌<◌, ◌^◌, true, length, None, is_some, IsOk, IfOk, OnOk, OnErr, if◌then◌else◌};
+ghost use Rattle.std.specs.FinMap as map;
 ghost use Rattle.ballot.specs.Ballots.{is_promise};
 ghost use Rattle.ballot.specs.Members.{is_member};
 ghost use Rattle.ballot.specs.Letters.{all_to_all};
+ghost use Rattle.leader.specs.Leaders.{says_again};
 ghost use Rattle.slot_log.specs.Proposals.{next_proposal, proposed_next};
 ghost use Rattle.slot_log.specs.Decisions.{next_decided, undecided};
 ghost use Rattle.replica.specs.Replicas.{proposes_first};
@@ -14,6 +16,7 @@ use ballot::{Ballot, Letter, Members, Slot};
 use leader::Leader;
 use object::{Answer, Command, Object, filter_remembers};
 use replica::Replica;
+use slot_log::SlotLog;
 use std::alloc::{AllocError, Global};
 use std::marker::Model;
 
@@ -63,6 +66,20 @@ impl<O: Object> Node<O> {
         })
     }
 
+    /// The same node once more. Its object obeys again what its replica performed.
+    pub fn copy(&self) -> Result<Node<O>, AllocError>
+        ensures { IfOk result (λ copy. copy ≡ self.now) }
+    {
+        let slots = self.replica.slots().copy()?;
+        Ok(Node {
+            acceptor: self.acceptor.copy()?,
+            boot: self.boot,
+            leader: self.leader.copy()?,
+            replica: Replica::of(self.alloc, slots)?,
+            alloc: self.alloc,
+        })
+    }
+
     /// The members that it knows.
     pub fn members(&self) -> Members
         ensures members { result ≡ members_of self.now }
@@ -76,6 +93,34 @@ impl<O: Object> Node<O> {
         ensures { result ≡ number_of self.now }
     {
         self.leader.node()
+    }
+
+    /// Whether its leader is active.
+    pub fn leads(&self) -> bool
+        ensures { result ≡ self.now.leader.active }
+    {
+        self.leader.is_active()
+    }
+
+    /// How many things its leader waits for.
+    pub fn waits(&self) -> usize
+        ensures { result ≡ length (says_again self.now.leader) }
+    {
+        self.leader.waits()
+    }
+
+    /// Whether its leader has a proposal for the slot.
+    pub fn has_proposal(&self, slot: Slot) -> bool
+        ensures { result ≡ map.contains_key self.now.leader.proposals slot }
+    {
+        self.leader.has_proposal(slot)
+    }
+
+    /// The slots of its replica.
+    pub fn slots(&self) -> &SlotLog<Command<O::Op>>
+        ensures { result.now ≡ self.now.replica }
+    {
+        self.replica.slots()
     }
 
     /// The least slot that its replica proposed a command for without a known decision. It takes no memory.

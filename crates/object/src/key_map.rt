@@ -1,4 +1,4 @@
-ghost use Rattle.std.specs.Prelude.{◌≡◌, [], IsSome, OnOk, OnErr};
+ghost use Rattle.std.specs.Prelude.{◌≡◌, [], IfOk, IsSome, OnOk, OnErr};
 ghost use Rattle.object.specs.declared.command.Key.{Key};
 ghost use Rattle.object.specs.KeyMaps.{at_key, with_key, without_key};
 
@@ -36,6 +36,16 @@ impl<V: Copy> KeyMap<V> {
             alloc,
             sessions: BTreeMap::new(alloc),
         }
+    }
+
+    /// The same values once more.
+    pub fn copy(&self) -> Result<KeyMap<V>, AllocError>
+        ensures { IfOk result (λ copy. copy ≡ self.now) }
+    {
+        Ok(KeyMap {
+            alloc: self.alloc,
+            sessions: self.sessions.clone()?,
+        })
     }
 
     /// The value of the key.

@@ -19,4 +19,4 @@ pub use laws::filter_remembers;
 pub use objects::Object;
 pub use once::{Effect, Once};
 pub use register::{Register, RegisterOp, RegisterReply};
-pub use value::Value;
+pub use value::{Value, copies_of};

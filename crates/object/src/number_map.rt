@@ -25,6 +25,14 @@ impl<V: Copy> Model for NumberMap<V> {
     ghost invariant = { λ m. Rises m.pairs.items };
 }
 
+impl<V: Copy> Clone for NumberMap<V> {
+    ghost is_clone = { λ m n. n ≡ m };
+
+    fn clone(&self) -> Result<Self, AllocError> {
+        self.copy()
+    }
+}
+
 impl<V: Copy> NumberMap<V> {
     /// No values.
     pub(crate) fn new(alloc: Global) -> NumberMap<V>
@@ -33,6 +41,14 @@ impl<V: Copy> NumberMap<V> {
         NumberMap {
             pairs: Vec::new(alloc),
         }
+    }
+
+    /// The same values once more.
+    pub(crate) fn copy(&self) -> Result<NumberMap<V>, AllocError>
+        ensures { IfOk result (λ copy. copy ≡ self.now) }
+    {
+        let pairs = Vec::from_slice(*self.pairs.allocator(), self.pairs.as_slice())?;
+        Ok(NumberMap { pairs })
     }
 
     /// The value of the number.

@@ -1,7 +1,6 @@
 //! What happened: what was submitted, what was answered and which commands took effect, each found by its key.
 #![tactic(auto)]
 
-mod copies;
 mod fate;
 mod keyed_list;
 mod laws;

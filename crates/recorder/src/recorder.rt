@@ -8,11 +8,10 @@ ghost use Rattle.object.specs.declared.command.Answer.{Answer};
 ghost use Rattle.recorder.specs.Records.{IsRecord, EndsOpen, blank, own_key, with_first_answers, with_place, without_last_submission};
 ghost use Rattle.recorder.specs.Fates.{fate_at};
 
-use crate::copies::copies;
 use crate::fate::Fate;
 use crate::keyed_list::KeyedList;
 use crate::room::make_room;
-use object::{Answer, Command, Key, Submission, Value};
+use object::{Answer, Command, Key, Submission, Value, copies_of};
 use std::alloc::{AllocError, Global};
 use std::marker::Model;
 
@@ -220,9 +219,9 @@ impl<Op: Value, Reply: Value> Recorder<Op, Reply> {
         ensures order { IfOk result (λ copies. copies.2.items ≡ self.now.order) }
         ensures kept { IsRecord self.now }
     {
-        let submitted = copies(self.submitted.as_slice(), self.alloc)?;
-        let answers = copies(self.answers.as_slice(), self.alloc)?;
-        let order = copies(self.order.as_slice(), self.alloc)?;
+        let submitted = copies_of(self.alloc, self.submitted.as_slice())?;
+        let answers = copies_of(self.alloc, self.answers.as_slice())?;
+        let order = copies_of(self.alloc, self.order.as_slice())?;
         Ok((submitted, answers, order))
     }
 }

@@ -1,6 +1,7 @@
 //! A replica: its slots, and the object that obeys what they decide.
 #![tactic(auto)]
 
+mod obeying;
 mod performed;
 mod replica;
 

@@ -4,14 +4,17 @@ ghost use Rattle.std.specs.FinMap.{empty, get, contains_key};
 ghost use Rattle.ballot.specs.Members.{is_member};
 ghost use Rattle.ballot.specs.Letters.{letter, all_to_all};
 ghost use Rattle.object.specs.Commands.{same_commands};
+ghost use Rattle.object.specs.Obeying.{obeyed};
 ghost use Rattle.object.specs.OnceOnly.{is_later};
 ghost use Rattle.object.specs.declared.once.Effect.{Effect};
 ghost use Rattle.slot_log.specs.Books.{new_book};
 ghost use Rattle.slot_log.specs.Requests.{is_known, requested};
 ghost use Rattle.slot_log.specs.Proposals.{next_proposal, proposed_next};
 ghost use Rattle.slot_log.specs.Decisions as deciding;
+ghost use Rattle.slot_log.specs.Histories.{history};
 ghost use Rattle.replica.specs.Replicas.{but_last, proposes_first, tells, nudges, proposes_again, asks_others, performed, performed_answers};
 
+use crate::obeying::obeying;
 use crate::performed::Performed;
 use ballot::{Letter, LetterBody, Members, Slot, send_to_all};
 use object::{Answer, Command, Object, Once, Value};
@@ -52,6 +55,27 @@ impl<O: Object> Replica<O> {
             object: Once::new(alloc)?,
             alloc,
         })
+    }
+
+    /// A replica with these slots. A new object obeys again the commands of the slots before `slot_out`; its answers are
+    /// thrown away.
+    pub fn of(alloc: Global, slots: SlotLog<Command<O::Op>>) -> Result<Replica<O>, AllocError>
+        ensures slots { IfOk result (λ r. r.slots ≡ slots) }
+        ensures object { IfOk result (λ r. r.object ≡ obeyed O.rules (history slots)) }
+    {
+        let object = obeying(alloc, &slots)?;
+        Ok(Replica {
+            slots,
+            object,
+            alloc,
+        })
+    }
+
+    /// Its slots.
+    pub fn slots(&self) -> &SlotLog<Command<O::Op>>
+        ensures { result.now ≡ self.now.slots }
+    {
+        &self.slots
     }
 
     /// A command is asked for. It goes last in the requests, unless it is known.

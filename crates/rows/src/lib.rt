@@ -35,6 +35,8 @@ mod recorder_rows;
 #[cfg(test)]
 mod replica_rows;
 #[cfg(test)]
+mod rescue_rows;
+#[cfg(test)]
 mod restart_rows;
 #[cfg(test)]
 mod schedule_rows;

@@ -11,7 +11,7 @@ use world::{Event, Schedule, World};
 const EVENTS: u32 = 500;
 
 /// The first command.
-const FIRST: Key = Key {
+pub(crate) const FIRST: Key = Key {
     session: 1,
     number: 1,
 };
@@ -21,7 +21,7 @@ const CHOSEN_AFTER: usize = 10;
 
 /// What happens next.
 #[derive(Clone, Copy)]
-enum Step {
+pub(crate) enum Step {
     /// A session puts a job by its only command, at a node.
     Submit(u8, u32),
     Propose(u8),
@@ -32,7 +32,7 @@ enum Step {
 }
 
 /// A leader gets its command accepted by a majority and is lost; another leader has it decided in place of its own.
-static RUN: [Step; 25] = [
+pub(crate) static RUN: [Step; 25] = [
     Step::Submit(1, 1),
     Step::Propose(1),
     Step::Wake(1),
@@ -72,7 +72,7 @@ fn event(alloc: Global, step: Step) -> Result<Event<Op>, Fail> {
 }
 
 /// A session's first command, which puts a job.
-fn put(alloc: Global, session: u32) -> Result<Command<Op>, Fail> {
+pub(crate) fn put(alloc: Global, session: u32) -> Result<Command<Op>, Fail> {
     let op = Op::Put {
         pri: 0,
         delay: 0,
@@ -92,7 +92,7 @@ fn begin(alloc: Global, world: &mut World<Queue>, steps: &[Step]) -> Result<(), 
 }
 
 /// A world after so many steps of the run.
-fn begun(alloc: Global, members: Members, len: usize) -> Result<World<Queue>, Fail> {
+pub(crate) fn begun(alloc: Global, members: Members, len: usize) -> Result<World<Queue>, Fail> {
     let mut world = World::new(alloc, members)?;
     let steps = RUN.get(..len).ok_or("no such beginning")?;
     begin(alloc, &mut world, steps)?;

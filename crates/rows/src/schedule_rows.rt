@@ -13,15 +13,15 @@ const EVENTS: u32 = 99;
 
 /// A schedule with its world, and the order so far.
 #[derive(Drop)]
-struct Run {
+pub(crate) struct Run {
     members: Members,
     schedule: Schedule,
-    world: World<Register>,
+    pub(crate) world: World<Register>,
     order: Vec<Command<RegisterOp>>,
 }
 
 impl Run {
-    fn new(alloc: Global, seed: u64) -> Result<Run, Fail> {
+    pub(crate) fn new(alloc: Global, seed: u64) -> Result<Run, Fail> {
         let count = if seed % 2 == 0 { 3 } else { 5 };
         let members = Members::new(count).ok_or("no members")?;
         Ok(Run {
@@ -42,7 +42,7 @@ impl Run {
     }
 
     /// Submits a command, and takes the events that come next. Whether the order goes on from the one before them.
-    fn round(&mut self, session: u32) -> Result<bool, Fail> {
+    pub(crate) fn round(&mut self, session: u32) -> Result<bool, Fail> {
         self.submit(session)?;
         for _ in 0..EVENTS {
             let letters = self.world.letters().len();

@@ -35,7 +35,7 @@ static MAJORITIES: [Weighted; 4] = [
 /// Weights of no members.
 static NO_MEMBERS: [&[u32]; 5] = [&[], &[0, 1], &[1, 0], &[1, 1001], &[1, 1, 1, 1, 1, 1, 1, 1]];
 
-fn weighted(weights: &[u32]) -> Result<Members, Fail> {
+pub(crate) fn weighted(weights: &[u32]) -> Result<Members, Fail> {
     Ok(Members::weighted(weights).ok_or("no members")?)
 }
 

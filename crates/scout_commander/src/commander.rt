@@ -4,6 +4,8 @@ ghost use Rattle.scout_commander.specs.Scouts.{IsPreempting};
 ghost use Rattle.scout_commander.specs.Commanders.{new_commander, on_p2b as voting, IsDeciding};
 
 use ballot::{Ballot, MemberSet, Members, Pvalue};
+use object::Value;
+use std::alloc::AllocError;
 use std::marker::Model;
 
 /// What a P2b tells a commander.
@@ -93,5 +95,18 @@ impl<C> Commander<C> {
         } else {
             Voted::Wait
         }
+    }
+}
+
+impl<C: Value> Commander<C> {
+    /// The same commander once more.
+    pub fn copy(&self) -> Result<Commander<C>, AllocError>
+        ensures { IfOk result (λ commander. commander ≡ self.now) }
+    {
+        Ok(Commander {
+            members: self.members,
+            pvalue: self.pvalue.copy()?,
+            heard: self.heard,
+        })
     }
 }

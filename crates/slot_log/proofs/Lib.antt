@@ -11,3 +11,5 @@ pub mod Deciding
 pub mod Books
 pub mod Windows
 pub mod Advancing
+pub mod Copying
+pub mod Histories

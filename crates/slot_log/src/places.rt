@@ -1,11 +1,11 @@
-ghost use Rattle.std.specs.Prelude.{◌≡◌, true, false, [], IsSome, OnOk, OnErr};
+ghost use Rattle.std.specs.Prelude.{◌≡◌, true, false, [], IsSome, IfOk, OnOk, OnErr};
 ghost use Rattle.std.specs.List.{list_any};
 ghost use Rattle.object.specs.declared.command.Key.{Key};
 ghost use Rattle.object.specs.KeyMaps.{at_key, with_key};
 ghost use Rattle.slot_log.specs.Places.{noted_at, others_noted};
 
 use ballot::Slot;
-use object::{Key, KeyMap, Keyed, Value};
+use object::{Key, KeyMap, Keyed, Value, copies_of};
 use std::alloc::{AllocError, Global};
 
 /// Where a command stands.
@@ -38,6 +38,17 @@ impl<C: Value + Keyed> Places<C> {
             by_key: KeyMap::new(alloc),
             others: Vec::new(alloc),
         }
+    }
+
+    /// The same places once more.
+    pub(crate) fn copy(&self) -> Result<Places<C>, AllocError>
+        ensures places { IfOk result (λ copy. copy.by_key ≡ self.now.by_key) }
+        ensures others { IfOk result (λ copy. copy.others.items ≡ self.now.others.items) }
+    {
+        Ok(Places {
+            by_key: self.by_key.copy()?,
+            others: copies_of(*self.others.allocator(), &self.others)?,
+        })
     }
 
     /// Where the command of the key stands.

@@ -1,4 +1,4 @@
-ghost use Rattle.std.specs.Prelude.{◌≡◌, ◌↔◌, ◌++◌, ◌+◌, ◌^◌, ◌<◌, ◌≤◌, ℕ, true, None, Some, IsOk, IsSome, IfSome, IfOk, OnOk, OnErr, IsErrOf};
+ghost use Rattle.std.specs.Prelude.{◌≡◌, ◌↔◌, ◌++◌, ◌+◌, ◌^◌, ◌<◌, ◌≤◌, ◌==◌, ℕ, true, not, length, None, Some, IsOk, IsSome, IfSome, IfOk, OnOk, OnErr, IsErrOf};
 ghost use Rattle.std.specs.Option.{option_map, option_copied};
 ghost use Rattle.std.specs.FinMap as map;
 ghost use Rattle.slot_log.specs.Books.{new_book};
@@ -7,6 +7,8 @@ ghost use Rattle.slot_log.specs.Requests.{is_known, requested};
 ghost use Rattle.slot_log.specs.Proposals as proposing;
 ghost use Rattle.slot_log.specs.Decisions as deciding;
 ghost use Rattle.slot_log.specs.Advances.{advanced};
+
+mod copying;
 
 use crate::errors::LearnError;
 use crate::places::{Place, Places};
@@ -76,6 +78,13 @@ impl<C: Value + Keyed> SlotLog<C> {
         ensures within { result ≤ 2 ^ 62 + 1 }
     {
         self.slot_out
+    }
+
+    /// Whether a request waits to be proposed.
+    pub fn has_requests(&self) -> bool
+        ensures { result ≡ not (length self.now.requests == 0) }
+    {
+        !self.requests.is_empty()
     }
 
     /// The proposals, in rising slot. There are no more than the window has slots.
@@ -176,6 +185,13 @@ impl<C: Value + Keyed> SlotLog<C> {
         ensures { result ≡ map.contains_key self.now.decisions slot }
     {
         self.decisions.contains(slot)
+    }
+
+    /// The known decision of the slot. It takes no memory.
+    pub fn decision(&self, slot: Slot) -> Option<&C>
+        ensures { option_copied result ≡ map.get self.now.decisions slot }
+    {
+        self.decisions.get(slot)
     }
 
     /// A command is decided in a slot.

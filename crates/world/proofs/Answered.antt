@@ -10,7 +10,7 @@ use Rattle.object.specs.declared.command.Submission.{Submission}
 use Rattle.slot_log.specs.Decisions.{next_decided}
 use Rattle.world.specs.declared.event.Event.{Event}
 use Rattle.object.specs.Objects.{Rules}
-use Rattle.node.specs.Histories.{history}
+use Rattle.slot_log.specs.Histories.{history}
 use Rattle.object.specs.Obeying.{answers_after}
 use Rattle.node.specs.Kept.{IsPerformed}
 use Rattle.world.specs.Nodes.{Cluster, node}

@@ -7,7 +7,7 @@ use Rattle.object.specs.Replays.{kept_after, kept}
 use Rattle.slot_log.specs.Decisions.{next_decided}
 use Rattle.world.specs.declared.event.Event.{Event}
 use Rattle.object.specs.Objects.{Rules}
-use Rattle.node.specs.Histories.{history}
+use Rattle.slot_log.specs.Histories.{history}
 use Rattle.object.specs.Obeying.{answers_after}
 use Rattle.world.specs.Nodes.{Cluster, node}
 use Rattle.object.specs.Happenings.{Happenings, is_submitted}

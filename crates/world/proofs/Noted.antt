@@ -6,13 +6,14 @@ use Rattle.std.proofs.lemmas.Bool.Decides.{nat_tests}
 use Rattle.std.proofs.lemmas.List.{map-append}
 use Rattle.object.specs.declared.command.Command.{Command}
 use Rattle.object.specs.declared.command.Key.{Key}
+use Rattle.object.specs.Objects.{Rules}
 use Rattle.slot_log.specs.Decisions.{next_decided}
 use Rattle.world.specs.Chosen.{IsChosen}
 use Rattle.world.specs.Nodes.{node}
 use Rattle.world.specs.Worlds.{World, opening}
 use Rattle.node.specs.Deeds.{performs}
 use Rattle.node.specs.Outcomes.{reach_after}
-use Rattle.world.specs.Kept.{HasNoted, key_past}
+use Rattle.world.specs.Kept.{HasNoted, IsNoted, key_past}
 use Rattle.world.specs.Reached.{IsReached}
 use Rattle.world.proofs.Invariants.{IsSound}
 use Rattle.world.proofs.Grows.{Grows}
@@ -21,6 +22,10 @@ use Rattle.world.proofs.Told.{AllWithin}
 
 pub opening_noted : {Op Reply : Type 0} (members : List ℕ) → HasNoted {Op = Op} {Reply = Reply} (opening members) []
 opening_noted members = ([], record { chosen = tt; count = refl }, refl)
+
+-- the same world with the same keys
+pub noted_again : {O Op Reply : Type 0} (rules : Rules O Op Reply) (w z : World Op Reply) (keys again : List Key) → z ≡ w → again ≡ keys → IsNoted rules w keys → IsNoted rules z again
+noted_again rules w z keys again same kept noted = subst (IsNoted rules z) (sym kept) (subst (λ v. IsNoted rules v keys) (sym same) noted)
 
 module _ {Op Reply : Type 0} (v u : World Op Reply) (grows : Grows v.cluster u.cluster) (cs : List (Command Op)) (reached : IsReached v cs) where
   -- where the reach stays, so do the commands up to it

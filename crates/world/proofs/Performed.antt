@@ -20,7 +20,7 @@ use Rattle.slot_log.specs.Decisions.{learnt, next_decided}
 use Rattle.slot_log.specs.Advances.{advanced}
 use Rattle.world.specs.declared.event.Event.{Event}
 use Rattle.object.specs.Objects.{Rules, is_one}
-use Rattle.node.specs.Histories.{history}
+use Rattle.slot_log.specs.Histories.{history}
 use Rattle.node.specs.Kept.{IsPerformed}
 use Rattle.node.specs.Nodes.{NodeState}
 use Rattle.world.specs.Nodes.{Cluster, node, turned}

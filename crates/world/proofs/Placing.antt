@@ -15,7 +15,7 @@ use Rattle.ballot.specs.OrderLaws.{BallotLaws}
 use Rattle.slot_log.specs.Books.{SlotBook}
 use Rattle.slot_log.specs.Decisions.{next_decided}
 use Rattle.node.specs.Deeds.{performed_as, performs}
-use Rattle.node.specs.Histories.{history}
+use Rattle.slot_log.specs.Histories.{history}
 use Rattle.world.specs.declared.event.Event.{Event}
 use Rattle.world.specs.Chosen.{IsChosen}
 use Rattle.world.specs.Nodes.{node}

@@ -17,7 +17,7 @@ use Rattle.slot_log.specs.Decisions.{next_decided}
 use Rattle.ballot.specs.Members.{is_member}
 use Rattle.world.specs.declared.event.Event.{Event}
 use Rattle.object.specs.Objects.{Rules, is_one, replay_of}
-use Rattle.node.specs.Histories.{history}
+use Rattle.slot_log.specs.Histories.{history}
 use Rattle.object.specs.Obeying.{answers_after}
 use Rattle.node.specs.Nodes.{NodeState}
 use Rattle.world.specs.Nodes.{Cluster, node, turned}

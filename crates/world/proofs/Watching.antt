@@ -34,6 +34,10 @@ still_shows nd z all same shows = record {
   replica = refl;
 }
 
+-- the same node once more
+pub same_shows : {C : Type 0} (nd z : NodeState C) (all again : List (Pvalue C)) → z ≡ nd → again ≡ all → ShowsNode nd (with_accepted nd all) → ShowsNode z (with_accepted z again)
+same_shows nd z all again same kept shows = subst (λ l. ShowsNode z (with_accepted z l)) (sym kept) (subst (λ x. ShowsNode x (with_accepted x all)) (sym same) shows)
+
 -- a node to which nothing happened yet
 pub new_shows : {C : Type 0} (nd : NodeState C) (all : List (Pvalue C)) → nd.acceptor ≡ new_acceptor → all ≡ [] → ShowsNode nd (with_accepted nd all)
 new_shows {C} nd all new none = record {

@@ -14,3 +14,10 @@ pub mod Reached
 pub mod Kept
 pub mod Placing
 pub mod Told
+pub mod Alike
+pub mod Leading
+pub mod Mentions
+pub mod Rescues
+pub mod SlotBooks
+pub mod Telling
+pub mod WaysOut

@@ -18,7 +18,7 @@ use Rattle.slot_log.specs.Proposals.{next_proposal, proposed_next}
 use Rattle.slot_log.specs.Decisions.{next_decided}
 use Rattle.slot_log.specs.Advances.{advanced}
 use Rattle.replica.specs.Replicas.{proposes_first}
-use Rattle.node.specs.Histories.{history}
+use Rattle.slot_log.specs.Histories.{history}
 use Rattle.node.specs.Nodes.{NodeState, restarted}
 use Rattle.node.specs.Deeds.{led, said_again}
 use Rattle.node.specs.Receiving.{Receives}

@@ -4,10 +4,13 @@
 mod error;
 mod event;
 mod laws;
+mod letters;
 mod order;
+mod rescuing;
 mod schedule;
 mod submissions;
 mod watched;
+mod way;
 mod world;
 
 pub use error::WorldError;

@@ -8,7 +8,7 @@ ghost use Rattle.world.specs.Kept.{accepts_of};
 use crate::submissions::push_in_room;
 use ballot::{Ballot, Letter, LetterBody, Members, Pvalue, Slot};
 use node::Node;
-use object::{Command, Object, Value};
+use object::{Command, Object, Value, copies_of};
 use std::alloc::{AllocError, Global};
 use std::marker::Model;
 
@@ -45,6 +45,16 @@ impl<O: Object> Watched<O> {
         Ok(Watched {
             node: Node::new(alloc, members, id)?,
             accepted: Vec::new(alloc),
+        })
+    }
+
+    /// The same node once more.
+    pub(crate) fn copy(&self) -> Result<Watched<O>, AllocError>
+        ensures { IfOk result (λ copy. copy ≡ self.now) }
+    {
+        Ok(Watched {
+            node: self.node.copy()?,
+            accepted: copies_of(*self.accepted.allocator(), &self.accepted)?,
         })
     }
 

@@ -10,6 +10,8 @@ ghost use Rattle.world.specs.Told.{IsAnswered};
 ghost use Rattle.world.specs.Agreements.{HasOneCommand, KeepsChosen, ChoosesOne, DecidesChosen, StaysChosen};
 
 mod acting;
+mod copying;
+mod looking;
 mod refusing;
 
 use crate::error::WorldError;
@@ -184,7 +186,7 @@ impl<O: Object> World<O> {
     }
 
     // What every world agrees on.
-    fn agrees(&self)
+    pub(crate) fn agrees(&self)
         ensures one_command { HasOneCommand self.now.cluster }
         ensures keeps_chosen { KeepsChosen self.now.cluster }
         ensures chooses_one { ChoosesOne self.now.cluster }

@@ -1,5 +1,0 @@
-use Rattle.std.proofs.Common.{◌≡◌, take}
-use Rattle.ballot.proofs.pvalue.PvaluesValue.copy.Given as goal
-
-abbrev pub invariant-loop-pvalue : goal.invariant-loop-pvalue
-invariant-loop-pvalue g l = l.items.items ≡ take l.pvalue-index l.pvalue-items

@@ -1,0 +1,29 @@
+use Rattle.std.proofs.Common.{refl, arith}
+use Rattle.world.specs.declared.event.Event.TheVariants as events
+use Rattle.world.proofs.Reach.{reachable_sound}
+use Rattle.world.specs.Rescues.{keeps_nodes}
+use Rattle.world.specs.WaysOut.{stays as ready_stays}
+use Rattle.world.proofs.Allowing.{may_deliver, on_both, on_ok}
+use Rattle.world.proofs.Going.{one_goes}
+use Rattle.world.proofs.Proposing.{proposes_sent, proposes_at, there_mentions, proposal_led, proposal_book, proposal_spent}
+use Rattle.world.proofs.RoundMembers.{first_member}
+use Rattle.world.proofs.way.Way.propose.Goals as goal
+
+pub take-requires : goal.take-requires
+take-requires g c = let room = c.requires.room in may_deliver g.O.Op.PartialEq.eq c.args.self.now.trial c.in-Some.place (proposes_sent c.args.self.now.trial.cluster.letters c.in-Some.place c.args.slot c.in-Some.ensures.some) (omega arith)
+
+pub returns-in-Some-clause-led : goal.returns-in-Some-clause-led
+returns-in-Some-clause-led g c = on_ok c.take.result c.take.ensures.step (λ step. proposal_led c.ballot_laws.ensures g.O.Object.rules c.args.self.now.trial c.take.new.self.trial (reachable_sound c.ballot_laws.ensures g.O.Object.rules c.args.self.now.trial c.stands.ensures.world.reachable) (first_member c.args.self.now.trial.cluster.members c.stands.ensures.members) c.requires.settled c.in-Some.place c.args.slot c.requires.free c.in-Some.ensures.some step)
+
+pub returns-in-Some-clause-ready : goal.returns-in-Some-clause-ready
+returns-in-Some-clause-ready g c = on_ok c.take.result c.take.ensures.step (λ step. ready_stays (proposes_at c.args.self.now.trial.cluster c.in-Some.place c.args.slot c.in-Some.ensures.some) (proposal_book c.ballot_laws.ensures g.O.Object.rules c.args.self.now.trial c.take.new.self.trial (reachable_sound c.ballot_laws.ensures g.O.Object.rules c.args.self.now.trial c.stands.ensures.world.reachable) (first_member c.args.self.now.trial.cluster.members c.stands.ensures.members) c.requires.settled c.in-Some.place c.args.slot c.requires.free c.in-Some.ensures.some step))
+
+pub returns-in-Some-clause-spent : goal.returns-in-Some-clause-spent
+returns-in-Some-clause-spent g c = on_ok c.take.result c.take.ensures.step (λ step. let now = proposal_spent c.ballot_laws.ensures g.O.Object.rules c.args.self.now.trial c.take.new.self.trial (reachable_sound c.ballot_laws.ensures g.O.Object.rules c.args.self.now.trial c.stands.ensures.world.reachable) (first_member c.args.self.now.trial.cluster.members c.stands.ensures.members) c.requires.settled c.in-Some.place c.args.slot c.requires.free c.in-Some.ensures.some step in omega arith)
+
+pub returns-in-Some-clause-mentions : goal.returns-in-Some-clause-mentions
+returns-in-Some-clause-mentions g c = on_ok c.take.result c.take.ensures.step (λ step. there_mentions c.ballot_laws.ensures g.O.Object.rules c.args.self.now.trial c.take.new.self.trial c.in-Some.place c.args.slot (reachable_sound c.ballot_laws.ensures g.O.Object.rules c.args.self.now.trial c.stands.ensures.world.reachable) step)
+
+pub returns-in-Some-clause-goes : goal.returns-in-Some-clause-goes
+returns-in-Some-clause-goes g c = on_both c.take.result c.take.ensures.step c.take.ensures.noted (λ step noted.
+    one_goes g.O.Object.rules keeps_nodes c.args.self.now.trial c.take.new.self.trial (events.Deliver c.in-Some.place) c.args.self.now.events.items c.take.new.self.events.items step noted refl)

@@ -1,0 +1,201 @@
+ghost use Rattle.std.specs.Prelude.{◌≡◌, ◌⊎◌, ◌<◌, ◌≤◌, ◌+◌, true, false, length, None, IfErr, OnOk};
+ghost use Rattle.std.specs.FinMap.{get, contains_key};
+ghost use Rattle.world.specs.declared.error.WorldError.TheVariants.{OutOfMemory};
+ghost use Rattle.world.specs.Refusals.{most_events};
+ghost use Rattle.world.specs.Rescues.{keeps_nodes};
+ghost use Rattle.world.specs.Telling.{IsProposedAt};
+ghost use Rattle.world.specs.WaysOut.{first_leader, first_book, IsSettled, IsSmall, IsReady, HasLearnt, HasDecided, HasAdvanced, MentionsAsMuch, Goes, work, most_slots};
+ghost use Rattle.object.specs.Objects.{is_one};
+
+use crate::error::WorldError;
+use crate::event::Event;
+use crate::way::Way;
+use ballot::{Slot, ballot_laws};
+use object::Object;
+
+impl<O: Object> Way<O> {
+    // Has replica 1 perform one slot more.
+    pub(crate) fn advance(&mut self) -> Result<(), WorldError>
+        requires settled { IsSettled self.old.trial.cluster }
+        requires small { IsSmall self.old.trial.cluster }
+        requires low { (first_book self.old.trial.cluster).slot_out ≤ most_slots }
+        requires more { IsProposedAt self.old.trial.cluster (first_book self.old.trial.cluster).slot_out
+            ⊎ (0 < length (first_book self.old.trial.cluster).requests) }
+        requires room { self.old.trial.taken + work self.old.trial.cluster + 20 ≤ most_events }
+        ensures settled { OnOk result (IsSettled self.new.trial.cluster) }
+        ensures advanced { OnOk result (HasAdvanced (is_one O.rules) self.old.trial.cluster
+            (first_book self.new.trial.cluster)) }
+        ensures spent { OnOk result (self.new.trial.taken + work self.new.trial.cluster
+            ≤ self.old.trial.taken + work self.old.trial.cluster + 20) }
+        ensures mentions { OnOk result (MentionsAsMuch self.old.trial.cluster
+            (first_book self.old.trial.cluster).slot_out self.new.trial.cluster) }
+        ensures submitted { OnOk result (self.new.trial.happenings.submitted
+            ≡ self.old.trial.happenings.submitted) }
+        ensures goes { OnOk result (Goes O.rules keeps_nodes self.old.trial self.old.events.items
+            self.new.trial self.new.events.items) }
+        ensures memory { IfErr result (λ r. r ≡ OutOfMemory) }
+    {
+        ballot_laws();
+        self.trial.stands();
+        let slot = self.trial.slot_out();
+        self.learn(slot)?;
+        self.trial.stands();
+        self.take(Event::Perform(1))
+    }
+
+    // Has replica 1 know what is decided in the slot that it performs next.
+    fn learn(&mut self, slot: Slot) -> Result<(), WorldError>
+        requires settled { IsSettled self.old.trial.cluster }
+        requires small { IsSmall self.old.trial.cluster }
+        requires next { slot ≡ (first_book self.old.trial.cluster).slot_out }
+        requires low { slot ≤ most_slots }
+        requires more { IsProposedAt self.old.trial.cluster slot
+            ⊎ (0 < length (first_book self.old.trial.cluster).requests) }
+        requires room { self.old.trial.taken + work self.old.trial.cluster + 19 ≤ most_events }
+        ensures settled { OnOk result (IsSettled self.new.trial.cluster) }
+        ensures decided { OnOk result (HasDecided self.old.trial.cluster slot
+            (first_book self.new.trial.cluster)) }
+        ensures spent { OnOk result (self.new.trial.taken + work self.new.trial.cluster
+            ≤ self.old.trial.taken + work self.old.trial.cluster + 19) }
+        ensures mentions { OnOk result (MentionsAsMuch self.old.trial.cluster slot
+            self.new.trial.cluster) }
+        ensures submitted { OnOk result (self.new.trial.happenings.submitted
+            ≡ self.old.trial.happenings.submitted) }
+        ensures goes { OnOk result (Goes O.rules keeps_nodes self.old.trial self.old.events.items
+            self.new.trial self.new.events.items) }
+        ensures memory { IfErr result (λ r. r ≡ OutOfMemory) }
+    {
+        if self.trial.knows(slot) {
+            return Ok(());
+        }
+        self.decide(slot)
+    }
+
+    // Has that slot decided, and replica 1 told of it.
+    fn decide(&mut self, slot: Slot) -> Result<(), WorldError>
+        requires settled { IsSettled self.old.trial.cluster }
+        requires small { IsSmall self.old.trial.cluster }
+        requires next { slot ≡ (first_book self.old.trial.cluster).slot_out }
+        requires unknown { get (first_book self.old.trial.cluster).decisions slot ≡ None }
+        requires low { slot ≤ most_slots }
+        requires more { IsProposedAt self.old.trial.cluster slot
+            ⊎ (0 < length (first_book self.old.trial.cluster).requests) }
+        requires room { self.old.trial.taken + work self.old.trial.cluster + 19 ≤ most_events }
+        ensures settled { OnOk result (IsSettled self.new.trial.cluster) }
+        ensures learnt { OnOk result (HasLearnt self.old.trial.cluster slot
+            (first_book self.new.trial.cluster)) }
+        ensures spent { OnOk result (self.new.trial.taken + work self.new.trial.cluster
+            ≤ self.old.trial.taken + work self.old.trial.cluster + 19) }
+        ensures mentions { OnOk result (MentionsAsMuch self.old.trial.cluster slot
+            self.new.trial.cluster) }
+        ensures submitted { OnOk result (self.new.trial.happenings.submitted
+            ≡ self.old.trial.happenings.submitted) }
+        ensures goes { OnOk result (Goes O.rules keeps_nodes self.old.trial self.old.events.items
+            self.new.trial self.new.events.items) }
+        ensures memory { IfErr result (λ r. r ≡ OutOfMemory) }
+    {
+        ballot_laws();
+        self.lead(slot)?;
+        self.trial.stands();
+        match self.trial.decision_for(slot) {
+            Some(place) => self.take(Event::Deliver(place)),
+            None => unreachable!(),
+        }
+    }
+
+    // Has the leader of node 1 get a proposal for that slot decided.
+    fn lead(&mut self, slot: Slot) -> Result<(), WorldError>
+        requires settled { IsSettled self.old.trial.cluster }
+        requires small { IsSmall self.old.trial.cluster }
+        requires next { slot ≡ (first_book self.old.trial.cluster).slot_out }
+        requires unknown { get (first_book self.old.trial.cluster).decisions slot ≡ None }
+        requires low { slot ≤ most_slots }
+        requires more { IsProposedAt self.old.trial.cluster slot
+            ⊎ (0 < length (first_book self.old.trial.cluster).requests) }
+        requires room { self.old.trial.taken + work self.old.trial.cluster + 18 ≤ most_events }
+        ensures settled { OnOk result (IsSettled self.new.trial.cluster) }
+        ensures led { OnOk result (contains_key (first_leader self.new.trial.cluster).proposals slot
+            ≡ true) }
+        ensures ready { OnOk result (IsReady self.old.trial.cluster slot
+            (first_book self.new.trial.cluster)) }
+        ensures spent { OnOk result (self.new.trial.taken + work self.new.trial.cluster
+            ≤ self.old.trial.taken + work self.old.trial.cluster + 18) }
+        ensures mentions { OnOk result (MentionsAsMuch self.old.trial.cluster slot
+            self.new.trial.cluster) }
+        ensures submitted { OnOk result (self.new.trial.happenings.submitted
+            ≡ self.old.trial.happenings.submitted) }
+        ensures goes { OnOk result (Goes O.rules keeps_nodes self.old.trial self.old.events.items
+            self.new.trial self.new.events.items) }
+        ensures memory { IfErr result (λ r. r ≡ OutOfMemory) }
+    {
+        ballot_laws();
+        self.trial.stands();
+        if self.trial.has_proposal(slot) {
+            return Ok(());
+        }
+        self.propose(slot)?;
+        self.trial.stands();
+        self.settle()
+    }
+
+    // Has the leader of node 1 take a proposal for the slot that replica 1 performs next.
+    fn propose(&mut self, slot: Slot) -> Result<(), WorldError>
+        requires settled { IsSettled self.old.trial.cluster }
+        requires next { slot ≡ (first_book self.old.trial.cluster).slot_out }
+        requires unknown { get (first_book self.old.trial.cluster).decisions slot ≡ None }
+        requires free { contains_key (first_leader self.old.trial.cluster).proposals slot ≡ false }
+        requires more { IsProposedAt self.old.trial.cluster slot
+            ⊎ (0 < length (first_book self.old.trial.cluster).requests) }
+        requires room { self.old.trial.taken + 2 ≤ most_events }
+        ensures led { OnOk result (contains_key (first_leader self.new.trial.cluster).proposals slot
+            ≡ true) }
+        ensures ready { OnOk result (IsReady self.old.trial.cluster slot
+            (first_book self.new.trial.cluster)) }
+        ensures spent { OnOk result (self.new.trial.taken + work self.new.trial.cluster
+            ≤ self.old.trial.taken + work self.old.trial.cluster + 18) }
+        ensures mentions { OnOk result (MentionsAsMuch self.old.trial.cluster slot
+            self.new.trial.cluster) }
+        ensures submitted { OnOk result (self.new.trial.happenings.submitted
+            ≡ self.old.trial.happenings.submitted) }
+        ensures goes { OnOk result (Goes O.rules keeps_nodes self.old.trial self.old.events.items
+            self.new.trial self.new.events.items) }
+        ensures memory { IfErr result (λ r. r ≡ OutOfMemory) }
+    {
+        ballot_laws();
+        self.trial.stands();
+        match self.trial.proposal_for(slot) {
+            Some(place) => self.take(Event::Deliver(place)),
+            None => self.propose_first(slot),
+        }
+    }
+
+    // The same, where no letter proposes anything for the slot: replica 1 proposes its first request there.
+    fn propose_first(&mut self, slot: Slot) -> Result<(), WorldError>
+        requires settled { IsSettled self.old.trial.cluster }
+        requires next { slot ≡ (first_book self.old.trial.cluster).slot_out }
+        requires unknown { get (first_book self.old.trial.cluster).decisions slot ≡ None }
+        requires free { contains_key (first_leader self.old.trial.cluster).proposals slot ≡ false }
+        requires new { IsProposedAt self.old.trial.cluster slot → ⊥ }
+        requires more { 0 < length (first_book self.old.trial.cluster).requests }
+        requires room { self.old.trial.taken + 2 ≤ most_events }
+        ensures led { OnOk result (contains_key (first_leader self.new.trial.cluster).proposals slot
+            ≡ true) }
+        ensures ready { OnOk result (IsReady self.old.trial.cluster slot
+            (first_book self.new.trial.cluster)) }
+        ensures spent { OnOk result (self.new.trial.taken + work self.new.trial.cluster
+            ≤ self.old.trial.taken + work self.old.trial.cluster + 18) }
+        ensures mentions { OnOk result (MentionsAsMuch self.old.trial.cluster slot
+            self.new.trial.cluster) }
+        ensures submitted { OnOk result (self.new.trial.happenings.submitted
+            ≡ self.old.trial.happenings.submitted) }
+        ensures goes { OnOk result (Goes O.rules keeps_nodes self.old.trial self.old.events.items
+            self.new.trial self.new.events.items) }
+        ensures memory { IfErr result (λ r. r ≡ OutOfMemory) }
+    {
+        ballot_laws();
+        self.trial.stands();
+        let place = self.trial.letters().len();
+        self.take(Event::Propose(1))?;
+        self.take(Event::Deliver(place))
+    }
+}

@@ -1,0 +1,59 @@
+ghost use Rattle.std.specs.Prelude.{◌≡◌, ◌⊎◌, ◌<◌, ◌≤◌, ◌^◌, true, false, [], length, IfErr, OnOk};
+ghost use Rattle.object.specs.Lists.{In};
+ghost use Rattle.object.specs.Legal.{WasSubmitted};
+ghost use Rattle.slot_log.specs.Histories.{history};
+ghost use Rattle.world.specs.declared.error.WorldError.TheVariants.{OutOfMemory};
+ghost use Rattle.world.specs.Rescues.{keeps_nodes};
+ghost use Rattle.world.specs.Telling.{IsProposedAt};
+ghost use Rattle.world.specs.WaysOut.{first_book, Goes};
+
+use crate::error::WorldError;
+use crate::event::Event;
+use crate::way::Way;
+use ballot::ballot_laws;
+use object::{Command, Object, Value};
+
+impl<O: Object> Way<O> {
+    // Has replica 1 perform a command that was submitted.
+    pub(crate) fn bring(&mut self, command: &Command<O::Op>) -> Result<(), WorldError>
+        requires was { WasSubmitted command.now self.old.trial.happenings.submitted }
+        requires few { self.old.trial.taken ≤ 2 ^ 32 }
+        ensures performed { OnOk result (In command.now
+            (history (first_book self.new.trial.cluster))) }
+        ensures submitted { OnOk result (self.new.trial.happenings.submitted
+            ≡ self.old.trial.happenings.submitted) }
+        ensures goes { OnOk result (Goes O.rules keeps_nodes self.old.trial self.old.events.items
+            self.new.trial self.new.events.items) }
+        ensures memory { IfErr result (λ r. r ≡ OutOfMemory) }
+    {
+        ballot_laws();
+        self.trial.stands();
+        let request = command.copy()?;
+        self.take(Event::Submit(1, request))?;
+        self.trial.stands();
+        self.settle()?;
+        while self.has_more() {
+            self.trial.stands();
+            self.advance()?;
+        }
+        self.trial.stands();
+        Ok(())
+    }
+
+    // Whether something is left for replica 1 to perform, or to propose.
+    fn has_more(&self) -> bool
+        ensures more { result ≡ true
+            → IsProposedAt self.now.trial.cluster (first_book self.now.trial.cluster).slot_out
+            ⊎ (0 < length (first_book self.now.trial.cluster).requests) }
+        ensures settled { result ≡ false
+            → IsProposedAt self.now.trial.cluster (first_book self.now.trial.cluster).slot_out → ⊥ }
+        ensures none { result ≡ false → (first_book self.now.trial.cluster).requests ≡ [] }
+    {
+        self.trial.stands();
+        if self.trial.has_requests() {
+            return true;
+        }
+        let slot = self.trial.slot_out();
+        self.trial.proposal_for(slot).is_some()
+    }
+}

@@ -1,0 +1,59 @@
+ghost use Rattle.std.specs.Prelude.{◌≡◌, ◌↔◌, ◌<◌, ◌≤◌, ◌+◌, true, IfErr, OnOk};
+ghost use Rattle.world.specs.declared.error.WorldError.TheVariants.{OutOfMemory};
+ghost use Rattle.world.specs.Refusals.{most_events};
+ghost use Rattle.world.specs.WaysOut.{IsSettled, IsSmall, IsTalk, Goes, is_talk, work};
+
+use crate::error::WorldError;
+use crate::event::Event;
+use crate::way::Way;
+use ballot::ballot_laws;
+use object::Object;
+
+impl<O: Object> Way<O> {
+    // Goes on until the leader of node 1 is active and waits for nothing.
+    pub(crate) fn settle(&mut self) -> Result<(), WorldError>
+        requires small { IsSmall self.old.trial.cluster }
+        requires room { self.old.trial.taken + work self.old.trial.cluster ≤ most_events }
+        ensures settled { OnOk result (IsSettled self.new.trial.cluster) }
+        ensures spent { OnOk result (self.new.trial.taken + work self.new.trial.cluster
+            ≤ self.old.trial.taken + work self.old.trial.cluster) }
+        ensures talk { OnOk result (IsTalk self.old.trial self.new.trial) }
+        ensures goes { OnOk result (Goes O.rules is_talk self.old.trial self.old.events.items
+            self.new.trial self.new.events.items) }
+        ensures memory { IfErr result (λ r. r ≡ OutOfMemory) }
+    {
+        while !self.is_settled() {
+            self.turn()?;
+        }
+        Ok(())
+    }
+
+    // The leader of node 1 wakes, and asks for whatever it waits for.
+    fn turn(&mut self) -> Result<(), WorldError>
+        requires left { IsSettled self.old.trial.cluster → ⊥ }
+        requires small { IsSmall self.old.trial.cluster }
+        requires room { self.old.trial.taken + work self.old.trial.cluster ≤ most_events }
+        ensures small { OnOk result (IsSmall self.new.trial.cluster) }
+        ensures spent { OnOk result (self.new.trial.taken + work self.new.trial.cluster
+            ≤ self.old.trial.taken + work self.old.trial.cluster) }
+        ensures later { OnOk result (self.old.trial.taken < self.new.trial.taken) }
+        ensures talk { OnOk result (IsTalk self.old.trial self.new.trial) }
+        ensures goes { OnOk result (Goes O.rules is_talk self.old.trial self.old.events.items
+            self.new.trial self.new.events.items) }
+        ensures memory { IfErr result (λ r. r ≡ OutOfMemory) }
+    {
+        ballot_laws();
+        self.trial.stands();
+        self.take(Event::Wake(1))?;
+        self.ask_all()
+    }
+
+    // Whether it is active and waits for nothing.
+    fn is_settled(&self) -> bool
+        ensures { (result ≡ true) ↔ IsSettled self.now.trial.cluster }
+    {
+        ballot_laws();
+        self.trial.stands();
+        self.trial.leads() && self.trial.waits() == 0
+    }
+}

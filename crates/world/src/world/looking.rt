@@ -1,0 +1,113 @@
+ghost use Rattle.std.specs.Prelude.{◌≡◌, ◌==◌, ℕ, not, length, IfSome, IfNone};
+ghost use Rattle.std.specs.FinMap.{contains_key};
+ghost use Rattle.ballot.specs.Members.{IsMembers};
+ghost use Rattle.leader.specs.Leaders.{says_again};
+ghost use Rattle.world.specs.Runs.{IsWorld};
+ghost use Rattle.world.specs.Telling.{IsProposedAt};
+ghost use Rattle.world.specs.WaysOut.{first_leader, first_book, Proposes, Decides};
+
+use super::World;
+use crate::letters::{find_decision, find_proposal};
+use ballot::{Slot, ballot_laws};
+use node::Node;
+use object::Object;
+use std::alloc::Global;
+
+impl<O: Object> World<O> {
+    /// What is so of every world, and of its members.
+    pub(crate) fn stands(&self)
+        ensures world { IsWorld O.rules self.now }
+        ensures members { IsMembers self.now.cluster.members }
+    {
+        let _ = self.members.weights();
+    }
+
+    /// Where its memory comes from.
+    pub(crate) fn allocator(&self) -> Global {
+        self.alloc
+    }
+
+    /// How many members there are.
+    pub(crate) fn count(&self) -> u8
+        ensures { result ≡ length self.now.cluster.members }
+    {
+        self.members.count()
+    }
+
+    /// How many events it has taken.
+    pub(crate) fn taken(&self) -> u64
+        ensures { result ≡ self.now.taken }
+    {
+        self.taken
+    }
+
+    // Node 1, which is always a member.
+    fn first(&self) -> &Node<O>
+        ensures leader { result.now.leader ≡ first_leader self.now.cluster }
+        ensures book { result.now.replica ≡ first_book self.now.cluster }
+    {
+        ballot_laws();
+        let _ = self.members.weights();
+        &self.nodes[0].node
+    }
+
+    /// Whether node 1 leads.
+    pub(crate) fn leads(&self) -> bool
+        ensures { result ≡ (first_leader self.now.cluster).active }
+    {
+        self.first().leads()
+    }
+
+    /// How many things its leader waits for.
+    pub(crate) fn waits(&self) -> usize
+        ensures { result ≡ length (says_again (first_leader self.now.cluster)) }
+    {
+        self.first().waits()
+    }
+
+    /// Whether its leader has a proposal for the slot.
+    pub(crate) fn has_proposal(&self, slot: Slot) -> bool
+        ensures { result ≡ contains_key (first_leader self.now.cluster).proposals slot }
+    {
+        self.first().has_proposal(slot)
+    }
+
+    /// The slot that replica 1 performs next.
+    pub(crate) fn slot_out(&self) -> Slot
+        ensures { result ≡ (first_book self.now.cluster).slot_out }
+    {
+        ballot_laws();
+        self.stands();
+        Slot::new(self.first().slots().slot_out()).unwrap()
+    }
+
+    /// Whether replica 1 has a request.
+    pub(crate) fn has_requests(&self) -> bool
+        ensures { result ≡ not (length (first_book self.now.cluster).requests == 0) }
+    {
+        self.first().slots().has_requests()
+    }
+
+    /// Whether replica 1 knows what is decided in the slot.
+    pub(crate) fn knows(&self, slot: Slot) -> bool
+        ensures { result ≡ contains_key (first_book self.now.cluster).decisions slot }
+    {
+        self.first().slots().decision(slot).is_some()
+    }
+
+    /// A letter that proposes a command for the slot to node 1.
+    pub(crate) fn proposal_for(&self, slot: Slot) -> Option<usize>
+        ensures some { IfSome result (λ place. Proposes self.now.cluster.letters place slot) }
+        ensures none { IfNone result (IsProposedAt self.now.cluster slot → ⊥) }
+    {
+        find_proposal(self.letters(), slot)
+    }
+
+    /// A letter that tells node 1 what is decided in the slot.
+    pub(crate) fn decision_for(&self, slot: Slot) -> Option<usize>
+        ensures some { IfSome result (λ place. Decides self.now.cluster.letters place slot) }
+        ensures none { IfNone result ((place : ℕ) → Decides self.now.cluster.letters place slot → ⊥) }
+    {
+        find_decision(self.letters(), slot)
+    }
+}
