@@ -71,6 +71,7 @@ pub trait JobMap: Drop + Sized {
         ensures ok { OnOk result (entries self.new
             ≡ altered id (with_state state) (entries self.old)) }
         ensures err { OnErr result (entries self.new ≡ entries self.old) }
+        ensures there { OnErr result (IsSome (value_at id (entries self.old))) }
         ensures before { before self.new ≡ before self.old };
 
     /// Sets the priority and the state of the job at an id, if there is one.
@@ -78,6 +79,7 @@ pub trait JobMap: Drop + Sized {
         ensures ok { OnOk result (entries self.new
             ≡ altered id (with_pri_and_state pri state) (entries self.old)) }
         ensures err { OnErr result (entries self.new ≡ entries self.old) }
+        ensures there { OnErr result (IsSome (value_at id (entries self.old))) }
         ensures before { before self.new ≡ before self.old };
 
     /// Takes out the job at an id. It can't be taken back: a trial that is on ends, and its changes stay.

@@ -150,6 +150,7 @@ impl LoggedJobs {
     pub fn set_state(&mut self, id: u64, state: State) -> Result<(), AllocError>
         ensures ok { OnOk result (self.new.jobs ≡ altered id (with_state state) self.old.jobs) }
         ensures err { OnErr result (self.new.jobs ≡ self.old.jobs) }
+        ensures there { OnErr result (IsSome (value_at id self.old.jobs)) }
         ensures rising { Rising 0 (2 ^ 64) self.new.jobs }
         ensures before { self.new.before ≡ self.old.before }
     {
@@ -163,6 +164,7 @@ impl LoggedJobs {
         ensures ok { OnOk result (self.new.jobs
             ≡ altered id (with_pri_and_state pri state) self.old.jobs) }
         ensures err { OnErr result (self.new.jobs ≡ self.old.jobs) }
+        ensures there { OnErr result (IsSome (value_at id self.old.jobs)) }
         ensures rising { Rising 0 (2 ^ 64) self.new.jobs }
         ensures before { self.new.before ≡ self.old.before }
     {

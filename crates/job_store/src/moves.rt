@@ -1,5 +1,5 @@
-ghost use Rattle.std.specs.Prelude.{◌≡◌, ◌^◌, [], true, false, is_some, OnOk, OnErr};
-ghost use Rattle.job_store.specs.Entries.{Rising, with_value, altered};
+ghost use Rattle.std.specs.Prelude.{◌≡◌, ◌^◌, [], true, false, IsSome, is_some, OnOk, OnErr};
+ghost use Rattle.job_store.specs.Entries.{Rising, value_at, with_value, altered};
 ghost use Rattle.job_store.specs.States.{with_state};
 ghost use Rattle.job_store.specs.Changes.{after_change};
 ghost use Rattle.job_store.specs.Shelves.{lists, HavePlaces, AreKnown, AreAhead, AreAheadOrListed, HasGrown, HasFollowed, HasSettled};
@@ -25,6 +25,7 @@ pub fn move_to_state(
     ensures rising { Rising 0 (2 ^ 64) jobs.new.jobs }
     ensures before { jobs.new.before ≡ jobs.old.before }
     ensures jobs_stay { OnErr result (jobs.new.jobs ≡ jobs.old.jobs) }
+    ensures there { OnErr result (IsSome (value_at id jobs.old.jobs)) }
 {
     let Some(job) = jobs.by_id().get(&id) else {
         return Ok(());
@@ -47,6 +48,7 @@ pub fn move_to(
     ensures rising { Rising 0 (2 ^ 64) jobs.new.jobs }
     ensures before { jobs.new.before ≡ jobs.old.before }
     ensures jobs_stay { OnErr result (jobs.new.jobs ≡ jobs.old.jobs) }
+    ensures there { OnErr result (IsSome (value_at change.now.id jobs.old.jobs)) }
 {
     let Some(job) = jobs.by_id().get(&change.id) else {
         return Ok(());

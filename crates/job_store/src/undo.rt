@@ -1,4 +1,4 @@
-ghost use Rattle.std.specs.Prelude.{◌≡◌, ◌^◌, ◌++◌, ◌∷◌, [], OnOk, OnErr};
+ghost use Rattle.std.specs.Prelude.{◌≡◌, ◌^◌, ◌++◌, ◌∷◌, [], IsSome, OnOk, OnErr};
 ghost use Rattle.job_store.specs.Entries.{Rising, value_at, with_value};
 ghost use Rattle.job_store.specs.Undone.{undone, all_undone, set_back, put_back};
 
@@ -29,6 +29,7 @@ pub fn note(
     ensures ok { OnOk result (log.new.items
         ≡ log.old.items ++ set_back is_trial id (value_at id jobs.now.entries)) }
     ensures err { OnErr result (log.new.items ≡ log.old.items) }
+    ensures there { OnErr result (IsSome (value_at id jobs.now.entries)) }
 {
     match jobs.get(&id) {
         Some(job) if is_trial => log.push(Undo::SetBack(Change {
