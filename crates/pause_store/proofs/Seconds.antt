@@ -1,5 +1,5 @@
 -- Maps from tubes to seconds, as `BTreeMap` changes them, and the pauses that are left of them.
-use Rattle.std.proofs.Common.{◌≡◌, ℕ, ◌<◌, ◌≤◌, Bool, true, false, cond, not, ◌||◌, inl, inr, List, [], ◌∷◌, Some, None, is_some, nat_lt, bytes_eq, refl, sym, ap, ap₂, subst, ◌∙◌, arith, ltb-true, ltb-false, le-ltb, Less, Equal, Greater, true≢false}
+use Rattle.std.proofs.Common.{◌≡◌, ◌↔◌, ℕ, ◌<◌, ◌≤◌, Bool, true, false, cond, not, ◌||◌, inl, inr, List, [], ◌∷◌, Some, None, is_some, nat_lt, bytes_eq, refl, sym, ap, ap₂, subst, ◌∙◌, arith, ltb-true, ltb-false, le-ltb, Less, Equal, Greater, true≢false}
 use Rattle.std.proofs.lemmas.Bool.{cond-true, cond-false}
 use Rattle.std.specs.Ordering.{match_ordering, is_eq}
 use Rattle.std.specs.List.{AllByRecursion, filter}
@@ -284,6 +284,16 @@ left-in second p (e ∷ es) i later =
         | inr more ↦ left-in second p es more later
       ]
     ] refl
+
+-- those that are left at a later second are those that end after it
+pub each-left : (second later : ℕ) (p : List ℕ × ℕ) (es : Seconds) → second ≤ later → In p (left_at later es) ↔ (In p (left_at second es) × (later < p.1))
+each-left second later p es order = (
+  λ i.
+      let there = in-left later p es i in
+      let after = there.1 in
+      (left-in second p es there.0 (omega (arith, order, after)), after),
+  λ both. left-in later p es (in-left second p es both.0).0 both.1,
+)
 
 -- Whose pauses are over
 

@@ -1,4 +1,4 @@
-ghost use Rattle.std.specs.Prelude.{◌≡◌, ◌≤◌, ◌^◌, ◌∷◌, ◌⊎◌, ◌↔◌, ℕ, List, true, IfSome, IfNone, OnOk, OnErr};
+ghost use Rattle.std.specs.Prelude.{◌≡◌, ◌<◌, ◌≤◌, ◌^◌, ◌∷◌, ◌⊎◌, ◌↔◌, ℕ, List, true, IfSome, IfNone, OnOk, OnErr};
 ghost use Rattle.std.specs.List.Sorted.{IsStrictlySortedBy};
 ghost use Rattle.std.specs.Map.{keys_of};
 ghost use Rattle.object.specs.Lists.{In};
@@ -181,11 +181,13 @@ impl PauseDraft {
         set_second(&mut self.seconds, &mut self.steps, tube, until)
     }
 
-    /// It is a later second: pauses that are over by it are gone.
+    /// It is a later second: each pause that is over by it is gone, and each other stays as it was.
     pub fn pass(&mut self, second: u64)
         requires later { self.old.now.second ≤ second }
         requires in_range { second ≤ 2 ^ 40 }
         ensures now { self.new.now ≡ at_second second self.old.now }
+        ensures each { (p : List ℕ × ℕ) → In p self.new.now.pauses
+            ↔ (In p self.old.now.pauses × (second < p.1)) }
         ensures before { self.new.before ≡ self.old.before }
     {
         self.second = second;
