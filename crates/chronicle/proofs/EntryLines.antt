@@ -25,7 +25,7 @@ use Rattle.chronicle.specs.Entries.{entry_line, IsEntryValue}
 use Rattle.chronicle.specs.Fits.{IsNumber, FitsAct, FitsReply}
 use Rattle.chronicle.specs.Lines.{line, spaced, body_word}
 use Rattle.chronicle.specs.Replies.{reply_words}
-use Rattle.chronicle.specs.Told.{may_ask, submitted_of, entry_under, key_of, keyed_entry, version_of, members_of, are_weights, weighted, weights_of, entry_of}
+use Rattle.chronicle.specs.Told.{may_ask, submitted_of, entry_under, key_of, keyed_entry, version_of, members_of_words, are_weights, weighted, weights_of, entry_of_words}
 use Rattle.chronicle.specs.Values.{IsShort, IsKeyValue, IsActValue, IsReplyValue}
 use Rattle.chronicle.proofs.Back.{number_plain, act_plain, reply_plain}
 use Rattle.chronicle.proofs.Heads.{short_weights, weight_numbers, weights_plain}
@@ -281,12 +281,12 @@ weights_told : (ws : List ℕ) → IsMembers ws → weights_of (map decimal ws) 
 unfolding weights_of
 weights_told ws h = rw (numbers_back [] ws (short_weights ws h)) (weighted_told ws h)
 
-members_told : (n : ℕ) → 0 < n → n ≤ 7 → members_of (decimal n ∷ []) ≡ Some (entry.Members n)
-unfolding members_of
+members_told : (n : ℕ) → 0 < n → n ≤ 7 → members_of_words (decimal n ∷ []) ≡ Some (entry.Members n)
+unfolding members_of_words
 members_told n some few = rw (long_back n (omega arith), lt-ltb 0 n some, le-leb n 7 few) refl
 
-entry_told : (e : Entry) → IsEntryValue e → entry_of (first_word e ∷ other_words e) ≡ Some e
-unfolding entry_of
+entry_told : (e : Entry) → IsEntryValue e → entry_of_words (first_word e ∷ other_words e) ≡ Some e
+unfolding entry_of_words
 entry_told (entry.Version v) h = version_told v
 entry_told (entry.Members n) h = members_told n h.0 h.1
 entry_told (entry.Weights ws) h = weights_told ws h
@@ -296,8 +296,8 @@ entry_told (entry.Placed key) h = keyed_told (codes "O") key [] _ h (placed_told
 entry_told entry.End h = refl
 
 -- the words of a line that was written tell what it says
-pub said_told : (e : Entry) → IsEntryValue e → entry_of (words (said e)) ≡ Some e
-said_told e h = ap entry_of (words_back (first_word e) (other_words e) (first_plain e) (others_plain e h) (first_some e) (others_some e h)) ∙ entry_told e h
+pub said_told : (e : Entry) → IsEntryValue e → entry_of_words (words (said e)) ≡ Some e
+said_told e h = ap entry_of_words (words_back (first_word e) (other_words e) (first_plain e) (others_plain e h) (first_some e) (others_some e h)) ∙ entry_told e h
 
 -- ---- where a line ends
 
@@ -336,7 +336,7 @@ one_front e f x y h k same =
     let left = ap (λ t. t ++ x) (line_is e) ∙ append_assoc (said e) (10 ∷ []) x in
     let right = ap (λ t. t ++ y) (line_is f) ∙ append_assoc (said f) (10 ∷ []) y in
     let cut = one_cut (said e) (said f) x y (said_no_feed e h) (said_no_feed f k) (sym left ∙ same ∙ right) in
-    (some_same (sym (said_told e h) ∙ ap (λ t. entry_of (words t)) cut.0 ∙ said_told f k), cut.1)
+    (some_same (sym (said_told e h) ∙ ap (λ t. entry_of_words (words t)) cut.0 ∙ said_told f k), cut.1)
   where
     some_same : {e f : Entry} → Some e ≡ Some f → e ≡ f
     some_same same = cc

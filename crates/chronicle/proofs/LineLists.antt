@@ -17,7 +17,7 @@ use Rattle.chronicle.specs.Dump.{submission_line, answer_line, order_line, happe
 use Rattle.chronicle.specs.Fits.{IsNumber, FitsKey, FitsCommand, FitsAnswer}
 use Rattle.chronicle.specs.Happenings.{Happening, happenings}
 use Rattle.chronicle.specs.Happenings.Happening.{Submitted, Answered}
-use Rattle.chronicle.specs.Lines.{line, spaced, joined}
+use Rattle.chronicle.specs.Lines.{line, spaced, text_of_lines}
 use Rattle.chronicle.specs.Replies.{reply_words}
 use Rattle.chronicle.proofs.Back.{number, number_back, number_plain, act, act_back, act_plain, reply, reply_back, reply_plain}
 use Rattle.chronicle.proofs.Heads.{ones, one_unweighted, weight_numbers, weights_plain, count_number, count_plain}
@@ -99,7 +99,7 @@ tail_texts hs order =
     (flat_map-append text (map order_words order) (end_words ∷ [])
     ∙ ap₂ (λ a b. a ++ b) (order_texts order) (append-nil (text end_words)))
 
-head_texts : (v : Version) (ws : List ℕ) → flat_map text (head_words v ws) ≡ joined (head_of v ws)
+head_texts : (v : Version) (ws : List ℕ) → flat_map text (head_words v ws) ≡ text_of_lines (head_of v ws)
 unfolding version_line members_line weights_line
 head_texts One ws = refl
 head_texts Two ws = refl
@@ -112,7 +112,7 @@ pub dump_is : (c : Chronicle Op Reply) → dump_text c ≡ flat_map text (lines 
 unfolding dump_text
 dump_is c =
     let hs = happenings c.submitted c.answers in
-    to_right (joined (head_lines c.members)) (flat_map happening_line hs) (flat_map order_line c.order) end_line
+    to_right (text_of_lines (head_lines c.members)) (flat_map happening_line hs) (flat_map order_line c.order) end_line
     ∙ sym (flat_map-append text (head_words (version_of c.members) c.members) (tail_lines hs c.order) ∙ ap₂ (λ a b. a ++ b) (head_texts (version_of c.members) c.members) (tail_texts hs c.order))
 
 -- ---- and back

@@ -3,7 +3,7 @@ use Rattle.std.proofs.Common.{◌≡◌, ℕ, suc, ◌⊎◌, inl, inr, List, []
 use Rattle.std.specs.List.{AllByRecursion}
 use Rattle.chronicle.specs.declared.entry.Entry.{Entry}
 use Rattle.chronicle.specs.Entries.{entry_line, IsEntryValue}
-use Rattle.chronicle.specs.Lines.{joined}
+use Rattle.chronicle.specs.Lines.{text_of_lines}
 use Rattle.chronicle.specs.Reading.{BeginsDump, IsBadLine}
 use Rattle.chronicle.proofs.Drafted.{entries}
 use Rattle.chronicle.proofs.EntryLines.{one_front}
@@ -41,7 +41,7 @@ record GoesOn (es fs : List Entry) (rest : List ℕ) : Type 0 where
   at : rest ≡ entry_line entry ++ later
 
 abbrev text_of : List Entry → List ℕ
-text_of es = joined (map entry_line es)
+text_of es = text_of_lines (map entry_line es)
 
 on : (e f : Entry) (es fs : List Entry) (rest : List ℕ) → e ≡ f → GoesOn es fs rest → GoesOn (e ∷ es) (f ∷ fs) rest
 on e f es fs rest same g = record { entry = g.entry; more = g.more; later = g.later; is = ap₂ (λ (a : Entry) as'. a ∷ as') (sym same) g.is; at = g.at }
@@ -82,7 +82,7 @@ one_bad_line text n m h k =
     let s = said_lines h.before h.begins in
     let t = said_lines k.before k.begins in
     let same : text_of s.es ++ h.rest ≡ text_of t.es ++ k.rest =
-    ap (λ l. joined l ++ h.rest) (sym s.is) ∙ sym h.cut ∙ k.cut ∙ ap (λ l. joined l ++ k.rest) t.is in
+    ap (λ l. text_of_lines l ++ h.rest) (sym s.is) ∙ sym h.cut ∙ k.cut ∙ ap (λ l. text_of_lines l ++ k.rest) t.is in
     elim (fronts s.es t.es h.rest k.rest s.values t.values same) as (λ v. n ≡ m) [
       | inl long ↦ numbered n text h s ∙ ap suc long ∙ sym (numbered m text k t)
       | inr (inl g) ↦ absurd (beyond n m text h k s t g)

@@ -13,11 +13,11 @@ use Rattle.chronicle.specs.Chronicles.{Chronicle}
 use Rattle.chronicle.specs.Drafts.{next}
 use Rattle.chronicle.specs.Dump.{dump_text}
 use Rattle.chronicle.specs.Entries.{entry_line, IsEntryValue, Says}
-use Rattle.chronicle.specs.Lines.{joined}
+use Rattle.chronicle.specs.Lines.{text_of_lines}
 use Rattle.chronicle.specs.Reading.{IsBadLine}
 use Rattle.chronicle.proofs.Drafted.{IsDraft, IsWhole, taken, entries, next_draft}
 use Rattle.chronicle.proofs.EntryLines.{NoFeed, said, said_no_feed, line_is, one_front}
-use Rattle.chronicle.proofs.Stops.{NoneFollows, bad_line, entries_text, joined_more, map_more, lines_long}
+use Rattle.chronicle.proofs.Stops.{NoneFollows, bad_line, entries_text, text_of_lines_more, map_more, lines_long}
 
 -- ---- the first line of a text
 
@@ -67,11 +67,11 @@ none_ended d rest none e later value may at =
 pub record Reads (d : Draft) (text rest : List ℕ) (n : ℕ) : Type 0 where
   pub drafted : IsDraft d
   pub values : AllByRecursion IsEntryValue (taken d)
-  pub cut : text ≡ joined (map entry_line (taken d)) ++ rest
+  pub cut : text ≡ text_of_lines (map entry_line (taken d)) ++ rest
   pub number : n ≡ suc (length (taken d))
 
-joined_last : (es : List Entry) (e : Entry) → joined (map entry_line (es ++ (e ∷ []))) ≡ joined (map entry_line es) ++ entry_line e
-joined_last es e = ap joined (map_more es (e ∷ [])) ∙ joined_more (map entry_line es) (entry_line e ∷ []) ∙ ap (λ t. joined (map entry_line es) ++ t) (append-nil (entry_line e))
+text_of_lines_last : (es : List Entry) (e : Entry) → text_of_lines (map entry_line (es ++ (e ∷ []))) ≡ text_of_lines (map entry_line es) ++ entry_line e
+text_of_lines_last es e = ap text_of_lines (map_more es (e ∷ [])) ∙ text_of_lines_more (map entry_line es) (entry_line e ∷ []) ∙ ap (λ t. text_of_lines (map entry_line es) ++ t) (append-nil (entry_line e))
 
 value_last : (es : List Entry) (e : Entry) → AllByRecursion IsEntryValue es → IsEntryValue e → AllByRecursion IsEntryValue (es ++ (e ∷ []))
 value_last [] e h v = (v, tt)
@@ -81,19 +81,19 @@ pub read_start : (text : List ℕ) (d : Draft) → IsDraft d → taken d ≡ [] 
 read_start text d h none = record {
   drafted = h;
   values = subst (AllByRecursion IsEntryValue) (sym none) tt;
-  cut = ap (λ es. joined (map entry_line es) ++ text) (sym none);
+  cut = ap (λ es. text_of_lines (map entry_line es) ++ text) (sym none);
   number = ap (λ (es : List Entry). suc (length es)) (sym none);
 }
 
 grown : (d f : Draft) (e : Entry) (text rest line more : List ℕ) (n : ℕ) → Reads d text rest n → Says line (Some e) → rest ≡ line ++ more → IsDraft f × (taken f ≡ taken d ++ (e ∷ [])) → Reads f text more (n + 1)
 grown d f e text rest line more n r says cut h =
     let es = taken d in
-    let whole = joined (map entry_line es) in
+    let whole = text_of_lines (map entry_line es) in
     record {
       drafted = h.0;
       values = subst (AllByRecursion IsEntryValue) (sym h.1) (value_last es e r.values says.1);
       cut = r.cut ∙ ap (λ t. whole ++ t) (cut ∙ ap (λ l. l ++ more) (sym says.0)) ∙ sym (append_assoc whole (entry_line e) more)
-          ∙ ap (λ t. t ++ more) (sym (joined_last es e)) ∙ ap (λ t. joined (map entry_line t) ++ more) (sym h.1);
+          ∙ ap (λ t. t ++ more) (sym (text_of_lines_last es e)) ∙ ap (λ t. text_of_lines (map entry_line t) ++ more) (sym h.1);
       number = let number = r.number in let long = ap (λ (t : List Entry). length t) h.1 in omega (arith, number, long, length-append es (e ∷ []));
     }
 
@@ -106,13 +106,13 @@ pub few_lines : (d : Draft) (text rest : List ℕ) (n : ℕ) → Reads d text re
 few_lines d text rest n r =
     let number = r.number in
     let cut = ap length r.cut in
-    omega (arith, number, cut, length-append (joined (map entry_line (taken d))) rest, lines_long (taken d))
+    omega (arith, number, cut, length-append (text_of_lines (map entry_line (taken d))) rest, lines_long (taken d))
 
 pub stop_here : (d : Draft) (text rest : List ℕ) (n : ℕ) → Reads d text rest n → NoneFollows d rest → (rest ≡ [] → IsWhole d → ⊥) → IsBadLine n text
 stop_here d text rest n r none unended = bad_line d text rest n r.drafted r.values r.number r.cut none unended
 
 pub read_all : (c : Chronicle Op Reply) (text rest : List ℕ) (n : ℕ) → Reads (Whole c) text rest n → rest ≡ [] → dump_text c ≡ text
-read_all c text rest n r none = entries_text c ∙ sym (r.cut ∙ ap (λ t. joined (map entry_line (entries c)) ++ t) none ∙ append-nil (joined (map entry_line (entries c))))
+read_all c text rest n r none = entries_text c ∙ sym (r.cut ∙ ap (λ t. text_of_lines (map entry_line (entries c)) ++ t) none ∙ append-nil (text_of_lines (map entry_line (entries c))))
 
 -- where a line feed stands, something does
 pub some_rest : (rest : List ℕ) (end : ℕ) → IsFirstByte (is_byte 10) rest (Some end) → rest ≡ [] → ⊥

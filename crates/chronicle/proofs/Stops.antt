@@ -18,7 +18,7 @@ use Rattle.chronicle.specs.Dump.{version_of, head_of, head_lines, submission_lin
 use Rattle.chronicle.specs.Entries.{entry_line, IsEntryValue}
 use Rattle.chronicle.specs.Happenings.{Happening, happenings, happenings_from, moment, came_at}
 use Rattle.chronicle.specs.Happenings.Happening.{Submitted as WasSubmitted, Answered as WasAnswered}
-use Rattle.chronicle.specs.Lines.{joined}
+use Rattle.chronicle.specs.Lines.{text_of_lines}
 use Rattle.chronicle.specs.Reading.{dump_lines, BeginsDump, IsBadLine}
 use Rattle.chronicle.specs.Values.{IsChronicleValue, IsCommandValue, IsAnswerValue, IsKeyValue}
 use Rattle.chronicle.proofs.Drafted.{happened, head_entries, head, after_head, tail_entries, entries, taken, IsDraft, IsWhole, whole, whole_value, whole_begins, follows, all_read}
@@ -50,26 +50,26 @@ lines_are c =
     ap (map entry_line) (after_head c (End ∷ [])) ∙ map_more (head c.members) (tail_entries c)
     ∙ ap₂ (λ (a b : List (List ℕ)). a ++ b) (head_said (version_of c.members) c.members) (tail_lines (happenings c.submitted c.answers) c.order)
 
-join_map : {A : Type 0} (f : A → List ℕ) (xs : List A) (more : List (List ℕ)) → joined (map f xs ++ more) ≡ flat_map f xs ++ joined more
+join_map : {A : Type 0} (f : A → List ℕ) (xs : List A) (more : List (List ℕ)) → text_of_lines (map f xs ++ more) ≡ flat_map f xs ++ text_of_lines more
 join_map f [] more = refl
-join_map f (x ∷ xs) more = ap (λ t. f x ++ t) (join_map f xs more) ∙ sym (append_assoc (f x) (flat_map f xs) (joined more))
+join_map f (x ∷ xs) more = ap (λ t. f x ++ t) (join_map f xs more) ∙ sym (append_assoc (f x) (flat_map f xs) (text_of_lines more))
 
-pub joined_more : (ls ms : List (List ℕ)) → joined (ls ++ ms) ≡ joined ls ++ joined ms
-joined_more [] ms = refl
-joined_more (l ∷ ls) ms = ap (λ t. l ++ t) (joined_more ls ms) ∙ sym (append_assoc l (joined ls) (joined ms))
+pub text_of_lines_more : (ls ms : List (List ℕ)) → text_of_lines (ls ++ ms) ≡ text_of_lines ls ++ text_of_lines ms
+text_of_lines_more [] ms = refl
+text_of_lines_more (l ∷ ls) ms = ap (λ t. l ++ t) (text_of_lines_more ls ms) ∙ sym (append_assoc l (text_of_lines ls) (text_of_lines ms))
 
-text_is : (c : Chronicle Op Reply) → dump_text c ≡ joined (dump_lines c)
+text_is : (c : Chronicle Op Reply) → dump_text c ≡ text_of_lines (dump_lines c)
 unfolding dump_text
 text_is c =
     let hs = happenings c.submitted c.answers in
-    to_right (joined (head_lines c.members)) (flat_map happening_line hs) (flat_map order_line c.order) end_line
-    ∙ ap (λ t. joined (head_lines c.members) ++ t)
+    to_right (text_of_lines (head_lines c.members)) (flat_map happening_line hs) (flat_map order_line c.order) end_line
+    ∙ ap (λ t. text_of_lines (head_lines c.members) ++ t)
     (ap (λ t. flat_map happening_line hs ++ t) (ap (λ t. flat_map order_line c.order ++ t) (sym (append-nil end_line)) ∙ sym (join_map order_line c.order (end_line ∷ [])))
     ∙ sym (join_map happening_line hs (map order_line c.order ++ (end_line ∷ []))))
-    ∙ sym (joined_more (head_lines c.members) (map happening_line hs ++ (map order_line c.order ++ (end_line ∷ []))))
+    ∙ sym (text_of_lines_more (head_lines c.members) (map happening_line hs ++ (map order_line c.order ++ (end_line ∷ []))))
 
-pub entries_text : (c : Chronicle Op Reply) → dump_text c ≡ joined (map entry_line (entries c))
-entries_text c = text_is c ∙ ap joined (sym (lines_are c))
+pub entries_text : (c : Chronicle Op Reply) → dump_text c ≡ text_of_lines (map entry_line (entries c))
+entries_text c = text_is c ∙ ap text_of_lines (sym (lines_are c))
 
 -- ---- they are values
 
@@ -154,7 +154,7 @@ unmap (x ∷ xs) (y ∷ ys) line later h k same =
 record MoreEntries (xs ys : List Entry) (rest : List ℕ) : Type 0 where
   more : List Entry
   is : xs ≡ ys ++ more
-  says : rest ≡ joined (map entry_line more)
+  says : rest ≡ text_of_lines (map entry_line more)
   values : AllByRecursion IsEntryValue more
 
 no_line : (y : Entry) (text rest : List ℕ) → [] ≡ (entry_line y ++ text) ++ rest → ⊥
@@ -162,11 +162,11 @@ no_line y text rest same =
     let e = ap length same in
     omega (arith, e, length-append (entry_line y ++ text) rest, length-append (entry_line y) text, line_long y)
 
-unjoin : (xs ys : List Entry) (rest : List ℕ) → AllByRecursion IsEntryValue xs → AllByRecursion IsEntryValue ys → joined (map entry_line xs) ≡ joined (map entry_line ys) ++ rest → MoreEntries xs ys rest
+unjoin : (xs ys : List Entry) (rest : List ℕ) → AllByRecursion IsEntryValue xs → AllByRecursion IsEntryValue ys → text_of_lines (map entry_line xs) ≡ text_of_lines (map entry_line ys) ++ rest → MoreEntries xs ys rest
 unjoin xs [] rest h k same = record { more = xs; is = refl; says = sym same; values = h }
-unjoin [] (y ∷ ys) rest h k same = absurd (no_line y (joined (map entry_line ys)) rest same)
+unjoin [] (y ∷ ys) rest h k same = absurd (no_line y (text_of_lines (map entry_line ys)) rest same)
 unjoin (x ∷ xs) (y ∷ ys) rest h k same =
-    let cut = one_front x y (joined (map entry_line xs)) (joined (map entry_line ys) ++ rest) h.0 k.0 (same ∙ append_assoc (entry_line y) (joined (map entry_line ys)) rest) in
+    let cut = one_front x y (text_of_lines (map entry_line xs)) (text_of_lines (map entry_line ys) ++ rest) h.0 k.0 (same ∙ append_assoc (entry_line y) (text_of_lines (map entry_line ys)) rest) in
     let r = unjoin xs ys rest h.1 k.1 cut.1 in
     record { more = r.more; is = ap₂ (λ (a : Entry) as'. a ∷ as') cut.0 r.is; says = r.says; values = r.values }
 
@@ -192,16 +192,16 @@ stops d rest line later h values none at b =
     let r = unmap (entries c) (taken d) line b.begins.0 (entry_values c b.is_value) values same in
     none r.entry later r.value (follows d r.entry r.rest c h r.is) (at ∙ ap (λ l. l ++ later) (sym r.says))
 
-ended : (d : Draft) (c : Chronicle Op Reply) (rest : List ℕ) (later : List Entry) → IsDraft d → NoneFollows d rest → (rest ≡ [] → IsWhole d → ⊥) → entries c ≡ taken d ++ later → rest ≡ joined (map entry_line later) → AllByRecursion IsEntryValue later → ⊥
+ended : (d : Draft) (c : Chronicle Op Reply) (rest : List ℕ) (later : List Entry) → IsDraft d → NoneFollows d rest → (rest ≡ [] → IsWhole d → ⊥) → entries c ≡ taken d ++ later → rest ≡ text_of_lines (map entry_line later) → AllByRecursion IsEntryValue later → ⊥
 ended d c rest [] h none unended same says values = unended says (all_read d c (same ∙ append-nil (taken d)))
-ended d c rest (e ∷ later) h none unended same says values = none e (joined (map entry_line later)) values.0 (follows d e later c h same) says
+ended d c rest (e ∷ later) h none unended same says values = none e (text_of_lines (map entry_line later)) values.0 (follows d e later c h same) says
 
-unfinished : (d : Draft) (text rest : List ℕ) (c : Chronicle Op Reply) → IsDraft d → AllByRecursion IsEntryValue (taken d) → NoneFollows d rest → (rest ≡ [] → IsWhole d → ⊥) → text ≡ joined (map entry_line (taken d)) ++ rest → IsChronicleValue c → dump_text c ≡ text → ⊥
+unfinished : (d : Draft) (text rest : List ℕ) (c : Chronicle Op Reply) → IsDraft d → AllByRecursion IsEntryValue (taken d) → NoneFollows d rest → (rest ≡ [] → IsWhole d → ⊥) → text ≡ text_of_lines (map entry_line (taken d)) ++ rest → IsChronicleValue c → dump_text c ≡ text → ⊥
 unfinished d text rest c h values none unended cut v same =
     let r = unjoin (entries c) (taken d) rest (entry_values c v) values (sym (entries_text c) ∙ same ∙ cut) in
     ended d c rest r.more h none unended r.is r.says r.values
 
-pub bad_line : (d : Draft) (text rest : List ℕ) (n : ℕ) → IsDraft d → AllByRecursion IsEntryValue (taken d) → n ≡ suc (length (taken d)) → text ≡ joined (map entry_line (taken d)) ++ rest → NoneFollows d rest → (rest ≡ [] → IsWhole d → ⊥) → IsBadLine n text
+pub bad_line : (d : Draft) (text rest : List ℕ) (n : ℕ) → IsDraft d → AllByRecursion IsEntryValue (taken d) → n ≡ suc (length (taken d)) → text ≡ text_of_lines (map entry_line (taken d)) ++ rest → NoneFollows d rest → (rest ≡ [] → IsWhole d → ⊥) → IsBadLine n text
 bad_line d text rest n h values number cut none unended = record {
   before = map entry_line (taken d);
   rest = rest;
@@ -213,6 +213,6 @@ bad_line d text rest n h values number cut none unended = record {
 }
 
 -- each line has two bytes at least
-pub lines_long : (es : List Entry) → length es + length es ≤ length (joined (map entry_line es))
+pub lines_long : (es : List Entry) → length es + length es ≤ length (text_of_lines (map entry_line es))
 lines_long [] = omega arith
-lines_long (e ∷ es) = omega (arith, lines_long es, line_long e, length-append (entry_line e) (joined (map entry_line es)))
+lines_long (e ∷ es) = omega (arith, lines_long es, line_long e, length-append (entry_line e) (text_of_lines (map entry_line es)))

@@ -4,7 +4,7 @@ use Rattle.std.specs.Prelude.{IfSome}
 use Rattle.bean_codec.specs.Words.{words}
 use Rattle.chronicle.specs.declared.entry.Entry.{Entry}
 use Rattle.chronicle.specs.Entries.{entry_line, IsEntryValue, Says}
-use Rattle.chronicle.specs.Told.{entry_of}
+use Rattle.chronicle.specs.Told.{entry_of_words}
 use Rattle.chronicle.proofs.EntryLines.{said, said_told, line_is}
 use Rattle.chronicle.proofs.ToldValues.{entry_value}
 
@@ -20,9 +20,9 @@ same_front (x ∷ xs) (y ∷ ys) same =
     let first : x ≡ y = cc in
     cc
 
-tells : (line text : List ℕ) (e : Entry) → IsEntryValue e → line ≡ text ++ (10 ∷ []) → entry_line e ≡ line → entry_of (words text) ≡ Some e
+tells : (line text : List ℕ) (e : Entry) → IsEntryValue e → line ≡ text ++ (10 ∷ []) → entry_line e ≡ line → entry_of_words (words text) ≡ Some e
 tells line text e h cut same =
-    ap (λ t. entry_of (words t)) (same_front text (said e) (sym cut ∙ sym same ∙ line_is e)) ∙ said_told e h
+    ap (λ t. entry_of_words (words t)) (same_front text (said e) (sym cut ∙ sym same ∙ line_is e)) ∙ said_told e h
 
 some_none : (e : Entry) → Some e ≡ None → ⊥
 some_none e same = cc
@@ -31,11 +31,11 @@ one_some : (e f : Entry) → Some e ≡ Some f → e ≡ f
 one_some e f same = cc
 
 -- its words tell nothing
-pub says_nothing : (line text : List ℕ) → line ≡ text ++ (10 ∷ []) → entry_of (words text) ≡ None → Says line None
+pub says_nothing : (line text : List ℕ) → line ≡ text ++ (10 ∷ []) → entry_of_words (words text) ≡ None → Says line None
 says_nothing line text cut none e h same = some_none e (sym (tells line text e h cut same) ∙ none)
 
 -- what they tell is written otherwise
-pub says_otherwise : (line text : List ℕ) (e : Entry) → line ≡ text ++ (10 ∷ []) → entry_of (words text) ≡ Some e → (entry_line e ≡ line → ⊥) → Says line None
+pub says_otherwise : (line text : List ℕ) (e : Entry) → line ≡ text ++ (10 ∷ []) → entry_of_words (words text) ≡ Some e → (entry_line e ≡ line → ⊥) → Says line None
 says_otherwise line text e cut told other f h same =
     other (subst (λ (g : Entry). entry_line g ≡ line) (one_some f e (sym (tells line text f h cut same) ∙ told)) same)
 
@@ -43,5 +43,5 @@ says_otherwise line text e cut told other f h same =
 pub says_no_line : (line : List ℕ) → ((text : List ℕ) → line ≡ text ++ (10 ∷ []) → ⊥) → Says line None
 says_no_line line none e h same = none (said e) (sym same ∙ line_is e)
 
-pub says_it : (line text : List ℕ) (e : Entry) → entry_of (words text) ≡ Some e → entry_line e ≡ line → Says line (Some e)
+pub says_it : (line text : List ℕ) (e : Entry) → entry_of_words (words text) ≡ Some e → entry_line e ≡ line → Says line (Some e)
 says_it line text e told same = (same, subst (λ (o : Option Entry). IfSome o IsEntryValue) told (entry_value (words text)))

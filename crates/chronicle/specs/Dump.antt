@@ -14,7 +14,7 @@ use Rattle.chronicle.specs.Acts.{act_words}
 use Rattle.chronicle.specs.Chronicles.{Chronicle}
 use Rattle.chronicle.specs.Happenings.{Happening, happenings}
 use Rattle.chronicle.specs.Happenings.Happening.{Submitted, Answered}
-use Rattle.chronicle.specs.Lines.{line, joined}
+use Rattle.chronicle.specs.Lines.{line, text_of_lines}
 use Rattle.chronicle.specs.Replies.{reply_words}
 
 -- S, the key of a command that was submitted, and its act
@@ -75,7 +75,7 @@ end_line = line (codes "end") []
 -- the text of a chronicle
 unfoldable pub dump_text : Chronicle Op Reply → List ℕ
 dump_text c =
-    joined (head_lines c.members) ++
+    text_of_lines (head_lines c.members) ++
     flat_map happening_line (happenings c.submitted c.answers) ++
     flat_map order_line c.order ++
     end_line

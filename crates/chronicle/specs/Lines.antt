@@ -16,8 +16,8 @@ unfoldable pub line : List ℕ → List (List ℕ) → List ℕ
 line first words = first ++ spaced words ++ codes "\n"
 
 -- lines as one text
-abbrev pub joined : List (List ℕ) → List ℕ
-joined lines = flat_map (λ line. line) lines
+abbrev pub text_of_lines : List (List ℕ) → List ℕ
+text_of_lines lines = flat_map (λ line. line) lines
 
 -- the word for a body: two digits a byte, in lower case, or a hyphen where it is empty
 unfoldable pub body_word : List ℕ → List ℕ

@@ -6,7 +6,7 @@ use Rattle.bean_queue.specs.declared.reply.Reply.{Reply}
 use Rattle.chronicle.specs.Chronicles.{Chronicle}
 use Rattle.chronicle.specs.Dump.{head_lines, happening_line, order_line, end_line, dump_text}
 use Rattle.chronicle.specs.Happenings.{happenings}
-use Rattle.chronicle.specs.Lines.{joined}
+use Rattle.chronicle.specs.Lines.{text_of_lines}
 use Rattle.chronicle.specs.Values.{IsChronicleValue}
 
 -- the lines of a chronicle's text, each with its line feed
@@ -28,7 +28,7 @@ pub record IsBadLine (n : ℕ) (text : List ℕ) : Type 0 where
   pub before : List (List ℕ)
   pub rest : List ℕ
   pub number : n ≡ suc (length before)
-  pub cut : text ≡ joined before ++ rest
+  pub cut : text ≡ text_of_lines before ++ rest
   pub begins : BeginsDump before
   pub stops : (line more : List ℕ) → rest ≡ line ++ more → BeginsDump (before ++ (line ∷ [])) → ⊥
   pub unfinished : (c : Chronicle Op Reply) → IsChronicleValue c → dump_text c ≡ text → ⊥

@@ -174,9 +174,9 @@ version_of (word ∷ _) =
     else None
 
 -- how many members the words tell
-unfoldable pub members_of : List (List ℕ) → Option Entry
-members_of [] = None
-members_of (word ∷ _) = do
+unfoldable pub members_of_words : List (List ℕ) → Option Entry
+members_of_words [] = None
+members_of_words (word ∷ _) = do
   count ← u64_of word
   if nat_lt 0 count && nat_le count 7 then Some (entry.Members count) else None
 
@@ -200,11 +200,11 @@ unfoldable pub weights_of : List (List ℕ) → Option Entry
 weights_of words = option_and_then weighted (numbers_after [] words)
 
 -- what the words of a line tell
-unfoldable pub entry_of : List (List ℕ) → Option Entry
-entry_of [] = None
-entry_of (first ∷ words) =
+unfoldable pub entry_of_words : List (List ℕ) → Option Entry
+entry_of_words [] = None
+entry_of_words (first ∷ words) =
     if bytes_eq first (codes "beanpax-dump") then version_of words
     else if bytes_eq first (codes "end") then Some entry.End
-    else if bytes_eq first (codes "members") then members_of words
+    else if bytes_eq first (codes "members") then members_of_words words
     else if bytes_eq first (codes "weights") then weights_of words
     else keyed_entry first words

@@ -5,7 +5,7 @@ use crate::lines::{
     append_answer, append_end, append_members, append_place, append_submission, append_version,
     append_weights,
 };
-use crate::tell::entry_of;
+use crate::tell::entry_of_words;
 use crate::version::Version;
 use ballot::Members;
 use bean_codec::Words;
@@ -56,7 +56,7 @@ pub fn read_entry(alloc: Global, line: &[u8]) -> Result<Option<Entry>, AllocErro
     let Some(words) = line.strip_suffix(b"\n".as_slice()) else {
         return Ok(None);
     };
-    let Some(entry) = entry_of(alloc, Words::new(words))? else {
+    let Some(entry) = entry_of_words(alloc, Words::new(words))? else {
         return Ok(None);
     };
     let mut written = Vec::new(alloc);

@@ -3,7 +3,7 @@ ghost use Rattle.chronicle.specs.Told as told;
 
 use crate::entry::Entry;
 use crate::tell_acts::act_of;
-use crate::tell_head::{members_of, version_of, weights_of};
+use crate::tell_head::{members_of_words, version_of, weights_of};
 use crate::tell_replies::reply_of;
 use bean_codec::{Words, u32_of, u64_of};
 use bean_queue::Op;
@@ -11,9 +11,9 @@ use object::{Act, Answer, Command, Key};
 use std::alloc::{AllocError, Global};
 
 /// What the words of a line tell, where they are those of a line as it is written.
-#[tactic(auto, unfolding(crate::specs::Told::entry_of))]
-pub fn entry_of(alloc: Global, mut words: Words<'_>) -> Result<Option<Entry>, AllocError>
-    ensures { IfOk result (λ entry. entry ≡ told.entry_of words.entry) }
+#[tactic(auto, unfolding(crate::specs::Told::entry_of_words))]
+pub fn entry_of_words(alloc: Global, mut words: Words<'_>) -> Result<Option<Entry>, AllocError>
+    ensures { IfOk result (λ entry. entry ≡ told.entry_of_words words.entry) }
 {
     let Some(first) = words.next() else {
         return Ok(None);
@@ -25,7 +25,7 @@ pub fn entry_of(alloc: Global, mut words: Words<'_>) -> Result<Option<Entry>, Al
         return Ok(Some(Entry::End));
     }
     if first == b"members".as_slice() {
-        return Ok(members_of(words));
+        return Ok(members_of_words(words));
     }
     if first == b"weights".as_slice() {
         return weights_of(alloc, words);

@@ -23,9 +23,9 @@ pub fn version_of(mut words: Words<'_>) -> Option<Entry>
 }
 
 /// How many members the words tell.
-#[tactic(auto, unfolding(crate::specs::Told::members_of))]
-pub fn members_of(mut words: Words<'_>) -> Option<Entry>
-    ensures { result ≡ told.members_of words.entry }
+#[tactic(auto, unfolding(crate::specs::Told::members_of_words))]
+pub fn members_of_words(mut words: Words<'_>) -> Option<Entry>
+    ensures { result ≡ told.members_of_words words.entry }
 {
     let count = u64_of(words.next()?)?;
     if count < 1 || count > 7 {

@@ -3,7 +3,7 @@ ghost use Rattle.std.specs.List.{AllByRecursion, flat_map};
 ghost use Rattle.chronicle.specs.Chronicles.{IsChronicle};
 ghost use Rattle.chronicle.specs.Dump.{answer_line, order_line, happening_line, head_lines, dump_text};
 ghost use Rattle.chronicle.specs.Happenings.{happenings};
-ghost use Rattle.chronicle.specs.Lines.{joined};
+ghost use Rattle.chronicle.specs.Lines.{text_of_lines};
 ghost use Rattle.chronicle.specs.Values.{IsAnswerValue, IsChronicleValue, IsCommandValue, IsKeyValue};
 ghost use Rattle.object.specs.Happenings.{IsTimeline};
 ghost use Rattle.object.specs.declared.command.Submission.{Submission};
@@ -51,7 +51,7 @@ fn append_dump(chronicle: &Chronicle<Op, Reply>, out: &mut Vec<u8>) -> Result<()
 
 /// Writes the lines before what happened at the end. Where memory runs out, a part of them may stand there.
 fn append_head(members: Members, out: &mut Vec<u8>) -> Result<(), AllocError>
-    ensures ok { OnOk result (out.new.items ≡ out.old.items ++ joined (head_lines members)) }
+    ensures ok { OnOk result (out.new.items ≡ out.old.items ++ text_of_lines (head_lines members)) }
     ensures front { take (vec_len out.old) out.new.items ≡ out.old.items }
 {
     let version = Version::of(members);
