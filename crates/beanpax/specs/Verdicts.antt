@@ -38,12 +38,12 @@ is_legal (BadLine n) = false
 is_legal (At n what) = false
 
 -- what is wrong with a line is called so
-abbrev pub name_of : What → List ℕ
-name_of NotSubmitted = codes "not submitted"
-name_of NotKept = codes "not kept"
-name_of SubmittedTwice = codes "submitted twice"
-name_of PlacedTooEarly = codes "placed too early"
-name_of NotTheQueuesAnswer = codes "not the queue's answer"
+abbrev pub fault_name : What → List ℕ
+fault_name NotSubmitted = codes "not submitted"
+fault_name NotKept = codes "not kept"
+fault_name SubmittedTwice = codes "submitted twice"
+fault_name PlacedTooEarly = codes "placed too early"
+fault_name NotTheQueuesAnswer = codes "not the queue's answer"
 
 -- the line by which it is told that nothing is wrong
 unfoldable pub legal_line : ℕ → ℕ → ℕ → List ℕ
@@ -58,4 +58,4 @@ wrong_line n name = codes "line " ++ (decimal n ++ (codes ": " ++ (name ++ codes
 abbrev pub verdict_line : Verdict → List ℕ
 verdict_line (Legal submitted answered ordered) = legal_line submitted answered ordered
 verdict_line (BadLine n) = wrong_line n (codes "bad line")
-verdict_line (At n what) = wrong_line n (name_of what)
+verdict_line (At n what) = wrong_line n (fault_name what)

@@ -1,5 +1,5 @@
 ghost use Rattle.std.specs.Prelude.{◌≡◌, string_bytes, IfOk};
-ghost use Rattle.beanpax.specs.Verdicts.{is_legal, legal_line, name_of, verdict_line, wrong_line};
+ghost use Rattle.beanpax.specs.Verdicts.{fault_name, is_legal, legal_line, verdict_line, wrong_line};
 
 use chronicle::What;
 use std::alloc::{AllocError, Global};
@@ -42,7 +42,7 @@ impl Verdict {
                 ordered,
             } => legal_line(alloc, submitted, answered, ordered),
             Verdict::BadLine(line) => wrong_line(alloc, line, "bad line"),
-            Verdict::At(line, what) => wrong_line(alloc, line, name_of(what)),
+            Verdict::At(line, what) => wrong_line(alloc, line, fault_name(what)),
         }
     }
 }
@@ -67,8 +67,8 @@ fn wrong_line(alloc: Global, line: u64, name: &str) -> Result<String, AllocError
 }
 
 // What is wrong with a line is called so.
-fn name_of(what: What) -> &'static str
-    ensures { result.now ≡ name_of what }
+fn fault_name(what: What) -> &'static str
+    ensures { result.now ≡ fault_name what }
 {
     match what {
         What::NotSubmitted => "not submitted",
