@@ -59,8 +59,8 @@ TellsDrop want bytes read = (dropped : List ℕ) → Fits want dropped bytes →
     IfDrop read (λ used next. (1 ≤ used) × (used ≤ length bytes) × Fits next (dropped ++ take used bytes) (drop used bytes))
 
 -- the most bytes that may have to wait: a longest line, a longest body, and one of the two bytes after it
-abbrev pub longest_wait : ℕ
-longest_wait = longest_line + longest_body + 1
+abbrev pub longest_unfinished : ℕ
+longest_unfinished = longest_line + longest_body + 1
 
 -- the front of the rest, which begins at place start, completes the item, which ends at place end
 abbrev pub CompletesFront : Result Meaning Fault → ℕ → List ℕ → Item × ℕ → Type 0

@@ -2,7 +2,7 @@ ghost use Rattle.std.specs.Prelude.{◌≡◌, ℕ, ◌+◌, ◌<◌, ◌≤◌,
 ghost use Rattle.bean_codec.specs.declared.reader.Want.TheVariants as wants;
 ghost use Rattle.bean_codec.specs.Grammar.{Item, put_item, longest_body};
 ghost use Rattle.bean_codec.specs.Memory.{TakesMemory};
-ghost use Rattle.bean_codec.specs.Reads.{item_read, IfMore, IfDrop, BeginsWith, CompletesFront, DropsBig, TellsItem, TellsMore, TellsDrop, IsDue, IsRestDue, longest_wait};
+ghost use Rattle.bean_codec.specs.Reads.{item_read, IfMore, IfDrop, BeginsWith, CompletesFront, DropsBig, TellsItem, TellsMore, TellsDrop, IsDue, IsRestDue, longest_unfinished};
 
 use crate::line::{LONGEST_LINE, Meaning, meaning_of};
 use crate::reader::{Read, Want};
@@ -20,7 +20,7 @@ pub fn read_line(alloc: Global, bytes: &[u8]) -> Result<Read, AllocError>
     ensures more { IfOk result (TellsMore wants.Line bytes.now) }
     ensures drop { IfOk result (TellsDrop wants.Line bytes.now) }
     ensures due { IfOk result (IsDue wants.Line bytes.now) }
-    ensures bound { IfOk result (λ read. IfMore read (length bytes.now ≤ longest_wait)) }
+    ensures bound { IfOk result (λ read. IfMore read (length bytes.now ≤ longest_unfinished)) }
     ensures memory { OnErr result
         ((found : Item × ℕ) × TakesMemory found.0 × BeginsWith bytes.now found) }
 {

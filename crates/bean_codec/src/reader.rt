@@ -4,7 +4,7 @@ ghost use Rattle.bean_codec.specs.declared.reader.Want.TheVariants as wants;
 ghost use Rattle.bean_codec.specs.declared.reader.Read.TheVariants as reads;
 ghost use Rattle.bean_codec.specs.Grammar.{Item};
 ghost use Rattle.bean_codec.specs.Memory.{TakesMemory};
-ghost use Rattle.bean_codec.specs.Reads.{item_read, IfMore, BeginsWith, EndsItem, IsDrop, TellsItem, TellsMore, TellsDrop, Awaits, IsDropped, longest_wait};
+ghost use Rattle.bean_codec.specs.Reads.{item_read, IfMore, BeginsWith, EndsItem, IsDrop, TellsItem, TellsMore, TellsDrop, Awaits, IsDropped, longest_unfinished};
 ghost use Rattle.bean_codec.specs.Wants.{Fits};
 
 use crate::dropped::{read_big, read_rest};
@@ -51,7 +51,7 @@ pub fn read_request(alloc: Global, want: Want, bytes: &[u8]) -> Result<Read, All
     ensures awaits { IfOk result (λ read. (read ≡ reads.More) ↔ Awaits want bytes.now) }
     ensures dropped { IfOk result (λ read. (used : ℕ) (next : Want) →
         (read ≡ reads.Drop used next) ↔ IsDropped want bytes.now used next) }
-    ensures bound { IfOk result (λ read. IfMore read (length bytes.now ≤ longest_wait)) }
+    ensures bound { IfOk result (λ read. IfMore read (length bytes.now ≤ longest_unfinished)) }
     // Only the body of a put and the name of a tube take memory.
     ensures memory { OnErr result ((want ≡ wants.Line) ×
         ((found : Item × ℕ) × TakesMemory found.0 × BeginsWith bytes.now found)) }

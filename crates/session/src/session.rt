@@ -1,5 +1,5 @@
 ghost use Rattle.std.specs.Prelude.{◌≡◌, ◌<◌, ◌≤◌, ◌+◌, ◌++◌, ℕ, List, true, false, None, length, take, drop, vec_len, IfOk, OnOk, OnErr};
-ghost use Rattle.bean_codec.specs.Reads.{longest_wait};
+ghost use Rattle.bean_codec.specs.Reads.{longest_unfinished};
 ghost use Rattle.bean_codec.specs.Replies.{reply_text};
 ghost use Rattle.session.specs.Items.{refused_text};
 ghost use Rattle.session.specs.Held.{holding, nothing_held, is_asked, fed_buffer_len, text_buffer_len, MayKeep, StandsAt, FrontTakesRoom, Finds};
@@ -98,7 +98,8 @@ impl Session {
         ensures found { IfOk result (λ found. (text : List ℕ) → StandsAt self.old text
             → Finds self.old self.new text found) }
         ensures open { IfOk result (λ found. self.new.is_open ≡ is_asked found) }
-        ensures small { IfOk result (λ found. found ≡ None → length self.new.kept ≤ longest_wait) }
+        ensures small { IfOk result
+            (λ found. found ≡ None → length self.new.kept ≤ longest_unfinished) }
         ensures buffer { OnOk result (fed_buffer_len self.new ≡ fed_buffer_len self.old) }
         ensures sent_len { OnOk result (self.new.sent_len ≡ self.old.sent_len) }
         ensures memory { OnErr result ((text : List ℕ) → StandsAt self.old text → FrontTakesRoom text) }
@@ -206,7 +207,7 @@ fn look_on(
         Finds (holding want (drop start bytes.now) text.old.items)
         (holding found.want (drop found.start bytes.now) text.new.items) t found.request) }
     ensures small { IfOk result (λ found. found.request ≡ None
-        → length (drop found.start bytes.now) ≤ longest_wait) }
+        → length (drop found.start bytes.now) ≤ longest_unfinished) }
     ensures memory { OnErr result ((t : List ℕ)
         → StandsAt (holding want (drop start bytes.now) text.old.items) t → FrontTakesRoom t) }
     ensures front { take (vec_len text.old) text.new.items ≡ text.old.items }
