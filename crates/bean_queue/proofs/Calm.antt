@@ -19,7 +19,7 @@ use Rattle.pause_store.specs.Pauses.{is_paused}
 use Rattle.bean_queue.specs.declared.op.Op.{Op}
 use Rattle.bean_queue.specs.declared.reply.Reply.{Reply}
 use Rattle.bean_queue.specs.Queue.{QueueState, paused_tubes, with_sessions, fresh, watched_by, holds_by}
-use Rattle.bean_queue.specs.Rows.{Row, row, put_row, use_row, watch_row, ignore_row, reserve_row, delete_row, may_delete, is_found, release_row, touch_row, bury_row, kick_row, kick_job_row, peek_row}
+use Rattle.bean_queue.specs.Rows.{Row, row, put_row, use_row, watch_row, ignore_row, reserve_row, delete_row, may_delete, is_job_that, release_row, touch_row, bury_row, kick_row, kick_job_row, peek_row}
 use Rattle.bean_queue.specs.Turns.{Outcome, after_option, Turn, stop, all_turns, wanted, give, serve_turn, told_turn, deadline_turn, timeout_turn, serve}
 use Rattle.bean_queue.specs.Effects.{own, own_outcome, then_do, called, ends_wait, is_zero, settled, has_no_number, carried_out, do_effect, released, forgotten, at_second, tick_effect, is_quiet}
 use Rattle.bean_queue.specs.TurnLaws.{least-none, none-least, turns-keep, deadline_turn-is, timeout_turn-is, IsTold, IfSome-map}
@@ -138,14 +138,14 @@ quiet-row (Op.Ignore tube) key s q =
     (record { jobs = λ j i t. i; sessions = kept-calmer key.session _ (known key.session s.sessions) (λ c. refl) (known-idle key.session s.sessions); pauses = λ tube p. p })
 quiet-row (Op.Reserve seconds) key s q = cc
 quiet-row (Op.Delete id) key s q =
-    calmer_if (called key.session s) (is_found (may_delete key.session) (value_at id s.jobs)) _ _
+    calmer_if (called key.session s) (is_job_that (may_delete key.session) (value_at id s.jobs)) _ _
     (record { jobs = λ j i t. without-in id s.jobs j i; sessions = λ w i t. i; pauses = λ tube p. p }) (same-calmer (called key.session s))
 quiet-row (Op.Touch id) key s q =
-    calmer_if (called key.session s) (is_found (is_held key.session) (value_at id s.jobs)) _ _
+    calmer_if (called key.session s) (is_job_that (is_held key.session) (value_at id s.jobs)) _ _
     (record { jobs = changed-calmer id _ s.jobs (λ job. refl); sessions = λ w i t. i; pauses = λ tube p. p }) (same-calmer (called key.session s))
 quiet-row (Op.Release id pri delay) key s q = cc
 quiet-row (Op.Bury id pri) key s q =
-    calmer_if (called key.session s) (is_found (is_held key.session) (value_at id s.jobs)) _ _
+    calmer_if (called key.session s) (is_job_that (is_held key.session) (value_at id s.jobs)) _ _
     (record { jobs = changed-calmer id _ s.jobs (λ job. refl); sessions = λ w i t. i; pauses = λ tube p. p }) (same-calmer (called key.session s))
 quiet-row (Op.Kick bound) key s q = cc
 quiet-row (Op.KickJob id) key s q = cc

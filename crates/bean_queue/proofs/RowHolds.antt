@@ -14,7 +14,7 @@ use Rattle.session_store.specs.EntryLaws.{value_at-without_other, value_at-inser
 use Rattle.bean_queue.specs.declared.op.Op.{Op}
 use Rattle.bean_queue.specs.declared.reply.Reply.{Reply}
 use Rattle.bean_queue.specs.Queue.{QueueState, with_jobs, used_by, watched_by, HasRisingIds}
-use Rattle.bean_queue.specs.Rows.{is_idle, Row, replies, row, put_row, use_row, watch_row, ignore_row, reserve_row, delete_row, may_delete, is_found, release_row, touch_row, bury_row, kicked, kicked_option, kick_row, kick_job_row, peek_row, shown, at_id, all_tubes, pause_row}
+use Rattle.bean_queue.specs.Rows.{is_idle, Row, replies, row, put_row, use_row, watch_row, ignore_row, reserve_row, delete_row, may_delete, is_job_that, release_row, touch_row, bury_row, kicked, kicked_option, kick_row, kick_job_row, peek_row, shown, at_id, all_tubes, pause_row}
 use Rattle.bean_queue.specs.Effects.{own}
 use Rattle.bean_queue.specs.Holds.{is_touch}
 use Rattle.bean_queue.specs.TurnLaws.{least-in, IfSome-map}
@@ -67,21 +67,21 @@ row-ok (Op.Ignore tube) key s sound =
     (record { sound = sound; at = refl; quiet = λ id. refl })
 row-ok (Op.Reserve seconds) key s sound = record { sound = sound; at = refl; quiet = λ id. refl }
 row-ok (Op.Delete j) key s sound =
-    ok_if s key (is_found (may_delete key.session) (value_at j s.jobs)) _ _
+    ok_if s key (is_job_that (may_delete key.session) (value_at j s.jobs)) _ _
     (record { sound = Rising-without j 1 s.next_id s.jobs sound; at = refl; quiet = λ id. refl })
     (ok_same s key Reply.NotFound (λ id. refl) sound)
 row-ok (Op.Release j pri delay) key s sound =
-    ok_if s key (is_found (is_held key.session) (value_at j s.jobs)) _ _ (ok_altered s key j _ Reply.Released (λ id. refl) sound) (ok_same s key Reply.NotFound (λ id. refl) sound)
+    ok_if s key (is_job_that (is_held key.session) (value_at j s.jobs)) _ _ (ok_altered s key j _ Reply.Released (λ id. refl) sound) (ok_same s key Reply.NotFound (λ id. refl) sound)
 row-ok (Op.Bury j pri) key s sound =
-    ok_if s key (is_found (is_held key.session) (value_at j s.jobs)) _ _
+    ok_if s key (is_job_that (is_held key.session) (value_at j s.jobs)) _ _
     (record { sound = Rising-altered _ _ 1 s.next_id s.jobs sound; at = refl; quiet = λ id. refl })
     (ok_same s key Reply.NotFound (λ id. refl) sound)
 row-ok (Op.Touch j) key s sound =
-    ok_if s key (is_found (is_held key.session) (value_at j s.jobs)) _ _ (ok_altered s key j _ Reply.Touched (λ id. refl) sound) (ok_same s key Reply.NotFound (λ id. refl) sound)
+    ok_if s key (is_job_that (is_held key.session) (value_at j s.jobs)) _ _ (ok_altered s key j _ Reply.Touched (λ id. refl) sound) (ok_same s key Reply.NotFound (λ id. refl) sound)
 row-ok (Op.Kick bound) key s sound =
     record { sound = kicked-sound _ s.next_id bound s.jobs sound; at = refl; quiet = λ id. refl }
 row-ok (Op.KickJob j) key s sound =
-    ok_if s key (is_found is_idle (value_at j s.jobs)) _ _ (ok_altered s key j _ Reply.Kicked (λ id. refl) sound) (ok_same s key Reply.NotFound (λ id. refl) sound)
+    ok_if s key (is_job_that is_idle (value_at j s.jobs)) _ _ (ok_altered s key j _ Reply.Kicked (λ id. refl) sound) (ok_same s key Reply.NotFound (λ id. refl) sound)
 row-ok (Op.Peek j) key s sound = ok_same s key _ (shown-quiet key (at_id j s.jobs)) sound
 row-ok Op.PeekReady key s sound = ok_same s key _ (shown-quiet key (first_ready (used_by s key.session) s.jobs)) sound
 row-ok Op.PeekDelayed key s sound = ok_same s key _ (shown-quiet key (first_delayed (used_by s key.session) s.jobs)) sound
@@ -105,9 +105,9 @@ pub data HoldAfter (x id ttr second now : ℕ) (op : Op) (key : Key) (r : Row) :
   renewed : Held r.state.jobs x id ttr now → is_touch id (Act.Do op) ≡ true → key.session ≡ x → r.reply ≡ Some Reply.Touched → HoldAfter x id ttr second now op key r
 
 -- a test of the job at an id, where the job is held
-found-held : (test : State → Bool) (jobs : List (ℕ × Job)) (x id j ttr second : ℕ) → j ≡ id → Held jobs x id ttr second → is_found test (value_at j jobs) ≡ test (State.Reserved x (second + ttr))
+found-held : (test : State → Bool) (jobs : List (ℕ × Job)) (x id j ttr second : ℕ) → j ≡ id → Held jobs x id ttr second → is_job_that test (value_at j jobs) ≡ test (State.Reserved x (second + ttr))
 found-held test jobs x id j ttr second same h =
-    ap (λ q. is_found test (value_at q jobs)) same ∙ ap (is_found test) h.there ∙ ap test h.held
+    ap (λ q. is_job_that test (value_at q jobs)) same ∙ ap (is_job_that test) h.there ∙ ap test h.held
 
 hold_if : (x id ttr second now : ℕ) (op : Op) (key : Key) (b : Bool) (r q : Row) → (b ≡ true → HoldAfter x id ttr second now op key r) → (b ≡ false → HoldAfter x id ttr second now op key q) → HoldAfter x id ttr second now op key (cond b r q)
 hold_if x id ttr second now op key true r q f g = f refl
@@ -166,9 +166,9 @@ held_row-ends : (x id ttr second now : ℕ) (op : Op) (key : Key) (s : QueueStat
     is_touch id (Act.Do op) ≡ false →
     Held s.jobs x id ttr second →
     ((j ≡ id → ⊥) → Held t.jobs x id ttr second) →
-    HoldAfter x id ttr second now op key (cond (is_found test (value_at j s.jobs)) (replies t reply) (replies s Reply.NotFound))
+    HoldAfter x id ttr second now op key (cond (is_job_that test (value_at j s.jobs)) (replies t reply) (replies s Reply.NotFound))
 held_row-ends x id ttr second now op key s j test t reply tests ends untouched h other =
-    hold_if x id ttr second now op key (is_found test (value_at j s.jobs)) _ _
+    hold_if x id ttr second now op key (is_job_that test (value_at j s.jobs)) _ _
     (λ e. elim (cases_eq j id) [
       | inl same ↦ ended reply (ends same) (eqb-true key.session x (sym (tests (second + ttr)) ∙ sym (found-held test s.jobs x id j ttr second same h) ∙ e)) refl
       | inr apart ↦ stays (other apart) (not_both _ _ (λ p q. true≢false (sym p ∙ untouched)))
@@ -213,11 +213,11 @@ row-holds x id ttr second (Op.Bury j pri) key s sound h =
 row-holds x id ttr second (Op.Touch j) key s sound h =
     elim (cases_eq j id) [
       | inr apart ↦
-          hold_if x id ttr second s.now (Op.Touch j) key (is_found (is_held key.session) (value_at j s.jobs)) _ _
+          hold_if x id ttr second s.now (Op.Touch j) key (is_job_that (is_held key.session) (value_at j s.jobs)) _ _
           (λ e. stays (Held-altered_other j _ s.jobs x id ttr second apart h) (not_both _ _ (λ p q. apart (sym (eqb-true id j p)))))
           (λ e. stays h (not_both _ _ (λ p q. apart (sym (eqb-true id j p)))))
       | inl same ↦
-          hold_if x id ttr second s.now (Op.Touch j) key (is_found (is_held key.session) (value_at j s.jobs)) _ _
+          hold_if x id ttr second s.now (Op.Touch j) key (is_job_that (is_held key.session) (value_at j s.jobs)) _ _
           (λ e.
           let who : key.session ≡ x = eqb-true key.session x (sym (found-held (is_held key.session) s.jobs x id j ttr second same h) ∙ e) in
           renewed
@@ -232,7 +232,7 @@ row-holds x id ttr second (Op.Kick bound) key s sound h =
       | false ↦ kicked-holds (first_delayed (used_by s key.session)) x (picks_delayed x (used_by s key.session)) s.next_id id ttr second bound s.jobs sound h
     ])
 row-holds x id ttr second (Op.KickJob j) key s sound h =
-    hold_if x id ttr second s.now (Op.KickJob j) key (is_found is_idle (value_at j s.jobs)) _ _
+    hold_if x id ttr second s.now (Op.KickJob j) key (is_job_that is_idle (value_at j s.jobs)) _ _
     (λ e. stays_same x id ttr second s.now (Op.KickJob j) key s _ refl
     (Held-altered_other j _ s.jobs x id ttr second
     (λ same. true≢false (sym e ∙ found-held is_idle s.jobs x id j ttr second same h)) h))

@@ -24,7 +24,7 @@ use Rattle.bean_queue.specs.declared.op.Op.{Op}
 use Rattle.bean_queue.specs.declared.reply.Reply.{Reply}
 use Rattle.bean_queue.specs.Best.{IsWanted}
 use Rattle.bean_queue.specs.Queue.{QueueState, paused_tubes, pauses_of, used_by, watched_by}
-use Rattle.bean_queue.specs.Rows.{Row, kicked, kicked_option, put_job, ready_after, time_out, is_found, is_idle, row, put_row, reserve_row, release_row, kick_row, kick_job_row, pause_row, all_tubes}
+use Rattle.bean_queue.specs.Rows.{Row, kicked, kicked_option, put_job, ready_after, time_out, is_job_that, is_idle, row, put_row, reserve_row, release_row, kick_row, kick_job_row, pause_row, all_tubes}
 use Rattle.bean_queue.specs.Turns.{Turn, IsTurn, given, serve_turn}
 use Rattle.bean_queue.specs.TurnLaws.{IsServed, serve_turn-is, least-none, least-in, IfSome-map}
 use Rattle.bean_queue.specs.Effects.{called, released, at_second, is_quiet}
@@ -191,13 +191,13 @@ row-covers (Op.Put pri delay ttr body) key s q none ids numbers =
 row-covers (Op.Reserve seconds) key s q none ids numbers =
     covers-wait key.session (2 ^ 32) (Some (record { number = key.number; rank = s.next_rank; time_out = time_out s.now seconds })) s _ none numbers refl refl refl
 row-covers (Op.Release id pri delay) key s q none ids numbers =
-    covers_if (tube_of (value_at id s.jobs)) (is_found (is_held key.session) (value_at id s.jobs)) _ _
+    covers_if (tube_of (value_at id s.jobs)) (is_job_that (is_held key.session) (value_at id s.jobs)) _ _
     (covers-new (tube_of (value_at id s.jobs)) s _ none (λ w i t. i) (λ tube u. inl u) (altered-woken id (2 ^ 64) (with_pri_and_state pri (ready_after s.now delay)) s.jobs ids (λ job. refl)))
     (covers-nothing (tube_of (value_at id s.jobs)) s none)
 row-covers (Op.Kick bound) key s q none ids numbers =
     covers-new (used_by s key.session ∷ []) s _ none (λ w i t. i) (λ tube u. inl u) (kick-woken (used_by s key.session) (is_some (first_buried (used_by s key.session) s.jobs)) bound (2 ^ 64) s.jobs ids)
 row-covers (Op.KickJob id) key s q none ids numbers =
-    covers_if (tube_of (value_at id s.jobs)) (is_found is_idle (value_at id s.jobs)) _ _
+    covers_if (tube_of (value_at id s.jobs)) (is_job_that is_idle (value_at id s.jobs)) _ _
     (covers-new (tube_of (value_at id s.jobs)) s _ none (λ w i t. i) (λ tube u. inl u) (altered-woken id (2 ^ 64) (with_state State.Ready) s.jobs ids (λ job. refl)))
     (covers-nothing (tube_of (value_at id s.jobs)) s none)
 row-covers (Op.Use tube) key s q none ids numbers = cc

@@ -96,21 +96,21 @@ may_delete x (State.Reserved y due) = x == y
 may_delete x (State.Buried rank) = true
 
 -- there is a job, and its state passes
-abbrev pub is_found : (State → Bool) → Option Job → Bool
-is_found test None = false
-is_found test (Some job) = test job.state
+abbrev pub is_job_that : (State → Bool) → Option Job → Bool
+is_job_that test None = false
+is_job_that test (Some job) = test job.state
 
 -- a job that nobody else has goes (protocol.txt of beanstalkd, "delete")
 unfoldable pub delete_row : QueueState → ℕ → ℕ → Row
 delete_row s x id =
-    if is_found (may_delete x) (value_at id s.jobs)
+    if is_job_that (may_delete x) (value_at id s.jobs)
     then replies (with_jobs s (without id s.jobs)) Reply.Deleted
     else replies s Reply.NotFound
 
 -- the job at an id is changed, if session x has it
 abbrev pub held_row : QueueState → ℕ → ℕ → (Job → Job) → Reply → Row
 held_row s x id f reply =
-    if is_found (is_held x) (value_at id s.jobs)
+    if is_job_that (is_held x) (value_at id s.jobs)
     then replies (with_jobs s (altered id f s.jobs)) reply
     else replies s Reply.NotFound
 
@@ -125,7 +125,7 @@ touch_row s x id = held_row s x id (λ job. with_state (State.Reserved x (s.now 
 -- session x lays a job aside, under the next rank (protocol.txt of beanstalkd, "bury")
 unfoldable pub bury_row : QueueState → ℕ → ℕ → ℕ → Row
 bury_row s x id pri =
-    if is_found (is_held x) (value_at id s.jobs)
+    if is_job_that (is_held x) (value_at id s.jobs)
     then
     replies
     (record s {
@@ -179,7 +179,7 @@ is_idle state = is_buried state || is_delayed state
 -- a job that is buried or delayed is ready (protocol.txt of beanstalkd, "kick-job")
 unfoldable pub kick_job_row : QueueState → ℕ → Row
 kick_job_row s id =
-    if is_found is_idle (value_at id s.jobs)
+    if is_job_that is_idle (value_at id s.jobs)
     then replies (with_jobs s (altered id (with_state State.Ready) s.jobs)) Reply.Kicked
     else replies s Reply.NotFound
 

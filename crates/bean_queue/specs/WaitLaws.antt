@@ -18,7 +18,7 @@ use Rattle.bean_queue.specs.declared.op.Op.{Op}
 use Rattle.bean_queue.specs.declared.reply.Reply.{Reply}
 use Rattle.bean_queue.specs.Queue.{QueueState, fresh, holds_by, watched_by}
 use Rattle.bean_queue.specs.Turns.{Outcome, Turn, stop, turns, all_turns, after_option, given, told_turn, serve_turn, deadline_turn, timeout_turn, serve}
-use Rattle.bean_queue.specs.Rows.{is_idle, Row, row, put_row, use_row, watch_row, ignore_row, reserve_row, delete_row, may_delete, is_found, release_row, touch_row, bury_row, kick_row, kick_job_row, peek_row, all_tubes, pause_row}
+use Rattle.bean_queue.specs.Rows.{is_idle, Row, row, put_row, use_row, watch_row, ignore_row, reserve_row, delete_row, may_delete, is_job_that, release_row, touch_row, bury_row, kick_row, kick_job_row, peek_row, all_tubes, pause_row}
 use Rattle.bean_queue.specs.Effects.{own, called, ends_wait, is_zero, settled, then_do, has_no_number, carried_out, do_effect, released, close_effect, at_second, tick_effect, act_effect, effect}
 use Rattle.bean_queue.specs.Waits.{Waits, AreApart, IsLawful}
 use Rattle.bean_queue.specs.TurnLaws.{IsServed, IsTold, serve_turn-is, deadline_turn-is, timeout_turn-is, IfSome-map}
@@ -126,13 +126,13 @@ row-waits (Op.Ignore tube) key s =
     still_if key s (is_alone tube (watched_by s key.session)) _ _ (same key s _ refl) (RowWaits.still (λ k h. altered-waits key.session _ s.sessions k (λ c. refl) h))
 row-waits (Op.Reserve seconds) key s =
     RowWaits.anew refl (λ k h. waiting-waits key.session _ _ s.sessions k key refl refl (λ c. refl) h)
-row-waits (Op.Delete j) key s = still_if key s (is_found (may_delete key.session) (value_at j s.jobs)) _ _ (same key s _ refl) (same key s _ refl)
-row-waits (Op.Release j pri delay) key s = still_if key s (is_found (is_held key.session) (value_at j s.jobs)) _ _ (same key s _ refl) (same key s _ refl)
+row-waits (Op.Delete j) key s = still_if key s (is_job_that (may_delete key.session) (value_at j s.jobs)) _ _ (same key s _ refl) (same key s _ refl)
+row-waits (Op.Release j pri delay) key s = still_if key s (is_job_that (is_held key.session) (value_at j s.jobs)) _ _ (same key s _ refl) (same key s _ refl)
 row-waits (Op.Bury j pri) key s =
-    still_if key s (is_found (is_held key.session) (value_at j s.jobs)) _ _ (same key s _ refl) (same key s _ refl)
-row-waits (Op.Touch j) key s = still_if key s (is_found (is_held key.session) (value_at j s.jobs)) _ _ (same key s _ refl) (same key s _ refl)
+    still_if key s (is_job_that (is_held key.session) (value_at j s.jobs)) _ _ (same key s _ refl) (same key s _ refl)
+row-waits (Op.Touch j) key s = still_if key s (is_job_that (is_held key.session) (value_at j s.jobs)) _ _ (same key s _ refl) (same key s _ refl)
 row-waits (Op.Kick bound) key s = same key s _ refl
-row-waits (Op.KickJob j) key s = still_if key s (is_found is_idle (value_at j s.jobs)) _ _ (same key s _ refl) (same key s _ refl)
+row-waits (Op.KickJob j) key s = still_if key s (is_job_that is_idle (value_at j s.jobs)) _ _ (same key s _ refl) (same key s _ refl)
 row-waits (Op.Peek j) key s = same key s _ refl
 row-waits Op.PeekReady key s = same key s _ refl
 row-waits Op.PeekDelayed key s = same key s _ refl

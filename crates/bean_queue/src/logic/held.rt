@@ -1,7 +1,7 @@
 ghost use Rattle.std.specs.Prelude.{◌≡◌, ◌^◌, ◌==◌, false, Some, IfOk, OnOk};
 ghost use Rattle.job_store.specs.Entries.{value_at};
 ghost use Rattle.job_store.specs.States.{is_held};
-ghost use Rattle.bean_queue.specs.Rows.{is_found, may_delete, delete_row, touch_row, release_row, bury_row};
+ghost use Rattle.bean_queue.specs.Rows.{is_job_that, may_delete, delete_row, touch_row, release_row, bury_row};
 
 use crate::logic::Logic;
 use crate::logic::put::ready_after;
@@ -25,7 +25,7 @@ fn may_delete(session: u32, state: State) -> bool
 impl<M: JobMap> Logic<M> {
     /// Whether the session has the job with this id.
     fn has(&self, session: u32, id: u64) -> bool
-        ensures { result ≡ is_found (is_held session) (value_at id self.now.now.jobs) }
+        ensures { result ≡ is_job_that (is_held session) (value_at id self.now.now.jobs) }
     {
         match self.jobs.map().get(id) {
             Some(job) => job.state.is_held_by(session),
