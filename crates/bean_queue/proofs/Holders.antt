@@ -1,12 +1,12 @@
 -- Sessions that have a job due by a second: those that were found, and the first of them.
-use Rattle.std.proofs.Common.{◌≡◌, ℕ, ◌+◌, ◌-◌, ◌*◌, ◌^◌, ◌<◌, ◌≤◌, Bool, true, false, cond, ◌&&◌, ◌||◌, ◌==◌, ◌⊎◌, inl, inr, List, [], ◌∷◌, ◌++◌, Option, Some, None, IfSome, filter_map, nat_le, nat_lt, refl, sym, ap, subst, ◌∙◌, arith, eq-eqb, eqb-true, ltb-true, lt-ltb, true≢false, append-nil, unwrap_or}
-use Rattle.std.proofs.lemmas.Bool.{cases_Bool, cond-true, cases_order, and_parts, and_from, or_cases, or_left, or_right, leb-true}
+use Rattle.std.proofs.Common.{◌≡◌, ℕ, ◌+◌, ◌-◌, ◌*◌, ◌^◌, ◌<◌, ◌≤◌, Bool, true, false, cond, ◌&&◌, ◌||◌, ◌==◌, ◌⊎◌, inl, inr, List, [], ◌∷◌, ◌++◌, filter, length, Option, Some, None, IfSome, filter_map, nat_le, nat_lt, refl, sym, ap, ap₂, subst, ◌∙◌, arith, eq-eqb, eqb-true, ltb-true, lt-ltb, true≢false, append-nil, unwrap_or}
+use Rattle.std.proofs.lemmas.Bool.{cases_Bool, cond-true, cases_order, and_parts, and_from, and_left, and_right, or_cases, or_left, or_right, leb-true}
 use Rattle.object.specs.Lists.{In}
 use Rattle.object.specs.declared.command.Answer.{Answer}
 use Rattle.job_store.specs.declared.job.Job.{Job}
 use Rattle.job_store.specs.declared.state.State.{State}
 use Rattle.job_store.specs.Entries.{Rising, value_at}
-use Rattle.job_store.specs.Least.{ComesBefore, least}
+use Rattle.job_store.specs.Least.{ComesBefore, comes_before, least}
 use Rattle.job_store.specs.LookUps.{is_after, due_by, due_after, due_of_job, first_due, first_due_after}
 use Rattle.job_store.specs.States.{is_due, is_held, due_of}
 use Rattle.job_store.proofs.Least.{IsAnswer, answer, same_entry}
@@ -16,12 +16,13 @@ use Rattle.session_store.specs.EntryLaws.{value_at-In, value_at-found, value_at-
 use Rattle.session_store.specs.Sessions.{first_waiting, is_waiting, new_session, wait_rank, with_wait_ended}
 use Rattle.session_store.proofs.Found.{least_alike, mapped-in, mapped-from}
 use Rattle.bean_queue.specs.declared.reply.Reply.{Reply}
-use Rattle.bean_queue.specs.Holders.{holder_by, waits_at, waiting_holder, AreHolders, HasHolders}
+use Rattle.bean_queue.specs.Holders.{holder_by, waits_at, waiting_holder, times_noted, has_due, AreHolders, HasHolders, IsSomeHolder, StandAsOften}
 use Rattle.bean_queue.specs.Queue.{QueueState, holds_by}
 use Rattle.bean_queue.specs.TurnLaws.{IsTold, deadline_turn-is}
 use Rattle.bean_queue.specs.Turns.{Turn, IsTurn, told_turn, deadline_turn}
 use Rattle.bean_queue.specs.WaitLaws.{in-append}
 use Rattle.bean_queue.proofs.Calm.{ended-calmer}
+use Rattle.bean_queue.proofs.Counted.{one_if, chosen-last, chosen-alike, chosen-none, chosen-more}
 
 -- A session has a due job where it is the holder of one
 
@@ -57,13 +58,62 @@ one-held x second (d ∷ ds) t =
       | inr h ↦ let w = one-held x second ds h in (w.0, inr w.1, w.2)
     ]
 
+-- Of two jobs one comes first
+
+before : (d e : ℕ × Job) → comes_before due_of_job d e ≡ true → ComesBefore due_of_job d e
+before d e t =
+    let a = due_of_job d.1 in
+    let b = due_of_job e.1 in
+    elim (or_cases (nat_lt a b) (a == b && nat_lt d.0 e.0) t) as (λ v. ComesBefore due_of_job d e) [
+      | inl h ↦ inl (ltb-true a b h)
+      | inr h ↦ let p = and_parts (a == b) (nat_lt d.0 e.0) h in inr (eqb-true a b p.0, ltb-true d.0 e.0 p.1)
+    ]
+
+passes-before : (d e : ℕ × Job) → ComesBefore due_of_job d e → comes_before due_of_job d e ≡ true
+passes-before d e (inl h) = or_left (nat_lt (due_of_job d.1) (due_of_job e.1)) (due_of_job d.1 == due_of_job e.1 && nat_lt d.0 e.0) (lt-ltb (due_of_job d.1) (due_of_job e.1) h)
+passes-before d e (inr h) =
+    or_right (nat_lt (due_of_job d.1) (due_of_job e.1)) (due_of_job d.1 == due_of_job e.1 && nat_lt d.0 e.0)
+    (and_from (due_of_job d.1 == due_of_job e.1) (nat_lt d.0 e.0) (eq-eqb (due_of_job d.1) (due_of_job e.1) h.0) (lt-ltb d.0 e.0 h.1))
+
+before-later : (d e f : ℕ × Job) → ComesBefore due_of_job d e → ComesBefore due_of_job e f → ComesBefore due_of_job d f
+before-later d e f (inl a) (inl b) = inl (omega (arith, a, b))
+before-later d e f (inl a) (inr b) = let same = b.0 in inl (omega (arith, a, same))
+before-later d e f (inr a) (inl b) = let same = a.0 in inl (omega (arith, same, b))
+before-later d e f (inr a) (inr b) =
+    let one = a.1 in
+    let other = b.1 in
+    inr (a.0 ∙ b.0, omega (arith, one, other))
+
+never-both : (d e : ℕ × Job) → ComesBefore due_of_job d e → ComesBefore due_of_job e d → ⊥
+never-both d e (inl a) (inl b) = absurd (omega (arith, a, b))
+never-both d e (inl a) (inr b) = let same = b.0 in absurd (omega (arith, a, same))
+never-both d e (inr a) (inl b) = let same = a.0 in absurd (omega (arith, same, b))
+never-both d e (inr a) (inr b) =
+    let one = a.1 in
+    let other = b.1 in
+    absurd (omega (arith, one, other))
+
+not-before : (d e : ℕ × Job) → (ComesBefore due_of_job d e → ⊥) → comes_before due_of_job d e ≡ false
+not-before d e never =
+    elim (cases_Bool (comes_before due_of_job d e)) as (λ v. comes_before due_of_job d e ≡ false) [ inl t ↦ absurd (never (before d e t)) | inr f ↦ f ]
+
 -- Due jobs that are gone over one by one
+
+-- the job comes before the next one, or there is none
+abbrev pub is_gone_over : Option (ℕ × Job) → ℕ × Job → Bool
+is_gone_over None e = true
+is_gone_over (Some n) e = comes_before due_of_job e n
+
+not-gone_over : (next : Option (ℕ × Job)) (e : ℕ × Job) → (IfSome next (ComesBefore due_of_job e) → ⊥) → is_gone_over next e ≡ false
+not-gone_over None e never = absurd (never tt)
+not-gone_over (Some n) e never = not-before e n never
 
 -- each due job that comes before the next one, or each where there is none, has its holder among these numbers, if it
 -- waits
 pub record AreNoted (waits : ℕ → Bool) (next : Option (ℕ × Job)) (numbers : List ℕ) (second : ℕ) (jobs : List (ℕ × Job)) : Type 0 where
   pub noted : (x : ℕ) (e : ℕ × Job) → In e jobs → IsDueOf x second e → waits x ≡ true → IfSome next (ComesBefore due_of_job e) → In x numbers
   pub only : (x : ℕ) → In x numbers → (waits x && holds_by x second jobs) ≡ true
+  pub often : (x : ℕ) → waits x ≡ true → times_noted x numbers ≡ length (filter (λ e. has_due x second e && is_gone_over next e) jobs)
   pub due : IfSome next (λ n. In n jobs × (due_by second n ≡ true))
 
 -- the holder of a job in this state, where it has one, is noted if it waits
@@ -71,6 +121,7 @@ pub record IsNoted (waits : ℕ → Bool) (state : State) (old new : List ℕ) :
   pub keeps : (x : ℕ) → In x old → In x new
   pub holder : (x : ℕ) → waits x ≡ true → is_held x state ≡ true → In x new
   pub only : (x : ℕ) → In x new → In x old ⊎ ((waits x && is_held x state) ≡ true)
+  pub often : (x : ℕ) → waits x ≡ true → times_noted x new ≡ times_noted x old + one_if (is_held x state)
 
 noted-holder : (waits : ℕ → Bool) (y due : ℕ) (old new : List ℕ) → waits y ≡ true → new ≡ old ++ y ∷ [] → IsNoted waits (State.Reserved y due) old new
 noted-holder waits y due old new w is = record {
@@ -81,12 +132,22 @@ noted-holder waits y due old new w is = record {
         | inl before ↦ inl before
         | inr it ↦ inr (elim it as (λ v. (waits x && (x == y)) ≡ true) [ inl same ↦ and_from (waits x) (x == y) (ap waits same ∙ w) (eq-eqb x y same) | inr none ↦ absurd none ])
       ];
+  often = λ x v. ap (λ (ns : List ℕ). times_noted x ns) is ∙ chosen-last (λ n. x == n) old y;
 }
 
 noted-nobody : (waits : ℕ → Bool) (state : State) (old new : List ℕ) → new ≡ old ++ [] → ((x : ℕ) → waits x ≡ true → is_held x state ≡ true → ⊥) → IsNoted waits state old new
 noted-nobody waits state old new is nobody =
     subst (λ ns. IsNoted waits state old ns) (sym (is ∙ append-nil old))
-    (record { keeps = λ x i. i; holder = λ x w t. absurd (nobody x w t); only = λ x i. inl i })
+    (record {
+      keeps = λ x i. i;
+      holder = λ x w t. absurd (nobody x w t);
+      only = λ x i. inl i;
+      often = λ x w.
+          elim (cases_Bool (is_held x state)) as (λ v. times_noted x old ≡ times_noted x old + one_if (is_held x state)) [
+            | inl t ↦ absurd (nobody x w t)
+            | inr f ↦ let none : one_if (is_held x state) ≡ 0 = ap (λ (b : Bool). one_if b) f in omega (arith, none)
+          ];
+    })
 
 -- the holder that waits was noted
 pub noted-by : (sessions : List (ℕ × SessionState)) (state : State) (old new : List ℕ) → new ≡ old ++ waiting_holder sessions state → IsNoted (waits_at sessions) state old new
@@ -99,6 +160,16 @@ noted-by sessions (State.Reserved y due) old new is =
       | inr idle ↦
           noted-nobody (waits_at sessions) (State.Reserved y due) old new (is ∙ ap (λ b. old ++ cond b (y ∷ []) []) idle)
           (λ x w t. true≢false (sym w ∙ ap (waits_at sessions) (eqb-true x y t) ∙ idle))
+    ]
+
+-- where a due job has a holder that waits, there is one
+pub some-holder : (second : ℕ) (n : ℕ × Job) (jobs : List (ℕ × Job)) (sessions : List (ℕ × SessionState)) → In n jobs × (due_by second n ≡ true) → (x : ℕ) × In x (waiting_holder sessions n.1.state) → IsSomeHolder second jobs sessions
+some-holder second n jobs sessions due w =
+    elim ((noted-by sessions n.1.state [] (waiting_holder sessions n.1.state) refl).only w.0 w.1) as (λ v. IsSomeHolder second jobs sessions) [
+      | inl none ↦ absurd none
+      | inr both ↦
+          let parts = and_parts (waits_at sessions w.0) (is_held w.0 n.1.state) both in
+          (w.0, and_from (waits_at sessions w.0) (holds_by w.0 second jobs) parts.0 (holds-one w.0 second jobs n due.0 due.1 parts.1))
     ]
 
 -- nothing that passes comes before the answer
@@ -116,6 +187,12 @@ noted-first waits next second jobs is =
     record {
       noted = λ x e i d w before. absurd (never-sooner (due_by second) jobs next e it i d.0 before);
       only = λ x i. absurd i;
+      often = λ x w.
+          sym (ap length (chosen-none (λ e. has_due x second e && is_gone_over next e) jobs (λ e i.
+          elim (cases_Bool (has_due x second e)) as (λ v. (has_due x second e && is_gone_over next e) ≡ false) [
+            | inl t ↦ and_right (has_due x second e) (is_gone_over next e) (not-gone_over next e (never-sooner (due_by second) jobs next e it i (held-due x second e.1.state t)))
+            | inr f ↦ and_left (has_due x second e) (is_gone_over next e) f
+          ])));
       due = answer-passes (due_by second) jobs next it;
     }
 
@@ -144,6 +221,47 @@ still-due : (second : ℕ) (place : ℕ × ℕ) (jobs : List (ℕ × Job)) (next
 still-due second place jobs None it = tt
 still-due second place jobs (Some n) it = (it.0, (and_parts (due_by second n) (is_after place (due_of_job n.1, n.0)) it.1).0)
 
+-- what comes before the next job has been passed after it, too
+still-gone_over : (second : ℕ) (n : ℕ × Job) (next : Option (ℕ × Job)) (jobs : List (ℕ × Job)) (e : ℕ × Job) → IfSome next (λ m. In m jobs × (due_after second (due_of_job n.1, n.0) m ≡ true)) → ComesBefore due_of_job e n → is_gone_over next e ≡ true
+still-gone_over second n None jobs e it sooner = refl
+still-gone_over second n (Some m) jobs e it sooner =
+    passes-before e m (before-later e n m sooner (before n m (and_parts (due_by second m) (is_after (due_of_job n.1, n.0) (due_of_job m.1, m.0)) it.1).1))
+
+-- a due job that isn't the next one has been passed after it exactly where it was before
+gone_over-same : (second : ℕ) (n : ℕ × Job) (next : Option (ℕ × Job)) (jobs : List (ℕ × Job)) (e : ℕ × Job) → IsAnswer (due_after second (due_of_job n.1, n.0)) due_of_job jobs next → In e jobs → due_by second e ≡ true → (e.0 ≡ n.0 → ⊥) → is_gone_over next e ≡ comes_before due_of_job e n
+gone_over-same second n next jobs e it i due apart =
+    let place : ℕ × ℕ = (due_of_job n.1, n.0) in
+    elim (which e n) as (λ v. is_gone_over next e ≡ comes_before due_of_job e n) [
+      | inl sooner ↦ still-gone_over second n next jobs e (answer-passes (due_after second place) jobs next it) sooner ∙ sym (passes-before e n sooner)
+      | inr (inl same) ↦ absurd (apart same)
+      | inr (inr later) ↦
+          not-gone_over next e (never-sooner (due_after second place) jobs next e it i (and_from (due_by second e) (is_after place (due_of_job e.1, e.0)) due later)) ∙
+          sym (not-before e n (never-both n e (before n e later)))
+    ]
+
+-- and the next one itself has been passed then
+gone_over-itself : (second : ℕ) (n : ℕ × Job) (next : Option (ℕ × Job)) (jobs : List (ℕ × Job)) → IfSome next (λ m. In m jobs × (due_after second (due_of_job n.1, n.0) m ≡ true)) → is_gone_over next n ≡ true
+gone_over-itself second n None jobs it = refl
+gone_over-itself second n (Some m) jobs it = (and_parts (due_by second m) (is_after (due_of_job n.1, n.0) (due_of_job m.1, m.0)) it.1).1
+
+both-true : (b : Bool) → ((b && true) && true) ≡ b
+both-true true = refl
+both-true false = refl
+
+one-more : (x second hi : ℕ) (n : ℕ × Job) (next : Option (ℕ × Job)) (jobs : List (ℕ × Job)) → Rising 0 hi jobs → In n jobs → due_by second n ≡ true → IsAnswer (due_after second (due_of_job n.1, n.0)) due_of_job jobs next → length (filter (λ e. has_due x second e && is_gone_over next e) jobs) ≡ length (filter (λ e. has_due x second e && comes_before due_of_job e n) jobs) + one_if (is_held x n.1.state)
+one-more x second hi n next jobs r there due it =
+    let own : (has_due x second n && is_gone_over next n) ≡ is_held x n.1.state =
+    ap₂ (λ (a b : Bool). (is_held x n.1.state && a) && b) (due-time second n.1.state due) (gone_over-itself second n next jobs (answer-passes (due_after second (due_of_job n.1, n.0)) jobs next it)) ∙
+    both-true (is_held x n.1.state) in
+    chosen-more (λ e. has_due x second e && is_gone_over next e) (λ e. has_due x second e && comes_before due_of_job e n) n 0 hi jobs r there
+    (λ e i apart.
+    elim (cases_Bool (has_due x second e)) as (λ v. (has_due x second e && is_gone_over next e) ≡ (has_due x second e && comes_before due_of_job e n)) [
+      | inl t ↦ ap (λ (b : Bool). has_due x second e && b) (gone_over-same second n next jobs e it i (held-due x second e.1.state t) apart)
+      | inr f ↦ and_left (has_due x second e) (is_gone_over next e) f ∙ sym (and_left (has_due x second e) (comes_before due_of_job e n) f)
+    ])
+    (and_right (has_due x second n) (comes_before due_of_job n n) (not-before n n (λ own. never-both n n own own))) ∙
+    ap (λ (b : Bool). length (filter (λ e. has_due x second e && comes_before due_of_job e n) jobs) + one_if b) own
+
 pub noted-next : (waits : ℕ → Bool) (n : ℕ × Job) (next : Option (ℕ × Job)) (numbers numbers' : List ℕ) (second hi : ℕ) (jobs : List (ℕ × Job)) → Rising 0 hi jobs → AreNoted waits (Some n) numbers second jobs → IsNoted waits n.1.state numbers numbers' → next ≡ first_due_after second (due_of_job n.1, n.0) jobs → AreNoted waits next numbers' second jobs
 noted-next waits n next numbers numbers' second hi jobs r were more is =
     let place : ℕ × ℕ = (due_of_job n.1, n.0) in
@@ -162,6 +280,10 @@ noted-next waits n next numbers numbers' second hi jobs r were more is =
                 let both = and_parts (waits x) (is_held x n.1.state) held in
                 and_from (waits x) (holds_by x second jobs) both.0 (holds-one x second jobs n were.due.0 were.due.1 both.1)
           ];
+      often = λ x w.
+          more.often x w ∙
+          ap (λ (k : ℕ). k + one_if (is_held x n.1.state)) (were.often x w) ∙
+          sym (one-more x second hi n next jobs r were.due.0 were.due.1 it);
       due = still-due second place jobs next (answer-passes (due_after second place) jobs next it);
     }
 
@@ -173,6 +295,15 @@ noted-all next numbers second jobs sessions end were x = (
       let w = one-held x second jobs both.1 in
       were.noted x w.0 w.1 w.2 both.0 (subst (λ o. IfSome o (ComesBefore due_of_job w.0)) (sym end) tt),
 )
+
+true-last : (b : Bool) → (b && true) ≡ b
+true-last true = refl
+true-last false = refl
+
+pub noted-often : (next : Option (ℕ × Job)) (numbers : List ℕ) (second : ℕ) (jobs : List (ℕ × Job)) (sessions : List (ℕ × SessionState)) → next ≡ None → AreNoted (waits_at sessions) next numbers second jobs → StandAsOften numbers second jobs sessions
+noted-often next numbers second jobs sessions end were x w =
+    were.often x w ∙
+    ap length (chosen-alike (λ e. has_due x second e && is_gone_over next e) (has_due x second) jobs (λ e i. ap (λ (o : Option (ℕ × Job)). has_due x second e && is_gone_over o e) end ∙ true-last (has_due x second e)))
 
 -- how far the next job is from the last that may be due
 abbrev pub far : ℕ → Option (ℕ × Job) → ℕ

@@ -20,6 +20,7 @@ pub mod Searches
 pub mod Offers
 pub mod Woken
 pub mod Naming
+pub mod Counted
 pub mod Holders
 pub mod Owed
 pub mod KickCount

@@ -1,9 +1,10 @@
 -- Whom a tick may have to tell of a job that is due soon.
-use Rattle.std.specs.Prelude.{◌≡◌, ◌↔◌, ℕ, Bool, true, ◌&&◌, List, [], ◌∷◌, Option, None, Some, if◌then◌else◌}
+use Rattle.std.specs.Prelude.{◌≡◌, ◌↔◌, ℕ, Bool, true, ◌&&◌, List, [], ◌∷◌, filter, length, Option, None, Some, ◌==◌, nat_le, if◌then◌else◌}
 use Rattle.object.specs.Lists.{In}
 use Rattle.job_store.specs.declared.job.Job.{Job}
 use Rattle.job_store.specs.declared.state.State.{State}
 use Rattle.job_store.specs.Entries.{value_at}
+use Rattle.job_store.specs.States.{is_held, due_of}
 use Rattle.session_store.specs.declared.session.SessionState.{SessionState}
 use Rattle.session_store.specs.Sessions.{is_waiting, session_of}
 use Rattle.bean_queue.specs.Queue.{holds_by}
@@ -38,3 +39,20 @@ waiting_holder sessions _ = []
 abbrev pub AreHolders : List ℕ → ℕ → List (ℕ × Job) → List (ℕ × SessionState) → Type 0
 AreHolders numbers second jobs sessions =
     (x : ℕ) → In x numbers ↔ ((waits_at sessions x && holds_by x second jobs) ≡ true)
+
+-- some session waits and has a job due by this second
+abbrev pub IsSomeHolder : ℕ → List (ℕ × Job) → List (ℕ × SessionState) → Type 0
+IsSomeHolder second jobs sessions = (x : ℕ) × ((waits_at sessions x && holds_by x second jobs) ≡ true)
+
+-- how often session x stands among these
+abbrev pub times_noted : ℕ → List ℕ → ℕ
+times_noted x numbers = length (filter (λ n. x == n) numbers)
+
+-- whether session x has the job, and it is due by this second
+abbrev pub has_due : ℕ → ℕ → ℕ × Job → Bool
+has_due x second e = is_held x e.1.state && nat_le (due_of e.1.state) second
+
+-- each session that waits stands among these as often as it has a job due by this second
+abbrev pub StandAsOften : List ℕ → ℕ → List (ℕ × Job) → List (ℕ × SessionState) → Type 0
+StandAsOften numbers second jobs sessions =
+    (x : ℕ) → waits_at sessions x ≡ true → times_noted x numbers ≡ length (filter (has_due x second) jobs)

@@ -1,8 +1,9 @@
-ghost use Rattle.std.specs.Prelude.{◌≡◌, ◌^◌, ◌++◌, ◌&&◌, IfOk, OnOk, option_map};
+ghost use Rattle.std.specs.Prelude.{◌≡◌, ◌^◌, ◌++◌, ◌&&◌, ℕ, IfOk, OnOk, OnErr, option_map};
+ghost use Rattle.object.specs.Lists.{In};
 ghost use Rattle.job_store.specs.Entries.{Rising};
 ghost use Rattle.session_store.specs.Sessions.{first_waiting, is_waiting};
 ghost use Rattle.bean_queue.specs.Queue.{holds_by};
-ghost use Rattle.bean_queue.specs.Holders.{holder_by, waits_at, waiting_holder, AreHolders, HasHolders};
+ghost use Rattle.bean_queue.specs.Holders.{holder_by, waits_at, waiting_holder, AreHolders, HasHolders, IsSomeHolder, StandAsOften};
 
 use job_store::{JobMap, State};
 use session_store::{SessionState, first};
@@ -60,8 +61,9 @@ fn note_holder(
     sessions: &BTreeMap<u32, SessionState>,
     state: State,
 ) -> Result<(), AllocError>
-    ensures { OnOk result (numbers.new.items
+    ensures ok { OnOk result (numbers.new.items
         ≡ numbers.old.items ++ waiting_holder sessions.now.entries state) }
+    ensures err { OnErr result ((x : ℕ) × In x (waiting_holder sessions.now.entries state)) }
 {
     let State::Reserved { session, .. } = state else {
         return Ok(());
@@ -81,8 +83,11 @@ pub fn holders_by<M: JobMap>(
     sessions: &BTreeMap<u32, SessionState>,
     second: u64,
 ) -> Result<Vec<u32>, AllocError>
-    ensures { IfOk result
+    ensures ok { IfOk result
         (λ numbers. AreHolders numbers.items second (M.entries jobs.now) sessions.now.entries) }
+    ensures often { IfOk result (λ numbers.
+        StandAsOften numbers.items second (M.entries jobs.now) sessions.now.entries) }
+    ensures err { OnErr result (IsSomeHolder second (M.entries jobs.now) sessions.now.entries) }
 {
     // Gives the proof that the ids rise.
     let _ = jobs.by_id();

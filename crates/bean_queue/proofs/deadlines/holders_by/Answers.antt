@@ -1,7 +1,7 @@
-use Rattle.std.proofs.Common.{◌≡◌, ℕ, ◌<◌, ◌^◌, Option, Some, option_map, Bor, sym, ap, subst}
+use Rattle.std.proofs.Common.{◌≡◌, ℕ, ◌<◌, ◌^◌, Option, Some, Result, Ok, Err, OnErr, option_map, Bor, sym, ap, subst}
 use Rattle.job_store.specs.declared.job.Job.{Job}
 use Rattle.job_store.specs.LookUps.{first_due_after}
-use Rattle.bean_queue.proofs.Holders.{AreNoted, IsNoted, far, noted-first, noted-next, noted-all, noted-by, nearer}
+use Rattle.bean_queue.proofs.Holders.{AreNoted, IsNoted, far, noted-first, noted-next, noted-all, noted-by, noted-often, nearer, some-holder}
 use Rattle.bean_queue.specs.Holders.{waits_at}
 use Rattle.bean_queue.proofs.deadlines.holders_by.Goals as goal
 
@@ -30,10 +30,27 @@ jobs-preserved g c =
     let n : ℕ × Job = (c.in-Some.id, c.in-Some.job.now) in
     let were : AreNoted (waits_at c.args.sessions.now.entries) (Some n) c.jobs.numbers.items c.args.second jobs = subst (λ o. AreNoted (waits_at c.args.sessions.now.entries) (seen o) c.jobs.numbers.items c.args.second jobs) c.in-Some.is c.jobs.invariant in
     let more : IsNoted (waits_at c.args.sessions.now.entries) c.in-Some.job.now.state c.jobs.numbers.items c.note_holder.new.numbers.items =
-    noted-by c.args.sessions.now.entries c.in-Some.job.now.state c.jobs.numbers.items c.note_holder.new.numbers.items c.in_ok-note_holder.ensures in
+    noted-by c.args.sessions.now.entries c.in-Some.job.now.state c.jobs.numbers.items c.note_holder.new.numbers.items c.in_ok-note_holder.ensures.ok in
     noted-next (waits_at c.args.sessions.now.entries) n (seen c.due_after-next.result) c.jobs.numbers.items c.note_holder.new.numbers.items c.args.second (2 ^ 64) jobs c.by_id.ensures.rising were more (subst (λ due. seen c.due_after-next.result ≡ first_due_after c.args.second (due, c.in-Some.id) jobs) c.due.ensures c.due_after-next.ensures.job)
 
-pub returns : goal.returns
+pub returns-clause-ok : goal.returns-clause-ok
 unfolding seen
-returns g c =
+returns-clause-ok g c =
     noted-all (seen c.jobs.next) c.jobs.numbers.items c.args.second (g.M.JobMap.entries c.args.jobs.now) c.args.sessions.now.entries (ap seen c.in_default.is) c.jobs.invariant
+
+if_err : {T E P : Type 0} (r : Result T E) → P → OnErr r P
+if_err (Ok v) h = tt
+if_err (Err e) h = h
+
+pub returns-in_err-note_holder-clause-err : goal.returns-in_err-note_holder-clause-err
+unfolding seen
+returns-in_err-note_holder-clause-err g c =
+    let jobs = g.M.JobMap.entries c.args.jobs.now in
+    let n : ℕ × Job = (c.in-Some.id, c.in-Some.job.now) in
+    let were : AreNoted (waits_at c.args.sessions.now.entries) (Some n) c.jobs.numbers.items c.args.second jobs = subst (λ o. AreNoted (waits_at c.args.sessions.now.entries) (seen o) c.jobs.numbers.items c.args.second jobs) c.in-Some.is c.jobs.invariant in
+    if_err c.from_residual.result (some-holder c.args.second n jobs c.args.sessions.now.entries were.due c.in_err-note_holder.ensures.err)
+
+pub returns-clause-often : goal.returns-clause-often
+unfolding seen
+returns-clause-often g c =
+    noted-often (seen c.jobs.next) c.jobs.numbers.items c.args.second (g.M.JobMap.entries c.args.jobs.now) c.args.sessions.now.entries (ap seen c.in_default.is) c.jobs.invariant

@@ -18,7 +18,7 @@ turns-init g c =
           (subst (λ jobs. HasHolders holders (s.now + 1) jobs s.sessions) c.map.ensures.jobs
           (subst (HasHolders holders (s.now + 1) (g.M.JobMap.entries c.map.result.now)) c.map-2.ensures.sessions
           (has-holders holders (s.now + 1) (2 ^ 32) (g.M.JobMap.entries c.map.result.now) c.map-2.result.now.entries
-          (subst (Rising 0 (2 ^ 32)) (sym c.map-2.ensures.sessions) c.map-2.ensures.rising) c.in_ok-holders.ensures)));
+          (subst (Rising 0 (2 ^ 32)) (sym c.map-2.ensures.sessions) c.map-2.ensures.rising) c.in_ok-holders.ensures.ok)));
       state = refl;
       answers = refl;
       before = refl;
