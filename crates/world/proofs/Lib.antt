@@ -23,6 +23,7 @@ pub mod Told
 pub mod Noted
 pub mod Placed
 pub mod Placing
+pub mod Standing
 pub mod OneOrder
 pub mod SoFar
 pub mod Watching
@@ -75,3 +76,5 @@ pub mod Turning
 pub mod WaysBack
 pub mod Working
 pub mod LetterTests
+pub mod Finding
+pub mod Lengthening

@@ -1,5 +1,5 @@
 -- Whether a key is kept is told by the first command of its session whose number isn't lower.
-use Rattle.std.proofs.Common.{◌≡◌, ◌⊎◌, inl, inr, ⊎_elim, ℕ, ◌+◌, ◌<◌, ◌≤◌, ◌==◌, Bool, true, false, true≢false, not, ◌&&◌, ◌||◌, nat_lt, cond, List, [], ◌∷◌, drop, map, length, refl, sym, ap, ◌∙◌, subst, arith}
+use Rattle.std.proofs.Common.{◌≡◌, ◌⊎◌, inl, inr, ⊎_elim, ℕ, ◌+◌, ◌<◌, ◌≤◌, ◌==◌, Bool, true, false, true≢false, not, ◌&&◌, ◌||◌, nat_lt, cond, List, [], ◌∷◌, ◌++◌, drop, map, length, Option, None, Some, refl, sym, ap, ◌∙◌, subst, arith}
 use Rattle.std.specs.Prelude.{◌↔◌, nat_le, slice_index_or}
 use Rattle.std.proofs.lemmas.Bool.{and_parts, and_from, cases_Bool}
 use Rattle.std.proofs.lemmas.Bool.Decides.{nat_tests}
@@ -10,7 +10,7 @@ use Rattle.object.specs.declared.command.Command.{Command}
 use Rattle.object.specs.declared.command.Key.{Key}
 use Rattle.world.specs.Worlds.{World}
 use Rattle.object.specs.Keys.{same_key}
-use Rattle.world.specs.Reached.{HasKey, IsPlaced}
+use Rattle.world.specs.Reached.{HasKey, IsPlaced, first_as_late}
 use Rattle.world.specs.Kept.{HasNoted}
 use Rattle.ballot.specs.OrderLaws.{BallotLaws}
 use Rattle.world.proofs.Invariants.{IsSound}
@@ -102,24 +102,66 @@ module _ {Op : Type 0} (key : Key) where
       (cases_Bool (is_as_late c.key key)))
       (first_or_later c (is_new c seen) (kept_after (c ∷ seen) cs) h)
 
-module _ (key : Key) (ks : List Key) (i : ℕ) where
-  -- one that settles nothing
-  pub sought_next : (d : Key) → i < length ks → is_as_late (slice_index_or ks i d) key ≡ false → finds key ks ≡ finds key (drop i ks) → finds key ks ≡ finds key (drop (i + 1) ks)
-  sought_next d low off sought =
-      sought ∙ ap (finds key) (drop_more ks i d low) ∙ ap (λ b. cond b (same_key (slice_index_or ks i d) key) (finds key (drop (i + 1) ks))) off
+-- what the first of these keys that is as late tells
+abbrev pub told : Key → Option Key → Bool
+told key None = false
+told key (Some own) = same_key own key
 
-  -- one that settles it
-  pub sought_here : (d : Key) → i < length ks → is_as_late (slice_index_or ks i d) key ≡ true → finds key ks ≡ finds key (drop i ks) → finds key ks ≡ same_key (slice_index_or ks i d) key
-  sought_here d low on sought =
-      sought ∙ ap (finds key) (drop_more ks i d low) ∙ ap (λ b. cond b (same_key (slice_index_or ks i d) key) (finds key (drop (i + 1) ks))) on
+-- it is the first one that tells
+pub finds_first : (key : Key) (ks : List Key) → finds key ks ≡ told key (first_as_late key ks)
+finds_first key [] = refl
+finds_first key (own ∷ rest) = step (is_as_late own key) (finds_first key rest)
+  where
+    step : (late : Bool) → finds key rest ≡ told key (first_as_late key rest) → cond late (same_key own key) (finds key rest) ≡ told key (cond late (Some own) (first_as_late key rest))
+    step true h = refl
+    step false h = h
 
-  -- none does
-  pub sought_all : length ks ≤ i → finds key ks ≡ finds key (drop i ks) → finds key ks ≡ false
-  sought_all high sought = sought ∙ ap (finds key) (drop_all i ks high)
+-- the first of two lists of keys, one behind the other: one of the first list, or else of the second
+before_step : (late : Bool) (key k own : Key) (ks ls : List Key) → (first_as_late key ks ≡ Some own → first_as_late key (ks ++ ls) ≡ Some own) → cond late (Some k) (first_as_late key ks) ≡ Some own → cond late (Some k) (first_as_late key (ks ++ ls)) ≡ Some own
+before_step true key k own ks ls rest h = h
+before_step false key k own ks ls rest h = rest h
+
+pub late_before : (key own : Key) (ks ls : List Key) → first_as_late key ks ≡ Some own → first_as_late key (ks ++ ls) ≡ Some own
+late_before key own [] ls h = absurd (cc)
+late_before key own (k ∷ ks) ls h = before_step (is_as_late k key) key k own ks ls (late_before key own ks ls) h
+
+behind_step : (late : Bool) (key k : Key) (ks ls : List Key) → (first_as_late key ks ≡ None → first_as_late key (ks ++ ls) ≡ first_as_late key ls) → cond late (Some k) (first_as_late key ks) ≡ None → cond late (Some k) (first_as_late key (ks ++ ls)) ≡ first_as_late key ls
+behind_step true key k ks ls rest h = absurd (cc)
+behind_step false key k ks ls rest h = rest h
+
+pub late_behind : (key : Key) (ks ls : List Key) → first_as_late key ks ≡ None → first_as_late key (ks ++ ls) ≡ first_as_late key ls
+late_behind key [] ls h = refl
+late_behind key (k ∷ ks) ls h = behind_step (is_as_late k key) key k ks ls (late_behind key ks ls) h
+
+module _ {X : Type 0} (key_of : X → Key) (key : Key) (xs : List X) (i : ℕ) where
+  more : (d : X) → i < length xs → map key_of (drop i xs) ≡ key_of (slice_index_or xs i d) ∷ map key_of (drop (i + 1) xs)
+  more d low = ap (map key_of) (drop_more xs i d low)
+
+  -- one that isn't as late
+  pub late_next : (d : X) → i < length xs → is_as_late (key_of (slice_index_or xs i d)) key ≡ false → first_as_late key (map key_of xs) ≡ first_as_late key (map key_of (drop i xs)) → first_as_late key (map key_of xs) ≡ first_as_late key (map key_of (drop (i + 1) xs))
+  late_next d low off sought =
+      sought ∙ ap (first_as_late key) (more d low) ∙ ap (λ b. cond b (Some (key_of (slice_index_or xs i d))) (first_as_late key (map key_of (drop (i + 1) xs)))) off
+
+  -- one that is
+  pub late_here : (d : X) → i < length xs → is_as_late (key_of (slice_index_or xs i d)) key ≡ true → first_as_late key (map key_of xs) ≡ first_as_late key (map key_of (drop i xs)) → first_as_late key (map key_of xs) ≡ Some (key_of (slice_index_or xs i d))
+  late_here d low on sought =
+      sought ∙ ap (first_as_late key) (more d low) ∙ ap (λ b. cond b (Some (key_of (slice_index_or xs i d))) (first_as_late key (map key_of (drop (i + 1) xs)))) on
+
+  -- none is
+  pub late_nowhere : length xs ≤ i → first_as_late key (map key_of xs) ≡ first_as_late key (map key_of (drop i xs)) → first_as_late key (map key_of xs) ≡ None
+  late_nowhere high sought = sought ∙ ap (λ ys. first_as_late key (map key_of ys)) (drop_all i xs high)
+
+-- keys are their own keys
+own_keys : (ks : List Key) → map (λ (k : Key). k) ks ≡ ks
+own_keys [] = refl
+own_keys (k ∷ ks) = ap (λ xs. k ∷ xs) (own_keys ks)
+
+pub performed_late : (key : Key) (ks own : List Key) → ks ≡ own → (found : Option Key) → found ≡ first_as_late key (map (λ (k : Key). k) ks) → found ≡ first_as_late key own
+performed_late key ks own same found e = e ∙ ap (first_as_late key) (own_keys ks ∙ same)
 
 -- what the noted keys tell is what the world tells
-pub placed_when : (laws : BallotLaws) {Op Reply : Type 0} (w : World Op Reply) → IsSound w.cluster → (key : Key) (keys : List Key) → HasNoted w keys → (result : Bool) → finds key keys ≡ result → (result ≡ true) ↔ IsPlaced w key
-placed_when laws w i key keys noted result told = (
-  λ e. (noted.0, noted.1, found_kept key [] noted.0 (λ d i. absurd i) (ap (finds key) (sym noted.2) ∙ told ∙ e)),
-  λ h. sym told ∙ ap (finds key) (noted.2 ∙ ap keys_of (same_run laws w.cluster i 1 noted.0 h.0 noted.1.chosen h.1.chosen (noted.1.count ∙ sym h.1.count))) ∙ kept_found key [] h.0 h.2,
+pub placed_when : (laws : BallotLaws) {Op Reply : Type 0} (w : World Op Reply) → IsSound w.cluster → (key : Key) (keys : List Key) → HasNoted w keys → (result : Bool) → result ≡ told key (first_as_late key keys) → (result ≡ true) ↔ IsPlaced w key
+placed_when laws w i key keys noted result same = (
+  λ e. (noted.0, noted.1, found_kept key [] noted.0 (λ d i. absurd i) (ap (finds key) (sym noted.2) ∙ finds_first key keys ∙ sym same ∙ e)),
+  λ h. same ∙ sym (finds_first key keys) ∙ ap (finds key) (noted.2 ∙ ap keys_of (same_run laws w.cluster i 1 noted.0 h.0 noted.1.chosen h.1.chosen (noted.1.count ∙ sym h.1.count))) ∙ kept_found key [] h.0 h.2,
 )

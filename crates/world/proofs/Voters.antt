@@ -114,10 +114,10 @@ module _ {Op : Type 0} (cs : List (Command Op)) (i : ℕ) (c : Command Op) (low 
   kept_same order before old = before ∙ sym (kept-push_old (take i cs) c old) ∙ ap kept (sym (take_next cs i c low at))
 
 module _ {C : Type 0} (k : Cluster C) (cs now : List C) (c d : C) (copied : d ≡ c) (pushed : now ≡ cs ++ (d ∷ [])) where
-  pub run_next : (s : ℕ) → length cs + 1 ≡ s → IsRun k 1 cs → IsChosen k s c → IsRun k 1 now
-  run_next s count run chosen =
-      subst (IsRun k 1) (sym pushed)
-      (run_push k 1 cs d run (subst (λ t. IsChosen k t d) (omega arith) (subst (IsChosen k s) (sym copied) chosen)))
+  pub run_next : (first s : ℕ) → first + length cs ≡ s → IsRun k first cs → IsChosen k s c → IsRun k first now
+  run_next first s count run chosen =
+      subst (IsRun k first) (sym pushed)
+      (run_push k first cs d run (subst (λ t. IsChosen k t d) (omega arith) (subst (IsChosen k s) (sym copied) chosen)))
 
-  pub count_next : (s : ℕ) → length cs + 1 ≡ s → length now + 1 ≡ s + 1
-  count_next s count = let e = ap length pushed in let f = length-append cs (d ∷ []) in omega arith
+  pub count_next : (first s : ℕ) → first + length cs ≡ s → first + length now ≡ s + 1
+  count_next first s count = let e = ap length pushed in let f = length-append cs (d ∷ []) in omega arith

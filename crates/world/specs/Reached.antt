@@ -1,5 +1,5 @@
 -- The commands of the slots that were performed.
-use Rattle.std.specs.Prelude.{◌≡◌, ℕ, ◌+◌, ⊤, List, [], ◌∷◌, map, length}
+use Rattle.std.specs.Prelude.{◌≡◌, ℕ, ◌+◌, ◌==◌, ◌&&◌, ⊤, nat_le, if◌then◌else◌, List, [], ◌∷◌, map, length, Option, None, Some}
 use Rattle.object.specs.Lists.{In}
 use Rattle.object.specs.Replays.{kept}
 use Rattle.object.specs.declared.command.Command.{Command}
@@ -25,6 +25,11 @@ HasKey {Op} key cs = (c : Command Op) × In c cs × (c.key ≡ key)
 -- the key stands among those of them that are kept
 abbrev pub IsPlaced : {Op Reply : Type 0} → World Op Reply → Key → Type 0
 IsPlaced {Op} w key = (cs : List (Command Op)) × IsReached w cs × HasKey key (kept cs)
+
+-- the first of these keys that is of the key's session and has no lower number
+abbrev pub first_as_late : Key → List Key → Option Key
+first_as_late key [] = None
+first_as_late key (own ∷ rest) = if own.session == key.session && nat_le key.number own.number then Some own else first_as_late key rest
 
 -- these are the keys of the commands that took effect in the slots from 1 to the reach: of those chosen there, the kept ones
 abbrev pub HasPlaced : {Op Reply : Type 0} → World Op Reply → List Key → Type 0

@@ -1,10 +1,11 @@
 -- The words of a way out of a world. Node 1 leads it, as it is always a member.
-use Rattle.std.specs.Prelude.{◌≡◌, ℕ, ◌+◌, ◌*◌, ◌^◌, ◌<◌, ◌≤◌, ◌==◌, ◌&&◌, Bool, true, false, if◌then◌else◌, List, ◌∷◌, ◌++◌, length, filter, slice_get, None, Some}
+use Rattle.std.specs.Prelude.{◌≡◌, ℕ, ◌+◌, ◌*◌, ◌^◌, ◌<◌, ◌≤◌, ◌==◌, ◌&&◌, Bool, true, false, if◌then◌else◌, List, ◌∷◌, ◌++◌, length, filter, slice_get, Option, None, Some, IsSome}
 use Rattle.std.specs.List.{list_all}
-use Rattle.std.specs.FinMap.{empty, get, contains_key, len}
+use Rattle.std.specs.FinMap.{empty, get, contains_key, insert, len}
 use Rattle.object.specs.Objects.{Rules}
 use Rattle.ballot.specs.Letters.{letter}
 use Rattle.ballot.specs.Members.{is_member}
+use Rattle.ballot.specs.Slots.{Slots}
 use Rattle.ballot.specs.declared.letter.Letter.{Letter}
 use Rattle.ballot.specs.declared.letter.LetterBody.{LetterBody}
 use Rattle.ballot.specs.declared.letter.LetterBody.TheVariants.{P1a, P1b, P2a, P2b, Propose, Decision, Ask}
@@ -205,3 +206,13 @@ decides_to slot to (Ask s) = false
 
 abbrev pub is_decision : {C : Type 0} → ℕ → Letter C → Bool
 is_decision slot l = decides_to slot l.to l.body
+
+-- These places are of such letters, and each slot that one of the first `read` letters is for has one.
+pub record ArePlacesOf {C : Type 0} (is : List (Letter C) → ℕ → ℕ → Type 0) (letters : List (Letter C)) (read : ℕ) (places : Slots ℕ) : Type 0 where
+  pub sound : (s j : ℕ) → get places s ≡ Some j → is letters j s
+  pub whole : (j s : ℕ) → j < read → is letters j s → IsSome (get places s)
+
+-- the places with this one for the slot, if there is one
+abbrev pub noted_place : Slots ℕ → Option ℕ → ℕ → Slots ℕ
+noted_place places None place = places
+noted_place places (Some slot) place = insert places slot place

@@ -4,6 +4,7 @@
 mod error;
 mod event;
 mod laws;
+mod letter_places;
 mod letters;
 mod order;
 mod rescuing;

@@ -1,15 +1,16 @@
-ghost use Rattle.std.specs.Prelude.{◌≡◌, ◌↔◌, ◌≤◌, ◌^◌, ◌==◌, ◌&&◌, ◌||◌, ℕ, length, slice_index_or, true, false, not, nat_lt, nat_le, IfSome, IfNone, IfOk};
+ghost use Rattle.std.specs.Prelude.{◌≡◌, ◌↔◌, ◌+◌, ◌≤◌, ◌^◌, ◌==◌, ◌&&◌, ◌||◌, ℕ, map, length, slice_index_or, true, false, not, nat_lt, nat_le, IfSome, IfNone, IfOk};
 ghost use Rattle.object.specs.declared.command.Command.{Command};
 ghost use Rattle.object.specs.Replays.{is_new, kept};
 ghost use Rattle.ballot.specs.declared.pvalue.Pvalue.{Pvalue};
 ghost use Rattle.world.specs.Nodes.{node};
 ghost use Rattle.world.specs.Chosen.{IsChosen, IsChosenFrom, IsOrder};
-ghost use Rattle.world.specs.Reached.{IsPlaced};
+ghost use Rattle.world.specs.Reached.{IsPlaced, first_as_late};
+ghost use Rattle.world.specs.Rescues.{IsInOrder};
 ghost use Rattle.world.specs.Voters.{row, is_voted, HasVoted, HasNoneVoted};
 
 use crate::world::World;
 use ballot::{Ballot, MemberSet, Pvalue, Slot, ballot_laws};
-use object::{Command, Key, Object, Value};
+use object::{Command, Key, Keyed, Object, Value};
 use std::alloc::{AllocError, Global};
 
 impl<O: Object> World<O> {
@@ -80,7 +81,7 @@ impl<O: Object> World<O> {
     pub fn order(&self) -> Result<Vec<Command<O::Op>>, AllocError>
         ensures { IfOk result (λ order. IsOrder self.now.cluster order.items) }
     {
-        let chosen = self.all_chosen()?;
+        let chosen = self.chosen_from(1)?;
         let order = kept(self.alloc, chosen.as_slice())?;
         Ok(order)
     }
@@ -91,21 +92,37 @@ impl<O: Object> World<O> {
         ensures { (result ≡ true) ↔ IsPlaced self.now key }
     {
         ballot_laws();
-        for own in &self.performed {
-            if is_as_late(*own, key) {
-                return *own == key;
-            }
+        match first_as_late(&self.performed, key) {
+            Some(own) => own == key,
+            None => false,
         }
-        false
     }
 
-    // The commands that are chosen in the slots 1, 2, .. up to the first slot with none chosen.
-    fn all_chosen(&self) -> Result<Vec<Command<O::Op>>, AllocError>
-        ensures { IfOk result (λ chosen. IsChosenFrom self.now.cluster 1 chosen.items) }
+    /// Whether the key stands in the order: it is looked for among what was performed, and then in the slots after the
+    /// reach. It fails for want of memory alone.
+    pub(crate) fn has_in_order(&self, key: Key) -> Result<bool, AllocError>
+        ensures { IfOk result (λ found. (found ≡ true) ↔ IsInOrder self.now.cluster key) }
+    {
+        ballot_laws();
+        self.stands();
+        if let Some(own) = first_as_late(&self.performed, key) {
+            return Ok(own == key);
+        }
+        let ahead = self.chosen_from(self.reach + 1)?;
+        match first_as_late(&ahead, key) {
+            Some(own) => Ok(own == key),
+            None => Ok(false),
+        }
+    }
+
+    // The commands that are chosen in this slot and those after it, up to the first slot with none chosen.
+    fn chosen_from(&self, first: u64) -> Result<Vec<Command<O::Op>>, AllocError>
+        requires { first ≤ 2 ^ 62 + 1 }
+        ensures { IfOk result (λ chosen. IsChosenFrom self.now.cluster first chosen.items) }
     {
         let mut chosen = Vec::new(self.alloc);
         // no slot is greater than 2^62, so one of these has none chosen
-        for slot in 1..u64::MAX {
+        for slot in first..u64::MAX {
             match self.chosen(slot) {
                 Some(command) => chosen.push(command.copy()?)?,
                 None => return Ok(chosen),
@@ -155,6 +172,19 @@ fn is_passed<Op: Value>(other: &Command<Op>, command: &Command<Op>) -> bool
 {
     let (other, own) = (other.key(), command.key());
     other.session != own.session || other.number < own.number
+}
+
+// The first of the keys of these that is of the key's session and has no lower number.
+fn first_as_late<T: Keyed>(items: &[T], key: Key) -> Option<Key>
+    ensures { result ≡ first_as_late key (map T.key_of items.now) }
+{
+    for item in items {
+        let own = item.key();
+        if is_as_late(own, key) {
+            return Some(own);
+        }
+    }
+    None
 }
 
 // Whether it is of the key's session, and has no lower number.

@@ -1,6 +1,5 @@
 ghost use Rattle.std.specs.Prelude.{◌≡◌, ◌↔◌, ◌<◌, ◌^◌, ◌⊎◌, ◌&&◌, ◌==◌, nat_lt, true, false, [], None, Ok, IfOk, IfErr, IfSome, IfNone, OnErr};
 ghost use Rattle.std.specs.List.{list_any};
-ghost use Rattle.object.specs.Keys.{same_key};
 ghost use Rattle.object.specs.Happenings.{is_submitted};
 ghost use Rattle.object.specs.Legal.{WasSubmitted};
 ghost use Rattle.world.specs.declared.error.WorldError.TheVariants.{OutOfMemory, Full};
@@ -12,7 +11,6 @@ use crate::way::Way;
 use crate::world::World;
 use ballot::ballot_laws;
 use object::{Command, Key, Object, Submission, Value};
-use std::alloc::AllocError;
 
 /// Of a world that has taken more events than these no way out is sought.
 const MOST_TAKEN: u64 = 1 << 32;
@@ -62,22 +60,6 @@ impl<O: Object> World<O> {
         way.trial.stands();
         Ok(Some(way.events))
     }
-
-    // Whether the key stands in the order.
-    fn has_in_order(&self, key: Key) -> Result<bool, AllocError>
-        ensures { IfOk result (λ found. (found ≡ true) ↔ IsInOrder self.now.cluster key) }
-    {
-        self.agrees();
-        let order = self.order()?;
-        Ok(has_key(order.as_slice(), key))
-    }
-}
-
-// Whether one of these commands has the key.
-fn has_key<Op: Value>(commands: &[Command<Op>], key: Key) -> bool
-    ensures { result ≡ list_any (λ c. same_key c.key key) commands.now }
-{
-    commands.iter().any(|command| command.key() == key)
 }
 
 // The command of this key, where it was submitted and no greater number of its session was.

@@ -33,7 +33,7 @@ pub struct World<O: Object> {
     answers: Vec<Answer<O::Reply>>,
     // the keys of the commands of slots 1 to the reach
     pub(crate) performed: Vec<Key>,
-    reach: u64,
+    pub(crate) reach: u64,
     taken: u64,
 }
 

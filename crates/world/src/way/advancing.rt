@@ -4,18 +4,25 @@ ghost use Rattle.world.specs.declared.error.WorldError.TheVariants.{OutOfMemory}
 ghost use Rattle.world.specs.Refusals.{most_events};
 ghost use Rattle.world.specs.Rescues.{keeps_nodes};
 ghost use Rattle.world.specs.Telling.{IsProposedAt};
-ghost use Rattle.world.specs.WaysOut.{first_leader, first_book, IsSettled, IsSmall, IsReady, HasLearnt, HasDecided, HasAdvanced, MentionsAsMuch, Goes, work, most_slots};
+ghost use Rattle.world.specs.WaysOut.{first_leader, first_book, IsSettled, IsSmall, IsReady, HasLearnt, HasDecided, HasAdvanced, MentionsAsMuch, ArePlacesOf, Proposes, Decides, Goes, work, most_slots};
 ghost use Rattle.object.specs.Objects.{is_one};
 
 use crate::error::WorldError;
 use crate::event::Event;
+use crate::letter_places::LetterPlaces;
 use crate::way::Way;
 use ballot::{Slot, ballot_laws};
 use object::Object;
 
 impl<O: Object> Way<O> {
     // Has replica 1 perform one slot more.
-    pub(crate) fn advance(&mut self) -> Result<(), WorldError>
+    pub(crate) fn advance(&mut self, places: &LetterPlaces) -> Result<(), WorldError>
+        requires known { places.now.read ≤ length self.old.trial.cluster.letters }
+        requires proposals { ArePlacesOf Proposes self.old.trial.cluster.letters places.now.read
+            places.now.proposals }
+        requires decisions { ArePlacesOf Decides self.old.trial.cluster.letters places.now.read
+            places.now.decisions }
+        requires read { length self.old.trial.cluster.letters ≤ places.now.read }
         requires settled { IsSettled self.old.trial.cluster }
         requires small { IsSmall self.old.trial.cluster }
         requires low { (first_book self.old.trial.cluster).slot_out ≤ most_slots }
@@ -38,13 +45,19 @@ impl<O: Object> Way<O> {
         ballot_laws();
         self.trial.stands();
         let slot = self.trial.slot_out();
-        self.learn(slot)?;
+        self.learn(places, slot)?;
         self.trial.stands();
         self.take(Event::Perform(1))
     }
 
     // Has replica 1 know what is decided in the slot that it performs next.
-    fn learn(&mut self, slot: Slot) -> Result<(), WorldError>
+    fn learn(&mut self, places: &LetterPlaces, slot: Slot) -> Result<(), WorldError>
+        requires known { places.now.read ≤ length self.old.trial.cluster.letters }
+        requires proposals { ArePlacesOf Proposes self.old.trial.cluster.letters places.now.read
+            places.now.proposals }
+        requires decisions { ArePlacesOf Decides self.old.trial.cluster.letters places.now.read
+            places.now.decisions }
+        requires read { length self.old.trial.cluster.letters ≤ places.now.read }
         requires settled { IsSettled self.old.trial.cluster }
         requires small { IsSmall self.old.trial.cluster }
         requires next { slot ≡ (first_book self.old.trial.cluster).slot_out }
@@ -68,11 +81,17 @@ impl<O: Object> Way<O> {
         if self.trial.knows(slot) {
             return Ok(());
         }
-        self.decide(slot)
+        self.decide(places, slot)
     }
 
     // Has that slot decided, and replica 1 told of it.
-    fn decide(&mut self, slot: Slot) -> Result<(), WorldError>
+    fn decide(&mut self, places: &LetterPlaces, slot: Slot) -> Result<(), WorldError>
+        requires proposals { ArePlacesOf Proposes self.old.trial.cluster.letters places.now.read
+            places.now.proposals }
+        requires decisions { ArePlacesOf Decides self.old.trial.cluster.letters places.now.read
+            places.now.decisions }
+        requires known { places.now.read ≤ length self.old.trial.cluster.letters }
+        requires read { length self.old.trial.cluster.letters ≤ places.now.read }
         requires settled { IsSettled self.old.trial.cluster }
         requires small { IsSmall self.old.trial.cluster }
         requires next { slot ≡ (first_book self.old.trial.cluster).slot_out }
@@ -95,16 +114,19 @@ impl<O: Object> Way<O> {
         ensures memory { IfErr result (λ r. r ≡ OutOfMemory) }
     {
         ballot_laws();
-        self.lead(slot)?;
+        self.lead(places, slot)?;
         self.trial.stands();
-        match self.trial.decision_for(slot) {
+        match places.decision_for(self.trial.letters(), slot) {
             Some(place) => self.take(Event::Deliver(place)),
             None => unreachable!(),
         }
     }
 
     // Has the leader of node 1 get a proposal for that slot decided.
-    fn lead(&mut self, slot: Slot) -> Result<(), WorldError>
+    fn lead(&mut self, places: &LetterPlaces, slot: Slot) -> Result<(), WorldError>
+        requires proposals { ArePlacesOf Proposes self.old.trial.cluster.letters places.now.read
+            places.now.proposals }
+        requires read { length self.old.trial.cluster.letters ≤ places.now.read }
         requires settled { IsSettled self.old.trial.cluster }
         requires small { IsSmall self.old.trial.cluster }
         requires next { slot ≡ (first_book self.old.trial.cluster).slot_out }
@@ -133,13 +155,16 @@ impl<O: Object> Way<O> {
         if self.trial.has_proposal(slot) {
             return Ok(());
         }
-        self.propose(slot)?;
+        self.propose(places, slot)?;
         self.trial.stands();
         self.settle()
     }
 
     // Has the leader of node 1 take a proposal for the slot that replica 1 performs next.
-    fn propose(&mut self, slot: Slot) -> Result<(), WorldError>
+    fn propose(&mut self, places: &LetterPlaces, slot: Slot) -> Result<(), WorldError>
+        requires proposals { ArePlacesOf Proposes self.old.trial.cluster.letters places.now.read
+            places.now.proposals }
+        requires read { length self.old.trial.cluster.letters ≤ places.now.read }
         requires settled { IsSettled self.old.trial.cluster }
         requires next { slot ≡ (first_book self.old.trial.cluster).slot_out }
         requires unknown { get (first_book self.old.trial.cluster).decisions slot ≡ None }
@@ -163,7 +188,7 @@ impl<O: Object> Way<O> {
     {
         ballot_laws();
         self.trial.stands();
-        match self.trial.proposal_for(slot) {
+        match places.proposal_for(self.trial.letters(), slot) {
             Some(place) => self.take(Event::Deliver(place)),
             None => self.propose_first(slot),
         }

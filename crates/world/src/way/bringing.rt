@@ -1,17 +1,19 @@
-ghost use Rattle.std.specs.Prelude.{◌≡◌, ◌⊎◌, ◌<◌, ◌≤◌, ◌^◌, true, false, [], length, IfErr, OnOk};
+ghost use Rattle.std.specs.Prelude.{◌≡◌, ◌⊎◌, ◌<◌, ◌≤◌, ◌^◌, true, false, [], length, IfOk, IfErr, OnOk};
 ghost use Rattle.object.specs.Lists.{In};
 ghost use Rattle.object.specs.Legal.{WasSubmitted};
 ghost use Rattle.slot_log.specs.Histories.{history};
 ghost use Rattle.world.specs.declared.error.WorldError.TheVariants.{OutOfMemory};
 ghost use Rattle.world.specs.Rescues.{keeps_nodes};
 ghost use Rattle.world.specs.Telling.{IsProposedAt};
-ghost use Rattle.world.specs.WaysOut.{first_book, Goes};
+ghost use Rattle.world.specs.WaysOut.{first_book, ArePlacesOf, Proposes, Decides, Goes};
 
 use crate::error::WorldError;
 use crate::event::Event;
+use crate::letter_places::LetterPlaces;
 use crate::way::Way;
 use ballot::ballot_laws;
 use object::{Command, Object, Value};
+use std::alloc::AllocError;
 
 impl<O: Object> Way<O> {
     // Has replica 1 perform a command that was submitted.
@@ -32,28 +34,40 @@ impl<O: Object> Way<O> {
         self.take(Event::Submit(1, request))?;
         self.trial.stands();
         self.settle()?;
-        while self.has_more() {
+        let mut places = LetterPlaces::new(self.trial.allocator());
+        while self.has_more(&mut places)? {
             self.trial.stands();
-            self.advance()?;
+            self.advance(&places)?;
         }
         self.trial.stands();
         Ok(())
     }
 
-    // Whether something is left for replica 1 to perform, or to propose.
-    fn has_more(&self) -> bool
-        ensures more { result ≡ true
+    // Whether something is left for replica 1 to perform, or to propose. All letters are read then.
+    fn has_more(&self, places: &mut LetterPlaces) -> Result<bool, AllocError>
+        requires proposals { ArePlacesOf Proposes self.now.trial.cluster.letters places.old.read
+            places.old.proposals }
+        requires decisions { ArePlacesOf Decides self.now.trial.cluster.letters places.old.read
+            places.old.decisions }
+        ensures more { IfOk result (λ more. more ≡ true
             → IsProposedAt self.now.trial.cluster (first_book self.now.trial.cluster).slot_out
-            ⊎ (0 < length (first_book self.now.trial.cluster).requests) }
-        ensures settled { result ≡ false
-            → IsProposedAt self.now.trial.cluster (first_book self.now.trial.cluster).slot_out → ⊥ }
-        ensures none { result ≡ false → (first_book self.now.trial.cluster).requests ≡ [] }
+            ⊎ (0 < length (first_book self.now.trial.cluster).requests)) }
+        ensures settled { IfOk result (λ more. more ≡ false
+            → IsProposedAt self.now.trial.cluster (first_book self.now.trial.cluster).slot_out → ⊥) }
+        ensures none { IfOk result (λ more. more ≡ false
+            → (first_book self.now.trial.cluster).requests ≡ []) }
+        ensures read { OnOk result (places.new.read ≡ length self.now.trial.cluster.letters) }
+        ensures proposals { OnOk result (ArePlacesOf Proposes self.now.trial.cluster.letters
+            places.new.read places.new.proposals) }
+        ensures decisions { OnOk result (ArePlacesOf Decides self.now.trial.cluster.letters
+            places.new.read places.new.decisions) }
     {
         self.trial.stands();
+        places.read_on(self.trial.letters())?;
         if self.trial.has_requests() {
-            return true;
+            return Ok(true);
         }
         let slot = self.trial.slot_out();
-        self.trial.proposal_for(slot).is_some()
+        Ok(places.proposal_for(self.trial.letters(), slot).is_some())
     }
 }

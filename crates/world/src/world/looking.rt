@@ -1,13 +1,11 @@
-ghost use Rattle.std.specs.Prelude.{◌≡◌, ◌==◌, ℕ, not, length, IfSome, IfNone};
+ghost use Rattle.std.specs.Prelude.{◌≡◌, ◌==◌, not, length};
 ghost use Rattle.std.specs.FinMap.{contains_key};
 ghost use Rattle.ballot.specs.Members.{IsMembers};
 ghost use Rattle.leader.specs.Leaders.{says_again};
 ghost use Rattle.world.specs.Runs.{IsWorld};
-ghost use Rattle.world.specs.Telling.{IsProposedAt};
-ghost use Rattle.world.specs.WaysOut.{first_leader, first_book, Proposes, Decides};
+ghost use Rattle.world.specs.WaysOut.{first_leader, first_book};
 
 use super::World;
-use crate::letters::{find_decision, find_proposal};
 use ballot::{Slot, ballot_laws};
 use node::Node;
 use object::Object;
@@ -93,21 +91,5 @@ impl<O: Object> World<O> {
         ensures { result ≡ contains_key (first_book self.now.cluster).decisions slot }
     {
         self.first().slots().decision(slot).is_some()
-    }
-
-    /// A letter that proposes a command for the slot to node 1.
-    pub(crate) fn proposal_for(&self, slot: Slot) -> Option<usize>
-        ensures some { IfSome result (λ place. Proposes self.now.cluster.letters place slot) }
-        ensures none { IfNone result (IsProposedAt self.now.cluster slot → ⊥) }
-    {
-        find_proposal(self.letters(), slot)
-    }
-
-    /// A letter that tells node 1 what is decided in the slot.
-    pub(crate) fn decision_for(&self, slot: Slot) -> Option<usize>
-        ensures some { IfSome result (λ place. Decides self.now.cluster.letters place slot) }
-        ensures none { IfNone result ((place : ℕ) → Decides self.now.cluster.letters place slot → ⊥) }
-    {
-        find_decision(self.letters(), slot)
     }
 }

@@ -4,11 +4,13 @@ use Rattle.world.specs.Refusals.{refusal}
 use Rattle.world.proofs.Every.{submitted_once}
 use Rattle.world.specs.Steps.{Step}
 use Rattle.world.specs.Rescues.{keeps_nodes}
-use Rattle.world.specs.WaysOut.{is_talk, most_slots}
+use Rattle.world.specs.WaysOut.{Proposes, Decides, is_talk, most_slots}
 use Rattle.world.proofs.Allowing.{unrefused}
 use Rattle.world.proofs.Beginning.{one_exact, one_itself, work_few, own_command, submit_small, submit_count, submit_work, bringing_begins}
 use Rattle.world.proofs.Bringing.{advance_low, advance_room, advance_small, less_left, brings_on, performed_then}
+use Rattle.world.proofs.Finding.{finds_empty, proposals_further, decisions_further}
 use Rattle.world.proofs.Going.{goes_on, goes_weaker, one_goes, talk_keeps}
+use Rattle.world.proofs.Lengthening.{leads_letters}
 use Rattle.world.proofs.MentionsEvery.{mentions_weaker, reach_taken, slots_near}
 use Rattle.world.proofs.Rescued.{no_other_act}
 use Rattle.world.proofs.RoundMembers.{first_member}
@@ -36,41 +38,45 @@ settle-requires-clause-room g c =
     let bound = work_few c.args.self.now.trial.cluster c.stands.ensures.members.few (mentions_weaker (λ s d. s ≤ c.args.self.now.trial.reach + 64) (λ s d. s ≤ most_slots) (λ s d h. omega arith) c.args.self.now.trial.cluster (slots_near c.ballot_laws.ensures g.O.Object.rules c.args.self.now.trial c.stands.ensures.world)) in
     omega arith
 
-pub loop-self-init : goal.loop-self-init
-loop-self-init g c =
+pub loop-places-init : goal.loop-places-init
+loop-places-init g c =
     let few = c.requires.few in record {
       bringing = bringing_begins c.ballot_laws.ensures g.O.Object.rules c.args.self.now.trial c.take.new.self.trial c.stands.ensures.world (first_member c.args.self.now.trial.cluster.members c.stands.ensures.members) c.args.command.now c.requires.was (subst (λ command. Step g.O.Object.rules c.args.self.now.trial (events.Submit 1 command) c.take.new.self.trial) c.in_ok-request.ensures c.in_ok-take.ensures.step) c.settle.new.self.trial (one_exact g.O.Object.rules g.O.Op.PartialEq.eq g.met.O.Object.same g.met.O.Op.Value.exact) c.requires.few c.stands.ensures.members.few c.in_ok-settle.ensures.talk c.in_ok-settle.ensures.settled c.in_ok-settle.ensures.spent c.take.new.self.events.items c.settle.new.self.events.items c.in_ok-settle.ensures.goes (omega arith);
+      proposals = finds_empty Proposes c.settle.new.self.trial.cluster.letters c.new-places.result.read c.new-places.result.proposals c.new-places.ensures.read c.new-places.ensures.proposals;
+      decisions = finds_empty Decides c.settle.new.self.trial.cluster.letters c.new-places.result.read c.new-places.result.decisions c.new-places.ensures.read c.new-places.ensures.decisions;
       goes = goes_on g.O.Object.rules keeps_nodes c.args.self.now.trial c.take.new.self.trial c.settle.new.self.trial c.args.self.now.events.items c.take.new.self.events.items c.settle.new.self.events.items
           (one_goes g.O.Object.rules keeps_nodes c.args.self.now.trial c.take.new.self.trial _ c.args.self.now.events.items c.take.new.self.events.items c.in_ok-take.ensures.step c.in_ok-take.ensures.noted refl)
           (goes_weaker g.O.Object.rules is_talk keeps_nodes talk_keeps c.take.new.self.trial c.settle.new.self.trial c.take.new.self.events.items c.settle.new.self.events.items c.in_ok-settle.ensures.goes);
     }
 
 pub advance-requires-clause-settled : goal.advance-requires-clause-settled
-advance-requires-clause-settled g c = c.loop-self.invariant.bringing.settled
+advance-requires-clause-settled g c = c.loop-places.invariant.bringing.settled
 
 pub advance-requires-clause-small : goal.advance-requires-clause-small
-advance-requires-clause-small g c = advance_small c.ballot_laws.ensures g.O.Object.rules c.args.self.now.trial c.loop-self.self.trial c.stands-in-loop-self.ensures.world (c.args.self.now.trial.reach + 64) c.args.command.now c.loop-self.invariant.bringing (c.has_more.ensures.more c.loop-self-test.true)
+advance-requires-clause-small g c = advance_small c.ballot_laws.ensures g.O.Object.rules c.args.self.now.trial c.loop-places.self.trial c.stands-in-loop-places.ensures.world (c.args.self.now.trial.reach + 64) c.args.command.now c.loop-places.invariant.bringing (c.in_ok-has_more.ensures.more c.if-branch.true)
 
 pub advance-requires-clause-low : goal.advance-requires-clause-low
-advance-requires-clause-low g c = advance_low c.ballot_laws.ensures g.O.Object.rules c.args.self.now.trial c.loop-self.self.trial c.stands-in-loop-self.ensures.world (c.args.self.now.trial.reach + 64) c.args.command.now c.loop-self.invariant.bringing (c.has_more.ensures.more c.loop-self-test.true)
+advance-requires-clause-low g c = advance_low c.ballot_laws.ensures g.O.Object.rules c.args.self.now.trial c.loop-places.self.trial c.stands-in-loop-places.ensures.world (c.args.self.now.trial.reach + 64) c.args.command.now c.loop-places.invariant.bringing (c.in_ok-has_more.ensures.more c.if-branch.true)
 
 pub advance-requires-clause-more : goal.advance-requires-clause-more
-advance-requires-clause-more g c = c.has_more.ensures.more c.loop-self-test.true
+advance-requires-clause-more g c = c.in_ok-has_more.ensures.more c.if-branch.true
 
 pub advance-requires-clause-room : goal.advance-requires-clause-room
-advance-requires-clause-room g c = advance_room c.ballot_laws.ensures g.O.Object.rules c.args.self.now.trial c.loop-self.self.trial c.stands-in-loop-self.ensures.world (c.args.self.now.trial.reach + 64) c.args.command.now c.loop-self.invariant.bringing (c.has_more.ensures.more c.loop-self-test.true)
+advance-requires-clause-room g c = advance_room c.ballot_laws.ensures g.O.Object.rules c.args.self.now.trial c.loop-places.self.trial c.stands-in-loop-places.ensures.world (c.args.self.now.trial.reach + 64) c.args.command.now c.loop-places.invariant.bringing (c.in_ok-has_more.ensures.more c.if-branch.true)
 
-pub loop-self-preserved : goal.loop-self-preserved
-loop-self-preserved g c = record {
-  bringing = brings_on c.ballot_laws.ensures g.O.Object.rules c.args.self.now.trial c.loop-self.self.trial c.stands-in-loop-self.ensures.world (c.args.self.now.trial.reach + 64) c.args.command.now c.loop-self.invariant.bringing (c.has_more.ensures.more c.loop-self-test.true) c.advance.new.self.trial (one_exact g.O.Object.rules g.O.Op.PartialEq.eq g.met.O.Object.same g.met.O.Op.Value.exact) (one_itself g.O.Object.rules g.O.Op.PartialEq.eq g.met.O.Object.same g.met.O.Op.Eq.laws.refl) c.in_ok-advance.ensures.settled c.in_ok-advance.ensures.advanced c.in_ok-advance.ensures.spent c.in_ok-advance.ensures.mentions c.in_ok-advance.ensures.submitted;
-  goes = goes_on g.O.Object.rules keeps_nodes c.args.self.now.trial c.loop-self.self.trial c.advance.new.self.trial c.args.self.now.events.items c.loop-self.self.events.items c.advance.new.self.events.items c.loop-self.invariant.goes c.in_ok-advance.ensures.goes;
+pub loop-places-preserved : goal.loop-places-preserved
+loop-places-preserved g c = record {
+  bringing = brings_on c.ballot_laws.ensures g.O.Object.rules c.args.self.now.trial c.loop-places.self.trial c.stands-in-loop-places.ensures.world (c.args.self.now.trial.reach + 64) c.args.command.now c.loop-places.invariant.bringing (c.in_ok-has_more.ensures.more c.if-branch.true) c.advance.new.self.trial (one_exact g.O.Object.rules g.O.Op.PartialEq.eq g.met.O.Object.same g.met.O.Op.Value.exact) (one_itself g.O.Object.rules g.O.Op.PartialEq.eq g.met.O.Object.same g.met.O.Op.Eq.laws.refl) c.in_ok-advance.ensures.settled c.in_ok-advance.ensures.advanced c.in_ok-advance.ensures.spent c.in_ok-advance.ensures.mentions c.in_ok-advance.ensures.submitted;
+  proposals = proposals_further c.loop-places.self.trial.cluster.letters c.advance.new.self.trial.cluster.letters (leads_letters g.O.Object.rules c.loop-places.self.trial c.advance.new.self.trial c.in_ok-advance.ensures.goes.events c.in_ok-advance.ensures.goes.led) c.has_more.new.places.read c.has_more.new.places.proposals (let read = c.in_ok-has_more.ensures.read in omega arith) c.in_ok-has_more.ensures.proposals;
+  decisions = decisions_further c.loop-places.self.trial.cluster.letters c.advance.new.self.trial.cluster.letters (leads_letters g.O.Object.rules c.loop-places.self.trial c.advance.new.self.trial c.in_ok-advance.ensures.goes.events c.in_ok-advance.ensures.goes.led) c.has_more.new.places.read c.has_more.new.places.decisions (let read = c.in_ok-has_more.ensures.read in omega arith) c.in_ok-has_more.ensures.decisions;
+  goes = goes_on g.O.Object.rules keeps_nodes c.args.self.now.trial c.loop-places.self.trial c.advance.new.self.trial c.args.self.now.events.items c.loop-places.self.events.items c.advance.new.self.events.items c.loop-places.invariant.goes c.in_ok-advance.ensures.goes;
 }
 
-pub loop-self-smaller : goal.loop-self-smaller
-loop-self-smaller g c = less_left c.ballot_laws.ensures g.O.Object.rules c.args.self.now.trial c.loop-self.self.trial c.stands-in-loop-self.ensures.world (c.args.self.now.trial.reach + 64) c.args.command.now c.loop-self.invariant.bringing (c.has_more.ensures.more c.loop-self-test.true) c.advance.new.self.trial (one_exact g.O.Object.rules g.O.Op.PartialEq.eq g.met.O.Object.same g.met.O.Op.Value.exact) (one_itself g.O.Object.rules g.O.Op.PartialEq.eq g.met.O.Object.same g.met.O.Op.Eq.laws.refl) c.in_ok-advance.ensures.settled c.in_ok-advance.ensures.advanced c.in_ok-advance.ensures.spent c.in_ok-advance.ensures.mentions c.in_ok-advance.ensures.submitted
+pub loop-places-smaller : goal.loop-places-smaller
+loop-places-smaller g c = less_left c.ballot_laws.ensures g.O.Object.rules c.args.self.now.trial c.loop-places.self.trial c.stands-in-loop-places.ensures.world (c.args.self.now.trial.reach + 64) c.args.command.now c.loop-places.invariant.bringing (c.in_ok-has_more.ensures.more c.if-branch.true) c.advance.new.self.trial (one_exact g.O.Object.rules g.O.Op.PartialEq.eq g.met.O.Object.same g.met.O.Op.Value.exact) (one_itself g.O.Object.rules g.O.Op.PartialEq.eq g.met.O.Object.same g.met.O.Op.Eq.laws.refl) c.in_ok-advance.ensures.settled c.in_ok-advance.ensures.advanced c.in_ok-advance.ensures.spent c.in_ok-advance.ensures.mentions c.in_ok-advance.ensures.submitted
 
 pub returns-clause-performed : goal.returns-clause-performed
-returns-clause-performed g c = performed_then c.ballot_laws.ensures g.O.Object.rules c.loop-self.self.trial c.stands-3.ensures.world c.args.command.now c.loop-self.invariant.bringing.holds (c.has_more.ensures.settled c.loop-self-test.false) (c.has_more.ensures.none c.loop-self-test.false)
+returns-clause-performed g c = performed_then c.ballot_laws.ensures g.O.Object.rules c.loop-places.self.trial c.stands-3.ensures.world c.args.command.now c.loop-places.invariant.bringing.holds (c.in_ok-has_more.ensures.settled c.if-branch.false) (c.in_ok-has_more.ensures.none c.if-branch.false)
 
 pub returns-clause-submitted : goal.returns-clause-submitted
-returns-clause-submitted g c = c.loop-self.invariant.bringing.submitted
+returns-clause-submitted g c = c.loop-places.invariant.bringing.submitted

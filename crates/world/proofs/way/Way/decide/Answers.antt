@@ -1,42 +1,49 @@
-use Rattle.std.proofs.Common.{refl, ◌∙◌, arith}
+use Rattle.std.proofs.Common.{refl, sym, ◌∙◌, subst, arith}
 use Rattle.world.specs.declared.event.Event.TheVariants as events
 use Rattle.world.proofs.Reach.{reachable_sound}
 use Rattle.world.specs.Rescues.{keeps_nodes}
-use Rattle.world.specs.WaysOut.{first_book}
+use Rattle.world.specs.WaysOut.{first_book, Decides, ArePlacesOf}
 use Rattle.world.proofs.Allowing.{may_deliver, on_both, on_ok}
 use Rattle.world.proofs.Going.{goes_on, one_goes}
 use Rattle.world.proofs.Learning.{decides_sent, ready_unknown, decision_there, mentions_then, learns_book, learns_settled, learns_spent, learns_submitted}
+use Rattle.world.proofs.Finding.{decisions_further}
+use Rattle.world.proofs.Lengthening.{leads_letters}
 use Rattle.world.proofs.RoundMembers.{first_member}
 use Rattle.world.proofs.way.Way.decide.Goals as goal
 
 pub take-requires : goal.take-requires
-take-requires g c = let room = c.requires.room in let spent = c.in_ok-lead.ensures.spent in may_deliver g.O.Op.PartialEq.eq c.lead.new.self.trial c.in-Some.place (decides_sent c.lead.new.self.trial.cluster.letters c.in-Some.place c.args.slot c.in-Some.ensures.some) (omega arith)
+take-requires g c = let room = c.requires.room in let spent = c.in_ok-lead.ensures.spent in may_deliver g.O.Op.PartialEq.eq c.lead.new.self.trial c.in-Some.place (decides_sent c.lead.new.self.trial.cluster.letters c.in-Some.place c.args.slot (subst (λ ls. Decides ls c.in-Some.place c.args.slot) c.letters.ensures c.in-Some.ensures.some)) (omega arith)
 
 pub unreachable-requires : goal.unreachable-requires
-unreachable-requires g c = let d = decision_there c.ballot_laws.ensures g.O.Object.rules c.lead.new.self.trial c.stands.ensures.world (first_member c.lead.new.self.trial.cluster.members c.stands.ensures.members) c.in_ok-lead.ensures.settled c.args.slot c.in_ok-lead.ensures.led in c.in-None.ensures.none d.0 d.1
+unreachable-requires g c = let d = decision_there c.ballot_laws.ensures g.O.Object.rules c.lead.new.self.trial c.stands.ensures.world (first_member c.lead.new.self.trial.cluster.members c.stands.ensures.members) c.in_ok-lead.ensures.settled c.args.slot c.in_ok-lead.ensures.led in c.in-None.ensures.none d.0 (subst (λ ls. Decides ls d.0 c.args.slot) (sym c.letters.ensures) d.1)
 
 pub returns-clause-settled : goal.returns-clause-settled
-returns-clause-settled g c = on_ok c.take.result c.take.ensures.step (λ step. learns_settled c.ballot_laws.ensures g.O.Object.rules c.lead.new.self.trial c.take.new.self.trial (reachable_sound c.ballot_laws.ensures g.O.Object.rules c.lead.new.self.trial c.stands.ensures.world.reachable) (first_member c.lead.new.self.trial.cluster.members c.stands.ensures.members) c.in-Some.place c.args.slot c.in-Some.ensures.some step c.in_ok-lead.ensures.settled)
+returns-clause-settled g c = on_ok c.take.result c.take.ensures.step (λ step. learns_settled c.ballot_laws.ensures g.O.Object.rules c.lead.new.self.trial c.take.new.self.trial (reachable_sound c.ballot_laws.ensures g.O.Object.rules c.lead.new.self.trial c.stands.ensures.world.reachable) (first_member c.lead.new.self.trial.cluster.members c.stands.ensures.members) c.in-Some.place c.args.slot (subst (λ ls. Decides ls c.in-Some.place c.args.slot) c.letters.ensures c.in-Some.ensures.some) step c.in_ok-lead.ensures.settled)
 
 pub returns-clause-learnt : goal.returns-clause-learnt
 returns-clause-learnt g c = on_ok c.take.result c.take.ensures.step (λ step. record {
   before = first_book c.lead.new.self.trial.cluster;
-  command = c.in-Some.ensures.some.command;
+  command = (subst (λ ls. Decides ls c.in-Some.place c.args.slot) c.letters.ensures c.in-Some.ensures.some).command;
   ready = c.in_ok-lead.ensures.ready;
   unknown = ready_unknown c.args.self.now.trial.cluster c.args.slot (first_book c.lead.new.self.trial.cluster) c.in_ok-lead.ensures.ready c.requires.unknown;
-  learns = learns_book c.ballot_laws.ensures g.O.Object.rules c.lead.new.self.trial c.take.new.self.trial (reachable_sound c.ballot_laws.ensures g.O.Object.rules c.lead.new.self.trial c.stands.ensures.world.reachable) (first_member c.lead.new.self.trial.cluster.members c.stands.ensures.members) c.in-Some.place c.args.slot c.in-Some.ensures.some step;
+  learns = learns_book c.ballot_laws.ensures g.O.Object.rules c.lead.new.self.trial c.take.new.self.trial (reachable_sound c.ballot_laws.ensures g.O.Object.rules c.lead.new.self.trial c.stands.ensures.world.reachable) (first_member c.lead.new.self.trial.cluster.members c.stands.ensures.members) c.in-Some.place c.args.slot (subst (λ ls. Decides ls c.in-Some.place c.args.slot) c.letters.ensures c.in-Some.ensures.some) step;
 })
 
 pub returns-clause-spent : goal.returns-clause-spent
-returns-clause-spent g c = let spent = c.in_ok-lead.ensures.spent in on_ok c.take.result c.take.ensures.step (λ step. let more = learns_spent c.ballot_laws.ensures g.O.Object.rules c.lead.new.self.trial c.take.new.self.trial (reachable_sound c.ballot_laws.ensures g.O.Object.rules c.lead.new.self.trial c.stands.ensures.world.reachable) (first_member c.lead.new.self.trial.cluster.members c.stands.ensures.members) c.in-Some.place c.args.slot c.in-Some.ensures.some step in omega arith)
+returns-clause-spent g c = let spent = c.in_ok-lead.ensures.spent in on_ok c.take.result c.take.ensures.step (λ step. let more = learns_spent c.ballot_laws.ensures g.O.Object.rules c.lead.new.self.trial c.take.new.self.trial (reachable_sound c.ballot_laws.ensures g.O.Object.rules c.lead.new.self.trial c.stands.ensures.world.reachable) (first_member c.lead.new.self.trial.cluster.members c.stands.ensures.members) c.in-Some.place c.args.slot (subst (λ ls. Decides ls c.in-Some.place c.args.slot) c.letters.ensures c.in-Some.ensures.some) step in omega arith)
 
 pub returns-clause-mentions : goal.returns-clause-mentions
 returns-clause-mentions g c = on_ok c.take.result c.take.ensures.step (λ step. mentions_then c.ballot_laws.ensures g.O.Object.rules c.args.self.now.trial c.lead.new.self.trial c.take.new.self.trial c.args.slot (events.Deliver c.in-Some.place) c.in_ok-lead.ensures.mentions (reachable_sound c.ballot_laws.ensures g.O.Object.rules c.lead.new.self.trial c.stands.ensures.world.reachable) step refl)
 
 pub returns-clause-submitted : goal.returns-clause-submitted
-returns-clause-submitted g c = on_ok c.take.result c.take.ensures.step (λ step. learns_submitted c.ballot_laws.ensures g.O.Object.rules c.lead.new.self.trial c.take.new.self.trial (reachable_sound c.ballot_laws.ensures g.O.Object.rules c.lead.new.self.trial c.stands.ensures.world.reachable) (first_member c.lead.new.self.trial.cluster.members c.stands.ensures.members) c.in-Some.place c.args.slot c.in-Some.ensures.some step ∙ c.in_ok-lead.ensures.submitted)
+returns-clause-submitted g c = on_ok c.take.result c.take.ensures.step (λ step. learns_submitted c.ballot_laws.ensures g.O.Object.rules c.lead.new.self.trial c.take.new.self.trial (reachable_sound c.ballot_laws.ensures g.O.Object.rules c.lead.new.self.trial c.stands.ensures.world.reachable) (first_member c.lead.new.self.trial.cluster.members c.stands.ensures.members) c.in-Some.place c.args.slot (subst (λ ls. Decides ls c.in-Some.place c.args.slot) c.letters.ensures c.in-Some.ensures.some) step ∙ c.in_ok-lead.ensures.submitted)
 
 pub returns-clause-goes : goal.returns-clause-goes
 returns-clause-goes g c = on_both c.take.result c.take.ensures.step c.take.ensures.noted (λ step noted.
     goes_on g.O.Object.rules keeps_nodes c.args.self.now.trial c.lead.new.self.trial c.take.new.self.trial c.args.self.now.events.items c.lead.new.self.events.items c.take.new.self.events.items c.in_ok-lead.ensures.goes
     (one_goes g.O.Object.rules keeps_nodes c.lead.new.self.trial c.take.new.self.trial (events.Deliver c.in-Some.place) c.lead.new.self.events.items c.take.new.self.events.items step noted refl))
+
+pub decision_for-requires : goal.decision_for-requires
+decision_for-requires g c = subst (λ ls. ArePlacesOf Decides ls c.args.places.now.read c.args.places.now.decisions) (sym c.letters.ensures)
+    (decisions_further c.args.self.now.trial.cluster.letters c.lead.new.self.trial.cluster.letters (leads_letters g.O.Object.rules c.args.self.now.trial c.lead.new.self.trial c.in_ok-lead.ensures.goes.events c.in_ok-lead.ensures.goes.led)
+    c.args.places.now.read c.args.places.now.decisions c.requires.known c.requires.decisions)

@@ -1,11 +1,36 @@
-use Rattle.std.proofs.Common.{sym, ap, ◌∙◌}
-use Rattle.std.specs.List.{list_any}
-use Rattle.object.specs.Keys.{same_key}
-use Rattle.world.proofs.WaysBack.{is_in_order}
+use Rattle.std.proofs.Common.{◌+◌, map, sym, ap, ◌∙◌, subst}
+use Rattle.world.specs.Chosen.{IsChosenFrom}
+use Rattle.world.specs.Kept.{HasNoted}
+use Rattle.world.specs.Reached.{first_as_late}
+use Rattle.world.proofs.Deciding.{chosen_from}
+use Rattle.world.proofs.Events.{sound_now}
+use Rattle.world.proofs.Placed.{told, performed_late, late_before, late_behind}
+use Rattle.world.proofs.Standing.{stands_when}
 use Rattle.world.proofs.world.World.has_in_order.Goals as goal
+
+pub returns-in-Some : goal.returns-in-Some
+returns-in-Some g c =
+    let sound = sound_now c.ballot_laws.ensures g.O.Object.rules _ _ c.self.view_is c.self.invariant.world in
+    let ahead = chosen_from c.ballot_laws.ensures c.args.self.now.cluster sound (c.args.self.now.reach + 1) in
+    stands_when c.ballot_laws.ensures c.args.self.now sound c.args.key c.self.inside.performed.items
+    (subst (λ w. HasNoted w c.self.inside.performed.items) c.self.view_is c.self.invariant.noted) ahead.0 ahead.1 c.eq.result
+    (c.eq.ensures ∙ ap (told c.args.key) (sym (late_before c.args.key c.in-Some.own c.self.inside.performed.items (map (λ x. x.key) ahead.0)
+    (sym (performed_late c.args.key c.deref.result.now c.self.inside.performed.items c.deref.ensures.value c.first_as_late.result c.first_as_late.ensures) ∙ c.in-Some.is))))
+
+pub returns-in-Some-first_as_late : goal.returns-in-Some-first_as_late
+returns-in-Some-first_as_late g c =
+    stands_when c.ballot_laws.ensures c.args.self.now (sound_now c.ballot_laws.ensures g.O.Object.rules _ _ c.self.view_is c.self.invariant.world) c.args.key c.self.inside.performed.items
+    (subst (λ w. HasNoted w c.self.inside.performed.items) c.self.view_is c.self.invariant.noted)
+    c.in_ok-ahead.ahead.items (subst (λ w. IsChosenFrom c.args.self.now.cluster (w.reach + 1) c.in_ok-ahead.ahead.items) c.self.view_is c.in_ok-ahead.ensures) c.eq-in-Some-first_as_late.result
+    (c.eq-in-Some-first_as_late.ensures ∙ ap (told c.args.key) (sym c.in-Some-first_as_late.is ∙ c.first_as_late-2.ensures ∙ ap (λ cs. first_as_late c.args.key (map (λ x. x.key) cs)) c.deref-2.ensures.value
+    ∙ sym (late_behind c.args.key c.self.inside.performed.items (map (λ x. x.key) c.in_ok-ahead.ahead.items)
+    (sym (performed_late c.args.key c.deref.result.now c.self.inside.performed.items c.deref.ensures.value c.first_as_late.result c.first_as_late.ensures) ∙ c.in_default.is))))
 
 pub returns : goal.returns
 returns g c =
-    let stands = is_in_order g.O.Object.rules c.args.self.now c.agrees.ensures.one_order c.in_ok-order.order.items c.in_ok-order.ensures c.args.key in
-    let same = c.has_key.ensures ∙ ap (list_any (λ command. same_key command.key c.args.key)) c.as_slice.ensures.value in
-    (λ found. stands.0 (sym same ∙ found), λ there. same ∙ stands.1 there)
+    stands_when c.ballot_laws.ensures c.args.self.now (sound_now c.ballot_laws.ensures g.O.Object.rules _ _ c.self.view_is c.self.invariant.world) c.args.key c.self.inside.performed.items
+    (subst (λ w. HasNoted w c.self.inside.performed.items) c.self.view_is c.self.invariant.noted)
+    c.in_ok-ahead.ahead.items (subst (λ w. IsChosenFrom c.args.self.now.cluster (w.reach + 1) c.in_ok-ahead.ahead.items) c.self.view_is c.in_ok-ahead.ensures) _
+    (ap (told c.args.key) (sym c.in-None.is ∙ c.first_as_late-2.ensures ∙ ap (λ cs. first_as_late c.args.key (map (λ x. x.key) cs)) c.deref-2.ensures.value
+    ∙ sym (late_behind c.args.key c.self.inside.performed.items (map (λ x. x.key) c.in_ok-ahead.ahead.items)
+    (sym (performed_late c.args.key c.deref.result.now c.self.inside.performed.items c.deref.ensures.value c.first_as_late.result c.first_as_late.ensures) ∙ c.in_default.is))))
