@@ -18,7 +18,7 @@ use Rattle.world.specs.Nodes.{Cluster, node}
 use Rattle.world.specs.Worlds.{World}
 use Rattle.world.specs.Runs.{IsReachable}
 use Rattle.world.specs.Chosen.{IsChosenAt, IsChosen, IsChosenFrom, IsOrder}
-use Rattle.world.specs.Voters.{is_at, accepts, row}
+use Rattle.world.specs.Voters.{is_at, accepts, voters_of}
 use Rattle.object.specs.ListLaws.{In-left, In-right, In-cases}
 use Rattle.ballot.specs.OrderLaws.{BallotLaws, same_itself, not_both}
 use Rattle.world.proofs.Invariants.{Asked, IsSound}
@@ -82,7 +82,7 @@ mapped_at f [] i d e = sym e
 mapped_at f (x ∷ xs) zero d e = refl
 mapped_at f (x ∷ xs) (suc i) d e = mapped_at f xs i d e
 
-row_at : {C : Type 0} (k : Cluster C) (b : Numbers) (s i : ℕ) → has (row k b s) (suc i) ≡ accepts b s (node k (suc i))
+row_at : {C : Type 0} (k : Cluster C) (b : Numbers) (s i : ℕ) → has (voters_of k b s) (suc i) ≡ accepts b s (node k (suc i))
 row_at k b s i = mapped_at (accepts b s) k.nodes i (new_node k.members (suc i)) refl
 
 -- all that was accepted
@@ -123,30 +123,30 @@ module _ (laws : BallotLaws) {C : Type 0} (k : Cluster C) (i : IsSound k) where
       let v : q.value ≡ c = i.unique q (pvalue b s c) ((i.nodes m).acceptor.sent q at) asked f g in
       subst (λ (p : Pvalue C). In p (node k m).acceptor.accepted) (λ j. record { ballot = f j; slot = g j; value = v j }) at
 
-  row_accepts : (b : Numbers) (s : ℕ) (c : C) → Asked k.letters (pvalue b s c) → (m : ℕ) → has (row k b s) m ≡ true → In (pvalue b s c) (node k m).acceptor.accepted
+  row_accepts : (b : Numbers) (s : ℕ) (c : C) → Asked k.letters (pvalue b s c) → (m : ℕ) → has (voters_of k b s) m ≡ true → In (pvalue b s c) (node k m).acceptor.accepted
   row_accepts b s c asked zero e = absurd (true≢false (sym e))
   row_accepts b s c asked (suc j) e =
       let q = any_found (is_at b s) (node k (suc j)).acceptor.accepted (sym (row_at k b s j) ∙ e) in
       is_one_there b s c asked (suc j) q.0 q.1 q.2
 
-  voters_row : (b : Numbers) (s : ℕ) (c : C) → (h : IsChosenAt k b s c) → is_majority k.members (row k b s) ≡ true
-  voters_row b s c h = majority_more k.members h.voters (row k b s)
+  voters_row : (b : Numbers) (s : ℕ) (c : C) → (h : IsChosenAt k b s c) → is_majority k.members (voters_of k b s) ≡ true
+  voters_row b s c h = majority_more k.members h.voters (voters_of k b s)
       (λ j e. row_at k b s j ∙ any_from (is_at b s) (pvalue b s c) (node k (suc j)).acceptor.accepted (h.accepted (suc j) e) (is_at_itself b s c))
       h.majority
 
   -- the pvalue's command is chosen at its ballot
   decide_at : (p : Pvalue C) → Asked k.letters p → IsChosenAt k p.ballot p.slot p.value ⊎ (IsChosenAt k p.ballot p.slot p.value → ⊥)
   decide_at p asked = ⊎_elim
-      (λ (yes : is_majority k.members (row k p.ballot p.slot) ≡ true). inl (record { voters = row k p.ballot p.slot; majority = yes; accepted = λ m e. row_accepts p.ballot p.slot p.value asked m e }))
-      (λ (no : is_majority k.members (row k p.ballot p.slot) ≡ false). inr (λ h. not_both (voters_row p.ballot p.slot p.value h) no))
-      (cases_Bool (is_majority k.members (row k p.ballot p.slot)))
+      (λ (yes : is_majority k.members (voters_of k p.ballot p.slot) ≡ true). inl (record { voters = voters_of k p.ballot p.slot; majority = yes; accepted = λ m e. row_accepts p.ballot p.slot p.value asked m e }))
+      (λ (no : is_majority k.members (voters_of k p.ballot p.slot) ≡ false). inr (λ h. not_both (voters_row p.ballot p.slot p.value h) no))
+      (cases_Bool (is_majority k.members (voters_of k p.ballot p.slot)))
 
   -- a pvalue is chosen where a majority accepted something at its ballot and slot
-  pub chosen_by_row : (m : ℕ) (p : Pvalue C) → In p (node k m).acceptor.accepted → is_majority k.members (row k p.ballot p.slot) ≡ true → IsChosen k p.slot p.value
-  chosen_by_row m p at e = (p.ballot, record { voters = row k p.ballot p.slot; majority = e; accepted = λ j f. row_accepts p.ballot p.slot p.value ((i.nodes m).acceptor.sent p at) j f })
+  pub chosen_by_row : (m : ℕ) (p : Pvalue C) → In p (node k m).acceptor.accepted → is_majority k.members (voters_of k p.ballot p.slot) ≡ true → IsChosen k p.slot p.value
+  chosen_by_row m p at e = (p.ballot, record { voters = voters_of k p.ballot p.slot; majority = e; accepted = λ j f. row_accepts p.ballot p.slot p.value ((i.nodes m).acceptor.sent p at) j f })
 
   -- and a slot has no chosen command where none of its accepted pvalues is
-  pub none_by_rows : (s : ℕ) → ((m : ℕ) (p : Pvalue C) → In p (node k m).acceptor.accepted → p.slot ≡ s → is_majority k.members (row k p.ballot s) ≡ false) → (c : C) → IsChosen k s c → ⊥
+  pub none_by_rows : (s : ℕ) → ((m : ℕ) (p : Pvalue C) → In p (node k m).acceptor.accepted → p.slot ≡ s → is_majority k.members (voters_of k p.ballot s) ≡ false) → (c : C) → IsChosen k s c → ⊥
   none_by_rows s none c h =
       let m = laws.share k.members h.1.voters h.1.voters h.1.majority h.1.majority in
       not_both (voters_row h.0 s c h.1) (none m.0 (pvalue h.0 s c) (h.1.accepted m.0 m.1) refl)

@@ -14,8 +14,8 @@ submits (Perform n) = false
 submits (Restart n) = false
 
 -- From how many of the last letters the word chooses: mostly from 32, and for eight words in 256 from as many as a word counts.
-abbrev pub window : ℕ → ℕ
-window word = if nat_lt word 208 then 32 else 2 ^ 32 - 1
+abbrev pub recent_letters : ℕ → ℕ
+recent_letters word = if nat_lt word 208 then 32 else 2 ^ 32 - 1
 
 -- the member that the next word chooses: they are equally likely
 abbrev pub chosen_member : List ℕ → ℕ → ℕ
@@ -26,7 +26,7 @@ chosen_member members next = next % length members + 1
 -- chooses the node, or the letter, counted back from the last one.
 abbrev pub IsDrawnBy : {Op : Type 0} → List ℕ → ℕ → ℕ → ℕ → Event Op → Type 0
 IsDrawnBy members letters word next (Submit n c) = ⊥
-IsDrawnBy members letters word next (Deliver i) = (0 < letters) × (word < 216) × (i + 1 + next % window word % letters ≡ letters)
+IsDrawnBy members letters word next (Deliver i) = (0 < letters) × (word < 216) × (i + 1 + next % recent_letters word % letters ≡ letters)
 IsDrawnBy members letters word next (Perform n) = (216 ≤ word) × (word < 230) × (n ≡ chosen_member members next)
 IsDrawnBy members letters word next (Nudge n) = (230 ≤ word) × (word < 236) × (n ≡ chosen_member members next)
 IsDrawnBy members letters word next (Wake n) = (236 ≤ word) × (word < 240) × (n ≡ chosen_member members next)

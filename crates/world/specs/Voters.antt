@@ -17,12 +17,12 @@ abbrev pub accepts : {C : Type 0} → Numbers → ℕ → NodeState C → Bool
 accepts b s x = list_any (is_at b s) x.acceptor.accepted
 
 -- the acceptors that did
-abbrev pub row : {C : Type 0} → Cluster C → Numbers → ℕ → List Bool
-row k b s = map (accepts b s) k.nodes
+abbrev pub voters_of : {C : Type 0} → Cluster C → Numbers → ℕ → List Bool
+voters_of k b s = map (accepts b s) k.nodes
 
 -- a majority did
 abbrev pub is_voted : {C : Type 0} → Cluster C → Numbers → ℕ → Bool
-is_voted k b s = is_majority k.members (row k b s)
+is_voted k b s = is_majority k.members (voters_of k b s)
 
 -- one of these pvalues has this slot and value, and the votes of a majority
 abbrev pub HasVoted : {C : Type 0} → Cluster C → List (Pvalue C) → ℕ → C → Type 0

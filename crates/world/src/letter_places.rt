@@ -7,8 +7,8 @@ use ballot::{Letter, LetterBody, Slot, SlotMap};
 use object::Value;
 use std::alloc::{AllocError, Global};
 
-/// Where letters to node 1 stand that propose something for a slot, and those that tell what is decided there: of the letters
-/// that were read, which are the first ones.
+/// Where letters to node 1 stand that propose something for a slot, and those that tell what is decided there. The first
+/// `read` letters were read.
 #[derive(Drop)]
 pub(crate) struct LetterPlaces {
     proposals: SlotMap<usize>,

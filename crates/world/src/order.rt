@@ -6,7 +6,7 @@ ghost use Rattle.world.specs.Nodes.{node};
 ghost use Rattle.world.specs.Chosen.{IsChosen, IsChosenFrom, IsOrder};
 ghost use Rattle.world.specs.Reached.{IsPlaced, first_as_late};
 ghost use Rattle.world.specs.Rescues.{IsInOrder};
-ghost use Rattle.world.specs.Voters.{row, is_voted, HasVoted, HasNoneVoted};
+ghost use Rattle.world.specs.Voters.{voters_of, is_voted, HasVoted, HasNoneVoted};
 
 use crate::world::World;
 use ballot::{Ballot, MemberSet, Pvalue, Slot, ballot_laws};
@@ -18,7 +18,7 @@ impl<O: Object> World<O> {
     fn voters(&self, ballot: Ballot, slot: Slot) -> MemberSet
         requires { length self.now.cluster.nodes ≡ length self.now.cluster.members }
         ensures { (i : ℕ) → slice_index_or result i false
-            ≡ slice_index_or (row self.now.cluster ballot slot) i false }
+            ≡ slice_index_or (voters_of self.now.cluster ballot slot) i false }
     {
         let nodes = &self.nodes;
         let mut voters = MemberSet::nobody();

@@ -16,10 +16,9 @@ use object::{Command, Key, Object, Submission, Value};
 const MOST_TAKEN: u64 = 1 << 32;
 
 impl<O: Object> World<O> {
-    /// Events, none of them a restart, after which the key stands in the order: none where it does already. There are no such
-    /// events, or it isn't known whether there are, only where the key was not submitted, or a greater number of its session was
-    /// and the key doesn't stand in the order. It is full where more than 2^32 events were taken, and fails else for want of
-    /// memory alone.
+    /// Events, none of them a restart, after which the key stands in the order; no events where it does already. The answer is
+    /// `None` only where the key was never submitted, or where a greater number of its session was and the key doesn't stand
+    /// in the order. It is full only where more than 2^32 events were taken, and fails else for want of memory alone.
     pub fn rescue(&self, key: Key) -> Result<Option<Vec<Event<O::Op>>>, WorldError>
         ensures some { IfOk result (λ found. IfSome found (λ events. Rescues O.rules O.Op.eq self.now key
             events.items)) }

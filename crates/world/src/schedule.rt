@@ -3,7 +3,7 @@ ghost use Rattle.ballot.specs.Members.{is_member};
 ghost use Rattle.rand_core.specs.Pcg32Seed.{pcg32_seed};
 ghost use Rattle.rand_pcg.specs.Pcg.{pcg32, pcg32_of_seed};
 ghost use Rattle.world.specs.Refusals.{is_at_member, is_sent};
-ghost use Rattle.world.specs.Schedules.{submits, window, chosen_member, IsDrawnBy};
+ghost use Rattle.world.specs.Schedules.{submits, recent_letters, chosen_member, IsDrawnBy};
 
 use crate::event::Event;
 use ballot::Members;
@@ -66,7 +66,7 @@ impl Schedule {
     {
         let word = self.pick(256);
         if word < 216 && letters > 0 {
-            return Event::Deliver(self.letter(letters, window(word)));
+            return Event::Deliver(self.letter(letters, recent_letters(word)));
         }
         let node = self.member(members);
         match word {
@@ -78,15 +78,15 @@ impl Schedule {
         }
     }
 
-    // One of the last `window` letters.
-    fn letter(&mut self, letters: usize, window: u32) -> usize
+    // One of the last `recent` letters.
+    fn letter(&mut self, letters: usize, recent: u32) -> usize
         requires sent { 0 < letters }
-        requires open { 0 < window }
+        requires open { 0 < recent }
         ensures sent { result < letters }
-        ensures drawn { result + 1 + (pcg32 self.old).0 % window % letters ≡ letters }
+        ensures drawn { result + 1 + (pcg32 self.old).0 % recent % letters ≡ letters }
         ensures next { self.new ≡ (pcg32 self.old).1 }
     {
-        let back = self.pick(window) as usize % letters;
+        let back = self.pick(recent) as usize % letters;
         letters - 1 - back
     }
 
@@ -102,9 +102,9 @@ impl Schedule {
 }
 
 // From how many of the last letters this word chooses.
-fn window(word: u32) -> u32
+fn recent_letters(word: u32) -> u32
     ensures open { 0 < result }
-    ensures drawn { result ≡ window word }
+    ensures drawn { result ≡ recent_letters word }
 {
     if word < 208 { LATE } else { u32::MAX }
 }
