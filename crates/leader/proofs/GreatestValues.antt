@@ -15,7 +15,7 @@ use Rattle.ballot.specs.declared.pvalue.Pvalue.{Pvalue}
 use Rattle.scout_commander.proofs.Members.{in_cases, in_left, in_right, only_one}
 use Rattle.leader.proofs.Outcomes.{none_there}
 use Rattle.leader.specs.Adoptions.{IsGreatest, IsOpen, TakesGreatest}
-use Rattle.leader.specs.Greatest.{noted, all_noted, value_taken, all_taken}
+use Rattle.leader.specs.Greatest.{raised, all_raised, value_taken, all_taken}
 
 not_below_itself : (a : Numbers) → is_below a a ≡ false
 not_below_itself a = grind (arith, nat_tests)
@@ -124,7 +124,7 @@ module _ {C : Type 0} (heard : List (Pvalue C)) (p : Pvalue C) (s : ℕ) where
     b,
   )
 
-  noted_next : (greatest : Slots Numbers) → Noted heard greatest s → Noted (heard ++ p ∷ []) (noted greatest p) s
+  noted_next : (greatest : Slots Numbers) → Noted heard greatest s → Noted (heard ++ p ∷ []) (raised greatest p) s
   noted_next greatest n = go (is_promise_below (get greatest p.slot) (Some p.ballot)) refl
     where
       go : (test : Bool) → is_promise_below (get greatest p.slot) (Some p.ballot) ≡ test → Noted (heard ++ p ∷ []) (cond test (insert greatest p.slot p.ballot) greatest) s
@@ -181,11 +181,11 @@ module _ {C : Type 0} (heard : List (Pvalue C)) (p : Pvalue C) (s : ℕ) where
           let both : (is_promise (get greatest p.slot) p.ballot && not (contains_key taken p.slot)) ≡ true = ap (λ b. b && not (contains_key taken p.slot)) promised ∙ ap not free in
           let no : true ≡ false = sym both ∙ h in absurd (cc)) t
 
-all_noted_next : {C : Type 0} (heard ps : List (Pvalue C)) (greatest : Slots Numbers) (s : ℕ) → Noted heard greatest s → Noted (heard ++ ps) (all_noted greatest ps) s
+all_noted_next : {C : Type 0} (heard ps : List (Pvalue C)) (greatest : Slots Numbers) (s : ℕ) → Noted heard greatest s → Noted (heard ++ ps) (all_raised greatest ps) s
 all_noted_next heard [] greatest s n = subst (λ qs. Noted qs greatest s) (sym (append-nil heard)) n
 all_noted_next heard (p ∷ ps) greatest s n =
-    subst (λ qs. Noted qs (all_noted (noted greatest p) ps) s) (append_assoc heard (p ∷ []) ps)
-    (all_noted_next (heard ++ p ∷ []) ps (noted greatest p) s (noted_next heard p s greatest n))
+    subst (λ qs. Noted qs (all_raised (raised greatest p) ps) s) (append_assoc heard (p ∷ []) ps)
+    (all_noted_next (heard ++ p ∷ []) ps (raised greatest p) s (noted_next heard p s greatest n))
 
 all_taken_next : {C : Type 0} (greatest : Slots Numbers) (heard ps : List (Pvalue C)) (taken : Slots C) (s : ℕ) → Taken greatest heard taken s → Taken greatest (heard ++ ps) (all_taken greatest taken ps) s
 all_taken_next greatest heard [] taken s t = subst (λ qs. Taken greatest qs taken s) (sym (append-nil heard)) t
@@ -193,9 +193,9 @@ all_taken_next greatest heard (p ∷ ps) taken s t =
     subst (λ qs. Taken greatest qs (all_taken greatest (value_taken greatest taken p) ps) s) (append_assoc heard (p ∷ []) ps)
     (all_taken_next greatest (heard ++ p ∷ []) ps (value_taken greatest taken p) s (taken_next heard p s greatest taken t))
 
-pub all_noted-append : {C : Type 0} (greatest : Slots Numbers) (ps qs : List (Pvalue C)) → all_noted greatest (ps ++ qs) ≡ all_noted (all_noted greatest ps) qs
-all_noted-append greatest [] qs = refl
-all_noted-append greatest (p ∷ ps) qs = all_noted-append (noted greatest p) ps qs
+pub all_raised-append : {C : Type 0} (greatest : Slots Numbers) (ps qs : List (Pvalue C)) → all_raised greatest (ps ++ qs) ≡ all_raised (all_raised greatest ps) qs
+all_raised-append greatest [] qs = refl
+all_raised-append greatest (p ∷ ps) qs = all_raised-append (raised greatest p) ps qs
 
 pub all_taken-append : {C : Type 0} (greatest : Slots Numbers) (taken : Slots C) (ps qs : List (Pvalue C)) → all_taken greatest taken (ps ++ qs) ≡ all_taken greatest (all_taken greatest taken ps) qs
 all_taken-append greatest taken [] qs = refl
@@ -208,22 +208,22 @@ same_as_itself : (b : Numbers) → is_same b b ≡ true
 same_as_itself b = grind (arith, nat_tests)
 
 -- the greatest are taken, and where there is none the old ones
-pub takes : {C : Type 0} (old new : Slots C) (ps : List (Pvalue C)) → ((s : ℕ) → get new s ≡ option_or (get (all_taken (all_noted empty ps) empty ps) s) (get old s)) → TakesGreatest old ps new
+pub takes : {C : Type 0} (old new : Slots C) (ps : List (Pvalue C)) → ((s : ℕ) → get new s ≡ option_or (get (all_taken (all_raised empty ps) empty ps) s) (get old s)) → TakesGreatest old ps new
 takes {C} old new ps is s = go noted_so taken_so
   where
     greatest : Slots Numbers
-    greatest = all_noted empty ps
+    greatest = all_raised empty ps
 
     taken : Slots C
-    taken = all_taken (all_noted empty ps) empty ps
+    taken = all_taken (all_raised empty ps) empty ps
 
-    noted_so : Noted ps (all_noted empty ps) s
+    noted_so : Noted ps (all_raised empty ps) s
     noted_so = all_noted_next [] ps empty s (inl (λ q i h. i, get-empty nat_cmp s))
 
-    taken_so : Taken (all_noted empty ps) ps (all_taken (all_noted empty ps) empty ps) s
-    taken_so = all_taken_next (all_noted empty ps) [] ps empty s (inl (get-empty nat_cmp s, λ q i h. absurd i))
+    taken_so : Taken (all_raised empty ps) ps (all_taken (all_raised empty ps) empty ps) s
+    taken_so = all_taken_next (all_raised empty ps) [] ps empty s (inl (get-empty nat_cmp s, λ q i h. absurd i))
 
-    go : Noted ps (all_noted empty ps) s → Taken (all_noted empty ps) ps (all_taken (all_noted empty ps) empty ps) s → (IsOpen ps s × (get new s ≡ get old s)) ⊎ ((p : Pvalue C) × IsGreatest ps s p × (get new s ≡ Some p.value))
+    go : Noted ps (all_raised empty ps) s → Taken (all_raised empty ps) ps (all_taken (all_raised empty ps) empty ps) s → (IsOpen ps s × (get new s ≡ get old s)) ⊎ ((p : Pvalue C) × IsGreatest ps s p × (get new s ≡ Some p.value))
     go (inl x) (inl y) = inl (x.0, is s ∙ ap (λ o. option_or o (get old s)) y.0)
     go (inl x) (inr y) = absurd (x.0 y.0 y.1 y.2)
     go (inr x) (inl y) =
@@ -245,10 +245,10 @@ module _ {C : Type 0} (ps : List (Pvalue C)) (i : ℕ) (p : Pvalue C) (item : p 
   next : take (i + 1) ps ≡ take i ps ++ p ∷ []
   next = take_more ps i p within ∙ ap (λ q. take i ps ++ q ∷ []) (sym item)
 
-  pub noted_turn : (first greatest new : Slots Numbers) → greatest ≡ all_noted first (take i ps) → new ≡ noted greatest p → new ≡ all_noted first (take (i + 1) ps)
+  pub noted_turn : (first greatest new : Slots Numbers) → greatest ≡ all_raised first (take i ps) → new ≡ raised greatest p → new ≡ all_raised first (take (i + 1) ps)
   noted_turn first greatest new so is =
-      is ∙ ap (λ m. noted m p) so ∙ sym (all_noted-append first (take i ps) (p ∷ [])) ∙
-      ap (λ qs. all_noted first qs) (sym next)
+      is ∙ ap (λ m. raised m p) so ∙ sym (all_raised-append first (take i ps) (p ∷ [])) ∙
+      ap (λ qs. all_raised first qs) (sym next)
 
   pub taken_turn : (greatest : Slots Numbers) (first taken new : Slots C) → taken ≡ all_taken greatest first (take i ps) → new ≡ value_taken greatest taken p → new ≡ all_taken greatest first (take (i + 1) ps)
   taken_turn greatest first taken new so is =

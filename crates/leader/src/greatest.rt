@@ -2,7 +2,7 @@ ghost use Rattle.std.specs.Prelude.{◌≡◌, ◌++◌, ℕ, IfOk, OnOk};
 ghost use Rattle.std.specs.Option.{option_or};
 ghost use Rattle.std.specs.FinMap as slots;
 ghost use Rattle.leader.specs.Adoptions.{TakesGreatest};
-ghost use Rattle.leader.specs.Greatest.{all_noted, all_taken};
+ghost use Rattle.leader.specs.Greatest.{all_raised, all_taken};
 
 use ballot::{Ballot, Pvalue, SlotMap, SlotRow};
 use object::Value;
@@ -35,7 +35,7 @@ fn note_greatest<C: Value>(
     pvalues: &[Pvalue<C>],
     greatest: &mut SlotMap<Ballot>,
 ) -> Result<(), AllocError>
-    ensures { OnOk result (greatest.new ≡ all_noted greatest.old pvalues.now) }
+    ensures { OnOk result (greatest.new ≡ all_raised greatest.old pvalues.now) }
 {
     for pvalue in pvalues {
         if greatest.get(pvalue.slot).copied() < Some(pvalue.ballot) {

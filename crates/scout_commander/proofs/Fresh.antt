@@ -1,11 +1,12 @@
 -- What is fresh of a report, one pvalue after another.
-use Rattle.std.proofs.Common.{◌≡◌, ◌⊎◌, inl, inr, ⊎_elim, ℕ, ◌+◌, ◌<◌, List, [], ◌∷◌, ◌++◌, length, take, get_or, sym, ap, subst, ◌∙◌, append_assoc}
+use Rattle.std.proofs.Common.{◌≡◌, ◌⊎◌, inl, inr, ⊎_elim, ℕ, ◌+◌, ◌<◌, List, [], ◌∷◌, ◌++◌, length, take, get_or, refl, sym, ap, subst, ◌∙◌, append_assoc}
+use Rattle.std.specs.Prelude.{Result, Ok, Err, OnErr}
 use Rattle.std.proofs.lemmas.List.{append-nil, take_more}
 use Rattle.std.proofs.Math.Seq.{drop-append_seam}
 use Rattle.object.specs.Lists.{In}
 use Rattle.ballot.specs.declared.pvalue.Pvalue.{Pvalue}
-use Rattle.scout_commander.specs.Reports.{IsOnce, IsFresh, beyond}
-use Rattle.scout_commander.proofs.Members.{in_cases, in_left, in_right, only_one}
+use Rattle.scout_commander.specs.Reports.{IsOnce, IsFresh, HasNews, beyond}
+use Rattle.scout_commander.proofs.Members.{in_cases, in_left, in_right, in_take, only_one}
 
 once_more : {X : Type 0} (xs : List X) (y : X) → IsOnce xs → (In y xs → ⊥) → IsOnce (xs ++ y ∷ [])
 once_more [] y o n = (λ i. i, tt)
@@ -13,6 +14,11 @@ once_more (x ∷ xs) y o n = (
   λ i. ⊎_elim (λ (j : In x xs). o.0 j) (λ (j : In x (y ∷ [])). n (inl (sym (only_one x y j)))) (in_cases x xs (y ∷ []) i),
   once_more xs y o.1 (λ i. n (inr i)),
 )
+
+-- what is so is so of a refusal
+pub on_err : {X E P : Type 0} (r : Result X E) → P → OnErr r P
+on_err (Ok x) p = tt
+on_err (Err e) p = p
 
 -- of no report nothing
 pub fresh_of_none : {C : Type 0} (gathered : List (Pvalue C)) → IsFresh gathered [] []
@@ -76,6 +82,14 @@ one_beyond old now new x e f =
 module _ {C : Type 0} (old now report : List (Pvalue C)) (i : ℕ) (p : Pvalue C) (kept : now ≡ old ++ beyond old now) (is : IsFresh old (take i report) (beyond old now)) (within : i < length report) (item : p ≡ get_or report i p) where
   next : take (i + 1) report ≡ take i report ++ p ∷ []
   next = take_more report i p within ∙ ap (λ q. take i report ++ q ∷ []) (sym item)
+
+  -- the next pvalue of the report is not there, so the report has one that wasn't gathered
+  pub turn_news : (In p now → ⊥) → HasNews old report
+  turn_news unseen = (
+    p,
+    in_take (i + 1) p report (subst (λ ps. In p ps) (sym next) (in_right p (take i report) (p ∷ []) (inl refl))),
+    λ there. unseen (subst (λ ps. In p ps) (sym kept) (in_left p old (beyond old now) there)),
+  )
 
   -- the next pvalue of the report is there
   pub turn_seen : In p now → IsFresh old (take (i + 1) report) (beyond old now)

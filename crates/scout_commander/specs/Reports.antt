@@ -15,6 +15,10 @@ pub record IsFresh {C : Type 0} (gathered report fresh : List (Pvalue C)) : Type
   pub new : (p : Pvalue C) → In p fresh → In p gathered → ⊥
   pub once : IsOnce fresh
 
+-- the report has a pvalue that isn't among those that were gathered
+abbrev pub HasNews : {C : Type 0} → List (Pvalue C) → List (Pvalue C) → Type 0
+HasNews {C} gathered report = (p : Pvalue C) × In p report × (In p gathered → ⊥)
+
 -- what a longer list has after the elements of a shorter one
 abbrev pub beyond : {X : Type 0} → List X → List X → List X
 beyond short long = drop (length short) long

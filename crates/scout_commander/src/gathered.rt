@@ -1,7 +1,7 @@
 ghost use Rattle.std.specs.Prelude.{◌≡◌, ◌↔◌, ◌≤◌, ℕ, ◌+◌, ◌++◌, ◌∷◌, [], true, length, take, IfOk, OnOk, OnErr};
 ghost use Rattle.object.specs.Lists.{In};
 ghost use Rattle.ballot.specs.Ballots.{Numbers};
-ghost use Rattle.scout_commander.specs.Reports.{IsFresh, beyond};
+ghost use Rattle.scout_commander.specs.Reports.{IsFresh, HasNews, beyond};
 ghost use Rattle.scout_commander.specs.Starts.{start};
 
 use ballot::{Ballot, Pvalue, Slot};
@@ -62,6 +62,7 @@ impl<C: Value> Gathered<C> {
         ensures kept { OnOk result (self.new ≡ self.old ++ beyond self.old self.new) }
         ensures fresh { OnOk result (IsFresh self.old report.now (beyond self.old self.new)) }
         ensures err { OnErr result (self.new ≡ self.old) }
+        ensures known { OnErr result (HasNews self.old report.now) }
     {
         let len = self.pvalues.len();
         let gathered = self.append_new(report);
@@ -75,6 +76,7 @@ impl<C: Value> Gathered<C> {
     fn append_new(&mut self, report: &[Pvalue<C>]) -> Result<(), AllocError>
         ensures kept { self.new ≡ self.old ++ beyond self.old self.new }
         ensures fresh { OnOk result (IsFresh self.old report.now (beyond self.old self.new)) }
+        ensures known { OnErr result (HasNews self.old report.now) }
     {
         for pvalue in report {
             if !self.contains(pvalue) {

@@ -1,4 +1,5 @@
 ghost use Rattle.std.specs.Prelude.{◌≡◌, ◌↔◌, true, IsOk, IfOk, OnOk, OnErr};
+ghost use Rattle.scout_commander.specs.Reports.{HasNews};
 ghost use Rattle.scout_commander.specs.Scouts.{new_scout, on_p1b as hearing, fresh_of, TakesFresh, IsPromising, IsAdopting, IsPreempting};
 
 use crate::gathered::Gathered;
@@ -28,6 +29,7 @@ pub struct Scout<C> {
 }
 
 impl<C> Model for Scout<C> {
+    ghost use Rattle.scout_commander.specs.Reports.{HasNews};
     ghost use Rattle.scout_commander.specs.Scouts.{Scouting};
 
     ghost Value = { Scouting C };
@@ -80,6 +82,7 @@ impl<C: Value> Scout<C> {
         ensures preempted { IfOk result (λ heard. (heard
             ≡ Heard.Preempted ballot) ↔ IsPreempting self.old.members self.old.ballot from ballot) }
         ensures idle { ¬ IsPromising self.old from ballot → IsOk result }
+        ensures known { OnErr result (HasNews self.old.gathered report.now) }
         ensures err { OnErr result (self.new ≡ self.old) }
     {
         if !self.members.has(from) {

@@ -1,7 +1,7 @@
 use Rattle.std.proofs.Common.{◌≡◌, ◌++◌, ◌+◌, List, take, true≢false, sym, subst, ◌∙◌}
 use Rattle.ballot.specs.declared.pvalue.Pvalue.{Pvalue}
 use Rattle.scout_commander.specs.Reports.{IsFresh, beyond}
-use Rattle.scout_commander.proofs.Fresh.{turn_seen, turn_more}
+use Rattle.scout_commander.proofs.Fresh.{turn_news, turn_seen, turn_more, on_err}
 use Rattle.scout_commander.proofs.gathered.Gathered.append_new.Goals as goal
 use Rattle.scout_commander.proofs.gathered.Gathered.append_new.Goals.{then-not-contains+in_ok-copy+in_ok-push, else-not-contains}
 
@@ -23,3 +23,15 @@ loop-pvalue-preserved g c =
           let seen = c.contains.ensures.0 w.if-not-contains.false in
           subst P (sym w.self-is) (record { kept = kept; fresh = turn_seen old now c.args.report.now i p kept fresh c.loop-pvalue-test.true c.pvalue-item.is seen })
     ]
+
+pub returns-in_err-copy-clause-known : goal.returns-in_err-copy-clause-known
+returns-in_err-copy-clause-known g c =
+    on_err c.from_residual.result
+    (turn_news c.args.self.now c.loop-pvalue.self c.args.report.now c.loop-pvalue.pvalue-index c.pvalue-item.result c.loop-pvalue.invariant.kept c.loop-pvalue.invariant.fresh c.loop-pvalue-test.true c.pvalue-item.is
+    (λ there. true≢false (sym (c.contains.ensures.1 there) ∙ c.if-not-contains.true)))
+
+pub returns-in_err-push-clause-known : goal.returns-in_err-push-clause-known
+returns-in_err-push-clause-known g c =
+    on_err c.from_residual-in_err-push.result
+    (turn_news c.args.self.now c.loop-pvalue.self c.args.report.now c.loop-pvalue.pvalue-index c.pvalue-item.result c.loop-pvalue.invariant.kept c.loop-pvalue.invariant.fresh c.loop-pvalue-test.true c.pvalue-item.is
+    (λ there. true≢false (sym (c.contains.ensures.1 there) ∙ c.if-not-contains.true)))
