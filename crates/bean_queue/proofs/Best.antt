@@ -11,7 +11,7 @@ use Rattle.session_store.specs.Sessions.{first_waiting, is_waiting, wait_rank}
 use Rattle.bean_queue.specs.Best.{IsWanted, IsBestTurn}
 use Rattle.bean_queue.specs.Queue.{QueueState, paused_tubes}
 use Rattle.bean_queue.specs.TurnLaws.{least-none, next_job-in}
-use Rattle.bean_queue.specs.Turns.{Turn, wanted, next_job, give, give_to, given, serve_turn}
+use Rattle.bean_queue.specs.Turns.{QueueTurn, wanted, next_job, give, give_to, given, serve_turn}
 use Rattle.bean_queue.proofs.Paused.{open-watched, watched-open}
 use Rattle.bean_queue.proofs.Served.{filter_map-there, wanted-by}
 
@@ -38,10 +38,10 @@ urgent finds s j best d w before =
 none≢some : {X : Type 0} (x : X) → None ≡ Some x → ⊥
 none≢some x e = cc
 
-same_turn : (t u : Turn) → Some t ≡ Some u → u ≡ t
+same_turn : (t u : QueueTurn) → Some t ≡ Some u → u ≡ t
 same_turn t u e = cc
 
-pub turn-best : FindsLeast Job → FindsLeast SessionState → (s : QueueState) (t : Turn) → serve_turn s ≡ Some t → IsBestTurn s t
+pub turn-best : FindsLeast Job → FindsLeast SessionState → (s : QueueState) (t : QueueTurn) → serve_turn s ≡ Some t → IsBestTurn s t
 unfolding serve_turn
 turn-best jobs sessions s t e =
     elim (next_job s) as (λ o. IfSome o (λ j. In j s.jobs × (is_ready j.1.state ≡ true)) → IfSome o (IsLeast (λ e. true) pri_of_job (filter_map (wanted (paused_tubes s) s.jobs) s.sessions)) → give s o ≡ Some t → IsBestTurn s t) [

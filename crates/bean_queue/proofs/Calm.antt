@@ -20,7 +20,7 @@ use Rattle.bean_queue.specs.declared.op.Op.{Op}
 use Rattle.bean_queue.specs.declared.reply.Reply.{Reply}
 use Rattle.bean_queue.specs.Queue.{QueueState, paused_tubes, with_sessions, fresh, watched_by, holds_by}
 use Rattle.bean_queue.specs.Rows.{Row, row, put_row, use_row, watch_row, ignore_row, reserve_row, delete_row, may_delete, is_job_that, release_row, touch_row, bury_row, kick_row, kick_job_row, peek_row}
-use Rattle.bean_queue.specs.Turns.{Outcome, after_option, Turn, stop, all_turns, wanted, give, serve_turn, told_turn, deadline_turn, timeout_turn, serve}
+use Rattle.bean_queue.specs.Turns.{Outcome, after_option, QueueTurn, stop, all_turns, wanted, give, serve_turn, told_turn, deadline_turn, timeout_turn, serve}
 use Rattle.bean_queue.specs.Effects.{own, own_outcome, then_do, called, ends_wait, is_zero, settled, has_no_number, carried_out, do_effect, released, forgotten, at_second, tick_effect, is_quiet}
 use Rattle.bean_queue.specs.TurnLaws.{least-none, none-least, turns-keep, deadline_turn-is, timeout_turn-is, IsTold, IfSome-map}
 use Rattle.bean_queue.proofs.Paused.{open-watched, watched-open}
@@ -198,9 +198,9 @@ settled-calm (Op.Reserve seconds) key s none =
     none
 settled-calm _ key s none = none
 
-told-calm : (reply : Reply) (s : QueueState) (t : Turn) → IsTold reply s t → serve_turn s ≡ None → serve_turn t.state ≡ None
+told-calm : (reply : Reply) (s : QueueState) (t : QueueTurn) → IsTold reply s t → serve_turn s ≡ None → serve_turn t.state ≡ None
 unfolding told_turn
-told-calm reply s t i none = subst (λ (t : Turn). serve_turn t.state ≡ None) (sym i.made) (ended-calm i.session.0 s none)
+told-calm reply s t i none = subst (λ (t : QueueTurn). serve_turn t.state ≡ None) (sym i.made) (ended-calm i.session.0 s none)
 
 pub deadlines-calm : (s : QueueState) → serve_turn s ≡ None → serve_turn (all_turns deadline_turn s).state ≡ None
 unfolding all_turns

@@ -16,7 +16,7 @@ use Rattle.bean_queue.specs.Queue.{QueueState, holds_by, HasRisingIds}
 use Rattle.bean_queue.specs.Rows.{row}
 use Rattle.bean_queue.specs.Turns.{Outcome, stop, serve, all_turns, deadline_turn, timeout_turn}
 use Rattle.bean_queue.specs.Effects.{own, called, ends_wait, is_zero, settled, then_do, own_outcome, has_no_number, carried_out, do_effect, released, close_effect, at_second, tick_effect, act_effect, effect}
-use Rattle.bean_queue.specs.Places.{Place, place}
+use Rattle.bean_queue.specs.Places.{Place, queue_place}
 use Rattle.bean_queue.specs.Holds.{is_reserved, is_touched, is_touch, reserved_in, touches, Ends}
 use Rattle.bean_queue.proofs.Held.{Held, Held-each, KeepsHold, IsQuiet, IsAside, quiet-append, reserved_in-append, sound-along, aside-keeps, serve-keeps, deadlines-aside, timeouts-aside}
 use Rattle.bean_queue.proofs.Given.{Gave, GivesOnce, serve-gives}
@@ -166,7 +166,7 @@ carried_out-touched : (op : Op) (key : Key) (s : QueueState) → (row op key (ca
 unfolding carried_out
 carried_out-touched op key s e = own_touched key _ _ _ e
 
-carried_out-ends : (x id due : ℕ) (op : Op) (key : Key) (s : QueueState) (reply : Reply) → EndsHold id op reply → key.session ≡ x → (row op key (called key.session s)).reply ≡ Some reply → Ends (place (record { key = key; act = Act.Do op }) (carried_out op key s)) x id due
+carried_out-ends : (x id due : ℕ) (op : Op) (key : Key) (s : QueueState) (reply : Reply) → EndsHold id op reply → key.session ≡ x → (row op key (called key.session s)).reply ≡ Some reply → Ends (queue_place (record { key = key; act = Act.Do op }) (carried_out op key s)) x id due
 carried_out-ends x id due op key s reply (EndsHold.by_delete j same) who e = Ends.deleted (who, ap (λ q. Act.Do (Op.Delete q)) same, carried_out-own (Op.Delete j) key s Reply.Deleted e)
 carried_out-ends x id due op key s reply (EndsHold.by_release j pri delay same) who e = Ends.released pri delay (who, ap (λ q. Act.Do (Op.Release q pri delay)) same, carried_out-own (Op.Release j pri delay) key s Reply.Released e)
 carried_out-ends x id due op key s reply (EndsHold.by_bury j pri same) who e = Ends.buried pri (who, ap (λ q. Act.Do (Op.Bury q pri)) same, carried_out-own (Op.Bury j pri) key s Reply.Buried e)
@@ -179,9 +179,9 @@ untouched false b c e = refl
 touched : (a b c : Bool) → a ≡ true → b ≡ true → c ≡ true → (a && (b && c)) ≡ true
 touched a b c p q r = cc
 
-carried_out-holds : (x id ttr second : ℕ) (op : Op) (key : Key) (s : QueueState) → HasRisingIds s → Held s.jobs x id ttr second → HoldsOn x id ttr second (place (record { key = key; act = Act.Do op }) (carried_out op key s))
+carried_out-holds : (x id ttr second : ℕ) (op : Op) (key : Key) (s : QueueState) → HasRisingIds s → Held s.jobs x id ttr second → HoldsOn x id ttr second (queue_place (record { key = key; act = Act.Do op }) (carried_out op key s))
 carried_out-holds x id ttr second op key s sound h =
-    let p : Place = place (record { key = key; act = Act.Do op }) (carried_out op key s) in
+    let p : Place = queue_place (record { key = key; act = Act.Do op }) (carried_out op key s) in
     elim (row-holds x id ttr second op key (called key.session s) sound h) as (λ v. HoldsOn x id ttr second p) [
       | HoldAfter.ended reply e who said ↦ ends (carried_out-ends x id (second + ttr) op key s reply e who said)
       | HoldAfter.stays h e ↦
@@ -198,20 +198,20 @@ without_touch true false = refl
 without_touch false b = refl
 
 -- nothing but the end of a wait
-refused-holds : (x id ttr second : ℕ) (op : Op) (key : Key) (s : QueueState) → HasRisingIds s → Held s.jobs x id ttr second → HoldsOn x id ttr second (place (record { key = key; act = Act.Do op }) (ends_wait s key Reply.InternalError))
+refused-holds : (x id ttr second : ℕ) (op : Op) (key : Key) (s : QueueState) → HasRisingIds s → Held s.jobs x id ttr second → HoldsOn x id ttr second (queue_place (record { key = key; act = Act.Do op }) (ends_wait s key Reply.InternalError))
 refused-holds x id ttr second op key s sound h =
     on refl sound
-    (subst (λ n. Held s.jobs x id ttr n) (sym (cond-false (touches (place (record { key = key; act = Act.Do op }) (ends_wait s key Reply.InternalError)) x id) s.now second (without_touch (is_touch id (Act.Do op)) (key.session == x)))) h)
+    (subst (λ n. Held s.jobs x id ttr n) (sym (cond-false (touches (queue_place (record { key = key; act = Act.Do op }) (ends_wait s key Reply.InternalError)) x id) s.now second (without_touch (is_touch id (Act.Do op)) (key.session == x)))) h)
 
-pub do-holds : (x id ttr second : ℕ) (op : Op) (key : Key) (s : QueueState) → HasRisingIds s → Held s.jobs x id ttr second → HoldsOn x id ttr second (place (record { key = key; act = Act.Do op }) (do_effect op key s))
+pub do-holds : (x id ttr second : ℕ) (op : Op) (key : Key) (s : QueueState) → HasRisingIds s → Held s.jobs x id ttr second → HoldsOn x id ttr second (queue_place (record { key = key; act = Act.Do op }) (do_effect op key s))
 unfolding do_effect
 do-holds x id ttr second op key s sound h =
-    elim (has_no_number op s) as (λ b. HoldsOn x id ttr second (place (record { key = key; act = Act.Do op }) (cond b (ends_wait s key Reply.InternalError) (carried_out op key s)))) [
+    elim (has_no_number op s) as (λ b. HoldsOn x id ttr second (queue_place (record { key = key; act = Act.Do op }) (cond b (ends_wait s key Reply.InternalError) (carried_out op key s)))) [
       | true ↦ refused-holds x id ttr second op key s sound h
       | false ↦ carried_out-holds x id ttr second op key s sound h
     ]
 
-pub close-holds : (x id ttr second : ℕ) (key : Key) (s : QueueState) → HasRisingIds s → Held s.jobs x id ttr second → HoldsOn x id ttr second (place (record { key = key; act = Act.Close }) (close_effect key.session s))
+pub close-holds : (x id ttr second : ℕ) (key : Key) (s : QueueState) → HasRisingIds s → Held s.jobs x id ttr second → HoldsOn x id ttr second (queue_place (record { key = key; act = Act.Close }) (close_effect key.session s))
 unfolding close_effect
 close-holds x id ttr second key s sound h =
     elim (cases_eq key.session x) [
@@ -225,13 +225,13 @@ close-holds x id ttr second key s sound h =
           on k.quiet k.keeps.sound k.keeps.held
     ]
 
-pub tick-holds : (x id ttr second : ℕ) (key : Key) (s : QueueState) → HasRisingIds s → Held s.jobs x id ttr second → HoldsOn x id ttr second (place (record { key = key; act = Act.Tick }) (tick_effect key.number s))
+pub tick-holds : (x id ttr second : ℕ) (key : Key) (s : QueueState) → HasRisingIds s → Held s.jobs x id ttr second → HoldsOn x id ttr second (queue_place (record { key = key; act = Act.Tick }) (tick_effect key.number s))
 unfolding tick_effect
 tick-holds x id ttr second key s sound h =
     elim (cases_Bool (nat_le (second + ttr) key.number)) [
       | inl due ↦ ends (Ends.came_due refl (leb-true (second + ttr) key.number due))
       | inr early ↦
-          elim (nat_lt s.now key.number) as (λ b. HoldsOn x id ttr second (place (record { key = key; act = Act.Tick }) (cond b (then_do (then_do (serve (at_second key.number s)) (all_turns deadline_turn)) (all_turns timeout_turn)) (stop s)))) [
+          elim (nat_lt s.now key.number) as (λ b. HoldsOn x id ttr second (queue_place (record { key = key; act = Act.Tick }) (cond b (then_do (then_do (serve (at_second key.number s)) (all_turns deadline_turn)) (all_turns timeout_turn)) (stop s)))) [
             | true ↦
                 let k = serve-keeps x id ttr second key.number (at_second key.number s) (record {
                   sound = Rising-each _ 1 s.next_id s.jobs sound;
@@ -245,10 +245,10 @@ tick-holds x id ttr second key s sound h =
           ]
     ]
 
-pub effect-holds : (x id ttr second : ℕ) (c : Command Op) (s : QueueState) → HasRisingIds s → Held s.jobs x id ttr second → HoldsOn x id ttr second (place c (effect c s))
+pub effect-holds : (x id ttr second : ℕ) (c : Command Op) (s : QueueState) → HasRisingIds s → Held s.jobs x id ttr second → HoldsOn x id ttr second (queue_place c (effect c s))
 unfolding effect act_effect
 effect-holds x id ttr second c s sound h =
-    elim c.act as (λ act. HoldsOn x id ttr second (place (record { key = c.key; act = act }) (act_effect act c.key s))) [
+    elim c.act as (λ act. HoldsOn x id ttr second (queue_place (record { key = c.key; act = act }) (act_effect act c.key s))) [
       | Act.Do op ↦ do-holds x id ttr second op c.key s sound h
       | Act.Close ↦ close-holds x id ttr second c.key s sound h
       | Act.Tick ↦ tick-holds x id ttr second c.key s sound h

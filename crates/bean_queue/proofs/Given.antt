@@ -11,7 +11,7 @@ use Rattle.session_store.specs.declared.session.SessionState.{SessionState}
 use Rattle.session_store.specs.EntryLaws.{value_at-In, Rising-altered}
 use Rattle.bean_queue.specs.declared.reply.Reply.{Reply}
 use Rattle.bean_queue.specs.Queue.{QueueState, HasRisingIds}
-use Rattle.bean_queue.specs.Turns.{Outcome, Turn, turns, all_turns, after_turn, after_option, given, serve_turn, serve}
+use Rattle.bean_queue.specs.Turns.{Outcome, QueueTurn, turns, all_turns, after_turn, after_option, given, serve_turn, serve}
 use Rattle.bean_queue.specs.Holds.{is_reserved, reserved_in}
 use Rattle.bean_queue.specs.TurnLaws.{turns-keep, serve_turn-is, IsServed}
 use Rattle.bean_queue.proofs.Held.{Held, Held-reserved, Keeps, IsQuietReply, IsQuiet, quiet-all, serve-keeps_turn}
@@ -94,7 +94,7 @@ turns-give id now (suc n) s sound at =
       | Some t ↦ λ i.
           let j = i.job in
           let w = i.session in
-          subst (λ (t : Turn). GivesOnce id now (after_turn t.answer (turns serve_turn n t.state))) (sym i.made)
+          subst (λ (t : QueueTurn). GivesOnce id now (after_turn t.answer (turns serve_turn n t.state))) (sym i.made)
           (elim (cases_eq id i.job.0) as (λ v. GivesOnce id now (after_turn (given s i.job i.session).answer (turns serve_turn n (given s i.job i.session).state))) [
             | inl same ↦
                 let r = turns-keep serve_turn (Keeps i.session.0 id i.job.1.ttr now now) (IsQuietReply id) (serve-keeps_turn i.session.0 id i.job.1.ttr now now) n (given s i.job i.session).state (now_held id now s i.job i.session same i.there sound at) in

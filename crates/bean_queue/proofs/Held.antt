@@ -12,7 +12,7 @@ use Rattle.session_store.specs.declared.session.SessionState.{SessionState}
 use Rattle.session_store.specs.EntryLaws.{value_at-each, value_at-altered_same, value_at-altered_other, value_at-In, Rising-altered}
 use Rattle.bean_queue.specs.declared.reply.Reply.{Reply}
 use Rattle.bean_queue.specs.Queue.{QueueState, HasRisingIds}
-use Rattle.bean_queue.specs.Turns.{Outcome, Turn, all_turns, given, serve_turn, told_turn, deadline_turn, timeout_turn, serve}
+use Rattle.bean_queue.specs.Turns.{Outcome, QueueTurn, all_turns, given, serve_turn, told_turn, deadline_turn, timeout_turn, serve}
 use Rattle.bean_queue.specs.Holds.{is_reserved, reserved_in}
 use Rattle.bean_queue.specs.TurnLaws.{turns-keep, serve_turn-is, deadline_turn-is, timeout_turn-is, IsServed, IsTold, IfSome-map}
 
@@ -67,7 +67,7 @@ serve-keeps_turn x id ttr second now s k =
     IfSome-map _ _ (serve_turn s)
     (λ t (i : IsServed s t).
     let apart : i.job.0 ≡ id → ⊥ = ready_apart s.jobs s.next_id x id ttr second i.job k.sound k.held i.there i.ready in
-    subst (λ (t : Turn). Keeps x id ttr second now t.state × IsQuietReply id t.answer) (sym i.made) (
+    subst (λ (t : QueueTurn). Keeps x id ttr second now t.state × IsQuietReply id t.answer) (sym i.made) (
       record {
         sound = Rising-altered _ _ 1 s.next_id s.jobs k.sound;
         held = Held-altered_other i.job.0 _ s.jobs x id ttr second apart k.held;
@@ -132,10 +132,10 @@ told-quiet : (s : QueueState) (reply : Reply) (w : ℕ × SessionState) (id : �
 unfolding told_turn
 told-quiet s reply w id e = e
 
-told-aside : (reply : Reply) → ((id : ℕ) → is_reserved id reply ≡ false) → (turn : QueueState → Option Turn) → ((s : QueueState) → IfSome (turn s) (IsTold reply s)) → (s : QueueState) → IsAside s (all_turns turn s)
+told-aside : (reply : Reply) → ((id : ℕ) → is_reserved id reply ≡ false) → (turn : QueueState → Option QueueTurn) → ((s : QueueState) → IfSome (turn s) (IsTold reply s)) → (s : QueueState) → IsAside s (all_turns turn s)
 unfolding all_turns
 told-aside reply quiet turn is s =
-    let r = turns-keep turn (IsLike s) (λ a. (id : ℕ) → is_reserved id a.reply ≡ false) (λ t l. IfSome-map _ _ (turn t) (λ u (i : IsTold reply t u). subst (λ (u : Turn). IsLike s u.state × ((id : ℕ) → is_reserved id u.answer.reply ≡ false)) (sym i.made) (told-like s t reply i.session l, λ id. told-quiet t reply i.session id (quiet id))) (is t)) (length s.sessions) s (record { jobs = refl; at = refl; next = refl }) in
+    let r = turns-keep turn (IsLike s) (λ a. (id : ℕ) → is_reserved id a.reply ≡ false) (λ t l. IfSome-map _ _ (turn t) (λ u (i : IsTold reply t u). subst (λ (u : QueueTurn). IsLike s u.state × ((id : ℕ) → is_reserved id u.answer.reply ≡ false)) (sym i.made) (told-like s t reply i.session l, λ id. told-quiet t reply i.session id (quiet id))) (is t)) (length s.sessions) s (record { jobs = refl; at = refl; next = refl }) in
     record { jobs = r.0.jobs; at = r.0.at; next = r.0.next; quiet = λ id. quiet-all id _ (all-at id _ r.1) }
 
 pub deadlines-aside : (s : QueueState) → IsAside s (all_turns deadline_turn s)

@@ -19,7 +19,7 @@ use Rattle.bean_queue.specs.declared.reply.Reply.{Reply}
 use Rattle.bean_queue.specs.Holders.{holder_by, waits_at, waiting_holder, times_noted, has_due, AreHolders, HasHolders, IsSomeHolder, StandAsOften}
 use Rattle.bean_queue.specs.Queue.{QueueState, holds_by}
 use Rattle.bean_queue.specs.TurnLaws.{IsTold, deadline_turn-is}
-use Rattle.bean_queue.specs.Turns.{Turn, IsTurn, told_turn, deadline_turn}
+use Rattle.bean_queue.specs.Turns.{QueueTurn, IsTurn, told_turn, deadline_turn}
 use Rattle.bean_queue.specs.WaitLaws.{in-append}
 use Rattle.bean_queue.proofs.Calm.{ended-calmer}
 use Rattle.bean_queue.proofs.Counted.{one_if, chosen-last, chosen-alike, chosen-none, chosen-more}
@@ -376,4 +376,4 @@ holders-turn numbers s t xs ys false i holders = subst (λ (u : QueueState). Has
 holders-turn numbers s t xs ys true i holders =
     let was : IsTold Reply.DeadlineSoon s i.0 = subst (λ o. IfSome o (IsTold Reply.DeadlineSoon s)) i.1 (deadline_turn-is s) in
     let after : HasHolders numbers (s.now + 1) s.jobs (with_wait_ended was.session.0 s.sessions) = λ w j waits holds. holders w (ended-calmer was.session.0 s.sessions w j waits) waits holds in
-    subst (λ (u : QueueState). HasHolders numbers (u.now + 1) u.jobs u.sessions) (sym (i.2 ∙ ap (λ (u : Turn). u.state) was.made)) after
+    subst (λ (u : QueueState). HasHolders numbers (u.now + 1) u.jobs u.sessions) (sym (i.2 ∙ ap (λ (u : QueueTurn). u.state) was.made)) after

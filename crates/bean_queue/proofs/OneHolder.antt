@@ -8,7 +8,7 @@ use Rattle.bean_queue.specs.declared.reply.Reply.{Reply}
 use Rattle.bean_queue.specs.Queue.{QueueState, fresh, HasRisingIds}
 use Rattle.bean_queue.specs.Turns.{Outcome}
 use Rattle.bean_queue.specs.Effects.{effect}
-use Rattle.bean_queue.specs.Places.{Place, place, places_from, places}
+use Rattle.bean_queue.specs.Places.{Place, queue_place, places_from, queue_places}
 use Rattle.bean_queue.specs.Holds.{reserved_in, Gets, HasEnded, touches, ttr_in, ttr_of, IsGivenOnce, IsHeldByOne}
 use Rattle.bean_queue.proofs.Held.{Held, IsQuiet}
 use Rattle.bean_queue.proofs.Given.{GivesOnce}
@@ -38,9 +38,9 @@ given_once-from : (cs : List (Command Op)) (s : QueueState) → HasRisingIds s �
 unfolding places_from
 given_once-from [] s sound before rest p id e = absurd (not_empty before rest p e)
 given_once-from (c ∷ cs) s sound [] rest p id e =
-    subst (λ (p : Place). length (reserved_in id p.answers) ≤ 1) (same_head (place c (effect c s)) p (places_from (effect c s).state cs) rest e) (gives_one id _ (effect c s) (effect-gives id c s sound))
+    subst (λ (p : Place). length (reserved_in id p.answers) ≤ 1) (same_head (queue_place c (effect c s)) p (places_from (effect c s).state cs) rest e) (gives_one id _ (effect c s) (effect-gives id c s sound))
 given_once-from (c ∷ cs) s sound (b ∷ before) rest p id e =
-    given_once-from cs (effect c s).state (effect-sound c s sound) before rest p id (same_tail (place c (effect c s)) b (places_from (effect c s).state cs) (before ++ p ∷ rest) e)
+    given_once-from cs (effect c s).state (effect-sound c s sound) before rest p id (same_tail (queue_place c (effect c s)) b (places_from (effect c s).state cs) (before ++ p ∷ rest) e)
 
 -- nobody gets what a quiet place does not give
 none_gets : (p : Place) (y id : ℕ) → IsQuiet id p.answers → Gets p y id → ⊥
@@ -50,31 +50,31 @@ after_hold : (cs : List (Command Op)) (s : QueueState) (between rest : List Plac
 unfolding places_from
 after_hold [] s between rest q x y id ttr second sound h e g = absurd (not_empty between rest q e)
 after_hold (c ∷ cs) s [] rest q x y id ttr second sound h e g =
-    let same : place c (effect c s) ≡ q = same_head (place c (effect c s)) q (places_from (effect c s).state cs) rest e in
+    let same : queue_place c (effect c s) ≡ q = same_head (queue_place c (effect c s)) q (places_from (effect c s).state cs) rest e in
     elim (effect-holds x id ttr second c s sound h) as (λ v. HasEnded [] q x id second ttr) [
-      | HoldsOn.ends ended ↦ ([], place c (effect c s), [], ap (λ z. z ∷ []) (sym same), ended)
+      | HoldsOn.ends ended ↦ ([], queue_place c (effect c s), [], ap (λ z. z ∷ []) (sym same), ended)
       | HoldsOn.on quiet later held ↦ absurd (none_gets q y id (subst (λ (q : Place). IsQuiet id q.answers) same quiet) g)
     ]
 after_hold (c ∷ cs) s (b ∷ between) rest q x y id ttr second sound h e g =
-    let same : place c (effect c s) ≡ b = same_head (place c (effect c s)) b (places_from (effect c s).state cs) (between ++ q ∷ rest) e in
-    let next : places_from (effect c s).state cs ≡ between ++ q ∷ rest = same_tail (place c (effect c s)) b (places_from (effect c s).state cs) (between ++ q ∷ rest) e in
+    let same : queue_place c (effect c s) ≡ b = same_head (queue_place c (effect c s)) b (places_from (effect c s).state cs) (between ++ q ∷ rest) e in
+    let next : places_from (effect c s).state cs ≡ between ++ q ∷ rest = same_tail (queue_place c (effect c s)) b (places_from (effect c s).state cs) (between ++ q ∷ rest) e in
     elim (effect-holds x id ttr second c s sound h) as (λ v. HasEnded (b ∷ between) q x id second ttr) [
-      | HoldsOn.ends ended ↦ ([], place c (effect c s), between ++ q ∷ [], ap (λ z. z ∷ (between ++ q ∷ [])) (sym same), ended)
+      | HoldsOn.ends ended ↦ ([], queue_place c (effect c s), between ++ q ∷ [], ap (λ z. z ∷ (between ++ q ∷ [])) (sym same), ended)
       | HoldsOn.on quiet later held ↦
-          let r = after_hold cs (effect c s).state between rest q x y id ttr (cond (touches (place c (effect c s)) x id) (effect c s).state.now second) later held next g in
-          (place c (effect c s) ∷ r.0, r.1, r.2, ap₂ (λ z zs. z ∷ zs) (sym same) r.3, r.4)
+          let r = after_hold cs (effect c s).state between rest q x y id ttr (cond (touches (queue_place c (effect c s)) x id) (effect c s).state.now second) later held next g in
+          (queue_place c (effect c s) ∷ r.0, r.1, r.2, ap₂ (λ z zs. z ∷ zs) (sym same) r.3, r.4)
     ]
 
 ttr_held : (s : QueueState) (x id ttr second : ℕ) → Held s.jobs x id ttr second → ttr ≡ ttr_of id s
 ttr_held s x id ttr second h = sym (ap ttr_in h.there ∙ h.runs)
 
 -- the place c gives x the job
-holder : (c : Command Op) (s : QueueState) (x id : ℕ) → HasRisingIds s → Gets (place c (effect c s)) x id → Held (effect c s).state.jobs x id (ttr_of id (effect c s).state) (effect c s).state.now
+holder : (c : Command Op) (s : QueueState) (x id : ℕ) → HasRisingIds s → Gets (queue_place c (effect c s)) x id → Held (effect c s).state.jobs x id (ttr_of id (effect c s).state) (effect c s).state.now
 holder c s x id sound g =
     let o = effect c s in
     let v : GivesOnce id (effect c s).state.now (effect c s) = effect-gives id c s sound in
     elim v.given as (λ v. Held (effect c s).state.jobs x id (ttr_of id (effect c s).state) (effect c s).state.now) [
-      | inl quiet ↦ absurd (none_gets (place c (effect c s)) x id quiet g)
+      | inl quiet ↦ absurd (none_gets (queue_place c (effect c s)) x id quiet g)
       | inr gave ↦
           let i : In g.0 (gave.answer ∷ []) = subst (λ zs. In g.0 zs) gave.only g.1 in
           let same : g.0 ≡ gave.answer = elim i as (λ i. g.0 ≡ gave.answer) [ inl here ↦ here | inr never ↦ absurd never ] in
@@ -86,20 +86,20 @@ held_by_one-from : (cs : List (Command Op)) (s : QueueState) → HasRisingIds s 
 unfolding places_from
 held_by_one-from [] s sound before between rest p q x y id e gp gq = absurd (not_empty before (between ++ q ∷ rest) p e)
 held_by_one-from (c ∷ cs) s sound [] between rest p q x y id e gp gq =
-    let same : place c (effect c s) ≡ p = same_head (place c (effect c s)) p (places_from (effect c s).state cs) (between ++ q ∷ rest) e in
-    let next : places_from (effect c s).state cs ≡ between ++ q ∷ rest = same_tail (place c (effect c s)) p (places_from (effect c s).state cs) (between ++ q ∷ rest) e in
+    let same : queue_place c (effect c s) ≡ p = same_head (queue_place c (effect c s)) p (places_from (effect c s).state cs) (between ++ q ∷ rest) e in
+    let next : places_from (effect c s).state cs ≡ between ++ q ∷ rest = same_tail (queue_place c (effect c s)) p (places_from (effect c s).state cs) (between ++ q ∷ rest) e in
     subst (λ (p : Place). HasEnded between q x id p.state.now (ttr_of id p.state)) same
     (after_hold cs (effect c s).state between rest q x y id (ttr_of id (effect c s).state) (effect c s).state.now (effect-sound c s sound)
     (holder c s x id sound (subst (λ (p : Place). Gets p x id) (sym same) gp)) next gq)
 held_by_one-from (c ∷ cs) s sound (b ∷ before) between rest p q x y id e gp gq =
     held_by_one-from cs (effect c s).state (effect-sound c s sound) before between rest p q x y id
-    (same_tail (place c (effect c s)) b (places_from (effect c s).state cs) (before ++ p ∷ (between ++ q ∷ rest)) e) gp gq
+    (same_tail (queue_place c (effect c s)) b (places_from (effect c s).state cs) (before ++ p ∷ (between ++ q ∷ rest)) e) gp gq
 
 fresh-sound : HasRisingIds fresh
 fresh-sound = omega arith
 
-pub given_once : (cs : List (Command Op)) → IsGivenOnce (places cs)
+pub given_once : (cs : List (Command Op)) → IsGivenOnce (queue_places cs)
 given_once cs = given_once-from cs fresh fresh-sound
 
-pub held_by_one : (cs : List (Command Op)) → IsHeldByOne (places cs)
+pub held_by_one : (cs : List (Command Op)) → IsHeldByOne (queue_places cs)
 held_by_one cs = held_by_one-from cs fresh fresh-sound

@@ -10,7 +10,7 @@ use Rattle.bean_queue.specs.Effects.{at_second, tick_effect, then_do}
 use Rattle.bean_queue.specs.Owed.{OwesNothing}
 use Rattle.bean_queue.specs.Queue.{QueueState, holds_by}
 use Rattle.bean_queue.specs.TurnLaws.{least-none, turns-keep, timeout_turn-is, IsTold, IfSome-map}
-use Rattle.bean_queue.specs.Turns.{Turn, all_turns, serve, serve_turn, tell, told_turn, deadline_turn, timeout_turn, stop}
+use Rattle.bean_queue.specs.Turns.{QueueTurn, all_turns, serve, serve_turn, tell, told_turn, deadline_turn, timeout_turn, stop}
 use Rattle.bean_queue.proofs.Calm.{ended-calmer, deadlines-calm, timeouts-calm}
 use Rattle.bean_queue.proofs.Holders.{held-due, holds-one}
 use Rattle.bean_queue.proofs.Served.{waiters-length, turns-done, serve-done, tells_deadline, tells_timeout}
@@ -39,9 +39,9 @@ holds-done : (s : QueueState) → NobodyHolds (all_turns deadline_turn s).state
 unfolding all_turns
 holds-done s = none-holds _ (turns-done deadline_turn tells_deadline (length s.sessions) s (waiters-length s.sessions))
 
-told-holds : (reply : Reply) (s : QueueState) (t : Turn) → IsTold reply s t → NobodyHolds s → NobodyHolds t.state
+told-holds : (reply : Reply) (s : QueueState) (t : QueueTurn) → IsTold reply s t → NobodyHolds s → NobodyHolds t.state
 unfolding told_turn
-told-holds reply s t i h = subst (λ (t : Turn). NobodyHolds t.state) (sym i.made) (λ w there waits holds. h w (ended-calmer i.session.0 s.sessions w there waits) waits holds)
+told-holds reply s t i h = subst (λ (t : QueueTurn). NobodyHolds t.state) (sym i.made) (λ w there waits holds. h w (ended-calmer i.session.0 s.sessions w there waits) waits holds)
 
 timeouts-hold : (s : QueueState) → NobodyHolds s → NobodyHolds (all_turns timeout_turn s).state
 unfolding all_turns

@@ -11,7 +11,7 @@ use Rattle.session_store.specs.declared.session.SessionState.{SessionState}
 use Rattle.session_store.specs.Sessions.{first_waiting, with_wait_ended, with_wait, is_waiting, wait_rank}
 use Rattle.bean_queue.specs.declared.reply.Reply.{Reply}
 use Rattle.bean_queue.specs.Queue.{QueueState, paused_tubes}
-use Rattle.bean_queue.specs.Turns.{Outcome, Turn, IsTurn, stop, turns, all_turns, after_turn, after_option, wanted, next_job, give, give_to, given, serve_turn, deadline_turn, timeout_turn, serve}
+use Rattle.bean_queue.specs.Turns.{Outcome, QueueTurn, IsTurn, stop, turns, all_turns, after_turn, after_option, wanted, next_job, give, give_to, given, serve_turn, deadline_turn, timeout_turn, serve}
 use Rattle.bean_queue.specs.TurnLaws.{serve_turn-is, deadline_turn-is, timeout_turn-is, least-in, least-none, IfSome-map, best_ready-in}
 use Rattle.bean_queue.proofs.Paused.{open-watched}
 use Rattle.bean_queue.specs.WaitLaws.{IsWaiterTurn, given-waiter, told-waiter}
@@ -51,7 +51,7 @@ waiters-less w (e ∷ es) (inr later) t =
       | false ↦ omega arith
     ]
 
-pub turns-done : (turn : QueueState → Option Turn) → ((s : QueueState) → IfSome (turn s) (IsWaiterTurn s)) → (n : ℕ) (s : QueueState) → waiters s.sessions ≤ n → turn (turns turn n s).state ≡ None
+pub turns-done : (turn : QueueState → Option QueueTurn) → ((s : QueueState) → IfSome (turn s) (IsWaiterTurn s)) → (n : ℕ) (s : QueueState) → waiters s.sessions ≤ n → turn (turns turn n s).state ≡ None
 unfolding turns
 turns-done turn good zero s few =
     elim (turn s) as (λ o. IfSome o (IsWaiterTurn s) → o ≡ None) [
@@ -122,7 +122,7 @@ idle_none s idle e i t =
     ] refl
 
 -- turns that are enough are all alike
-turns-enough : (turn : QueueState → Option Turn) → ((s : QueueState) → IfSome (turn s) (IsWaiterTurn s)) → (n m : ℕ) (s : QueueState) → waiters s.sessions ≤ n → waiters s.sessions ≤ m → turns turn n s ≡ turns turn m s
+turns-enough : (turn : QueueState → Option QueueTurn) → ((s : QueueState) → IfSome (turn s) (IsWaiterTurn s)) → (n m : ℕ) (s : QueueState) → waiters s.sessions ≤ n → waiters s.sessions ≤ m → turns turn n s ≡ turns turn m s
 unfolding turns
 turns-enough turn good zero zero s a b = refl
 turns-enough turn good zero (suc m) s a b =
@@ -145,7 +145,7 @@ turns-enough turn good (suc n) (suc m) s a b =
     ] (good s)
 
 -- a session that waits gets each turn's answer
-abbrev pub IsTurnOfWaiters : (QueueState → Option Turn) → Type 0
+abbrev pub IsTurnOfWaiters : (QueueState → Option QueueTurn) → Type 0
 IsTurnOfWaiters turn = (s : QueueState) → IfSome (turn s) (IsWaiterTurn s)
 
 pub serves : IsTurnOfWaiters serve_turn
@@ -158,7 +158,7 @@ pub tells_timeout : IsTurnOfWaiters timeout_turn
 tells_timeout s = IfSome-map _ _ (timeout_turn s) (told-waiter Reply.TimedOut s) (timeout_turn-is s)
 
 -- all turns are one turn and all turns again, or nothing: what a loop needs
-pub turns-unroll : (turn : QueueState → Option Turn) → IsTurnOfWaiters turn → (s : QueueState) → all_turns turn s ≡ after_option (all_turns turn) s (turn s)
+pub turns-unroll : (turn : QueueState → Option QueueTurn) → IsTurnOfWaiters turn → (s : QueueState) → all_turns turn s ≡ after_option (all_turns turn) s (turn s)
 unfolding all_turns turns
 turns-unroll turn good s =
     turns-enough turn good (length s.sessions) (suc (length s.sessions)) s (waiters-length s.sessions) (let h = waiters-length s.sessions in omega arith) ∙
@@ -172,7 +172,7 @@ turns-unroll turn good s =
     ] (good s)
 
 -- each turn leaves fewer that wait: the measure of such a loop
-turn-fewer : (turn : QueueState → Option Turn) → IsTurnOfWaiters turn → (s : QueueState) → IfSome (turn s) (λ t. waiters t.state.sessions < waiters s.sessions)
+turn-fewer : (turn : QueueState → Option QueueTurn) → IsTurnOfWaiters turn → (s : QueueState) → IfSome (turn s) (λ t. waiters t.state.sessions < waiters s.sessions)
 turn-fewer turn good s =
     IfSome-map _ _ (turn s)
     (λ t i.
@@ -182,12 +182,12 @@ turn-fewer turn good s =
     (good s)
 
 -- what is known after one call that makes a turn
-pub record IsStep (turn : QueueState → Option Turn) (s t : QueueState) (xs ys : List (Answer Reply)) : Type 0 where
+pub record IsStep (turn : QueueState → Option QueueTurn) (s t : QueueState) (xs ys : List (Answer Reply)) : Type 0 where
   pub state : (all_turns turn t).state ≡ (all_turns turn s).state
   pub answers : ys ++ (all_turns turn t).answers ≡ xs ++ (all_turns turn s).answers
   pub fewer : waiters t.sessions < waiters s.sessions
 
-turn-step : (turn : QueueState → Option Turn) → IsTurnOfWaiters turn → (s : QueueState) (u : Turn) (xs : List (Answer Reply)) → turn s ≡ Some u → IsStep turn s u.state xs (xs ++ u.answer ∷ [])
+turn-step : (turn : QueueState → Option QueueTurn) → IsTurnOfWaiters turn → (s : QueueState) (u : QueueTurn) (xs : List (Answer Reply)) → turn s ≡ Some u → IsStep turn s u.state xs (xs ++ u.answer ∷ [])
 turn-step turn good s u xs e =
     let all : all_turns turn s ≡ after_turn u.answer (all_turns turn u.state) = turns-unroll turn good s ∙ ap (after_option (all_turns turn) s) e in
     record {
@@ -196,17 +196,17 @@ turn-step turn good s u xs e =
       fewer = subst (λ o. IfSome o (λ t. waiters t.state.sessions < waiters s.sessions)) e (turn-fewer turn good s);
     }
 
-pub turn_made : (turn : QueueState → Option Turn) → IsTurnOfWaiters turn → (s t : QueueState) (xs ys : List (Answer Reply)) (more : Bool) → more ≡ true → IsTurn turn s t xs ys more → IsStep turn s t xs ys
+pub turn_made : (turn : QueueState → Option QueueTurn) → IsTurnOfWaiters turn → (s t : QueueState) (xs ys : List (Answer Reply)) (more : Bool) → more ≡ true → IsTurn turn s t xs ys more → IsStep turn s t xs ys
 turn_made turn good s t xs ys false e i = cc
 turn_made turn good s t xs ys true e i =
     subst (λ t. IsStep turn s t xs ys) (sym i.2) (subst (λ ys. IsStep turn s i.0.state xs ys) (sym i.3) (turn-step turn good s i.0 xs i.1))
 
 -- what is known after one that makes none
-pub record IsEnd (turn : QueueState → Option Turn) (s t : QueueState) (xs ys : List (Answer Reply)) : Type 0 where
+pub record IsEnd (turn : QueueState → Option QueueTurn) (s t : QueueState) (xs ys : List (Answer Reply)) : Type 0 where
   pub state : t ≡ (all_turns turn s).state
   pub answers : ys ≡ xs ++ (all_turns turn s).answers
 
-pub no_turn : (turn : QueueState → Option Turn) → IsTurnOfWaiters turn → (s t : QueueState) (xs ys : List (Answer Reply)) (more : Bool) → more ≡ false → IsTurn turn s t xs ys more → IsEnd turn s t xs ys
+pub no_turn : (turn : QueueState → Option QueueTurn) → IsTurnOfWaiters turn → (s t : QueueState) (xs ys : List (Answer Reply)) (more : Bool) → more ≡ false → IsTurn turn s t xs ys more → IsEnd turn s t xs ys
 no_turn turn good s t xs ys true e i = cc
 no_turn turn good s t xs ys false e i =
     let all : all_turns turn s ≡ stop s = turns-unroll turn good s ∙ ap (after_option (all_turns turn) s) i.0 in

@@ -25,7 +25,7 @@ use Rattle.bean_queue.specs.declared.reply.Reply.{Reply}
 use Rattle.bean_queue.specs.Best.{IsWanted}
 use Rattle.bean_queue.specs.Queue.{QueueState, paused_tubes, pauses_of, used_by, watched_by}
 use Rattle.bean_queue.specs.Rows.{Row, kicked, kicked_option, put_job, ready_after, time_out, is_job_that, is_idle, row, put_row, reserve_row, release_row, kick_row, kick_job_row, pause_row, all_tubes}
-use Rattle.bean_queue.specs.Turns.{Turn, IsTurn, given, serve_turn}
+use Rattle.bean_queue.specs.Turns.{QueueTurn, IsTurn, given, serve_turn}
 use Rattle.bean_queue.specs.TurnLaws.{IsServed, serve_turn-is, least-none, least-in, IfSome-map}
 use Rattle.bean_queue.specs.Effects.{called, released, at_second, is_quiet}
 use Rattle.bean_queue.specs.Woken.{Covers, AreWoken, tube_of, woken_by}
@@ -79,7 +79,7 @@ pub covers-turn : (tubes : List (List ℕ)) (s t : QueueState) (xs ys : List (An
 covers-turn tubes s t xs ys false i covers = subst (Covers tubes) (sym i.1) covers
 covers-turn tubes s t xs ys true i covers =
     let served : IsServed s i.0 = subst (λ o. IfSome o (IsServed s)) i.1 (serve_turn-is s) in
-    subst (Covers tubes) (sym (i.2 ∙ ap (λ (u : Turn). u.state) served.made)) (covers-calmer tubes s (given s served.job served.session).state (given-calmer s served.job served.session) covers)
+    subst (Covers tubes) (sym (i.2 ∙ ap (λ (u : QueueTurn). u.state) served.made)) (covers-calmer tubes s (given s served.job served.session).state (given-calmer s served.job served.session) covers)
 
 -- Jobs that become ready
 

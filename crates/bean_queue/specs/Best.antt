@@ -9,7 +9,7 @@ use Rattle.session_store.specs.declared.session.SessionState.{SessionState}
 use Rattle.session_store.specs.Sessions.{is_waiting, wait_rank}
 use Rattle.pause_store.specs.Pauses.{is_paused}
 use Rattle.bean_queue.specs.Queue.{QueueState}
-use Rattle.bean_queue.specs.Turns.{Turn, given}
+use Rattle.bean_queue.specs.Turns.{QueueTurn, given}
 
 -- a session that waits watches the tube
 abbrev pub IsWatched : QueueState → List ℕ → Type 0
@@ -25,7 +25,7 @@ pub record IsWanted (s : QueueState) (j : ℕ × Job) : Type 0 where
 
 -- the turn gives a job that is wanted, of the least (priority, id), to the waiting session of the least rank that
 -- watches its tube
-pub record IsBestTurn (s : QueueState) (t : Turn) : Type 0 where
+pub record IsBestTurn (s : QueueState) (t : QueueTurn) : Type 0 where
   pub job : ℕ × Job
   pub session : ℕ × SessionState
   pub made : t ≡ given s job session

@@ -10,7 +10,7 @@ use Rattle.job_store.specs.Entries.{value_at}
 use Rattle.bean_queue.specs.declared.op.Op.{Op}
 use Rattle.bean_queue.specs.declared.reply.Reply.{Reply}
 use Rattle.bean_queue.specs.Queue.{QueueState}
-use Rattle.bean_queue.specs.Places.{Place, places, placed_from, queue_replay}
+use Rattle.bean_queue.specs.Places.{Place, queue_places, placed_from, queue_replay}
 
 -- the reply is RESERVED of the job id
 abbrev pub is_reserved : ℕ → Reply → Bool
@@ -96,6 +96,6 @@ IsHeldByOne ps =
 
 -- no job is held by two sessions at once in the places of these commands, which are those of the replay
 pub record HasOneHolder (commands : List (Command Op)) : Type 0 where
-  pub once : IsGivenOnce (places commands)
-  pub ended : IsHeldByOne (places commands)
-  pub replay : queue_replay commands ≡ placed_from 0 (places commands)
+  pub once : IsGivenOnce (queue_places commands)
+  pub ended : IsHeldByOne (queue_places commands)
+  pub replay : queue_replay commands ≡ placed_from 0 (queue_places commands)

@@ -18,17 +18,17 @@ pub record Place : Type 0 where
   pub state : QueueState
 
 -- the command, in the place where this came of it
-abbrev pub place : Command Op → Outcome → Place
-place c o = record { command = c; answers = o.answers; state = o.state }
+abbrev pub queue_place : Command Op → Outcome → Place
+queue_place c o = record { command = c; answers = o.answers; state = o.state }
 
 -- the places of commands that are obeyed from this state on
 unfoldable pub places_from : QueueState → List (Command Op) → List Place
 places_from s [] = []
-places_from s (c ∷ cs) = let o = effect c s in place c o ∷ places_from o.state cs
+places_from s (c ∷ cs) = let o = effect c s in queue_place c o ∷ places_from o.state cs
 
 -- the places of commands that a new queue obeys
-abbrev pub places : List (Command Op) → List Place
-places cs = places_from fresh cs
+abbrev pub queue_places : List (Command Op) → List Place
+queue_places cs = places_from fresh cs
 
 -- the answers of these places, each with its place; the first is at n
 unfoldable pub placed_from : ℕ → List Place → List (Placed Reply)

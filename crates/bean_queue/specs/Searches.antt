@@ -16,11 +16,11 @@ passes (LookUp.DueAfter second place) e = due_after second place e
 passes (LookUp.Held x) e = held_by x e
 
 -- the number of which the least is wanted
-abbrev pub number : LookUp → Job → ℕ
-number (LookUp.ReadyIn tubes paused) job = pri_of_job job
-number (LookUp.Ready tube) job = pri_of_job job
-number (LookUp.Delayed tube) job = due_of_job job
-number (LookUp.Buried tube) job = rank_of_job job
-number (LookUp.Due second) job = due_of_job job
-number (LookUp.DueAfter second place) job = due_of_job job
-number (LookUp.Held x) job = due_of_job job
+abbrev pub look_up_number : LookUp → Job → ℕ
+look_up_number (LookUp.ReadyIn tubes paused) job = pri_of_job job
+look_up_number (LookUp.Ready tube) job = pri_of_job job
+look_up_number (LookUp.Delayed tube) job = due_of_job job
+look_up_number (LookUp.Buried tube) job = rank_of_job job
+look_up_number (LookUp.Due second) job = due_of_job job
+look_up_number (LookUp.DueAfter second place) job = due_of_job job
+look_up_number (LookUp.Held x) job = due_of_job job

@@ -12,7 +12,7 @@ use Rattle.session_store.specs.declared.session.SessionState.{SessionState}
 use Rattle.session_store.specs.Sessions.{first_waiting, is_waiting, wait_rank, has_timed_out}
 use Rattle.bean_queue.specs.declared.reply.Reply.{Reply}
 use Rattle.bean_queue.specs.Queue.{QueueState, holds_by, paused_tubes}
-use Rattle.bean_queue.specs.Turns.{Turn, turns, after_option, wanted, next_job, given, give, give_to, serve_turn, told_turn, tell, deadline_turn, timeout_turn}
+use Rattle.bean_queue.specs.Turns.{QueueTurn, turns, after_option, wanted, next_job, given, give, give_to, serve_turn, told_turn, tell, deadline_turn, timeout_turn}
 
 module _ {X : Type 0} where
   -- what is least is there, and passes
@@ -98,7 +98,7 @@ first_waiting-in test sessions =
     (least-in (λ e. is_waiting e.1 && test e) wait_rank sessions)
 
 -- a turn of Serve: a Ready job goes to a session that waits
-pub record IsServed (s : QueueState) (t : Turn) : Type 0 where
+pub record IsServed (s : QueueState) (t : QueueTurn) : Type 0 where
   pub job : ℕ × Job
   pub session : ℕ × SessionState
   pub there : In job s.jobs
@@ -121,7 +121,7 @@ serve_turn-is s =
     ] (next_job-in s)
 
 -- a session that waits is told, and nothing else changes
-pub record IsTold (reply : Reply) (s : QueueState) (t : Turn) : Type 0 where
+pub record IsTold (reply : Reply) (s : QueueState) (t : QueueTurn) : Type 0 where
   pub session : ℕ × SessionState
   pub known : In session s.sessions
   pub waits : is_waiting session.1 ≡ true
@@ -143,7 +143,7 @@ unfolding timeout_turn
 timeout_turn-is s = tell-is s Reply.TimedOut (λ e. has_timed_out s.now e.1.wait)
 
 -- what every turn keeps, and what holds of every answer of a turn
-pub turns-keep : (turn : QueueState → Option Turn) (P : QueueState → Type 0) (Q : Answer Reply → Type 0) → ((s : QueueState) → P s → IfSome (turn s) (λ t. P t.state × Q t.answer)) → (n : ℕ) (s : QueueState) → P s → P (turns turn n s).state × AllByRecursion Q (turns turn n s).answers
+pub turns-keep : (turn : QueueState → Option QueueTurn) (P : QueueState → Type 0) (Q : Answer Reply → Type 0) → ((s : QueueState) → P s → IfSome (turn s) (λ t. P t.state × Q t.answer)) → (n : ℕ) (s : QueueState) → P s → P (turns turn n s).state × AllByRecursion Q (turns turn n s).answers
 unfolding turns
 turns-keep turn P Q step zero s p = (p, tt)
 turns-keep turn P Q step (suc n) s p =

@@ -17,7 +17,7 @@ use Rattle.session_store.specs.WaitLaws.{altered-waits, ended-waits, forgotten-w
 use Rattle.bean_queue.specs.declared.op.Op.{Op}
 use Rattle.bean_queue.specs.declared.reply.Reply.{Reply}
 use Rattle.bean_queue.specs.Queue.{QueueState, fresh, holds_by, watched_by}
-use Rattle.bean_queue.specs.Turns.{Outcome, Turn, stop, turns, all_turns, after_option, given, told_turn, serve_turn, deadline_turn, timeout_turn, serve}
+use Rattle.bean_queue.specs.Turns.{Outcome, QueueTurn, stop, turns, all_turns, after_option, given, told_turn, serve_turn, deadline_turn, timeout_turn, serve}
 use Rattle.bean_queue.specs.Rows.{is_idle, Row, row, put_row, use_row, watch_row, ignore_row, reserve_row, delete_row, may_delete, is_job_that, release_row, touch_row, bury_row, kick_row, kick_job_row, peek_row, all_tubes, pause_row}
 use Rattle.bean_queue.specs.Effects.{own, called, ends_wait, is_zero, settled, then_do, has_no_number, carried_out, do_effect, released, close_effect, at_second, tick_effect, act_effect, effect}
 use Rattle.bean_queue.specs.Waits.{Waits, AreApart, IsLawful}
@@ -56,22 +56,22 @@ dealt-then s t u xs ys p q =
       once = apart-append xs ys p.once q.once (λ a b i j e. p.over a b.to i (q.named b j) e);
     }
 
-pub record IsWaiterTurn (s : QueueState) (t : Turn) : Type 0 where
+pub record IsWaiterTurn (s : QueueState) (t : QueueTurn) : Type 0 where
   pub session : ℕ × SessionState
   pub known : In session s.sessions
   pub waits : is_waiting session.1 ≡ true
   pub sessions : t.state.sessions ≡ with_wait_ended session.0 s.sessions
   pub to : t.answer.to ≡ record { session = session.0; number = wait_number session.1.wait }
 
-pub given-waiter : (s : QueueState) (t : Turn) → IsServed s t → IsWaiterTurn s t
+pub given-waiter : (s : QueueState) (t : QueueTurn) → IsServed s t → IsWaiterTurn s t
 unfolding given
-given-waiter s t i = record { session = i.session; known = i.known; waits = i.waits; sessions = ap (λ (t : Turn). t.state.sessions) i.made; to = ap (λ (t : Turn). t.answer.to) i.made }
+given-waiter s t i = record { session = i.session; known = i.known; waits = i.waits; sessions = ap (λ (t : QueueTurn). t.state.sessions) i.made; to = ap (λ (t : QueueTurn). t.answer.to) i.made }
 
-pub told-waiter : (reply : Reply) (s : QueueState) (t : Turn) → IsTold reply s t → IsWaiterTurn s t
+pub told-waiter : (reply : Reply) (s : QueueState) (t : QueueTurn) → IsTold reply s t → IsWaiterTurn s t
 unfolding told_turn
-told-waiter reply s t i = record { session = i.session; known = i.known; waits = i.waits; sessions = ap (λ (t : Turn). t.state.sessions) i.made; to = ap (λ (t : Turn). t.answer.to) i.made }
+told-waiter reply s t i = record { session = i.session; known = i.known; waits = i.waits; sessions = ap (λ (t : QueueTurn). t.state.sessions) i.made; to = ap (λ (t : QueueTurn). t.answer.to) i.made }
 
-dealt-turn : (s : QueueState) (t : Turn) → IsWaiterTurn s t → IsDealt s (record { state = t.state; answers = t.answer ∷ [] })
+dealt-turn : (s : QueueState) (t : QueueTurn) → IsWaiterTurn s t → IsDealt s (record { state = t.state; answers = t.answer ∷ [] })
 dealt-turn s t i =
     let w = some_wait i.session.1.wait i.waits in
     let waited : Waits s t.answer.to = (i.session, w.0, i.known, ap (λ (k : Key). k.session) (sym i.to), w.1, w.2 ∙ ap (λ (k : Key). k.number) (sym i.to)) in
@@ -83,7 +83,7 @@ dealt-turn s t i =
       once = (λ b j e. j, tt);
     }
 
-turns-dealt : (turn : QueueState → Option Turn) → ((s : QueueState) → IfSome (turn s) (IsWaiterTurn s)) → (n : ℕ) (s : QueueState) → IsDealt s (turns turn n s)
+turns-dealt : (turn : QueueState → Option QueueTurn) → ((s : QueueState) → IfSome (turn s) (IsWaiterTurn s)) → (n : ℕ) (s : QueueState) → IsDealt s (turns turn n s)
 unfolding turns
 turns-dealt turn good zero s = dealt-none s
 turns-dealt turn good (suc n) s =

@@ -7,7 +7,7 @@ ghost use Rattle.object.specs.Answers.{AnswersOnce};
 ghost use Rattle.session_store.specs.declared.session.SessionState.{SessionState};
 ghost use Rattle.session_store.specs.Sessions.{is_waiting};
 ghost use Rattle.bean_queue.specs.declared.op.Op.{Op};
-ghost use Rattle.bean_queue.specs.Places.{places, placed_from, queue_replay, HasDistinctKeys};
+ghost use Rattle.bean_queue.specs.Places.{queue_places, placed_from, queue_replay, HasDistinctKeys};
 ghost use Rattle.bean_queue.specs.Holds.{IsGivenOnce, IsHeldByOne};
 ghost use Rattle.job_store.specs.LookUps.{best_ready, not_paused};
 ghost use Rattle.bean_queue.specs.Best.{IsBestTurn};
@@ -17,7 +17,7 @@ ghost use Rattle.bean_queue.specs.Owed.{OwesNothing};
 ghost use Rattle.bean_queue.specs.Queue.{QueueState, paused_tubes, HasRisingIds, fresh, used_by};
 ghost use Rattle.bean_queue.specs.Rows.{kick_row, kickable, all_tubes, IsTube};
 ghost use Rattle.bean_queue.specs.Sound.{IsSoundQueue};
-ghost use Rattle.bean_queue.specs.Turns.{Turn, serve_turn, serve};
+ghost use Rattle.bean_queue.specs.Turns.{QueueTurn, serve_turn, serve};
 ghost use Rattle.object.specs.Lists.{In};
 
 use job_store::{Job, least_is_least};
@@ -27,10 +27,10 @@ use session_store::SessionState;
 /// place gives two RESERVED of one job; and where a session gets a job and the job is given again later, the first
 /// hold ended between, in one of the ways that `Ends` lists. The places are those of the replay.
 pub fn one_holder()
-    ensures once { (commands : List (Command Op)) → IsGivenOnce (places commands) }
-    ensures ended { (commands : List (Command Op)) → IsHeldByOne (places commands) }
+    ensures once { (commands : List (Command Op)) → IsGivenOnce (queue_places commands) }
+    ensures ended { (commands : List (Command Op)) → IsHeldByOne (queue_places commands) }
     ensures replay { (commands : List (Command Op))
-        → queue_replay commands ≡ placed_from 0 (places commands) }
+        → queue_replay commands ≡ placed_from 0 (queue_places commands) }
 {}
 
 /// Where no key stands twice among the commands that a new queue obeys, no key is answered twice.
@@ -42,7 +42,7 @@ pub fn one_answer()
 /// Serve gives the most urgent job that is wanted, to the session that has waited longest for its tube; and it goes on
 /// until there is no ready job in a tube that a waiting session watches and that is not paused.
 pub fn serve_gives_the_best()
-    ensures turn { (s : QueueState) (t : Turn) → serve_turn s ≡ Some t → IsBestTurn s t }
+    ensures turn { (s : QueueState) (t : QueueTurn) → serve_turn s ≡ Some t → IsBestTurn s t }
     ensures end { (s : QueueState) (w : ℕ × SessionState) → In w (serve s).state.sessions
         → is_waiting w.1 ≡ true →
         best_ready (not_paused (paused_tubes (serve s).state) w.1.watched) (serve s).state.jobs

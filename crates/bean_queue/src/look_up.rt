@@ -42,7 +42,7 @@ fn is_open(tubes: &IndexSet<Name>, paused: &BTreeMap<Name, u64>, tube: &Name) ->
 impl<'a> LookUp<'a> {
     ghost use Rattle.std.specs.Prelude.{option_map, Some, IfSome, IfNone};
     ghost use Rattle.job_store.specs.Least.{least, comes_before, first_of, IsLeast, NonePasses};
-    ghost use Rattle.bean_queue.specs.Searches.{passes, number};
+    ghost use Rattle.bean_queue.specs.Searches.{passes, look_up_number};
 
     /// Whether the job under this id is one that is looked for.
     fn passes(&self, id: u64, job: &Job) -> bool
@@ -65,7 +65,7 @@ impl<'a> LookUp<'a> {
 
     /// The number of which the least is looked for.
     fn number(&self, job: &Job) -> u64
-        ensures { result ≡ number self.now job.now }
+        ensures { result ≡ look_up_number self.now job.now }
     {
         match self {
             LookUp::ReadyIn { .. } | LookUp::Ready(_) => u64::from(job.pri),
@@ -78,7 +78,7 @@ impl<'a> LookUp<'a> {
 
     /// Whether the pair of number and id of the first of two entries is the smaller.
     fn comes_before(&self, a: (u64, &Job), b: (u64, &Job)) -> bool
-        ensures { result ≡ comes_before (number self.now) (a.entry.0, a.entry.1.now)
+        ensures { result ≡ comes_before (look_up_number self.now) (a.entry.0, a.entry.1.now)
             (b.entry.0, b.entry.1.now) }
     {
         let (number, other) = (self.number(a.1), self.number(b.1));
@@ -88,7 +88,7 @@ impl<'a> LookUp<'a> {
     /// Of the least entry so far and one more, the one that comes first.
     fn first_of<'b>(&self, least: Option<(u64, &'b Job)>, other: (u64, &'b Job)) -> (u64, &'b Job)
         ensures { Some (result.0, result.1.now)
-            ≡ first_of (number self.now) (option_map (λ e. (e.0, e.1.now)) least.entry)
+            ≡ first_of (look_up_number self.now) (option_map (λ e. (e.0, e.1.now)) least.entry)
             (Some (other.entry.0, other.entry.1.now)) }
     {
         match least {
@@ -100,9 +100,9 @@ impl<'a> LookUp<'a> {
     /// The entry with the least pair of number and id among those that are looked for.
     pub fn least<'b>(&self, jobs: &'b BTreeMap<u64, Job>) -> Option<(u64, &'b Job)>
         ensures job { option_map (λ e. (e.0, e.1.now)) result
-            ≡ least (passes self.now) (number self.now) jobs.now.entries }
+            ≡ least (passes self.now) (look_up_number self.now) jobs.now.entries }
         ensures found { IfSome result
-            (λ e. IsLeast (passes self.now) (number self.now) jobs.now.entries (e.0, e.1.now)) }
+            (λ e. IsLeast (passes self.now) (look_up_number self.now) jobs.now.entries (e.0, e.1.now)) }
         ensures none { IfNone result (NonePasses (passes self.now) jobs.now.entries) }
     {
         let mut least = None;

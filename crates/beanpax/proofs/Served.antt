@@ -13,17 +13,17 @@ use Rattle.session.specs.Items.{Reads, ReadsFirst, operations, told_text}
 use Rattle.session.specs.Serving.{Whole, StopsAt, Partly, BreaksOff, Closes, ClosedAfter, ClosedOnce, Over}
 use Rattle.simulated_hall.specs.OneClient.{Talk, opened}
 use Rattle.beanpax.specs.Sessions.{queue}
-use Rattle.beanpax.specs.Told.{IsTold, BeginsTold}
+use Rattle.beanpax.specs.Told.{AreAnswersTold, BeginsTold}
 use Rattle.beanpax.specs.Runs.{Answers, BreaksOff as Breaks}
 use Rattle.beanpax.proofs.Whole.{HasFront, reads_as_items}
 use Rattle.beanpax.proofs.Beginnings.{told_begins, begins, begins_first}
 use Rattle.beanpax.proofs.Obeyed.{AsksOf, are_answers}
 
-pub whole : {S : Type 0} (stand : S → Talk QueueState → Type 0) (stopped : S → S → Op → Type 0) (old new : S) (input output : List ℕ) (end : End) → stand old (opened queue) → Whole (AsksOf stand stopped) old new input output end → IsTold input output end
+pub whole : {S : Type 0} (stand : S → Talk QueueState → Type 0) (stopped : S → S → Op → Type 0) (old new : S) (input output : List ℕ) (end : End) → stand old (opened queue) → Whole (AsksOf stand stopped) old new input output end → AreAnswersTold input output end
 whole stand stopped old new input output end stands w = (w.1, (w.0, w.2, are_answers stand stopped old new (operations w.0) w.1 (opened queue) w.3 stands, w.4))
 
 -- all is a beginning of it
-pub told_begins_told : (input output : List ℕ) (end : End) → IsTold input output end → BeginsTold input output
+pub told_begins_told : (input output : List ℕ) (end : End) → AreAnswersTold input output end → BeginsTold input output
 told_begins_told input output end t =
     let items = t.1.0 in
     begins input output [] items [] end t.0 (subst (λ is. Reads input is end) (sym (append-nil items)) t.1.1) t.1.2 (append-nil output ∙ t.1.3)

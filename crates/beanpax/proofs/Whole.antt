@@ -8,7 +8,7 @@ use Rattle.bean_codec.specs.Reads.{BeginsWith, BeginsWithNone}
 use Rattle.session.specs.declared.faults.End.{End}
 use Rattle.session.specs.Items.{Answer, Reads, is_quit, operations, told_text}
 use Rattle.simulated_hall.specs.OneClient.{opened}
-use Rattle.beanpax.specs.Sessions.{queue, IsAnswered, is_refused}
+use Rattle.beanpax.specs.Sessions.{queue, AreQueueAnswers, is_refused}
 use Rattle.beanpax.specs.Told.{IsToldWith}
 use Rattle.beanpax.proofs.Obeyed.{one_answers}
 
@@ -109,5 +109,5 @@ one_reading one text (i ∷ is) (j ∷ js) d e r q =
 pub one_told : IsOneItem → (input a b : List ℕ) (d e : End) (xs ys : List Answer) → IsToldWith xs input a d → IsToldWith ys input b e → map is_refused xs ≡ map is_refused ys → (a ≡ b) × (d ≡ e)
 one_told one input a b d e xs ys r q refused =
     let same = one_reading one input r.0 q.0 d e r.1 q.1 in
-    let answers : xs ≡ ys = one_answers (opened queue) (operations q.0) xs ys (subst (λ items. IsAnswered (operations items) xs) same.0 r.2) q.2 refused in
+    let answers : xs ≡ ys = one_answers (opened queue) (operations q.0) xs ys (subst (λ items. AreQueueAnswers (operations items) xs) same.0 r.2) q.2 refused in
     (r.3 ∙ ap₂ told_text same.0 answers ∙ sym q.3, same.1)

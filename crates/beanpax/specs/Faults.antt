@@ -53,5 +53,5 @@ text_of FileFailed = codes "file failed"
 text_of ThreadFailed = codes "cannot start a thread"
 
 -- the line by which a fault is told
-unfoldable pub line_of : ProgramFault → List ℕ
-line_of fault = codes "beanpax: " ++ decimal (number_of fault) ++ codes " " ++ text_of fault ++ codes "\n"
+unfoldable pub fault_line_text : ProgramFault → List ℕ
+fault_line_text fault = codes "beanpax: " ++ decimal (number_of fault) ++ codes " " ++ text_of fault ++ codes "\n"

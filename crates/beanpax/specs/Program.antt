@@ -28,8 +28,8 @@ IsCaused words FileFailed input_failed output_failed = AskForDump words ⊎ AskF
 IsCaused words ThreadFailed input_failed output_failed = AskFor (codes "serve") words
 
 -- a client was answered to the end of its session
-abbrev pub IsRun : Option (List ℕ) → Option (List ℕ) → Option (List ℕ) → Option (List ℕ) → Type 0
-IsRun left rest held holds = (end : End) × Answers left rest held holds end
+abbrev pub AnswersToSomeEnd : Option (List ℕ) → Option (List ℕ) → Option (List ℕ) → Option (List ℕ) → Type 0
+AnswersToSomeEnd left rest held holds = (end : End) × Answers left rest held holds end
 
 -- the same, and where the client didn't quit, the reader has come to its end
 abbrev pub IsWholeRun : Option (List ℕ) → Option (List ℕ) → Bool → Option (List ℕ) → Option (List ℕ) → Type 0

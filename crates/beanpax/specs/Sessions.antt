@@ -28,12 +28,12 @@ AreAnswers t (op ∷ ops) (Replied reply ∷ answers) =
 AreAnswers t (op ∷ ops) (Refused ∷ answers) = AreAnswers t ops answers
 
 -- a new queue answers so
-abbrev pub IsAnswered : List Op → List Answer → Type 0
-IsAnswered ops answers = AreAnswers (opened queue) ops answers
+abbrev pub AreQueueAnswers : List Op → List Answer → Type 0
+AreQueueAnswers ops answers = AreAnswers (opened queue) ops answers
 
 -- a new queue answers so to some first operations
-abbrev pub IsAnsweredFirst : List Op → List Answer → Type 0
-IsAnsweredFirst ops answers = (firsts rest : List Op) × (ops ≡ firsts ++ rest) × IsAnswered firsts answers
+abbrev pub AreFirstQueueAnswers : List Op → List Answer → Type 0
+AreFirstQueueAnswers ops answers = (firsts rest : List Op) × (ops ≡ firsts ++ rest) × AreQueueAnswers firsts answers
 
 -- the operation was refused
 abbrev pub is_refused : Answer → Bool

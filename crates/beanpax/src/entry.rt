@@ -4,8 +4,8 @@ ghost use Rattle.beanpax.specs.declared.faults.ProgramFault.TheVariants.{WriteFa
 ghost use Rattle.std.specs.Io.KnownBytes.{Appends};
 ghost use Rattle.session.specs.Streams.{AppendsBeginning};
 ghost use Rattle.beanpax.specs.declared.words.ServerOptions.{ServerOptions};
-ghost use Rattle.beanpax.specs.Faults.{line_of};
-ghost use Rattle.beanpax.specs.Program.{EndsWith, HasListened, IsCaused, IsRun, IsRunFault, TellsSome, WritesSome, WritesText};
+ghost use Rattle.beanpax.specs.Faults.{fault_line_text};
+ghost use Rattle.beanpax.specs.Program.{EndsWith, HasListened, IsCaused, AnswersToSomeEnd, IsRunFault, TellsSome, WritesSome, WritesText};
 ghost use Rattle.beanpax.specs.Program.{BeginsToTell, IsWholeRun};
 ghost use Rattle.beanpax.specs.Runs.{BreaksOff};
 ghost use Rattle.beanpax.specs.declared.verdict.Verdict.{Verdict};
@@ -53,7 +53,7 @@ pub fn program<H: Host, R: ByteIn, W: ByteOut, E: ByteOut>(
     ensures known { result ≤ DUMP_REFUSED }
     ensures right { result ≡ DONE
         → (AskForRun (map string_bytes words.now)
-        × IsRun (R.remaining input.old) (R.remaining input.new)
+        × AnswersToSomeEnd (R.remaining input.old) (R.remaining input.new)
         (W.contents output.old) (W.contents output.new))
         ⊎ ((AskForHelp (map string_bytes words.now)
         × TellsSome (W.contents output.old) (W.contents output.new) × (input.new ≡ input.old))
@@ -72,7 +72,7 @@ pub fn program<H: Host, R: ByteIn, W: ByteOut, E: ByteOut>(
         × IsCaused (map string_bytes words.now) fault
         (R.has_failed input.new) (W.has_failed output.new)
         × WritesText (E.contents errors.old) (E.contents errors.new) (E.has_failed errors.new)
-        (line_of fault) }
+        (fault_line_text fault) }
     ensures wrong { result ≡ WRONG_WORDS
         → (AreWrong (map string_bytes words.now)
         × WritesSome (E.contents errors.old) (E.contents errors.new) (E.has_failed errors.new))
@@ -130,7 +130,7 @@ fn run<R: ByteIn, W: ByteOut>(
     input: &mut R,
     output: &mut W,
 ) -> Result<(), ProgramFault>
-    ensures ok { OnOk result (IsRun (R.remaining input.old) (R.remaining input.new)
+    ensures ok { OnOk result (AnswersToSomeEnd (R.remaining input.old) (R.remaining input.new)
         (W.contents output.old) (W.contents output.new)) }
     ensures whole { OnOk result (IsWholeRun (R.remaining input.old) (R.remaining input.new)
         (R.has_ended input.new) (W.contents output.old) (W.contents output.new)) }
@@ -166,7 +166,7 @@ fn status_after<E: ByteOut>(ended: Result<(), ProgramFault>, errors: &mut E) -> 
     ensures done { OnOk ended ((result ≡ DONE) × (errors.new ≡ errors.old)) }
     ensures fault { IfErr ended (λ fault. (result ≡ FAULT)
         × WritesText (E.contents errors.old) (E.contents errors.new) (E.has_failed errors.new)
-        (line_of fault)) }
+        (fault_line_text fault)) }
 {
     match ended {
         Ok(()) => DONE,
@@ -187,7 +187,7 @@ fn status_of<E: ByteOut>(found: Result<Verdict, ProgramFault>, errors: &mut E) -
     ensures right { IfOk found (λ verdict. (result ≡ DONE) ⊎ (result ≡ DUMP_REFUSED)) }
     ensures fault { IfErr found (λ fault. (result ≡ FAULT)
         × WritesText (E.contents errors.old) (E.contents errors.new) (E.has_failed errors.new)
-        (line_of fault)) }
+        (fault_line_text fault)) }
 {
     match found {
         Ok(verdict) if verdict.is_legal() => DONE,

@@ -1,6 +1,6 @@
 ghost use Rattle.std.specs.Prelude.{◌≡◌};
 ghost use Rattle.beanpax.specs.declared.faults.ProgramFault.TheVariants.{OutOfMemory};
-ghost use Rattle.beanpax.specs.Faults.{number_of, line_of, of_session, of_cluster};
+ghost use Rattle.beanpax.specs.Faults.{number_of, fault_line_text, of_session, of_cluster};
 
 use node_threads::ClusterError;
 use session::SessionFault;
@@ -83,7 +83,7 @@ pub fn fault_number(fault: ProgramFault) -> u8
 
 /// The line by which the program tells a fault.
 pub fn fault_line(fault: ProgramFault) -> &'static str
-    ensures { result.now ≡ line_of fault }
+    ensures { result.now ≡ fault_line_text fault }
 {
     match fault {
         ProgramFault::OutOfMemory => "beanpax: 1 out of memory\n",

@@ -1,7 +1,7 @@
 ghost use Rattle.std.specs.Prelude.{Bool, IfOk, IfErr, OnOk};
 ghost use Rattle.object.specs.Legal.{IsLegal};
 ghost use Rattle.bean_queue.specs.Holds.{IsGivenOnce, IsHeldByOne};
-ghost use Rattle.bean_queue.specs.Places.{places};
+ghost use Rattle.bean_queue.specs.Places.{queue_places};
 ghost use Rattle.bean_queue.specs.declared.op.Op.{Op};
 ghost use Rattle.chronicle.specs.Checking.{AreRightPlaces, IsFaultless, ordered_commands, queue_rules};
 ghost use Rattle.chronicle.specs.CheckFaults.{IsCheckFault};
@@ -26,8 +26,8 @@ pub fn check(alloc: Global, chronicle: &Chronicle<Op, Reply>) -> Result<(), Chec
     ensures legal { (same : Op → Op → Bool) → OnOk result (IsLegal (queue_rules same)
         (record { submitted = chronicle.now.submitted; answers = chronicle.now.answers })
         (ordered_commands chronicle.now)) }
-    ensures once { OnOk result (IsGivenOnce (places (ordered_commands chronicle.now))) }
-    ensures held { OnOk result (IsHeldByOne (places (ordered_commands chronicle.now))) }
+    ensures once { OnOk result (IsGivenOnce (queue_places (ordered_commands chronicle.now))) }
+    ensures held { OnOk result (IsHeldByOne (queue_places (ordered_commands chronicle.now))) }
     ensures at { IfErr result (IsCheckFault chronicle.now) }
 {
     faultless_is_legal();

@@ -3,7 +3,7 @@ ghost use Rattle.object.specs.declared.command.Command.{Command};
 ghost use Rattle.object.specs.Happenings.{SubmittedOnce};
 ghost use Rattle.object.specs.Legal.{IsLegal};
 ghost use Rattle.bean_queue.specs.Holds.{IsGivenOnce, IsHeldByOne};
-ghost use Rattle.bean_queue.specs.Places.{places};
+ghost use Rattle.bean_queue.specs.Places.{queue_places};
 ghost use Rattle.bean_queue.specs.declared.op.Op.{Op};
 ghost use Rattle.bean_queue.specs.declared.reply.Reply.{Reply};
 ghost use Rattle.chronicle.specs.Chronicles.{Chronicle, IsChronicle};
@@ -37,8 +37,8 @@ pub fn faultless_is_legal()
     ensures legal { (same : Op → Op → Bool) (c : Chronicle Op Reply) → IsChronicle c → IsFaultless c
         → IsLegal (queue_rules same) (record { submitted = c.submitted; answers = c.answers })
         (ordered_commands c) }
-    ensures once { (c : Chronicle Op Reply) → IsGivenOnce (places (ordered_commands c)) }
-    ensures held { (c : Chronicle Op Reply) → IsHeldByOne (places (ordered_commands c)) }
+    ensures once { (c : Chronicle Op Reply) → IsGivenOnce (queue_places (ordered_commands c)) }
+    ensures held { (c : Chronicle Op Reply) → IsHeldByOne (queue_places (ordered_commands c)) }
 {
     one_answer();
     one_holder();

@@ -26,7 +26,7 @@ use Rattle.world.specs.Refusals.{most_events}
 use Rattle.world.specs.Runs.{IsWorld, InEvery, AfterEach}
 use Rattle.world.specs.Showing.{HasNode, IsReceivable}
 use Rattle.world.specs.Steps.{Step}
-use Rattle.world.specs.Told.{IsTold}
+use Rattle.world.specs.Told.{TellsReached}
 use Rattle.world.specs.Worlds.{World, opening}
 use Rattle.world.specs.declared.event.Event.{Event}
 
@@ -43,7 +43,7 @@ pub record HallLaws {O Op Reply : Type 0} (rules : Rules O Op Reply) : Type 0 wh
   pub placed : (w v : World Op Reply) (e : Event Op) (keys : List Key) → IsWorld rules w → Step rules w e v → HasPlaced w keys → HasPlaced v (placed_after w e keys)
   pub placed_once : InEvery rules (λ w. (keys : List Key) → HasPlaced w keys → KeysOnce (λ k. k) keys)
   pub legal_so_far : InEvery rules (λ w. (cs : List (Command Op)) → IsReached w cs → IsLegal rules w.happenings (kept cs))
-  pub told : InEvery rules (IsTold rules)
+  pub told : InEvery rules (TellsReached rules)
   pub answered_known : InEvery rules (λ w. (a : Answer Reply) → In a w.happenings.answers → is_submitted a.to w.happenings.submitted ≡ true)
   pub able : (kept x : NodeState (Command Op)) (d : Deed Op) → ShowsNode kept x → IsAble x d → IsAble kept d
   pub turn : (members : List ℕ) (n : ℕ) (kept x : NodeState (Command Op)) (d : Deed Op) → ShowsNode kept x → IsSameTurn (acted rules members n kept d) (acted rules members n x d)

@@ -13,7 +13,7 @@ use Rattle.node.specs.declared.deed.Outcome.TheVariants.{Idle, Done, Performed}
 use Rattle.hall.specs.declared.ticket.NotedAct.{NotedAct}
 use Rattle.hall.specs.Recorded.{RecordedState, untouched, asked}
 use Rattle.hall.specs.Shows.{IsShown}
-use Rattle.hall.specs.Tickets.{TicketState, last_key, last_noted, reply_of}
+use Rattle.hall.specs.Tickets.{TicketState, last_key, last_noted, noted_reply}
 use Rattle.hall.specs.Books.{IsBooked, is_opened, with_number, last_second, submissions_of}
 
 -- the nodes with what happened there, the number of each session's last command, and the greatest second so far
@@ -69,7 +69,7 @@ reply_to h key = option_map (λ a. a.reply) (found answered_key key h.nodes.past
 
 -- the reply that is there to be noted: that to the last command, unless one is noted
 abbrev pub to_note : {Op Reply : Type 0} → HallState Op Reply → TicketState Op Reply → Option Reply
-to_note h t = if is_some (reply_of (last_noted t)) then None else reply_to h (last_key t)
+to_note h t = if is_some (noted_reply (last_noted t)) then None else reply_to h (last_key t)
 
 -- the chronicle of a hall
 abbrev pub chronicle_of : {Op Reply : Type 0} → HallState Op Reply → Chronicle Op Reply

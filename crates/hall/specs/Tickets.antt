@@ -44,9 +44,9 @@ abbrev pub without_last : {Op Reply : Type 0} → TicketState Op Reply → Ticke
 without_last t = record t { acts = take (length t.acts - 1) t.acts }
 
 -- the reply that is noted for the last act
-abbrev pub reply_of : {Op Reply : Type 0} → Option (NotedAct Op Reply) → Option Reply
-reply_of None = None
-reply_of (Some noted) = noted.reply
+abbrev pub noted_reply : {Op Reply : Type 0} → Option (NotedAct Op Reply) → Option Reply
+noted_reply None = None
+noted_reply (Some noted) = noted.reply
 
 -- the reply is noted for the last act, where there is one
 abbrev pub with_last_reply : {Op Reply : Type 0} → List (NotedAct Op Reply) → Reply → List (NotedAct Op Reply)

@@ -1,6 +1,6 @@
 ghost use Rattle.std.specs.Prelude.{◌≡◌, Some, OnOk, OnErr};
 ghost use Rattle.std.specs.Option.{option_copied};
-ghost use Rattle.hall.specs.Tickets.{new_ticket, last_key, next_key, last_noted, reply_of, with_act, without_last, with_noted};
+ghost use Rattle.hall.specs.Tickets.{new_ticket, last_key, next_key, last_noted, noted_reply, with_act, without_last, with_noted};
 
 use object::{Act, Key, Object};
 use std::alloc::{AllocError, Global};
@@ -65,7 +65,7 @@ impl<O: Object> Ticket<O> {
 
     /// The reply noted for its last command.
     pub fn noted(&self) -> Option<&O::Reply>
-        ensures { option_copied result ≡ reply_of (last_noted self.now) }
+        ensures { option_copied result ≡ noted_reply (last_noted self.now) }
     {
         self.last()?.reply.as_ref()
     }

@@ -14,7 +14,7 @@ use Rattle.ballot.specs.Ballots.{Numbers}
 use Rattle.ballot.specs.BallotOrder.{ballot_cmp, exact_ballots}
 use Rattle.ballot.specs.PvalueLaws.{same_pvalues}
 use Rattle.ballot.specs.declared.pvalue.Pvalue.{Pvalue}
-use Rattle.scout_commander.specs.Starts.{place_cmp, start, IsIndexed}
+use Rattle.scout_commander.specs.Starts.{place_cmp, start, IsIndexOf}
 use Rattle.scout_commander.proofs.Members.{in_cases, in_right, in_take, in_take_take, found}
 
 exact_places : CmpEqualImpliesEq place_cmp
@@ -39,7 +39,7 @@ there_or_not E exact itself p ps =
     (true_or_false (list_any (λ q. same_pvalues E q p) ps))
 
 -- what is looked for from its start on is found where it is there
-pub found_from : {C : Type 0} (E : C → C → Bool) → ((x y : C) → E x y ≡ true → x ≡ y) → ((x : C) → E x x ≡ true) → (starts : BTreeMap (ℕ × Numbers) ℕ) (ps : List (Pvalue C)) (p : Pvalue C) (from : ℕ) → IsIndexed starts ps → from ≡ start starts (p.slot, p.ballot) (length ps) → (list_any (λ q. same_pvalues E q p) (drop from ps) ≡ true → In p ps) × (In p ps → list_any (λ q. same_pvalues E q p) (drop from ps) ≡ true)
+pub found_from : {C : Type 0} (E : C → C → Bool) → ((x y : C) → E x y ≡ true → x ≡ y) → ((x : C) → E x x ≡ true) → (starts : BTreeMap (ℕ × Numbers) ℕ) (ps : List (Pvalue C)) (p : Pvalue C) (from : ℕ) → IsIndexOf starts ps → from ≡ start starts (p.slot, p.ballot) (length ps) → (list_any (λ q. same_pvalues E q p) (drop from ps) ≡ true → In p ps) × (In p ps → list_any (λ q. same_pvalues E q p) (drop from ps) ≡ true)
 found_from {C} E exact itself starts ps p from is at =
     let f = found (same_pvalues E) (exact_pvalues E exact) (same_itself E itself) p (drop from ps) in
     let whole : take from ps ++ drop from ps ≡ ps = take-append-drop from ps in (
@@ -88,7 +88,7 @@ ended None n = omega arith
 ended (Some i) n = omega arith
 
 -- taking back leaves each index where it is
-pub fewer : {C : Type 0} (starts : BTreeMap (ℕ × Numbers) ℕ) (ps : List (Pvalue C)) (n : ℕ) → IsIndexed starts ps → IsIndexed starts (take n ps)
+pub fewer : {C : Type 0} (starts : BTreeMap (ℕ × Numbers) ℕ) (ps : List (Pvalue C)) (n : ℕ) → IsIndexOf starts ps → IsIndexOf starts (take n ps)
 fewer starts ps n is p i =
     let at = start starts (p.slot, p.ballot) in
     let short : length (take n ps) ≤ length ps = omega (arith, length-take n ps) in
@@ -115,7 +115,7 @@ module _ (starts new : BTreeMap (ℕ × Numbers) ℕ) (place : ℕ × Numbers) (
       (true_or_false (is_at (place_cmp place) q))
 
 -- the same starts serve as well
-pub as_well : {C : Type 0} (starts new : BTreeMap (ℕ × Numbers) ℕ) (ps : List (Pvalue C)) (n : ℕ) → n ≡ length ps → ((q : ℕ × Numbers) → start new q n ≡ start starts q n) → IsIndexed starts ps → IsIndexed new ps
+pub as_well : {C : Type 0} (starts new : BTreeMap (ℕ × Numbers) ℕ) (ps : List (Pvalue C)) (n : ℕ) → n ≡ length ps → ((q : ℕ × Numbers) → start new q n ≡ start starts q n) → IsIndexOf starts ps → IsIndexOf new ps
 as_well {C} starts new ps n all same is p i =
     is p (subst (λ k. In p (take k ps)) (subst (λ k. start new (p.slot, p.ballot) k ≡ start starts (p.slot, p.ballot) k) all (same (p.slot, p.ballot))) i)
 
@@ -128,7 +128,7 @@ kept starts place n = go (get place_cmp starts place)
     go (Some i) h = omega arith
 
 -- one more pvalue, which stands where its index leads or behind
-pub pushed : {C : Type 0} (starts : BTreeMap (ℕ × Numbers) ℕ) (ps : List (Pvalue C)) (p : Pvalue C) → start starts (p.slot, p.ballot) (length ps + 1) ≤ length ps → IsIndexed starts ps → IsIndexed starts (ps ++ p ∷ [])
+pub pushed : {C : Type 0} (starts : BTreeMap (ℕ × Numbers) ℕ) (ps : List (Pvalue C)) (p : Pvalue C) → start starts (p.slot, p.ballot) (length ps + 1) ≤ length ps → IsIndexOf starts ps → IsIndexOf starts (ps ++ p ∷ [])
 pushed {C} starts ps p at is q i =
     let n = length ps in
     let from = start starts (q.slot, q.ballot) (n + 1) in

@@ -19,6 +19,6 @@ abbrev pub start : BTreeMap (ℕ × Numbers) ℕ → ℕ × Numbers → ℕ → 
 start starts place n = min (unwrap_or (get place_cmp starts place) n) n
 
 -- before the index that is kept for its slot and ballot no pvalue stands
-abbrev pub IsIndexed : {C : Type 0} → BTreeMap (ℕ × Numbers) ℕ → List (Pvalue C) → Type 0
-IsIndexed {C} starts pvalues =
+abbrev pub IsIndexOf : {C : Type 0} → BTreeMap (ℕ × Numbers) ℕ → List (Pvalue C) → Type 0
+IsIndexOf {C} starts pvalues =
     (p : Pvalue C) → In p (take (start starts (p.slot, p.ballot) (length pvalues)) pvalues) → ⊥

@@ -23,13 +23,13 @@ pub(crate) struct Gathered<C> {
 impl<C> Model for Gathered<C> {
     ghost use Rattle.std.specs.Prelude.{List};
     ghost use Rattle.ballot.specs.declared.pvalue.Pvalue.{Pvalue};
-    ghost use Rattle.scout_commander.specs.Starts.{IsIndexed};
+    ghost use Rattle.scout_commander.specs.Starts.{IsIndexOf};
 
     ghost Value = { List (Pvalue C) };
 
     ghost view = { λ g. g.pvalues.items };
 
-    ghost invariant = { λ g. IsIndexed g.starts g.pvalues.items };
+    ghost invariant = { λ g. IsIndexOf g.starts g.pvalues.items };
 }
 
 impl<C: Value> Gathered<C> {

@@ -14,7 +14,7 @@ use Rattle.session.specs.declared.faults.SessionFault.{SessionFault}
 use Rattle.session.specs.declared.faults.SessionFault.TheVariants.{OutOfMemory, ReadFailed, WriteFailed, ServiceStopped}
 use Rattle.session.specs.Streams.{AppendsBeginning}
 use Rattle.session.specs.Items.{Answer, Reads, ReadsFirst, operations, told_text, answer_text}
-use Rattle.session.specs.Held.{Held, StandsAt, FrontTakesRoom, ComesTo, Finds, nothing_held}
+use Rattle.session.specs.Held.{Held, StandsBefore, FrontTakesRoom, ComesTo, Finds, nothing_held}
 use Rattle.session.specs.Serving.{Asks, Asked, Whole, StopsAt, Ending, Over, Shortage, longest_piece, result_of}
 use Rattle.session.proofs.Items.{reads_one, operations-append, told_text-append}
 use Rattle.session.proofs.Going.{Going, asked_length, asked_one, goes_at_first, goes_finding, goes_reading, goes_sending, runs_short, breaks_off}
@@ -68,7 +68,7 @@ stops_at asks old now last turns input output t op one g = (
   all_told asks old now turns input output _ g,
 )
 
-pub goes_answered : {S : Type 0} (asks : Asks S) (old now last : S) (turns : ℕ) (input output : List ℕ) (t : Held) (op : Op) (answer : Answer) → asks now op (result_of answer) last → Going asks old now turns input output [] (ComesTo (Some (Do op)) t) → Going asks old last (turns + 1) input output (answer_text answer) (StandsAt t)
+pub goes_answered : {S : Type 0} (asks : Asks S) (old now last : S) (turns : ℕ) (input output : List ℕ) (t : Held) (op : Op) (answer : Answer) → asks now op (result_of answer) last → Going asks old now turns input output [] (ComesTo (Some (Do op)) t) → Going asks old last (turns + 1) input output (answer_text answer) (StandsBefore t)
 goes_answered asks old now last turns input output t op answer one g =
     let items = g.items ++ g.more in
     let many = as_many asks old now turns input output [] _ g in
@@ -98,25 +98,25 @@ Goes asks old now turns a b h k unsent P = Over a b h k (λ input output. Going 
 abbrev pub Ends : {S : Type 0} → Asks S → S → S → Option (List ℕ) → Option (List ℕ) → Option (List ℕ) → Option (List ℕ) → Result End SessionFault → Type 0
 Ends asks old now a b h k result = Over a b h k (λ input output. Ending asks old now input output result)
 
-pub sets_out : {S : Type 0} (asks : Asks S) (s : S) (a h : Option (List ℕ)) → Goes asks s s 0 a a h h [] (StandsAt nothing_held)
+pub sets_out : {S : Type 0} (asks : Asks S) (s : S) (a h : Option (List ℕ)) → Goes asks s s 0 a a h h [] (StandsBefore nothing_held)
 sets_out asks s a h = ([], [], Consumes-nil a, Appends-nil h, goes_at_first asks s)
 
-pub finds : {S : Type 0} (asks : Asks S) (old now : S) (turns : ℕ) (a b h k : Option (List ℕ)) (s t : Held) (found : _) → ((text : List ℕ) → StandsAt s text → Finds s t text found) → Goes asks old now turns a b h k s.unsent (StandsAt s) → Goes asks old now turns a b h k t.unsent (ComesTo found t)
+pub finds : {S : Type 0} (asks : Asks S) (old now : S) (turns : ℕ) (a b h k : Option (List ℕ)) (s t : Held) (found : _) → ((text : List ℕ) → StandsBefore s text → Finds s t text found) → Goes asks old now turns a b h k s.unsent (StandsBefore s) → Goes asks old now turns a b h k t.unsent (ComesTo found t)
 finds asks old now turns a b h k s t found f g = (g.0, g.1, g.2, g.3, goes_finding asks old now turns g.0 g.1 s t found f g.4)
 
 pub sends : {S : Type 0} (asks : Asks S) (old now : S) (turns : ℕ) (a b h k l : Option (List ℕ)) (unsent : List ℕ) (P : List ℕ → Type 0) → Appends k l unsent → Goes asks old now turns a b h k unsent P → Goes asks old now turns a b h l [] P
 sends asks old now turns a b h k l unsent P sent g = (g.0, g.1 ++ unsent, g.2, Appends-trans h k l g.1 unsent g.3 sent, goes_sending asks old now turns g.0 g.1 unsent P g.4)
 
-pub reads : {S : Type 0} (asks : Asks S) (old now : S) (turns : ℕ) (a b c h k : Option (List ℕ)) (bytes : List ℕ) (t s : Held) → 0 < length bytes → Consumes b c bytes → ((text : List ℕ) → StandsAt t text → StandsAt s (text ++ bytes)) → Goes asks old now turns a b h k [] (ComesTo None t) → Goes asks old now (turns + 1) a c h k [] (StandsAt s)
-reads asks old now turns a b c h k bytes t s some read f g = (g.0 ++ bytes, g.1, Consumes-trans a b c g.0 bytes g.2 read, g.3, goes_reading asks old now turns (turns + 1) g.0 g.1 [] bytes (ComesTo None t) (StandsAt s) (omega (arith, some)) (λ text l. f text l.0) g.4)
+pub reads : {S : Type 0} (asks : Asks S) (old now : S) (turns : ℕ) (a b c h k : Option (List ℕ)) (bytes : List ℕ) (t s : Held) → 0 < length bytes → Consumes b c bytes → ((text : List ℕ) → StandsBefore t text → StandsBefore s (text ++ bytes)) → Goes asks old now turns a b h k [] (ComesTo None t) → Goes asks old now (turns + 1) a c h k [] (StandsBefore s)
+reads asks old now turns a b c h k bytes t s some read f g = (g.0 ++ bytes, g.1, Consumes-trans a b c g.0 bytes g.2 read, g.3, goes_reading asks old now turns (turns + 1) g.0 g.1 [] bytes (ComesTo None t) (StandsBefore s) (omega (arith, some)) (λ text l. f text l.0) g.4)
 
-pub answers : {S : Type 0} (asks : Asks S) (old now last : S) (turns : ℕ) (a b h k : Option (List ℕ)) (t : Held) (op : Op) (answer : Answer) → asks now op (result_of answer) last → Goes asks old now turns a b h k [] (ComesTo (Some (Do op)) t) → Goes asks old last (turns + 1) a b h k (answer_text answer) (StandsAt t)
+pub answers : {S : Type 0} (asks : Asks S) (old now last : S) (turns : ℕ) (a b h k : Option (List ℕ)) (t : Held) (op : Op) (answer : Answer) → asks now op (result_of answer) last → Goes asks old now turns a b h k [] (ComesTo (Some (Do op)) t) → Goes asks old last (turns + 1) a b h k (answer_text answer) (StandsBefore t)
 answers asks old now last turns a b h k t op answer one g = (g.0, g.1, g.2, g.3, goes_answered asks old now last turns g.0 g.1 t op answer one g.4)
 
 -- the text at which it stood begins with an item that takes memory
-pub ends_looking : {S : Type 0} (asks : Asks S) (old now : S) (turns : ℕ) (a b h k : Option (List ℕ)) (s : Held) (r : Result End SessionFault) → r ≡ Err OutOfMemory → ((text : List ℕ) → StandsAt s text → FrontTakesRoom text) → Goes asks old now turns a b h k s.unsent (StandsAt s) → Ends asks old now a b h k r
+pub ends_looking : {S : Type 0} (asks : Asks S) (old now : S) (turns : ℕ) (a b h k : Option (List ℕ)) (s : Held) (r : Result End SessionFault) → r ≡ Err OutOfMemory → ((text : List ℕ) → StandsBefore s text → FrontTakesRoom text) → Goes asks old now turns a b h k s.unsent (StandsBefore s) → Ends asks old now a b h k r
 ends_looking asks old now turns a b h k s r e room g =
-    (g.0, g.1, g.2, g.3, subst (Ending asks old now g.0 g.1) (sym e) (runs_short asks old now turns g.0 g.1 s.unsent (StandsAt s) g.4 (Shortage.item (room g.4.rest g.4.left))))
+    (g.0, g.1, g.2, g.3, subst (Ending asks old now g.0 g.1) (sym e) (runs_short asks old now turns g.0 g.1 s.unsent (StandsBefore s) g.4 (Shortage.item (room g.4.rest g.4.left))))
 
 -- so many turns were taken as can be counted
 pub ends_counting : {S : Type 0} (asks : Asks S) (old now : S) (turns : ℕ) (a b h k : Option (List ℕ)) (unsent : List ℕ) (P : List ℕ → Type 0) (r : Result End SessionFault) → r ≡ Err OutOfMemory → 2 ^ 64 ≤ turns + 1 → Goes asks old now turns a b h k unsent P → Ends asks old now a b h k r
@@ -152,7 +152,7 @@ ends_reading asks old now turns a b c h k t fault Failed (inr failed) g =
 pub ends_answering : {S : Type 0} (asks : Asks S) (old now last : S) (turns : ℕ) (a b h k : Option (List ℕ)) (t : Held) (op : Op) (fault : SessionFault) → ((fault ≡ OutOfMemory) × (answer : Answer) × asks now op (result_of answer) last) ⊎ ((fault ≡ ServiceStopped) × asks now op (Err ServiceFault.Stopped) last) → Goes asks old now turns a b h k [] (ComesTo (Some (Do op)) t) → Ends asks old last a b h k (Err fault)
 unfolding goes_answered
 ends_answering asks old now last turns a b h k t op fault (inl lost) g =
-    (g.0, g.1, g.2, g.3, subst (λ f. Ending asks old last g.0 g.1 (Err f)) (sym lost.0) (runs_short asks old last (turns + 1) g.0 g.1 (answer_text lost.1) (StandsAt t) (goes_answered asks old now last turns g.0 g.1 t op lost.1 lost.2 g.4) (Shortage.answer refl)))
+    (g.0, g.1, g.2, g.3, subst (λ f. Ending asks old last g.0 g.1 (Err f)) (sym lost.0) (runs_short asks old last (turns + 1) g.0 g.1 (answer_text lost.1) (StandsBefore t) (goes_answered asks old now last turns g.0 g.1 t op lost.1 lost.2 g.4) (Shortage.answer refl)))
 ends_answering asks old now last turns a b h k t op fault (inr stopped) g =
     (g.0, g.1, g.2, g.3, subst (λ f. Ending asks old last g.0 g.1 (Err f)) (sym stopped.0) (stops_at asks old now last turns g.0 g.1 t op stopped.1 g.4))
 
@@ -162,9 +162,9 @@ began (Ok x) k l text all some = (length text, subst (Appends k l) (sym (take-le
 began (Err e) k l text all some = some
 
 -- the same state under other names
-pub goes_as : {S : Type 0} (asks : Asks S) (old now last : S) (turns : ℕ) (a b c h k : Option (List ℕ)) (unsent : List ℕ) (s t : Held) → last ≡ now → c ≡ b → t ≡ s → s.unsent ≡ unsent → Goes asks old now turns a b h k unsent (StandsAt s) → Goes asks old last turns a c h k t.unsent (StandsAt t)
+pub goes_as : {S : Type 0} (asks : Asks S) (old now last : S) (turns : ℕ) (a b c h k : Option (List ℕ)) (unsent : List ℕ) (s t : Held) → last ≡ now → c ≡ b → t ≡ s → s.unsent ≡ unsent → Goes asks old now turns a b h k unsent (StandsBefore s) → Goes asks old last turns a c h k t.unsent (StandsBefore t)
 goes_as asks old now last turns a b c h k unsent s t services readers sessions text g =
-    subst (λ (u : Held). Goes asks old last turns a c h k u.unsent (StandsAt u)) (sym sessions)
-    (subst (λ (r : Option (List ℕ)). Goes asks old last turns a r h k s.unsent (StandsAt s)) (sym readers)
-    (subst (λ v. Goes asks old v turns a b h k s.unsent (StandsAt s)) (sym services)
-    (subst (λ u. Goes asks old now turns a b h k u (StandsAt s)) (sym text) g)))
+    subst (λ (u : Held). Goes asks old last turns a c h k u.unsent (StandsBefore u)) (sym sessions)
+    (subst (λ (r : Option (List ℕ)). Goes asks old last turns a r h k s.unsent (StandsBefore s)) (sym readers)
+    (subst (λ v. Goes asks old v turns a b h k s.unsent (StandsBefore s)) (sym services)
+    (subst (λ u. Goes asks old now turns a b h k u (StandsBefore s)) (sym text) g)))

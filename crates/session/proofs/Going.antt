@@ -9,7 +9,7 @@ use Rattle.session.specs.declared.faults.ServiceFault.{ServiceFault}
 use Rattle.session.specs.declared.faults.SessionFault.{SessionFault}
 use Rattle.session.specs.declared.faults.SessionFault.TheVariants.{OutOfMemory, ServiceStopped}
 use Rattle.session.specs.Items.{Answer, ReadsFirst, operations, told_text}
-use Rattle.session.specs.Held.{Held, StandsAt, ComesTo, Finds, nothing_held, faulty}
+use Rattle.session.specs.Held.{Held, StandsBefore, ComesTo, Finds, nothing_held, faulty}
 use Rattle.session.specs.Serving.{Asks, Asked, Shortage, RunsShort, Partly, BreaksOff, result_of}
 use Rattle.session.proofs.Items.{reads_more, operations_faulty, operations-append, told_text-append}
 
@@ -53,7 +53,7 @@ pub record Going {S : Type 0} (asks : Asks S) (old now : S) (turns : ℕ) (input
   pub counted : turns ≤ length input + length answers
 
 -- at first nothing is read, asked or written
-pub goes_at_first : {S : Type 0} (asks : Asks S) (s : S) → Going asks s s 0 [] [] [] (StandsAt nothing_held)
+pub goes_at_first : {S : Type 0} (asks : Asks S) (s : S) → Going asks s s 0 [] [] [] (StandsBefore nothing_held)
 goes_at_first asks s = record {
   items = [];
   more = [];
@@ -99,7 +99,7 @@ goes_reading asks old now turns next input output unsent bytes P Q on f g = reco
 operations_more : (items : List Item) (faults : List Fault) → operations (items ++ faulty faults) ≡ operations items
 operations_more items faults = operations-append items (faulty faults) ∙ (ap (λ ops. operations items ++ ops) (operations_faulty faults) ∙ append-nil (operations items))
 
-pub goes_finding : {S : Type 0} (asks : Asks S) (old now : S) (turns : ℕ) (input output : List ℕ) (s t : Held) (found : Option Request) → ((text : List ℕ) → StandsAt s text → Finds s t text found) → Going asks old now turns input output s.unsent (StandsAt s) → Going asks old now turns input output t.unsent (ComesTo found t)
+pub goes_finding : {S : Type 0} (asks : Asks S) (old now : S) (turns : ℕ) (input output : List ℕ) (s t : Held) (found : Option Request) → ((text : List ℕ) → StandsBefore s text → Finds s t text found) → Going asks old now turns input output s.unsent (StandsBefore s) → Going asks old now turns input output t.unsent (ComesTo found t)
 goes_finding asks old now turns input output s t found finds g =
     let f = finds g.rest g.left in
     let items : (g.items ++ g.more) ++ faulty f.0 ≡ g.items ++ (g.more ++ faulty f.0) = append_assoc g.items g.more (faulty f.0) in

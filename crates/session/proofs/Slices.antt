@@ -8,7 +8,7 @@ use Rattle.bean_codec.specs.declared.request.Request.{Request}
 use Rattle.bean_codec.specs.Grammar.{Item}
 use Rattle.bean_codec.specs.Wants.{Fits}
 use Rattle.bean_codec.specs.Replies.{fault_text}
-use Rattle.session.specs.Held.{Held, MayKeep, StandsAt, Finds, holding}
+use Rattle.session.specs.Held.{Held, MayKeep, StandsBefore, Finds, holding}
 use Rattle.session.proofs.Standing.{Continues, Drops, NeedsMore, Looks, looks_dropping, looks_past_fault, finds_none, finds_request, rank, rank_bound, takes}
 
 pub drops_on : (old : Held) (want next : Want) (bytes kept unsent : List ℕ) (at used : ℕ) → kept ≡ drop at bytes → Drops want kept used next → Looks old (holding want (drop at bytes) unsent) → Looks old (holding next (drop (at + used) bytes) unsent)
@@ -19,13 +19,13 @@ pub goes_past_fault : (old : Held) (want : Want) (bytes kept unsent new : List �
 goes_past_fault old want bytes kept unsent new at fault used e item written looks =
     subst (λ k. Looks old (holding Line k new)) (drop-drop used at bytes) (looks_past_fault old want (drop at bytes) unsent new fault used (subst (λ k. Continues want k (Err fault, used)) e item) written looks)
 
-pub comes_to_none : (old : Held) (want : Want) (bytes kept unsent : List ℕ) (at : ℕ) → kept ≡ drop at bytes → NeedsMore want kept → Looks old (holding want (drop at bytes) unsent) → (t : List ℕ) → StandsAt old t → Finds old (holding want (drop at bytes) unsent) t None
+pub comes_to_none : (old : Held) (want : Want) (bytes kept unsent : List ℕ) (at : ℕ) → kept ≡ drop at bytes → NeedsMore want kept → Looks old (holding want (drop at bytes) unsent) → (t : List ℕ) → StandsBefore old t → Finds old (holding want (drop at bytes) unsent) t None
 comes_to_none old want bytes kept unsent at e more looks =
     finds_none old want (drop at bytes) unsent (subst (NeedsMore want) e more) looks
 
-pub comes_to_request : (old : Held) (want : Want) (bytes kept unsent : List ℕ) (at : ℕ) (request : Request) (used : ℕ) → kept ≡ drop at bytes → Continues want kept (Ok request, used) → Looks old (holding want (drop at bytes) unsent) → (t : List ℕ) → StandsAt old t → Finds old (holding Line (drop (at + used) bytes) unsent) t (Some request)
+pub comes_to_request : (old : Held) (want : Want) (bytes kept unsent : List ℕ) (at : ℕ) (request : Request) (used : ℕ) → kept ≡ drop at bytes → Continues want kept (Ok request, used) → Looks old (holding want (drop at bytes) unsent) → (t : List ℕ) → StandsBefore old t → Finds old (holding Line (drop (at + used) bytes) unsent) t (Some request)
 comes_to_request old want bytes kept unsent at request used e item looks =
-    subst (λ k. (t : List ℕ) → StandsAt old t → Finds old (holding Line k unsent) t (Some request)) (drop-drop used at bytes) (finds_request old want (drop at bytes) unsent request used (subst (λ k. Continues want k (Ok request, used)) e item) looks)
+    subst (λ k. (t : List ℕ) → StandsBefore old t → Finds old (holding Line k unsent) t (Some request)) (drop-drop used at bytes) (finds_request old want (drop at bytes) unsent request used (subst (λ k. Continues want k (Ok request, used)) e item) looks)
 
 -- it stays within the bytes
 pub within : (bytes kept : List ℕ) (at used : ℕ) → kept ≡ drop at bytes → at ≤ length bytes → used ≤ length kept → at + used ≤ length bytes

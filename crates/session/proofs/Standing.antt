@@ -12,7 +12,7 @@ use Rattle.bean_codec.specs.Wants.{Fits}
 use Rattle.bean_codec.specs.Reads.{BeginsWith, BeginsWithNone, EndsItem}
 use Rattle.bean_codec.specs.Replies.{fault_text}
 use Rattle.session.specs.Items.{ReadsFirst, told_text}
-use Rattle.session.specs.Held.{Held, MayKeep, StandsAt, TakesRoom, FrontTakesRoom, ComesTo, Finds, holding, faulty}
+use Rattle.session.specs.Held.{Held, MayKeep, StandsBefore, TakesRoom, FrontTakesRoom, ComesTo, Finds, holding, faulty}
 use Rattle.session.proofs.FitsMore.{fits_more}
 use Rattle.session.proofs.Items.{reads_one, told_text-fault, faulty-one}
 
@@ -35,15 +35,15 @@ if_err (Ok x) p = tt
 if_err (Err e) p = p
 
 -- a piece more
-pub stands_more : (s t : Held) (piece : List ℕ) → t ≡ record s { kept = s.kept ++ piece; read_len = 0 } → (text : List ℕ) → StandsAt s text → StandsAt t (text ++ piece)
+pub stands_more : (s t : Held) (piece : List ℕ) → t ≡ record s { kept = s.kept ++ piece; read_len = 0 } → (text : List ℕ) → StandsBefore s text → StandsBefore t (text ++ piece)
 stands_more s t piece e text st =
-    subst (λ h. StandsAt h (text ++ piece)) (sym e)
+    subst (λ h. StandsBefore h (text ++ piece)) (sym e)
     (st.0, fits_more s.want st.0 s.kept piece st.1, ap (λ u. u ++ piece) st.2 ∙ append_assoc st.0 s.kept piece)
 
 -- the faults in front of any text at which it stood are told, and it stands behind them
 abbrev pub Looks : Held → Held → Type 0
-Looks old now = (t : List ℕ) → StandsAt old t →
-    (faults : List Fault) × (rest : List ℕ) × ReadsFirst t (faulty faults) rest × (now.unsent ≡ old.unsent ++ told_text (faulty faults) []) × StandsAt now rest
+Looks old now = (t : List ℕ) → StandsBefore old t →
+    (faults : List Fault) × (rest : List ℕ) × ReadsFirst t (faulty faults) rest × (now.unsent ≡ old.unsent ++ told_text (faulty faults) []) × StandsBefore now rest
 
 pub looks_at_first : (s : Held) → Looks s s
 looks_at_first s t st = ([], t, refl, sym (append-nil s.unsent), st)
@@ -68,12 +68,12 @@ looks_past_fault old want kept unsent new fault used item e looks t st =
       ([], refl, refl),
     )
 
-pub finds_none : (old : Held) (want : Want) (kept unsent : List ℕ) → NeedsMore want kept → Looks old (holding want kept unsent) → (t : List ℕ) → StandsAt old t → Finds old (holding want kept unsent) t None
+pub finds_none : (old : Held) (want : Want) (kept unsent : List ℕ) → NeedsMore want kept → Looks old (holding want kept unsent) → (t : List ℕ) → StandsBefore old t → Finds old (holding want kept unsent) t None
 finds_none old want kept unsent more looks t st =
     let l = looks t st in
     (l.0, l.1, l.2, l.3, (l.4, subst (λ u. BeginsWithNone u) (sym l.4.2) (more l.4.0 l.4.1)))
 
-pub finds_request : (old : Held) (want : Want) (kept unsent : List ℕ) (request : Request) (used : ℕ) → Continues want kept (Ok request, used) → Looks old (holding want kept unsent) → (t : List ℕ) → StandsAt old t → Finds old (holding Line (drop used kept) unsent) t (Some request)
+pub finds_request : (old : Held) (want : Want) (kept unsent : List ℕ) (request : Request) (used : ℕ) → Continues want kept (Ok request, used) → Looks old (holding want kept unsent) → (t : List ℕ) → StandsBefore old t → Finds old (holding Line (drop used kept) unsent) t (Some request)
 finds_request old want kept unsent request used item looks t st =
     let l = looks t st in
     let d = l.4.0 in
@@ -88,7 +88,7 @@ takes_room : (item : Item) → TakesMemory item → TakesRoom item
 takes_room (Ok request) takes = takes
 takes_room (Err fault) takes = tt
 
-pub request_takes_room : (old : Held) (want : Want) (kept unsent : List ℕ) → (want ≡ Line) × ((found : Item × ℕ) × TakesMemory found.0 × BeginsWith kept found) → Looks old (holding want kept unsent) → (t : List ℕ) → StandsAt old t → FrontTakesRoom t
+pub request_takes_room : (old : Held) (want : Want) (kept unsent : List ℕ) → (want ≡ Line) × ((found : Item × ℕ) × TakesMemory found.0 × BeginsWith kept found) → Looks old (holding want kept unsent) → (t : List ℕ) → StandsBefore old t → FrontTakesRoom t
 request_takes_room old want kept unsent (line, needs) looks t st =
     let l = looks t st in
     let none : l.4.0 ≡ [] = subst (λ w. Fits w l.4.0 kept) line l.4.1 in
@@ -96,7 +96,7 @@ request_takes_room old want kept unsent (line, needs) looks t st =
     let here : FrontTakesRoom kept = (needs.0.0, take needs.0.1 kept, drop needs.0.1 kept, sym (take-append-drop needs.0.1 kept), needs.2.1, takes_room needs.0.0 needs.1) in
     front_of_faults t l.1 l.0 l.2 (subst FrontTakesRoom (sym same) here)
 
-pub fault_takes_room : (old : Held) (want : Want) (kept unsent : List ℕ) (fault : Fault) (used : ℕ) → Continues want kept (Err fault, used) → Looks old (holding want kept unsent) → (t : List ℕ) → StandsAt old t → FrontTakesRoom t
+pub fault_takes_room : (old : Held) (want : Want) (kept unsent : List ℕ) (fault : Fault) (used : ℕ) → Continues want kept (Err fault, used) → Looks old (holding want kept unsent) → (t : List ℕ) → StandsBefore old t → FrontTakesRoom t
 fault_takes_room old want kept unsent fault used item looks t st =
     let l = looks t st in
     let d = l.4.0 in
@@ -133,8 +133,8 @@ comes_same None want kept a b t p q i j k l c = c
 comes_same (Some request) want kept a b t p q i j k l c = c
 
 -- what is found where only a part of the text is unsent
-pub finds_unsent : (want next : Want) (kept rest text new : List ℕ) (sent start at : ℕ) (p q : Bool) (found : Option Request) → sent ≤ length text → ((t : List ℕ) → StandsAt (holding want kept text) t → Finds (holding want kept text) (holding next rest new) t found)
-    → (t : List ℕ) → StandsAt (record { want = want; kept = kept; unsent = drop sent text; is_open = p; read_len = start; sent_len = sent }) t → Finds (record { want = want; kept = kept; unsent = drop sent text; is_open = p; read_len = start; sent_len = sent }) (record { want = next; kept = rest; unsent = drop sent new; is_open = q; read_len = at; sent_len = sent }) t found
+pub finds_unsent : (want next : Want) (kept rest text new : List ℕ) (sent start at : ℕ) (p q : Bool) (found : Option Request) → sent ≤ length text → ((t : List ℕ) → StandsBefore (holding want kept text) t → Finds (holding want kept text) (holding next rest new) t found)
+    → (t : List ℕ) → StandsBefore (record { want = want; kept = kept; unsent = drop sent text; is_open = p; read_len = start; sent_len = sent }) t → Finds (record { want = want; kept = kept; unsent = drop sent text; is_open = p; read_len = start; sent_len = sent }) (record { want = next; kept = rest; unsent = drop sent new; is_open = q; read_len = at; sent_len = sent }) t found
 finds_unsent want next kept rest text new sent start at p q found within finds t st =
     let f = finds t st in
     (f.0, f.1, f.2, ap (drop sent) f.3 ∙ drop-append-le sent text (told_text (faulty f.0) []) within, comes_same found next rest new (drop sent new) f.1 false q 0 0 at sent f.4)

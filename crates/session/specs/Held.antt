@@ -41,8 +41,8 @@ abbrev pub MayKeep : Want → List ℕ → Type 0
 MayKeep want kept = (dropped : List ℕ) × Fits want dropped kept
 
 -- the session stands at the front of this text: it dropped a part of it, which its want fits, and keeps the others
-abbrev pub StandsAt : Held → List ℕ → Type 0
-StandsAt s text = (dropped : List ℕ) × Fits s.want dropped s.kept × (text ≡ dropped ++ s.kept)
+abbrev pub StandsBefore : Held → List ℕ → Type 0
+StandsBefore s text = (dropped : List ℕ) × Fits s.want dropped s.kept × (text ≡ dropped ++ s.kept)
 
 -- an operation waits for its answer
 abbrev pub is_asked : Option Request → Bool
@@ -52,12 +52,12 @@ is_asked (Some Quit) = false
 
 -- what comes after the faults: a text that begins with no item, or a request, after which the session goes on
 abbrev pub ComesTo : Option Request → Held → List ℕ → Type 0
-ComesTo None s text = StandsAt s text × BeginsWithNone text
+ComesTo None s text = StandsBefore s text × BeginsWithNone text
 ComesTo (Some request) s text =
     (front rest : List ℕ) ×
     (text ≡ front ++ rest) ×
     Spells front (Ok request) ×
-    StandsAt s rest
+    StandsBefore s rest
 
 -- the item takes memory: the line of a fault, or what a request keeps
 abbrev pub TakesRoom : Item → Type 0

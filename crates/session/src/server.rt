@@ -2,7 +2,7 @@ ghost use Rattle.std.specs.Prelude.{◌≡◌, ◌<◌, ◌≤◌, ◌⊎◌, �
 ghost use Rattle.std.specs.Io.KnownBytes.{Appends, Consumes, IsAtEnd, Keeps};
 ghost use Rattle.session.specs.Streams.{AppendsBeginning};
 ghost use Rattle.session.specs.Items.{Answer, answer_text};
-ghost use Rattle.session.specs.Held.{StandsAt};
+ghost use Rattle.session.specs.Held.{StandsBefore};
 ghost use Rattle.session.specs.Serving.{Over, Ending, Whole, StopsAt, Partly, RunsShort, BreaksOff, longest_piece, ClosedAfter, ClosedOnce, result_of};
 
 use crate::faults::{End, ServiceFault, SessionFault};
@@ -68,7 +68,7 @@ fn read_piece<R: ByteIn>(
         → (bytes : List ℕ) × (0 < length bytes)
         × Consumes (R.remaining reader.old) (R.remaining reader.new) bytes
         × (session.new.unsent ≡ session.old.unsent) × (session.new.is_open ≡ session.old.is_open)
-        × ((text : List ℕ) → StandsAt session.old text → StandsAt session.new (text ++ bytes))) }
+        × ((text : List ℕ) → StandsBefore session.old text → StandsBefore session.new (text ++ bytes))) }
     ensures ended { IfOk result (λ some. some ≡ false
         → (R.has_ended reader.new ≡ true) × IsAtEnd (R.remaining reader.new)
         × Consumes (R.remaining reader.old) (R.remaining reader.new) []) }

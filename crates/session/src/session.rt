@@ -2,7 +2,7 @@ ghost use Rattle.std.specs.Prelude.{◌≡◌, ◌<◌, ◌≤◌, ◌+◌, ◌+
 ghost use Rattle.bean_codec.specs.Reads.{longest_unfinished};
 ghost use Rattle.bean_codec.specs.Replies.{reply_text};
 ghost use Rattle.session.specs.Items.{refused_text};
-ghost use Rattle.session.specs.Held.{holding, nothing_held, is_asked, fed_buffer_len, text_buffer_len, MayKeep, StandsAt, FrontTakesRoom, Finds};
+ghost use Rattle.session.specs.Held.{holding, nothing_held, is_asked, fed_buffer_len, text_buffer_len, MayKeep, StandsBefore, FrontTakesRoom, Finds};
 
 use bean_codec::{Read, Request, Want, read_request, write_fault, write_reply};
 use bean_queue::Reply;
@@ -60,8 +60,8 @@ impl Session {
     pub fn feed(&mut self, piece: &[u8]) -> Result<(), AllocError>
         ensures ok { OnOk result (self.new
             ≡ record self.old { kept = self.old.kept ++ piece.now; read_len = 0 }) }
-        ensures stands { OnOk result ((text : List ℕ) → StandsAt self.old text
-            → StandsAt self.new (text ++ piece.now)) }
+        ensures stands { OnOk result ((text : List ℕ) → StandsBefore self.old text
+            → StandsBefore self.new (text ++ piece.now)) }
         ensures buffer { OnOk result (fed_buffer_len self.new
             ≡ length self.old.kept + length piece.now) }
         ensures err { OnErr result (self.new ≡ record self.old { read_len = 0 }) }
@@ -95,14 +95,14 @@ impl Session {
     /// text to send. After a quit it goes on with what follows.
     pub fn next_ask(&mut self) -> Result<Option<Request>, AllocError>
         requires { self.old.is_open ≡ false }
-        ensures found { IfOk result (λ found. (text : List ℕ) → StandsAt self.old text
+        ensures found { IfOk result (λ found. (text : List ℕ) → StandsBefore self.old text
             → Finds self.old self.new text found) }
         ensures open { IfOk result (λ found. self.new.is_open ≡ is_asked found) }
         ensures small { IfOk result
             (λ found. found ≡ None → length self.new.kept ≤ longest_unfinished) }
         ensures buffer { OnOk result (fed_buffer_len self.new ≡ fed_buffer_len self.old) }
         ensures sent_len { OnOk result (self.new.sent_len ≡ self.old.sent_len) }
-        ensures memory { OnErr result ((text : List ℕ) → StandsAt self.old text → FrontTakesRoom text) }
+        ensures memory { OnErr result ((text : List ℕ) → StandsBefore self.old text → FrontTakesRoom text) }
         ensures err { OnErr result (self.new ≡ self.old) }
     {
         let len = self.text.len();
@@ -203,13 +203,13 @@ fn look_on(
     ensures within { IfOk result (λ found. found.start ≤ length bytes.now) }
     ensures kept { IfOk result (λ found. MayKeep found.want (drop found.start bytes.now)) }
     ensures found { IfOk result (λ found. (t : List ℕ)
-        → StandsAt (holding want (drop start bytes.now) text.old.items) t →
+        → StandsBefore (holding want (drop start bytes.now) text.old.items) t →
         Finds (holding want (drop start bytes.now) text.old.items)
         (holding found.want (drop found.start bytes.now) text.new.items) t found.request) }
     ensures small { IfOk result (λ found. found.request ≡ None
         → length (drop found.start bytes.now) ≤ longest_unfinished) }
     ensures memory { OnErr result ((t : List ℕ)
-        → StandsAt (holding want (drop start bytes.now) text.old.items) t → FrontTakesRoom t) }
+        → StandsBefore (holding want (drop start bytes.now) text.old.items) t → FrontTakesRoom t) }
     ensures front { take (vec_len text.old) text.new.items ≡ text.old.items }
 {
     let mut at = start;

@@ -20,7 +20,7 @@ use Rattle.session_store.specs.declared.session.Wait.{Wait}
 use Rattle.session_store.specs.declared.place.Place.{Place}
 use Rattle.session_store.specs.declared.tube_lines.TubeLines.{TubeLines}
 use Rattle.session_store.specs.Sessions.{is_waiting, wait_rank, first_waiting}
-use Rattle.session_store.specs.Lines.{place_cmp, place, IsIn, rank_place, line_of, StandsByTubes, EachStands, standing}
+use Rattle.session_store.specs.Lines.{place_cmp, place, IsIn, rank_place, tube_line, StandsByTubes, EachStands, standing}
 use Rattle.job_store.specs.LookUps.{is_among}
 use Rattle.session_store.specs.EntryLaws.{cmp_equal, cmp_greater, value_at-In, value_at-found}
 use Rattle.session_store.proofs.Places.{at_equal, in_keys, stays, some_place}
@@ -33,34 +33,34 @@ same_tube : (tube t : List ℕ) → is_at (slice_cmp nat_cmp tube) t ≡ true �
 same_tube tube t e = exact_bytes tube t (at_equal (slice_cmp nat_cmp tube t) e)
 
 -- the line of a tube is the one that was written for it, or as it was
-written : (tube t : List ℕ) (tubes tubes' : TubeLines) (w : Option (BTreeSet Place)) → get (slice_cmp nat_cmp) tubes'.lines t ≡ cond (is_at (slice_cmp nat_cmp tube) t) w (get (slice_cmp nat_cmp) tubes.lines t) → ((tube ≡ t) × (line_of t tubes' ≡ unwrap_or w (record { keys = [] }))) ⊎ (line_of t tubes' ≡ line_of t tubes)
+written : (tube t : List ℕ) (tubes tubes' : TubeLines) (w : Option (BTreeSet Place)) → get (slice_cmp nat_cmp) tubes'.lines t ≡ cond (is_at (slice_cmp nat_cmp tube) t) w (get (slice_cmp nat_cmp) tubes.lines t) → ((tube ≡ t) × (tube_line t tubes' ≡ unwrap_or w (record { keys = [] }))) ⊎ (tube_line t tubes' ≡ tube_line t tubes)
 written tube t tubes tubes' w e =
-    elim (is_at (slice_cmp nat_cmp tube) t) as (λ b. is_at (slice_cmp nat_cmp tube) t ≡ b → get (slice_cmp nat_cmp) tubes'.lines t ≡ cond b w (get (slice_cmp nat_cmp) tubes.lines t) → ((tube ≡ t) × (line_of t tubes' ≡ unwrap_or w (record { keys = [] }))) ⊎ (line_of t tubes' ≡ line_of t tubes)) [
+    elim (is_at (slice_cmp nat_cmp tube) t) as (λ b. is_at (slice_cmp nat_cmp tube) t ≡ b → get (slice_cmp nat_cmp) tubes'.lines t ≡ cond b w (get (slice_cmp nat_cmp) tubes.lines t) → ((tube ≡ t) × (tube_line t tubes' ≡ unwrap_or w (record { keys = [] }))) ⊎ (tube_line t tubes' ≡ tube_line t tubes)) [
       | true ↦ λ a e. inl (same_tube tube t a, ap (λ o. unwrap_or o (record { keys = [] })) e)
       | false ↦ λ a e. inr (ap (λ o. unwrap_or o (record { keys = [] })) e)
     ] refl e
 
 -- what is in the line of a tube is so afterwards, if the line that is written has it
-pub line-kept : (tube t : List ℕ) (p : Place) (tubes tubes' : TubeLines) (w : Option (BTreeSet Place)) → get (slice_cmp nat_cmp) tubes'.lines t ≡ cond (is_at (slice_cmp nat_cmp tube) t) w (get (slice_cmp nat_cmp) tubes.lines t) → (t ≡ tube → IsIn (line_of tube tubes) p → IsIn (unwrap_or w (record { keys = [] })) p) → IsIn (line_of t tubes) p → IsIn (line_of t tubes') p
+pub line-kept : (tube t : List ℕ) (p : Place) (tubes tubes' : TubeLines) (w : Option (BTreeSet Place)) → get (slice_cmp nat_cmp) tubes'.lines t ≡ cond (is_at (slice_cmp nat_cmp tube) t) w (get (slice_cmp nat_cmp) tubes.lines t) → (t ≡ tube → IsIn (tube_line tube tubes) p → IsIn (unwrap_or w (record { keys = [] })) p) → IsIn (tube_line t tubes) p → IsIn (tube_line t tubes') p
 line-kept tube t p tubes tubes' w e kept h =
-    elim (written tube t tubes tubes' w e) as (λ v. IsIn (line_of t tubes') p) [
-      | inl here ↦ subst (λ l. IsIn l p) (sym here.1) (kept (sym here.0) (subst (λ u. IsIn (line_of u tubes) p) (sym here.0) h))
+    elim (written tube t tubes tubes' w e) as (λ v. IsIn (tube_line t tubes') p) [
+      | inl here ↦ subst (λ l. IsIn l p) (sym here.1) (kept (sym here.0) (subst (λ u. IsIn (tube_line u tubes) p) (sym here.0) h))
       | inr apart ↦ subst (λ l. IsIn l p) (sym apart) h
     ]
 
-found-line : (tube : List ℕ) (tubes : TubeLines) (line : BTreeSet Place) → get (slice_cmp nat_cmp) tubes.lines tube ≡ Some line → line_of tube tubes ≡ line
+found-line : (tube : List ℕ) (tubes : TubeLines) (line : BTreeSet Place) → get (slice_cmp nat_cmp) tubes.lines tube ≡ Some line → tube_line tube tubes ≡ line
 found-line tube tubes line e = ap (λ o. unwrap_or o (record { keys = [] })) e
 
-no-line : (tube : List ℕ) (tubes : TubeLines) → get (slice_cmp nat_cmp) tubes.lines tube ≡ None → line_of tube tubes ≡ record { keys = [] }
+no-line : (tube : List ℕ) (tubes : TubeLines) → get (slice_cmp nat_cmp) tubes.lines tube ≡ None → tube_line tube tubes ≡ record { keys = [] }
 no-line tube tubes e = ap (λ o. unwrap_or o (record { keys = [] })) e
 
 -- the same of what is written through a reference to the line
-pub line-put : (tube t : List ℕ) (p : Place) (tubes tubes' : TubeLines) (line line' : BTreeSet Place) → Some line ≡ get (slice_cmp nat_cmp) tubes.lines tube → WritesThrough (slice_cmp nat_cmp) (slice_cmp nat_cmp tube) tubes.lines line' tubes'.lines → (t ≡ tube → IsIn line p → IsIn line' p) → IsIn (line_of t tubes) p → IsIn (line_of t tubes') p
+pub line-put : (tube t : List ℕ) (p : Place) (tubes tubes' : TubeLines) (line line' : BTreeSet Place) → Some line ≡ get (slice_cmp nat_cmp) tubes.lines tube → WritesThrough (slice_cmp nat_cmp) (slice_cmp nat_cmp tube) tubes.lines line' tubes'.lines → (t ≡ tube → IsIn line p → IsIn line' p) → IsIn (tube_line t tubes) p → IsIn (tube_line t tubes') p
 line-put tube t p tubes tubes' line line' value writes kept h =
     line-kept tube t p tubes tubes' (Some line') ((writes.3 (subst (λ o. IsSome o) value refl)).0 t) (λ same old. kept same (subst (λ l. IsIn l p) (found-line tube tubes line (sym value)) old)) h
 
 -- and of a line that is new
-pub line-new : (tube tube' t : List ℕ) (p : Place) (tubes tubes' : TubeLines) (lines : BTreeMap (List ℕ) (BTreeSet Place)) (line : BTreeSet Place) → tube' ≡ tube → lines ≡ tubes.lines → get (slice_cmp nat_cmp) tubes'.lines t ≡ cond (is_at (slice_cmp nat_cmp tube') t) (Some line) (get (slice_cmp nat_cmp) lines t) → None ≡ get (slice_cmp nat_cmp) tubes.lines tube → IsIn (line_of t tubes) p → IsIn (line_of t tubes') p
+pub line-new : (tube tube' t : List ℕ) (p : Place) (tubes tubes' : TubeLines) (lines : BTreeMap (List ℕ) (BTreeSet Place)) (line : BTreeSet Place) → tube' ≡ tube → lines ≡ tubes.lines → get (slice_cmp nat_cmp) tubes'.lines t ≡ cond (is_at (slice_cmp nat_cmp tube') t) (Some line) (get (slice_cmp nat_cmp) lines t) → None ≡ get (slice_cmp nat_cmp) tubes.lines tube → IsIn (tube_line t tubes) p → IsIn (tube_line t tubes') p
 line-new tube tube' t p tubes tubes' lines line copied same updates none h =
     line-kept tube t p tubes tubes' (Some line)
     (updates ∙ ap₂ (λ n m. cond (is_at (slice_cmp nat_cmp n) t) (Some line) (get (slice_cmp nat_cmp) m t)) copied same)
@@ -125,12 +125,12 @@ waiting-place : (x : ℕ) (c : SessionState) → is_waiting c ≡ true → rank_
 waiting-place x c e = waiting_place_of x c.wait e
 
 -- each session that waits for a job of the tube is seen at its place in the line
-seen-in : (tube : List ℕ) (sessions : List (ℕ × SessionState)) (tubes : TubeLines) → Rising 0 (2 ^ 32) sessions → EachStands (StandsByTubes tubes) sessions → (e : ℕ × SessionState) → In e sessions → (is_waiting e.1 && is_among tube e.1.watched) ≡ true → In e (filter_map (standing tube sessions) (line_of tube tubes).keys)
+seen-in : (tube : List ℕ) (sessions : List (ℕ × SessionState)) (tubes : TubeLines) → Rising 0 (2 ^ 32) sessions → EachStands (StandsByTubes tubes) sessions → (e : ℕ × SessionState) → In e sessions → (is_waiting e.1 && is_among tube e.1.watched) ≡ true → In e (filter_map (standing tube sessions) (tube_line tube tubes).keys)
 seen-in tube sessions tubes r complete e i t =
     let both = and_parts (is_waiting e.1) (is_among tube e.1.watched) t in
     let p : Place = place (wait_rank e.1) e.0 in
-    let stands : IsIn (line_of tube tubes) p = subst (λ o. IfSome o (IsIn (line_of tube tubes))) (waiting-place e.0 e.1 both.0) (complete e i tube both.1) in
-    mapped-in (standing tube sessions) p e (line_of tube tubes).keys (in_keys p (line_of tube tubes).keys stands)
+    let stands : IsIn (tube_line tube tubes) p = subst (λ o. IfSome o (IsIn (tube_line tube tubes))) (waiting-place e.0 e.1 both.0) (complete e i tube both.1) in
+    mapped-in (standing tube sessions) p e (tube_line tube tubes).keys (in_keys p (tube_line tube tubes).keys stands)
     (standing-at tube sessions p e.1 (value_at-In 0 (2 ^ 32) sessions e r i) both.0 both.1 refl)
 
 -- The first that stands is the least
@@ -188,20 +188,20 @@ first-least tube sessions e (k ∷ ks) sorted f =
           )
     ] refl f
 
-nobody-served : (tube : List ℕ) (sessions : List (ℕ × SessionState)) (tubes : TubeLines) → Rising 0 (2 ^ 32) sessions → EachStands (StandsByTubes tubes) sessions → slice_get (filter_map (standing tube sessions) (line_of tube tubes).keys) 0 ≡ None → None ≡ first_waiting (λ e. is_among tube e.1.watched) sessions
+nobody-served : (tube : List ℕ) (sessions : List (ℕ × SessionState)) (tubes : TubeLines) → Rising 0 (2 ^ 32) sessions → EachStands (StandsByTubes tubes) sessions → slice_get (filter_map (standing tube sessions) (tube_line tube tubes).keys) 0 ≡ None → None ≡ first_waiting (λ e. is_among tube e.1.watched) sessions
 nobody-served tube sessions tubes r complete none =
     elim (first_waiting (λ e. is_among tube e.1.watched) sessions) as (λ o. IfSome o (IsLeast (λ e. is_waiting e.1 && is_among tube e.1.watched) wait_rank sessions) → None ≡ o) [
       | None ↦ λ _. refl
       | Some e ↦ λ found. absurd (not_empty e _ none (seen-in tube sessions tubes r complete e found.member found.passes))
     ] (least-found (λ e. is_waiting e.1 && is_among tube e.1.watched) wait_rank sessions)
 
-first-served : (tube : List ℕ) (sessions : List (ℕ × SessionState)) (tubes : TubeLines) → Rising 0 (2 ^ 32) sessions → EachStands (StandsByTubes tubes) sessions → IsStrictlySortedBy place_cmp (line_of tube tubes).keys → slice_get (filter_map (standing tube sessions) (line_of tube tubes).keys) 0 ≡ first_waiting (λ e. is_among tube e.1.watched) sessions
+first-served : (tube : List ℕ) (sessions : List (ℕ × SessionState)) (tubes : TubeLines) → Rising 0 (2 ^ 32) sessions → EachStands (StandsByTubes tubes) sessions → IsStrictlySortedBy place_cmp (tube_line tube tubes).keys → slice_get (filter_map (standing tube sessions) (tube_line tube tubes).keys) 0 ≡ first_waiting (λ e. is_among tube e.1.watched) sessions
 first-served tube sessions tubes r complete sorted =
-    elim (slice_get (filter_map (standing tube sessions) (line_of tube tubes).keys) 0) as (λ o. slice_get (filter_map (standing tube sessions) (line_of tube tubes).keys) 0 ≡ o → o ≡ first_waiting (λ e. is_among tube e.1.watched) sessions) [
+    elim (slice_get (filter_map (standing tube sessions) (tube_line tube tubes).keys) 0) as (λ o. slice_get (filter_map (standing tube sessions) (tube_line tube tubes).keys) 0 ≡ o → o ≡ first_waiting (λ e. is_among tube e.1.watched) sessions) [
       | None ↦ λ none. nobody-served tube sessions tubes r complete none
       | Some e ↦ λ some.
-          let least = first-least tube sessions e (line_of tube tubes).keys sorted some in
-          let from = mapped-from (standing tube sessions) e (line_of tube tubes).keys least.0 in
+          let least = first-least tube sessions e (tube_line tube tubes).keys sorted some in
+          let from = mapped-from (standing tube sessions) e (tube_line tube tubes).keys least.0 in
           let there = standing-from tube sessions from.0 e from.2 in
           sym (least-only (λ e. is_waiting e.1 && is_among tube e.1.watched) wait_rank sessions 0 (2 ^ 32) e r (record {
             member = there.0;
@@ -213,7 +213,7 @@ first-served tube sessions tubes r complete sorted =
 -- the same of a line that is found, and where there is none
 pub first-in-line : (tube : List ℕ) (sessions : List (ℕ × SessionState)) (tubes : TubeLines) (line : BTreeSet Place) → Some line ≡ get (slice_cmp nat_cmp) tubes.lines tube → Rising 0 (2 ^ 32) sessions → EachStands (StandsByTubes tubes) sessions → IsStrictlySortedBy place_cmp line.keys → slice_get (filter_map (standing tube sessions) line.keys) 0 ≡ first_waiting (λ e. is_among tube e.1.watched) sessions
 first-in-line tube sessions tubes line value r complete sorted =
-    let it : line ≡ line_of tube tubes = sym (found-line tube tubes line (sym value)) in
+    let it : line ≡ tube_line tube tubes = sym (found-line tube tubes line (sym value)) in
     ap (λ (l : BTreeSet Place). slice_get (filter_map (standing tube sessions) l.keys) 0) it ∙
     first-served tube sessions tubes r complete (subst (λ (l : BTreeSet Place). IsStrictlySortedBy place_cmp l.keys) it sorted)
 
@@ -222,10 +222,10 @@ none-in-line tube sessions tubes value r complete = nobody-served tube sessions 
 
 -- Places that are left
 
-pub tube-left : (tube : List ℕ) (k : Place) (tubes tubes' : TubeLines) (sessions : List (ℕ × SessionState)) → Rising 0 (2 ^ 32) sessions → standing tube sessions k ≡ None → ((t : List ℕ) (p : Place) → (t ≡ tube → k ≡ p → ⊥) → IsIn (line_of t tubes) p → IsIn (line_of t tubes') p) → EachStands (StandsByTubes tubes) sessions → EachStands (StandsByTubes tubes') sessions
+pub tube-left : (tube : List ℕ) (k : Place) (tubes tubes' : TubeLines) (sessions : List (ℕ × SessionState)) → Rising 0 (2 ^ 32) sessions → standing tube sessions k ≡ None → ((t : List ℕ) (p : Place) → (t ≡ tube → k ≡ p → ⊥) → IsIn (tube_line t tubes) p → IsIn (tube_line t tubes') p) → EachStands (StandsByTubes tubes) sessions → EachStands (StandsByTubes tubes') sessions
 tube-left tube k tubes tubes' sessions r gone stays h =
     λ e i t among.
-    elim (rank_place e.0 e.1.wait) as (λ o. rank_place e.0 e.1.wait ≡ o → IfSome o (IsIn (line_of t tubes)) → IfSome o (IsIn (line_of t tubes'))) [
+    elim (rank_place e.0 e.1.wait) as (λ o. rank_place e.0 e.1.wait ≡ o → IfSome o (IsIn (tube_line t tubes)) → IfSome o (IsIn (tube_line t tubes'))) [
       | None ↦ λ _ _. tt
       | Some p ↦ λ at there.
           stays t p

@@ -11,7 +11,7 @@ use Rattle.session_store.specs.declared.session.SessionState.{SessionState}
 use Rattle.session_store.specs.declared.session.Wait.{Wait}
 use Rattle.session_store.specs.declared.lines.Lines.{Lines}
 use Rattle.session_store.specs.Sessions.{new_session, session_of, with_wait}
-use Rattle.session_store.specs.Lines.{IsIn, time_out_place, rank_place, line_of, StandsIn, EachStands, HasGrown}
+use Rattle.session_store.specs.Lines.{IsIn, time_out_place, rank_place, tube_line, StandsIn, EachStands, HasGrown}
 use Rattle.session_store.specs.WatchLists.{joined, left_out}
 use Rattle.job_store.specs.LookUps.{is_among}
 use Rattle.session_store.specs.EntryLaws.{value_at-In, altered-in, without-in, insert-in}
@@ -83,7 +83,7 @@ each-made lines x sessions sessions' same h = subst (EachStands (StandsIn lines)
 pub stands-grown : (lines lines' : Lines) (e : ℕ × SessionState) → HasGrown lines lines' → StandsIn lines e → StandsIn lines' e
 stands-grown lines lines' e more h = (
   some_in lines.time_outs.line lines'.time_outs.line (time_out_place e.0 e.1.wait) more.0 h.0,
-  λ tube among. some_in (line_of tube lines.tubes) (line_of tube lines'.tubes) (rank_place e.0 e.1.wait) (more.1 tube) (h.1 tube among),
+  λ tube among. some_in (tube_line tube lines.tubes) (tube_line tube lines'.tubes) (rank_place e.0 e.1.wait) (more.1 tube) (h.1 tube among),
 )
 
 pub each-grown : (lines lines' : Lines) (sessions : List (ℕ × SessionState)) → HasGrown lines lines' → EachStands (StandsIn lines) sessions → EachStands (StandsIn lines') sessions
@@ -94,14 +94,14 @@ each-grown lines lines' sessions more h = λ e i. stands-grown lines lines' e mo
 pub stands-less : (lines : Lines) (x : ℕ) (tube : List ℕ) (c : SessionState) → StandsIn lines (x, c) → StandsIn lines (x, record c { watched = left_out tube c.watched })
 stands-less lines x tube c h = (h.0, λ t among. h.1 t (among-left_out tube t c.watched among))
 
-pub stands-more : (lines lines' : Lines) (x : ℕ) (tube : List ℕ) (c : SessionState) → HasGrown lines lines' → IfSome (rank_place x c.wait) (IsIn (line_of tube lines'.tubes)) → StandsIn lines (x, c) → StandsIn lines' (x, record c { watched = joined tube c.watched })
+pub stands-more : (lines lines' : Lines) (x : ℕ) (tube : List ℕ) (c : SessionState) → HasGrown lines lines' → IfSome (rank_place x c.wait) (IsIn (tube_line tube lines'.tubes)) → StandsIn lines (x, c) → StandsIn lines' (x, record c { watched = joined tube c.watched })
 stands-more lines lines' x tube c more new h =
     let grown = stands-grown lines lines' (x, c) more h in (
       grown.0,
       λ t among.
-          elim (among-joined tube t c.watched among) as (λ v. IfSome (rank_place x c.wait) (IsIn (line_of t lines'.tubes))) [
+          elim (among-joined tube t c.watched among) as (λ v. IfSome (rank_place x c.wait) (IsIn (tube_line t lines'.tubes))) [
             | inl old ↦ grown.1 t old
-            | inr same ↦ subst (λ u. IfSome (rank_place x c.wait) (IsIn (line_of u lines'.tubes))) (sym same) new
+            | inr same ↦ subst (λ u. IfSome (rank_place x c.wait) (IsIn (tube_line u lines'.tubes))) (sym same) new
           ],
     )
 
@@ -116,10 +116,10 @@ pub stands-again : (lines : Lines) (x hi : ℕ) (sessions : List (ℕ × Session
 stands-again lines x hi sessions wait c d r found i h = subst (λ s. StandsIn lines (x, with_wait wait s)) (only-session x hi sessions c d r found i) h
 
 -- a session that watches one tube more stands in its line too
-pub each-watching : (lines lines' : Lines) (x hi : ℕ) (tube : List ℕ) (sessions sessions' : List (ℕ × SessionState)) → Rising 0 hi sessions → HasGrown lines lines' → IfSome (rank_place x (session_of x sessions).wait) (IsIn (line_of tube lines'.tubes)) → sessions' ≡ altered x (λ (s : SessionState). record s { watched = joined tube s.watched }) sessions → EachStands (StandsIn lines) sessions → EachStands (StandsIn lines') sessions'
+pub each-watching : (lines lines' : Lines) (x hi : ℕ) (tube : List ℕ) (sessions sessions' : List (ℕ × SessionState)) → Rising 0 hi sessions → HasGrown lines lines' → IfSome (rank_place x (session_of x sessions).wait) (IsIn (tube_line tube lines'.tubes)) → sessions' ≡ altered x (λ (s : SessionState). record s { watched = joined tube s.watched }) sessions → EachStands (StandsIn lines) sessions → EachStands (StandsIn lines') sessions'
 each-watching lines lines' x hi tube sessions sessions' r more new same h =
     each-altered (StandsIn lines') x (λ (s : SessionState). record s { watched = joined tube s.watched }) sessions sessions' same
     (λ c i.
     stands-more lines lines' x tube c more
-    (subst (λ (s : SessionState). IfSome (rank_place x s.wait) (IsIn (line_of tube lines'.tubes))) (ap (λ o. unwrap_or o new_session) (value_at-In 0 hi sessions (x, c) r i)) new) (h (x, c) i))
+    (subst (λ (s : SessionState). IfSome (rank_place x s.wait) (IsIn (tube_line tube lines'.tubes))) (ap (λ o. unwrap_or o new_session) (value_at-In 0 hi sessions (x, c) r i)) new) (h (x, c) i))
     (each-grown lines lines' sessions more h)

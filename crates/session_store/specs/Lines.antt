@@ -43,8 +43,8 @@ abbrev pub rank_place : ℕ → Option Wait → Option Place
 rank_place x wait = option_map (λ w. place w.rank x) wait
 
 -- the line of a tube, in which nobody stands where there is none
-abbrev pub line_of : List ℕ → TubeLines → BTreeSet Place
-line_of tube tubes = unwrap_or (get (slice_cmp nat_cmp) tubes.lines tube) (record { keys = [] })
+abbrev pub tube_line : List ℕ → TubeLines → BTreeSet Place
+tube_line tube tubes = unwrap_or (get (slice_cmp nat_cmp) tubes.lines tube) (record { keys = [] })
 
 -- the session stands among the time-outs, if it waits and its wait ends
 abbrev pub StandsByTimeOut : TimeOuts → ℕ × SessionState → Type 0
@@ -52,7 +52,7 @@ StandsByTimeOut time_outs e = IfSome (time_out_place e.0 e.1.wait) (IsIn time_ou
 
 -- the session stands in the line of each tube that it watches, if it waits
 abbrev pub StandsByTubes : TubeLines → ℕ × SessionState → Type 0
-StandsByTubes tubes e = (tube : List ℕ) → is_among tube e.1.watched ≡ true → IfSome (rank_place e.0 e.1.wait) (IsIn (line_of tube tubes))
+StandsByTubes tubes e = (tube : List ℕ) → is_among tube e.1.watched ≡ true → IfSome (rank_place e.0 e.1.wait) (IsIn (tube_line tube tubes))
 
 -- the session stands in the lines wherever it waits
 abbrev pub StandsIn : Lines → ℕ × SessionState → Type 0
@@ -70,7 +70,7 @@ HasAll line line' = (p : Place) → IsIn line p → IsIn line' p
 abbrev pub HasGrown : Lines → Lines → Type 0
 HasGrown lines lines' =
     HasAll lines.time_outs.line lines'.time_outs.line ×
-    ((tube : List ℕ) → HasAll (line_of tube lines.tubes) (line_of tube lines'.tubes))
+    ((tube : List ℕ) → HasAll (tube_line tube lines.tubes) (tube_line tube lines'.tubes))
 
 -- the session at a place, if its wait is over by the second
 abbrev pub over_at : ℕ → List (ℕ × SessionState) → Place → Option (ℕ × SessionState)

@@ -2,7 +2,7 @@ ghost use Rattle.std.specs.Prelude.{◌≡◌, ◌^◌, OnOk, IfSome, option_map
 ghost use Rattle.job_store.specs.Entries.{Rising};
 ghost use Rattle.job_store.specs.LookUps.{is_among};
 ghost use Rattle.session_store.specs.Sessions.{first_waiting, has_timed_out, with_wait};
-ghost use Rattle.session_store.specs.Lines.{EachStands, HasGrown, IsIn, StandsIn, line_of, rank_place};
+ghost use Rattle.session_store.specs.Lines.{EachStands, HasGrown, IsIn, StandsIn, tube_line, rank_place};
 
 use crate::session::{SessionState, Wait};
 use crate::time_outs::TimeOuts;
@@ -68,7 +68,7 @@ impl Lines {
     ) -> Result<(), AllocError>
         ensures grown { HasGrown self.old self.new }
         ensures stands { OnOk result
-            (IfSome (rank_place number wait) (IsIn (line_of tube.now self.new.tubes))) }
+            (IfSome (rank_place number wait) (IsIn (tube_line tube.now self.new.tubes))) }
     {
         self.tubes.join_tube(tube, number, wait)
     }

@@ -4,7 +4,7 @@ ghost use Rattle.job_store.specs.Entries.{Rising};
 ghost use Rattle.job_store.specs.LookUps.{is_among};
 ghost use Rattle.session_store.specs.Sessions.{first_waiting};
 ghost use Rattle.session_store.specs.declared.place.Place.{Place};
-ghost use Rattle.session_store.specs.Lines.{EachStands, HasAll, IsIn, StandsByTubes, line_of, place_cmp, rank_place, standing};
+ghost use Rattle.session_store.specs.Lines.{EachStands, HasAll, IsIn, StandsByTubes, tube_line, place_cmp, rank_place, standing};
 
 use crate::place::{Place, rank_place};
 use crate::session::{SessionState, Wait};
@@ -67,8 +67,8 @@ impl TubeLines {
 
     /// Puts a place into the line of a tube.
     fn put(&mut self, tube: &Name, place: Place) -> Result<(), AllocError>
-        ensures grown { (t : List ℕ) → HasAll (line_of t self.old) (line_of t self.new) }
-        ensures put { OnOk result (IsIn (line_of tube.now self.new) place) }
+        ensures grown { (t : List ℕ) → HasAll (tube_line t self.old) (tube_line t self.new) }
+        ensures put { OnOk result (IsIn (tube_line tube.now self.new) place) }
     {
         if let Some(line) = self.lines.get_mut(tube) {
             line.insert(place)?;
@@ -83,8 +83,8 @@ impl TubeLines {
     /// Takes a place out of the line of a tube, and tells whether that leaves none.
     fn take_place(&mut self, tube: &Name, place: Place) -> bool
         ensures stays { (t : List ℕ) (p : Place) → (t ≡ tube.now → place ≡ p → ⊥)
-            → IsIn (line_of t self.old) p → IsIn (line_of t self.new) p }
-        ensures none { IsTrue result → (line_of tube.now self.new).keys ≡ [] }
+            → IsIn (tube_line t self.old) p → IsIn (tube_line t self.new) p }
+        ensures none { IsTrue result → (tube_line tube.now self.new).keys ≡ [] }
     {
         match self.lines.get_mut(tube) {
             Some(line) => {
@@ -98,7 +98,7 @@ impl TubeLines {
     /// Takes a place out of the line of a tube, and the line where that leaves none.
     fn take_out(&mut self, tube: &Name, place: Place)
         ensures { (t : List ℕ) (p : Place) → (t ≡ tube.now → place ≡ p → ⊥)
-            → IsIn (line_of t self.old) p → IsIn (line_of t self.new) p }
+            → IsIn (tube_line t self.old) p → IsIn (tube_line t self.new) p }
     {
         if self.take_place(tube, place) {
             self.lines.remove(tube);
@@ -112,9 +112,9 @@ impl TubeLines {
         number: u32,
         wait: Option<Wait>,
     ) -> Result<(), AllocError>
-        ensures grown { (t : List ℕ) → HasAll (line_of t self.old) (line_of t self.new) }
+        ensures grown { (t : List ℕ) → HasAll (tube_line t self.old) (tube_line t self.new) }
         ensures stands { OnOk result
-            (IfSome (rank_place number wait) (IsIn (line_of tube.now self.new))) }
+            (IfSome (rank_place number wait) (IsIn (tube_line tube.now self.new))) }
     {
         match rank_place(number, wait) {
             Some(place) => self.put(tube, place),
@@ -129,10 +129,10 @@ impl TubeLines {
         number: u32,
         wait: Option<Wait>,
     ) -> Result<(), AllocError>
-        ensures grown { (t : List ℕ) → HasAll (line_of t self.old) (line_of t self.new) }
+        ensures grown { (t : List ℕ) → HasAll (tube_line t self.old) (tube_line t self.new) }
         ensures stands { OnOk result
             ((t : List ℕ) → is_among t watched.now ≡ true
-            → IfSome (rank_place number wait) (IsIn (line_of t self.new))) }
+            → IfSome (rank_place number wait) (IsIn (tube_line t self.new))) }
     {
         for tube in watched {
             self.join_tube(tube, number, wait)?;

@@ -9,7 +9,7 @@ use Rattle.slot_log.specs.declared.places.Place.{Place}
 use Rattle.slot_log.specs.declared.places.Place.TheVariants.{Requested, Proposed, Decided}
 use Rattle.slot_log.specs.declared.places.Places.{Places}
 use Rattle.slot_log.specs.declared.slot_log.SlotLog.TheInside.{Inside}
-use Rattle.slot_log.specs.Places.{noted_at, others_noted, is_found}
+use Rattle.slot_log.specs.Places.{with_new_key, others_noted, is_found}
 use Rattle.slot_log.specs.Requests.{is_known}
 use Rattle.slot_log.specs.Kept.{book_of, standing, KeepsBook}
 use Rattle.slot_log.proofs.Maps.{some_inserted, stays_inserted, within_inserted}
@@ -98,7 +98,7 @@ module _ {C : Type 0} (same : C → C → Bool) (key_of : C → Key) (exact : (x
     }
 
     -- the command is noted
-    pub noted_kept : ((q : Key) → at_key places.by_key q ≡ noted_at (at_key a.places.by_key) (key_of x) (Decided slot) q)
+    pub noted_kept : ((q : Key) → at_key places.by_key q ≡ with_new_key (at_key a.places.by_key) (key_of x) (Decided slot) q)
         → places.others.items ≡ others_noted (at_key a.places.by_key (key_of x)) a.places.others.items x → KeepsBook same key_of then
     noted_kept looks more =
         let old = at_key a.places.by_key in

@@ -12,7 +12,7 @@ use Rattle.slot_log.specs.declared.places.Place.{Place}
 use Rattle.slot_log.specs.declared.places.Place.TheVariants.{Requested, Proposed, Decided}
 use Rattle.slot_log.specs.declared.places.Places.{Places}
 use Rattle.slot_log.specs.declared.slot_log.SlotLog.TheInside.{Inside}
-use Rattle.slot_log.specs.Places.{ranked, noted_at, others_noted, is_found}
+use Rattle.slot_log.specs.Places.{ranked, with_new_key, others_noted, is_found}
 use Rattle.slot_log.specs.Requests.{is_known}
 use Rattle.slot_log.specs.Kept.{book_of, standing, KeepsBook}
 use Rattle.slot_log.proofs.Ranks.{ranked_more, ranked_last}
@@ -36,7 +36,7 @@ was false false p d h = inl h
 
 module _ {C : Type 0} (same : C → C → Bool) (key_of : C → Key) (exact : (x y : C) → same x y ≡ true → x ≡ y) (itself : (x : C) → same x x ≡ true)
     (a : Inside C) (kept : KeepsBook same key_of a) (rs : VecDeque C Global) (places : Places C) (x : C) (rank : ℕ) (last : rs.items ≡ a.requests.items ++ x ∷ [])
-    (looks : (q : Key) → at_key places.by_key q ≡ noted_at (at_key a.places.by_key) (key_of x) (Requested rank) q)
+    (looks : (q : Key) → at_key places.by_key q ≡ with_new_key (at_key a.places.by_key) (key_of x) (Requested rank) q)
     (more : places.others.items ≡ others_noted (at_key a.places.by_key (key_of x)) a.places.others.items x) where
   abbrev then : Inside C
   then = record a { requests = rs; places = places }

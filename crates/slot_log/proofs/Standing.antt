@@ -10,7 +10,7 @@ use Rattle.slot_log.specs.declared.places.Place.{Place}
 use Rattle.object.specs.Keys.{same_key}
 use Rattle.object.specs.KeyLaws.{same_is, same_itself}
 use Rattle.object.specs.KeyMaps.{with_key}
-use Rattle.slot_log.specs.Places.{noted_at, others_noted, is_found}
+use Rattle.slot_log.specs.Places.{with_new_key, others_noted, is_found}
 
 -- two tests that hold together are one
 pub same_tests : (a b : Bool) → (a ≡ true → b ≡ true) → (b ≡ true → a ≡ true) → a ≡ b
@@ -71,7 +71,7 @@ module _ {C : Type 0} (same : C → C → Bool) (key_of : C → Key) (exact : (x
         (found_cases look stands others c h)
 
   -- a new command is noted
-  module _ (look now : Key → Option Place) (stands then : Place → Option C) (others new : List C) (x : C) (to : Place) (looks : (q : Key) → now q ≡ noted_at look (key_of x) to q) (more : new ≡ others_noted (look (key_of x)) others x)
+  module _ (look now : Key → Option Place) (stands then : Place → Option C) (others new : List C) (x : C) (to : Place) (looks : (q : Key) → now q ≡ with_new_key look (key_of x) to q) (more : new ≡ others_noted (look (key_of x)) others x)
       (here : then to ≡ Some x) (keep : (p : Place) (c : C) → stands p ≡ Some c → then p ≡ Some c) where
     in_new : (b : Bool) → is_some (look (key_of x)) ≡ b → (c : C) → among same others c ≡ true → among same new c ≡ true
     in_new true t c h = ap (λ (os : List C). among same os c) (more ∙ ap (λ b. cond b (others ++ x ∷ []) others) t) ∙ among_more others (x ∷ []) c h

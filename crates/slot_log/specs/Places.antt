@@ -7,8 +7,8 @@ use Rattle.object.specs.KeyMaps.{with_key}
 use Rattle.slot_log.specs.declared.places.Place.{Place}
 
 -- a place that is noted for a key, unless it has one
-abbrev pub noted_at : (Key → Option Place) → Key → Place → Key → Option Place
-noted_at look key place q = if is_some (look key) then look q else with_key look key place q
+abbrev pub with_new_key : (Key → Option Place) → Key → Place → Key → Option Place
+with_new_key look key place q = if is_some (look key) then look q else with_key look key place q
 
 -- and the other commands, to which this one comes where its key has a place
 abbrev pub others_noted : {C : Type 0} → Option Place → List C → C → List C

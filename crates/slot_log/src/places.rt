@@ -2,7 +2,7 @@ ghost use Rattle.std.specs.Prelude.{◌≡◌, true, false, [], IsSome, IfOk, On
 ghost use Rattle.std.specs.List.{list_any};
 ghost use Rattle.object.specs.declared.command.Key.{Key};
 ghost use Rattle.object.specs.KeyMaps.{at_key, with_key};
-ghost use Rattle.slot_log.specs.Places.{noted_at, others_noted};
+ghost use Rattle.slot_log.specs.Places.{with_new_key, others_noted};
 
 use ballot::Slot;
 use object::{Key, KeyMap, Keyed, Value, copies_of};
@@ -68,7 +68,7 @@ impl<C: Value + Keyed> Places<C> {
     /// Notes where a new command stands.
     pub(crate) fn note(&mut self, command: &C, place: Place) -> Result<(), AllocError>
         ensures places { OnOk result ((q : Key) → at_key self.new.by_key q
-            ≡ noted_at (at_key self.old.by_key) (C.key_of command.now) place q) }
+            ≡ with_new_key (at_key self.old.by_key) (C.key_of command.now) place q) }
         ensures others { OnOk result (self.new.others.items
             ≡ others_noted
             (at_key self.old.by_key

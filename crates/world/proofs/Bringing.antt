@@ -28,7 +28,7 @@ use Rattle.world.specs.declared.event.Event.TheVariants as events
 use Rattle.world.proofs.LeaderRows.{none_not}
 use Rattle.world.proofs.Reach.{reachable_sound, opened_at}
 use Rattle.world.specs.Mentions.{Mentions, MentionsNode, ProposesOnly, MentionsBody}
-use Rattle.world.specs.SlotBooks.{IsBooked, pending}
+use Rattle.world.specs.SlotBooks.{IsBookAfter, pending}
 use Rattle.world.specs.Telling.{IsProposedAt, IsMentioned, is_proposed, is_decided, is_led, is_commanded, is_gathered, is_accepted, says_propose, says_decision, says_accept, says_report}
 use Rattle.world.specs.WaysOut.{first_book, IsSettled, IsSmall, work, most_slots, IsReady, stays as ready_stays, proposes as ready_proposes, HasLearnt, HasDecided, knew, learnt, HasAdvanced, MentionsAsMuch, Holds, requested, proposed as was_proposed, decided}
 use Rattle.world.proofs.Booking.{holds_proposed, holds_learnt, holds_advanced, pending_proposed}
@@ -117,7 +117,7 @@ pending_proposed_next book s c more is first none = ap (λ o. pending (proposed 
 
 module _ (laws : BallotLaws) {O Op Reply : Type 0} (rules : Rules O Op Reply) (w v : World Op Reply) (i : IsWorld rules w)
     (more : IsProposedAt w.cluster (first_book w.cluster).slot_out ⊎ (0 < length (first_book w.cluster).requests)) (h : HasAdvanced (is_one rules) w.cluster (first_book v.cluster)) where
-  booked : IsBooked w.taken (first_book w.cluster)
+  booked : IsBookAfter w.taken (first_book w.cluster)
   booked = books laws rules w i 1
 
   -- nothing is known there where nothing was proposed

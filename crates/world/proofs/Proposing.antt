@@ -25,7 +25,7 @@ use Rattle.world.proofs.Every.{within_reach}
 use Rattle.world.proofs.Invariants.{IsSound}
 use Rattle.world.proofs.LeaderRows.{some_same}
 use Rattle.world.proofs.Reach.{reachable_sound, step_sound}
-use Rattle.world.specs.SlotBooks.{IsBooked}
+use Rattle.world.specs.SlotBooks.{IsBookAfter}
 use Rattle.world.specs.Telling.{IsProposedAt}
 use Rattle.world.specs.WaysOut.{first_leader, first_book, rivals, IsSettled, MentionsAsMuch, Proposes, work}
 use Rattle.world.proofs.MentionsEvery.{mentions_step, mentions_calm, reach_taken}
@@ -68,7 +68,7 @@ module _ (laws : BallotLaws) {O Op Reply : Type 0} (rules : Rules O Op Reply) wh
   -- what replica 1 proposes next where nothing is proposed for the slot that is performed next
   module _ (w : World Op Reply) (i : IsWorld rules w) (s : ℕ) (next : s ≡ (first_book w.cluster).slot_out) (unknown : get (first_book w.cluster).decisions s ≡ None)
       (new : IsProposedAt w.cluster s → ⊥) (c : Command Op) (more : List (Command Op)) (requests : (first_book w.cluster).requests ≡ c ∷ more) where
-    booked : IsBooked w.taken (first_book w.cluster)
+    booked : IsBookAfter w.taken (first_book w.cluster)
     booked = books laws rules w i 1
 
     pub free_there : get (first_book w.cluster).proposals s ≡ None

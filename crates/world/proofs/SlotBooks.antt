@@ -13,7 +13,7 @@ use Rattle.slot_log.specs.Decisions.{learnt, next_decided}
 use Rattle.slot_log.specs.Proposals.{first_for, open_slot, next_proposal, proposed, IsLeastOpen, IsInWindow}
 use Rattle.slot_log.specs.Requests.{is_known, requested}
 use Rattle.node.specs.SlotLaws.{get_insert_same, get_insert_other, get_insert_cases, get_remove_cases, none_in_empty}
-use Rattle.world.specs.SlotBooks.{pending, IsBooked}
+use Rattle.world.specs.SlotBooks.{pending, IsBookAfter}
 use Rattle.world.proofs.LeaderRows.{none_not}
 use Rattle.world.proofs.LeadingSlots.{is_there, still_there, others_there}
 use Rattle.world.proofs.MentionsEvery.{next_open}
@@ -57,7 +57,7 @@ len_less m s v e =
 len_more : {X : Type 0} (m : Slots X) (s : ℕ) (v : X) → get m s ≡ None → len (insert m s v) ≡ len m + 1
 len_more m s v e = len-insert nat_cmp_total m s v ∙ ap (λ o. cond (is_some o) (len m) (len m + 1)) e
 
-pub new_booked : {C : Type 0} (n : ℕ) → IsBooked n (new_book {C = C})
+pub new_booked : {C : Type 0} (n : ℕ) → IsBookAfter n (new_book {C = C})
 new_booked {C} n = record {
   performed = record { first = omega arith; known = λ s low high. absurd (omega arith) };
   first = omega arith;
@@ -67,7 +67,7 @@ new_booked {C} n = record {
   few = let e = len-empty nat_cmp C in omega arith;
 }
 
-pub more_booked : {C : Type 0} (m n : ℕ) → m ≤ n → (r : SlotBook C) → IsBooked m r → IsBooked n r
+pub more_booked : {C : Type 0} (m n : ℕ) → m ≤ n → (r : SlotBook C) → IsBookAfter m r → IsBookAfter n r
 more_booked m n more r h = record {
   performed = h.performed;
   first = h.first;
@@ -77,10 +77,10 @@ more_booked m n more r h = record {
   few = let few = h.few in omega arith;
 }
 
-pub requested_booked : {C : Type 0} (same : C → C → Bool) (r : SlotBook C) (c : C) (n : ℕ) → IsBooked n r → IsBooked (n + 1) (requested same r c)
+pub requested_booked : {C : Type 0} (same : C → C → Bool) (r : SlotBook C) (c : C) (n : ℕ) → IsBookAfter n r → IsBookAfter (n + 1) (requested same r c)
 requested_booked same r c n h = at (is_known same r c)
   where
-    at : (test : Bool) → IsBooked (n + 1) (cond test r (record r { requests = r.requests ++ (c ∷ []) }))
+    at : (test : Bool) → IsBookAfter (n + 1) (cond test r (record r { requests = r.requests ++ (c ∷ []) }))
     at true = more_booked n (n + 1) (omega arith) r h
     at false = record {
       performed = record { first = h.performed.first; known = h.performed.known };
@@ -91,7 +91,7 @@ requested_booked same r c n h = at (is_known same r c)
       few = let few = h.few in let e = length-append r.requests (c ∷ []) in omega arith;
     }
 
-pub learnt_booked : {C : Type 0} (r : SlotBook C) (s : ℕ) (c : C) (n : ℕ) → IsBooked n r → IsBooked n (learnt r s c)
+pub learnt_booked : {C : Type 0} (r : SlotBook C) (s : ℕ) (c : C) (n : ℕ) → IsBookAfter n r → IsBookAfter n (learnt r s c)
 learnt_booked r s c n h = record {
   performed = record { first = h.performed.first; known = λ t low high. still_there r.decisions s c t (h.performed.known t low high) };
   first = h.first;
@@ -109,7 +109,7 @@ some_requests : {C : Type 0} (requests : List C) (o : Option ℕ) (p : ℕ × C)
 some_requests [] o p e = none_not refl e
 some_requests (c ∷ more) o p e = omega arith
 
-module _ {C : Type 0} (r : SlotBook C) (n : ℕ) (h : IsBooked n r) where
+module _ {C : Type 0} (r : SlotBook C) (n : ℕ) (h : IsBookAfter n r) where
   module _ (s : ℕ) (c : C) (open_at : IsLeastOpen r s) where
     -- the slots before slot_out are known, and this one isn't
     in_window : IsInWindow r.slot_out s
@@ -139,7 +139,7 @@ module _ {C : Type 0} (r : SlotBook C) (n : ℕ) (h : IsBooked n r) where
         (cases_lt t r.slot_in))
         (cases_eq t s)
 
-  proposed_booked : (o : Option (ℕ × C)) → next_proposal r ≡ o → IsBooked n (proposed r o)
+  proposed_booked : (o : Option (ℕ × C)) → next_proposal r ≡ o → IsBookAfter n (proposed r o)
   proposed_booked None e = h
   proposed_booked (Some p) e =
       let open_at = next_open r p.0 p.1 e in
@@ -158,7 +158,7 @@ module _ {C : Type 0} (r : SlotBook C) (n : ℕ) (h : IsBooked n r) where
             omega arith;
       }
 
-  pub proposed_next_booked : IsBooked n (proposed r (next_proposal r))
+  pub proposed_next_booked : IsBookAfter n (proposed r (next_proposal r))
   proposed_next_booked = proposed_booked (next_proposal r) refl
 
 -- what is pending when a decision is performed: a proposal goes, and comes back as a request where it was lost
@@ -184,7 +184,7 @@ advanced_fewer same r p c decided there is =
     let less = len_less r.proposals r.slot_out p there in
     omega arith
 
-pub advanced_booked : {C : Type 0} (same : C → C → Bool) (r : SlotBook C) (c : C) (n : ℕ) → next_decided r ≡ Some c → IsBooked n r → IsBooked n (advanced same r)
+pub advanced_booked : {C : Type 0} (same : C → C → Bool) (r : SlotBook C) (c : C) (n : ℕ) → next_decided r ≡ Some c → IsBookAfter n r → IsBookAfter n (advanced same r)
 advanced_booked same r c n decided h = record {
   performed = record {
     first = omega arith;

@@ -19,7 +19,7 @@ use Rattle.node.specs.Receiving.{Receives, promises_ballot, accepts_pvalue, hear
 use Rattle.world.specs.declared.event.Event.{Event}
 use Rattle.world.specs.Nodes.{Cluster, node, turned}
 use Rattle.world.specs.Runs.{InEvery}
-use Rattle.world.specs.SlotBooks.{IsBooked}
+use Rattle.world.specs.SlotBooks.{IsBookAfter}
 use Rattle.world.specs.Steps.{Step, submit, deliver, wake, nudge, propose, perform, restart, performed}
 use Rattle.world.specs.Worlds.{World}
 use Rattle.world.proofs.Invariants.{IsFair, IsSound}
@@ -28,7 +28,7 @@ use Rattle.world.proofs.Reach.{opened_at, reachable_sound}
 use Rattle.world.proofs.SlotBooks.{new_booked, more_booked, requested_booked, learnt_booked, proposed_next_booked, advanced_booked}
 use Rattle.world.proofs.Turns.{here, there}
 
-receives_booked : {C : Type 0} (members : List ℕ) (m n : ℕ) (x : NodeState C) (body : LetterBody C) (z : NodeState C) (out : List (Letter C)) (count : ℕ) → Receives members m n x body z out → IsBooked count x.replica → IsBooked count z.replica
+receives_booked : {C : Type 0} (members : List ℕ) (m n : ℕ) (x : NodeState C) (body : LetterBody C) (z : NodeState C) (out : List (Letter C)) (count : ℕ) → Receives members m n x body z out → IsBookAfter count x.replica → IsBookAfter count z.replica
 receives_booked members m n x body z out count (promises_ballot b report r) h = h
 receives_booked members m n x body z out count (accepts_pvalue p) h = h
 receives_booked members m n x body z out count (hears_promise b report fresh taken may) h = h
@@ -38,17 +38,17 @@ receives_booked members m n x body z out count (learns s c) h = learnt_booked x.
 receives_booked members m n x body z out count (tells_decisions s) h = h
 
 abbrev AllBooked : {C : Type 0} → ℕ → Cluster C → Type 0
-AllBooked count k = (m : ℕ) → IsBooked count (node k m).replica
+AllBooked count k = (m : ℕ) → IsBookAfter count (node k m).replica
 
 module _ (laws : BallotLaws) {C : Type 0} (k : Cluster C) (i : IsSound k) (count : ℕ) (all : AllBooked count k) (n : ℕ) (member : is_member k.members n ≡ true) where
-  turn_booked : (x : NodeState C) (out : List (Letter C)) → IsBooked (count + 1) x.replica → AllBooked (count + 1) (turned k n x out)
+  turn_booked : (x : NodeState C) (out : List (Letter C)) → IsBookAfter (count + 1) x.replica → AllBooked (count + 1) (turned k n x out)
   turn_booked x out fine m = ⊎_elim
-      (λ (e : m ≡ n). subst (λ z. IsBooked (count + 1) (node (turned k n x out) z).replica) (sym e) (subst (λ (y : NodeState C). IsBooked (count + 1) y.replica) (sym (here laws k i n member x out)) fine))
-      (λ (apart : m ≢ n). subst (λ (y : NodeState C). IsBooked (count + 1) y.replica) (sym (there laws k i n member x out m apart)) (more_booked count (count + 1) (omega arith) (node k m).replica (all m)))
+      (λ (e : m ≡ n). subst (λ z. IsBookAfter (count + 1) (node (turned k n x out) z).replica) (sym e) (subst (λ (y : NodeState C). IsBookAfter (count + 1) y.replica) (sym (here laws k i n member x out)) fine))
+      (λ (apart : m ≢ n). subst (λ (y : NodeState C). IsBookAfter (count + 1) y.replica) (sym (there laws k i n member x out m apart)) (more_booked count (count + 1) (omega arith) (node k m).replica (all m)))
       (cases_eq m n)
 
   -- the pending commands are no more than before
-  calm_booked : (x : NodeState C) (out : List (Letter C)) → IsBooked count x.replica → AllBooked (count + 1) (turned k n x out)
+  calm_booked : (x : NodeState C) (out : List (Letter C)) → IsBookAfter count x.replica → AllBooked (count + 1) (turned k n x out)
   calm_booked x out fine = turn_booked x out (more_booked count (count + 1) (omega arith) x.replica fine)
 
 module _ (laws : BallotLaws) {O Op Reply : Type 0} (rules : Rules O Op Reply) where
@@ -67,7 +67,7 @@ module _ (laws : BallotLaws) {O Op Reply : Type 0} (rules : Rules O Op Reply) wh
   step_booked w v e i (perform n member) all = performs_booked w i all n member (next_decided (node w.cluster n).replica) refl
   step_booked w v e i (restart n member) all = turn_booked laws w.cluster i w.taken all n member _ [] (new_booked (w.taken + 1))
 
-  pub books : InEvery rules (λ w. (n : ℕ) → IsBooked w.taken (node w.cluster n).replica)
+  pub books : InEvery rules (λ w. (n : ℕ) → IsBookAfter w.taken (node w.cluster n).replica)
   books = in_every laws rules (λ w. AllBooked w.taken w.cluster)
-      (λ members n. subst (λ (x : NodeState (Command Op)). IsBooked 0 x.replica) (sym (opened_at members n)) (new_booked 0))
+      (λ members n. subst (λ (x : NodeState (Command Op)). IsBookAfter 0 x.replica) (sym (opened_at members n)) (new_booked 0))
       (λ w v e i s all. step_booked w v e (reachable_sound laws rules w i.reachable) s all)

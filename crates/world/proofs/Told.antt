@@ -30,7 +30,7 @@ use Rattle.world.specs.Runs.{Leads, at_once, after, IsReachable, IsWorld}
 use Rattle.world.specs.Chosen.{IsChosen}
 use Rattle.object.specs.Legal.{IsGivenAt}
 use Rattle.world.specs.Reached.{IsRun, IsReached}
-use Rattle.world.specs.Told.{IsTold, IsAnswered}
+use Rattle.world.specs.Told.{TellsReached, IsAnswered}
 use Rattle.object.specs.ListLaws.{Each-at, In-get, In-left, In-right, In-cases}
 use Rattle.ballot.specs.OrderLaws.{BallotLaws}
 use Rattle.world.proofs.Invariants.{IsFair, IsSound}
@@ -112,19 +112,19 @@ module _ {O Op Reply : Type 0} (rules : Rules O Op Reply) where
       (λ (e : is_new c earlier ≡ false). inl (subst (λ l. IsGivenAt rules l place a) (kept-push_old earlier c e) i))
       (cases_Bool (is_new c earlier))
 
-module _ (laws : BallotLaws) {O Op Reply : Type 0} (rules : Rules O Op Reply) (v : World Op Reply) (reached : (cs : List (Command Op)) × IsReached v cs) (told : IsTold rules v) where
+module _ (laws : BallotLaws) {O Op Reply : Type 0} (rules : Rules O Op Reply) (v : World Op Reply) (reached : (cs : List (Command Op)) × IsReached v cs) (told : TellsReached rules v) where
   -- where the reach stays, so do the commands of its slots
-  still_told : (u : World Op Reply) → IsSound u.cluster → Grows v.cluster u.cluster → u.reach ≡ v.reach → ((a : Answer Reply) → In a v.happenings.answers → In a u.happenings.answers) → IsTold rules u
+  still_told : (u : World Op Reply) → IsSound u.cluster → Grows v.cluster u.cluster → u.reach ≡ v.reach → ((a : Answer Reply) → In a v.happenings.answers → In a u.happenings.answers) → TellsReached rules u
   still_told u i g same more cs r place a given =
       let old = reached.1 in
       let e : cs ≡ reached.0 = same_run laws u.cluster i 1 cs reached.0 r.chosen (run_stays v.cluster u.cluster g 1 reached.0 old.chosen) (r.count ∙ same ∙ sym old.count) in
       more a (told reached.0 old place a (subst (λ l. IsGivenAt rules (kept l) place a) e given))
 
-  quiet_told : (u : World Op Reply) → IsSound u.cluster → Grows v.cluster u.cluster → u.reach ≡ v.reach → u.happenings.answers ≡ v.happenings.answers → IsTold rules u
+  quiet_told : (u : World Op Reply) → IsSound u.cluster → Grows v.cluster u.cluster → u.reach ≡ v.reach → u.happenings.answers ≡ v.happenings.answers → TellsReached rules u
   quiet_told u i g same answers = still_told u i g same (λ a at. subst (In a) (sym answers) at)
 
   -- a replica performs the slot after the reach
-  further_told : (u : World Op Reply) → IsSound u.cluster → (earlier : List (Command Op)) (c : Command Op) → IsReached v earlier → IsReached u (earlier ++ (c ∷ [])) → u.happenings.answers ≡ v.happenings.answers ++ answers_after rules earlier c → IsTold rules u
+  further_told : (u : World Op Reply) → IsSound u.cluster → (earlier : List (Command Op)) (c : Command Op) → IsReached v earlier → IsReached u (earlier ++ (c ∷ [])) → u.happenings.answers ≡ v.happenings.answers ++ answers_after rules earlier c → TellsReached rules u
   further_told u i earlier c before now answers cs r place a given =
       let e : cs ≡ earlier ++ (c ∷ []) = same_run laws u.cluster i 1 cs (earlier ++ (c ∷ [])) r.chosen now.chosen (r.count ∙ sym now.count) in
       subst (In a) (sym answers)
@@ -133,7 +133,7 @@ module _ (laws : BallotLaws) {O Op Reply : Type 0} (rules : Rules O Op Reply) (v
       (λ (new : In a (answers_after rules earlier c)). In-right a v.happenings.answers (answers_after rules earlier c) new)
       (given_push rules earlier c place a (subst (λ l. IsGivenAt rules (kept l) place a) e given)))
 
-  performs_told : IsSound v.cluster → AllPerformed v.cluster → AllWithin v.cluster (v.reach + 1) → (n : ℕ) (o : Option (Command Op)) → next_decided (node v.cluster n).replica ≡ o → (u : World Op Reply) → IsSound u.cluster → Grows v.cluster u.cluster → u.reach ≡ (performed rules v n (node v.cluster n).replica o).reach → u.happenings.answers ≡ (performed rules v n (node v.cluster n).replica o).happenings.answers → IsTold rules u
+  performs_told : IsSound v.cluster → AllPerformed v.cluster → AllWithin v.cluster (v.reach + 1) → (n : ℕ) (o : Option (Command Op)) → next_decided (node v.cluster n).replica ≡ o → (u : World Op Reply) → IsSound u.cluster → Grows v.cluster u.cluster → u.reach ≡ (performed rules v n (node v.cluster n).replica o).reach → u.happenings.answers ≡ (performed rules v n (node v.cluster n).replica o).happenings.answers → TellsReached rules u
   performs_told i full within n None e u iu g reach answers = quiet_told u iu g reach answers
   performs_told i full within n (Some c) e u iu g reach answers = ⊎_elim
       (λ (l : v.reach < slot).
@@ -166,10 +166,10 @@ submitted_answers w c = at (is_submitted c.key w.happenings.submitted)
 -- what holds in each reachable world
 pub record Tells {O Op Reply : Type 0} (rules : Rules O Op Reply) (w : World Op Reply) : Type 0 where
   pub within : AllWithin w.cluster (w.reach + 1)
-  pub told : IsTold rules w
+  pub told : TellsReached rules w
 
 module _ (laws : BallotLaws) {O Op Reply : Type 0} (rules : Rules O Op Reply) where
-  step_told : (v : World Op Reply) (e : Event Op) (u : World Op Reply) → IsSound v.cluster → AllPerformed v.cluster → (cs : List (Command Op)) × IsReached v cs → IsSound u.cluster → Grows v.cluster u.cluster → Tells rules v → Step rules v e u → IsTold rules u
+  step_told : (v : World Op Reply) (e : Event Op) (u : World Op Reply) → IsSound v.cluster → AllPerformed v.cluster → (cs : List (Command Op)) × IsReached v cs → IsSound u.cluster → Grows v.cluster u.cluster → Tells rules v → Step rules v e u → TellsReached rules u
   step_told v e u i full reached iu g h (submit n c member own) = quiet_told laws rules v reached h.told u iu g refl (submitted_answers v c)
   step_told v e u i full reached iu g h (deliver j l x out at receives) = quiet_told laws rules v reached h.told u iu g refl refl
   step_told v e u i full reached iu g h (wake n member) = quiet_told laws rules v reached h.told u iu g refl refl
@@ -178,7 +178,7 @@ module _ (laws : BallotLaws) {O Op Reply : Type 0} (rules : Rules O Op Reply) wh
   step_told v e u i full reached iu g h (perform n member) = performs_told laws rules v reached h.told i full h.within n (next_decided (node v.cluster n).replica) refl u iu g refl refl
   step_told v e u i full reached iu g h (restart n member) = quiet_told laws rules v reached h.told u iu g refl refl
 
-  opening_told : (members : List ℕ) → IsTold rules (opening members)
+  opening_told : (members : List ℕ) → TellsReached rules (opening members)
   opening_told members [] r place a i = absurd i
   opening_told members (c ∷ cs) r place a i = let e = r.count in absurd (omega arith)
 

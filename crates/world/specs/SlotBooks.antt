@@ -11,7 +11,7 @@ pending book = length book.requests + len book.proposals
 
 -- A book after so many events. Proposals stand in the window of slot_out and before slot_in, and each slot between the
 -- two has a known decision or a proposal. Each event brings one pending command at most.
-pub record IsBooked {C : Type 0} (count : ℕ) (book : SlotBook C) : Type 0 where
+pub record IsBookAfter {C : Type 0} (count : ℕ) (book : SlotBook C) : Type 0 where
   pub performed : IsPerformed book
   pub first : 0 < book.slot_in
   pub near : (s : ℕ) (c : C) → get book.proposals s ≡ Some c → IsInWindow book.slot_out s

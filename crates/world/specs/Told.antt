@@ -11,16 +11,16 @@ use Rattle.object.specs.Legal.{IsGivenAt}
 use Rattle.world.specs.Reached.{IsReached}
 
 -- each slot up to the reach has a chosen command
-abbrev pub HasReached : {Op Reply : Type 0} → World Op Reply → Type 0
-HasReached {Op} w = (cs : List (Command Op)) × IsReached w cs
+abbrev pub HasSomeReach : {Op Reply : Type 0} → World Op Reply → Type 0
+HasSomeReach {Op} w = (cs : List (Command Op)) × IsReached w cs
 
 -- what is kept of those commands begins the order
 abbrev pub ReachBegins : {Op Reply : Type 0} → World Op Reply → Type 0
 ReachBegins {Op} w = (cs order : List (Command Op)) → IsReached w cs → IsOrder w.cluster order → IsBeginning (kept cs) order
 
 -- each answer that one object gives which obeys what is kept of them has been given
-abbrev pub IsTold : {O Op Reply : Type 0} → Rules O Op Reply → World Op Reply → Type 0
-IsTold {O} {Op} {Reply} rules w = (cs : List (Command Op)) → IsReached w cs → (place : ℕ) (a : Answer Reply) → IsGivenAt rules (kept cs) place a → In a w.happenings.answers
+abbrev pub TellsReached : {O Op Reply : Type 0} → Rules O Op Reply → World Op Reply → Type 0
+TellsReached {O} {Op} {Reply} rules w = (cs : List (Command Op)) → IsReached w cs → (place : ℕ) (a : Answer Reply) → IsGivenAt rules (kept cs) place a → In a w.happenings.answers
 
 -- and each answer that was given is one of these
 abbrev pub IsGivenByReached : {O Op Reply : Type 0} → Rules O Op Reply → World Op Reply → Type 0
@@ -29,6 +29,6 @@ IsGivenByReached {O} {Op} {Reply} rules w =
 
 -- the first three together
 pub record IsAnswered {O Op Reply : Type 0} (rules : Rules O Op Reply) (w : World Op Reply) : Type 0 where
-  pub some : HasReached w
+  pub some : HasSomeReach w
   pub begins : ReachBegins w
-  pub told : IsTold rules w
+  pub told : TellsReached rules w

@@ -3,7 +3,7 @@ use Rattle.std.specs.Io.KnownBytes.{Appends, Consumes}
 use Rattle.bean_codec.specs.declared.request.Request.TheVariants.{Do, Quit}
 use Rattle.session.specs.declared.faults.End.{End}
 use Rattle.session.specs.declared.faults.SessionFault.TheVariants.{OutOfMemory, WriteFailed}
-use Rattle.session.specs.Held.{Held, StandsAt, ComesTo, is_asked, nothing_held}
+use Rattle.session.specs.Held.{Held, StandsBefore, ComesTo, is_asked, nothing_held}
 use Rattle.session.specs.Items.{answer_text}
 use Rattle.session.proofs.Endings.{Goes, Ends, goes_as, sets_out, finds, sends, reads, answers, began, ends_looking, ends_counting, ends_writing, ends_eof, ends_quit, ends_reading, ends_answering}
 use Rattle.session.proofs.server.converse.Goals.{in-None+in_ok-read_piece-in-None+else-not-branch, in-Some-Do+in_ok-answer-in-Some-Do}
@@ -13,7 +13,7 @@ pub turns-init : goal.turns-init
 turns-init g c =
     let e : c.new-session.result ≡ nothing_held = c.new-session.ensures in
     record {
-      goes = subst (λ (s : Held). Goes g.S.Service.asks c.args.service.now c.args.service.now 0 (g.R.ByteIn.remaining c.args.reader.now) (g.R.ByteIn.remaining c.args.reader.now) (g.W.ByteOut.contents c.args.writer.now) (g.W.ByteOut.contents c.args.writer.now) s.unsent (StandsAt s)) (sym e) (sets_out g.S.Service.asks c.args.service.now (g.R.ByteIn.remaining c.args.reader.now) (g.W.ByteOut.contents c.args.writer.now));
+      goes = subst (λ (s : Held). Goes g.S.Service.asks c.args.service.now c.args.service.now 0 (g.R.ByteIn.remaining c.args.reader.now) (g.R.ByteIn.remaining c.args.reader.now) (g.W.ByteOut.contents c.args.writer.now) (g.W.ByteOut.contents c.args.writer.now) s.unsent (StandsBefore s)) (sym e) (sets_out g.S.Service.asks c.args.service.now (g.R.ByteIn.remaining c.args.reader.now) (g.W.ByteOut.contents c.args.writer.now));
       closed = ap (λ (s : Held). s.is_open) e;
       not_ended = refl;
     }
@@ -33,7 +33,7 @@ returns-clause-run g c =
     let b = g.R.ByteIn.remaining c.turns.reader in
     let h = g.W.ByteOut.contents c.args.writer.now in
     let k = g.W.ByteOut.contents c.turns.writer in
-    ends_counting g.S.Service.asks c.args.service.now c.turns.service c.turns._turn a b h k c.turns.session.unsent (StandsAt c.turns.session) (Err OutOfMemory) refl (omega arith) c.turns.invariant.goes
+    ends_counting g.S.Service.asks c.args.service.now c.turns.service c.turns._turn a b h k c.turns.session.unsent (StandsBefore c.turns.session) (Err OutOfMemory) refl (omega arith) c.turns.invariant.goes
 
 pub returns-in_err-map_err-clause-run : goal.returns-in_err-map_err-clause-run
 returns-in_err-map_err-clause-run g c =
@@ -142,7 +142,7 @@ turns-preserved g c =
           let s = w.read_piece.new.session in
           let some : w.in_ok-read_piece-in-None.field-0 ≡ true = search rules in
           let fed = w.in_ok-read_piece-in-None.ensures.fed some in
-          let stands : (text : List ℕ) → StandsAt t text → StandsAt s (text ++ fed.0) = subst (λ (u : Held). (text : List ℕ) → StandsAt u text → StandsAt s (text ++ fed.0)) cleared fed.5 in
+          let stands : (text : List ℕ) → StandsBefore t text → StandsBefore s (text ++ fed.0) = subst (λ (u : Held). (text : List ℕ) → StandsBefore u text → StandsBefore s (text ++ fed.0)) cleared fed.5 in
           record {
             goes = goes_as g.S.Service.asks c.args.service.now c.turns.service c.match-found-4.service (c.turns._turn + 1) a m (g.R.ByteIn.remaining c.match-found-4.reader) h l [] s c.match-found-4.session w.service-is (ap g.R.ByteIn.remaining w.reader-is) w.session-is (fed.3 ∙ ap (λ (u : Held). u.unsent) cleared)
                 (reads g.S.Service.asks c.args.service.now c.turns.service c.turns._turn a b m h l fed.0 t s fed.1 fed.2 stands

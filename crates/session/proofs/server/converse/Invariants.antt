@@ -1,12 +1,12 @@
 -- The session is on its way, no ask is open, and the reader has not come to the end.
 use Rattle.std.proofs.Common.{◌≡◌, false}
-use Rattle.session.specs.Held.{StandsAt}
+use Rattle.session.specs.Held.{StandsBefore}
 use Rattle.session.proofs.Endings.{Goes}
 use Rattle.session.proofs.server.converse.Given as goal
 
 abbrev pub invariant-turns : goal.invariant-turns
 invariant-turns g l = record {
-  goes : Goes g.S.Service.asks l.initial.service l.service l._turn (g.R.ByteIn.remaining l.initial.reader) (g.R.ByteIn.remaining l.reader) (g.W.ByteOut.contents l.initial.writer) (g.W.ByteOut.contents l.writer) l.session.unsent (StandsAt l.session);
+  goes : Goes g.S.Service.asks l.initial.service l.service l._turn (g.R.ByteIn.remaining l.initial.reader) (g.R.ByteIn.remaining l.reader) (g.W.ByteOut.contents l.initial.writer) (g.W.ByteOut.contents l.writer) l.session.unsent (StandsBefore l.session);
   closed : l.session.is_open ≡ false;
   not_ended : g.R.ByteIn.has_ended l.reader ≡ g.R.ByteIn.has_ended l.initial.reader;
 }

@@ -1,5 +1,5 @@
 use Rattle.std.proofs.Common.{◌≤◌, List, ℕ, length, drop, subst, rules}
-use Rattle.session.specs.Held.{Held, StandsAt, Finds, holding}
+use Rattle.session.specs.Held.{Held, StandsBefore, Finds, holding}
 use Rattle.session.proofs.Standing.{finds_unsent}
 use Rattle.session.proofs.session.Session.next_ask.Goals as goal
 
@@ -10,6 +10,6 @@ returns-after-matches-clause-found c =
     let new = c.look_on.new.text.items in
     let within : s.sent ≤ length s.text.items = search rules in
     let after : Held = record { want = f.want; kept = drop f.start s.bytes.items; unsent = drop s.sent new; is_open = c.match-matches.self; read_len = f.start; sent_len = s.sent } in
-    subst (λ (h : Held). (t : List ℕ) → StandsAt h t → Finds h after t f.request) c.self.view_is
+    subst (λ (h : Held). (t : List ℕ) → StandsBefore h t → Finds h after t f.request) c.self.view_is
     (finds_unsent s.want f.want (drop s.start s.bytes.items) (drop f.start s.bytes.items) s.text.items new s.sent s.start f.start s.is_open c.match-matches.self f.request within
-    (subst (λ bytes. (t : List ℕ) → StandsAt (holding s.want (drop s.start bytes) s.text.items) t → Finds (holding s.want (drop s.start bytes) s.text.items) (holding f.want (drop f.start bytes) new) t f.request) c.as_slice.ensures.value c.in-Ok.ensures.found))
+    (subst (λ bytes. (t : List ℕ) → StandsBefore (holding s.want (drop s.start bytes) s.text.items) t → Finds (holding s.want (drop s.start bytes) s.text.items) (holding f.want (drop f.start bytes) new) t f.request) c.as_slice.ensures.value c.in-Ok.ensures.found))

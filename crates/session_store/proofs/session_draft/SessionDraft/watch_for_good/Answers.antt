@@ -1,7 +1,7 @@
 use Rattle.std.proofs.Common.{IfSome, refl, subst, sym}
 use Rattle.session_store.specs.declared.session.SessionState.{SessionState}
 use Rattle.session_store.specs.Drafts.{AreInLines}
-use Rattle.session_store.specs.Lines.{IsIn, line_of, rank_place}
+use Rattle.session_store.specs.Lines.{IsIn, tube_line, rank_place}
 use Rattle.session_store.specs.WatchLists.{joined}
 use Rattle.session_store.proofs.Standing.{each-grown, each-watching}
 use Rattle.session_store.proofs.SessionDrafts.{change-rises, kept, stepped}
@@ -26,5 +26,5 @@ invariant_of-self-2 c =
     kept _ _ _ c.clear.ensures.items (change-rises c.args.session _ (λ (s : SessionState). record s { watched = joined c.args.name s.watched }) _ _ c.self.invariant.rising c.in_ok-count.ensures.ok)
     (c.leave_steps.ensures
     (each-watching c.self.inside.lines c.join_tube.new.self c.args.session _ c.args.name c.self.inside.sessions.entries c.watch.new.sessions.entries c.self.invariant.rising c.join_tube.ensures.grown
-    (subst (λ wait. IfSome (rank_place c.args.session wait) (IsIn (line_of c.args.name c.join_tube.new.self.tubes))) c.wait_of-wait.ensures c.in_ok-join_tube.ensures.stands)
+    (subst (λ wait. IfSome (rank_place c.args.session wait) (IsIn (tube_line c.args.name c.join_tube.new.self.tubes))) c.wait_of-wait.ensures c.in_ok-join_tube.ensures.stands)
     c.in_ok-count.ensures.ok c.self.invariant.now))
