@@ -212,6 +212,12 @@ pub record ArePlacesOf {C : Type 0} (is : List (Letter C) → ℕ → ℕ → Ty
   pub sound : (s j : ℕ) → get places s ≡ Some j → is letters j s
   pub whole : (j s : ℕ) → j < read → is letters j s → IsSome (get places s)
 
+-- All of these letters are read: here stand those that propose to node 1, and those that tell it what is decided.
+pub record AreAllRead {C : Type 0} (letters : List (Letter C)) (read : ℕ) (proposals decisions : Slots ℕ) : Type 0 where
+  pub all : read ≡ length letters
+  pub proposed : ArePlacesOf Proposes letters read proposals
+  pub decided : ArePlacesOf Decides letters read decisions
+
 -- the places with this one for the slot, if there is one
 abbrev pub noted_place : Slots ℕ → Option ℕ → ℕ → Slots ℕ
 noted_place places None place = places

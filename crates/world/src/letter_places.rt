@@ -1,6 +1,6 @@
-ghost use Rattle.std.specs.Prelude.{◌≡◌, ◌<◌, ◌≤◌, ◌+◌, ℕ, true, false, length, IfSome, IfNone, OnOk};
+ghost use Rattle.std.specs.Prelude.{◌≡◌, ◌<◌, ◌+◌, ℕ, true, false, length, IfSome, IfNone, OnOk};
 ghost use Rattle.std.specs.FinMap.{empty};
-ghost use Rattle.world.specs.WaysOut.{ArePlacesOf, Proposes, Decides, is_proposal, is_decision, noted_place};
+ghost use Rattle.world.specs.WaysOut.{ArePlacesOf, AreAllRead, Proposes, Decides, is_proposal, is_decision, noted_place};
 
 use crate::letters::find_decision;
 use ballot::{Letter, LetterBody, Slot, SlotMap};
@@ -34,10 +34,7 @@ impl LetterPlaces {
     pub(crate) fn read_on<C: Value>(&mut self, letters: &[Letter<C>]) -> Result<(), AllocError>
         requires proposals { ArePlacesOf Proposes letters.now self.old.read self.old.proposals }
         requires decisions { ArePlacesOf Decides letters.now self.old.read self.old.decisions }
-        ensures read { OnOk result (self.new.read ≡ length letters.now) }
-        ensures proposals { OnOk result (ArePlacesOf Proposes letters.now self.new.read
-            self.new.proposals) }
-        ensures decisions { OnOk result (ArePlacesOf Decides letters.now self.new.read
+        ensures read { OnOk result (AreAllRead letters.now self.new.read self.new.proposals
             self.new.decisions) }
     {
         for place in self.read..letters.len() {
@@ -66,8 +63,8 @@ impl LetterPlaces {
 
     /// A letter that proposes something for the slot to node 1, where all letters were read.
     pub(crate) fn proposal_for<C: Value>(&self, letters: &[Letter<C>], slot: Slot) -> Option<usize>
-        requires proposals { ArePlacesOf Proposes letters.now self.now.read self.now.proposals }
-        requires read { length letters.now ≤ self.now.read }
+        requires read { AreAllRead letters.now self.now.read self.now.proposals
+            self.now.decisions }
         ensures some { IfSome result (λ place. Proposes letters.now place slot) }
         ensures none { IfNone result ((place : ℕ) → Proposes letters.now place slot → ⊥) }
     {

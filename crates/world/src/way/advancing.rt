@@ -4,7 +4,7 @@ ghost use Rattle.world.specs.declared.error.WorldError.TheVariants.{OutOfMemory}
 ghost use Rattle.world.specs.Refusals.{most_events};
 ghost use Rattle.world.specs.Rescues.{keeps_nodes};
 ghost use Rattle.world.specs.Telling.{IsProposedAt};
-ghost use Rattle.world.specs.WaysOut.{first_leader, first_book, IsSettled, IsSmall, IsReady, HasLearnt, HasDecided, HasAdvanced, MentionsAsMuch, ArePlacesOf, Proposes, Decides, Goes, work, most_slots};
+ghost use Rattle.world.specs.WaysOut.{first_leader, first_book, IsSettled, IsSmall, IsReady, HasLearnt, HasDecided, HasAdvanced, MentionsAsMuch, AreAllRead, Goes, work, most_slots};
 ghost use Rattle.object.specs.Objects.{is_one};
 
 use crate::error::WorldError;
@@ -17,12 +17,8 @@ use object::Object;
 impl<O: Object> Way<O> {
     // Has replica 1 perform one slot more.
     pub(crate) fn advance(&mut self, places: &LetterPlaces) -> Result<(), WorldError>
-        requires known { places.now.read ≤ length self.old.trial.cluster.letters }
-        requires proposals { ArePlacesOf Proposes self.old.trial.cluster.letters places.now.read
-            places.now.proposals }
-        requires decisions { ArePlacesOf Decides self.old.trial.cluster.letters places.now.read
-            places.now.decisions }
-        requires read { length self.old.trial.cluster.letters ≤ places.now.read }
+        requires read { AreAllRead self.old.trial.cluster.letters places.now.read
+            places.now.proposals places.now.decisions }
         requires settled { IsSettled self.old.trial.cluster }
         requires small { IsSmall self.old.trial.cluster }
         requires low { (first_book self.old.trial.cluster).slot_out ≤ most_slots }
@@ -52,12 +48,8 @@ impl<O: Object> Way<O> {
 
     // Has replica 1 know what is decided in the slot that it performs next.
     fn learn(&mut self, places: &LetterPlaces, slot: Slot) -> Result<(), WorldError>
-        requires known { places.now.read ≤ length self.old.trial.cluster.letters }
-        requires proposals { ArePlacesOf Proposes self.old.trial.cluster.letters places.now.read
-            places.now.proposals }
-        requires decisions { ArePlacesOf Decides self.old.trial.cluster.letters places.now.read
-            places.now.decisions }
-        requires read { length self.old.trial.cluster.letters ≤ places.now.read }
+        requires read { AreAllRead self.old.trial.cluster.letters places.now.read
+            places.now.proposals places.now.decisions }
         requires settled { IsSettled self.old.trial.cluster }
         requires small { IsSmall self.old.trial.cluster }
         requires next { slot ≡ (first_book self.old.trial.cluster).slot_out }
@@ -86,12 +78,8 @@ impl<O: Object> Way<O> {
 
     // Has that slot decided, and replica 1 told of it.
     fn decide(&mut self, places: &LetterPlaces, slot: Slot) -> Result<(), WorldError>
-        requires proposals { ArePlacesOf Proposes self.old.trial.cluster.letters places.now.read
-            places.now.proposals }
-        requires decisions { ArePlacesOf Decides self.old.trial.cluster.letters places.now.read
-            places.now.decisions }
-        requires known { places.now.read ≤ length self.old.trial.cluster.letters }
-        requires read { length self.old.trial.cluster.letters ≤ places.now.read }
+        requires read { AreAllRead self.old.trial.cluster.letters places.now.read
+            places.now.proposals places.now.decisions }
         requires settled { IsSettled self.old.trial.cluster }
         requires small { IsSmall self.old.trial.cluster }
         requires next { slot ≡ (first_book self.old.trial.cluster).slot_out }
@@ -124,9 +112,8 @@ impl<O: Object> Way<O> {
 
     // Has the leader of node 1 get a proposal for that slot decided.
     fn lead(&mut self, places: &LetterPlaces, slot: Slot) -> Result<(), WorldError>
-        requires proposals { ArePlacesOf Proposes self.old.trial.cluster.letters places.now.read
-            places.now.proposals }
-        requires read { length self.old.trial.cluster.letters ≤ places.now.read }
+        requires read { AreAllRead self.old.trial.cluster.letters places.now.read
+            places.now.proposals places.now.decisions }
         requires settled { IsSettled self.old.trial.cluster }
         requires small { IsSmall self.old.trial.cluster }
         requires next { slot ≡ (first_book self.old.trial.cluster).slot_out }
@@ -162,9 +149,8 @@ impl<O: Object> Way<O> {
 
     // Has the leader of node 1 take a proposal for the slot that replica 1 performs next.
     fn propose(&mut self, places: &LetterPlaces, slot: Slot) -> Result<(), WorldError>
-        requires proposals { ArePlacesOf Proposes self.old.trial.cluster.letters places.now.read
-            places.now.proposals }
-        requires read { length self.old.trial.cluster.letters ≤ places.now.read }
+        requires read { AreAllRead self.old.trial.cluster.letters places.now.read
+            places.now.proposals places.now.decisions }
         requires settled { IsSettled self.old.trial.cluster }
         requires next { slot ≡ (first_book self.old.trial.cluster).slot_out }
         requires unknown { get (first_book self.old.trial.cluster).decisions slot ≡ None }

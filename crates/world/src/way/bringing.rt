@@ -5,7 +5,7 @@ ghost use Rattle.slot_log.specs.Histories.{history};
 ghost use Rattle.world.specs.declared.error.WorldError.TheVariants.{OutOfMemory};
 ghost use Rattle.world.specs.Rescues.{keeps_nodes};
 ghost use Rattle.world.specs.Telling.{IsProposedAt};
-ghost use Rattle.world.specs.WaysOut.{first_book, ArePlacesOf, Proposes, Decides, Goes};
+ghost use Rattle.world.specs.WaysOut.{first_book, ArePlacesOf, AreAllRead, Proposes, Decides, Goes};
 
 use crate::error::WorldError;
 use crate::event::Event;
@@ -56,11 +56,8 @@ impl<O: Object> Way<O> {
             → IsProposedAt self.now.trial.cluster (first_book self.now.trial.cluster).slot_out → ⊥) }
         ensures none { IfOk result (λ more. more ≡ false
             → (first_book self.now.trial.cluster).requests ≡ []) }
-        ensures read { OnOk result (places.new.read ≡ length self.now.trial.cluster.letters) }
-        ensures proposals { OnOk result (ArePlacesOf Proposes self.now.trial.cluster.letters
-            places.new.read places.new.proposals) }
-        ensures decisions { OnOk result (ArePlacesOf Decides self.now.trial.cluster.letters
-            places.new.read places.new.decisions) }
+        ensures read { OnOk result (AreAllRead self.now.trial.cluster.letters places.new.read
+            places.new.proposals places.new.decisions) }
     {
         self.trial.stands();
         places.read_on(self.trial.letters())?;
