@@ -2,6 +2,7 @@
 use Rattle.std.proofs.Common.{◌≡◌, Bool, true, false, true≢false, ◌&&◌, List, [], ◌∷◌, ◌++◌, refl, sym, ap, ◌∙◌, subst}
 use Rattle.std.specs.List.{list_all}
 use Rattle.std.proofs.lemmas.List.{append-nil, append_assoc}
+use Rattle.object.specs.Happenings.{Happenings}
 use Rattle.object.specs.Objects.{Rules}
 use Rattle.world.specs.Worlds.{World}
 use Rattle.world.specs.Steps.{Step}
@@ -9,7 +10,7 @@ use Rattle.world.specs.Runs.{Leads, at_once, after}
 use Rattle.world.specs.declared.event.Event.{Event}
 use Rattle.world.specs.declared.event.Event.TheVariants.{Submit, Deliver, Wake, Nudge, Propose as ProposeNext, Perform, Restart}
 use Rattle.world.specs.Rescues.{keeps_nodes}
-use Rattle.world.specs.WaysOut.{Goes, is_talk}
+use Rattle.world.specs.WaysOut.{Goes, IsTalk, is_talk}
 
 pub all_both : {A : Type 0} (test : A → Bool) (xs ys : List A) → list_all test xs ≡ true → list_all test ys ≡ true → list_all test (xs ++ ys) ≡ true
 all_both test [] ys a b = b
@@ -27,6 +28,10 @@ all_weaker p q weaker (x ∷ xs) a = at (p x) (q x) (weaker x) (λ more. all_wea
     at true true h rest a = rest a
     at true false h rest a = absurd (true≢false (sym (h refl)))
     at false u h rest a = absurd (true≢false (sym a))
+
+-- talk submits nothing
+pub talk_submitted : {Op Reply : Type 0} (w v : World Op Reply) → IsTalk w v → v.happenings.submitted ≡ w.happenings.submitted
+talk_submitted {Op} {Reply} w v talk = ap (λ (h : Happenings Op Reply). h.submitted) talk.happenings
 
 module _ {O Op Reply : Type 0} (rules : Rules O Op Reply) where
   pub leads_on : (w v u : World Op Reply) (es fs : List (Event Op)) → Leads rules w es v → Leads rules v fs u → Leads rules w (es ++ fs) u

@@ -24,6 +24,7 @@ use Rattle.slot_log.specs.Books.{SlotBook}
 use Rattle.slot_log.specs.Proposals.{proposed_next}
 use Rattle.slot_log.specs.Decisions.{learnt as with_decision}
 use Rattle.slot_log.specs.Advances.{advanced}
+use Rattle.world.specs.Rescues.{keeps_nodes}
 use Rattle.world.specs.Telling.{IsProposedAt}
 use Rattle.world.specs.Nodes.{Cluster, node}
 use Rattle.world.specs.Mentions.{Mentions}
@@ -147,6 +148,15 @@ abbrev pub MentionsAsMuch : {C : Type 0} → Cluster C → ℕ → Cluster C →
 MentionsAsMuch {C} k s z =
     (test : ℕ → C → Bool) → ((c : C) (more : List C) → (first_book k).requests ≡ c ∷ more → (IsProposedAt k s → ⊥) → test s c ≡ true)
     → Mentions (λ t c. test t c ≡ true) k → Mentions (λ t c. test t c ≡ true) z
+
+-- Events led from the one world to the other for the sake of a slot. Their number is paid for by what there is to ask for, and
+-- this much more. None of them is a restart, nothing else is mentioned than the slot's request, and no command came that
+-- wasn't submitted.
+pub record IsPassage {O Op Reply : Type 0} (rules : Rules O Op Reply) (slot cost : ℕ) (w : World Op Reply) (before : List (Event Op)) (v : World Op Reply) (after : List (Event Op)) : Type 0 where
+  pub spent : v.taken + work v.cluster ≤ w.taken + work w.cluster + cost
+  pub mentions : MentionsAsMuch w.cluster slot v.cluster
+  pub submitted : v.happenings.submitted ≡ w.happenings.submitted
+  pub goes : Goes rules keeps_nodes w before v after
 
 -- the letter of this number proposes a command for the slot to node 1
 pub record Proposes {C : Type 0} (letters : List (Letter C)) (j s : ℕ) : Type 0 where

@@ -2,9 +2,8 @@ ghost use Rattle.std.specs.Prelude.{◌≡◌, ◌⊎◌, ◌<◌, ◌≤◌, �
 ghost use Rattle.std.specs.FinMap.{get, contains_key};
 ghost use Rattle.world.specs.declared.error.WorldError.TheVariants.{OutOfMemory};
 ghost use Rattle.world.specs.Refusals.{most_events};
-ghost use Rattle.world.specs.Rescues.{keeps_nodes};
 ghost use Rattle.world.specs.Telling.{IsProposedAt};
-ghost use Rattle.world.specs.WaysOut.{first_leader, first_book, IsSettled, IsSmall, IsReady, HasLearnt, HasDecided, HasAdvanced, MentionsAsMuch, AreAllRead, Goes, work, most_slots};
+ghost use Rattle.world.specs.WaysOut.{first_leader, first_book, IsSettled, IsSmall, IsReady, HasLearnt, HasDecided, HasAdvanced, AreAllRead, IsPassage, work, most_slots};
 ghost use Rattle.object.specs.Objects.{is_one};
 
 use crate::error::WorldError;
@@ -28,14 +27,8 @@ impl<O: Object> Way<O> {
         ensures settled { OnOk result (IsSettled self.new.trial.cluster) }
         ensures advanced { OnOk result (HasAdvanced (is_one O.rules) self.old.trial.cluster
             (first_book self.new.trial.cluster)) }
-        ensures spent { OnOk result (self.new.trial.taken + work self.new.trial.cluster
-            ≤ self.old.trial.taken + work self.old.trial.cluster + 20) }
-        ensures mentions { OnOk result (MentionsAsMuch self.old.trial.cluster
-            (first_book self.old.trial.cluster).slot_out self.new.trial.cluster) }
-        ensures submitted { OnOk result (self.new.trial.happenings.submitted
-            ≡ self.old.trial.happenings.submitted) }
-        ensures goes { OnOk result (Goes O.rules keeps_nodes self.old.trial self.old.events.items
-            self.new.trial self.new.events.items) }
+        ensures passage { OnOk result (IsPassage O.rules (first_book self.old.trial.cluster).slot_out
+            20 self.old.trial self.old.events.items self.new.trial self.new.events.items) }
         ensures memory { IfErr result (λ r. r ≡ OutOfMemory) }
     {
         ballot_laws();
@@ -60,14 +53,8 @@ impl<O: Object> Way<O> {
         ensures settled { OnOk result (IsSettled self.new.trial.cluster) }
         ensures decided { OnOk result (HasDecided self.old.trial.cluster slot
             (first_book self.new.trial.cluster)) }
-        ensures spent { OnOk result (self.new.trial.taken + work self.new.trial.cluster
-            ≤ self.old.trial.taken + work self.old.trial.cluster + 19) }
-        ensures mentions { OnOk result (MentionsAsMuch self.old.trial.cluster slot
-            self.new.trial.cluster) }
-        ensures submitted { OnOk result (self.new.trial.happenings.submitted
-            ≡ self.old.trial.happenings.submitted) }
-        ensures goes { OnOk result (Goes O.rules keeps_nodes self.old.trial self.old.events.items
-            self.new.trial self.new.events.items) }
+        ensures passage { OnOk result (IsPassage O.rules slot 19 self.old.trial
+            self.old.events.items self.new.trial self.new.events.items) }
         ensures memory { IfErr result (λ r. r ≡ OutOfMemory) }
     {
         if self.trial.knows(slot) {
@@ -91,14 +78,8 @@ impl<O: Object> Way<O> {
         ensures settled { OnOk result (IsSettled self.new.trial.cluster) }
         ensures learnt { OnOk result (HasLearnt self.old.trial.cluster slot
             (first_book self.new.trial.cluster)) }
-        ensures spent { OnOk result (self.new.trial.taken + work self.new.trial.cluster
-            ≤ self.old.trial.taken + work self.old.trial.cluster + 19) }
-        ensures mentions { OnOk result (MentionsAsMuch self.old.trial.cluster slot
-            self.new.trial.cluster) }
-        ensures submitted { OnOk result (self.new.trial.happenings.submitted
-            ≡ self.old.trial.happenings.submitted) }
-        ensures goes { OnOk result (Goes O.rules keeps_nodes self.old.trial self.old.events.items
-            self.new.trial self.new.events.items) }
+        ensures passage { OnOk result (IsPassage O.rules slot 19 self.old.trial
+            self.old.events.items self.new.trial self.new.events.items) }
         ensures memory { IfErr result (λ r. r ≡ OutOfMemory) }
     {
         ballot_laws();
@@ -127,14 +108,8 @@ impl<O: Object> Way<O> {
             ≡ true) }
         ensures ready { OnOk result (IsReady self.old.trial.cluster slot
             (first_book self.new.trial.cluster)) }
-        ensures spent { OnOk result (self.new.trial.taken + work self.new.trial.cluster
-            ≤ self.old.trial.taken + work self.old.trial.cluster + 18) }
-        ensures mentions { OnOk result (MentionsAsMuch self.old.trial.cluster slot
-            self.new.trial.cluster) }
-        ensures submitted { OnOk result (self.new.trial.happenings.submitted
-            ≡ self.old.trial.happenings.submitted) }
-        ensures goes { OnOk result (Goes O.rules keeps_nodes self.old.trial self.old.events.items
-            self.new.trial self.new.events.items) }
+        ensures passage { OnOk result (IsPassage O.rules slot 18 self.old.trial
+            self.old.events.items self.new.trial self.new.events.items) }
         ensures memory { IfErr result (λ r. r ≡ OutOfMemory) }
     {
         ballot_laws();
@@ -162,14 +137,8 @@ impl<O: Object> Way<O> {
             ≡ true) }
         ensures ready { OnOk result (IsReady self.old.trial.cluster slot
             (first_book self.new.trial.cluster)) }
-        ensures spent { OnOk result (self.new.trial.taken + work self.new.trial.cluster
-            ≤ self.old.trial.taken + work self.old.trial.cluster + 18) }
-        ensures mentions { OnOk result (MentionsAsMuch self.old.trial.cluster slot
-            self.new.trial.cluster) }
-        ensures submitted { OnOk result (self.new.trial.happenings.submitted
-            ≡ self.old.trial.happenings.submitted) }
-        ensures goes { OnOk result (Goes O.rules keeps_nodes self.old.trial self.old.events.items
-            self.new.trial self.new.events.items) }
+        ensures passage { OnOk result (IsPassage O.rules slot 18 self.old.trial
+            self.old.events.items self.new.trial self.new.events.items) }
         ensures memory { IfErr result (λ r. r ≡ OutOfMemory) }
     {
         ballot_laws();
@@ -193,14 +162,8 @@ impl<O: Object> Way<O> {
             ≡ true) }
         ensures ready { OnOk result (IsReady self.old.trial.cluster slot
             (first_book self.new.trial.cluster)) }
-        ensures spent { OnOk result (self.new.trial.taken + work self.new.trial.cluster
-            ≤ self.old.trial.taken + work self.old.trial.cluster + 18) }
-        ensures mentions { OnOk result (MentionsAsMuch self.old.trial.cluster slot
-            self.new.trial.cluster) }
-        ensures submitted { OnOk result (self.new.trial.happenings.submitted
-            ≡ self.old.trial.happenings.submitted) }
-        ensures goes { OnOk result (Goes O.rules keeps_nodes self.old.trial self.old.events.items
-            self.new.trial self.new.events.items) }
+        ensures passage { OnOk result (IsPassage O.rules slot 18 self.old.trial
+            self.old.events.items self.new.trial self.new.events.items) }
         ensures memory { IfErr result (λ r. r ≡ OutOfMemory) }
     {
         ballot_laws();

@@ -3,9 +3,11 @@ use Rattle.world.specs.WaysOut.{Proposes, Decides}
 use Rattle.world.proofs.Finding.{finds_fewer}
 use Rattle.world.proofs.letter_places.LetterPlaces.read_on.Goals as goal
 
-pub returns-clause-read : goal.returns-clause-read
-returns-clause-read g c = record {
-  all = refl;
-  proposed = finds_fewer Proposes c.args.letters.now c.loop-place.place (length c.args.letters.now) c.loop-place.self.proposals c.loop-place-test.false c.loop-place.invariant.proposals;
-  decided = finds_fewer Decides c.args.letters.now c.loop-place.place (length c.args.letters.now) c.loop-place.self.decisions c.loop-place-test.false c.loop-place.invariant.decisions;
+pub returns : goal.returns
+returns g c = record {
+  read = record {
+    all = refl;
+    proposed = finds_fewer Proposes c.args.letters.now c.loop-place.place (length c.args.letters.now) c.loop-place.self.proposals c.loop-place-test.false c.loop-place.invariant.proposals;
+    decided = finds_fewer Decides c.args.letters.now c.loop-place.place (length c.args.letters.now) c.loop-place.self.decisions c.loop-place-test.false c.loop-place.invariant.decisions;
+  };
 }

@@ -10,7 +10,7 @@ use Rattle.world.proofs.RoundMembers.{first_member}
 use Rattle.world.proofs.way.Way.advance.Goals as goal
 
 pub take-requires : goal.take-requires
-take-requires g c = let room = c.requires.room in let spent = c.in_ok-learn.ensures.spent in may_perform g.O.Op.PartialEq.eq c.learn.new.self.trial 1 (first_member c.learn.new.self.trial.cluster.members c.stands-2.ensures.members) (omega arith)
+take-requires g c = let room = c.requires.room in let spent = c.in_ok-learn.ensures.passage.spent in may_perform g.O.Op.PartialEq.eq c.learn.new.self.trial 1 (first_member c.learn.new.self.trial.cluster.members c.stands-2.ensures.members) (omega arith)
 
 pub returns-clause-settled : goal.returns-clause-settled
 returns-clause-settled g c = let d = decided_next c.args.self.now.trial.cluster _ (first_book c.learn.new.self.trial.cluster) c.in_ok-learn.ensures.decided c.slot_out-slot.ensures in on_ok c.take.result c.take.ensures.step (λ step. performs_settled c.ballot_laws.ensures g.O.Object.rules c.learn.new.self.trial c.take.new.self.trial (reachable_sound c.ballot_laws.ensures g.O.Object.rules c.learn.new.self.trial c.stands-2.ensures.world.reachable) (first_member c.learn.new.self.trial.cluster.members c.stands-2.ensures.members) d.0 d.1 step c.in_ok-learn.ensures.settled)
@@ -22,17 +22,16 @@ returns-clause-advanced g c = let d = decided_next c.args.self.now.trial.cluster
   performed = performs_book c.ballot_laws.ensures g.O.Object.rules c.learn.new.self.trial c.take.new.self.trial (reachable_sound c.ballot_laws.ensures g.O.Object.rules c.learn.new.self.trial c.stands-2.ensures.world.reachable) (first_member c.learn.new.self.trial.cluster.members c.stands-2.ensures.members) d.0 d.1 step;
 })
 
-pub returns-clause-spent : goal.returns-clause-spent
-returns-clause-spent g c = let d = decided_next c.args.self.now.trial.cluster _ (first_book c.learn.new.self.trial.cluster) c.in_ok-learn.ensures.decided c.slot_out-slot.ensures in let spent = c.in_ok-learn.ensures.spent in on_ok c.take.result c.take.ensures.step (λ step. let more = performs_spent c.ballot_laws.ensures g.O.Object.rules c.learn.new.self.trial c.take.new.self.trial (reachable_sound c.ballot_laws.ensures g.O.Object.rules c.learn.new.self.trial c.stands-2.ensures.world.reachable) (first_member c.learn.new.self.trial.cluster.members c.stands-2.ensures.members) d.0 d.1 step in omega arith)
-
-pub returns-clause-mentions : goal.returns-clause-mentions
-returns-clause-mentions g c = on_ok c.take.result c.take.ensures.step (λ step. subst (λ s. MentionsAsMuch c.args.self.now.trial.cluster s c.take.new.self.trial.cluster) c.slot_out-slot.ensures
-    (mentions_then c.ballot_laws.ensures g.O.Object.rules c.args.self.now.trial c.learn.new.self.trial c.take.new.self.trial _ (events.Perform 1) c.in_ok-learn.ensures.mentions (reachable_sound c.ballot_laws.ensures g.O.Object.rules c.learn.new.self.trial c.stands-2.ensures.world.reachable) step refl))
-
-pub returns-clause-submitted : goal.returns-clause-submitted
-returns-clause-submitted g c = let d = decided_next c.args.self.now.trial.cluster _ (first_book c.learn.new.self.trial.cluster) c.in_ok-learn.ensures.decided c.slot_out-slot.ensures in on_ok c.take.result c.take.ensures.step (λ step. performs_submitted c.ballot_laws.ensures g.O.Object.rules c.learn.new.self.trial c.take.new.self.trial (reachable_sound c.ballot_laws.ensures g.O.Object.rules c.learn.new.self.trial c.stands-2.ensures.world.reachable) (first_member c.learn.new.self.trial.cluster.members c.stands-2.ensures.members) d.0 d.1 step ∙ c.in_ok-learn.ensures.submitted)
-
-pub returns-clause-goes : goal.returns-clause-goes
-returns-clause-goes g c = on_both c.take.result c.take.ensures.step c.take.ensures.noted (λ step noted.
-    goes_on g.O.Object.rules keeps_nodes c.args.self.now.trial c.learn.new.self.trial c.take.new.self.trial c.args.self.now.events.items c.learn.new.self.events.items c.take.new.self.events.items c.in_ok-learn.ensures.goes
-    (one_goes g.O.Object.rules keeps_nodes c.learn.new.self.trial c.take.new.self.trial (events.Perform 1) c.learn.new.self.events.items c.take.new.self.events.items step noted refl))
+pub returns-clause-passage : goal.returns-clause-passage
+returns-clause-passage g c =
+    let d = decided_next c.args.self.now.trial.cluster _ (first_book c.learn.new.self.trial.cluster) c.in_ok-learn.ensures.decided c.slot_out-slot.ensures in
+    let learnt = c.in_ok-learn.ensures.passage in
+    let spent = learnt.spent in
+    on_both c.take.result c.take.ensures.step c.take.ensures.noted (λ step noted. record {
+      spent = let more = performs_spent c.ballot_laws.ensures g.O.Object.rules c.learn.new.self.trial c.take.new.self.trial (reachable_sound c.ballot_laws.ensures g.O.Object.rules c.learn.new.self.trial c.stands-2.ensures.world.reachable) (first_member c.learn.new.self.trial.cluster.members c.stands-2.ensures.members) d.0 d.1 step in omega arith;
+      mentions = subst (λ s. MentionsAsMuch c.args.self.now.trial.cluster s c.take.new.self.trial.cluster) c.slot_out-slot.ensures
+          (mentions_then c.ballot_laws.ensures g.O.Object.rules c.args.self.now.trial c.learn.new.self.trial c.take.new.self.trial _ (events.Perform 1) learnt.mentions (reachable_sound c.ballot_laws.ensures g.O.Object.rules c.learn.new.self.trial c.stands-2.ensures.world.reachable) step refl);
+      submitted = performs_submitted c.ballot_laws.ensures g.O.Object.rules c.learn.new.self.trial c.take.new.self.trial (reachable_sound c.ballot_laws.ensures g.O.Object.rules c.learn.new.self.trial c.stands-2.ensures.world.reachable) (first_member c.learn.new.self.trial.cluster.members c.stands-2.ensures.members) d.0 d.1 step ∙ learnt.submitted;
+      goes = goes_on g.O.Object.rules keeps_nodes c.args.self.now.trial c.learn.new.self.trial c.take.new.self.trial c.args.self.now.events.items c.learn.new.self.events.items c.take.new.self.events.items learnt.goes
+          (one_goes g.O.Object.rules keeps_nodes c.learn.new.self.trial c.take.new.self.trial (events.Perform 1) c.learn.new.self.events.items c.take.new.self.events.items step noted refl);
+    })

@@ -1,4 +1,4 @@
-use Rattle.std.proofs.Common.{refl, sym, ◌∙◌}
+use Rattle.std.proofs.Common.{refl, sym, ◌∙◌, arith}
 use Rattle.std.specs.FinMap.{get}
 use Rattle.world.specs.Rescues.{keeps_nodes}
 use Rattle.world.specs.WaysOut.{first_book, knew}
@@ -11,5 +11,10 @@ returns-then-knows-clause-decided g c =
     let d = some_there (get (first_book c.args.self.now.trial.cluster).decisions c.args.slot) (sym c.knows.ensures ∙ c.if-knows.true) in
     knew d.0 d.1 refl
 
-pub returns-then-knows-clause-goes : goal.returns-then-knows-clause-goes
-returns-then-knows-clause-goes g c = stays_there g.O.Object.rules keeps_nodes c.args.self.now.trial c.args.self.now.events.items
+pub returns-then-knows-clause-passage : goal.returns-then-knows-clause-passage
+returns-then-knows-clause-passage g c = record {
+  spent = omega arith;
+  mentions = λ test own all. all;
+  submitted = refl;
+  goes = stays_there g.O.Object.rules keeps_nodes c.args.self.now.trial c.args.self.now.events.items;
+}

@@ -20,18 +20,13 @@ returns-in-Some-clause-led g c = on_ok c.take.result c.take.ensures.step (λ ste
 pub returns-in-Some-clause-ready : goal.returns-in-Some-clause-ready
 returns-in-Some-clause-ready g c = on_ok c.take.result c.take.ensures.step (λ step. ready_stays (proposes_at c.args.self.now.trial.cluster c.in-Some.place c.args.slot (subst (λ ls. Proposes ls c.in-Some.place c.args.slot) c.letters.ensures c.in-Some.ensures.some)) (proposal_book c.ballot_laws.ensures g.O.Object.rules c.args.self.now.trial c.take.new.self.trial (reachable_sound c.ballot_laws.ensures g.O.Object.rules c.args.self.now.trial c.stands.ensures.world.reachable) (first_member c.args.self.now.trial.cluster.members c.stands.ensures.members) c.requires.settled c.in-Some.place c.args.slot c.requires.free (subst (λ ls. Proposes ls c.in-Some.place c.args.slot) c.letters.ensures c.in-Some.ensures.some) step))
 
-pub returns-in-Some-clause-spent : goal.returns-in-Some-clause-spent
-returns-in-Some-clause-spent g c = on_ok c.take.result c.take.ensures.step (λ step. let now = proposal_spent c.ballot_laws.ensures g.O.Object.rules c.args.self.now.trial c.take.new.self.trial (reachable_sound c.ballot_laws.ensures g.O.Object.rules c.args.self.now.trial c.stands.ensures.world.reachable) (first_member c.args.self.now.trial.cluster.members c.stands.ensures.members) c.requires.settled c.in-Some.place c.args.slot c.requires.free (subst (λ ls. Proposes ls c.in-Some.place c.args.slot) c.letters.ensures c.in-Some.ensures.some) step in omega arith)
-
-pub returns-in-Some-clause-mentions : goal.returns-in-Some-clause-mentions
-returns-in-Some-clause-mentions g c = on_ok c.take.result c.take.ensures.step (λ step. there_mentions c.ballot_laws.ensures g.O.Object.rules c.args.self.now.trial c.take.new.self.trial c.in-Some.place c.args.slot (reachable_sound c.ballot_laws.ensures g.O.Object.rules c.args.self.now.trial c.stands.ensures.world.reachable) step)
-
-pub returns-in-Some-clause-goes : goal.returns-in-Some-clause-goes
-returns-in-Some-clause-goes g c = on_both c.take.result c.take.ensures.step c.take.ensures.noted (λ step noted.
-    one_goes g.O.Object.rules keeps_nodes c.args.self.now.trial c.take.new.self.trial (events.Deliver c.in-Some.place) c.args.self.now.events.items c.take.new.self.events.items step noted refl)
-
-pub returns-in-Some-clause-submitted : goal.returns-in-Some-clause-submitted
-returns-in-Some-clause-submitted g c = on_ok c.take.result c.take.ensures.step (λ step. proposal_submitted c.ballot_laws.ensures g.O.Object.rules c.args.self.now.trial c.take.new.self.trial (reachable_sound c.ballot_laws.ensures g.O.Object.rules c.args.self.now.trial c.stands.ensures.world.reachable) (first_member c.args.self.now.trial.cluster.members c.stands.ensures.members) c.requires.settled c.in-Some.place c.args.slot c.requires.free (subst (λ ls. Proposes ls c.in-Some.place c.args.slot) c.letters.ensures c.in-Some.ensures.some) step)
+pub returns-in-Some-clause-passage : goal.returns-in-Some-clause-passage
+returns-in-Some-clause-passage g c = on_both c.take.result c.take.ensures.step c.take.ensures.noted (λ step noted. record {
+  spent = let now = proposal_spent c.ballot_laws.ensures g.O.Object.rules c.args.self.now.trial c.take.new.self.trial (reachable_sound c.ballot_laws.ensures g.O.Object.rules c.args.self.now.trial c.stands.ensures.world.reachable) (first_member c.args.self.now.trial.cluster.members c.stands.ensures.members) c.requires.settled c.in-Some.place c.args.slot c.requires.free (subst (λ ls. Proposes ls c.in-Some.place c.args.slot) c.letters.ensures c.in-Some.ensures.some) step in omega arith;
+  mentions = there_mentions c.ballot_laws.ensures g.O.Object.rules c.args.self.now.trial c.take.new.self.trial c.in-Some.place c.args.slot (reachable_sound c.ballot_laws.ensures g.O.Object.rules c.args.self.now.trial c.stands.ensures.world.reachable) step;
+  submitted = proposal_submitted c.ballot_laws.ensures g.O.Object.rules c.args.self.now.trial c.take.new.self.trial (reachable_sound c.ballot_laws.ensures g.O.Object.rules c.args.self.now.trial c.stands.ensures.world.reachable) (first_member c.args.self.now.trial.cluster.members c.stands.ensures.members) c.requires.settled c.in-Some.place c.args.slot c.requires.free (subst (λ ls. Proposes ls c.in-Some.place c.args.slot) c.letters.ensures c.in-Some.ensures.some) step;
+  goes = one_goes g.O.Object.rules keeps_nodes c.args.self.now.trial c.take.new.self.trial (events.Deliver c.in-Some.place) c.args.self.now.events.items c.take.new.self.events.items step noted refl;
+})
 
 pub propose_first-requires-clause-new : goal.propose_first-requires-clause-new
 propose_first-requires-clause-new g c = λ there.
