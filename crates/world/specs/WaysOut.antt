@@ -150,8 +150,7 @@ MentionsAsMuch {C} k s z =
     → Mentions (λ t c. test t c ≡ true) k → Mentions (λ t c. test t c ≡ true) z
 
 -- Events led from the one world to the other for the sake of a slot. Their number is paid for by what there is to ask for, and
--- this much more. None of them is a restart, nothing else is mentioned than the slot's request, and no command came that
--- wasn't submitted.
+-- this much more. None of them is a restart, nothing else is mentioned than the slot's request, and nothing is submitted anew.
 pub record IsPassage {O Op Reply : Type 0} (rules : Rules O Op Reply) (slot cost : ℕ) (w : World Op Reply) (before : List (Event Op)) (v : World Op Reply) (after : List (Event Op)) : Type 0 where
   pub spent : v.taken + work v.cluster ≤ w.taken + work w.cluster + cost
   pub mentions : MentionsAsMuch w.cluster slot v.cluster
