@@ -11,13 +11,13 @@ abbrev pub ◌>>=◌ : {A B : Type 0} → Option A → (A → Option B) → Opti
 read >>= next = option_and_then next read
 
 -- the number that one or more digits write, where no other byte stands among them
-abbrev pub number_of : List ℕ → Option ℕ
-number_of word = if is_word word && all_ascii_digits word then Some (digits_value 10 word) else None
+abbrev pub written_number : List ℕ → Option ℕ
+written_number word = if is_word word && all_ascii_digits word then Some (digits_value 10 word) else None
 
 -- the number, where it is below the limit
 unfoldable pub number_below : ℕ → List ℕ → Option ℕ
 number_below limit word = do
-  n ← number_of word
+  n ← written_number word
   if nat_lt n limit then Some n else None
 
 -- a number of 32 bits

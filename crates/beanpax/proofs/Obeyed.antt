@@ -8,7 +8,7 @@ use Rattle.bean_queue.specs.Queue.{QueueState}
 use Rattle.session.specs.Items.{Answer}
 use Rattle.session.specs.Items.Answer.{Replied, Refused}
 use Rattle.session.specs.Serving.{Asks, Asked, Closes}
-use Rattle.simulated_hall.specs.OneClient.{Talk, Said, answered, obeyed, passed, waited, unless_said, longest_wait, next_key}
+use Rattle.simulated_hall.specs.OneClient.{Talk, Said, answered, next_obeyed, passed, waited, unless_said, longest_wait, next_key}
 use Rattle.beanpax.specs.Sessions.{queue, queue_with, AreAnswers, is_refused}
 use Rattle.beanpax.specs.Simulations.{Obeys, Leaves}
 
@@ -23,7 +23,7 @@ waited_same same key (suc n) s = unless_same s s.reply (λ t. waited (queue_with
 -- which operations are one makes no difference to an answer
 pub answered_same : (same : Op → Op → Bool) (t : Talk QueueState) (op : Op) → answered (queue_with same) t op ≡ answered queue t op
 unfolding answered
-answered_same same t op = waited_same same (next_key t) longest_wait (obeyed queue t (Do op))
+answered_same same t op = waited_same same (next_key t) longest_wait (next_obeyed queue t (Do op))
 
 -- an ask that was answered
 pub obeys : (same : Op → Op → Bool) (before after : Talk QueueState → Type 0) (stopped : Type 0) (op : Op) (reply : Reply)

@@ -31,15 +31,15 @@ abbrev pub IsOfDump : ProgramFault → Type 0
 IsOfDump fault = (fault ≡ OutOfMemory) ⊎ (fault ≡ FileFailed)
 
 -- the number by which a fault is told
-abbrev pub number_of : ProgramFault → ℕ
-number_of OutOfMemory = 1
-number_of BadNumber = 6
-number_of ReadFailed = 7
-number_of WriteFailed = 8
-number_of ServiceStopped = 9
-number_of ListenFailed = 12
-number_of FileFailed = 13
-number_of ThreadFailed = 14
+abbrev pub number_of_fault : ProgramFault → ℕ
+number_of_fault OutOfMemory = 1
+number_of_fault BadNumber = 6
+number_of_fault ReadFailed = 7
+number_of_fault WriteFailed = 8
+number_of_fault ServiceStopped = 9
+number_of_fault ListenFailed = 12
+number_of_fault FileFailed = 13
+number_of_fault ThreadFailed = 14
 
 -- what a fault is called
 abbrev pub text_of : ProgramFault → List ℕ
@@ -54,4 +54,4 @@ text_of ThreadFailed = codes "cannot start a thread"
 
 -- the line by which a fault is told
 unfoldable pub fault_line_text : ProgramFault → List ℕ
-fault_line_text fault = codes "beanpax: " ++ decimal (number_of fault) ++ codes " " ++ text_of fault ++ codes "\n"
+fault_line_text fault = codes "beanpax: " ++ decimal (number_of_fault fault) ++ codes " " ++ text_of fault ++ codes "\n"

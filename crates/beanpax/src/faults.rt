@@ -1,6 +1,6 @@
 ghost use Rattle.std.specs.Prelude.{◌≡◌};
 ghost use Rattle.beanpax.specs.declared.faults.ProgramFault.TheVariants.{OutOfMemory};
-ghost use Rattle.beanpax.specs.Faults.{number_of, fault_line_text, of_session, of_cluster};
+ghost use Rattle.beanpax.specs.Faults.{number_of_fault, fault_line_text, of_session, of_cluster};
 
 use node_threads::ClusterError;
 use session::SessionFault;
@@ -67,7 +67,7 @@ impl From<AllocError> for ProgramFault {
 
 /// The number by which a fault is told.
 pub fn fault_number(fault: ProgramFault) -> u8
-    ensures { result ≡ number_of fault }
+    ensures { result ≡ number_of_fault fault }
 {
     match fault {
         ProgramFault::OutOfMemory => 1,

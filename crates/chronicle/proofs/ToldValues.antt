@@ -26,7 +26,7 @@ use Rattle.bean_codec.specs.declared.request.Request.TheVariants as request
 use Rattle.bean_codec.specs.declared.request.Request.{Request}
 use Rattle.bean_codec.specs.Arguments.{line_of, alone, one_id, one_number, one_name, put_line, release_line, bury_line, reserve_line, kick_line, delete_line, touch_line, kick_job_line, peek_line, use_line, watch_line, ignore_line, pause_line}
 use Rattle.bean_codec.specs.Commands.{command_of}
-use Rattle.bean_codec.specs.Numbers.{number_of, number_below, u32_of, u64_of}
+use Rattle.bean_codec.specs.Numbers.{written_number, number_below, u32_of, u64_of}
 use Rattle.bean_codec.specs.TubeNames.{name_of, name_rule, word_if, Decided}
 use Rattle.chronicle.specs.declared.entry.Entry.{Entry}
 use Rattle.chronicle.specs.declared.entry.Entry.TheVariants as entry
@@ -62,7 +62,7 @@ any (Some a) = tt
 below_value : (limit : ℕ) (word : List ℕ) → IfSome (number_below limit word) (λ n. n < limit)
 unfolding number_below
 below_value limit word =
-    bind (number_of word) (λ n. if nat_lt n limit then Some n else None) (λ n. ⊤) (λ n. n < limit) (any (number_of word)) (λ n _. where_so (nat_lt n limit) n (λ m. m < limit) (ltb-true n limit))
+    bind (written_number word) (λ n. if nat_lt n limit then Some n else None) (λ n. ⊤) (λ n. n < limit) (any (written_number word)) (λ n _. where_so (nat_lt n limit) n (λ m. m < limit) (ltb-true n limit))
 
 short_value : (word : List ℕ) → IfSome (u32_of word) IsShort
 short_value word = below_value (2 ^ 32) word

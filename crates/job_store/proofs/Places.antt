@@ -21,8 +21,8 @@ use Rattle.job_store.proofs.Entries.{cmp_less, cmp_equal, cmp_greater, same_numb
 
 -- The order of places
 
-abbrev pub place_cmp : ℕ × ℕ → ℕ × ℕ → Ordering
-place_cmp p q = ordering_then (nat_cmp p.0 q.0) (nat_cmp p.1 q.1)
+abbrev pub shelf_cmp : ℕ × ℕ → ℕ × ℕ → Ordering
+shelf_cmp p q = ordering_then (nat_cmp p.0 q.0) (nat_cmp p.1 q.1)
 
 below_number : (a b : ℕ) → nat_cmp a b ≡ Less → a < b
 below_number a b h =
@@ -32,7 +32,7 @@ below_number a b h =
       | inr (inr above) ↦ let e : Greater ≡ Less = sym (cmp_greater a b above) ∙ h in cc
     ]
 
-same_place : (p q : ℕ × ℕ) → place_cmp p q ≡ Equal → p ≡ q
+same_place : (p q : ℕ × ℕ) → shelf_cmp p q ≡ Equal → p ≡ q
 same_place p q h =
     elim (nat_cmp p.0 q.0) as (λ o. nat_cmp p.0 q.0 ≡ o → ordering_then o (nat_cmp p.1 q.1) ≡ Equal → p ≡ q) [
       | Less ↦ λ o e. cc
@@ -40,7 +40,7 @@ same_place p q h =
       | Greater ↦ λ o e. cc
     ] refl h
 
-before_place : (p q : ℕ × ℕ) → place_cmp p q ≡ Less → (p.0 < q.0) ⊎ ((p.0 ≡ q.0) × (p.1 < q.1))
+before_place : (p q : ℕ × ℕ) → shelf_cmp p q ≡ Less → (p.0 < q.0) ⊎ ((p.0 ≡ q.0) × (p.1 < q.1))
 before_place p q h =
     elim (nat_cmp p.0 q.0) as (λ o. nat_cmp p.0 q.0 ≡ o → ordering_then o (nat_cmp p.1 q.1) ≡ Less → (p.0 < q.0) ⊎ ((p.0 ≡ q.0) × (p.1 < q.1))) [
       | Less ↦ λ o e. inl (below_number p.0 q.0 o)
@@ -61,11 +61,11 @@ from-zero p =
 from-itself : (p : ℕ × ℕ) → IsFrom p p
 from-itself p = inr (refl, omega arith)
 
-from-less : (p q : ℕ × ℕ) → place_cmp p q ≡ Less → IsFrom p q
+from-less : (p q : ℕ × ℕ) → shelf_cmp p q ≡ Less → IsFrom p q
 from-less p q h =
     elim (before_place p q h) as (λ v. IsFrom p q) [ inl below ↦ inl below | inr w ↦ inr (w.0, omega (arith, w.1)) ]
 
-pub from-le : (p q : ℕ × ℕ) → IsFrom p q → is_le (place_cmp p q) ≡ true
+pub from-le : (p q : ℕ × ℕ) → IsFrom p q → is_le (shelf_cmp p q) ≡ true
 from-le p q (inl below) = rw (cmp_less p.0 q.0 below) refl
 from-le p q (inr w) =
     rw (cmp_equal p.0 q.0 w.0)
@@ -77,7 +77,7 @@ from-le p q (inr w) =
 
 -- After which place
 
-pub lt-after : (p q : ℕ × ℕ) → is_lt (place_cmp p q) ≡ is_after p q
+pub lt-after : (p q : ℕ × ℕ) → is_lt (shelf_cmp p q) ≡ is_after p q
 lt-after p q =
     elim (nat_lt p.0 q.0) as (λ b. is_lt (ordering_then (cond b Less (cond (p.0 == q.0) Equal Greater)) (nat_cmp p.1 q.1)) ≡ (b || (p.0 == q.0 && nat_lt p.1 q.1))) [
       | true ↦ refl
@@ -94,32 +94,32 @@ lt-after p q =
 
 -- At which place
 
-at_place : (p q : ℕ × ℕ) → is_at (place_cmp p) q ≡ true → p ≡ q
+at_place : (p q : ℕ × ℕ) → is_at (shelf_cmp p) q ≡ true → p ≡ q
 at_place p q h =
-    elim (place_cmp p q) as (λ o. place_cmp p q ≡ o → is_at (λ (r : ℕ × ℕ). o) q ≡ true → p ≡ q) [
+    elim (shelf_cmp p q) as (λ o. shelf_cmp p q ≡ o → is_at (λ (r : ℕ × ℕ). o) q ≡ true → p ≡ q) [
       | Less ↦ λ o e. cc
       | Equal ↦ λ o e. same_place p q o
       | Greater ↦ λ o e. cc
     ] refl h
 
-at_itself : (p : ℕ × ℕ) → is_at (place_cmp p) p ≡ true
+at_itself : (p : ℕ × ℕ) → is_at (shelf_cmp p) p ≡ true
 at_itself p = rw (cmp_equal p.0 p.0 refl) (rw (cmp_equal p.1 p.1 refl) refl)
 
 -- A place that is put
 
-put-keeps : (k p : ℕ × ℕ) (ps : List (ℕ × ℕ)) → In p ps → In p (insert_key place_cmp ps k)
+put-keeps : (k p : ℕ × ℕ) (ps : List (ℕ × ℕ)) → In p ps → In p (insert_key shelf_cmp ps k)
 put-keeps k p [] i = absurd i
 put-keeps k p (x ∷ xs) i =
-    elim (place_cmp k x) as (λ o. In p (match_ordering o (k ∷ x ∷ xs) (x ∷ xs) (x ∷ insert_key place_cmp xs k))) [
+    elim (shelf_cmp k x) as (λ o. In p (match_ordering o (k ∷ x ∷ xs) (x ∷ xs) (x ∷ insert_key shelf_cmp xs k))) [
       | Less ↦ inr i
       | Equal ↦ i
-      | Greater ↦ elim i as (λ i. In p (x ∷ insert_key place_cmp xs k)) [ inl here ↦ inl here | inr later ↦ inr (put-keeps k p xs later) ]
+      | Greater ↦ elim i as (λ i. In p (x ∷ insert_key shelf_cmp xs k)) [ inl here ↦ inl here | inr later ↦ inr (put-keeps k p xs later) ]
     ]
 
-put-only : (k p : ℕ × ℕ) (ps : List (ℕ × ℕ)) → In p (insert_key place_cmp ps k) → (p ≡ k) ⊎ In p ps
+put-only : (k p : ℕ × ℕ) (ps : List (ℕ × ℕ)) → In p (insert_key shelf_cmp ps k) → (p ≡ k) ⊎ In p ps
 put-only k p [] i = i
 put-only k p (x ∷ xs) i =
-    elim (place_cmp k x) as (λ o. In p (match_ordering o (k ∷ x ∷ xs) (x ∷ xs) (x ∷ insert_key place_cmp xs k)) → (p ≡ k) ⊎ In p (x ∷ xs)) [
+    elim (shelf_cmp k x) as (λ o. In p (match_ordering o (k ∷ x ∷ xs) (x ∷ xs) (x ∷ insert_key shelf_cmp xs k)) → (p ≡ k) ⊎ In p (x ∷ xs)) [
       | Less ↦ λ i. i
       | Equal ↦ λ i. inr i
       | Greater ↦ λ i. elim i as (λ i. (p ≡ k) ⊎ In p (x ∷ xs)) [
@@ -128,10 +128,10 @@ put-only k p (x ∷ xs) i =
       ]
     ] i
 
-put-there : (k : ℕ × ℕ) (ps : List (ℕ × ℕ)) → In k (insert_key place_cmp ps k)
+put-there : (k : ℕ × ℕ) (ps : List (ℕ × ℕ)) → In k (insert_key shelf_cmp ps k)
 put-there k [] = inl refl
 put-there k (x ∷ xs) =
-    elim (place_cmp k x) as (λ o. place_cmp k x ≡ o → In k (match_ordering o (k ∷ x ∷ xs) (x ∷ xs) (x ∷ insert_key place_cmp xs k))) [
+    elim (shelf_cmp k x) as (λ o. shelf_cmp k x ≡ o → In k (match_ordering o (k ∷ x ∷ xs) (x ∷ xs) (x ∷ insert_key shelf_cmp xs k))) [
       | Less ↦ λ o. inl refl
       | Equal ↦ λ o. inl (same_place k x o)
       | Greater ↦ λ o. inr (put-there k xs)
@@ -155,11 +155,11 @@ take-others test p (x ∷ xs) i t =
       | false ↦ λ b. elim i as (λ i. In p (x ∷ remove_key test xs)) [ inl here ↦ inl here | inr later ↦ inr (take-others test p xs later t) ]
     ] refl
 
-take-keeps : (k p : ℕ × ℕ) (ps : List (ℕ × ℕ)) → In p ps → (p ≡ k → ⊥) → In p (remove_key (is_at (place_cmp k)) ps)
+take-keeps : (k p : ℕ × ℕ) (ps : List (ℕ × ℕ)) → In p ps → (p ≡ k → ⊥) → In p (remove_key (is_at (shelf_cmp k)) ps)
 take-keeps k p ps i apart =
-    elim (is_at (place_cmp k) p) as (λ b. is_at (place_cmp k) p ≡ b → In p (remove_key (is_at (place_cmp k)) ps)) [
+    elim (is_at (shelf_cmp k) p) as (λ b. is_at (shelf_cmp k) p ≡ b → In p (remove_key (is_at (shelf_cmp k)) ps)) [
       | true ↦ λ b. absurd (apart (sym (at_place k p b)))
-      | false ↦ λ b. take-others (is_at (place_cmp k)) p ps i b
+      | false ↦ λ b. take-others (is_at (shelf_cmp k)) p ps i b
     ] refl
 
 list_any-in : (test : ℕ × ℕ → Bool) (p : ℕ × ℕ) (ps : List (ℕ × ℕ)) → In p ps → test p ≡ true → list_any test ps ≡ true
@@ -167,9 +167,9 @@ list_any-in test p [] i t = absurd i
 list_any-in test p (x ∷ xs) (inl here) t = or_left (test x) (list_any test xs) (ap test (sym here) ∙ t)
 list_any-in test p (x ∷ xs) (inr later) t = or_right (test x) (list_any test xs) (list_any-in test p xs later t)
 
-take-gone : (k p : ℕ × ℕ) (ps : List (ℕ × ℕ)) → list_any (is_at (place_cmp k)) ps ≡ false → In p ps → p ≡ k → ⊥
+take-gone : (k p : ℕ × ℕ) (ps : List (ℕ × ℕ)) → list_any (is_at (shelf_cmp k)) ps ≡ false → In p ps → p ≡ k → ⊥
 take-gone k p ps none i same =
-    both_ways (list_any (is_at (place_cmp k)) ps) none (list_any-in (is_at (place_cmp k)) p ps i (ap (is_at (place_cmp k)) same ∙ at_itself k))
+    both_ways (list_any (is_at (shelf_cmp k)) ps) none (list_any-in (is_at (shelf_cmp k)) p ps i (ap (is_at (shelf_cmp k)) same ∙ at_itself k))
 
 -- The test for a place
 
@@ -199,7 +199,7 @@ none-at-id label number id lo hi jobs r none e i b =
 
 -- A shelf whose places have changed
 
-pub gained-by : (old mid new : ShelfState) (k : ℕ × ℕ) → mid.places ≡ insert_key place_cmp old.places k → mid.from ≡ old.from → HasReached mid new k → HasGained old new k
+pub gained-by : (old mid new : ShelfState) (k : ℕ × ℕ) → mid.places ≡ insert_key shelf_cmp old.places k → mid.from ≡ old.from → HasReached mid new k → HasGained old new k
 gained-by old mid new k put same reached = record {
   keeps = λ p i. subst (In p) (sym (reached.places ∙ put)) (put-keeps k p old.places i);
   only = λ p i.
@@ -214,13 +214,13 @@ gained-none old new k places from = record {
   ahead = λ p h. subst (λ from. IsFrom from p) (sym from) h;
 }
 
-pub found-by : (old mid new : ShelfState) (k : ℕ × ℕ) → mid.places ≡ insert_key place_cmp old.places k → HasReached mid new k → IsFound new k
+pub found-by : (old mid new : ShelfState) (k : ℕ × ℕ) → mid.places ≡ insert_key shelf_cmp old.places k → HasReached mid new k → IsFound new k
 found-by old mid new k put reached = (subst (In k) (sym (reached.places ∙ put)) (put-there k old.places), reached.reached)
 
-pub lost-by : (old new : ShelfState) (k : ℕ × ℕ) → new.places ≡ remove_key (is_at (place_cmp k)) old.places → list_any (is_at (place_cmp k)) new.places ≡ false → new.from ≡ old.from → HasLost old new k
+pub lost-by : (old new : ShelfState) (k : ℕ × ℕ) → new.places ≡ remove_key (is_at (shelf_cmp k)) old.places → list_any (is_at (shelf_cmp k)) new.places ≡ false → new.from ≡ old.from → HasLost old new k
 lost-by old new k taken gone same = record {
   keeps = λ p i apart. subst (In p) (sym taken) (take-keeps k p old.places i apart);
-  only = λ p i. (take-was (is_at (place_cmp k)) p old.places (subst (In p) taken i), take-gone k p new.places gone i);
+  only = λ p i. (take-was (is_at (shelf_cmp k)) p old.places (subst (In p) taken i), take-gone k p new.places gone i);
   ahead = λ p h. subst (λ from. IsFrom from p) (sym same) h;
 }
 
@@ -241,7 +241,7 @@ AreAllFrom label s jobs places = (p : ℕ × ℕ) (e : ℕ × Job) → In e jobs
 abbrev pub AreAllOn : Label → List (ℕ × ℕ) → List (ℕ × Job) → Type 0
 AreAllOn label places jobs = (p : ℕ × ℕ) (e : ℕ × Job) → In e jobs → BelongsAt label p e → In p places
 
-pub sorted-rest : (k : ℕ × ℕ) (ps : List (ℕ × ℕ)) → IsStrictlySortedBy place_cmp (k ∷ ps) → IsStrictlySortedBy place_cmp ps
+pub sorted-rest : (k : ℕ × ℕ) (ps : List (ℕ × ℕ)) → IsStrictlySortedBy shelf_cmp (k ∷ ps) → IsStrictlySortedBy shelf_cmp ps
 unfolding IsStrictlySortedBy
 sorted-rest k ps s = s.1
 
@@ -250,15 +250,15 @@ all-in P p [] a i = absurd i
 all-in P p (x ∷ xs) a (inl here) = subst P (sym here) a.0
 all-in P p (x ∷ xs) a (inr later) = all-in P p xs a.1 later
 
-sorted-first : (k p : ℕ × ℕ) (ps : List (ℕ × ℕ)) → IsStrictlySortedBy place_cmp (k ∷ ps) → In p ps → place_cmp k p ≡ Less
+sorted-first : (k p : ℕ × ℕ) (ps : List (ℕ × ℕ)) → IsStrictlySortedBy shelf_cmp (k ∷ ps) → In p ps → shelf_cmp k p ≡ Less
 unfolding IsStrictlySortedBy
-sorted-first k p ps s i = all-in (λ q. place_cmp k q ≡ Less) p ps s.0 i
+sorted-first k p ps s i = all-in (λ q. shelf_cmp k q ≡ Less) p ps s.0 i
 
-first-from : (k p : ℕ × ℕ) (ps : List (ℕ × ℕ)) → IsStrictlySortedBy place_cmp (k ∷ ps) → In p (k ∷ ps) → IsFrom k p
+first-from : (k p : ℕ × ℕ) (ps : List (ℕ × ℕ)) → IsStrictlySortedBy shelf_cmp (k ∷ ps) → In p (k ∷ ps) → IsFrom k p
 first-from k p ps s (inl here) = subst (IsFrom k) (sym here) (from-itself k)
 first-from k p ps s (inr later) = from-less k p (sorted-first k p ps s later)
 
-pub passed-to : (label : Label) (s : ShelfState) (jobs : List (ℕ × Job)) (k : ℕ × ℕ) (ps : List (ℕ × ℕ)) → AreAllFrom label s jobs (k ∷ ps) → IsStrictlySortedBy place_cmp (k ∷ ps) → IsPassed label jobs s k
+pub passed-to : (label : Label) (s : ShelfState) (jobs : List (ℕ × Job)) (k : ℕ × ℕ) (ps : List (ℕ × ℕ)) → AreAllFrom label s jobs (k ∷ ps) → IsStrictlySortedBy shelf_cmp (k ∷ ps) → IsPassed label jobs s k
 passed-to label s jobs k ps all sorted p e i b f = first-from k p ps sorted (all p e i b f)
 
 pub passed-here : (label : Label) (s : ShelfState) (jobs : List (ℕ × Job)) (k : ℕ × ℕ) (ps : List (ℕ × ℕ)) → ((e : ℕ × Job) → In e jobs → BelongsAt label k e → ⊥) → AreAllFrom label s jobs (k ∷ ps) → AreAllFrom label s jobs ps
@@ -269,16 +269,16 @@ pub none-here : (label : Label) (k : ℕ × ℕ) (ps : List (ℕ × ℕ)) (jobs 
 none-here label k ps jobs none all p e i b =
     elim (all p e i b) as (λ v. In p ps) [ inl here ↦ absurd (none e i (subst (λ q. BelongsAt label q e) here b)) | inr later ↦ later ]
 
-never-before : (label : Label) (k : ℕ × ℕ) (ps : List (ℕ × ℕ)) (d e : ℕ × Job) → IsStrictlySortedBy place_cmp (k ∷ ps) → k ≡ (number label e.1, e.0) → In (number label d.1, d.0) (k ∷ ps) → ComesBefore (number label) d e → ⊥
+never-before : (label : Label) (k : ℕ × ℕ) (ps : List (ℕ × ℕ)) (d e : ℕ × Job) → IsStrictlySortedBy shelf_cmp (k ∷ ps) → k ≡ (number label e.1, e.0) → In (number label d.1, d.0) (k ∷ ps) → ComesBefore (number label) d e → ⊥
 never-before label k ps d e s is (inl here) first =
     let a : number label d.1 ≡ number label e.1 = ap (λ (p : ℕ × ℕ). p.0) (here ∙ is) in
     let b : d.0 ≡ e.0 = ap (λ (p : ℕ × ℕ). p.1) (here ∙ is) in
     elim first as (λ v. ⊥) [ inl h ↦ omega (arith, a) | inr h ↦ omega (arith, b, h.1) ]
 never-before label k ps d e s is (inr later) first =
-    let less = before_place (number label e.1, e.0) (number label d.1, d.0) (subst (λ q. place_cmp q (number label d.1, d.0) ≡ Less) is (sorted-first k (number label d.1, d.0) ps s later)) in
+    let less = before_place (number label e.1, e.0) (number label d.1, d.0) (subst (λ q. shelf_cmp q (number label d.1, d.0) ≡ Less) is (sorted-first k (number label d.1, d.0) ps s later)) in
     grind arith
 
-pub first-is-least : (label : Label) (k : ℕ × ℕ) (ps : List (ℕ × ℕ)) (jobs : List (ℕ × Job)) (e : ℕ × Job) → AreAllOn label (k ∷ ps) jobs → IsStrictlySortedBy place_cmp (k ∷ ps) → In e jobs → BelongsAt label k e → IsLeast (belongs label) (number label) jobs e
+pub first-is-least : (label : Label) (k : ℕ × ℕ) (ps : List (ℕ × ℕ)) (jobs : List (ℕ × Job)) (e : ℕ × Job) → AreAllOn label (k ∷ ps) jobs → IsStrictlySortedBy shelf_cmp (k ∷ ps) → In e jobs → BelongsAt label k e → IsLeast (belongs label) (number label) jobs e
 first-is-least label k ps jobs e all s i b = record {
   member = i;
   passes = b.0;
@@ -306,7 +306,7 @@ pub none-here-after : (label : Label) (after k : ℕ × ℕ) (ps : List (ℕ × 
 none-here-after label after k ps jobs none all p e i b t =
     elim (all p e i b t) as (λ v. In p ps) [ inl here ↦ absurd (none e i (subst (λ q. BelongsAt label q e) here b)) | inr later ↦ later ]
 
-pub first-after-is-least : (label : Label) (after k : ℕ × ℕ) (ps : List (ℕ × ℕ)) (jobs : List (ℕ × Job)) (e : ℕ × Job) → AreAllAfter label after (k ∷ ps) jobs → IsStrictlySortedBy place_cmp (k ∷ ps) → AreAfter after (k ∷ ps) → In e jobs → BelongsAt label k e → IsLeast (belongs_after label after) (number label) jobs e
+pub first-after-is-least : (label : Label) (after k : ℕ × ℕ) (ps : List (ℕ × ℕ)) (jobs : List (ℕ × Job)) (e : ℕ × Job) → AreAllAfter label after (k ∷ ps) jobs → IsStrictlySortedBy shelf_cmp (k ∷ ps) → AreAfter after (k ∷ ps) → In e jobs → BelongsAt label k e → IsLeast (belongs_after label after) (number label) jobs e
 first-after-is-least label after k ps jobs e all s later i b = record {
   member = i;
   passes = and_from (belongs label e) (is_after after (number label e.1, e.0)) b.0 (subst (λ p. is_after after p ≡ true) b.1 (later k (inl refl)));

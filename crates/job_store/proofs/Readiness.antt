@@ -17,7 +17,7 @@ use Rattle.job_store.specs.LookUps.{is_among, not_paused, ready_in, pri_of_job, 
 use Rattle.job_store.specs.Least.{first_of, IsLeast, NonePasses, least}
 use Rattle.job_store.specs.Racks.{name_cmp}
 use Rattle.job_store.specs.Undone.{MapState}
-use Rattle.job_store.specs.ShelfStates.{place_of}
+use Rattle.job_store.specs.ShelfStates.{numbered_place}
 use Rattle.job_store.specs.Shelves.{places, lists, IsListed, ShelvesMatch}
 use Rattle.job_store.proofs.Least.{IsAnswer, answer, answer-either, among-member}
 use Rattle.job_store.proofs.Shelving.{in-front, in-last, in-push}
@@ -121,12 +121,12 @@ module _ {A : Type 0} (show : A → ℕ × Job) (tubes : List (List ℕ)) (jobs 
 
 -- The places on the shelf of a tube's ready jobs
 
-same-places : (keys : List (ℕ × ℕ)) → map (place_of (λ n. n)) keys ≡ keys
+same-places : (keys : List (ℕ × ℕ)) → map (numbered_place (λ n. n)) keys ≡ keys
 same-places [] = refl
 same-places (p ∷ ps) = ap (λ qs. p ∷ qs) (same-places ps)
 
 module _ (s : Shelves) (state : MapState) (tube : Bor Name) (kept : ShelvesMatch s state) (none : state.before ≡ None) where
-  ready-places : (keys : List (ℕ × ℕ)) → map (place_of (λ n. n)) keys ≡ places s (Label.Ready tube) → AreReadyPlaces keys tube.now state.jobs
+  ready-places : (keys : List (ℕ × ℕ)) → map (numbered_place (λ n. n)) keys ≡ places s (Label.Ready tube) → AreReadyPlaces keys tube.now state.jobs
   ready-places keys same p = (
     λ i.
         let w = kept.known (Label.Ready tube) p (subst (In p) (sym (same-places keys) ∙ same) i) in
@@ -139,7 +139,7 @@ module _ (s : Shelves) (state : MapState) (tube : Bor Name) (kept : ShelvesMatch
   )
 
   module _ {X : Type 0} (keys : X → List (ℕ × ℕ)) where
-    pub ready-some : (o : Option X) → IfSome o (λ x. map (place_of (λ n. n)) (keys x) ≡ places s (Label.Ready tube)) → IfSome o (λ x. AreReadyPlaces (keys x) tube.now state.jobs)
+    pub ready-some : (o : Option X) → IfSome o (λ x. map (numbered_place (λ n. n)) (keys x) ≡ places s (Label.Ready tube)) → IfSome o (λ x. AreReadyPlaces (keys x) tube.now state.jobs)
     ready-some None same = tt
     ready-some (Some x) same = ready-places (keys x) same
 
@@ -147,7 +147,7 @@ module _ (s : Shelves) (state : MapState) (tube : Bor Name) (kept : ShelvesMatch
     none-passes [] are passes = refl
     none-passes (p ∷ ps) are passes = let w = (are p).0 (inl refl) in absurd (passes w.0 w.1 w.2)
 
-    pub ready-none : (o : Option X) → IfSome o (λ x. map (place_of (λ n. n)) (keys x) ≡ places s (Label.Ready tube)) → IfSome o (λ x. keys x ≡ [] → ⊥) → IfNone o (places s (Label.Ready tube) ≡ []) → IsNone o ↔ NonePasses (ready_in (tube.now ∷ [])) state.jobs
+    pub ready-none : (o : Option X) → IfSome o (λ x. map (numbered_place (λ n. n)) (keys x) ≡ places s (Label.Ready tube)) → IfSome o (λ x. keys x ≡ [] → ⊥) → IfNone o (places s (Label.Ready tube) ≡ []) → IsNone o ↔ NonePasses (ready_in (tube.now ∷ [])) state.jobs
     ready-none None same filled empty = (
       λ is e i t. subst (In (e.1.pri, e.0)) empty (kept.placed e i (Label.Ready tube) (e.1.pri, e.0) (ap (λ (test : ℕ × Job → Bool). test e) (sym (ready-test tube.now)) ∙ t, refl)),
       λ passes. refl,

@@ -12,8 +12,8 @@ abbrev pub bare : ShelfState
 bare = record { places = []; from = (0, 0) }
 
 -- a place by a number of any kind and an id, as one by numbers alone
-abbrev pub place_of : {N : Type 0} → (N → ℕ) → N × ℕ → ℕ × ℕ
-place_of value p = (value p.0, p.1)
+abbrev pub numbered_place : {N : Type 0} → (N → ℕ) → N × ℕ → ℕ × ℕ
+numbered_place value p = (value p.0, p.1)
 
 -- place p is not before this one
 abbrev pub IsFrom : ℕ × ℕ → ℕ × ℕ → Type 0

@@ -1,7 +1,7 @@
 ghost use Rattle.std.specs.Prelude.{◌≡◌, ◌^◌, [], true, map, IfOk, OnOk, IfSome, IfNone, option_map};
 ghost use Rattle.job_store.specs.Entries.{Rising};
 ghost use Rattle.job_store.specs.Least.{IsLeast, NonePasses, least};
-ghost use Rattle.job_store.specs.ShelfStates.{bare, place_of, IsFound, HasGained, HasLost, HasReached, IsFrom};
+ghost use Rattle.job_store.specs.ShelfStates.{bare, numbered_place, IsFound, HasGained, HasLost, HasReached, IsFrom};
 ghost use Rattle.job_store.specs.Shelves.{belongs, number, AreAllFound, HasMovedOn};
 ghost use Rattle.job_store.specs.Racks.{shelf_at, AreOthersKept};
 
@@ -130,7 +130,7 @@ impl<K: ShelfName, N: ShelfNumber> Rack<K, N> {
 
     /// The places on a shelf, if there are any.
     pub fn places(&self, key: &K) -> Option<&BTreeSet<(N, u64)>>
-        ensures some { IfSome result (λ set. map (place_of N.value) set.now.keys
+        ensures some { IfSome result (λ set. map (numbered_place N.value) set.now.keys
             ≡ (shelf_at K.cmp self.now.shelves key.now).places) }
         ensures filled { IfSome result (λ set. set.now.keys ≡ [] → ⊥) }
         ensures none { IfNone result ((shelf_at K.cmp self.now.shelves key.now).places ≡ []) }

@@ -2,7 +2,7 @@ ghost use Rattle.std.specs.Prelude.{◌≡◌, ◌^◌, ℕ, true, map, OnOk, If
 ghost use Rattle.object.specs.Lists.{In};
 ghost use Rattle.job_store.specs.Entries.{Rising};
 ghost use Rattle.job_store.specs.Least.{IsLeast, NonePasses, least};
-ghost use Rattle.job_store.specs.ShelfStates.{bare, place_of, IsFound, HasGained, HasLost, HasReached, IsFrom};
+ghost use Rattle.job_store.specs.ShelfStates.{bare, numbered_place, IsFound, HasGained, HasLost, HasReached, IsFrom};
 ghost use Rattle.job_store.specs.Shelves.{belongs, belongs_after, number, AreAllFound, IsPassed, HasMovedOn};
 
 use crate::job::Job;
@@ -26,11 +26,11 @@ pub struct Shelf<N: ShelfNumber> {
 
 impl<N: ShelfNumber> Model for Shelf<N> {
     ghost use Rattle.std.specs.Prelude.{map};
-    ghost use Rattle.job_store.specs.ShelfStates.{ShelfState, place_of};
+    ghost use Rattle.job_store.specs.ShelfStates.{ShelfState, numbered_place};
 
     ghost Value = { ShelfState };
 
-    ghost view = { λ s. record { places = map (place_of N.value) s.places.keys; from = place_of N.value s.from } };
+    ghost view = { λ s. record { places = map (numbered_place N.value) s.places.keys; from = numbered_place N.value s.from } };
 }
 
 impl<N: ShelfNumber> Shelf<N> {
@@ -86,7 +86,7 @@ impl<N: ShelfNumber> Shelf<N> {
     /// The first place at which a job stands, or the last one where there is no job.
     fn front(&self, label: Label, jobs: &BTreeMap<u64, Job>) -> (N, u64)
         requires { Rising 0 (2 ^ 64) jobs.now.entries }
-        ensures { IsPassed label.entry jobs.now.entries self.now (place_of N.value result) }
+        ensures { IsPassed label.entry jobs.now.entries self.now (numbered_place N.value result) }
     {
         let mut front = self.from;
         for place in self.places.range(self.from..) {
@@ -107,7 +107,7 @@ impl<N: ShelfNumber> Shelf<N> {
 
     /// All places.
     pub fn places(&self) -> &BTreeSet<(N, u64)>
-        ensures { map (place_of N.value) result.now.keys ≡ self.now.places }
+        ensures { map (numbered_place N.value) result.now.keys ≡ self.now.places }
     {
         &self.places
     }
@@ -141,10 +141,10 @@ impl<N: ShelfNumber> Shelf<N> {
         requires rising { Rising 0 (2 ^ 64) jobs.now.entries }
         requires all { AreAllFound label self.now jobs.now.entries }
         ensures found { IfSome result
-            (λ e. IsLeast (belongs_after label.entry (place_of N.value after)) (number label.entry)
+            (λ e. IsLeast (belongs_after label.entry (numbered_place N.value after)) (number label.entry)
             jobs.now.entries (e.0, e.1.now)) }
         ensures none { IfNone result
-            (NonePasses (belongs_after label.entry (place_of N.value after)) jobs.now.entries) }
+            (NonePasses (belongs_after label.entry (numbered_place N.value after)) jobs.now.entries) }
     {
         for place in self
             .places

@@ -25,7 +25,7 @@ pub fn cycle<H: AllocGlobal>(rt: &H, client: &mut Client) -> Result<Option<u64>,
         return Ok(None);
     }
     let reserved = client.line(rt.alloc())?;
-    let Some(id) = number_of(reserved.as_slice()) else {
+    let Some(id) = reserved_id(reserved.as_slice()) else {
         return Ok(None);
     };
     let delete = format!(in rt.alloc(); "delete {id}\r\n")?;
@@ -34,7 +34,7 @@ pub fn cycle<H: AllocGlobal>(rt: &H, client: &mut Client) -> Result<Option<u64>,
 }
 
 /// The number of a reserved job, whose body has three bytes.
-fn number_of(line: &[u8]) -> Option<u64> {
+fn reserved_id(line: &[u8]) -> Option<u64> {
     let text = std::str::from_utf8(line).ok()?;
     text.strip_suffix(" 3")?.parse().ok()
 }

@@ -14,7 +14,7 @@ use Rattle.session_store.specs.declared.session.Wait.{Wait}
 use Rattle.session_store.specs.declared.place.Place.{Place}
 use Rattle.session_store.specs.declared.time_outs.TimeOuts.{TimeOuts}
 use Rattle.session_store.specs.Sessions.{new_session, session_of, is_waiting, wait_rank, has_timed_out, first_waiting}
-use Rattle.session_store.specs.Lines.{place_cmp, place, IsIn, time_out_place, places_by, StandsByTimeOut, EachStands, over_at}
+use Rattle.session_store.specs.Lines.{line_cmp, place, IsIn, time_out_place, places_by, StandsByTimeOut, EachStands, over_at}
 use Rattle.session_store.specs.EntryLaws.{value_at-In, value_at-found, value_at-below}
 use Rattle.session_store.proofs.Places.{in_keys, stays_but, some_place}
 use Rattle.session_store.proofs.Found.{least_alike, mapped-in, mapped-from, filtered-in}
@@ -27,7 +27,7 @@ abbrev has_ended : ℕ → Option ℕ → Bool
 has_ended second None = false
 has_ended second (Some s) = nat_le s second
 
-up_to : (second s x : ℕ) → x < 2 ^ 32 → s ≤ second → range_contains place_cmp Unbounded (Included (place second 4294967295)) (place s x) ≡ true
+up_to : (second s x : ℕ) → x < 2 ^ 32 → s ≤ second → range_contains line_cmp Unbounded (Included (place second 4294967295)) (place s x) ≡ true
 up_to second s x below h = grind (arith, nat_tests)
 
 over_waits : (second : ℕ) (wait : Option Wait) → has_timed_out second wait ≡ true → is_some wait ≡ true
@@ -58,7 +58,7 @@ over-from second sessions p e seen =
 over_by : (second x : ℕ) (time_out : Option ℕ) (line : BTreeSet Place) → x < 2 ^ 32 → IfSome (option_map (λ s. place s x) time_out) (IsIn line) → has_ended second time_out ≡ true → (p : Place) × In p (places_by second line) × (p.session ≡ x)
 over_by second x None line below h e = cc
 over_by second x (Some s) line below h e =
-    (place s x, filtered-in (range_contains place_cmp Unbounded (Included (place second 4294967295))) (place s x) line.keys (in_keys (place s x) line.keys h) (up_to second s x below (leb-true s second e)), refl)
+    (place s x, filtered-in (range_contains line_cmp Unbounded (Included (place second 4294967295))) (place s x) line.keys (in_keys (place s x) line.keys h) (up_to second s x below (leb-true s second e)), refl)
 
 -- the place of a wait that is over by the second stands among the places up to it
 over_in : (second x : ℕ) (wait : Option Wait) (line : BTreeSet Place) → x < 2 ^ 32 → IfSome (time_out_place x wait) (IsIn line) → has_timed_out second wait ≡ true → (p : Place) × In p (places_by second line) × (p.session ≡ x)
@@ -91,7 +91,7 @@ time_out_place-of x None p e = cc
 time_out_place-of x (Some w) p e = time_out_of x w.time_out p e
 
 -- a place at which nobody stands is taken out
-pub late-left : (x : ℕ) (k : Place) (time_outs time_outs' : TimeOuts) (sessions : List (ℕ × SessionState)) → Rising 0 (2 ^ 32) sessions → k.session ≡ x → (time_out_place x (session_of x sessions).wait ≡ Some k → ⊥) → ((p : Place) → contains place_cmp time_outs'.line p ≡ cond (is_at (place_cmp k) p) false (contains place_cmp time_outs.line p)) → EachStands (StandsByTimeOut time_outs) sessions → EachStands (StandsByTimeOut time_outs') sessions
+pub late-left : (x : ℕ) (k : Place) (time_outs time_outs' : TimeOuts) (sessions : List (ℕ × SessionState)) → Rising 0 (2 ^ 32) sessions → k.session ≡ x → (time_out_place x (session_of x sessions).wait ≡ Some k → ⊥) → ((p : Place) → contains line_cmp time_outs'.line p ≡ cond (is_at (line_cmp k) p) false (contains line_cmp time_outs.line p)) → EachStands (StandsByTimeOut time_outs) sessions → EachStands (StandsByTimeOut time_outs') sessions
 late-left x k time_outs time_outs' sessions r whose gone updates h =
     λ e i.
     elim (time_out_place e.0 e.1.wait) as (λ o. time_out_place e.0 e.1.wait ≡ o → IfSome o (IsIn time_outs.line) → IfSome o (IsIn time_outs'.line)) [

@@ -11,7 +11,7 @@ use Rattle.std.proofs.lemmas.Bool.{and_from, or_cases}
 use Rattle.std.proofs.lemmas.Map.Lookups.{exact_unsigned}
 use Rattle.object.specs.Lists.{In}
 use Rattle.session_store.specs.declared.place.Place.{Place}
-use Rattle.session_store.specs.Lines.{place_cmp, IsIn, HasAll}
+use Rattle.session_store.specs.Lines.{line_cmp, IsIn, HasAll}
 
 then_equal : (a b : Ordering) → ordering_then a b ≡ Equal → (a ≡ Equal) × (b ≡ Equal)
 then_equal Less b e = cc
@@ -23,30 +23,30 @@ at_equal Less e = cc
 at_equal Equal e = refl
 at_equal Greater e = cc
 
-pub same_place : (p q : Place) → is_at (place_cmp p) q ≡ true → p ≡ q
+pub same_place : (p q : Place) → is_at (line_cmp p) q ≡ true → p ≡ q
 same_place p q e =
-    let both = then_equal (nat_cmp p.order q.order) (nat_cmp p.session q.session) (at_equal (place_cmp p q) e) in
+    let both = then_equal (nat_cmp p.order q.order) (nat_cmp p.session q.session) (at_equal (line_cmp p q) e) in
     let o : p.order ≡ q.order = exact_unsigned p.order q.order both.0 in
     let s : p.session ≡ q.session = exact_unsigned p.session q.session both.1 in
     λ i. record { order = o i; session = s i }
 
-pub in_keys : (p : Place) (ks : List Place) → list_any (is_at (place_cmp p)) ks ≡ true → In p ks
+pub in_keys : (p : Place) (ks : List Place) → list_any (is_at (line_cmp p)) ks ≡ true → In p ks
 in_keys p [] e = cc
 in_keys p (k ∷ ks) e =
-    elim (or_cases (is_at (place_cmp p) k) (list_any (is_at (place_cmp p)) ks) e) as (λ v. In p (k ∷ ks)) [
+    elim (or_cases (is_at (line_cmp p) k) (list_any (is_at (line_cmp p)) ks) e) as (λ v. In p (k ∷ ks)) [
       | inl here ↦ inl (same_place p k here)
       | inr later ↦ inr (in_keys p ks later)
     ]
 
 -- a place stays in a line to which one is added
-pub stays : (k p : Place) (line line' : BTreeSet Place) → contains place_cmp line' p ≡ cond (is_at (place_cmp k) p) true (contains place_cmp line p) → IsIn line p → IsIn line' p
-stays k p line line' e h = e ∙ elim (is_at (place_cmp k) p) as (λ b. cond b true (contains place_cmp line p) ≡ true) [ true ↦ refl | false ↦ h ]
+pub stays : (k p : Place) (line line' : BTreeSet Place) → contains line_cmp line' p ≡ cond (is_at (line_cmp k) p) true (contains line_cmp line p) → IsIn line p → IsIn line' p
+stays k p line line' e h = e ∙ elim (is_at (line_cmp k) p) as (λ b. cond b true (contains line_cmp line p) ≡ true) [ true ↦ refl | false ↦ h ]
 
 -- and in a line from which another one is taken
-pub stays_but : (k p : Place) (line line' : BTreeSet Place) → contains place_cmp line' p ≡ cond (is_at (place_cmp k) p) false (contains place_cmp line p) → (k ≡ p → ⊥) → IsIn line p → IsIn line' p
+pub stays_but : (k p : Place) (line line' : BTreeSet Place) → contains line_cmp line' p ≡ cond (is_at (line_cmp k) p) false (contains line_cmp line p) → (k ≡ p → ⊥) → IsIn line p → IsIn line' p
 stays_but k p line line' e apart h =
     e ∙
-    elim (is_at (place_cmp k) p) as (λ b. is_at (place_cmp k) p ≡ b → cond b false (contains place_cmp line p) ≡ true) [ true ↦ λ t. absurd (apart (same_place k p t)) | false ↦ λ t. h ] refl
+    elim (is_at (line_cmp k) p) as (λ b. is_at (line_cmp k) p ≡ b → cond b false (contains line_cmp line p) ≡ true) [ true ↦ λ t. absurd (apart (same_place k p t)) | false ↦ λ t. h ] refl
 
 pub some_place : (p q : Place) → Some p ≡ Some q → p ≡ q
 some_place p q e = cc

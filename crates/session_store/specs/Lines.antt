@@ -18,12 +18,12 @@ use Rattle.session_store.specs.declared.lines.Lines.{Lines}
 use Rattle.session_store.specs.Sessions.{is_waiting, wait_rank, has_timed_out}
 
 -- places go by their number, and then by the session's
-abbrev pub place_cmp : Place → Place → Ordering
-place_cmp p q = ordering_then (nat_cmp p.order q.order) (nat_cmp p.session q.session)
+abbrev pub line_cmp : Place → Place → Ordering
+line_cmp p q = ordering_then (nat_cmp p.order q.order) (nat_cmp p.session q.session)
 
 -- the place is in the line
 abbrev pub IsIn : BTreeSet Place → Place → Type 0
-IsIn line place = contains place_cmp line place ≡ true
+IsIn line place = contains line_cmp line place ≡ true
 
 -- session x, at this number
 abbrev pub place : ℕ → ℕ → Place
@@ -31,7 +31,7 @@ place order x = record { order = order; session = x }
 
 -- the places in the line up to this second
 abbrev pub places_by : ℕ → BTreeSet Place → List Place
-places_by second line = keys_between place_cmp Unbounded (Included (place second 4294967295)) line
+places_by second line = keys_between line_cmp Unbounded (Included (place second 4294967295)) line
 
 -- the place of a wait among those that end
 abbrev pub time_out_place : ℕ → Option Wait → Option Place
@@ -78,6 +78,6 @@ over_at second sessions p =
     elim (value_at p.session sessions) [ None ↦ None | Some s ↦ if has_timed_out second s.wait then Some (p.session, s) else None ]
 
 -- the session at a place, if it waits there for a job of the tube
-abbrev pub standing : List ℕ → List (ℕ × SessionState) → Place → Option (ℕ × SessionState)
-standing tube sessions p =
+abbrev pub waiter_at : List ℕ → List (ℕ × SessionState) → Place → Option (ℕ × SessionState)
+waiter_at tube sessions p =
     elim (value_at p.session sessions) [ None ↦ None | Some s ↦ if is_waiting s && is_among tube s.watched && wait_rank s == p.order then Some (p.session, s) else None ]

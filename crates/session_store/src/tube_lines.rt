@@ -4,7 +4,7 @@ ghost use Rattle.job_store.specs.Entries.{Rising};
 ghost use Rattle.job_store.specs.LookUps.{is_among};
 ghost use Rattle.session_store.specs.Sessions.{first_waiting};
 ghost use Rattle.session_store.specs.declared.place.Place.{Place};
-ghost use Rattle.session_store.specs.Lines.{EachStands, HasAll, IsIn, StandsByTubes, tube_line, place_cmp, rank_place, standing};
+ghost use Rattle.session_store.specs.Lines.{EachStands, HasAll, IsIn, StandsByTubes, tube_line, line_cmp, rank_place, waiter_at};
 
 use crate::place::{Place, rank_place};
 use crate::session::{SessionState, Wait};
@@ -22,13 +22,13 @@ pub(crate) struct TubeLines {
 }
 
 /// The session at a place, if it waits there for a job of the tube.
-fn standing<'a>(
+fn waiter_at<'a>(
     sessions: &'a BTreeMap<u32, SessionState>,
     tube: &Name,
     place: Place,
 ) -> Option<(u32, &'a SessionState)>
     ensures { option_map (λ e. (e.0, e.1.now)) result
-        ≡ standing tube.now sessions.now.entries place }
+        ≡ waiter_at tube.now sessions.now.entries place }
 {
     let session = sessions.get(&place.session)?;
     if session.waits_for(tube) && session.rank() == place.order {
@@ -45,11 +45,11 @@ fn first_standing<'a>(
     tube: &Name,
 ) -> Option<(u32, &'a SessionState)>
     ensures first { option_map (λ e. (e.0, e.1.now)) result
-        ≡ slice_get (filter_map (standing tube.now sessions.now.entries) line.now.keys) 0 }
-    ensures ordered { IsOrdered place_cmp line.now }
+        ≡ slice_get (filter_map (waiter_at tube.now sessions.now.entries) line.now.keys) 0 }
+    ensures ordered { IsOrdered line_cmp line.now }
 {
     for place in line {
-        if let Some(found) = standing(sessions, tube, *place) {
+        if let Some(found) = waiter_at(sessions, tube, *place) {
             return Some(found);
         }
     }
@@ -153,7 +153,7 @@ impl TubeLines {
             → EachStands (StandsByTubes self.new) sessions.now.entries }
     {
         if let Some(place) = rank_place(number, wait)
-            && standing(sessions, tube, place).is_none()
+            && waiter_at(sessions, tube, place).is_none()
         {
             self.take_out(tube, place);
         }

@@ -20,7 +20,7 @@ use Rattle.hall.specs.Explained.{IsExplained}
 use Rattle.hall.specs.Halls.{HallState, new_hall, after_submit, after_tick, reply_to}
 use Rattle.hall.specs.Recorded.{untouched}
 use Rattle.hall.specs.Tickets.{TicketState, new_ticket, last_key, next_command, with_act}
-use Rattle.simulated_hall.specs.OneClient.{Talk, Said, opened, next_key, request, next_second, reply_among, obeyed, passed, unless_said, waited, answered}
+use Rattle.simulated_hall.specs.OneClient.{Talk, Said, opened, next_key, request, next_second, reply_among, next_obeyed, passed, unless_said, waited, answered}
 use Rattle.simulated_hall.specs.Standing.{SimulatedState, IsObeyedBy, StandsFor, IsSaid, IsUnanswered, AreUnused, SubmitsNothing, submitted_in}
 use Rattle.simulated_hall.proofs.Lists.{In-one}
 use Rattle.simulated_hall.proofs.Orders.{keys, grown}
@@ -170,10 +170,10 @@ module _ {O Op Reply : Type 0} (rules : Rules O Op Reply) (promise : List (Comma
       → StandsFor rules s t → asked ≡ after_submit rules s.hall 1 (next_command s.ticket act)
       → SubmitsNothing asked.nodes.past new.nodes.past → stands own_key (last_key (with_act s.ticket act)) new.nodes.past.order ≡ true
       → IsExplained rules promise new.nodes.past → reply ≡ reply_to new (last_key (with_act s.ticket act))
-      → IsSaid rules (record { hall = new; ticket = with_act s.ticket act; second = s.second; calls = calls }) (obeyed rules t act) reply
+      → IsSaid rules (record { hall = new; ticket = with_act s.ticket act; second = s.second; calls = calls }) (next_obeyed rules t act) reply
   request_said s t act asked new reply calls stands_for is nothing placed explained reply_is = record {
     stands = record {
-      past = obeyed_then rules promise s.hall.nodes.past asked.nodes.past new.nodes.past t (request t act) stands_for.past fresh last same_order nothing there explained (obeyed rules t act).talk refl (request_unused t (submitted_in s.hall.nodes.past) stands_for.past.unused act);
+      past = obeyed_then rules promise s.hall.nodes.past asked.nodes.past new.nodes.past t (request t act) stands_for.past fresh last same_order nothing there explained (next_obeyed rules t act).talk refl (request_unused t (submitted_in s.hall.nodes.past) stands_for.past.unused act);
       session = stands_for.session;
       next = ap (λ n. n + 1) (stands_for.next ∙ sym (last_of_act s.ticket act));
       second = stands_for.second;
@@ -270,6 +270,6 @@ wait_more rules key n s less e =
     let count : 3600 - n ≡ suc (3600 - (n + 1)) = omega (arith, less) in
     ap (λ m. waited rules key m s) count ∙ ap (unless_said (λ t. waited rules key (3600 - (n + 1)) (passed rules key t)) s) e
 
-pub opens_wait : {O Op Reply : Type 0} (rules : Rules O Op Reply) (t : Talk O) (op : Op) (key : Key) → key ≡ next_key t → waited rules key 3600 (obeyed rules t (Do op)) ≡ answered rules t op
+pub opens_wait : {O Op Reply : Type 0} (rules : Rules O Op Reply) (t : Talk O) (op : Op) (key : Key) → key ≡ next_key t → waited rules key 3600 (next_obeyed rules t (Do op)) ≡ answered rules t op
 unfolding answered
-opens_wait rules t op key is = ap (λ k. waited rules k 3600 (obeyed rules t (Do op))) is
+opens_wait rules t op key is = ap (λ k. waited rules k 3600 (next_obeyed rules t (Do op))) is

@@ -42,8 +42,8 @@ pub record Said (O Reply : Type 0) : Type 0 where
   pub reply : Option Reply
 
 -- the object obeys the next request
-abbrev pub obeyed : {O Op Reply : Type 0} → Rules O Op Reply → Talk O → Act Op → Said O Reply
-obeyed rules t act = record {
+abbrev pub next_obeyed : {O Op Reply : Type 0} → Rules O Op Reply → Talk O → Act Op → Said O Reply
+next_obeyed rules t act = record {
   talk = record t { object = rules.after t.object (request t act); next = t.next + 1 };
   reply = reply_among (next_key t) (rules.answers t.object (request t act));
 }
@@ -71,8 +71,8 @@ longest_wait = 3600
 
 -- the client asks, and waits for the reply
 unfoldable pub answered : {O Op Reply : Type 0} → Rules O Op Reply → Talk O → Op → Said O Reply
-answered rules t op = waited rules (next_key t) longest_wait (obeyed rules t (Do op))
+answered rules t op = waited rules (next_key t) longest_wait (next_obeyed rules t (Do op))
 
 -- the client leaves
 abbrev pub left : {O Op Reply : Type 0} → Rules O Op Reply → Talk O → Talk O
-left rules t = (obeyed rules t Close).talk
+left rules t = (next_obeyed rules t Close).talk

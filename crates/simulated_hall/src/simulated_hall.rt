@@ -1,6 +1,6 @@
 ghost use Rattle.std.specs.Prelude.{◌≡◌, ◌⊎◌, ◌+◌, Some, Err, IfOk, IfErr, OnOk, OnErr};
 ghost use Rattle.simulated_hall.specs.declared.unanswered.Unanswered.TheVariants as unanswered;
-ghost use Rattle.simulated_hall.specs.OneClient.{Talk, opened, obeyed, passed, answered, left};
+ghost use Rattle.simulated_hall.specs.OneClient.{Talk, opened, next_obeyed, passed, answered, left};
 ghost use Rattle.hall.specs.Tickets.{last_key, with_act};
 ghost use Rattle.simulated_hall.specs.Standing.{StandsFor, IsSaid, IsUnanswered};
 ghost use Rattle.simulated_hall.specs.Stopping.{HasNoCallLeft, HasNoSecondLeft, IsNotLetGo, IsStopped, RefusesAct};
@@ -103,7 +103,7 @@ impl<O: Object> SimulatedHall<O> {
     // Carries the next request.
     fn request(&mut self, act: Act<O::Op>) -> Result<Option<O::Reply>, Unanswered>
         ensures said { IfOk result (λ reply. (t : Talk O) → StandsFor O.rules self.old t
-            → IsSaid O.rules self.new (obeyed O.rules t act) reply) }
+            → IsSaid O.rules self.new (next_obeyed O.rules t act) reply) }
         ensures ticket { OnOk result (self.new.ticket ≡ with_act self.old.ticket act) }
         ensures second { OnOk result (self.new.second ≡ self.old.second) }
         ensures refused { result ≡ Err unanswered.Refused →

@@ -4,9 +4,9 @@ use Rattle.std.specs.BTreeSet.{keys_between}
 use Rattle.std.specs.declared.ops.Bound.TheVariants.{Included, Unbounded}
 use Rattle.object.specs.Lists.{In}
 use Rattle.job_store.specs.declared.job.Job.{Job}
-use Rattle.job_store.specs.ShelfStates.{ShelfState, place_of, IsFound}
+use Rattle.job_store.specs.ShelfStates.{ShelfState, numbered_place, IsFound}
 use Rattle.job_store.specs.Shelves.{BelongsAt, belongs, number}
-use Rattle.job_store.proofs.Places.{place_cmp, AreAllOn, sorted-rest, none-here, none-on, first-is-least}
+use Rattle.job_store.proofs.Places.{shelf_cmp, AreAllOn, sorted-rest, none-here, none-on, first-is-least}
 use Rattle.job_store.proofs.Numbered.{pair_cmp, ranged-of, ranged-sorted}
 use Rattle.job_store.proofs.Least.{least-only, least-nothing}
 use Rattle.job_store.proofs.shelf.Shelf.first.Goals as goal
@@ -15,26 +15,26 @@ pub loop-place-init : goal.loop-place-init
 loop-place-init g c =
     let ahead : c.into_iter-place-iterator.result ≡ keys_between (pair_cmp g.N.Ord.cmp g.N.ShelfNumber.value g.met.N.ShelfNumber.in_order) (Included c.self.inside.from) Unbounded c.self.inside.places = search (rules, c.range-place-items.ensures.between tt) in (
       λ p e i b.
-          let found : IsFound (record { places = map (place_of g.N.ShelfNumber.value) c.self.inside.places.keys; from = place_of g.N.ShelfNumber.value c.self.inside.from }) p = subst (λ (s : ShelfState). IsFound s p) (sym c.self.view_is) (c.requires.all p e i b) in
-          subst (λ ks. In p (map (place_of g.N.ShelfNumber.value) ks)) (sym ahead) (ranged-of g.N.Ord.cmp g.N.ShelfNumber.value g.met.N.ShelfNumber.in_order c.self.inside.from p c.self.inside.places.keys found.0 found.1),
-      subst (λ ks. IsStrictlySortedBy place_cmp (map (place_of g.N.ShelfNumber.value) ks)) (sym ahead) (ranged-sorted g.N.Ord.cmp g.N.ShelfNumber.value g.met.N.ShelfNumber.in_order c.self.inside.from c.self.inside.places.keys c.range-place-items.ensures.ordered),
+          let found : IsFound (record { places = map (numbered_place g.N.ShelfNumber.value) c.self.inside.places.keys; from = numbered_place g.N.ShelfNumber.value c.self.inside.from }) p = subst (λ (s : ShelfState). IsFound s p) (sym c.self.view_is) (c.requires.all p e i b) in
+          subst (λ ks. In p (map (numbered_place g.N.ShelfNumber.value) ks)) (sym ahead) (ranged-of g.N.Ord.cmp g.N.ShelfNumber.value g.met.N.ShelfNumber.in_order c.self.inside.from p c.self.inside.places.keys found.0 found.1),
+      subst (λ ks. IsStrictlySortedBy shelf_cmp (map (numbered_place g.N.ShelfNumber.value) ks)) (sym ahead) (ranged-sorted g.N.Ord.cmp g.N.ShelfNumber.value g.met.N.ShelfNumber.in_order c.self.inside.from c.self.inside.places.keys c.range-place-items.ensures.ordered),
     )
 
 pub loop-place-preserved : goal.loop-place-preserved
 loop-place-preserved g c =
     let rest : c.loop-place.place-iterator ≡ c.in-Some.place.now ∷ c.next.new.self = search rules in (
-      none-here c.args.label (place_of g.N.ShelfNumber.value c.in-Some.place.now) (map (place_of g.N.ShelfNumber.value) c.next.new.self) c.args.jobs.now.entries
+      none-here c.args.label (numbered_place g.N.ShelfNumber.value c.in-Some.place.now) (map (numbered_place g.N.ShelfNumber.value) c.next.new.self) c.args.jobs.now.entries
           (subst (λ n. (e : ℕ × Job) → In e c.args.jobs.now.entries → BelongsAt c.args.label (n, c.in-Some.place.now.1) e → ⊥) c.wide.ensures c.in_default.ensures.none)
-          (subst (λ ks. AreAllOn c.args.label (map (place_of g.N.ShelfNumber.value) ks) c.args.jobs.now.entries) rest c.loop-place.invariant.0),
-      sorted-rest (place_of g.N.ShelfNumber.value c.in-Some.place.now) (map (place_of g.N.ShelfNumber.value) c.next.new.self) (subst (λ ks. IsStrictlySortedBy place_cmp (map (place_of g.N.ShelfNumber.value) ks)) rest c.loop-place.invariant.1),
+          (subst (λ ks. AreAllOn c.args.label (map (numbered_place g.N.ShelfNumber.value) ks) c.args.jobs.now.entries) rest c.loop-place.invariant.0),
+      sorted-rest (numbered_place g.N.ShelfNumber.value c.in-Some.place.now) (map (numbered_place g.N.ShelfNumber.value) c.next.new.self) (subst (λ ks. IsStrictlySortedBy shelf_cmp (map (numbered_place g.N.ShelfNumber.value) ks)) rest c.loop-place.invariant.1),
     )
 
 pub returns-in-Some-job_at-clause-found : goal.returns-in-Some-job_at-clause-found
 returns-in-Some-job_at-clause-found g c =
     let rest : c.loop-place.place-iterator ≡ c.in-Some.place.now ∷ c.next.new.self = search rules in
-    first-is-least c.args.label (place_of g.N.ShelfNumber.value c.in-Some.place.now) (map (place_of g.N.ShelfNumber.value) c.next.new.self) c.args.jobs.now.entries (c.in-Some.place.now.1, c.in-Some-job_at.job.now)
-    (subst (λ ks. AreAllOn c.args.label (map (place_of g.N.ShelfNumber.value) ks) c.args.jobs.now.entries) rest c.loop-place.invariant.0)
-    (subst (λ ks. IsStrictlySortedBy place_cmp (map (place_of g.N.ShelfNumber.value) ks)) rest c.loop-place.invariant.1)
+    first-is-least c.args.label (numbered_place g.N.ShelfNumber.value c.in-Some.place.now) (map (numbered_place g.N.ShelfNumber.value) c.next.new.self) c.args.jobs.now.entries (c.in-Some.place.now.1, c.in-Some-job_at.job.now)
+    (subst (λ ks. AreAllOn c.args.label (map (numbered_place g.N.ShelfNumber.value) ks) c.args.jobs.now.entries) rest c.loop-place.invariant.0)
+    (subst (λ ks. IsStrictlySortedBy shelf_cmp (map (numbered_place g.N.ShelfNumber.value) ks)) rest c.loop-place.invariant.1)
     c.in-Some-job_at.ensures.found.0
     (subst (λ n. BelongsAt c.args.label (n, c.in-Some.place.now.1) (c.in-Some.place.now.1, c.in-Some-job_at.job.now)) c.wide.ensures c.in-Some-job_at.ensures.found.1)
 
@@ -42,9 +42,9 @@ pub returns-in-Some-job_at-clause-job : goal.returns-in-Some-job_at-clause-job
 returns-in-Some-job_at-clause-job g c =
     let rest : c.loop-place.place-iterator ≡ c.in-Some.place.now ∷ c.next.new.self = search rules in
     sym (least-only (belongs c.args.label) (number c.args.label) c.args.jobs.now.entries _ _ (c.in-Some.place.now.1, c.in-Some-job_at.job.now) c.requires.rising
-    (first-is-least c.args.label (place_of g.N.ShelfNumber.value c.in-Some.place.now) (map (place_of g.N.ShelfNumber.value) c.next.new.self) c.args.jobs.now.entries (c.in-Some.place.now.1, c.in-Some-job_at.job.now)
-    (subst (λ ks. AreAllOn c.args.label (map (place_of g.N.ShelfNumber.value) ks) c.args.jobs.now.entries) rest c.loop-place.invariant.0)
-    (subst (λ ks. IsStrictlySortedBy place_cmp (map (place_of g.N.ShelfNumber.value) ks)) rest c.loop-place.invariant.1)
+    (first-is-least c.args.label (numbered_place g.N.ShelfNumber.value c.in-Some.place.now) (map (numbered_place g.N.ShelfNumber.value) c.next.new.self) c.args.jobs.now.entries (c.in-Some.place.now.1, c.in-Some-job_at.job.now)
+    (subst (λ ks. AreAllOn c.args.label (map (numbered_place g.N.ShelfNumber.value) ks) c.args.jobs.now.entries) rest c.loop-place.invariant.0)
+    (subst (λ ks. IsStrictlySortedBy shelf_cmp (map (numbered_place g.N.ShelfNumber.value) ks)) rest c.loop-place.invariant.1)
     c.in-Some-job_at.ensures.found.0
     (subst (λ n. BelongsAt c.args.label (n, c.in-Some.place.now.1) (c.in-Some.place.now.1, c.in-Some-job_at.job.now)) c.wide.ensures c.in-Some-job_at.ensures.found.1)))
 
@@ -52,4 +52,4 @@ pub returns-clause-job : goal.returns-clause-job
 returns-clause-job g c =
     let rest : c.loop-place.place-iterator ≡ [] = search rules in
     least-nothing (belongs c.args.label) (number c.args.label) c.args.jobs.now.entries
-    (none-on c.args.label c.args.jobs.now.entries (subst (λ ks. AreAllOn c.args.label (map (place_of g.N.ShelfNumber.value) ks) c.args.jobs.now.entries) rest c.loop-place.invariant.0))
+    (none-on c.args.label c.args.jobs.now.entries (subst (λ ks. AreAllOn c.args.label (map (numbered_place g.N.ShelfNumber.value) ks) c.args.jobs.now.entries) rest c.loop-place.invariant.0))

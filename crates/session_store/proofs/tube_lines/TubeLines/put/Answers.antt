@@ -1,7 +1,7 @@
 use Rattle.std.proofs.Common.{◌≡◌, sym, subst, true}
 use Rattle.std.specs.BTreeMap.{is_at}
 use Rattle.std.specs.List.{list_any}
-use Rattle.session_store.specs.Lines.{place_cmp}
+use Rattle.session_store.specs.Lines.{line_cmp}
 use Rattle.session_store.proofs.Places.{stays}
 use Rattle.session_store.proofs.Served.{line-put, line-new}
 use Rattle.session_store.proofs.tube_lines.TubeLines.put.Goals as goal
@@ -11,7 +11,7 @@ returns-in_err-insert-clause-grown c =
     λ t p.
     line-put c.args.tube.now t p c.args.self.now (record { alloc = c.args.self.now.alloc; lines = c.get_mut.follows.lender c.insert.new.self }) c.in-Some.line.now c.insert.new.self c.in-Some.ensures.value
     (c.get_mut.follows.holds c.insert.new.self)
-    (λ same h. subst (λ ks. list_any (is_at (place_cmp p)) ks ≡ true) (sym c.in_err-insert.ensures.err) h)
+    (λ same h. subst (λ ks. list_any (is_at (line_cmp p)) ks ≡ true) (sym c.in_err-insert.ensures.err) h)
 
 pub returns-in-Some-clause-grown : goal.returns-in-Some-clause-grown
 returns-in-Some-clause-grown c =

@@ -1,7 +1,7 @@
 use Rattle.std.proofs.Common.{◌≡◌, ◌∙◌, ◌+◌, ◌-◌, ◌<◌, Option, None, Some, sym, ap, subst, add-zero, arith}
 use Rattle.object.specs.declared.command.Act.TheVariants.{Do}
 use Rattle.hall.specs.Tickets.{TicketState, last_key}
-use Rattle.simulated_hall.specs.OneClient.{Said, obeyed, passed, waited}
+use Rattle.simulated_hall.specs.OneClient.{Said, next_obeyed, passed, waited}
 use Rattle.simulated_hall.specs.Standing.{SimulatedState, StandsFor}
 use Rattle.simulated_hall.proofs.Said.{next_key_is, still_stands, wait_over, wait_more, opens_wait}
 use Rattle.simulated_hall.proofs.simulated_hall.SimulatedHall.ask.Goals as goal
@@ -19,7 +19,7 @@ loop-init g c = record {
       let same : begun ≡ record was { calls = c.begin.new.self.calls } = (λ i. record { hall = c.begin.ensures.hall i; ticket = c.begin.ensures.ticket i; second = c.self.inside.second; calls = c.begin.new.self.calls }) in
       let there = subst (λ s. StandsFor g.O.Object.rules s t) (sym same) (still_stands g.O.Object.rules was c.begin.new.self.calls t (subst (λ s. StandsFor g.O.Object.rules s t) (sym c.self.view_is) stands_for)) in
       let key = ap (λ (q : TicketState _ _). last_key q) c.in_ok-reply.ensures.ticket ∙ next_key_is g.O.Object.rules begun t (Do c.args.op) there in
-      (obeyed g.O.Object.rules t (Do c.args.op), c.in_ok-reply.ensures.said t there, opens_wait g.O.Object.rules t c.args.op (last_key c.request.new.self.ticket) key);
+      (next_obeyed g.O.Object.rules t (Do c.args.op), c.in_ok-reply.ensures.said t there, opens_wait g.O.Object.rules t c.args.op (last_key c.request.new.self.ticket) key);
 }
 
 pub returns-in-Some-clause-reply : goal.returns-in-Some-clause-reply

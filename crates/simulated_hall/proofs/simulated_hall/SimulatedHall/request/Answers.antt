@@ -3,7 +3,7 @@ use Rattle.object.specs.Keys.{stands}
 use Rattle.recorder.specs.Records.{own_key}
 use Rattle.hall.specs.Halls.{HallState, reply_to}
 use Rattle.hall.specs.Tickets.{TicketState, last_key, with_act}
-use Rattle.simulated_hall.specs.OneClient.{obeyed}
+use Rattle.simulated_hall.specs.OneClient.{next_obeyed}
 use Rattle.simulated_hall.specs.Standing.{SimulatedState, StandsFor, IsSaid}
 use Rattle.simulated_hall.proofs.Said.{request_said}
 use Rattle.simulated_hall.proofs.simulated_hall.SimulatedHall.request.Goals as goal
@@ -21,7 +21,7 @@ returns-clause-said g c = λ t stands_for.
     (subst (λ s. StandsFor g.O.Object.rules s t) (sym c.self.view_is) stands_for)
     c.in_ok-submit.ensures.ok c.in_ok-place.ensures.nothing placed c.in_ok-reply.ensures.legal
     (c.in_ok-reply.ensures.reply ∙ ap (λ (q : TicketState _ _). reply_to c.place.new.self.hall (last_key q)) ticket) in
-    subst (λ (q : TicketState _ _). IsSaid g.O.Object.rules (record { hall = c.reply.new.self.hall; ticket = q; second = c.self.inside.second; calls = c.reply.new.self.calls }) (obeyed g.O.Object.rules t c.args.act) c.in_ok-reply.field-0)
+    subst (λ (q : TicketState _ _). IsSaid g.O.Object.rules (record { hall = c.reply.new.self.hall; ticket = q; second = c.self.inside.second; calls = c.reply.new.self.calls }) (next_obeyed g.O.Object.rules t c.args.act) c.in_ok-reply.field-0)
     (sym (c.in_ok-reply.ensures.ticket ∙ ticket))
-    (subst (λ (h : HallState _ _). IsSaid g.O.Object.rules (record { hall = h; ticket = with_act c.self.inside.carrier.ticket c.args.act; second = c.self.inside.second; calls = c.reply.new.self.calls }) (obeyed g.O.Object.rules t c.args.act) c.in_ok-reply.field-0)
+    (subst (λ (h : HallState _ _). IsSaid g.O.Object.rules (record { hall = h; ticket = with_act c.self.inside.carrier.ticket c.args.act; second = c.self.inside.second; calls = c.reply.new.self.calls }) (next_obeyed g.O.Object.rules t c.args.act) c.in_ok-reply.field-0)
     (sym c.in_ok-reply.ensures.hall) said)
