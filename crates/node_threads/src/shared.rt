@@ -119,12 +119,7 @@ impl<O: Object, S: Ledger, C: Ledger> Shared<O, S, C> {
     {
         let mut guard = self.lock(rt);
         guard.submit(mine, ticket, act, node)?;
-        let hall = guard.hall();
-        Ok(HandedIn {
-            node,
-            second: hall.last_second(),
-            work: self.first_work(hall, node),
-        })
+        Ok(self.handed_in_at(node, guard.hall()))
     }
 
     /// Waits for the answer to a session's last command, and notes it in the ticket. At each second without one the
@@ -242,6 +237,18 @@ impl<O: Object, S: Ledger, C: Ledger> Shared<O, S, C> {
             work: Some(node),
         };
         hall.resubmit(ticket, node)
+    }
+
+    // What is kept of a command that was handed in at the node just now.
+    fn handed_in_at(&self, node: u8, hall: &Hall<O>) -> HandedIn
+        ensures node { result.node ≡ node }
+        ensures second { result.second ≡ hall.now.second }
+    {
+        HandedIn {
+            node,
+            second: hall.last_second(),
+            work: self.first_work(hall, node),
+        }
     }
 
     // The node that is to have a turn first after a command was handed in at this one.

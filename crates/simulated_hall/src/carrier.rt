@@ -1,10 +1,15 @@
-ghost use Rattle.std.specs.Prelude.{◌≡◌, ◌≢◌, ◌⊎◌, ◌+◌, ◌<◌, ◌≤◌, ◌^◌, ◌∷◌, [], true, Some, Err, IfOk, OnOk, OnErr};
+ghost use Rattle.std.specs.Prelude.{◌≡◌, ◌≢◌, ◌⊎◌, ◌+◌, ◌<◌, ◌≤◌, ◌^◌, ◌∷◌, [], ℕ, true, Some, Err, IfOk, OnOk, OnErr};
 ghost use Rattle.simulated_hall.specs.declared.unanswered.Unanswered.TheVariants as unanswered;
+ghost use Rattle.simulated_hall.specs.declared.driver.Call.TheVariants as calls;
+ghost use Rattle.object.specs.declared.command.Command.{Command};
 ghost use Rattle.object.specs.Happenings.{is_submitted};
 ghost use Rattle.object.specs.Keys.{stands};
 ghost use Rattle.recorder.specs.Records.{own_key};
 ghost use Rattle.hall.specs.declared.ticket.NotedAct.{NotedAct};
-ghost use Rattle.hall.specs.Recorded.{asked};
+ghost use Rattle.ballot.specs.declared.letter.Letter.{Letter};
+ghost use Rattle.node.specs.declared.deed.Deed.TheVariants as deeds;
+ghost use Rattle.network.specs.Networks.{mail_of, front};
+ghost use Rattle.hall.specs.Recorded.{asked, done, without_front_letter, repeated};
 ghost use Rattle.hall.specs.Explained.{IsExplained};
 ghost use Rattle.hall.specs.Halls.{new_hall, after_submit, after_tick, with_nodes, reply_to};
 ghost use Rattle.hall.specs.Refusals.{is_full};
@@ -177,6 +182,13 @@ impl<O: Object> Carrier<O> {
     // Makes the call, while the command of the key is carried.
     fn make(&mut self, call: Call, key: Key) -> Result<(), HallError>
         requires { is_submitted key self.old.hall.nodes.past.happenings.submitted ≡ true }
+        ensures lost { OnOk result ((node : ℕ) → call ≡ calls.Lose node → self.new.hall
+            ≡ with_nodes self.old.hall (without_front_letter self.old.hall.nodes node)) }
+        ensures repeated { OnOk result ((node : ℕ) (l : Letter (Command O.Op)) → call ≡ calls.Repeat node
+            → front (mail_of self.old.hall.nodes.network node) ≡ Some l → self.new.hall
+            ≡ with_nodes self.old.hall (repeated self.old.hall.nodes node l)) }
+        ensures restarted { OnOk result ((node : ℕ) → call ≡ calls.Restart node → self.new.hall
+            ≡ with_nodes self.old.hall (done O.rules self.old.hall.nodes node deeds.Restart)) }
         ensures nothing { SubmitsNothing self.old.hall.nodes.past self.new.hall.nodes.past }
         ensures ticket { self.new.ticket ≡ self.old.ticket }
         ensures calls { self.new.calls ≡ self.old.calls }

@@ -1,4 +1,4 @@
-ghost use Rattle.std.specs.Prelude.{◌≡◌, ◌↔◌, ◌<◌, ◌^◌, ◌⊎◌, ◌&&◌, ◌==◌, nat_lt, true, false, [], None, Ok, IfOk, IfErr, IfSome, IfNone, OnErr};
+ghost use Rattle.std.specs.Prelude.{◌≡◌, ◌↔◌, ◌<◌, ◌^◌, ◌⊎◌, ◌&&◌, ◌==◌, nat_lt, true, false, [], None, Ok, Err, IfOk, IfErr, IfSome, IfNone, OnErr};
 ghost use Rattle.std.specs.List.{list_any};
 ghost use Rattle.object.specs.Happenings.{is_submitted};
 ghost use Rattle.object.specs.Legal.{WasSubmitted};
@@ -18,7 +18,8 @@ const MOST_TAKEN: u64 = 1 << 32;
 impl<O: Object> World<O> {
     /// Events, none of them a restart, after which the key stands in the order; no events where it does already. The answer is
     /// `None` only where the key was never submitted, or where a greater number of its session was and the key doesn't stand
-    /// in the order. It is full only where more than 2^32 events were taken, and fails else for want of memory alone.
+    /// in the order. It is full only where more than 2^32 events were taken and there would be a way to look for; else it
+    /// fails for want of memory alone.
     pub fn rescue(&self, key: Key) -> Result<Option<Vec<Event<O::Op>>>, WorldError>
         ensures some { IfOk result (λ found. IfSome found (λ events. Rescues O.rules O.Op.eq self.now key
             events.items)) }
@@ -28,6 +29,8 @@ impl<O: Object> World<O> {
         ensures in_order { IsInOrder self.now.cluster key → result ≡ Ok None → ⊥ }
         ensures last { IsLast key self.now.happenings.submitted → result ≡ Ok None → ⊥ }
         ensures err { IfErr result (λ r. (r ≡ OutOfMemory) ⊎ ((r ≡ Full) × (2 ^ 32 < self.now.taken))) }
+        ensures new { result ≡ Err Full → IsInOrder self.now.cluster key → ⊥ }
+        ensures known { result ≡ Err Full → IsLast key self.now.happenings.submitted }
     {
         ballot_laws();
         self.stands();

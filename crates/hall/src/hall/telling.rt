@@ -14,7 +14,8 @@ use object::{Object, Value};
 use std::alloc::AllocError;
 
 impl<O: Object> Hall<O> {
-    /// The answer to the ticket's last command.
+    /// The answer that was given here to the key of the ticket's last command. Where the ticket agrees with the hall, it is the
+    /// answer to that command.
     pub fn take_answer(&self, ticket: &Ticket<O>) -> Option<&O::Reply>
         ensures answer { option_copied result ≡ reply_to self.now (last_key ticket.now) }
         ensures legal { IsExplained O.rules O.promise self.now.nodes.past }
@@ -24,7 +25,8 @@ impl<O: Object> Hall<O> {
         self.nodes.recorder.answer_to(key)
     }
 
-    /// Notes a copy of the answer to the ticket's last command in the ticket; false where there is none, or it is noted.
+    /// Notes in the ticket a copy of the answer that was given here to the key of its last command; false where there is none,
+    /// or it is noted.
     pub fn note(&self, ticket: &mut Ticket<O>) -> Result<bool, AllocError>
         ensures does { IfOk result (λ does. does ≡ is_some (to_note self.now ticket.old)) }
         ensures noted { OnOk result (ticket.new ≡ with_noted ticket.old (to_note self.now ticket.old)) }
