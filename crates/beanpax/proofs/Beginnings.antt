@@ -5,13 +5,13 @@ use Rattle.bean_codec.specs.declared.request.Request.TheVariants.{Do, Quit}
 use Rattle.bean_codec.specs.Grammar.{Item}
 use Rattle.bean_codec.specs.Replies.{fault_text}
 use Rattle.session.specs.declared.faults.End.{End}
-use Rattle.session.specs.Items.{Answer, Reads, ReadsFirst, operations, told_text, answer_text}
+use Rattle.session.specs.Items.{Response, Reads, ReadsFirst, operations, told_text, answer_text}
 use Rattle.beanpax.specs.Sessions.{AreQueueAnswers}
 use Rattle.beanpax.specs.Told.{BeginsTold}
-use Rattle.beanpax.proofs.Whole.{HasFront, reads_as_items}
+use Rattle.session.proofs.Whole.{HasFront, reads_as_items}
 
 -- with more items and more answers more is told
-pub told_begins : (items more : List Item) (xs ys : List Answer) → (left : List ℕ) × (told_text items xs ++ left ≡ told_text (items ++ more) (xs ++ ys))
+pub told_begins : (items more : List Item) (xs ys : List Response) → (left : List ℕ) × (told_text items xs ++ left ≡ told_text (items ++ more) (xs ++ ys))
 told_begins [] more xs ys = (told_text more (xs ++ ys), refl)
 told_begins (Ok (Do op) ∷ items) more [] ys = (told_text (Ok (Do op) ∷ items ++ more) ys, refl)
 told_begins (Ok (Do op) ∷ items) more (x ∷ xs) ys =
@@ -29,7 +29,7 @@ operations-append (Ok Quit ∷ is) js = operations-append is js
 operations-append (Err f ∷ is) js = operations-append is js
 
 -- a beginning of what is told for the first items
-pub begins : (input output left : List ℕ) (items tail : List Item) (end : End) (answers : List Answer) → Reads input (items ++ tail) end → AreQueueAnswers (operations items) answers → output ++ left ≡ told_text items answers → BeginsTold input output
+pub begins : (input output left : List ℕ) (items tail : List Item) (end : End) (answers : List Response) → Reads input (items ++ tail) end → AreQueueAnswers (operations items) answers → output ++ left ≡ told_text items answers → BeginsTold input output
 begins input output left items tail end answers reads answered told_so =
     let l = told_begins items tail answers [] in (
       items ++ tail,
@@ -48,7 +48,7 @@ goes_on input (i ∷ firsts) others rest end first r =
     (first.0, first.1, first.2, first.3, subst (λ (b : Bool). MatchBool b ((firsts ++ others ≡ []) × (end ≡ End.Quit)) (Reads first.1 (firsts ++ others) end)) (sym first.4) (goes_on first.1 firsts others rest end first.5 r))
 
 -- the same, where more was read than these items
-pub begins_first : ((text : List ℕ) → HasFront text) → (input output left : List ℕ) (items more : List Item) (rest : List ℕ) (answers : List Answer) → ReadsFirst input (items ++ more) rest → AreQueueAnswers (operations items) answers → output ++ left ≡ told_text items answers → BeginsTold input output
+pub begins_first : ((text : List ℕ) → HasFront text) → (input output left : List ℕ) (items more : List Item) (rest : List ℕ) (answers : List Response) → ReadsFirst input (items ++ more) rest → AreQueueAnswers (operations items) answers → output ++ left ≡ told_text items answers → BeginsTold input output
 begins_first front input output left items more rest answers first answered told_so =
     let r = reads_as_items front rest in
     begins input output left items (more ++ r.0) r.1 answers

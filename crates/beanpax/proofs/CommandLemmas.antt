@@ -21,8 +21,8 @@ use Rattle.clap.proofs.OnLiterals.{clap_on_literals}
 use Rattle.clap.proofs.WalkLemmas.{first_value-rows, one_text-rows}
 use Rattle.beanpax.specs.Numbers.{IsNumberIfGiven, IsNumberOr}
 use Rattle.beanpax.specs.Weights.{AreMembersOf}
-use Rattle.beanpax.specs.declared.words.Asked.{Asked}
-use Rattle.beanpax.specs.declared.words.Asked.TheVariants.{Run, Serve, Inspect, BadWeights, Help, Wrong}
+use Rattle.beanpax.specs.declared.words.Action.{Action}
+use Rattle.beanpax.specs.declared.words.Action.TheVariants.{Run, Serve, Inspect, BadWeights, Help, Wrong}
 use Rattle.beanpax.specs.Words.{AskFor, AskForRun, IsAskedBy, IsRunOf, IsServeOf, IsServerOf, command_given, errors_in, program_command, run_command, serve_command, inspect_command, text_given, word_given}
 use Rattle.beanpax.specs.declared.words.ServerOptions.{ServerOptions}
 use Rattle.beanpax.proofs.WordsLemmas.{is_simple-program_command}
@@ -252,7 +252,7 @@ meets_one words m none met some no_run no_serve no_inspect = go (subcommand_name
 
 -- a run by one reading of the words is one by another that gives the same
 pub run_same : (text other word another : List ℕ → Option (List ℕ)) → ((id : List ℕ) → text id ≡ other id) → ((id : List ℕ) → word id ≡ another id)
-    → (asked : Asked) → IsRunOf text word asked → IsRunOf other another asked
+    → (asked : Action) → IsRunOf text word asked → IsRunOf other another asked
 run_same text other word another texts words (Run options) is = (
   members_same _ _ _ _ (Some options.members) (texts (codes "nodes")) (words (codes "weights")) is.0,
   subst (λ t. IsNumberOr 0 0 (2 ^ 64 - 1) t options.seed) (texts (codes "seed")) is.1,
@@ -265,7 +265,7 @@ run_same text other word another texts words (Wrong told) is = absurd is
 
 -- and so is a server
 pub serve_same : (text other word another : List ℕ → Option (List ℕ)) → ((id : List ℕ) → text id ≡ other id) → ((id : List ℕ) → word id ≡ another id)
-    → (asked : Asked) → IsServeOf text word asked → IsServeOf other another asked
+    → (asked : Action) → IsServeOf text word asked → IsServeOf other another asked
 serve_same text other word another texts words (Serve options) is = server_same text other word another texts words options is
 serve_same text other word another texts words BadWeights is = members_same _ _ _ _ None (texts (codes "nodes")) (words (codes "weights")) is
 serve_same text other word another texts words (Run options) is = absurd is
@@ -274,7 +274,7 @@ serve_same text other word another texts words (Help told) is = absurd is
 serve_same text other word another texts words (Wrong told) is = absurd is
 
 -- what a run is asked of words that name it
-pub run_asked : (words : List Text) → AskForRun words → (asked : Asked) → IsRunOf (text_given words) (word_given words) asked → IsAskedBy words asked
+pub run_asked : (words : List Text) → AskForRun words → (asked : Action) → IsRunOf (text_given words) (word_given words) asked → IsAskedBy words asked
 run_asked words run (Run options) is = (run, is)
 run_asked words run BadWeights is = (run.0, is)
 run_asked words run (Serve options) is = absurd is
@@ -283,7 +283,7 @@ run_asked words run (Help told) is = absurd is
 run_asked words run (Wrong told) is = absurd is
 
 -- what a server is asked of words that name it
-pub serve_asked : (words : List Text) → AskFor (codes "serve") words → (asked : Asked) → IsServeOf (text_given words) (word_given words) asked → IsAskedBy words asked
+pub serve_asked : (words : List Text) → AskFor (codes "serve") words → (asked : Action) → IsServeOf (text_given words) (word_given words) asked → IsAskedBy words asked
 serve_asked words serve (Serve options) is = (serve, is)
 serve_asked words serve BadWeights is = (serve.0, is)
 serve_asked words serve (Run options) is = absurd is

@@ -1,7 +1,7 @@
 pub mod WordsLemmas
 pub mod CommandLemmas
 pub mod WeightWords
-pub mod Whole
+pub mod OneTold
 pub mod Beginnings
 pub mod Obeyed
 pub mod Served

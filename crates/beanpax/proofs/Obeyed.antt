@@ -5,8 +5,8 @@ use Rattle.object.specs.declared.command.Key.{Key}
 use Rattle.bean_queue.specs.declared.op.Op.{Op}
 use Rattle.bean_queue.specs.declared.reply.Reply.{Reply}
 use Rattle.bean_queue.specs.Queue.{QueueState}
-use Rattle.session.specs.Items.{Answer}
-use Rattle.session.specs.Items.Answer.{Replied, Refused}
+use Rattle.session.specs.Items.{Response}
+use Rattle.session.specs.Items.Response.{Replied, Refused}
 use Rattle.session.specs.Serving.{Asks, Asked, Closes}
 use Rattle.simulated_hall.specs.OneClient.{Talk, Said, answered, next_obeyed, passed, waited, unless_said, longest_wait, next_key}
 use Rattle.beanpax.specs.Sessions.{queue, queue_with, AreAnswers, is_refused}
@@ -44,7 +44,7 @@ abbrev pub ClosesOf : {S : Type 0} → (S → Talk QueueState → Type 0) → (S
 ClosesOf stand stopped old result new = Leaves (stand old) (stand new) (stopped old new) result
 
 -- what was answered is what the queue answers
-pub are_answers : {S : Type 0} (stand : S → Talk QueueState → Type 0) (stopped : S → S → Op → Type 0) (old new : S) (ops : List Op) (answers : List Answer) (t : Talk QueueState) → Asked (AsksOf stand stopped) old ops answers new → stand old t → AreAnswers t ops answers
+pub are_answers : {S : Type 0} (stand : S → Talk QueueState → Type 0) (stopped : S → S → Op → Type 0) (old new : S) (ops : List Op) (answers : List Response) (t : Talk QueueState) → Asked (AsksOf stand stopped) old ops answers new → stand old t → AreAnswers t ops answers
 are_answers stand stopped old new [] [] t asked stands = tt
 are_answers stand stopped old new [] (a ∷ answers) t asked stands = absurd asked
 are_answers stand stopped old new (op ∷ ops) [] t asked stands = absurd asked
@@ -55,7 +55,7 @@ are_answers stand stopped old new (op ∷ ops) (Replied reply ∷ answers) t ask
     (one.0, are_answers stand stopped asked.0 new ops answers (answered queue t op).talk asked.2 one.1)
 
 -- and there is one answer to each operation, but that it may be refused
-pub one_answers : (t : Talk QueueState) (ops : List Op) (xs ys : List Answer) → AreAnswers t ops xs → AreAnswers t ops ys → map is_refused xs ≡ map is_refused ys → xs ≡ ys
+pub one_answers : (t : Talk QueueState) (ops : List Op) (xs ys : List Response) → AreAnswers t ops xs → AreAnswers t ops ys → map is_refused xs ≡ map is_refused ys → xs ≡ ys
 one_answers t [] [] [] a b same = refl
 one_answers t [] [] (y ∷ ys) a b same = absurd b
 one_answers t [] (x ∷ xs) ys a b same = absurd a

@@ -14,8 +14,8 @@ use Rattle.session.specs.Serving.{Whole, StopsAt, Partly, BreaksOff, Closes, Clo
 use Rattle.simulated_hall.specs.OneClient.{Talk, opened}
 use Rattle.beanpax.specs.Sessions.{queue}
 use Rattle.beanpax.specs.Told.{AreAnswersTold, BeginsTold}
-use Rattle.beanpax.specs.Runs.{Answers, BreaksOff as Breaks}
-use Rattle.beanpax.proofs.Whole.{HasFront, reads_as_items}
+use Rattle.beanpax.specs.Runs.{Answers, TellsBeginning}
+use Rattle.session.proofs.Whole.{HasFront, reads_as_items}
 use Rattle.beanpax.proofs.Beginnings.{told_begins, begins, begins_first}
 use Rattle.beanpax.proofs.Obeyed.{AsksOf, are_answers}
 
@@ -77,7 +77,7 @@ pub served_partly : {S : Type 0} (stand : S → Talk QueueState → Type 0) (sto
     ⊎ ((end : End) × ClosedAfter closes (λ s. Whole (AsksOf stand stopped) old s input output end) (Err ServiceFault.Stopped) new × Ended end)))
     → (r ≡ Err OutOfMemory → Over a b h k (λ input output. ClosedOnce closes (λ s. Partly (AsksOf stand stopped) old s input output) new
     ⊎ ((end : End) × ClosedAfter closes (λ s. Whole (AsksOf stand stopped) old s input output end) (Err ServiceFault.Refused) new × Ended end)))
-    → OnErr r (Breaks a b h k)
+    → OnErr r (TellsBeginning a b h k)
 served_partly stand stopped closes old new a b h k (Ok end) Ended front stands reading writing halted memory = tt
 served_partly stand stopped closes old new a b h k (Err ReadFailed) Ended front stands reading writing halted memory =
     over a b h k _ _ (λ input output w. told_begins_told input output End.Eof (whole stand stopped old w.1.0 input output End.Eof stands w.1.1)) (reading refl)
@@ -93,6 +93,6 @@ served_partly stand stopped closes old new a b h k (Err OutOfMemory) Ended front
     (λ last end w. told_begins_told input output end (whole stand stopped old last input output end stands w)) closes (Err ServiceFault.Refused) new Ended) (memory refl)
 
 -- nothing was read and nothing written
-pub nothing_served : {X E : Type 0} (r : Result X E) (a h : Option (List ℕ)) → ((text : List ℕ) → HasFront text) → OnErr r (Breaks a a h h)
+pub nothing_served : {X E : Type 0} (r : Result X E) (a h : Option (List ℕ)) → ((text : List ℕ) → HasFront text) → OnErr r (TellsBeginning a a h h)
 nothing_served (Ok x) a h front = tt
 nothing_served (Err e) a h front = ([], [], Consumes-nil a, Appends-nil h, nothing_begins front [])

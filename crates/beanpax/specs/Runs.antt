@@ -9,5 +9,5 @@ abbrev pub Answers : Option (List ℕ) → Option (List ℕ) → Option (List �
 Answers left rest held holds end = Over left rest held holds (λ input output. AreAnswersTold input output end)
 
 -- the reader gave an input, and the writer took a beginning of what the client is told for it
-abbrev pub BreaksOff : Option (List ℕ) → Option (List ℕ) → Option (List ℕ) → Option (List ℕ) → Type 0
-BreaksOff left rest held holds = Over left rest held holds BeginsTold
+abbrev pub TellsBeginning : Option (List ℕ) → Option (List ℕ) → Option (List ℕ) → Option (List ℕ) → Type 0
+TellsBeginning left rest held holds = Over left rest held holds BeginsTold

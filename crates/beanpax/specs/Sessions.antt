@@ -5,8 +5,8 @@ use Rattle.bean_queue.specs.declared.reply.Reply.{Reply}
 use Rattle.bean_queue.specs.Queue.{QueueState, fresh}
 use Rattle.bean_queue.specs.Effects.{effect}
 use Rattle.object.specs.Objects.{Rules}
-use Rattle.session.specs.Items.{Answer}
-use Rattle.session.specs.Items.Answer.{Replied, Refused}
+use Rattle.session.specs.Items.{Response}
+use Rattle.session.specs.Items.Response.{Replied, Refused}
 use Rattle.simulated_hall.specs.OneClient.{Talk, opened, answered}
 
 -- the queue, where this says which operations are one
@@ -19,7 +19,7 @@ queue = queue_with (λ a b. false)
 
 -- The operations were asked in turn and answered so, from here on: with what the queue replies, or refused, and then the
 -- queue never knew of them.
-abbrev pub AreAnswers : Talk QueueState → List Op → List Answer → Type 0
+abbrev pub AreAnswers : Talk QueueState → List Op → List Response → Type 0
 AreAnswers t [] [] = ⊤
 AreAnswers t [] (answer ∷ answers) = ⊥
 AreAnswers t (op ∷ ops) [] = ⊥
@@ -28,14 +28,14 @@ AreAnswers t (op ∷ ops) (Replied reply ∷ answers) =
 AreAnswers t (op ∷ ops) (Refused ∷ answers) = AreAnswers t ops answers
 
 -- a new queue answers so
-abbrev pub AreQueueAnswers : List Op → List Answer → Type 0
+abbrev pub AreQueueAnswers : List Op → List Response → Type 0
 AreQueueAnswers ops answers = AreAnswers (opened queue) ops answers
 
 -- a new queue answers so to some first operations
-abbrev pub AreFirstQueueAnswers : List Op → List Answer → Type 0
+abbrev pub AreFirstQueueAnswers : List Op → List Response → Type 0
 AreFirstQueueAnswers ops answers = (firsts rest : List Op) × (ops ≡ firsts ++ rest) × AreQueueAnswers firsts answers
 
 -- the operation was refused
-abbrev pub is_refused : Answer → Bool
+abbrev pub is_refused : Response → Bool
 is_refused (Replied reply) = false
 is_refused Refused = true

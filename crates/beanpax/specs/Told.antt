@@ -2,11 +2,11 @@
 use Rattle.std.specs.Prelude.{◌≡◌, ℕ, List, ◌++◌}
 use Rattle.bean_codec.specs.Grammar.{Item}
 use Rattle.session.specs.declared.faults.End.{End}
-use Rattle.session.specs.Items.{Answer, Reads, operations, told_text}
+use Rattle.session.specs.Items.{Response, Reads, operations, told_text}
 use Rattle.beanpax.specs.Sessions.{AreQueueAnswers, AreFirstQueueAnswers}
 
 -- one queue answers so to the operations of the input, the output is what the client is told then, and the session ends so
-abbrev pub IsToldWith : List Answer → List ℕ → List ℕ → End → Type 0
+abbrev pub IsToldWith : List Response → List ℕ → List ℕ → End → Type 0
 IsToldWith answers input output end =
     (items : List Item) ×
     Reads input items end ×
@@ -15,12 +15,12 @@ IsToldWith answers input output end =
 
 -- whichever operations were refused
 abbrev pub AreAnswersTold : List ℕ → List ℕ → End → Type 0
-AreAnswersTold input output end = (answers : List Answer) × IsToldWith answers input output end
+AreAnswersTold input output end = (answers : List Response) × IsToldWith answers input output end
 
 -- the output is a beginning of what the client is told for this input
 abbrev pub BeginsTold : List ℕ → List ℕ → Type 0
 BeginsTold input output =
-    (items : List Item) × (end : End) × (answers : List Answer) × (more : List ℕ) ×
+    (items : List Item) × (end : End) × (answers : List Response) × (more : List ℕ) ×
     Reads input items end ×
     AreFirstQueueAnswers (operations items) answers ×
     (output ++ more ≡ told_text items answers)

@@ -4,8 +4,8 @@ use Rattle.clap.specs.Words.{App, Rule, IsAmong, Kinds, fault_of, first_of, new_
 use Rattle.clap.specs.declared.builder.value_parser.ValueParser.TheVariants as parser
 use Rattle.clap.specs.declared.error.kind.ErrorKind.{ErrorKind}
 use Rattle.clap.specs.declared.error.kind.ErrorKind.TheVariants.{DisplayHelp}
-use Rattle.beanpax.specs.declared.words.Asked.{Asked}
-use Rattle.beanpax.specs.declared.words.Asked.TheVariants.{Run, Serve, Inspect, BadWeights, Help, Wrong}
+use Rattle.beanpax.specs.declared.words.Action.{Action}
+use Rattle.beanpax.specs.declared.words.Action.TheVariants.{Run, Serve, Inspect, BadWeights, Help, Wrong}
 use Rattle.beanpax.specs.declared.words.ServerOptions.{ServerOptions}
 use Rattle.beanpax.specs.Numbers.{IsNumberOr, IsNumberIfGiven}
 use Rattle.beanpax.specs.Weights.{AreMembersOf}
@@ -90,14 +90,14 @@ pub record IsServerOf (text word : List ℕ → Option (List ℕ)) (options : Se
   pub dump : option_map (λ file. file.now) options.dump ≡ word (codes "dump")
 
 -- a run, by the texts of its options, unless the weights are bad
-abbrev pub IsRunOf : (List ℕ → Option (List ℕ)) → (List ℕ → Option (List ℕ)) → Asked → Type 0
+abbrev pub IsRunOf : (List ℕ → Option (List ℕ)) → (List ℕ → Option (List ℕ)) → Action → Type 0
 IsRunOf text word (Run options) =
     AreMembersOf (text (codes "nodes")) (word (codes "weights")) (Some options.members) × IsNumberOr 0 0 (2 ^ 64 - 1) (text (codes "seed")) options.seed
 IsRunOf text word BadWeights = AreMembersOf (text (codes "nodes")) (word (codes "weights")) None
 IsRunOf text word _ = ⊥
 
 -- a server, by the texts of its options, unless the weights are bad
-abbrev pub IsServeOf : (List ℕ → Option (List ℕ)) → (List ℕ → Option (List ℕ)) → Asked → Type 0
+abbrev pub IsServeOf : (List ℕ → Option (List ℕ)) → (List ℕ → Option (List ℕ)) → Action → Type 0
 IsServeOf text word (Serve options) = IsServerOf text word options
 IsServeOf text word BadWeights = AreMembersOf (text (codes "nodes")) (word (codes "weights")) None
 IsServeOf text word _ = ⊥
@@ -135,7 +135,7 @@ abbrev pub HaveBadWeights : List (List ℕ) → Type 0
 HaveBadWeights words = (errors_in words ≡ []) × AreMembersOf (text_given words (codes "nodes")) (word_given words (codes "weights")) None
 
 -- this is what the words ask for; the help, and what is wrong with them, is some text
-abbrev pub IsAskedBy : List (List ℕ) → Asked → Type 0
+abbrev pub IsAskedBy : List (List ℕ) → Action → Type 0
 IsAskedBy words (Run options) = AskForRun words × IsRunOf (text_given words) (word_given words) (Run options)
 IsAskedBy words (Serve options) = AskForServer words options
 IsAskedBy words (Inspect file) = AskForInspection words file.now

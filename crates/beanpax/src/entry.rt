@@ -7,7 +7,7 @@ ghost use Rattle.beanpax.specs.declared.words.ServerOptions.{ServerOptions};
 ghost use Rattle.beanpax.specs.Faults.{fault_line_text};
 ghost use Rattle.beanpax.specs.Program.{EndsWith, HasListened, IsCaused, AnswersToSomeEnd, IsRunFault, TellsSome, WritesSome, WritesText};
 ghost use Rattle.beanpax.specs.Program.{BeginsToTell, IsWholeRun};
-ghost use Rattle.beanpax.specs.Runs.{BreaksOff};
+ghost use Rattle.beanpax.specs.Runs.{TellsBeginning};
 ghost use Rattle.beanpax.specs.declared.verdict.Verdict.{Verdict};
 ghost use Rattle.beanpax.specs.Verdicts.{is_legal};
 ghost use Rattle.beanpax.specs.Words.{AreWrong, HaveBadWeights, AskForHelp, AskForInspection, AskForRun, AskForServer};
@@ -18,7 +18,7 @@ use crate::inspecting::inspect_file;
 use crate::run::run_bytes_weighted;
 use crate::server::serve_tcp;
 use crate::verdict::Verdict;
-use crate::words::{Asked, RunOptions, parse_words};
+use crate::words::{Action, RunOptions, parse_words};
 use bean_codec::front_item;
 use session::{ByteIn, ByteOut, write_all};
 use std::alloc::{AllocError, Global};
@@ -85,34 +85,34 @@ pub fn program<H: Host, R: ByteIn, W: ByteOut, E: ByteOut>(
         → IsWholeRun (R.remaining input.old) (R.remaining input.new) (R.has_ended input.new)
         (W.contents output.old) (W.contents output.new) }
     ensures breaks_off { result ≡ FAULT → AskForRun (map string_bytes words.now)
-        → BreaksOff (R.remaining input.old) (R.remaining input.new)
+        → TellsBeginning (R.remaining input.old) (R.remaining input.new)
         (W.contents output.old) (W.contents output.new) }
     ensures unread { (AskForRun (map string_bytes words.now) → ⊥) → input.new ≡ input.old }
     ensures begins { (AskForRun (map string_bytes words.now) → ⊥)
         → BeginsToTell (map string_bytes words.now) (W.contents output.old) (W.contents output.new) }
 {
     match parse_words(rt.alloc(), words) {
-        Ok(Asked::Run(options)) => {
+        Ok(Action::Run(options)) => {
             let ended = run(rt.alloc(), &options, input, output);
             status_after(ended, errors)
         }
-        Ok(Asked::Serve(options)) => {
+        Ok(Action::Serve(options)) => {
             let ended = serve_tcp(rt, &options, output);
             status_after(ended, errors)
         }
-        Ok(Asked::Inspect { file }) => {
+        Ok(Action::Inspect { file }) => {
             let found = inspect_file(rt, file, output);
             status_of(found, errors)
         }
-        Ok(Asked::BadWeights) => {
+        Ok(Action::BadWeights) => {
             tell_error(BAD_WEIGHTS, errors);
             WRONG_WORDS
         }
-        Ok(Asked::Help(text)) => {
+        Ok(Action::Help(text)) => {
             let shown = show_help(text.as_str(), output);
             status_after(shown, errors)
         }
-        Ok(Asked::Wrong(text)) => {
+        Ok(Action::Wrong(text)) => {
             tell_error(text.as_str(), errors);
             WRONG_WORDS
         }
@@ -135,7 +135,7 @@ fn run<R: ByteIn, W: ByteOut>(
     ensures whole { OnOk result (IsWholeRun (R.remaining input.old) (R.remaining input.new)
         (R.has_ended input.new) (W.contents output.old) (W.contents output.new)) }
     ensures err { IfErr result (IsRunFault (R.has_failed input.new) (W.has_failed output.new)) }
-    ensures breaks_off { OnErr result (BreaksOff (R.remaining input.old) (R.remaining input.new)
+    ensures breaks_off { OnErr result (TellsBeginning (R.remaining input.old) (R.remaining input.new)
         (W.contents output.old) (W.contents output.new)) }
 {
     let weights = options.members.weights();

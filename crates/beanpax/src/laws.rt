@@ -7,7 +7,7 @@ ghost use Rattle.chronicle.specs.Checking.{IsFaultless, queue_rules};
 ghost use Rattle.hall.specs.Explained.{IsExplained};
 ghost use Rattle.hall.specs.Halls.{HallState, chronicle_of};
 ghost use Rattle.session.specs.declared.faults.End.{End};
-ghost use Rattle.session.specs.Items.{Answer};
+ghost use Rattle.session.specs.Items.{Response};
 ghost use Rattle.beanpax.specs.Sessions.{is_refused};
 ghost use Rattle.beanpax.specs.Told.{IsToldWith};
 ghost use Rattle.beanpax.specs.Verdicts.{IsVerdict};
@@ -18,8 +18,8 @@ use chronicle::{legal_is_faultless, one_bad_line, one_dump, one_fault};
 
 /// Every input has one transcript at most, but for which operations were refused for want of memory: what a client is
 /// told is a function of the bytes that it sent, and of that.
-pub fn one_transcript()
-    ensures unique { (input a b : List ℕ) (d e : End) (xs ys : List Answer)
+pub fn one_output()
+    ensures unique { (input a b : List ℕ) (d e : End) (xs ys : List Response)
         → IsToldWith xs input a d → IsToldWith ys input b e
         → map is_refused xs ≡ map is_refused ys → (a ≡ b) × (d ≡ e) }
 {

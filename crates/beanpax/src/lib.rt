@@ -22,10 +22,10 @@ pub use entry::{DONE, DUMP_REFUSED, FAULT, WRONG_WORDS, program};
 pub use faults::{ProgramFault, fault_line, fault_number};
 pub use host::{Host, no_sockets};
 pub use inspecting::inspect_text;
-pub use laws::{no_fault_in_a_dump, one_transcript, one_verdict};
+pub use laws::{no_fault_in_a_dump, one_output, one_verdict};
 pub use run::{run_bytes, run_bytes_weighted};
 pub use session::{
     ByteIn, ByteOut, End, Failed, Reading, SessionFault, Writing, memory, write_all,
 };
 pub use verdict::Verdict;
-pub use words::{Asked, ServerOptions, parse_words};
+pub use words::{Action, ServerOptions, parse_words};

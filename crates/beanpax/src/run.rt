@@ -2,7 +2,7 @@ ghost use Rattle.std.specs.Prelude.{◌≡◌, ◌≤◌, true, IfOk, OnErr};
 ghost use Rattle.std.specs.Io.KnownBytes.{IsAtEnd};
 ghost use Rattle.ballot.specs.Members.{IsMembers};
 ghost use Rattle.session.specs.declared.faults.End.{End};
-ghost use Rattle.beanpax.specs.Runs.{Answers, BreaksOff};
+ghost use Rattle.beanpax.specs.Runs.{Answers, TellsBeginning};
 
 use crate::simulation::Simulation;
 use ballot::Members;
@@ -25,7 +25,7 @@ pub fn run_bytes<R: ByteIn, W: ByteOut>(
     ensures nothing_left { IfOk result (λ end. end ≡ End.Eof → IsAtEnd (R.remaining reader.new)) }
     ensures ended { IfOk result (λ end. end ≡ End.Eof → R.has_ended reader.new ≡ true) }
 
-    ensures breaks_off { OnErr result (BreaksOff (R.remaining reader.old) (R.remaining reader.new)
+    ensures breaks_off { OnErr result (TellsBeginning (R.remaining reader.old) (R.remaining reader.new)
         (W.contents writer.old) (W.contents writer.new)) }
     ensures read_failed { result ≡ Err SessionFault.ReadFailed → R.has_failed reader.new ≡ true }
     ensures write_failed { result ≡ Err SessionFault.WriteFailed → W.has_failed writer.new ≡ true }
@@ -56,7 +56,7 @@ pub fn run_bytes_weighted<R: ByteIn, W: ByteOut>(
     ensures nothing_left { IfOk result (λ end. end ≡ End.Eof → IsAtEnd (R.remaining reader.new)) }
     ensures ended { IfOk result (λ end. end ≡ End.Eof → R.has_ended reader.new ≡ true) }
 
-    ensures breaks_off { OnErr result (BreaksOff (R.remaining reader.old) (R.remaining reader.new)
+    ensures breaks_off { OnErr result (TellsBeginning (R.remaining reader.old) (R.remaining reader.new)
         (W.contents writer.old) (W.contents writer.new)) }
     ensures read_failed { result ≡ Err SessionFault.ReadFailed → R.has_failed reader.new ≡ true }
     ensures write_failed { result ≡ Err SessionFault.WriteFailed → W.has_failed writer.new ≡ true }

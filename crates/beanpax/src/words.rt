@@ -32,7 +32,7 @@ const DEFAULT_WORKERS: u32 = 4;
 
 /// What the words of a command line ask for.
 #[derive(Drop)]
-pub enum Asked<'a> {
+pub enum Action<'a> {
     /// A run.
     Run(RunOptions),
     /// A server.
@@ -72,7 +72,7 @@ pub struct ServerOptions<'a> {
 }
 
 /// What the words ask for; the first is the program's name.
-pub fn parse_words<'a>(alloc: Global, words: &'a [String]) -> Result<Asked<'a>, AllocError>
+pub fn parse_words<'a>(alloc: Global, words: &'a [String]) -> Result<Action<'a>, AllocError>
     ensures { IfOk result (IsAskedBy (map string_bytes words.now)) }
 {
     match program_words(alloc)?.try_get_matches_from(words) {
@@ -85,7 +85,7 @@ pub fn parse_words<'a>(alloc: Global, words: &'a [String]) -> Result<Asked<'a>, 
             }
             // A command is required, and `help` is never matched.
             match matches.subcommand_matches("inspect") {
-                Some(inspect) => Ok(Asked::Inspect {
+                Some(inspect) => Ok(Action::Inspect {
                     file: file_of(inspect),
                 }),
                 None => unreachable!(),
@@ -93,8 +93,8 @@ pub fn parse_words<'a>(alloc: Global, words: &'a [String]) -> Result<Asked<'a>, 
         }
         Err(error) => match error.kind() {
             ErrorKind::OutOfMemory => Err(AllocError),
-            ErrorKind::DisplayHelp => Ok(Asked::Help(text_of(alloc, &error)?)),
-            _ => Ok(Asked::Wrong(text_of(alloc, &error)?)),
+            ErrorKind::DisplayHelp => Ok(Action::Help(text_of(alloc, &error)?)),
+            _ => Ok(Action::Wrong(text_of(alloc, &error)?)),
         },
     }
 }
@@ -111,28 +111,28 @@ fn text_of(alloc: Global, error: &Error) -> Result<String, AllocError>
 }
 
 // What the words ask of a run.
-fn run_of<'a>(alloc: Global, run: &ArgMatches<'a>) -> Result<Asked<'a>, AllocError>
+fn run_of<'a>(alloc: Global, run: &ArgMatches<'a>) -> Result<Action<'a>, AllocError>
     ensures { IfOk result
         (IsRunOf (one_text (found_of run.now)) (first_value (found_of run.now))) }
 {
     let Some(members) = members_of(alloc, run)? else {
-        return Ok(Asked::BadWeights);
+        return Ok(Action::BadWeights);
     };
-    Ok(Asked::Run(RunOptions {
+    Ok(Action::Run(RunOptions {
         members,
         seed: seed_of(run),
     }))
 }
 
 // What the words ask of a server.
-fn serve_of<'a>(alloc: Global, serve: &ArgMatches<'a>) -> Result<Asked<'a>, AllocError>
+fn serve_of<'a>(alloc: Global, serve: &ArgMatches<'a>) -> Result<Action<'a>, AllocError>
     ensures { IfOk result
         (IsServeOf (one_text (found_of serve.now)) (first_value (found_of serve.now))) }
 {
     let Some(members) = members_of(alloc, serve)? else {
-        return Ok(Asked::BadWeights);
+        return Ok(Action::BadWeights);
     };
-    Ok(Asked::Serve(server_of(members, serve)))
+    Ok(Action::Serve(server_of(members, serve)))
 }
 
 // The options of a server of these nodes.

@@ -16,9 +16,10 @@ use Rattle.bean_queue.specs.declared.op.Op.TheVariants.{Put, Use, Watch, Ignore,
 use Rattle.bean_queue.specs.declared.reply.Reply.{Reply}
 use Rattle.bean_queue.specs.declared.reply.Reply.TheVariants.{Inserted, Using, Watching, NotIgnored, Reserved, DeadlineSoon, TimedOut, Deleted, NotFound, Released, Buried, Touched, KickedCount, Kicked, Found, Tubes, Paused, InternalError}
 use Rattle.chronicle.specs.Acts.{op_words, act_words}
-use Rattle.chronicle.specs.Fits.{IsNumber, FitsAct, FitsReply}
+use Rattle.chronicle.specs.Fits.{FitsAct}
 use Rattle.chronicle.specs.Lines.{body_word}
 use Rattle.chronicle.specs.Replies.{reply_words}
+use Rattle.chronicle.specs.Values.{IsLong, IsReplyValue}
 use Rattle.chronicle.proofs.Words.{IsPlain, Plain, AllPlain, by_test}
 
 -- ---- numbers
@@ -27,7 +28,7 @@ use Rattle.chronicle.proofs.Words.{IsPlain, Plain, AllPlain, by_test}
 abbrev pub number : List ℕ → ℕ
 number word = digits_value 10 word
 
-pub number_back : (n : ℕ) → IsNumber n → number (decimal n) ≡ n
+pub number_back : (n : ℕ) → IsLong n → number (decimal n) ≡ n
 number_back n fits = (decimal_is_IsNumeral n fits).1
 
 digit_plain : (b : ℕ) → digit_value b < 10 → IsPlain b
@@ -40,7 +41,7 @@ digits_plain : (word : List ℕ) → AllDigits 10 word → Plain word
 digits_plain [] h = tt
 digits_plain (b ∷ word) h = (digit_plain b h.0, digits_plain word h.1)
 
-pub number_plain : (n : ℕ) → IsNumber n → Plain (decimal n)
+pub number_plain : (n : ℕ) → IsLong n → Plain (decimal n)
 number_plain n fits = digits_plain (decimal n) (decimal_is_IsNumeral n fits).0.1
 
 -- ---- names
@@ -227,7 +228,7 @@ abbrev pub reply : List (List ℕ) → Reply
 reply [] = NotFound
 reply (word ∷ more) = if bytes_eq word (codes "OK") then Tubes more else said_all word more
 
-pub reply_back : (r : Reply) → FitsReply r → reply (reply_words r) ≡ r
+pub reply_back : (r : Reply) → IsReplyValue r → reply (reply_words r) ≡ r
 unfolding reply_words
 reply_back (Inserted id) h = ap Inserted (number_back id h)
 reply_back (Using tube) h = refl
@@ -248,7 +249,7 @@ reply_back (Tubes names) h = refl
 reply_back Paused h = refl
 reply_back InternalError h = refl
 
-pub reply_plain : (r : Reply) → FitsReply r → AllPlain (reply_words r)
+pub reply_plain : (r : Reply) → IsReplyValue r → AllPlain (reply_words r)
 unfolding reply_words
 reply_plain (Inserted id) h = (by_test (codes "INSERTED") refl, (number_plain id h, tt))
 reply_plain (Using tube) h = (by_test (codes "USING") refl, (name_plain tube h, tt))

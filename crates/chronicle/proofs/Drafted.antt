@@ -11,8 +11,8 @@ use Rattle.object.specs.declared.command.Command.{Command}
 use Rattle.object.specs.declared.command.Key.{Key}
 use Rattle.bean_queue.specs.declared.op.Op.{Op}
 use Rattle.bean_queue.specs.declared.reply.Reply.{Reply}
-use Rattle.chronicle.specs.declared.draft.Draft.{Draft}
-use Rattle.chronicle.specs.declared.draft.Draft.TheVariants.{Start, Head, Counted, Happenings, Order, Whole}
+use Rattle.chronicle.specs.declared.draft.ChronicleDraft.{ChronicleDraft}
+use Rattle.chronicle.specs.declared.draft.ChronicleDraft.TheVariants.{Start, Head, Counted, Happenings, Order, Whole}
 use Rattle.chronicle.specs.declared.entry.Entry.{Entry}
 use Rattle.chronicle.specs.declared.entry.Entry.TheVariants.{Version, Members, Weights, Submitted, Answered, Placed, End}
 use Rattle.chronicle.specs.declared.version.Version.{Version as Form}
@@ -55,7 +55,7 @@ abbrev pub entries : Chronicle Op Reply → List Entry
 entries c = open_entries c ++ (End ∷ [])
 
 -- what was read so far
-abbrev pub taken : Draft → List Entry
+abbrev pub taken : ChronicleDraft → List Entry
 taken Start = []
 taken (Head v) = Version v ∷ []
 taken (Counted n) = Version Two ∷ Members n ∷ []
@@ -63,7 +63,7 @@ taken (Happenings c) = open_entries c
 taken (Order c) = open_entries c
 taken (Whole c) = entries c
 
-abbrev pub IsDraft : Draft → Type 0
+abbrev pub IsDraft : ChronicleDraft → Type 0
 IsDraft (Counted n) = (0 < n) × (n ≤ 7)
 IsDraft (Happenings c) = IsChronicleValue c × (c.order ≡ [])
 IsDraft (Order c) = IsChronicleValue c × (c.order ≢ [])
@@ -109,7 +109,7 @@ twos_begun n some =
 weights_begun : (n : ℕ) (ws : List ℕ) → length ws ≡ n → is_unweighted ws ≡ false → open_entries (begun ws) ≡ Version Two ∷ Members n ∷ Weights ws ∷ []
 weights_begun n ws long some = begun_entries Two ws (version_two ws some) ∙ ap (λ k. Version Two ∷ Members k ∷ Weights ws ∷ []) long
 
-pub next_draft : (d : Draft) (e : Entry) → IsDraft d → IsEntryValue e → IfSome (next d e) (λ f. IsDraft f × (taken f ≡ taken d ++ (e ∷ [])))
+pub next_draft : (d : ChronicleDraft) (e : Entry) → IsDraft d → IsEntryValue e → IfSome (next d e) (λ f. IsDraft f × (taken f ≡ taken d ++ (e ∷ [])))
 next_draft Start (Version form) d v = (tt, refl)
 next_draft (Head One) (Members n) d v = ((begun_value (replicate n 1) (ones_are n v.0 v.1), refl), ones_begun n)
 next_draft (Head Two) (Members n) d v = (v, refl)
@@ -131,7 +131,7 @@ next_draft _ _ d v = tt
 -- ---- what was read begins a chronicle
 
 -- a chronicle that begins so
-abbrev pub whole : Draft → Chronicle Op Reply
+abbrev pub whole : ChronicleDraft → Chronicle Op Reply
 whole Start = begun (1 ∷ [])
 whole (Head One) = begun (1 ∷ [])
 whole (Head Two) = begun (2 ∷ [])
@@ -140,7 +140,7 @@ whole (Happenings c) = c
 whole (Order c) = c
 whole (Whole c) = c
 
-abbrev left : Draft → List Entry
+abbrev left : ChronicleDraft → List Entry
 left Start = Version One ∷ Members 1 ∷ End ∷ []
 left (Head One) = Members 1 ∷ End ∷ []
 left (Head Two) = Members 1 ∷ Weights (2 ∷ []) ∷ End ∷ []
@@ -148,7 +148,7 @@ left (Counted n) = Weights (replicate n 2) ∷ End ∷ []
 left (Whole c) = []
 left _ = End ∷ []
 
-pub whole_value : (d : Draft) → IsDraft d → IsChronicleValue (whole d)
+pub whole_value : (d : ChronicleDraft) → IsDraft d → IsChronicleValue (whole d)
 whole_value Start h = begun_value (1 ∷ []) (ones_are 1 (omega arith) (omega arith))
 whole_value (Head One) h = begun_value (1 ∷ []) (ones_are 1 (omega arith) (omega arith))
 whole_value (Head Two) h = begun_value (2 ∷ []) (twos_are 1 (omega arith) (omega arith))
@@ -157,7 +157,7 @@ whole_value (Happenings c) h = h.0
 whole_value (Order c) h = h.0
 whole_value (Whole c) h = h
 
-pub whole_begins : (d : Draft) → IsDraft d → (more : List Entry) × (entries (whole d) ≡ taken d ++ more)
+pub whole_begins : (d : ChronicleDraft) → IsDraft d → (more : List Entry) × (entries (whole d) ≡ taken d ++ more)
 whole_begins Start h = (left Start, refl)
 whole_begins (Head One) h = (left (Head One), refl)
 whole_begins (Head Two) h = (left (Head Two), refl)
@@ -346,7 +346,7 @@ same_tail c b more same =
     one_tail (version_of c.members) (version_of b.members) c.members b.members (tail_entries c) ((map happened (happenings b.submitted b.answers) ++ map Placed b.order) ++ more)
     (sym (after_head c (End ∷ [])) ∙ same ∙ after_head b more)
 
-pub follows : (d : Draft) (e : Entry) (more : List Entry) (c : Chronicle Op Reply) → IsDraft d → entries c ≡ taken d ++ (e ∷ more) → next d e ≡ None → ⊥
+pub follows : (d : ChronicleDraft) (e : Entry) (more : List Entry) (c : Chronicle Op Reply) → IsDraft d → entries c ≡ taken d ++ (e ∷ more) → next d e ≡ None → ⊥
 follows Start e more c d same none = starts (version_of c.members) c.members (tail_entries c) e more (sym (after_head c (End ∷ [])) ∙ same) none
 follows (Head v) e more c d same none = counts v (version_of c.members) c.members (tail_entries c) e more (sym (after_head c (End ∷ [])) ∙ same) none
 follows (Counted n) e more c d same none = weighs (version_of c.members) c.members n (tail_entries c) e more refl (sym (after_head c (End ∷ [])) ∙ same) none
@@ -363,7 +363,7 @@ follows (Whole b) e more c d same none =
 
 -- ---- all lines of a chronicle were read
 
-abbrev pub IsWhole : Draft → Type 0
+abbrev pub IsWhole : ChronicleDraft → Type 0
 IsWhole (Whole c) = Unit {0}
 IsWhole _ = ⊥
 
@@ -392,7 +392,7 @@ two_read : (w : Form) (ws : List ℕ) (n : ℕ) (ts : List Entry) → head_entri
 two_read One ws n ts same = cc
 two_read Two ws n ts same = cc
 
-pub all_read : (d : Draft) (c : Chronicle Op Reply) → entries c ≡ taken d → IsWhole d
+pub all_read : (d : ChronicleDraft) (c : Chronicle Op Reply) → entries c ≡ taken d → IsWhole d
 all_read Start c same = absurd (none_read (version_of c.members) c.members (tail_entries c) (sym (after_head c (End ∷ [])) ∙ same))
 all_read (Head v) c same = absurd (one_read v (version_of c.members) c.members (tail_entries c) (sym (after_head c (End ∷ [])) ∙ same))
 all_read (Counted n) c same = absurd (two_read (version_of c.members) c.members n (tail_entries c) (sym (after_head c (End ∷ [])) ∙ same))

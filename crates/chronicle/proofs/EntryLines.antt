@@ -22,11 +22,11 @@ use Rattle.chronicle.specs.declared.version.Version.TheVariants.{One, Two}
 use Rattle.chronicle.specs.Acts.{op_words, act_words}
 use Rattle.chronicle.specs.Dump.{version_word, version_line, members_line, weights_line, submission_line, answer_line, order_line, end_line}
 use Rattle.chronicle.specs.Entries.{entry_line, IsEntryValue}
-use Rattle.chronicle.specs.Fits.{IsNumber, FitsAct, FitsReply}
+use Rattle.chronicle.specs.Fits.{FitsAct}
 use Rattle.chronicle.specs.Lines.{line, spaced, body_word}
 use Rattle.chronicle.specs.Replies.{reply_words}
-use Rattle.chronicle.specs.Told.{may_ask, submitted_of, entry_under, key_of, keyed_entry, version_of, members_of_words, are_weights, weighted, weights_of, entry_of_words}
-use Rattle.chronicle.specs.Values.{IsShort, IsKeyValue, IsActValue, IsReplyValue}
+use Rattle.chronicle.specs.Told.{may_ask, submitted_of, entry_under, key_of, keyed_entry, version_of_words, members_of_words, are_weights, weighted, weights_of, entry_of_words}
+use Rattle.chronicle.specs.Values.{IsShort, IsKeyValue, IsActValue, IsReplyValue, IsLong}
 use Rattle.chronicle.proofs.Back.{number_plain, act_plain, reply_plain}
 use Rattle.chronicle.proofs.Heads.{short_weights, weight_numbers, weights_plain}
 use Rattle.chronicle.proofs.Spelled.{AllSome, words_back}
@@ -69,7 +69,7 @@ line_is entry.End = refl
 
 -- ---- they are plain, and none is empty
 
-short_long : (n : ℕ) → IsShort n → IsNumber n
+short_long : (n : ℕ) → IsShort n → IsLong n
 short_long n h = omega arith
 
 act_fits : (a : Act Op) → IsActValue a → FitsAct a
@@ -96,7 +96,7 @@ act_fits (Do ListTubeUsed) h = tt
 act_fits (Do ListTubesWatched) h = tt
 act_fits (Do (Pause tube seconds)) h = (h.0, short_long seconds h.1)
 
-reply_fits : (r : Reply) → IsReplyValue r → FitsReply r
+reply_fits : (r : Reply) → IsReplyValue r → IsReplyValue r
 reply_fits (Inserted id) h = h
 reply_fits (Using tube) h = h
 reply_fits (Watching count) h = h
@@ -145,7 +145,7 @@ longer : (word : List ℕ) → 0 < length word → is_word word ≡ true
 longer [] h = absurd (omega arith)
 longer (b ∷ word) h = refl
 
-number_some : (n : ℕ) → IsNumber n → is_word (decimal n) ≡ true
+number_some : (n : ℕ) → IsLong n → is_word (decimal n) ≡ true
 number_some n h = longer (decimal n) (decimal_is_IsNumeral n h).0.0
 
 name_some : (name : List ℕ) → IsName name → is_word name ≡ true
@@ -185,7 +185,7 @@ act_some (Do ListTubeUsed) h = (refl, tt)
 act_some (Do ListTubesWatched) h = (refl, tt)
 act_some (Do (Pause tube seconds)) h = (refl, (name_some tube h.0, (number_some seconds h.1, tt)))
 
-reply_some : (r : Reply) → FitsReply r → AllSome (reply_words r)
+reply_some : (r : Reply) → IsReplyValue r → AllSome (reply_words r)
 unfolding reply_words
 reply_some (Inserted id) h = (refl, (number_some id h, tt))
 reply_some (Using tube) h = (refl, (name_some tube h, tt))
@@ -219,7 +219,7 @@ version_some : (v : Version) → is_word (version_word v) ≡ true
 version_some One = refl
 version_some Two = refl
 
-numbers_some : (ns : List ℕ) → AllByRecursion IsNumber ns → AllSome (map decimal ns)
+numbers_some : (ns : List ℕ) → AllByRecursion IsLong ns → AllSome (map decimal ns)
 numbers_some [] h = tt
 numbers_some (n ∷ ns) h = (number_some n h.0, numbers_some ns h.1)
 
@@ -264,8 +264,8 @@ placed_told : (key : Key) → entry_under (codes "O") key [] ≡ Some (entry.Pla
 unfolding entry_under
 placed_told key = refl
 
-version_told : (v : Version) → version_of (version_word v ∷ []) ≡ Some (entry.Version v)
-unfolding version_of
+version_told : (v : Version) → version_of_words (version_word v ∷ []) ≡ Some (entry.Version v)
+unfolding version_of_words
 version_told One = refl
 version_told Two = refl
 

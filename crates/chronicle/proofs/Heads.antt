@@ -8,8 +8,7 @@ use Rattle.ballot.specs.Members.{IsMembers, is_weight, is_unweighted}
 use Rattle.chronicle.specs.declared.version.Version.{Version}
 use Rattle.chronicle.specs.declared.version.Version.TheVariants.{One, Two}
 use Rattle.chronicle.specs.Dump.{version_of}
-use Rattle.chronicle.specs.Fits.{IsNumber}
-use Rattle.chronicle.specs.Values.{IsShort}
+use Rattle.chronicle.specs.Values.{IsShort, IsLong}
 use Rattle.chronicle.proofs.Back.{number_plain}
 use Rattle.chronicle.proofs.Words.{Plain, AllPlain}
 
@@ -84,13 +83,13 @@ each_weight P f (w ∷ ws) h =
 pub short_weights : (ws : List ℕ) → IsMembers ws → AllByRecursion IsShort ws
 short_weights ws h = each_weight IsShort (λ w most. omega (arith, most)) ws h.each
 
-pub weight_numbers : (ws : List ℕ) → IsMembers ws → AllByRecursion IsNumber ws
-weight_numbers ws h = each_weight IsNumber (λ w most. omega (arith, most)) ws h.each
+pub weight_numbers : (ws : List ℕ) → IsMembers ws → AllByRecursion IsLong ws
+weight_numbers ws h = each_weight IsLong (λ w most. omega (arith, most)) ws h.each
 
-pub count_number : (ws : List ℕ) → IsMembers ws → IsNumber (length ws)
+pub count_number : (ws : List ℕ) → IsMembers ws → IsLong (length ws)
 count_number ws h = let few = h.few in omega (arith, few)
 
-numbers_plain : (ns : List ℕ) → AllByRecursion IsNumber ns → AllPlain (map decimal ns)
+numbers_plain : (ns : List ℕ) → AllByRecursion IsLong ns → AllPlain (map decimal ns)
 numbers_plain [] h = tt
 numbers_plain (n ∷ ns) h = (number_plain n h.0, numbers_plain ns h.1)
 

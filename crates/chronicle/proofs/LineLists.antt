@@ -14,11 +14,12 @@ use Rattle.chronicle.specs.declared.version.Version.TheVariants.{One, Two}
 use Rattle.chronicle.specs.Acts.{act_words}
 use Rattle.chronicle.specs.Chronicles.{Chronicle}
 use Rattle.chronicle.specs.Dump.{submission_line, answer_line, order_line, happening_line, version_word, version_line, members_line, weights_line, version_of, head_of, head_lines, end_line, dump_text}
-use Rattle.chronicle.specs.Fits.{IsNumber, FitsKey, FitsCommand, FitsAnswer}
+use Rattle.chronicle.specs.Fits.{FitsKey, FitsCommand, FitsAnswer}
 use Rattle.chronicle.specs.Happenings.{Happening, happenings}
 use Rattle.chronicle.specs.Happenings.Happening.{Submitted, Answered}
 use Rattle.chronicle.specs.Lines.{line, spaced, text_of_lines}
 use Rattle.chronicle.specs.Replies.{reply_words}
+use Rattle.chronicle.specs.Values.{IsLong}
 use Rattle.chronicle.proofs.Back.{number, number_back, number_plain, act, act_back, act_plain, reply, reply_back, reply_plain}
 use Rattle.chronicle.proofs.Heads.{ones, one_unweighted, weight_numbers, weights_plain, count_number, count_plain}
 use Rattle.chronicle.proofs.ValueLists.{all_both}
@@ -200,7 +201,7 @@ weights [] = []
 weights (v ∷ []) = []
 weights (v ∷ m ∷ ls) = if bytes_eq (first_word v.1) (codes "1") then replicate (number (first_word m.1)) 1 else first_numbers ls
 
-numbers_back : (ns : List ℕ) → AllByRecursion IsNumber ns → map number (map decimal ns) ≡ ns
+numbers_back : (ns : List ℕ) → AllByRecursion IsLong ns → map number (map decimal ns) ≡ ns
 numbers_back [] h = refl
 numbers_back (n ∷ ns) h = ap₂ (λ m ms. m ∷ ms) (number_back n h.0) (numbers_back ns h.1)
 

@@ -6,8 +6,8 @@ use Rattle.std.specs.Prelude.{IfSome}
 use Rattle.bstr.specs.Find.{IsFirstByte, Nowhere, Passes, is_byte}
 use Rattle.bean_queue.specs.declared.op.Op.{Op}
 use Rattle.bean_queue.specs.declared.reply.Reply.{Reply}
-use Rattle.chronicle.specs.declared.draft.Draft.{Draft}
-use Rattle.chronicle.specs.declared.draft.Draft.TheVariants.{Start, Head, Counted, Happenings, Order, Whole}
+use Rattle.chronicle.specs.declared.draft.ChronicleDraft.{ChronicleDraft}
+use Rattle.chronicle.specs.declared.draft.ChronicleDraft.TheVariants.{Start, Head, Counted, Happenings, Order, Whole}
 use Rattle.chronicle.specs.declared.entry.Entry.{Entry}
 use Rattle.chronicle.specs.Chronicles.{Chronicle}
 use Rattle.chronicle.specs.Drafts.{next}
@@ -45,18 +45,18 @@ first_line e rest later line end value found is at =
 
 -- ---- none follows
 
-pub none_unread : (d : Draft) (rest line : List ℕ) (end : ℕ) → IsFirstByte (is_byte 10) rest (Some end) → line ≡ take (suc end) rest → Says line None → NoneFollows d rest
+pub none_unread : (d : ChronicleDraft) (rest line : List ℕ) (end : ℕ) → IsFirstByte (is_byte 10) rest (Some end) → line ≡ take (suc end) rest → Says line None → NoneFollows d rest
 none_unread d rest line end found is says e later value may at = says e value (first_line e rest later line end value found is at)
 
 same_entry : (e f : Entry) (line : List ℕ) → IsEntryValue e → IsEntryValue f → entry_line e ≡ line → entry_line f ≡ line → e ≡ f
 same_entry e f line h k same also = (one_front e f [] [] h k (ap (λ t. t ++ []) (same ∙ sym also))).0
 
-pub none_next : (d : Draft) (rest line : List ℕ) (end : ℕ) (f : Entry) → IsFirstByte (is_byte 10) rest (Some end) → line ≡ take (suc end) rest → Says line (Some f) → next d f ≡ None → NoneFollows d rest
+pub none_next : (d : ChronicleDraft) (rest line : List ℕ) (end : ℕ) (f : Entry) → IsFirstByte (is_byte 10) rest (Some end) → line ≡ take (suc end) rest → Says line (Some f) → next d f ≡ None → NoneFollows d rest
 none_next d rest line end f found is says none e later value may at =
     let same = same_entry e f line value says.1 (first_line e rest later line end value found is at) says.0 in
     may (ap (next d) same ∙ none)
 
-pub none_ended : (d : Draft) (rest : List ℕ) → IsFirstByte (is_byte 10) rest None → NoneFollows d rest
+pub none_ended : (d : ChronicleDraft) (rest : List ℕ) → IsFirstByte (is_byte 10) rest None → NoneFollows d rest
 none_ended d rest none e later value may at =
     let words = spelled e rest later at in
     none_left (said e) later (subst (λ (t : List ℕ). Nowhere (Passes (is_byte 10) t) 0 (length t)) words none)
@@ -64,7 +64,7 @@ none_ended d rest none e later value may at =
 -- ---- the lines so far
 
 -- the draft holds the lines before this one, and the rest of the text follows them
-pub record Reads (d : Draft) (text rest : List ℕ) (n : ℕ) : Type 0 where
+pub record Reads (d : ChronicleDraft) (text rest : List ℕ) (n : ℕ) : Type 0 where
   pub drafted : IsDraft d
   pub values : AllByRecursion IsEntryValue (taken d)
   pub cut : text ≡ text_of_lines (map entry_line (taken d)) ++ rest
@@ -77,7 +77,7 @@ value_last : (es : List Entry) (e : Entry) → AllByRecursion IsEntryValue es �
 value_last [] e h v = (v, tt)
 value_last (x ∷ es) e h v = (h.0, value_last es e h.1 v)
 
-pub read_start : (text : List ℕ) (d : Draft) → IsDraft d → taken d ≡ [] → Reads d text text 1
+pub read_start : (text : List ℕ) (d : ChronicleDraft) → IsDraft d → taken d ≡ [] → Reads d text text 1
 read_start text d h none = record {
   drafted = h;
   values = subst (AllByRecursion IsEntryValue) (sym none) tt;
@@ -85,7 +85,7 @@ read_start text d h none = record {
   number = ap (λ (es : List Entry). suc (length es)) (sym none);
 }
 
-grown : (d f : Draft) (e : Entry) (text rest line more : List ℕ) (n : ℕ) → Reads d text rest n → Says line (Some e) → rest ≡ line ++ more → IsDraft f × (taken f ≡ taken d ++ (e ∷ [])) → Reads f text more (n + 1)
+grown : (d f : ChronicleDraft) (e : Entry) (text rest line more : List ℕ) (n : ℕ) → Reads d text rest n → Says line (Some e) → rest ≡ line ++ more → IsDraft f × (taken f ≡ taken d ++ (e ∷ [])) → Reads f text more (n + 1)
 grown d f e text rest line more n r says cut h =
     let es = taken d in
     let whole = text_of_lines (map entry_line es) in
@@ -97,18 +97,18 @@ grown d f e text rest line more n r says cut h =
       number = let number = r.number in let long = ap (λ (t : List Entry). length t) h.1 in omega (arith, number, long, length-append es (e ∷ []));
     }
 
-pub read_on : (d f : Draft) (e : Entry) (text rest line more : List ℕ) (n : ℕ) → Reads d text rest n → Says line (Some e) → rest ≡ line ++ more → Some f ≡ next d e → Reads f text more (n + 1)
+pub read_on : (d f : ChronicleDraft) (e : Entry) (text rest line more : List ℕ) (n : ℕ) → Reads d text rest n → Says line (Some e) → rest ≡ line ++ more → Some f ≡ next d e → Reads f text more (n + 1)
 read_on d f e text rest line more n r says cut goes =
-    grown d f e text rest line more n r says cut (subst (λ (o : Option Draft). IfSome o (λ g. IsDraft g × (taken g ≡ taken d ++ (e ∷ [])))) (sym goes) (next_draft d e r.drafted says.1))
+    grown d f e text rest line more n r says cut (subst (λ (o : Option ChronicleDraft). IfSome o (λ g. IsDraft g × (taken g ≡ taken d ++ (e ∷ [])))) (sym goes) (next_draft d e r.drafted says.1))
 
 -- so many lines fit
-pub few_lines : (d : Draft) (text rest : List ℕ) (n : ℕ) → Reads d text rest n → n + n ≤ length text + 2
+pub few_lines : (d : ChronicleDraft) (text rest : List ℕ) (n : ℕ) → Reads d text rest n → n + n ≤ length text + 2
 few_lines d text rest n r =
     let number = r.number in
     let cut = ap length r.cut in
     omega (arith, number, cut, length-append (text_of_lines (map entry_line (taken d))) rest, lines_long (taken d))
 
-pub stop_here : (d : Draft) (text rest : List ℕ) (n : ℕ) → Reads d text rest n → NoneFollows d rest → (rest ≡ [] → IsWhole d → ⊥) → IsBadLine n text
+pub stop_here : (d : ChronicleDraft) (text rest : List ℕ) (n : ℕ) → Reads d text rest n → NoneFollows d rest → (rest ≡ [] → IsWhole d → ⊥) → IsBadLine n text
 stop_here d text rest n r none unended = bad_line d text rest n r.drafted r.values r.number r.cut none unended
 
 pub read_all : (c : Chronicle Op Reply) (text rest : List ℕ) (n : ℕ) → Reads (Whole c) text rest n → rest ≡ [] → dump_text c ≡ text
@@ -121,7 +121,7 @@ some_rest rest end found none =
     let empty = ap length none in
     omega arith
 
-pub whole_is : (d : Draft) → IsWhole d → ((c : Chronicle Op Reply) → d ≡ Whole c → ⊥) → ⊥
+pub whole_is : (d : ChronicleDraft) → IsWhole d → ((c : Chronicle Op Reply) → d ≡ Whole c → ⊥) → ⊥
 whole_is (Whole c) h other = other c refl
 whole_is Start h other = h
 whole_is (Head v) h other = h

@@ -7,7 +7,7 @@ use Rattle.object.specs.declared.command.Key.{Key}
 use Rattle.object.specs.declared.command.Submission.{Submission}
 use Rattle.bean_queue.specs.declared.op.Op.{Op}
 use Rattle.bean_queue.specs.declared.reply.Reply.{Reply}
-use Rattle.chronicle.specs.declared.draft.Draft.{Draft}
+use Rattle.chronicle.specs.declared.draft.ChronicleDraft.{ChronicleDraft}
 use Rattle.chronicle.specs.declared.entry.Entry.{Entry}
 use Rattle.chronicle.specs.declared.entry.Entry.TheVariants.{Placed, End}
 use Rattle.chronicle.specs.declared.version.Version.{Version}
@@ -173,10 +173,10 @@ unjoin (x ∷ xs) (y ∷ ys) rest h k same =
 -- ---- the bad line
 
 -- no line that may come next stands at the front of the rest
-abbrev pub NoneFollows : Draft → List ℕ → Type 0
+abbrev pub NoneFollows : ChronicleDraft → List ℕ → Type 0
 NoneFollows d rest = (e : Entry) (later : List ℕ) → IsEntryValue e → (next d e ≡ None → ⊥) → rest ≡ entry_line e ++ later → ⊥
 
-begins : (d : Draft) → IsDraft d → BeginsDump (map entry_line (taken d))
+begins : (d : ChronicleDraft) → IsDraft d → BeginsDump (map entry_line (taken d))
 begins d h =
     let left = whole_begins d h in
     record {
@@ -185,23 +185,23 @@ begins d h =
       begins = (map entry_line left.0, sym (lines_are (whole d)) ∙ ap (map entry_line) left.1 ∙ map_more (taken d) left.0);
     }
 
-stops : (d : Draft) (rest line later : List ℕ) → IsDraft d → AllByRecursion IsEntryValue (taken d) → NoneFollows d rest → rest ≡ line ++ later → BeginsDump (map entry_line (taken d) ++ (line ∷ [])) → ⊥
+stops : (d : ChronicleDraft) (rest line later : List ℕ) → IsDraft d → AllByRecursion IsEntryValue (taken d) → NoneFollows d rest → rest ≡ line ++ later → BeginsDump (map entry_line (taken d) ++ (line ∷ [])) → ⊥
 stops d rest line later h values none at b =
     let c = b.chronicle in
     let same : map entry_line (entries c) ≡ map entry_line (taken d) ++ (line ∷ b.begins.0) = lines_are c ∙ b.begins.1 ∙ append_assoc (map entry_line (taken d)) (line ∷ []) b.begins.0 in
     let r = unmap (entries c) (taken d) line b.begins.0 (entry_values c b.is_value) values same in
     none r.entry later r.value (follows d r.entry r.rest c h r.is) (at ∙ ap (λ l. l ++ later) (sym r.says))
 
-ended : (d : Draft) (c : Chronicle Op Reply) (rest : List ℕ) (later : List Entry) → IsDraft d → NoneFollows d rest → (rest ≡ [] → IsWhole d → ⊥) → entries c ≡ taken d ++ later → rest ≡ text_of_lines (map entry_line later) → AllByRecursion IsEntryValue later → ⊥
+ended : (d : ChronicleDraft) (c : Chronicle Op Reply) (rest : List ℕ) (later : List Entry) → IsDraft d → NoneFollows d rest → (rest ≡ [] → IsWhole d → ⊥) → entries c ≡ taken d ++ later → rest ≡ text_of_lines (map entry_line later) → AllByRecursion IsEntryValue later → ⊥
 ended d c rest [] h none unended same says values = unended says (all_read d c (same ∙ append-nil (taken d)))
 ended d c rest (e ∷ later) h none unended same says values = none e (text_of_lines (map entry_line later)) values.0 (follows d e later c h same) says
 
-unfinished : (d : Draft) (text rest : List ℕ) (c : Chronicle Op Reply) → IsDraft d → AllByRecursion IsEntryValue (taken d) → NoneFollows d rest → (rest ≡ [] → IsWhole d → ⊥) → text ≡ text_of_lines (map entry_line (taken d)) ++ rest → IsChronicleValue c → dump_text c ≡ text → ⊥
+unfinished : (d : ChronicleDraft) (text rest : List ℕ) (c : Chronicle Op Reply) → IsDraft d → AllByRecursion IsEntryValue (taken d) → NoneFollows d rest → (rest ≡ [] → IsWhole d → ⊥) → text ≡ text_of_lines (map entry_line (taken d)) ++ rest → IsChronicleValue c → dump_text c ≡ text → ⊥
 unfinished d text rest c h values none unended cut v same =
     let r = unjoin (entries c) (taken d) rest (entry_values c v) values (sym (entries_text c) ∙ same ∙ cut) in
     ended d c rest r.more h none unended r.is r.says r.values
 
-pub bad_line : (d : Draft) (text rest : List ℕ) (n : ℕ) → IsDraft d → AllByRecursion IsEntryValue (taken d) → n ≡ suc (length (taken d)) → text ≡ text_of_lines (map entry_line (taken d)) ++ rest → NoneFollows d rest → (rest ≡ [] → IsWhole d → ⊥) → IsBadLine n text
+pub bad_line : (d : ChronicleDraft) (text rest : List ℕ) (n : ℕ) → IsDraft d → AllByRecursion IsEntryValue (taken d) → n ≡ suc (length (taken d)) → text ≡ text_of_lines (map entry_line (taken d)) ++ rest → NoneFollows d rest → (rest ≡ [] → IsWhole d → ⊥) → IsBadLine n text
 bad_line d text rest n h values number cut none unended = record {
   before = map entry_line (taken d);
   rest = rest;

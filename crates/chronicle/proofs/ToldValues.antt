@@ -33,7 +33,7 @@ use Rattle.chronicle.specs.declared.entry.Entry.TheVariants as entry
 use Rattle.chronicle.specs.declared.version.Version.TheVariants.{One, Two}
 use Rattle.chronicle.specs.Entries.{IsEntryValue}
 use Rattle.chronicle.specs.Values.{IsShort, IsLong, IsKeyValue, IsOpValue, IsActValue, IsReplyValue}
-use Rattle.chronicle.specs.Told.{decoded, body_of, put_of, act_in, act_with, act_of, lone_reply, number_reply, reply_with, job_with, job_reply, names_after, other_reply, reply_of, may_ask, submitted_of, entry_under, key_of, keyed_entry, version_of, members_of_words, are_weights, weighted, numbers_after, weights_of, entry_of_words}
+use Rattle.chronicle.specs.Told.{decoded, body_of, put_of, act_in, act_with, act_of, lone_reply, number_reply, reply_with, job_with, job_reply, names_after, other_reply, reply_of, may_ask, submitted_of, entry_under, key_of, keyed_entry, version_of_words, members_of_words, are_weights, weighted, numbers_after, weights_of, entry_of_words}
 
 -- ---- steps
 
@@ -345,8 +345,8 @@ keyed_value letter (session ∷ number ∷ words) = bind (key_of session number)
 keyed_value letter [] = tt
 keyed_value letter (session ∷ []) = tt
 
-version_value : (words : List (List ℕ)) → IfSome (version_of words) IsEntryValue
-unfolding version_of
+version_value : (words : List (List ℕ)) → IfSome (version_of_words words) IsEntryValue
+unfolding version_of_words
 version_value [] = tt
 version_value (word ∷ words) =
     either (bytes_eq word (codes "1")) (Some (entry.Version One)) _ IsEntryValue tt (either (bytes_eq word (codes "2")) (Some (entry.Version Two)) None IsEntryValue tt tt)
@@ -381,7 +381,7 @@ pub entry_value : (words : List (List ℕ)) → IfSome (entry_of_words words) Is
 unfolding entry_of_words
 entry_value [] = tt
 entry_value (first ∷ words) =
-    either (bytes_eq first (codes "beanpax-dump")) (version_of words) _ IsEntryValue (version_value words)
+    either (bytes_eq first (codes "beanpax-dump")) (version_of_words words) _ IsEntryValue (version_value words)
     (either (bytes_eq first (codes "end")) (Some entry.End) _ IsEntryValue tt
     (either (bytes_eq first (codes "members")) (members_of_words words) _ IsEntryValue (members_value words)
     (either (bytes_eq first (codes "weights")) (weights_of words) (keyed_entry first words) IsEntryValue (weights_value words) (keyed_value first words))))

@@ -9,14 +9,13 @@ use Rattle.object.specs.declared.command.Submission.{Submission}
 use Rattle.bean_queue.specs.declared.op.Op.{Op}
 use Rattle.bean_queue.specs.declared.op.Op.TheVariants.{Put, Use, Watch, Ignore, Reserve, Delete, Touch, Release, Bury, Kick, KickJob, Peek, PeekReady, PeekDelayed, PeekBuried, ListTubes, ListTubeUsed, ListTubesWatched, Pause}
 use Rattle.bean_queue.specs.declared.reply.Reply.{Reply}
-use Rattle.bean_queue.specs.declared.reply.Reply.TheVariants.{Inserted, Using, Watching, NotIgnored, Reserved, DeadlineSoon, TimedOut, Deleted, NotFound, Released, Buried, Touched, KickedCount, Kicked, Found, Tubes, Paused, InternalError}
 use Rattle.chronicle.specs.Chronicles.{Chronicle}
 use Rattle.chronicle.specs.Dump.{dump_text}
-use Rattle.chronicle.specs.Fits.{FitsAct, FitsAnswer, FitsChronicle, FitsCommand, FitsKey, FitsOp, FitsReply, IsNumber}
-use Rattle.chronicle.specs.Values.{IsActValue, IsAnswerValue, IsChronicleValue, IsCommandValue, IsKeyValue, IsOpValue, IsReplyValue, IsShort}
+use Rattle.chronicle.specs.Fits.{FitsAct, FitsAnswer, FitsChronicle, FitsCommand, FitsKey, FitsOp}
+use Rattle.chronicle.specs.Values.{IsActValue, IsAnswerValue, IsChronicleValue, IsCommandValue, IsKeyValue, IsOpValue, IsShort, IsLong}
 use Rattle.chronicle.proofs.OneChronicle.{one_chronicle}
 
-short : (n : ℕ) → IsShort n → IsNumber n
+short : (n : ℕ) → IsShort n → IsLong n
 short n is = omega (arith, is)
 
 key_fits : (key : Key) → IsKeyValue key → FitsKey key
@@ -49,33 +48,13 @@ act_fits (Do op) is = op_fits op is
 act_fits Close is = tt
 act_fits Tick is = tt
 
-reply_fits : (reply : Reply) → IsReplyValue reply → FitsReply reply
-reply_fits (Inserted id) is = is
-reply_fits (Using tube) is = is
-reply_fits (Watching count) is = is
-reply_fits NotIgnored is = tt
-reply_fits (Reserved id body) is = is
-reply_fits DeadlineSoon is = tt
-reply_fits TimedOut is = tt
-reply_fits Deleted is = tt
-reply_fits NotFound is = tt
-reply_fits Released is = tt
-reply_fits Buried is = tt
-reply_fits Touched is = tt
-reply_fits (KickedCount count) is = is
-reply_fits Kicked is = tt
-reply_fits (Found id body) is = is
-reply_fits (Tubes names) is = is
-reply_fits Paused is = tt
-reply_fits InternalError is = tt
-
 submitted_fit : (submitted : List (Submission Op)) → AllByRecursion (λ (s : Submission Op). IsCommandValue s.command) submitted → AllByRecursion (λ (s : Submission Op). FitsCommand s.command) submitted
 submitted_fit [] is = tt
 submitted_fit (s ∷ more) is = ((key_fits s.command.key is.0.0, act_fits s.command.act is.0.1), submitted_fit more is.1)
 
 answers_fit : (answers : List (Answer Reply)) → AllByRecursion IsAnswerValue answers → AllByRecursion FitsAnswer answers
 answers_fit [] is = tt
-answers_fit (a ∷ more) is = ((key_fits a.to is.0.0, reply_fits a.reply is.0.1), answers_fit more is.1)
+answers_fit (a ∷ more) is = ((key_fits a.to is.0.0, is.0.1), answers_fit more is.1)
 
 order_fits : (order : List Key) → AllByRecursion IsKeyValue order → AllByRecursion FitsKey order
 order_fits [] is = tt

@@ -1,15 +1,15 @@
 -- A chronicle as it is read, line by line.
 use Rattle.std.specs.Prelude.{◌==◌, ◌&&◌, not, length, replicate, Option, Some, None, if◌then◌else◌}
 use Rattle.ballot.specs.Members.{is_unweighted}
-use Rattle.chronicle.specs.declared.draft.Draft.{Draft}
-use Rattle.chronicle.specs.declared.draft.Draft.TheVariants.{Start, Head, Counted, Happenings, Order, Whole}
+use Rattle.chronicle.specs.declared.draft.ChronicleDraft.{ChronicleDraft}
+use Rattle.chronicle.specs.declared.draft.ChronicleDraft.TheVariants.{Start, Head, Counted, Happenings, Order, Whole}
 use Rattle.chronicle.specs.declared.entry.Entry.{Entry}
 use Rattle.chronicle.specs.declared.entry.Entry.TheVariants.{Version, Members, Weights, Submitted, Answered, Placed, End}
 use Rattle.chronicle.specs.declared.version.Version.TheVariants.{One, Two}
 use Rattle.chronicle.specs.Growing.{begun, submitted_last, answered_last, placed_last}
 
 -- the draft with one line more, if this line may come next
-abbrev pub next : Draft → Entry → Option Draft
+abbrev pub next : ChronicleDraft → Entry → Option ChronicleDraft
 next Start (Version version) = Some (Head version)
 next (Head One) (Members count) = Some (Happenings (begun (replicate count 1)))
 next (Head Two) (Members count) = Some (Counted count)

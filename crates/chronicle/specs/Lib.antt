@@ -4,8 +4,9 @@ pub mod Lines
 pub mod Acts
 pub mod Replies
 pub mod Dump
-pub mod Fits
+pub mod Sizes
 pub mod Values
+pub mod Fits
 pub mod Entries
 pub mod Told
 pub mod Growing

@@ -166,9 +166,9 @@ keyed_entry letter (session ∷ number ∷ words) = do
 keyed_entry letter _ = None
 
 -- the version that the words tell
-unfoldable pub version_of : List (List ℕ) → Option Entry
-version_of [] = None
-version_of (word ∷ _) =
+unfoldable pub version_of_words : List (List ℕ) → Option Entry
+version_of_words [] = None
+version_of_words (word ∷ _) =
     if bytes_eq word (codes "1") then Some (entry.Version One)
     else if bytes_eq word (codes "2") then Some (entry.Version Two)
     else None
@@ -203,7 +203,7 @@ weights_of words = option_and_then weighted (numbers_after [] words)
 unfoldable pub entry_of_words : List (List ℕ) → Option Entry
 entry_of_words [] = None
 entry_of_words (first ∷ words) =
-    if bytes_eq first (codes "beanpax-dump") then version_of words
+    if bytes_eq first (codes "beanpax-dump") then version_of_words words
     else if bytes_eq first (codes "end") then Some entry.End
     else if bytes_eq first (codes "members") then members_of_words words
     else if bytes_eq first (codes "weights") then weights_of words

@@ -1,20 +1,19 @@
 -- What the values of a chronicle are, as their types keep them: numbers of 32 or 64 bits, names of tubes, bodies of bytes, and
 -- keys that may ask for their acts.
-use Rattle.std.specs.Prelude.{ℕ, ◌<◌, ◌^◌, ⊤, Some}
+use Rattle.std.specs.Prelude.{ℕ, ◌<◌, ◌^◌, ⊤}
 use Rattle.std.specs.List.{AllByRecursion}
 use Rattle.object.specs.Commands.{IsCommand}
 use Rattle.object.specs.declared.command.Act.{Act}
-use Rattle.object.specs.declared.command.Act.TheVariants.{Do}
 use Rattle.object.specs.declared.command.Answer.{Answer}
 use Rattle.object.specs.declared.command.Command.{Command}
 use Rattle.object.specs.declared.command.Key.{Key}
 use Rattle.object.specs.declared.command.Submission.{Submission}
 use Rattle.job_store.specs.Names.{IsName}
 use Rattle.bean_queue.specs.declared.op.Op.{Op}
-use Rattle.bean_queue.specs.declared.op.Op.TheVariants.{Put, Use, Watch, Ignore, Reserve, Delete, Touch, Release, Bury, Kick, KickJob, Peek, Pause}
 use Rattle.bean_queue.specs.declared.reply.Reply.{Reply}
 use Rattle.bean_queue.specs.declared.reply.Reply.TheVariants.{Inserted, Using, Watching, Reserved, KickedCount, Found, Tubes}
 use Rattle.chronicle.specs.Chronicles.{Chronicle, IsChronicle}
+use Rattle.chronicle.specs.Sizes.{HasKeySizes, HasOpSizes, HasActSizes}
 use Rattle.hex.specs.Hex.{IsBytes}
 
 -- it has 32 bits
@@ -26,27 +25,13 @@ abbrev pub IsLong : ℕ → Type 0
 IsLong n = n < 2 ^ 64
 
 abbrev pub IsKeyValue : Key → Type 0
-IsKeyValue key = IsShort key.session × IsLong key.number
+IsKeyValue key = HasKeySizes IsShort IsLong key
 
 abbrev pub IsOpValue : Op → Type 0
-IsOpValue (Put pri delay ttr body) = IsShort pri × IsShort delay × IsShort ttr × IsBytes body
-IsOpValue (Use tube) = IsName tube
-IsOpValue (Watch tube) = IsName tube
-IsOpValue (Ignore tube) = IsName tube
-IsOpValue (Reserve (Some seconds)) = IsShort seconds
-IsOpValue (Delete id) = IsLong id
-IsOpValue (Touch id) = IsLong id
-IsOpValue (Release id pri delay) = IsLong id × IsShort pri × IsShort delay
-IsOpValue (Bury id pri) = IsLong id × IsShort pri
-IsOpValue (Kick bound) = IsShort bound
-IsOpValue (KickJob id) = IsLong id
-IsOpValue (Peek id) = IsLong id
-IsOpValue (Pause tube seconds) = IsName tube × IsShort seconds
-IsOpValue _ = ⊤
+IsOpValue op = HasOpSizes IsShort IsLong op
 
 abbrev pub IsActValue : Act Op → Type 0
-IsActValue (Do op) = IsOpValue op
-IsActValue _ = ⊤
+IsActValue act = HasActSizes IsShort IsLong act
 
 abbrev pub IsReplyValue : Reply → Type 0
 IsReplyValue (Inserted id) = IsLong id

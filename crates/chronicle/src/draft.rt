@@ -11,7 +11,7 @@ use std::alloc::{AllocError, Global};
 
 /// A chronicle as it is read, line by line.
 #[derive(Drop)]
-pub enum Draft {
+pub enum ChronicleDraft {
     /// Nothing was read.
     Start,
     /// The first line was read: it has this version, and the count of members comes next.
@@ -26,37 +26,37 @@ pub enum Draft {
     Whole(Chronicle<Op, Reply>),
 }
 
-impl Draft {
+impl ChronicleDraft {
     /// The draft with one line more, if this line may come next.
-    pub fn next(self, alloc: Global, entry: Entry) -> Result<Option<Draft>, AllocError>
+    pub fn next(self, alloc: Global, entry: Entry) -> Result<Option<ChronicleDraft>, AllocError>
         requires { IsEntryValue entry }
         ensures { IfOk result (λ draft. draft ≡ next self entry) }
     {
         match self {
-            Draft::Start => Ok(after_nothing(entry)),
-            Draft::Head(version) => Ok(after_version(alloc, version, entry)),
-            Draft::Counted(count) => Ok(after_count(alloc, count, entry)),
-            Draft::Happenings(chronicle) => after_happening(chronicle, entry),
-            Draft::Order(chronicle) => after_place(chronicle, entry),
-            Draft::Whole(_) => Ok(None),
+            ChronicleDraft::Start => Ok(after_nothing(entry)),
+            ChronicleDraft::Head(version) => Ok(after_version(alloc, version, entry)),
+            ChronicleDraft::Counted(count) => Ok(after_count(alloc, count, entry)),
+            ChronicleDraft::Happenings(chronicle) => after_happening(chronicle, entry),
+            ChronicleDraft::Order(chronicle) => after_place(chronicle, entry),
+            ChronicleDraft::Whole(_) => Ok(None),
         }
     }
 }
 
 // The first line is the version.
-fn after_nothing(entry: Entry) -> Option<Draft>
-    ensures { result ≡ next Draft.Start entry }
+fn after_nothing(entry: Entry) -> Option<ChronicleDraft>
+    ensures { result ≡ next ChronicleDraft.Start entry }
 {
     match entry {
-        Entry::Version(version) => Some(Draft::Head(version)),
+        Entry::Version(version) => Some(ChronicleDraft::Head(version)),
         _ => None,
     }
 }
 
 // The second is the count of members. In version 1 each of them weighs 1.
-fn after_version(alloc: Global, version: Version, entry: Entry) -> Option<Draft>
+fn after_version(alloc: Global, version: Version, entry: Entry) -> Option<ChronicleDraft>
     requires { IsEntryValue entry }
-    ensures { result ≡ next (Draft.Head version) entry }
+    ensures { result ≡ next (ChronicleDraft.Head version) entry }
 {
     let Entry::Members(count) = entry else {
         return None;
@@ -64,21 +64,21 @@ fn after_version(alloc: Global, version: Version, entry: Entry) -> Option<Draft>
     match version {
         Version::One => {
             let members = Members::new(count)?;
-            Some(Draft::Happenings(Chronicle::begin(alloc, members)))
+            Some(ChronicleDraft::Happenings(Chronicle::begin(alloc, members)))
         }
-        Version::Two => Some(Draft::Counted(count)),
+        Version::Two => Some(ChronicleDraft::Counted(count)),
     }
 }
 
 // The third line of version 2 has a weight for each member, and not all of them are 1.
-fn after_count(alloc: Global, count: u8, entry: Entry) -> Option<Draft>
-    ensures { result ≡ next (Draft.Counted count) entry }
+fn after_count(alloc: Global, count: u8, entry: Entry) -> Option<ChronicleDraft>
+    ensures { result ≡ next (ChronicleDraft.Counted count) entry }
 {
     let Entry::Weights(members) = entry else {
         return None;
     };
     if members.count() == count && !members.is_unweighted() {
-        Some(Draft::Happenings(Chronicle::begin(alloc, members)))
+        Some(ChronicleDraft::Happenings(Chronicle::begin(alloc, members)))
     } else {
         None
     }
@@ -88,8 +88,8 @@ fn after_count(alloc: Global, count: u8, entry: Entry) -> Option<Draft>
 fn after_happening(
     mut chronicle: Chronicle<Op, Reply>,
     entry: Entry,
-) -> Result<Option<Draft>, AllocError>
-    ensures { IfOk result (λ draft. draft ≡ next (Draft.Happenings chronicle) entry) }
+) -> Result<Option<ChronicleDraft>, AllocError>
+    ensures { IfOk result (λ draft. draft ≡ next (ChronicleDraft.Happenings chronicle) entry) }
 {
     match entry {
         Entry::Version(_) | Entry::Members(_) | Entry::Weights(_) => return Ok(None),
@@ -97,26 +97,26 @@ fn after_happening(
         Entry::Answered(answer) => chronicle.answer(answer)?,
         Entry::Placed(key) => {
             chronicle.place(key)?;
-            return Ok(Some(Draft::Order(chronicle)));
+            return Ok(Some(ChronicleDraft::Order(chronicle)));
         }
-        Entry::End => return Ok(Some(Draft::Whole(chronicle))),
+        Entry::End => return Ok(Some(ChronicleDraft::Whole(chronicle))),
     }
-    Ok(Some(Draft::Happenings(chronicle)))
+    Ok(Some(ChronicleDraft::Happenings(chronicle)))
 }
 
 // After a command that counted comes another, or the end.
 fn after_place(
     mut chronicle: Chronicle<Op, Reply>,
     entry: Entry,
-) -> Result<Option<Draft>, AllocError>
-    ensures { IfOk result (λ draft. draft ≡ next (Draft.Order chronicle) entry) }
+) -> Result<Option<ChronicleDraft>, AllocError>
+    ensures { IfOk result (λ draft. draft ≡ next (ChronicleDraft.Order chronicle) entry) }
 {
     match entry {
         Entry::Placed(key) => {
             chronicle.place(key)?;
-            Ok(Some(Draft::Order(chronicle)))
+            Ok(Some(ChronicleDraft::Order(chronicle)))
         }
-        Entry::End => Ok(Some(Draft::Whole(chronicle))),
+        Entry::End => Ok(Some(ChronicleDraft::Whole(chronicle))),
         _ => Ok(None),
     }
 }

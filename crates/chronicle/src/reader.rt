@@ -4,7 +4,7 @@ ghost use Rattle.chronicle.specs.Values.{IsChronicleValue};
 ghost use Rattle.chronicle.specs.Faults.{IsReadFault};
 
 use crate::chronicle::Chronicle;
-use crate::draft::Draft;
+use crate::draft::ChronicleDraft;
 use crate::entry::read_entry;
 use crate::faults::ReadFault;
 use bean_queue::{Op, Reply};
@@ -17,7 +17,7 @@ pub fn read_text(alloc: Global, text: &[u8]) -> Result<Chronicle<Op, Reply>, Rea
     ensures value { IfOk result IsChronicleValue }
     ensures err { IfErr result (IsReadFault text.now) }
 {
-    let mut draft = Draft::Start;
+    let mut draft = ChronicleDraft::Start;
     let mut rest = text;
     let mut number = 1;
     while let Some(end) = rest.find_byte(b'\n') {
@@ -33,7 +33,7 @@ pub fn read_text(alloc: Global, text: &[u8]) -> Result<Chronicle<Op, Reply>, Rea
         number += 1;
     }
     match draft {
-        Draft::Whole(chronicle) if rest.is_empty() => Ok(chronicle),
+        ChronicleDraft::Whole(chronicle) if rest.is_empty() => Ok(chronicle),
         _ => Err(ReadFault::BadLine(number)),
     }
 }

@@ -3,7 +3,7 @@ ghost use Rattle.chronicle.specs.Told as told;
 
 use crate::entry::Entry;
 use crate::tell_acts::act_of;
-use crate::tell_head::{members_of_words, version_of, weights_of};
+use crate::tell_head::{members_of_words, version_of_words, weights_of};
 use crate::tell_replies::reply_of;
 use bean_codec::{Words, u32_of, u64_of};
 use bean_queue::Op;
@@ -19,7 +19,7 @@ pub fn entry_of_words(alloc: Global, mut words: Words<'_>) -> Result<Option<Entr
         return Ok(None);
     };
     if first == b"beanpax-dump".as_slice() {
-        return Ok(version_of(words));
+        return Ok(version_of_words(words));
     }
     if first == b"end".as_slice() {
         return Ok(Some(Entry::End));

@@ -8,9 +8,9 @@ use bean_codec::{Words, u32_of, u64_of};
 use std::alloc::{AllocError, Global};
 
 /// The version that the words tell.
-#[tactic(auto, unfolding(crate::specs::Told::version_of))]
-pub fn version_of(mut words: Words<'_>) -> Option<Entry>
-    ensures { result ≡ told.version_of words.entry }
+#[tactic(auto, unfolding(crate::specs::Told::version_of_words))]
+pub fn version_of_words(mut words: Words<'_>) -> Option<Entry>
+    ensures { result ≡ told.version_of_words words.entry }
 {
     let word = words.next()?;
     if word == b"1".as_slice() {

@@ -12,7 +12,7 @@ use Rattle.session.specs.declared.faults.ServiceFault.{ServiceFault}
 use Rattle.session.specs.declared.faults.ServiceFault.TheVariants.{Refused, Stopped}
 use Rattle.session.specs.declared.faults.SessionFault.{SessionFault}
 use Rattle.session.specs.declared.faults.SessionFault.TheVariants.{OutOfMemory, ReadFailed, WriteFailed, ServiceStopped}
-use Rattle.session.specs.Items.{Answer}
+use Rattle.session.specs.Items.{Response}
 use Rattle.session.specs.Serving.{Asked, result_of, Whole, StopsAt, Partly, BreaksOff, ClosedAfter, ClosedOnce, Over}
 use Rattle.node_threads.specs.Attending.{Attendance, Adds, TakesLeave, with_one}
 
@@ -56,7 +56,7 @@ module _ {Op Reply : Type 0} where
   ends_balance old (Err Stopped) new (inl is) = same_balances old new is
   ends_balance old (Err Stopped) new (inr is) = one_balances old new Close None is
 
-asked_balance : (old new : Attendance Op Reply) (ops : List Op) (answers : List Answer) → Asked Adds old ops answers new → Balances old new
+asked_balance : (old new : Attendance Op Reply) (ops : List Op) (answers : List Response) → Asked Adds old ops answers new → Balances old new
 asked_balance old new [] [] is = same_balances old new (sym is)
 asked_balance old new [] (x ∷ answers) is = absurd is
 asked_balance old new (op ∷ ops) [] is = absurd is

@@ -3,7 +3,7 @@ use Rattle.std.proofs.Common.{ℕ, List, [], ◌∷◌, Option, Result, Ok, Err,
 use Rattle.bean_queue.specs.declared.op.Op.{Op}
 use Rattle.session.specs.declared.faults.End.{End}
 use Rattle.session.specs.declared.faults.ServiceFault.{ServiceFault}
-use Rattle.session.specs.Items.{Answer, operations}
+use Rattle.session.specs.Items.{Response, operations}
 use Rattle.session.specs.Serving.{Asks, Asked, Closes, Whole, StopsAt, Partly, BreaksOff, ClosedAfter, ClosedOnce, Over}
 
 module _ {S T : Type 0} (seen : S → T) (asks : Asks T) (closes : Closes T) where
@@ -13,7 +13,7 @@ module _ {S T : Type 0} (seen : S → T) (asks : Asks T) (closes : Closes T) whe
   abbrev pub ClosesBy : Closes S
   ClosesBy old result new = closes (seen old) result (seen new)
 
-  pub asked : (old new : S) (ops : List Op) (answers : List Answer) → Asked AsksBy old ops answers new → Asked asks (seen old) ops answers (seen new)
+  pub asked : (old new : S) (ops : List Op) (answers : List Response) → Asked AsksBy old ops answers new → Asked asks (seen old) ops answers (seen new)
   asked old new [] [] a = ap seen a
   asked old new [] (x ∷ answers) a = absurd a
   asked old new (op ∷ ops) [] a = absurd a

@@ -34,12 +34,12 @@ impl Bell {
     pub(crate) fn wait<R: Wait>(&self, rt: &R, patience: &mut Patience, most: u32) {
         for _ in 0..patience.looks {
             if self.take() {
-                patience.paid(most);
+                patience.look_longer(most);
                 return;
             }
             yield_now();
         }
-        patience.failed();
+        patience.look_shorter();
         for _ in rt.forever() {
             if self.take() {
                 return;
@@ -69,12 +69,12 @@ impl Patience {
     }
 
     // A look found something.
-    fn paid(&mut self, most: u32) {
+    fn look_longer(&mut self, most: u32) {
         self.looks = self.looks.saturating_mul(2).min(most);
     }
 
     // None did.
-    fn failed(&mut self) {
+    fn look_shorter(&mut self) {
         self.looks = (self.looks / 2).max(FEWEST_LOOKS);
     }
 }

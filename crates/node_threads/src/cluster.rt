@@ -8,7 +8,7 @@ use crate::cluster_error::ClusterError;
 use crate::comparing::are_its_tickets;
 use crate::faults::{Faults, NoFaults};
 use crate::gate::Gate;
-use crate::places::Places;
+use crate::places::WaitingPlaces;
 use crate::shared::Shared;
 use crate::staff::{Common, Door, Finished, run_threads};
 use crate::tally::Tally;
@@ -122,7 +122,7 @@ pub fn run_cluster_faulty<
 // What a cluster takes memory for before it takes a client.
 #[derive(Drop)]
 struct Room<O: Object, A: Accept> {
-    places: Places,
+    places: WaitingPlaces,
     tickets: Vec<Vec<Ticket<O>>>,
     crew: Vec<JoinHandle<()>>,
     sender: Sender<(A::R, A::W), Global>,
@@ -141,7 +141,7 @@ impl<O: Object, A: Accept> Room<O, A> {
         let (sender, receiver) = crossbeam_channel::bounded(alloc, workers as usize)?;
         let nodes = hall.members().count();
         Ok(Room {
-            places: Places::new(alloc, nodes, workers)?,
+            places: WaitingPlaces::new(alloc, nodes, workers)?,
             tickets: Vec::with_capacity(alloc, workers as usize)?,
             crew: Vec::with_capacity(alloc, usize::from(nodes) + 1)?,
             sender,

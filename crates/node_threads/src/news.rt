@@ -1,6 +1,6 @@
 ghost use Rattle.std.specs.Prelude.{◌<◌, IfSome};
 
-use crate::places::Places;
+use crate::places::WaitingPlaces;
 use hall::Hall;
 use object::Object;
 
@@ -22,7 +22,7 @@ pub(crate) struct News {
 
 impl News {
     /// What there is in a hall where so many answers had been given before.
-    pub(crate) fn since<O: Object>(hall: &Hall<O>, answers: usize, places: &Places) -> News {
+    pub(crate) fn since<O: Object>(hall: &Hall<O>, answers: usize, places: &WaitingPlaces) -> News {
         let mut news = News::none();
         for node in 1..=hall.members().count() {
             if let Some(place) = place_of(node) {
@@ -66,7 +66,7 @@ impl News {
     }
 
     /// Tells the workers.
-    pub(crate) fn tell_workers(&self, places: &Places) {
+    pub(crate) fn tell_workers(&self, places: &WaitingPlaces) {
         if !self.has_answers {
             return;
         }
@@ -78,7 +78,7 @@ impl News {
     }
 
     /// Tells the nodes, but for one, where it is given.
-    pub(crate) fn tell_nodes(&self, places: &Places, but: Option<u8>) {
+    pub(crate) fn tell_nodes(&self, places: &WaitingPlaces, but: Option<u8>) {
         for node in 1..=MOST_NODES as u8 {
             if but != Some(node) && self.is_for(node) {
                 places.ring_node(node);
@@ -98,7 +98,7 @@ impl News {
     }
 
     // Whose client this answer was given to.
-    fn note_answer<O: Object>(&mut self, hall: &Hall<O>, index: usize, places: &Places) {
+    fn note_answer<O: Object>(&mut self, hall: &Hall<O>, index: usize, places: &WaitingPlaces) {
         let Some(key) = hall.answered_key(index) else {
             return;
         };

@@ -1,5 +1,5 @@
 ghost use Rattle.std.specs.Prelude.{◌≡◌, ◌<◌, ◌≤◌, IfOk, vec_len};
-ghost use Rattle.node_threads.specs.Rings.{node_after};
+ghost use Rattle.node_threads.specs.Rings.{node_after, node_at};
 
 use crate::bell::{Bell, Patience};
 use crate::turn::Watch;
@@ -20,7 +20,7 @@ const MANY_LOOKS: u32 = 1024;
 /// Where the threads wait: node n at place n - 1 of the nodes, worker k at place k - 1 of the workers. And whether all is
 /// over.
 #[derive(Drop)]
-pub(crate) struct Places {
+pub(crate) struct WaitingPlaces {
     nodes: Vec<Post>,
     workers: Vec<Seat>,
     has_helper: AtomicBool,
@@ -43,13 +43,13 @@ struct Seat {
     bell: Bell,
 }
 
-impl Places {
+impl WaitingPlaces {
     /// Places for so many nodes and workers.
-    pub(crate) fn new(alloc: Global, nodes: u8, workers: u32) -> Result<Places, AllocError>
+    pub(crate) fn new(alloc: Global, nodes: u8, workers: u32) -> Result<WaitingPlaces, AllocError>
         requires { 0 < nodes }
         ensures { IfOk result (λ places. vec_len places.nodes ≡ nodes) }
     {
-        Ok(Places {
+        Ok(WaitingPlaces {
             nodes: posts(alloc, nodes, workers as usize <= MOST_HELPERS)?,
             workers: seats(alloc, workers)?,
             has_helper: AtomicBool::new(false),
@@ -162,9 +162,11 @@ impl Places {
     }
 
     /// The node at which a second is handed in: second t at node 1 + t mod N of N nodes.
-    pub(crate) fn node_at(&self, second: u64) -> u8 {
-        let place = second % self.nodes.len().max(1) as u64;
-        u8::try_from(place).unwrap_or(0).saturating_add(1)
+    pub(crate) fn node_at(&self, second: u64) -> u8
+        ensures at { result ≡ node_at (vec_len self.now.nodes) second }
+    {
+        let place = second % self.nodes.len() as u64;
+        place as u8 + 1
     }
 
     /// Nodes and clock are to end.

@@ -1,9 +1,9 @@
 ghost use Rattle.std.specs.Prelude.{◌≡◌, ◌+◌, ◌<◌, ◌≤◌, [], ℕ, true, false, Some, IfOk, OnOk, OnErr, length, sum, vec_len};
 ghost use Rattle.hall.specs.declared.ticket.NotedAct.{NotedAct};
-ghost use Rattle.hall.specs.Halls.{with_nodes};
+ghost use Rattle.hall.specs.Halls.{after_tick, with_nodes};
 ghost use Rattle.hall.specs.Recorded.{asked};
 ghost use Rattle.hall.specs.Tickets.{new_ticket, last_command, last_noted, with_act, with_noted};
-ghost use Rattle.node_threads.specs.Rings.{node_after};
+ghost use Rattle.node_threads.specs.Rings.{node_after, node_at};
 
 mod helping;
 
@@ -11,7 +11,7 @@ use crate::bell::Patience;
 use crate::counted_hall::CountedHall;
 use crate::faults::Faults;
 use crate::gate::Gate;
-use crate::places::Places;
+use crate::places::WaitingPlaces;
 use hall::{Hall, HallError, Ticket};
 use object::{Act, Object};
 use std::alloc::{AllocError, Global};
@@ -26,7 +26,7 @@ const LOOKS_AT_LOCK: u32 = 16;
 #[derive(Drop)]
 pub struct Shared<O: Object, S: Ledger, C: Ledger> {
     hall: Mutex<CountedHall<O, S, C>>,
-    places: Places,
+    places: WaitingPlaces,
 }
 
 /// Where and when a worker handed in its client's last command.
@@ -43,7 +43,7 @@ impl<O: Object, S: Ledger, C: Ledger> Shared<O, S, C> {
     pub(crate) fn new(
         alloc: Global,
         hall: Hall<O>,
-        places: Places,
+        places: WaitingPlaces,
         sessions: Blank,
         commands: Blank,
     ) -> (Shared<O, S, C>, Share<S>, Share<C>)
@@ -153,8 +153,7 @@ impl<O: Object, S: Ledger, C: Ledger> Shared<O, S, C> {
 
     /// Hands in a second of the clock, at one node after the other, and tells everybody that it has passed.
     pub(crate) fn tick<R: Wait>(&self, rt: &R, second: u64) {
-        let node = self.places.node_at(second);
-        let _ = self.lock(rt).tick(second, node);
+        let _ = self.hand_in_second(&mut self.lock(rt), second);
         self.places.ring_all();
     }
 
@@ -178,6 +177,19 @@ impl<O: Object, S: Ledger, C: Ledger> Shared<O, S, C> {
     /// Whether they are.
     pub(crate) fn is_over(&self) -> bool {
         self.places.is_over()
+    }
+
+    // Hands in a second of the clock, at the node whose turn it is.
+    fn hand_in_second(
+        &self,
+        hall: &mut CountedHall<O, S, C>,
+        second: u64,
+    ) -> Result<(), HallError>
+        ensures ok { OnOk result (hall.new.hall ≡ after_tick O.rules hall.old.hall
+            (node_at (vec_len self.now.places.nodes) second) second) }
+        ensures err { OnErr result (hall.new.hall ≡ hall.old.hall) }
+    {
+        hall.tick(second, self.places.node_at(second))
     }
 
     // Looks once for the answer, and hands in again where a second has passed.

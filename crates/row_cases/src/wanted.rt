@@ -2,6 +2,7 @@
 use crate::quoted::bytes_of;
 use crate::values::count_of;
 use anyhow::{Context, Result};
+use bstr::ByteSlice;
 use std::alloc::Global;
 
 /// What is wanted of an output, and how much of it can be written.
@@ -11,6 +12,8 @@ pub struct Wanted {
     pub room: usize,
     /// How many bytes there are to be at least, where it isn't said which.
     least: Option<usize>,
+    /// What has to stand somewhere in it, where it isn't said what all of it is.
+    parts: Vec<Vec<u8>>,
     bytes: Vec<u8>,
 }
 
@@ -20,14 +23,19 @@ impl Wanted {
         Wanted {
             room: usize::MAX,
             least: None,
+            parts: Vec::new(alloc),
             bytes: Vec::new(alloc),
         }
     }
 
-    /// Reads a text such as `at least 21 bytes`, or quoted bytes that come after those that were wanted already.
+    /// Reads a text such as `at least 21 bytes` or `with "Usage"`, or quoted bytes that come after those that were wanted
+    /// already.
     pub fn read(&mut self, alloc: Global, text: &str) -> Result<()> {
-        match text.strip_prefix("at least ") {
-            Some(rest) => self.read_least(rest),
+        if let Some(rest) = text.strip_prefix("at least ") {
+            return self.read_least(rest);
+        }
+        match text.strip_prefix("with ") {
+            Some(rest) => Ok(self.parts.push(bytes_of(alloc, rest)?)?),
             None => add_bytes(alloc, &mut self.bytes, text),
         }
     }
@@ -40,10 +48,14 @@ impl Wanted {
 
     /// Whether these bytes are what is wanted.
     pub fn is(&self, bytes: &[u8]) -> bool {
-        match self.least {
-            Some(least) => self.bytes.is_empty() && bytes.len() >= least,
-            None => self.bytes.as_slice() == bytes,
+        if self.least.is_none() && self.parts.is_empty() {
+            return self.bytes.as_slice() == bytes;
         }
+        let has_parts = self
+            .parts
+            .iter()
+            .all(|part| bytes.contains_str(part.as_slice()));
+        self.bytes.is_empty() && has_parts && bytes.len() >= self.least.unwrap_or(0)
     }
 }
 

@@ -1,6 +1,10 @@
-//! What faults are called.
+//! What faults and refusals are called.
 use beanpax::{ProgramFault, fault_number};
+use hall::HallError;
+use leader::LeaderError;
+use slot_log::LearnError;
 use std::test::Fail;
+use world::WorldError;
 
 #[test]
 fn a_fault_is_told_by_its_name(rt: HostRuntime) -> Result<(), Fail> {
@@ -17,6 +21,47 @@ fn a_fault_is_told_by_its_name(rt: HostRuntime) -> Result<(), Fail> {
     for (fault, text) in faults {
         let number = fault_number(fault);
         let told = format!(in rt.alloc(); "{number} {fault}")?;
+        assert_eq!(rt; told.as_str(), text);
+    }
+    Ok(())
+}
+
+#[test]
+fn a_refusal_of_a_leader_or_a_log_is_told_by_its_name(rt: HostRuntime) -> Result<(), Fail> {
+    let clash = format!(in rt.alloc(); "{}", LearnError::Clash)?;
+    assert_eq!(rt; clash.as_str(), "clash");
+    let no_ballot_left = format!(in rt.alloc(); "{}", LeaderError::NoBallotLeft)?;
+    assert_eq!(rt; no_ballot_left.as_str(), "no ballot left");
+    Ok(())
+}
+
+#[test]
+fn a_refusal_of_a_hall_is_told_by_its_name(rt: HostRuntime) -> Result<(), Fail> {
+    let refusals = [
+        (HallError::OutOfMemory, "out of memory"),
+        (HallError::NoSuchNode, "no such node"),
+        (HallError::BadNumber, "bad number"),
+        (HallError::Full, "full"),
+        (HallError::Busy, "busy"),
+    ];
+    for (refusal, text) in refusals {
+        let told = format!(in rt.alloc(); "{refusal}")?;
+        assert_eq!(rt; told.as_str(), text);
+    }
+    Ok(())
+}
+
+#[test]
+fn a_refusal_of_a_world_is_told_by_its_name(rt: HostRuntime) -> Result<(), Fail> {
+    let refusals = [
+        (WorldError::OutOfMemory, "out of memory"),
+        (WorldError::NoSuchLetter, "no such letter"),
+        (WorldError::NoSuchNode, "no such node"),
+        (WorldError::BadNumber, "bad number"),
+        (WorldError::Full, "full"),
+    ];
+    for (refusal, text) in refusals {
+        let told = format!(in rt.alloc(); "{refusal}")?;
         assert_eq!(rt; told.as_str(), text);
     }
     Ok(())

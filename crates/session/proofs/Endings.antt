@@ -13,9 +13,9 @@ use Rattle.session.specs.declared.faults.ServiceFault.{ServiceFault}
 use Rattle.session.specs.declared.faults.SessionFault.{SessionFault}
 use Rattle.session.specs.declared.faults.SessionFault.TheVariants.{OutOfMemory, ReadFailed, WriteFailed, ServiceStopped}
 use Rattle.session.specs.Streams.{AppendsBeginning}
-use Rattle.session.specs.Items.{Answer, Reads, ReadsFirst, operations, told_text, answer_text}
+use Rattle.session.specs.Items.{Response, Reads, ReadsFirst, operations, told_text, answer_text}
 use Rattle.session.specs.Held.{Held, StandsBefore, FrontTakesRoom, ComesTo, Finds, nothing_held}
-use Rattle.session.specs.Serving.{Asks, Asked, Whole, StopsAt, Ending, Over, Shortage, longest_piece, result_of}
+use Rattle.session.specs.Serving.{Asks, Asked, Whole, StopsAt, Conversed, Over, Shortage, result_of}
 use Rattle.session.proofs.Items.{reads_one, operations-append, told_text-append}
 use Rattle.session.proofs.Going.{Going, asked_length, asked_one, goes_at_first, goes_finding, goes_reading, goes_sending, runs_short, breaks_off}
 
@@ -68,7 +68,7 @@ stops_at asks old now last turns input output t op one g = (
   all_told asks old now turns input output _ g,
 )
 
-pub goes_answered : {S : Type 0} (asks : Asks S) (old now last : S) (turns : ℕ) (input output : List ℕ) (t : Held) (op : Op) (answer : Answer) → asks now op (result_of answer) last → Going asks old now turns input output [] (ComesTo (Some (Do op)) t) → Going asks old last (turns + 1) input output (answer_text answer) (StandsBefore t)
+pub goes_answered : {S : Type 0} (asks : Asks S) (old now last : S) (turns : ℕ) (input output : List ℕ) (t : Held) (op : Op) (answer : Response) → asks now op (result_of answer) last → Going asks old now turns input output [] (ComesTo (Some (Do op)) t) → Going asks old last (turns + 1) input output (answer_text answer) (StandsBefore t)
 goes_answered asks old now last turns input output t op answer one g =
     let items = g.items ++ g.more in
     let many = as_many asks old now turns input output [] _ g in
@@ -96,7 +96,7 @@ abbrev pub Goes : {S : Type 0} → Asks S → S → S → ℕ → Option (List �
 Goes asks old now turns a b h k unsent P = Over a b h k (λ input output. Going asks old now turns input output unsent P)
 
 abbrev pub Ends : {S : Type 0} → Asks S → S → S → Option (List ℕ) → Option (List ℕ) → Option (List ℕ) → Option (List ℕ) → Result End SessionFault → Type 0
-Ends asks old now a b h k result = Over a b h k (λ input output. Ending asks old now input output result)
+Ends asks old now a b h k result = Over a b h k (λ input output. Conversed asks old now input output result)
 
 pub sets_out : {S : Type 0} (asks : Asks S) (s : S) (a h : Option (List ℕ)) → Goes asks s s 0 a a h h [] (StandsBefore nothing_held)
 sets_out asks s a h = ([], [], Consumes-nil a, Appends-nil h, goes_at_first asks s)
@@ -110,51 +110,42 @@ sends asks old now turns a b h k l unsent P sent g = (g.0, g.1 ++ unsent, g.2, A
 pub reads : {S : Type 0} (asks : Asks S) (old now : S) (turns : ℕ) (a b c h k : Option (List ℕ)) (bytes : List ℕ) (t s : Held) → 0 < length bytes → Consumes b c bytes → ((text : List ℕ) → StandsBefore t text → StandsBefore s (text ++ bytes)) → Goes asks old now turns a b h k [] (ComesTo None t) → Goes asks old now (turns + 1) a c h k [] (StandsBefore s)
 reads asks old now turns a b c h k bytes t s some read f g = (g.0 ++ bytes, g.1, Consumes-trans a b c g.0 bytes g.2 read, g.3, goes_reading asks old now turns (turns + 1) g.0 g.1 [] bytes (ComesTo None t) (StandsBefore s) (omega (arith, some)) (λ text l. f text l.0) g.4)
 
-pub answers : {S : Type 0} (asks : Asks S) (old now last : S) (turns : ℕ) (a b h k : Option (List ℕ)) (t : Held) (op : Op) (answer : Answer) → asks now op (result_of answer) last → Goes asks old now turns a b h k [] (ComesTo (Some (Do op)) t) → Goes asks old last (turns + 1) a b h k (answer_text answer) (StandsBefore t)
+pub answers : {S : Type 0} (asks : Asks S) (old now last : S) (turns : ℕ) (a b h k : Option (List ℕ)) (t : Held) (op : Op) (answer : Response) → asks now op (result_of answer) last → Goes asks old now turns a b h k [] (ComesTo (Some (Do op)) t) → Goes asks old last (turns + 1) a b h k (answer_text answer) (StandsBefore t)
 answers asks old now last turns a b h k t op answer one g = (g.0, g.1, g.2, g.3, goes_answered asks old now last turns g.0 g.1 t op answer one g.4)
 
 -- the text at which it stood begins with an item that takes memory
 pub ends_looking : {S : Type 0} (asks : Asks S) (old now : S) (turns : ℕ) (a b h k : Option (List ℕ)) (s : Held) (r : Result End SessionFault) → r ≡ Err OutOfMemory → ((text : List ℕ) → StandsBefore s text → FrontTakesRoom text) → Goes asks old now turns a b h k s.unsent (StandsBefore s) → Ends asks old now a b h k r
 ends_looking asks old now turns a b h k s r e room g =
-    (g.0, g.1, g.2, g.3, subst (Ending asks old now g.0 g.1) (sym e) (runs_short asks old now turns g.0 g.1 s.unsent (StandsBefore s) g.4 (Shortage.item (room g.4.rest g.4.left))))
+    (g.0, g.1, g.2, g.3, subst (Conversed asks old now g.0 g.1) (sym e) (runs_short asks old now turns g.0 g.1 s.unsent (StandsBefore s) g.4 (Shortage.item (room g.4.rest g.4.left))))
 
 -- so many turns were taken as can be counted
 pub ends_counting : {S : Type 0} (asks : Asks S) (old now : S) (turns : ℕ) (a b h k : Option (List ℕ)) (unsent : List ℕ) (P : List ℕ → Type 0) (r : Result End SessionFault) → r ≡ Err OutOfMemory → 2 ^ 64 ≤ turns + 1 → Goes asks old now turns a b h k unsent P → Ends asks old now a b h k r
 ends_counting asks old now turns a b h k unsent P r e many g =
-    (g.0, g.1, g.2, g.3, subst (Ending asks old now g.0 g.1) (sym e) (runs_short asks old now turns g.0 g.1 unsent P g.4 (Shortage.turns (let count = g.4.counted in omega (arith, count, many)))))
+    (g.0, g.1, g.2, g.3, subst (Conversed asks old now g.0 g.1) (sym e) (runs_short asks old now turns g.0 g.1 unsent P g.4 (Shortage.turns (let count = g.4.counted in omega (arith, count, many)))))
 
 pub ends_writing : {S : Type 0} (asks : Asks S) (old now : S) (turns : ℕ) (a b h k l : Option (List ℕ)) (unsent : List ℕ) (P : List ℕ → Type 0) (r : Result End SessionFault) → r ≡ Err WriteFailed → AppendsBeginning k l unsent → Goes asks old now turns a b h k unsent P → Ends asks old now a b h l r
 ends_writing asks old now turns a b h k l unsent P r e some g =
-    (g.0, g.1 ++ take some.0 unsent, g.2, Appends-trans h k l g.1 (take some.0 unsent) g.3 some.1, subst (Ending asks old now g.0 (g.1 ++ take some.0 unsent)) (sym e) (breaks_off asks old now turns g.0 g.1 unsent P some.0 g.4))
+    (g.0, g.1 ++ take some.0 unsent, g.2, Appends-trans h k l g.1 (take some.0 unsent) g.3 some.1, subst (Conversed asks old now g.0 (g.1 ++ take some.0 unsent)) (sym e) (breaks_off asks old now turns g.0 g.1 unsent P some.0 g.4))
 
 pub ends_eof : {S : Type 0} (asks : Asks S) (old now : S) (turns : ℕ) (a b c h k : Option (List ℕ)) (t : Held) (r : Result End SessionFault) → r ≡ Ok End.Eof → Consumes b c [] → Goes asks old now turns a b h k [] (ComesTo None t) → Ends asks old now a c h k r
 ends_eof asks old now turns a b c h k t r e read g =
-    (g.0, g.1, subst (Consumes a c) (append-nil g.0) (Consumes-trans a b c g.0 [] g.2 read), g.3, subst (Ending asks old now g.0 g.1) (sym e) (whole_eof asks old now turns g.0 g.1 t g.4))
+    (g.0, g.1, subst (Consumes a c) (append-nil g.0) (Consumes-trans a b c g.0 [] g.2 read), g.3, subst (Conversed asks old now g.0 g.1) (sym e) (whole_eof asks old now turns g.0 g.1 t g.4))
 
 pub ends_quit : {S : Type 0} (asks : Asks S) (old now : S) (turns : ℕ) (a b h k : Option (List ℕ)) (t : Held) → Goes asks old now turns a b h k [] (ComesTo (Some Quit) t) → Ends asks old now a b h k (Ok End.Quit)
 ends_quit asks old now turns a b h k t g = (g.0, g.1, g.2, g.3, whole_quit asks old now turns g.0 g.1 t g.4)
 
-pub ends_reading : {S : Type 0} (asks : Asks S) (old now : S) (turns : ℕ) (a b c h k : Option (List ℕ)) (t : Held) (fault : SessionFault) (Failed : Type 0) → ((fault ≡ OutOfMemory) × (bytes : List ℕ) × (0 < length bytes) × (length bytes ≤ longest_piece) × Consumes b c bytes) ⊎ ((fault ≡ ReadFailed) × Failed × Keeps b c) → Goes asks old now turns a b h k [] (ComesTo None t) → Ends asks old now a c h k (Err fault)
-unfolding goes_reading
-ends_reading asks old now turns a b c h k t fault Failed (inl lost) g =
-    let bytes = lost.1 in
-    let going = goes_reading asks old now turns turns g.0 g.1 [] bytes (ComesTo None t) (λ text. Unit {0}) (omega arith) (λ text l. tt) g.4 in (
-      g.0 ++ bytes,
-      g.1,
-      Consumes-trans a b c g.0 bytes g.2 lost.4,
-      g.3,
-      subst (λ f. Ending asks old now (g.0 ++ bytes) g.1 (Err f)) (sym lost.0)
-          (runs_short asks old now turns (g.0 ++ bytes) g.1 [] (λ text. Unit {0}) going (Shortage.piece g.4.rest bytes refl g.4.left.1 lost.2 lost.3)),
-    )
-ends_reading asks old now turns a b c h k t fault Failed (inr failed) g =
-    (g.0, g.1, Consumes-kept a b c g.0 g.2 failed.2, g.3, subst (λ f. Ending asks old now g.0 g.1 (Err f)) (sym failed.0) (whole_eof asks old now turns g.0 g.1 t g.4))
+pub ends_reading : {S X : Type 0} (asks : Asks S) (old now : S) (turns : ℕ) (gives : X → Option (List ℕ)) (a h k : Option (List ℕ)) (was next : X) (t : Held) (fault : SessionFault) (Failed : Type 0) → ((fault ≡ OutOfMemory) × (next ≡ was)) ⊎ ((fault ≡ ReadFailed) × Failed × Keeps (gives was) (gives next)) → Goes asks old now turns a (gives was) h k [] (ComesTo None t) → Ends asks old now a (gives next) h k (Err fault)
+ends_reading asks old now turns gives a h k was next t fault Failed (inl short) g =
+    (g.0, g.1, subst (λ r. Consumes a (gives r) g.0) (sym short.1) g.2, g.3, subst (λ f. Conversed asks old now g.0 g.1 (Err f)) (sym short.0) (runs_short asks old now turns g.0 g.1 [] (ComesTo None t) g.4 (Shortage.piece g.4.left.1)))
+ends_reading asks old now turns gives a h k was next t fault Failed (inr failed) g =
+    (g.0, g.1, Consumes-kept a (gives was) (gives next) g.0 g.2 failed.2, g.3, subst (λ f. Conversed asks old now g.0 g.1 (Err f)) (sym failed.0) (whole_eof asks old now turns g.0 g.1 t g.4))
 
-pub ends_answering : {S : Type 0} (asks : Asks S) (old now last : S) (turns : ℕ) (a b h k : Option (List ℕ)) (t : Held) (op : Op) (fault : SessionFault) → ((fault ≡ OutOfMemory) × (answer : Answer) × asks now op (result_of answer) last) ⊎ ((fault ≡ ServiceStopped) × asks now op (Err ServiceFault.Stopped) last) → Goes asks old now turns a b h k [] (ComesTo (Some (Do op)) t) → Ends asks old last a b h k (Err fault)
+pub ends_answering : {S : Type 0} (asks : Asks S) (old now last : S) (turns : ℕ) (a b h k : Option (List ℕ)) (t : Held) (op : Op) (fault : SessionFault) → ((fault ≡ OutOfMemory) × (answer : Response) × asks now op (result_of answer) last) ⊎ ((fault ≡ ServiceStopped) × asks now op (Err ServiceFault.Stopped) last) → Goes asks old now turns a b h k [] (ComesTo (Some (Do op)) t) → Ends asks old last a b h k (Err fault)
 unfolding goes_answered
 ends_answering asks old now last turns a b h k t op fault (inl lost) g =
-    (g.0, g.1, g.2, g.3, subst (λ f. Ending asks old last g.0 g.1 (Err f)) (sym lost.0) (runs_short asks old last (turns + 1) g.0 g.1 (answer_text lost.1) (StandsBefore t) (goes_answered asks old now last turns g.0 g.1 t op lost.1 lost.2 g.4) (Shortage.answer refl)))
+    (g.0, g.1, g.2, g.3, subst (λ f. Conversed asks old last g.0 g.1 (Err f)) (sym lost.0) (runs_short asks old last (turns + 1) g.0 g.1 (answer_text lost.1) (StandsBefore t) (goes_answered asks old now last turns g.0 g.1 t op lost.1 lost.2 g.4) (Shortage.answer refl)))
 ends_answering asks old now last turns a b h k t op fault (inr stopped) g =
-    (g.0, g.1, g.2, g.3, subst (λ f. Ending asks old last g.0 g.1 (Err f)) (sym stopped.0) (stops_at asks old now last turns g.0 g.1 t op stopped.1 g.4))
+    (g.0, g.1, g.2, g.3, subst (λ f. Conversed asks old last g.0 g.1 (Err f)) (sym stopped.0) (stops_at asks old now last turns g.0 g.1 t op stopped.1 g.4))
 
 -- whether it went wrong or not, a beginning of the text was written
 pub began : {X E : Type 0} (r : Result X E) (k l : Option (List ℕ)) (text : List ℕ) → OnOk r (Appends k l text) → OnErr r (AppendsBeginning k l text) → AppendsBeginning k l text

@@ -8,13 +8,13 @@ use Rattle.bean_codec.specs.Grammar.{Item}
 use Rattle.session.specs.declared.faults.ServiceFault.{ServiceFault}
 use Rattle.session.specs.declared.faults.SessionFault.{SessionFault}
 use Rattle.session.specs.declared.faults.SessionFault.TheVariants.{OutOfMemory, ServiceStopped}
-use Rattle.session.specs.Items.{Answer, ReadsFirst, operations, told_text}
+use Rattle.session.specs.Items.{Response, ReadsFirst, operations, told_text}
 use Rattle.session.specs.Held.{Held, StandsBefore, ComesTo, Finds, nothing_held, faulty}
 use Rattle.session.specs.Serving.{Asks, Asked, Shortage, RunsShort, Partly, BreaksOff, result_of}
 use Rattle.session.proofs.Items.{reads_more, operations_faulty, operations-append, told_text-append}
 
 -- an answer that could not be written down
-pub refuses : {X S : Type 0} (asks : Asks S) (old new : S) (op : Op) (answer : Answer) (r : Result X SessionFault) → IfErr r (λ f. f ≡ OutOfMemory) → asks old op (result_of answer) new → IfErr r (λ f. ((f ≡ OutOfMemory) × (a : Answer) × asks old op (result_of a) new) ⊎ ((f ≡ ServiceStopped) × asks old op (Err ServiceFault.Stopped) new))
+pub refuses : {X S : Type 0} (asks : Asks S) (old new : S) (op : Op) (answer : Response) (r : Result X SessionFault) → IfErr r (λ f. f ≡ OutOfMemory) → asks old op (result_of answer) new → IfErr r (λ f. ((f ≡ OutOfMemory) × (a : Response) × asks old op (result_of a) new) ⊎ ((f ≡ ServiceStopped) × asks old op (Err ServiceFault.Stopped) new))
 refuses asks old new op answer (Ok x) e a = tt
 refuses asks old new op answer (Err f) e a = inl (e, answer, a)
 
@@ -24,14 +24,14 @@ short_of P (Ok x) e p = tt
 short_of P (Err f) e p = subst P (sym e) p
 
 -- as many answers as operations
-pub asked_length : {S : Type 0} (asks : Asks S) (old new : S) (ops : List Op) (answers : List Answer) → Asked asks old ops answers new → length answers ≡ length ops
+pub asked_length : {S : Type 0} (asks : Asks S) (old new : S) (ops : List Op) (answers : List Response) → Asked asks old ops answers new → length answers ≡ length ops
 asked_length asks old new [] [] a = refl
 asked_length asks old new [] (x ∷ answers) a = absurd a
 asked_length asks old new (op ∷ ops) [] a = absurd a
 asked_length asks old new (op ∷ ops) (x ∷ answers) a = ap suc (asked_length asks a.0 new ops answers a.2)
 
 -- one ask more
-pub asked_one : {S : Type 0} (asks : Asks S) (old now new : S) (ops : List Op) (answers : List Answer) (op : Op) (answer : Answer) → Asked asks old ops answers now → asks now op (result_of answer) new → Asked asks old (ops ++ op ∷ []) (answers ++ answer ∷ []) new
+pub asked_one : {S : Type 0} (asks : Asks S) (old now new : S) (ops : List Op) (answers : List Response) (op : Op) (answer : Response) → Asked asks old ops answers now → asks now op (result_of answer) new → Asked asks old (ops ++ op ∷ []) (answers ++ answer ∷ []) new
 asked_one asks old now new [] [] op answer a one = (new, subst (λ s. asks s op (result_of answer) new) (sym a) one, refl)
 asked_one asks old now new [] (x ∷ answers) op answer a one = absurd a
 asked_one asks old now new (o ∷ ops) [] op answer a one = absurd a
@@ -42,7 +42,7 @@ asked_one asks old now new (o ∷ ops) (x ∷ answers) op answer a one = (a.0, a
 pub record Going {S : Type 0} (asks : Asks S) (old now : S) (turns : ℕ) (input output unsent : List ℕ) (IsLeft : List ℕ → Type 0) : Type 0 where
   pub items : List Item
   pub more : List Item
-  pub answers : List Answer
+  pub answers : List Response
   pub rest : List ℕ
   pub reads : ReadsFirst input (items ++ more) rest
   pub few : length (operations more) ≤ 1

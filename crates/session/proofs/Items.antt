@@ -5,7 +5,7 @@ use Rattle.bean_codec.specs.declared.request.Fault.{Fault}
 use Rattle.bean_codec.specs.declared.request.Request.TheVariants.{Do, Quit}
 use Rattle.bean_codec.specs.Grammar.{Item, Spells}
 use Rattle.bean_codec.specs.Replies.{fault_text}
-use Rattle.session.specs.Items.{Answer, ReadsFirst, is_quit, operations, told_text, answer_text}
+use Rattle.session.specs.Items.{Response, ReadsFirst, is_quit, operations, told_text, answer_text}
 use Rattle.session.specs.Held.{faulty}
 
 -- one item more
@@ -29,7 +29,7 @@ operations-append (Ok Quit ∷ is) js = operations-append is js
 operations-append (Err f ∷ is) js = operations-append is js
 
 -- with xs many answers xs operations, what is told comes one after the other
-pub told_text-append : (is js : List Item) (xs ys : List Answer) → length xs ≡ length (operations is) → told_text (is ++ js) (xs ++ ys) ≡ told_text is xs ++ told_text js ys
+pub told_text-append : (is js : List Item) (xs ys : List Response) → length xs ≡ length (operations is) → told_text (is ++ js) (xs ++ ys) ≡ told_text is xs ++ told_text js ys
 told_text-append [] js [] ys n = refl
 told_text-append [] js (a ∷ xs) ys n = absurd (omega (arith, n))
 told_text-append (Ok (Do op) ∷ is) js [] ys n = absurd (omega (arith, n))

@@ -35,9 +35,9 @@ if_err (Ok x) p = tt
 if_err (Err e) p = p
 
 -- a piece more
-pub stands_more : (s t : Held) (piece : List ℕ) → t ≡ record s { kept = s.kept ++ piece; read_len = 0 } → (text : List ℕ) → StandsBefore s text → StandsBefore t (text ++ piece)
+pub stands_more : (s t : Held) (piece : List ℕ) → t ≡ record s { kept = s.kept ++ piece; read_len = 0; capacity = t.capacity } → (text : List ℕ) → StandsBefore s text → StandsBefore t (text ++ piece)
 stands_more s t piece e text st =
-    subst (λ h. StandsBefore h (text ++ piece)) (sym e)
+    subst (λ (h : Held). StandsBefore h (text ++ piece)) (sym e)
     (st.0, fits_more s.want st.0 s.kept piece st.1, ap (λ u. u ++ piece) st.2 ∙ append_assoc st.0 s.kept piece)
 
 -- the faults in front of any text at which it stood are told, and it stands behind them
@@ -128,16 +128,16 @@ takes (Big n) kept item used c = omega arith
 pub still_front : (n : ℕ) (text more front new : List ℕ) → new ≡ text ++ more → n ≤ length text → take n text ≡ front → take n new ≡ front
 still_front n text more front new e within same = ap (take n) e ∙ (take-append-le n text more within ∙ same)
 
-comes_same : (found : Option Request) (want : Want) (kept a b t : List ℕ) (p q : Bool) (i j k l : ℕ) → ComesTo found (record { want = want; kept = kept; unsent = a; is_open = p; read_len = i; sent_len = j }) t → ComesTo found (record { want = want; kept = kept; unsent = b; is_open = q; read_len = k; sent_len = l }) t
-comes_same None want kept a b t p q i j k l c = c
-comes_same (Some request) want kept a b t p q i j k l c = c
+comes_same : (found : Option Request) (want : Want) (kept a b t : List ℕ) (p q : Bool) (i j k l m : ℕ) → ComesTo found (record { want = want; kept = kept; unsent = a; is_open = p; read_len = i; sent_len = j; capacity = 0 }) t → ComesTo found (record { want = want; kept = kept; unsent = b; is_open = q; read_len = k; sent_len = l; capacity = m }) t
+comes_same None want kept a b t p q i j k l m c = c
+comes_same (Some request) want kept a b t p q i j k l m c = c
 
 -- what is found where only a part of the text is unsent
-pub finds_unsent : (want next : Want) (kept rest text new : List ℕ) (sent start at : ℕ) (p q : Bool) (found : Option Request) → sent ≤ length text → ((t : List ℕ) → StandsBefore (holding want kept text) t → Finds (holding want kept text) (holding next rest new) t found)
-    → (t : List ℕ) → StandsBefore (record { want = want; kept = kept; unsent = drop sent text; is_open = p; read_len = start; sent_len = sent }) t → Finds (record { want = want; kept = kept; unsent = drop sent text; is_open = p; read_len = start; sent_len = sent }) (record { want = next; kept = rest; unsent = drop sent new; is_open = q; read_len = at; sent_len = sent }) t found
-finds_unsent want next kept rest text new sent start at p q found within finds t st =
+pub finds_unsent : (want next : Want) (kept rest text new : List ℕ) (sent start at room : ℕ) (p q : Bool) (found : Option Request) → sent ≤ length text → ((t : List ℕ) → StandsBefore (holding want kept text) t → Finds (holding want kept text) (holding next rest new) t found)
+    → (t : List ℕ) → StandsBefore (record { want = want; kept = kept; unsent = drop sent text; is_open = p; read_len = start; sent_len = sent; capacity = room }) t → Finds (record { want = want; kept = kept; unsent = drop sent text; is_open = p; read_len = start; sent_len = sent; capacity = room }) (record { want = next; kept = rest; unsent = drop sent new; is_open = q; read_len = at; sent_len = sent; capacity = room }) t found
+finds_unsent want next kept rest text new sent start at room p q found within finds t st =
     let f = finds t st in
-    (f.0, f.1, f.2, ap (drop sent) f.3 ∙ drop-append-le sent text (told_text (faulty f.0) []) within, comes_same found next rest new (drop sent new) f.1 false q 0 0 at sent f.4)
+    (f.0, f.1, f.2, ap (drop sent) f.3 ∙ drop-append-le sent text (told_text (faulty f.0) []) within, comes_same found next rest new (drop sent new) f.1 false q 0 0 at sent room f.4)
 
 -- bytes that may be kept, and perhaps a piece more
 pub keeps_more : (want : Want) (start : ℕ) (old new piece : List ℕ) (ok : Bool) → start ≤ length old → new ≡ (if ok then old ++ piece else old) → MayKeep want (drop start old) → MayKeep want (drop start new)

@@ -1,4 +1,4 @@
--- Every input has one transcript.
+-- Every text reads as items, in one way, and so has one transcript.
 use Rattle.std.proofs.Common.{◌≡◌, ◌⊎◌, inl, inr, ℕ, zero, suc, ◌≤◌, Bool, true, false, List, [], ◌∷◌, ◌++◌, MatchBool, length, take, drop, refl, sym, ap, ap₂, subst, ◌∙◌, length-append, length-take, length-drop, arith}
 use Rattle.std.proofs.lemmas.List.{take-append-drop}
 use Rattle.std.proofs.Math.Seq.{take-append_seam, drop-append_seam}
@@ -6,7 +6,7 @@ use Rattle.bean_codec.specs.Lines.{crlf}
 use Rattle.bean_codec.specs.Grammar.{Item, Spells}
 use Rattle.bean_codec.specs.Reads.{BeginsWith, BeginsWithNone}
 use Rattle.session.specs.declared.faults.End.{End}
-use Rattle.session.specs.Items.{Answer, Reads, IsTranscript, is_quit, told_text}
+use Rattle.session.specs.Items.{Response, Reads, IsTranscript, is_quit, told_text}
 
 -- the law of the front: a text begins with an item or with none
 abbrev pub HasFront : List ℕ → Type 0
@@ -69,10 +69,14 @@ reads_within front (suc bound) text within =
       | inr none ↦ ([], End.Eof, (none, refl))
     ]
 
--- every input has a transcript, whatever the answers
-pub has_transcript : ((text : List ℕ) → HasFront text) → (input : List ℕ) (answers : List Answer) → (output : List ℕ) × (end : End) × IsTranscript input answers output end
+-- every input reads as some items
+pub reads_as_items : ((text : List ℕ) → HasFront text) → (input : List ℕ) → (items : List Item) × (end : End) × Reads input items end
+reads_as_items front input = reads_within front (length input) input (omega arith)
+
+-- and so has a transcript, whatever the answers
+pub has_transcript : ((text : List ℕ) → HasFront text) → (input : List ℕ) (answers : List Response) → (output : List ℕ) × (end : End) × IsTranscript input answers output end
 has_transcript front input answers =
-    let r = reads_within front (length input) input (omega arith) in
+    let r = reads_as_items front input in
     (told_text r.0 answers, r.1, (r.0, r.2, refl))
 
 -- an item that is read stands at the front
@@ -87,7 +91,7 @@ same_rest f g x y same e =
     sym (drop-append_seam f x) ∙ ap₂ drop (ap (λ bytes. length bytes) same) e ∙ drop-append_seam g y
 
 -- two readings of one text are one
-one_reading : IsOneItem → (text : List ℕ) (is js : List Item) (d e : End) → Reads text is d → Reads text js e → (is ≡ js) × (d ≡ e)
+pub one_reading : IsOneItem → (text : List ℕ) (is js : List Item) (d e : End) → Reads text is d → Reads text js e → (is ≡ js) × (d ≡ e)
 one_reading one text [] [] d e r q = (refl, r.1 ∙ sym q.1)
 one_reading one text [] (j ∷ js) d e r q = absurd (stands text q.0 q.1 j q.2 q.3 r.0)
 one_reading one text (i ∷ is) [] d e r q = absurd (stands text r.0 r.1 i r.2 r.3 q.0)
@@ -104,10 +108,10 @@ one_reading one text (i ∷ is) (j ∷ js) d e r q =
     (ap₂ (λ k ks. k ∷ ks) fronts.1 tails.0, tails.1)
 
 -- two transcripts of one input are one
-pub one_transcript : IsOneItem → (input : List ℕ) (answers : List Answer) (a b : List ℕ) (d e : End) → IsTranscript input answers a d → IsTranscript input answers b e → (a ≡ b) × (d ≡ e)
+pub one_transcript : IsOneItem → (input : List ℕ) (answers : List Response) (a b : List ℕ) (d e : End) → IsTranscript input answers a d → IsTranscript input answers b e → (a ≡ b) × (d ≡ e)
 one_transcript one input answers a b d e r q =
     let same = one_reading one input r.0 q.0 d e r.1 q.1 in
     (r.2 ∙ ap (λ items. told_text items answers) same.0 ∙ sym q.2, same.1)
 
-pub any_cut : IsOneItem → (input other : List ℕ) (answers : List Answer) (a b : List ℕ) (d e : End) → input ≡ other → IsTranscript input answers a d → IsTranscript other answers b e → (a ≡ b) × (d ≡ e)
+pub any_cut : IsOneItem → (input other : List ℕ) (answers : List Response) (a b : List ℕ) (d e : End) → input ≡ other → IsTranscript input answers a d → IsTranscript other answers b e → (a ≡ b) × (d ≡ e)
 any_cut one input other answers a b d e same r q = one_transcript one input answers a b d e r (subst (λ i. IsTranscript i answers b e) (sym same) q)

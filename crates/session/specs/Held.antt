@@ -1,5 +1,5 @@
 -- What a session holds: of the bytes that it was fed, and of the text that it has yet to send.
-use Rattle.std.specs.Prelude.{◌≡◌, ℕ, ◌+◌, Bool, true, false, List, [], ◌++◌, length, map, Option, None, Some, Ok, Err}
+use Rattle.std.specs.Prelude.{◌≡◌, ◌≤◌, ℕ, ◌+◌, Bool, true, false, List, [], ◌++◌, length, map, Option, None, Some, Ok, Err}
 use Rattle.bean_codec.specs.declared.reader.Want.{Want}
 use Rattle.bean_codec.specs.declared.reader.Want.TheVariants.{Line}
 use Rattle.bean_codec.specs.declared.request.Fault.{Fault}
@@ -11,8 +11,9 @@ use Rattle.bean_codec.specs.Wants.{Fits}
 use Rattle.bean_codec.specs.Reads.{BeginsWithNone}
 use Rattle.session.specs.Items.{ReadsFirst, told_text}
 
--- what its reader waits for, the bytes that it keeps, the text not sent yet, and whether an ask is open; and how many bytes
--- lie before these in its two buffers, which were read or sent and not let go of yet
+-- what its reader waits for, the bytes that it keeps, the text not sent yet, and whether an ask is open; how many bytes lie
+-- before these in its two buffers, which were read or sent and not let go of yet; and how many bytes that of what it was fed
+-- has room for
 pub record Held : Type 0 where
   pub want : Want
   pub kept : List ℕ
@@ -20,6 +21,7 @@ pub record Held : Type 0 where
   pub is_open : Bool
   pub read_len : ℕ
   pub sent_len : ℕ
+  pub capacity : ℕ
 
 -- how many bytes its buffers have: that of what it was fed, and that of what it sends
 abbrev pub fed_buffer_len : Held → ℕ
@@ -28,9 +30,9 @@ fed_buffer_len s = s.read_len + length s.kept
 abbrev pub text_buffer_len : Held → ℕ
 text_buffer_len s = s.sent_len + length s.unsent
 
--- holding this and no more, with no ask open
+-- holding this and no more, with no ask open and no room
 abbrev pub holding : Want → List ℕ → List ℕ → Held
-holding want kept unsent = record { want = want; kept = kept; unsent = unsent; is_open = false; read_len = 0; sent_len = 0 }
+holding want kept unsent = record { want = want; kept = kept; unsent = unsent; is_open = false; read_len = 0; sent_len = 0; capacity = 0 }
 
 -- at first it has nothing
 abbrev pub nothing_held : Held
@@ -43,6 +45,10 @@ MayKeep want kept = (dropped : List ℕ) × Fits want dropped kept
 -- the session stands at the front of this text: it dropped a part of it, which its want fits, and keeps the others
 abbrev pub StandsBefore : Held → List ℕ → Type 0
 StandsBefore s text = (dropped : List ℕ) × Fits s.want dropped s.kept × (text ≡ dropped ++ s.kept)
+
+-- behind what it keeps it has room for so many bytes more, once what was read is let go of
+abbrev pub HasRoomFor : ℕ → Held → Type 0
+HasRoomFor len s = length s.kept + len ≤ s.capacity
 
 -- an operation waits for its answer
 abbrev pub is_asked : Option Request → Bool

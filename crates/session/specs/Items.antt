@@ -43,21 +43,21 @@ operations (Ok Quit ∷ items) = operations items
 operations (Err fault ∷ items) = operations items
 
 -- what a service answers to an operation: a reply, or that it was refused for want of memory
-pub data Answer : Type 0 where
-  Replied : Reply → Answer
-  Refused : Answer
+pub data Response : Type 0 where
+  Replied : Reply → Response
+  Refused : Response
 
 -- the line that answers a refused operation (protocol.txt of beanstalkd, "Protocol")
 unfoldable pub refused_text : List ℕ
 refused_text = line_text (codes "OUT_OF_MEMORY")
 
 -- the text of an answer
-abbrev pub answer_text : Answer → List ℕ
+abbrev pub answer_text : Response → List ℕ
 answer_text (Replied reply) = reply_text reply
 answer_text Refused = refused_text
 
 -- item by item: the next answer to an operation, the line of a fault, and nothing for quit
-abbrev pub told_text : List Item → List Answer → List ℕ
+abbrev pub told_text : List Item → List Response → List ℕ
 told_text [] answers = []
 told_text (Ok (Do op) ∷ items) [] = []
 told_text (Ok (Do op) ∷ items) (answer ∷ answers) = answer_text answer ++ told_text items answers
@@ -65,5 +65,5 @@ told_text (Ok Quit ∷ items) answers = told_text items answers
 told_text (Err fault ∷ items) answers = fault_text fault ++ told_text items answers
 
 -- the output is what the client is told for this input with these answers, and the session ends so
-abbrev pub IsTranscript : List ℕ → List Answer → List ℕ → End → Type 0
+abbrev pub IsTranscript : List ℕ → List Response → List ℕ → End → Type 0
 IsTranscript input answers output end = (items : List Item) × Reads input items end × (output ≡ told_text items answers)

@@ -11,8 +11,8 @@ use Rattle.session.specs.declared.faults.SessionFault.{SessionFault}
 use Rattle.session.specs.declared.faults.SessionFault.TheVariants.{OutOfMemory, ReadFailed, WriteFailed, ServiceStopped}
 use Rattle.bean_codec.specs.Reads.{BeginsWithNone}
 use Rattle.session.specs.Held.{FrontTakesRoom}
-use Rattle.session.specs.Items.{Answer, Reads, ReadsFirst, operations, told_text}
-use Rattle.session.specs.Items.Answer.{Replied, Refused}
+use Rattle.session.specs.Items.{Response, Reads, ReadsFirst, operations, told_text}
+use Rattle.session.specs.Items.Response.{Replied, Refused}
 
 -- a service by its asks: it before, the operation, its result, and it after
 abbrev pub Asks : Type 0 → Type 1
@@ -23,12 +23,12 @@ abbrev pub Closes : Type 0 → Type 1
 Closes S = S → Result Unit ServiceFault → S → Type 0
 
 -- the result that is this answer
-abbrev pub result_of : Answer → Result Reply ServiceFault
+abbrev pub result_of : Response → Result Reply ServiceFault
 result_of (Replied reply) = Ok reply
 result_of Refused = Err ServiceFault.Refused
 
 -- the service was asked these operations in turn, and answered so
-abbrev pub Asked : {S : Type 0} → Asks S → S → List Op → List Answer → S → Type 0
+abbrev pub Asked : {S : Type 0} → Asks S → S → List Op → List Response → S → Type 0
 Asked asks old [] [] new = old ≡ new
 Asked asks old [] (answer ∷ answers) new = ⊥
 Asked asks old (op ∷ ops) [] new = ⊥
@@ -38,7 +38,7 @@ Asked asks old (op ∷ ops) (answer ∷ answers) new = (next : _) × asks old op
 abbrev pub Whole : {S : Type 0} → Asks S → S → S → List ℕ → List ℕ → End → Type 0
 Whole asks old new input output end =
     (items : List Item) ×
-    (answers : List Answer) ×
+    (answers : List Response) ×
     Reads input items end ×
     Asked asks old (operations items) answers new ×
     (output ≡ told_text items answers)
@@ -47,7 +47,7 @@ Whole asks old new input output end =
 abbrev pub StopsAt : {S : Type 0} → Asks S → S → S → List ℕ → List ℕ → Type 0
 StopsAt asks old new input output =
     (items : List Item) ×
-    (answers : List Answer) ×
+    (answers : List Response) ×
     (op : Op) ×
     (rest : List ℕ) ×
     (last : _) ×
@@ -60,7 +60,7 @@ StopsAt asks old new input output =
 abbrev pub Partly : {S : Type 0} → Asks S → S → S → List ℕ → List ℕ → Type 0
 Partly asks old new input output =
     (items more : List Item) ×
-    (answers : List Answer) ×
+    (answers : List Response) ×
     (rest : List ℕ) ×
     ReadsFirst input (items ++ more) rest ×
     (length (operations more) ≤ 1) ×
@@ -72,19 +72,19 @@ abbrev pub longest_piece : ℕ
 longest_piece = 4096
 
 -- memory was short, behind items of which these are not told yet, and in front of this rest: for the next item; for the
--- answer to the last operation; or for a last piece, before which no item was left. Or the bytes that were read and the
--- answers are 2^64 - 1 or more
+-- answer to the last operation; or for the next piece, where no item is left. Or the bytes that were read and the answers
+-- are 2^64 - 1 or more
 pub data Shortage (more : List Item) (rest : List ℕ) (count : ℕ) : Type 0 where
   item : FrontTakesRoom rest → Shortage more rest count
   answer : length (operations more) ≡ 1 → Shortage more rest count
-  piece : (seen bytes : List ℕ) → rest ≡ seen ++ bytes → BeginsWithNone seen → 0 < length bytes → length bytes ≤ longest_piece → Shortage more rest count
+  piece : BeginsWithNone rest → Shortage more rest count
   turns : 2 ^ 64 ≤ count + 1 → Shortage more rest count
 
 -- the same as Partly, and memory was refused there
 abbrev pub RunsShort : {S : Type 0} → Asks S → S → S → List ℕ → List ℕ → Type 0
 RunsShort asks old new input output =
     (items more : List Item) ×
-    (answers : List Answer) ×
+    (answers : List Response) ×
     (rest : List ℕ) ×
     ReadsFirst input (items ++ more) rest ×
     (length (operations more) ≤ 1) ×
@@ -97,7 +97,7 @@ RunsShort asks old new input output =
 abbrev pub BreaksOff : {S : Type 0} → Asks S → S → S → List ℕ → List ℕ → Type 0
 BreaksOff asks old new input output =
     (items more : List Item) ×
-    (answers : List Answer) ×
+    (answers : List Response) ×
     (rest part left : List ℕ) ×
     ReadsFirst input (items ++ more) rest ×
     (length (operations more) ≤ 1) ×
@@ -106,12 +106,12 @@ BreaksOff asks old new input output =
     (output ++ left ≡ told_text (items ++ more) answers)
 
 -- how a session ended before it closed the service
-abbrev pub Ending : {S : Type 0} → Asks S → S → S → List ℕ → List ℕ → Result End SessionFault → Type 0
-Ending asks old new input output (Ok end) = Whole asks old new input output end
-Ending asks old new input output (Err OutOfMemory) = RunsShort asks old new input output
-Ending asks old new input output (Err ReadFailed) = Whole asks old new input output End.Eof
-Ending asks old new input output (Err WriteFailed) = BreaksOff asks old new input output
-Ending asks old new input output (Err ServiceStopped) = StopsAt asks old new input output
+abbrev pub Conversed : {S : Type 0} → Asks S → S → S → List ℕ → List ℕ → Result End SessionFault → Type 0
+Conversed asks old new input output (Ok end) = Whole asks old new input output end
+Conversed asks old new input output (Err OutOfMemory) = RunsShort asks old new input output
+Conversed asks old new input output (Err ReadFailed) = Whole asks old new input output End.Eof
+Conversed asks old new input output (Err WriteFailed) = BreaksOff asks old new input output
+Conversed asks old new input output (Err ServiceStopped) = StopsAt asks old new input output
 
 -- of the service as it then stood this is so, and then it was closed, with this result
 abbrev pub ClosedAfter : {S : Type 0} → Closes S → (S → Type 0) → Result Unit ServiceFault → S → Type 0

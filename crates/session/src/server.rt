@@ -1,9 +1,9 @@
 ghost use Rattle.std.specs.Prelude.{◌≡◌, ◌<◌, ◌≤◌, ◌⊎◌, ◌++◌, ℕ, List, [], true, false, Ok, Err, length, IfOk, IfErr, OnOk, OnErr};
 ghost use Rattle.std.specs.Io.KnownBytes.{Appends, Consumes, IsAtEnd, Keeps};
 ghost use Rattle.session.specs.Streams.{AppendsBeginning};
-ghost use Rattle.session.specs.Items.{Answer, answer_text};
+ghost use Rattle.session.specs.Items.{Response, answer_text};
 ghost use Rattle.session.specs.Held.{StandsBefore};
-ghost use Rattle.session.specs.Serving.{Over, Ending, Whole, StopsAt, Partly, RunsShort, BreaksOff, longest_piece, ClosedAfter, ClosedOnce, result_of};
+ghost use Rattle.session.specs.Serving.{Over, Conversed, Whole, StopsAt, Partly, RunsShort, BreaksOff, longest_piece, ClosedAfter, ClosedOnce, result_of};
 
 use crate::faults::{End, ServiceFault, SessionFault};
 use crate::service::Service;
@@ -35,7 +35,7 @@ fn send<W: ByteOut>(session: &mut Session, writer: &mut W) -> Result<(), Failed>
 // Asks the service, and takes down what it answers.
 fn answer<S: Service>(session: &mut Session, service: &mut S, op: Op) -> Result<(), SessionFault>
     requires { session.old.is_open ≡ true }
-    ensures ok { OnOk result ((answer : Answer)
+    ensures ok { OnOk result ((answer : Response)
         × S.asks service.old op (result_of answer) service.new
         × (session.new
         ≡ record session.old {
@@ -43,7 +43,7 @@ fn answer<S: Service>(session: &mut Session, service: &mut S, op: Op) -> Result<
           is_open = false;
         })) }
     ensures err { IfErr result (λ fault.
-        ((fault ≡ SessionFault.OutOfMemory) × (answer : Answer)
+        ((fault ≡ SessionFault.OutOfMemory) × (answer : Response)
         × S.asks service.old op (result_of answer) service.new)
         ⊎ ((fault ≡ SessionFault.ServiceStopped)
         × S.asks service.old op (Err ServiceFault.Stopped) service.new)) }
@@ -56,7 +56,7 @@ fn answer<S: Service>(session: &mut Session, service: &mut S, op: Op) -> Result<
     Ok(())
 }
 
-// Reads a piece for the session. It answers false at the end.
+// Reads a piece for the session, which has room for it by then. It answers false at the end.
 fn read_piece<R: ByteIn>(
     reader: &mut R,
     piece: &mut [u8],
@@ -73,20 +73,21 @@ fn read_piece<R: ByteIn>(
         → (R.has_ended reader.new ≡ true) × IsAtEnd (R.remaining reader.new)
         × Consumes (R.remaining reader.old) (R.remaining reader.new) []) }
     ensures err { IfErr result (λ fault.
-        ((fault ≡ SessionFault.OutOfMemory) × (bytes : List ℕ) × (0 < length bytes)
-        × (length bytes ≤ longest_piece)
-        × Consumes (R.remaining reader.old) (R.remaining reader.new) bytes)
+        ((fault ≡ SessionFault.OutOfMemory) × (reader.new ≡ reader.old))
         ⊎ ((fault ≡ SessionFault.ReadFailed) × (R.has_failed reader.new ≡ true)
         × Keeps (R.remaining reader.old) (R.remaining reader.new))) }
     ensures goes_on { IfOk result (λ some. some ≡ true
         → R.has_ended reader.new ≡ R.has_ended reader.old) }
     ensures not_ended { OnErr result (R.has_ended reader.new ≡ R.has_ended reader.old) }
 {
+    session.make_room(piece.len())?;
     let n = reader.read(piece).map_err(|_| SessionFault::ReadFailed)?;
     if n == 0 {
         return Ok(false);
     }
-    session.feed(&piece[..n])?;
+    let Ok(()) = session.feed(&piece[..n]) else {
+        unreachable!()
+    };
     Ok(true)
 }
 
@@ -99,7 +100,7 @@ fn converse<R: ByteIn, W: ByteOut, S: Service>(
 ) -> Result<End, SessionFault>
     ensures run { Over (R.remaining reader.old) (R.remaining reader.new) (W.contents writer.old)
         (W.contents writer.new)
-        (λ input output. Ending S.asks service.old service.new input output result) }
+        (λ input output. Conversed S.asks service.old service.new input output result) }
     ensures ended { IfOk result (λ end. end ≡ End.Eof → R.has_ended reader.new ≡ true) }
     ensures nothing_left { IfOk result (λ end. end ≡ End.Eof → IsAtEnd (R.remaining reader.new)) }
     ensures read_failed { IfErr result (λ fault. fault ≡ SessionFault.ReadFailed

@@ -1,8 +1,8 @@
-ghost use Rattle.std.specs.Prelude.{◌≡◌, ◌<◌, ◌≤◌, ◌+◌, ◌++◌, ℕ, List, true, false, None, length, take, drop, vec_len, IfOk, OnOk, OnErr};
+ghost use Rattle.std.specs.Prelude.{◌≡◌, ◌<◌, ◌≤◌, ◌+◌, ◌++◌, ℕ, List, true, false, None, length, take, drop, vec_len, IsOk, IfOk, OnOk, OnErr};
 ghost use Rattle.bean_codec.specs.Reads.{longest_unfinished};
 ghost use Rattle.bean_codec.specs.Replies.{reply_text};
 ghost use Rattle.session.specs.Items.{refused_text};
-ghost use Rattle.session.specs.Held.{holding, nothing_held, is_asked, fed_buffer_len, text_buffer_len, MayKeep, StandsBefore, FrontTakesRoom, Finds};
+ghost use Rattle.session.specs.Held.{holding, nothing_held, is_asked, fed_buffer_len, text_buffer_len, MayKeep, StandsBefore, HasRoomFor, FrontTakesRoom, Finds};
 
 use bean_codec::{Read, Request, Want, read_request, write_fault, write_reply};
 use bean_queue::Reply;
@@ -30,12 +30,12 @@ pub struct Session {
 }
 
 impl Model for Session {
-    ghost use Rattle.std.specs.Prelude.{◌≤◌, drop, vec_len};
+    ghost use Rattle.std.specs.Prelude.{◌≤◌, drop, vec_len, vec_capacity};
     ghost use Rattle.session.specs.Held.{Held, MayKeep};
 
     ghost Value = { Held };
 
-    ghost view = { λ s. record { want = s.want; kept = drop s.start s.bytes.items; unsent = drop s.sent s.text.items; is_open = s.is_open; read_len = s.start; sent_len = s.sent } };
+    ghost view = { λ s. record { want = s.want; kept = drop s.start s.bytes.items; unsent = drop s.sent s.text.items; is_open = s.is_open; read_len = s.start; sent_len = s.sent; capacity = vec_capacity s.bytes } };
 
     ghost invariant = { λ s. (s.start ≤ vec_len s.bytes) × (s.sent ≤ vec_len s.text) × MayKeep s.want (drop s.start s.bytes.items) };
 }
@@ -56,15 +56,33 @@ impl Session {
         }
     }
 
+    /// Makes room for so many bytes more: a piece of no more bytes can be fed then. What was read is let go of, even where
+    /// memory is refused.
+    pub fn make_room(&mut self, len: usize) -> Result<(), AllocError>
+        ensures ok { OnOk result (HasRoomFor len self.new) }
+        ensures held { self.new ≡ record self.old { read_len = 0; capacity = self.new.capacity } }
+        ensures succeeds { HasRoomFor len self.old → IsOk result }
+        ensures err { OnErr result (self.new.capacity ≡ self.old.capacity) }
+    {
+        self.shift_down();
+        self.bytes.reserve(len)
+    }
+
     /// The next bytes of the client, which are copied. What was read is let go of, even where memory is refused.
     pub fn feed(&mut self, piece: &[u8]) -> Result<(), AllocError>
         ensures ok { OnOk result (self.new
-            ≡ record self.old { kept = self.old.kept ++ piece.now; read_len = 0 }) }
+            ≡ record self.old {
+              kept = self.old.kept ++ piece.now;
+              read_len = 0;
+              capacity = self.new.capacity;
+            }) }
         ensures stands { OnOk result ((text : List ℕ) → StandsBefore self.old text
             → StandsBefore self.new (text ++ piece.now)) }
         ensures buffer { OnOk result (fed_buffer_len self.new
             ≡ length self.old.kept + length piece.now) }
-        ensures err { OnErr result (self.new ≡ record self.old { read_len = 0 }) }
+        ensures succeeds { HasRoomFor (length piece.now) self.old → IsOk result }
+        ensures err { OnErr result (self.new
+            ≡ record self.old { read_len = 0; capacity = self.new.capacity }) }
     {
         self.append(piece)
     }
@@ -72,8 +90,14 @@ impl Session {
     // A piece more is kept.
     fn append(&mut self, piece: &[u8]) -> Result<(), AllocError>
         ensures ok { OnOk result (self.new
-            ≡ record self.old { kept = self.old.kept ++ piece.now; read_len = 0 }) }
-        ensures err { OnErr result (self.new ≡ record self.old { read_len = 0 }) }
+            ≡ record self.old {
+              kept = self.old.kept ++ piece.now;
+              read_len = 0;
+              capacity = self.new.capacity;
+            }) }
+        ensures succeeds { HasRoomFor (length piece.now) self.old → IsOk result }
+        ensures err { OnErr result (self.new
+            ≡ record self.old { read_len = 0; capacity = self.new.capacity }) }
     {
         self.shift_down();
         self.bytes.extend_from_slice(piece)
@@ -102,6 +126,7 @@ impl Session {
             (λ found. found ≡ None → length self.new.kept ≤ longest_unfinished) }
         ensures buffer { OnOk result (fed_buffer_len self.new ≡ fed_buffer_len self.old) }
         ensures sent_len { OnOk result (self.new.sent_len ≡ self.old.sent_len) }
+        ensures capacity { self.new.capacity ≡ self.old.capacity }
         ensures memory { OnErr result ((text : List ℕ) → StandsBefore self.old text → FrontTakesRoom text) }
         ensures err { OnErr result (self.new ≡ self.old) }
     {

@@ -100,22 +100,22 @@ impl Driver {
     {
         home_is_member(hall.members());
         if count >= DRAWN_CALLS {
-            return self.plain(hall);
+            return self.plain_call(hall);
         }
         if count < self.storm {
-            return self.drawn(hall.members());
+            return self.call_in_storm(hall.members());
         }
         if count == self.storm {
             self.loses = self.storm > 0 && self.schedule.pick(2) == 0;
             return Call::Wake(HOME);
         }
-        self.calm(hall)
+        self.call_in_calm(hall)
     }
 }
 
 impl Driver {
     // A call that is drawn. Mostly a letter is delivered; a restart is among the rarest.
-    fn drawn(&mut self, members: Members) -> Call
+    fn call_in_storm(&mut self, members: Members) -> Call
         ensures { is_member members (node_called result) ≡ true }
     {
         let node = self.member(members);
@@ -133,7 +133,7 @@ impl Driver {
 
     // What there is to do, or where there is nothing what may bring some. Where it is not behind, node 1 proposes and
     // performs as soon as it can.
-    fn calm<O: Object>(&mut self, hall: &Hall<O>) -> Call
+    fn call_in_calm<O: Object>(&mut self, hall: &Hall<O>) -> Call
         ensures { is_member hall.now.nodes.network.members (node_called result) ≡ true }
     {
         home_is_member(hall.members());
@@ -143,7 +143,7 @@ impl Driver {
         if self.behind == 0 && hall.can_propose(HOME) {
             return Call::Propose(HOME);
         }
-        if let Some(call) = self.waiting(hall) {
+        if let Some(call) = self.call_for_waiting(hall) {
             self.behind = self.behind.saturating_sub(1);
             return call;
         }
@@ -155,7 +155,7 @@ impl Driver {
     }
 
     // What the first letter that is on its way asks for, or the first decision that is to be performed.
-    fn waiting<O: Object>(&mut self, hall: &Hall<O>) -> Option<Call>
+    fn call_for_waiting<O: Object>(&mut self, hall: &Hall<O>) -> Option<Call>
         ensures { IfSome result (λ call.
             is_member hall.now.nodes.network.members (node_called call) ≡ true) }
     {
@@ -190,7 +190,7 @@ impl Driver {
 
     // Begins the node anew, and then again and again hands the command in, wakes the leader, empties every mail,
     // proposes and performs.
-    fn plain<O: Object>(&mut self, hall: &Hall<O>) -> Call
+    fn plain_call<O: Object>(&mut self, hall: &Hall<O>) -> Call
         ensures { is_member hall.now.nodes.network.members (node_called result) ≡ true }
     {
         home_is_member(hall.members());

@@ -1,7 +1,7 @@
 use Rattle.std.proofs.Common.{◌≡◌, ℕ, ◌+◌, ◌==◌, List, ◌++◌, length, take, Some, None, sym, ap, ap₂, subst, ◌∙◌, arith, add-one}
 use Rattle.std.proofs.lemmas.Bool.{eqb-true, false≢true}
 use Rattle.std.proofs.lemmas.List.{take-append-drop}
-use Rattle.chronicle.specs.declared.draft.Draft.{Draft}
+use Rattle.chronicle.specs.declared.draft.ChronicleDraft.{ChronicleDraft}
 use Rattle.chronicle.specs.Entries.{Says}
 use Rattle.chronicle.proofs.ReadOn.{Reads, none_unread, none_next, none_ended, read_on, few_lines, stop_here, read_all, some_rest, whole_is, no_rest}
 use Rattle.chronicle.proofs.reader.read_text.Goals.{in_default-draft-via-in-Whole+else-is_empty, in_default-draft-via-in_default-draft}
@@ -42,7 +42,7 @@ loop-end-preserved c =
 pub returns-in-Whole-clause-ok : goal.returns-in-Whole-clause-ok
 returns-in-Whole-clause-ok c =
     let rest = c.loop-end.rest.now in
-    let here = subst (λ (d : Draft). Reads d c.args.text.now rest c.loop-end.number) c.in-Whole.is c.loop-end.invariant in
+    let here = subst (λ (d : ChronicleDraft). Reads d c.args.text.now rest c.loop-end.number) c.in-Whole.is c.loop-end.invariant in
     read_all c.in-Whole.chronicle c.args.text.now rest c.loop-end.number here (no_rest rest (eqb-true (length rest) 0 (sym c.if-is_empty.ensures)))
 
 pub returns-in_default-draft-clause-err : goal.returns-in_default-draft-clause-err

@@ -1,6 +1,6 @@
 use Rattle.std.proofs.Common.{◌≡◌, IfErr, rules, subst}
 use Rattle.session.specs.declared.faults.SessionFault.TheVariants.{OutOfMemory}
-use Rattle.session.specs.Items.Answer.{Replied}
+use Rattle.session.specs.Items.Response.{Replied}
 use Rattle.session.proofs.Going.{refuses}
 use Rattle.session.proofs.server.answer.Goals as goal
 

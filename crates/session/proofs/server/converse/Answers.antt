@@ -60,11 +60,10 @@ returns-in_err-read_piece-in-None-clause-run g c =
     let t = c.next_ask.new.self in
     let found = c.in_ok-found.found in
     let sent : Appends k l t.unsent = search rules in
-    let m = g.R.ByteIn.remaining c.read_piece.new.reader in
     let fault = c.in_err-read_piece-in-None.field-0.0 in
     let result : c.from_residual-in_err-read_piece-in-None.result ≡ Err fault = search rules in
-    subst (Ends g.S.Service.asks c.args.service.now c.turns.service a m h l) (sym result)
-    (ends_reading g.S.Service.asks c.args.service.now c.turns.service c.turns._turn a b m h l t fault _ c.in_err-read_piece-in-None.ensures.err
+    subst (Ends g.S.Service.asks c.args.service.now c.turns.service a (g.R.ByteIn.remaining c.read_piece.new.reader) h l) (sym result)
+    (ends_reading g.S.Service.asks c.args.service.now c.turns.service c.turns._turn g.R.ByteIn.remaining a h l c.turns.reader c.read_piece.new.reader t fault _ c.in_err-read_piece-in-None.ensures.err
     (subst (λ found. Goes g.S.Service.asks c.args.service.now c.turns.service c.turns._turn a b h l [] (ComesTo found t)) c.in-None.is
     (sends g.S.Service.asks c.args.service.now c.turns.service c.turns._turn a b h k l t.unsent (ComesTo found t) sent
     (finds g.S.Service.asks c.args.service.now c.turns.service c.turns._turn a b h k c.turns.session t found c.in_ok-found.ensures.found c.turns.invariant.goes))))
