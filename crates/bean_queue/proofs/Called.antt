@@ -9,7 +9,7 @@ use Rattle.bean_queue.specs.declared.op.Op.{Op}
 use Rattle.bean_queue.specs.declared.reply.Reply.{Reply}
 use Rattle.bean_queue.specs.Queue.{QueueState}
 use Rattle.bean_queue.specs.Rows.{row}
-use Rattle.bean_queue.specs.Turns.{Outcome, serve_turn}
+use Rattle.bean_queue.specs.Turns.{QueueOutcome, serve_turn}
 use Rattle.bean_queue.specs.Effects.{own, called, carried_out, is_quiet}
 use Rattle.bean_queue.proofs.Calm.{quiet-effect}
 
@@ -28,8 +28,8 @@ called-there s t x e =
 -- the state after a quiet operation, and its answer
 pub quiet-state : (op : Op) (key : Key) (s t u : QueueState) → is_quiet op ≡ true → serve_turn s ≡ None → t ≡ called key.session s → u ≡ (row op key t).state → u ≡ (carried_out op key s).state
 quiet-state op key s t u q calm c e =
-    e ∙ ap (λ t. (row op key t).state) c ∙ sym (ap (λ (o : Outcome). o.state) (quiet-effect op key s q calm))
+    e ∙ ap (λ t. (row op key t).state) c ∙ sym (ap (λ (o : QueueOutcome). o.state) (quiet-effect op key s q calm))
 
 pub quiet-reply : (op : Op) (key : Key) (s t : QueueState) (reply : Reply) → is_quiet op ≡ true → serve_turn s ≡ None → t ≡ called key.session s → (row op key t).reply ≡ Some reply → (carried_out op key s).answers ≡ record { to = key; reply = reply } ∷ []
 quiet-reply op key s t reply q calm c e =
-    ap (λ (o : Outcome). o.answers) (quiet-effect op key s q calm) ∙ ap (own key) (sym (ap (λ t. (row op key t).reply) c) ∙ e)
+    ap (λ (o : QueueOutcome). o.answers) (quiet-effect op key s q calm) ∙ ap (own key) (sym (ap (λ t. (row op key t).reply) c) ∙ e)

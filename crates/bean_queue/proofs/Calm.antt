@@ -20,7 +20,7 @@ use Rattle.bean_queue.specs.declared.op.Op.{Op}
 use Rattle.bean_queue.specs.declared.reply.Reply.{Reply}
 use Rattle.bean_queue.specs.Queue.{QueueState, paused_tubes, with_sessions, fresh, watched_by, holds_by}
 use Rattle.bean_queue.specs.Rows.{Row, row, put_row, use_row, watch_row, ignore_row, reserve_row, delete_row, may_delete, is_job_that, release_row, touch_row, bury_row, kick_row, kick_job_row, peek_row}
-use Rattle.bean_queue.specs.Turns.{Outcome, after_option, QueueTurn, stop, all_turns, wanted, give, serve_turn, told_turn, deadline_turn, timeout_turn, serve}
+use Rattle.bean_queue.specs.Turns.{QueueOutcome, after_option, QueueTurn, stop, all_turns, wanted, give, serve_turn, told_turn, deadline_turn, timeout_turn, serve}
 use Rattle.bean_queue.specs.Effects.{own, own_outcome, then_do, called, ends_wait, is_zero, settled, has_no_number, carried_out, do_effect, released, forgotten, at_second, tick_effect, is_quiet}
 use Rattle.bean_queue.specs.TurnLaws.{least-none, none-least, turns-keep, deadline_turn-is, timeout_turn-is, IsTold, IfSome-map}
 use Rattle.bean_queue.proofs.Paused.{open-watched, watched-open}
@@ -182,7 +182,7 @@ quiet-effect op key s q none =
 
 -- Every effect leaves nothing to give
 
-outcome_if : (b : Bool) (o p : Outcome) → serve_turn o.state ≡ None → serve_turn p.state ≡ None → serve_turn (cond b o p).state ≡ None
+outcome_if : (b : Bool) (o p : QueueOutcome) → serve_turn o.state ≡ None → serve_turn p.state ≡ None → serve_turn (cond b o p).state ≡ None
 outcome_if true o p h k = h
 outcome_if false o p h k = k
 

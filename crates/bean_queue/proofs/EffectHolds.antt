@@ -14,9 +14,9 @@ use Rattle.bean_queue.specs.declared.op.Op.{Op}
 use Rattle.bean_queue.specs.declared.reply.Reply.{Reply}
 use Rattle.bean_queue.specs.Queue.{QueueState, holds_by, HasRisingIds}
 use Rattle.bean_queue.specs.Rows.{row}
-use Rattle.bean_queue.specs.Turns.{Outcome, stop, serve, all_turns, deadline_turn, timeout_turn}
+use Rattle.bean_queue.specs.Turns.{QueueOutcome, stop, serve, all_turns, deadline_turn, timeout_turn}
 use Rattle.bean_queue.specs.Effects.{own, called, ends_wait, is_zero, settled, then_do, own_outcome, has_no_number, carried_out, do_effect, released, close_effect, at_second, tick_effect, act_effect, effect}
-use Rattle.bean_queue.specs.Places.{Place, queue_place}
+use Rattle.bean_queue.specs.Places.{QueuePlace, queue_place}
 use Rattle.bean_queue.specs.Holds.{is_reserved, is_touched, is_touch, reserved_in, touches, Ends}
 use Rattle.bean_queue.proofs.Held.{Held, Held-each, KeepsHold, IsQuiet, IsAside, quiet-append, reserved_in-append, sound-along, aside-keeps, serve-keeps, deadlines-aside, timeouts-aside}
 use Rattle.bean_queue.proofs.Given.{Gave, GivesOnce, serve-gives}
@@ -25,7 +25,7 @@ use Rattle.bean_queue.proofs.RowHolds.{row-ok, EndsHold, HoldAfter, row-holds}
 aside-stop : (s : QueueState) → IsAside s (stop s)
 aside-stop s = record { jobs = refl; at = refl; next = refl; quiet = λ id. refl }
 
-aside_if : (s : QueueState) (b : Bool) (o p : Outcome) → IsAside s o → IsAside s p → IsAside s (cond b o p)
+aside_if : (s : QueueState) (b : Bool) (o p : QueueOutcome) → IsAside s o → IsAside s p → IsAside s (cond b o p)
 aside_if s true o p h k = h
 aside_if s false o p h k = k
 
@@ -43,7 +43,7 @@ settled-aside (Op.Reserve seconds) key s =
 settled-aside _ key s = aside-stop s
 
 -- first some answers that reserve nothing
-gives-after : (id now : ℕ) (answers : List (Answer Reply)) (o : Outcome) → IsQuiet id answers → GivesOnce id now o → GivesOnce id now (record { state = o.state; answers = answers ++ o.answers })
+gives-after : (id now : ℕ) (answers : List (Answer Reply)) (o : QueueOutcome) → IsQuiet id answers → GivesOnce id now o → GivesOnce id now (record { state = o.state; answers = answers ++ o.answers })
 gives-after id now answers o quiet g =
     let skip : reserved_in id (answers ++ o.answers) ≡ reserved_in id o.answers = reserved_in-append id answers o.answers ∙ ap (λ zs. zs ++ reserved_in id o.answers) quiet in
     record {
@@ -57,7 +57,7 @@ gives-after id now answers o quiet g =
     }
 
 -- then an outcome that leaves the jobs alone
-gives-then : (id now : ℕ) (o : Outcome) (f : QueueState → Outcome) → GivesOnce id now o → IsAside o.state (f o.state) → GivesOnce id now (then_do o f)
+gives-then : (id now : ℕ) (o : QueueOutcome) (f : QueueState → QueueOutcome) → GivesOnce id now o → IsAside o.state (f o.state) → GivesOnce id now (then_do o f)
 gives-then id now o f g a =
     let skip : reserved_in id (o.answers ++ (f o.state).answers) ≡ reserved_in id o.answers = reserved_in-append id o.answers (f o.state).answers ∙ ap (λ zs. reserved_in id o.answers ++ zs) (a.quiet id) ∙ append-nil (reserved_in id o.answers) in
     record {
@@ -131,11 +131,11 @@ effect-gives id c s sound =
     ]
 
 -- at a place the hold ends, or goes on
-pub data HoldsOn (x id ttr second : ℕ) (p : Place) : Type 0 where
+pub data HoldsOn (x id ttr second : ℕ) (p : QueuePlace) : Type 0 where
   ends : Ends p x id (second + ttr) → HoldsOn x id ttr second p
   on : IsQuiet id p.answers → HasRisingIds p.state → Held p.state.jobs x id ttr (cond (touches p x id) p.state.now second) → HoldsOn x id ttr second p
 
-keeps-then : (x id ttr second now : ℕ) (o : Outcome) (f : QueueState → Outcome) → KeepsHold x id ttr second now o → IsAside o.state (f o.state) → KeepsHold x id ttr second now (then_do o f)
+keeps-then : (x id ttr second now : ℕ) (o : QueueOutcome) (f : QueueState → QueueOutcome) → KeepsHold x id ttr second now o → IsAside o.state (f o.state) → KeepsHold x id ttr second now (then_do o f)
 keeps-then x id ttr second now o f k a =
     let r = aside-keeps x id ttr second now o.state (f o.state) k.keeps a in
     record { keeps = r.keeps; quiet = quiet-append id o.answers (f o.state).answers k.quiet r.quiet }
@@ -181,7 +181,7 @@ touched a b c p q r = cc
 
 carried_out-holds : (x id ttr second : ℕ) (op : Op) (key : Key) (s : QueueState) → HasRisingIds s → Held s.jobs x id ttr second → HoldsOn x id ttr second (queue_place (record { key = key; act = Act.Do op }) (carried_out op key s))
 carried_out-holds x id ttr second op key s sound h =
-    let p : Place = queue_place (record { key = key; act = Act.Do op }) (carried_out op key s) in
+    let p : QueuePlace = queue_place (record { key = key; act = Act.Do op }) (carried_out op key s) in
     elim (row-holds x id ttr second op key (called key.session s) sound h) as (λ v. HoldsOn x id ttr second p) [
       | HoldAfter.ended reply e who said ↦ ends (carried_out-ends x id (second + ttr) op key s reply e who said)
       | HoldAfter.stays h e ↦

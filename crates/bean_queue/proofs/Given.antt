@@ -11,19 +11,19 @@ use Rattle.session_store.specs.declared.session.SessionState.{SessionState}
 use Rattle.session_store.specs.EntryLaws.{value_at-In, Rising-altered}
 use Rattle.bean_queue.specs.declared.reply.Reply.{Reply}
 use Rattle.bean_queue.specs.Queue.{QueueState, HasRisingIds}
-use Rattle.bean_queue.specs.Turns.{Outcome, QueueTurn, turns, all_turns, after_turn, after_option, given, serve_turn, serve}
+use Rattle.bean_queue.specs.Turns.{QueueOutcome, QueueTurn, turns, all_turns, after_turn, after_option, given, serve_turn, serve}
 use Rattle.bean_queue.specs.Holds.{is_reserved, reserved_in}
 use Rattle.bean_queue.specs.TurnLaws.{turns-keep, serve_turn-is, IsServed}
 use Rattle.bean_queue.proofs.Held.{Held, Held-reserved, Keeps, IsQuietReply, IsQuiet, quiet-all, serve-keeps_turn}
 
 -- one RESERVED of the job, whose receiver holds it from the second on
-pub record Gave (id now : ℕ) (o : Outcome) : Type 0 where
+pub record Gave (id now : ℕ) (o : QueueOutcome) : Type 0 where
   pub answer : Answer Reply
   pub ttr : ℕ
   pub only : reserved_in id o.answers ≡ answer ∷ []
   pub held : Held o.state.jobs answer.to.session id ttr now
 
-pub record GivesOnce (id now : ℕ) (o : Outcome) : Type 0 where
+pub record GivesOnce (id now : ℕ) (o : QueueOutcome) : Type 0 where
   pub sound : HasRisingIds o.state
   pub at : o.state.now ≡ now
   pub given : IsQuiet id o.answers ⊎ Gave id now o
@@ -56,7 +56,7 @@ given-to : (s : QueueState) (j : ℕ × Job) (w : ℕ × SessionState) → (give
 unfolding given
 given-to s j w = refl
 
-once_given : (id now : ℕ) (s : QueueState) (j : ℕ × Job) (w : ℕ × SessionState) (o : Outcome) → IsQuiet id o.answers → Keeps w.0 id j.1.ttr now now o.state → id ≡ j.0 → GivesOnce id now (after_turn (given s j w).answer o)
+once_given : (id now : ℕ) (s : QueueState) (j : ℕ × Job) (w : ℕ × SessionState) (o : QueueOutcome) → IsQuiet id o.answers → Keeps w.0 id j.1.ttr now now o.state → id ≡ j.0 → GivesOnce id now (after_turn (given s j w).answer o)
 once_given id now s j w o quiet k same =
     record {
       sound = k.sound;
@@ -72,7 +72,7 @@ once_given id now s j w o quiet k same =
           });
     }
 
-once_later : (id now : ℕ) (a : Answer Reply) (o : Outcome) → is_reserved id a.reply ≡ false → GivesOnce id now o → GivesOnce id now (after_turn a o)
+once_later : (id now : ℕ) (a : Answer Reply) (o : QueueOutcome) → is_reserved id a.reply ≡ false → GivesOnce id now o → GivesOnce id now (after_turn a o)
 once_later id now a o e g =
     let skip : reserved_in id (a ∷ o.answers) ≡ reserved_in id o.answers = cond-false (is_reserved id a.reply) (a ∷ reserved_in id o.answers) (reserved_in id o.answers) e in
     record {

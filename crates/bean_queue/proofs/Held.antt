@@ -12,7 +12,7 @@ use Rattle.session_store.specs.declared.session.SessionState.{SessionState}
 use Rattle.session_store.specs.EntryLaws.{value_at-each, value_at-altered_same, value_at-altered_other, value_at-In, Rising-altered}
 use Rattle.bean_queue.specs.declared.reply.Reply.{Reply}
 use Rattle.bean_queue.specs.Queue.{QueueState, HasRisingIds}
-use Rattle.bean_queue.specs.Turns.{Outcome, QueueTurn, all_turns, given, serve_turn, told_turn, deadline_turn, timeout_turn, serve}
+use Rattle.bean_queue.specs.Turns.{QueueOutcome, QueueTurn, all_turns, given, serve_turn, told_turn, deadline_turn, timeout_turn, serve}
 use Rattle.bean_queue.specs.Holds.{is_reserved, reserved_in}
 use Rattle.bean_queue.specs.TurnLaws.{turns-keep, serve_turn-is, deadline_turn-is, timeout_turn-is, IsServed, IsTold, IfSome-map}
 
@@ -101,7 +101,7 @@ pub quiet-append : (id : ℕ) (xs ys : List (Answer Reply)) → IsQuiet id xs �
 quiet-append id xs ys p q = reserved_in-append id xs ys ∙ ap (λ zs. zs ++ reserved_in id ys) p ∙ q
 
 -- an outcome that keeps a hold: no RESERVED of the job, and the same hold
-pub record KeepsHold (x id ttr second now : ℕ) (o : Outcome) : Type 0 where
+pub record KeepsHold (x id ttr second now : ℕ) (o : QueueOutcome) : Type 0 where
   pub keeps : Keeps x id ttr second now o.state
   pub quiet : IsQuiet id o.answers
 
@@ -112,7 +112,7 @@ serve-keeps x id ttr second now s k =
     record { keeps = r.0; quiet = quiet-all id _ r.1 }
 
 -- an outcome that leaves the jobs alone, and reserves none
-pub record IsAside (s : QueueState) (o : Outcome) : Type 0 where
+pub record IsAside (s : QueueState) (o : QueueOutcome) : Type 0 where
   pub jobs : o.state.jobs ≡ s.jobs
   pub at : o.state.now ≡ s.now
   pub next : o.state.next_id ≡ s.next_id
@@ -147,7 +147,7 @@ timeouts-aside s = told-aside Reply.TimedOut (λ id. refl) timeout_turn timeout_
 pub sound-along : (s t : QueueState) → t.jobs ≡ s.jobs → t.next_id ≡ s.next_id → HasRisingIds s → HasRisingIds t
 sound-along s t jobs next sound = subst (λ n. Rising 1 n t.jobs) (sym next) (subst (λ es. Rising 1 s.next_id es) (sym jobs) sound)
 
-pub aside-keeps : (x id ttr second now : ℕ) (s : QueueState) (o : Outcome) → Keeps x id ttr second now s → IsAside s o → KeepsHold x id ttr second now o
+pub aside-keeps : (x id ttr second now : ℕ) (s : QueueState) (o : QueueOutcome) → Keeps x id ttr second now s → IsAside s o → KeepsHold x id ttr second now o
 aside-keeps x id ttr second now s o k a =
     record {
       keeps =

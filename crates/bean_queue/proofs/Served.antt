@@ -11,7 +11,7 @@ use Rattle.session_store.specs.declared.session.SessionState.{SessionState}
 use Rattle.session_store.specs.Sessions.{first_waiting, with_wait_ended, with_wait, is_waiting, wait_rank}
 use Rattle.bean_queue.specs.declared.reply.Reply.{Reply}
 use Rattle.bean_queue.specs.Queue.{QueueState, paused_tubes}
-use Rattle.bean_queue.specs.Turns.{Outcome, QueueTurn, IsTurn, stop, turns, all_turns, after_turn, after_option, wanted, next_job, give, give_to, given, serve_turn, deadline_turn, timeout_turn, serve}
+use Rattle.bean_queue.specs.Turns.{QueueOutcome, QueueTurn, IsTurn, stop, turns, all_turns, after_turn, after_option, wanted, next_job, give, give_to, given, serve_turn, deadline_turn, timeout_turn, serve}
 use Rattle.bean_queue.specs.TurnLaws.{serve_turn-is, deadline_turn-is, timeout_turn-is, least-in, least-none, IfSome-map, best_ready-in}
 use Rattle.bean_queue.proofs.Paused.{open-watched}
 use Rattle.bean_queue.specs.WaitLaws.{IsWaiterTurn, given-waiter, told-waiter}
@@ -191,8 +191,8 @@ turn-step : (turn : QueueState → Option QueueTurn) → IsTurnOfWaiters turn �
 turn-step turn good s u xs e =
     let all : all_turns turn s ≡ after_turn u.answer (all_turns turn u.state) = turns-unroll turn good s ∙ ap (after_option (all_turns turn) s) e in
     record {
-      state = sym (ap (λ (o : Outcome). o.state) all);
-      answers = append_assoc xs (u.answer ∷ []) (all_turns turn u.state).answers ∙ sym (ap (λ (o : Outcome). xs ++ o.answers) all);
+      state = sym (ap (λ (o : QueueOutcome). o.state) all);
+      answers = append_assoc xs (u.answer ∷ []) (all_turns turn u.state).answers ∙ sym (ap (λ (o : QueueOutcome). xs ++ o.answers) all);
       fewer = subst (λ o. IfSome o (λ t. waiters t.state.sessions < waiters s.sessions)) e (turn-fewer turn good s);
     }
 
@@ -211,6 +211,6 @@ no_turn turn good s t xs ys true e i = cc
 no_turn turn good s t xs ys false e i =
     let all : all_turns turn s ≡ stop s = turns-unroll turn good s ∙ ap (after_option (all_turns turn) s) i.0 in
     record {
-      state = i.1 ∙ sym (ap (λ (o : Outcome). o.state) all);
-      answers = i.2 ∙ sym (append-nil xs) ∙ sym (ap (λ (o : Outcome). xs ++ o.answers) all);
+      state = i.1 ∙ sym (ap (λ (o : QueueOutcome). o.state) all);
+      answers = i.2 ∙ sym (append-nil xs) ∙ sym (ap (λ (o : QueueOutcome). xs ++ o.answers) all);
     }

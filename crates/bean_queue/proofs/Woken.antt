@@ -8,7 +8,6 @@ use Rattle.object.specs.declared.command.Key.{Key}
 use Rattle.job_store.specs.declared.job.Job.{Job}
 use Rattle.job_store.specs.declared.state.State.{State}
 use Rattle.job_store.specs.Entries.{Rising, value_at, with_value, altered}
-use Rattle.job_store.specs.Least.{least}
 use Rattle.job_store.specs.LookUps.{is_among, ready_in, first_buried, first_delayed, buried_in, delayed_in, pri_of_job, rank_of_job, due_of_job, not_paused}
 use Rattle.job_store.specs.States.{is_ready, is_held, is_buried, is_delayed, with_state, with_pri_and_state}
 use Rattle.job_store.proofs.Least.{among-member}
@@ -252,10 +251,9 @@ joined-has name names =
     ] refl
 
 -- one job more was made ready, and its tube was added
-pub gathered : (test : ℕ × Job → Bool) (by : Job → ℕ) (hi : ℕ) (first jobs new : List (ℕ × Job)) (e : ℕ × Job) (tubes more : List (List ℕ)) (name : List ℕ) → Rising 0 hi jobs → least test by jobs ≡ Some e → new ≡ altered e.0 (with_state State.Ready) jobs → name ≡ e.1.tube → more ≡ joined name tubes → AreWoken tubes first jobs → AreWoken more first new
-gathered test by hi first jobs new e tubes more name r found n copied added woken =
-    let there = subst (λ o. IfSome o (λ y. In y jobs × (test y ≡ true))) found (least-in test by jobs) in
-    let one : AreWoken (e.1.tube ∷ []) jobs new = subst (AreWoken (e.1.tube ∷ []) jobs) (sym n) (one-woken hi jobs e r there.0) in
+pub gathered : (hi : ℕ) (first jobs new : List (ℕ × Job)) (e : ℕ × Job) (tubes more : List (List ℕ)) (name : List ℕ) → Rising 0 hi jobs → In e jobs → new ≡ altered e.0 (with_state State.Ready) jobs → name ≡ e.1.tube → more ≡ joined name tubes → AreWoken tubes first jobs → AreWoken more first new
+gathered hi first jobs new e tubes more name r there n copied added woken =
+    let one : AreWoken (e.1.tube ∷ []) jobs new = subst (AreWoken (e.1.tube ∷ []) jobs) (sym n) (one-woken hi jobs e r there) in
     let same : more ≡ joined e.1.tube tubes = added ∙ ap (λ m. joined m tubes) copied in
     woken-then more first jobs new
     (woken-more tubes more first jobs (λ tube i. subst (In tube) (sym same) (joined-keeps e.1.tube tubes tube i)) woken)

@@ -11,13 +11,14 @@ use Rattle.job_store.specs.States.{is_due, is_held, with_state}
 use Rattle.session_store.specs.Sessions.{session_of, known, with_wait_ended, is_waiting}
 use Rattle.pause_store.specs.Pauses.{left_at}
 use Rattle.bean_queue.specs.declared.op.Op.{Op}
+use Rattle.bean_queue.specs.declared.ready_again.Returning.{Returning}
 use Rattle.bean_queue.specs.declared.reply.Reply.{Reply}
 use Rattle.bean_queue.specs.Queue.{QueueState, with_sessions, holds_by}
 use Rattle.bean_queue.specs.Rows.{Row, row}
-use Rattle.bean_queue.specs.Turns.{Outcome, stop, serve, all_turns, deadline_turn, timeout_turn}
+use Rattle.bean_queue.specs.Turns.{QueueOutcome, stop, serve, all_turns, deadline_turn, timeout_turn}
 
 -- one outcome, and then what comes of its state
-abbrev pub then_do : Outcome → (QueueState → Outcome) → Outcome
+abbrev pub then_do : QueueOutcome → (QueueState → QueueOutcome) → QueueOutcome
 then_do o f = let p = f o.state in record { state = p.state; answers = o.answers ++ p.answers }
 
 -- the answer to the command itself, if it has a reply by now
@@ -26,7 +27,7 @@ own key None = []
 own key (Some reply) = record { to = key; reply = reply } ∷ []
 
 -- the state after the command's own part, and its own answer
-abbrev pub own_outcome : Key → Row → Outcome
+abbrev pub own_outcome : Key → Row → QueueOutcome
 own_outcome key r = record { state = r.state; answers = own key r.reply }
 
 -- session x is there, and a wait of its own has ended without an answer
@@ -34,7 +35,7 @@ abbrev pub called : ℕ → QueueState → QueueState
 called x s = with_sessions s (known x s.sessions)
 
 -- the command is answered, and its session waits no longer
-abbrev pub ends_wait : QueueState → Key → Reply → Outcome
+abbrev pub ends_wait : QueueState → Key → Reply → QueueOutcome
 ends_wait s key reply = own_outcome key (record { state = with_sessions s (with_wait_ended key.session s.sessions); reply = Some reply })
 
 -- the seconds are none
@@ -44,7 +45,7 @@ is_zero (Some seconds) = seconds == 0
 
 -- a reserve that got no job is told of a job of its session that is due within a second, or that it may not wait
 -- (protocol.txt of beanstalkd, "reserve": DEADLINE_SOON, and "reserve-with-timeout")
-unfoldable pub settled : Op → Key → QueueState → Outcome
+unfoldable pub settled : Op → Key → QueueState → QueueOutcome
 settled (Op.Reserve seconds) key s =
     if is_waiting (session_of key.session s.sessions)
     then
@@ -63,13 +64,13 @@ has_no_number _ s = false
 
 -- an operation is carried out for its session, which is there from now on: its own answer, then those of waiting
 -- sessions
-unfoldable pub carried_out : Op → Key → QueueState → Outcome
+unfoldable pub carried_out : Op → Key → QueueState → QueueOutcome
 carried_out op key s =
     then_do (then_do (own_outcome key (row op key (called key.session s))) serve) (settled op key)
 
 -- an operation is carried out; where no number is left for it, an older wait of its session ends, and nothing else
 -- happens
-unfoldable pub do_effect : Op → Key → QueueState → Outcome
+unfoldable pub do_effect : Op → Key → QueueState → QueueOutcome
 do_effect op key s =
     if has_no_number op s then ends_wait s key Reply.InternalError else carried_out op key s
 
@@ -86,7 +87,7 @@ abbrev pub forgotten : ℕ → QueueState → QueueState
 forgotten x s = with_sessions s (without x s.sessions)
 
 -- the end of session x: others may get its jobs
-unfoldable pub close_effect : ℕ → QueueState → Outcome
+unfoldable pub close_effect : ℕ → QueueState → QueueOutcome
 close_effect x s = let o = serve (released x s) in record { state = forgotten x o.state; answers = o.answers }
 
 -- the job is ready if its delay or its time to run is over at this second (protocol.txt of beanstalkd, "put": delay
@@ -94,25 +95,34 @@ close_effect x s = let o = serve (released x s) in record { state = forgotten x 
 abbrev pub come_due : ℕ → Job → Job
 come_due second job = if is_due second job.state then with_state State.Ready job else job
 
+-- a job in this state is one of those that are to be ready again
+abbrev pub is_returning : Returning → State → Bool
+is_returning (Returning.Due second) state = is_due second state
+is_returning (Returning.Held x) state = is_held x state
+
+-- the job is ready if it is one of them
+abbrev pub returned : Returning → Job → Job
+returned which job = if is_returning which job.state then with_state State.Ready job else job
+
 -- it is this second: jobs that are due by it are ready, and pauses that are over by it are gone
 abbrev pub at_second : ℕ → QueueState → QueueState
 at_second second s = record s { now = second; jobs = each_value (come_due second) s.jobs; pauses = left_at second s.pauses }
 
 -- a second above now comes, and a lesser one does nothing
-unfoldable pub tick_effect : ℕ → QueueState → Outcome
+unfoldable pub tick_effect : ℕ → QueueState → QueueOutcome
 tick_effect second s =
     if nat_lt s.now second
     then then_do (then_do (serve (at_second second s)) (all_turns deadline_turn)) (all_turns timeout_turn)
     else stop s
 
 -- what an act under this key does
-unfoldable pub act_effect : Act Op → Key → QueueState → Outcome
+unfoldable pub act_effect : Act Op → Key → QueueState → QueueOutcome
 act_effect (Act.Do op) key s = do_effect op key s
 act_effect Act.Close key s = close_effect key.session s
 act_effect Act.Tick key s = tick_effect key.number s
 
 -- what a command does
-unfoldable pub effect : Command Op → QueueState → Outcome
+unfoldable pub effect : Command Op → QueueState → QueueOutcome
 effect c s = act_effect c.act c.key s
 
 -- the operation makes no job ready and lets nobody wait, so nobody is served after it

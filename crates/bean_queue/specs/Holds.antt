@@ -10,7 +10,7 @@ use Rattle.job_store.specs.Entries.{value_at}
 use Rattle.bean_queue.specs.declared.op.Op.{Op}
 use Rattle.bean_queue.specs.declared.reply.Reply.{Reply}
 use Rattle.bean_queue.specs.Queue.{QueueState}
-use Rattle.bean_queue.specs.Places.{Place, queue_places, placed_from, queue_replay}
+use Rattle.bean_queue.specs.Places.{QueuePlace, queue_places, placed_from, queue_replay}
 
 -- the reply is RESERVED of the job id
 abbrev pub is_reserved : ℕ → Reply → Bool
@@ -32,18 +32,18 @@ abbrev pub reserved_in : ℕ → List (Answer Reply) → List (Answer Reply)
 reserved_in id answers = filter (λ a. is_reserved id a.reply) answers
 
 -- at this place session x gets the job id RESERVED
-abbrev pub Gets : Place → ℕ → ℕ → Type 0
+abbrev pub Gets : QueuePlace → ℕ → ℕ → Type 0
 Gets p x id = (a : Answer Reply) × In a (reserved_in id p.answers) × (a.to.session ≡ x)
 
 -- the command at this place is session x's op, and its answer there is the reply
-abbrev pub Does : Place → ℕ → Op → Reply → Type 0
+abbrev pub Does : QueuePlace → ℕ → Op → Reply → Type 0
 Does p x op reply =
     (p.command.key.session ≡ x) ×
     (p.command.act ≡ Act.Do op) ×
     In (record { to = p.command.key; reply = reply }) p.answers
 
 -- session x's hold of the job id, due at the second `due`, ends at this place
-pub data Ends (p : Place) (x id due : ℕ) : Type 0 where
+pub data Ends (p : QueuePlace) (x id due : ℕ) : Type 0 where
   deleted : Does p x (Op.Delete id) Reply.Deleted → Ends p x id due
   released : (pri delay : ℕ) → Does p x (Op.Release id pri delay) Reply.Released → Ends p x id due
   buried : (pri : ℕ) → Does p x (Op.Bury id pri) Reply.Buried → Ends p x id due
@@ -51,12 +51,12 @@ pub data Ends (p : Place) (x id due : ℕ) : Type 0 where
   came_due : p.command.act ≡ Act.Tick → due ≤ p.command.key.number → Ends p x id due
 
 -- at this place session x touches the job id, and is answered TOUCHED
-abbrev pub touches : Place → ℕ → ℕ → Bool
+abbrev pub touches : QueuePlace → ℕ → ℕ → Bool
 touches p x id =
     is_touch id p.command.act && (p.command.key.session == x && list_any (λ a. is_touched a.reply) p.answers)
 
 -- the second from which the time to run counts, after these places: that of x's last TOUCHED of the job, else the first
-abbrev pub counts_from : ℕ → ℕ → ℕ → List Place → ℕ
+abbrev pub counts_from : ℕ → ℕ → ℕ → List QueuePlace → ℕ
 counts_from x id second [] = second
 counts_from x id second (p ∷ ps) = counts_from x id (if touches p x id then p.state.now else second) ps
 
@@ -70,25 +70,25 @@ abbrev pub ttr_of : ℕ → QueueState → ℕ
 ttr_of id s = ttr_in (value_at id s.jobs)
 
 -- no place gives two RESERVED of one job
-abbrev pub IsGivenOnce : List Place → Type 0
+abbrev pub IsGivenOnce : List QueuePlace → Type 0
 IsGivenOnce ps =
-    (before rest : List Place) (p : Place) (id : ℕ) →
+    (before rest : List QueuePlace) (p : QueuePlace) (id : ℕ) →
     ps ≡ before ++ p ∷ rest →
     length (reserved_in id p.answers) ≤ 1
 
 -- x's hold of the job, which counts from the second, has ended by the place q: at some r after these places began, and at most at q
-abbrev pub HasEnded : List Place → Place → ℕ → ℕ → ℕ → ℕ → Type 0
+abbrev pub HasEnded : List QueuePlace → QueuePlace → ℕ → ℕ → ℕ → ℕ → Type 0
 HasEnded between q x id second ttr =
-    (until : List Place) ×
-    (r : Place) ×
-    (rest : List Place) ×
+    (until : List QueuePlace) ×
+    (r : QueuePlace) ×
+    (rest : List QueuePlace) ×
     (between ++ q ∷ [] ≡ until ++ r ∷ rest) ×
     Ends r x id (counts_from x id second until + ttr)
 
 -- where a place p gives x the job and a later place q gives it again, x's hold has ended after p and at most at q
-abbrev pub IsHeldByOne : List Place → Type 0
+abbrev pub IsHeldByOne : List QueuePlace → Type 0
 IsHeldByOne ps =
-    (before between rest : List Place) (p q : Place) (x y id : ℕ) →
+    (before between rest : List QueuePlace) (p q : QueuePlace) (x y id : ℕ) →
     ps ≡ before ++ p ∷ (between ++ q ∷ rest) →
     Gets p x id →
     Gets q y id →

@@ -13,7 +13,7 @@ use Rattle.bean_queue.specs.declared.reply.Reply.{Reply}
 use Rattle.bean_queue.specs.Queue.{QueueState, holds_by, paused_tubes}
 
 -- the state after, and the answers in their order
-pub record Outcome : Type 0 where
+pub record QueueOutcome : Type 0 where
   pub state : QueueState
   pub answers : List (Answer Reply)
 
@@ -23,25 +23,25 @@ pub record QueueTurn : Type 0 where
   pub answer : Answer Reply
 
 -- no answer
-abbrev pub stop : QueueState → Outcome
+abbrev pub stop : QueueState → QueueOutcome
 stop s = record { state = s; answers = [] }
 
 -- this answer, and what comes after it
-abbrev pub after_turn : Answer Reply → Outcome → Outcome
+abbrev pub after_turn : Answer Reply → QueueOutcome → QueueOutcome
 after_turn a o = record { state = o.state; answers = a ∷ o.answers }
 
 -- a turn and what comes next, or nothing where there is no turn
-abbrev pub after_option : (QueueState → Outcome) → QueueState → Option QueueTurn → Outcome
+abbrev pub after_option : (QueueState → QueueOutcome) → QueueState → Option QueueTurn → QueueOutcome
 after_option next s None = stop s
 after_option next s (Some t) = after_turn t.answer (next t.state)
 
 -- turns, while there is one, at most n
-unfoldable pub turns : (QueueState → Option QueueTurn) → ℕ → QueueState → Outcome
+unfoldable pub turns : (QueueState → Option QueueTurn) → ℕ → QueueState → QueueOutcome
 turns turn zero s = stop s
 turns turn (suc n) s = let next = turns turn n in after_option next s (turn s)
 
 -- turns, while there is one: each ends a wait, so no more than there are sessions
-unfoldable pub all_turns : (QueueState → Option QueueTurn) → QueueState → Outcome
+unfoldable pub all_turns : (QueueState → Option QueueTurn) → QueueState → QueueOutcome
 all_turns turn s = turns turn (length s.sessions) s
 
 -- the reply, to the command by which the session waits
@@ -99,7 +99,7 @@ unfoldable pub timeout_turn : QueueState → Option QueueTurn
 timeout_turn s = tell s Reply.TimedOut (first_waiting (λ e. has_timed_out s.now e.1.wait) s.sessions)
 
 -- waiting sessions get jobs, while there is one for them
-unfoldable pub serve : QueueState → Outcome
+unfoldable pub serve : QueueState → QueueOutcome
 serve s = all_turns serve_turn s
 
 -- of a call that makes one turn: it was made, and its answer stands last, or there was none and nothing changed

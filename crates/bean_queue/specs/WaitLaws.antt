@@ -17,7 +17,7 @@ use Rattle.session_store.specs.WaitLaws.{altered-waits, ended-waits, forgotten-w
 use Rattle.bean_queue.specs.declared.op.Op.{Op}
 use Rattle.bean_queue.specs.declared.reply.Reply.{Reply}
 use Rattle.bean_queue.specs.Queue.{QueueState, fresh, holds_by, watched_by}
-use Rattle.bean_queue.specs.Turns.{Outcome, QueueTurn, stop, turns, all_turns, after_option, given, told_turn, serve_turn, deadline_turn, timeout_turn, serve}
+use Rattle.bean_queue.specs.Turns.{QueueOutcome, QueueTurn, stop, turns, all_turns, after_option, given, told_turn, serve_turn, deadline_turn, timeout_turn, serve}
 use Rattle.bean_queue.specs.Rows.{is_idle, Row, row, put_row, use_row, watch_row, ignore_row, reserve_row, delete_row, may_delete, is_job_that, release_row, touch_row, bury_row, kick_row, kick_job_row, peek_row, all_tubes, pause_row}
 use Rattle.bean_queue.specs.Effects.{own, called, ends_wait, is_zero, settled, then_do, has_no_number, carried_out, do_effect, released, close_effect, at_second, tick_effect, act_effect, effect}
 use Rattle.bean_queue.specs.Waits.{Waits, AreApart, IsLawful}
@@ -38,7 +38,7 @@ apart-append (x ∷ xs) ys p q h = (
 
 -- Turns
 
-pub record IsDealt (s : QueueState) (o : Outcome) : Type 0 where
+pub record IsDealt (s : QueueState) (o : QueueOutcome) : Type 0 where
   pub fewer : (k : Key) → Waits o.state k → Waits s k
   pub named : (a : Answer Reply) → In a o.answers → Waits s a.to
   pub over : (a : Answer Reply) (k : Key) → In a o.answers → Waits o.state k → k.session ≡ a.to.session → ⊥
@@ -151,7 +151,7 @@ ends_wait-dealt s key reply h =
       once = (λ b j e. j, tt);
     }
 
-dealt_if : (s : QueueState) (b : Bool) (o p : Outcome) → (b ≡ true → IsDealt s o) → IsDealt s p → IsDealt s (cond b o p)
+dealt_if : (s : QueueState) (b : Bool) (o p : QueueOutcome) → (b ≡ true → IsDealt s o) → IsDealt s p → IsDealt s (cond b o p)
 dealt_if s true o p h k = h refl
 dealt_if s false o p h k = k
 

@@ -7,7 +7,7 @@ use Rattle.object.specs.declared.command.Key.{Key}
 use Rattle.session_store.specs.Waits.{WaitsIn}
 use Rattle.bean_queue.specs.declared.reply.Reply.{Reply}
 use Rattle.bean_queue.specs.Queue.{QueueState}
-use Rattle.bean_queue.specs.Turns.{Outcome}
+use Rattle.bean_queue.specs.Turns.{QueueOutcome}
 
 -- the command of this key waits for its answer
 abbrev pub Waits : QueueState → Key → Type 0
@@ -19,7 +19,7 @@ AreApart [] = ⊤
 AreApart (a ∷ more) = ((b : Answer Reply) → In b more → b.to.session ≡ a.to.session → ⊥) × AreApart more
 
 -- what holds of the outcome of every command
-pub record IsLawful (key : Key) (s : QueueState) (o : Outcome) : Type 0 where
+pub record IsLawful (key : Key) (s : QueueState) (o : QueueOutcome) : Type 0 where
   -- what waits waited before, or is the command itself
   pub waits : (k : Key) → Waits o.state k → Waits s k ⊎ (k ≡ key)
   -- each answer names the command itself, or one that waited

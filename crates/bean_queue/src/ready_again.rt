@@ -5,9 +5,54 @@ ghost use Rattle.bean_queue.specs.Woken.{AreWoken};
 
 use crate::job_draft::JobDraft;
 use indexmap::IndexSet;
-use job_store::{JobMap, Name, State};
+use job_store::{Job, JobMap, Name, State};
 use object::Value;
 use std::alloc::{AllocError, Global};
+
+/// The jobs that are to be ready again.
+#[derive(Clone, Copy)]
+enum Returning {
+    /// Those whose delay or time to run is over at this second.
+    Due { second: u64 },
+    /// Those that the session has.
+    Held { session: u32 },
+}
+
+impl Returning {
+    ghost use Rattle.std.specs.Prelude.{option_map};
+    ghost use Rattle.job_store.specs.Least.{least};
+    ghost use Rattle.job_store.specs.LookUps.{due_of_job};
+    ghost use Rattle.bean_queue.specs.Effects.{is_returning, returned};
+
+    /// Of these jobs in a map, that of the least (due, id).
+    fn first<M: JobMap>(self, jobs: &M) -> Option<(u64, &Job)>
+        ensures { option_map (λ e. (e.0, e.1.now)) result
+            ≡ least (λ e. is_returning self e.1.state) due_of_job (M.entries jobs.now) }
+    {
+        match self {
+            Returning::Due { second } => jobs.due(second),
+            Returning::Held { session } => jobs.first_held(session),
+        }
+    }
+
+    /// Makes them ready, and tells their tubes.
+    fn make_ready<M: JobMap>(
+        self,
+        alloc: Global,
+        jobs: &mut JobDraft<M>,
+    ) -> Result<IndexSet<Name>, AllocError>
+        ensures now { OnOk result (jobs.new.now ≡ each_value (returned self) jobs.old.now) }
+        ensures woken { IfOk result (λ tubes. AreWoken tubes.keys jobs.old.now jobs.new.now) }
+        ensures before { jobs.new.before ≡ jobs.old.before }
+    {
+        let mut woken = IndexSet::new(alloc);
+        'again: while let Some((id, job)) = self.first(jobs.map()) {
+            woken.insert(job.tube.copy()?)?;
+            jobs.set_state(id, State::Ready)?;
+        }
+        Ok(woken)
+    }
+}
 
 /// Makes the jobs ready whose delay or time to run is over at this second, and tells their tubes.
 pub fn make_due_ready<M: JobMap>(
@@ -19,12 +64,7 @@ pub fn make_due_ready<M: JobMap>(
     ensures woken { IfOk result (λ tubes. AreWoken tubes.keys jobs.old.now jobs.new.now) }
     ensures before { jobs.new.before ≡ jobs.old.before }
 {
-    let mut woken = IndexSet::new(alloc);
-    'again: while let Some((id, job)) = jobs.map().due(second) {
-        woken.insert(job.tube.copy()?)?;
-        jobs.set_state(id, State::Ready)?;
-    }
-    Ok(woken)
+    Returning::Due { second }.make_ready(alloc, jobs)
 }
 
 /// Makes the jobs ready that the session has, and tells their tubes.
@@ -37,10 +77,5 @@ pub fn release_held<M: JobMap>(
     ensures woken { IfOk result (λ tubes. AreWoken tubes.keys jobs.old.now jobs.new.now) }
     ensures before { jobs.new.before ≡ jobs.old.before }
 {
-    let mut woken = IndexSet::new(alloc);
-    'again: while let Some((id, job)) = jobs.map().first_held(session) {
-        woken.insert(job.tube.copy()?)?;
-        jobs.set_state(id, State::Ready)?;
-    }
-    Ok(woken)
+    Returning::Held { session }.make_ready(alloc, jobs)
 }
