@@ -180,11 +180,7 @@ impl<O: Object, S: Ledger, C: Ledger> Shared<O, S, C> {
     }
 
     // Hands in a second of the clock, at the node whose turn it is.
-    fn hand_in_second(
-        &self,
-        hall: &mut CountedHall<O, S, C>,
-        second: u64,
-    ) -> Result<(), HallError>
+    fn hand_in_second(&self, hall: &mut CountedHall<O, S, C>, second: u64) -> Result<(), HallError>
         ensures ok { OnOk result (hall.new.hall ≡ after_tick O.rules hall.old.hall
             (node_at (vec_len self.now.places.nodes) second) second) }
         ensures err { OnErr result (hall.new.hall ≡ hall.old.hall) }

@@ -10,8 +10,7 @@ returns-clause-fed g c = λ _.
     let bytes = take n c.read.new.buf in
     let piece : 0 < length bytes = omega (arith, within, some, length-take n c.read.new.buf) in
     let held = c.make_room.ensures.held in
-    let fed = c.in-Ok.ensures.ok in
-    (
+    let fed = c.in-Ok.ensures.ok in (
       bytes,
       piece,
       search rules,
