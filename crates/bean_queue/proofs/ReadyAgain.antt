@@ -10,7 +10,7 @@ use Rattle.job_store.specs.LookUps.{due_of_job}
 use Rattle.job_store.specs.States.{with_state}
 use Rattle.session_store.specs.EntryLaws.{value_at-here, value_at-next, value_at-In, altered-none}
 use Rattle.bean_queue.specs.declared.ready_again.Returning.{Returning}
-use Rattle.bean_queue.specs.Effects.{is_returning, returned}
+use Rattle.bean_queue.specs.Effects.{is_returning, ready_if}
 use Rattle.bean_queue.specs.TurnLaws.{least-in}
 
 ready-stays : (which : Returning) → is_returning which State.Ready ≡ false
@@ -21,7 +21,7 @@ module _ (which : Returning) where
   abbrev passes : ℕ × Job → Bool
   passes e = is_returning which e.1.state
 
-  each-altered : (k lo hi : ℕ) (es : List (ℕ × Job)) (v : Job) → Rising lo hi es → value_at k es ≡ Some v → is_returning which v.state ≡ true → each_value (returned which) (altered k (with_state State.Ready) es) ≡ each_value (returned which) es
+  each-altered : (k lo hi : ℕ) (es : List (ℕ × Job)) (v : Job) → Rising lo hi es → value_at k es ≡ Some v → is_returning which v.state ≡ true → each_value (ready_if (is_returning which)) (altered k (with_state State.Ready) es) ≡ each_value (ready_if (is_returning which)) es
   each-altered k lo hi [] v r e t = refl
   each-altered k lo hi (d ∷ es) v r e t =
       elim (cases_eq k d.0) [
@@ -64,7 +64,7 @@ module _ (which : Returning) where
   -- what is so after the first of them, e, was made ready
   pub record IsOneMore (jobs new : List (ℕ × Job)) (e : ℕ × Job) : Type 0 where
     pub there : In e jobs
-    pub all : each_value (returned which) new ≡ each_value (returned which) jobs
+    pub all : each_value (ready_if (is_returning which)) new ≡ each_value (ready_if (is_returning which)) jobs
     pub less : many new < many jobs
 
   pub one_more : (lo hi : ℕ) (jobs new : List (ℕ × Job)) (e : ℕ × Job) → Rising lo hi jobs → least passes due_of_job jobs ≡ Some e → new ≡ altered e.0 (with_state State.Ready) jobs → IsOneMore jobs new e
@@ -72,15 +72,15 @@ module _ (which : Returning) where
       let i : In e jobs × (passes e ≡ true) = subst (λ o. IfSome o (λ y. In y jobs × (passes y ≡ true))) found (least-in passes due_of_job jobs) in
       record {
         there = i.0;
-        all = ap (each_value (returned which)) n ∙ each-altered e.0 lo hi jobs e.1 r (value_at-In lo hi jobs e r i.0) i.1;
+        all = ap (each_value (ready_if (is_returning which))) n ∙ each-altered e.0 lo hi jobs e.1 r (value_at-In lo hi jobs e r i.0) i.1;
         less = subst (λ zs. many zs < many jobs) (sym n) (fewer e jobs i.0 i.1);
       }
 
   -- and where none is left
-  pub none_left : (jobs : List (ℕ × Job)) → least passes due_of_job jobs ≡ None → jobs ≡ each_value (returned which) jobs
+  pub none_left : (jobs : List (ℕ × Job)) → least passes due_of_job jobs ≡ None → jobs ≡ each_value (ready_if (is_returning which)) jobs
   none_left [] e = refl
   none_left (d ∷ es) e =
-      elim (is_returning which d.1.state) as (λ b. cond b (Some (lesser due_of_job d (least passes due_of_job es))) (least passes due_of_job es) ≡ None → (d ∷ es) ≡ ((d.0, cond b (with_state State.Ready d.1) d.1) ∷ each_value (returned which) es)) [
+      elim (is_returning which d.1.state) as (λ b. cond b (Some (lesser due_of_job d (least passes due_of_job es))) (least passes due_of_job es) ≡ None → (d ∷ es) ≡ ((d.0, cond b (with_state State.Ready d.1) d.1) ∷ each_value (ready_if (is_returning which)) es)) [
         | true ↦ λ e. cc
         | false ↦ λ e. ap (λ zs. d ∷ zs) (none_left es e)
       ] e

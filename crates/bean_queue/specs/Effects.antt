@@ -74,13 +74,13 @@ unfoldable pub do_effect : Op → Key → QueueState → QueueOutcome
 do_effect op key s =
     if has_no_number op s then ends_wait s key Reply.InternalError else carried_out op key s
 
--- the job is ready again if session x has it
-abbrev pub released_by : ℕ → Job → Job
-released_by x job = if is_held x job.state then with_state State.Ready job else job
+-- the job is ready again, if its state is one of these
+abbrev pub ready_if : (State → Bool) → Job → Job
+ready_if which job = if which job.state then with_state State.Ready job else job
 
--- session x waits no longer, and its jobs are ready again
+-- session x waits no longer, and the jobs that it has are ready again
 abbrev pub released : ℕ → QueueState → QueueState
-released x s = record s { jobs = each_value (released_by x) s.jobs; sessions = with_wait_ended x s.sessions }
+released x s = record s { jobs = each_value (ready_if (is_held x)) s.jobs; sessions = with_wait_ended x s.sessions }
 
 -- session x is gone
 abbrev pub forgotten : ℕ → QueueState → QueueState
@@ -90,23 +90,19 @@ forgotten x s = with_sessions s (without x s.sessions)
 unfoldable pub close_effect : ℕ → QueueState → QueueOutcome
 close_effect x s = let o = serve (released x s) in record { state = forgotten x o.state; answers = o.answers }
 
--- the job is ready if its delay or its time to run is over at this second (protocol.txt of beanstalkd, "put": delay
--- and ttr)
-abbrev pub come_due : ℕ → Job → Job
-come_due second job = if is_due second job.state then with_state State.Ready job else job
-
 -- a job in this state is one of those that are to be ready again
 abbrev pub is_returning : Returning → State → Bool
-is_returning (Returning.Due second) state = is_due second state
-is_returning (Returning.Held x) state = is_held x state
+is_returning (Returning.Due second) = is_due second
+is_returning (Returning.Held x) = is_held x
 
--- the job is ready if it is one of them
-abbrev pub returned : Returning → Job → Job
-returned which job = if is_returning which job.state then with_state State.Ready job else job
-
--- it is this second: jobs that are due by it are ready, and pauses that are over by it are gone
+-- it is this second: jobs whose delay or time to run is over by it are ready (protocol.txt of beanstalkd, "put": delay
+-- and ttr), and pauses that are over by it are gone
 abbrev pub at_second : ℕ → QueueState → QueueState
-at_second second s = record s { now = second; jobs = each_value (come_due second) s.jobs; pauses = left_at second s.pauses }
+at_second second s = record s {
+  now = second;
+  jobs = each_value (ready_if (is_due second)) s.jobs;
+  pauses = left_at second s.pauses;
+}
 
 -- a second above now comes, and a lesser one does nothing
 unfoldable pub tick_effect : ℕ → QueueState → QueueOutcome

@@ -1,6 +1,7 @@
 ghost use Rattle.std.specs.Prelude.{◌≡◌, IfOk, OnOk};
 ghost use Rattle.job_store.specs.Entries.{each_value};
-ghost use Rattle.bean_queue.specs.Effects.{come_due, released_by};
+ghost use Rattle.job_store.specs.States.{is_due, is_held};
+ghost use Rattle.bean_queue.specs.Effects.{ready_if};
 ghost use Rattle.bean_queue.specs.Woken.{AreWoken};
 
 use crate::job_draft::JobDraft;
@@ -22,7 +23,7 @@ impl Returning {
     ghost use Rattle.std.specs.Prelude.{option_map};
     ghost use Rattle.job_store.specs.Least.{least};
     ghost use Rattle.job_store.specs.LookUps.{due_of_job};
-    ghost use Rattle.bean_queue.specs.Effects.{is_returning, returned};
+    ghost use Rattle.bean_queue.specs.Effects.{is_returning};
 
     /// Of these jobs in a map, that of the least (due, id).
     fn first<M: JobMap>(self, jobs: &M) -> Option<(u64, &Job)>
@@ -41,7 +42,7 @@ impl Returning {
         alloc: Global,
         jobs: &mut JobDraft<M>,
     ) -> Result<IndexSet<Name>, AllocError>
-        ensures now { OnOk result (jobs.new.now ≡ each_value (returned self) jobs.old.now) }
+        ensures now { OnOk result (jobs.new.now ≡ each_value (ready_if (is_returning self)) jobs.old.now) }
         ensures woken { IfOk result (λ tubes. AreWoken tubes.keys jobs.old.now jobs.new.now) }
         ensures before { jobs.new.before ≡ jobs.old.before }
     {
@@ -60,7 +61,7 @@ pub fn make_due_ready<M: JobMap>(
     jobs: &mut JobDraft<M>,
     second: u64,
 ) -> Result<IndexSet<Name>, AllocError>
-    ensures now { OnOk result (jobs.new.now ≡ each_value (come_due second) jobs.old.now) }
+    ensures now { OnOk result (jobs.new.now ≡ each_value (ready_if (is_due second)) jobs.old.now) }
     ensures woken { IfOk result (λ tubes. AreWoken tubes.keys jobs.old.now jobs.new.now) }
     ensures before { jobs.new.before ≡ jobs.old.before }
 {
@@ -73,7 +74,7 @@ pub fn release_held<M: JobMap>(
     jobs: &mut JobDraft<M>,
     session: u32,
 ) -> Result<IndexSet<Name>, AllocError>
-    ensures now { OnOk result (jobs.new.now ≡ each_value (released_by session) jobs.old.now) }
+    ensures now { OnOk result (jobs.new.now ≡ each_value (ready_if (is_held session)) jobs.old.now) }
     ensures woken { IfOk result (λ tubes. AreWoken tubes.keys jobs.old.now jobs.new.now) }
     ensures before { jobs.new.before ≡ jobs.old.before }
 {

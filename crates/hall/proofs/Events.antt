@@ -28,7 +28,7 @@ use Rattle.world.specs.Placing.{placed_after}
 use Rattle.world.specs.Reached.{HasPlaced}
 use Rattle.world.specs.Refusals.{most_events}
 use Rattle.world.specs.Runs.{IsWorld}
-use Rattle.world.specs.Steps.{Step, IsItsOwn, submit, deliver, wake, nudge, propose, perform, restart, performed, counted, with_cluster}
+use Rattle.world.specs.Steps.{Step, IsItsOwn, submit, deliver, wake, nudge, propose, perform, restart, after_performing, counted, with_cluster}
 use Rattle.world.specs.Tasks.{event_of}
 use Rattle.world.specs.declared.event.Event.{Event}
 use Rattle.world.specs.declared.event.Event.TheVariants.{Deliver}
@@ -165,19 +165,19 @@ module _ {O Op Reply : Type 0} (rules : Rules O Op Reply) (laws : HallLaws rules
       abbrev x : NodeState (Command Op)
       x = node w.cluster n
 
-      performing_shows : (o : Option (Command Op)) (y : NodeState (Command Op)) (sent : List (Letter (Command Op))) → ShowsNode y (performing rules x o).state → sent ≡ (performing rules x o).sent → ShowsCluster (turned_net k.network n y sent) (performed rules w n x.replica o).cluster
+      performing_shows : (o : Option (Command Op)) (y : NodeState (Command Op)) (sent : List (Letter (Command Op))) → ShowsNode y (performing rules x o).state → sent ≡ (performing rules x o).sent → ShowsCluster (turned_net k.network n y sent) (after_performing rules w n x.replica o).cluster
       performing_shows None y sent is same = still_shows k.network w i s.cluster n member y sent is same
       performing_shows (Some c) y sent is same = turn_shows k.network w i s.cluster n member y sent _ [] is same
 
-      performing_happenings : (o : Option (Command Op)) → (performed rules w n x.replica o).happenings ≡ with_answers (performing rules x o).answers w.happenings
+      performing_happenings : (o : Option (Command Op)) → (after_performing rules w n x.replica o).happenings ≡ with_answers (performing rules x o).answers w.happenings
       performing_happenings None = no_answers w.happenings
       performing_happenings (Some c) = refl
 
-      performing_reach : (o : Option (Command Op)) → (performed rules w n x.replica o).reach ≡ reach_after w.reach (performs x.replica o)
+      performing_reach : (o : Option (Command Op)) → (after_performing rules w n x.replica o).reach ≡ reach_after w.reach (performs x.replica o)
       performing_reach None = refl
       performing_reach (Some c) = refl
 
-      performing_taken : (o : Option (Command Op)) → (performed rules w n x.replica o).taken ≡ w.taken
+      performing_taken : (o : Option (Command Op)) → (after_performing rules w n x.replica o).taken ≡ w.taken
       performing_taken None = refl
       performing_taken (Some c) = refl
 

@@ -29,7 +29,7 @@ use Rattle.node.specs.Outcomes.{key_placed}
 use Rattle.world.specs.Reached.{HasPlaced}
 use Rattle.world.specs.Refusals.{most_events}
 use Rattle.world.specs.Runs.{IsWorld}
-use Rattle.world.specs.Steps.{Step, perform, performed}
+use Rattle.world.specs.Steps.{Step, perform, after_performing}
 use Rattle.world.specs.Tasks.{event_of}
 use Rattle.hall.specs.Recorded.{RecordedState, IsOwnDeed}
 use Rattle.hall.specs.Shows.{Shows}
@@ -81,7 +81,7 @@ module _ {O Op Reply : Type 0} (rules : Rules O Op Reply) (laws : HallLaws rules
     next = next_decided x.replica
 
     abbrev v : World Op Reply
-    v = record (performed rules w n x.replica next) { taken = (performed rules w n x.replica next).taken + 1 }
+    v = record (after_performing rules w n x.replica next) { taken = (after_performing rules w n x.replica next).taken + 1 }
 
     step : Step rules w (event_of n deeds.Perform) v
     step = perform n (there rules laws k.network w i s.cluster n member)
@@ -89,7 +89,7 @@ module _ {O Op Reply : Type 0} (rules : Rules O Op Reply) (laws : HallLaws rules
     world : IsWorld rules v
     world = laws.next w v (event_of n deeds.Perform) i step room_there
 
-    submitted_same : (o : Option (Command Op)) → (performed rules w n x.replica o).happenings.submitted ≡ w.happenings.submitted
+    submitted_same : (o : Option (Command Op)) → (after_performing rules w n x.replica o).happenings.submitted ≡ w.happenings.submitted
     submitted_same None = refl
     submitted_same (Some c) = refl
 
@@ -101,7 +101,7 @@ module _ {O Op Reply : Type 0} (rules : Rules O Op Reply) (laws : HallLaws rules
         ∙ ap (is_submitted key) (sym (submitted_same next))
         ∙ h
 
-    given_then : (o : Option (Command Op)) (a : Answer Reply) → In a (performing rules x o).answers → In a (performed rules w n x.replica o).happenings.answers
+    given_then : (o : Option (Command Op)) (a : Answer Reply) → In a (performing rules x o).answers → In a (after_performing rules w n x.replica o).happenings.answers
     given_then None a j = absurd j
     given_then (Some c) a j = In-right a w.happenings.answers (performing rules x (Some c)).answers j
 

@@ -70,8 +70,8 @@ own_turn rules x deed = acted rules (members_of x) (number_of x) x deed
 
 -- a replica performs this command: in its slot_out, and it takes effect where its number is greater than each earlier
 -- one of its session
-abbrev pub performed_as : {Op : Type 0} → SlotBook (Command Op) → Command Op → Performed
-performed_as book c = record {
+abbrev pub performance_of : {Op : Type 0} → SlotBook (Command Op) → Command Op → Performed
+performance_of book c = record {
   slot = book.slot_out;
   key = c.key;
   effect = if is_new c (history book) then effects.Done else effects.Stale;
@@ -83,7 +83,7 @@ done_if (Some x) = outcomes.Done
 
 abbrev pub performs : {Op : Type 0} → SlotBook (Command Op) → Option (Command Op) → Outcome
 performs book None = outcomes.Idle
-performs book (Some c) = outcomes.Performed (performed_as book c)
+performs book (Some c) = outcomes.Performed (performance_of book c)
 
 -- what came of a deed: nothing where no request can be proposed, or no decision is known to perform
 abbrev pub outcome_of : {Op : Type 0} → NodeState (Command Op) → Deed Op → Outcome

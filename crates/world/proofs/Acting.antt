@@ -21,7 +21,7 @@ use Rattle.node.specs.declared.deed.Outcome.{Outcome}
 use Rattle.world.specs.Nodes.{Cluster, node, turned}
 use Rattle.world.specs.Worlds.{World}
 use Rattle.world.specs.Tasks.{event_of}
-use Rattle.world.specs.Steps.{Step, submit, wake, nudge, propose, perform, restart, AsksForItsOwn, counted, performed}
+use Rattle.world.specs.Steps.{Step, submit, wake, nudge, propose, perform, restart, AsksForItsOwn, counted, after_performing}
 use Rattle.ballot.specs.Members.{is_member}
 use Rattle.world.specs.Refusals.{most_events, IsAllowed, is_at_member}
 use Rattle.world.specs.Showing.{HasNode}
@@ -76,14 +76,14 @@ acts rules w n d = record {
 }
 
 module _ {O Op Reply : Type 0} (rules : Rules O Op Reply) (w : World Op Reply) (n : ℕ) where
-  performed_if : (o : Option (Command Op)) → counted (performed rules w n (node w.cluster n).replica o) ≡ record {
+  performed_if : (o : Option (Command Op)) → counted (after_performing rules w n (node w.cluster n).replica o) ≡ record {
     cluster = turned w.cluster n (performing rules (node w.cluster n) o).state (performing rules (node w.cluster n) o).sent;
     happenings = record { submitted = w.happenings.submitted ++ []; answers = w.happenings.answers ++ (performing rules (node w.cluster n) o).answers };
     reach = reach_after w.reach (performs (node w.cluster n).replica o);
     taken = w.taken + 1;
   }
   performed_if None = λ i. record { cluster = sym (turned_not w.cluster n) i; happenings = sym (nothing_more w.happenings) i; reach = w.reach; taken = w.taken + 1 }
-  performed_if (Some c) = λ i. record (counted (performed rules w n (node w.cluster n).replica (Some c))) { happenings = record (performed rules w n (node w.cluster n).replica (Some c)).happenings { submitted = sym (append-nil w.happenings.submitted) i } }
+  performed_if (Some c) = λ i. record (counted (after_performing rules w n (node w.cluster n).replica (Some c))) { happenings = record (after_performing rules w n (node w.cluster n).replica (Some c)).happenings { submitted = sym (append-nil w.happenings.submitted) i } }
 
   -- it is one event
   pub acts_step : HasNode n w.cluster → (d : Deed Op) → AsksForItsOwn d w.happenings.submitted → Step rules w (event_of n d) (acts rules w n d)

@@ -22,7 +22,7 @@ use Rattle.node.specs.Receiving.{Receives}
 use Rattle.world.specs.declared.event.Event.{Event}
 use Rattle.world.specs.Nodes.{Cluster, node, turned}
 use Rattle.world.specs.Worlds.{World}
-use Rattle.world.specs.Steps.{Step, submit, deliver, wake, nudge, propose, perform, restart, performed, counted, with_cluster}
+use Rattle.world.specs.Steps.{Step, submit, deliver, wake, nudge, propose, perform, restart, after_performing, counted, with_cluster}
 use Rattle.world.specs.Alike.{InPairs, IsAlikeNode, IsAlikeLetter, IsAlike, same_letter, but_report}
 use Rattle.world.proofs.Invariants.{Asked, IsTrueOf, IsFair, IsSound}
 use Rattle.world.proofs.AlikePairs.{InPairs-get, InPairs-append, InPairs-first}
@@ -65,17 +65,17 @@ module _ (laws : BallotLaws) {O Op Reply : Type 0} (rules : Rules O Op Reply) (w
       taken = refl;
     }
 
-    performed_with : (n : ℕ) (book : SlotBook (Command Op)) (o : Option (Command Op)) → (node w.cluster n).replica ≡ book → IsAlike (counted (performed rules w n book o)) (counted (performed rules other n book o))
+    performed_with : (n : ℕ) (book : SlotBook (Command Op)) (o : Option (Command Op)) → (node w.cluster n).replica ≡ book → IsAlike (counted (after_performing rules w n book o)) (counted (after_performing rules other n book o))
     performed_with n book None e = record { members = refl; nodes = same_nodes; letters = same_letters; happenings = refl; reach = refl; taken = refl }
     performed_with n book (Some c) e =
         let t = replica_alike (λ b. advanced (is_one rules) book) (λ b. []) (node w.cluster n) (node other.cluster n) (there n) in
         let h = turned_alike n (record (node w.cluster n) { replica = advanced (is_one rules) book }) (record (node other.cluster n) { replica = advanced (is_one rules) book }) [] [] t in
         record { members = refl; nodes = h.nodes; letters = h.letters; happenings = refl; reach = refl; taken = refl }
 
-    performs_alike : (n : ℕ) → IsAlike (counted (performed rules w n (node w.cluster n).replica (next_decided (node w.cluster n).replica))) (counted (performed rules other n (node other.cluster n).replica (next_decided (node other.cluster n).replica)))
+    performs_alike : (n : ℕ) → IsAlike (counted (after_performing rules w n (node w.cluster n).replica (next_decided (node w.cluster n).replica))) (counted (after_performing rules other n (node other.cluster n).replica (next_decided (node other.cluster n).replica)))
     performs_alike n =
         subst
-        (λ (b : SlotBook (Command Op)). IsAlike (counted (performed rules w n (node w.cluster n).replica (next_decided (node w.cluster n).replica))) (counted (performed rules other n b (next_decided b))))
+        (λ (b : SlotBook (Command Op)). IsAlike (counted (after_performing rules w n (node w.cluster n).replica (next_decided (node w.cluster n).replica))) (counted (after_performing rules other n b (next_decided b))))
         (replica_same (node w.cluster n) (node other.cluster n) (there n))
         (performed_with n (node w.cluster n).replica (next_decided (node w.cluster n).replica) refl)
 

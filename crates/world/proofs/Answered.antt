@@ -16,7 +16,7 @@ use Rattle.node.specs.Kept.{IsPerformed}
 use Rattle.world.specs.Nodes.{Cluster, node}
 use Rattle.world.specs.Worlds.{World, opening}
 use Rattle.object.specs.Happenings.{is_submitted, with_submission}
-use Rattle.world.specs.Steps.{Step, submit, deliver, wake, nudge, propose, perform, restart, performed, with_cluster, counted}
+use Rattle.world.specs.Steps.{Step, submit, deliver, wake, nudge, propose, perform, restart, after_performing, with_cluster, counted}
 use Rattle.world.specs.Runs.{Leads, at_once, after, IsReachable}
 use Rattle.world.specs.Chosen.{IsChosen, IsChosenFrom, IsOrder}
 use Rattle.world.specs.Reached.{IsRun, IsReached}
@@ -148,7 +148,7 @@ module _ {O Op Reply : Type 0} (rules : Rules O Op Reply) (v : World Op Reply) (
         (λ (l : (node v.cluster n).replica.slot_out ≤ v.reach). (told.reached, told.chosen, let e = told.reach in omega arith))
         (cases_lt v.reach (node v.cluster n).replica.slot_out)
 
-  performs_traced : IsSound v.cluster → (n : ℕ) → (o : Option (Command Op)) → next_decided (node v.cluster n).replica ≡ o → Grows v.cluster (performed rules v n (node v.cluster n).replica o).cluster → AllPerformed (performed rules v n (node v.cluster n).replica o).cluster → IsTraced rules (counted (performed rules v n (node v.cluster n).replica o))
+  performs_traced : IsSound v.cluster → (n : ℕ) → (o : Option (Command Op)) → next_decided (node v.cluster n).replica ≡ o → Grows v.cluster (after_performing rules v n (node v.cluster n).replica o).cluster → AllPerformed (after_performing rules v n (node v.cluster n).replica o).cluster → IsTraced rules (counted (after_performing rules v n (node v.cluster n).replica o))
   performs_traced i n None e g full = quiet_traced v.cluster g full
   performs_traced i n (Some c) e g full = record {
     full = full;
@@ -163,7 +163,7 @@ module _ {O Op Reply : Type 0} (rules : Rules O Op Reply) (v : World Op Reply) (
   }
     where
       z : Cluster (Command Op)
-      z = (performed rules v n (node v.cluster n).replica (Some c)).cluster
+      z = (after_performing rules v n (node v.cluster n).replica (Some c)).cluster
 
       slot : ℕ
       slot = (node v.cluster n).replica.slot_out

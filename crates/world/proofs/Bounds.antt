@@ -31,7 +31,7 @@ use Rattle.object.specs.Objects.{Rules}
 use Rattle.node.specs.Nodes.{NodeState, restarted}
 use Rattle.world.specs.Nodes.{Cluster, node, turned}
 use Rattle.world.specs.Worlds.{World, opening}
-use Rattle.world.specs.Steps.{Step, submit, deliver, wake, nudge, propose, perform, restart, performed}
+use Rattle.world.specs.Steps.{Step, submit, deliver, wake, nudge, propose, perform, restart, after_performing}
 use Rattle.node.specs.Receiving.{Receives, promises_ballot, accepts_pvalue, hears_promise, hears_vote, hears_proposal, learns, tells_decisions}
 use Rattle.node.specs.Deeds.{said_again}
 use Rattle.world.specs.Runs.{Leads, at_once, after, IsReachable}
@@ -249,7 +249,7 @@ module _ (laws : BallotLaws) {C : Type 0} (k : Cluster C) (i : IsSound k) (r : �
     asked_within (Some p) = (tt, tt)
 
 module _ (laws : BallotLaws) {O Op Reply : Type 0} (rules : Rules O Op Reply) where
-  performs_within : (w : World Op Reply) → IsSound w.cluster → IsWithin w.taken w.cluster → (n : ℕ) → is_member w.cluster.members n ≡ true → (o : Option (Command Op)) → IsWithin ((performed rules w n (node w.cluster n).replica o).taken + 1) (performed rules w n (node w.cluster n).replica o).cluster
+  performs_within : (w : World Op Reply) → IsSound w.cluster → IsWithin w.taken w.cluster → (n : ℕ) → is_member w.cluster.members n ≡ true → (o : Option (Command Op)) → IsWithin ((after_performing rules w n (node w.cluster n).replica o).taken + 1) (after_performing rules w n (node w.cluster n).replica o).cluster
   performs_within w i h n member None = within_more w.taken w.cluster h
   performs_within w i h n member (Some c) = replica_within laws w.cluster i w.taken h n member _ [] tt
 

@@ -9,7 +9,7 @@ use Rattle.world.specs.declared.event.Event.{Event}
 use Rattle.object.specs.Objects.{Rules}
 use Rattle.world.specs.Nodes.{node}
 use Rattle.world.specs.Worlds.{World, opening}
-use Rattle.world.specs.Steps.{Step, submit, deliver, wake, nudge, propose, perform, restart, performed}
+use Rattle.world.specs.Steps.{Step, submit, deliver, wake, nudge, propose, perform, restart, after_performing}
 use Rattle.world.specs.Refusals.{most_events}
 use Rattle.world.specs.Runs.{IsWorld, InEvery, AfterEach}
 use Rattle.world.specs.Showing.{IsReceivable}
@@ -32,7 +32,7 @@ module _ (laws : BallotLaws) {O Op Reply : Type 0} (rules : Rules O Op Reply) wh
   sound : (w : World Op Reply) → IsWorld rules w → IsSound w.cluster
   sound w i = reachable_sound laws rules w i.reachable
 
-  perform_counts : (w : World Op Reply) (n : ℕ) (book : SlotBook (Command Op)) (o : Option (Command Op)) → (performed rules w n book o).taken ≡ w.taken
+  perform_counts : (w : World Op Reply) (n : ℕ) (book : SlotBook (Command Op)) (o : Option (Command Op)) → (after_performing rules w n book o).taken ≡ w.taken
   perform_counts w n book None = refl
   perform_counts w n book (Some c) = refl
 

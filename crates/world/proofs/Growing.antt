@@ -12,7 +12,7 @@ use Rattle.object.specs.Obeying.{answers_after}
 use Rattle.world.specs.Nodes.{Cluster, node}
 use Rattle.object.specs.Happenings.{Happenings, is_submitted}
 use Rattle.world.specs.Worlds.{World}
-use Rattle.world.specs.Steps.{Step, submit, deliver, wake, nudge, propose, perform, restart, performed}
+use Rattle.world.specs.Steps.{Step, submit, deliver, wake, nudge, propose, perform, restart, after_performing}
 use Rattle.world.specs.Runs.{Leads, at_once, after, IsReachable}
 use Rattle.world.specs.Chosen.{IsChosenFrom, IsOrder}
 use Rattle.object.specs.Legal.{GoesOn}
@@ -73,7 +73,7 @@ goes_on_trans f g h a b = record {
     more s i = ⊎_elim (λ (x : In s a.submitted.0). a.submitted.2 s x) (λ (y : In s b.submitted.0). let l = b.submitted.2 s y in let m = fewer in omega arith) (In-cases s a.submitted.0 b.submitted.0 i)
 
 module _ {O Op Reply : Type 0} (rules : Rules O Op Reply) where
-  performs_on : (w : World Op Reply) (n : ℕ) (o : Option (Command Op)) → GoesOn w.happenings (performed rules w n (node w.cluster n).replica o).happenings
+  performs_on : (w : World Op Reply) (n : ℕ) (o : Option (Command Op)) → GoesOn w.happenings (after_performing rules w n (node w.cluster n).replica o).happenings
   performs_on w n None = goes_on_itself w.happenings
   performs_on w n (Some c) = record { answers = (answers_after rules (history (node w.cluster n).replica) c, refl); submitted = ([], sym (append-nil w.happenings.submitted), λ s i. absurd i) }
 

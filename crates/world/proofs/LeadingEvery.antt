@@ -19,7 +19,7 @@ use Rattle.world.specs.declared.event.Event.{Event}
 use Rattle.world.specs.Leading.{IsLed, HasLeader}
 use Rattle.world.specs.Nodes.{Cluster, node, turned}
 use Rattle.world.specs.Runs.{InEvery}
-use Rattle.world.specs.Steps.{Step, submit, deliver, wake, nudge, propose, perform, restart, performed, leader_turn}
+use Rattle.world.specs.Steps.{Step, submit, deliver, wake, nudge, propose, perform, restart, after_performing, leader_turn}
 use Rattle.world.specs.Worlds.{World, opening}
 use Rattle.world.proofs.Grows.{Grows}
 use Rattle.world.proofs.Invariants.{IsFair, IsSound, IsTrueOf}
@@ -74,7 +74,7 @@ module _ (laws : BallotLaws) {O Op Reply : Type 0} (rules : Rules O Op Reply) wh
   abbrev AllLed : World Op Reply → Type 0
   AllLed w = (m : ℕ) → HasLeader w.cluster m
 
-  performs_led : (w : World Op Reply) → IsSound w.cluster → AllLed w → (n : ℕ) → is_member w.cluster.members n ≡ true → (o : Option (Command Op)) → Grows w.cluster (performed rules w n (node w.cluster n).replica o).cluster → AllLed (performed rules w n (node w.cluster n).replica o)
+  performs_led : (w : World Op Reply) → IsSound w.cluster → AllLed w → (n : ℕ) → is_member w.cluster.members n ≡ true → (o : Option (Command Op)) → Grows w.cluster (after_performing rules w n (node w.cluster n).replica o).cluster → AllLed (after_performing rules w n (node w.cluster n).replica o)
   performs_led w i all n member None g = all
   performs_led w i all n member (Some c) g = same_led laws w.cluster i all n member _ [] refl g
 

@@ -7,13 +7,13 @@ use Rattle.slot_log.specs.Books.{SlotBook}
 use Rattle.slot_log.specs.Decisions.{next_decided}
 use Rattle.world.specs.Nodes.{node}
 use Rattle.world.specs.Worlds.{World}
-use Rattle.world.specs.Steps.{Step, submit, deliver, wake, nudge, propose, perform, restart, performed}
+use Rattle.world.specs.Steps.{Step, submit, deliver, wake, nudge, propose, perform, restart, after_performing}
 use Rattle.world.specs.Runs.{Leads, at_once, after}
 use Rattle.world.specs.declared.event.Event.{Event}
 use Rattle.world.proofs.Talking.{begins_itself, begins_further}
 
 module _ {O Op Reply : Type 0} (rules : Rules O Op Reply) where
-  performed_letters : (w : World Op Reply) (n : ℕ) (book : SlotBook (Command Op)) (o : Option (Command Op)) → IsBeginning w.cluster.letters (performed rules w n book o).cluster.letters
+  performed_letters : (w : World Op Reply) (n : ℕ) (book : SlotBook (Command Op)) (o : Option (Command Op)) → IsBeginning w.cluster.letters (after_performing rules w n book o).cluster.letters
   performed_letters w n book None = begins_itself w.cluster.letters
   performed_letters w n book (Some c) = ([], refl)
 

@@ -17,7 +17,7 @@ use Rattle.world.specs.declared.event.Event.TheVariants as events
 use Rattle.world.specs.Mentions.{MentionsBody, MentionsNode, Mentions, is_calm, ProposesOnly}
 use Rattle.world.specs.Nodes.{Cluster, node}
 use Rattle.world.specs.Runs.{InEvery, IsWorld}
-use Rattle.world.specs.Steps.{Step, submit, deliver, wake, nudge, propose, perform, restart, performed}
+use Rattle.world.specs.Steps.{Step, submit, deliver, wake, nudge, propose, perform, restart, after_performing}
 use Rattle.world.specs.Worlds.{World, opening}
 use Rattle.world.proofs.Every.{counts, within_reach}
 use Rattle.world.proofs.Invariants.{IsFair, IsSound}
@@ -58,7 +58,7 @@ module _ {C : Type 0} (P Q : ℕ → C → Type 0) (more : (s : ℕ) (c : C) →
   }
 
 module _ (laws : BallotLaws) {O Op Reply : Type 0} (rules : Rules O Op Reply) (P : ℕ → Command Op → Type 0) where
-  performs_of : (w : World Op Reply) → IsSound w.cluster → Mentions P w.cluster → (n : ℕ) → is_member w.cluster.members n ≡ true → (o : Option (Command Op)) → Mentions P (performed rules w n (node w.cluster n).replica o).cluster
+  performs_of : (w : World Op Reply) → IsSound w.cluster → Mentions P w.cluster → (n : ℕ) → is_member w.cluster.members n ≡ true → (o : Option (Command Op)) → Mentions P (after_performing rules w n (node w.cluster n).replica o).cluster
   performs_of w i f n member None = f
   performs_of w i f n member (Some c) = perform_of P laws w.cluster i f n member (is_one rules)
 
@@ -98,7 +98,7 @@ pub next_open : {C : Type 0} (book : SlotBook C) (s : ℕ) (c : C) → next_prop
 next_open book s c e = open_is book s (proposed_open book.requests (open_slot book) s c e)
 
 module _ {O Op Reply : Type 0} (rules : Rules O Op Reply) where
-  performed_reach : (w : World Op Reply) (n : ℕ) (o : Option (Command Op)) → w.reach ≤ (performed rules w n (node w.cluster n).replica o).reach
+  performed_reach : (w : World Op Reply) (n : ℕ) (o : Option (Command Op)) → w.reach ≤ (after_performing rules w n (node w.cluster n).replica o).reach
   performed_reach w n None = omega arith
   performed_reach w n (Some c) = omega arith
 
@@ -112,7 +112,7 @@ module _ {O Op Reply : Type 0} (rules : Rules O Op Reply) where
   reach_grows w v e (perform n member) = performed_reach w n (next_decided (node w.cluster n).replica)
   reach_grows w v e (restart n member) = omega arith
 
-  performed_next : (w : World Op Reply) (n : ℕ) (o : Option (Command Op)) → (node w.cluster n).replica.slot_out ≤ w.reach + 1 → (performed rules w n (node w.cluster n).replica o).reach ≤ w.reach + 1
+  performed_next : (w : World Op Reply) (n : ℕ) (o : Option (Command Op)) → (node w.cluster n).replica.slot_out ≤ w.reach + 1 → (after_performing rules w n (node w.cluster n).replica o).reach ≤ w.reach + 1
   performed_next w n None low = omega arith
   performed_next w n (Some c) low = omega arith
 

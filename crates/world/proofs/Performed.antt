@@ -27,7 +27,7 @@ use Rattle.world.specs.Nodes.{Cluster, node, turned}
 use Rattle.world.specs.Worlds.{World}
 use Rattle.node.specs.Receiving.{Receives, promises_ballot, accepts_pvalue, hears_promise, hears_vote, hears_proposal, learns, tells_decisions}
 use Rattle.node.specs.Deeds.{said_again}
-use Rattle.world.specs.Steps.{Step, submit, deliver, wake, nudge, propose, perform, restart, performed as performed_by}
+use Rattle.world.specs.Steps.{Step, submit, deliver, wake, nudge, propose, perform, restart, after_performing as performed_by}
 use Rattle.world.specs.Chosen.{IsChosen, IsChosenFrom}
 use Rattle.world.specs.Reached.{IsRun}
 use Rattle.object.specs.ListLaws.{Each-at, In-get}

@@ -14,7 +14,7 @@ use Rattle.object.specs.declared.once.Effect.TheVariants as effects
 use Rattle.ballot.specs.OrderLaws.{BallotLaws}
 use Rattle.slot_log.specs.Books.{SlotBook}
 use Rattle.slot_log.specs.Decisions.{next_decided}
-use Rattle.node.specs.Deeds.{performed_as, performs}
+use Rattle.node.specs.Deeds.{performance_of, performs}
 use Rattle.slot_log.specs.Histories.{history}
 use Rattle.world.specs.declared.event.Event.{Event}
 use Rattle.world.specs.Chosen.{IsChosen}
@@ -24,7 +24,7 @@ use Rattle.node.specs.Outcomes.{reach_after, takes_effect, key_placed}
 use Rattle.world.specs.Placing.{placed_after}
 use Rattle.world.specs.Reached.{IsReached, HasKey, HasPlaced}
 use Rattle.world.specs.Runs.{IsWorld}
-use Rattle.world.specs.Steps.{Step, submit, deliver, wake, nudge, propose, perform, restart, performed}
+use Rattle.world.specs.Steps.{Step, submit, deliver, wake, nudge, propose, perform, restart, after_performing}
 use Rattle.world.proofs.Answered.{reachable_traced}
 use Rattle.world.proofs.Grows.{Grows}
 use Rattle.world.proofs.Invariants.{IsSound}
@@ -95,7 +95,7 @@ module _ (laws : BallotLaws) {Op Reply : Type 0} (w v : World Op Reply) (i : IsS
         → HasPlaced v (keys ++ option_to_list (key_placed w.reach (performs (node w.cluster n).replica o)))
     performs_placed within None decided reach = subst (HasPlaced v) (sym (append-nil keys)) (placed_stays reach)
     performs_placed within (Some c) decided reach =
-        elim (nat_lt w.reach slot) as (λ b. nat_lt w.reach slot ≡ b → HasPlaced v (keys ++ option_to_list (cond (b && takes_effect (performed_as book c).effect) (Some c.key) None))) [
+        elim (nat_lt w.reach slot) as (λ b. nat_lt w.reach slot ≡ b → HasPlaced v (keys ++ option_to_list (cond (b && takes_effect (performance_of book c).effect) (Some c.key) None))) [
           | true ↦ λ past. let low = within n in let high = past_when w.reach slot past in placed_more c decided (omega arith) (omega arith)
           | false ↦ λ old. let low = within_when w.reach slot old in subst (HasPlaced v) (sym (append-nil keys)) (placed_stays (reach ∙ omega arith))
         ] refl
@@ -107,7 +107,7 @@ module _ (laws : BallotLaws) {Op Reply : Type 0} (w v : World Op Reply) (i : IsS
         slot = (node w.cluster n).replica.slot_out
 
 module _ (laws : BallotLaws) {O Op Reply : Type 0} (rules : Rules O Op Reply) where
-  reach_then : (w : World Op Reply) (n : ℕ) (o : Option (Command Op)) → (performed rules w n (node w.cluster n).replica o).reach ≡ reach_after w.reach (performs (node w.cluster n).replica o)
+  reach_then : (w : World Op Reply) (n : ℕ) (o : Option (Command Op)) → (after_performing rules w n (node w.cluster n).replica o).reach ≡ reach_after w.reach (performs (node w.cluster n).replica o)
   reach_then w n None = refl
   reach_then w n (Some c) = refl
 

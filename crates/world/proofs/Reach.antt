@@ -11,7 +11,7 @@ use Rattle.object.specs.Objects.{Rules, is_one}
 use Rattle.node.specs.Nodes.{NodeState, new_node, node_in}
 use Rattle.world.specs.Nodes.{Cluster, new_cluster, node}
 use Rattle.world.specs.Worlds.{World, opening}
-use Rattle.world.specs.Steps.{Step, submit, deliver, wake, nudge, propose, perform, restart, performed}
+use Rattle.world.specs.Steps.{Step, submit, deliver, wake, nudge, propose, perform, restart, after_performing}
 use Rattle.world.specs.Runs.{Leads, at_once, after, IsReachable}
 use Rattle.object.specs.ListLaws.{Each-at, In-get}
 use Rattle.node.specs.SlotLaws.{none_in_empty}
@@ -24,7 +24,7 @@ use Rattle.world.proofs.LeaderRows.{none_not, off_on, woken_good}
 use Rattle.world.proofs.Rows.{receive_sound, restart_sound, nudge_sound, request_sound, propose_sound, quiet_sound}
 
 module _ (laws : BallotLaws) {O Op Reply : Type 0} (rules : Rules O Op Reply) where
-  performs_sound : (w : World Op Reply) → IsSound w.cluster → (n : ℕ) → is_member w.cluster.members n ≡ true → (o : Option (Command Op)) → Kept w.cluster (performed rules w n (node w.cluster n).replica o).cluster
+  performs_sound : (w : World Op Reply) → IsSound w.cluster → (n : ℕ) → is_member w.cluster.members n ≡ true → (o : Option (Command Op)) → Kept w.cluster (after_performing rules w n (node w.cluster n).replica o).cluster
   performs_sound w i n member None = record { sound = i; grows = grows_itself w.cluster }
   performs_sound w i n member (Some c) = quiet_sound laws w.cluster i n member (advanced (is_one rules) (node w.cluster n).replica) refl
 

@@ -20,7 +20,7 @@ use Rattle.world.specs.declared.event.Event.{Event}
 use Rattle.world.specs.Nodes.{Cluster, node, turned}
 use Rattle.world.specs.Runs.{InEvery}
 use Rattle.world.specs.SlotBooks.{IsBookAfter}
-use Rattle.world.specs.Steps.{Step, submit, deliver, wake, nudge, propose, perform, restart, performed}
+use Rattle.world.specs.Steps.{Step, submit, deliver, wake, nudge, propose, perform, restart, after_performing}
 use Rattle.world.specs.Worlds.{World}
 use Rattle.world.proofs.Invariants.{IsFair, IsSound}
 use Rattle.world.proofs.LeadingRuns.{in_every}
@@ -52,7 +52,7 @@ module _ (laws : BallotLaws) {C : Type 0} (k : Cluster C) (i : IsSound k) (count
   calm_booked x out fine = turn_booked x out (more_booked count (count + 1) (omega arith) x.replica fine)
 
 module _ (laws : BallotLaws) {O Op Reply : Type 0} (rules : Rules O Op Reply) where
-  performs_booked : (w : World Op Reply) → IsSound w.cluster → AllBooked w.taken w.cluster → (n : ℕ) → is_member w.cluster.members n ≡ true → (o : Option (Command Op)) → next_decided (node w.cluster n).replica ≡ o → AllBooked ((performed rules w n (node w.cluster n).replica o).taken + 1) (performed rules w n (node w.cluster n).replica o).cluster
+  performs_booked : (w : World Op Reply) → IsSound w.cluster → AllBooked w.taken w.cluster → (n : ℕ) → is_member w.cluster.members n ≡ true → (o : Option (Command Op)) → next_decided (node w.cluster n).replica ≡ o → AllBooked ((after_performing rules w n (node w.cluster n).replica o).taken + 1) (after_performing rules w n (node w.cluster n).replica o).cluster
   performs_booked w i all n member None e = λ m. more_booked w.taken (w.taken + 1) (omega arith) (node w.cluster m).replica (all m)
   performs_booked w i all n member (Some c) e = calm_booked laws w.cluster i w.taken all n member _ [] (advanced_booked (is_one rules) (node w.cluster n).replica c w.taken e (all n))
 

@@ -25,7 +25,7 @@ use Rattle.node.specs.Deeds.{led}
 use Rattle.node.specs.Receiving.{Receives, hears_proposal, learns}
 use Rattle.world.specs.Nodes.{node, turned}
 use Rattle.world.specs.Worlds.{World}
-use Rattle.world.specs.Steps.{Step, propose, perform, counted, with_cluster, replica_turn, performed}
+use Rattle.world.specs.Steps.{Step, propose, perform, counted, with_cluster, replica_turn, after_performing}
 use Rattle.world.specs.declared.event.Event.TheVariants as events
 use Rattle.world.proofs.Invariants.{IsSound}
 use Rattle.world.proofs.Turns.{here, there}
@@ -101,13 +101,13 @@ module _ (laws : BallotLaws) {O Op Reply : Type 0} (rules : Rules O Op Reply) (w
       (turned_first laws w i first (record (node w.cluster 1) { replica = proposed_next (node w.cluster 1).replica }) (all_to_all w.cluster.members 1 (proposes_first (next_proposal (node w.cluster 1).replica))) refl)
 
   -- replica 1 performed the next decision
-  perform_is : (z : World Op Reply) → Step rules w (events.Perform 1) z → z ≡ counted (performed rules w 1 (node w.cluster 1).replica (next_decided (node w.cluster 1).replica))
+  perform_is : (z : World Op Reply) → Step rules w (events.Perform 1) z → z ≡ counted (after_performing rules w 1 (node w.cluster 1).replica (next_decided (node w.cluster 1).replica))
   perform_is _ (perform n member) = refl
 
   pub perform_turned : (c : Command Op) → next_decided (node w.cluster 1).replica ≡ Some c → Step rules w (events.Perform 1) v
       → IsTurned w v (record (node w.cluster 1) { replica = advanced (is_one rules) (node w.cluster 1).replica }) []
   perform_turned c known step =
-      subst (λ z. IsTurned w z x []) (sym (perform_is v step ∙ ap (λ o. counted (performed rules w 1 (node w.cluster 1).replica o)) known))
+      subst (λ z. IsTurned w z x []) (sym (perform_is v step ∙ ap (λ o. counted (after_performing rules w 1 (node w.cluster 1).replica o)) known))
       (record { first = t.first; acceptors = t.acceptors; members = refl; letters = refl; submitted = refl; count = refl })
     where
       x : NodeState (Command Op)

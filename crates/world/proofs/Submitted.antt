@@ -13,7 +13,7 @@ use Rattle.world.specs.Nodes.{new_cluster, node}
 use Rattle.object.specs.Happenings.{Happenings, is_submitted, with_submission}
 use Rattle.world.specs.Worlds.{World, opening}
 use Rattle.object.specs.Keys.{same_key}
-use Rattle.world.specs.Steps.{Step, IsItsOwn, submit, deliver, wake, nudge, propose, perform, restart, performed}
+use Rattle.world.specs.Steps.{Step, IsItsOwn, submit, deliver, wake, nudge, propose, perform, restart, after_performing}
 use Rattle.world.specs.Runs.{Leads, at_once, after}
 use Rattle.world.specs.Chosen.{IsChosen}
 use Rattle.object.specs.Legal.{WasSubmitted, GoesOn}
@@ -52,7 +52,7 @@ opening_of : {C : Type 0} (P : C → Type 0) (members : List ℕ) → Of P (new_
 opening_of {C} P members = record { nodes = λ n. subst (λ (x : NodeState C). OfNode P x) (sym (opened_at members n)) (new_node_of P members n); letters = tt }
 
 module _ (laws : BallotLaws) {O Op Reply : Type 0} (rules : Rules O Op Reply) (P : Command Op → Type 0) where
-  performs_of : (v : World Op Reply) → IsSound v.cluster → (n : ℕ) → is_member v.cluster.members n ≡ true → Of P v.cluster → (o : Option (Command Op)) → Of P (performed rules v n (node v.cluster n).replica o).cluster
+  performs_of : (v : World Op Reply) → IsSound v.cluster → (n : ℕ) → is_member v.cluster.members n ≡ true → Of P v.cluster → (o : Option (Command Op)) → Of P (after_performing rules v n (node v.cluster n).replica o).cluster
   performs_of v i n member f None = f
   performs_of v i n member f (Some c) = perform_of P laws v.cluster i n member f (is_one rules)
 

@@ -26,7 +26,7 @@ use Rattle.slot_log.proofs.OpenSlots.{open_is}
 use Rattle.world.specs.Chosen.{IsChosen}
 use Rattle.world.specs.Nodes.{Cluster, node, new_cluster, turned}
 use Rattle.world.specs.Runs.{Leads, at_once, after, IsReachable, InEvery}
-use Rattle.world.specs.Steps.{Step, submit, deliver, wake, nudge, propose, perform, restart, performed, replica_turn}
+use Rattle.world.specs.Steps.{Step, submit, deliver, wake, nudge, propose, perform, restart, after_performing, replica_turn}
 use Rattle.world.specs.Telling.{IsProposedAt, IsProposedUpto, IsMentioned, is_proposed, is_decided, is_led, is_commanded, is_gathered, is_accepted, says_propose, says_decision, says_accept, says_report}
 use Rattle.world.specs.Worlds.{World, opening}
 use Rattle.world.specs.declared.event.Event.{Event}
@@ -130,7 +130,7 @@ module _ (laws : BallotLaws) {O Op Reply : Type 0} (rules : Rules O Op Reply) wh
 
   -- each event but a Propose, for any slots that may be told of
   module _ (P : ℕ → Type 0) (zero_of : P 0) where
-    performs_of : (v : World Op Reply) → IsSound v.cluster → (n : ℕ) → is_member v.cluster.members n ≡ true → Of P v.cluster → (o : Option (Command Op)) → Of P (performed rules v n (node v.cluster n).replica o).cluster
+    performs_of : (v : World Op Reply) → IsSound v.cluster → (n : ℕ) → is_member v.cluster.members n ≡ true → Of P v.cluster → (o : Option (Command Op)) → Of P (after_performing rules v n (node v.cluster n).replica o).cluster
     performs_of v i n member f None = f
     performs_of v i n member f (Some c) = perform_of P zero_of laws v.cluster i n member f (is_one rules)
 

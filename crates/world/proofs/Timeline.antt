@@ -13,7 +13,7 @@ use Rattle.world.specs.Nodes.{node}
 use Rattle.object.specs.Happenings.{Happenings, is_submitted, with_submission, with_answers, SubmittedOnce, ComeInOrder}
 use Rattle.world.specs.Worlds.{World, opening}
 use Rattle.object.specs.Keys.{same_key}
-use Rattle.world.specs.Steps.{Step, submit, deliver, wake, nudge, propose, perform, restart, performed}
+use Rattle.world.specs.Steps.{Step, submit, deliver, wake, nudge, propose, perform, restart, after_performing}
 use Rattle.world.specs.Runs.{Leads, at_once, after, IsReachable}
 use Rattle.object.specs.ListLaws.{In-cases}
 use Rattle.object.specs.KeyLaws.{same_when}
@@ -75,7 +75,7 @@ with_more_answers given h t = record {
 }
 
 module _ {O Op Reply : Type 0} (rules : Rules O Op Reply) where
-  performs_timely : (w : World Op Reply) (n : ℕ) (o : Option (Command Op)) → IsInTime w.happenings → IsInTime (performed rules w n (node w.cluster n).replica o).happenings
+  performs_timely : (w : World Op Reply) (n : ℕ) (o : Option (Command Op)) → IsInTime w.happenings → IsInTime (after_performing rules w n (node w.cluster n).replica o).happenings
   performs_timely w n None t = t
   performs_timely w n (Some c) t = with_more_answers (answers_after rules (history (node w.cluster n).replica) c) w.happenings t
 

@@ -25,7 +25,7 @@ use Rattle.world.specs.Worlds.{World, opening}
 use Rattle.object.specs.Happenings.{is_submitted, with_submission}
 use Rattle.node.specs.Receiving.{Receives, promises_ballot, accepts_pvalue, hears_promise, hears_vote, hears_proposal, learns, tells_decisions}
 use Rattle.node.specs.Deeds.{said_again}
-use Rattle.world.specs.Steps.{Step, submit, deliver, wake, nudge, propose, perform, restart, performed}
+use Rattle.world.specs.Steps.{Step, submit, deliver, wake, nudge, propose, perform, restart, after_performing}
 use Rattle.world.specs.Runs.{Leads, at_once, after, IsReachable, IsWorld}
 use Rattle.world.specs.Chosen.{IsChosen}
 use Rattle.object.specs.Legal.{IsGivenAt}
@@ -69,7 +69,7 @@ module _ (laws : BallotLaws) {O Op Reply : Type 0} (rules : Rules O Op Reply) wh
   turn_within : (k : Cluster (Command Op)) (i : IsSound k) (n : ℕ) (member : is_member k.members n ≡ true) (x : NodeState (Command Op)) (out : List (Letter (Command Op))) (bound : ℕ) → AllWithin k bound → x.replica.slot_out ≤ bound → AllWithin (turned k n x out) bound
   turn_within k i n member x out bound f fx = turn_all laws (λ r. r.slot_out ≤ bound) k i n member x out f fx
 
-  performs_within : (v : World Op Reply) → IsSound v.cluster → (n : ℕ) → is_member v.cluster.members n ≡ true → AllWithin v.cluster (v.reach + 1) → (o : Option (Command Op)) → AllWithin (performed rules v n (node v.cluster n).replica o).cluster ((performed rules v n (node v.cluster n).replica o).reach + 1)
+  performs_within : (v : World Op Reply) → IsSound v.cluster → (n : ℕ) → is_member v.cluster.members n ≡ true → AllWithin v.cluster (v.reach + 1) → (o : Option (Command Op)) → AllWithin (after_performing rules v n (node v.cluster n).replica o).cluster ((after_performing rules v n (node v.cluster n).replica o).reach + 1)
   performs_within v i n member f None = f
   performs_within v i n member f (Some c) =
       turn_within v.cluster i n member _ [] (max v.reach (node v.cluster n).replica.slot_out + 1) (λ m. let l = f m in omega arith) (omega arith)
@@ -133,7 +133,7 @@ module _ (laws : BallotLaws) {O Op Reply : Type 0} (rules : Rules O Op Reply) (v
       (λ (new : In a (answers_after rules earlier c)). In-right a v.happenings.answers (answers_after rules earlier c) new)
       (given_push rules earlier c place a (subst (λ l. IsGivenAt rules (kept l) place a) e given)))
 
-  performs_told : IsSound v.cluster → AllPerformed v.cluster → AllWithin v.cluster (v.reach + 1) → (n : ℕ) (o : Option (Command Op)) → next_decided (node v.cluster n).replica ≡ o → (u : World Op Reply) → IsSound u.cluster → Grows v.cluster u.cluster → u.reach ≡ (performed rules v n (node v.cluster n).replica o).reach → u.happenings.answers ≡ (performed rules v n (node v.cluster n).replica o).happenings.answers → TellsReached rules u
+  performs_told : IsSound v.cluster → AllPerformed v.cluster → AllWithin v.cluster (v.reach + 1) → (n : ℕ) (o : Option (Command Op)) → next_decided (node v.cluster n).replica ≡ o → (u : World Op Reply) → IsSound u.cluster → Grows v.cluster u.cluster → u.reach ≡ (after_performing rules v n (node v.cluster n).replica o).reach → u.happenings.answers ≡ (after_performing rules v n (node v.cluster n).replica o).happenings.answers → TellsReached rules u
   performs_told i full within n None e u iu g reach answers = quiet_told u iu g reach answers
   performs_told i full within n (Some c) e u iu g reach answers = ⊎_elim
       (λ (l : v.reach < slot).

@@ -51,9 +51,9 @@ AsksForItsOwn deeds.Perform submitted = ⊤
 AsksForItsOwn deeds.Restart submitted = ⊤
 
 -- replica n performs the command that is decided at its slot_out; where none is known, nothing
-abbrev pub performed : {O Op Reply : Type 0} → Rules O Op Reply → World Op Reply → ℕ → SlotBook (Command Op) → Option (Command Op) → World Op Reply
-performed rules w n book None = w
-performed rules w n book (Some c) = record w {
+abbrev pub after_performing : {O Op Reply : Type 0} → Rules O Op Reply → World Op Reply → ℕ → SlotBook (Command Op) → Option (Command Op) → World Op Reply
+after_performing rules w n book None = w
+after_performing rules w n book (Some c) = record w {
   cluster = replica_turn w.cluster n (advanced (is_one rules) book) [];
   happenings = with_answers (answers_after rules (history book) c) w.happenings;
   reach = max w.reach book.slot_out;
@@ -96,7 +96,7 @@ pub data Step {O Op Reply : Type 0} (rules : Rules O Op Reply) (w : World Op Rep
   perform :
       (n : ℕ)
       → is_member w.cluster.members n ≡ true
-      → Step rules w (Perform n) (counted (performed rules w n (node w.cluster n).replica (next_decided (node w.cluster n).replica)))
+      → Step rules w (Perform n) (counted (after_performing rules w n (node w.cluster n).replica (next_decided (node w.cluster n).replica)))
   restart :
       (n : ℕ)
       → is_member w.cluster.members n ≡ true
