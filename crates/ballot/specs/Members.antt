@@ -10,7 +10,7 @@ is_member weights m = nat_le 1 m && nat_le m (length weights)
 abbrev pub is_weight : ℕ → Bool
 is_weight w = nat_le 1 w && nat_le w 1000
 
--- there are 1 to 7 members
+-- there are 1 to 7 members, of a weight of 1 to 1000 each
 pub record IsMembers (weights : List ℕ) : Type 0 where
   pub some : 0 < length weights
   pub few : length weights ≤ 7

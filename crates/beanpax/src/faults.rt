@@ -24,7 +24,7 @@ pub enum ProgramFault {
     /// The port is taken, or no client more could be accepted.
     #[error("cannot listen")]
     ListenFailed,
-    /// The dump could not be written to its file.
+    /// The dump could not be written to its file, or the file to be inspected not be read.
     #[error("file failed")]
     FileFailed,
     #[error("cannot start a thread")]

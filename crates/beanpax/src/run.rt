@@ -1,4 +1,4 @@
-ghost use Rattle.std.specs.Prelude.{◌≡◌, ◌≤◌, true, IfOk, OnErr};
+ghost use Rattle.std.specs.Prelude.{◌≡◌, ◌≢◌, ◌≤◌, true, Ok, Err, IfOk, OnErr};
 ghost use Rattle.std.specs.Io.KnownBytes.{IsAtEnd};
 ghost use Rattle.ballot.specs.Members.{IsMembers};
 ghost use Rattle.session.specs.declared.faults.End.{End};
@@ -24,11 +24,16 @@ pub fn run_bytes<R: ByteIn, W: ByteOut>(
         (W.contents writer.old) (W.contents writer.new)) }
     ensures nothing_left { IfOk result (λ end. end ≡ End.Eof → IsAtEnd (R.remaining reader.new)) }
     ensures ended { IfOk result (λ end. end ≡ End.Eof → R.has_ended reader.new ≡ true) }
+    ensures quits { result ≡ Ok End.Quit → R.has_ended reader.new ≡ R.has_ended reader.old }
 
     ensures breaks_off { OnErr result (TellsBeginning (R.remaining reader.old) (R.remaining reader.new)
         (W.contents writer.old) (W.contents writer.new)) }
     ensures read_failed { result ≡ Err SessionFault.ReadFailed → R.has_failed reader.new ≡ true }
+    ensures not_failed { result ≢ Err SessionFault.ReadFailed →
+        R.has_failed reader.new ≡ R.has_failed reader.old }
     ensures write_failed { result ≡ Err SessionFault.WriteFailed → W.has_failed writer.new ≡ true }
+    ensures not_read_on { result ≡ Err SessionFault.WriteFailed →
+        R.has_ended reader.new ≡ R.has_ended reader.old }
 {
     let Some(members) = Members::new(nodes) else {
         unreachable!()
@@ -55,11 +60,16 @@ pub fn run_bytes_weighted<R: ByteIn, W: ByteOut>(
         (W.contents writer.old) (W.contents writer.new)) }
     ensures nothing_left { IfOk result (λ end. end ≡ End.Eof → IsAtEnd (R.remaining reader.new)) }
     ensures ended { IfOk result (λ end. end ≡ End.Eof → R.has_ended reader.new ≡ true) }
+    ensures quits { result ≡ Ok End.Quit → R.has_ended reader.new ≡ R.has_ended reader.old }
 
     ensures breaks_off { OnErr result (TellsBeginning (R.remaining reader.old) (R.remaining reader.new)
         (W.contents writer.old) (W.contents writer.new)) }
     ensures read_failed { result ≡ Err SessionFault.ReadFailed → R.has_failed reader.new ≡ true }
+    ensures not_failed { result ≢ Err SessionFault.ReadFailed →
+        R.has_failed reader.new ≡ R.has_failed reader.old }
     ensures write_failed { result ≡ Err SessionFault.WriteFailed → W.has_failed writer.new ≡ true }
+    ensures not_read_on { result ≡ Err SessionFault.WriteFailed →
+        R.has_ended reader.new ≡ R.has_ended reader.old }
 {
     front_item();
     let Some(members) = Members::weighted(weights) else {

@@ -45,7 +45,7 @@ pub record Shows {Op Reply : Type 0} (k : RecordedState Op Reply) (w : World Op 
   pub reach : k.reach ≡ w.reach
   pub taken : k.taken ≡ w.taken
 
--- events, no more than are counted, lead to a world that they show
+-- events lead to a world that they show, which counts them, 2^48 at most
 abbrev pub IsShown : {O Op Reply : Type 0} → Rules O Op Reply → RecordedState Op Reply → Type 0
 IsShown {O} {Op} {Reply} rules k = (w : World Op Reply) × IsWorld rules w × Shows k w
 

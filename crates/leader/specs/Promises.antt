@@ -23,7 +23,7 @@ at_scout l m ballot fresh proposals None = silently l
 at_scout l m ballot fresh proposals (Some s) =
     let h = scouts.on_p1b s m ballot fresh in at_heard l proposals h.scout h.says
 
--- A P1b of m, where a scout stands. This is fresh of its report, and the proposals are those that the leader takes if
+-- A P1b of m; without a scout nothing is done. This is fresh of its report, and the proposals are those that the leader takes if
 -- it is adopted.
 abbrev pub on_p1b : {C : Type 0} → Leading C → ℕ → Numbers → List (Pvalue C) → Slots C → Done (Leading C) C
 on_p1b l m ballot fresh proposals = at_scout l m ballot fresh proposals l.scout

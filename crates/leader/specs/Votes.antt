@@ -25,7 +25,7 @@ at_commander l m ballot s (Some c) = let v = commanders.on_p2b c m ballot in at_
 abbrev pub answers_another : {C : Type 0} → Leading C → Option Numbers → Numbers → Bool
 answers_another l ballot asked = is_promise ballot l.ballot && not (is_same asked l.ballot)
 
--- a P2b of m that answers a P2a of the ballot `asked`, where a commander of slot s stands
+-- a P2b of m for slot s that answers a P2a of the ballot `asked`; without a commander nothing is done
 abbrev pub on_p2b : {C : Type 0} → Leading C → ℕ → Option Numbers → ℕ → Numbers → Done (Leading C) C
 on_p2b l m ballot s asked =
     if answers_another l ballot asked then silently l else at_commander l m ballot s (get l.commanders s)

@@ -9,7 +9,7 @@ use object::Value;
 use std::alloc::{AllocError, Global};
 
 /// The proposals, but at each slot with a gathered or reported pvalue the value of the first of the greatest ballot.
-/// Of each slot one value is copied.
+/// Of what was gathered and reported, one value a slot is copied.
 pub(crate) fn with_greatest<C: Value>(
     alloc: Global,
     proposals: &SlotRow<C>,

@@ -105,7 +105,8 @@ impl<C: Value> Leader<C> {
         self.proposals.contains(slot)
     }
 
-    /// Gives up, where the ballot is above the leader's, for the ballot of the next round. It takes no memory.
+    /// Gives up, where the ballot is above the leader's, for the ballot of the next round. It takes no memory, and fails with
+    /// `NoBallotLeft` alone, where there is no next round.
     pub fn preempted(&mut self, ballot: Ballot) -> Result<(), LeaderError>
         ensures ok { OnOk result (self.new ≡ preempted self.old ballot) }
         ensures error { IfErr result (λ error. error ≡ LeaderError.NoBallotLeft) }

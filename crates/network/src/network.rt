@@ -103,7 +103,8 @@ impl<O: Object> Network<O> {
         self.mails[usize::from(id - 1)].has_letters() || has_any(&self.fresh, id)
     }
 
-    /// A node does this, and appends the answers that it gives. Where there is nothing to do it takes no memory.
+    /// A node does this, and appends the answers that it gives. Where there is nothing to do it can't be
+    /// refused memory.
     pub fn act(
         &mut self,
         id: u8,

@@ -1,4 +1,4 @@
-ghost use Rattle.std.specs.Prelude.{◌≡◌, ◌⊎◌, ◌+◌, true, length, Ok, Err, IfOk};
+ghost use Rattle.std.specs.Prelude.{◌≡◌, ◌≢◌, ◌⊎◌, ◌+◌, true, length, Ok, Err, IfOk};
 ghost use Rattle.std.specs.Io.KnownBytes.{IsAtEnd};
 ghost use Rattle.session.specs.declared.faults.End.{End};
 ghost use Rattle.session.specs.declared.faults.ServiceFault.{ServiceFault};
@@ -38,7 +38,7 @@ pub struct Desk {
 }
 
 /// Serves one client, with the ticket of its session as the service: what the client asks for is handed in, its answer is
-/// noted in the ticket and told to the client. It returns once the client has left.
+/// noted in the ticket and told to the client. It returns once the client has left, or its session broke off.
 pub fn attend<
     O: Object<Op = Op, Reply = Reply>,
     S: Ledger,
@@ -72,8 +72,12 @@ pub fn attend<
     ensures ended { IfOk result.ended (λ end. end ≡ End.Eof → I.has_ended result.reader ≡ true) }
     ensures nothing_left { IfOk result.ended (λ end. end ≡ End.Eof →
         IsAtEnd (I.remaining result.reader)) }
+    ensures quits { result.ended ≡ Ok End.Quit →
+        I.has_ended result.reader ≡ I.has_ended reader }
     ensures read_failed { result.ended ≡ Err SessionFault.ReadFailed →
         I.has_failed result.reader ≡ true }
+    ensures not_failed { result.ended ≢ Err SessionFault.ReadFailed →
+        I.has_failed result.reader ≡ I.has_failed reader }
     ensures all_was_told { result.ended ≡ Err SessionFault.ReadFailed →
         Over (I.remaining reader) (I.remaining result.reader)
         (W.contents writer.old) (W.contents writer.new)
@@ -82,6 +86,8 @@ pub fn attend<
         (attendance_of result.ticket result.commands.amount)) }
     ensures write_failed { result.ended ≡ Err SessionFault.WriteFailed →
         W.has_failed writer.new ≡ true }
+    ensures not_read_on { result.ended ≡ Err SessionFault.WriteFailed →
+        I.has_ended result.reader ≡ I.has_ended reader }
     ensures breaks_off { result.ended ≡ Err SessionFault.WriteFailed →
         Over (I.remaining reader) (I.remaining result.reader)
         (W.contents writer.old) (W.contents writer.new)

@@ -54,6 +54,7 @@ pub fn run_cluster<
     requires few { workers ≤ 64 }
     ensures accounted { IsAccountedFor result.hall (all_tickets result.tickets.items) result.fault }
     ensures untouched { result.fault ≡ Some OutOfMemory → result.hall ≡ hall }
+    ensures not_asked { result.fault ≡ Some OutOfMemory → result.accept ≡ accept }
     ensures each_worker { result.fault ≡ None → length result.tickets.items ≡ workers }
     ensures ended { result.fault ≡ None → A.has_ended result.accept ≡ true }
     ensures none_failed { result.fault ≡ None →
@@ -86,6 +87,7 @@ pub fn run_cluster_faulty<
     requires few { workers ≤ 64 }
     ensures accounted { IsAccountedFor result.hall (all_tickets result.tickets.items) result.fault }
     ensures untouched { result.fault ≡ Some OutOfMemory → result.hall ≡ hall }
+    ensures not_asked { result.fault ≡ Some OutOfMemory → result.accept ≡ accept }
     ensures each_worker { result.fault ≡ None → length result.tickets.items ≡ workers }
     ensures ended { result.fault ≡ None → A.has_ended result.accept ≡ true }
     ensures none_failed { result.fault ≡ None →

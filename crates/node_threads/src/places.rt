@@ -36,7 +36,7 @@ struct Post {
     watch: Mutex<Watch>,
 }
 
-/// A worker's place, and the session that it serves, 0 where it serves none.
+/// A worker's place, and the last session that it began to serve, 0 before the first.
 #[derive(Drop)]
 struct Seat {
     session: AtomicU64,
@@ -194,7 +194,7 @@ impl WaitingPlaces {
         self.nodes.get(usize::from(node).checked_sub(1)?)
     }
 
-    // Where a worker does.
+    // A worker's place.
     fn seat(&self, worker: u32) -> Option<&Seat> {
         self.workers.get((worker as usize).checked_sub(1)?)
     }

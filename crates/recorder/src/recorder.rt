@@ -101,7 +101,7 @@ impl<Op: Value, Reply: Value> Recorder<Op, Reply> {
     }
 
     /// These answers to commands that were submitted are given, but for those to a key that has its answer, in
-    /// the record or earlier in the list.
+    /// the record or earlier in the list. The list is empty then.
     pub fn answer_all(&mut self, given: &mut Vec<Answer<Reply>>)
         requires { (a : Answer Reply) → In a given.old.items →
             is_submitted a.to self.old.happenings.submitted ≡ true }

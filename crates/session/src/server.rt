@@ -1,4 +1,4 @@
-ghost use Rattle.std.specs.Prelude.{◌≡◌, ◌<◌, ◌≤◌, ◌⊎◌, ◌++◌, ℕ, List, [], true, false, Ok, Err, length, IfOk, IfErr, OnOk, OnErr};
+ghost use Rattle.std.specs.Prelude.{◌≡◌, ◌<◌, ◌≤◌, ◌⊎◌, ◌++◌, ◌≢◌, ℕ, List, [], true, false, Ok, Err, length, IfOk, IfErr, OnOk, OnErr};
 ghost use Rattle.std.specs.Io.KnownBytes.{Appends, Consumes, IsAtEnd, Keeps};
 ghost use Rattle.session.specs.Streams.{AppendsBeginning};
 ghost use Rattle.session.specs.Items.{Response, answer_text};
@@ -79,6 +79,7 @@ fn read_piece<R: ByteIn>(
     ensures goes_on { IfOk result (λ some. some ≡ true
         → R.has_ended reader.new ≡ R.has_ended reader.old) }
     ensures not_ended { OnErr result (R.has_ended reader.new ≡ R.has_ended reader.old) }
+    ensures not_failed { OnOk result (R.has_failed reader.new ≡ R.has_failed reader.old) }
 {
     session.make_room(piece.len())?;
     let n = reader.read(piece).map_err(|_| SessionFault::ReadFailed)?;
@@ -107,8 +108,10 @@ fn converse<R: ByteIn, W: ByteOut, S: Service>(
         → R.has_failed reader.new ≡ true) }
     ensures write_failed { IfErr result (λ fault. fault ≡ SessionFault.WriteFailed
         → W.has_failed writer.new ≡ true) }
-    ensures ran_short { IfErr result (λ fault. fault ≡ SessionFault.OutOfMemory
-        → R.has_ended reader.new ≡ R.has_ended reader.old) }
+    ensures quits { result ≡ Ok End.Quit → R.has_ended reader.new ≡ R.has_ended reader.old }
+    ensures not_ended { OnErr result (R.has_ended reader.new ≡ R.has_ended reader.old) }
+    ensures not_failed { result ≢ Err SessionFault.ReadFailed
+        → R.has_failed reader.new ≡ R.has_failed reader.old }
 {
     let mut session = Session::new(alloc);
     let mut piece = [0; PIECE_LEN];
@@ -146,7 +149,10 @@ pub fn serve<R: ByteIn, W: ByteOut, S: Service>(
         (Ok tt) service.new)) }
     ensures ended { IfOk result (λ end. end ≡ End.Eof → R.has_ended reader.new ≡ true) }
     ensures nothing_left { IfOk result (λ end. end ≡ End.Eof → IsAtEnd (R.remaining reader.new)) }
+    ensures quits { result ≡ Ok End.Quit → R.has_ended reader.new ≡ R.has_ended reader.old }
     ensures read_failed { result ≡ Err SessionFault.ReadFailed → (R.has_failed reader.new ≡ true) }
+    ensures not_failed { result ≢ Err SessionFault.ReadFailed
+        → R.has_failed reader.new ≡ R.has_failed reader.old }
     ensures all_was_told { result ≡ Err SessionFault.ReadFailed
         → Over (R.remaining reader.old) (R.remaining reader.new) (W.contents writer.old)
         (W.contents writer.new)
@@ -154,6 +160,8 @@ pub fn serve<R: ByteIn, W: ByteOut, S: Service>(
         (λ s. Whole S.asks service.old s input output End.Eof) service.new) }
     ensures write_failed { result ≡ Err SessionFault.WriteFailed
         → (W.has_failed writer.new ≡ true) }
+    ensures not_read_on { result ≡ Err SessionFault.WriteFailed
+        → R.has_ended reader.new ≡ R.has_ended reader.old }
     ensures breaks_off { result ≡ Err SessionFault.WriteFailed
         → Over (R.remaining reader.old) (R.remaining reader.new) (W.contents writer.old)
         (W.contents writer.new)

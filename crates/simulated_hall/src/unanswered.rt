@@ -3,7 +3,8 @@
 pub enum Unanswered {
     /// There was no memory to hand it in: it never was.
     Refused,
-    /// It was handed in, but too many calls or too many seconds brought no reply; or the hall takes nothing more.
+    /// It was handed in, but too many calls or too many seconds brought no reply, or no second more could pass; or the hall
+    /// refuses it for another reason than memory.
     Stopped,
 }
 

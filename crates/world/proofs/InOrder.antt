@@ -1,10 +1,11 @@
--- The last command of its session that a replica performed stands in the order.
+-- The last command of its session that a replica performed stands in the order, and what stands there was submitted.
 use Rattle.std.proofs.Common.{◌≡◌, inl, inr, ⊎_elim, ℕ, ◌≤◌, ◌==◌, true, false, ◌&&◌, cond, List, [], ◌∷◌, map, refl, sym, ap, ◌∙◌, subst, arith}
 use Rattle.std.specs.Prelude.{nat_le}
 use Rattle.std.proofs.lemmas.Bool.{cases_Bool, false≢true}
 use Rattle.std.proofs.lemmas.Bool.Decides.{nat_tests}
 use Rattle.ballot.specs.OrderLaws.{BallotLaws}
 use Rattle.slot_log.specs.Histories.{history}
+use Rattle.object.specs.Happenings.{is_submitted}
 use Rattle.object.specs.Keys.{same_key}
 use Rattle.object.specs.Legal.{WasSubmitted}
 use Rattle.object.specs.ListLaws.{In-left}
@@ -25,6 +26,8 @@ use Rattle.world.proofs.Every.{knows_chosen}
 use Rattle.world.proofs.Performed.{run_from, run_chosen}
 use Rattle.world.proofs.Placed.{is_as_late, finds, found_kept}
 use Rattle.world.proofs.Reach.{reachable_sound}
+use Rattle.world.proofs.Rising.{In-kept}
+use Rattle.world.proofs.Submitted.{key_submitted}
 
 -- a key of the same session that is as late, and no greater, is the same
 late_is_same : (s n t m : ℕ) → (s == t && nat_le m n) ≡ true → (s ≡ t → n ≤ m) → (s == t && n == m) ≡ true
@@ -81,6 +84,14 @@ module _ (laws : BallotLaws) {O Op Reply : Type 0} (rules : Rules O Op Reply) wh
       top d at same =
           let slot = run_chosen w.cluster 1 all (run_from w.cluster 1 all chosen) d at in
           last_top key w.happenings.submitted is d (knows_chosen laws rules w i slot.0 d slot.1) same
+
+  -- a key that stands in the order was submitted
+  pub in_order_submitted : InEvery rules (λ w. (key : Key) → IsInOrder w.cluster key → is_submitted key w.happenings.submitted ≡ true)
+  in_order_submitted w i key (order, (all, chosen, is), (c, stands, own)) =
+      let at = In-kept all c (subst (In c) is stands) in
+      let slot = run_chosen w.cluster 1 all (run_from w.cluster 1 all chosen) c at in
+      subst (λ k. is_submitted k w.happenings.submitted ≡ true) own
+      (key_submitted c w.happenings.submitted (knows_chosen laws rules w i slot.0 c slot.1))
 
   -- and where it is the key of a command that a replica performed
   pub in_order : InEvery rules (λ w. (n : ℕ) (c : Command Op) → In c (history (node w.cluster n).replica) → IsLast c.key w.happenings.submitted → IsInOrder w.cluster c.key)

@@ -45,7 +45,7 @@ pub record IsStillCommanding {C : Type 0} (k : Cluster C) (proposals : Slots C) 
   pub value : get proposals s ≡ Some c.pvalue.value
   pub within : (m : ℕ) → has c.heard m ≡ true → is_member k.members m ≡ true
 
--- node n has this leader: while it isn't active it has no commander
+-- node n has this leader, whose scout and commanders are as they ought to be: while it isn't active it has no commander
 pub record IsLed {C : Type 0} (k : Cluster C) (n : ℕ) (l : Leading C) : Type 0 where
   pub active : l.active ≡ true → IsActive k n l
   pub asleep : l.active ≡ false → l.commanders ≡ empty

@@ -1,5 +1,5 @@
--- One event of the world, made of the functions that the parts' contracts name. Each case of `Step` is one row of the
--- node table in docs/NODES.md, and so is each case of a node's `Receives`.
+-- One event of the world, made of the functions that the parts' contracts name. Each case of `Step` but
+-- `deliver` is one row of the node table in docs/NODES.md, and so is each case of a node's `Receives`, which `deliver` is.
 use Rattle.std.specs.Prelude.{◌≡◌, ℕ, ◌+◌, max, ⊤, true, List, [], Option, None, Some, slice_get}
 use Rattle.object.specs.Lists.{In}
 use Rattle.object.specs.declared.command.Command.{Command}

@@ -51,8 +51,8 @@ pub record IsSettled {C : Type 0} (k : Cluster C) : Type 0 where
   pub active : (first_leader k).active ≡ true
   pub done : (first_leader k).commanders ≡ empty
 
--- of two worlds the later one differs in ballots, votes and letters alone, and each slot for which the leader had a
--- proposal has one still
+-- of two worlds the later one has the same members, replicas, happenings and reach, and the letters go on; and each slot
+-- for which the leader had a proposal has one still
 pub record IsTalk {Op Reply : Type 0} (w v : World Op Reply) : Type 0 where
   pub members : v.cluster.members ≡ w.cluster.members
   pub replicas : (n : ℕ) → (node v.cluster n).replica ≡ (node w.cluster n).replica

@@ -15,7 +15,7 @@ pub enum WorldError {
     /// The key was submitted with another act.
     #[error("bad number")]
     BadNumber,
-    /// 2^48 events were taken.
+    /// 2^48 events were taken; of `rescue`, more than 2^32.
     #[error("full")]
     Full,
 }

@@ -17,15 +17,17 @@ const MOST_TAKEN: u64 = 1 << 32;
 
 impl<O: Object> World<O> {
     /// Events, none of them a restart, after which the key stands in the order; no events where it does already. The answer is
-    /// `None` only where the key was never submitted, or where a greater number of its session was and the key doesn't stand
-    /// in the order. It is full only where more than 2^32 events were taken and there would be a way to look for; else it
-    /// fails for want of memory alone.
+    /// `None` where the key was never submitted, and where a greater number of its session was and the key doesn't stand in
+    /// the order, and nowhere else. It is full only where more than 2^32 events were taken and there would be a way to look
+    /// for; else it fails for want of memory alone.
     pub fn rescue(&self, key: Key) -> Result<Option<Vec<Event<O::Op>>>, WorldError>
         ensures some { IfOk result (λ found. IfSome found (λ events. Rescues O.rules O.Op.eq self.now key
             events.items)) }
         ensures empty { IfOk result (λ found. IfSome found (λ events. (events.items
             ≡ []) ↔ IsInOrder self.now.cluster key)) }
         ensures none { result ≡ Ok None → HasNoWay self.now key }
+        ensures unknown { is_submitted key self.now.happenings.submitted ≡ false →
+            (result ≡ Ok None) ⊎ (result ≡ Err OutOfMemory) }
         ensures in_order { IsInOrder self.now.cluster key → result ≡ Ok None → ⊥ }
         ensures last { IsLast key self.now.happenings.submitted → result ≡ Ok None → ⊥ }
         ensures err { IfErr result (λ r. (r ≡ OutOfMemory) ⊎ ((r ≡ Full) × (2 ^ 32 < self.now.taken))) }

@@ -14,7 +14,7 @@ use std::alloc::AllocError;
 
 impl<C: Value> Leader<C> {
     /// Hears a P1b: who sent it, the ballot that it promised, and its report. Where no scout stands nothing is done,
-    /// which takes no memory.
+    /// which takes no memory. It fails with `NoBallotLeft` where a ballot of the last round preempts it.
     pub fn on_p1b(
         &mut self,
         from: u8,

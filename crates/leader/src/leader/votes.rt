@@ -12,7 +12,8 @@ use object::Value;
 use std::alloc::AllocError;
 
 impl<C: Value> Leader<C> {
-    /// Hears a P2b: who sent it, the ballot that it promised, the slot, and the ballot of the P2a that it answers.
+    /// Hears a P2b: who sent it, the ballot that it promised, the slot, and the ballot of the P2a that it answers. It fails
+    /// with `NoBallotLeft` where a ballot of the last round preempts it.
     pub fn on_p2b(
         &mut self,
         from: u8,

@@ -88,7 +88,8 @@ impl<O: Object, S: Ledger, C: Ledger> Shared<O, S, C> {
         }
     }
 
-    /// A worker hands in its client's end, for which it doesn't wait.
+    /// After a worker handed in its client's end, for which it doesn't wait: it takes some of the turns that are left, or
+    /// tells the nodes.
     pub(crate) fn leave<R: Wait, G: Gate, F: Faults>(
         &self,
         rt: &R,

@@ -16,6 +16,7 @@ turns-init g c =
       goes = subst (λ (s : Held). Goes g.S.Service.asks c.args.service.now c.args.service.now 0 (g.R.ByteIn.remaining c.args.reader.now) (g.R.ByteIn.remaining c.args.reader.now) (g.W.ByteOut.contents c.args.writer.now) (g.W.ByteOut.contents c.args.writer.now) s.unsent (StandsBefore s)) (sym e) (sets_out g.S.Service.asks c.args.service.now (g.R.ByteIn.remaining c.args.reader.now) (g.W.ByteOut.contents c.args.writer.now));
       closed = ap (λ (s : Held). s.is_open) e;
       not_ended = refl;
+      not_failed = refl;
     }
 
 pub returns-in_err-found-clause-run : goal.returns-in_err-found-clause-run
@@ -148,6 +149,7 @@ turns-preserved g c =
                 (subst (λ found. Goes g.S.Service.asks c.args.service.now c.turns.service c.turns._turn a b h l [] (ComesTo found t)) w.in-None.is going));
             closed = ap (λ (u : Held). u.is_open) w.session-is ∙ (fed.4 ∙ (ap (λ (u : Held). u.is_open) cleared ∙ (closed ∙ ap is_asked w.in-None.is)));
             not_ended = ap g.R.ByteIn.has_ended w.reader-is ∙ (w.in_ok-read_piece-in-None.ensures.goes_on some ∙ c.turns.invariant.not_ended);
+            not_failed = ap g.R.ByteIn.has_failed w.reader-is ∙ (w.in_ok-read_piece-in-None.ensures.not_failed ∙ c.turns.invariant.not_failed);
           }
       | in-Some-Do+in_ok-answer-in-Some-Do w ↦
           let op = w.in-Some-Do.op in
@@ -161,5 +163,6 @@ turns-preserved g c =
                 (subst (λ found. Goes g.S.Service.asks c.args.service.now c.turns.service c.turns._turn a b h l [] (ComesTo found t)) asks going));
             closed = ap (λ (u : Held). u.is_open) (w.session-is ∙ after);
             not_ended = ap g.R.ByteIn.has_ended w.reader-is ∙ c.turns.invariant.not_ended;
+            not_failed = ap g.R.ByteIn.has_failed w.reader-is ∙ c.turns.invariant.not_failed;
           }
     ]
