@@ -1,10 +1,10 @@
 -- A session that was called is there.
 use Rattle.std.proofs.Common.{◌≡◌, ℕ, true, false, cond, Option, None, Some, IsSome, is_some, option_map, [], ◌∷◌, refl, sym, ap, subst, ◌∙◌}
 use Rattle.job_store.specs.Entries.{value_at, with_value}
+use Rattle.job_store.specs.EntryLaws.{value_at-altered, value_at-insert}
 use Rattle.object.specs.declared.command.Key.{Key}
 use Rattle.session_store.specs.declared.session.SessionState.{SessionState}
 use Rattle.session_store.specs.Sessions.{new_session, with_wait, with_wait_ended}
-use Rattle.session_store.specs.EntryLaws.{value_at-altered, value_at-insert}
 use Rattle.bean_queue.specs.declared.op.Op.{Op}
 use Rattle.bean_queue.specs.declared.reply.Reply.{Reply}
 use Rattle.bean_queue.specs.Queue.{QueueState}

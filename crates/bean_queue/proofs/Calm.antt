@@ -6,6 +6,7 @@ use Rattle.object.specs.Lists.{In}
 use Rattle.object.specs.declared.command.Key.{Key}
 use Rattle.job_store.specs.declared.job.Job.{Job}
 use Rattle.job_store.specs.Entries.{value_at, with_value, altered}
+use Rattle.job_store.specs.EntryLaws.{altered-in, insert-in, without-in}
 use Rattle.job_store.specs.Least.{least}
 use Rattle.job_store.specs.LookUps.{best_ready, ready_in, is_among, pri_of_job, not_paused}
 use Rattle.job_store.specs.States.{is_ready, is_held}
@@ -13,7 +14,6 @@ use Rattle.session_store.specs.declared.session.SessionState.{SessionState}
 use Rattle.session_store.specs.declared.session.Wait.{Wait}
 use Rattle.session_store.specs.Sessions.{session_of, new_session, with_wait, with_wait_ended, known, is_waiting}
 use Rattle.session_store.specs.WatchLists.{is_alone}
-use Rattle.session_store.specs.EntryLaws.{altered-in, insert-in, without-in}
 use Rattle.session_store.specs.WaitLaws.{known-waits}
 use Rattle.pause_store.specs.Pauses.{is_paused}
 use Rattle.bean_queue.specs.declared.op.Op.{Op}

@@ -2,7 +2,7 @@
 use Rattle.std.proofs.Common.{◌≡◌, ℕ, suc, ◌+◌, Bool, true, false, cond, inl, inr, List, [], ◌∷◌, ◌++◌, filter, length, refl, sym, ap, ap₂, ◌∙◌, arith}
 use Rattle.object.specs.Lists.{In}
 use Rattle.job_store.specs.Entries.{Rising}
-use Rattle.job_store.proofs.Least.{key_from}
+use Rattle.job_store.specs.EntryLaws.{key_from}
 
 abbrev pub one_if : Bool → ℕ
 one_if true = 1

@@ -8,8 +8,8 @@ use Rattle.object.specs.declared.command.Answer.{Answer}
 use Rattle.object.specs.declared.command.Command.{Command}
 use Rattle.object.specs.declared.command.Key.{Key}
 use Rattle.job_store.specs.States.{is_held, is_due}
+use Rattle.job_store.specs.EntryLaws.{Rising-each}
 use Rattle.session_store.specs.Sessions.{session_of, is_waiting}
-use Rattle.session_store.specs.EntryLaws.{Rising-each}
 use Rattle.bean_queue.specs.declared.op.Op.{Op}
 use Rattle.bean_queue.specs.declared.reply.Reply.{Reply}
 use Rattle.bean_queue.specs.Queue.{QueueState, holds_by, HasRisingIds}

@@ -6,9 +6,9 @@ use Rattle.object.specs.declared.command.Answer.{Answer}
 use Rattle.job_store.specs.declared.job.Job.{Job}
 use Rattle.job_store.specs.declared.state.State.{State}
 use Rattle.job_store.specs.Entries.{altered}
+use Rattle.job_store.specs.EntryLaws.{value_at-In, Rising-altered}
 use Rattle.job_store.specs.States.{with_state}
 use Rattle.session_store.specs.declared.session.SessionState.{SessionState}
-use Rattle.session_store.specs.EntryLaws.{value_at-In, Rising-altered}
 use Rattle.bean_queue.specs.declared.reply.Reply.{Reply}
 use Rattle.bean_queue.specs.Queue.{QueueState, HasRisingIds}
 use Rattle.bean_queue.specs.Turns.{QueueOutcome, QueueTurn, turns, all_turns, after_turn, after_option, given, serve_turn, serve}

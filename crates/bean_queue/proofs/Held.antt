@@ -7,9 +7,9 @@ use Rattle.object.specs.declared.command.Answer.{Answer}
 use Rattle.job_store.specs.declared.job.Job.{Job}
 use Rattle.job_store.specs.declared.state.State.{State}
 use Rattle.job_store.specs.Entries.{Rising, value_at, each_value, altered}
+use Rattle.job_store.specs.EntryLaws.{value_at-each, value_at-altered_same, value_at-altered_other, value_at-In, Rising-altered}
 use Rattle.job_store.specs.States.{is_ready}
 use Rattle.session_store.specs.declared.session.SessionState.{SessionState}
-use Rattle.session_store.specs.EntryLaws.{value_at-each, value_at-altered_same, value_at-altered_other, value_at-In, Rising-altered}
 use Rattle.bean_queue.specs.declared.reply.Reply.{Reply}
 use Rattle.bean_queue.specs.Queue.{QueueState, HasRisingIds}
 use Rattle.bean_queue.specs.Turns.{QueueOutcome, QueueTurn, all_turns, given, serve_turn, told_turn, deadline_turn, timeout_turn, serve}

@@ -6,13 +6,13 @@ use Rattle.object.specs.declared.command.Answer.{Answer}
 use Rattle.job_store.specs.declared.job.Job.{Job}
 use Rattle.job_store.specs.declared.state.State.{State}
 use Rattle.job_store.specs.Entries.{Rising, value_at}
+use Rattle.job_store.specs.EntryLaws.{value_at-In, value_at-found, value_at-below}
 use Rattle.job_store.specs.Least.{ComesBefore, comes_before, least}
 use Rattle.job_store.specs.LookUps.{is_after, due_by, due_after, due_of_job, first_due, first_due_after}
 use Rattle.job_store.specs.States.{is_due, is_held, due_of}
 use Rattle.job_store.proofs.Least.{IsAnswer, answer, same_entry}
 use Rattle.job_store.proofs.Shelving.{in-front, in-last}
 use Rattle.session_store.specs.declared.session.SessionState.{SessionState}
-use Rattle.session_store.specs.EntryLaws.{value_at-In, value_at-found, value_at-below}
 use Rattle.session_store.specs.Sessions.{first_waiting, is_waiting, new_session, wait_rank, with_wait_ended}
 use Rattle.session_store.proofs.Found.{least_alike, mapped-in, mapped-from}
 use Rattle.bean_queue.specs.declared.reply.Reply.{Reply}

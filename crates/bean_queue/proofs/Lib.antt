@@ -8,7 +8,7 @@ pub mod OneHolder
 pub mod OneAnswer
 pub mod Worked
 pub mod Served
-pub mod Firsts
+pub mod FirstHeld
 pub mod Kicks
 pub mod Touched
 pub mod Turned

@@ -4,20 +4,19 @@ use Rattle.std.proofs.lemmas.Bool.{cond-true, cond-false, and_parts, and_from}
 use Rattle.object.specs.Lists.{In}
 use Rattle.job_store.specs.declared.job.Job.{Job}
 use Rattle.job_store.specs.Entries.{Rising}
-use Rattle.job_store.specs.Least.{ComesBefore, IsLeast, least}
+use Rattle.job_store.specs.Least.{ComesBefore, IsLeast, first_of, least}
 use Rattle.job_store.specs.LookUps.{is_among, ready_in, best_ready, first_ready, pri_of_job, not_paused}
 use Rattle.job_store.specs.States.{is_ready}
 use Rattle.job_store.proofs.Least.{least-found, same_entry, among-member}
+use Rattle.job_store.proofs.Firsts.{first_of-none}
 use Rattle.session_store.specs.declared.session.SessionState.{SessionState}
 use Rattle.session_store.specs.Sessions.{first_waiting, is_waiting, wait_rank}
-use Rattle.job_store.specs.Least.{first_of}
 use Rattle.session_store.proofs.Found.{mapped-in, mapped-from}
 use Rattle.bean_queue.specs.Queue.{QueueState, paused_tubes}
 use Rattle.bean_queue.specs.TurnLaws.{least-none, first_waiting-in}
 use Rattle.bean_queue.specs.Turns.{wanted, next_job}
 use Rattle.bean_queue.specs.Woken.{Covers, has_taker, offered, best_offer}
 use Rattle.bean_queue.proofs.Paused.{open-watched, watched-open}
-use Rattle.bean_queue.proofs.Firsts.{first_of-none}
 
 -- Two lists with one least
 

@@ -1,5 +1,5 @@
 -- Tubes that are not paused.
-use Rattle.std.proofs.Common.{◌≡◌, ℕ, true, false, cond, not, inl, inr, List, [], ◌∷◌, refl, sym, ap, subst, ◌∙◌, true≢false}
+use Rattle.std.proofs.Common.{◌≡◌, ℕ, true, false, cond, not, inl, inr, List, [], ◌∷◌, refl, sym, ap, ◌∙◌, true≢false}
 use Rattle.object.specs.Lists.{In}
 use Rattle.job_store.specs.LookUps.{is_among, not_paused}
 use Rattle.job_store.proofs.Least.{among-member}

@@ -5,10 +5,10 @@ use Rattle.object.specs.Lists.{In}
 use Rattle.job_store.specs.declared.job.Job.{Job}
 use Rattle.job_store.specs.declared.state.State.{State}
 use Rattle.job_store.specs.Entries.{Rising, value_at, each_value, altered}
+use Rattle.job_store.specs.EntryLaws.{value_at-here, value_at-next, value_at-In, altered-none}
 use Rattle.job_store.specs.Least.{lesser, least}
 use Rattle.job_store.specs.LookUps.{due_of_job}
 use Rattle.job_store.specs.States.{with_state}
-use Rattle.session_store.specs.EntryLaws.{value_at-here, value_at-next, value_at-In, altered-none}
 use Rattle.bean_queue.specs.declared.ready_again.Returning.{Returning}
 use Rattle.bean_queue.specs.Effects.{is_returning, ready_if}
 use Rattle.bean_queue.specs.TurnLaws.{least-in}

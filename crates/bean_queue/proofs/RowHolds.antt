@@ -7,10 +7,10 @@ use Rattle.object.specs.declared.command.Key.{Key}
 use Rattle.job_store.specs.declared.job.Job.{Job}
 use Rattle.job_store.specs.declared.state.State.{State}
 use Rattle.job_store.specs.Entries.{Rising, value_at, altered}
+use Rattle.job_store.specs.EntryLaws.{value_at-without_other, value_at-insert_other, value_at-below, value_at-In, Rising-altered, Rising-without, Rising-insert, Rising-wider, Rising-end}
 use Rattle.job_store.specs.States.{is_held, is_buried, is_delayed, with_state}
 use Rattle.job_store.specs.LookUps.{is_among, first_buried, first_delayed, first_ready, buried_in, delayed_in, due_of_job, rank_of_job}
 use Rattle.session_store.specs.WatchLists.{is_alone}
-use Rattle.session_store.specs.EntryLaws.{value_at-without_other, value_at-insert_other, value_at-below, value_at-In, Rising-altered, Rising-without, Rising-insert, Rising-wider, Rising-end}
 use Rattle.bean_queue.specs.declared.op.Op.{Op}
 use Rattle.bean_queue.specs.declared.reply.Reply.{Reply}
 use Rattle.bean_queue.specs.Queue.{QueueState, with_jobs, used_by, watched_by, HasRisingIds}

@@ -4,8 +4,8 @@ use Rattle.std.proofs.lemmas.Bool.{cond-true}
 use Rattle.job_store.specs.declared.job.Job.{Job}
 use Rattle.job_store.specs.declared.state.State.{State}
 use Rattle.job_store.specs.Entries.{Rising, value_at, altered}
+use Rattle.job_store.specs.EntryLaws.{altered-alike}
 use Rattle.job_store.specs.States.{is_held, with_state}
-use Rattle.session_store.specs.EntryLaws.{altered-alike}
 use Rattle.bean_queue.specs.Queue.{QueueState, with_jobs}
 use Rattle.bean_queue.specs.Rows.{Row, is_job_that, touch_row}
 

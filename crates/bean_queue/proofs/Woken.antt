@@ -8,6 +8,7 @@ use Rattle.object.specs.declared.command.Key.{Key}
 use Rattle.job_store.specs.declared.job.Job.{Job}
 use Rattle.job_store.specs.declared.state.State.{State}
 use Rattle.job_store.specs.Entries.{Rising, value_at, with_value, altered}
+use Rattle.job_store.specs.EntryLaws.{altered-in, insert-in, value_at-In, Rising-altered}
 use Rattle.job_store.specs.LookUps.{is_among, ready_in, first_buried, first_delayed, buried_in, delayed_in, pri_of_job, rank_of_job, due_of_job, not_paused}
 use Rattle.job_store.specs.States.{is_ready, is_held, is_buried, is_delayed, with_state, with_pri_and_state}
 use Rattle.job_store.proofs.Least.{among-member}
@@ -16,7 +17,6 @@ use Rattle.session_store.specs.declared.session.SessionState.{SessionState}
 use Rattle.session_store.specs.declared.session.Wait.{Wait}
 use Rattle.session_store.specs.Sessions.{session_of, new_session, with_wait, is_waiting}
 use Rattle.session_store.specs.WatchLists.{joined}
-use Rattle.session_store.specs.EntryLaws.{altered-in, insert-in, value_at-In, Rising-altered}
 use Rattle.pause_store.specs.Pauses.{is_paused, paused_for, tubes_over}
 use Rattle.pause_store.proofs.OneTube.{others, goes-on-or-over}
 use Rattle.bean_queue.specs.declared.op.Op.{Op}

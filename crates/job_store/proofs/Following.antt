@@ -17,9 +17,9 @@ use Rattle.job_store.specs.Least.{IsLeast, NonePasses}
 use Rattle.job_store.specs.ShelfStates.{IsFrom, bare}
 use Rattle.job_store.specs.Spots.{spot_of, at_spot}
 use Rattle.job_store.specs.Shelves.{belongs, belongs_after, BelongsAt, shelf, places, lists, HavePlaces, IsAhead, AreAhead, AreAheadOrListed, IsListed, AreKnown, HasTaken, HasSettled, HasGrown, AreInDoubt, HasCome, HasFollowed, ShelvesMatch}
-use Rattle.job_store.proofs.Entries.{without-absent, value_at-insert}
+use Rattle.job_store.specs.EntryLaws.{without-absent, without-in, value_at-insert}
 use Rattle.job_store.proofs.Shelving.{placed-settled, known-settled, ahead-settled, more-listed, last-listed, of-spot, to-spot, come-at}
-use Rattle.job_store.proofs.Members.{altered-here, altered-new, altered-old, inserted-new, inserted-old, value-in, value-here, value-is, without-was, without-others}
+use Rattle.job_store.proofs.Members.{altered-here, altered-new, altered-old, inserted-new, inserted-old, value-in, value-here, value-is, without-others}
 
 -- The jobs that went and came
 
@@ -257,13 +257,13 @@ known-unlisted : (s : Shelves) (a : MapState) → ShelvesMatch s a → a.before 
 known-unlisted s a kept none = subst (AreKnown s a.jobs) (ap (λ (x : List (ℕ × Spot) × List (ℕ × Spot)). x.1) (none-listed s a kept none)) kept.known
 
 pub ahead-without : (s : Shelves) (id : ℕ) (jobs new : List (ℕ × Job)) → AreAhead s jobs → new ≡ without id jobs → AreAhead s new
-ahead-without s id jobs new ahead is e i = ahead e (without-was id e jobs (subst (In e) is i))
+ahead-without s id jobs new ahead is e i = ahead e (without-in id jobs e (subst (In e) is i))
 
 pub kept-removed : (s t : Shelves) (a b : MapState) (id : ℕ) (job : Job) → ShelvesMatch s a → a.before ≡ None → b.before ≡ None → Rising 0 (2 ^ 64) b.jobs → b.jobs ≡ without id a.jobs → value_at id a.jobs ≡ Some job → HasTaken s t b.jobs → ((l : Label) (p : ℕ × ℕ) → In p (places t l) → BelongsAt l p (id, at_spot (spot_of job)) → (e : ℕ × Job) × BelongsAt l p e × In e b.jobs) → ShelvesMatch t b
 kept-removed s t a b id job kept none ended r is there taken gone =
     kept-swept t b ended r
-    (λ e i l p k. taken.keeps l p e i k (kept.placed e (without-was id e a.jobs (subst (In e) is i)) l p k))
-    (λ e i l p k. taken.ahead l p (kept.ahead e (without-was id e a.jobs (subst (In e) is i)) l p k))
+    (λ e i l p k. taken.keeps l p e i k (kept.placed e (without-in id a.jobs e (subst (In e) is i)) l p k))
+    (λ e i l p k. taken.ahead l p (kept.ahead e (without-in id a.jobs e (subst (In e) is i)) l p k))
     (λ l p i.
     let w = known-unlisted s a kept none l p (taken.only l p i) in
     elim w.2 as (λ v. (e : ℕ × Job) × BelongsAt l p e × (In e b.jobs ⊎ IsListed [] e)) [

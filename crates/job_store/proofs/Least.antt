@@ -1,9 +1,10 @@
 -- What is least: the test decides what it is named after, and the answer is what is asked for.
-use Rattle.std.proofs.Common.{◌≡◌, ◌↔◌, ℕ, suc, ◌≤◌, Bool, true, false, cond, ◌&&◌, ◌⊎◌, inl, inr, List, [], ◌∷◌, Option, Some, None, option_map, MatchOption, IfSome, IfNone, ◌==◌, nat_lt, bytes_eq, refl, sym, ap, subst, ◌∙◌, arith, eq-eqb, eqb-true, ltb-true, lt-ltb}
+use Rattle.std.proofs.Common.{◌≡◌, ◌↔◌, ℕ, suc, Bool, true, false, cond, ◌&&◌, ◌⊎◌, inl, inr, List, [], ◌∷◌, Option, Some, None, option_map, MatchOption, IfSome, IfNone, ◌==◌, nat_lt, bytes_eq, refl, sym, ap, subst, ◌∙◌, arith, eq-eqb, eqb-true, ltb-true, lt-ltb}
 use Rattle.std.proofs.lemmas.Bool.{both_ways, cond-true, cond-false, or_cases, or_left, or_right, and_parts, and_from}
 use Rattle.std.proofs.lemmas.Slice.Eq.{bytes_eq-Decides}
 use Rattle.object.specs.Lists.{In}
 use Rattle.job_store.specs.Entries.{Rising}
+use Rattle.job_store.specs.EntryLaws.{key_from}
 use Rattle.job_store.specs.Least.{ComesBefore, comes_before, lesser, first_of, IsLeast, NonePasses, least}
 use Rattle.job_store.specs.LookUps.{is_among}
 
@@ -76,11 +77,6 @@ module _ {X : Type 0} (by : X → ℕ) where
 -- An entry is the only one at its key
 
 module _ {X : Type 0} where
-  pub key_from : (lo hi : ℕ) (es : List (ℕ × X)) (e : ℕ × X) → Rising lo hi es → In e es → lo ≤ e.0
-  key_from lo hi [] e r i = absurd i
-  key_from lo hi (d ∷ es) e r (inl same) = omega (arith, ap (λ (p : ℕ × X). p.0) same, r.0)
-  key_from lo hi (d ∷ es) e r (inr later) = omega (arith, key_from (suc d.0) hi es e r.1 later, r.0)
-
   pub same_entry : (lo hi : ℕ) (es : List (ℕ × X)) (d e : ℕ × X) → Rising lo hi es → In d es → In e es → d.0 ≡ e.0 → d ≡ e
   same_entry lo hi [] d e r i j same = absurd i
   same_entry lo hi (z ∷ es) d e r (inl i) (inl j) same = i ∙ sym j

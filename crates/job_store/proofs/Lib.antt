@@ -2,6 +2,7 @@ pub mod Names
 pub mod Entries
 pub mod Undone
 pub mod Least
+pub mod Firsts
 pub mod Members
 pub mod Places
 pub mod Numbered

@@ -1,12 +1,12 @@
 -- Which entries a finite map has, before and after a change.
-use Rattle.std.proofs.Common.{◌≡◌, ℕ, suc, inl, inr, ◌⊎◌, List, [], ◌∷◌, Some, true, false, cond, not, ◌==◌, nat_cmp, Less, Equal, Greater, refl, sym, ap, ap₂, subst, ◌∙◌, arith, eq-eqb, ne_eqb}
+use Rattle.std.proofs.Common.{◌≡◌, ℕ, inl, inr, ◌⊎◌, List, [], ◌∷◌, Some, cond, not, ◌==◌, nat_cmp, Less, Equal, Greater, refl, sym, ap, ap₂, subst, ◌∙◌, eq-eqb, ne_eqb}
 use Rattle.std.proofs.lemmas.Bool.{cases_eq, cases_order, cond-true, cond-false}
 use Rattle.std.specs.Ordering.{match_ordering}
 use Rattle.std.specs.BTreeMap.{insert_entry}
 use Rattle.object.specs.Lists.{In}
 use Rattle.job_store.specs.Entries.{Rising, value_at, altered, without}
-use Rattle.job_store.proofs.Entries.{value_at-here, value_at-next, cmp_less, cmp_equal, cmp_greater, same_number}
-use Rattle.job_store.proofs.Least.{key_from}
+use Rattle.job_store.specs.EntryLaws.{value_at-here, value_at-next, cmp_less, cmp_equal, cmp_greater, value_at-In}
+use Rattle.job_store.proofs.Entries.{same_number}
 
 module _ {X : Type 0} where
   pub value-in : (k : ℕ) (v : X) (es : List (ℕ × X)) → value_at k es ≡ Some v → In (k, v) es
@@ -19,13 +19,6 @@ module _ {X : Type 0} where
             inl (ap₂ (λ a b. (a, b)) same (sym value))
         | inr apart ↦ inr (value-in k v es (sym (value_at-next k d es apart) ∙ e))
       ]
-
-  pub in-value : (lo hi : ℕ) (e : ℕ × X) (es : List (ℕ × X)) → Rising lo hi es → In e es → value_at e.0 es ≡ Some e.1
-  in-value lo hi e [] r i = absurd i
-  in-value lo hi e (d ∷ es) r (inl here) =
-      value_at-here e.0 d es (ap (λ (p : ℕ × X). p.0) here) ∙ ap Some (ap (λ (p : ℕ × X). p.1) (sym here))
-  in-value lo hi e (d ∷ es) r (inr later) =
-      value_at-next e.0 d es (λ same. omega (arith, same, key_from (suc d.0) hi es e r.1 later)) ∙ in-value (suc d.0) hi e es r.1 later
 
   -- One value is changed
 
@@ -44,7 +37,7 @@ module _ {X : Type 0} where
       let w = altered-was k f e es i in
       elim (cases_eq k w.0.0) [
         | inl same ↦
-            let both : Some w.0.1 ≡ Some v = sym (in-value lo hi w.0 es r w.1) ∙ ap (λ n. value_at n es) (sym same) ∙ there in
+            let both : Some w.0.1 ≡ Some v = sym (value_at-In lo hi es w.0 r w.1) ∙ ap (λ n. value_at n es) (sym same) ∙ there in
             let value : w.0.1 ≡ v = cc in
             inr (w.2 ∙ ap₂ (λ a b. (a, b)) (sym same) (cond-true (k == w.0.0) (f w.0.1) w.0.1 (eq-eqb k w.0.0 same) ∙ ap f value))
         | inr apart ↦
@@ -55,7 +48,7 @@ module _ {X : Type 0} where
   altered-old k lo hi f v d es r there i =
       elim (cases_eq k d.0) [
         | inl same ↦
-            let both : Some d.1 ≡ Some v = sym (in-value lo hi d es r i) ∙ ap (λ n. value_at n es) (sym same) ∙ there in
+            let both : Some d.1 ≡ Some v = sym (value_at-In lo hi es d r i) ∙ ap (λ n. value_at n es) (sym same) ∙ there in
             let value : d.1 ≡ v = cc in
             inr (ap₂ (λ a b. (a, b)) (sym same) value)
         | inr apart ↦
@@ -107,14 +100,6 @@ module _ {X : Type 0} where
 
   -- An entry is taken out
 
-  pub without-was : (k : ℕ) (e : ℕ × X) (es : List (ℕ × X)) → In e (without k es) → In e es
-  without-was k e [] i = i
-  without-was k e (d ∷ es) i =
-      elim (k == d.0) as (λ b. In e (cond (not b) (d ∷ without k es) (without k es)) → In e (d ∷ es)) [
-        | true ↦ λ i. inr (without-was k e es i)
-        | false ↦ λ i. elim i as (λ i. In e (d ∷ es)) [ inl here ↦ inl here | inr later ↦ inr (without-was k e es later) ]
-      ] i
-
   pub without-others : (k : ℕ) (e : ℕ × X) (es : List (ℕ × X)) → In e es → In e (without k es) ⊎ (e.0 ≡ k)
   without-others k e [] i = absurd i
   without-others k e (d ∷ es) i =
@@ -141,9 +126,9 @@ module _ {X : Type 0} where
   -- the one entry at a key
   pub value-is : (k lo hi : ℕ) (v : X) (e : ℕ × X) (es : List (ℕ × X)) → Rising lo hi es → value_at k es ≡ Some v → In e es → e.0 ≡ k → e ≡ (k, v)
   value-is k lo hi v e es r there i same =
-      let both : Some e.1 ≡ Some v = sym (in-value lo hi e es r i) ∙ ap (λ n. value_at n es) same ∙ there in
+      let both : Some e.1 ≡ Some v = sym (value_at-In lo hi es e r i) ∙ ap (λ n. value_at n es) same ∙ there in
       let value : e.1 ≡ v = cc in
       ap₂ (λ a b. (a, b)) same value
 
   pub value-here : (k lo hi : ℕ) (e : ℕ × X) (es : List (ℕ × X)) → Rising lo hi es → In e es → e.0 ≡ k → value_at k es ≡ Some e.1
-  value-here k lo hi e es r i same = ap (λ n. value_at n es) (sym same) ∙ in-value lo hi e es r i
+  value-here k lo hi e es r i same = ap (λ n. value_at n es) (sym same) ∙ value_at-In lo hi es e r i

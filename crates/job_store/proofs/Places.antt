@@ -16,8 +16,9 @@ use Rattle.job_store.specs.Least.{ComesBefore, IsLeast, NonePasses}
 use Rattle.job_store.specs.LookUps.{is_after}
 use Rattle.job_store.specs.ShelfStates.{ShelfState, IsFrom, bare, HasLost, HasReached, HasGained, IsFound}
 use Rattle.job_store.specs.Shelves.{belongs, belongs_after, number, belongs_at, BelongsAt, AreAllFound, IsPassed}
-use Rattle.job_store.proofs.Members.{value-in, in-value}
-use Rattle.job_store.proofs.Entries.{cmp_less, cmp_equal, cmp_greater, same_number}
+use Rattle.job_store.proofs.Members.{value-in}
+use Rattle.job_store.specs.EntryLaws.{cmp_less, cmp_equal, cmp_greater, value_at-In}
+use Rattle.job_store.proofs.Entries.{same_number}
 
 -- The order of places
 
@@ -194,7 +195,7 @@ at-id label number id job jobs e t = (value-in id job jobs (sym e), passes-belon
 pub none-at-id : (label : Label) (number id : ℕ) (lo hi : ℕ) (jobs : List (ℕ × Job)) → Rising lo hi jobs → ((job : Job) → value_at id jobs ≡ Some job → belongs_at label (number, id) (id, job) ≡ false) → (e : ℕ × Job) → In e jobs → BelongsAt label (number, id) e → ⊥
 none-at-id label number id lo hi jobs r none e i b =
     let same : id ≡ e.0 = ap (λ (q : ℕ × ℕ). q.1) b.1 in
-    let there : value_at id jobs ≡ Some e.1 = ap (λ k. value_at k jobs) same ∙ in-value lo hi e jobs r i in
+    let there : value_at id jobs ≡ Some e.1 = ap (λ k. value_at k jobs) same ∙ value_at-In lo hi jobs e r i in
     both_ways (belongs_at label (number, id) (id, e.1)) (none e.1 there) (belongs-passes label (number, id) (id, e.1) (subst (λ k. BelongsAt label (number, id) (k, e.1)) (sym same) b))
 
 -- A shelf whose places have changed

@@ -7,7 +7,8 @@ use Rattle.job_store.specs.declared.undo.Undo.{Undo}
 use Rattle.job_store.specs.Entries.{Rising, value_at, with_value, altered}
 use Rattle.job_store.specs.States.{with_pri_and_state}
 use Rattle.job_store.specs.Undone.{undone, all_undone, set_back, put_back, with_log}
-use Rattle.job_store.proofs.Entries.{Rising-altered, Rising-without, altered-back, altered-absent, without-insert, insert_entry-altered}
+use Rattle.job_store.specs.EntryLaws.{Rising-altered, Rising-without, altered-back, altered-absent, without-insert}
+use Rattle.job_store.proofs.Entries.{insert_entry-altered}
 
 -- The last one is taken back first
 
@@ -32,7 +33,7 @@ set-undone id lo hi f log None jobs back r e =
     ap (λ us. all_undone us (altered id f jobs)) (append-nil log) ∙ ap (all_undone log) (altered-absent id f jobs e)
 set-undone id lo hi f log (Some job) jobs back r e =
     undone-push log _ (altered id f jobs) ∙
-    ap (all_undone log) (altered-back id lo hi f (with_pri_and_state job.pri job.state) job jobs r e (back job))
+    ap (all_undone log) (altered-back id lo hi f (with_pri_and_state job.pri job.state) jobs job r e (back job))
 
 -- the jobs before a trial stay at a change that was noted
 pub before-set : (is_trial : Bool) (id lo hi : ℕ) (f : Job → Job) (log after : List Undo) (jobs new : List (ℕ × Job)) → ((job : Job) → with_pri_and_state job.pri job.state (f job) ≡ job) → Rising lo hi jobs → after ≡ log ++ set_back is_trial id (value_at id jobs) → new ≡ altered id f jobs → (with_log is_trial after new).before ≡ (with_log is_trial log jobs).before
@@ -48,7 +49,7 @@ put-undone id lo hi new log None jobs r e =
 put-undone id lo hi new log (Some job) jobs r e =
     undone-push log (Undo.PutBack id job) (insert_entry nat_cmp jobs id new) ∙
     ap (λ zs. all_undone log (altered id (λ _. job) zs)) (insert_entry-altered id lo hi (λ _. new) job jobs r e) ∙
-    ap (all_undone log) (altered-back id lo hi (λ _. new) (λ _. job) job jobs r e refl)
+    ap (all_undone log) (altered-back id lo hi (λ _. new) (λ _. job) jobs job r e refl)
 
 -- the jobs before a trial stay where a job was put in it
 pub before-put : (is_trial : Bool) (id lo hi : ℕ) (job : Job) (log after : List Undo) (jobs new : List (ℕ × Job)) → is_trial ≡ true → Rising lo hi jobs → after ≡ log ++ (put_back id (value_at id jobs) ∷ []) → new ≡ with_value id job jobs → (with_log is_trial after new).before ≡ (with_log is_trial log jobs).before

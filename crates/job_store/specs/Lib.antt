@@ -1,5 +1,6 @@
 pub mod Names
 pub mod Entries
+pub mod EntryLaws
 pub mod States
 pub mod Changes
 pub mod Undone

@@ -3,9 +3,9 @@ use Rattle.std.proofs.Common.{◌≡◌, ℕ, Bool, true, false, cond, inl, inr,
 use Rattle.std.specs.List.{cons_option}
 use Rattle.object.specs.Lists.{In}
 use Rattle.job_store.specs.Entries.{Rising}
-use Rattle.job_store.specs.Least.{IsLeast, NonePasses, lesser, least}
-use Rattle.job_store.proofs.Least.{lesser-lesser, least-found, least-none, least-only}
-use Rattle.job_store.specs.Least.{first_of}
+use Rattle.job_store.specs.Least.{IsLeast, NonePasses, first_of, least}
+use Rattle.job_store.proofs.Least.{least-found, least-none, least-only}
+use Rattle.job_store.proofs.Firsts.{first_of-assoc, first_of-none}
 
 -- Lists with the same elements have the same least
 
@@ -36,16 +36,13 @@ module _ {A X : Type 0} (by : X → ℕ) (f : A → Option (ℕ × X)) where
   pub first-step : (best best' : Option (ℕ × X)) (late : ℕ × X) (a : A) (items rest : List A) (all : Option (ℕ × X)) → best' ≡ first_of by best (Some late) → items ≡ a ∷ rest → f a ≡ Some late → first_of by best (least (λ e. true) by (filter_map f items)) ≡ all → first_of by best' (least (λ e. true) by (filter_map f rest)) ≡ all
   first-step best best' late a items rest all new one gives was =
       ap (λ b. first_of by b (least (λ e. true) by (filter_map f rest))) new ∙
-      elim best as (λ best. first_of by (first_of by best (Some late)) (least (λ e. true) by (filter_map f rest)) ≡ first_of by best (Some (lesser by late (least (λ e. true) by (filter_map f rest))))) [
-        | None ↦ refl
-        | Some b ↦ ap Some (lesser-lesser by b late (least (λ e. true) by (filter_map f rest)))
-      ] ∙
+      first_of-assoc by best (Some late) (least (λ e. true) by (filter_map f rest)) ∙
       ap (λ o. first_of by best (least (λ e. true) by (cons_option o (filter_map f rest)))) (sym gives) ∙
       ap (λ bs. first_of by best (least (λ e. true) by (filter_map f bs))) (sym one) ∙ was
 
   pub first-end : (best : Option (ℕ × X)) (items : List A) (all : Option (ℕ × X)) → items ≡ [] → first_of by best (least (λ e. true) by (filter_map f items)) ≡ all → best ≡ all
   first-end best items all none was =
-      elim best as (λ best. best ≡ first_of by best None) [ None ↦ refl | Some b ↦ refl ] ∙ ap (λ bs. first_of by best (least (λ e. true) by (filter_map f bs))) (sym none) ∙ was
+      first_of-none by best ∙ ap (λ bs. first_of by best (least (λ e. true) by (filter_map f bs))) (sym none) ∙ was
 
 -- What a list gives
 

@@ -8,6 +8,7 @@ use Rattle.std.proofs.lemmas.Bool.{cond-true, and_parts, and_from}
 use Rattle.std.proofs.lemmas.Bool.Decides.{nat_tests}
 use Rattle.object.specs.Lists.{In}
 use Rattle.job_store.specs.Entries.{Rising, value_at}
+use Rattle.job_store.specs.EntryLaws.{value_at-In, value_at-found, value_at-below}
 use Rattle.job_store.specs.Least.{least}
 use Rattle.session_store.specs.declared.session.SessionState.{SessionState}
 use Rattle.session_store.specs.declared.session.Wait.{Wait}
@@ -15,7 +16,6 @@ use Rattle.session_store.specs.declared.place.Place.{Place}
 use Rattle.session_store.specs.declared.time_outs.TimeOuts.{TimeOuts}
 use Rattle.session_store.specs.Sessions.{new_session, session_of, is_waiting, wait_rank, has_timed_out, first_waiting}
 use Rattle.session_store.specs.Lines.{line_cmp, place, IsIn, time_out_place, places_by, StandsByTimeOut, EachStands, over_at}
-use Rattle.session_store.specs.EntryLaws.{value_at-In, value_at-found, value_at-below}
 use Rattle.session_store.proofs.Places.{in_keys, stays_but, some_place}
 use Rattle.session_store.proofs.Found.{least_alike, mapped-in, mapped-from, filtered-in}
 

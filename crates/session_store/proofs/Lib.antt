@@ -1,4 +1,3 @@
-pub mod Bridges
 pub mod Places
 pub mod Found
 pub mod Late

@@ -13,6 +13,7 @@ use Rattle.std.proofs.lemmas.Bool.{cases_order, cond-true, and_parts, and_from}
 use Rattle.std.proofs.lemmas.Map.Lookups.{exact_bytes}
 use Rattle.object.specs.Lists.{In}
 use Rattle.job_store.specs.Entries.{Rising, value_at}
+use Rattle.job_store.specs.EntryLaws.{cmp_equal, cmp_greater, value_at-In, value_at-found}
 use Rattle.job_store.specs.Least.{ComesBefore, IsLeast}
 use Rattle.job_store.proofs.Least.{least-found, least-only}
 use Rattle.session_store.specs.declared.session.SessionState.{SessionState}
@@ -22,7 +23,6 @@ use Rattle.session_store.specs.declared.tube_lines.TubeLines.{TubeLines}
 use Rattle.session_store.specs.Sessions.{is_waiting, wait_rank, first_waiting}
 use Rattle.session_store.specs.Lines.{line_cmp, place, IsIn, rank_place, tube_line, StandsByTubes, EachStands, waiter_at}
 use Rattle.job_store.specs.LookUps.{is_among}
-use Rattle.session_store.specs.EntryLaws.{cmp_equal, cmp_greater, value_at-In, value_at-found}
 use Rattle.session_store.proofs.Places.{at_equal, in_keys, stays, some_place}
 use Rattle.session_store.proofs.Found.{mapped-in, mapped-from}
 use Rattle.session_store.proofs.Late.{some_entry}

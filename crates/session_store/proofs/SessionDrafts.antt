@@ -3,6 +3,7 @@ use Rattle.std.proofs.Common.{◌≡◌, ℕ, ◌<◌, List, [], ◌∷◌, ◌+
 use Rattle.std.proofs.Math.ListN.{get_or}
 use Rattle.std.proofs.Math.Seq.{take-suc}
 use Rattle.job_store.specs.Entries.{Rising, value_at, with_value, altered, without}
+use Rattle.job_store.specs.EntryLaws.{altered-alike, altered-back, without-insert, Rising-altered, Rising-without, Rising-insert}
 use Rattle.session_store.specs.declared.session.SessionState.{SessionState}
 use Rattle.session_store.specs.declared.session.Wait.{Wait}
 use Rattle.session_store.specs.declared.session_step.SessionStep.{SessionStep}
@@ -11,7 +12,6 @@ use Rattle.session_store.specs.Sessions.{with_wait}
 use Rattle.session_store.specs.Lines.{StandsIn, EachStands, HasGrown}
 use Rattle.session_store.specs.Drafts.{session_step_back, sessions_before, AreInLines}
 use Rattle.session_store.proofs.Standing.{each-grown}
-use Rattle.session_store.specs.EntryLaws.{altered-alike, altered-back, without-insert, Rising-altered, Rising-without, Rising-insert}
 
 sessions_before-push : (steps : List SessionStep) (step : SessionStep) (sessions : List (ℕ × SessionState)) → sessions_before (steps ++ step ∷ []) sessions ≡ sessions_before steps (session_step_back step sessions)
 sessions_before-push [] step sessions = refl

@@ -4,6 +4,7 @@ use Rattle.std.proofs.lemmas.Bool.{or_cases, or_left, or_right}
 use Rattle.std.proofs.lemmas.Slice.Eq.{bytes_eq-Decides}
 use Rattle.object.specs.Lists.{In}
 use Rattle.job_store.specs.Entries.{Rising, value_at, with_value, altered, without}
+use Rattle.job_store.specs.EntryLaws.{value_at-In, altered-in, without-in, insert-in}
 use Rattle.std.proofs.Math.ListN.{get_or}
 use Rattle.std.proofs.lemmas.List.Folds.{list_any_more}
 use Rattle.session_store.proofs.Places.{some_in}
@@ -14,7 +15,6 @@ use Rattle.session_store.specs.Sessions.{new_session, session_of, with_wait}
 use Rattle.session_store.specs.Lines.{IsIn, time_out_place, rank_place, tube_line, StandsIn, EachStands, HasGrown}
 use Rattle.session_store.specs.WatchLists.{joined, left_out}
 use Rattle.job_store.specs.LookUps.{is_among}
-use Rattle.session_store.specs.EntryLaws.{value_at-In, altered-in, without-in, insert-in}
 
 -- Tubes that are watched
 

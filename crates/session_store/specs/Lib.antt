@@ -4,5 +4,4 @@ pub mod Sessions
 pub mod Waits
 pub mod Lines
 pub mod Drafts
-pub mod EntryLaws
 pub mod WaitLaws

@@ -2,11 +2,11 @@
 use Rattle.std.proofs.Common.{◌≡◌, ℕ, true, false, cond, ◌⊎◌, inl, inr, List, Option, Some, None, is_some, unwrap_or, ◌==◌, refl, sym, ap, ◌∙◌, eq-eqb, eqb-true, true≢false}
 use Rattle.object.specs.declared.command.Key.{Key}
 use Rattle.job_store.specs.Entries.{value_at, with_value, altered, without}
+use Rattle.job_store.specs.EntryLaws.{altered-in, without-in, insert-in, in-found, value_at-found}
 use Rattle.session_store.specs.declared.session.SessionState.{SessionState}
 use Rattle.session_store.specs.declared.session.Wait.{Wait}
 use Rattle.session_store.specs.Sessions.{new_session, session_of, with_wait, with_wait_ended, known, is_waiting, wait_number}
 use Rattle.session_store.specs.Waits.{WaitsIn}
-use Rattle.session_store.specs.EntryLaws.{altered-in, without-in, insert-in, in-found, value_at-found}
 
 -- a change of x's session that keeps its wait
 pub altered-waits : (x : ℕ) (f : SessionState → SessionState) (sessions : List (ℕ × SessionState)) (k : Key) → ((c : SessionState) → (f c).wait ≡ c.wait) → WaitsIn (altered x f sessions) k → WaitsIn sessions k

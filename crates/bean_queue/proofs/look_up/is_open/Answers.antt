@@ -1,4 +1,4 @@
-use Rattle.std.proofs.Common.{◌≡◌, true, false, sym, ◌∙◌}
+use Rattle.std.proofs.Common.{sym, ◌∙◌}
 use Rattle.std.specs.Map.{keys_of}
 use Rattle.job_store.proofs.Readiness.{key-among}
 use Rattle.bean_queue.proofs.Paused.{paused-apart, open-same}

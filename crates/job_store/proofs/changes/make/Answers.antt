@@ -1,15 +1,16 @@
-use Rattle.std.proofs.Common.{◌≡◌, ◌∙◌, ℕ, ap, sym, None, BTreeMap}
+use Rattle.std.proofs.Common.{◌≡◌, ◌∙◌, ℕ, ap, sym, refl, None, BTreeMap}
 use Rattle.std.specs.Option.{option_copied_mut}
 use Rattle.job_store.specs.declared.job.Job.{Job}
 use Rattle.job_store.specs.Entries.{value_at}
 use Rattle.job_store.specs.States.{with_pri_and_state}
-use Rattle.job_store.proofs.Entries.{set_value-altered, altered-absent}
+use Rattle.job_store.specs.EntryLaws.{altered-absent}
+use Rattle.job_store.proofs.Entries.{set_value-altered}
 use Rattle.job_store.proofs.changes.make.Goals as goal
 
 pub returns-in-Some : goal.returns-in-Some
 returns-in-Some c =
     (c.get_mut.follows.holds (with_pri_and_state c.args.change.now.pri c.args.change.now.state c.in-Some.job.now)).0 ∙
-    set_value-altered c.args.change.now.id _ _ (with_pri_and_state c.args.change.now.pri c.args.change.now.state) c.in-Some.job.now c.args.jobs.now.entries c.requires (sym c.in-Some.ensures.value)
+    set_value-altered c.args.change.now.id _ _ (with_pri_and_state c.args.change.now.pri c.args.change.now.state) c.in-Some.job.now _ c.args.jobs.now.entries c.requires (sym c.in-Some.ensures.value) refl
 
 pub returns-in_default : goal.returns-in_default
 returns-in_default c =

@@ -1,10 +1,11 @@
-use Rattle.std.proofs.Common.{◌≡◌, ◌∙◌, ℕ, ap, sym, None, BTreeMap}
+use Rattle.std.proofs.Common.{◌≡◌, ◌∙◌, ℕ, ap, sym, refl, None, BTreeMap}
 use Rattle.std.specs.Option.{option_copied_mut}
 use Rattle.job_store.specs.declared.job.Job.{Job}
 use Rattle.job_store.specs.declared.undo.Undo.{Undo}
 use Rattle.job_store.specs.Entries.{value_at}
 use Rattle.job_store.specs.Undone.{undone}
-use Rattle.job_store.proofs.Entries.{remove_entry-without, set_value-altered, altered-absent}
+use Rattle.job_store.specs.EntryLaws.{altered-absent}
+use Rattle.job_store.proofs.Entries.{remove_entry-without, set_value-altered}
 use Rattle.job_store.proofs.undo.undo_one.Goals as goal
 
 pub returns-in-TakeOut : goal.returns-in-TakeOut
@@ -15,7 +16,7 @@ returns-in-TakeOut c =
 pub returns-in-Some : goal.returns-in-Some
 returns-in-Some c =
     (c.get_mut.follows.holds c.in-PutBack.job).0 ∙
-    set_value-altered c.in-PutBack.id _ _ (λ _. c.in-PutBack.job) c.in-Some.place.now c.args.jobs.now.entries c.requires (sym c.in-Some.ensures.value) ∙
+    set_value-altered c.in-PutBack.id _ _ (λ _. c.in-PutBack.job) c.in-Some.place.now _ c.args.jobs.now.entries c.requires (sym c.in-Some.ensures.value) refl ∙
     ap (λ (u : Undo). undone u c.args.jobs.now.entries) (sym c.in-PutBack.is)
 
 pub returns-in_default : goal.returns-in_default

@@ -1,9 +1,9 @@
 use Rattle.std.proofs.Common.{◌≡◌, ◌∙◌, ℕ, ap, sym, refl, None, BTreeMap}
 use Rattle.std.specs.Option.{option_copied_mut}
 use Rattle.job_store.specs.Entries.{value_at}
+use Rattle.job_store.specs.EntryLaws.{altered-absent}
+use Rattle.job_store.proofs.Entries.{set_value-altered}
 use Rattle.session_store.specs.declared.session.SessionState.{SessionState}
-use Rattle.session_store.specs.EntryLaws.{altered-absent}
-use Rattle.session_store.proofs.Bridges.{set_value-altered}
 use Rattle.session_store.proofs.session_change.set_used.Goals as goal
 
 pub returns-in-Some : goal.returns-in-Some

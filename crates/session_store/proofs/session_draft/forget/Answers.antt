@@ -1,6 +1,6 @@
 use Rattle.std.proofs.Common.{◌∙◌}
+use Rattle.job_store.proofs.Entries.{remove_entry-without}
 use Rattle.session_store.specs.Lines.{StandsIn}
-use Rattle.session_store.proofs.Bridges.{remove_entry-without}
 use Rattle.session_store.proofs.Standing.{each-without}
 use Rattle.session_store.proofs.SessionDrafts.{removal-rises}
 use Rattle.session_store.proofs.session_draft.forget.Goals as goal

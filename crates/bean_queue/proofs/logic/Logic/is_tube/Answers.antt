@@ -1,4 +1,4 @@
-use Rattle.std.proofs.Common.{◌≡◌, ◌∙◌, ◌||◌, ℕ, List, true, false, codes, bytes_eq, sym, ap}
+use Rattle.std.proofs.Common.{◌∙◌, ◌||◌, ℕ, bytes_eq, sym, ap}
 use Rattle.std.specs.List.{list_any}
 use Rattle.job_store.specs.declared.job.Job.{Job}
 use Rattle.job_store.specs.LookUps.{is_among}

@@ -1,6 +1,5 @@
-use Rattle.std.proofs.Common.{◌≡◌, ◌||◌, bytes_eq}
+use Rattle.std.proofs.Common.{◌≡◌, bytes_eq}
 use Rattle.std.specs.List.{list_any}
-use Rattle.job_store.specs.LookUps.{is_among}
 use Rattle.bean_queue.proofs.logic.pause.has_jobs.Given as goal
 
 abbrev pub invariant-loop-job : goal.invariant-loop-job

@@ -1,7 +1,8 @@
 use Rattle.std.proofs.Common.{ap, ◌∙◌}
 use Rattle.job_store.specs.Entries.{without}
 use Rattle.job_store.specs.Undone.{MapState}
-use Rattle.job_store.proofs.Entries.{remove_entry-without, Rising-same, Rising-without}
+use Rattle.job_store.specs.EntryLaws.{Rising-without}
+use Rattle.job_store.proofs.Entries.{remove_entry-without, Rising-same}
 use Rattle.job_store.proofs.logged_jobs.LoggedJobs.remove.Goals as goal
 
 pub invariant_of-self : goal.invariant_of-self

@@ -1,7 +1,8 @@
 use Rattle.std.proofs.Common.{refl, ap, ◌∙◌}
 use Rattle.job_store.specs.States.{with_pri_and_state}
 use Rattle.job_store.specs.Undone.{MapState}
-use Rattle.job_store.proofs.Entries.{Rising-same, Rising-altered}
+use Rattle.job_store.specs.EntryLaws.{Rising-altered}
+use Rattle.job_store.proofs.Entries.{Rising-same}
 use Rattle.job_store.proofs.Undone.{before-set}
 use Rattle.job_store.proofs.logged_jobs.LoggedJobs.set.Goals as goal
 

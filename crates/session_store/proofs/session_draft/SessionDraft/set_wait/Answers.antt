@@ -1,10 +1,10 @@
 use Rattle.std.proofs.Common.{◌≡◌, ◌∙◌, sym, ap, refl, List, ℕ, None}
 use Rattle.std.specs.Option.{option_copied}
 use Rattle.job_store.specs.Entries.{value_at}
+use Rattle.job_store.specs.EntryLaws.{altered-absent}
 use Rattle.session_store.specs.declared.session.SessionState.{SessionState}
 use Rattle.session_store.specs.Sessions.{with_wait}
 use Rattle.session_store.specs.Drafts.{Draft}
-use Rattle.session_store.specs.EntryLaws.{altered-absent}
 use Rattle.session_store.specs.Lines.{StandsIn}
 use Rattle.session_store.proofs.Standing.{each-altered, each-grown, stands-again}
 use Rattle.session_store.proofs.SessionDrafts.{before-step, waited-back, waited-still, change-rises, stepped}

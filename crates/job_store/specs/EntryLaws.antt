@@ -1,4 +1,5 @@
--- Lists of entries: keys that rise, and what is found at a key after a change.
+-- Lists of entries: keys that rise, and what is found at a key after a change. These laws stand in `specs/` because those of
+-- who waits, in crates above, cite them.
 use Rattle.std.proofs.Common.{◌≡◌, ℕ, suc, ◌<◌, ◌≤◌, true, false, cond, not, inl, inr, List, [], ◌∷◌, Some, None, option_map, is_some, ◌==◌, nat_lt, nat_cmp, refl, sym, ap, ap₂, subst, ◌∙◌, arith, eq-eqb, ne_eqb, le-ltb, lt-ltb, Less, Equal, Greater}
 use Rattle.std.proofs.lemmas.Bool.{cases_eq, cases_order, cond-true, cond-false}
 use Rattle.std.specs.Ordering.{match_ordering}
@@ -8,7 +9,7 @@ use Rattle.job_store.specs.Entries.{Rising, value_at, with_value, each_value, al
 
 -- How keys are compared
 
-cmp_less : (k q : ℕ) → k < q → nat_cmp k q ≡ Less
+pub cmp_less : (k q : ℕ) → k < q → nat_cmp k q ≡ Less
 cmp_less k q h = rw (lt-ltb k q h) refl
 
 pub cmp_equal : (k q : ℕ) → k ≡ q → nat_cmp k q ≡ Equal
@@ -169,11 +170,6 @@ module _ {X : Type 0} where
 
   -- What stands among changed entries
 
-  pub each-in : (f : X → X) (P : ℕ × X → Type 0) (es : List (ℕ × X)) → ((d : ℕ × X) → In d es → P (d.0, f d.1)) → (e : ℕ × X) → In e (each_value f es) → P e
-  each-in f P [] h e i = absurd i
-  each-in f P (d ∷ es) h e (inl same) = subst P (sym same) (h d (inl refl))
-  each-in f P (d ∷ es) h e (inr later) = each-in f P es (λ c i. h c (inr i)) e later
-
   pub altered-in : (k : ℕ) (f : X → X) (P : ℕ × X → Type 0) (es : List (ℕ × X)) → ((d : ℕ × X) → In d es → P (d.0, cond (k == d.0) (f d.1) d.1)) → (e : ℕ × X) → In e (altered k f es) → P e
   altered-in k f P [] h e i = absurd i
   altered-in k f P (d ∷ es) h e (inl same) = subst P (sym same) (h d (inl refl))
@@ -249,7 +245,7 @@ module _ {X : Type 0} where
             (altered-back k (suc d.0) hi f g es v r.1 (sym (value_at-next k d es apart) ∙ e) back)
       ]
 
-  without-absent : (k : ℕ) (es : List (ℕ × X)) → value_at k es ≡ None → without k es ≡ es
+  pub without-absent : (k : ℕ) (es : List (ℕ × X)) → value_at k es ≡ None → without k es ≡ es
   without-absent k [] e = refl
   without-absent k (d ∷ es) e =
       elim (cases_eq k d.0) [
@@ -269,10 +265,3 @@ module _ {X : Type 0} where
             (cond-true (not (k == e.0)) _ _ (ap not (ne_eqb k e.0 (λ same. omega arith))) ∙
             ap (λ zs. e ∷ zs) (without-insert k v es (sym (value_at-next k e es (λ same. omega arith)) ∙ none)))
       ]
-
-  -- nothing is found at or above the bound of the keys
-  pub value_at-above : (lo hi k : ℕ) (es : List (ℕ × X)) → Rising lo hi es → hi ≤ k → value_at k es ≡ None
-  value_at-above lo hi k [] r h = refl
-  value_at-above lo hi k (d ∷ es) r h =
-      let end : suc d.0 ≤ hi = Rising-end (suc d.0) hi es r.1 in
-      value_at-next k d es (λ same. omega arith) ∙ value_at-above (suc d.0) hi k es r.1 h
