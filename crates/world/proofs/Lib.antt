@@ -24,6 +24,7 @@ pub mod Noted
 pub mod Placed
 pub mod Placing
 pub mod Standing
+pub mod Seeking
 pub mod OneOrder
 pub mod SoFar
 pub mod Watching

@@ -253,14 +253,19 @@ module _ {Op : Type 0} (key : Key) where
       (cases_Bool (list_any is_greater submitted))
 
   -- and not both
-  pub apart : (submitted : List (Submission Op)) → HasGreater key submitted → IsLast key submitted → ⊥
+  apart : (submitted : List (Submission Op)) → HasGreater key submitted → IsLast key submitted → ⊥
   apart submitted more is =
       let low = is.last more.submission more.was more.session in
       let high = more.greater in
       absurd (omega arith)
 
   -- the last key of its session was submitted
-  pub last_submitted : (submitted : List (Submission Op)) → IsLast key submitted → is_submitted key submitted ≡ true
+  last_submitted : (submitted : List (Submission Op)) → IsLast key submitted → is_submitted key submitted ≡ true
   last_submitted submitted is =
       let own : is.was.0.command.key ≡ key = ap (λ (c : Command Op). c.key) is.was.2 ∙ is.own in
       finds_it (λ s. same_key s.command.key key) submitted is.was.0 is.was.1 (same_when is.was.0.command.key key own)
+
+  -- a key that was never submitted, or before a greater number of its session, is not the last of its session
+  pub not_last : (submitted : List (Submission Op)) → (is_submitted key submitted ≡ false) ⊎ HasGreater key submitted → IsLast key submitted → ⊥
+  not_last submitted (inl never) is = false≢true (sym never ∙ last_submitted submitted is)
+  not_last submitted (inr more) is = apart submitted more is

@@ -17,7 +17,7 @@ use Rattle.world.proofs.Invariants.{IsSound}
 use Rattle.world.proofs.Placed.{told, finds, finds_first, found_kept, kept_found}
 
 -- a run, and all that is chosen behind it
-run_on : {C : Type 0} (k : Cluster C) (s : ℕ) (cs ds : List C) → IsRun k s cs → IsChosenFrom k (s + length cs) ds → IsChosenFrom k s (cs ++ ds)
+pub run_on : {C : Type 0} (k : Cluster C) (s : ℕ) (cs ds : List C) → IsRun k s cs → IsChosenFrom k (s + length cs) ds → IsChosenFrom k s (cs ++ ds)
 run_on k s [] ds run behind = subst (λ t. IsChosenFrom k t ds) (omega arith) behind
 run_on k s (c ∷ cs) ds run behind = (run.0, run_on k (s + 1) cs ds run.1 (subst (λ t. IsChosenFrom k t ds) (omega arith) behind))
 

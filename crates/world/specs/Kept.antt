@@ -20,7 +20,8 @@ use Rattle.node.specs.declared.deed.Outcome.TheVariants.{Idle, Done, Performed}
 use Rattle.world.specs.Nodes.{Cluster, node, turned}
 use Rattle.world.specs.Worlds.{World}
 use Rattle.world.specs.Runs.{IsWorld}
-use Rattle.world.specs.Reached.{IsReached}
+use Rattle.world.specs.Chosen.{IsChosenFrom}
+use Rattle.world.specs.Reached.{IsReached, first_as_late}
 
 -- the node, if its acceptor had accepted all of these
 abbrev pub with_accepted : {C : Type 0} → NodeState C → List (Pvalue C) → NodeState C
@@ -43,6 +44,10 @@ Delivered {C} k l z = (x : NodeState C) × (out : List (Letter C)) × Receives k
 -- these are the keys of the commands of the slots from 1 to the reach
 abbrev pub HasNoted : {Op Reply : Type 0} → World Op Reply → List Key → Type 0
 HasNoted {Op} w keys = (cs : List (Command Op)) × IsReached w cs × (keys ≡ map (λ c. c.key) cs)
+
+-- of the keys whose commands are chosen in the slots from s on, this is the first of the key's session with no lower number
+abbrev pub IsFirstAsLate : {Op : Type 0} → Cluster (Command Op) → ℕ → Key → Option Key → Type 0
+IsFirstAsLate {Op} k s key own = (chosen : List (Command Op)) × IsChosenFrom k s chosen × (own ≡ first_as_late key (map (λ c. c.key) chosen))
 
 -- the world, with these keys beside it
 pub record IsNoted {O Op Reply : Type 0} (rules : Rules O Op Reply) (w : World Op Reply) (keys : List Key) : Type 0 where

@@ -4,6 +4,7 @@ ghost use Rattle.object.specs.Replays.{is_new, kept};
 ghost use Rattle.ballot.specs.declared.pvalue.Pvalue.{Pvalue};
 ghost use Rattle.world.specs.Nodes.{node};
 ghost use Rattle.world.specs.Chosen.{IsChosen, IsChosenFrom, IsOrder};
+ghost use Rattle.world.specs.Kept.{IsFirstAsLate};
 ghost use Rattle.world.specs.Reached.{IsPlaced, first_as_late};
 ghost use Rattle.world.specs.Rescues.{IsInOrder};
 ghost use Rattle.world.specs.Voters.{voters_of, is_voted, HasVoted, HasNoneVoted};
@@ -81,7 +82,7 @@ impl<O: Object> World<O> {
     pub fn order(&self) -> Result<Vec<Command<O::Op>>, AllocError>
         ensures { IfOk result (λ order. IsOrder self.now.cluster order.items) }
     {
-        let chosen = self.chosen_from(1)?;
+        let chosen = self.all_chosen()?;
         let order = kept(self.alloc, chosen.as_slice())?;
         Ok(order)
     }
@@ -99,30 +100,48 @@ impl<O: Object> World<O> {
     }
 
     /// Whether the key stands in the order: it is looked for among what was performed, and then in the slots after the
-    /// reach. It fails for want of memory alone.
-    pub(crate) fn has_in_order(&self, key: Key) -> Result<bool, AllocError>
-        ensures { IfOk result (λ found. (found ≡ true) ↔ IsInOrder self.now.cluster key) }
+    /// reach. It takes no memory.
+    pub(crate) fn has_in_order(&self, key: Key) -> bool
+        ensures { (result ≡ true) ↔ IsInOrder self.now.cluster key }
     {
         ballot_laws();
         self.stands();
         if let Some(own) = first_as_late(&self.performed, key) {
-            return Ok(own == key);
+            return own == key;
         }
-        let ahead = self.chosen_from(self.reach + 1)?;
-        match first_as_late(&ahead, key) {
-            Some(own) => Ok(own == key),
-            None => Ok(false),
+        match self.first_chosen_as_late(self.reach + 1, key) {
+            Some(own) => own == key,
+            None => false,
         }
     }
 
-    // The commands that are chosen in this slot and those after it, up to the first slot with none chosen.
-    fn chosen_from(&self, first: u64) -> Result<Vec<Command<O::Op>>, AllocError>
+    // The first that is of the key's session and has no lower number, of the keys whose commands are chosen in this slot
+    // and those after it, up to the first slot with none chosen.
+    fn first_chosen_as_late(&self, first: u64, key: Key) -> Option<Key>
         requires { first ≤ 2 ^ 62 + 1 }
-        ensures { IfOk result (λ chosen. IsChosenFrom self.now.cluster first chosen.items) }
+        ensures { IsFirstAsLate self.now.cluster first key result }
+    {
+        ballot_laws();
+        self.stands();
+        // no slot is greater than 2^62, so one of these has none chosen
+        for slot in first..u64::MAX {
+            let Some(command) = self.chosen(slot) else {
+                return None;
+            };
+            if is_as_late(command.key(), key) {
+                return Some(command.key());
+            }
+        }
+        None
+    }
+
+    // The commands that are chosen in the slots from 1 on, up to the first slot with none chosen.
+    fn all_chosen(&self) -> Result<Vec<Command<O::Op>>, AllocError>
+        ensures { IfOk result (λ chosen. IsChosenFrom self.now.cluster 1 chosen.items) }
     {
         let mut chosen = Vec::new(self.alloc);
         // no slot is greater than 2^62, so one of these has none chosen
-        for slot in first..u64::MAX {
+        for slot in 1..u64::MAX {
             match self.chosen(slot) {
                 Some(command) => chosen.push(command.copy()?)?,
                 None => return Ok(chosen),

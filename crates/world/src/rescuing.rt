@@ -1,4 +1,4 @@
-ghost use Rattle.std.specs.Prelude.{◌≡◌, ◌↔◌, ◌<◌, ◌^◌, ◌⊎◌, ◌&&◌, ◌==◌, nat_lt, true, false, [], None, Ok, Err, IfOk, IfErr, IfSome, IfNone, OnErr};
+ghost use Rattle.std.specs.Prelude.{◌≡◌, ◌↔◌, ◌<◌, ◌≤◌, ◌^◌, ◌⊎◌, ◌&&◌, ◌==◌, nat_lt, true, false, [], None, Ok, Err, IfOk, IfErr, IfSome, IfNone, OnErr};
 ghost use Rattle.std.specs.List.{list_any};
 ghost use Rattle.object.specs.Happenings.{is_submitted};
 ghost use Rattle.object.specs.Legal.{WasSubmitted};
@@ -18,25 +18,25 @@ const MOST_TAKEN: u64 = 1 << 32;
 impl<O: Object> World<O> {
     /// Events, none of them a restart, after which the key stands in the order; no events where it does already. The answer is
     /// `None` where the key was never submitted, and where a greater number of its session was and the key doesn't stand in
-    /// the order, and nowhere else. It is full only where more than 2^32 events were taken and there would be a way to look
-    /// for; else it fails for want of memory alone.
+    /// the order, and nowhere else. To tell either takes no memory. Where there is a way to look for, it is full after more
+    /// than 2^32 events, and else it fails for want of memory alone.
     pub fn rescue(&self, key: Key) -> Result<Option<Vec<Event<O::Op>>>, WorldError>
         ensures some { IfOk result (λ found. IfSome found (λ events. Rescues O.rules O.Op.eq self.now key
             events.items)) }
         ensures empty { IfOk result (λ found. IfSome found (λ events. (events.items
             ≡ []) ↔ IsInOrder self.now.cluster key)) }
-        ensures none { result ≡ Ok None → HasNoWay self.now key }
-        ensures unknown { is_submitted key self.now.happenings.submitted ≡ false →
-            (result ≡ Ok None) ⊎ (result ≡ Err OutOfMemory) }
+        ensures none { (result ≡ Ok None) ↔ HasNoWay self.now key }
         ensures in_order { IsInOrder self.now.cluster key → result ≡ Ok None → ⊥ }
         ensures last { IsLast key self.now.happenings.submitted → result ≡ Ok None → ⊥ }
-        ensures err { IfErr result (λ r. (r ≡ OutOfMemory) ⊎ ((r ≡ Full) × (2 ^ 32 < self.now.taken))) }
-        ensures new { result ≡ Err Full → IsInOrder self.now.cluster key → ⊥ }
-        ensures known { result ≡ Err Full → IsLast key self.now.happenings.submitted }
+        ensures err { IfErr result (λ r. IsLast key self.now.happenings.submitted
+            × (IsInOrder self.now.cluster key → ⊥)
+            × (((r ≡ Full) × (2 ^ 32 < self.now.taken)) ⊎ ((r ≡ OutOfMemory) × (self.now.taken ≤ 2 ^ 32)))) }
+        ensures full { IsLast key self.now.happenings.submitted
+            → (IsInOrder self.now.cluster key → ⊥) → 2 ^ 32 < self.now.taken → result ≡ Err Full }
     {
         ballot_laws();
         self.stands();
-        if self.has_in_order(key)? {
+        if self.has_in_order(key) {
             return Ok(Some(Vec::new(self.allocator())));
         }
         match last_command(self.submitted(), key) {
@@ -52,7 +52,9 @@ impl<O: Object> World<O> {
         ensures some { IfOk result (λ found. IfSome found (λ events. Rescues O.rules O.Op.eq self.now
             command.now.key events.items)) }
         ensures found { IfOk result (λ found. IfNone found ⊥) }
-        ensures err { IfErr result (λ r. (r ≡ OutOfMemory) ⊎ ((r ≡ Full) × (2 ^ 32 < self.now.taken))) }
+        ensures err { IfErr result (λ r. ((r ≡ Full) × (2 ^ 32 < self.now.taken))
+            ⊎ ((r ≡ OutOfMemory) × (self.now.taken ≤ 2 ^ 32))) }
+        ensures full { 2 ^ 32 < self.now.taken → result ≡ Err Full }
     {
         ballot_laws();
         self.stands();
