@@ -104,7 +104,7 @@ impl<O: Object> RecordedNetwork<O> {
         Ok(outcome)
     }
 
-    /// A node receives the letter in front of its mail; false where there is none.
+    /// A node receives the letter in front of its mail; false where there is none, which takes no memory.
     pub(crate) fn deliver(&mut self, node: u8) -> Result<bool, AllocError>
         requires member { is_member self.old.network.members node ≡ true }
         requires room { self.old.taken < most_events }
@@ -117,6 +117,7 @@ impl<O: Object> RecordedNetwork<O> {
             → HasReceived self.old node l self.new) }
         ensures none { OnOk result (front (mail_of self.old.network node) ≡ None
             → self.new ≡ self.old) }
+        ensures idle { front (mail_of self.old.network node) ≡ None → IsOk result }
         ensures err { OnErr result (self.new ≡ self.old) }
     {
         let came = self.network.deliver(node)?;
@@ -135,7 +136,7 @@ impl<O: Object> RecordedNetwork<O> {
         self.network.lose(node)
     }
 
-    /// Copies the letter in front of a node's mail to its back; false where there is none.
+    /// Copies the letter in front of a node's mail to its back; false where there is none, which takes no memory.
     pub(crate) fn repeat(&mut self, node: u8) -> Result<bool, AllocError>
         requires { is_member self.old.network.members node ≡ true }
         ensures came { IfOk result (λ came. came ≡ has_mail self.old.network node) }
@@ -143,6 +144,7 @@ impl<O: Object> RecordedNetwork<O> {
             → front (mail_of self.old.network node) ≡ Some l → self.new ≡ repeated self.old node l) }
         ensures none { OnOk result (front (mail_of self.old.network node) ≡ None
             → self.new ≡ self.old) }
+        ensures idle { front (mail_of self.old.network node) ≡ None → IsOk result }
         ensures err { OnErr result (self.new ≡ self.old) }
     {
         self.network.repeat(node)

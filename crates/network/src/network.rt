@@ -126,7 +126,7 @@ impl<O: Object> Network<O> {
         Ok(outcome)
     }
 
-    /// A node receives the letter in front of its mail; false where there is none.
+    /// A node receives the letter in front of its mail; false where there is none, which takes no memory.
     pub fn deliver(&mut self, id: u8) -> Result<bool, AllocError>
         requires member { is_member self.old.members id ≡ true }
         requires fit { (l : Letter (Command O.Op)) → front (mail_of self.old id) ≡ Some l
@@ -135,8 +135,12 @@ impl<O: Object> Network<O> {
         ensures ok { OnOk result ((l : Letter (Command O.Op)) → front (mail_of self.old id) ≡ Some l
             → IsDelivered self.old id l self.new) }
         ensures none { OnOk result (front (mail_of self.old id) ≡ None → self.new ≡ self.old) }
+        ensures idle { front (mail_of self.old id) ≡ None → IsOk result }
         ensures err { OnErr result (self.new ≡ self.old) }
     {
+        if !self.has_mail(id) {
+            return Ok(false);
+        }
         sort(self.alloc, &mut self.mails, &mut self.fresh)?;
         let place = usize::from(id - 1);
         let Some(letter) = self.mails[place].front() else {
@@ -148,15 +152,19 @@ impl<O: Object> Network<O> {
         Ok(true)
     }
 
-    /// Copies the letter in front of a node's mail to its back; false where there is none.
+    /// Copies the letter in front of a node's mail to its back; false where there is none, which takes no memory.
     pub fn repeat(&mut self, id: u8) -> Result<bool, AllocError>
         requires { is_member self.old.members id ≡ true }
         ensures came { IfOk result (λ came. came ≡ has_mail self.old id) }
         ensures ok { OnOk result ((l : Letter (Command O.Op)) → front (mail_of self.old id) ≡ Some l
             → self.new ≡ with_last self.old id l) }
         ensures none { OnOk result (front (mail_of self.old id) ≡ None → self.new ≡ self.old) }
+        ensures idle { front (mail_of self.old id) ≡ None → IsOk result }
         ensures err { OnErr result (self.new ≡ self.old) }
     {
+        if !self.has_mail(id) {
+            return Ok(false);
+        }
         sort(self.alloc, &mut self.mails, &mut self.fresh)?;
         let place = usize::from(id - 1);
         let Some(letter) = self.mails[place].copy_front()? else {

@@ -1,6 +1,7 @@
 -- What a node does by itself, as an event of its world.
 use Rattle.std.proofs.Common.{◌≡◌, ℕ, zero, suc, ◌-◌, ◌+◌, ◌<◌, ◌≤◌, ◌^◌, Bool, true, false, nat_lt, cond, List, [], ◌∷◌, ◌++◌, length, append-nil, Option, Some, None, refl, sym, ap, ap₂, ◌∙◌, subst, arith}
-use Rattle.std.specs.Prelude.{slice_index_or, slice_set, Result, Ok, Err, OnOk, OnErr}
+use Rattle.std.specs.Prelude.{slice_index_or, slice_set, is_some, Result, Ok, Err, IsOk, OnOk, OnErr}
+use Rattle.std.proofs.lemmas.Bool.{false≢true}
 use Rattle.std.proofs.lemmas.Bool.Decides.{nat_tests}
 use Rattle.std.specs.Option.{option_to_list}
 use Rattle.object.specs.declared.command.Answer.{Answer}
@@ -14,7 +15,7 @@ use Rattle.ballot.specs.declared.letter.Letter.{Letter}
 use Rattle.slot_log.specs.Decisions.{next_decided}
 use Rattle.slot_log.specs.Proposals.{next_proposal}
 use Rattle.node.specs.Nodes.{NodeState, members_of, number_of, node_in, put}
-use Rattle.node.specs.Deeds.{acted, own_turn, performing, performs, done_if, outcome_of, IsAble}
+use Rattle.node.specs.Deeds.{acted, own_turn, performing, performs, done_if, outcome_of, IsAble, ComesToNothing}
 use Rattle.node.specs.declared.deed.Deed.{Deed}
 use Rattle.node.specs.declared.deed.Deed.TheVariants as deeds
 use Rattle.node.specs.declared.deed.Outcome.{Outcome}
@@ -26,8 +27,9 @@ use Rattle.ballot.specs.Members.{is_member}
 use Rattle.world.specs.Refusals.{most_events, IsAllowed, is_at_member}
 use Rattle.world.specs.Showing.{HasNode}
 use Rattle.node.specs.Outcomes.{reach_after}
-use Rattle.world.specs.Kept.{HasNoted, IsNoted, submission_by, key_past}
+use Rattle.world.specs.Kept.{HasNoted, IsNoted, submission_by, key_past, is_performance}
 use Rattle.world.proofs.Events.{next_world, own_event, has_node, boots}
+use Rattle.world.proofs.Idle.{no_submission, no_performance, noted_where}
 use Rattle.world.proofs.Noted.{noted_stays, performs_noted}
 use Rattle.node.specs.PlaceLaws.{node_at, put_at}
 use Rattle.world.proofs.Reach.{reachable_sound, step_sound}
@@ -128,13 +130,13 @@ module _ {O Op Reply : Type 0} (rules : Rules O Op Reply) (v : World Op Reply) (
   bounds : (1 ≤ n) × (n ≤ length v.cluster.nodes)
   bounds = let b = member_bounds v.cluster.members n has.seated.member in let size = has.size in (b.0, omega (arith, b.1))
 
-  own : x ≡ node v.cluster n
-  own = node_at v.cluster.members v.cluster.nodes n x bounds.0 bounds.1 (at ∙ ap (λ j. slice_index_or v.cluster.nodes j x) place)
+  pub own_at : x ≡ node v.cluster n
+  own_at = node_at v.cluster.members v.cluster.nodes n x bounds.0 bounds.1 (at ∙ ap (λ j. slice_index_or v.cluster.nodes j x) place)
 
   seated : (d : Deed Op) → own_turn rules x d ≡ acted rules v.cluster.members n (node v.cluster n) d
   seated d =
-      ap₂ (λ ms m. acted rules ms m x d) (ap (λ y. members_of y) own ∙ has.seated.speaks) (ap (λ y. number_of y) own ∙ has.seated.node)
-      ∙ ap (λ y. acted rules v.cluster.members n y d) own
+      ap₂ (λ ms m. acted rules ms m x d) (ap (λ y. members_of y) own_at ∙ has.seated.speaks) (ap (λ y. number_of y) own_at ∙ has.seated.node)
+      ∙ ap (λ y. acted rules v.cluster.members n y d) own_at
 
   -- a restart has a boot left
   pub able_at : (d : Deed Op) → (node v.cluster n).boot < 2 ^ 62 → IsAble x d
@@ -143,7 +145,7 @@ module _ {O Op Reply : Type 0} (rules : Rules O Op Reply) (v : World Op Reply) (
   able_at deeds.Nudge h = tt
   able_at deeds.Propose h = tt
   able_at deeds.Perform h = tt
-  able_at deeds.Restart h = subst (λ (y : NodeState (Command Op)). y.boot < 2 ^ 62) (sym own) h
+  able_at deeds.Restart h = subst (λ (y : NodeState (Command Op)). y.boot < 2 ^ 62) (sym own_at) h
 
   module _ (z : NodeState (Command Op)) (d : Deed Op) (new : z ≡ (own_turn rules x d).state) where
     -- they are those that the world's event makes
@@ -158,12 +160,12 @@ module _ {O Op Reply : Type 0} (rules : Rules O Op Reply) (v : World Op Reply) (
         letters = (sent ∙ ap (λ t. v.cluster.letters ++ t.sent) (seated d)) i;
       };
       happenings = record { submitted = asked i; answers = (answered ∙ ap (λ t. v.happenings.answers ++ t.answers) (seated d)) i };
-      reach = (high ∙ ap (reach_after v.reach) (out ∙ ap (λ y. outcome_of y d) own)) i;
+      reach = (high ∙ ap (reach_after v.reach) (out ∙ ap (λ y. outcome_of y d) own_at)) i;
       taken = v.taken + 1;
     }
 
     pub came_is : (came : Outcome) → came ≡ outcome_of x d → key_past v.reach came ≡ key_past v.reach (outcome_of (node v.cluster n) d)
-    came_is came out = ap (key_past v.reach) (out ∙ ap (λ y. outcome_of y d) own)
+    came_is came out = ap (key_past v.reach) (out ∙ ap (λ y. outcome_of y d) own_at)
 
 -- what a deed that is allowed may count on
 pub at_member : {Op : Type 0} (members : List ℕ) (n : ℕ) (d : Deed Op) → is_at_member members (event_of n d) ≡ true → is_member members n ≡ true
@@ -199,6 +201,12 @@ acts_not v p x z at same letters sent given answered submitted asked =
       taken = v.taken;
     }
 
+-- what has nothing to do submits nothing
+pub nothing_submitted : (laws : BallotLaws) {O Op Reply : Type 0} (rules : Rules O Op Reply) (v w : World Op Reply) → v ≡ w → (keys : List Key) → IsNoted rules v keys → (n : ℕ) (d : Deed Op) → ComesToNothing rules (node w.cluster n) d → (seen : List (Submission Op)) → seen ≡ v.happenings.submitted → (after : ℕ) → submission_by d seen after ≡ None
+nothing_submitted laws {O} {Op} {Reply} rules v w is keys noted n d i seen same after =
+    ap (λ s. submission_by d s after) same
+    ∙ no_submission laws rules v noted.world.reachable n d (subst (λ (y : World Op Reply). ComesToNothing rules (node y.cluster n) d) (sym is) i) after
+
 -- A world, from its fields after a deed of node n, which stands at place p.
 module _ (laws : BallotLaws) {O Op Reply : Type 0} (rules : Rules O Op Reply) (v w : World Op Reply) (is : v ≡ w) (keys : List Key) (noted : IsNoted rules v keys) (n p : ℕ) (d : Deed Op) (member : is_member w.cluster.members n ≡ true) (own : AsksForItsOwn d w.happenings.submitted) (room : w.taken < most_events) (place : p ≡ n - 1) where
   there : HasNode n v.cluster
@@ -210,6 +218,23 @@ module _ (laws : BallotLaws) {O Op Reply : Type 0} (rules : Rules O Op Reply) (v
   module _ (x : NodeState (Command Op)) (at : x ≡ slice_index_or v.cluster.nodes p x) where
     pub able_now : IsAble x d
     able_now = able_at rules v n p place there x at d (boots laws rules v w is noted.world n room)
+
+    there_too : x ≡ node w.cluster n
+    there_too = own_at rules v n p place there x at ∙ ap (λ (y : World Op Reply). node y.cluster n) is
+
+    pub nothing_now : ComesToNothing rules (node w.cluster n) d → ComesToNothing rules x d
+    nothing_now i = subst (λ (y : NodeState (Command Op)). ComesToNothing rules y d) (sym there_too) i
+
+    pub performs_none : ComesToNothing rules (node w.cluster n) d → is_performance (outcome_of x d) ≡ false
+    performs_none i = no_performance rules x d (nothing_now i)
+
+    -- what was looked at before performs a command where one was performed
+    pub performs_now : (y : NodeState (Command Op)) → y ≡ slice_index_or v.cluster.nodes p y → (does : Bool) → does ≡ is_performance (outcome_of y d) → (came : Outcome) → came ≡ outcome_of x d → (past : Option Key) → past ≡ key_past v.reach came → is_some past ≡ true → does ≡ true
+    performs_now y looked does performs came out past key e =
+        performs
+        ∙ ap (λ z. is_performance (outcome_of z d)) (own_at rules v n p place there y looked ∙ sym (own_at rules v n p place there x at))
+        ∙ ap is_performance (sym out)
+        ∙ noted_where v.reach came (ap is_some (sym key) ∙ e)
 
     module _ (z : NodeState (Command Op)) (new : z ≡ (own_turn rules x d).state) (letters : List (Letter (Command Op))) (sent : letters ≡ v.cluster.letters ++ (own_turn rules x d).sent) (given : List (Answer Reply)) (answered : given ≡ v.happenings.answers ++ (own_turn rules x d).answers) (submitted : List (Submission Op)) (asked : submitted ≡ v.happenings.submitted ++ option_to_list (submission_by d v.happenings.submitted (length v.happenings.answers))) (came : Outcome) (out : came ≡ outcome_of x d) (reach : ℕ) (high : reach ≡ reach_after v.reach came) where
       abbrev now : World Op Reply
@@ -240,6 +265,9 @@ ok_of {Q = Q} r s x same e h = subst (λ t. OnOk t Q) (sym same ∙ e) h
 
 pub err_of : {T E Q : Type 0} (r s : Result T E) (x : E) → s ≡ r → s ≡ Err x → OnErr r Q → Q
 err_of {Q = Q} r s x same e h = subst (λ t. OnErr t Q) (sym same ∙ e) h
+
+pub not_err : {T E Q : Type 0} (r s : Result T E) (x : E) → s ≡ r → s ≡ Err x → IsOk r → Q
+not_err r s x same e h = absurd (false≢true (subst (λ t. IsOk t) (sym same ∙ e) h))
 
 pub sent_when : (i count : ℕ) → nat_lt i count ≡ true → i < count
 sent_when i count h = grind (arith, nat_tests)

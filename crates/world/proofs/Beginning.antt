@@ -67,14 +67,20 @@ act_itself same reflexive (Do o) = reflexive o
 act_itself same reflexive Close = refl
 act_itself same reflexive Tick = refl
 
+-- two that are one command have one key
+pub one_key : {O Op Reply : Type 0} (rules : Rules O Op Reply) (a b : Command Op) → is_one rules a b ≡ true → a.key ≡ b.key
+one_key rules a b e =
+    let both = both_true (a.key.session == b.key.session && a.key.number == b.key.number) (same_acts rules.same a.act b.act) e in
+    let keys = both_true (a.key.session == b.key.session) (a.key.number == b.key.number) both.0 in
+    let session = same_number a.key.session b.key.session keys.0 in
+    let number = same_number a.key.number b.key.number keys.1 in
+    λ i. record { session = session i; number = number i }
+
 module _ {O Op Reply : Type 0} (rules : Rules O Op Reply) (same : Op → Op → Bool) (law : rules.same ≡ same) where
   pub one_exact : ((x y : Op) → same x y ≡ true → x ≡ y) → (a b : Command Op) → is_one rules a b ≡ true → a ≡ b
   one_exact exact a b e =
       let both = both_true (a.key.session == b.key.session && a.key.number == b.key.number) (same_acts same a.act b.act) (subst (λ f. same_commands f a b ≡ true) law e) in
-      let keys = both_true (a.key.session == b.key.session) (a.key.number == b.key.number) both.0 in
-      let session = same_number a.key.session b.key.session keys.0 in
-      let number = same_number a.key.number b.key.number keys.1 in
-      λ i. record { key = record { session = session i; number = number i }; act = acts_exact same exact a.act b.act both.1 i }
+      λ i. record { key = one_key rules a b e i; act = acts_exact same exact a.act b.act both.1 i }
 
   pub one_itself : ((x : Op) → same x x ≡ true) → (a : Command Op) → is_one rules a a ≡ true
   one_itself reflexive a = subst (λ f. same_commands f a a ≡ true) (sym law)

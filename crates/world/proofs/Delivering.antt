@@ -9,10 +9,11 @@ use Rattle.object.specs.Objects.{Rules}
 use Rattle.ballot.specs.BallotLaws.{BallotLaws}
 use Rattle.ballot.specs.declared.letter.Letter.{Letter}
 use Rattle.node.specs.Nodes.{NodeState}
-use Rattle.node.specs.Receiving.{IsFit, Received}
+use Rattle.node.specs.Receiving.{IsFit, SaysNothingNew, Received}
 use Rattle.world.specs.declared.event.Event.TheVariants as events
 use Rattle.world.specs.Kept.{IsNoted}
 use Rattle.world.specs.Nodes.{node}
+use Rattle.world.specs.Quiet.{BringsNothing}
 use Rattle.world.specs.Refusals.{most_events}
 use Rattle.world.specs.Showing.{HasNode}
 use Rattle.world.specs.Steps.{Step, deliver}
@@ -68,6 +69,11 @@ module _ (laws : BallotLaws) {O Op Reply : Type 0} (rules : Rules O Op Reply) (v
 
       pub fit_now : IsFit y l.body
       fit_now = subst (λ z. IsFit z l.body) (sym own) (fit laws rules v w is noted.world j l letter_is)
+
+      pub silent_now : BringsNothing rules w.cluster (events.Deliver j) → SaysNothingNew y l.body
+      silent_now i =
+          let silent : BringsNothing rules v.cluster (events.Deliver j) = subst (λ (u : World Op Reply). BringsNothing rules u.cluster (events.Deliver j)) (sym is) i in
+          subst (λ z. SaysNothingNew z l.body) (sym own) (silent l letter_is)
 
       module _ (z : NodeState (Command Op)) (other : Letter (Command Op)) (out : List (Letter (Command Op))) where
         restored : (more : List (Letter (Command Op))) → out ≡ slice_set v.cluster.letters j other ++ more → slice_set out j l ≡ v.cluster.letters ++ more

@@ -48,6 +48,7 @@ pub mod Booking
 pub mod Bringing
 pub mod Going
 pub mod Hearing
+pub mod Idle
 pub mod InOrder
 pub mod LeaderCases
 pub mod Leading

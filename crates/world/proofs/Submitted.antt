@@ -75,10 +75,15 @@ module _ (laws : BallotLaws) {O Op Reply : Type 0} (rules : Rules O Op Reply) (P
       step_of v e u (leads_sound laws rules w v before i l).sound s p (leads_of w v before i f l q)
 
 module _ (laws : BallotLaws) {O Op Reply : Type 0} (rules : Rules O Op Reply) where
+  -- so was each that is requested, proposed or asked for
+  pub all_submitted : (members : List ℕ) (w : World Op Reply) (es : List (Event Op)) → Leads rules (opening members) es w → Of (λ (d : Command Op). WasSubmitted d w.happenings.submitted) w.cluster
+  all_submitted members w es l =
+      let P : Command Op → Type 0 = λ d. WasSubmitted d w.happenings.submitted in
+      leads_of laws rules P (opening members) w es (opening_sound (Command Op) members) (opening_of P members) l (λ d was. was)
+
   pub chosen_submitted : (members : List ℕ) (w : World Op Reply) (es : List (Event Op)) → Leads rules (opening members) es w → (s : ℕ) (c : Command Op) → IsChosen w.cluster s c → WasSubmitted c w.happenings.submitted
   chosen_submitted members w es l s c h =
       let P : Command Op → Type 0 = λ d. WasSubmitted d w.happenings.submitted in
       let i = leads_sound laws rules (opening members) w es (opening_sound (Command Op) members) l in
-      let f = leads_of laws rules P (opening members) w es (opening_sound (Command Op) members) (opening_of P members) l (λ d was. was) in
       let m = laws.share w.cluster.members h.1.voters h.1.voters h.1.majority h.1.majority in
-      asked_of P w.cluster f (pvalue h.0 s c) ((i.sound.nodes m.0).acceptor.sent (pvalue h.0 s c) (h.1.accepted m.0 m.1))
+      asked_of P w.cluster (all_submitted members w es l) (pvalue h.0 s c) ((i.sound.nodes m.0).acceptor.sent (pvalue h.0 s c) (h.1.accepted m.0 m.1))

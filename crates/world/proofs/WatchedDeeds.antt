@@ -8,7 +8,7 @@ use Rattle.ballot.specs.declared.letter.Letter.{Letter}
 use Rattle.ballot.specs.declared.pvalue.Pvalue.{Pvalue}
 use Rattle.slot_log.specs.Decisions.{next_decided}
 use Rattle.node.specs.Nodes.{NodeState, members_of, number_of}
-use Rattle.node.specs.Deeds.{acted, own_turn, performing, outcome_of, IsAble}
+use Rattle.node.specs.Deeds.{acted, own_turn, performing, outcome_of, IsAble, ComesToNothing}
 use Rattle.node.specs.Receiving.{ShowsNode}
 use Rattle.node.specs.declared.deed.Deed.{Deed}
 use Rattle.node.specs.declared.deed.Deed.TheVariants as deeds
@@ -87,10 +87,21 @@ able nd all deeds.Propose h = tt
 able nd all deeds.Perform h = tt
 able nd all deeds.Restart h = h
 
+nothing : {O Op Reply : Type 0} (rules : Rules O Op Reply) (nd : NodeState (Command Op)) (all : List (Pvalue (Command Op))) (d : Deed Op) → ComesToNothing rules (with_accepted nd all) d → ComesToNothing rules nd d
+nothing rules nd all (deeds.Request c) h = h
+nothing rules nd all deeds.Wake h = h
+nothing rules nd all deeds.Nudge h = h
+nothing rules nd all deeds.Propose h = h
+nothing rules nd all deeds.Perform h = h
+nothing rules nd all deeds.Restart h = h
+
 -- Node nd, which is watched as k, did something and became z.
 module _ {O Op Reply : Type 0} (rules : Rules O Op Reply) (nd z k : NodeState (Command Op)) (all : List (Pvalue (Command Op))) (is : with_accepted nd all ≡ k) (d : Deed Op) where
   pub watched_able : IsAble k d → IsAble nd d
   watched_able h = able nd all d (subst (λ x. IsAble x d) (sym is) h)
+
+  pub watched_nothing : ComesToNothing rules k d → ComesToNothing rules nd d
+  watched_nothing h = nothing rules nd all d (subst (λ x. ComesToNothing rules x d) (sym is) h)
 
   pub watched_state : z ≡ (own_turn rules nd d).state → with_accepted z all ≡ (own_turn rules k d).state
   watched_state new = ap (λ y. with_accepted y all) new ∙ same_state rules (members_of nd) (number_of nd) nd all d ∙ ap (λ x. (own_turn rules x d).state) is

@@ -49,7 +49,7 @@ new_shows {C} nd all new none = record {
   replica = refl;
 }
 
-module _ {C : Type 0} (m : ℕ) (nd z k : NodeState C) (all room now : List (Pvalue C)) (is : with_accepted nd all ≡ k) (same : room ≡ all) (body : LetterBody C) (more : Option (Pvalue C)) (gives : more ≡ accepts_of (with_accepted nd room).acceptor body) (grown : now ≡ room ++ option_to_list more) (before after : List (Letter C)) (received : ShowsReceived m nd body z before after) (shows : ShowsNode nd (with_accepted nd all)) where
+module _ {C : Type 0} (m : ℕ) (nd z k : NodeState C) (all room now : List (Pvalue C)) (is : with_accepted nd all ≡ k) (same : room ≡ all) (body : LetterBody C) (more : Option (Pvalue C)) (gives : more ≡ accepts_of k.acceptor body) (grown : now ≡ room ++ option_to_list more) (before after : List (Letter C)) (received : ShowsReceived m nd body z before after) (shows : ShowsNode nd (with_accepted nd all)) where
   -- what the watched node became
   became : (y : NodeState C) → ShowsNode z y → Received m (with_accepted nd all) body y before after → y ≡ with_accepted z now
   became y shown r = λ i. record {
@@ -60,7 +60,7 @@ module _ {C : Type 0} (m : ℕ) (nd z k : NodeState C) (all room now : List (Pva
   }
     where
       accepted : y.acceptor.accepted ≡ now
-      accepted = accepted_after _ m _ (with_accepted nd all) y body r.0 r.1 ∙ sym (grown ∙ ap (λ o. room ++ option_to_list o) gives ∙ ap (λ l. l ++ option_to_list (accepts_of (with_accepted nd l).acceptor body)) same)
+      accepted = accepted_after _ m _ (with_accepted nd all) y body r.0 r.1 ∙ sym (grown ∙ ap (λ o. room ++ option_to_list o) (gives ∙ ap (λ y. accepts_of y.acceptor body) (sym is)) ∙ ap (λ l. l ++ option_to_list (accepts_of (with_accepted nd all).acceptor body)) same)
 
   pub watched_received : Received m k body (with_accepted z now) before after
   watched_received =

@@ -1,5 +1,5 @@
 -- How a world keeps its nodes, and what an event adds to what it keeps.
-use Rattle.std.specs.Prelude.{◌≡◌, ℕ, nat_lt, List, map, Option, None, Some, if◌then◌else◌}
+use Rattle.std.specs.Prelude.{◌≡◌, ℕ, nat_lt, Bool, true, false, List, map, Option, None, Some, if◌then◌else◌}
 use Rattle.object.specs.declared.command.Command.{Command}
 use Rattle.object.specs.declared.command.Key.{Key}
 use Rattle.object.specs.declared.command.Submission.{Submission}
@@ -72,3 +72,9 @@ abbrev pub key_past : ℕ → Outcome → Option Key
 key_past reach Idle = None
 key_past reach Done = None
 key_past reach (Performed p) = if nat_lt reach p.slot then Some p.key else None
+
+-- a command was performed
+abbrev pub is_performance : Outcome → Bool
+is_performance Idle = false
+is_performance Done = false
+is_performance (Performed p) = true

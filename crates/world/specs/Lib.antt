@@ -4,6 +4,7 @@ pub mod Worlds
 pub mod Steps
 pub mod Showing
 pub mod Refusals
+pub mod Quiet
 pub mod Runs
 pub mod Schedules
 pub mod Chosen

@@ -1,13 +1,14 @@
-ghost use Rattle.std.specs.Prelude.{◌≡◌, true, IfOk, OnOk, OnErr};
+ghost use Rattle.std.specs.Prelude.{◌≡◌, true, None, IsOk, IfOk, OnOk, OnErr};
 ghost use Rattle.ballot.specs.Members.{is_member};
 ghost use Rattle.node.specs.Nodes.{new_node};
-ghost use Rattle.node.specs.Receiving.{IsFit, Received};
+ghost use Rattle.node.specs.Deeds.{outcome_of};
+ghost use Rattle.node.specs.Receiving.{IsFit, SaysNothingNew, Received};
 ghost use Rattle.world.specs.Voters.{accepts};
-ghost use Rattle.world.specs.Kept.{accepts_of};
+ghost use Rattle.world.specs.Kept.{accepts_of, is_performance};
 
-use crate::submissions::push_in_room;
+use crate::submissions::{make_room_if, push_in_room};
 use ballot::{Ballot, Letter, LetterBody, Members, Pvalue, Slot};
-use node::Node;
+use node::{Deed, Node};
 use object::{Command, Object, Value, copies_of};
 use std::alloc::{AllocError, Global};
 use std::marker::Model;
@@ -58,7 +59,18 @@ impl<O: Object> Watched<O> {
         })
     }
 
-    /// Receives a body from a member, and appends what it sends. For want of memory it changes nothing.
+    /// Whether it performs a command by this deed.
+    pub(crate) fn performs(&self, deed: &Deed<O::Op>) -> bool
+        ensures { result ≡ is_performance (outcome_of self.now deed.now) }
+    {
+        match deed {
+            Deed::Perform => self.node.can_perform(),
+            _ => false,
+        }
+    }
+
+    /// Receives a body from a member, and appends what it sends. For want of memory it changes nothing. What says nothing
+    /// new takes no memory.
     pub(crate) fn receive(
         &mut self,
         from: u8,
@@ -68,21 +80,24 @@ impl<O: Object> Watched<O> {
         requires { IsFit self.old body.now }
         ensures ok { OnOk result
             (Received «from» self.old body.now self.new out.old.items out.new.items) }
+        ensures idle { SaysNothingNew self.old body.now → IsOk result }
         ensures err { OnErr result ((self.new ≡ self.old) × (out.new.items ≡ out.old.items)) }
     {
-        self.accepted.reserve(1)?;
         let accepted = self.accepts_of(body)?;
+        make_room_if(&mut self.accepted, accepted.is_some())?;
         self.node.receive(from, body, out)?;
         push_in_room(&mut self.accepted, accepted);
         Ok(())
     }
 
-    // A copy of what its acceptor accepts of a letter with this body.
+    // A copy of what its acceptor accepts of a letter with this body. To tell that it is nothing takes no memory.
     fn accepts_of(
         &self,
         body: &LetterBody<Command<O::Op>>,
     ) -> Result<Option<Pvalue<Command<O::Op>>>, AllocError>
-        ensures { IfOk result (λ accepted. accepted ≡ accepts_of self.now.acceptor body.now) }
+        ensures accepted { IfOk result (λ accepted. accepted
+            ≡ accepts_of self.now.acceptor body.now) }
+        ensures idle { accepts_of self.now.acceptor body.now ≡ None → IsOk result }
     {
         match body {
             LetterBody::P2a(pvalue) if self.node.has_promised(pvalue.ballot) => Ok(Some(

@@ -1,8 +1,9 @@
-ghost use Rattle.std.specs.Prelude.{◌≡◌, ◌<◌, length, take, None, Some, IfOk, IfErr, OnOk, OnErr};
+ghost use Rattle.std.specs.Prelude.{◌≡◌, ◌<◌, length, take, None, Some, IsOk, IfOk, IfErr, OnOk, OnErr};
 ghost use Rattle.world.specs.declared.error.WorldError.{WorldError};
 ghost use Rattle.world.specs.declared.error.WorldError.TheVariants.{OutOfMemory};
 ghost use Rattle.world.specs.Worlds.{opening};
 ghost use Rattle.world.specs.Steps.{Step};
+ghost use Rattle.world.specs.Quiet.{BringsNothing};
 ghost use Rattle.world.specs.Runs.{Leads};
 ghost use Rattle.world.specs.Refusals.{refusal, reason_for, IsRefused};
 ghost use Rattle.world.specs.OneOrder.{HasOneOrder, KeepsPromise, IsLater};
@@ -91,7 +92,7 @@ impl<O: Object> World<O> {
     }
 
     /// Takes one event. A refusal changes nothing; of several, the first in this order is told: no such node, no such
-    /// letter, bad number, full, out of memory.
+    /// letter, bad number, full, out of memory. An event that brings nothing takes no memory.
     pub fn step(&mut self, event: Event<O::Op>) -> Result<(), WorldError>
         ensures ok { OnOk result (Step O.rules self.old event self.new) }
         ensures err { OnErr result (self.new ≡ self.old) }
@@ -99,6 +100,8 @@ impl<O: Object> World<O> {
             ≡ Err r }
         ensures memory { refusal O.Op.eq self.old event ≡ None →
             IfErr result (λ r. r ≡ OutOfMemory) }
+        ensures idle { refusal O.Op.eq self.old event ≡ None →
+            BringsNothing O.rules self.old.cluster event → IsOk result }
         ensures one_command { HasOneCommand self.new.cluster }
         ensures keeps_chosen { KeepsChosen self.new.cluster }
         ensures chooses_one { ChoosesOne self.new.cluster }

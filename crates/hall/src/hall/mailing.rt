@@ -15,7 +15,7 @@ use crate::laws::laws_below;
 use object::Object;
 
 impl<O: Object> Hall<O> {
-    /// A node receives the letter in front of its mail; false where there is none.
+    /// A node receives the letter in front of its mail; false where there is none, which takes no memory.
     pub fn deliver(&mut self, node: u8) -> Result<bool, HallError>
         ensures came { IfOk result (λ came. came ≡ has_mail self.old.nodes.network node) }
         ensures ok { OnOk result ((l : Letter (Command O.Op))
@@ -33,6 +33,8 @@ impl<O: Object> Hall<O> {
         ensures refused { (r : HallError) → event_refusal self.old node ≡ Some r → result ≡ Err r }
         ensures memory { event_refusal self.old node ≡ None →
             IfErr result (λ r. r ≡ OutOfMemory) }
+        ensures idle { event_refusal self.old node ≡ None →
+            front (mail_of self.old.nodes.network node) ≡ None → IsOk result }
     {
         laws_below::<O>();
         if let Some(refused) = self.event_refusal(node) {
@@ -60,7 +62,7 @@ impl<O: Object> Hall<O> {
         Ok(self.nodes.lose(node))
     }
 
-    /// Copies the letter in front of a node's mail to its back; false where there is none.
+    /// Copies the letter in front of a node's mail to its back; false where there is none, which takes no memory.
     pub fn repeat(&mut self, node: u8) -> Result<bool, HallError>
         ensures came { IfOk result (λ came. came ≡ has_mail self.old.nodes.network node) }
         ensures ok { OnOk result ((l : Letter (Command O.Op))
@@ -74,6 +76,8 @@ impl<O: Object> Hall<O> {
         ensures err { OnErr result (self.new ≡ self.old) }
         ensures refused { (r : HallError) → node_refusal self.old node ≡ Some r → result ≡ Err r }
         ensures memory { node_refusal self.old node ≡ None → IfErr result (λ r. r ≡ OutOfMemory) }
+        ensures idle { node_refusal self.old node ≡ None →
+            front (mail_of self.old.nodes.network node) ≡ None → IsOk result }
     {
         laws_below::<O>();
         if self.is_stranger(node) {

@@ -1,13 +1,16 @@
-ghost use Rattle.std.specs.Prelude.{◌≡◌, ◌<◌, true, length, OnOk, OnErr};
+ghost use Rattle.std.specs.Prelude.{◌≡◌, ◌<◌, true, length, IsOk, OnOk, OnErr};
 ghost use Rattle.ballot.specs.Members.{is_member};
+ghost use Rattle.node.specs.Deeds.{ComesToNothing};
 ghost use Rattle.world.specs.declared.event.Event.TheVariants as events;
+ghost use Rattle.world.specs.Nodes.{node};
 ghost use Rattle.world.specs.Tasks.{event_of};
+ghost use Rattle.world.specs.Quiet.{BringsNothing};
 ghost use Rattle.world.specs.Steps.{Step, AsksForItsOwn};
 ghost use Rattle.world.specs.Refusals.{most_events};
 ghost use Rattle.world.specs.Kept.{key_past};
 
 use super::World;
-use crate::submissions::{push_in_room, submission_by};
+use crate::submissions::{make_room_if, push_in_room, submission_by};
 use ballot::{Letter, LetterBody, Slot, ballot_laws};
 use node::{Deed, Outcome};
 use object::{Key, Object};
@@ -21,13 +24,15 @@ impl<O: Object> World<O> {
         requires own { AsksForItsOwn deed self.old.happenings.submitted }
         requires room { self.old.taken < most_events }
         ensures ok { OnOk result (Step O.rules self.old (event_of id deed) self.new) }
+        ensures idle { ComesToNothing O.rules (node self.old.cluster id) deed → IsOk result }
         ensures err { OnErr result (self.new ≡ self.old) }
     {
         ballot_laws();
         let added = submission_by(&deed, self.submitted.as_slice(), self.answers.len())?;
-        self.submitted.reserve(1)?;
-        self.performed.reserve(1)?;
         let place = usize::from(id - 1);
+        let performs = self.nodes[place].performs(&deed);
+        make_room_if(&mut self.submitted, added.is_some())?;
+        make_room_if(&mut self.performed, performs)?;
         let node = &mut self.nodes[place].node;
         let came = node.act(deed, &mut self.letters, &mut self.answers)?;
         push_in_room(&mut self.submitted, added);
@@ -42,6 +47,7 @@ impl<O: Object> World<O> {
         requires sent { index < length self.old.cluster.letters }
         requires room { self.old.taken < most_events }
         ensures ok { OnOk result (Step O.rules self.old (events.Deliver index) self.new) }
+        ensures idle { BringsNothing O.rules self.old.cluster (events.Deliver index) → IsOk result }
         ensures err { OnErr result (self.new ≡ self.old) }
     {
         ballot_laws();

@@ -1,7 +1,8 @@
 use Rattle.std.proofs.Common.{◌<◌, sym, ◌∙◌, subst}
+use Rattle.std.proofs.lemmas.Bool.{false≢true}
 use Rattle.world.specs.Kept.{IsNoted}
 use Rattle.world.proofs.Acting.{on_err}
-use Rattle.world.proofs.Delivering.{still_there, lent_within, to_above, receiver_within, fit_now, delivered_step, delivered_kept, delivered_not}
+use Rattle.world.proofs.Delivering.{still_there, lent_within, to_above, receiver_within, fit_now, silent_now, delivered_step, delivered_kept, delivered_not}
 use Rattle.world.proofs.Events.{from_view, sent_in_view}
 use Rattle.world.proofs.world.World.deliver.Goals as goal
 
@@ -31,6 +32,9 @@ pub returns-in_err-received-clause-err : goal.returns-in_err-received-clause-err
 returns-in_err-received-clause-err g c =
     on_err c.from_residual.result
     (delivered_not c.ballot_laws.ensures g.O.Object.rules _ _ c.self.view_is _ c.self.invariant c.args.index c.requires.sent c.requires.room c.index_mut.result.now c.replace-letter.result c.index_mut.ensures.value c.replace-letter.ensures.value c.from.result c.from.ensures c.index_mut-watched.result.now c.index_mut-watched.ensures.value c.receive-received.new.self c.replace-letter.new.dest c.receive-received.new.out.items c.in_err-received.ensures.err.0 c.in_err-received.ensures.err.1 ∙ c.self.view_is)
+
+pub returns-in_err-received-clause-idle : goal.returns-in_err-received-clause-idle
+returns-in_err-received-clause-idle g c = λ i. absurd (false≢true (c.in_err-received.ensures.idle (silent_now c.ballot_laws.ensures g.O.Object.rules _ _ c.self.view_is _ c.self.invariant c.args.index c.requires.sent c.requires.room c.index_mut.result.now c.replace-letter.result c.index_mut.ensures.value c.replace-letter.ensures.value c.from.result c.from.ensures c.index_mut-watched.result.now c.index_mut-watched.ensures.value i)))
 
 pub invariant_of-self-2 : goal.invariant_of-self-2
 invariant_of-self-2 g c = delivered_kept c.ballot_laws.ensures g.O.Object.rules _ _ c.self.view_is _ c.self.invariant c.args.index c.requires.sent c.requires.room c.index_mut.result.now c.replace-letter.result c.index_mut.ensures.value c.replace-letter.ensures.value c.from.result c.from.ensures c.index_mut-watched.result.now c.index_mut-watched.ensures.value c.receive-received.new.self c.replace-letter.new.dest c.receive-received.new.out.items c.in_ok-received.ensures.ok

@@ -1,9 +1,11 @@
 use Rattle.std.proofs.Common.{refl, sym, ◌∙◌, subst}
 use Rattle.world.specs.Agreements.{StaysChosen}
 use Rattle.world.specs.OneOrder.{IsLater}
+use Rattle.world.specs.Quiet.{BringsNothing}
 use Rattle.world.specs.Refusals.{IsAllowed}
-use Rattle.world.proofs.Acting.{at_member, asks_own, sent_when, ok_of, err_of}
+use Rattle.world.proofs.Acting.{at_member, asks_own, sent_when, ok_of, err_of, not_err}
 use Rattle.world.proofs.Events.{allowed, stays_chosen, later_step, later_same}
+use Rattle.world.proofs.Idle.{nothing_to_do}
 use Rattle.world.proofs.world.World.step.Goals.{in-Act, in-Deliver}
 use Rattle.world.proofs.world.World.step.Goals as goal
 
@@ -51,4 +53,11 @@ returns-in_err-taken-clause-stays g c =
     elim c.match-task.branch [
       | in-Act w ↦ subst (λ u. StaysChosen c.args.self.now.cluster u.cluster) (sym (w.self-is ∙ err_of _ _ _ w.taken-is c.in_err-taken.was w.act-taken.ensures.err)) (λ s x h. h)
       | in-Deliver w ↦ subst (λ u. StaysChosen c.args.self.now.cluster u.cluster) (sym (w.self-is ∙ err_of _ _ _ w.taken-is c.in_err-taken.was w.deliver-taken.ensures.err)) (λ s x h. h)
+    ]
+
+pub returns-in_err-taken-clause-idle : goal.returns-in_err-taken-clause-idle
+returns-in_err-taken-clause-idle g c =
+    λ none i. elim c.match-task.branch [
+      | in-Act w ↦ not_err _ _ _ w.taken-is c.in_err-taken.was (w.act-taken.ensures.idle (nothing_to_do g.O.Object.rules c.args.self.now.cluster w.in-Act.id w.in-Act.deed (subst (BringsNothing g.O.Object.rules c.args.self.now.cluster) (sym w.in-Act.ensures) i)))
+      | in-Deliver w ↦ not_err _ _ _ w.taken-is c.in_err-taken.was (w.deliver-taken.ensures.idle (subst (BringsNothing g.O.Object.rules c.args.self.now.cluster) (sym w.in-Deliver.ensures) i))
     ]
