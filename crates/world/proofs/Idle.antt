@@ -1,5 +1,5 @@
 -- What brings nothing has nothing submitted, accepted or performed.
-use Rattle.std.proofs.Common.{◌≡◌, ⊎_elim, ℕ, true, false, cond, ◌||◌, List, Some, None, Option, refl, ap, subst}
+use Rattle.std.proofs.Common.{◌≡◌, ⊎_elim, ℕ, true, false, cond, ◌||◌, List, Some, None, refl, ap, subst}
 use Rattle.std.proofs.lemmas.Bool.{false≢true, or_cases}
 use Rattle.std.specs.Prelude.{is_some}
 use Rattle.std.specs.FinMap.{get, values, entries}
@@ -63,15 +63,6 @@ no_performance rules x deeds.Nudge i = refl
 no_performance rules x deeds.Propose i = ap (λ o. is_performance (done_if o)) i
 no_performance rules x deeds.Perform i = ap (λ o. is_performance (performs x.replica o)) i
 no_performance rules x deeds.Restart i = refl
-
--- one is where the decision is known
-pub performs_where : {Op : Type 0} (book : SlotBook (Command Op)) (o : Option (Command Op)) → is_some o ≡ is_performance (performs book o)
-performs_where book None = refl
-performs_where book (Some c) = refl
-
-pub proposing_is_none : {X : Type 0} (o : Option X) → false ≡ is_performance (done_if o)
-proposing_is_none None = refl
-proposing_is_none (Some x) = refl
 
 -- a key is noted for a command that was performed
 pub noted_where : (reach : ℕ) (came : Outcome) → is_some (key_past reach came) ≡ true → is_performance came ≡ true
