@@ -42,7 +42,7 @@ pub(crate) fn obey_order(
 {
     filter_remembers::<Op>();
     let submitted = chronicle.submitted();
-    let first_line = order_line(chronicle);
+    let first_line = first_order_line(chronicle);
     let mut queue = Once::<Queue>::new(alloc)?;
     let mut given = Vec::new(alloc);
     for (place, key) in chronicle.order().iter().enumerate() {
@@ -88,7 +88,7 @@ fn obey(
 }
 
 /// The number of the first O line, were there one.
-fn order_line(chronicle: &Chronicle<Op, Reply>) -> u64
+fn first_order_line(chronicle: &Chronicle<Op, Reply>) -> u64
     ensures line { result ≡ first_line chronicle.now
         + length (happenings chronicle.now.submitted chronicle.now.answers) }
     ensures room { result + length chronicle.now.order < 2 ^ 64 }

@@ -103,7 +103,7 @@ IsAble x Propose = ⊤
 IsAble x Perform = ⊤
 IsAble x Restart = x.boot < 2 ^ 62
 
--- there is nothing to do, which takes no memory: the request is known, the leader is active or has a scout, no request
+-- there is nothing to do: the request is known, the leader is active or has a scout, no request
 -- can be proposed, or no decision is known to perform
 abbrev pub ComesToNothing : {O Op Reply : Type 0} → Rules O Op Reply → NodeState (Command Op) → Deed Op → Type 0
 ComesToNothing rules x (Request c) = is_known (is_one rules) x.replica c ≡ true

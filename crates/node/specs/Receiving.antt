@@ -57,8 +57,8 @@ IsFit x (Propose s c) = ⊤
 IsFit {C} x (Decision s c) = (d : C) → get x.replica.decisions s ≡ Some d → d ≡ c
 IsFit x (Ask s) = ⊤
 
--- what is received says nothing new, which takes no memory: a promise or a vote that nobody waits for, a proposal for a
--- slot that has one, or a decision that is known
+-- what is received says nothing new: it is a promise or a vote that nobody waits for, a proposal for a slot that has
+-- one, or a decision of a slot whose decision is known
 abbrev pub SaysNothingNew : {C : Type 0} → NodeState C → LetterBody C → Type 0
 SaysNothingNew x (P1a b) = ⊥
 SaysNothingNew x (P1b b report) = x.leader.scout ≡ None

@@ -13,7 +13,7 @@ fate_at r key = record { answer = place_of answered_key key r.happenings.answers
 
 -- the fates are those of the submissions, and there is room for an answer and a place for each
 pub record IsRecorded {Op Reply : Type 0} (r : Record Op Reply) (fates : List Fate) (answers_room order_room : ℕ) : Type 0 where
-  pub told : IsRecord r
+  pub recorded : IsRecord r
   pub fated : fates ≡ map (λ s. fate_at r (submitted_key s)) r.happenings.submitted
   pub answers_fit : length r.happenings.submitted ≤ answers_room
   pub places_fit : length r.happenings.submitted ≤ order_room

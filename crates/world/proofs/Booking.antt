@@ -19,7 +19,7 @@ use Rattle.ballot.specs.Slots.{Slots}
 use Rattle.world.proofs.Deciding.{any_found}
 use Rattle.world.proofs.LeaderRows.{none_not}
 use Rattle.world.specs.SlotBooks.{pending}
-use Rattle.world.specs.WaysOut.{Holds, requested, proposed, decided}
+use Rattle.world.specs.WaysOut.{Holds, in_requests, in_proposals, in_decisions}
 
 get_remove_other : {X : Type 0} (m : Slots X) (s q : ℕ) → q ≢ s → get (remove m s) q ≡ get m q
 get_remove_other m s q apart = get-remove nat_cmp_total m s q ∙ ap (λ b. cond b None (get m q)) (eq_other q s apart)
@@ -42,9 +42,9 @@ pub held_known : {C : Type 0} (same : C → C → Bool) (exact : (x y : C) → s
 held_known same exact book c e = at (list_any (λ d. same d c) book.requests) (list_any (λ d. same d c) (values book.proposals)) refl refl e
   where
     at : (a b : Bool) → list_any (λ d. same d c) book.requests ≡ a → list_any (λ d. same d c) (values book.proposals) ≡ b → (a || (b || list_any (λ d. same d c) (values book.decisions))) ≡ true → Holds book c
-    at true b p q e = let h = any_found (λ d. same d c) book.requests p in requested (subst (λ x. In x book.requests) (exact h.0 c h.2) h.1)
-    at false true p q e = let h = any_found (λ d. same d c) (values book.proposals) q in let v = in_values book.proposals h.0 h.1 in proposed v.0 (v.1 ∙ ap (λ x. Some x) (exact h.0 c h.2))
-    at false false p q e = let h = any_found (λ d. same d c) (values book.decisions) e in let v = in_values book.decisions h.0 h.1 in decided v.0 (v.1 ∙ ap (λ x. Some x) (exact h.0 c h.2))
+    at true b p q e = let h = any_found (λ d. same d c) book.requests p in in_requests (subst (λ x. In x book.requests) (exact h.0 c h.2) h.1)
+    at false true p q e = let h = any_found (λ d. same d c) (values book.proposals) q in let v = in_values book.proposals h.0 h.1 in in_proposals v.0 (v.1 ∙ ap (λ x. Some x) (exact h.0 c h.2))
+    at false false p q e = let h = any_found (λ d. same d c) (values book.decisions) e in let v = in_values book.decisions h.0 h.1 in in_decisions v.0 (v.1 ∙ ap (λ x. Some x) (exact h.0 c h.2))
 
 module _ {C : Type 0} (book : SlotBook C) where
   -- the first request is proposed at a slot that had no proposal
@@ -53,13 +53,13 @@ module _ {C : Type 0} (book : SlotBook C) where
     not_there t d there e = none_not none (subst (λ q. get book.proposals q ≡ Some d) e there)
 
     in_first : (d : C) → In d (c ∷ more) → Holds (with_proposal book (Some (s, c))) d
-    in_first d (inl e) = proposed s (get_insert_same book.proposals s c ∙ ap (λ x. Some x) (sym e))
-    in_first d (inr later) = requested (subst (λ rs. In d (drop 1 rs)) (sym first) later)
+    in_first d (inl e) = in_proposals s (get_insert_same book.proposals s c ∙ ap (λ x. Some x) (sym e))
+    in_first d (inr later) = in_requests (subst (λ rs. In d (drop 1 rs)) (sym first) later)
 
     pub holds_proposed : (d : C) → Holds book d → Holds (with_proposal book (Some (s, c))) d
-    holds_proposed d (requested within) = in_first d (subst (In d) first within)
-    holds_proposed d (proposed t there) = proposed t (get_insert_other book.proposals s c t (not_there t d there) ∙ there)
-    holds_proposed d (decided t there) = decided t there
+    holds_proposed d (in_requests within) = in_first d (subst (In d) first within)
+    holds_proposed d (in_proposals t there) = in_proposals t (get_insert_other book.proposals s c t (not_there t d there) ∙ there)
+    holds_proposed d (in_decisions t there) = in_decisions t there
 
     pub pending_proposed : pending (with_proposal book (Some (s, c))) ≡ pending book
     pending_proposed =
@@ -73,9 +73,9 @@ module _ {C : Type 0} (book : SlotBook C) where
 
   -- a decision is learnt where none was known
   pub holds_learnt : (s : ℕ) (c : C) → get book.decisions s ≡ None → (d : C) → Holds book d → Holds (learnt book s c) d
-  holds_learnt s c none d (requested within) = requested within
-  holds_learnt s c none d (proposed t there) = proposed t there
-  holds_learnt s c none d (decided t there) = decided t (get_insert_other book.decisions s c t (λ e. none_not none (subst (λ q. get book.decisions q ≡ Some d) e there)) ∙ there)
+  holds_learnt s c none d (in_requests within) = in_requests within
+  holds_learnt s c none d (in_proposals t there) = in_proposals t there
+  holds_learnt s c none d (in_decisions t there) = in_decisions t (get_insert_other book.decisions s c t (λ e. none_not none (subst (λ q. get book.decisions q ≡ Some d) e there)) ∙ there)
 
   -- the decision at slot_out is performed
   module _ (same : C → C → Bool) (exact : (x y : C) → same x y ≡ true → x ≡ y) (c : C) (known : next_decided book ≡ Some c) where
@@ -85,18 +85,18 @@ module _ {C : Type 0} (book : SlotBook C) where
 
     of_out : (d : C) → get book.proposals book.slot_out ≡ Some d → Holds (advanced same book) d
     of_out d there = ⊎_elim
-        (λ (within : In d (cond (same d c) [] (d ∷ []))). requested (In-right d book.requests (lost same (get book.proposals book.slot_out) (next_decided book))
+        (λ (within : In d (cond (same d c) [] (d ∷ []))). in_requests (In-right d book.requests (lost same (get book.proposals book.slot_out) (next_decided book))
         (subst (λ o. In d (lost same o (next_decided book))) (sym there) (subst (λ o. In d (lost same (Some d) o)) (sym known) within))))
-        (λ (e : d ≡ c). decided book.slot_out (known ∙ ap (λ x. Some x) (sym e)))
+        (λ (e : d ≡ c). in_decisions book.slot_out (known ∙ ap (λ x. Some x) (sym e)))
         (lost_or_decided d (same d c) refl there)
 
     pub holds_advanced : (d : C) → Holds book d → Holds (advanced same book) d
-    holds_advanced d (requested within) = requested (In-left d book.requests (lost same (get book.proposals book.slot_out) (next_decided book)) within)
-    holds_advanced d (proposed t there) = ⊎_elim
+    holds_advanced d (in_requests within) = in_requests (In-left d book.requests (lost same (get book.proposals book.slot_out) (next_decided book)) within)
+    holds_advanced d (in_proposals t there) = ⊎_elim
         (λ (e : t ≡ book.slot_out). of_out d (subst (λ q. get book.proposals q ≡ Some d) e there))
-        (λ (apart : t ≢ book.slot_out). proposed t (get_remove_other book.proposals book.slot_out t apart ∙ there))
+        (λ (apart : t ≢ book.slot_out). in_proposals t (get_remove_other book.proposals book.slot_out t apart ∙ there))
         (cases_eq t book.slot_out)
-    holds_advanced d (decided t there) = decided t there
+    holds_advanced d (in_decisions t there) = in_decisions t there
 
   -- a command that is submitted is held
   module _ (same : C → C → Bool) (exact : (x y : C) → same x y ≡ true → x ≡ y) where
@@ -105,4 +105,4 @@ module _ {C : Type 0} (book : SlotBook C) where
       where
         at : (test : Bool) → is_known same book c ≡ test → Holds (cond test book (record book { requests = book.requests ++ c ∷ [] })) c
         at true e = held_known same exact book c e
-        at false e = requested (In-right c book.requests (c ∷ []) (inl refl))
+        at false e = in_requests (In-right c book.requests (c ∷ []) (inl refl))

@@ -30,7 +30,7 @@ use Rattle.world.proofs.Reach.{reachable_sound, opened_at}
 use Rattle.world.specs.Mentions.{Mentions, MentionsNode, ProposesOnly, MentionsBody}
 use Rattle.world.specs.SlotBooks.{IsBookAfter, pending}
 use Rattle.world.specs.Telling.{IsProposedAt, IsMentioned, is_proposed, is_decided, is_led, is_commanded, is_gathered, is_accepted, says_propose, says_decision, says_accept, says_report}
-use Rattle.world.specs.WaysOut.{first_book, IsSettled, IsSmall, work, most_slots, IsReady, stays as ready_stays, proposes as ready_proposes, HasLearnt, HasDecided, knew, learnt, HasAdvanced, MentionsAsMuch, Holds, requested, proposed as was_proposed, decided}
+use Rattle.world.specs.WaysOut.{first_book, IsSettled, IsSmall, work, most_slots, IsReady, stays as ready_stays, proposes as ready_proposes, HasLearnt, HasDecided, knew, learnt, HasAdvanced, MentionsAsMuch, Holds, in_requests, in_proposals, in_decisions}
 use Rattle.world.proofs.Booking.{holds_proposed, holds_learnt, holds_advanced, pending_proposed}
 use Rattle.world.proofs.LeadingRuns.{in_every}
 use Rattle.world.proofs.Learning.{decided_next, ready_out}
@@ -322,6 +322,6 @@ performed_then laws rules v i c held new none = of_held held
         (cases_lt s (first_book v.cluster).slot_out)
 
     of_held : Holds (first_book v.cluster) c → In c (history (first_book v.cluster))
-    of_held (requested within) = absurd (subst (In c) none within)
-    of_held (was_proposed s there) = absurd (new (told_by_proposal laws rules v i 1 s c there (first_book v.cluster).slot_out first ((books laws rules v i 1).near s c there).low))
-    of_held (decided s there) = of_decided s there
+    of_held (in_requests within) = absurd (subst (In c) none within)
+    of_held (in_proposals s there) = absurd (new (told_by_proposal laws rules v i 1 s c there (first_book v.cluster).slot_out first ((books laws rules v i 1).near s c there).low))
+    of_held (in_decisions s there) = of_decided s there

@@ -175,9 +175,9 @@ pub record Decides {C : Type 0} (letters : List (Letter C)) (j s : ℕ) : Type 0
 
 -- the command is a request, or was proposed, or is known to be decided
 pub data Holds {C : Type 0} (book : SlotBook C) (c : C) : Type 0 where
-  requested : In c book.requests → Holds book c
-  proposed : (s : ℕ) → get book.proposals s ≡ Some c → Holds book c
-  decided : (s : ℕ) → get book.decisions s ≡ Some c → Holds book c
+  in_requests : In c book.requests → Holds book c
+  in_proposals : (s : ℕ) → get book.proposals s ≡ Some c → Holds book c
+  in_decisions : (s : ℕ) → get book.decisions s ≡ Some c → Holds book c
 
 -- replica 1 knows what is decided at the slot: it knew it, or has learnt it now
 pub data HasDecided {C : Type 0} (k : Cluster C) (s : ℕ) (book : SlotBook C) : Type 0 where
@@ -224,8 +224,8 @@ pub record ArePlacesOf {C : Type 0} (is : List (Letter C) → ℕ → ℕ → Ty
 -- All of these letters are read: here stand those that propose to node 1, and those that tell it what is decided.
 pub record AreAllRead {C : Type 0} (letters : List (Letter C)) (read : ℕ) (proposals decisions : Slots ℕ) : Type 0 where
   pub all : read ≡ length letters
-  pub proposed : ArePlacesOf Proposes letters read proposals
-  pub decided : ArePlacesOf Decides letters read decisions
+  pub of_proposals : ArePlacesOf Proposes letters read proposals
+  pub of_decisions : ArePlacesOf Decides letters read decisions
 
 -- the places with this one for the slot, if there is one
 abbrev pub noted_place : Slots ℕ → Option ℕ → ℕ → Slots ℕ

@@ -21,7 +21,7 @@ returns-in_default-clause-at c =
     let h = c.args.chronicle.now in
     let place = c.loop-place.place in
     let key = get_or c.order-key-items.result.now place (record { session = 0; number = 0 }) in
-    wrong_place h place key (search rules) (search rules) c.order_line-first_line.result NotSubmitted c.loop-place.invariant.right c.order_line-first_line.ensures.line
+    wrong_place h place key (search rules) (search rules) c.first_order_line-first_line.result NotSubmitted c.loop-place.invariant.right c.first_order_line-first_line.ensures.line
     (no_place submitted_key key h.submitted (sym (c.requires key) ∙ sym c.in_default.ensures.value))
 
 pub bounds-submitted-first : goal.bounds-submitted-first
@@ -51,7 +51,7 @@ returns-in-Stale-clause-at c =
     let s = get_or c.submitted-submitted.result.now c.in-Some.first.now c.index-submitted-first.result in
     let first = first_at submitted_key key h.submitted c.in-Some.first.now (sym (c.requires key) ∙ sym c.in-Some.ensures.value) in
     let read = read_first submitted_key key h.submitted c.in-Some.first.now s first (ap (get_or c.submitted-submitted.result.now c.in-Some.first.now) c.index-submitted-first.is ∙ ap (λ xs. get_or xs c.in-Some.first.now s) c.submitted-submitted.ensures.submitted) in
-    wrong_place h place key (search rules) (search rules) c.order_line-first_line.result NotKept c.loop-place.invariant.right c.order_line-first_line.ensures.line
+    wrong_place h place key (search rules) (search rules) c.first_order_line-first_line.result NotKept c.loop-place.invariant.right c.first_order_line-first_line.ensures.line
     (first.known, λ above. let done = c.in_ok-obey.ensures.done.1 (above_later laws h (take place h.order) c.loop-place.queue c.loop-place.given.items c.loop-place.invariant key s read.0 read.1 first.known above) in cc)
 
 pub loop-place-preserved : goal.loop-place-preserved

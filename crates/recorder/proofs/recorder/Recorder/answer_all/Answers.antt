@@ -13,7 +13,7 @@ use Rattle.recorder.proofs.recorder.Recorder.answer_all.Goals as goal
 pub loop-answer-init : goal.loop-answer-init
 loop-answer-init g c = record {
   left = refl;
-  told = subst IsRecord c.self.view_is c.self.invariant.told;
+  recorded = subst IsRecord c.self.view_is c.self.invariant.recorded;
   known = λ a i. c.requires a (in_reverse a c.args.given.now.items (subst (In a) c.reverse.ensures.items i));
 }
 
@@ -32,7 +32,7 @@ loop-answer-preserved g c =
           ∙ ap (λ xs. record_of r.happenings.submitted xs r.order) (firsts_next answered_key r.happenings.answers (reverse left) a)
           ∙ ap (λ xs. with_first_answers xs r) (sym (reverse-append left (a ∷ [])) ∙ ap reverse (sym c.in-Some.ensures.items))
           ∙ c.loop-answer.invariant.left;
-      told = c.answer.ensures.kept;
+      recorded = c.answer.ensures.kept;
       known = λ b i. ap (λ q. is_submitted b.to q.happenings.submitted) c.answer.ensures.answers
           ∙ c.loop-answer.invariant.known b (subst (In b) (sym c.in-Some.ensures.items) (In-left b left (a ∷ []) i));
     }
@@ -41,7 +41,7 @@ pub returns-clause-answers : goal.returns-clause-answers
 returns-clause-answers g c =
     let r = c.loop-answer.self in
     let none = empty c.loop-answer.given.items (sym c.loop-answer.given.ok.0 ∙ c.in_default.ensures.cases.0) in
-    ap (λ xs. record_of r.happenings.submitted xs r.order) (sym (firsts_all answered_key r.happenings.answers c.loop-answer.invariant.told.answered_once) ∙ ap (firsts answered_key) (sym (append-nil r.happenings.answers)))
+    ap (λ xs. record_of r.happenings.submitted xs r.order) (sym (firsts_all answered_key r.happenings.answers c.loop-answer.invariant.recorded.answered_once) ∙ ap (firsts answered_key) (sym (append-nil r.happenings.answers)))
     ∙ ap (λ xs. with_first_answers (reverse xs) r) (sym none)
     ∙ c.loop-answer.invariant.left
     ∙ ap (λ xs. with_first_answers xs c.args.self.now) (ap reverse c.reverse.ensures.items ∙ reverse-reverse c.args.given.now.items)

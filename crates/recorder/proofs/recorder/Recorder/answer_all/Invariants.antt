@@ -9,7 +9,7 @@ use Rattle.recorder.proofs.recorder.Recorder.answer_all.Given as goal
 abbrev pub invariant-loop-answer : goal.invariant-loop-answer
 invariant-loop-answer g l = record {
   left : with_first_answers (reverse l.given.items) l.self ≡ with_first_answers (reverse l.initial.given.items) l.initial.self;
-  told : IsRecord l.self;
+  recorded : IsRecord l.self;
   known : (a : Answer g.row.Reply.Denot) → In a l.given.items → is_submitted a.to l.self.happenings.submitted ≡ true;
 }
 

@@ -42,7 +42,7 @@ push_reserved-requires g c =
     let k = c.args.key in
     let known = ap (λ r. is_submitted k r.happenings.submitted) c.self.view_is ∙ c.requires in
     let fate = fate_read (record_of S A O) c.self.inside.fates.items k c.in-Some.place c.index_mut-fate.result.now c.self.invariant.fated (sym c.place_of.ensures ∙ c.in-Some.is) c.index_mut-fate.ensures.value in
-    let room = places_room S A O k c.self.invariant.told known (sym (ap (λ f. f.is_placed) fate) ∙ c.if-fate.false) in
+    let room = places_room S A O k c.self.invariant.recorded known (sym (ap (λ f. f.is_placed) fate) ∙ c.if-fate.false) in
     let fits = c.self.invariant.places_fit in
     let long = c.self.inside.order.ok.0 in
     omega arith
@@ -58,8 +58,8 @@ invariant_of-self-2 g c =
     let fate = fate_read (record_of S A O) c.self.inside.fates.items k c.in-Some.place c.index_mut-fate.result.now c.self.invariant.fated at c.index_mut-fate.ensures.value in
     let items = c.push_reserved.ensures.items in
     record {
-      told = subst (λ xs. IsRecord (record_of S A xs)) (sym items) (placed_told S A O k c.self.invariant.told known (sym (ap (λ f. f.is_placed) fate) ∙ c.if-fate.false));
-      fated = placed_fates S A O c.self.inside.fates.items k c.in-Some.place c.index_mut-fate.result.now c.index_mut-fate.result.now.answer c.self.invariant.told c.self.invariant.fated at (ap (λ f. f.answer) c.index_mut-fate.ensures.value)
+      recorded = subst (λ xs. IsRecord (record_of S A xs)) (sym items) (placed_told S A O k c.self.invariant.recorded known (sym (ap (λ f. f.is_placed) fate) ∙ c.if-fate.false));
+      fated = placed_fates S A O c.self.inside.fates.items k c.in-Some.place c.index_mut-fate.result.now c.index_mut-fate.result.now.answer c.self.invariant.recorded c.self.invariant.fated at (ap (λ f. f.answer) c.index_mut-fate.ensures.value)
           ∙ ap (λ xs. map (λ t. fate_at (record_of S A xs) (submitted_key t)) S) (sym items);
       answers_fit = c.self.invariant.answers_fit;
       places_fit = let fits = c.self.invariant.places_fit in let same = c.push_reserved.ensures.capacity in omega arith;

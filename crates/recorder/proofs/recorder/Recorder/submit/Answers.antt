@@ -15,7 +15,7 @@ invariant_of-self-2 g c =
     let O = c.self.inside.order.items in
     let s : Submission g.row.Op.Denot = record { command = c.in_ok-command.command; after = c.len-after.result } in
     let new = ap (λ k. is_submitted k S) (ap (λ q. q.key) c.in_ok-command.ensures ∙ sym c.key.ensures.key) ∙ sym c.has.ensures ∙ c.if-has.false in
-    let told = c.self.invariant.told in
+    let told = c.self.invariant.recorded in
     let now : record_of c.push.new.self c.make_room.new.items.items c.make_room-2.new.items.items ≡ record_of (S ++ s ∷ []) A O =
     λ i. record_of (c.in_ok-push.ensures.ok i) (c.in_ok-make_room.ensures.items i) (c.in_ok-make_room-2.ensures.items i) in
     let longer : length c.push.new.self ≡ length S + 1 = ap length c.in_ok-push.ensures.ok ∙ length-append S (s ∷ []) in
@@ -27,7 +27,7 @@ invariant_of-self-2 g c =
     let answers_room = c.in_ok-make_room.ensures.ok in
     let order_room = c.in_ok-make_room-2.ensures.ok in
     record {
-      told = subst IsRecord (sym now) (submitted_told S A O s told new (c.len-after.ensures ∙ c.self.inside.answers.ok.0));
+      recorded = subst IsRecord (sym now) (submitted_told S A O s told new (c.len-after.ensures ∙ c.self.inside.answers.ok.0));
       fated = c.push_reserved.ensures.items
           ∙ ap (λ fs. fs ++ record { answer = None; is_placed = false } ∷ []) c.in_ok-reserve.ensures.items
           ∙ submitted_fates S A O c.self.inside.fates.items s told new c.self.invariant.fated
@@ -45,7 +45,7 @@ returns-clause-open g c =
     let new = ap (λ k. is_submitted k S) (ap (λ q. q.key) c.in_ok-command.ensures ∙ sym c.key.ensures.key) ∙ sym c.has.ensures ∙ c.if-has.false in
     let now : record_of c.push.new.self c.make_room.new.items.items c.make_room-2.new.items.items ≡ record_of (S ++ s ∷ []) A O =
     λ i. record_of (c.in_ok-push.ensures.ok i) (c.in_ok-make_room.ensures.items i) (c.in_ok-make_room-2.ensures.items i) in
-    λ _. subst EndsOpen (sym now) (submitted_open S A O s c.self.invariant.told new)
+    λ _. subst EndsOpen (sym now) (submitted_open S A O s c.self.invariant.recorded new)
 
 pub returns-clause-back : goal.returns-clause-back
 returns-clause-back g c =

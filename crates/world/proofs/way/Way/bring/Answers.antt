@@ -67,8 +67,8 @@ advance-requires-clause-room g c = advance_room c.ballot_laws.ensures g.O.Object
 pub loop-places-preserved : goal.loop-places-preserved
 loop-places-preserved g c = record {
   bringing = brings_on c.ballot_laws.ensures g.O.Object.rules c.args.self.now.trial c.loop-places.self.trial c.stands-in-loop-places.ensures.world (c.args.self.now.trial.reach + 64) c.args.command.now c.loop-places.invariant.bringing (c.in_ok-has_more.ensures.more c.if-branch.true) c.advance.new.self.trial (one_exact g.O.Object.rules g.O.Op.PartialEq.eq g.met.O.Object.same g.met.O.Op.Value.exact) (one_itself g.O.Object.rules g.O.Op.PartialEq.eq g.met.O.Object.same g.met.O.Op.Eq.laws.refl) c.in_ok-advance.ensures.settled c.in_ok-advance.ensures.advanced c.in_ok-advance.ensures.passage.spent c.in_ok-advance.ensures.passage.mentions c.in_ok-advance.ensures.passage.submitted;
-  proposals = proposals_further c.loop-places.self.trial.cluster.letters c.advance.new.self.trial.cluster.letters (leads_letters g.O.Object.rules c.loop-places.self.trial c.advance.new.self.trial c.in_ok-advance.ensures.passage.goes.events c.in_ok-advance.ensures.passage.goes.led) c.has_more.new.places.read c.has_more.new.places.proposals (let all = c.in_ok-has_more.ensures.read.all in omega arith) c.in_ok-has_more.ensures.read.proposed;
-  decisions = decisions_further c.loop-places.self.trial.cluster.letters c.advance.new.self.trial.cluster.letters (leads_letters g.O.Object.rules c.loop-places.self.trial c.advance.new.self.trial c.in_ok-advance.ensures.passage.goes.events c.in_ok-advance.ensures.passage.goes.led) c.has_more.new.places.read c.has_more.new.places.decisions (let all = c.in_ok-has_more.ensures.read.all in omega arith) c.in_ok-has_more.ensures.read.decided;
+  proposals = proposals_further c.loop-places.self.trial.cluster.letters c.advance.new.self.trial.cluster.letters (leads_letters g.O.Object.rules c.loop-places.self.trial c.advance.new.self.trial c.in_ok-advance.ensures.passage.goes.events c.in_ok-advance.ensures.passage.goes.led) c.has_more.new.places.read c.has_more.new.places.proposals (let all = c.in_ok-has_more.ensures.read.all in omega arith) c.in_ok-has_more.ensures.read.of_proposals;
+  decisions = decisions_further c.loop-places.self.trial.cluster.letters c.advance.new.self.trial.cluster.letters (leads_letters g.O.Object.rules c.loop-places.self.trial c.advance.new.self.trial c.in_ok-advance.ensures.passage.goes.events c.in_ok-advance.ensures.passage.goes.led) c.has_more.new.places.read c.has_more.new.places.decisions (let all = c.in_ok-has_more.ensures.read.all in omega arith) c.in_ok-has_more.ensures.read.of_decisions;
   goes = goes_on g.O.Object.rules keeps_nodes c.args.self.now.trial c.loop-places.self.trial c.advance.new.self.trial c.args.self.now.events.items c.loop-places.self.events.items c.advance.new.self.events.items c.loop-places.invariant.goes c.in_ok-advance.ensures.passage.goes;
 }
 

@@ -44,4 +44,4 @@ returns-clause-passage g c =
 pub decision_for-requires : goal.decision_for-requires
 decision_for-requires g c = subst (λ ls. ArePlacesOf Decides ls c.args.places.now.read c.args.places.now.decisions) (sym c.letters.ensures)
     (decisions_further c.args.self.now.trial.cluster.letters c.lead.new.self.trial.cluster.letters (leads_letters g.O.Object.rules c.args.self.now.trial c.lead.new.self.trial c.in_ok-lead.ensures.passage.goes.events c.in_ok-lead.ensures.passage.goes.led)
-    c.args.places.now.read c.args.places.now.decisions (let all = c.requires.read.all in omega arith) c.requires.read.decided)
+    c.args.places.now.read c.args.places.now.decisions (let all = c.requires.read.all in omega arith) c.requires.read.of_decisions)
