@@ -1,5 +1,6 @@
 -- What each command does.
 use Rattle.std.specs.Prelude.{ℕ, Bool, true, false, ◌+◌, ◌^◌, List, [], ◌∷◌, ◌++◌, Option, None, Some, ◌==◌, nat_lt, if◌then◌else◌}
+use Rattle.object.specs.Objects.{Rules}
 use Rattle.object.specs.declared.command.Act.{Act}
 use Rattle.object.specs.declared.command.Answer.{Answer}
 use Rattle.object.specs.declared.command.Command.{Command}
@@ -13,7 +14,7 @@ use Rattle.pause_store.specs.Pauses.{left_at}
 use Rattle.bean_queue.specs.declared.op.Op.{Op}
 use Rattle.bean_queue.specs.declared.ready_again.Returning.{Returning}
 use Rattle.bean_queue.specs.declared.reply.Reply.{Reply}
-use Rattle.bean_queue.specs.Queue.{QueueState, with_sessions, holds_by}
+use Rattle.bean_queue.specs.Queue.{QueueState, fresh, with_sessions, holds_by}
 use Rattle.bean_queue.specs.Rows.{Row, row}
 use Rattle.bean_queue.specs.Turns.{QueueOutcome, stop, serve, all_turns, deadline_turn, timeout_turn}
 
@@ -120,6 +121,15 @@ act_effect Act.Tick key s = tick_effect key.number s
 -- what a command does
 unfoldable pub effect : Command Op → QueueState → QueueOutcome
 effect c s = act_effect c.act c.key s
+
+-- a queue as an object, where this says which operations are one
+abbrev pub queue_rules : (Op → Op → Bool) → Rules QueueState Op Reply
+queue_rules same = record {
+  fresh = fresh;
+  after = λ s c. (effect c s).state;
+  answers = λ s c. (effect c s).answers;
+  same = same;
+}
 
 -- the operation makes no job ready and lets nobody wait, so nobody is served after it
 abbrev pub is_quiet : Op → Bool

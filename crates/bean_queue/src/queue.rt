@@ -129,19 +129,13 @@ impl<M: JobMap> Object for QueueOver<M> {
 
     type Reply = Reply;
 
-    ghost use Rattle.bean_queue.specs.Queue.{fresh as new_queue};
-    ghost use Rattle.bean_queue.specs.Effects.{effect};
+    ghost use Rattle.bean_queue.specs.Effects.{queue_rules};
     ghost use Rattle.bean_queue.specs.Waits.{Waits};
     ghost use Rattle.bean_queue.specs.Holds.{HasOneHolder};
     ghost use Rattle.bean_queue.specs.WaitLaws.{fresh-idle, effect-lawful, effect-once};
     ghost use Rattle.std.specs.Prelude.{refl};
 
-    ghost rules = { record {
-      fresh = new_queue;
-      after = λ s c. (effect c s).state;
-      answers = λ s c. (effect c s).answers;
-      same = ⟦<Op as PartialEq>⟧.eq;
-    } };
+    ghost rules = { queue_rules ⟦<Op as PartialEq>⟧.eq };
 
     ghost waits = { Waits };
 

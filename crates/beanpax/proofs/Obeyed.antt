@@ -9,26 +9,27 @@ use Rattle.session.specs.Items.{Response}
 use Rattle.session.specs.Items.Response.{Replied, Refused}
 use Rattle.session.specs.Serving.{Asks, Asked, Closes}
 use Rattle.simulated_hall.specs.OneClient.{Talk, Said, answered, next_obeyed, passed, waited, unless_said, longest_wait, next_key}
-use Rattle.beanpax.specs.Sessions.{queue, queue_with, AreAnswers, is_refused}
+use Rattle.bean_queue.specs.Effects.{queue_rules}
+use Rattle.beanpax.specs.Sessions.{queue, AreAnswers, is_refused}
 use Rattle.beanpax.specs.Simulations.{Obeys, Leaves}
 
 unless_same : (s : Said QueueState Reply) (o : Option Reply) (f g : Talk QueueState → Said QueueState Reply) → ((t : Talk QueueState) → f t ≡ g t) → unless_said f s o ≡ unless_said g s o
 unless_same s None f g same = same s.talk
 unless_same s (Some r) f g same = refl
 
-waited_same : (same : Op → Op → Bool) (key : Key) (n : ℕ) (s : Said QueueState Reply) → waited (queue_with same) key n s ≡ waited queue key n s
+waited_same : (same : Op → Op → Bool) (key : Key) (n : ℕ) (s : Said QueueState Reply) → waited (queue_rules same) key n s ≡ waited queue key n s
 waited_same same key zero s = refl
-waited_same same key (suc n) s = unless_same s s.reply (λ t. waited (queue_with same) key n (passed (queue_with same) key t)) (λ t. waited queue key n (passed queue key t)) (λ t. waited_same same key n (passed queue key t))
+waited_same same key (suc n) s = unless_same s s.reply (λ t. waited (queue_rules same) key n (passed (queue_rules same) key t)) (λ t. waited queue key n (passed queue key t)) (λ t. waited_same same key n (passed queue key t))
 
 -- which operations are one makes no difference to an answer
-pub answered_same : (same : Op → Op → Bool) (t : Talk QueueState) (op : Op) → answered (queue_with same) t op ≡ answered queue t op
+pub answered_same : (same : Op → Op → Bool) (t : Talk QueueState) (op : Op) → answered (queue_rules same) t op ≡ answered queue t op
 unfolding answered
 answered_same same t op = waited_same same (next_key t) longest_wait (next_obeyed queue t (Do op))
 
 -- an ask that was answered
 pub obeys : (same : Op → Op → Bool) (before after : Talk QueueState → Type 0) (stopped : Type 0) (op : Op) (reply : Reply)
-    → ((t : Talk QueueState) → before t → (answered (queue_with same) t op).reply ≡ Some reply)
-    → ((t : Talk QueueState) → before t → after (answered (queue_with same) t op).talk)
+    → ((t : Talk QueueState) → before t → (answered (queue_rules same) t op).reply ≡ Some reply)
+    → ((t : Talk QueueState) → before t → after (answered (queue_rules same) t op).talk)
     → Obeys before after stopped op (Ok reply)
 obeys same before after stopped op reply replied stood = λ t stands. (
   ap (λ (s : Said QueueState Reply). s.reply) (sym (answered_same same t op)) ∙ replied t stands,

@@ -2,20 +2,16 @@
 use Rattle.std.specs.Prelude.{◌≡◌, ⊤, Bool, true, false, List, [], ◌∷◌, ◌++◌, Some}
 use Rattle.bean_queue.specs.declared.op.Op.{Op}
 use Rattle.bean_queue.specs.declared.reply.Reply.{Reply}
-use Rattle.bean_queue.specs.Queue.{QueueState, fresh}
-use Rattle.bean_queue.specs.Effects.{effect}
+use Rattle.bean_queue.specs.Queue.{QueueState}
+use Rattle.bean_queue.specs.Effects.{queue_rules}
 use Rattle.object.specs.Objects.{Rules}
 use Rattle.session.specs.Items.{Response}
 use Rattle.session.specs.Items.Response.{Replied, Refused}
 use Rattle.simulated_hall.specs.OneClient.{Talk, opened, answered}
 
--- the queue, where this says which operations are one
-abbrev pub queue_with : (Op → Op → Bool) → Rules QueueState Op Reply
-queue_with same = record { fresh = fresh; after = λ s c. (effect c s).state; answers = λ s c. (effect c s).answers; same = same }
-
 -- a single queue compares no operations
 abbrev pub queue : Rules QueueState Op Reply
-queue = queue_with (λ a b. false)
+queue = queue_rules (λ a b. false)
 
 -- The operations were asked in turn and answered so, from here on: with what the queue replies, or refused, and then the
 -- queue never knew of them.

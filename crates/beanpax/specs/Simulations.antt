@@ -8,11 +8,12 @@ use Rattle.session.specs.declared.faults.ServiceFault.TheVariants.{Refused, Stop
 use Rattle.simulated_hall.specs.OneClient.{Talk, answered, left}
 use Rattle.simulated_hall.specs.Standing.{SimulatedState}
 use Rattle.simulated_hall.specs.Stopping.{IsStopped}
-use Rattle.beanpax.specs.Sessions.{queue, queue_with}
+use Rattle.bean_queue.specs.Effects.{queue_rules}
+use Rattle.beanpax.specs.Sessions.{queue}
 
 -- an operation of a hall of queues isn't carried on, where this says which operations are one
 abbrev pub IsStoppedBy : (Op → Op → Bool) → SimulatedState Op Reply → SimulatedState Op Reply → Op → Type 0
-IsStoppedBy same old new op = IsStopped (queue_with same) same old new op
+IsStoppedBy same old new op = IsStopped (queue_rules same) same old new op
 
 -- Of how far one queue has come before and after: a reply is that of the queue, which then has come so far. Where the
 -- operation is refused, the queue is where it was; and the hall stops for one of its reasons alone.

@@ -1,7 +1,8 @@
 ghost use Rattle.std.specs.Prelude.{◌≡◌, IfOk};
 ghost use Rattle.simulated_hall.specs.OneClient.{opened};
 ghost use Rattle.simulated_hall.specs.Standing.{StandsFor};
-ghost use Rattle.beanpax.specs.Sessions.{queue, queue_with};
+ghost use Rattle.bean_queue.specs.Effects.{queue_rules};
+ghost use Rattle.beanpax.specs.Sessions.{queue};
 
 use ballot::Members;
 use bean_queue::{Op, Queue, Reply};
@@ -19,7 +20,7 @@ impl Simulation {
     /// A new hall of these members; the seed draws what happens between its nodes.
     pub fn new(alloc: Global, members: Members, seed: u64) -> Result<Simulation, AllocError>
         ensures stands { IfOk result (λ s.
-            StandsFor (queue_with ⟦<Op as PartialEq>⟧.eq) s.hall (opened queue)) }
+            StandsFor (queue_rules ⟦<Op as PartialEq>⟧.eq) s.hall (opened queue)) }
         ensures members { IfOk result (λ s. s.hall.hall.nodes.network.members ≡ members) }
     {
         Ok(Simulation {
@@ -30,19 +31,19 @@ impl Simulation {
 
 impl Service for Simulation {
     ghost use Rattle.simulated_hall.specs.Standing.{StandsFor};
-    ghost use Rattle.beanpax.specs.Sessions.{queue_with};
+    ghost use Rattle.bean_queue.specs.Effects.{queue_rules};
     ghost use Rattle.simulated_hall.specs.Stopping.{IsNotLetGo};
     ghost use Rattle.beanpax.specs.Simulations.{IsStoppedBy, Obeys, Leaves};
 
     ghost asks = { λ old op result new. Obeys
-        (StandsFor (queue_with ⟦<Op as PartialEq>⟧.eq) old.hall)
-        (StandsFor (queue_with ⟦<Op as PartialEq>⟧.eq) new.hall)
+        (StandsFor (queue_rules ⟦<Op as PartialEq>⟧.eq) old.hall)
+        (StandsFor (queue_rules ⟦<Op as PartialEq>⟧.eq) new.hall)
         (IsStoppedBy ⟦<Op as PartialEq>⟧.eq old.hall new.hall op)
         op result };
 
     ghost closes = { λ old result new. Leaves
-        (StandsFor (queue_with ⟦<Op as PartialEq>⟧.eq) old.hall)
-        (StandsFor (queue_with ⟦<Op as PartialEq>⟧.eq) new.hall)
+        (StandsFor (queue_rules ⟦<Op as PartialEq>⟧.eq) old.hall)
+        (StandsFor (queue_rules ⟦<Op as PartialEq>⟧.eq) new.hall)
         (IsNotLetGo ⟦<Op as PartialEq>⟧.eq old.hall new.hall)
         result };
 

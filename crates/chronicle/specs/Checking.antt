@@ -1,17 +1,14 @@
 -- Which chronicles of a queue are right, line by line of their dump.
-use Rattle.std.specs.Prelude.{◌≡◌, ◌≢◌, ℕ, ◌<◌, Bool, true, List, ◌∷◌, ◌++◌, slice_get, Some}
+use Rattle.std.specs.Prelude.{◌≡◌, ◌≢◌, ℕ, ◌<◌, true, List, ◌∷◌, ◌++◌, slice_get, Some}
 use Rattle.std.specs.List.{filter_map}
 use Rattle.std.specs.Option.{option_map}
 use Rattle.object.specs.Happenings.{submitted_key}
 use Rattle.object.specs.Keys.{stands, found}
 use Rattle.object.specs.Lists.{In}
-use Rattle.object.specs.Objects.{Rules}
 use Rattle.object.specs.declared.command.Answer.{Answer}
 use Rattle.object.specs.declared.command.Command.{Command}
 use Rattle.object.specs.declared.command.Key.{Key}
-use Rattle.bean_queue.specs.Effects.{effect}
 use Rattle.bean_queue.specs.Places.{queue_replay}
-use Rattle.bean_queue.specs.Queue.{QueueState, fresh}
 use Rattle.bean_queue.specs.declared.op.Op.{Op}
 use Rattle.bean_queue.specs.declared.reply.Reply.{Reply}
 use Rattle.chronicle.specs.Chronicles.{Chronicle}
@@ -61,12 +58,3 @@ AreRightLines c hs = (earlier : List (Happening Op Reply)) (h : Happening Op Rep
 pub record IsFaultless (c : Chronicle Op Reply) : Type 0 where
   pub order : AreRightPlaces c c.order
   pub happened : AreRightLines c (happenings c.submitted c.answers)
-
--- what the plain queue does
-abbrev pub queue_rules : (Op → Op → Bool) → Rules QueueState Op Reply
-queue_rules same = record {
-  fresh = fresh;
-  after = λ s c. (effect c s).state;
-  answers = λ s c. (effect c s).answers;
-  same = same;
-}

@@ -6,14 +6,14 @@ use Rattle.simulated_hall.specs.OneClient.{Talk}
 use Rattle.simulated_hall.specs.Standing.{StandsFor}
 use Rattle.simulated_hall.specs.Stopping.{IsNotLetGo}
 use Rattle.beanpax.specs.declared.simulation.Simulation.{Simulation}
-use Rattle.beanpax.specs.Sessions.{queue_with}
+use Rattle.bean_queue.specs.Effects.{queue_rules}
 use Rattle.beanpax.specs.Simulations.{IsStoppedBy}
 use Rattle.beanpax.proofs.Obeyed.{ClosesOf}
 use Rattle.beanpax.proofs.Served.{served, served_partly, nothing_served}
 use Rattle.beanpax.proofs.run.run_bytes_weighted.Goals as goal
 
 abbrev Stands : Simulation → Talk QueueState → Type 0
-Stands s = StandsFor (queue_with ghosts.eq) s.hall
+Stands s = StandsFor (queue_rules ghosts.eq) s.hall
 
 abbrev Stops : Simulation → Simulation → Op → Type 0
 Stops old new op = IsStoppedBy ghosts.eq old.hall new.hall op
