@@ -1,4 +1,5 @@
 //! Halls of one node, as tables: what each call answers, what it refuses, and the dump of what happened.
+use crate::weight_rows::weighted;
 use ballot::Members;
 use bean_queue::{Body, Op, Queue, Reply};
 use hall::{Hall, HallError, Ticket};
@@ -274,13 +275,42 @@ static PUT_TWICE: [Step; 14] = [
     Step::Shows(Sight::Dump(ONE_PUT)),
 ];
 
+/// The same, where the only node weighs 5.
+const ONE_HEAVY_PUT: &[u8] =
+    b"beanpax-dump 2\nmembers 1\nweights 5\nS 1 1 put 0 0 9 78\nA 1 1 INSERTED 1\nO 1 1\nend\n";
+
+/// A put at a node that has a weight of its own.
+static HEAVY_PUT: [Step; 11] = [
+    Step::Makes(Call::Submit(Asked::Put(b'x'), 1), Answer::Done),
+    Step::Makes(Call::Propose(1), Answer::Yes),
+    Step::Makes(Call::Wake(1), Answer::Done),
+    Step::Makes(Call::Deliver(1), Answer::Yes),
+    Step::Makes(Call::Deliver(1), Answer::Yes),
+    Step::Makes(Call::Deliver(1), Answer::Yes),
+    Step::Makes(Call::Deliver(1), Answer::Yes),
+    Step::Makes(Call::Deliver(1), Answer::Yes),
+    Step::Makes(Call::Deliver(1), Answer::Yes),
+    Step::Makes(Call::Perform(1), Answer::Yes),
+    Step::Shows(Sight::Dump(ONE_HEAVY_PUT)),
+];
+
+#[test]
+fn a_weight_is_in_the_dump(rt: HostRuntime) -> Result<(), Fail> {
+    let mut hall: Hall<Queue> = Hall::new(rt.alloc(), weighted(&[5])?)?;
+    let mut ticket = hall.open_session()?;
+    let wrong = wrong_step(rt.alloc(), &mut hall, &mut ticket, &HEAVY_PUT)?;
+    assert_eq!(rt; wrong, None);
+    Ok(())
+}
+
 /// What a ticket may not hand in.
-static BUSY: [Step; 8] = [
+static BUSY: [Step; 9] = [
     Step::Makes(Call::Submit(Asked::Reserve, 1), Answer::Done),
     Step::Makes(
         Call::Submit(Asked::Delete(1), 1),
         Answer::Refused(HallError::Busy),
     ),
+    Step::Shows(Sight::Answered(None)),
     Step::Makes(Call::Note, Answer::No),
     Step::Makes(Call::Submit(Asked::Close, 1), Answer::Done),
     Step::Makes(

@@ -1,6 +1,10 @@
 //! What the parts of a node do with letters, as tables.
+ghost use Rattle.std.specs.Prelude.{◌≡◌, true, IfOk, IsSome};
+ghost use Rattle.ballot.specs.Members.{is_member};
+
 use acceptor::Acceptor;
-use ballot::{Ballot, Members, Pvalue, Slot};
+use ballot::{Ballot, Letter, LetterBody, Members, Pvalue, Slot};
+use leader::Leader;
 use object::Value;
 use scout_commander::{Commander, Heard, Scout, Voted};
 use std::alloc::{AllocError, Global};
@@ -176,6 +180,22 @@ static REPORTS: [Heed; 6] = [
     ),
 ];
 
+const THIRD: Numbers = (1, 1, 0);
+
+// A report leaves out what was accepted in the same slot under a lesser ballot.
+static ONE_A_SLOT: [Heed; 6] = [
+    Heed::P1a(FIRST, FIRST, &[]),
+    Heed::P2a((FIRST, 1, Token::X), Some(FIRST)),
+    Heed::P1a(SECOND, SECOND, &[(FIRST, 1, Token::X)]),
+    Heed::P2a((SECOND, 1, Token::X), Some(SECOND)),
+    Heed::P2a((SECOND, 2, Token::Y), Some(SECOND)),
+    Heed::P1a(
+        THIRD,
+        THIRD,
+        &[(SECOND, 1, Token::X), (SECOND, 2, Token::Y)],
+    ),
+];
+
 /// Whether the acceptor answers so.
 fn heeds(alloc: Global, acceptor: &mut Acceptor<Token>, row: &Heed) -> Result<bool, Fail> {
     match row {
@@ -205,7 +225,11 @@ fn wrong_heed(alloc: Global, rows: &[Heed]) -> Result<Option<usize>, Fail> {
 
 #[test]
 fn an_acceptor_promises_accepts_and_reports(rt: HostRuntime) -> Result<(), Fail> {
-    for rows in [PROMISES.as_slice(), REPORTS.as_slice()] {
+    for rows in [
+        PROMISES.as_slice(),
+        REPORTS.as_slice(),
+        ONE_A_SLOT.as_slice(),
+    ] {
         assert_eq!(rt; wrong_heed(rt.alloc(), rows)?, None);
     }
     Ok(())
@@ -280,6 +304,54 @@ fn a_scout_hears_each_member_once(rt: HostRuntime) -> Result<(), Fail> {
     let mut scout: Scout<Token> = Scout::new(rt.alloc(), members(3)?, ballot(FIRST)?);
     assert_eq!(rt; wrong_scouted(rt.alloc(), &mut scout, &SCOUTED)?, None);
     assert!(rt; has_gathered(rt.alloc(), scout, &[(FIRST, 1, Token::X)])?);
+    Ok(())
+}
+
+/// The ballot of node 3 that comes after one of round 1.
+const LATER: Numbers = (2, 3, 0);
+
+/// Promises that adopt a scout of three members. The second reports the greater ballot.
+static ADOPTING: [Scouted; 2] = [
+    (1, LATER, &[(FIRST, 1, Token::X)], Said::Wait),
+    (2, LATER, &[((1, 2, 0), 1, Token::Y)], Said::Won),
+];
+
+/// A leader of node 3 that a ballot of round 1 preempted, and that has sent out a scout since.
+fn woken_leader(alloc: Global, members: Members) -> Result<Leader<Token>, Fail>
+    requires { is_member members 3 ≡ true }
+    ensures scout { IfOk result (λ leader. IsSome leader.scout) }
+{
+    let mut leader = Leader::new(alloc, members, 3, 0);
+    let preempted = leader.preempted(ballot((1, 2, 0))?);
+    preempted.ok().ok_or("no ballot left")?;
+    let mut letters = Vec::new(alloc);
+    leader.wake(&mut letters)?;
+    Ok(leader)
+}
+
+/// The letters of node 3 that ask three members to accept the pvalue.
+fn asks_for(alloc: Global, parts: Parts) -> Result<Vec<Letter<Token>>, Fail> {
+    let mut letters = Vec::new(alloc);
+    for to in 1..=3 {
+        letters.push(Letter {
+            from: 3,
+            to,
+            body: LetterBody::P2a(pvalue(parts)?),
+        })?;
+    }
+    Ok(letters)
+}
+
+#[test]
+fn a_leader_takes_the_greatest_that_its_scout_gathered(rt: HostRuntime) -> Result<(), Fail> {
+    let alloc = rt.alloc();
+    let members = Members::new(3).ok_or("no members")?;
+    let mut scout: Scout<Token> = Scout::new(alloc, members, ballot(LATER)?);
+    assert_eq!(rt; wrong_scouted(alloc, &mut scout, &ADOPTING)?, None);
+    let mut leader = woken_leader(alloc, members)?;
+    let mut letters = Vec::new(alloc);
+    leader.adopted(scout.gathered(), &mut letters)?;
+    assert!(rt; letters == asks_for(alloc, (LATER, 1, Token::Y))?);
     Ok(())
 }
 

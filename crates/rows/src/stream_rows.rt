@@ -27,12 +27,15 @@ fn a_failed_writer_has_a_beginning(rt: HostRuntime) -> Result<(), Fail> {
     Ok(())
 }
 
-// Is interrupted before each call, and fails where `room` bytes were moved.
+/// So many interruptions come in a row.
+const INTERRUPTIONS: u32 = 9;
+
+// Is interrupted so often before each call, and fails where `room` bytes were moved.
 #[derive(Drop)]
 struct Shaky {
     bytes: Vec<u8>,
     room: usize,
-    is_interrupted: bool,
+    interrupted: u32,
 }
 
 impl Shaky {
@@ -40,13 +43,17 @@ impl Shaky {
         Shaky {
             bytes: Vec::new(alloc),
             room,
-            is_interrupted: false,
+            interrupted: 0,
         }
     }
 
     fn is_next_interrupted(&mut self) -> bool {
-        self.is_interrupted = !self.is_interrupted;
-        self.is_interrupted
+        if self.interrupted < INTERRUPTIONS {
+            self.interrupted += 1;
+            return true;
+        }
+        self.interrupted = 0;
+        false
     }
 }
 
