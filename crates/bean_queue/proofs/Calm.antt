@@ -21,7 +21,7 @@ use Rattle.bean_queue.specs.declared.reply.Reply.{Reply}
 use Rattle.bean_queue.specs.Queue.{QueueState, paused_tubes, with_sessions, fresh, watched_by, holds_by}
 use Rattle.bean_queue.specs.Rows.{Row, row, put_row, use_row, watch_row, ignore_row, reserve_row, delete_row, may_delete, is_job_that, release_row, touch_row, bury_row, kick_row, kick_job_row, peek_row}
 use Rattle.bean_queue.specs.Turns.{QueueOutcome, after_option, QueueTurn, stop, all_turns, wanted, give, serve_turn, told_turn, deadline_turn, timeout_turn, serve}
-use Rattle.bean_queue.specs.Effects.{own, own_outcome, then_do, called, ends_wait, is_zero, settled, has_no_number, carried_out, do_effect, released, forgotten, at_second, tick_effect, is_quiet}
+use Rattle.bean_queue.specs.Effects.{own, own_outcome, then_do, called, ends_wait, is_zero, turned_away, has_no_number, carried_out, do_effect, released, forgotten, at_second, tick_effect, is_quiet}
 use Rattle.bean_queue.specs.TurnLaws.{least-none, none-least, turns-keep, deadline_turn-is, timeout_turn-is, IsTold, IfSome-map}
 use Rattle.bean_queue.proofs.Paused.{open-watched, watched-open}
 use Rattle.bean_queue.proofs.Served.{serve-done, idle_none, turns-unroll, serves}
@@ -161,10 +161,10 @@ quiet-row (Op.Pause tube seconds) key s q = cc
 pub called-calm : (x : ℕ) (s : QueueState) → serve_turn s ≡ None → serve_turn (called x s) ≡ None
 called-calm x s none = calm s (called x s) none (record { jobs = λ j i t. i; sessions = known-calmer x s.sessions; pauses = λ tube p. p })
 
-quiet-settled : (op : Op) (key : Key) (s : QueueState) → is_quiet op ≡ true → settled op key s ≡ stop s
-unfolding settled
-quiet-settled (Op.Reserve seconds) key s q = cc
-quiet-settled _ key s q = refl
+quiet-turned_away : (op : Op) (key : Key) (s : QueueState) → is_quiet op ≡ true → turned_away op key s ≡ stop s
+unfolding turned_away
+quiet-turned_away (Op.Reserve seconds) key s q = cc
+quiet-turned_away _ key s q = refl
 
 serve-none : (s : QueueState) → serve_turn s ≡ None → serve s ≡ stop s
 unfolding serve
@@ -176,8 +176,8 @@ unfolding carried_out
 quiet-effect op key s q none =
     let r = row op key (called key.session s) in
     let after : serve_turn r.state ≡ None = calm (called key.session s) r.state (called-calm key.session s none) (quiet-row op key s q) in
-    ap (λ o. then_do (record { state = o.state; answers = own key r.reply ++ o.answers }) (settled op key)) (serve-none r.state after) ∙
-    ap (λ o. record { state = o.state; answers = (own key r.reply ++ []) ++ o.answers }) (quiet-settled op key r.state q) ∙
+    ap (λ o. then_do (record { state = o.state; answers = own key r.reply ++ o.answers }) (turned_away op key)) (serve-none r.state after) ∙
+    ap (λ o. record { state = o.state; answers = (own key r.reply ++ []) ++ o.answers }) (quiet-turned_away op key r.state q) ∙
     ap (λ xs. record { state = r.state; answers = xs }) (append-nil (own key r.reply ++ []) ∙ append-nil (own key r.reply))
 
 -- Every effect leaves nothing to give
@@ -189,14 +189,14 @@ outcome_if false o p h k = k
 ended-calm : (x : ℕ) (s : QueueState) → serve_turn s ≡ None → serve_turn (with_sessions s (with_wait_ended x s.sessions)) ≡ None
 ended-calm x s none = calm s _ none (record { jobs = λ j i t. i; sessions = ended-calmer x s.sessions; pauses = λ tube p. p })
 
-settled-calm : (op : Op) (key : Key) (s : QueueState) → serve_turn s ≡ None → serve_turn (settled op key s).state ≡ None
-unfolding settled
-settled-calm (Op.Reserve seconds) key s none =
+turned_away-calm : (op : Op) (key : Key) (s : QueueState) → serve_turn s ≡ None → serve_turn (turned_away op key s).state ≡ None
+unfolding turned_away
+turned_away-calm (Op.Reserve seconds) key s none =
     outcome_if (is_waiting (session_of key.session s.sessions)) _ _
     (outcome_if (holds_by key.session (s.now + 1) s.jobs) _ _ (ended-calm key.session s none)
     (outcome_if (is_zero seconds) _ _ (ended-calm key.session s none) none))
     none
-settled-calm _ key s none = none
+turned_away-calm _ key s none = none
 
 told-calm : (reply : Reply) (s : QueueState) (t : QueueTurn) → IsTold reply s t → serve_turn s ≡ None → serve_turn t.state ≡ None
 unfolding told_turn
@@ -212,7 +212,7 @@ timeouts-calm s none = (turns-keep timeout_turn (λ s. serve_turn s ≡ None) (�
 
 carried_out-calm : (op : Op) (key : Key) (s : QueueState) → serve_turn (carried_out op key s).state ≡ None
 unfolding carried_out
-carried_out-calm op key s = settled-calm op key _ (serve-done (row op key (called key.session s)).state)
+carried_out-calm op key s = turned_away-calm op key _ (serve-done (row op key (called key.session s)).state)
 
 pub do-calm : (op : Op) (key : Key) (s : QueueState) → serve_turn s ≡ None → serve_turn (do_effect op key s).state ≡ None
 unfolding do_effect

@@ -15,7 +15,7 @@ use Rattle.bean_queue.specs.declared.reply.Reply.{Reply}
 use Rattle.bean_queue.specs.Queue.{QueueState, holds_by, HasRisingIds}
 use Rattle.bean_queue.specs.Rows.{row}
 use Rattle.bean_queue.specs.Turns.{QueueOutcome, stop, serve, all_turns, deadline_turn, timeout_turn}
-use Rattle.bean_queue.specs.Effects.{own, called, ends_wait, is_zero, settled, then_do, own_outcome, has_no_number, carried_out, do_effect, released, close_effect, at_second, tick_effect, act_effect, effect}
+use Rattle.bean_queue.specs.Effects.{own, called, ends_wait, is_zero, turned_away, then_do, own_outcome, has_no_number, carried_out, do_effect, released, close_effect, at_second, tick_effect, act_effect, effect}
 use Rattle.bean_queue.specs.Places.{QueuePlace, queue_place}
 use Rattle.bean_queue.specs.Holds.{is_reserved, is_touched, is_touch, reserved_in, touches, Ends}
 use Rattle.bean_queue.proofs.Held.{Held, Held-each, KeepsHold, IsQuiet, IsAside, quiet-append, reserved_in-append, sound-along, aside-keeps, serve-keeps, deadlines-aside, timeouts-aside}
@@ -33,14 +33,14 @@ aside-ends_wait : (s : QueueState) (key : Key) (reply : Reply) → ((id : ℕ) �
 aside-ends_wait s key reply e =
     record { jobs = refl; at = refl; next = refl; quiet = λ id. cond-false (is_reserved id reply) (record { to = key; reply = reply } ∷ []) [] (e id) }
 
-settled-aside : (op : Op) (key : Key) (s : QueueState) → IsAside s (settled op key s)
-unfolding settled
-settled-aside (Op.Reserve seconds) key s =
+turned_away-aside : (op : Op) (key : Key) (s : QueueState) → IsAside s (turned_away op key s)
+unfolding turned_away
+turned_away-aside (Op.Reserve seconds) key s =
     aside_if s (is_waiting (session_of key.session s.sessions)) _ _
     (aside_if s (holds_by key.session (s.now + 1) s.jobs) _ _ (aside-ends_wait s key Reply.DeadlineSoon (λ id. refl))
     (aside_if s (is_zero seconds) _ _ (aside-ends_wait s key Reply.TimedOut (λ id. refl)) (aside-stop s)))
     (aside-stop s)
-settled-aside _ key s = aside-stop s
+turned_away-aside _ key s = aside-stop s
 
 -- first some answers that reserve nothing
 gives-after : (id now : ℕ) (answers : List (Answer Reply)) (o : QueueOutcome) → IsQuiet id answers → GivesOnce id now o → GivesOnce id now (record { state = o.state; answers = answers ++ o.answers })
@@ -81,10 +81,10 @@ unfolding carried_out
 carried_out-gives id op key s sound =
     let ok = row-ok op key (called key.session s) sound in
     let r = row op key (called key.session s) in
-    gives-then id s.now (then_do (own_outcome key r) serve) (settled op key)
+    gives-then id s.now (then_do (own_outcome key r) serve) (turned_away op key)
     (gives-after id s.now (own key r.reply) (serve r.state) (ok.quiet id)
     (subst (λ n. GivesOnce id n (serve r.state)) ok.at (serve-gives id r.state ok.sound)))
-    (settled-aside op key (serve r.state).state)
+    (turned_away-aside op key (serve r.state).state)
 
 pub do-gives : (id : ℕ) (op : Op) (key : Key) (s : QueueState) → HasRisingIds s → GivesOnce id s.now (do_effect op key s)
 unfolding do_effect
@@ -147,9 +147,9 @@ carried_out-keeps x id ttr second op key s sound h =
     let ok = row-ok op key (called key.session s) sound in
     let r = row op key (called key.session s) in
     let served = serve-keeps x id ttr second s.now r.state (record { sound = ok.sound; held = h; at = ok.at }) in
-    keeps-then x id ttr second s.now (then_do (own_outcome key r) serve) (settled op key)
+    keeps-then x id ttr second s.now (then_do (own_outcome key r) serve) (turned_away op key)
     (record { keeps = served.keeps; quiet = quiet-append id (own key r.reply) (serve r.state).answers (ok.quiet id) served.quiet })
-    (settled-aside op key (serve r.state).state)
+    (turned_away-aside op key (serve r.state).state)
 
 -- the own answer stands first
 own_there : (key : Key) (o : Option Reply) (reply : Reply) (xs ys : List (Answer Reply)) → o ≡ Some reply → In (record { to = key; reply = reply }) ((own key o ++ xs) ++ ys)

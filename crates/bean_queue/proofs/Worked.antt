@@ -8,7 +8,7 @@ use Rattle.bean_queue.specs.declared.op.Op.{Op}
 use Rattle.bean_queue.specs.declared.reply.Reply.{Reply}
 use Rattle.bean_queue.specs.Rows.{row, put_row, reserve_row, delete_row, all_tubes, kick_row, kicked, kick_job_row, use_row, watch_row, bury_row, peek_row}
 use Rattle.bean_queue.specs.Turns.{turns, all_turns, given, serve_turn, told_turn, deadline_turn, timeout_turn, serve}
-use Rattle.bean_queue.specs.Effects.{settled, carried_out, do_effect, close_effect, tick_effect, act_effect, effect}
+use Rattle.bean_queue.specs.Effects.{turned_away, carried_out, do_effect, close_effect, tick_effect, act_effect, effect}
 use Rattle.bean_queue.specs.Places.{queue_replay}
 
 -- session x's n-th command asks for an operation
@@ -41,7 +41,7 @@ j = 106 ∷ []
 a_wait_is_served :
     all_answers (asks 1 1 (Op.Reserve None) ∷ asks 2 1 (Op.Put 0 0 60 hi) ∷ []) ≡
     to 2 1 (Reply.Inserted 1) ∷ to 1 1 (Reply.Reserved 1 hi) ∷ []
-unfolding effect act_effect do_effect carried_out settled row put_row reserve_row serve all_turns turns serve_turn given
+unfolding effect act_effect do_effect carried_out turned_away row put_row reserve_row serve all_turns turns serve_turn given
 a_wait_is_served = refl
 
 -- a job whose time ran out is another's, and no longer the first one's to delete
@@ -64,7 +64,7 @@ time_runs_out :
     to 2 1 (Reply.Reserved 1 j) ∷
     to 1 4 Reply.NotFound ∷
     []
-unfolding effect act_effect do_effect carried_out tick_effect settled row put_row reserve_row delete_row serve all_turns turns serve_turn given deadline_turn timeout_turn told_turn
+unfolding effect act_effect do_effect carried_out tick_effect turned_away row put_row reserve_row delete_row serve all_turns turns serve_turn given deadline_turn timeout_turn told_turn
 time_runs_out = refl
 
 -- a delayed job is ready in the second that is due; a second that came before does nothing
@@ -72,7 +72,7 @@ a_delay_is_over :
     all_answers
     (asks 1 1 (Op.Put 0 4 10 j) ∷ tick 5 ∷ tick 5 ∷ tick 3 ∷ asks 1 2 (Op.Reserve (Some 0)) ∷ []) ≡
     to 1 1 (Reply.Inserted 1) ∷ to 1 2 (Reply.Reserved 1 j) ∷ []
-unfolding effect act_effect do_effect carried_out tick_effect settled row put_row reserve_row delete_row serve all_turns turns serve_turn given deadline_turn timeout_turn told_turn
+unfolding effect act_effect do_effect carried_out tick_effect turned_away row put_row reserve_row delete_row serve all_turns turns serve_turn given deadline_turn timeout_turn told_turn
 a_delay_is_over = refl
 
 -- a command whose number is not above those before is not obeyed
@@ -80,7 +80,7 @@ a_late_command :
     all_answers
     (closes 1 2 ∷ asks 1 1 (Op.Reserve None) ∷ asks 2 1 (Op.Put 0 0 9 j) ∷ asks 2 2 (Op.Reserve None) ∷ []) ≡
     to 2 1 (Reply.Inserted 1) ∷ to 2 2 (Reply.Reserved 1 j) ∷ []
-unfolding effect act_effect do_effect carried_out close_effect settled row put_row reserve_row delete_row serve all_turns turns serve_turn given
+unfolding effect act_effect do_effect carried_out close_effect turned_away row put_row reserve_row delete_row serve all_turns turns serve_turn given
 a_late_command = refl
 
 -- the end of a session gives its job to the next that waits
@@ -94,7 +94,7 @@ a_close_serves :
     []
     ) ≡
     to 3 1 (Reply.Inserted 1) ∷ to 1 1 (Reply.Reserved 1 j) ∷ to 2 1 (Reply.Reserved 1 j) ∷ []
-unfolding effect act_effect do_effect carried_out close_effect settled row put_row reserve_row delete_row serve all_turns turns serve_turn given
+unfolding effect act_effect do_effect carried_out close_effect turned_away row put_row reserve_row delete_row serve all_turns turns serve_turn given
 a_close_serves = refl
 
 -- a job that is buried, kicked and looked for
@@ -120,7 +120,7 @@ a_kick_and_a_peek :
     to 1 7 Reply.NotFound ∷
     to 1 8 (Reply.KickedCount 0) ∷
     []
-unfolding effect act_effect do_effect carried_out settled row put_row reserve_row delete_row bury_row peek_row kick_row kick_job_row kicked serve all_turns turns serve_turn given
+unfolding effect act_effect do_effect carried_out turned_away row put_row reserve_row delete_row bury_row peek_row kick_row kick_job_row kicked serve all_turns turns serve_turn given
 a_kick_and_a_peek = refl
 
 -- lists of tubes
@@ -132,5 +132,5 @@ lists_of_tubes :
     to 1 3 (Reply.Tubes ((97 ∷ []) ∷ (98 ∷ []) ∷ codes "default" ∷ [])) ∷
     to 1 4 (Reply.Tubes (codes "default" ∷ (97 ∷ []) ∷ [])) ∷
     []
-unfolding effect act_effect do_effect carried_out settled row use_row watch_row all_tubes serve all_turns turns serve_turn given
+unfolding effect act_effect do_effect carried_out turned_away row use_row watch_row all_tubes serve all_turns turns serve_turn given
 lists_of_tubes = refl

@@ -46,15 +46,15 @@ is_zero (Some seconds) = seconds == 0
 
 -- a reserve that got no job is told of a job of its session that is due within a second, or that it may not wait
 -- (protocol.txt of beanstalkd, "reserve": DEADLINE_SOON, and "reserve-with-timeout")
-unfoldable pub settled : Op → Key → QueueState → QueueOutcome
-settled (Op.Reserve seconds) key s =
+unfoldable pub turned_away : Op → Key → QueueState → QueueOutcome
+turned_away (Op.Reserve seconds) key s =
     if is_waiting (session_of key.session s.sessions)
     then
     (if holds_by key.session (s.now + 1) s.jobs
     then ends_wait s key Reply.DeadlineSoon
     else (if is_zero seconds then ends_wait s key Reply.TimedOut else stop s))
     else stop s
-settled _ key s = stop s
+turned_away _ key s = stop s
 
 -- no number is left for the operation: no id for a put, or no rank for a reserve or a bury
 abbrev pub has_no_number : Op → QueueState → Bool
@@ -67,7 +67,7 @@ has_no_number _ s = false
 -- sessions
 unfoldable pub carried_out : Op → Key → QueueState → QueueOutcome
 carried_out op key s =
-    then_do (then_do (own_outcome key (row op key (called key.session s))) serve) (settled op key)
+    then_do (then_do (own_outcome key (row op key (called key.session s))) serve) (turned_away op key)
 
 -- an operation is carried out; where no number is left for it, an older wait of its session ends, and nothing else
 -- happens

@@ -19,7 +19,7 @@ use Rattle.bean_queue.specs.declared.reply.Reply.{Reply}
 use Rattle.bean_queue.specs.Queue.{QueueState, fresh, holds_by, watched_by}
 use Rattle.bean_queue.specs.Turns.{QueueOutcome, QueueTurn, stop, turns, all_turns, after_option, given, told_turn, serve_turn, deadline_turn, timeout_turn, serve}
 use Rattle.bean_queue.specs.Rows.{is_idle, Row, row, put_row, use_row, watch_row, ignore_row, reserve_row, delete_row, may_delete, is_job_that, release_row, touch_row, bury_row, kick_row, kick_job_row, peek_row, all_tubes, pause_row}
-use Rattle.bean_queue.specs.Effects.{own, called, ends_wait, is_zero, settled, then_do, has_no_number, carried_out, do_effect, released, close_effect, at_second, tick_effect, act_effect, effect}
+use Rattle.bean_queue.specs.Effects.{own, called, ends_wait, is_zero, turned_away, then_do, has_no_number, carried_out, do_effect, released, close_effect, at_second, tick_effect, act_effect, effect}
 use Rattle.bean_queue.specs.Waits.{Waits, AreApart, IsLawful}
 use Rattle.bean_queue.specs.TurnLaws.{IsServed, IsTold, serve_turn-is, deadline_turn-is, timeout_turn-is, IfSome-map}
 
@@ -156,9 +156,9 @@ dealt_if s true o p h k = h refl
 dealt_if s false o p h k = k
 
 -- where x waits by the key alone
-settled-dealt : (op : Op) (key : Key) (s : QueueState) → ((k : Key) → Waits s k → k.session ≡ key.session → k ≡ key) → IsDealt s (settled op key s)
-unfolding settled
-settled-dealt (Op.Reserve seconds) key s only =
+turned_away-dealt : (op : Op) (key : Key) (s : QueueState) → ((k : Key) → Waits s k → k.session ≡ key.session → k ≡ key) → IsDealt s (turned_away op key s)
+unfolding turned_away
+turned_away-dealt (Op.Reserve seconds) key s only =
     dealt_if s (is_waiting (session_of key.session s.sessions)) _ _
     (λ e.
     let w = session_waits key.session s.sessions e in
@@ -166,7 +166,7 @@ settled-dealt (Op.Reserve seconds) key s only =
     dealt_if s (holds_by key.session (s.now + 1) s.jobs) _ _ (λ e. ends_wait-dealt s key Reply.DeadlineSoon h)
     (dealt_if s (is_zero seconds) _ _ (λ e. ends_wait-dealt s key Reply.TimedOut h) (dealt-none s)))
     (dealt-none s)
-settled-dealt _ key s only = dealt-none s
+turned_away-dealt _ key s only = dealt-none s
 
 lawful_along : (key : Key) (s t : QueueState) (xs ys : List (Answer Reply)) → xs ≡ ys → IsLawful key s (record { state = t; answers = xs }) → IsLawful key s (record { state = t; answers = ys })
 lawful_along key s t xs ys e h = subst (λ zs. IsLawful key s (record { state = t; answers = zs })) e h
@@ -197,24 +197,24 @@ carried_out-lawful op key s =
     let r = row op key (called key.session s) in
     let start : (k : Key) → Waits (called key.session s) k → Waits s k × (k.session ≡ key.session → ⊥) = known-waits key.session s.sessions in
     let served = serve-dealt r.state in
-    lawful_along key s (settled op key (serve r.state).state).state
-    (own key r.reply ++ ((serve r.state).answers ++ (settled op key (serve r.state).state).answers))
-    ((own key r.reply ++ (serve r.state).answers) ++ (settled op key (serve r.state).state).answers)
-    (sym (append_assoc (own key r.reply) (serve r.state).answers (settled op key (serve r.state).state).answers))
-    (elim (row-waits op key (called key.session s)) as (λ v. IsLawful key s (record { state = (settled op key (serve r.state).state).state; answers = own key r.reply ++ ((serve r.state).answers ++ (settled op key (serve r.state).state).answers) })) [
+    lawful_along key s (turned_away op key (serve r.state).state).state
+    (own key r.reply ++ ((serve r.state).answers ++ (turned_away op key (serve r.state).state).answers))
+    ((own key r.reply ++ (serve r.state).answers) ++ (turned_away op key (serve r.state).state).answers)
+    (sym (append_assoc (own key r.reply) (serve r.state).answers (turned_away op key (serve r.state).state).answers))
+    (elim (row-waits op key (called key.session s)) as (λ v. IsLawful key s (record { state = (turned_away op key (serve r.state).state).state; answers = own key r.reply ++ ((serve r.state).answers ++ (turned_away op key (serve r.state).state).answers) })) [
       | RowWaits.still h ↦
-          let d : IsDealt r.state (record { state = (settled op key (serve r.state).state).state; answers = (serve r.state).answers ++ (settled op key (serve r.state).state).answers }) =
-          dealt-then r.state (serve r.state).state (settled op key (serve r.state).state).state (serve r.state).answers (settled op key (serve r.state).state).answers served
-          (settled-dealt op key (serve r.state).state (λ k w e. absurd ((start k (h k (served.fewer k w))).1 e))) in
-          elim r.reply as (λ o. IsLawful key s (record { state = (settled op key (serve r.state).state).state; answers = own key o ++ ((serve r.state).answers ++ (settled op key (serve r.state).state).answers) })) [
+          let d : IsDealt r.state (record { state = (turned_away op key (serve r.state).state).state; answers = (serve r.state).answers ++ (turned_away op key (serve r.state).state).answers }) =
+          dealt-then r.state (serve r.state).state (turned_away op key (serve r.state).state).state (serve r.state).answers (turned_away op key (serve r.state).state).answers served
+          (turned_away-dealt op key (serve r.state).state (λ k w e. absurd ((start k (h k (served.fewer k w))).1 e))) in
+          elim r.reply as (λ o. IsLawful key s (record { state = (turned_away op key (serve r.state).state).state; answers = own key o ++ ((serve r.state).answers ++ (turned_away op key (serve r.state).state).answers) })) [
             | None ↦ without_own key s r.state _ _ (λ k w. inl (start k (h k w)).0) d
             | Some reply ↦ with_own key s r.state _ reply _ (λ k w. start k (h k w)) d
           ]
       | RowWaits.anew none h ↦
-          let d : IsDealt r.state (record { state = (settled op key (serve r.state).state).state; answers = (serve r.state).answers ++ (settled op key (serve r.state).state).answers }) =
-          dealt-then r.state (serve r.state).state (settled op key (serve r.state).state).state (serve r.state).answers (settled op key (serve r.state).state).answers served
-          (settled-dealt op key (serve r.state).state (λ k w e. elim (h k (served.fewer k w)) as (λ v. k ≡ key) [ inl was ↦ absurd ((start k was).1 e) | inr it ↦ it ])) in
-          subst (λ o. IsLawful key s (record { state = (settled op key (serve r.state).state).state; answers = own key o ++ ((serve r.state).answers ++ (settled op key (serve r.state).state).answers) })) (sym none)
+          let d : IsDealt r.state (record { state = (turned_away op key (serve r.state).state).state; answers = (serve r.state).answers ++ (turned_away op key (serve r.state).state).answers }) =
+          dealt-then r.state (serve r.state).state (turned_away op key (serve r.state).state).state (serve r.state).answers (turned_away op key (serve r.state).state).answers served
+          (turned_away-dealt op key (serve r.state).state (λ k w e. elim (h k (served.fewer k w)) as (λ v. k ≡ key) [ inl was ↦ absurd ((start k was).1 e) | inr it ↦ it ])) in
+          subst (λ o. IsLawful key s (record { state = (turned_away op key (serve r.state).state).state; answers = own key o ++ ((serve r.state).answers ++ (turned_away op key (serve r.state).state).answers) })) (sym none)
           (without_own key s r.state _ _ (λ k w. elim (h k w) [ inl was ↦ inl (start k was).0 | inr it ↦ inr it ]) d)
     ])
 

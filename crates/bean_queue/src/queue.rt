@@ -38,7 +38,12 @@ impl<M: JobMap> Model for QueueOver<M> {
 
 impl<M: JobMap> QueueOver<M> {
     /// Obeys a quiet operation.
-    fn answer(&mut self, key: Key, op: &Op, out: &mut Vec<Answer<Reply>>) -> Result<(), AllocError>
+    fn obey_quiet(
+        &mut self,
+        key: Key,
+        op: &Op,
+        out: &mut Vec<Answer<Reply>>,
+    ) -> Result<(), AllocError>
         requires { is_quiet op.now ≡ true }
         ensures state { OnOk result (self.new ≡ (do_effect op.now key self.old).state) }
         ensures out { OnOk result (out.new.items ≡ out.old.items
@@ -46,7 +51,7 @@ impl<M: JobMap> QueueOver<M> {
         ensures err { OnErr result ((self.new ≡ self.old) × (out.new.items ≡ out.old.items)) }
     {
         out.reserve(1)?;
-        match self.logic.answer(self.alloc, key, op) {
+        match self.logic.obey_quiet(self.alloc, key, op) {
             Ok(reply) => {
                 self.logic.keep();
                 out.push(Answer { to: key, reply })?;
@@ -60,7 +65,12 @@ impl<M: JobMap> QueueOver<M> {
     }
 
     /// Obeys an operation that is not quiet.
-    fn act(&mut self, key: Key, op: &Op, out: &mut Vec<Answer<Reply>>) -> Result<(), AllocError>
+    fn obey_loud(
+        &mut self,
+        key: Key,
+        op: &Op,
+        out: &mut Vec<Answer<Reply>>,
+    ) -> Result<(), AllocError>
         requires { is_quiet op.now ≡ false }
         ensures state { OnOk result (self.new ≡ (do_effect op.now key self.old).state) }
         ensures out { OnOk result (out.new.items ≡ out.old.items
@@ -68,7 +78,7 @@ impl<M: JobMap> QueueOver<M> {
         ensures err { OnErr result ((self.new ≡ self.old) × (out.new.items ≡ out.old.items)) }
     {
         let mut answers = Vec::new(self.alloc);
-        if let Err(e) = self.logic.act(self.alloc, key, op, &mut answers) {
+        if let Err(e) = self.logic.obey_loud(self.alloc, key, op, &mut answers) {
             self.logic.take_back();
             return Err(e);
         }
@@ -154,9 +164,9 @@ impl<M: JobMap> Object for QueueOver<M> {
         match cmd.act() {
             Act::Do(op) => {
                 if op.is_quiet() {
-                    self.answer(key, op, out)
+                    self.obey_quiet(key, op, out)
                 } else {
-                    self.act(key, op, out)
+                    self.obey_loud(key, op, out)
                 }
             }
             Act::Close => self.close(key.session, out),

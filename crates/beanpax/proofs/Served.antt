@@ -14,7 +14,7 @@ use Rattle.session.specs.Serving.{Whole, StopsAt, Partly, BreaksOff, Closes, Clo
 use Rattle.simulated_hall.specs.OneClient.{Talk, opened}
 use Rattle.beanpax.specs.Sessions.{queue}
 use Rattle.beanpax.specs.Told.{AreAnswersTold, BeginsTold}
-use Rattle.beanpax.specs.Runs.{Answers, TellsBeginning}
+use Rattle.beanpax.specs.Runs.{TellsAll, TellsBeginning}
 use Rattle.session.proofs.Whole.{HasFront, reads_as_items}
 use Rattle.beanpax.proofs.Beginnings.{told_begins, begins, begins_first}
 use Rattle.beanpax.proofs.Obeyed.{AsksOf, are_answers}
@@ -64,7 +64,7 @@ either P Q R broke went closes r new Ended (inr w) = went w.1.0 w.0 w.1.1
 pub served : {S : Type 0} (stand : S → Talk QueueState → Type 0) (stopped : S → S → Op → Type 0) (closes : Closes S) (old new : S) (a b h k : Option (List ℕ)) (r : Result End SessionFault)
     → stand old (opened queue)
     → IfOk r (λ end. Over a b h k (λ input output. ClosedAfter closes (λ s. Whole (AsksOf stand stopped) old s input output end) (Ok tt) new))
-    → IfOk r (Answers a b h k)
+    → IfOk r (TellsAll a b h k)
 served stand stopped closes old new a b h k (Ok end) stands o = over a b h k _ _ (λ input output w. whole stand stopped old w.0 input output end stands w.1) o
 served stand stopped closes old new a b h k (Err e) stands o = tt
 

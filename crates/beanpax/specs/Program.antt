@@ -3,7 +3,7 @@ use Rattle.std.specs.Prelude.{◌≡◌, ◌≢◌, ◌⊎◌, ℕ, Bool, true, 
 use Rattle.std.specs.Bool.{⊤}
 use Rattle.std.specs.Io.KnownBytes.{Appends, IsAtEnd}
 use Rattle.session.specs.Streams.{AppendsBeginning}
-use Rattle.beanpax.specs.Runs.{Answers}
+use Rattle.beanpax.specs.Runs.{TellsAll}
 use Rattle.session.specs.declared.faults.End.{End}
 use Rattle.session.specs.declared.faults.End.TheVariants.{Eof}
 use Rattle.beanpax.specs.declared.faults.ProgramFault.{ProgramFault}
@@ -29,12 +29,12 @@ IsCaused words ThreadFailed input_failed output_failed = AskFor (codes "serve") 
 
 -- a client was answered to the end of its session
 abbrev pub AnswersToSomeEnd : Option (List ℕ) → Option (List ℕ) → Option (List ℕ) → Option (List ℕ) → Type 0
-AnswersToSomeEnd left rest held holds = (end : End) × Answers left rest held holds end
+AnswersToSomeEnd left rest held holds = (end : End) × TellsAll left rest held holds end
 
 -- the same, and where the client didn't quit, the reader has come to its end
 abbrev pub IsWholeRun : Option (List ℕ) → Option (List ℕ) → Bool → Option (List ℕ) → Option (List ℕ) → Type 0
 IsWholeRun left rest has_ended held holds =
-    (end : End) × Answers left rest held holds end × (end ≡ Eof → IsAtEnd rest × (has_ended ≡ true))
+    (end : End) × TellsAll left rest held holds end × (end ≡ Eof → IsAtEnd rest × (has_ended ≡ true))
 
 -- why a run ended before: no memory, a service that stopped, or a stream that failed
 abbrev pub IsRunFault : Bool → Bool → ProgramFault → Type 0

@@ -5,8 +5,8 @@ use Rattle.session.specs.Serving.{Over}
 use Rattle.beanpax.specs.Told.{AreAnswersTold, BeginsTold}
 
 -- the reader gave an input, and the writer took all that the client is told for it
-abbrev pub Answers : Option (List ℕ) → Option (List ℕ) → Option (List ℕ) → Option (List ℕ) → End → Type 0
-Answers left rest held holds end = Over left rest held holds (λ input output. AreAnswersTold input output end)
+abbrev pub TellsAll : Option (List ℕ) → Option (List ℕ) → Option (List ℕ) → Option (List ℕ) → End → Type 0
+TellsAll left rest held holds end = Over left rest held holds (λ input output. AreAnswersTold input output end)
 
 -- the reader gave an input, and the writer took a beginning of what the client is told for it
 abbrev pub TellsBeginning : Option (List ℕ) → Option (List ℕ) → Option (List ℕ) → Option (List ℕ) → Type 0

@@ -2,7 +2,7 @@ ghost use Rattle.std.specs.Prelude.{◌≡◌, ◌≢◌, ◌≤◌, true, Ok, E
 ghost use Rattle.std.specs.Io.KnownBytes.{IsAtEnd};
 ghost use Rattle.ballot.specs.Members.{IsMembers};
 ghost use Rattle.session.specs.declared.faults.End.{End};
-ghost use Rattle.beanpax.specs.Runs.{Answers, TellsBeginning};
+ghost use Rattle.beanpax.specs.Runs.{TellsAll, TellsBeginning};
 
 use crate::simulation::Simulation;
 use ballot::Members;
@@ -20,7 +20,7 @@ pub fn run_bytes<R: ByteIn, W: ByteOut>(
 ) -> Result<End, SessionFault>
     requires some { 1 ≤ nodes }
     requires few { nodes ≤ 7 }
-    ensures answers { IfOk result (Answers (R.remaining reader.old) (R.remaining reader.new)
+    ensures answers { IfOk result (TellsAll (R.remaining reader.old) (R.remaining reader.new)
         (W.contents writer.old) (W.contents writer.new)) }
     ensures nothing_left { IfOk result (λ end. end ≡ End.Eof → IsAtEnd (R.remaining reader.new)) }
     ensures ended { IfOk result (λ end. end ≡ End.Eof → R.has_ended reader.new ≡ true) }
@@ -56,7 +56,7 @@ pub fn run_bytes_weighted<R: ByteIn, W: ByteOut>(
     writer: &mut W,
 ) -> Result<End, SessionFault>
     requires { IsMembers weights.now }
-    ensures answers { IfOk result (Answers (R.remaining reader.old) (R.remaining reader.new)
+    ensures answers { IfOk result (TellsAll (R.remaining reader.old) (R.remaining reader.new)
         (W.contents writer.old) (W.contents writer.new)) }
     ensures nothing_left { IfOk result (λ end. end ≡ End.Eof → IsAtEnd (R.remaining reader.new)) }
     ensures ended { IfOk result (λ end. end ≡ End.Eof → R.has_ended reader.new ≡ true) }

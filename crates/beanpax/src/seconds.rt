@@ -1,13 +1,11 @@
 ghost use Rattle.std.specs.Prelude.{◌≡◌, ◌↔◌, ◌+◌, ◌-◌, ◌*◌, ◌<◌, ◌≤◌, ◌^◌, None, IfNone, IfSome};
 ghost use Rattle.std.specs.Duration.{as_nanos};
 
+use hall::LAST_SECOND;
 use node_threads::Seconds;
 use std::rt::Clock;
 use std::thread;
 use std::time::{Duration, Instant};
-
-/// The last second that is given.
-const LAST_SECOND: u64 = 1 << 40;
 
 /// The seconds since a start: 1, 2, 3 and so on, none left out. Where one comes too late, the next
 /// ones come sooner.

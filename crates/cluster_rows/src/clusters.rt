@@ -4,7 +4,7 @@ use ballot::Members;
 use bean_queue::Queue;
 use chronicle::{CheckFault, ReadFault, What, check, read_text};
 use hall::Hall;
-use node_threads::{Accept, Ended, Faults, Gate, Seconds, run_cluster, run_cluster_faulty};
+use node_threads::{Accept, Ended, Gate, Mishaps, Seconds, run_cluster, run_cluster_with_mishaps};
 use session::Writing;
 use std::alloc::{AllocError, Global};
 use std::io::PipeWriter;
@@ -29,12 +29,12 @@ pub fn serve<R: Threads + Wait + Sync, G: Gate + Sync>(
 }
 
 /// These nodes and so many workers, 1 to 64, serve the clients that come, while mishaps befall the nodes.
-pub fn serve_faulty<
+pub fn serve_with_mishaps<
     R: Threads + Wait + Sync,
     A: Accept + Drop,
     T: Seconds + Send + Drop,
     G: Gate + Sync,
-    F: Faults + Sync,
+    F: Mishaps + Sync,
 >(
     rt: &R,
     alloc: Global,
@@ -43,7 +43,7 @@ pub fn serve_faulty<
     accept: A,
     seconds: T,
     gate: &G,
-    faults: &F,
+    mishaps: &F,
 ) -> Result<Ended<Queue, A>, AllocError> {
     let hall = Hall::new(alloc, members)?;
     let workers = if workers < 1 || workers > 64 {
@@ -51,7 +51,7 @@ pub fn serve_faulty<
     } else {
         workers
     };
-    Ok(run_cluster_faulty(rt, alloc, hall, accept, seconds, workers, gate, faults))
+    Ok(run_cluster_with_mishaps(rt, alloc, hall, accept, seconds, workers, gate, mishaps))
 }
 
 /// Whether nothing is wrong with the dump, and something is where the first command of session 1 has another answer.

@@ -1,5 +1,5 @@
 //! Gates that hold a thread until it is let go.
-use node_threads::{Actor, Faults, Gate, Mishap, Point};
+use node_threads::{Actor, Gate, Mishap, Mishaps, Point};
 use std::process::Abort;
 use std::sync::atomic::{AtomicBool, AtomicU64, Ordering};
 use std::thread;
@@ -149,7 +149,7 @@ impl Gate for HoldsChoice {
     }
 }
 
-impl Faults for HoldsChoice {
+impl Mishaps for HoldsChoice {
     fn choose(&self, node: u8, _turn: u64) -> Mishap {
         if node == self.node {
             self.hold.hold();

@@ -2,7 +2,7 @@
 ghost use Rattle.std.specs.Prelude.{false};
 
 use crate::clients::{Hasty, Queued, Served, connect, connect_once, told};
-use crate::clusters::{is_explained, serve_faulty};
+use crate::clusters::{is_explained, serve_with_mishaps};
 use crate::gates::{Bounded, Hold, HoldsChoice};
 use crate::held_rows::put_and_release;
 use crate::mishaps::{Counted, RestartsOnce};
@@ -21,7 +21,7 @@ const MOST_LOOKS: u64 = 100_000_000;
 #[derive(Drop)]
 struct AfterRestarts<'a> {
     clients: Vec<Served>,
-    faults: &'a Counted<RestartsOnce>,
+    mishaps: &'a Counted<RestartsOnce>,
     has_ended: bool,
 }
 
@@ -37,7 +37,7 @@ impl<'a> Accept for AfterRestarts<'a> {
     fn next(&mut self) -> Result<Option<Served>, Failed> {
         if self.clients.len() == 1 {
             for _ in 0..MOST_LOOKS {
-                if self.faults.restarts() == 3 {
+                if self.mishaps.restarts() == 3 {
                     break;
                 }
                 thread::yield_now();
@@ -76,14 +76,14 @@ fn nodes_restart_while_clients_put(rt: HostRuntime) -> Result<(), Fail> {
         is_stopped: &is_stopped,
     };
     let gate = Bounded::new(&rt, 10_000);
-    let faults = Counted::new(alloc, RestartsOnce)?;
+    let mishaps = Counted::new(alloc, RestartsOnce)?;
     let accept = AfterRestarts {
         clients,
-        faults: &faults,
+        mishaps: &mishaps,
         has_ended: false,
     };
     let members = Members::new(3).unwrap();
-    let ended = serve_faulty(&rt, alloc, members, 2, accept, seconds, &gate, &faults)?;
+    let ended = serve_with_mishaps(&rt, alloc, members, 2, accept, seconds, &gate, &mishaps)?;
     let mut ids = Vec::new(alloc);
     for from in puts {
         ids.push(inserted(told(alloc, from)?.as_slice()))?;
@@ -93,8 +93,8 @@ fn nodes_restart_while_clients_put(rt: HostRuntime) -> Result<(), Fail> {
     assert!(rt; ids.iter().copied().eq((1..=5).map(Some)));
     assert!(rt; ended.fault.is_none());
     assert!(rt; is_explained);
-    assert_eq!(rt; faults.restarts(), 3);
-    assert!(rt; faults.was_asked_in_turn(gate.turns_of_nodes()));
+    assert_eq!(rt; mishaps.restarts(), 3);
+    assert!(rt; mishaps.was_asked_in_turn(gate.turns_of_nodes()));
     Ok(())
 }
 
@@ -117,7 +117,7 @@ fn lock_held_while_choosing(rt: HostRuntime) -> Result<(), Fail> {
     let members = Members::new(3).unwrap();
     let (ended, heard) = thread::join(
         &rt,
-        || serve_faulty(
+        || serve_with_mishaps(
             &rt,
             alloc,
             members,

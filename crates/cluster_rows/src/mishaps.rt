@@ -1,5 +1,5 @@
 //! What befalls the nodes of a cluster, by their numbers and turns.
-use node_threads::{Faults, Mishap};
+use node_threads::{Mishap, Mishaps};
 use std::alloc::{AllocError, Global};
 use std::sync::atomic::{AtomicBool, AtomicU64, Ordering};
 
@@ -7,7 +7,7 @@ use std::sync::atomic::{AtomicBool, AtomicU64, Ordering};
 #[derive(Drop)]
 pub struct RestartsOnce;
 
-impl Faults for RestartsOnce {
+impl Mishaps for RestartsOnce {
     fn choose(&self, node: u8, turn: u64) -> Mishap {
         if turn == 20 * u64::from(node) {
             Mishap::Restart
@@ -23,7 +23,7 @@ impl Faults for RestartsOnce {
 #[derive(Drop)]
 pub struct RestartsAtFirst;
 
-impl Faults for RestartsAtFirst {
+impl Mishaps for RestartsAtFirst {
     fn choose(&self, _node: u8, turn: u64) -> Mishap {
         if turn <= 2 {
             Mishap::Restart
@@ -37,7 +37,7 @@ impl Faults for RestartsAtFirst {
 #[derive(Drop)]
 pub struct OthersRestart;
 
-impl Faults for OthersRestart {
+impl Mishaps for OthersRestart {
     fn choose(&self, node: u8, _turn: u64) -> Mishap {
         if node == 1 {
             Mishap::None
@@ -53,7 +53,7 @@ pub struct LosesUntil<'a> {
     pub goes: &'a AtomicBool,
 }
 
-impl<'a> Faults for LosesUntil<'a> {
+impl<'a> Mishaps for LosesUntil<'a> {
     fn choose(&self, node: u8, _turn: u64) -> Mishap {
         if node == 2 && !self.goes.load(Ordering::SeqCst) {
             Mishap::Lose
@@ -69,7 +69,7 @@ pub struct Drawn {
     pub seed: u64,
 }
 
-impl Faults for Drawn {
+impl Mishaps for Drawn {
     fn choose(&self, node: u8, turn: u64) -> Mishap {
         match draw(self.seed, node, turn) % 18 {
             0..=2 => Mishap::Lose,
@@ -150,7 +150,7 @@ impl<F: Drop> Counted<F> {
     }
 }
 
-impl<F: Faults + Drop> Faults for Counted<F> {
+impl<F: Mishaps + Drop> Mishaps for Counted<F> {
     fn choose(&self, node: u8, turn: u64) -> Mishap {
         self.note_turn(node, turn);
         let mishap = self.by.choose(node, turn);

@@ -1,10 +1,10 @@
 //! A put that isn't answered before a second has passed, because of what befell a node.
 use crate::clients::{Client, Queued, connect};
-use crate::clusters::{has_line, serve_faulty};
+use crate::clusters::{has_line, serve_with_mishaps};
 use crate::gates::Bounded;
 use crate::mishaps::{LosesUntil, RestartsAtFirst};
 use ballot::Members;
-use node_threads::{Faults, Seconds};
+use node_threads::{Mishaps, Seconds};
 use std::fs::Files;
 use std::process::Abort;
 use std::sync::Wait;
@@ -54,11 +54,11 @@ fn put(mut client: Client, is_stopped: &AtomicBool) -> bool {
 
 /// Whether a put at these nodes is answered, but not before a second has passed. The mishaps are told when the clock
 /// goes.
-fn is_late<R: Threads + Wait + Sync + Abort + Files + AllocGlobal, F: Faults + Sync>(
+fn is_late<R: Threads + Wait + Sync + Abort + Files + AllocGlobal, F: Mishaps + Sync>(
     rt: &R,
     members: Members,
     goes: &AtomicBool,
-    faults: &F,
+    mishaps: &F,
 ) -> Result<bool, Fail> {
     let alloc = rt.alloc();
     let (client, served) = connect(rt)?;
@@ -73,7 +73,7 @@ fn is_late<R: Threads + Wait + Sync + Abort + Files + AllocGlobal, F: Faults + S
     let gate = Bounded::new(rt, 10_000);
     let (ended, heard) = thread::join(
         rt,
-        || serve_faulty(
+        || serve_with_mishaps(
             rt,
             alloc,
             members,
@@ -81,7 +81,7 @@ fn is_late<R: Threads + Wait + Sync + Abort + Files + AllocGlobal, F: Faults + S
             Queued::new(clients),
             seconds,
             &gate,
-            faults,
+            mishaps,
         ),
         || put(client, &is_stopped),
     );

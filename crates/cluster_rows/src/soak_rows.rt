@@ -1,6 +1,6 @@
 //! Clients put, reserve and delete jobs while mishaps befall the nodes at a third of their turns.
 use crate::clients::{Client, Queued, Served, connect};
-use crate::clusters::{is_explained, serve_faulty};
+use crate::clusters::{is_explained, serve_with_mishaps};
 use crate::gates::Bounded;
 use crate::mishaps::{Counted, Drawn};
 use ballot::Members;
@@ -146,18 +146,20 @@ fn soak<R: Threads + Wait + Sync + Abort + Clock + Files + AllocGlobal>(
         gate: &gate,
         is_stopped: &is_stopped,
     };
-    let faults = Counted::new(alloc, Drawn { seed })?;
+    let mishaps = Counted::new(alloc, Drawn { seed })?;
     let accept = Queued::new(served);
     let (ended, ids) = thread::join(
         rt,
-        || serve_faulty(rt, alloc, members, workers, accept, seconds, &gate, &faults),
+        || serve_with_mishaps(
+            rt, alloc, members, workers, accept, seconds, &gate, &mishaps,
+        ),
         || deleted(rt, alloc, clients, &is_stopped),
     );
     let ended = ended?;
     Ok(Soaked {
         ids: ids?,
         is_right: ended.fault.is_none() && is_explained(alloc, &ended)?,
-        was_asked: faults.chose_each() && faults.was_asked_in_turn(gate.turns_of_nodes()),
+        was_asked: mishaps.chose_each() && mishaps.was_asked_in_turn(gate.turns_of_nodes()),
     })
 }
 

@@ -1,6 +1,6 @@
 //! Clients are answered where one node weighs as much as a majority, while the others restart all the time.
 use crate::clients::{Hasty, Queued, connect_once, told};
-use crate::clusters::{is_explained, serve_faulty};
+use crate::clusters::{is_explained, serve_with_mishaps};
 use crate::gates::Bounded;
 use crate::mishap_rows::inserted;
 use crate::mishaps::{Counted, OthersRestart};
@@ -25,10 +25,10 @@ fn others_restart_at_each_turn(rt: HostRuntime) -> Result<(), Fail> {
         is_stopped: &is_stopped,
     };
     let gate = Bounded::new(&rt, 100_000);
-    let faults = Counted::new(alloc, OthersRestart)?;
+    let mishaps = Counted::new(alloc, OthersRestart)?;
     let members = Members::weighted(&[3, 1, 1]).ok_or("no members")?;
     let accept = Queued::new(clients);
-    let ended = serve_faulty(&rt, alloc, members, 2, accept, seconds, &gate, &faults)?;
+    let ended = serve_with_mishaps(&rt, alloc, members, 2, accept, seconds, &gate, &mishaps)?;
     let mut ids = Vec::new(alloc);
     for from in puts {
         ids.push(inserted(told(alloc, from)?.as_slice()))?;
@@ -38,6 +38,6 @@ fn others_restart_at_each_turn(rt: HostRuntime) -> Result<(), Fail> {
     assert!(rt; ids.iter().copied().eq((1..=5).map(Some)));
     assert!(rt; ended.fault.is_none());
     assert!(rt; is_explained);
-    assert!(rt; faults.restarts() > 2);
+    assert!(rt; mishaps.restarts() > 2);
     Ok(())
 }

@@ -18,6 +18,7 @@ use crate::recorded::RecordedNetwork;
 use crate::ticket::Ticket;
 use ballot::Members;
 use object::Object;
+pub use refusing::LAST_SECOND;
 use std::alloc::{AllocError, Global};
 use std::marker::Model;
 

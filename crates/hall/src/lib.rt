@@ -11,6 +11,6 @@ mod recorded;
 mod ticket;
 
 pub use error::HallError;
-pub use hall::Hall;
+pub use hall::{Hall, LAST_SECOND};
 pub use laws::every_hall;
 pub use ticket::{NotedAct, Ticket};

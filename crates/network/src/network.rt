@@ -122,7 +122,7 @@ impl<O: Object> Network<O> {
         ensures unsaid { OnErr result (answers.new.items ≡ answers.old.items) }
     {
         let outcome = self.nodes[usize::from(id - 1)].act(deed, &mut self.fresh, answers)?;
-        self.settle();
+        self.sort_mail();
         Ok(outcome)
     }
 
@@ -148,7 +148,7 @@ impl<O: Object> Network<O> {
         };
         self.nodes[place].receive(letter.from, &letter.body, &mut self.fresh)?;
         self.mails[place].drop_front();
-        self.settle();
+        self.sort_mail();
         Ok(true)
     }
 
@@ -188,7 +188,7 @@ impl<O: Object> Network<O> {
     }
 
     // Moves what was sent to the back of its receivers' mail, as far as there is memory.
-    fn settle(&mut self)
+    fn sort_mail(&mut self)
         ensures { self.new ≡ self.old }
     {
         let _ = sort(self.alloc, &mut self.mails, &mut self.fresh);

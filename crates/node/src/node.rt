@@ -96,7 +96,7 @@ impl<O: Object> Node<O> {
     }
 
     /// Whether its leader is active.
-    pub fn leads(&self) -> bool
+    pub fn is_active(&self) -> bool
         ensures { result ≡ self.now.leader.active }
     {
         self.leader.is_active()

@@ -6,5 +6,5 @@ abbrev pub node_after : ℕ → ℕ → ℕ
 node_after nodes node = if nat_lt node nodes then node + 1 else 1
 
 -- the node of so many at which a second is handed in: one after the other
-abbrev pub node_at : ℕ → ℕ → ℕ
-node_at nodes second = second % nodes + 1
+abbrev pub node_of_second : ℕ → ℕ → ℕ
+node_of_second nodes second = second % nodes + 1

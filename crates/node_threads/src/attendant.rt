@@ -4,8 +4,8 @@ ghost use Rattle.hall.specs.declared.error.HallError.TheVariants.{OutOfMemory};
 ghost use Rattle.hall.specs.Tickets.{with_act, with_noted};
 
 use crate::bell::Patience;
-use crate::faults::Faults;
 use crate::gate::{Actor, Gate, Point};
+use crate::mishaps::Mishaps;
 use crate::shared::{HandedIn, Shared};
 use bean_queue::{Op, Reply};
 use hall::{HallError, Ticket};
@@ -20,7 +20,7 @@ pub(crate) struct Attendant<'a, O: Object, S: Ledger, C: Ledger, R, G, F> {
     pub(crate) rt: &'a R,
     pub(crate) shared: &'a Shared<O, S, C>,
     pub(crate) gate: &'a G,
-    pub(crate) faults: &'a F,
+    pub(crate) mishaps: &'a F,
     pub(crate) worker: u32,
     /// The node at which it hands in.
     pub(crate) node: u8,
@@ -38,7 +38,7 @@ impl<
     C: Ledger,
     R: Wait,
     G: Gate,
-    F: Faults,
+    F: Mishaps,
 > Service for Attendant<'a, O, S, C, R, G, F> {
     ghost use Rattle.node_threads.specs.Attending.{Adds, TakesLeave, attendance_of};
 
@@ -63,7 +63,7 @@ impl<
             match self.hand_in(Act::Close) {
                 Ok(_) => {
                     self.shared
-                        .leave(self.rt, self.gate, self.faults, self.worker);
+                        .leave(self.rt, self.gate, self.mishaps, self.worker);
                     return Ok(());
                 }
                 Err(ServiceFault::Refused) => std::thread::yield_now(),
@@ -74,7 +74,7 @@ impl<
     }
 }
 
-impl<'a, O: Object, S: Ledger, C: Ledger, R: Wait, G: Gate, F: Faults> Attendant<
+impl<'a, O: Object, S: Ledger, C: Ledger, R: Wait, G: Gate, F: Mishaps> Attendant<
     'a,
     O,
     S,
@@ -117,7 +117,7 @@ impl<'a, O: Object, S: Ledger, C: Ledger, R: Wait, G: Gate, F: Faults> Attendant
         let Ok(()) = self.shared.note_answer(
             self.rt,
             self.gate,
-            self.faults,
+            self.mishaps,
             &mut self.ticket,
             self.worker,
             handed_in,

@@ -8,8 +8,8 @@ ghost use Rattle.node_threads.specs.Attending.{Adds, TakesLeave, attendance_of};
 
 use crate::attendant::Attendant;
 use crate::bell::Patience;
-use crate::faults::Faults;
 use crate::gate::Gate;
+use crate::mishaps::Mishaps;
 use crate::shared::Shared;
 use crate::watched_reader::WatchedReader;
 use bean_queue::{Op, Reply};
@@ -45,7 +45,7 @@ pub fn attend<
     C: Ledger,
     R: Wait,
     G: Gate,
-    F: Faults,
+    F: Mishaps,
     I: ByteIn,
     W: ByteOut,
 >(
@@ -58,7 +58,7 @@ pub fn attend<
     writer: &mut W,
     desk: Desk,
     gate: &G,
-    faults: &F,
+    mishaps: &F,
 ) -> Attended<O, C, I>
     requires { commands.parts ≡ 1 }
     ensures one_part { result.commands.parts ≡ 1 }
@@ -120,7 +120,7 @@ pub fn attend<
         rt,
         shared,
         gate,
-        faults,
+        mishaps,
         worker: desk.worker,
         node: desk.node,
         ticket,

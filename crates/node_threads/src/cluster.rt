@@ -6,8 +6,8 @@ use crate::accept::Accept;
 use crate::clock::Seconds;
 use crate::cluster_error::ClusterError;
 use crate::comparing::are_its_tickets;
-use crate::faults::{Faults, NoFaults};
 use crate::gate::Gate;
+use crate::mishaps::{Mishaps, NoMishaps};
 use crate::places::WaitingPlaces;
 use crate::shared::Shared;
 use crate::staff::{Common, Door, Finished, run_threads};
@@ -61,16 +61,16 @@ pub fn run_cluster<
         A.has_failed result.accept ≡ A.has_failed accept }
     ensures failed { result.fault ≡ Some ListenFailed → A.has_failed result.accept ≡ true }
 {
-    run_cluster_faulty(rt, alloc, hall, accept, seconds, workers, gate, &NoFaults)
+    run_cluster_with_mishaps(rt, alloc, hall, accept, seconds, workers, gate, &NoMishaps)
 }
 
 /// Does the same while mishaps befall the nodes: before each turn of a node, whoever takes it, one is chosen.
-pub fn run_cluster_faulty<
+pub fn run_cluster_with_mishaps<
     O: Object<Op = Op, Reply = Reply> + Send,
     A: Accept + Drop,
     T: Seconds + Send + Drop,
     G: Gate + Sync,
-    F: Faults + Sync,
+    F: Mishaps + Sync,
     R: Threads + Wait + Sync,
 >(
     rt: &R,
@@ -80,7 +80,7 @@ pub fn run_cluster_faulty<
     seconds: T,
     workers: u32,
     gate: &G,
-    faults: &F,
+    mishaps: &F,
 ) -> Ended<O, A>
     requires none { hall.book ≡ [] }
     requires some { 1 ≤ workers }
@@ -107,7 +107,7 @@ pub fn run_cluster_faulty<
         accept,
         seconds,
         gate,
-        faults,
+        mishaps,
     };
     run_counted::<O, Brand, Brand, A, T, G, F, R>(
         rt,
@@ -158,7 +158,7 @@ struct Outside<'a, A, T, G, F> {
     accept: A,
     seconds: T,
     gate: &'a G,
-    faults: &'a F,
+    mishaps: &'a F,
 }
 
 // Runs the cluster over counts of sessions and of commands.
@@ -169,7 +169,7 @@ fn run_counted<
     A: Accept + Drop,
     T: Seconds + Send + Drop,
     G: Gate + Sync,
-    F: Faults + Sync,
+    F: Mishaps + Sync,
     R: Threads + Wait + Sync,
 >(
     rt: &R,
@@ -217,7 +217,7 @@ fn run_counted<
         shared: &shared,
         clients: &receiver,
         gate: outside.gate,
-        faults: outside.faults,
+        mishaps: outside.mishaps,
     };
     let door = Door {
         accept: outside.accept,

@@ -4,7 +4,7 @@ ghost use Rattle.hall.specs.Halls.{after_tick, with_nodes};
 ghost use Rattle.hall.specs.Recorded.{asked};
 ghost use Rattle.hall.specs.Tickets.{new_ticket, last_command, last_noted, with_act};
 
-use crate::faults::Mishap;
+use crate::mishaps::Mishap;
 use crate::turn::Watch;
 use hall::{Hall, HallError, Ticket};
 use object::{Act, Object};

@@ -1,5 +1,5 @@
 ghost use Rattle.std.specs.Prelude.{◌≡◌, ◌<◌, ◌≤◌, IfOk, vec_len};
-ghost use Rattle.node_threads.specs.Rings.{node_after, node_at};
+ghost use Rattle.node_threads.specs.Rings.{node_after, node_of_second};
 
 use crate::bell::{Bell, Patience};
 use crate::turn::Watch;
@@ -162,8 +162,8 @@ impl WaitingPlaces {
     }
 
     /// The node at which a second is handed in: second t at node 1 + t mod N of N nodes.
-    pub(crate) fn node_at(&self, second: u64) -> u8
-        ensures at { result ≡ node_at (vec_len self.now.nodes) second }
+    pub(crate) fn node_of_second(&self, second: u64) -> u8
+        ensures at { result ≡ node_of_second (vec_len self.now.nodes) second }
     {
         let place = second % self.nodes.len() as u64;
         place as u8 + 1

@@ -3,14 +3,14 @@ ghost use Rattle.hall.specs.declared.ticket.NotedAct.{NotedAct};
 ghost use Rattle.hall.specs.Halls.{after_tick, with_nodes};
 ghost use Rattle.hall.specs.Recorded.{asked};
 ghost use Rattle.hall.specs.Tickets.{new_ticket, last_command, last_noted, with_act, with_noted};
-ghost use Rattle.node_threads.specs.Rings.{node_after, node_at};
+ghost use Rattle.node_threads.specs.Rings.{node_after, node_of_second};
 
 mod helping;
 
 use crate::bell::Patience;
 use crate::counted_hall::CountedHall;
-use crate::faults::Faults;
 use crate::gate::Gate;
+use crate::mishaps::Mishaps;
 use crate::places::WaitingPlaces;
 use hall::{Hall, HallError, Ticket};
 use object::{Act, Object};
@@ -124,11 +124,11 @@ impl<O: Object, S: Ledger, C: Ledger> Shared<O, S, C> {
 
     /// Waits for the answer to a session's last command, and notes it in the ticket. At each second without one the
     /// command is handed in again, at the next node.
-    pub(crate) fn note_answer<R: Wait, G: Gate, F: Faults>(
+    pub(crate) fn note_answer<R: Wait, G: Gate, F: Mishaps>(
         &self,
         rt: &R,
         gate: &G,
-        faults: &F,
+        mishaps: &F,
         ticket: &mut Ticket<O>,
         worker: u32,
         handed_in: HandedIn,
@@ -140,11 +140,11 @@ impl<O: Object, S: Ledger, C: Ledger> Shared<O, S, C> {
     {
         let mut handed_in = handed_in;
         for _ in rt.forever() {
-            if !self.help(rt, gate, faults, worker, handed_in.work) {
+            if !self.help(rt, gate, mishaps, worker, handed_in.work) {
                 self.places.wait_as_worker(rt, worker, patience);
             }
             if self.look_for_answer(rt, ticket, &mut handed_in)? {
-                self.tidy(rt, gate, faults, worker);
+                self.tidy(rt, gate, mishaps, worker);
                 return Ok(());
             }
         }
@@ -182,10 +182,10 @@ impl<O: Object, S: Ledger, C: Ledger> Shared<O, S, C> {
     // Hands in a second of the clock, at the node whose turn it is.
     fn hand_in_second(&self, hall: &mut CountedHall<O, S, C>, second: u64) -> Result<(), HallError>
         ensures ok { OnOk result (hall.new.hall ≡ after_tick O.rules hall.old.hall
-            (node_at (vec_len self.now.places.nodes) second) second) }
+            (node_of_second (vec_len self.now.places.nodes) second) second) }
         ensures err { OnErr result (hall.new.hall ≡ hall.old.hall) }
     {
-        hall.tick(second, self.places.node_at(second))
+        hall.tick(second, self.places.node_of_second(second))
     }
 
     // Looks once for the answer, and hands in again where a second has passed.

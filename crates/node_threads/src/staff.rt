@@ -5,8 +5,8 @@ use crate::accept::Accept;
 use crate::attending::Desk;
 use crate::clock::{Seconds, run_clock};
 use crate::cluster_error::ClusterError;
-use crate::faults::Faults;
 use crate::gate::Gate;
+use crate::mishaps::Mishaps;
 use crate::node_thread::run_node;
 use crate::shared::Shared;
 use crate::tally::Tally;
@@ -29,7 +29,7 @@ pub(crate) struct Common<'s, O: Object, S: Ledger, C: Ledger, I, W, R, G, F> {
     pub(crate) shared: &'s Shared<O, S, C>,
     pub(crate) clients: &'s Receiver<(I, W), Global>,
     pub(crate) gate: &'s G,
-    pub(crate) faults: &'s F,
+    pub(crate) mishaps: &'s F,
 }
 
 impl<
@@ -41,7 +41,7 @@ impl<
     W: ByteOut + Drop,
     R: Wait,
     G: Gate,
-    F: Faults,
+    F: Mishaps,
 > Common<'s, O, S, C, I, W, R, G, F> {
     // What the thread of a worker does.
     fn work(&self, worker: Worker<O, S, C>, desk: Desk) -> Worker<O, S, C> {
@@ -52,7 +52,7 @@ impl<
             self.clients,
             desk,
             self.gate,
-            self.faults,
+            self.mishaps,
         )
     }
 
@@ -138,7 +138,7 @@ pub(crate) fn run_threads<
     T: Seconds + Send + Drop + 's,
     R: Threads + Wait + Sync,
     G: Gate + Sync,
-    F: Faults + Sync,
+    F: Mishaps + Sync,
 >(
     common: &'s Common<'s, O, S, C, A::R, A::W, R, G, F>,
     nodes: u8,
@@ -215,7 +215,7 @@ fn start_nodes_and_clock<
     T: Seconds + Send + Drop + 's,
     R: Wait + Sync,
     G: Gate + Sync,
-    F: Faults + Sync,
+    F: Mishaps + Sync,
 >(
     scope: &Scope<'s, E>,
     common: &'s Common<'s, O, S, C, I, W, R, G, F>,
@@ -231,12 +231,12 @@ fn start_nodes_and_clock<
         rt,
         shared,
         gate,
-        faults,
+        mishaps,
         ..
     } = common;
     for before in 0..nodes {
         let node = before + 1;
-        let Ok(thread) = scope.spawn(move || run_node(*rt, *shared, node, *gate, *faults)) else {
+        let Ok(thread) = scope.spawn(move || run_node(*rt, *shared, node, *gate, *mishaps)) else {
             return Err(ClusterError::ThreadFailed);
         };
         crew.push_reserved(thread);
@@ -258,7 +258,7 @@ fn run_workers<
     A: Accept + Drop,
     R: Threads + Wait + Sync,
     G: Gate + Sync,
-    F: Faults + Sync,
+    F: Mishaps + Sync,
 >(
     scope: &Scope<'s, E>,
     common: &'s Common<'s, O, S, C, A::R, A::W, R, G, F>,
@@ -299,13 +299,13 @@ fn run_workers<
         Ok(handle) => {
             let next = common.desk_after(desk);
             let mut finished = run_workers(scope, common, next, workers, tally, door);
-            finished.tally.take_back(handle.join(common.rt));
+            finished.tally.take_in(handle.join(common.rt));
             finished
         }
         Err(refused) => {
             let accept = door.shut();
             let work = refused.value;
-            tally.take_back(work());
+            tally.take_in(work());
             Finished {
                 tally,
                 accept,

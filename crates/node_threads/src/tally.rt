@@ -57,7 +57,7 @@ impl<O: Object, S: Ledger, C: Ledger> Tally<O, S, C> {
     }
 
     /// A worker comes back with its tickets.
-    pub(crate) fn take_back(&mut self, worker: Worker<O, S, C>)
+    pub(crate) fn take_in(&mut self, worker: Worker<O, S, C>)
         requires room { vec_len self.old.tickets < vec_capacity self.old.tickets }
         ensures count { vec_len self.new.tickets ≡ vec_len self.old.tickets + 1 }
         ensures room { vec_capacity self.new.tickets ≡ vec_capacity self.old.tickets }

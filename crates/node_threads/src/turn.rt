@@ -6,9 +6,9 @@ ghost use Rattle.network.specs.Networks.{mail_of, front};
 ghost use Rattle.hall.specs.Recorded.{done, without_front_letter, repeated};
 ghost use Rattle.hall.specs.Halls.{with_nodes};
 ghost use Rattle.hall.specs.Refusals.{node_refusal};
-ghost use Rattle.node_threads.specs.declared.faults.Mishap.TheVariants as mishaps;
+ghost use Rattle.node_threads.specs.declared.mishaps.Mishap.TheVariants as mishaps;
 
-use crate::faults::Mishap;
+use crate::mishaps::Mishap;
 use ballot::Slot;
 use hall::{Hall, HallError};
 use object::Object;

@@ -12,7 +12,7 @@ use Rattle.job_store.specs.EntryLaws.{value_at-In, value_at-found, value_at-belo
 use Rattle.job_store.specs.Least.{least}
 use Rattle.session_store.specs.declared.session.SessionState.{SessionState}
 use Rattle.session_store.specs.declared.session.Wait.{Wait}
-use Rattle.session_store.specs.declared.place.Place.{Place}
+use Rattle.session_store.specs.declared.place.LinePlace.{LinePlace}
 use Rattle.session_store.specs.declared.time_outs.TimeOuts.{TimeOuts}
 use Rattle.session_store.specs.Sessions.{new_session, session_of, is_waiting, wait_rank, has_timed_out, first_waiting}
 use Rattle.session_store.specs.Lines.{line_cmp, place, IsIn, time_out_place, places_by, StandsByTimeOut, EachStands, over_at}
@@ -34,13 +34,13 @@ over_waits : (second : ℕ) (wait : Option Wait) → has_timed_out second wait �
 over_waits second None e = e
 over_waits second (Some w) e = refl
 
-over-at : (second : ℕ) (sessions : List (ℕ × SessionState)) (p : Place) (c : SessionState) → value_at p.session sessions ≡ Some c → has_timed_out second c.wait ≡ true → over_at second sessions p ≡ Some (p.session, c)
+over-at : (second : ℕ) (sessions : List (ℕ × SessionState)) (p : LinePlace) (c : SessionState) → value_at p.session sessions ≡ Some c → has_timed_out second c.wait ≡ true → over_at second sessions p ≡ Some (p.session, c)
 over-at second sessions p c there over =
     let seen : Option SessionState → Option (ℕ × SessionState) = λ o. elim o as (λ _. Option (ℕ × SessionState)) [ None ↦ None | Some s ↦ cond (has_timed_out second s.wait) (Some (p.session, s)) None ] in
     ap seen there ∙ cond-true (has_timed_out second c.wait) (Some (p.session, c)) None over
 
 -- who is seen at a place is there, and its wait is over
-over-from : (second : ℕ) (sessions : List (ℕ × SessionState)) (p : Place) (e : ℕ × SessionState) → over_at second sessions p ≡ Some e → In e sessions × (has_timed_out second e.1.wait ≡ true)
+over-from : (second : ℕ) (sessions : List (ℕ × SessionState)) (p : LinePlace) (e : ℕ × SessionState) → over_at second sessions p ≡ Some e → In e sessions × (has_timed_out second e.1.wait ≡ true)
 over-from second sessions p e seen =
     elim (value_at p.session sessions) as (λ o. value_at p.session sessions ≡ o → (elim o as (λ o. Option (ℕ × SessionState)) [ None ↦ None | Some s ↦ cond (has_timed_out second s.wait) (Some (p.session, s)) None ]) ≡ Some e → In e sessions × (has_timed_out second e.1.wait ≡ true)) [
       | None ↦ λ v h. cc
@@ -55,13 +55,13 @@ over-from second sessions p e seen =
           ] refl
     ] refl seen
 
-over_by : (second x : ℕ) (time_out : Option ℕ) (line : BTreeSet Place) → x < 2 ^ 32 → IfSome (option_map (λ s. place s x) time_out) (IsIn line) → has_ended second time_out ≡ true → (p : Place) × In p (places_by second line) × (p.session ≡ x)
+over_by : (second x : ℕ) (time_out : Option ℕ) (line : BTreeSet LinePlace) → x < 2 ^ 32 → IfSome (option_map (λ s. place s x) time_out) (IsIn line) → has_ended second time_out ≡ true → (p : LinePlace) × In p (places_by second line) × (p.session ≡ x)
 over_by second x None line below h e = cc
 over_by second x (Some s) line below h e =
     (place s x, filtered-in (range_contains line_cmp Unbounded (Included (place second 4294967295))) (place s x) line.keys (in_keys (place s x) line.keys h) (up_to second s x below (leb-true s second e)), refl)
 
 -- the place of a wait that is over by the second stands among the places up to it
-over_in : (second x : ℕ) (wait : Option Wait) (line : BTreeSet Place) → x < 2 ^ 32 → IfSome (time_out_place x wait) (IsIn line) → has_timed_out second wait ≡ true → (p : Place) × In p (places_by second line) × (p.session ≡ x)
+over_in : (second x : ℕ) (wait : Option Wait) (line : BTreeSet LinePlace) → x < 2 ^ 32 → IfSome (time_out_place x wait) (IsIn line) → has_timed_out second wait ≡ true → (p : LinePlace) × In p (places_by second line) × (p.session ≡ x)
 over_in second x None line below h e = cc
 over_in second x (Some w) line below h e = over_by second x w.time_out line below h e
 
@@ -81,17 +81,17 @@ over_found second sessions time_outs r complete =
 
 -- Places that are left
 
-time_out_of : (x : ℕ) (time_out : Option ℕ) (p : Place) → option_map (λ s. place s x) time_out ≡ Some p → p.session ≡ x
+time_out_of : (x : ℕ) (time_out : Option ℕ) (p : LinePlace) → option_map (λ s. place s x) time_out ≡ Some p → p.session ≡ x
 time_out_of x None p e = cc
-time_out_of x (Some s) p e = ap (λ (q : Place). q.session) (sym (some_place (place s x) p e))
+time_out_of x (Some s) p e = ap (λ (q : LinePlace). q.session) (sym (some_place (place s x) p e))
 
 -- whose place it is
-pub time_out_place-of : (x : ℕ) (wait : Option Wait) (p : Place) → time_out_place x wait ≡ Some p → p.session ≡ x
+pub time_out_place-of : (x : ℕ) (wait : Option Wait) (p : LinePlace) → time_out_place x wait ≡ Some p → p.session ≡ x
 time_out_place-of x None p e = cc
 time_out_place-of x (Some w) p e = time_out_of x w.time_out p e
 
 -- a place at which nobody stands is taken out
-pub late-left : (x : ℕ) (k : Place) (time_outs time_outs' : TimeOuts) (sessions : List (ℕ × SessionState)) → Rising 0 (2 ^ 32) sessions → k.session ≡ x → (time_out_place x (session_of x sessions).wait ≡ Some k → ⊥) → ((p : Place) → contains line_cmp time_outs'.line p ≡ cond (is_at (line_cmp k) p) false (contains line_cmp time_outs.line p)) → EachStands (StandsByTimeOut time_outs) sessions → EachStands (StandsByTimeOut time_outs') sessions
+pub late-left : (x : ℕ) (k : LinePlace) (time_outs time_outs' : TimeOuts) (sessions : List (ℕ × SessionState)) → Rising 0 (2 ^ 32) sessions → k.session ≡ x → (time_out_place x (session_of x sessions).wait ≡ Some k → ⊥) → ((p : LinePlace) → contains line_cmp time_outs'.line p ≡ cond (is_at (line_cmp k) p) false (contains line_cmp time_outs.line p)) → EachStands (StandsByTimeOut time_outs) sessions → EachStands (StandsByTimeOut time_outs') sessions
 late-left x k time_outs time_outs' sessions r whose gone updates h =
     λ e i.
     elim (time_out_place e.0 e.1.wait) as (λ o. time_out_place e.0 e.1.wait ≡ o → IfSome o (IsIn time_outs.line) → IfSome o (IsIn time_outs'.line)) [
@@ -99,7 +99,7 @@ late-left x k time_outs time_outs' sessions r whose gone updates h =
       | Some p ↦ λ at there.
           stays_but k p time_outs.line time_outs'.line (updates p)
           (λ same.
-          let who : e.0 ≡ x = sym (time_out_place-of e.0 e.1.wait p at) ∙ ap (λ (q : Place). q.session) (sym same) ∙ whose in
+          let who : e.0 ≡ x = sym (time_out_place-of e.0 e.1.wait p at) ∙ ap (λ (q : LinePlace). q.session) (sym same) ∙ whose in
           let found : value_at x sessions ≡ Some e.1 = ap (λ q. value_at q sessions) (sym who) ∙ value_at-In 0 (2 ^ 32) sessions e r i in
           gone (ap (λ o. time_out_place x (unwrap_or o new_session).wait) found ∙ ap (λ q. time_out_place q e.1.wait) (sym who) ∙ at ∙ ap Some (sym same)))
           there

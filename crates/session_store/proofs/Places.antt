@@ -10,7 +10,7 @@ use Rattle.std.specs.BTreeSet.{BTreeSet, contains}
 use Rattle.std.proofs.lemmas.Bool.{and_from, or_cases}
 use Rattle.std.proofs.lemmas.Map.Lookups.{exact_unsigned}
 use Rattle.object.specs.Lists.{In}
-use Rattle.session_store.specs.declared.place.Place.{Place}
+use Rattle.session_store.specs.declared.place.LinePlace.{LinePlace}
 use Rattle.session_store.specs.Lines.{line_cmp, IsIn, HasAll}
 
 then_equal : (a b : Ordering) → ordering_then a b ≡ Equal → (a ≡ Equal) × (b ≡ Equal)
@@ -23,14 +23,14 @@ at_equal Less e = cc
 at_equal Equal e = refl
 at_equal Greater e = cc
 
-pub same_place : (p q : Place) → is_at (line_cmp p) q ≡ true → p ≡ q
+pub same_place : (p q : LinePlace) → is_at (line_cmp p) q ≡ true → p ≡ q
 same_place p q e =
     let both = then_equal (nat_cmp p.order q.order) (nat_cmp p.session q.session) (at_equal (line_cmp p q) e) in
     let o : p.order ≡ q.order = exact_unsigned p.order q.order both.0 in
     let s : p.session ≡ q.session = exact_unsigned p.session q.session both.1 in
     λ i. record { order = o i; session = s i }
 
-pub in_keys : (p : Place) (ks : List Place) → list_any (is_at (line_cmp p)) ks ≡ true → In p ks
+pub in_keys : (p : LinePlace) (ks : List LinePlace) → list_any (is_at (line_cmp p)) ks ≡ true → In p ks
 in_keys p [] e = cc
 in_keys p (k ∷ ks) e =
     elim (or_cases (is_at (line_cmp p) k) (list_any (is_at (line_cmp p)) ks) e) as (λ v. In p (k ∷ ks)) [
@@ -39,25 +39,25 @@ in_keys p (k ∷ ks) e =
     ]
 
 -- a place stays in a line to which one is added
-pub stays : (k p : Place) (line line' : BTreeSet Place) → contains line_cmp line' p ≡ cond (is_at (line_cmp k) p) true (contains line_cmp line p) → IsIn line p → IsIn line' p
+pub stays : (k p : LinePlace) (line line' : BTreeSet LinePlace) → contains line_cmp line' p ≡ cond (is_at (line_cmp k) p) true (contains line_cmp line p) → IsIn line p → IsIn line' p
 stays k p line line' e h = e ∙ elim (is_at (line_cmp k) p) as (λ b. cond b true (contains line_cmp line p) ≡ true) [ true ↦ refl | false ↦ h ]
 
 -- and in a line from which another one is taken
-pub stays_but : (k p : Place) (line line' : BTreeSet Place) → contains line_cmp line' p ≡ cond (is_at (line_cmp k) p) false (contains line_cmp line p) → (k ≡ p → ⊥) → IsIn line p → IsIn line' p
+pub stays_but : (k p : LinePlace) (line line' : BTreeSet LinePlace) → contains line_cmp line' p ≡ cond (is_at (line_cmp k) p) false (contains line_cmp line p) → (k ≡ p → ⊥) → IsIn line p → IsIn line' p
 stays_but k p line line' e apart h =
     e ∙
     elim (is_at (line_cmp k) p) as (λ b. is_at (line_cmp k) p ≡ b → cond b false (contains line_cmp line p) ≡ true) [ true ↦ λ t. absurd (apart (same_place k p t)) | false ↦ λ t. h ] refl
 
-pub some_place : (p q : Place) → Some p ≡ Some q → p ≡ q
+pub some_place : (p q : LinePlace) → Some p ≡ Some q → p ≡ q
 some_place p q e = cc
 
 -- what a test has shown to be another place
-pub another : (o : Option Place) (k : Place) → true ≡ not (option_eq (λ (p q : Place). p.order == q.order && p.session == q.session) o (Some k)) → o ≡ Some k → ⊥
+pub another : (o : Option LinePlace) (k : LinePlace) → true ≡ not (option_eq (λ (p q : LinePlace). p.order == q.order && p.session == q.session) o (Some k)) → o ≡ Some k → ⊥
 another o k t same =
-    let t : true ≡ not (k.order == k.order && k.session == k.session) = subst (λ o. true ≡ not (option_eq (λ (p q : Place). p.order == q.order && p.session == q.session) o (Some k))) same t in
+    let t : true ≡ not (k.order == k.order && k.session == k.session) = subst (λ o. true ≡ not (option_eq (λ (p q : LinePlace). p.order == q.order && p.session == q.session) o (Some k))) same t in
     true≢false (t ∙ ap not (and_from (k.order == k.order) (k.session == k.session) (eq-eqb k.order k.order refl) (eq-eqb k.session k.session refl)))
 
 -- a place is in a line that has all of another
-pub some_in : (line line' : BTreeSet Place) (o : Option Place) → HasAll line line' → IfSome o (IsIn line) → IfSome o (IsIn line')
+pub some_in : (line line' : BTreeSet LinePlace) (o : Option LinePlace) → HasAll line line' → IfSome o (IsIn line) → IfSome o (IsIn line')
 some_in line line' None more h = tt
 some_in line line' (Some p) more h = more p h

@@ -18,7 +18,7 @@ use Rattle.job_store.specs.Least.{ComesBefore, IsLeast}
 use Rattle.job_store.proofs.Least.{least-found, least-only}
 use Rattle.session_store.specs.declared.session.SessionState.{SessionState}
 use Rattle.session_store.specs.declared.session.Wait.{Wait}
-use Rattle.session_store.specs.declared.place.Place.{Place}
+use Rattle.session_store.specs.declared.place.LinePlace.{LinePlace}
 use Rattle.session_store.specs.declared.tube_lines.TubeLines.{TubeLines}
 use Rattle.session_store.specs.Sessions.{is_waiting, wait_rank, first_waiting}
 use Rattle.session_store.specs.Lines.{line_cmp, place, IsIn, rank_place, tube_line, StandsByTubes, EachStands, waiter_at}
@@ -33,7 +33,7 @@ same_tube : (tube t : List ℕ) → is_at (slice_cmp nat_cmp tube) t ≡ true �
 same_tube tube t e = exact_bytes tube t (at_equal (slice_cmp nat_cmp tube t) e)
 
 -- the line of a tube is the one that was written for it, or as it was
-written : (tube t : List ℕ) (tubes tubes' : TubeLines) (w : Option (BTreeSet Place)) → get (slice_cmp nat_cmp) tubes'.lines t ≡ cond (is_at (slice_cmp nat_cmp tube) t) w (get (slice_cmp nat_cmp) tubes.lines t) → ((tube ≡ t) × (tube_line t tubes' ≡ unwrap_or w (record { keys = [] }))) ⊎ (tube_line t tubes' ≡ tube_line t tubes)
+written : (tube t : List ℕ) (tubes tubes' : TubeLines) (w : Option (BTreeSet LinePlace)) → get (slice_cmp nat_cmp) tubes'.lines t ≡ cond (is_at (slice_cmp nat_cmp tube) t) w (get (slice_cmp nat_cmp) tubes.lines t) → ((tube ≡ t) × (tube_line t tubes' ≡ unwrap_or w (record { keys = [] }))) ⊎ (tube_line t tubes' ≡ tube_line t tubes)
 written tube t tubes tubes' w e =
     elim (is_at (slice_cmp nat_cmp tube) t) as (λ b. is_at (slice_cmp nat_cmp tube) t ≡ b → get (slice_cmp nat_cmp) tubes'.lines t ≡ cond b w (get (slice_cmp nat_cmp) tubes.lines t) → ((tube ≡ t) × (tube_line t tubes' ≡ unwrap_or w (record { keys = [] }))) ⊎ (tube_line t tubes' ≡ tube_line t tubes)) [
       | true ↦ λ a e. inl (same_tube tube t a, ap (λ o. unwrap_or o (record { keys = [] })) e)
@@ -41,45 +41,45 @@ written tube t tubes tubes' w e =
     ] refl e
 
 -- what is in the line of a tube is so afterwards, if the line that is written has it
-pub line-kept : (tube t : List ℕ) (p : Place) (tubes tubes' : TubeLines) (w : Option (BTreeSet Place)) → get (slice_cmp nat_cmp) tubes'.lines t ≡ cond (is_at (slice_cmp nat_cmp tube) t) w (get (slice_cmp nat_cmp) tubes.lines t) → (t ≡ tube → IsIn (tube_line tube tubes) p → IsIn (unwrap_or w (record { keys = [] })) p) → IsIn (tube_line t tubes) p → IsIn (tube_line t tubes') p
+pub line-kept : (tube t : List ℕ) (p : LinePlace) (tubes tubes' : TubeLines) (w : Option (BTreeSet LinePlace)) → get (slice_cmp nat_cmp) tubes'.lines t ≡ cond (is_at (slice_cmp nat_cmp tube) t) w (get (slice_cmp nat_cmp) tubes.lines t) → (t ≡ tube → IsIn (tube_line tube tubes) p → IsIn (unwrap_or w (record { keys = [] })) p) → IsIn (tube_line t tubes) p → IsIn (tube_line t tubes') p
 line-kept tube t p tubes tubes' w e kept h =
     elim (written tube t tubes tubes' w e) as (λ v. IsIn (tube_line t tubes') p) [
       | inl here ↦ subst (λ l. IsIn l p) (sym here.1) (kept (sym here.0) (subst (λ u. IsIn (tube_line u tubes) p) (sym here.0) h))
       | inr apart ↦ subst (λ l. IsIn l p) (sym apart) h
     ]
 
-found-line : (tube : List ℕ) (tubes : TubeLines) (line : BTreeSet Place) → get (slice_cmp nat_cmp) tubes.lines tube ≡ Some line → tube_line tube tubes ≡ line
+found-line : (tube : List ℕ) (tubes : TubeLines) (line : BTreeSet LinePlace) → get (slice_cmp nat_cmp) tubes.lines tube ≡ Some line → tube_line tube tubes ≡ line
 found-line tube tubes line e = ap (λ o. unwrap_or o (record { keys = [] })) e
 
 no-line : (tube : List ℕ) (tubes : TubeLines) → get (slice_cmp nat_cmp) tubes.lines tube ≡ None → tube_line tube tubes ≡ record { keys = [] }
 no-line tube tubes e = ap (λ o. unwrap_or o (record { keys = [] })) e
 
 -- the same of what is written through a reference to the line
-pub line-put : (tube t : List ℕ) (p : Place) (tubes tubes' : TubeLines) (line line' : BTreeSet Place) → Some line ≡ get (slice_cmp nat_cmp) tubes.lines tube → WritesThrough (slice_cmp nat_cmp) (slice_cmp nat_cmp tube) tubes.lines line' tubes'.lines → (t ≡ tube → IsIn line p → IsIn line' p) → IsIn (tube_line t tubes) p → IsIn (tube_line t tubes') p
+pub line-put : (tube t : List ℕ) (p : LinePlace) (tubes tubes' : TubeLines) (line line' : BTreeSet LinePlace) → Some line ≡ get (slice_cmp nat_cmp) tubes.lines tube → WritesThrough (slice_cmp nat_cmp) (slice_cmp nat_cmp tube) tubes.lines line' tubes'.lines → (t ≡ tube → IsIn line p → IsIn line' p) → IsIn (tube_line t tubes) p → IsIn (tube_line t tubes') p
 line-put tube t p tubes tubes' line line' value writes kept h =
     line-kept tube t p tubes tubes' (Some line') ((writes.3 (subst (λ o. IsSome o) value refl)).0 t) (λ same old. kept same (subst (λ l. IsIn l p) (found-line tube tubes line (sym value)) old)) h
 
 -- and of a line that is new
-pub line-new : (tube tube' t : List ℕ) (p : Place) (tubes tubes' : TubeLines) (lines : BTreeMap (List ℕ) (BTreeSet Place)) (line : BTreeSet Place) → tube' ≡ tube → lines ≡ tubes.lines → get (slice_cmp nat_cmp) tubes'.lines t ≡ cond (is_at (slice_cmp nat_cmp tube') t) (Some line) (get (slice_cmp nat_cmp) lines t) → None ≡ get (slice_cmp nat_cmp) tubes.lines tube → IsIn (tube_line t tubes) p → IsIn (tube_line t tubes') p
+pub line-new : (tube tube' t : List ℕ) (p : LinePlace) (tubes tubes' : TubeLines) (lines : BTreeMap (List ℕ) (BTreeSet LinePlace)) (line : BTreeSet LinePlace) → tube' ≡ tube → lines ≡ tubes.lines → get (slice_cmp nat_cmp) tubes'.lines t ≡ cond (is_at (slice_cmp nat_cmp tube') t) (Some line) (get (slice_cmp nat_cmp) lines t) → None ≡ get (slice_cmp nat_cmp) tubes.lines tube → IsIn (tube_line t tubes) p → IsIn (tube_line t tubes') p
 line-new tube tube' t p tubes tubes' lines line copied same updates none h =
     line-kept tube t p tubes tubes' (Some line)
     (updates ∙ ap₂ (λ n m. cond (is_at (slice_cmp nat_cmp n) t) (Some line) (get (slice_cmp nat_cmp) m t)) copied same)
     (λ _ old. absurd (true≢false (sym (subst (λ l. IsIn l p) (no-line tube tubes (sym none)) old)))) h
 
 -- nothing is in an empty line
-pub empty-line : (p : Place) (line : BTreeSet Place) → line.keys ≡ [] → IsIn line p → IsIn (record { keys = [] }) p
+pub empty-line : (p : LinePlace) (line : BTreeSet LinePlace) → line.keys ≡ [] → IsIn line p → IsIn (record { keys = [] }) p
 empty-line p line none h = subst (λ ks. list_any (is_at (line_cmp p)) ks ≡ true) none h
 
 -- Who stands at a place
 
-standing-at : (tube : List ℕ) (sessions : List (ℕ × SessionState)) (p : Place) (c : SessionState) → value_at p.session sessions ≡ Some c → is_waiting c ≡ true → is_among tube c.watched ≡ true → wait_rank c ≡ p.order → waiter_at tube sessions p ≡ Some (p.session, c)
+standing-at : (tube : List ℕ) (sessions : List (ℕ × SessionState)) (p : LinePlace) (c : SessionState) → value_at p.session sessions ≡ Some c → is_waiting c ≡ true → is_among tube c.watched ≡ true → wait_rank c ≡ p.order → waiter_at tube sessions p ≡ Some (p.session, c)
 standing-at tube sessions p c there waits watches rank =
     let seen : Option SessionState → Option (ℕ × SessionState) = λ o. elim o as (λ _. Option (ℕ × SessionState)) [ None ↦ None | Some s ↦ cond (is_waiting s && is_among tube s.watched && wait_rank s == p.order) (Some (p.session, s)) None ] in
     ap seen there ∙
     cond-true (is_waiting c && is_among tube c.watched && wait_rank c == p.order) (Some (p.session, c)) None
     (and_from (is_waiting c && is_among tube c.watched) (wait_rank c == p.order) (and_from (is_waiting c) (is_among tube c.watched) waits watches) (eq-eqb (wait_rank c) p.order rank))
 
-standing-from : (tube : List ℕ) (sessions : List (ℕ × SessionState)) (p : Place) (e : ℕ × SessionState) → waiter_at tube sessions p ≡ Some e → In e sessions × ((is_waiting e.1 && is_among tube e.1.watched) ≡ true) × (wait_rank e.1 ≡ p.order) × (e.0 ≡ p.session)
+standing-from : (tube : List ℕ) (sessions : List (ℕ × SessionState)) (p : LinePlace) (e : ℕ × SessionState) → waiter_at tube sessions p ≡ Some e → In e sessions × ((is_waiting e.1 && is_among tube e.1.watched) ≡ true) × (wait_rank e.1 ≡ p.order) × (e.0 ≡ p.session)
 standing-from tube sessions p e seen =
     elim (value_at p.session sessions) as (λ o. value_at p.session sessions ≡ o → (elim o as (λ o. Option (ℕ × SessionState)) [ None ↦ None | Some s ↦ cond (is_waiting s && is_among tube s.watched && wait_rank s == p.order) (Some (p.session, s)) None ]) ≡ Some e → In e sessions × ((is_waiting e.1 && is_among tube e.1.watched) ≡ true) × (wait_rank e.1 ≡ p.order) × (e.0 ≡ p.session)) [
       | None ↦ λ v h. cc
@@ -100,13 +100,13 @@ waiting_place_of : (x : ℕ) (wait : Option Wait) → is_some wait ≡ true → 
 waiting_place_of x None e = cc
 waiting_place_of x (Some w) e = refl
 
-some_place_of : (x : ℕ) (wait : Option Wait) (p : Place) → rank_place x wait ≡ Some p → (is_some wait ≡ true) × ((elim wait as (λ _. ℕ) [ None ↦ 0 | Some w ↦ w.rank ]) ≡ p.order) × (p.session ≡ x)
+some_place_of : (x : ℕ) (wait : Option Wait) (p : LinePlace) → rank_place x wait ≡ Some p → (is_some wait ≡ true) × ((elim wait as (λ _. ℕ) [ None ↦ 0 | Some w ↦ w.rank ]) ≡ p.order) × (p.session ≡ x)
 some_place_of x None p e = cc
 some_place_of x (Some w) p e =
     let it : place w.rank x ≡ p = some_place (place w.rank x) p e in
-    (refl, ap (λ (q : Place). q.order) it, ap (λ (q : Place). q.session) (sym it))
+    (refl, ap (λ (q : LinePlace). q.order) it, ap (λ (q : LinePlace). q.session) (sym it))
 
-rank_place-of : (x : ℕ) (c : SessionState) (p : Place) → rank_place x c.wait ≡ Some p → (is_waiting c ≡ true) × (wait_rank c ≡ p.order) × (p.session ≡ x)
+rank_place-of : (x : ℕ) (c : SessionState) (p : LinePlace) → rank_place x c.wait ≡ Some p → (is_waiting c ≡ true) × (wait_rank c ≡ p.order) × (p.session ≡ x)
 rank_place-of x c p e = some_place_of x c.wait p e
 
 none_some : (e : ℕ × SessionState) → None ≡ Some e → ⊥
@@ -128,7 +128,7 @@ waiting-place x c e = waiting_place_of x c.wait e
 seen-in : (tube : List ℕ) (sessions : List (ℕ × SessionState)) (tubes : TubeLines) → Rising 0 (2 ^ 32) sessions → EachStands (StandsByTubes tubes) sessions → (e : ℕ × SessionState) → In e sessions → (is_waiting e.1 && is_among tube e.1.watched) ≡ true → In e (filter_map (waiter_at tube sessions) (tube_line tube tubes).keys)
 seen-in tube sessions tubes r complete e i t =
     let both = and_parts (is_waiting e.1) (is_among tube e.1.watched) t in
-    let p : Place = place (wait_rank e.1) e.0 in
+    let p : LinePlace = place (wait_rank e.1) e.0 in
     let stands : IsIn (tube_line tube tubes) p = subst (λ o. IfSome o (IsIn (tube_line tube tubes))) (waiting-place e.0 e.1 both.0) (complete e i tube both.1) in
     mapped-in (waiter_at tube sessions) p e (tube_line tube tubes).keys (in_keys p (tube_line tube tubes).keys stands)
     (standing-at tube sessions p e.1 (value_at-In 0 (2 ^ 32) sessions e r i) both.0 both.1 refl)
@@ -145,7 +145,7 @@ apart_orders Less e = tt
 apart_orders Equal e = cc
 apart_orders Greater e = cc
 
-less_by : (p q : Place) → line_cmp p q ≡ Less → (p.order < q.order) ⊎ ((p.order ≡ q.order) × (p.session < q.session))
+less_by : (p q : LinePlace) → line_cmp p q ≡ Less → (p.order < q.order) ⊎ ((p.order ≡ q.order) × (p.session < q.session))
 less_by p q e =
     elim (cases_order p.order q.order) as (λ v. (p.order < q.order) ⊎ ((p.order ≡ q.order) × (p.session < q.session))) [
       | inr (inl below) ↦ inl below
@@ -161,14 +161,14 @@ less_by p q e =
     ]
 
 -- who stands later in the line does not come before who stands earlier
-later-not : (p q : Place) (d e : ℕ × SessionState) → line_cmp p q ≡ Less → wait_rank e.1 ≡ p.order → e.0 ≡ p.session → wait_rank d.1 ≡ q.order → d.0 ≡ q.session → ComesBefore wait_rank d e → ⊥
+later-not : (p q : LinePlace) (d e : ℕ × SessionState) → line_cmp p q ≡ Less → wait_rank e.1 ≡ p.order → e.0 ≡ p.session → wait_rank d.1 ≡ q.order → d.0 ≡ q.session → ComesBefore wait_rank d e → ⊥
 later-not p q d e less re se rd sd before =
     elim (less_by p q less) as (λ v. ⊥) [
       | inl order ↦ elim before as (λ v. ⊥) [ inl h ↦ omega (arith, re, rd, h, order) | inr h ↦ omega (arith, re, rd, h.0, order) ]
       | inr both ↦ elim before as (λ v. ⊥) [ inl h ↦ omega (arith, re, rd, h, both.0) | inr h ↦ omega (arith, se, sd, h.1, both.1) ]
     ]
 
-first-least : (tube : List ℕ) (sessions : List (ℕ × SessionState)) (e : ℕ × SessionState) (ks : List Place) → IsStrictlySortedBy line_cmp ks → slice_get (filter_map (waiter_at tube sessions) ks) 0 ≡ Some e → In e (filter_map (waiter_at tube sessions) ks) × ((d : ℕ × SessionState) → In d (filter_map (waiter_at tube sessions) ks) → ComesBefore wait_rank d e → ⊥)
+first-least : (tube : List ℕ) (sessions : List (ℕ × SessionState)) (e : ℕ × SessionState) (ks : List LinePlace) → IsStrictlySortedBy line_cmp ks → slice_get (filter_map (waiter_at tube sessions) ks) 0 ≡ Some e → In e (filter_map (waiter_at tube sessions) ks) × ((d : ℕ × SessionState) → In d (filter_map (waiter_at tube sessions) ks) → ComesBefore wait_rank d e → ⊥)
 first-least tube sessions e [] sorted f = cc
 first-least tube sessions e (k ∷ ks) sorted f =
     elim (waiter_at tube sessions k) as (λ o. waiter_at tube sessions k ≡ o → slice_get (cons_option o (filter_map (waiter_at tube sessions) ks)) 0 ≡ Some e → In e (cons_option o (filter_map (waiter_at tube sessions) ks)) × ((d : ℕ × SessionState) → In d (cons_option o (filter_map (waiter_at tube sessions) ks)) → ComesBefore wait_rank d e → ⊥)) [
@@ -211,18 +211,18 @@ first-served tube sessions tubes r complete sorted =
     ] refl
 
 -- the same of a line that is found, and where there is none
-pub first-in-line : (tube : List ℕ) (sessions : List (ℕ × SessionState)) (tubes : TubeLines) (line : BTreeSet Place) → Some line ≡ get (slice_cmp nat_cmp) tubes.lines tube → Rising 0 (2 ^ 32) sessions → EachStands (StandsByTubes tubes) sessions → IsStrictlySortedBy line_cmp line.keys → slice_get (filter_map (waiter_at tube sessions) line.keys) 0 ≡ first_waiting (λ e. is_among tube e.1.watched) sessions
+pub first-in-line : (tube : List ℕ) (sessions : List (ℕ × SessionState)) (tubes : TubeLines) (line : BTreeSet LinePlace) → Some line ≡ get (slice_cmp nat_cmp) tubes.lines tube → Rising 0 (2 ^ 32) sessions → EachStands (StandsByTubes tubes) sessions → IsStrictlySortedBy line_cmp line.keys → slice_get (filter_map (waiter_at tube sessions) line.keys) 0 ≡ first_waiting (λ e. is_among tube e.1.watched) sessions
 first-in-line tube sessions tubes line value r complete sorted =
     let it : line ≡ tube_line tube tubes = sym (found-line tube tubes line (sym value)) in
-    ap (λ (l : BTreeSet Place). slice_get (filter_map (waiter_at tube sessions) l.keys) 0) it ∙
-    first-served tube sessions tubes r complete (subst (λ (l : BTreeSet Place). IsStrictlySortedBy line_cmp l.keys) it sorted)
+    ap (λ (l : BTreeSet LinePlace). slice_get (filter_map (waiter_at tube sessions) l.keys) 0) it ∙
+    first-served tube sessions tubes r complete (subst (λ (l : BTreeSet LinePlace). IsStrictlySortedBy line_cmp l.keys) it sorted)
 
 pub none-in-line : (tube : List ℕ) (sessions : List (ℕ × SessionState)) (tubes : TubeLines) → None ≡ get (slice_cmp nat_cmp) tubes.lines tube → Rising 0 (2 ^ 32) sessions → EachStands (StandsByTubes tubes) sessions → None ≡ first_waiting (λ e. is_among tube e.1.watched) sessions
-none-in-line tube sessions tubes value r complete = nobody-served tube sessions tubes r complete (ap (λ (l : BTreeSet Place). slice_get (filter_map (waiter_at tube sessions) l.keys) 0) (no-line tube tubes (sym value)))
+none-in-line tube sessions tubes value r complete = nobody-served tube sessions tubes r complete (ap (λ (l : BTreeSet LinePlace). slice_get (filter_map (waiter_at tube sessions) l.keys) 0) (no-line tube tubes (sym value)))
 
 -- Places that are left
 
-pub tube-left : (tube : List ℕ) (k : Place) (tubes tubes' : TubeLines) (sessions : List (ℕ × SessionState)) → Rising 0 (2 ^ 32) sessions → waiter_at tube sessions k ≡ None → ((t : List ℕ) (p : Place) → (t ≡ tube → k ≡ p → ⊥) → IsIn (tube_line t tubes) p → IsIn (tube_line t tubes') p) → EachStands (StandsByTubes tubes) sessions → EachStands (StandsByTubes tubes') sessions
+pub tube-left : (tube : List ℕ) (k : LinePlace) (tubes tubes' : TubeLines) (sessions : List (ℕ × SessionState)) → Rising 0 (2 ^ 32) sessions → waiter_at tube sessions k ≡ None → ((t : List ℕ) (p : LinePlace) → (t ≡ tube → k ≡ p → ⊥) → IsIn (tube_line t tubes) p → IsIn (tube_line t tubes') p) → EachStands (StandsByTubes tubes) sessions → EachStands (StandsByTubes tubes') sessions
 tube-left tube k tubes tubes' sessions r gone stays h =
     λ e i t among.
     elim (rank_place e.0 e.1.wait) as (λ o. rank_place e.0 e.1.wait ≡ o → IfSome o (IsIn (tube_line t tubes)) → IfSome o (IsIn (tube_line t tubes'))) [
@@ -231,8 +231,8 @@ tube-left tube k tubes tubes' sessions r gone stays h =
           stays t p
           (λ same it.
           let of = rank_place-of e.0 e.1 p at in
-          let who : value_at k.session sessions ≡ Some e.1 = ap (λ (q : Place). value_at q.session sessions) it ∙ ap (λ x. value_at x sessions) of.2 ∙ value_at-In 0 (2 ^ 32) sessions e r i in
-          let seen : waiter_at tube sessions k ≡ Some (k.session, e.1) = standing-at tube sessions k e.1 who of.0 (ap (λ u. is_among u e.1.watched) (sym same) ∙ among) (of.1 ∙ ap (λ (q : Place). q.order) (sym it)) in
+          let who : value_at k.session sessions ≡ Some e.1 = ap (λ (q : LinePlace). value_at q.session sessions) it ∙ ap (λ x. value_at x sessions) of.2 ∙ value_at-In 0 (2 ^ 32) sessions e r i in
+          let seen : waiter_at tube sessions k ≡ Some (k.session, e.1) = standing-at tube sessions k e.1 who of.0 (ap (λ u. is_among u e.1.watched) (sym same) ∙ among) (of.1 ∙ ap (λ (q : LinePlace). q.order) (sym it)) in
           none_some (k.session, e.1) (sym gone ∙ seen))
           there
     ] refl (h e i t among)

@@ -11,39 +11,39 @@ use Rattle.job_store.specs.Entries.{value_at}
 use Rattle.job_store.specs.LookUps.{is_among}
 use Rattle.session_store.specs.declared.session.SessionState.{SessionState}
 use Rattle.session_store.specs.declared.session.Wait.{Wait}
-use Rattle.session_store.specs.declared.place.Place.{Place}
+use Rattle.session_store.specs.declared.place.LinePlace.{LinePlace}
 use Rattle.session_store.specs.declared.time_outs.TimeOuts.{TimeOuts}
 use Rattle.session_store.specs.declared.tube_lines.TubeLines.{TubeLines}
 use Rattle.session_store.specs.declared.lines.Lines.{Lines}
 use Rattle.session_store.specs.Sessions.{is_waiting, wait_rank, has_timed_out}
 
 -- places go by their number, and then by the session's
-abbrev pub line_cmp : Place → Place → Ordering
+abbrev pub line_cmp : LinePlace → LinePlace → Ordering
 line_cmp p q = ordering_then (nat_cmp p.order q.order) (nat_cmp p.session q.session)
 
 -- the place is in the line
-abbrev pub IsIn : BTreeSet Place → Place → Type 0
+abbrev pub IsIn : BTreeSet LinePlace → LinePlace → Type 0
 IsIn line place = contains line_cmp line place ≡ true
 
 -- session x, at this number
-abbrev pub place : ℕ → ℕ → Place
+abbrev pub place : ℕ → ℕ → LinePlace
 place order x = record { order = order; session = x }
 
 -- the places in the line up to this second
-abbrev pub places_by : ℕ → BTreeSet Place → List Place
+abbrev pub places_by : ℕ → BTreeSet LinePlace → List LinePlace
 places_by second line = keys_between line_cmp Unbounded (Included (place second 4294967295)) line
 
 -- the place of a wait among those that end
-abbrev pub time_out_place : ℕ → Option Wait → Option Place
+abbrev pub time_out_place : ℕ → Option Wait → Option LinePlace
 time_out_place x None = None
 time_out_place x (Some wait) = option_map (λ second. place second x) wait.time_out
 
 -- the place of a wait in the line of a tube
-abbrev pub rank_place : ℕ → Option Wait → Option Place
+abbrev pub rank_place : ℕ → Option Wait → Option LinePlace
 rank_place x wait = option_map (λ w. place w.rank x) wait
 
 -- the line of a tube, in which nobody stands where there is none
-abbrev pub tube_line : List ℕ → TubeLines → BTreeSet Place
+abbrev pub tube_line : List ℕ → TubeLines → BTreeSet LinePlace
 tube_line tube tubes = unwrap_or (get (slice_cmp nat_cmp) tubes.lines tube) (record { keys = [] })
 
 -- the session stands among the time-outs, if it waits and its wait ends
@@ -63,8 +63,8 @@ abbrev pub EachStands : (ℕ × SessionState → Type 0) → List (ℕ × Sessio
 EachStands stands sessions = (e : ℕ × SessionState) → In e sessions → stands e
 
 -- the other line has all places of the one
-abbrev pub HasAll : BTreeSet Place → BTreeSet Place → Type 0
-HasAll line line' = (p : Place) → IsIn line p → IsIn line' p
+abbrev pub HasAll : BTreeSet LinePlace → BTreeSet LinePlace → Type 0
+HasAll line line' = (p : LinePlace) → IsIn line p → IsIn line' p
 
 -- each line has all places that it had
 abbrev pub HasGrown : Lines → Lines → Type 0
@@ -73,11 +73,11 @@ HasGrown lines lines' =
     ((tube : List ℕ) → HasAll (tube_line tube lines.tubes) (tube_line tube lines'.tubes))
 
 -- the session at a place, if its wait is over by the second
-abbrev pub over_at : ℕ → List (ℕ × SessionState) → Place → Option (ℕ × SessionState)
+abbrev pub over_at : ℕ → List (ℕ × SessionState) → LinePlace → Option (ℕ × SessionState)
 over_at second sessions p =
     elim (value_at p.session sessions) [ None ↦ None | Some s ↦ if has_timed_out second s.wait then Some (p.session, s) else None ]
 
 -- the session at a place, if it waits there for a job of the tube
-abbrev pub waiter_at : List ℕ → List (ℕ × SessionState) → Place → Option (ℕ × SessionState)
+abbrev pub waiter_at : List ℕ → List (ℕ × SessionState) → LinePlace → Option (ℕ × SessionState)
 waiter_at tube sessions p =
     elim (value_at p.session sessions) [ None ↦ None | Some s ↦ if is_waiting s && is_among tube s.watched && wait_rank s == p.order then Some (p.session, s) else None ]

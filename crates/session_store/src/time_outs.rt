@@ -3,7 +3,7 @@ ghost use Rattle.job_store.specs.Entries.{Rising};
 ghost use Rattle.session_store.specs.Sessions.{first_waiting, has_timed_out, session_of};
 ghost use Rattle.session_store.specs.Lines.{EachStands, HasAll, IsIn, StandsByTimeOut, over_at, time_out_place};
 
-use crate::place::{Place, time_out_place};
+use crate::place::{LinePlace, time_out_place};
 use crate::session::{SessionState, Wait};
 use crate::waiting::first;
 use std::alloc::{AllocError, Global};
@@ -13,14 +13,14 @@ use std::collections::{BTreeMap, BTreeSet};
 /// stands any more.
 #[derive(Drop)]
 pub(crate) struct TimeOuts {
-    line: BTreeSet<Place>,
+    line: BTreeSet<LinePlace>,
 }
 
 /// The session at a place, if its wait is over at this second.
 fn over_at<'a>(
     sessions: &'a BTreeMap<u32, SessionState>,
     second: u64,
-    place: Place,
+    place: LinePlace,
 ) -> Option<(u32, &'a SessionState)>
     ensures { option_map (λ e. (e.0, e.1.now)) result
         ≡ over_at second sessions.now.entries place }
@@ -87,7 +87,7 @@ impl TimeOuts {
         ensures { option_map (λ e. (e.0, e.1.now)) result
             ≡ first_waiting (λ e. has_timed_out second e.1.wait) sessions.now.entries }
     {
-        let last = Place {
+        let last = LinePlace {
             order: second,
             session: u32::MAX,
         };

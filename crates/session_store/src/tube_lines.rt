@@ -3,10 +3,10 @@ ghost use Rattle.std.specs.BTreeSet.{IsOrdered};
 ghost use Rattle.job_store.specs.Entries.{Rising};
 ghost use Rattle.job_store.specs.LookUps.{is_among};
 ghost use Rattle.session_store.specs.Sessions.{first_waiting};
-ghost use Rattle.session_store.specs.declared.place.Place.{Place};
+ghost use Rattle.session_store.specs.declared.place.LinePlace.{LinePlace};
 ghost use Rattle.session_store.specs.Lines.{EachStands, HasAll, IsIn, StandsByTubes, tube_line, line_cmp, rank_place, waiter_at};
 
-use crate::place::{Place, rank_place};
+use crate::place::{LinePlace, rank_place};
 use crate::session::{SessionState, Wait};
 use job_store::Name;
 use object::Value;
@@ -18,14 +18,14 @@ use std::collections::{BTreeMap, BTreeSet};
 #[derive(Drop)]
 pub(crate) struct TubeLines {
     alloc: Global,
-    lines: BTreeMap<Name, BTreeSet<Place>>,
+    lines: BTreeMap<Name, BTreeSet<LinePlace>>,
 }
 
 /// The session at a place, if it waits there for a job of the tube.
 fn waiter_at<'a>(
     sessions: &'a BTreeMap<u32, SessionState>,
     tube: &Name,
-    place: Place,
+    place: LinePlace,
 ) -> Option<(u32, &'a SessionState)>
     ensures { option_map (λ e. (e.0, e.1.now)) result
         ≡ waiter_at tube.now sessions.now.entries place }
@@ -40,7 +40,7 @@ fn waiter_at<'a>(
 
 /// The first session in a line that stands there.
 fn first_standing<'a>(
-    line: &BTreeSet<Place>,
+    line: &BTreeSet<LinePlace>,
     sessions: &'a BTreeMap<u32, SessionState>,
     tube: &Name,
 ) -> Option<(u32, &'a SessionState)>
@@ -66,7 +66,7 @@ impl TubeLines {
     }
 
     /// Puts a place into the line of a tube.
-    fn put(&mut self, tube: &Name, place: Place) -> Result<(), AllocError>
+    fn put(&mut self, tube: &Name, place: LinePlace) -> Result<(), AllocError>
         ensures grown { (t : List ℕ) → HasAll (tube_line t self.old) (tube_line t self.new) }
         ensures put { OnOk result (IsIn (tube_line tube.now self.new) place) }
     {
@@ -81,8 +81,8 @@ impl TubeLines {
     }
 
     /// Takes a place out of the line of a tube, and tells whether that leaves none.
-    fn take_place(&mut self, tube: &Name, place: Place) -> bool
-        ensures stays { (t : List ℕ) (p : Place) → (t ≡ tube.now → place ≡ p → ⊥)
+    fn take_place(&mut self, tube: &Name, place: LinePlace) -> bool
+        ensures stays { (t : List ℕ) (p : LinePlace) → (t ≡ tube.now → place ≡ p → ⊥)
             → IsIn (tube_line t self.old) p → IsIn (tube_line t self.new) p }
         ensures none { IsTrue result → (tube_line tube.now self.new).keys ≡ [] }
     {
@@ -96,8 +96,8 @@ impl TubeLines {
     }
 
     /// Takes a place out of the line of a tube, and the line where that leaves none.
-    fn take_out(&mut self, tube: &Name, place: Place)
-        ensures { (t : List ℕ) (p : Place) → (t ≡ tube.now → place ≡ p → ⊥)
+    fn take_out(&mut self, tube: &Name, place: LinePlace)
+        ensures { (t : List ℕ) (p : LinePlace) → (t ≡ tube.now → place ≡ p → ⊥)
             → IsIn (tube_line t self.old) p → IsIn (tube_line t self.new) p }
     {
         if self.take_place(tube, place) {

@@ -5,3 +5,5 @@ pub mod HandedIn
 pub mod Said
 pub mod FirstMembers
 pub mod NoSecond
+pub mod Heaviest
+pub mod TurnedDown

@@ -77,6 +77,9 @@ impl<O: Object> Carrier<O> {
             self.new.calls ≡ self.old.calls + 1 }
         ensures stopped { result ≡ Err unanswered.Stopped → most_calls ≤ self.new.calls
             ⊎ RefusesAct O.Op.eq self.old.hall self.old.ticket act }
+        ensures turned_down { RefusesAct O.Op.eq self.old.hall self.old.ticket act →
+            result ≡ Err unanswered.Stopped }
+        ensures once { self.old.calls < most_calls → self.new.calls ≡ self.old.calls + 1 }
     {
         self.count()?;
         match self.hall.submit(&mut self.ticket, act, HOME) {

@@ -1,8 +1,8 @@
-ghost use Rattle.std.specs.Prelude.{◌≡◌, ◌<◌, true, is_some, IfSome};
+ghost use Rattle.std.specs.Prelude.{◌≡◌, ◌<◌, ◌≤◌, ℕ, true, is_some, IfSome};
 ghost use Rattle.ballot.specs.Members.{is_member};
 ghost use Rattle.slot_log.specs.Decisions.{next_decided};
 ghost use Rattle.network.specs.Networks.{node_of, has_mail};
-ghost use Rattle.simulated_hall.specs.Driving.{IsFirstMember, node_called};
+ghost use Rattle.simulated_hall.specs.Driving.{IsFirstMember, IsReadNext, is_heavier, node_called, weighs};
 
 use ballot::Members;
 use hall::Hall;
@@ -159,7 +159,7 @@ impl Driver {
         ensures { IfSome result (λ call.
             is_member hall.now.nodes.network.members (node_called call) ≡ true) }
     {
-        if let Some(node) = first_with_mail(hall) {
+        if let Some(node) = next_with_mail(hall) {
             return if self.loses {
                 Some(Call::Lose(node))
             } else {
@@ -235,6 +235,46 @@ fn first_with_mail<O: Object>(hall: &Hall<O>) -> Option<u8>
         }
     }
     None
+}
+
+// Whose mail is read next: that of node 1, and of others that of one which weighs most. So the members that a majority
+// doesn't need are the last, whatever they weigh.
+fn next_with_mail<O: Object>(hall: &Hall<O>) -> Option<u8>
+    ensures { IsReadNext hall.now.nodes.network.members
+        (λ n. has_mail hall.now.nodes.network n) result }
+{
+    let first = first_with_mail(hall)?;
+    if first == HOME {
+        return Some(HOME);
+    }
+    Some(heaviest_with_mail(hall, first))
+}
+
+// The member with mail that weighs most, where this one has some.
+fn heaviest_with_mail<O: Object>(hall: &Hall<O>, first: u8) -> u8
+    requires member { is_member hall.now.nodes.network.members first ≡ true }
+    requires mail { has_mail hall.now.nodes.network first ≡ true }
+    ensures member { is_member hall.now.nodes.network.members result ≡ true }
+    ensures mail { has_mail hall.now.nodes.network result ≡ true }
+    ensures heaviest { (m : ℕ) → is_member hall.now.nodes.network.members m ≡ true
+        → has_mail hall.now.nodes.network m ≡ true
+        → weighs hall.now.nodes.network.members m ≤ weighs hall.now.nodes.network.members result }
+{
+    let members = hall.members();
+    let mut best = first;
+    for before in 0..members.count() {
+        if hall.has_mail(before + 1) && is_heavier(members, before + 1, best) {
+            best = before + 1;
+        }
+    }
+    best
+}
+
+// Whether a node weighs more than another one.
+fn is_heavier(members: Members, node: u8, other: u8) -> bool
+    ensures { result ≡ is_heavier members node other }
+{
+    members.weight(node).unwrap_or(0) > members.weight(other).unwrap_or(0)
 }
 
 // The first member that knows the decision which it is to perform next.

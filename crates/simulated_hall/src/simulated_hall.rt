@@ -1,22 +1,21 @@
-ghost use Rattle.std.specs.Prelude.{◌≡◌, ◌⊎◌, ◌+◌, Some, Err, IfOk, IfErr, OnOk, OnErr};
+ghost use Rattle.std.specs.Prelude.{◌≡◌, ◌⊎◌, ◌+◌, ◌<◌, Some, Err, IfOk, IfErr, OnOk, OnErr};
+ghost use Rattle.object.specs.declared.command.Act.TheVariants.{Do, Close};
 ghost use Rattle.simulated_hall.specs.declared.unanswered.Unanswered.TheVariants as unanswered;
 ghost use Rattle.simulated_hall.specs.OneClient.{Talk, opened, next_obeyed, passed, answered, left};
 ghost use Rattle.hall.specs.Tickets.{last_key, with_act};
 ghost use Rattle.simulated_hall.specs.Standing.{StandsFor, IsSaid, IsUnanswered};
-ghost use Rattle.simulated_hall.specs.Stopping.{HasNoCallLeft, HasNoSecondLeft, IsNotLetGo, IsStopped, RefusesAct};
+ghost use Rattle.simulated_hall.specs.Stopping.{HasNoCallLeft, HasNoSecondLeft, IsNotLetGo, IsStopped, RefusesAct, most_calls};
 
 use crate::carrier::{Carrier, MOST_CALLS};
 use crate::unanswered::{Stopped, Unanswered};
 use ballot::Members;
+use hall::LAST_SECOND;
 use object::{Act, Key, Object};
 use std::alloc::{AllocError, Global};
 use std::marker::Model;
 
 /// How many seconds a client waits for a reply.
 const LONGEST_WAIT: u32 = 3_600;
-
-/// The last second of a clock.
-const LAST_SECOND: u64 = 1 << 40;
 
 /// A hall whose nodes are simulated, and the one client that it serves.
 ///
@@ -53,7 +52,8 @@ impl<O: Object> SimulatedHall<O> {
     }
 
     /// What one object replies to the next request. Where it has no reply yet, seconds pass, 3,600 at most. A refused
-    /// request takes no place: it is as if it had not been asked.
+    /// request takes no place: it is as if it had not been asked. Its calls are counted from 0; a hall that refuses it, and
+    /// not for want of memory, is asked once.
     pub fn ask(&mut self, op: O::Op) -> Result<O::Reply, Unanswered>
         ensures reply { IfOk result (λ reply. (t : Talk O) → StandsFor O.rules self.old t
             → (answered O.rules t op).reply ≡ Some reply) }
@@ -65,6 +65,10 @@ impl<O: Object> SimulatedHall<O> {
             → StandsFor O.rules self.old t → StandsFor O.rules self.new t }
         ensures stopped { result ≡ Err unanswered.Stopped →
             IsStopped O.rules O.Op.eq self.old self.new op }
+        ensures turned_down { RefusesAct O.Op.eq self.old.hall self.old.ticket (Do op) →
+            result ≡ Err unanswered.Stopped }
+        ensures once { RefusesAct O.Op.eq self.old.hall self.old.ticket (Do op) →
+            self.new ≡ record self.old { calls = 1 } }
     {
         self.carrier.begin();
         let mut reply = self.request(Act::Do(op))?;
@@ -80,12 +84,16 @@ impl<O: Object> SimulatedHall<O> {
         }
     }
 
-    /// The client leaves. That is never refused.
+    /// The client leaves. That is never refused, but a hall that doesn't let it, and not for want of memory, is asked once.
     pub fn close(&mut self) -> Result<(), Unanswered>
         ensures stands { OnOk result ((t : Talk O) → StandsFor O.rules self.old t
             → StandsFor O.rules self.new (left O.rules t)) }
         ensures never_refused { IfErr result (λ e. e ≡ unanswered.Stopped) }
         ensures stopped { OnErr result (IsNotLetGo O.Op.eq self.old self.new) }
+        ensures turned_down { RefusesAct O.Op.eq self.old.hall self.old.ticket Close →
+            result ≡ Err unanswered.Stopped }
+        ensures once { RefusesAct O.Op.eq self.old.hall self.old.ticket Close →
+            self.new ≡ record self.old { calls = 1 } }
     {
         self.carrier.begin();
         for _ in 0..MOST_CALLS {
@@ -110,6 +118,10 @@ impl<O: Object> SimulatedHall<O> {
             self.new ≡ record self.old { calls = self.old.calls + 1 } }
         ensures stopped { result ≡ Err unanswered.Stopped → HasNoCallLeft self.new
             ⊎ RefusesAct O.Op.eq self.old.hall self.old.ticket act }
+        ensures turned_down { RefusesAct O.Op.eq self.old.hall self.old.ticket act →
+            result ≡ Err unanswered.Stopped }
+        ensures once { RefusesAct O.Op.eq self.old.hall self.old.ticket act →
+            self.old.calls < most_calls → self.new ≡ record self.old { calls = self.old.calls + 1 } }
     {
         self.carrier.submit(act)?;
         let key = self.carrier.last_key();

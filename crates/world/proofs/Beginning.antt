@@ -1,4 +1,4 @@
--- How a way that brings a command begins: the command is submitted at node 1, whose leader settles.
+-- How a way that brings a command begins: the command is submitted at node 1, whose leader comes to rest.
 use Rattle.std.proofs.Common.{◌≡◌, inl, inr, ℕ, ◌+◌, ◌*◌, ◌^◌, ◌<◌, ◌≤◌, max, Bool, true, false, cond, List, [], ◌∷◌, ◌++◌, length, filter, refl, sym, ap, ap₂, ◌∙◌, subst, arith}
 use Rattle.std.specs.Prelude.{◌&&◌, ◌==◌}
 use Rattle.std.specs.FinMap.{len}
@@ -30,7 +30,7 @@ use Rattle.world.proofs.Reach.{reachable_sound, step_sound}
 use Rattle.world.proofs.Submitted.{key_submitted}
 use Rattle.world.specs.Mentions.{Mentions}
 use Rattle.world.specs.SlotBooks.{pending}
-use Rattle.world.specs.WaysOut.{first_leader, first_book, rivals, is_rival, IsTalk, IsSettled, IsSmall, Goes, is_talk, work, most_slots, Holds}
+use Rattle.world.specs.WaysOut.{first_leader, first_book, rivals, is_rival, IsTalk, IsAtRest, IsSmall, Goes, is_talk, work, most_slots, Holds}
 use Rattle.world.proofs.Booking.{holds_requested}
 use Rattle.world.proofs.Bringing.{IsBringing}
 use Rattle.world.proofs.MentionsEvery.{mentions_calm, mentions_weaker, reach_taken, slots_near}
@@ -144,8 +144,8 @@ module _ (laws : BallotLaws) {O Op Reply : Type 0} (rules : Rules O Op Reply) (w
   pub submit_work : work u.cluster ≤ work w.cluster
   submit_work = work_stays laws w u _ _ submit_turned refl
 
-  -- once its leader has settled
-  module _ (v : World Op Reply) (exact : (a b : Command Op) → is_one rules a b ≡ true → a ≡ b) (few : w.taken ≤ 2 ^ 32) (members : length w.cluster.members ≤ 7) (talk : IsTalk u v) (settled : IsSettled v.cluster)
+  -- once its leader has come to rest
+  module _ (v : World Op Reply) (exact : (a b : Command Op) → is_one rules a b ≡ true → a ≡ b) (few : w.taken ≤ 2 ^ 32) (members : length w.cluster.members ≤ 7) (talk : IsTalk u v) (at_rest : IsAtRest v.cluster)
       (spent : v.taken + work v.cluster ≤ u.taken + work u.cluster) (before now : List (Event Op)) (goes : Goes rules is_talk u before v now) (room : w.taken < most_events) where
     near : Mentions (λ s d. s ≤ w.reach + 64) v.cluster
     near =
@@ -182,7 +182,7 @@ module _ (laws : BallotLaws) {O Op Reply : Type 0} (rules : Rules O Op Reply) (w
         let n = submit_count in
         let m = submit_work in
         record {
-          settled = settled;
+          at_rest = at_rest;
           near = mentions_weaker (λ s d. s ≤ w.reach + 64) (λ s d. s < max (w.reach + 64 + 1) (first_book v.cluster).slot_out) (λ s d h. omega arith) v.cluster near;
           spent = omega arith;
           low = omega arith;

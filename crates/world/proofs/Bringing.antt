@@ -30,7 +30,7 @@ use Rattle.world.proofs.Reach.{reachable_sound, opened_at}
 use Rattle.world.specs.Mentions.{Mentions, MentionsNode, ProposesOnly, MentionsBody}
 use Rattle.world.specs.SlotBooks.{IsBookAfter, pending}
 use Rattle.world.specs.Telling.{IsProposedAt, IsMentioned, is_proposed, is_decided, is_led, is_commanded, is_gathered, is_accepted, says_propose, says_decision, says_accept, says_report}
-use Rattle.world.specs.WaysOut.{first_book, IsSettled, IsSmall, work, most_slots, IsReady, stays as ready_stays, proposes as ready_proposes, HasLearnt, HasDecided, knew, learnt, HasAdvanced, MentionsAsMuch, Holds, in_requests, in_proposals, in_decisions}
+use Rattle.world.specs.WaysOut.{first_book, IsAtRest, IsSmall, work, most_slots, IsReady, stays as ready_stays, proposes as ready_proposes, HasLearnt, HasDecided, knew, learnt, HasAdvanced, MentionsAsMuch, Holds, in_requests, in_proposals, in_decisions}
 use Rattle.world.proofs.Booking.{holds_proposed, holds_learnt, holds_advanced, pending_proposed}
 use Rattle.world.proofs.LeadingRuns.{in_every}
 use Rattle.world.proofs.Learning.{decided_next, ready_out}
@@ -223,7 +223,7 @@ left top book = (top + 1 - book.slot_out) + pending book
 -- a way that brings a command c, from world w on: nothing is mentioned beyond `top` but in slots that are performed, and
 -- there is room for all that is left
 pub record IsBringing {Op Reply : Type 0} (w v : World Op Reply) (top : ℕ) (c : Command Op) : Type 0 where
-  pub settled : IsSettled v.cluster
+  pub at_rest : IsAtRest v.cluster
   pub near : Mentions (λ s d. s < max (top + 1) (first_book v.cluster).slot_out) v.cluster
   pub spent : v.taken + work v.cluster + 20 * left top (first_book v.cluster) ≤ most_events
   pub low : (first_book v.cluster).slot_out + left top (first_book v.cluster) ≤ most_slots
@@ -271,7 +271,7 @@ module _ (laws : BallotLaws) {O Op Reply : Type 0} (rules : Rules O Op Reply) (w
       small_of s near = let a = h.low in omega arith
 
   module _ (u : World Op Reply) (exact : (a b : Command Op) → is_one rules a b ≡ true → a ≡ b) (same_itself : (a : Command Op) → is_one rules a a ≡ true)
-      (settled : IsSettled u.cluster) (advanced_to : HasAdvanced (is_one rules) v.cluster (first_book u.cluster)) (spent : u.taken + work u.cluster ≤ v.taken + work v.cluster + 20)
+      (at_rest : IsAtRest u.cluster) (advanced_to : HasAdvanced (is_one rules) v.cluster (first_book u.cluster)) (spent : u.taken + work u.cluster ≤ v.taken + work v.cluster + 20)
       (as_much : MentionsAsMuch v.cluster (first_book v.cluster).slot_out u.cluster) (submitted : u.happenings.submitted ≡ v.happenings.submitted) where
     pub less_left : left top (first_book u.cluster) < left top (first_book v.cluster)
     less_left =
@@ -291,7 +291,7 @@ module _ (laws : BallotLaws) {O Op Reply : Type 0} (rules : Rules O Op Reply) (w
 
     pub brings_on : IsBringing w u top c
     brings_on = record {
-      settled = settled;
+      at_rest = at_rest;
       near = near_now;
       spent = let a = h.spent in let b = less_left in omega arith;
       low = let a = h.low in let b = less_left in let on = out_after laws rules v u i more advanced_to in omega arith;

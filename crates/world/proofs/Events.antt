@@ -34,7 +34,7 @@ use Rattle.object.specs.ListLaws.{Each-at, In-get}
 use Rattle.ballot.specs.OrderLaws.{BallotLaws}
 use Rattle.world.proofs.Invariants.{IsFair, IsTrueOf, IsSound, agree}
 use Rattle.world.proofs.Bounds.{BodyWithin, reachable_within}
-use Rattle.world.specs.OneOrder.{HasOneOrder, IsLater}
+use Rattle.world.specs.OneOrder.{HasOneOrder, GoesOnFrom}
 use Rattle.world.proofs.Once.{ObjectLaws}
 use Rattle.world.proofs.OneOrder.{reachable_one_order, leads_later}
 use Rattle.world.specs.Agreements.{StaysChosen}
@@ -221,14 +221,14 @@ refused_at same old new es j e reason within at kept cause = record {
 
 module _ (laws : BallotLaws) {O Op Reply : Type 0} (rules : Rules O Op Reply) where
   -- what came later is later
-  pub later_by : (v w : World Op Reply) → v ≡ w → IsWorld rules v → (es : List (Event Op)) (u : World Op Reply) → Leads rules w es u → IsLater w u
+  pub later_by : (v w : World Op Reply) → v ≡ w → IsWorld rules v → (es : List (Event Op)) (u : World Op Reply) → Leads rules w es u → GoesOnFrom w u
   later_by v w is i es u l = leads_later laws rules w u es (subst (IsReachable rules) is i.reachable) l
 
-  pub later_step : (v w : World Op Reply) → v ≡ w → IsWorld rules v → (e : Event Op) (u : World Op Reply) → Step rules w e u → IsLater w u
+  pub later_step : (v w : World Op Reply) → v ≡ w → IsWorld rules v → (e : Event Op) (u : World Op Reply) → Step rules w e u → GoesOnFrom w u
   later_step v w is i e u s = later_by v w is i (e ∷ []) u (Runs.after e u Runs.at_once s)
 
-  pub later_same : (v w : World Op Reply) → v ≡ w → IsWorld rules v → (u : World Op Reply) → u ≡ w → IsLater w u
-  later_same v w is i u same = subst (IsLater w) (sym same) (later_by v w is i [] w Runs.at_once)
+  pub later_same : (v w : World Op Reply) → v ≡ w → IsWorld rules v → (u : World Op Reply) → u ≡ w → GoesOnFrom w u
+  later_same v w is i u same = subst (GoesOnFrom w) (sym same) (later_by v w is i [] w Runs.at_once)
 
   pub order_now : (waits : O → Key → Type 0) → ObjectLaws rules waits → (v w : World Op Reply) → v ≡ w → IsWorld rules v → HasOneOrder rules w
   order_now waits object v w is i = reachable_one_order laws rules waits object w (subst (IsReachable rules) is i.reachable)

@@ -77,7 +77,7 @@ module _ {C : Type 0} (k z : Cluster C) (g : Grows k z) where
     active = λ on. let a = h.active on in record {
       promised = promised_stays l.ballot a.promised;
       alone = a.alone;
-      settled = λ s c e. ⊎_elim (λ (there : IsSome (get l.commanders s)). inl there) (λ (told : IsToldToAll k n s c). inr (told_stays n s c told)) (a.settled s c e);
+      followed_up = λ s c e. ⊎_elim (λ (there : IsSome (get l.commanders s)). inl there) (λ (told : IsToldToAll k n s c). inr (told_stays n s c told)) (a.followed_up s c e);
     };
     asleep = h.asleep;
     scout = λ s e. scout_stays s (h.scout s e);
@@ -132,7 +132,7 @@ module _ (laws : BallotLaws) {C : Type 0} (k : Cluster C) (n : ℕ) (l : Leading
     active = λ on. record {
       promised = record { row = heard; majority = majority_stays k z g heard most; promised = λ m x. (g.acceptors m).promised l.ballot (promised m x) };
       alone = refl;
-      settled = λ s c e. inl (each_there (λ s c. new_commander l.members (pvalue l.ballot s c)) new s c e);
+      followed_up = λ s c e. inl (each_there (λ s c. new_commander l.members (pvalue l.ballot s c)) new s c e);
     };
     asleep = λ off. off_on off refl;
     scout = λ s f. none_not refl f;
@@ -201,10 +201,10 @@ module _ (laws : BallotLaws) {C : Type 0} (k : Cluster C) (n : ℕ) (l : Leading
       active = λ on. let a = h.active on in record {
         promised = promised_stays k z g l.ballot a.promised;
         alone = a.alone;
-        settled = λ t v f. ⊎_elim
+        followed_up = λ t v f. ⊎_elim
             (λ (there : IsSome (get l.commanders t)). inl (still_there l.commanders s d t there))
             (λ (told : IsToldToAll k n t v). inr (told_stays k z g n t v told))
-            (a.settled t v f);
+            (a.followed_up t v f);
       };
       asleep = awake;
       scout = λ y f. scout_stays k z g y (h.scout y f);
@@ -223,12 +223,12 @@ module _ (laws : BallotLaws) {C : Type 0} (k : Cluster C) (n : ℕ) (l : Leading
       active = λ on. let a = h.active on in record {
         promised = promised_stays k z g l.ballot a.promised;
         alone = a.alone;
-        settled = λ t v f. ⊎_elim
+        followed_up = λ t v f. ⊎_elim
             (λ (here : t ≡ s). inr (subst (λ y. IsToldToAll z n y v) (sym here) (told_now z (subst (λ (p : Pvalue C). IsSentToAll z n (Decision s p.value)) same (said (Decision s d.pvalue.value) (inl refl))) v (ap (λ y. get l.proposals y) (sym here) ∙ f))))
             (λ (apart : t ≢ s). ⊎_elim
             (λ (there : IsSome (get l.commanders t)). inl (others_there l.commanders s t apart there))
             (λ (told : IsToldToAll k n t v). inr (told_stays k z g n t v told))
-            (a.settled t v f))
+            (a.followed_up t v f))
             (cases_eq t s);
       };
       asleep = awake;
@@ -283,13 +283,13 @@ module _ (laws : BallotLaws) {C : Type 0} (k : Cluster C) (n : ℕ) (l : Leading
     new : Commanding C
     new = new_commander l.members (pvalue l.ballot s c)
 
-    settled_more : (z : Cluster C) → Grows k z → l.active ≡ true → (t : ℕ) (v : C) → get (insert l.proposals s c) t ≡ Some v → IsSome (get (insert l.commanders s new) t) ⊎ IsToldToAll z n t v
-    settled_more z g on t v f = ⊎_elim
+    at_rest_more : (z : Cluster C) → Grows k z → l.active ≡ true → (t : ℕ) (v : C) → get (insert l.proposals s c) t ≡ Some v → IsSome (get (insert l.commanders s new) t) ⊎ IsToldToAll z n t v
+    at_rest_more z g on t v f = ⊎_elim
         (λ (same : (t ≡ s) × (get (insert l.proposals s c) t ≡ Some c)). inl (is_there (get (insert l.commanders s new) t) new (ap (λ y. get (insert l.commanders s new) y) same.0 ∙ get_insert_same l.commanders s new)))
         (λ (apart : (t ≢ s) × (get (insert l.proposals s c) t ≡ get l.proposals t)). ⊎_elim
         (λ (there : IsSome (get l.commanders t)). inl (still_there l.commanders s new t there))
         (λ (told : IsToldToAll k n t v). inr (told_stays k z g n t v told))
-        ((h.active on).settled t v (sym apart.1 ∙ f)))
+        ((h.active on).followed_up t v (sym apart.1 ∙ f)))
         (get_insert_cases l.proposals s c t)
 
     commands_led : l.active ≡ true → IsLedBy k n (commands l s c)
@@ -298,7 +298,7 @@ module _ (laws : BallotLaws) {C : Type 0} (k : Cluster C) (n : ℕ) (l : Leading
       active = λ still. record {
         promised = promised_stays k z g l.ballot (h.active on).promised;
         alone = (h.active on).alone;
-        settled = settled_more z g on;
+        followed_up = at_rest_more z g on;
       };
       asleep = λ off. off_on off on;
       scout = λ y f. scout_stays k z g y (h.scout y f);

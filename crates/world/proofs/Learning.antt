@@ -27,11 +27,11 @@ use Rattle.world.specs.declared.event.Event.TheVariants as events
 use Rattle.world.proofs.Invariants.{IsSound}
 use Rattle.world.specs.Mentions.{is_calm}
 use Rattle.world.specs.Telling.{IsProposedAt}
-use Rattle.world.specs.WaysOut.{first_leader, first_book, IsSettled, IsSmall, IsReady, stays as ready_stays, proposes as ready_proposes, HasDecided, knew, learnt, MentionsAsMuch, Decides, Goes, is_talk, work, most_slots}
+use Rattle.world.specs.WaysOut.{first_leader, first_book, IsAtRest, IsSmall, IsReady, stays as ready_stays, proposes as ready_proposes, HasDecided, knew, learnt, MentionsAsMuch, Decides, Goes, is_talk, work, most_slots}
 use Rattle.world.proofs.LeadingEvery.{has_leader}
 use Rattle.world.proofs.MentionsEvery.{mentions_weaker, mentions_calm}
 use Rattle.world.proofs.Rounds.{place_of}
-use Rattle.world.proofs.Stepping.{IsTurned, decision_turned, perform_turned, book_turned, work_stays, settled_stays}
+use Rattle.world.proofs.Stepping.{IsTurned, decision_turned, perform_turned, book_turned, work_stays, at_rest_stays}
 use Rattle.world.proofs.Telling.{told_by_leader}
 use Rattle.world.proofs.Turning.{talk_mentions}
 
@@ -92,18 +92,18 @@ module _ (laws : BallotLaws) {O Op Reply : Type 0} (rules : Rules O Op Reply) wh
   pub mentions_then : (w u v : World Op Reply) (s : ℕ) (e : Event Op) → MentionsAsMuch w.cluster s u.cluster → IsSound u.cluster → Step rules u e v → is_calm e ≡ true → MentionsAsMuch w.cluster s v.cluster
   mentions_then w u v s e as_much i step calm = λ test fits all. mentions_calm laws rules (λ t d. test t d ≡ true) u v e i step calm (as_much test fits all)
 
-  -- a settled leader has told what became of its proposals
-  pub decision_there : (w : World Op Reply) → IsWorld rules w → is_member w.cluster.members 1 ≡ true → IsSettled w.cluster → (s : ℕ) → contains_key (first_leader w.cluster).proposals s ≡ true → (j : ℕ) × Decides w.cluster.letters j s
-  decision_there w i first settled s there =
+  -- a leader at rest has told what became of its proposals
+  pub decision_there : (w : World Op Reply) → IsWorld rules w → is_member w.cluster.members 1 ≡ true → IsAtRest w.cluster → (s : ℕ) → contains_key (first_leader w.cluster).proposals s ≡ true → (j : ℕ) × Decides w.cluster.letters j s
+  decision_there w i first at_rest s there =
       let c = some_there (get (first_leader w.cluster).proposals s) there in
       ⊎_elim
       (λ (standing : IsSome (get (first_leader w.cluster).commanders s)). none_standing c.0 standing)
       (λ (told : _). let p = place_of w.cluster.letters (letter 1 (Decision s c.0) 1) (told 1 first) in
       (p.0, record { letter = letter 1 (Decision s c.0) 1; command = c.0; at = p.2; to = refl; body = refl }))
-      (((has_leader laws rules w i 1 first).active settled.active).settled s c.0 c.1)
+      (((has_leader laws rules w i 1 first).active at_rest.active).followed_up s c.0 c.1)
     where
       none_standing : (d : Command Op) → IsSome (get (first_leader w.cluster).commanders s) → (j : ℕ) × Decides w.cluster.letters j s
-      none_standing d standing = absurd (not_some (subst (λ o. IsSome o) (ap (λ cs. get cs s) settled.done ∙ get-empty nat_cmp s) standing))
+      none_standing d standing = absurd (not_some (subst (λ o. IsSome o) (ap (λ cs. get cs s) at_rest.done ∙ get-empty nat_cmp s) standing))
         where
           not_some : IsSome (Option_none (Commanding (Command Op))) → ⊥
           not_some h = absurd (cc)
@@ -116,8 +116,8 @@ module _ (laws : BallotLaws) {O Op Reply : Type 0} (rules : Rules O Op Reply) wh
       pub learns_book : first_book v.cluster ≡ with_decision (first_book w.cluster) s h.command
       learns_book = book_turned laws w v _ _ learns
 
-      pub learns_settled : IsSettled w.cluster → IsSettled v.cluster
-      learns_settled settled = settled_stays laws w v _ _ learns refl settled
+      pub learns_at_rest : IsAtRest w.cluster → IsAtRest v.cluster
+      learns_at_rest at_rest = at_rest_stays laws w v _ _ learns refl at_rest
 
       pub learns_spent : v.taken + work v.cluster ≤ w.taken + work w.cluster + 1
       learns_spent = let a = work_stays laws w v _ _ learns refl in let count = learns.count in omega arith
@@ -132,8 +132,8 @@ module _ (laws : BallotLaws) {O Op Reply : Type 0} (rules : Rules O Op Reply) wh
       pub performs_book : first_book v.cluster ≡ advanced (is_one rules) (first_book w.cluster)
       performs_book = book_turned laws w v _ _ performs
 
-      pub performs_settled : IsSettled w.cluster → IsSettled v.cluster
-      performs_settled settled = settled_stays laws w v _ _ performs refl settled
+      pub performs_at_rest : IsAtRest w.cluster → IsAtRest v.cluster
+      performs_at_rest at_rest = at_rest_stays laws w v _ _ performs refl at_rest
 
       pub performs_spent : v.taken + work v.cluster ≤ w.taken + work w.cluster + 1
       performs_spent = let a = work_stays laws w v _ _ performs refl in let count = performs.count in omega arith

@@ -5,7 +5,7 @@ use Rattle.world.specs.declared.event.Event.{Event}
 use Rattle.object.specs.Objects.{Rules}
 use Rattle.world.specs.Worlds.{World}
 use Rattle.world.specs.Runs.{Leads, IsReachable}
-use Rattle.world.specs.OneOrder.{HasOneOrder, IsLater}
+use Rattle.world.specs.OneOrder.{HasOneOrder, GoesOnFrom}
 use Rattle.ballot.specs.OrderLaws.{BallotLaws}
 use Rattle.world.proofs.Growing.{happenings_go_on, order_grows, one_order}
 use Rattle.world.proofs.Deciding.{has_order}
@@ -13,7 +13,7 @@ use Rattle.world.proofs.Once.{ObjectLaws}
 use Rattle.world.proofs.Legal.{reachable_legal}
 
 module _ (laws : BallotLaws) {O Op Reply : Type 0} (rules : Rules O Op Reply) where
-  pub leads_later : (w u : World Op Reply) (es : List (Event Op)) → IsReachable rules w → Leads rules w es u → IsLater w u
+  pub leads_later : (w u : World Op Reply) (es : List (Event Op)) → IsReachable rules w → Leads rules w es u → GoesOnFrom w u
   leads_later w u es r l = record {
     happenings = happenings_go_on rules w u es l;
     order = λ cs ds h g. order_grows laws rules w u es r l cs ds h g;

@@ -27,11 +27,11 @@ use Rattle.world.proofs.LeaderRows.{some_same}
 use Rattle.world.proofs.Reach.{reachable_sound, step_sound}
 use Rattle.world.specs.SlotBooks.{IsBookAfter}
 use Rattle.world.specs.Telling.{IsProposedAt}
-use Rattle.world.specs.WaysOut.{first_leader, first_book, rivals, IsSettled, MentionsAsMuch, Proposes, work}
+use Rattle.world.specs.WaysOut.{first_leader, first_book, rivals, IsAtRest, MentionsAsMuch, Proposes, work}
 use Rattle.world.proofs.MentionsEvery.{mentions_step, mentions_calm, reach_taken}
 use Rattle.world.proofs.SlotBooksEvery.{books}
 use Rattle.world.proofs.SlotBooksNext.{next_at_out}
-use Rattle.world.proofs.Stepping.{IsTurned, proposal_turned, propose_turned, rivals_turned, leader_turned, book_turned, work_stays, settled_stays, takes_proposal, one_commander}
+use Rattle.world.proofs.Stepping.{IsTurned, proposal_turned, propose_turned, rivals_turned, leader_turned, book_turned, work_stays, at_rest_stays, takes_proposal, one_commander}
 use Rattle.world.proofs.Talking.{last_at}
 use Rattle.world.proofs.Telling.{told_by_proposal}
 
@@ -40,11 +40,11 @@ nothing_there P None f never = refl
 nothing_there P (Some v) f never = absurd (never (f v refl))
 
 module _ (laws : BallotLaws) {O Op Reply : Type 0} (rules : Rules O Op Reply) where
-  -- such a letter is delivered to a settled leader that has no proposal there
-  module _ (w v : World Op Reply) (i : IsSound w.cluster) (first : is_member w.cluster.members 1 ≡ true) (settled : IsSettled w.cluster) (j s : ℕ) (free : contains_key (first_leader w.cluster).proposals s ≡ false)
+  -- such a letter is delivered to a leader at rest that has no proposal there
+  module _ (w v : World Op Reply) (i : IsSound w.cluster) (first : is_member w.cluster.members 1 ≡ true) (at_rest : IsAtRest w.cluster) (j s : ℕ) (free : contains_key (first_leader w.cluster).proposals s ≡ false)
       (h : Proposes w.cluster.letters j s) (step : Step rules w (events.Deliver j) v) where
     turned : IsTurned w v (led (node w.cluster 1) (commands (first_leader w.cluster) s h.command)) (all_to_all w.cluster.members 1 (commands (first_leader w.cluster) s h.command).says)
-    turned = subst (λ d. IsTurned w v (led (node w.cluster 1) d) (all_to_all w.cluster.members 1 d.says)) (takes_proposal (first_leader w.cluster) s h.command settled.active free)
+    turned = subst (λ d. IsTurned w v (led (node w.cluster 1) d) (all_to_all w.cluster.members 1 d.says)) (takes_proposal (first_leader w.cluster) s h.command at_rest.active free)
         (proposal_turned laws rules w v i first j h.letter s h.command h.at h.to h.body step)
 
     pub proposal_led : contains_key (first_leader v.cluster).proposals s ≡ true
@@ -60,7 +60,7 @@ module _ (laws : BallotLaws) {O Op Reply : Type 0} (rules : Rules O Op Reply) wh
     proposal_spent =
         let l = leader_turned laws w v _ _ turned in
         let a : work v.cluster ≡ 2 ^ 41 * (2 * rivals v.cluster (first_leader w.cluster).ballot + cond (first_leader w.cluster).active 0 1) + 16 * len (commands (first_leader w.cluster) s h.command).state.commanders = ap (λ y. 2 ^ 41 * (2 * rivals v.cluster y.ballot + cond y.active 0 1) + 16 * len y.commanders) l in
-        let one = one_commander (first_leader w.cluster) s h.command settled.done in
+        let one = one_commander (first_leader w.cluster) s h.command at_rest.done in
         let r = rivals_turned laws w v _ _ turned (first_leader w.cluster).ballot in
         let count = turned.count in
         omega arith
@@ -98,8 +98,8 @@ module _ (laws : BallotLaws) {O Op Reply : Type 0} (rules : Rules O Op Reply) wh
     pub own_book : first_book u.cluster ≡ proposed_next (first_book w.cluster)
     own_book = book_turned laws w u _ _ turned_own
 
-    pub own_settled : IsSettled w.cluster → IsSettled u.cluster
-    own_settled h = settled_stays laws w u _ _ turned_own refl h
+    pub own_at_rest : IsAtRest w.cluster → IsAtRest u.cluster
+    own_at_rest h = at_rest_stays laws w u _ _ turned_own refl h
 
     pub own_free : contains_key (first_leader w.cluster).proposals s ≡ false → contains_key (first_leader u.cluster).proposals s ≡ false
     own_free h = ap (λ l. contains_key l.proposals s) (leader_turned laws w u _ _ turned_own) ∙ h

@@ -28,7 +28,7 @@ use Rattle.world.proofs.Invariants.{IsSound}
 use Rattle.world.proofs.LeaderRows.{none_not}
 use Rattle.world.proofs.Turns.{here}
 use Rattle.world.specs.Leading.{HasLeader}
-use Rattle.world.specs.WaysOut.{first_leader, rivals, IsTalk, HasScout, AsksAt, IsOver, beaten, adopted, settled}
+use Rattle.world.specs.WaysOut.{first_leader, rivals, IsTalk, HasScout, AsksAt, IsOver, beaten, adopted, at_rest}
 use Rattle.world.proofs.Talking.{talk_itself, turn_talks}
 use Rattle.world.proofs.Rivals.{no_more_rivals}
 use Rattle.world.proofs.Asking.{IsAsk, promise, vote, IsRound, IsManned, IsAsking, IsGoing, HasHeard}
@@ -148,7 +148,7 @@ module _ (laws : BallotLaws) {Op Reply : Type 0} (old now : World Op Reply) (sta
       at s (Some c) e = absurd (none s c e)
 
   over_going : IsGoing old now start stop → (b : Bool) → (first_leader old.cluster).active ≡ b → IsOver old now
-  over_going g true awake = settled (record { active = g.awake awake; done = no_values (first_leader now.cluster).commanders (no_commander_left g awake) }) (no_more g)
+  over_going g true awake = at_rest (record { active = g.awake awake; done = no_values (first_leader now.cluster).commanders (no_commander_left g awake) }) (no_more g)
   over_going g false asleep = elim (g.asleep asleep) as (λ v. IsOver old now) [
     | inl active ↦ adopted asleep active (no_more g)
     | inr h ↦ let before = posted asleep in absurd (no_scout_left h.0 h.1 before.0 before.1 h.2)

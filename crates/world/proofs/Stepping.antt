@@ -29,7 +29,7 @@ use Rattle.world.specs.Steps.{Step, propose, perform, counted, with_cluster, rep
 use Rattle.world.specs.declared.event.Event.TheVariants as events
 use Rattle.world.proofs.Invariants.{IsSound}
 use Rattle.world.proofs.Turns.{here, there}
-use Rattle.world.specs.WaysOut.{first_leader, rivals, work, IsSettled}
+use Rattle.world.specs.WaysOut.{first_leader, rivals, work, IsAtRest}
 use Rattle.world.proofs.Hearing.{HasReceived, received}
 use Rattle.world.proofs.Rivals.{no_more_rivals}
 
@@ -135,10 +135,10 @@ module _ (laws : BallotLaws) {Op Reply : Type 0} (w v : World Op Reply) (x : Nod
       let r = rivals_turned (first_leader w.cluster).ballot in
       omega arith
 
-  pub settled_stays : x.leader ≡ first_leader w.cluster → IsSettled w.cluster → IsSettled v.cluster
-  settled_stays same s = record { active = ap (λ l. l.active) (leader_turned ∙ same) ∙ s.active; done = ap (λ l. l.commanders) (leader_turned ∙ same) ∙ s.done }
+  pub at_rest_stays : x.leader ≡ first_leader w.cluster → IsAtRest w.cluster → IsAtRest v.cluster
+  at_rest_stays same s = record { active = ap (λ l. l.active) (leader_turned ∙ same) ∙ s.active; done = ap (λ l. l.commanders) (leader_turned ∙ same) ∙ s.done }
 
--- a settled leader takes a proposal for a slot where it has none
+-- a leader at rest takes a proposal for a slot where it has none
 pub takes_proposal : {C : Type 0} (l : Leading C) (s : ℕ) (c : C) → l.active ≡ true → contains_key l.proposals s ≡ false → on_propose l s c ≡ commands l s c
 takes_proposal {C} l s c active none = at (contains_key l.proposals s) l.active none active
   where

@@ -18,7 +18,7 @@ use Rattle.world.specs.declared.event.Event.TheVariants.{Submit, Deliver, Wake, 
 use Rattle.world.proofs.Invariants.{IsSound}
 use Rattle.world.proofs.Reach.{reachable_sound, step_sound}
 use Rattle.world.specs.Mentions.{Mentions, is_calm}
-use Rattle.world.specs.WaysOut.{first_leader, rivals, IsSettled, IsOver, IsSmall, Goes, is_talk, questions, work, most_slots}
+use Rattle.world.specs.WaysOut.{first_leader, rivals, IsAtRest, IsOver, IsSmall, Goes, is_talk, questions, work, most_slots}
 use Rattle.world.proofs.LeadingEvery.{has_leader}
 use Rattle.world.proofs.MentionsEvery.{mentions_calm}
 use Rattle.world.proofs.MentionsFew.{few_proposals}
@@ -63,8 +63,8 @@ module _ (laws : BallotLaws) {O Op Reply : Type 0} (rules : Rules O Op Reply) wh
     pub talk_mentions : (v : World Op Reply) (before now : List (Event Op)) → Goes rules is_talk w before v now → Mentions P w.cluster → Mentions P v.cluster
     talk_mentions v before now g m = (talked g.events v g.led g.each m).1
 
-  -- where the leader isn't settled, there is work
-  pub some_work : (w : World Op Reply) → (IsSettled w.cluster → ⊥) → 0 < work w.cluster
+  -- where the leader isn't at rest, there is work
+  pub some_work : (w : World Op Reply) → (IsAtRest w.cluster → ⊥) → 0 < work w.cluster
   some_work w left = at (first_leader w.cluster).active refl
     where
       at : (active : Bool) → (first_leader w.cluster).active ≡ active → 0 < work w.cluster
@@ -76,17 +76,17 @@ module _ (laws : BallotLaws) {O Op Reply : Type 0} (rules : Rules O Op Reply) wh
           let b : work w.cluster ≡ 2 ^ 41 * (2 * rivals w.cluster (first_leader w.cluster).ballot + 1) + 16 * len (first_leader w.cluster).commanders = ap (λ x. 2 ^ 41 * (2 * rivals w.cluster (first_leader w.cluster).ballot + cond x 0 1) + 16 * len (first_leader w.cluster).commanders) e in
           omega arith
 
-  -- an active leader that waits for nothing is settled, and no other
-  pub settled_when : (w : World Op Reply) → IsWorld rules w → is_member w.cluster.members 1 ≡ true → (first_leader w.cluster).active ≡ true → length (says_again (first_leader w.cluster)) ≡ 0 → IsSettled w.cluster
-  settled_when w i first active none = record {
+  -- an active leader that waits for nothing is at rest, and no other
+  pub at_rest_when : (w : World Op Reply) → IsWorld rules w → is_member w.cluster.members 1 ≡ true → (first_leader w.cluster).active ≡ true → length (says_again (first_leader w.cluster)) ≡ 0 → IsAtRest w.cluster
+  at_rest_when w i first active none = record {
     active = active;
     done = empty_of_len (first_leader w.cluster).commanders (sym (waits_awake (first_leader w.cluster) ((has_leader laws rules w i 1 first).active active).alone) ∙ none);
   }
 
-  pub waits_for_nothing : (w : World Op Reply) → IsWorld rules w → is_member w.cluster.members 1 ≡ true → IsSettled w.cluster → length (says_again (first_leader w.cluster)) ≡ 0
-  waits_for_nothing w i first settled = waits_awake (first_leader w.cluster) ((has_leader laws rules w i 1 first).active settled.active).alone ∙ ap len settled.done ∙ len-empty nat_cmp (Commanding (Command Op))
+  pub waits_for_nothing : (w : World Op Reply) → IsWorld rules w → is_member w.cluster.members 1 ≡ true → IsAtRest w.cluster → length (says_again (first_leader w.cluster)) ≡ 0
+  waits_for_nothing w i first at_rest = waits_awake (first_leader w.cluster) ((has_leader laws rules w i 1 first).active at_rest.active).alone ∙ ap len at_rest.done ∙ len-empty nat_cmp (Commanding (Command Op))
 
-  module _ (w u : World Op Reply) (i : IsWorld rules w) (members : IsMembers w.cluster.members) (left : IsSettled w.cluster → ⊥) (step : Step rules w (events.Wake 1) u) where
+  module _ (w u : World Op Reply) (i : IsWorld rules w) (members : IsMembers w.cluster.members) (left : IsAtRest w.cluster → ⊥) (step : Step rules w (events.Wake 1) u) where
     first : is_member w.cluster.members 1 ≡ true
     first = first_member w.cluster.members members
 

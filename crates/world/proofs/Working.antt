@@ -22,7 +22,7 @@ use Rattle.world.specs.declared.event.Event.TheVariants as events
 use Rattle.world.proofs.Invariants.{IsSound}
 use Rattle.world.proofs.LeaderRows.{off_on}
 use Rattle.world.proofs.Turns.{here}
-use Rattle.world.specs.WaysOut.{first_leader, rivals, IsTalk, IsSettled, HasScout, work, most_slots, IsBeaten, IsOver, beaten, adopted, settled}
+use Rattle.world.specs.WaysOut.{first_leader, rivals, IsTalk, IsAtRest, HasScout, work, most_slots, IsBeaten, IsOver, beaten, adopted, at_rest}
 use Rattle.world.proofs.Talking.{turn_talks, at_each}
 use Rattle.world.proofs.Rivals.{no_more_rivals}
 
@@ -41,7 +41,7 @@ waits_awake {C} l is =
 none_left : {C : Type 0} (cs : Slots (Commanding C)) → cs ≡ empty → len cs ≡ 0
 none_left {C} cs e = ap len e ∙ len-empty nat_cmp (Commanding C)
 
-pub some_left : {C : Type 0} (k : Cluster C) → (IsSettled k → ⊥) → (first_leader k).active ≡ true → 0 < len (first_leader k).commanders
+pub some_left : {C : Type 0} (k : Cluster C) → (IsAtRest k → ⊥) → (first_leader k).active ≡ true → 0 < len (first_leader k).commanders
 some_left k left active = at (len (first_leader k).commanders) refl
   where
     at : (n : ℕ) → len (first_leader k).commanders ≡ n → 0 < n
@@ -74,14 +74,14 @@ module _ {Op Reply : Type 0} (w v : World Op Reply) (waits : ℕ) (spent : v.tak
       let b : work w.cluster ≡ 2 ^ 41 * (2 * rivals w.cluster (first_leader w.cluster).ballot + 1) + 16 * len (first_leader w.cluster).commanders = ap (λ x. 2 ^ 41 * (2 * rivals w.cluster (first_leader w.cluster).ballot + cond x 0 1) + 16 * len (first_leader w.cluster).commanders) asleep in
       omega arith
 
-  left_settled : (active : Bool) → (first_leader w.cluster).active ≡ active → (active ≡ true → (waits ≡ len (first_leader w.cluster).commanders) × (0 < waits)) → (active ≡ false → waits ≡ 1) → IsSettled v.cluster → rivals v.cluster (first_leader v.cluster).ballot ≤ rivals w.cluster (first_leader w.cluster).ballot → v.taken + work v.cluster ≤ w.taken + work w.cluster
-  left_settled true e awake asleep h no_more =
+  left_at_rest : (active : Bool) → (first_leader w.cluster).active ≡ active → (active ≡ true → (waits ≡ len (first_leader w.cluster).commanders) × (0 < waits)) → (active ≡ false → waits ≡ 1) → IsAtRest v.cluster → rivals v.cluster (first_leader v.cluster).ballot ≤ rivals w.cluster (first_leader w.cluster).ballot → v.taken + work v.cluster ≤ w.taken + work w.cluster
+  left_at_rest true e awake asleep h no_more =
       let a : work v.cluster ≡ 2 ^ 41 * (2 * rivals v.cluster (first_leader v.cluster).ballot + 0) + 16 * 0 = ap₂ (λ x y. 2 ^ 41 * (2 * rivals v.cluster (first_leader v.cluster).ballot + cond x 0 1) + 16 * y) h.active (none_left (first_leader v.cluster).commanders h.done) in
       let b : work w.cluster ≡ 2 ^ 41 * (2 * rivals w.cluster (first_leader w.cluster).ballot + 0) + 16 * len (first_leader w.cluster).commanders = ap (λ x. 2 ^ 41 * (2 * rivals w.cluster (first_leader w.cluster).ballot + cond x 0 1) + 16 * len (first_leader w.cluster).commanders) e in
       let n = (awake refl).0 in
       let some = (awake refl).1 in
       omega arith
-  left_settled false e awake asleep h no_more =
+  left_at_rest false e awake asleep h no_more =
       let a : work v.cluster ≡ 2 ^ 41 * (2 * rivals v.cluster (first_leader v.cluster).ballot + 0) + 16 * 0 = ap₂ (λ x y. 2 ^ 41 * (2 * rivals v.cluster (first_leader v.cluster).ballot + cond x 0 1) + 16 * y) h.active (none_left (first_leader v.cluster).commanders h.done) in
       let b : work w.cluster ≡ 2 ^ 41 * (2 * rivals w.cluster (first_leader w.cluster).ballot + 1) + 16 * len (first_leader w.cluster).commanders = ap (λ x. 2 ^ 41 * (2 * rivals w.cluster (first_leader w.cluster).ballot + cond x 0 1) + 16 * len (first_leader w.cluster).commanders) e in
       let n = asleep refl in
@@ -90,7 +90,7 @@ module _ {Op Reply : Type 0} (w v : World Op Reply) (waits : ℕ) (spent : v.tak
   pub round_spent : ((first_leader w.cluster).active ≡ true → (waits ≡ len (first_leader w.cluster).commanders) × (0 < waits)) → ((first_leader w.cluster).active ≡ false → waits ≡ 1) → IsOver w v → v.taken + work v.cluster ≤ w.taken + work w.cluster
   round_spent awake asleep (beaten h) = let less = left_beaten (first_leader w.cluster).active refl (λ e. (awake e).0) asleep h in omega arith
   round_spent awake asleep (adopted sleeps active no_more) = let less = left_adopted sleeps (asleep sleeps) active no_more in omega arith
-  round_spent awake asleep (settled h no_more) = left_settled (first_leader w.cluster).active refl awake asleep h no_more
+  round_spent awake asleep (at_rest h no_more) = left_at_rest (first_leader w.cluster).active refl awake asleep h no_more
 
 -- the world after node 1 woke
 pub wake_is : {O Op Reply : Type 0} (rules : Rules O Op Reply) (w : World Op Reply) (n : ℕ) (v : World Op Reply) → Step rules w (events.Wake n) v → v ≡ counted (with_cluster w (leader_turn w.cluster n (woken (node w.cluster n).leader)))
@@ -160,4 +160,4 @@ over_from w u v ballot active no_more (beaten h) = beaten (record {
   fewer = let a = subst (λ b. rivals v.cluster (first_leader v.cluster).ballot < rivals u.cluster b) ballot h.fewer in omega arith;
 })
 over_from w u v ballot active no_more (adopted asleep now fewer) = adopted (sym active ∙ asleep) now (let a = subst (λ b. rivals v.cluster (first_leader v.cluster).ballot ≤ rivals u.cluster b) ballot fewer in omega arith)
-over_from w u v ballot active no_more (settled h fewer) = settled h (let a = subst (λ b. rivals v.cluster (first_leader v.cluster).ballot ≤ rivals u.cluster b) ballot fewer in omega arith)
+over_from w u v ballot active no_more (at_rest h fewer) = at_rest h (let a = subst (λ b. rivals v.cluster (first_leader v.cluster).ballot ≤ rivals u.cluster b) ballot fewer in omega arith)

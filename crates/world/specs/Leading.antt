@@ -29,7 +29,7 @@ IsToldToAll k n s c = (m : ℕ) → is_member k.members m ≡ true → In (lette
 pub record IsActive {C : Type 0} (k : Cluster C) (n : ℕ) (l : Leading C) : Type 0 where
   pub promised : IsPromised k l.ballot
   pub alone : l.scout ≡ None
-  pub settled : (s : ℕ) (c : C) → get l.proposals s ≡ Some c → IsSome (get l.commanders s) ⊎ IsToldToAll k n s c
+  pub followed_up : (s : ℕ) (c : C) → get l.proposals s ≡ Some c → IsSome (get l.commanders s) ⊎ IsToldToAll k n s c
 
 -- a scout that waits: those that it heard, of a row of seven, are members, and no majority
 pub record IsStillScouting {C : Type 0} (k : Cluster C) (s : Scouting C) : Type 0 where

@@ -20,6 +20,6 @@ abbrev pub KeepsPromise : {Op : Type 0} → (List (Command Op) → Type 0) → C
 KeepsPromise {Op} promise k = (order : List (Command Op)) → IsOrder k order → promise order
 
 -- the happenings go on, and so does the order
-pub record IsLater {Op Reply : Type 0} (earlier later : World Op Reply) : Type 0 where
+pub record GoesOnFrom {Op Reply : Type 0} (earlier later : World Op Reply) : Type 0 where
   pub happenings : GoesOn earlier.happenings later.happenings
   pub order : (cs ds : List (Command Op)) → IsOrder earlier.cluster cs → IsOrder later.cluster ds → IsBeginning cs ds

@@ -47,7 +47,7 @@ abbrev pub rivals : {C : Type 0} → Cluster C → Numbers → ℕ
 rivals k b = length (filter (is_rival k b) (numbers k.members))
 
 -- the leader is active, and waits for nothing
-pub record IsSettled {C : Type 0} (k : Cluster C) : Type 0 where
+pub record IsAtRest {C : Type 0} (k : Cluster C) : Type 0 where
   pub active : (first_leader k).active ≡ true
   pub done : (first_leader k).commanders ≡ empty
 
@@ -73,9 +73,9 @@ pub record IsBeaten {Op Reply : Type 0} (old now : World Op Reply) : Type 0 wher
 pub data IsOver {Op Reply : Type 0} (old now : World Op Reply) : Type 0 where
   beaten : IsBeaten old now → IsOver old now
   adopted : (first_leader old.cluster).active ≡ false → (first_leader now.cluster).active ≡ true → rivals now.cluster (first_leader now.cluster).ballot ≤ rivals old.cluster (first_leader old.cluster).ballot → IsOver old now
-  settled : IsSettled now.cluster → rivals now.cluster (first_leader now.cluster).ballot ≤ rivals old.cluster (first_leader old.cluster).ballot → IsOver old now
+  at_rest : IsAtRest now.cluster → rivals now.cluster (first_leader now.cluster).ballot ≤ rivals old.cluster (first_leader old.cluster).ballot → IsOver old now
 
--- how much there is to ask for yet: more than the events that it can take until the leader is settled
+-- how much there is to ask for yet: more than the events that it can take until the leader is at rest
 abbrev pub work : {C : Type 0} → Cluster C → ℕ
 work k =
     2 ^ 41 * (2 * rivals k (first_leader k).ballot + (if (first_leader k).active then 0 else 1)) + 16 * len (first_leader k).commanders

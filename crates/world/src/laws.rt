@@ -19,7 +19,7 @@ ghost use Rattle.world.specs.Runs.{IsWorld, InEvery, AfterEach};
 ghost use Rattle.world.specs.Showing.{HasNode, IsReceivable};
 ghost use Rattle.world.specs.Chosen.{IsChosen};
 ghost use Rattle.world.specs.Agreements.{HasOneCommand, KeepsChosen, DecidesChosen, ChoosesOne, StaysChosen};
-ghost use Rattle.world.specs.OneOrder.{HasOneOrder, KeepsPromise, IsLater};
+ghost use Rattle.world.specs.OneOrder.{HasOneOrder, KeepsPromise, GoesOnFrom};
 ghost use Rattle.world.specs.Told.{IsAnswered, IsGivenByReached};
 ghost use Rattle.world.specs.Reached.{IsReached, HasPlaced};
 ghost use Rattle.world.specs.Placing.{placed_after};
@@ -73,7 +73,7 @@ pub fn every_world<O: Object>()
     ensures placed_once { InEvery O.rules (λ w. (keys : List Key) → HasPlaced w keys →
         KeysOnce (λ k. k) keys) }
     ensures answered { InEvery O.rules (IsAnswered O.rules) }
-    ensures later { AfterEach O.rules IsLater }
+    ensures later { AfterEach O.rules GoesOnFrom }
 {
     ballot_laws();
     O::keeps_promise();

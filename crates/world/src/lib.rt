@@ -18,4 +18,4 @@ pub use error::WorldError;
 pub use event::Event;
 pub use laws::every_world;
 pub use schedule::Schedule;
-pub use world::World;
+pub use world::{MOST_EVENTS, World};

@@ -94,11 +94,11 @@ fn has_greater<Op: Value>(submitted: &[Submission<Op>], key: Key) -> bool
 {
     submitted
         .iter()
-        .any(|submission| is_after(submission.command.key(), key))
+        .any(|submission| supersedes(submission.command.key(), key))
 }
 
 // Whether it is of the key's session, and of a greater number.
-fn is_after(own: Key, key: Key) -> bool
+fn supersedes(own: Key, key: Key) -> bool
     ensures { result ≡ ((own.session == key.session) && nat_lt key.number own.number) }
 {
     own.session == key.session && key.number < own.number

@@ -12,7 +12,7 @@ use std::alloc::AllocError;
 mod advancing;
 mod asking;
 mod bringing;
-mod settling;
+mod resting;
 
 /// A way out of a world: events, and the world to which they lead from it.
 #[derive(Drop)]

@@ -6,7 +6,7 @@ ghost use Rattle.world.specs.Steps.{Step};
 ghost use Rattle.world.specs.Quiet.{BringsNothing};
 ghost use Rattle.world.specs.Runs.{Leads};
 ghost use Rattle.world.specs.Refusals.{refusal, reason_for, IsRefused};
-ghost use Rattle.world.specs.OneOrder.{HasOneOrder, KeepsPromise, IsLater};
+ghost use Rattle.world.specs.OneOrder.{HasOneOrder, KeepsPromise, GoesOnFrom};
 ghost use Rattle.world.specs.Told.{IsAnswered};
 ghost use Rattle.world.specs.Agreements.{HasOneCommand, KeepsChosen, ChoosesOne, DecidesChosen, StaysChosen};
 
@@ -20,6 +20,7 @@ use crate::event::{Event, Task};
 use crate::watched::Watched;
 use ballot::{Letter, Members, ballot_laws};
 use object::{Answer, Command, Key, Object, Submission, Value};
+pub use refusing::MOST_EVENTS;
 use std::alloc::{AllocError, Global};
 use std::marker::Model;
 
@@ -110,7 +111,7 @@ impl<O: Object> World<O> {
         ensures one_order { HasOneOrder O.rules self.new }
         ensures promised { KeepsPromise O.promise self.new.cluster }
         ensures answered { IsAnswered O.rules self.new }
-        ensures later { IsLater self.old self.new }
+        ensures later { GoesOnFrom self.old self.new }
     {
         let _ = &self.alloc;
         ballot_laws();
@@ -145,7 +146,7 @@ impl<O: Object> World<O> {
         ensures one_order { HasOneOrder O.rules self.new }
         ensures promised { KeepsPromise O.promise self.new.cluster }
         ensures answered { IsAnswered O.rules self.new }
-        ensures later { IsLater self.old self.new }
+        ensures later { GoesOnFrom self.old self.new }
     {
         let ran = self.take_all(events);
         self.agrees();
@@ -159,7 +160,7 @@ impl<O: Object> World<O> {
         ensures place { IfErr result (λ e. e.0 < length events.now) }
         ensures refused { IfErr result (λ e. IsRefused O.Op.eq self.new events.now e.0 e.1) }
         ensures stays { StaysChosen self.old.cluster self.new.cluster }
-        ensures later { IsLater self.old self.new }
+        ensures later { GoesOnFrom self.old self.new }
     {
         let _ = &self.alloc;
         ballot_laws();
@@ -177,7 +178,7 @@ impl<O: Object> World<O> {
         ensures err { OnErr result (self.new ≡ self.old) }
         ensures refused { IfErr result (λ r. r ≡ reason_for O.Op.eq self.old event.now) }
         ensures stays { StaysChosen self.old.cluster self.new.cluster }
-        ensures later { IsLater self.old self.new }
+        ensures later { GoesOnFrom self.old self.new }
     {
         let _ = &self.alloc;
         ballot_laws();

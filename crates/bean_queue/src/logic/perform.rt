@@ -2,7 +2,7 @@ ghost use Rattle.std.specs.Prelude.{◌≡◌, ◌∷◌, [], ◌++◌, true, fa
 ghost use Rattle.job_store.specs.Entries.{value_at};
 ghost use Rattle.bean_queue.specs.Rows.{row};
 ghost use Rattle.bean_queue.specs.Turns.{serve_turn};
-ghost use Rattle.bean_queue.specs.Effects.{own, settled, has_no_number, carried_out, do_effect, is_quiet};
+ghost use Rattle.bean_queue.specs.Effects.{own, turned_away, has_no_number, carried_out, do_effect, is_quiet};
 
 use crate::counters::LIMIT;
 use crate::logic::Logic;
@@ -75,7 +75,7 @@ impl<M: JobMap> Logic<M> {
 
     /// Obeys a quiet operation, where nothing is left to give.
     #[tactic(auto, unfolding(crate::specs::Effects::do_effect))]
-    pub fn answer(&mut self, alloc: Global, key: Key, op: &Op) -> Result<Reply, AllocError>
+    pub fn obey_quiet(&mut self, alloc: Global, key: Key, op: &Op) -> Result<Reply, AllocError>
         requires quiet { is_quiet op.now ≡ true }
         requires calm { serve_turn self.old.now ≡ None }
         ensures state { OnOk result (self.new.now ≡ (do_effect op.now key self.old.now).state) }
@@ -146,20 +146,20 @@ impl<M: JobMap> Logic<M> {
     }
 
     /// Answers the operation if it was a reserve that got no job and may not wait.
-    #[tactic(auto, unfolding(crate::specs::Effects::settled))]
-    fn settle_after(
+    #[tactic(auto, unfolding(crate::specs::Effects::turned_away))]
+    fn turn_away_after(
         &mut self,
         key: Key,
         op: &Op,
         answers: &mut Vec<Answer<Reply>>,
     ) -> Result<(), AllocError>
-        ensures state { OnOk result (self.new.now ≡ (settled op.now key self.old.now).state) }
+        ensures state { OnOk result (self.new.now ≡ (turned_away op.now key self.old.now).state) }
         ensures answers { OnOk result
-            (answers.new.items ≡ answers.old.items ++ (settled op.now key self.old.now).answers) }
+            (answers.new.items ≡ answers.old.items ++ (turned_away op.now key self.old.now).answers) }
         ensures before { self.new.before ≡ self.old.before }
     {
         match op {
-            Op::Reserve { seconds } => self.settle(key, *seconds, answers),
+            Op::Reserve { seconds } => self.turn_away(key, *seconds, answers),
             _ => Ok(()),
         }
     }
@@ -187,12 +187,12 @@ impl<M: JobMap> Logic<M> {
         let woken = self.woken_by(alloc, key, op)?;
         self.loud_answer(key, op, answers)?;
         self.serve(woken.as_slice(), answers)?;
-        self.settle_after(key, op, answers)
+        self.turn_away_after(key, op, answers)
     }
 
     /// Obeys an operation that is not quiet, where nothing is left to give.
     #[tactic(auto, unfolding(crate::specs::Effects::do_effect))]
-    pub fn act(
+    pub fn obey_loud(
         &mut self,
         alloc: Global,
         key: Key,

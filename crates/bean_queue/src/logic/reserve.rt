@@ -2,7 +2,7 @@ ghost use Rattle.std.specs.Prelude.{◌≡◌, ◌≤◌, ◌^◌, ◌==◌, ◌
 ghost use Rattle.session_store.specs.Sessions.{with_wait_ended, is_waiting, session_of};
 ghost use Rattle.bean_queue.specs.Queue.{with_sessions};
 ghost use Rattle.bean_queue.specs.Rows.{time_out, reserve_row};
-ghost use Rattle.bean_queue.specs.Effects.{ends_wait, settled};
+ghost use Rattle.bean_queue.specs.Effects.{ends_wait, turned_away};
 ghost use Rattle.bean_queue.specs.declared.op.Op.{Op};
 
 use crate::deadlines::{holds_by, waits_at};
@@ -77,18 +77,18 @@ impl<M: JobMap> Logic<M> {
     }
 
     /// Tells a session that still waits after its reserve of a job that is due soon, or that it may not wait.
-    #[tactic(auto, unfolding(crate::specs::Effects::settled))]
-    pub fn settle(
+    #[tactic(auto, unfolding(crate::specs::Effects::turned_away))]
+    pub fn turn_away(
         &mut self,
         key: Key,
         seconds: Option<u32>,
         answers: &mut Vec<Answer<Reply>>,
     ) -> Result<(), AllocError>
         ensures state { OnOk result (self.new.now
-            ≡ (settled (Op.Reserve seconds) key self.old.now).state) }
+            ≡ (turned_away (Op.Reserve seconds) key self.old.now).state) }
         ensures answers { OnOk result
             (answers.new.items
-            ≡ answers.old.items ++ (settled (Op.Reserve seconds) key self.old.now).answers) }
+            ≡ answers.old.items ++ (turned_away (Op.Reserve seconds) key self.old.now).answers) }
         ensures before { self.new.before ≡ self.old.before }
     {
         if !self.is_waiting(key.session) {

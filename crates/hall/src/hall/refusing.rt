@@ -6,12 +6,10 @@ use super::Hall;
 use crate::error::HallError;
 use crate::ticket::Ticket;
 use object::{Act, Key, Object};
-
-/// A hall takes so many events.
-const MOST_EVENTS: u64 = 1 << 48;
+use world::MOST_EVENTS;
 
 /// The greatest second of a clock.
-const LAST_SECOND: u64 = 1 << 40;
+pub const LAST_SECOND: u64 = 1 << 40;
 
 impl<O: Object> Hall<O> {
     // Why the ticket's new command is refused, want of memory aside.

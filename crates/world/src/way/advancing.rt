@@ -3,7 +3,7 @@ ghost use Rattle.std.specs.FinMap.{get, contains_key};
 ghost use Rattle.world.specs.declared.error.WorldError.TheVariants.{OutOfMemory};
 ghost use Rattle.world.specs.Refusals.{most_events};
 ghost use Rattle.world.specs.Telling.{IsProposedAt};
-ghost use Rattle.world.specs.WaysOut.{first_leader, first_book, IsSettled, IsSmall, IsReady, HasLearnt, HasDecided, HasAdvanced, AreAllRead, IsPassage, work, most_slots};
+ghost use Rattle.world.specs.WaysOut.{first_leader, first_book, IsAtRest, IsSmall, IsReady, HasLearnt, HasDecided, HasAdvanced, AreAllRead, IsPassage, work, most_slots};
 ghost use Rattle.object.specs.Objects.{is_one};
 
 use crate::error::WorldError;
@@ -18,13 +18,13 @@ impl<O: Object> Way<O> {
     pub(crate) fn advance(&mut self, places: &LetterPlaces) -> Result<(), WorldError>
         requires read { AreAllRead self.old.trial.cluster.letters places.now.read
             places.now.proposals places.now.decisions }
-        requires settled { IsSettled self.old.trial.cluster }
+        requires at_rest { IsAtRest self.old.trial.cluster }
         requires small { IsSmall self.old.trial.cluster }
         requires low { (first_book self.old.trial.cluster).slot_out ≤ most_slots }
         requires more { IsProposedAt self.old.trial.cluster (first_book self.old.trial.cluster).slot_out
             ⊎ (0 < length (first_book self.old.trial.cluster).requests) }
         requires room { self.old.trial.taken + work self.old.trial.cluster + 20 ≤ most_events }
-        ensures settled { OnOk result (IsSettled self.new.trial.cluster) }
+        ensures at_rest { OnOk result (IsAtRest self.new.trial.cluster) }
         ensures advanced { OnOk result (HasAdvanced (is_one O.rules) self.old.trial.cluster
             (first_book self.new.trial.cluster)) }
         ensures passage { OnOk result (IsPassage O.rules (first_book self.old.trial.cluster).slot_out
@@ -43,14 +43,14 @@ impl<O: Object> Way<O> {
     fn learn(&mut self, places: &LetterPlaces, slot: Slot) -> Result<(), WorldError>
         requires read { AreAllRead self.old.trial.cluster.letters places.now.read
             places.now.proposals places.now.decisions }
-        requires settled { IsSettled self.old.trial.cluster }
+        requires at_rest { IsAtRest self.old.trial.cluster }
         requires small { IsSmall self.old.trial.cluster }
         requires next { slot ≡ (first_book self.old.trial.cluster).slot_out }
         requires low { slot ≤ most_slots }
         requires more { IsProposedAt self.old.trial.cluster slot
             ⊎ (0 < length (first_book self.old.trial.cluster).requests) }
         requires room { self.old.trial.taken + work self.old.trial.cluster + 19 ≤ most_events }
-        ensures settled { OnOk result (IsSettled self.new.trial.cluster) }
+        ensures at_rest { OnOk result (IsAtRest self.new.trial.cluster) }
         ensures decided { OnOk result (HasDecided self.old.trial.cluster slot
             (first_book self.new.trial.cluster)) }
         ensures passage { OnOk result (IsPassage O.rules slot 19 self.old.trial
@@ -67,7 +67,7 @@ impl<O: Object> Way<O> {
     fn decide(&mut self, places: &LetterPlaces, slot: Slot) -> Result<(), WorldError>
         requires read { AreAllRead self.old.trial.cluster.letters places.now.read
             places.now.proposals places.now.decisions }
-        requires settled { IsSettled self.old.trial.cluster }
+        requires at_rest { IsAtRest self.old.trial.cluster }
         requires small { IsSmall self.old.trial.cluster }
         requires next { slot ≡ (first_book self.old.trial.cluster).slot_out }
         requires unknown { get (first_book self.old.trial.cluster).decisions slot ≡ None }
@@ -75,7 +75,7 @@ impl<O: Object> Way<O> {
         requires more { IsProposedAt self.old.trial.cluster slot
             ⊎ (0 < length (first_book self.old.trial.cluster).requests) }
         requires room { self.old.trial.taken + work self.old.trial.cluster + 19 ≤ most_events }
-        ensures settled { OnOk result (IsSettled self.new.trial.cluster) }
+        ensures at_rest { OnOk result (IsAtRest self.new.trial.cluster) }
         ensures learnt { OnOk result (HasLearnt self.old.trial.cluster slot
             (first_book self.new.trial.cluster)) }
         ensures passage { OnOk result (IsPassage O.rules slot 19 self.old.trial
@@ -95,7 +95,7 @@ impl<O: Object> Way<O> {
     fn lead(&mut self, places: &LetterPlaces, slot: Slot) -> Result<(), WorldError>
         requires read { AreAllRead self.old.trial.cluster.letters places.now.read
             places.now.proposals places.now.decisions }
-        requires settled { IsSettled self.old.trial.cluster }
+        requires at_rest { IsAtRest self.old.trial.cluster }
         requires small { IsSmall self.old.trial.cluster }
         requires next { slot ≡ (first_book self.old.trial.cluster).slot_out }
         requires unknown { get (first_book self.old.trial.cluster).decisions slot ≡ None }
@@ -103,7 +103,7 @@ impl<O: Object> Way<O> {
         requires more { IsProposedAt self.old.trial.cluster slot
             ⊎ (0 < length (first_book self.old.trial.cluster).requests) }
         requires room { self.old.trial.taken + work self.old.trial.cluster + 18 ≤ most_events }
-        ensures settled { OnOk result (IsSettled self.new.trial.cluster) }
+        ensures at_rest { OnOk result (IsAtRest self.new.trial.cluster) }
         ensures led { OnOk result (contains_key (first_leader self.new.trial.cluster).proposals slot
             ≡ true) }
         ensures ready { OnOk result (IsReady self.old.trial.cluster slot
@@ -119,14 +119,14 @@ impl<O: Object> Way<O> {
         }
         self.propose(places, slot)?;
         self.trial.stands();
-        self.settle()
+        self.come_to_rest()
     }
 
     // Has the leader of node 1 take a proposal for the slot that replica 1 performs next.
     fn propose(&mut self, places: &LetterPlaces, slot: Slot) -> Result<(), WorldError>
         requires read { AreAllRead self.old.trial.cluster.letters places.now.read
             places.now.proposals places.now.decisions }
-        requires settled { IsSettled self.old.trial.cluster }
+        requires at_rest { IsAtRest self.old.trial.cluster }
         requires next { slot ≡ (first_book self.old.trial.cluster).slot_out }
         requires unknown { get (first_book self.old.trial.cluster).decisions slot ≡ None }
         requires free { contains_key (first_leader self.old.trial.cluster).proposals slot ≡ false }
@@ -151,7 +151,7 @@ impl<O: Object> Way<O> {
 
     // The same, where no letter proposes anything for the slot: replica 1 proposes its first request there.
     fn propose_first(&mut self, slot: Slot) -> Result<(), WorldError>
-        requires settled { IsSettled self.old.trial.cluster }
+        requires at_rest { IsAtRest self.old.trial.cluster }
         requires next { slot ≡ (first_book self.old.trial.cluster).slot_out }
         requires unknown { get (first_book self.old.trial.cluster).decisions slot ≡ None }
         requires free { contains_key (first_leader self.old.trial.cluster).proposals slot ≡ false }

@@ -33,7 +33,7 @@ impl<O: Object> Way<O> {
         let request = command.copy()?;
         self.take(Event::Submit(1, request))?;
         self.trial.stands();
-        self.settle()?;
+        self.come_to_rest()?;
         let mut places = LetterPlaces::new(self.trial.allocator());
         while self.has_more(&mut places)? {
             self.trial.stands();
@@ -52,7 +52,7 @@ impl<O: Object> Way<O> {
         ensures more { IfOk result (λ more. more ≡ true
             → IsProposedAt self.now.trial.cluster (first_book self.now.trial.cluster).slot_out
             ⊎ (0 < length (first_book self.now.trial.cluster).requests)) }
-        ensures settled { IfOk result (λ more. more ≡ false
+        ensures at_rest { IfOk result (λ more. more ≡ false
             → IsProposedAt self.now.trial.cluster (first_book self.now.trial.cluster).slot_out → ⊥) }
         ensures none { IfOk result (λ more. more ≡ false
             → (first_book self.now.trial.cluster).requests ≡ []) }

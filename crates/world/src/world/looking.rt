@@ -49,11 +49,11 @@ impl<O: Object> World<O> {
         &self.nodes[0].node
     }
 
-    /// Whether node 1 leads.
-    pub(crate) fn leads(&self) -> bool
+    /// Whether the leader of node 1 is active.
+    pub(crate) fn is_active(&self) -> bool
         ensures { result ≡ (first_leader self.now.cluster).active }
     {
-        self.first().leads()
+        self.first().is_active()
     }
 
     /// How many things its leader waits for.

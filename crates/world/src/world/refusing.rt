@@ -7,8 +7,8 @@ use crate::event::Event;
 use crate::submissions::has_other_act;
 use object::Object;
 
-/// How many events a world takes.
-const MOST_EVENTS: u64 = 1 << 48;
+/// How many events a world takes, and a hall.
+pub const MOST_EVENTS: u64 = 1 << 48;
 
 impl<O: Object> World<O> {
     // Why the event is refused, want of memory aside.

@@ -28,7 +28,7 @@ invariant_of-self-2 g c =
 
 pub returns-clause-ok : goal.returns-clause-ok
 returns-clause-ok g c =
-    c.settle.ensures
+    c.sort_mail.ensures
     ∙ acted_ok g.O.Object.rules (at_place c.self.invariant c.self.view_is c.from.ensures c.requires.member) c.index_mut.result.now c.index_mut.ensures.value c.args.deed c.act.new.self c.act.new.sent.items c.in_ok-outcome.ensures.state c.in_ok-outcome.ensures.sent
 
 pub returns-clause-answers : goal.returns-clause-answers

@@ -36,7 +36,7 @@ pub returns-clause-came : goal.returns-clause-came
 returns-clause-came g c = ap is_some (sym (front_read (sorted_place (at_place c.self.invariant c.self.view_is c.from-place.ensures c.requires.member) c.sort.new.mails.items c.sort.new.fresh.items c.sort.ensures.same c.sort.ensures.size c.sort.ensures.post) c.in_ok-sort.ensures.ok c.index.result.now c.index.ensures (Some c.in-Some.letter.now) c.in-Some.ensures.some))
 
 pub returns-clause-ok : goal.returns-clause-ok
-returns-clause-ok g c = delivered_any (sorted_place (at_place c.self.invariant c.self.view_is c.from-place.ensures c.requires.member) c.sort.new.mails.items c.sort.new.fresh.items c.sort.ensures.same c.sort.ensures.size c.sort.ensures.post) c.in_ok-sort.ensures.ok c.index.result.now c.index.ensures c.in-Some.letter.now c.in-Some.ensures.some c.index_mut.result.now c.index_mut.ensures.value c.receive.new.self c.receive.new.out.items c.in_ok-receive.ensures.ok c.drop_front.new.self (c.drop_front.ensures.left ∙ ap (drop 1) (read_again (sorted_place (at_place c.self.invariant c.self.view_is c.from-place.ensures c.requires.member) c.sort.new.mails.items c.sort.new.fresh.items c.sort.ensures.same c.sort.ensures.size c.sort.ensures.post) c.in_ok-sort.ensures.ok c.index.result.now c.index.ensures c.index_mut-2.result.now c.index_mut-2.ensures.value)) c.settle.new.self c.settle.ensures
+returns-clause-ok g c = delivered_any (sorted_place (at_place c.self.invariant c.self.view_is c.from-place.ensures c.requires.member) c.sort.new.mails.items c.sort.new.fresh.items c.sort.ensures.same c.sort.ensures.size c.sort.ensures.post) c.in_ok-sort.ensures.ok c.index.result.now c.index.ensures c.in-Some.letter.now c.in-Some.ensures.some c.index_mut.result.now c.index_mut.ensures.value c.receive.new.self c.receive.new.out.items c.in_ok-receive.ensures.ok c.drop_front.new.self (c.drop_front.ensures.left ∙ ap (drop 1) (read_again (sorted_place (at_place c.self.invariant c.self.view_is c.from-place.ensures c.requires.member) c.sort.new.mails.items c.sort.new.fresh.items c.sort.ensures.same c.sort.ensures.size c.sort.ensures.post) c.in_ok-sort.ensures.ok c.index.result.now c.index.ensures c.index_mut-2.result.now c.index_mut-2.ensures.value)) c.sort_mail.new.self c.sort_mail.ensures
 
 pub returns-clause-none : goal.returns-clause-none
 returns-clause-none g c = λ e. absurd (none-some c.in-Some.letter.now (sym e ∙ (front_read (sorted_place (at_place c.self.invariant c.self.view_is c.from-place.ensures c.requires.member) c.sort.new.mails.items c.sort.new.fresh.items c.sort.ensures.same c.sort.ensures.size c.sort.ensures.post) c.in_ok-sort.ensures.ok c.index.result.now c.index.ensures (Some c.in-Some.letter.now) c.in-Some.ensures.some)))

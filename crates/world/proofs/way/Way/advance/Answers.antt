@@ -5,15 +5,15 @@ use Rattle.world.specs.Rescues.{keeps_nodes}
 use Rattle.world.specs.WaysOut.{first_book, HasDecided, MentionsAsMuch}
 use Rattle.world.proofs.Allowing.{may_perform, on_both, on_ok}
 use Rattle.world.proofs.Going.{goes_on, one_goes}
-use Rattle.world.proofs.Learning.{decided_next, mentions_then, performs_book, performs_settled, performs_spent, performs_submitted}
+use Rattle.world.proofs.Learning.{decided_next, mentions_then, performs_book, performs_at_rest, performs_spent, performs_submitted}
 use Rattle.world.proofs.RoundMembers.{first_member}
 use Rattle.world.proofs.way.Way.advance.Goals as goal
 
 pub take-requires : goal.take-requires
 take-requires g c = let room = c.requires.room in let spent = c.in_ok-learn.ensures.passage.spent in may_perform g.O.Op.PartialEq.eq c.learn.new.self.trial 1 (first_member c.learn.new.self.trial.cluster.members c.stands-2.ensures.members) (omega arith)
 
-pub returns-clause-settled : goal.returns-clause-settled
-returns-clause-settled g c = let d = decided_next c.args.self.now.trial.cluster _ (first_book c.learn.new.self.trial.cluster) c.in_ok-learn.ensures.decided c.slot_out-slot.ensures in on_ok c.take.result c.take.ensures.step (λ step. performs_settled c.ballot_laws.ensures g.O.Object.rules c.learn.new.self.trial c.take.new.self.trial (reachable_sound c.ballot_laws.ensures g.O.Object.rules c.learn.new.self.trial c.stands-2.ensures.world.reachable) (first_member c.learn.new.self.trial.cluster.members c.stands-2.ensures.members) d.0 d.1 step c.in_ok-learn.ensures.settled)
+pub returns-clause-at_rest : goal.returns-clause-at_rest
+returns-clause-at_rest g c = let d = decided_next c.args.self.now.trial.cluster _ (first_book c.learn.new.self.trial.cluster) c.in_ok-learn.ensures.decided c.slot_out-slot.ensures in on_ok c.take.result c.take.ensures.step (λ step. performs_at_rest c.ballot_laws.ensures g.O.Object.rules c.learn.new.self.trial c.take.new.self.trial (reachable_sound c.ballot_laws.ensures g.O.Object.rules c.learn.new.self.trial c.stands-2.ensures.world.reachable) (first_member c.learn.new.self.trial.cluster.members c.stands-2.ensures.members) d.0 d.1 step c.in_ok-learn.ensures.at_rest)
 
 pub returns-clause-advanced : goal.returns-clause-advanced
 returns-clause-advanced g c = let d = decided_next c.args.self.now.trial.cluster _ (first_book c.learn.new.self.trial.cluster) c.in_ok-learn.ensures.decided c.slot_out-slot.ensures in on_ok c.take.result c.take.ensures.step (λ step. record {

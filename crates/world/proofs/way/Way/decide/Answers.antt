@@ -5,7 +5,7 @@ use Rattle.world.specs.Rescues.{keeps_nodes}
 use Rattle.world.specs.WaysOut.{first_book, Decides, ArePlacesOf}
 use Rattle.world.proofs.Allowing.{may_deliver, on_both, on_ok}
 use Rattle.world.proofs.Going.{goes_on, one_goes}
-use Rattle.world.proofs.Learning.{decides_sent, ready_unknown, decision_there, mentions_then, learns_book, learns_settled, learns_spent, learns_submitted}
+use Rattle.world.proofs.Learning.{decides_sent, ready_unknown, decision_there, mentions_then, learns_book, learns_at_rest, learns_spent, learns_submitted}
 use Rattle.world.proofs.Finding.{decisions_further}
 use Rattle.world.proofs.Lengthening.{leads_letters}
 use Rattle.world.proofs.RoundMembers.{first_member}
@@ -15,10 +15,10 @@ pub take-requires : goal.take-requires
 take-requires g c = let room = c.requires.room in let spent = c.in_ok-lead.ensures.passage.spent in may_deliver g.O.Op.PartialEq.eq c.lead.new.self.trial c.in-Some.place (decides_sent c.lead.new.self.trial.cluster.letters c.in-Some.place c.args.slot (subst (λ ls. Decides ls c.in-Some.place c.args.slot) c.letters.ensures c.in-Some.ensures.some)) (omega arith)
 
 pub unreachable-requires : goal.unreachable-requires
-unreachable-requires g c = let d = decision_there c.ballot_laws.ensures g.O.Object.rules c.lead.new.self.trial c.stands.ensures.world (first_member c.lead.new.self.trial.cluster.members c.stands.ensures.members) c.in_ok-lead.ensures.settled c.args.slot c.in_ok-lead.ensures.led in c.in-None.ensures.none d.0 (subst (λ ls. Decides ls d.0 c.args.slot) (sym c.letters.ensures) d.1)
+unreachable-requires g c = let d = decision_there c.ballot_laws.ensures g.O.Object.rules c.lead.new.self.trial c.stands.ensures.world (first_member c.lead.new.self.trial.cluster.members c.stands.ensures.members) c.in_ok-lead.ensures.at_rest c.args.slot c.in_ok-lead.ensures.led in c.in-None.ensures.none d.0 (subst (λ ls. Decides ls d.0 c.args.slot) (sym c.letters.ensures) d.1)
 
-pub returns-clause-settled : goal.returns-clause-settled
-returns-clause-settled g c = on_ok c.take.result c.take.ensures.step (λ step. learns_settled c.ballot_laws.ensures g.O.Object.rules c.lead.new.self.trial c.take.new.self.trial (reachable_sound c.ballot_laws.ensures g.O.Object.rules c.lead.new.self.trial c.stands.ensures.world.reachable) (first_member c.lead.new.self.trial.cluster.members c.stands.ensures.members) c.in-Some.place c.args.slot (subst (λ ls. Decides ls c.in-Some.place c.args.slot) c.letters.ensures c.in-Some.ensures.some) step c.in_ok-lead.ensures.settled)
+pub returns-clause-at_rest : goal.returns-clause-at_rest
+returns-clause-at_rest g c = on_ok c.take.result c.take.ensures.step (λ step. learns_at_rest c.ballot_laws.ensures g.O.Object.rules c.lead.new.self.trial c.take.new.self.trial (reachable_sound c.ballot_laws.ensures g.O.Object.rules c.lead.new.self.trial c.stands.ensures.world.reachable) (first_member c.lead.new.self.trial.cluster.members c.stands.ensures.members) c.in-Some.place c.args.slot (subst (λ ls. Decides ls c.in-Some.place c.args.slot) c.letters.ensures c.in-Some.ensures.some) step c.in_ok-lead.ensures.at_rest)
 
 pub returns-clause-learnt : goal.returns-clause-learnt
 returns-clause-learnt g c = on_ok c.take.result c.take.ensures.step (λ step. record {

@@ -1,6 +1,6 @@
 use Rattle.std.proofs.Common.{refl, sym, ◌∙◌, subst}
 use Rattle.world.specs.Agreements.{StaysChosen}
-use Rattle.world.specs.OneOrder.{IsLater}
+use Rattle.world.specs.OneOrder.{GoesOnFrom}
 use Rattle.world.specs.Quiet.{BringsNothing}
 use Rattle.world.specs.Refusals.{IsAllowed}
 use Rattle.world.proofs.Acting.{at_member, asks_own, sent_when, ok_of, err_of, not_err}
@@ -37,8 +37,8 @@ returns-in_err-taken-clause-later g c =
 pub returns-clause-later : goal.returns-clause-later
 returns-clause-later g c =
     elim c.match-task.branch [
-      | in-Act w ↦ subst (λ u. IsLater c.args.self.now u) (sym w.self-is) (later_step c.ballot_laws.ensures g.O.Object.rules _ _ c.self.view_is c.self.invariant.world _ _ (ok_of _ _ _ w.taken-is c.in_ok-taken.was w.act-taken.ensures.ok))
-      | in-Deliver w ↦ subst (λ u. IsLater c.args.self.now u) (sym w.self-is) (later_step c.ballot_laws.ensures g.O.Object.rules _ _ c.self.view_is c.self.invariant.world _ _ (ok_of _ _ _ w.taken-is c.in_ok-taken.was w.deliver-taken.ensures.ok))
+      | in-Act w ↦ subst (λ u. GoesOnFrom c.args.self.now u) (sym w.self-is) (later_step c.ballot_laws.ensures g.O.Object.rules _ _ c.self.view_is c.self.invariant.world _ _ (ok_of _ _ _ w.taken-is c.in_ok-taken.was w.act-taken.ensures.ok))
+      | in-Deliver w ↦ subst (λ u. GoesOnFrom c.args.self.now u) (sym w.self-is) (later_step c.ballot_laws.ensures g.O.Object.rules _ _ c.self.view_is c.self.invariant.world _ _ (ok_of _ _ _ w.taken-is c.in_ok-taken.was w.deliver-taken.ensures.ok))
     ]
 
 pub returns-clause-stays : goal.returns-clause-stays

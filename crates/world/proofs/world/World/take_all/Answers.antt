@@ -1,5 +1,5 @@
 use Rattle.std.proofs.Common.{sym, subst, take}
-use Rattle.world.specs.OneOrder.{IsLater}
+use Rattle.world.specs.OneOrder.{GoesOnFrom}
 use Rattle.world.specs.Runs.{at_once}
 use Rattle.world.proofs.Events.{run_more, refused_at, later_by}
 use Rattle.world.proofs.world.World.take_all.Goals as goal
@@ -17,7 +17,7 @@ loop-index-preserved g c = record {
 }
 
 pub returns-in-Err-clause-later : goal.returns-in-Err-clause-later
-returns-in-Err-clause-later g c = subst (IsLater c.args.self.now) (sym c.in-Err.ensures.err) (later_by c.ballot_laws.ensures g.O.Object.rules _ _ c.self.view_is c.self.invariant.world (take c.loop-index.index c.args.events.now) c.loop-index.self c.loop-index.invariant.led)
+returns-in-Err-clause-later g c = subst (GoesOnFrom c.args.self.now) (sym c.in-Err.ensures.err) (later_by c.ballot_laws.ensures g.O.Object.rules _ _ c.self.view_is c.self.invariant.world (take c.loop-index.index c.args.events.now) c.loop-index.self c.loop-index.invariant.led)
 
 pub returns-clause-later : goal.returns-clause-later
 returns-clause-later g c = later_by c.ballot_laws.ensures g.O.Object.rules _ _ c.self.view_is c.self.invariant.world (take c.loop-index.index c.args.events.now) c.loop-index.self c.loop-index.invariant.led

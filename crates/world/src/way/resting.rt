@@ -1,7 +1,7 @@
 ghost use Rattle.std.specs.Prelude.{◌≡◌, ◌↔◌, ◌<◌, ◌≤◌, ◌+◌, true, IfErr, OnOk};
 ghost use Rattle.world.specs.declared.error.WorldError.TheVariants.{OutOfMemory};
 ghost use Rattle.world.specs.Refusals.{most_events};
-ghost use Rattle.world.specs.WaysOut.{IsSettled, IsSmall, IsTalk, Goes, is_talk, work};
+ghost use Rattle.world.specs.WaysOut.{IsAtRest, IsSmall, IsTalk, Goes, is_talk, work};
 
 use crate::error::WorldError;
 use crate::event::Event;
@@ -11,10 +11,10 @@ use object::Object;
 
 impl<O: Object> Way<O> {
     // Goes on until the leader of node 1 is active and waits for nothing.
-    pub(crate) fn settle(&mut self) -> Result<(), WorldError>
+    pub(crate) fn come_to_rest(&mut self) -> Result<(), WorldError>
         requires small { IsSmall self.old.trial.cluster }
         requires room { self.old.trial.taken + work self.old.trial.cluster ≤ most_events }
-        ensures settled { OnOk result (IsSettled self.new.trial.cluster) }
+        ensures at_rest { OnOk result (IsAtRest self.new.trial.cluster) }
         ensures spent { OnOk result (self.new.trial.taken + work self.new.trial.cluster
             ≤ self.old.trial.taken + work self.old.trial.cluster) }
         ensures talk { OnOk result (IsTalk self.old.trial self.new.trial) }
@@ -22,7 +22,7 @@ impl<O: Object> Way<O> {
             self.new.trial self.new.events.items) }
         ensures memory { IfErr result (λ r. r ≡ OutOfMemory) }
     {
-        while !self.is_settled() {
+        while !self.is_at_rest() {
             self.turn()?;
         }
         Ok(())
@@ -30,7 +30,7 @@ impl<O: Object> Way<O> {
 
     // The leader of node 1 wakes, and asks for whatever it waits for.
     fn turn(&mut self) -> Result<(), WorldError>
-        requires left { IsSettled self.old.trial.cluster → ⊥ }
+        requires left { IsAtRest self.old.trial.cluster → ⊥ }
         requires small { IsSmall self.old.trial.cluster }
         requires room { self.old.trial.taken + work self.old.trial.cluster ≤ most_events }
         ensures small { OnOk result (IsSmall self.new.trial.cluster) }
@@ -49,11 +49,11 @@ impl<O: Object> Way<O> {
     }
 
     // Whether it is active and waits for nothing.
-    fn is_settled(&self) -> bool
-        ensures { (result ≡ true) ↔ IsSettled self.now.trial.cluster }
+    fn is_at_rest(&self) -> bool
+        ensures { (result ≡ true) ↔ IsAtRest self.now.trial.cluster }
     {
         ballot_laws();
         self.trial.stands();
-        self.trial.leads() && self.trial.waits() == 0
+        self.trial.is_active() && self.trial.waits() == 0
     }
 }

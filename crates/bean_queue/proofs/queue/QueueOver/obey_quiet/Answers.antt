@@ -1,5 +1,5 @@
 use Rattle.bean_queue.proofs.Calm.{do-calm, kept-calm}
-use Rattle.bean_queue.proofs.queue.QueueOver.answer.Goals as goal
+use Rattle.bean_queue.proofs.queue.QueueOver.obey_quiet.Goals as goal
 
 pub invariant_of-self-in-Ok : goal.invariant_of-self-in-Ok
 invariant_of-self-in-Ok g c =

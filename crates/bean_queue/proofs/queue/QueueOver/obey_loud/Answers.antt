@@ -1,5 +1,5 @@
 use Rattle.bean_queue.proofs.Calm.{do-calm, kept-calm}
-use Rattle.bean_queue.proofs.queue.QueueOver.act.Goals as goal
+use Rattle.bean_queue.proofs.queue.QueueOver.obey_loud.Goals as goal
 
 pub invariant_of-self-2 : goal.invariant_of-self-2
 invariant_of-self-2 g c =

@@ -1,6 +1,6 @@
 use Rattle.std.proofs.Common.{◌+◌, ◌≤◌}
 use Rattle.world.specs.WaysOut.{IsSmall, IsTalk, Goes, is_talk, work}
-use Rattle.world.proofs.way.Way.settle.Given as goal
+use Rattle.world.proofs.way.Way.come_to_rest.Given as goal
 
 abbrev pub invariant-loop-self : goal.invariant-loop-self
 invariant-loop-self g l = record {
