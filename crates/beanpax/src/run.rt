@@ -32,6 +32,8 @@ pub fn run_bytes<R: ByteIn, W: ByteOut>(
     ensures not_failed { result ≢ Err SessionFault.ReadFailed →
         R.has_failed reader.new ≡ R.has_failed reader.old }
     ensures write_failed { result ≡ Err SessionFault.WriteFailed → W.has_failed writer.new ≡ true }
+    ensures no_write_failed { result ≢ Err SessionFault.WriteFailed →
+        W.has_failed writer.new ≡ W.has_failed writer.old }
     ensures not_read_on { result ≡ Err SessionFault.WriteFailed →
         R.has_ended reader.new ≡ R.has_ended reader.old }
 {
@@ -68,6 +70,8 @@ pub fn run_bytes_weighted<R: ByteIn, W: ByteOut>(
     ensures not_failed { result ≢ Err SessionFault.ReadFailed →
         R.has_failed reader.new ≡ R.has_failed reader.old }
     ensures write_failed { result ≡ Err SessionFault.WriteFailed → W.has_failed writer.new ≡ true }
+    ensures no_write_failed { result ≢ Err SessionFault.WriteFailed →
+        W.has_failed writer.new ≡ W.has_failed writer.old }
     ensures not_read_on { result ≡ Err SessionFault.WriteFailed →
         R.has_ended reader.new ≡ R.has_ended reader.old }
 {

@@ -86,6 +86,8 @@ pub fn attend<
         (attendance_of result.ticket result.commands.amount)) }
     ensures write_failed { result.ended ≡ Err SessionFault.WriteFailed →
         W.has_failed writer.new ≡ true }
+    ensures no_write_failed { result.ended ≢ Err SessionFault.WriteFailed →
+        W.has_failed writer.new ≡ W.has_failed writer.old }
     ensures not_read_on { result.ended ≡ Err SessionFault.WriteFailed →
         I.has_ended result.reader ≡ I.has_ended reader }
     ensures breaks_off { result.ended ≡ Err SessionFault.WriteFailed →

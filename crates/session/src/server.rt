@@ -24,6 +24,7 @@ fn send<W: ByteOut>(session: &mut Session, writer: &mut W) -> Result<(), Failed>
     ensures sent { OnOk result (session.new ≡ record session.old { unsent = []; sent_len = 0 }) }
     ensures err { OnErr result
         (AppendsBeginning (W.contents writer.old) (W.contents writer.new) session.old.unsent) }
+    ensures stays { OnOk result (W.has_failed writer.new ≡ W.has_failed writer.old) }
     ensures failed { OnErr result (W.has_failed writer.new ≡ true) }
 {
     write_all(writer, session.unsent())?;
@@ -65,7 +66,7 @@ fn read_piece<R: ByteIn>(
     requires some { 0 < length piece.old }
     requires few { length piece.old ≤ longest_piece }
     ensures fed { IfOk result (λ some. some ≡ true
-        → (bytes : List ℕ) × (0 < length bytes)
+        → (bytes : List ℕ) × (0 < length bytes) × (length bytes ≤ longest_piece)
         × Consumes (R.remaining reader.old) (R.remaining reader.new) bytes
         × (session.new.unsent ≡ session.old.unsent) × (session.new.is_open ≡ session.old.is_open)
         × ((text : List ℕ) → StandsBefore session.old text → StandsBefore session.new (text ++ bytes))) }
@@ -112,6 +113,8 @@ fn converse<R: ByteIn, W: ByteOut, S: Service>(
     ensures not_ended { OnErr result (R.has_ended reader.new ≡ R.has_ended reader.old) }
     ensures not_failed { result ≢ Err SessionFault.ReadFailed
         → R.has_failed reader.new ≡ R.has_failed reader.old }
+    ensures no_write_failed { result ≢ Err SessionFault.WriteFailed
+        → W.has_failed writer.new ≡ W.has_failed writer.old }
 {
     let mut session = Session::new(alloc);
     let mut piece = [0; PIECE_LEN];
@@ -160,6 +163,8 @@ pub fn serve<R: ByteIn, W: ByteOut, S: Service>(
         (λ s. Whole S.asks service.old s input output End.Eof) service.new) }
     ensures write_failed { result ≡ Err SessionFault.WriteFailed
         → (W.has_failed writer.new ≡ true) }
+    ensures no_write_failed { result ≢ Err SessionFault.WriteFailed
+        → W.has_failed writer.new ≡ W.has_failed writer.old }
     ensures not_read_on { result ≡ Err SessionFault.WriteFailed
         → R.has_ended reader.new ≡ R.has_ended reader.old }
     ensures breaks_off { result ≡ Err SessionFault.WriteFailed

@@ -6,4 +6,3 @@ pub mod Said
 pub mod FirstMembers
 pub mod NoSecond
 pub mod Heaviest
-pub mod TurnedDown

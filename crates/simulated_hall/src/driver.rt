@@ -243,6 +243,7 @@ fn next_with_mail<O: Object>(hall: &Hall<O>) -> Option<u8>
     ensures { IsReadNext hall.now.nodes.network.members
         (λ n. has_mail hall.now.nodes.network n) result }
 {
+    home_is_member(hall.members());
     let first = first_with_mail(hall)?;
     if first == HOME {
         return Some(HOME);

@@ -17,6 +17,7 @@ turns-init g c =
       closed = ap (λ (s : Held). s.is_open) e;
       not_ended = refl;
       not_failed = refl;
+      no_write_failed = refl;
     }
 
 pub returns-in_err-found-clause-run : goal.returns-in_err-found-clause-run
@@ -133,6 +134,8 @@ turns-preserved g c =
     let sent : Appends k l t.unsent = search rules in
     let cleared : c.send.new.session ≡ record t { unsent = []; sent_len = 0 } = search rules in
     let closed : t.is_open ≡ is_asked found = search rules in
+    let stays : g.W.ByteOut.has_failed c.send.new.writer ≡ g.W.ByteOut.has_failed c.turns.writer = search rules in
+    let no_write_failed = stays ∙ c.turns.invariant.no_write_failed in
     let going : Goes g.S.Service.asks c.args.service.now c.turns.service c.turns._turn a b h l [] (ComesTo found t) =
     sends g.S.Service.asks c.args.service.now c.turns.service c.turns._turn a b h k l t.unsent (ComesTo found t) sent
     (finds g.S.Service.asks c.args.service.now c.turns.service c.turns._turn a b h k c.turns.session t found c.in_ok-found.ensures.found c.turns.invariant.goes) in
@@ -142,14 +145,15 @@ turns-preserved g c =
           let s = w.read_piece.new.session in
           let some : w.in_ok-read_piece-in-None.field-0 ≡ true = search rules in
           let fed = w.in_ok-read_piece-in-None.ensures.fed some in
-          let stands : (text : List ℕ) → StandsBefore t text → StandsBefore s (text ++ fed.0) = subst (λ (u : Held). (text : List ℕ) → StandsBefore u text → StandsBefore s (text ++ fed.0)) cleared fed.5 in
+          let stands : (text : List ℕ) → StandsBefore t text → StandsBefore s (text ++ fed.0) = subst (λ (u : Held). (text : List ℕ) → StandsBefore u text → StandsBefore s (text ++ fed.0)) cleared fed.6 in
           record {
-            goes = goes_as g.S.Service.asks c.args.service.now c.turns.service c.match-found-4.service (c.turns._turn + 1) a m (g.R.ByteIn.remaining c.match-found-4.reader) h l [] s c.match-found-4.session w.service-is (ap g.R.ByteIn.remaining w.reader-is) w.session-is (fed.3 ∙ ap (λ (u : Held). u.unsent) cleared)
-                (reads g.S.Service.asks c.args.service.now c.turns.service c.turns._turn a b m h l fed.0 t s fed.1 fed.2 stands
+            goes = goes_as g.S.Service.asks c.args.service.now c.turns.service c.match-found-4.service (c.turns._turn + 1) a m (g.R.ByteIn.remaining c.match-found-4.reader) h l [] s c.match-found-4.session w.service-is (ap g.R.ByteIn.remaining w.reader-is) w.session-is (fed.4 ∙ ap (λ (u : Held). u.unsent) cleared)
+                (reads g.S.Service.asks c.args.service.now c.turns.service c.turns._turn a b m h l fed.0 t s fed.1 fed.3 stands
                 (subst (λ found. Goes g.S.Service.asks c.args.service.now c.turns.service c.turns._turn a b h l [] (ComesTo found t)) w.in-None.is going));
-            closed = ap (λ (u : Held). u.is_open) w.session-is ∙ (fed.4 ∙ (ap (λ (u : Held). u.is_open) cleared ∙ (closed ∙ ap is_asked w.in-None.is)));
+            closed = ap (λ (u : Held). u.is_open) w.session-is ∙ (fed.5 ∙ (ap (λ (u : Held). u.is_open) cleared ∙ (closed ∙ ap is_asked w.in-None.is)));
             not_ended = ap g.R.ByteIn.has_ended w.reader-is ∙ (w.in_ok-read_piece-in-None.ensures.goes_on some ∙ c.turns.invariant.not_ended);
             not_failed = ap g.R.ByteIn.has_failed w.reader-is ∙ (w.in_ok-read_piece-in-None.ensures.not_failed ∙ c.turns.invariant.not_failed);
+            no_write_failed = no_write_failed;
           }
       | in-Some-Do+in_ok-answer-in-Some-Do w ↦
           let op = w.in-Some-Do.op in
@@ -164,5 +168,6 @@ turns-preserved g c =
             closed = ap (λ (u : Held). u.is_open) (w.session-is ∙ after);
             not_ended = ap g.R.ByteIn.has_ended w.reader-is ∙ c.turns.invariant.not_ended;
             not_failed = ap g.R.ByteIn.has_failed w.reader-is ∙ c.turns.invariant.not_failed;
+            no_write_failed = no_write_failed;
           }
     ]

@@ -1,4 +1,4 @@
--- The session is on its way, no ask is open, and the reader has neither come to the end nor failed.
+-- The session is on its way, no ask is open, the reader has neither come to the end nor failed, nor has the writer failed.
 use Rattle.std.proofs.Common.{◌≡◌, false}
 use Rattle.session.specs.Held.{StandsBefore}
 use Rattle.session.proofs.Endings.{Goes}
@@ -10,4 +10,5 @@ invariant-turns g l = record {
   closed : l.session.is_open ≡ false;
   not_ended : g.R.ByteIn.has_ended l.reader ≡ g.R.ByteIn.has_ended l.initial.reader;
   not_failed : g.R.ByteIn.has_failed l.reader ≡ g.R.ByteIn.has_failed l.initial.reader;
+  no_write_failed : g.W.ByteOut.has_failed l.writer ≡ g.W.ByteOut.has_failed l.initial.writer;
 }
