@@ -1,11 +1,13 @@
 //! A hall of queues on which sessions put, reserve and delete, and what the commands cost, for `bench/hall_growth`.
 //!
 //! It reads how many nodes there are and how many jobs, and whether it tells the processor time. It writes a line after
-//! some of the jobs.
+//! some of the jobs. Where it doesn't tell the time, the dump is written in the end, read again and checked, and one line more
+//! says how many commands its order has.
 #![tactic(auto)]
 
 use ballot::Members;
 use bean_queue::{Body, Op, Queue, Reply};
+use chronicle::{Chronicle, check, read_text};
 use hall::{Hall, Ticket};
 use object::Act;
 use std::alloc::Global;
@@ -53,7 +55,27 @@ fn handle_all(rt: &HostRuntime, members: Members, jobs: u32, is_timed: bool) -> 
             tell(rt, job, is_timed)?;
         }
     }
-    Some(())
+    if is_timed {
+        return Some(());
+    }
+    check_dump(rt, &hall)
+}
+
+// Writes how many commands the dump's order has, where the dump, read again, is legal and has the same text.
+fn check_dump(rt: &HostRuntime, hall: &Hall<Queue>) -> Option<()> {
+    let text = text_of(rt.alloc(), &hall.dump().ok()?)?;
+    let read = read_text(rt.alloc(), text.as_slice()).ok()?;
+    check(rt.alloc(), &read).ok()?;
+    if text_of(rt.alloc(), &read)? != text {
+        return None;
+    }
+    println!(rt; "legal {}", read.order().len()).ok()
+}
+
+fn text_of(alloc: Global, chronicle: &Chronicle<Op, Reply>) -> Option<Vec<u8>> {
+    let mut text = Vec::new(alloc);
+    chronicle.write_text(&mut text).ok()?;
+    Some(text)
 }
 
 // Writes how many jobs there were, and the processor time that they took, in microseconds, or 0.

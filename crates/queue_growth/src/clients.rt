@@ -87,6 +87,18 @@ impl Clients {
         self.ask(session, Op::Watch(tube))
     }
 
+    /// A session watches the tube of this number too.
+    pub fn watch_other(&mut self, session: u32, number: u32) -> Option<()> {
+        let tube = self.other_tube(number)?;
+        self.ask(session, Op::Watch(tube))
+    }
+
+    /// A session watches the tube of this number no more.
+    pub fn ignore_other(&mut self, session: u32, number: u32) -> Option<()> {
+        let tube = self.other_tube(number)?;
+        self.ask(session, Op::Ignore(tube))
+    }
+
     /// A session watches the default tube no more.
     pub fn ignore_default(&mut self, session: u32) -> Option<()> {
         self.ask(session, Op::Ignore(Name::default_tube()))
@@ -94,7 +106,7 @@ impl Clients {
 
     /// A session puts a job, which whoever reserves it may keep for long.
     pub fn put(&mut self, session: u32) -> Option<()> {
-        let body = Body::new(self.alloc, b"a body").ok()?;
+        let body = self.body()?;
         let put = Op::Put {
             pri: 0,
             delay: 0,
@@ -107,6 +119,17 @@ impl Clients {
     /// A session reserves a job, for which it waits if there is none.
     pub fn reserve(&mut self, session: u32) -> Option<()> {
         self.ask(session, Op::Reserve { seconds: None })
+    }
+
+    /// The last command was answered by the job of this id, last.
+    pub fn expect_job(&self, id: u64) -> Option<()> {
+        let body = self.body()?;
+        self.expect(&Reply::Reserved { id, body })
+    }
+
+    /// What each job has.
+    fn body(&self) -> Option<Body> {
+        Body::new(self.alloc, b"a body").ok()
     }
 
     /// The name of the tube of this letter.

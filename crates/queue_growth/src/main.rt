@@ -1,8 +1,9 @@
 //! A queue with many jobs, and what its commands cost, for `bench/queue_growth`.
 //!
 //! It reads one line: `timed`, where it is to tell the processor time, or another word; how many jobs there are; and
-//! which measures it takes, as `timed 10000 serve beside paused release touch`. Each measure has a queue of its own. It writes a
-//! line after each part.
+//! which measures it takes, as `timed 10000 serve beside paused release touch watch`. Each measure has a queue of its own, and
+//! `watch`, which `bench/queue_growth` doesn't take, has a thousand tubes, however many jobs there are. It writes a line after
+//! each part.
 #![tactic(auto)]
 
 mod clients;
@@ -11,7 +12,7 @@ mod measures;
 
 use crate::clients::Clients;
 use crate::marks::Marks;
-use crate::measures::{release, serve, serve_beside, touch};
+use crate::measures::{release, serve, serve_beside, touch, watch};
 use std::process::ExitCode;
 
 fn main(rt: HostRuntime) -> ExitCode {
@@ -37,6 +38,7 @@ fn run(rt: &HostRuntime) -> Option<()> {
             "paused" => serve_beside(rt, marks, &mut clients, jobs, true)?,
             "release" => release(rt, marks, &mut clients, jobs)?,
             "touch" => touch(rt, marks, &mut clients, jobs)?,
+            "watch" => watch(rt, marks, &mut clients)?,
             _ => return None,
         }
     }

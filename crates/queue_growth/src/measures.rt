@@ -18,7 +18,7 @@ const FIRST_WAITING: u32 = 1_000;
 
 const END_OF_WAITING: u32 = 2_000;
 
-/// So many tubes beside these have a job each, which a session of its own has put.
+/// So many tubes beside these have a job each, which a session of its own has put, or are watched by one session.
 const MORE_TUBES: u32 = 1_000;
 
 const PUTTER: u32 = 2;
@@ -110,6 +110,24 @@ pub fn touch(rt: &HostRuntime, marks: Marks, clients: &mut Clients, jobs: u32) -
         }
     }
     marks.tell(rt, "touched")
+}
+
+/// One session watches a thousand tubes more, reserves a job of the last of them, and then ignores each again. It is told
+/// each time how many it watches; one of them is the default tube.
+pub fn watch(rt: &HostRuntime, marks: Marks, clients: &mut Clients) -> Option<()> {
+    for number in 0..MORE_TUBES {
+        clients.watch_other(WORKER, number)?;
+        clients.expect(&Reply::Watching(u64::from(number) + 2))?;
+    }
+    marks.tell(rt, "watched")?;
+    clients.put_into_other(PUTTER, MORE_TUBES - 1)?;
+    clients.reserve(WORKER)?;
+    clients.expect_job(1)?;
+    for number in 0..MORE_TUBES {
+        clients.ignore_other(WORKER, number)?;
+        clients.expect(&Reply::Watching(u64::from(MORE_TUBES - number)))?;
+    }
+    marks.tell(rt, "ignored")
 }
 
 // Some sessions wait, each on one of the other tubes.
