@@ -19,7 +19,7 @@ use Rattle.network.specs.MailLaws.{of_filter}
 use Rattle.hall.specs.declared.ticket.NotedAct.{NotedAct}
 use Rattle.hall.specs.Books.{submissions_of, numbers_of, is_opened, last_number}
 use Rattle.hall.specs.HallLaws.{HallLaws}
-use Rattle.hall.specs.Halls.{HallState, IsHall, IsHeld, AreHeld, Agrees}
+use Rattle.hall.specs.Halls.{HallState, IsHall, IsBorneOut, AreBorneOut, Agrees}
 use Rattle.hall.specs.Refusals.{is_last}
 use Rattle.hall.specs.Tickets.{TicketState, last_key}
 use Rattle.hall.proofs.Again.{once_told}
@@ -99,11 +99,11 @@ module _ {O Op Reply : Type 0} (rules : Rules O Op Reply) (laws : HallLaws rules
         one_on : (n i : ℕ) → n ≡ 1 + i → n ≡ i + 1
         one_on n i e = omega (arith, e)
 
-    held_act : (i : ℕ) (a : NotedAct Op Reply) (s : Submission Op) → IsHeld h (record { session = t.session; number = i + 1 }) a → slice_get own i ≡ Some s → a.act ≡ s.command.act
+    held_act : (i : ℕ) (a : NotedAct Op Reply) (s : Submission Op) → IsBorneOut h (record { session = t.session; number = i + 1 }) a → slice_get own i ≡ Some s → a.act ≡ s.command.act
     held_act i a s held e = sym (inside s.command.act a.act (ap (option_map (λ (q : Submission Op). q.command.act)) (sym (nth i s e)) ∙ held.act))
 
     -- as many acts, each of them held
-    all_agree : length t.acts ≡ last_number h.book t.session → AreHeld h t.session t.acts → Agrees h t
+    all_agree : length t.acts ≡ last_number h.book t.session → AreBorneOut h t.session t.acts → Agrees h t
     all_agree same held = record {
       opened = opened;
       acts = same_lists (λ (a : NotedAct Op Reply). a.act) (λ (s : Submission Op). s.command.act) t.acts own (same ∙ sym count) (λ i a s p q. held_act i a s (held i a p) q);
@@ -114,7 +114,7 @@ module _ {O Op Reply : Type 0} (rules : Rules O Op Reply) (laws : HallLaws rules
   same_count agrees =
       sym (length-map t.acts (λ (a : NotedAct Op Reply). a.act)) ∙ ap length agrees.acts ∙ length-map own (λ (s : Submission Op). s.command.act) ∙ count agrees.opened
 
-  each_held : (agrees : Agrees h t) → AreHeld h t.session t.acts
+  each_held : (agrees : Agrees h t) → AreBorneOut h t.session t.acts
   each_held agrees i a e =
       let s = get_some own i (let w = get_within t.acts i a e in let c = count agrees.opened in let d = same_count agrees in omega (arith, w, c, d)) in
       record {
@@ -132,7 +132,7 @@ module _ {O Op Reply : Type 0} (rules : Rules O Op Reply) (laws : HallLaws rules
   not_last another = (λ e. absurd (true≢false (sym e)), λ (agrees : Agrees h t). absurd (true≢false (sym (and_from (is_opened h.book t.session) (length t.acts == last_number h.book t.session) agrees.opened (equal _ _ (same_count agrees))) ∙ another)))
 
   -- and else as far as its acts are held
-  pub is_told : is_last h (last_key t) ≡ true → (b : Bool) → (b ≡ true) ↔ AreHeld h t.session t.acts → (b ≡ true) ↔ Agrees h t
+  pub is_told : is_last h (last_key t) ≡ true → (b : Bool) → (b ≡ true) ↔ AreBorneOut h t.session t.acts → (b ≡ true) ↔ Agrees h t
   is_told last b held =
       let parts = and_parts (is_opened h.book t.session) (length t.acts == last_number h.book t.session) last in
       (λ e. all_agree parts.0 (is_it _ _ parts.1) (held.0 e), λ (agrees : Agrees h t). held.1 (each_held agrees))
@@ -144,11 +144,11 @@ get_or (y ∷ ys) (suc i) x h e = get_or ys i x (omega (arith, h)) e
 
 -- the acts so far are held, and one more
 module _ {Op Reply : Type 0} (h : HallState Op Reply) (session : ℕ) (acts : List (NotedAct Op Reply)) where
-  pub held_more : (n : ℕ) (a : NotedAct Op Reply) → n < length acts → a ≡ slice_index_or acts n a → ((i : ℕ) (b : NotedAct Op Reply) → i < n → slice_get acts i ≡ Some b → IsHeld h (record { session = session; number = i + 1 }) b) → IsHeld h (record { session = session; number = n + 1 }) a → (i : ℕ) (b : NotedAct Op Reply) → i < n + 1 → slice_get acts i ≡ Some b → IsHeld h (record { session = session; number = i + 1 }) b
+  pub held_more : (n : ℕ) (a : NotedAct Op Reply) → n < length acts → a ≡ slice_index_or acts n a → ((i : ℕ) (b : NotedAct Op Reply) → i < n → slice_get acts i ≡ Some b → IsBorneOut h (record { session = session; number = i + 1 }) b) → IsBorneOut h (record { session = session; number = n + 1 }) a → (i : ℕ) (b : NotedAct Op Reply) → i < n + 1 → slice_get acts i ≡ Some b → IsBorneOut h (record { session = session; number = i + 1 }) b
   held_more n a within at sofar held i b low e = ⊎_elim
-      (λ (same : i ≡ n). subst (λ j. IsHeld h (record { session = session; number = j + 1 }) b) (sym same) (subst (IsHeld h (record { session = session; number = n + 1 })) (inside a b (sym (get_or acts n a within at) ∙ ap (slice_get acts) (sym same) ∙ e)) held))
+      (λ (same : i ≡ n). subst (λ j. IsBorneOut h (record { session = session; number = j + 1 }) b) (sym same) (subst (IsBorneOut h (record { session = session; number = n + 1 })) (inside a b (sym (get_or acts n a within at) ∙ ap (slice_get acts) (sym same) ∙ e)) held))
       (λ (apart : i ≢ n). sofar i b (omega (arith, low, apart)) e)
       (cases_eq i n)
 
-  pub all_held : (n : ℕ) → length acts ≤ n → ((i : ℕ) (b : NotedAct Op Reply) → i < n → slice_get acts i ≡ Some b → IsHeld h (record { session = session; number = i + 1 }) b) → (true ≡ true) ↔ AreHeld h session acts
+  pub all_held : (n : ℕ) → length acts ≤ n → ((i : ℕ) (b : NotedAct Op Reply) → i < n → slice_get acts i ≡ Some b → IsBorneOut h (record { session = session; number = i + 1 }) b) → (true ≡ true) ↔ AreBorneOut h session acts
   all_held n over sofar = (λ _ i b e. sofar i b (let w = get_within acts i b e in omega (arith, w, over)) e, λ _. refl)

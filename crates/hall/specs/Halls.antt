@@ -81,14 +81,14 @@ chronicle_of h = record {
 }
 
 -- the noted act was submitted under the key, and its reply, where one is noted, is the one that was given first
-pub record IsHeld {Op Reply : Type 0} (h : HallState Op Reply) (key : Key) (a : NotedAct Op Reply) : Type 0 where
+pub record IsBorneOut {Op Reply : Type 0} (h : HallState Op Reply) (key : Key) (a : NotedAct Op Reply) : Type 0 where
   pub act : option_map (λ s. s.command.act) (found submitted_key key h.nodes.past.happenings.submitted) ≡ Some a.act
   pub reply : (reply : Reply) → a.reply ≡ Some reply → reply_to h key ≡ Some reply
 
 -- and so are these acts of a session, from the first on
-abbrev pub AreHeld : {Op Reply : Type 0} → HallState Op Reply → ℕ → List (NotedAct Op Reply) → Type 0
-AreHeld {Op} {Reply} h session acts =
-    (i : ℕ) (a : NotedAct Op Reply) → slice_get acts i ≡ Some a → IsHeld h (record { session = session; number = i + 1 }) a
+abbrev pub AreBorneOut : {Op Reply : Type 0} → HallState Op Reply → ℕ → List (NotedAct Op Reply) → Type 0
+AreBorneOut {Op} {Reply} h session acts =
+    (i : ℕ) (a : NotedAct Op Reply) → slice_get acts i ≡ Some a → IsBorneOut h (record { session = session; number = i + 1 }) a
 
 -- The ticket's session was opened; its acts are all that were submitted of that session, in order; and each reply in it is
 -- the one that was given first.

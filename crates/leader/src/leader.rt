@@ -91,7 +91,7 @@ impl<C: Value> Leader<C> {
     }
 
     /// How many things it waits for: the promises that its scout asks for, and the votes that each commander does.
-    pub fn waits(&self) -> usize
+    pub fn awaited_count(&self) -> usize
         ensures { result ≡ length (says_again self.now) }
     {
         usize::from(self.scout.is_some()) + self.commanders.len()

@@ -103,10 +103,10 @@ impl<O: Object> Node<O> {
     }
 
     /// How many things its leader waits for.
-    pub fn waits(&self) -> usize
+    pub fn awaited_count(&self) -> usize
         ensures { result ≡ length (says_again self.now.leader) }
     {
-        self.leader.waits()
+        self.leader.awaited_count()
     }
 
     /// Whether its leader has a proposal for the slot.

@@ -105,7 +105,7 @@ impl<O: Object> World<O> {
         ensures { (result ≡ true) ↔ IsInOrder self.now.cluster key }
     {
         ballot_laws();
-        self.stands();
+        self.show_reachable();
         if let Some(own) = first_as_late(&self.performed, key) {
             return own == key;
         }
@@ -122,7 +122,7 @@ impl<O: Object> World<O> {
         ensures { IsFirstAsLate self.now.cluster first key result }
     {
         ballot_laws();
-        self.stands();
+        self.show_reachable();
         // no slot is greater than 2^62, so one of these has none chosen
         for slot in first..u64::MAX {
             let Some(command) = self.chosen(slot) else {

@@ -35,7 +35,7 @@ impl<O: Object> World<O> {
             → (IsInOrder self.now.cluster key → ⊥) → 2 ^ 32 < self.now.taken → result ≡ Err Full }
     {
         ballot_laws();
-        self.stands();
+        self.show_reachable();
         if self.has_in_order(key) {
             return Ok(Some(Vec::new(self.allocator())));
         }
@@ -57,13 +57,13 @@ impl<O: Object> World<O> {
         ensures full { 2 ^ 32 < self.now.taken → result ≡ Err Full }
     {
         ballot_laws();
-        self.stands();
+        self.show_reachable();
         if self.taken() > MOST_TAKEN {
             return Err(WorldError::Full);
         }
         let mut way = Way::new(self)?;
         way.bring(command)?;
-        way.trial.stands();
+        way.trial.show_reachable();
         Ok(Some(way.events))
     }
 }

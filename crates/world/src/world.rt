@@ -88,7 +88,7 @@ impl<O: Object> World<O> {
             reach: 0,
             taken: 0,
         };
-        world.agrees();
+        world.show_agreement();
         Ok(world)
     }
 
@@ -117,7 +117,7 @@ impl<O: Object> World<O> {
         ballot_laws();
         match self.refusal(&event) {
             Some(refused) => {
-                self.agrees();
+                self.show_agreement();
                 return Err(refused);
             }
             None => {}
@@ -126,7 +126,7 @@ impl<O: Object> World<O> {
             Task::Act(id, deed) => self.act(id, deed),
             Task::Deliver(index) => self.deliver(index),
         };
-        self.agrees();
+        self.show_agreement();
         taken?;
         Ok(())
     }
@@ -149,7 +149,7 @@ impl<O: Object> World<O> {
         ensures later { GoesOnFrom self.old self.new }
     {
         let ran = self.take_all(events);
-        self.agrees();
+        self.show_agreement();
         ran
     }
 
@@ -190,7 +190,7 @@ impl<O: Object> World<O> {
     }
 
     // What every world agrees on.
-    pub(crate) fn agrees(&self)
+    pub(crate) fn show_agreement(&self)
         ensures one_command { HasOneCommand self.now.cluster }
         ensures keeps_chosen { KeepsChosen self.now.cluster }
         ensures chooses_one { ChoosesOne self.now.cluster }

@@ -1,5 +1,5 @@
 ghost use Rattle.std.specs.Prelude.{◌≡◌, ◌↔◌, true};
-ghost use Rattle.hall.specs.Halls.{IsHeld, AreHeld, Agrees};
+ghost use Rattle.hall.specs.Halls.{IsBorneOut, AreBorneOut, Agrees};
 
 use super::Hall;
 use crate::laws::laws_below;
@@ -14,20 +14,20 @@ impl<O: Object> Hall<O> {
     {
         laws_below::<O>();
         let _ = &self.book;
-        self.is_last(ticket.last_key()) && self.all_hold(ticket.session(), ticket.acts())
+        self.is_last(ticket.last_key()) && self.bears_out_all(ticket.session(), ticket.acts())
     }
 
     // Whether each of these acts of a session, from the first on, was submitted under its key, and the reply noted for it
     // is the answer to it.
-    fn all_hold(&self, session: u32, acts: &[NotedAct<O::Op, O::Reply>]) -> bool
-        ensures { (result ≡ true) ↔ AreHeld self.now session acts.now }
+    fn bears_out_all(&self, session: u32, acts: &[NotedAct<O::Op, O::Reply>]) -> bool
+        ensures { (result ≡ true) ↔ AreBorneOut self.now session acts.now }
     {
         for place in 0..acts.len() {
             let key = Key {
                 session,
                 number: place as u64 + 1,
             };
-            if !self.holds(key, &acts[place]) {
+            if !self.bears_out(key, &acts[place]) {
                 return false;
             }
         }
@@ -35,8 +35,8 @@ impl<O: Object> Hall<O> {
     }
 
     // Whether the act was submitted under the key, and its reply, where one is noted, is the answer to it.
-    fn holds(&self, key: Key, noted: &NotedAct<O::Op, O::Reply>) -> bool
-        ensures { (result ≡ true) ↔ IsHeld self.now key noted.now }
+    fn bears_out(&self, key: Key, noted: &NotedAct<O::Op, O::Reply>) -> bool
+        ensures { (result ≡ true) ↔ IsBorneOut self.now key noted.now }
     {
         let Some(submission) = self.nodes.recorder.submission_of(key) else {
             return false;

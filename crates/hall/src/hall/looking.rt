@@ -20,7 +20,7 @@ impl<O: Object> Hall<O> {
         self.nodes.network.members()
     }
 
-    /// Whether the order holds the key.
+    /// Whether the order has the key.
     pub fn placed(&self, key: Key) -> bool
         ensures { result ≡ stands own_key key self.now.nodes.past.order }
     {

@@ -32,10 +32,10 @@ impl<O: Object> Way<O> {
         ensures memory { IfErr result (λ r. r ≡ OutOfMemory) }
     {
         ballot_laws();
-        self.trial.stands();
+        self.trial.show_reachable();
         let slot = self.trial.slot_out();
         self.learn(places, slot)?;
-        self.trial.stands();
+        self.trial.show_reachable();
         self.take(Event::Perform(1))
     }
 
@@ -84,7 +84,7 @@ impl<O: Object> Way<O> {
     {
         ballot_laws();
         self.lead(places, slot)?;
-        self.trial.stands();
+        self.trial.show_reachable();
         match places.decision_for(self.trial.letters(), slot) {
             Some(place) => self.take(Event::Deliver(place)),
             None => unreachable!(),
@@ -113,12 +113,12 @@ impl<O: Object> Way<O> {
         ensures memory { IfErr result (λ r. r ≡ OutOfMemory) }
     {
         ballot_laws();
-        self.trial.stands();
+        self.trial.show_reachable();
         if self.trial.has_proposal(slot) {
             return Ok(());
         }
         self.propose(places, slot)?;
-        self.trial.stands();
+        self.trial.show_reachable();
         self.come_to_rest()
     }
 
@@ -142,7 +142,7 @@ impl<O: Object> Way<O> {
         ensures memory { IfErr result (λ r. r ≡ OutOfMemory) }
     {
         ballot_laws();
-        self.trial.stands();
+        self.trial.show_reachable();
         match places.proposal_for(self.trial.letters(), slot) {
             Some(place) => self.take(Event::Deliver(place)),
             None => self.propose_first(slot),
@@ -167,7 +167,7 @@ impl<O: Object> Way<O> {
         ensures memory { IfErr result (λ r. r ≡ OutOfMemory) }
     {
         ballot_laws();
-        self.trial.stands();
+        self.trial.show_reachable();
         let place = self.trial.letters().len();
         self.take(Event::Propose(1))?;
         self.take(Event::Deliver(place))

@@ -20,7 +20,7 @@ impl<O: Object> Way<O> {
         ensures memory { IfErr result (λ r. r ≡ OutOfMemory) }
     {
         ballot_laws();
-        self.trial.stands();
+        self.trial.show_reachable();
         let reply = self.trial.letters().len();
         self.take(Event::Deliver(place))?;
         self.take(Event::Deliver(reply))
@@ -40,15 +40,15 @@ impl<O: Object> Way<O> {
         ensures memory { IfErr result (λ r. r ≡ OutOfMemory) }
     {
         ballot_laws();
-        self.trial.stands();
-        let questions = usize::from(self.trial.count()) * self.trial.waits();
+        self.trial.show_reachable();
+        let questions = usize::from(self.trial.count()) * self.trial.awaited_count();
         let first = self.trial.letters().len();
         self.take(Event::Nudge(1))?;
         for place in first..first + questions {
-            self.trial.stands();
+            self.trial.show_reachable();
             self.ask(place)?;
         }
-        self.trial.stands();
+        self.trial.show_reachable();
         Ok(())
     }
 }

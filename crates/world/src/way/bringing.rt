@@ -29,17 +29,17 @@ impl<O: Object> Way<O> {
         ensures memory { IfErr result (λ r. r ≡ OutOfMemory) }
     {
         ballot_laws();
-        self.trial.stands();
+        self.trial.show_reachable();
         let request = command.copy()?;
         self.take(Event::Submit(1, request))?;
-        self.trial.stands();
+        self.trial.show_reachable();
         self.come_to_rest()?;
         let mut places = LetterPlaces::new(self.trial.allocator());
         while self.has_more(&mut places)? {
-            self.trial.stands();
+            self.trial.show_reachable();
             self.advance(&places)?;
         }
-        self.trial.stands();
+        self.trial.show_reachable();
         Ok(())
     }
 
@@ -59,7 +59,7 @@ impl<O: Object> Way<O> {
         ensures read { OnOk result (AreAllRead self.now.trial.cluster.letters places.new.read
             places.new.proposals places.new.decisions) }
     {
-        self.trial.stands();
+        self.trial.show_reachable();
         places.read_on(self.trial.letters())?;
         if self.trial.has_requests() {
             return Ok(true);

@@ -43,7 +43,7 @@ impl<O: Object> Way<O> {
         ensures memory { IfErr result (λ r. r ≡ OutOfMemory) }
     {
         ballot_laws();
-        self.trial.stands();
+        self.trial.show_reachable();
         self.take(Event::Wake(1))?;
         self.ask_all()
     }
@@ -53,7 +53,7 @@ impl<O: Object> Way<O> {
         ensures { (result ≡ true) ↔ IsAtRest self.now.trial.cluster }
     {
         ballot_laws();
-        self.trial.stands();
-        self.trial.is_active() && self.trial.waits() == 0
+        self.trial.show_reachable();
+        self.trial.is_active() && self.trial.awaited_count() == 0
     }
 }

@@ -13,7 +13,7 @@ use std::alloc::Global;
 
 impl<O: Object> World<O> {
     /// What is so of every world, and of its members.
-    pub(crate) fn stands(&self)
+    pub(crate) fn show_reachable(&self)
         ensures world { IsWorld O.rules self.now }
         ensures members { IsMembers self.now.cluster.members }
     {
@@ -57,10 +57,10 @@ impl<O: Object> World<O> {
     }
 
     /// How many things its leader waits for.
-    pub(crate) fn waits(&self) -> usize
+    pub(crate) fn awaited_count(&self) -> usize
         ensures { result ≡ length (says_again (first_leader self.now.cluster)) }
     {
-        self.first().waits()
+        self.first().awaited_count()
     }
 
     /// Whether its leader has a proposal for the slot.
@@ -75,7 +75,7 @@ impl<O: Object> World<O> {
         ensures { result ≡ (first_book self.now.cluster).slot_out }
     {
         ballot_laws();
-        self.stands();
+        self.show_reachable();
         Slot::new(self.first().slots().slot_out()).unwrap()
     }
 

@@ -10,9 +10,9 @@ use Rattle.world.proofs.way.Way.lead.Goals as goal
 
 pub returns-then-has_proposal-clause-ready : goal.returns-then-has_proposal-clause-ready
 returns-then-has_proposal-clause-ready g c =
-    let some = (books c.ballot_laws.ensures g.O.Object.rules c.args.self.now.trial c.stands.ensures.world 1).performed.first in
+    let some = (books c.ballot_laws.ensures g.O.Object.rules c.args.self.now.trial c.show_reachable.ensures.world 1).performed.first in
     let next = c.requires.next in
-    ready_stays (ready_led c.ballot_laws.ensures g.O.Object.rules c.args.self.now.trial c.stands.ensures.world c.args.slot (omega arith) (sym c.has_proposal.ensures ∙ c.if-has_proposal.true)) refl
+    ready_stays (ready_led c.ballot_laws.ensures g.O.Object.rules c.args.self.now.trial c.show_reachable.ensures.world c.args.slot (omega arith) (sym c.has_proposal.ensures ∙ c.if-has_proposal.true)) refl
 
 pub returns-then-has_proposal-clause-passage : goal.returns-then-has_proposal-clause-passage
 returns-then-has_proposal-clause-passage g c = record {
@@ -37,7 +37,7 @@ returns-clause-passage g c =
     let spent = proposed.spent in
     on_three c.come_to_rest.result c.come_to_rest.ensures.spent c.come_to_rest.ensures.talk c.come_to_rest.ensures.goes (λ more talk goes. record {
       spent = omega arith;
-      mentions = mentions_on c.ballot_laws.ensures g.O.Object.rules c.args.self.now.trial c.propose.new.self.trial c.come_to_rest.new.self.trial c.args.slot proposed.mentions (reachable_sound c.ballot_laws.ensures g.O.Object.rules c.propose.new.self.trial c.stands-2.ensures.world.reachable) c.propose.new.self.events.items c.come_to_rest.new.self.events.items goes;
+      mentions = mentions_on c.ballot_laws.ensures g.O.Object.rules c.args.self.now.trial c.propose.new.self.trial c.come_to_rest.new.self.trial c.args.slot proposed.mentions (reachable_sound c.ballot_laws.ensures g.O.Object.rules c.propose.new.self.trial c.show_reachable-2.ensures.world.reachable) c.propose.new.self.events.items c.come_to_rest.new.self.events.items goes;
       submitted = talk_submitted c.propose.new.self.trial c.come_to_rest.new.self.trial talk ∙ proposed.submitted;
       goes = goes_on g.O.Object.rules keeps_nodes c.args.self.now.trial c.propose.new.self.trial c.come_to_rest.new.self.trial c.args.self.now.events.items c.propose.new.self.events.items c.come_to_rest.new.self.events.items proposed.goes
           (goes_weaker g.O.Object.rules is_talk keeps_nodes talk_keeps c.propose.new.self.trial c.come_to_rest.new.self.trial c.propose.new.self.events.items c.come_to_rest.new.self.events.items goes);

@@ -10,7 +10,7 @@ returns-in_default g c = sought_all c.args.self.now.cluster c.args.first c.args.
 
 pub returns-then-is_as_late : goal.returns-then-is_as_late
 returns-then-is_as_late g c =
-    let sound = reachable_sound c.ballot_laws.ensures g.O.Object.rules c.args.self.now c.stands.ensures.world.reachable in
+    let sound = reachable_sound c.ballot_laws.ensures g.O.Object.rules c.args.self.now c.show_reachable.ensures.world.reachable in
     let late = subst (λ own. is_as_late own c.args.key ≡ true) c.key.ensures.key (sym c.is_as_late.ensures ∙ c.if-is_as_late.true) in
     subst (λ own. IsFirstAsLate c.args.self.now.cluster c.args.first c.args.key (Some own)) (sym c.key-then-is_as_late.ensures.key)
     (sought_found c.args.self.now.cluster c.args.first c.args.key c.ballot_laws.ensures sound c.loop-slot.slot c.in-Some.command.now c.loop-slot.invariant.sought c.in-Some.ensures.some late)

@@ -15,7 +15,7 @@ pub returns-then-has_in_order-clause-none : goal.returns-then-has_in_order-claus
 returns-then-has_in_order-clause-none g c = (
   λ is. cc,
   λ no_way. ⊎_elim
-      (λ (never : is_submitted c.args.key c.args.self.now.happenings.submitted ≡ false). absurd (true≢false (sym (in_order_submitted c.ballot_laws.ensures g.O.Object.rules c.args.self.now c.stands.ensures.world c.args.key (c.has_in_order.ensures.0 c.if-has_in_order.true)) ∙ never)))
+      (λ (never : is_submitted c.args.key c.args.self.now.happenings.submitted ≡ false). absurd (true≢false (sym (in_order_submitted c.ballot_laws.ensures g.O.Object.rules c.args.self.now c.show_reachable.ensures.world c.args.key (c.has_in_order.ensures.0 c.if-has_in_order.true)) ∙ never)))
       (λ (outside : (IsInOrder c.args.self.now.cluster c.args.key → ⊥) × HasGreater c.args.key c.args.self.now.happenings.submitted). absurd (outside.0 (c.has_in_order.ensures.0 c.if-has_in_order.true)))
       no_way,
 )

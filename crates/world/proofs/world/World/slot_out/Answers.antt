@@ -11,8 +11,8 @@ some_when (Some x) v h p = refl
 
 pub unwrap-requires : goal.unwrap-requires
 unwrap-requires g c =
-    let near = within_reach c.ballot_laws.ensures g.O.Object.rules c.args.self.now c.stands.ensures.world 1 in
-    let few = reach_taken c.ballot_laws.ensures g.O.Object.rules c.args.self.now c.stands.ensures.world in
-    let all = c.stands.ensures.world.few in
+    let near = within_reach c.ballot_laws.ensures g.O.Object.rules c.args.self.now c.show_reachable.ensures.world 1 in
+    let few = reach_taken c.ballot_laws.ensures g.O.Object.rules c.args.self.now c.show_reachable.ensures.world in
+    let all = c.show_reachable.ensures.world.few in
     let same = c.slot_out.ensures.slot ∙ ap (λ b. b.slot_out) (c.slots.ensures ∙ c.first.ensures.book) in
     some_when c.new.result c.slot_out.result c.new.ensures (c.slot_out.ensures.above, omega arith)

@@ -1,7 +1,7 @@
 use Rattle.world.proofs.Events.{sound_now, order_now}
 use Rattle.world.proofs.Invariants.{one_command, keeps_chosen, agree, decides_chosen}
 use Rattle.world.proofs.Told.{answered_now}
-use Rattle.world.proofs.world.World.agrees.Goals as goal
+use Rattle.world.proofs.world.World.show_agreement.Goals as goal
 
 pub returns-clause-one_command : goal.returns-clause-one_command
 returns-clause-one_command g c = one_command c.ballot_laws.ensures c.args.self.now.cluster (sound_now c.ballot_laws.ensures g.O.Object.rules _ _ c.self.view_is c.self.invariant.world)

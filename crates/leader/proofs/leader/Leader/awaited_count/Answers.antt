@@ -8,7 +8,7 @@ use Rattle.scout_commander.specs.Commanders.{Commanding}
 use Rattle.scout_commander.specs.Scouts.{Scouting}
 use Rattle.leader.specs.Leaders.{scout_says, says_again}
 use mir.Val.{bool_byte}
-use Rattle.leader.proofs.leader.Leader.waits.Goals as goal
+use Rattle.leader.proofs.leader.Leader.awaited_count.Goals as goal
 
 one_or_none : {C : Type 0} (o : Option (Scouting C)) → length (scout_says {C = C} o) ≡ cond (is_some o) 1 0
 one_or_none None = refl
