@@ -4,6 +4,7 @@ with the block that started it."""
 import contextlib
 import os
 import re
+import resource
 import shutil
 import signal
 import socket
@@ -32,7 +33,13 @@ def build(with_beanpax):
     """Builds the load program, and beanpax where it is wanted and no other program stands for it."""
     end_on_a_signal()
     subprocess.run(["rt", "run", "--", "0", "0", "0", "0"], cwd=LOAD_CRATE, stdout=subprocess.DEVNULL, check=True)
-    if with_beanpax and "BEANPAX" not in os.environ:
+    if with_beanpax:
+        build_beanpax()
+
+
+def build_beanpax():
+    """Builds beanpax, where no other program stands for it."""
+    if "BEANPAX" not in os.environ:
         subprocess.run([BEANPAX, "--help"], stdout=subprocess.DEVNULL, check=True)
 
 
@@ -81,9 +88,11 @@ def free_port():
 
 
 @contextlib.contextmanager
-def running(words, port, is_told):
-    """A server that was started by these words, and serves. It says on its first line that it listens, or is asked."""
-    process = subprocess.Popen(words, stdout=subprocess.PIPE, text=True)
+def running(words, port, is_told, most_files=None):
+    """A server that was started by these words, and serves. It says on its first line that it listens, or is asked. It may
+    have so many files open at most, where that is said."""
+    limit = None if most_files is None else lambda: resource.setrlimit(resource.RLIMIT_NOFILE, (most_files, most_files))
+    process = subprocess.Popen(words, stdout=subprocess.PIPE, text=True, preexec_fn=limit)
     try:
         if is_told:
             line = process.stdout.readline()
@@ -113,10 +122,10 @@ def wait_until_it_listens(port):
 
 
 @contextlib.contextmanager
-def beanpax(nodes, workers):
+def beanpax(nodes, workers, most_files=None):
     port = free_port()
     words = [BEANPAX, "serve", "--port", port, "--nodes", nodes, "--workers", workers]
-    with running([str(word) for word in words], port, is_told=True) as server:
+    with running([str(word) for word in words], port, is_told=True, most_files=most_files) as server:
         yield server
 
 

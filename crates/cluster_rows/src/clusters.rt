@@ -4,16 +4,17 @@ use ballot::Members;
 use bean_queue::Queue;
 use chronicle::{CheckFault, ReadFault, What, check, read_text};
 use hall::Hall;
-use node_threads::{Accept, Ended, Gate, Mishaps, Seconds, run_cluster, run_cluster_with_mishaps};
+use node_threads::{Accept, Ended, Faults, Gate, Seconds, run_cluster, run_cluster_faulty};
 use session::Writing;
 use std::alloc::{AllocError, Global};
 use std::io::PipeWriter;
+use std::rt::Clock;
 use std::sync::Wait;
 use std::sync::atomic::AtomicBool;
 use std::thread::Threads;
 
 /// Three nodes and two workers serve these clients, the last of the list first.
-pub fn serve<R: Threads + Wait + Sync, G: Gate + Sync>(
+pub fn serve<R: Threads + Wait + Clock + Sync, G: Gate + Sync>(
     rt: &R,
     alloc: Global,
     clients: Vec<Served>,
@@ -29,12 +30,12 @@ pub fn serve<R: Threads + Wait + Sync, G: Gate + Sync>(
 }
 
 /// These nodes and so many workers, 1 to 64, serve the clients that come, while mishaps befall the nodes.
-pub fn serve_with_mishaps<
-    R: Threads + Wait + Sync,
+pub fn serve_faulty<
+    R: Threads + Wait + Clock + Sync,
     A: Accept + Drop,
     T: Seconds + Send + Drop,
     G: Gate + Sync,
-    F: Mishaps + Sync,
+    F: Faults + Sync,
 >(
     rt: &R,
     alloc: Global,
@@ -43,7 +44,7 @@ pub fn serve_with_mishaps<
     accept: A,
     seconds: T,
     gate: &G,
-    mishaps: &F,
+    faults: &F,
 ) -> Result<Ended<Queue, A>, AllocError> {
     let hall = Hall::new(alloc, members)?;
     let workers = if workers < 1 || workers > 64 {
@@ -51,7 +52,7 @@ pub fn serve_with_mishaps<
     } else {
         workers
     };
-    Ok(run_cluster_with_mishaps(rt, alloc, hall, accept, seconds, workers, gate, mishaps))
+    Ok(run_cluster_faulty(rt, alloc, hall, accept, seconds, workers, gate, faults))
 }
 
 /// Whether nothing is wrong with the dump, and something is where the first command of session 1 has another answer.

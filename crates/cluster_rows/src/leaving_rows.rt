@@ -8,6 +8,7 @@ use hall::Hall;
 use node_threads::run_cluster;
 use std::fs::Files;
 use std::process::Abort;
+use std::rt::Clock;
 use std::sync::Wait;
 use std::sync::atomic::AtomicBool;
 use std::test::Fail;
@@ -29,7 +30,7 @@ struct Left {
 
 /// One of three nodes' clients puts a job, reserves it and leaves, and then another one reserves. So many bytes are
 /// written to the first.
-fn leave<R: Threads + Wait + Sync + Abort + Files + AllocGlobal>(
+fn leave<R: Threads + Wait + Clock + Sync + Abort + Files + AllocGlobal>(
     rt: &R,
     room: usize,
 ) -> Result<Left, Fail> {

@@ -2,10 +2,10 @@
 ghost use Rattle.std.specs.Prelude.{false};
 
 use crate::clients::{Hasty, Queued, Served, connect, connect_once, told};
-use crate::clusters::{is_explained, serve_with_mishaps};
+use crate::clusters::{is_explained, serve_faulty};
+use crate::faults::{Counted, RestartsOnce};
 use crate::gates::{Bounded, Hold, HoldsChoice};
 use crate::held_rows::put_and_release;
-use crate::mishaps::{Counted, RestartsOnce};
 use ballot::Members;
 use node_threads::Accept;
 use session::{Failed, Reading, Writing};
@@ -83,7 +83,7 @@ fn nodes_restart_while_clients_put(rt: HostRuntime) -> Result<(), Fail> {
         has_ended: false,
     };
     let members = Members::new(3).unwrap();
-    let ended = serve_with_mishaps(&rt, alloc, members, 2, accept, seconds, &gate, &mishaps)?;
+    let ended = serve_faulty(&rt, alloc, members, 2, accept, seconds, &gate, &mishaps)?;
     let mut ids = Vec::new(alloc);
     for from in puts {
         ids.push(inserted(told(alloc, from)?.as_slice()))?;
@@ -117,7 +117,7 @@ fn lock_held_while_choosing(rt: HostRuntime) -> Result<(), Fail> {
     let members = Members::new(3).unwrap();
     let (ended, heard) = thread::join(
         &rt,
-        || serve_with_mishaps(
+        || serve_faulty(
             &rt,
             alloc,
             members,

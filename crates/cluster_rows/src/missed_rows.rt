@@ -1,12 +1,13 @@
 //! A put that isn't answered before a second has passed, because of what befell a node.
 use crate::clients::{Client, Queued, connect};
-use crate::clusters::{has_line, serve_with_mishaps};
+use crate::clusters::{has_line, serve_faulty};
+use crate::faults::{LosesUntil, RestartsAtFirst};
 use crate::gates::Bounded;
-use crate::mishaps::{LosesUntil, RestartsAtFirst};
 use ballot::Members;
-use node_threads::{Mishaps, Seconds};
+use node_threads::{Faults, Seconds};
 use std::fs::Files;
 use std::process::Abort;
+use std::rt::Clock;
 use std::sync::Wait;
 use std::sync::atomic::{AtomicBool, Ordering};
 use std::test::Fail;
@@ -54,11 +55,11 @@ fn put(mut client: Client, is_stopped: &AtomicBool) -> bool {
 
 /// Whether a put at these nodes is answered, but not before a second has passed. The mishaps are told when the clock
 /// goes.
-fn is_late<R: Threads + Wait + Sync + Abort + Files + AllocGlobal, F: Mishaps + Sync>(
+fn is_late<R: Threads + Wait + Clock + Sync + Abort + Files + AllocGlobal, F: Faults + Sync>(
     rt: &R,
     members: Members,
     goes: &AtomicBool,
-    mishaps: &F,
+    faults: &F,
 ) -> Result<bool, Fail> {
     let alloc = rt.alloc();
     let (client, served) = connect(rt)?;
@@ -73,7 +74,7 @@ fn is_late<R: Threads + Wait + Sync + Abort + Files + AllocGlobal, F: Mishaps + 
     let gate = Bounded::new(rt, 10_000);
     let (ended, heard) = thread::join(
         rt,
-        || serve_with_mishaps(
+        || serve_faulty(
             rt,
             alloc,
             members,
@@ -81,7 +82,7 @@ fn is_late<R: Threads + Wait + Sync + Abort + Files + AllocGlobal, F: Mishaps + 
             Queued::new(clients),
             seconds,
             &gate,
-            mishaps,
+            faults,
         ),
         || put(client, &is_stopped),
     );

@@ -1,9 +1,9 @@
 //! Clients are answered where one node weighs as much as a majority, while the others restart all the time.
 use crate::clients::{Hasty, Queued, connect_once, told};
-use crate::clusters::{is_explained, serve_with_mishaps};
+use crate::clusters::{is_explained, serve_faulty};
+use crate::faults::{Counted, OthersRestart};
 use crate::gates::Bounded;
 use crate::mishap_rows::inserted;
-use crate::mishaps::{Counted, OthersRestart};
 use ballot::Members;
 use std::sync::atomic::AtomicBool;
 use std::test::Fail;
@@ -28,7 +28,7 @@ fn others_restart_at_each_turn(rt: HostRuntime) -> Result<(), Fail> {
     let mishaps = Counted::new(alloc, OthersRestart)?;
     let members = Members::weighted(&[3, 1, 1]).ok_or("no members")?;
     let accept = Queued::new(clients);
-    let ended = serve_with_mishaps(&rt, alloc, members, 2, accept, seconds, &gate, &mishaps)?;
+    let ended = serve_faulty(&rt, alloc, members, 2, accept, seconds, &gate, &mishaps)?;
     let mut ids = Vec::new(alloc);
     for from in puts {
         ids.push(inserted(told(alloc, from)?.as_slice()))?;

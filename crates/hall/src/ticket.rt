@@ -27,7 +27,8 @@ impl<Op: Drop, Reply: Drop> NotedAct<Op, Reply> {
 }
 
 /// A session's own record: its number, its acts in their order, and which replies were noted for them. A hall makes it
-/// where it opens the session; it can't be copied, so nobody else submits for that session.
+/// where it opens the session, and it can't be copied: a hall takes a command of a session from a ticket whose session and
+/// last command are its own.
 #[derive(Drop)]
 pub struct Ticket<O: Object> {
     session: u32,

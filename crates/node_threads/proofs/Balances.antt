@@ -53,8 +53,7 @@ module _ {Op Reply : Type 0} where
   ends_balance : (old : Attendance Op Reply) (r : Result Unit ServiceFault) (new : Attendance Op Reply) → TakesLeave old r new → Balances old new
   ends_balance old (Ok done) new is = one_balances old new Close None is
   ends_balance old (Err Refused) new is = absurd is
-  ends_balance old (Err Stopped) new (inl is) = same_balances old new is
-  ends_balance old (Err Stopped) new (inr is) = one_balances old new Close None is
+  ends_balance old (Err Stopped) new is = same_balances old new is
 
 asked_balance : (old new : Attendance Op Reply) (ops : List Op) (answers : List Response) → Asked Adds old ops answers new → Balances old new
 asked_balance old new [] [] is = same_balances old new (sym is)

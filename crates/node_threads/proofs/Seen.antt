@@ -4,7 +4,7 @@ use Rattle.bean_queue.specs.declared.op.Op.{Op}
 use Rattle.session.specs.declared.faults.End.{End}
 use Rattle.session.specs.declared.faults.ServiceFault.{ServiceFault}
 use Rattle.session.specs.Items.{Response, operations}
-use Rattle.session.specs.Serving.{Asks, Asked, Closes, Whole, StopsAt, Partly, BreaksOff, ClosedAfter, ClosedOnce, Over}
+use Rattle.session.specs.Serving.{Asks, Asked, Closes, Whole, StopsAt, Partly, RunsShort, BreaksOff, ClosedAfter, ClosedOnce, Over}
 
 module _ {S T : Type 0} (seen : S → T) (asks : Asks T) (closes : Closes T) where
   abbrev pub AsksBy : Asks S
@@ -27,6 +27,9 @@ module _ {S T : Type 0} (seen : S → T) (asks : Asks T) (closes : Closes T) whe
 
   pub partly : (old new : S) (input output : List ℕ) → Partly AsksBy old new input output → Partly asks (seen old) (seen new) input output
   partly old new input output p = (p.0, p.1, p.2, p.3, p.4, p.5, asked old new _ p.2 p.6, p.7)
+
+  pub runs_short : (old new : S) (input output : List ℕ) → RunsShort AsksBy old new input output → RunsShort asks (seen old) (seen new) input output
+  runs_short old new input output r = (r.0, r.1, r.2, r.3, r.4, r.5, asked old new _ r.2 r.6, r.7, r.8)
 
   pub breaks_off : (old new : S) (input output : List ℕ) → BreaksOff AsksBy old new input output → BreaksOff asks (seen old) (seen new) input output
   breaks_off old new input output b = (b.0, b.1, b.2, b.3, b.4, b.5, b.6, b.7, asked old new _ b.2 b.8, b.9, b.10)

@@ -22,11 +22,11 @@ Adds old op (Ok reply) new = new ≡ with_one old (Do op) (Some reply)
 Adds old op (Err Refused) new = new ≡ old
 Adds {Op} {Reply} old op (Err Stopped) new = (new ≡ old) ⊎ ((noted : Option Reply) × (new ≡ with_one old (Do op) noted))
 
--- The client's end is handed in; where the worker stops, it was or it wasn't. It is never refused.
+-- The client's end is handed in; where the worker stops, it wasn't. It is never refused.
 abbrev pub TakesLeave : {Op Reply : Type 0} → Attendance Op Reply → Result Unit ServiceFault → Attendance Op Reply → Type 0
 TakesLeave old (Ok done) new = new ≡ with_one old Close None
 TakesLeave old (Err Refused) new = ⊥
-TakesLeave old (Err Stopped) new = (new ≡ old) ⊎ (new ≡ with_one old Close None)
+TakesLeave old (Err Stopped) new = new ≡ old
 
 -- the ticket, and so many commands
 abbrev pub attendance_of : {Op Reply : Type 0} → TicketState Op Reply → ℕ → Attendance Op Reply

@@ -2,10 +2,11 @@ ghost use Rattle.std.specs.Prelude.{◌≡◌, ◌↔◌, ◌+◌, Option, Some,
 ghost use Rattle.session.specs.declared.faults.ServiceFault.TheVariants.{Refused, Stopped};
 ghost use Rattle.hall.specs.declared.error.HallError.TheVariants.{OutOfMemory};
 ghost use Rattle.hall.specs.Tickets.{with_act, with_noted};
+ghost use Rattle.node_threads.specs.Attending.{Adds, attendance_of};
 
 use crate::bell::Patience;
+use crate::faults::Faults;
 use crate::gate::{Actor, Gate, Point};
-use crate::mishaps::Mishaps;
 use crate::shared::{HandedIn, Shared};
 use bean_queue::{Op, Reply};
 use hall::{HallError, Ticket};
@@ -20,7 +21,7 @@ pub(crate) struct Attendant<'a, O: Object, S: Ledger, C: Ledger, R, G, F> {
     pub(crate) rt: &'a R,
     pub(crate) shared: &'a Shared<O, S, C>,
     pub(crate) gate: &'a G,
-    pub(crate) mishaps: &'a F,
+    pub(crate) faults: &'a F,
     pub(crate) worker: u32,
     /// The node at which it hands in.
     pub(crate) node: u8,
@@ -38,7 +39,7 @@ impl<
     C: Ledger,
     R: Wait,
     G: Gate,
-    F: Mishaps,
+    F: Faults,
 > Service for Attendant<'a, O, S, C, R, G, F> {
     ghost use Rattle.node_threads.specs.Attending.{Adds, TakesLeave, attendance_of};
 
@@ -52,10 +53,9 @@ impl<
 
     fn ask(&mut self, op: Op) -> Result<Reply, ServiceFault> {
         self.gate.at(Actor::Worker(self.worker), Point::Asked);
-        let handed_in = self.hand_in(Act::Do(op))?;
-        let reply = self.answer(handed_in)?;
+        let answered = self.obtain(op);
         self.gate.at(Actor::Worker(self.worker), Point::Answered);
-        Ok(reply)
+        answered
     }
 
     fn close(&mut self) -> Result<(), ServiceFault> {
@@ -63,7 +63,7 @@ impl<
             match self.hand_in(Act::Close) {
                 Ok(_) => {
                     self.shared
-                        .leave(self.rt, self.gate, self.mishaps, self.worker);
+                        .leave(self.rt, self.gate, self.faults, self.worker);
                     return Ok(());
                 }
                 Err(ServiceFault::Refused) => std::thread::yield_now(),
@@ -74,7 +74,27 @@ impl<
     }
 }
 
-impl<'a, O: Object, S: Ledger, C: Ledger, R: Wait, G: Gate, F: Mishaps> Attendant<
+impl<
+    'a,
+    O: Object<Op = Op, Reply = Reply>,
+    S: Ledger,
+    C: Ledger,
+    R: Wait,
+    G: Gate,
+    F: Faults,
+> Attendant<'a, O, S, C, R, G, F> {
+    // Hands in what the client asks for, and waits for the answer to it.
+    fn obtain(&mut self, op: Op) -> Result<Reply, ServiceFault>
+        ensures added { Adds (attendance_of self.old.ticket self.old.commands.amount) op result
+            (attendance_of self.new.ticket self.new.commands.amount) }
+    {
+        let handed_in = self.hand_in(Act::Do(op))?;
+        let reply = self.answer(handed_in)?;
+        Ok(reply)
+    }
+}
+
+impl<'a, O: Object, S: Ledger, C: Ledger, R: Wait, G: Gate, F: Faults> Attendant<
     'a,
     O,
     S,
@@ -117,7 +137,7 @@ impl<'a, O: Object, S: Ledger, C: Ledger, R: Wait, G: Gate, F: Mishaps> Attendan
         let Ok(()) = self.shared.note_answer(
             self.rt,
             self.gate,
-            self.mishaps,
+            self.faults,
             &mut self.ticket,
             self.worker,
             handed_in,

@@ -3,13 +3,13 @@ ghost use Rattle.std.specs.Io.KnownBytes.{IsAtEnd};
 ghost use Rattle.session.specs.declared.faults.End.{End};
 ghost use Rattle.session.specs.declared.faults.ServiceFault.{ServiceFault};
 ghost use Rattle.session.specs.declared.faults.SessionFault.{SessionFault};
-ghost use Rattle.session.specs.Serving.{Over, Whole, StopsAt, Partly, BreaksOff, ClosedAfter, ClosedOnce};
+ghost use Rattle.session.specs.Serving.{Over, Whole, StopsAt, Partly, RunsShort, BreaksOff, ClosedAfter, ClosedOnce};
 ghost use Rattle.node_threads.specs.Attending.{Adds, TakesLeave, attendance_of};
 
 use crate::attendant::Attendant;
 use crate::bell::Patience;
+use crate::faults::Faults;
 use crate::gate::Gate;
-use crate::mishaps::Mishaps;
 use crate::shared::Shared;
 use crate::watched_reader::WatchedReader;
 use bean_queue::{Op, Reply};
@@ -45,7 +45,7 @@ pub fn attend<
     C: Ledger,
     R: Wait,
     G: Gate,
-    F: Mishaps,
+    F: Faults,
     I: ByteIn,
     W: ByteOut,
 >(
@@ -58,7 +58,7 @@ pub fn attend<
     writer: &mut W,
     desk: Desk,
     gate: &G,
-    mishaps: &F,
+    faults: &F,
 ) -> Attended<O, C, I>
     requires { commands.parts ≡ 1 }
     ensures one_part { result.commands.parts ≡ 1 }
@@ -112,6 +112,13 @@ pub fn attend<
         (λ input output. ClosedOnce TakesLeave
         (λ s. Partly Adds (attendance_of ticket commands.amount) s input output)
         (attendance_of result.ticket result.commands.amount)) }
+    ensures ran_short { result.ended ≡ Err SessionFault.OutOfMemory →
+        Over (I.remaining reader) (I.remaining result.reader)
+        (W.contents writer.old) (W.contents writer.new)
+        (λ input output. ClosedOnce TakesLeave
+        (λ s. RunsShort Adds (attendance_of ticket commands.amount) s input output)
+        (attendance_of result.ticket result.commands.amount)
+        × (I.has_ended result.reader ≡ I.has_ended reader)) }
 {
     let mut reader = WatchedReader {
         reader,
@@ -122,7 +129,7 @@ pub fn attend<
         rt,
         shared,
         gate,
-        mishaps,
+        faults,
         worker: desk.worker,
         node: desk.node,
         ticket,

@@ -6,8 +6,8 @@ use crate::accept::Accept;
 use crate::clock::Seconds;
 use crate::cluster_error::ClusterError;
 use crate::comparing::are_its_tickets;
+use crate::faults::{Faults, NoFaults};
 use crate::gate::Gate;
-use crate::mishaps::{Mishaps, NoMishaps};
 use crate::places::WaitingPlaces;
 use crate::shared::Shared;
 use crate::staff::{Common, Door, Finished, run_threads};
@@ -18,6 +18,7 @@ use hall::{Hall, Ticket};
 use object::Object;
 use std::alloc::{AllocError, Global};
 use std::marker::Brand;
+use std::rt::Clock;
 use std::sync::Wait;
 use std::sync::ledger::{Blank, Ledger};
 use std::thread::{JoinHandle, Threads};
@@ -39,7 +40,7 @@ pub fn run_cluster<
     A: Accept + Drop,
     T: Seconds + Send + Drop,
     G: Gate + Sync,
-    R: Threads + Wait + Sync,
+    R: Threads + Wait + Clock + Sync,
 >(
     rt: &R,
     alloc: Global,
@@ -61,17 +62,17 @@ pub fn run_cluster<
         A.has_failed result.accept ≡ A.has_failed accept }
     ensures failed { result.fault ≡ Some ListenFailed → A.has_failed result.accept ≡ true }
 {
-    run_cluster_with_mishaps(rt, alloc, hall, accept, seconds, workers, gate, &NoMishaps)
+    run_cluster_faulty(rt, alloc, hall, accept, seconds, workers, gate, &NoFaults)
 }
 
 /// Does the same while mishaps befall the nodes: before each turn of a node, whoever takes it, one is chosen.
-pub fn run_cluster_with_mishaps<
+pub fn run_cluster_faulty<
     O: Object<Op = Op, Reply = Reply> + Send,
     A: Accept + Drop,
     T: Seconds + Send + Drop,
     G: Gate + Sync,
-    F: Mishaps + Sync,
-    R: Threads + Wait + Sync,
+    F: Faults + Sync,
+    R: Threads + Wait + Clock + Sync,
 >(
     rt: &R,
     alloc: Global,
@@ -80,7 +81,7 @@ pub fn run_cluster_with_mishaps<
     seconds: T,
     workers: u32,
     gate: &G,
-    mishaps: &F,
+    faults: &F,
 ) -> Ended<O, A>
     requires none { hall.book ≡ [] }
     requires some { 1 ≤ workers }
@@ -107,7 +108,7 @@ pub fn run_cluster_with_mishaps<
         accept,
         seconds,
         gate,
-        mishaps,
+        faults,
     };
     run_counted::<O, Brand, Brand, A, T, G, F, R>(
         rt,
@@ -158,7 +159,7 @@ struct Outside<'a, A, T, G, F> {
     accept: A,
     seconds: T,
     gate: &'a G,
-    mishaps: &'a F,
+    faults: &'a F,
 }
 
 // Runs the cluster over counts of sessions and of commands.
@@ -169,8 +170,8 @@ fn run_counted<
     A: Accept + Drop,
     T: Seconds + Send + Drop,
     G: Gate + Sync,
-    F: Mishaps + Sync,
-    R: Threads + Wait + Sync,
+    F: Faults + Sync,
+    R: Threads + Wait + Clock + Sync,
 >(
     rt: &R,
     alloc: Global,
@@ -217,7 +218,7 @@ fn run_counted<
         shared: &shared,
         clients: &receiver,
         gate: outside.gate,
-        mishaps: outside.mishaps,
+        faults: outside.faults,
     };
     let door = Door {
         accept: outside.accept,

@@ -4,7 +4,7 @@ ghost use Rattle.hall.specs.Halls.{after_tick, with_nodes};
 ghost use Rattle.hall.specs.Recorded.{asked};
 ghost use Rattle.hall.specs.Tickets.{new_ticket, last_command, last_noted, with_act};
 
-use crate::mishaps::Mishap;
+use crate::faults::Mishap;
 use crate::turn::Watch;
 use hall::{Hall, HallError, Ticket};
 use object::{Act, Object};
@@ -134,9 +134,14 @@ impl<O: Object, S: Ledger, C: Ledger> CountedHall<O, S, C> {
     }
 
     /// One turn of a node, after a mishap.
-    pub(crate) fn take_turn(&mut self, watch: &mut Watch, mishap: Mishap) -> Result<(), HallError> {
+    pub(crate) fn take_turn(
+        &mut self,
+        watch: &mut Watch,
+        mishap: Mishap,
+        round: u64,
+    ) -> Result<(), HallError> {
         let CountedHall { hall, .. } = self;
-        watch.take_turn(hall, mishap)
+        watch.take_turn(hall, mishap, round)
     }
 
     /// Hands in a second of the clock.

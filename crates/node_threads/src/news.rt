@@ -14,6 +14,7 @@ pub(crate) const MOST_WORKERS: usize = 64;
 #[derive(Drop)]
 pub(crate) struct News {
     mail: [bool; MOST_NODES],
+    decisions: [bool; MOST_NODES],
     requests: [bool; MOST_NODES],
     workers: [bool; MOST_WORKERS],
     has_answers: bool,
@@ -27,6 +28,7 @@ impl News {
         for node in 1..=hall.members().count() {
             if let Some(place) = place_of(node) {
                 news.mail[place] = hall.has_mail(node);
+                news.decisions[place] = hall.can_perform(node);
                 news.requests[place] = hall.can_propose(node);
             }
         }
@@ -40,6 +42,7 @@ impl News {
     pub(crate) fn refuse(&mut self, node: u8) {
         if let Some(place) = place_of(node) {
             self.mail[place] = false;
+            self.decisions[place] = false;
             self.requests[place] = false;
         }
         self.was_refused = true;
@@ -52,12 +55,17 @@ impl News {
 
     /// Whether a node has something to do.
     pub(crate) fn is_for(&self, node: u8) -> bool {
-        self.has_mail(node) || self.has_request(node)
+        self.has_mail(node) || self.has_decision(node) || self.has_request(node)
     }
 
     /// Whether a node has mail.
     pub(crate) fn has_mail(&self, node: u8) -> bool {
         place_of(node).is_some_and(|place| self.mail[place])
+    }
+
+    /// Whether a node knows a decision that it is to perform next.
+    pub(crate) fn has_decision(&self, node: u8) -> bool {
+        place_of(node).is_some_and(|place| self.decisions[place])
     }
 
     /// Whether a node has a request that it can propose.
@@ -90,6 +98,7 @@ impl News {
     fn none() -> News {
         News {
             mail: [false; MOST_NODES],
+            decisions: [false; MOST_NODES],
             requests: [false; MOST_NODES],
             workers: [false; MOST_WORKERS],
             has_answers: false,

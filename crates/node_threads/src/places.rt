@@ -2,6 +2,7 @@ ghost use Rattle.std.specs.Prelude.{◌≡◌, ◌<◌, ◌≤◌, IfOk, vec_len
 ghost use Rattle.node_threads.specs.Rings.{node_after, node_of_second};
 
 use crate::bell::{Bell, Patience};
+use crate::rounds::Rounds;
 use crate::turn::Watch;
 use std::alloc::{AllocError, Global};
 use std::sync::atomic::{AtomicBool, AtomicU64, Ordering};
@@ -23,6 +24,7 @@ const MANY_LOOKS: u32 = 1024;
 pub(crate) struct WaitingPlaces {
     nodes: Vec<Post>,
     workers: Vec<Seat>,
+    rounds: Rounds,
     has_helper: AtomicBool,
     is_over: AtomicBool,
     ghost some: { 0 < vec_len nodes },
@@ -52,9 +54,15 @@ impl WaitingPlaces {
         Ok(WaitingPlaces {
             nodes: posts(alloc, nodes, workers as usize <= MOST_HELPERS)?,
             workers: seats(alloc, workers)?,
+            rounds: Rounds::new(alloc, nodes)?,
             has_helper: AtomicBool::new(false),
             is_over: AtomicBool::new(false),
         })
+    }
+
+    /// Which seconds count for the nodes.
+    pub(crate) fn rounds(&self) -> &Rounds {
+        &self.rounds
     }
 
     /// A worker serves this session from now on.

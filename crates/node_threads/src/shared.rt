@@ -9,18 +9,25 @@ mod helping;
 
 use crate::bell::Patience;
 use crate::counted_hall::CountedHall;
+use crate::faults::Faults;
 use crate::gate::Gate;
-use crate::mishaps::Mishaps;
 use crate::places::WaitingPlaces;
 use hall::{Hall, HallError, Ticket};
 use object::{Act, Object};
 use std::alloc::{AllocError, Global};
+use std::rt::Clock;
 use std::sync::ledger::{Blank, Ledger, Share};
 use std::sync::{Mutex, MutexGuard, Wait};
-use std::thread::yield_now;
+use std::thread::{sleep, yield_now};
+use std::time::Duration;
 
 /// So often a thread looks whether the lock is free before it sleeps until it is.
 const LOOKS_AT_LOCK: u32 = 16;
+
+/// So many naps the clock waits for the nodes' turns at most, and so many milliseconds each.
+const MOST_NAPS: u32 = 100;
+
+const NAP: u64 = 1;
 
 /// The hall under its lock, and the places where its threads wait until there is something for them to do.
 #[derive(Drop)]
@@ -39,7 +46,28 @@ pub(crate) struct HandedIn {
 }
 
 impl<O: Object, S: Ledger, C: Ledger> Shared<O, S, C> {
-    /// A hall in which no session was opened yet, with the shares of all of both counts.
+    /// A hall in which no session was opened yet, for so many workers, with the shares of all of both counts. Its nodes
+    /// have no threads: who runs a cluster starts them.
+    pub fn without_threads(
+        alloc: Global,
+        hall: Hall<O>,
+        workers: u32,
+        sessions: Blank,
+        commands: Blank,
+    ) -> Result<(Shared<O, S, C>, Share<S>, Share<C>), AllocError>
+        requires none { hall.book ≡ [] }
+        requires sessions_name { sessions.name ≡ S.name }
+        requires sessions_parts { sessions.parts ≡ S.parts }
+        requires commands_name { commands.name ≡ C.name }
+        requires commands_parts { commands.parts ≡ C.parts }
+        ensures sessions { IfOk result (λ shared. (shared.1.parts ≡ S.parts) × (shared.1.amount ≡ 0)) }
+        ensures commands { IfOk result (λ shared. (shared.2.parts ≡ C.parts) × (shared.2.amount ≡ 0)) }
+    {
+        let places = WaitingPlaces::new(alloc, hall.members().count(), workers)?;
+        Ok(Shared::new(alloc, hall, places, sessions, commands))
+    }
+
+    /// The same, where there are places.
     pub(crate) fn new(
         alloc: Global,
         hall: Hall<O>,
@@ -83,7 +111,7 @@ impl<O: Object, S: Ledger, C: Ledger> Shared<O, S, C> {
     }
 
     /// Opens a session for a worker.
-    pub(crate) fn open_session<R: Wait>(
+    pub fn open_session<R: Wait>(
         &self,
         rt: &R,
         mine: &mut Share<S>,
@@ -124,11 +152,11 @@ impl<O: Object, S: Ledger, C: Ledger> Shared<O, S, C> {
 
     /// Waits for the answer to a session's last command, and notes it in the ticket. At each second without one the
     /// command is handed in again, at the next node.
-    pub(crate) fn note_answer<R: Wait, G: Gate, F: Mishaps>(
+    pub(crate) fn note_answer<R: Wait, G: Gate, F: Faults>(
         &self,
         rt: &R,
         gate: &G,
-        mishaps: &F,
+        faults: &F,
         ticket: &mut Ticket<O>,
         worker: u32,
         handed_in: HandedIn,
@@ -140,20 +168,33 @@ impl<O: Object, S: Ledger, C: Ledger> Shared<O, S, C> {
     {
         let mut handed_in = handed_in;
         for _ in rt.forever() {
-            if !self.help(rt, gate, mishaps, worker, handed_in.work) {
+            if !self.help(rt, gate, faults, worker, handed_in.work) {
                 self.places.wait_as_worker(rt, worker, patience);
             }
             if self.look_for_answer(rt, ticket, &mut handed_in)? {
-                self.tidy(rt, gate, mishaps, worker);
+                self.tidy(rt, gate, faults, worker);
                 return Ok(());
             }
         }
         unreachable!()
     }
 
+    /// Waits until each node has had a turn since the last second; a tenth of a second at most.
+    pub(crate) fn await_turns<R: Clock>(&self, clock: &R) {
+        for _ in 0..MOST_NAPS {
+            if self.places.rounds().have_all_turned() || self.is_over() {
+                return;
+            }
+            sleep(clock, Duration::from_millis(NAP));
+        }
+    }
+
     /// Hands in a second of the clock, at one node after the other, and tells everybody that it has passed.
     pub(crate) fn tick<R: Wait>(&self, rt: &R, second: u64) {
-        let _ = self.hand_in_second(&mut self.lock(rt), second);
+        let mut guard = self.lock(rt);
+        self.places.rounds().begin_second(guard.hall());
+        let _ = self.hand_in_second(&mut guard, second);
+        drop(guard);
         self.places.ring_all();
     }
 
@@ -277,12 +318,16 @@ impl<O: Object, S: Ledger, C: Ledger> Shared<O, S, C> {
         }
     }
 
-    // A node that has something to do. Mail comes before requests.
+    // A node that has something to do: mail comes first, then what can be performed, then requests.
     fn work_in(&self, hall: &Hall<O>) -> Option<u8> {
         let count = hall.members().count();
         let with_mail = (1..=count).find(|node| hall.has_mail(*node));
         if with_mail.is_some() {
             return with_mail;
+        }
+        let with_decision = (1..=count).find(|node| hall.can_perform(*node));
+        if with_decision.is_some() {
+            return with_decision;
         }
         (1..=count).find(|node| hall.can_propose(*node))
     }

@@ -1,12 +1,13 @@
 ghost use Rattle.std.specs.Prelude.{◌≡◌, ◌≢◌, ◌+◌, ◌≤◌, ◌<◌, ◌-◌, ◌^◌, true, None, Some, Err, IfSome, OnOk, OnErr, vec_len, vec_capacity};
+ghost use Rattle.node_threads.specs.Rings.{node_after};
 ghost use Rattle.node_threads.specs.declared.cluster_error.ClusterError.TheVariants.{BadNumber, ListenFailed, OutOfMemory, ThreadFailed};
 
 use crate::accept::Accept;
 use crate::attending::Desk;
 use crate::clock::{Seconds, run_clock};
 use crate::cluster_error::ClusterError;
+use crate::faults::Faults;
 use crate::gate::Gate;
-use crate::mishaps::Mishaps;
 use crate::node_thread::run_node;
 use crate::shared::Shared;
 use crate::tally::Tally;
@@ -16,6 +17,7 @@ use crossbeam_channel::{Receiver, Sender};
 use object::Object;
 use session::{ByteIn, ByteOut, Failed};
 use std::alloc::Global;
+use std::rt::Clock;
 use std::sync::Wait;
 use std::sync::ledger::Ledger;
 use std::thread;
@@ -29,7 +31,7 @@ pub(crate) struct Common<'s, O: Object, S: Ledger, C: Ledger, I, W, R, G, F> {
     pub(crate) shared: &'s Shared<O, S, C>,
     pub(crate) clients: &'s Receiver<(I, W), Global>,
     pub(crate) gate: &'s G,
-    pub(crate) mishaps: &'s F,
+    pub(crate) faults: &'s F,
 }
 
 impl<
@@ -41,7 +43,7 @@ impl<
     W: ByteOut + Drop,
     R: Wait,
     G: Gate,
-    F: Mishaps,
+    F: Faults,
 > Common<'s, O, S, C, I, W, R, G, F> {
     // What the thread of a worker does.
     fn work(&self, worker: Worker<O, S, C>, desk: Desk) -> Worker<O, S, C> {
@@ -52,13 +54,14 @@ impl<
             self.clients,
             desk,
             self.gate,
-            self.mishaps,
+            self.faults,
         )
     }
 
     // Where the first worker stands. Worker k hands in at node 1 + k mod N of N nodes.
     fn first_desk(&self) -> Desk
-        ensures { result.worker ≡ 1 }
+        ensures worker { result.worker ≡ 1 }
+        ensures node { result.node ≡ node_after (vec_len self.now.shared.now.places.nodes) 1 }
     {
         Desk {
             worker: 1,
@@ -69,7 +72,9 @@ impl<
     // Where the next worker stands.
     fn desk_after(&self, desk: Desk) -> Desk
         requires { desk.worker < 2 ^ 32 - 1 }
-        ensures { result.worker ≡ desk.worker + 1 }
+        ensures worker { result.worker ≡ desk.worker + 1 }
+        ensures node { result.node
+            ≡ node_after (vec_len self.now.shared.now.places.nodes) desk.node }
     {
         Desk {
             worker: desk.worker + 1,
@@ -136,9 +141,9 @@ pub(crate) fn run_threads<
     C: Ledger + Send + Sync,
     A: Accept + Drop,
     T: Seconds + Send + Drop + 's,
-    R: Threads + Wait + Sync,
+    R: Threads + Wait + Clock + Sync,
     G: Gate + Sync,
-    F: Mishaps + Sync,
+    F: Faults + Sync,
 >(
     common: &'s Common<'s, O, S, C, A::R, A::W, R, G, F>,
     nodes: u8,
@@ -213,9 +218,9 @@ fn start_nodes_and_clock<
     I: Send,
     W: Send,
     T: Seconds + Send + Drop + 's,
-    R: Wait + Sync,
+    R: Wait + Clock + Sync,
     G: Gate + Sync,
-    F: Mishaps + Sync,
+    F: Faults + Sync,
 >(
     scope: &Scope<'s, E>,
     common: &'s Common<'s, O, S, C, I, W, R, G, F>,
@@ -231,12 +236,12 @@ fn start_nodes_and_clock<
         rt,
         shared,
         gate,
-        mishaps,
+        faults,
         ..
     } = common;
     for before in 0..nodes {
         let node = before + 1;
-        let Ok(thread) = scope.spawn(move || run_node(*rt, *shared, node, *gate, *mishaps)) else {
+        let Ok(thread) = scope.spawn(move || run_node(*rt, *shared, node, *gate, *faults)) else {
             return Err(ClusterError::ThreadFailed);
         };
         crew.push_reserved(thread);
@@ -256,9 +261,9 @@ fn run_workers<
     S: Ledger + Send + Sync,
     C: Ledger + Send + Sync,
     A: Accept + Drop,
-    R: Threads + Wait + Sync,
+    R: Threads + Wait + Clock + Sync,
     G: Gate + Sync,
-    F: Mishaps + Sync,
+    F: Faults + Sync,
 >(
     scope: &Scope<'s, E>,
     common: &'s Common<'s, O, S, C, A::R, A::W, R, G, F>,

@@ -6,9 +6,9 @@ ghost use Rattle.network.specs.Networks.{mail_of, front};
 ghost use Rattle.hall.specs.Recorded.{done, without_front_letter, repeated};
 ghost use Rattle.hall.specs.Halls.{with_nodes};
 ghost use Rattle.hall.specs.Refusals.{node_refusal};
-ghost use Rattle.node_threads.specs.declared.mishaps.Mishap.TheVariants as mishaps;
+ghost use Rattle.node_threads.specs.declared.faults.Mishap.TheVariants as mishaps;
 
-use crate::mishaps::Mishap;
+use crate::faults::Mishap;
 use ballot::Slot;
 use hall::{Hall, HallError};
 use object::Object;
@@ -28,11 +28,11 @@ pub(crate) struct Watch {
     has_begun: bool,
     /// How many turns it has had, 2^64 - 1 where there were more.
     turns: u64,
-    /// The last second that it has seen.
-    second: u64,
-    /// The least slot that it proposed a command for without a known decision, and for how many seconds in a row.
+    /// The last round that it took note of.
+    round: u64,
+    /// The least slot that it proposed a command for without a known decision, and for how many rounds that was so.
     undecided: Option<Slot>,
-    seconds: u8,
+    rounds: u8,
 }
 
 impl Watch {
@@ -43,9 +43,9 @@ impl Watch {
             reads_first,
             has_begun: false,
             turns: 0,
-            second: 0,
+            round: 0,
             undecided: None,
-            seconds: 0,
+            rounds: 0,
         }
     }
 
@@ -65,23 +65,29 @@ impl Watch {
         self.turns
     }
 
+    /// The last round that it took note of.
+    pub(crate) fn round(&self) -> u64 {
+        self.round
+    }
+
     /// One turn of the node, after a mishap: it proposes a request, unless it is to read its mail first; receives what is in
-    /// its mail, up to 64 letters; and performs what was decided. At the start the first node wakes, and after a second each
-    /// node says again what it waits for.
+    /// its mail, up to 64 letters; and performs what was decided. At the start the first node wakes. In each round, once no
+    /// mail is left to it, it says again what it waits for.
     pub(crate) fn take_turn<O: Object>(
         &mut self,
         hall: &mut Hall<O>,
         mishap: Mishap,
+        round: u64,
     ) -> Result<(), HallError>
         ensures book { hall.new.book ≡ hall.old.book }
     {
         // one that the hall refuses is left out
         let _ = befall(hall, self.node, mishap);
         self.begin(hall)?;
-        self.pass_second(hall)?;
         self.propose(hall)?;
         receive(hall, self.node)?;
-        perform(hall, self.node)
+        perform(hall, self.node)?;
+        self.note_round(hall, round)
     }
 
     // It proposes a request, unless it is to read its mail first: this may tell it that another node's command takes the
@@ -107,33 +113,30 @@ impl Watch {
         Ok(())
     }
 
-    // Where a second has passed, the node says again what it waits for. Node n wakes where a proposal of its own stood
-    // undecided for n seconds.
-    fn pass_second<O: Object>(&mut self, hall: &mut Hall<O>) -> Result<(), HallError>
+    // Where a round has begun and no mail is left, the node says again what it waits for. Node n wakes where a proposal of
+    // its own stood undecided over n rounds.
+    fn note_round<O: Object>(&mut self, hall: &mut Hall<O>, round: u64) -> Result<(), HallError>
         ensures book { hall.new.book ≡ hall.old.book }
     {
-        let second = hall.last_second();
-        if second <= self.second {
+        if round <= self.round || hall.has_mail(self.node) {
             return Ok(());
         }
-        self.second = second;
+        self.round = round;
         hall.nudge(self.node)?;
         self.count_undecided(hall.undecided(self.node));
-        if self.seconds >= self.node {
-            self.seconds = 0;
+        if self.rounds >= self.node {
+            self.rounds = 0;
             hall.wake(self.node)?;
         }
         Ok(())
     }
 
-    // One second more with this slot undecided.
+    // One round more with this slot undecided, or the first look at it.
     fn count_undecided(&mut self, undecided: Option<Slot>) {
-        self.seconds = if undecided.is_none() {
-            0
-        } else if undecided == self.undecided {
-            self.seconds.saturating_add(1)
+        self.rounds = if undecided.is_some() && undecided == self.undecided {
+            self.rounds.saturating_add(1)
         } else {
-            1
+            0
         };
         self.undecided = undecided;
     }

@@ -1,6 +1,6 @@
 use super::Shared;
+use crate::faults::Faults;
 use crate::gate::{Actor, Gate, Point};
-use crate::mishaps::Mishaps;
 use crate::news::{MOST_NODES, News};
 use crate::turn::Watch;
 use object::Object;
@@ -19,17 +19,17 @@ const MOST_LEFT: u32 = 6;
 impl<O: Object, S: Ledger, C: Ledger> Shared<O, S, C> {
     /// One turn of a node by its own thread. Answers whether there is something for the node at once; where it was refused
     /// memory, it tries again when it is rung. Other nodes are told by a worker, where one helps.
-    pub(crate) fn take_own_turn<R: Wait, G: Gate, F: Mishaps>(
+    pub(crate) fn take_own_turn<R: Wait, G: Gate, F: Faults>(
         &self,
         rt: &R,
         node: u8,
         gate: &G,
-        mishaps: &F,
+        faults: &F,
     ) -> bool {
         let Some(mut watch) = self.places.watch(rt, node) else {
             return false;
         };
-        let news = self.take_turn(rt, gate, mishaps, &mut watch);
+        let news = self.take_turn(rt, gate, faults, &mut watch);
         drop(watch);
         if !self.places.has_helper() {
             news.tell_nodes(&self.places, Some(node));
@@ -40,11 +40,11 @@ impl<O: Object, S: Ledger, C: Ledger> Shared<O, S, C> {
     /// A worker takes the turns of the nodes that have something to do, this one first, until no node has or its bell has
     /// rung. Answers false where it need not look for its answer before it waits: another worker takes these turns; or the
     /// node was told, since it has its turns itself; or there was none to take, or memory was refused, and then all were.
-    pub(crate) fn help<R: Wait, G: Gate, F: Mishaps>(
+    pub(crate) fn help<R: Wait, G: Gate, F: Faults>(
         &self,
         rt: &R,
         gate: &G,
-        mishaps: &F,
+        faults: &F,
         worker: u32,
         first: Option<u8>,
     ) -> bool {
@@ -58,7 +58,7 @@ impl<O: Object, S: Ledger, C: Ledger> Shared<O, S, C> {
         if !self.places.begin_to_help() {
             return false;
         }
-        let has_helped = self.take_turns(rt, gate, mishaps, worker, first, MOST_TURNS);
+        let has_helped = self.take_turns(rt, gate, faults, worker, first, MOST_TURNS);
         self.places.end_help();
         if !has_helped {
             self.ring_nodes(rt);
@@ -68,11 +68,11 @@ impl<O: Object, S: Ledger, C: Ledger> Shared<O, S, C> {
 
     /// A worker that goes on takes some of the turns that are left, where workers do, and no other does. What is left then
     /// is told to the nodes.
-    pub(crate) fn tidy<R: Wait, G: Gate, F: Mishaps>(
+    pub(crate) fn tidy<R: Wait, G: Gate, F: Faults>(
         &self,
         rt: &R,
         gate: &G,
-        mishaps: &F,
+        faults: &F,
         worker: u32,
     ) {
         if !self.places.can_help() {
@@ -82,7 +82,7 @@ impl<O: Object, S: Ledger, C: Ledger> Shared<O, S, C> {
             return;
         };
         if self.places.begin_to_help() {
-            let _ = self.take_turns(rt, gate, mishaps, worker, first, MOST_LEFT);
+            let _ = self.take_turns(rt, gate, faults, worker, first, MOST_LEFT);
             self.places.end_help();
             self.ring_nodes(rt);
         }
@@ -90,15 +90,15 @@ impl<O: Object, S: Ledger, C: Ledger> Shared<O, S, C> {
 
     /// After a worker handed in its client's end, for which it doesn't wait: it takes some of the turns that are left, or
     /// tells the nodes.
-    pub(crate) fn leave<R: Wait, G: Gate, F: Mishaps>(
+    pub(crate) fn leave<R: Wait, G: Gate, F: Faults>(
         &self,
         rt: &R,
         gate: &G,
-        mishaps: &F,
+        faults: &F,
         worker: u32,
     ) {
         if self.places.can_help() {
-            self.tidy(rt, gate, mishaps, worker);
+            self.tidy(rt, gate, faults, worker);
         } else {
             self.ring_nodes(rt);
         }
@@ -120,11 +120,11 @@ impl<O: Object, S: Ledger, C: Ledger> Shared<O, S, C> {
     }
 
     // Takes turns, so many at most, as long as there are some and the worker's bell hasn't rung.
-    fn take_turns<R: Wait, G: Gate, F: Mishaps>(
+    fn take_turns<R: Wait, G: Gate, F: Faults>(
         &self,
         rt: &R,
         gate: &G,
-        mishaps: &F,
+        faults: &F,
         worker: u32,
         first: u8,
         most: u32,
@@ -137,7 +137,7 @@ impl<O: Object, S: Ledger, C: Ledger> Shared<O, S, C> {
                 return has_helped;
             };
             let node = watch.node();
-            let news = self.take_turn(rt, gate, mishaps, &mut watch);
+            let news = self.take_turn(rt, gate, faults, &mut watch);
             drop(watch);
             if news.was_refused() {
                 return false;
@@ -205,19 +205,22 @@ impl<O: Object, S: Ledger, C: Ledger> Shared<O, S, C> {
 
     // One turn of a node, after the mishap that is chosen for it. The workers whose clients were answered are told when the
     // lock is free.
-    fn take_turn<R: Wait, G: Gate, F: Mishaps>(
+    fn take_turn<R: Wait, G: Gate, F: Faults>(
         &self,
         rt: &R,
         gate: &G,
-        mishaps: &F,
+        faults: &F,
         watch: &mut Watch,
     ) -> News {
         let node = watch.node();
         gate.at(Actor::Node(node), Point::Turn);
-        let mishap = mishaps.choose(node, watch.count_turn());
+        let mishap = faults.choose(node, watch.count_turn());
+        let rounds = self.places.rounds();
         let mut guard = self.lock(rt);
+        rounds.begin_turn(node);
         let answers = guard.hall().answer_count();
-        let went = guard.take_turn(watch, mishap).is_ok();
+        let went = guard.take_turn(watch, mishap, rounds.current()).is_ok();
+        rounds.end_turn(guard.hall(), node, watch.round());
         let mut news = News::since(guard.hall(), answers, &self.places);
         drop(guard);
         if !went {

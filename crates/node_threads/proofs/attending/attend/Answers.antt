@@ -3,7 +3,7 @@ use Rattle.session.specs.declared.faults.End.{End}
 use Rattle.session.specs.declared.faults.ServiceFault.{ServiceFault}
 use Rattle.node_threads.specs.Attending.{Adds, TakesLeave, attendance_of}
 use Rattle.node_threads.proofs.Balances.{served_balance}
-use Rattle.node_threads.proofs.Seen.{whole, stops_at, partly, breaks_off, closed_after, closed_once, over, if_ok}
+use Rattle.node_threads.proofs.Seen.{whole, stops_at, partly, runs_short, breaks_off, closed_after, closed_once, over, if_ok}
 use Rattle.node_threads.proofs.attending.attend.Goals as goal
 
 pub returns-clause-ok : goal.returns-clause-ok
@@ -51,6 +51,19 @@ returns-clause-out_of_memory g c = λ e.
     (λ w. absurd w.1.2)
     o)
     (c.serve-ended.ensures.out_of_memory e)
+
+pub returns-clause-ran_short : goal.returns-clause-ran_short
+returns-clause-ran_short g c = λ e.
+    over _ _ _ _ _ _
+    (λ input output o. ⊎_elim
+    (λ w. (
+      closed_once (λ s. attendance_of s.ticket s.commands.amount) Adds TakesLeave _ _
+          (λ s. runs_short (λ s. attendance_of s.ticket s.commands.amount) Adds TakesLeave _ s input output) c.serve-ended.new.service w.0,
+      w.1,
+    ))
+    (λ w. absurd w.1.2)
+    o)
+    (c.serve-ended.ensures.ran_short e)
 
 pub returns-clause-counted : goal.returns-clause-counted
 returns-clause-counted g c =

@@ -1,4 +1,4 @@
-use Rattle.node_threads.proofs.cluster.run_cluster_with_mishaps.Given as goal
+use Rattle.node_threads.proofs.cluster.run_cluster_faulty.Given as goal
 
 abbrev pub ghosts-run_counted-S-Ledger : goal.ghosts-run_counted-S-Ledger
 ghosts-run_counted-S-Ledger g a = record { name = a.sessions.name; parts = a.sessions.parts }

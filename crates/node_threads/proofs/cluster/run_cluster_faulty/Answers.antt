@@ -1,7 +1,7 @@
 use Rattle.std.proofs.Common.{ap, rules}
 use Rattle.node_threads.specs.Clusters.{all_tickets}
 use Rattle.node_threads.proofs.Judging.{none_opened}
-use Rattle.node_threads.proofs.cluster.run_cluster_with_mishaps.Goals as goal
+use Rattle.node_threads.proofs.cluster.run_cluster_faulty.Goals as goal
 
 pub returns-in_default-clause-accounted : goal.returns-in_default-clause-accounted
 returns-in_default-clause-accounted g c = record {

@@ -1,13 +1,23 @@
 //! What befalls the nodes of a cluster, by their numbers and turns.
-use node_threads::{Mishap, Mishaps};
+use node_threads::{Faults, Mishap};
 use std::alloc::{AllocError, Global};
 use std::sync::atomic::{AtomicBool, AtomicU64, Ordering};
+
+/// Nothing befalls any node.
+#[derive(Drop)]
+pub struct Nothing;
+
+impl Faults for Nothing {
+    fn choose(&self, _node: u8, _turn: u64) -> Mishap {
+        Mishap::None
+    }
+}
 
 /// Node n restarts at its turn 20 * n. At each other turn that 3 divides, the letter in front of its mail comes again.
 #[derive(Drop)]
 pub struct RestartsOnce;
 
-impl Mishaps for RestartsOnce {
+impl Faults for RestartsOnce {
     fn choose(&self, node: u8, turn: u64) -> Mishap {
         if turn == 20 * u64::from(node) {
             Mishap::Restart
@@ -23,7 +33,7 @@ impl Mishaps for RestartsOnce {
 #[derive(Drop)]
 pub struct RestartsAtFirst;
 
-impl Mishaps for RestartsAtFirst {
+impl Faults for RestartsAtFirst {
     fn choose(&self, _node: u8, turn: u64) -> Mishap {
         if turn <= 2 {
             Mishap::Restart
@@ -37,7 +47,7 @@ impl Mishaps for RestartsAtFirst {
 #[derive(Drop)]
 pub struct OthersRestart;
 
-impl Mishaps for OthersRestart {
+impl Faults for OthersRestart {
     fn choose(&self, node: u8, _turn: u64) -> Mishap {
         if node == 1 {
             Mishap::None
@@ -53,7 +63,7 @@ pub struct LosesUntil<'a> {
     pub goes: &'a AtomicBool,
 }
 
-impl<'a> Mishaps for LosesUntil<'a> {
+impl<'a> Faults for LosesUntil<'a> {
     fn choose(&self, node: u8, _turn: u64) -> Mishap {
         if node == 2 && !self.goes.load(Ordering::SeqCst) {
             Mishap::Lose
@@ -69,7 +79,7 @@ pub struct Drawn {
     pub seed: u64,
 }
 
-impl Mishaps for Drawn {
+impl Faults for Drawn {
     fn choose(&self, node: u8, turn: u64) -> Mishap {
         match draw(self.seed, node, turn) % 18 {
             0..=2 => Mishap::Lose,
@@ -150,7 +160,7 @@ impl<F: Drop> Counted<F> {
     }
 }
 
-impl<F: Mishaps + Drop> Mishaps for Counted<F> {
+impl<F: Faults + Drop> Faults for Counted<F> {
     fn choose(&self, node: u8, turn: u64) -> Mishap {
         self.note_turn(node, turn);
         let mishap = self.by.choose(node, turn);
