@@ -1,9 +1,12 @@
 -- Every reachable world has one order, and it and the happenings only grow.
-use Rattle.std.proofs.Common.{List}
+use Rattle.std.proofs.Common.{List, sym, subst}
+use Rattle.object.specs.declared.command.Command.{Command}
 use Rattle.object.specs.declared.command.Key.{Key}
+use Rattle.object.specs.Legal.{IsLegal}
 use Rattle.world.specs.declared.event.Event.{Event}
 use Rattle.object.specs.Objects.{Rules}
 use Rattle.world.specs.Worlds.{World}
+use Rattle.world.specs.Chosen.{IsOrder}
 use Rattle.world.specs.Runs.{Leads, IsReachable}
 use Rattle.world.specs.OneOrder.{HasOneOrder, GoesOnFrom}
 use Rattle.ballot.specs.OrderLaws.{BallotLaws}
@@ -28,3 +31,7 @@ module _ (laws : BallotLaws) {O Op Reply : Type 0} (rules : Rules O Op Reply) wh
         only = λ other g. one_order laws rules w r other h.0 g h.1;
         legal = reachable_legal laws rules waits object w r h.0 h.1;
       }
+
+-- whatever is the order of a world, its happenings are legal for it
+pub legal_for : {O Op Reply : Type 0} (rules : Rules O Op Reply) (w : World Op Reply) (order : List (Command Op)) → HasOneOrder rules w → IsOrder w.cluster order → IsLegal rules w.happenings order
+legal_for rules w order one is = subst (λ cs. IsLegal rules w.happenings cs) (sym (one.only order is)) one.legal

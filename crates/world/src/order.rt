@@ -1,5 +1,6 @@
 ghost use Rattle.std.specs.Prelude.{◌≡◌, ◌↔◌, ◌+◌, ◌≤◌, ◌^◌, ◌==◌, ◌&&◌, ◌||◌, ℕ, map, length, slice_index_or, true, false, not, nat_lt, nat_le, IfSome, IfNone, IfOk};
 ghost use Rattle.object.specs.declared.command.Command.{Command};
+ghost use Rattle.object.specs.Legal.{IsLegal};
 ghost use Rattle.object.specs.Replays.{is_new, kept};
 ghost use Rattle.ballot.specs.declared.pvalue.Pvalue.{Pvalue};
 ghost use Rattle.world.specs.Nodes.{node};
@@ -78,10 +79,14 @@ impl<O: Object> World<O> {
     }
 
     /// The one order: of the commands that are chosen in the slots 1, 2, .. up to the first slot with none chosen, those
-    /// whose number is greater than every earlier one of their session. It fails for want of memory alone.
+    /// whose number is greater than every earlier one of their session. What was submitted and answered is legal for it,
+    /// and what the object promises of all commands holds of it. It fails for want of memory alone.
     pub fn order(&self) -> Result<Vec<Command<O::Op>>, AllocError>
-        ensures { IfOk result (λ order. IsOrder self.now.cluster order.items) }
+        ensures order { IfOk result (λ order. IsOrder self.now.cluster order.items) }
+        ensures legal { IfOk result (λ order. IsLegal O.rules self.now.happenings order.items) }
+        ensures promised { IfOk result (λ order. O.promise order.items) }
     {
+        self.show_agreement();
         let chosen = self.all_chosen()?;
         let order = kept(self.alloc, chosen.as_slice())?;
         Ok(order)

@@ -189,8 +189,10 @@ impl<O: Object> World<O> {
         self.step(event)
     }
 
-    // What every world agrees on.
-    pub(crate) fn show_agreement(&self)
+    /// A law: what every world agrees on, whichever events led to it. No ballot and slot has two commands, what is chosen
+    /// stays in later ballots, no slot has two chosen commands, and each Decision names one; there is one order, for which
+    /// what happened is legal; what the object promises holds of it; and what was performed is answered.
+    pub fn show_agreement(&self)
         ensures one_command { HasOneCommand self.now.cluster }
         ensures keeps_chosen { KeepsChosen self.now.cluster }
         ensures chooses_one { ChoosesOne self.now.cluster }

@@ -12,8 +12,9 @@ use object::Object;
 use std::alloc::Global;
 
 impl<O: Object> World<O> {
-    /// What is so of every world, and of its members.
-    pub(crate) fn show_reachable(&self)
+    /// A law: events lead to every world from the opening world of its members, and it counts 2^48 at most. Its members are
+    /// 1 to 7, and weigh 1 to 1000 each.
+    pub fn show_reachable(&self)
         ensures world { IsWorld O.rules self.now }
         ensures members { IsMembers self.now.cluster.members }
     {
