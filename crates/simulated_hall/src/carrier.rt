@@ -80,6 +80,7 @@ impl<O: Object> Carrier<O> {
         ensures turned_down { RefusesAct O.Op.eq self.old.hall self.old.ticket act →
             result ≡ Err unanswered.Stopped }
         ensures once { self.old.calls < most_calls → self.new.calls ≡ self.old.calls + 1 }
+        ensures rises { self.old.calls ≤ self.new.calls }
     {
         self.count()?;
         match self.hall.submit(&mut self.ticket, act, HOME) {
@@ -96,6 +97,7 @@ impl<O: Object> Carrier<O> {
         ensures ok { OnOk result (self.new.hall ≡ after_tick O.rules self.old.hall 1 second) }
         ensures ticket { self.new.ticket ≡ self.old.ticket }
         ensures stopped { OnErr result (most_calls ≤ self.new.calls ⊎ (is_full self.new.hall ≡ true)) }
+        ensures rises { self.old.calls ≤ self.new.calls }
     {
         home_is_member(self.hall.members());
         for _ in 0..MOST_CALLS {
@@ -123,8 +125,9 @@ impl<O: Object> Carrier<O> {
         ensures nothing { SubmitsNothing self.old.hall.nodes.past self.new.hall.nodes.past }
         ensures ticket { self.new.ticket ≡ self.old.ticket }
         ensures stopped { OnErr result (most_calls ≤ self.new.calls) }
+        ensures rises { self.old.calls ≤ self.new.calls }
     {
-        self.driver.begin(key.session != 0);
+        self.driver.begin(self.hall.members(), key.session != 0);
         let mut refused = None;
         for count in 0..MOST_CALLS {
             self.count()?;
@@ -151,6 +154,7 @@ impl<O: Object> Carrier<O> {
         ensures hall { self.new.hall ≡ self.old.hall }
         ensures ticket { self.new.ticket ≡ self.old.ticket }
         ensures stopped { OnErr result (most_calls ≤ self.new.calls) }
+        ensures rises { self.old.calls ≤ self.new.calls }
     {
         for _ in 0..MOST_CALLS {
             self.count()?;

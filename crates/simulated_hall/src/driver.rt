@@ -15,8 +15,9 @@ pub(crate) const HOME: u8 = 1;
 /// After so many calls for one command the driver goes its plain rounds.
 const DRAWN_CALLS: u32 = 2_000;
 
-/// The commands for which calls may be drawn, since what a restarted node has to learn again grows with them.
-const ROUGH_COMMANDS: u32 = 1_000;
+/// So many letters at most come of the elections to which the storms of one request and its seconds lead. `Driver` says
+/// what they are.
+const PURSE: u32 = 12_000;
 
 /// Before a request, so much of what waits at the nodes is done; what is left waits for the next one.
 const CATCH_UP: u32 = 64;
@@ -51,13 +52,35 @@ enum Round {
 
 /// Chooses the calls of a hall, as a seed draws them: letters are lost, repeated and reordered, nodes restart, and then
 /// again all goes well for a while.
+///
+/// No request that doesn't wait comes near `MOST_CALLS`, whatever came before. With S slots and N members:
+///
+/// - An election takes 2 letters a member, and 3 for each slot and member, since the leader has every slot accepted and
+///   decided again. A nudge brings no more.
+/// - Each Wake and each Nudge of a storm brings one at most, and may later beat node 1, which is elected once more. After
+///   a storm node 1 is elected once, and again where it restarts for the plain rounds. So each storm, each Wake and each
+///   Nudge is paid for with 8 N (S + 2) letters, and is left out where the purse hasn't as many. Then S N is at most 1,500.
+/// - Nor is there a storm, or a full purse, before the last storm is settled: every mail was emptied, and node 1 leads by a
+///   ballot than which no member knows a greater one. From then on nothing is lost, and no node but node 1 wakes.
+/// - Beside the purse there are the 300 calls of a storm, each of which may repeat a letter that brings 64 (19,200); what
+///   waited in mails, 4 letters for each slot and member (6,000); what restarted nodes perform again (1,500), in plain
+///   rounds with 4 calls a slot (6,000); and what is told to node 1 while it settles, 64 decisions by each of 6 others, 9
+///   times (3,500). With the purse these are fewer than 50,000.
+/// - Without a storm a request takes what it catches up with, and some 40 calls.
 #[derive(Drop)]
 pub(crate) struct Driver {
     schedule: Schedule,
     /// How many commands were carried so far.
     commands: u32,
+    /// So many slots at most have a command: one for each that was carried, and one more for each restart of node 1, after
+    /// which its command may be proposed in another slot, too.
+    slots: u32,
+    /// So many letters may still come of the storms of this request.
+    purse: u32,
     /// So many calls of this command are drawn.
     storm: u32,
+    /// So many calls are left that settle the last storm.
+    unsettled: u32,
     /// The letters that are on their way are lost.
     loses: bool,
     /// So much of what waits is done before the command goes its shortest way.
@@ -73,7 +96,10 @@ impl Driver {
         Driver {
             schedule: Schedule::new(seed),
             commands: 0,
+            slots: 0,
+            purse: 0,
             storm: 0,
+            unsettled: 0,
             loses: false,
             behind: 0,
             idle: 0,
@@ -82,15 +108,23 @@ impl Driver {
     }
 
     /// Another command is to be carried: a request, or a second of the clock. While seconds pass nobody waits for the
-    /// nodes that aren't needed.
-    pub fn begin(&mut self, is_request: bool) {
+    /// nodes that aren't needed, once the last storm is settled.
+    pub fn begin(&mut self, members: Members, is_request: bool) {
         self.commands = self.commands.saturating_add(1);
+        self.slots = self.slots.saturating_add(1);
         self.behind = if is_request { CATCH_UP } else { 0 };
         self.idle = 0;
         self.round = Round::Restart;
         self.storm = 0;
-        if self.commands <= ROUGH_COMMANDS && self.schedule.pick(self.commands) == 0 {
+        if self.unsettled > 0 {
+            return;
+        }
+        if is_request {
+            self.purse = PURSE;
+        }
+        if self.schedule.pick(self.commands) == 0 && self.pays(members) {
             self.storm = self.schedule.pick(LONGEST_STORM);
+            self.unsettled = 2 * (u32::from(members.count()) + 2);
         }
     }
 
@@ -114,6 +148,17 @@ impl Driver {
 }
 
 impl Driver {
+    // Pays for what a storm, or a Wake or a Nudge in it, may lead to, where the purse has as much.
+    fn pays(&mut self, members: Members) -> bool {
+        let each_slot = 8 * u32::from(members.count());
+        let letters = self.slots.saturating_add(2).saturating_mul(each_slot);
+        let Some(left) = self.purse.checked_sub(letters) else {
+            return false;
+        };
+        self.purse = left;
+        true
+    }
+
     // A call that is drawn. Mostly a letter is delivered; a restart is among the rarest.
     fn call_in_storm(&mut self, members: Members) -> Call
         ensures { is_member members (node_called result) ≡ true }
@@ -122,30 +167,44 @@ impl Driver {
         match self.schedule.pick(20) {
             0 => Call::Lose(node),
             1 => Call::Repeat(node),
-            2 => Call::Wake(node),
-            3 => Call::Nudge(node),
+            2 if self.pays(members) => Call::Wake(node),
+            3 if self.pays(members) => Call::Nudge(node),
             4 | 5 => Call::Propose(node),
             6 | 7 => Call::Perform(node),
-            8 => Call::Restart(node),
+            8 => self.restart(node),
             _ => Call::Deliver(node),
         }
     }
 
-    // What there is to do, or where there is nothing what may bring some. Where it is not behind, node 1 proposes and
-    // performs as soon as it can.
+    // The node begins anew.
+    fn restart(&mut self, node: u8) -> Call
+        ensures { node_called result ≡ node }
+    {
+        if node == HOME {
+            self.slots = self.slots.saturating_add(1);
+        }
+        Call::Restart(node)
+    }
+
+    // What there is to do, or where there is nothing what may bring some. Where it is not behind and the last storm is
+    // settled, node 1 proposes and performs as soon as it can.
     fn call_in_calm<O: Object>(&mut self, hall: &Hall<O>) -> Call
         ensures { is_member hall.now.nodes.network.members (node_called result) ≡ true }
     {
         home_is_member(hall.members());
-        if self.behind == 0 && hall.can_perform(HOME) {
+        let is_ready = self.behind == 0 && self.unsettled == 0;
+        if is_ready && hall.can_perform(HOME) {
             return Call::Perform(HOME);
         }
-        if self.behind == 0 && hall.can_propose(HOME) {
+        if is_ready && hall.can_propose(HOME) {
             return Call::Propose(HOME);
         }
         if let Some(call) = self.call_for_waiting(hall) {
             self.behind = self.behind.saturating_sub(1);
             return call;
+        }
+        if self.unsettled > 0 {
+            return self.settle();
         }
         if self.behind > 0 {
             self.behind = 0;
@@ -173,6 +232,19 @@ impl Driver {
         }
     }
 
+    // While every mail is empty, node 1 says again what it waits for, and wakes. Each time that another's ballot beats it
+    // one member fewer knows a greater one, and the first time its questions may have been lost.
+    fn settle(&mut self) -> Call
+        ensures { node_called result ≡ 1 }
+    {
+        self.unsettled = self.unsettled.saturating_sub(1);
+        if self.unsettled % 2 == 1 {
+            Call::Nudge(HOME)
+        } else {
+            Call::Wake(HOME)
+        }
+    }
+
     // What may bring something to do.
     fn rouse(&mut self, members: Members) -> Call
         ensures { is_member members (node_called result) ≡ true }
@@ -195,7 +267,7 @@ impl Driver {
     {
         home_is_member(hall.members());
         let (call, next) = match self.round {
-            Round::Restart => (Call::Restart(HOME), Round::HandInAgain),
+            Round::Restart => (self.restart(HOME), Round::HandInAgain),
             Round::HandInAgain => (Call::HandInAgain, Round::Wake),
             Round::Wake => (Call::Wake(HOME), Round::Deliver),
             Round::Deliver => match first_with_mail(hall) {

@@ -1,4 +1,4 @@
-ghost use Rattle.std.specs.Prelude.{◌≡◌, ◌⊎◌, ◌+◌, ◌<◌, Some, Err, IfOk, IfErr, OnOk, OnErr};
+ghost use Rattle.std.specs.Prelude.{◌≡◌, ◌⊎◌, ◌+◌, ◌<◌, ◌≤◌, Some, Err, IfOk, IfErr, OnOk, OnErr};
 ghost use Rattle.object.specs.declared.command.Act.TheVariants.{Do, Close};
 ghost use Rattle.simulated_hall.specs.declared.unanswered.Unanswered.TheVariants as unanswered;
 ghost use Rattle.simulated_hall.specs.OneClient.{Talk, opened, next_obeyed, passed, answered, left};
@@ -122,6 +122,7 @@ impl<O: Object> SimulatedHall<O> {
             result ≡ Err unanswered.Stopped }
         ensures once { RefusesAct O.Op.eq self.old.hall self.old.ticket act →
             self.old.calls < most_calls → self.new ≡ record self.old { calls = self.old.calls + 1 } }
+        ensures rises { self.old.calls ≤ self.new.calls }
     {
         self.carrier.submit(act)?;
         let key = self.carrier.last_key();
@@ -138,6 +139,7 @@ impl<O: Object> SimulatedHall<O> {
         ensures second { OnOk result (self.new.second ≡ self.old.second + 1) }
         ensures not_passed { OnErr result (self.new.second ≡ self.old.second) }
         ensures stopped { OnErr result (HasNoCallLeft self.new ⊎ HasNoSecondLeft self.new) }
+        ensures rises { self.old.calls ≤ self.new.calls }
     {
         if self.second >= LAST_SECOND {
             return Err(Stopped);
