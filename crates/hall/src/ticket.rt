@@ -27,8 +27,8 @@ impl<Op: Drop, Reply: Drop> NotedAct<Op, Reply> {
 }
 
 /// A session's own record: its number, its acts in their order, and which replies were noted for them. A hall makes it
-/// where it opens the session, and it can't be copied: a hall takes a command of a session from a ticket whose session and
-/// last command are its own.
+/// where it opens the session, and it can't be copied. But a hall knows a ticket for its own by the number of its session
+/// and by its last command alone, so it takes one of another hall, too, that is the same in these.
 #[derive(Drop)]
 pub struct Ticket<O: Object> {
     session: u32,
