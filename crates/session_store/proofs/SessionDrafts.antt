@@ -52,6 +52,13 @@ altered_itself x lo hi f sessions v r there same = altered-alike x lo hi f (λ c
 pub waited-still : (x lo hi : ℕ) (wait : Option Wait) (v : SessionState) (sessions : List (ℕ × SessionState)) → Rising lo hi sessions → value_at x sessions ≡ Some v → session_step_back (SessionStep.Waited x v.wait wait) sessions ≡ sessions
 waited-still x lo hi wait v sessions r there = altered_itself x lo hi (with_wait v.wait) sessions v r there refl
 
+unwaiting : (v : SessionState) → v.wait ≡ None → with_wait None v ≡ v
+unwaiting v none = λ i. record v { wait = sym none i }
+
+-- that a session which doesn't wait waits no longer changes nothing
+pub unwaited : (x lo hi : ℕ) (v : SessionState) (sessions : List (ℕ × SessionState)) → Rising lo hi sessions → value_at x sessions ≡ Some v → v.wait ≡ None → altered x (with_wait None) sessions ≡ sessions
+unwaited x lo hi v sessions r there none = altered_itself x lo hi (with_wait None) sessions v r there (unwaiting v none)
+
 -- the sessions in the lines, where nothing can be taken back
 pub kept : (lines : Lines) (steps : List SessionStep) (sessions : List (ℕ × SessionState)) → steps ≡ [] → Rising 0 (2 ^ 32) sessions → EachStands (StandsIn lines) sessions → AreInLines lines steps sessions
 kept lines steps sessions none r complete = record {

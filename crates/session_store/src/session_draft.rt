@@ -102,7 +102,8 @@ impl SessionDraft {
         Ok(())
     }
 
-    /// Lets a session wait, or wait no longer, if it is there.
+    /// Lets a session wait, or wait no longer, if it is there. Where it doesn't wait, that it waits no longer costs
+    /// nothing for the tubes that it watches.
     pub fn set_wait(&mut self, session: u32, wait: Option<Wait>) -> Result<(), AllocError>
         ensures now { OnOk result (self.new.now ≡ altered session (with_wait wait) self.old.now) }
         ensures before { self.new.before ≡ self.old.before }
@@ -112,6 +113,9 @@ impl SessionDraft {
             return Ok(());
         };
         let before = found.wait;
+        if before.is_none() && wait.is_none() {
+            return Ok(());
+        }
         self.steps.push(SessionStep::Waited {
             session,
             before,

@@ -134,6 +134,9 @@ impl TubeLines {
             ((t : List ℕ) → is_among t watched.now ≡ true
             → IfSome (rank_place number wait) (IsIn (tube_line t self.new))) }
     {
+        if wait.is_none() {
+            return Ok(());
+        }
         for tube in watched {
             self.join_tube(tube, number, wait)?;
         }
@@ -171,6 +174,9 @@ impl TubeLines {
         ensures { EachStands (StandsByTubes self.old) sessions.now.entries
             → EachStands (StandsByTubes self.new) sessions.now.entries }
     {
+        if wait.is_none() {
+            return;
+        }
         for tube in watched {
             self.leave_tube(sessions, tube, number, wait);
         }

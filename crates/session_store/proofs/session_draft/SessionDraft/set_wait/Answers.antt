@@ -1,13 +1,13 @@
-use Rattle.std.proofs.Common.{◌≡◌, ◌∙◌, sym, ap, refl, List, ℕ, None}
+use Rattle.std.proofs.Common.{◌≡◌, ◌∙◌, sym, ap, refl, subst, List, ℕ, None, rules}
 use Rattle.std.specs.Option.{option_copied}
-use Rattle.job_store.specs.Entries.{value_at}
+use Rattle.job_store.specs.Entries.{value_at, altered}
 use Rattle.job_store.specs.EntryLaws.{altered-absent}
 use Rattle.session_store.specs.declared.session.SessionState.{SessionState}
 use Rattle.session_store.specs.Sessions.{with_wait}
 use Rattle.session_store.specs.Drafts.{Draft}
 use Rattle.session_store.specs.Lines.{StandsIn}
 use Rattle.session_store.proofs.Standing.{each-altered, each-grown, stands-again}
-use Rattle.session_store.proofs.SessionDrafts.{before-step, waited-back, waited-still, change-rises, stepped}
+use Rattle.session_store.proofs.SessionDrafts.{unwaited, before-step, waited-back, waited-still, change-rises, stepped}
 use Rattle.session_store.proofs.session_draft.SessionDraft.set_wait.Goals as goal
 
 pub returns-in_default-clause-now : goal.returns-in_default-clause-now
@@ -15,6 +15,15 @@ returns-in_default-clause-now c =
     let none : value_at c.args.session c.args.self.now.now ≡ None =
     ap (λ (d : Draft (List (ℕ × SessionState))). value_at c.args.session d.now) (sym c.self.view_is) ∙ sym c.get.ensures.value ∙ ap option_copied c.in_default.is in
     sym (altered-absent c.args.session (with_wait c.args.wait) c.args.self.now.now none)
+
+pub returns-then-is_none-2-clause-now : goal.returns-then-is_none-2-clause-now
+returns-then-is_none-2-clause-now c =
+    let before : c.in-Some.found.now.wait ≡ None = search rules in
+    let after : c.args.wait ≡ None = search rules in
+    let same : c.self.inside.sessions.entries ≡ c.args.self.now.now = ap (λ (d : Draft (List (ℕ × SessionState))). d.now) c.self.view_is in
+    subst (λ es. es ≡ altered c.args.session (with_wait c.args.wait) es) same
+    (subst (λ w. c.self.inside.sessions.entries ≡ altered c.args.session (with_wait w) c.self.inside.sessions.entries) (sym after)
+    (sym (unwaited c.args.session 0 _ c.in-Some.found.now c.self.inside.sessions.entries c.self.invariant.rising (sym c.in-Some.ensures.value) before)))
 
 pub invariant_of-self-in_err-join : goal.invariant_of-self-in_err-join
 invariant_of-self-in_err-join c =
