@@ -60,8 +60,10 @@ impl<O: Object, S: Ledger, C: Ledger> Shared<O, S, C> {
         requires sessions_parts { sessions.parts ≡ S.parts }
         requires commands_name { commands.name ≡ C.name }
         requires commands_parts { commands.parts ≡ C.parts }
-        ensures sessions { IfOk result (λ shared. (shared.1.parts ≡ S.parts) × (shared.1.amount ≡ 0)) }
-        ensures commands { IfOk result (λ shared. (shared.2.parts ≡ C.parts) × (shared.2.amount ≡ 0)) }
+        ensures sessions { IfOk result
+            (λ shared. (shared.1.parts ≡ S.parts) × (shared.1.amount ≡ 0)) }
+        ensures commands { IfOk result
+            (λ shared. (shared.2.parts ≡ C.parts) × (shared.2.amount ≡ 0)) }
     {
         let places = WaitingPlaces::new(alloc, hall.members().count(), workers)?;
         Ok(Shared::new(alloc, hall, places, sessions, commands))
