@@ -1,10 +1,14 @@
-//! One acceptor that accepts in slot after slot, and says when it comes by some of them.
+//! One acceptor that accepts in slot after slot, and says when it comes by some of them; and a leader that makes proposals
+//! of what an acceptor accepted in many slots, and has them decided.
 //!
-//! `bench/acceptor_growth` reads the time at each line.
+//! `bench/acceptor_growth` reads the time at each line of the acceptor's slots.
 #![tactic(auto)]
+
+mod leading;
 
 use acceptor::Acceptor;
 use ballot::{Ballot, Pvalue, Slot};
+use leading::decided_again;
 use object::{Act, Command, Key, RegisterOp};
 use std::alloc::Global;
 use std::io::{self, Write};
@@ -15,24 +19,39 @@ const SLOTS: u64 = 1_010_000;
 /// After these many slots a line is written.
 const MARKS: [u64; 4] = [1_000, 11_000, 1_000_000, SLOTS];
 
+/// Of so many slots the leader hears what was accepted there.
+const GATHERED: u64 = 70_000;
+
 fn main(rt: HostRuntime) -> ExitCode {
-    match accept_all(rt.alloc(), &mut rt.stdout()) {
+    match measure(rt.alloc(), &mut rt.stdout()) {
         Some(()) => ExitCode::SUCCESS,
         None => ExitCode::FAILURE,
     }
 }
 
-fn accept_all<W: Write>(alloc: Global, out: &mut W) -> Option<()> {
+fn measure<W: Write>(alloc: Global, out: &mut W) -> Option<()> {
+    accept_all(alloc, SLOTS, out)?;
+    let acceptor = accept_all(alloc, GATHERED, &mut io::sink())?;
+    let decided = decided_again(alloc, acceptor, GATHERED)?;
+    writeln!(out, "decided {decided}").ok()
+}
+
+// An acceptor that has accepted in so many slots. It says when it comes by some of them.
+fn accept_all<W: Write>(
+    alloc: Global,
+    slots: u64,
+    out: &mut W,
+) -> Option<Acceptor<Command<RegisterOp>>> {
     let ballot = Ballot::new(0, 1, 0)?;
     let mut acceptor = Acceptor::new(alloc);
     acceptor.on_p1a(ballot).ok()?;
-    for number in 1..SLOTS + 1 {
+    for number in 1..=slots {
         accept(&mut acceptor, ballot, number)?;
         if MARKS.contains(&number) {
             writeln!(out, "{number}").ok()?;
         }
     }
-    Some(())
+    Some(acceptor)
 }
 
 // A command is accepted in the slot of its number.
