@@ -1,7 +1,8 @@
 //! Worlds of many decided slots whose leader restarts, and what the way out of them costs, for `bench/rescue_growth`.
 //!
 //! It reads how many members there are and how many slots, and whether it tells the processor time. It writes both, how
-//! many events bring a last command into the order, and how many microseconds it took to find them, or 0.
+//! many events bring a last command into the order, and how many microseconds it took to find them, or 0. Where it doesn't
+//! tell the time, it looks whether the order has all commands then.
 #![tactic(auto)]
 
 use ballot::Members;
@@ -34,11 +35,18 @@ fn run(rt: &HostRuntime) -> Option<()> {
     let took = spent(rt, is_timed)?.saturating_sub(began);
     println!(rt; "{count} {slots} {} {took}", events.len()).ok()?;
     world.run(events.as_slice()).ok()?;
-    if world.placed(key(last)) {
+    if world.placed(key(last)) && (is_timed || has_all(&world, last)?) {
         Some(())
     } else {
         None
     }
+}
+
+// Whether the order has the commands of the numbers up to the last, and ends with it.
+fn has_all(world: &World<Register>, last: u64) -> Option<bool> {
+    let order = world.order().ok()?;
+    let numbers = order.iter().map(|command| command.key().number);
+    Some(numbers.eq(1..=last))
 }
 
 // The processor time until now, in microseconds, or 0.
