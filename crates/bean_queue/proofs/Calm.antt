@@ -48,7 +48,7 @@ none-wanted paused jobs (w ∷ ws) h =
       | false ↦ λ t. none-wanted paused jobs ws (λ v i. h v (inr i))
     ] refl
 
-no-turn : (s : QueueState) → ((w : ℕ × SessionState) → In w s.sessions → is_waiting w.1 ≡ true → best_ready (not_paused (paused_tubes s) w.1.watched) s.jobs ≡ None) → serve_turn s ≡ None
+pub no-turn : (s : QueueState) → ((w : ℕ × SessionState) → In w s.sessions → is_waiting w.1 ≡ true → best_ready (not_paused (paused_tubes s) w.1.watched) s.jobs ≡ None) → serve_turn s ≡ None
 unfolding serve_turn
 no-turn s h = ap (λ es. give s (least (λ e. true) pri_of_job es)) (none-wanted (paused_tubes s) s.jobs s.sessions h)
 
@@ -166,7 +166,7 @@ unfolding turned_away
 quiet-turned_away (Op.Reserve seconds) key s q = cc
 quiet-turned_away _ key s q = refl
 
-serve-none : (s : QueueState) → serve_turn s ≡ None → serve s ≡ stop s
+pub serve-none : (s : QueueState) → serve_turn s ≡ None → serve s ≡ stop s
 unfolding serve
 serve-none s none = turns-unroll serve_turn serves s ∙ ap (after_option (all_turns serve_turn) s) none
 

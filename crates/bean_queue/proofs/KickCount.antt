@@ -18,15 +18,15 @@ use Rattle.bean_queue.specs.Rows.{kicked_option, kicked, kick_row, kickable}
 use Rattle.bean_queue.specs.TurnLaws.{least-in, least-none}
 
 -- the job under an id, made ready
-abbrev made_ready : ℕ → List (ℕ × Job) → List (ℕ × Job)
+abbrev pub made_ready : ℕ → List (ℕ × Job) → List (ℕ × Job)
 made_ready id jobs = altered id (with_state State.Ready) jobs
 
 module _ (test : ℕ × Job → Bool) (unready : (id : ℕ) (job : Job) → test (id, with_state State.Ready job) ≡ false) where
   -- how many pass
-  abbrev count : List (ℕ × Job) → ℕ
+  abbrev pub count : List (ℕ × Job) → ℕ
   count jobs = length (filter test jobs)
 
-  none-count : (jobs : List (ℕ × Job)) → ((e : ℕ × Job) → In e jobs → test e ≡ true → ⊥) → count jobs ≡ 0
+  pub none-count : (jobs : List (ℕ × Job)) → ((e : ℕ × Job) → In e jobs → test e ≡ true → ⊥) → count jobs ≡ 0
   none-count [] none = refl
   none-count (d ∷ ds) none =
       elim (test d) as (λ b. test d ≡ b → length (cond b (d ∷ filter test ds) (filter test ds)) ≡ 0) [
@@ -39,7 +39,7 @@ module _ (test : ℕ × Job → Bool) (unready : (id : ℕ) (job : Job) → test
   count-next d ds false t = let h : count (d ∷ ds) ≡ count ds = ap (λ b. length (cond b (d ∷ filter test ds) (filter test ds))) t in omega (arith, h)
 
   -- one that passes is made ready, and is one less
-  one-less : (lo hi : ℕ) (jobs : List (ℕ × Job)) (e : ℕ × Job) → Rising lo hi jobs → In e jobs → test e ≡ true → count jobs ≡ suc (count (made_ready e.0 jobs))
+  pub one-less : (lo hi : ℕ) (jobs : List (ℕ × Job)) (e : ℕ × Job) → Rising lo hi jobs → In e jobs → test e ≡ true → count jobs ≡ suc (count (made_ready e.0 jobs))
   one-less lo hi [] e r i t = absurd i
   one-less lo hi (d ∷ ds) e r (inl same) t =
       let before : count (d ∷ ds) ≡ 1 + count ds = count-next d ds true (ap test (sym same) ∙ t) in
@@ -69,7 +69,7 @@ module _ (test : ℕ × Job → Bool) (unready : (id : ℕ) (job : Job) → test
             one ∙ sym (ap (min (suc n)) less ∙ suc-min-suc n (count (made_ready e.0 jobs)))
       ] refl (least-in test by jobs)
 
-is_some-least : (test : ℕ × Job → Bool) (by : Job → ℕ) (jobs : List (ℕ × Job)) → is_some (least test by jobs) ≡ list_any test jobs
+pub is_some-least : (test : ℕ × Job → Bool) (by : Job → ℕ) (jobs : List (ℕ × Job)) → is_some (least test by jobs) ≡ list_any test jobs
 is_some-least test by [] = refl
 is_some-least test by (e ∷ es) =
     elim (test e) as (λ b. is_some (cond b (Some (lesser by e (least test by es))) (least test by es)) ≡ (b || list_any test es)) [

@@ -19,10 +19,13 @@ pub mod Best
 pub mod Searches
 pub mod Offers
 pub mod Woken
-pub mod Naming
 pub mod Counted
 pub mod Holders
 pub mod Owed
 pub mod KickCount
+pub mod KickFirst
 pub mod TubeLists
+pub mod Naming
+pub mod TubeSets
+pub mod Reserving
 pub mod Sound

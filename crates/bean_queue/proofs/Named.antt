@@ -11,7 +11,7 @@ use Rattle.bean_queue.specs.Rows.{all_tubes, IsTube}
 use Rattle.bean_queue.proofs.TubeLists.{tubes-all}
 
 module _ {X : Type 0} (f : X → Bool) where
-  any-in : (xs : List X) → list_any f xs ≡ true → (x : X) × In x xs × (f x ≡ true)
+  pub any-in : (xs : List X) → list_any f xs ≡ true → (x : X) × In x xs × (f x ≡ true)
   any-in [] e = absurd (true≢false (sym e))
   any-in (x ∷ xs) e =
       elim (f x) as (λ b. f x ≡ b → (b || list_any f xs) ≡ true → (y : X) × In y (x ∷ xs) × (f y ≡ true)) [
@@ -19,7 +19,7 @@ module _ {X : Type 0} (f : X → Bool) where
         | false ↦ λ _ e. let h = any-in xs e in (h.0, inr h.1, h.2)
       ] refl e
 
-  in-any : (xs : List X) (x : X) → In x xs → f x ≡ true → list_any f xs ≡ true
+  pub in-any : (xs : List X) (x : X) → In x xs → f x ≡ true → list_any f xs ≡ true
   in-any [] x i t = absurd i
   in-any (y ∷ ys) x i t = elim i as (λ _. list_any f (y ∷ ys) ≡ true) [
     | inl same ↦ ap (λ b. b || list_any f ys) (ap f (sym same) ∙ t)

@@ -14,7 +14,7 @@ use Rattle.bean_queue.specs.Queue.{QueueState}
 use Rattle.bean_queue.specs.Rows.{all_tubes, IsTube}
 use Rattle.bean_queue.specs.WaitLaws.{in-append}
 
-abbrev cmp : List ℕ → List ℕ → Ordering
+abbrev pub cmp : List ℕ → List ℕ → Ordering
 cmp = slice_cmp nat_cmp
 
 all-insert : (P : List ℕ → Type 0) (x : List ℕ) (xs : List (List ℕ)) → P x → AllByRecursion P xs → AllByRecursion P (insert_key cmp xs x)
@@ -68,7 +68,7 @@ fold-sorted : (names acc : List (List ℕ)) → IsStrictlySortedBy cmp acc → I
 fold-sorted [] acc h = h
 fold-sorted (x ∷ xs) acc h = fold-sorted xs (insert_key cmp acc x) (insert-sorted x acc h)
 
-from-fold : (t : List ℕ) (names acc : List (List ℕ)) → In t (fold (insert_key cmp) acc names) → In t names ⊎ In t acc
+pub from-fold : (t : List ℕ) (names acc : List (List ℕ)) → In t (fold (insert_key cmp) acc names) → In t names ⊎ In t acc
 from-fold t [] acc i = inr i
 from-fold t (x ∷ xs) acc i =
     elim (from-fold t xs (insert_key cmp acc x) i) as (λ v. In t (x ∷ xs) ⊎ In t acc) [
@@ -76,7 +76,7 @@ from-fold t (x ∷ xs) acc i =
       | inr j ↦ elim (from-insert t x acc j) as (λ v. In t (x ∷ xs) ⊎ In t acc) [ inl same ↦ inl (inl same) | inr k ↦ inr k ]
     ]
 
-to-fold : (t : List ℕ) (names acc : List (List ℕ)) → In t names ⊎ In t acc → In t (fold (insert_key cmp) acc names)
+pub to-fold : (t : List ℕ) (names acc : List (List ℕ)) → In t names ⊎ In t acc → In t (fold (insert_key cmp) acc names)
 to-fold t [] acc i = elim i as (λ v. In t acc) [ inl never ↦ absurd never | inr j ↦ j ]
 to-fold t (x ∷ xs) acc i =
     to-fold t xs (insert_key cmp acc x) (elim i as (λ v. In t xs ⊎ In t (insert_key cmp acc x)) [
@@ -99,7 +99,7 @@ module _ {X : Type 0} where
 abbrev tubes_of_jobs : List (ℕ × Job) → List (List ℕ)
 tubes_of_jobs jobs = map (λ e. e.1.tube) jobs
 
-abbrev tubes_of_sessions : List (ℕ × SessionState) → List (List ℕ)
+abbrev pub tubes_of_sessions : List (ℕ × SessionState) → List (List ℕ)
 tubes_of_sessions sessions = flat_map (λ e. e.1.used ∷ e.1.watched) sessions
 
 from-jobs : (t : List ℕ) (jobs : List (ℕ × Job)) → In t (tubes_of_jobs jobs) → (j : ℕ × Job) × In j jobs × (t ≡ j.1.tube)
@@ -112,7 +112,7 @@ to-jobs t [] j i e = absurd i
 to-jobs t (d ∷ ds) j (inl same) e = inl (e ∙ ap (λ (p : ℕ × Job). p.1.tube) same)
 to-jobs t (d ∷ ds) j (inr later) e = inr (to-jobs t ds j later e)
 
-from-sessions : (t : List ℕ) (sessions : List (ℕ × SessionState)) → In t (tubes_of_sessions sessions) → (w : ℕ × SessionState) × In w sessions × ((t ≡ w.1.used) ⊎ In t w.1.watched)
+pub from-sessions : (t : List ℕ) (sessions : List (ℕ × SessionState)) → In t (tubes_of_sessions sessions) → (w : ℕ × SessionState) × In w sessions × ((t ≡ w.1.used) ⊎ In t w.1.watched)
 from-sessions t [] i = absurd i
 from-sessions t (e ∷ es) i =
     elim (in-append (e.1.used ∷ e.1.watched) (tubes_of_sessions es) t i) as (λ v. (w : ℕ × SessionState) × In w (e ∷ es) × ((t ≡ w.1.used) ⊎ In t w.1.watched)) [
@@ -120,7 +120,7 @@ from-sessions t (e ∷ es) i =
       | inr later ↦ let r = from-sessions t es later in (r.0, inr r.1, r.2)
     ]
 
-to-sessions : (t : List ℕ) (sessions : List (ℕ × SessionState)) (w : ℕ × SessionState) → In w sessions → (t ≡ w.1.used) ⊎ In t w.1.watched → In t (tubes_of_sessions sessions)
+pub to-sessions : (t : List ℕ) (sessions : List (ℕ × SessionState)) (w : ℕ × SessionState) → In w sessions → (t ≡ w.1.used) ⊎ In t w.1.watched → In t (tubes_of_sessions sessions)
 to-sessions t [] w i h = absurd i
 to-sessions t (e ∷ es) w (inl same) h =
     before t (e.1.used ∷ e.1.watched) (tubes_of_sessions es) (subst (λ (p : ℕ × SessionState). (t ≡ p.1.used) ⊎ In t p.1.watched) same h)

@@ -27,6 +27,7 @@ use Rattle.bean_queue.specs.Rows.{Row, kicked, kicked_option, put_job, ready_aft
 use Rattle.bean_queue.specs.Turns.{QueueTurn, IsTurn, given, serve_turn}
 use Rattle.bean_queue.specs.TurnLaws.{IsServed, serve_turn-is, least-none, least-in, IfSome-map}
 use Rattle.bean_queue.specs.Effects.{called, released, at_second, is_quiet}
+use Rattle.bean_queue.specs.Reserving.{is_reserve}
 use Rattle.bean_queue.specs.Woken.{Covers, AreWoken, tube_of, woken_by}
 use Rattle.bean_queue.proofs.Paused.{watched-open}
 use Rattle.bean_queue.proofs.Calm.{IsCalmer, was-open, changed-calmer, ended-calmer, called-calm}
@@ -147,28 +148,6 @@ kick-woken : (tube : List ℕ) (b : Bool) (bound hi : ℕ) (jobs : List (ℕ × 
 kick-woken tube true bound hi jobs r = kicked-woken tube (first_buried tube) (picks-buried tube) bound hi jobs r
 kick-woken tube false bound hi jobs r = kicked-woken tube (first_delayed tube) (picks-delayed tube) bound hi jobs r
 
--- A session that begins to wait
-
-begins_to_wait : (x hi : ℕ) (wait : Option Wait) (sessions : List (ℕ × SessionState)) (tube : List ℕ) → Rising 0 hi sessions → (w : ℕ × SessionState) → In w (altered x (with_wait wait) sessions) → is_among tube w.1.watched ≡ true → In w sessions ⊎ In tube (session_of x sessions).watched
-begins_to_wait x hi wait sessions tube r =
-    altered-in x (with_wait wait) (λ w. is_among tube w.1.watched ≡ true → In w sessions ⊎ In tube (session_of x sessions).watched) sessions
-    (λ d there.
-    elim (x == d.0) as (λ b. (x == d.0) ≡ b → is_among tube (cond b (with_wait wait d.1) d.1).watched ≡ true → In (d.0, cond b (with_wait wait d.1) d.1) sessions ⊎ In tube (session_of x sessions).watched) [
-      | true ↦ λ e t.
-          let found : value_at x sessions ≡ Some d.1 = ap (λ k. value_at k sessions) (eqb-true x d.0 e) ∙ value_at-In 0 hi sessions d r there in
-          inr (subst (λ o. In tube (unwrap_or o new_session).watched) (sym found) ((among-member tube d.1.watched).0 t))
-      | false ↦ λ e t. inl there
-    ] refl)
-
--- what can be given is in a tube that the session watches
-covers-wait : (x hi : ℕ) (wait : Option Wait) (s t : QueueState) → serve_turn s ≡ None → Rising 0 hi s.sessions → t.jobs ≡ s.jobs → t.pauses ≡ s.pauses → t.sessions ≡ altered x (with_wait wait) s.sessions → Covers (watched_by s x) t
-covers-wait x hi wait s t none r jobs pauses sessions j w =
-    let there : In j s.jobs = subst (In j) jobs w.there in
-    elim (begins_to_wait x hi wait s.sessions j.1.tube r w.watched.0 (subst (In w.watched.0) sessions w.watched.1) w.watched.3) as (λ v. In j.1.tube (watched_by s x)) [
-      | inl was ↦ absurd (nothing-wanted s j none (record { there = there; ready = w.ready; unpaused = subst (λ ps. is_paused j.1.tube ps ≡ false) pauses w.unpaused; watched = (w.watched.0, was, w.watched.2, w.watched.3) }))
-      | inr named ↦ named
-    ]
-
 -- Operations
 
 covers_if : (tubes : List (List ℕ)) (b : Bool) (r q : Row) → Covers tubes r.state → Covers tubes q.state → Covers tubes (cond b r q).state
@@ -183,45 +162,43 @@ paused-opens tube seconds s other u =
       | false ↦ λ t. inl (sym (others tube other seconds (pauses_of s) (λ same. true≢false (sym ((bytes_eq-Decides other tube).1 same) ∙ t))) ∙ u)
     ] refl
 
-row-covers : (op : Op) (key : Key) (s : QueueState) → is_quiet op ≡ false → serve_turn s ≡ None → Rising 0 (2 ^ 64) s.jobs → Rising 0 (2 ^ 32) s.sessions → Covers (woken_by op key s) (row op key s).state
-unfolding row put_row reserve_row release_row kick_row kick_job_row pause_row
-row-covers (Op.Put pri delay ttr body) key s q none ids numbers =
+row-covers : (op : Op) (key : Key) (s : QueueState) → is_quiet op ≡ false → is_reserve op ≡ false → serve_turn s ≡ None → Rising 0 (2 ^ 64) s.jobs → Rising 0 (2 ^ 32) s.sessions → Covers (woken_by op key s) (row op key s).state
+unfolding row put_row release_row kick_row kick_job_row pause_row
+row-covers (Op.Put pri delay ttr body) key s q wakes none ids numbers =
     covers-new (used_by s key.session ∷ []) s _ none (λ w i t. i) (λ tube u. inl u) (put-woken s.next_id (put_job s key.session pri delay ttr body) s.jobs)
-row-covers (Op.Reserve seconds) key s q none ids numbers =
-    covers-wait key.session (2 ^ 32) (Some (record { number = key.number; rank = s.next_rank; time_out = time_out s.now seconds })) s _ none numbers refl refl refl
-row-covers (Op.Release id pri delay) key s q none ids numbers =
+row-covers (Op.Reserve seconds) key s q wakes none ids numbers = cc
+row-covers (Op.Release id pri delay) key s q wakes none ids numbers =
     covers_if (tube_of (value_at id s.jobs)) (is_job_that (is_held key.session) (value_at id s.jobs)) _ _
     (covers-new (tube_of (value_at id s.jobs)) s _ none (λ w i t. i) (λ tube u. inl u) (altered-woken id (2 ^ 64) (with_pri_and_state pri (ready_after s.now delay)) s.jobs ids (λ job. refl)))
     (covers-nothing (tube_of (value_at id s.jobs)) s none)
-row-covers (Op.Kick bound) key s q none ids numbers =
+row-covers (Op.Kick bound) key s q wakes none ids numbers =
     covers-new (used_by s key.session ∷ []) s _ none (λ w i t. i) (λ tube u. inl u) (kick-woken (used_by s key.session) (is_some (first_buried (used_by s key.session) s.jobs)) bound (2 ^ 64) s.jobs ids)
-row-covers (Op.KickJob id) key s q none ids numbers =
+row-covers (Op.KickJob id) key s q wakes none ids numbers =
     covers_if (tube_of (value_at id s.jobs)) (is_job_that is_idle (value_at id s.jobs)) _ _
     (covers-new (tube_of (value_at id s.jobs)) s _ none (λ w i t. i) (λ tube u. inl u) (altered-woken id (2 ^ 64) (with_state State.Ready) s.jobs ids (λ job. refl)))
     (covers-nothing (tube_of (value_at id s.jobs)) s none)
-row-covers (Op.Use tube) key s q none ids numbers = cc
-row-covers (Op.Watch tube) key s q none ids numbers = cc
-row-covers (Op.Ignore tube) key s q none ids numbers = cc
-row-covers (Op.Delete id) key s q none ids numbers = cc
-row-covers (Op.Touch id) key s q none ids numbers = cc
-row-covers (Op.Bury id pri) key s q none ids numbers = cc
-row-covers (Op.Peek id) key s q none ids numbers = cc
-row-covers Op.PeekReady key s q none ids numbers = cc
-row-covers Op.PeekDelayed key s q none ids numbers = cc
-row-covers Op.PeekBuried key s q none ids numbers = cc
-row-covers Op.ListTubes key s q none ids numbers = cc
-row-covers Op.ListTubeUsed key s q none ids numbers = cc
-row-covers Op.ListTubesWatched key s q none ids numbers = cc
-row-covers (Op.Pause tube seconds) key s q none ids numbers =
+row-covers (Op.Use tube) key s q wakes none ids numbers = cc
+row-covers (Op.Watch tube) key s q wakes none ids numbers = cc
+row-covers (Op.Ignore tube) key s q wakes none ids numbers = cc
+row-covers (Op.Delete id) key s q wakes none ids numbers = cc
+row-covers (Op.Touch id) key s q wakes none ids numbers = cc
+row-covers (Op.Bury id pri) key s q wakes none ids numbers = cc
+row-covers (Op.Peek id) key s q wakes none ids numbers = cc
+row-covers Op.PeekReady key s q wakes none ids numbers = cc
+row-covers Op.PeekDelayed key s q wakes none ids numbers = cc
+row-covers Op.PeekBuried key s q wakes none ids numbers = cc
+row-covers Op.ListTubes key s q wakes none ids numbers = cc
+row-covers Op.ListTubeUsed key s q wakes none ids numbers = cc
+row-covers Op.ListTubesWatched key s q wakes none ids numbers = cc
+row-covers (Op.Pause tube seconds) key s q wakes none ids numbers =
     covers_if (tube ∷ []) (is_among tube (all_tubes s)) _ _
     (covers-new (tube ∷ []) s _ none (λ w i t. i) (paused-opens tube seconds s) (none-woken (tube ∷ []) s.jobs))
     (covers-nothing (tube ∷ []) s none)
 
--- after a loud operation of a session that was called
-pub covers-loud : (op : Op) (key : Key) (s t u : QueueState) (tubes : List (List ℕ)) → is_quiet op ≡ false → serve_turn s ≡ None → t ≡ called key.session s → Rising 0 (2 ^ 64) t.jobs → Rising 0 (2 ^ 32) t.sessions → tubes ≡ woken_by op key t → u ≡ (row op key t).state → Covers tubes u
-covers-loud op key s t u tubes loud none c ids numbers woken e =
-    let calm : serve_turn t ≡ None = ap serve_turn c ∙ called-calm key.session s none in
-    subst (λ ts. Covers ts u) (sym woken) (subst (Covers (woken_by op key t)) (sym e) (row-covers op key t loud calm ids numbers))
+-- after such an operation
+pub covers-waking : (op : Op) (key : Key) (s t : QueueState) (tubes : List (List ℕ)) → is_quiet op ≡ false → is_reserve op ≡ false → serve_turn s ≡ None → Rising 0 (2 ^ 64) s.jobs → Rising 0 (2 ^ 32) s.sessions → tubes ≡ woken_by op key s → t ≡ (row op key s).state → Covers tubes t
+covers-waking op key s t tubes loud wakes none ids numbers woken e =
+    subst (λ ts. Covers ts t) (sym woken) (subst (Covers (woken_by op key s)) (sym e) (row-covers op key s loud wakes none ids numbers))
 
 -- after a second has come
 pub covers-second : (tubes : List (List ℕ)) (second : ℕ) (s t : QueueState) → serve_turn s ≡ None → t ≡ at_second second s → AreWoken tubes s.jobs t.jobs → ((tube : List ℕ) → In tube (tubes_over second s.pauses) → In tube tubes) → Covers tubes t

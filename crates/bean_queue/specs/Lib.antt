@@ -5,6 +5,8 @@ pub mod Best
 pub mod Woken
 pub mod Holders
 pub mod Effects
+pub mod Reserving
+pub mod Kicking
 pub mod Places
 pub mod Waits
 pub mod Holds

@@ -11,7 +11,7 @@ use Rattle.session_store.specs.declared.session.SessionState.{SessionState}
 use Rattle.session_store.specs.Sessions.{first_waiting}
 use Rattle.bean_queue.specs.declared.op.Op.{Op}
 use Rattle.bean_queue.specs.Best.{IsWanted}
-use Rattle.bean_queue.specs.Queue.{QueueState, used_by, watched_by}
+use Rattle.bean_queue.specs.Queue.{QueueState, used_by}
 
 -- each job that a waiting session may have is in one of these tubes
 abbrev pub Covers : List (List ℕ) → QueueState → Type 0
@@ -40,10 +40,9 @@ abbrev pub tube_of : Option Job → List (List ℕ)
 tube_of None = []
 tube_of (Some job) = job.tube ∷ []
 
--- the tubes in which an operation may make a job ready, or for which its session begins to wait
+-- the tubes in which an operation may make a job ready
 abbrev pub woken_by : Op → Key → QueueState → List (List ℕ)
 woken_by (Op.Put pri delay ttr body) key s = used_by s key.session ∷ []
-woken_by (Op.Reserve seconds) key s = watched_by s key.session
 woken_by (Op.Release id pri delay) key s = tube_of (value_at id s.jobs)
 woken_by (Op.Kick bound) key s = used_by s key.session ∷ []
 woken_by (Op.KickJob id) key s = tube_of (value_at id s.jobs)

@@ -14,7 +14,8 @@ ghost use Rattle.bean_queue.specs.Best.{IsBestTurn};
 ghost use Rattle.bean_queue.specs.declared.reply.Reply.{Reply};
 ghost use Rattle.bean_queue.specs.Effects.{tick_effect, effect};
 ghost use Rattle.bean_queue.specs.Owed.{OwesNothing};
-ghost use Rattle.bean_queue.specs.Queue.{QueueState, paused_tubes, HasRisingIds, fresh, used_by};
+ghost use Rattle.bean_queue.specs.Queue.{QueueState, paused_tubes, HasRisingIds, fresh, used_by, with_jobs};
+ghost use Rattle.bean_queue.specs.Kicking.{after_kick};
 ghost use Rattle.bean_queue.specs.Rows.{kick_row, kickable, all_tubes, IsTube};
 ghost use Rattle.bean_queue.specs.Sound.{IsSoundQueue};
 ghost use Rattle.bean_queue.specs.Turns.{QueueTurn, serve_turn, serve};
@@ -65,6 +66,13 @@ pub fn kick_counts()
     ensures { (s : QueueState) (x bound : ℕ) → HasRisingIds s →
         (kick_row s x bound).reply
         ≡ Some (Reply.KickedCount (min bound (length (kickable (used_by s x) s.jobs)))) }
+{}
+
+/// A kick makes the first so many buried jobs of the used tube ready, by rank, or, where it has none, the first so many of
+/// its delayed ones, by the second in which they are due. Nothing else changes: no other job, session, pause or number.
+pub fn kick_makes_the_first_ready()
+    ensures { (s : QueueState) (x bound : ℕ) → HasRisingIds s →
+        (kick_row s x bound).state ≡ with_jobs s (after_kick (used_by s x) bound s.jobs) }
 {}
 
 /// The list of all tubes has each of them once, in the order of their bytes, and no other name.

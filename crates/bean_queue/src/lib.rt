@@ -16,8 +16,8 @@ mod waiting;
 
 pub use job_store::{Body, Job, Name, State};
 pub use laws::{
-    kick_counts, one_answer, one_holder, queue_stays_sound, serve_gives_the_best,
-    tick_owes_nothing, tubes_are_listed_once,
+    kick_counts, kick_makes_the_first_ready, one_answer, one_holder, queue_stays_sound,
+    serve_gives_the_best, tick_owes_nothing, tubes_are_listed_once,
 };
 pub use op::Op;
 pub use queue::{PlainQueue, Queue, QueueOver};

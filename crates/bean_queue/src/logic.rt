@@ -1,5 +1,5 @@
-ghost use Rattle.std.specs.Prelude.{◌≡◌, IsSome, OnOk};
-ghost use Rattle.job_store.specs.Entries.{value_at};
+ghost use Rattle.std.specs.Prelude.{◌≡◌, ◌^◌, IsSome, OnOk};
+ghost use Rattle.job_store.specs.Entries.{Rising, value_at};
 ghost use Rattle.session_store.specs.Sessions.{session_of};
 ghost use Rattle.bean_queue.specs.Queue.{fresh};
 ghost use Rattle.bean_queue.specs.Effects.{called};
@@ -102,6 +102,13 @@ impl<M: JobMap> Logic<M> {
         } else {
             self.sessions.make(session)
         }
+    }
+
+    /// Gives the proof that the numbers of the sessions rise.
+    fn numbers_rise(&self)
+        ensures { Rising 0 (2 ^ 32) self.now.now.sessions }
+    {
+        let _ = self.sessions.map();
     }
 
     /// A session that is there.

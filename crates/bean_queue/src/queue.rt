@@ -16,6 +16,8 @@ use std::marker::Model;
 pub struct QueueOver<M: JobMap> {
     alloc: Global,
     logic: Logic<M>,
+    /// The answers of the command that is obeyed, until they are handed out. The list is kept for its room.
+    answers: Vec<Answer<Reply>>,
 }
 
 /// The queue that goes over all jobs to find one.
@@ -77,12 +79,12 @@ impl<M: JobMap> QueueOver<M> {
             ++ (do_effect op.now key self.old).answers) }
         ensures err { OnErr result ((self.new ≡ self.old) × (out.new.items ≡ out.old.items)) }
     {
-        let mut answers = Vec::new(self.alloc);
-        if let Err(e) = self.logic.obey_loud(self.alloc, key, op, &mut answers) {
+        self.answers.clear();
+        if let Err(e) = self.logic.obey_loud(key, op, &mut self.answers) {
             self.logic.take_back();
             return Err(e);
         }
-        if let Err(e) = out.append(&mut answers) {
+        if let Err(e) = out.append(&mut self.answers) {
             self.logic.take_back();
             return Err(e);
         }
@@ -98,12 +100,13 @@ impl<M: JobMap> QueueOver<M> {
             ++ (close_effect session self.old).answers) }
         ensures err { OnErr result ((self.new ≡ self.old) × (out.new.items ≡ out.old.items)) }
     {
-        let mut answers = Vec::new(self.alloc);
-        if let Err(e) = self.logic.release_all(self.alloc, session, &mut answers) {
+        self.answers.clear();
+        let alloc = self.alloc;
+        if let Err(e) = self.logic.release_all(alloc, session, &mut self.answers) {
             self.logic.take_back();
             return Err(e);
         }
-        if let Err(e) = out.append(&mut answers) {
+        if let Err(e) = out.append(&mut self.answers) {
             self.logic.take_back();
             return Err(e);
         }
@@ -120,12 +123,12 @@ impl<M: JobMap> QueueOver<M> {
             ++ (tick_effect second self.old).answers) }
         ensures err { OnErr result ((self.new ≡ self.old) × (out.new.items ≡ out.old.items)) }
     {
-        let mut answers = Vec::new(self.alloc);
-        if let Err(e) = self.logic.tick(self.alloc, second, &mut answers) {
+        self.answers.clear();
+        if let Err(e) = self.logic.tick(self.alloc, second, &mut self.answers) {
             self.logic.take_back();
             return Err(e);
         }
-        if let Err(e) = out.append(&mut answers) {
+        if let Err(e) = out.append(&mut self.answers) {
             self.logic.take_back();
             return Err(e);
         }
@@ -155,6 +158,7 @@ impl<M: JobMap> Object for QueueOver<M> {
         Ok(QueueOver {
             alloc,
             logic: Logic::new(alloc),
+            answers: Vec::new(alloc),
         })
     }
 

@@ -1,14 +1,44 @@
+ghost use Rattle.std.specs.Prelude.{◌≡◌, ◌⊎◌, ℕ, List, true, OnOk};
+ghost use Rattle.object.specs.Lists.{In};
+ghost use Rattle.job_store.specs.LookUps.{has_jobs};
+
 use crate::look_up::LookUp;
 use indexmap::IndexSet;
-use job_store::{Job, JobMap, LoggedJobs, Name, State};
+use job_store::{Job, JobMap, LoggedJobs, Name, State, add_name};
 use std::alloc::{AllocError, Global};
-use std::collections::BTreeMap;
+use std::collections::{BTreeMap, BTreeSet};
 use std::marker::Model;
 
 /// A map of jobs that goes over all of them to find one. Outside of this crate it has no name but in `PlainQueue`.
 #[derive(Drop)]
 pub struct ScanJobs {
     jobs: LoggedJobs,
+}
+
+/// Whether one of these jobs is in the tube.
+fn has_jobs(jobs: &BTreeMap<u64, Job>, tube: &Name) -> bool
+    ensures { result ≡ has_jobs tube.now jobs.now.entries }
+{
+    for (_, job) in jobs {
+        if *tube == job.tube {
+            return true;
+        }
+    }
+    false
+}
+
+/// Puts the tubes of these jobs among the names.
+fn add_tubes(names: &mut BTreeSet<Name>, jobs: &BTreeMap<u64, Job>) -> Result<(), AllocError>
+    ensures kept { (tube : List ℕ) → In tube names.old.keys → In tube names.new.keys }
+    ensures only { (tube : List ℕ) → In tube names.new.keys
+        → In tube names.old.keys ⊎ (has_jobs tube jobs.now.entries ≡ true) }
+    ensures all { OnOk result ((tube : List ℕ) → has_jobs tube jobs.now.entries ≡ true
+        → In tube names.new.keys) }
+{
+    for (_, job) in jobs {
+        add_name(names, &job.tube)?;
+    }
+    Ok(())
 }
 
 impl Model for ScanJobs {
@@ -102,5 +132,13 @@ impl JobMap for ScanJobs {
 
     fn first_held(&self, session: u32) -> Option<(u64, &Job)> {
         LookUp::Held(session).least(self.jobs.by_id())
+    }
+
+    fn has_jobs(&self, tube: &Name) -> bool {
+        has_jobs(self.jobs.by_id(), tube)
+    }
+
+    fn add_tubes(&self, names: &mut BTreeSet<Name>) -> Result<(), AllocError> {
+        add_tubes(names, self.jobs.by_id())
     }
 }

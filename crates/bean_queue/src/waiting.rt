@@ -1,5 +1,6 @@
 ghost use Rattle.std.specs.Prelude.{◌≡◌, option_map};
 ghost use Rattle.std.specs.Map.{keys_of};
+ghost use Rattle.job_store.specs.LookUps.{best_ready, not_paused};
 ghost use Rattle.bean_queue.specs.Woken.{best_offer, has_taker};
 
 use job_store::{Job, JobMap, Name, more_urgent};
@@ -28,6 +29,28 @@ pub fn best_offer<'a, M: JobMap>(
     for tube in tubes {
         if has_taker(sessions, pauses, tube) {
             best = more_urgent(best, jobs.first_ready(tube));
+        }
+    }
+    best
+}
+
+/// The best job for one who watches these tubes: of the ready ones in those of them that are not paused, that of the
+/// least (priority, id).
+pub fn best_ready<'a, M: JobMap>(
+    jobs: &'a M,
+    pauses: &PauseDraft,
+    tubes: &[Name],
+) -> Option<(u64, &'a Job)>
+    ensures { option_map (λ e. (e.0, e.1.now)) result
+        ≡ best_ready (not_paused (keys_of pauses.now.now.pauses) tubes.now) (M.entries jobs.now) }
+{
+    // Gives the proof that the ids rise.
+    let _ = jobs.by_id();
+    let mut best = None;
+    for tube in tubes {
+        if !pauses.is_paused(tube) {
+            let first = jobs.first_ready(tube);
+            best = more_urgent(best, first);
         }
     }
     best

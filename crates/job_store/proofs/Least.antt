@@ -11,14 +11,14 @@ use Rattle.job_store.specs.LookUps.{is_among}
 module _ {X : Type 0} (by : X → ℕ) where
   -- The test decides which of two comes before
 
-  before : (d e : ℕ × X) → comes_before by d e ≡ true → ComesBefore by d e
+  pub before : (d e : ℕ × X) → comes_before by d e ≡ true → ComesBefore by d e
   before d e t =
       elim (or_cases (nat_lt (by d.1) (by e.1)) (by d.1 == by e.1 && nat_lt d.0 e.0) t) as (λ v. ComesBefore by d e) [
         | inl h ↦ inl (ltb-true (by d.1) (by e.1) h)
         | inr h ↦ let p = and_parts (by d.1 == by e.1) (nat_lt d.0 e.0) h in inr (eqb-true (by d.1) (by e.1) p.0, ltb-true d.0 e.0 p.1)
       ]
 
-  passes_before : (d e : ℕ × X) → ComesBefore by d e → comes_before by d e ≡ true
+  pub passes_before : (d e : ℕ × X) → ComesBefore by d e → comes_before by d e ≡ true
   passes_before d e (inl h) = or_left (nat_lt (by d.1) (by e.1)) (by d.1 == by e.1 && nat_lt d.0 e.0) (lt-ltb (by d.1) (by e.1) h)
   passes_before d e (inr h) =
       or_right (nat_lt (by d.1) (by e.1)) (by d.1 == by e.1 && nat_lt d.0 e.0) (and_from (by d.1 == by e.1) (nat_lt d.0 e.0) (eq-eqb (by d.1) (by e.1) h.0) (lt-ltb d.0 e.0 h.1))
@@ -52,7 +52,7 @@ module _ {X : Type 0} (by : X → ℕ) where
   before_twice y e d (inr h) (inl k) = inl (omega (arith, h.0))
   before_twice y e d (inr h) (inr k) = inr (h.0 ∙ k.0, omega (arith, h.1, k.1))
 
-  fails_before : (d e : ℕ × X) → (ComesBefore by d e → ⊥) → comes_before by d e ≡ false
+  pub fails_before : (d e : ℕ × X) → (ComesBefore by d e → ⊥) → comes_before by d e ≡ false
   fails_before d e never =
       elim (comes_before by d e) as (λ b. comes_before by d e ≡ b → b ≡ false) [ true ↦ λ t. absurd (never (before d e t)) | false ↦ λ t. refl ] refl
 

@@ -12,3 +12,5 @@ pub mod Racks
 pub mod ShelfFields
 pub mod Everywhere
 pub mod Readiness
+pub mod NameSets
+pub mod TubeJobs

@@ -8,7 +8,7 @@ use Rattle.job_store.specs.declared.name.Name.{Name}
 use Rattle.job_store.specs.declared.label.Label.{Label}
 use Rattle.job_store.specs.declared.rack.Rack.{Rack}
 use Rattle.job_store.specs.declared.shelves.Shelves.{Shelves}
-use Rattle.job_store.specs.States.{is_ready, is_delayed, is_buried, is_held}
+use Rattle.job_store.specs.States.{is_ready, is_delayed, is_buried, is_reserved, is_held}
 use Rattle.job_store.specs.ShelfStates.{ShelfState, IsFrom, HasGained, HasLost, HasReached}
 use Rattle.job_store.specs.Racks.{shelf_at, name_cmp, AreOthersKept}
 use Rattle.job_store.specs.Shelves.{belongs, number, lists, BelongsAt, shelf, HasPut, HasTaken, HasGoneBack, HasMovedOn, HasSettled}
@@ -46,6 +46,7 @@ only-ready s r tube others (Label.Delayed t) = inr refl
 only-ready s r tube others (Label.Buried t) = inr refl
 only-ready s r tube others (Label.Held x) = inr refl
 only-ready s r tube others Label.Scheduled = inr refl
+only-ready s r tube others (Label.Reserved t) = inr refl
 
 pub only-delayed : (s : Shelves) (r : Rack Name ℕ) (tube : Bor Name) → AreOthersKept name_cmp tube.now s.delayed.shelves r.shelves → IsOnly s (record s { delayed = r }) (Label.Delayed tube)
 only-delayed s r tube others (Label.Ready t) = inr refl
@@ -62,6 +63,7 @@ only-delayed s r tube others (Label.Delayed t) =
 only-delayed s r tube others (Label.Buried t) = inr refl
 only-delayed s r tube others (Label.Held x) = inr refl
 only-delayed s r tube others Label.Scheduled = inr refl
+only-delayed s r tube others (Label.Reserved t) = inr refl
 
 pub only-buried : (s : Shelves) (r : Rack Name ℕ) (tube : Bor Name) → AreOthersKept name_cmp tube.now s.buried.shelves r.shelves → IsOnly s (record s { buried = r }) (Label.Buried tube)
 only-buried s r tube others (Label.Ready t) = inr refl
@@ -78,6 +80,7 @@ only-buried s r tube others (Label.Buried t) =
     ]
 only-buried s r tube others (Label.Held x) = inr refl
 only-buried s r tube others Label.Scheduled = inr refl
+only-buried s r tube others (Label.Reserved t) = inr refl
 
 pub only-held : (s : Shelves) (r : Rack ℕ ℕ) (x : ℕ) → AreOthersKept nat_cmp x s.held.shelves r.shelves → IsOnly s (record s { held = r }) (Label.Held x)
 only-held s r x others (Label.Ready t) = inr refl
@@ -94,6 +97,7 @@ only-held s r x others (Label.Held y) =
       | inr apart ↦ inr (others y apart)
     ]
 only-held s r x others Label.Scheduled = inr refl
+only-held s r x others (Label.Reserved t) = inr refl
 
 pub only-scheduled : (s : Shelves) (r : ShelfState) → IsOnly s (record s { scheduled = r }) Label.Scheduled
 only-scheduled s r (Label.Ready t) = inr refl
@@ -101,6 +105,24 @@ only-scheduled s r (Label.Delayed t) = inr refl
 only-scheduled s r (Label.Buried t) = inr refl
 only-scheduled s r (Label.Held x) = inr refl
 only-scheduled s r Label.Scheduled = inl (record { test = refl; by = refl; old = refl; new = refl })
+only-scheduled s r (Label.Reserved t) = inr refl
+
+pub only-reserved : (s : Shelves) (r : Rack Name ℕ) (tube : Bor Name) → AreOthersKept name_cmp tube.now s.reserved.shelves r.shelves → IsOnly s (record s { reserved = r }) (Label.Reserved tube)
+only-reserved s r tube others (Label.Ready t) = inr refl
+only-reserved s r tube others (Label.Delayed t) = inr refl
+only-reserved s r tube others (Label.Buried t) = inr refl
+only-reserved s r tube others (Label.Reserved t) =
+    elim (same-name t.now tube.now) as (λ v. IsLike s (record s { reserved = r }) (Label.Reserved t) (Label.Reserved tube) ⊎ (shelf_at name_cmp r.shelves t.now ≡ shelf_at name_cmp s.reserved.shelves t.now)) [
+      | inl same ↦ inl (record {
+        test = λ i e. is_reserved e.1.state && bytes_eq (same i) e.1.tube;
+        by = refl;
+        old = ap (shelf_at name_cmp s.reserved.shelves) same;
+        new = ap (shelf_at name_cmp r.shelves) same;
+      })
+      | inr apart ↦ inr (others t.now apart)
+    ]
+only-reserved s r tube others (Label.Held x) = inr refl
+only-reserved s r tube others Label.Scheduled = inr refl
 
 module _ (s t : Shelves) (k : Label) (only : IsOnly s t k) where
   each-shelf : (R : Label → ShelfState → ShelfState → Type 0) → ((l : Label) → belongs l ≡ belongs k → number l ≡ number k → R l (shelf s k) (shelf t k)) → ((l : Label) (x : ShelfState) → R l x x) → (l : Label) → R l (shelf s l) (shelf t l)
@@ -160,3 +182,6 @@ settle-delayed s r jobs {tube} moved others = settle-at s (record s { delayed = 
 
 pub settle-buried : (s : Shelves) (r : Rack Name ℕ) (jobs : List (ℕ × Job)) {tube : Bor Name} → HasMovedOn (Label.Buried tube) jobs (shelf_at name_cmp s.buried.shelves tube.now) (shelf_at name_cmp r.shelves tube.now) → AreOthersKept name_cmp tube.now s.buried.shelves r.shelves → HasSettled s (record s { buried = r }) jobs
 settle-buried s r jobs {tube} moved others = settle-at s (record s { buried = r }) (Label.Buried tube) (only-buried s r tube others) refl jobs moved
+
+pub settle-reserved : (s : Shelves) (r : Rack Name ℕ) (jobs : List (ℕ × Job)) {tube : Bor Name} → HasMovedOn (Label.Reserved tube) jobs (shelf_at name_cmp s.reserved.shelves tube.now) (shelf_at name_cmp r.shelves tube.now) → AreOthersKept name_cmp tube.now s.reserved.shelves r.shelves → HasSettled s (record s { reserved = r }) jobs
+settle-reserved s r jobs {tube} moved others = settle-at s (record s { reserved = r }) (Label.Reserved tube) (only-reserved s r tube others) refl jobs moved

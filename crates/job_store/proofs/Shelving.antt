@@ -41,6 +41,7 @@ of-spot (Label.Delayed tube) p id job b = b
 of-spot (Label.Buried tube) p id job b = b
 of-spot (Label.Held x) p id job b = b
 of-spot Label.Scheduled p id job b = b
+of-spot (Label.Reserved tube) p id job b = b
 
 pub to-spot : (l : Label) (p : ℕ × ℕ) (id : ℕ) (job : Job) → BelongsAt l p (id, job) → BelongsAt l p (id, at_spot (spot_of job))
 to-spot (Label.Ready tube) p id job b = b
@@ -48,6 +49,7 @@ to-spot (Label.Delayed tube) p id job b = b
 to-spot (Label.Buried tube) p id job b = b
 to-spot (Label.Held x) p id job b = b
 to-spot Label.Scheduled p id job b = b
+to-spot (Label.Reserved tube) p id job b = b
 
 -- of two jobs at one spot, each stands where the other does
 pub like-spot : (l : Label) (p : ℕ × ℕ) (e : ℕ × Job) (x : ℕ × Spot) → (e.0, spot_of e.1) ≡ x → BelongsAt l p e → BelongsAt l p (x.0, at_spot x.1)

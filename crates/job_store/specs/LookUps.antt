@@ -3,7 +3,7 @@ use Rattle.std.specs.Prelude.{◌≡◌, ◌↔◌, ℕ, Bool, true, not, ◌&&�
 use Rattle.std.specs.List.{filter, list_any}
 use Rattle.object.specs.Lists.{In}
 use Rattle.job_store.specs.declared.job.Job.{Job}
-use Rattle.job_store.specs.States.{is_ready, is_delayed, is_buried, is_held, is_due, due_of, rank_of}
+use Rattle.job_store.specs.States.{is_ready, is_delayed, is_buried, is_reserved, is_held, is_due, due_of, rank_of}
 use Rattle.job_store.specs.Least.{least}
 
 -- the tube is one of these
@@ -21,6 +21,18 @@ delayed_in tube e = is_delayed e.1.state && bytes_eq tube e.1.tube
 -- the job is buried, in this tube
 abbrev pub buried_in : List ℕ → ℕ × Job → Bool
 buried_in tube e = is_buried e.1.state && bytes_eq tube e.1.tube
+
+-- some session has the job, in this tube
+abbrev pub reserved_in : List ℕ → ℕ × Job → Bool
+reserved_in tube e = is_reserved e.1.state && bytes_eq tube e.1.tube
+
+-- the job is in this tube
+abbrev pub is_in : List ℕ → ℕ × Job → Bool
+is_in tube e = bytes_eq tube e.1.tube
+
+-- one of the jobs is in this tube
+abbrev pub has_jobs : List ℕ → List (ℕ × Job) → Bool
+has_jobs tube jobs = list_any (is_in tube) jobs
 
 -- the job's delay, or its time to run, is over at this second
 abbrev pub due_by : ℕ → ℕ × Job → Bool

@@ -9,7 +9,7 @@ use Rattle.job_store.specs.declared.spot.Spot.{Spot}
 use Rattle.job_store.specs.Entries.{Rising}
 use Rattle.job_store.specs.Undone.{MapState}
 use Rattle.job_store.specs.States.{is_ready, is_scheduled}
-use Rattle.job_store.specs.LookUps.{delayed_in, buried_in, held_by, is_after, pri_of_job, due_of_job, rank_of_job}
+use Rattle.job_store.specs.LookUps.{delayed_in, buried_in, reserved_in, held_by, is_after, pri_of_job, due_of_job, rank_of_job}
 use Rattle.job_store.specs.ShelfStates.{ShelfState, IsFrom, IsFound}
 use Rattle.job_store.specs.Racks.{shelf_at, name_cmp}
 use Rattle.job_store.specs.Spots.{spot_of}
@@ -21,6 +21,7 @@ belongs (Label.Delayed tube) e = delayed_in tube.now e
 belongs (Label.Buried tube) e = buried_in tube.now e
 belongs (Label.Held x) e = held_by x e
 belongs Label.Scheduled e = is_scheduled e.1.state
+belongs (Label.Reserved tube) e = reserved_in tube.now e
 
 -- the number by which the shelf is ordered
 abbrev pub number : Label → Job → ℕ
@@ -29,6 +30,7 @@ number (Label.Delayed tube) job = due_of_job job
 number (Label.Buried tube) job = rank_of_job job
 number (Label.Held x) job = due_of_job job
 number Label.Scheduled job = due_of_job job
+number (Label.Reserved tube) job = due_of_job job
 
 -- whether a job belongs on the shelf, after a place
 abbrev pub belongs_after : Label → ℕ × ℕ → ℕ × Job → Bool
@@ -62,6 +64,7 @@ shelf s (Label.Delayed tube) = shelf_at name_cmp s.delayed.shelves tube.now
 shelf s (Label.Buried tube) = shelf_at name_cmp s.buried.shelves tube.now
 shelf s (Label.Held x) = shelf_at nat_cmp s.held.shelves x
 shelf s Label.Scheduled = s.scheduled
+shelf s (Label.Reserved tube) = shelf_at name_cmp s.reserved.shelves tube.now
 
 -- the places on it
 abbrev pub places : Shelves → Label → List (ℕ × ℕ)

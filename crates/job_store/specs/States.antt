@@ -24,6 +24,13 @@ is_buried (State.Delayed due) = false
 is_buried (State.Reserved y due) = false
 is_buried (State.Buried rank) = true
 
+-- some session has the job
+abbrev pub is_reserved : State → Bool
+is_reserved State.Ready = false
+is_reserved (State.Delayed due) = false
+is_reserved (State.Reserved y due) = true
+is_reserved (State.Buried rank) = false
+
 -- session x has the job
 abbrev pub is_held : ℕ → State → Bool
 is_held x State.Ready = false

@@ -1,17 +1,18 @@
-ghost use Rattle.std.specs.Prelude.{◌≡◌, ◌^◌, ℕ, List, [], ◌∷◌, Option, None, Some, IsSome, IfOk, OnOk, OnErr, IfSome, IfNone, option_map, option_copied};
+ghost use Rattle.std.specs.Prelude.{◌≡◌, ◌^◌, ◌⊎◌, ℕ, true, List, [], ◌∷◌, Option, None, Some, IsSome, IfOk, OnOk, OnErr, IfSome, IfNone, option_map, option_copied};
 ghost use Rattle.std.specs.Map.{keys_of};
+ghost use Rattle.object.specs.Lists.{In};
 ghost use Rattle.job_store.specs.declared.job.Job.{Job};
 ghost use Rattle.job_store.specs.Entries.{Rising, value_at, with_value, altered, without};
 ghost use Rattle.job_store.specs.States.{with_state, with_pri_and_state};
 ghost use Rattle.job_store.specs.Least.{IsLeast, NonePasses};
-ghost use Rattle.job_store.specs.LookUps.{ready_in, delayed_in, buried_in, due_by, due_after, held_by, pri_of_job, due_of_job, rank_of_job, not_paused, best_ready, first_ready, first_delayed, first_buried, first_due, first_due_after, first_held};
+ghost use Rattle.job_store.specs.LookUps.{ready_in, delayed_in, buried_in, due_by, due_after, held_by, pri_of_job, due_of_job, rank_of_job, not_paused, best_ready, first_ready, first_delayed, first_buried, first_due, first_due_after, first_held, has_jobs};
 
 use crate::job::Job;
 use crate::name::Name;
 use crate::state::State;
 use indexmap::IndexSet;
 use std::alloc::{AllocError, Global};
-use std::collections::BTreeMap;
+use std::collections::{BTreeMap, BTreeSet};
 
 /// A map of jobs by id, which finds the least of some jobs.
 ///
@@ -152,4 +153,16 @@ pub trait JobMap: Drop + Sized {
         ensures found { IfSome result
             (λ e. IsLeast (held_by session) due_of_job (entries self.now) (e.0, e.1.now)) }
         ensures none { IfNone result (NonePasses (held_by session) (entries self.now)) };
+
+    /// Whether a job is in the tube. It takes no memory.
+    fn has_jobs(&self, tube: &Name) -> bool
+        ensures { result ≡ has_jobs tube.now (entries self.now) };
+
+    /// Puts the tubes that have jobs among the names.
+    fn add_tubes(&self, names: &mut BTreeSet<Name>) -> Result<(), AllocError>
+        ensures kept { (tube : List ℕ) → In tube names.old.keys → In tube names.new.keys }
+        ensures only { (tube : List ℕ) → In tube names.new.keys
+            → In tube names.old.keys ⊎ (has_jobs tube (entries self.now) ≡ true) }
+        ensures all { OnOk result ((tube : List ℕ) → has_jobs tube (entries self.now) ≡ true
+            → In tube names.new.keys) };
 }

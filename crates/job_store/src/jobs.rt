@@ -1,6 +1,8 @@
-ghost use Rattle.std.specs.Prelude.{◌≡◌, ◌↔◌, [], ◌∷◌, None, IfSome, IsNone, option_map};
-ghost use Rattle.job_store.specs.Least.{NonePasses, first_of};
-ghost use Rattle.job_store.specs.LookUps.{pri_of_job, ready_in, AreReadyPlaces};
+ghost use Rattle.std.specs.Prelude.{◌≡◌, ◌↔◌, ◌⊎◌, ℕ, List, [], ◌∷◌, true, None, IfSome, IfNone, IsNone, OnOk, option_map};
+ghost use Rattle.std.specs.Map.{keys_of};
+ghost use Rattle.object.specs.Lists.{In};
+ghost use Rattle.job_store.specs.Least.{IsLeast, NonePasses, first_of};
+ghost use Rattle.job_store.specs.LookUps.{pri_of_job, due_of_job, ready_in, reserved_in, has_jobs, AreReadyPlaces};
 
 use crate::change::Change;
 use crate::job::Job;
@@ -9,6 +11,9 @@ use crate::label::Label;
 use crate::logged_jobs::LoggedJobs;
 use crate::moves::{follow, go_back, move_to, move_to_state, store, sweep};
 use crate::name::Name;
+use crate::name_set::add_name;
+use crate::rack::Rack;
+use crate::shelf_number::ShelfNumber;
 use crate::shelves::Shelves;
 use crate::spot::Spot;
 use crate::state::State;
@@ -56,7 +61,50 @@ pub fn more_urgent<'a>(
     }
 }
 
+/// Puts a tube among the names, if it has jobs.
+fn add_filled(names: &mut BTreeSet<Name>, tube: &Name, jobs: &Jobs) -> Result<(), AllocError>
+    ensures kept { (t : List ℕ) → In t names.old.keys → In t names.new.keys }
+    ensures only { (t : List ℕ) → In t names.new.keys
+        → In t names.old.keys ⊎ (has_jobs t jobs.now.jobs ≡ true) }
+    ensures there { OnOk result (has_jobs tube.now jobs.now.jobs ≡ true
+        → In tube.now names.new.keys) }
+{
+    if !jobs.has_jobs(tube) {
+        return Ok(());
+    }
+    add_name(names, tube)
+}
+
+/// Puts those of the tubes of a rack that have jobs among the names.
+fn add_shelved<N: ShelfNumber>(
+    names: &mut BTreeSet<Name>,
+    rack: &Rack<Name, N>,
+    jobs: &Jobs,
+) -> Result<(), AllocError>
+    ensures kept { (tube : List ℕ) → In tube names.old.keys → In tube names.new.keys }
+    ensures only { (tube : List ℕ) → In tube names.new.keys
+        → In tube names.old.keys ⊎ (has_jobs tube jobs.now.jobs ≡ true) }
+    ensures all { OnOk result ((tube : List ℕ) → has_jobs tube jobs.now.jobs ≡ true
+        → In tube (keys_of rack.now.shelves.entries) → In tube names.new.keys) }
+{
+    for (tube, _) in &rack.shelves {
+        add_filled(names, tube, jobs)?;
+    }
+    Ok(())
+}
+
 impl Jobs {
+    /// The tube's reserved job of the least (due, id).
+    fn first_reserved(&self, tube: &Name) -> Option<(u64, &Job)>
+        ensures found { IfSome result
+            (λ e. IsLeast (reserved_in tube.now) due_of_job self.now.jobs (e.0, e.1.now)) }
+        ensures none { IfNone result (NonePasses (reserved_in tube.now) self.now.jobs) }
+    {
+        self.shelves
+            .reserved
+            .first(tube, Label::Reserved(tube), self.jobs.by_id())
+    }
+
     /// The ready jobs of a tube by (priority, id), if there are any. It can't be asked in a trial.
     pub fn ready(&self, tube: &Name) -> Option<&BTreeSet<(u32, u64)>>
         requires { self.now.before ≡ None }
@@ -214,5 +262,25 @@ impl JobMap for Jobs {
         self.shelves
             .held
             .first(&session, Label::Held(session), self.jobs.by_id())
+    }
+
+    fn has_jobs(&self, tube: &Name) -> bool {
+        if self.first_ready(tube).is_some() {
+            return true;
+        }
+        if self.first_delayed(tube).is_some() {
+            return true;
+        }
+        if self.first_buried(tube).is_some() {
+            return true;
+        }
+        self.first_reserved(tube).is_some()
+    }
+
+    fn add_tubes(&self, names: &mut BTreeSet<Name>) -> Result<(), AllocError> {
+        add_shelved(names, &self.shelves.ready, self)?;
+        add_shelved(names, &self.shelves.delayed, self)?;
+        add_shelved(names, &self.shelves.buried, self)?;
+        add_shelved(names, &self.shelves.reserved, self)
     }
 }

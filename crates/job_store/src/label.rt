@@ -22,6 +22,8 @@ pub enum Label<'a> {
     Held(u32),
     /// All that are delayed or reserved, by the second in which they are due.
     Scheduled,
+    /// Those that sessions have in this tube, by the second in which they are due.
+    Reserved(&'a Name),
 }
 
 impl<'a> Label<'a> {
@@ -36,6 +38,7 @@ impl<'a> Label<'a> {
             Label::Buried(own) => state.is_buried() && *own == tube,
             Label::Held(session) => state.is_held_by(*session),
             Label::Scheduled => state.is_scheduled(),
+            Label::Reserved(own) => state.is_reserved() && *own == tube,
         }
     }
 
@@ -47,7 +50,9 @@ impl<'a> Label<'a> {
         match self {
             Label::Ready(_) => u64::from(pri),
             Label::Buried(_) => state.rank(),
-            Label::Delayed(_) | Label::Held(_) | Label::Scheduled => state.due(),
+            Label::Delayed(_) | Label::Held(_) | Label::Scheduled | Label::Reserved(_) => {
+                state.due()
+            }
         }
     }
 

@@ -33,6 +33,7 @@ pub struct Shelves {
     pub buried: Rack<Name, u64>,
     pub held: Rack<u32, u64>,
     pub scheduled: Shelf<u64>,
+    pub reserved: Rack<Name, u64>,
     /// Where the changes of a trial are taken back, the places of these jobs go.
     pub came: Vec<(u64, Spot)>,
     /// Where the changes of a trial stay, the places of these jobs go.
@@ -51,6 +52,7 @@ impl Shelves {
             buried: Rack::new(alloc),
             held: Rack::new(alloc),
             scheduled: Shelf::new(alloc),
+            reserved: Rack::new(alloc),
             came: Vec::new(alloc),
             went: Vec::new(alloc),
         }
@@ -87,6 +89,7 @@ impl Shelves {
             Label::Buried(tube) => self.buried.put(tube, number, id),
             Label::Held(session) => self.held.put(&session, number, id),
             Label::Scheduled => self.scheduled.put(number, id),
+            Label::Reserved(tube) => self.reserved.put(tube, number, id),
         }
     }
 
@@ -106,6 +109,7 @@ impl Shelves {
             Label::Buried(tube) => self.buried.reach(tube, number, id),
             Label::Held(session) => self.held.reach(&session, number, id),
             Label::Scheduled => self.scheduled.reach(number, id),
+            Label::Reserved(tube) => self.reserved.reach(tube, number, id),
         }
     }
 
@@ -121,6 +125,7 @@ impl Shelves {
             Label::Buried(tube) => self.buried.is_behind(tube, number, id),
             Label::Held(session) => self.held.is_behind(&session, number, id),
             Label::Scheduled => self.scheduled.is_behind(number, id),
+            Label::Reserved(tube) => self.reserved.is_behind(tube, number, id),
         }
     }
 
@@ -163,6 +168,7 @@ impl Shelves {
             Label::Buried(tube) => self.buried.take(tube, number, id),
             Label::Held(session) => self.held.take(&session, number, id),
             Label::Scheduled => self.scheduled.take(number, id),
+            Label::Reserved(tube) => self.reserved.take(tube, number, id),
         }
     }
 
@@ -176,6 +182,7 @@ impl Shelves {
         self.put_on(Label::Buried(&spot.tube), id, spot)?;
         self.put_on(Label::Held(spot.state.holder()), id, spot)?;
         self.put_on(Label::Scheduled, id, spot)?;
+        self.put_on(Label::Reserved(&spot.tube), id, spot)?;
         Ok(())
     }
 
@@ -189,6 +196,7 @@ impl Shelves {
         self.reach_on(Label::Buried(&spot.tube), id, spot);
         self.reach_on(Label::Held(spot.state.holder()), id, spot);
         self.reach_on(Label::Scheduled, id, spot);
+        self.reach_on(Label::Reserved(&spot.tube), id, spot);
     }
 
     /// Takes a job from its shelves, but for places where the map has a job that belongs there.
@@ -205,6 +213,7 @@ impl Shelves {
         self.take_from(Label::Buried(&spot.tube), jobs, id, spot);
         self.take_from(Label::Held(spot.state.holder()), jobs, id, spot);
         self.take_from(Label::Scheduled, jobs, id, spot);
+        self.take_from(Label::Reserved(&spot.tube), jobs, id, spot);
     }
 
     /// Lists a job as one that went.
@@ -302,6 +311,7 @@ impl Shelves {
             State::Reserved { session, .. } => {
                 self.held.settle(&session, Label::Held(session), jobs);
                 self.scheduled.settle(Label::Scheduled, jobs);
+                self.reserved.settle(tube, Label::Reserved(tube), jobs);
             }
         }
     }

@@ -17,7 +17,7 @@ pub enum State {
 }
 
 impl State {
-    ghost use Rattle.job_store.specs.States.{is_ready, is_delayed, is_buried, is_held, is_scheduled, is_due, holder_of, due_of, rank_of};
+    ghost use Rattle.job_store.specs.States.{is_ready, is_delayed, is_buried, is_reserved, is_held, is_scheduled, is_due, holder_of, due_of, rank_of};
 
     /// Whether anyone who watches its tube may reserve the job.
     pub fn is_ready(&self) -> bool
@@ -38,6 +38,13 @@ impl State {
         ensures { result ≡ is_buried self.now }
     {
         matches!(self, State::Buried { .. })
+    }
+
+    /// Whether some session has the job.
+    pub fn is_reserved(&self) -> bool
+        ensures { result ≡ is_reserved self.now }
+    {
+        matches!(self, State::Reserved { .. })
     }
 
     /// Whether the session has the job.

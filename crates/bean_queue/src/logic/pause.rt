@@ -5,22 +5,10 @@ ghost use Rattle.bean_queue.specs.Rows.{all_tubes, pause_row};
 
 use crate::logic::Logic;
 use crate::reply::Reply;
-use job_store::{Job, JobMap, Name};
+use job_store::{JobMap, Name};
 use session_store::SessionState;
 use std::alloc::AllocError;
 use std::collections::BTreeMap;
-
-/// Whether a job is in the tube.
-fn has_jobs(jobs: &BTreeMap<u64, Job>, tube: &Name) -> bool
-    ensures { result ≡ list_any (λ e. bytes_eq tube.now e.1.tube) jobs.now.entries }
-{
-    for (_, job) in jobs {
-        if *tube == job.tube {
-            return true;
-        }
-    }
-    false
-}
 
 /// Whether a session uses or watches the tube.
 fn has_sessions(sessions: &BTreeMap<u32, SessionState>, tube: &Name) -> bool
@@ -44,7 +32,7 @@ impl<M: JobMap> Logic<M> {
         if *tube == Name::default_tube() {
             return true;
         }
-        if has_jobs(self.jobs.map().by_id(), tube) {
+        if self.jobs.map().has_jobs(tube) {
             return true;
         }
         has_sessions(self.sessions.map(), tube)

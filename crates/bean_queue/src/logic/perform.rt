@@ -2,7 +2,8 @@ ghost use Rattle.std.specs.Prelude.{◌≡◌, ◌∷◌, [], ◌++◌, true, fa
 ghost use Rattle.job_store.specs.Entries.{value_at};
 ghost use Rattle.bean_queue.specs.Rows.{row};
 ghost use Rattle.bean_queue.specs.Turns.{serve_turn};
-ghost use Rattle.bean_queue.specs.Effects.{own, turned_away, has_no_number, carried_out, do_effect, is_quiet};
+ghost use Rattle.bean_queue.specs.Effects.{has_no_number, carried_out, do_effect, is_quiet};
+ghost use Rattle.bean_queue.specs.Reserving.{is_reserve, wake_outcome};
 
 use crate::counters::LIMIT;
 use crate::logic::Logic;
@@ -91,15 +92,16 @@ impl<M: JobMap> Logic<M> {
         self.carry_out_quietly(alloc, key, op)
     }
 
-    /// Obeys another operation of a session that is there, where a number is left for it, but for the sessions that
-    /// wait. It has a reply unless it waits itself.
-    #[tactic(auto, unfolding(crate::specs::Rows::row, crate::specs::Rows::reserve_row))]
-    fn loud_row(&mut self, key: Key, op: &Op) -> Result<Option<Reply>, AllocError>
+    /// Obeys an operation that may make jobs ready, of a session that is there, where a number is left for it, but for
+    /// the sessions that wait.
+    #[tactic(auto, unfolding(crate::specs::Rows::row))]
+    fn waking_row(&mut self, key: Key, op: &Op) -> Result<Reply, AllocError>
         requires there { IsSome (value_at key.session self.old.now.sessions) }
         requires loud { is_quiet op.now ≡ false }
+        requires waking { is_reserve op.now ≡ false }
         requires numbered { has_no_number op.now self.old.now ≡ false }
         ensures state { OnOk result (self.new.now ≡ (row op.now key self.old.now).state) }
-        ensures reply { IfOk result (λ reply. (row op.now key self.old.now).reply ≡ reply) }
+        ensures reply { IfOk result (λ reply. (row op.now key self.old.now).reply ≡ Some reply) }
         ensures before { self.new.before ≡ self.old.before }
     {
         let session = key.session;
@@ -109,23 +111,18 @@ impl<M: JobMap> Logic<M> {
                 delay,
                 ttr,
                 body,
-            } => Ok(Some(self.put(session, *pri, *delay, *ttr, body)?)),
-            Op::Reserve { seconds } => {
-                self.reserve(key, *seconds)?;
-                Ok(None)
-            }
-            Op::Release { id, pri, delay } => {
-                Ok(Some(self.release(session, *id, *pri, *delay)?))
-            }
-            Op::Kick(bound) => Ok(Some(self.kick(session, *bound)?)),
-            Op::KickJob(id) => Ok(Some(self.kick_job(*id)?)),
-            Op::Pause { tube, seconds } => Ok(Some(self.pause_tube(tube, *seconds)?)),
+            } => self.put(session, *pri, *delay, *ttr, body),
+            Op::Release { id, pri, delay } => self.release(session, *id, *pri, *delay),
+            Op::Kick(bound) => self.kick(session, *bound),
+            Op::KickJob(id) => self.kick_job(*id),
+            Op::Pause { tube, seconds } => self.pause_tube(tube, *seconds),
             _ => unreachable!(),
         }
     }
 
-    /// Obeys it, and appends its own answer.
-    fn loud_answer(
+    /// Obeys it, appends its own answer, and then serves the sessions that wait, where nothing was left to give.
+    #[tactic(auto, unfolding(crate::specs::Turns::serve))]
+    fn wake(
         &mut self,
         key: Key,
         op: &Op,
@@ -133,43 +130,27 @@ impl<M: JobMap> Logic<M> {
     ) -> Result<(), AllocError>
         requires there { IsSome (value_at key.session self.old.now.sessions) }
         requires loud { is_quiet op.now ≡ false }
+        requires waking { is_reserve op.now ≡ false }
         requires numbered { has_no_number op.now self.old.now ≡ false }
-        ensures state { OnOk result (self.new.now ≡ (row op.now key self.old.now).state) }
+        requires calm { serve_turn self.old.now ≡ None }
+        ensures state { OnOk result (self.new.now ≡ (wake_outcome op.now key self.old.now).state) }
         ensures answers { OnOk result
-            (answers.new.items ≡ answers.old.items ++ own key (row op.now key self.old.now).reply) }
+            (answers.new.items
+            ≡ answers.old.items ++ (wake_outcome op.now key self.old.now).answers) }
         ensures before { self.new.before ≡ self.old.before }
     {
-        if let Some(reply) = self.loud_row(key, op)? {
-            answers.push(Answer { to: key, reply })?;
-        }
-        Ok(())
-    }
-
-    /// Answers the operation if it was a reserve that got no job and may not wait.
-    #[tactic(auto, unfolding(crate::specs::Effects::turned_away))]
-    fn turn_away_after(
-        &mut self,
-        key: Key,
-        op: &Op,
-        answers: &mut Vec<Answer<Reply>>,
-    ) -> Result<(), AllocError>
-        ensures state { OnOk result (self.new.now ≡ (turned_away op.now key self.old.now).state) }
-        ensures answers { OnOk result
-            (answers.new.items ≡ answers.old.items ++ (turned_away op.now key self.old.now).answers) }
-        ensures before { self.new.before ≡ self.old.before }
-    {
-        match op {
-            Op::Reserve { seconds } => self.turn_away(key, *seconds, answers),
-            _ => Ok(()),
+        let woken = self.woken_by(key, op)?;
+        let reply = self.waking_row(key, op)?;
+        answers.push(Answer { to: key, reply })?;
+        match woken {
+            Some(tube) => self.serve(&[tube], answers),
+            None => self.serve(&[], answers),
         }
     }
 
-    /// Carries out an operation that is not quiet, where a number is left for it and nothing is left to give, and then
-    /// serves the sessions that wait.
-    #[tactic(auto, unfolding(crate::specs::Effects::carried_out, crate::specs::Turns::serve))]
+    /// Carries out an operation that is not quiet, where a number is left for it and nothing is left to give.
     fn carry_out(
         &mut self,
-        alloc: Global,
         key: Key,
         op: &Op,
         answers: &mut Vec<Answer<Reply>>,
@@ -184,17 +165,17 @@ impl<M: JobMap> Logic<M> {
         ensures before { self.new.before ≡ self.old.before }
     {
         self.call(key.session)?;
-        let woken = self.woken_by(alloc, key, op)?;
-        self.loud_answer(key, op, answers)?;
-        self.serve(woken.as_slice(), answers)?;
-        self.turn_away_after(key, op, answers)
+        self.numbers_rise();
+        match op {
+            Op::Reserve { seconds } => self.reserve(key, *seconds, answers),
+            _ => self.wake(key, op, answers),
+        }
     }
 
     /// Obeys an operation that is not quiet, where nothing is left to give.
     #[tactic(auto, unfolding(crate::specs::Effects::do_effect))]
     pub fn obey_loud(
         &mut self,
-        alloc: Global,
         key: Key,
         op: &Op,
         answers: &mut Vec<Answer<Reply>>,
@@ -209,6 +190,6 @@ impl<M: JobMap> Logic<M> {
         if self.has_no_number(op) {
             return self.end_wait(key, Reply::InternalError, answers);
         }
-        self.carry_out(alloc, key, op, answers)
+        self.carry_out(key, op, answers)
     }
 }

@@ -1,15 +1,17 @@
-ghost use Rattle.std.specs.Prelude.{◌≡◌, ◌≤◌, ◌^◌, ◌==◌, ◌++◌, false, OnOk};
-ghost use Rattle.session_store.specs.Sessions.{with_wait_ended, is_waiting, session_of};
+ghost use Rattle.std.specs.Prelude.{◌≡◌, ◌≤◌, ◌^◌, ◌+◌, ◌==◌, ◌++◌, false, IsSome, IfOk, OnOk, option_map};
+ghost use Rattle.job_store.specs.Entries.{value_at};
+ghost use Rattle.session_store.specs.Sessions.{with_wait_ended};
 ghost use Rattle.bean_queue.specs.Queue.{with_sessions};
-ghost use Rattle.bean_queue.specs.Rows.{time_out, reserve_row};
-ghost use Rattle.bean_queue.specs.Effects.{ends_wait, turned_away};
-ghost use Rattle.bean_queue.specs.declared.op.Op.{Op};
+ghost use Rattle.bean_queue.specs.Rows.{time_out, waiting};
+ghost use Rattle.bean_queue.specs.Effects.{ends_wait};
+ghost use Rattle.bean_queue.specs.Reserving.{best_for, taken, ranked, refusal, reserve_outcome, IsTaken};
 
-use crate::deadlines::{holds_by, waits_at};
+use crate::deadlines::holds_by;
 use crate::logic::Logic;
 use crate::reply::Reply;
-use job_store::JobMap;
-use object::{Answer, Key};
+use crate::waiting::best_ready;
+use job_store::{Job, JobMap, State};
+use object::{Answer, Key, Value};
 use session_store::Wait;
 use std::alloc::AllocError;
 
@@ -24,13 +26,66 @@ fn time_out(now: u64, seconds: Option<u32>) -> Option<u64>
     }
 }
 
+/// The second in which the time to run of a job that is given now is over.
+fn due_of(now: u64, ttr: u32) -> u64
+    requires { now ≤ 2 ^ 40 }
+    ensures { result ≡ now + ttr }
+{
+    now + u64::from(ttr)
+}
+
 impl<M: JobMap> Logic<M> {
+    /// The best job for a session that is there.
+    fn best_for(&self, session: u32) -> Option<(u64, &Job)>
+        requires { IsSome (value_at session self.now.now.sessions) }
+        ensures { option_map (λ e. (e.0, e.1.now)) result ≡ best_for self.now.now session }
+    {
+        let watched = self.session(session).watched.as_slice();
+        best_ready(self.jobs.map(), &self.pauses, watched)
+    }
+
+    /// Gives the best job for a session to it, and tells whether there is one.
+    fn take_best(&mut self, key: Key, answers: &mut Vec<Answer<Reply>>) -> Result<bool, AllocError>
+        requires there { IsSome (value_at key.session self.old.now.sessions) }
+        requires numbered { (self.old.now.next_rank == 2 ^ 63) ≡ false }
+        ensures taken { IfOk result (λ is_one. IsTaken key self.old.now self.new.now
+            answers.old.items answers.new.items is_one) }
+        ensures before { self.new.before ≡ self.old.before }
+    {
+        let Some((id, job)) = self.best_for(key.session) else {
+            return Ok(false);
+        };
+        let due = due_of(self.counters.now, job.ttr);
+        let body = job.body.copy()?;
+        answers.push(Answer {
+            to: key,
+            reply: Reply::Reserved { id, body },
+        })?;
+        let session = key.session;
+        self.jobs.set_state(id, State::Reserved { session, due })?;
+        self.counters.next_rank += 1;
+        Ok(true)
+    }
+
+    /// What a session that gets no job is told, if it may not wait.
+    fn refusal(&self, session: u32, seconds: Option<u32>) -> Option<Reply>
+        ensures { result ≡ refusal self.now.now session seconds }
+    {
+        let second = self.counters.now + 1;
+        if holds_by(self.jobs.map(), session, second) {
+            Some(Reply::DeadlineSoon)
+        } else if seconds == Some(0) {
+            Some(Reply::TimedOut)
+        } else {
+            None
+        }
+    }
+
     /// Lets a session wait for a job, where a rank is left.
-    #[tactic(auto, unfolding(crate::specs::Rows::reserve_row))]
-    pub fn reserve(&mut self, key: Key, seconds: Option<u32>) -> Result<(), AllocError>
+    fn begin_wait(&mut self, key: Key, seconds: Option<u32>) -> Result<(), AllocError>
         requires { (self.old.now.next_rank == 2 ^ 63) ≡ false }
         ensures state { OnOk result (self.new.now
-            ≡ (reserve_row self.old.now key.session key.number seconds).state) }
+            ≡ waiting self.old.now key.session key.number seconds) }
         ensures before { self.new.before ≡ self.old.before }
     {
         let rank = self.counters.next_rank;
@@ -44,11 +99,32 @@ impl<M: JobMap> Logic<M> {
         Ok(())
     }
 
-    /// Whether a session waits.
-    fn is_waiting(&self, session: u32) -> bool
-        ensures { result ≡ is_waiting (session_of session self.now.now.sessions) }
+    /// Obeys a reserve of a session that is there, where a rank is left: the session gets the best job for it, or is
+    /// told that it may not wait, or waits. Only who waits joins the lines of its tubes.
+    #[tactic(auto, unfolding(crate::specs::Reserving::reserve_outcome))]
+    pub fn reserve(
+        &mut self,
+        key: Key,
+        seconds: Option<u32>,
+        answers: &mut Vec<Answer<Reply>>,
+    ) -> Result<(), AllocError>
+        requires there { IsSome (value_at key.session self.old.now.sessions) }
+        requires numbered { (self.old.now.next_rank == 2 ^ 63) ≡ false }
+        ensures state { OnOk result (self.new.now
+            ≡ (reserve_outcome key seconds self.old.now).state) }
+        ensures answers { OnOk result (answers.new.items
+            ≡ answers.old.items ++ (reserve_outcome key seconds self.old.now).answers) }
+        ensures before { self.new.before ≡ self.old.before }
     {
-        waits_at(self.sessions.map(), session)
+        if self.take_best(key, answers)? {
+            return Ok(());
+        }
+        let Some(reply) = self.refusal(key.session, seconds) else {
+            return self.begin_wait(key, seconds);
+        };
+        answers.push(Answer { to: key, reply })?;
+        self.counters.next_rank += 1;
+        Ok(())
     }
 
     /// Lets a session wait no longer.
@@ -74,34 +150,5 @@ impl<M: JobMap> Logic<M> {
     {
         answers.push(Answer { to: key, reply })?;
         self.stop_waiting(key.session)
-    }
-
-    /// Tells a session that still waits after its reserve of a job that is due soon, or that it may not wait.
-    #[tactic(auto, unfolding(crate::specs::Effects::turned_away))]
-    pub fn turn_away(
-        &mut self,
-        key: Key,
-        seconds: Option<u32>,
-        answers: &mut Vec<Answer<Reply>>,
-    ) -> Result<(), AllocError>
-        ensures state { OnOk result (self.new.now
-            ≡ (turned_away (Op.Reserve seconds) key self.old.now).state) }
-        ensures answers { OnOk result
-            (answers.new.items
-            ≡ answers.old.items ++ (turned_away (Op.Reserve seconds) key self.old.now).answers) }
-        ensures before { self.new.before ≡ self.old.before }
-    {
-        if !self.is_waiting(key.session) {
-            return Ok(());
-        }
-        let second = self.counters.now + 1;
-        let reply = if holds_by(self.jobs.map(), key.session, second) {
-            Reply::DeadlineSoon
-        } else if seconds == Some(0) {
-            Reply::TimedOut
-        } else {
-            return Ok(());
-        };
-        self.end_wait(key, reply, answers)
     }
 }

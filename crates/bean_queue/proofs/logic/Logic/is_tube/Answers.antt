@@ -1,7 +1,6 @@
 use Rattle.std.proofs.Common.{◌∙◌, ◌||◌, ℕ, bytes_eq, sym, ap}
 use Rattle.std.specs.List.{list_any}
-use Rattle.job_store.specs.declared.job.Job.{Job}
-use Rattle.job_store.specs.LookUps.{is_among}
+use Rattle.job_store.specs.LookUps.{is_among, has_jobs}
 use Rattle.session_store.specs.Drafts.{Draft}
 use Rattle.session_store.specs.declared.session.SessionState.{SessionState}
 use Rattle.bean_queue.specs.Queue.{QueueState, state_of}
@@ -16,7 +15,7 @@ returns-then-eq g c =
 pub returns-then-has_jobs : goal.returns-then-has_jobs
 returns-then-has_jobs g c =
     let s = state_of c.self.inside.counters c.self.inside.jobs.now c.self.inside.sessions.now c.self.inside.pauses.now.pauses in
-    sym (by-job s c.args.tube.now (ap (list_any (λ (e : ℕ × Job). bytes_eq c.args.tube.now e.1.tube)) (sym (c.by_id.ensures.jobs ∙ c.map.ensures.jobs)) ∙ sym c.has_jobs.ensures ∙ c.if-has_jobs.true)) ∙
+    sym (by-job s c.args.tube.now (ap (has_jobs c.args.tube.now) (sym c.map.ensures.jobs) ∙ sym c.has_jobs.ensures ∙ c.if-has_jobs.true)) ∙
     ap (λ (d : Draft QueueState). is_among c.args.tube.now (all_tubes d.now)) c.self.view_is
 
 pub returns : goal.returns
@@ -25,5 +24,5 @@ returns g c =
     c.has_sessions.ensures ∙
     ap (list_any (λ (e : ℕ × SessionState). bytes_eq c.args.tube.now e.1.used || is_among c.args.tube.now e.1.watched)) c.map-2.ensures.sessions ∙
     by-rest s c.args.tube.now (ap (bytes_eq c.args.tube.now) (sym c.default_tube.ensures) ∙ sym c.eq-2.ensures ∙ c.if-eq.false)
-    (ap (list_any (λ (e : ℕ × Job). bytes_eq c.args.tube.now e.1.tube)) (sym (c.by_id.ensures.jobs ∙ c.map.ensures.jobs)) ∙ sym c.has_jobs.ensures ∙ c.if-has_jobs.false) ∙
+    (ap (has_jobs c.args.tube.now) (sym c.map.ensures.jobs) ∙ sym c.has_jobs.ensures ∙ c.if-has_jobs.false) ∙
     ap (λ (d : Draft QueueState). is_among c.args.tube.now (all_tubes d.now)) c.self.view_is

@@ -8,4 +8,5 @@ returns-clause-shelves c = elim [
   | Label.Buried tube ↦ c.new-3.ensures tube.now
   | Label.Held x ↦ c.new-4.ensures x
   | Label.Scheduled ↦ c.new-5.ensures
+  | Label.Reserved tube ↦ c.new-6.ensures tube.now
 ]

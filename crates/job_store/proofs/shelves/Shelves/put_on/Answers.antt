@@ -2,7 +2,7 @@ use Rattle.std.proofs.Common.{[], refl, sym, ap, ◌∙◌}
 use Rattle.job_store.specs.declared.label.Label.{Label}
 use Rattle.job_store.specs.Spots.{at_spot}
 use Rattle.job_store.specs.Shelves.{belongs, number}
-use Rattle.job_store.proofs.ShelfFields.{only-ready, only-delayed, only-buried, only-held, only-scheduled, put-at}
+use Rattle.job_store.proofs.ShelfFields.{only-ready, only-delayed, only-buried, only-held, only-scheduled, only-reserved, put-at}
 use Rattle.job_store.proofs.shelves.Shelves.put_on.Goals as goal
 
 pub returns-in-Ready-clause-put : goal.returns-in-Ready-clause-put
@@ -39,3 +39,10 @@ returns-in-Scheduled-clause-put c =
     (sym c.if-not-fits.false ∙ c.fits.ensures c.args.id c.args.spot.now.pri 0 [] ∙ ap (λ (l : Label). belongs l (c.args.id, (at_spot c.args.spot.now))) c.in-Scheduled.is)
     (c.number-number.ensures 0 c.args.spot.now.tube [] ∙ ap (λ (l : Label). number l (at_spot c.args.spot.now)) c.in-Scheduled.is)
     c.put-in-Scheduled.ensures.gained
+
+pub returns-in-Reserved-clause-put : goal.returns-in-Reserved-clause-put
+returns-in-Reserved-clause-put c =
+    put-at c.args.self.now (record c.args.self.now { reserved = c.put-in-Reserved.new.self }) (Label.Reserved c.in-Reserved.tube) (only-reserved c.args.self.now c.put-in-Reserved.new.self c.in-Reserved.tube c.put-in-Reserved.ensures.others) refl (c.args.id, (at_spot c.args.spot.now)) c.number-number.result
+    (sym c.if-not-fits.false ∙ c.fits.ensures c.args.id c.args.spot.now.pri 0 [] ∙ ap (λ (l : Label). belongs l (c.args.id, (at_spot c.args.spot.now))) c.in-Reserved.is)
+    (c.number-number.ensures 0 c.args.spot.now.tube [] ∙ ap (λ (l : Label). number l (at_spot c.args.spot.now)) c.in-Reserved.is)
+    c.put-in-Reserved.ensures.gained

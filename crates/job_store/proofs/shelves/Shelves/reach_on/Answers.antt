@@ -1,6 +1,6 @@
 use Rattle.std.proofs.Common.{refl}
 use Rattle.job_store.specs.declared.label.Label.{Label}
-use Rattle.job_store.proofs.ShelfFields.{only-ready, only-delayed, only-buried, only-held, only-scheduled, reach-at}
+use Rattle.job_store.proofs.ShelfFields.{only-ready, only-delayed, only-buried, only-held, only-scheduled, only-reserved, reach-at}
 use Rattle.job_store.proofs.shelves.Shelves.reach_on.Goals as goal
 
 pub returns-in-Ready-clause-back : goal.returns-in-Ready-clause-back
@@ -22,3 +22,7 @@ returns-in-Held-clause-back c =
 pub returns-in-Scheduled-clause-back : goal.returns-in-Scheduled-clause-back
 returns-in-Scheduled-clause-back c =
     reach-at c.args.self.now (record c.args.self.now { scheduled = c.reach-in-Scheduled.new.self }) Label.Scheduled (only-scheduled c.args.self.now c.reach-in-Scheduled.new.self) refl (c.number-number.result, c.args.id) c.reach-in-Scheduled.ensures
+
+pub returns-in-Reserved-clause-back : goal.returns-in-Reserved-clause-back
+returns-in-Reserved-clause-back c =
+    reach-at c.args.self.now (record c.args.self.now { reserved = c.reach-in-Reserved.new.self }) (Label.Reserved c.in-Reserved.tube) (only-reserved c.args.self.now c.reach-in-Reserved.new.self c.in-Reserved.tube c.reach-in-Reserved.ensures.others) refl (c.number-number.result, c.args.id) c.reach-in-Reserved.ensures.reached

@@ -5,7 +5,7 @@ use Rattle.job_store.specs.declared.label.Label.{Label}
 use Rattle.job_store.specs.Spots.{at_spot}
 use Rattle.job_store.specs.Shelves.{number, BelongsAt, places}
 use Rattle.job_store.proofs.Shelving.{untaken, only-place}
-use Rattle.job_store.proofs.ShelfFields.{only-ready, only-delayed, only-buried, only-held, only-scheduled, take-at}
+use Rattle.job_store.proofs.ShelfFields.{only-ready, only-delayed, only-buried, only-held, only-scheduled, only-reserved, take-at}
 use Rattle.job_store.proofs.shelves.Shelves.take_from.Goals as goal
 
 pub returns-in-Ready-clause-taken : goal.returns-in-Ready-clause-taken
@@ -61,3 +61,13 @@ returns-in-Scheduled-clause-gone c p i b =
 
 pub returns-then-is_taken-clause-gone : goal.returns-then-is_taken-clause-gone
 returns-then-is_taken-clause-gone c p i b = c.is_taken.ensures.yes c.if-is_taken.true p b
+
+pub returns-in-Reserved-clause-taken : goal.returns-in-Reserved-clause-taken
+returns-in-Reserved-clause-taken c =
+    take-at c.args.self.now (record c.args.self.now { reserved = c.take-in-Reserved.new.self }) (Label.Reserved c.in-Reserved.tube) (only-reserved c.args.self.now c.take-in-Reserved.new.self c.in-Reserved.tube c.take-in-Reserved.ensures.others) refl c.args.jobs.now.entries (c.number-number.result, c.args.id)
+    (subst (λ (l : Label). (e : ℕ × Job) → In e c.args.jobs.now.entries → BelongsAt l (c.number-number.result, c.args.id) e → ⊥) c.in-Reserved.is (untaken c.args.label c.args.id c.number-number.result c.args.spot.now c.args.jobs.now.entries (sym (c.fits.ensures c.args.id c.args.spot.now.pri 0 []) ∙ c.if-not-fits.false) (c.number-number.ensures 0 c.args.spot.now.tube []) (c.is_taken.ensures.no c.if-is_taken.false)))
+    c.take-in-Reserved.ensures.lost
+
+pub returns-in-Reserved-clause-gone : goal.returns-in-Reserved-clause-gone
+returns-in-Reserved-clause-gone c p i b =
+    absurd ((c.take-in-Reserved.ensures.lost.only p (subst (λ (l : Label). In p (places (record c.args.self.now { reserved = c.take-in-Reserved.new.self }) l)) c.in-Reserved.is i)).1 (only-place c.args.label c.args.id _ (at_spot c.args.spot.now) p (c.number-number.ensures 0 c.args.spot.now.tube []) b))
