@@ -22,7 +22,7 @@ use std::time::Duration;
 /// So many clients put, reserve and delete so many jobs each.
 const CLIENTS: u32 = 8;
 
-const CYCLES: u32 = 20;
+const CYCLES: u32 = 8;
 
 /// So many seconds come at once, and then none for so many milliseconds.
 const AT_ONCE: u32 = 12;
