@@ -1,14 +1,16 @@
 ghost use Rattle.std.specs.Prelude.{◌≡◌, ◌≢◌, ◌↔◌, ◌-◌, true, None, Some, Ok, IfSome, OnOk, OnErr};
 
+use crate::troubles::{Pauses, Trouble, trouble_of};
 use node_threads::Accept;
 use session::{Failed, Reading, Writing};
-use std::io;
-use std::io::ErrorKind;
 use std::net::{TcpListener, TcpStream};
+use std::rt::Clock;
 
-/// Clients that connect over TCP, up to so many.
+/// Clients that connect over TCP, up to so many. Where the system is short of something, or one connection goes wrong,
+/// the next try comes after a pause.
 #[derive(Drop)]
-pub(crate) struct Connections {
+pub(crate) struct Connections<'a, C> {
+    clock: &'a C,
     // None where nobody is accepted any more.
     listener: Option<TcpListener>,
     left: Option<u32>,
@@ -16,12 +18,13 @@ pub(crate) struct Connections {
     has_ended: bool,
 }
 
-impl Connections {
+impl<'a, C: Clock> Connections<'a, C> {
     /// Those that connect here: as many as there is said, or without end.
-    pub(crate) fn new(listener: TcpListener, left: Option<u32>) -> Connections
+    pub(crate) fn new(clock: &'a C, listener: TcpListener, left: Option<u32>) -> Connections<'a, C>
         ensures { result.left ≡ left }
     {
         Connections {
+            clock,
             listener: Some(listener),
             left,
             has_failed: false,
@@ -29,27 +32,43 @@ impl Connections {
         }
     }
 
-    // The next connection that can be used. One that has gone before it is accepted is left out.
+    // The next connection that can be used.
     fn accept(&self) -> Result<(Reading<TcpStream>, Writing<TcpStream>), Failed> {
         let Some(listener) = &self.listener else {
             return Err(Failed);
         };
+        let mut pauses = Pauses::new(self.clock);
         for _ in 0..u64::MAX {
             match listener.accept() {
                 Ok((stream, _)) => {
-                    if let Ok(ends) = ends_of(stream) {
+                    if let Some(ends) = self.ends_of(stream) {
                         return Ok(ends);
                     }
                 }
-                Err(e) if is_of_one_client(e.kind()) => {}
-                Err(_) => return Err(Failed),
+                Err(e) if trouble_of(&e) == Trouble::Listener => return Err(Failed),
+                Err(_) => pauses.wait(),
             }
         }
         Err(Failed)
     }
+
+    // What is read from the connection, and what is written to it; none where it has gone. A reply isn't held back until
+    // more can be sent.
+    fn ends_of(&self, stream: TcpStream) -> Option<(Reading<TcpStream>, Writing<TcpStream>)> {
+        stream.set_nodelay(true).ok()?;
+        let mut pauses = Pauses::new(self.clock);
+        for _ in 0..u64::MAX {
+            match stream.try_clone() {
+                Ok(output) => return Some((Reading::new(stream), Writing::new(output))),
+                Err(e) if trouble_of(&e) == Trouble::Shortage => pauses.wait(),
+                Err(_) => return None,
+            }
+        }
+        None
+    }
 }
 
-impl Accept for Connections {
+impl<'a, C: Clock> Accept for Connections<'a, C> {
     type R = Reading<TcpStream>;
 
     type W = Writing<TcpStream>;
@@ -84,20 +103,4 @@ impl Accept for Connections {
             }
         }
     }
-}
-
-// Whether it went wrong for one client alone, and the next can be accepted.
-fn is_of_one_client(kind: ErrorKind) -> bool {
-    matches!(
-        kind,
-        ErrorKind::ConnectionAborted | ErrorKind::ConnectionReset | ErrorKind::Interrupted
-    )
-}
-
-// What is read from the connection, and what is written to it. A reply isn't held back until more
-// can be sent.
-fn ends_of(stream: TcpStream) -> io::Result<(Reading<TcpStream>, Writing<TcpStream>)> {
-    stream.set_nodelay(true)?;
-    let output = stream.try_clone()?;
-    Ok((Reading::new(stream), Writing::new(output)))
 }

@@ -1,10 +1,13 @@
-ghost use Rattle.std.specs.Prelude.{◌≡◌};
-ghost use Rattle.beanpax.specs.declared.faults.ProgramFault.TheVariants.{OutOfMemory};
+ghost use Rattle.std.specs.Prelude.{◌≡◌, ◌≢◌};
+ghost use Rattle.std_io.specs.IoError.{error_kind};
+ghost use Rattle.beanpax.specs.declared.faults.ProgramFault.TheVariants.{OutOfMemory, FileFailed};
 ghost use Rattle.beanpax.specs.Faults.{number_of_fault, fault_line_text, of_session, of_cluster};
 
 use node_threads::ClusterError;
 use session::SessionFault;
 use std::alloc::AllocError;
+use std::io;
+use std::io::ErrorKind;
 use thiserror::Error;
 
 /// Why the program didn't do what was asked.
@@ -62,6 +65,17 @@ impl From<AllocError> for ProgramFault {
 
     fn from(_: AllocError) -> ProgramFault {
         ProgramFault::OutOfMemory
+    }
+}
+
+/// Why a file could not be read or written: for want of memory, or not.
+pub(crate) fn file_fault(error: &io::Error) -> ProgramFault
+    ensures memory { error_kind error.now ≡ ErrorKind.OutOfMemory → result ≡ OutOfMemory }
+    ensures other { error_kind error.now ≢ ErrorKind.OutOfMemory → result ≡ FileFailed }
+{
+    match error.kind() {
+        ErrorKind::OutOfMemory => ProgramFault::OutOfMemory,
+        _ => ProgramFault::FileFailed,
     }
 }
 

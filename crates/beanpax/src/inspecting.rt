@@ -5,7 +5,7 @@ ghost use Rattle.beanpax.specs.Faults.{IsOfOutput};
 ghost use Rattle.beanpax.specs.Program.{BeginsVerdict, HasInspected, IsInspectionFault};
 ghost use Rattle.beanpax.specs.Verdicts.{IsVerdict, IsVerdictOn, verdict_line};
 
-use crate::faults::ProgramFault;
+use crate::faults::{ProgramFault, file_fault};
 use crate::host::Host;
 use crate::verdict::Verdict;
 use bean_queue::{Op, Reply};
@@ -50,7 +50,7 @@ pub(crate) fn inspect_file<R: Host, W: ByteOut>(
     ensures err { IfErr result (IsInspectionFault (W.has_failed output.new)) }
     ensures begins { BeginsVerdict (W.contents output.old) (W.contents output.new) }
 {
-    let text = fs::read(rt, file).map_err(|_| ProgramFault::FileFailed)?;
+    let text = fs::read(rt, file).map_err(|e| file_fault(&e))?;
     tell_verdict(rt.alloc(), text.as_slice(), output)
 }
 

@@ -14,6 +14,7 @@ mod run;
 mod seconds;
 mod server;
 mod simulation;
+mod troubles;
 mod verdict;
 mod weights;
 mod words;

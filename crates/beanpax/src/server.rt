@@ -1,4 +1,4 @@
-ghost use Rattle.std.specs.Prelude.{◌≡◌, ◌≢◌, ◌≤◌, ◌∷◌, [], true, None, Ok, Err, IfOk, IfErr, IfSome, OnOk};
+ghost use Rattle.std.specs.Prelude.{◌≡◌, ◌≢◌, ◌⊎◌, ◌≤◌, ◌∷◌, [], length, true, None, Ok, Err, IfOk, IfErr, IfSome, OnOk};
 ghost use Rattle.std.specs.Io.KnownBytes.{Appends};
 ghost use Rattle.std.specs.Net.Addr.{IsV4And, ipv4_octets};
 ghost use Rattle.std.specs.Net.Socket.{socket_ip, socket_port};
@@ -14,7 +14,7 @@ ghost use Rattle.node_threads.specs.Clusters.{IsAccountedFor, all_tickets};
 ghost use Rattle.beanpax.specs.Servers.{listening_line};
 
 use crate::connections::Connections;
-use crate::faults::ProgramFault;
+use crate::faults::{ProgramFault, file_fault};
 use crate::host::Host;
 use crate::laws::no_fault_in_a_dump;
 use crate::seconds::ClockSeconds;
@@ -47,13 +47,36 @@ pub(crate) fn serve_tcp<R: Host, W: ByteOut>(
     ensures reads_nothing { result ≢ Err ReadFailed }
     ensures never_stops { result ≢ Err ServiceStopped }
     ensures dumps { result ≡ Err FileFailed → options.now.dump ≢ None }
+    ensures not_listening { result ≡ Err ListenFailed →
+        (W.contents output.new ≡ W.contents output.old)
+        ⊎ Appends (W.contents output.old) (W.contents output.new)
+        (listening_line options.now.port) }
 {
-    let listener = listen(rt, options.port)?;
-    tell_port(rt.alloc(), options.port, output)?;
+    let listener = open_port(rt, options.port, output)?;
     let hall = Hall::new(rt.alloc(), options.members)?;
-    let connections = Connections::new(listener, options.sessions);
+    let connections = Connections::new(rt, listener, options.sessions);
     let ended = run_as_asked(rt, hall, connections, options);
     conclude(rt, &ended, options)
+}
+
+// Listens at this port of the loopback, and tells that then. Where it can't listen, nothing is told.
+fn open_port<R: Host, W: ByteOut>(
+    rt: &R,
+    port: u16,
+    output: &mut W,
+) -> Result<TcpListener, ProgramFault>
+    ensures told { OnOk result
+        (Appends (W.contents output.old) (W.contents output.new) (listening_line port)) }
+    ensures begins { AppendsBeginning (W.contents output.old) (W.contents output.new)
+        (listening_line port) }
+    ensures fault { IfErr result (λ fault. (fault ≡ ListenFailed) ⊎ IsOfOutput fault) }
+    ensures not_listening { result ≡ Err ListenFailed →
+        W.contents output.new ≡ W.contents output.old }
+    ensures write_failed { result ≡ Err WriteFailed → W.has_failed output.new ≡ true }
+{
+    let listener = listen(rt, port)?;
+    tell_port(rt.alloc(), port, output)?;
+    Ok(listener)
 }
 
 // Listens at this port of the loopback.
@@ -86,17 +109,19 @@ fn tell_port<W: ByteOut>(alloc: Global, port: u16, output: &mut W) -> Result<(),
 }
 
 // Serves these connections on this hall, both of which are as the options ask.
-fn run_as_asked<R: Host>(
-    rt: &R,
+fn run_as_asked<'a, R: Host>(
+    rt: &'a R,
     hall: Hall<Queue>,
-    connections: Connections,
+    connections: Connections<'a, R>,
     options: &ServerOptions<'_>,
-) -> Ended<Queue, Connections>
+) -> Ended<Queue, Connections<'a, R>>
     requires hall { hall ≡ new_hall options.now.members }
     requires connections { connections.left ≡ options.now.sessions }
     requires some_workers { 1 ≤ options.now.workers }
     requires few_workers { options.now.workers ≤ 64 }
     ensures accounted { IsAccountedFor result.hall (all_tickets result.tickets.items) result.fault }
+    ensures each_worker { result.fault ≡ None →
+        length result.tickets.items ≡ options.now.workers }
 {
     run_cluster(
         rt,
@@ -113,7 +138,7 @@ fn run_as_asked<R: Host>(
 // for.
 fn conclude<R: Host>(
     rt: &R,
-    ended: &Ended<Queue, Connections>,
+    ended: &Ended<Queue, Connections<'_, R>>,
     options: &ServerOptions<'_>,
 ) -> Result<(), ProgramFault>
     ensures fault { IfSome ended.now.fault (λ fault. result ≡ Err (of_cluster fault)) }
@@ -134,7 +159,7 @@ fn write_dump<R: Host>(rt: &R, hall: &Hall<Queue>, file: &str) -> Result<(), Pro
     ensures { IfErr result IsOfDump }
 {
     let text = dump_of(rt.alloc(), hall)?;
-    fs::write(rt, file, text.as_slice()).map_err(|_| ProgramFault::FileFailed)
+    fs::write(rt, file, text.as_slice()).map_err(|e| file_fault(&e))
 }
 
 // The text of what happened in the hall, in which no line is wrong.
