@@ -1,18 +1,18 @@
 -- A kick makes the first jobs ready.
-use Rattle.std.proofs.Common.{◌≡◌, ℕ, zero, suc, ◌+◌, ◌<◌, ◌≤◌, Bool, true, false, cond, ◌&&◌, inl, inr, List, [], ◌∷◌, map, filter, length, None, Some, IfSome, is_some, ◌==◌, nat_lt, refl, sym, ap, ap₂, ◌∙◌, arith, eq-eqb, ne_eqb, lt-ltb, le-ltb}
-use Rattle.std.proofs.lemmas.Bool.{cases_eq, cases_lt, cond-true, cond-false, and_parts, and_from, both_ways}
+use Rattle.std.proofs.Common.{◌≡◌, ℕ, zero, suc, Bool, true, false, cond, ◌&&◌, inl, inr, List, [], ◌∷◌, map, None, Some, IfSome, ◌==◌, nat_lt, refl, sym, ap, ap₂, ◌∙◌, arith, eq-eqb, ne_eqb, lt-ltb, le-ltb}
+use Rattle.std.proofs.lemmas.Bool.{cases_eq, cases_lt, cond-true, cond-false, and_parts, and_from}
 use Rattle.std.specs.List.{list_any}
 use Rattle.object.specs.Lists.{In}
 use Rattle.job_store.specs.declared.job.Job.{Job}
 use Rattle.job_store.specs.declared.state.State.{State}
-use Rattle.job_store.specs.Entries.{Rising, altered}
+use Rattle.job_store.specs.Entries.{Rising}
 use Rattle.job_store.specs.EntryLaws.{Rising-altered}
 use Rattle.job_store.specs.Least.{ComesBefore, comes_before, IsLeast, least}
 use Rattle.job_store.specs.LookUps.{buried_in, delayed_in, due_of_job, rank_of_job, first_buried, first_delayed}
 use Rattle.job_store.specs.States.{with_state}
 use Rattle.job_store.proofs.Least.{before, passes_before, least-found, same_entry}
 use Rattle.bean_queue.specs.Queue.{QueueState, HasRisingIds, used_by, with_jobs}
-use Rattle.bean_queue.specs.Rows.{Kicked, kicked_option, kicked, kick_by, kick_row}
+use Rattle.bean_queue.specs.Rows.{kicked_option, kicked, kick_row}
 use Rattle.bean_queue.specs.Kicking.{passing_before, is_among_first, with_first_ready, after_kick}
 use Rattle.bean_queue.specs.TurnLaws.{least-none}
 use Rattle.bean_queue.proofs.KickCount.{made_ready, none-count, one-less, is_some-least}

@@ -8,7 +8,7 @@ use Rattle.object.specs.declared.command.Key.{Key}
 use Rattle.job_store.specs.declared.job.Job.{Job}
 use Rattle.job_store.specs.declared.state.State.{State}
 use Rattle.job_store.specs.Entries.{Rising, value_at, with_value, altered}
-use Rattle.job_store.specs.EntryLaws.{value_at-here, value_at-next, value_at-In, value_at-insert, value_at-altered_same, altered-in, altered-none, altered-back, key_from}
+use Rattle.job_store.specs.EntryLaws.{value_at-here, value_at-next, value_at-In, value_at-insert, value_at-altered_same, altered-in, altered-none, altered-back}
 use Rattle.job_store.specs.Least.{lesser, least}
 use Rattle.job_store.specs.LookUps.{is_among, ready_in, best_ready, pri_of_job, not_paused}
 use Rattle.job_store.specs.States.{is_ready, with_state}
@@ -24,7 +24,7 @@ use Rattle.bean_queue.specs.TurnLaws.{least-none, none-least, best_ready-in}
 use Rattle.bean_queue.specs.Effects.{then_do, called, own_outcome, is_zero, turned_away, carried_out}
 use Rattle.bean_queue.specs.Reserving.{is_reserve, wake_outcome, IsTaken, best_for, ranked, taken, answered, refusal, refused_by, reserved_by, reserve_outcome}
 use Rattle.bean_queue.proofs.Paused.{open-watched, watched-open}
-use Rattle.bean_queue.proofs.Calm.{IsCalmer, calm, changed-calmer, called-calm, no-turn, serve-none}
+use Rattle.bean_queue.proofs.Calm.{calm, changed-calmer, called-calm, no-turn, serve-none}
 use Rattle.bean_queue.proofs.Served.{idle_none, turns-unroll, serves}
 
 -- Of some sessions one is changed, and it alone matters

@@ -1,5 +1,5 @@
 -- The tubes that an operation wakes cover all that can be given after it.
-use Rattle.std.proofs.Common.{◌≡◌, ℕ, zero, suc, ◌+◌, ◌^◌, Bool, true, false, cond, ◌&&◌, ◌⊎◌, inl, inr, List, [], ◌∷◌, ◌++◌, Option, Some, None, IfSome, is_some, ◌==◌, bytes_eq, unwrap_or, refl, sym, ap, subst, ◌∙◌, eqb-true, true≢false}
+use Rattle.std.proofs.Common.{◌≡◌, ℕ, zero, suc, ◌+◌, ◌^◌, Bool, true, false, cond, ◌&&◌, ◌⊎◌, inl, inr, List, [], ◌∷◌, ◌++◌, Option, Some, None, IfSome, is_some, ◌==◌, bytes_eq, refl, sym, ap, subst, ◌∙◌, eqb-true, true≢false}
 use Rattle.std.proofs.lemmas.Bool.{and_parts, and_from}
 use Rattle.std.proofs.lemmas.Slice.Eq.{bytes_eq-Decides}
 use Rattle.object.specs.Lists.{In}
@@ -14,23 +14,22 @@ use Rattle.job_store.specs.States.{is_ready, is_held, is_buried, is_delayed, wit
 use Rattle.job_store.proofs.Least.{among-member}
 use Rattle.job_store.proofs.Shelving.{in-front, in-last}
 use Rattle.session_store.specs.declared.session.SessionState.{SessionState}
-use Rattle.session_store.specs.declared.session.Wait.{Wait}
-use Rattle.session_store.specs.Sessions.{session_of, new_session, with_wait, is_waiting}
+use Rattle.session_store.specs.Sessions.{is_waiting}
 use Rattle.session_store.specs.WatchLists.{joined}
 use Rattle.pause_store.specs.Pauses.{is_paused, paused_for, tubes_over}
 use Rattle.pause_store.proofs.OneTube.{others, goes-on-or-over}
 use Rattle.bean_queue.specs.declared.op.Op.{Op}
 use Rattle.bean_queue.specs.declared.reply.Reply.{Reply}
 use Rattle.bean_queue.specs.Best.{IsWanted}
-use Rattle.bean_queue.specs.Queue.{QueueState, paused_tubes, pauses_of, used_by, watched_by}
-use Rattle.bean_queue.specs.Rows.{Row, kicked, kicked_option, put_job, ready_after, time_out, is_job_that, is_idle, row, put_row, reserve_row, release_row, kick_row, kick_job_row, pause_row, all_tubes}
+use Rattle.bean_queue.specs.Queue.{QueueState, paused_tubes, pauses_of, used_by}
+use Rattle.bean_queue.specs.Rows.{Row, kicked, kicked_option, put_job, ready_after, is_job_that, is_idle, row, put_row, release_row, kick_row, kick_job_row, pause_row, all_tubes}
 use Rattle.bean_queue.specs.Turns.{QueueTurn, IsTurn, given, serve_turn}
 use Rattle.bean_queue.specs.TurnLaws.{IsServed, serve_turn-is, least-none, least-in, IfSome-map}
-use Rattle.bean_queue.specs.Effects.{called, released, at_second, is_quiet}
+use Rattle.bean_queue.specs.Effects.{released, at_second, is_quiet}
 use Rattle.bean_queue.specs.Reserving.{is_reserve}
 use Rattle.bean_queue.specs.Woken.{Covers, AreWoken, tube_of, woken_by}
 use Rattle.bean_queue.proofs.Paused.{watched-open}
-use Rattle.bean_queue.proofs.Calm.{IsCalmer, was-open, changed-calmer, ended-calmer, called-calm}
+use Rattle.bean_queue.proofs.Calm.{IsCalmer, was-open, changed-calmer, ended-calmer}
 use Rattle.bean_queue.proofs.Served.{idle_none}
 
 -- Where nothing is left to give

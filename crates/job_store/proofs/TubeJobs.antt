@@ -1,8 +1,6 @@
 -- Which tubes have jobs, by the shelves.
-use Rattle.std.proofs.Common.{◌≡◌, ℕ, Bool, true, false, cond, ◌||◌, ◌&&◌, ◌⊎◌, inl, inr, List, [], ◌∷◌, Option, Some, None, IfSome, IfNone, is_some, unwrap_or, bytes_eq, Bor, refl, sym, ap, subst, ◌∙◌, true≢false}
-use Rattle.std.proofs.lemmas.Bool.{or_cases, or_left, or_right, and_parts, and_from}
-use Rattle.std.proofs.lemmas.Slice.Eq.{bytes_eq-Decides}
-use Rattle.std.specs.List.{list_any}
+use Rattle.std.proofs.Common.{◌≡◌, ℕ, Bool, true, false, cond, ◌&&◌, ◌⊎◌, inl, inr, List, [], ◌∷◌, Option, Some, None, IfSome, IfNone, is_some, unwrap_or, bytes_eq, Bor, refl, sym, ap, ◌∙◌, true≢false}
+use Rattle.std.proofs.lemmas.Bool.{or_cases, or_left, or_right, and_parts}
 use Rattle.std.specs.Map.{keys_of, lookup}
 use Rattle.std.specs.BTreeMap.{is_at}
 use Rattle.object.specs.Lists.{In}
@@ -13,10 +11,10 @@ use Rattle.job_store.specs.declared.label.Label.{Label}
 use Rattle.job_store.specs.declared.shelves.Shelves.{Shelves}
 use Rattle.job_store.specs.States.{is_ready, is_delayed, is_buried, is_reserved}
 use Rattle.job_store.specs.Least.{IsLeast, NonePasses}
-use Rattle.job_store.specs.LookUps.{ready_in, delayed_in, buried_in, reserved_in, is_in, has_jobs, is_among}
+use Rattle.job_store.specs.LookUps.{ready_in, delayed_in, buried_in, reserved_in, is_in, has_jobs}
 use Rattle.job_store.specs.Racks.{name_cmp}
 use Rattle.job_store.specs.ShelfStates.{ShelfState, bare}
-use Rattle.job_store.specs.Shelves.{belongs, number, places, HavePlaces}
+use Rattle.job_store.specs.Shelves.{number, HavePlaces}
 use Rattle.job_store.proofs.NameSets.{at-name}
 use Rattle.job_store.proofs.Shelving.{nothing}
 use Rattle.job_store.proofs.Readiness.{ready-test}

@@ -1,6 +1,5 @@
-use Rattle.std.proofs.Common.{◌≡◌, ◌⊎◌, true, [], ◌∷◌, rules, inl, inr, ap}
+use Rattle.std.proofs.Common.{◌≡◌, true, [], ◌∷◌, rules, ap}
 use Rattle.std.specs.Map.{keys_of}
-use Rattle.object.specs.Lists.{In}
 use Rattle.job_store.specs.LookUps.{has_jobs}
 use Rattle.job_store.proofs.NameSets.{none-added, one-added, all-added, only-then}
 use Rattle.job_store.proofs.jobs.add_shelved.Goals as goal

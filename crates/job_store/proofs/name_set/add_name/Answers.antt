@@ -1,4 +1,4 @@
-use Rattle.std.proofs.Common.{ℕ, List, ◌⊎◌, ◌≡◌, ◌∙◌, inl, inr, sym, subst}
+use Rattle.std.proofs.Common.{◌⊎◌, ◌≡◌, ◌∙◌, inl, inr, sym, subst}
 use Rattle.object.specs.Lists.{In}
 use Rattle.job_store.proofs.NameSets.{from-insert, to-insert, found-in}
 use Rattle.job_store.proofs.name_set.add_name.Goals as goal

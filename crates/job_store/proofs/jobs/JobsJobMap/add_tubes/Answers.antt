@@ -1,4 +1,4 @@
-use Rattle.std.proofs.Common.{◌≡◌, ◌⊎◌, ℕ, List, true, inl, inr, subst, ap}
+use Rattle.std.proofs.Common.{◌≡◌, true, inl, inr, subst, ap}
 use Rattle.std.proofs.lemmas.Result.{on_ok_weaker}
 use Rattle.object.specs.Lists.{In}
 use Rattle.job_store.specs.LookUps.{has_jobs}
