@@ -22,7 +22,7 @@ use Rattle.bean_queue.specs.Rows.{row, reserve_row, time_out, waiting}
 use Rattle.bean_queue.specs.Turns.{QueueOutcome, stop, after_turn, after_option, all_turns, wanted, next_job, given, give, give_to, serve_turn, serve}
 use Rattle.bean_queue.specs.TurnLaws.{least-none, none-least, best_ready-in}
 use Rattle.bean_queue.specs.Effects.{then_do, called, own_outcome, is_zero, turned_away, carried_out}
-use Rattle.bean_queue.specs.Reserving.{is_reserve, wake_outcome, IsTaken, best_for, ranked, taken, answered, refusal, refused_by, reserved_by, reserve_outcome}
+use Rattle.bean_queue.specs.Reserving.{is_reserve, wake_outcome, IsTaken, best_for, with_next_rank, taken, outcome_with, denial, refused_by, reserved_by, reserve_outcome}
 use Rattle.bean_queue.proofs.Paused.{open-watched, watched-open}
 use Rattle.bean_queue.proofs.Calm.{calm, changed-calmer, called-calm, no-turn, serve-none}
 use Rattle.bean_queue.proofs.Served.{idle_none, turns-unroll, serves}
@@ -168,7 +168,7 @@ module _ (key : Key) (seconds : Option ℕ) (s : QueueState) (c : SessionState) 
     unfolding given
     answer-is = refl
 
-    serve-is : serve waits ≡ answered key (taken s key.session j) (Reply.Reserved j.0 j.1.body)
+    serve-is : serve waits ≡ outcome_with key (taken s key.session j) (Reply.Reserved j.0 j.1.body)
     unfolding serve
     serve-is =
         turns-unroll serve_turn serves waits ∙ ap (after_option (all_turns serve_turn) waits) turn-is ∙
@@ -199,14 +199,14 @@ module _ (key : Key) (seconds : Option ℕ) (s : QueueState) (c : SessionState) 
     still-waits : is_waiting (session_of key.session waits.sessions) ≡ true
     still-waits = ap (λ o. is_waiting (unwrap_or o new_session)) (value_at-altered_same key.session (with_wait (Some its_wait)) s.sessions c there)
 
-    turned : turned_away (Op.Reserve seconds) key waits ≡ refused_by key seconds s (refusal s key.session seconds)
+    turned : turned_away (Op.Reserve seconds) key waits ≡ refused_by key seconds s (denial s key.session seconds)
     unfolding turned_away
     turned =
         cond-true (is_waiting (session_of key.session waits.sessions)) _ (stop waits) still-waits ∙
-        elim (holds_by key.session (s.now + 1) s.jobs) as (λ b. cond b (answered key (with_sessions waits (with_wait_ended key.session waits.sessions)) Reply.DeadlineSoon) (cond (is_zero seconds) (answered key (with_sessions waits (with_wait_ended key.session waits.sessions)) Reply.TimedOut) (stop waits)) ≡ refused_by key seconds s (cond b (Some Reply.DeadlineSoon) (cond (is_zero seconds) (Some Reply.TimedOut) None))) [
-          | true ↦ ap (λ sessions. answered key (with_sessions (ranked s) sessions) Reply.DeadlineSoon) sessions-back
-          | false ↦ elim (is_zero seconds) as (λ b. cond b (answered key (with_sessions waits (with_wait_ended key.session waits.sessions)) Reply.TimedOut) (stop waits) ≡ refused_by key seconds s (cond b (Some Reply.TimedOut) None)) [
-            | true ↦ ap (λ sessions. answered key (with_sessions (ranked s) sessions) Reply.TimedOut) sessions-back
+        elim (holds_by key.session (s.now + 1) s.jobs) as (λ b. cond b (outcome_with key (with_sessions waits (with_wait_ended key.session waits.sessions)) Reply.DeadlineSoon) (cond (is_zero seconds) (outcome_with key (with_sessions waits (with_wait_ended key.session waits.sessions)) Reply.TimedOut) (stop waits)) ≡ refused_by key seconds s (cond b (Some Reply.DeadlineSoon) (cond (is_zero seconds) (Some Reply.TimedOut) None))) [
+          | true ↦ ap (λ sessions. outcome_with key (with_sessions (with_next_rank s) sessions) Reply.DeadlineSoon) sessions-back
+          | false ↦ elim (is_zero seconds) as (λ b. cond b (outcome_with key (with_sessions waits (with_wait_ended key.session waits.sessions)) Reply.TimedOut) (stop waits) ≡ refused_by key seconds s (cond b (Some Reply.TimedOut) None)) [
+            | true ↦ ap (λ sessions. outcome_with key (with_sessions (with_next_rank s) sessions) Reply.TimedOut) sessions-back
             | false ↦ refl
           ]
         ]

@@ -29,8 +29,8 @@ abbrev pub best_for : QueueState → ℕ → Option (ℕ × Job)
 best_for s x = best_ready (not_paused (paused_tubes s) (watched_by s x)) s.jobs
 
 -- a rank is given
-abbrev pub ranked : QueueState → QueueState
-ranked s = record s { next_rank = s.next_rank + 1 }
+abbrev pub with_next_rank : QueueState → QueueState
+with_next_rank s = record s { next_rank = s.next_rank + 1 }
 
 -- session x has the job until its time to run is over, and a rank is given
 abbrev pub taken : QueueState → ℕ → ℕ × Job → QueueState
@@ -40,12 +40,12 @@ taken s x j = record s {
 }
 
 -- this state, and this reply to the reserve
-abbrev pub answered : Key → QueueState → Reply → QueueOutcome
-answered key s reply = record { state = s; answers = record { to = key; reply = reply } ∷ [] }
+abbrev pub outcome_with : Key → QueueState → Reply → QueueOutcome
+outcome_with key s reply = record { state = s; answers = record { to = key; reply = reply } ∷ [] }
 
 -- what session x is told where it gets no job, if it may not wait
-abbrev pub refusal : QueueState → ℕ → Option ℕ → Option Reply
-refusal s x seconds =
+abbrev pub denial : QueueState → ℕ → Option ℕ → Option Reply
+denial s x seconds =
     if holds_by x (s.now + 1) s.jobs
     then Some Reply.DeadlineSoon
     else (if is_zero seconds then Some Reply.TimedOut else None)
@@ -53,12 +53,12 @@ refusal s x seconds =
 -- the session is told so, or waits
 abbrev pub refused_by : Key → Option ℕ → QueueState → Option Reply → QueueOutcome
 refused_by key seconds s None = stop (waiting s key.session key.number seconds)
-refused_by key seconds s (Some reply) = answered key (ranked s) reply
+refused_by key seconds s (Some reply) = outcome_with key (with_next_rank s) reply
 
 -- the session gets the job that there may be
 abbrev pub reserved_by : Key → Option ℕ → QueueState → Option (ℕ × Job) → QueueOutcome
-reserved_by key seconds s None = refused_by key seconds s (refusal s key.session seconds)
-reserved_by key seconds s (Some j) = answered key (taken s key.session j) (Reply.Reserved j.0 j.1.body)
+reserved_by key seconds s None = refused_by key seconds s (denial s key.session seconds)
+reserved_by key seconds s (Some j) = outcome_with key (taken s key.session j) (Reply.Reserved j.0 j.1.body)
 
 -- the session gets the best job for it; where there is none, it is told that it may not wait, or waits
 unfoldable pub reserve_outcome : Key → Option ℕ → QueueState → QueueOutcome

@@ -4,7 +4,7 @@ ghost use Rattle.session_store.specs.Sessions.{with_wait_ended};
 ghost use Rattle.bean_queue.specs.Queue.{with_sessions};
 ghost use Rattle.bean_queue.specs.Rows.{time_out, waiting};
 ghost use Rattle.bean_queue.specs.Effects.{ends_wait};
-ghost use Rattle.bean_queue.specs.Reserving.{best_for, taken, ranked, refusal, reserve_outcome, IsTaken};
+ghost use Rattle.bean_queue.specs.Reserving.{best_for, taken, with_next_rank, denial, reserve_outcome, IsTaken};
 
 use crate::deadlines::holds_by;
 use crate::logic::Logic;
@@ -68,8 +68,8 @@ impl<M: JobMap> Logic<M> {
     }
 
     /// What a session that gets no job is told, if it may not wait.
-    fn refusal(&self, session: u32, seconds: Option<u32>) -> Option<Reply>
-        ensures { result ≡ refusal self.now.now session seconds }
+    fn denial(&self, session: u32, seconds: Option<u32>) -> Option<Reply>
+        ensures { result ≡ denial self.now.now session seconds }
     {
         let second = self.counters.now + 1;
         if holds_by(self.jobs.map(), session, second) {
@@ -119,7 +119,7 @@ impl<M: JobMap> Logic<M> {
         if self.take_best(key, answers)? {
             return Ok(());
         }
-        let Some(reply) = self.refusal(key.session, seconds) else {
+        let Some(reply) = self.denial(key.session, seconds) else {
             return self.begin_wait(key, seconds);
         };
         answers.push(Answer { to: key, reply })?;
