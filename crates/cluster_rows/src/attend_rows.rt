@@ -1,5 +1,5 @@
 //! A client's session ends as it is told to have ended. No node has a thread here, and none is needed.
-ghost use Rattle.std.specs.Prelude.{◌≡◌, ◌×◌};
+ghost use Rattle.std.specs.Prelude.{◌≡◌};
 
 use crate::faults::Nothing;
 use crate::gates::{HoldsDesk, SeesPieces};

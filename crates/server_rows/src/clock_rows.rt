@@ -91,10 +91,10 @@ fn a_pause_of_three_seconds_is_three_of_the_clock(rt: HostRuntime) -> Result<(),
     Ok(())
 }
 
-/// Ten seconds are to lie between two replies, give or take half of one; that is tried so often at most.
-const TEN: Duration = Duration::from_secs(10);
+/// So many milliseconds are to lie between two replies, at least and at most; that is tried so often.
+const SHORTEST: u64 = 9_500;
 
-const HALF: Duration = Duration::from_millis(500);
+const LONGEST: u64 = 10_500;
 
 const TRIES: u32 = 3;
 
@@ -115,7 +115,7 @@ fn are_ten<H: Host>(rt: &H, port: u16) -> Option<bool> {
     let mut client = Client::connect(rt, port)?;
     for _ in 0..TRIES {
         let took = ten_seconds(rt, &mut client)?;
-        if took + HALF >= TEN && took <= TEN + HALF {
+        if took >= Duration::from_millis(SHORTEST) && took <= Duration::from_millis(LONGEST) {
             return Some(true);
         }
     }
