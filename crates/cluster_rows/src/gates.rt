@@ -267,8 +267,8 @@ impl HoldsDesk {
     /// From now on the node is held at which the worker hands in that asked last: worker k at node 1 + k mod N of N nodes.
     pub fn hold_node_of_last_worker(&self) {
         let worker = self.last.load(Ordering::SeqCst);
-        let node = 1 + worker % u64::from(self.nodes);
-        self.held.store(node, Ordering::SeqCst);
+        let before = worker.checked_rem(u64::from(self.nodes)).unwrap_or(0);
+        self.held.store(before.saturating_add(1), Ordering::SeqCst);
     }
 
     /// It goes on.

@@ -109,11 +109,9 @@ fn read_mail(hall: &mut Hall<Queue>, node: u8) -> Result<bool, HallError> {
 }
 
 /// Whether the node leads, once all letters were read: then it has nothing to say where it is to wake.
-fn leads(hall: &mut Hall<Queue>, node: u8) -> Result<bool, HallError> {
-    read_all(hall)?;
-    let has_mail = hall.has_mail(node);
-    hall.wake(node)?;
-    Ok(!has_mail && !hall.has_mail(node))
+fn leads(hall: &mut Hall<Queue>, node: u8) -> bool {
+    let has_read = read_all(hall).is_ok() && !hall.has_mail(node);
+    has_read && hall.wake(node).is_ok() && !hall.has_mail(node)
 }
 
 /// Whether so many nodes and workers serve all clients, and the first node leads then, which woke at the start.
@@ -140,9 +138,9 @@ fn goes_on_to_lead<R: Threads + Wait + Sync + Abort + Clock + Files + AllocGloba
         ),
         || work(rt, alloc, clients, &is_stopped),
     );
+    let worked = worked?;
     let mut ended = ended?;
-    let leads = leads(&mut ended.hall, 1).map_err(|_| "a call was refused")?;
-    Ok(worked? && ended.fault.is_none() && leads)
+    Ok(worked && ended.fault.is_none() && leads(&mut ended.hall, 1))
 }
 
 // Tried: where each second counts, as it comes, another node wakes and leads.

@@ -75,8 +75,9 @@ fn are_answered<R: Threads + Wait + Sync + Abort + Clock + Files + AllocGlobal>(
             is_fair
         },
     );
+    let is_fair = is_fair?;
     let ended: Ended<Queue, Queued<Writing<PipeWriter>>> = ended?;
-    Ok(is_fair? && ended.fault.is_none())
+    Ok(is_fair && ended.fault.is_none())
 }
 
 // Tried: where a node overlooks the last node's mail, where of several clients that were answered one worker is woken, or

@@ -1,9 +1,9 @@
 //! A queue with many jobs, and what its commands cost, for `bench/queue_growth`.
 //!
 //! It reads one line: `timed`, where it is to tell the processor time, or another word; how many jobs there are; and
-//! which measures it takes, as `timed 10000 serve beside paused release touch list`. Each measure has a queue of its own.
-//! `watch`, `names` and `deadlines`, which `bench/queue_growth` doesn't take, are as large however many jobs there are. It
-//! writes a line after each part.
+//! which measures it takes, as `timed 10000 serve beside paused release touch watch`. Each measure has a queue of its own, and
+//! `watch`, which `bench/queue_growth` doesn't take, has a thousand tubes, however many jobs there are. It writes a line after
+//! each part.
 #![tactic(auto)]
 
 mod clients;
@@ -12,9 +12,7 @@ mod measures;
 
 use crate::clients::Clients;
 use crate::marks::Marks;
-use crate::measures::{
-    deadlines, list, names, release, serve, serve_beside, serve_watching, touch, watch,
-};
+use crate::measures::{release, serve, serve_beside, touch, watch};
 use std::process::ExitCode;
 
 fn main(rt: HostRuntime) -> ExitCode {
@@ -41,11 +39,6 @@ fn run(rt: &HostRuntime) -> Option<()> {
             "release" => release(rt, marks, &mut clients, jobs)?,
             "touch" => touch(rt, marks, &mut clients, jobs)?,
             "watch" => watch(rt, marks, &mut clients)?,
-            "watching_one" => serve_watching(rt, marks, &mut clients, jobs, 0)?,
-            "watching_many" => serve_watching(rt, marks, &mut clients, jobs, 999)?,
-            "list" => list(rt, marks, &mut clients, jobs)?,
-            "names" => names(rt, marks, &mut clients)?,
-            "deadlines" => deadlines(rt, marks, &mut clients)?,
             _ => return None,
         }
     }

@@ -26,19 +26,6 @@ const PUTTER: u32 = 2;
 /// In so many seconds all jobs that are released are ready.
 const SECONDS: u32 = 100;
 
-/// So often the tubes are listed, and a tube is paused.
-const LISTS: u32 = 1_000;
-
-/// So many sessions have a job each that is due soon. The first has this number.
-const FIRST_HOLDER: u32 = 100;
-
-const HOLDERS: u32 = 65;
-
-/// The numbered tubes that are watched at first, and those that are watched in the end.
-const FEW_NUMBERED: u32 = 256;
-
-const ALL_NUMBERED: u32 = 1_000;
-
 /// So often a job is touched in each second.
 const TOUCHES: u32 = 1_000;
 
@@ -141,85 +128,6 @@ pub fn watch(rt: &HostRuntime, marks: Marks, clients: &mut Clients) -> Option<()
         clients.expect(&Reply::Watching(u64::from(MORE_TUBES - number)))?;
     }
     marks.tell(rt, "ignored")
-}
-
-/// One session watches so many tubes, and puts, reserves and deletes a job again and again, a tenth of so many.
-pub fn serve_watching(
-    rt: &HostRuntime,
-    marks: Marks,
-    clients: &mut Clients,
-    jobs: u32,
-    more_tubes: u32,
-) -> Option<()> {
-    for number in 0..more_tubes {
-        clients.watch_other(WORKER, number)?;
-    }
-    marks.tell(rt, "watched")?;
-    for job in 0..jobs / 10 {
-        let id = u64::from(job) + 1;
-        clients.put(WORKER)?;
-        clients.expect(&Reply::Inserted(id))?;
-        clients.reserve(WORKER)?;
-        clients.expect_job(id)?;
-        clients.ask(WORKER, Op::Delete(id))?;
-        clients.expect(&Reply::Deleted)?;
-    }
-    marks.tell(rt, "served")
-}
-
-/// So many jobs, in tens, are put into ten tubes, and then the tubes are listed, and one is paused for no second, again
-/// and again. By their bytes `default` stands after `d` and before `e`.
-pub fn list(rt: &HostRuntime, marks: Marks, clients: &mut Clients, jobs: u32) -> Option<()> {
-    for letter in TUBES {
-        clients.use_tube(u32::from(letter), letter)?;
-    }
-    for _ in 0..jobs / 10 {
-        for letter in TUBES {
-            clients.put(u32::from(letter))?;
-        }
-    }
-    marks.tell(rt, "filled")?;
-    for _ in 0..LISTS {
-        clients.ask(WORKER, Op::ListTubes)?;
-        clients.expect_letters(b"abcd", b"efghij")?;
-    }
-    marks.tell(rt, "listed")?;
-    for _ in 0..LISTS {
-        clients.end_pause(WORKER, b'j')?;
-    }
-    marks.tell(rt, "paused")
-}
-
-/// One session watches 256 tubes more and lists them, and then 1,000 more than the first, and lists all tubes.
-pub fn names(rt: &HostRuntime, marks: Marks, clients: &mut Clients) -> Option<()> {
-    for number in 0..FEW_NUMBERED {
-        clients.watch_numbered(WORKER, number)?;
-    }
-    clients.ask(WORKER, Op::ListTubesWatched)?;
-    clients.expect_numbered(FEW_NUMBERED)?;
-    marks.tell(rt, "few")?;
-    for number in FEW_NUMBERED..ALL_NUMBERED {
-        clients.watch_numbered(WORKER, number)?;
-    }
-    clients.ask(WORKER, Op::ListTubes)?;
-    clients.expect_numbered(ALL_NUMBERED)?;
-    marks.tell(rt, "all")
-}
-
-/// Some sessions have a job each for ten seconds, and wait for another: a second before those are over all are told so.
-pub fn deadlines(rt: &HostRuntime, marks: Marks, clients: &mut Clients) -> Option<()> {
-    for session in FIRST_HOLDER..FIRST_HOLDER + HOLDERS {
-        clients.put_for(session, 10)?;
-        clients.reserve(session)?;
-    }
-    for session in FIRST_HOLDER..FIRST_HOLDER + HOLDERS {
-        clients.reserve(session)?;
-    }
-    clients.tick(8)?;
-    clients.expect_deadlines(FIRST_HOLDER, 0)?;
-    clients.tick(9)?;
-    clients.expect_deadlines(FIRST_HOLDER, HOLDERS as usize)?;
-    marks.tell(rt, "told")
 }
 
 // Some sessions wait, each on one of the other tubes.
