@@ -25,7 +25,6 @@ pub mod Owed
 pub mod KickCount
 pub mod KickFirst
 pub mod TubeLists
-pub mod Naming
 pub mod TubeSets
 pub mod Reserving
 pub mod Sound

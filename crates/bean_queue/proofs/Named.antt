@@ -1,30 +1,16 @@
 -- Whether list-tubes names a tube.
-use Rattle.std.proofs.Common.{◌≡◌, ℕ, Bool, true, false, ◌||◌, inl, inr, List, [], ◌∷◌, codes, bytes_eq, refl, sym, ap, ◌∙◌, true≢false}
+use Rattle.std.proofs.Common.{◌≡◌, ℕ, Bool, true, false, ◌||◌, ◌⊎◌, inl, inr, List, [], ◌∷◌, codes, bytes_eq, refl, sym, ap, subst, ◌∙◌, true≢false}
 use Rattle.std.specs.List.{list_any}
+use Rattle.std.specs.List.Sorted.{IsStrictlySortedBy}
+use Rattle.object.specs.Lists.{In}
 use Rattle.std.proofs.lemmas.Bool.{or_cases}
 use Rattle.std.proofs.lemmas.Slice.Eq.{bytes_eq-Decides}
-use Rattle.object.specs.Lists.{In}
 use Rattle.job_store.specs.LookUps.{is_among}
 use Rattle.job_store.proofs.Least.{among-member}
+use Rattle.session_store.proofs.Found.{any-in, in-any}
 use Rattle.bean_queue.specs.Queue.{QueueState}
 use Rattle.bean_queue.specs.Rows.{all_tubes, IsTube}
-use Rattle.bean_queue.proofs.TubeLists.{tubes-all}
-
-module _ {X : Type 0} (f : X → Bool) where
-  pub any-in : (xs : List X) → list_any f xs ≡ true → (x : X) × In x xs × (f x ≡ true)
-  any-in [] e = absurd (true≢false (sym e))
-  any-in (x ∷ xs) e =
-      elim (f x) as (λ b. f x ≡ b → (b || list_any f xs) ≡ true → (y : X) × In y (x ∷ xs) × (f y ≡ true)) [
-        | true ↦ λ t _. (x, inl refl, t)
-        | false ↦ λ _ e. let h = any-in xs e in (h.0, inr h.1, h.2)
-      ] refl e
-
-  pub in-any : (xs : List X) (x : X) → In x xs → f x ≡ true → list_any f xs ≡ true
-  in-any [] x i t = absurd i
-  in-any (y ∷ ys) x i t = elim i as (λ _. list_any f (y ∷ ys) ≡ true) [
-    | inl same ↦ ap (λ b. b || list_any f ys) (ap f (sym same) ∙ t)
-    | inr more ↦ elim (f y) as (λ b. (b || list_any f ys) ≡ true) [ true ↦ refl | false ↦ in-any ys x more t ]
-  ]
+use Rattle.bean_queue.proofs.TubeLists.{cmp, same-names, tubes-all, tubes-sorted}
 
 same-bytes : (x y : List ℕ) → bytes_eq x y ≡ true → x ≡ y
 same-bytes x y t = (bytes_eq-Decides x y).0 t
@@ -32,7 +18,7 @@ same-bytes x y t = (bytes_eq-Decides x y).0 t
 alike : (x y : List ℕ) → x ≡ y → bytes_eq x y ≡ true
 alike x y e = (bytes_eq-Decides x y).1 e
 
-it-is : (s : QueueState) (tube : List ℕ) → IsTube s tube → is_among tube (all_tubes s) ≡ true
+pub it-is : (s : QueueState) (tube : List ℕ) → IsTube s tube → is_among tube (all_tubes s) ≡ true
 it-is s tube is = (among-member tube (all_tubes s)).1 ((tubes-all s tube).1 is)
 
 pub by-default : (s : QueueState) (tube : List ℕ) → bytes_eq tube (codes "default") ≡ true → is_among tube (all_tubes s) ≡ true
@@ -70,3 +56,40 @@ by-rest s tube d j =
             | false ↦ λ _. refl
           ] refl
     ] refl
+
+-- a tube that is named here is one that has jobs, or that a session uses or watches
+pub named-by : (s : QueueState) (tube : List ℕ) → IsTube s tube → (tube ≡ codes "default") ⊎ (list_any (λ e. bytes_eq tube e.1.tube) s.jobs ≡ true) ⊎ (list_any (λ e. bytes_eq tube e.1.used || is_among tube e.1.watched) s.sessions ≡ true)
+named-by s tube (IsTube.default same) = inl same
+named-by s tube (IsTube.of_job k i e) = inr (inl (in-any (λ e. bytes_eq tube e.1.tube) s.jobs k i (alike tube k.1.tube e)))
+named-by s tube (IsTube.used w i e) = inr (inr (in-any (λ e. bytes_eq tube e.1.used || is_among tube e.1.watched) s.sessions w i (ap (λ b. b || is_among tube w.1.watched) (alike tube w.1.used e))))
+named-by s tube (IsTube.watched w i e) =
+    inr (inr (in-any (λ e. bytes_eq tube e.1.used || is_among tube e.1.watched) s.sessions w i (or-right (bytes_eq tube w.1.used) (is_among tube w.1.watched) ((among-member tube w.1.watched).1 e))))
+
+-- Names that are added to `default`: those of the jobs, and those of the sessions
+
+module _ (s : QueueState) (first of_jobs names : List (List ℕ)) where
+  pub all-named : first ≡ codes "default" ∷ [] →
+      ((t : List ℕ) → In t first → In t of_jobs) →
+      ((t : List ℕ) → In t of_jobs → In t first ⊎ (list_any (λ e. bytes_eq t e.1.tube) s.jobs ≡ true)) →
+      ((t : List ℕ) → list_any (λ e. bytes_eq t e.1.tube) s.jobs ≡ true → In t of_jobs) →
+      ((t : List ℕ) → In t of_jobs → In t names) →
+      ((t : List ℕ) → In t names → In t of_jobs ⊎ (list_any (λ e. bytes_eq t e.1.used || is_among t e.1.watched) s.sessions ≡ true)) →
+      ((t : List ℕ) → list_any (λ e. bytes_eq t e.1.used || is_among t e.1.watched) s.sessions ≡ true → In t names) →
+      IsStrictlySortedBy cmp names → names ≡ all_tubes s
+  all-named is kept only all kept' only' all' sorted =
+      same-names names (all_tubes s) sorted (tubes-sorted s)
+      (λ t i.
+      (among-member t (all_tubes s)).0
+      (elim (only' t i) as (λ v. is_among t (all_tubes s) ≡ true) [
+        | inr session ↦ by-session s t session
+        | inl i ↦ elim (only t i) as (λ v. is_among t (all_tubes s) ≡ true) [
+          | inr job ↦ by-job s t job
+          | inl i ↦ elim (subst (In t) is i) as (λ v. is_among t (all_tubes s) ≡ true) [ inl same ↦ it-is s t (IsTube.default same) | inr never ↦ absurd never ]
+        ]
+      ]))
+      (λ t i.
+      elim (named-by s t ((tubes-all s t).0 i)) as (λ v. In t names) [
+        | inl same ↦ kept' t (kept t (subst (In t) (sym is) (inl same)))
+        | inr (inl job) ↦ kept' t (all t job)
+        | inr (inr session) ↦ all' t session
+      ])

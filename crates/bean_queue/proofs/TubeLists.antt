@@ -1,5 +1,5 @@
 -- The list of all tubes: in order, each once, and no others.
-use Rattle.std.proofs.Common.{◌≡◌, ◌↔◌, ℕ, ◌⊎◌, inl, inr, List, [], ◌∷◌, ◌++◌, map, flat_map, fold, codes, nat_cmp, Ordering, Less, Equal, Greater, refl, ap, subst, ◌∙◌}
+use Rattle.std.proofs.Common.{◌≡◌, ◌↔◌, ℕ, ◌⊎◌, inl, inr, List, [], ◌∷◌, ◌++◌, map, flat_map, fold, codes, nat_cmp, Ordering, Less, Equal, Greater, refl, sym, ap, ap₂, subst, ◌∙◌}
 use Rattle.std.specs.Ordering.{match_ordering, ordering_reverse}
 use Rattle.std.specs.Cmp.Lexicographic.{slice_cmp}
 use Rattle.std.specs.BTreeSet.{insert_key}
@@ -156,3 +156,37 @@ lists-tube s t is = to-fold t (codes "default" ∷ tubes_of_jobs s.jobs ++ tubes
 
 pub tubes-all : (s : QueueState) (t : List ℕ) → In t (all_tubes s) ↔ IsTube s t
 tubes-all s t = (is-tube s t, lists-tube s t)
+
+-- Two lists in order that have the same names are one
+
+later-than : (x t : List ℕ) (xs : List (List ℕ)) → AllByRecursion (λ z. cmp x z ≡ Less) xs → In t xs → cmp x t ≡ Less
+later-than x t [] a i = absurd i
+later-than x t (y ∷ ys) a (inl same) = subst (λ u. cmp x u ≡ Less) (sym same) a.0
+later-than x t (y ∷ ys) a (inr later) = later-than x t ys a.1 later
+
+not-both : (x y : List ℕ) → cmp x y ≡ Less → cmp y x ≡ Less → ⊥
+not-both x y e f = let never : Less ≡ Greater = sym f ∙ nat_list_cmp_total.antisymm y x ∙ ap ordering_reverse e in cc
+
+module _ (x : List ℕ) (xs ys : List (List ℕ)) (head : AllByRecursion (λ z. cmp x z ≡ Less) xs) where
+  rest-in : ((t : List ℕ) → In t (x ∷ xs) → In t (x ∷ ys)) → (t : List ℕ) → In t xs → In t ys
+  rest-in all t i = elim (all t (inr i)) as (λ v. In t ys) [
+    | inl same ↦ let less : cmp x x ≡ Less = subst (λ u. cmp x u ≡ Less) same (later-than x t xs head i) in absurd (not-both x x less less)
+    | inr later ↦ later
+  ]
+
+same-heads : (x y : List ℕ) (xs ys : List (List ℕ)) → AllByRecursion (λ z. cmp x z ≡ Less) xs → AllByRecursion (λ z. cmp y z ≡ Less) ys → In x (y ∷ ys) → In y (x ∷ xs) → x ≡ y
+same-heads x y xs ys hx hy (inl same) j = same
+same-heads x y xs ys hx hy (inr later) (inl same) = sym same
+same-heads x y xs ys hx hy (inr later) (inr earlier) = absurd (not-both x y (later-than x y xs hx earlier) (later-than y x ys hy later))
+
+pub same-names : (xs ys : List (List ℕ)) → IsStrictlySortedBy cmp xs → IsStrictlySortedBy cmp ys → ((t : List ℕ) → In t xs → In t ys) → ((t : List ℕ) → In t ys → In t xs) → xs ≡ ys
+unfolding IsStrictlySortedBy
+same-names [] [] s s' to from = refl
+same-names [] (y ∷ ys) s s' to from = absurd (from y (inl refl))
+same-names (x ∷ xs) [] s s' to from = absurd (to x (inl refl))
+same-names (x ∷ xs) (y ∷ ys) s s' to from =
+    let same : x ≡ y = same-heads x y xs ys s.0 s'.0 (to x (inl refl)) (from y (inl refl)) in
+    ap₂ (λ z zs. z ∷ zs) same
+    (same-names xs ys s.1 s'.1
+    (rest-in x xs ys s.0 (λ t i. subst (λ z. In t (z ∷ ys)) (sym same) (to t i)))
+    (rest-in x ys xs (subst (λ u. AllByRecursion (λ z. cmp u z ≡ Less) ys) (sym same) s'.0) (λ t i. from t (subst (λ z. In t (z ∷ ys)) same i))))

@@ -1,6 +1,6 @@
 -- The least of what a list gives.
-use Rattle.std.proofs.Common.{◌≡◌, ℕ, Bool, true, false, cond, inl, inr, List, [], ◌∷◌, Option, Some, None, IfSome, IfNone, filter, filter_map, refl, sym, ap, subst, ◌∙◌}
-use Rattle.std.specs.List.{cons_option}
+use Rattle.std.proofs.Common.{◌≡◌, ℕ, Bool, true, false, true≢false, ◌||◌, cond, inl, inr, List, [], ◌∷◌, Option, Some, None, IfSome, IfNone, filter, filter_map, refl, sym, ap, subst, ◌∙◌}
+use Rattle.std.specs.List.{cons_option, list_any}
 use Rattle.object.specs.Lists.{In}
 use Rattle.job_store.specs.Entries.{Rising}
 use Rattle.job_store.specs.Least.{IsLeast, NonePasses, first_of, least}
@@ -69,3 +69,21 @@ pub filtered-in : {A : Type 0} (test : A → Bool) (a : A) (xs : List A) → In 
 filtered-in test a [] i e = absurd i
 filtered-in test a (x ∷ xs) (inl same) e = rw (ap test (sym same) ∙ e) (inl same)
 filtered-in test a (x ∷ xs) (inr later) e = elim (test x) as (λ b. In a (cond b (x ∷ filter test xs) (filter test xs))) [ true ↦ inr (filtered-in test a xs later e) | false ↦ filtered-in test a xs later e ]
+
+-- One of a list that passes a test
+
+module _ {X : Type 0} (f : X → Bool) where
+  pub any-in : (xs : List X) → list_any f xs ≡ true → (x : X) × In x xs × (f x ≡ true)
+  any-in [] e = absurd (true≢false (sym e))
+  any-in (x ∷ xs) e =
+      elim (f x) as (λ b. f x ≡ b → (b || list_any f xs) ≡ true → (y : X) × In y (x ∷ xs) × (f y ≡ true)) [
+        | true ↦ λ t _. (x, inl refl, t)
+        | false ↦ λ _ e. let h = any-in xs e in (h.0, inr h.1, h.2)
+      ] refl e
+
+  pub in-any : (xs : List X) (x : X) → In x xs → f x ≡ true → list_any f xs ≡ true
+  in-any [] x i t = absurd i
+  in-any (y ∷ ys) x i t = elim i as (λ _. list_any f (y ∷ ys) ≡ true) [
+    | inl same ↦ ap (λ b. b || list_any f ys) (ap f (sym same) ∙ t)
+    | inr more ↦ elim (f y) as (λ b. (b || list_any f ys) ≡ true) [ true ↦ refl | false ↦ in-any ys x more t ]
+  ]

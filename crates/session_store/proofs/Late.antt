@@ -16,7 +16,8 @@ use Rattle.session_store.specs.declared.place.LinePlace.{LinePlace}
 use Rattle.session_store.specs.declared.time_outs.TimeOuts.{TimeOuts}
 use Rattle.session_store.specs.Sessions.{new_session, session_of, is_waiting, wait_rank, has_timed_out, first_waiting}
 use Rattle.session_store.specs.Lines.{line_cmp, place, IsIn, time_out_place, places_by, StandsByTimeOut, EachStands, over_at}
-use Rattle.session_store.proofs.Places.{in_keys, stays_but, some_place}
+use Rattle.session_store.proofs.TubeSets.{stays_but}
+use Rattle.session_store.proofs.Places.{same_place, in_keys, some_place}
 use Rattle.session_store.proofs.Found.{least_alike, mapped-in, mapped-from, filtered-in}
 
 pub some_entry : (d e : ℕ × SessionState) → Some d ≡ Some e → d ≡ e
@@ -97,7 +98,7 @@ late-left x k time_outs time_outs' sessions r whose gone updates h =
     elim (time_out_place e.0 e.1.wait) as (λ o. time_out_place e.0 e.1.wait ≡ o → IfSome o (IsIn time_outs.line) → IfSome o (IsIn time_outs'.line)) [
       | None ↦ λ _ _. tt
       | Some p ↦ λ at there.
-          stays_but k p time_outs.line time_outs'.line (updates p)
+          stays_but line_cmp same_place k p time_outs.line time_outs'.line (updates p)
           (λ same.
           let who : e.0 ≡ x = sym (time_out_place-of e.0 e.1.wait p at) ∙ ap (λ (q : LinePlace). q.session) (sym same) ∙ whose in
           let found : value_at x sessions ≡ Some e.1 = ap (λ q. value_at q sessions) (sym who) ∙ value_at-In 0 (2 ^ 32) sessions e r i in

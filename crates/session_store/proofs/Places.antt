@@ -38,16 +38,6 @@ in_keys p (k ∷ ks) e =
       | inr later ↦ inr (in_keys p ks later)
     ]
 
--- a place stays in a line to which one is added
-pub stays : (k p : LinePlace) (line line' : BTreeSet LinePlace) → contains line_cmp line' p ≡ cond (is_at (line_cmp k) p) true (contains line_cmp line p) → IsIn line p → IsIn line' p
-stays k p line line' e h = e ∙ elim (is_at (line_cmp k) p) as (λ b. cond b true (contains line_cmp line p) ≡ true) [ true ↦ refl | false ↦ h ]
-
--- and in a line from which another one is taken
-pub stays_but : (k p : LinePlace) (line line' : BTreeSet LinePlace) → contains line_cmp line' p ≡ cond (is_at (line_cmp k) p) false (contains line_cmp line p) → (k ≡ p → ⊥) → IsIn line p → IsIn line' p
-stays_but k p line line' e apart h =
-    e ∙
-    elim (is_at (line_cmp k) p) as (λ b. is_at (line_cmp k) p ≡ b → cond b false (contains line_cmp line p) ≡ true) [ true ↦ λ t. absurd (apart (same_place k p t)) | false ↦ λ t. h ] refl
-
 pub some_place : (p q : LinePlace) → Some p ≡ Some q → p ≡ q
 some_place p q e = cc
 

@@ -23,52 +23,10 @@ use Rattle.session_store.specs.declared.tube_lines.TubeLines.{TubeLines}
 use Rattle.session_store.specs.Sessions.{is_waiting, wait_rank, first_waiting}
 use Rattle.session_store.specs.Lines.{line_cmp, place, IsIn, rank_place, tube_line, StandsByTubes, EachStands, waiter_at}
 use Rattle.job_store.specs.LookUps.{is_among}
-use Rattle.session_store.proofs.Places.{at_equal, in_keys, stays, some_place}
+use Rattle.session_store.proofs.TubeSets.{found-set, no-set}
+use Rattle.session_store.proofs.Places.{in_keys, some_place}
 use Rattle.session_store.proofs.Found.{mapped-in, mapped-from}
 use Rattle.session_store.proofs.Late.{some_entry}
-
--- A line that is written
-
-same_tube : (tube t : List ℕ) → is_at (slice_cmp nat_cmp tube) t ≡ true → tube ≡ t
-same_tube tube t e = exact_bytes tube t (at_equal (slice_cmp nat_cmp tube t) e)
-
--- the line of a tube is the one that was written for it, or as it was
-written : (tube t : List ℕ) (tubes tubes' : TubeLines) (w : Option (BTreeSet LinePlace)) → get (slice_cmp nat_cmp) tubes'.lines t ≡ cond (is_at (slice_cmp nat_cmp tube) t) w (get (slice_cmp nat_cmp) tubes.lines t) → ((tube ≡ t) × (tube_line t tubes' ≡ unwrap_or w (record { keys = [] }))) ⊎ (tube_line t tubes' ≡ tube_line t tubes)
-written tube t tubes tubes' w e =
-    elim (is_at (slice_cmp nat_cmp tube) t) as (λ b. is_at (slice_cmp nat_cmp tube) t ≡ b → get (slice_cmp nat_cmp) tubes'.lines t ≡ cond b w (get (slice_cmp nat_cmp) tubes.lines t) → ((tube ≡ t) × (tube_line t tubes' ≡ unwrap_or w (record { keys = [] }))) ⊎ (tube_line t tubes' ≡ tube_line t tubes)) [
-      | true ↦ λ a e. inl (same_tube tube t a, ap (λ o. unwrap_or o (record { keys = [] })) e)
-      | false ↦ λ a e. inr (ap (λ o. unwrap_or o (record { keys = [] })) e)
-    ] refl e
-
--- what is in the line of a tube is so afterwards, if the line that is written has it
-pub line-kept : (tube t : List ℕ) (p : LinePlace) (tubes tubes' : TubeLines) (w : Option (BTreeSet LinePlace)) → get (slice_cmp nat_cmp) tubes'.lines t ≡ cond (is_at (slice_cmp nat_cmp tube) t) w (get (slice_cmp nat_cmp) tubes.lines t) → (t ≡ tube → IsIn (tube_line tube tubes) p → IsIn (unwrap_or w (record { keys = [] })) p) → IsIn (tube_line t tubes) p → IsIn (tube_line t tubes') p
-line-kept tube t p tubes tubes' w e kept h =
-    elim (written tube t tubes tubes' w e) as (λ v. IsIn (tube_line t tubes') p) [
-      | inl here ↦ subst (λ l. IsIn l p) (sym here.1) (kept (sym here.0) (subst (λ u. IsIn (tube_line u tubes) p) (sym here.0) h))
-      | inr apart ↦ subst (λ l. IsIn l p) (sym apart) h
-    ]
-
-found-line : (tube : List ℕ) (tubes : TubeLines) (line : BTreeSet LinePlace) → get (slice_cmp nat_cmp) tubes.lines tube ≡ Some line → tube_line tube tubes ≡ line
-found-line tube tubes line e = ap (λ o. unwrap_or o (record { keys = [] })) e
-
-no-line : (tube : List ℕ) (tubes : TubeLines) → get (slice_cmp nat_cmp) tubes.lines tube ≡ None → tube_line tube tubes ≡ record { keys = [] }
-no-line tube tubes e = ap (λ o. unwrap_or o (record { keys = [] })) e
-
--- the same of what is written through a reference to the line
-pub line-put : (tube t : List ℕ) (p : LinePlace) (tubes tubes' : TubeLines) (line line' : BTreeSet LinePlace) → Some line ≡ get (slice_cmp nat_cmp) tubes.lines tube → WritesThrough (slice_cmp nat_cmp) (slice_cmp nat_cmp tube) tubes.lines line' tubes'.lines → (t ≡ tube → IsIn line p → IsIn line' p) → IsIn (tube_line t tubes) p → IsIn (tube_line t tubes') p
-line-put tube t p tubes tubes' line line' value writes kept h =
-    line-kept tube t p tubes tubes' (Some line') ((writes.3 (subst (λ o. IsSome o) value refl)).0 t) (λ same old. kept same (subst (λ l. IsIn l p) (found-line tube tubes line (sym value)) old)) h
-
--- and of a line that is new
-pub line-new : (tube tube' t : List ℕ) (p : LinePlace) (tubes tubes' : TubeLines) (lines : BTreeMap (List ℕ) (BTreeSet LinePlace)) (line : BTreeSet LinePlace) → tube' ≡ tube → lines ≡ tubes.lines → get (slice_cmp nat_cmp) tubes'.lines t ≡ cond (is_at (slice_cmp nat_cmp tube') t) (Some line) (get (slice_cmp nat_cmp) lines t) → None ≡ get (slice_cmp nat_cmp) tubes.lines tube → IsIn (tube_line t tubes) p → IsIn (tube_line t tubes') p
-line-new tube tube' t p tubes tubes' lines line copied same updates none h =
-    line-kept tube t p tubes tubes' (Some line)
-    (updates ∙ ap₂ (λ n m. cond (is_at (slice_cmp nat_cmp n) t) (Some line) (get (slice_cmp nat_cmp) m t)) copied same)
-    (λ _ old. absurd (true≢false (sym (subst (λ l. IsIn l p) (no-line tube tubes (sym none)) old)))) h
-
--- nothing is in an empty line
-pub empty-line : (p : LinePlace) (line : BTreeSet LinePlace) → line.keys ≡ [] → IsIn line p → IsIn (record { keys = [] }) p
-empty-line p line none h = subst (λ ks. list_any (is_at (line_cmp p)) ks ≡ true) none h
 
 -- Who stands at a place
 
@@ -213,12 +171,12 @@ first-served tube sessions tubes r complete sorted =
 -- the same of a line that is found, and where there is none
 pub first-in-line : (tube : List ℕ) (sessions : List (ℕ × SessionState)) (tubes : TubeLines) (line : BTreeSet LinePlace) → Some line ≡ get (slice_cmp nat_cmp) tubes.lines tube → Rising 0 (2 ^ 32) sessions → EachStands (StandsByTubes tubes) sessions → IsStrictlySortedBy line_cmp line.keys → slice_get (filter_map (waiter_at tube sessions) line.keys) 0 ≡ first_waiting (λ e. is_among tube e.1.watched) sessions
 first-in-line tube sessions tubes line value r complete sorted =
-    let it : line ≡ tube_line tube tubes = sym (found-line tube tubes line (sym value)) in
+    let it : line ≡ tube_line tube tubes = sym (found-set line_cmp tube tubes.lines line (sym value)) in
     ap (λ (l : BTreeSet LinePlace). slice_get (filter_map (waiter_at tube sessions) l.keys) 0) it ∙
     first-served tube sessions tubes r complete (subst (λ (l : BTreeSet LinePlace). IsStrictlySortedBy line_cmp l.keys) it sorted)
 
 pub none-in-line : (tube : List ℕ) (sessions : List (ℕ × SessionState)) (tubes : TubeLines) → None ≡ get (slice_cmp nat_cmp) tubes.lines tube → Rising 0 (2 ^ 32) sessions → EachStands (StandsByTubes tubes) sessions → None ≡ first_waiting (λ e. is_among tube e.1.watched) sessions
-none-in-line tube sessions tubes value r complete = nobody-served tube sessions tubes r complete (ap (λ (l : BTreeSet LinePlace). slice_get (filter_map (waiter_at tube sessions) l.keys) 0) (no-line tube tubes (sym value)))
+none-in-line tube sessions tubes value r complete = nobody-served tube sessions tubes r complete (ap (λ (l : BTreeSet LinePlace). slice_get (filter_map (waiter_at tube sessions) l.keys) 0) (no-set line_cmp tube tubes.lines (sym value)))
 
 -- Places that are left
 

@@ -1,10 +1,12 @@
 -- Who stands in the lines.
-use Rattle.std.proofs.Common.{◌≡◌, ℕ, ◌<◌, true, false, cond, inl, inr, List, [], ◌∷◌, Option, Some, IfSome, refl, sym, ap, subst, ◌∙◌, eqb-true, ◌==◌, unwrap_or, not, bytes_eq, ◌++◌, ◌⊎◌, ◌+◌, length, take}
+use Rattle.std.proofs.Common.{◌≡◌, ℕ, ◌<◌, true, false, cond, codes, nat_cmp, Less, Equal, Greater, inl, inr, List, [], ◌∷◌, Option, Some, IfSome, refl, sym, ap, subst, ◌∙◌, eqb-true, ◌==◌, unwrap_or, not, bytes_eq, ◌++◌, ◌⊎◌, ◌+◌, length, take}
 use Rattle.std.proofs.lemmas.Bool.{or_cases, or_left, or_right}
 use Rattle.std.proofs.lemmas.Slice.Eq.{bytes_eq-Decides}
 use Rattle.object.specs.Lists.{In}
 use Rattle.job_store.specs.Entries.{Rising, value_at, with_value, altered, without}
-use Rattle.job_store.specs.EntryLaws.{value_at-In, altered-in, without-in, insert-in}
+use Rattle.std.specs.Ordering.{match_ordering}
+use Rattle.job_store.specs.EntryLaws.{value_at-In, altered-in, without-in}
+use Rattle.job_store.proofs.Entries.{same_number}
 use Rattle.std.proofs.Math.ListN.{get_or}
 use Rattle.std.proofs.lemmas.List.Folds.{list_any_more}
 use Rattle.session_store.proofs.Places.{some_in}
@@ -12,7 +14,8 @@ use Rattle.session_store.specs.declared.session.SessionState.{SessionState}
 use Rattle.session_store.specs.declared.session.Wait.{Wait}
 use Rattle.session_store.specs.declared.lines.Lines.{Lines}
 use Rattle.session_store.specs.Sessions.{new_session, session_of, with_wait}
-use Rattle.session_store.specs.Lines.{IsIn, time_out_place, rank_place, tube_line, StandsIn, EachStands, HasGrown}
+use Rattle.session_store.specs.Rolls.{has_tube, IsOn}
+use Rattle.session_store.specs.Lines.{IsIn, time_out_place, rank_place, tube_line, StandsByTimeOut, StandsByTubes, StandsIn, EachStands, HasGrown}
 use Rattle.session_store.specs.WatchLists.{joined, left_out}
 use Rattle.job_store.specs.LookUps.{is_among}
 
@@ -75,8 +78,30 @@ module _ (stands : ℕ × SessionState → Type 0) where
   pub each-without : (x : ℕ) (sessions sessions' : List (ℕ × SessionState)) → sessions' ≡ without x sessions → EachStands stands sessions → EachStands stands sessions'
   each-without x sessions sessions' same h = subst (EachStands stands) (sym same) (λ e i. h e (without-in x sessions e i))
 
-pub each-made : (lines : Lines) (x : ℕ) (sessions sessions' : List (ℕ × SessionState)) → sessions' ≡ with_value x new_session sessions → EachStands (StandsIn lines) sessions → EachStands (StandsIn lines) sessions'
-each-made lines x sessions sessions' same h = subst (EachStands (StandsIn lines)) (sym same) (insert-in (StandsIn lines) x new_session sessions (λ q. (tt, λ tube among. tt)) h)
+-- A session that is made
+
+made-in : (P : ℕ × SessionState → Type 0) (x : ℕ) (v : SessionState) (es : List (ℕ × SessionState)) → P (x, v) → ((d : ℕ × SessionState) → In d es → P d) → (e : ℕ × SessionState) → In e (with_value x v es) → P e
+made-in P x v [] new old e (inl same) = subst P (sym same) new
+made-in P x v [] new old e (inr never) = absurd never
+made-in P x v (d ∷ es) new old e i =
+    elim (nat_cmp x d.0) as (λ o. nat_cmp x d.0 ≡ o → In e (match_ordering o ((x, v) ∷ d ∷ es) ((d.0, v) ∷ es) (d ∷ with_value x v es)) → P e) [
+      | Less ↦ λ c i. elim i as (λ i. P e) [ inl same ↦ subst P (sym same) new | inr later ↦ old e later ]
+      | Equal ↦ λ c i. elim i as (λ i. P e) [ inl same ↦ subst P (sym same) (subst (λ q. P (q, v)) (same_number x d.0 c) new) | inr later ↦ old e (inr later) ]
+      | Greater ↦ λ c i. elim i as (λ i. P e) [ inl same ↦ old e (inl same) | inr later ↦ made-in P x v es new (λ c j. old c (inr j)) e later ]
+    ] refl i
+
+default-tube : (t : List ℕ) → has_tube t new_session ≡ true → t ≡ codes "default"
+default-tube t e =
+    elim (or_cases (bytes_eq t (codes "default")) (is_among t (codes "default" ∷ [])) e) as (λ v. t ≡ codes "default") [
+      | inl used ↦ (bytes_eq-Decides t (codes "default")).0 used
+      | inr among ↦
+          elim (or_cases (bytes_eq t (codes "default")) false among) as (λ v. t ≡ codes "default") [ inl here ↦ (bytes_eq-Decides t (codes "default")).0 here | inr never ↦ cc ]
+    ]
+
+pub each-made : (lines : Lines) (x : ℕ) (sessions sessions' : List (ℕ × SessionState)) → sessions' ≡ with_value x new_session sessions → IsOn (codes "default") lines.rolls x → EachStands (StandsIn lines) sessions → EachStands (StandsIn lines) sessions'
+each-made lines x sessions sessions' same on h =
+    subst (EachStands (StandsIn lines)) (sym same)
+    (made-in (StandsIn lines) x new_session sessions (tt, λ tube among. tt, λ t has. subst (λ u. IsOn u lines.rolls x) (sym (default-tube t has)) on) h)
 
 -- Lines that grow
 
@@ -84,26 +109,60 @@ pub stands-grown : (lines lines' : Lines) (e : ℕ × SessionState) → HasGrown
 stands-grown lines lines' e more h = (
   some_in lines.time_outs.line lines'.time_outs.line (time_out_place e.0 e.1.wait) more.0 h.0,
   λ tube among. some_in (tube_line tube lines.tubes) (tube_line tube lines'.tubes) (rank_place e.0 e.1.wait) (more.1 tube) (h.1 tube among),
+  λ tube has. more.2 tube e.0 (h.2 tube has),
 )
 
 pub each-grown : (lines lines' : Lines) (sessions : List (ℕ × SessionState)) → HasGrown lines lines' → EachStands (StandsIn lines) sessions → EachStands (StandsIn lines') sessions
 each-grown lines lines' sessions more h = λ e i. stands-grown lines lines' e more (h e i)
 
--- A session that watches other tubes
+-- A session that uses or watches other tubes
+
+has-less : (tube t : List ℕ) (c : SessionState) → has_tube t (record c { watched = left_out tube c.watched }) ≡ true → has_tube t c ≡ true
+has-less tube t c e =
+    elim (or_cases (bytes_eq t c.used) (is_among t (left_out tube c.watched)) e) as (λ v. has_tube t c ≡ true) [
+      | inl used ↦ or_left (bytes_eq t c.used) (is_among t c.watched) used
+      | inr among ↦ or_right (bytes_eq t c.used) (is_among t c.watched) (among-left_out tube t c.watched among)
+    ]
 
 pub stands-less : (lines : Lines) (x : ℕ) (tube : List ℕ) (c : SessionState) → StandsIn lines (x, c) → StandsIn lines (x, record c { watched = left_out tube c.watched })
-stands-less lines x tube c h = (h.0, λ t among. h.1 t (among-left_out tube t c.watched among))
+stands-less lines x tube c h = (h.0, λ t among. h.1 t (among-left_out tube t c.watched among), λ t has. h.2 t (has-less tube t c has))
 
-pub stands-more : (lines lines' : Lines) (x : ℕ) (tube : List ℕ) (c : SessionState) → HasGrown lines lines' → IfSome (rank_place x c.wait) (IsIn (tube_line tube lines'.tubes)) → StandsIn lines (x, c) → StandsIn lines' (x, record c { watched = joined tube c.watched })
-stands-more lines lines' x tube c more new h =
-    let grown = stands-grown lines lines' (x, c) more h in (
-      grown.0,
-      λ t among.
-          elim (among-joined tube t c.watched among) as (λ v. IfSome (rank_place x c.wait) (IsIn (tube_line t lines'.tubes))) [
-            | inl old ↦ grown.1 t old
-            | inr same ↦ subst (λ u. IfSome (rank_place x c.wait) (IsIn (tube_line u lines'.tubes))) (sym same) new
-          ],
-    )
+module _ (lines lines' : Lines) (x : ℕ) (tube : List ℕ) (c : SessionState) (more : HasGrown lines lines') (on : IsOn tube lines'.rolls x) (h : StandsIn lines (x, c)) where
+  grown : StandsIn lines' (x, c)
+  grown = stands-grown lines lines' (x, c) more h
+
+  on-too : (t : List ℕ) → t ≡ tube → IsOn t lines'.rolls x
+  on-too t same = subst (λ u. IsOn u lines'.rolls x) (sym same) on
+
+  pub stands-using : StandsIn lines' (x, record c { used = tube })
+  stands-using = (
+    grown.0,
+    grown.1,
+    λ t has.
+        elim (or_cases (bytes_eq t tube) (is_among t c.watched) has) as (λ v. IsOn t lines'.rolls x) [
+          | inl here ↦ on-too t ((bytes_eq-Decides t tube).0 here)
+          | inr among ↦ grown.2 t (or_right (bytes_eq t c.used) (is_among t c.watched) among)
+        ],
+  )
+
+  pub stands-more : IfSome (rank_place x c.wait) (IsIn (tube_line tube lines'.tubes)) → StandsIn lines' (x, record c { watched = joined tube c.watched })
+  stands-more new = (
+    grown.0,
+    λ t among.
+        elim (among-joined tube t c.watched among) as (λ v. IfSome (rank_place x c.wait) (IsIn (tube_line t lines'.tubes))) [
+          | inl old ↦ grown.1 t old
+          | inr same ↦ subst (λ u. IfSome (rank_place x c.wait) (IsIn (tube_line u lines'.tubes))) (sym same) new
+        ],
+    λ t has.
+        elim (or_cases (bytes_eq t c.used) (is_among t (joined tube c.watched)) has) as (λ v. IsOn t lines'.rolls x) [
+          | inl used ↦ grown.2 t (or_left (bytes_eq t c.used) (is_among t c.watched) used)
+          | inr among ↦
+              elim (among-joined tube t c.watched among) as (λ v. IsOn t lines'.rolls x) [
+                | inl old ↦ grown.2 t (or_right (bytes_eq t c.used) (is_among t c.watched) old)
+                | inr same ↦ on-too t same
+              ]
+        ],
+  )
 
 some_session : (c d : SessionState) → Some c ≡ Some d → c ≡ d
 some_session c d e = cc
@@ -112,14 +171,27 @@ some_session c d e = cc
 pub only-session : (x hi : ℕ) (sessions : List (ℕ × SessionState)) (c d : SessionState) → Rising 0 hi sessions → value_at x sessions ≡ Some c → In (x, d) sessions → c ≡ d
 only-session x hi sessions c d r found i = some_session c d (sym found ∙ value_at-In 0 hi sessions (x, d) r i)
 
-pub stands-again : (lines : Lines) (x hi : ℕ) (sessions : List (ℕ × SessionState)) (wait : Option Wait) (c d : SessionState) → Rising 0 hi sessions → value_at x sessions ≡ Some c → In (x, d) sessions → StandsIn lines (x, with_wait wait c) → StandsIn lines (x, with_wait wait d)
-stands-again lines x hi sessions wait c d r found i h = subst (λ s. StandsIn lines (x, with_wait wait s)) (only-session x hi sessions c d r found i) h
+-- a session that waits anew
+pub stands-again : (lines : Lines) (x hi : ℕ) (sessions : List (ℕ × SessionState)) (wait : Option Wait) (c d : SessionState) → Rising 0 hi sessions → value_at x sessions ≡ Some c → In (x, d) sessions → StandsByTimeOut lines.time_outs (x, with_wait wait c) × StandsByTubes lines.tubes (x, with_wait wait c) → StandsIn lines (x, d) → StandsIn lines (x, with_wait wait d)
+stands-again lines x hi sessions wait c d r found i waits h =
+    let new = subst (λ s. StandsByTimeOut lines.time_outs (x, with_wait wait s) × StandsByTubes lines.tubes (x, with_wait wait s)) (only-session x hi sessions c d r found i) waits in (new.0, new.1, h.2)
 
--- a session that watches one tube more stands in its line too
-pub each-watching : (lines lines' : Lines) (x hi : ℕ) (tube : List ℕ) (sessions sessions' : List (ℕ × SessionState)) → Rising 0 hi sessions → HasGrown lines lines' → IfSome (rank_place x (session_of x sessions).wait) (IsIn (tube_line tube lines'.tubes)) → sessions' ≡ altered x (λ (s : SessionState). record s { watched = joined tube s.watched }) sessions → EachStands (StandsIn lines) sessions → EachStands (StandsIn lines') sessions'
-each-watching lines lines' x hi tube sessions sessions' r more new same h =
+-- a session that uses another tube is on its roll
+pub each-using : (lines lines' : Lines) (x : ℕ) (tube : List ℕ) (sessions sessions' : List (ℕ × SessionState)) → HasGrown lines lines' → IsOn tube lines'.rolls x → sessions' ≡ altered x (λ (s : SessionState). record s { used = tube }) sessions → EachStands (StandsIn lines) sessions → EachStands (StandsIn lines') sessions'
+each-using lines lines' x tube sessions sessions' more on same h =
+    each-altered (StandsIn lines') x (λ (s : SessionState). record s { used = tube }) sessions sessions' same
+    (λ c i. stands-using lines lines' x tube c more on (h (x, c) i))
+    (each-grown lines lines' sessions more h)
+
+-- a session that watches one tube more stands in its line too, and on its roll
+pub each-watching : (lines lines' : Lines) (x hi : ℕ) (tube : List ℕ) (sessions sessions' : List (ℕ × SessionState)) → Rising 0 hi sessions → HasGrown lines lines' → IfSome (rank_place x (session_of x sessions).wait) (IsIn (tube_line tube lines'.tubes)) → IsOn tube lines'.rolls x → sessions' ≡ altered x (λ (s : SessionState). record s { watched = joined tube s.watched }) sessions → EachStands (StandsIn lines) sessions → EachStands (StandsIn lines') sessions'
+each-watching lines lines' x hi tube sessions sessions' r more new on same h =
     each-altered (StandsIn lines') x (λ (s : SessionState). record s { watched = joined tube s.watched }) sessions sessions' same
     (λ c i.
-    stands-more lines lines' x tube c more
-    (subst (λ (s : SessionState). IfSome (rank_place x s.wait) (IsIn (tube_line tube lines'.tubes))) (ap (λ o. unwrap_or o new_session) (value_at-In 0 hi sessions (x, c) r i)) new) (h (x, c) i))
+    stands-more lines lines' x tube c more on (h (x, c) i)
+    (subst (λ (s : SessionState). IfSome (rank_place x s.wait) (IsIn (tube_line tube lines'.tubes))) (ap (λ o. unwrap_or o new_session) (value_at-In 0 hi sessions (x, c) r i)) new))
     (each-grown lines lines' sessions more h)
+
+-- lines that grow twice
+pub grown-twice : (lines lines' lines'' : Lines) → HasGrown lines lines' → HasGrown lines' lines'' → HasGrown lines lines''
+grown-twice lines lines' lines'' one two = (λ p h. two.0 p (one.0 p h), λ t p h. two.1 t p (one.1 t p h), λ t x h. two.2 t x (one.2 t x h))

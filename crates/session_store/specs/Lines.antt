@@ -1,10 +1,8 @@
 -- The lines in which waiting sessions stand.
-use Rattle.std.specs.Prelude.{◌≡◌, ℕ, true, ◌&&◌, List, [], Option, None, Some, option_map, unwrap_or, IfSome, ◌==◌, if◌then◌else◌}
+use Rattle.std.specs.Prelude.{◌≡◌, ℕ, true, ◌&&◌, List, Option, None, Some, option_map, IfSome, ◌==◌, if◌then◌else◌}
 use Rattle.std.specs.declared.cmp.Ordering.{Ordering}
 use Rattle.std.specs.Ordering.{nat_cmp, ordering_then}
 use Rattle.std.specs.declared.ops.Bound.TheVariants.{Included, Unbounded}
-use Rattle.std.specs.Cmp.Lexicographic.{slice_cmp}
-use Rattle.std.specs.BTreeMap.{get}
 use Rattle.std.specs.BTreeSet.{BTreeSet, contains, keys_between}
 use Rattle.object.specs.Lists.{In}
 use Rattle.job_store.specs.Entries.{value_at}
@@ -16,6 +14,8 @@ use Rattle.session_store.specs.declared.time_outs.TimeOuts.{TimeOuts}
 use Rattle.session_store.specs.declared.tube_lines.TubeLines.{TubeLines}
 use Rattle.session_store.specs.declared.lines.Lines.{Lines}
 use Rattle.session_store.specs.Sessions.{is_waiting, wait_rank, has_timed_out}
+use Rattle.session_store.specs.TubeSets.{tube_set}
+use Rattle.session_store.specs.Rolls.{IsEnrolled, HaveAll}
 
 -- places go by their number, and then by the session's
 abbrev pub line_cmp : LinePlace → LinePlace → Ordering
@@ -44,7 +44,7 @@ rank_place x wait = option_map (λ w. place w.rank x) wait
 
 -- the line of a tube, in which nobody stands where there is none
 abbrev pub tube_line : List ℕ → TubeLines → BTreeSet LinePlace
-tube_line tube tubes = unwrap_or (get (slice_cmp nat_cmp) tubes.lines tube) (record { keys = [] })
+tube_line tube tubes = tube_set tube tubes.lines
 
 -- the session stands among the time-outs, if it waits and its wait ends
 abbrev pub StandsByTimeOut : TimeOuts → ℕ × SessionState → Type 0
@@ -54,9 +54,9 @@ StandsByTimeOut time_outs e = IfSome (time_out_place e.0 e.1.wait) (IsIn time_ou
 abbrev pub StandsByTubes : TubeLines → ℕ × SessionState → Type 0
 StandsByTubes tubes e = (tube : List ℕ) → is_among tube e.1.watched ≡ true → IfSome (rank_place e.0 e.1.wait) (IsIn (tube_line tube tubes))
 
--- the session stands in the lines wherever it waits
+-- the session stands in the lines wherever it waits, and on the rolls
 abbrev pub StandsIn : Lines → ℕ × SessionState → Type 0
-StandsIn lines e = StandsByTimeOut lines.time_outs e × StandsByTubes lines.tubes e
+StandsIn lines e = StandsByTimeOut lines.time_outs e × StandsByTubes lines.tubes e × IsEnrolled lines.rolls e
 
 -- each session stands so
 abbrev pub EachStands : (ℕ × SessionState → Type 0) → List (ℕ × SessionState) → Type 0
@@ -66,11 +66,12 @@ EachStands stands sessions = (e : ℕ × SessionState) → In e sessions → sta
 abbrev pub HasAll : BTreeSet LinePlace → BTreeSet LinePlace → Type 0
 HasAll line line' = (p : LinePlace) → IsIn line p → IsIn line' p
 
--- each line has all places that it had
+-- each line and each roll has all that it had
 abbrev pub HasGrown : Lines → Lines → Type 0
 HasGrown lines lines' =
     HasAll lines.time_outs.line lines'.time_outs.line ×
-    ((tube : List ℕ) → HasAll (tube_line tube lines.tubes) (tube_line tube lines'.tubes))
+    ((tube : List ℕ) → HasAll (tube_line tube lines.tubes) (tube_line tube lines'.tubes)) ×
+    HaveAll lines.rolls lines'.rolls
 
 -- the session at a place, if its wait is over by the second
 abbrev pub over_at : ℕ → List (ℕ × SessionState) → LinePlace → Option (ℕ × SessionState)

@@ -4,6 +4,7 @@
 mod lines;
 mod names;
 mod place;
+mod rolls;
 mod session;
 mod session_change;
 mod session_draft;

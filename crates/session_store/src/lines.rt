@@ -1,21 +1,25 @@
-ghost use Rattle.std.specs.Prelude.{◌≡◌, ◌^◌, OnOk, IfSome, option_map};
+ghost use Rattle.std.specs.Prelude.{◌≡◌, ◌^◌, ◌⊎◌, ℕ, List, true, OnOk, IfSome, option_map};
+ghost use Rattle.object.specs.Lists.{In};
 ghost use Rattle.job_store.specs.Entries.{Rising};
 ghost use Rattle.job_store.specs.LookUps.{is_among};
 ghost use Rattle.session_store.specs.Sessions.{first_waiting, has_timed_out, with_wait};
-ghost use Rattle.session_store.specs.Lines.{EachStands, HasGrown, IsIn, StandsIn, tube_line, rank_place};
+ghost use Rattle.session_store.specs.Lines.{EachStands, HasGrown, IsIn, StandsByTimeOut, StandsByTubes, StandsIn, tube_line, rank_place};
+ghost use Rattle.session_store.specs.Rolls.{IsOn, is_named};
 
+use crate::rolls::Rolls;
 use crate::session::{SessionState, Wait};
 use crate::time_outs::TimeOuts;
 use crate::tube_lines::TubeLines;
 use job_store::Name;
 use std::alloc::{AllocError, Global};
-use std::collections::BTreeMap;
+use std::collections::{BTreeMap, BTreeSet};
 
-/// The lines in which waiting sessions stand.
+/// The lines in which waiting sessions stand, and who uses or watches each tube.
 #[derive(Drop)]
 pub(crate) struct Lines {
     time_outs: TimeOuts,
     tubes: TubeLines,
+    rolls: Rolls,
 }
 
 impl Lines {
@@ -24,6 +28,7 @@ impl Lines {
         Lines {
             time_outs: TimeOuts::new(alloc),
             tubes: TubeLines::new(alloc),
+            rolls: Rolls::new(alloc),
         }
     }
 
@@ -36,7 +41,8 @@ impl Lines {
     ) -> Result<(), AllocError>
         ensures grown { HasGrown self.old self.new }
         ensures stands { OnOk result
-            (StandsIn self.new (number, with_wait wait session.now)) }
+            (StandsByTimeOut self.new.time_outs (number, with_wait wait session.now)
+            × StandsByTubes self.new.tubes (number, with_wait wait session.now)) }
     {
         self.time_outs.join(number, wait)?;
         self.tubes.join(session.watched.as_slice(), number, wait)?;
@@ -86,6 +92,65 @@ impl Lines {
             → EachStands (StandsIn self.new) sessions.now.entries }
     {
         self.tubes.leave_tube(sessions, tube, number, wait);
+    }
+
+    /// Puts a session on the roll of a tube.
+    pub fn enrol(&mut self, tube: &Name, number: u32) -> Result<(), AllocError>
+        ensures grown { HasGrown self.old self.new }
+        ensures on { OnOk result (IsOn tube.now self.new.rolls number) }
+    {
+        self.rolls.enrol(tube, number)
+    }
+
+    /// Takes a session from the roll of a tube, unless it still uses or watches that.
+    pub fn strike(&mut self, sessions: &BTreeMap<u32, SessionState>, tube: &Name, number: u32)
+        requires { Rising 0 (2 ^ 32) sessions.now.entries }
+        ensures { EachStands (StandsIn self.old) sessions.now.entries
+            → EachStands (StandsIn self.new) sessions.now.entries }
+    {
+        self.rolls.strike(sessions, tube, number);
+    }
+
+    /// Takes a session from the rolls of these tubes, unless it still uses or watches them.
+    pub fn strike_all(
+        &mut self,
+        sessions: &BTreeMap<u32, SessionState>,
+        tubes: &[Name],
+        number: u32,
+    )
+        requires { Rising 0 (2 ^ 32) sessions.now.entries }
+        ensures { EachStands (StandsIn self.old) sessions.now.entries
+            → EachStands (StandsIn self.new) sessions.now.entries }
+    {
+        for tube in tubes {
+            self.strike(sessions, tube, number);
+        }
+    }
+
+    /// Whether a session uses or watches the tube.
+    pub fn has_named(&self, sessions: &BTreeMap<u32, SessionState>, tube: &Name) -> bool
+        requires rising { Rising 0 (2 ^ 32) sessions.now.entries }
+        requires complete { EachStands (StandsIn self.now) sessions.now.entries }
+        ensures { result ≡ is_named tube.now sessions.now.entries }
+    {
+        self.rolls.has_named(sessions, tube)
+    }
+
+    /// Puts the tubes that sessions use or watch among the names.
+    pub fn add_tubes(
+        &self,
+        sessions: &BTreeMap<u32, SessionState>,
+        names: &mut BTreeSet<Name>,
+    ) -> Result<(), AllocError>
+        requires rising { Rising 0 (2 ^ 32) sessions.now.entries }
+        requires complete { EachStands (StandsIn self.now) sessions.now.entries }
+        ensures kept { (tube : List ℕ) → In tube names.old.keys → In tube names.new.keys }
+        ensures only { (tube : List ℕ) → In tube names.new.keys
+            → In tube names.old.keys ⊎ (is_named tube sessions.now.entries ≡ true) }
+        ensures all { OnOk result ((tube : List ℕ) → is_named tube sessions.now.entries ≡ true
+            → In tube names.new.keys) }
+    {
+        self.rolls.add_tubes(sessions, names)
     }
 
     /// The waiting session of the least rank that watches the tube.

@@ -1,5 +1,6 @@
 ghost use Rattle.std.specs.Prelude.{◌≡◌, ◌&&◌, IfOk};
 ghost use Rattle.job_store.specs.LookUps.{is_among};
+ghost use Rattle.session_store.specs.Rolls.{has_tube};
 ghost use Rattle.session_store.specs.Sessions.{new_session, is_waiting, wait_number, wait_rank, has_timed_out};
 
 use crate::watch_list::WatchList;
@@ -69,6 +70,13 @@ impl SessionState {
         ensures { result ≡ (is_waiting self.now && is_among tube.now self.now.watched) }
     {
         self.wait.is_some() && self.watched.contains(tube)
+    }
+
+    /// Whether it uses the tube, or watches it.
+    pub(crate) fn has_tube(&self, tube: &Name) -> bool
+        ensures { result ≡ has_tube tube.now self.now }
+    {
+        *tube == self.used || self.watched.contains(tube)
     }
 
     /// The number of the command that waits, and 0 where none does.

@@ -7,6 +7,7 @@ use crate::session::{SessionState, Wait};
 use job_store::Name;
 use std::alloc::AllocError;
 use std::collections::BTreeMap;
+use std::mem::replace;
 
 /// Lets a session wait, or wait no longer, if it is there.
 pub fn set_wait(sessions: &mut BTreeMap<u32, SessionState>, session: u32, wait: Option<Wait>)
@@ -18,14 +19,19 @@ pub fn set_wait(sessions: &mut BTreeMap<u32, SessionState>, session: u32, wait: 
     }
 }
 
-/// Lets a session use a tube, if it is there.
-pub fn set_used(sessions: &mut BTreeMap<u32, SessionState>, session: u32, name: Name)
+/// Lets a session use a tube, if it is there, and gives back the one that it used.
+pub fn set_used(
+    sessions: &mut BTreeMap<u32, SessionState>,
+    session: u32,
+    name: Name,
+) -> Option<Name>
     requires { Rising 0 (2 ^ 32) sessions.old.entries }
     ensures { sessions.new.entries
         ≡ altered session (λ c. record c { used = name }) sessions.old.entries }
 {
-    if let Some(found) = sessions.get_mut(&session) {
-        found.used = name;
+    match sessions.get_mut(&session) {
+        Some(found) => Some(replace(&mut found.used, name)),
+        None => None,
     }
 }
 

@@ -1,8 +1,10 @@
-ghost use Rattle.std.specs.Prelude.{◌≡◌, ◌^◌, [], None, IsSome, IfOk, OnOk, OnErr, length, option_map};
+ghost use Rattle.std.specs.Prelude.{◌≡◌, ◌^◌, ◌⊎◌, ℕ, List, [], true, None, IsSome, IfOk, OnOk, OnErr, length, option_map};
+ghost use Rattle.object.specs.Lists.{In};
 ghost use Rattle.job_store.specs.Entries.{Rising, value_at, with_value, altered, without};
 ghost use Rattle.job_store.specs.LookUps.{is_among};
 ghost use Rattle.session_store.specs.Sessions.{new_session, session_of, with_wait, first_waiting, has_timed_out};
 ghost use Rattle.session_store.specs.Lines.{EachStands, StandsIn};
+ghost use Rattle.session_store.specs.Rolls.{is_named};
 ghost use Rattle.session_store.specs.WatchLists.{joined, left_out};
 
 use crate::lines::Lines;
@@ -12,7 +14,7 @@ use crate::session_step::{SessionStep, leave_steps, take_steps_back};
 use crate::time_outs::wait_of;
 use job_store::Name;
 use std::alloc::{AllocError, Global};
-use std::collections::BTreeMap;
+use std::collections::{BTreeMap, BTreeSet};
 use std::marker::Model;
 
 /// Sessions by number, whose changes can be taken back until they are kept. That takes no memory.
@@ -20,8 +22,8 @@ use std::marker::Model;
 pub struct SessionDraft {
     alloc: Global,
     sessions: BTreeMap<u32, SessionState>,
-    /// A session that waits, now or before the steps, has its places here. Others may have some until changes are
-    /// kept or taken back.
+    /// A session that waits, now or before the steps, has its places here, and is on the rolls of the tubes that it
+    /// uses or watches. Others may have some until changes are kept or taken back.
     lines: Lines,
     steps: Vec<SessionStep>,
 }
@@ -47,6 +49,8 @@ fn forget(lines: &mut Lines, sessions: &mut BTreeMap<u32, SessionState>, session
 {
     if let Some(gone) = sessions.remove(&session) {
         lines.leave(sessions, gone.watched.as_slice(), session, gone.wait);
+        lines.strike(sessions, &gone.used, session);
+        lines.strike_all(sessions, gone.watched.as_slice(), session);
     }
 }
 
@@ -88,6 +92,24 @@ impl SessionDraft {
         self.lines.first_late(&self.sessions, second)
     }
 
+    /// Whether a session uses or watches the tube.
+    pub fn has_named(&self, tube: &Name) -> bool
+        ensures { result ≡ is_named tube.now self.now.now }
+    {
+        self.lines.has_named(&self.sessions, tube)
+    }
+
+    /// Puts the tubes that sessions use or watch among the names.
+    pub fn add_tubes(&self, names: &mut BTreeSet<Name>) -> Result<(), AllocError>
+        ensures kept { (tube : List ℕ) → In tube names.old.keys → In tube names.new.keys }
+        ensures only { (tube : List ℕ) → In tube names.new.keys
+            → In tube names.old.keys ⊎ (is_named tube self.now.now ≡ true) }
+        ensures all { OnOk result ((tube : List ℕ) → is_named tube self.now.now ≡ true
+            → In tube names.new.keys) }
+    {
+        self.lines.add_tubes(&self.sessions, names)
+    }
+
     /// Makes a session that is not there.
     pub fn make(&mut self, session: u32) -> Result<(), AllocError>
         requires { value_at session self.old.now ≡ None }
@@ -97,6 +119,7 @@ impl SessionDraft {
     {
         let made = SessionState::new(self.alloc)?;
         self.steps.reserve(1)?;
+        self.lines.enrol(&made.used, session)?;
         self.sessions.insert(session, made)?;
         self.steps.push(SessionStep::Made(session))?;
         Ok(())
@@ -135,15 +158,21 @@ impl SessionDraft {
         self.steps.clear();
     }
 
-    /// Keeps all changes, and lets a session use a tube. That can't be taken back.
-    pub fn use_tube_for_good(&mut self, session: u32, name: Name)
-        ensures now { self.new.now ≡ altered session (λ c. record c { used = name }) self.old.now }
-        ensures before { self.new.before
-            ≡ altered session (λ c. record c { used = name }) self.old.now }
+    /// Keeps all changes, and lets a session use a tube, if it is there. That can't be taken back.
+    pub fn use_tube_for_good(&mut self, session: u32, name: Name) -> Result<(), AllocError>
+        ensures now { OnOk result
+            (self.new.now ≡ altered session (λ c. record c { used = name }) self.old.now) }
+        ensures before { OnOk result (self.new.before ≡ self.new.now) }
+        ensures err { OnErr result (self.new ≡ self.old) }
     {
+        self.lines.enrol(&name, session)?;
+        let left = set_used(&mut self.sessions, session, name);
         leave_steps(&mut self.lines, &self.sessions, self.steps.as_slice());
         self.steps.clear();
-        set_used(&mut self.sessions, session, name);
+        if let Some(tube) = left {
+            self.lines.strike(&self.sessions, &tube, session);
+        }
+        Ok(())
     }
 
     /// Keeps all changes, and lets a session that is there watch one tube more. That can't be taken back. It tells how
@@ -158,9 +187,10 @@ impl SessionDraft {
         ensures before { OnOk result (self.new.before ≡ self.new.now) }
         ensures err { OnErr result (self.new ≡ self.old) }
     {
-        // Where memory is refused after this, the place is left over in the line, and passed over.
+        // Where memory is refused after this, the place is left over in the line and on the roll, and passed over.
         let wait = wait_of(&self.sessions, session);
         self.lines.join_tube(&name, session, wait)?;
+        self.lines.enrol(&name, session)?;
         let count = watch(&mut self.sessions, session, name)?;
         leave_steps(&mut self.lines, &self.sessions, self.steps.as_slice());
         self.steps.clear();
@@ -183,6 +213,7 @@ impl SessionDraft {
         let count = ignore(&mut self.sessions, session, name);
         let wait = wait_of(&self.sessions, session);
         self.lines.leave_tube(&self.sessions, name, session, wait);
+        self.lines.strike(&self.sessions, name, session);
         count
     }
 

@@ -70,7 +70,8 @@ fn leave_lines(
     }
 }
 
-/// Takes a session out of the lines where it stood before and after a step, unless it still stands there.
+/// Takes a session out of the lines where it stood before and after a step, and off the roll that it came on, unless it
+/// still stands there.
 fn leave_step(lines: &mut Lines, sessions: &BTreeMap<u32, SessionState>, step: SessionStep)
     requires { Rising 0 (2 ^ 32) sessions.now.entries }
     ensures { EachStands (StandsIn lines.old) sessions.now.entries
@@ -85,7 +86,7 @@ fn leave_step(lines: &mut Lines, sessions: &BTreeMap<u32, SessionState>, step: S
             leave_lines(lines, sessions, session, before);
             leave_lines(lines, sessions, session, after);
         }
-        SessionStep::Made(_) => {}
+        SessionStep::Made(session) => lines.strike(sessions, &Name::default_tube(), session),
     }
 }
 

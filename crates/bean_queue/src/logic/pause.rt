@@ -1,28 +1,11 @@
-ghost use Rattle.std.specs.Prelude.{◌≡◌, ◌||◌, bytes_eq, Some, IfOk, OnOk};
-ghost use Rattle.std.specs.List.{list_any};
+ghost use Rattle.std.specs.Prelude.{◌≡◌, Some, IfOk, OnOk};
 ghost use Rattle.job_store.specs.LookUps.{is_among};
 ghost use Rattle.bean_queue.specs.Rows.{all_tubes, pause_row};
 
 use crate::logic::Logic;
 use crate::reply::Reply;
 use job_store::{JobMap, Name};
-use session_store::SessionState;
 use std::alloc::AllocError;
-use std::collections::BTreeMap;
-
-/// Whether a session uses or watches the tube.
-fn has_sessions(sessions: &BTreeMap<u32, SessionState>, tube: &Name) -> bool
-    ensures { result
-        ≡ list_any (λ e. bytes_eq tube.now e.1.used || is_among tube.now e.1.watched)
-        sessions.now.entries }
-{
-    for (_, session) in sessions {
-        if *tube == session.used || session.watched.contains(tube) {
-            return true;
-        }
-    }
-    false
-}
 
 impl<M: JobMap> Logic<M> {
     /// Whether the tube is one that list-tubes names. It takes no memory.
@@ -35,7 +18,7 @@ impl<M: JobMap> Logic<M> {
         if self.jobs.map().has_jobs(tube) {
             return true;
         }
-        has_sessions(self.sessions.map(), tube)
+        self.sessions.has_named(tube)
     }
 
     /// Pauses a tube for so many seconds, or no longer where they are none.

@@ -8,12 +8,21 @@ use Rattle.session_store.proofs.session_draft.forget.Goals as goal
 pub leave-requires : goal.leave-requires
 leave-requires c = removal-rises c.args.session _ _ _ c.requires (c.remove.ensures.entries ∙ remove_entry-without _ _ _ _ c.requires)
 
+pub strike-requires : goal.strike-requires
+strike-requires c = removal-rises c.args.session _ _ _ c.requires (c.remove.ensures.entries ∙ remove_entry-without _ _ _ _ c.requires)
+
+pub strike_all-requires : goal.strike_all-requires
+strike_all-requires c = removal-rises c.args.session _ _ _ c.requires (c.remove.ensures.entries ∙ remove_entry-without _ _ _ _ c.requires)
+
 pub returns-in-Some-clause-sessions : goal.returns-in-Some-clause-sessions
 returns-in-Some-clause-sessions c = c.remove.ensures.entries ∙ remove_entry-without _ _ _ _ c.requires
 
 pub returns-in-Some-clause-complete : goal.returns-in-Some-clause-complete
 returns-in-Some-clause-complete c =
-    λ h. c.leave.ensures (each-without (StandsIn c.args.lines.now) c.args.session c.args.sessions.now.entries c.remove.new.self.entries (c.remove.ensures.entries ∙ remove_entry-without _ _ _ _ c.requires) h)
+    λ h.
+    c.strike_all.ensures
+    (c.strike.ensures
+    (c.leave.ensures (each-without (StandsIn c.args.lines.now) c.args.session c.args.sessions.now.entries c.remove.new.self.entries (c.remove.ensures.entries ∙ remove_entry-without _ _ _ _ c.requires) h)))
 
 pub returns-in_default-clause-sessions : goal.returns-in_default-clause-sessions
 returns-in_default-clause-sessions c = c.remove.ensures.entries ∙ remove_entry-without _ _ _ _ c.requires

@@ -1,8 +1,6 @@
-use Rattle.std.proofs.Common.{◌∙◌, ◌||◌, ℕ, bytes_eq, sym, ap}
-use Rattle.std.specs.List.{list_any}
+use Rattle.std.proofs.Common.{◌∙◌, bytes_eq, sym, ap}
 use Rattle.job_store.specs.LookUps.{is_among, has_jobs}
 use Rattle.session_store.specs.Drafts.{Draft}
-use Rattle.session_store.specs.declared.session.SessionState.{SessionState}
 use Rattle.bean_queue.specs.Queue.{QueueState, state_of}
 use Rattle.bean_queue.specs.Rows.{all_tubes}
 use Rattle.bean_queue.proofs.Named.{by-default, by-job, by-rest}
@@ -21,8 +19,7 @@ returns-then-has_jobs g c =
 pub returns : goal.returns
 returns g c =
     let s = state_of c.self.inside.counters c.self.inside.jobs.now c.self.inside.sessions.now c.self.inside.pauses.now.pauses in
-    c.has_sessions.ensures ∙
-    ap (list_any (λ (e : ℕ × SessionState). bytes_eq c.args.tube.now e.1.used || is_among c.args.tube.now e.1.watched)) c.map-2.ensures.sessions ∙
+    c.has_named.ensures ∙
     by-rest s c.args.tube.now (ap (bytes_eq c.args.tube.now) (sym c.default_tube.ensures) ∙ sym c.eq-2.ensures ∙ c.if-eq.false)
     (ap (has_jobs c.args.tube.now) (sym c.map.ensures.jobs) ∙ sym c.has_jobs.ensures ∙ c.if-has_jobs.false) ∙
     ap (λ (d : Draft QueueState). is_among c.args.tube.now (all_tubes d.now)) c.self.view_is

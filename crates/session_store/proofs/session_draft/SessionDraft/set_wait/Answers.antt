@@ -45,7 +45,8 @@ invariant_of-self-2 c =
     (before-step c.self.inside.steps.items c.self.inside.steps.items c.push.new.self.items _ _ _ _ refl refl c.in_ok-push.ensures.items
     (waited-back c.args.session 0 _ c.args.wait c.in-Some.found.now _ _ c.self.invariant.rising (sym c.in-Some.ensures.value) c.set_wait.ensures))
     (change-rises c.args.session _ (with_wait c.args.wait) _ _ c.self.invariant.rising c.set_wait.ensures)
-    (each-altered (StandsIn c.join.new.self) c.args.session (with_wait c.args.wait) _ _ c.set_wait.ensures (λ s i. stands-again c.join.new.self c.args.session _ c.self.inside.sessions.entries c.args.wait c.in-Some.found.now s c.self.invariant.rising (sym c.in-Some.ensures.value) i c.in_ok-join.ensures.stands)
+    (each-altered (StandsIn c.join.new.self) c.args.session (with_wait c.args.wait) _ _ c.set_wait.ensures (λ s i. stands-again c.join.new.self c.args.session _ c.self.inside.sessions.entries c.args.wait c.in-Some.found.now s c.self.invariant.rising (sym c.in-Some.ensures.value) i c.in_ok-join.ensures.stands
+    (each-grown c.self.inside.lines c.join.new.self _ c.join.ensures.grown c.self.invariant.now (c.args.session, s) i))
     (each-grown c.self.inside.lines c.join.new.self _ c.join.ensures.grown c.self.invariant.now))
     c.self.invariant
 
