@@ -1,5 +1,5 @@
 -- What the words of a command line ask for.
-use Rattle.std.specs.Prelude.{◌≡◌, ◌≢◌, ◌≤◌, ◌^◌, ◌-◌, ℕ, pos, true, List, [], Option, None, Some, codes, option_map, option_and_then, string_bytes, unwrap_or}
+use Rattle.std.specs.Prelude.{◌≡◌, ◌≢◌, ◌≤◌, ◌^◌, ◌-◌, ℕ, pos, Bool, true, not, ◌&&◌, List, [], Option, None, Some, codes, option_map, option_and_then, string_bytes, unwrap_or, is_some}
 use Rattle.clap.specs.Words.{App, Rule, IsAmong, Kinds, fault_of, first_of, new_app, new_rule, one_of, subcommand_of, with_rule, with_subcommand}
 use Rattle.clap.specs.declared.builder.value_parser.ValueParser.TheVariants as parser
 use Rattle.clap.specs.declared.error.kind.ErrorKind.{ErrorKind}
@@ -117,6 +117,14 @@ AskForServer words options = AskFor (codes "serve") words × IsServerOf (text_gi
 -- they ask for a server that writes a dump
 abbrev pub AskForDump : List (List ℕ) → Type 0
 AskForDump words = (options : ServerOptions) × AskForServer words options × (options.dump ≢ None)
+
+-- the server is to write a dump at its end, and has none
+abbrev pub has_unwritten_dump : ServerOptions → Bool
+has_unwritten_dump options = is_some options.dump && not (is_some options.sessions)
+
+-- they ask for a server whose dump is never written
+abbrev pub AskForUnwrittenDump : List (List ℕ) → Type 0
+AskForUnwrittenDump words = (options : ServerOptions) × AskForServer words options × (has_unwritten_dump options ≡ true)
 
 -- they ask for an inspection of this file; clap finds a fault where they name none
 abbrev pub AskForInspection : List (List ℕ) → List ℕ → Type 0

@@ -154,7 +154,7 @@ fn show_help<W: ByteOut>(text: &str, output: &mut W) -> Result<(), ProgramFault>
 }
 
 // Writes the text to the errors, or a beginning of it where they fail.
-fn tell_error<E: ByteOut>(text: &str, errors: &mut E)
+pub(crate) fn tell_error<E: ByteOut>(text: &str, errors: &mut E)
     ensures { WritesText (E.contents errors.old) (E.contents errors.new) (E.has_failed errors.new)
         text.now }
 {

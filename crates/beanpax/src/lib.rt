@@ -16,6 +16,7 @@ mod server;
 mod simulation;
 mod troubles;
 mod verdict;
+mod warning;
 mod weights;
 mod words;
 
@@ -28,5 +29,6 @@ pub use run::{run_bytes, run_bytes_weighted};
 pub use session::{
     ByteIn, ByteOut, End, Failed, Reading, SessionFault, Writing, memory, write_all,
 };
+pub use warning::warn;
 pub use verdict::Verdict;
 pub use words::{Action, ServerOptions, parse_words};

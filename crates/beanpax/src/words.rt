@@ -3,7 +3,7 @@ ghost use Rattle.clap.specs.Words.{app_of, first_value, found_of, one_text, rule
 ghost use Rattle.clap.specs.declared.builder.command.Command.TheViews.{out-Command as fields_of};
 ghost use Rattle.beanpax.specs.Numbers.{IsNumberOr};
 ghost use Rattle.beanpax.specs.Weights.{AreMembersOf};
-ghost use Rattle.beanpax.specs.Words.{IsAskedBy, IsRunOf, IsServeOf, IsServerOf};
+ghost use Rattle.beanpax.specs.Words.{IsAskedBy, IsRunOf, IsServeOf, IsServerOf, has_unwritten_dump};
 ghost use Rattle.beanpax.specs.Words.{program_command, run_command, serve_command, inspect_command};
 ghost use Rattle.beanpax.specs.Words.{file_argument};
 ghost use Rattle.beanpax.specs.Words.{nodes_option, weights_option, seed_option, port_option};
@@ -69,6 +69,15 @@ pub struct ServerOptions<'a> {
     pub sessions: Option<u32>,
     /// The file for the dump at its end.
     pub dump: Option<&'a str>,
+}
+
+impl ServerOptions<'_> {
+    /// Whether a dump was asked for at an end that never comes.
+    pub(crate) fn has_unwritten_dump(&self) -> bool
+        ensures { result ≡ has_unwritten_dump self.now }
+    {
+        self.dump.is_some() && self.sessions.is_none()
+    }
 }
 
 /// What the words ask for; the first is the program's name.

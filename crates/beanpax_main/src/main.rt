@@ -1,7 +1,7 @@
 //! The program: its words, and the standard streams.
 #![tactic(auto)]
 
-use beanpax::{ProgramFault, Reading, Writing, fault_line, no_sockets, program, write_all};
+use beanpax::{ProgramFault, Reading, Writing, fault_line, no_sockets, program, warn, write_all};
 use std::process::ExitCode;
 use std::rt::Env;
 use std::{env, io};
@@ -12,7 +12,10 @@ fn main(rt: HostRuntime) -> ExitCode {
     let mut output = Writing::new(rt.stdout());
     let mut errors = Writing::new(rt.stderr());
     let status = match words(&rt) {
-        Ok(words) => program(&rt, words.as_slice(), &mut input, &mut output, &mut errors),
+        Ok(words) => {
+            warn(rt.alloc(), words.as_slice(), &mut errors);
+            program(&rt, words.as_slice(), &mut input, &mut output, &mut errors)
+        }
         Err(e) if e.kind() == io::ErrorKind::OutOfMemory => {
             let _ = write_all(
                 &mut errors,

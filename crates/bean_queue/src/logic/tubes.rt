@@ -18,7 +18,7 @@ impl<M: JobMap> Logic<M> {
         ensures err { OnErr result (self.new.before ≡ self.old.before) }
     {
         let shown = tube.copy()?;
-        self.sessions.use_tube_for_good(session, tube.copy()?);
+        self.sessions.use_tube_for_good(session, tube.copy()?)?;
         Ok(Reply::Using(shown))
     }
 

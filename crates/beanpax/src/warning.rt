@@ -1,0 +1,28 @@
+ghost use Rattle.std.specs.Prelude.{◌≡◌, true, false, codes, map, string_bytes};
+ghost use Rattle.beanpax.specs.Program.{WritesText};
+ghost use Rattle.beanpax.specs.Words.{AskForUnwrittenDump};
+
+use crate::entry::tell_error;
+use crate::words::{Action, parse_words};
+use session::ByteOut;
+use std::alloc::Global;
+
+/// What is told where the words name a file for a dump that is never written.
+const UNWRITTEN: &str = "beanpax: without --sessions no dump is written\n";
+
+/// Tells on the errors that the dump that the words name is never written, where that is so, before the program does what
+/// they ask. Answers whether it told that. Where memory is refused, it tells nothing: then the program says so.
+pub fn warn<E: ByteOut>(alloc: Global, words: &[String], errors: &mut E) -> bool
+    ensures told { result ≡ true → AskForUnwrittenDump (map string_bytes words.now)
+        × WritesText (E.contents errors.old) (E.contents errors.new) (E.has_failed errors.new)
+        (codes "beanpax: without --sessions no dump is written\n") }
+    ensures silent { result ≡ false → errors.new ≡ errors.old }
+{
+    match parse_words(alloc, words) {
+        Ok(Action::Serve(options)) if options.has_unwritten_dump() => {
+            tell_error(UNWRITTEN, errors);
+            true
+        }
+        _ => false,
+    }
+}
