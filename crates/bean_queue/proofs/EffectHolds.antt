@@ -17,8 +17,8 @@ use Rattle.bean_queue.specs.Rows.{row}
 use Rattle.bean_queue.specs.Turns.{QueueOutcome, stop, serve, all_turns, deadline_turn, timeout_turn}
 use Rattle.bean_queue.specs.Effects.{own, called, ends_wait, is_zero, turned_away, then_do, own_outcome, has_no_number, carried_out, do_effect, released, close_effect, at_second, tick_effect, act_effect, effect}
 use Rattle.bean_queue.specs.Places.{QueuePlace, queue_place}
-use Rattle.bean_queue.specs.Holds.{is_reserved, is_touched, is_touch, reserved_in, touches, Ends}
-use Rattle.bean_queue.proofs.Held.{Held, Held-each, KeepsHold, IsQuiet, IsAside, quiet-append, reserved_in-append, sound-along, aside-keeps, serve-keeps, deadlines-aside, timeouts-aside}
+use Rattle.bean_queue.specs.Holds.{hands_out, is_touched, is_touch, handing_out, touches, Ends}
+use Rattle.bean_queue.proofs.Held.{Held, Held-each, KeepsHold, IsQuiet, IsAside, quiet-append, handing_out-append, sound-along, aside-keeps, serve-keeps, deadlines-aside, timeouts-aside}
 use Rattle.bean_queue.proofs.Given.{Gave, GivesOnce, serve-gives}
 use Rattle.bean_queue.proofs.RowHolds.{row-ok, EndsHold, HoldAfter, row-holds}
 
@@ -29,9 +29,9 @@ aside_if : (s : QueueState) (b : Bool) (o p : QueueOutcome) → IsAside s o → 
 aside_if s true o p h k = h
 aside_if s false o p h k = k
 
-aside-ends_wait : (s : QueueState) (key : Key) (reply : Reply) → ((id : ℕ) → is_reserved id reply ≡ false) → IsAside s (ends_wait s key reply)
+aside-ends_wait : (s : QueueState) (key : Key) (reply : Reply) → ((id : ℕ) → hands_out id reply ≡ false) → IsAside s (ends_wait s key reply)
 aside-ends_wait s key reply e =
-    record { jobs = refl; at = refl; next = refl; quiet = λ id. cond-false (is_reserved id reply) (record { to = key; reply = reply } ∷ []) [] (e id) }
+    record { jobs = refl; at = refl; next = refl; quiet = λ id. cond-false (hands_out id reply) (record { to = key; reply = reply } ∷ []) [] (e id) }
 
 turned_away-aside : (op : Op) (key : Key) (s : QueueState) → IsAside s (turned_away op key s)
 unfolding turned_away
@@ -45,7 +45,7 @@ turned_away-aside _ key s = aside-stop s
 -- first some answers that reserve nothing
 gives-after : (id now : ℕ) (answers : List (Answer Reply)) (o : QueueOutcome) → IsQuiet id answers → GivesOnce id now o → GivesOnce id now (record { state = o.state; answers = answers ++ o.answers })
 gives-after id now answers o quiet g =
-    let skip : reserved_in id (answers ++ o.answers) ≡ reserved_in id o.answers = reserved_in-append id answers o.answers ∙ ap (λ zs. zs ++ reserved_in id o.answers) quiet in
+    let skip : handing_out id (answers ++ o.answers) ≡ handing_out id o.answers = handing_out-append id answers o.answers ∙ ap (λ zs. zs ++ handing_out id o.answers) quiet in
     record {
       sound = g.sound;
       at = g.at;
@@ -59,7 +59,7 @@ gives-after id now answers o quiet g =
 -- then an outcome that leaves the jobs alone
 gives-then : (id now : ℕ) (o : QueueOutcome) (f : QueueState → QueueOutcome) → GivesOnce id now o → IsAside o.state (f o.state) → GivesOnce id now (then_do o f)
 gives-then id now o f g a =
-    let skip : reserved_in id (o.answers ++ (f o.state).answers) ≡ reserved_in id o.answers = reserved_in-append id o.answers (f o.state).answers ∙ ap (λ zs. reserved_in id o.answers ++ zs) (a.quiet id) ∙ append-nil (reserved_in id o.answers) in
+    let skip : handing_out id (o.answers ++ (f o.state).answers) ≡ handing_out id o.answers = handing_out-append id o.answers (f o.state).answers ∙ ap (λ zs. handing_out id o.answers ++ zs) (a.quiet id) ∙ append-nil (handing_out id o.answers) in
     record {
       sound = sound-along o.state (f o.state).state a.jobs a.next g.sound;
       at = a.at ∙ g.at;

@@ -12,7 +12,7 @@ use Rattle.session_store.specs.declared.session.SessionState.{SessionState}
 use Rattle.bean_queue.specs.declared.reply.Reply.{Reply}
 use Rattle.bean_queue.specs.Queue.{QueueState, HasRisingIds}
 use Rattle.bean_queue.specs.Turns.{QueueOutcome, QueueTurn, turns, all_turns, after_turn, after_option, given, serve_turn, serve}
-use Rattle.bean_queue.specs.Holds.{is_reserved, reserved_in}
+use Rattle.bean_queue.specs.Holds.{hands_out, handing_out}
 use Rattle.bean_queue.specs.TurnLaws.{turns-keep, serve_turn-is, IsServed}
 use Rattle.bean_queue.proofs.Held.{Held, Held-reserved, Keeps, IsQuietReply, IsQuiet, quiet-all, serve-keeps_turn}
 
@@ -20,7 +20,7 @@ use Rattle.bean_queue.proofs.Held.{Held, Held-reserved, Keeps, IsQuietReply, IsQ
 pub record Gave (id now : ℕ) (o : QueueOutcome) : Type 0 where
   pub answer : Answer Reply
   pub ttr : ℕ
-  pub only : reserved_in id o.answers ≡ answer ∷ []
+  pub only : handing_out id o.answers ≡ answer ∷ []
   pub held : Held o.state.jobs answer.to.session id ttr now
 
 pub record GivesOnce (id now : ℕ) (o : QueueOutcome) : Type 0 where
@@ -48,7 +48,7 @@ given-now : (s : QueueState) (j : ℕ × Job) (w : ℕ × SessionState) → (giv
 unfolding given
 given-now s j w = refl
 
-given-reserved : (id : ℕ) (s : QueueState) (j : ℕ × Job) (w : ℕ × SessionState) → is_reserved id (given s j w).answer.reply ≡ (id == j.0)
+given-reserved : (id : ℕ) (s : QueueState) (j : ℕ × Job) (w : ℕ × SessionState) → hands_out id (given s j w).answer.reply ≡ (id == j.0)
 unfolding given
 given-reserved id s j w = refl
 
@@ -66,15 +66,15 @@ once_given id now s j w o quiet k same =
             answer = (given s j w).answer;
             ttr = j.1.ttr;
             only =
-                cond-true (is_reserved id (given s j w).answer.reply) ((given s j w).answer ∷ reserved_in id o.answers) (reserved_in id o.answers) (given-reserved id s j w ∙ eq-eqb id j.0 same) ∙
+                cond-true (hands_out id (given s j w).answer.reply) ((given s j w).answer ∷ handing_out id o.answers) (handing_out id o.answers) (given-reserved id s j w ∙ eq-eqb id j.0 same) ∙
                 ap (λ zs. (given s j w).answer ∷ zs) quiet;
             held = subst (λ x. Held o.state.jobs x id j.1.ttr now) (sym (given-to s j w)) k.held;
           });
     }
 
-once_later : (id now : ℕ) (a : Answer Reply) (o : QueueOutcome) → is_reserved id a.reply ≡ false → GivesOnce id now o → GivesOnce id now (after_turn a o)
+once_later : (id now : ℕ) (a : Answer Reply) (o : QueueOutcome) → hands_out id a.reply ≡ false → GivesOnce id now o → GivesOnce id now (after_turn a o)
 once_later id now a o e g =
-    let skip : reserved_in id (a ∷ o.answers) ≡ reserved_in id o.answers = cond-false (is_reserved id a.reply) (a ∷ reserved_in id o.answers) (reserved_in id o.answers) e in
+    let skip : handing_out id (a ∷ o.answers) ≡ handing_out id o.answers = cond-false (hands_out id a.reply) (a ∷ handing_out id o.answers) (handing_out id o.answers) e in
     record {
       sound = g.sound;
       at = g.at;

@@ -13,7 +13,7 @@ use Rattle.session_store.specs.declared.session.SessionState.{SessionState}
 use Rattle.bean_queue.specs.declared.reply.Reply.{Reply}
 use Rattle.bean_queue.specs.Queue.{QueueState, HasRisingIds}
 use Rattle.bean_queue.specs.Turns.{QueueOutcome, QueueTurn, all_turns, given, serve_turn, told_turn, deadline_turn, timeout_turn, serve}
-use Rattle.bean_queue.specs.Holds.{is_reserved, reserved_in}
+use Rattle.bean_queue.specs.Holds.{hands_out, handing_out}
 use Rattle.bean_queue.specs.TurnLaws.{turns-keep, serve_turn-is, deadline_turn-is, timeout_turn-is, IsServed, IsTold, IfSome-map}
 
 -- session x holds the job id, whose time to run counts from the second
@@ -59,7 +59,7 @@ pub record Keeps (x id ttr second now : ℕ) (s : QueueState) : Type 0 where
   pub at : s.now ≡ now
 
 abbrev pub IsQuietReply : ℕ → Answer Reply → Type 0
-IsQuietReply id a = is_reserved id a.reply ≡ false
+IsQuietReply id a = hands_out id a.reply ≡ false
 
 pub serve-keeps_turn : (x id ttr second now : ℕ) (s : QueueState) → Keeps x id ttr second now s → IfSome (serve_turn s) (λ t. Keeps x id ttr second now t.state × IsQuietReply id t.answer)
 unfolding given
@@ -79,26 +79,26 @@ serve-keeps_turn x id ttr second now s k =
 
 -- no answer is RESERVED of the job
 abbrev pub IsQuiet : ℕ → List (Answer Reply) → Type 0
-IsQuiet id answers = reserved_in id answers ≡ []
+IsQuiet id answers = handing_out id answers ≡ []
 
 pub quiet-all : (id : ℕ) (answers : List (Answer Reply)) → AllByRecursion (IsQuietReply id) answers → IsQuiet id answers
 quiet-all id [] h = refl
-quiet-all id (a ∷ more) h = cond-false (is_reserved id a.reply) (a ∷ reserved_in id more) (reserved_in id more) h.0 ∙ quiet-all id more h.1
+quiet-all id (a ∷ more) h = cond-false (hands_out id a.reply) (a ∷ handing_out id more) (handing_out id more) h.0 ∙ quiet-all id more h.1
 
-pub reserved_in-append : (id : ℕ) (more bs : List (Answer Reply)) → reserved_in id (more ++ bs) ≡ reserved_in id more ++ reserved_in id bs
-reserved_in-append id [] bs = refl
-reserved_in-append id (a ∷ more) bs =
-    elim (is_reserved id a.reply) as (λ b. cond b (a ∷ reserved_in id (more ++ bs)) (reserved_in id (more ++ bs)) ≡ cond b (a ∷ reserved_in id more) (reserved_in id more) ++ reserved_in id bs) [
-      | true ↦ ap (λ zs. a ∷ zs) (reserved_in-append id more bs)
-      | false ↦ reserved_in-append id more bs
+pub handing_out-append : (id : ℕ) (more bs : List (Answer Reply)) → handing_out id (more ++ bs) ≡ handing_out id more ++ handing_out id bs
+handing_out-append id [] bs = refl
+handing_out-append id (a ∷ more) bs =
+    elim (hands_out id a.reply) as (λ b. cond b (a ∷ handing_out id (more ++ bs)) (handing_out id (more ++ bs)) ≡ cond b (a ∷ handing_out id more) (handing_out id more) ++ handing_out id bs) [
+      | true ↦ ap (λ zs. a ∷ zs) (handing_out-append id more bs)
+      | false ↦ handing_out-append id more bs
     ]
 
-all-at : (id : ℕ) (answers : List (Answer Reply)) → AllByRecursion (λ a. (id : ℕ) → is_reserved id a.reply ≡ false) answers → AllByRecursion (IsQuietReply id) answers
+all-at : (id : ℕ) (answers : List (Answer Reply)) → AllByRecursion (λ a. (id : ℕ) → hands_out id a.reply ≡ false) answers → AllByRecursion (IsQuietReply id) answers
 all-at id [] h = tt
 all-at id (a ∷ more) h = (h.0 id, all-at id more h.1)
 
 pub quiet-append : (id : ℕ) (xs ys : List (Answer Reply)) → IsQuiet id xs → IsQuiet id ys → IsQuiet id (xs ++ ys)
-quiet-append id xs ys p q = reserved_in-append id xs ys ∙ ap (λ zs. zs ++ reserved_in id ys) p ∙ q
+quiet-append id xs ys p q = handing_out-append id xs ys ∙ ap (λ zs. zs ++ handing_out id ys) p ∙ q
 
 -- an outcome that keeps a hold: no RESERVED of the job, and the same hold
 pub record KeepsHold (x id ttr second now : ℕ) (o : QueueOutcome) : Type 0 where
@@ -128,14 +128,14 @@ told-like : (s t : QueueState) (reply : Reply) (w : ℕ × SessionState) → IsL
 unfolding told_turn
 told-like s t reply w l = record { jobs = l.jobs; at = l.at; next = l.next }
 
-told-quiet : (s : QueueState) (reply : Reply) (w : ℕ × SessionState) (id : ℕ) → is_reserved id reply ≡ false → is_reserved id (told_turn s reply w).answer.reply ≡ false
+told-quiet : (s : QueueState) (reply : Reply) (w : ℕ × SessionState) (id : ℕ) → hands_out id reply ≡ false → hands_out id (told_turn s reply w).answer.reply ≡ false
 unfolding told_turn
 told-quiet s reply w id e = e
 
-told-aside : (reply : Reply) → ((id : ℕ) → is_reserved id reply ≡ false) → (turn : QueueState → Option QueueTurn) → ((s : QueueState) → IfSome (turn s) (IsTold reply s)) → (s : QueueState) → IsAside s (all_turns turn s)
+told-aside : (reply : Reply) → ((id : ℕ) → hands_out id reply ≡ false) → (turn : QueueState → Option QueueTurn) → ((s : QueueState) → IfSome (turn s) (IsTold reply s)) → (s : QueueState) → IsAside s (all_turns turn s)
 unfolding all_turns
 told-aside reply quiet turn is s =
-    let r = turns-keep turn (IsLike s) (λ a. (id : ℕ) → is_reserved id a.reply ≡ false) (λ t l. IfSome-map _ _ (turn t) (λ u (i : IsTold reply t u). subst (λ (u : QueueTurn). IsLike s u.state × ((id : ℕ) → is_reserved id u.answer.reply ≡ false)) (sym i.made) (told-like s t reply i.session l, λ id. told-quiet t reply i.session id (quiet id))) (is t)) (length s.sessions) s (record { jobs = refl; at = refl; next = refl }) in
+    let r = turns-keep turn (IsLike s) (λ a. (id : ℕ) → hands_out id a.reply ≡ false) (λ t l. IfSome-map _ _ (turn t) (λ u (i : IsTold reply t u). subst (λ (u : QueueTurn). IsLike s u.state × ((id : ℕ) → hands_out id u.answer.reply ≡ false)) (sym i.made) (told-like s t reply i.session l, λ id. told-quiet t reply i.session id (quiet id))) (is t)) (length s.sessions) s (record { jobs = refl; at = refl; next = refl }) in
     record { jobs = r.0.jobs; at = r.0.at; next = r.0.next; quiet = λ id. quiet-all id _ (all-at id _ r.1) }
 
 pub deadlines-aside : (s : QueueState) → IsAside s (all_turns deadline_turn s)

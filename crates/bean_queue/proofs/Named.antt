@@ -5,7 +5,8 @@ use Rattle.std.specs.List.Sorted.{IsStrictlySortedBy}
 use Rattle.object.specs.Lists.{In}
 use Rattle.std.proofs.lemmas.Bool.{or_cases}
 use Rattle.std.proofs.lemmas.Slice.Eq.{bytes_eq-Decides}
-use Rattle.job_store.specs.LookUps.{is_among}
+use Rattle.job_store.specs.declared.job.Job.{Job}
+use Rattle.job_store.specs.LookUps.{is_among, has_jobs}
 use Rattle.job_store.proofs.Least.{among-member}
 use Rattle.session_store.proofs.Found.{any-in, in-any}
 use Rattle.bean_queue.specs.Queue.{QueueState}
@@ -67,11 +68,11 @@ named-by s tube (IsTube.watched w i e) =
 
 -- Names that are added to `default`: those of the jobs, and those of the sessions
 
-module _ (s : QueueState) (first of_jobs names : List (List ℕ)) where
+module _ (s : QueueState) (jobs : List (ℕ × Job)) (same : jobs ≡ s.jobs) (first of_jobs names : List (List ℕ)) where
   pub all-named : first ≡ codes "default" ∷ [] →
       ((t : List ℕ) → In t first → In t of_jobs) →
-      ((t : List ℕ) → In t of_jobs → In t first ⊎ (list_any (λ e. bytes_eq t e.1.tube) s.jobs ≡ true)) →
-      ((t : List ℕ) → list_any (λ e. bytes_eq t e.1.tube) s.jobs ≡ true → In t of_jobs) →
+      ((t : List ℕ) → In t of_jobs → In t first ⊎ (has_jobs t jobs ≡ true)) →
+      ((t : List ℕ) → has_jobs t jobs ≡ true → In t of_jobs) →
       ((t : List ℕ) → In t of_jobs → In t names) →
       ((t : List ℕ) → In t names → In t of_jobs ⊎ (list_any (λ e. bytes_eq t e.1.used || is_among t e.1.watched) s.sessions ≡ true)) →
       ((t : List ℕ) → list_any (λ e. bytes_eq t e.1.used || is_among t e.1.watched) s.sessions ≡ true → In t names) →
@@ -83,13 +84,13 @@ module _ (s : QueueState) (first of_jobs names : List (List ℕ)) where
       (elim (only' t i) as (λ v. is_among t (all_tubes s) ≡ true) [
         | inr session ↦ by-session s t session
         | inl i ↦ elim (only t i) as (λ v. is_among t (all_tubes s) ≡ true) [
-          | inr job ↦ by-job s t job
-          | inl i ↦ elim (subst (In t) is i) as (λ v. is_among t (all_tubes s) ≡ true) [ inl same ↦ it-is s t (IsTube.default same) | inr never ↦ absurd never ]
+          | inr job ↦ by-job s t (subst (λ js. has_jobs t js ≡ true) same job)
+          | inl i ↦ elim (subst (In t) is i) as (λ v. is_among t (all_tubes s) ≡ true) [ inl default ↦ it-is s t (IsTube.default default) | inr never ↦ absurd never ]
         ]
       ]))
       (λ t i.
       elim (named-by s t ((tubes-all s t).0 i)) as (λ v. In t names) [
-        | inl same ↦ kept' t (kept t (subst (In t) (sym is) (inl same)))
-        | inr (inl job) ↦ kept' t (all t job)
+        | inl default ↦ kept' t (kept t (subst (In t) (sym is) (inl default)))
+        | inr (inl job) ↦ kept' t (all t (subst (λ js. has_jobs t js ≡ true) (sym same) job))
         | inr (inr session) ↦ all' t session
       ])

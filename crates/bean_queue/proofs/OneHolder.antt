@@ -9,7 +9,7 @@ use Rattle.bean_queue.specs.Queue.{QueueState, fresh, HasRisingIds}
 use Rattle.bean_queue.specs.Turns.{QueueOutcome}
 use Rattle.bean_queue.specs.Effects.{effect}
 use Rattle.bean_queue.specs.Places.{QueuePlace, queue_place, places_from, queue_places}
-use Rattle.bean_queue.specs.Holds.{reserved_in, Gets, HasEnded, touches, ttr_in, ttr_of, IsGivenOnce, IsHeldByOne}
+use Rattle.bean_queue.specs.Holds.{handing_out, Gets, HasEnded, touches, ttr_in, ttr_of, IsGivenOnce, IsHeldByOne}
 use Rattle.bean_queue.proofs.Held.{Held, IsQuiet}
 use Rattle.bean_queue.proofs.Given.{GivesOnce}
 use Rattle.bean_queue.proofs.EffectHolds.{effect-gives, effect-holds, HoldsOn}
@@ -27,9 +27,9 @@ same_tail a b xs ys e = cc
 pub effect-sound : (c : Command Op) (s : QueueState) → HasRisingIds s → HasRisingIds (effect c s).state
 effect-sound c s sound = (effect-gives 0 c s sound).sound
 
-gives_one : (id now : ℕ) (o : QueueOutcome) → GivesOnce id now o → length (reserved_in id o.answers) ≤ 1
+gives_one : (id now : ℕ) (o : QueueOutcome) → GivesOnce id now o → length (handing_out id o.answers) ≤ 1
 gives_one id now o g =
-    elim g.given as (λ v. length (reserved_in id o.answers) ≤ 1) [
+    elim g.given as (λ v. length (handing_out id o.answers) ≤ 1) [
       | inl quiet ↦ rw quiet (omega arith)
       | inr gave ↦ rw gave.only (omega arith)
     ]
@@ -38,7 +38,7 @@ given_once-from : (cs : List (Command Op)) (s : QueueState) → HasRisingIds s �
 unfolding places_from
 given_once-from [] s sound before rest p id e = absurd (not_empty before rest p e)
 given_once-from (c ∷ cs) s sound [] rest p id e =
-    subst (λ (p : QueuePlace). length (reserved_in id p.answers) ≤ 1) (same_head (queue_place c (effect c s)) p (places_from (effect c s).state cs) rest e) (gives_one id _ (effect c s) (effect-gives id c s sound))
+    subst (λ (p : QueuePlace). length (handing_out id p.answers) ≤ 1) (same_head (queue_place c (effect c s)) p (places_from (effect c s).state cs) rest e) (gives_one id _ (effect c s) (effect-gives id c s sound))
 given_once-from (c ∷ cs) s sound (b ∷ before) rest p id e =
     given_once-from cs (effect c s).state (effect-sound c s sound) before rest p id (same_tail (queue_place c (effect c s)) b (places_from (effect c s).state cs) (before ++ p ∷ rest) e)
 

@@ -12,10 +12,10 @@ use Rattle.bean_queue.specs.declared.reply.Reply.{Reply}
 use Rattle.bean_queue.specs.Queue.{QueueState}
 use Rattle.bean_queue.specs.Places.{QueuePlace, queue_places, placed_from, queue_replay}
 
--- the reply is RESERVED of the job id
-abbrev pub is_reserved : ℕ → Reply → Bool
-is_reserved id (Reply.Reserved j body) = id == j
-is_reserved id _ = false
+-- the reply hands the job id out, as RESERVED
+abbrev pub hands_out : ℕ → Reply → Bool
+hands_out id (Reply.Reserved j body) = id == j
+hands_out id _ = false
 
 -- the reply is TOUCHED
 abbrev pub is_touched : Reply → Bool
@@ -27,13 +27,13 @@ abbrev pub is_touch : ℕ → Act Op → Bool
 is_touch id (Act.Do (Op.Touch j)) = id == j
 is_touch id _ = false
 
--- the answers that are RESERVED of the job id
-abbrev pub reserved_in : ℕ → List (Answer Reply) → List (Answer Reply)
-reserved_in id answers = filter (λ a. is_reserved id a.reply) answers
+-- the answers that hand the job id out
+abbrev pub handing_out : ℕ → List (Answer Reply) → List (Answer Reply)
+handing_out id answers = filter (λ a. hands_out id a.reply) answers
 
 -- at this place session x gets the job id RESERVED
 abbrev pub Gets : QueuePlace → ℕ → ℕ → Type 0
-Gets p x id = (a : Answer Reply) × In a (reserved_in id p.answers) × (a.to.session ≡ x)
+Gets p x id = (a : Answer Reply) × In a (handing_out id p.answers) × (a.to.session ≡ x)
 
 -- the command at this place is session x's op, and its answer there is the reply
 abbrev pub Does : QueuePlace → ℕ → Op → Reply → Type 0
@@ -74,7 +74,7 @@ abbrev pub IsGivenOnce : List QueuePlace → Type 0
 IsGivenOnce ps =
     (before rest : List QueuePlace) (p : QueuePlace) (id : ℕ) →
     ps ≡ before ++ p ∷ rest →
-    length (reserved_in id p.answers) ≤ 1
+    length (handing_out id p.answers) ≤ 1
 
 -- x's hold of the job, which counts from the second, has ended by the place q: at some r after these places began, and at most at q
 abbrev pub HasEnded : List QueuePlace → QueuePlace → ℕ → ℕ → ℕ → ℕ → Type 0
