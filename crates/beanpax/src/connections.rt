@@ -3,8 +3,16 @@ ghost use Rattle.std.specs.Prelude.{◌≡◌, ◌≢◌, ◌↔◌, ◌-◌, tr
 use crate::troubles::{Pauses, Trouble, trouble_of};
 use node_threads::Accept;
 use session::{Failed, Reading, Writing};
+use std::io;
 use std::net::{TcpListener, TcpStream};
 use std::rt::Clock;
+
+/// Has the connection send each reply at once, and not hold it back until more can be sent. Answers whether it does, as
+/// read back from the system.
+fn sends_at_once(stream: &TcpStream) -> io::Result<bool> {
+    stream.set_nodelay(true)?;
+    stream.nodelay()
+}
 
 /// Clients that connect over TCP, up to so many. Where the system is short of something, or one connection goes wrong,
 /// the next try comes after a pause.
@@ -52,10 +60,11 @@ impl<'a, C: Clock> Connections<'a, C> {
         Err(Failed)
     }
 
-    // What is read from the connection, and what is written to it; none where it has gone. A reply isn't held back until
-    // more can be sent.
+    // What is read from the connection, and what is written to it; none where it has gone.
     fn ends_of(&self, stream: TcpStream) -> Option<(Reading<TcpStream>, Writing<TcpStream>)> {
-        stream.set_nodelay(true).ok()?;
+        if !sends_at_once(&stream).ok()? {
+            return None;
+        }
         let mut pauses = Pauses::new(self.clock);
         for _ in 0..u64::MAX {
             match stream.try_clone() {
