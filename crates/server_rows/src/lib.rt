@@ -20,3 +20,5 @@ mod resources;
 mod session_rows;
 #[cfg(test)]
 mod started;
+#[cfg(test)]
+mod warning_rows;
