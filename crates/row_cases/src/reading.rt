@@ -3,7 +3,7 @@ use crate::quoted::bytes_of;
 use crate::script::{Stage, tell_line};
 use anyhow::{Context, Result, bail};
 use beanpax::inspect_text;
-use chronicle::{ReadFault, read_text};
+use chronicle::{check, read_text};
 use std::alloc::Global;
 
 /// A text.
@@ -44,6 +44,12 @@ impl Text {
     fn tell_reading(&self, alloc: Global, told: &mut String) -> Result<()> {
         let reading = reading_of(alloc, self.bytes.as_slice())?;
         Ok(tell_line("  ", reading.as_str(), told)?)
+    }
+
+    // Tells what comes of reading the text and checking what was read, in the words of its fault.
+    fn tell_check(&self, alloc: Global, told: &mut String) -> Result<()> {
+        let check = check_of(alloc, self.bytes.as_slice())?;
+        Ok(tell_line("  ", check.as_str(), told)?)
     }
 
     // Tells what is found of the text.
@@ -140,8 +146,19 @@ fn reading_of(alloc: Global, text: &[u8]) -> Result<String> {
             let same = written.as_slice() == text;
             Ok(String::from_str(alloc, if same { "read" } else { "changed" })?)
         }
-        Err(ReadFault::BadLine(line)) => Ok(format!(in alloc; "line {line}: bad line")?),
-        Err(ReadFault::OutOfMemory) => bail!("out of memory"),
+        Err(fault) => Ok(format!(in alloc; "{fault}")?),
+    }
+}
+
+// What comes of checking what is read of the text.
+fn check_of(alloc: Global, text: &[u8]) -> Result<String> {
+    let chronicle = match read_text(alloc, text) {
+        Ok(chronicle) => chronicle,
+        Err(fault) => return Ok(format!(in alloc; "{fault}")?),
+    };
+    match check(alloc, &chronicle) {
+        Ok(()) => Ok(String::from_str(alloc, "right")?),
+        Err(fault) => Ok(format!(in alloc; "{fault}")?),
     }
 }
 
@@ -150,6 +167,7 @@ impl Stage for Text {
         match step {
             "read" => self.tell_reading(alloc, told),
             "cut" => self.tell_cuts(alloc, told),
+            "check" => self.tell_check(alloc, told),
             "inspect" => self.tell_verdict(alloc, told),
             "leave out" => self.tell_changes(alloc, Change::LeaveOut, told),
             "double" => self.tell_changes(alloc, Change::Double, told),

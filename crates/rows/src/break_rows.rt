@@ -2,34 +2,121 @@
 use crate::echo::Echo;
 use beanpax::{End, Reading, SessionFault, Writing};
 use session::serve;
-use std::alloc::Global;
+use std::alloc::{AllocError, Global};
 use std::io;
 use std::io::{ErrorKind, Read, Write};
 use std::test::Fail;
 
-/// How many bytes are read and written at a time.
-const PIECE_LEN: usize = 5;
+/// Bytes: each part stands there so often.
+type Parts = &'static [(usize, &'static [u8])];
 
-const INPUT: &[u8] =
-    b"use a\r\nnope\r\nuse b\r\nput 0 0 1 1\r\naxxdelete 9\r\nuse\r\nuse tube-with-a-long-name\r\n";
+/// What a client sends and is told, how its session ends where nothing breaks off, and how many bytes are read and written
+/// at a time.
+struct Row {
+    input: Parts,
+    transcript: Parts,
+    end: End,
+    piece_lens: &'static [usize],
+}
 
-const TRANSCRIPT: &[u8] =
-    b"USING a\r\nUNKNOWN_COMMAND\r\nUSING b\r\nEXPECTED_CRLF\r\nNOT_FOUND\r\nBAD_FORMAT\r\nUSING tube-with-a-long-name\r\n";
+static ROWS: [Row; 8] = [
+    Row {
+        input: &[(
+            1,
+            b"use a\r\nnope\r\nuse b\r\nput 0 0 1 1\r\naxxdelete 9\r\nuse\r\nuse tube-with-a-long-name\r\n",
+        )],
+        transcript: &[(
+            1,
+            b"USING a\r\nUNKNOWN_COMMAND\r\nUSING b\r\nEXPECTED_CRLF\r\nNOT_FOUND\r\nBAD_FORMAT\r\nUSING tube-with-a-long-name\r\n",
+        )],
+        end: End::Eof,
+        piece_lens: &[1, 5, 4096],
+    },
+    // a line that is too long, and the next one
+    Row {
+        input: &[(300, b"a"), (1, b"\r\nlist-tube-used\r\n")],
+        transcript: &[(1, b"BAD_FORMAT\r\nUSING default\r\n")],
+        end: End::Eof,
+        piece_lens: &[1, 4096],
+    },
+    // spaces make a line 224 bytes long, and a byte too long
+    Row {
+        input: &[(1, b"use a"), (217, b" "), (1, b"\r\n")],
+        transcript: &[(1, b"USING a\r\n")],
+        end: End::Eof,
+        piece_lens: &[1, 4096],
+    },
+    Row {
+        input: &[(1, b"use a"), (218, b" "), (1, b"\r\n")],
+        transcript: &[(1, b"BAD_FORMAT\r\n")],
+        end: End::Eof,
+        piece_lens: &[1, 4096],
+    },
+    // lines of no command, bad numbers, and a good one
+    Row {
+        input: &[
+            (1, b"\r\n delete 1\r\nPUT 0 0 1 1\r\ndelete 1\n\r\n"),
+            (1, b"delete 18446744073709551616\r\ndelete 007\r\n"),
+        ],
+        transcript: &[
+            (3, b"UNKNOWN_COMMAND\r\n"),
+            (2, b"BAD_FORMAT\r\n"),
+            (1, b"NOT_FOUND\r\n"),
+        ],
+        end: End::Eof,
+        piece_lens: &[1, 4096],
+    },
+    // a body that is too large, and a quit
+    Row {
+        input: &[
+            (1, b"put 0 0 1 65536\r\n"),
+            (65_536, b"a"),
+            (1, b"xyquit\r\n"),
+        ],
+        transcript: &[(1, b"JOB_TOO_BIG\r\n")],
+        end: End::Quit,
+        piece_lens: &[1, 97, 4096],
+    },
+    // a body that is too large and breaks off, and one that breaks off
+    Row {
+        input: &[(1, b"put 0 0 1 65536\r\n"), (100, b"a")],
+        transcript: &[],
+        end: End::Eof,
+        piece_lens: &[1, 4096],
+    },
+    Row {
+        input: &[(1, b"put 1 0 1 5\r\nhe")],
+        transcript: &[],
+        end: End::Eof,
+        piece_lens: &[1, 4096],
+    },
+];
+
+fn bytes_of(alloc: Global, parts: Parts) -> Result<Vec<u8>, AllocError> {
+    let mut bytes = Vec::new(alloc);
+    for (count, part) in parts {
+        for _ in 0..*count {
+            bytes.extend_from_slice(*part)?;
+        }
+    }
+    Ok(bytes)
+}
 
 /// Gives the next bytes so often, and fails then.
 #[derive(Drop)]
-struct FailingReader {
-    rest: &'static [u8],
+struct FailingReader<'a> {
+    rest: &'a [u8],
     good_reads: usize,
+    piece_len: usize,
 }
 
-impl Read for FailingReader {
+impl Read for FailingReader<'_> {
     fn read(&mut self, buf: &mut [u8]) -> io::Result<usize> {
         if self.good_reads == 0 {
             return Err(io::Error::from(ErrorKind::ConnectionReset));
         }
         self.good_reads -= 1;
-        let n = buf.len().min(self.rest.len()).min(PIECE_LEN);
+        let n = buf.len().min(self.rest.len()).min(self.piece_len);
         let (piece, rest) = self.rest.split_at(n);
         buf[..n].copy_from_slice(piece);
         self.rest = rest;
@@ -38,7 +125,7 @@ impl Read for FailingReader {
 }
 
 /// What a writer does where it breaks off.
-#[derive(Clone, Copy)]
+#[derive(Clone, Copy, Debug)]
 enum Break {
     Fails,
     TakesNothing,
@@ -49,6 +136,7 @@ enum Break {
 struct BreakingWriter {
     bytes: Vec<u8>,
     good_writes: usize,
+    piece_len: usize,
     breaks: Break,
 }
 
@@ -61,7 +149,7 @@ impl Write for BreakingWriter {
             };
         }
         self.good_writes -= 1;
-        let n = buf.len().min(PIECE_LEN);
+        let n = buf.len().min(self.piece_len);
         self.bytes.extend_from_slice(&buf[..n])?;
         Ok(n)
     }
@@ -69,6 +157,15 @@ impl Write for BreakingWriter {
     fn flush(&mut self) -> io::Result<()> {
         Ok(())
     }
+}
+
+/// A client, and what it is told where nothing breaks off.
+#[derive(Drop)]
+struct Client {
+    input: Vec<u8>,
+    transcript: Vec<u8>,
+    end: End,
+    piece_len: usize,
 }
 
 /// What came of a session.
@@ -81,69 +178,121 @@ struct Served {
     times_closed: u64,
 }
 
-impl Served {
+impl Client {
+    fn of(alloc: Global, row: &Row, piece_len: usize) -> Result<Client, AllocError> {
+        Ok(Client {
+            input: bytes_of(alloc, row.input)?,
+            transcript: bytes_of(alloc, row.transcript)?,
+            end: row.end,
+            piece_len,
+        })
+    }
+
+    /// How many reads there are: one a piece, and where its input ends one more that finds the end.
+    fn reads(&self) -> usize {
+        let last = usize::from(self.end == End::Eof);
+        self.input
+            .len()
+            .div_ceil(self.piece_len.max(1))
+            .saturating_add(last)
+    }
+
+    /// Serves it, where so many reads and writes are good.
+    fn serve(&self, alloc: Global, good_reads: usize, good_writes: usize, breaks: Break) -> Served {
+        let mut echo = Echo::new();
+        let mut reader = Reading::new(FailingReader {
+            rest: self.input.as_slice(),
+            good_reads,
+            piece_len: self.piece_len,
+        });
+        let mut kept = BreakingWriter {
+            bytes: Vec::new(alloc),
+            good_writes,
+            piece_len: self.piece_len,
+            breaks,
+        };
+        let mut writer = Writing::new(&mut kept);
+        let end = serve(alloc, &mut reader, &mut writer, &mut echo);
+        Served {
+            end,
+            written: kept.bytes,
+            writes: good_writes.saturating_sub(kept.good_writes),
+            times_closed: echo.times_closed,
+        }
+    }
+
     /// Whether it broke off so, within the transcript, and the service was closed once.
-    fn broke_off(&self, fault: SessionFault) -> bool {
-        self.end == Err(fault)
-            && TRANSCRIPT.starts_with(self.written.as_slice())
-            && self.times_closed == 1
+    fn broke_off(&self, served: &Served, fault: SessionFault) -> bool {
+        served.end == Err(fault)
+            && self.transcript.starts_with(served.written.as_slice())
+            && served.times_closed == 1
     }
 
     /// Whether all was told, and the service was closed once.
-    fn went_well(&self) -> bool {
-        self.end == Ok(End::Eof) && self.written.as_slice() == TRANSCRIPT && self.times_closed == 1
+    fn went_well(&self, served: &Served) -> bool {
+        served.end == Ok(self.end) && served.written == self.transcript && served.times_closed == 1
     }
-}
 
-/// Serves the input, where so many reads and writes are good.
-fn serve_breaking(alloc: Global, good_reads: usize, good_writes: usize, breaks: Break) -> Served {
-    let mut echo = Echo::new();
-    let mut reader = Reading::new(FailingReader {
-        rest: INPUT,
-        good_reads,
-    });
-    let mut kept = BreakingWriter {
-        bytes: Vec::new(alloc),
-        good_writes,
-        breaks,
-    };
-    let mut writer = Writing::new(&mut kept);
-    let end = serve(alloc, &mut reader, &mut writer, &mut echo);
-    Served {
-        end,
-        written: kept.bytes,
-        writes: good_writes.saturating_sub(kept.good_writes),
-        times_closed: echo.times_closed,
-    }
-}
-
-#[test]
-fn a_reader_fails_at_each_read(rt: HostRuntime) {
-    // each piece takes a read, and one more finds the end
-    let reads = INPUT.len().div_ceil(PIECE_LEN) + 1;
-    for good_reads in 0..reads {
-        let broken = serve_breaking(rt.alloc(), good_reads, usize::MAX, Break::Fails);
-        assert!(rt;
-            broken.broke_off(SessionFault::ReadFailed),
-            "read {good_reads}"
-        );
-    }
-    assert!(rt; serve_breaking(rt.alloc(), reads, usize::MAX, Break::Fails).went_well());
-}
-
-#[test]
-fn a_writer_breaks_off_at_each_write(rt: HostRuntime) {
-    let whole = serve_breaking(rt.alloc(), usize::MAX, usize::MAX, Break::Fails);
-    assert!(rt; whole.went_well());
-    assert!(rt; whole.writes >= TRANSCRIPT.len().div_ceil(PIECE_LEN));
-    for breaks in [Break::Fails, Break::TakesNothing] {
-        for good_writes in 0..whole.writes {
-            let broken = serve_breaking(rt.alloc(), usize::MAX, good_writes, breaks);
-            assert!(rt;
-                broken.broke_off(SessionFault::WriteFailed),
-                "write {good_writes}"
-            );
+    /// Whether it goes so where the reads after so many of them fail.
+    fn fails_after(&self, alloc: Global, good_reads: usize) -> bool {
+        let served = self.serve(alloc, good_reads, usize::MAX, Break::Fails);
+        if good_reads < self.reads() {
+            self.broke_off(&served, SessionFault::ReadFailed)
+        } else {
+            self.went_well(&served)
         }
-        assert!(rt; serve_breaking(rt.alloc(), usize::MAX, whole.writes, breaks).went_well());
     }
+
+    /// Whether it goes so where the writer breaks off after so many of its writes, which aren't all.
+    fn breaks_off_after(&self, alloc: Global, good_writes: usize, breaks: Break) -> bool {
+        let served = self.serve(alloc, usize::MAX, good_writes, breaks);
+        self.broke_off(&served, SessionFault::WriteFailed)
+    }
+}
+
+/// Whether a reader is tried that fails at this read: in most rows at each, and of very many at the first and last ones and
+/// at some between.
+fn is_tried(read: usize, reads: usize) -> bool {
+    read < 320 || reads.saturating_sub(read) < 8 || read % 8191 == 0
+}
+
+#[test]
+fn a_reader_fails_at_each_read(rt: HostRuntime) -> Result<(), Fail> {
+    for (number, row) in ROWS.iter().enumerate() {
+        for piece_len in row.piece_lens {
+            let client = Client::of(rt.alloc(), row, *piece_len)?;
+            let reads = client.reads();
+            for read in 0..=reads {
+                let right = !is_tried(read, reads) || client.fails_after(rt.alloc(), read);
+                assert!(rt; right, "row {number}, {piece_len} at a time, read {read}");
+            }
+        }
+    }
+    Ok(())
+}
+
+/// Of the numbers of writes after which it doesn't go so, the first.
+fn first_fault(alloc: Global, client: &Client, writes: usize, breaks: Break) -> Option<usize> {
+    (0..writes).find(|write| !client.breaks_off_after(alloc, *write, breaks))
+}
+
+#[test]
+fn a_writer_breaks_off_at_each_write(rt: HostRuntime) -> Result<(), Fail> {
+    for (number, row) in ROWS.iter().enumerate() {
+        for piece_len in row.piece_lens {
+            let client = Client::of(rt.alloc(), row, *piece_len)?;
+            let whole = client.serve(rt.alloc(), usize::MAX, usize::MAX, Break::Fails);
+            let pieces = client.transcript.len().div_ceil(client.piece_len.max(1));
+            assert!(rt; client.went_well(&whole) && whole.writes >= pieces);
+            for breaks in [Break::Fails, Break::TakesNothing] {
+                let fault = first_fault(rt.alloc(), &client, whole.writes, breaks);
+                assert_eq!(rt;
+                    fault,
+                    None,
+                    "row {number}, {piece_len} at a time, {breaks:?}"
+                );
+            }
+        }
+    }
+    Ok(())
 }

@@ -1,8 +1,9 @@
 //! A service that says back what it is asked to use.
-use bean_queue::{Op, Reply};
+use bean_queue::{Name, Op, Reply};
 use session::{Service, ServiceFault};
 
-/// It says which tube it is asked to use, and finds nothing for any other operation.
+/// It says which tube it is asked to use, and that `default` is used where it is asked for that. It finds nothing for any
+/// other operation.
 #[derive(Drop)]
 pub struct Echo {
     /// How often it was closed.
@@ -23,6 +24,7 @@ impl Service for Echo {
     fn ask(&mut self, op: Op) -> Result<Reply, ServiceFault> {
         match op {
             Op::Use(tube) => Ok(Reply::Using(tube)),
+            Op::ListTubeUsed => Ok(Reply::Using(Name::default_tube())),
             _ => Ok(Reply::NotFound),
         }
     }

@@ -1,5 +1,6 @@
 //! What faults and refusals are called.
 use beanpax::{ProgramFault, fault_number};
+use chronicle::{CheckFault, ReadFault};
 use hall::HallError;
 use leader::LeaderError;
 use slot_log::LearnError;
@@ -32,6 +33,15 @@ fn a_refusal_of_a_leader_or_a_log_is_told_by_its_name(rt: HostRuntime) -> Result
     assert_eq!(rt; clash.as_str(), "clash");
     let no_ballot_left = format!(in rt.alloc(); "{}", LeaderError::NoBallotLeft)?;
     assert_eq!(rt; no_ballot_left.as_str(), "no ballot left");
+    Ok(())
+}
+
+#[test]
+fn want_of_memory_for_a_dump_is_told_by_its_name(rt: HostRuntime) -> Result<(), Fail> {
+    let reading = format!(in rt.alloc(); "{}", ReadFault::OutOfMemory)?;
+    assert_eq!(rt; reading.as_str(), "out of memory");
+    let checking = format!(in rt.alloc(); "{}", CheckFault::OutOfMemory)?;
+    assert_eq!(rt; checking.as_str(), "out of memory");
     Ok(())
 }
 

@@ -34,7 +34,7 @@ const COMMANDS: u32 = 1_000;
 const ACTS: u32 = 5_000;
 
 /// So many sessions are opened in one hall.
-const SESSIONS: u32 = 5_000;
+const SESSIONS: u32 = 70_000;
 
 /// So many commands are brought into the order of one world by a way out each.
 const WAYS: u32 = 120;

@@ -71,13 +71,13 @@ fn event(alloc: Global, step: Step) -> Result<Event<Op>, Fail> {
     })
 }
 
-/// A session's first command, which puts a job.
+/// A session's first command, which puts a job. The first session's is `x`, that of any other `y`.
 pub(crate) fn put(alloc: Global, session: u32) -> Result<Command<Op>, Fail> {
     let op = Op::Put {
         pri: 0,
         delay: 0,
         ttr: 9,
-        body: Body::new(alloc, b"x")?,
+        body: Body::new(alloc, if session == 1 { b"x" } else { b"y" })?,
     };
     let key = Key { session, number: 1 };
     Ok(Command::new(key, Act::Do(op)).ok_or("no command")?)

@@ -1,9 +1,9 @@
-//! What stands in a queue after a session.
+//! What stands in a queue after a session, and what is told of one whose writer fails.
 ghost use Rattle.std.specs.Prelude.{◌<◌};
 
 use bean_queue::{Op, Queue, Reply};
-use beanpax::End;
 use beanpax::memory::{Ending, PieceReader, PieceWriter};
+use beanpax::{End, SessionFault};
 use object::{Act, Command, Key, Once};
 use session::{Service, ServiceFault, serve};
 use std::alloc::Global;
@@ -15,6 +15,7 @@ struct OneClient {
     alloc: Global,
     queue: Once<Queue>,
     given: u64,
+    times_closed: u64,
 }
 
 impl OneClient {
@@ -23,6 +24,7 @@ impl OneClient {
             alloc,
             queue: Once::new(alloc)?,
             given: 0,
+            times_closed: 0,
         })
     }
 
@@ -52,6 +54,7 @@ impl Service for OneClient {
     }
 
     fn close(&mut self) -> Result<(), ServiceFault> {
+        self.times_closed = self.times_closed.saturating_add(1);
         let reply = self.give(Act::Close)?;
         if reply.is_none() {
             Ok(())
@@ -91,6 +94,22 @@ fn a_put_without_its_body_leaves_no_job(rt: HostRuntime) -> Result<(), Fail> {
             piece_len,
         )?;
         assert!(rt; unfinished && deleted, "{piece_len}");
+    }
+    Ok(())
+}
+
+// The writer takes the first answer and a part of the second one.
+#[test]
+fn a_writer_that_fails_within_an_answer_ends_the_session(rt: HostRuntime) -> Result<(), Fail> {
+    for piece_len in [1, 7, 15] {
+        let mut client = OneClient::new(rt.alloc())?;
+        let input = b"put 0 0 9 1\r\nx\r\nreserve\r\n";
+        let mut reader = PieceReader::new(input.as_slice(), 4096, Ending::End);
+        let mut writer = PieceWriter::new(rt.alloc(), piece_len, 15);
+        let end = serve(rt.alloc(), &mut reader, &mut writer, &mut client);
+        assert_eq!(rt; end, Err(SessionFault::WriteFailed));
+        assert_eq!(rt; writer.bytes(), b"INSERTED 1\r\nRES".as_slice());
+        assert_eq!(rt; (client.given, client.times_closed), (3, 1));
     }
     Ok(())
 }

@@ -28,7 +28,7 @@ fn a_failed_writer_has_a_beginning(rt: HostRuntime) -> Result<(), Fail> {
 }
 
 /// So many interruptions come in a row.
-const INTERRUPTIONS: u32 = 9;
+const INTERRUPTIONS: u32 = 10;
 
 // Is interrupted so often before each call, and fails where `room` bytes were moved.
 #[derive(Drop)]
