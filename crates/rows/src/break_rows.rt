@@ -125,7 +125,7 @@ impl Read for FailingReader<'_> {
 }
 
 /// What a writer does where it breaks off.
-#[derive(Clone, Copy, Debug)]
+#[derive(Clone, Copy, Debug, PartialEq, Eq)]
 enum Break {
     Fails,
     TakesNothing,
@@ -243,10 +243,52 @@ impl Client {
         }
     }
 
-    /// Whether it goes so where the writer breaks off after so many of its writes, which aren't all.
-    fn breaks_off_after(&self, alloc: Global, good_writes: usize, breaks: Break) -> bool {
+    /// Whether it goes so where the writer breaks off after so many of its writes, which may be all.
+    fn breaks_off_after(
+        &self,
+        alloc: Global,
+        good_writes: usize,
+        writes: usize,
+        breaks: Break,
+    ) -> bool {
         let served = self.serve(alloc, usize::MAX, good_writes, breaks);
-        self.broke_off(&served, SessionFault::WriteFailed)
+        if good_writes < writes {
+            self.broke_off(&served, SessionFault::WriteFailed)
+        } else {
+            self.went_well(&served)
+        }
+    }
+
+    /// How many writes there are where nothing breaks off. Then it goes well, and no write takes more than a piece.
+    fn writes(&self, alloc: Global) -> Option<usize> {
+        let whole = self.serve(alloc, usize::MAX, usize::MAX, Break::Fails);
+        let pieces = self.transcript.len().div_ceil(self.piece_len.max(1));
+        if self.went_well(&whole) && whole.writes >= pieces {
+            Some(whole.writes)
+        } else {
+            None
+        }
+    }
+
+    /// The first number of good reads after which it doesn't go so.
+    fn first_wrong_read(&self, alloc: Global) -> Option<usize> {
+        let reads = self.reads();
+        for read in 0..=reads {
+            if is_tried(read, reads) && !self.fails_after(alloc, read) {
+                return Some(read);
+            }
+        }
+        None
+    }
+
+    /// The first number of good writes after which it doesn't go so.
+    fn first_wrong_write(&self, alloc: Global, writes: usize, breaks: Break) -> Option<usize> {
+        for write in 0..=writes {
+            if !self.breaks_off_after(alloc, write, writes, breaks) {
+                return Some(write);
+            }
+        }
+        None
     }
 }
 
@@ -256,42 +298,49 @@ fn is_tried(read: usize, reads: usize) -> bool {
     read < 320 || reads.saturating_sub(read) < 8 || read % 8191 == 0
 }
 
+fn wrong_read(alloc: Global, row: &Row, piece_len: usize) -> Result<Option<usize>, Fail> {
+    let client = Client::of(alloc, row, piece_len)?;
+    Ok(client.first_wrong_read(alloc))
+}
+
+fn wrong_write(
+    alloc: Global,
+    row: &Row,
+    piece_len: usize,
+    breaks: Break,
+) -> Result<Option<usize>, Fail> {
+    let client = Client::of(alloc, row, piece_len)?;
+    let writes = client.writes(alloc).ok_or("not all was told")?;
+    Ok(client.first_wrong_write(alloc, writes, breaks))
+}
+
 #[test]
 fn a_reader_fails_at_each_read(rt: HostRuntime) -> Result<(), Fail> {
     for (number, row) in ROWS.iter().enumerate() {
         for piece_len in row.piece_lens {
-            let client = Client::of(rt.alloc(), row, *piece_len)?;
-            let reads = client.reads();
-            for read in 0..=reads {
-                let right = !is_tried(read, reads) || client.fails_after(rt.alloc(), read);
-                assert!(rt; right, "row {number}, {piece_len} at a time, read {read}");
-            }
+            let wrong = wrong_read(rt.alloc(), row, *piece_len)?;
+            assert_eq!(rt; wrong, None, "row {number}, {piece_len} at a time");
         }
     }
     Ok(())
 }
 
-/// Of the numbers of writes after which it doesn't go so, the first.
-fn first_fault(alloc: Global, client: &Client, writes: usize, breaks: Break) -> Option<usize> {
-    (0..writes).find(|write| !client.breaks_off_after(alloc, *write, breaks))
+/// Of the two ways in which a writer breaks off, the first in which it doesn't go so, and after how many writes.
+fn wrong_break(alloc: Global, row: &Row, piece_len: usize) -> Result<Option<(Break, usize)>, Fail> {
+    for breaks in [Break::Fails, Break::TakesNothing] {
+        if let Some(write) = wrong_write(alloc, row, piece_len, breaks)? {
+            return Ok(Some((breaks, write)));
+        }
+    }
+    Ok(None)
 }
 
 #[test]
 fn a_writer_breaks_off_at_each_write(rt: HostRuntime) -> Result<(), Fail> {
     for (number, row) in ROWS.iter().enumerate() {
         for piece_len in row.piece_lens {
-            let client = Client::of(rt.alloc(), row, *piece_len)?;
-            let whole = client.serve(rt.alloc(), usize::MAX, usize::MAX, Break::Fails);
-            let pieces = client.transcript.len().div_ceil(client.piece_len.max(1));
-            assert!(rt; client.went_well(&whole) && whole.writes >= pieces);
-            for breaks in [Break::Fails, Break::TakesNothing] {
-                let fault = first_fault(rt.alloc(), &client, whole.writes, breaks);
-                assert_eq!(rt;
-                    fault,
-                    None,
-                    "row {number}, {piece_len} at a time, {breaks:?}"
-                );
-            }
+            let wrong = wrong_break(rt.alloc(), row, *piece_len)?;
+            assert_eq!(rt; wrong, None, "row {number}, {piece_len} at a time");
         }
     }
     Ok(())
