@@ -1,4 +1,4 @@
-//! Clients at the ends of pipes, and a clock that doesn't sleep.
+//! Clients at the ends of pipes, and clocks: one that doesn't sleep, and one that stands still.
 ghost use Rattle.std.specs.Prelude.{false};
 
 use node_threads::{Accept, Seconds};
@@ -6,9 +6,12 @@ use session::{ByteOut, Failed, Reading, Writing};
 use std::alloc::Global;
 use std::fs::Files;
 use std::io::{PipeReader, PipeWriter, Read, Write, pipe};
+use std::process::Abort;
+use std::rt::Clock;
 use std::sync::atomic::{AtomicBool, Ordering};
 use std::test::Fail;
 use std::thread;
+use std::time::Duration;
 
 /// The server's ends of a client's pipes.
 pub type Served = (Reading<PipeReader>, Writing<PipeWriter>);
@@ -81,6 +84,21 @@ pub fn connect(rt: &impl Files) -> Result<(Client, Served), Fail> {
     ))
 }
 
+/// So many clients, and what serves them.
+pub fn connect_all<R: Files + AllocGlobal>(
+    rt: &R,
+    count: u32,
+) -> Result<(Vec<Client>, Vec<Served>), Fail> {
+    let mut clients = Vec::new(rt.alloc());
+    let mut all_served = Vec::new(rt.alloc());
+    for _ in 0..count {
+        let (client, served) = connect(rt)?;
+        clients.push(client)?;
+        all_served.push(served)?;
+    }
+    Ok((clients, all_served))
+}
+
 /// A client that has sent this and sends no more, and what serves it.
 pub fn connect_once(rt: &impl Files, sent: &[u8]) -> Result<(PipeReader, Served), Fail> {
     let (mut client, served) = connect(rt)?;
@@ -149,5 +167,38 @@ impl<'a> Seconds for Hasty<'a> {
         }
         self.second += 1;
         Some(self.second)
+    }
+}
+
+/// So often a clock that stands still looks whether it is stopped, and so many milliseconds lie between two looks.
+const MOST_NAPS: u32 = 30_000;
+
+const NAP: u64 = 1;
+
+/// No second passes until it is stopped. It ends the test, failed, where nobody stops it for half a minute.
+#[derive(Drop)]
+pub struct Still<'a, R> {
+    rt: &'a R,
+    is_stopped: &'a AtomicBool,
+}
+
+impl<'a, R> Still<'a, R> {
+    /// It stands still from now on.
+    pub fn new(rt: &'a R, is_stopped: &'a AtomicBool) -> Still<'a, R> {
+        Still { rt, is_stopped }
+    }
+}
+
+impl<'a, R: Clock + Abort> Seconds for Still<'a, R> {
+    fn next(&mut self) -> Option<u64> {
+        let rt = self.rt;
+        for _ in 0..MOST_NAPS {
+            if self.is_stopped.load(Ordering::SeqCst) {
+                return None;
+            }
+            thread::sleep(rt, Duration::from_millis(NAP));
+        }
+        assert!(rt; false, "nobody was answered");
+        None
     }
 }

@@ -44,7 +44,7 @@ pub fn serve_faulty<
     accept: A,
     seconds: T,
     gate: &G,
-    mishaps: &F,
+    faults: &F,
 ) -> Result<Ended<Queue, A>, AllocError> {
     let hall = Hall::new(alloc, members)?;
     let workers = if workers < 1 || workers > 64 {
@@ -52,7 +52,7 @@ pub fn serve_faulty<
     } else {
         workers
     };
-    Ok(run_cluster_faulty(rt, alloc, hall, accept, seconds, workers, gate, mishaps))
+    Ok(run_cluster_faulty(rt, alloc, hall, accept, seconds, workers, gate, faults))
 }
 
 /// Whether nothing is wrong with the dump, and something is where the first command of session 1 has another answer.

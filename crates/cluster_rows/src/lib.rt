@@ -2,15 +2,21 @@
 #![tactic(auto)]
 
 #[cfg(test)]
+mod attend_rows;
+#[cfg(test)]
 mod clients;
 #[cfg(test)]
 mod clusters;
+#[cfg(test)]
+mod desk_rows;
 #[cfg(test)]
 mod faults;
 #[cfg(test)]
 mod gates;
 #[cfg(test)]
 mod held_rows;
+#[cfg(test)]
+mod leader_rows;
 #[cfg(test)]
 mod leaving_rows;
 #[cfg(test)]
@@ -23,5 +29,7 @@ mod narrow;
 mod served_rows;
 #[cfg(test)]
 mod soak_rows;
+#[cfg(test)]
+mod still_rows;
 #[cfg(test)]
 mod weighted_rows;

@@ -59,7 +59,7 @@ fn is_late<R: Threads + Wait + Clock + Sync + Abort + Files + AllocGlobal, F: Fa
     rt: &R,
     members: Members,
     goes: &AtomicBool,
-    mishaps: &F,
+    faults: &F,
 ) -> Result<bool, Fail> {
     let alloc = rt.alloc();
     let (client, served) = connect(rt)?;
@@ -82,7 +82,7 @@ fn is_late<R: Threads + Wait + Clock + Sync + Abort + Files + AllocGlobal, F: Fa
             Queued::new(clients),
             seconds,
             &gate,
-            mishaps,
+            faults,
         ),
         || put(client, &is_stopped),
     );

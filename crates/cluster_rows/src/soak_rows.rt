@@ -1,5 +1,5 @@
 //! Clients put, reserve and delete jobs while mishaps befall the nodes at a third of their turns.
-use crate::clients::{Client, Queued, Served, connect};
+use crate::clients::{Client, Queued, connect_all};
 use crate::clusters::{is_explained, serve_faulty};
 use crate::faults::{Counted, Drawn};
 use crate::gates::Bounded;
@@ -17,7 +17,7 @@ use std::thread::Threads;
 use std::time::Duration;
 
 /// So many clients put a job each, reserve one and delete it.
-const CLIENTS: usize = 8;
+const CLIENTS: u32 = 8;
 
 /// The mishaps of one run after the other are drawn from these.
 const SEEDS: [u64; 3] = [1, 2, 3];
@@ -76,7 +76,7 @@ impl<'a, R: Clock> Seconds for Paced<'a, R> {
 }
 
 /// Puts a job, reserves one and deletes it. Answers the number of the one that was deleted; none where a reply is another.
-fn cycle(alloc: Global, client: &mut Client) -> Result<Option<u64>, AllocError> {
+pub(crate) fn cycle(alloc: Global, client: &mut Client) -> Result<Option<u64>, AllocError> {
     let was_put = client.asks(b"put 0 0 4000000000 1\r\nx\r\n", b"INSERTED ")
         && client.number().is_some()
         && client.hears(b"\n");
@@ -89,18 +89,6 @@ fn cycle(alloc: Global, client: &mut Client) -> Result<Option<u64>, AllocError> 
     let delete = format!(in alloc; "delete {id}\r\n")?;
     let is_deleted = client.hears(b"1\r\nx\r\n") && client.asks(delete.as_bytes(), b"DELETED\r\n");
     Ok(is_deleted.then_some(id))
-}
-
-/// The clients, and what serves them.
-fn connect_all<R: Files + AllocGlobal>(rt: &R) -> Result<(Vec<Client>, Vec<Served>), Fail> {
-    let mut clients = Vec::new(rt.alloc());
-    let mut all_served = Vec::new(rt.alloc());
-    for _ in 0..CLIENTS {
-        let (client, served) = connect(rt)?;
-        clients.push(client)?;
-        all_served.push(served)?;
-    }
-    Ok((clients, all_served))
 }
 
 /// The jobs that all clients deleted, in order; none for a client that was told something else. Then the clock is stopped.
@@ -137,7 +125,7 @@ fn soak<R: Threads + Wait + Sync + Abort + Clock + Files + AllocGlobal>(
     seed: u64,
 ) -> Result<Soaked, Fail> {
     let alloc = rt.alloc();
-    let (clients, served) = connect_all(rt)?;
+    let (clients, served) = connect_all(rt, CLIENTS)?;
     let is_stopped = AtomicBool::new(false);
     let gate = Bounded::new(rt, MOST_TURNS);
     let seconds = Paced {

@@ -90,3 +90,56 @@ fn a_pause_of_three_seconds_is_three_of_the_clock(rt: HostRuntime) -> Result<(),
     assert!(rt; is_in_time(waited, ended.status));
     Ok(())
 }
+
+/// So many milliseconds are to lie between two replies, at least and at most; that is tried so often.
+const SHORTEST: u64 = 9_500;
+
+const LONGEST: u64 = 10_500;
+
+const TRIES: u32 = 3;
+
+/// How long it takes from the end of one second to the end of the tenth after it.
+fn ten_seconds<H: Host>(rt: &H, client: &mut Client) -> Option<Duration> {
+    if !client.is_told(b"reserve-with-timeout 1\r\n", b"TIMED_OUT\r\n") {
+        return None;
+    }
+    let before = Instant::now(rt).ok()?;
+    if !client.is_told(b"reserve-with-timeout 10\r\n", b"TIMED_OUT\r\n") {
+        return None;
+    }
+    before.elapsed(rt).ok()
+}
+
+/// Whether ten seconds are ten of the clock, in one of some tries: a busy machine may tell a second late.
+fn are_ten<H: Host>(rt: &H, port: u16) -> Option<bool> {
+    let mut client = Client::connect(rt, port)?;
+    for _ in 0..TRIES {
+        let took = ten_seconds(rt, &mut client)?;
+        if took >= Duration::from_millis(SHORTEST) && took <= Duration::from_millis(LONGEST) {
+            return Some(true);
+        }
+    }
+    Some(false)
+}
+
+#[test]
+fn ten_seconds_are_ten_of_the_clock(rt: HostRuntime) -> Result<(), Fail> {
+    let _sockets = no_sockets();
+    let port = free_port(&rt)?;
+    let line = format!(in rt.alloc(); "serve --sessions 1 --nodes 1 --port {port}")?;
+    let words = words(rt.alloc(), line.as_str())?;
+    let (ended, are_ten) = thread::join(
+        &rt,
+        || {
+            let _sockets = no_sockets();
+            start(&rt, words.as_slice())
+        },
+        || {
+            let _sockets = no_sockets();
+            are_ten(&rt, port)
+        },
+    );
+    assert_eq!(rt; are_ten, Some(true));
+    assert_eq!(rt; ended.status, 0);
+    Ok(())
+}

@@ -15,6 +15,8 @@ mod cycle_rows;
 #[cfg(test)]
 mod dump_rows;
 #[cfg(test)]
+mod end_rows;
+#[cfg(test)]
 mod resources;
 #[cfg(test)]
 mod session_rows;
