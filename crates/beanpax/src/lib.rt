@@ -29,6 +29,6 @@ pub use run::{run_bytes, run_bytes_weighted};
 pub use session::{
     ByteIn, ByteOut, End, Failed, Reading, SessionFault, Writing, memory, write_all,
 };
-pub use warning::warn;
 pub use verdict::Verdict;
+pub use warning::warn;
 pub use words::{Action, ServerOptions, parse_words};

@@ -3,7 +3,7 @@ ghost use Rattle.beanpax.specs.Program.{WritesText};
 ghost use Rattle.beanpax.specs.Words.{AskForUnwrittenDump};
 
 use crate::entry::tell_error;
-use crate::words::{Action, parse_words};
+use crate::words::parse_words;
 use session::ByteOut;
 use std::alloc::Global;
 
@@ -18,11 +18,12 @@ pub fn warn<E: ByteOut>(alloc: Global, words: &[String], errors: &mut E) -> bool
         (codes "beanpax: without --sessions no dump is written\n") }
     ensures silent { result ≡ false → errors.new ≡ errors.old }
 {
-    match parse_words(alloc, words) {
-        Ok(Action::Serve(options)) if options.has_unwritten_dump() => {
-            tell_error(UNWRITTEN, errors);
-            true
-        }
-        _ => false,
+    let Ok(action) = parse_words(alloc, words) else {
+        return false;
+    };
+    let is_told = action.has_unwritten_dump();
+    if is_told {
+        tell_error(UNWRITTEN, errors);
     }
+    is_told
 }

@@ -1,6 +1,8 @@
-ghost use Rattle.std.specs.Prelude.{◌≡◌, ◌≢◌, ◌≤◌, ◌^◌, ◌-◌, [], Some, codes, false, map, string_bytes, unwrap_or, IfOk};
+ghost use Rattle.std.specs.Prelude.{◌≡◌, ◌≢◌, ◌≤◌, ◌^◌, ◌-◌, [], Some, codes, true, false, map, string_bytes, unwrap_or, IfOk};
 ghost use Rattle.clap.specs.Words.{app_of, first_value, found_of, one_text, rule_of};
 ghost use Rattle.clap.specs.declared.builder.command.Command.TheViews.{out-Command as fields_of};
+ghost use Rattle.beanpax.specs.declared.words.Action.TheVariants.{Serve};
+ghost use Rattle.beanpax.specs.declared.words.ServerOptions.{ServerOptions};
 ghost use Rattle.beanpax.specs.Numbers.{IsNumberOr};
 ghost use Rattle.beanpax.specs.Weights.{AreMembersOf};
 ghost use Rattle.beanpax.specs.Words.{IsAskedBy, IsRunOf, IsServeOf, IsServerOf, has_unwritten_dump};
@@ -47,6 +49,19 @@ pub enum Action<'a> {
     Wrong(String),
 }
 
+impl Action<'_> {
+    /// Whether a server is asked for that is to write a dump at its end, and has none.
+    pub(crate) fn has_unwritten_dump(&self) -> bool
+        ensures { result ≡ true → (options : ServerOptions) × (self.now ≡ Serve options)
+            × (has_unwritten_dump options ≡ true) }
+    {
+        match self {
+            Action::Serve(options) => options.dump.is_some() && options.sessions.is_none(),
+            _ => false,
+        }
+    }
+}
+
 /// What a run is to do.
 #[derive(Drop)]
 pub struct RunOptions {
@@ -69,15 +84,6 @@ pub struct ServerOptions<'a> {
     pub sessions: Option<u32>,
     /// The file for the dump at its end.
     pub dump: Option<&'a str>,
-}
-
-impl ServerOptions<'_> {
-    /// Whether a dump was asked for at an end that never comes.
-    pub(crate) fn has_unwritten_dump(&self) -> bool
-        ensures { result ≡ has_unwritten_dump self.now }
-    {
-        self.dump.is_some() && self.sessions.is_none()
-    }
 }
 
 /// What the words ask for; the first is the program's name.
