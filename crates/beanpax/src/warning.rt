@@ -21,9 +21,9 @@ pub fn warn<E: ByteOut>(alloc: Global, words: &[String], errors: &mut E) -> bool
     let Ok(action) = parse_words(alloc, words) else {
         return false;
     };
-    let is_told = action.has_unwritten_dump();
-    if is_told {
-        tell_error(UNWRITTEN, errors);
+    if !action.has_unwritten_dump() {
+        return false;
     }
-    is_told
+    tell_error(UNWRITTEN, errors);
+    true
 }
