@@ -33,7 +33,11 @@ pub fn handle(rt: &HostRuntime, members: Members, jobs: u64) -> Option<()> {
 pub fn handle_and_dump(rt: &HostRuntime, members: Members, jobs: u64) -> Option<()> {
     let mut hall = Hall::new(rt.alloc(), members).ok()?;
     handle_all(rt, &mut hall, jobs, false)?;
-    let counts = count_dump(rt.alloc(), &hall)?;
+    tell_order(rt, &hall)
+}
+
+fn tell_order(rt: &HostRuntime, hall: &Hall<Queue>) -> Option<()> {
+    let counts = count_dump(rt.alloc(), hall)?;
     println!(rt; "legal {}", counts.order).ok()
 }
 
@@ -41,21 +45,51 @@ pub fn handle_and_dump(rt: &HostRuntime, members: Members, jobs: u64) -> Option<
 pub fn dump_many_answers(rt: &HostRuntime, members: Members, jobs: u64) -> Option<()> {
     let mut hall = Hall::new(rt.alloc(), members).ok()?;
     handle_large(rt.alloc(), &mut hall, jobs)?;
-    let counts = count_dump(rt.alloc(), &hall)?;
+    tell_answers(rt, &hall)
+}
+
+fn tell_answers(rt: &HostRuntime, hall: &Hall<Queue>) -> Option<()> {
+    let counts = count_dump(rt.alloc(), hall)?;
     if counts.bytes <= LARGE {
         return None;
     }
     println!(rt; "answers {}", counts.answers).ok()
 }
 
+/// Two sessions, of which one has each odd job and the other each even one, and what each job has.
+#[derive(Drop)]
+struct Workers {
+    odd: Ticket<Queue>,
+    even: Ticket<Queue>,
+    body: &'static [u8],
+}
+
+impl Workers {
+    /// The two are opened, and node 1 wakes.
+    fn begin(hall: &mut Hall<Queue>, body: &'static [u8]) -> Option<Workers> {
+        hall.wake(1).ok()?;
+        let odd = hall.open_session().ok()?;
+        let even = hall.open_session().ok()?;
+        Some(Workers { odd, even, body })
+    }
+
+    /// The next job.
+    fn handle(&mut self, alloc: Global, hall: &mut Hall<Queue>, job: u64) -> Option<()> {
+        let body = self.body;
+        let ticket = if job % 2 == 1 {
+            &mut self.odd
+        } else {
+            &mut self.even
+        };
+        handle_one(alloc, hall, ticket, body, job)
+    }
+}
+
 fn handle_all(rt: &HostRuntime, hall: &mut Hall<Queue>, jobs: u64, is_timed: bool) -> Option<()> {
     let marks = [WARM_UP, WARM_UP + TIMED, jobs.saturating_sub(TIMED), jobs];
-    let mut odd = hall.open_session().ok()?;
-    let mut even = hall.open_session().ok()?;
-    hall.wake(1).ok()?;
+    let mut workers = Workers::begin(hall, &BODY)?;
     for job in 1..=jobs {
-        let ticket = if job % 2 == 1 { &mut odd } else { &mut even };
-        handle_one(rt.alloc(), hall, ticket, &BODY, job)?;
+        workers.handle(rt.alloc(), hall, job)?;
         if marks.contains(&job) {
             tell(rt, job, is_timed)?;
         }
@@ -64,12 +98,9 @@ fn handle_all(rt: &HostRuntime, hall: &mut Hall<Queue>, jobs: u64, is_timed: boo
 }
 
 fn handle_large(alloc: Global, hall: &mut Hall<Queue>, jobs: u64) -> Option<()> {
-    let mut odd = hall.open_session().ok()?;
-    let mut even = hall.open_session().ok()?;
-    hall.wake(1).ok()?;
+    let mut workers = Workers::begin(hall, &LARGE_BODY)?;
     for job in 1..=jobs {
-        let ticket = if job % 2 == 1 { &mut odd } else { &mut even };
-        handle_one(alloc, hall, ticket, &LARGE_BODY, job)?;
+        workers.handle(alloc, hall, job)?;
     }
     Some(())
 }

@@ -13,23 +13,43 @@ use object::Act;
 /// majority of two or three, and that of node 1 comes last, so its decision is one letter more.
 pub fn fill_a_mail(rt: &HostRuntime, members: Members, letters: u64) -> Option<()> {
     let mut hall = Hall::new(rt.alloc(), members).ok()?;
+    fill(rt, &mut hall, letters)
+}
+
+fn fill(rt: &HostRuntime, hall: &mut Hall<Queue>, letters: u64) -> Option<()> {
     let mut ticket = hall.open_session().ok()?;
-    ask_to_accept(&mut hall, &mut ticket)?;
-    copy_front(&mut hall, letters)?;
-    let second = deliver_each(&mut hall, 2)?;
-    let first = deliver_each(&mut hall, 1)?;
-    answer(&mut hall, &mut ticket)?;
+    let (second, first) = read_copies(hall, &mut ticket, letters)?;
+    answer(hall, &mut ticket)?;
     println!(rt; "letters {second} {first}").ok()
+}
+
+// How many letters node 2 reads, and then node 1.
+fn read_copies(
+    hall: &mut Hall<Queue>,
+    ticket: &mut Ticket<Queue>,
+    letters: u64,
+) -> Option<(u64, u64)> {
+    ask_to_accept(hall, ticket)?;
+    copy_front(hall, letters)?;
+    let second = deliver_each(hall, 2)?;
+    let first = deliver_each(hall, 1)?;
+    Some((second, first))
 }
 
 // Node 1 leads, and asks to accept the session's command. Node 2 has no other letter.
 fn ask_to_accept(hall: &mut Hall<Queue>, ticket: &mut Ticket<Queue>) -> Option<()> {
     hall.wake(1).ok()?;
     deliver_all(hall)?;
-    hall.submit(ticket, Act::Do(Op::ListTubeUsed), 1).ok()?;
-    hall.propose(1).ok()?;
+    propose(hall, ticket)?;
     deliver_first(hall, 1)?;
     deliver_first(hall, 2)
+}
+
+// The session asks which tube it uses, and node 1 proposes that.
+fn propose(hall: &mut Hall<Queue>, ticket: &mut Ticket<Queue>) -> Option<()> {
+    hall.submit(ticket, Act::Do(Op::ListTubeUsed), 1).ok()?;
+    hall.propose(1).ok()?;
+    Some(())
 }
 
 // A node has a letter, and reads it.

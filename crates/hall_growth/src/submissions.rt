@@ -17,11 +17,19 @@ const EACH: u64 = 11;
 /// answers and places of the order the dump has.
 pub fn submit_many(rt: &HostRuntime, members: Members, submissions: u64) -> Option<()> {
     let mut hall = Hall::new(rt.alloc(), members).ok()?;
+    submit_all(&mut hall, submissions)?;
+    tell(rt, &hall)
+}
+
+fn submit_all(hall: &mut Hall<Queue>, submissions: u64) -> Option<()> {
     let sessions = submissions / EACH;
-    submit_of_sessions(&mut hall, sessions)?;
-    submit_seconds(&mut hall, submissions.saturating_sub(sessions))?;
-    perform_few(&mut hall)?;
-    let counts = count_dump(rt.alloc(), &hall)?;
+    submit_of_sessions(hall, sessions)?;
+    submit_seconds(hall, submissions.saturating_sub(sessions))?;
+    perform_few(hall)
+}
+
+fn tell(rt: &HostRuntime, hall: &Hall<Queue>) -> Option<()> {
+    let counts = count_dump(rt.alloc(), hall)?;
     println!(rt;
         "submitted {} {} {}",
         counts.submitted, counts.answers, counts.order
@@ -32,10 +40,14 @@ pub fn submit_many(rt: &HostRuntime, members: Members, submissions: u64) -> Opti
 // So many sessions ask which tube they use.
 fn submit_of_sessions(hall: &mut Hall<Queue>, sessions: u64) -> Option<()> {
     for _ in 0..sessions {
-        let mut ticket = hall.open_session().ok()?;
-        hall.submit(&mut ticket, Act::Do(Op::ListTubeUsed), 1).ok()?;
+        submit_of_new_session(hall)?;
     }
     Some(())
+}
+
+fn submit_of_new_session(hall: &mut Hall<Queue>) -> Option<()> {
+    let mut ticket = hall.open_session().ok()?;
+    hall.submit(&mut ticket, Act::Do(Op::ListTubeUsed), 1).ok()
 }
 
 // The clock shows so many seconds.
