@@ -55,6 +55,27 @@ pub fn serve_faulty<
     Ok(run_cluster_faulty(rt, alloc, hall, accept, seconds, workers, gate, faults))
 }
 
+/// Whether such a cluster ends well.
+pub fn ends_well<
+    R: Threads + Wait + Clock + Sync,
+    A: Accept + Drop,
+    T: Seconds + Send + Drop,
+    G: Gate + Sync,
+    F: Faults + Sync,
+>(
+    rt: &R,
+    alloc: Global,
+    members: Members,
+    workers: u32,
+    accept: A,
+    seconds: T,
+    gate: &G,
+    faults: &F,
+) -> Result<bool, AllocError> {
+    let ended = serve_faulty(rt, alloc, members, workers, accept, seconds, gate, faults)?;
+    Ok(ended.fault.is_none())
+}
+
 /// Whether nothing is wrong with the dump, and something is where the first command of session 1 has another answer.
 pub fn is_explained<A>(alloc: Global, ended: &Ended<Queue, A>) -> Result<bool, ReadFault> {
     let mut text = Vec::new(alloc);

@@ -7,7 +7,7 @@ use crate::soak_rows::cycle;
 use ballot::Members;
 use bean_queue::Queue;
 use hall::{Hall, HallError};
-use node_threads::Seconds;
+use node_threads::{Accept, Seconds};
 use std::alloc::{AllocError, Global};
 use std::fs::Files;
 use std::process::Abort;
@@ -114,14 +114,28 @@ fn leads(hall: &mut Hall<Queue>, node: u8) -> bool {
     has_read && hall.wake(node).is_ok() && !hall.has_mail(node)
 }
 
-/// Whether so many nodes and workers serve all clients, and the first node leads then, which woke at the start.
+/// Whether such a cluster ends well, and the first node leads then, which woke at the start.
+fn ends_led<R: Threads + Wait + Clock + Sync, A: Accept + Drop, T: Seconds + Send + Drop>(
+    rt: &R,
+    alloc: Global,
+    members: Members,
+    workers: u32,
+    accept: A,
+    seconds: T,
+) -> Result<bool, AllocError> {
+    let mut ended = serve_faulty(
+        rt, alloc, members, workers, accept, seconds, &Open, &Nothing,
+    )?;
+    Ok(ended.fault.is_none() && leads(&mut ended.hall, 1))
+}
+
+/// Whether these nodes and so many workers serve all clients, and the first node leads then.
 fn goes_on_to_lead<R: Threads + Wait + Sync + Abort + Clock + Files + AllocGlobal>(
     rt: &R,
-    nodes: u8,
+    members: Members,
     workers: u32,
 ) -> Result<bool, Fail> {
     let alloc = rt.alloc();
-    let members = Members::new(nodes).ok_or("no members")?;
     let (clients, served) = connect_all(rt, CLIENTS)?;
     let is_stopped = AtomicBool::new(false);
     let seconds = Bursts {
@@ -131,23 +145,20 @@ fn goes_on_to_lead<R: Threads + Wait + Sync + Abort + Clock + Files + AllocGloba
         is_stopped: &is_stopped,
     };
     let accept = Queued::new(served);
-    let (ended, worked) = thread::join(
+    let (ended_led, worked) = thread::join(
         rt,
-        || serve_faulty(
-            rt, alloc, members, workers, accept, seconds, &Open, &Nothing,
-        ),
+        || ends_led(rt, alloc, members, workers, accept, seconds),
         || work(rt, alloc, clients, &is_stopped),
     );
-    let worked = worked?;
-    let mut ended = ended?;
-    Ok(worked && ended.fault.is_none() && leads(&mut ended.hall, 1))
+    Ok(ended_led? && worked?)
 }
 
 // Tried: where each second counts, as it comes, another node wakes and leads.
 #[test]
 fn nobody_wakes_while_another_leads(rt: HostRuntime) -> Result<(), Fail> {
     for (nodes, workers) in [(3, 4), (3, 16), (7, 16)] {
-        let goes_on_to_lead = goes_on_to_lead(&rt, nodes, workers)?;
+        let members = Members::new(nodes).ok_or("no members")?;
+        let goes_on_to_lead = goes_on_to_lead(&rt, members, workers)?;
         assert!(rt; goes_on_to_lead);
     }
     Ok(())
