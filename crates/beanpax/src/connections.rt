@@ -93,6 +93,7 @@ impl<'a, C: Clock> Accept for Connections<'a, C> {
         ensures ok { OnOk result (self.new.has_failed ≡ self.old.has_failed) }
         ensures err { OnErr result (self.new.has_failed ≡ true) }
         ensures none { result ≡ Ok None → self.new.has_ended ≡ true }
+        ensures shut { result ≡ Ok None → self.new.listener ≡ None }
         ensures goes_on { result ≢ Ok None → self.new.has_ended ≡ self.old.has_ended }
     {
         if let Some(left) = self.left {

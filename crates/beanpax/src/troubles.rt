@@ -1,3 +1,7 @@
+ghost use Rattle.std.specs.Prelude.{◌≡◌, ◌⊎◌, None, Some, pos};
+ghost use Rattle.std_io.specs.IoError.{raw_os_error};
+ghost use Rattle.beanpax.specs.declared.troubles.Trouble.TheVariants.{Connection, Listener, Shortage};
+
 use std::rt::Clock;
 use std::time::Duration;
 use std::{io, thread};
@@ -30,8 +34,16 @@ pub(crate) enum Trouble {
     Listener,
 }
 
-/// What a call that accepts, or makes use of a connection, tells by its error.
-pub(crate) fn trouble_of(error: &io::Error) -> Trouble {
+/// What a call that accepts, or makes use of a connection, tells by its error. The clauses have ENFILE and EMFILE, ENOBUFS
+/// and ENOMEM, ECONNABORTED, and what isn't the system's.
+pub(crate) fn trouble_of(error: &io::Error) -> Trouble
+    ensures no_file_left { (raw_os_error error.now ≡ Some (pos 23))
+        ⊎ (raw_os_error error.now ≡ Some (pos 24)) → result ≡ Shortage }
+    ensures no_room_left { (raw_os_error error.now ≡ Some (pos 105))
+        ⊎ (raw_os_error error.now ≡ Some (pos 12)) → result ≡ Shortage }
+    ensures aborted { raw_os_error error.now ≡ Some (pos 103) → result ≡ Connection }
+    ensures not_of_the_system { raw_os_error error.now ≡ None → result ≡ Listener }
+{
     match error.raw_os_error() {
         Some(number) if SHORTAGES.contains(&number) => Trouble::Shortage,
         Some(number) if OF_ONE_CONNECTION.contains(&number) => Trouble::Connection,

@@ -52,8 +52,10 @@ pub enum Action<'a> {
 impl Action<'_> {
     /// Whether a server is asked for that is to write a dump at its end, and has none.
     pub(crate) fn has_unwritten_dump(&self) -> bool
-        ensures { result ≡ true → (options : ServerOptions) × (self.now ≡ Serve options)
+        ensures asked { result ≡ true → (options : ServerOptions) × (self.now ≡ Serve options)
             × (has_unwritten_dump options ≡ true) }
+        ensures told { (options : ServerOptions) → self.now ≡ Serve options
+            → result ≡ has_unwritten_dump options }
     {
         match self {
             Action::Serve(options) => options.dump.is_some() && options.sessions.is_none(),

@@ -4,6 +4,6 @@ use Rattle.beanpax.proofs.warning.warn.Goals as goal
 
 pub returns-clause-told : goal.returns-clause-told
 returns-clause-told g c = λ told.
-    let it = c.has_unwritten_dump.ensures c.if-not-has_unwritten_dump.false in
+    let it = c.has_unwritten_dump.ensures.asked c.if-not-has_unwritten_dump.false in
     let asked = subst (IsAskedBy (map string_bytes c.args.words.now)) it.1 c.in-Ok.ensures in
     ((it.0, asked, it.2), c.tell_error.ensures)
