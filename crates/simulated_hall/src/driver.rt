@@ -1,4 +1,4 @@
-ghost use Rattle.std.specs.Prelude.{◌≡◌, ◌<◌, ◌≤◌, ℕ, true, is_some, IfSome};
+ghost use Rattle.std.specs.Prelude.{◌≡◌, ◌<◌, ◌≤◌, ◌⊎◌, ℕ, true, false, is_some, IfSome};
 ghost use Rattle.ballot.specs.Members.{is_member};
 ghost use Rattle.slot_log.specs.Decisions.{next_decided};
 ghost use Rattle.network.specs.Networks.{node_of, has_mail};
@@ -109,7 +109,9 @@ impl Driver {
 
     /// Another command is to be carried: a request, or a second of the clock. While seconds pass nobody waits for the
     /// nodes that aren't needed, once the last storm is settled.
-    pub fn begin(&mut self, members: Members, is_request: bool) {
+    pub fn begin(&mut self, members: Members, is_request: bool)
+        ensures settles { (self.new.storm ≡ 0) ⊎ (0 < self.new.unsettled) }
+    {
         self.commands = self.commands.saturating_add(1);
         self.slots = self.slots.saturating_add(1);
         self.behind = if is_request { CATCH_UP } else { 0 };
@@ -149,7 +151,10 @@ impl Driver {
 
 impl Driver {
     // Pays for what a storm, or a Wake or a Nudge in it, may lead to, where the purse has as much.
-    fn pays(&mut self, members: Members) -> bool {
+    fn pays(&mut self, members: Members) -> bool
+        ensures paid { result ≡ true → self.new.purse < self.old.purse }
+        ensures kept { result ≡ false → self.new ≡ self.old }
+    {
         let each_slot = 8 * u32::from(members.count());
         let letters = self.slots.saturating_add(2).saturating_mul(each_slot);
         let Some(left) = self.purse.checked_sub(letters) else {
