@@ -1,4 +1,4 @@
-ghost use Rattle.std.specs.Prelude.{◌≡◌, ◌⊎◌, None, Some, pos};
+ghost use Rattle.std.specs.Prelude.{◌≡◌, ◌≤◌, ◌<◌, ◌⊎◌, None, Some, pos};
 ghost use Rattle.std_io.specs.IoError.{raw_os_error};
 ghost use Rattle.beanpax.specs.declared.troubles.Trouble.TheVariants.{Connection, Listener, Shortage};
 
@@ -51,6 +51,15 @@ pub(crate) fn trouble_of(error: &io::Error) -> Trouble
     }
 }
 
+/// How long a pause is after one of so many milliseconds.
+fn next_pause(millis: u64) -> u64
+    ensures longest { result ≤ LONGEST_PAUSE }
+    ensures longer { 0 < millis → millis < LONGEST_PAUSE → millis < result }
+    ensures longest_stays { LONGEST_PAUSE ≤ millis → result ≡ LONGEST_PAUSE }
+{
+    millis.saturating_mul(2).min(LONGEST_PAUSE)
+}
+
 /// Pauses between tries, each longer than the one before it, up to a second.
 #[derive(Drop)]
 pub(crate) struct Pauses<'a, R> {
@@ -70,6 +79,6 @@ impl<'a, R: Clock> Pauses<'a, R> {
     /// Lets a pause pass.
     pub(crate) fn wait(&mut self) {
         thread::sleep(self.clock, Duration::from_millis(self.millis));
-        self.millis = self.millis.saturating_mul(2).min(LONGEST_PAUSE);
+        self.millis = next_pause(self.millis);
     }
 }
