@@ -153,7 +153,7 @@ fn goes_on_to_lead<R: Threads + Wait + Sync + Abort + Clock + Files + AllocGloba
     Ok(ended_led? && worked?)
 }
 
-// Tried: where each second counts, as it comes, another node wakes and leads.
+// It is for a cluster in which each second counts as it comes: there another node would wake and lead.
 #[test]
 fn nobody_wakes_while_another_leads(rt: HostRuntime) -> Result<(), Fail> {
     for (nodes, workers) in [(3, 4), (3, 16), (7, 16)] {
