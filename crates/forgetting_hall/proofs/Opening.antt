@@ -14,7 +14,7 @@ use Rattle.node.specs.PlaceLaws.{new_in}
 use Rattle.node.specs.Receiving.{ShowsNode}
 use Rattle.network.specs.Networks.{new_network}
 use Rattle.network.specs.MailLaws.{new_mail}
-use Rattle.world.specs.Nodes.{new_cluster}
+use Rattle.agreement.specs.Nodes.{new_cluster}
 use Rattle.forgetting.specs.Rests.{rest_of_node}
 use Rattle.forgetting.proofs.Maps.{above_empty}
 use Rattle.forgetting_hall.specs.Shown.{ShowsRest, ObeyWorld}

@@ -11,18 +11,18 @@ use Rattle.ballot.specs.OrderLaws.{BallotLaws}
 use Rattle.slot_log.specs.Histories.{history}
 use Rattle.node.specs.declared.deed.Deed.{Deed}
 use Rattle.node.specs.declared.deed.Deed.TheVariants as deeds
-use Rattle.world.specs.Mentions.{MentionsNode, Mentions, ProposesOnly}
-use Rattle.world.specs.Nodes.{node}
-use Rattle.world.specs.Runs.{IsWorld, InEvery}
-use Rattle.world.specs.Worlds.{World}
-use Rattle.world.specs.declared.event.Event.{Event}
-use Rattle.world.specs.declared.event.Event.TheVariants as events
-use Rattle.world.proofs.Every.{is_decided, knows_chosen}
-use Rattle.world.proofs.LeadingRuns.{in_every}
-use Rattle.world.proofs.Mentions.{new_of}
-use Rattle.world.proofs.MentionsEvery.{mentions_step, next_open}
-use Rattle.world.proofs.Reach.{opened_at, reachable_sound}
-use Rattle.world.proofs.SlotBooksEvery.{books}
+use Rattle.agreement.specs.Mentions.{MentionsNode, Mentions, ProposesOnly}
+use Rattle.agreement.specs.Nodes.{node}
+use Rattle.agreement.specs.Runs.{IsWorld, InEvery}
+use Rattle.agreement.specs.Worlds.{World}
+use Rattle.agreement.specs.declared.event.Event.{Event}
+use Rattle.agreement.specs.declared.event.Event.TheVariants as events
+use Rattle.agreement.proofs.every.Every.{is_decided, knows_chosen}
+use Rattle.agreement.proofs.books.LeadingRuns.{in_every}
+use Rattle.agreement.proofs.books.Mentions.{new_of}
+use Rattle.agreement.proofs.books.MentionsEvery.{mentions_step, next_open}
+use Rattle.agreement.proofs.chosen.Reach.{opened_at, reachable_sound}
+use Rattle.agreement.proofs.books.SlotBooksEvery.{books}
 use Rattle.forgetting.specs.Asking.{IsLastOfSession}
 use Rattle.forgetting.specs.Holding.{AsksForLast}
 use Rattle.forgetting.proofs.Gone.{flat_In, option_In}

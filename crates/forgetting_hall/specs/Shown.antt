@@ -11,11 +11,11 @@ use Rattle.node.specs.Deeds.{acted, outcome_of}
 use Rattle.node.specs.Receiving.{ShowsNode, ShowsReceived}
 use Rattle.node.specs.declared.deed.Deed.{Deed}
 use Rattle.network.specs.Networks.{NetworkState, node_of, mail_of, turned_net, without_front}
-use Rattle.world.specs.Nodes.{Cluster, node}
-use Rattle.world.specs.Worlds.{World}
-use Rattle.world.specs.Steps.{Step, IsItsOwn}
-use Rattle.world.specs.Tasks.{event_of}
-use Rattle.world.specs.declared.event.Event.TheVariants.{Deliver}
+use Rattle.agreement.specs.Nodes.{Cluster, node}
+use Rattle.agreement.specs.Worlds.{World}
+use Rattle.agreement.specs.Steps.{Step, IsItsOwn}
+use Rattle.agreement.specs.Events.{event_of}
+use Rattle.agreement.specs.declared.event.Event.TheVariants.{Deliver}
 use Rattle.forgetting.specs.Rests.{rest_of_node, rest_of_body}
 use Rattle.forgetting.specs.Holding.{Holding, HeldTurn, acted_held, outcome_held}
 use Rattle.object.specs.OnceOnly.{Filtered}

@@ -15,9 +15,9 @@ use Rattle.object.specs.KeyLaws.{same_is}
 use Rattle.object.specs.Lists.{In}
 use Rattle.object.specs.Objects.{Rules}
 use Rattle.ballot.specs.Members.{is_member}
-use Rattle.world.specs.Refusals.{most_events}
-use Rattle.world.specs.Steps.{IsItsOwn}
-use Rattle.world.specs.declared.event.Event.TheVariants.{Submit}
+use Rattle.agreement.specs.Runs.{most_events}
+use Rattle.agreement.specs.Steps.{IsItsOwn}
+use Rattle.agreement.specs.declared.event.Event.TheVariants.{Submit}
 use Rattle.hall.specs.declared.ticket.NotedAct.{NotedAct}
 use Rattle.hall.specs.HallLaws.{HallLaws}
 use Rattle.hall.specs.Halls.{HallState, IsHall, with_nodes}

@@ -8,8 +8,8 @@ use Rattle.object.specs.Objects.{Rules}
 use Rattle.ballot.specs.Members.{is_member}
 use Rattle.ballot.specs.declared.letter.Letter.{Letter}
 use Rattle.network.specs.Networks.{mail_of, front}
-use Rattle.world.specs.Refusals.{most_events}
-use Rattle.world.specs.declared.event.Event.{Event}
+use Rattle.agreement.specs.Runs.{most_events}
+use Rattle.agreement.specs.declared.event.Event.{Event}
 use Rattle.hall.specs.Recorded.{RecordedState, HasReceived, repeated}
 use Rattle.hall.specs.Shows.{Follows, FollowsDelivery, ShowsOn}
 use Rattle.hall.specs.Halls.{HallState, IsHall, with_nodes}

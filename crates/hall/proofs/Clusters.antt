@@ -13,7 +13,7 @@ use Rattle.node.specs.PlaceLaws.{node_put_same, node_put_other, length-put, new_
 use Rattle.node.specs.Receiving.{ShowsNode}
 use Rattle.network.specs.Networks.{NetworkState, new_network, node_of, mail_in, mail_of, put_mail, front, turned_net, without_front, with_last}
 use Rattle.network.specs.MailLaws.{in_posted, length-posted, in_put_mail, mail_put_other, length-put_mail, in_behind, new_mail}
-use Rattle.world.specs.Nodes.{Cluster, new_cluster, node}
+use Rattle.agreement.specs.Nodes.{Cluster, new_cluster, node}
 use Rattle.hall.specs.Shows.{ShowsCluster}
 
 -- a member's number

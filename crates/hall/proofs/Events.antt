@@ -21,17 +21,16 @@ use Rattle.node.specs.declared.deed.Deed.{Deed}
 use Rattle.node.specs.declared.deed.Deed.TheVariants as deeds
 use Rattle.network.specs.Networks.{NetworkState, node_of, mail_of, front, turn_of, turned_net, acted_net, without_front}
 use Rattle.recorder.specs.Records.{with_first_answers}
-use Rattle.world.specs.Nodes.{node, turned}
-use Rattle.world.specs.Worlds.{World}
+use Rattle.agreement.specs.Nodes.{node, turned}
+use Rattle.agreement.specs.Worlds.{World}
 use Rattle.node.specs.Outcomes.{reach_after, key_placed}
-use Rattle.world.specs.Placing.{placed_after}
-use Rattle.world.specs.Reached.{HasPlaced}
-use Rattle.world.specs.Refusals.{most_events}
-use Rattle.world.specs.Runs.{IsWorld}
-use Rattle.world.specs.Steps.{Step, IsItsOwn, submit, deliver, wake, nudge, propose, perform, restart, after_performing, counted, with_cluster}
-use Rattle.world.specs.Tasks.{event_of}
-use Rattle.world.specs.declared.event.Event.{Event}
-use Rattle.world.specs.declared.event.Event.TheVariants.{Deliver}
+use Rattle.agreement.specs.Placing.{placed_after}
+use Rattle.agreement.specs.Reached.{HasPlaced}
+use Rattle.agreement.specs.Runs.{most_events, IsWorld}
+use Rattle.agreement.specs.Steps.{Step, IsItsOwn, submit, deliver, wake, nudge, propose, perform, restart, after_performing, counted, with_cluster}
+use Rattle.agreement.specs.Events.{event_of}
+use Rattle.agreement.specs.declared.event.Event.{Event}
+use Rattle.agreement.specs.declared.event.Event.TheVariants.{Deliver}
 use Rattle.hall.specs.Recorded.{RecordedState, asked, done, HasReceived, IsOwnDeed}
 use Rattle.hall.specs.Shows.{ShowsCluster, Shows, Follows, FollowsDelivery, told_once}
 use Rattle.hall.proofs.Clusters.{member_bounds, turned_shows, lost_shows, front_sent}

@@ -14,8 +14,8 @@ use Rattle.object.specs.ListLaws.{In-map}
 use Rattle.object.specs.Objects.{Rules}
 use Rattle.object.specs.Replays.{Placed, kept, replay}
 use Rattle.recorder.specs.Firsts.{firsts}
-use Rattle.world.specs.Worlds.{World}
-use Rattle.world.specs.Runs.{IsWorld}
+use Rattle.agreement.specs.Worlds.{World}
+use Rattle.agreement.specs.Runs.{IsWorld}
 use Rattle.hall.specs.Recorded.{RecordedState}
 use Rattle.hall.specs.Shows.{Shows, told_once}
 use Rattle.hall.specs.Explained.{IsExplained}

@@ -18,10 +18,10 @@ use Rattle.node.specs.declared.deed.Deed.{Deed}
 use Rattle.network.specs.Networks.{node_of, mail_of, front, turn_of}
 use Rattle.recorder.specs.Records.{with_first_answers}
 use Rattle.node.specs.Outcomes.{key_placed}
-use Rattle.world.specs.Refusals.{most_events}
-use Rattle.world.specs.Steps.{IsItsOwn}
-use Rattle.world.specs.Tasks.{event_of}
-use Rattle.world.specs.declared.event.Event.TheVariants.{Submit}
+use Rattle.agreement.specs.Runs.{most_events}
+use Rattle.agreement.specs.Steps.{IsItsOwn}
+use Rattle.agreement.specs.Events.{event_of}
+use Rattle.agreement.specs.declared.event.Event.TheVariants.{Submit}
 use Rattle.hall.specs.Recorded.{RecordedState, untouched, asked, done, HasReceived, IsOwnDeed}
 use Rattle.hall.specs.Shows.{IsShown, Follows, ShowsOn}
 use Rattle.hall.specs.Books.{last_second, last_number, with_number, IsNextKey, IsBooked}

@@ -9,7 +9,7 @@ use Rattle.object.specs.declared.command.Command.{Command}
 use Rattle.object.specs.declared.command.Key.{Key}
 use Rattle.object.specs.Objects.{Rules}
 use Rattle.ballot.specs.Members.{is_member}
-use Rattle.world.specs.Refusals.{most_events}
+use Rattle.agreement.specs.Runs.{most_events}
 use Rattle.hall.specs.Books.{last_number, with_number, IsNextKey}
 use Rattle.hall.specs.Halls.{HallState, IsHall, tick_of}
 use Rattle.hall.specs.HallLaws.{HallLaws}

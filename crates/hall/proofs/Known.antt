@@ -23,14 +23,13 @@ use Rattle.node.specs.Receiving.{IsFit}
 use Rattle.node.specs.declared.deed.Deed.{Deed}
 use Rattle.node.specs.declared.deed.Deed.TheVariants as deeds
 use Rattle.network.specs.Networks.{node_of, mail_of, front, turn_of}
-use Rattle.world.specs.Nodes.{node}
-use Rattle.world.specs.Worlds.{World}
+use Rattle.agreement.specs.Nodes.{node}
+use Rattle.agreement.specs.Worlds.{World}
 use Rattle.node.specs.Outcomes.{key_placed}
-use Rattle.world.specs.Reached.{HasPlaced}
-use Rattle.world.specs.Refusals.{most_events}
-use Rattle.world.specs.Runs.{IsWorld}
-use Rattle.world.specs.Steps.{Step, perform, after_performing}
-use Rattle.world.specs.Tasks.{event_of}
+use Rattle.agreement.specs.Reached.{HasPlaced}
+use Rattle.agreement.specs.Runs.{most_events, IsWorld}
+use Rattle.agreement.specs.Steps.{Step, perform, after_performing}
+use Rattle.agreement.specs.Events.{event_of}
 use Rattle.hall.specs.Recorded.{RecordedState, IsOwnDeed}
 use Rattle.hall.specs.Shows.{Shows}
 use Rattle.hall.proofs.Clusters.{front_sent}

@@ -14,9 +14,9 @@ use Rattle.network.specs.Networks.{node_of, mail_of, front, turn_of}
 use Rattle.recorder.specs.Firsts.{firsts}
 use Rattle.recorder.specs.Records.{Record, own_key, with_first_answers}
 use Rattle.node.specs.Outcomes.{key_placed}
-use Rattle.world.specs.Refusals.{most_events}
-use Rattle.world.specs.Worlds.{World, opening}
-use Rattle.world.specs.declared.event.Event.{Event}
+use Rattle.agreement.specs.Runs.{most_events}
+use Rattle.agreement.specs.Worlds.{World, opening}
+use Rattle.agreement.specs.declared.event.Event.{Event}
 use Rattle.hall.specs.Recorded.{RecordedState, untouched, asked, done, with_place_if, without_front_letter, repeated}
 use Rattle.hall.specs.Shows.{Shows, IsShown, Follows, FollowsDelivery, ShowsOn}
 use Rattle.hall.specs.Explained.{IsBegun}

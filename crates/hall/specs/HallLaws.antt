@@ -19,16 +19,15 @@ use Rattle.node.specs.Receiving.{ShowsNode, IsFit}
 use Rattle.node.specs.Turns.{IsSameTurn}
 use Rattle.node.specs.declared.deed.Deed.{Deed}
 use Rattle.recorder.specs.Firsts.{CutsBefore}
-use Rattle.world.specs.Nodes.{node}
-use Rattle.world.specs.Placing.{placed_after}
-use Rattle.world.specs.Reached.{IsReached, HasPlaced}
-use Rattle.world.specs.Refusals.{most_events}
-use Rattle.world.specs.Runs.{IsWorld, InEvery, AfterEach}
-use Rattle.world.specs.Showing.{HasNode, IsReceivable}
-use Rattle.world.specs.Steps.{Step}
-use Rattle.world.specs.Told.{TellsReached}
-use Rattle.world.specs.Worlds.{World, opening}
-use Rattle.world.specs.declared.event.Event.{Event}
+use Rattle.agreement.specs.Nodes.{node}
+use Rattle.agreement.specs.Placing.{placed_after}
+use Rattle.agreement.specs.Reached.{IsReached, HasPlaced}
+use Rattle.agreement.specs.Runs.{most_events, IsWorld, InEvery, AfterEach}
+use Rattle.agreement.specs.Showing.{HasNode, IsReceivable}
+use Rattle.agreement.specs.Steps.{Step}
+use Rattle.agreement.specs.Told.{TellsReached}
+use Rattle.agreement.specs.Worlds.{World, opening}
+use Rattle.agreement.specs.declared.event.Event.{Event}
 
 -- what is so of every world; that a deed does the same to every node that a node shows; and that first answers come bit
 -- by bit as they come at once

@@ -8,7 +8,7 @@ use Rattle.object.specs.Commands.{same_acts}
 use Rattle.object.specs.Happenings.{submitted_key}
 use Rattle.object.specs.Keys.{found}
 use Rattle.ballot.specs.Members.{is_member}
-use Rattle.world.specs.Refusals.{most_events}
+use Rattle.agreement.specs.Runs.{most_events}
 use Rattle.hall.specs.declared.error.HallError.{HallError}
 use Rattle.hall.specs.declared.error.HallError.TheVariants.{NoSuchNode, BadNumber, Full, Busy}
 use Rattle.hall.specs.declared.ticket.NotedAct.{NotedAct}

@@ -11,13 +11,13 @@ use Rattle.ballot.specs.declared.letter.Letter.{Letter}
 use Rattle.node.specs.Receiving.{ShowsNode}
 use Rattle.network.specs.Networks.{NetworkState, node_of, mail_of}
 use Rattle.recorder.specs.Firsts.{firsts}
-use Rattle.world.specs.Nodes.{Cluster, node}
-use Rattle.world.specs.Reached.{HasPlaced}
-use Rattle.world.specs.Runs.{IsWorld}
-use Rattle.world.specs.Steps.{Step}
-use Rattle.world.specs.Worlds.{World}
-use Rattle.world.specs.declared.event.Event.{Event}
-use Rattle.world.specs.declared.event.Event.TheVariants.{Deliver}
+use Rattle.agreement.specs.Nodes.{Cluster, node}
+use Rattle.agreement.specs.Reached.{HasPlaced}
+use Rattle.agreement.specs.Runs.{IsWorld}
+use Rattle.agreement.specs.Steps.{Step}
+use Rattle.agreement.specs.Worlds.{World}
+use Rattle.agreement.specs.declared.event.Event.{Event}
+use Rattle.agreement.specs.declared.event.Event.TheVariants.{Deliver}
 use Rattle.hall.specs.Recorded.{RecordedState}
 
 -- what happened, with every answer but the first to each key left out

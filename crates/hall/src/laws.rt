@@ -11,11 +11,11 @@ ghost use Rattle.node.specs.Outcomes.{key_placed};
 ghost use Rattle.node.specs.Receiving.{IsFit};
 ghost use Rattle.node.specs.declared.deed.Deed.{Deed};
 ghost use Rattle.network.specs.Networks.{node_of, mail_of, front, turn_of};
-ghost use Rattle.world.specs.Refusals.{most_events};
-ghost use Rattle.world.specs.Steps.{IsItsOwn};
-ghost use Rattle.world.specs.Tasks.{event_of};
-ghost use Rattle.world.specs.declared.event.Event.{Event};
-ghost use Rattle.world.specs.declared.event.Event.TheVariants.{Submit};
+ghost use Rattle.agreement.specs.Runs.{most_events};
+ghost use Rattle.agreement.specs.Steps.{IsItsOwn};
+ghost use Rattle.agreement.specs.Events.{event_of};
+ghost use Rattle.agreement.specs.declared.event.Event.{Event};
+ghost use Rattle.agreement.specs.declared.event.Event.TheVariants.{Submit};
 ghost use Rattle.hall.specs.Recorded.{RecordedState, untouched, asked, done, HasReceived, without_front_letter, repeated, IsOwnDeed};
 ghost use Rattle.hall.specs.Shows.{IsShown, Follows, FollowsDelivery, ShowsOn};
 ghost use Rattle.hall.specs.Explained.{IsExplained, IsBegun};
@@ -24,7 +24,7 @@ ghost use Rattle.hall.specs.HallLaws.{HallLaws};
 use node::deeds_are_shown;
 use object::Object;
 use recorder::firsts_of_firsts;
-use world::every_world;
+use agreement::every_world;
 
 /// What is so of all recorded nodes that show a world which events lead to. Untouched ones do (`untouched`). Where a node
 /// is asked for a command, does something by itself or receives the letter in front of its mail, the event of that name

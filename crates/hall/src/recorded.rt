@@ -10,7 +10,7 @@ ghost use Rattle.node.specs.Deeds.{outcome_of, IsAble, ComesToNothing};
 ghost use Rattle.node.specs.Outcomes.{key_placed};
 ghost use Rattle.node.specs.Receiving.{IsFit};
 ghost use Rattle.network.specs.Networks.{node_of, mail_of, front, has_mail, turn_of};
-ghost use Rattle.world.specs.Refusals.{most_events};
+ghost use Rattle.agreement.specs.Runs.{most_events};
 ghost use Rattle.hall.specs.Recorded.{untouched, asked, done, HasReceived, without_front_letter, repeated};
 
 use ballot::Members;

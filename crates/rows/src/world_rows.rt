@@ -1,6 +1,6 @@
 //! A letter that comes twice.
-ghost use Rattle.world.specs.Agreements.{StaysChosen};
-ghost use Rattle.world.specs.OneOrder.{HasOneOrder};
+ghost use Rattle.agreement.specs.Agreements.{StaysChosen};
+ghost use Rattle.agreement.specs.OneOrder.{HasOneOrder};
 
 use ballot::Members;
 use object::{Act, Command, Key, Object, Register, RegisterOp};

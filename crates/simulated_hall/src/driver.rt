@@ -7,7 +7,7 @@ ghost use Rattle.simulated_hall.specs.Driving.{IsFirstMember, IsReadNext, is_hea
 use ballot::Members;
 use hall::Hall;
 use object::Object;
-use world::Schedule;
+use schedule::Schedule;
 
 /// The node at which the client hands in its commands.
 pub(crate) const HOME: u8 = 1;

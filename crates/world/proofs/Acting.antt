@@ -19,22 +19,24 @@ use Rattle.node.specs.Deeds.{acted, own_turn, performing, performs, done_if, out
 use Rattle.node.specs.declared.deed.Deed.{Deed}
 use Rattle.node.specs.declared.deed.Deed.TheVariants as deeds
 use Rattle.node.specs.declared.deed.Outcome.{Outcome}
-use Rattle.world.specs.Nodes.{Cluster, node, turned}
-use Rattle.world.specs.Worlds.{World}
-use Rattle.world.specs.Tasks.{event_of}
-use Rattle.world.specs.Steps.{Step, submit, wake, nudge, propose, perform, restart, AsksForItsOwn, counted, after_performing}
+use Rattle.agreement.specs.Nodes.{Cluster, node, turned}
+use Rattle.agreement.specs.Worlds.{World}
+use Rattle.agreement.specs.Events.{event_of, is_at_member}
+use Rattle.agreement.specs.Steps.{Step, submit, wake, nudge, propose, perform, restart, AsksForItsOwn, counted, after_performing}
 use Rattle.ballot.specs.Members.{is_member}
-use Rattle.world.specs.Refusals.{most_events, IsAllowed, is_at_member}
-use Rattle.world.specs.Showing.{HasNode}
+use Rattle.world.specs.Refusals.{IsAllowed}
+use Rattle.agreement.specs.Runs.{most_events}
+use Rattle.agreement.specs.Showing.{HasNode}
 use Rattle.node.specs.Outcomes.{reach_after}
 use Rattle.world.specs.Kept.{HasNoted, IsNoted, submission_by, key_past, is_performance}
-use Rattle.world.proofs.Events.{next_world, own_event, has_node, boots}
+use Rattle.agreement.proofs.every.Events.{next_world, has_node, boots}
+use Rattle.world.proofs.Events.{own_event}
 use Rattle.world.proofs.Idle.{no_submission, no_performance, noted_where}
 use Rattle.world.proofs.Noted.{noted_stays, performs_noted}
 use Rattle.node.specs.PlaceLaws.{node_at, put_at}
-use Rattle.world.proofs.Reach.{reachable_sound, step_sound}
-use Rattle.world.proofs.Sets.{member_bounds}
-use Rattle.world.proofs.Told.{reachable_within_reach}
+use Rattle.agreement.proofs.chosen.Reach.{reachable_sound, step_sound}
+use Rattle.agreement.proofs.chosen.Sets.{member_bounds}
+use Rattle.agreement.proofs.answered.Told.{reachable_within_reach}
 
 pub set_own : {A : Type 0} (xs : List A) (i : ℕ) (d : A) → slice_set xs i (slice_index_or xs i d) ≡ xs
 set_own [] i d = refl

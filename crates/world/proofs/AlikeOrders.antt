@@ -7,12 +7,14 @@ use Rattle.ballot.specs.Members.{is_majority}
 use Rattle.ballot.specs.OrderLaws.{BallotLaws}
 use Rattle.acceptor.specs.Acceptors.{Acceptances}
 use Rattle.leader.specs.Leaders.{pvalue}
-use Rattle.world.specs.declared.event.Event.{Event}
+use Rattle.agreement.specs.declared.event.Event.{Event}
 use Rattle.world.specs.declared.error.WorldError.TheVariants.{NoSuchNode, NoSuchLetter, BadNumber, Full}
-use Rattle.world.specs.Nodes.{Cluster, node}
-use Rattle.world.specs.Worlds.{World}
-use Rattle.world.specs.Chosen.{IsChosen, IsChosenFrom, IsOrder}
-use Rattle.world.specs.Refusals.{is_at_member, is_sent, keeps_acts, most_events, refusal}
+use Rattle.agreement.specs.Nodes.{Cluster, node}
+use Rattle.agreement.specs.Worlds.{World}
+use Rattle.agreement.specs.Chosen.{IsChosen, IsChosenFrom, IsOrder}
+use Rattle.world.specs.Refusals.{keeps_acts, refusal}
+use Rattle.agreement.specs.Events.{is_at_member, is_sent}
+use Rattle.agreement.specs.Runs.{most_events}
 use Rattle.world.specs.Alike.{IsAlike, IsAlikeLetter}
 use Rattle.node.specs.Nodes.{node_in}
 use Rattle.world.proofs.AlikePairs.{InPairs-length}

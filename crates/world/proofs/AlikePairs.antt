@@ -3,7 +3,7 @@ use Rattle.std.proofs.Common.{◌≡◌, inl, inr, ℕ, zero, suc, List, [], ◌
 use Rattle.std.specs.Prelude.{slice_get, slice_index_or, slice_set}
 use Rattle.object.specs.Lists.{In}
 use Rattle.world.specs.Alike.{InPairs}
-use Rattle.world.proofs.LeaderRows.{some_same}
+use Rattle.agreement.proofs.chosen.LeaderRows.{some_same}
 
 module _ {A : Type 0} (R : A → A → Type 0) where
   pub InPairs-itself : ((x : A) → R x x) → (xs : List A) → InPairs R xs xs

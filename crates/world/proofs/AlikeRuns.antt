@@ -3,14 +3,14 @@ use Rattle.std.proofs.Common.{◌≡◌, List, [], ◌∷◌, ◌++◌, refl, sy
 use Rattle.std.proofs.lemmas.List.{same_from_push}
 use Rattle.object.specs.Objects.{Rules}
 use Rattle.ballot.specs.OrderLaws.{BallotLaws}
-use Rattle.world.specs.declared.event.Event.{Event}
-use Rattle.world.specs.Worlds.{World}
-use Rattle.world.specs.Steps.{Step}
-use Rattle.world.specs.Runs.{Leads, at_once, after, IsWorld, InEvery}
+use Rattle.agreement.specs.declared.event.Event.{Event}
+use Rattle.agreement.specs.Worlds.{World}
+use Rattle.agreement.specs.Steps.{Step}
+use Rattle.agreement.specs.Runs.{Leads, at_once, after, IsWorld, InEvery}
 use Rattle.world.specs.Alike.{IsAlikeNode, IsAlikeLetter, IsAlike, same_letter}
-use Rattle.world.proofs.Invariants.{IsSound}
-use Rattle.world.proofs.Turns.{Kept}
-use Rattle.world.proofs.Reach.{reachable_sound, leads_sound}
+use Rattle.agreement.proofs.chosen.Invariants.{IsSound}
+use Rattle.agreement.proofs.chosen.Turns.{Kept}
+use Rattle.agreement.proofs.chosen.Reach.{reachable_sound, leads_sound}
 use Rattle.world.proofs.AlikePairs.{InPairs-itself}
 use Rattle.world.proofs.AlikeNodes.{node_itself}
 use Rattle.world.proofs.AlikeSteps.{event_alike}

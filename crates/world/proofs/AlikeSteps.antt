@@ -19,12 +19,12 @@ use Rattle.slot_log.specs.Advances.{advanced}
 use Rattle.replica.specs.Replicas.{proposes_first}
 use Rattle.node.specs.Nodes.{NodeState}
 use Rattle.node.specs.Receiving.{Receives}
-use Rattle.world.specs.declared.event.Event.{Event}
-use Rattle.world.specs.Nodes.{Cluster, node, turned}
-use Rattle.world.specs.Worlds.{World}
-use Rattle.world.specs.Steps.{Step, submit, deliver, wake, nudge, propose, perform, restart, after_performing, counted, with_cluster}
+use Rattle.agreement.specs.declared.event.Event.{Event}
+use Rattle.agreement.specs.Nodes.{Cluster, node, turned}
+use Rattle.agreement.specs.Worlds.{World}
+use Rattle.agreement.specs.Steps.{Step, submit, deliver, wake, nudge, propose, perform, restart, after_performing, counted, with_cluster}
 use Rattle.world.specs.Alike.{InPairs, IsAlikeNode, IsAlikeLetter, IsAlike, same_letter, but_report}
-use Rattle.world.proofs.Invariants.{Asked, IsTrueOf, IsFair, IsSound}
+use Rattle.agreement.proofs.chosen.Invariants.{Asked, IsTrueOf, IsFair, IsSound}
 use Rattle.world.proofs.AlikePairs.{InPairs-get, InPairs-append, InPairs-first}
 use Rattle.world.proofs.AlikePromises.{ScoutAsked}
 use Rattle.world.proofs.AlikeNodes.{IsAlikeTurn, node_alike, put_alike, replica_same, replica_alike, wakes_alike, nudged_alike, restarted_alike, received_alike}

@@ -10,13 +10,15 @@ use Rattle.ballot.specs.Letters.{letter}
 use Rattle.ballot.specs.Members.{is_member}
 use Rattle.ballot.specs.declared.letter.Letter.{Letter}
 use Rattle.ballot.specs.declared.letter.LetterBody.TheVariants.{P1a, P2a}
-use Rattle.world.specs.Nodes.{node}
-use Rattle.world.specs.Worlds.{World}
-use Rattle.world.specs.Steps.{Step}
-use Rattle.world.specs.Refusals.{refusal, is_at_member, is_sent, keeps_acts, most_events}
+use Rattle.agreement.specs.Nodes.{node}
+use Rattle.agreement.specs.Worlds.{World}
+use Rattle.agreement.specs.Steps.{Step}
+use Rattle.world.specs.Refusals.{refusal, keeps_acts}
+use Rattle.agreement.specs.Events.{is_at_member, is_sent}
+use Rattle.agreement.specs.Runs.{most_events}
 use Rattle.world.specs.declared.error.WorldError.TheVariants as reasons
-use Rattle.world.specs.declared.event.Event.{Event}
-use Rattle.world.specs.declared.event.Event.TheVariants as events
+use Rattle.agreement.specs.declared.event.Event.{Event}
+use Rattle.agreement.specs.declared.event.Event.TheVariants as events
 use Rattle.world.specs.WaysOut.{IsQuestion, promise, vote}
 use Rattle.world.proofs.Hearing.{HasReceived, received, p1a_received, p2a_received}
 

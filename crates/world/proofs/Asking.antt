@@ -20,10 +20,10 @@ use Rattle.scout_commander.specs.Commanders.{Commanding}
 use Rattle.leader.specs.Leaders.{silently, preempted}
 use Rattle.leader.specs.Votes as votes
 use Rattle.leader.specs.Votes.{answers_another, at_commander}
-use Rattle.world.specs.Nodes.{node}
-use Rattle.world.specs.Worlds.{World}
-use Rattle.world.proofs.LeaderRows.{some_same, none_not, off_on}
-use Rattle.world.proofs.Sets.{member_bounds}
+use Rattle.agreement.specs.Nodes.{node}
+use Rattle.agreement.specs.Worlds.{World}
+use Rattle.agreement.proofs.chosen.LeaderRows.{some_same, none_not, off_on}
+use Rattle.agreement.proofs.chosen.Sets.{member_bounds}
 use Rattle.world.specs.WaysOut.{first_leader, rivals, IsTalk, AsksAt, IsBeaten}
 use Rattle.world.proofs.LeaderCases.{Covers, HearsPromise, no_scout, gathers_more, adopts, gives_up, HearsVote, no_commander, stays, counts_more, decides, gives_way, given_up, preempted_is, promise_cases, vote_cases}
 use Rattle.world.proofs.Talking.{AsksPromise, AsksVote, talk_on}

@@ -18,24 +18,23 @@ use Rattle.ballot.specs.Ballots.{Numbers}
 use Rattle.ballot.specs.Members.{is_member, numbers}
 use Rattle.ballot.specs.OrderLaws.{BallotLaws}
 use Rattle.slot_log.specs.Requests.{requested}
-use Rattle.world.specs.Nodes.{Cluster, node}
-use Rattle.world.specs.Worlds.{World}
-use Rattle.world.specs.Steps.{Step, submit, IsItsOwn, counted, replica_turn}
-use Rattle.world.specs.Runs.{IsWorld}
-use Rattle.world.specs.Refusals.{most_events}
-use Rattle.world.specs.declared.event.Event.{Event}
-use Rattle.world.specs.declared.event.Event.TheVariants as events
-use Rattle.world.proofs.Every.{within_reach, goes_on as world_goes_on}
-use Rattle.world.proofs.Reach.{reachable_sound, step_sound}
-use Rattle.world.proofs.Submitted.{key_submitted}
-use Rattle.world.specs.Mentions.{Mentions}
-use Rattle.world.specs.SlotBooks.{pending}
+use Rattle.agreement.specs.Nodes.{Cluster, node}
+use Rattle.agreement.specs.Worlds.{World}
+use Rattle.agreement.specs.Steps.{Step, submit, IsItsOwn, counted, replica_turn}
+use Rattle.agreement.specs.Runs.{IsWorld, most_events}
+use Rattle.agreement.specs.declared.event.Event.{Event}
+use Rattle.agreement.specs.declared.event.Event.TheVariants as events
+use Rattle.agreement.proofs.every.Every.{within_reach, goes_on as world_goes_on}
+use Rattle.agreement.proofs.chosen.Reach.{reachable_sound, step_sound}
+use Rattle.agreement.proofs.order.Submitted.{key_submitted}
+use Rattle.agreement.specs.Mentions.{Mentions}
+use Rattle.agreement.specs.SlotBooks.{pending}
 use Rattle.world.specs.WaysOut.{first_leader, first_book, rivals, is_rival, IsTalk, IsAtRest, IsSmall, Goes, is_talk, work, most_slots, Holds}
 use Rattle.world.proofs.Booking.{holds_requested}
 use Rattle.world.proofs.Bringing.{IsBringing}
-use Rattle.world.proofs.MentionsEvery.{mentions_calm, mentions_weaker, reach_taken, slots_near}
+use Rattle.agreement.proofs.books.MentionsEvery.{mentions_calm, mentions_weaker, reach_taken, slots_near}
 use Rattle.world.proofs.MentionsFew.{few_proposals}
-use Rattle.world.proofs.SlotBooksEvery.{books}
+use Rattle.agreement.proofs.books.SlotBooksEvery.{books}
 use Rattle.world.proofs.Stepping.{IsTurned, turned_first, book_turned, work_stays}
 use Rattle.world.proofs.Turning.{talk_mentions}
 

@@ -16,9 +16,9 @@ use Rattle.slot_log.specs.Decisions.{learnt, next_decided}
 use Rattle.slot_log.specs.Advances.{advanced, lost}
 use Rattle.slot_log.specs.Requests.{requested as with_request, is_known}
 use Rattle.ballot.specs.Slots.{Slots}
-use Rattle.world.proofs.Deciding.{any_found}
-use Rattle.world.proofs.LeaderRows.{none_not}
-use Rattle.world.specs.SlotBooks.{pending}
+use Rattle.agreement.proofs.order.Deciding.{any_found}
+use Rattle.agreement.proofs.chosen.LeaderRows.{none_not}
+use Rattle.agreement.specs.SlotBooks.{pending}
 use Rattle.world.specs.WaysOut.{Holds, in_requests, in_proposals, in_decisions}
 
 get_remove_other : {X : Type 0} (m : Slots X) (s q : ℕ) → q ≢ s → get (remove m s) q ≡ get m q

@@ -19,26 +19,25 @@ use Rattle.slot_log.specs.Histories.{history}
 use Rattle.node.specs.SlotLaws.{get_insert_same}
 use Rattle.slot_log.specs.Books.{SlotBook}
 use Rattle.slot_log.specs.Proposals.{next_proposal, proposed, proposed_next}
-use Rattle.world.specs.Nodes.{node}
-use Rattle.world.specs.Worlds.{World}
-use Rattle.world.specs.Runs.{IsWorld, InEvery}
-use Rattle.world.specs.Refusals.{most_events}
-use Rattle.world.specs.declared.event.Event.{Event}
-use Rattle.world.specs.declared.event.Event.TheVariants as events
-use Rattle.world.proofs.LeaderRows.{none_not}
-use Rattle.world.proofs.Reach.{reachable_sound, opened_at}
-use Rattle.world.specs.Mentions.{Mentions, MentionsNode, ProposesOnly, MentionsBody}
-use Rattle.world.specs.SlotBooks.{IsBookAfter, pending}
+use Rattle.agreement.specs.Nodes.{node}
+use Rattle.agreement.specs.Worlds.{World}
+use Rattle.agreement.specs.Runs.{IsWorld, InEvery, most_events}
+use Rattle.agreement.specs.declared.event.Event.{Event}
+use Rattle.agreement.specs.declared.event.Event.TheVariants as events
+use Rattle.agreement.proofs.chosen.LeaderRows.{none_not}
+use Rattle.agreement.proofs.chosen.Reach.{reachable_sound, opened_at}
+use Rattle.agreement.specs.Mentions.{Mentions, MentionsNode, ProposesOnly, MentionsBody}
+use Rattle.agreement.specs.SlotBooks.{IsBookAfter, pending}
 use Rattle.world.specs.Telling.{IsProposedAt, IsMentioned, is_proposed, is_decided, is_led, is_commanded, is_gathered, is_accepted, says_propose, says_decision, says_accept, says_report}
 use Rattle.world.specs.WaysOut.{first_book, IsAtRest, IsSmall, work, most_slots, IsReady, stays as ready_stays, proposes as ready_proposes, HasLearnt, HasDecided, knew, learnt, HasAdvanced, MentionsAsMuch, Holds, in_requests, in_proposals, in_decisions}
 use Rattle.world.proofs.Booking.{holds_proposed, holds_learnt, holds_advanced, pending_proposed}
-use Rattle.world.proofs.LeadingRuns.{in_every}
+use Rattle.agreement.proofs.books.LeadingRuns.{in_every}
 use Rattle.world.proofs.Learning.{decided_next, ready_out}
-use Rattle.world.proofs.Mentions.{new_of}
-use Rattle.world.proofs.MentionsEvery.{mentions_step, mentions_weaker, next_open}
+use Rattle.agreement.proofs.books.Mentions.{new_of}
+use Rattle.agreement.proofs.books.MentionsEvery.{mentions_step, mentions_weaker, next_open}
 use Rattle.world.proofs.Proposing.{first_request, next_there, free_there}
-use Rattle.world.proofs.SlotBooks.{advanced_few, advanced_fewer}
-use Rattle.world.proofs.SlotBooksEvery.{books}
+use Rattle.agreement.proofs.books.SlotBooks.{advanced_few, advanced_fewer}
+use Rattle.agreement.proofs.books.SlotBooksEvery.{books}
 use Rattle.world.proofs.Telling.{told, told_by_decision, told_by_proposal}
 
 module _ (laws : BallotLaws) {O Op Reply : Type 0} (rules : Rules O Op Reply) where

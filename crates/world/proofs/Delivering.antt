@@ -10,19 +10,20 @@ use Rattle.ballot.specs.BallotLaws.{BallotLaws}
 use Rattle.ballot.specs.declared.letter.Letter.{Letter}
 use Rattle.node.specs.Nodes.{NodeState}
 use Rattle.node.specs.Receiving.{IsFit, SaysNothingNew, Received}
-use Rattle.world.specs.declared.event.Event.TheVariants as events
+use Rattle.agreement.specs.declared.event.Event.TheVariants as events
 use Rattle.world.specs.Kept.{IsNoted}
-use Rattle.world.specs.Nodes.{node}
+use Rattle.agreement.specs.Nodes.{node}
 use Rattle.world.specs.Quiet.{BringsNothing}
-use Rattle.world.specs.Refusals.{most_events}
-use Rattle.world.specs.Showing.{HasNode}
-use Rattle.world.specs.Steps.{Step, deliver}
-use Rattle.world.specs.Worlds.{World}
+use Rattle.agreement.specs.Runs.{most_events}
+use Rattle.agreement.specs.Showing.{HasNode}
+use Rattle.agreement.specs.Steps.{Step, deliver}
+use Rattle.agreement.specs.Worlds.{World}
 use Rattle.world.proofs.Acting.{set_own}
-use Rattle.world.proofs.Events.{receiver, fit, next_noted, sent_in_view}
+use Rattle.agreement.proofs.every.Events.{receiver, fit, sent_in_view}
+use Rattle.world.proofs.Events.{next_noted}
 use Rattle.node.specs.PlaceLaws.{node_at}
 use Rattle.world.proofs.Places.{delivered}
-use Rattle.world.proofs.Sets.{member_bounds}
+use Rattle.agreement.proofs.chosen.Sets.{member_bounds}
 
 -- what was lent is put back
 put_back : {A : Type 0} (xs more : List A) (j : ℕ) (other x d : A) → j < length xs → x ≡ slice_index_or xs j d → slice_set (slice_set xs j other ++ more) j x ≡ xs ++ more

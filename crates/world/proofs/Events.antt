@@ -1,5 +1,5 @@
 -- One event of a world, from what was done to its parts.
-use Rattle.std.proofs.Common.{◌≡◌, inl, inr, ℕ, zero, suc, ◌+◌, ◌<◌, ◌^◌, Bool, true, false, true≢false, cond, not, ◌&&◌, ◌||◌, List, [], ◌∷◌, ◌++◌, length, take, Some, None, Option, refl, sym, ap, ◌∙◌, subst, arith}
+use Rattle.std.proofs.Common.{◌≡◌, inl, inr, ℕ, zero, suc, ◌+◌, ◌<◌, Bool, true, false, true≢false, cond, not, ◌&&◌, ◌||◌, List, [], ◌∷◌, ◌++◌, length, take, Some, None, Option, refl, sym, ap, ◌∙◌, subst, arith}
 use Rattle.std.specs.Prelude.{slice_get, slice_index_or, nat_le}
 use Rattle.std.proofs.lemmas.Bool.Decides.{nat_tests}
 use Rattle.std.proofs.lemmas.List.{take_more}
@@ -10,36 +10,25 @@ use Rattle.object.specs.declared.command.Command.{Command}
 use Rattle.object.specs.declared.command.Key.{Key}
 use Rattle.object.specs.declared.command.Submission.{Submission}
 use Rattle.object.specs.Commands.{same_acts}
-use Rattle.ballot.specs.Members.{is_member}
-use Rattle.ballot.specs.declared.letter.LetterBody.{LetterBody}
-use Rattle.ballot.specs.declared.letter.LetterBody.TheVariants.{P1a, P1b, P2a, P2b, Propose, Decision, Ask}
 use Rattle.ballot.specs.declared.letter.Letter.{Letter}
-use Rattle.world.specs.declared.event.Event.{Event}
-use Rattle.world.specs.declared.event.Event.TheVariants as events
+use Rattle.agreement.specs.declared.event.Event.{Event}
+use Rattle.agreement.specs.declared.event.Event.TheVariants as events
 use Rattle.world.specs.declared.error.WorldError.{WorldError}
 use Rattle.world.specs.declared.error.WorldError.TheVariants as reasons
 use Rattle.object.specs.Objects.{Rules}
-use Rattle.world.specs.Nodes.{Cluster, node, turned}
-use Rattle.world.specs.Worlds.{World, opening}
+use Rattle.agreement.specs.Nodes.{Cluster, turned}
+use Rattle.agreement.specs.Worlds.{World, opening}
 use Rattle.object.specs.Keys.{same_key}
 use Rattle.object.specs.KeyLaws.{same_is}
-use Rattle.world.specs.Steps.{Step, IsItsOwn, counted, with_cluster, deliver}
-use Rattle.world.specs.Runs.{Leads, IsReachable, IsWorld}
-use Rattle.world.specs.Runs as Runs
-use Rattle.world.specs.Refusals.{IsAllowed, has_other_act, is_at_member, is_sent, keeps_acts, most_events, refusal, reason_for, IsRefused}
-use Rattle.world.specs.Showing.{HasNode}
-use Rattle.node.specs.Receiving.{IsFit}
+use Rattle.agreement.specs.Steps.{Step, IsItsOwn, counted, with_cluster, deliver}
+use Rattle.agreement.specs.Runs.{Leads, most_events}
+use Rattle.agreement.specs.Runs as Runs
+use Rattle.world.specs.Refusals.{IsAllowed, has_other_act, keeps_acts, refusal, reason_for, IsRefused}
+use Rattle.agreement.specs.Events.{is_at_member, is_sent}
 use Rattle.world.specs.Kept.{Delivered, IsNoted}
-use Rattle.object.specs.ListLaws.{Each-at, In-get}
 use Rattle.ballot.specs.OrderLaws.{BallotLaws}
-use Rattle.world.proofs.Invariants.{IsFair, IsTrueOf, IsSound, agree}
-use Rattle.world.proofs.Bounds.{BodyWithin, reachable_within}
-use Rattle.world.specs.OneOrder.{HasOneOrder, GoesOnFrom}
-use Rattle.world.proofs.Once.{ObjectLaws}
-use Rattle.world.proofs.OneOrder.{reachable_one_order, leads_later}
-use Rattle.world.specs.Agreements.{StaysChosen}
-use Rattle.world.proofs.Grows.{chosen_stays}
-use Rattle.world.proofs.Reach.{reachable_sound, step_sound, one_more, opening_reachable}
+use Rattle.agreement.proofs.chosen.Reach.{reachable_sound, step_sound, opening_reachable}
+use Rattle.agreement.proofs.every.Events.{next_world}
 use Rattle.world.proofs.Noted.{opening_noted, noted_stays}
 
 module _ (laws : BallotLaws) {O Op Reply : Type 0} (rules : Rules O Op Reply) where
@@ -49,73 +38,12 @@ module _ (laws : BallotLaws) {O Op Reply : Type 0} (rules : Rules O Op Reply) wh
       (subst (λ w. IsNoted rules w []) (sym e)
       (record { world = record { reachable = opening_reachable laws rules members; few = omega arith }; noted = opening_noted members }))
 
-  pub next_world : (v w : World Op Reply) → v ≡ w → (e : Event Op) (u : World Op Reply) → IsWorld rules v → w.taken < most_events → u.taken ≡ v.taken + 1 → Step rules v e u → IsWorld rules u
-  next_world v w is e u i room count s = record {
-    reachable = one_more laws rules v e u i.reachable s;
-    few = let same = ap (λ y. y.taken) is in omega arith;
-  }
-
   -- an event that leaves the reach and the noted keys
   pub next_noted : (v w : World Op Reply) → v ≡ w → (e : Event Op) (u : World Op Reply) (keys : List Key) → IsNoted rules v keys → w.taken < most_events → u.taken ≡ v.taken + 1 → u.reach ≡ v.reach → Step rules v e u → IsNoted rules u keys
   next_noted v w is e u keys i room count reach s = record {
     world = next_world v w is e u i.world room count s;
     noted = noted_stays v u (step_sound laws rules v e u (reachable_sound laws rules v i.world.reachable) s).grows keys i.noted reach;
   }
-
-  module _ (v w : World Op Reply) (is : v ≡ w) (i : IsWorld rules v) where
-    sound : IsSound v.cluster
-    sound = reachable_sound laws rules v i.reachable
-
-    pub has_node : (n : ℕ) → is_member w.cluster.members n ≡ true → HasNode n v.cluster
-    has_node n member = record {
-      size = sound.size;
-      seated = record {
-        member = ap (λ y. is_member y.cluster.members n) is ∙ member;
-        speaks = (sound.nodes n).leader.members;
-        node = (sound.nodes n).owner;
-      };
-    }
-
-    -- a boot is still to come
-    pub boots : (n : ℕ) → w.taken < most_events → (node v.cluster n).boot < 2 ^ 62
-    boots n room = let b = ((reachable_within laws rules v i.reachable).nodes n).boot in let few = i.few in omega arith
-
-    -- what is known to be decided is what a Decision says
-    fit_body : (k : Cluster (Command Op)) → k ≡ v.cluster → (m n : ℕ) (body : LetterBody (Command Op)) → IsTrueOf v.cluster m body → BodyWithin v.taken body → IsFit (node v.cluster n) body
-    fit_body k same m n (P1a b) says low = tt
-    fit_body k same m n (P1b b report) says low = let few = i.few in omega arith
-    fit_body k same m n (P2a p) says low = tt
-    fit_body k same m n (P2b o s by) says low = λ b e. let q = low b e in let few = i.few in omega arith
-    fit_body k same m n (Propose s c) says low = tt
-    fit_body k same m n (Decision s c) says low = λ d e. agree laws v.cluster sound s d c ((sound.nodes n).decisions s d e) says
-    fit_body k same m n (Ask s) says low = tt
-
-    pub fit : (j : ℕ) (l : Letter (Command Op)) → slice_get v.cluster.letters j ≡ Some l → IsFit (node v.cluster l.to) l.body
-    fit j l at =
-        let there = In-get v.cluster.letters j l at in
-        let fair = Each-at (IsFair v.cluster) v.cluster.letters l sound.letters there in
-        fit_body v.cluster refl l.«from» l.to l.body fair.says (Each-at (λ l. BodyWithin v.taken l.body) v.cluster.letters l (reachable_within laws rules v i.reachable).letters there)
-
-    pub receiver : (j : ℕ) (l : Letter (Command Op)) → slice_get v.cluster.letters j ≡ Some l → HasNode l.to v.cluster
-    receiver j l at = record {
-      size = sound.size;
-      seated = record {
-        member = (Each-at (IsFair v.cluster) v.cluster.letters l sound.letters (In-get v.cluster.letters j l at)).receiver;
-        speaks = (sound.nodes l.to).leader.members;
-        node = (sound.nodes l.to).owner;
-      };
-    }
-
-module _ {O Op Reply : Type 0} (rules : Rules O Op Reply) (v w : World Op Reply) (is : v ≡ w) where
-  -- the step from the world as it was
-  pub from_view : (e : Event Op) (u : World Op Reply) → Step rules v e u → Step rules w e u
-  from_view e u s = subst (λ y. Step rules y e u) is s
-
-  pub sent_in_view : (j : ℕ) → j < length w.cluster.letters → j < length v.cluster.letters
-  sent_in_view j h = subst (λ y. j < length y.cluster.letters) (sym is) h
-
-  pub member_in_view : (n : ℕ) → is_member w.cluster.members n ≡ true → is_member v.cluster.members n ≡ true
-  member_in_view n member = ap (λ y. is_member y.cluster.members n) is ∙ member
 
 module _ {O Op Reply : Type 0} (rules : Rules O Op Reply) (v : World Op Reply) where
   -- a row that the cluster alone has taken
@@ -186,18 +114,6 @@ allowed same w e h =
       room = grind (arith, nat_tests);
     }
 
-pub own_in_view : {Op Reply : Type 0} (v w : World Op Reply) → v ≡ w → (c : Command Op) → IsItsOwn c w.happenings.submitted → IsItsOwn c v.happenings.submitted
-own_in_view v w is c own = subst (λ y. IsItsOwn c y.happenings.submitted) (sym is) own
-
-module _ (laws : BallotLaws) {O Op Reply : Type 0} (rules : Rules O Op Reply) where
-  -- what is chosen before an event is chosen after it
-  pub stays_chosen : (v w : World Op Reply) → v ≡ w → IsWorld rules v → (e : Event Op) (u : World Op Reply) → Step rules w e u → StaysChosen w.cluster u.cluster
-  stays_chosen v w is i e u s t c h =
-      chosen_stays w.cluster u.cluster (step_sound laws rules w e u (reachable_sound laws rules w (subst (IsReachable rules) is i.reachable)) s).grows t c h
-
-  pub sound_now : (v w : World Op Reply) → v ≡ w → IsWorld rules v → IsSound w.cluster
-  sound_now v w is i = reachable_sound laws rules w (subst (IsReachable rules) is i.reachable)
-
 -- an event that keeps the acts submits a key with its own act
 pub own_event : {Op : Type 0} (same : Op → Op → Bool) → ((x y : Op) → same x y ≡ true → x ≡ y) → (submitted : List (Submission Op)) (e : Event Op) (n : ℕ) (c : Command Op) → e ≡ events.Submit n c → keeps_acts same submitted e ≡ true → IsItsOwn c submitted
 own_event same exact submitted e n c is keeps = its_own same exact submitted c (is_false (has_other_act same submitted c) (ap (keeps_acts same submitted) (sym is) ∙ keeps))
@@ -218,17 +134,3 @@ refused_at same old new es j e reason within at kept cause = record {
   at = slice_get-get_or es j e within ∙ ap (λ x. Some x) (sym at);
   because = cause ∙ sym (ap (λ w. reason_for same w e) kept);
 }
-
-module _ (laws : BallotLaws) {O Op Reply : Type 0} (rules : Rules O Op Reply) where
-  -- what came later is later
-  pub later_by : (v w : World Op Reply) → v ≡ w → IsWorld rules v → (es : List (Event Op)) (u : World Op Reply) → Leads rules w es u → GoesOnFrom w u
-  later_by v w is i es u l = leads_later laws rules w u es (subst (IsReachable rules) is i.reachable) l
-
-  pub later_step : (v w : World Op Reply) → v ≡ w → IsWorld rules v → (e : Event Op) (u : World Op Reply) → Step rules w e u → GoesOnFrom w u
-  later_step v w is i e u s = later_by v w is i (e ∷ []) u (Runs.after e u Runs.at_once s)
-
-  pub later_same : (v w : World Op Reply) → v ≡ w → IsWorld rules v → (u : World Op Reply) → u ≡ w → GoesOnFrom w u
-  later_same v w is i u same = subst (GoesOnFrom w) (sym same) (later_by v w is i [] w Runs.at_once)
-
-  pub order_now : (waits : O → Key → Type 0) → ObjectLaws rules waits → (v w : World Op Reply) → v ≡ w → IsWorld rules v → HasOneOrder rules w
-  order_now waits object v w is i = reachable_one_order laws rules waits object w (subst (IsReachable rules) is i.reachable)

@@ -8,7 +8,7 @@ use Rattle.ballot.specs.Slots.{Slots}
 use Rattle.ballot.specs.declared.letter.Letter.{Letter}
 use Rattle.ballot.specs.declared.letter.LetterBody.TheVariants.{Propose, Decision}
 use Rattle.node.specs.SlotLaws.{get_insert_cases, get_insert_same, none_in_empty}
-use Rattle.world.proofs.LeaderRows.{some_same}
+use Rattle.agreement.proofs.chosen.LeaderRows.{some_same}
 use Rattle.world.specs.WaysOut.{ArePlacesOf, Proposes, Decides, is_proposal, is_decision, noted_place}
 use Rattle.world.proofs.Talking.{still_at}
 use Rattle.world.proofs.LetterTests.{proposal_at, no_proposal, decision_at, no_decision}

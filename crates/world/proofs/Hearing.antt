@@ -17,10 +17,10 @@ use Rattle.leader.specs.Votes as votes
 use Rattle.node.specs.Nodes.{NodeState}
 use Rattle.node.specs.Deeds.{led}
 use Rattle.node.specs.Receiving.{Receives, promises_ballot, accepts_pvalue, hears_promise, hears_vote}
-use Rattle.world.specs.Nodes.{node, turned}
-use Rattle.world.specs.Worlds.{World}
-use Rattle.world.specs.Steps.{Step, deliver, counted, with_cluster}
-use Rattle.world.specs.declared.event.Event.TheVariants as events
+use Rattle.agreement.specs.Nodes.{node, turned}
+use Rattle.agreement.specs.Worlds.{World}
+use Rattle.agreement.specs.Steps.{Step, deliver, counted, with_cluster}
+use Rattle.agreement.specs.declared.event.Event.TheVariants as events
 
 -- the letter was received, and counted
 pub record HasReceived {Op Reply : Type 0} (w v : World Op Reply) (l : Letter (Command Op)) : Type 0 where

@@ -25,16 +25,16 @@ use Rattle.node.specs.declared.deed.Deed.TheVariants as deeds
 use Rattle.node.specs.declared.deed.Outcome.{Outcome}
 use Rattle.node.specs.declared.deed.Outcome.TheVariants.{Idle, Done, Performed}
 use Rattle.world.specs.Kept.{accepts_of, key_past, is_performance, submission_by}
-use Rattle.world.specs.Nodes.{Cluster, node}
+use Rattle.agreement.specs.Nodes.{Cluster, node}
 use Rattle.world.specs.Quiet.{BringsNothing}
-use Rattle.world.specs.Runs.{IsReachable}
-use Rattle.world.specs.Tasks.{event_of}
-use Rattle.world.specs.Worlds.{World}
+use Rattle.agreement.specs.Runs.{IsReachable}
+use Rattle.agreement.specs.Events.{event_of}
+use Rattle.agreement.specs.Worlds.{World}
 use Rattle.world.proofs.Beginning.{one_key}
-use Rattle.world.proofs.Deciding.{any_found}
-use Rattle.world.proofs.Origins.{AllAt}
-use Rattle.world.proofs.Reach.{reachable_sound}
-use Rattle.world.proofs.Submitted.{all_submitted, chosen_submitted, key_submitted}
+use Rattle.agreement.proofs.order.Deciding.{any_found}
+use Rattle.agreement.proofs.order.Origins.{AllAt}
+use Rattle.agreement.proofs.chosen.Reach.{reachable_sound}
+use Rattle.agreement.proofs.order.Submitted.{all_submitted, chosen_submitted, key_submitted}
 
 -- an acceptor accepts nothing of what says nothing new
 pub accepts_none : {C : Type 0} (x : NodeState C) (body : LetterBody C) → SaysNothingNew x body → accepts_of x.acceptor body ≡ None

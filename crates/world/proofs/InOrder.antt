@@ -15,19 +15,19 @@ use Rattle.object.specs.Replays.{kept}
 use Rattle.object.specs.declared.command.Command.{Command}
 use Rattle.object.specs.declared.command.Key.{Key}
 use Rattle.object.specs.declared.command.Submission.{Submission}
-use Rattle.world.specs.Chosen.{IsChosenFrom}
-use Rattle.world.specs.Nodes.{node}
-use Rattle.world.specs.Reached.{HasKey}
+use Rattle.agreement.specs.Chosen.{IsChosenFrom}
+use Rattle.agreement.specs.Nodes.{node}
+use Rattle.agreement.specs.Reached.{HasKey}
 use Rattle.world.specs.Rescues.{IsInOrder, IsLast}
-use Rattle.world.specs.Runs.{InEvery}
-use Rattle.world.proofs.Answered.{history_beginning}
-use Rattle.world.proofs.Deciding.{chosen_from}
-use Rattle.world.proofs.Every.{knows_chosen}
-use Rattle.world.proofs.Performed.{run_from, run_chosen}
+use Rattle.agreement.specs.Runs.{InEvery}
+use Rattle.agreement.proofs.answered.Answered.{history_beginning}
+use Rattle.agreement.proofs.order.Deciding.{chosen_from}
+use Rattle.agreement.proofs.every.Every.{knows_chosen}
+use Rattle.agreement.proofs.answered.Performed.{run_from, run_chosen}
 use Rattle.world.proofs.Placed.{is_as_late, finds, found_kept}
-use Rattle.world.proofs.Reach.{reachable_sound}
-use Rattle.world.proofs.Rising.{In-kept}
-use Rattle.world.proofs.Submitted.{key_submitted}
+use Rattle.agreement.proofs.chosen.Reach.{reachable_sound}
+use Rattle.agreement.proofs.order.Rising.{In-kept}
+use Rattle.agreement.proofs.order.Submitted.{key_submitted}
 
 -- a key of the same session that is as late, and no greater, is the same
 late_is_same : (s n t m : ℕ) → (s == t && nat_le m n) ≡ true → (s ≡ t → n ≤ m) → (s == t && n == m) ≡ true

@@ -24,13 +24,13 @@ use Rattle.leader.specs.Promises.{at_heard, at_scout}
 use Rattle.leader.specs.Votes.{at_voted, at_commander, answers_another}
 use Rattle.leader.specs.Votes as votes_of
 use Rattle.node.specs.SlotLaws.{get_insert_same, get_insert_cases, get_remove_cases, none_in_empty, absent, get_each_value}
-use Rattle.world.specs.Nodes.{Cluster, node}
+use Rattle.agreement.specs.Nodes.{Cluster, node}
 use Rattle.world.specs.Leading.{IsPromised, IsToldToAll, IsStillScouting, IsStillCommanding, IsLed}
-use Rattle.world.proofs.Sets.{nobody_has, has_add}
-use Rattle.world.proofs.Invariants.{IsLeading}
-use Rattle.world.proofs.Grows.{Grows, majority_stays}
-use Rattle.world.proofs.LeaderRows.{some_same, none_not, off_on}
-use Rattle.world.proofs.LeadingSlots.{is_there, still_there, others_there, added, each_there}
+use Rattle.agreement.proofs.chosen.Sets.{nobody_has, has_add}
+use Rattle.agreement.proofs.chosen.Invariants.{IsLeading}
+use Rattle.agreement.proofs.chosen.Grows.{Grows, majority_stays}
+use Rattle.agreement.proofs.chosen.LeaderRows.{some_same, none_not, off_on}
+use Rattle.agreement.proofs.books.LeadingSlots.{is_there, still_there, others_there, added, each_there}
 
 -- nobody is no majority
 weigh_nobody : (ws : List ℕ) (n : ℕ) → weigh ws (replicate n false) ≡ 0

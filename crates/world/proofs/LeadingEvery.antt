@@ -15,20 +15,20 @@ use Rattle.slot_log.specs.Decisions.{next_decided}
 use Rattle.node.specs.Deeds.{led}
 use Rattle.node.specs.Nodes.{NodeState, restarted}
 use Rattle.node.specs.Receiving.{Receives, promises_ballot, accepts_pvalue, hears_promise, hears_vote, hears_proposal, learns, tells_decisions}
-use Rattle.world.specs.declared.event.Event.{Event}
+use Rattle.agreement.specs.declared.event.Event.{Event}
 use Rattle.world.specs.Leading.{IsLed, HasLeader}
-use Rattle.world.specs.Nodes.{Cluster, node, turned}
-use Rattle.world.specs.Runs.{InEvery}
-use Rattle.world.specs.Steps.{Step, submit, deliver, wake, nudge, propose, perform, restart, after_performing, leader_turn}
-use Rattle.world.specs.Worlds.{World, opening}
-use Rattle.world.proofs.Grows.{Grows}
-use Rattle.world.proofs.Invariants.{IsFair, IsSound, IsTrueOf}
-use Rattle.world.proofs.LeaderRows.{none_not, off_on}
+use Rattle.agreement.specs.Nodes.{Cluster, node, turned}
+use Rattle.agreement.specs.Runs.{InEvery}
+use Rattle.agreement.specs.Steps.{Step, submit, deliver, wake, nudge, propose, perform, restart, after_performing, leader_turn}
+use Rattle.agreement.specs.Worlds.{World, opening}
+use Rattle.agreement.proofs.chosen.Grows.{Grows}
+use Rattle.agreement.proofs.chosen.Invariants.{IsFair, IsSound, IsTrueOf}
+use Rattle.agreement.proofs.chosen.LeaderRows.{none_not, off_on}
 use Rattle.world.proofs.Leading.{IsLedBy, led_stays, woken_led, p1b_led, p2b_led, proposed_led}
-use Rattle.world.proofs.LeadingRuns.{in_every}
-use Rattle.world.proofs.Reach.{opened_at, step_sound, reachable_sound}
-use Rattle.world.proofs.Sets.{In-numbers}
-use Rattle.world.proofs.Turns.{here, there}
+use Rattle.agreement.proofs.books.LeadingRuns.{in_every}
+use Rattle.agreement.proofs.chosen.Reach.{opened_at, step_sound, reachable_sound}
+use Rattle.agreement.proofs.chosen.Sets.{In-numbers}
+use Rattle.agreement.proofs.chosen.Turns.{here, there}
 use Rattle.node.specs.SlotLaws.{none_in_empty}
 
 -- what is said to all is sent to each member

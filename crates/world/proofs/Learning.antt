@@ -18,18 +18,18 @@ use Rattle.slot_log.specs.Books.{SlotBook}
 use Rattle.slot_log.specs.Proposals.{next_proposal, proposed}
 use Rattle.slot_log.specs.Decisions.{learnt as with_decision, next_decided}
 use Rattle.slot_log.specs.Advances.{advanced}
-use Rattle.world.specs.Nodes.{Cluster, node}
-use Rattle.world.specs.Worlds.{World}
-use Rattle.world.specs.Steps.{Step}
-use Rattle.world.specs.Runs.{IsWorld}
-use Rattle.world.specs.declared.event.Event.{Event}
-use Rattle.world.specs.declared.event.Event.TheVariants as events
-use Rattle.world.proofs.Invariants.{IsSound}
-use Rattle.world.specs.Mentions.{is_calm}
+use Rattle.agreement.specs.Nodes.{Cluster, node}
+use Rattle.agreement.specs.Worlds.{World}
+use Rattle.agreement.specs.Steps.{Step}
+use Rattle.agreement.specs.Runs.{IsWorld}
+use Rattle.agreement.specs.declared.event.Event.{Event}
+use Rattle.agreement.specs.declared.event.Event.TheVariants as events
+use Rattle.agreement.proofs.chosen.Invariants.{IsSound}
+use Rattle.agreement.specs.Mentions.{is_calm}
 use Rattle.world.specs.Telling.{IsProposedAt}
 use Rattle.world.specs.WaysOut.{first_leader, first_book, IsAtRest, IsSmall, IsReady, stays as ready_stays, proposes as ready_proposes, HasDecided, knew, learnt, MentionsAsMuch, Decides, Goes, is_talk, work, most_slots}
 use Rattle.world.proofs.LeadingEvery.{has_leader}
-use Rattle.world.proofs.MentionsEvery.{mentions_weaker, mentions_calm}
+use Rattle.agreement.proofs.books.MentionsEvery.{mentions_weaker, mentions_calm}
 use Rattle.world.proofs.Rounds.{place_of}
 use Rattle.world.proofs.Stepping.{IsTurned, decision_turned, perform_turned, book_turned, work_stays, at_rest_stays}
 use Rattle.world.proofs.Telling.{told_by_leader}

@@ -5,11 +5,11 @@ use Rattle.object.specs.Objects.{Rules}
 use Rattle.object.specs.declared.command.Command.{Command}
 use Rattle.slot_log.specs.Books.{SlotBook}
 use Rattle.slot_log.specs.Decisions.{next_decided}
-use Rattle.world.specs.Nodes.{node}
-use Rattle.world.specs.Worlds.{World}
-use Rattle.world.specs.Steps.{Step, submit, deliver, wake, nudge, propose, perform, restart, after_performing}
-use Rattle.world.specs.Runs.{Leads, at_once, after}
-use Rattle.world.specs.declared.event.Event.{Event}
+use Rattle.agreement.specs.Nodes.{node}
+use Rattle.agreement.specs.Worlds.{World}
+use Rattle.agreement.specs.Steps.{Step, submit, deliver, wake, nudge, propose, perform, restart, after_performing}
+use Rattle.agreement.specs.Runs.{Leads, at_once, after}
+use Rattle.agreement.specs.declared.event.Event.{Event}
 use Rattle.world.proofs.Talking.{begins_itself, begins_further}
 
 module _ {O Op Reply : Type 0} (rules : Rules O Op Reply) where

@@ -7,7 +7,7 @@ use Rattle.std.proofs.lemmas.Option.{slice_get-get_or, slice_get_within}
 use Rattle.ballot.specs.declared.letter.Letter.{Letter}
 use Rattle.ballot.specs.declared.letter.LetterBody.{LetterBody}
 use Rattle.ballot.specs.declared.letter.LetterBody.TheVariants.{P1a, P1b, P2a, P2b, Propose, Decision, Ask}
-use Rattle.world.proofs.LeaderRows.{some_same}
+use Rattle.agreement.proofs.chosen.LeaderRows.{some_same}
 use Rattle.world.specs.WaysOut.{Proposes, Decides, proposes_to, is_proposal, decides_to, is_decision}
 
 both : (a b : Bool) → (a && b) ≡ true → (a ≡ true) × (b ≡ true)

@@ -1,24 +1,21 @@
 -- The keys of what was performed, from event to event.
-use Rattle.std.proofs.Common.{◌≡◌, ⊎_elim, ℕ, ◌+◌, ◌<◌, ◌≤◌, true, false, nat_lt, cond, List, [], ◌∷◌, ◌++◌, length-append, Option, Some, None, refl, sym, ap, ◌∙◌, subst, append-nil, arith}
+use Rattle.std.proofs.Common.{◌≡◌, ⊎_elim, ℕ, ◌+◌, true, false, nat_lt, cond, List, [], ◌∷◌, ◌++◌, Option, Some, None, refl, sym, ap, ◌∙◌, subst, append-nil, arith}
 use Rattle.std.specs.Option.{option_to_list}
 use Rattle.std.proofs.lemmas.Bool.{cases_Bool}
-use Rattle.std.proofs.lemmas.Bool.Decides.{nat_tests}
 use Rattle.std.proofs.lemmas.List.{map-append}
 use Rattle.object.specs.declared.command.Command.{Command}
 use Rattle.object.specs.declared.command.Key.{Key}
 use Rattle.object.specs.Objects.{Rules}
 use Rattle.slot_log.specs.Decisions.{next_decided}
-use Rattle.world.specs.Chosen.{IsChosen}
-use Rattle.world.specs.Nodes.{node}
-use Rattle.world.specs.Worlds.{World, opening}
+use Rattle.agreement.specs.Chosen.{IsChosen}
+use Rattle.agreement.specs.Nodes.{node}
+use Rattle.agreement.specs.Worlds.{World, opening}
 use Rattle.node.specs.Deeds.{performs}
 use Rattle.node.specs.Outcomes.{reach_after}
 use Rattle.world.specs.Kept.{HasNoted, IsNoted, key_past}
-use Rattle.world.specs.Reached.{IsReached}
-use Rattle.world.proofs.Invariants.{IsSound}
-use Rattle.world.proofs.Grows.{Grows}
-use Rattle.world.proofs.Performed.{run_stays, run_push}
-use Rattle.world.proofs.Told.{AllWithin}
+use Rattle.agreement.proofs.chosen.Invariants.{IsSound}
+use Rattle.agreement.proofs.chosen.Grows.{Grows}
+use Rattle.agreement.proofs.answered.Told.{AllWithin}
 
 pub opening_noted : {Op Reply : Type 0} (members : List ℕ) → HasNoted {Op = Op} {Reply = Reply} (opening members) []
 opening_noted members = ([], record { chosen = tt; count = refl }, refl)
@@ -26,20 +23,6 @@ opening_noted members = ([], record { chosen = tt; count = refl }, refl)
 -- the same world with the same keys
 pub noted_again : {O Op Reply : Type 0} (rules : Rules O Op Reply) (w z : World Op Reply) (keys again : List Key) → z ≡ w → again ≡ keys → IsNoted rules w keys → IsNoted rules z again
 noted_again rules w z keys again same kept noted = subst (IsNoted rules z) (sym kept) (subst (λ v. IsNoted rules v keys) (sym same) noted)
-
-module _ {Op Reply : Type 0} (v u : World Op Reply) (grows : Grows v.cluster u.cluster) (cs : List (Command Op)) (reached : IsReached v cs) where
-  -- where the reach stays, so do the commands up to it
-  pub reached_stays : u.reach ≡ v.reach → IsReached u cs
-  reached_stays same = record { chosen = run_stays v.cluster u.cluster grows 1 cs reached.chosen; count = reached.count ∙ sym same }
-
-  -- and where it grows by one slot, its command is one more
-  pub reached_more : (c : Command Op) → IsChosen v.cluster u.reach c → u.reach ≡ v.reach + 1 → IsReached u (cs ++ (c ∷ []))
-  reached_more c chosen more =
-      let count = reached.count in
-      record {
-        chosen = run_stays v.cluster u.cluster grows 1 (cs ++ (c ∷ [])) (run_push v.cluster 1 cs c reached.chosen (subst (λ s. IsChosen v.cluster s c) (omega arith) chosen));
-        count = let f = length-append cs (c ∷ []) in omega arith;
-      }
 
 module _ {Op Reply : Type 0} (v u : World Op Reply) (grows : Grows v.cluster u.cluster) (keys : List Key) (noted : HasNoted v keys) where
   -- where the reach stays, so do the keys
@@ -53,12 +36,6 @@ module _ {Op Reply : Type 0} (v u : World Op Reply) (grows : Grows v.cluster u.c
     reached_more v u grows noted.0 noted.1 c chosen more,
     ap (λ ks. ks ++ (c.key ∷ [])) noted.2 ∙ sym (map-append (λ (x : Command Op). x.key) noted.0 (c ∷ [])),
   )
-
-pub past_when : (reach slot : ℕ) → nat_lt reach slot ≡ true → reach < slot
-past_when reach slot e = grind (arith, nat_tests)
-
-pub within_when : (reach slot : ℕ) → nat_lt reach slot ≡ false → slot ≤ reach
-within_when reach slot e = grind (arith, nat_tests)
 
 -- a replica performs
 pub performs_noted : {Op Reply : Type 0} (v u : World Op Reply) → IsSound v.cluster → AllWithin v.cluster (v.reach + 1) → Grows v.cluster u.cluster → (keys : List Key) → HasNoted v keys → (n : ℕ) (o : Option (Command Op)) → next_decided (node v.cluster n).replica ≡ o

@@ -8,15 +8,16 @@ use Rattle.object.specs.Lists.{In}
 use Rattle.object.specs.Replays.{is_new, kept_after}
 use Rattle.object.specs.declared.command.Command.{Command}
 use Rattle.object.specs.declared.command.Key.{Key}
-use Rattle.world.specs.Worlds.{World}
+use Rattle.agreement.specs.Worlds.{World}
 use Rattle.object.specs.Keys.{same_key}
-use Rattle.world.specs.Reached.{HasKey, IsPlaced, first_as_late}
+use Rattle.agreement.specs.Reached.{HasKey}
+use Rattle.world.specs.Placed.{IsPlaced, first_as_late}
 use Rattle.world.specs.Kept.{HasNoted}
 use Rattle.ballot.specs.OrderLaws.{BallotLaws}
-use Rattle.world.proofs.Invariants.{IsSound}
-use Rattle.world.proofs.Performed.{same_run}
+use Rattle.agreement.proofs.chosen.Invariants.{IsSound}
+use Rattle.agreement.proofs.answered.Performed.{same_run}
 use Rattle.object.specs.ReplayLaws.{is_before}
-use Rattle.world.proofs.Rising.{kept_new}
+use Rattle.agreement.proofs.order.Rising.{kept_new}
 use Rattle.object.specs.KeyLaws.{same_is, same_when}
 
 -- of the key's session, and with no lower number

@@ -5,12 +5,12 @@ use Rattle.std.specs.List.{range_with_len}
 use Rattle.std.proofs.lemmas.List.FromFn.{map-range_with_len_more}
 use Rattle.ballot.specs.declared.letter.Letter.{Letter}
 use Rattle.node.specs.Nodes.{NodeState, members_of, number_of, new_node}
-use Rattle.world.specs.Nodes.{Cluster, new_cluster, node}
+use Rattle.agreement.specs.Nodes.{Cluster, new_cluster, node}
 use Rattle.node.specs.PlaceLaws.{node_at, put_at}
 use Rattle.node.specs.Receiving.{Receives, Received}
-use Rattle.world.specs.Showing.{HasNode}
+use Rattle.agreement.specs.Showing.{HasNode}
 use Rattle.world.specs.Kept.{Delivered}
-use Rattle.world.proofs.Sets.{member_bounds}
+use Rattle.agreement.proofs.chosen.Sets.{member_bounds}
 
 -- a letter that was received where it was to, by the node at place p
 pub delivered : {C : Type 0} (k : Cluster C) (l : Letter C) (y x : NodeState C) (p : ℕ) (letters : List (Letter C)) → p ≡ l.to - 1 → HasNode l.to k → y ≡ slice_index_or k.nodes p y → Received l.«from» y l.body x k.letters letters → Delivered k l (record { members = k.members; nodes = slice_set k.nodes p x; letters = letters })

@@ -16,20 +16,20 @@ use Rattle.node.specs.Deeds.{led}
 use Rattle.node.specs.SlotLaws.{get_insert_same}
 use Rattle.slot_log.specs.Proposals.{next_proposal, proposed_next}
 use Rattle.replica.specs.Replicas.{proposes_first}
-use Rattle.world.specs.Nodes.{Cluster, node}
-use Rattle.world.specs.Worlds.{World}
-use Rattle.world.specs.Steps.{Step}
-use Rattle.world.specs.Runs.{IsWorld}
-use Rattle.world.specs.declared.event.Event.TheVariants as events
-use Rattle.world.proofs.Every.{within_reach}
-use Rattle.world.proofs.Invariants.{IsSound}
-use Rattle.world.proofs.LeaderRows.{some_same}
-use Rattle.world.proofs.Reach.{reachable_sound, step_sound}
-use Rattle.world.specs.SlotBooks.{IsBookAfter}
+use Rattle.agreement.specs.Nodes.{Cluster, node}
+use Rattle.agreement.specs.Worlds.{World}
+use Rattle.agreement.specs.Steps.{Step}
+use Rattle.agreement.specs.Runs.{IsWorld}
+use Rattle.agreement.specs.declared.event.Event.TheVariants as events
+use Rattle.agreement.proofs.every.Every.{within_reach}
+use Rattle.agreement.proofs.chosen.Invariants.{IsSound}
+use Rattle.agreement.proofs.chosen.LeaderRows.{some_same}
+use Rattle.agreement.proofs.chosen.Reach.{reachable_sound, step_sound}
+use Rattle.agreement.specs.SlotBooks.{IsBookAfter}
 use Rattle.world.specs.Telling.{IsProposedAt}
 use Rattle.world.specs.WaysOut.{first_leader, first_book, rivals, IsAtRest, MentionsAsMuch, Proposes, work}
-use Rattle.world.proofs.MentionsEvery.{mentions_step, mentions_calm, reach_taken}
-use Rattle.world.proofs.SlotBooksEvery.{books}
+use Rattle.agreement.proofs.books.MentionsEvery.{mentions_step, mentions_calm, reach_taken}
+use Rattle.agreement.proofs.books.SlotBooksEvery.{books}
 use Rattle.world.proofs.SlotBooksNext.{next_at_out}
 use Rattle.world.proofs.Stepping.{IsTurned, proposal_turned, propose_turned, rivals_turned, leader_turned, book_turned, work_stays, at_rest_stays, takes_proposal, one_commander}
 use Rattle.world.proofs.Talking.{last_at}

@@ -19,16 +19,17 @@ use Rattle.object.specs.declared.command.Act.TheVariants.{Do, Close, Tick}
 use Rattle.object.specs.declared.command.Command.{Command}
 use Rattle.object.specs.declared.command.Key.{Key}
 use Rattle.object.specs.declared.command.Submission.{Submission}
-use Rattle.world.specs.Refusals.{IsAllowed, has_other_act, is_at_member, is_sent, keeps_acts, most_events, refusal}
+use Rattle.world.specs.Refusals.{IsAllowed, has_other_act, keeps_acts, refusal}
+use Rattle.agreement.specs.Events.{is_at_member, is_sent}
+use Rattle.agreement.specs.Runs.{most_events, Leads, at_once, after, IsWorld}
 use Rattle.world.specs.Rescues.{IsInOrder, IsLast, HasGreater, Rescues, keeps_nodes}
-use Rattle.world.specs.Runs.{Leads, at_once, after, IsWorld}
-use Rattle.world.specs.Steps.{Step, IsItsOwn, submit, deliver, wake, nudge, propose, perform, restart}
-use Rattle.world.specs.Worlds.{World}
+use Rattle.agreement.specs.Steps.{Step, IsItsOwn, submit, deliver, wake, nudge, propose, perform, restart}
+use Rattle.agreement.specs.Worlds.{World}
 use Rattle.world.specs.declared.error.WorldError.TheVariants.{NoSuchNode, NoSuchLetter, BadNumber, Full}
-use Rattle.world.specs.declared.event.Event.{Event}
+use Rattle.agreement.specs.declared.event.Event.{Event}
 use Rattle.world.proofs.AlikeOrders.{alike_order, alike_refusals}
 use Rattle.world.proofs.AlikeRuns.{alike_runs}
-use Rattle.world.proofs.Every.{counts}
+use Rattle.agreement.proofs.every.Every.{counts}
 
 -- what is allowed is not refused
 pub not_refused : {Op Reply : Type 0} (same : Op → Op → Bool) (w : World Op Reply) (e : Event Op) → IsAllowed same w e → refusal same w e ≡ None

@@ -5,8 +5,8 @@ use Rattle.ballot.specs.Ballots.{Numbers, is_below, is_promise_below, higher, ne
 use Rattle.ballot.specs.Members.{is_member, numbers}
 use Rattle.ballot.specs.OrderLaws.{BallotLaws, below_upto, not_both}
 use Rattle.std.proofs.lemmas.Bool.Decides.{nat_tests}
-use Rattle.world.specs.Nodes.{Cluster, node}
-use Rattle.world.proofs.Sets.{In-numbers}
+use Rattle.agreement.specs.Nodes.{Cluster, node}
+use Rattle.agreement.proofs.chosen.Sets.{In-numbers}
 use Rattle.world.specs.WaysOut.{is_rival, rivals}
 
 -- what fewer tests hold of

@@ -5,14 +5,13 @@ use Rattle.object.specs.Objects.{Rules}
 use Rattle.ballot.specs.Members.{IsMembers, is_member}
 use Rattle.ballot.specs.OrderLaws.{BallotLaws}
 use Rattle.scout_commander.specs.Scouts.{Scouting}
-use Rattle.world.specs.Nodes.{node}
-use Rattle.world.specs.Worlds.{World}
-use Rattle.world.specs.Steps.{Step}
-use Rattle.world.specs.Runs.{IsWorld}
-use Rattle.world.specs.Refusals.{most_events}
-use Rattle.world.specs.declared.event.Event.TheVariants as events
-use Rattle.world.proofs.Every.{goes_on as world_goes_on}
-use Rattle.world.proofs.Reach.{reachable_sound}
+use Rattle.agreement.specs.Nodes.{node}
+use Rattle.agreement.specs.Worlds.{World}
+use Rattle.agreement.specs.Steps.{Step}
+use Rattle.agreement.specs.Runs.{IsWorld, most_events}
+use Rattle.agreement.specs.declared.event.Event.TheVariants as events
+use Rattle.agreement.proofs.every.Every.{goes_on as world_goes_on}
+use Rattle.agreement.proofs.chosen.Reach.{reachable_sound}
 use Rattle.node.specs.Deeds.{said_again}
 use Rattle.world.specs.WaysOut.{first_leader, HasScout, questions, IsQuestion, HasAsked, IsOver, IsTalk}
 use Rattle.world.proofs.LeadingEvery.{has_leader}

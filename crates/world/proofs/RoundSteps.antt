@@ -8,10 +8,10 @@ use Rattle.ballot.specs.Members.{is_member}
 use Rattle.ballot.specs.OrderLaws.{BallotLaws}
 use Rattle.ballot.specs.declared.letter.LetterBody.{LetterBody}
 use Rattle.ballot.specs.declared.letter.LetterBody.TheVariants.{P1a, P2a}
-use Rattle.world.specs.Worlds.{World}
-use Rattle.world.specs.Runs.{IsWorld}
-use Rattle.world.proofs.Reach.{reachable_sound}
-use Rattle.world.proofs.Invariants.{IsSound}
+use Rattle.agreement.specs.Worlds.{World}
+use Rattle.agreement.specs.Runs.{IsWorld}
+use Rattle.agreement.proofs.chosen.Reach.{reachable_sound}
+use Rattle.agreement.proofs.chosen.Invariants.{IsSound}
 use Rattle.world.specs.Leading.{HasLeader}
 use Rattle.world.specs.WaysOut.{first_leader, AsksAt, IsQuestion, promise, vote, HasAsked}
 use Rattle.world.proofs.LeadingEvery.{has_leader}

@@ -20,13 +20,13 @@ use Rattle.scout_commander.specs.Commanders.{Commanding}
 use Rattle.leader.specs.Leaders.{says_again}
 use Rattle.replica.specs.Replicas.{nudges}
 use Rattle.node.specs.Deeds.{said_again}
-use Rattle.world.specs.Nodes.{node, turned}
-use Rattle.world.specs.Worlds.{World}
-use Rattle.world.specs.Steps.{Step, nudge, counted, with_cluster}
-use Rattle.world.specs.declared.event.Event.TheVariants as events
-use Rattle.world.proofs.Invariants.{IsSound}
-use Rattle.world.proofs.LeaderRows.{none_not}
-use Rattle.world.proofs.Turns.{here}
+use Rattle.agreement.specs.Nodes.{node, turned}
+use Rattle.agreement.specs.Worlds.{World}
+use Rattle.agreement.specs.Steps.{Step, nudge, counted, with_cluster}
+use Rattle.agreement.specs.declared.event.Event.TheVariants as events
+use Rattle.agreement.proofs.chosen.Invariants.{IsSound}
+use Rattle.agreement.proofs.chosen.LeaderRows.{none_not}
+use Rattle.agreement.proofs.chosen.Turns.{here}
 use Rattle.world.specs.Leading.{HasLeader}
 use Rattle.world.specs.WaysOut.{first_leader, rivals, IsTalk, HasScout, AsksAt, IsOver, beaten, adopted, at_rest}
 use Rattle.world.proofs.Talking.{talk_itself, turn_talks}

@@ -18,7 +18,7 @@ use Rattle.node.specs.SlotLaws.{entries_get, get_entries}
 use Rattle.scout_commander.specs.Scouts.{Scouting}
 use Rattle.scout_commander.specs.Commanders.{Commanding}
 use Rattle.leader.specs.Leaders.{Leading, scout_says, says_again}
-use Rattle.world.proofs.Sets.{In-numbers, numbers_members}
+use Rattle.agreement.proofs.chosen.Sets.{In-numbers, numbers_members}
 use Rattle.world.proofs.Talking.{still_at}
 
 -- where an element of a list stands

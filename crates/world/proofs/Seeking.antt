@@ -4,13 +4,14 @@ use Rattle.std.proofs.lemmas.List.{map-append, length-append}
 use Rattle.object.specs.declared.command.Command.{Command}
 use Rattle.object.specs.declared.command.Key.{Key}
 use Rattle.ballot.specs.OrderLaws.{BallotLaws}
-use Rattle.world.specs.Chosen.{IsChosen, IsChosenFrom}
+use Rattle.agreement.specs.Chosen.{IsChosen, IsChosenFrom}
 use Rattle.world.specs.Kept.{IsFirstAsLate}
-use Rattle.world.specs.Nodes.{Cluster}
-use Rattle.world.specs.Reached.{IsRun, first_as_late}
-use Rattle.world.proofs.Deciding.{chosen_from}
-use Rattle.world.proofs.Invariants.{IsSound}
-use Rattle.world.proofs.Performed.{run_push}
+use Rattle.agreement.specs.Nodes.{Cluster}
+use Rattle.agreement.specs.Reached.{IsRun}
+use Rattle.world.specs.Placed.{first_as_late}
+use Rattle.agreement.proofs.order.Deciding.{chosen_from}
+use Rattle.agreement.proofs.chosen.Invariants.{IsSound}
+use Rattle.agreement.proofs.answered.Performed.{run_push}
 use Rattle.world.proofs.Placed.{is_as_late, late_behind}
 use Rattle.world.proofs.Standing.{run_on}
 use Rattle.world.proofs.Voters.{run_ended}

@@ -6,14 +6,15 @@ use Rattle.object.specs.Replays.{kept}
 use Rattle.object.specs.declared.command.Command.{Command}
 use Rattle.object.specs.declared.command.Key.{Key}
 use Rattle.ballot.specs.OrderLaws.{BallotLaws}
-use Rattle.world.specs.Chosen.{IsChosenFrom}
+use Rattle.agreement.specs.Chosen.{IsChosenFrom}
 use Rattle.world.specs.Kept.{HasNoted}
-use Rattle.world.specs.Nodes.{Cluster}
-use Rattle.world.specs.Reached.{IsRun, HasKey, first_as_late}
+use Rattle.agreement.specs.Nodes.{Cluster}
+use Rattle.agreement.specs.Reached.{IsRun, HasKey}
+use Rattle.world.specs.Placed.{first_as_late}
 use Rattle.world.specs.Rescues.{IsInOrder}
-use Rattle.world.specs.Worlds.{World}
-use Rattle.world.proofs.Growing.{one_list}
-use Rattle.world.proofs.Invariants.{IsSound}
+use Rattle.agreement.specs.Worlds.{World}
+use Rattle.agreement.proofs.chosen.Growing.{one_list}
+use Rattle.agreement.proofs.chosen.Invariants.{IsSound}
 use Rattle.world.proofs.Placed.{told, finds, finds_first, found_kept, kept_found}
 
 -- a run, and all that is chosen behind it

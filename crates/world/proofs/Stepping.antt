@@ -23,12 +23,12 @@ use Rattle.replica.specs.Replicas.{proposes_first}
 use Rattle.node.specs.Nodes.{NodeState}
 use Rattle.node.specs.Deeds.{led}
 use Rattle.node.specs.Receiving.{Receives, hears_proposal, learns}
-use Rattle.world.specs.Nodes.{node, turned}
-use Rattle.world.specs.Worlds.{World}
-use Rattle.world.specs.Steps.{Step, propose, perform, counted, with_cluster, replica_turn, after_performing}
-use Rattle.world.specs.declared.event.Event.TheVariants as events
-use Rattle.world.proofs.Invariants.{IsSound}
-use Rattle.world.proofs.Turns.{here, there}
+use Rattle.agreement.specs.Nodes.{node, turned}
+use Rattle.agreement.specs.Worlds.{World}
+use Rattle.agreement.specs.Steps.{Step, propose, perform, counted, with_cluster, replica_turn, after_performing}
+use Rattle.agreement.specs.declared.event.Event.TheVariants as events
+use Rattle.agreement.proofs.chosen.Invariants.{IsSound}
+use Rattle.agreement.proofs.chosen.Turns.{here, there}
 use Rattle.world.specs.WaysOut.{first_leader, rivals, work, IsAtRest}
 use Rattle.world.proofs.Hearing.{HasReceived, received}
 use Rattle.world.proofs.Rivals.{no_more_rivals}

@@ -21,13 +21,13 @@ use Rattle.leader.specs.Promises as promises
 use Rattle.leader.specs.Votes as votes
 use Rattle.node.specs.Nodes.{NodeState}
 use Rattle.node.specs.Deeds.{led}
-use Rattle.world.specs.Nodes.{node, turned}
-use Rattle.world.specs.Worlds.{World}
-use Rattle.world.specs.Steps.{Step, counted, with_cluster}
-use Rattle.world.specs.declared.event.Event.TheVariants as events
-use Rattle.world.proofs.Invariants.{IsSound}
-use Rattle.world.proofs.Reach.{step_sound}
-use Rattle.world.proofs.Turns.{here, there}
+use Rattle.agreement.specs.Nodes.{node, turned}
+use Rattle.agreement.specs.Worlds.{World}
+use Rattle.agreement.specs.Steps.{Step, counted, with_cluster}
+use Rattle.agreement.specs.declared.event.Event.TheVariants as events
+use Rattle.agreement.proofs.chosen.Invariants.{IsSound}
+use Rattle.agreement.proofs.chosen.Reach.{step_sound}
+use Rattle.agreement.proofs.chosen.Turns.{here, there}
 use Rattle.world.specs.WaysOut.{first_leader, IsTalk}
 use Rattle.world.proofs.Hearing.{received, p1a_received, p1b_received, p2a_received, p2b_received}
 use Rattle.world.proofs.LeaderCases.{Covers}

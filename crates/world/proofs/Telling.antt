@@ -23,19 +23,19 @@ use Rattle.slot_log.specs.Books.{SlotBook}
 use Rattle.slot_log.specs.Decisions.{next_decided}
 use Rattle.slot_log.specs.Proposals.{next_proposal, first_for, open_slot, proposed_next, IsLeastOpen}
 use Rattle.slot_log.proofs.OpenSlots.{open_is}
-use Rattle.world.specs.Chosen.{IsChosen}
-use Rattle.world.specs.Nodes.{Cluster, node, new_cluster, turned}
-use Rattle.world.specs.Runs.{Leads, at_once, after, IsReachable, InEvery}
-use Rattle.world.specs.Steps.{Step, submit, deliver, wake, nudge, propose, perform, restart, after_performing, replica_turn}
+use Rattle.agreement.specs.Chosen.{IsChosen}
+use Rattle.agreement.specs.Nodes.{Cluster, node, new_cluster, turned}
+use Rattle.agreement.specs.Runs.{Leads, at_once, after, IsReachable, InEvery}
+use Rattle.agreement.specs.Steps.{Step, submit, deliver, wake, nudge, propose, perform, restart, after_performing, replica_turn}
 use Rattle.world.specs.Telling.{IsProposedAt, IsProposedUpto, IsMentioned, is_proposed, is_decided, is_led, is_commanded, is_gathered, is_accepted, says_propose, says_decision, says_accept, says_report}
-use Rattle.world.specs.Worlds.{World, opening}
-use Rattle.world.specs.declared.event.Event.{Event}
-use Rattle.world.proofs.Answered.{reachable_traced}
-use Rattle.world.proofs.Grows.{Grows}
-use Rattle.world.proofs.Invariants.{IsFair, IsSound, IsTrueOf}
-use Rattle.world.proofs.LeaderRows.{none_not}
-use Rattle.world.proofs.Reach.{opened_at, opening_sound, leads_sound, step_sound, reachable_sound}
-use Rattle.world.proofs.Sets.{In-numbers, member_bounds}
+use Rattle.agreement.specs.Worlds.{World, opening}
+use Rattle.agreement.specs.declared.event.Event.{Event}
+use Rattle.agreement.proofs.answered.Answered.{reachable_traced}
+use Rattle.agreement.proofs.chosen.Grows.{Grows}
+use Rattle.agreement.proofs.chosen.Invariants.{IsFair, IsSound, IsTrueOf}
+use Rattle.agreement.proofs.chosen.LeaderRows.{none_not}
+use Rattle.agreement.proofs.chosen.Reach.{opened_at, opening_sound, leads_sound, step_sound, reachable_sound}
+use Rattle.agreement.proofs.chosen.Sets.{In-numbers, member_bounds}
 use Rattle.world.proofs.TellingSlots.{OfBody, OfNode, Of, of_weaker, asked_of, new_of, submit_of, receive_of, wake_of, nudge_of, proposes_of, perform_of, restart_of}
 
 -- what is said to all is sent to each member

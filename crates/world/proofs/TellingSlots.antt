@@ -34,11 +34,11 @@ use Rattle.slot_log.specs.Books.{SlotBook}
 use Rattle.slot_log.specs.Decisions.{decided_from}
 use Rattle.slot_log.specs.Proposals.{next_proposal, proposed as proposed_as, proposed_next}
 use Rattle.slot_log.specs.Requests.{is_known, requested}
-use Rattle.world.specs.Nodes.{Cluster, node, turned}
-use Rattle.world.specs.Steps.{leader_turn, replica_turn}
-use Rattle.world.proofs.Good.{Each-to_all}
-use Rattle.world.proofs.Invariants.{Asked, IsTrueOf, IsSound}
-use Rattle.world.proofs.Turns.{here, there}
+use Rattle.agreement.specs.Nodes.{Cluster, node, turned}
+use Rattle.agreement.specs.Steps.{leader_turn, replica_turn}
+use Rattle.agreement.proofs.chosen.Good.{Each-to_all}
+use Rattle.agreement.proofs.chosen.Invariants.{Asked, IsTrueOf, IsSound}
+use Rattle.agreement.proofs.chosen.Turns.{here, there}
 
 module _ (P : ℕ → Type 0) where
   -- it holds of each slot of these

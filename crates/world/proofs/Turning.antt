@@ -9,18 +9,18 @@ use Rattle.ballot.specs.Members.{IsMembers, is_member}
 use Rattle.ballot.specs.OrderLaws.{BallotLaws}
 use Rattle.scout_commander.specs.Commanders.{Commanding}
 use Rattle.leader.specs.Leaders.{says_again}
-use Rattle.world.specs.Worlds.{World}
-use Rattle.world.specs.Steps.{Step}
-use Rattle.world.specs.Runs.{Leads, at_once, after, IsWorld}
-use Rattle.world.specs.declared.event.Event.{Event}
-use Rattle.world.specs.declared.event.Event.TheVariants as events
-use Rattle.world.specs.declared.event.Event.TheVariants.{Submit, Deliver, Wake, Nudge, Propose as ProposeNext, Perform, Restart}
-use Rattle.world.proofs.Invariants.{IsSound}
-use Rattle.world.proofs.Reach.{reachable_sound, step_sound}
-use Rattle.world.specs.Mentions.{Mentions, is_calm}
+use Rattle.agreement.specs.Worlds.{World}
+use Rattle.agreement.specs.Steps.{Step}
+use Rattle.agreement.specs.Runs.{Leads, at_once, after, IsWorld}
+use Rattle.agreement.specs.declared.event.Event.{Event}
+use Rattle.agreement.specs.declared.event.Event.TheVariants as events
+use Rattle.agreement.specs.declared.event.Event.TheVariants.{Submit, Deliver, Wake, Nudge, Propose as ProposeNext, Perform, Restart}
+use Rattle.agreement.proofs.chosen.Invariants.{IsSound}
+use Rattle.agreement.proofs.chosen.Reach.{reachable_sound, step_sound}
+use Rattle.agreement.specs.Mentions.{Mentions, is_calm}
 use Rattle.world.specs.WaysOut.{first_leader, rivals, IsAtRest, IsOver, IsSmall, Goes, is_talk, questions, work, most_slots}
 use Rattle.world.proofs.LeadingEvery.{has_leader}
-use Rattle.world.proofs.MentionsEvery.{mentions_calm}
+use Rattle.agreement.proofs.books.MentionsEvery.{mentions_calm}
 use Rattle.world.proofs.MentionsFew.{few_proposals}
 use Rattle.world.proofs.RoundMembers.{first_member}
 use Rattle.world.proofs.Working.{waits_asleep, waits_awake, some_left, over_from, round_spent, same_ballot, same_active, same_commanders, has_scout, same_rivals, wake_counts, leader_woken, woken_alone}

@@ -9,16 +9,16 @@ use Rattle.object.specs.Replays.{is_new, kept}
 use Rattle.ballot.specs.Members.{is_majority}
 use Rattle.ballot.specs.declared.pvalue.Pvalue.{Pvalue}
 use Rattle.node.specs.Nodes.{NodeState, new_node}
-use Rattle.world.specs.Nodes.{Cluster, node}
-use Rattle.world.specs.Chosen.{IsChosen, IsChosenFrom}
-use Rattle.world.specs.Reached.{IsRun}
+use Rattle.agreement.specs.Nodes.{Cluster, node}
+use Rattle.agreement.specs.Chosen.{IsChosen, IsChosenFrom}
+use Rattle.agreement.specs.Reached.{IsRun}
 use Rattle.world.specs.Voters.{is_voted, HasVoted, HasNoneVoted}
 use Rattle.object.specs.ListLaws.{In-cases}
 use Rattle.ballot.specs.OrderLaws.{BallotLaws}
-use Rattle.world.proofs.Invariants.{IsSound}
+use Rattle.agreement.proofs.chosen.Invariants.{IsSound}
 use Rattle.object.specs.ReplayLaws.{kept-push_new, kept-push_old}
-use Rattle.world.proofs.Performed.{run_push}
-use Rattle.world.proofs.Deciding.{majority_more, chosen_by_row, none_by_rows}
+use Rattle.agreement.proofs.answered.Performed.{run_push}
+use Rattle.agreement.proofs.order.Deciding.{majority_more, chosen_by_row, none_by_rows}
 
 both : (x y : Bool) → (x ≡ true → y ≡ true) → (y ≡ true → x ≡ true) → x ≡ y
 both true y f g = sym (f refl)

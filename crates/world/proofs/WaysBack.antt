@@ -6,9 +6,9 @@ use Rattle.object.specs.declared.command.Command.{Command}
 use Rattle.object.specs.declared.command.Key.{Key}
 use Rattle.ballot.specs.OrderLaws.{BallotLaws}
 use Rattle.slot_log.specs.Histories.{history}
-use Rattle.world.specs.Runs.{IsWorld, Leads, at_once}
-use Rattle.world.specs.Worlds.{World}
-use Rattle.world.specs.declared.event.Event.{Event}
+use Rattle.agreement.specs.Runs.{IsWorld, Leads, at_once}
+use Rattle.agreement.specs.Worlds.{World}
+use Rattle.agreement.specs.declared.event.Event.{Event}
 use Rattle.world.specs.Rescues.{IsInOrder, IsLast, Rescues, keeps_nodes}
 use Rattle.world.specs.WaysOut.{first_book, Goes}
 use Rattle.world.proofs.InOrder.{in_order}

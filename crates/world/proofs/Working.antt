@@ -15,13 +15,13 @@ use Rattle.scout_commander.specs.Scouts.{Scouting, new_scout}
 use Rattle.scout_commander.specs.Commanders.{Commanding}
 use Rattle.leader.specs.Leaders.{Leading, Done, silently, woken, scout_says, says_again}
 use Rattle.node.specs.Deeds.{led}
-use Rattle.world.specs.Nodes.{Cluster, node}
-use Rattle.world.specs.Worlds.{World}
-use Rattle.world.specs.Steps.{Step, wake, counted, with_cluster, leader_turn}
-use Rattle.world.specs.declared.event.Event.TheVariants as events
-use Rattle.world.proofs.Invariants.{IsSound}
-use Rattle.world.proofs.LeaderRows.{off_on}
-use Rattle.world.proofs.Turns.{here}
+use Rattle.agreement.specs.Nodes.{Cluster, node}
+use Rattle.agreement.specs.Worlds.{World}
+use Rattle.agreement.specs.Steps.{Step, wake, counted, with_cluster, leader_turn}
+use Rattle.agreement.specs.declared.event.Event.TheVariants as events
+use Rattle.agreement.proofs.chosen.Invariants.{IsSound}
+use Rattle.agreement.proofs.chosen.LeaderRows.{off_on}
+use Rattle.agreement.proofs.chosen.Turns.{here}
 use Rattle.world.specs.WaysOut.{first_leader, rivals, IsTalk, IsAtRest, HasScout, work, most_slots, IsBeaten, IsOver, beaten, adopted, at_rest}
 use Rattle.world.proofs.Talking.{turn_talks, at_each}
 use Rattle.world.proofs.Rivals.{no_more_rivals}

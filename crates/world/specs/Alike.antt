@@ -10,7 +10,7 @@ use Rattle.ballot.specs.declared.letter.LetterBody.TheVariants.{P1b}
 use Rattle.scout_commander.specs.Scouts.{Scouting}
 use Rattle.leader.specs.Leaders.{Leading}
 use Rattle.node.specs.Nodes.{NodeState}
-use Rattle.world.specs.Worlds.{World}
+use Rattle.agreement.specs.Worlds.{World}
 
 -- the lists are of one length, and this is so of any two elements that stand at one place
 abbrev pub InPairs : {A : Type 0} → (A → A → Type 0) → List A → List A → Type 0

@@ -17,11 +17,12 @@ use Rattle.node.specs.declared.deed.Deed.{Deed}
 use Rattle.node.specs.declared.deed.Deed.TheVariants as deeds
 use Rattle.node.specs.declared.deed.Outcome.{Outcome}
 use Rattle.node.specs.declared.deed.Outcome.TheVariants.{Idle, Done, Performed}
-use Rattle.world.specs.Nodes.{Cluster, node, turned}
-use Rattle.world.specs.Worlds.{World}
-use Rattle.world.specs.Runs.{IsWorld}
-use Rattle.world.specs.Chosen.{IsChosenFrom}
-use Rattle.world.specs.Reached.{IsReached, first_as_late}
+use Rattle.agreement.specs.Nodes.{Cluster, node, turned}
+use Rattle.agreement.specs.Worlds.{World}
+use Rattle.agreement.specs.Runs.{IsWorld}
+use Rattle.agreement.specs.Chosen.{IsChosenFrom}
+use Rattle.agreement.specs.Reached.{IsReached}
+use Rattle.world.specs.Placed.{first_as_late}
 
 -- the node, if its acceptor had accepted all of these
 abbrev pub with_accepted : {C : Type 0} → NodeState C → List (Pvalue C) → NodeState C

@@ -12,7 +12,7 @@ use Rattle.scout_commander.specs.Commanders.{Commanding}
 use Rattle.scout_commander.specs.Scouts.{Scouting}
 use Rattle.ballot.specs.Slots.{Slots}
 use Rattle.leader.specs.Leaders.{Leading}
-use Rattle.world.specs.Nodes.{Cluster, node}
+use Rattle.agreement.specs.Nodes.{Cluster, node}
 
 -- a majority of the acceptors has promised this ballot or a higher one
 pub record IsPromised {C : Type 0} (k : Cluster C) (b : Numbers) : Type 0 where

@@ -6,9 +6,9 @@ use Rattle.ballot.specs.declared.letter.Letter.{Letter}
 use Rattle.node.specs.Deeds.{ComesToNothing}
 use Rattle.node.specs.Receiving.{SaysNothingNew}
 use Rattle.node.specs.declared.deed.Deed.TheVariants as deeds
-use Rattle.world.specs.declared.event.Event.{Event}
-use Rattle.world.specs.declared.event.Event.TheVariants.{Submit, Deliver, Wake, Nudge, Propose, Perform, Restart}
-use Rattle.world.specs.Nodes.{Cluster, node}
+use Rattle.agreement.specs.declared.event.Event.{Event}
+use Rattle.agreement.specs.declared.event.Event.TheVariants.{Submit, Deliver, Wake, Nudge, Propose, Perform, Restart}
+use Rattle.agreement.specs.Nodes.{Cluster, node}
 
 -- the node has nothing to do, or the letter says nothing new to its receiver
 abbrev pub BringsNothing : {O Op Reply : Type 0} → Rules O Op Reply → Cluster (Command Op) → Event Op → Type 0

@@ -1,36 +1,17 @@
 -- Which events a world refuses, and why. Of several reasons the first in this order is told.
-use Rattle.std.specs.Prelude.{◌≡◌, ℕ, ◌<◌, ◌^◌, Bool, true, not, ◌&&◌, nat_lt, nat_le, List, length, slice_get, Option, None, Some, unwrap_or, if◌then◌else◌}
+use Rattle.std.specs.Prelude.{◌≡◌, ℕ, ◌<◌, Bool, true, not, ◌&&◌, nat_le, List, length, slice_get, Option, None, Some, unwrap_or, if◌then◌else◌}
 use Rattle.std.specs.List.{list_any}
 use Rattle.object.specs.declared.command.Command.{Command}
 use Rattle.object.specs.declared.command.Submission.{Submission}
 use Rattle.object.specs.Commands.{same_acts}
-use Rattle.ballot.specs.Members.{is_member}
-use Rattle.world.specs.declared.event.Event.{Event}
-use Rattle.world.specs.declared.event.Event.TheVariants.{Submit, Deliver, Wake, Nudge, Propose, Perform, Restart}
+use Rattle.agreement.specs.declared.event.Event.{Event}
+use Rattle.agreement.specs.declared.event.Event.TheVariants.{Submit, Deliver, Wake, Nudge, Propose, Perform, Restart}
 use Rattle.world.specs.declared.error.WorldError.{WorldError}
 use Rattle.world.specs.declared.error.WorldError.TheVariants.{OutOfMemory, NoSuchNode, NoSuchLetter, BadNumber, Full}
-use Rattle.world.specs.Worlds.{World}
+use Rattle.agreement.specs.Worlds.{World}
+use Rattle.agreement.specs.Events.{is_at_member, is_sent}
+use Rattle.agreement.specs.Runs.{most_events}
 use Rattle.object.specs.Keys.{same_key}
-
--- the node that the event is at is a member
-abbrev pub is_at_member : {Op : Type 0} → List ℕ → Event Op → Bool
-is_at_member members (Submit n c) = is_member members n
-is_at_member members (Deliver i) = true
-is_at_member members (Wake n) = is_member members n
-is_at_member members (Nudge n) = is_member members n
-is_at_member members (Propose n) = is_member members n
-is_at_member members (Perform n) = is_member members n
-is_at_member members (Restart n) = is_member members n
-
--- the letter that it names was sent; so many were
-abbrev pub is_sent : {Op : Type 0} → ℕ → Event Op → Bool
-is_sent count (Submit n c) = true
-is_sent count (Deliver i) = nat_lt i count
-is_sent count (Wake n) = true
-is_sent count (Nudge n) = true
-is_sent count (Propose n) = true
-is_sent count (Perform n) = true
-is_sent count (Restart n) = true
 
 -- the command's key was submitted with another act
 abbrev pub has_other_act : {Op : Type 0} → (Op → Op → Bool) → List (Submission Op) → Command Op → Bool
@@ -45,10 +26,6 @@ keeps_acts same submitted (Nudge n) = true
 keeps_acts same submitted (Propose n) = true
 keeps_acts same submitted (Perform n) = true
 keeps_acts same submitted (Restart n) = true
-
--- how many events a world takes
-abbrev pub most_events : ℕ
-most_events = 2 ^ 48
 
 -- why the world refuses the event, want of memory aside
 unfoldable pub refusal : {Op Reply : Type 0} → (Op → Op → Bool) → World Op Reply → Event Op → Option WorldError

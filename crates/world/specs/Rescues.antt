@@ -8,14 +8,14 @@ use Rattle.object.specs.Objects.{Rules}
 use Rattle.object.specs.declared.command.Command.{Command}
 use Rattle.object.specs.declared.command.Key.{Key}
 use Rattle.object.specs.declared.command.Submission.{Submission}
-use Rattle.world.specs.Chosen.{IsOrder}
-use Rattle.world.specs.Nodes.{Cluster}
-use Rattle.world.specs.Reached.{HasKey}
+use Rattle.agreement.specs.Chosen.{IsOrder}
+use Rattle.agreement.specs.Nodes.{Cluster}
+use Rattle.agreement.specs.Reached.{HasKey}
 use Rattle.world.specs.Refusals.{refusal}
-use Rattle.world.specs.Runs.{Leads}
-use Rattle.world.specs.Worlds.{World}
-use Rattle.world.specs.declared.event.Event.{Event}
-use Rattle.world.specs.declared.event.Event.TheVariants.{Submit, Deliver, Wake, Nudge, Propose, Perform, Restart}
+use Rattle.agreement.specs.Runs.{Leads}
+use Rattle.agreement.specs.Worlds.{World}
+use Rattle.agreement.specs.declared.event.Event.{Event}
+use Rattle.agreement.specs.declared.event.Event.TheVariants.{Submit, Deliver, Wake, Nudge, Propose, Perform, Restart}
 
 -- the key stands in the order
 abbrev pub IsInOrder : {Op : Type 0} → Cluster (Command Op) → Key → Type 0

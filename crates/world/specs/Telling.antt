@@ -8,7 +8,7 @@ use Rattle.ballot.specs.Ballots.{Numbers}
 use Rattle.ballot.specs.declared.pvalue.Pvalue.{Pvalue}
 use Rattle.scout_commander.specs.Commanders.{Commanding}
 use Rattle.scout_commander.specs.Scouts.{Scouting}
-use Rattle.world.specs.Nodes.{Cluster, node}
+use Rattle.agreement.specs.Nodes.{Cluster, node}
 
 -- a letter proposed some command for the slot to node 1
 pub record IsProposedAt {C : Type 0} (k : Cluster C) (s : ℕ) : Type 0 where

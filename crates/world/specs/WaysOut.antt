@@ -11,10 +11,10 @@ use Rattle.ballot.specs.declared.letter.LetterBody.{LetterBody}
 use Rattle.ballot.specs.declared.letter.LetterBody.TheVariants.{P1a, P1b, P2a, P2b, Propose, Decision, Ask}
 use Rattle.ballot.specs.declared.pvalue.Pvalue.{Pvalue}
 use Rattle.scout_commander.specs.Scouts.{Scouting}
-use Rattle.world.specs.Steps.{Step}
-use Rattle.world.specs.Runs.{Leads}
-use Rattle.world.specs.declared.event.Event.{Event}
-use Rattle.world.specs.declared.event.Event.TheVariants.{Submit, Deliver, Wake, Nudge, Propose as ProposeNext, Perform, Restart}
+use Rattle.agreement.specs.Steps.{Step}
+use Rattle.agreement.specs.Runs.{Leads}
+use Rattle.agreement.specs.declared.event.Event.{Event}
+use Rattle.agreement.specs.declared.event.Event.TheVariants.{Submit, Deliver, Wake, Nudge, Propose as ProposeNext, Perform, Restart}
 use Rattle.object.specs.Lists.{In, IsBeginning}
 use Rattle.object.specs.declared.command.Command.{Command}
 use Rattle.ballot.specs.Ballots.{Numbers, is_below, is_promise_below}
@@ -26,9 +26,9 @@ use Rattle.slot_log.specs.Decisions.{learnt as with_decision}
 use Rattle.slot_log.specs.Advances.{advanced}
 use Rattle.world.specs.Rescues.{keeps_nodes}
 use Rattle.world.specs.Telling.{IsProposedAt}
-use Rattle.world.specs.Nodes.{Cluster, node}
-use Rattle.world.specs.Mentions.{Mentions}
-use Rattle.world.specs.Worlds.{World}
+use Rattle.agreement.specs.Nodes.{Cluster, node}
+use Rattle.agreement.specs.Mentions.{Mentions}
+use Rattle.agreement.specs.Worlds.{World}
 
 -- the leader that leads the way
 abbrev pub first_leader : {C : Type 0} → Cluster C → Leading C

@@ -2,20 +2,17 @@
 #![tactic(auto)]
 
 mod error;
-mod event;
-mod laws;
 mod letter_places;
 mod letters;
 mod order;
 mod rescuing;
-mod schedule;
 mod submissions;
+mod task;
 mod watched;
 mod way;
 mod world;
 
+pub use agreement::{Event, MOST_EVENTS, every_world};
 pub use error::WorldError;
-pub use event::Event;
-pub use laws::every_world;
 pub use schedule::Schedule;
-pub use world::{MOST_EVENTS, World};
+pub use world::World;

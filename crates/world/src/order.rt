@@ -3,12 +3,13 @@ ghost use Rattle.object.specs.declared.command.Command.{Command};
 ghost use Rattle.object.specs.Legal.{IsLegal};
 ghost use Rattle.object.specs.Replays.{is_new, kept};
 ghost use Rattle.ballot.specs.declared.pvalue.Pvalue.{Pvalue};
-ghost use Rattle.world.specs.Nodes.{node};
-ghost use Rattle.world.specs.Chosen.{IsChosen, IsChosenFrom, IsOrder};
+ghost use Rattle.agreement.specs.Nodes.{node};
+ghost use Rattle.agreement.specs.Chosen.{IsChosen, IsChosenFrom, IsOrder};
 ghost use Rattle.world.specs.Kept.{IsFirstAsLate};
-ghost use Rattle.world.specs.Reached.{IsPlaced, first_as_late};
+ghost use Rattle.world.specs.Placed.{IsPlaced, first_as_late};
 ghost use Rattle.world.specs.Rescues.{IsInOrder};
-ghost use Rattle.world.specs.Voters.{voters_of, is_voted, HasVoted, HasNoneVoted};
+ghost use Rattle.world.specs.Voters.{is_voted, HasVoted, HasNoneVoted};
+ghost use Rattle.agreement.specs.Voters.{voters_of};
 
 use crate::world::World;
 use ballot::{Ballot, MemberSet, Pvalue, Slot, ballot_laws};

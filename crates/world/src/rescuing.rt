@@ -6,7 +6,7 @@ ghost use Rattle.world.specs.declared.error.WorldError.TheVariants.{OutOfMemory,
 ghost use Rattle.world.specs.Rescues.{Rescues, IsInOrder, IsLast, HasGreater, HasNoWay};
 
 use crate::error::WorldError;
-use crate::event::Event;
+use agreement::Event;
 use crate::way::Way;
 use crate::world::World;
 use ballot::ballot_laws;

@@ -3,7 +3,7 @@ ghost use Rattle.ballot.specs.Members.{is_member};
 ghost use Rattle.node.specs.Nodes.{new_node};
 ghost use Rattle.node.specs.Deeds.{outcome_of};
 ghost use Rattle.node.specs.Receiving.{IsFit, SaysNothingNew, Received};
-ghost use Rattle.world.specs.Voters.{accepts};
+ghost use Rattle.agreement.specs.Voters.{accepts};
 ghost use Rattle.world.specs.Kept.{accepts_of, is_performance};
 
 use crate::submissions::{make_room_if, push_in_room};

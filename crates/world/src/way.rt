@@ -1,10 +1,10 @@
 ghost use Rattle.std.specs.Prelude.{◌≡◌, ◌++◌, ◌∷◌, [], true, None, IfOk, IfErr, OnOk, OnErr};
 ghost use Rattle.world.specs.declared.error.WorldError.TheVariants.{OutOfMemory};
-ghost use Rattle.world.specs.Steps.{Step};
+ghost use Rattle.agreement.specs.Steps.{Step};
 ghost use Rattle.world.specs.Refusals.{refusal};
 
 use crate::error::WorldError;
-use crate::event::Event;
+use agreement::Event;
 use crate::world::World;
 use object::{Object, Value};
 use std::alloc::AllocError;

@@ -1,14 +1,14 @@
 ghost use Rattle.std.specs.Prelude.{◌≡◌, ◌<◌, length, take, None, Some, IsOk, IfOk, IfErr, OnOk, OnErr};
 ghost use Rattle.world.specs.declared.error.WorldError.{WorldError};
 ghost use Rattle.world.specs.declared.error.WorldError.TheVariants.{OutOfMemory};
-ghost use Rattle.world.specs.Worlds.{opening};
-ghost use Rattle.world.specs.Steps.{Step};
+ghost use Rattle.agreement.specs.Worlds.{opening};
+ghost use Rattle.agreement.specs.Steps.{Step};
 ghost use Rattle.world.specs.Quiet.{BringsNothing};
-ghost use Rattle.world.specs.Runs.{Leads};
+ghost use Rattle.agreement.specs.Runs.{Leads};
 ghost use Rattle.world.specs.Refusals.{refusal, reason_for, IsRefused};
-ghost use Rattle.world.specs.OneOrder.{HasOneOrder, KeepsPromise, GoesOnFrom};
-ghost use Rattle.world.specs.Told.{IsAnswered};
-ghost use Rattle.world.specs.Agreements.{HasOneCommand, KeepsChosen, ChoosesOne, DecidesChosen, StaysChosen};
+ghost use Rattle.agreement.specs.OneOrder.{HasOneOrder, KeepsPromise, GoesOnFrom};
+ghost use Rattle.agreement.specs.Told.{IsAnswered};
+ghost use Rattle.agreement.specs.Agreements.{HasOneCommand, KeepsChosen, ChoosesOne, DecidesChosen, StaysChosen};
 
 mod acting;
 mod copying;
@@ -16,11 +16,11 @@ mod looking;
 mod refusing;
 
 use crate::error::WorldError;
-use crate::event::{Event, Task};
+use crate::task::{Task, task_of};
 use crate::watched::Watched;
+use agreement::Event;
 use ballot::{Letter, Members, ballot_laws};
 use object::{Answer, Command, Key, Object, Submission, Value};
-pub use refusing::MOST_EVENTS;
 use std::alloc::{AllocError, Global};
 use std::marker::Model;
 
@@ -42,7 +42,7 @@ pub struct World<O: Object> {
 impl<O: Object> Model for World<O> {
     ghost use Rattle.std.specs.Coded.{codes};
     ghost use Rattle.ballot.specs.Slots.{slots_code};
-    ghost use Rattle.world.specs.Worlds.{World};
+    ghost use Rattle.agreement.specs.Worlds.{World};
     ghost use Rattle.world.specs.Kept.{IsNoted};
 
     ghost Value = { World O.Op O.Reply };
@@ -122,7 +122,7 @@ impl<O: Object> World<O> {
             }
             None => {}
         }
-        let taken = match event.task() {
+        let taken = match task_of(event) {
             Task::Act(id, deed) => self.act(id, deed),
             Task::Deliver(index) => self.deliver(index),
         };

@@ -6,7 +6,7 @@ use super::Hall;
 use crate::error::HallError;
 use crate::ticket::Ticket;
 use object::{Act, Key, Object};
-use world::MOST_EVENTS;
+use agreement::MOST_EVENTS;
 
 /// The greatest second of a clock.
 pub const LAST_SECOND: u64 = 1 << 40;

@@ -1,8 +1,8 @@
 ghost use Rattle.std.specs.Prelude.{◌≡◌, ◌<◌, true, false, None, Some, IsOk, IfOk, IfErr, OnOk, OnErr, max};
 ghost use Rattle.object.specs.declared.command.Command.{Command};
 ghost use Rattle.ballot.specs.Members.{is_member};
-ghost use Rattle.world.specs.Refusals.{most_events};
-ghost use Rattle.world.specs.declared.event.Event.TheVariants.{Submit};
+ghost use Rattle.agreement.specs.Runs.{most_events};
+ghost use Rattle.agreement.specs.declared.event.Event.TheVariants.{Submit};
 ghost use Rattle.hall.specs.declared.error.HallError.{HallError};
 ghost use Rattle.hall.specs.declared.error.HallError.TheVariants.{OutOfMemory};
 ghost use Rattle.hall.specs.declared.ticket.NotedAct.{NotedAct};

@@ -1,13 +1,13 @@
 ghost use Rattle.std.specs.Prelude.{◌≡◌, ◌⊎◌, ◌<◌, ◌≤◌, ◌+◌, true, false, length, None, IfErr, OnOk};
 ghost use Rattle.std.specs.FinMap.{get, contains_key};
 ghost use Rattle.world.specs.declared.error.WorldError.TheVariants.{OutOfMemory};
-ghost use Rattle.world.specs.Refusals.{most_events};
+ghost use Rattle.agreement.specs.Runs.{most_events};
 ghost use Rattle.world.specs.Telling.{IsProposedAt};
 ghost use Rattle.world.specs.WaysOut.{first_leader, first_book, IsAtRest, IsSmall, IsReady, HasLearnt, HasDecided, HasAdvanced, AreAllRead, IsPassage, work, most_slots};
 ghost use Rattle.object.specs.Objects.{is_one};
 
 use crate::error::WorldError;
-use crate::event::Event;
+use agreement::Event;
 use crate::letter_places::LetterPlaces;
 use crate::way::Way;
 use ballot::{Slot, ballot_laws};

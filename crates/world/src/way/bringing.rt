@@ -8,7 +8,7 @@ ghost use Rattle.world.specs.Telling.{IsProposedAt};
 ghost use Rattle.world.specs.WaysOut.{first_book, ArePlacesOf, AreAllRead, Proposes, Decides, Goes};
 
 use crate::error::WorldError;
-use crate::event::Event;
+use agreement::Event;
 use crate::letter_places::LetterPlaces;
 use crate::way::Way;
 use ballot::ballot_laws;

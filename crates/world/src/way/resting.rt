@@ -1,10 +1,10 @@
 ghost use Rattle.std.specs.Prelude.{◌≡◌, ◌↔◌, ◌<◌, ◌≤◌, ◌+◌, true, IfErr, OnOk};
 ghost use Rattle.world.specs.declared.error.WorldError.TheVariants.{OutOfMemory};
-ghost use Rattle.world.specs.Refusals.{most_events};
+ghost use Rattle.agreement.specs.Runs.{most_events};
 ghost use Rattle.world.specs.WaysOut.{IsAtRest, IsSmall, IsTalk, Goes, is_talk, work};
 
 use crate::error::WorldError;
-use crate::event::Event;
+use agreement::Event;
 use crate::way::Way;
 use ballot::ballot_laws;
 use object::Object;

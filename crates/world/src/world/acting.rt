@@ -1,12 +1,12 @@
 ghost use Rattle.std.specs.Prelude.{◌≡◌, ◌<◌, true, length, IsOk, OnOk, OnErr};
 ghost use Rattle.ballot.specs.Members.{is_member};
 ghost use Rattle.node.specs.Deeds.{ComesToNothing};
-ghost use Rattle.world.specs.declared.event.Event.TheVariants as events;
-ghost use Rattle.world.specs.Nodes.{node};
-ghost use Rattle.world.specs.Tasks.{event_of};
+ghost use Rattle.agreement.specs.declared.event.Event.TheVariants as events;
+ghost use Rattle.agreement.specs.Nodes.{node};
+ghost use Rattle.agreement.specs.Events.{event_of};
 ghost use Rattle.world.specs.Quiet.{BringsNothing};
-ghost use Rattle.world.specs.Steps.{Step, AsksForItsOwn};
-ghost use Rattle.world.specs.Refusals.{most_events};
+ghost use Rattle.agreement.specs.Steps.{Step, AsksForItsOwn};
+ghost use Rattle.agreement.specs.Runs.{most_events};
 ghost use Rattle.world.specs.Kept.{key_past};
 
 use super::World;

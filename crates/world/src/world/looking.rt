@@ -2,7 +2,7 @@ ghost use Rattle.std.specs.Prelude.{◌≡◌, ◌==◌, not, length};
 ghost use Rattle.std.specs.FinMap.{contains_key};
 ghost use Rattle.ballot.specs.Members.{IsMembers};
 ghost use Rattle.leader.specs.Leaders.{says_again};
-ghost use Rattle.world.specs.Runs.{IsWorld};
+ghost use Rattle.agreement.specs.Runs.{IsWorld};
 ghost use Rattle.world.specs.WaysOut.{first_leader, first_book};
 
 use super::World;

@@ -1,14 +1,12 @@
 ghost use Rattle.std.specs.Prelude.{◌≡◌, length};
-ghost use Rattle.world.specs.Refusals.{refusal, is_at_member, is_sent, keeps_acts};
+ghost use Rattle.world.specs.Refusals.{refusal, keeps_acts};
+ghost use Rattle.agreement.specs.Events.{is_at_member, is_sent};
 
 use super::World;
 use crate::error::WorldError;
-use crate::event::Event;
+use agreement::{Event, MOST_EVENTS};
 use crate::submissions::has_other_act;
 use object::Object;
-
-/// How many events a world takes, and a hall.
-pub const MOST_EVENTS: u64 = 1 << 48;
 
 impl<O: Object> World<O> {
     // Why the event is refused, want of memory aside.

@@ -1,5 +1,5 @@
 use Rattle.std.proofs.Common.{◌≡◌, drop, map}
-use Rattle.world.specs.Reached.{first_as_late}
+use Rattle.world.specs.Placed.{first_as_late}
 use Rattle.world.proofs.order.first_as_late.Given as goal
 
 abbrev pub invariant-loop-item : goal.invariant-loop-item

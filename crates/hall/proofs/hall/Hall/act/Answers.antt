@@ -1,5 +1,5 @@
 use Rattle.std.proofs.Common.{sym, ◌∙◌, subst}
-use Rattle.world.specs.Tasks.{event_of}
+use Rattle.agreement.specs.Events.{event_of}
 use Rattle.hall.specs.Explained.{IsBegun}
 use Rattle.hall.specs.Halls.{HallState, IsHall}
 use Rattle.hall.proofs.Called.{event_member, event_room, follows_in}

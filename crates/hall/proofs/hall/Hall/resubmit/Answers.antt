@@ -1,5 +1,5 @@
 use Rattle.std.proofs.Common.{sym, ◌∙◌, subst}
-use Rattle.world.specs.declared.event.Event.TheVariants.{Submit}
+use Rattle.agreement.specs.declared.event.Event.TheVariants.{Submit}
 use Rattle.hall.specs.declared.ticket.NotedAct.{NotedAct}
 use Rattle.hall.specs.Shows.{Follows}
 use Rattle.hall.specs.Tickets.{last_command}

@@ -1,6 +1,6 @@
 use Rattle.std.proofs.Common.{subst}
 use Rattle.std.specs.Prelude.{OnOk}
-use Rattle.world.specs.declared.event.Event.TheVariants.{Submit}
+use Rattle.agreement.specs.declared.event.Event.TheVariants.{Submit}
 use Rattle.hall.specs.Shows.{Follows}
 use Rattle.hall.proofs.hall.Hall.submit.Goals as goal
 

@@ -1,5 +1,5 @@
 use Rattle.std.proofs.Common.{sym, ◌∙◌, ap}
-use Rattle.world.specs.declared.event.Event.TheVariants.{Submit}
+use Rattle.agreement.specs.declared.event.Event.TheVariants.{Submit}
 use Rattle.hall.specs.Recorded.{asked}
 use Rattle.hall.specs.Halls.{tick_of}
 use Rattle.hall.proofs.Called.{follows_in}

@@ -1,5 +1,5 @@
 use Rattle.std.proofs.Common.{◌+◌, ◌*◌, length, refl, ap, ap₂, ◌∙◌, arith}
-use Rattle.world.specs.declared.event.Event.TheVariants as events
+use Rattle.agreement.specs.declared.event.Event.TheVariants as events
 use Rattle.world.specs.WaysOut.{is_talk}
 use Rattle.world.proofs.Allowing.{may_nudge}
 use Rattle.world.proofs.Going.{goes_on, one_goes}

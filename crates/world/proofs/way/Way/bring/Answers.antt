@@ -1,8 +1,8 @@
 use Rattle.std.proofs.Common.{◌≡◌, ◌+◌, ◌≤◌, None, not, refl, sym, ap, subst, arith}
-use Rattle.world.specs.declared.event.Event.TheVariants as events
+use Rattle.agreement.specs.declared.event.Event.TheVariants as events
 use Rattle.world.specs.Refusals.{refusal}
-use Rattle.world.proofs.Every.{submitted_once}
-use Rattle.world.specs.Steps.{Step}
+use Rattle.agreement.proofs.every.Every.{submitted_once}
+use Rattle.agreement.specs.Steps.{Step}
 use Rattle.world.specs.Rescues.{keeps_nodes}
 use Rattle.world.specs.WaysOut.{Proposes, Decides, is_talk, most_slots}
 use Rattle.world.proofs.Allowing.{unrefused}
@@ -11,7 +11,7 @@ use Rattle.world.proofs.Bringing.{advance_low, advance_room, advance_small, less
 use Rattle.world.proofs.Finding.{finds_empty, proposals_further, decisions_further}
 use Rattle.world.proofs.Going.{goes_on, goes_weaker, one_goes, talk_keeps}
 use Rattle.world.proofs.Lengthening.{leads_letters}
-use Rattle.world.proofs.MentionsEvery.{mentions_weaker, reach_taken, slots_near}
+use Rattle.agreement.proofs.books.MentionsEvery.{mentions_weaker, reach_taken, slots_near}
 use Rattle.world.proofs.Rescued.{no_other_act}
 use Rattle.world.proofs.RoundMembers.{first_member}
 use Rattle.world.proofs.way.Way.bring.Goals as goal

@@ -1,6 +1,6 @@
 use Rattle.std.proofs.Common.{refl, sym, ◌∙◌, subst, arith}
-use Rattle.world.specs.declared.event.Event.TheVariants as events
-use Rattle.world.proofs.Reach.{reachable_sound}
+use Rattle.agreement.specs.declared.event.Event.TheVariants as events
+use Rattle.agreement.proofs.chosen.Reach.{reachable_sound}
 use Rattle.world.specs.Rescues.{keeps_nodes}
 use Rattle.world.specs.WaysOut.{first_book, Decides, ArePlacesOf}
 use Rattle.world.proofs.Allowing.{may_deliver, on_both, on_ok}

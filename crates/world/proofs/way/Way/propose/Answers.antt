@@ -1,6 +1,6 @@
 use Rattle.std.proofs.Common.{⊎_elim, ◌<◌, length, refl, sym, subst, arith}
-use Rattle.world.specs.declared.event.Event.TheVariants as events
-use Rattle.world.proofs.Reach.{reachable_sound}
+use Rattle.agreement.specs.declared.event.Event.TheVariants as events
+use Rattle.agreement.proofs.chosen.Reach.{reachable_sound}
 use Rattle.world.specs.Rescues.{keeps_nodes}
 use Rattle.world.specs.WaysOut.{first_book, Proposes, stays as ready_stays}
 use Rattle.world.specs.Telling.{IsProposedAt}

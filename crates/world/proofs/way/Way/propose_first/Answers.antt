@@ -1,8 +1,8 @@
 use Rattle.std.proofs.Common.{◌≡◌, length, true, refl, sym, ap, ◌∙◌, subst, arith}
 use Rattle.ballot.specs.Members.{is_member}
-use Rattle.world.specs.declared.event.Event.TheVariants as events
-use Rattle.world.proofs.Every.{counts}
-use Rattle.world.proofs.Reach.{reachable_sound, step_sound}
+use Rattle.agreement.specs.declared.event.Event.TheVariants as events
+use Rattle.agreement.proofs.every.Every.{counts}
+use Rattle.agreement.proofs.chosen.Reach.{reachable_sound, step_sound}
 use Rattle.world.specs.Rescues.{keeps_nodes}
 use Rattle.world.specs.WaysOut.{Proposes, proposes as ready_proposes}
 use Rattle.world.proofs.Allowing.{may_deliver, may_propose, on_both, on_ok}

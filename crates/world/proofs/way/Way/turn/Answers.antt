@@ -1,6 +1,6 @@
 use Rattle.std.proofs.Common.{◌≤◌, length, refl, ap, arith}
-use Rattle.world.specs.declared.event.Event.TheVariants as events
-use Rattle.world.proofs.Reach.{reachable_sound}
+use Rattle.agreement.specs.declared.event.Event.TheVariants as events
+use Rattle.agreement.proofs.chosen.Reach.{reachable_sound}
 use Rattle.world.specs.WaysOut.{is_talk, most_slots}
 use Rattle.world.proofs.Allowing.{may_wake, on_three, on_ok}
 use Rattle.world.proofs.Going.{goes_on, one_goes}

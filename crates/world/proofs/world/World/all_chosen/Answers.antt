@@ -1,5 +1,5 @@
 use Rattle.std.proofs.Common.{subst, arith}
-use Rattle.world.specs.Chosen.{IsChosen}
+use Rattle.agreement.specs.Chosen.{IsChosen}
 use Rattle.world.proofs.Voters.{run_ended, run_next, count_next}
 use Rattle.world.proofs.world.World.all_chosen.Goals as goal
 

@@ -1,5 +1,5 @@
 use Rattle.std.proofs.Common.{◌≡◌, ◌+◌, ◌≤◌, ◌^◌, length}
-use Rattle.world.specs.Reached.{IsRun}
+use Rattle.agreement.specs.Reached.{IsRun}
 use Rattle.world.proofs.world.World.all_chosen.Given as goal
 
 abbrev pub invariant-loop-slot : goal.invariant-loop-slot

@@ -1,4 +1,4 @@
-use Rattle.world.proofs.Events.{sound_now}
+use Rattle.agreement.proofs.every.Events.{sound_now}
 use Rattle.world.proofs.Voters.{some_chosen, no_chosen}
 use Rattle.world.proofs.world.World.chosen.Goals as goal
 

@@ -1,6 +1,6 @@
 use Rattle.std.proofs.Common.{length, ap, ◌∙◌, arith}
 use Rattle.node.specs.PlaceLaws.{node_at}
-use Rattle.world.proofs.Events.{sound_now}
+use Rattle.agreement.proofs.every.Events.{sound_now}
 use Rattle.world.specs.WaysOut.{first_leader, first_book}
 use Rattle.world.proofs.world.World.first.Goals as goal
 

@@ -1,6 +1,6 @@
 use Rattle.std.proofs.Common.{ap, ◌∙◌}
 use Rattle.ballot.specs.Members.{is_majority}
-use Rattle.world.specs.Voters.{voters_of}
+use Rattle.agreement.specs.Voters.{voters_of}
 use Rattle.world.proofs.Voters.{same_majority}
 use Rattle.world.proofs.world.World.is_voted.Goals as goal
 

@@ -1,6 +1,6 @@
 use Rattle.std.proofs.Common.{◌∙◌, ap}
 use Rattle.object.specs.Replays.{kept}
-use Rattle.world.proofs.OneOrder.{legal_for}
+use Rattle.agreement.proofs.order.OneOrder.{legal_for}
 use Rattle.world.proofs.world.World.order.Goals as goal
 
 pub returns-clause-legal : goal.returns-clause-legal

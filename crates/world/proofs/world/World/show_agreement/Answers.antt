@@ -1,6 +1,6 @@
-use Rattle.world.proofs.Events.{sound_now, order_now}
-use Rattle.world.proofs.Invariants.{one_command, keeps_chosen, agree, decides_chosen}
-use Rattle.world.proofs.Told.{answered_now}
+use Rattle.agreement.proofs.every.Events.{sound_now, order_now}
+use Rattle.agreement.proofs.chosen.Invariants.{one_command, keeps_chosen, agree, decides_chosen}
+use Rattle.agreement.proofs.answered.Told.{answered_now}
 use Rattle.world.proofs.world.World.show_agreement.Goals as goal
 
 pub returns-clause-one_command : goal.returns-clause-one_command

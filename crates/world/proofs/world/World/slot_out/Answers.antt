@@ -1,8 +1,8 @@
 use Rattle.std.proofs.Common.{Option, None, Some, refl, ap, ◌∙◌, arith}
 use Rattle.std.specs.Prelude.{IsSome}
 use Rattle.std.specs.Option.{SomeIff}
-use Rattle.world.proofs.Every.{within_reach}
-use Rattle.world.proofs.MentionsEvery.{reach_taken}
+use Rattle.agreement.proofs.every.Every.{within_reach}
+use Rattle.agreement.proofs.books.MentionsEvery.{reach_taken}
 use Rattle.world.proofs.world.World.slot_out.Goals as goal
 
 some_when : {X P : Type 0} (o : Option X) (v : X) → SomeIff o P v → P → IsSome o

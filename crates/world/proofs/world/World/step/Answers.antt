@@ -1,10 +1,11 @@
 use Rattle.std.proofs.Common.{refl, sym, ◌∙◌, subst}
-use Rattle.world.specs.Agreements.{StaysChosen}
-use Rattle.world.specs.OneOrder.{GoesOnFrom}
+use Rattle.agreement.specs.Agreements.{StaysChosen}
+use Rattle.agreement.specs.OneOrder.{GoesOnFrom}
 use Rattle.world.specs.Quiet.{BringsNothing}
 use Rattle.world.specs.Refusals.{IsAllowed}
 use Rattle.world.proofs.Acting.{at_member, asks_own, sent_when, ok_of, err_of, not_err}
-use Rattle.world.proofs.Events.{allowed, stays_chosen, later_step, later_same}
+use Rattle.agreement.proofs.every.Events.{stays_chosen, later_step, later_same}
+use Rattle.world.proofs.Events.{allowed}
 use Rattle.world.proofs.Idle.{nothing_to_do}
 use Rattle.world.proofs.world.World.step.Goals.{in-Act, in-Deliver}
 use Rattle.world.proofs.world.World.step.Goals as goal

@@ -1,7 +1,8 @@
 use Rattle.std.proofs.Common.{sym, subst, take}
-use Rattle.world.specs.OneOrder.{GoesOnFrom}
-use Rattle.world.specs.Runs.{at_once}
-use Rattle.world.proofs.Events.{run_more, refused_at, later_by}
+use Rattle.agreement.specs.OneOrder.{GoesOnFrom}
+use Rattle.agreement.specs.Runs.{at_once}
+use Rattle.agreement.proofs.every.Events.{later_by}
+use Rattle.world.proofs.Events.{run_more, refused_at}
 use Rattle.world.proofs.world.World.take_all.Goals as goal
 
 pub loop-index-init : goal.loop-index-init

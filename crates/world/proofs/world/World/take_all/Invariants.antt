@@ -1,6 +1,6 @@
 use Rattle.std.proofs.Common.{take}
-use Rattle.world.specs.Runs.{Leads}
-use Rattle.world.specs.Agreements.{StaysChosen}
+use Rattle.agreement.specs.Runs.{Leads}
+use Rattle.agreement.specs.Agreements.{StaysChosen}
 use Rattle.world.proofs.world.World.take_all.Given as goal
 
 abbrev pub invariant-loop-index : goal.invariant-loop-index

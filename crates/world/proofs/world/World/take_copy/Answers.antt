@@ -1,5 +1,5 @@
 use Rattle.std.proofs.Common.{refl}
-use Rattle.world.proofs.Events.{later_same}
+use Rattle.agreement.proofs.every.Events.{later_same}
 use Rattle.world.proofs.world.World.take_copy.Goals as goal
 
 pub returns-in_err-event-clause-later : goal.returns-in_err-event-clause-later

@@ -1,5 +1,5 @@
 use Rattle.std.proofs.Common.{ℕ, suc, ◌<◌}
-use Rattle.world.specs.Nodes.{node}
+use Rattle.agreement.specs.Nodes.{node}
 use Rattle.world.specs.Voters.{HasNoneVoted}
 use Rattle.world.proofs.world.World.voted_anywhere.Given as goal
 

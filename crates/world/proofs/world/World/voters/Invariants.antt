@@ -1,6 +1,6 @@
 use Rattle.std.proofs.Common.{◌≡◌, ℕ, length, false, ◌&&◌}
 use Rattle.std.specs.Prelude.{slice_index_or, nat_lt}
-use Rattle.world.specs.Voters.{voters_of}
+use Rattle.agreement.specs.Voters.{voters_of}
 use Rattle.world.proofs.world.World.voters.Given as goal
 
 abbrev pub invariant-loop-before : goal.invariant-loop-before

@@ -1,0 +1,3 @@
+-- What is so of every world, by the lemmas of the other folders.
+pub mod Events
+pub mod Every

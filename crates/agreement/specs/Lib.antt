@@ -1,0 +1,15 @@
+pub mod Nodes
+pub mod Worlds
+pub mod Events
+pub mod Steps
+pub mod Showing
+pub mod Runs
+pub mod Chosen
+pub mod Voters
+pub mod Agreements
+pub mod OneOrder
+pub mod Reached
+pub mod Placing
+pub mod Told
+pub mod Mentions
+pub mod SlotBooks
