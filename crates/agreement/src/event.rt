@@ -1,3 +1,5 @@
+ghost use Rattle.std.specs.Prelude.{◌≡◌, true};
+
 use object::{Command, Value};
 use std::alloc::AllocError;
 
