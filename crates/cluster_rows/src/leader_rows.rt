@@ -110,8 +110,8 @@ fn read_mail(hall: &mut Hall<Queue>, node: u8) -> Result<bool, HallError> {
 
 /// Whether the node leads, once all letters were read: then it has nothing to say where it is to wake.
 fn leads(hall: &mut Hall<Queue>, node: u8) -> bool {
-    let has_read = read_all(hall).is_ok() && !hall.has_mail(node);
-    has_read && hall.wake(node).is_ok() && !hall.has_mail(node)
+    let has_read = read_all(hall).is_ok() && !hall.work(node).mail;
+    has_read && hall.wake(node).is_ok() && !hall.work(node).mail
 }
 
 /// Whether such a cluster ends well, and the first node leads then, which woke at the start.

@@ -9,8 +9,10 @@ mod hall;
 mod laws;
 mod recorded;
 mod ticket;
+mod work;
 
 pub use error::HallError;
 pub use hall::{Hall, LAST_SECOND};
 pub use laws::every_hall;
 pub use ticket::{NotedAct, Ticket};
+pub use work::Work;

@@ -1,16 +1,14 @@
-ghost use Rattle.std.specs.Prelude.{◌≡◌, ◌++◌, None, Some, true, is_some, IsOk, IfOk, OnOk, OnErr};
+ghost use Rattle.std.specs.Prelude.{◌≡◌, ◌++◌, None, Some, true, IsOk, IfOk, OnOk, OnErr};
 ghost use Rattle.object.specs.declared.command.Command.{Command};
 ghost use Rattle.ballot.specs.Members.{is_member};
 ghost use Rattle.ballot.specs.declared.letter.Letter.{Letter};
-ghost use Rattle.slot_log.specs.Proposals.{next_proposal};
-ghost use Rattle.slot_log.specs.Decisions.{next_decided, undecided};
 ghost use Rattle.node.specs.Deeds.{outcome_of, IsAble, ComesToNothing};
 ghost use Rattle.node.specs.Receiving.{IsFit};
 ghost use Rattle.network.specs.Networks.{new_network, node_of, mail_of, front, has_mail, turn_of, acted_net, without_front, with_last, IsDelivered};
 
 use crate::mail::Mail;
 use crate::sorting::{drop_first, has_any, sort};
-use ballot::{Letter, Members, Slot};
+use ballot::{Letter, Members};
 use node::{Deed, Node, Outcome};
 use object::{Answer, Command, Object};
 use std::alloc::{AllocError, Global};
@@ -71,28 +69,12 @@ impl<O: Object> Network<O> {
         self.members
     }
 
-    /// The least slot that a node's replica proposed a command for without a known decision.
-    pub fn undecided(&self, id: u8) -> Option<Slot>
+    /// A node.
+    pub fn node(&self, id: u8) -> &Node<O>
         requires { is_member self.now.members id ≡ true }
-        ensures { result ≡ undecided (node_of self.now id).replica }
+        ensures { result.now ≡ node_of self.now id }
     {
-        self.nodes[usize::from(id - 1)].undecided()
-    }
-
-    /// Whether a node's replica has a request that it can propose.
-    pub fn can_propose(&self, id: u8) -> bool
-        requires { is_member self.now.members id ≡ true }
-        ensures { result ≡ is_some (next_proposal (node_of self.now id).replica) }
-    {
-        self.nodes[usize::from(id - 1)].can_propose()
-    }
-
-    /// Whether a node's replica knows the decision that it performs next.
-    pub fn can_perform(&self, id: u8) -> bool
-        requires { is_member self.now.members id ≡ true }
-        ensures { result ≡ is_some (next_decided (node_of self.now id).replica) }
-    {
-        self.nodes[usize::from(id - 1)].can_perform()
+        &self.nodes[usize::from(id - 1)]
     }
 
     /// Whether a letter is on its way to a node.

@@ -1,7 +1,7 @@
 ghost use Rattle.std.specs.Prelude.{◌<◌, IfSome};
 
 use crate::places::WaitingPlaces;
-use hall::Hall;
+use hall::{Hall, Work};
 use object::Object;
 
 /// A cluster has so many nodes and workers at most.
@@ -13,9 +13,7 @@ pub(crate) const MOST_WORKERS: usize = 64;
 /// places. They are told when the lock is free.
 #[derive(Drop)]
 pub(crate) struct News {
-    mail: [bool; MOST_NODES],
-    decisions: [bool; MOST_NODES],
-    requests: [bool; MOST_NODES],
+    work: [Work; MOST_NODES],
     workers: [bool; MOST_WORKERS],
     has_answers: bool,
     was_refused: bool,
@@ -27,9 +25,7 @@ impl News {
         let mut news = News::none();
         for node in 1..=hall.members().count() {
             if let Some(place) = place_of(node) {
-                news.mail[place] = hall.has_mail(node);
-                news.decisions[place] = hall.can_perform(node);
-                news.requests[place] = hall.can_propose(node);
+                news.work[place] = hall.work(node);
             }
         }
         for index in answers..hall.answer_count() {
@@ -41,9 +37,7 @@ impl News {
     /// The node was refused memory: it tries again when it is rung.
     pub(crate) fn refuse(&mut self, node: u8) {
         if let Some(place) = place_of(node) {
-            self.mail[place] = false;
-            self.decisions[place] = false;
-            self.requests[place] = false;
+            self.work[place] = Work::NONE;
         }
         self.was_refused = true;
     }
@@ -53,24 +47,12 @@ impl News {
         self.was_refused
     }
 
-    /// Whether a node has something to do.
-    pub(crate) fn is_for(&self, node: u8) -> bool {
-        self.has_mail(node) || self.has_decision(node) || self.has_request(node)
-    }
-
-    /// Whether a node has mail.
-    pub(crate) fn has_mail(&self, node: u8) -> bool {
-        place_of(node).is_some_and(|place| self.mail[place])
-    }
-
-    /// Whether a node knows a decision that it is to perform next.
-    pub(crate) fn has_decision(&self, node: u8) -> bool {
-        place_of(node).is_some_and(|place| self.decisions[place])
-    }
-
-    /// Whether a node has a request that it can propose.
-    pub(crate) fn has_request(&self, node: u8) -> bool {
-        place_of(node).is_some_and(|place| self.requests[place])
+    /// What a node has to do.
+    pub(crate) fn work(&self, node: u8) -> Work {
+        match place_of(node) {
+            Some(place) => self.work[place],
+            None => Work::NONE,
+        }
     }
 
     /// Tells the workers.
@@ -88,7 +70,7 @@ impl News {
     /// Tells the nodes, but for one, where it is given.
     pub(crate) fn tell_nodes(&self, places: &WaitingPlaces, but: Option<u8>) {
         for node in 1..=MOST_NODES as u8 {
-            if but != Some(node) && self.is_for(node) {
+            if but != Some(node) && self.work(node).is_some() {
                 places.ring_node(node);
             }
         }
@@ -97,9 +79,7 @@ impl News {
     // Nothing.
     fn none() -> News {
         News {
-            mail: [false; MOST_NODES],
-            decisions: [false; MOST_NODES],
-            requests: [false; MOST_NODES],
+            work: [Work::NONE; MOST_NODES],
             workers: [false; MOST_WORKERS],
             has_answers: false,
             was_refused: false,

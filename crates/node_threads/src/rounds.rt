@@ -100,7 +100,7 @@ impl Rounds {
             return true;
         };
         let has_noted = pulse.noted.load(Ordering::SeqCst) >= round;
-        pulse.is_silent.load(Ordering::SeqCst) || (has_noted && !hall.has_mail(node))
+        pulse.is_silent.load(Ordering::SeqCst) || (has_noted && !hall.work(node).mail)
     }
 
     // What is known of a node. Nodes count from 1.

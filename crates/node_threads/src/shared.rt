@@ -323,15 +323,15 @@ impl<O: Object, S: Ledger, C: Ledger> Shared<O, S, C> {
     // A node that has something to do: mail comes first, then what can be performed, then requests.
     fn work_in(&self, hall: &Hall<O>) -> Option<u8> {
         let count = hall.members().count();
-        let with_mail = (1..=count).find(|node| hall.has_mail(*node));
+        let with_mail = (1..=count).find(|node| hall.work(*node).mail);
         if with_mail.is_some() {
             return with_mail;
         }
-        let with_decision = (1..=count).find(|node| hall.can_perform(*node));
+        let with_decision = (1..=count).find(|node| hall.work(*node).decision);
         if with_decision.is_some() {
             return with_decision;
         }
-        (1..=count).find(|node| hall.can_propose(*node))
+        (1..=count).find(|node| hall.work(*node).request)
     }
 
     // Takes the lock. It looks for a while before it sleeps, and lets others go on meanwhile.

@@ -95,8 +95,9 @@ impl Watch {
     fn propose<O: Object>(&self, hall: &mut Hall<O>) -> Result<(), HallError>
         ensures book { hall.new.book ≡ hall.old.book }
     {
-        let waits = self.reads_first && hall.has_mail(self.node);
-        if !waits && hall.can_propose(self.node) {
+        let work = hall.work(self.node);
+        let waits = self.reads_first && work.mail;
+        if !waits && work.request {
             hall.propose(self.node)?;
         }
         Ok(())
@@ -118,7 +119,7 @@ impl Watch {
     fn note_round<O: Object>(&mut self, hall: &mut Hall<O>, round: u64) -> Result<(), HallError>
         ensures book { hall.new.book ≡ hall.old.book }
     {
-        if round <= self.round || hall.has_mail(self.node) {
+        if round <= self.round || hall.work(self.node).mail {
             return Ok(());
         }
         self.round = round;
@@ -177,7 +178,7 @@ fn receive<O: Object>(hall: &mut Hall<O>, node: u8) -> Result<(), HallError>
     ensures book { hall.new.book ≡ hall.old.book }
 {
     for _ in 0..MOST_LETTERS {
-        if !hall.has_mail(node) {
+        if !hall.work(node).mail {
             break;
         }
         hall.deliver(node)?;
@@ -190,7 +191,7 @@ fn perform<O: Object>(hall: &mut Hall<O>, node: u8) -> Result<(), HallError>
     ensures book { hall.new.book ≡ hall.old.book }
 {
     for _ in 0..u64::MAX {
-        if !hall.can_perform(node) {
+        if !hall.work(node).decision {
             break;
         }
         hall.perform(node)?;

@@ -143,9 +143,7 @@ impl Visited {
 
     // Whether the ticket and the mail look as those of the other.
     fn looks_like(&self, other: &Visited) -> bool {
-        self.hall.has_mail(1) == other.hall.has_mail(1)
-            && self.hall.can_propose(1) == other.hall.can_propose(1)
-            && self.hall.can_perform(1) == other.hall.can_perform(1)
+        self.hall.work(1) == other.hall.work(1)
             && self.hall.undecided(1) == other.hall.undecided(1)
             && self.hall.last_second() == other.hall.last_second()
             && self.hall.take_answer(&self.ticket) == other.hall.take_answer(&other.ticket)

@@ -20,14 +20,14 @@ fn a_command_is_proposed_once(rt: HostRuntime) -> Result<(), Fail> {
     let members = Members::new(1).ok_or("no members")?;
     let mut network: Network<Register> = Network::new(rt.alloc(), members)?;
     let mut answers = Vec::new(rt.alloc());
-    assert!(rt; network.undecided(1).is_none());
+    assert!(rt; network.node(1).undecided().is_none());
     let request = Deed::Request(write()?);
     assert!(rt; network.act(1, request, &mut answers)? == Outcome::Done);
     assert!(rt; !network.has_mail(1));
     assert!(rt; network.act(1, Deed::Propose, &mut answers)? == Outcome::Done);
     assert!(rt; network.has_mail(1));
     assert!(rt; network.act(1, Deed::Propose, &mut answers)? == Outcome::Idle);
-    assert!(rt; network.undecided(1).is_some_and(|slot| slot.number() == 1));
+    assert!(rt; network.node(1).undecided().is_some_and(|slot| slot.number() == 1));
     assert!(rt; network.act(1, Deed::Perform, &mut answers)? == Outcome::Idle);
     assert!(rt; answers.is_empty());
     Ok(())

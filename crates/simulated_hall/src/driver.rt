@@ -198,10 +198,10 @@ impl Driver {
     {
         home_is_member(hall.members());
         let is_ready = self.behind == 0 && self.unsettled == 0;
-        if is_ready && hall.can_perform(HOME) {
+        if is_ready && hall.work(HOME).decision {
             return Call::Perform(HOME);
         }
-        if is_ready && hall.can_propose(HOME) {
+        if is_ready && hall.work(HOME).request {
             return Call::Propose(HOME);
         }
         if let Some(call) = self.call_for_waiting(hall) {
@@ -307,7 +307,7 @@ fn first_with_mail<O: Object>(hall: &Hall<O>) -> Option<u8>
         (λ n. has_mail hall.now.nodes.network n) result }
 {
     for before in 0..hall.members().count() {
-        if hall.has_mail(before + 1) {
+        if hall.work(before + 1).mail {
             return Some(before + 1);
         }
     }
@@ -341,7 +341,7 @@ fn heaviest_with_mail<O: Object>(hall: &Hall<O>, first: u8) -> u8
     let members = hall.members();
     let mut best = first;
     for before in 0..members.count() {
-        if hall.has_mail(before + 1) && is_heavier(members, before + 1, best) {
+        if hall.work(before + 1).mail && is_heavier(members, before + 1, best) {
             best = before + 1;
         }
     }
@@ -361,7 +361,7 @@ fn first_to_perform<O: Object>(hall: &Hall<O>) -> Option<u8>
         (λ n. is_some (next_decided (node_of hall.now.nodes.network n).replica)) result }
 {
     for before in 0..hall.members().count() {
-        if hall.can_perform(before + 1) {
+        if hall.work(before + 1).decision {
             return Some(before + 1);
         }
     }

@@ -21,6 +21,33 @@ use node::{Deed, Outcome};
 use object::Object;
 
 impl<O: Object> Hall<O> {
+    /// A node does something by itself, and what comes of it is recorded: the entrance of the five calls below, which say
+    /// the same of a deed each. A request is handed in by `submit`.
+    pub fn act(&mut self, node: u8, deed: Deed<O::Op>) -> Result<Outcome, HallError>
+        requires { IsOwnDeed deed }
+        ensures outcome { IfOk result (λ outcome.
+            outcome ≡ outcome_of (node_of self.old.nodes.network node) deed) }
+        ensures ok { OnOk result (self.new
+            ≡ with_nodes self.old (done O.rules self.old.nodes node deed)) }
+        ensures event { OnOk result
+            (Follows O.rules self.old.nodes (event_of node deed) self.new.nodes) }
+        ensures begun { IsBegun self.old.nodes.past self.new.nodes.past }
+        ensures book { self.new.book ≡ self.old.book }
+        ensures err { OnErr result (self.new ≡ self.old) }
+        ensures refused { (r : HallError) → event_refusal self.old node ≡ Some r → result ≡ Err r }
+        ensures memory { event_refusal self.old node ≡ None →
+            IfErr result (λ r. r ≡ OutOfMemory) }
+        ensures idle { event_refusal self.old node ≡ None →
+            ComesToNothing O.rules (node_of self.old.nodes.network node) deed → IsOk result }
+    {
+        laws_below::<O>();
+        if let Some(refused) = self.event_refusal(node) {
+            return Err(refused);
+        }
+        let outcome = self.nodes.act(node, deed)?;
+        Ok(outcome)
+    }
+
     /// A node sends a scout out, where its leader isn't active and has none.
     pub fn wake(&mut self, node: u8) -> Result<(), HallError>
         ensures ok { OnOk result (self.new
@@ -115,32 +142,6 @@ impl<O: Object> Hall<O> {
     {
         self.act(node, Deed::Restart)?;
         Ok(())
-    }
-
-    // A node does something by itself, and what comes of it is recorded.
-    fn act(&mut self, node: u8, deed: Deed<O::Op>) -> Result<Outcome, HallError>
-        requires { IsOwnDeed deed }
-        ensures outcome { IfOk result (λ outcome.
-            outcome ≡ outcome_of (node_of self.old.nodes.network node) deed) }
-        ensures ok { OnOk result (self.new
-            ≡ with_nodes self.old (done O.rules self.old.nodes node deed)) }
-        ensures event { OnOk result
-            (Follows O.rules self.old.nodes (event_of node deed) self.new.nodes) }
-        ensures begun { IsBegun self.old.nodes.past self.new.nodes.past }
-        ensures book { self.new.book ≡ self.old.book }
-        ensures err { OnErr result (self.new ≡ self.old) }
-        ensures refused { (r : HallError) → event_refusal self.old node ≡ Some r → result ≡ Err r }
-        ensures memory { event_refusal self.old node ≡ None →
-            IfErr result (λ r. r ≡ OutOfMemory) }
-        ensures idle { event_refusal self.old node ≡ None →
-            ComesToNothing O.rules (node_of self.old.nodes.network node) deed → IsOk result }
-    {
-        laws_below::<O>();
-        if let Some(refused) = self.event_refusal(node) {
-            return Err(refused);
-        }
-        let outcome = self.nodes.act(node, deed)?;
-        Ok(outcome)
     }
 }
 

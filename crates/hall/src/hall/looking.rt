@@ -8,6 +8,7 @@ ghost use Rattle.hall.specs.Halls.{has_unplaced};
 ghost use Rattle.hall.specs.Refusals.{is_stranger};
 
 use super::Hall;
+use crate::work::Work;
 use ballot::{Members, Slot};
 use object::{Key, Object};
 
@@ -36,31 +37,27 @@ impl<O: Object> Hall<O> {
         if self.is_stranger(node) {
             return None;
         }
-        self.nodes.network.undecided(node)
+        self.nodes.network.node(node).undecided()
     }
 
-    /// Whether a letter is on its way to a member.
-    pub fn has_mail(&self, node: u8) -> bool
-        ensures { result ≡ (not (is_stranger self.now node)
+    /// What a node has to do: nothing where it isn't a member.
+    pub fn work(&self, node: u8) -> Work
+        ensures mail { result.mail ≡ (not (is_stranger self.now node)
             && has_mail self.now.nodes.network node) }
-    {
-        !self.is_stranger(node) && self.nodes.network.has_mail(node)
-    }
-
-    /// Whether a member has a request to propose, and a slot that is open to it.
-    pub fn can_propose(&self, node: u8) -> bool
-        ensures { result ≡ (not (is_stranger self.now node)
+        ensures request { result.request ≡ (not (is_stranger self.now node)
             && is_some (next_proposal (node_of self.now.nodes.network node).replica)) }
-    {
-        !self.is_stranger(node) && self.nodes.network.can_propose(node)
-    }
-
-    /// Whether a member knows the decision that it is to perform next.
-    pub fn can_perform(&self, node: u8) -> bool
-        ensures { result ≡ (not (is_stranger self.now node)
+        ensures decision { result.decision ≡ (not (is_stranger self.now node)
             && is_some (next_decided (node_of self.now.nodes.network node).replica)) }
     {
-        !self.is_stranger(node) && self.nodes.network.can_perform(node)
+        if self.is_stranger(node) {
+            return Work::NONE;
+        }
+        let network = &self.nodes.network;
+        Work {
+            mail: network.has_mail(node),
+            request: network.node(node).can_propose(),
+            decision: network.node(node).can_perform(),
+        }
     }
 
     /// Whether a command was submitted that hasn't taken effect.

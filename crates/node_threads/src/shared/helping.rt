@@ -160,7 +160,7 @@ impl<O: Object, S: Ledger, C: Ledger> Shared<O, S, C> {
         in_a_row: &mut u32,
     ) -> Option<MutexGuard<'_, Watch>> {
         let goes_on = *in_a_row > 0 && *in_a_row < MOST_IN_A_ROW;
-        if goes_on && news.has_request(after) && !news.has_mail(after) {
+        if goes_on && news.work(after).request && !news.work(after).mail {
             *in_a_row += 1;
             return self.watch_or_ring(after);
         }
@@ -168,7 +168,7 @@ impl<O: Object, S: Ledger, C: Ledger> Shared<O, S, C> {
         let mut node = after;
         for _ in 0..MOST_NODES {
             node = self.places.next_node(node);
-            if news.has_mail(node) {
+            if news.work(node).mail {
                 let watch = self.watch_or_ring(node);
                 if watch.is_some() {
                     return watch;
@@ -184,7 +184,7 @@ impl<O: Object, S: Ledger, C: Ledger> Shared<O, S, C> {
         let mut node = after;
         for _ in 0..MOST_NODES {
             node = self.places.next_node(node);
-            if news.has_request(node) {
+            if news.work(node).request {
                 let watch = self.watch_or_ring(node);
                 if watch.is_some() {
                     return watch;
