@@ -34,7 +34,7 @@ impl<O: Object, S: Ledger, C: Ledger> Shared<O, S, C> {
         if !self.places.has_helper() {
             news.tell_nodes(&self.places, Some(node));
         }
-        news.is_for(node)
+        news.work(node).is_some()
     }
 
     /// A worker takes the turns of the nodes that have something to do, this one first, until no node has or its bell has
