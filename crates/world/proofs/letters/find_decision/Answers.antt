@@ -1,5 +1,5 @@
 use Rattle.std.proofs.Common.{◌≤◌, sym, ◌∙◌, arith}
-use Rattle.world.proofs.LetterTests.{decision_at, no_decision, decides_within, none_more}
+use Rattle.world.proofs.ways.LetterTests.{decision_at, no_decision, decides_within, none_more}
 use Rattle.world.specs.WaysOut.{Decides}
 use Rattle.world.proofs.letters.find_decision.Goals as goal
 

@@ -1,5 +1,5 @@
 use Rattle.std.proofs.Common.{sym, ap, ◌∙◌}
-use Rattle.world.proofs.Voters.{kept_next, kept_same}
+use Rattle.world.proofs.standing.Voters.{kept_next, kept_same}
 use Rattle.world.proofs.order.kept.Goals.{then-is_new+in_ok-copy+in_ok-push, else-is_new}
 use Rattle.world.proofs.order.kept.Goals as goal
 

@@ -7,7 +7,7 @@ use Rattle.object.specs.Keys.{same_key}
 use Rattle.object.specs.KeyLaws.{same_is}
 use Rattle.object.specs.Happenings.{is_submitted}
 use Rattle.agreement.proofs.order.Submitted.{key_submitted}
-use Rattle.world.proofs.Rescued.{has_greater, is_last}
+use Rattle.world.proofs.ways.Rescued.{has_greater, is_last}
 use Rattle.world.proofs.rescuing.last_command.Goals as goal
 
 pub returns-then-has_greater-clause-none : goal.returns-then-has_greater-clause-none

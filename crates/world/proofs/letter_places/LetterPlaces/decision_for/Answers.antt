@@ -2,7 +2,7 @@ use Rattle.std.proofs.Common.{ℕ, ◌<◌, ◌≤◌, ⊎_elim, None, sym, ap, 
 use Rattle.std.specs.Option.{option_copied}
 use Rattle.std.proofs.lemmas.Bool.{cases_lt}
 use Rattle.world.specs.WaysOut.{Decides}
-use Rattle.world.proofs.Finding.{not_found, where_none}
+use Rattle.world.proofs.ways.Finding.{not_found, where_none}
 use Rattle.world.proofs.letter_places.LetterPlaces.decision_for.Goals as goal
 
 pub returns-clause-none : goal.returns-clause-none

@@ -1,7 +1,7 @@
 use Rattle.std.proofs.Common.{ℕ, ◌<◌, ◌∙◌, arith}
 use Rattle.world.specs.WaysOut.{Proposes}
-use Rattle.world.proofs.Finding.{not_found, where_none}
-use Rattle.world.proofs.LetterTests.{proposes_within}
+use Rattle.world.proofs.ways.Finding.{not_found, where_none}
+use Rattle.world.proofs.ways.LetterTests.{proposes_within}
 use Rattle.world.proofs.letter_places.LetterPlaces.proposal_for.Goals as goal
 
 pub returns-clause-none : goal.returns-clause-none

@@ -1,6 +1,6 @@
 use Rattle.std.proofs.Common.{length, refl}
 use Rattle.world.specs.WaysOut.{Proposes, Decides}
-use Rattle.world.proofs.Finding.{finds_fewer}
+use Rattle.world.proofs.ways.Finding.{finds_fewer}
 use Rattle.world.proofs.letter_places.LetterPlaces.read_on.Goals as goal
 
 pub returns : goal.returns

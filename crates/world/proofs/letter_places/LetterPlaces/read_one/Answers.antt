@@ -1,6 +1,6 @@
 use Rattle.std.proofs.Common.{◌+◌, sym, subst}
 use Rattle.world.specs.WaysOut.{ArePlacesOf, Proposes, Decides}
-use Rattle.world.proofs.Finding.{proposals_more, decisions_more}
+use Rattle.world.proofs.ways.Finding.{proposals_more, decisions_more}
 use Rattle.world.proofs.letter_places.LetterPlaces.read_one.Goals as goal
 
 pub returns-clause-proposals : goal.returns-clause-proposals

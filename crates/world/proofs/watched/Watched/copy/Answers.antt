@@ -1,5 +1,5 @@
 use Rattle.std.proofs.Common.{◌∙◌}
-use Rattle.world.proofs.Watching.{same_shows}
+use Rattle.world.proofs.steps.Watching.{same_shows}
 use Rattle.world.proofs.watched.Watched.copy.Goals as goal
 
 pub invariant_of-result : goal.invariant_of-result

@@ -1,5 +1,5 @@
 use Rattle.std.proofs.Common.{ap}
-use Rattle.world.proofs.Watching.{new_shows}
+use Rattle.world.proofs.steps.Watching.{new_shows}
 use Rattle.world.proofs.watched.Watched.new.Goals as goal
 
 pub invariant_of-result : goal.invariant_of-result

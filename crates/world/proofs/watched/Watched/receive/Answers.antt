@@ -1,4 +1,4 @@
-use Rattle.world.proofs.Watching.{watched_received, watched_shows}
+use Rattle.world.proofs.steps.Watching.{watched_received, watched_shows}
 use Rattle.world.proofs.watched.Watched.receive.Goals as goal
 
 pub invariant_of-self-2 : goal.invariant_of-self-2

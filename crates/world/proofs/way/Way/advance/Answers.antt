@@ -3,10 +3,10 @@ use Rattle.agreement.specs.declared.event.Event.TheVariants as events
 use Rattle.agreement.proofs.chosen.Reach.{reachable_sound}
 use Rattle.world.specs.Rescues.{keeps_nodes}
 use Rattle.world.specs.WaysOut.{first_book, HasDecided, MentionsAsMuch}
-use Rattle.world.proofs.Allowing.{may_perform, on_both, on_ok}
-use Rattle.world.proofs.Going.{goes_on, one_goes}
-use Rattle.world.proofs.Learning.{decided_next, mentions_then, performs_book, performs_at_rest, performs_spent, performs_submitted}
-use Rattle.world.proofs.RoundMembers.{first_member}
+use Rattle.world.proofs.ways.Allowing.{may_perform, on_both, on_ok}
+use Rattle.world.proofs.ways.Going.{goes_on, one_goes}
+use Rattle.world.proofs.ways.Learning.{decided_next, mentions_then, performs_book, performs_at_rest, performs_spent, performs_submitted}
+use Rattle.world.proofs.rounds.RoundMembers.{first_member}
 use Rattle.world.proofs.way.Way.advance.Goals as goal
 
 pub take-requires : goal.take-requires

@@ -2,8 +2,8 @@ use Rattle.std.proofs.Common.{length, refl, ap, arith}
 use Rattle.agreement.proofs.every.Every.{counts}
 use Rattle.agreement.specs.declared.event.Event.TheVariants as events
 use Rattle.world.specs.WaysOut.{is_talk}
-use Rattle.world.proofs.Allowing.{may_deliver, question_sent, one_answer, on_both}
-use Rattle.world.proofs.Going.{goes_on, one_goes}
+use Rattle.world.proofs.ways.Allowing.{may_deliver, question_sent, one_answer, on_both}
+use Rattle.world.proofs.ways.Going.{goes_on, one_goes}
 use Rattle.world.proofs.way.Way.ask.Goals as goal
 
 pub take-requires : goal.take-requires

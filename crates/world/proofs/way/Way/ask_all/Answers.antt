@@ -1,10 +1,10 @@
 use Rattle.std.proofs.Common.{◌+◌, ◌*◌, length, refl, ap, ap₂, ◌∙◌, arith}
 use Rattle.agreement.specs.declared.event.Event.TheVariants as events
 use Rattle.world.specs.WaysOut.{is_talk}
-use Rattle.world.proofs.Allowing.{may_nudge}
-use Rattle.world.proofs.Going.{goes_on, one_goes}
-use Rattle.world.proofs.RoundMembers.{first_member, at_end}
-use Rattle.world.proofs.RoundAll.{round_begins, round_question, round_asked, round_ends, round_takes}
+use Rattle.world.proofs.ways.Allowing.{may_nudge}
+use Rattle.world.proofs.ways.Going.{goes_on, one_goes}
+use Rattle.world.proofs.rounds.RoundMembers.{first_member, at_end}
+use Rattle.world.proofs.rounds.RoundAll.{round_begins, round_question, round_asked, round_ends, round_takes}
 use Rattle.world.proofs.way.Way.ask_all.Goals as goal
 
 pub take-requires : goal.take-requires

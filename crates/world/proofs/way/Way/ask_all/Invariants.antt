@@ -1,6 +1,6 @@
 use Rattle.world.specs.WaysOut.{Goes, is_talk}
-use Rattle.world.proofs.Asking.{IsAsking}
-use Rattle.world.proofs.RoundTrips.{nudged}
+use Rattle.world.proofs.rounds.Asking.{IsAsking}
+use Rattle.world.proofs.rounds.RoundTrips.{nudged}
 use Rattle.world.proofs.way.Way.ask_all.Given as goal
 
 abbrev pub invariant-loop-place : goal.invariant-loop-place

@@ -5,15 +5,15 @@ use Rattle.agreement.proofs.every.Every.{submitted_once}
 use Rattle.agreement.specs.Steps.{Step}
 use Rattle.world.specs.Rescues.{keeps_nodes}
 use Rattle.world.specs.WaysOut.{Proposes, Decides, is_talk, most_slots}
-use Rattle.world.proofs.Allowing.{unrefused}
-use Rattle.world.proofs.Beginning.{one_exact, one_itself, work_few, own_command, submit_small, submit_count, submit_work, bringing_begins}
-use Rattle.world.proofs.Bringing.{advance_low, advance_room, advance_small, less_left, brings_on, performed_then}
-use Rattle.world.proofs.Finding.{finds_empty, proposals_further, decisions_further}
-use Rattle.world.proofs.Going.{goes_on, goes_weaker, one_goes, talk_keeps}
-use Rattle.world.proofs.Lengthening.{leads_letters}
+use Rattle.world.proofs.ways.Allowing.{unrefused}
+use Rattle.world.proofs.ways.Beginning.{one_exact, one_itself, work_few, own_command, submit_small, submit_count, submit_work, bringing_begins}
+use Rattle.world.proofs.ways.Bringing.{advance_low, advance_room, advance_small, less_left, brings_on, performed_then}
+use Rattle.world.proofs.ways.Finding.{finds_empty, proposals_further, decisions_further}
+use Rattle.world.proofs.ways.Going.{goes_on, goes_weaker, one_goes, talk_keeps}
+use Rattle.world.proofs.ways.Lengthening.{leads_letters}
 use Rattle.agreement.proofs.books.MentionsEvery.{mentions_weaker, reach_taken, slots_near}
-use Rattle.world.proofs.Rescued.{no_other_act}
-use Rattle.world.proofs.RoundMembers.{first_member}
+use Rattle.world.proofs.ways.Rescued.{no_other_act}
+use Rattle.world.proofs.rounds.RoundMembers.{first_member}
 use Rattle.world.proofs.way.Way.bring.Goals as goal
 
 pub take-requires : goal.take-requires

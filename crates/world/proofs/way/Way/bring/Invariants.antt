@@ -1,7 +1,7 @@
 use Rattle.std.proofs.Common.{◌+◌}
 use Rattle.world.specs.Rescues.{keeps_nodes}
 use Rattle.world.specs.WaysOut.{first_book, ArePlacesOf, Proposes, Decides, Goes}
-use Rattle.world.proofs.Bringing.{IsBringing, left}
+use Rattle.world.proofs.ways.Bringing.{IsBringing, left}
 use Rattle.world.proofs.way.Way.bring.Given as goal
 
 abbrev pub invariant-loop-places : goal.invariant-loop-places

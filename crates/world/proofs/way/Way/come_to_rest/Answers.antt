@@ -1,7 +1,7 @@
 use Rattle.std.proofs.Common.{arith}
 use Rattle.world.specs.WaysOut.{is_talk}
-use Rattle.world.proofs.Going.{goes_on, stays_there}
-use Rattle.world.proofs.Talking.{talk_itself, talk_on}
+use Rattle.world.proofs.ways.Going.{goes_on, stays_there}
+use Rattle.world.proofs.rounds.Talking.{talk_itself, talk_on}
 use Rattle.world.proofs.way.Way.come_to_rest.Goals as goal
 
 pub loop-self-init : goal.loop-self-init

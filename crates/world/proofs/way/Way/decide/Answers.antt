@@ -3,12 +3,12 @@ use Rattle.agreement.specs.declared.event.Event.TheVariants as events
 use Rattle.agreement.proofs.chosen.Reach.{reachable_sound}
 use Rattle.world.specs.Rescues.{keeps_nodes}
 use Rattle.world.specs.WaysOut.{first_book, Decides, ArePlacesOf}
-use Rattle.world.proofs.Allowing.{may_deliver, on_both, on_ok}
-use Rattle.world.proofs.Going.{goes_on, one_goes}
-use Rattle.world.proofs.Learning.{decides_sent, ready_unknown, decision_there, mentions_then, learns_book, learns_at_rest, learns_spent, learns_submitted}
-use Rattle.world.proofs.Finding.{decisions_further}
-use Rattle.world.proofs.Lengthening.{leads_letters}
-use Rattle.world.proofs.RoundMembers.{first_member}
+use Rattle.world.proofs.ways.Allowing.{may_deliver, on_both, on_ok}
+use Rattle.world.proofs.ways.Going.{goes_on, one_goes}
+use Rattle.world.proofs.ways.Learning.{decides_sent, ready_unknown, decision_there, mentions_then, learns_book, learns_at_rest, learns_spent, learns_submitted}
+use Rattle.world.proofs.ways.Finding.{decisions_further}
+use Rattle.world.proofs.ways.Lengthening.{leads_letters}
+use Rattle.world.proofs.rounds.RoundMembers.{first_member}
 use Rattle.world.proofs.way.Way.decide.Goals as goal
 
 pub take-requires : goal.take-requires

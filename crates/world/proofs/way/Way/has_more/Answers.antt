@@ -2,8 +2,8 @@ use Rattle.std.proofs.Common.{◌≡◌, inl, true, false, Option, None, Some, i
 use Rattle.std.specs.Prelude.{IfSome, IfNone}
 use Rattle.world.specs.Telling.{IsProposedAt}
 use Rattle.world.specs.WaysOut.{first_book, Proposes}
-use Rattle.world.proofs.Proposing.{proposes_at}
-use Rattle.world.proofs.Rounds.{place_of}
+use Rattle.world.proofs.ways.Proposing.{proposes_at}
+use Rattle.world.proofs.rounds.Rounds.{place_of}
 use Rattle.world.proofs.way.Way.has_more.Goals as goal
 
 found : {X : Type 0} (P : X → Type 0) (o : Option X) → IfSome o P → is_some o ≡ true → (x : X) × P x

@@ -1,7 +1,7 @@
 use Rattle.std.proofs.Common.{◌≡◌, ℕ, true, nat_eq, sym, ◌∙◌, arith}
 use Rattle.std.proofs.lemmas.Bool.Decides.{nat_tests}
-use Rattle.world.proofs.RoundMembers.{first_member}
-use Rattle.world.proofs.Turning.{at_rest_when, waits_for_nothing}
+use Rattle.world.proofs.rounds.RoundMembers.{first_member}
+use Rattle.world.proofs.rounds.Turning.{at_rest_when, waits_for_nothing}
 use Rattle.world.proofs.way.Way.is_at_rest.Goals as goal
 
 is_none : (n : ℕ) → nat_eq n 0 ≡ true → n ≡ 0

@@ -2,9 +2,9 @@ use Rattle.std.proofs.Common.{refl, sym, ◌∙◌, subst, arith}
 use Rattle.agreement.proofs.chosen.Reach.{reachable_sound}
 use Rattle.world.specs.Rescues.{keeps_nodes}
 use Rattle.world.specs.WaysOut.{IsReady, is_talk, stays as ready_stays}
-use Rattle.world.proofs.Allowing.{on_ok, on_three}
-use Rattle.world.proofs.Going.{goes_on, goes_weaker, stays_there, talk_keeps, talk_submitted}
-use Rattle.world.proofs.Learning.{ready_led, small_after, mentions_on}
+use Rattle.world.proofs.ways.Allowing.{on_ok, on_three}
+use Rattle.world.proofs.ways.Going.{goes_on, goes_weaker, stays_there, talk_keeps, talk_submitted}
+use Rattle.world.proofs.ways.Learning.{ready_led, small_after, mentions_on}
 use Rattle.agreement.proofs.books.SlotBooksEvery.{books}
 use Rattle.world.proofs.way.Way.lead.Goals as goal
 

@@ -2,8 +2,8 @@ use Rattle.std.proofs.Common.{refl, sym, ◌∙◌, arith}
 use Rattle.std.specs.FinMap.{get}
 use Rattle.world.specs.Rescues.{keeps_nodes}
 use Rattle.world.specs.WaysOut.{first_book, knew}
-use Rattle.world.proofs.Going.{stays_there}
-use Rattle.world.proofs.Learning.{some_there}
+use Rattle.world.proofs.ways.Going.{stays_there}
+use Rattle.world.proofs.ways.Learning.{some_there}
 use Rattle.world.proofs.way.Way.learn.Goals as goal
 
 pub returns-then-knows-clause-decided : goal.returns-then-knows-clause-decided

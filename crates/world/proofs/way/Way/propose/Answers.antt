@@ -4,11 +4,11 @@ use Rattle.agreement.proofs.chosen.Reach.{reachable_sound}
 use Rattle.world.specs.Rescues.{keeps_nodes}
 use Rattle.world.specs.WaysOut.{first_book, Proposes, stays as ready_stays}
 use Rattle.world.specs.Telling.{IsProposedAt}
-use Rattle.world.proofs.Rounds.{place_of}
-use Rattle.world.proofs.Allowing.{may_deliver, on_both, on_ok}
-use Rattle.world.proofs.Going.{one_goes}
-use Rattle.world.proofs.Proposing.{proposes_sent, proposes_at, there_mentions, proposal_led, proposal_book, proposal_spent, proposal_submitted}
-use Rattle.world.proofs.RoundMembers.{first_member}
+use Rattle.world.proofs.rounds.Rounds.{place_of}
+use Rattle.world.proofs.ways.Allowing.{may_deliver, on_both, on_ok}
+use Rattle.world.proofs.ways.Going.{one_goes}
+use Rattle.world.proofs.ways.Proposing.{proposes_sent, proposes_at, there_mentions, proposal_led, proposal_book, proposal_spent, proposal_submitted}
+use Rattle.world.proofs.rounds.RoundMembers.{first_member}
 use Rattle.world.proofs.way.Way.propose.Goals as goal
 
 pub take-requires : goal.take-requires

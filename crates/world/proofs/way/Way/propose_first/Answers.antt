@@ -5,10 +5,10 @@ use Rattle.agreement.proofs.every.Every.{counts}
 use Rattle.agreement.proofs.chosen.Reach.{reachable_sound, step_sound}
 use Rattle.world.specs.Rescues.{keeps_nodes}
 use Rattle.world.specs.WaysOut.{Proposes, proposes as ready_proposes}
-use Rattle.world.proofs.Allowing.{may_deliver, may_propose, on_both, on_ok}
-use Rattle.world.proofs.Going.{goes_on, one_goes}
-use Rattle.world.proofs.Proposing.{first_request, proposes_sent, own_members, own_letter, own_at_rest, own_free, own_book, own_spent, own_submitted, own_mentions, proposal_led, proposal_book, proposal_spent, proposal_submitted}
-use Rattle.world.proofs.RoundMembers.{first_member}
+use Rattle.world.proofs.ways.Allowing.{may_deliver, may_propose, on_both, on_ok}
+use Rattle.world.proofs.ways.Going.{goes_on, one_goes}
+use Rattle.world.proofs.ways.Proposing.{first_request, proposes_sent, own_members, own_letter, own_at_rest, own_free, own_book, own_spent, own_submitted, own_mentions, proposal_led, proposal_book, proposal_spent, proposal_submitted}
+use Rattle.world.proofs.rounds.RoundMembers.{first_member}
 use Rattle.world.proofs.way.Way.propose_first.Goals as goal
 
 pub take-requires : goal.take-requires

@@ -2,12 +2,12 @@ use Rattle.std.proofs.Common.{◌≤◌, length, refl, ap, arith}
 use Rattle.agreement.specs.declared.event.Event.TheVariants as events
 use Rattle.agreement.proofs.chosen.Reach.{reachable_sound}
 use Rattle.world.specs.WaysOut.{is_talk, most_slots}
-use Rattle.world.proofs.Allowing.{may_wake, on_three, on_ok}
-use Rattle.world.proofs.Going.{goes_on, one_goes}
-use Rattle.world.proofs.RoundMembers.{first_member}
-use Rattle.world.proofs.Talking.{talk_on}
-use Rattle.world.proofs.Turning.{some_work, turn_costs, turn_spent, talk_mentions}
-use Rattle.world.proofs.Working.{has_scout, wake_talks, wake_counts}
+use Rattle.world.proofs.ways.Allowing.{may_wake, on_three, on_ok}
+use Rattle.world.proofs.ways.Going.{goes_on, one_goes}
+use Rattle.world.proofs.rounds.RoundMembers.{first_member}
+use Rattle.world.proofs.rounds.Talking.{talk_on}
+use Rattle.world.proofs.rounds.Turning.{some_work, turn_costs, turn_spent, talk_mentions}
+use Rattle.world.proofs.rounds.Working.{has_scout, wake_talks, wake_counts}
 use Rattle.world.proofs.way.Way.turn.Goals as goal
 
 pub take-requires : goal.take-requires

@@ -1,8 +1,8 @@
 use Rattle.std.proofs.Common.{◌<◌, sym, ap, ◌∙◌, subst}
 use Rattle.std.proofs.lemmas.Bool.{false≢true}
 use Rattle.std.specs.Prelude.{is_some}
-use Rattle.world.proofs.Acting.{asked_more, acts_not, place_within, able_now, nothing_now, nothing_submitted, performs_none, performs_now, acts_taken, acts_kept, on_err}
-use Rattle.world.proofs.WatchedDeeds.{watched_able, watched_nothing, watched_state, watched_sent, watched_answers, watched_outcome, watched_still, watched_shown}
+use Rattle.world.proofs.steps.Acting.{asked_more, acts_not, place_within, able_now, nothing_now, nothing_submitted, performs_none, performs_now, acts_taken, acts_kept, on_err}
+use Rattle.world.proofs.steps.WatchedDeeds.{watched_able, watched_nothing, watched_state, watched_sent, watched_answers, watched_outcome, watched_still, watched_shown}
 use Rattle.world.proofs.world.World.act.Goals as goal
 
 pub returns-in_err-added-clause-idle : goal.returns-in_err-added-clause-idle

@@ -1,6 +1,6 @@
 use Rattle.std.proofs.Common.{subst, arith}
 use Rattle.agreement.specs.Chosen.{IsChosen}
-use Rattle.world.proofs.Voters.{run_ended, run_next, count_next}
+use Rattle.world.proofs.standing.Voters.{run_ended, run_next, count_next}
 use Rattle.world.proofs.world.World.all_chosen.Goals as goal
 
 pub returns-in-None : goal.returns-in-None

@@ -1,7 +1,7 @@
 use Rattle.std.proofs.Common.{[], ap, ◌∙◌, subst}
 use Rattle.world.specs.Rescues.{keeps_nodes}
 use Rattle.world.specs.WaysOut.{Goes}
-use Rattle.world.proofs.WaysBack.{way_rescues}
+use Rattle.world.proofs.ways.WaysBack.{way_rescues}
 use Rattle.world.proofs.world.World.bring_last.Goals as goal
 
 pub returns-clause-some : goal.returns-clause-some

@@ -1,5 +1,5 @@
 use Rattle.agreement.proofs.every.Events.{sound_now}
-use Rattle.world.proofs.Voters.{some_chosen, no_chosen}
+use Rattle.world.proofs.standing.Voters.{some_chosen, no_chosen}
 use Rattle.world.proofs.world.World.chosen.Goals as goal
 
 pub voted_anywhere-requires : goal.voted_anywhere-requires

@@ -1,5 +1,5 @@
 use Rattle.std.proofs.Common.{◌∙◌}
-use Rattle.world.proofs.Noted.{noted_again}
+use Rattle.world.proofs.steps.Noted.{noted_again}
 use Rattle.world.proofs.world.World.copy.Goals as goal
 
 pub invariant_of-result : goal.invariant_of-result

@@ -1,8 +1,8 @@
 use Rattle.std.proofs.Common.{◌<◌, sym, ◌∙◌, subst}
 use Rattle.std.proofs.lemmas.Bool.{false≢true}
 use Rattle.world.specs.Kept.{IsNoted}
-use Rattle.world.proofs.Acting.{on_err}
-use Rattle.world.proofs.Delivering.{still_there, lent_within, to_above, receiver_within, fit_now, silent_now, delivered_step, delivered_kept, delivered_not}
+use Rattle.world.proofs.steps.Acting.{on_err}
+use Rattle.world.proofs.steps.Delivering.{still_there, lent_within, to_above, receiver_within, fit_now, silent_now, delivered_step, delivered_kept, delivered_not}
 use Rattle.agreement.proofs.every.Events.{from_view, sent_in_view}
 use Rattle.world.proofs.world.World.deliver.Goals as goal
 

@@ -1,8 +1,8 @@
 use Rattle.std.proofs.Common.{◌≡◌, true, false, Some, sym, ◌∙◌, subst, arith}
 use Rattle.world.specs.Kept.{IsFirstAsLate}
-use Rattle.world.proofs.Placed.{is_as_late}
+use Rattle.world.proofs.standing.Placed.{is_as_late}
 use Rattle.agreement.proofs.chosen.Reach.{reachable_sound}
-use Rattle.world.proofs.Seeking.{sought_on, sought_all, sought_found}
+use Rattle.world.proofs.standing.Seeking.{sought_on, sought_all, sought_found}
 use Rattle.world.proofs.world.World.first_chosen_as_late.Goals as goal
 
 pub returns-in_default : goal.returns-in_default

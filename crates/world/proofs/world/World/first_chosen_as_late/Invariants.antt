@@ -1,5 +1,5 @@
 use Rattle.std.proofs.Common.{◌≤◌, ◌+◌, ◌^◌}
-use Rattle.world.proofs.Seeking.{IsSought}
+use Rattle.world.proofs.standing.Seeking.{IsSought}
 use Rattle.world.proofs.world.World.first_chosen_as_late.Given as goal
 
 abbrev pub invariant-loop-slot : goal.invariant-loop-slot

@@ -3,8 +3,8 @@ use Rattle.agreement.specs.Chosen.{IsChosenFrom}
 use Rattle.world.specs.Kept.{HasNoted}
 use Rattle.agreement.proofs.order.Deciding.{chosen_from}
 use Rattle.agreement.proofs.every.Events.{sound_now}
-use Rattle.world.proofs.Placed.{told, performed_late, late_before, late_behind}
-use Rattle.world.proofs.Standing.{stands_when}
+use Rattle.world.proofs.standing.Placed.{told, performed_late, late_before, late_behind}
+use Rattle.world.proofs.standing.Standing.{stands_when}
 use Rattle.world.proofs.world.World.has_in_order.Goals as goal
 
 pub returns-in-Some : goal.returns-in-Some

@@ -1,7 +1,7 @@
 use Rattle.std.proofs.Common.{ap, ◌∙◌}
 use Rattle.ballot.specs.Members.{is_majority}
 use Rattle.agreement.specs.Voters.{voters_of}
-use Rattle.world.proofs.Voters.{same_majority}
+use Rattle.world.proofs.standing.Voters.{same_majority}
 use Rattle.world.proofs.world.World.is_voted.Goals as goal
 
 pub returns : goal.returns

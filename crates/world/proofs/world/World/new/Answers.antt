@@ -1,5 +1,5 @@
-use Rattle.world.proofs.Events.{new_world}
-use Rattle.world.proofs.Places.{one_node_more, all_nodes}
+use Rattle.world.proofs.steps.Events.{new_world}
+use Rattle.world.proofs.steps.Places.{one_node_more, all_nodes}
 use Rattle.world.proofs.world.World.new.Goals as goal
 
 pub loop-before-preserved : goal.loop-before-preserved

@@ -1,7 +1,7 @@
 use Rattle.std.proofs.Common.{sym, ap, ◌∙◌, subst}
 use Rattle.world.specs.Kept.{HasNoted}
 use Rattle.agreement.proofs.every.Events.{sound_now}
-use Rattle.world.proofs.Placed.{told, performed_late, placed_when}
+use Rattle.world.proofs.standing.Placed.{told, performed_late, placed_when}
 use Rattle.world.proofs.world.World.placed.Goals as goal
 
 pub returns-in-Some : goal.returns-in-Some

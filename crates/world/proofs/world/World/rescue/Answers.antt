@@ -2,9 +2,9 @@ use Rattle.std.proofs.Common.{◌≡◌, ◌⊎◌, inl, inr, ⊎_elim, false, t
 use Rattle.std.specs.Prelude.{IfOk, IfSome, IfNone}
 use Rattle.object.specs.Happenings.{is_submitted}
 use Rattle.world.specs.Rescues.{Rescues, HasGreater, IsInOrder, IsLast}
-use Rattle.world.proofs.InOrder.{in_order_submitted}
-use Rattle.world.proofs.Rescued.{nothing, not_last}
-use Rattle.world.proofs.WaysBack.{at_once_in}
+use Rattle.world.proofs.standing.InOrder.{in_order_submitted}
+use Rattle.world.proofs.ways.Rescued.{nothing, not_last}
+use Rattle.world.proofs.ways.WaysBack.{at_once_in}
 use Rattle.world.proofs.world.World.rescue.Goals as goal
 
 pub returns-then-has_in_order-clause-some : goal.returns-then-has_in_order-clause-some

@@ -3,10 +3,10 @@ use Rattle.agreement.specs.Agreements.{StaysChosen}
 use Rattle.agreement.specs.OneOrder.{GoesOnFrom}
 use Rattle.world.specs.Quiet.{BringsNothing}
 use Rattle.world.specs.Refusals.{IsAllowed}
-use Rattle.world.proofs.Acting.{at_member, asks_own, sent_when, ok_of, err_of, not_err}
+use Rattle.world.proofs.steps.Acting.{at_member, asks_own, sent_when, ok_of, err_of, not_err}
 use Rattle.agreement.proofs.every.Events.{stays_chosen, later_step, later_same}
-use Rattle.world.proofs.Events.{allowed}
-use Rattle.world.proofs.Idle.{nothing_to_do}
+use Rattle.world.proofs.steps.Events.{allowed}
+use Rattle.world.proofs.steps.Idle.{nothing_to_do}
 use Rattle.world.proofs.world.World.step.Goals.{in-Act, in-Deliver}
 use Rattle.world.proofs.world.World.step.Goals as goal
 

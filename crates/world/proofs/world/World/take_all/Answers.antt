@@ -2,7 +2,7 @@ use Rattle.std.proofs.Common.{sym, subst, take}
 use Rattle.agreement.specs.OneOrder.{GoesOnFrom}
 use Rattle.agreement.specs.Runs.{at_once}
 use Rattle.agreement.proofs.every.Events.{later_by}
-use Rattle.world.proofs.Events.{run_more, refused_at}
+use Rattle.world.proofs.steps.Events.{run_more, refused_at}
 use Rattle.world.proofs.world.World.take_all.Goals as goal
 
 pub loop-index-init : goal.loop-index-init

@@ -1,5 +1,5 @@
 use Rattle.std.proofs.Common.{sym, ◌∙◌}
-use Rattle.world.proofs.Voters.{has_voted, none_next}
+use Rattle.world.proofs.standing.Voters.{has_voted, none_next}
 use Rattle.world.proofs.world.World.voted.Goals.{else-number-slot-via-then-number-slot+else-is_voted, else-number-slot-via-else-number-slot}
 use Rattle.world.proofs.world.World.voted.Goals as goal
 

@@ -1,5 +1,5 @@
 use Rattle.std.proofs.Common.{ap, ◌∙◌}
-use Rattle.world.proofs.Voters.{node_voted, none_node}
+use Rattle.world.proofs.standing.Voters.{node_voted, none_node}
 use Rattle.world.proofs.world.World.voted_anywhere.Goals as goal
 
 pub returns-in-Some-clause-some : goal.returns-in-Some-clause-some
