@@ -3,8 +3,8 @@ use Rattle.std.proofs.Common.{◌≡◌, ℕ, ◌<◌, ◌⊎◌, true, false, c
 use Rattle.std.specs.List.Sorted.{IsStrictlySortedBy}
 use Rattle.object.specs.Lists.{In}
 use Rattle.job_store.specs.LookUps.{is_among}
-use Rattle.job_store.proofs.Least.{among-member}
-use Rattle.job_store.proofs.Shelving.{in-front, in-last, in-push}
+use Rattle.job_store.proofs.least.Least.{among-member}
+use Rattle.job_store.proofs.shelving.Shelving.{in-front, in-last, in-push}
 use Rattle.session_store.specs.WatchLists.{joined}
 use Rattle.pause_store.specs.declared.pause.Pause.{Pause}
 use Rattle.pause_store.specs.Pauses.{HasEnds, left_at, pause_cmp, tubes_over}

@@ -9,7 +9,7 @@ use Rattle.object.specs.Lists.{In}
 use Rattle.job_store.specs.Entries.{Rising, value_at}
 use Rattle.job_store.specs.EntryLaws.{value_at-In, value_at-found}
 use Rattle.job_store.specs.Racks.{name_cmp}
-use Rattle.job_store.proofs.NameSets.{at-name}
+use Rattle.job_store.proofs.naming.NameSets.{at-name}
 use Rattle.session_store.specs.declared.session.SessionState.{SessionState}
 use Rattle.session_store.specs.declared.rolls.Rolls.{Rolls}
 use Rattle.session_store.specs.Lines.{EachStands}

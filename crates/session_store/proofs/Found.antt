@@ -4,8 +4,8 @@ use Rattle.std.specs.List.{cons_option, list_any}
 use Rattle.object.specs.Lists.{In}
 use Rattle.job_store.specs.Entries.{Rising}
 use Rattle.job_store.specs.Least.{IsLeast, NonePasses, first_of, least}
-use Rattle.job_store.proofs.Least.{least-found, least-none, least-only}
-use Rattle.job_store.proofs.Firsts.{first_of-assoc, first_of-none}
+use Rattle.job_store.proofs.least.Least.{least-found, least-none, least-only}
+use Rattle.job_store.proofs.least.Firsts.{first_of-assoc, first_of-none}
 
 -- Lists with the same elements have the same least
 

@@ -15,7 +15,7 @@ use Rattle.object.specs.Lists.{In}
 use Rattle.job_store.specs.Entries.{Rising, value_at}
 use Rattle.job_store.specs.EntryLaws.{cmp_equal, cmp_greater, value_at-In, value_at-found}
 use Rattle.job_store.specs.Least.{ComesBefore, IsLeast}
-use Rattle.job_store.proofs.Least.{least-found, least-only}
+use Rattle.job_store.proofs.least.Least.{least-found, least-only}
 use Rattle.session_store.specs.declared.session.SessionState.{SessionState}
 use Rattle.session_store.specs.declared.session.Wait.{Wait}
 use Rattle.session_store.specs.declared.place.LinePlace.{LinePlace}

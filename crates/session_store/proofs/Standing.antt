@@ -6,7 +6,7 @@ use Rattle.object.specs.Lists.{In}
 use Rattle.job_store.specs.Entries.{Rising, value_at, with_value, altered, without}
 use Rattle.std.specs.Ordering.{match_ordering}
 use Rattle.job_store.specs.EntryLaws.{value_at-In, altered-in, without-in}
-use Rattle.job_store.proofs.Entries.{same_number}
+use Rattle.job_store.proofs.maps.Entries.{same_number}
 use Rattle.std.proofs.Math.ListN.{get_or}
 use Rattle.std.proofs.lemmas.List.Folds.{list_any_more}
 use Rattle.session_store.proofs.Places.{some_in}

@@ -1,9 +1,9 @@
 use Rattle.std.proofs.Common.{◌∙◌, refl, ap, get_or, option_map, rules}
 use Rattle.job_store.specs.Least.{first_of}
-use Rattle.job_store.proofs.Firsts.{first-along, first-whole, first_of-none}
+use Rattle.job_store.proofs.least.Firsts.{first-along, first-whole, first_of-none}
 use Rattle.session_store.specs.Sessions.{wait_rank}
 use Rattle.bean_queue.specs.Holders.{holder_by}
-use Rattle.bean_queue.proofs.Holders.{holders-first}
+use Rattle.bean_queue.proofs.due.Holders.{holders-first}
 use Rattle.bean_queue.proofs.deadlines.first_holder.Goals.{in-Some, in_default}
 use Rattle.bean_queue.proofs.deadlines.first_holder.Goals as goal
 

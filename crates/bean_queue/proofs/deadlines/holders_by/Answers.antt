@@ -1,7 +1,7 @@
 use Rattle.std.proofs.Common.{◌≡◌, ℕ, ◌<◌, ◌^◌, Option, Some, Result, Ok, Err, OnErr, option_map, Bor, sym, ap, subst}
 use Rattle.job_store.specs.declared.job.Job.{Job}
 use Rattle.job_store.specs.LookUps.{first_due_after}
-use Rattle.bean_queue.proofs.Holders.{AreNoted, IsNoted, far, noted-first, noted-next, noted-all, noted-by, noted-often, nearer, some-holder}
+use Rattle.bean_queue.proofs.due.Holders.{AreNoted, IsNoted, far, noted-first, noted-next, noted-all, noted-by, noted-often, nearer, some-holder}
 use Rattle.bean_queue.specs.Holders.{waits_at}
 use Rattle.bean_queue.proofs.deadlines.holders_by.Goals as goal
 

@@ -1,6 +1,6 @@
 use Rattle.std.proofs.Common.{option_map}
 use Rattle.bean_queue.specs.Holders.{waits_at}
-use Rattle.bean_queue.proofs.Holders.{AreNoted, far}
+use Rattle.bean_queue.proofs.due.Holders.{AreNoted, far}
 use Rattle.bean_queue.proofs.deadlines.holders_by.Given as goal
 
 abbrev pub invariant-jobs : goal.invariant-jobs

@@ -1,5 +1,5 @@
 use Rattle.std.proofs.Common.{◌∙◌, ap, sym, nat_le}
-use Rattle.bean_queue.proofs.FirstHeld.{held_none, held_some}
+use Rattle.bean_queue.proofs.due.FirstHeld.{held_none, held_some}
 use Rattle.bean_queue.proofs.deadlines.holds_by.Goals as goal
 
 pub returns-in-Some : goal.returns-in-Some

@@ -1,4 +1,4 @@
-use Rattle.bean_queue.proofs.KickCount.{kick-counts}
+use Rattle.bean_queue.proofs.kicks.KickCount.{kick-counts}
 use Rattle.bean_queue.proofs.laws.kick_counts.Goals as goal
 
 pub returns : goal.returns

@@ -1,4 +1,4 @@
-use Rattle.bean_queue.proofs.OneAnswer.{each_once}
+use Rattle.bean_queue.proofs.answering.OneAnswer.{each_once}
 use Rattle.bean_queue.proofs.laws.one_answer.Goals as goal
 
 pub returns : goal.returns

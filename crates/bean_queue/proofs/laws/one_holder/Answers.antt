@@ -1,6 +1,6 @@
 use Rattle.bean_queue.specs.Queue.{fresh}
-use Rattle.bean_queue.proofs.OneAnswer.{placed}
-use Rattle.bean_queue.proofs.OneHolder.{given_once, held_by_one}
+use Rattle.bean_queue.proofs.answering.OneAnswer.{placed}
+use Rattle.bean_queue.proofs.holders.OneHolder.{given_once, held_by_one}
 use Rattle.bean_queue.proofs.laws.one_holder.Goals as goal
 
 pub returns-clause-once : goal.returns-clause-once

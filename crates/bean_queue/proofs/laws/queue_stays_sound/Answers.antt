@@ -1,4 +1,4 @@
-use Rattle.bean_queue.proofs.Sound.{fresh-sound, effect-sound}
+use Rattle.bean_queue.proofs.calm.Sound.{fresh-sound, effect-sound}
 use Rattle.bean_queue.proofs.laws.queue_stays_sound.Goals as goal
 
 pub returns-clause-fresh : goal.returns-clause-fresh

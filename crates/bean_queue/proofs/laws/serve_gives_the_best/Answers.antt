@@ -1,6 +1,6 @@
 use Rattle.bean_queue.specs.Turns.{serve}
-use Rattle.bean_queue.proofs.Best.{turn-best}
-use Rattle.bean_queue.proofs.Served.{serve-done, idle_none}
+use Rattle.bean_queue.proofs.best.Best.{turn-best}
+use Rattle.bean_queue.proofs.best.Served.{serve-done, idle_none}
 use Rattle.bean_queue.proofs.laws.serve_gives_the_best.Goals as goal
 
 pub returns-clause-turn : goal.returns-clause-turn

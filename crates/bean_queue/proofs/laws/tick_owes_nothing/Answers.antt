@@ -1,4 +1,4 @@
-use Rattle.bean_queue.proofs.Owed.{tick-owes}
+use Rattle.bean_queue.proofs.due.Owed.{tick-owes}
 use Rattle.bean_queue.proofs.laws.tick_owes_nothing.Goals as goal
 
 pub returns : goal.returns

@@ -1,4 +1,4 @@
-use Rattle.bean_queue.proofs.TubeLists.{tubes-sorted, tubes-all}
+use Rattle.bean_queue.proofs.tubes.TubeLists.{tubes-sorted, tubes-all}
 use Rattle.bean_queue.proofs.laws.tubes_are_listed_once.Goals as goal
 
 pub returns-clause-order : goal.returns-clause-order

@@ -1,7 +1,7 @@
 use Rattle.std.proofs.Common.{sym, ◌∙◌}
 use Rattle.std.specs.Map.{keys_of}
-use Rattle.job_store.proofs.Readiness.{key-among}
-use Rattle.bean_queue.proofs.Paused.{paused-apart, open-same}
+use Rattle.job_store.proofs.readiness.Readiness.{key-among}
+use Rattle.bean_queue.proofs.best.Paused.{paused-apart, open-same}
 use Rattle.bean_queue.proofs.look_up.is_open.Goals as goal
 
 pub returns-then-contains_key : goal.returns-then-contains_key

@@ -1,6 +1,6 @@
 use Rattle.std.proofs.Common.{rules, ◌≡◌, ◌||◌, ℕ, List, [], ◌∷◌, ap, bytes_eq}
 use Rattle.job_store.specs.LookUps.{has_jobs}
-use Rattle.bean_queue.proofs.TubeSets.{none-added, only-more, one-added, all-added}
+use Rattle.bean_queue.proofs.tubes.TubeSets.{none-added, only-more, one-added, all-added}
 use Rattle.bean_queue.proofs.scan_jobs.add_tubes.Goals as goal
 
 pub loop-job-init : goal.loop-job-init

@@ -1,4 +1,4 @@
-use Rattle.bean_queue.proofs.TubeSets.{AreAdded}
+use Rattle.bean_queue.proofs.tubes.TubeSets.{AreAdded}
 use Rattle.bean_queue.proofs.scan_jobs.add_tubes.Given as goal
 
 abbrev pub invariant-loop-job : goal.invariant-loop-job

@@ -1,9 +1,9 @@
 use Rattle.std.proofs.Common.{◌∙◌, sym, ap, option_map, rules}
 use Rattle.std.specs.Map.{keys_of}
 use Rattle.job_store.specs.LookUps.{pri_of_job}
-use Rattle.job_store.proofs.Firsts.{first-along}
+use Rattle.job_store.proofs.least.Firsts.{first-along}
 use Rattle.bean_queue.specs.Woken.{offered}
-use Rattle.bean_queue.proofs.Offers.{offer-taken, offer-passed}
+use Rattle.bean_queue.proofs.best.Offers.{offer-taken, offer-passed}
 use Rattle.bean_queue.proofs.waiting.best_offer.Goals.{then-has_taker, else-has_taker}
 use Rattle.bean_queue.proofs.waiting.best_offer.Goals as goal
 

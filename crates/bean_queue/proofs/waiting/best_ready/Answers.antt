@@ -2,8 +2,8 @@ use Rattle.std.proofs.Common.{◌≡◌, ◌<◌, ◌+◌, ℕ, suc, List, [], �
 use Rattle.std.proofs.lemmas.List.{drop_all}
 use Rattle.std.specs.Map.{keys_of}
 use Rattle.job_store.specs.LookUps.{not_paused, ready_in, pri_of_job}
-use Rattle.job_store.proofs.Least.{least-shown-by}
-use Rattle.job_store.proofs.Readiness.{IsBestSoFar, best-past, best-open, best-answer, best-found, best-missed}
+use Rattle.job_store.proofs.least.Least.{least-shown-by}
+use Rattle.job_store.proofs.readiness.Readiness.{IsBestSoFar, best-past, best-open, best-answer, best-found, best-missed}
 use Rattle.bean_queue.proofs.waiting.best_ready.Goals.{then-not-is_paused, else-not-is_paused}
 use Rattle.bean_queue.proofs.waiting.best_ready.Goals as goal
 

@@ -1,7 +1,7 @@
 use Rattle.std.proofs.Common.{drop, option_map}
 use Rattle.std.specs.Map.{keys_of}
 use Rattle.job_store.specs.LookUps.{not_paused}
-use Rattle.job_store.proofs.Readiness.{IsBestSoFar}
+use Rattle.job_store.proofs.readiness.Readiness.{IsBestSoFar}
 use Rattle.bean_queue.proofs.waiting.best_ready.Given as goal
 
 abbrev pub invariant-loop-tube : goal.invariant-loop-tube

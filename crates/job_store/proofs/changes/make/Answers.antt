@@ -4,7 +4,7 @@ use Rattle.job_store.specs.declared.job.Job.{Job}
 use Rattle.job_store.specs.Entries.{value_at}
 use Rattle.job_store.specs.States.{with_pri_and_state}
 use Rattle.job_store.specs.EntryLaws.{altered-absent}
-use Rattle.job_store.proofs.Entries.{set_value-altered}
+use Rattle.job_store.proofs.maps.Entries.{set_value-altered}
 use Rattle.job_store.proofs.changes.make.Goals as goal
 
 pub returns-in-Some : goal.returns-in-Some

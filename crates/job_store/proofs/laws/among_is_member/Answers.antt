@@ -1,4 +1,4 @@
-use Rattle.job_store.proofs.Least.{among-member}
+use Rattle.job_store.proofs.least.Least.{among-member}
 use Rattle.job_store.proofs.laws.among_is_member.Goals as goal
 
 pub returns : goal.returns

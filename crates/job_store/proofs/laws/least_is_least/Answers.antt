@@ -1,4 +1,4 @@
-use Rattle.job_store.proofs.Least.{least-found, least-none, least-only}
+use Rattle.job_store.proofs.least.Least.{least-found, least-none, least-only}
 use Rattle.job_store.proofs.laws.least_is_least.Goals as goal
 
 pub returns-clause-found : goal.returns-clause-found

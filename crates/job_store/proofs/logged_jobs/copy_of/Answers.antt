@@ -1,4 +1,4 @@
-use Rattle.job_store.proofs.Entries.{insert_entry-next}
+use Rattle.job_store.proofs.maps.Entries.{insert_entry-next}
 use Rattle.std.proofs.Common.{◌++◌, rules, ap, sym, ◌∙◌}
 use Rattle.job_store.proofs.logged_jobs.copy_of.Goals as goal
 

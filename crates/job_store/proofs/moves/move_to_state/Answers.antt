@@ -3,7 +3,7 @@ use Rattle.job_store.specs.Entries.{value_at}
 use Rattle.job_store.specs.Spots.{spot_of}
 use Rattle.job_store.specs.States.{with_state}
 use Rattle.job_store.specs.EntryLaws.{altered-absent}
-use Rattle.job_store.proofs.Following.{followed-stay, followed-altered, grown-moved}
+use Rattle.job_store.proofs.shelving.Following.{followed-stay, followed-altered, grown-moved}
 use Rattle.job_store.proofs.moves.move_to_state.Goals as goal
 
 pub returns-in_default-clause-jobs : goal.returns-in_default-clause-jobs

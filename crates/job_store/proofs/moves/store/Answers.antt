@@ -1,7 +1,7 @@
 use Rattle.std.proofs.Common.{refl, ap, ◌∙◌}
 use Rattle.job_store.specs.Entries.{value_at}
-use Rattle.job_store.proofs.Shelving.{grown-twice, doubt-twice}
-use Rattle.job_store.proofs.Following.{followed-put, followed-stay, grown-moved, stored-only, stored-come, left-stay}
+use Rattle.job_store.proofs.shelving.Shelving.{grown-twice, doubt-twice}
+use Rattle.job_store.proofs.shelving.Following.{followed-put, followed-stay, grown-moved, stored-only, stored-come, left-stay}
 use Rattle.job_store.proofs.moves.store.Goals as goal
 
 pub returns-in_err-leave_at-clause-followed : goal.returns-in_err-leave_at-clause-followed

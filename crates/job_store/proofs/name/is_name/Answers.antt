@@ -1,5 +1,5 @@
 use Rattle.std.proofs.Common.{rules}
-use Rattle.job_store.proofs.Names.{name-decided}
+use Rattle.job_store.proofs.naming.Names.{name-decided}
 use Rattle.job_store.proofs.name.is_name.Goals as goal
 
 pub returns-then-bytes-le200 : goal.returns-then-bytes-le200

@@ -1,6 +1,6 @@
 use Rattle.std.proofs.Common.{◌⊎◌, ◌≡◌, ◌∙◌, inl, inr, sym, subst}
 use Rattle.object.specs.Lists.{In}
-use Rattle.job_store.proofs.NameSets.{from-insert, to-insert, found-in}
+use Rattle.job_store.proofs.naming.NameSets.{from-insert, to-insert, found-in}
 use Rattle.job_store.proofs.name_set.add_name.Goals as goal
 
 pub returns-else-not-contains-clause-there : goal.returns-else-not-contains-clause-there

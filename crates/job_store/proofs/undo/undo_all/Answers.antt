@@ -1,6 +1,6 @@
 use Rattle.std.proofs.Common.{◌++◌, ap, ◌∙◌}
 use Rattle.std.specs.Option.{option_to_list}
-use Rattle.job_store.proofs.Undone.{one-undone}
+use Rattle.job_store.proofs.maps.Undone.{one-undone}
 use Rattle.job_store.proofs.undo.undo_all.Goals as goal
 
 pub loop-undo-preserved : goal.loop-undo-preserved

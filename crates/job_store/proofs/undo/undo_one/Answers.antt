@@ -5,7 +5,7 @@ use Rattle.job_store.specs.declared.undo.Undo.{Undo}
 use Rattle.job_store.specs.Entries.{value_at}
 use Rattle.job_store.specs.Undone.{undone}
 use Rattle.job_store.specs.EntryLaws.{altered-absent}
-use Rattle.job_store.proofs.Entries.{remove_entry-without, set_value-altered}
+use Rattle.job_store.proofs.maps.Entries.{remove_entry-without, set_value-altered}
 use Rattle.job_store.proofs.undo.undo_one.Goals as goal
 
 pub returns-in-TakeOut : goal.returns-in-TakeOut

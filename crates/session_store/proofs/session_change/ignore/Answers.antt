@@ -1,5 +1,5 @@
 use Rattle.std.proofs.Common.{◌∙◌, ap, sym}
-use Rattle.job_store.proofs.Entries.{set_value-altered}
+use Rattle.job_store.proofs.maps.Entries.{set_value-altered}
 use Rattle.session_store.specs.declared.session.SessionState.{SessionState}
 use Rattle.session_store.specs.WatchLists.{left_out}
 use Rattle.session_store.proofs.session_change.ignore.Goals as goal

@@ -1,7 +1,7 @@
 use Rattle.std.proofs.Common.{◌≡◌, ◌∙◌, ℕ, ap, sym, None, BTreeMap, rules}
 use Rattle.job_store.specs.Entries.{value_at}
 use Rattle.job_store.specs.EntryLaws.{altered-absent}
-use Rattle.job_store.proofs.Entries.{set_value-altered}
+use Rattle.job_store.proofs.maps.Entries.{set_value-altered}
 use Rattle.session_store.specs.declared.session.SessionState.{SessionState}
 use Rattle.session_store.proofs.session_change.set_used.Goals as goal
 

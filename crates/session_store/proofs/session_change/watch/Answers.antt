@@ -1,6 +1,6 @@
 use Rattle.std.proofs.Common.{◌∙◌, ap, sym}
 use Rattle.object.proofs.KeyMaps.{on_err}
-use Rattle.job_store.proofs.Entries.{set_value-altered, set_value-same}
+use Rattle.job_store.proofs.maps.Entries.{set_value-altered, set_value-same}
 use Rattle.session_store.specs.declared.session.SessionState.{SessionState}
 use Rattle.session_store.specs.WatchLists.{joined}
 use Rattle.session_store.proofs.session_change.watch.Goals as goal

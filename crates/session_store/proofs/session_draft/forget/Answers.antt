@@ -1,5 +1,5 @@
 use Rattle.std.proofs.Common.{◌∙◌}
-use Rattle.job_store.proofs.Entries.{remove_entry-without}
+use Rattle.job_store.proofs.maps.Entries.{remove_entry-without}
 use Rattle.session_store.specs.Lines.{StandsIn}
 use Rattle.session_store.proofs.Standing.{each-without}
 use Rattle.session_store.proofs.SessionDrafts.{removal-rises}

@@ -1,5 +1,5 @@
 use Rattle.std.proofs.Common.{◌∙◌, sym, ap}
-use Rattle.job_store.proofs.Entries.{remove_entry-without}
+use Rattle.job_store.proofs.maps.Entries.{remove_entry-without}
 use Rattle.session_store.specs.Drafts.{session_step_back}
 use Rattle.session_store.proofs.session_step.take_step_back.Goals as goal
 

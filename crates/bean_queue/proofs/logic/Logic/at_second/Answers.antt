@@ -4,7 +4,7 @@ use Rattle.session_store.specs.Drafts.{Draft}
 use Rattle.pause_store.specs.Pauses.{tubes_over}
 use Rattle.bean_queue.specs.Queue.{QueueState}
 use Rattle.bean_queue.specs.Woken.{AreWoken}
-use Rattle.bean_queue.proofs.Woken.{woken-more}
+use Rattle.bean_queue.proofs.calm.Woken.{woken-more}
 use Rattle.bean_queue.proofs.logic.Logic.at_second.Goals as goal
 
 pub returns-clause-woken : goal.returns-clause-woken

@@ -2,9 +2,9 @@ use Rattle.std.proofs.Common.{◌≡◌, ◌++◌, false, ap, ◌∙◌, rules}
 use Rattle.std.proofs.lemmas.Result.{on_ok_weaker}
 use Rattle.bean_queue.specs.Turns.{QueueOutcome, serve_turn}
 use Rattle.bean_queue.specs.Reserving.{is_reserve}
-use Rattle.bean_queue.proofs.Called.{called-there}
-use Rattle.bean_queue.proofs.Calm.{called-calm}
-use Rattle.bean_queue.proofs.Reserving.{reserve-carried, wake-carried}
+use Rattle.bean_queue.proofs.calm.Called.{called-there}
+use Rattle.bean_queue.proofs.calm.Calm.{called-calm}
+use Rattle.bean_queue.proofs.calm.Reserving.{reserve-carried, wake-carried}
 use Rattle.bean_queue.proofs.logic.Logic.carry_out.Goals as goal
 
 pub reserve-requires-clause-there : goal.reserve-requires-clause-there

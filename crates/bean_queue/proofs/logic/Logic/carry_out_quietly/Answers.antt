@@ -1,5 +1,5 @@
 use Rattle.std.proofs.lemmas.Result.{on_ok_weaker, IfOk-weaker}
-use Rattle.bean_queue.proofs.Called.{called-there, quiet-state, quiet-reply}
+use Rattle.bean_queue.proofs.calm.Called.{called-there, quiet-state, quiet-reply}
 use Rattle.bean_queue.proofs.logic.Logic.carry_out_quietly.Goals as goal
 
 pub quiet_row-requires-clause-there : goal.quiet_row-requires-clause-there

@@ -3,7 +3,7 @@ use Rattle.session_store.specs.Drafts.{Draft}
 use Rattle.bean_queue.specs.Queue.{QueueState, paused_tubes, state_of}
 use Rattle.bean_queue.specs.Turns.{next_job}
 use Rattle.bean_queue.specs.Woken.{Covers, best_offer}
-use Rattle.bean_queue.proofs.Offers.{next-offered}
+use Rattle.bean_queue.proofs.best.Offers.{next-offered}
 use Rattle.bean_queue.proofs.logic.Logic.next_job.Goals as goal
 
 pub returns : goal.returns

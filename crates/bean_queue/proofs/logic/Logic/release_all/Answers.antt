@@ -1,6 +1,6 @@
 use Rattle.std.proofs.Common.{sym, subst}
 use Rattle.bean_queue.specs.Woken.{Covers}
-use Rattle.bean_queue.proofs.Woken.{covers-released}
+use Rattle.bean_queue.proofs.calm.Woken.{covers-released}
 use Rattle.bean_queue.proofs.logic.Logic.release_all.Goals as goal
 
 pub serve-requires : goal.serve-requires

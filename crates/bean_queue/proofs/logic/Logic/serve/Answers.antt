@@ -1,7 +1,7 @@
 use Rattle.std.proofs.Common.{◌∙◌}
 use Rattle.bean_queue.specs.Turns.{serve_turn}
-use Rattle.bean_queue.proofs.Served.{serves, turn_made, no_turn}
-use Rattle.bean_queue.proofs.Woken.{covers-turn}
+use Rattle.bean_queue.proofs.best.Served.{serves, turn_made, no_turn}
+use Rattle.bean_queue.proofs.calm.Woken.{covers-turn}
 use Rattle.bean_queue.proofs.logic.Logic.serve.Goals as goal
 
 pub turns-smaller : goal.turns-smaller

@@ -1,7 +1,7 @@
 use Rattle.std.proofs.Common.{◌≡◌, ◌++◌}
 use Rattle.bean_queue.specs.Turns.{serve_turn, all_turns}
 use Rattle.bean_queue.specs.Woken.{Covers}
-use Rattle.bean_queue.proofs.Served.{waiters}
+use Rattle.bean_queue.proofs.best.Served.{waiters}
 use Rattle.bean_queue.proofs.logic.Logic.serve.Given as goal
 
 abbrev pub invariant-turns : goal.invariant-turns

@@ -11,7 +11,7 @@ use Rattle.bean_queue.specs.declared.reply.Reply.{Reply}
 use Rattle.job_store.specs.LookUps.{is_among}
 use Rattle.bean_queue.specs.Queue.{QueueState, state_of}
 use Rattle.bean_queue.specs.Turns.{IsTurn, next_job, serve_turn}
-use Rattle.bean_queue.proofs.Turned.{none-served, nobody-served, served}
+use Rattle.bean_queue.proofs.best.Turned.{none-served, nobody-served, served}
 use Rattle.bean_queue.proofs.logic.Logic.serve_one.Goals as goal
 
 pub returns-in_default-clause-turn : goal.returns-in_default-clause-turn

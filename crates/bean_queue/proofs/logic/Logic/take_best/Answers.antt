@@ -3,7 +3,7 @@ use Rattle.job_store.specs.declared.job.Job.{Job}
 use Rattle.session_store.specs.Drafts.{Draft}
 use Rattle.bean_queue.specs.Queue.{QueueState, state_of}
 use Rattle.bean_queue.specs.Reserving.{best_for, IsTaken}
-use Rattle.bean_queue.proofs.Reserving.{took}
+use Rattle.bean_queue.proofs.calm.Reserving.{took}
 use Rattle.bean_queue.proofs.logic.Logic.take_best.Goals as goal
 
 pub returns-clause-taken : goal.returns-clause-taken

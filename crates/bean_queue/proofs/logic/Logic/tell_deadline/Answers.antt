@@ -8,7 +8,7 @@ use Rattle.bean_queue.specs.declared.reply.Reply.{Reply}
 use Rattle.bean_queue.specs.Holders.{HasHolders}
 use Rattle.bean_queue.specs.Queue.{QueueState, holds_by, state_of}
 use Rattle.bean_queue.specs.Turns.{IsTurn, deadline_turn}
-use Rattle.bean_queue.proofs.Turned.{none-told_deadline, told_deadline}
+use Rattle.bean_queue.proofs.best.Turned.{none-told_deadline, told_deadline}
 use Rattle.bean_queue.proofs.logic.Logic.tell_deadline.Goals as goal
 
 pub first_holder-requires-clause-rising : goal.first_holder-requires-clause-rising

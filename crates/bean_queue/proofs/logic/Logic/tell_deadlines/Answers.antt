@@ -4,8 +4,8 @@ use Rattle.session_store.specs.Drafts.{Draft}
 use Rattle.bean_queue.specs.Holders.{HasHolders}
 use Rattle.bean_queue.specs.Queue.{QueueState, state_of}
 use Rattle.bean_queue.specs.Turns.{deadline_turn}
-use Rattle.bean_queue.proofs.Served.{tells_deadline, turn_made, no_turn}
-use Rattle.bean_queue.proofs.Holders.{has-holders, holders-turn}
+use Rattle.bean_queue.proofs.best.Served.{tells_deadline, turn_made, no_turn}
+use Rattle.bean_queue.proofs.due.Holders.{has-holders, holders-turn}
 use Rattle.bean_queue.proofs.logic.Logic.tell_deadlines.Goals as goal
 
 pub turns-init : goal.turns-init

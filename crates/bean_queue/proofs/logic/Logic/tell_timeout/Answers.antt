@@ -6,7 +6,7 @@ use Rattle.session_store.specs.Drafts.{Draft}
 use Rattle.bean_queue.specs.declared.reply.Reply.{Reply}
 use Rattle.bean_queue.specs.Queue.{QueueState, state_of}
 use Rattle.bean_queue.specs.Turns.{IsTurn, timeout_turn}
-use Rattle.bean_queue.proofs.Turned.{none-told_timeout, told_timeout}
+use Rattle.bean_queue.proofs.best.Turned.{none-told_timeout, told_timeout}
 use Rattle.bean_queue.proofs.logic.Logic.tell_timeout.Goals as goal
 
 pub returns-in_default-clause-turn : goal.returns-in_default-clause-turn

@@ -1,6 +1,6 @@
 use Rattle.std.proofs.Common.{◌∙◌}
 use Rattle.bean_queue.specs.Turns.{timeout_turn}
-use Rattle.bean_queue.proofs.Served.{tells_timeout, turn_made, no_turn}
+use Rattle.bean_queue.proofs.best.Served.{tells_timeout, turn_made, no_turn}
 use Rattle.bean_queue.proofs.logic.Logic.tell_timeouts.Goals as goal
 
 pub turns-smaller : goal.turns-smaller

@@ -1,6 +1,6 @@
 use Rattle.std.proofs.Common.{◌≡◌, ◌++◌}
 use Rattle.bean_queue.specs.Turns.{timeout_turn, all_turns}
-use Rattle.bean_queue.proofs.Served.{waiters}
+use Rattle.bean_queue.proofs.best.Served.{waiters}
 use Rattle.bean_queue.proofs.logic.Logic.tell_timeouts.Given as goal
 
 abbrev pub invariant-turns : goal.invariant-turns

@@ -1,6 +1,6 @@
 use Rattle.std.proofs.Common.{sym, subst}
 use Rattle.bean_queue.specs.Woken.{Covers}
-use Rattle.bean_queue.proofs.Woken.{covers-second}
+use Rattle.bean_queue.proofs.calm.Woken.{covers-second}
 use Rattle.bean_queue.proofs.logic.Logic.tick.Goals as goal
 
 pub serve-requires : goal.serve-requires

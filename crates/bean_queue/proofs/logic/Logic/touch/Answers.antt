@@ -3,7 +3,7 @@ use Rattle.job_store.specs.Entries.{value_at}
 use Rattle.session_store.specs.Drafts.{Draft}
 use Rattle.bean_queue.specs.Queue.{QueueState, state_of}
 use Rattle.bean_queue.specs.Rows.{touch_row}
-use Rattle.bean_queue.proofs.Touched.{touched}
+use Rattle.bean_queue.proofs.due.Touched.{touched}
 use Rattle.bean_queue.proofs.logic.Logic.touch.Goals as goal
 
 pub returns-in_ok-set_state-in-Some-clause-state : goal.returns-in_ok-set_state-in-Some-clause-state

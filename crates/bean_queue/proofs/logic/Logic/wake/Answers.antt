@@ -1,6 +1,6 @@
 use Rattle.std.proofs.Common.{[], ◌∷◌, sym, ap, ◌∙◌}
 use Rattle.std.specs.Option.{option_to_list}
-use Rattle.bean_queue.proofs.Woken.{covers-waking}
+use Rattle.bean_queue.proofs.calm.Woken.{covers-waking}
 use Rattle.bean_queue.proofs.logic.Logic.wake.Goals as goal
 
 pub serve-requires : goal.serve-requires

@@ -1,6 +1,6 @@
 use Rattle.std.proofs.Common.{cond, ◌≡◌, ◌<◌, ◌∙◌, None, Some, refl, sym, ap, rules}
 use Rattle.job_store.specs.LookUps.{first_buried, first_delayed}
-use Rattle.bean_queue.proofs.Kicks.{kicking-first, kicking-more, kicking-none, kicking-end}
+use Rattle.bean_queue.proofs.kicks.Kicks.{kicking-first, kicking-more, kicking-none, kicking-end}
 use Rattle.bean_queue.proofs.logic.kick.kick_idle.Goals as goal
 
 pub returns-in_default-clause-now : goal.returns-in_default-clause-now

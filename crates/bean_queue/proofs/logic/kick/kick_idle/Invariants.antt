@@ -1,6 +1,6 @@
 use Rattle.std.proofs.Common.{cond, ◌≡◌}
 use Rattle.job_store.specs.LookUps.{first_buried, first_delayed}
-use Rattle.bean_queue.proofs.Kicks.{IsKicking}
+use Rattle.bean_queue.proofs.kicks.Kicks.{IsKicking}
 use Rattle.bean_queue.proofs.logic.kick.kick_idle.Given as goal
 
 abbrev pub invariant-loop-count : goal.invariant-loop-count

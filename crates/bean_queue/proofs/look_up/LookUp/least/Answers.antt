@@ -1,8 +1,8 @@
 use Rattle.std.proofs.Common.{◌≡◌, rules, option_map, sym, ◌∙◌}
 use Rattle.job_store.specs.Least.{least}
 use Rattle.bean_queue.specs.Searches.{passes, look_up_number}
-use Rattle.job_store.proofs.Least.{least-shown}
-use Rattle.bean_queue.proofs.Searches.{least-step}
+use Rattle.job_store.proofs.least.Least.{least-shown}
+use Rattle.bean_queue.proofs.best.Searches.{least-step}
 use Rattle.bean_queue.proofs.look_up.LookUp.least.Goals as goal
 
 pub loop-id-preserved-then-passes : goal.loop-id-preserved-then-passes

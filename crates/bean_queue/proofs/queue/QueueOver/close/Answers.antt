@@ -1,6 +1,6 @@
 use Rattle.std.proofs.Common.{◌∙◌, ap}
 use Rattle.bean_queue.specs.Effects.{forgotten}
-use Rattle.bean_queue.proofs.Calm.{close-calm, kept-calm}
+use Rattle.bean_queue.proofs.calm.Calm.{close-calm, kept-calm}
 use Rattle.bean_queue.proofs.queue.QueueOver.close.Goals as goal
 
 pub invariant_of-self-2 : goal.invariant_of-self-2

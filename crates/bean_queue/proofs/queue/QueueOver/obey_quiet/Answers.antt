@@ -1,4 +1,4 @@
-use Rattle.bean_queue.proofs.Calm.{do-calm, kept-calm}
+use Rattle.bean_queue.proofs.calm.Calm.{do-calm, kept-calm}
 use Rattle.bean_queue.proofs.queue.QueueOver.obey_quiet.Goals as goal
 
 pub invariant_of-self-in-Ok : goal.invariant_of-self-in-Ok

@@ -1,4 +1,4 @@
-use Rattle.bean_queue.proofs.Calm.{tick-calm, kept-calm}
+use Rattle.bean_queue.proofs.calm.Calm.{tick-calm, kept-calm}
 use Rattle.bean_queue.proofs.queue.QueueOver.tick.Goals as goal
 
 pub invariant_of-self-2 : goal.invariant_of-self-2

@@ -1,6 +1,6 @@
 use Rattle.std.proofs.Common.{◌∙◌, refl}
-use Rattle.bean_queue.proofs.ReadyAgain.{one_more, none_left}
-use Rattle.bean_queue.proofs.Woken.{gathered, none-woken}
+use Rattle.bean_queue.proofs.kicks.ReadyAgain.{one_more, none_left}
+use Rattle.bean_queue.proofs.calm.Woken.{gathered, none-woken}
 use Rattle.bean_queue.proofs.ready_again.Returning.make_ready.Goals as goal
 
 pub again-init : goal.again-init

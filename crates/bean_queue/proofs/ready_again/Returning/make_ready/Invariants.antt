@@ -2,7 +2,7 @@ use Rattle.std.proofs.Common.{◌≡◌}
 use Rattle.job_store.specs.Entries.{each_value}
 use Rattle.bean_queue.specs.Effects.{is_returning, ready_if}
 use Rattle.bean_queue.specs.Woken.{AreWoken}
-use Rattle.bean_queue.proofs.ReadyAgain.{many}
+use Rattle.bean_queue.proofs.kicks.ReadyAgain.{many}
 use Rattle.bean_queue.proofs.ready_again.Returning.make_ready.Given as goal
 
 abbrev pub invariant-again : goal.invariant-again

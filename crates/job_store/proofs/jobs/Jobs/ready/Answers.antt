@@ -3,7 +3,7 @@ use Rattle.std.specs.BTreeSet.{BTreeSet}
 use Rattle.job_store.specs.Undone.{MapState}
 use Rattle.job_store.specs.Least.{NonePasses}
 use Rattle.job_store.specs.LookUps.{ready_in, AreReadyPlaces}
-use Rattle.job_store.proofs.Readiness.{ready-some, ready-none}
+use Rattle.job_store.proofs.readiness.Readiness.{ready-some, ready-none}
 use Rattle.job_store.proofs.jobs.Jobs.ready.Goals as goal
 
 pub returns-clause-some : goal.returns-clause-some

@@ -1,4 +1,4 @@
-use Rattle.job_store.proofs.Following.{kept-begun}
+use Rattle.job_store.proofs.shelving.Following.{kept-begun}
 use Rattle.job_store.proofs.jobs.JobsJobMap.begin.Goals as goal
 
 pub invariant_of-self : goal.invariant_of-self

@@ -3,8 +3,8 @@ use Rattle.std.specs.Map.{keys_of}
 use Rattle.job_store.specs.Undone.{MapState}
 use Rattle.job_store.specs.Entries.{Rising}
 use Rattle.job_store.specs.LookUps.{not_paused, ready_in, pri_of_job}
-use Rattle.job_store.proofs.Least.{least-shown-by}
-use Rattle.job_store.proofs.Readiness.{IsBestSoFar, best-none, best-past, best-open, best-answer, best-found, best-missed, key-among}
+use Rattle.job_store.proofs.least.Least.{least-shown-by}
+use Rattle.job_store.proofs.readiness.Readiness.{IsBestSoFar, best-none, best-past, best-open, best-answer, best-found, best-missed, key-among}
 use Rattle.job_store.proofs.jobs.JobsJobMap.best_ready.Goals as goal
 
 pub loop-tube-init : goal.loop-tube-init

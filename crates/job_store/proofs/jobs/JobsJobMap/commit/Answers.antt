@@ -1,4 +1,4 @@
-use Rattle.job_store.proofs.Following.{kept-ended}
+use Rattle.job_store.proofs.shelving.Following.{kept-ended}
 use Rattle.job_store.proofs.jobs.JobsJobMap.commit.Goals as goal
 
 pub invariant_of-self : goal.invariant_of-self

@@ -1,6 +1,6 @@
 use Rattle.std.proofs.Common.{[], subst}
 use Rattle.job_store.specs.Shelves.{HavePlaces, AreAhead, AreKnown}
-use Rattle.job_store.proofs.Following.{kept-swept}
+use Rattle.job_store.proofs.shelving.Following.{kept-swept}
 use Rattle.job_store.proofs.jobs.JobsJobMap.copy.Goals as goal
 
 pub invariant_of-result : goal.invariant_of-result

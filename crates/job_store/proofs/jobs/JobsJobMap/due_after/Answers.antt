@@ -5,8 +5,8 @@ use Rattle.job_store.specs.Undone.{MapState}
 use Rattle.job_store.specs.Entries.{Rising}
 use Rattle.job_store.specs.Least.{IsLeast, NonePasses}
 use Rattle.job_store.specs.LookUps.{due_after, due_of_job}
-use Rattle.job_store.proofs.Least.{least-only, least-nothing}
-use Rattle.job_store.proofs.Following.{due-found-after, due-later-after, due-none-after}
+use Rattle.job_store.proofs.least.Least.{least-only, least-nothing}
+use Rattle.job_store.proofs.shelving.Following.{due-found-after, due-later-after, due-none-after}
 use Rattle.job_store.proofs.jobs.JobsJobMap.due_after.Goals as goal
 use Rattle.job_store.proofs.jobs.JobsJobMap.due_after.Goals.{in_default-via-in-Some+else-is_due, in_default-via-in_default}
 

@@ -5,7 +5,7 @@ use Rattle.job_store.specs.declared.label.Label.{Label}
 use Rattle.job_store.specs.Undone.{MapState}
 use Rattle.job_store.specs.Least.{IsLeast, NonePasses, least}
 use Rattle.job_store.specs.LookUps.{ready_in, pri_of_job}
-use Rattle.job_store.proofs.Readiness.{ready-test}
+use Rattle.job_store.proofs.readiness.Readiness.{ready-test}
 use Rattle.job_store.proofs.jobs.JobsJobMap.first_ready.Goals as goal
 
 pub first-requires-clause-all : goal.first-requires-clause-all

@@ -1,6 +1,6 @@
 use Rattle.std.proofs.Common.{◌≡◌, true, false, is_some, rules}
 use Rattle.job_store.specs.LookUps.{pri_of_job, due_of_job, rank_of_job}
-use Rattle.job_store.proofs.TubeJobs.{ready-has, delayed-has, buried-has, none-has}
+use Rattle.job_store.proofs.readiness.TubeJobs.{ready-has, delayed-has, buried-has, none-has}
 use Rattle.job_store.proofs.jobs.JobsJobMap.has_jobs.Goals as goal
 
 pub returns-then-is_some : goal.returns-then-is_some

@@ -1,4 +1,4 @@
-use Rattle.job_store.proofs.Following.{kept-none}
+use Rattle.job_store.proofs.shelving.Following.{kept-none}
 use Rattle.job_store.proofs.jobs.JobsJobMap.new.Goals as goal
 
 pub invariant_of-result : goal.invariant_of-result

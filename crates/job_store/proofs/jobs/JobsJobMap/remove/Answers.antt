@@ -2,7 +2,7 @@ use Rattle.std.proofs.Common.{ap, sym, subst, ◌∙◌}
 use Rattle.object.specs.Lists.{In}
 use Rattle.job_store.specs.Undone.{MapState}
 use Rattle.job_store.specs.Shelves.{HasTaken}
-use Rattle.job_store.proofs.Following.{ahead-without, kept-removed, kept-absent}
+use Rattle.job_store.proofs.shelving.Following.{ahead-without, kept-removed, kept-absent}
 use Rattle.job_store.proofs.jobs.JobsJobMap.remove.Goals as goal
 
 pub invariant_of-self : goal.invariant_of-self

@@ -1,5 +1,5 @@
 use Rattle.std.proofs.Common.{sym}
-use Rattle.job_store.proofs.Following.{placed-before, known-before, ahead-before, kept-swept}
+use Rattle.job_store.proofs.shelving.Following.{placed-before, known-before, ahead-before, kept-swept}
 use Rattle.job_store.proofs.jobs.JobsJobMap.roll_back.Goals as goal
 
 pub go_back-requires-clause-placed : goal.go_back-requires-clause-placed

@@ -1,4 +1,4 @@
-use Rattle.job_store.proofs.Following.{placed-step, known-step, ahead-step, kept-followed}
+use Rattle.job_store.proofs.shelving.Following.{placed-step, known-step, ahead-step, kept-followed}
 use Rattle.job_store.proofs.jobs.JobsJobMap.set.Goals as goal
 
 pub follow-requires-clause-placed : goal.follow-requires-clause-placed

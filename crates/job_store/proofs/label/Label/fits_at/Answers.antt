@@ -1,5 +1,5 @@
 use Rattle.std.proofs.Common.{sym, ◌∙◌}
-use Rattle.job_store.proofs.Places.{at-test, not-at}
+use Rattle.job_store.proofs.shelving.Places.{at-test, not-at}
 use Rattle.job_store.proofs.label.Label.fits_at.Goals as goal
 
 pub returns-then-fits : goal.returns-then-fits

@@ -1,7 +1,7 @@
 use Rattle.std.proofs.Common.{◌≡◌, Some, None, false, sym, subst, ◌∙◌}
 use Rattle.job_store.specs.declared.job.Job.{Job}
 use Rattle.job_store.specs.Shelves.{belongs_at}
-use Rattle.job_store.proofs.Places.{at-id, none-at-id}
+use Rattle.job_store.proofs.shelving.Places.{at-id, none-at-id}
 use Rattle.job_store.proofs.label.Label.job_at.Goals as goal
 use Rattle.job_store.proofs.label.Label.job_at.Goals.{in_default-via-in-Some+else-fits_at, in_default-via-in_default}
 

@@ -1,4 +1,4 @@
-use Rattle.job_store.proofs.Entries.{Rising-same}
+use Rattle.job_store.proofs.maps.Entries.{Rising-same}
 use Rattle.job_store.proofs.logged_jobs.LoggedJobs.copy.Goals as goal
 
 pub of-requires : goal.of-requires

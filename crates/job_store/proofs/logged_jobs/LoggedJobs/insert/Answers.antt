@@ -1,7 +1,7 @@
 use Rattle.std.proofs.Common.{arith, ap, ◌∙◌}
 use Rattle.job_store.specs.Undone.{MapState}
-use Rattle.job_store.proofs.Entries.{inserted-rises}
-use Rattle.job_store.proofs.Undone.{before-put}
+use Rattle.job_store.proofs.maps.Entries.{inserted-rises}
+use Rattle.job_store.proofs.maps.Undone.{before-put}
 use Rattle.job_store.proofs.logged_jobs.LoggedJobs.insert.Goals as goal
 
 pub invariant_of-self-then-self : goal.invariant_of-self-then-self

@@ -1,5 +1,5 @@
 use Rattle.std.proofs.Common.{[], arith}
-use Rattle.job_store.proofs.Entries.{Rising-same}
+use Rattle.job_store.proofs.maps.Entries.{Rising-same}
 use Rattle.job_store.proofs.logged_jobs.LoggedJobs.new.Goals as goal
 
 pub of-requires : goal.of-requires

@@ -2,7 +2,7 @@ use Rattle.std.proofs.Common.{ap, ◌∙◌}
 use Rattle.job_store.specs.Entries.{without}
 use Rattle.job_store.specs.Undone.{MapState}
 use Rattle.job_store.specs.EntryLaws.{Rising-without}
-use Rattle.job_store.proofs.Entries.{remove_entry-without, Rising-same}
+use Rattle.job_store.proofs.maps.Entries.{remove_entry-without, Rising-same}
 use Rattle.job_store.proofs.logged_jobs.LoggedJobs.remove.Goals as goal
 
 pub invariant_of-self : goal.invariant_of-self

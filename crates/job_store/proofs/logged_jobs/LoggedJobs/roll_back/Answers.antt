@@ -1,5 +1,5 @@
-use Rattle.job_store.proofs.Entries.{Rising-same}
-use Rattle.job_store.proofs.Undone.{Rising-all_undone}
+use Rattle.job_store.proofs.maps.Entries.{Rising-same}
+use Rattle.job_store.proofs.maps.Undone.{Rising-all_undone}
 use Rattle.job_store.proofs.logged_jobs.LoggedJobs.roll_back.Goals as goal
 
 pub invariant_of-self : goal.invariant_of-self

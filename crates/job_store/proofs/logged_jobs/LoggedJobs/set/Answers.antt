@@ -2,8 +2,8 @@ use Rattle.std.proofs.Common.{refl, ap, ◌∙◌}
 use Rattle.job_store.specs.States.{with_pri_and_state}
 use Rattle.job_store.specs.Undone.{MapState}
 use Rattle.job_store.specs.EntryLaws.{Rising-altered}
-use Rattle.job_store.proofs.Entries.{Rising-same}
-use Rattle.job_store.proofs.Undone.{before-set}
+use Rattle.job_store.proofs.maps.Entries.{Rising-same}
+use Rattle.job_store.proofs.maps.Undone.{before-set}
 use Rattle.job_store.proofs.logged_jobs.LoggedJobs.set.Goals as goal
 
 pub invariant_of-self-2 : goal.invariant_of-self-2

@@ -2,8 +2,8 @@ use Rattle.std.proofs.Common.{sym, ap, subst}
 use Rattle.std.specs.Option.{unwrap_or}
 use Rattle.job_store.specs.ShelfStates.{bare}
 use Rattle.job_store.specs.Shelves.{belongs, number, AreAllFound}
-use Rattle.job_store.proofs.Least.{least-nothing}
-use Rattle.job_store.proofs.Places.{none-found}
+use Rattle.job_store.proofs.least.Least.{least-nothing}
+use Rattle.job_store.proofs.shelving.Places.{none-found}
 use Rattle.job_store.proofs.rack.Rack.first.Goals as goal
 
 pub returns-in-None-clause-job : goal.returns-in-None-clause-job

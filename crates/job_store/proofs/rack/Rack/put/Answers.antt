@@ -1,6 +1,6 @@
 use Rattle.std.proofs.Common.{Some, IsSome, refl, subst, sym}
 use Rattle.job_store.specs.ShelfStates.{HasGained, IsFound}
-use Rattle.job_store.proofs.Racks.{exact_by, one-changed, others-kept}
+use Rattle.job_store.proofs.shelving.Racks.{exact_by, one-changed, others-kept}
 use Rattle.job_store.proofs.rack.Rack.put.Goals as goal
 
 pub returns-in_err-put-clause-gained : goal.returns-in_err-put-clause-gained

@@ -1,6 +1,6 @@
 use Rattle.std.proofs.Common.{Some, IsSome, refl, subst, sym}
 use Rattle.job_store.specs.ShelfStates.{HasReached}
-use Rattle.job_store.proofs.Racks.{exact_by, one-changed, others-kept}
+use Rattle.job_store.proofs.shelving.Racks.{exact_by, one-changed, others-kept}
 use Rattle.job_store.proofs.rack.Rack.reach.Goals as goal
 
 pub returns-in-Some-clause-reached : goal.returns-in-Some-clause-reached

@@ -1,7 +1,7 @@
 use Rattle.std.proofs.Common.{Some, None, IsSome, refl, subst, sym, ◌∙◌}
 use Rattle.job_store.specs.ShelfStates.{HasLost}
-use Rattle.job_store.proofs.Places.{lost-all}
-use Rattle.job_store.proofs.Racks.{exact_by, one-changed, others-kept}
+use Rattle.job_store.proofs.shelving.Places.{lost-all}
+use Rattle.job_store.proofs.shelving.Racks.{exact_by, one-changed, others-kept}
 use Rattle.job_store.proofs.rack.Rack.take.Goals as goal
 
 pub returns-else-is_empty-clause-lost : goal.returns-else-is_empty-clause-lost

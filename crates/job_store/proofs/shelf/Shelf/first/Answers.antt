@@ -6,9 +6,9 @@ use Rattle.object.specs.Lists.{In}
 use Rattle.job_store.specs.declared.job.Job.{Job}
 use Rattle.job_store.specs.ShelfStates.{ShelfState, numbered_place, IsFound}
 use Rattle.job_store.specs.Shelves.{BelongsAt, belongs, number}
-use Rattle.job_store.proofs.Places.{shelf_cmp, AreAllOn, sorted-rest, none-here, none-on, first-is-least}
-use Rattle.job_store.proofs.Numbered.{pair_cmp, ranged-of, ranged-sorted}
-use Rattle.job_store.proofs.Least.{least-only, least-nothing}
+use Rattle.job_store.proofs.shelving.Places.{shelf_cmp, AreAllOn, sorted-rest, none-here, none-on, first-is-least}
+use Rattle.job_store.proofs.shelving.Numbered.{pair_cmp, ranged-of, ranged-sorted}
+use Rattle.job_store.proofs.least.Least.{least-only, least-nothing}
 use Rattle.job_store.proofs.shelf.Shelf.first.Goals as goal
 
 pub loop-place-init : goal.loop-place-init

@@ -6,8 +6,8 @@ use Rattle.object.specs.Lists.{In}
 use Rattle.job_store.specs.declared.job.Job.{Job}
 use Rattle.job_store.specs.ShelfStates.{ShelfState, numbered_place, IsFound}
 use Rattle.job_store.specs.Shelves.{BelongsAt}
-use Rattle.job_store.proofs.Places.{shelf_cmp, AreAllAfter, AreAfter, sorted-rest, none-here-after, none-after, first-after-is-least}
-use Rattle.job_store.proofs.Numbered.{pair_cmp, after-kept, after-only, after-sorted}
+use Rattle.job_store.proofs.shelving.Places.{shelf_cmp, AreAllAfter, AreAfter, sorted-rest, none-here-after, none-after, first-after-is-least}
+use Rattle.job_store.proofs.shelving.Numbered.{pair_cmp, after-kept, after-only, after-sorted}
 use Rattle.job_store.proofs.shelf.Shelf.first_after.Goals as goal
 
 pub loop-place-init : goal.loop-place-init

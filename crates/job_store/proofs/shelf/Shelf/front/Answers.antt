@@ -6,9 +6,9 @@ use Rattle.object.specs.Lists.{In}
 use Rattle.job_store.specs.declared.job.Job.{Job}
 use Rattle.job_store.specs.ShelfStates.{ShelfState, numbered_place, IsFound}
 use Rattle.job_store.specs.Shelves.{BelongsAt}
-use Rattle.job_store.proofs.Places.{shelf_cmp, AreAllFrom, passed-here, passed-to, sorted-rest}
-use Rattle.job_store.proofs.Numbered.{pair_cmp, ranged-of, ranged-sorted}
-use Rattle.job_store.proofs.Shelving.{nothing}
+use Rattle.job_store.proofs.shelving.Places.{shelf_cmp, AreAllFrom, passed-here, passed-to, sorted-rest}
+use Rattle.job_store.proofs.shelving.Numbered.{pair_cmp, ranged-of, ranged-sorted}
+use Rattle.job_store.proofs.shelving.Shelving.{nothing}
 use Rattle.job_store.proofs.shelf.Shelf.front.Goals as goal
 
 pub loop-place-init : goal.loop-place-init

@@ -1,8 +1,8 @@
 use Rattle.std.proofs.Common.{map, ap, ◌∙◌}
 use Rattle.job_store.specs.ShelfStates.{ShelfState, numbered_place}
 use Rattle.std.specs.BTreeSet.{insert_key}
-use Rattle.job_store.proofs.Places.{shelf_cmp, gained-by, gained-none, found-by}
-use Rattle.job_store.proofs.Numbered.{put-of}
+use Rattle.job_store.proofs.shelving.Places.{shelf_cmp, gained-by, gained-none, found-by}
+use Rattle.job_store.proofs.shelving.Numbered.{put-of}
 use Rattle.job_store.proofs.shelf.Shelf.put.Goals as goal
 
 pub returns-clause-ok : goal.returns-clause-ok

@@ -2,8 +2,8 @@ use Rattle.std.proofs.Common.{map, ap, ◌∙◌}
 use Rattle.job_store.specs.ShelfStates.{ShelfState, numbered_place}
 use Rattle.std.specs.BTreeMap.{is_at}
 use Rattle.std.specs.Set.{remove_key}
-use Rattle.job_store.proofs.Places.{shelf_cmp, lost-by}
-use Rattle.job_store.proofs.Numbered.{taken-of, gone-of}
+use Rattle.job_store.proofs.shelving.Places.{shelf_cmp, lost-by}
+use Rattle.job_store.proofs.shelving.Numbered.{taken-of, gone-of}
 use Rattle.job_store.proofs.shelf.Shelf.take.Goals as goal
 
 pub returns : goal.returns

@@ -1,7 +1,7 @@
 use Rattle.std.proofs.Common.{ℕ, List, ap, subst, sym}
 use Rattle.job_store.specs.declared.spot.Spot.{Spot}
 use Rattle.job_store.specs.Shelves.{AreKnown}
-use Rattle.job_store.proofs.Shelving.{known-settled}
+use Rattle.job_store.proofs.shelving.Shelving.{known-settled}
 use Rattle.job_store.proofs.shelves.Shelves.follow.Goals as goal
 
 pub returns-then-is_trial-clause-known : goal.returns-then-is_trial-clause-known

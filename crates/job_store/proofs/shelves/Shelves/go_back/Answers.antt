@@ -1,6 +1,6 @@
 use Rattle.std.proofs.Common.{◌≡◌, rules, refl}
 use Rattle.job_store.specs.declared.label.Label.{Label}
-use Rattle.job_store.proofs.Shelving.{placed-same, ahead-same, known-moved, back-placed, back-known, back-ahead}
+use Rattle.job_store.proofs.shelving.Shelving.{placed-same, ahead-same, known-moved, back-placed, back-known, back-ahead}
 use Rattle.job_store.proofs.shelves.Shelves.go_back.Goals as goal
 
 pub sweep-requires-clause-placed : goal.sweep-requires-clause-placed

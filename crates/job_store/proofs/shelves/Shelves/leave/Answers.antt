@@ -1,6 +1,6 @@
 use Rattle.std.proofs.Common.{refl, ap, ◌∙◌, ◌++◌, ◌∷◌, []}
 use Rattle.job_store.specs.declared.label.Label.{Label}
-use Rattle.job_store.proofs.Shelving.{same-grown, same-doubt, more-listed}
+use Rattle.job_store.proofs.shelving.Shelving.{same-grown, same-doubt, more-listed}
 use Rattle.job_store.proofs.shelves.Shelves.leave.Goals as goal
 
 pub returns-clause-grown : goal.returns-clause-grown

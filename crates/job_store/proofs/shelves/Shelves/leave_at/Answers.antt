@@ -1,7 +1,7 @@
 use Rattle.std.proofs.Common.{◌≡◌, Some, ◌++◌, ◌∷◌, [], ap, ◌∙◌}
 use Rattle.job_store.specs.declared.job.Job.{Job}
 use Rattle.job_store.specs.Spots.{spot_of}
-use Rattle.job_store.proofs.Shelving.{last-listed}
+use Rattle.job_store.proofs.shelving.Shelving.{last-listed}
 use Rattle.job_store.proofs.shelves.Shelves.leave_at.Goals as goal
 
 pub returns-in_ok-leave-clause-ok : goal.returns-in_ok-leave-clause-ok

@@ -1,5 +1,5 @@
 use Rattle.std.proofs.Common.{rules, ◌≡◌, [], subst, sym}
-use Rattle.job_store.proofs.Shelving.{ArePut, none-put, one-put, all-put}
+use Rattle.job_store.proofs.shelving.Shelving.{ArePut, none-put, one-put, all-put}
 use Rattle.job_store.proofs.shelves.Shelves.of.Goals as goal
 
 pub loop-id-init : goal.loop-id-init

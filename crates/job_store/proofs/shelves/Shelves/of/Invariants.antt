@@ -1,4 +1,4 @@
-use Rattle.job_store.proofs.Shelving.{ArePut}
+use Rattle.job_store.proofs.shelving.Shelving.{ArePut}
 use Rattle.job_store.proofs.shelves.Shelves.of.Given as goal
 
 abbrev pub invariant-loop-id : goal.invariant-loop-id

@@ -1,6 +1,6 @@
 use Rattle.std.proofs.Common.{refl}
 use Rattle.job_store.specs.declared.label.Label.{Label}
-use Rattle.job_store.proofs.Shelving.{same-grown, more-listed, listed-put-grown, listed-put-doubt}
+use Rattle.job_store.proofs.shelving.Shelving.{same-grown, more-listed, listed-put-grown, listed-put-doubt}
 use Rattle.job_store.proofs.shelves.Shelves.put.Goals as goal
 
 pub returns-in_err-copy-2-clause-grown : goal.returns-in_err-copy-2-clause-grown

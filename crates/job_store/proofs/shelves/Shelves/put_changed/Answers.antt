@@ -1,4 +1,4 @@
-use Rattle.job_store.proofs.Shelving.{grown-twice, doubt-twice, changed-only, changed-come, changed-went}
+use Rattle.job_store.proofs.shelving.Shelving.{grown-twice, doubt-twice, changed-only, changed-come, changed-went}
 use Rattle.job_store.proofs.shelves.Shelves.put_changed.Goals as goal
 
 pub returns-in_err-put-clause-grown : goal.returns-in_err-put-clause-grown

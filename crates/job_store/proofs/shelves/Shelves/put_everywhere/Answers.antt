@@ -1,6 +1,6 @@
 use Rattle.job_store.specs.ShelfStates.{IsFound}
 use Rattle.job_store.specs.Spots.{at_spot}
-use Rattle.job_store.proofs.Everywhere.{put-twice, found-put, come-found, everywhere}
+use Rattle.job_store.proofs.shelving.Everywhere.{put-twice, found-put, come-found, everywhere}
 use Rattle.job_store.proofs.shelves.Shelves.put_everywhere.Goals as goal
 
 pub returns-in_err-put_on-2-clause-put : goal.returns-in_err-put_on-2-clause-put

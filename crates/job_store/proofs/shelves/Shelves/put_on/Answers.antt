@@ -2,7 +2,7 @@ use Rattle.std.proofs.Common.{[], refl, sym, ap, ◌∙◌}
 use Rattle.job_store.specs.declared.label.Label.{Label}
 use Rattle.job_store.specs.Spots.{at_spot}
 use Rattle.job_store.specs.Shelves.{belongs, number}
-use Rattle.job_store.proofs.ShelfFields.{only-ready, only-delayed, only-buried, only-held, only-scheduled, only-reserved, put-at}
+use Rattle.job_store.proofs.shelving.ShelfFields.{only-ready, only-delayed, only-buried, only-held, only-scheduled, only-reserved, put-at}
 use Rattle.job_store.proofs.shelves.Shelves.put_on.Goals as goal
 
 pub returns-in-Ready-clause-put : goal.returns-in-Ready-clause-put

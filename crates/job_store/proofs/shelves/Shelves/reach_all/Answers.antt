@@ -2,7 +2,7 @@ use Rattle.std.proofs.Common.{◌≡◌, [], ◌++◌, rules, ap, refl, ◌∙�
 use Rattle.std.proofs.lemmas.List.{append-nil}
 use Rattle.std.specs.Option.{option_to_list}
 use Rattle.job_store.specs.declared.label.Label.{Label}
-use Rattle.job_store.proofs.Shelving.{none-reached, reach-step, all-reached}
+use Rattle.job_store.proofs.shelving.Shelving.{none-reached, reach-step, all-reached}
 use Rattle.job_store.proofs.shelves.Shelves.reach_all.Goals as goal
 
 pub loop-id-init : goal.loop-id-init

@@ -1,5 +1,5 @@
 use Rattle.std.proofs.Common.{length}
-use Rattle.job_store.proofs.Shelving.{AreReached}
+use Rattle.job_store.proofs.shelving.Shelving.{AreReached}
 use Rattle.job_store.proofs.shelves.Shelves.reach_all.Given as goal
 
 abbrev pub invariant-loop-id : goal.invariant-loop-id

@@ -1,6 +1,6 @@
 use Rattle.job_store.specs.Spots.{at_spot}
 use Rattle.job_store.specs.ShelfStates.{IsFrom}
-use Rattle.job_store.proofs.Everywhere.{back-twice, everywhere}
+use Rattle.job_store.proofs.shelving.Everywhere.{back-twice, everywhere}
 use Rattle.job_store.proofs.shelves.Shelves.reach_everywhere.Goals as goal
 
 pub returns-clause-back : goal.returns-clause-back

@@ -1,6 +1,6 @@
 use Rattle.std.proofs.Common.{refl}
 use Rattle.job_store.specs.declared.label.Label.{Label}
-use Rattle.job_store.proofs.ShelfFields.{only-ready, only-delayed, only-buried, only-held, only-scheduled, only-reserved, reach-at}
+use Rattle.job_store.proofs.shelving.ShelfFields.{only-ready, only-delayed, only-buried, only-held, only-scheduled, only-reserved, reach-at}
 use Rattle.job_store.proofs.shelves.Shelves.reach_on.Goals as goal
 
 pub returns-in-Ready-clause-back : goal.returns-in-Ready-clause-back

@@ -1,7 +1,7 @@
 use Rattle.std.proofs.Common.{refl}
 use Rattle.job_store.specs.declared.label.Label.{Label}
-use Rattle.job_store.proofs.Shelving.{settled-twice}
-use Rattle.job_store.proofs.ShelfFields.{only-held, only-scheduled, settle-at, settle-ready, settle-delayed, settle-buried, settle-reserved}
+use Rattle.job_store.proofs.shelving.Shelving.{settled-twice}
+use Rattle.job_store.proofs.shelving.ShelfFields.{only-held, only-scheduled, settle-at, settle-ready, settle-delayed, settle-buried, settle-reserved}
 use Rattle.job_store.proofs.shelves.Shelves.settle.Goals as goal
 
 pub returns-in-Ready : goal.returns-in-Ready

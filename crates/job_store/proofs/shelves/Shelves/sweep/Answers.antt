@@ -2,7 +2,7 @@ use Rattle.std.proofs.Common.{◌≡◌, [], ◌++◌, rules, ap, ap₂, refl, �
 use Rattle.std.proofs.lemmas.List.{append-nil}
 use Rattle.std.specs.Option.{option_to_list}
 use Rattle.job_store.specs.declared.label.Label.{Label}
-use Rattle.job_store.proofs.Shelving.{sweep-begins, sweep-step, placed-same, known-none, ahead-same}
+use Rattle.job_store.proofs.shelving.Shelving.{sweep-begins, sweep-step, placed-same, known-none, ahead-same}
 use Rattle.job_store.proofs.shelves.Shelves.sweep.Goals as goal
 
 pub loop-id-init : goal.loop-id-init

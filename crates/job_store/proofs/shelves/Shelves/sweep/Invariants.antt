@@ -1,5 +1,5 @@
 use Rattle.std.proofs.Common.{length}
-use Rattle.job_store.proofs.Shelving.{IsSwept}
+use Rattle.job_store.proofs.shelving.Shelving.{IsSwept}
 use Rattle.job_store.proofs.shelves.Shelves.sweep.Given as goal
 
 abbrev pub invariant-loop-id : goal.invariant-loop-id

@@ -1,5 +1,5 @@
 use Rattle.job_store.specs.Spots.{at_spot}
-use Rattle.job_store.proofs.Everywhere.{taken-twice, ahead-taken, gone-everywhere}
+use Rattle.job_store.proofs.shelving.Everywhere.{taken-twice, ahead-taken, gone-everywhere}
 use Rattle.job_store.proofs.shelves.Shelves.take_everywhere.Goals as goal
 
 pub returns-clause-taken : goal.returns-clause-taken

@@ -4,8 +4,8 @@ use Rattle.job_store.specs.declared.job.Job.{Job}
 use Rattle.job_store.specs.declared.label.Label.{Label}
 use Rattle.job_store.specs.Spots.{at_spot}
 use Rattle.job_store.specs.Shelves.{number, BelongsAt, places}
-use Rattle.job_store.proofs.Shelving.{untaken, only-place}
-use Rattle.job_store.proofs.ShelfFields.{only-ready, only-delayed, only-buried, only-held, only-scheduled, only-reserved, take-at}
+use Rattle.job_store.proofs.shelving.Shelving.{untaken, only-place}
+use Rattle.job_store.proofs.shelving.ShelfFields.{only-ready, only-delayed, only-buried, only-held, only-scheduled, only-reserved, take-at}
 use Rattle.job_store.proofs.shelves.Shelves.take_from.Goals as goal
 
 pub returns-in-Ready-clause-taken : goal.returns-in-Ready-clause-taken

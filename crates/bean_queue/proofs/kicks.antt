@@ -1,0 +1,5 @@
+-- Which jobs a kick makes ready.
+pub mod KickCount
+pub mod KickFirst
+pub mod Kicks
+pub mod ReadyAgain

@@ -1,0 +1,4 @@
+-- Which tubes there are.
+pub mod TubeSets
+pub mod TubeLists
+pub mod Named

@@ -1,0 +1,3 @@
+-- Names of tubes, and sets of them.
+pub mod Names
+pub mod NameSets
