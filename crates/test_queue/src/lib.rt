@@ -1,0 +1,7 @@
+//! Worked rows of jobs, and both queues side by side. The expected values were worked out by hand.
+#![tactic(auto)]
+
+#[cfg(test)]
+mod job_rows;
+#[cfg(test)]
+mod queue_draws;
