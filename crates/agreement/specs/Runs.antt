@@ -1,5 +1,5 @@
 -- Lists of events, and the worlds that they reach.
-use Rattle.std.specs.Prelude.{◌≤◌, List, [], ◌∷◌, ◌++◌}
+use Rattle.std.specs.Prelude.{ℕ, ◌≤◌, ◌^◌, List, [], ◌∷◌, ◌++◌}
 use Rattle.agreement.specs.declared.event.Event.{Event}
 use Rattle.object.specs.Objects.{Rules}
 use Rattle.agreement.specs.Worlds.{World, opening}
