@@ -41,7 +41,7 @@ module _ (laws : BallotLaws) {O Op Reply : Type 0} (rules : Rules O Op Reply) wh
   -- an event that leaves the reach and the noted keys
   pub next_noted : (v w : World Op Reply) → v ≡ w → (e : Event Op) (u : World Op Reply) (keys : List Key) → IsNoted rules v keys → w.taken < most_events → u.taken ≡ v.taken + 1 → u.reach ≡ v.reach → Step rules v e u → IsNoted rules u keys
   next_noted v w is e u keys i room count reach s = record {
-    world = next_world v w is e u i.world room count s;
+    world = next_world laws rules v w is e u i.world room count s;
     noted = noted_stays v u (step_sound laws rules v e u (reachable_sound laws rules v i.world.reachable) s).grows keys i.noted reach;
   }
 

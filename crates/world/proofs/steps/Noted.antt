@@ -16,6 +16,7 @@ use Rattle.world.specs.Kept.{HasNoted, IsNoted, key_past}
 use Rattle.agreement.proofs.chosen.Invariants.{IsSound}
 use Rattle.agreement.proofs.chosen.Grows.{Grows}
 use Rattle.agreement.proofs.answered.Told.{AllWithin}
+use Rattle.agreement.proofs.answered.Reaching.{reached_stays, reached_more, past_when, within_when}
 
 pub opening_noted : {Op Reply : Type 0} (members : List ℕ) → HasNoted {Op = Op} {Reply = Reply} (opening members) []
 opening_noted members = ([], record { chosen = tt; count = refl }, refl)
