@@ -3,7 +3,7 @@ use Rattle.std.specs.Prelude.{◌≡◌, ℕ, Bool, true, false, List, ◌++◌,
 use Rattle.std.specs.Fmt.{decimal}
 use Rattle.bean_queue.specs.declared.op.Op.{Op}
 use Rattle.bean_queue.specs.declared.reply.Reply.{Reply}
-use Rattle.chronicle.specs.Chronicles.{Chronicle}
+use Rattle.recorder.specs.Chronicles.{Chronicle}
 use Rattle.chronicle.specs.Checking.{IsFaultless}
 use Rattle.chronicle.specs.CheckFaults.{IsFaultAt}
 use Rattle.chronicle.specs.Dump.{dump_text}

@@ -20,6 +20,7 @@ use crate::laws::no_fault_in_a_dump;
 use crate::seconds::ClockSeconds;
 use crate::words::ServerOptions;
 use bean_queue::Queue;
+use chronicle::WriteText;
 use hall::Hall;
 use node_threads::{Actor, Ended, Gate, Point, run_cluster};
 use session::{ByteOut, write_all};

@@ -18,7 +18,7 @@ use Rattle.bean_queue.specs.Queue.{fresh}
 use Rattle.bean_queue.specs.declared.op.Op.{Op}
 use Rattle.bean_queue.specs.declared.reply.Reply.{Reply}
 use Rattle.chronicle.specs.Checking.{IsGivenBy, ordered_commands}
-use Rattle.chronicle.specs.Chronicles.{Chronicle}
+use Rattle.recorder.specs.Chronicles.{Chronicle}
 use Rattle.chronicle.specs.Replaying.{placed}
 use Rattle.chronicle.specs.declared.replay.Given.{Given}
 use Rattle.std.proofs.lemmas.Bool.{false≢true}

@@ -17,11 +17,11 @@ use Rattle.chronicle.specs.declared.entry.Entry.{Entry}
 use Rattle.chronicle.specs.declared.entry.Entry.TheVariants.{Version, Members, Weights, Submitted, Answered, Placed, End}
 use Rattle.chronicle.specs.declared.version.Version.{Version as Form}
 use Rattle.chronicle.specs.declared.version.Version.TheVariants.{One, Two}
-use Rattle.chronicle.specs.Chronicles.{Chronicle}
+use Rattle.recorder.specs.Chronicles.{Chronicle}
 use Rattle.chronicle.specs.Drafts.{next}
 use Rattle.chronicle.specs.Dump.{version_of}
 use Rattle.chronicle.specs.Entries.{IsEntryValue}
-use Rattle.chronicle.specs.Growing.{begun, submitted_last, answered_last}
+use Rattle.recorder.specs.Growing.{begun, submitted_last, answered_last}
 use Rattle.chronicle.specs.Happenings.{Happening, happenings}
 use Rattle.chronicle.specs.Happenings.Happening.{Submitted as WasSubmitted, Answered as WasAnswered}
 use Rattle.chronicle.specs.Values.{IsChronicleValue}

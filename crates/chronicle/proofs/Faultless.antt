@@ -17,7 +17,7 @@ use Rattle.object.specs.declared.command.Submission.{Submission}
 use Rattle.bean_queue.specs.Places.{queue_replay}
 use Rattle.bean_queue.specs.declared.op.Op.{Op}
 use Rattle.bean_queue.specs.declared.reply.Reply.{Reply}
-use Rattle.chronicle.specs.Chronicles.{Chronicle}
+use Rattle.recorder.specs.Chronicles.{Chronicle}
 use Rattle.chronicle.specs.Checking.{ordered_commands, IsAbove, IsRightPlace, IsRightLine, IsFirstOfKey, IsFaultless}
 use Rattle.bean_queue.specs.Effects.{queue_rules}
 use Rattle.chronicle.specs.Happenings.{Happening, happenings, happenings_from, came_at, moment}

@@ -11,8 +11,9 @@ use Rattle.object.specs.declared.command.Submission.{Submission}
 use Rattle.object.specs.Happenings.{ComeInOrder}
 use Rattle.bean_queue.specs.declared.op.Op.{Op}
 use Rattle.bean_queue.specs.declared.reply.Reply.{Reply}
-use Rattle.chronicle.specs.Chronicles.{Chronicle, IsChronicle}
-use Rattle.chronicle.specs.Growing.{begun, submitted_last, answered_last, placed_last}
+use Rattle.recorder.proofs.Grown.{begun_is, submitted_is, answered_is, placed_is}
+use Rattle.recorder.specs.Chronicles.{Chronicle, IsChronicle}
+use Rattle.recorder.specs.Growing.{begun, submitted_last, answered_last, placed_last}
 use Rattle.chronicle.specs.Happenings.{came_at, moment, happenings, happenings_from}
 use Rattle.chronicle.specs.Happenings.Happening.{Submitted, Answered}
 use Rattle.chronicle.specs.Values.{IsChronicleValue, IsCommandValue, IsAnswerValue, IsKeyValue}
@@ -65,53 +66,11 @@ answered_from given submitted (b ∷ more) a within =
 pub happens_answered : {Op Reply : Type 0} (a : Answer Reply) (c : Chronicle Op Reply) → IsChronicle c → happenings c.submitted (answered_last a c).answers ≡ happenings c.submitted c.answers ++ (Answered a ∷ [])
 happens_answered a c is = answered_from 0 c.submitted c.answers a (λ s i. let h = is.timeline.within s i in omega arith)
 
--- ---- it is a chronicle
-
-in_last : {A : Type 0} (xs : List A) (x y : A) → In y (xs ++ (x ∷ [])) → In y xs ⊎ (y ≡ x)
-in_last [] x y (inl same) = inr same
-in_last [] x y (inr more) = absurd more
-in_last (z ∷ xs) x y (inl same) = inl (inl same)
-in_last (z ∷ xs) x y (inr more) = elim (in_last xs x y more) as (λ v. In y (z ∷ xs) ⊎ (y ≡ x)) [ inl i ↦ inl (inr i) | inr same ↦ inr same ]
-
-ordered_last : {Op : Type 0} (submitted : List (Submission Op)) (s : Submission Op) → ComeInOrder submitted → ((t : Submission Op) → In t submitted → t.after ≤ s.after) → ComeInOrder (submitted ++ (s ∷ []))
-ordered_last [] s ordered before = ((λ t i. absurd i), tt)
-ordered_last (u ∷ submitted) s ordered before = (
-  (λ t i. elim (in_last submitted s t i) as (λ v. u.after ≤ t.after) [
-    | inl k ↦ ordered.0 t k
-    | inr same ↦ subst (λ (w : Submission _). u.after ≤ w.after) (sym same) (before u (inl refl))
-  ]),
-  ordered_last submitted s ordered.1 (λ t i. before t (inr i)),
-)
-
-pub submitted_is : {Op Reply : Type 0} (command : Command Op) (c : Chronicle Op Reply) → IsChronicle c → IsChronicle (submitted_last command c)
-submitted_is command c is =
-    let s : Submission _ = record { command = command; after = length c.answers } in
-    record {
-      members = is.members;
-      timeline = record {
-        ordered = ordered_last c.submitted s is.timeline.ordered is.timeline.within;
-        within = λ t i. elim (in_last c.submitted s t i) as (λ v. t.after ≤ length c.answers) [
-          | inl k ↦ is.timeline.within t k
-          | inr same ↦ subst (λ (w : Submission _). w.after ≤ length c.answers) (sym same) (omega arith)
-        ];
-      };
-    }
-
-pub answered_is : {Op Reply : Type 0} (a : Answer Reply) (c : Chronicle Op Reply) → IsChronicle c → IsChronicle (answered_last a c)
-answered_is a c is = record {
-  members = is.members;
-  timeline = record { ordered = is.timeline.ordered; within = λ t i. let h = is.timeline.within t i in omega (arith, length-append c.answers (a ∷ [])) };
-}
-
-pub placed_is : {Op Reply : Type 0} (key : Key) (c : Chronicle Op Reply) → IsChronicle c → IsChronicle (placed_last key c)
-placed_is key c is = record { members = is.members; timeline = is.timeline }
+-- ---- what it is
 
 all_last : {A : Type 0} (P : A → Type 0) (xs : List A) (x : A) → AllByRecursion P xs → P x → AllByRecursion P (xs ++ (x ∷ []))
 all_last P [] x h p = (p, tt)
 all_last P (y ∷ xs) x h p = (h.0, all_last P xs x h.1 p)
-
-pub begun_is : {Op Reply : Type 0} (ws : List ℕ) → IsMembers ws → IsChronicle {Op = Op} {Reply = Reply} (begun ws)
-begun_is ws is = record { members = is; timeline = record { ordered = tt; within = λ s i. absurd i } }
 
 pub begun_value : (ws : List ℕ) → IsMembers ws → IsChronicleValue (begun ws)
 begun_value ws is = record {

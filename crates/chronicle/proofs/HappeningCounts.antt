@@ -4,7 +4,7 @@ use Rattle.std.proofs.lemmas.List.{length-append, length-map, length-take-le}
 use Rattle.object.specs.Happenings.{IsTimeline}
 use Rattle.object.specs.declared.command.Answer.{Answer}
 use Rattle.object.specs.declared.command.Submission.{Submission}
-use Rattle.chronicle.proofs.Between.{ComeBetween, after_first, between_rest, between_timeline, least, most}
+use Rattle.recorder.proofs.Between.{ComeBetween, after_first, between_rest, between_timeline, least, most}
 use Rattle.chronicle.proofs.InTime.{comes, answers_first, answers_last}
 use Rattle.chronicle.specs.Happenings.{Happening, happenings, happenings_from}
 use Rattle.chronicle.specs.Happenings.Happening.{Answered}

@@ -1,4 +1,3 @@
-pub mod Between
 pub mod InTime
 pub mod Texts
 pub mod Words

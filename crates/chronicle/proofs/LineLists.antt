@@ -12,7 +12,7 @@ use Rattle.bean_queue.specs.declared.reply.Reply.{Reply}
 use Rattle.chronicle.specs.declared.version.Version.{Version}
 use Rattle.chronicle.specs.declared.version.Version.TheVariants.{One, Two}
 use Rattle.chronicle.specs.Acts.{act_words}
-use Rattle.chronicle.specs.Chronicles.{Chronicle}
+use Rattle.recorder.specs.Chronicles.{Chronicle}
 use Rattle.chronicle.specs.Dump.{submission_line, answer_line, order_line, happening_line, version_word, version_line, members_line, weights_line, version_of, head_of, head_lines, end_line, dump_text}
 use Rattle.chronicle.specs.Fits.{FitsKey, FitsCommand, FitsAnswer}
 use Rattle.chronicle.specs.Happenings.{Happening, happenings}

@@ -21,13 +21,13 @@ use Rattle.bean_queue.specs.declared.op.Op.{Op}
 use Rattle.bean_queue.specs.declared.reply.Reply.{Reply}
 use Rattle.chronicle.specs.Checking.{IsAbove, AreRightPlaces}
 use Rattle.chronicle.specs.CheckFaults.{IsWrongPlace, IsWrongOrder}
-use Rattle.chronicle.specs.Chronicles.{Chronicle}
+use Rattle.recorder.specs.Chronicles.{Chronicle}
 use Rattle.chronicle.specs.Dump.{first_line}
 use Rattle.chronicle.specs.Happenings.{happenings}
 use Rattle.chronicle.specs.Replaying.{placed, queue_after, queue_answers}
 use Rattle.chronicle.specs.declared.replay.Given.{Given}
 use Rattle.chronicle.specs.declared.check_fault.What.{What}
-use Rattle.chronicle.proofs.Between.{drop_item}
+use Rattle.recorder.proofs.Between.{drop_item}
 use Rattle.chronicle.proofs.EndCuts.{no_places, more_places}
 use Rattle.chronicle.proofs.Legal.{command_at, commands_of}
 

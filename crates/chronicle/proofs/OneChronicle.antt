@@ -7,12 +7,12 @@ use Rattle.object.specs.declared.command.Key.{Key}
 use Rattle.object.specs.declared.command.Submission.{Submission}
 use Rattle.bean_queue.specs.declared.op.Op.{Op}
 use Rattle.bean_queue.specs.declared.reply.Reply.{Reply}
-use Rattle.chronicle.specs.Chronicles.{Chronicle, IsChronicle}
+use Rattle.recorder.specs.Chronicles.{Chronicle, IsChronicle}
 use Rattle.chronicle.specs.Dump.{version_of, dump_text}
 use Rattle.chronicle.specs.Fits.{FitsChronicle, FitsCommand, FitsAnswer}
 use Rattle.chronicle.specs.Happenings.{Happening, happenings, happenings_from, moment, came_at}
 use Rattle.chronicle.specs.Happenings.Happening.{Submitted, Answered}
-use Rattle.chronicle.proofs.Between.{ComeBetween, between_timeline, between_rest, after_first, least, most}
+use Rattle.recorder.proofs.Between.{ComeBetween, between_timeline, between_rest, after_first, least, most}
 use Rattle.chronicle.proofs.InTime.{comes, answers_first, answers_last}
 use Rattle.chronicle.proofs.LineLists.{Line, lines, PlainLine, one_text, dump_is, FitsHappening, happened, tail_lines, happened_back, ordered, ordered_back, head_happened, head_ordered, weights, weights_back, lines_plain}
 

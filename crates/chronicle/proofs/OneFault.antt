@@ -8,7 +8,7 @@ use Rattle.chronicle.specs.declared.check_fault.What.{What}
 use Rattle.chronicle.specs.declared.check_fault.What.TheVariants.{NotSubmitted, NotKept, SubmittedTwice, PlacedTooEarly, NotTheQueuesAnswer}
 use Rattle.chronicle.specs.Checking.{IsRightPlace, IsRightLine, AreRightPlaces, IsFaultless}
 use Rattle.chronicle.specs.CheckFaults.{IsWrongPlace, IsWrongLine, IsWrongOrder, IsWrongHappening, IsFaultAt}
-use Rattle.chronicle.specs.Chronicles.{Chronicle}
+use Rattle.recorder.specs.Chronicles.{Chronicle}
 use Rattle.chronicle.specs.Dump.{first_line}
 use Rattle.chronicle.specs.Happenings.{Happening, happenings}
 use Rattle.chronicle.specs.Happenings.Happening.{Submitted, Answered}

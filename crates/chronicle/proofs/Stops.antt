@@ -12,7 +12,7 @@ use Rattle.chronicle.specs.declared.entry.Entry.{Entry}
 use Rattle.chronicle.specs.declared.entry.Entry.TheVariants.{Placed, End}
 use Rattle.chronicle.specs.declared.version.Version.{Version}
 use Rattle.chronicle.specs.declared.version.Version.TheVariants.{One, Two}
-use Rattle.chronicle.specs.Chronicles.{Chronicle}
+use Rattle.recorder.specs.Chronicles.{Chronicle}
 use Rattle.chronicle.specs.Drafts.{next}
 use Rattle.chronicle.specs.Dump.{version_of, head_of, head_lines, submission_line, answer_line, happening_line, order_line, end_line, dump_text}
 use Rattle.chronicle.specs.Entries.{entry_line, IsEntryValue}

@@ -13,7 +13,7 @@ use Rattle.bean_queue.specs.declared.reply.Reply.{Reply}
 use Rattle.chronicle.specs.Dump.{submission_line, answer_line, happening_line}
 use Rattle.chronicle.specs.Happenings.{happenings_from}
 use Rattle.chronicle.specs.Happenings.Happening.{Submitted, Answered}
-use Rattle.chronicle.proofs.Between.{ComeBetween, after_first}
+use Rattle.recorder.proofs.Between.{ComeBetween, after_first}
 use Rattle.chronicle.proofs.InTime.{comes, answers_first, answers_last}
 
 -- what stood in front of a longer front stands in front

@@ -9,7 +9,7 @@ use Rattle.object.specs.declared.command.Submission.{Submission}
 use Rattle.bean_queue.specs.declared.op.Op.{Op}
 use Rattle.bean_queue.specs.declared.op.Op.TheVariants.{Put, Use, Watch, Ignore, Reserve, Delete, Touch, Release, Bury, Kick, KickJob, Peek, PeekReady, PeekDelayed, PeekBuried, ListTubes, ListTubeUsed, ListTubesWatched, Pause}
 use Rattle.bean_queue.specs.declared.reply.Reply.{Reply}
-use Rattle.chronicle.specs.Chronicles.{Chronicle}
+use Rattle.recorder.specs.Chronicles.{Chronicle}
 use Rattle.chronicle.specs.Dump.{dump_text}
 use Rattle.chronicle.specs.Fits.{FitsAct, FitsAnswer, FitsChronicle, FitsCommand, FitsKey, FitsOp}
 use Rattle.chronicle.specs.Values.{IsActValue, IsAnswerValue, IsChronicleValue, IsCommandValue, IsKeyValue, IsOpValue, IsShort, IsLong}

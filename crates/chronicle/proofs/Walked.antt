@@ -22,7 +22,7 @@ use Rattle.bean_queue.specs.declared.op.Op.{Op}
 use Rattle.bean_queue.specs.declared.reply.Reply.{Reply}
 use Rattle.chronicle.specs.CheckFaults.{IsWrongLine, IsWrongHappening}
 use Rattle.chronicle.specs.Checking.{IsGivenBy, IsFirstOfKey, IsPlacedLater, IsRightLine, AreRightPlaces, AreRightLines, ordered_commands}
-use Rattle.chronicle.specs.Chronicles.{Chronicle, IsChronicle}
+use Rattle.recorder.specs.Chronicles.{Chronicle, IsChronicle}
 use Rattle.chronicle.specs.Dump.{first_line}
 use Rattle.chronicle.specs.Happenings.{Happening, happenings, happenings_from}
 use Rattle.chronicle.specs.Happenings.Happening.{Submitted, Answered}
@@ -34,7 +34,7 @@ use Rattle.chronicle.specs.declared.check_fault.What.TheVariants.{NotSubmitted, 
 use Rattle.chronicle.specs.declared.walk.Replayed.{Replayed}
 use Rattle.chronicle.specs.declared.walk.Walk.{Walk}
 use Rattle.chronicle.proofs.Answered.{one_place_each, answers}
-use Rattle.chronicle.proofs.Between.{drop_item}
+use Rattle.recorder.proofs.Between.{drop_item}
 use Rattle.chronicle.proofs.EndCuts.{no_lines, more_lines}
 use Rattle.chronicle.proofs.FirstPlaces.{first_at}
 use Rattle.chronicle.proofs.HappeningCounts.{happenings_count}

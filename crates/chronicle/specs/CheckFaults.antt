@@ -10,7 +10,7 @@ use Rattle.chronicle.specs.declared.check_fault.CheckFault.TheVariants.{OutOfMem
 use Rattle.chronicle.specs.declared.check_fault.What.{What}
 use Rattle.chronicle.specs.declared.check_fault.What.TheVariants.{NotSubmitted, NotKept, SubmittedTwice, PlacedTooEarly, NotTheQueuesAnswer}
 use Rattle.chronicle.specs.Checking.{IsGivenBy, IsAbove, IsFirstOfKey, IsPlacedLater, AreRightPlaces, AreRightLines}
-use Rattle.chronicle.specs.Chronicles.{Chronicle}
+use Rattle.recorder.specs.Chronicles.{Chronicle}
 use Rattle.chronicle.specs.Dump.{first_line}
 use Rattle.chronicle.specs.Happenings.{Happening, happenings}
 use Rattle.chronicle.specs.Happenings.Happening.{Submitted, Answered}

@@ -6,7 +6,7 @@ use Rattle.chronicle.specs.declared.draft.ChronicleDraft.TheVariants.{Start, Hea
 use Rattle.chronicle.specs.declared.entry.Entry.{Entry}
 use Rattle.chronicle.specs.declared.entry.Entry.TheVariants.{Version, Members, Weights, Submitted, Answered, Placed, End}
 use Rattle.chronicle.specs.declared.version.Version.TheVariants.{One, Two}
-use Rattle.chronicle.specs.Growing.{begun, submitted_last, answered_last, placed_last}
+use Rattle.recorder.specs.Growing.{begun, submitted_last, answered_last, placed_last}
 
 -- the draft with one line more, if this line may come next
 abbrev pub next : ChronicleDraft → Entry → Option ChronicleDraft

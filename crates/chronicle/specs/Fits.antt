@@ -7,7 +7,7 @@ use Rattle.object.specs.declared.command.Key.{Key}
 use Rattle.object.specs.declared.command.Submission.{Submission}
 use Rattle.bean_queue.specs.declared.op.Op.{Op}
 use Rattle.bean_queue.specs.declared.reply.Reply.{Reply}
-use Rattle.chronicle.specs.Chronicles.{Chronicle}
+use Rattle.recorder.specs.Chronicles.{Chronicle}
 use Rattle.chronicle.specs.Sizes.{HasKeySizes, HasOpSizes, HasActSizes}
 use Rattle.chronicle.specs.Values.{IsLong, IsReplyValue}
 

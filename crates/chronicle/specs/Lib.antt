@@ -1,4 +1,3 @@
-pub mod Chronicles
 pub mod Happenings
 pub mod Lines
 pub mod Acts
@@ -9,7 +8,6 @@ pub mod Values
 pub mod Fits
 pub mod Entries
 pub mod Told
-pub mod Growing
 pub mod Drafts
 pub mod Reading
 pub mod Faults

@@ -3,7 +3,7 @@ use Rattle.std.specs.Prelude.{◌≡◌, ℕ, suc, List, [], ◌∷◌, ◌++◌
 use Rattle.object.specs.Lists.{IsBeginning}
 use Rattle.bean_queue.specs.declared.op.Op.{Op}
 use Rattle.bean_queue.specs.declared.reply.Reply.{Reply}
-use Rattle.chronicle.specs.Chronicles.{Chronicle}
+use Rattle.recorder.specs.Chronicles.{Chronicle}
 use Rattle.chronicle.specs.Dump.{head_lines, happening_line, order_line, end_line, dump_text}
 use Rattle.chronicle.specs.Happenings.{happenings}
 use Rattle.chronicle.specs.Lines.{text_of_lines}

@@ -16,7 +16,7 @@ use Rattle.chronicle.specs.declared.check_fault.CheckFault.TheVariants.{OutOfMem
 use Rattle.chronicle.specs.declared.replay.Given.{Given}
 use Rattle.chronicle.specs.Checking.{ordered_commands}
 use Rattle.chronicle.specs.CheckFaults.{IsWrongOrder}
-use Rattle.chronicle.specs.Chronicles.{Chronicle}
+use Rattle.recorder.specs.Chronicles.{Chronicle}
 
 -- the map has the place of the first item of each key, and nothing else
 abbrev pub HasFirstPlaces : {X : Type 0} → (X → Key) → List X → BTreeMap Key ℕ → Type 0

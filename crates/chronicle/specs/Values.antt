@@ -12,7 +12,7 @@ use Rattle.job_store.specs.Names.{IsName}
 use Rattle.bean_queue.specs.declared.op.Op.{Op}
 use Rattle.bean_queue.specs.declared.reply.Reply.{Reply}
 use Rattle.bean_queue.specs.declared.reply.Reply.TheVariants.{Inserted, Using, Watching, Reserved, KickedCount, Found, Tubes}
-use Rattle.chronicle.specs.Chronicles.{Chronicle, IsChronicle}
+use Rattle.recorder.specs.Chronicles.{Chronicle, IsChronicle}
 use Rattle.chronicle.specs.Sizes.{HasKeySizes, HasOpSizes, HasActSizes}
 use Rattle.hex.specs.Hex.{IsBytes}
 

@@ -19,7 +19,7 @@ use Rattle.chronicle.specs.declared.replay.Given.{Given}
 use Rattle.chronicle.specs.declared.walk.Replayed.{Replayed}
 use Rattle.chronicle.specs.declared.walk.Walk.{Walk}
 use Rattle.chronicle.specs.Checking.{IsGivenBy, AreRightLines}
-use Rattle.chronicle.specs.Chronicles.{Chronicle}
+use Rattle.recorder.specs.Chronicles.{Chronicle}
 use Rattle.chronicle.specs.Happenings.{Happening, happenings, happenings_from}
 use Rattle.chronicle.specs.Happenings.Happening.{Submitted, Answered}
 use Rattle.chronicle.specs.Replaying.{HasFirstPlaces, AreGiven}

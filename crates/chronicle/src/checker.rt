@@ -10,12 +10,12 @@ ghost use Rattle.chronicle.specs.Replaying.{IsOrderFault};
 ghost use Rattle.chronicle.specs.Walks.{IsReplayed};
 
 use crate::check_fault::CheckFault;
-use crate::chronicle::Chronicle;
 use crate::first_places::first_places;
 use crate::laws::faultless_is_legal;
 use crate::replay::obey_order;
 use crate::walk::{Replayed, check_happenings};
 use bean_queue::{Op, Reply};
+use recorder::Chronicle;
 use std::alloc::Global;
 
 /// Whether each line of the chronicle's dump is right; else the fault that is told. No copy of a command is made.

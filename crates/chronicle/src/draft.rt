@@ -2,11 +2,11 @@ ghost use Rattle.std.specs.Prelude.{◌≡◌, IfOk};
 ghost use Rattle.chronicle.specs.Drafts.{next};
 ghost use Rattle.chronicle.specs.Entries.{IsEntryValue};
 
-use crate::chronicle::Chronicle;
 use crate::entry::Entry;
 use crate::version::Version;
 use ballot::Members;
 use bean_queue::{Op, Reply};
+use recorder::Chronicle;
 use std::alloc::{AllocError, Global};
 
 /// A chronicle as it is read, line by line.

@@ -6,7 +6,7 @@ ghost use Rattle.bean_queue.specs.Holds.{IsGivenOnce, IsHeldByOne};
 ghost use Rattle.bean_queue.specs.Places.{queue_places};
 ghost use Rattle.bean_queue.specs.declared.op.Op.{Op};
 ghost use Rattle.bean_queue.specs.declared.reply.Reply.{Reply};
-ghost use Rattle.chronicle.specs.Chronicles.{Chronicle, IsChronicle};
+ghost use Rattle.recorder.specs.Chronicles.{Chronicle, IsChronicle};
 ghost use Rattle.chronicle.specs.Checking.{IsFaultless, ordered_commands};
 ghost use Rattle.bean_queue.specs.Effects.{queue_rules};
 ghost use Rattle.chronicle.specs.CheckFaults.{IsFaultAt};

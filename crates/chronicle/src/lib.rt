@@ -1,4 +1,5 @@
-//! What happened in a run of nodes, and its text.
+//! The text of what happened in a run of nodes: how a chronicle of a queue is written and read, and what is wrong with one.
+//! The chronicle itself is a value of crate `recorder`.
 //!
 //! `specs/Happenings.antt` says in which order submissions and answers came, and `specs/Dump.antt` how a chronicle is
 //! written. `specs/Reading.antt` says which text is read, and where reading stops;
@@ -10,7 +11,6 @@ mod acts;
 mod append;
 mod check_fault;
 mod checker;
-mod chronicle;
 mod draft;
 mod entry;
 mod faults;
@@ -24,16 +24,16 @@ mod tell;
 mod tell_acts;
 mod tell_head;
 mod tell_replies;
-mod timeline;
 mod version;
 mod walk;
 mod writer;
 
 pub use check_fault::{CheckFault, What};
 pub use checker::check;
-pub use chronicle::Chronicle;
 pub use faults::ReadFault;
 pub use laws::{
     faultless_is_legal, legal_is_faultless, one_bad_line, one_chronicle, one_dump, one_fault,
 };
 pub use reader::read_text;
+pub use recorder::Chronicle;
+pub use writer::WriteText;

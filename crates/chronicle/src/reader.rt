@@ -3,12 +3,12 @@ ghost use Rattle.chronicle.specs.Dump.{dump_text};
 ghost use Rattle.chronicle.specs.Values.{IsChronicleValue};
 ghost use Rattle.chronicle.specs.Faults.{IsReadFault};
 
-use crate::chronicle::Chronicle;
 use crate::draft::ChronicleDraft;
 use crate::entry::read_entry;
 use crate::faults::ReadFault;
 use bean_queue::{Op, Reply};
 use bstr::ByteSlice;
+use recorder::Chronicle;
 use std::alloc::Global;
 
 /// The chronicle of a queue whose text this is. It takes time in proportion to the text.

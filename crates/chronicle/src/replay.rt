@@ -7,9 +7,10 @@ ghost use Rattle.chronicle.specs.Happenings.{happenings};
 ghost use Rattle.chronicle.specs.Replaying.{HasFirstPlaces, AreGiven, IsOrderFault, placed, queue_after, queue_answers};
 
 use crate::check_fault::{CheckFault, What};
-use crate::chronicle::Chronicle;
+use crate::version::first_line;
 use bean_queue::{Op, Queue, Reply};
 use object::{Answer, Command, Effect, Key, Keyed, Once, filter_remembers};
+use recorder::Chronicle;
 use std::alloc::{AllocError, Global};
 use std::collections::BTreeMap;
 
@@ -95,5 +96,5 @@ fn first_order_line(chronicle: &Chronicle<Op, Reply>) -> u64
 {
     let _order = chronicle.order().len();
     let happened = chronicle.submitted().len() as u64 + chronicle.answers().len() as u64;
-    chronicle.first_line() + happened
+    first_line(chronicle) + happened
 }

@@ -1,7 +1,9 @@
-ghost use Rattle.std.specs.Prelude.{◌≡◌};
-ghost use Rattle.chronicle.specs.Dump.{version_of};
+ghost use Rattle.std.specs.Prelude.{◌≡◌, ◌≤◌};
+ghost use Rattle.chronicle.specs.Dump.{first_line, version_of};
 
 use ballot::Members;
+use bean_queue::{Op, Reply};
+use recorder::Chronicle;
 
 /// The form of a dump.
 #[derive(Clone, Copy, Debug, PartialEq, Eq)]
@@ -22,5 +24,16 @@ impl Version {
         } else {
             Version::Two
         }
+    }
+}
+
+/// The number of the line in the chronicle's text from which on stands what happened.
+pub(crate) fn first_line(chronicle: &Chronicle<Op, Reply>) -> u64
+    ensures line { result ≡ first_line chronicle.now }
+    ensures few { result ≤ 4 }
+{
+    match Version::of(chronicle.members()) {
+        Version::One => 3,
+        Version::Two => 4,
     }
 }

@@ -4,17 +4,17 @@ ghost use Rattle.object.specs.Keys.{key_cmp};
 ghost use Rattle.object.specs.Lists.{In};
 ghost use Rattle.chronicle.specs.Checking.{AreRightPlaces, AreRightLines};
 ghost use Rattle.chronicle.specs.CheckFaults.{IsWrongHappening};
-ghost use Rattle.chronicle.specs.Chronicles.{IsChronicle};
+ghost use Rattle.recorder.specs.Chronicles.{IsChronicle};
 ghost use Rattle.chronicle.specs.Dump.{first_line};
 ghost use Rattle.chronicle.specs.Happenings.{happenings};
 ghost use Rattle.chronicle.specs.Replaying.{HasFirstPlaces, placed};
 ghost use Rattle.chronicle.specs.Walks.{IsReplayed, HasWalked, IsMisplaced, IsNotGiven, NoneIsDue, IsHappeningFault};
 
 use crate::check_fault::{CheckFault, What};
-use crate::chronicle::Chronicle;
 use crate::replay::Given;
 use bean_queue::{Op, Reply, one_answer};
 use object::{Answer, Key, Submission, Value};
+use recorder::Chronicle;
 use std::collections::BTreeMap;
 
 /// What the lines of submissions and answers are looked up in.
@@ -148,7 +148,7 @@ pub(crate) fn check_happenings(
     ensures kept { IsChronicle chronicle.now }
 {
     let count = chronicle.submitted().len() + chronicle.answers().len();
-    let first_line = chronicle.first_line();
+    let first_line = first_line(chronicle);
     let mut walk = Walk {
         submitted: 0,
         answered: 0,

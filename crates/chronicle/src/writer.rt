@@ -1,6 +1,6 @@
 ghost use Rattle.std.specs.Prelude.{◌≡◌, ◌++◌, take, vec_len, OnOk, OnErr};
 ghost use Rattle.std.specs.List.{AllByRecursion, flat_map};
-ghost use Rattle.chronicle.specs.Chronicles.{IsChronicle};
+ghost use Rattle.recorder.specs.Chronicles.{IsChronicle};
 ghost use Rattle.chronicle.specs.Dump.{answer_line, order_line, happening_line, head_lines, dump_text};
 ghost use Rattle.chronicle.specs.Happenings.{happenings};
 ghost use Rattle.chronicle.specs.Lines.{text_of_lines};
@@ -9,7 +9,6 @@ ghost use Rattle.object.specs.Happenings.{IsTimeline};
 ghost use Rattle.object.specs.declared.command.Submission.{Submission};
 ghost use Rattle.bean_queue.specs.declared.op.Op.{Op};
 
-use crate::chronicle::Chronicle;
 use crate::lines::{
     append_answer, append_end, append_members, append_place, append_submission, append_version,
     append_weights,
@@ -18,11 +17,18 @@ use crate::version::Version;
 use ballot::Members;
 use bean_queue::{Op, Reply};
 use object::{Answer, Key, Submission};
+use recorder::Chronicle;
 use std::alloc::AllocError;
 
-impl Chronicle<Op, Reply> {
+/// What has a text of its own.
+pub trait WriteText {
+    /// Writes the text at the end. Where memory runs out, nothing is written.
+    fn write_text(&self, out: &mut Vec<u8>) -> Result<(), AllocError>;
+}
+
+impl WriteText for Chronicle<Op, Reply> {
     /// Writes the text of the chronicle of a queue at the end. Where memory runs out, nothing is written.
-    pub fn write_text(&self, out: &mut Vec<u8>) -> Result<(), AllocError>
+    fn write_text(&self, out: &mut Vec<u8>) -> Result<(), AllocError>
         ensures ok { OnOk result (out.new.items ≡ out.old.items ++ dump_text self.now) }
         ensures err { OnErr result (out.new.items ≡ out.old.items) }
         ensures value { OnOk result (IsChronicleValue self.now) }

@@ -7,7 +7,7 @@ use Rattle.object.specs.Keys.{found}
 use Rattle.object.specs.Answers.{answered_key}
 use Rattle.object.specs.Happenings.{submitted_key}
 use Rattle.object.specs.Objects.{Rules}
-use Rattle.chronicle.specs.Chronicles.{Chronicle}
+use Rattle.recorder.specs.Chronicles.{Chronicle}
 use Rattle.node.specs.declared.deed.Outcome.{Outcome}
 use Rattle.node.specs.declared.deed.Outcome.TheVariants.{Idle, Done, Performed}
 use Rattle.hall.specs.declared.ticket.NotedAct.{NotedAct}

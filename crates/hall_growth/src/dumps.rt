@@ -1,7 +1,7 @@
 //! Dumps of halls: each is written, read again and checked.
 
 use bean_queue::{Op, Queue, Reply};
-use chronicle::{Chronicle, check, read_text};
+use chronicle::{Chronicle, WriteText, check, read_text};
 use hall::Hall;
 use std::alloc::Global;
 

@@ -6,3 +6,5 @@ pub mod Counts
 pub mod Rows
 pub mod Steps
 pub mod LookUps
+pub mod Between
+pub mod Grown

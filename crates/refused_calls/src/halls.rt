@@ -4,6 +4,7 @@ use crate::outcome::Outcome;
 use crate::subject::{Refusal, Subject, Then, walk};
 use ballot::Members;
 use bean_queue::{Body, Op, Queue};
+use chronicle::WriteText;
 use hall::{Hall, HallError, Ticket};
 use object::{Act, Value};
 use std::alloc::{AllocError, Global};

@@ -7,7 +7,7 @@ use crate::values::{count_of, node_of};
 use anyhow::{Context, Result, bail};
 use ballot::Members;
 use bean_queue::{Op, Queue, Reply};
-use chronicle::Chronicle;
+use chronicle::{Chronicle, WriteText};
 use object::{Answer, Key, Submission};
 use std::alloc::Global;
 use std::mem;

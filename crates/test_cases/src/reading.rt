@@ -3,7 +3,7 @@ use crate::quoted::bytes_of;
 use crate::script::{Stage, tell_line};
 use anyhow::{Context, Result, bail};
 use beanpax::inspect_text;
-use chronicle::{check, read_text};
+use chronicle::{WriteText, check, read_text};
 use std::alloc::Global;
 
 /// A text.

@@ -9,8 +9,8 @@ ghost use Rattle.hall.specs.Tickets.{last_key, with_noted};
 use super::Hall;
 use crate::laws::every_hall;
 use crate::ticket::Ticket;
-use chronicle::Chronicle;
 use object::{Object, Value};
+use recorder::Chronicle;
 use std::alloc::AllocError;
 
 impl<O: Object> Hall<O> {

@@ -7,7 +7,7 @@ use Rattle.chronicle.specs.Values.{IsAnswerValue, IsCommandValue}
 use Rattle.chronicle.proofs.ValueLists.{all_joined, all_next, all_through}
 use Rattle.chronicle.specs.Dump.{submission_line, answer_line, happening_line}
 use Rattle.chronicle.specs.Happenings.{happenings_from}
-use Rattle.chronicle.proofs.Between.{between_timeline, between_rest, drop_item, from_item, least, most}
+use Rattle.recorder.proofs.Between.{between_timeline, between_rest, drop_item, from_item, least, most}
 use Rattle.chronicle.proofs.Texts.{front_kept, lines_from, lines_last, grow, regroup}
 use Rattle.chronicle.proofs.writer.append_happenings.Goals as goal
 

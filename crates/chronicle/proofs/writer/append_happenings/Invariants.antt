@@ -4,7 +4,7 @@ use Rattle.object.specs.declared.command.Submission.{Submission}
 use Rattle.chronicle.specs.Dump.{happening_line}
 use Rattle.chronicle.specs.Happenings.{happenings, happenings_from}
 use Rattle.chronicle.specs.Values.{IsAnswerValue, IsCommandValue}
-use Rattle.chronicle.proofs.Between.{ComeBetween}
+use Rattle.recorder.proofs.Between.{ComeBetween}
 use Rattle.chronicle.proofs.writer.append_happenings.Given as goal
 
 -- what is written and the lines of what is left are all lines

@@ -1,5 +1,5 @@
-use Rattle.chronicle.proofs.Grown.{submitted_is}
-use Rattle.chronicle.proofs.chronicle.Chronicle.submit.Goals as goal
+use Rattle.recorder.proofs.Grown.{submitted_is}
+use Rattle.recorder.proofs.chronicle.Chronicle.submit.Goals as goal
 
 pub invariant_of-self-2 : goal.invariant_of-self-2
 invariant_of-self-2 g c =

@@ -1,11 +1,9 @@
 ghost use Rattle.std.specs.Prelude.{◌≡◌, ◌≤◌, SomeIff, OnOk, OnErr};
-ghost use Rattle.chronicle.specs.Chronicles.{IsChronicle};
-ghost use Rattle.chronicle.specs.Dump.{first_line};
+ghost use Rattle.recorder.specs.Chronicles.{IsChronicle};
 ghost use Rattle.object.specs.Happenings.{IsTimeline};
-ghost use Rattle.chronicle.specs.Growing.{begun, submitted_last, answered_last, placed_last};
+ghost use Rattle.recorder.specs.Growing.{begun, submitted_last, answered_last, placed_last};
 
 use crate::timeline::is_timeline;
-use crate::version::Version;
 use ballot::Members;
 use object::{Answer, Command, Key, Submission, Value};
 use std::alloc::{AllocError, Global};
@@ -25,7 +23,7 @@ pub struct Chronicle<Op: Value, Reply: Value> {
 
 impl<Op: Value, Reply: Value> Model for Chronicle<Op, Reply> {
     ghost use Rattle.std.specs.Coded.{codes};
-    ghost use Rattle.chronicle.specs.Chronicles.{Chronicle, IsChronicle};
+    ghost use Rattle.recorder.specs.Chronicles.{Chronicle, IsChronicle};
 
     ghost Value = { Chronicle Op Reply };
 
@@ -78,7 +76,7 @@ impl<Op: Value, Reply: Value> Chronicle<Op, Reply> {
     }
 
     /// The chronicle of these members before anything happens.
-    pub(crate) fn begin(alloc: Global, members: Members) -> Chronicle<Op, Reply>
+    pub fn begin(alloc: Global, members: Members) -> Chronicle<Op, Reply>
         ensures { result ≡ begun members }
     {
         let _weights = members.weights();
@@ -122,19 +120,8 @@ impl<Op: Value, Reply: Value> Chronicle<Op, Reply> {
         self.order.as_slice()
     }
 
-    /// The number of the line in its text from which on stands what happened.
-    pub(crate) fn first_line(&self) -> u64
-        ensures line { result ≡ first_line self.now }
-        ensures few { result ≤ 4 }
-    {
-        match Version::of(self.members) {
-            Version::One => 3,
-            Version::Two => 4,
-        }
-    }
-
     /// A command more was submitted, after all that happened.
-    pub(crate) fn submit(&mut self, command: Command<Op>) -> Result<(), AllocError>
+    pub fn submit(&mut self, command: Command<Op>) -> Result<(), AllocError>
         ensures ok { OnOk result (self.new ≡ submitted_last command self.old) }
         ensures err { OnErr result (self.new ≡ self.old) }
     {
@@ -146,7 +133,7 @@ impl<Op: Value, Reply: Value> Chronicle<Op, Reply> {
     }
 
     /// An answer more was given, after all that happened.
-    pub(crate) fn answer(&mut self, answer: Answer<Reply>) -> Result<(), AllocError>
+    pub fn answer(&mut self, answer: Answer<Reply>) -> Result<(), AllocError>
         ensures ok { OnOk result (self.new ≡ answered_last answer self.old) }
         ensures err { OnErr result (self.new ≡ self.old) }
     {
@@ -155,7 +142,7 @@ impl<Op: Value, Reply: Value> Chronicle<Op, Reply> {
     }
 
     /// A command more counted, after all others.
-    pub(crate) fn place(&mut self, key: Key) -> Result<(), AllocError>
+    pub fn place(&mut self, key: Key) -> Result<(), AllocError>
         ensures ok { OnOk result (self.new ≡ placed_last key self.old) }
         ensures err { OnErr result (self.new ≡ self.old) }
     {

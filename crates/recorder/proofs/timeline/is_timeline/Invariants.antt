@@ -1,7 +1,7 @@
 use Rattle.std.proofs.Common.{drop, length}
 use Rattle.object.specs.Happenings.{IsTimeline}
-use Rattle.chronicle.proofs.Between.{ComeBetween}
-use Rattle.chronicle.proofs.timeline.is_timeline.Given as goal
+use Rattle.recorder.proofs.Between.{ComeBetween}
+use Rattle.recorder.proofs.timeline.is_timeline.Given as goal
 
 -- the whole is one list in time exactly where the rest goes on from the submission before
 abbrev pub invariant-loop-submission : goal.invariant-loop-submission

@@ -1,9 +1,9 @@
 use Rattle.std.proofs.Common.{◌+◌, drop, length, refl, subst, sym, arith}
 use Rattle.std.proofs.lemmas.Bool.{false≢true}
 use Rattle.std.proofs.lemmas.List.{drop_all}
-use Rattle.chronicle.proofs.Between.{ComeBetween, between_timeline, timeline_between, between_none, between_rest, between_first, from_item, to_item, least, most}
-use Rattle.chronicle.proofs.timeline.is_timeline.Goals.{then-submission-before-via-then-submission-before, then-submission-before-via-else-submission-before+then-submission-given}
-use Rattle.chronicle.proofs.timeline.is_timeline.Goals as goal
+use Rattle.recorder.proofs.Between.{ComeBetween, between_timeline, timeline_between, between_none, between_rest, between_first, from_item, to_item, least, most}
+use Rattle.recorder.proofs.timeline.is_timeline.Goals.{then-submission-before-via-then-submission-before, then-submission-before-via-else-submission-before+then-submission-given}
+use Rattle.recorder.proofs.timeline.is_timeline.Goals as goal
 
 pub loop-submission-init : goal.loop-submission-init
 loop-submission-init g c = record {
