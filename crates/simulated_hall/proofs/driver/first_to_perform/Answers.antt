@@ -7,11 +7,11 @@ use Rattle.simulated_hall.proofs.driver.first_to_perform.Goals as goal
 
 pub loop-before-preserved : goal.loop-before-preserved
 loop-before-preserved g c =
-    none_next c.args.hall.now.nodes.network.members (λ n. is_some (next_decided (node_of c.args.hall.now.nodes.network n).replica)) c.loop-before.before c.loop-before.invariant (sym c.can_perform.ensures ∙ c.if-can_perform.false)
+    none_next c.args.hall.now.nodes.network.members (λ n. is_some (next_decided (node_of c.args.hall.now.nodes.network n).replica)) c.loop-before.before c.loop-before.invariant (sym c.work.ensures.decision ∙ c.if-work.false)
 
-pub returns-then-can_perform : goal.returns-then-can_perform
-returns-then-can_perform g c =
-    passes_first c.args.hall.now.nodes.network.members (λ n. is_some (next_decided (node_of c.args.hall.now.nodes.network n).replica)) c.loop-before.before c.loop-before.invariant (sym c.can_perform.ensures ∙ c.if-can_perform.true)
+pub returns-then-work : goal.returns-then-decision
+returns-then-work g c =
+    passes_first c.args.hall.now.nodes.network.members (λ n. is_some (next_decided (node_of c.args.hall.now.nodes.network n).replica)) c.loop-before.before c.loop-before.invariant (sym c.work.ensures.decision ∙ c.if-work.true)
 
 pub returns : goal.returns
 returns g c =

@@ -5,11 +5,11 @@ use Rattle.simulated_hall.proofs.driver.first_with_mail.Goals as goal
 
 pub loop-before-preserved : goal.loop-before-preserved
 loop-before-preserved g c =
-    none_next c.args.hall.now.nodes.network.members (λ n. has_mail c.args.hall.now.nodes.network n) c.loop-before.before c.loop-before.invariant (sym c.has_mail.ensures ∙ c.if-has_mail.false)
+    none_next c.args.hall.now.nodes.network.members (λ n. has_mail c.args.hall.now.nodes.network n) c.loop-before.before c.loop-before.invariant (sym c.work.ensures.mail ∙ c.if-work.false)
 
-pub returns-then-has_mail : goal.returns-then-has_mail
-returns-then-has_mail g c =
-    passes_first c.args.hall.now.nodes.network.members (λ n. has_mail c.args.hall.now.nodes.network n) c.loop-before.before c.loop-before.invariant (sym c.has_mail.ensures ∙ c.if-has_mail.true)
+pub returns-then-work : goal.returns-then-mail
+returns-then-work g c =
+    passes_first c.args.hall.now.nodes.network.members (λ n. has_mail c.args.hall.now.nodes.network n) c.loop-before.before c.loop-before.invariant (sym c.work.ensures.mail ∙ c.if-work.true)
 
 pub returns : goal.returns
 returns g c =
