@@ -6,3 +6,4 @@ pub mod Tickets
 pub mod Books
 pub mod Halls
 pub mod Refusals
+pub mod Acting

@@ -21,10 +21,10 @@ ghost use Rattle.hall.specs.Shows.{IsShown, Follows, FollowsDelivery, ShowsOn};
 ghost use Rattle.hall.specs.Explained.{IsExplained, IsBegun};
 ghost use Rattle.hall.specs.HallLaws.{HallLaws};
 
+use agreement::every_world;
 use node::deeds_are_shown;
 use object::Object;
 use recorder::firsts_of_firsts;
-use agreement::every_world;
 
 /// What is so of all recorded nodes that show a world which events lead to. Untouched ones do (`untouched`). Where a node
 /// is asked for a command, does something by itself or receives the letter in front of its mail, the event of that name

@@ -5,8 +5,8 @@ ghost use Rattle.hall.specs.Tickets.{last_noted, is_close, is_tick};
 use super::Hall;
 use crate::error::HallError;
 use crate::ticket::Ticket;
-use object::{Act, Key, Object};
 use agreement::MOST_EVENTS;
+use object::{Act, Key, Object};
 
 /// The greatest second of a clock.
 pub const LAST_SECOND: u64 = 1 << 40;

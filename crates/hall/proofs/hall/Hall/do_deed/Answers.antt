@@ -6,7 +6,7 @@ use Rattle.hall.proofs.Called.{event_member, event_room, follows_in}
 use Rattle.hall.proofs.Halls.{deed_is, deed_event}
 use Rattle.hall.proofs.Known.{answered_there, placed_there}
 use Rattle.hall.proofs.Lawful.{done_begun}
-use Rattle.hall.proofs.hall.Hall.act.Goals as goal
+use Rattle.hall.proofs.hall.Hall.do_deed.Goals as goal
 
 pub act-requires-clause-answered : goal.act-requires-clause-answered
 act-requires-clause-answered g c =
