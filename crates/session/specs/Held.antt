@@ -1,5 +1,5 @@
 -- What a session holds: of the bytes that it was fed, and of the text that it has yet to send.
-use Rattle.std.specs.Prelude.{◌≡◌, ◌≤◌, ℕ, ◌+◌, Bool, true, false, List, [], ◌++◌, length, map, Option, None, Some, Ok, Err}
+use Rattle.std.specs.Prelude.{◌≡◌, ◌≤◌, ℕ, ◌+◌, Bool, true, false, List, [], ◌++◌, length, map, Option, None, Some, Result, Ok, Err, IsOk, OnOk, OnErr}
 use Rattle.bean_codec.specs.declared.reader.Want.{Want}
 use Rattle.bean_codec.specs.declared.reader.Want.TheVariants.{Line}
 use Rattle.bean_codec.specs.declared.request.Fault.{Fault}
@@ -49,6 +49,13 @@ StandsBefore s text = (dropped : List ℕ) × Fits s.want dropped s.kept × (tex
 -- behind what it keeps it has room for so many bytes more, once what was read is let go of
 abbrev pub HasRoomFor : ℕ → Held → Type 0
 HasRoomFor len s = length s.kept + len ≤ s.capacity
+
+-- The piece stands behind what it keeps, unless memory was refused, and it isn't where there was room. What was read is let
+-- go of in either case.
+pub record Feeds {E : Type 0} (old new : Held) (piece : List ℕ) (result : Result Unit E) : Type 0 where
+  pub ok : OnOk result (new ≡ record old { kept = old.kept ++ piece; read_len = 0; capacity = new.capacity })
+  pub succeeds : HasRoomFor (length piece) old → IsOk result
+  pub err : OnErr result (new ≡ record old { read_len = 0; capacity = new.capacity })
 
 -- an operation waits for its answer
 abbrev pub is_asked : Option Request → Bool

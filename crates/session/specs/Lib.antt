@@ -1,4 +1,5 @@
 pub mod Streams
+pub mod StreamStates
 pub mod Items
 pub mod Held
 pub mod Serving

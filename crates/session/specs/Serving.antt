@@ -1,5 +1,5 @@
 -- What a session over streams has read, asked and written.
-use Rattle.std.specs.Prelude.{◌≡◌, ◌≤◌, ◌+◌, ◌^◌, ℕ, List, [], ◌∷◌, ◌++◌, length, Option, Result, Ok, Err}
+use Rattle.std.specs.Prelude.{◌≡◌, ◌≤◌, ◌⊎◌, ◌+◌, ◌^◌, ℕ, true, List, [], ◌∷◌, ◌++◌, length, Option, Result, Ok, Err, IfOk}
 use Rattle.std.specs.Io.KnownBytes.{Consumes, Appends}
 use Rattle.bean_queue.specs.declared.op.Op.{Op}
 use Rattle.bean_queue.specs.declared.reply.Reply.{Reply}
@@ -13,6 +13,7 @@ use Rattle.bean_codec.specs.Reads.{BeginsWithNone}
 use Rattle.session.specs.Held.{FrontTakesRoom}
 use Rattle.session.specs.Items.{Response, Reads, ReadsFirst, operations, told_text}
 use Rattle.session.specs.Items.Response.{Replied, Refused}
+use Rattle.session.specs.StreamStates.{StreamState}
 
 -- a service by its asks: it before, the operation, its result, and it after
 abbrev pub Asks : Type 0 → Type 1
@@ -124,3 +125,39 @@ ClosedOnce closes before new = (result : Result Unit ServiceFault) × ClosedAfte
 -- the reader gave an input and the writer took an output, of which this is so
 abbrev pub Over : Option (List ℕ) → Option (List ℕ) → Option (List ℕ) → Option (List ℕ) → (List ℕ → List ℕ → Type 0) → Type 0
 Over left rest held holds run = (input output : List ℕ) × Consumes left rest input × Appends held holds output × run input output
+
+-- the same of what was read and written between two states of the streams
+abbrev pub Meanwhile : StreamState → StreamState → (List ℕ → List ℕ → Type 0) → Type 0
+Meanwhile before after run = Over before.remaining after.remaining before.contents after.contents run
+
+-- all was told, and then closing the service gave this; where the end of the input ended it, the reader has ended
+abbrev pub ClosedBadly : {S : Type 0} → Asks S → Closes S → S → S → StreamState → Result Unit ServiceFault → List ℕ → List ℕ → Type 0
+ClosedBadly asks closes old new after closed input output =
+    (end : End) × ClosedAfter closes (λ s. Whole asks old s input output end) closed new × (end ≡ End.Eof → after.reader_ended ≡ true)
+
+-- What a service was asked and its client was told, from these states of the service and of the streams to those, where
+-- the session ended so. In each case the service was closed once.
+pub record Served {S : Type 0} (asks : Asks S) (closes : Closes S) (old new : S)
+    (before after : StreamState) (result : Result End SessionFault) : Type 0 where
+  -- all was asked and told, and the close went well
+  pub ok : IfOk result (λ end. Meanwhile before after (λ input output. ClosedAfter closes (λ s. Whole asks old s input output end) (Ok tt) new))
+  -- all that was read was asked and told
+  pub all_was_told : result ≡ Err ReadFailed
+      → Meanwhile before after (λ input output. ClosedOnce closes (λ s. Whole asks old s input output End.Eof) new)
+  -- a beginning of what was to be told was written
+  pub breaks_off : result ≡ Err WriteFailed → Meanwhile before after (λ input output. ClosedOnce closes (λ s. BreaksOff asks old s input output) new)
+  -- the service stopped at an ask, and what came before was told; or all was told, and it stopped at its close
+  pub stopped : result ≡ Err ServiceStopped
+      → Meanwhile before after (λ input output.
+      ClosedOnce closes (λ s. StopsAt asks old s input output) new
+      ⊎ ClosedBadly asks closes old new after (Err ServiceFault.Stopped) input output)
+  -- what is told for some first items was told; or all was told, and the close was refused
+  pub out_of_memory : result ≡ Err OutOfMemory
+      → Meanwhile before after (λ input output.
+      ClosedOnce closes (λ s. Partly asks old s input output) new
+      ⊎ ClosedBadly asks closes old new after (Err ServiceFault.Refused) input output)
+  -- and in the first case memory was short there, and the reader has ended no more than before
+  pub ran_short : result ≡ Err OutOfMemory
+      → Meanwhile before after (λ input output.
+      (ClosedOnce closes (λ s. RunsShort asks old s input output) new × (after.reader_ended ≡ before.reader_ended))
+      ⊎ ClosedBadly asks closes old new after (Err ServiceFault.Refused) input output)

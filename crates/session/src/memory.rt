@@ -1,8 +1,8 @@
 //! Streams over memory, for tests: they go in pieces, and fail where they are told to.
-ghost use Rattle.std.specs.Prelude.{◌≡◌, ◌<◌, ◌≤◌, ◌+◌, ◌||◌, false, true, [], Some, length, IfOk, OnOk, OnErr};
+ghost use Rattle.std.specs.Prelude.{◌≡◌, ◌<◌, ◌≤◌, ◌+◌, ◌||◌, false, [], Some, length, IfOk};
 ghost use Rattle.std.specs.Io.{ReadsAtMost, WritesAtMost};
 ghost use Rattle.std.specs.Io.KnownBytes.{ReadConsumes, WriteAppends};
-ghost use Rattle.session.specs.Streams.{finds_end};
+ghost use Rattle.session.specs.Streams.{finds_end, FailsForGood};
 
 use crate::streams::{ByteIn, ByteOut, Failed};
 use std::alloc::Global;
@@ -59,10 +59,7 @@ impl ByteIn for PieceReader<'_> {
         ensures end { self.new.ended ≡ (self.old.ended || finds_end result buf.new) }
         ensures piece { IfOk result (λ n. n ≤ self.old.piece_len) }
         ensures piece_len { self.new.piece_len ≡ self.old.piece_len }
-
-        ensures never_failed { OnOk result (self.old.failed ≡ false) }
-        ensures ok { OnOk result (self.new.failed ≡ false) }
-        ensures err { OnErr result (self.new.failed ≡ true) }
+        ensures fails { FailsForGood self.old.failed self.new.failed result }
     {
         if self.failed {
             return Err(Failed);
@@ -129,10 +126,7 @@ impl ByteOut for PieceWriter {
         ensures piece { IfOk result (λ n. n ≤ self.old.piece_len) }
         ensures piece_len { self.new.piece_len ≡ self.old.piece_len }
         ensures room { IfOk result (λ n. self.new.room + n ≡ self.old.room) }
-
-        ensures never_failed { OnOk result (self.old.failed ≡ false) }
-        ensures ok { OnOk result (self.new.failed ≡ false) }
-        ensures err { OnErr result (self.new.failed ≡ true) }
+        ensures fails { FailsForGood self.old.failed self.new.failed result }
     {
         if self.failed {
             return Err(Failed);

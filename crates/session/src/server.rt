@@ -1,9 +1,9 @@
-ghost use Rattle.std.specs.Prelude.{◌≡◌, ◌<◌, ◌≤◌, ◌⊎◌, ◌++◌, ◌≢◌, ℕ, List, [], true, false, Ok, Err, length, IfOk, IfErr, OnOk, OnErr};
-ghost use Rattle.std.specs.Io.KnownBytes.{Appends, Consumes, IsAtEnd, Keeps};
-ghost use Rattle.session.specs.Streams.{AppendsBeginning};
+ghost use Rattle.std.specs.Prelude.{◌≡◌, ◌<◌, ◌≤◌, ◌⊎◌, ◌++◌, ℕ, List, [], true, false, Err, length, IfOk, IfErr, OnOk, OnErr};
+ghost use Rattle.std.specs.Io.KnownBytes.{Consumes, IsAtEnd, Keeps};
+ghost use Rattle.session.specs.StreamStates.{LeavesStreams, WritesAll, streams_of};
 ghost use Rattle.session.specs.Items.{Response, answer_text};
 ghost use Rattle.session.specs.Held.{StandsBefore};
-ghost use Rattle.session.specs.Serving.{Over, Conversed, Whole, StopsAt, Partly, RunsShort, BreaksOff, longest_piece, ClosedAfter, ClosedOnce, result_of};
+ghost use Rattle.session.specs.Serving.{Over, Conversed, Served, longest_piece, result_of};
 
 use crate::faults::{End, ServiceFault, SessionFault};
 use crate::service::Service;
@@ -19,13 +19,8 @@ const PIECE_LEN: usize = 4096;
 
 // Writes out what the client is to be told.
 fn send<W: ByteOut>(session: &mut Session, writer: &mut W) -> Result<(), Failed>
-    ensures ok { OnOk result
-        (Appends (W.contents writer.old) (W.contents writer.new) session.old.unsent) }
+    ensures written { WritesAll W.ByteOut writer.old writer.new session.old.unsent result }
     ensures sent { OnOk result (session.new ≡ record session.old { unsent = []; sent_len = 0 }) }
-    ensures err { OnErr result
-        (AppendsBeginning (W.contents writer.old) (W.contents writer.new) session.old.unsent) }
-    ensures stays { OnOk result (W.has_failed writer.new ≡ W.has_failed writer.old) }
-    ensures failed { OnErr result (W.has_failed writer.new ≡ true) }
 {
     write_all(writer, session.unsent())?;
     let n = session.unsent().len();
@@ -103,18 +98,9 @@ fn converse<R: ByteIn, W: ByteOut, S: Service>(
     ensures run { Over (R.remaining reader.old) (R.remaining reader.new) (W.contents writer.old)
         (W.contents writer.new)
         (λ input output. Conversed S.asks service.old service.new input output result) }
-    ensures ended { IfOk result (λ end. end ≡ End.Eof → R.has_ended reader.new ≡ true) }
-    ensures nothing_left { IfOk result (λ end. end ≡ End.Eof → IsAtEnd (R.remaining reader.new)) }
-    ensures read_failed { IfErr result (λ fault. fault ≡ SessionFault.ReadFailed
-        → R.has_failed reader.new ≡ true) }
-    ensures write_failed { IfErr result (λ fault. fault ≡ SessionFault.WriteFailed
-        → W.has_failed writer.new ≡ true) }
-    ensures quits { result ≡ Ok End.Quit → R.has_ended reader.new ≡ R.has_ended reader.old }
+    ensures streams { LeavesStreams (streams_of R.ByteIn W.ByteOut reader.old writer.old)
+        (streams_of R.ByteIn W.ByteOut reader.new writer.new) result }
     ensures not_ended { OnErr result (R.has_ended reader.new ≡ R.has_ended reader.old) }
-    ensures not_failed { result ≢ Err SessionFault.ReadFailed
-        → R.has_failed reader.new ≡ R.has_failed reader.old }
-    ensures no_write_failed { result ≢ Err SessionFault.WriteFailed
-        → W.has_failed writer.new ≡ W.has_failed writer.old }
 {
     let mut session = Session::new(alloc);
     let mut piece = [0; PIECE_LEN];
@@ -145,58 +131,11 @@ pub fn serve<R: ByteIn, W: ByteOut, S: Service>(
     writer: &mut W,
     service: &mut S,
 ) -> Result<End, SessionFault>
-    ensures ok { IfOk result
-        (λ end. Over (R.remaining reader.old) (R.remaining reader.new) (W.contents writer.old)
-        (W.contents writer.new)
-        (λ input output. ClosedAfter S.closes (λ s. Whole S.asks service.old s input output end)
-        (Ok tt) service.new)) }
-    ensures ended { IfOk result (λ end. end ≡ End.Eof → R.has_ended reader.new ≡ true) }
-    ensures nothing_left { IfOk result (λ end. end ≡ End.Eof → IsAtEnd (R.remaining reader.new)) }
-    ensures quits { result ≡ Ok End.Quit → R.has_ended reader.new ≡ R.has_ended reader.old }
-    ensures read_failed { result ≡ Err SessionFault.ReadFailed → (R.has_failed reader.new ≡ true) }
-    ensures not_failed { result ≢ Err SessionFault.ReadFailed
-        → R.has_failed reader.new ≡ R.has_failed reader.old }
-    ensures all_was_told { result ≡ Err SessionFault.ReadFailed
-        → Over (R.remaining reader.old) (R.remaining reader.new) (W.contents writer.old)
-        (W.contents writer.new)
-        (λ input output. ClosedOnce S.closes
-        (λ s. Whole S.asks service.old s input output End.Eof) service.new) }
-    ensures write_failed { result ≡ Err SessionFault.WriteFailed
-        → (W.has_failed writer.new ≡ true) }
-    ensures no_write_failed { result ≢ Err SessionFault.WriteFailed
-        → W.has_failed writer.new ≡ W.has_failed writer.old }
-    ensures not_read_on { result ≡ Err SessionFault.WriteFailed
-        → R.has_ended reader.new ≡ R.has_ended reader.old }
-    ensures breaks_off { result ≡ Err SessionFault.WriteFailed
-        → Over (R.remaining reader.old) (R.remaining reader.new) (W.contents writer.old)
-        (W.contents writer.new)
-        (λ input output. ClosedOnce S.closes
-        (λ s. BreaksOff S.asks service.old s input output) service.new) }
-    ensures stopped { result ≡ Err SessionFault.ServiceStopped
-        → Over (R.remaining reader.old) (R.remaining reader.new) (W.contents writer.old)
-        (W.contents writer.new)
-        (λ input output. ClosedOnce S.closes
-        (λ s. StopsAt S.asks service.old s input output) service.new
-        ⊎ ((end : End)
-        × ClosedAfter S.closes (λ s. Whole S.asks service.old s input output end)
-        (Err ServiceFault.Stopped) service.new × (end ≡ End.Eof → R.has_ended reader.new ≡ true))) }
-    ensures out_of_memory { result ≡ Err SessionFault.OutOfMemory
-        → Over (R.remaining reader.old) (R.remaining reader.new) (W.contents writer.old)
-        (W.contents writer.new)
-        (λ input output. ClosedOnce S.closes
-        (λ s. Partly S.asks service.old s input output) service.new
-        ⊎ ((end : End)
-        × ClosedAfter S.closes (λ s. Whole S.asks service.old s input output end)
-        (Err ServiceFault.Refused) service.new × (end ≡ End.Eof → R.has_ended reader.new ≡ true))) }
-    ensures ran_short { result ≡ Err SessionFault.OutOfMemory
-        → Over (R.remaining reader.old) (R.remaining reader.new) (W.contents writer.old)
-        (W.contents writer.new)
-        (λ input output. (ClosedOnce S.closes
-        (λ s. RunsShort S.asks service.old s input output) service.new
-        × (R.has_ended reader.new ≡ R.has_ended reader.old))
-        ⊎ ((end : End)
-        × ClosedAfter S.closes (λ s. Whole S.asks service.old s input output end)
-        (Err ServiceFault.Refused) service.new × (end ≡ End.Eof → R.has_ended reader.new ≡ true))) }
+    ensures told { Served S.asks S.closes service.old service.new
+        (streams_of R.ByteIn W.ByteOut reader.old writer.old)
+        (streams_of R.ByteIn W.ByteOut reader.new writer.new) result }
+    ensures streams { LeavesStreams (streams_of R.ByteIn W.ByteOut reader.old writer.old)
+        (streams_of R.ByteIn W.ByteOut reader.new writer.new) result }
 {
     let ended = converse(alloc, reader, writer, service);
     let closed = service.close();

@@ -2,7 +2,7 @@ ghost use Rattle.std.specs.Prelude.{◌≡◌, ◌<◌, ◌≤◌, ◌+◌, ◌+
 ghost use Rattle.bean_codec.specs.Reads.{longest_unfinished};
 ghost use Rattle.bean_codec.specs.Replies.{reply_text};
 ghost use Rattle.session.specs.Items.{refused_text};
-ghost use Rattle.session.specs.Held.{holding, nothing_held, is_asked, fed_buffer_len, text_buffer_len, MayKeep, StandsBefore, HasRoomFor, FrontTakesRoom, Finds};
+ghost use Rattle.session.specs.Held.{holding, nothing_held, is_asked, fed_buffer_len, text_buffer_len, MayKeep, StandsBefore, HasRoomFor, Feeds, FrontTakesRoom, Finds};
 
 use bean_codec::{Read, Request, Want, read_request, write_fault, write_reply};
 use bean_queue::Reply;
@@ -70,34 +70,18 @@ impl Session {
 
     /// The next bytes of the client, which are copied. What was read is let go of, even where memory is refused.
     pub fn feed(&mut self, piece: &[u8]) -> Result<(), AllocError>
-        ensures ok { OnOk result (self.new
-            ≡ record self.old {
-              kept = self.old.kept ++ piece.now;
-              read_len = 0;
-              capacity = self.new.capacity;
-            }) }
+        ensures fed { Feeds self.old self.new piece.now result }
         ensures stands { OnOk result ((text : List ℕ) → StandsBefore self.old text
             → StandsBefore self.new (text ++ piece.now)) }
         ensures buffer { OnOk result (fed_buffer_len self.new
             ≡ length self.old.kept + length piece.now) }
-        ensures succeeds { HasRoomFor (length piece.now) self.old → IsOk result }
-        ensures err { OnErr result (self.new
-            ≡ record self.old { read_len = 0; capacity = self.new.capacity }) }
     {
         self.append(piece)
     }
 
     // A piece more is kept.
     fn append(&mut self, piece: &[u8]) -> Result<(), AllocError>
-        ensures ok { OnOk result (self.new
-            ≡ record self.old {
-              kept = self.old.kept ++ piece.now;
-              read_len = 0;
-              capacity = self.new.capacity;
-            }) }
-        ensures succeeds { HasRoomFor (length piece.now) self.old → IsOk result }
-        ensures err { OnErr result (self.new
-            ≡ record self.old { read_len = 0; capacity = self.new.capacity }) }
+        ensures { Feeds self.old self.new piece.now result }
     {
         self.shift_down();
         self.bytes.extend_from_slice(piece)

@@ -1,7 +1,7 @@
-ghost use Rattle.std.specs.Prelude.{◌≡◌, ℕ, Bool, false, true, List, Option, ◌||◌, ◌<◌, length, IfOk, OnOk, OnErr};
+ghost use Rattle.std.specs.Prelude.{◌≡◌, ℕ, Bool, List, Option, ◌||◌, ◌<◌, length, IfOk};
 ghost use Rattle.std.specs.Io.{ReadsAtMost, WritesAtMost};
 ghost use Rattle.std.specs.Io.KnownBytes.{ReadConsumes, WriteAppends};
-ghost use Rattle.session.specs.Streams.{finds_end};
+ghost use Rattle.session.specs.Streams.{finds_end, FailsForGood};
 
 /// A read or a write failed.
 #[derive(Clone, Copy, Debug, PartialEq, Eq)]
@@ -24,10 +24,7 @@ pub trait ByteIn {
         ensures bound { ReadsAtMost result buf.new }
         ensures bytes { ReadConsumes (remaining self.old) (remaining self.new) result buf.new }
         ensures end { has_ended self.new ≡ (has_ended self.old || finds_end result buf.new) }
-
-        ensures never_failed { OnOk result (has_failed self.old ≡ false) }
-        ensures ok { OnOk result (has_failed self.new ≡ false) }
-        ensures err { OnErr result (has_failed self.new ≡ true) };
+        ensures fails { FailsForGood (has_failed self.old) (has_failed self.new) result };
 }
 
 /// Where bytes go.
@@ -44,8 +41,5 @@ pub trait ByteOut {
         ensures bound { WritesAtMost result bytes.now }
         ensures some { IfOk result (λ n. 0 < length bytes.now → 0 < n) }
         ensures bytes { WriteAppends (contents self.old) (contents self.new) result bytes.now }
-
-        ensures never_failed { OnOk result (has_failed self.old ≡ false) }
-        ensures ok { OnOk result (has_failed self.new ≡ false) }
-        ensures err { OnErr result (has_failed self.new ≡ true) };
+        ensures fails { FailsForGood (has_failed self.old) (has_failed self.new) result };
 }

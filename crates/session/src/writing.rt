@@ -1,7 +1,7 @@
-ghost use Rattle.std.specs.Prelude.{◌≡◌, ◌<◌, false, true, IfOk, OnOk, OnErr, length};
+ghost use Rattle.std.specs.Prelude.{◌≡◌, ◌<◌, false, IfOk, length};
 ghost use Rattle.std.specs.Io.{WritesAtMost};
-ghost use Rattle.std.specs.Io.KnownBytes.{Appends, WriteAppends};
-ghost use Rattle.session.specs.Streams.{AppendsBeginning};
+ghost use Rattle.std.specs.Io.KnownBytes.{WriteAppends};
+ghost use Rattle.session.specs.StreamStates.{WritesAll};
 
 use crate::streams::{ByteOut, Failed};
 use std::io::{ErrorKind, Write};
@@ -64,12 +64,7 @@ fn write_uninterrupted<W: Write>(writer: &mut W, bytes: &[u8]) -> Result<usize, 
 
 /// Writes all the bytes, or fails after some first ones.
 pub fn write_all<W: ByteOut>(writer: &mut W, bytes: &[u8]) -> Result<(), Failed>
-    ensures ok { OnOk result (Appends (W.contents writer.old) (W.contents writer.new) bytes.now) }
-    ensures err { OnErr result
-        (AppendsBeginning (W.contents writer.old) (W.contents writer.new) bytes.now) }
-
-    ensures stays { OnOk result (W.has_failed writer.new ≡ W.has_failed writer.old) }
-    ensures failed { OnErr result (W.has_failed writer.new ≡ true) }
+    ensures written { WritesAll W.ByteOut writer.old writer.new bytes.now result }
 {
     let mut written = 0;
     while written < bytes.len() {

@@ -48,7 +48,7 @@ returns-in_err-map_err-clause-run g c =
     let found = c.in_ok-found.found in
     let fault : c.from_residual-in_err-map_err.result ≡ Err WriteFailed = search rules in
     ends_writing g.S.Service.asks c.args.service.now c.turns.service c.turns._turn a b h k l t.unsent (ComesTo found t) c.from_residual-in_err-map_err.result fault
-    (began c.send.result k l t.unsent c.send.ensures.ok c.send.ensures.err)
+    (began c.send.result k l t.unsent c.send.ensures.written.ok c.send.ensures.written.err)
     (finds g.S.Service.asks c.args.service.now c.turns.service c.turns._turn a b h k c.turns.session t found c.in_ok-found.ensures.found c.turns.invariant.goes)
 
 pub returns-in_err-read_piece-in-None-clause-run :

@@ -14,7 +14,7 @@ returns-clause-fed g c = λ _.
     let few : length c.args.piece.now ≤ longest_piece = search rules in
     let small : length bytes ≤ longest_piece = omega (arith, within, same, few, length-take n c.read.new.buf) in
     let held = c.make_room.ensures.held in
-    let fed = c.in-Ok.ensures.ok in (
+    let fed = c.in-Ok.ensures.fed.ok in (
       bytes,
       piece,
       small,
