@@ -4,7 +4,7 @@
 //!
 //! Without input all courses are made. With a course's name and a number as input that one alone is made, and memory is
 //! taken so many times between its preparations and its first call; with the name and `prepare` no call is made. By these
-//! `refusals/try` refuses the allocations of the calls, one after the other.
+//! `tools/try-refusals` refuses the allocations of the calls, one after the other.
 #![tactic(auto)]
 
 mod asked;

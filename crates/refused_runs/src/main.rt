@@ -1,7 +1,7 @@
 //! The program over simulated nodes, with memory that may be refused. Its client puts a job, reserves and deletes it.
 //!
 //! With a number as input memory is taken so many times before the program is called, and with the word `prepare` it isn't
-//! called. By these `refusals/try` refuses its allocations, one after the other.
+//! called. By these `tools/try-refusals` refuses its allocations, one after the other.
 #![tactic(auto)]
 
 mod outcome;
