@@ -9,7 +9,7 @@ pub loop-before-preserved : goal.loop-before-preserved
 loop-before-preserved g c =
     none_next c.args.hall.now.nodes.network.members (λ n. is_some (next_decided (node_of c.args.hall.now.nodes.network n).replica)) c.loop-before.before c.loop-before.invariant (sym c.work.ensures.decision ∙ c.if-work.false)
 
-pub returns-then-work : goal.returns-then-decision
+pub returns-then-work : goal.returns-then-work
 returns-then-work g c =
     passes_first c.args.hall.now.nodes.network.members (λ n. is_some (next_decided (node_of c.args.hall.now.nodes.network n).replica)) c.loop-before.before c.loop-before.invariant (sym c.work.ensures.decision ∙ c.if-work.true)
 

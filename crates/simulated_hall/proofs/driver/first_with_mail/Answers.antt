@@ -7,7 +7,7 @@ pub loop-before-preserved : goal.loop-before-preserved
 loop-before-preserved g c =
     none_next c.args.hall.now.nodes.network.members (λ n. has_mail c.args.hall.now.nodes.network n) c.loop-before.before c.loop-before.invariant (sym c.work.ensures.mail ∙ c.if-work.false)
 
-pub returns-then-work : goal.returns-then-mail
+pub returns-then-work : goal.returns-then-work
 returns-then-work g c =
     passes_first c.args.hall.now.nodes.network.members (λ n. has_mail c.args.hall.now.nodes.network n) c.loop-before.before c.loop-before.invariant (sym c.work.ensures.mail ∙ c.if-work.true)
 
