@@ -10,7 +10,8 @@ use Rattle.session.specs.declared.faults.ServiceFault.{ServiceFault}
 use Rattle.session.specs.declared.faults.SessionFault.{SessionFault}
 use Rattle.session.specs.declared.faults.SessionFault.TheVariants.{OutOfMemory, ReadFailed, WriteFailed, ServiceStopped}
 use Rattle.session.specs.Items.{Reads, ReadsFirst, operations, told_text}
-use Rattle.session.specs.Serving.{Whole, StopsAt, Partly, BreaksOff, Closes, ClosedAfter, ClosedOnce, Over}
+use Rattle.session.specs.Serving.{Asks, Whole, StopsAt, Partly, BreaksOff, Closes, ClosedBadly, ClosedOnce, Over, Served}
+use Rattle.session.specs.StreamStates.{StreamState}
 use Rattle.simulated_hall.specs.OneClient.{Talk, opened}
 use Rattle.beanpax.specs.Sessions.{queue}
 use Rattle.beanpax.specs.Told.{AreAnswersTold, BeginsTold}
@@ -56,41 +57,34 @@ over : (a b h k : Option (List ℕ)) (P Q : List ℕ → List ℕ → Type 0) �
 over a b h k P Q f o = (o.0, o.1, o.2, o.3, f o.0 o.1 o.4)
 
 -- what follows from how the session broke off, and from a session that went well
-either : {S : Type 0} (P : S → Type 0) (Q : S → End → Type 0) (R : Type 0) → ((last : S) → P last → R) → ((last : S) (end : End) → Q last end → R) → (closes : Closes S) (r : Result Unit ServiceFault) (new : S) (Ended : End → Type 0)
-    → ClosedOnce closes P new ⊎ ((end : End) × ClosedAfter closes (λ s. Q s end) r new × Ended end) → R
-either P Q R broke went closes r new Ended (inl w) = broke w.1.0 w.1.1
-either P Q R broke went closes r new Ended (inr w) = went w.1.0 w.0 w.1.1
+either : {S : Type 0} (P : S → Type 0) (R : Type 0) (asks : Asks S) (closes : Closes S) (old new : S) (after : StreamState) (closed : Result Unit ServiceFault) (input output : List ℕ)
+    → ((last : S) → P last → R) → ((last : S) (end : End) → Whole asks old last input output end → R)
+    → ClosedOnce closes P new ⊎ ClosedBadly asks closes old new after closed input output → R
+either P R asks closes old new after closed input output broke went (inl w) = broke w.1.0 w.1.1
+either P R asks closes old new after closed input output broke went (inr w) = went w.1.0 w.0 w.1.1
 
-pub served : {S : Type 0} (stand : S → Talk QueueState → Type 0) (stopped : S → S → Op → Type 0) (closes : Closes S) (old new : S) (a b h k : Option (List ℕ)) (r : Result End SessionFault)
-    → stand old (opened queue)
-    → IfOk r (λ end. Over a b h k (λ input output. ClosedAfter closes (λ s. Whole (AsksOf stand stopped) old s input output end) (Ok tt) new))
-    → IfOk r (TellsAll a b h k)
-served stand stopped closes old new a b h k (Ok end) stands o = over a b h k _ _ (λ input output w. whole stand stopped old w.0 input output end stands w.1) o
-served stand stopped closes old new a b h k (Err e) stands o = tt
+pub served : {S : Type 0} (stand : S → Talk QueueState → Type 0) (stopped : S → S → Op → Type 0) (closes : Closes S) (old new : S) (before after : StreamState) (r : Result End SessionFault)
+    → stand old (opened queue) → Served (AsksOf stand stopped) closes old new before after r
+    → IfOk r (TellsAll before.remaining after.remaining before.contents after.contents)
+served stand stopped closes old new before after (Ok end) stands told = over _ _ _ _ _ _ (λ input output w. whole stand stopped old w.0 input output end stands w.1) told.ok
+served stand stopped closes old new before after (Err e) stands told = tt
 
-pub served_partly : {S : Type 0} (stand : S → Talk QueueState → Type 0) (stopped : S → S → Op → Type 0) (closes : Closes S) (old new : S) (a b h k : Option (List ℕ)) (r : Result End SessionFault) (Ended : End → Type 0)
-    → ((text : List ℕ) → HasFront text)
-    → stand old (opened queue)
-    → (r ≡ Err ReadFailed → Over a b h k (λ input output. ClosedOnce closes (λ s. Whole (AsksOf stand stopped) old s input output End.Eof) new))
-    → (r ≡ Err WriteFailed → Over a b h k (λ input output. ClosedOnce closes (λ s. BreaksOff (AsksOf stand stopped) old s input output) new))
-    → (r ≡ Err ServiceStopped → Over a b h k (λ input output. ClosedOnce closes (λ s. StopsAt (AsksOf stand stopped) old s input output) new
-    ⊎ ((end : End) × ClosedAfter closes (λ s. Whole (AsksOf stand stopped) old s input output end) (Err ServiceFault.Stopped) new × Ended end)))
-    → (r ≡ Err OutOfMemory → Over a b h k (λ input output. ClosedOnce closes (λ s. Partly (AsksOf stand stopped) old s input output) new
-    ⊎ ((end : End) × ClosedAfter closes (λ s. Whole (AsksOf stand stopped) old s input output end) (Err ServiceFault.Refused) new × Ended end)))
-    → OnErr r (TellsBeginning a b h k)
-served_partly stand stopped closes old new a b h k (Ok end) Ended front stands reading writing halted memory = tt
-served_partly stand stopped closes old new a b h k (Err ReadFailed) Ended front stands reading writing halted memory =
-    over a b h k _ _ (λ input output w. told_begins_told input output End.Eof (whole stand stopped old w.1.0 input output End.Eof stands w.1.1)) (reading refl)
-served_partly stand stopped closes old new a b h k (Err WriteFailed) Ended front stands reading writing halted memory =
-    over a b h k _ _ (λ input output w. breaks_off stand stopped old w.1.0 input output front stands w.1.1) (writing refl)
-served_partly stand stopped closes old new a b h k (Err ServiceStopped) Ended front stands reading writing halted memory =
-    over a b h k _ _ (λ input output. either _ _ (BeginsTold input output)
+pub served_partly : {S : Type 0} (stand : S → Talk QueueState → Type 0) (stopped : S → S → Op → Type 0) (closes : Closes S) (old new : S) (before after : StreamState) (r : Result End SessionFault)
+    → ((text : List ℕ) → HasFront text) → stand old (opened queue) → Served (AsksOf stand stopped) closes old new before after r
+    → OnErr r (TellsBeginning before.remaining after.remaining before.contents after.contents)
+served_partly stand stopped closes old new before after (Ok end) front stands told = tt
+served_partly stand stopped closes old new before after (Err ReadFailed) front stands told =
+    over _ _ _ _ _ _ (λ input output w. told_begins_told input output End.Eof (whole stand stopped old w.1.0 input output End.Eof stands w.1.1)) (told.all_was_told refl)
+served_partly stand stopped closes old new before after (Err WriteFailed) front stands told =
+    over _ _ _ _ _ _ (λ input output w. breaks_off stand stopped old w.1.0 input output front stands w.1.1) (told.breaks_off refl)
+served_partly stand stopped closes old new before after (Err ServiceStopped) front stands told =
+    over _ _ _ _ _ _ (λ input output. either _ (BeginsTold input output) (AsksOf stand stopped) closes old new after (Err ServiceFault.Stopped) input output
     (λ last. stops_at stand stopped old last input output front stands)
-    (λ last end w. told_begins_told input output end (whole stand stopped old last input output end stands w)) closes (Err ServiceFault.Stopped) new Ended) (halted refl)
-served_partly stand stopped closes old new a b h k (Err OutOfMemory) Ended front stands reading writing halted memory =
-    over a b h k _ _ (λ input output. either _ _ (BeginsTold input output)
+    (λ last end w. told_begins_told input output end (whole stand stopped old last input output end stands w))) (told.stopped refl)
+served_partly stand stopped closes old new before after (Err OutOfMemory) front stands told =
+    over _ _ _ _ _ _ (λ input output. either _ (BeginsTold input output) (AsksOf stand stopped) closes old new after (Err ServiceFault.Refused) input output
     (λ last. partly stand stopped old last input output front stands)
-    (λ last end w. told_begins_told input output end (whole stand stopped old last input output end stands w)) closes (Err ServiceFault.Refused) new Ended) (memory refl)
+    (λ last end w. told_begins_told input output end (whole stand stopped old last input output end stands w))) (told.out_of_memory refl)
 
 -- nothing was read and nothing written
 pub nothing_served : {X E : Type 0} (r : Result X E) (a h : Option (List ℕ)) → ((text : List ℕ) → HasFront text) → OnErr r (TellsBeginning a a h h)

@@ -1,7 +1,9 @@
 -- A run over streams whose bytes may be known.
-use Rattle.std.specs.Prelude.{ℕ, List, Option}
+use Rattle.std.specs.Prelude.{ℕ, List, Option, Result, IfOk, OnErr}
 use Rattle.session.specs.declared.faults.End.{End}
+use Rattle.session.specs.declared.faults.SessionFault.{SessionFault}
 use Rattle.session.specs.Serving.{Over}
+use Rattle.session.specs.StreamStates.{LeavesStreams, StreamState}
 use Rattle.beanpax.specs.Told.{AreAnswersTold, BeginsTold}
 
 -- the reader gave an input, and the writer took all that the client is told for it
@@ -11,3 +13,9 @@ TellsAll left rest held holds end = Over left rest held holds (λ input output. 
 -- the reader gave an input, and the writer took a beginning of what the client is told for it
 abbrev pub TellsBeginning : Option (List ℕ) → Option (List ℕ) → Option (List ℕ) → Option (List ℕ) → Type 0
 TellsBeginning left rest held holds = Over left rest held holds BeginsTold
+
+-- What a run has told that found its streams so and left them so: all, and where it broke off a beginning.
+pub record RunsOver (before after : StreamState) (result : Result End SessionFault) : Type 0 where
+  pub answers : IfOk result (TellsAll before.remaining after.remaining before.contents after.contents)
+  pub breaks_off : OnErr result (TellsBeginning before.remaining after.remaining before.contents after.contents)
+  pub streams : LeavesStreams before after result

@@ -1,6 +1,7 @@
 -- What the words of a command line ask for.
-use Rattle.std.specs.Prelude.{◌≡◌, ◌≢◌, ◌≤◌, ◌^◌, ◌-◌, ℕ, pos, Bool, true, not, ◌&&◌, List, [], Option, None, Some, codes, option_map, option_and_then, string_bytes, unwrap_or, is_some}
-use Rattle.clap.specs.Words.{App, Rule, IsAmong, Kinds, fault_of, first_of, new_app, new_rule, one_of, subcommand_of, with_rule, with_subcommand}
+use Rattle.std.specs.Prelude.{◌≡◌, ◌≢◌, ◌≤◌, ◌^◌, ◌-◌, ℕ, pos, Bool, true, false, not, ◌&&◌, List, [], Option, None, Some, codes, option_map, option_and_then, string_bytes, unwrap_or, is_some}
+use Rattle.clap.specs.Words.{App, Rule, IsAmong, Kinds, fault_of, first_of, new_app, new_rule, one_of, rule_of, subcommand_of, with_rule, with_subcommand}
+use Rattle.clap.specs.declared.builder.arg.Arg.{Arg}
 use Rattle.clap.specs.declared.builder.value_parser.ValueParser.TheVariants as parser
 use Rattle.clap.specs.declared.error.kind.ErrorKind.{ErrorKind}
 use Rattle.clap.specs.declared.error.kind.ErrorKind.TheVariants.{DisplayHelp}
@@ -9,6 +10,11 @@ use Rattle.beanpax.specs.declared.words.Action.TheVariants.{Run, Serve, Inspect,
 use Rattle.beanpax.specs.declared.words.ServerOptions.{ServerOptions}
 use Rattle.beanpax.specs.Numbers.{IsNumberOr, IsNumberIfGiven}
 use Rattle.beanpax.specs.Weights.{AreMembersOf}
+
+-- the argument follows this rule, for its command alone
+pub record IsArgument (wanted : Rule) (argument : Arg) : Type 0 where
+  pub rule : rule_of argument ≡ wanted
+  pub local : argument.global ≡ false
 
 -- `--nodes N`, where N is 1 to 7
 abbrev pub nodes_option : Rule

@@ -1,8 +1,7 @@
-ghost use Rattle.std.specs.Prelude.{◌≡◌, ◌≢◌, ◌≤◌, true, Ok, Err, IfOk, OnErr};
-ghost use Rattle.std.specs.Io.KnownBytes.{IsAtEnd};
+ghost use Rattle.std.specs.Prelude.{◌≤◌};
 ghost use Rattle.ballot.specs.Members.{IsMembers};
-ghost use Rattle.session.specs.declared.faults.End.{End};
-ghost use Rattle.beanpax.specs.Runs.{TellsAll, TellsBeginning};
+ghost use Rattle.session.specs.StreamStates.{streams_of};
+ghost use Rattle.beanpax.specs.Runs.{RunsOver};
 
 use crate::simulation::Simulation;
 use ballot::Members;
@@ -20,22 +19,8 @@ pub fn run_bytes<R: ByteIn, W: ByteOut>(
 ) -> Result<End, SessionFault>
     requires some { 1 ≤ nodes }
     requires few { nodes ≤ 7 }
-    ensures answers { IfOk result (TellsAll (R.remaining reader.old) (R.remaining reader.new)
-        (W.contents writer.old) (W.contents writer.new)) }
-    ensures nothing_left { IfOk result (λ end. end ≡ End.Eof → IsAtEnd (R.remaining reader.new)) }
-    ensures ended { IfOk result (λ end. end ≡ End.Eof → R.has_ended reader.new ≡ true) }
-    ensures quits { result ≡ Ok End.Quit → R.has_ended reader.new ≡ R.has_ended reader.old }
-
-    ensures breaks_off { OnErr result (TellsBeginning (R.remaining reader.old) (R.remaining reader.new)
-        (W.contents writer.old) (W.contents writer.new)) }
-    ensures read_failed { result ≡ Err SessionFault.ReadFailed → R.has_failed reader.new ≡ true }
-    ensures not_failed { result ≢ Err SessionFault.ReadFailed →
-        R.has_failed reader.new ≡ R.has_failed reader.old }
-    ensures write_failed { result ≡ Err SessionFault.WriteFailed → W.has_failed writer.new ≡ true }
-    ensures no_write_failed { result ≢ Err SessionFault.WriteFailed →
-        W.has_failed writer.new ≡ W.has_failed writer.old }
-    ensures not_read_on { result ≡ Err SessionFault.WriteFailed →
-        R.has_ended reader.new ≡ R.has_ended reader.old }
+    ensures told { RunsOver (streams_of R.ByteIn W.ByteOut reader.old writer.old)
+        (streams_of R.ByteIn W.ByteOut reader.new writer.new) result }
 {
     let Some(members) = Members::new(nodes) else {
         unreachable!()
@@ -58,22 +43,8 @@ pub fn run_bytes_weighted<R: ByteIn, W: ByteOut>(
     writer: &mut W,
 ) -> Result<End, SessionFault>
     requires { IsMembers weights.now }
-    ensures answers { IfOk result (TellsAll (R.remaining reader.old) (R.remaining reader.new)
-        (W.contents writer.old) (W.contents writer.new)) }
-    ensures nothing_left { IfOk result (λ end. end ≡ End.Eof → IsAtEnd (R.remaining reader.new)) }
-    ensures ended { IfOk result (λ end. end ≡ End.Eof → R.has_ended reader.new ≡ true) }
-    ensures quits { result ≡ Ok End.Quit → R.has_ended reader.new ≡ R.has_ended reader.old }
-
-    ensures breaks_off { OnErr result (TellsBeginning (R.remaining reader.old) (R.remaining reader.new)
-        (W.contents writer.old) (W.contents writer.new)) }
-    ensures read_failed { result ≡ Err SessionFault.ReadFailed → R.has_failed reader.new ≡ true }
-    ensures not_failed { result ≢ Err SessionFault.ReadFailed →
-        R.has_failed reader.new ≡ R.has_failed reader.old }
-    ensures write_failed { result ≡ Err SessionFault.WriteFailed → W.has_failed writer.new ≡ true }
-    ensures no_write_failed { result ≢ Err SessionFault.WriteFailed →
-        W.has_failed writer.new ≡ W.has_failed writer.old }
-    ensures not_read_on { result ≡ Err SessionFault.WriteFailed →
-        R.has_ended reader.new ≡ R.has_ended reader.old }
+    ensures told { RunsOver (streams_of R.ByteIn W.ByteOut reader.old writer.old)
+        (streams_of R.ByteIn W.ByteOut reader.new writer.new) result }
 {
     front_item();
     let Some(members) = Members::weighted(weights) else {

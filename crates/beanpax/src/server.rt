@@ -1,17 +1,16 @@
-ghost use Rattle.std.specs.Prelude.{◌≡◌, ◌≢◌, ◌⊎◌, ◌≤◌, ◌∷◌, [], length, true, None, Ok, Err, IfOk, IfErr, IfSome, OnOk};
+ghost use Rattle.std.specs.Prelude.{◌≡◌, ◌≢◌, ◌⊎◌, ◌∷◌, [], None, Ok, Err, IfOk, IfErr, IfSome, OnOk};
 ghost use Rattle.std.specs.Io.KnownBytes.{Appends};
 ghost use Rattle.std.specs.Net.Addr.{IsV4And, ipv4_octets};
 ghost use Rattle.std.specs.Net.Socket.{socket_ip, socket_port};
-ghost use Rattle.session.specs.Streams.{AppendsBeginning};
-ghost use Rattle.beanpax.specs.declared.faults.ProgramFault.TheVariants.{ReadFailed, WriteFailed};
+ghost use Rattle.beanpax.specs.declared.faults.ProgramFault.TheVariants.{ReadFailed};
 ghost use Rattle.beanpax.specs.declared.faults.ProgramFault.TheVariants.{FileFailed, ListenFailed};
 ghost use Rattle.beanpax.specs.declared.faults.ProgramFault.TheVariants.{ServiceStopped};
 ghost use Rattle.beanpax.specs.Faults.{IsOfDump, IsOfOutput, of_cluster};
 ghost use Rattle.chronicle.specs.Checking.{IsFaultless};
 ghost use Rattle.chronicle.specs.Dump.{dump_text};
 ghost use Rattle.hall.specs.Halls.{chronicle_of, new_hall};
-ghost use Rattle.node_threads.specs.Clusters.{IsAccountedFor, all_tickets};
-ghost use Rattle.beanpax.specs.Servers.{listening_line};
+ghost use Rattle.node_threads.specs.Clusters.{IsWorkerCount, LeavesCluster};
+ghost use Rattle.beanpax.specs.Servers.{TellsPort, listening_line};
 
 use crate::connections::Connections;
 use crate::faults::{ProgramFault, file_fault};
@@ -22,7 +21,7 @@ use crate::words::ServerOptions;
 use bean_queue::Queue;
 use chronicle::WriteText;
 use hall::Hall;
-use node_threads::{Actor, Ended, Gate, Point, run_cluster};
+use node_threads::{Accept, Actor, Ended, Gate, Point, run_cluster};
 use session::{ByteOut, write_all};
 use std::alloc::{AllocError, Global};
 use std::fs;
@@ -38,13 +37,8 @@ pub(crate) fn serve_tcp<R: Host, W: ByteOut>(
     options: &ServerOptions<'_>,
     output: &mut W,
 ) -> Result<(), ProgramFault>
-    requires some_workers { 1 ≤ options.now.workers }
-    requires few_workers { options.now.workers ≤ 64 }
-    ensures told { OnOk result (Appends (W.contents output.old) (W.contents output.new)
-        (listening_line options.now.port)) }
-    ensures begins { AppendsBeginning (W.contents output.old) (W.contents output.new)
-        (listening_line options.now.port) }
-    ensures write_failed { result ≡ Err WriteFailed → W.has_failed output.new ≡ true }
+    requires workers { IsWorkerCount options.now.workers }
+    ensures tells { TellsPort W.ByteOut output.old output.new options.now.port result }
     ensures reads_nothing { result ≢ Err ReadFailed }
     ensures never_stops { result ≢ Err ServiceStopped }
     ensures dumps { result ≡ Err FileFailed → options.now.dump ≢ None }
@@ -66,14 +60,10 @@ fn open_port<R: Host, W: ByteOut>(
     port: u16,
     output: &mut W,
 ) -> Result<TcpListener, ProgramFault>
-    ensures told { OnOk result
-        (Appends (W.contents output.old) (W.contents output.new) (listening_line port)) }
-    ensures begins { AppendsBeginning (W.contents output.old) (W.contents output.new)
-        (listening_line port) }
+    ensures tells { TellsPort W.ByteOut output.old output.new port result }
     ensures fault { IfErr result (λ fault. (fault ≡ ListenFailed) ⊎ IsOfOutput fault) }
     ensures not_listening { result ≡ Err ListenFailed →
         W.contents output.new ≡ W.contents output.old }
-    ensures write_failed { result ≡ Err WriteFailed → W.has_failed output.new ≡ true }
 {
     let listener = listen(rt, port)?;
     tell_port(rt.alloc(), port, output)?;
@@ -98,12 +88,8 @@ fn loopback(port: u16) -> SocketAddr
 // Tells at which port it listens.
 #[tactic(auto, unfolding(crate::specs::Servers::listening_line))]
 fn tell_port<W: ByteOut>(alloc: Global, port: u16, output: &mut W) -> Result<(), ProgramFault>
-    ensures told { OnOk result
-        (Appends (W.contents output.old) (W.contents output.new) (listening_line port)) }
-    ensures begins { AppendsBeginning (W.contents output.old) (W.contents output.new)
-        (listening_line port) }
+    ensures tells { TellsPort W.ByteOut output.old output.new port result }
     ensures fault { IfErr result IsOfOutput }
-    ensures write_failed { result ≡ Err WriteFailed → W.has_failed output.new ≡ true }
 {
     let line = format!(in alloc; "listening on 127.0.0.1:{port}\n")?;
     write_all(output, line.as_bytes()).map_err(|_| ProgramFault::WriteFailed)
@@ -118,11 +104,9 @@ fn run_as_asked<'a, R: Host>(
 ) -> Ended<Queue, Connections<'a, R>>
     requires hall { hall ≡ new_hall options.now.members }
     requires connections { connections.left ≡ options.now.sessions }
-    requires some_workers { 1 ≤ options.now.workers }
-    requires few_workers { options.now.workers ≤ 64 }
-    ensures accounted { IsAccountedFor result.hall (all_tickets result.tickets.items) result.fault }
-    ensures each_worker { result.fault ≡ None →
-        length result.tickets.items ≡ options.now.workers }
+    requires workers { IsWorkerCount options.now.workers }
+    ensures left { LeavesCluster ⟦<Connections<'a, R> as Accept>⟧ hall result.hall
+        connections result.accept result.tickets.items options.now.workers result.fault }
 {
     run_cluster(
         rt,

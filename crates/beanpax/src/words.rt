@@ -1,5 +1,5 @@
 ghost use Rattle.std.specs.Prelude.{◌≡◌, ◌≢◌, ◌≤◌, ◌^◌, ◌-◌, [], Some, codes, true, false, map, string_bytes, unwrap_or, IfOk};
-ghost use Rattle.clap.specs.Words.{app_of, first_value, found_of, one_text, rule_of};
+ghost use Rattle.clap.specs.Words.{app_of, first_value, found_of, one_text};
 ghost use Rattle.clap.specs.declared.builder.command.Command.TheViews.{out-Command as fields_of};
 ghost use Rattle.beanpax.specs.declared.words.Action.TheVariants.{Serve};
 ghost use Rattle.beanpax.specs.declared.words.ServerOptions.{ServerOptions};
@@ -7,7 +7,7 @@ ghost use Rattle.beanpax.specs.Numbers.{IsNumberOr};
 ghost use Rattle.beanpax.specs.Weights.{AreMembersOf};
 ghost use Rattle.beanpax.specs.Words.{IsAskedBy, IsRunOf, IsServeOf, IsServerOf, has_unwritten_dump};
 ghost use Rattle.beanpax.specs.Words.{program_command, run_command, serve_command, inspect_command};
-ghost use Rattle.beanpax.specs.Words.{file_argument};
+ghost use Rattle.beanpax.specs.Words.{IsArgument, file_argument};
 ghost use Rattle.beanpax.specs.Words.{nodes_option, weights_option, seed_option, port_option};
 ghost use Rattle.beanpax.specs.Words.{workers_option, sessions_option, dump_option};
 
@@ -281,8 +281,7 @@ fn inspect_words<'a>(alloc: Global) -> Result<Command<'a>, AllocError>
 }
 
 fn nodes_words<'a>(alloc: Global) -> Arg<'a>
-    ensures rule { rule_of result ≡ nodes_option }
-    ensures local { result.global ≡ false }
+    ensures { IsArgument nodes_option result }
 {
     Arg::new(alloc, "nodes")
         .long("nodes")
@@ -292,8 +291,7 @@ fn nodes_words<'a>(alloc: Global) -> Arg<'a>
 }
 
 fn weights_words<'a>(alloc: Global) -> Arg<'a>
-    ensures rule { rule_of result ≡ weights_option }
-    ensures local { result.global ≡ false }
+    ensures { IsArgument weights_option result }
 {
     Arg::new(alloc, "weights")
         .long("weights")
@@ -304,8 +302,7 @@ fn weights_words<'a>(alloc: Global) -> Arg<'a>
 }
 
 fn seed_words<'a>(alloc: Global) -> Arg<'a>
-    ensures rule { rule_of result ≡ seed_option }
-    ensures local { result.global ≡ false }
+    ensures { IsArgument seed_option result }
 {
     Arg::new(alloc, "seed")
         .long("seed")
@@ -315,8 +312,7 @@ fn seed_words<'a>(alloc: Global) -> Arg<'a>
 }
 
 fn port_words<'a>(alloc: Global) -> Arg<'a>
-    ensures rule { rule_of result ≡ port_option }
-    ensures local { result.global ≡ false }
+    ensures { IsArgument port_option result }
 {
     Arg::new(alloc, "port")
         .long("port")
@@ -326,8 +322,7 @@ fn port_words<'a>(alloc: Global) -> Arg<'a>
 }
 
 fn workers_words<'a>(alloc: Global) -> Arg<'a>
-    ensures rule { rule_of result ≡ workers_option }
-    ensures local { result.global ≡ false }
+    ensures { IsArgument workers_option result }
 {
     Arg::new(alloc, "workers")
         .long("workers")
@@ -337,8 +332,7 @@ fn workers_words<'a>(alloc: Global) -> Arg<'a>
 }
 
 fn sessions_words<'a>(alloc: Global) -> Arg<'a>
-    ensures rule { rule_of result ≡ sessions_option }
-    ensures local { result.global ≡ false }
+    ensures { IsArgument sessions_option result }
 {
     Arg::new(alloc, "sessions")
         .long("sessions")
@@ -348,8 +342,7 @@ fn sessions_words<'a>(alloc: Global) -> Arg<'a>
 }
 
 fn dump_words<'a>(alloc: Global) -> Arg<'a>
-    ensures rule { rule_of result ≡ dump_option }
-    ensures local { result.global ≡ false }
+    ensures { IsArgument dump_option result }
 {
     Arg::new(alloc, "dump").long("dump").value_name("FILE").help(
         "Where what happened is written at the end [default: nowhere]",
@@ -357,8 +350,7 @@ fn dump_words<'a>(alloc: Global) -> Arg<'a>
 }
 
 fn file_words<'a>(alloc: Global) -> Arg<'a>
-    ensures rule { rule_of result ≡ file_argument }
-    ensures local { result.global ≡ false }
+    ensures { IsArgument file_argument result }
 {
     Arg::new(alloc, "file")
         .value_name("FILE")

@@ -1,5 +1,5 @@
 -- A worker counts one command for each act that its client's ticket gains.
-use Rattle.std.proofs.Common.{◌≡◌, ◌⊎◌, inl, inr, ℕ, suc, ◌+◌, List, [], ◌∷◌, length, Option, None, Some, Result, Ok, Err, IfOk, refl, sym, ap, ◌∙◌, subst, arith}
+use Rattle.std.proofs.Common.{◌≡◌, ◌⊎◌, inl, inr, ℕ, suc, ◌+◌, List, [], ◌∷◌, length, Option, None, Some, Result, Ok, Err, refl, sym, ap, ◌∙◌, subst, arith}
 use Rattle.std.proofs.lemmas.List.{length-append}
 use Rattle.bean_queue.specs.declared.op.Op.{Op}
 use Rattle.bean_queue.specs.declared.reply.Reply.{Reply}
@@ -13,7 +13,8 @@ use Rattle.session.specs.declared.faults.ServiceFault.TheVariants.{Refused, Stop
 use Rattle.session.specs.declared.faults.SessionFault.{SessionFault}
 use Rattle.session.specs.declared.faults.SessionFault.TheVariants.{OutOfMemory, ReadFailed, WriteFailed, ServiceStopped}
 use Rattle.session.specs.Items.{Response}
-use Rattle.session.specs.Serving.{Asked, result_of, Whole, StopsAt, Partly, BreaksOff, ClosedAfter, ClosedOnce, Over}
+use Rattle.session.specs.Serving.{Asked, result_of, StopsAt, Partly, ClosedAfter, ClosedBadly, ClosedOnce, Served}
+use Rattle.session.specs.StreamStates.{StreamState}
 use Rattle.node_threads.specs.Attending.{Attendance, Adds, TakesLeave, with_one}
 
 abbrev pub Balances : {Op Reply : Type 0} → Attendance Op Reply → Attendance Op Reply → Type 0
@@ -65,24 +66,20 @@ closed_balance : (old new : Attendance Op Reply) (P : Attendance Op Reply → Ty
 closed_balance old new P r before c = then_balances old c.0 new (before c.0 c.1) (ends_balance c.0 r new c.2)
 
 -- however the session ended
-pub served_balance : (old new : Attendance Op Reply) (a b h k : Option (List ℕ)) (r : Result End SessionFault) (Ended : End → Type 0)
-    → IfOk r (λ end. Over a b h k (λ input output. ClosedAfter TakesLeave (λ s. Whole Adds old s input output end) (Ok tt) new))
-    → (r ≡ Err ReadFailed → Over a b h k (λ input output. ClosedOnce TakesLeave (λ s. Whole Adds old s input output End.Eof) new))
-    → (r ≡ Err WriteFailed → Over a b h k (λ input output. ClosedOnce TakesLeave (λ s. BreaksOff Adds old s input output) new))
-    → (r ≡ Err ServiceStopped → Over a b h k (λ input output. ClosedOnce TakesLeave (λ s. StopsAt Adds old s input output) new
-    ⊎ ((end : End) × ClosedAfter TakesLeave (λ s. Whole Adds old s input output end) (Err ServiceFault.Stopped) new × Ended end)))
-    → (r ≡ Err OutOfMemory → Over a b h k (λ input output. ClosedOnce TakesLeave (λ s. Partly Adds old s input output) new))
-    → Balances old new
-served_balance old new a b h k (Ok end) Ended went reading writing stopping memory =
-    closed_balance old new _ (Ok tt) (λ last w. asked_balance old last _ w.1 w.3) went.4
-served_balance old new a b h k (Err ReadFailed) Ended went reading writing stopping memory =
-    let o = (reading refl).4 in closed_balance old new _ o.0 (λ last w. asked_balance old last _ w.1 w.3) o.1
-served_balance old new a b h k (Err WriteFailed) Ended went reading writing stopping memory =
-    let o = (writing refl).4 in closed_balance old new _ o.0 (λ last w. asked_balance old last _ w.2 w.8) o.1
-served_balance old new a b h k (Err ServiceStopped) Ended went reading writing stopping memory = at (stopping refl).4
+pub served_balance : (old new : Attendance Op Reply) (before after : StreamState) (r : Result End SessionFault) → Served Adds TakesLeave old new before after r → Balances old new
+served_balance old new before after (Ok end) served =
+    closed_balance old new _ (Ok tt) (λ last w. asked_balance old last _ w.1 w.3) served.ok.4
+served_balance old new before after (Err ReadFailed) served =
+    let o = (served.all_was_told refl).4 in closed_balance old new _ o.0 (λ last w. asked_balance old last _ w.1 w.3) o.1
+served_balance old new before after (Err WriteFailed) served =
+    let o = (served.breaks_off refl).4 in closed_balance old new _ o.0 (λ last w. asked_balance old last _ w.2 w.8) o.1
+served_balance old new before after (Err ServiceStopped) served = at (served.stopped refl).4
   where
-    at : {input output : List ℕ} → (ClosedOnce TakesLeave (λ s. StopsAt Adds old s input output) new ⊎ ((end : End) × ClosedAfter TakesLeave (λ s. Whole Adds old s input output end) (Err ServiceFault.Stopped) new × Ended end)) → Balances old new
+    at : {input output : List ℕ} → (ClosedOnce TakesLeave (λ s. StopsAt Adds old s input output) new ⊎ ClosedBadly Adds TakesLeave old new after (Err ServiceFault.Stopped) input output) → Balances old new
     at (inl o) = closed_balance old new _ o.0 (λ last s. then_balances old s.4 last (asked_balance old s.4 _ s.1 s.6) (adds_balance s.4 s.2 (Err Stopped) last s.7)) o.1
     at (inr o) = closed_balance old new _ (Err Stopped) (λ last w. asked_balance old last _ w.1 w.3) o.1
-served_balance old new a b h k (Err OutOfMemory) Ended went reading writing stopping memory =
-    let o = (memory refl).4 in closed_balance old new _ o.0 (λ last p. asked_balance old last _ p.2 p.6) o.1
+served_balance old new before after (Err OutOfMemory) served = at (served.out_of_memory refl).4
+  where
+    at : {input output : List ℕ} → (ClosedOnce TakesLeave (λ s. Partly Adds old s input output) new ⊎ ClosedBadly Adds TakesLeave old new after (Err ServiceFault.Refused) input output) → Balances old new
+    at (inl o) = closed_balance old new _ o.0 (λ last p. asked_balance old last _ p.2 p.6) o.1
+    at (inr o) = absurd o.1.2

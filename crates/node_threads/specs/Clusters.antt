@@ -1,13 +1,14 @@
 -- The tickets of all workers, and the hall of whose sessions they are.
-use Rattle.std.specs.Prelude.{◌≡◌, ◌≢◌, ◌==◌, ℕ, true, List, length, sum, map, flat_map, Option, Some}
+use Rattle.std.specs.Prelude.{◌≡◌, ◌≢◌, ◌≤◌, ◌==◌, ℕ, true, List, length, sum, map, flat_map, Option, None, Some}
 use Rattle.std.specs.Global.{Vec}
 use Rattle.std.specs.List.{IsDistinct}
 use Rattle.object.specs.Lists.{In}
 use Rattle.hall.specs.Books.{is_opened}
 use Rattle.hall.specs.Halls.{HallState, Agrees}
 use Rattle.hall.specs.Tickets.{TicketState}
+use Rattle.node_threads.specs.declared.accept.Accept.{Ghosts as Accept}
 use Rattle.node_threads.specs.declared.cluster_error.ClusterError.{ClusterError}
-use Rattle.node_threads.specs.declared.cluster_error.ClusterError.TheVariants.{BadNumber}
+use Rattle.node_threads.specs.declared.cluster_error.ClusterError.TheVariants.{BadNumber, ListenFailed, OutOfMemory}
 use Rattle.node_threads.specs.Attending.{acts_in}
 
 -- the lists of all workers, one after the other
@@ -31,3 +32,26 @@ pub record IsAccountedFor {Op Reply : Type 0} (h : HallState Op Reply) (tickets 
   pub handed_in : sum h.book ≡ acts_in tickets
   pub agree : fault ≢ Some BadNumber → AreItsTickets h tickets
   pub disagree : fault ≡ Some BadNumber → AreItsTickets h tickets → ⊥
+
+-- so many workers a cluster may have
+pub record IsWorkerCount (workers : ℕ) : Type 0 where
+  pub some : 1 ≤ workers
+  pub few : workers ≤ 64
+
+-- What accepts clients has come to its end and failed at no call, where no fault is told; and it has failed where it is told
+-- that the cluster cannot listen.
+pub record LeavesAccept {A R W : Type 0} (accepts : Accept A R W) (before after : A) (fault : Option ClusterError) : Type 0 where
+  pub ended : fault ≡ None → accepts.has_ended after ≡ true
+  pub none_failed : fault ≡ None → accepts.has_failed after ≡ accepts.has_failed before
+  pub failed : fault ≡ Some ListenFailed → accepts.has_failed after ≡ true
+
+-- What a cluster has left when it has ended: the tickets of its sessions, a list for each worker, and what accepted its
+-- clients. Where it is told that memory was short, all is as it was.
+pub record LeavesCluster {Op Reply A R W : Type 0} (accepts : Accept A R W)
+    (hall after : HallState Op Reply) (accept rest : A) (tickets : List (Vec (TicketState Op Reply)))
+    (workers : ℕ) (fault : Option ClusterError) : Type 0 where
+  pub accounted : IsAccountedFor after (all_tickets tickets) fault
+  pub untouched : fault ≡ Some OutOfMemory → after ≡ hall
+  pub not_asked : fault ≡ Some OutOfMemory → rest ≡ accept
+  pub each_worker : fault ≡ None → length tickets ≡ workers
+  pub clients : LeavesAccept accepts accept rest fault

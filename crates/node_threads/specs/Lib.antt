@@ -1,4 +1,5 @@
 pub mod Attending
 pub mod Clusters
+pub mod Counting
 pub mod Marks
 pub mod Rings

@@ -1,9 +1,7 @@
-ghost use Rattle.std.specs.Prelude.{◌≡◌, ◌≢◌, ◌⊎◌, ◌+◌, true, length, Ok, Err, IfOk};
-ghost use Rattle.std.specs.Io.KnownBytes.{IsAtEnd};
-ghost use Rattle.session.specs.declared.faults.End.{End};
-ghost use Rattle.session.specs.declared.faults.ServiceFault.{ServiceFault};
+ghost use Rattle.std.specs.Prelude.{◌≡◌, ◌+◌, length, Err};
 ghost use Rattle.session.specs.declared.faults.SessionFault.{SessionFault};
-ghost use Rattle.session.specs.Serving.{Over, Whole, StopsAt, Partly, RunsShort, BreaksOff, ClosedAfter, ClosedOnce};
+ghost use Rattle.session.specs.Serving.{ClosedOnce, Over, Partly, RunsShort, Served};
+ghost use Rattle.session.specs.StreamStates.{LeavesStreams, streams_of};
 ghost use Rattle.node_threads.specs.Attending.{Adds, TakesLeave, attendance_of};
 
 use crate::attendant::Attendant;
@@ -64,48 +62,13 @@ pub fn attend<
     ensures one_part { result.commands.parts ≡ 1 }
     ensures counted { result.commands.amount + length ticket.acts
         ≡ commands.amount + length result.ticket.acts }
-    ensures ok { IfOk result.ended (λ end. Over (I.remaining reader) (I.remaining result.reader)
-        (W.contents writer.old) (W.contents writer.new)
-        (λ input output. ClosedAfter TakesLeave
-        (λ s. Whole Adds (attendance_of ticket commands.amount) s input output end) (Ok tt)
-        (attendance_of result.ticket result.commands.amount))) }
-    ensures ended { IfOk result.ended (λ end. end ≡ End.Eof → I.has_ended result.reader ≡ true) }
-    ensures nothing_left { IfOk result.ended (λ end. end ≡ End.Eof →
-        IsAtEnd (I.remaining result.reader)) }
-    ensures quits { result.ended ≡ Ok End.Quit →
-        I.has_ended result.reader ≡ I.has_ended reader }
-    ensures read_failed { result.ended ≡ Err SessionFault.ReadFailed →
-        I.has_failed result.reader ≡ true }
-    ensures not_failed { result.ended ≢ Err SessionFault.ReadFailed →
-        I.has_failed result.reader ≡ I.has_failed reader }
-    ensures all_was_told { result.ended ≡ Err SessionFault.ReadFailed →
-        Over (I.remaining reader) (I.remaining result.reader)
-        (W.contents writer.old) (W.contents writer.new)
-        (λ input output. ClosedOnce TakesLeave
-        (λ s. Whole Adds (attendance_of ticket commands.amount) s input output End.Eof)
-        (attendance_of result.ticket result.commands.amount)) }
-    ensures write_failed { result.ended ≡ Err SessionFault.WriteFailed →
-        W.has_failed writer.new ≡ true }
-    ensures no_write_failed { result.ended ≢ Err SessionFault.WriteFailed →
-        W.has_failed writer.new ≡ W.has_failed writer.old }
-    ensures not_read_on { result.ended ≡ Err SessionFault.WriteFailed →
-        I.has_ended result.reader ≡ I.has_ended reader }
-    ensures breaks_off { result.ended ≡ Err SessionFault.WriteFailed →
-        Over (I.remaining reader) (I.remaining result.reader)
-        (W.contents writer.old) (W.contents writer.new)
-        (λ input output. ClosedOnce TakesLeave
-        (λ s. BreaksOff Adds (attendance_of ticket commands.amount) s input output)
-        (attendance_of result.ticket result.commands.amount)) }
-    ensures stopped { result.ended ≡ Err SessionFault.ServiceStopped →
-        Over (I.remaining reader) (I.remaining result.reader)
-        (W.contents writer.old) (W.contents writer.new)
-        (λ input output. ClosedOnce TakesLeave
-        (λ s. StopsAt Adds (attendance_of ticket commands.amount) s input output)
+    ensures told { Served Adds TakesLeave (attendance_of ticket commands.amount)
         (attendance_of result.ticket result.commands.amount)
-        ⊎ ((end : End) × ClosedAfter TakesLeave
-        (λ s. Whole Adds (attendance_of ticket commands.amount) s input output end)
-        (Err ServiceFault.Stopped) (attendance_of result.ticket result.commands.amount)
-        × (end ≡ End.Eof → I.has_ended result.reader ≡ true))) }
+        (streams_of I.ByteIn W.ByteOut reader writer.old)
+        (streams_of I.ByteIn W.ByteOut result.reader writer.new) result.ended }
+    ensures streams { LeavesStreams (streams_of I.ByteIn W.ByteOut reader writer.old)
+        (streams_of I.ByteIn W.ByteOut result.reader writer.new) result.ended }
+    // its end is never refused, so that memory was short before the session went well
     ensures out_of_memory { result.ended ≡ Err SessionFault.OutOfMemory →
         Over (I.remaining reader) (I.remaining result.reader)
         (W.contents writer.old) (W.contents writer.new)

@@ -1,6 +1,7 @@
-ghost use Rattle.std.specs.Prelude.{◌≡◌, ◌≢◌, ◌+◌, ◌≤◌, [], true, None, Some, IfOk, length, vec_capacity};
-ghost use Rattle.node_threads.specs.declared.cluster_error.ClusterError.TheVariants.{BadNumber, ListenFailed, OutOfMemory};
-ghost use Rattle.node_threads.specs.Clusters.{IsAccountedFor, all_tickets};
+ghost use Rattle.std.specs.Prelude.{◌≡◌, ◌≢◌, ◌+◌, ◌≤◌, [], Some, IfOk, length, vec_capacity};
+ghost use Rattle.node_threads.specs.declared.cluster_error.ClusterError.TheVariants.{BadNumber, OutOfMemory};
+ghost use Rattle.node_threads.specs.Clusters.{IsAccountedFor, IsWorkerCount, LeavesCluster, all_tickets};
+ghost use Rattle.node_threads.specs.Counting.{CountsNone, HaveAllParts};
 
 use crate::accept::Accept;
 use crate::clock::Seconds;
@@ -21,6 +22,7 @@ use std::marker::Brand;
 use std::rt::Clock;
 use std::sync::Wait;
 use std::sync::ledger::{Blank, Ledger};
+use std::thread;
 use std::thread::{JoinHandle, Threads};
 
 /// What is left when a cluster has ended: its hall, the tickets of its sessions, a list for each worker, what accepted its
@@ -51,16 +53,9 @@ pub fn run_cluster<
     gate: &G,
 ) -> Ended<O, A>
     requires none { hall.book ≡ [] }
-    requires some { 1 ≤ workers }
-    requires few { workers ≤ 64 }
-    ensures accounted { IsAccountedFor result.hall (all_tickets result.tickets.items) result.fault }
-    ensures untouched { result.fault ≡ Some OutOfMemory → result.hall ≡ hall }
-    ensures not_asked { result.fault ≡ Some OutOfMemory → result.accept ≡ accept }
-    ensures each_worker { result.fault ≡ None → length result.tickets.items ≡ workers }
-    ensures ended { result.fault ≡ None → A.has_ended result.accept ≡ true }
-    ensures none_failed { result.fault ≡ None →
-        A.has_failed result.accept ≡ A.has_failed accept }
-    ensures failed { result.fault ≡ Some ListenFailed → A.has_failed result.accept ≡ true }
+    requires workers { IsWorkerCount workers }
+    ensures left { LeavesCluster A.Accept hall result.hall accept result.accept
+        result.tickets.items workers result.fault }
 {
     run_cluster_faulty(rt, alloc, hall, accept, seconds, workers, gate, &NoFaults)
 }
@@ -84,16 +79,9 @@ pub fn run_cluster_faulty<
     faults: &F,
 ) -> Ended<O, A>
     requires none { hall.book ≡ [] }
-    requires some { 1 ≤ workers }
-    requires few { workers ≤ 64 }
-    ensures accounted { IsAccountedFor result.hall (all_tickets result.tickets.items) result.fault }
-    ensures untouched { result.fault ≡ Some OutOfMemory → result.hall ≡ hall }
-    ensures not_asked { result.fault ≡ Some OutOfMemory → result.accept ≡ accept }
-    ensures each_worker { result.fault ≡ None → length result.tickets.items ≡ workers }
-    ensures ended { result.fault ≡ None → A.has_ended result.accept ≡ true }
-    ensures none_failed { result.fault ≡ None →
-        A.has_failed result.accept ≡ A.has_failed accept }
-    ensures failed { result.fault ≡ Some ListenFailed → A.has_failed result.accept ≡ true }
+    requires workers { IsWorkerCount workers }
+    ensures left { LeavesCluster A.Accept hall result.hall accept result.accept
+        result.tickets.items workers result.fault }
 {
     let Ok(room) = Room::new(alloc, &hall, workers) else {
         return Ended {
@@ -182,23 +170,17 @@ fn run_counted<
     sessions: Blank,
     commands: Blank,
 ) -> Ended<O, A>
-    requires none { hall.book ≡ [] }
+    requires none { CountsNone S.Ledger C.Ledger hall.book sessions commands }
     requires few { workers ≤ 64 }
     requires tickets { room.tickets.items ≡ [] }
     requires room { workers ≤ vec_capacity room.tickets }
     requires crew { room.crew.items ≡ [] }
     requires crew_room { length hall.nodes.network.members + 1 ≤ vec_capacity room.crew }
-    requires sessions_name { sessions.name ≡ S.name }
-    requires sessions_parts { (sessions.parts ≡ S.parts) × (S.parts ≡ workers + 1) }
-    requires commands_name { commands.name ≡ C.name }
-    requires commands_parts { (commands.parts ≡ C.parts) × (C.parts ≡ workers + 1) }
-    ensures accounted { IsAccountedFor result.hall (all_tickets result.tickets.items) result.fault }
+    requires session_parts { S.parts ≡ workers + 1 }
+    requires command_parts { C.parts ≡ workers + 1 }
+    ensures left { LeavesCluster A.Accept hall result.hall outside.entry.accept result.accept
+        result.tickets.items workers result.fault }
     ensures memory { result.fault ≢ Some OutOfMemory }
-    ensures each_worker { result.fault ≡ None → length result.tickets.items ≡ workers }
-    ensures ended { result.fault ≡ None → A.has_ended result.accept ≡ true }
-    ensures none_failed { result.fault ≡ None →
-        A.has_failed result.accept ≡ A.has_failed outside.entry.accept }
-    ensures failed { result.fault ≡ Some ListenFailed → A.has_failed result.accept ≡ true }
 {
     let nodes = hall.members().count();
     let Room {
@@ -224,15 +206,11 @@ fn run_counted<
         accept: outside.accept,
         clients: sender,
     };
-    let (finished, _crew) = run_threads(
-        &common,
-        nodes,
-        outside.seconds,
-        workers,
-        tally,
-        door,
-        crew,
-    );
+    let common = &common;
+    let seconds = outside.seconds;
+    let (finished, _crew) = thread::scope(thread::scope_env(), rt, move |scope| {
+        run_threads(scope, common, nodes, seconds, workers, tally, door, crew)
+    });
     end(shared, finished)
 }
 
@@ -241,8 +219,7 @@ fn end<O: Object, S: Ledger, C: Ledger, A>(
     shared: Shared<O, S, C>,
     finished: Finished<O, S, C, A>,
 ) -> Ended<O, A>
-    requires sessions { finished.tally.sessions.parts ≡ S.parts }
-    requires commands { finished.tally.commands.parts ≡ C.parts }
+    requires all { HaveAllParts S.Ledger C.Ledger finished.tally.sessions finished.tally.commands }
     requires fault { finished.fault ≢ Some BadNumber }
     requires memory { finished.fault ≢ Some OutOfMemory }
     ensures accounted { IsAccountedFor result.hall (all_tickets result.tickets.items) result.fault }

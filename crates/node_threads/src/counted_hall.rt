@@ -1,8 +1,9 @@
-ghost use Rattle.std.specs.Prelude.{◌≡◌, ◌+◌, ◌<◌, [], ℕ, Some, length, sum, IfOk, OnOk, OnErr};
+ghost use Rattle.std.specs.Prelude.{◌≡◌, ◌<◌, Some, length, sum, OnOk, OnErr};
 ghost use Rattle.hall.specs.declared.ticket.NotedAct.{NotedAct};
 ghost use Rattle.hall.specs.Halls.{after_tick, with_nodes};
 ghost use Rattle.hall.specs.Recorded.{asked};
-ghost use Rattle.hall.specs.Tickets.{new_ticket, last_command, last_noted, with_act};
+ghost use Rattle.hall.specs.Tickets.{last_command, last_noted};
+ghost use Rattle.node_threads.specs.Counting.{CountNothing, CountsAll, CountsNone, HandsInOne, HaveAllParts, OpensOne};
 
 use crate::faults::Mishap;
 use crate::turn::Watch;
@@ -33,13 +34,9 @@ impl<O: Object, S: Ledger, C: Ledger> CountedHall<O, S, C> {
         sessions: Blank,
         commands: Blank,
     ) -> (CountedHall<O, S, C>, Share<S>, Share<C>)
-        requires none { hall.book ≡ [] }
-        requires sessions_name { sessions.name ≡ S.name }
-        requires sessions_parts { sessions.parts ≡ S.parts }
-        requires commands_name { commands.name ≡ C.name }
-        requires commands_parts { commands.parts ≡ C.parts }
-        ensures sessions { (result.1.parts ≡ S.parts) × (result.1.amount ≡ 0) }
-        ensures commands { (result.2.parts ≡ C.parts) × (result.2.amount ≡ 0) }
+        requires none { CountsNone S.Ledger C.Ledger hall.book sessions commands }
+        ensures all { HaveAllParts S.Ledger C.Ledger result.1 result.2 }
+        ensures nothing { CountNothing result.1 result.2 }
     {
         let (sessions, all_sessions) = sessions.open::<S>();
         let (commands, all_commands) = commands.open::<C>();
@@ -61,13 +58,9 @@ impl<O: Object, S: Ledger, C: Ledger> CountedHall<O, S, C> {
         all_sessions: &mut Share<S>,
         all_commands: &mut Share<C>,
     ) -> (Hall<O>, Vec<bool>)
-        requires sessions { all_sessions.old.parts ≡ S.parts }
-        requires commands { all_commands.old.parts ≡ C.parts }
-        ensures opened { length result.0.book ≡ all_sessions.new.amount }
-        ensures handed_in { sum result.0.book ≡ all_commands.new.amount }
-        ensures marks { length result.1.items ≡ length result.0.book }
-        ensures sessions { all_sessions.new.amount ≡ all_sessions.old.amount }
-        ensures commands { all_commands.new.amount ≡ all_commands.old.amount }
+        requires all { HaveAllParts S.Ledger C.Ledger all_sessions.old all_commands.old }
+        ensures counted { CountsAll result.0.book result.1 all_sessions.old all_sessions.new
+            all_commands.old all_commands.new }
     {
         let CountedHall {
             hall,
@@ -83,10 +76,7 @@ impl<O: Object, S: Ledger, C: Ledger> CountedHall<O, S, C> {
     /// Opens a session, which counts in this share.
     pub(crate) fn open_session(&mut self, mine: &mut Share<S>) -> Result<Ticket<O>, HallError>
         requires { 0 < mine.old.parts }
-        ensures ticket { IfOk result (λ t. (session : ℕ) × (t ≡ new_ticket session)) }
-        ensures counted { OnOk result (mine.new.amount ≡ mine.old.amount + 1) }
-        ensures err { OnErr result (mine.new.amount ≡ mine.old.amount) }
-        ensures parts { mine.new.parts ≡ mine.old.parts }
+        ensures opened { OpensOne mine.old mine.new result }
     {
         let CountedHall {
             hall,
@@ -110,11 +100,7 @@ impl<O: Object, S: Ledger, C: Ledger> CountedHall<O, S, C> {
         node: u8,
     ) -> Result<(), HallError>
         requires { 0 < mine.old.parts }
-        ensures ticket { OnOk result (ticket.new ≡ with_act ticket.old act) }
-        ensures counted { OnOk result (mine.new.amount ≡ mine.old.amount + 1) }
-        ensures kept { OnErr result (ticket.new ≡ ticket.old) }
-        ensures err { OnErr result (mine.new.amount ≡ mine.old.amount) }
-        ensures parts { mine.new.parts ≡ mine.old.parts }
+        ensures handed_in { HandsInOne act ticket.old ticket.new mine.old mine.new result }
     {
         let CountedHall { hall, commands, .. } = self;
         hall.submit(ticket, act, node)?;

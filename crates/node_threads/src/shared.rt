@@ -1,8 +1,9 @@
-ghost use Rattle.std.specs.Prelude.{◌≡◌, ◌+◌, ◌<◌, ◌≤◌, [], ℕ, true, false, Some, IfOk, OnOk, OnErr, length, sum, vec_len};
+ghost use Rattle.std.specs.Prelude.{◌≡◌, ◌<◌, ◌≤◌, true, false, Some, IfOk, OnOk, OnErr, vec_len};
 ghost use Rattle.hall.specs.declared.ticket.NotedAct.{NotedAct};
 ghost use Rattle.hall.specs.Halls.{after_tick, with_nodes};
 ghost use Rattle.hall.specs.Recorded.{asked};
-ghost use Rattle.hall.specs.Tickets.{new_ticket, last_command, last_noted, with_act, with_noted};
+ghost use Rattle.hall.specs.Tickets.{last_command, last_noted, with_noted};
+ghost use Rattle.node_threads.specs.Counting.{CountNothing, CountsAll, CountsNone, HandsInOne, HaveAllParts, OpensOne};
 ghost use Rattle.node_threads.specs.Rings.{node_after, node_of_second};
 
 mod helping;
@@ -55,15 +56,10 @@ impl<O: Object, S: Ledger, C: Ledger> Shared<O, S, C> {
         sessions: Blank,
         commands: Blank,
     ) -> Result<(Shared<O, S, C>, Share<S>, Share<C>), AllocError>
-        requires none { hall.book ≡ [] }
-        requires sessions_name { sessions.name ≡ S.name }
-        requires sessions_parts { sessions.parts ≡ S.parts }
-        requires commands_name { commands.name ≡ C.name }
-        requires commands_parts { commands.parts ≡ C.parts }
-        ensures sessions { IfOk result
-            (λ shared. (shared.1.parts ≡ S.parts) × (shared.1.amount ≡ 0)) }
-        ensures commands { IfOk result
-            (λ shared. (shared.2.parts ≡ C.parts) × (shared.2.amount ≡ 0)) }
+        requires none { CountsNone S.Ledger C.Ledger hall.book sessions commands }
+        ensures all { IfOk result
+            (λ shared. HaveAllParts S.Ledger C.Ledger shared.1 shared.2) }
+        ensures nothing { IfOk result (λ shared. CountNothing shared.1 shared.2) }
     {
         let places = WaitingPlaces::new(alloc, hall.members().count(), workers)?;
         Ok(Shared::new(alloc, hall, places, sessions, commands))
@@ -77,13 +73,9 @@ impl<O: Object, S: Ledger, C: Ledger> Shared<O, S, C> {
         sessions: Blank,
         commands: Blank,
     ) -> (Shared<O, S, C>, Share<S>, Share<C>)
-        requires none { hall.book ≡ [] }
-        requires sessions_name { sessions.name ≡ S.name }
-        requires sessions_parts { sessions.parts ≡ S.parts }
-        requires commands_name { commands.name ≡ C.name }
-        requires commands_parts { commands.parts ≡ C.parts }
-        ensures sessions { (result.1.parts ≡ S.parts) × (result.1.amount ≡ 0) }
-        ensures commands { (result.2.parts ≡ C.parts) × (result.2.amount ≡ 0) }
+        requires none { CountsNone S.Ledger C.Ledger hall.book sessions commands }
+        ensures all { HaveAllParts S.Ledger C.Ledger result.1 result.2 }
+        ensures nothing { CountNothing result.1 result.2 }
     {
         let (hall, sessions, commands) = CountedHall::new(alloc, hall, sessions, commands);
         let shared = Shared {
@@ -100,13 +92,9 @@ impl<O: Object, S: Ledger, C: Ledger> Shared<O, S, C> {
         all_sessions: &mut Share<S>,
         all_commands: &mut Share<C>,
     ) -> (Hall<O>, Vec<bool>)
-        requires sessions { all_sessions.old.parts ≡ S.parts }
-        requires commands { all_commands.old.parts ≡ C.parts }
-        ensures opened { length result.0.book ≡ all_sessions.new.amount }
-        ensures handed_in { sum result.0.book ≡ all_commands.new.amount }
-        ensures marks { length result.1.items ≡ length result.0.book }
-        ensures sessions { all_sessions.new.amount ≡ all_sessions.old.amount }
-        ensures commands { all_commands.new.amount ≡ all_commands.old.amount }
+        requires all { HaveAllParts S.Ledger C.Ledger all_sessions.old all_commands.old }
+        ensures counted { CountsAll result.0.book result.1 all_sessions.old all_sessions.new
+            all_commands.old all_commands.new }
     {
         let Shared { hall, places: _ } = self;
         hall.into_inner().into_hall(all_sessions, all_commands)
@@ -120,10 +108,7 @@ impl<O: Object, S: Ledger, C: Ledger> Shared<O, S, C> {
         worker: u32,
     ) -> Result<Ticket<O>, HallError>
         requires { 0 < mine.old.parts }
-        ensures ticket { IfOk result (λ t. (session : ℕ) × (t ≡ new_ticket session)) }
-        ensures counted { OnOk result (mine.new.amount ≡ mine.old.amount + 1) }
-        ensures err { OnErr result (mine.new.amount ≡ mine.old.amount) }
-        ensures parts { mine.new.parts ≡ mine.old.parts }
+        ensures opened { OpensOne mine.old mine.new result }
     {
         let ticket = self.lock(rt).open_session(mine)?;
         self.places.sit(worker, ticket.session());
@@ -140,12 +125,8 @@ impl<O: Object, S: Ledger, C: Ledger> Shared<O, S, C> {
         node: u8,
     ) -> Result<HandedIn, HallError>
         requires { 0 < mine.old.parts }
-        ensures ticket { OnOk result (ticket.new ≡ with_act ticket.old act) }
+        ensures handed_in { HandsInOne act ticket.old ticket.new mine.old mine.new result }
         ensures at { IfOk result (λ handed_in. handed_in.node ≡ node) }
-        ensures counted { OnOk result (mine.new.amount ≡ mine.old.amount + 1) }
-        ensures kept { OnErr result (ticket.new ≡ ticket.old) }
-        ensures err { OnErr result (mine.new.amount ≡ mine.old.amount) }
-        ensures parts { mine.new.parts ≡ mine.old.parts }
     {
         let mut guard = self.lock(rt);
         guard.submit(mine, ticket, act, node)?;

@@ -1,4 +1,5 @@
-ghost use Rattle.std.specs.Prelude.{◌≡◌, ◌≢◌, ◌+◌, ◌≤◌, ◌<◌, ◌-◌, ◌^◌, true, None, Some, Err, IfSome, OnOk, OnErr, vec_len, vec_capacity};
+ghost use Rattle.std.specs.Prelude.{◌≡◌, ◌≢◌, ◌+◌, ◌≤◌, ◌<◌, ◌-◌, ◌^◌, None, Some, Err, IfSome, OnOk, OnErr, vec_len, vec_capacity};
+ghost use Rattle.node_threads.specs.Clusters.{LeavesAccept};
 ghost use Rattle.node_threads.specs.Rings.{node_after};
 ghost use Rattle.node_threads.specs.declared.cluster_error.ClusterError.TheVariants.{BadNumber, ListenFailed, OutOfMemory, ThreadFailed};
 
@@ -20,7 +21,6 @@ use std::alloc::Global;
 use std::rt::Clock;
 use std::sync::Wait;
 use std::sync::ledger::Ledger;
-use std::thread;
 use std::thread::{JoinHandle, Scope, Threads};
 
 /// What the threads of a cluster have in common.
@@ -95,9 +95,7 @@ impl<A: Accept + Drop> Door<A> {
     // memory ends unanswered.
     fn let_in<R: Wait>(self, rt: &R) -> (A, Option<ClusterError>)
         ensures fault { IfSome result.1 (λ fault. fault ≡ ListenFailed) }
-        ensures ended { result.1 ≡ None → A.has_ended result.0 ≡ true }
-        ensures none_failed { result.1 ≡ None → A.has_failed result.0 ≡ A.has_failed self.accept }
-        ensures failed { result.1 ≡ Some ListenFailed → A.has_failed result.0 ≡ true }
+        ensures clients { LeavesAccept A.Accept self.accept result.0 result.1 }
     {
         let Door {
             mut accept,
@@ -136,6 +134,7 @@ pub(crate) struct Finished<O: Object, S: Ledger, C: Ledger, A> {
 /// Runs all threads of a cluster: they have ended when it returns. It answers those of the nodes and the clock, too.
 pub(crate) fn run_threads<
     's,
+    E,
     O: Object<Op = Op, Reply = Reply> + Send,
     S: Ledger + Send + Sync,
     C: Ledger + Send + Sync,
@@ -145,6 +144,7 @@ pub(crate) fn run_threads<
     G: Gate + Sync,
     F: Faults + Sync,
 >(
+    scope: &Scope<'s, E>,
     common: &'s Common<'s, O, S, C, A::R, A::W, R, G, F>,
     nodes: u8,
     seconds: T,
@@ -163,49 +163,22 @@ pub(crate) fn run_threads<
     ensures crew { result.0.fault ≡ None → vec_len result.1 ≡ vec_len crew + nodes + 1 }
     ensures all { result.0.fault ≡ None →
         vec_len result.0.tally.tickets ≡ vec_len tally.tickets + workers }
-    ensures ended { result.0.fault ≡ None → A.has_ended result.0.accept ≡ true }
-    ensures none_failed { result.0.fault ≡ None →
-        A.has_failed result.0.accept ≡ A.has_failed door.accept }
-    ensures failed { result.0.fault ≡ Some ListenFailed → A.has_failed result.0.accept ≡ true }
+    ensures clients { LeavesAccept A.Accept door.accept result.0.accept result.0.fault }
     ensures fault { result.0.fault ≢ Some BadNumber }
     ensures memory { result.0.fault ≢ Some OutOfMemory }
 {
-    thread::scope(
-        thread::scope_env(),
-        common.rt,
-        move |scope| -> (Finished<O, S, C, A>, Vec<JoinHandle<()>>)
-            requires few { workers ≤ 64 }
-            requires session_parts { workers < tally.sessions.parts }
-            requires command_parts { workers < tally.commands.parts }
-            requires room { vec_len tally.tickets + workers ≤ vec_capacity tally.tickets }
-            requires crew_room { vec_len crew + nodes + 1 ≤ vec_capacity crew }
-            ensures session_parts { result.0.tally.sessions.parts ≡ tally.sessions.parts }
-            ensures command_parts { result.0.tally.commands.parts ≡ tally.commands.parts }
-            ensures crew { result.0.fault ≡ None → vec_len result.1 ≡ vec_len crew + nodes + 1 }
-            ensures all { result.0.fault ≡ None →
-                vec_len result.0.tally.tickets ≡ vec_len tally.tickets + workers }
-            ensures ended { result.0.fault ≡ None → A.has_ended result.0.accept ≡ true }
-            ensures none_failed { result.0.fault ≡ None →
-                A.has_failed result.0.accept ≡ A.has_failed door.accept }
-            ensures failed { result.0.fault ≡ Some ListenFailed →
-                A.has_failed result.0.accept ≡ true }
-            ensures fault { result.0.fault ≢ Some BadNumber }
-            ensures memory { result.0.fault ≢ Some OutOfMemory }
-        {
-            let mut crew = crew;
-            let started = start_nodes_and_clock(scope, common, nodes, seconds, &mut crew);
-            let finished = match started {
-                Ok(()) => run_workers(scope, common, common.first_desk(), workers, tally, door),
-                Err(fault) => Finished {
-                    tally,
-                    accept: door.shut(),
-                    fault: Some(fault),
-                },
-            };
-            common.shared.end();
-            (finished, crew)
+    let mut crew = crew;
+    let started = start_nodes_and_clock(scope, common, nodes, seconds, &mut crew);
+    let finished = match started {
+        Ok(()) => run_workers(scope, common, common.first_desk(), workers, tally, door),
+        Err(fault) => Finished {
+            tally,
+            accept: door.shut(),
+            fault: Some(fault),
         },
-    )
+    };
+    common.shared.end();
+    (finished, crew)
 }
 
 // Starts a thread for each node, and one for the clock.
@@ -284,10 +257,7 @@ fn run_workers<
         ≤ vec_len tally.tickets + workers + 1 }
     ensures all { result.fault ≡ None → vec_len result.tally.tickets + desk.worker
         ≡ vec_len tally.tickets + workers + 1 }
-    ensures ended { result.fault ≡ None → A.has_ended result.accept ≡ true }
-    ensures none_failed { result.fault ≡ None →
-        A.has_failed result.accept ≡ A.has_failed door.accept }
-    ensures failed { result.fault ≡ Some ListenFailed → A.has_failed result.accept ≡ true }
+    ensures clients { LeavesAccept A.Accept door.accept result.accept result.fault }
     ensures fault { result.fault ≢ Some BadNumber }
     ensures memory { result.fault ≢ Some OutOfMemory }
 {

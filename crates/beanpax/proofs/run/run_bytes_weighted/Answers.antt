@@ -1,3 +1,4 @@
+use Rattle.std.proofs.Common.{rules}
 use Rattle.bean_queue.specs.contracts.op.OpPartialEq.TheImpl.{ghosts}
 use Rattle.bean_queue.specs.Queue.{QueueState}
 use Rattle.bean_queue.specs.declared.op.Op.{Op}
@@ -21,15 +22,18 @@ Stops old new op = IsStoppedBy ghosts.eq old.hall new.hall op
 abbrev Ends : Closes Simulation
 Ends = ClosesOf Stands (λ old new. IsNotLetGo ghosts.eq old.hall new.hall)
 
-pub returns-in_err-simulation-clause-breaks_off : goal.returns-in_err-simulation-clause-breaks_off
-returns-in_err-simulation-clause-breaks_off g c = nothing_served _ _ _ c.front_item.ensures
+pub returns-in_err-simulation : goal.returns-in_err-simulation
+returns-in_err-simulation g c = record {
+  answers = search rules;
+  breaks_off = nothing_served _ _ _ c.front_item.ensures;
+  streams = search rules;
+}
 
-pub returns-clause-answers : goal.returns-clause-answers
-returns-clause-answers g c =
-    served Stands Stops Ends c.in_ok-simulation.simulation c.serve.new.service _ _ _ _ c.serve.result
-    c.in_ok-simulation.ensures.stands c.serve.ensures.ok
-
-pub returns-clause-breaks_off : goal.returns-clause-breaks_off
-returns-clause-breaks_off g c =
-    served_partly Stands Stops Ends c.in_ok-simulation.simulation c.serve.new.service _ _ _ _ c.serve.result _
-    c.front_item.ensures c.in_ok-simulation.ensures.stands c.serve.ensures.all_was_told c.serve.ensures.breaks_off c.serve.ensures.stopped c.serve.ensures.out_of_memory
+pub returns : goal.returns
+returns g c = record {
+  answers = served Stands Stops Ends c.in_ok-simulation.simulation c.serve.new.service _ _ c.serve.result c.in_ok-simulation.ensures.stands c.serve.ensures.told;
+  breaks_off =
+      served_partly Stands Stops Ends c.in_ok-simulation.simulation c.serve.new.service _ _ c.serve.result
+      c.front_item.ensures c.in_ok-simulation.ensures.stands c.serve.ensures.told;
+  streams = c.serve.ensures.streams;
+}
