@@ -1,5 +1,5 @@
-//! The text of what happened in a run of nodes: how a chronicle of a queue is written and read, and what is wrong with one.
-//! The chronicle itself is a value of crate `recorder`.
+//! The text of what happened in a run of nodes: how a chronicle of a queue is written and read, and
+//! what is wrong with one. The chronicle itself is a value of crate `recorder`.
 //!
 //! `specs/Happenings.antt` says in which order submissions and answers came, and `specs/Dump.antt` how a chronicle is
 //! written. `specs/Reading.antt` says which text is read, and where reading stops;

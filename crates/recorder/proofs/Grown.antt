@@ -1,5 +1,5 @@
 -- A chronicle with one thing more is a chronicle.
-use Rattle.std.proofs.Common.{◌≡◌, ℕ, ◌≤◌, List, [], ◌∷◌, ◌++◌, length, refl, arith, length-append}
+use Rattle.std.proofs.Common.{ℕ, List, [], ◌∷◌, length, refl, arith, length-append}
 use Rattle.ballot.specs.Members.{IsMembers}
 use Rattle.object.specs.declared.command.Answer.{Answer}
 use Rattle.object.specs.declared.command.Command.{Command}
