@@ -1,6 +1,6 @@
 use Rattle.std.proofs.Common.{map, take, decimal}
 use Rattle.chronicle.specs.Lines.{spaced}
-use Rattle.chronicle.proofs.Texts.{front_kept}
+use Rattle.chronicle.proofs.texts.Texts.{front_kept}
 use Rattle.chronicle.proofs.append.append_numbers.Goals as goal
 
 pub returns-in_err-append_number-clause-front : goal.returns-in_err-append_number-clause-front

@@ -3,7 +3,7 @@ use Rattle.std.proofs.lemmas.Bool.Decides.{Decides-eqb}
 use Rattle.std.proofs.lemmas.Slice.Eq.{strip_suffix_is, bytes_eq-Decides}
 use Rattle.chronicle.specs.Entries.{entry_line}
 use Rattle.chronicle.specs.Told.{entry_of_words}
-use Rattle.chronicle.proofs.Tells.{says_no_line, says_nothing, says_otherwise, says_it}
+use Rattle.chronicle.proofs.spelling.Tells.{says_no_line, says_nothing, says_otherwise, says_it}
 use Rattle.chronicle.proofs.entry.read_entry.Goals as goal
 
 not_true : (b : Bool) → true ≡ not b → b ≡ true → ⊥

@@ -1,5 +1,5 @@
 use Rattle.chronicle.specs.Checking.{ordered_commands}
-use Rattle.chronicle.proofs.Legal.{faultless_is_legal}
+use Rattle.chronicle.proofs.verdicts.Legal.{faultless_is_legal}
 use Rattle.chronicle.proofs.laws.faultless_is_legal.Goals as goal
 
 pub returns-clause-legal : goal.returns-clause-legal

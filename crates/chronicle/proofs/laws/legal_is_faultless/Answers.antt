@@ -1,4 +1,4 @@
-use Rattle.chronicle.proofs.Faultless.{legal_is_faultless}
+use Rattle.chronicle.proofs.verdicts.Faultless.{legal_is_faultless}
 use Rattle.chronicle.proofs.laws.legal_is_faultless.Goals as goal
 
 pub returns : goal.returns

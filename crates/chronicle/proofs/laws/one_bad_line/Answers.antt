@@ -1,4 +1,4 @@
-use Rattle.chronicle.proofs.OneBadLine.{one_bad_line}
+use Rattle.chronicle.proofs.stops.OneBadLine.{one_bad_line}
 use Rattle.chronicle.proofs.laws.one_bad_line.Goals as goal
 
 pub returns : goal.returns

@@ -1,4 +1,4 @@
-use Rattle.chronicle.proofs.OneChronicle.{one_chronicle}
+use Rattle.chronicle.proofs.texts.OneChronicle.{one_chronicle}
 use Rattle.chronicle.proofs.laws.one_chronicle.Goals as goal
 
 pub returns : goal.returns

@@ -1,4 +1,4 @@
-use Rattle.chronicle.proofs.OneFault.{one_fault, faultless}
+use Rattle.chronicle.proofs.verdicts.OneFault.{one_fault, faultless}
 use Rattle.chronicle.proofs.laws.one_fault.Goals as goal
 
 pub returns-clause-one : goal.returns-clause-one

@@ -3,7 +3,7 @@ use Rattle.std.proofs.lemmas.Bool.{eqb-true, false≢true}
 use Rattle.std.proofs.lemmas.List.{take-append-drop}
 use Rattle.chronicle.specs.declared.draft.ChronicleDraft.{ChronicleDraft}
 use Rattle.chronicle.specs.Entries.{Says}
-use Rattle.chronicle.proofs.ReadOn.{Reads, none_unread, none_next, none_ended, read_on, few_lines, stop_here, read_all, some_rest, whole_is, no_rest}
+use Rattle.chronicle.proofs.stops.ReadOn.{Reads, none_unread, none_next, none_ended, read_on, few_lines, stop_here, read_all, some_rest, whole_is, no_rest}
 use Rattle.chronicle.proofs.reader.read_text.Goals.{in_default-draft-via-in-Whole+else-is_empty, in_default-draft-via-in_default-draft}
 use Rattle.chronicle.proofs.reader.read_text.Goals as goal
 

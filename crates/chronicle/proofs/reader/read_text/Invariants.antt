@@ -1,5 +1,5 @@
 use Rattle.std.proofs.Common.{length}
-use Rattle.chronicle.proofs.ReadOn.{Reads}
+use Rattle.chronicle.proofs.stops.ReadOn.{Reads}
 use Rattle.chronicle.proofs.reader.read_text.Given as goal
 
 abbrev pub invariant-loop-end : goal.invariant-loop-end

@@ -1,6 +1,6 @@
 use Rattle.std.proofs.Common.{◌≡◌, ◌+◌, length, ap, arith}
 use Rattle.chronicle.specs.Happenings.{happenings}
-use Rattle.chronicle.proofs.HappeningCounts.{happenings_count}
+use Rattle.chronicle.proofs.verdicts.HappeningCounts.{happenings_count}
 use Rattle.chronicle.proofs.replay.first_order_line.Goals as goal
 
 pub returns-clause-line : goal.returns-clause-line

@@ -7,9 +7,9 @@ use Rattle.chronicle.specs.declared.check_fault.What.TheVariants.{NotSubmitted, 
 use Rattle.bean_queue.specs.Places.{queue_replay}
 use Rattle.chronicle.specs.Checking.{AreRightPlaces}
 use Rattle.chronicle.specs.Replaying.{placed}
-use Rattle.chronicle.proofs.Legal.{commands_of}
-use Rattle.chronicle.proofs.FirstPlaces.{first_at, no_place, read_first}
-use Rattle.chronicle.proofs.Obeyed.{HasObeyed, nothing_obeyed, one_more, one_obeyed, so_many, above_later, wrong_place}
+use Rattle.chronicle.proofs.verdicts.Legal.{commands_of}
+use Rattle.chronicle.proofs.verdicts.FirstPlaces.{first_at, no_place, read_first}
+use Rattle.chronicle.proofs.verdicts.Obeyed.{HasObeyed, nothing_obeyed, one_more, one_obeyed, so_many, above_later, wrong_place}
 use Rattle.chronicle.proofs.replay.obey_order.Goals as goal
 
 pub loop-place-init : goal.loop-place-init

@@ -1,5 +1,5 @@
 use Rattle.std.proofs.Common.{take}
-use Rattle.chronicle.proofs.Obeyed.{HasObeyed}
+use Rattle.chronicle.proofs.verdicts.Obeyed.{HasObeyed}
 use Rattle.chronicle.proofs.replay.obey_order.Given as goal
 
 -- the queue obeyed the places so far, which are right

@@ -2,8 +2,8 @@ use Rattle.std.proofs.Common.{Some, sym, ap, ◌∙◌}
 use Rattle.object.specs.declared.command.Command.{Command}
 use Rattle.bean_queue.specs.declared.op.Op.{Op}
 use Rattle.chronicle.specs.declared.entry.Entry.TheVariants.{Submitted}
-use Rattle.chronicle.proofs.EntryLines.{command_told}
-use Rattle.chronicle.proofs.ToldValues.{not_asked}
+use Rattle.chronicle.proofs.spelling.EntryLines.{command_told}
+use Rattle.chronicle.proofs.spelling.ToldValues.{not_asked}
 use Rattle.chronicle.proofs.tell.submitted_of.Goals as goal
 
 pub returns-in_err-command : goal.returns-in_err-command

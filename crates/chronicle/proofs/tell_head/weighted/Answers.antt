@@ -1,7 +1,7 @@
 use Rattle.std.proofs.Common.{ℕ, List, Some, sym, ap, ◌∙◌}
 use Rattle.chronicle.specs.declared.entry.Entry.TheVariants.{Weights}
-use Rattle.chronicle.proofs.EntryLines.{weighted_told}
-use Rattle.chronicle.proofs.ToldValues.{not_weighted}
+use Rattle.chronicle.proofs.spelling.EntryLines.{weighted_told}
+use Rattle.chronicle.proofs.spelling.ToldValues.{not_weighted}
 use Rattle.chronicle.proofs.tell_head.weighted.Goals as goal
 
 pub returns-in_err-members : goal.returns-in_err-members

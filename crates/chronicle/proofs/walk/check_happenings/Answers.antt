@@ -1,5 +1,5 @@
 use Rattle.std.proofs.Common.{length, refl, ap, arith}
-use Rattle.chronicle.proofs.Walked.{walk_starts, walk_ends}
+use Rattle.chronicle.proofs.verdicts.Walked.{walk_starts, walk_ends}
 use Rattle.chronicle.proofs.walk.check_happenings.Goals as goal
 
 pub loop-line-init : goal.loop-line-init

@@ -3,8 +3,8 @@ use Rattle.std.proofs.lemmas.Grind.{common_steps}
 use Rattle.std.specs.List.{flat_map}
 use Rattle.chronicle.specs.Dump.{answer_line}
 use Rattle.chronicle.specs.Values.{IsAnswerValue}
-use Rattle.chronicle.proofs.Texts.{front_kept}
-use Rattle.chronicle.proofs.ValueLists.{all_next, all_through}
+use Rattle.chronicle.proofs.texts.Texts.{front_kept}
+use Rattle.chronicle.proofs.spelling.ValueLists.{all_next, all_through}
 use Rattle.chronicle.proofs.writer.append_answers.Goals as goal
 
 pub returns-in_err-append_answer-clause-front : goal.returns-in_err-append_answer-clause-front

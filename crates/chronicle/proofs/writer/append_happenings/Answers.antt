@@ -4,11 +4,11 @@ use Rattle.std.proofs.lemmas.Result.{on_ok_weaker}
 use Rattle.std.specs.List.{AllByRecursion, flat_map}
 use Rattle.object.specs.declared.command.Submission.{Submission}
 use Rattle.chronicle.specs.Values.{IsAnswerValue, IsCommandValue}
-use Rattle.chronicle.proofs.ValueLists.{all_joined, all_next, all_through}
+use Rattle.chronicle.proofs.spelling.ValueLists.{all_joined, all_next, all_through}
 use Rattle.chronicle.specs.Dump.{submission_line, answer_line, happening_line}
 use Rattle.chronicle.specs.Happenings.{happenings_from}
 use Rattle.recorder.proofs.Between.{between_timeline, between_rest, drop_item, from_item, least, most}
-use Rattle.chronicle.proofs.Texts.{front_kept, lines_from, lines_last, grow, regroup}
+use Rattle.chronicle.proofs.texts.Texts.{front_kept, lines_from, lines_last, grow, regroup}
 use Rattle.chronicle.proofs.writer.append_happenings.Goals as goal
 
 pub loop-submission-init : goal.loop-submission-init

@@ -5,7 +5,7 @@ use Rattle.object.specs.Lists.{In}
 use Rattle.object.specs.ListLaws.{In-map, In-get}
 use Rattle.chronicle.specs.declared.replay.Given.{Given}
 use Rattle.chronicle.specs.Replaying.{placed}
-use Rattle.chronicle.proofs.FirstPlaces.{first_at, none_found, read_first}
+use Rattle.chronicle.proofs.verdicts.FirstPlaces.{first_at, none_found, read_first}
 use Rattle.chronicle.proofs.walk.Replayed.place_of_answer.Goals as goal
 
 pub returns-in_default-clause-err : goal.returns-in_default-clause-err

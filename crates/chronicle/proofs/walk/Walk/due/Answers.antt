@@ -3,7 +3,7 @@ use Rattle.std.proofs.lemmas.List.{drop_all}
 use Rattle.std.proofs.lemmas.Option.{slice_get_read}
 use Rattle.std.specs.Prelude.{slice_get}
 use Rattle.object.specs.Lists.{In}
-use Rattle.chronicle.proofs.Walked.{first_left}
+use Rattle.chronicle.proofs.verdicts.Walked.{first_left}
 use Rattle.chronicle.proofs.walk.Walk.due.Goals.{in_default-via-in-Some+else-submission-self, in_default-via-in_default}
 use Rattle.chronicle.proofs.walk.Walk.due.Goals as goal
 

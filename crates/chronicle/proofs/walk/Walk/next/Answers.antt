@@ -3,8 +3,8 @@ use Rattle.chronicle.specs.Checking.{ordered_commands}
 use Rattle.std.specs.BTreeMap.{get}
 use Rattle.object.specs.Keys.{key_cmp}
 use Rattle.chronicle.specs.Walks.{IsMisplaced, HasWalked}
-use Rattle.chronicle.proofs.Answered.{given_within}
-use Rattle.chronicle.proofs.Walked.{submission_passed, submission_fault, answer_passed, answer_fault, answer_left, given_at, order_distinct}
+use Rattle.chronicle.proofs.verdicts.Answered.{given_within}
+use Rattle.chronicle.proofs.verdicts.Walked.{submission_passed, submission_fault, answer_passed, answer_fault, answer_left, given_at, order_distinct}
 use Rattle.chronicle.proofs.walk.Walk.next.Goals as goal
 
 pub bounds-answers-self : goal.bounds-answers-self

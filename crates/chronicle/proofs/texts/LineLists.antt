@@ -20,10 +20,10 @@ use Rattle.chronicle.specs.Happenings.Happening.{Submitted, Answered}
 use Rattle.chronicle.specs.Lines.{line, spaced, text_of_lines}
 use Rattle.chronicle.specs.Replies.{reply_words}
 use Rattle.chronicle.specs.Values.{IsLong}
-use Rattle.chronicle.proofs.Back.{number, number_back, number_plain, act, act_back, act_plain, reply, reply_back, reply_plain}
-use Rattle.chronicle.proofs.Heads.{ones, one_unweighted, weight_numbers, weights_plain, count_number, count_plain}
-use Rattle.chronicle.proofs.ValueLists.{all_both}
-use Rattle.chronicle.proofs.Words.{Plain, AllPlain, by_test, line_is, one_line}
+use Rattle.chronicle.proofs.spelling.Back.{number, number_back, number_plain, act, act_back, act_plain, reply, reply_back, reply_plain}
+use Rattle.chronicle.proofs.spelling.Heads.{ones, one_unweighted, weight_numbers, weights_plain, count_number, count_plain}
+use Rattle.chronicle.proofs.spelling.ValueLists.{all_both}
+use Rattle.chronicle.proofs.spelling.Words.{Plain, AllPlain, by_test, line_is, one_line}
 
 -- a first word, and the words after it
 abbrev pub Line : Type 0

@@ -27,11 +27,11 @@ use Rattle.chronicle.specs.Lines.{line, spaced, body_word}
 use Rattle.chronicle.specs.Replies.{reply_words}
 use Rattle.chronicle.specs.Told.{may_ask, submitted_of, entry_under, key_of, keyed_entry, version_of_words, members_of_words, are_weights, weighted, weights_of, entry_of_words}
 use Rattle.chronicle.specs.Values.{IsShort, IsKeyValue, IsActValue, IsReplyValue, IsLong}
-use Rattle.chronicle.proofs.Back.{number_plain, act_plain, reply_plain}
-use Rattle.chronicle.proofs.Heads.{short_weights, weight_numbers, weights_plain}
-use Rattle.chronicle.proofs.Spelled.{AllSome, words_back}
-use Rattle.chronicle.proofs.ToldBack.{long_back, short_back, numbers_back, act_back, reply_back}
-use Rattle.chronicle.proofs.Words.{Plain, AllPlain, by_test}
+use Rattle.chronicle.proofs.spelling.Back.{number_plain, act_plain, reply_plain}
+use Rattle.chronicle.proofs.spelling.Heads.{short_weights, weight_numbers, weights_plain}
+use Rattle.chronicle.proofs.spelling.Spelled.{AllSome, words_back}
+use Rattle.chronicle.proofs.spelling.ToldBack.{long_back, short_back, numbers_back, act_back, reply_back}
+use Rattle.chronicle.proofs.spelling.Words.{Plain, AllPlain, by_test}
 
 -- ---- the words of a line
 

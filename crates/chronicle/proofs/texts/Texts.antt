@@ -14,7 +14,7 @@ use Rattle.chronicle.specs.Dump.{submission_line, answer_line, happening_line}
 use Rattle.chronicle.specs.Happenings.{happenings_from}
 use Rattle.chronicle.specs.Happenings.Happening.{Submitted, Answered}
 use Rattle.recorder.proofs.Between.{ComeBetween, after_first}
-use Rattle.chronicle.proofs.InTime.{comes, answers_first, answers_last}
+use Rattle.chronicle.proofs.texts.InTime.{comes, answers_first, answers_last}
 
 -- what stood in front of a longer front stands in front
 pub front_kept : (old text mid new : List ℕ) (n m : ℕ) → n ≡ length old → m ≡ length mid → mid ≡ old ++ text → take m new ≡ mid → take n new ≡ old

@@ -26,19 +26,19 @@ use Rattle.recorder.specs.Chronicles.{Chronicle, IsChronicle}
 use Rattle.chronicle.specs.Dump.{first_line}
 use Rattle.chronicle.specs.Happenings.{Happening, happenings, happenings_from}
 use Rattle.chronicle.specs.Happenings.Happening.{Submitted, Answered}
-use Rattle.chronicle.proofs.Legal.{rising, distinct, split}
+use Rattle.chronicle.proofs.verdicts.Legal.{rising, distinct, split}
 use Rattle.chronicle.specs.Replaying.{placed}
 use Rattle.chronicle.specs.Walks.{IsReplayed, HasPassed, HasReach, HasSeen, HasWalked, IsMisplaced, IsNotGiven, NoneIsDue, seen}
 use Rattle.chronicle.specs.declared.check_fault.What.{What}
 use Rattle.chronicle.specs.declared.check_fault.What.TheVariants.{NotSubmitted, NotKept, SubmittedTwice, PlacedTooEarly, NotTheQueuesAnswer}
 use Rattle.chronicle.specs.declared.walk.Replayed.{Replayed}
 use Rattle.chronicle.specs.declared.walk.Walk.{Walk}
-use Rattle.chronicle.proofs.Answered.{one_place_each, answers}
+use Rattle.chronicle.proofs.verdicts.Answered.{one_place_each, answers}
 use Rattle.recorder.proofs.Between.{drop_item}
-use Rattle.chronicle.proofs.EndCuts.{no_lines, more_lines}
-use Rattle.chronicle.proofs.FirstPlaces.{first_at}
-use Rattle.chronicle.proofs.HappeningCounts.{happenings_count}
-use Rattle.chronicle.proofs.InTime.{comes, answers_first}
+use Rattle.chronicle.proofs.verdicts.EndCuts.{no_lines, more_lines}
+use Rattle.chronicle.proofs.verdicts.FirstPlaces.{first_at}
+use Rattle.chronicle.proofs.verdicts.HappeningCounts.{happenings_count}
+use Rattle.chronicle.proofs.texts.InTime.{comes, answers_first}
 
 -- ---- lists
 

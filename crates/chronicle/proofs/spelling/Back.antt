@@ -20,7 +20,7 @@ use Rattle.chronicle.specs.Fits.{FitsAct}
 use Rattle.chronicle.specs.Lines.{body_word}
 use Rattle.chronicle.specs.Replies.{reply_words}
 use Rattle.chronicle.specs.Values.{IsLong, IsReplyValue}
-use Rattle.chronicle.proofs.Words.{IsPlain, Plain, AllPlain, by_test}
+use Rattle.chronicle.proofs.spelling.Words.{IsPlain, Plain, AllPlain, by_test}
 
 -- ---- numbers
 

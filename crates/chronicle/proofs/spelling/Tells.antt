@@ -5,8 +5,8 @@ use Rattle.bean_codec.specs.Words.{words}
 use Rattle.chronicle.specs.declared.entry.Entry.{Entry}
 use Rattle.chronicle.specs.Entries.{entry_line, IsEntryValue, Says}
 use Rattle.chronicle.specs.Told.{entry_of_words}
-use Rattle.chronicle.proofs.EntryLines.{said, said_told, line_is}
-use Rattle.chronicle.proofs.ToldValues.{entry_value}
+use Rattle.chronicle.proofs.spelling.EntryLines.{said, said_told, line_is}
+use Rattle.chronicle.proofs.spelling.ToldValues.{entry_value}
 
 same_front : (xs ys : List ℕ) → xs ++ (10 ∷ []) ≡ ys ++ (10 ∷ []) → xs ≡ ys
 same_front [] [] same = refl

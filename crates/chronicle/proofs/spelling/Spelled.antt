@@ -7,7 +7,7 @@ use Rattle.std.specs.List.{All, AllByRecursion}
 use Rattle.std.specs.Prelude.{filter}
 use Rattle.bean_codec.specs.Words.{is_space, is_word, pieces, words}
 use Rattle.chronicle.specs.Lines.{spaced}
-use Rattle.chronicle.proofs.Words.{Plain, AllPlain}
+use Rattle.chronicle.proofs.spelling.Words.{Plain, AllPlain}
 
 no_space : (word : List ℕ) → Plain word → All (λ b. is_space b ≡ false) word
 no_space [] h = All-nil (λ b. is_space b ≡ false)

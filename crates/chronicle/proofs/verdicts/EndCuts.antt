@@ -7,7 +7,7 @@ use Rattle.object.specs.declared.command.Key.{Key}
 use Rattle.chronicle.specs.Checking.{IsRightPlace, IsRightLine, AreRightPlaces, AreRightLines}
 use Rattle.recorder.specs.Chronicles.{Chronicle}
 use Rattle.chronicle.specs.Happenings.{Happening}
-use Rattle.chronicle.proofs.OneFault.{cuts}
+use Rattle.chronicle.proofs.verdicts.OneFault.{cuts}
 
 -- what holds of each cut of a list, and of the cut at its end, holds of each cut of the longer one
 pub more_cuts : {X : Type 0} (P : List X → X → Type 0) (xs : List X) (x : X) → ((a : List X) (y : X) (b : List X) → xs ≡ a ++ (y ∷ b) → P a y) → P xs x →

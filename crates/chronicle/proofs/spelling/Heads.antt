@@ -9,8 +9,8 @@ use Rattle.chronicle.specs.declared.version.Version.{Version}
 use Rattle.chronicle.specs.declared.version.Version.TheVariants.{One, Two}
 use Rattle.chronicle.specs.Dump.{version_of}
 use Rattle.chronicle.specs.Values.{IsShort, IsLong}
-use Rattle.chronicle.proofs.Back.{number_plain}
-use Rattle.chronicle.proofs.Words.{Plain, AllPlain}
+use Rattle.chronicle.proofs.spelling.Back.{number_plain}
+use Rattle.chronicle.proofs.spelling.Words.{Plain, AllPlain}
 
 -- ---- versions
 

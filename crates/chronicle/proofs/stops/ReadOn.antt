@@ -15,9 +15,9 @@ use Rattle.chronicle.specs.Dump.{dump_text}
 use Rattle.chronicle.specs.Entries.{entry_line, IsEntryValue, Says}
 use Rattle.chronicle.specs.Lines.{text_of_lines}
 use Rattle.chronicle.specs.Reading.{IsBadLine}
-use Rattle.chronicle.proofs.Drafted.{IsDraft, IsWhole, taken, entries, next_draft}
-use Rattle.chronicle.proofs.EntryLines.{NoFeed, said, said_no_feed, line_is, one_front}
-use Rattle.chronicle.proofs.Stops.{NoneFollows, bad_line, entries_text, text_of_lines_more, map_more, lines_long}
+use Rattle.chronicle.proofs.stops.Drafted.{IsDraft, IsWhole, taken, entries, next_draft}
+use Rattle.chronicle.proofs.spelling.EntryLines.{NoFeed, said, said_no_feed, line_is, one_front}
+use Rattle.chronicle.proofs.stops.Stops.{NoneFollows, bad_line, entries_text, text_of_lines_more, map_more, lines_long}
 
 -- ---- the first line of a text
 

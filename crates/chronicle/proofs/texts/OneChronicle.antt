@@ -13,8 +13,8 @@ use Rattle.chronicle.specs.Fits.{FitsChronicle, FitsCommand, FitsAnswer}
 use Rattle.chronicle.specs.Happenings.{Happening, happenings, happenings_from, moment, came_at}
 use Rattle.chronicle.specs.Happenings.Happening.{Submitted, Answered}
 use Rattle.recorder.proofs.Between.{ComeBetween, between_timeline, between_rest, after_first, least, most}
-use Rattle.chronicle.proofs.InTime.{comes, answers_first, answers_last}
-use Rattle.chronicle.proofs.LineLists.{Line, lines, PlainLine, one_text, dump_is, FitsHappening, happened, tail_lines, happened_back, ordered, ordered_back, head_happened, head_ordered, weights, weights_back, lines_plain}
+use Rattle.chronicle.proofs.texts.InTime.{comes, answers_first, answers_last}
+use Rattle.chronicle.proofs.texts.LineLists.{Line, lines, PlainLine, one_text, dump_is, FitsHappening, happened, tail_lines, happened_back, ordered, ordered_back, head_happened, head_ordered, weights, weights_back, lines_plain}
 
 -- ---- submissions and answers, read off what happened
 

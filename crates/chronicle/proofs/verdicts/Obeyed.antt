@@ -28,8 +28,8 @@ use Rattle.chronicle.specs.Replaying.{placed, queue_after, queue_answers}
 use Rattle.chronicle.specs.declared.replay.Given.{Given}
 use Rattle.chronicle.specs.declared.check_fault.What.{What}
 use Rattle.recorder.proofs.Between.{drop_item}
-use Rattle.chronicle.proofs.EndCuts.{no_places, more_places}
-use Rattle.chronicle.proofs.Legal.{command_at, commands_of}
+use Rattle.chronicle.proofs.verdicts.EndCuts.{no_places, more_places}
+use Rattle.chronicle.proofs.verdicts.Legal.{command_at, commands_of}
 
 -- a number is new where it is above
 above_each : (c : Command Op) (cs : List (Command Op)) → is_new c cs ≡ true → IsAbove c.key (map (λ (d : Command Op). d.key) cs)

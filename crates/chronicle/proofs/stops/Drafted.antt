@@ -25,10 +25,10 @@ use Rattle.recorder.specs.Growing.{begun, submitted_last, answered_last}
 use Rattle.chronicle.specs.Happenings.{Happening, happenings}
 use Rattle.chronicle.specs.Happenings.Happening.{Submitted as WasSubmitted, Answered as WasAnswered}
 use Rattle.chronicle.specs.Values.{IsChronicleValue}
-use Rattle.chronicle.proofs.Grown.{submitted_value, answered_value, placed_value, begun_value, happens_submitted, happens_answered, map_last}
-use Rattle.chronicle.proofs.Heads.{version_two, two_weighted, ones_version, twos_version, twos_are}
-use Rattle.chronicle.proofs.ToldValues.{where_so}
-use Rattle.chronicle.proofs.ValueLists.{all_both}
+use Rattle.chronicle.proofs.stops.Grown.{submitted_value, answered_value, placed_value, begun_value, happens_submitted, happens_answered, map_last}
+use Rattle.chronicle.proofs.spelling.Heads.{version_two, two_weighted, ones_version, twos_version, twos_are}
+use Rattle.chronicle.proofs.spelling.ToldValues.{where_so}
+use Rattle.chronicle.proofs.spelling.ValueLists.{all_both}
 
 -- ---- the entries of a chronicle
 

@@ -5,7 +5,7 @@ use Rattle.object.specs.Happenings.{IsTimeline}
 use Rattle.object.specs.declared.command.Answer.{Answer}
 use Rattle.object.specs.declared.command.Submission.{Submission}
 use Rattle.recorder.proofs.Between.{ComeBetween, after_first, between_rest, between_timeline, least, most}
-use Rattle.chronicle.proofs.InTime.{comes, answers_first, answers_last}
+use Rattle.chronicle.proofs.texts.InTime.{comes, answers_first, answers_last}
 use Rattle.chronicle.specs.Happenings.{Happening, happenings, happenings_from}
 use Rattle.chronicle.specs.Happenings.Happening.{Answered}
 

@@ -5,9 +5,9 @@ use Rattle.chronicle.specs.declared.entry.Entry.{Entry}
 use Rattle.chronicle.specs.Entries.{entry_line, IsEntryValue}
 use Rattle.chronicle.specs.Lines.{text_of_lines}
 use Rattle.chronicle.specs.Reading.{BeginsDump, IsBadLine}
-use Rattle.chronicle.proofs.Drafted.{entries}
-use Rattle.chronicle.proofs.EntryLines.{one_front}
-use Rattle.chronicle.proofs.Stops.{lines_are, entry_values, map_more, map_length}
+use Rattle.chronicle.proofs.stops.Drafted.{entries}
+use Rattle.chronicle.proofs.spelling.EntryLines.{one_front}
+use Rattle.chronicle.proofs.stops.Stops.{lines_are, entry_values, map_more, map_length}
 
 -- lines, as what they say
 record Said (lines : List (List ℕ)) : Type 0 where

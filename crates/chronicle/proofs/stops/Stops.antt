@@ -21,10 +21,10 @@ use Rattle.chronicle.specs.Happenings.Happening.{Submitted as WasSubmitted, Answ
 use Rattle.chronicle.specs.Lines.{text_of_lines}
 use Rattle.chronicle.specs.Reading.{dump_lines, BeginsDump, IsBadLine}
 use Rattle.chronicle.specs.Values.{IsChronicleValue, IsCommandValue, IsAnswerValue, IsKeyValue}
-use Rattle.chronicle.proofs.Drafted.{happened, head_entries, head, after_head, tail_entries, entries, taken, IsDraft, IsWhole, whole, whole_value, whole_begins, follows, all_read}
-use Rattle.chronicle.proofs.EntryLines.{one_front, line_long}
-use Rattle.chronicle.proofs.LineLists.{to_right}
-use Rattle.chronicle.proofs.ValueLists.{all_both}
+use Rattle.chronicle.proofs.stops.Drafted.{happened, head_entries, head, after_head, tail_entries, entries, taken, IsDraft, IsWhole, whole, whole_value, whole_begins, follows, all_read}
+use Rattle.chronicle.proofs.spelling.EntryLines.{one_front, line_long}
+use Rattle.chronicle.proofs.texts.LineLists.{to_right}
+use Rattle.chronicle.proofs.spelling.ValueLists.{all_both}
 
 -- ---- the lines of a chronicle are those of its entries
 

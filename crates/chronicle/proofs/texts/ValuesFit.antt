@@ -13,7 +13,7 @@ use Rattle.recorder.specs.Chronicles.{Chronicle}
 use Rattle.chronicle.specs.Dump.{dump_text}
 use Rattle.chronicle.specs.Fits.{FitsAct, FitsAnswer, FitsChronicle, FitsCommand, FitsKey, FitsOp}
 use Rattle.chronicle.specs.Values.{IsActValue, IsAnswerValue, IsChronicleValue, IsCommandValue, IsKeyValue, IsOpValue, IsShort, IsLong}
-use Rattle.chronicle.proofs.OneChronicle.{one_chronicle}
+use Rattle.chronicle.proofs.texts.OneChronicle.{one_chronicle}
 
 short : (n : ℕ) → IsShort n → IsLong n
 short n is = omega (arith, is)
