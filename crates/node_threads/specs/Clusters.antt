@@ -1,7 +1,8 @@
 -- The tickets of all workers, and the hall of whose sessions they are.
-use Rattle.std.specs.Prelude.{◌≡◌, ◌≢◌, ◌≤◌, ◌==◌, ℕ, true, List, length, sum, map, flat_map, Option, None, Some}
+use Rattle.std.specs.Prelude.{◌≡◌, ◌≢◌, ◌<◌, ◌≤◌, ◌==◌, ℕ, ◌+◌, true, List, length, vec_len, vec_capacity, sum, map, flat_map, Option, None, Some}
 use Rattle.std.specs.Global.{Vec}
 use Rattle.std.specs.List.{IsDistinct}
+use Rattle.std.specs.declared.sync.ledger.Share.{Share}
 use Rattle.object.specs.Lists.{In}
 use Rattle.hall.specs.Books.{is_opened}
 use Rattle.hall.specs.Halls.{HallState, Agrees}
@@ -37,6 +38,14 @@ pub record IsAccountedFor {Op Reply : Type 0} (h : HallState Op Reply) (tickets 
 pub record IsWorkerCount (workers : ℕ) : Type 0 where
   pub some : 1 ≤ workers
   pub few : workers ≤ 64
+
+-- There is room for the threads of so many nodes and workers: each worker takes a part of both counts, and leaves one.
+pub record HasRoomFor {S C T H : Type 0} (nodes workers : ℕ) (sessions : Share S) (commands : Share C) (tickets : Vec T) (crew : Vec H) : Type 0 where
+  pub few : workers ≤ 64
+  pub session_parts : workers < sessions.parts
+  pub command_parts : workers < commands.parts
+  pub room : vec_len tickets + workers ≤ vec_capacity tickets
+  pub crew_room : vec_len crew + nodes + 1 ≤ vec_capacity crew
 
 -- What accepts clients has come to its end and failed at no call, where no fault is told; and it has failed where it is told
 -- that the cluster cannot listen.

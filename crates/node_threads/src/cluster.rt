@@ -22,7 +22,6 @@ use std::marker::Brand;
 use std::rt::Clock;
 use std::sync::Wait;
 use std::sync::ledger::{Blank, Ledger};
-use std::thread;
 use std::thread::{JoinHandle, Threads};
 
 /// What is left when a cluster has ended: its hall, the tickets of its sessions, a list for each worker, what accepted its
@@ -206,11 +205,15 @@ fn run_counted<
         accept: outside.accept,
         clients: sender,
     };
-    let common = &common;
-    let seconds = outside.seconds;
-    let (finished, _crew) = thread::scope(thread::scope_env(), rt, move |scope| {
-        run_threads(scope, common, nodes, seconds, workers, tally, door, crew)
-    });
+    let (finished, _crew) = run_threads(
+        &common,
+        nodes,
+        outside.seconds,
+        workers,
+        tally,
+        door,
+        crew,
+    );
     end(shared, finished)
 }
 

@@ -1,5 +1,5 @@
 ghost use Rattle.std.specs.Prelude.{◌≡◌, ◌≢◌, ◌+◌, ◌≤◌, ◌<◌, ◌-◌, ◌^◌, None, Some, Err, IfSome, OnOk, OnErr, vec_len, vec_capacity};
-ghost use Rattle.node_threads.specs.Clusters.{LeavesAccept};
+ghost use Rattle.node_threads.specs.Clusters.{HasRoomFor, LeavesAccept};
 ghost use Rattle.node_threads.specs.Rings.{node_after};
 ghost use Rattle.node_threads.specs.declared.cluster_error.ClusterError.TheVariants.{BadNumber, ListenFailed, OutOfMemory, ThreadFailed};
 
@@ -21,6 +21,7 @@ use std::alloc::Global;
 use std::rt::Clock;
 use std::sync::Wait;
 use std::sync::ledger::Ledger;
+use std::thread;
 use std::thread::{JoinHandle, Scope, Threads};
 
 /// What the threads of a cluster have in common.
@@ -134,7 +135,6 @@ pub(crate) struct Finished<O: Object, S: Ledger, C: Ledger, A> {
 /// Runs all threads of a cluster: they have ended when it returns. It answers those of the nodes and the clock, too.
 pub(crate) fn run_threads<
     's,
-    E,
     O: Object<Op = Op, Reply = Reply> + Send,
     S: Ledger + Send + Sync,
     C: Ledger + Send + Sync,
@@ -144,7 +144,6 @@ pub(crate) fn run_threads<
     G: Gate + Sync,
     F: Faults + Sync,
 >(
-    scope: &Scope<'s, E>,
     common: &'s Common<'s, O, S, C, A::R, A::W, R, G, F>,
     nodes: u8,
     seconds: T,
@@ -153,11 +152,7 @@ pub(crate) fn run_threads<
     door: Door<A>,
     crew: Vec<JoinHandle<()>>,
 ) -> (Finished<O, S, C, A>, Vec<JoinHandle<()>>)
-    requires few { workers ≤ 64 }
-    requires session_parts { workers < tally.sessions.parts }
-    requires command_parts { workers < tally.commands.parts }
-    requires room { vec_len tally.tickets + workers ≤ vec_capacity tally.tickets }
-    requires crew_room { vec_len crew + nodes + 1 ≤ vec_capacity crew }
+    requires room { HasRoomFor nodes workers tally.sessions tally.commands tally.tickets crew }
     ensures session_parts { result.0.tally.sessions.parts ≡ tally.sessions.parts }
     ensures command_parts { result.0.tally.commands.parts ≡ tally.commands.parts }
     ensures crew { result.0.fault ≡ None → vec_len result.1 ≡ vec_len crew + nodes + 1 }
@@ -167,18 +162,34 @@ pub(crate) fn run_threads<
     ensures fault { result.0.fault ≢ Some BadNumber }
     ensures memory { result.0.fault ≢ Some OutOfMemory }
 {
-    let mut crew = crew;
-    let started = start_nodes_and_clock(scope, common, nodes, seconds, &mut crew);
-    let finished = match started {
-        Ok(()) => run_workers(scope, common, common.first_desk(), workers, tally, door),
-        Err(fault) => Finished {
-            tally,
-            accept: door.shut(),
-            fault: Some(fault),
+    thread::scope(
+        thread::scope_env(),
+        common.rt,
+        move |scope| -> (Finished<O, S, C, A>, Vec<JoinHandle<()>>)
+            requires room { HasRoomFor nodes workers tally.sessions tally.commands tally.tickets crew }
+            ensures session_parts { result.0.tally.sessions.parts ≡ tally.sessions.parts }
+            ensures command_parts { result.0.tally.commands.parts ≡ tally.commands.parts }
+            ensures crew { result.0.fault ≡ None → vec_len result.1 ≡ vec_len crew + nodes + 1 }
+            ensures all { result.0.fault ≡ None →
+                vec_len result.0.tally.tickets ≡ vec_len tally.tickets + workers }
+            ensures clients { LeavesAccept A.Accept door.accept result.0.accept result.0.fault }
+            ensures fault { result.0.fault ≢ Some BadNumber }
+            ensures memory { result.0.fault ≢ Some OutOfMemory }
+        {
+            let mut crew = crew;
+            let started = start_nodes_and_clock(scope, common, nodes, seconds, &mut crew);
+            let finished = match started {
+                Ok(()) => run_workers(scope, common, common.first_desk(), workers, tally, door),
+                Err(fault) => Finished {
+                    tally,
+                    accept: door.shut(),
+                    fault: Some(fault),
+                },
+            };
+            common.shared.end();
+            (finished, crew)
         },
-    };
-    common.shared.end();
-    (finished, crew)
+    )
 }
 
 // Starts a thread for each node, and one for the clock.
