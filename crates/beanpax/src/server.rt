@@ -1,4 +1,4 @@
-ghost use Rattle.std.specs.Prelude.{◌≡◌, ◌≢◌, ◌⊎◌, ◌∷◌, [], None, Ok, Err, IfOk, IfErr, IfSome, OnOk};
+ghost use Rattle.std.specs.Prelude.{◌≡◌, ◌≢◌, ◌⊎◌, ◌∷◌, [], length, None, Ok, Err, IfOk, IfErr, IfSome, OnOk};
 ghost use Rattle.std.specs.Io.KnownBytes.{Appends};
 ghost use Rattle.std.specs.Net.Addr.{IsV4And, ipv4_octets};
 ghost use Rattle.std.specs.Net.Socket.{socket_ip, socket_port};
@@ -9,7 +9,7 @@ ghost use Rattle.beanpax.specs.Faults.{IsOfDump, IsOfOutput, of_cluster};
 ghost use Rattle.chronicle.specs.Checking.{IsFaultless};
 ghost use Rattle.chronicle.specs.Dump.{dump_text};
 ghost use Rattle.hall.specs.Halls.{chronicle_of, new_hall};
-ghost use Rattle.node_threads.specs.Clusters.{IsWorkerCount, LeavesCluster};
+ghost use Rattle.node_threads.specs.Clusters.{IsAccountedFor, IsWorkerCount, all_tickets};
 ghost use Rattle.beanpax.specs.Servers.{TellsPort, listening_line};
 
 use crate::connections::Connections;
@@ -21,7 +21,7 @@ use crate::words::ServerOptions;
 use bean_queue::Queue;
 use chronicle::WriteText;
 use hall::Hall;
-use node_threads::{Accept, Actor, Ended, Gate, Point, run_cluster};
+use node_threads::{Actor, Ended, Gate, Point, run_cluster};
 use session::{ByteOut, write_all};
 use std::alloc::{AllocError, Global};
 use std::fs;
@@ -105,8 +105,9 @@ fn run_as_asked<'a, R: Host>(
     requires hall { hall ≡ new_hall options.now.members }
     requires connections { connections.left ≡ options.now.sessions }
     requires workers { IsWorkerCount options.now.workers }
-    ensures left { LeavesCluster ⟦<Connections<'a, R> as Accept>⟧ hall result.hall
-        connections result.accept result.tickets.items options.now.workers result.fault }
+    ensures accounted { IsAccountedFor result.hall (all_tickets result.tickets.items) result.fault }
+    ensures each_worker { result.fault ≡ None →
+        length result.tickets.items ≡ options.now.workers }
 {
     run_cluster(
         rt,
