@@ -1,8 +1,8 @@
-ghost use Rattle.std.specs.Prelude.{◌≡◌, ◌≢◌, ◌⊎◌, ◌∷◌, [], length, None, Ok, Err, IfOk, IfErr, IfSome, OnOk};
+ghost use Rattle.std.specs.Prelude.{◌≡◌, ◌≢◌, ◌⊎◌, ◌∷◌, [], length, true, None, Ok, Err, IfOk, IfErr, IfSome, OnOk};
 ghost use Rattle.std.specs.Io.KnownBytes.{Appends};
 ghost use Rattle.std.specs.Net.Addr.{IsV4And, ipv4_octets};
 ghost use Rattle.std.specs.Net.Socket.{socket_ip, socket_port};
-ghost use Rattle.beanpax.specs.declared.faults.ProgramFault.TheVariants.{ReadFailed};
+ghost use Rattle.beanpax.specs.declared.faults.ProgramFault.TheVariants.{ReadFailed, WriteFailed};
 ghost use Rattle.beanpax.specs.declared.faults.ProgramFault.TheVariants.{FileFailed, ListenFailed};
 ghost use Rattle.beanpax.specs.declared.faults.ProgramFault.TheVariants.{ServiceStopped};
 ghost use Rattle.beanpax.specs.Faults.{IsOfDump, IsOfOutput, of_cluster};
@@ -10,6 +10,7 @@ ghost use Rattle.chronicle.specs.Checking.{IsFaultless};
 ghost use Rattle.chronicle.specs.Dump.{dump_text};
 ghost use Rattle.hall.specs.Halls.{chronicle_of, new_hall};
 ghost use Rattle.node_threads.specs.Clusters.{IsAccountedFor, IsWorkerCount, all_tickets};
+ghost use Rattle.session.specs.Streams.{AppendsBeginning};
 ghost use Rattle.beanpax.specs.Servers.{TellsPort, listening_line};
 
 use crate::connections::Connections;
@@ -88,8 +89,12 @@ fn loopback(port: u16) -> SocketAddr
 // Tells at which port it listens.
 #[tactic(auto, unfolding(crate::specs::Servers::listening_line))]
 fn tell_port<W: ByteOut>(alloc: Global, port: u16, output: &mut W) -> Result<(), ProgramFault>
-    ensures tells { TellsPort W.ByteOut output.old output.new port result }
+    ensures told { OnOk result
+        (Appends (W.contents output.old) (W.contents output.new) (listening_line port)) }
+    ensures begins { AppendsBeginning (W.contents output.old) (W.contents output.new)
+        (listening_line port) }
     ensures fault { IfErr result IsOfOutput }
+    ensures write_failed { result ≡ Err WriteFailed → W.has_failed output.new ≡ true }
 {
     let line = format!(in alloc; "listening on 127.0.0.1:{port}\n")?;
     write_all(output, line.as_bytes()).map_err(|_| ProgramFault::WriteFailed)

@@ -6,4 +6,4 @@ use Rattle.beanpax.proofs.entry.show_help.Goals as goal
 pub returns-clause-begins : goal.returns-clause-begins
 returns-clause-begins g c =
     subst (AppendsBeginning _ _) c.as_bytes.ensures.value
-    (began c.write_all.result _ _ _ c.write_all.ensures.ok c.write_all.ensures.err)
+    (began c.write_all.result _ _ _ c.write_all.ensures.written.ok c.write_all.ensures.written.err)

@@ -17,4 +17,4 @@ writes_text (Err e) old new has_failed text whole some failed = record { some = 
 pub returns : goal.returns
 returns g c =
     subst (WritesText _ _ _) c.as_bytes.ensures.value
-    (writes_text c.write_all.result _ _ _ _ c.write_all.ensures.ok c.write_all.ensures.err c.write_all.ensures.failed)
+    (writes_text c.write_all.result _ _ _ _ c.write_all.ensures.written.ok c.write_all.ensures.written.err c.write_all.ensures.written.failed)

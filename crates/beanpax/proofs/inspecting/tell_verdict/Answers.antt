@@ -7,7 +7,7 @@ returns-in_err-map_err-clause-begins g c =
     let told = c.as_bytes.ensures.value ∙ c.in_ok-line.ensures in (
       c.as_bytes.result.now,
       inr (c.in_ok-verdict.verdict, (_, c.in_ok-verdict.ensures), told),
-      began c.write_all.result _ _ _ c.write_all.ensures.ok c.write_all.ensures.err,
+      began c.write_all.result _ _ _ c.write_all.ensures.written.ok c.write_all.ensures.written.err,
     )
 
 pub returns-clause-begins : goal.returns-clause-begins
@@ -15,5 +15,5 @@ returns-clause-begins g c =
     let told = c.as_bytes.ensures.value ∙ c.in_ok-line.ensures in (
       c.as_bytes.result.now,
       inr (c.in_ok-verdict.verdict, (_, c.in_ok-verdict.ensures), told),
-      began c.write_all.result _ _ _ c.write_all.ensures.ok c.write_all.ensures.err,
+      began c.write_all.result _ _ _ c.write_all.ensures.written.ok c.write_all.ensures.written.err,
     )
