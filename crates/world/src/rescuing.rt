@@ -6,9 +6,9 @@ ghost use Rattle.world.specs.declared.error.WorldError.TheVariants.{OutOfMemory,
 ghost use Rattle.world.specs.Rescues.{Rescues, IsInOrder, IsLast, HasGreater, HasNoWay};
 
 use crate::error::WorldError;
-use agreement::Event;
 use crate::way::Way;
 use crate::world::World;
+use agreement::Event;
 use ballot::ballot_laws;
 use object::{Command, Key, Object, Submission, Value};
 

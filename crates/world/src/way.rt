@@ -4,8 +4,8 @@ ghost use Rattle.agreement.specs.Steps.{Step};
 ghost use Rattle.world.specs.Refusals.{refusal};
 
 use crate::error::WorldError;
-use agreement::Event;
 use crate::world::World;
+use agreement::Event;
 use object::{Object, Value};
 use std::alloc::AllocError;
 

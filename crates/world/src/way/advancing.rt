@@ -7,9 +7,9 @@ ghost use Rattle.world.specs.WaysOut.{first_leader, first_book, IsAtRest, IsSmal
 ghost use Rattle.object.specs.Objects.{is_one};
 
 use crate::error::WorldError;
-use agreement::Event;
 use crate::letter_places::LetterPlaces;
 use crate::way::Way;
+use agreement::Event;
 use ballot::{Slot, ballot_laws};
 use object::Object;
 

@@ -4,8 +4,8 @@ ghost use Rattle.agreement.specs.Runs.{most_events};
 ghost use Rattle.world.specs.WaysOut.{IsQuestion, HasAsked, HasScout, questions, IsOver, IsTalk, Goes, is_talk};
 
 use crate::error::WorldError;
-use agreement::Event;
 use crate::way::Way;
+use agreement::Event;
 use ballot::ballot_laws;
 use object::Object;
 

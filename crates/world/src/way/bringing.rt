@@ -8,9 +8,9 @@ ghost use Rattle.world.specs.Telling.{IsProposedAt};
 ghost use Rattle.world.specs.WaysOut.{first_book, ArePlacesOf, AreAllRead, Proposes, Decides, Goes};
 
 use crate::error::WorldError;
-use agreement::Event;
 use crate::letter_places::LetterPlaces;
 use crate::way::Way;
+use agreement::Event;
 use ballot::ballot_laws;
 use object::{Command, Object, Value};
 use std::alloc::AllocError;

@@ -4,8 +4,8 @@ ghost use Rattle.agreement.specs.Events.{is_at_member, is_sent};
 
 use super::World;
 use crate::error::WorldError;
-use agreement::{Event, MOST_EVENTS};
 use crate::submissions::has_other_act;
+use agreement::{Event, MOST_EVENTS};
 use object::Object;
 
 impl<O: Object> World<O> {
