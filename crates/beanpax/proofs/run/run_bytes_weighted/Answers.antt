@@ -24,16 +24,20 @@ Ends = ClosesOf Stands (λ old new. IsNotLetGo ghosts.eq old.hall new.hall)
 
 pub returns-in_err-simulation : goal.returns-in_err-simulation
 returns-in_err-simulation g c = record {
-  answers = search rules;
-  breaks_off = nothing_served _ _ _ c.front_item.ensures;
-  streams = search rules;
+  told = record {
+    answers = search rules;
+    breaks_off = nothing_served _ _ _ c.front_item.ensures;
+    streams = search rules;
+  };
 }
 
 pub returns : goal.returns
 returns g c = record {
-  answers = served Stands Stops Ends c.in_ok-simulation.simulation c.serve.new.service _ _ c.serve.result c.in_ok-simulation.ensures.stands c.serve.ensures.told;
-  breaks_off =
-      served_partly Stands Stops Ends c.in_ok-simulation.simulation c.serve.new.service _ _ c.serve.result
-      c.front_item.ensures c.in_ok-simulation.ensures.stands c.serve.ensures.told;
-  streams = c.serve.ensures.streams;
+  told = record {
+    answers = served Stands Stops Ends c.in_ok-simulation.simulation c.serve.new.service _ _ c.serve.result c.in_ok-simulation.ensures.stands c.serve.ensures.told;
+    breaks_off =
+        served_partly Stands Stops Ends c.in_ok-simulation.simulation c.serve.new.service _ _ c.serve.result
+        c.front_item.ensures c.in_ok-simulation.ensures.stands c.serve.ensures.told;
+    streams = c.serve.ensures.streams;
+  };
 }
