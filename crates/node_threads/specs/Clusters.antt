@@ -40,7 +40,7 @@ pub record IsWorkerCount (workers : ℕ) : Type 0 where
   pub few : workers ≤ 64
 
 -- There is room for the threads of so many nodes and workers: each worker takes a part of both counts, and leaves one.
-pub record HasRoomFor {S C T H : Type 0} (nodes workers : ℕ) (sessions : Share S) (commands : Share C) (tickets : Vec T) (crew : Vec H) : Type 0 where
+pub record HaveRoom {S C T H : Type 0} (nodes workers : ℕ) (sessions : Share S) (commands : Share C) (tickets : Vec T) (crew : Vec H) : Type 0 where
   pub few : workers ≤ 64
   pub session_parts : workers < sessions.parts
   pub command_parts : workers < commands.parts

@@ -1,5 +1,5 @@
 ghost use Rattle.std.specs.Prelude.{◌≡◌, ◌≢◌, ◌+◌, ◌≤◌, ◌<◌, ◌-◌, ◌^◌, None, Some, Err, IfSome, OnOk, OnErr, vec_len, vec_capacity};
-ghost use Rattle.node_threads.specs.Clusters.{HasRoomFor, LeavesAccept};
+ghost use Rattle.node_threads.specs.Clusters.{HaveRoom, LeavesAccept};
 ghost use Rattle.node_threads.specs.Rings.{node_after};
 ghost use Rattle.node_threads.specs.declared.cluster_error.ClusterError.TheVariants.{BadNumber, ListenFailed, OutOfMemory, ThreadFailed};
 
@@ -152,7 +152,7 @@ pub(crate) fn run_threads<
     door: Door<A>,
     crew: Vec<JoinHandle<()>>,
 ) -> (Finished<O, S, C, A>, Vec<JoinHandle<()>>)
-    requires room { HasRoomFor nodes workers tally.sessions tally.commands tally.tickets crew }
+    requires room { HaveRoom nodes workers tally.sessions tally.commands tally.tickets crew }
     ensures session_parts { result.0.tally.sessions.parts ≡ tally.sessions.parts }
     ensures command_parts { result.0.tally.commands.parts ≡ tally.commands.parts }
     ensures crew { result.0.fault ≡ None → vec_len result.1 ≡ vec_len crew + nodes + 1 }
@@ -166,7 +166,8 @@ pub(crate) fn run_threads<
         thread::scope_env(),
         common.rt,
         move |scope| -> (Finished<O, S, C, A>, Vec<JoinHandle<()>>)
-            requires room { HasRoomFor nodes workers tally.sessions tally.commands tally.tickets crew }
+            requires room { HaveRoom nodes workers tally.sessions tally.commands
+                tally.tickets crew }
             ensures session_parts { result.0.tally.sessions.parts ≡ tally.sessions.parts }
             ensures command_parts { result.0.tally.commands.parts ≡ tally.commands.parts }
             ensures crew { result.0.fault ≡ None → vec_len result.1 ≡ vec_len crew + nodes + 1 }
