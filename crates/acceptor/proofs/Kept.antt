@@ -28,30 +28,45 @@ pub report_of_all : {C : Type 0} (xs ys : List (Pvalue C)) → ys ≡ xs → IsR
 report_of_all {C = C} xs ys e = subst (IsReport xs) (sym e) (record { part = λ p i. i; greatest = λ p i. (p, i, refl, not_below_itself p.ballot) })
 
 -- one more pvalue, in the place of one of its slot that is of no higher ballot
-pub report_of_put : {C : Type 0} (m : Slots (Accepted C)) (k : ℕ) (x : Accepted C) → is_higher (get m k) x.ballot ≡ false → IsReport (map pvalue_of (entries m) ++ pvalue_of (k, x) ∷ []) (map pvalue_of (entries (insert m k x)))
+pub report_of_put : {C : Type 0} (m : Slots (Accepted C)) (k : ℕ) (x : Accepted C)
+    → is_higher (get m k) x.ballot ≡ false
+    → IsReport (map pvalue_of (entries m) ++ pvalue_of (k, x) ∷ []) (map pvalue_of (entries (insert m k x)))
 report_of_put {C = C} m k x not_higher =
-    subst (λ (fs : List (ℕ × Accepted C)). IsReport (map pvalue_of (entries m) ++ pvalue_of (k, x) ∷ []) (map pvalue_of fs)) (sym (entries-insert nat_cmp_total m k x)) (record {
+    subst (λ (fs : List (ℕ × Accepted C)). IsReport (map pvalue_of (entries m) ++ pvalue_of (k, x) ∷ [])
+    (map pvalue_of fs)) (sym (entries-insert nat_cmp_total m k x)) (record {
       part = λ p i.
           let made = made_of pvalue_of p new i in
           elim (put_only k x es made.0 made.1) as (λ o. In p (map pvalue_of es ++ pvalue_of (k, x) ∷ [])) [
-            | inl old ↦ in_left p (map pvalue_of es) (pvalue_of (k, x) ∷ []) (subst (λ q. In q (map pvalue_of es)) (sym made.2) (in_map pvalue_of made.0 es old))
-            | inr same ↦ subst (λ q. In q (map pvalue_of es ++ pvalue_of (k, x) ∷ [])) (sym (made.2 ∙ ap pvalue_of same)) (in_last (map pvalue_of es) (pvalue_of (k, x)))
+            | inl old ↦ in_left p (map pvalue_of es) (pvalue_of (k, x) ∷ [])
+                (subst (λ q. In q (map pvalue_of es)) (sym made.2) (in_map pvalue_of made.0 es old))
+            | inr same ↦ subst (λ q. In q (map pvalue_of es ++ pvalue_of (k, x) ∷ []))
+                (sym (made.2 ∙ ap pvalue_of same)) (in_last (map pvalue_of es) (pvalue_of (k, x)))
           ];
       greatest = λ p i.
-          elim (in_cases p (map pvalue_of es) (pvalue_of (k, x)) i) as (λ o. (q : Pvalue C) × In q (map pvalue_of new) × (q.slot ≡ p.slot) × (is_below q.ballot p.ballot ≡ false)) [
+          elim (in_cases p (map pvalue_of es) (pvalue_of (k, x)) i) as (λ o. (q : Pvalue C) × In q (map pvalue_of new)
+          × (q.slot ≡ p.slot) × (is_below q.ballot p.ballot ≡ false)) [
             | inl old ↦
                 let made = made_of pvalue_of p es old in
-                elim (put_keeps k x es made.0 made.1) as (λ o. (q : Pvalue C) × In q (map pvalue_of new) × (q.slot ≡ p.slot) × (is_below q.ballot p.ballot ≡ false)) [
+                elim (put_keeps k x es made.0 made.1) as (λ o. (q : Pvalue C) × In q (map pvalue_of new)
+                × (q.slot ≡ p.slot) × (is_below q.ballot p.ballot ≡ false)) [
                   | inl stays ↦ (p, subst (λ q. In q (map pvalue_of new)) (sym made.2) (in_map pvalue_of made.0 new stays), refl, not_below_itself p.ballot)
                   | inr same ↦ (
                     pvalue_of (k, x),
                     here,
                     sym same ∙ ap (λ (q : Pvalue C). q.slot) (sym made.2),
                     subst (λ (q : Pvalue C). is_below x.ballot q.ballot ≡ false) (sym made.2)
-                        (ap (λ o. is_higher o x.ballot) (sym (in_found made.0 es (entries_sorted m) made.1) ∙ ap (λ n. find_at n) same ∙ sym (get-entries m k)) ∙ not_higher),
+                        (ap (λ o. is_higher o x.ballot)
+                        (sym (in_found made.0 es (entries_sorted m) made.1) ∙ ap (λ n. find_at n) same ∙ sym
+                        (get-entries m k)) ∙ not_higher),
                   )
                 ]
-            | inr same ↦ (pvalue_of (k, x), here, ap (λ (q : Pvalue C). q.slot) (sym same), subst (λ (q : Pvalue C). is_below x.ballot q.ballot ≡ false) (sym same) (not_below_itself x.ballot))
+            | inr same ↦ (
+              pvalue_of (k, x),
+              here,
+              ap (λ (q : Pvalue C). q.slot) (sym same),
+              subst
+                  (λ (q : Pvalue C). is_below x.ballot q.ballot ≡ false) (sym same) (not_below_itself x.ballot),
+            )
           ];
     })
   where
@@ -68,14 +83,18 @@ report_of_put {C = C} m k x not_higher =
     here = in_map pvalue_of (k, x) (put nat_cmp k x (entries m)) (put_here k x (entries m))
 
 -- a pvalue of a lower ballot than that which is kept of its slot
-pub report_of_lower : {C : Type 0} (m : Slots (Accepted C)) (k : ℕ) (x : Accepted C) → is_higher (get m k) x.ballot ≡ true → IsReport (map pvalue_of (entries m) ++ pvalue_of (k, x) ∷ []) (map pvalue_of (entries m))
+pub report_of_lower : {C : Type 0} (m : Slots (Accepted C)) (k : ℕ) (x : Accepted C)
+    → is_higher (get m k) x.ballot ≡ true
+    → IsReport (map pvalue_of (entries m) ++ pvalue_of (k, x) ∷ []) (map pvalue_of (entries m))
 report_of_lower {C = C} m k x higher =
-    elim (get m k) as (λ o. get m k ≡ o → is_higher o x.ballot ≡ true → IsReport (map pvalue_of (entries m) ++ pvalue_of (k, x) ∷ []) (map pvalue_of (entries m))) [
+    elim (get m k) as (λ o. get m k ≡ o → is_higher o x.ballot ≡ true
+    → IsReport (map pvalue_of (entries m) ++ pvalue_of (k, x) ∷ []) (map pvalue_of (entries m))) [
       | None ↦ λ is h. absurd (cc)
       | Some kept ↦ λ is h. record {
         part = λ p i. in_left p (map pvalue_of (entries m)) (pvalue_of (k, x) ∷ []) i;
         greatest = λ p i.
-            elim (in_cases p (map pvalue_of (entries m)) (pvalue_of (k, x)) i) as (λ o. (q : Pvalue C) × In q (map pvalue_of (entries m)) × (q.slot ≡ p.slot) × (is_below q.ballot p.ballot ≡ false)) [
+            elim (in_cases p (map pvalue_of (entries m)) (pvalue_of (k, x)) i) as (λ o. (q : Pvalue C)
+            × In q (map pvalue_of (entries m)) × (q.slot ≡ p.slot) × (is_below q.ballot p.ballot ≡ false)) [
               | inl old ↦ (p, old, refl, not_below_itself p.ballot)
               | inr same ↦ (
                 pvalue_of (k, kept),
@@ -95,12 +114,16 @@ kept_refused {C = C} a p other = record {
 }
 
 -- a pvalue of the promised ballot is accepted
-pub kept_report : {C : Type 0} (a b : Acceptances C) (p : Pvalue C) (before now : List (Pvalue C)) → is_promise a.promised p.ballot ≡ true → a.accepted ≡ before → b.promised ≡ a.promised → b.accepted ≡ now → IsReport (before ++ p ∷ []) now → Keeps (after_p2a a p) b
+pub kept_report : {C : Type 0} (a b : Acceptances C) (p : Pvalue C) (before now : List (Pvalue C))
+    → is_promise a.promised p.ballot ≡ true → a.accepted ≡ before → b.promised ≡ a.promised → b.accepted ≡ now
+    → IsReport (before ++ p ∷ []) now → Keeps (after_p2a a p) b
 kept_report {C = C} a b p before now promised was same is report = record {
   promised = same;
   accepted =
       subst (IsReport (after_p2a a p).accepted) (sym is)
-      (subst (λ (ps : List (Pvalue C)). IsReport ps now) (ap (λ ps. ps ++ p ∷ []) (sym was) ∙ sym (cond-true (is_promise a.promised p.ballot) (a.accepted ++ p ∷ []) a.accepted promised)) report);
+      (subst (λ (ps : List (Pvalue C)). IsReport ps now)
+      (ap (λ ps. ps ++ p ∷ []) (sym was) ∙ sym
+      (cond-true (is_promise a.promised p.ballot) (a.accepted ++ p ∷ []) a.accepted promised)) report);
 }
 
 pub is_promised : (promised : Option Numbers) (b : Numbers) (test : Bool) → test ≡ not (option_eq is_same promised (Some b)) → is_promise promised b ≡ not test

@@ -1,5 +1,6 @@
 -- Elements of lists, of mapped lists, and of entries into which one was put.
-use Rattle.std.proofs.Common.{◌≡◌, ◌⊎◌, inl, inr, ⊎_elim, ℕ, ◌<◌, Bool, true, false, ◌&&◌, cond, List, [], ◌∷◌, ◌++◌, Some, map, refl, sym, ap, subst, ◌∙◌, arith, Less, Equal, Greater}
+use Rattle.std.proofs.Common.{◌≡◌, ◌⊎◌, inl, inr, ⊎_elim, ℕ, ◌<◌, Bool, true, false, ◌&&◌, cond, List, [], ◌∷◌, ◌++◌}
+use Rattle.std.proofs.Common.{Some, map, refl, sym, ap, subst, ◌∙◌, arith, Less, Equal, Greater}
 use Rattle.std.specs.Prelude.{T}
 use Rattle.std.proofs.lemmas.Bool.Decides.{nat_tests}
 use Rattle.std.proofs.lemmas.Option.{same_Some}
@@ -50,9 +51,15 @@ module _ {X : Type 0} (k : ℕ) (v : X) where
   put_only [] x (inl e) = inr e
   put_only [] x (inr i) = absurd i
   put_only (e ∷ es) x i =
-      elim (nat_cmp k e.0) as (λ o. nat_cmp k e.0 ≡ o → In x (by_order o ((k, v) ∷ e ∷ es) ((e.0, v) ∷ es) (e ∷ put nat_cmp k v es)) → In x (e ∷ es) ⊎ (x ≡ (k, v))) [
+      elim (nat_cmp k e.0) as (λ o. nat_cmp k e.0 ≡ o
+      → In x (by_order o ((k, v) ∷ e ∷ es) ((e.0, v) ∷ es) (e ∷ put nat_cmp k v es)) → In x (e ∷ es) ⊎ (x ≡ (k, v))) [
         | Less ↦ λ h j. elim j as (λ j. In x (e ∷ es) ⊎ (x ≡ (k, v))) [ inl same ↦ inr same | inr there ↦ inl there ]
-        | Equal ↦ λ h j. elim j as (λ j. In x (e ∷ es) ⊎ (x ≡ (k, v))) [ inl same ↦ inr (same ∙ ap (λ q. (q, v)) (sym (nat_cmp-IsAntisymmetric k e.0 h))) | inr there ↦ inl (inr there) ]
+        | Equal ↦ λ h j. elim j as (λ j. In x (e ∷ es)
+            ⊎ (x ≡ (k, v))) [
+              | inl same ↦ inr
+                  (same ∙ ap (λ q. (q, v)) (sym (nat_cmp-IsAntisymmetric k e.0 h)))
+              | inr there ↦ inl (inr there)
+            ]
         | Greater ↦ λ h j. elim j as (λ j. In x (e ∷ es) ⊎ (x ≡ (k, v))) [
           | inl same ↦ inl (inl same)
           | inr there ↦ ⊎_elim (λ (i : In x es). inl (inr i)) (λ (e : x ≡ (k, v)). inr e) (put_only es x there)
@@ -65,7 +72,12 @@ module _ {X : Type 0} (k : ℕ) (v : X) where
   put_keeps (e ∷ es) x i =
       elim (nat_cmp k e.0) as (λ o. nat_cmp k e.0 ≡ o → In x (by_order o ((k, v) ∷ e ∷ es) ((e.0, v) ∷ es) (e ∷ put nat_cmp k v es)) ⊎ (x.0 ≡ k)) [
         | Less ↦ λ h. inl (inr i)
-        | Equal ↦ λ h. elim i as (λ i. In x ((e.0, v) ∷ es) ⊎ (x.0 ≡ k)) [ inl same ↦ inr (ap (λ (p : ℕ × X). p.0) same ∙ sym (nat_cmp-IsAntisymmetric k e.0 h)) | inr there ↦ inl (inr there) ]
+        | Equal ↦ λ h. elim i as (λ i. In x ((e.0, v) ∷ es)
+            ⊎ (x.0 ≡ k)) [
+              | inl same ↦ inr (ap (λ (p : ℕ × X). p.0) same ∙ sym (nat_cmp-IsAntisymmetric k e.0 h))
+              | inr
+                  there ↦ inl (inr there)
+            ]
         | Greater ↦ λ h. elim i as (λ i. In x (e ∷ put nat_cmp k v es) ⊎ (x.0 ≡ k)) [
           | inl same ↦ inl (inl same)
           | inr there ↦ ⊎_elim (λ (j : In x (put nat_cmp k v es)). inl (inr j)) (λ (e : x.0 ≡ k). inr e) (put_keeps es x there)

@@ -92,7 +92,9 @@ pub data Step {O Op Reply : Type 0} (rules : Rules O Op Reply) (w : World Op Rep
   propose :
       (n : ℕ)
       → is_member w.cluster.members n ≡ true
-      → Step rules w (ProposeNext n) (counted (with_cluster w (replica_turn w.cluster n (proposed_next (node w.cluster n).replica) (all_to_all w.cluster.members n (proposes_first (next_proposal (node w.cluster n).replica))))))
+      → Step rules w (ProposeNext n)
+      (counted (with_cluster w (replica_turn w.cluster n (proposed_next (node w.cluster n).replica)
+      (all_to_all w.cluster.members n (proposes_first (next_proposal (node w.cluster n).replica))))))
   perform :
       (n : ℕ)
       → is_member w.cluster.members n ≡ true

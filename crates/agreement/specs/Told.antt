@@ -20,7 +20,8 @@ ReachBegins {Op} w = (cs order : List (Command Op)) → IsReached w cs → IsOrd
 
 -- each answer that one object gives which obeys what is kept of them has been given
 abbrev pub TellsReached : {O Op Reply : Type 0} → Rules O Op Reply → World Op Reply → Type 0
-TellsReached {O} {Op} {Reply} rules w = (cs : List (Command Op)) → IsReached w cs → (place : ℕ) (a : Answer Reply) → IsGivenAt rules (kept cs) place a → In a w.happenings.answers
+TellsReached {O} {Op} {Reply} rules w = (cs : List (Command Op)) → IsReached w cs → (place : ℕ) (a : Answer Reply)
+    → IsGivenAt rules (kept cs) place a → In a w.happenings.answers
 
 -- and each answer that was given is one of these
 abbrev pub IsGivenByReached : {O Op Reply : Type 0} → Rules O Op Reply → World Op Reply → Type 0

@@ -4,7 +4,9 @@ use Rattle.std.specs.Option.{is_some, option_copied_mut, ghost_name_of}
 use borrow.Follows.Closed.{read_of}
 
 -- two readings of what the lender ends as are one, if they agree on what is lent and at None
-pub same_loan : {D E : Type 0} (lent : Option (MutBor E)) (F G : E → D) (v w : D) → (is_some lent ≡ true → (x : E) → F x ≡ G x) → (lent ≡ None → v ≡ w) → read_of (ghost_name_of lent) F v ≡ read_of (ghost_name_of lent) G w
+pub same_loan : {D E : Type 0} (lent : Option (MutBor E)) (F G : E → D) (v w : D)
+    → (is_some lent ≡ true → (x : E) → F x ≡ G x) → (lent ≡ None → v ≡ w)
+    → read_of (ghost_name_of lent) F v ≡ read_of (ghost_name_of lent) G w
 same_loan None F G v w some none = ap inr (none refl)
 same_loan (Some r) F G v w some none = λ i. inl (r.ghost_name, λ x. some refl x i)
 

@@ -27,15 +27,23 @@ apart [] a b = inr (omega arith)
 apart (w ∷ ws) [] b = inr (let h = weigh-le (w ∷ ws) b in omega arith)
 apart (w ∷ ws) (x ∷ a) [] = inr (let h = weigh-le (w ∷ ws) (x ∷ a) in omega arith)
 apart (w ∷ ws) (true ∷ a) (true ∷ b) = inl (zero, refl, refl, omega arith)
-apart (w ∷ ws) (true ∷ a) (false ∷ b) = ⊎_elim (λ (s : Shared ws a b). inl (deeper w ws true false a b s)) (λ (h : weigh ws a + weigh ws b ≤ sum ws). inr (omega (arith, sum-cons w ws))) (apart ws a b)
-apart (w ∷ ws) (false ∷ a) (true ∷ b) = ⊎_elim (λ (s : Shared ws a b). inl (deeper w ws false true a b s)) (λ (h : weigh ws a + weigh ws b ≤ sum ws). inr (omega (arith, sum-cons w ws))) (apart ws a b)
-apart (w ∷ ws) (false ∷ a) (false ∷ b) = ⊎_elim (λ (s : Shared ws a b). inl (deeper w ws false false a b s)) (λ (h : weigh ws a + weigh ws b ≤ sum ws). inr (omega (arith, sum-cons w ws))) (apart ws a b)
+apart (w ∷ ws) (true ∷ a) (false ∷ b) =
+    ⊎_elim (λ (s : Shared ws a b). inl (deeper w ws true false a b s))
+    (λ (h : weigh ws a + weigh ws b ≤ sum ws). inr (omega (arith, sum-cons w ws))) (apart ws a b)
+apart (w ∷ ws) (false ∷ a) (true ∷ b) =
+    ⊎_elim (λ (s : Shared ws a b). inl (deeper w ws false true a b s))
+    (λ (h : weigh ws a + weigh ws b ≤ sum ws). inr (omega (arith, sum-cons w ws))) (apart ws a b)
+apart (w ∷ ws) (false ∷ a) (false ∷ b) =
+    ⊎_elim (λ (s : Shared ws a b). inl (deeper w ws false false a b s))
+    (λ (h : weigh ws a + weigh ws b ≤ sum ws). inr (omega (arith, sum-cons w ws))) (apart ws a b)
 
 -- a majority weighs more than half of the whole
 above_half : (weights : List ℕ) (a : List Bool) → is_majority weights a ≡ true → sum weights < 2 * weigh weights a
 above_half weights a h = grind (arith, nat_tests)
 
-pub share : (weights : List ℕ) (a b : List Bool) → is_majority weights a ≡ true → is_majority weights b ≡ true → (m : ℕ) × (has a m ≡ true) × (has b m ≡ true) × (is_member weights m ≡ true)
+pub share : (weights : List ℕ) (a b : List Bool) → is_majority weights a ≡ true → is_majority weights b ≡ true → (m : ℕ)
+    × (has a m ≡ true) × (has b m ≡ true) × (is_member weights m ≡ true)
 share weights a b h k =
     ⊎_elim (λ (s : Shared weights a b). let within = s.3 in (suc s.0, s.1, s.2, grind (arith, nat_tests)))
-    (λ (e : weigh weights a + weigh weights b ≤ sum weights). let i = above_half weights a h in let j = above_half weights b k in absurd (omega arith)) (apart weights a b)
+    (λ (e : weigh weights a + weigh weights b ≤ sum weights). let i = above_half weights a h in let j =
+    above_half weights b k in absurd (omega arith)) (apart weights a b)

@@ -1,5 +1,6 @@
 -- The entries of a tree, in rising slot, as a finite map, and what changes of such a map leave.
-use Rattle.std.proofs.Common.{◌≡◌, ◌⊎◌, inl, inr, ⊎_elim, arith, ℕ, Bool, true, false, cond, List, [], ◌∷◌, Option, None, Some, refl, sym, ap, ap₂, subst, ◌∙◌, Less}
+use Rattle.std.proofs.Common.{◌≡◌, ◌⊎◌, inl, inr, ⊎_elim, arith, ℕ, Bool, true, false, cond, List, [], ◌∷◌, Option}
+use Rattle.std.proofs.Common.{None, Some, refl, sym, ap, ap₂, subst, ◌∙◌, Less}
 use Rattle.std.specs.Prelude.{T, ◌&&◌, is_some}
 use Rattle.std.specs.Ordering.{nat_cmp, eq_by_cmp, is_lt}
 use Rattle.std.specs.Cmp.{nat_cmp_total, eq_by_cmp_equiv}
@@ -7,7 +8,9 @@ use Rattle.std.specs.Map.{lookup, keys_of}
 use Rattle.std.specs.BTreeMap.{is_at}
 use Rattle.std.specs.List.{AllByRecursion}
 use Rattle.std.specs.List.Sorted.{IsStrictlySortedBy}
-use Rattle.std.specs.FinMap.{empty, get, contains_key, insert, remove, entries, from_sorted, from_entries, find, is_sorted, same_map, nat_cmp-IsAntisymmetric, get-empty, get-from_sorted, get-entries, get-insert, get-remove, get-from_entries}
+use Rattle.std.specs.FinMap.{empty, get, contains_key, insert, remove, entries, from_sorted, from_entries, find}
+use Rattle.std.specs.FinMap.{is_sorted, same_map, nat_cmp-IsAntisymmetric, get-empty, get-from_sorted, get-entries}
+use Rattle.std.specs.FinMap.{get-insert, get-remove, get-from_entries}
 use Rattle.std.specs.FinMap.Entries.{below_all}
 use Rattle.std.proofs.lemmas.Bool.Decides.{nat_tests}
 use Rattle.ballot.specs.Slots.{Slots}
@@ -34,24 +37,31 @@ pub get_view : {X : Type 0} (es : List (ℕ × X)) → T (is_sorted nat_cmp es) 
 get_view es h q = get-from_sorted nat_cmp es q h ∙ sym (lookup-find q es)
 
 -- what changed at one key changed so in the finite map
-pub insert_view : {X : Type 0} (es fs : List (ℕ × X)) → T (is_sorted nat_cmp es) → T (is_sorted nat_cmp fs) → (k : ℕ) (v : X) → ((q : ℕ) → lookup (is_at (nat_cmp q)) fs ≡ cond (is_at (nat_cmp k) q) (Some v) (lookup (is_at (nat_cmp q)) es)) → from_sorted {R = nat_cmp} fs ≡ insert (from_sorted es) k v
+pub insert_view : {X : Type 0} (es fs : List (ℕ × X)) → T (is_sorted nat_cmp es) → T (is_sorted nat_cmp fs)
+    → (k : ℕ) (v : X) → ((q : ℕ) → lookup (is_at (nat_cmp q)) fs
+    ≡ cond (is_at (nat_cmp k) q) (Some v) (lookup (is_at (nat_cmp q)) es))
+    → from_sorted {R = nat_cmp} fs ≡ insert (from_sorted es) k v
 insert_view es fs he hf k v u =
     same_map nat_cmp_total nat_cmp-IsAntisymmetric (from_sorted fs) (insert (from_sorted es) k v)
     (λ q. get_view fs hf q ∙ u q ∙ ap₂ (λ b o. cond b (Some v) o) ((eq_by_cmp_equiv nat_cmp_total).symm k q) (sym (get_view es he q)) ∙
     sym (get-insert nat_cmp_total (from_sorted es) k v q))
 
-pub remove_view : {X : Type 0} (es fs : List (ℕ × X)) → T (is_sorted nat_cmp es) → T (is_sorted nat_cmp fs) → (k : ℕ) → ((q : ℕ) → lookup (is_at (nat_cmp q)) fs ≡ cond (is_at (nat_cmp k) q) None (lookup (is_at (nat_cmp q)) es)) → from_sorted {R = nat_cmp} fs ≡ remove (from_sorted es) k
+pub remove_view : {X : Type 0} (es fs : List (ℕ × X)) → T (is_sorted nat_cmp es) → T (is_sorted nat_cmp fs) → (k : ℕ)
+    → ((q : ℕ) → lookup (is_at (nat_cmp q)) fs ≡ cond (is_at (nat_cmp k) q) None (lookup (is_at (nat_cmp q)) es))
+    → from_sorted {R = nat_cmp} fs ≡ remove (from_sorted es) k
 remove_view es fs he hf k u =
     same_map nat_cmp_total nat_cmp-IsAntisymmetric (from_sorted fs) (remove (from_sorted es) k)
     (λ q. get_view fs hf q ∙ u q ∙ ap₂ (λ b o. cond b None o) ((eq_by_cmp_equiv nat_cmp_total).symm k q) (sym (get_view es he q)) ∙
     sym (get-remove nat_cmp_total (from_sorted es) k q))
 
 pub empty_view : {X : Type 0} (es : List (ℕ × X)) → es ≡ [] → from_sorted {R = nat_cmp} es ≡ empty
-empty_view {X = X} es e = ap (λ (xs : List (ℕ × X)). from_sorted {R = nat_cmp} xs) e ∙ same_map nat_cmp_total nat_cmp-IsAntisymmetric (from_sorted []) empty (λ q. get-from_sorted nat_cmp [] q tt ∙ sym (get-empty nat_cmp q))
+empty_view {X = X} es e = ap (λ (xs : List (ℕ × X)). from_sorted {R = nat_cmp} xs) e ∙ same_map nat_cmp_total
+    nat_cmp-IsAntisymmetric (from_sorted []) empty (λ q. get-from_sorted nat_cmp [] q tt ∙ sym (get-empty nat_cmp q))
 
 -- a map is that of its entries
 pub from_its_entries : {X : Type 0} (m : Slots X) → from_entries (entries m) ≡ m
-from_its_entries m = same_map nat_cmp_total nat_cmp-IsAntisymmetric (from_entries (entries m)) m (λ q. get-from_entries nat_cmp_total (entries m) q ∙ sym (get-entries m q))
+from_its_entries m = same_map nat_cmp_total nat_cmp-IsAntisymmetric (from_entries (entries m)) m
+    (λ q. get-from_entries nat_cmp_total (entries m) q ∙ sym (get-entries m q))
 
 key_cases : (k q : ℕ) → (eq_by_cmp nat_cmp q k ≡ true) ⊎ (eq_by_cmp nat_cmp q k ≡ false)
 key_cases k q = elim (eq_by_cmp nat_cmp q k) as (λ b. (b ≡ true) ⊎ (b ≡ false)) [ true ↦ inl refl | false ↦ inr refl ]
@@ -70,7 +80,8 @@ insert_cases m k v q =
 pub kept_by_remove : {X : Type 0} (m : Slots X) (k q : ℕ) (x : X) → get (remove m k) q ≡ Some x → get m q ≡ Some x
 kept_by_remove m k q x h =
     ⊎_elim
-    (λ (t : eq_by_cmp nat_cmp q k ≡ true). let none : None ≡ Some x = sym (get-remove nat_cmp_total m k q ∙ ap (λ b. cond b None (get m q)) t) ∙ h in absurd (cc))
+    (λ (t : eq_by_cmp nat_cmp q k ≡ true). let none : None ≡ Some x =
+    sym (get-remove nat_cmp_total m k q ∙ ap (λ b. cond b None (get m q)) t) ∙ h in absurd (cc))
     (λ (t : eq_by_cmp nat_cmp q k ≡ false). sym (get-remove nat_cmp_total m k q ∙ ap (λ b. cond b None (get m q)) t) ∙ h) (key_cases k q)
 
 none_there : {X : Type 0} (o : Option X) → is_some o ≡ false → o ≡ None
@@ -83,7 +94,8 @@ remove-insert m k v free =
     same_map nat_cmp_total nat_cmp-IsAntisymmetric (remove (insert m k v) k) m
     (λ q. get-remove nat_cmp_total (insert m k v) k q ∙ ap (λ o. cond (eq_by_cmp nat_cmp q k) None o) (get-insert nat_cmp_total m k v q) ∙
     ⊎_elim
-    (λ (h : eq_by_cmp nat_cmp q k ≡ true). ap (λ b. cond b None (cond b (Some v) (get m q))) h ∙ sym (ap (λ n. get m n) (same_key k q h) ∙ none_there (get m k) free))
+    (λ (h : eq_by_cmp nat_cmp q k ≡ true). ap (λ b. cond b None (cond b (Some v) (get m q))) h ∙ sym
+    (ap (λ n. get m n) (same_key k q h) ∙ none_there (get m k) free))
     (λ (h : eq_by_cmp nat_cmp q k ≡ false). ap (λ b. cond b None (cond b (Some v) (get m q))) h) (key_cases k q))
 
 -- to put again what is there changes nothing

@@ -1,5 +1,6 @@
 -- What a row of values and a map beside it answer together.
-use Rattle.std.proofs.Common.{◌≡◌, ◌⊎◌, inl, inr, ⊎_elim, arith, ℕ, ◌+◌, ◌-◌, ◌<◌, ◌≤◌, true, false, cond, List, [], ◌∷◌, ◌++◌, length, suc, zero, Option, None, Some, refl, sym, ap, ap₂, ◌∙◌}
+use Rattle.std.proofs.Common.{◌≡◌, ◌⊎◌, inl, inr, ⊎_elim, arith, ℕ, ◌+◌, ◌-◌, ◌<◌, ◌≤◌, true, false, cond, List, []}
+use Rattle.std.proofs.Common.{◌∷◌, ◌++◌, length, suc, zero, Option, None, Some, refl, sym, ap, ap₂, ◌∙◌}
 use Rattle.std.proofs.Math.ListN.{set}
 use Rattle.std.specs.Prelude.{nat_le, slice_get, option_and_then}
 use Rattle.std.specs.Option.{option_or}
@@ -17,10 +18,11 @@ cases : (n q : ℕ) → (nat_le n q ≡ false) ⊎ ((q ≡ n) ⊎ ((nat_le (n + 
 cases n q =
     elim (nat_le n q) as (λ b. nat_le n q ≡ b → (nat_le n q ≡ false) ⊎ ((q ≡ n) ⊎ ((nat_le (n + 1) q ≡ true) × (nat_le n q ≡ true)))) [
       | false ↦ λ e. inl e
-      | true ↦ λ e. elim (nat_le (n + 1) q) as (λ b. nat_le (n + 1) q ≡ b → (nat_le n q ≡ false) ⊎ ((q ≡ n) ⊎ ((nat_le (n + 1) q ≡ true) × (nat_le n q ≡ true)))) [
-        | false ↦ λ f. inr (inl (grind (arith, nat_tests)))
-        | true ↦ λ f. inr (inr (f, e))
-      ] refl
+      | true ↦ λ e. elim (nat_le (n + 1) q) as (λ b. nat_le (n + 1) q ≡ b → (nat_le n q ≡ false)
+          ⊎ ((q ≡ n) ⊎ ((nat_le (n + 1) q ≡ true) × (nat_le n q ≡ true)))) [
+            | false ↦ λ f. inr (inl (grind (arith, nat_tests)))
+            | true ↦ λ f. inr (inr (f, e))
+          ] refl
     ] refl
 
 pub in_row_before : {X : Type 0} (n : ℕ) (os : List (Option X)) (q : ℕ) → nat_le n q ≡ false → in_row n os q ≡ None
@@ -29,7 +31,8 @@ in_row_before n os q e = ap (λ b. cond b (option_and_then (λ o. o) (slice_get 
 in_row_at : {X : Type 0} (n : ℕ) (os : List (Option X)) (q k : ℕ) → nat_le n q ≡ true → q - n ≡ k → in_row n os q ≡ option_and_then (λ o. o) (slice_get os k)
 in_row_at n os q k e f = ap (λ b. cond b (option_and_then (λ o. o) (slice_get os (q - n))) None) e ∙ ap (λ k. option_and_then (λ o. o) (slice_get os k)) f
 
-pub in_row_cons : {X : Type 0} (n : ℕ) (o : Option X) (os : List (Option X)) (q : ℕ) → in_row n (o ∷ os) q ≡ cond (eq_by_cmp nat_cmp q n) o (in_row (n + 1) os q)
+pub in_row_cons : {X : Type 0} (n : ℕ) (o : Option X) (os : List (Option X)) (q : ℕ)
+    → in_row n (o ∷ os) q ≡ cond (eq_by_cmp nat_cmp q n) o (in_row (n + 1) os q)
 in_row_cons n o os q =
     ⊎_elim
     (λ (e : nat_le n q ≡ false).
@@ -44,7 +47,8 @@ in_row_cons n o os q =
     (λ (e : (nat_le (n + 1) q ≡ true) × (nat_le n q ≡ true)).
     let other : eq_by_cmp nat_cmp q n ≡ false = grind (arith, nat_tests, e.0) in
     let next : q - n ≡ suc (q - (n + 1)) = grind (arith, nat_tests, e.0) in
-    in_row_at n (o ∷ os) q (suc (q - (n + 1))) e.1 next ∙ sym (ap (λ b. cond b o (in_row (n + 1) os q)) other ∙ in_row_at (n + 1) os q (q - (n + 1)) e.0 refl)) h)
+    in_row_at n (o ∷ os) q (suc (q - (n + 1))) e.1 next ∙ sym
+    (ap (λ b. cond b o (in_row (n + 1) os q)) other ∙ in_row_at (n + 1) os q (q - (n + 1)) e.0 refl)) h)
     (cases n q)
 
 none_of_nothing : {X : Type 0} (n q : ℕ) → in_row {X = X} n [] q ≡ None
@@ -63,25 +67,31 @@ in_row_push_none n [] q = in_row_cons n None [] q ∙ nothing_first n [] q ∙ n
 in_row_push_none n (o ∷ os) q =
     in_row_cons n o (os ++ None ∷ []) q ∙ ap (λ r. cond (eq_by_cmp nat_cmp q n) o r) (in_row_push_none (n + 1) os q) ∙ sym (in_row_cons n o os q)
 
-apart : {X : Type 0} (n k q : ℕ) (o v r : Option X) → cond (eq_by_cmp nat_cmp q n) o (cond (eq_by_cmp nat_cmp q (n + 1 + k)) v r) ≡ cond (eq_by_cmp nat_cmp q (n + suc k)) v (cond (eq_by_cmp nat_cmp q n) o r)
+apart : {X : Type 0} (n k q : ℕ) (o v r : Option X)
+    → cond (eq_by_cmp nat_cmp q n) o (cond (eq_by_cmp nat_cmp q (n + 1 + k)) v r)
+    ≡ cond (eq_by_cmp nat_cmp q (n + suc k)) v (cond (eq_by_cmp nat_cmp q n) o r)
 apart n k q o v r =
-    elim (eq_by_cmp nat_cmp q n) as (λ b. eq_by_cmp nat_cmp q n ≡ b → cond b o (cond (eq_by_cmp nat_cmp q (n + 1 + k)) v r) ≡ cond (eq_by_cmp nat_cmp q (n + suc k)) v (cond b o r)) [
+    elim (eq_by_cmp nat_cmp q n) as (λ b. eq_by_cmp nat_cmp q n ≡ b
+    → cond b o (cond (eq_by_cmp nat_cmp q (n + 1 + k)) v r) ≡ cond (eq_by_cmp nat_cmp q (n + suc k)) v (cond b o r)) [
       | true ↦ λ e. let other : eq_by_cmp nat_cmp q (n + suc k) ≡ false = grind (arith, nat_tests, e) in sym (ap (λ b. cond b v o) other)
       | false ↦ λ e. let same : n + 1 + k ≡ n + suc k = omega arith in ap (λ m. cond (eq_by_cmp nat_cmp q m) v r) same
     ] refl
 
 -- what was put at a place stands there
-pub in_row_set : {X : Type 0} (n : ℕ) (os : List (Option X)) (k : ℕ) (v : Option X) (q : ℕ) → k < length os → in_row n (set os k v) q ≡ cond (eq_by_cmp nat_cmp q (n + k)) v (in_row n os q)
+pub in_row_set : {X : Type 0} (n : ℕ) (os : List (Option X)) (k : ℕ) (v : Option X) (q : ℕ) → k < length os
+    → in_row n (set os k v) q ≡ cond (eq_by_cmp nat_cmp q (n + k)) v (in_row n os q)
 in_row_set n [] k v q h = absurd (omega arith)
 in_row_set n (o ∷ os) zero v q h =
     let here : n + 0 ≡ n = omega arith in
-    in_row_cons n v os q ∙ elim (eq_by_cmp nat_cmp q n) as (λ b. cond b v (in_row (n + 1) os q) ≡ cond b v (cond b o (in_row (n + 1) os q))) [ true ↦ refl | false ↦ refl ] ∙
+    in_row_cons n v os q ∙ elim (eq_by_cmp nat_cmp q n) as (λ b. cond b v (in_row (n + 1) os q)
+    ≡ cond b v (cond b o (in_row (n + 1) os q))) [ true ↦ refl | false ↦ refl ] ∙
     sym (ap (λ m. cond (eq_by_cmp nat_cmp q m) v (in_row n (o ∷ os) q)) here ∙ ap (λ r. cond (eq_by_cmp nat_cmp q n) v r) (in_row_cons n o os q))
 in_row_set n (o ∷ os) (suc k) v q h =
     in_row_cons n o (set os k v) q ∙ ap (λ r. cond (eq_by_cmp nat_cmp q n) o r) (in_row_set (n + 1) os k v q (omega (arith, h))) ∙
     apart n k q o v (in_row (n + 1) os q) ∙ ap (λ r. cond (eq_by_cmp nat_cmp q (n + suc k)) v r) (sym (in_row_cons n o os q))
 
-pub in_row_push : {X : Type 0} (n : ℕ) (os : List (Option X)) (o : Option X) (q : ℕ) → in_row n (os ++ o ∷ []) q ≡ cond (eq_by_cmp nat_cmp q (n + length os)) o (in_row n os q)
+pub in_row_push : {X : Type 0} (n : ℕ) (os : List (Option X)) (o : Option X) (q : ℕ)
+    → in_row n (os ++ o ∷ []) q ≡ cond (eq_by_cmp nat_cmp q (n + length os)) o (in_row n os q)
 in_row_push n [] o q =
     let here : n ≡ n + 0 = omega arith in
     in_row_cons n o [] q ∙ ap₂ (λ k r. cond (eq_by_cmp nat_cmp q k) o r) here (none_of_nothing (n + 1) q ∙ sym (none_of_nothing n q))
@@ -97,7 +107,8 @@ get_with_row n (None ∷ os) m q =
     get_with_row (n + 1) os m q ∙ ap (λ o. option_or o (get m q)) (sym (in_row_cons n None os q ∙ nothing_first n os q))
 get_with_row n (Some x ∷ os) m q =
     get-insert nat_cmp_total (with_row (n + 1) os m) n x q ∙ ap (λ o. cond (eq_by_cmp nat_cmp q n) (Some x) o) (get_with_row (n + 1) os m q) ∙
-    elim (eq_by_cmp nat_cmp q n) as (λ b. cond b (Some x) (option_or (in_row (n + 1) os q) (get m q)) ≡ option_or (cond b (Some x) (in_row (n + 1) os q)) (get m q)) [ true ↦ refl | false ↦ refl ] ∙
+    elim (eq_by_cmp nat_cmp q n) as (λ b. cond b (Some x) (option_or (in_row (n + 1) os q) (get m q))
+    ≡ option_or (cond b (Some x) (in_row (n + 1) os q)) (get m q)) [ true ↦ refl | false ↦ refl ] ∙
     ap (λ o. option_or o (get m q)) (sym (in_row_cons n (Some x) os q))
 
 -- an empty row changes nothing
@@ -115,34 +126,44 @@ same_row n os ps m is =
     (λ q. get_with_row n ps m q ∙ ap (λ o. option_or o (get m q)) (is q) ∙ sym (get_with_row n os m q))
 
 -- a value that came to the row
-pub put_in_row : {X : Type 0} (n : ℕ) (os ps : List (Option X)) (m : Slots X) (k : ℕ) (v : X) → ((s : ℕ) → in_row n ps s ≡ but_at (in_row n os) k (Some v) s) → with_row n ps m ≡ insert (with_row n os m) k v
+pub put_in_row : {X : Type 0} (n : ℕ) (os ps : List (Option X)) (m : Slots X) (k : ℕ) (v : X)
+    → ((s : ℕ) → in_row n ps s ≡ but_at (in_row n os) k (Some v) s) → with_row n ps m ≡ insert (with_row n os m) k v
 put_in_row n os ps m k v is =
     same_map nat_cmp_total nat_cmp-IsAntisymmetric (with_row n ps m) (insert (with_row n os m) k v)
     (λ q. get_with_row n ps m q ∙ ap (λ o. option_or o (get m q)) (is q) ∙
-    elim (eq_by_cmp nat_cmp q k) as (λ b. option_or (cond b (Some v) (in_row n os q)) (get m q) ≡ cond b (Some v) (option_or (in_row n os q) (get m q))) [ true ↦ refl | false ↦ refl ] ∙
+    elim (eq_by_cmp nat_cmp q k) as (λ b. option_or (cond b (Some v) (in_row n os q)) (get m q)
+    ≡ cond b (Some v) (option_or (in_row n os q) (get m q))) [ true ↦ refl | false ↦ refl ] ∙
     ap (λ o. cond (eq_by_cmp nat_cmp q k) (Some v) o) (sym (get_with_row n os m q)) ∙ sym (get-insert nat_cmp_total (with_row n os m) k v q))
 
 -- a value that came beside it
-pub put_beside : {X : Type 0} (n : ℕ) (os : List (Option X)) (m : Slots X) (k : ℕ) (v : X) → in_row n os k ≡ None → with_row n os (insert m k v) ≡ insert (with_row n os m) k v
+pub put_beside : {X : Type 0} (n : ℕ) (os : List (Option X)) (m : Slots X) (k : ℕ) (v : X) → in_row n os k ≡ None
+    → with_row n os (insert m k v) ≡ insert (with_row n os m) k v
 put_beside n os m k v free =
     same_map nat_cmp_total nat_cmp-IsAntisymmetric (with_row n os (insert m k v)) (insert (with_row n os m) k v)
     (λ q. get_with_row n os (insert m k v) q ∙ ap (λ o. option_or (in_row n os q) o) (get-insert nat_cmp_total m k v q) ∙
     at_key n os m k v free q ∙
     ap (λ o. cond (eq_by_cmp nat_cmp q k) (Some v) o) (sym (get_with_row n os m q)) ∙ sym (get-insert nat_cmp_total (with_row n os m) k v q))
   where
-    at_key : {X : Type 0} (n : ℕ) (os : List (Option X)) (m : Slots X) (k : ℕ) (v : X) → in_row n os k ≡ None → (q : ℕ) → option_or (in_row n os q) (cond (eq_by_cmp nat_cmp q k) (Some v) (get m q)) ≡ cond (eq_by_cmp nat_cmp q k) (Some v) (option_or (in_row n os q) (get m q))
+    at_key : {X : Type 0} (n : ℕ) (os : List (Option X)) (m : Slots X) (k : ℕ) (v : X) → in_row n os k ≡ None → (q : ℕ)
+        → option_or (in_row n os q) (cond (eq_by_cmp nat_cmp q k) (Some v) (get m q))
+        ≡ cond (eq_by_cmp nat_cmp q k) (Some v) (option_or (in_row n os q) (get m q))
     at_key n os m k v free q =
-        elim (eq_by_cmp nat_cmp q k) as (λ b. eq_by_cmp nat_cmp q k ≡ b → option_or (in_row n os q) (cond b (Some v) (get m q)) ≡ cond b (Some v) (option_or (in_row n os q) (get m q))) [
+        elim (eq_by_cmp nat_cmp q k) as (λ b. eq_by_cmp nat_cmp q k ≡ b
+        → option_or (in_row n os q) (cond b (Some v) (get m q))
+        ≡ cond b (Some v) (option_or (in_row n os q) (get m q))) [
           | true ↦ λ e. ap (λ o. option_or o (Some v)) (ap (λ s. in_row n os s) (same_key k q e) ∙ free)
           | false ↦ λ e. refl
         ] refl
 
 -- a value that was taken away, from both
-pub taken : {X : Type 0} (n : ℕ) (os ps : List (Option X)) (m : Slots X) (k : ℕ) → ((s : ℕ) → in_row n ps s ≡ but_at (in_row n os) k None s) → with_row n ps (remove m k) ≡ remove (with_row n os m) k
+pub taken : {X : Type 0} (n : ℕ) (os ps : List (Option X)) (m : Slots X) (k : ℕ)
+    → ((s : ℕ) → in_row n ps s ≡ but_at (in_row n os) k None s)
+    → with_row n ps (remove m k) ≡ remove (with_row n os m) k
 taken n os ps m k is =
     same_map nat_cmp_total nat_cmp-IsAntisymmetric (with_row n ps (remove m k)) (remove (with_row n os m) k)
     (λ q. get_with_row n ps (remove m k) q ∙ ap₂ (λ o r. option_or o r) (is q) (get-remove nat_cmp_total m k q) ∙
-    elim (eq_by_cmp nat_cmp q k) as (λ b. option_or (cond b None (in_row n os q)) (cond b None (get m q)) ≡ cond b None (option_or (in_row n os q) (get m q))) [ true ↦ refl | false ↦ refl ] ∙
+    elim (eq_by_cmp nat_cmp q k) as (λ b. option_or (cond b None (in_row n os q)) (cond b None (get m q))
+    ≡ cond b None (option_or (in_row n os q) (get m q))) [ true ↦ refl | false ↦ refl ] ∙
     ap (λ o. cond (eq_by_cmp nat_cmp q k) None o) (sym (get_with_row n os m q)) ∙ sym (get-remove nat_cmp_total (with_row n os m) k q))
 
 -- where the row ends before a slot, or begins after it, it has nothing for it
@@ -153,17 +174,25 @@ outside n os k (inr h) =
     in_row_at n os k (k - n) behind refl ∙ ap (λ o. option_and_then (λ o. o) o) (slice_get_past os (k - n) (omega (arith, h)))
 
 -- one more at the end of the row
-pub with_row_push : {X : Type 0} (n : ℕ) (os : List (Option X)) (o : Option X) (m : Slots X) → with_row (n + length os) (o ∷ []) (with_row n os m) ≡ with_row n (os ++ o ∷ []) m
+pub with_row_push : {X : Type 0} (n : ℕ) (os : List (Option X)) (o : Option X) (m : Slots X)
+    → with_row (n + length os) (o ∷ []) (with_row n os m) ≡ with_row n (os ++ o ∷ []) m
 with_row_push n os o m =
     same_map nat_cmp_total nat_cmp-IsAntisymmetric (with_row (n + length os) (o ∷ []) (with_row n os m)) (with_row n (os ++ o ∷ []) m)
     (λ q. get_with_row (n + length os) (o ∷ []) (with_row n os m) q ∙
-    ap₂ (λ r s. option_or r s) (in_row_cons (n + length os) o [] q ∙ ap (λ r. cond (eq_by_cmp nat_cmp q (n + length os)) o r) (none_of_nothing (n + length os + 1) q)) (get_with_row n os m q) ∙
+    ap₂ (λ r s. option_or r s) (in_row_cons (n + length os) o [] q ∙ ap
+    (λ r. cond (eq_by_cmp nat_cmp q (n + length os)) o r) (none_of_nothing (n + length os + 1) q))
+    (get_with_row n os m q) ∙
     last q ∙ ap (λ r. option_or r (get m q)) (sym (in_row_push n os o q)) ∙ sym (get_with_row n (os ++ o ∷ []) m q))
   where
-    last : (q : ℕ) → option_or (cond (eq_by_cmp nat_cmp q (n + length os)) o None) (option_or (in_row n os q) (get m q)) ≡ option_or (cond (eq_by_cmp nat_cmp q (n + length os)) o (in_row n os q)) (get m q)
+    last : (q : ℕ) → option_or (cond (eq_by_cmp nat_cmp q (n + length os)) o None) (option_or (in_row n os q) (get m q))
+        ≡ option_or (cond (eq_by_cmp nat_cmp q (n + length os)) o (in_row n os q)) (get m q)
     last q =
-        elim (eq_by_cmp nat_cmp q (n + length os)) as (λ b. eq_by_cmp nat_cmp q (n + length os) ≡ b → option_or (cond b o None) (option_or (in_row n os q) (get m q)) ≡ option_or (cond b o (in_row n os q)) (get m q)) [
-          | true ↦ λ e. ap (λ r. option_or o (option_or r (get m q))) (ap (λ k. in_row n os k) (same_key (n + length os) q e) ∙ outside n os (n + length os) (inr (omega arith)))
+        elim (eq_by_cmp nat_cmp q (n + length os)) as (λ b. eq_by_cmp nat_cmp q (n + length os) ≡ b
+        → option_or (cond b o None) (option_or (in_row n os q) (get m q))
+        ≡ option_or (cond b o (in_row n os q)) (get m q)) [
+          | true ↦ λ e. ap (λ r. option_or o (option_or r (get m q)))
+              (ap (λ k. in_row n os k) (same_key (n + length os) q e) ∙ outside n os (n + length os)
+              (inr (omega arith)))
           | false ↦ λ e. refl
         ] refl
 

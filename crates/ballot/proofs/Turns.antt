@@ -39,7 +39,9 @@ module _ {X Y : Type 0} (f : ℕ → X → Y) where
   map_more (x ∷ xs) e = ap (λ es. made x ∷ es) (map_more xs e)
 
   -- the next entry is put to those before
-  pub put_next : (all xs : List (ℕ × X)) (e : ℕ × X) (ys : List (ℕ × X)) → T (is_sorted nat_cmp all) → all ≡ xs ++ e ∷ ys → insert (from_entries {R = nat_cmp} (map made xs)) e.0 (f e.0 e.1) ≡ from_entries (map made (xs ++ e ∷ []))
+  pub put_next : (all xs : List (ℕ × X)) (e : ℕ × X) (ys : List (ℕ × X)) → T (is_sorted nat_cmp all)
+      → all ≡ xs ++ e ∷ ys → insert (from_entries {R = nat_cmp} (map made xs)) e.0 (f e.0 e.1)
+      ≡ from_entries (map made (xs ++ e ∷ []))
   put_next all xs e ys sorted is =
       let middle : T (is_sorted nat_cmp (xs ++ e ∷ ys)) = subst (λ es. T (is_sorted nat_cmp es)) is sorted in
       sym (from_entries_push nat_cmp_total nat_cmp-IsAntisymmetric (map made xs) e.0 (f e.0 e.1) (fresh xs e ys middle)) ∙
@@ -61,12 +63,15 @@ shown_more : {A X : Type 0} (shows : A → X) (xs : List A) (x : A) → map show
 shown_more shows [] x = refl
 shown_more shows (y ∷ xs) x = ap (λ es. shows y ∷ es) (shown_more shows xs x)
 
-module _ {A X Y : Type 0} (shows : A → ℕ × X) (f : ℕ → X → Y) (all : List (ℕ × X)) (xs : List A) (s t u : List (ℕ × X)) (r : Option A) (start : s ≡ all) (y : Yields (TakesFirst shows) s xs t) where
+module _ {A X Y : Type 0} (shows : A → ℕ × X) (f : ℕ → X → Y) (all : List (ℕ × X)) (xs : List A) (s t u : List (ℕ × X))
+    (r : Option A) (start : s ≡ all) (y : Yields (TakesFirst shows) s xs t) where
   pub split_at_turn : (x : A) → r ≡ Some x → TakesFirst shows t r u → all ≡ map shows xs ++ shows x ∷ u
   split_at_turn x is step = sym start ∙ rest_so_far shows xs s t y ∙ ap (λ es. map shows xs ++ es) (rest_more shows t u r x is step)
 
   -- a turn of the loop
-  pub turn : T (is_sorted nat_cmp all) → (x : A) → r ≡ Some x → TakesFirst shows t r u → insert (from_entries {R = nat_cmp} (map (made f) (map shows xs))) (shows x).0 (f (shows x).0 (shows x).1) ≡ from_entries (map (made f) (map shows (xs ++ x ∷ [])))
+  pub turn : T (is_sorted nat_cmp all) → (x : A) → r ≡ Some x → TakesFirst shows t r u
+      → insert (from_entries {R = nat_cmp} (map (made f) (map shows xs))) (shows x).0 (f (shows x).0 (shows x).1)
+      ≡ from_entries (map (made f) (map shows (xs ++ x ∷ [])))
   turn sorted x is step =
       put_next f all (map shows xs) (shows x) u sorted (split_at_turn x is step) ∙
       ap (λ es. from_entries (map (made f) es)) (sym (shown_more shows xs x))

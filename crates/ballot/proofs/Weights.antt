@@ -16,14 +16,17 @@ sum-bound (w ∷ ws) h =
     let rest = sum-bound ws both.1 in omega (arith, sum-cons w ws)
 
 -- one more member
-weigh-suc : (ws : List ℕ) (set : List Bool) (i : ℕ) → i < length ws → weigh (take (suc i) ws) set ≡ weigh (take i ws) set + (if slice_index_or set i false then slice_index_or ws i 0 else 0)
+weigh-suc : (ws : List ℕ) (set : List Bool) (i : ℕ) → i < length ws
+    → weigh (take (suc i) ws) set ≡ weigh (take i ws) set +
+    (if slice_index_or set i false then slice_index_or ws i 0 else 0)
 weigh-suc [] set i h = absurd (omega arith)
 weigh-suc (w ∷ ws) [] zero h = refl
 weigh-suc (w ∷ ws) [] (suc i) h = refl
 weigh-suc (w ∷ ws) (b ∷ bs) zero h = omega arith
 weigh-suc (w ∷ ws) (b ∷ bs) (suc i) h = let e = weigh-suc ws bs i (omega arith) in omega arith
 
-pub weigh-more : (ws : List ℕ) (set : List Bool) (i : ℕ) → i < length ws → weigh (take (i + 1) ws) set ≡ weigh (take i ws) set + (if has set (i + 1) then slice_index_or ws i 0 else 0)
+pub weigh-more : (ws : List ℕ) (set : List Bool) (i : ℕ) → i < length ws
+    → weigh (take (i + 1) ws) set ≡ weigh (take i ws) set + (if has set (i + 1) then slice_index_or ws i 0 else 0)
 weigh-more ws set i h =
     let one : i + 1 ≡ suc i = omega arith in
     subst (λ n. weigh (take n ws) set ≡ weigh (take i ws) set + (if has set n then slice_index_or ws i 0 else 0)) (sym one) (weigh-suc ws set i h)

@@ -9,4 +9,5 @@ pub record BallotLaws : Type 0 where
   pub through : (a b c : Numbers) → is_below a b ≡ true → is_below b c ≡ true → is_below a c ≡ true
   pub total : (a b : Numbers) → (is_below a b ≡ true) ⊎ ((a ≡ b) ⊎ (is_below b a ≡ true))
   pub same : (a b : Numbers) → is_same a b ≡ true → a ≡ b
-  pub share : (members : List ℕ) (a b : List Bool) → is_majority members a ≡ true → is_majority members b ≡ true → (m : ℕ) × (has a m ≡ true) × (has b m ≡ true) × (is_member members m ≡ true)
+  pub share : (members : List ℕ) (a b : List Bool) → is_majority members a ≡ true → is_majority members b ≡ true
+      → (m : ℕ) × (has a m ≡ true) × (has b m ≡ true) × (is_member members m ≡ true)

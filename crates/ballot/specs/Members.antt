@@ -1,5 +1,7 @@
 -- Members are the nodes 1, 2, .. with a weight each. A set of members is a row of seven tests, the first for node 1.
-use Rattle.std.specs.Prelude.{◌≡◌, ℕ, zero, suc, ◌+◌, ◌/◌, ◌<◌, ◌≤◌, Bool, true, false, nat_le, ◌==◌, ◌&&◌, if◌then◌else◌, List, [], ◌∷◌, length, slice_get, slice_index_or, slice_set, replicate, sum, Option, None}
+use Rattle.std.specs.Prelude.{◌≡◌, ℕ, zero, suc, ◌+◌, ◌/◌, ◌<◌, ◌≤◌, Bool, true, false, nat_le, ◌==◌, ◌&&◌}
+use Rattle.std.specs.Prelude.{if◌then◌else◌, List, [], ◌∷◌, length, slice_get, slice_index_or, slice_set, replicate}
+use Rattle.std.specs.Prelude.{sum, Option, None}
 use Rattle.std.specs.List.{list_all, range_with_len}
 
 -- node m is a member

@@ -1,5 +1,6 @@
 -- Texts of which a part was dropped.
-use Rattle.std.proofs.Common.{◌≡◌, ◌⊎◌, inl, inr, ℕ, ◌+◌, ◌<◌, ◌≤◌, List, [], ◌∷◌, ◌++◌, length, take, drop, Some, Ok, Err, refl, ap, sym, subst, ◌∙◌, arith, append_assoc, length-append, length-drop}
+use Rattle.std.proofs.Common.{◌≡◌, ◌⊎◌, inl, inr, ℕ, ◌+◌, ◌<◌, ◌≤◌, List, [], ◌∷◌, ◌++◌, length, take, drop, Some, Ok}
+use Rattle.std.proofs.Common.{Err, refl, ap, sym, subst, ◌∙◌, arith, append_assoc, length-append, length-drop}
 use Rattle.std.proofs.Math.Seq.{take-append-add}
 use Rattle.std.proofs.lemmas.Bool.{lt-ltb}
 use Rattle.std.proofs.lemmas.List.{take_all, take-append-drop, append-nil, length-take-le}
@@ -29,8 +30,17 @@ rest_item dropped bytes k fits cut =
     ap (λ t. dropped ++ t) (cut_text bytes k cut) ∙ sym (append_assoc dropped (take k bytes) (crlf ++ [])) in
     let long : longest_line < length (line_text line) =
     let h = fits.long in omega (arith, h, length-append dropped crlf, length-append line crlf, length-append dropped (take k bytes)) in
-    let says = meaning-long line long in
-    (cut.2, record { line = line; rest = []; is_line = IsLine-join_take dropped bytes k fits.is_line cut.0; cut = text; completes = subst (λ m. Completes m [] (Err BadFormat)) (sym says) (refl, refl) })
+    let says = meaning-long line long in (
+      cut.2,
+      record {
+        line = line;
+        rest = [];
+        is_line = IsLine-join_take dropped bytes k fits.is_line cut.0;
+        cut =
+            text;
+        completes = subst (λ m. Completes m [] (Err BadFormat)) (sym says) (refl, refl);
+      },
+    )
 
 -- a carriage return that ends two texts ends the second
 ends_tail : (xs ys front : List ℕ) → 1 ≤ length ys → xs ++ ys ≡ front ++ 13 ∷ [] → EndsWithCr ys
@@ -50,7 +60,8 @@ before_within bytes n (inl (all, other)) = omega (arith, all)
 before_within bytes n (inr (all, cr)) = omega (arith, all)
 
 -- a part of it
-pub rest_drop : (dropped bytes : List ℕ) (n : ℕ) → FitsRest dropped bytes → IsLine bytes → 1 ≤ n → n ≤ length bytes → IsBeforeCr bytes n → FitsRest (dropped ++ take n bytes) (drop n bytes)
+pub rest_drop : (dropped bytes : List ℕ) (n : ℕ) → FitsRest dropped bytes → IsLine bytes → 1 ≤ n → n ≤ length bytes
+    → IsBeforeCr bytes n → FitsRest (dropped ++ take n bytes) (drop n bytes)
 rest_drop dropped bytes n fits none some within before =
     let whole = IsLine-join dropped bytes fits.is_line none in
     let cut : dropped ++ bytes ≡ (dropped ++ take n bytes) ++ drop n bytes =
@@ -59,7 +70,14 @@ rest_drop dropped bytes n fits none some within before =
     cut ∙ ap (λ t. (dropped ++ take n bytes) ++ t) (sym (take-append-drop 1 (drop n bytes)))
     ∙ sym (append_assoc (dropped ++ take n bytes) (take 1 (drop n bytes)) (drop 1 (drop n bytes))) in
     record {
-      long = let h = fits.long in omega (arith, h, length-append dropped crlf, length-append (dropped ++ take n bytes) crlf, length-append dropped (take n bytes));
+      long = let h = fits.long in omega (
+        arith,
+        h,
+        length-append dropped crlf,
+        length-append (dropped ++ take n bytes) crlf,
+        length-append dropped
+            (take n bytes),
+      );
       is_line = IsLine-front ((dropped ++ take n bytes) ++ take 1 (drop n bytes)) (drop 1 (drop n bytes)) (subst IsLine further whole);
       last = no_cr dropped bytes n some before;
     }
@@ -73,10 +91,21 @@ pub big_item : (n : ℕ) (dropped bytes : List ℕ) → FitsBig n dropped → n 
 big_item n dropped bytes fits within =
     let rest = fits.rest ++ take n bytes in
     let text : dropped ++ take n bytes ≡ fits.line ++ (crlf ++ rest) =
-    ap (λ t. t ++ take n bytes) fits.cut ∙ append_assoc fits.line (crlf ++ fits.rest) (take n bytes) ∙ ap (λ t. fits.line ++ t) (append_assoc crlf fits.rest (take n bytes)) in
-    let len : length rest ≡ fits.size + 2 = let left = fits.left in omega (arith, left, length-append fits.rest (take n bytes), length-take-le n bytes within) in
-    let item = sym (put_item-large fits.pri fits.delay fits.ttr fits.size rest fits.large) in
-    (within, record { line = fits.line; rest = rest; is_line = fits.is_line; cut = text; completes = subst (λ m. Completes m rest (Err JobTooBig)) (sym fits.says) (len, item) })
+    ap (λ t. t ++ take n bytes) fits.cut ∙ append_assoc fits.line (crlf ++ fits.rest) (take n bytes) ∙ ap
+    (λ t. fits.line ++ t) (append_assoc crlf fits.rest (take n bytes)) in
+    let len : length rest ≡ fits.size + 2 = let left =
+    fits.left in omega (arith, left, length-append fits.rest (take n bytes), length-take-le n bytes within) in
+    let item = sym (put_item-large fits.pri fits.delay fits.ttr fits.size rest fits.large) in (
+      within,
+      record {
+        line = fits.line;
+        rest = rest;
+        is_line = fits.is_line;
+        cut = text;
+        completes =
+            subst (λ m. Completes m rest (Err JobTooBig)) (sym fits.says) (len, item);
+      },
+    )
 
 empty : (bytes : List ℕ) → length bytes ≤ 0 → bytes ≡ []
 empty [] none = refl
@@ -89,18 +118,32 @@ big_more n dropped bytes fits none =
     subst BeginsWithNone (sym same) (too_short dropped fits.line fits.rest fits.pri fits.delay fits.ttr fits.size fits.is_line fits.cut fits.says few)
 
 -- where the dropped text and the bytes spell an item, it is told, or bytes are dropped
-same_end : (dropped bytes : List ℕ) (found : Item × ℕ) (other : Item × ℕ) → EndsItem dropped bytes found → EndsItem dropped bytes other → Some found ≡ Some other
+same_end : (dropped bytes : List ℕ) (found : Item × ℕ) (other : Item × ℕ) → EndsItem dropped bytes found
+    → EndsItem dropped bytes other → Some found ≡ Some other
 same_end dropped bytes (item, used) (other, n) h k =
     let parts = λ (m : ℕ). append_assoc dropped (take m bytes) (drop m bytes) ∙ ap (λ t. dropped ++ t) (take-append-drop m bytes) in
-    let same = one_item (dropped ++ take used bytes) (dropped ++ take n bytes) (drop used bytes) (drop n bytes) item other h.1 k.1 (parts used ∙ sym (parts n)) in
-    let count : used ≡ n = omega (arith, ap length same.0, length-append dropped (take used bytes), length-append dropped (take n bytes), length-take-le used bytes h.0, length-take-le n bytes k.0) in
+    let same = one_item (dropped ++ take used bytes) (dropped ++ take n bytes) (drop used bytes)
+    (drop n bytes) item other h.1 k.1 (parts used ∙ sym (parts n)) in
+    let count : used ≡ n = omega (
+      arith,
+      ap length same.0,
+      length-append dropped
+          (take used bytes),
+      length-append dropped
+          (take n bytes),
+      length-take-le used bytes h.0,
+      length-take-le n bytes k.0,
+    ) in
     cc
 
-begins_from_ends : (dropped bytes : List ℕ) (item : Item) (used : ℕ) → EndsItem dropped bytes (item, used) → BeginsWith (dropped ++ bytes) (item, length dropped + used)
+begins_from_ends : (dropped bytes : List ℕ) (item : Item) (used : ℕ) → EndsItem dropped bytes (item, used)
+    → BeginsWith (dropped ++ bytes) (item, length dropped + used)
 begins_from_ends dropped bytes item used h =
     (omega (arith, h.0, length-append dropped bytes), subst (λ t. Spells t item) (sym (take-append-add dropped bytes used)) h.1)
 
-pub only_told : (want : Want) (bytes : List ℕ) (r : Read) → TellsItem want bytes r → TellsMore want bytes r → (dropped : List ℕ) (found : Item × ℕ) → Fits want dropped bytes → EndsItem dropped bytes found → IsDrop r ⊎ (item_read r ≡ Some found)
+pub only_told : (want : Want) (bytes : List ℕ) (r : Read) → TellsItem want bytes r → TellsMore want bytes r
+    → (dropped : List ℕ) (found : Item × ℕ) → Fits want dropped bytes → EndsItem dropped bytes found → IsDrop r
+    ⊎ (item_read r ≡ Some found)
 only_told want bytes read.More item more dropped found fits h =
     absurd (more dropped fits (found.0, length dropped + found.1) (begins_from_ends dropped bytes found.0 found.1 h))
 only_told want bytes (read.Drop used next) item more dropped found fits h = inl tt

@@ -1,5 +1,7 @@
 -- What is due of some bytes: more, a part to drop, or an item, and of these one alone.
-use Rattle.std.proofs.Common.{◌≡◌, ◌⊎◌, ◌↔◌, inl, inr, ℕ, ◌+◌, ◌-◌, ◌<◌, ◌≤◌, List, [], ◌∷◌, ◌++◌, length, take, drop, Some, Result, Ok, Err, IfOk, IfSome, refl, ap, sym, subst, ◌∙◌, arith, length-append, length-take, append_assoc}
+use Rattle.std.proofs.Common.{◌≡◌, ◌⊎◌, ◌↔◌, inl, inr, ℕ, ◌+◌, ◌-◌, ◌<◌, ◌≤◌, List, [], ◌∷◌, ◌++◌, length, take, drop}
+use Rattle.std.proofs.Common.{Some, Result, Ok, Err, IfOk, IfSome, refl, ap, sym, subst, ◌∙◌, arith, length-append}
+use Rattle.std.proofs.Common.{length-take, append_assoc}
 use Rattle.std.proofs.lemmas.Bool.{cases_lt}
 use Rattle.std.proofs.lemmas.List.{take_all, take-append-drop, length-take-le}
 use Rattle.std.proofs.Math.Seq.{take-append-add}
@@ -41,7 +43,8 @@ ends_in_time bytes line rest short first none =
     let more = longest_line - (length line + 2) in
     let whole : longest_line ≡ length line + (2 + more) = omega arith in
     let cut : take longest_line bytes ≡ line ++ (crlf ++ take more rest) =
-    ap (take longest_line) first.1 ∙ ap (λ n. take n (line ++ (crlf ++ rest))) whole ∙ take-append-add line (crlf ++ rest) (2 + more) ∙ ap (λ t. line ++ t) (take-append-add crlf rest more) in
+    ap (take longest_line) first.1 ∙ ap (λ n. take n (line ++ (crlf ++ rest))) whole ∙ take-append-add line
+    (crlf ++ rest) (2 + more) ∙ ap (λ t. line ++ t) (take-append-add crlf rest more) in
     no_cut_line (take longest_line bytes) line (take more rest) none cut
 
 -- a body isn't awaited and dropped
@@ -84,13 +87,19 @@ apart Rest bytes used next a d = nothing_before bytes used a d.1 d.2
 apart (Big n) bytes used next a d = omega (arith, ap length a.0, d.0, d.1)
 
 -- and what is dropped is one part
-one_drop : (want : Want) (bytes : List ℕ) (used n : ℕ) (next other : Want) → IsDropped want bytes used next → IsDropped want bytes n other → (used ≡ n) × (next ≡ other)
+one_drop : (want : Want) (bytes : List ℕ) (used n : ℕ) (next other : Want) → IsDropped want bytes used next
+    → IsDropped want bytes n other → (used ≡ n) × (next ≡ other)
 one_drop Line bytes used n next other (inl d) (inl e) = (omega (arith, d.2, e.2), d.3 ∙ sym e.3)
-one_drop Line bytes used n next other (inl d) (inr (line, rest, first, big, all)) = absurd (ends_in_time bytes line rest (drops_short line other (meaning line) refl big) first d.0)
-one_drop Line bytes used n next other (inr (line, rest, first, big, all)) (inl e) = absurd (ends_in_time bytes line rest (drops_short line next (meaning line) refl big) first e.0)
+one_drop Line bytes used n next other (inl d) (inr (line, rest, first, big, all)) =
+    absurd (ends_in_time bytes line rest (drops_short line other (meaning line) refl big) first d.0)
+one_drop Line bytes used n next other (inr (line, rest, first, big, all)) (inl e) =
+    absurd (ends_in_time bytes line rest (drops_short line next (meaning line) refl big) first e.0)
 one_drop Line bytes used n next other (inr (line, rest, first, big, all)) (inr (second, more, follows, large, whole)) =
-    let same = same_line bytes line rest second more first follows in
-    (all ∙ (ap (λ l. length (line_text l)) same.0 ∙ sym whole), one_big (meaning line) next other big (subst (λ l. DropsBig (meaning l) other) (sym same.0) large))
+    let same = same_line bytes line rest second more first follows in (
+      all ∙ (ap (λ l. length (line_text l)) same.0 ∙ sym whole),
+      one_big (meaning line) next other big
+          (subst (λ l. DropsBig (meaning l) other) (sym same.0) large),
+    )
 one_drop Rest bytes used n next other d e = (one_before bytes used n d.1 e.1, d.3 ∙ sym e.3)
 one_drop (Big left) bytes used n next other d e =
     let same : used ≡ n = d.0 ∙ sym e.0 in
@@ -103,10 +112,12 @@ awaits_from want bytes (read.Drop used next) due = ((λ e. absurd (cc)), (λ a. 
 awaits_from want bytes (read.Request request used) due = ((λ e. absurd (cc)), (λ a. absurd (due.0 a)))
 awaits_from want bytes (read.Bad fault used) due = ((λ e. absurd (cc)), (λ a. absurd (due.0 a)))
 
-pub dropped_from : (want : Want) (bytes : List ℕ) (r : Read) → IsDue want bytes r → (used : ℕ) (next : Want) → (r ≡ read.Drop used next) ↔ IsDropped want bytes used next
+pub dropped_from : (want : Want) (bytes : List ℕ) (r : Read) → IsDue want bytes r → (used : ℕ) (next : Want)
+    → (r ≡ read.Drop used next) ↔ IsDropped want bytes used next
 dropped_from want bytes read.More due used next = ((λ e. absurd (cc)), (λ d. absurd (apart want bytes used next due d)))
 dropped_from want bytes (read.Drop n other) due used next = (
-  (λ e. let count : n ≡ used = cc in let want_then : other ≡ next = cc in subst (λ k. IsDropped want bytes k next) count (subst (IsDropped want bytes n) want_then due)),
+  (λ e. let count : n ≡ used = cc in let want_then : other ≡ next =
+      cc in subst (λ k. IsDropped want bytes k next) count (subst (IsDropped want bytes n) want_then due)),
   (λ d. let same = one_drop want bytes n used other next due d in cc),
 )
 dropped_from want bytes (read.Request request n) due used next = ((λ e. absurd (cc)), (λ d. absurd (due.1 used next d)))
@@ -140,17 +151,22 @@ module _ (bytes : List ℕ) (k : ℕ) (cut : IsCutAt bytes k) (early : k + 2 ≤
       let same = same_line bytes line rest (take k bytes) (drop (k + 2) bytes) first first_is in
       none next (subst (λ l. DropsBig (meaning l) next) same.0 big)
 
-  due_read : (r : Read) → IsRestDue (meaning (take k bytes)) (drop (k + 2) bytes) r → IfDrop r (λ used want. (used ≡ k + 2) × DropsBig (meaning (take k bytes)) want) → IsDue Line bytes r
+  due_read : (r : Read) → IsRestDue (meaning (take k bytes)) (drop (k + 2) bytes) r
+      → IfDrop r (λ used want. (used ≡ k + 2) × DropsBig (meaning (take k bytes)) want) → IsDue Line bytes r
   due_read read.More due drops = inr (take k bytes, drop (k + 2) bytes, first_is, due)
   due_read (read.Drop used next) due drops =
-      let all : used ≡ length (line_text (take k bytes)) = omega (arith, drops.0, length-append (take k bytes) crlf, length-take-le k bytes (omega (arith, cut.2))) in
+      let all : used ≡ length (line_text (take k bytes)) =
+      omega (arith, drops.0, length-append (take k bytes) crlf, length-take-le k bytes (omega (arith, cut.2))) in
       inr (take k bytes, drop (k + 2) bytes, first_is, due, all)
   due_read (read.Request request used) due drops = (not_awaited due.0, not_dropped due.1)
   due_read (read.Bad fault used) due drops = (not_awaited due.0, not_dropped due.1)
 
-  pub due_after : {E : Type 0} (m : Result Meaning Fault) (rest : List ℕ) (r : Result Read E) → m ≡ meaning (take k bytes) → rest ≡ drop (k + 2) bytes → IfOk r (IsRestDue m rest) → IfOk r (λ read. IfDrop read (λ used want. (used ≡ k + 2) × DropsBig m want)) → IfOk r (IsDue Line bytes)
+  pub due_after : {E : Type 0} (m : Result Meaning Fault) (rest : List ℕ) (r : Result Read E)
+      → m ≡ meaning (take k bytes) → rest ≡ drop (k + 2) bytes → IfOk r (IsRestDue m rest)
+      → IfOk r (λ read. IfDrop read (λ used want. (used ≡ k + 2) × DropsBig m want)) → IfOk r (IsDue Line bytes)
   due_after m rest (Ok r) says rest_is due drops =
-      due_read r (subst (λ m. IsRestDue m (drop (k + 2) bytes) r) says (subst (λ t. IsRestDue m t r) rest_is due)) (subst (λ m. IfDrop r (λ used want. (used ≡ k + 2) × DropsBig m want)) says drops)
+      due_read r (subst (λ m. IsRestDue m (drop (k + 2) bytes) r) says (subst (λ t. IsRestDue m t r) rest_is due))
+      (subst (λ m. IfDrop r (λ used want. (used ≡ k + 2) × DropsBig m want)) says drops)
   due_after m rest (Err e) says rest_is due drops = tt
 
 -- of the rest of a line that is too long

@@ -1,5 +1,6 @@
 -- What is told of the bytes of a reader that waits for a line.
-use Rattle.std.proofs.Common.{◌≡◌, ℕ, ◌+◌, ◌≤◌, List, [], ◌++◌, length, take, drop, Result, Ok, Err, IfOk, ap, sym, subst, ◌∙◌, arith, length-append, length-drop}
+use Rattle.std.proofs.Common.{◌≡◌, ℕ, ◌+◌, ◌≤◌, List, [], ◌++◌, length, take, drop, Result, Ok, Err, IfOk, ap, sym}
+use Rattle.std.proofs.Common.{subst, ◌∙◌, arith, length-append, length-drop}
 use Rattle.std.proofs.Math.Seq.{take-add}
 use Rattle.std.proofs.lemmas.List.{take_all, length-take-le}
 use Rattle.std.specs.Option.{IfSome}
@@ -36,7 +37,8 @@ line_rest bytes n n_is many h dropped none =
     (omega arith, omega arith, subst (λ d. FitsRest (d ++ start) (drop 223 bytes)) (sym none) fits)
 
 -- what is told of bytes whose first line ends at place k
-module _ (bytes : List ℕ) (k : ℕ) (cut : IsCutAt bytes k) (m : Result Meaning Fault) (same : m ≡ meaning (take k bytes)) (rest : List ℕ) (rest_is : rest ≡ drop (k + 2) bytes) where
+module _ (bytes : List ℕ) (k : ℕ) (cut : IsCutAt bytes k) (m : Result Meaning Fault) (same : m ≡ meaning (take k bytes))
+    (rest : List ℕ) (rest_is : rest ≡ drop (k + 2) bytes) where
   pub forth : (found : Item × ℕ) → CompletesFront m (k + 2) rest found → BeginsWith bytes found
   forth found h = begins_from_completes bytes k cut found (rw (← same, ← rest_is) h)
 
@@ -55,7 +57,9 @@ module _ (bytes : List ℕ) (k : ℕ) (cut : IsCutAt bytes k) (m : Result Meanin
   none_left (Ok read) h = λ dropped none. subst (λ d. IfMore read (BeginsWithNone (d ++ bytes))) (sym none) h
   none_left (Err e) h = tt
 
-  pub told_more : {E : Type 0} (r : Result Read E) → IfOk r (λ read. IfMore read ((found : Item × ℕ) → ¬ CompletesFront m (k + 2) rest found)) → IfOk r (TellsMore Line bytes)
+  pub told_more : {E : Type 0} (r : Result Read E)
+      → IfOk r (λ read. IfMore read ((found : Item × ℕ) → ¬ CompletesFront m (k + 2) rest found))
+      → IfOk r (TellsMore Line bytes)
   told_more r h = none_left r (more_from _ (BeginsWith bytes) r back h)
 
   fits_big : (m : Result Meaning Fault) (want : Want) → m ≡ meaning (take k bytes) → DropsBig m want → Fits want (take (k + 2) bytes) (drop (k + 2) bytes)
@@ -87,6 +91,7 @@ module _ (bytes : List ℕ) (k : ℕ) (cut : IsCutAt bytes k) (m : Result Meanin
   dropped_line (read.Request request used) h dropped none = tt
   dropped_line (read.Bad fault used) h dropped none = tt
 
-  pub told_drop : {E : Type 0} (r : Result Read E) → IfOk r (λ read. IfDrop read (λ used want. (used ≡ k + 2) × DropsBig m want)) → IfOk r (TellsDrop Line bytes)
+  pub told_drop : {E : Type 0} (r : Result Read E)
+      → IfOk r (λ read. IfDrop read (λ used want. (used ≡ k + 2) × DropsBig m want)) → IfOk r (TellsDrop Line bytes)
   told_drop (Ok read) h = dropped_line read h
   told_drop (Err e) h = tt

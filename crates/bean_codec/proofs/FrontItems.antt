@@ -1,5 +1,6 @@
 -- Whether some beginning of a text spells an item.
-use Rattle.std.proofs.Common.{◌≡◌, ◌⊎◌, inl, inr, ℕ, ◌+◌, ◌≤◌, List, [], ◌∷◌, ◌++◌, Ok, Err, Result, length, take, drop, refl, sym, ap, subst, ◌∙◌, append_assoc, length-append, length-take, arith}
+use Rattle.std.proofs.Common.{◌≡◌, ◌⊎◌, inl, inr, ℕ, ◌+◌, ◌≤◌, List, [], ◌∷◌, ◌++◌, Ok, Err, Result, length, take, drop}
+use Rattle.std.proofs.Common.{refl, sym, ap, subst, ◌∙◌, append_assoc, length-append, length-take, arith}
 use Rattle.std.proofs.lemmas.Bool.{cases_eq, cases_lt}
 use Rattle.std.proofs.lemmas.List.{take-append-drop}
 use Rattle.std.proofs.Math.Seq.{take-append-add}
@@ -22,7 +23,8 @@ line_cons : (b c : ℕ) (more line rest : List ℕ) → ((b ≡ 13) × (c ≡ 10
 line_cons b c more [] rest apart h e = tt
 line_cons b c more (d ∷ line) rest apart h e = ((λ ends. apart (cc, let same : c ≡ d = cc in let last : d ≡ 10 = cc in same ∙ last)), h)
 
-no_line : (b c : ℕ) (more line rest : List ℕ) → ((b ≡ 13) × (c ≡ 10) → ⊥) → ((line rest : List ℕ) → IsCut (c ∷ more) line rest → ⊥) → IsCut (b ∷ c ∷ more) line rest → ⊥
+no_line : (b c : ℕ) (more line rest : List ℕ) → ((b ≡ 13) × (c ≡ 10) → ⊥)
+    → ((line rest : List ℕ) → IsCut (c ∷ more) line rest → ⊥) → IsCut (b ∷ c ∷ more) line rest → ⊥
 no_line b c more [] rest apart none e = apart (cc, cc)
 no_line b c more (d ∷ line) rest apart none e = none line rest cc
 
@@ -53,20 +55,23 @@ HasFront text = ((found : Item × ℕ) × BeginsWith text found) ⊎ BeginsWithN
 -- a cut of a beginning is a cut of the text
 longer : (text line rest : List ℕ) (n : ℕ) → IsCut (take n text) line rest → IsCut text line (rest ++ drop n text)
 longer text line rest n e =
-    sym (take-append-drop n text) ∙ ap (λ bytes. bytes ++ drop n text) e ∙ append_assoc line (crlf ++ rest) (drop n text) ∙ ap (λ bytes. line ++ bytes) (append_assoc crlf rest (drop n text))
+    sym (take-append-drop n text) ∙ ap (λ bytes. bytes ++ drop n text) e ∙ append_assoc line (crlf ++ rest)
+    (drop n text) ∙ ap (λ bytes. line ++ bytes) (append_assoc crlf rest (drop n text))
 
 -- a beginning that ends in the rest
 shorter : (text line rest : List ℕ) (n : ℕ) → IsCut text line rest → IsCut (take (length line + (2 + n)) text) line (take n rest)
 shorter text line rest n e =
     ap (take (length line + (2 + n))) e ∙ take-append-add line (crlf ++ rest) (2 + n) ∙ ap (λ bytes. line ++ bytes) (take-append-add crlf rest n)
 
-completed : (text line rest : List ℕ) (n : ℕ) (item : Item) → IsLine line → IsCut text line rest → n ≤ length rest → Completes (meaning line) (take n rest) item → HasFront text
+completed : (text line rest : List ℕ) (n : ℕ) (item : Item) → IsLine line → IsCut text line rest → n ≤ length rest
+    → Completes (meaning line) (take n rest) item → HasFront text
 completed text line rest n item l e within c =
     let long = ap (λ bytes. length bytes) e in
     let fits : length line + (2 + n) ≤ length text = omega (arith, length-append line (crlf ++ rest), length-append crlf rest) in
     inl ((item, length line + (2 + n)), (fits, record { line = line; rest = take n rest; is_line = l; cut = shorter text line rest n e; completes = c }))
 
-pub too_short : (text line rest : List ℕ) (pri delay ttr size : ℕ) → IsLine line → IsCut text line rest → meaning line ≡ Ok (WithBody pri delay ttr size) → length rest + 1 ≤ size + 2 → BeginsWithNone text
+pub too_short : (text line rest : List ℕ) (pri delay ttr size : ℕ) → IsLine line → IsCut text line rest
+    → meaning line ≡ Ok (WithBody pri delay ttr size) → length rest + 1 ≤ size + 2 → BeginsWithNone text
 too_short text line rest pri delay ttr size l e says few found begins =
     let item = found.0 in
     let n = found.1 in
@@ -77,8 +82,12 @@ too_short text line rest pri delay ttr size l e says few found begins =
     omega (arith, c.0, length-append s.rest (drop n text))
 
 after_line : (text line rest : List ℕ) → IsLine line → IsCut text line rest → (m : Result Meaning Fault) → meaning line ≡ m → HasFront text
-after_line text line rest l e (Ok (Whole request)) says = completed text line rest 0 (Ok request) l e (omega arith) (subst (λ m. Completes m [] (Ok request)) (sym says) (refl, refl))
-after_line text line rest l e (Err fault) says = completed text line rest 0 (Err fault) l e (omega arith) (subst (λ m. Completes m [] (Err fault)) (sym says) (refl, refl))
+after_line text line rest l e (Ok (Whole request)) says =
+    completed text line rest 0 (Ok request) l e (omega arith)
+    (subst (λ m. Completes m [] (Ok request)) (sym says) (refl, refl))
+after_line text line rest l e (Err fault) says =
+    completed text line rest 0 (Err fault) l e (omega arith)
+    (subst (λ m. Completes m [] (Err fault)) (sym says) (refl, refl))
 after_line text line rest l e (Ok (WithBody pri delay ttr size)) says =
     elim (cases_lt (length rest) (size + 2)) as (λ v. HasFront text) [
       | inl few ↦ inr (too_short text line rest pri delay ttr size l e says (omega arith))

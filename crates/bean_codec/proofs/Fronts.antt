@@ -55,7 +55,15 @@ module _ (bytes : List ℕ) (k : ℕ) (cut : IsCutAt bytes k) where
       let front : take (length s.rest) rest ≡ s.rest =
       ap (λ t. take (length s.rest) t) (sym same.1) ∙ take-append_seam s.rest (drop n bytes) in
       let end_is : n ≡ k + 2 + length s.rest =
-      omega (arith, sym (length-take-le n bytes inside) ∙ ap length s.cut, length-append s.line (crlf ++ s.rest), length-append crlf s.rest, ap length same.0, line_len) in
+      omega (
+        arith,
+        sym (length-take-le n bytes inside) ∙ ap length s.cut,
+        length-append s.line
+            (crlf ++ s.rest),
+        length-append crlf s.rest,
+        ap length same.0,
+        line_len,
+      ) in
       let room : length s.rest ≤ length rest = omega (arith, ap length same.1, length-append s.rest (drop n bytes)) in
       (length s.rest, end_is, room, rw (← same.0, front) s.completes)
 
@@ -63,8 +71,11 @@ module _ (bytes : List ℕ) (k : ℕ) (cut : IsCutAt bytes k) where
 pub put_completes : (m : Result Meaning Fault) (pri delay ttr size start : ℕ) (rest : List ℕ) → m ≡ Ok (WithBody pri delay ttr size) →
     TakesMemory (put_item pri delay ttr size (take (size + 2) rest)) → size + 2 ≤ length rest →
     (put : Item × ℕ) × TakesMemory put.0 × CompletesFront m start rest put
-put_completes m pri delay ttr size start rest same put inside =
-    ((put_item pri delay ttr size (take (size + 2) rest), start + (size + 2)), put, (size + 2, refl, inside, rw same (length-take-le (size + 2) rest inside, refl)))
+put_completes m pri delay ttr size start rest same put inside = (
+  (put_item pri delay ttr size (take (size + 2) rest), start + (size + 2)),
+  put,
+  (size + 2, refl, inside, rw same (length-take-le (size + 2) rest inside, refl)),
+)
 
 -- a line with a name is a request with a name
 pub name_completes : (m : Result Meaning Fault) (start : ℕ) (rest : List ℕ) → LineHasName m →

@@ -27,6 +27,7 @@ name_of-rule word (Some name) h = ap Some h.1 ∙ sym (name_of-name word h.0)
 name_of-rule word None h = sym (name_of-none word h)
 
 -- what was made of the word is then the name that it is
-pub name_of-made : {E : Type 0} (word : List ℕ) (r : Result (Option (List ℕ)) E) → IfOk r (λ name. SomeIff name (IsName word) word) → IfOk r (λ name. name ≡ name_of word)
+pub name_of-made : {E : Type 0} (word : List ℕ) (r : Result (Option (List ℕ)) E)
+    → IfOk r (λ name. SomeIff name (IsName word) word) → IfOk r (λ name. name ≡ name_of word)
 name_of-made word (Ok name) h = name_of-rule word name h
 name_of-made word (Err e) h = tt

@@ -1,5 +1,6 @@
 -- The first word of a line, and the words after it.
-use Rattle.std.proofs.Common.{◌≡◌, ℕ, zero, suc, ◌<◌, ◌≤◌, Bool, true, false, not, ◌||◌, Option, Some, None, unwrap_or, List, [], ◌∷◌, length, take, drop, get_or, refl, ap, sym, ◌∙◌, arith, add-zero}
+use Rattle.std.proofs.Common.{◌≡◌, ℕ, zero, suc, ◌<◌, ◌≤◌, Bool, true, false, not, ◌||◌, Option, Some, None, unwrap_or}
+use Rattle.std.proofs.Common.{List, [], ◌∷◌, length, take, drop, get_or, refl, ap, sym, ◌∙◌, arith, add-zero}
 use Rattle.std.proofs.lemmas.Bool.{false≢true}
 use Rattle.std.proofs.lemmas.List.{take_all, drop_all, length-drop, get_or-drop}
 use Rattle.std.proofs.lemmas.List.Splits.{slice_split-cons_yes, slice_split-cons_no}
@@ -39,7 +40,8 @@ pieces_whole (b ∷ xs) h =
     slice_split-cons_no is_space b xs (h 0 (omega arith)) ∙ rw (pieces_whole xs (λ j l. h (suc j) (omega arith))) refl
 
 -- or up to the next space
-pieces_first : (k : ℕ) (xs : List ℕ) → k < length xs → ((j : ℕ) → j < k → is_space (get_or xs j 0) ≡ false) → is_space (get_or xs k 0) ≡ true → pieces xs ≡ take k xs ∷ pieces (drop (suc k) xs)
+pieces_first : (k : ℕ) (xs : List ℕ) → k < length xs → ((j : ℕ) → j < k → is_space (get_or xs j 0) ≡ false)
+    → is_space (get_or xs k 0) ≡ true → pieces xs ≡ take k xs ∷ pieces (drop (suc k) xs)
 pieces_first k [] n h s = absurd (omega arith)
 pieces_first zero (b ∷ xs) n h s = slice_split-cons_yes is_space b xs s
 pieces_first (suc k) (b ∷ xs) n h s =
@@ -52,7 +54,9 @@ words-drop zero (b ∷ xs) n s = words-space b xs s
 words-drop (suc k) (b ∷ xs) n s = words-drop k xs (omega arith) s
 
 -- the first word of a line that begins with no space
-first_word : (xs : List ℕ) (r : Option ℕ) → 0 < length xs → is_space (get_or xs 0 0) ≡ false → IsFirstByte (is_byte 32) xs r → words xs ≡ take (unwrap_or r (length xs)) xs ∷ words (drop (unwrap_or r (length xs)) xs)
+first_word : (xs : List ℕ) (r : Option ℕ) → 0 < length xs → is_space (get_or xs 0 0) ≡ false
+    → IsFirstByte (is_byte 32) xs r
+    → words xs ≡ take (unwrap_or r (length xs)) xs ∷ words (drop (unwrap_or r (length xs)) xs)
 first_word [] r n first found = absurd (omega arith)
 first_word (b ∷ xs) None n first found =
     let no_space = λ (j : ℕ) (l : j < suc (length xs)). not_true (is_space (get_or (b ∷ xs) j 0)) (found j (omega arith) l) in
@@ -71,7 +75,10 @@ no_word xs found =
     words-spaces (length xs) xs (omega arith) (λ j l. space_in (get_or xs j 0) (found j (omega arith) l))
     ∙ ap words (drop_all (length xs) xs (omega arith))
 
-pub next_word : (xs : List ℕ) (start : ℕ) (from_word : List ℕ) (r : Option ℕ) → IsFirstByte (not_in (32 ∷ [])) xs (Some start) → from_word ≡ drop start xs → IsFirstByte (is_byte 32) from_word r → words xs ≡ take (unwrap_or r (length from_word)) from_word ∷ words (drop (unwrap_or r (length from_word)) from_word)
+pub next_word : (xs : List ℕ) (start : ℕ) (from_word : List ℕ) (r : Option ℕ)
+    → IsFirstByte (not_in (32 ∷ [])) xs (Some start) → from_word ≡ drop start xs → IsFirstByte (is_byte 32) from_word r
+    → words xs ≡ take (unwrap_or r (length from_word)) from_word ∷ words
+    (drop (unwrap_or r (length from_word)) from_word)
 next_word xs start from_word r found same next =
     let inside : start < length xs = found.0.high in
     let n : 0 < length from_word = rw same (omega (arith, length-drop start xs)) in

@@ -3,7 +3,11 @@
 use Rattle.std.specs.Prelude.{ℕ, List, [], ◌∷◌, Option, Some, None}
 use Rattle.bean_queue.specs.declared.op.Op.TheVariants as op
 use Rattle.bean_codec.specs.declared.command.CommandName.{CommandName}
-use Rattle.bean_codec.specs.declared.command.CommandName.TheVariants.{Put, Use, Watch, Ignore, Reserve, ReserveWithTimeout, Delete, Touch, Release, Bury, Kick, KickJob, Peek, PeekReady, PeekDelayed, PeekBuried, ListTubes, ListTubeUsed, ListTubesWatched, PauseTube, Quit}
+use Rattle.bean_codec.specs.declared.command.CommandName.TheVariants.{Put, Use, Watch, Ignore, Reserve}
+use Rattle.bean_codec.specs.declared.command.CommandName.TheVariants.{ReserveWithTimeout, Delete, Touch, Release, Bury}
+use Rattle.bean_codec.specs.declared.command.CommandName.TheVariants.{Kick, KickJob, Peek, PeekReady, PeekDelayed}
+use Rattle.bean_codec.specs.declared.command.CommandName.TheVariants.{PeekBuried, ListTubes, ListTubeUsed}
+use Rattle.bean_codec.specs.declared.command.CommandName.TheVariants.{ListTubesWatched, PauseTube, Quit}
 use Rattle.bean_codec.specs.declared.request.Request.{Request}
 use Rattle.bean_codec.specs.declared.request.Request.TheVariants.{Do}
 use Rattle.bean_codec.specs.declared.request.Request.TheVariants as request

@@ -3,7 +3,11 @@ use Rattle.std.specs.Prelude.{ℕ, List, codes, Option, Some, None, if◌then◌
 use Rattle.std.specs.Option.{option_or}
 use Rattle.std.specs.Str.{bytes_eq}
 use Rattle.bean_codec.specs.declared.command.CommandName.{CommandName}
-use Rattle.bean_codec.specs.declared.command.CommandName.TheVariants.{Put, Use, Watch, Ignore, Reserve, ReserveWithTimeout, Delete, Touch, Release, Bury, Kick, KickJob, Peek, PeekReady, PeekDelayed, PeekBuried, ListTubes, ListTubeUsed, ListTubesWatched, PauseTube, Quit}
+use Rattle.bean_codec.specs.declared.command.CommandName.TheVariants.{Put, Use, Watch, Ignore, Reserve}
+use Rattle.bean_codec.specs.declared.command.CommandName.TheVariants.{ReserveWithTimeout, Delete, Touch, Release, Bury}
+use Rattle.bean_codec.specs.declared.command.CommandName.TheVariants.{Kick, KickJob, Peek, PeekReady, PeekDelayed}
+use Rattle.bean_codec.specs.declared.command.CommandName.TheVariants.{PeekBuried, ListTubes, ListTubeUsed}
+use Rattle.bean_codec.specs.declared.command.CommandName.TheVariants.{ListTubesWatched, PauseTube, Quit}
 
 -- those that make, take or change jobs
 unfoldable pub job_command : List ℕ → Option CommandName

@@ -1,5 +1,6 @@
 -- Who is picked, and what many turns keep.
-use Rattle.std.proofs.Common.{◌≡◌, ℕ, zero, suc, ◌+◌, Bool, true, false, cond, ◌&&◌, inl, inr, List, [], ◌∷◌, filter_map, Option, Some, None, IfSome, refl, sym, ap, subst, ◌∙◌, true≢false}
+use Rattle.std.proofs.Common.{◌≡◌, ℕ, zero, suc, ◌+◌, Bool, true, false, cond, ◌&&◌, inl, inr, List, [], ◌∷◌}
+use Rattle.std.proofs.Common.{filter_map, Option, Some, None, IfSome, refl, sym, ap, subst, ◌∙◌, true≢false}
 use Rattle.std.proofs.lemmas.Bool.{and_parts}
 use Rattle.std.specs.List.{AllByRecursion}
 use Rattle.object.specs.Lists.{In}
@@ -12,7 +13,8 @@ use Rattle.session_store.specs.declared.session.SessionState.{SessionState}
 use Rattle.session_store.specs.Sessions.{first_waiting, is_waiting, wait_rank, has_timed_out}
 use Rattle.bean_queue.specs.declared.reply.Reply.{Reply}
 use Rattle.bean_queue.specs.Queue.{QueueState, holds_by, paused_tubes}
-use Rattle.bean_queue.specs.Turns.{QueueTurn, turns, after_option, wanted, next_job, given, give, give_to, serve_turn, told_turn, tell, deadline_turn, timeout_turn}
+use Rattle.bean_queue.specs.Turns.{QueueTurn, turns, after_option, wanted, next_job, given, give, give_to, serve_turn}
+use Rattle.bean_queue.specs.Turns.{told_turn, tell, deadline_turn, timeout_turn}
 
 module _ {X : Type 0} where
   -- what is least is there, and passes
@@ -72,13 +74,15 @@ pub IfSome-map : {X : Type 0} (P Q : X → Type 0) (o : Option X) → ((x : X) �
 IfSome-map P Q None f h = tt
 IfSome-map P Q (Some x) f h = f x h
 
-pub best_ready-in : (tubes : List (List ℕ)) (jobs : List (ℕ × Job)) → IfSome (best_ready tubes jobs) (λ j. In j jobs × (is_ready j.1.state ≡ true) × (is_among j.1.tube tubes ≡ true))
+pub best_ready-in : (tubes : List (List ℕ)) (jobs : List (ℕ × Job))
+    → IfSome (best_ready tubes jobs) (λ j. In j jobs × (is_ready j.1.state ≡ true) × (is_among j.1.tube tubes ≡ true))
 best_ready-in tubes jobs =
     IfSome-map _ _ (best_ready tubes jobs)
     (λ j h. let b = and_parts (is_ready j.1.state) (is_among j.1.tube tubes) h.1 in (h.0, b.0, b.1))
     (least-in (ready_in tubes) pri_of_job jobs)
 
-pub wanted-in : (paused : List (List ℕ)) (jobs : List (ℕ × Job)) (e : ℕ × SessionState) → IfSome (wanted paused jobs e) (λ j. In j jobs × (is_ready j.1.state ≡ true))
+pub wanted-in : (paused : List (List ℕ)) (jobs : List (ℕ × Job)) (e : ℕ × SessionState)
+    → IfSome (wanted paused jobs e) (λ j. In j jobs × (is_ready j.1.state ≡ true))
 wanted-in paused jobs e =
     elim (is_waiting e.1) as (λ b. IfSome (cond b (best_ready (not_paused paused e.1.watched) jobs) None) (λ j. In j jobs × (is_ready j.1.state ≡ true))) [
       | true ↦ IfSome-map _ _ (best_ready (not_paused paused e.1.watched) jobs) (λ j h. (h.0, h.1)) (best_ready-in (not_paused paused e.1.watched) jobs)
@@ -88,10 +92,12 @@ wanted-in paused jobs e =
 pub next_job-in : (s : QueueState) → IfSome (next_job s) (λ j. In j s.jobs × (is_ready j.1.state ≡ true))
 next_job-in s =
     IfSome-map _ _ (next_job s)
-    (λ j h. filter_map-in (wanted (paused_tubes s) s.jobs) (λ j. In j s.jobs × (is_ready j.1.state ≡ true)) (wanted-in (paused_tubes s) s.jobs) s.sessions j h.0)
+    (λ j h. filter_map-in (wanted (paused_tubes s) s.jobs) (λ j. In j s.jobs × (is_ready j.1.state ≡ true))
+    (wanted-in (paused_tubes s) s.jobs) s.sessions j h.0)
     (least-in (λ e. true) pri_of_job (filter_map (wanted (paused_tubes s) s.jobs) s.sessions))
 
-pub first_waiting-in : (test : ℕ × SessionState → Bool) (sessions : List (ℕ × SessionState)) → IfSome (first_waiting test sessions) (λ w. In w sessions × (is_waiting w.1 ≡ true) × (test w ≡ true))
+pub first_waiting-in : (test : ℕ × SessionState → Bool) (sessions : List (ℕ × SessionState))
+    → IfSome (first_waiting test sessions) (λ w. In w sessions × (is_waiting w.1 ≡ true) × (test w ≡ true))
 first_waiting-in test sessions =
     IfSome-map _ _ (first_waiting test sessions)
     (λ w h. let b = and_parts (is_waiting w.1) (test w) h.1 in (h.0, b.0, b.1))
@@ -114,7 +120,9 @@ serve_turn-is s =
     elim (next_job s) as (λ o. IfSome o (λ j. In j s.jobs × (is_ready j.1.state ≡ true)) → IfSome (give s o) (IsServed s)) [
       | None ↦ λ h. tt
       | Some j ↦ λ h.
-          elim (first_waiting (λ e. is_among j.1.tube e.1.watched) s.sessions) as (λ o. IfSome o (λ w. In w s.sessions × (is_waiting w.1 ≡ true) × (is_among j.1.tube w.1.watched ≡ true)) → IfSome (give_to s j o) (IsServed s)) [
+          elim (first_waiting (λ e. is_among j.1.tube e.1.watched) s.sessions) as (λ o. IfSome o
+          (λ w. In w s.sessions × (is_waiting w.1 ≡ true) × (is_among j.1.tube w.1.watched ≡ true))
+          → IfSome (give_to s j o) (IsServed s)) [
             | None ↦ λ k. tt
             | Some w ↦ λ k. record { job = j; session = w; there = h.0; ready = h.1; known = k.0; waits = k.1; watches = k.2; made = refl }
           ] (first_waiting-in (λ e. is_among j.1.tube e.1.watched) s.sessions)
@@ -129,7 +137,8 @@ pub record IsTold (reply : Reply) (s : QueueState) (t : QueueTurn) : Type 0 wher
 
 pub tell-is : (s : QueueState) (reply : Reply) (test : ℕ × SessionState → Bool) → IfSome (tell s reply (first_waiting test s.sessions)) (IsTold reply s)
 tell-is s reply test =
-    elim (first_waiting test s.sessions) as (λ o. IfSome o (λ w. In w s.sessions × (is_waiting w.1 ≡ true) × (test w ≡ true)) → IfSome (tell s reply o) (IsTold reply s)) [
+    elim (first_waiting test s.sessions) as (λ o. IfSome o
+    (λ w. In w s.sessions × (is_waiting w.1 ≡ true) × (test w ≡ true)) → IfSome (tell s reply o) (IsTold reply s)) [
       | None ↦ λ k. tt
       | Some w ↦ λ k. record { session = w; known = k.0; waits = k.1; made = refl }
     ] (first_waiting-in test s.sessions)
@@ -143,11 +152,14 @@ unfolding timeout_turn
 timeout_turn-is s = tell-is s Reply.TimedOut (λ e. has_timed_out s.now e.1.wait)
 
 -- what every turn keeps, and what holds of every answer of a turn
-pub turns-keep : (turn : QueueState → Option QueueTurn) (P : QueueState → Type 0) (Q : Answer Reply → Type 0) → ((s : QueueState) → P s → IfSome (turn s) (λ t. P t.state × Q t.answer)) → (n : ℕ) (s : QueueState) → P s → P (turns turn n s).state × AllByRecursion Q (turns turn n s).answers
+pub turns-keep : (turn : QueueState → Option QueueTurn) (P : QueueState → Type 0) (Q : Answer Reply → Type 0)
+    → ((s : QueueState) → P s → IfSome (turn s) (λ t. P t.state × Q t.answer)) → (n : ℕ) (s : QueueState) → P s
+    → P (turns turn n s).state × AllByRecursion Q (turns turn n s).answers
 unfolding turns
 turns-keep turn P Q step zero s p = (p, tt)
 turns-keep turn P Q step (suc n) s p =
-    elim (turn s) as (λ o. IfSome o (λ t. P t.state × Q t.answer) → P (after_option (turns turn n) s o).state × AllByRecursion Q (after_option (turns turn n) s o).answers) [
+    elim (turn s) as (λ o. IfSome o (λ t. P t.state × Q t.answer) → P (after_option (turns turn n) s o).state
+    × AllByRecursion Q (after_option (turns turn n) s o).answers) [
       | None ↦ λ h. (p, tt)
       | Some t ↦ λ h. let rest = turns-keep turn P Q step n t.state h.0 in (rest.0, (h.1, rest.1))
     ] (step s p)

@@ -1,5 +1,6 @@
 -- The laws of every effect: who waits, and whom the answers name.
-use Rattle.std.proofs.Common.{◌≡◌, ℕ, zero, suc, ◌+◌, Bool, true, false, cond, ◌⊎◌, inl, inr, List, [], ◌∷◌, ◌++◌, length, Option, Some, None, IfSome, nat_lt, refl, sym, ap, subst, ◌∙◌, append_assoc}
+use Rattle.std.proofs.Common.{◌≡◌, ℕ, zero, suc, ◌+◌, Bool, true, false, cond, ◌⊎◌, inl, inr, List, [], ◌∷◌, ◌++◌}
+use Rattle.std.proofs.Common.{length, Option, Some, None, IfSome, nat_lt, refl, sym, ap, subst, ◌∙◌, append_assoc}
 use Rattle.object.specs.Lists.{In}
 use Rattle.object.specs.Answers.{AnswersOnce}
 use Rattle.object.specs.declared.command.Act.{Act}
@@ -17,9 +18,13 @@ use Rattle.session_store.specs.WaitLaws.{altered-waits, ended-waits, forgotten-w
 use Rattle.bean_queue.specs.declared.op.Op.{Op}
 use Rattle.bean_queue.specs.declared.reply.Reply.{Reply}
 use Rattle.bean_queue.specs.Queue.{QueueState, fresh, holds_by, watched_by}
-use Rattle.bean_queue.specs.Turns.{QueueOutcome, QueueTurn, stop, turns, all_turns, after_option, given, told_turn, serve_turn, deadline_turn, timeout_turn, serve}
-use Rattle.bean_queue.specs.Rows.{is_idle, Row, row, put_row, use_row, watch_row, ignore_row, reserve_row, delete_row, may_delete, is_job_that, release_row, touch_row, bury_row, kick_row, kick_job_row, peek_row, all_tubes, pause_row}
-use Rattle.bean_queue.specs.Effects.{own, called, ends_wait, is_zero, turned_away, then_do, has_no_number, carried_out, do_effect, released, close_effect, at_second, tick_effect, act_effect, effect}
+use Rattle.bean_queue.specs.Turns.{QueueOutcome, QueueTurn, stop, turns, all_turns, after_option, given, told_turn}
+use Rattle.bean_queue.specs.Turns.{serve_turn, deadline_turn, timeout_turn, serve}
+use Rattle.bean_queue.specs.Rows.{is_idle, Row, row, put_row, use_row, watch_row, ignore_row, reserve_row, delete_row}
+use Rattle.bean_queue.specs.Rows.{may_delete, is_job_that, release_row, touch_row, bury_row, kick_row, kick_job_row}
+use Rattle.bean_queue.specs.Rows.{peek_row, all_tubes, pause_row}
+use Rattle.bean_queue.specs.Effects.{own, called, ends_wait, is_zero, turned_away, then_do, has_no_number, carried_out}
+use Rattle.bean_queue.specs.Effects.{do_effect, released, close_effect, at_second, tick_effect, act_effect, effect}
 use Rattle.bean_queue.specs.Waits.{Waits, AreApart, IsLawful}
 use Rattle.bean_queue.specs.TurnLaws.{IsServed, IsTold, serve_turn-is, deadline_turn-is, timeout_turn-is, IfSome-map}
 
@@ -29,7 +34,8 @@ module _ {X : Type 0} where
   in-append (x ∷ xs) ys a (inl same) = inl (inl same)
   in-append (x ∷ xs) ys a (inr later) = elim (in-append xs ys a later) [ inl i ↦ inl (inr i) | inr i ↦ inr i ]
 
-pub apart-append : (xs ys : List (Answer Reply)) → AreApart xs → AreApart ys → ((a b : Answer Reply) → In a xs → In b ys → b.to.session ≡ a.to.session → ⊥) → AreApart (xs ++ ys)
+pub apart-append : (xs ys : List (Answer Reply)) → AreApart xs → AreApart ys
+    → ((a b : Answer Reply) → In a xs → In b ys → b.to.session ≡ a.to.session → ⊥) → AreApart (xs ++ ys)
 apart-append [] ys p q h = q
 apart-append (x ∷ xs) ys p q h = (
   λ b i e. elim (in-append xs ys b i) as (λ v. ⊥) [ inl j ↦ p.0 b j e | inr j ↦ h x b (inl refl) j e ],
@@ -47,7 +53,8 @@ pub record IsDealt (s : QueueState) (o : QueueOutcome) : Type 0 where
 dealt-none : (s : QueueState) → IsDealt s (stop s)
 dealt-none s = record { fewer = λ k h. h; named = λ a i. absurd i; over = λ a k i. absurd i; once = tt }
 
-dealt-then : (s t u : QueueState) (xs ys : List (Answer Reply)) → IsDealt s (record { state = t; answers = xs }) → IsDealt t (record { state = u; answers = ys }) → IsDealt s (record { state = u; answers = xs ++ ys })
+dealt-then : (s t u : QueueState) (xs ys : List (Answer Reply)) → IsDealt s (record { state = t; answers = xs })
+    → IsDealt t (record { state = u; answers = ys }) → IsDealt s (record { state = u; answers = xs ++ ys })
 dealt-then s t u xs ys p q =
     record {
       fewer = λ k h. p.fewer k (q.fewer k h);
@@ -65,31 +72,52 @@ pub record IsWaiterTurn (s : QueueState) (t : QueueTurn) : Type 0 where
 
 pub given-waiter : (s : QueueState) (t : QueueTurn) → IsServed s t → IsWaiterTurn s t
 unfolding given
-given-waiter s t i = record { session = i.session; known = i.known; waits = i.waits; sessions = ap (λ (t : QueueTurn). t.state.sessions) i.made; to = ap (λ (t : QueueTurn). t.answer.to) i.made }
+given-waiter s t i = record {
+  session = i.session;
+  known = i.known;
+  waits = i.waits;
+  sessions =
+      ap (λ (t : QueueTurn). t.state.sessions) i.made;
+  to = ap (λ (t : QueueTurn). t.answer.to) i.made;
+}
 
 pub told-waiter : (reply : Reply) (s : QueueState) (t : QueueTurn) → IsTold reply s t → IsWaiterTurn s t
 unfolding told_turn
-told-waiter reply s t i = record { session = i.session; known = i.known; waits = i.waits; sessions = ap (λ (t : QueueTurn). t.state.sessions) i.made; to = ap (λ (t : QueueTurn). t.answer.to) i.made }
+told-waiter reply s t i = record {
+  session = i.session;
+  known = i.known;
+  waits = i.waits;
+  sessions =
+      ap (λ (t : QueueTurn). t.state.sessions) i.made;
+  to = ap (λ (t : QueueTurn). t.answer.to) i.made;
+}
 
 dealt-turn : (s : QueueState) (t : QueueTurn) → IsWaiterTurn s t → IsDealt s (record { state = t.state; answers = t.answer ∷ [] })
 dealt-turn s t i =
     let w = some_wait i.session.1.wait i.waits in
     let waited : Waits s t.answer.to = (i.session, w.0, i.known, ap (λ (k : Key). k.session) (sym i.to), w.1, w.2 ∙ ap (λ (k : Key). k.number) (sym i.to)) in
-    let after : (k : Key) → Waits t.state k → WaitsIn s.sessions k × (k.session ≡ i.session.0 → ⊥) = λ k h. ended-waits i.session.0 s.sessions k (subst (λ ss. WaitsIn ss k) i.sessions h) in
+    let after : (k : Key) → Waits t.state k → WaitsIn s.sessions k × (k.session ≡ i.session.0 → ⊥) =
+    λ k h. ended-waits i.session.0 s.sessions k (subst (λ ss. WaitsIn ss k) i.sessions h) in
     record {
       fewer = λ k h. (after k h).0;
       named = λ a j. elim j as (λ j. Waits s a.to) [ inl same ↦ subst (λ (a : Answer Reply). Waits s a.to) (sym same) waited | inr never ↦ absurd never ];
-      over = λ a k j h e. elim j as (λ j. ⊥) [ inl same ↦ (after k h).1 (e ∙ ap (λ (a : Answer Reply). a.to.session) same ∙ ap (λ (k : Key). k.session) i.to) | inr never ↦ never ];
+      over = λ a k j h e. elim j as (λ j. ⊥) [
+        | inl same ↦ (after k h).1
+            (e ∙ ap (λ (a : Answer Reply). a.to.session) same ∙ ap (λ (k : Key). k.session) i.to)
+        | inr never ↦ never
+      ];
       once = (λ b j e. j, tt);
     }
 
-turns-dealt : (turn : QueueState → Option QueueTurn) → ((s : QueueState) → IfSome (turn s) (IsWaiterTurn s)) → (n : ℕ) (s : QueueState) → IsDealt s (turns turn n s)
+turns-dealt : (turn : QueueState → Option QueueTurn) → ((s : QueueState) → IfSome (turn s) (IsWaiterTurn s))
+    → (n : ℕ) (s : QueueState) → IsDealt s (turns turn n s)
 unfolding turns
 turns-dealt turn good zero s = dealt-none s
 turns-dealt turn good (suc n) s =
     elim (turn s) as (λ o. IfSome o (IsWaiterTurn s) → IsDealt s (after_option (turns turn n) s o)) [
       | None ↦ λ i. dealt-none s
-      | Some t ↦ λ i. dealt-then s t.state (turns turn n t.state).state (t.answer ∷ []) (turns turn n t.state).answers (dealt-turn s t i) (turns-dealt turn good n t.state)
+      | Some t ↦ λ i. dealt-then s t.state (turns turn n t.state).state (t.answer ∷ []) (turns turn n t.state).answers
+          (dealt-turn s t i) (turns-dealt turn good n t.state)
     ] (good s)
 
 pub serve-dealt : (s : QueueState) → IsDealt s (serve s)
@@ -98,7 +126,9 @@ serve-dealt s = turns-dealt serve_turn (λ s. IfSome-map _ _ (serve_turn s) (giv
 
 pub deadlines-dealt : (s : QueueState) → IsDealt s (all_turns deadline_turn s)
 unfolding all_turns
-deadlines-dealt s = turns-dealt deadline_turn (λ s. IfSome-map _ _ (deadline_turn s) (told-waiter Reply.DeadlineSoon s) (deadline_turn-is s)) (length s.sessions) s
+deadlines-dealt s = turns-dealt deadline_turn
+    (λ s. IfSome-map _ _ (deadline_turn s) (told-waiter Reply.DeadlineSoon s) (deadline_turn-is s))
+    (length s.sessions) s
 
 pub timeouts-dealt : (s : QueueState) → IsDealt s (all_turns timeout_turn s)
 unfolding all_turns
@@ -123,7 +153,8 @@ row-waits (Op.Put pri delay ttr body) key s = same key s _ refl
 row-waits (Op.Use tube) key s = RowWaits.still (λ k h. altered-waits key.session _ s.sessions k (λ c. refl) h)
 row-waits (Op.Watch tube) key s = RowWaits.still (λ k h. altered-waits key.session _ s.sessions k (λ c. refl) h)
 row-waits (Op.Ignore tube) key s =
-    still_if key s (is_alone tube (watched_by s key.session)) _ _ (same key s _ refl) (RowWaits.still (λ k h. altered-waits key.session _ s.sessions k (λ c. refl) h))
+    still_if key s (is_alone tube (watched_by s key.session)) _ _ (same key s _ refl)
+    (RowWaits.still (λ k h. altered-waits key.session _ s.sessions k (λ c. refl) h))
 row-waits (Op.Reserve seconds) key s =
     RowWaits.anew refl (λ k h. waiting-waits key.session _ _ s.sessions k key refl refl (λ c. refl) h)
 row-waits (Op.Delete j) key s = still_if key s (is_job_that (may_delete key.session) (value_at j s.jobs)) _ _ (same key s _ refl) (same key s _ refl)
@@ -147,7 +178,11 @@ ends_wait-dealt s key reply h =
     record {
       fewer = λ k w. (ended-waits key.session s.sessions k w).0;
       named = λ a j. elim j as (λ j. Waits s a.to) [ inl e ↦ subst (λ (a : Answer Reply). Waits s a.to) (sym e) h | inr never ↦ absurd never ];
-      over = λ a k j w e. elim j as (λ j. ⊥) [ inl f ↦ (ended-waits key.session s.sessions k w).1 (e ∙ ap (λ (a : Answer Reply). a.to.session) f) | inr never ↦ never ];
+      over = λ a k j w e. elim j as (λ j. ⊥) [
+        | inl f ↦ (ended-waits key.session s.sessions k w).1
+            (e ∙ ap (λ (a : Answer Reply). a.to.session) f)
+        | inr never ↦ never
+      ];
       once = (λ b j e. j, tt);
     }
 
@@ -168,11 +203,15 @@ turned_away-dealt (Op.Reserve seconds) key s only =
     (dealt-none s)
 turned_away-dealt _ key s only = dealt-none s
 
-lawful_along : (key : Key) (s t : QueueState) (xs ys : List (Answer Reply)) → xs ≡ ys → IsLawful key s (record { state = t; answers = xs }) → IsLawful key s (record { state = t; answers = ys })
+lawful_along : (key : Key) (s t : QueueState) (xs ys : List (Answer Reply)) → xs ≡ ys
+    → IsLawful key s (record { state = t; answers = xs }) → IsLawful key s (record { state = t; answers = ys })
 lawful_along key s t xs ys e h = subst (λ zs. IsLawful key s (record { state = t; answers = zs })) e h
 
 -- answers that nobody else could have, and then what is dealt
-with_own : (key : Key) (s t u : QueueState) (reply : Reply) (ys : List (Answer Reply)) → ((k : Key) → Waits t k → Waits s k × (k.session ≡ key.session → ⊥)) → IsDealt t (record { state = u; answers = ys }) → IsLawful key s (record { state = u; answers = own key (Some reply) ++ ys })
+with_own : (key : Key) (s t u : QueueState) (reply : Reply) (ys : List (Answer Reply))
+    → ((k : Key) → Waits t k → Waits s k × (k.session ≡ key.session → ⊥))
+    → IsDealt t (record { state = u; answers = ys })
+    → IsLawful key s (record { state = u; answers = own key (Some reply) ++ ys })
 with_own key s t u reply ys h d =
     record {
       waits = λ k w. inl (h k (d.fewer k w)).0;
@@ -181,7 +220,9 @@ with_own key s t u reply ys h d =
       once = (λ b j e. (h b.to (d.named b j)).1 e, d.once);
     }
 
-without_own : (key : Key) (s t u : QueueState) (ys : List (Answer Reply)) → ((k : Key) → Waits t k → Waits s k ⊎ (k ≡ key)) → IsDealt t (record { state = u; answers = ys }) → IsLawful key s (record { state = u; answers = ys })
+without_own : (key : Key) (s t u : QueueState) (ys : List (Answer Reply))
+    → ((k : Key) → Waits t k → Waits s k ⊎ (k ≡ key)) → IsDealt t (record { state = u; answers = ys })
+    → IsLawful key s (record { state = u; answers = ys })
 without_own key s t u ys h d =
     record {
       waits = λ k w. h k (d.fewer k w);
@@ -201,20 +242,47 @@ carried_out-lawful op key s =
     (own key r.reply ++ ((serve r.state).answers ++ (turned_away op key (serve r.state).state).answers))
     ((own key r.reply ++ (serve r.state).answers) ++ (turned_away op key (serve r.state).state).answers)
     (sym (append_assoc (own key r.reply) (serve r.state).answers (turned_away op key (serve r.state).state).answers))
-    (elim (row-waits op key (called key.session s)) as (λ v. IsLawful key s (record { state = (turned_away op key (serve r.state).state).state; answers = own key r.reply ++ ((serve r.state).answers ++ (turned_away op key (serve r.state).state).answers) })) [
+    (elim (row-waits op key (called key.session s)) as (λ v. IsLawful key s
+    (record {
+      state = (turned_away op key (serve r.state).state).state;
+      answers =
+          own key r.reply ++ ((serve r.state).answers ++ (turned_away op key (serve r.state).state).answers);
+    })) [
       | RowWaits.still h ↦
-          let d : IsDealt r.state (record { state = (turned_away op key (serve r.state).state).state; answers = (serve r.state).answers ++ (turned_away op key (serve r.state).state).answers }) =
-          dealt-then r.state (serve r.state).state (turned_away op key (serve r.state).state).state (serve r.state).answers (turned_away op key (serve r.state).state).answers served
+          let d : IsDealt r.state (record {
+            state = (turned_away op key (serve r.state).state).state;
+            answers =
+                (serve r.state).answers ++ (turned_away op key (serve r.state).state).answers;
+          }) =
+          dealt-then r.state (serve r.state).state (turned_away op key (serve r.state).state).state
+          (serve r.state).answers (turned_away op key (serve r.state).state).answers served
           (turned_away-dealt op key (serve r.state).state (λ k w e. absurd ((start k (h k (served.fewer k w))).1 e))) in
-          elim r.reply as (λ o. IsLawful key s (record { state = (turned_away op key (serve r.state).state).state; answers = own key o ++ ((serve r.state).answers ++ (turned_away op key (serve r.state).state).answers) })) [
+          elim r.reply as (λ o. IsLawful key s
+          (record {
+            state = (turned_away op key (serve r.state).state).state;
+            answers =
+                own key o ++ ((serve r.state).answers ++ (turned_away op key (serve r.state).state).answers);
+          })) [
             | None ↦ without_own key s r.state _ _ (λ k w. inl (start k (h k w)).0) d
             | Some reply ↦ with_own key s r.state _ reply _ (λ k w. start k (h k w)) d
           ]
       | RowWaits.anew none h ↦
-          let d : IsDealt r.state (record { state = (turned_away op key (serve r.state).state).state; answers = (serve r.state).answers ++ (turned_away op key (serve r.state).state).answers }) =
-          dealt-then r.state (serve r.state).state (turned_away op key (serve r.state).state).state (serve r.state).answers (turned_away op key (serve r.state).state).answers served
-          (turned_away-dealt op key (serve r.state).state (λ k w e. elim (h k (served.fewer k w)) as (λ v. k ≡ key) [ inl was ↦ absurd ((start k was).1 e) | inr it ↦ it ])) in
-          subst (λ o. IsLawful key s (record { state = (turned_away op key (serve r.state).state).state; answers = own key o ++ ((serve r.state).answers ++ (turned_away op key (serve r.state).state).answers) })) (sym none)
+          let d : IsDealt r.state (record {
+            state = (turned_away op key (serve r.state).state).state;
+            answers =
+                (serve r.state).answers ++ (turned_away op key (serve r.state).state).answers;
+          }) =
+          dealt-then r.state (serve r.state).state (turned_away op key (serve r.state).state).state
+          (serve r.state).answers (turned_away op key (serve r.state).state).answers served
+          (turned_away-dealt op key (serve r.state).state
+          (λ k w e. elim (h k (served.fewer k w)) as (λ v. k
+          ≡ key) [ inl was ↦ absurd ((start k was).1 e) | inr it ↦ it ])) in
+          subst (λ o. IsLawful key s (record {
+            state = (turned_away op key (serve r.state).state).state;
+            answers =
+                own key o ++ ((serve r.state).answers ++ (turned_away op key (serve r.state).state).answers);
+          }))
+          (sym none)
           (without_own key s r.state _ _ (λ k w. elim (h k w) [ inl was ↦ inl (start k was).0 | inr it ↦ inr it ]) d)
     ])
 
@@ -222,7 +290,9 @@ do-lawful : (op : Op) (key : Key) (s : QueueState) → IsLawful key s (do_effect
 unfolding do_effect
 do-lawful op key s =
     elim (has_no_number op s) as (λ b. IsLawful key s (cond b (ends_wait s key Reply.InternalError) (carried_out op key s))) [
-      | true ↦ with_own key s (ends_wait s key Reply.InternalError).state (ends_wait s key Reply.InternalError).state Reply.InternalError [] (ended-waits key.session s.sessions) (dealt-none (ends_wait s key Reply.InternalError).state)
+      | true ↦ with_own key s (ends_wait s key Reply.InternalError).state
+          (ends_wait s key Reply.InternalError).state Reply.InternalError [] (ended-waits key.session s.sessions)
+          (dealt-none (ends_wait s key Reply.InternalError).state)
       | false ↦ carried_out-lawful op key s
     ]
 
@@ -243,7 +313,9 @@ close-lawful key s =
 tick-lawful : (key : Key) (s : QueueState) → IsLawful key s (tick_effect key.number s)
 unfolding tick_effect
 tick-lawful key s =
-    elim (nat_lt s.now key.number) as (λ b. IsLawful key s (cond b (then_do (then_do (serve (at_second key.number s)) (all_turns deadline_turn)) (all_turns timeout_turn)) (stop s))) [
+    elim (nat_lt s.now key.number) as (λ b. IsLawful key s
+    (cond b (then_do (then_do (serve (at_second key.number s)) (all_turns deadline_turn)) (all_turns timeout_turn))
+    (stop s))) [
       | true ↦
           let a = serve (at_second key.number s) in
           let b = all_turns deadline_turn (serve (at_second key.number s)).state in

@@ -29,7 +29,9 @@ operations-append (Ok Quit ∷ is) js = operations-append is js
 operations-append (Err f ∷ is) js = operations-append is js
 
 -- a beginning of what is told for the first items
-pub begins : (input output left : List ℕ) (items tail : List Item) (end : End) (answers : List Response) → Reads input (items ++ tail) end → AreQueueAnswers (operations items) answers → output ++ left ≡ told_text items answers → BeginsTold input output
+pub begins : (input output left : List ℕ) (items tail : List Item) (end : End) (answers : List Response)
+    → Reads input (items ++ tail) end → AreQueueAnswers (operations items) answers
+    → output ++ left ≡ told_text items answers → BeginsTold input output
 begins input output left items tail end answers reads answered told_so =
     let l = told_begins items tail answers [] in (
       items ++ tail,
@@ -42,13 +44,24 @@ begins input output left items tail end answers reads answered told_so =
     )
 
 -- items that are read first, and then the others
-goes_on : (input : List ℕ) (firsts others : List Item) (rest : List ℕ) (end : End) → ReadsFirst input firsts rest → Reads rest others end → Reads input (firsts ++ others) end
+goes_on : (input : List ℕ) (firsts others : List Item) (rest : List ℕ) (end : End) → ReadsFirst input firsts rest
+    → Reads rest others end → Reads input (firsts ++ others) end
 goes_on input [] others rest end first r = subst (λ text. Reads text others end) (sym first) r
-goes_on input (i ∷ firsts) others rest end first r =
-    (first.0, first.1, first.2, first.3, subst (λ (b : Bool). MatchBool b ((firsts ++ others ≡ []) × (end ≡ End.Quit)) (Reads first.1 (firsts ++ others) end)) (sym first.4) (goes_on first.1 firsts others rest end first.5 r))
+goes_on input (i ∷ firsts) others rest end first r = (
+  first.0,
+  first.1,
+  first.2,
+  first.3,
+  subst
+      (λ (b : Bool). MatchBool b ((firsts ++ others ≡ []) × (end ≡ End.Quit)) (Reads first.1 (firsts ++ others) end))
+      (sym first.4) (goes_on first.1 firsts others rest end first.5 r),
+)
 
 -- the same, where more was read than these items
-pub begins_first : ((text : List ℕ) → HasFront text) → (input output left : List ℕ) (items more : List Item) (rest : List ℕ) (answers : List Response) → ReadsFirst input (items ++ more) rest → AreQueueAnswers (operations items) answers → output ++ left ≡ told_text items answers → BeginsTold input output
+pub begins_first : ((text : List ℕ) → HasFront text)
+    → (input output left : List ℕ) (items more : List Item) (rest : List ℕ) (answers : List Response)
+    → ReadsFirst input (items ++ more) rest → AreQueueAnswers (operations items) answers
+    → output ++ left ≡ told_text items answers → BeginsTold input output
 begins_first front input output left items more rest answers first answered told_so =
     let r = reads_as_items front rest in
     begins input output left items (more ++ r.0) r.1 answers

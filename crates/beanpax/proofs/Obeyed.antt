@@ -13,13 +13,16 @@ use Rattle.bean_queue.specs.Effects.{queue_rules}
 use Rattle.beanpax.specs.Sessions.{queue, AreAnswers, is_refused}
 use Rattle.beanpax.specs.Simulations.{Obeys, Leaves}
 
-unless_same : (s : Said QueueState Reply) (o : Option Reply) (f g : Talk QueueState → Said QueueState Reply) → ((t : Talk QueueState) → f t ≡ g t) → unless_said f s o ≡ unless_said g s o
+unless_same : (s : Said QueueState Reply) (o : Option Reply) (f g : Talk QueueState → Said QueueState Reply)
+    → ((t : Talk QueueState) → f t ≡ g t) → unless_said f s o ≡ unless_said g s o
 unless_same s None f g same = same s.talk
 unless_same s (Some r) f g same = refl
 
 waited_same : (same : Op → Op → Bool) (key : Key) (n : ℕ) (s : Said QueueState Reply) → waited (queue_rules same) key n s ≡ waited queue key n s
 waited_same same key zero s = refl
-waited_same same key (suc n) s = unless_same s s.reply (λ t. waited (queue_rules same) key n (passed (queue_rules same) key t)) (λ t. waited queue key n (passed queue key t)) (λ t. waited_same same key n (passed queue key t))
+waited_same same key (suc n) s =
+    unless_same s s.reply (λ t. waited (queue_rules same) key n (passed (queue_rules same) key t))
+    (λ t. waited queue key n (passed queue key t)) (λ t. waited_same same key n (passed queue key t))
 
 -- which operations are one makes no difference to an answer
 pub answered_same : (same : Op → Op → Bool) (t : Talk QueueState) (op : Op) → answered (queue_rules same) t op ≡ answered queue t op
@@ -45,7 +48,9 @@ abbrev pub ClosesOf : {S : Type 0} → (S → Talk QueueState → Type 0) → (S
 ClosesOf stand stopped old result new = Leaves (stand old) (stand new) (stopped old new) result
 
 -- what was answered is what the queue answers
-pub are_answers : {S : Type 0} (stand : S → Talk QueueState → Type 0) (stopped : S → S → Op → Type 0) (old new : S) (ops : List Op) (answers : List Response) (t : Talk QueueState) → Asked (AsksOf stand stopped) old ops answers new → stand old t → AreAnswers t ops answers
+pub are_answers : {S : Type 0} (stand : S → Talk QueueState → Type 0) (stopped : S → S → Op → Type 0) (old new : S)
+    (ops : List Op) (answers : List Response) (t : Talk QueueState) → Asked (AsksOf stand stopped) old ops answers new
+    → stand old t → AreAnswers t ops answers
 are_answers stand stopped old new [] [] t asked stands = tt
 are_answers stand stopped old new [] (a ∷ answers) t asked stands = absurd asked
 are_answers stand stopped old new (op ∷ ops) [] t asked stands = absurd asked
@@ -56,7 +61,8 @@ are_answers stand stopped old new (op ∷ ops) (Replied reply ∷ answers) t ask
     (one.0, are_answers stand stopped asked.0 new ops answers (answered queue t op).talk asked.2 one.1)
 
 -- and there is one answer to each operation, but that it may be refused
-pub one_answers : (t : Talk QueueState) (ops : List Op) (xs ys : List Response) → AreAnswers t ops xs → AreAnswers t ops ys → map is_refused xs ≡ map is_refused ys → xs ≡ ys
+pub one_answers : (t : Talk QueueState) (ops : List Op) (xs ys : List Response) → AreAnswers t ops xs
+    → AreAnswers t ops ys → map is_refused xs ≡ map is_refused ys → xs ≡ ys
 one_answers t [] [] [] a b same = refl
 one_answers t [] [] (y ∷ ys) a b same = absurd b
 one_answers t [] (x ∷ xs) ys a b same = absurd a

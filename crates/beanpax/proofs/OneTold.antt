@@ -9,7 +9,8 @@ use Rattle.beanpax.specs.Told.{IsToldWith}
 use Rattle.beanpax.proofs.Obeyed.{one_answers}
 
 -- what is told for one input is one text, where the same operations are refused
-pub one_told : IsOneItem → (input a b : List ℕ) (d e : End) (xs ys : List Response) → IsToldWith xs input a d → IsToldWith ys input b e → map is_refused xs ≡ map is_refused ys → (a ≡ b) × (d ≡ e)
+pub one_told : IsOneItem → (input a b : List ℕ) (d e : End) (xs ys : List Response) → IsToldWith xs input a d
+    → IsToldWith ys input b e → map is_refused xs ≡ map is_refused ys → (a ≡ b) × (d ≡ e)
 one_told one input a b d e xs ys r q refused =
     let same = one_reading one input r.0 q.0 d e r.1 q.1 in
     let answers : xs ≡ ys = one_answers (opened queue) (operations q.0) xs ys (subst (λ items. AreQueueAnswers (operations items) xs) same.0 r.2) q.2 refused in

@@ -1,5 +1,6 @@
 -- Texts of weights: what is read of them, and that it is the one way to read them.
-use Rattle.std.proofs.Common.{◌≡◌, ◌∙◌, sym, ap, ap₂, subst, refl, arith, ℕ, zero, suc, ◌<◌, ◌≤◌, ◌^◌, true, false, List, [], ◌∷◌, ◌++◌, length, map, decimal, Option, None, Some, Result, Ok}
+use Rattle.std.proofs.Common.{◌≡◌, ◌∙◌, sym, ap, ap₂, subst, refl, arith, ℕ, zero, suc, ◌<◌, ◌≤◌, ◌^◌, true, false}
+use Rattle.std.proofs.Common.{List, [], ◌∷◌, ◌++◌, length, map, decimal, Option, None, Some, Result, Ok}
 use Rattle.std.specs.List.{All, AllByRecursion, join_with_byte, slice_split, list_all}
 use Rattle.std.specs.Char.{digit_value}
 use Rattle.std.specs.Str.Parse.{AllDigits, ParsesUnsigned, digits_value}
@@ -19,7 +20,9 @@ abbrev IsWhole : List ℕ → Type 0
 IsWhole word = All (λ b. eqb b 44 ≡ false) word
 
 no_digit : (b : ℕ) → digit_value b < 10 → eqb b 44 ≡ false
-no_digit b h = false_from_ne_true (eqb b 44) (λ e. let comma : digit_value 44 < 10 = subst (λ (c : ℕ). digit_value c < 10) (eqb-true b 44 e) h in absurd (omega arith))
+no_digit b h = false_from_ne_true (eqb b 44)
+    (λ e. let comma : digit_value 44 < 10 =
+    subst (λ (c : ℕ). digit_value c < 10) (eqb-true b 44 e) h in absurd (omega arith))
 
 digits_whole : (word : List ℕ) → AllDigits 10 word → IsWhole word
 digits_whole [] h = All-nil (λ b. eqb b 44 ≡ false)
@@ -46,7 +49,8 @@ one_decimal : (v w : ℕ) → v < 2 ^ 64 → w < 2 ^ 64 → decimal v ≡ decima
 one_decimal v w p q h = sym (decimal_is_IsNumeral v p).1 ∙ ap (digits_value 10) h ∙ (decimal_is_IsNumeral w q).1
 
 -- a weight that a word writes is what is read of it
-pub weight_read : {E : Type 0} (w : ℕ) (word : List ℕ) (read : Result ℕ E) → is_weight w ≡ true → decimal w ≡ word → ParsesUnsigned 32 10 word read → read ≡ Ok w
+pub weight_read : {E : Type 0} (w : ℕ) (word : List ℕ) (read : Result ℕ E) → is_weight w ≡ true → decimal w ≡ word
+    → ParsesUnsigned 32 10 word read → read ≡ Ok w
 weight_read w word read is e parses =
     let few : w ≤ 1000 = grind (arith, nat_tests) in
     parse-decimal 32 w word read (omega arith) (omega arith) (sym e) parses
@@ -70,7 +74,8 @@ at_decimals [] i k = absurd (omega arith)
 at_decimals (w ∷ ws) zero k = (omega arith, refl)
 at_decimals (w ∷ ws) (suc i) k = let rest = at_decimals ws i (omega arith) in let within = rest.0 in (omega arith, rest.1)
 
-pub word_at : (ws : List ℕ) (words : List (List ℕ)) (i : ℕ) → words ≡ map decimal ws → i < length words → (i < length ws) × (slice_index_or words i [] ≡ decimal (slice_index_or ws i 0))
+pub word_at : (ws : List ℕ) (words : List (List ℕ)) (i : ℕ) → words ≡ map decimal ws → i < length words
+    → (i < length ws) × (slice_index_or words i [] ≡ decimal (slice_index_or ws i 0))
 word_at ws words i e k = subst (λ v. i < length v → (i < length ws) × (slice_index_or v i [] ≡ decimal (slice_index_or ws i 0))) (sym e) (at_decimals ws i) k
 
 -- each is below 2^64
@@ -96,7 +101,9 @@ long_last [] w h k = (k, tt)
 long_last (v ∷ ws) w h k = (h.0, long_last ws w h.1 k)
 
 -- the words of the text write these weights
-pub weights_told : (text weights : List ℕ) (told : Option (List ℕ)) → map decimal weights ≡ slice_split (λ b. eqb b 44) text → AreLong weights → SomeIff told (IsMembers weights) weights → AreWeightsIn text told
+pub weights_told : (text weights : List ℕ) (told : Option (List ℕ))
+    → map decimal weights ≡ slice_split (λ b. eqb b 44) text → AreLong weights
+    → SomeIff told (IsMembers weights) weights → AreWeightsIn text told
 weights_told text weights None e long h = λ ws m same.
     let one = one_list weights ws long (members_long ws m.each) (e ∙ words_back ws text m same) in h (subst IsMembers (sym one) m)
 weights_told text weights (Some v) e long h =

@@ -1,5 +1,6 @@
 -- From what clap says of a parse to what the words ask for.
-use Rattle.std.proofs.Common.{◌≡◌, ◌≢◌, ◌∙◌, ◌<◌, ◌≤◌, ◌^◌, ℕ, arith, true, List, Option, None, Some, Result, Ok, Err, unwrap_or, refl, sym, ap, subst, inl, inr}
+use Rattle.std.proofs.Common.{◌≡◌, ◌≢◌, ◌∙◌, ◌<◌, ◌≤◌, ◌^◌, ℕ, arith, true, List, Option, None, Some, Result, Ok, Err}
+use Rattle.std.proofs.Common.{unwrap_or, refl, sym, ap, subst, inl, inr}
 use Rattle.std.specs.Str.Parse.{ParsesUnsigned}
 use Rattle.clap.specs.Words.{App, HasKind, IsAmong, Kinds, ReadsOne, fault_of, is_simple, is_simple_and_free, kind_of}
 use Rattle.clap.specs.declared.error.Error.{Error}
@@ -60,7 +61,8 @@ number_if_read bits least most fits E gives parses (Some t) read none some = λ 
     digits_read bits E gives parses m t (omega (arith, below, fits)) writes read (some t refl)
 
 -- the default stands for a number out of range, which no text writes
-pub out_of_range : (default least most n : ℕ) (text : Option (List ℕ)) → IsNumberOr default least most text n → least ≤ default → default ≤ most → ((least ≤ n) → (n ≤ most) → ⊥) → IsNumberOr default least most text default
+pub out_of_range : (default least most n : ℕ) (text : Option (List ℕ)) → IsNumberOr default least most text n
+    → least ≤ default → default ≤ most → ((least ≤ n) → (n ≤ most) → ⊥) → IsNumberOr default least most text default
 out_of_range default least most n None is above below out = refl
 out_of_range default least most n (Some t) is above below out = λ m low high e.
     let same = is m low high e in absurd (out (omega (arith, same, low)) (omega (arith, same, high)))

@@ -6,7 +6,9 @@ use Rattle.session.specs.declared.faults.SessionFault.TheVariants as of
 use Rattle.node_threads.specs.declared.cluster_error.ClusterError.{ClusterError}
 use Rattle.node_threads.specs.declared.cluster_error.ClusterError.TheVariants as cluster
 use Rattle.beanpax.specs.declared.faults.ProgramFault.{ProgramFault}
-use Rattle.beanpax.specs.declared.faults.ProgramFault.TheVariants.{OutOfMemory, BadNumber, ReadFailed, WriteFailed, ServiceStopped, ListenFailed, FileFailed, ThreadFailed}
+use Rattle.beanpax.specs.declared.faults.ProgramFault.TheVariants.{OutOfMemory, BadNumber, ReadFailed, WriteFailed}
+use Rattle.beanpax.specs.declared.faults.ProgramFault.TheVariants.{ServiceStopped, ListenFailed, FileFailed}
+use Rattle.beanpax.specs.declared.faults.ProgramFault.TheVariants.{ThreadFailed}
 
 -- the fault of a session, as one of the program
 abbrev pub of_session : SessionFault → ProgramFault

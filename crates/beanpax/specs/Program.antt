@@ -7,7 +7,9 @@ use Rattle.beanpax.specs.Runs.{TellsAll}
 use Rattle.session.specs.declared.faults.End.{End}
 use Rattle.session.specs.declared.faults.End.TheVariants.{Eof}
 use Rattle.beanpax.specs.declared.faults.ProgramFault.{ProgramFault}
-use Rattle.beanpax.specs.declared.faults.ProgramFault.TheVariants.{OutOfMemory, BadNumber, ReadFailed, WriteFailed, ServiceStopped, ListenFailed, FileFailed, ThreadFailed}
+use Rattle.beanpax.specs.declared.faults.ProgramFault.TheVariants.{OutOfMemory, BadNumber, ReadFailed, WriteFailed}
+use Rattle.beanpax.specs.declared.faults.ProgramFault.TheVariants.{ServiceStopped, ListenFailed, FileFailed}
+use Rattle.beanpax.specs.declared.faults.ProgramFault.TheVariants.{ThreadFailed}
 use Rattle.beanpax.specs.declared.words.ServerOptions.{ServerOptions}
 use Rattle.beanpax.specs.Servers.{listening_line}
 use Rattle.beanpax.specs.Verdicts.{IsVerdict, is_legal, verdict_line}

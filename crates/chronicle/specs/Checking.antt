@@ -52,7 +52,8 @@ AreRightPlaces c order = (earlier : List Key) (key : Key) (later : List Key) →
 
 -- all of these S and A lines are right
 abbrev pub AreRightLines : Chronicle Op Reply → List (Happening Op Reply) → Type 0
-AreRightLines c hs = (earlier : List (Happening Op Reply)) (h : Happening Op Reply) (later : List (Happening Op Reply)) → hs ≡ earlier ++ (h ∷ later) → IsRightLine c earlier h
+AreRightLines c hs = (earlier : List (Happening Op Reply)) (h : Happening Op Reply) (later : List (Happening Op Reply))
+    → hs ≡ earlier ++ (h ∷ later) → IsRightLine c earlier h
 
 -- each line is right
 pub record IsFaultless (c : Chronicle Op Reply) : Type 0 where

@@ -2,7 +2,10 @@
 -- the size of their list (protocol.txt of beanstalkd, the commands).
 use Rattle.std.specs.Prelude.{ℕ, List, [], ◌∷◌, codes, decimal}
 use Rattle.bean_queue.specs.declared.reply.Reply.{Reply}
-use Rattle.bean_queue.specs.declared.reply.Reply.TheVariants.{Inserted, Using, Watching, NotIgnored, Reserved, DeadlineSoon, TimedOut, Deleted, NotFound, Released, Buried, Touched, KickedCount, Kicked, Found, Tubes, Paused, InternalError}
+use Rattle.bean_queue.specs.declared.reply.Reply.TheVariants.{Inserted, Using, Watching, NotIgnored, Reserved}
+use Rattle.bean_queue.specs.declared.reply.Reply.TheVariants.{DeadlineSoon, TimedOut, Deleted, NotFound, Released}
+use Rattle.bean_queue.specs.declared.reply.Reply.TheVariants.{Buried, Touched, KickedCount, Kicked, Found, Tubes}
+use Rattle.bean_queue.specs.declared.reply.Reply.TheVariants.{Paused, InternalError}
 use Rattle.chronicle.specs.Lines.{body_word}
 
 -- the words for a reply

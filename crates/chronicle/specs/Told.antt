@@ -10,7 +10,10 @@ use Rattle.object.specs.declared.command.Key.{Key}
 use Rattle.bean_queue.specs.declared.op.Op.{Op}
 use Rattle.bean_queue.specs.declared.op.Op.TheVariants.{Put}
 use Rattle.bean_queue.specs.declared.reply.Reply.{Reply}
-use Rattle.bean_queue.specs.declared.reply.Reply.TheVariants.{Inserted, Using, Watching, NotIgnored, Reserved, DeadlineSoon, TimedOut, Deleted, NotFound, Released, Buried, Touched, KickedCount, Kicked, Found, Tubes, Paused, InternalError}
+use Rattle.bean_queue.specs.declared.reply.Reply.TheVariants.{Inserted, Using, Watching, NotIgnored, Reserved}
+use Rattle.bean_queue.specs.declared.reply.Reply.TheVariants.{DeadlineSoon, TimedOut, Deleted, NotFound, Released}
+use Rattle.bean_queue.specs.declared.reply.Reply.TheVariants.{Buried, Touched, KickedCount, Kicked, Found, Tubes}
+use Rattle.bean_queue.specs.declared.reply.Reply.TheVariants.{Paused, InternalError}
 use Rattle.bean_codec.specs.declared.command.CommandName.{CommandName}
 use Rattle.bean_codec.specs.declared.command.CommandName.TheVariants as command
 use Rattle.bean_codec.specs.declared.line.Meaning.{Meaning}

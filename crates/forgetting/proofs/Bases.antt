@@ -26,9 +26,12 @@ module _ (low high : ℕ) (h : low ≤ high) where
       by_test false t = refl
 
   pub above_twice : {X : Type 0} (m : Slots X) → kept_from high (kept_from low m) ≡ kept_from high m
-  above_twice m = same_slots _ _ (λ q. get_above high (kept_from low m) q ∙ ap (λ o. cond (nat_le high q) o None) (get_above low m q) ∙ slot_twice q (get m q) ∙ sym (get_above high m q))
+  above_twice m = same_slots _ _
+      (λ q. get_above high (kept_from low m) q ∙ ap (λ o. cond (nat_le high q) o None)
+      (get_above low m q) ∙ slot_twice q (get m q) ∙ sym (get_above high m q))
 
-  pvalue_twice : {C : Type 0} (p : Pvalue C) (ps qs : List (Pvalue C)) → pvalues_from high ps ≡ qs → pvalues_from high (cond (nat_le low p.slot) (p ∷ ps) ps) ≡ cond (nat_le high p.slot) (p ∷ qs) qs
+  pvalue_twice : {C : Type 0} (p : Pvalue C) (ps qs : List (Pvalue C)) → pvalues_from high ps ≡ qs
+      → pvalues_from high (cond (nat_le low p.slot) (p ∷ ps) ps) ≡ cond (nat_le high p.slot) (p ∷ qs) qs
   pvalue_twice {C} p ps qs e = by_tests (nat_le low p.slot) (nat_le high p.slot) refl refl
     where
       by_tests : (a b : Bool) → nat_le low p.slot ≡ a → nat_le high p.slot ≡ b → pvalues_from high (cond a (p ∷ ps) ps) ≡ cond b (p ∷ qs) qs

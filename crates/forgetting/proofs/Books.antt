@@ -1,5 +1,6 @@
 -- The rest of a replica's book.
-use Rattle.std.proofs.Common.{◌≡◌, ◌<◌, ◌≤◌, ◌+◌, ◌^◌, ◌⊎◌, ⊎_elim, ℕ, max, Bool, true, false, cond, not, List, [], ◌∷◌, ◌++◌, map, filter, Some, None, Option, refl, sym, ap, ap₂, ◌∙◌, subst, arith, true≢false}
+use Rattle.std.proofs.Common.{◌≡◌, ◌<◌, ◌≤◌, ◌+◌, ◌^◌, ◌⊎◌, ⊎_elim, ℕ, max, Bool, true, false, cond, not, List, [], ◌∷◌}
+use Rattle.std.proofs.Common.{◌++◌, map, filter, Some, None, Option, refl, sym, ap, ap₂, ◌∙◌, subst, arith, true≢false}
 use Rattle.std.specs.Prelude.{nat_lt, nat_le, ◌&&◌, ◌||◌, ◌==◌, is_some, IsSome}
 use Rattle.std.specs.FinMap.{get, entries, values}
 use Rattle.std.specs.List.{list_any}
@@ -24,8 +25,12 @@ low_or_high : (t base : ℕ) → (t < base) ⊎ (base ≤ t)
 low_or_high t base = grind (arith, nat_tests)
 
 -- two filters in either order
-swap_step : {X : Type 0} (p q : X → Bool) (x : X) (xs : List X) → filter p (filter q xs) ≡ filter q (filter p xs) → (a b : Bool) → p x ≡ a → q x ≡ b → filter p (cond b (x ∷ filter q xs) (filter q xs)) ≡ filter q (cond a (x ∷ filter p xs) (filter p xs))
-swap_step p q x xs h true true e f = ap (λ c. cond c (x ∷ filter p (filter q xs)) (filter p (filter q xs))) e ∙ ap (λ ys. x ∷ ys) h ∙ sym (ap (λ c. cond c (x ∷ filter q (filter p xs)) (filter q (filter p xs))) f)
+swap_step : {X : Type 0} (p q : X → Bool) (x : X) (xs : List X) → filter p (filter q xs) ≡ filter q (filter p xs)
+    → (a b : Bool) → p x ≡ a → q x ≡ b
+    → filter p (cond b (x ∷ filter q xs) (filter q xs)) ≡ filter q (cond a (x ∷ filter p xs) (filter p xs))
+swap_step p q x xs h true true e f =
+    ap (λ c. cond c (x ∷ filter p (filter q xs)) (filter p (filter q xs))) e ∙ ap (λ ys. x ∷ ys) h ∙ sym
+    (ap (λ c. cond c (x ∷ filter q (filter p xs)) (filter q (filter p xs))) f)
 swap_step p q x xs h true false e f = h ∙ sym (ap (λ c. cond c (x ∷ filter q (filter p xs)) (filter q (filter p xs))) f)
 swap_step p q x xs h false true e f = ap (λ c. cond c (x ∷ filter p (filter q xs)) (filter p (filter q xs))) e ∙ h
 swap_step p q x xs h false false e f = h
@@ -40,7 +45,8 @@ filter_whole p [] h = refl
 filter_whole p (x ∷ xs) h = ap (λ c. cond c (x ∷ filter p xs) (filter p xs)) h.0 ∙ ap (λ ys. x ∷ ys) (filter_whole p xs h.1)
 
 -- what one of a list passes, one of its two parts passes
-any_step : {X : Type 0} (f : X → Bool) (x : X) (xs ys : List X) (c : Bool) → f x || (list_any f xs || list_any f ys) ≡ list_any f (cond c (x ∷ xs) xs) || list_any f (cond (not c) (x ∷ ys) ys)
+any_step : {X : Type 0} (f : X → Bool) (x : X) (xs ys : List X) (c : Bool)
+    → f x || (list_any f xs || list_any f ys) ≡ list_any f (cond c (x ∷ xs) xs) || list_any f (cond (not c) (x ∷ ys) ys)
 any_step f x xs ys true = elim (f x) as (λ a. a || (list_any f xs || list_any f ys) ≡ (a || list_any f xs) || list_any f ys) [ true ↦ refl | false ↦ refl ]
 any_step f x xs ys false = elim (f x) as (λ a. a || (list_any f xs || list_any f ys) ≡ list_any f xs || (a || list_any f ys)) [
   | true ↦ elim (list_any f xs) as (λ b. true ≡ b || true) [ true ↦ refl | false ↦ refl ]
@@ -51,7 +57,9 @@ mapped : {X : Type 0} (e : ℕ × X) (c : Bool) (xs : List (ℕ × X)) → cond 
 mapped e true xs = refl
 mapped e false xs = refl
 
-any_parts : {X : Type 0} (f : X → Bool) (p : ℕ → Bool) (es : List (ℕ × X)) → list_any f (map (λ e. e.1) es) ≡ list_any f (map (λ e. e.1) (filter (λ e. p e.0) es)) || list_any f (map (λ e. e.1) (filter (λ e. not (p e.0)) es))
+any_parts : {X : Type 0} (f : X → Bool) (p : ℕ → Bool) (es : List (ℕ × X))
+    → list_any f (map (λ e. e.1) es)
+    ≡ list_any f (map (λ e. e.1) (filter (λ e. p e.0) es)) || list_any f (map (λ e. e.1) (filter (λ e. not (p e.0)) es))
 any_parts f p [] = refl
 any_parts f p (e ∷ es) =
     ap (λ b. f e.1 || b) (any_parts f p es)
@@ -77,7 +85,11 @@ module _ {C : Type 0} (base : ℕ) (book : SlotBook C) where
   rest_next h = get_high base book.decisions book.slot_out h
 
   pub rest_advanced : (same : C → C → Bool) → base ≤ book.slot_out → rest_of_book base (advanced same book) ≡ advanced same (rest_of_book base book)
-  rest_advanced same h = ap (λ o. record (rest_of_book base (advanced same book)) { requests = book.requests ++ lost same (get book.proposals book.slot_out) o }) (sym (rest_next h))
+  rest_advanced same h = ap (λ o.
+      record (rest_of_book base (advanced same book)) {
+        requests =
+            book.requests ++ lost same (get book.proposals book.slot_out) o;
+      }) (sym (rest_next h))
 
   -- the next open slot
   higher_open : IsPast base book → (s : ℕ) → IsLeastOpen (rest_of_book base book) s → IsLeastOpen book s
@@ -132,7 +144,8 @@ module _ {C : Type 0} (base : ℕ) (book : SlotBook C) where
 
   rest_proposed : (o : Option (ℕ × C)) → ((p : ℕ × C) → o ≡ Some p → base ≤ p.0) → rest_of_book base (proposed book o) ≡ proposed (rest_of_book base book) o
   rest_proposed None h = refl
-  rest_proposed (Some p) h = let high = h p refl in let e : max (p.0 + 1) base ≡ p.0 + 1 = omega arith in ap (λ n. record (proposed (rest_of_book base book) (Some p)) { slot_in = n }) e
+  rest_proposed (Some p) h = let high = h p refl in let e : max (p.0 + 1) base ≡ p.0 + 1 =
+      omega arith in ap (λ n. record (proposed (rest_of_book base book) (Some p)) { slot_in = n }) e
 
   pub proposal_high : IsPast base book → (p : ℕ × C) → next_proposal book ≡ Some p → base ≤ p.0
   proposal_high past p e = open_above past p.0 (open_is book p.0 (past_first book.requests (open_slot book) p e))
@@ -143,7 +156,9 @@ module _ {C : Type 0} (base : ℕ) (book : SlotBook C) where
       ∙ ap (proposed (rest_of_book base book)) (sym (rest_proposal past))
 
   -- a request
-  known_parts : (same : C → C → Bool) (c : C) → list_any (λ d. same d c) (values book.decisions) ≡ list_any (λ d. same d c) (values (kept_from base book.decisions)) || is_forgotten same base book c
+  known_parts : (same : C → C → Bool) (c : C)
+      → list_any (λ d. same d c) (values book.decisions)
+      ≡ list_any (λ d. same d c) (values (kept_from base book.decisions)) || is_forgotten same base book c
   known_parts same c =
       any_parts (λ d. same d c) (λ s. nat_le base s) (entries book.decisions)
       ∙ ap (λ es. list_any (λ d. same d c) (map (λ (e : ℕ × C). e.1) es) || is_forgotten same base book c) (sym (entries_above base book.decisions))
@@ -152,11 +167,17 @@ module _ {C : Type 0} (base : ℕ) (book : SlotBook C) where
   under_rest true x y = refl
   under_rest false x y = refl
 
-  pub rest_requested : (same : C → C → Bool) (c : C) → rest_of_book base (requested same book c) ≡ cond (is_forgotten same base book c) (rest_of_book base book) (requested same (rest_of_book base book) c)
+  pub rest_requested : (same : C → C → Bool) (c : C)
+      → rest_of_book base (requested same book c)
+      ≡ cond (is_forgotten same base book c) (rest_of_book base book) (requested same (rest_of_book base book) c)
   rest_requested same c =
       under_rest (is_known same book c) book (record book { requests = book.requests ++ (c ∷ []) })
-      ∙ ap (λ b. cond (list_any (λ d. same d c) book.requests || (list_any (λ d. same d c) (values book.proposals) || b)) (rest_of_book base book) (rest_of_book base (record book { requests = book.requests ++ (c ∷ []) }))) (known_parts same c)
-      ∙ or_known (list_any (λ d. same d c) book.requests) (list_any (λ d. same d c) (values book.proposals)) (list_any (λ d. same d c) (values (kept_from base book.decisions))) (is_forgotten same base book c) (rest_of_book base book) _ (rest_of_book base book) refl
+      ∙ ap (λ b. cond (list_any (λ d. same d c) book.requests ||
+      (list_any (λ d. same d c) (values book.proposals) || b)) (rest_of_book base book)
+      (rest_of_book base (record book { requests = book.requests ++ (c ∷ []) }))) (known_parts same c)
+      ∙ or_known (list_any (λ d. same d c) book.requests) (list_any (λ d. same d c) (values book.proposals))
+      (list_any (λ d. same d c) (values (kept_from base book.decisions))) (is_forgotten same base book c)
+      (rest_of_book base book) _ (rest_of_book base book) refl
 
   -- what it tells
   pub rest_tells : (s : ℕ) → bodies base (tells book s) ≡ tells (rest_of_book base book) s
@@ -168,7 +189,9 @@ module _ {C : Type 0} (base : ℕ) (book : SlotBook C) where
 
   -- and what it sends again
   proposals_high : IsPast base book → Each (λ e. nat_le base e.0 ≡ true) (entries book.proposals)
-  proposals_high past = Each-weaker _ _ (λ e f. let n = past.near e.0 (subst IsSome (sym f) refl) in let o = past.out in lt_true base e.0 (omega arith)) (entries book.proposals) (entries_get book.proposals)
+  proposals_high past = Each-weaker _ _
+      (λ e f. let n = past.near e.0 (subst IsSome (sym f) refl) in let o = past.out in lt_true base e.0 (omega arith))
+      (entries book.proposals) (entries_get book.proposals)
 
   pub rest_proposes_again : IsPast base book → bodies base (proposes_again book) ≡ proposes_again book
   rest_proposes_again past =

@@ -1,7 +1,9 @@
 -- Maps by slot from a base on.
 use Rattle.std.proofs.Common.{◌≤◌, ◌≡◌, ℕ, Bool, true, false, cond, List, [], ◌∷◌, map, filter, Some, None, Option, refl, sym, ap, ◌∙◌, arith, true≢false}
 use Rattle.std.specs.Prelude.{nat_le, T, ◌&&◌, option_map}
-use Rattle.std.specs.FinMap.{empty, get, insert, remove, entries, find, is_sorted, from_sorted, get-empty, get-insert, get-remove, get-retain_keys, get-from_sorted, get-from_entries, get-entries, entries-from_sorted, entries_sorted, same_map, nat_cmp-IsAntisymmetric}
+use Rattle.std.specs.FinMap.{empty, get, insert, remove, entries, find, is_sorted, from_sorted, get-empty, get-insert}
+use Rattle.std.specs.FinMap.{get-remove, get-retain_keys, get-from_sorted, get-from_entries, get-entries}
+use Rattle.std.specs.FinMap.{entries-from_sorted, entries_sorted, same_map, nat_cmp-IsAntisymmetric}
 use Rattle.std.specs.FinMap.Entries.{below_all}
 use Rattle.std.specs.Ordering.{nat_cmp, eq_by_cmp}
 use Rattle.std.specs.Cmp.{nat_cmp_total}
@@ -29,7 +31,9 @@ module _ {X : Type 0} where
   same_slots m n h = same_map nat_cmp_total nat_cmp-IsAntisymmetric m n h
 
   -- a value from the base on is put
-  put_cases : (base q s : ℕ) (v : X) (o : Option X) → nat_le base s ≡ true → (tied low : Bool) → eq_by_cmp nat_cmp q s ≡ tied → nat_le base q ≡ low → cond low (cond tied (Some v) o) None ≡ cond tied (Some v) (cond low o None)
+  put_cases : (base q s : ℕ) (v : X) (o : Option X) → nat_le base s ≡ true → (tied low : Bool)
+      → eq_by_cmp nat_cmp q s ≡ tied → nat_le base q ≡ low
+      → cond low (cond tied (Some v) o) None ≡ cond tied (Some v) (cond low o None)
   put_cases base q s v o h true true e f = refl
   put_cases base q s v o h true false e f = absurd (true≢false (sym (ap (nat_le base) (same_key s q e) ∙ h) ∙ f))
   put_cases base q s v o h false low e f = refl
@@ -60,7 +64,9 @@ module _ {X : Type 0} where
   nowhere false = refl
 
   pub above_empty : (base : ℕ) → kept_from base (empty {X = X} {R = nat_cmp}) ≡ empty
-  above_empty base = same_slots _ _ (λ q. get_above base empty q ∙ ap (λ o. cond (nat_le base q) o None) (get-empty nat_cmp q) ∙ nowhere (nat_le base q) ∙ sym (get-empty nat_cmp q))
+  above_empty base = same_slots _ _
+      (λ q. get_above base empty q ∙ ap (λ o. cond (nat_le base q) o None) (get-empty nat_cmp q) ∙ nowhere
+      (nat_le base q) ∙ sym (get-empty nat_cmp q))
 
   -- what it answers at a slot from the base on, and below
   pub get_high : (base : ℕ) (m : Slots X) (q : ℕ) → base ≤ q → get (kept_from base m) q ≡ get m q
@@ -83,9 +89,13 @@ module _ {X : Type 0} where
         | false ↦ sorted_filter p es (both_parts _ _ h).1
       ]
 
-  find_step : (p : ℕ → Bool) (q : ℕ) (e : ℕ × X) (rest o : Option X) → rest ≡ cond (p q) o None → (tied here : Bool) → eq_by_cmp nat_cmp q e.0 ≡ tied → p e.0 ≡ here → cond here (cond tied (Some e.1) rest) rest ≡ cond (p q) (cond tied (Some e.1) o) None
+  find_step : (p : ℕ → Bool) (q : ℕ) (e : ℕ × X) (rest o : Option X) → rest ≡ cond (p q) o None → (tied here : Bool)
+      → eq_by_cmp nat_cmp q e.0 ≡ tied → p e.0 ≡ here
+      → cond here (cond tied (Some e.1) rest) rest ≡ cond (p q) (cond tied (Some e.1) o) None
   find_step p q e rest o h true true t f = ap (λ b. cond b (Some e.1) None) (sym (ap p (same_key e.0 q t) ∙ f))
-  find_step p q e rest o h true false t f = h ∙ ap (λ b. cond b o None) (ap p (same_key e.0 q t) ∙ f) ∙ ap (λ b. cond b (Some e.1) None) (sym (ap p (same_key e.0 q t) ∙ f))
+  find_step p q e rest o h true false t f =
+      h ∙ ap (λ b. cond b o None) (ap p (same_key e.0 q t) ∙ f) ∙ ap (λ b. cond b (Some e.1) None)
+      (sym (ap p (same_key e.0 q t) ∙ f))
   find_step p q e rest o h false true t f = h
   find_step p q e rest o h false false t f = h
 
@@ -111,16 +121,20 @@ module _ {X : Type 0} where
       ∙ entries-from_sorted nat_cmp es sorted
 
 -- with other values
-find_mapped : {X Y : Type 0} (f : ℕ → X → Y) (es : List (ℕ × X)) (q : ℕ) → find nat_cmp q (map (λ e. (e.0, f e.0 e.1)) es) ≡ option_map (f q) (find nat_cmp q es)
+find_mapped : {X Y : Type 0} (f : ℕ → X → Y) (es : List (ℕ × X)) (q : ℕ)
+    → find nat_cmp q (map (λ e. (e.0, f e.0 e.1)) es) ≡ option_map (f q) (find nat_cmp q es)
 find_mapped f [] q = refl
 find_mapped {X} {Y} f (e ∷ es) q =
-    elim (eq_by_cmp nat_cmp q e.0) as (λ b. eq_by_cmp nat_cmp q e.0 ≡ b → cond b (Some (f e.0 e.1)) (find nat_cmp q (map (λ e. (e.0, f e.0 e.1)) es)) ≡ option_map (f q) (cond b (Some e.1) (find nat_cmp q es))) [
+    elim (eq_by_cmp nat_cmp q e.0) as (λ b. eq_by_cmp nat_cmp q e.0 ≡ b
+    → cond b (Some (f e.0 e.1)) (find nat_cmp q (map (λ e. (e.0, f e.0 e.1)) es))
+    ≡ option_map (f q) (cond b (Some e.1) (find nat_cmp q es))) [
       | true ↦ λ t. ap (λ s. Some (f s e.1)) (sym (same_key e.0 q t))
       | false ↦ λ t. find_mapped f es q
     ] refl
 
 pub get_each : {X Y : Type 0} (f : ℕ → X → Y) (m : Slots X) (q : ℕ) → get (each_value f m) q ≡ option_map (f q) (get m q)
-get_each f m q = get-from_entries nat_cmp_total (map (λ x. (x.0, f x.0 x.1)) (entries m)) q ∙ find_mapped f (entries m) q ∙ ap (option_map (f q)) (sym (get-entries m q))
+get_each f m q = get-from_entries nat_cmp_total (map (λ x. (x.0, f x.0 x.1)) (entries m)) q ∙ find_mapped f
+    (entries m) q ∙ ap (option_map (f q)) (sym (get-entries m q))
 
 mapped_cond : {X Y : Type 0} (f : X → Y) (b : Bool) (o : Option X) → cond b (option_map f o) None ≡ option_map f (cond b o None)
 mapped_cond f true o = refl

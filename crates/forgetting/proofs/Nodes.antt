@@ -25,23 +25,27 @@ use Rattle.node.specs.Deeds.{acted, led, performing}
 use Rattle.node.specs.Receiving.{IsFit, Receives, promises_ballot, accepts_pvalue, hears_promise, hears_vote, hears_proposal, learns, tells_decisions}
 use Rattle.node.specs.declared.deed.Deed.{Deed}
 use Rattle.node.specs.declared.deed.Deed.TheVariants as deeds
-use Rattle.forgetting.specs.Rests.{StandInSlots, IsPast, pvalues_from, if_from, rest_of_acceptor, rest_of_leader, rest_of_book, rest_of_node, rest_of_body, rest_of_done, rests}
+use Rattle.forgetting.specs.Rests.{StandInSlots, IsPast, pvalues_from, if_from, rest_of_acceptor, rest_of_leader}
+use Rattle.forgetting.specs.Rests.{rest_of_book, rest_of_node, rest_of_body, rest_of_done, rests}
 use Rattle.forgetting.specs.RestLaws.{IsDoneByRest, IsRestOfTurn, ReceivesWhole}
 use Rattle.forgetting.proofs.Maps.{lt_true, get_high}
 use Rattle.forgetting.proofs.Letters.{bodies, rests_to_all, rests_to_one}
-use Rattle.forgetting.proofs.Books.{rest_learnt, rest_next, rest_advanced, rest_proposal, rest_proposed_next, proposal_high, rest_requested, rest_tells, rest_proposes_again, rest_asks}
+use Rattle.forgetting.proofs.Books.{rest_learnt, rest_next, rest_advanced, rest_proposal, rest_proposed_next}
+use Rattle.forgetting.proofs.Books.{proposal_high, rest_requested, rest_tells, rest_proposes_again, rest_asks}
 use Rattle.forgetting.proofs.Leaders.{rest_woken, rest_says_again, rest_on_propose, rest_on_p2b}
 use Rattle.forgetting.proofs.Parts.{whole_report}
 use Rattle.forgetting.proofs.Promises.{hears_whole}
 
 -- a pvalue from the base on is accepted
-pub rest_p2a : {C : Type 0} (base : ℕ) (a : Acceptances C) (p : Pvalue C) → base ≤ p.slot → rest_of_acceptor base (after_p2a a p) ≡ after_p2a (rest_of_acceptor base a) p
+pub rest_p2a : {C : Type 0} (base : ℕ) (a : Acceptances C) (p : Pvalue C) → base ≤ p.slot
+    → rest_of_acceptor base (after_p2a a p) ≡ after_p2a (rest_of_acceptor base a) p
 rest_p2a base a p h = ap (λ ps. record (rest_of_acceptor base a) { accepted = ps }) (by_test (is_promise a.promised p.ballot))
   where
     more : pvalues_from base (a.accepted ++ (p ∷ [])) ≡ pvalues_from base a.accepted ++ (p ∷ [])
     more = filter-append (λ q. nat_le base q.slot) a.accepted (p ∷ []) ∙ ap (λ b. pvalues_from base a.accepted ++ cond b (p ∷ []) []) (lt_true base p.slot h)
 
-    by_test : (b : Bool) → pvalues_from base (cond b (a.accepted ++ (p ∷ [])) a.accepted) ≡ cond b (pvalues_from base a.accepted ++ (p ∷ [])) (pvalues_from base a.accepted)
+    by_test : (b : Bool) → pvalues_from base (cond b (a.accepted ++ (p ∷ [])) a.accepted)
+        ≡ cond b (pvalues_from base a.accepted ++ (p ∷ [])) (pvalues_from base a.accepted)
     by_test true = more
     by_test false = refl
 
@@ -59,15 +63,23 @@ module _ {C : Type 0} (base : ℕ) (members : List ℕ) (n : ℕ) (x : NodeState
 module _ {O Op Reply : Type 0} (rules : Rules O Op Reply) (base : ℕ) (members : List ℕ) (n : ℕ) (x : NodeState (Command Op)) where
   performing_rest : (o : Option (Command Op)) → base ≤ x.replica.slot_out → IsRestOfTurn base (performing rules (rest_of_node base x) o) (performing rules x o)
   performing_rest None h = record { state = refl; sent = refl }
-  performing_rest (Some c) h = record { state = ap (λ b. record (rest_of_node base x) { replica = b }) (sym (rest_advanced base x.replica (is_one rules) h)); sent = refl }
+  performing_rest (Some c) h = record {
+    state =
+        ap (λ b. record (rest_of_node base x) { replica = b }) (sym (rest_advanced base x.replica (is_one rules) h));
+    sent = refl;
+  }
 
   proposed_says : (o : Option (ℕ × Command Op)) → ((p : ℕ × Command Op) → o ≡ Some p → base ≤ p.0) → bodies base (proposes_first o) ≡ proposes_first o
   proposed_says None h = refl
   proposed_says (Some p) h = ap (λ b. cons_option (cond b (Some (Propose p.0 p.1)) None) []) (lt_true base p.0 (h p refl))
 
-  pub rest_acted : StandInSlots x.leader → IsPast base x.replica → (d : Deed Op) → IsDoneByRest rules base x d → IsRestOfTurn base (acted rules members n (rest_of_node base x) d) (acted rules members n x d)
+  pub rest_acted : StandInSlots x.leader → IsPast base x.replica → (d : Deed Op) → IsDoneByRest rules base x d
+      → IsRestOfTurn base (acted rules members n (rest_of_node base x) d) (acted rules members n x d)
   rest_acted is past (deeds.Request c) new = record {
-    state = ap (λ b. record (rest_of_node base x) { replica = b }) (sym (rest_requested base x.replica (is_one rules) c ∙ ap (λ t. cond t (rest_of_book base x.replica) (acted rules members n (rest_of_node base x) (deeds.Request c)).state.replica) new));
+    state = ap (λ b. record (rest_of_node base x) { replica = b })
+        (sym (rest_requested base x.replica (is_one rules) c ∙ ap
+        (λ t. cond t (rest_of_book base x.replica)
+        (acted rules members n (rest_of_node base x) (deeds.Request c)).state.replica) new));
     sent = refl;
   }
   rest_acted is past deeds.Wake h = record {
@@ -109,7 +121,8 @@ module _ {C : Type 0} (decide : (p : Pvalue C) (ps : List (Pvalue C)) → In p p
   one_letter : (body : LetterBody C) (rest : LetterBody C) → rest_of_body base body ≡ Some rest → letter n rest m ∷ [] ≡ rests base (letter n body m ∷ [])
   one_letter body rest e = ap (λ o. cons_option (option_map (λ b. letter n b m) o) []) (sym e)
 
-  with_p1a : (b : Numbers) (z : NodeState C) (sent : List (Letter C)) → Receives members m n (rest_of_node base x) (P1a b) z sent → ReceivesWhole base members m n x (P1a b) z sent
+  with_p1a : (b : Numbers) (z : NodeState C) (sent : List (Letter C))
+      → Receives members m n (rest_of_node base x) (P1a b) z sent → ReceivesWhole base members m n x (P1a b) z sent
   with_p1a b _ _ (promises_ballot c report is) =
       let w = whole_report base x.acceptor.accepted report is in
       record {
@@ -120,16 +133,20 @@ module _ {C : Type 0} (decide : (p : Pvalue C) (ps : List (Pvalue C)) → In p p
         told = ap (λ ps. letter n (P1b (higher x.acceptor.promised b) ps) m ∷ []) (sym w.2);
       }
 
-  with_p2a : (p : Pvalue C) → base ≤ p.slot → (z : NodeState C) (sent : List (Letter C)) → Receives members m n (rest_of_node base x) (P2a p) z sent → ReceivesWhole base members m n x (P2a p) z sent
+  with_p2a : (p : Pvalue C) → base ≤ p.slot → (z : NodeState C) (sent : List (Letter C))
+      → Receives members m n (rest_of_node base x) (P2a p) z sent → ReceivesWhole base members m n x (P2a p) z sent
   with_p2a p h _ _ (accepts_pvalue q) = record {
     state = record x { acceptor = after_p2a x.acceptor p };
     letters = letter n (P2b x.acceptor.promised p.slot p.ballot) m ∷ [];
     receives = accepts_pvalue p;
     rest = ap (λ a. record (rest_of_node base x) { acceptor = a }) (sym (rest_p2a base x.acceptor p h));
-    told = one_letter (P2b x.acceptor.promised p.slot p.ballot) (P2b x.acceptor.promised p.slot p.ballot) (ap (λ b. cond b (Some (P2b x.acceptor.promised p.slot p.ballot)) None) (lt_true base p.slot h));
+    told = one_letter (P2b x.acceptor.promised p.slot p.ballot) (P2b x.acceptor.promised p.slot p.ballot)
+        (ap (λ b. cond b (Some (P2b x.acceptor.promised p.slot p.ballot)) None) (lt_true base p.slot h));
   }
 
-  with_p1b : (b : Numbers) (report : List (Pvalue C)) (z : NodeState C) (sent : List (Letter C)) → Receives members m n (rest_of_node base x) (P1b b (pvalues_from base report)) z sent → ReceivesWhole base members m n x (P1b b report) z sent
+  with_p1b : (b : Numbers) (report : List (Pvalue C)) (z : NodeState C) (sent : List (Letter C))
+      → Receives members m n (rest_of_node base x) (P1b b (pvalues_from base report)) z sent
+      → ReceivesWhole base members m n x (P1b b report) z sent
   with_p1b b report _ _ (hears_promise c r part some hears) =
       let w = hears_whole base decide x.leader m b report part some hears in
       let whole = promises.on_p1b x.leader m b w.fresh w.taken in
@@ -142,7 +159,9 @@ module _ {C : Type 0} (decide : (p : Pvalue C) (ps : List (Pvalue C)) → In p p
         told = led_told base members n x whole kept w.done;
       }
 
-  with_p2b : (o : Option Numbers) (s : ℕ) (by : Numbers) → base ≤ s → (z : NodeState C) (sent : List (Letter C)) → Receives members m n (rest_of_node base x) (P2b o s by) z sent → ReceivesWhole base members m n x (P2b o s by) z sent
+  with_p2b : (o : Option Numbers) (s : ℕ) (by : Numbers) → base ≤ s → (z : NodeState C) (sent : List (Letter C))
+      → Receives members m n (rest_of_node base x) (P2b o s by) z sent
+      → ReceivesWhole base members m n x (P2b o s by) z sent
   with_p2b o s by h _ _ (hears_vote c t d) =
       let whole = votes.on_p2b x.leader m o s by in
       let kept = votes.on_p2b (rest_of_leader base x.leader) m o s by in
@@ -155,7 +174,9 @@ module _ {C : Type 0} (decide : (p : Pvalue C) (ps : List (Pvalue C)) → In p p
         told = led_told base members n x whole kept e;
       }
 
-  with_propose : (s : ℕ) (c : C) → base ≤ s → (z : NodeState C) (sent : List (Letter C)) → Receives members m n (rest_of_node base x) (Propose s c) z sent → ReceivesWhole base members m n x (Propose s c) z sent
+  with_propose : (s : ℕ) (c : C) → base ≤ s → (z : NodeState C) (sent : List (Letter C))
+      → Receives members m n (rest_of_node base x) (Propose s c) z sent
+      → ReceivesWhole base members m n x (Propose s c) z sent
   with_propose s c h _ _ (hears_proposal t d) =
       let whole = on_propose x.leader s c in
       let kept = on_propose (rest_of_leader base x.leader) s c in
@@ -168,7 +189,9 @@ module _ {C : Type 0} (decide : (p : Pvalue C) (ps : List (Pvalue C)) → In p p
         told = led_told base members n x whole kept e;
       }
 
-  with_decision : (s : ℕ) (c : C) → base ≤ s → (z : NodeState C) (sent : List (Letter C)) → Receives members m n (rest_of_node base x) (Decision s c) z sent → ReceivesWhole base members m n x (Decision s c) z sent
+  with_decision : (s : ℕ) (c : C) → base ≤ s → (z : NodeState C) (sent : List (Letter C))
+      → Receives members m n (rest_of_node base x) (Decision s c) z sent
+      → ReceivesWhole base members m n x (Decision s c) z sent
   with_decision s c h _ _ (learns t d) = record {
     state = record x { replica = learnt x.replica s c };
     letters = [];
@@ -177,7 +200,8 @@ module _ {C : Type 0} (decide : (p : Pvalue C) (ps : List (Pvalue C)) → In p p
     told = refl;
   }
 
-  with_ask : (s : ℕ) (z : NodeState C) (sent : List (Letter C)) → Receives members m n (rest_of_node base x) (Ask s) z sent → ReceivesWhole base members m n x (Ask s) z sent
+  with_ask : (s : ℕ) (z : NodeState C) (sent : List (Letter C))
+      → Receives members m n (rest_of_node base x) (Ask s) z sent → ReceivesWhole base members m n x (Ask s) z sent
   with_ask s _ _ (tells_decisions t) = record {
     state = x;
     letters = map (λ b. letter n b m) (tells x.replica s);
@@ -190,13 +214,25 @@ module _ {C : Type 0} (decide : (p : Pvalue C) (ps : List (Pvalue C)) → In p p
   some_is b k e = cc
 
   -- the rest of a letter was received: the letter may be received, and brings what this is the rest of
-  pub rest_receives : (body kept : LetterBody C) → rest_of_body base body ≡ Some kept → (z : NodeState C) (sent : List (Letter C)) → Receives members m n (rest_of_node base x) kept z sent → ReceivesWhole base members m n x body z sent
+  pub rest_receives : (body kept : LetterBody C) → rest_of_body base body ≡ Some kept
+      → (z : NodeState C) (sent : List (Letter C)) → Receives members m n (rest_of_node base x) kept z sent
+      → ReceivesWhole base members m n x body z sent
   rest_receives (P1a b) kept e z sent r = with_p1a b z sent (subst (λ k. Receives members m n (rest_of_node base x) k z sent) (sym (some_is _ _ e)) r)
-  rest_receives (P1b b report) kept e z sent r = with_p1b b report z sent (subst (λ k. Receives members m n (rest_of_node base x) k z sent) (sym (some_is _ _ e)) r)
-  rest_receives (P2a p) kept e z sent r = let l = left base p.slot (P2a p) kept e in with_p2a p l.1 z sent (subst (λ k. Receives members m n (rest_of_node base x) k z sent) l.0 r)
-  rest_receives (P2b o s by) kept e z sent r = let l = left base s (P2b o s by) kept e in with_p2b o s by l.1 z sent (subst (λ k. Receives members m n (rest_of_node base x) k z sent) l.0 r)
-  rest_receives (Propose s c) kept e z sent r = let l = left base s (Propose s c) kept e in with_propose s c l.1 z sent (subst (λ k. Receives members m n (rest_of_node base x) k z sent) l.0 r)
-  rest_receives (Decision s c) kept e z sent r = let l = left base s (Decision s c) kept e in with_decision s c l.1 z sent (subst (λ k. Receives members m n (rest_of_node base x) k z sent) l.0 r)
+  rest_receives (P1b b report) kept e z sent r =
+      with_p1b b report z sent (subst (λ k. Receives members m n (rest_of_node base x) k z sent)
+      (sym (some_is _ _ e)) r)
+  rest_receives (P2a p) kept e z sent r = let l =
+      left base p.slot (P2a p) kept e in with_p2a p l.1 z sent
+      (subst (λ k. Receives members m n (rest_of_node base x) k z sent) l.0 r)
+  rest_receives (P2b o s by) kept e z sent r = let l =
+      left base s (P2b o s by) kept e in with_p2b o s by l.1 z sent
+      (subst (λ k. Receives members m n (rest_of_node base x) k z sent) l.0 r)
+  rest_receives (Propose s c) kept e z sent r = let l =
+      left base s (Propose s c) kept e in with_propose s c l.1 z sent
+      (subst (λ k. Receives members m n (rest_of_node base x) k z sent) l.0 r)
+  rest_receives (Decision s c) kept e z sent r = let l =
+      left base s (Decision s c) kept e in with_decision s c l.1 z sent
+      (subst (λ k. Receives members m n (rest_of_node base x) k z sent) l.0 r)
   rest_receives (Ask s) kept e z sent r = with_ask s z sent (subst (λ k. Receives members m n (rest_of_node base x) k z sent) (sym (some_is _ _ e)) r)
 
 -- what is left of a letter may be received where the letter may

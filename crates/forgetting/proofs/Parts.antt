@@ -1,5 +1,6 @@
 -- Lists of pvalues from a base on and up to it; what a whole list can be, of which this is the rest.
-use Rattle.std.proofs.Common.{◌≡◌, ◌⊎◌, inl, inr, ⊎_elim, ℕ, Bool, true, false, true≢false, cond, not, List, [], ◌∷◌, ◌++◌, filter, refl, sym, ap, ap₂, ◌∙◌, arith}
+use Rattle.std.proofs.Common.{◌≡◌, ◌⊎◌, inl, inr, ⊎_elim, ℕ, Bool, true, false, true≢false, cond, not, List, [], ◌∷◌}
+use Rattle.std.proofs.Common.{◌++◌, filter, refl, sym, ap, ap₂, ◌∙◌, arith}
 use Rattle.std.specs.Prelude.{nat_le}
 use Rattle.std.proofs.lemmas.Bool.Decides.{nat_tests}
 use Rattle.std.proofs.lemmas.List.{append-nil}
@@ -53,7 +54,11 @@ module _ {X : Type 0} (p : X → Bool) where
 
 once_both : {X : Type 0} (xs ys : List X) → IsOnce xs → IsOnce ys → ((x : X) → In x xs → In x ys → ⊥) → IsOnce (xs ++ ys)
 once_both [] ys a b h = b
-once_both (x ∷ xs) ys a b h = (λ i. ⊎_elim (λ (j : In x xs). a.0 j) (λ (j : In x ys). h x (inl refl) j) (In-cases x xs ys i), once_both xs ys a.1 b (λ y i j. h y (inr i) j))
+once_both (x ∷ xs) ys a b h = (
+  λ i. ⊎_elim (λ (j : In x xs). a.0 j) (λ (j : In x ys). h x (inl refl) j)
+      (In-cases x xs ys i),
+  once_both xs ys a.1 b (λ y i j. h y (inr i) j),
+)
 
 module _ {C : Type 0} (base : ℕ) where
   abbrev is_high : Pvalue C → Bool
@@ -72,18 +77,28 @@ module _ {C : Type 0} (base : ℕ) where
   In_above p ps h i = filter_In is_high p ps h i
 
   -- these, all from the base on, and some up to it
-  rest_of_both : (high low : List (Pvalue C)) → ((p : Pvalue C) → In p high → is_high p ≡ true) → ((p : Pvalue C) → In p low → is_high p ≡ false) → pvalues_from base (high ++ low) ≡ high
+  rest_of_both : (high low : List (Pvalue C)) → ((p : Pvalue C) → In p high → is_high p ≡ true)
+      → ((p : Pvalue C) → In p low → is_high p ≡ false) → pvalues_from base (high ++ low) ≡ high
   rest_of_both high low h l = filter-append is_high high low ∙ ap₂ (λ xs ys. xs ++ ys) (filter_all is_high high h) (filter_none is_high low l) ∙ append-nil high
 
   -- a report of the rest is the rest of a report
-  pub whole_report : (accepted report : List (Pvalue C)) → IsReport (pvalues_from base accepted) report → (whole : List (Pvalue C)) × IsReport accepted whole × (pvalues_from base whole ≡ report)
+  pub whole_report : (accepted report : List (Pvalue C)) → IsReport (pvalues_from base accepted) report
+      → (whole : List (Pvalue C)) × IsReport accepted whole × (pvalues_from base whole ≡ report)
   whole_report accepted report is = (
     report ++ filter is_low accepted,
     record {
-      part = λ p i. ⊎_elim (λ (j : In p report). (above_In p accepted (is.part p j)).0) (λ (j : In p (filter is_low accepted)). (In_filter is_low p accepted j).0) (In-cases p report (filter is_low accepted) i);
+      part = λ p i. ⊎_elim (λ (j : In p report). (above_In p accepted (is.part p j)).0)
+          (λ (j : In p (filter is_low accepted)). (In_filter is_low p accepted j).0)
+          (In-cases p report (filter is_low accepted) i);
       greatest = λ p i. ⊎_elim
           (λ (h : is_high p ≡ true). let q = is.greatest p (In_above p accepted h i) in (q.0, In-left q.0 report (filter is_low accepted) q.1, q.2, q.3))
-          (λ (l : is_high p ≡ false). (p, In-right p report (filter is_low accepted) (filter_In is_low p accepted (turned (is_high p) l) i), refl, not_below_itself p.ballot))
+          (λ (l : is_high p ≡ false). (
+            p,
+            In-right p report (filter is_low accepted)
+                (filter_In is_low p accepted (turned (is_high p) l) i),
+            refl,
+            not_below_itself p.ballot,
+          ))
           (test_cases (is_high p));
     },
     rest_of_both report (filter is_low accepted) (λ p i. (above_In p accepted (is.part p i)).1) (λ p i. low_is p (In_filter is_low p accepted i).1),
@@ -100,7 +115,10 @@ module _ {C : Type 0} (base : ℕ) where
   }
 
   -- what is fresh of the rest of a report is the rest of what is fresh of it
-  pub whole_fresh : ((p : Pvalue C) (ps : List (Pvalue C)) → In p ps ⊎ (In p ps → ⊥)) → (gathered report fresh : List (Pvalue C)) → IsFresh (pvalues_from base gathered) (pvalues_from base report) fresh → (whole : List (Pvalue C)) × IsFresh gathered report whole × (pvalues_from base whole ≡ fresh)
+  pub whole_fresh : ((p : Pvalue C) (ps : List (Pvalue C)) → In p ps ⊎ (In p ps → ⊥))
+      → (gathered report fresh : List (Pvalue C))
+      → IsFresh (pvalues_from base gathered) (pvalues_from base report) fresh → (whole : List (Pvalue C))
+      × IsFresh gathered report whole × (pvalues_from base whole ≡ fresh)
   whole_fresh decide gathered report fresh is =
       let low = some_fresh decide gathered (filter is_low report) in
       let high : (p : Pvalue C) → In p fresh → In p report × (is_high p ≡ true) = λ p i. above_In p report (is.part p i) in
@@ -109,8 +127,12 @@ module _ {C : Type 0} (base : ℕ) where
         record {
           part = λ p i. ⊎_elim (λ (j : In p fresh). (high p j).0) (λ (j : In p low.0). (under p j).0) (In-cases p fresh low.0 i);
           all = λ p i. ⊎_elim
-              (λ (h : is_high p ≡ true). ⊎_elim (λ (j : In p (pvalues_from base gathered)). inl (above_In p gathered j).0) (λ (j : In p fresh). inr (In-left p fresh low.0 j)) (is.all p (In_above p report h i)))
-              (λ (l : is_high p ≡ false). ⊎_elim (λ (j : In p gathered). inl j) (λ (j : In p low.0). inr (In-right p fresh low.0 j)) (low.1.all p (filter_In is_low p report (turned (is_high p) l) i)))
+              (λ (h : is_high p ≡ true). ⊎_elim
+              (λ (j : In p (pvalues_from base gathered)). inl (above_In p gathered j).0)
+              (λ (j : In p fresh). inr (In-left p fresh low.0 j)) (is.all p (In_above p report h i)))
+              (λ (l : is_high p ≡ false). ⊎_elim (λ (j : In p gathered). inl j)
+              (λ (j : In p low.0). inr (In-right p fresh low.0 j))
+              (low.1.all p (filter_In is_low p report (turned (is_high p) l) i)))
               (test_cases (is_high p));
           new = λ p i g. ⊎_elim
               (λ (j : In p fresh). is.new p j (In_above p gathered (high p j).1 g))

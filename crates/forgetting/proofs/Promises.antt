@@ -1,5 +1,6 @@
 -- What a leader may make of a promise, from what its rest made of the rest of it.
-use Rattle.std.proofs.Common.{◌≡◌, ◌⊎◌, inl, inr, ⊎_elim, ℕ, Bool, true, false, true≢false, cond, not, List, [], ◌∷◌, ◌++◌, filter, Some, None, Option, refl, sym, ap, ap₂, ◌∙◌, subst, arith}
+use Rattle.std.proofs.Common.{◌≡◌, ◌⊎◌, inl, inr, ⊎_elim, ℕ, Bool, true, false, true≢false, cond, not, List, [], ◌∷◌}
+use Rattle.std.proofs.Common.{◌++◌, filter, Some, None, Option, refl, sym, ap, ap₂, ◌∙◌, subst, arith}
 use Rattle.std.specs.Prelude.{nat_le, ◌&&◌, option_map}
 use Rattle.std.proofs.lemmas.Bool.Decides.{nat_tests}
 use Rattle.std.specs.Option.{option_or}
@@ -28,7 +29,8 @@ use Rattle.forgetting.proofs.Leaders.{rest_scout, rest_on_p1b}
 find_both : {X : Type 0} (q : ℕ) (xs ys : List (ℕ × X)) → find nat_cmp q (xs ++ ys) ≡ option_or (find nat_cmp q xs) (find nat_cmp q ys)
 find_both q [] ys = refl
 find_both {X} q (x ∷ xs) ys =
-    elim (eq_by_cmp nat_cmp q x.0) as (λ b. cond b (Some x.1) (find nat_cmp q (xs ++ ys)) ≡ option_or (cond b (Some x.1) (find nat_cmp q xs)) (find nat_cmp q ys)) [
+    elim (eq_by_cmp nat_cmp q x.0) as (λ b. cond b (Some x.1) (find nat_cmp q (xs ++ ys))
+    ≡ option_or (cond b (Some x.1) (find nat_cmp q xs)) (find nat_cmp q ys)) [
       | true ↦ refl
       | false ↦ find_both q xs ys
     ]
@@ -55,7 +57,9 @@ module _ {C : Type 0} (base : ℕ) where
     whole_at : (s : ℕ) → get whole s ≡ option_or (get taken s) (cond (not (nat_le base s)) (get any s) None)
     whole_at s =
         get_both (entries taken) (filter (λ e. not (nat_le base e.0)) (entries any)) s
-        ∙ ap₂ option_or (sym (get-entries taken s)) (find_filter (λ s. not (nat_le base s)) s (entries any) ∙ ap (λ o. cond (not (nat_le base s)) o None) (sym (get-entries any s)))
+        ∙ ap₂ option_or (sym (get-entries taken s))
+        (find_filter (λ s. not (nat_le base s)) s (entries any) ∙ ap (λ o. cond (not (nat_le base s)) o None)
+        (sym (get-entries any s)))
 
     or_none : (o : Option C) → option_or o None ≡ o
     or_none None = refl
@@ -70,7 +74,8 @@ module _ {C : Type 0} (base : ℕ) where
     taken_low : (s : ℕ) → nat_le base s ≡ false → get taken s ≡ None
     taken_low s l = ⊎_elim
         (λ (x : IsOpen (pvalues_from base ps) s × (get taken s ≡ get (kept_from base old) s)). x.1 ∙ get_above base old s ∙ ap (λ b. cond b (get old s) None) l)
-        (λ (x : (p : Pvalue C) × IsGreatest (pvalues_from base ps) s p × (get taken s ≡ Some p.value)). absurd (true≢false (sym (above_In base x.0 ps x.1.within).1 ∙ ap (nat_le base) x.1.slot ∙ l)))
+        (λ (x : (p : Pvalue C) × IsGreatest (pvalues_from base ps) s p × (get taken s ≡ Some p.value)). absurd
+        (true≢false (sym (above_In base x.0 ps x.1.within).1 ∙ ap (nat_le base) x.1.slot ∙ l)))
         (is s)
 
     whole_low : (s : ℕ) → nat_le base s ≡ false → get whole s ≡ get any s
@@ -82,7 +87,8 @@ module _ {C : Type 0} (base : ℕ) where
     takes_whole : TakesGreatest old ps whole
     takes_whole s = ⊎_elim
         (λ (h : nat_le base s ≡ true). ⊎_elim
-        (λ (x : IsOpen (pvalues_from base ps) s × (get taken s ≡ get (kept_from base old) s)). inl (λ q i e. x.0 q (high_of q s h i e) e, whole_high s h ∙ x.1 ∙ old_high s h))
+        (λ (x : IsOpen (pvalues_from base ps) s × (get taken s ≡ get (kept_from base old) s)). inl
+        (λ q i e. x.0 q (high_of q s h i e) e, whole_high s h ∙ x.1 ∙ old_high s h))
         (λ (x : (p : Pvalue C) × IsGreatest (pvalues_from base ps) s p × (get taken s ≡ Some p.value)). inr (
           x.0,
           record { within = (above_In base x.0 ps x.1.within).0; slot = x.1.slot; greatest = λ q i e. x.1.greatest q (high_of q s h i e) e },
@@ -134,12 +140,14 @@ module _ {C : Type 0} (base : ℕ) where
         (scouts.unmoved s heard.Wait)
 
     -- a promise of another ballot, or of no member
-    unmoved_by : (s : Scouting C) (member same : Bool) → is_member s.members m ≡ member → is_same b s.ballot ≡ same → member && same ≡ false → (xs ys : List (Pvalue C)) → scouts.on_p1b s m b xs ≡ scouts.on_p1b s m b ys
+    unmoved_by : (s : Scouting C) (member same : Bool) → is_member s.members m ≡ member → is_same b s.ballot ≡ same
+        → member && same ≡ false → (xs ys : List (Pvalue C)) → scouts.on_p1b s m b xs ≡ scouts.on_p1b s m b ys
     unmoved_by s true true e f g xs ys = absurd (true≢false g)
     unmoved_by s true false e f g xs ys = ap (λ t. by_ballot s t xs) f ∙ sym (ap (λ t. by_ballot s t ys) f)
     unmoved_by s false same e f g xs ys = ap (λ t. by_member s t xs) e ∙ sym (ap (λ t. by_member s t ys) e)
 
-    promised : (s : Scouting C) (part : List (Pvalue C)) → is_member s.members m ≡ true → is_same b s.ballot ≡ true → TakesFresh (rest_of_scout base s) m b (pvalues_from base report) part → ScoutHears s part
+    promised : (s : Scouting C) (part : List (Pvalue C)) → is_member s.members m ≡ true → is_same b s.ballot ≡ true
+        → TakesFresh (rest_of_scout base s) m b (pvalues_from base report) part → ScoutHears s part
     promised s part e f takes =
         let w = whole_fresh base decide s.gathered report part (takes (record { member = e; same = ballots_same b s.ballot f })) in
         record { fresh = w.0; takes = λ p. w.1; same = ap (scouts.on_p1b (rest_of_scout base s) m b) w.2 }
@@ -150,7 +158,9 @@ module _ {C : Type 0} (base : ℕ) where
         unheard : (member same : Bool) → is_member s.members m ≡ member → is_same b s.ballot ≡ same → member && same ≡ false → ScoutHears s part
         unheard member same e f g = record {
           fresh = [];
-          takes = λ p. absurd (true≢false (sym (ap₂ (λ x y. x && y) (sym e ∙ p.member) (sym f ∙ ap (λ z. is_same z s.ballot) p.same ∙ same_ballot s.ballot)) ∙ g));
+          takes = λ p. absurd (true≢false
+              (sym (ap₂ (λ x y. x && y) (sym e ∙ p.member)
+              (sym f ∙ ap (λ z. is_same z s.ballot) p.same ∙ same_ballot s.ballot)) ∙ g));
           same = unmoved_by (rest_of_scout base s) member same e f g (pvalues_from base []) part;
         }
 
@@ -163,9 +173,11 @@ module _ {C : Type 0} (base : ℕ) where
     pub record TakesWhole (s : Scouting C) (says : Heard) (some : Slots C) : Type 0 where
       pub taken : Slots C
       pub allows : AllowsAt l.proposals s says taken
-      pub done : at_heard (rest_of_leader base l) (kept_from base taken) (rest_of_scout base s) says ≡ at_heard (rest_of_leader base l) some (rest_of_scout base s) says
+      pub done : at_heard (rest_of_leader base l) (kept_from base taken) (rest_of_scout base s) says
+          ≡ at_heard (rest_of_leader base l) some (rest_of_scout base s) says
 
-    takes_whole_at : (s : Scouting C) (says : Heard) (some : Slots C) → AllowsAt (kept_from base l.proposals) (rest_of_scout base s) says some → TakesWhole s says some
+    takes_whole_at : (s : Scouting C) (says : Heard) (some : Slots C)
+        → AllowsAt (kept_from base l.proposals) (rest_of_scout base s) says some → TakesWhole s says some
     takes_whole_at s heard.Wait some allows = record { taken = empty; allows = tt; done = refl }
     takes_whole_at s heard.Adopted some allows = record {
       taken = whole l.proposals s.gathered some allows;
@@ -180,7 +192,9 @@ module _ {C : Type 0} (base : ℕ) where
     one_scout : (s t : Scouting C) → l.scout ≡ Some s → l.scout ≡ Some t → s ≡ t
     one_scout s t e f = cc
 
-    by_scout : (part : List (Pvalue C)) (some : Slots C) → Hears (rest_of_leader base l) m b (pvalues_from base report) part some → (o : Option (Scouting C)) → l.scout ≡ o → HearsWhole part some
+    by_scout : (part : List (Pvalue C)) (some : Slots C)
+        → Hears (rest_of_leader base l) m b (pvalues_from base report) part some → (o : Option (Scouting C))
+        → l.scout ≡ o → HearsWhole part some
     by_scout part some h None e = record {
       fresh = [];
       taken = empty;
@@ -195,13 +209,16 @@ module _ {C : Type 0} (base : ℕ) where
         let sh = scout_hears s part (h.gathers (rest_of_scout base s) stands) in
         let H = scouts.on_p1b s m b sh.fresh in
         let both = rest_scout base l s m b sh.fresh ∙ sh.same in
-        let tw = takes_whole_at H.scout H.says some (subst (λ (k : Hearing C). AllowsAt (kept_from base l.proposals) k.scout k.says some) (sym both) (h.takes (rest_of_scout base s) stands)) in
+        let tw = takes_whole_at H.scout H.says some
+        (subst (λ (k : Hearing C). AllowsAt (kept_from base l.proposals) k.scout k.says some) (sym both)
+        (h.takes (rest_of_scout base s) stands)) in
         record {
           fresh = sh.fresh;
           taken = tw.taken;
           hears = record {
             gathers = λ t f. subst (λ z. TakesFresh z m b report sh.fresh) (one_scout s t e f) sh.takes;
-            takes = λ t f. subst (λ z. AllowsAt l.proposals (scouts.on_p1b z m b sh.fresh).scout (scouts.on_p1b z m b sh.fresh).says tw.taken) (one_scout s t e f) tw.allows;
+            takes = λ t f. subst (λ z. AllowsAt l.proposals (scouts.on_p1b z m b sh.fresh).scout
+                (scouts.on_p1b z m b sh.fresh).says tw.taken) (one_scout s t e f) tw.allows;
           };
           done =
               rest_on_p1b base l m b sh.fresh tw.taken

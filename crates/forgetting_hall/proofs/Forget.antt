@@ -1,5 +1,6 @@
 -- Nodes that forget more show on what they showed.
-use Rattle.std.proofs.Common.{◌≡◌, ◌<◌, ◌≤◌, ℕ, zero, suc, Bool, true, false, true≢false, cond, List, [], ◌∷◌, length, map, Some, None, refl, sym, ap, ◌∙◌, subst, arith}
+use Rattle.std.proofs.Common.{◌≡◌, ◌<◌, ◌≤◌, ℕ, zero, suc, Bool, true, false, true≢false, cond, List, [], ◌∷◌, length}
+use Rattle.std.proofs.Common.{map, Some, None, refl, sym, ap, ◌∙◌, subst, arith}
 use Rattle.std.proofs.lemmas.List.{length-map}
 use Rattle.std.specs.Prelude.{nat_le, option_and_then, slice_index_or}
 use Rattle.std.proofs.lemmas.Bool.Decides.{nat_tests}
@@ -31,7 +32,8 @@ module _ {C : Type 0} (low high : ℕ) (h : low ≤ high) where
   })
 
   -- what is left of a letter then is left of what was left
-  slot_then : (s : ℕ) (b : LetterBody C) → rest_of_body high b ≡ if_from high s b → (x y : Bool) → nat_le low s ≡ x → nat_le high s ≡ y → option_and_then (rest_of_body high) (cond x (Some b) None) ≡ cond y (Some b) None
+  slot_then : (s : ℕ) (b : LetterBody C) → rest_of_body high b ≡ if_from high s b → (x y : Bool) → nat_le low s ≡ x
+      → nat_le high s ≡ y → option_and_then (rest_of_body high) (cond x (Some b) None) ≡ cond y (Some b) None
   slot_then s b e true y f g = e ∙ ap (λ t. cond t (Some b) None) g
   slot_then s b e false true f g = absurd (true≢false (sym (lower low high s h g) ∙ f))
   slot_then s b e false false f g = refl
@@ -53,16 +55,19 @@ module _ {C : Type 0} (low high : ℕ) (h : low ≤ high) where
     left = sym (body_then l.body) ∙ ap (option_and_then (rest_of_body high)) is.left ∙ body_then m.body;
   }
 
-node_mapped : {C : Type 0} (f : NodeState C → NodeState C) (nodes : List (NodeState C)) (i : ℕ) (d e : NodeState C) → i < length nodes → slice_index_or (map f nodes) i d ≡ f (slice_index_or nodes i e)
+node_mapped : {C : Type 0} (f : NodeState C → NodeState C) (nodes : List (NodeState C)) (i : ℕ) (d e : NodeState C)
+    → i < length nodes → slice_index_or (map f nodes) i d ≡ f (slice_index_or nodes i e)
 node_mapped f [] i d e h = absurd (omega arith)
 node_mapped f (x ∷ xs) zero d e h = refl
 node_mapped f (x ∷ xs) (suc i) d e h = node_mapped f xs i d e (omega arith)
 
-in_mapped : {C : Type 0} (f : NodeState C → NodeState C) (members : List ℕ) (nodes : List (NodeState C)) (n : ℕ) → 1 ≤ n → n ≤ length nodes → node_in members (map f nodes) n ≡ f (node_in members nodes n)
+in_mapped : {C : Type 0} (f : NodeState C → NodeState C) (members : List ℕ) (nodes : List (NodeState C)) (n : ℕ) → 1 ≤ n
+    → n ≤ length nodes → node_in members (map f nodes) n ≡ f (node_in members nodes n)
 in_mapped f members nodes zero l h = absurd (omega arith)
 in_mapped f members nodes (suc i) l h = node_mapped f nodes i (new_node members (suc i)) (new_node members (suc i)) (omega arith)
 
-module _ {C : Type 0} (low : ℕ) (k : NetworkState C) (w : Cluster C) (s : ShowsRest low k w) (high : ℕ) (more : low ≤ high) (out : (n : ℕ) → is_member k.members n ≡ true → high ≤ (node_of k n).replica.slot_out) where
+module _ {C : Type 0} (low : ℕ) (k : NetworkState C) (w : Cluster C) (s : ShowsRest low k w) (high : ℕ)
+    (more : low ≤ high) (out : (n : ℕ) → is_member k.members n ≡ true → high ≤ (node_of k n).replica.slot_out) where
   -- they show the world as before, from a higher base on
   pub forget_shows : ShowsRest high (forgotten_net high k) w
   forget_shows = record {

@@ -11,7 +11,8 @@ use Rattle.forgetting.proofs.Bases.{pvalues_twice}
 
 module _ {C : Type 0} (base : ℕ) where
   -- the rest of a rest is the rest
-  above_again : (s : ℕ) (b k : LetterBody C) → (test : Bool) → nat_le base s ≡ test → rest_of_body base b ≡ cond test (Some b) None → cond test (Some b) None ≡ Some k → rest_of_body base k ≡ Some k
+  above_again : (s : ℕ) (b k : LetterBody C) → (test : Bool) → nat_le base s ≡ test
+      → rest_of_body base b ≡ cond test (Some b) None → cond test (Some b) None ≡ Some k → rest_of_body base k ≡ Some k
   above_again s b k true e f g = let same : b ≡ k = cc in subst (λ q. rest_of_body base q ≡ Some q) same f
   above_again s b k false e f g = absurd (cc)
 
@@ -23,7 +24,9 @@ module _ {C : Type 0} (base : ℕ) where
 
   pub rest_again : (b k : LetterBody C) → rest_of_body base b ≡ Some k → rest_of_body base k ≡ Some k
   rest_again (P1a b) k e = subst (λ q. rest_of_body base q ≡ Some q) (same_body _ _ e) refl
-  rest_again (P1b b report) k e = subst (λ q. rest_of_body base q ≡ Some q) (same_body _ _ e) (ap (λ ps. Some (P1b b ps)) (pvalues_twice base base (omega arith) report))
+  rest_again (P1b b report) k e =
+      subst (λ q. rest_of_body base q ≡ Some q) (same_body _ _ e)
+      (ap (λ ps. Some (P1b b ps)) (pvalues_twice base base (omega arith) report))
   rest_again (P2a p) k e = at_slot p.slot (P2a p) k refl e
   rest_again (P2b o s by) k e = at_slot s (P2b o s by) k refl e
   rest_again (Propose s c) k e = at_slot s (Propose s c) k refl e
@@ -42,7 +45,9 @@ module _ {C : Type 0} (base : ℕ) where
       let same : record m { body = b } ≡ l = cc in
       subst (λ q. IsRestOf q m) same (record { sender = refl; receiver = refl; body = e })
 
-  rests_step : (l m : Letter C) (ms : List (Letter C)) (o : Option (Letter C)) → rest_of_letter base m ≡ o → In l (cons_option o (rests base ms)) → (In l (rests base ms) → (q : Letter C) × In q ms × IsRestOf l q) → (q : Letter C) × In q (m ∷ ms) × IsRestOf l q
+  rests_step : (l m : Letter C) (ms : List (Letter C)) (o : Option (Letter C)) → rest_of_letter base m ≡ o
+      → In l (cons_option o (rests base ms)) → (In l (rests base ms) → (q : Letter C) × In q ms × IsRestOf l q)
+      → (q : Letter C) × In q (m ∷ ms) × IsRestOf l q
   rests_step l m ms None e i more = let r = more i in (r.0, inr r.1, r.2)
   rests_step l m ms (Some k) e (inl same) more = (m, inl refl, of_letter m l (rest_of_body base m.body) refl (e ∙ ap (λ q. Some q) (sym same)))
   rests_step l m ms (Some k) e (inr i) more = let r = more i in (r.0, inr r.1, r.2)

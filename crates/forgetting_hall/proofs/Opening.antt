@@ -42,5 +42,6 @@ module _ {C : Type 0} (members : List ℕ) where
     letters = λ n l i. absurd (subst (In l) (new_mail (numbers members) n) i);
   }
 
-pub opening_obeys : {O Op Reply : Type 0} (rules : Rules O Op Reply) (members : List ℕ) → ObeyWorld rules (new_network members) (λ n. record { object = rules.fresh; latest = empty }) (new_cluster members)
+pub opening_obeys : {O Op Reply : Type 0} (rules : Rules O Op Reply) (members : List ℕ)
+    → ObeyWorld rules (new_network members) (λ n. record { object = rules.fresh; latest = empty }) (new_cluster members)
 opening_obeys rules members n member = ap (λ (x : NodeState (Command _)). obeyed rules (history x.replica)) (sym (new_in members (length members) n))

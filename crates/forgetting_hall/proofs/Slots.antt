@@ -41,7 +41,8 @@ module _ (laws : BallotLaws) {O Op Reply : Type 0} (rules : Rules O Op Reply) wh
   proposes_above w i (events.Deliver j) = tt
   proposes_above w i (events.Wake n) = tt
   proposes_above w i (events.Nudge n) = tt
-  proposes_above w i (events.Propose n) = λ s c e. let next = (next_open (node w.cluster n).replica s c e).next in let first = (books laws rules w i n).first in omega arith
+  proposes_above w i (events.Propose n) = λ s c e. let next =
+      (next_open (node w.cluster n).replica s c e).next in let first = (books laws rules w i n).first in omega arith
   proposes_above w i (events.Perform n) = tt
   proposes_above w i (events.Restart n) = tt
 
@@ -55,7 +56,8 @@ module _ (laws : BallotLaws) {O Op Reply : Type 0} (rules : Rules O Op Reply) wh
       (λ w v e i s f. mentions_step laws rules Above w v e (reachable_sound laws rules w i.reachable) s (proposes_above w i e) f)
 
   pub none_at_zero : (w : World Op Reply) → IsWorld rules w → (n : ℕ) → get (node w.cluster n).replica.decisions 0 ≡ None
-  none_at_zero w i n = nowhere (get (node w.cluster n).replica.decisions 0) (λ c e. let h = ((slots_above w i).nodes n).replica.decisions 0 c e in absurd (omega arith))
+  none_at_zero w i n = nowhere (get (node w.cluster n).replica.decisions 0)
+      (λ c e. let h = ((slots_above w i).nodes n).replica.decisions 0 c e in absurd (omega arith))
 
   module _ (w : World Op Reply) (i : IsWorld rules w) (n : ℕ) where
     was_submitted : (d : Command Op) → In d (history (node w.cluster n).replica) → WasSubmitted d w.happenings.submitted
@@ -66,7 +68,8 @@ module _ (laws : BallotLaws) {O Op Reply : Type 0} (rules : Rules O Op Reply) wh
     last_of_session : (c : Command Op) → IsLastSubmitted c w.happenings.submitted → IsLastOfSession c (history (node w.cluster n).replica)
     last_of_session c is = record {
       own = λ d j e. let t = was_submitted d j in sym t.2 ∙ is.own t.0 t.1 (same_when t.0.command.key c.key (ap (λ (k : Command Op). k.key) t.2 ∙ e));
-      last = λ d j e. let t = was_submitted d j in subst (λ (k : Command Op). k.key.number ≤ c.key.number) t.2 (is.last t.0 t.1 (ap (λ (k : Command Op). k.key.session) t.2 ∙ e));
+      last = λ d j e. let t = was_submitted d j in subst (λ (k : Command Op). k.key.number ≤ c.key.number) t.2
+          (is.last t.0 t.1 (ap (λ (k : Command Op). k.key.session) t.2 ∙ e));
     }
 
     pub asks_for_last : (d : Deed Op) → AsksForLastSubmitted d w.happenings.submitted → AsksForLast (node w.cluster n) d

@@ -62,7 +62,8 @@ abbrev pub acted_net_held : {O Op Reply : Type 0} → Rules O Op Reply → Netwo
 acted_net_held rules k objects n d = turned_net k n (turn_held rules k objects n d).state.state (turn_held rules k objects n d).sent
 
 -- the world's event is the node's deed: it makes a world that is shown then, with the same answers and outcome
-pub record FollowsDeed {O Op Reply : Type 0} (rules : Rules O Op Reply) (base : ℕ) (k : NetworkState (Command Op)) (objects : ℕ → Filtered O) (n : ℕ) (d : Deed Op) (w : World Op Reply) : Type 0 where
+pub record FollowsDeed {O Op Reply : Type 0} (rules : Rules O Op Reply) (base : ℕ) (k : NetworkState (Command Op))
+    (objects : ℕ → Filtered O) (n : ℕ) (d : Deed Op) (w : World Op Reply) : Type 0 where
   pub world : World Op Reply
   pub step : Step rules w (event_of n d) world
   pub shows : ShowsRest base (acted_net_held rules k objects n d) world.cluster
@@ -91,7 +92,8 @@ IsDeliveredSince {C} k n l left z =
     × ShowsReceived l.«from» (node_of k n) left x [] sent
 
 -- the world's event is that a letter is delivered, of which this was left
-pub record FollowsLetter {O Op Reply : Type 0} (rules : Rules O Op Reply) (base : ℕ) (left : LetterBody (Command Op)) (objects : ℕ → Filtered O) (z : NetworkState (Command Op)) (w : World Op Reply) : Type 0 where
+pub record FollowsLetter {O Op Reply : Type 0} (rules : Rules O Op Reply) (base : ℕ) (left : LetterBody (Command Op))
+    (objects : ℕ → Filtered O) (z : NetworkState (Command Op)) (w : World Op Reply) : Type 0 where
   pub place : ℕ
   pub letter : Letter (Command Op)
   pub sent : slice_get w.cluster.letters place ≡ Some letter

@@ -1,5 +1,6 @@
 -- A ticket's last command, handed in again.
-use Rattle.std.proofs.Common.{◌≡◌, inl, inr, ℕ, ◌<◌, Bool, true, false, true≢false, not, cond, List, [], ◌∷◌, ◌++◌, map, length, Option, Some, None, refl, sym, ap, ◌∙◌, subst}
+use Rattle.std.proofs.Common.{◌≡◌, inl, inr, ℕ, ◌<◌, Bool, true, false, true≢false, not, cond, List, [], ◌∷◌, ◌++◌, map}
+use Rattle.std.proofs.Common.{length, Option, Some, None, refl, sym, ap, ◌∙◌, subst}
 use Rattle.std.specs.Prelude.{◌&&◌, is_some}
 use Rattle.std.proofs.lemmas.Option.{none-some}
 use Rattle.std.proofs.lemmas.Bool.{and_parts}
@@ -48,15 +49,24 @@ found_at : {X : Type 0} (key_of : X → Key) (key : Key) (x : X) (xs : List X) �
 found_at key_of key x [] e = absurd (none-some x e)
 found_at {X} key_of key x (y ∷ ys) e = at (same_key (key_of y) key) refl (λ h. found_at key_of key x ys h) e
   where
-    at : (b : Bool) → same_key (key_of y) key ≡ b → (found key_of key ys ≡ Some x → In x ys × (key_of x ≡ key)) → cond b (Some y) (found key_of key ys) ≡ Some x → In x (y ∷ ys) × (key_of x ≡ key)
+    at : (b : Bool) → same_key (key_of y) key ≡ b → (found key_of key ys ≡ Some x → In x ys × (key_of x ≡ key))
+        → cond b (Some y) (found key_of key ys) ≡ Some x → In x (y ∷ ys) × (key_of x ≡ key)
     at true s more h = let same : y ≡ x = cc in (inl (sym same), subst (λ z. key_of z ≡ key) same (same_is (key_of y) key s))
     at false s more h = let r = more h in (inr r.0, r.1)
 
 pub once_told : {Op Reply : Type 0} (h : Happenings Op Reply) (xs : List (Submission Op)) → SubmittedOnce xs → SubmittedOnce (map (told_at h.answers) xs)
 once_told h [] once = tt
-once_told h (x ∷ xs) once = (λ y i e. let was = mapped_from (told_at h.answers) y xs i in once.0 was.0 was.1 (ap submitted_key (sym was.2) ∙ e), once_told h xs once.1)
+once_told h (x ∷ xs) once = (
+  λ y i e. let was =
+      mapped_from (told_at h.answers) y xs i in once.0 was.0 was.1
+      (ap submitted_key (sym was.2) ∙ e),
+  once_told h xs once.1,
+)
 
-module _ {O Op Reply : Type 0} (rules : Rules O Op Reply) (laws : HallLaws rules) (same : Op → Op → Bool) (exact : (x y : Op) → same x y ≡ true → x ≡ y) (v h : HallState Op Reply) (is : v ≡ h) (hall : IsHall rules v) (t : TicketState Op Reply) (n : ℕ) (none : resubmit_refusal same h t n ≡ None) (a : NotedAct Op Reply) (last : last_noted t ≡ Some a) where
+module _ {O Op Reply : Type 0} (rules : Rules O Op Reply) (laws : HallLaws rules) (same : Op → Op → Bool)
+    (exact : (x y : Op) → same x y ≡ true → x ≡ y) (v h : HallState Op Reply) (is : v ≡ h) (hall : IsHall rules v)
+    (t : TicketState Op Reply) (n : ℕ) (none : resubmit_refusal same h t n ≡ None) (a : NotedAct Op Reply)
+    (last : last_noted t ≡ Some a) where
   clear : (is_stranger h n ≡ false) × (is_own same h t ≡ true) × (is_full h ≡ false)
   clear =
       let first = passed (is_stranger h n) _ _ none in
@@ -103,10 +113,13 @@ module _ {O Op Reply : Type 0} (rules : Rules O Op Reply) (laws : HallLaws rules
   last_command_is = subst (λ (q : Command Op). IsCommand q) last_is (hall.booked.commands s there.0)
 
   once : SubmittedOnce v.nodes.past.happenings.submitted
-  once = let shown = hall.shown in subst (λ (g : Happenings Op Reply). SubmittedOnce g.submitted) (sym shown.2.happenings) (once_told shown.0.happenings shown.0.happenings.submitted (laws.once shown.0 shown.1))
+  once = let shown = hall.shown in subst (λ (g : Happenings Op Reply). SubmittedOnce g.submitted)
+      (sym shown.2.happenings) (once_told shown.0.happenings shown.0.happenings.submitted (laws.once shown.0 shown.1))
 
   own : IsItsOwn s.command v.nodes.past.happenings.submitted
-  own u i e = ap (λ (q : Submission Op). q.command) (once_one submitted_key v.nodes.past.happenings.submitted once u s i there.0 (same_is u.command.key s.command.key e))
+  own u i e = ap (λ (q : Submission Op). q.command)
+      (once_one submitted_key v.nodes.past.happenings.submitted once u s i there.0
+      (same_is u.command.key s.command.key e))
 
   known : is_submitted s.command.key v.nodes.past.happenings.submitted ≡ true
   known = key_stands submitted_key s.command.key s v.nodes.past.happenings.submitted there.0 refl
@@ -114,7 +127,15 @@ module _ {O Op Reply : Type 0} (rules : Rules O Op Reply) (laws : HallLaws rules
   same_past : (asked rules v.nodes n s.command).past ≡ v.nodes.past
   same_past = stays (is_submitted s.command.key v.nodes.past.happenings.submitted) known
     where
-      stays : (b : Bool) → b ≡ true → record v.nodes.past { happenings = cond b v.nodes.past.happenings (record v.nodes.past.happenings { submitted = v.nodes.past.happenings.submitted ++ (record { command = s.command; after = length v.nodes.past.happenings.answers } ∷ []) }) } ≡ v.nodes.past
+      stays : (b : Bool) → b ≡ true → record v.nodes.past {
+        happenings =
+            cond b v.nodes.past.happenings
+            (record v.nodes.past.happenings {
+              submitted =
+                  v.nodes.past.happenings.submitted ++
+                  (record { command = s.command; after = length v.nodes.past.happenings.answers } ∷ []);
+            });
+      } ≡ v.nodes.past
       stays true e = refl
       stays false e = absurd (true≢false (sym e))
 
@@ -126,7 +147,8 @@ module _ {O Op Reply : Type 0} (rules : Rules O Op Reply) (laws : HallLaws rules
     again_hall = subst (λ q. IsHall rules (with_nodes v q)) (sym as_asked) (again_is rules laws v hall n again_member again_room s.command own known)
 
     pub again_ok : with_nodes v k ≡ with_nodes h (asked rules h.nodes n (last_command t a.act))
-    again_ok = ap (with_nodes v) (e ∙ ap (asked rules v.nodes n) made) ∙ ap (λ (x : HallState Op Reply). with_nodes x (asked rules x.nodes n (last_command t a.act))) is
+    again_ok = ap (with_nodes v) (e ∙ ap (asked rules v.nodes n) made) ∙ ap
+        (λ (x : HallState Op Reply). with_nodes x (asked rules x.nodes n (last_command t a.act))) is
 
     pub again_follows : Follows rules h.nodes (Submit n (last_command t a.act)) k
     again_follows =

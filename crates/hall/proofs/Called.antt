@@ -52,29 +52,44 @@ module _ {Op Reply : Type 0} (v h : HallState Op Reply) (is : v ≡ h) where
     event_room = room_in parts.1
 
   -- what follows what the fields have follows what calls see
-  pub follows_in : {O : Type 0} (rules : Rules O Op Reply) (e : Event Op) (k z : RecordedState Op Reply) → z ≡ k → Follows rules v.nodes e k → Follows rules h.nodes e z
+  pub follows_in : {O : Type 0} (rules : Rules O Op Reply) (e : Event Op) (k z : RecordedState Op Reply) → z ≡ k
+      → Follows rules v.nodes e k → Follows rules h.nodes e z
   follows_in rules e k z same f = subst (λ (x : HallState Op Reply). Follows rules x.nodes e z) is (subst (Follows rules v.nodes e) (sym same) f)
 
   pub shows_in : (k z : RecordedState Op Reply) → z ≡ k → ShowsOn v.nodes k → ShowsOn h.nodes z
   shows_in k z same f = subst (λ (x : HallState Op Reply). ShowsOn x.nodes z) is (subst (ShowsOn v.nodes) (sym same) f)
 
-  pub received_in : (n : ℕ) (z : RecordedState Op Reply) → ((l : Letter (Command Op)) → front (mail_of v.nodes.network n) ≡ Some l → HasReceived v.nodes n l z) → (l : Letter (Command Op)) → front (mail_of h.nodes.network n) ≡ Some l → (k : RecordedState Op Reply) × HasReceived h.nodes n l k × (with_nodes v z ≡ with_nodes h k)
-  received_in n z ok = subst (λ (x : HallState Op Reply). (l : Letter (Command Op)) → front (mail_of x.nodes.network n) ≡ Some l → (k : RecordedState Op Reply) × HasReceived x.nodes n l k × (with_nodes v z ≡ with_nodes x k)) is (λ l e. (z, ok l e, refl))
+  pub received_in : (n : ℕ) (z : RecordedState Op Reply)
+      → ((l : Letter (Command Op)) → front (mail_of v.nodes.network n) ≡ Some l → HasReceived v.nodes n l z)
+      → (l : Letter (Command Op)) → front (mail_of h.nodes.network n) ≡ Some l → (k : RecordedState Op Reply)
+      × HasReceived h.nodes n l k × (with_nodes v z ≡ with_nodes h k)
+  received_in n z ok = subst (λ (x : HallState Op Reply). (l : Letter (Command Op))
+      → front (mail_of x.nodes.network n) ≡ Some l → (k : RecordedState Op Reply) × HasReceived x.nodes n l k
+      × (with_nodes v z ≡ with_nodes x k)) is (λ l e. (z, ok l e, refl))
 
-module _ {O Op Reply : Type 0} (rules : Rules O Op Reply) (laws : HallLaws rules) (v : HallState Op Reply) (hall : IsHall rules v) (n : ℕ) (z : RecordedState Op Reply) (none : front (mail_of v.nodes.network n) ≡ None → z ≡ v.nodes) where
+module _ {O Op Reply : Type 0} (rules : Rules O Op Reply) (laws : HallLaws rules) (v : HallState Op Reply)
+    (hall : IsHall rules v) (n : ℕ) (z : RecordedState Op Reply)
+    (none : front (mail_of v.nodes.network n) ≡ None → z ≡ v.nodes) where
   same_hall : z ≡ v.nodes → IsHall rules (with_nodes v z)
   same_hall e = subst (λ k. IsHall rules (with_nodes v k)) (sym e) hall
 
   -- whether there was a letter or not
-  pub delivered_is : is_member v.nodes.network.members n ≡ true → v.nodes.taken < most_events → ((l : Letter (Command Op)) → front (mail_of v.nodes.network n) ≡ Some l → HasReceived v.nodes n l z) → IsHall rules (with_nodes v z)
+  pub delivered_is : is_member v.nodes.network.members n ≡ true → v.nodes.taken < most_events
+      → ((l : Letter (Command Op)) → front (mail_of v.nodes.network n) ≡ Some l → HasReceived v.nodes n l z)
+      → IsHall rules (with_nodes v z)
   delivered_is member room ok =
       elim (front (mail_of v.nodes.network n)) as (λ o. front (mail_of v.nodes.network n) ≡ o → IsHall rules (with_nodes v z)) [
         | None ↦ λ e. same_hall (none e)
         | Some l ↦ λ e. received_is rules laws v hall n member room l e z (ok l e)
       ] refl
 
-  pub delivered_follows : is_member v.nodes.network.members n ≡ true → ((l : Letter (Command Op)) → front (mail_of v.nodes.network n) ≡ Some l → HasReceived v.nodes n l z) → (h : HallState Op Reply) → v ≡ h → (l : Letter (Command Op)) → front (mail_of h.nodes.network n) ≡ Some l → FollowsDelivery rules h.nodes l z
-  delivered_follows member ok h is = subst (λ (x : HallState Op Reply). (l : Letter (Command Op)) → front (mail_of x.nodes.network n) ≡ Some l → FollowsDelivery rules x.nodes l z) is (λ l e. receives_follow rules laws v.nodes n member l e z (ok l e))
+  pub delivered_follows : is_member v.nodes.network.members n ≡ true
+      → ((l : Letter (Command Op)) → front (mail_of v.nodes.network n) ≡ Some l → HasReceived v.nodes n l z)
+      → (h : HallState Op Reply) → v ≡ h → (l : Letter (Command Op)) → front (mail_of h.nodes.network n) ≡ Some l
+      → FollowsDelivery rules h.nodes l z
+  delivered_follows member ok h is =
+      subst (λ (x : HallState Op Reply). (l : Letter (Command Op)) → front (mail_of x.nodes.network n) ≡ Some l
+      → FollowsDelivery rules x.nodes l z) is (λ l e. receives_follow rules laws v.nodes n member l e z (ok l e))
 
   pub repeated_shows_on : ((l : Letter (Command Op)) → front (mail_of v.nodes.network n) ≡ Some l → z ≡ repeated v.nodes n l) → ShowsOn v.nodes z
   repeated_shows_on ok =
@@ -83,7 +98,8 @@ module _ {O Op Reply : Type 0} (rules : Rules O Op Reply) (laws : HallLaws rules
         | Some l ↦ λ e. subst (ShowsOn v.nodes) (sym (ok l e)) (repeated_still rules laws v.nodes n l e)
       ] refl
 
-  pub repeated_past : ((l : Letter (Command Op)) → front (mail_of v.nodes.network n) ≡ Some l → z ≡ repeated v.nodes n l) → (z.past ≡ v.nodes.past) × (z.taken ≡ v.nodes.taken)
+  pub repeated_past : ((l : Letter (Command Op)) → front (mail_of v.nodes.network n) ≡ Some l
+      → z ≡ repeated v.nodes n l) → (z.past ≡ v.nodes.past) × (z.taken ≡ v.nodes.taken)
   repeated_past ok =
       elim (front (mail_of v.nodes.network n)) as (λ o. front (mail_of v.nodes.network n) ≡ o → (z.past ≡ v.nodes.past) × (z.taken ≡ v.nodes.taken)) [
         | None ↦ λ e. (ap (λ (k : RecordedState Op Reply). k.past) (none e), ap (λ (k : RecordedState Op Reply). k.taken) (none e))

@@ -41,14 +41,19 @@ module _ {C : Type 0} where
   }
 
   -- node n has its turn, and so has the cluster's: others stay, and what is sent is sent there
-  module _ (k : NetworkState C) (w z : Cluster C) (shows : ShowsCluster k w) (n : ℕ) (member : is_member k.members n ≡ true) (x : NodeState C) (is : ShowsNode x (node z n)) (out : List (Letter C)) (members : z.members ≡ w.members) (others : (m : ℕ) → m ≢ n → node z m ≡ node w m) (sent : z.letters ≡ w.letters ++ out) where
+  module _ (k : NetworkState C) (w z : Cluster C) (shows : ShowsCluster k w) (n : ℕ)
+      (member : is_member k.members n ≡ true) (x : NodeState C) (is : ShowsNode x (node z n)) (out : List (Letter C))
+      (members : z.members ≡ w.members) (others : (m : ℕ) → m ≢ n → node z m ≡ node w m)
+      (sent : z.letters ≡ w.letters ++ out) where
     bounds : (1 ≤ n) × (n ≤ length k.nodes)
     bounds = let b = member_bounds k.members n member in let size = shows.has_nodes in (b.0, omega (arith, b.1))
 
     turned_node : (m : ℕ) → is_member k.members m ≡ true → ShowsNode (node_of (turned_net k n x out) m) (node z m)
     turned_node m other = ⊎_elim
-        (λ (e : m ≡ n). subst (λ j. ShowsNode (node_of (turned_net k n x out) j) (node z j)) (sym e) (subst (λ y. ShowsNode y (node z n)) (sym (node_put_same k.members k.nodes n x bounds.0 bounds.1)) is))
-        (λ (apart : m ≢ n). subst (λ y. ShowsNode y (node z m)) (sym (node_put_other k.members k.nodes n x m apart)) (subst (ShowsNode (node_of k m)) (sym (others m apart)) (shows.nodes m other)))
+        (λ (e : m ≡ n). subst (λ j. ShowsNode (node_of (turned_net k n x out) j) (node z j)) (sym e)
+        (subst (λ y. ShowsNode y (node z n)) (sym (node_put_same k.members k.nodes n x bounds.0 bounds.1)) is))
+        (λ (apart : m ≢ n). subst (λ y. ShowsNode y (node z m)) (sym (node_put_other k.members k.nodes n x m apart))
+        (subst (ShowsNode (node_of k m)) (sym (others m apart)) (shows.nodes m other)))
         (cases_eq m n)
 
     turned_letters : (m : ℕ) (l : Letter C) → In l (mail_of (turned_net k n x out) m) → In l z.letters × (l.to ≡ m)
@@ -75,7 +80,9 @@ module _ {C : Type 0} where
       has_mails = length-put_mail k.mails n mail ∙ shows.has_mails;
       nodes = shows.nodes;
       letters = λ m l i. ⊎_elim
-          (λ (e : m ≡ n). subst (λ p. In l w.letters × (l.to ≡ p)) (sym e) (shows.letters n l (within l (in_put_mail k.mails n mail l (subst (λ p. In l (mail_in (put_mail k.mails n mail) p)) e i)))))
+          (λ (e : m ≡ n). subst (λ p. In l w.letters × (l.to ≡ p)) (sym e)
+          (shows.letters n l (within l (in_put_mail k.mails n mail l
+          (subst (λ p. In l (mail_in (put_mail k.mails n mail) p)) e i)))))
           (λ (apart : m ≢ n). shows.letters m l (subst (In l) (mail_put_other k.mails n mail m apart) i))
           (cases_eq m n);
     }

@@ -1,5 +1,6 @@
 -- Recorded nodes that show a world show its next one.
-use Rattle.std.proofs.Common.{◌≡◌, inl, inr, ℕ, suc, ◌+◌, ◌<◌, ◌≤◌, true, List, [], ◌∷◌, ◌++◌, length, Option, Some, None, refl, sym, ap, ap₂, ◌∙◌, subst, append-nil, arith}
+use Rattle.std.proofs.Common.{◌≡◌, inl, inr, ℕ, suc, ◌+◌, ◌<◌, ◌≤◌, true, List, [], ◌∷◌, ◌++◌, length, Option, Some}
+use Rattle.std.proofs.Common.{None, refl, sym, ap, ap₂, ◌∙◌, subst, append-nil, arith}
 use Rattle.std.specs.Prelude.{slice_get}
 use Rattle.std.specs.Option.{option_to_list}
 use Rattle.object.specs.declared.command.Answer.{Answer}
@@ -40,7 +41,9 @@ use Rattle.hall.proofs.Told.{told_at, told_submission}
 
 -- a command that comes with its own key does so in the world
 own_there : {Op Reply : Type 0} (g h : Happenings Op Reply) → g ≡ told_once h → (c : Command Op) → IsItsOwn c g.submitted → IsItsOwn c h.submitted
-own_there {Op} g h same c own t i e = own (told_at h.answers t) (subst (λ (x : Happenings _ _). In (told_at h.answers t) x.submitted) (sym same) (In-map (told_at h.answers) t h.submitted i)) e
+own_there {Op} g h same c own t i e =
+    own (told_at h.answers t) (subst (λ (x : Happenings _ _). In (told_at h.answers t) x.submitted) (sym same)
+    (In-map (told_at h.answers) t h.submitted i)) e
 
 -- no answers are given
 no_answers : {Op Reply : Type 0} (h : Happenings Op Reply) → h ≡ with_answers [] h
@@ -63,7 +66,8 @@ no_key reach (Some x) = refl
 
 module _ {O Op Reply : Type 0} (rules : Rules O Op Reply) (laws : HallLaws rules) where
   -- node n of a network has its turn in the world
-  module _ (k : NetworkState (Command Op)) (w : World Op Reply) (i : IsWorld rules w) (s : ShowsCluster k w.cluster) (n : ℕ) (member : is_member k.members n ≡ true) where
+  module _ (k : NetworkState (Command Op)) (w : World Op Reply) (i : IsWorld rules w) (s : ShowsCluster k w.cluster)
+      (n : ℕ) (member : is_member k.members n ≡ true) where
     pub there : is_member w.cluster.members n ≡ true
     there = subst (λ ms. is_member ms n ≡ true) s.members member
 
@@ -74,14 +78,17 @@ module _ {O Op Reply : Type 0} (rules : Rules O Op Reply) (laws : HallLaws rules
     here y out = node_put_same w.cluster.members w.cluster.nodes n y in_place.0 in_place.1
 
     -- the cluster's turn is shown
-    pub turn_shows : (x : NodeState (Command Op)) (sent : List (Letter (Command Op))) (y : NodeState (Command Op)) (out : List (Letter (Command Op))) → ShowsNode x y → sent ≡ out → ShowsCluster (turned_net k n x sent) (turned w.cluster n y out)
+    pub turn_shows : (x : NodeState (Command Op)) (sent : List (Letter (Command Op))) (y : NodeState (Command Op))
+        (out : List (Letter (Command Op))) → ShowsNode x y → sent ≡ out
+        → ShowsCluster (turned_net k n x sent) (turned w.cluster n y out)
     turn_shows x sent y out is same =
         turned_shows k w.cluster (turned w.cluster n y out) s n member x (subst (ShowsNode x) (sym (here y out)) is) sent refl
         (λ m apart. node_put_other w.cluster.members w.cluster.nodes n y m apart)
         (ap (λ ls. w.cluster.letters ++ ls) (sym same))
 
     -- and so is a cluster that stays as it is, where the node's turn came to nothing
-    pub still_shows : (x : NodeState (Command Op)) (sent : List (Letter (Command Op))) → ShowsNode x (node w.cluster n) → sent ≡ [] → ShowsCluster (turned_net k n x sent) w.cluster
+    pub still_shows : (x : NodeState (Command Op)) (sent : List (Letter (Command Op))) → ShowsNode x (node w.cluster n)
+        → sent ≡ [] → ShowsCluster (turned_net k n x sent) w.cluster
     still_shows x sent is none =
         turned_shows k w.cluster w.cluster s n member x is sent refl (λ m apart. refl)
         (sym (append-nil w.cluster.letters) ∙ ap (λ ls. w.cluster.letters ++ ls) (sym none))
@@ -98,7 +105,8 @@ module _ {O Op Reply : Type 0} (rules : Rules O Op Reply) (laws : HallLaws rules
       same = ap (λ ms. acted rules ms n (node_of k n) d) s.members
 
       pub same_state : ShowsNode (turn_of rules k n d).state world_turn.state
-      same_state = subst (λ (t : Turn Op Reply). ShowsNode t.state world_turn.state) (sym same) ((laws.turn w.cluster.members n (node_of k n) (node w.cluster n) d shown).state)
+      same_state = subst (λ (t : Turn Op Reply). ShowsNode t.state world_turn.state) (sym same)
+          ((laws.turn w.cluster.members n (node_of k n) (node w.cluster n) d shown).state)
 
       pub same_sent : (turn_of rules k n d).sent ≡ world_turn.sent
       same_sent = ap (λ (t : Turn Op Reply). t.sent) same ∙ (laws.turn w.cluster.members n (node_of k n) (node w.cluster n) d shown).sent
@@ -121,7 +129,9 @@ module _ {O Op Reply : Type 0} (rules : Rules O Op Reply) (laws : HallLaws rules
       record {
         cluster = acts_shows k.network w i s.cluster n member (deeds.Request c);
         happenings = ap (with_submission c) s.happenings ∙ sym (told_submission c w.happenings);
-        order = laws.placed w _ (event_of n (deeds.Request c)) k.past.order i (submit n c (there k.network w i s.cluster n member) (own_there k.past.happenings w.happenings s.happenings c own)) s.order;
+        order = laws.placed w _ (event_of n (deeds.Request c)) k.past.order i
+            (submit n c (there k.network w i s.cluster n member)
+            (own_there k.past.happenings w.happenings s.happenings c own)) s.order;
         reach = s.reach;
         taken = ap (λ t. t + 1) s.taken;
       },
@@ -164,11 +174,15 @@ module _ {O Op Reply : Type 0} (rules : Rules O Op Reply) (laws : HallLaws rules
       abbrev x : NodeState (Command Op)
       x = node w.cluster n
 
-      performing_shows : (o : Option (Command Op)) (y : NodeState (Command Op)) (sent : List (Letter (Command Op))) → ShowsNode y (performing rules x o).state → sent ≡ (performing rules x o).sent → ShowsCluster (turned_net k.network n y sent) (after_performing rules w n x.replica o).cluster
+      performing_shows : (o : Option (Command Op)) (y : NodeState (Command Op)) (sent : List (Letter (Command Op)))
+          → ShowsNode y (performing rules x o).state → sent ≡ (performing rules x o).sent
+          → ShowsCluster (turned_net k.network n y sent) (after_performing rules w n x.replica o).cluster
       performing_shows None y sent is same = still_shows k.network w i s.cluster n member y sent is same
       performing_shows (Some c) y sent is same = turn_shows k.network w i s.cluster n member y sent _ [] is same
 
-      performing_happenings : (o : Option (Command Op)) → (after_performing rules w n x.replica o).happenings ≡ with_answers (performing rules x o).answers w.happenings
+      performing_happenings : (o : Option (Command Op))
+          → (after_performing rules w n x.replica o).happenings
+          ≡ with_answers (performing rules x o).answers w.happenings
       performing_happenings None = no_answers w.happenings
       performing_happenings (Some c) = refl
 
@@ -192,12 +206,18 @@ module _ {O Op Reply : Type 0} (rules : Rules O Op Reply) (laws : HallLaws rules
       world_next v e step = laws.next w v e i step room_there
 
       -- without an answer, and with nothing performed
-      quiet_shows : (d : Deed Op) (v : World Op Reply) → Step rules w (event_of n d) v → ShowsCluster (acted_net rules k.network n d) v.cluster → v.happenings ≡ w.happenings → (acted rules w.cluster.members n (node w.cluster n) d).answers ≡ [] → v.reach ≡ reach_after w.reach (outcome_of (node w.cluster n) d) → v.taken ≡ w.taken + 1 → placed_after w (event_of n d) k.past.order ≡ k.past.order → key_placed w.reach (outcome_of (node w.cluster n) d) ≡ None → Shows (done rules k n d) v
+      quiet_shows : (d : Deed Op) (v : World Op Reply) → Step rules w (event_of n d) v
+          → ShowsCluster (acted_net rules k.network n d) v.cluster → v.happenings ≡ w.happenings
+          → (acted rules w.cluster.members n (node w.cluster n) d).answers ≡ []
+          → v.reach ≡ reach_after w.reach (outcome_of (node w.cluster n) d) → v.taken ≡ w.taken + 1
+          → placed_after w (event_of n d) k.past.order ≡ k.past.order
+          → key_placed w.reach (outcome_of (node w.cluster n) d) ≡ None → Shows (done rules k n d) v
       quiet_shows d v step cluster same none reach taken stays quiet =
           done_shows d w v i (world_next v (event_of n d) step) s cluster
           (same ∙ no_answers w.happenings ∙ ap (λ answers. with_answers answers w.happenings) (sym none))
           reach taken
-          (subst (HasPlaced v) (sym (append-nil k.past.order) ∙ ap (λ o. k.past.order ++ option_to_list o) (sym quiet)) (subst (HasPlaced v) stays (laws.placed w v (event_of n d) k.past.order i step s.order)))
+          (subst (HasPlaced v) (sym (append-nil k.past.order) ∙ ap (λ o. k.past.order ++ option_to_list o) (sym quiet))
+          (subst (HasPlaced v) stays (laws.placed w v (event_of n d) k.past.order i step s.order)))
 
       pub deed_follows : (d : Deed Op) → IsOwnDeed d → (v : World Op Reply) × Step rules w (event_of n d) v × Shows (done rules k n d) v
       deed_follows (deeds.Request c) own = absurd own
@@ -209,15 +229,23 @@ module _ {O Op Reply : Type 0} (rules : Rules O Op Reply) (laws : HallLaws rules
           (_, step, quiet_shows deeds.Nudge _ step (acts_shows k.network w i s.cluster n member deeds.Nudge) refl refl refl refl refl refl)
       deed_follows deeds.Propose own =
           let step = propose n member_there in
-          let next = next_proposal (node w.cluster n).replica in
-          (_, step, quiet_shows deeds.Propose _ step (acts_shows k.network w i s.cluster n member deeds.Propose) refl refl (no_reach w.reach next) refl refl (no_key w.reach next))
+          let next = next_proposal (node w.cluster n).replica in (
+            _,
+            step,
+            quiet_shows deeds.Propose _ step
+                (acts_shows k.network w i s.cluster n member deeds.Propose) refl refl (no_reach w.reach next) refl refl
+                (no_key w.reach next),
+          )
       deed_follows deeds.Perform own =
           let step = perform n member_there in
           let next = next_decided (node w.cluster n).replica in (
             _,
             step,
             done_shows deeds.Perform w _ i (world_next _ (event_of n deeds.Perform) step) s
-                (performing_shows w i s next (turn_of rules k.network n deeds.Perform).state (turn_of rules k.network n deeds.Perform).sent (same_state k.network w i s.cluster n member deeds.Perform) (same_sent k.network w i s.cluster n member deeds.Perform))
+                (performing_shows w i s next (turn_of rules k.network n deeds.Perform).state
+                (turn_of rules k.network n deeds.Perform).sent
+                (same_state k.network w i s.cluster n member deeds.Perform)
+                (same_sent k.network w i s.cluster n member deeds.Perform))
                 (performing_happenings w i s next)
                 (performing_reach w i s next)
                 (ap (λ t. t + 1) (performing_taken w i s next))
@@ -228,7 +256,8 @@ module _ {O Op Reply : Type 0} (rules : Rules O Op Reply) (laws : HallLaws rules
           (_, step, quiet_shows deeds.Restart _ step (acts_shows k.network w i s.cluster n member deeds.Restart) refl refl refl refl refl refl)
 
     -- the letter in front of node n's mail is received
-    pub receives_follow : (l : Letter (Command Op)) → front (mail_of k.network n) ≡ Some l → (z : RecordedState Op Reply) → HasReceived k n l z → FollowsDelivery rules k l z
+    pub receives_follow : (l : Letter (Command Op)) → front (mail_of k.network n) ≡ Some l
+        → (z : RecordedState Op Reply) → HasReceived k n l z → FollowsDelivery rules k l z
     receives_follow l e z received w i s =
         let net = received.0 in
         let delivered = received.1 in
@@ -244,15 +273,20 @@ module _ {O Op Reply : Type 0} (rules : Rules O Op Reply) (laws : HallLaws rules
         subst (λ m. Receives w.cluster.members l.«from» m (node w.cluster n) l.body y out) seated.node
         (subst (λ ms. Receives ms l.«from» (number_of (node w.cluster n)) (node w.cluster n) l.body y out) seated.speaks shown.2.1) in
         let v : World Op Reply = counted (with_cluster w (turned w.cluster l.to y out)) in
-        let step : Step rules w (Deliver place.0) v = deliver place.0 l y out place.1 (subst (λ m. Receives w.cluster.members l.«from» m (node w.cluster m) l.body y out) (sym was.1) receives) in
-        let cluster : ShowsCluster (turned_net (without_front k.network n) n x sent) (turned w.cluster n y out) = turn_shows (without_front k.network n) w i (lost_shows k.network w.cluster s.cluster n) n member x sent y out shown.1 shown.2.2 in (
+        let step : Step rules w (Deliver place.0) v =
+        deliver place.0 l y out place.1
+        (subst (λ m. Receives w.cluster.members l.«from» m (node w.cluster m) l.body y out) (sym was.1) receives) in
+        let cluster : ShowsCluster (turned_net (without_front k.network n) n x sent) (turned w.cluster n y out) =
+        turn_shows (without_front k.network n) w i
+        (lost_shows k.network w.cluster s.cluster n) n member x sent y out shown.1 shown.2.2 in (
           place.0,
           v,
           place.1,
           step,
           subst (λ (q : RecordedState Op Reply). Shows q v) (sym received.2)
               (record {
-                cluster = subst (λ m. ShowsCluster net (turned w.cluster m y out)) (sym was.1) (subst (λ q. ShowsCluster q (turned w.cluster n y out)) (sym delivered.2) cluster);
+                cluster = subst (λ m. ShowsCluster net (turned w.cluster m y out)) (sym was.1)
+                    (subst (λ q. ShowsCluster q (turned w.cluster n y out)) (sym delivered.2) cluster);
                 happenings = s.happenings;
                 order = laws.placed w v (Deliver place.0) k.past.order i step s.order;
                 reach = s.reach;

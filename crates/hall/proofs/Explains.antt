@@ -48,13 +48,15 @@ module _ {O Op Reply : Type 0} (rules : Rules O Op Reply) (h : Happenings Op Rep
     later = λ s i a j m n given stands.
         let was = mapped_from (told_at h.answers) s h.submitted i in
         let t : Submission Op = was.0 in
-        let old : In a (given_before (told_at h.answers t) (firsts answered_key h.answers)) = subst (λ (q : Submission Op). In a (given_before q (firsts answered_key h.answers))) was.2 j in
+        let old : In a (given_before (told_at h.answers t) (firsts answered_key h.answers)) =
+        subst (λ (q : Submission Op). In a (given_before q (firsts answered_key h.answers))) was.2 j in
         legal.later t was.1 a (firsts_in answered_key a (take t.after h.answers) (subst (In a) (before_at t.after) old)) m n given
         (subst (λ (q : Submission Op). StandsAt q.command.key order n) was.2 stands);
   }
 
   -- the first answer to a key is the only one that the order brings
-  pub told_first : ((place : ℕ) (a : Answer Reply) → IsGivenAt rules order place a → In a h.answers) → (place : ℕ) (a : Answer Reply) → IsGivenAt rules order place a → In a (firsts answered_key h.answers)
+  pub told_first : ((place : ℕ) (a : Answer Reply) → IsGivenAt rules order place a → In a h.answers)
+      → (place : ℕ) (a : Answer Reply) → IsGivenAt rules order place a → In a (firsts answered_key h.answers)
   told_first told place a given =
       let first = first_of answered_key a h.answers (told place a given) in
       let own = legal.answered first.0 (firsts_in answered_key first.0 h.answers first.1) in
@@ -66,11 +68,14 @@ module _ {O Op Reply : Type 0} (rules : Rules O Op Reply) (h : Happenings Op Rep
       subst (λ (b : Answer Reply). In b (firsts answered_key h.answers)) one first.1
 
 -- what a hall shows is explained
-pub explains : {O Op Reply : Type 0} (rules : Rules O Op Reply) (laws : HallLaws rules) (promise : List (Command Op) → Type 0) → ((cs : List (Command Op)) → promise cs) → (k : RecordedState Op Reply) (w : World Op Reply) → IsWorld rules w → Shows k w → IsExplained rules promise k.past
+pub explains : {O Op Reply : Type 0} (rules : Rules O Op Reply) (laws : HallLaws rules)
+    (promise : List (Command Op) → Type 0) → ((cs : List (Command Op)) → promise cs)
+    → (k : RecordedState Op Reply) (w : World Op Reply) → IsWorld rules w → Shows k w → IsExplained rules promise k.past
 explains {Op = Op} {Reply = Reply} rules laws promise promises k w i s = record {
   order = kept s.order.0;
   keys = s.order.2;
-  legal = subst (λ h. IsLegal rules h (kept s.order.0)) (sym s.happenings) (legal_once rules w.happenings (kept s.order.0) (laws.legal_so_far w i s.order.0 s.order.1));
+  legal = subst (λ h. IsLegal rules h (kept s.order.0)) (sym s.happenings)
+      (legal_once rules w.happenings (kept s.order.0) (laws.legal_so_far w i s.order.0 s.order.1));
   told = λ place a given.
       subst (λ (h : Happenings Op Reply). In a h.answers) (sym s.happenings)
       (told_first rules w.happenings (kept s.order.0) (laws.legal_so_far w i s.order.0 s.order.1) (laws.told w i s.order.0 s.order.1) place a given);

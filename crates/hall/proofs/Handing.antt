@@ -1,5 +1,6 @@
 -- Commands that are handed in.
-use Rattle.std.proofs.Common.{◌≡◌, ℕ, zero, suc, ◌+◌, ◌-◌, ◌<◌, ◌≤◌, max, true, false, true≢false, not, List, Option, Some, None, refl, sym, ap, ◌∙◌, subst, arith}
+use Rattle.std.proofs.Common.{◌≡◌, ℕ, zero, suc, ◌+◌, ◌-◌, ◌<◌, ◌≤◌, max, true, false, true≢false, not, List, Option}
+use Rattle.std.proofs.Common.{Some, None, refl, sym, ap, ◌∙◌, subst, arith}
 use Rattle.std.specs.Prelude.{◌^◌, slice_set, SomeIff, IsSome}
 use Rattle.std.proofs.lemmas.Option.{none-some}
 use Rattle.object.specs.Commands.{IsCommand, MayAsk}
@@ -66,11 +67,15 @@ module _ {O Op Reply : Type 0} (rules : Rules O Op Reply) (laws : HallLaws rules
           allowed = may_ask key act (opened_bounds v.book key.session next_in.opened).0 own;
         }
 
-    pub next_is : (n : ℕ) → is_member h.nodes.network.members n ≡ true → (k : RecordedState Op Reply) (c : Command Op) → c ≡ record { key = key; act = act } → k ≡ asked rules v.nodes n c → (book : List ℕ) → book ≡ slice_set v.book (key.session - 1) key.number → IsHall rules (record { nodes = k; book = book; second = v.second })
+    pub next_is : (n : ℕ) → is_member h.nodes.network.members n ≡ true → (k : RecordedState Op Reply) (c : Command Op)
+        → c ≡ record { key = key; act = act } → k ≡ asked rules v.nodes n c → (book : List ℕ)
+        → book ≡ slice_set v.book (key.session - 1) key.number
+        → IsHall rules (record { nodes = k; book = book; second = v.second })
     next_is n member k c made e book set =
         let there = member_there n member in
         let now : k ≡ asked rules v.nodes n (record { key = key; act = act }) = e ∙ ap (asked rules v.nodes n) made in
-        let at : book ≡ with_number v.book key.session key.number = set ∙ number_at v.book key.session key.number (opened_bounds v.book key.session next_in.opened).0 in
+        let at : book ≡ with_number v.book key.session key.number =
+        set ∙ number_at v.book key.session key.number (opened_bounds v.book key.session next_in.opened).0 in
         subst (IsHall rules) (λ i. record { nodes = sym now i; book = sym at i; second = v.second })
         (submitted_is rules laws v hall n there room_there (record { key = key; act = act }) next_in command_is)
 
@@ -88,7 +93,9 @@ module _ {O Op Reply : Type 0} (rules : Rules O Op Reply) (laws : HallLaws rules
     pub tick_room : v.nodes.taken < most_events
     tick_room = room_in v h is clear.1
 
-    pub tick_is : IsCommand {Op = Op} (tick_of second) → (k : RecordedState Op Reply) (c : Command Op) → c ≡ tick_of second → k ≡ asked rules v.nodes n c → (last : ℕ) → last ≡ max v.second second → IsHall rules (record { nodes = k; book = v.book; second = last })
+    pub tick_is : IsCommand {Op = Op} (tick_of second) → (k : RecordedState Op Reply) (c : Command Op)
+        → c ≡ tick_of second → k ≡ asked rules v.nodes n c → (last : ℕ) → last ≡ max v.second second
+        → IsHall rules (record { nodes = k; book = v.book; second = last })
     tick_is command k c made e last greatest =
         let now : k ≡ asked rules v.nodes n (tick_of second) = e ∙ ap (asked rules v.nodes n) made in
         subst (IsHall rules) (λ i. record { nodes = sym now i; book = v.book; second = sym greatest i })

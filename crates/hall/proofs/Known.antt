@@ -48,7 +48,9 @@ key_stands key_of key x (y ∷ ys) (inr i) e = later (same_key (key_of y) key) (
     later true h = refl
     later false h = h
 
-module _ {O Op Reply : Type 0} (rules : Rules O Op Reply) (laws : HallLaws rules) (k : RecordedState Op Reply) (w : World Op Reply) (i : IsWorld rules w) (s : Shows k w) (n : ℕ) (member : is_member k.network.members n ≡ true) where
+module _ {O Op Reply : Type 0} (rules : Rules O Op Reply) (laws : HallLaws rules) (k : RecordedState Op Reply)
+    (w : World Op Reply) (i : IsWorld rules w) (s : Shows k w) (n : ℕ)
+    (member : is_member k.network.members n ≡ true) where
   abbrev x : NodeState (Command Op)
   x = node w.cluster n
 
@@ -100,19 +102,23 @@ module _ {O Op Reply : Type 0} (rules : Rules O Op Reply) (laws : HallLaws rules
         ∙ ap (is_submitted key) (sym (submitted_same next))
         ∙ h
 
-    given_then : (o : Option (Command Op)) (a : Answer Reply) → In a (performing rules x o).answers → In a (after_performing rules w n x.replica o).happenings.answers
+    given_then : (o : Option (Command Op)) (a : Answer Reply) → In a (performing rules x o).answers
+        → In a (after_performing rules w n x.replica o).happenings.answers
     given_then None a j = absurd j
     given_then (Some c) a j = In-right a w.happenings.answers (performing rules x (Some c)).answers j
 
     -- what is performed past the reach takes effect then
     placed_then : (key : Key) → key_placed w.reach (outcome_of x deeds.Perform) ≡ Some key → is_submitted key v.happenings.submitted ≡ true
     placed_then key e =
-        let has : HasPlaced v (k.past.order ++ (key ∷ [])) = subst (λ o. HasPlaced v (k.past.order ++ option_to_list o)) e (laws.placed w v (event_of n deeds.Perform) k.past.order i step s.order) in
+        let has : HasPlaced v (k.past.order ++ (key ∷ [])) =
+        subst (λ o. HasPlaced v (k.past.order ++ option_to_list o)) e
+        (laws.placed w v (event_of n deeds.Perform) k.past.order i step s.order) in
         let c = mapped_from (λ (c : Command Op). c.key) key (kept has.0) (subst (In key) has.2 (In-right key k.past.order (key ∷ []) (inl refl))) in
         let was : WasSubmitted c.0 v.happenings.submitted = (laws.legal_so_far v world has.0 has.1).submitted c.0 c.1 in
         key_stands submitted_key key was.0 v.happenings.submitted was.1 (ap (λ (d : Command Op). d.key) was.2 ∙ sym c.2)
 
-    pub answered_there : (d : Deed Op) → IsOwnDeed d → (a : Answer Reply) → In a (turn_of rules k.network n d).answers → is_submitted a.to k.past.happenings.submitted ≡ true
+    pub answered_there : (d : Deed Op) → IsOwnDeed d → (a : Answer Reply) → In a (turn_of rules k.network n d).answers
+        → is_submitted a.to k.past.happenings.submitted ≡ true
     answered_there (deeds.Request c) own a j = absurd own
     answered_there deeds.Wake own a j = absurd j
     answered_there deeds.Nudge own a j = absurd j
@@ -121,7 +127,9 @@ module _ {O Op Reply : Type 0} (rules : Rules O Op Reply) (laws : HallLaws rules
         known a.to (laws.answered_known v world a (given_then next a (subst (In a) (same_answers rules laws k.network w i s.cluster n member deeds.Perform) j)))
     answered_there deeds.Restart own a j = absurd j
 
-    pub placed_there : (d : Deed Op) → IsOwnDeed d → (key : Key) → key_placed k.reach (outcome_of (node_of k.network n) d) ≡ Some key → is_submitted key k.past.happenings.submitted ≡ true
+    pub placed_there : (d : Deed Op) → IsOwnDeed d → (key : Key)
+        → key_placed k.reach (outcome_of (node_of k.network n) d) ≡ Some key
+        → is_submitted key k.past.happenings.submitted ≡ true
     placed_there (deeds.Request c) own key e = absurd own
     placed_there deeds.Wake own key e = absurd (none-some key e)
     placed_there deeds.Nudge own key e = absurd (none-some key e)

@@ -50,7 +50,8 @@ module _ {O Op Reply : Type 0} (rules : Rules O Op Reply) (laws : HallLaws rules
       let next = follows h.0 h.1 h.2 in
       (next.0, laws.next h.0 next.0 e h.1 next.1 (room_in k h.0 h.2 room), next.2)
 
-  pub shown_delivered : (k z : RecordedState Op Reply) (l : Letter (Command Op)) → FollowsDelivery rules k l z → k.taken < most_events → IsShown rules k → IsShown rules z
+  pub shown_delivered : (k z : RecordedState Op Reply) (l : Letter (Command Op)) → FollowsDelivery rules k l z
+      → k.taken < most_events → IsShown rules k → IsShown rules z
   shown_delivered k z l follows room h =
       let next = follows h.0 h.1 h.2 in
       (next.1, laws.next h.0 next.1 _ h.1 next.3 (room_in k h.0 h.2 room), next.4)
@@ -118,9 +119,11 @@ module _ {O Op Reply : Type 0} (rules : Rules O Op Reply) (laws : HallLaws rules
       let same = placed_happenings o r in
       let was : k.past.happenings.answers ≡ firsts answered_key h.0.happenings.answers = ap (λ (g : Happenings Op Reply). g.answers) h.2.happenings in
       record {
-        submitted = subst (λ (g : Happenings Op Reply). IsBeginning k.past.happenings.submitted g.submitted) (sym same) (begins_itself k.past.happenings.submitted);
+        submitted = subst (λ (g : Happenings Op Reply). IsBeginning k.past.happenings.submitted g.submitted) (sym same)
+            (begins_itself k.past.happenings.submitted);
         answers = subst (λ (g : Happenings Op Reply). IsBeginning k.past.happenings.answers g.answers) (sym same)
             (subst (λ xs. IsBeginning xs (firsts answered_key (xs ++ given))) (sym was)
-            (subst (IsBeginning (firsts answered_key h.0.happenings.answers)) (laws.cut h.0.happenings.answers given) (firsts_begin answered_key h.0.happenings.answers given)));
+            (subst (IsBeginning (firsts answered_key h.0.happenings.answers)) (laws.cut h.0.happenings.answers given)
+            (firsts_begin answered_key h.0.happenings.answers given)));
         order = placed_on o r;
       }

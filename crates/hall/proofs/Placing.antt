@@ -19,7 +19,9 @@ use Rattle.hall.proofs.Told.{told_answers}
 pub last_apart : (key : Key) (keys : List Key) → KeysOnce own_key (keys ++ (key ∷ [])) → stands own_key key keys ≡ false
 last_apart key [] once = refl
 last_apart key (k ∷ keys) once =
-    ap (λ b. b || stands own_key key keys) (false_from_ne_true (same_key k key) (λ e. once.0 key (In-right key keys (key ∷ []) (inl refl)) (sym (same_is k key e))))
+    ap (λ b. b || stands own_key key keys)
+    (false_from_ne_true (same_key k key)
+    (λ e. once.0 key (In-right key keys (key ∷ []) (inl refl)) (sym (same_is k key e))))
     ∙ last_apart key keys once.1
 
 module _ {Op Reply : Type 0} where
@@ -33,12 +35,15 @@ module _ {Op Reply : Type 0} where
   placed_happenings (Some key) r = placed_by (stands own_key key r.order) key r
 
   -- and its key is the last of the order
-  pub placed_order : (o : Option Key) (r : Record Op Reply) → KeysOnce own_key (r.order ++ option_to_list o) → (with_place_if o r).order ≡ r.order ++ option_to_list o
+  pub placed_order : (o : Option Key) (r : Record Op Reply) → KeysOnce own_key (r.order ++ option_to_list o)
+      → (with_place_if o r).order ≡ r.order ++ option_to_list o
   placed_order None r once = sym (append-nil r.order)
   placed_order (Some key) r once = ap (λ b. (cond b r (record r { order = r.order ++ (key ∷ []) })).order) (last_apart key r.order once)
 
   -- answers that are given to what was told once
-  pub first_answers_told : ((xs ys : List (Answer Reply)) → CutsBefore answered_key xs ys) → (r : Record Op Reply) (h : Happenings Op Reply) (given : List (Answer Reply)) → r.happenings ≡ told_once h → IsTimeline h → (with_first_answers given r).happenings ≡ told_once (with_answers given h)
+  pub first_answers_told : ((xs ys : List (Answer Reply)) → CutsBefore answered_key xs ys)
+      → (r : Record Op Reply) (h : Happenings Op Reply) (given : List (Answer Reply)) → r.happenings ≡ told_once h
+      → IsTimeline h → (with_first_answers given r).happenings ≡ told_once (with_answers given h)
   first_answers_told cut r h given same t =
       ap (λ (g : Happenings Op Reply). record g { answers = firsts answered_key (g.answers ++ given) }) same
       ∙ ap (λ xs. record { submitted = (told_once h).submitted; answers = xs }) (sym (cut h.answers given))

@@ -82,7 +82,10 @@ same_maps f g [] same = refl
 same_maps f g (x ∷ xs) same = ap₂ (λ y ys. y ∷ ys) (same x (inl refl)) (same_maps f g xs (λ y i. same y (inr i)))
 
 -- a test of submissions that looks at their commands alone finds the same
-any_told : {Op Reply : Type 0} (answers : List (Answer Reply)) (p : Command Op → Bool) (submitted : List (Submission Op)) → list_any (λ s. p s.command) (told_once (record { submitted = submitted; answers = answers })).submitted ≡ list_any (λ s. p s.command) submitted
+any_told : {Op Reply : Type 0} (answers : List (Answer Reply)) (p : Command Op → Bool)
+    (submitted : List (Submission Op))
+    → list_any (λ s. p s.command) (told_once (record { submitted = submitted; answers = answers })).submitted
+    ≡ list_any (λ s. p s.command) submitted
 any_told answers p [] = refl
 any_told answers p (s ∷ more) = ap (λ b. p s.command || b) (any_told answers p more)
 
@@ -94,7 +97,9 @@ module _ {Op Reply : Type 0} where
   told_submitted h key = any_told h.answers (λ c. same_key c.key key) h.submitted
 
   -- answers change nothing of what was submitted before them
-  pub told_answers : (h : Happenings Op Reply) (given : List (Answer Reply)) → IsTimeline h → told_once (with_answers given h) ≡ record { submitted = (told_once h).submitted; answers = firsts answered_key (h.answers ++ given) }
+  pub told_answers : (h : Happenings Op Reply) (given : List (Answer Reply)) → IsTimeline h
+      → told_once (with_answers given h)
+      ≡ record { submitted = (told_once h).submitted; answers = firsts answered_key (h.answers ++ given) }
   told_answers h given t =
       let same = same_maps (told_at (h.answers ++ given)) (told_at h.answers) h.submitted
       (λ s i. ap (λ xs. record { command = s.command; after = length (firsts answered_key xs) }) (take-append-le s.after h.answers given (t.within s i))) in
@@ -107,7 +112,12 @@ module _ {Op Reply : Type 0} where
       ∙ ap (λ b. if b then told_once h else new) (sym (told_submitted h c.key))
     where
       new : Happenings Op Reply
-      new = record { submitted = (told_once h).submitted ++ (record { command = c; after = length (firsts answered_key h.answers) } ∷ []); answers = firsts answered_key h.answers }
+      new = record {
+        submitted = (told_once h).submitted ++
+            (record { command = c; after = length (firsts answered_key h.answers) } ∷ []);
+        answers =
+            firsts answered_key h.answers;
+      }
 
       longer : Happenings Op Reply
       longer = record { submitted = h.submitted ++ (record { command = c; after = length h.answers } ∷ []); answers = h.answers }
@@ -118,6 +128,8 @@ module _ {Op Reply : Type 0} where
       pushed : (b : Bool) → told_once (if b then h else longer) ≡ (if b then told_once h else new)
       pushed true = refl
       pushed false = λ i. record {
-        submitted = (map-append (told_at h.answers) h.submitted (record { command = c; after = length h.answers } ∷ []) ∙ ap (λ s. map (told_at h.answers) h.submitted ++ (s ∷ [])) last) i;
+        submitted = (map-append (told_at h.answers) h.submitted
+            (record { command = c; after = length h.answers } ∷ []) ∙ ap
+            (λ s. map (told_at h.answers) h.submitted ++ (s ∷ [])) last) i;
         answers = firsts answered_key h.answers;
       }

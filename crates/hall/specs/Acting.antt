@@ -21,7 +21,8 @@ came_to (Err e) = Err e
 
 -- At Ok node n has done this, which is the event of that name; what happened before stays, and so does the book. Else the
 -- call was refused, for the first reason that stands, and nothing changed.
-pub record Acts {O Op Reply : Type 0} (rules : Rules O Op Reply) (n : ℕ) (deed : Deed Op) (old new : HallState Op Reply) (result : Result Unit HallError) : Type 0 where
+pub record Acts {O Op Reply : Type 0} (rules : Rules O Op Reply) (n : ℕ) (deed : Deed Op) (old new : HallState Op Reply)
+    (result : Result Unit HallError) : Type 0 where
   pub ok : OnOk result (new ≡ with_nodes old (done rules old.nodes n deed))
   pub event : OnOk result (Follows rules old.nodes (event_of n deed) new.nodes)
   pub begun : IsBegun old.nodes.past new.nodes.past

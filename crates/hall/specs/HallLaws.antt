@@ -39,13 +39,15 @@ pub record HallLaws {O Op Reply : Type 0} (rules : Rules O Op Reply) : Type 0 wh
   pub letters : InEvery rules (λ w. (i : ℕ) (l : Letter (Command Op)) → slice_get w.cluster.letters i ≡ Some l → IsReceivable w.cluster l)
   pub once : InEvery rules (λ w. SubmittedOnce w.happenings.submitted)
   pub timeline : InEvery rules (λ w. IsTimeline w.happenings)
-  pub placed : (w v : World Op Reply) (e : Event Op) (keys : List Key) → IsWorld rules w → Step rules w e v → HasPlaced w keys → HasPlaced v (placed_after w e keys)
+  pub placed : (w v : World Op Reply) (e : Event Op) (keys : List Key) → IsWorld rules w → Step rules w e v
+      → HasPlaced w keys → HasPlaced v (placed_after w e keys)
   pub placed_once : InEvery rules (λ w. (keys : List Key) → HasPlaced w keys → KeysOnce (λ k. k) keys)
   pub legal_so_far : InEvery rules (λ w. (cs : List (Command Op)) → IsReached w cs → IsLegal rules w.happenings (kept cs))
   pub told : InEvery rules (TellsReached rules)
   pub answered_known : InEvery rules (λ w. (a : Answer Reply) → In a w.happenings.answers → is_submitted a.to w.happenings.submitted ≡ true)
   pub able : (kept x : NodeState (Command Op)) (d : Deed Op) → ShowsNode kept x → IsAble x d → IsAble kept d
-  pub turn : (members : List ℕ) (n : ℕ) (kept x : NodeState (Command Op)) (d : Deed Op) → ShowsNode kept x → IsSameTurn (acted rules members n kept d) (acted rules members n x d)
+  pub turn : (members : List ℕ) (n : ℕ) (kept x : NodeState (Command Op)) (d : Deed Op) → ShowsNode kept x
+      → IsSameTurn (acted rules members n kept d) (acted rules members n x d)
   pub outcome : (kept x : NodeState (Command Op)) (d : Deed Op) → ShowsNode kept x → outcome_of kept d ≡ outcome_of x d
   pub fit : (kept x : NodeState (Command Op)) (body : LetterBody (Command Op)) → ShowsNode kept x → IsFit x body → IsFit kept body
   pub cut : (xs ys : List (Answer Reply)) → CutsBefore answered_key xs ys

@@ -1,5 +1,6 @@
 -- A hall: recorded nodes, and a book of the sessions that use them.
-use Rattle.std.specs.Prelude.{◌≡◌, ℕ, ◌+◌, nat_lt, max, Bool, true, false, List, [], map, length, slice_get, Option, None, Some, option_map, is_some, if◌then◌else◌}
+use Rattle.std.specs.Prelude.{◌≡◌, ℕ, ◌+◌, nat_lt, max, Bool, true, false, List, [], map, length, slice_get, Option}
+use Rattle.std.specs.Prelude.{None, Some, option_map, is_some, if◌then◌else◌}
 use Rattle.object.specs.declared.command.Act.TheVariants.{Tick}
 use Rattle.object.specs.declared.command.Command.{Command}
 use Rattle.object.specs.declared.command.Key.{Key}

@@ -1,6 +1,8 @@
 -- Lists of entries: keys that rise, and what is found at a key after a change. These laws stand in `specs/` because those of
 -- who waits, in crates above, cite them.
-use Rattle.std.proofs.Common.{◌≡◌, ℕ, suc, ◌<◌, ◌≤◌, true, false, cond, not, inl, inr, List, [], ◌∷◌, Some, None, option_map, is_some, ◌==◌, nat_lt, nat_cmp, refl, sym, ap, ap₂, subst, ◌∙◌, arith, eq-eqb, ne_eqb, le-ltb, lt-ltb, Less, Equal, Greater}
+use Rattle.std.proofs.Common.{◌≡◌, ℕ, suc, ◌<◌, ◌≤◌, true, false, cond, not, inl, inr, List, [], ◌∷◌, Some, None}
+use Rattle.std.proofs.Common.{option_map, is_some, ◌==◌, nat_lt, nat_cmp, refl, sym, ap, ap₂, subst, ◌∙◌, arith, eq-eqb}
+use Rattle.std.proofs.Common.{ne_eqb, le-ltb, lt-ltb, Less, Equal, Greater}
 use Rattle.std.proofs.lemmas.Bool.{cases_eq, cases_order, cond-true, cond-false}
 use Rattle.std.specs.Ordering.{match_ordering}
 use Rattle.std.specs.BTreeMap.{is_at}
@@ -49,7 +51,8 @@ module _ {X : Type 0} where
             value_at-here k (e.0, cond (k == e.0) (f e.1) e.1) (altered k f es) same ∙
             ap Some (cond-true (k == e.0) (f e.1) e.1 (eq-eqb k e.0 same)) ∙
             sym (ap (option_map f) (value_at-here k e es same))
-        | inr apart ↦ value_at-next k (e.0, cond (k == e.0) (f e.1) e.1) (altered k f es) apart ∙ value_at-altered k f es ∙ sym (ap (option_map f) (value_at-next k e es apart))
+        | inr apart ↦ value_at-next k (e.0, cond (k == e.0) (f e.1) e.1)
+            (altered k f es) apart ∙ value_at-altered k f es ∙ sym (ap (option_map f) (value_at-next k e es apart))
       ]
 
   pub value_at-altered_same : (k : ℕ) (f : X → X) (es : List (ℕ × X)) (v : X) → value_at k es ≡ Some v → value_at k (altered k f es) ≡ Some (f v)
@@ -63,15 +66,20 @@ module _ {X : Type 0} where
             value_at-here q (e.0, cond (k == e.0) (f e.1) e.1) (altered k f es) same ∙
             ap Some (cond-false (k == e.0) (f e.1) e.1 (ne_eqb k e.0 (λ h. apart (h ∙ sym same)))) ∙
             sym (value_at-here q e es same)
-        | inr other ↦ value_at-next q (e.0, cond (k == e.0) (f e.1) e.1) (altered k f es) other ∙ value_at-altered_other k q f es apart ∙ sym (value_at-next q e es other)
+        | inr other ↦ value_at-next q (e.0, cond (k == e.0) (f e.1) e.1)
+            (altered k f es) other ∙ value_at-altered_other k q f es apart ∙ sym (value_at-next q e es other)
       ]
 
   pub value_at-without_other : (k q : ℕ) (es : List (ℕ × X)) → (k ≡ q → ⊥) → value_at q (without k es) ≡ value_at q es
   value_at-without_other k q [] apart = refl
   value_at-without_other k q (e ∷ es) apart =
       elim (cases_eq k e.0) [
-        | inl same ↦ ap (value_at q) (cond-false (not (k == e.0)) (e ∷ without k es) (without k es) (ap not (eq-eqb k e.0 same))) ∙ value_at-without_other k q es apart ∙ sym (value_at-next q e es (λ h. apart (same ∙ sym h)))
-        | inr other ↦ ap (value_at q) (cond-true (not (k == e.0)) (e ∷ without k es) (without k es) (ap not (ne_eqb k e.0 other))) ∙ ap (cond (is_at (nat_cmp q) e.0) (Some e.1)) (value_at-without_other k q es apart)
+        | inl same ↦ ap (value_at q) (cond-false (not (k == e.0)) (e ∷ without k es) (without k es)
+            (ap not (eq-eqb k e.0 same))) ∙ value_at-without_other k q es apart ∙ sym
+            (value_at-next q e es (λ h. apart (same ∙ sym h)))
+        | inr other ↦ ap (value_at q) (cond-true (not (k == e.0)) (e ∷ without k es) (without k es)
+            (ap not (ne_eqb k e.0 other))) ∙ ap (cond (is_at (nat_cmp q) e.0) (Some e.1))
+            (value_at-without_other k q es apart)
       ]
 
   pub value_at-insert : (k : ℕ) (v : X) (es : List (ℕ × X)) → value_at k (with_value k v es) ≡ Some v
@@ -165,12 +173,15 @@ module _ {X : Type 0} where
   in-found (d ∷ es) e i =
       elim (cases_eq e.0 d.0) [
         | inl same ↦ ap is_some (value_at-here e.0 d es same)
-        | inr apart ↦ ap is_some (value_at-next e.0 d es apart) ∙ elim i as (λ i. is_some (value_at e.0 es) ≡ true) [ inl same ↦ absurd (apart (ap (λ (p : ℕ × X). p.0) same)) | inr later ↦ in-found es e later ]
+        | inr apart ↦ ap is_some (value_at-next e.0 d es apart) ∙
+            elim i as (λ i. is_some (value_at e.0 es)
+            ≡ true) [ inl same ↦ absurd (apart (ap (λ (p : ℕ × X). p.0) same)) | inr later ↦ in-found es e later ]
       ]
 
   -- What stands among changed entries
 
-  pub altered-in : (k : ℕ) (f : X → X) (P : ℕ × X → Type 0) (es : List (ℕ × X)) → ((d : ℕ × X) → In d es → P (d.0, cond (k == d.0) (f d.1) d.1)) → (e : ℕ × X) → In e (altered k f es) → P e
+  pub altered-in : (k : ℕ) (f : X → X) (P : ℕ × X → Type 0) (es : List (ℕ × X))
+      → ((d : ℕ × X) → In d es → P (d.0, cond (k == d.0) (f d.1) d.1)) → (e : ℕ × X) → In e (altered k f es) → P e
   altered-in k f P [] h e i = absurd i
   altered-in k f P (d ∷ es) h e (inl same) = subst P (sym same) (h d (inl refl))
   altered-in k f P (d ∷ es) h e (inr later) = altered-in k f P es (λ c i. h c (inr i)) e later
@@ -183,7 +194,8 @@ module _ {X : Type 0} where
         | false ↦ λ i. inr (without-in k es e i)
       ] i
 
-  pub insert-in : (P : ℕ × X → Type 0) (k : ℕ) (v : X) (es : List (ℕ × X)) → ((q : ℕ) → P (q, v)) → ((d : ℕ × X) → In d es → P d) → (e : ℕ × X) → In e (with_value k v es) → P e
+  pub insert-in : (P : ℕ × X → Type 0) (k : ℕ) (v : X) (es : List (ℕ × X)) → ((q : ℕ) → P (q, v))
+      → ((d : ℕ × X) → In d es → P d) → (e : ℕ × X) → In e (with_value k v es) → P e
   insert-in P k v [] new old e (inl same) = subst P (sym same) (new k)
   insert-in P k v [] new old e (inr never) = absurd never
   insert-in P k v (d ∷ es) new old e i =
@@ -198,18 +210,21 @@ module _ {X : Type 0} where
   pub altered-none : (k lo hi : ℕ) (f : X → X) (es : List (ℕ × X)) → k < lo → Rising lo hi es → altered k f es ≡ es
   altered-none k lo hi f [] h r = refl
   altered-none k lo hi f (e ∷ es) h r =
-      ap₂ (λ v zs. (e.0, v) ∷ zs) (cond-false (k == e.0) (f e.1) e.1 (ne_eqb k e.0 (λ same. omega (arith, r.0)))) (altered-none k (suc e.0) hi f es (omega (arith, r.0)) r.1)
+      ap₂ (λ v zs. (e.0, v) ∷ zs) (cond-false (k == e.0) (f e.1) e.1 (ne_eqb k e.0 (λ same. omega (arith, r.0))))
+      (altered-none k (suc e.0) hi f es (omega (arith, r.0)) r.1)
 
   pub altered-absent : (k : ℕ) (f : X → X) (es : List (ℕ × X)) → value_at k es ≡ None → altered k f es ≡ es
   altered-absent k f [] e = refl
   altered-absent k f (d ∷ es) e =
       elim (cases_eq k d.0) [
         | inl same ↦ let here : Some d.1 ≡ None = sym (value_at-here k d es same) ∙ e in cc
-        | inr apart ↦ ap₂ (λ u zs. (d.0, u) ∷ zs) (cond-false (k == d.0) (f d.1) d.1 (ne_eqb k d.0 apart)) (altered-absent k f es (sym (value_at-next k d es apart) ∙ e))
+        | inr apart ↦ ap₂ (λ u zs. (d.0, u) ∷ zs) (cond-false (k == d.0) (f d.1) d.1 (ne_eqb k d.0 apart))
+            (altered-absent k f es (sym (value_at-next k d es apart) ∙ e))
       ]
 
   -- two changes that do the same to the value at k
-  pub altered-alike : (k lo hi : ℕ) (f g : X → X) (es : List (ℕ × X)) (v : X) → Rising lo hi es → value_at k es ≡ Some v → f v ≡ g v → altered k f es ≡ altered k g es
+  pub altered-alike : (k lo hi : ℕ) (f g : X → X) (es : List (ℕ × X)) (v : X) → Rising lo hi es → value_at k es ≡ Some v
+      → f v ≡ g v → altered k f es ≡ altered k g es
   altered-alike k lo hi f g [] v r e same = refl
   altered-alike k lo hi f g (d ∷ es) v r e alike =
       elim (cases_eq k d.0) [
@@ -218,7 +233,8 @@ module _ {X : Type 0} where
             let it : d.1 ≡ v = cc in
             let below : k < suc d.0 = omega arith in
             ap₂ (λ u zs. (d.0, u) ∷ zs)
-            (cond-true (k == d.0) (f d.1) d.1 (eq-eqb k d.0 same) ∙ ap f it ∙ alike ∙ ap g (sym it) ∙ sym (cond-true (k == d.0) (g d.1) d.1 (eq-eqb k d.0 same)))
+            (cond-true (k == d.0) (f d.1) d.1 (eq-eqb k d.0 same) ∙ ap f it ∙ alike ∙ ap g (sym it) ∙ sym
+            (cond-true (k == d.0) (g d.1) d.1 (eq-eqb k d.0 same)))
             (altered-none k (suc d.0) hi f es below r.1 ∙ sym (altered-none k (suc d.0) hi g es below r.1))
         | inr apart ↦
             ap₂ (λ u zs. (d.0, u) ∷ zs)
@@ -227,7 +243,8 @@ module _ {X : Type 0} where
       ]
 
   -- a change that takes another back
-  pub altered-back : (k lo hi : ℕ) (f g : X → X) (es : List (ℕ × X)) (v : X) → Rising lo hi es → value_at k es ≡ Some v → g (f v) ≡ v → altered k g (altered k f es) ≡ es
+  pub altered-back : (k lo hi : ℕ) (f g : X → X) (es : List (ℕ × X)) (v : X) → Rising lo hi es → value_at k es ≡ Some v
+      → g (f v) ≡ v → altered k g (altered k f es) ≡ es
   altered-back k lo hi f g [] v r e back = refl
   altered-back k lo hi f g (d ∷ es) v r e back =
       elim (cases_eq k d.0) [
@@ -241,7 +258,8 @@ module _ {X : Type 0} where
             (ap (altered k g) (altered-none k (suc d.0) hi f es below r.1) ∙ altered-none k (suc d.0) hi g es below r.1)
         | inr apart ↦
             ap₂ (λ u zs. (d.0, u) ∷ zs)
-            (cond-false (k == d.0) (g (cond (k == d.0) (f d.1) d.1)) (cond (k == d.0) (f d.1) d.1) (ne_eqb k d.0 apart) ∙ cond-false (k == d.0) (f d.1) d.1 (ne_eqb k d.0 apart))
+            (cond-false (k == d.0) (g (cond (k == d.0) (f d.1) d.1)) (cond (k == d.0) (f d.1) d.1)
+            (ne_eqb k d.0 apart) ∙ cond-false (k == d.0) (f d.1) d.1 (ne_eqb k d.0 apart))
             (altered-back k (suc d.0) hi f g es v r.1 (sym (value_at-next k d es apart) ∙ e) back)
       ]
 
@@ -250,7 +268,8 @@ module _ {X : Type 0} where
   without-absent k (d ∷ es) e =
       elim (cases_eq k d.0) [
         | inl same ↦ let here : Some d.1 ≡ None = sym (value_at-here k d es same) ∙ e in cc
-        | inr apart ↦ cond-true (not (k == d.0)) (d ∷ without k es) (without k es) (ap not (ne_eqb k d.0 apart)) ∙ ap (λ zs. d ∷ zs) (without-absent k es (sym (value_at-next k d es apart) ∙ e))
+        | inr apart ↦ cond-true (not (k == d.0)) (d ∷ without k es) (without k es) (ap not (ne_eqb k d.0 apart)) ∙ ap
+            (λ zs. d ∷ zs) (without-absent k es (sym (value_at-next k d es apart) ∙ e))
       ]
 
   -- what is left where a new entry is taken out again
@@ -259,7 +278,9 @@ module _ {X : Type 0} where
   without-insert k v (e ∷ es) none =
       elim (cases_order k e.0) [
         | inl same ↦ let here : Some e.1 ≡ None = sym (value_at-here k e es same) ∙ none in cc
-        | inr (inl below) ↦ rw (cmp_less k e.0 below) (cond-false (not (k == k)) _ (without k (e ∷ es)) (ap not (eq-eqb k k refl)) ∙ without-absent k (e ∷ es) none)
+        | inr (inl below) ↦ rw (cmp_less k e.0 below)
+            (cond-false (not (k == k)) _ (without k (e ∷ es)) (ap not (eq-eqb k k refl)) ∙ without-absent k
+            (e ∷ es) none)
         | inr (inr above) ↦
             rw (cmp_greater k e.0 above)
             (cond-true (not (k == e.0)) _ _ (ap not (ne_eqb k e.0 (λ same. omega arith))) ∙

@@ -154,7 +154,8 @@ pub record HasFollowed (old new : Shelves) (jobs after : List (ℕ × Job)) : Ty
   pub listed : (e : ℕ × Job) → IsListed old.went.items e → IsListed new.went.items e
   pub went : (e : ℕ × Job) → In e jobs → In e after ⊎ IsListed new.went.items e
   pub came : (e : ℕ × Job) → In e after → In e jobs ⊎ HasCome new e
-  pub only : (label : Label) (p : ℕ × ℕ) → In p (places new label) → In p (places old label) ⊎ ((e : ℕ × Job) × BelongsAt label p e × (In e after ⊎ IsListed new.went.items e))
+  pub only : (label : Label) (p : ℕ × ℕ) → In p (places new label) → In p (places old label)
+      ⊎ ((e : ℕ × Job) × BelongsAt label p e × (In e after ⊎ IsListed new.went.items e))
 
 -- The jobs have their places, and look-ups find them there. The jobs before the trial have theirs too. At each place
 -- belongs one of the jobs or one that went, and one of those before the trial or one that came. What went in the trial

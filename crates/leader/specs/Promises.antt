@@ -47,7 +47,8 @@ pub record Hears {C : Type 0} (l : Leading C) (m : ℕ) (ballot : Numbers) (repo
   pub takes : MayTake l m ballot fresh taken
 
 -- after a P1b the leader is this, and these letters were sent
-pub record HearsP1b {C : Type 0} (l : Leading C) (m : ℕ) (ballot : Numbers) (report : List (Pvalue C)) (after : Leading C) (before now : List (Letter C)) : Type 0 where
+pub record HearsP1b {C : Type 0} (l : Leading C) (m : ℕ) (ballot : Numbers) (report : List (Pvalue C))
+    (after : Leading C) (before now : List (Letter C)) : Type 0 where
   pub fresh : List (Pvalue C)
   pub hears : Hears l m ballot report fresh after.proposals
   pub state : after ≡ (on_p1b l m ballot fresh after.proposals).state

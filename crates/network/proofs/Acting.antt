@@ -18,12 +18,14 @@ use Rattle.network.specs.Posting.{AreBetween, IsNetwork}
 use Rattle.network.proofs.Seats.{acted_seated}
 use Rattle.network.proofs.Turned.{seen, IsPlace, own_member, node_read, node_seated, turned_by, stays_whole, all_between, again_between, none_between}
 
-performing_between : {O Op Reply : Type 0} (rules : Rules O Op Reply) (x : NodeState (Command Op)) (count : ℕ) (o : Option (Command Op)) → AreBetween count (performing rules x o).sent
+performing_between : {O Op Reply : Type 0} (rules : Rules O Op Reply) (x : NodeState (Command Op)) (count : ℕ)
+    (o : Option (Command Op)) → AreBetween count (performing rules x o).sent
 performing_between rules x count None = none_between count
 performing_between rules x count (Some c) = none_between count
 
 -- what a node sends by itself is between members
-acted_between : {O Op Reply : Type 0} (rules : Rules O Op Reply) (members : List ℕ) (n : ℕ) (x : NodeState (Command Op)) → is_member members n ≡ true → (d : Deed Op) → AreBetween (length members) (acted rules members n x d).sent
+acted_between : {O Op Reply : Type 0} (rules : Rules O Op Reply) (members : List ℕ) (n : ℕ) (x : NodeState (Command Op))
+    → is_member members n ≡ true → (d : Deed Op) → AreBetween (length members) (acted rules members n x d).sent
 acted_between rules members n x member (deeds.Request c) = none_between (length members)
 acted_between rules members n x member deeds.Wake = all_between members n (woken x.leader).says (length members) refl member
 acted_between rules members n x member deeds.Nudge = again_between members n x (length members) refl member
@@ -31,7 +33,10 @@ acted_between rules members n x member deeds.Propose = all_between members n (pr
 acted_between rules members n x member deeds.Perform = performing_between rules x (length members) (next_decided x.replica)
 acted_between rules members n x member deeds.Restart = none_between (length members)
 
-module _ {O Op Reply : Type 0} (rules : Rules O Op Reply) {members : List ℕ} {nodes : List (NodeState (Command Op))} {mails : List (List (Letter (Command Op)))} {fresh : List (Letter (Command Op))} {k : NetworkState (Command Op)} {n p : ℕ} (h : IsPlace members nodes mails fresh k n p) (y : NodeState (Command Op)) (at : y ≡ slice_index_or nodes p y) (d : Deed Op) where
+module _ {O Op Reply : Type 0} (rules : Rules O Op Reply) {members : List ℕ} {nodes : List (NodeState (Command Op))}
+    {mails : List (List (Letter (Command Op)))} {fresh : List (Letter (Command Op))} {k : NetworkState (Command Op)}
+    {n p : ℕ} (h : IsPlace members nodes mails fresh k n p) (y : NodeState (Command Op))
+    (at : y ≡ slice_index_or nodes p y) (d : Deed Op) where
   seat : IsSeated members n y
   seat = node_seated h y at
 
@@ -49,7 +54,8 @@ module _ {O Op Reply : Type 0} (rules : Rules O Op Reply) {members : List ℕ} {
   pub idle : ComesToNothing rules (node_of k n) d → ComesToNothing rules y d
   idle i = subst (λ (z : NodeState (Command Op)). ComesToNothing rules z d) (sym (node_read h y at)) i
 
-  module _ (x : NodeState (Command Op)) (now : List (Letter (Command Op))) (new : x ≡ (own_turn rules y d).state) (sent : now ≡ fresh ++ (own_turn rules y d).sent) where
+  module _ (x : NodeState (Command Op)) (now : List (Letter (Command Op))) (new : x ≡ (own_turn rules y d).state)
+      (sent : now ≡ fresh ++ (own_turn rules y d).sent) where
     pub acted_whole : IsNetwork members (slice_set nodes p x) mails now
     acted_whole = stays_whole h x now (own_turn rules y d).sent
         (subst (IsSeated members n) (sym (new ∙ ap (λ t. t.state) own_is)) (acted_seated rules members n y seat d))

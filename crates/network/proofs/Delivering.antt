@@ -1,5 +1,7 @@
 -- A letter that reaches its receiver, once all letters are sorted into the mails.
-use Rattle.std.proofs.Common.{◌≡◌, ⊎_elim, inl, inr, Bool, false, ◌&&◌, ◌||◌, ◌==◌, ℕ, zero, suc, ◌-◌, ◌<◌, ◌≤◌, true, List, [], ◌∷◌, ◌++◌, drop, length, Option, Some, refl, sym, ap, ◌∙◌, subst, arith, length-set}
+use Rattle.std.proofs.Common.{◌≡◌, ⊎_elim, inl, inr, Bool, false, ◌&&◌, ◌||◌, ◌==◌, ℕ, zero, suc, ◌-◌, ◌<◌, ◌≤◌, true}
+use Rattle.std.proofs.Common.{List, [], ◌∷◌, ◌++◌, drop, length, Option, Some, refl, sym, ap, ◌∙◌, subst, arith}
+use Rattle.std.proofs.Common.{length-set}
 use Rattle.std.specs.Prelude.{slice_index_or, slice_set, nat_lt}
 use Rattle.std.proofs.lemmas.Bool.Decides.{nat_tests}
 use Rattle.ballot.specs.Ballots.{Numbers, is_below}
@@ -12,7 +14,8 @@ use Rattle.ballot.specs.Letters.{letter}
 use Rattle.ballot.specs.Members.{is_member}
 use Rattle.node.specs.Nodes.{NodeState, members_of, put}
 use Rattle.node.specs.PlaceLaws.{put_at}
-use Rattle.node.specs.Receiving.{IsFit, Receives, promises_ballot, accepts_pvalue, hears_promise, hears_vote, hears_proposal, learns, tells_decisions, ShowsNode, ShowsReceived}
+use Rattle.node.specs.Receiving.{IsFit, Receives, promises_ballot, accepts_pvalue, hears_promise, hears_vote}
+use Rattle.node.specs.Receiving.{hears_proposal, learns, tells_decisions, ShowsNode, ShowsReceived}
 use Rattle.network.proofs.Sent.{of_map, member_bounds}
 use Rattle.network.specs.Networks.{NetworkState, node_of, mail_in, mail_of, front, put_mail, posted, with_last, IsDelivered}
 use Rattle.network.specs.Posting.{IsAmong, IsBetween, AreBetween, IsPost, IsNetwork}
@@ -33,7 +36,8 @@ not_below_itself b =
     (λ i. lt_itself b.round i || ((b.round == b.round) && (lt_itself b.node i || ((b.node == b.node) && lt_itself b.boot i))))
     ∙ below_cases (b.round == b.round) (b.node == b.node)
 
-pub mail_at : {C : Type 0} (mails : List (List (Letter C))) (n p : ℕ) (m : List (Letter C)) → p ≡ n - 1 → 1 ≤ n → p < length mails → m ≡ slice_index_or mails p m → m ≡ mail_in mails n
+pub mail_at : {C : Type 0} (mails : List (List (Letter C))) (n p : ℕ) (m : List (Letter C)) → p ≡ n - 1 → 1 ≤ n
+    → p < length mails → m ≡ slice_index_or mails p m → m ≡ mail_in mails n
 mail_at mails zero p m place low h at = absurd (omega (arith, low))
 mail_at mails (suc i) p m place low h at =
     let here : p ≡ i = omega (arith, place) in
@@ -44,9 +48,15 @@ put_mail_at mails zero p x place low = absurd (omega (arith, low))
 put_mail_at mails (suc i) p x place low = let here : p ≡ i = omega (arith, place) in ap (λ j. slice_set mails j x) here
 
 -- what a node sends when it receives a letter of a member is between members
-received_between : {C : Type 0} (members : List ℕ) (m n : ℕ) (x : NodeState C) (body : LetterBody C) (y : NodeState C) (sent : List (Letter C)) → IsAmong (length members) m → is_member members n ≡ true → Receives members m n x body y sent → AreBetween (length members) sent
-received_between members m n x body y sent from_m member (promises_ballot b report r) = λ l at. ⊎_elim (λ e. subst (IsBetween (length members)) (sym e) (record { sender = member_bounds members n member; receiver = from_m })) (λ h. absurd h) at
-received_between members m n x body y sent from_m member (accepts_pvalue p) = λ l at. ⊎_elim (λ e. subst (IsBetween (length members)) (sym e) (record { sender = member_bounds members n member; receiver = from_m })) (λ h. absurd h) at
+received_between : {C : Type 0} (members : List ℕ) (m n : ℕ) (x : NodeState C) (body : LetterBody C) (y : NodeState C)
+    (sent : List (Letter C)) → IsAmong (length members) m → is_member members n ≡ true
+    → Receives members m n x body y sent → AreBetween (length members) sent
+received_between members m n x body y sent from_m member (promises_ballot b report r) =
+    λ l at. ⊎_elim (λ e. subst (IsBetween (length members)) (sym e)
+    (record { sender = member_bounds members n member; receiver = from_m })) (λ h. absurd h) at
+received_between members m n x body y sent from_m member (accepts_pvalue p) =
+    λ l at. ⊎_elim (λ e. subst (IsBetween (length members)) (sym e)
+    (record { sender = member_bounds members n member; receiver = from_m })) (λ h. absurd h) at
 received_between members m n x body y sent from_m member (hears_promise b report fresh taken may) = all_between members n _ (length members) refl member
 received_between members m n x body y sent from_m member (hears_vote b s by) = all_between members n _ (length members) refl member
 received_between members m n x body y sent from_m member (hears_proposal s c) = all_between members n _ (length members) refl member
@@ -57,10 +67,13 @@ received_between {C} members m n x body y sent from_m member (tells_decisions s)
 
 module _ {C : Type 0} {members : List ℕ} {nodes : List (NodeState C)} {mails : List (List (Letter C))} {fresh : List (Letter C)} where
   -- the same network, sorted
-  pub sorted_whole : IsNetwork members nodes mails fresh → (mails' : List (List (Letter C))) (fresh' : List (Letter C)) → length mails' ≡ length mails → IsPost mails' fresh' → IsNetwork members nodes mails' fresh'
+  pub sorted_whole : IsNetwork members nodes mails fresh → (mails' : List (List (Letter C))) (fresh' : List (Letter C))
+      → length mails' ≡ length mails → IsPost mails' fresh' → IsNetwork members nodes mails' fresh'
   sorted_whole whole mails' fresh' size post = record { has_nodes = whole.has_nodes; has_mails = size ∙ whole.has_mails; seated = whole.seated; post = post }
 
-  pub sorted_place : {k : NetworkState C} {n p : ℕ} → IsPlace members nodes mails fresh k n p → (mails' : List (List (Letter C))) (fresh' : List (Letter C)) → posted fresh' mails' ≡ posted fresh mails → length mails' ≡ length mails → IsPost mails' fresh' → IsPlace members nodes mails' fresh' k n p
+  pub sorted_place : {k : NetworkState C} {n p : ℕ} → IsPlace members nodes mails fresh k n p
+      → (mails' : List (List (Letter C))) (fresh' : List (Letter C)) → posted fresh' mails' ≡ posted fresh mails
+      → length mails' ≡ length mails → IsPost mails' fresh' → IsPlace members nodes mails' fresh' k n p
   sorted_place h mails' fresh' same size post = record {
     whole = sorted_whole h.whole mails' fresh' size post;
     is = (λ i. record { members = members; nodes = nodes; mails = same i }) ∙ h.is;
@@ -87,11 +100,19 @@ module _ {C : Type 0} {members : List ℕ} {nodes : List (NodeState C)} {mails :
       read_again m2 at2 = at2 ∙ get_or_default mails p m2 m there ∙ sym at
 
       its_letters : AreBetween (length mails) m
-      its_letters = subst (AreBetween (length mails)) (sym (at ∙ get_or_default mails p m [] there)) (h.whole.post.mailed (slice_index_or mails p []) (in_at mails p [] there))
+      its_letters = subst (AreBetween (length mails)) (sym (at ∙ get_or_default mails p m [] there))
+          (h.whole.post.mailed (slice_index_or mails p []) (in_at mails p [] there))
 
       -- another mail in its place
       pub put_whole : (mail : List (Letter C)) → AreBetween (length mails) mail → IsNetwork members nodes (slice_set mails p mail) fresh
-      put_whole mail between = record { has_nodes = h.whole.has_nodes; has_mails = length-set mails p mail ∙ h.whole.has_mails; seated = h.whole.seated; post = post_put mails fresh p mail h.whole.post between }
+      put_whole mail between = record {
+        has_nodes = h.whole.has_nodes;
+        has_mails =
+            length-set mails p mail ∙ h.whole.has_mails;
+        seated = h.whole.seated;
+        post =
+            post_put mails fresh p mail h.whole.post between;
+      }
 
       pub same_whole : (mail : List (Letter C)) → mail ≡ m → IsNetwork members nodes (slice_set mails p mail) fresh
       same_whole mail same = put_whole mail (subst (AreBetween (length mails)) (sym same) its_letters)
@@ -137,7 +158,8 @@ module _ {C : Type 0} {members : List ℕ} {nodes : List (NodeState C)} {mails :
           pub fit_read : ((l2 : Letter C) → front (mail_of k n) ≡ Some l2 → IsFit (node_of k n) l2.body) → IsFit y l.body
           fit_read fit = subst (λ (z : NodeState C). IsFit z l.body) (sym (node_read h y read)) (fit l (front_read (Some l) first))
 
-          module _ (x : NodeState C) (now : List (Letter C)) (shows : ShowsReceived l.«from» y l.body x fresh now) (left : List (Letter C)) (taken : left ≡ drop 1 m) where
+          module _ (x : NodeState C) (now : List (Letter C)) (shows : ShowsReceived l.«from» y l.body x fresh now)
+              (left : List (Letter C)) (taken : left ≡ drop 1 m) where
             delivered_ok : IsDelivered k n l (seen members (slice_set nodes p x) (slice_set mails p left) now)
             delivered_ok = (
               x,
@@ -145,15 +167,20 @@ module _ {C : Type 0} {members : List ℕ} {nodes : List (NodeState C)} {mails :
               (λ i. record {
                 members = ap (λ z. z.members) h.is i;
                 nodes = (ap (λ j. slice_set nodes j x) h.place ∙ put_at nodes n x (low h) ∙ ap (λ z. put z.nodes n x) h.is) i;
-                mails = ap (posted now) (put_mail_at mails n p left h.place (low h) ∙ ap (put_mail mails n) (taken ∙ ap (drop 1) mail_read) ∙ ap (λ z. put_mail z n (drop 1 (mail_of k n))) mails_are) i;
+                mails = ap (posted now) (put_mail_at mails n p left h.place (low h) ∙ ap (put_mail mails n)
+                    (taken ∙ ap (drop 1) mail_read) ∙ ap (λ z. put_mail z n (drop 1 (mail_of k n))) mails_are) i;
               }),
               subst (λ z. ShowsReceived l.«from» z l.body x [] now) (node_read h y read)
                   (subst (λ z. ShowsReceived l.«from» y l.body x z now) none shows),
             )
 
             -- whichever letter stands in front
-            pub delivered_any : (z : NetworkState C) → z ≡ seen members (slice_set nodes p x) (slice_set mails p left) now → (l2 : Letter C) → front (mail_of k n) ≡ Some l2 → IsDelivered k n l2 z
-            delivered_any z same l2 e = subst (λ w. IsDelivered k n l2 w) (sym same) (subst (λ w. IsDelivered k n w (seen members (slice_set nodes p x) (slice_set mails p left) now)) (first_of l2 e) delivered_ok)
+            pub delivered_any : (z : NetworkState C)
+                → z ≡ seen members (slice_set nodes p x) (slice_set mails p left) now → (l2 : Letter C)
+                → front (mail_of k n) ≡ Some l2 → IsDelivered k n l2 z
+            delivered_any z same l2 e = subst (λ w. IsDelivered k n l2 w) (sym same)
+                (subst (λ w. IsDelivered k n w (seen members (slice_set nodes p x) (slice_set mails p left) now))
+                (first_of l2 e) delivered_ok)
 
             in_rest : (xs : List (Letter C)) (z : Letter C) → In z (drop 1 xs) → In z xs
             in_rest [] z i = i
@@ -163,7 +190,17 @@ module _ {C : Type 0} {members : List ℕ} {nodes : List (NodeState C)} {mails :
             sender_among = subst (λ c. IsAmong c l.«from») h.whole.has_mails its_first.sender
 
             itself : ShowsNode y y
-            itself = record { acceptor = record { promised = refl; accepted = record { part = λ q i. i; greatest = λ q i. (q, i, refl, not_below_itself q.ballot) } }; boot = refl; leader = refl; replica = refl }
+            itself = record {
+              acceptor = record {
+                promised = refl;
+                accepted =
+                    record { part = λ q i. i; greatest = λ q i. (q, i, refl, not_below_itself q.ballot) };
+              };
+              boot =
+                  refl;
+              leader = refl;
+              replica = refl;
+            }
 
             pub delivered_whole : IsNetwork members (slice_set nodes p x) (slice_set mails p left) now
             delivered_whole =
@@ -173,9 +210,13 @@ module _ {C : Type 0} {members : List ℕ} {nodes : List (NodeState C)} {mails :
                 let own : Receives members l.«from» n y l.body s.0 received.0 =
                 subst (λ ms. Receives ms l.«from» n y l.body s.0 received.0) seat.speaks
                 (subst (λ j. Receives (members_of y) l.«from» j y l.body s.0 received.0) seat.node received.1) in
-                let moved : HasSeat y.leader x.leader = subst (HasSeat y.leader) (sym s.1.leader) (received_seat members l.«from» n y l.body s.0 received.0 own) in
-                let sent : AreBetween (length members) received.0 = received_between members l.«from» n y l.body s.0 received.0 sender_among (own_member h) own in
-                let before : IsNetwork members (slice_set nodes p x) mails now = stays_whole h x now received.0 (seated_by members n y x seat moved) received.2 sent in
+                let moved : HasSeat y.leader x.leader =
+                subst (HasSeat y.leader) (sym s.1.leader)
+                (received_seat members l.«from» n y l.body s.0 received.0 own) in
+                let sent : AreBetween (length members) received.0 =
+                received_between members l.«from» n y l.body s.0 received.0 sender_among (own_member h) own in
+                let before : IsNetwork members (slice_set nodes p x) mails now =
+                stays_whole h x now received.0 (seated_by members n y x seat moved) received.2 sent in
                 record {
                   has_nodes = before.has_nodes;
                   has_mails = length-set mails p left ∙ h.whole.has_mails;

@@ -1,5 +1,6 @@
 -- A letter that is lost, be it sorted into its receiver's mail or not.
-use Rattle.std.proofs.Common.{◌≡◌, inl, inr, Bool, true, false, cond, ◌==◌, ℕ, ◌+◌, ◌<◌, List, [], ◌∷◌, ◌++◌, drop, length, refl, sym, ap, ap₂, ◌∙◌, subst, arith, length-set}
+use Rattle.std.proofs.Common.{◌≡◌, inl, inr, Bool, true, false, cond, ◌==◌, ℕ, ◌+◌, ◌<◌, List, [], ◌∷◌, ◌++◌, drop}
+use Rattle.std.proofs.Common.{length, refl, sym, ap, ap₂, ◌∙◌, subst, arith, length-set}
 use Rattle.std.specs.Prelude.{slice_index_or, slice_set, is_some}
 use Rattle.std.proofs.lemmas.Bool.{false≢true}
 use Rattle.std.proofs.lemmas.List.{get_or_default}
@@ -21,7 +22,8 @@ no_front : {C : Type 0} (m : List (Letter C)) → is_some (front m) ≡ false �
 no_front [] e = refl
 no_front (z ∷ zs) e = absurd (false≢true (sym e))
 
-in_kept : {C : Type 0} (l x : Letter C) (xs rest : List (Letter C)) (test : Bool) → ((y : Letter C) → In y rest → In y xs) → In l (cond test xs (x ∷ rest)) → In l (x ∷ xs)
+in_kept : {C : Type 0} (l x : Letter C) (xs rest : List (Letter C)) (test : Bool)
+    → ((y : Letter C) → In y rest → In y xs) → In l (cond test xs (x ∷ rest)) → In l (x ∷ xs)
 in_kept l x xs rest true sub at = inr at
 in_kept l x xs rest false sub (inl e) = inl e
 in_kept l x xs rest false sub (inr at) = inr (sub l at)
@@ -30,7 +32,9 @@ in_but_first : {C : Type 0} (n : ℕ) (xs : List (Letter C)) (l : Letter C) → 
 in_but_first n [] l at = at
 in_but_first n (x ∷ xs) l at = in_kept l x xs (but_first n xs) (x.to == n) (in_but_first n xs) at
 
-module _ {C : Type 0} {members : List ℕ} {nodes : List (NodeState C)} {mails : List (List (Letter C))} {fresh : List (Letter C)} {k : NetworkState C} {n p : ℕ} (h : IsPlace members nodes mails fresh k n p) (m : List (Letter C)) (at : m ≡ slice_index_or mails p m) where
+module _ {C : Type 0} {members : List ℕ} {nodes : List (NodeState C)} {mails : List (List (Letter C))}
+    {fresh : List (Letter C)} {k : NetworkState C} {n p : ℕ} (h : IsPlace members nodes mails fresh k n p)
+    (m : List (Letter C)) (at : m ≡ slice_index_or mails p m) where
   there : p < length mails
   there = within_mails h
 
@@ -44,7 +48,10 @@ module _ {C : Type 0} {members : List ℕ} {nodes : List (NodeState C)} {mails :
   its_mail : mail_of k n ≡ m ++ letters_to n fresh
   its_mail =
       ap (λ z. mail_of z n) (sym h.is)
-      ∙ sym (mail_at (posted fresh mails) n p (slice_index_or (posted fresh mails) p []) h.place (low h) (subst (λ z. p < z) (sym (length-posted fresh mails)) there) (get_or_default (posted fresh mails) p [] (slice_index_or (posted fresh mails) p []) (subst (λ z. p < z) (sym (length-posted fresh mails)) there)))
+      ∙ sym (mail_at (posted fresh mails) n p (slice_index_or (posted fresh mails) p []) h.place (low h)
+      (subst (λ z. p < z) (sym (length-posted fresh mails)) there)
+      (get_or_default (posted fresh mails) p [] (slice_index_or (posted fresh mails) p [])
+      (subst (λ z. p < z) (sym (length-posted fresh mails)) there)))
       ∙ posted_at 1 fresh mails p there
       ∙ ap₂ (λ a j. a ++ letters_to j fresh) its_own next
 
@@ -62,7 +69,9 @@ module _ {C : Type 0} {members : List ℕ} {nodes : List (NodeState C)} {mails :
   pub late_does : is_some (front m) ≡ false → (does : Bool) → does ≡ is_some (front (letters_to n fresh)) → does ≡ has_mail k n
   late_does empty does e = e ∙ sym (ap (λ z. is_some (front z)) (mail_rest empty))
 
-  lost_is : (mails' : List (List (Letter C))) (fresh' : List (Letter C)) → posted fresh' mails' ≡ slice_set (posted fresh mails) p (drop 1 (mail_of k n)) → seen members nodes mails' fresh' ≡ without_front k n
+  lost_is : (mails' : List (List (Letter C))) (fresh' : List (Letter C))
+      → posted fresh' mails' ≡ slice_set (posted fresh mails) p (drop 1 (mail_of k n))
+      → seen members nodes mails' fresh' ≡ without_front k n
   lost_is mails' fresh' e = λ i. record {
     members = ap (λ z. z.members) h.is i;
     nodes = ap (λ z. z.nodes) h.is i;
@@ -71,7 +80,14 @@ module _ {C : Type 0} {members : List ℕ} {nodes : List (NodeState C)} {mails :
 
   module _ (left : List (Letter C)) (taken : left ≡ drop 1 m) where
     pub put_lost_whole : IsNetwork members nodes (slice_set mails p left) fresh
-    put_lost_whole = record { has_nodes = h.whole.has_nodes; has_mails = length-set mails p left ∙ h.whole.has_mails; seated = h.whole.seated; post = post_put mails fresh p left h.whole.post (λ l i. its_letters l (in_behind m l (subst (In l) taken i))) }
+    put_lost_whole = record {
+      has_nodes = h.whole.has_nodes;
+      has_mails =
+          length-set mails p left ∙ h.whole.has_mails;
+      seated = h.whole.seated;
+      post =
+          post_put mails fresh p left h.whole.post (λ l i. its_letters l (in_behind m l (subst (In l) taken i)));
+    }
 
     -- the mail had a letter
     pub lost_first : is_some (front m) ≡ true → seen members nodes (slice_set mails p left) fresh ≡ without_front k n
@@ -89,7 +105,9 @@ module _ {C : Type 0} {members : List ℕ} {nodes : List (NodeState C)} {mails :
       lost_late fresh' e = lost_is (slice_set mails p left) fresh'
           (ap₂ (λ a b. posted a b) e mails_stay
           ∙ first_dropped 1 fresh mails p n (sym next)
-          ∙ ap (slice_set (posted fresh mails) p) (ap (λ z. z ++ drop 1 (letters_to n fresh)) (its_own ∙ no_front m empty) ∙ sym (ap (drop 1) (mail_rest empty))))
+          ∙ ap (slice_set (posted fresh mails) p)
+          (ap (λ z. z ++ drop 1 (letters_to n fresh)) (its_own ∙ no_front m empty) ∙ sym
+          (ap (drop 1) (mail_rest empty))))
 
       pub late_whole : (fresh' : List (Letter C)) → fresh' ≡ but_first n fresh → IsNetwork members nodes (slice_set mails p left) fresh'
       late_whole fresh' e = record {

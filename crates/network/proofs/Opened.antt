@@ -12,7 +12,8 @@ use Rattle.network.proofs.Seats.{new_seated}
 use Rattle.network.proofs.Turned.{seen, none_between}
 
 -- one more
-pub one_more : {X : Type 0} (f : ℕ → X) (xs now : List X) (x : X) (before : ℕ) → xs ≡ map f (range_with_len 1 before) → x ≡ f (before + 1) → now ≡ xs ++ (x ∷ []) → now ≡ map f (range_with_len 1 (before + 1))
+pub one_more : {X : Type 0} (f : ℕ → X) (xs now : List X) (x : X) (before : ℕ) → xs ≡ map f (range_with_len 1 before)
+    → x ≡ f (before + 1) → now ≡ xs ++ (x ∷ []) → now ≡ map f (range_with_len 1 (before + 1))
 one_more f xs now x before all new more =
     let last : 1 + before ≡ before + 1 = omega arith in
     more ∙ ap₂ (λ l y. l ++ (y ∷ [])) all new ∙ sym (map-range_with_len_more f 1 before (before + 1) last)
@@ -26,14 +27,23 @@ empty_mail mail [] at = absurd at
 empty_mail mail (n ∷ ns) (inl e) = e
 empty_mail mail (n ∷ ns) (inr at) = empty_mail mail ns at
 
-module _ {C : Type 0} (members : List ℕ) (nodes : List (NodeState C)) (mails : List (List (Letter C))) (fresh : List (Letter C)) (before count : ℕ) (all : count ≡ length members) (low : before ≤ count) (high : count ≤ before) (made : nodes ≡ map (new_node members) (range_with_len 1 before)) (empty : mails ≡ map (λ _. []) (range_with_len 1 before)) (none : fresh ≡ []) where
+module _ {C : Type 0} (members : List ℕ) (nodes : List (NodeState C)) (mails : List (List (Letter C)))
+    (fresh : List (Letter C)) (before count : ℕ) (all : count ≡ length members) (low : before ≤ count)
+    (high : count ≤ before) (made : nodes ≡ map (new_node members) (range_with_len 1 before))
+    (empty : mails ≡ map (λ _. []) (range_with_len 1 before)) (none : fresh ≡ []) where
   same : before ≡ length members
   same = omega (arith, all, low, high)
 
   pub opened : seen members nodes mails fresh ≡ new_network members
   opened =
       (λ i. seen members (made i) (empty i) (none i))
-      ∙ (λ i. record { members = members; nodes = map (new_node members) (range_with_len 1 (same i)); mails = (none_posted 1 (map (λ _. []) (range_with_len 1 before)) ∙ ap (λ n. map (λ _. []) (range_with_len 1 n)) same) i })
+      ∙ (λ i. record {
+        members = members;
+        nodes = map (new_node members) (range_with_len 1 (same i));
+        mails =
+            (none_posted 1 (map (λ _. []) (range_with_len 1 before)) ∙ ap (λ n. map (λ _. []) (range_with_len 1 n)) same)
+            i;
+      })
 
   pub opened_whole : IsNetwork members nodes mails fresh
   opened_whole = record {
@@ -41,7 +51,8 @@ module _ {C : Type 0} (members : List ℕ) (nodes : List (NodeState C)) (mails :
     has_mails = ap length empty ∙ length-map-range (λ _. []) 1 before ∙ same;
     seated = λ n member. subst (λ z. IsSeated members n (node_in members z n)) (sym made) (new_seated members before n member);
     post = record {
-      mailed = λ mail at. subst (AreBetween (length mails)) (sym (empty_mail mail (range_with_len 1 before) (subst (In mail) empty at))) (none_between (length mails));
+      mailed = λ mail at. subst (AreBetween (length mails))
+          (sym (empty_mail mail (range_with_len 1 before) (subst (In mail) empty at))) (none_between (length mails));
       unsorted = subst (AreBetween (length mails)) (sym none) (none_between (length mails));
     };
   }

@@ -1,5 +1,6 @@
 -- Mails with letters at their back.
-use Rattle.std.proofs.Common.{◌≡◌, ◌≢◌, ◌⊎◌, inl, inr, ⊎_elim, ℕ, zero, suc, ◌+◌, ◌-◌, ◌<◌, ◌==◌, true, false, cond, List, [], ◌∷◌, ◌++◌, drop, length, refl, sym, ap, ap₂, ◌∙◌, subst, arith, length-set}
+use Rattle.std.proofs.Common.{◌≡◌, ◌≢◌, ◌⊎◌, inl, inr, ⊎_elim, ℕ, zero, suc, ◌+◌, ◌-◌, ◌<◌, ◌==◌, true, false, cond}
+use Rattle.std.proofs.Common.{List, [], ◌∷◌, ◌++◌, drop, length, refl, sym, ap, ap₂, ◌∙◌, subst, arith, length-set}
 use Rattle.std.specs.Prelude.{slice_index_or, slice_set, is_some}
 use Rattle.std.specs.List.{remove}
 use Rattle.std.proofs.lemmas.Bool.{cases_eq, cond-true, cond-false}
@@ -53,7 +54,8 @@ module _ {C : Type 0} where
   none_posted n [] = refl
   none_posted n (m ∷ ms) = ap₂ (λ a b. a ∷ b) (append-nil m) (none_posted (suc n) ms)
 
-  pub both_posted : (n : ℕ) (xs ys : List (Letter C)) (mails : List (List (Letter C))) → posted_from n (xs ++ ys) mails ≡ posted_from n ys (posted_from n xs mails)
+  pub both_posted : (n : ℕ) (xs ys : List (Letter C)) (mails : List (List (Letter C)))
+      → posted_from n (xs ++ ys) mails ≡ posted_from n ys (posted_from n xs mails)
   both_posted n xs ys [] = refl
   both_posted n xs ys (m ∷ ms) =
       ap₂ (λ a b. a ∷ b)
@@ -66,7 +68,9 @@ module _ {C : Type 0} where
   passed n l ls (m ∷ ms) h = ap₂ (λ a b. (m ++ a) ∷ b) (to_another n l ls (λ e. omega (arith, e, h))) (passed (suc n) l ls ms (omega (arith, h)))
 
   -- a letter that is sorted into its receiver's mail
-  pub first_sorted : (n : ℕ) (l : Letter C) (ls : List (Letter C)) (mails : List (List (Letter C))) (i : ℕ) → l.to ≡ n + i → i < length mails → posted_from n ls (slice_set mails i (slice_index_or mails i [] ++ (l ∷ []))) ≡ posted_from n (l ∷ ls) mails
+  pub first_sorted : (n : ℕ) (l : Letter C) (ls : List (Letter C)) (mails : List (List (Letter C))) (i : ℕ)
+      → l.to ≡ n + i → i < length mails
+      → posted_from n ls (slice_set mails i (slice_index_or mails i [] ++ (l ∷ []))) ≡ posted_from n (l ∷ ls) mails
   first_sorted n l ls [] i e h = absurd (omega (arith, h))
   first_sorted n l ls (m ∷ ms) zero e h =
       ap₂ (λ a b. a ∷ b)
@@ -78,20 +82,23 @@ module _ {C : Type 0} where
       (first_sorted (suc n) l ls ms i (omega (arith, e)) (omega (arith, h)))
 
   -- mail i with letters at its back
-  pub posted_at : (n : ℕ) (ls : List (Letter C)) (mails : List (List (Letter C))) (i : ℕ) → i < length mails → slice_index_or (posted_from n ls mails) i [] ≡ slice_index_or mails i [] ++ letters_to (n + i) ls
+  pub posted_at : (n : ℕ) (ls : List (Letter C)) (mails : List (List (Letter C))) (i : ℕ) → i < length mails
+      → slice_index_or (posted_from n ls mails) i [] ≡ slice_index_or mails i [] ++ letters_to (n + i) ls
   posted_at n ls [] i h = absurd (omega (arith, h))
   posted_at n ls (m ∷ ms) zero h = ap (λ k. m ++ letters_to k ls) (omega arith)
   posted_at n ls (m ∷ ms) (suc i) h = posted_at (suc n) ls ms i (omega (arith, h)) ∙ ap (λ k. slice_index_or ms i [] ++ letters_to k ls) (omega arith)
 
   -- another mail in the place of mail i
-  pub posted_put : (n : ℕ) (ls : List (Letter C)) (mails : List (List (Letter C))) (i : ℕ) (x : List (Letter C)) → posted_from n ls (slice_set mails i x) ≡ slice_set (posted_from n ls mails) i (x ++ letters_to (n + i) ls)
+  pub posted_put : (n : ℕ) (ls : List (Letter C)) (mails : List (List (Letter C))) (i : ℕ) (x : List (Letter C))
+      → posted_from n ls (slice_set mails i x) ≡ slice_set (posted_from n ls mails) i (x ++ letters_to (n + i) ls)
   posted_put n ls [] i x = refl
   posted_put n ls (m ∷ ms) zero x = ap (λ k. (x ++ letters_to k ls) ∷ posted_from (suc n) ls ms) (omega arith)
   posted_put n ls (m ∷ ms) (suc i) x =
       ap (λ b. (m ++ letters_to n ls) ∷ b)
       (posted_put (suc n) ls ms i x ∙ ap (λ k. slice_set (posted_from (suc n) ls ms) i (x ++ letters_to k ls)) (omega arith))
 
-  but_first_if : (n t : ℕ) (l : Letter C) (ls : List (Letter C)) → (l.to ≡ t) ⊎ (l.to ≢ t) → n ≢ t → letters_to n (but_first t ls) ≡ letters_to n ls → letters_to n (but_first t (l ∷ ls)) ≡ letters_to n (l ∷ ls)
+  but_first_if : (n t : ℕ) (l : Letter C) (ls : List (Letter C)) → (l.to ≡ t) ⊎ (l.to ≢ t) → n ≢ t
+      → letters_to n (but_first t ls) ≡ letters_to n ls → letters_to n (but_first t (l ∷ ls)) ≡ letters_to n (l ∷ ls)
   but_first_if n t l ls (inl e) apart rest =
       ap (letters_to n) (cond-true (l.to == t) ls (l ∷ but_first t ls) (test_yes l.to t e))
       ∙ sym (to_another n l ls (λ f. apart (sym f ∙ e)))
@@ -104,7 +111,9 @@ module _ {C : Type 0} where
   but_first_other n t [] apart = refl
   but_first_other n t (l ∷ ls) apart = but_first_if n t l ls (cases_eq l.to t) apart (but_first_other n t ls apart)
 
-  but_first_own : (t : ℕ) (l : Letter C) (ls : List (Letter C)) → (l.to ≡ t) ⊎ (l.to ≢ t) → letters_to t (but_first t ls) ≡ drop 1 (letters_to t ls) → letters_to t (but_first t (l ∷ ls)) ≡ drop 1 (letters_to t (l ∷ ls))
+  but_first_own : (t : ℕ) (l : Letter C) (ls : List (Letter C)) → (l.to ≡ t) ⊎ (l.to ≢ t)
+      → letters_to t (but_first t ls) ≡ drop 1 (letters_to t ls)
+      → letters_to t (but_first t (l ∷ ls)) ≡ drop 1 (letters_to t (l ∷ ls))
   but_first_own t l ls (inl e) rest =
       ap (letters_to t) (cond-true (l.to == t) ls (l ∷ but_first t ls) (test_yes l.to t e))
       ∙ sym (ap (drop 1) (to_it t l ls e))
@@ -124,7 +133,9 @@ module _ {C : Type 0} where
   late n t ls (m ∷ ms) h = ap₂ (λ a b. (m ++ a) ∷ b) (but_first_other n t ls (λ e. omega (arith, e, h))) (late (suc n) t ls ms (omega (arith, h)))
 
   -- the first letter to a node is dropped
-  pub first_dropped : (n : ℕ) (ls : List (Letter C)) (mails : List (List (Letter C))) (i t : ℕ) → t ≡ n + i → posted_from n (but_first t ls) mails ≡ slice_set (posted_from n ls mails) i (slice_index_or mails i [] ++ drop 1 (letters_to t ls))
+  pub first_dropped : (n : ℕ) (ls : List (Letter C)) (mails : List (List (Letter C))) (i t : ℕ) → t ≡ n + i
+      → posted_from n (but_first t ls) mails
+      ≡ slice_set (posted_from n ls mails) i (slice_index_or mails i [] ++ drop 1 (letters_to t ls))
   first_dropped n ls [] i t e = refl
   first_dropped n ls (m ∷ ms) zero t e =
       ap₂ (λ a b. (m ++ a) ∷ b)
@@ -136,11 +147,14 @@ module _ {C : Type 0} where
       (first_dropped (suc n) ls ms i t (omega (arith, e)))
 
   -- mails with another in the place of mail i
-  pub post_put : (mails : List (List (Letter C))) (fresh : List (Letter C)) (i : ℕ) (x : List (Letter C)) → IsPost mails fresh → AreBetween (length mails) x → IsPost (slice_set mails i x) fresh
+  pub post_put : (mails : List (List (Letter C))) (fresh : List (Letter C)) (i : ℕ) (x : List (Letter C))
+      → IsPost mails fresh → AreBetween (length mails) x → IsPost (slice_set mails i x) fresh
   post_put mails fresh i x post h =
       let size : length mails ≡ length (slice_set mails i x) = sym (length-set mails i x) in
       record {
-        mailed = λ mail at l in_mail. subst (λ n. IsBetween n l) size (⊎_elim (λ (a : In mail mails). post.mailed mail a l in_mail) (λ (e : mail ≡ x). h l (subst (λ m. In l m) e in_mail)) (in_set mails i x mail at));
+        mailed = λ mail at l in_mail. subst (λ n. IsBetween n l) size
+            (⊎_elim (λ (a : In mail mails). post.mailed mail a l in_mail)
+            (λ (e : mail ≡ x). h l (subst (λ m. In l m) e in_mail)) (in_set mails i x mail at));
         unsorted = λ l at. subst (λ n. IsBetween n l) size (post.unsorted l at);
       }
 
@@ -157,14 +171,19 @@ module _ {C : Type 0} where
   between_rest count l ls h = λ m at. h m (inr at)
 
   -- the first letter is sorted
-  pub post_sorted : (mails : List (List (Letter C))) (l : Letter C) (ls : List (Letter C)) (i : ℕ) → i < length mails → IsPost mails (l ∷ ls) → IsPost (slice_set mails i (slice_index_or mails i [] ++ (l ∷ []))) ls
+  pub post_sorted : (mails : List (List (Letter C))) (l : Letter C) (ls : List (Letter C)) (i : ℕ) → i < length mails
+      → IsPost mails (l ∷ ls) → IsPost (slice_set mails i (slice_index_or mails i [] ++ (l ∷ []))) ls
   post_sorted mails l ls i h post =
       post_put mails ls i _
       (post_fresh mails (l ∷ ls) ls post (between_rest _ l ls post.unsorted))
-      (between_append _ (slice_index_or mails i []) (l ∷ []) (post.mailed (slice_index_or mails i []) (in_at mails i [] h)) (λ m at. ⊎_elim (λ (e : m ≡ l). subst (λ k. IsBetween (length mails) k) (sym e) (between_first _ l ls post.unsorted)) (λ (none : ⊥). absurd none) at))
+      (between_append _ (slice_index_or mails i []) (l ∷ [])
+      (post.mailed (slice_index_or mails i []) (in_at mails i [] h))
+      (λ m at. ⊎_elim (λ (e : m ≡ l). subst (λ k. IsBetween (length mails) k) (sym e)
+      (between_first _ l ls post.unsorted)) (λ (none : ⊥). absurd none) at))
 
   -- the first of these letters is sorted into its receiver's mail
-  module _ (mails : List (List (Letter C))) (letters : List (Letter C)) (l : Letter C) (p : ℕ) (there : 0 < length letters) (first : l ≡ slice_index_or letters 0 l) (post : IsPost mails letters) where
+  module _ (mails : List (List (Letter C))) (letters : List (Letter C)) (l : Letter C) (p : ℕ)
+      (there : 0 < length letters) (first : l ≡ slice_index_or letters 0 l) (post : IsPost mails letters) where
     is_first : letters ≡ l ∷ drop 1 letters
     is_first = head_is letters l there first
 
@@ -176,40 +195,59 @@ module _ {C : Type 0} where
       place_within = let a = first_between.receiver.0 in let b = first_between.receiver.1 in omega (arith, place, a, b)
 
       -- what stands in front and behind, whatever is taken
-      pub taken_rest : (mail old : List (Letter C)) (now : List (Letter C)) → ((k : Letter C) (ks : List (Letter C)) → letters ≡ k ∷ ks → (mail ≡ old ++ (k ∷ [])) × (now ≡ ks)) → now ≡ drop 1 letters
+      pub taken_rest : (mail old : List (Letter C)) (now : List (Letter C))
+          → ((k : Letter C) (ks : List (Letter C)) → letters ≡ k ∷ ks → (mail ≡ old ++ (k ∷ [])) × (now ≡ ks))
+          → now ≡ drop 1 letters
       taken_rest mail old now took = (took l (drop 1 letters) is_first).1
 
-      taken_mail : (mail old : List (Letter C)) (now : List (Letter C)) → old ≡ slice_index_or mails p old → ((k : Letter C) (ks : List (Letter C)) → letters ≡ k ∷ ks → (mail ≡ old ++ (k ∷ [])) × (now ≡ ks)) → mail ≡ slice_index_or mails p [] ++ (l ∷ [])
+      taken_mail : (mail old : List (Letter C)) (now : List (Letter C)) → old ≡ slice_index_or mails p old
+          → ((k : Letter C) (ks : List (Letter C)) → letters ≡ k ∷ ks → (mail ≡ old ++ (k ∷ [])) × (now ≡ ks))
+          → mail ≡ slice_index_or mails p [] ++ (l ∷ [])
       taken_mail mail old now at took = (took l (drop 1 letters) is_first).0 ∙ ap (λ z. z ++ (l ∷ [])) (at ∙ get_or_default mails p old [] place_within)
 
-      pub sorted_same : (mail old : List (Letter C)) (now : List (Letter C)) → old ≡ slice_index_or mails p old → ((k : Letter C) (ks : List (Letter C)) → letters ≡ k ∷ ks → (mail ≡ old ++ (k ∷ [])) × (now ≡ ks)) → posted_from 1 now (slice_set mails p mail) ≡ posted_from 1 letters mails
+      pub sorted_same : (mail old : List (Letter C)) (now : List (Letter C)) → old ≡ slice_index_or mails p old
+          → ((k : Letter C) (ks : List (Letter C)) → letters ≡ k ∷ ks → (mail ≡ old ++ (k ∷ [])) × (now ≡ ks))
+          → posted_from 1 now (slice_set mails p mail) ≡ posted_from 1 letters mails
       sorted_same mail old now at took =
           ap₂ (λ a b. posted_from 1 a (slice_set mails p b)) (taken_rest mail old now took) (taken_mail mail old now at took)
           ∙ first_sorted 1 l (drop 1 letters) mails p (omega (arith, place, first_between.receiver.0)) place_within
           ∙ ap (λ z. posted_from 1 z mails) (sym is_first)
 
-      pub sorted_post : (mail old : List (Letter C)) (now : List (Letter C)) → old ≡ slice_index_or mails p old → ((k : Letter C) (ks : List (Letter C)) → letters ≡ k ∷ ks → (mail ≡ old ++ (k ∷ [])) × (now ≡ ks)) → IsPost (slice_set mails p mail) now
+      pub sorted_post : (mail old : List (Letter C)) (now : List (Letter C)) → old ≡ slice_index_or mails p old
+          → ((k : Letter C) (ks : List (Letter C)) → letters ≡ k ∷ ks → (mail ≡ old ++ (k ∷ [])) × (now ≡ ks))
+          → IsPost (slice_set mails p mail) now
       sorted_post mail old now at took =
-          let h : IsPost (slice_set mails p (slice_index_or mails p [] ++ (l ∷ []))) (drop 1 letters) = post_sorted mails l (drop 1 letters) p place_within (subst (IsPost mails) is_first post) in
-          subst (λ z. IsPost (slice_set mails p z) now) (sym (taken_mail mail old now at took)) (subst (λ z. IsPost (slice_set mails p (slice_index_or mails p [] ++ (l ∷ []))) z) (sym (taken_rest mail old now took)) h)
+          let h : IsPost (slice_set mails p (slice_index_or mails p [] ++ (l ∷ []))) (drop 1 letters) =
+          post_sorted mails l (drop 1 letters) p place_within (subst (IsPost mails) is_first post) in
+          subst (λ z. IsPost (slice_set mails p z) now) (sym (taken_mail mail old now at took))
+          (subst (λ z. IsPost (slice_set mails p (slice_index_or mails p [] ++ (l ∷ []))) z)
+          (sym (taken_rest mail old now took)) h)
 
   -- the first of these that is to node t stands at i
-  found_if : (t : ℕ) (x : Letter C) (xs : List (Letter C)) (i : ℕ) → x.to ≢ t → (is_some (front (letters_to t xs)) ≡ true) × (but_first t xs ≡ remove xs i) → (is_some (front (letters_to t (x ∷ xs))) ≡ true) × (but_first t (x ∷ xs) ≡ remove (x ∷ xs) (suc i))
+  found_if : (t : ℕ) (x : Letter C) (xs : List (Letter C)) (i : ℕ) → x.to ≢ t
+      → (is_some (front (letters_to t xs)) ≡ true) × (but_first t xs ≡ remove xs i)
+      → (is_some (front (letters_to t (x ∷ xs))) ≡ true) × (but_first t (x ∷ xs) ≡ remove (x ∷ xs) (suc i))
   found_if t x xs i apart h = (
     ap (λ z. is_some (front z)) (to_another t x xs apart) ∙ h.0,
     cond-false (x.to == t) xs (x ∷ but_first t xs) (test_no x.to t apart) ∙ ap (λ z. x ∷ z) h.1,
   )
 
-  pub found : (t : ℕ) (xs : List (Letter C)) (i : ℕ) (y : Letter C) → y ≡ slice_index_or xs i y → i < length xs → y.to ≡ t → ((k : ℕ) (d : Letter C) → k < i → (slice_index_or xs k d).to ≢ t) → (is_some (front (letters_to t xs)) ≡ true) × (but_first t xs ≡ remove xs i)
+  pub found : (t : ℕ) (xs : List (Letter C)) (i : ℕ) (y : Letter C) → y ≡ slice_index_or xs i y → i < length xs
+      → y.to ≡ t → ((k : ℕ) (d : Letter C) → k < i → (slice_index_or xs k d).to ≢ t)
+      → (is_some (front (letters_to t xs)) ≡ true) × (but_first t xs ≡ remove xs i)
   found t [] i y at h e before = absurd (omega (arith, h))
   found t (x ∷ xs) zero y at h e before =
       let same : x.to ≡ t = ap (λ (z : Letter C). z.to) (sym at) ∙ e in (
         ap (λ z. is_some (front z)) (to_it t x xs same),
         cond-true (x.to == t) xs (x ∷ but_first t xs) (test_yes x.to t same),
       )
-  found t (x ∷ xs) (suc i) y at h e before = found_if t x xs i (before 0 x (omega arith)) (found t xs i y at (omega (arith, h)) e (λ k d below. before (suc k) d (omega (arith, below))))
+  found t (x ∷ xs) (suc i) y at h e before =
+      found_if t x xs i (before 0 x (omega arith))
+      (found t xs i y at (omega (arith, h)) e (λ k d below. before (suc k) d (omega (arith, below))))
 
-  pub not_found : (t : ℕ) (xs : List (Letter C)) → ((k : ℕ) (d : Letter C) → k < length xs → (slice_index_or xs k d).to ≢ t) → (is_some (front (letters_to t xs)) ≡ false) × (but_first t xs ≡ xs)
+  pub not_found : (t : ℕ) (xs : List (Letter C))
+      → ((k : ℕ) (d : Letter C) → k < length xs → (slice_index_or xs k d).to ≢ t)
+      → (is_some (front (letters_to t xs)) ≡ false) × (but_first t xs ≡ xs)
   not_found t [] none = (refl, refl)
   not_found t (x ∷ xs) none =
       let apart : x.to ≢ t = none 0 x (omega arith) in
@@ -219,7 +257,9 @@ module _ {C : Type 0} where
       )
 
   -- neither is one more
-  pub one_more_not : (t : ℕ) (xs : List (Letter C)) (i : ℕ) (y : Letter C) → y ≡ slice_index_or xs i y → i < length xs → y.to ≢ t → ((k : ℕ) (d : Letter C) → k < i → (slice_index_or xs k d).to ≢ t) → (k : ℕ) (d : Letter C) → k < i + 1 → (slice_index_or xs k d).to ≢ t
+  pub one_more_not : (t : ℕ) (xs : List (Letter C)) (i : ℕ) (y : Letter C) → y ≡ slice_index_or xs i y → i < length xs
+      → y.to ≢ t → ((k : ℕ) (d : Letter C) → k < i → (slice_index_or xs k d).to ≢ t) → (k : ℕ) (d : Letter C)
+      → k < i + 1 → (slice_index_or xs k d).to ≢ t
   one_more_not t xs i y at h apart before k d below = ⊎_elim
       (λ (e : k ≡ i). subst (λ j. (slice_index_or xs j d).to ≢ t) (sym e) (λ f. apart (ap (λ (z : Letter C). z.to) (at ∙ get_or_default xs i y d h) ∙ f)))
       (λ (e : k ≢ i). before k d (omega (arith, below, e)))

@@ -1,5 +1,6 @@
 -- A node stays seated, whatever it does and receives: no leader changes its members or the node of its ballot.
-use Rattle.std.proofs.Common.{◌≡◌, ◌≢◌, ⊎_elim, Bool, true, false, cond, not, ◌&&◌, ℕ, ◌-◌, ◌<◌, ◌≤◌, List, map, length, Option, Some, None, refl, sym, ap, ◌∙◌, subst, arith}
+use Rattle.std.proofs.Common.{◌≡◌, ◌≢◌, ⊎_elim, Bool, true, false, cond, not, ◌&&◌, ℕ, ◌-◌, ◌<◌, ◌≤◌, List, map, length}
+use Rattle.std.proofs.Common.{Option, Some, None, refl, sym, ap, ◌∙◌, subst, arith}
 use Rattle.std.specs.Prelude.{slice_set, is_none}
 use Rattle.std.specs.List.{range_with_len}
 use Rattle.std.specs.FinMap.{get, contains_key}
@@ -66,7 +67,8 @@ module _ {C : Type 0} (l : Leading C) where
   heard_seat proposals s heard.Adopted = record { members = refl; node = refl }
   heard_seat proposals s (heard.Preempted b) = preempted_seat b
 
-  scout_seat : (m : ℕ) (b : Numbers) (fresh : List (Pvalue C)) (proposals : Slots C) (o : Option (Scouting C)) → HasSeat l (at_scout l m b fresh proposals o).state
+  scout_seat : (m : ℕ) (b : Numbers) (fresh : List (Pvalue C)) (proposals : Slots C) (o : Option (Scouting C))
+      → HasSeat l (at_scout l m b fresh proposals o).state
   scout_seat m b fresh proposals None = same_seat
   scout_seat m b fresh proposals (Some s) = heard_seat proposals (scouts.on_p1b s m b fresh).scout (scouts.on_p1b s m b fresh).says
 
@@ -86,7 +88,8 @@ module _ {C : Type 0} (l : Leading C) where
   vote_seat m b s asked = either (answers_another l b asked) _ _ same_seat (commander_seat m b s (get l.commanders s))
 
 -- and so has the leader of a node that receives a letter
-pub received_seat : {C : Type 0} (members : List ℕ) (m n : ℕ) (x : NodeState C) (body : LetterBody C) (y : NodeState C) (sent : List (Letter C)) → Receives members m n x body y sent → HasSeat x.leader y.leader
+pub received_seat : {C : Type 0} (members : List ℕ) (m n : ℕ) (x : NodeState C) (body : LetterBody C) (y : NodeState C)
+    (sent : List (Letter C)) → Receives members m n x body y sent → HasSeat x.leader y.leader
 received_seat members m n x body y sent (promises_ballot b report r) = same_seat x.leader
 received_seat members m n x body y sent (accepts_pvalue p) = same_seat x.leader
 received_seat members m n x body y sent (hears_promise b report fresh taken h) = promised_seat x.leader m b fresh taken
@@ -116,14 +119,19 @@ module _ {O Op Reply : Type 0} (rules : Rules O Op Reply) (members : List ℕ) (
   acted_seated d = seated_by members n x (acted rules members n x d).state at (acted_seat d)
 
 -- the nodes stay seated when one of them becomes another node that is seated there
-pub seats_stay : {C : Type 0} (members : List ℕ) (nodes : List (NodeState C)) (n p : ℕ) (x : NodeState C) → p ≡ n - 1 → 1 ≤ n → p < length nodes → ((m : ℕ) → is_member members m ≡ true → IsSeated members m (node_in members nodes m)) → IsSeated members n x → (m : ℕ) → is_member members m ≡ true → IsSeated members m (node_in members (slice_set nodes p x) m)
+pub seats_stay : {C : Type 0} (members : List ℕ) (nodes : List (NodeState C)) (n p : ℕ) (x : NodeState C) → p ≡ n - 1
+    → 1 ≤ n → p < length nodes → ((m : ℕ) → is_member members m ≡ true → IsSeated members m (node_in members nodes m))
+    → IsSeated members n x → (m : ℕ) → is_member members m ≡ true
+    → IsSeated members m (node_in members (slice_set nodes p x) m)
 seats_stay members nodes n p x place low h all seated m member =
     subst (λ ns. IsSeated members m (node_in members ns m)) (sym (ap (λ j. slice_set nodes j x) place ∙ put_at nodes n x low))
     (⊎_elim
-    (λ (e : m ≡ n). subst (λ j. IsSeated members j (node_in members (put nodes n x) j)) (sym e) (subst (IsSeated members n) (sym (node_put_same members nodes n x low (omega (arith, place, low, h)))) seated))
+    (λ (e : m ≡ n). subst (λ j. IsSeated members j (node_in members (put nodes n x) j)) (sym e)
+    (subst (IsSeated members n) (sym (node_put_same members nodes n x low (omega (arith, place, low, h)))) seated))
     (λ (e : m ≢ n). subst (IsSeated members m) (sym (node_put_other members nodes n x m e)) (all m member))
     (cases_eq m n))
 
 -- new nodes are seated
-pub new_seated : {C : Type 0} (members : List ℕ) (len n : ℕ) → is_member members n ≡ true → IsSeated {C = C} members n (node_in members (map (new_node members) (range_with_len 1 len)) n)
+pub new_seated : {C : Type 0} (members : List ℕ) (len n : ℕ) → is_member members n ≡ true
+    → IsSeated {C = C} members n (node_in members (map (new_node members) (range_with_len 1 len)) n)
 new_seated members len n member = subst (IsSeated members n) (sym (new_in members len n)) (record { member = member; speaks = refl; node = refl })

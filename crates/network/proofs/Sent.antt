@@ -28,7 +28,8 @@ pub member_bounds : (members : List ℕ) (n : ℕ) → is_member members n ≡ t
 member_bounds members n h = (grind (arith, nat_tests), grind (arith, nat_tests))
 
 -- what is sent to all is between members
-pub sent_to_all : {C : Type 0} (members : List ℕ) (n : ℕ) (bodies : List (LetterBody C)) → is_member members n ≡ true → (l : Letter C) → In l (all_to_all members n bodies) → IsBetween (length members) l
+pub sent_to_all : {C : Type 0} (members : List ℕ) (n : ℕ) (bodies : List (LetterBody C)) → is_member members n ≡ true
+    → (l : Letter C) → In l (all_to_all members n bodies) → IsBetween (length members) l
 sent_to_all members n [] member l at = absurd at
 sent_to_all {C} members n (b ∷ bs) member l at = ⊎_elim
     (λ (h : In l (to_all members n b)).

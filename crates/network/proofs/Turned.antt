@@ -1,5 +1,6 @@
 -- A network after one of its nodes did something.
-use Rattle.std.proofs.Common.{◌≡◌, Bool, false, cond, map, ℕ, zero, suc, ◌-◌, ◌<◌, ◌≤◌, true, List, [], ◌∷◌, ◌++◌, length, Result, Ok, Err, refl, sym, ap, ◌∙◌, subst, arith, length-set}
+use Rattle.std.proofs.Common.{◌≡◌, Bool, false, cond, map, ℕ, zero, suc, ◌-◌, ◌<◌, ◌≤◌, true, List, [], ◌∷◌, ◌++◌}
+use Rattle.std.proofs.Common.{length, Result, Ok, Err, refl, sym, ap, ◌∙◌, subst, arith, length-set}
 use Rattle.std.specs.Prelude.{slice_index_or, slice_set, OnErr, nat_le, not, ◌==◌, ◌^◌}
 use Rattle.std.proofs.lemmas.List.{append-nil}
 use Rattle.ballot.specs.declared.letter.Letter.{Letter}
@@ -30,18 +31,27 @@ set_again (x ∷ xs) zero y e = ap (λ z. z ∷ xs) e
 set_again (x ∷ xs) (suc i) y e = ap (λ zs. x ∷ zs) (set_again xs i y e)
 
 -- what is sent to all is between members
-pub all_between : {C : Type 0} (members : List ℕ) (n : ℕ) (bodies : List (LetterBody C)) (count : ℕ) → count ≡ length members → is_member members n ≡ true → AreBetween count (all_to_all members n bodies)
+pub all_between : {C : Type 0} (members : List ℕ) (n : ℕ) (bodies : List (LetterBody C)) (count : ℕ)
+    → count ≡ length members → is_member members n ≡ true → AreBetween count (all_to_all members n bodies)
 all_between members n bodies count same member = λ l at. subst (λ z. IsBetween z l) (sym same) (sent_to_all members n bodies member l at)
 
-asks_between : {C : Type 0} (members : List ℕ) (n s count : ℕ) (test : Bool) → count ≡ length members → is_member members n ≡ true → AreBetween {C = C} count (cond test (map (letter n (Ask s)) (filter (λ m. not (m == n)) (numbers members))) [])
+asks_between : {C : Type 0} (members : List ℕ) (n s count : ℕ) (test : Bool) → count ≡ length members
+    → is_member members n ≡ true → AreBetween {C = C} count
+    (cond test (map (letter n (Ask s)) (filter (λ m. not (m == n)) (numbers members))) [])
 asks_between {C} members n s count true same member = λ l at.
     let sent = of_map (letter n (Ask s)) l (filter (λ m. not (m == n)) (numbers members)) at in
     subst (λ z. IsBetween z l) (sym same)
-    (subst (IsBetween (length members)) (sym sent.2) (record { sender = member_bounds members n member; receiver = among_numbers members sent.0 (of_filter (λ m. not (m == n)) sent.0 (numbers members) sent.1).0 }))
+    (subst (IsBetween (length members)) (sym sent.2)
+    (record {
+      sender = member_bounds members n member;
+      receiver =
+          among_numbers members sent.0 (of_filter (λ m. not (m == n)) sent.0 (numbers members) sent.1).0;
+    }))
 asks_between members n s count false same member = λ l at. absurd at
 
 -- what a node says again is between members
-pub again_between : {C : Type 0} (members : List ℕ) (n : ℕ) (x : NodeState C) (count : ℕ) → count ≡ length members → is_member members n ≡ true → AreBetween count (said_again members n x)
+pub again_between : {C : Type 0} (members : List ℕ) (n : ℕ) (x : NodeState C) (count : ℕ) → count ≡ length members
+    → is_member members n ≡ true → AreBetween count (said_again members n x)
 again_between members n x count same member =
     between_append count (all_to_all members n (says_again x.leader)) (nudges members n x.replica)
     (all_between members n (says_again x.leader) count same member)
@@ -57,16 +67,21 @@ abbrev pub seen : {C : Type 0} → List ℕ → List (NodeState C) → List (Lis
 seen members nodes mails fresh = record { members = members; nodes = nodes; mails = posted fresh mails }
 
 -- these fields are a network's that is seen as k, and p is the place of its member n
-pub record IsPlace {C : Type 0} (members : List ℕ) (nodes : List (NodeState C)) (mails : List (List (Letter C))) (fresh : List (Letter C)) (k : NetworkState C) (n p : ℕ) : Type 0 where
+pub record IsPlace {C : Type 0} (members : List ℕ) (nodes : List (NodeState C)) (mails : List (List (Letter C)))
+    (fresh : List (Letter C)) (k : NetworkState C) (n p : ℕ) : Type 0 where
   pub whole : IsNetwork members nodes mails fresh
   pub is : seen members nodes mails fresh ≡ k
   pub place : p ≡ n - 1
   pub member : is_member k.members n ≡ true
 
-pub at_place : {C : Type 0} {members : List ℕ} {nodes : List (NodeState C)} {mails : List (List (Letter C))} {fresh : List (Letter C)} {k : NetworkState C} {n p : ℕ} → IsNetwork members nodes mails fresh → seen members nodes mails fresh ≡ k → p ≡ n - 1 → is_member k.members n ≡ true → IsPlace members nodes mails fresh k n p
+pub at_place : {C : Type 0} {members : List ℕ} {nodes : List (NodeState C)} {mails : List (List (Letter C))}
+    {fresh : List (Letter C)} {k : NetworkState C} {n p : ℕ} → IsNetwork members nodes mails fresh
+    → seen members nodes mails fresh ≡ k → p ≡ n - 1 → is_member k.members n ≡ true
+    → IsPlace members nodes mails fresh k n p
 at_place whole is place member = record { whole = whole; is = is; place = place; member = member }
 
-module _ {C : Type 0} {members : List ℕ} {nodes : List (NodeState C)} {mails : List (List (Letter C))} {fresh : List (Letter C)} {k : NetworkState C} {n p : ℕ} (h : IsPlace members nodes mails fresh k n p) where
+module _ {C : Type 0} {members : List ℕ} {nodes : List (NodeState C)} {mails : List (List (Letter C))}
+    {fresh : List (Letter C)} {k : NetworkState C} {n p : ℕ} (h : IsPlace members nodes mails fresh k n p) where
   pub own_member : is_member members n ≡ true
   own_member = ap (λ z. is_member z.members n) h.is ∙ h.member
 
@@ -82,7 +97,8 @@ module _ {C : Type 0} {members : List ℕ} {nodes : List (NodeState C)} {mails :
 
   module _ (y : NodeState C) (at : y ≡ slice_index_or nodes p y) where
     own_node : y ≡ node_in members nodes n
-    own_node = node_at members nodes n y low (omega (arith, (member_bounds members n own_member).1, h.whole.has_nodes)) (at ∙ ap (λ j. slice_index_or nodes j y) h.place)
+    own_node = node_at members nodes n y low (omega (arith, (member_bounds members n own_member).1, h.whole.has_nodes))
+        (at ∙ ap (λ j. slice_index_or nodes j y) h.place)
 
     -- what is read there is the node
     pub node_read : y ≡ node_of k n
@@ -107,17 +123,21 @@ module _ {C : Type 0} {members : List ℕ} {nodes : List (NodeState C)} {mails :
       ∙ ap (λ z. turned_net z n x out) h.is
 
   -- the fields stay a network's
-  pub stays_whole : (x : NodeState C) (now out : List (Letter C)) → IsSeated members n x → now ≡ fresh ++ out → AreBetween (length members) out → IsNetwork members (slice_set nodes p x) mails now
+  pub stays_whole : (x : NodeState C) (now out : List (Letter C)) → IsSeated members n x → now ≡ fresh ++ out
+      → AreBetween (length members) out → IsNetwork members (slice_set nodes p x) mails now
   stays_whole x now out seated sent between = record {
     has_nodes = length-set nodes p x ∙ h.whole.has_nodes;
     has_mails = h.whole.has_mails;
     seated = seats_stay members nodes n p x h.place low within_nodes h.whole.seated seated;
     post = record {
       mailed = h.whole.post.mailed;
-      unsorted = subst (AreBetween (length mails)) (sym sent) (between_append (length mails) fresh out h.whole.post.unsorted (subst (λ c. AreBetween c out) (sym h.whole.has_mails) between));
+      unsorted = subst (AreBetween (length mails)) (sym sent)
+          (between_append (length mails) fresh out h.whole.post.unsorted
+          (subst (λ c. AreBetween c out) (sym h.whole.has_mails) between));
     };
   }
 
-  pub stays_quiet : (y x : NodeState C) (now : List (Letter C)) → y ≡ slice_index_or nodes p y → x ≡ y → now ≡ fresh → IsNetwork members (slice_set nodes p x) mails now
+  pub stays_quiet : (y x : NodeState C) (now : List (Letter C)) → y ≡ slice_index_or nodes p y → x ≡ y → now ≡ fresh
+      → IsNetwork members (slice_set nodes p x) mails now
   stays_quiet y x now at same none =
       stays_whole x now [] (subst (IsSeated members n) (sym same) (node_seated y at)) (none ∙ sym (append-nil fresh)) (none_between (length members))

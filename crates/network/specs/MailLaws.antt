@@ -1,5 +1,6 @@
 -- What is in the mails.
-use Rattle.std.proofs.Common.{◌≡◌, ◌≢◌, ◌⊎◌, inl, inr, ⊎_elim, ℕ, zero, suc, ◌+◌, ◌==◌, Bool, true, false, cond, List, [], ◌∷◌, map, drop, length, refl, ap, ◌∙◌, arith, length-set}
+use Rattle.std.proofs.Common.{◌≡◌, ◌≢◌, ◌⊎◌, inl, inr, ⊎_elim, ℕ, zero, suc, ◌+◌, ◌==◌, Bool, true, false, cond, List}
+use Rattle.std.proofs.Common.{[], ◌∷◌, map, drop, length, refl, ap, ◌∙◌, arith, length-set}
 use Rattle.std.specs.Prelude.{slice_index_or, slice_set}
 use Rattle.std.specs.List.{filter}
 use Rattle.std.proofs.lemmas.Bool.Decides.{nat_tests}
@@ -10,7 +11,8 @@ use Rattle.ballot.specs.declared.letter.Letter.{Letter}
 use Rattle.network.specs.Networks.{mail_in, put_mail, letters_to, posted_from, posted}
 
 -- what a filter keeps is in the list, and passes the test
-of_filter_if : {A : Type 0} (test : A → Bool) (x y : A) (xs rest : List A) (passes : Bool) → test y ≡ passes → (In x rest → In x xs × (test x ≡ true)) → In x (cond passes (y ∷ rest) rest) → In x (y ∷ xs) × (test x ≡ true)
+of_filter_if : {A : Type 0} (test : A → Bool) (x y : A) (xs rest : List A) (passes : Bool) → test y ≡ passes
+    → (In x rest → In x xs × (test x ≡ true)) → In x (cond passes (y ∷ rest) rest) → In x (y ∷ xs) × (test x ≡ true)
 of_filter_if test x y xs rest true is sub (inl e) = (inl e, ap test e ∙ is)
 of_filter_if test x y xs rest true is sub (inr at) = let h = sub at in (inr h.0, h.1)
 of_filter_if test x y xs rest false is sub at = let h = sub at in (inr h.0, h.1)
@@ -26,7 +28,9 @@ module _ {C : Type 0} where
   in_letters_to : (n : ℕ) (letters : List (Letter C)) (l : Letter C) → In l (letters_to n letters) → In l letters × (l.to ≡ n)
   in_letters_to n letters l at = let h = of_filter (λ (k : Letter C). k.to == n) l letters at in (h.0, same_number l.to n h.1)
 
-  in_posted_from : (n : ℕ) (letters : List (Letter C)) (mails : List (List (Letter C))) (i t : ℕ) (l : Letter C) → t ≡ n + i → In l (slice_index_or (posted_from n letters mails) i []) → In l (slice_index_or mails i []) ⊎ (In l letters × (l.to ≡ t))
+  in_posted_from : (n : ℕ) (letters : List (Letter C)) (mails : List (List (Letter C))) (i t : ℕ) (l : Letter C)
+      → t ≡ n + i → In l (slice_index_or (posted_from n letters mails) i []) → In l (slice_index_or mails i [])
+      ⊎ (In l letters × (l.to ≡ t))
   in_posted_from n letters [] i t l e at = absurd at
   in_posted_from n letters (m ∷ ms) zero t l e at = ⊎_elim
       (λ (h : In l m). inl h)
@@ -35,7 +39,8 @@ module _ {C : Type 0} where
   in_posted_from n letters (m ∷ ms) (suc i) t l e at = in_posted_from (suc n) letters ms i t l (omega (arith, e)) at
 
   -- a letter in the mail of node n was there before, or is one of those that were posted, and to it
-  pub in_posted : (letters : List (Letter C)) (mails : List (List (Letter C))) (n : ℕ) (l : Letter C) → In l (mail_in (posted letters mails) n) → In l (mail_in mails n) ⊎ (In l letters × (l.to ≡ n))
+  pub in_posted : (letters : List (Letter C)) (mails : List (List (Letter C))) (n : ℕ) (l : Letter C)
+      → In l (mail_in (posted letters mails) n) → In l (mail_in mails n) ⊎ (In l letters × (l.to ≡ n))
   in_posted letters mails zero l at = absurd at
   in_posted letters mails (suc i) l at = in_posted_from 1 letters mails i (suc i) l (omega arith) at
 

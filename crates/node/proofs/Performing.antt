@@ -40,7 +40,8 @@ abbrev pub outcome_told : Option Performed → Outcome
 outcome_told None = outcomes.Idle
 outcome_told (Some p) = outcomes.Performed p
 
-module _ {O Op Reply : Type 0} (laws : FilterLaws Op) (rules : Rules O Op Reply) (r : Replicating Op O) (x : NodeState (Command Op)) (is : x.replica ≡ r.slots) (kept : ObeysBook rules r.object r.slots) where
+module _ {O Op Reply : Type 0} (laws : FilterLaws Op) (rules : Rules O Op Reply) (r : Replicating Op O)
+    (x : NodeState (Command Op)) (is : x.replica ≡ r.slots) (kept : ObeysBook rules r.object r.slots) where
   answers_if : (o : Option (Command Op)) → next_decided x.replica ≡ o → performed_answers rules.answers r ≡ (performing rules x o).answers
   answers_if None e = ap (answers_as rules.answers r) (ap next_decided (sym is) ∙ e)
   answers_if (Some c) e = answers_performed rules laws r x.replica is kept.obeys c e
@@ -55,7 +56,10 @@ module _ {O Op Reply : Type 0} (laws : FilterLaws Op) (rules : Rules O Op Reply)
       ∙ later_obeyed laws rules (history r.slots) c
       ∙ ap (λ b. is_new c (history b)) (sym is)
 
-  told_if : (done : Option Performed) (o : Option (Command Op)) → IfSome done (λ p. p.slot ≡ r.slots.slot_out) → option_map (λ p. p.key) done ≡ option_map (λ c. c.key) o → IfSome done (λ p. (p.effect ≡ effects.Done) ↔ (is_later p.key r.object.latest ≡ true)) → outcome_told done ≡ performs x.replica o
+  told_if : (done : Option Performed) (o : Option (Command Op)) → IfSome done (λ p. p.slot ≡ r.slots.slot_out)
+      → option_map (λ p. p.key) done ≡ option_map (λ c. c.key) o
+      → IfSome done (λ p. (p.effect ≡ effects.Done) ↔ (is_later p.key r.object.latest ≡ true))
+      → outcome_told done ≡ performs x.replica o
   told_if None None slot key effect = refl
   told_if None (Some c) slot key effect = absurd (cc)
   told_if (Some p) None slot key effect = absurd (cc)
@@ -68,11 +72,19 @@ module _ {O Op Reply : Type 0} (laws : FilterLaws Op) (rules : Rules O Op Reply)
       λ i. outcomes.Performed (record { slot = own_slot i; key = same i; effect = own_effect i })
 
   -- the slot, the key and the effect are those of the decision at slot_out
-  pub told_performing : (done : Option Performed) → IfSome done (λ p. p.slot ≡ r.slots.slot_out) → option_map (λ p. p.key) done ≡ option_map (λ c. c.key) (next_decided r.slots) → IfSome done (λ p. (p.effect ≡ effects.Done) ↔ (is_later p.key r.object.latest ≡ true)) → outcome_told done ≡ performs x.replica (next_decided x.replica)
+  pub told_performing : (done : Option Performed) → IfSome done (λ p. p.slot ≡ r.slots.slot_out)
+      → option_map (λ p. p.key) done ≡ option_map (λ c. c.key) (next_decided r.slots)
+      → IfSome done (λ p. (p.effect ≡ effects.Done) ↔ (is_later p.key r.object.latest ≡ true))
+      → outcome_told done ≡ performs x.replica (next_decided x.replica)
   told_performing done slot key effect = told_if done (next_decided x.replica) slot (key ∙ ap (λ b. option_map (λ c. c.key) (next_decided b)) (sym is)) effect
 
 -- a node whose replica was asked for a command, as its rules say
-pub requested_turn : {O Op Reply : Type 0} (rules : Rules O Op Reply) (same : Op → Op → Bool) → rules.same ≡ same → (a : Acceptances (Command Op)) (boot : ℕ) (leader : Leading (Command Op)) (r z : Replicating Op O) (c : Command Op) → z ≡ record r { slots = requested (same_commands same) r.slots c } → (x : NodeState (Command Op)) → record { acceptor = a; boot = boot; leader = leader; replica = r.slots } ≡ x → record { acceptor = a; boot = boot; leader = leader; replica = z.slots } ≡ record x { replica = requested (is_one rules) x.replica c }
+pub requested_turn : {O Op Reply : Type 0} (rules : Rules O Op Reply) (same : Op → Op → Bool) → rules.same ≡ same
+    → (a : Acceptances (Command Op)) (boot : ℕ) (leader : Leading (Command Op)) (r z : Replicating Op O)
+    (c : Command Op) → z ≡ record r { slots = requested (same_commands same) r.slots c } → (x : NodeState (Command Op))
+    → record { acceptor = a; boot = boot; leader = leader; replica = r.slots } ≡ x
+    → record { acceptor = a; boot = boot; leader = leader; replica = z.slots }
+    ≡ record x { replica = requested (is_one rules) x.replica c }
 requested_turn {O} {Op} rules same law a boot leader r z c new x is =
     let node : SlotBook (Command Op) → NodeState (Command Op) = λ b. record { acceptor = a; boot = boot; leader = leader; replica = b } in
     ap (λ (y : Replicating Op O). node y.slots) new

@@ -18,7 +18,8 @@ use Rattle.slot_log.specs.Books.{SlotBook}
 use Rattle.replica.specs.Replicas.{tells}
 use Rattle.node.specs.Nodes.{NodeState, members_of, number_of}
 use Rattle.node.specs.Deeds.{led}
-use Rattle.node.specs.Receiving.{Receives, promises_ballot, accepts_pvalue, hears_promise, hears_vote, hears_proposal, learns, tells_decisions, ShowsNode, ShowsReceived}
+use Rattle.node.specs.Receiving.{Receives, promises_ballot, accepts_pvalue, hears_promise, hears_vote, hears_proposal}
+use Rattle.node.specs.Receiving.{learns, tells_decisions, ShowsNode, ShowsReceived}
 use Rattle.ballot.specs.OrderLaws.{BallotLaws}
 use Rattle.node.proofs.Keeping.{keeps_p1a, keeps_p2a, reports}
 
@@ -30,7 +31,11 @@ module _ {C : Type 0} (m : ℕ) (v k : NodeState C) (is : v ≡ k) where
   same_number : (x : NodeState C) → ShowsNode v x → number_of v ≡ number_of x
   same_number x shown = ap (λ l. l.ballot.node) shown.leader
 
-  pub received_p1a : (laws : BallotLaws) (n : ℕ) (z : Acceptances C) (b promised : Numbers) (report : List (Pvalue C)) (before now : List (Letter C)) → n ≡ number_of v → z ≡ after_p1a v.acceptor b → promised ≡ higher v.acceptor.promised b → IsReport v.acceptor.accepted report → now ≡ before ++ (letter n (P1b promised report) m ∷ []) → ShowsReceived m k (P1a b) (record v { acceptor = z }) before now
+  pub received_p1a : (laws : BallotLaws) (n : ℕ) (z : Acceptances C) (b promised : Numbers) (report : List (Pvalue C))
+      (before now : List (Letter C)) → n ≡ number_of v → z ≡ after_p1a v.acceptor b
+      → promised ≡ higher v.acceptor.promised b → IsReport v.acceptor.accepted report
+      → now ≡ before ++ (letter n (P1b promised report) m ∷ [])
+      → ShowsReceived m k (P1a b) (record v { acceptor = z }) before now
   received_p1a laws n z b promised report before now own new same whole sent = λ x shows. let shown = shown_of x shows in (
     record x { acceptor = after_p1a x.acceptor b },
     record {
@@ -47,7 +52,10 @@ module _ {C : Type 0} (m : ℕ) (v k : NodeState C) (is : v ≡ k) where
   )
 
   -- the acceptor's vote: the promised ballot is v's, and z keeps enough of what is accepted now
-  pub received_p2a : (laws : BallotLaws) (n : ℕ) (z : Acceptances C) (p : Pvalue C) (promised : Option Numbers) (before now : List (Letter C)) → n ≡ number_of v → Keeps (after_p2a v.acceptor p) z → promised ≡ v.acceptor.promised → now ≡ before ++ (letter n (P2b promised p.slot p.ballot) m ∷ []) → ShowsReceived m k (P2a p) (record v { acceptor = z }) before now
+  pub received_p2a : (laws : BallotLaws) (n : ℕ) (z : Acceptances C) (p : Pvalue C) (promised : Option Numbers)
+      (before now : List (Letter C)) → n ≡ number_of v → Keeps (after_p2a v.acceptor p) z
+      → promised ≡ v.acceptor.promised → now ≡ before ++ (letter n (P2b promised p.slot p.ballot) m ∷ [])
+      → ShowsReceived m k (P2a p) (record v { acceptor = z }) before now
   received_p2a laws n z p promised before now own kept same sent = λ x shows. let shown = shown_of x shows in (
     record x { acceptor = after_p2a x.acceptor p },
     record {
@@ -64,7 +72,12 @@ module _ {C : Type 0} (m : ℕ) (v k : NodeState C) (is : v ≡ k) where
   )
 
   -- what its leader did
-  received_led : (d : Leading C → Done (Leading C) C) (l : Leading C) (body : LetterBody C) (before now : List (Letter C)) → l ≡ (d v.leader).state → Sends v.leader (d v.leader).says before now → ((x : NodeState C) → v.leader ≡ x.leader → Receives (members_of x) m (number_of x) x body (led x (d x.leader)) (all_to_all (members_of x) (number_of x) (d x.leader).says)) → ShowsReceived m k body (record v { leader = l }) before now
+  received_led : (d : Leading C → Done (Leading C) C) (l : Leading C) (body : LetterBody C)
+      (before now : List (Letter C)) → l ≡ (d v.leader).state → Sends v.leader (d v.leader).says before now
+      → ((x : NodeState C) → v.leader ≡ x.leader
+      → Receives (members_of x) m (number_of x) x body (led x (d x.leader))
+      (all_to_all (members_of x) (number_of x) (d x.leader).says))
+      → ShowsReceived m k body (record v { leader = l }) before now
   received_led d l body before now new sends receives = λ x shows. let shown = shown_of x shows in (
     led x (d x.leader),
     record {
@@ -80,18 +93,25 @@ module _ {C : Type 0} (m : ℕ) (v k : NodeState C) (is : v ≡ k) where
     ),
   )
 
-  pub received_p1b : (l : Leading C) (b : Numbers) (report : List (Pvalue C)) (before now : List (Letter C)) → HearsP1b v.leader m b report l before now → ShowsReceived m k (P1b b report) (record v { leader = l }) before now
+  pub received_p1b : (l : Leading C) (b : Numbers) (report : List (Pvalue C)) (before now : List (Letter C))
+      → HearsP1b v.leader m b report l before now
+      → ShowsReceived m k (P1b b report) (record v { leader = l }) before now
   received_p1b l b report before now h =
       received_led (λ y. promises.on_p1b y m b h.fresh l.proposals) l (P1b b report) before now h.state h.out
       (λ x leads. hears_promise b report h.fresh l.proposals (subst (λ y. Hears y m b report h.fresh l.proposals) leads h.hears))
 
-  pub received_p2b : (l : Leading C) (b : Option Numbers) (s : ℕ) (by : Numbers) (before now : List (Letter C)) → l ≡ (votes.on_p2b v.leader m b s by).state → Sends v.leader (votes.on_p2b v.leader m b s by).says before now → ShowsReceived m k (P2b b s by) (record v { leader = l }) before now
+  pub received_p2b : (l : Leading C) (b : Option Numbers) (s : ℕ) (by : Numbers) (before now : List (Letter C))
+      → l ≡ (votes.on_p2b v.leader m b s by).state → Sends v.leader (votes.on_p2b v.leader m b s by).says before now
+      → ShowsReceived m k (P2b b s by) (record v { leader = l }) before now
   received_p2b l b s by before now new sends = received_led (λ y. votes.on_p2b y m b s by) l (P2b b s by) before now new sends (λ x leads. hears_vote b s by)
 
-  pub received_proposal : (l : Leading C) (s : ℕ) (c : C) (before now : List (Letter C)) → l ≡ (on_propose v.leader s c).state → Sends v.leader (on_propose v.leader s c).says before now → ShowsReceived m k (Propose s c) (record v { leader = l }) before now
+  pub received_proposal : (l : Leading C) (s : ℕ) (c : C) (before now : List (Letter C))
+      → l ≡ (on_propose v.leader s c).state → Sends v.leader (on_propose v.leader s c).says before now
+      → ShowsReceived m k (Propose s c) (record v { leader = l }) before now
   received_proposal l s c before now new sends = received_led (λ y. on_propose y s c) l (Propose s c) before now new sends (λ x leads. hears_proposal s c)
 
-  pub received_decision : (book : SlotBook C) (s : ℕ) (c : C) (before : List (Letter C)) → book ≡ learnt v.replica s c → ShowsReceived m k (Decision s c) (record v { replica = book }) before before
+  pub received_decision : (book : SlotBook C) (s : ℕ) (c : C) (before : List (Letter C)) → book ≡ learnt v.replica s c
+      → ShowsReceived m k (Decision s c) (record v { replica = book }) before before
   received_decision book s c before new = λ x shows. let shown = shown_of x shows in (
     record x { replica = learnt x.replica s c },
     record {
@@ -107,7 +127,8 @@ module _ {C : Type 0} (m : ℕ) (v k : NodeState C) (is : v ≡ k) where
     ),
   )
 
-  pub received_ask : (s n : ℕ) (before now : List (Letter C)) → n ≡ number_of v → now ≡ before ++ map (λ b. letter n b m) (tells v.replica s) → ShowsReceived m k (Ask s) k before now
+  pub received_ask : (s n : ℕ) (before now : List (Letter C)) → n ≡ number_of v
+      → now ≡ before ++ map (λ b. letter n b m) (tells v.replica s) → ShowsReceived m k (Ask s) k before now
   received_ask s n before now own sent = λ x shows. let shown = shown_of x shows in (
     x,
     shows,

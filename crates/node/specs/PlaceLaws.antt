@@ -5,11 +5,13 @@ use Rattle.std.specs.List.{range_with_len}
 use Rattle.std.proofs.lemmas.List.{get_or-set_same, get_or-set_other, get_or_default}
 use Rattle.node.specs.Nodes.{NodeState, new_node, node_in, put}
 
-pub node_put_same : {C : Type 0} (members : List ℕ) (nodes : List (NodeState C)) (n : ℕ) (x : NodeState C) → 1 ≤ n → n ≤ length nodes → node_in members (put nodes n x) n ≡ x
+pub node_put_same : {C : Type 0} (members : List ℕ) (nodes : List (NodeState C)) (n : ℕ) (x : NodeState C) → 1 ≤ n
+    → n ≤ length nodes → node_in members (put nodes n x) n ≡ x
 node_put_same members nodes zero x h k = absurd (omega arith)
 node_put_same members nodes (suc i) x h k = get_or-set_same nodes i x (new_node members (suc i)) (omega arith)
 
-pub node_put_other : {C : Type 0} (members : List ℕ) (nodes : List (NodeState C)) (n : ℕ) (x : NodeState C) (m : ℕ) → m ≢ n → node_in members (put nodes n x) m ≡ node_in members nodes m
+pub node_put_other : {C : Type 0} (members : List ℕ) (nodes : List (NodeState C)) (n : ℕ) (x : NodeState C) (m : ℕ)
+    → m ≢ n → node_in members (put nodes n x) m ≡ node_in members nodes m
 node_put_other members nodes zero x m h = refl
 node_put_other members nodes (suc i) x zero h = refl
 node_put_other members nodes (suc i) x (suc j) h = get_or-set_other nodes i j x (new_node members (suc j)) (λ e. h (ap suc e))
@@ -19,7 +21,8 @@ length-put nodes zero x = refl
 length-put nodes (suc i) x = length-set nodes i x
 
 -- what is read at the place of a node, and what is put there
-pub node_at : {C : Type 0} (members : List ℕ) (nodes : List (NodeState C)) (n : ℕ) (y : NodeState C) → 1 ≤ n → n ≤ length nodes → y ≡ slice_index_or nodes (n - 1) y → y ≡ node_in members nodes n
+pub node_at : {C : Type 0} (members : List ℕ) (nodes : List (NodeState C)) (n : ℕ) (y : NodeState C) → 1 ≤ n
+    → n ≤ length nodes → y ≡ slice_index_or nodes (n - 1) y → y ≡ node_in members nodes n
 node_at members nodes zero y h k e = absurd (omega arith)
 node_at members nodes (suc i) y h k e =
     let here : suc i - 1 ≡ i = omega arith in

@@ -33,7 +33,8 @@ pub data Receives {C : Type 0} (members : List ℕ) (m n : ℕ) (x : NodeState C
   hears_promise :
       (b : Numbers) (report fresh : List (Pvalue C)) (taken : Slots C)
       → Hears x.leader m b report fresh taken
-      → Receives members m n x (P1b b report) (led x (promises.on_p1b x.leader m b fresh taken)) (all_to_all members n (promises.on_p1b x.leader m b fresh taken).says)
+      → Receives members m n x (P1b b report) (led x (promises.on_p1b x.leader m b fresh taken))
+      (all_to_all members n (promises.on_p1b x.leader m b fresh taken).says)
   hears_vote :
       (b : Option Numbers) (s : ℕ) (by : Numbers)
       → Receives members m n x (P2b b s by) (led x (votes.on_p2b x.leader m b s by)) (all_to_all members n (votes.on_p2b x.leader m b s by).says)

@@ -36,7 +36,8 @@ module _ {Op Reply : Type 0} where
   one_balances : (old new : Attendance Op Reply) (act : Act Op) (noted : Option Reply) → new ≡ with_one old act noted → Balances old new
   one_balances old new act noted is =
       let count : new.count ≡ old.count + 1 = ap (λ (h : Attendance Op Reply). h.count) is in
-      let acts : length new.ticket.acts ≡ length old.ticket.acts + 1 = ap (λ (h : Attendance Op Reply). length h.ticket.acts) is ∙ one_long old.ticket act noted in
+      let acts : length new.ticket.acts ≡ length old.ticket.acts + 1 =
+      ap (λ (h : Attendance Op Reply). length h.ticket.acts) is ∙ one_long old.ticket act noted in
       omega (arith, count, acts)
 
   same_balances : (old new : Attendance Op Reply) → new ≡ old → Balances old new
@@ -60,13 +61,16 @@ asked_balance : (old new : Attendance Op Reply) (ops : List Op) (answers : List 
 asked_balance old new [] [] is = same_balances old new (sym is)
 asked_balance old new [] (x ∷ answers) is = absurd is
 asked_balance old new (op ∷ ops) [] is = absurd is
-asked_balance old new (op ∷ ops) (x ∷ answers) is = then_balances old is.0 new (adds_balance old op (result_of x) is.0 is.1) (asked_balance is.0 new ops answers is.2)
+asked_balance old new (op ∷ ops) (x ∷ answers) is =
+    then_balances old is.0 new (adds_balance old op (result_of x) is.0 is.1) (asked_balance is.0 new ops answers is.2)
 
-closed_balance : (old new : Attendance Op Reply) (P : Attendance Op Reply → Type 0) (r : Result Unit ServiceFault) → ((last : Attendance Op Reply) → P last → Balances old last) → ClosedAfter TakesLeave P r new → Balances old new
+closed_balance : (old new : Attendance Op Reply) (P : Attendance Op Reply → Type 0) (r : Result Unit ServiceFault)
+    → ((last : Attendance Op Reply) → P last → Balances old last) → ClosedAfter TakesLeave P r new → Balances old new
 closed_balance old new P r before c = then_balances old c.0 new (before c.0 c.1) (ends_balance c.0 r new c.2)
 
 -- however the session ended
-pub served_balance : (old new : Attendance Op Reply) (before after : StreamState) (r : Result End SessionFault) → Served Adds TakesLeave old new before after r → Balances old new
+pub served_balance : (old new : Attendance Op Reply) (before after : StreamState) (r : Result End SessionFault)
+    → Served Adds TakesLeave old new before after r → Balances old new
 served_balance old new before after (Ok end) served =
     closed_balance old new _ (Ok tt) (λ last w. asked_balance old last _ w.1 w.3) served.ok.4
 served_balance old new before after (Err ReadFailed) served =
@@ -75,11 +79,15 @@ served_balance old new before after (Err WriteFailed) served =
     let o = (served.breaks_off refl).4 in closed_balance old new _ o.0 (λ last w. asked_balance old last _ w.2 w.8) o.1
 served_balance old new before after (Err ServiceStopped) served = at (served.stopped refl).4
   where
-    at : {input output : List ℕ} → (ClosedOnce TakesLeave (λ s. StopsAt Adds old s input output) new ⊎ ClosedBadly Adds TakesLeave old new after (Err ServiceFault.Stopped) input output) → Balances old new
-    at (inl o) = closed_balance old new _ o.0 (λ last s. then_balances old s.4 last (asked_balance old s.4 _ s.1 s.6) (adds_balance s.4 s.2 (Err Stopped) last s.7)) o.1
+    at : {input output : List ℕ} → (ClosedOnce TakesLeave (λ s. StopsAt Adds old s input output) new
+        ⊎ ClosedBadly Adds TakesLeave old new after (Err ServiceFault.Stopped) input output) → Balances old new
+    at (inl o) = closed_balance old new _ o.0
+        (λ last s. then_balances old s.4 last (asked_balance old s.4 _ s.1 s.6)
+        (adds_balance s.4 s.2 (Err Stopped) last s.7)) o.1
     at (inr o) = closed_balance old new _ (Err Stopped) (λ last w. asked_balance old last _ w.1 w.3) o.1
 served_balance old new before after (Err OutOfMemory) served = at (served.out_of_memory refl).4
   where
-    at : {input output : List ℕ} → (ClosedOnce TakesLeave (λ s. Partly Adds old s input output) new ⊎ ClosedBadly Adds TakesLeave old new after (Err ServiceFault.Refused) input output) → Balances old new
+    at : {input output : List ℕ} → (ClosedOnce TakesLeave (λ s. Partly Adds old s input output) new
+        ⊎ ClosedBadly Adds TakesLeave old new after (Err ServiceFault.Refused) input output) → Balances old new
     at (inl o) = closed_balance old new _ o.0 (λ last p. asked_balance old last _ p.2 p.6) o.1
     at (inr o) = absurd o.1.2

@@ -16,7 +16,8 @@ same_length (x ∷ xs) (suc i) n = ap suc (same_length xs i n)
 within : (book : List ℕ) (i : ℕ) → is_opened book (suc i) ≡ true → i < length book
 within book i e = grind (arith, nat_tests)
 
-pub book_sum : (book : List ℕ) (session number : ℕ) → is_opened book session ≡ true → number ≡ last_number book session + 1 → sum (with_number book session number) ≡ sum book + 1
+pub book_sum : (book : List ℕ) (session number : ℕ) → is_opened book session ≡ true
+    → number ≡ last_number book session + 1 → sum (with_number book session number) ≡ sum book + 1
 book_sum book zero number opened next = absurd (cc)
 book_sum book (suc i) number opened next = ap (λ n. sum (slice_set book i n)) next ∙ one_more book i (within book i opened)
 

@@ -23,18 +23,23 @@ module _ {Op Reply : Type 0} where
   of_session [] s e = absurd (cc)
   of_session (t ∷ ts) s e = at (of_session ts s) (eqb s t.session) refl e
     where
-      at : (list_any (eqb s) (sessions_of ts) ≡ true → (u : TicketState Op Reply) × In u ts × (u.session ≡ s)) → (b : Bool) → eqb s t.session ≡ b → b || list_any (eqb s) (sessions_of ts) ≡ true → (u : TicketState Op Reply) × In u (t ∷ ts) × (u.session ≡ s)
+      at : (list_any (eqb s) (sessions_of ts) ≡ true → (u : TicketState Op Reply) × In u ts × (u.session ≡ s))
+          → (b : Bool) → eqb s t.session ≡ b → b || list_any (eqb s) (sessions_of ts) ≡ true
+          → (u : TicketState Op Reply) × In u (t ∷ ts) × (u.session ≡ s)
       at more true same e = (t, inl refl, grind (arith, nat_tests))
       at more false other e = let u = more e in (u.0, inr u.1, u.2)
 
   -- each ticket's session is free
-  all_free : (h : HallState Op Reply) (m : List Bool) (ts : List (TicketState Op Reply)) → All (λ b. b ≡ false) m → length m ≡ length h.book → ((t : TicketState Op Reply) → In t ts → Agrees h t) → AllFree m (sessions_of ts)
+  all_free : (h : HallState Op Reply) (m : List Bool) (ts : List (TicketState Op Reply)) → All (λ b. b ≡ false) m
+      → length m ≡ length h.book → ((t : TicketState Op Reply) → In t ts → Agrees h t) → AllFree m (sessions_of ts)
   all_free h m [] none long agree = tt
   all_free h m (t ∷ ts) none long agree =
       let free : is_free m t.session ≡ true = fresh m t.session none ∙ ap (λ n. is_one_of n t.session) long ∙ (agree t (inl refl)).opened in
       (free, all_free h m ts none long (λ u i. agree u (inr i)))
 
-  pub are_its : (h : HallState Op Reply) (m k : List Bool) (ts : List (TicketState Op Reply)) → All (λ b. b ≡ false) m → length m ≡ length h.book → length h.book ≡ length ts → ((t : TicketState Op Reply) → In t ts → Agrees h t) → marked m (sessions_of ts) ≡ Some k → AreItsTickets h ts
+  pub are_its : (h : HallState Op Reply) (m k : List Bool) (ts : List (TicketState Op Reply)) → All (λ b. b ≡ false) m
+      → length m ≡ length h.book → length h.book ≡ length ts → ((t : TicketState Op Reply) → In t ts → Agrees h t)
+      → marked m (sessions_of ts) ≡ Some k → AreItsTickets h ts
   are_its h m k ts none long count agree e =
       let held = sound m k (sessions_of ts) e in
       record {
@@ -46,7 +51,9 @@ module _ {Op Reply : Type 0} where
             (length-map ts (λ (t : TicketState Op Reply). t.session) ∙ sym count) is_there);
       }
 
-  pub can_be_marked : (h : HallState Op Reply) (m : List Bool) (ts : List (TicketState Op Reply)) → All (λ b. b ≡ false) m → length m ≡ length h.book → AreItsTickets h ts → (k : List Bool) × (marked m (sessions_of ts) ≡ Some k)
+  pub can_be_marked : (h : HallState Op Reply) (m : List Bool) (ts : List (TicketState Op Reply))
+      → All (λ b. b ≡ false) m → length m ≡ length h.book → AreItsTickets h ts → (k : List Bool)
+      × (marked m (sessions_of ts) ≡ Some k)
   can_be_marked h m ts none long are = complete m (sessions_of ts) are.once (all_free h m ts none long are.agree)
 
   -- no tickets are those of no sessions

@@ -1,5 +1,6 @@
 -- Sessions can be marked one after the other exactly where all have a mark and no two are one.
-use Rattle.std.proofs.Common.{◌≡◌, ℕ, zero, suc, ◌+◌, ◌<◌, ◌≤◌, Bool, true, false, not, eqb, List, [], ◌∷◌, ◌++◌, length, Option, None, Some, refl, sym, ap, ◌∙◌, subst, arith}
+use Rattle.std.proofs.Common.{◌≡◌, ℕ, zero, suc, ◌+◌, ◌<◌, ◌≤◌, Bool, true, false, not, eqb, List, [], ◌∷◌, ◌++◌}
+use Rattle.std.proofs.Common.{length, Option, None, Some, refl, sym, ap, ◌∙◌, subst, arith}
 use Rattle.std.specs.Prelude.{slice_index_or, slice_set, nat_le, nat_lt, ◌&&◌, ◌||◌, All, if◌then◌else◌}
 use Rattle.std.specs.List.{IsDistinct, AllByRecursion, list_any}
 use Rattle.std.proofs.lemmas.List.{get_or-set_other, get_or_past}
@@ -42,7 +43,8 @@ still_free m s (t ∷ xs) free all =
     let more = still_free m s xs free all.1 in let one = other (eqb s t) refl in ((one.0, more.0), (one.1, more.1))
   where
     other : (b : Bool) → eqb s t ≡ b → (eqb s t ≡ false) × (is_free m t ≡ true)
-    other true e = absurd (let same : s ≡ t = grind (arith, nat_tests) in let taken = same_taken m s free in let t_free = subst (λ x. is_free (with_mark m s) x ≡ true) (sym same) all.0 in cc)
+    other true e = absurd (let same : s ≡ t = grind (arith, nat_tests) in let taken =
+        same_taken m s free in let t_free = subst (λ x. is_free (with_mark m s) x ≡ true) (sym same) all.0 in cc)
     other false e = (e, sym (other_free m s t e) ∙ all.0)
 
 free_still : (m : List Bool) (s : ℕ) (xs : List ℕ) → IsApart s xs → AllFree m xs → AllFree (with_mark m s) xs
@@ -55,7 +57,9 @@ unfolding IsDistinct
 sound m k [] e = (tt, tt)
 sound m k (s ∷ xs) e = at (sound (with_mark m s) k xs) (is_free m s) refl e
   where
-    at : (marked (with_mark m s) xs ≡ Some k → IsDistinct eqb xs × AllFree (with_mark m s) xs) → (b : Bool) → is_free m s ≡ b → (if b then marked (with_mark m s) xs else None) ≡ Some k → (IsApart s xs × IsDistinct eqb xs) × AllFree m (s ∷ xs)
+    at : (marked (with_mark m s) xs ≡ Some k → IsDistinct eqb xs × AllFree (with_mark m s) xs) → (b : Bool)
+        → is_free m s ≡ b → (if b then marked (with_mark m s) xs else None) ≡ Some k
+        → (IsApart s xs × IsDistinct eqb xs) × AllFree m (s ∷ xs)
     at more true free e = let still = still_free m s xs free (more e).1 in ((still.0, (more e).0), (free, still.1))
     at more false free e = absurd (cc)
 
@@ -76,7 +80,9 @@ marked_on m k [] ys e = ap (λ o. marked (inside o) ys) e
     inside (Some l) = l
 marked_on m k (s ∷ xs) ys e = at (marked_on (with_mark m s) k xs ys) (is_free m s) e
   where
-    at : (marked (with_mark m s) xs ≡ Some k → marked (with_mark m s) (xs ++ ys) ≡ marked k ys) → (b : Bool) → (if b then marked (with_mark m s) xs else None) ≡ Some k → (if b then marked (with_mark m s) (xs ++ ys) else None) ≡ marked k ys
+    at : (marked (with_mark m s) xs ≡ Some k → marked (with_mark m s) (xs ++ ys) ≡ marked k ys) → (b : Bool)
+        → (if b then marked (with_mark m s) xs else None) ≡ Some k
+        → (if b then marked (with_mark m s) (xs ++ ys) else None) ≡ marked k ys
     at more true e = more e
     at more false e = absurd (cc)
 
@@ -84,7 +90,9 @@ pub marked_off : (m : List Bool) (xs ys : List ℕ) → marked m xs ≡ None →
 marked_off m [] ys e = absurd (cc)
 marked_off m (s ∷ xs) ys e = at (marked_off (with_mark m s) xs ys) (is_free m s) e
   where
-    at : (marked (with_mark m s) xs ≡ None → marked (with_mark m s) (xs ++ ys) ≡ None) → (b : Bool) → (if b then marked (with_mark m s) xs else None) ≡ None → (if b then marked (with_mark m s) (xs ++ ys) else None) ≡ None
+    at : (marked (with_mark m s) xs ≡ None → marked (with_mark m s) (xs ++ ys) ≡ None) → (b : Bool)
+        → (if b then marked (with_mark m s) xs else None) ≡ None
+        → (if b then marked (with_mark m s) (xs ++ ys) else None) ≡ None
     at more true e = more e
     at more false e = refl
 
@@ -132,7 +140,8 @@ no_zero (zero ∷ xs) n all = absurd (let one = all.0 in cc)
 no_zero (suc t ∷ xs) n all = (grind (arith, nat_tests), no_zero xs n all.1)
 
 -- n sessions of n, no two of them one, are all
-pub all_there : (xs : List ℕ) (n s : ℕ) → IsDistinct eqb xs → AllByRecursion (λ t. is_one_of n t ≡ true) xs → length xs ≡ n → is_one_of n s ≡ true → list_any (eqb s) xs ≡ true
+pub all_there : (xs : List ℕ) (n s : ℕ) → IsDistinct eqb xs → AllByRecursion (λ t. is_one_of n t ≡ true) xs
+    → length xs ≡ n → is_one_of n s ≡ true → list_any (eqb s) xs ≡ true
 all_there xs n s once all long one = at (list_any (eqb s) xs) refl
   where
     at : (b : Bool) → list_any (eqb s) xs ≡ b → list_any (eqb s) xs ≡ true

@@ -9,7 +9,8 @@ use Rattle.session.specs.Serving.{Asks, Asked, Closes, Whole, StopsAt, Partly, R
 use Rattle.session.specs.StreamStates.{StreamState}
 
 -- over the same streams
-pub over : (a b h k : Option (List ℕ)) (P Q : List ℕ → List ℕ → Type 0) → ((input output : List ℕ) → P input output → Q input output) → Over a b h k P → Over a b h k Q
+pub over : (a b h k : Option (List ℕ)) (P Q : List ℕ → List ℕ → Type 0)
+    → ((input output : List ℕ) → P input output → Q input output) → Over a b h k P → Over a b h k Q
 over a b h k P Q f o = (o.0, o.1, o.2, o.3, f o.0 o.1 o.4)
 
 if_ok : {X E : Type 0} (r : Result X E) (P Q : X → Type 0) → ((x : X) → P x → Q x) → IfOk r P → IfOk r Q
@@ -51,10 +52,14 @@ module _ {S T : Type 0} (seen : S → T) (asks : Asks T) (closes : Closes T) whe
     closed_once : (new : S) → ClosedOnce ClosesBy P new → ClosedOnce closes Q (seen new)
     closed_once new c = (c.0, closed_after c.0 new c.1)
 
-  closed_badly : (old new : S) (after : StreamState) (closed : Result Unit ServiceFault) (input output : List ℕ) → ClosedBadly AsksBy ClosesBy old new after closed input output → ClosedBadly asks closes (seen old) (seen new) after closed input output
+  closed_badly : (old new : S) (after : StreamState) (closed : Result Unit ServiceFault) (input output : List ℕ)
+      → ClosedBadly AsksBy ClosesBy old new after closed input output
+      → ClosedBadly asks closes (seen old) (seen new) after closed input output
   closed_badly old new after closed input output w = (w.0, closed_after _ _ (λ s. whole old s input output w.0) closed new w.1, w.2)
 
-  pub served : (old new : S) (before after : StreamState) (result : Result End SessionFault) → Served AsksBy ClosesBy old new before after result → Served asks closes (seen old) (seen new) before after result
+  pub served : (old new : S) (before after : StreamState) (result : Result End SessionFault)
+      → Served AsksBy ClosesBy old new before after result
+      → Served asks closes (seen old) (seen new) before after result
   served old new before after result s = record {
     ok = if_ok result _ _ (λ end. over _ _ _ _ _ _ (λ input output. closed_after _ _ (λ last. whole old last input output end) (Ok tt) new)) s.ok;
     all_was_told = λ e. over _ _ _ _ _ _ (λ input output. closed_once _ _ (λ last. whole old last input output End.Eof) new) (s.all_was_told e);

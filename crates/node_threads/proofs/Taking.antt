@@ -1,5 +1,6 @@
 -- The first items of a list, with one more, and all of them.
-use Rattle.std.proofs.Common.{◌≡◌, inl, inr, ⊎_elim, ℕ, ◌+◌, ◌<◌, Bool, true, false, List, [], ◌∷◌, ◌++◌, length, map, take, drop, None, Some, refl, sym, ap, ◌∙◌, subst}
+use Rattle.std.proofs.Common.{◌≡◌, inl, inr, ⊎_elim, ℕ, ◌+◌, ◌<◌, Bool, true, false, List, [], ◌∷◌, ◌++◌, length, map}
+use Rattle.std.proofs.Common.{take, drop, None, Some, refl, sym, ap, ◌∙◌, subst}
 use Rattle.std.specs.Prelude.{slice_index_or, flat_map, if◌then◌else◌}
 use Rattle.std.proofs.lemmas.List.{take_more, take-append-drop, map-append}
 use Rattle.std.proofs.lemmas.Grind.{flat_map-append}
@@ -9,7 +10,8 @@ use Rattle.node_threads.specs.Marks.{is_free, with_mark, marked}
 use Rattle.node_threads.proofs.Marking.{marked_on, marked_off}
 
 -- it holds of all that stand in the one list or in the other
-pub all_more : {A : Type 0} (P : A → Type 0) (xs ys zs : List A) → zs ≡ xs ++ ys → ((a : A) → In a xs → P a) → ((a : A) → In a ys → P a) → (a : A) → In a zs → P a
+pub all_more : {A : Type 0} (P : A → Type 0) (xs ys zs : List A) → zs ≡ xs ++ ys → ((a : A) → In a xs → P a)
+    → ((a : A) → In a ys → P a) → (a : A) → In a zs → P a
 all_more P xs ys zs is ofxs ofys a i = ⊎_elim (ofxs a) (ofys a) (In-cases a xs ys (subst (In a) is i))
 
 pub of_one : {A : Type 0} (P : A → Type 0) (x : A) → P x → (a : A) → In a (x ∷ []) → P a
@@ -21,7 +23,9 @@ module _ {X : Type 0} (xs : List X) (n : ℕ) (x : X) (within : n < length xs) (
   one_taken = take_more xs n x within ∙ ap (λ y. take n xs ++ (y ∷ [])) (sym at)
 
   pub In-at : In x xs
-  In-at = subst (In x) (take-append-drop (n + 1) xs) (In-left x (take (n + 1) xs) (drop (n + 1) xs) (subst (In x) (sym one_taken) (In-right x (take n xs) (x ∷ []) (inl refl))))
+  In-at = subst (In x) (take-append-drop (n + 1) xs)
+      (In-left x (take (n + 1) xs) (drop (n + 1) xs)
+      (subst (In x) (sym one_taken) (In-right x (take n xs) (x ∷ []) (inl refl))))
 
   module _ {A : Type 0} (f : X → List A) where
     -- what is made of them, one after the other
@@ -33,10 +37,13 @@ module _ {X : Type 0} (xs : List X) (n : ℕ) (x : X) (within : n < length xs) (
         append_none (a ∷ l) = ap (λ m. a ∷ m) (append_none l)
 
     pub made_whole : flat_map f xs ≡ (flat_map f (take n xs) ++ f x) ++ flat_map f (drop (n + 1) xs)
-    made_whole = ap (flat_map f) (sym (take-append-drop (n + 1) xs)) ∙ flat_map-append f (take (n + 1) xs) (drop (n + 1) xs) ∙ ap (λ l. l ++ flat_map f (drop (n + 1) xs)) made_more
+    made_whole = ap (flat_map f) (sym (take-append-drop (n + 1) xs)) ∙ flat_map-append f (take (n + 1) xs)
+        (drop (n + 1) xs) ∙ ap (λ l. l ++ flat_map f (drop (n + 1) xs)) made_more
 
     pub In-made : (a : A) → In a (f x) → In a (flat_map f xs)
-    In-made a i = subst (In a) (sym made_whole) (In-left a (flat_map f (take n xs) ++ f x) (flat_map f (drop (n + 1) xs)) (In-right a (flat_map f (take n xs)) (f x) i))
+    In-made a i = subst (In a) (sym made_whole)
+        (In-left a (flat_map f (take n xs) ++ f x) (flat_map f (drop (n + 1) xs))
+        (In-right a (flat_map f (take n xs)) (f x) i))
 
 -- the marks of items, each of one session
 module _ {X : Type 0} (key : X → ℕ) (m k : List Bool) (xs ys : List X) (sofar : marked m (map key xs) ≡ Some k) where

@@ -1,5 +1,6 @@
 -- What a filter remembers of one command more.
-use Rattle.std.proofs.Common.{◌≡◌, ℕ, Bool, true, false, cond, not, ◌&&◌, ◌||◌, List, [], ◌∷◌, Option, Some, None, nat_lt, ◌==◌, refl, sym, ap, ◌∙◌, arith, ltb-true, lt-ltb, eqb-true}
+use Rattle.std.proofs.Common.{◌≡◌, ℕ, Bool, true, false, cond, not, ◌&&◌, ◌||◌, List, [], ◌∷◌, Option, Some, None}
+use Rattle.std.proofs.Common.{nat_lt, ◌==◌, refl, sym, ap, ◌∙◌, arith, ltb-true, lt-ltb, eqb-true}
 use Rattle.std.proofs.lemmas.Bool.{true≢false, ltb-false, le-ltb}
 use Rattle.std.specs.Cmp.{unsigned_tied, eq_by_cmp_equiv}
 use Rattle.std.proofs.lemmas.Cmp.{nat_cmp_total}
@@ -37,7 +38,8 @@ stale_at false c d on_c on_d alike stale = refl
 pub remembers_none : {Op : Type 0} → Remembers {Op = Op} empty []
 remembers_none c = ap (λ o. is_above o c.key.number) (get-empty nat_cmp c.key.session)
 
-pub remembers_done : {Op : Type 0} (latest : LatestNumbers) (earlier : List (Command Op)) (c : Command Op) → Remembers latest earlier → is_later c.key latest ≡ true → Remembers (noted c.key latest) (c ∷ earlier)
+pub remembers_done : {Op : Type 0} (latest : LatestNumbers) (earlier : List (Command Op)) (c : Command Op)
+    → Remembers latest earlier → is_later c.key latest ≡ true → Remembers (noted c.key latest) (c ∷ earlier)
 remembers_done latest earlier c knows later d =
     let s = c.key.session in
     let q = d.key.session in
@@ -49,7 +51,8 @@ remembers_done latest earlier c knows later d =
     tied : (q s : ℕ) → eq_by_cmp nat_cmp q s ≡ (s == q)
     tied q s = (eq_by_cmp_equiv nat_cmp_total).symm q s ∙ unsigned_tied s q
 
-pub remembers_stale : {Op : Type 0} (latest : LatestNumbers) (earlier : List (Command Op)) (c : Command Op) → Remembers latest earlier → is_later c.key latest ≡ false → Remembers latest (c ∷ earlier)
+pub remembers_stale : {Op : Type 0} (latest : LatestNumbers) (earlier : List (Command Op)) (c : Command Op)
+    → Remembers latest earlier → is_later c.key latest ≡ false → Remembers latest (c ∷ earlier)
 remembers_stale latest earlier c knows stale d =
     let s = c.key.session in
     let q = d.key.session in

@@ -1,5 +1,6 @@
 -- What is found in a map by key when one session's map by number changes.
-use Rattle.std.proofs.Common.{◌≡◌, ℕ, ◌==◌, true, false, cond, ◌&&◌, if◌then◌else◌, List, Option, Some, IsSome, Result, Ok, Err, OnErr, BTreeMap, sym, ap, subst, refl, ◌∙◌}
+use Rattle.std.proofs.Common.{◌≡◌, ℕ, ◌==◌, true, false, cond, ◌&&◌, if◌then◌else◌, List, Option, Some, IsSome, Result}
+use Rattle.std.proofs.Common.{Ok, Err, OnErr, BTreeMap, sym, ap, subst, refl, ◌∙◌}
 use Rattle.std.specs.BTreeMap.{is_at, get_by, WritesThrough}
 use Rattle.std.specs.Map.{lookup}
 use Rattle.std.specs.Option.{option_and_then}

@@ -19,13 +19,17 @@ module _ {X : Type 0} where
   get_at es q = get-from_entries nat_cmp_total es q ∙ find_at es q
 
   -- entries that have another value at one number make maps that do
-  pub put_at : (es fs : List (ℕ × X)) (k : ℕ) (v : X) → ((q : ℕ) → lookup (is_at (nat_cmp q)) fs ≡ cond (is_at (nat_cmp k) q) (Some v) (lookup (is_at (nat_cmp q)) es)) → from_entries {R = nat_cmp} fs ≡ insert (from_entries es) k v
+  pub put_at : (es fs : List (ℕ × X)) (k : ℕ) (v : X)
+      → ((q : ℕ) → lookup (is_at (nat_cmp q)) fs ≡ cond (is_at (nat_cmp k) q) (Some v) (lookup (is_at (nat_cmp q)) es))
+      → from_entries {R = nat_cmp} fs ≡ insert (from_entries es) k v
   put_at es fs k v h = same_map nat_cmp_total exact_unsigned _ _ (λ q.
       get_at fs q ∙ h q ∙ ap (λ b. cond b (Some v) (lookup (is_at (nat_cmp q)) es)) ((eq_by_cmp_equiv nat_cmp_total).symm k q) ∙
       sym (get-insert nat_cmp_total (from_entries es) k v q ∙ ap (cond (is_at (nat_cmp q) k) (Some v)) (get_at es q)))
 
   -- and entries without one make maps without it
-  pub taken_at : (es fs : List (ℕ × X)) (k : ℕ) → ((q : ℕ) → lookup (is_at (nat_cmp q)) fs ≡ cond (is_at (nat_cmp k) q) None (lookup (is_at (nat_cmp q)) es)) → from_entries {R = nat_cmp} fs ≡ remove (from_entries es) k
+  pub taken_at : (es fs : List (ℕ × X)) (k : ℕ)
+      → ((q : ℕ) → lookup (is_at (nat_cmp q)) fs ≡ cond (is_at (nat_cmp k) q) None (lookup (is_at (nat_cmp q)) es))
+      → from_entries {R = nat_cmp} fs ≡ remove (from_entries es) k
   taken_at es fs k h = same_map nat_cmp_total exact_unsigned _ _ (λ q.
       get_at fs q ∙ h q ∙ ap (λ b. cond b None (lookup (is_at (nat_cmp q)) es)) ((eq_by_cmp_equiv nat_cmp_total).symm k q) ∙
       sym (get-remove nat_cmp_total (from_entries es) k q ∙ ap (cond (is_at (nat_cmp q) k) None) (get_at es q)))

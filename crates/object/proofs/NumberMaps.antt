@@ -1,10 +1,12 @@
 -- What is found in a map by number, and what an edit of its list does to it.
-use Rattle.std.proofs.Common.{◌≡◌, ℕ, zero, suc, ◌+◌, ◌-◌, ◌<◌, ◌≤◌, ◌≢◌, List, [], ◌∷◌, length, get_or, set, Some, None, Result, Ok, Err, IfOk, IfErr, sym, ap, subst, refl, arith}
+use Rattle.std.proofs.Common.{◌≡◌, ℕ, zero, suc, ◌+◌, ◌-◌, ◌<◌, ◌≤◌, ◌≢◌, List, [], ◌∷◌, length, get_or, set, Some}
+use Rattle.std.proofs.Common.{None, Result, Ok, Err, IfOk, IfErr, sym, ap, subst, refl, arith}
 use Rattle.std.specs.List.{insert, remove}
 use Rattle.std.specs.List.Sorted.{IsSearchInRange, IsBinarySearchResult, IsNonDecreasingBy}
 use Rattle.std.specs.Ordering.{nat_cmp, ordering_index}
 use Rattle.std.proofs.lemmas.Cmp.{ranked}
-use Rattle.std.proofs.lemmas.List.Edits.{length-insert, get_or-insert_below, get_or-insert_at, get_or-insert_above, length-remove, get_or-remove_below, get_or-remove_above}
+use Rattle.std.proofs.lemmas.List.Edits.{length-insert, get_or-insert_below, get_or-insert_at, get_or-insert_above}
+use Rattle.std.proofs.lemmas.List.Edits.{length-remove, get_or-remove_below, get_or-remove_above}
 use Rattle.std.proofs.lemmas.Bool.Decides.{nat_tests}
 use Rattle.std.proofs.lemmas.Grind.{common_steps}
 use Rattle.object.specs.NumberMaps.{value_of, number_at, Rises, IsAt, IsGapFor, Sets, Lacks}
@@ -66,7 +68,8 @@ module _ {V : Type 0} (es : List (ℕ × V)) (rises : Rises es) (k : ℕ) where
       grind (arith, nat_tests)
 
   -- a binary search ends at the number, or at the gap for it
-  pub searched : (r : Result ℕ ℕ) → IsSearchInRange r (length es) → IsBinarySearchResult (λ e. nat_cmp e.0 k) es r → record { found : IfOk r (IsAt es k); absent : IfErr r (IsGapFor es k) }
+  pub searched : (r : Result ℕ ℕ) → IsSearchInRange r (length es) → IsBinarySearchResult (λ e. nat_cmp e.0 k) es r
+      → record { found : IfOk r (IsAt es k); absent : IfErr r (IsGapFor es k) }
   searched (Ok i) in_range equal = record { found = record { in_range = in_range; has = λ d. ranked _ k _ (sym (equal d)) }; absent = tt }
   searched (Err i) in_range parted = record {
     found = tt;
@@ -90,8 +93,10 @@ module _ {V : Type 0} (es : List (ℕ × V)) (rises : Rises es) (k i : ℕ) (at 
   pub rises_taken : Rises (remove es i)
   rises_taken p q d lt in_range =
       let size = length-remove es i at.in_range in
-      let below : (p : ℕ) → p < i → number_at (remove es i) p d ≡ number_at es p d = λ p less. ap (λ (e : ℕ × V). e.0) (get_or-remove_below es i d p less at.in_range) in
-      let above : (p : ℕ) → i ≤ p → number_at (remove es i) p d ≡ number_at es (p + 1) d = λ p more. ap (λ (e : ℕ × V). e.0) (get_or-remove_above es i d p more at.in_range) in
+      let below : (p : ℕ) → p < i → number_at (remove es i) p d ≡ number_at es p d =
+      λ p less. ap (λ (e : ℕ × V). e.0) (get_or-remove_below es i d p less at.in_range) in
+      let above : (p : ℕ) → i ≤ p → number_at (remove es i) p d ≡ number_at es (p + 1) d =
+      λ p more. ap (λ (e : ℕ × V). e.0) (get_or-remove_above es i d p more at.in_range) in
       grind (arith, below p, below q, above p, above q, rises p q d, rises p (q + 1) d, rises (p + 1) (q + 1) d)
 
 module _ {V : Type 0} (es : List (ℕ × V)) (k i : ℕ) (gap : IsGapFor es k i) where
@@ -104,10 +109,27 @@ module _ {V : Type 0} (es : List (ℕ × V)) (k i : ℕ) (gap : IsGapFor es k i)
   rises_put v rises p q d lt in_range =
       let new = insert es i (k, v) in
       let size = length-insert es i (k, v) gap.in_range in
-      let below : (p : ℕ) → p < i → number_at new p d ≡ number_at es p d = λ p less. ap (λ (e : ℕ × V). e.0) (get_or-insert_below es i (k, v) d p less gap.in_range) in
+      let below : (p : ℕ) → p < i → number_at new p d ≡ number_at es p d =
+      λ p less. ap (λ (e : ℕ × V). e.0) (get_or-insert_below es i (k, v) d p less gap.in_range) in
       let here : (p : ℕ) → p ≡ i → number_at new p d ≡ k = λ p same. rw same (ap (λ (e : ℕ × V). e.0) (get_or-insert_at es i (k, v) d gap.in_range)) in
-      let above : (p : ℕ) → i < p → number_at new p d ≡ number_at es (p - 1) d = λ p more. subst (λ m. number_at new m d ≡ number_at es (p - 1) d) {x = p - 1 + 1} (omega arith) (ap (λ (e : ℕ × V). e.0) (get_or-insert_above es i (k, v) d (p - 1) (omega arith) gap.in_range)) in
-      grind (arith, below p, here p, above p, below q, here q, above q, rises p q d, rises p (q - 1) d, rises (p - 1) (q - 1) d, gap.smaller p d, gap.greater (q - 1) d)
+      let above : (p : ℕ) → i < p → number_at new p d ≡ number_at es (p - 1) d =
+      λ p more. subst (λ m. number_at new m d ≡ number_at es (p - 1) d) {x = p - 1 + 1} (omega arith)
+      (ap (λ (e : ℕ × V). e.0) (get_or-insert_above es i (k, v) d (p - 1) (omega arith) gap.in_range)) in
+      grind (
+        arith,
+        below p,
+        here p,
+        above p,
+        below q,
+        here q,
+        above q,
+        rises p q d,
+        rises p (q - 1) d,
+        rises (p - 1)
+            (q - 1) d,
+        gap.smaller p d,
+        gap.greater (q - 1) d,
+      )
 
   -- the place of the gap is no later than the end, so no pair before it has the number
   pub none_before_gap : NoneBefore es k i

@@ -12,7 +12,8 @@ use Rattle.object.specs.declared.command.Submission.{Submission}
 -- nothing that happened earlier is changed, and each later submission comes after every earlier answer
 pub record GoesOn {Op Reply : Type 0} (earlier later : Happenings Op Reply) : Type 0 where
   pub answers : IsBeginning earlier.answers later.answers
-  pub submitted : (more : List (Submission Op)) × (later.submitted ≡ earlier.submitted ++ more) × ((s : Submission Op) → In s more → length earlier.answers ≤ s.after)
+  pub submitted : (more : List (Submission Op)) × (later.submitted ≡ earlier.submitted ++ more)
+      × ((s : Submission Op) → In s more → length earlier.answers ≤ s.after)
 
 -- the command was submitted, with its key and its act
 abbrev pub WasSubmitted : {Op : Type 0} → Command Op → List (Submission Op) → Type 0

@@ -1,5 +1,7 @@
 -- Kept commands, and their replay, while a list of commands grows at its end.
-use Rattle.std.proofs.Common.{◌≡◌, ℕ, suc, ◌+◌, ◌≤◌, ◌<◌, ◌==◌, Bool, true, false, true≢false, not, ◌&&◌, ◌||◌, nat_lt, cond, List, [], ◌∷◌, ◌++◌, map, filter, length, fold, refl, sym, ap, ◌∙◌, append-nil, append_assoc, arith}
+use Rattle.std.proofs.Common.{◌≡◌, ℕ, suc, ◌+◌, ◌≤◌, ◌<◌, ◌==◌, Bool, true, false, true≢false, not, ◌&&◌, ◌||◌, nat_lt}
+use Rattle.std.proofs.Common.{cond, List, [], ◌∷◌, ◌++◌, map, filter, length, fold, refl, sym, ap, ◌∙◌, append-nil}
+use Rattle.std.proofs.Common.{append_assoc, arith}
 use Rattle.std.proofs.lemmas.Bool.Decides.{nat_tests}
 use Rattle.object.specs.declared.command.Answer.{Answer}
 use Rattle.object.specs.declared.command.Command.{Command}
@@ -38,7 +40,9 @@ kept_step false d more ks all e = e
 
 pub kept_after-append : {Op : Type 0} (seen cs ds : List (Command Op)) → kept_after seen (cs ++ ds) ≡ kept_after seen cs ++ kept_after (seen_by seen cs) ds
 kept_after-append seen [] ds = refl
-kept_after-append seen (c ∷ cs) ds = kept_step (is_new c seen) c (kept_after (seen_by (c ∷ seen) cs) ds) (kept_after (c ∷ seen) cs) (kept_after (c ∷ seen) (cs ++ ds)) (kept_after-append (c ∷ seen) cs ds)
+kept_after-append seen (c ∷ cs) ds =
+    kept_step (is_new c seen) c (kept_after (seen_by (c ∷ seen) cs) ds) (kept_after (c ∷ seen) cs)
+    (kept_after (c ∷ seen) (cs ++ ds)) (kept_after-append (c ∷ seen) cs ds)
 
 -- one command more is kept where it is new, and else nothing is
 pub kept-push : {Op : Type 0} (cs : List (Command Op)) (c : Command Op) → kept (cs ++ (c ∷ [])) ≡ kept cs ++ cond (is_new c cs) (c ∷ []) []
@@ -56,26 +60,38 @@ noted_at p given = map (λ a. record { place = p; answer = a }) given
 
 module _ {O Op Reply : Type 0} (after : O → Command Op → O) (answers : O → Command Op → List (Answer Reply)) where
   -- what was noted earlier stays
-  pub replay_from-append : (s : O) (p : ℕ) (xs ys : List (Command Op)) → replay_from after answers s p (xs ++ ys) ≡ replay_from after answers s p xs ++ replay_from after answers (fold after s xs) (p + length xs) ys
+  pub replay_from-append : (s : O) (p : ℕ) (xs ys : List (Command Op))
+      → replay_from after answers s p (xs ++ ys)
+      ≡ replay_from after answers s p xs ++ replay_from after answers (fold after s xs) (p + length xs) ys
   replay_from-append s p [] ys = ap (λ q. replay_from after answers s q ys) (omega arith)
   replay_from-append s p (x ∷ xs) ys =
-      ap (λ r. noted_at p (answers s x) ++ r) (replay_from-append (after s x) (suc p) xs ys ∙ ap (λ q. replay_from after answers (after s x) (suc p) xs ++ replay_from after answers (fold after (after s x) xs) q ys) (omega arith))
-      ∙ sym (append_assoc (noted_at p (answers s x)) (replay_from after answers (after s x) (suc p) xs) (replay_from after answers (fold after (after s x) xs) (p + length (x ∷ xs)) ys))
+      ap (λ r. noted_at p (answers s x) ++ r)
+      (replay_from-append (after s x) (suc p) xs ys ∙ ap
+      (λ q. replay_from after answers (after s x) (suc p) xs ++ replay_from after answers
+      (fold after (after s x) xs) q ys) (omega arith))
+      ∙ sym (append_assoc (noted_at p (answers s x)) (replay_from after answers (after s x) (suc p) xs)
+      (replay_from after answers (fold after (after s x) xs) (p + length (x ∷ xs)) ys))
 
-  pub replay-append : (s : O) (xs ys : List (Command Op)) → replay s after answers (xs ++ ys) ≡ replay s after answers xs ++ replay_from after answers (fold after s xs) (length xs) ys
+  pub replay-append : (s : O) (xs ys : List (Command Op))
+      → replay s after answers (xs ++ ys)
+      ≡ replay s after answers xs ++ replay_from after answers (fold after s xs) (length xs) ys
   replay-append s xs ys = replay_from-append s 0 xs ys ∙ ap (λ n. replay s after answers xs ++ replay_from after answers (fold after s xs) n ys) (omega arith)
 
 -- the answers of a list of them
 abbrev pub answers_in : {Reply : Type 0} → List (Placed Reply) → List (Answer Reply)
 answers_in placed = map (λ p. p.answer) placed
 
-placed_step : {Reply : Type 0} (test : Bool) (x : Placed Reply) (some all : List (Placed Reply)) (more : List (Answer Reply)) → answers_in all ≡ answers_in some ++ more → answers_in (cond test (x ∷ all) all) ≡ answers_in (cond test (x ∷ some) some) ++ more
+placed_step : {Reply : Type 0} (test : Bool) (x : Placed Reply) (some all : List (Placed Reply))
+    (more : List (Answer Reply)) → answers_in all ≡ answers_in some ++ more
+    → answers_in (cond test (x ∷ all) all) ≡ answers_in (cond test (x ∷ some) some) ++ more
 placed_step true x some all more e = ap (λ r. x.answer ∷ r) e
 placed_step false x some all more e = e
 
 at_place-append : {Reply : Type 0} (n : ℕ) (xs ys : List (Placed Reply)) → at_place n (xs ++ ys) ≡ at_place n xs ++ at_place n ys
 at_place-append n [] ys = refl
-at_place-append n (x ∷ xs) ys = placed_step (x.place == n) x (filter (λ p. p.place == n) xs) (filter (λ p. p.place == n) (xs ++ ys)) (at_place n ys) (at_place-append n xs ys)
+at_place-append n (x ∷ xs) ys =
+    placed_step (x.place == n) x (filter (λ p. p.place == n) xs) (filter (λ p. p.place == n) (xs ++ ys)) (at_place n ys)
+    (at_place-append n xs ys)
 
 is_it : (n : ℕ) → (n == n) ≡ true
 is_it n = grind (arith, nat_tests)
@@ -83,22 +99,28 @@ is_it n = grind (arith, nat_tests)
 is_less : (p n : ℕ) → p < n → (p == n) ≡ false
 is_less p n h = grind (arith, nat_tests)
 
-one_placed : {Reply : Type 0} (test : Bool) (x : Placed Reply) (some : List (Placed Reply)) (given : List (Answer Reply)) → test ≡ true → answers_in some ≡ given → answers_in (cond test (x ∷ some) some) ≡ x.answer ∷ given
+one_placed : {Reply : Type 0} (test : Bool) (x : Placed Reply) (some : List (Placed Reply))
+    (given : List (Answer Reply)) → test ≡ true → answers_in some ≡ given
+    → answers_in (cond test (x ∷ some) some) ≡ x.answer ∷ given
 one_placed true x some given t e = ap (λ r. x.answer ∷ r) e
 one_placed false x some given t e = absurd (true≢false (sym t))
 
-none_placed : {Reply : Type 0} (test : Bool) (x : Placed Reply) (some : List (Placed Reply)) → test ≡ false → answers_in some ≡ [] → answers_in (cond test (x ∷ some) some) ≡ []
+none_placed : {Reply : Type 0} (test : Bool) (x : Placed Reply) (some : List (Placed Reply)) → test ≡ false
+    → answers_in some ≡ [] → answers_in (cond test (x ∷ some) some) ≡ []
 none_placed true x some t e = absurd (true≢false t)
 none_placed false x some t e = e
 
 -- the answers of one command, at its place and at a later one
 own_place : {Reply : Type 0} (n : ℕ) (given : List (Answer Reply)) → at_place n (noted_at n given) ≡ given
 own_place n [] = refl
-own_place n (a ∷ given) = one_placed (n == n) (record { place = n; answer = a }) (filter (λ p. p.place == n) (noted_at n given)) given (is_it n) (own_place n given)
+own_place n (a ∷ given) = one_placed (n == n) (record { place = n; answer = a })
+    (filter (λ p. p.place == n) (noted_at n given)) given (is_it n) (own_place n given)
 
 other_place : {Reply : Type 0} (p n : ℕ) → p < n → (given : List (Answer Reply)) → at_place n (noted_at p given) ≡ []
 other_place p n h [] = refl
-other_place p n h (a ∷ given) = none_placed (p == n) (record { place = p; answer = a }) (filter (λ q. q.place == n) (noted_at p given)) (is_less p n h) (other_place p n h given)
+other_place p n h (a ∷ given) =
+    none_placed (p == n) (record { place = p; answer = a }) (filter (λ q. q.place == n) (noted_at p given))
+    (is_less p n h) (other_place p n h given)
 
 module _ {O Op Reply : Type 0} (after : O → Command Op → O) (answers : O → Command Op → List (Answer Reply)) where
   -- nothing is noted behind the last command
@@ -110,7 +132,8 @@ module _ {O Op Reply : Type 0} (after : O → Command Op → O) (answers : O →
       ∙ behind (after s x) (suc p) n xs (omega arith)
 
   -- at the last place stands what the object answers to the last command
-  pub last_place : (s : O) (xs : List (Command Op)) (c : Command Op) → at_place (length xs) (replay s after answers (xs ++ (c ∷ []))) ≡ answers (fold after s xs) c
+  pub last_place : (s : O) (xs : List (Command Op)) (c : Command Op)
+      → at_place (length xs) (replay s after answers (xs ++ (c ∷ []))) ≡ answers (fold after s xs) c
   last_place s xs c =
       ap (at_place (length xs)) (replay-append after answers s xs (c ∷ []))
       ∙ at_place-append (length xs) (replay s after answers xs) (replay_from after answers (fold after s xs) (length xs) (c ∷ []))

@@ -1,5 +1,6 @@
 -- The ends of pauses, and the steps that take changes back.
-use Rattle.std.proofs.Common.{◌≡◌, ℕ, ◌≤◌, ◌⊎◌, inl, inr, List, [], ◌∷◌, ◌++◌, refl, sym, ap, ap₂, subst, ◌∙◌, arith, Some, None, Ordering, Less, Equal, Greater, nat_lt, ltb-false, ltb-true, true, false}
+use Rattle.std.proofs.Common.{◌≡◌, ℕ, ◌≤◌, ◌⊎◌, inl, inr, List, [], ◌∷◌, ◌++◌, refl, sym, ap, ap₂, subst, ◌∙◌, arith}
+use Rattle.std.proofs.Common.{Some, None, Ordering, Less, Equal, Greater, nat_lt, ltb-false, ltb-true, true, false}
 use Rattle.std.specs.Ordering.{match_ordering, nat_cmp, ordering_then}
 use Rattle.std.specs.List.{AllByRecursion}
 use Rattle.std.specs.List.Sorted.{IsStrictlySortedBy}
@@ -16,7 +17,8 @@ use Rattle.pause_store.specs.declared.pause_step.PauseStep.{PauseStep}
 use Rattle.pause_store.specs.Pauses.{HasEnds, pause_cmp, step_back, before_steps}
 use Rattle.pause_store.proofs.Seconds.{remove-insert, set-insert}
 
-pub before-push : (steps : List PauseStep) (step : PauseStep) (es : List (List ℕ × ℕ)) → before_steps (steps ++ step ∷ []) es ≡ before_steps steps (step_back step es)
+pub before-push : (steps : List PauseStep) (step : PauseStep) (es : List (List ℕ × ℕ))
+    → before_steps (steps ++ step ∷ []) es ≡ before_steps steps (step_back step es)
 before-push [] step es = refl
 before-push (s ∷ steps) step es = ap (step_back s) (before-push steps step es)
 
@@ -24,7 +26,9 @@ before-push (s ∷ steps) step es = ap (step_back s) (before-push steps step es)
 in-insert : (p : List ℕ × ℕ) (tube : List ℕ) (v : ℕ) (es : List (List ℕ × ℕ)) → In p (insert_entry name_cmp es tube v) → (p ≡ (tube, v)) ⊎ In p es
 in-insert p tube v [] i = elim i [ inl e ↦ inl e | inr none ↦ absurd none ]
 in-insert p tube v (e ∷ es) i =
-    elim (name_cmp tube e.0) as (λ o. name_cmp tube e.0 ≡ o → In p (match_ordering o ((tube, v) ∷ e ∷ es) ((e.0, v) ∷ es) (e ∷ insert_entry name_cmp es tube v)) → (p ≡ (tube, v)) ⊎ In p (e ∷ es)) [
+    elim (name_cmp tube e.0) as (λ o. name_cmp tube e.0 ≡ o
+    → In p (match_ordering o ((tube, v) ∷ e ∷ es) ((e.0, v) ∷ es) (e ∷ insert_entry name_cmp es tube v))
+    → (p ≡ (tube, v)) ⊎ In p (e ∷ es)) [
       | Less ↦ λ o i. i
       | Equal ↦ λ o i. elim i [ inl same ↦ inl (same ∙ ap (λ x. (x, v)) (sym (exact_bytes tube e.0 o))) | inr more ↦ inr (inr more) ]
       | Greater ↦ λ o i. elim i [
@@ -33,21 +37,25 @@ in-insert p tube v (e ∷ es) i =
       ]
     ] refl i
 
-pub ends-insert : (second : ℕ) (ends : List Pause) (tube : List ℕ) (v : ℕ) (es fs : List (List ℕ × ℕ)) → fs ≡ insert_entry name_cmp es tube v → In (record { until = v; tube = tube }) ends → HasEnds second ends es → HasEnds second ends fs
+pub ends-insert : (second : ℕ) (ends : List Pause) (tube : List ℕ) (v : ℕ) (es fs : List (List ℕ × ℕ))
+    → fs ≡ insert_entry name_cmp es tube v → In (record { until = v; tube = tube }) ends → HasEnds second ends es
+    → HasEnds second ends fs
 ends-insert second ends tube v es fs is there h p i later =
     elim (in-insert p tube v es (subst (In p) is i)) [
       | inl new ↦ subst (λ (q : List ℕ × ℕ). In (record { until = q.1; tube = q.0 }) ends) (sym new) there
       | inr old ↦ h p old later
     ]
 
-pub ends-grown : (second : ℕ) (ends more : List Pause) (es fs : List (List ℕ × ℕ)) → fs ≡ es → ((p : Pause) → In p ends → In p more) → HasEnds second ends es → HasEnds second more fs
+pub ends-grown : (second : ℕ) (ends more : List Pause) (es fs : List (List ℕ × ℕ)) → fs ≡ es
+    → ((p : Pause) → In p ends → In p more) → HasEnds second ends es → HasEnds second more fs
 ends-grown second ends more es fs is grown h p i later = grown (record { until = p.1; tube = p.0 }) (h p (subst (In p) is i) later)
 
 pub ends-later : (second later : ℕ) (ends : List Pause) (es : List (List ℕ × ℕ)) → second ≤ later → HasEnds second ends es → HasEnds later ends es
 ends-later second later ends es h e p i l = e p i (omega (arith, h, l))
 
 -- the first end is over, and went
-pub ends-less : (second : ℕ) (end : Pause) (ends rest : List Pause) (es fs : List (List ℕ × ℕ)) → end.until ≤ second → ends ≡ end ∷ rest → ((p : List ℕ × ℕ) → In p fs → In p es) → HasEnds second ends es → HasEnds second rest fs
+pub ends-less : (second : ℕ) (end : Pause) (ends rest : List Pause) (es fs : List (List ℕ × ℕ)) → end.until ≤ second
+    → ends ≡ end ∷ rest → ((p : List ℕ × ℕ) → In p fs → In p es) → HasEnds second ends es → HasEnds second rest fs
 ends-less second end ends rest es fs over is fewer h p i later =
     elim (subst (In (record { until = p.1; tube = p.0 })) is (h p (fewer p i) later)) [
       | inl same ↦ absurd (omega (arith, over, later, ap (λ (q : Pause). q.until) same))
@@ -111,25 +119,34 @@ soonest k p ks s i = elim i [
 
 -- Steps back
 
-pub changed-back : (tube t u : List ℕ) (v old : ℕ) (es fs : List (List ℕ × ℕ)) (step : PauseStep) → IsStrictlySortedBy name_cmp (keys_of es) → t ≡ tube → u ≡ tube → step ≡ PauseStep.Changed (record { until = old; tube = t }) → fs ≡ insert_entry name_cmp es u v → lookup (is_at (name_cmp tube)) es ≡ Some old → step_back step fs ≡ es
+pub changed-back : (tube t u : List ℕ) (v old : ℕ) (es fs : List (List ℕ × ℕ)) (step : PauseStep)
+    → IsStrictlySortedBy name_cmp (keys_of es) → t ≡ tube → u ≡ tube
+    → step ≡ PauseStep.Changed (record { until = old; tube = t }) → fs ≡ insert_entry name_cmp es u v
+    → lookup (is_at (name_cmp tube)) es ≡ Some old → step_back step fs ≡ es
 changed-back tube t u v old es fs step s a b is set there =
     ap₂ (λ z zs. step_back z zs) is set ∙
     ap₂ (λ x y. step_back (PauseStep.Changed (record { until = old; tube = x })) (insert_entry name_cmp es y v)) a b ∙
     set-insert tube v old es s there
 
-pub begun-back : (tube t u : List ℕ) (v : ℕ) (es fs : List (List ℕ × ℕ)) (step : PauseStep) → t ≡ tube → u ≡ tube → step ≡ PauseStep.Begun t → fs ≡ insert_entry name_cmp es u v → lookup (is_at (name_cmp tube)) es ≡ None → step_back step fs ≡ es
+pub begun-back : (tube t u : List ℕ) (v : ℕ) (es fs : List (List ℕ × ℕ)) (step : PauseStep) → t ≡ tube → u ≡ tube
+    → step ≡ PauseStep.Begun t → fs ≡ insert_entry name_cmp es u v → lookup (is_at (name_cmp tube)) es ≡ None
+    → step_back step fs ≡ es
 begun-back tube t u v es fs step a b is set absent =
     ap₂ (λ z zs. step_back z zs) is set ∙
     ap₂ (λ x y. step_back (PauseStep.Begun x) (insert_entry name_cmp es y v)) a b ∙
     remove-insert tube v es absent
 
 -- one step more
-pub before-step : (steps more : List PauseStep) (step : PauseStep) (es fs : List (List ℕ × ℕ)) → more ≡ steps ++ step ∷ [] → step_back step fs ≡ es → before_steps more fs ≡ before_steps steps es
+pub before-step : (steps more : List PauseStep) (step : PauseStep) (es fs : List (List ℕ × ℕ))
+    → more ≡ steps ++ step ∷ [] → step_back step fs ≡ es → before_steps more fs ≡ before_steps steps es
 before-step steps more step es fs is back = ap (λ zs. before_steps zs fs) is ∙ before-push steps step fs ∙ ap (before_steps steps) back
 
 -- one step less
-pub before-less : (steps fewer : List PauseStep) (step : PauseStep) (es fs before : List (List ℕ × ℕ)) → steps ≡ fewer ++ step ∷ [] → before_steps steps es ≡ before → fs ≡ step_back step es → before_steps fewer fs ≡ before
-before-less steps fewer step es fs before is was back = ap (before_steps fewer) back ∙ sym (before-push fewer step es) ∙ sym (ap (λ zs. before_steps zs es) is) ∙ was
+pub before-less : (steps fewer : List PauseStep) (step : PauseStep) (es fs before : List (List ℕ × ℕ))
+    → steps ≡ fewer ++ step ∷ [] → before_steps steps es ≡ before → fs ≡ step_back step es
+    → before_steps fewer fs ≡ before
+before-less steps fewer step es fs before is was back =
+    ap (before_steps fewer) back ∙ sym (before-push fewer step es) ∙ sym (ap (λ zs. before_steps zs es) is) ∙ was
 
 pub sorted-rest : (items rest : List Pause) (first : Pause) → items ≡ first ∷ rest → IsStrictlySortedBy pause_cmp items → IsStrictlySortedBy pause_cmp rest
 sorted-rest items rest first is sorted = sorted_tail pause_cmp first rest (subst (IsStrictlySortedBy pause_cmp) is sorted)

@@ -1,5 +1,6 @@
 -- A pause is of its tube alone.
-use Rattle.std.proofs.Common.{◌≡◌, ℕ, ◌+◌, true, false, cond, not, ◌||◌, inl, inr, List, [], ◌∷◌, ◌==◌, nat_lt, bytes_eq, Less, Equal, Greater, refl, sym, ap, ◌∙◌, true≢false}
+use Rattle.std.proofs.Common.{◌≡◌, ℕ, ◌+◌, true, false, cond, not, ◌||◌, inl, inr, List, [], ◌∷◌, ◌==◌, nat_lt}
+use Rattle.std.proofs.Common.{bytes_eq, Less, Equal, Greater, refl, sym, ap, ◌∙◌, true≢false}
 use Rattle.std.specs.List.{filter}
 use Rattle.std.specs.Ordering.{match_ordering, is_eq}
 use Rattle.std.specs.Map.{keys_of}
@@ -14,12 +15,15 @@ itself : (tube : List ℕ) → bytes_eq tube tube ≡ true
 itself tube = (bytes_eq-Decides tube tube).1 refl
 
 another : (x y : List ℕ) → (x ≡ y → ⊥) → bytes_eq x y ≡ false
-another x y apart = elim (bytes_eq x y) as (λ b. bytes_eq x y ≡ b → b ≡ false) [ true ↦ λ t. absurd (apart ((bytes_eq-Decides x y).0 t)) | false ↦ λ t. refl ] refl
+another x y apart = elim (bytes_eq x y) as (λ b. bytes_eq x y ≡ b
+    → b ≡ false) [ true ↦ λ t. absurd (apart ((bytes_eq-Decides x y).0 t)) | false ↦ λ t. refl ] refl
 
 its-paused : (tube : List ℕ) (v : ℕ) (es : List (List ℕ × ℕ)) → is_paused tube (insert_entry name_cmp es tube v) ≡ true
 its-paused tube v [] = ap (λ b. b || false) (itself tube)
 its-paused tube v (e ∷ es) =
-    elim (name_cmp tube e.0) as (λ o. name_cmp tube e.0 ≡ o → is_paused tube (match_ordering o ((tube, v) ∷ e ∷ es) ((e.0, v) ∷ es) (e ∷ insert_entry name_cmp es tube v)) ≡ true) [
+    elim (name_cmp tube e.0) as (λ o. name_cmp tube e.0 ≡ o
+    → is_paused tube (match_ordering o ((tube, v) ∷ e ∷ es) ((e.0, v) ∷ es) (e ∷ insert_entry name_cmp es tube v))
+    ≡ true) [
       | Less ↦ λ o. ap (λ b. b || is_paused tube (e ∷ es)) (itself tube)
       | Equal ↦ λ o. ap (λ b. b || is_paused tube es) (sym (is_eq-slice_cmp tube e.0) ∙ ap is_eq o)
       | Greater ↦ λ o. ap (λ b. b || is_paused tube (insert_entry name_cmp es tube v)) (sym (is_eq-slice_cmp tube e.0) ∙ ap is_eq o) ∙ its-paused tube v es
@@ -40,10 +44,13 @@ its-own tube seconds s =
       | false ↦ its-paused tube (s.second + seconds) s.pauses
     ]
 
-other-paused : (tube other : List ℕ) (v : ℕ) (es : List (List ℕ × ℕ)) → (other ≡ tube → ⊥) → is_paused other (insert_entry name_cmp es tube v) ≡ is_paused other es
+other-paused : (tube other : List ℕ) (v : ℕ) (es : List (List ℕ × ℕ)) → (other ≡ tube → ⊥)
+    → is_paused other (insert_entry name_cmp es tube v) ≡ is_paused other es
 other-paused tube other v [] apart = ap (λ b. b || false) (another other tube apart)
 other-paused tube other v (e ∷ es) apart =
-    elim (name_cmp tube e.0) as (λ o. is_paused other (match_ordering o ((tube, v) ∷ e ∷ es) ((e.0, v) ∷ es) (e ∷ insert_entry name_cmp es tube v)) ≡ is_paused other (e ∷ es)) [
+    elim (name_cmp tube e.0) as (λ o. is_paused other
+    (match_ordering o ((tube, v) ∷ e ∷ es) ((e.0, v) ∷ es) (e ∷ insert_entry name_cmp es tube v))
+    ≡ is_paused other (e ∷ es)) [
       | Less ↦ ap (λ b. b || is_paused other (e ∷ es)) (another other tube apart)
       | Equal ↦ refl
       | Greater ↦ ap (λ b. bytes_eq other e.0 || b) (other-paused tube other v es apart)
@@ -60,14 +67,17 @@ other-unpaused tube other (e ∷ es) apart =
       | false ↦ λ t. ap (λ b. bytes_eq other e.0 || b) (other-unpaused tube other es apart)
     ] refl
 
-pub others : (tube other : List ℕ) (seconds : ℕ) (s : PauseState) → (other ≡ tube → ⊥) → is_paused other (paused_for tube seconds s).pauses ≡ is_paused other s.pauses
+pub others : (tube other : List ℕ) (seconds : ℕ) (s : PauseState) → (other ≡ tube → ⊥)
+    → is_paused other (paused_for tube seconds s).pauses ≡ is_paused other s.pauses
 others tube other seconds s apart =
-    elim (seconds == 0) as (λ b. is_paused other (cond b (unpaused tube s.pauses) (paused_until tube (s.second + seconds) s.pauses)) ≡ is_paused other s.pauses) [
+    elim (seconds == 0) as (λ b. is_paused other
+    (cond b (unpaused tube s.pauses) (paused_until tube (s.second + seconds) s.pauses)) ≡ is_paused other s.pauses) [
       | true ↦ other-unpaused tube other s.pauses apart
       | false ↦ other-paused tube other (s.second + seconds) s.pauses apart
     ]
 
-pub goes-on-or-over : (tube : List ℕ) (second : ℕ) (es : List (List ℕ × ℕ)) → is_paused tube es ≡ true → is_paused tube (left_at second es) ≡ false → In tube (tubes_over second es)
+pub goes-on-or-over : (tube : List ℕ) (second : ℕ) (es : List (List ℕ × ℕ)) → is_paused tube es ≡ true
+    → is_paused tube (left_at second es) ≡ false → In tube (tubes_over second es)
 goes-on-or-over tube second [] paused ended = absurd (true≢false (sym paused))
 goes-on-or-over tube second (e ∷ es) paused ended =
     let rest = left_at second es in

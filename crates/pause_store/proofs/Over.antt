@@ -14,7 +14,9 @@ use Rattle.pause_store.proofs.Ends.{soonest}
 -- Names, and one more
 
 pub joined-keeps : (name : List ℕ) (names : List (List ℕ)) (tube : List ℕ) → In tube names → In tube (joined name names)
-joined-keeps name names tube i = elim (is_among name names) as (λ b. In tube (cond b names (names ++ name ∷ []))) [ true ↦ i | false ↦ in-front tube names (name ∷ []) i ]
+joined-keeps name names tube i =
+    elim (is_among name names) as (λ b. In tube
+    (cond b names (names ++ name ∷ []))) [ true ↦ i | false ↦ in-front tube names (name ∷ []) i ]
 
 joined-has : (name : List ℕ) (names : List (List ℕ)) → In name (joined name names)
 joined-has name names =
@@ -32,7 +34,9 @@ joined-from name names tube i =
 
 -- Only tubes whose pauses are over are added
 
-pub none-but : (first over tubes more : List (List ℕ)) (name tube : List ℕ) → more ≡ joined name tubes → name ≡ tube → In tube over → ((t : List ℕ) → In t tubes → In t first ⊎ In t over) → (t : List ℕ) → In t more → In t first ⊎ In t over
+pub none-but : (first over tubes more : List (List ℕ)) (name tube : List ℕ) → more ≡ joined name tubes → name ≡ tube
+    → In tube over → ((t : List ℕ) → In t tubes → In t first ⊎ In t over) → (t : List ℕ) → In t more → In t first
+    ⊎ In t over
 none-but first over tubes more name tube is copied there was t i =
     elim (joined-from name tubes t (subst (In t) is i)) as (λ _. In t first ⊎ In t over) [
       | inl old ↦ was t old
@@ -46,7 +50,9 @@ module _ (earlier : ℕ) (es : List (List ℕ × ℕ)) (ends : List Pause) where
   abbrev pub AreGathered : List Pause → List (List ℕ) → Type 0
   AreGathered rest tubes = (end : Pause) → In end ends → In (end.tube, end.until) (left_at earlier es) → In end.tube tubes ⊎ In end rest
 
-  pub gathered-more : (items rest : List Pause) (end : Pause) (tubes more : List (List ℕ)) (name : List ℕ) → items ≡ end ∷ rest → name ≡ end.tube → more ≡ joined name tubes → AreGathered items tubes → AreGathered rest more
+  pub gathered-more : (items rest : List Pause) (end : Pause) (tubes more : List (List ℕ)) (name : List ℕ)
+      → items ≡ end ∷ rest → name ≡ end.tube → more ≡ joined name tubes → AreGathered items tubes
+      → AreGathered rest more
   gathered-more items rest end tubes more name first copied is was e i there =
       elim (was e i there) as (λ _. In e.tube more ⊎ In e rest) [
         | inl old ↦ inl (subst (In e.tube) (sym is) (joined-keeps name tubes e.tube old))
@@ -56,7 +62,8 @@ module _ (earlier : ℕ) (es : List (List ℕ × ℕ)) (ends : List Pause) where
         ]
       ]
 
-  pub gathered-past : (items rest : List Pause) (end : Pause) (tubes : List (List ℕ)) → items ≡ end ∷ rest → (In (end.tube, end.until) (left_at earlier es) → ⊥) → AreGathered items tubes → AreGathered rest tubes
+  pub gathered-past : (items rest : List Pause) (end : Pause) (tubes : List (List ℕ)) → items ≡ end ∷ rest
+      → (In (end.tube, end.until) (left_at earlier es) → ⊥) → AreGathered items tubes → AreGathered rest tubes
   gathered-past items rest end tubes first apart was e i there =
       elim (was e i there) as (λ _. In e.tube tubes ⊎ In e rest) [
         | inl old ↦ inl old
@@ -66,7 +73,9 @@ module _ (earlier : ℕ) (es : List (List ℕ × ℕ)) (ends : List Pause) where
         ]
       ]
 
-  pub all-gathered : (second : ℕ) (rest : List Pause) (tubes : List (List ℕ)) → HasEnds earlier ends es → ((end : Pause) → In end rest → second < end.until) → AreGathered rest tubes → (tube : List ℕ) → In tube (tubes_over second (left_at earlier es)) → In tube tubes
+  pub all-gathered : (second : ℕ) (rest : List Pause) (tubes : List (List ℕ)) → HasEnds earlier ends es
+      → ((end : Pause) → In end rest → second < end.until) → AreGathered rest tubes → (tube : List ℕ)
+      → In tube (tubes_over second (left_at earlier es)) → In tube tubes
   all-gathered second rest tubes has late was tube i =
       let p = in-over second tube (left_at earlier es) i in
       let there = in-left earlier p.0 es p.1 in
@@ -80,7 +89,8 @@ module _ (earlier : ℕ) (es : List (List ℕ × ℕ)) (ends : List Pause) where
 pub none-left : (second : ℕ) (rest : List Pause) → rest ≡ [] → (end : Pause) → In end rest → second < end.until
 none-left second rest none end i = absurd (subst (In end) none i)
 
-pub all-late : (second : ℕ) (items rest : List Pause) (first : Pause) → items ≡ first ∷ rest → second < first.until → IsStrictlySortedBy pause_cmp items → (end : Pause) → In end items → second < end.until
+pub all-late : (second : ℕ) (items rest : List Pause) (first : Pause) → items ≡ first ∷ rest → second < first.until
+    → IsStrictlySortedBy pause_cmp items → (end : Pause) → In end items → second < end.until
 all-late second items rest first is late sorted end i =
     let h = soonest first end rest (subst (IsStrictlySortedBy pause_cmp) is sorted) (subst (In end) is i) in
     omega (arith, h, late)

@@ -1,5 +1,7 @@
 -- Maps from tubes to seconds, as `BTreeMap` changes them, and the pauses that are left of them.
-use Rattle.std.proofs.Common.{◌≡◌, ◌↔◌, ℕ, ◌<◌, ◌≤◌, Bool, true, false, cond, not, ◌||◌, inl, inr, List, [], ◌∷◌, Some, None, is_some, nat_lt, bytes_eq, refl, sym, ap, ap₂, subst, ◌∙◌, arith, ltb-true, ltb-false, le-ltb, Less, Equal, Greater, true≢false}
+use Rattle.std.proofs.Common.{◌≡◌, ◌↔◌, ℕ, ◌<◌, ◌≤◌, Bool, true, false, cond, not, ◌||◌, inl, inr, List, [], ◌∷◌, Some}
+use Rattle.std.proofs.Common.{None, is_some, nat_lt, bytes_eq, refl, sym, ap, ap₂, subst, ◌∙◌, arith, ltb-true}
+use Rattle.std.proofs.Common.{ltb-false, le-ltb, Less, Equal, Greater, true≢false}
 use Rattle.std.proofs.lemmas.Bool.{cond-true, cond-false}
 use Rattle.std.specs.Ordering.{match_ordering, is_eq}
 use Rattle.std.specs.List.{AllByRecursion, filter}
@@ -69,12 +71,16 @@ none-front tube (e ∷ es) a = cond-false (of tube e.0) (Some e.1) (lookup (of t
 
 -- What is left after a second was set
 
-pub left-insert : (second : ℕ) (tube : List ℕ) (v : ℕ) (es : Seconds) → IsStrictlySortedBy name_cmp (keys_of es) → nat_lt second v ≡ true → left_at second (insert_entry name_cmp es tube v) ≡ insert_entry name_cmp (left_at second es) tube v
+pub left-insert : (second : ℕ) (tube : List ℕ) (v : ℕ) (es : Seconds) → IsStrictlySortedBy name_cmp (keys_of es)
+    → nat_lt second v ≡ true → left_at second (insert_entry name_cmp es tube v)
+    ≡ insert_entry name_cmp (left_at second es) tube v
 left-insert second tube v [] s later = cond-true (nat_lt second v) ((tube, v) ∷ []) [] later
 left-insert second tube v (e ∷ es) s later =
     let rest = left_at second es in
     let above : AreAbove e.0 es = above-head e es s in
-    elim (name_cmp tube e.0) as (λ o. name_cmp tube e.0 ≡ o → left_at second (match_ordering o ((tube, v) ∷ e ∷ es) ((e.0, v) ∷ es) (e ∷ insert_entry name_cmp es tube v)) ≡ insert_entry name_cmp (left_at second (e ∷ es)) tube v) [
+    elim (name_cmp tube e.0) as (λ o. name_cmp tube e.0 ≡ o
+    → left_at second (match_ordering o ((tube, v) ∷ e ∷ es) ((e.0, v) ∷ es) (e ∷ insert_entry name_cmp es tube v))
+    ≡ insert_entry name_cmp (left_at second (e ∷ es)) tube v) [
       | Less ↦ λ o.
           cond-true (nat_lt second v) ((tube, v) ∷ left_at second (e ∷ es)) (left_at second (e ∷ es)) later ∙
           sym (insert-front tube v (left_at second (e ∷ es)) (above-left tube second (e ∷ es) (o, above-far tube e es o above)))
@@ -87,7 +93,9 @@ left-insert second tube v (e ∷ es) s later =
                 sym (insert-front tube v rest (subst (λ x. AreAbove x rest) (sym (same-tube tube e.0 o)) (above-left e.0 second es above)))
           ]
       | Greater ↦ λ o.
-          elim (nat_lt second e.1) as (λ b. cond b (e ∷ left_at second (insert_entry name_cmp es tube v)) (left_at second (insert_entry name_cmp es tube v)) ≡ insert_entry name_cmp (cond b (e ∷ rest) rest) tube v) [
+          elim (nat_lt second e.1) as (λ b. cond b (e ∷ left_at second (insert_entry name_cmp es tube v))
+          (left_at second (insert_entry name_cmp es tube v))
+          ≡ insert_entry name_cmp (cond b (e ∷ rest) rest) tube v) [
             | true ↦
                 ap (λ zs. e ∷ zs) (left-insert second tube v es (sorted_tail name_cmp e.0 (keys_of es) s) later) ∙
                 sym (ap (λ o. match_ordering o ((tube, v) ∷ e ∷ rest) ((e.0, v) ∷ rest) (e ∷ insert_entry name_cmp rest tube v)) o)
@@ -95,25 +103,32 @@ left-insert second tube v (e ∷ es) s later =
           ]
     ] refl
 
-pub left-over : (second : ℕ) (tube : List ℕ) (v : ℕ) (es : Seconds) → IsStrictlySortedBy name_cmp (keys_of es) → nat_lt second v ≡ false → left_at second (insert_entry name_cmp es tube v) ≡ unpaused tube (left_at second es)
+pub left-over : (second : ℕ) (tube : List ℕ) (v : ℕ) (es : Seconds) → IsStrictlySortedBy name_cmp (keys_of es)
+    → nat_lt second v ≡ false → left_at second (insert_entry name_cmp es tube v) ≡ unpaused tube (left_at second es)
 left-over second tube v [] s over = cond-false (nat_lt second v) ((tube, v) ∷ []) [] over
 left-over second tube v (e ∷ es) s over =
     let rest = left_at second es in
     let above : AreAbove e.0 es = above-head e es s in
-    elim (name_cmp tube e.0) as (λ o. name_cmp tube e.0 ≡ o → left_at second (match_ordering o ((tube, v) ∷ e ∷ es) ((e.0, v) ∷ es) (e ∷ insert_entry name_cmp es tube v)) ≡ unpaused tube (left_at second (e ∷ es))) [
+    elim (name_cmp tube e.0) as (λ o. name_cmp tube e.0 ≡ o
+    → left_at second (match_ordering o ((tube, v) ∷ e ∷ es) ((e.0, v) ∷ es) (e ∷ insert_entry name_cmp es tube v))
+    ≡ unpaused tube (left_at second (e ∷ es))) [
       | Less ↦ λ o.
           cond-false (nat_lt second v) ((tube, v) ∷ left_at second (e ∷ es)) (left_at second (e ∷ es)) over ∙
           sym (unpaused-front tube (left_at second (e ∷ es)) (above-left tube second (e ∷ es) (o, above-far tube e es o above)))
       | Equal ↦ λ o.
-          let others : unpaused tube rest ≡ rest = unpaused-front tube rest (subst (λ x. AreAbove x rest) (sym (same-tube tube e.0 o)) (above-left e.0 second es above)) in
+          let others : unpaused tube rest ≡ rest =
+          unpaused-front tube rest (subst (λ x. AreAbove x rest) (sym (same-tube tube e.0 o))
+          (above-left e.0 second es above)) in
           cond-false (nat_lt second v) ((e.0, v) ∷ rest) rest over ∙
           elim (nat_lt second e.1) as (λ b. rest ≡ unpaused tube (cond b (e ∷ rest) rest)) [
-            | true ↦ sym (cond-false (not (bytes_eq tube e.0)) (e ∷ unpaused tube rest) (unpaused tube rest) (ap not (sym (is_eq-slice_cmp tube e.0) ∙ ap is_eq o)) ∙ others)
+            | true ↦ sym (cond-false (not (bytes_eq tube e.0)) (e ∷ unpaused tube rest) (unpaused tube rest)
+                (ap not (sym (is_eq-slice_cmp tube e.0) ∙ ap is_eq o)) ∙ others)
             | false ↦ sym others
           ]
       | Greater ↦ λ o.
           let next = left-over second tube v es (sorted_tail name_cmp e.0 (keys_of es) s) over in
-          elim (nat_lt second e.1) as (λ b. cond b (e ∷ left_at second (insert_entry name_cmp es tube v)) (left_at second (insert_entry name_cmp es tube v)) ≡ unpaused tube (cond b (e ∷ rest) rest)) [
+          elim (nat_lt second e.1) as (λ b. cond b (e ∷ left_at second (insert_entry name_cmp es tube v))
+          (left_at second (insert_entry name_cmp es tube v)) ≡ unpaused tube (cond b (e ∷ rest) rest)) [
             | true ↦
                 ap (λ zs. e ∷ zs) next ∙
                 sym (cond-true (not (bytes_eq tube e.0)) (e ∷ unpaused tube rest) (unpaused tube rest) (ap not (sym (is_eq-slice_cmp tube e.0) ∙ ap is_eq o)))
@@ -126,7 +141,9 @@ left-over second tube v (e ∷ es) s over =
 pub remove-insert : (tube : List ℕ) (v : ℕ) (es : Seconds) → lookup (of tube) es ≡ None → remove_entry (of tube) (insert_entry name_cmp es tube v) ≡ es
 remove-insert tube v [] absent = cond-true (of tube tube) [] ((tube, v) ∷ []) (is-itself tube)
 remove-insert tube v (e ∷ es) absent =
-    elim (name_cmp tube e.0) as (λ o. name_cmp tube e.0 ≡ o → remove_entry (of tube) (match_ordering o ((tube, v) ∷ e ∷ es) ((e.0, v) ∷ es) (e ∷ insert_entry name_cmp es tube v)) ≡ e ∷ es) [
+    elim (name_cmp tube e.0) as (λ o. name_cmp tube e.0 ≡ o
+    → remove_entry (of tube) (match_ordering o ((tube, v) ∷ e ∷ es) ((e.0, v) ∷ es)
+    (e ∷ insert_entry name_cmp es tube v)) ≡ e ∷ es) [
       | Less ↦ λ o. cond-true (of tube tube) (e ∷ es) ((tube, v) ∷ remove_entry (of tube) (e ∷ es)) (is-itself tube)
       | Equal ↦ λ o. absurd (true≢false (ap is_some (sym (cond-true (of tube e.0) (Some e.1) (lookup (of tube) es) (ap is_eq o)) ∙ absent)))
       | Greater ↦ λ o.
@@ -137,25 +154,31 @@ remove-insert tube v (e ∷ es) absent =
 pub the-some : {X : Type 0} (x y : X) → Some x ≡ Some y → x ≡ y
 the-some x y e = ap (λ o. elim o [ None ↦ x | Some z ↦ z ]) e
 
-pub set-insert : (tube : List ℕ) (v old : ℕ) (es : Seconds) → IsStrictlySortedBy name_cmp (keys_of es) → lookup (of tube) es ≡ Some old → set_value (of tube) (insert_entry name_cmp es tube v) old ≡ es
+pub set-insert : (tube : List ℕ) (v old : ℕ) (es : Seconds) → IsStrictlySortedBy name_cmp (keys_of es)
+    → lookup (of tube) es ≡ Some old → set_value (of tube) (insert_entry name_cmp es tube v) old ≡ es
 set-insert tube v old [] s there = absurd (true≢false (sym (ap is_some there)))
 set-insert tube v old (e ∷ es) s there =
-    elim (name_cmp tube e.0) as (λ o. name_cmp tube e.0 ≡ o → set_value (of tube) (match_ordering o ((tube, v) ∷ e ∷ es) ((e.0, v) ∷ es) (e ∷ insert_entry name_cmp es tube v)) old ≡ e ∷ es) [
+    elim (name_cmp tube e.0) as (λ o. name_cmp tube e.0 ≡ o
+    → set_value (of tube) (match_ordering o ((tube, v) ∷ e ∷ es) ((e.0, v) ∷ es)
+    (e ∷ insert_entry name_cmp es tube v)) old ≡ e ∷ es) [
       | Less ↦ λ o. absurd (true≢false (sym (ap is_some (sym (none-front tube (e ∷ es) (o, above-far tube e es o (above-head e es s))) ∙ there))))
       | Equal ↦ λ o.
           cond-true (of tube e.0) ((e.0, old) ∷ es) ((e.0, v) ∷ set_value (of tube) es old) (ap is_eq o) ∙
           ap (λ x. (e.0, x) ∷ es) (sym (the-some e.1 old (sym (cond-true (of tube e.0) (Some e.1) (lookup (of tube) es) (ap is_eq o)) ∙ there)))
       | Greater ↦ λ o.
           cond-false (of tube e.0) ((e.0, old) ∷ insert_entry name_cmp es tube v) (e ∷ set_value (of tube) (insert_entry name_cmp es tube v) old) (ap is_eq o) ∙
-          ap (λ zs. e ∷ zs) (set-insert tube v old es (sorted_tail name_cmp e.0 (keys_of es) s) (sym (cond-false (of tube e.0) (Some e.1) (lookup (of tube) es) (ap is_eq o)) ∙ there))
+          ap (λ zs. e ∷ zs) (set-insert tube v old es (sorted_tail name_cmp e.0 (keys_of es) s)
+          (sym (cond-false (of tube e.0) (Some e.1) (lookup (of tube) es) (ap is_eq o)) ∙ there))
     ] refl
 
 -- What is left after an entry that is over went
 
-pub left-remove : (second : ℕ) (tube : List ℕ) (v : ℕ) (es : Seconds) → lookup (of tube) es ≡ Some v → nat_lt second v ≡ false → left_at second (remove_entry (of tube) es) ≡ left_at second es
+pub left-remove : (second : ℕ) (tube : List ℕ) (v : ℕ) (es : Seconds) → lookup (of tube) es ≡ Some v
+    → nat_lt second v ≡ false → left_at second (remove_entry (of tube) es) ≡ left_at second es
 left-remove second tube v [] there over = refl
 left-remove second tube v (e ∷ es) there over =
-    elim (of tube e.0) as (λ b. cond b (Some e.1) (lookup (of tube) es) ≡ Some v → left_at second (cond b es (e ∷ remove_entry (of tube) es)) ≡ left_at second (e ∷ es)) [
+    elim (of tube e.0) as (λ b. cond b (Some e.1) (lookup (of tube) es) ≡ Some v
+    → left_at second (cond b es (e ∷ remove_entry (of tube) es)) ≡ left_at second (e ∷ es)) [
       | true ↦ λ is. sym (cond-false (nat_lt second e.1) (e ∷ left_at second es) (left_at second es) (ap (nat_lt second) (the-some e.1 v is) ∙ over))
       | false ↦ λ is. ap (λ zs. cond (nat_lt second e.1) (e ∷ zs) zs) (left-remove second tube v es is over)
     ] there
@@ -167,7 +190,9 @@ left-later second later (e ∷ es) h =
       | true ↦ λ t. ap (λ zs. cond (nat_lt later e.1) (e ∷ zs) zs) (left-later second later es h)
       | false ↦ λ t.
           let over = ltb-false second e.1 t in
-          left-later second later es h ∙ sym (cond-false (nat_lt later e.1) (e ∷ left_at later es) (left_at later es) (le-ltb later e.1 (omega (arith, over, h))))
+          left-later second later es h ∙ sym
+          (cond-false (nat_lt later e.1) (e ∷ left_at later es) (left_at later es)
+          (le-ltb later e.1 (omega (arith, over, h))))
     ] refl
 
 -- Whether a tube is paused
@@ -176,7 +201,8 @@ none-paused : (tube : List ℕ) (es : Seconds) → AreAbove tube es → is_pause
 none-paused tube [] a = refl
 none-paused tube (e ∷ es) a = ap (λ b. b || is_paused tube es) (sym (is_eq-slice_cmp tube e.0) ∙ ap is_eq a.0) ∙ none-paused tube es a.1
 
-pub paused-there : (second : ℕ) (tube : List ℕ) (v : ℕ) (es : Seconds) → IsStrictlySortedBy name_cmp (keys_of es) → lookup (of tube) es ≡ Some v → is_paused tube (left_at second es) ≡ nat_lt second v
+pub paused-there : (second : ℕ) (tube : List ℕ) (v : ℕ) (es : Seconds) → IsStrictlySortedBy name_cmp (keys_of es)
+    → lookup (of tube) es ≡ Some v → is_paused tube (left_at second es) ≡ nat_lt second v
 paused-there second tube v [] s there = absurd (true≢false (sym (ap is_some there)))
 paused-there second tube v (e ∷ es) s there =
     let rest = left_at second es in
@@ -189,7 +215,8 @@ paused-there second tube v (e ∷ es) s there =
             | false ↦ none-paused tube rest (subst (λ x. AreAbove x rest) (sym (same-tube tube e.0 o)) (above-left e.0 second es (above-head e es s)))
           ] ∙ ap (nat_lt second) here
       | Greater ↦ λ o.
-          let next = paused-there second tube v es (sorted_tail name_cmp e.0 (keys_of es) s) (sym (cond-false (of tube e.0) (Some e.1) (lookup (of tube) es) (ap is_eq o)) ∙ there) in
+          let next = paused-there second tube v es (sorted_tail name_cmp e.0 (keys_of es) s)
+          (sym (cond-false (of tube e.0) (Some e.1) (lookup (of tube) es) (ap is_eq o)) ∙ there) in
           elim (nat_lt second e.1) as (λ b. is_paused tube (cond b (e ∷ rest) rest) ≡ nat_lt second v) [
             | true ↦ ap (λ b. b || is_paused tube rest) (sym (is_eq-slice_cmp tube e.0) ∙ ap is_eq o) ∙ next
             | false ↦ next
@@ -259,7 +286,9 @@ lookup-in tube v (e ∷ es) s i = elim i [
   | inr more ↦
       let l : name_cmp e.0 tube ≡ Less = above-in e.0 (tube, v) es (above-head e es s) more in
       elim (of tube e.0) as (λ b. of tube e.0 ≡ b → cond b (Some e.1) (lookup (of tube) es) ≡ Some v) [
-        | true ↦ λ t. absurd (not-above-itself tube (subst (λ x. name_cmp x tube ≡ Less) (sym ((bytes_eq-Decides tube e.0).0 (sym (is_eq-slice_cmp tube e.0) ∙ t))) l))
+        | true ↦ λ t. absurd (not-above-itself tube
+            (subst (λ x. name_cmp x tube ≡ Less)
+            (sym ((bytes_eq-Decides tube e.0).0 (sym (is_eq-slice_cmp tube e.0) ∙ t))) l))
         | false ↦ λ t. lookup-in tube v es (sorted_tail name_cmp e.0 (keys_of es) s) more
       ] refl
 ]
@@ -306,14 +335,19 @@ over-in second p (e ∷ es) i over =
         | inl same ↦ absurd (omega (arith, over, ltb-true second e.1 t, ap (λ (q : List ℕ × ℕ). q.1) same))
         | inr more ↦ over-in second p es more over
       ]
-      | false ↦ λ t. elim i as (λ _. In p.0 (keys_of (e ∷ rest))) [ inl same ↦ inl (ap (λ (q : List ℕ × ℕ). q.0) same) | inr more ↦ inr (over-in second p es more over) ]
+      | false ↦ λ t. elim i as (λ _. In p.0 (keys_of (e ∷ rest))) [
+        | inl same ↦ inl
+            (ap (λ (q : List ℕ × ℕ). q.0) same)
+        | inr more ↦ inr (over-in second p es more over)
+      ]
     ] refl
 
 pub in-over : (second : ℕ) (tube : List ℕ) (es : Seconds) → In tube (tubes_over second es) → (p : List ℕ × ℕ) × In p es × (p.1 ≤ second) × (p.0 ≡ tube)
 in-over second tube [] i = absurd i
 in-over second tube (e ∷ es) i =
     let rest = filter (λ (q : List ℕ × ℕ). not (nat_lt second q.1)) es in
-    elim (nat_lt second e.1) as (λ b. nat_lt second e.1 ≡ b → In tube (keys_of (cond (not b) (e ∷ rest) rest)) → (p : List ℕ × ℕ) × In p (e ∷ es) × (p.1 ≤ second) × (p.0 ≡ tube)) [
+    elim (nat_lt second e.1) as (λ b. nat_lt second e.1 ≡ b → In tube (keys_of (cond (not b) (e ∷ rest) rest))
+    → (p : List ℕ × ℕ) × In p (e ∷ es) × (p.1 ≤ second) × (p.0 ≡ tube)) [
       | true ↦ λ t i. let h = in-over second tube es i in (h.0, inr h.1, h.2, h.3)
       | false ↦ λ t i. elim i as (λ _. (p : List ℕ × ℕ) × In p (e ∷ es) × (p.1 ≤ second) × (p.0 ≡ tube)) [
         | inl same ↦ (e, inl refl, ltb-false second e.1 t, sym same)

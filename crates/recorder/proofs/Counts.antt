@@ -13,7 +13,9 @@ module _ {X Y : Type 0} (key_x : X → Key) (key_y : Y → Key) where
   without k [] h = cc
   without k (x ∷ xs) h =
       elim (same_key (key_x x) k) as (λ b. same_key (key_x x) k ≡ b → (b || stands key_x k xs) ≡ true →
-      (rest : List X) × (suc (length xs) ≡ suc (length rest)) × ((q : Key) → same_key k q ≡ false → (same_key (key_x x) q || stands key_x q xs) ≡ true → stands key_x q rest ≡ true)) [
+      (rest : List X) × (suc (length xs) ≡ suc (length rest))
+      × ((q : Key) → same_key k q ≡ false → (same_key (key_x x) q || stands key_x q xs) ≡ true
+      → stands key_x q rest ≡ true)) [
         | true ↦ λ e t. (xs, refl, λ q other there. ap (λ b. b || stands key_x q xs) (sym (ap (λ j. same_key j q) (same_is (key_x x) k e) ∙ other)) ∙ there)
         | false ↦ λ e t.
             let inner = without k xs t in (

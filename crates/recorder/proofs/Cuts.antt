@@ -30,7 +30,9 @@ module _ {X : Type 0} where
   filters_within p r implies (x ∷ xs) =
       elim (r x) as (λ b. r x ≡ b → filter p (cond b (x ∷ filter r xs) (filter r xs)) ≡ cond (p x) (x ∷ filter p xs) (filter p xs)) [
         | true ↦ λ h. ap (λ ys. cond (p x) (x ∷ ys) ys) (filters_within p r implies xs)
-        | false ↦ λ h. filters_within p r implies xs ∙ sym (ap (λ b. cond b (x ∷ filter p xs) (filter p xs)) (false_from_ne_true (p x) (λ g. false≢true (sym h ∙ implies x g))))
+        | false ↦ λ h. filters_within p r implies xs ∙ sym
+            (ap (λ b. cond b (x ∷ filter p xs) (filter p xs))
+            (false_from_ne_true (p x) (λ g. false≢true (sym h ∙ implies x g))))
       ] refl
 
 module _ {X : Type 0} (key_of : X → Key) where
@@ -39,12 +41,16 @@ module _ {X : Type 0} (key_of : X → Key) where
   filter_firsts p [] = refl
   filter_firsts p (x ∷ xs) =
       elim (p (key_of x)) as (λ b. p (key_of x) ≡ b →
-      cond b (x ∷ filter (λ y. p (key_of y)) (others key_of (key_of x) (firsts key_of xs))) (filter (λ y. p (key_of y)) (others key_of (key_of x) (firsts key_of xs)))
+      cond b (x ∷ filter (λ y. p (key_of y)) (others key_of (key_of x) (firsts key_of xs)))
+      (filter (λ y. p (key_of y)) (others key_of (key_of x) (firsts key_of xs)))
       ≡ firsts key_of (cond b (x ∷ filter (λ y. p (key_of y)) xs) (filter (λ y. p (key_of y)) xs))) [
-        | true ↦ λ h. ap (λ ys. x ∷ ys) (filters (λ y. p (key_of y)) (λ y. not (same_key (key_of y) (key_of x))) (firsts key_of xs) ∙ ap (others key_of (key_of x)) (filter_firsts p xs))
+        | true ↦ λ h. ap (λ ys. x ∷ ys)
+            (filters (λ y. p (key_of y)) (λ y. not (same_key (key_of y) (key_of x))) (firsts key_of xs) ∙ ap
+            (others key_of (key_of x)) (filter_firsts p xs))
         | false ↦ λ h.
             filters_within (λ y. p (key_of y)) (λ y. not (same_key (key_of y) (key_of x)))
-            (λ y g. ap not (false_from_ne_true (same_key (key_of y) (key_of x)) (λ s. false≢true (sym h ∙ ap p (sym (same_is (key_of y) (key_of x) s)) ∙ g)))) (firsts key_of xs)
+            (λ y g. ap not (false_from_ne_true (same_key (key_of y) (key_of x))
+            (λ s. false≢true (sym h ∙ ap p (sym (same_is (key_of y) (key_of x) s)) ∙ g)))) (firsts key_of xs)
             ∙ filter_firsts p xs
       ] refl
 
@@ -135,7 +141,9 @@ module _ {X : Type 0} (key_of : X → Key) where
   others_keep : (k q : Key) (xs : List X) → same_key k q ≡ false → stands key_of q (others key_of k xs) ≡ stands key_of q xs
   others_keep k q [] h = refl
   others_keep k q (x ∷ xs) h =
-      elim (same_key (key_of x) k) as (λ b. same_key (key_of x) k ≡ b → stands key_of q (cond (not b) (x ∷ others key_of k xs) (others key_of k xs)) ≡ (same_key (key_of x) q || stands key_of q xs)) [
+      elim (same_key (key_of x) k) as (λ b. same_key (key_of x) k ≡ b
+      → stands key_of q (cond (not b) (x ∷ others key_of k xs) (others key_of k xs))
+      ≡ (same_key (key_of x) q || stands key_of q xs)) [
         | true ↦ λ t. others_keep k q xs h ∙ ap (λ b. b || stands key_of q xs) (sym (ap (λ j. same_key j q) (same_is (key_of x) k t) ∙ h))
         | false ↦ λ t. ap (λ b. same_key (key_of x) q || b) (others_keep k q xs h)
       ] refl
@@ -143,7 +151,8 @@ module _ {X : Type 0} (key_of : X → Key) where
   pub stands_first : (q : Key) (xs : List X) → stands key_of q (firsts key_of xs) ≡ stands key_of q xs
   stands_first q [] = refl
   stands_first q (x ∷ xs) =
-      elim (same_key (key_of x) q) as (λ b. same_key (key_of x) q ≡ b → (b || stands key_of q (others key_of (key_of x) (firsts key_of xs))) ≡ (b || stands key_of q xs)) [
+      elim (same_key (key_of x) q) as (λ b. same_key (key_of x) q ≡ b
+      → (b || stands key_of q (others key_of (key_of x) (firsts key_of xs))) ≡ (b || stands key_of q xs)) [
         | true ↦ λ h. refl
         | false ↦ λ h. others_keep (key_of x) q (firsts key_of xs) h ∙ stands_first q xs
       ] refl

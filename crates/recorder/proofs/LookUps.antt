@@ -1,5 +1,7 @@
 -- What is read from a record that is kept.
-use Rattle.std.proofs.Common.{◌≡◌, ◌+◌, ◌-◌, ◌<◌, ◌≤◌, ℕ, Bool, true, false, cond, List, [], ◌∷◌, ◌++◌, length, map, take, get_or, reverse, Bor, Option, None, Some, inl, inr, ⊎_elim, refl, sym, ap, subst, ◌∙◌, append_assoc, arith}
+use Rattle.std.proofs.Common.{◌≡◌, ◌+◌, ◌-◌, ◌<◌, ◌≤◌, ℕ, Bool, true, false, cond, List, [], ◌∷◌, ◌++◌, length, map}
+use Rattle.std.proofs.Common.{take, get_or, reverse, Bor, Option, None, Some, inl, inr, ⊎_elim, refl, sym, ap, subst}
+use Rattle.std.proofs.Common.{◌∙◌, append_assoc, arith}
 use Rattle.std.proofs.lemmas.Bool.{false≢true}
 use Rattle.std.proofs.lemmas.List.{append-nil, length-append, length-map, reverse-append}
 use Rattle.std.proofs.Math.Seq.{take-append_seam}
@@ -20,7 +22,9 @@ use Rattle.recorder.proofs.Places.{stands_at, found_at}
 use Rattle.recorder.proofs.Rows.{row_at, place_within}
 
 -- what a slice gives at a place
-pub slice_given : {X : Type 0} (xs : List X) (i : ℕ) (r : Option (Bor X)) → MatchOption r (length xs ≤ i) (λ x. (i < length xs) × HoldsAt (λ y. x.now ≡ y) xs i) → option_copied r ≡ slice_get xs i
+pub slice_given : {X : Type 0} (xs : List X) (i : ℕ) (r : Option (Bor X))
+    → MatchOption r (length xs ≤ i) (λ x. (i < length xs) × HoldsAt (λ y. x.now ≡ y) xs i)
+    → option_copied r ≡ slice_get xs i
 slice_given xs i None h = sym (slice_get_past xs i h)
 slice_given xs i (Some x) h = sym (slice_get_read xs (length xs) i x.now refl h.0 (h.1 x.now))
 
@@ -62,7 +66,9 @@ module _ {X : Type 0} (key_of : X → Key) where
 
   -- the first items of lists where one more has a known key
   pub firsts_known : (xs : List X) (y : X) → KeysOnce key_of xs → stands key_of (key_of y) xs ≡ true → firsts key_of (xs ++ y ∷ []) ≡ xs
-  firsts_known xs y once known = firsts_more key_of xs y ∙ ap (λ b. firsts key_of xs ++ cond b [] (y ∷ [])) known ∙ append-nil (firsts key_of xs) ∙ firsts_all key_of xs once
+  firsts_known xs y once known =
+      firsts_more key_of xs y ∙ ap (λ b. firsts key_of xs ++ cond b [] (y ∷ [])) known ∙ append-nil
+      (firsts key_of xs) ∙ firsts_all key_of xs once
 
   -- and bit by bit
   pub firsts_next : (xs ys : List X) (y : X) → firsts key_of (firsts key_of (xs ++ y ∷ []) ++ ys) ≡ firsts key_of (xs ++ y ∷ ys)
@@ -70,7 +76,8 @@ module _ {X : Type 0} (key_of : X → Key) where
 
 module _ {Op Reply : Type 0} where
   -- the fate at a key's place
-  pub fate_read : (r : Record Op Reply) (fates : List Fate) (k : Key) (i : ℕ) (d : Fate) → fates ≡ map (λ s. fate_at r (submitted_key s)) r.happenings.submitted →
+  pub fate_read : (r : Record Op Reply) (fates : List Fate) (k : Key) (i : ℕ) (d : Fate)
+      → fates ≡ map (λ s. fate_at r (submitted_key s)) r.happenings.submitted →
       place_of submitted_key k r.happenings.submitted ≡ Some i → d ≡ get_or fates i d → d ≡ fate_at r k
   fate_read r fates k i d fated at read = read ∙ ap (λ fs. get_or fs i d) fated ∙ row_at submitted_key (fate_at r) k r.happenings.submitted i d at
 
@@ -78,7 +85,8 @@ module _ {Op Reply : Type 0} where
       place_of submitted_key k r.happenings.submitted ≡ Some i → i < length fates
   fate_within r fates k i fated at =
       let inside = place_within submitted_key k r.happenings.submitted i at in
-      let long : length fates ≡ length r.happenings.submitted = ap length fated ∙ length-map r.happenings.submitted (λ s. fate_at r (submitted_key s)) in omega arith
+      let long : length fates ≡ length r.happenings.submitted =
+      ap length fated ∙ length-map r.happenings.submitted (λ s. fate_at r (submitted_key s)) in omega arith
 
 -- a list without its last item
 pub all_but_last : {X : Type 0} (xs : List X) (y : X) → take (length (xs ++ y ∷ []) - 1) (xs ++ y ∷ []) ≡ xs

@@ -42,20 +42,27 @@ module _ {X : Type 0} (key_of : X → Key) where
   pub found_at : (k : Key) (xs : List X) → found key_of k xs ≡ option_and_then (slice_get xs) (place_of key_of k xs)
   found_at k [] = refl
   found_at k (x ∷ xs) =
-      elim (same_key (key_of x) k) as (λ b. cond b (Some x) (found key_of k xs) ≡ option_and_then (slice_get (x ∷ xs)) (cond b (Some 0) (option_map suc (place_of key_of k xs)))) [
+      elim (same_key (key_of x) k) as (λ b. cond b (Some x) (found key_of k xs)
+      ≡ option_and_then (slice_get (x ∷ xs)) (cond b (Some 0) (option_map suc (place_of key_of k xs)))) [
         | true ↦ refl
         | false ↦ found_at k xs ∙ next_get x xs (place_of key_of k xs)
       ]
 
   -- an item of a new key at the end
-  pub place_more : (y : X) (q : Key) (xs : List X) → stands key_of (key_of y) xs ≡ false → place_of key_of q (xs ++ y ∷ []) ≡ cond (same_key (key_of y) q) (Some (length xs)) (place_of key_of q xs)
+  pub place_more : (y : X) (q : Key) (xs : List X) → stands key_of (key_of y) xs ≡ false
+      → place_of key_of q (xs ++ y ∷ []) ≡ cond (same_key (key_of y) q) (Some (length xs)) (place_of key_of q xs)
   place_more y q [] new = refl
   place_more y q (x ∷ xs) new =
-      ap (λ o. cond (same_key (key_of x) q) (Some 0) (option_map suc o)) (place_more y q xs (snd_false (same_key (key_of x) (key_of y)) (stands key_of (key_of y) xs) new))
+      ap (λ o. cond (same_key (key_of x) q) (Some 0) (option_map suc o))
+      (place_more y q xs (snd_false (same_key (key_of x) (key_of y)) (stands key_of (key_of y) xs) new))
       ∙ elim (same_key (key_of x) q) as (λ b. same_key (key_of x) q ≡ b →
-      cond b (Some 0) (option_map suc (cond (same_key (key_of y) q) (Some (length xs)) (place_of key_of q xs))) ≡ cond (same_key (key_of y) q) (Some (suc (length xs))) (cond b (Some 0) (option_map suc (place_of key_of q xs)))) [
+      cond b (Some 0) (option_map suc (cond (same_key (key_of y) q) (Some (length xs)) (place_of key_of q xs)))
+      ≡ cond (same_key (key_of y) q) (Some (suc (length xs)))
+      (cond b (Some 0) (option_map suc (place_of key_of q xs)))) [
         | true ↦ λ h. elim (same_key (key_of y) q) as (λ c. same_key (key_of y) q ≡ c → Some 0 ≡ cond c (Some (suc (length xs))) (Some 0)) [
-          | true ↦ λ g. absurd (false≢true (sym (fst_false (same_key (key_of x) (key_of y)) (stands key_of (key_of y) xs) new) ∙ same_when (key_of x) (key_of y) (same_is (key_of x) q h ∙ sym (same_is (key_of y) q g))))
+          | true ↦ λ g. absurd (false≢true
+              (sym (fst_false (same_key (key_of x) (key_of y)) (stands key_of (key_of y) xs) new) ∙ same_when (key_of x)
+              (key_of y) (same_is (key_of x) q h ∙ sym (same_is (key_of y) q g))))
           | false ↦ λ g. refl
         ] refl
         | false ↦ λ h. later (same_key (key_of y) q) (length xs) (place_of key_of q xs)
@@ -70,10 +77,12 @@ module _ {X : Type 0} (key_of : X → Key) where
         | false ↦ λ t. ap (option_map suc) (place_none q xs t)
       ] h
 
-  pub place_less : (y : X) (q : Key) (xs : List X) → stands key_of (key_of y) xs ≡ false → cond (same_key (key_of y) q) None (place_of key_of q (xs ++ y ∷ [])) ≡ place_of key_of q xs
+  pub place_less : (y : X) (q : Key) (xs : List X) → stands key_of (key_of y) xs ≡ false
+      → cond (same_key (key_of y) q) None (place_of key_of q (xs ++ y ∷ [])) ≡ place_of key_of q xs
   place_less y q xs new =
       ap (cond (same_key (key_of y) q) None) (place_more y q xs new)
-      ∙ elim (same_key (key_of y) q) as (λ b. same_key (key_of y) q ≡ b → cond b None (cond b (Some (length xs)) (place_of key_of q xs)) ≡ place_of key_of q xs) [
+      ∙ elim (same_key (key_of y) q) as (λ b. same_key (key_of y) q ≡ b
+      → cond b None (cond b (Some (length xs)) (place_of key_of q xs)) ≡ place_of key_of q xs) [
         | true ↦ λ h. sym (place_none q xs (ap (λ k. stands key_of k xs) (sym (same_is (key_of y) q h)) ∙ new))
         | false ↦ λ h. refl
       ] refl
@@ -88,7 +97,9 @@ module _ {X : Type 0} (key_of : X → Key) where
   once_more (x ∷ xs) y once new =
       once_first key_of x (xs ++ y ∷ [])
       (stands_more (key_of x) xs y
-      ∙ or_falses (stands key_of (key_of x) xs) (same_key (key_of y) (key_of x)) (first_lacks key_of x xs once) (same_turned (key_of y) (key_of x) ∙ fst_false (same_key (key_of x) (key_of y)) (stands key_of (key_of y) xs) new))
+      ∙ or_falses (stands key_of (key_of x) xs) (same_key (key_of y) (key_of x)) (first_lacks key_of x xs once)
+      (same_turned (key_of y) (key_of x) ∙ fst_false (same_key (key_of x) (key_of y))
+      (stands key_of (key_of y) xs) new))
       (once_more xs y once.1 (snd_false (same_key (key_of x) (key_of y)) (stands key_of (key_of y) xs) new))
 
   -- nor without the last item, whose key doesn't stand before it

@@ -37,7 +37,9 @@ module _ {X V : Type 0} (key_of : X → Key) where
   pub row_at : (F : Key → V) (k : Key) (xs : List X) (i : ℕ) (d : V) → place_of key_of k xs ≡ Some i → get_or (map (λ x. F (key_of x)) xs) i d ≡ F k
   row_at F k [] i d h = cc
   row_at F k (x ∷ xs) i d h =
-      elim (same_key (key_of x) k) as (λ b. same_key (key_of x) k ≡ b → cond b (Some 0) (option_map suc (place_of key_of k xs)) ≡ Some i → get_or (map (λ y. F (key_of y)) (x ∷ xs)) i d ≡ F k) [
+      elim (same_key (key_of x) k) as (λ b. same_key (key_of x) k ≡ b
+      → cond b (Some 0) (option_map suc (place_of key_of k xs)) ≡ Some i
+      → get_or (map (λ y. F (key_of y)) (x ∷ xs)) i d ≡ F k) [
         | true ↦ λ e p. let first : 0 ≡ i = cc in ap (λ n. get_or (map (λ y. F (key_of y)) (x ∷ xs)) n d) (sym first) ∙ ap F (same_is (key_of x) k e)
         | false ↦ λ e p.
             let there = later_some (place_of key_of k xs) i p in
@@ -45,11 +47,14 @@ module _ {X V : Type 0} (key_of : X → Key) where
       ] refl h
 
   -- another value at a key's place
-  pub row_set : (F G : Key → V) (k : Key) (xs : List X) (i : ℕ) → KeysOnce key_of xs → place_of key_of k xs ≡ Some i → ((q : Key) → same_key k q ≡ false → F q ≡ G q) →
+  pub row_set : (F G : Key → V) (k : Key) (xs : List X) (i : ℕ) → KeysOnce key_of xs → place_of key_of k xs ≡ Some i
+      → ((q : Key) → same_key k q ≡ false → F q ≡ G q) →
       set (map (λ x. F (key_of x)) xs) i (G k) ≡ map (λ x. G (key_of x)) xs
   row_set F G k [] i once h agree = cc
   row_set F G k (x ∷ xs) i once h agree =
-      elim (same_key (key_of x) k) as (λ b. same_key (key_of x) k ≡ b → cond b (Some 0) (option_map suc (place_of key_of k xs)) ≡ Some i → set (map (λ y. F (key_of y)) (x ∷ xs)) i (G k) ≡ map (λ y. G (key_of y)) (x ∷ xs)) [
+      elim (same_key (key_of x) k) as (λ b. same_key (key_of x) k ≡ b
+      → cond b (Some 0) (option_map suc (place_of key_of k xs)) ≡ Some i
+      → set (map (λ y. F (key_of y)) (x ∷ xs)) i (G k) ≡ map (λ y. G (key_of y)) (x ∷ xs)) [
         | true ↦ λ e p.
             let first : 0 ≡ i = cc in
             let same = same_is (key_of x) k e in

@@ -1,5 +1,6 @@
 -- Records that grow step by step, and stay kept.
-use Rattle.std.proofs.Common.{◌≡◌, ◌+◌, ◌<◌, ◌≤◌, ℕ, ⊎_elim, Bool, true, false, cond, ◌||◌, List, [], ◌∷◌, ◌++◌, length, map, set, get_or, Option, None, Some, refl, sym, ap, ap₂, subst, ◌∙◌, arith}
+use Rattle.std.proofs.Common.{◌≡◌, ◌+◌, ◌<◌, ◌≤◌, ℕ, ⊎_elim, Bool, true, false, cond, ◌||◌, List, [], ◌∷◌, ◌++◌, length}
+use Rattle.std.proofs.Common.{map, set, get_or, Option, None, Some, refl, sym, ap, ap₂, subst, ◌∙◌, arith}
 use Rattle.std.proofs.lemmas.Bool.{false≢true, false_from_ne_true}
 use Rattle.std.proofs.lemmas.List.{map-append, length-append}
 use Rattle.object.specs.Lists.{In}
@@ -44,11 +45,13 @@ module _ {Op : Type 0} where
 
 module _ {Op Reply : Type 0} where
   -- a key that was not submitted has no answer, and no place
-  pub no_answer : (S : List (Submission Op)) (A : List (Answer Reply)) (O : List Key) (k : Key) → IsRecord (record_of S A O) → is_submitted k S ≡ false → stands answered_key k A ≡ false
+  pub no_answer : (S : List (Submission Op)) (A : List (Answer Reply)) (O : List Key) (k : Key)
+      → IsRecord (record_of S A O) → is_submitted k S ≡ false → stands answered_key k A ≡ false
   no_answer S A O k told new =
       lacks answered_key k A (λ a i e. false≢true (sym new ∙ ap (λ q. is_submitted q S) (sym e) ∙ told.answered_known a i))
 
-  pub no_place : (S : List (Submission Op)) (A : List (Answer Reply)) (O : List Key) (k : Key) → IsRecord (record_of S A O) → is_submitted k S ≡ false → stands own_key k O ≡ false
+  pub no_place : (S : List (Submission Op)) (A : List (Answer Reply)) (O : List Key) (k : Key)
+      → IsRecord (record_of S A O) → is_submitted k S ≡ false → stands own_key k O ≡ false
   no_place S A O k told new =
       lacks own_key k O (λ q i e. false≢true (sym new ∙ ap (λ j. is_submitted j S) (sym e) ∙ told.placed_known q i))
 
@@ -94,12 +97,16 @@ module _ {Op Reply : Type 0} where
   answered_told S A O a told known new = record {
     timeline = record {
       ordered = told.timeline.ordered;
-      within = λ s i. let before : s.after ≤ length A = told.timeline.within s i in let longer : length (A ++ a ∷ []) ≡ length A + 1 = length-append A (a ∷ []) in omega arith;
+      within = λ s i. let before : s.after ≤ length A =
+          told.timeline.within s i in let longer : length (A ++ a ∷ []) ≡ length A + 1 =
+          length-append A (a ∷ []) in omega arith;
     };
     submitted_once = told.submitted_once;
     answered_once = once_more answered_key A a told.answered_once new;
     placed_once = told.placed_once;
-    answered_known = λ b i. ⊎_elim (λ j. told.answered_known b j) (⊎_elim (λ e. ap (λ (c : Answer Reply). is_submitted c.to S) e ∙ known) (λ j. absurd j)) (In-cases b A (a ∷ []) i);
+    answered_known = λ b i. ⊎_elim (λ j. told.answered_known b j)
+        (⊎_elim (λ e. ap (λ (c : Answer Reply). is_submitted c.to S) e ∙ known) (λ j. absurd j))
+        (In-cases b A (a ∷ []) i);
     placed_known = told.placed_known;
   }
 
@@ -110,18 +117,26 @@ module _ {Op Reply : Type 0} where
       let more : length (A ++ a ∷ []) ≤ length S = no_more submitted_key answered_key (A ++ a ∷ []) S all.answered_once all.answered_known in
       let longer : length (A ++ a ∷ []) ≡ length A + 1 = length-append A (a ∷ []) in omega arith
 
-  pub answered_fates : (S : List (Submission Op)) (A : List (Answer Reply)) (O : List Key) (fates : List Fate) (a : Answer Reply) (i n : ℕ) (d : Fate) (p : Bool) →
-      IsRecord (record_of S A O) → fates ≡ map (λ t. fate_at (record_of S A O) (submitted_key t)) S → place_of submitted_key a.to S ≡ Some i → stands answered_key a.to A ≡ false →
+  pub answered_fates : (S : List (Submission Op)) (A : List (Answer Reply)) (O : List Key) (fates : List Fate)
+      (a : Answer Reply) (i n : ℕ) (d : Fate) (p : Bool) →
+      IsRecord (record_of S A O) → fates ≡ map (λ t. fate_at (record_of S A O) (submitted_key t)) S
+      → place_of submitted_key a.to S ≡ Some i → stands answered_key a.to A ≡ false →
       n ≡ length A → p ≡ (get_or fates i d).is_placed →
       set fates i (record { answer = Some n; is_placed = p }) ≡ map (λ t. fate_at (record_of S (A ++ a ∷ []) O) (submitted_key t)) S
   answered_fates S A O fates a i n d p told fated at new count same =
       let F : Key → Fate = fate_at (record_of S A O) in
       let G : Key → Fate = fate_at (record_of S (A ++ a ∷ []) O) in
-      let placed : p ≡ stands own_key a.to O = same ∙ ap (λ (fs : List Fate). (get_or fs i d).is_placed) fated ∙ ap (λ (f : Fate). f.is_placed) (row_at submitted_key F a.to S i d at) in
-      let place : Some n ≡ place_of answered_key a.to (A ++ a ∷ []) = ap Some count ∙ sym (place_more answered_key a a.to A new ∙ ap (λ b. cond b (Some (length A)) (place_of answered_key a.to A)) (same_itself a.to)) in
+      let placed : p ≡ stands own_key a.to O =
+      same ∙ ap (λ (fs : List Fate). (get_or fs i d).is_placed) fated ∙ ap (λ (f : Fate). f.is_placed)
+      (row_at submitted_key F a.to S i d at) in
+      let place : Some n ≡ place_of answered_key a.to (A ++ a ∷ []) =
+      ap Some count ∙ sym (place_more answered_key a a.to A new ∙ ap
+      (λ b. cond b (Some (length A)) (place_of answered_key a.to A)) (same_itself a.to)) in
       ap₂ (λ fs (f : Fate). set fs i f) fated (ap₂ (λ o b. record { answer = o; is_placed = b }) place placed)
       ∙ row_set submitted_key F G a.to S i told.submitted_once at
-      (λ q other. ap (λ o. record { answer = o; is_placed = stands own_key q O }) (sym (place_more answered_key a q A new ∙ ap (λ b. cond b (Some (length A)) (place_of answered_key q A)) other)))
+      (λ q other. ap (λ o. record { answer = o; is_placed = stands own_key q O })
+      (sym (place_more answered_key a q A new ∙ ap
+      (λ b. cond b (Some (length A)) (place_of answered_key q A)) other)))
 
   -- a place is added
   pub placed_told : (S : List (Submission Op)) (A : List (Answer Reply)) (O : List Key) (k : Key) →
@@ -149,15 +164,21 @@ module _ {Op Reply : Type 0} where
   placed_fates S A O fates k i d o told fated at same =
       let F : Key → Fate = fate_at (record_of S A O) in
       let G : Key → Fate = fate_at (record_of S A (O ++ k ∷ [])) in
-      let answer : o ≡ place_of answered_key k A = same ∙ ap (λ (fs : List Fate). (get_or fs i d).answer) fated ∙ ap (λ (f : Fate). f.answer) (row_at submitted_key F k S i d at) in
-      let placed : true ≡ stands own_key k (O ++ k ∷ []) = sym (stands_more own_key k O k ∙ ap (λ b. stands own_key k O || b) (same_itself k) ∙ or_true (stands own_key k O)) in
+      let answer : o ≡ place_of answered_key k A =
+      same ∙ ap (λ (fs : List Fate). (get_or fs i d).answer) fated ∙ ap (λ (f : Fate). f.answer)
+      (row_at submitted_key F k S i d at) in
+      let placed : true ≡ stands own_key k (O ++ k ∷ []) =
+      sym (stands_more own_key k O k ∙ ap (λ b. stands own_key k O || b) (same_itself k) ∙ or_true
+      (stands own_key k O)) in
       ap₂ (λ fs (f : Fate). set fs i f) fated (ap₂ (λ a b. record { answer = a; is_placed = b }) answer placed)
       ∙ row_set submitted_key F G k S i told.submitted_once at
-      (λ q other. ap (λ b. record { answer = place_of answered_key q A; is_placed = b }) (sym (stands_more own_key q O k ∙ ap (λ b. stands own_key q O || b) other ∙ or_nil (stands own_key q O))))
+      (λ q other. ap (λ b. record { answer = place_of answered_key q A; is_placed = b })
+      (sym (stands_more own_key q O k ∙ ap (λ b. stands own_key q O || b) other ∙ or_nil (stands own_key q O))))
 
   -- the last submission is taken back
   pub withdrawn_told : (S : List (Submission Op)) (A : List (Answer Reply)) (O : List Key) (s : Submission Op) →
-      IsRecord (record_of (S ++ s ∷ []) A O) → stands answered_key (submitted_key s) A ≡ false → stands own_key (submitted_key s) O ≡ false → IsRecord (record_of S A O)
+      IsRecord (record_of (S ++ s ∷ []) A O) → stands answered_key (submitted_key s) A ≡ false
+      → stands own_key (submitted_key s) O ≡ false → IsRecord (record_of S A O)
   withdrawn_told S A O s told unanswered unplaced = record {
     timeline = record {
       ordered = ordered_less S s told.timeline.ordered;
@@ -166,6 +187,10 @@ module _ {Op Reply : Type 0} where
     submitted_once = (once_less submitted_key S s told.submitted_once).0;
     answered_once = told.answered_once;
     placed_once = told.placed_once;
-    answered_known = λ a i. or_either (is_submitted a.to S) (same_key (submitted_key s) a.to) (sym (stands_more submitted_key a.to S s) ∙ told.answered_known a i) (other answered_key (submitted_key s) A a unanswered i);
-    placed_known = λ k i. or_either (is_submitted k S) (same_key (submitted_key s) k) (sym (stands_more submitted_key k S s) ∙ told.placed_known k i) (other own_key (submitted_key s) O k unplaced i);
+    answered_known = λ a i. or_either (is_submitted a.to S) (same_key (submitted_key s) a.to)
+        (sym (stands_more submitted_key a.to S s) ∙ told.answered_known a i)
+        (other answered_key (submitted_key s) A a unanswered i);
+    placed_known = λ k i. or_either (is_submitted k S) (same_key (submitted_key s) k)
+        (sym (stands_more submitted_key k S s) ∙ told.placed_known k i)
+        (other own_key (submitted_key s) O k unplaced i);
   }

@@ -23,7 +23,9 @@ others_more n before =
     ap (filter (λ m. not (m == n))) (range_more before) ∙ filter-append (λ m. not (m == n)) (range_with_len 1 before) ((before + 1) ∷ [])
 
 -- one member more, who is another
-pub other_more : {C : Type 0} (old now new : List (Letter C)) (n before : ℕ) (body : LetterBody C) → (before + 1 == n) ≡ false → now ≡ old ++ map (letter n body) (others n before) → new ≡ now ++ letter n body (before + 1) ∷ [] → new ≡ old ++ map (letter n body) (others n (before + 1))
+pub other_more : {C : Type 0} (old now new : List (Letter C)) (n before : ℕ) (body : LetterBody C)
+    → (before + 1 == n) ≡ false → now ≡ old ++ map (letter n body) (others n before)
+    → new ≡ now ++ letter n body (before + 1) ∷ [] → new ≡ old ++ map (letter n body) (others n (before + 1))
 other_more old now new n before body other sent pushed =
     pushed ∙ ap (λ ls. ls ++ letter n body (before + 1) ∷ []) sent ∙
     append_assoc old (map (letter n body) (others n before)) (letter n body (before + 1) ∷ []) ∙
@@ -32,7 +34,8 @@ other_more old now new n before body other sent pushed =
     ap (λ b. map (letter n body) (others n before) ++ map (letter n body) (cond (not b) ((before + 1) ∷ []) [])) other))
 
 -- and the sender
-pub self_more : {C : Type 0} (old now : List (Letter C)) (n before : ℕ) (body : LetterBody C) → (before + 1 == n) ≡ true → now ≡ old ++ map (letter n body) (others n before) → now ≡ old ++ map (letter n body) (others n (before + 1))
+pub self_more : {C : Type 0} (old now : List (Letter C)) (n before : ℕ) (body : LetterBody C) → (before + 1 == n) ≡ true
+    → now ≡ old ++ map (letter n body) (others n before) → now ≡ old ++ map (letter n body) (others n (before + 1))
 self_more old now n before body itself sent =
     sent ∙ ap (λ ms. old ++ map (letter n body) ms) (sym (others_more n before ∙
     ap (λ b. others n before ++ cond (not b) ((before + 1) ∷ []) []) itself ∙ append-nil (others n before)))

@@ -56,7 +56,8 @@ module _ {C : Type 0} (gathered report fresh : List (Pvalue C)) (p : Pvalue C) (
   }
 
 -- of each report something is fresh, where it can be told whether a pvalue stands in a list
-pub some_fresh : {C : Type 0} → ((p : Pvalue C) (ps : List (Pvalue C)) → In p ps ⊎ (In p ps → ⊥)) → (gathered report : List (Pvalue C)) → (fresh : List (Pvalue C)) × IsFresh gathered report fresh
+pub some_fresh : {C : Type 0} → ((p : Pvalue C) (ps : List (Pvalue C)) → In p ps ⊎ (In p ps → ⊥))
+    → (gathered report : List (Pvalue C)) → (fresh : List (Pvalue C)) × IsFresh gathered report fresh
 some_fresh {C} decide gathered report = go report [] [] (fresh_of_none gathered)
   where
     go : (rest done fresh : List (Pvalue C)) → IsFresh gathered done fresh → (all : List (Pvalue C)) × IsFresh gathered (done ++ rest) all
@@ -73,13 +74,16 @@ pub beyond_old : {X : Type 0} (old now fresh : List X) → now ≡ old ++ fresh 
 beyond_old old now fresh e = ap (λ xs. beyond old xs) e ∙ drop-append_seam old fresh
 
 -- one more was put in
-pub one_beyond : {X : Type 0} (old now new : List X) (x : X) → now ≡ old ++ beyond old now → new ≡ now ++ x ∷ [] → (new ≡ old ++ beyond old new) × (beyond old new ≡ beyond old now ++ x ∷ [])
+pub one_beyond : {X : Type 0} (old now new : List X) (x : X) → now ≡ old ++ beyond old now → new ≡ now ++ x ∷ []
+    → (new ≡ old ++ beyond old new) × (beyond old new ≡ beyond old now ++ x ∷ [])
 one_beyond old now new x e f =
     let is : new ≡ old ++ (beyond old now ++ x ∷ []) = f ∙ ap (λ xs. xs ++ x ∷ []) e ∙ append_assoc old (beyond old now) (x ∷ []) in
     let more : beyond old new ≡ beyond old now ++ x ∷ [] = beyond_old old new (beyond old now ++ x ∷ []) is in
     (is ∙ ap (λ xs. old ++ xs) (sym more), more)
 
-module _ {C : Type 0} (old now report : List (Pvalue C)) (i : ℕ) (p : Pvalue C) (kept : now ≡ old ++ beyond old now) (is : IsFresh old (take i report) (beyond old now)) (within : i < length report) (item : p ≡ get_or report i p) where
+module _ {C : Type 0} (old now report : List (Pvalue C)) (i : ℕ) (p : Pvalue C) (kept : now ≡ old ++ beyond old now)
+    (is : IsFresh old (take i report) (beyond old now)) (within : i < length report)
+    (item : p ≡ get_or report i p) where
   next : take (i + 1) report ≡ take i report ++ p ∷ []
   next = take_more report i p within ∙ ap (λ q. take i report ++ q ∷ []) (sym item)
 
@@ -98,7 +102,8 @@ module _ {C : Type 0} (old now report : List (Pvalue C)) (i : ℕ) (p : Pvalue C
       (fresh_seen old (take i report) (beyond old now) p is (subst (λ ps. In p ps) kept there))
 
   -- it isn't, and is put in
-  pub turn_more : (new : List (Pvalue C)) (copy : Pvalue C) → (In p now → ⊥) → copy ≡ p → new ≡ now ++ copy ∷ [] → (new ≡ old ++ beyond old new) × IsFresh old (take (i + 1) report) (beyond old new)
+  pub turn_more : (new : List (Pvalue C)) (copy : Pvalue C) → (In p now → ⊥) → copy ≡ p → new ≡ now ++ copy ∷ []
+      → (new ≡ old ++ beyond old new) × IsFresh old (take (i + 1) report) (beyond old new)
   turn_more new copy unseen same put =
       let b = one_beyond old now new p kept (put ∙ ap (λ q. now ++ q ∷ []) same) in (
         b.0,

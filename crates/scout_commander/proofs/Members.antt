@@ -42,7 +42,9 @@ or_true true = refl
 or_true false = refl
 
 -- a test that tells elements apart finds what is there
-pub found : {A : Type 0} (same : A → A → Bool) → ((x y : A) → same x y ≡ true → x ≡ y) → ((x : A) → same x x ≡ true) → (x : A) (ys : List A) → (list_any (λ y. same y x) ys ≡ true → In x ys) × (In x ys → list_any (λ y. same y x) ys ≡ true)
+pub found : {A : Type 0} (same : A → A → Bool) → ((x y : A) → same x y ≡ true → x ≡ y) → ((x : A) → same x x ≡ true)
+    → (x : A) (ys : List A) → (list_any (λ y. same y x) ys ≡ true → In x ys)
+    × (In x ys → list_any (λ y. same y x) ys ≡ true)
 found same exact itself x [] = (λ h. absurd (cc), λ i. absurd i)
 found {A} same exact itself x (y ∷ ys) =
     let more = found same exact itself x ys in

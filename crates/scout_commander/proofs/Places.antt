@@ -1,5 +1,7 @@
 -- Where pvalues of a slot and a ballot stand.
-use Rattle.std.proofs.Common.{rules, ◌≡◌, ◌≢◌, ◌⊎◌, inl, inr, ⊎_elim, ℕ, zero, suc, ◌≤◌, ◌<◌, ◌+◌, Bool, true, false, true≢false, cond, List, [], ◌∷◌, ◌++◌, Option, None, Some, length, take, drop, refl, sym, ap, subst, ◌∙◌, arith, length-append}
+use Rattle.std.proofs.Common.{rules, ◌≡◌, ◌≢◌, ◌⊎◌, inl, inr, ⊎_elim, ℕ, zero, suc, ◌≤◌, ◌<◌, ◌+◌, Bool, true, false}
+use Rattle.std.proofs.Common.{true≢false, cond, List, [], ◌∷◌, ◌++◌, Option, None, Some, length, take, drop, refl, sym}
+use Rattle.std.proofs.Common.{ap, subst, ◌∙◌, arith, length-append}
 use Rattle.std.proofs.lemmas.Grind.{common_steps}
 use Rattle.std.proofs.lemmas.List.{take-append-drop, length-take}
 use Rattle.std.proofs.lemmas.Map.Lookups.{CmpEqualImpliesEq, exact_unsigned, exact_pairs}
@@ -31,7 +33,8 @@ true_or_false true = inl refl
 true_or_false false = inr refl
 
 -- where values are compared exactly, a pvalue stands in a list or it doesn't
-pub there_or_not : {C : Type 0} (E : C → C → Bool) → ((x y : C) → E x y ≡ true → x ≡ y) → ((x : C) → E x x ≡ true) → (p : Pvalue C) (ps : List (Pvalue C)) → In p ps ⊎ (In p ps → ⊥)
+pub there_or_not : {C : Type 0} (E : C → C → Bool) → ((x y : C) → E x y ≡ true → x ≡ y) → ((x : C) → E x x ≡ true)
+    → (p : Pvalue C) (ps : List (Pvalue C)) → In p ps ⊎ (In p ps → ⊥)
 there_or_not E exact itself p ps =
     let f = found (same_pvalues E) (exact_pvalues E exact) (same_itself E itself) p ps in
     ⊎_elim (λ (h : list_any (λ q. same_pvalues E q p) ps ≡ true). inl (f.0 h))
@@ -39,7 +42,11 @@ there_or_not E exact itself p ps =
     (true_or_false (list_any (λ q. same_pvalues E q p) ps))
 
 -- what is looked for from its start on is found where it is there
-pub found_from : {C : Type 0} (E : C → C → Bool) → ((x y : C) → E x y ≡ true → x ≡ y) → ((x : C) → E x x ≡ true) → (starts : BTreeMap (ℕ × Numbers) ℕ) (ps : List (Pvalue C)) (p : Pvalue C) (from : ℕ) → IsIndexOf starts ps → from ≡ start starts (p.slot, p.ballot) (length ps) → (list_any (λ q. same_pvalues E q p) (drop from ps) ≡ true → In p ps) × (In p ps → list_any (λ q. same_pvalues E q p) (drop from ps) ≡ true)
+pub found_from : {C : Type 0} (E : C → C → Bool) → ((x y : C) → E x y ≡ true → x ≡ y) → ((x : C) → E x x ≡ true)
+    → (starts : BTreeMap (ℕ × Numbers) ℕ) (ps : List (Pvalue C)) (p : Pvalue C) (from : ℕ) → IsIndexOf starts ps
+    → from ≡ start starts (p.slot, p.ballot) (length ps)
+    → (list_any (λ q. same_pvalues E q p) (drop from ps) ≡ true → In p ps)
+    × (In p ps → list_any (λ q. same_pvalues E q p) (drop from ps) ≡ true)
 found_from {C} E exact itself starts ps p from is at =
     let f = found (same_pvalues E) (exact_pvalues E exact) (same_itself E itself) p (drop from ps) in
     let whole : take from ps ++ drop from ps ≡ ps = take-append-drop from ps in (
@@ -115,7 +122,8 @@ module _ (starts new : BTreeMap (ℕ × Numbers) ℕ) (place : ℕ × Numbers) (
       (true_or_false (is_at (place_cmp place) q))
 
 -- the same starts serve as well
-pub as_well : {C : Type 0} (starts new : BTreeMap (ℕ × Numbers) ℕ) (ps : List (Pvalue C)) (n : ℕ) → n ≡ length ps → ((q : ℕ × Numbers) → start new q n ≡ start starts q n) → IsIndexOf starts ps → IsIndexOf new ps
+pub as_well : {C : Type 0} (starts new : BTreeMap (ℕ × Numbers) ℕ) (ps : List (Pvalue C)) (n : ℕ) → n ≡ length ps
+    → ((q : ℕ × Numbers) → start new q n ≡ start starts q n) → IsIndexOf starts ps → IsIndexOf new ps
 as_well {C} starts new ps n all same is p i =
     is p (subst (λ k. In p (take k ps)) (subst (λ k. start new (p.slot, p.ballot) k ≡ start starts (p.slot, p.ballot) k) all (same (p.slot, p.ballot))) i)
 
@@ -128,7 +136,9 @@ kept starts place n = go (get place_cmp starts place)
     go (Some i) h = omega arith
 
 -- one more pvalue, which stands where its index leads or behind
-pub pushed : {C : Type 0} (starts : BTreeMap (ℕ × Numbers) ℕ) (ps : List (Pvalue C)) (p : Pvalue C) → start starts (p.slot, p.ballot) (length ps + 1) ≤ length ps → IsIndexOf starts ps → IsIndexOf starts (ps ++ p ∷ [])
+pub pushed : {C : Type 0} (starts : BTreeMap (ℕ × Numbers) ℕ) (ps : List (Pvalue C)) (p : Pvalue C)
+    → start starts (p.slot, p.ballot) (length ps + 1) ≤ length ps → IsIndexOf starts ps
+    → IsIndexOf starts (ps ++ p ∷ [])
 pushed {C} starts ps p at is q i =
     let n = length ps in
     let from = start starts (q.slot, q.ballot) (n + 1) in

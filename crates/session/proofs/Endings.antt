@@ -1,5 +1,7 @@
 -- How a session that is on its way goes on or ends.
-use Rattle.std.proofs.Common.{◌≡◌, ◌⊎◌, inl, inr, ℕ, ◌+◌, ◌<◌, ◌≤◌, ◌^◌, Bool, List, [], ◌∷◌, ◌++◌, Option, Some, None, Result, Ok, Err, OnOk, OnErr, MatchBool, length, take, refl, sym, ap, subst, ◌∙◌, length-append, arith}
+use Rattle.std.proofs.Common.{◌≡◌, ◌⊎◌, inl, inr, ℕ, ◌+◌, ◌<◌, ◌≤◌, ◌^◌, Bool, List, [], ◌∷◌, ◌++◌, Option, Some, None}
+use Rattle.std.proofs.Common.{Result, Ok, Err, OnOk, OnErr, MatchBool, length, take, refl, sym, ap, subst, ◌∙◌}
+use Rattle.std.proofs.Common.{length-append, arith}
 use Rattle.std.proofs.lemmas.List.{append-nil}
 use Rattle.std.proofs.Math.Seq.{take-length}
 use Rattle.std.proofs.KnownBytes.{Appends-nil, Appends-trans, Consumes-nil, Consumes-trans, Consumes-kept}
@@ -22,27 +24,45 @@ use Rattle.session.proofs.Going.{Going, asked_length, asked_one, goes_at_first, 
 -- no item is left
 reads_to_end : (t : List ℕ) (items : List Item) (rest : List ℕ) → ReadsFirst t items rest → BeginsWithNone rest → Reads t items End.Eof
 reads_to_end t [] rest r none = (subst BeginsWithNone (sym r) none, refl)
-reads_to_end t (i ∷ items) rest r none =
-    (r.0, r.1, r.2, r.3, subst (λ (b : Bool). MatchBool b ((items ≡ []) × (End.Eof ≡ End.Quit)) (Reads r.1 items End.Eof)) (sym r.4) (reads_to_end r.1 items rest r.5 none))
+reads_to_end t (i ∷ items) rest r none = (
+  r.0,
+  r.1,
+  r.2,
+  r.3,
+  subst (λ (b : Bool). MatchBool b ((items ≡ []) × (End.Eof ≡ End.Quit))
+      (Reads r.1 items End.Eof)) (sym r.4) (reads_to_end r.1 items rest r.5 none),
+)
 
 -- a quit is next
-reads_to_quit : (t : List ℕ) (items : List Item) (rest front more : List ℕ) → ReadsFirst t items rest → rest ≡ front ++ more → Spells front (Ok Quit) → Reads t (items ++ Ok Quit ∷ []) End.Quit
+reads_to_quit : (t : List ℕ) (items : List Item) (rest front more : List ℕ) → ReadsFirst t items rest
+    → rest ≡ front ++ more → Spells front (Ok Quit) → Reads t (items ++ Ok Quit ∷ []) End.Quit
 reads_to_quit t [] rest front more r cut spelled = (front, more, r ∙ cut, spelled, (refl, refl))
-reads_to_quit t (i ∷ items) rest front more r cut spelled =
-    (r.0, r.1, r.2, r.3, subst (λ (b : Bool). MatchBool b ((items ++ Ok Quit ∷ [] ≡ []) × (End.Quit ≡ End.Quit)) (Reads r.1 (items ++ Ok Quit ∷ []) End.Quit)) (sym r.4) (reads_to_quit r.1 items rest front more r.5 cut spelled))
+reads_to_quit t (i ∷ items) rest front more r cut spelled = (
+  r.0,
+  r.1,
+  r.2,
+  r.3,
+  subst (λ (b : Bool). MatchBool b ((items ++ Ok Quit ∷ [] ≡ []) × (End.Quit ≡ End.Quit))
+      (Reads r.1 (items ++ Ok Quit ∷ []) End.Quit)) (sym r.4)
+      (reads_to_quit r.1 items rest front more r.5 cut spelled),
+)
 
 -- where nothing is unsent, the output is what is told for all that was read
-all_told : {S : Type 0} (asks : Asks S) (old now : S) (turns : ℕ) (input output : List ℕ) (P : List ℕ → Type 0) (g : Going asks old now turns input output [] P) → output ≡ told_text (g.items ++ g.more) g.answers
+all_told : {S : Type 0} (asks : Asks S) (old now : S) (turns : ℕ) (input output : List ℕ) (P : List ℕ → Type 0)
+    (g : Going asks old now turns input output [] P) → output ≡ told_text (g.items ++ g.more) g.answers
 all_told asks old now turns input output P g = sym (append-nil output) ∙ g.all
 
-as_many : {S : Type 0} (asks : Asks S) (old now : S) (turns : ℕ) (input output unsent : List ℕ) (P : List ℕ → Type 0) (g : Going asks old now turns input output unsent P) → length g.answers ≡ length (operations (g.items ++ g.more))
+as_many : {S : Type 0} (asks : Asks S) (old now : S) (turns : ℕ) (input output unsent : List ℕ) (P : List ℕ → Type 0)
+    (g : Going asks old now turns input output unsent P) → length g.answers ≡ length (operations (g.items ++ g.more))
 as_many asks old now turns input output unsent P g = asked_length asks old now (operations (g.items ++ g.more)) g.answers g.asked
 
-pub whole_eof : {S : Type 0} (asks : Asks S) (old now : S) (turns : ℕ) (input output : List ℕ) (t : Held) → Going asks old now turns input output [] (ComesTo None t) → Whole asks old now input output End.Eof
+pub whole_eof : {S : Type 0} (asks : Asks S) (old now : S) (turns : ℕ) (input output : List ℕ) (t : Held)
+    → Going asks old now turns input output [] (ComesTo None t) → Whole asks old now input output End.Eof
 whole_eof asks old now turns input output t g =
     (g.items ++ g.more, g.answers, reads_to_end input (g.items ++ g.more) g.rest g.reads g.left.1, g.asked, all_told asks old now turns input output _ g)
 
-pub whole_quit : {S : Type 0} (asks : Asks S) (old now : S) (turns : ℕ) (input output : List ℕ) (t : Held) → Going asks old now turns input output [] (ComesTo (Some Quit) t) → Whole asks old now input output End.Quit
+pub whole_quit : {S : Type 0} (asks : Asks S) (old now : S) (turns : ℕ) (input output : List ℕ) (t : Held)
+    → Going asks old now turns input output [] (ComesTo (Some Quit) t) → Whole asks old now input output End.Quit
 whole_quit asks old now turns input output t g =
     let items = g.items ++ g.more in (
       items ++ Ok Quit ∷ [],
@@ -55,7 +75,9 @@ whole_quit asks old now turns input output t g =
           ap (λ xs. told_text (items ++ Ok Quit ∷ []) xs) (append-nil g.answers))),
     )
 
-pub stops_at : {S : Type 0} (asks : Asks S) (old now last : S) (turns : ℕ) (input output : List ℕ) (t : Held) (op : Op) → asks now op (Err ServiceFault.Stopped) last → Going asks old now turns input output [] (ComesTo (Some (Do op)) t) → StopsAt asks old last input output
+pub stops_at : {S : Type 0} (asks : Asks S) (old now last : S) (turns : ℕ) (input output : List ℕ) (t : Held) (op : Op)
+    → asks now op (Err ServiceFault.Stopped) last → Going asks old now turns input output [] (ComesTo (Some (Do op)) t)
+    → StopsAt asks old last input output
 stops_at asks old now last turns input output t op one g = (
   g.items ++ g.more,
   g.answers,
@@ -68,7 +90,10 @@ stops_at asks old now last turns input output t op one g = (
   all_told asks old now turns input output _ g,
 )
 
-pub goes_answered : {S : Type 0} (asks : Asks S) (old now last : S) (turns : ℕ) (input output : List ℕ) (t : Held) (op : Op) (answer : Response) → asks now op (result_of answer) last → Going asks old now turns input output [] (ComesTo (Some (Do op)) t) → Going asks old last (turns + 1) input output (answer_text answer) (StandsBefore t)
+pub goes_answered : {S : Type 0} (asks : Asks S) (old now last : S) (turns : ℕ) (input output : List ℕ) (t : Held)
+    (op : Op) (answer : Response) → asks now op (result_of answer) last
+    → Going asks old now turns input output [] (ComesTo (Some (Do op)) t)
+    → Going asks old last (turns + 1) input output (answer_text answer) (StandsBefore t)
 goes_answered asks old now last turns input output t op answer one g =
     let items = g.items ++ g.more in
     let many = as_many asks old now turns input output [] _ g in
@@ -80,8 +105,12 @@ goes_answered asks old now last turns input output t op answer one g =
       rest = g.left.1;
       reads = reads_one input items g.rest g.left.0 g.left.1 (Ok (Do op)) g.reads g.left.2 g.left.3 refl;
       few = omega arith;
-      asked = subst (λ ops. Asked asks old ops (g.answers ++ answer ∷ []) last) (sym (operations-append items (Ok (Do op) ∷ []))) (asked_one asks old now last (operations items) g.answers op answer g.asked one);
-      whole = so_far ∙ (sym (append-nil (told_text items g.answers)) ∙ (sym (told_text-append items [] g.answers (answer ∷ []) many) ∙ ap (λ is. told_text is (g.answers ++ answer ∷ [])) (append-nil items)));
+      asked = subst (λ ops. Asked asks old ops (g.answers ++ answer ∷ []) last)
+          (sym (operations-append items (Ok (Do op) ∷ [])))
+          (asked_one asks old now last (operations items) g.answers op answer g.asked one);
+      whole = so_far ∙ (sym (append-nil (told_text items g.answers)) ∙
+          (sym (told_text-append items [] g.answers (answer ∷ []) many) ∙ ap
+          (λ is. told_text is (g.answers ++ answer ∷ [])) (append-nil items)));
       all =
           ap (λ u. u ++ answer_text answer) so_far ∙
           (ap (λ u. told_text items g.answers ++ u) (sym (append-nil (answer_text answer))) ∙
@@ -92,7 +121,8 @@ goes_answered asks old now last turns input output t op answer one g =
 
 -- Over streams: a is what the reader would give at first and b what it would now, h what the writer held at first and
 -- k what it holds now.
-abbrev pub Goes : {S : Type 0} → Asks S → S → S → ℕ → Option (List ℕ) → Option (List ℕ) → Option (List ℕ) → Option (List ℕ) → List ℕ → (List ℕ → Type 0) → Type 0
+abbrev pub Goes : {S : Type 0} → Asks S → S → S → ℕ → Option (List ℕ) → Option (List ℕ) → Option (List ℕ)
+    → Option (List ℕ) → List ℕ → (List ℕ → Type 0) → Type 0
 Goes asks old now turns a b h k unsent P = Over a b h k (λ input output. Going asks old now turns input output unsent P)
 
 abbrev pub Ends : {S : Type 0} → Asks S → S → S → Option (List ℕ) → Option (List ℕ) → Option (List ℕ) → Option (List ℕ) → Result End SessionFault → Type 0
@@ -101,59 +131,150 @@ Ends asks old now a b h k result = Over a b h k (λ input output. Conversed asks
 pub sets_out : {S : Type 0} (asks : Asks S) (s : S) (a h : Option (List ℕ)) → Goes asks s s 0 a a h h [] (StandsBefore nothing_held)
 sets_out asks s a h = ([], [], Consumes-nil a, Appends-nil h, goes_at_first asks s)
 
-pub finds : {S : Type 0} (asks : Asks S) (old now : S) (turns : ℕ) (a b h k : Option (List ℕ)) (s t : Held) (found : _) → ((text : List ℕ) → StandsBefore s text → Finds s t text found) → Goes asks old now turns a b h k s.unsent (StandsBefore s) → Goes asks old now turns a b h k t.unsent (ComesTo found t)
+pub finds : {S : Type 0} (asks : Asks S) (old now : S) (turns : ℕ) (a b h k : Option (List ℕ)) (s t : Held) (found : _)
+    → ((text : List ℕ) → StandsBefore s text → Finds s t text found)
+    → Goes asks old now turns a b h k s.unsent (StandsBefore s)
+    → Goes asks old now turns a b h k t.unsent (ComesTo found t)
 finds asks old now turns a b h k s t found f g = (g.0, g.1, g.2, g.3, goes_finding asks old now turns g.0 g.1 s t found f g.4)
 
-pub sends : {S : Type 0} (asks : Asks S) (old now : S) (turns : ℕ) (a b h k l : Option (List ℕ)) (unsent : List ℕ) (P : List ℕ → Type 0) → Appends k l unsent → Goes asks old now turns a b h k unsent P → Goes asks old now turns a b h l [] P
-sends asks old now turns a b h k l unsent P sent g = (g.0, g.1 ++ unsent, g.2, Appends-trans h k l g.1 unsent g.3 sent, goes_sending asks old now turns g.0 g.1 unsent P g.4)
+pub sends : {S : Type 0} (asks : Asks S) (old now : S) (turns : ℕ) (a b h k l : Option (List ℕ)) (unsent : List ℕ)
+    (P : List ℕ → Type 0) → Appends k l unsent → Goes asks old now turns a b h k unsent P
+    → Goes asks old now turns a b h l [] P
+sends asks old now turns a b h k l unsent P sent g = (
+  g.0,
+  g.1 ++ unsent,
+  g.2,
+  Appends-trans h k l g.1 unsent g.3 sent,
+  goes_sending asks old now turns g.0 g.1 unsent P
+      g.4,
+)
 
-pub reads : {S : Type 0} (asks : Asks S) (old now : S) (turns : ℕ) (a b c h k : Option (List ℕ)) (bytes : List ℕ) (t s : Held) → 0 < length bytes → Consumes b c bytes → ((text : List ℕ) → StandsBefore t text → StandsBefore s (text ++ bytes)) → Goes asks old now turns a b h k [] (ComesTo None t) → Goes asks old now (turns + 1) a c h k [] (StandsBefore s)
-reads asks old now turns a b c h k bytes t s some read f g = (g.0 ++ bytes, g.1, Consumes-trans a b c g.0 bytes g.2 read, g.3, goes_reading asks old now turns (turns + 1) g.0 g.1 [] bytes (ComesTo None t) (StandsBefore s) (omega (arith, some)) (λ text l. f text l.0) g.4)
+pub reads : {S : Type 0} (asks : Asks S) (old now : S) (turns : ℕ) (a b c h k : Option (List ℕ)) (bytes : List ℕ)
+    (t s : Held) → 0 < length bytes → Consumes b c bytes
+    → ((text : List ℕ) → StandsBefore t text → StandsBefore s (text ++ bytes))
+    → Goes asks old now turns a b h k [] (ComesTo None t) → Goes asks old now (turns + 1) a c h k [] (StandsBefore s)
+reads asks old now turns a b c h k bytes t s some read f g = (
+  g.0 ++ bytes,
+  g.1,
+  Consumes-trans a b c g.0 bytes g.2 read,
+  g.3,
+  goes_reading asks old now turns
+      (turns + 1) g.0 g.1 [] bytes (ComesTo None t) (StandsBefore s) (omega (arith, some)) (λ text l. f text l.0) g.4,
+)
 
-pub answers : {S : Type 0} (asks : Asks S) (old now last : S) (turns : ℕ) (a b h k : Option (List ℕ)) (t : Held) (op : Op) (answer : Response) → asks now op (result_of answer) last → Goes asks old now turns a b h k [] (ComesTo (Some (Do op)) t) → Goes asks old last (turns + 1) a b h k (answer_text answer) (StandsBefore t)
+pub answers : {S : Type 0} (asks : Asks S) (old now last : S) (turns : ℕ) (a b h k : Option (List ℕ)) (t : Held)
+    (op : Op) (answer : Response) → asks now op (result_of answer) last
+    → Goes asks old now turns a b h k [] (ComesTo (Some (Do op)) t)
+    → Goes asks old last (turns + 1) a b h k (answer_text answer) (StandsBefore t)
 answers asks old now last turns a b h k t op answer one g = (g.0, g.1, g.2, g.3, goes_answered asks old now last turns g.0 g.1 t op answer one g.4)
 
 -- the text at which it stood begins with an item that takes memory
-pub ends_looking : {S : Type 0} (asks : Asks S) (old now : S) (turns : ℕ) (a b h k : Option (List ℕ)) (s : Held) (r : Result End SessionFault) → r ≡ Err OutOfMemory → ((text : List ℕ) → StandsBefore s text → FrontTakesRoom text) → Goes asks old now turns a b h k s.unsent (StandsBefore s) → Ends asks old now a b h k r
-ends_looking asks old now turns a b h k s r e room g =
-    (g.0, g.1, g.2, g.3, subst (Conversed asks old now g.0 g.1) (sym e) (runs_short asks old now turns g.0 g.1 s.unsent (StandsBefore s) g.4 (Shortage.item (room g.4.rest g.4.left))))
+pub ends_looking : {S : Type 0} (asks : Asks S) (old now : S) (turns : ℕ) (a b h k : Option (List ℕ)) (s : Held)
+    (r : Result End SessionFault) → r ≡ Err OutOfMemory → ((text : List ℕ) → StandsBefore s text → FrontTakesRoom text)
+    → Goes asks old now turns a b h k s.unsent (StandsBefore s) → Ends asks old now a b h k r
+ends_looking asks old now turns a b h k s r e room g = (
+  g.0,
+  g.1,
+  g.2,
+  g.3,
+  subst (Conversed asks old now g.0 g.1) (sym e)
+      (runs_short asks old now turns g.0 g.1 s.unsent (StandsBefore s) g.4 (Shortage.item (room g.4.rest g.4.left))),
+)
 
 -- so many turns were taken as can be counted
-pub ends_counting : {S : Type 0} (asks : Asks S) (old now : S) (turns : ℕ) (a b h k : Option (List ℕ)) (unsent : List ℕ) (P : List ℕ → Type 0) (r : Result End SessionFault) → r ≡ Err OutOfMemory → 2 ^ 64 ≤ turns + 1 → Goes asks old now turns a b h k unsent P → Ends asks old now a b h k r
-ends_counting asks old now turns a b h k unsent P r e many g =
-    (g.0, g.1, g.2, g.3, subst (Conversed asks old now g.0 g.1) (sym e) (runs_short asks old now turns g.0 g.1 unsent P g.4 (Shortage.turns (let count = g.4.counted in omega (arith, count, many)))))
+pub ends_counting : {S : Type 0} (asks : Asks S) (old now : S) (turns : ℕ) (a b h k : Option (List ℕ)) (unsent : List ℕ)
+    (P : List ℕ → Type 0) (r : Result End SessionFault) → r ≡ Err OutOfMemory → 2 ^ 64 ≤ turns + 1
+    → Goes asks old now turns a b h k unsent P → Ends asks old now a b h k r
+ends_counting asks old now turns a b h k unsent P r e many g = (
+  g.0,
+  g.1,
+  g.2,
+  g.3,
+  subst (Conversed asks old now g.0 g.1) (sym e)
+      (runs_short asks old now turns g.0 g.1 unsent P g.4
+      (Shortage.turns (let count = g.4.counted in omega (arith, count, many)))),
+)
 
-pub ends_writing : {S : Type 0} (asks : Asks S) (old now : S) (turns : ℕ) (a b h k l : Option (List ℕ)) (unsent : List ℕ) (P : List ℕ → Type 0) (r : Result End SessionFault) → r ≡ Err WriteFailed → AppendsBeginning k l unsent → Goes asks old now turns a b h k unsent P → Ends asks old now a b h l r
-ends_writing asks old now turns a b h k l unsent P r e some g =
-    (g.0, g.1 ++ take some.0 unsent, g.2, Appends-trans h k l g.1 (take some.0 unsent) g.3 some.1, subst (Conversed asks old now g.0 (g.1 ++ take some.0 unsent)) (sym e) (breaks_off asks old now turns g.0 g.1 unsent P some.0 g.4))
+pub ends_writing : {S : Type 0} (asks : Asks S) (old now : S) (turns : ℕ) (a b h k l : Option (List ℕ))
+    (unsent : List ℕ) (P : List ℕ → Type 0) (r : Result End SessionFault) → r ≡ Err WriteFailed
+    → AppendsBeginning k l unsent → Goes asks old now turns a b h k unsent P → Ends asks old now a b h l r
+ends_writing asks old now turns a b h k l unsent P r e some g = (
+  g.0,
+  g.1 ++ take some.0 unsent,
+  g.2,
+  Appends-trans h k l g.1 (take some.0 unsent) g.3 some.1,
+  subst
+      (Conversed asks old now g.0 (g.1 ++ take some.0 unsent)) (sym e)
+      (breaks_off asks old now turns g.0 g.1 unsent P some.0 g.4),
+)
 
-pub ends_eof : {S : Type 0} (asks : Asks S) (old now : S) (turns : ℕ) (a b c h k : Option (List ℕ)) (t : Held) (r : Result End SessionFault) → r ≡ Ok End.Eof → Consumes b c [] → Goes asks old now turns a b h k [] (ComesTo None t) → Ends asks old now a c h k r
-ends_eof asks old now turns a b c h k t r e read g =
-    (g.0, g.1, subst (Consumes a c) (append-nil g.0) (Consumes-trans a b c g.0 [] g.2 read), g.3, subst (Conversed asks old now g.0 g.1) (sym e) (whole_eof asks old now turns g.0 g.1 t g.4))
+pub ends_eof : {S : Type 0} (asks : Asks S) (old now : S) (turns : ℕ) (a b c h k : Option (List ℕ)) (t : Held)
+    (r : Result End SessionFault) → r ≡ Ok End.Eof → Consumes b c []
+    → Goes asks old now turns a b h k [] (ComesTo None t) → Ends asks old now a c h k r
+ends_eof asks old now turns a b c h k t r e read g = (
+  g.0,
+  g.1,
+  subst (Consumes a c) (append-nil g.0) (Consumes-trans a b c g.0 [] g.2 read),
+  g.3,
+  subst
+      (Conversed asks old now g.0 g.1) (sym e) (whole_eof asks old now turns g.0 g.1 t g.4),
+)
 
-pub ends_quit : {S : Type 0} (asks : Asks S) (old now : S) (turns : ℕ) (a b h k : Option (List ℕ)) (t : Held) → Goes asks old now turns a b h k [] (ComesTo (Some Quit) t) → Ends asks old now a b h k (Ok End.Quit)
+pub ends_quit : {S : Type 0} (asks : Asks S) (old now : S) (turns : ℕ) (a b h k : Option (List ℕ)) (t : Held)
+    → Goes asks old now turns a b h k [] (ComesTo (Some Quit) t) → Ends asks old now a b h k (Ok End.Quit)
 ends_quit asks old now turns a b h k t g = (g.0, g.1, g.2, g.3, whole_quit asks old now turns g.0 g.1 t g.4)
 
-pub ends_reading : {S X : Type 0} (asks : Asks S) (old now : S) (turns : ℕ) (gives : X → Option (List ℕ)) (a h k : Option (List ℕ)) (was next : X) (t : Held) (fault : SessionFault) (Failed : Type 0) → ((fault ≡ OutOfMemory) × (next ≡ was)) ⊎ ((fault ≡ ReadFailed) × Failed × Keeps (gives was) (gives next)) → Goes asks old now turns a (gives was) h k [] (ComesTo None t) → Ends asks old now a (gives next) h k (Err fault)
-ends_reading asks old now turns gives a h k was next t fault Failed (inl short) g =
-    (g.0, g.1, subst (λ r. Consumes a (gives r) g.0) (sym short.1) g.2, g.3, subst (λ f. Conversed asks old now g.0 g.1 (Err f)) (sym short.0) (runs_short asks old now turns g.0 g.1 [] (ComesTo None t) g.4 (Shortage.piece g.4.left.1)))
-ends_reading asks old now turns gives a h k was next t fault Failed (inr failed) g =
-    (g.0, g.1, Consumes-kept a (gives was) (gives next) g.0 g.2 failed.2, g.3, subst (λ f. Conversed asks old now g.0 g.1 (Err f)) (sym failed.0) (whole_eof asks old now turns g.0 g.1 t g.4))
+pub ends_reading : {S X : Type 0} (asks : Asks S) (old now : S) (turns : ℕ) (gives : X → Option (List ℕ))
+    (a h k : Option (List ℕ)) (was next : X) (t : Held) (fault : SessionFault) (Failed : Type 0)
+    → ((fault ≡ OutOfMemory) × (next ≡ was)) ⊎ ((fault ≡ ReadFailed) × Failed × Keeps (gives was) (gives next))
+    → Goes asks old now turns a (gives was) h k [] (ComesTo None t) → Ends asks old now a (gives next) h k (Err fault)
+ends_reading asks old now turns gives a h k was next t fault Failed (inl short) g = (
+  g.0,
+  g.1,
+  subst (λ r. Consumes a (gives r) g.0) (sym short.1) g.2,
+  g.3,
+  subst
+      (λ f. Conversed asks old now g.0 g.1 (Err f)) (sym short.0)
+      (runs_short asks old now turns g.0 g.1 [] (ComesTo None t) g.4 (Shortage.piece g.4.left.1)),
+)
+ends_reading asks old now turns gives a h k was next t fault Failed (inr failed) g = (
+  g.0,
+  g.1,
+  Consumes-kept a (gives was) (gives next) g.0 g.2 failed.2,
+  g.3,
+  subst
+      (λ f. Conversed asks old now g.0 g.1 (Err f)) (sym failed.0) (whole_eof asks old now turns g.0 g.1 t g.4),
+)
 
-pub ends_answering : {S : Type 0} (asks : Asks S) (old now last : S) (turns : ℕ) (a b h k : Option (List ℕ)) (t : Held) (op : Op) (fault : SessionFault) → ((fault ≡ OutOfMemory) × (answer : Response) × asks now op (result_of answer) last) ⊎ ((fault ≡ ServiceStopped) × asks now op (Err ServiceFault.Stopped) last) → Goes asks old now turns a b h k [] (ComesTo (Some (Do op)) t) → Ends asks old last a b h k (Err fault)
+pub ends_answering : {S : Type 0} (asks : Asks S) (old now last : S) (turns : ℕ) (a b h k : Option (List ℕ)) (t : Held)
+    (op : Op) (fault : SessionFault)
+    → ((fault ≡ OutOfMemory) × (answer : Response) × asks now op (result_of answer) last)
+    ⊎ ((fault ≡ ServiceStopped) × asks now op (Err ServiceFault.Stopped) last)
+    → Goes asks old now turns a b h k [] (ComesTo (Some (Do op)) t) → Ends asks old last a b h k (Err fault)
 unfolding goes_answered
-ends_answering asks old now last turns a b h k t op fault (inl lost) g =
-    (g.0, g.1, g.2, g.3, subst (λ f. Conversed asks old last g.0 g.1 (Err f)) (sym lost.0) (runs_short asks old last (turns + 1) g.0 g.1 (answer_text lost.1) (StandsBefore t) (goes_answered asks old now last turns g.0 g.1 t op lost.1 lost.2 g.4) (Shortage.answer refl)))
+ends_answering asks old now last turns a b h k t op fault (inl lost) g = (
+  g.0,
+  g.1,
+  g.2,
+  g.3,
+  subst (λ f. Conversed asks old last g.0 g.1 (Err f)) (sym lost.0)
+      (runs_short asks old last (turns + 1) g.0 g.1 (answer_text lost.1) (StandsBefore t)
+      (goes_answered asks old now last turns g.0 g.1 t op lost.1 lost.2 g.4) (Shortage.answer refl)),
+)
 ends_answering asks old now last turns a b h k t op fault (inr stopped) g =
     (g.0, g.1, g.2, g.3, subst (λ f. Conversed asks old last g.0 g.1 (Err f)) (sym stopped.0) (stops_at asks old now last turns g.0 g.1 t op stopped.1 g.4))
 
 -- whether it went wrong or not, a beginning of the text was written
-pub began : {X E : Type 0} (r : Result X E) (k l : Option (List ℕ)) (text : List ℕ) → OnOk r (Appends k l text) → OnErr r (AppendsBeginning k l text) → AppendsBeginning k l text
+pub began : {X E : Type 0} (r : Result X E) (k l : Option (List ℕ)) (text : List ℕ) → OnOk r (Appends k l text)
+    → OnErr r (AppendsBeginning k l text) → AppendsBeginning k l text
 began (Ok x) k l text all some = (length text, subst (Appends k l) (sym (take-length text)) all)
 began (Err e) k l text all some = some
 
 -- the same state under other names
-pub goes_as : {S : Type 0} (asks : Asks S) (old now last : S) (turns : ℕ) (a b c h k : Option (List ℕ)) (unsent : List ℕ) (s t : Held) → last ≡ now → c ≡ b → t ≡ s → s.unsent ≡ unsent → Goes asks old now turns a b h k unsent (StandsBefore s) → Goes asks old last turns a c h k t.unsent (StandsBefore t)
+pub goes_as : {S : Type 0} (asks : Asks S) (old now last : S) (turns : ℕ) (a b c h k : Option (List ℕ))
+    (unsent : List ℕ) (s t : Held) → last ≡ now → c ≡ b → t ≡ s → s.unsent ≡ unsent
+    → Goes asks old now turns a b h k unsent (StandsBefore s)
+    → Goes asks old last turns a c h k t.unsent (StandsBefore t)
 goes_as asks old now last turns a b c h k unsent s t services readers sessions text g =
     subst (λ (u : Held). Goes asks old last turns a c h k u.unsent (StandsBefore u)) (sym sessions)
     (subst (λ (r : Option (List ℕ)). Goes asks old last turns a r h k s.unsent (StandsBefore s)) (sym readers)

@@ -1,5 +1,6 @@
 -- A session on its way: what was read, asked and written so far.
-use Rattle.std.proofs.Common.{◌≡◌, ◌≤◌, ◌+◌, ◌⊎◌, inl, ℕ, suc, List, [], ◌∷◌, ◌++◌, Option, Result, Ok, Err, IfErr, length, take, drop, refl, sym, ap, subst, ◌∙◌, length-append, arith}
+use Rattle.std.proofs.Common.{◌≡◌, ◌≤◌, ◌+◌, ◌⊎◌, inl, ℕ, suc, List, [], ◌∷◌, ◌++◌, Option, Result, Ok, Err, IfErr}
+use Rattle.std.proofs.Common.{length, take, drop, refl, sym, ap, subst, ◌∙◌, length-append, arith}
 use Rattle.std.proofs.lemmas.List.{append-nil, append_assoc, take-append-drop}
 use Rattle.bean_queue.specs.declared.op.Op.{Op}
 use Rattle.bean_codec.specs.declared.request.Fault.{Fault}
@@ -14,7 +15,10 @@ use Rattle.session.specs.Serving.{Asks, Asked, Shortage, RunsShort, Partly, Brea
 use Rattle.session.proofs.Items.{reads_more, operations_faulty, operations-append, told_text-append}
 
 -- an answer that could not be written down
-pub refuses : {X S : Type 0} (asks : Asks S) (old new : S) (op : Op) (answer : Response) (r : Result X SessionFault) → IfErr r (λ f. f ≡ OutOfMemory) → asks old op (result_of answer) new → IfErr r (λ f. ((f ≡ OutOfMemory) × (a : Response) × asks old op (result_of a) new) ⊎ ((f ≡ ServiceStopped) × asks old op (Err ServiceFault.Stopped) new))
+pub refuses : {X S : Type 0} (asks : Asks S) (old new : S) (op : Op) (answer : Response) (r : Result X SessionFault)
+    → IfErr r (λ f. f ≡ OutOfMemory) → asks old op (result_of answer) new
+    → IfErr r (λ f. ((f ≡ OutOfMemory) × (a : Response) × asks old op (result_of a) new)
+    ⊎ ((f ≡ ServiceStopped) × asks old op (Err ServiceFault.Stopped) new))
 refuses asks old new op answer (Ok x) e a = tt
 refuses asks old new op answer (Err f) e a = inl (e, answer, a)
 
@@ -24,14 +28,17 @@ short_of P (Ok x) e p = tt
 short_of P (Err f) e p = subst P (sym e) p
 
 -- as many answers as operations
-pub asked_length : {S : Type 0} (asks : Asks S) (old new : S) (ops : List Op) (answers : List Response) → Asked asks old ops answers new → length answers ≡ length ops
+pub asked_length : {S : Type 0} (asks : Asks S) (old new : S) (ops : List Op) (answers : List Response)
+    → Asked asks old ops answers new → length answers ≡ length ops
 asked_length asks old new [] [] a = refl
 asked_length asks old new [] (x ∷ answers) a = absurd a
 asked_length asks old new (op ∷ ops) [] a = absurd a
 asked_length asks old new (op ∷ ops) (x ∷ answers) a = ap suc (asked_length asks a.0 new ops answers a.2)
 
 -- one ask more
-pub asked_one : {S : Type 0} (asks : Asks S) (old now new : S) (ops : List Op) (answers : List Response) (op : Op) (answer : Response) → Asked asks old ops answers now → asks now op (result_of answer) new → Asked asks old (ops ++ op ∷ []) (answers ++ answer ∷ []) new
+pub asked_one : {S : Type 0} (asks : Asks S) (old now new : S) (ops : List Op) (answers : List Response) (op : Op)
+    (answer : Response) → Asked asks old ops answers now → asks now op (result_of answer) new
+    → Asked asks old (ops ++ op ∷ []) (answers ++ answer ∷ []) new
 asked_one asks old now new [] [] op answer a one = (new, subst (λ s. asks s op (result_of answer) new) (sym a) one, refl)
 asked_one asks old now new [] (x ∷ answers) op answer a one = absurd a
 asked_one asks old now new (o ∷ ops) [] op answer a one = absurd a
@@ -69,7 +76,9 @@ goes_at_first asks s = record {
 }
 
 -- memory was refused
-pub runs_short : {S : Type 0} (asks : Asks S) (old now : S) (turns : ℕ) (input output unsent : List ℕ) (P : List ℕ → Type 0) (g : Going asks old now turns input output unsent P) → Shortage g.more g.rest (length input + length g.answers) → RunsShort asks old now input output
+pub runs_short : {S : Type 0} (asks : Asks S) (old now : S) (turns : ℕ) (input output unsent : List ℕ)
+    (P : List ℕ → Type 0) (g : Going asks old now turns input output unsent P)
+    → Shortage g.more g.rest (length input + length g.answers) → RunsShort asks old now input output
 runs_short asks old now turns input output unsent P g why = (g.items, g.more, g.answers, g.rest, g.reads, g.few, g.asked, g.whole, why)
 
 pub is_partly : {S : Type 0} (asks : Asks S) (old now : S) (input output : List ℕ) → RunsShort asks old now input output → Partly asks old now input output
@@ -78,9 +87,20 @@ is_partly asks old now input output r = (r.0, r.1, r.2, r.3, r.4, r.5, r.6, r.7)
 -- more is read
 pub reads_in_front : (t more rest : List ℕ) (items : List Item) → ReadsFirst t items rest → ReadsFirst (t ++ more) items (rest ++ more)
 reads_in_front t more rest [] r = ap (λ u. u ++ more) r
-reads_in_front t more rest (i ∷ items) r = (r.0, r.1 ++ more, ap (λ u. u ++ more) r.2 ∙ append_assoc r.0 r.1 more, r.3, r.4, reads_in_front r.1 more rest items r.5)
+reads_in_front t more rest (i ∷ items) r = (
+  r.0,
+  r.1 ++ more,
+  ap (λ u. u ++ more) r.2 ∙ append_assoc r.0 r.1 more,
+  r.3,
+  r.4,
+  reads_in_front r.1 more rest items
+      r.5,
+)
 
-unfoldable pub goes_reading : {S : Type 0} (asks : Asks S) (old now : S) (turns next : ℕ) (input output unsent bytes : List ℕ) (P Q : List ℕ → Type 0) → next ≤ turns + length bytes → ((t : List ℕ) → P t → Q (t ++ bytes)) → Going asks old now turns input output unsent P → Going asks old now next (input ++ bytes) output unsent Q
+unfoldable pub goes_reading : {S : Type 0} (asks : Asks S) (old now : S) (turns next : ℕ)
+    (input output unsent bytes : List ℕ) (P Q : List ℕ → Type 0) → next ≤ turns + length bytes
+    → ((t : List ℕ) → P t → Q (t ++ bytes)) → Going asks old now turns input output unsent P
+    → Going asks old now next (input ++ bytes) output unsent Q
 goes_reading asks old now turns next input output unsent bytes P Q on f g = record {
   items = g.items;
   more = g.more;
@@ -97,9 +117,14 @@ goes_reading asks old now turns next input output unsent bytes P Q on f g = reco
 
 -- faults more are found
 operations_more : (items : List Item) (faults : List Fault) → operations (items ++ faulty faults) ≡ operations items
-operations_more items faults = operations-append items (faulty faults) ∙ (ap (λ ops. operations items ++ ops) (operations_faulty faults) ∙ append-nil (operations items))
+operations_more items faults =
+    operations-append items (faulty faults) ∙
+    (ap (λ ops. operations items ++ ops) (operations_faulty faults) ∙ append-nil (operations items))
 
-pub goes_finding : {S : Type 0} (asks : Asks S) (old now : S) (turns : ℕ) (input output : List ℕ) (s t : Held) (found : Option Request) → ((text : List ℕ) → StandsBefore s text → Finds s t text found) → Going asks old now turns input output s.unsent (StandsBefore s) → Going asks old now turns input output t.unsent (ComesTo found t)
+pub goes_finding : {S : Type 0} (asks : Asks S) (old now : S) (turns : ℕ) (input output : List ℕ) (s t : Held)
+    (found : Option Request) → ((text : List ℕ) → StandsBefore s text → Finds s t text found)
+    → Going asks old now turns input output s.unsent (StandsBefore s)
+    → Going asks old now turns input output t.unsent (ComesTo found t)
 goes_finding asks old now turns input output s t found finds g =
     let f = finds g.rest g.left in
     let items : (g.items ++ g.more) ++ faulty f.0 ≡ g.items ++ (g.more ++ faulty f.0) = append_assoc g.items g.more (faulty f.0) in
@@ -125,7 +150,9 @@ goes_finding asks old now turns input output s t found finds g =
     }
 
 -- all that was unsent is sent
-pub goes_sending : {S : Type 0} (asks : Asks S) (old now : S) (turns : ℕ) (input output unsent : List ℕ) (P : List ℕ → Type 0) → Going asks old now turns input output unsent P → Going asks old now turns input (output ++ unsent) [] P
+pub goes_sending : {S : Type 0} (asks : Asks S) (old now : S) (turns : ℕ) (input output unsent : List ℕ)
+    (P : List ℕ → Type 0) → Going asks old now turns input output unsent P
+    → Going asks old now turns input (output ++ unsent) [] P
 goes_sending asks old now turns input output unsent P g =
     let items : g.items ++ g.more ≡ (g.items ++ g.more) ++ [] = sym (append-nil (g.items ++ g.more)) in
     record {
@@ -143,7 +170,9 @@ goes_sending asks old now turns input output unsent P g =
     }
 
 -- or a part of it
-pub breaks_off : {S : Type 0} (asks : Asks S) (old now : S) (turns : ℕ) (input output unsent : List ℕ) (P : List ℕ → Type 0) (n : ℕ) → Going asks old now turns input output unsent P → BreaksOff asks old now input (output ++ take n unsent)
+pub breaks_off : {S : Type 0} (asks : Asks S) (old now : S) (turns : ℕ) (input output unsent : List ℕ)
+    (P : List ℕ → Type 0) (n : ℕ) → Going asks old now turns input output unsent P
+    → BreaksOff asks old now input (output ++ take n unsent)
 breaks_off asks old now turns input output unsent P n g = (
   g.items,
   g.more,

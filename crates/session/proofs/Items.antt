@@ -9,12 +9,14 @@ use Rattle.session.specs.Items.{Response, ReadsFirst, is_quit, operations, told_
 use Rattle.session.specs.Held.{faulty}
 
 -- one item more
-pub reads_one : (t : List ℕ) (items : List Item) (rest front more : List ℕ) (item : Item) → ReadsFirst t items rest → rest ≡ front ++ more → Spells front item → is_quit item ≡ false → ReadsFirst t (items ++ item ∷ []) more
+pub reads_one : (t : List ℕ) (items : List Item) (rest front more : List ℕ) (item : Item) → ReadsFirst t items rest
+    → rest ≡ front ++ more → Spells front item → is_quit item ≡ false → ReadsFirst t (items ++ item ∷ []) more
 reads_one t [] rest front more item r cut spelled goes = (front, more, r ∙ cut, spelled, goes, refl)
 reads_one t (i ∷ items) rest front more item r cut spelled goes = (r.0, r.1, r.2, r.3, r.4, reads_one r.1 items rest front more item r.5 cut spelled goes)
 
 -- many items more
-pub reads_more : (t : List ℕ) (items others : List Item) (rest more : List ℕ) → ReadsFirst t items rest → ReadsFirst rest others more → ReadsFirst t (items ++ others) more
+pub reads_more : (t : List ℕ) (items others : List Item) (rest more : List ℕ) → ReadsFirst t items rest
+    → ReadsFirst rest others more → ReadsFirst t (items ++ others) more
 reads_more t [] others rest more r q = subst (λ u. ReadsFirst u others more) (sym r) q
 reads_more t (i ∷ items) others rest more r q = (r.0, r.1, r.2, r.3, r.4, reads_more r.1 items others rest more r.5 q)
 
@@ -29,12 +31,14 @@ operations-append (Ok Quit ∷ is) js = operations-append is js
 operations-append (Err f ∷ is) js = operations-append is js
 
 -- with xs many answers xs operations, what is told comes one after the other
-pub told_text-append : (is js : List Item) (xs ys : List Response) → length xs ≡ length (operations is) → told_text (is ++ js) (xs ++ ys) ≡ told_text is xs ++ told_text js ys
+pub told_text-append : (is js : List Item) (xs ys : List Response) → length xs ≡ length (operations is)
+    → told_text (is ++ js) (xs ++ ys) ≡ told_text is xs ++ told_text js ys
 told_text-append [] js [] ys n = refl
 told_text-append [] js (a ∷ xs) ys n = absurd (omega (arith, n))
 told_text-append (Ok (Do op) ∷ is) js [] ys n = absurd (omega (arith, n))
 told_text-append (Ok (Do op) ∷ is) js (a ∷ xs) ys n =
-    ap (λ text. answer_text a ++ text) (told_text-append is js xs ys (omega (arith, n))) ∙ sym (append_assoc (answer_text a) (told_text is xs) (told_text js ys))
+    ap (λ text. answer_text a ++ text) (told_text-append is js xs ys (omega (arith, n))) ∙ sym
+    (append_assoc (answer_text a) (told_text is xs) (told_text js ys))
 told_text-append (Ok Quit ∷ is) js xs ys n = told_text-append is js xs ys n
 told_text-append (Err f ∷ is) js xs ys n =
     ap (λ text. fault_text f ++ text) (told_text-append is js xs ys n) ∙ sym (append_assoc (fault_text f) (told_text is xs) (told_text js ys))

@@ -1,5 +1,7 @@
 -- Where a session stands in a text.
-use Rattle.std.proofs.Common.{◌≡◌, ℕ, ◌+◌, ◌*◌, ◌<◌, ◌≤◌, Bool, true, false, if◌then◌else◌, List, [], ◌∷◌, ◌++◌, Option, Some, None, Result, Ok, Err, OnOk, OnErr, length, take, drop, refl, sym, ap, subst, ◌∙◌, length-append, length-take, arith}
+use Rattle.std.proofs.Common.{◌≡◌, ℕ, ◌+◌, ◌*◌, ◌<◌, ◌≤◌, Bool, true, false, if◌then◌else◌, List, [], ◌∷◌, ◌++◌, Option}
+use Rattle.std.proofs.Common.{Some, None, Result, Ok, Err, OnOk, OnErr, length, take, drop, refl, sym, ap, subst, ◌∙◌}
+use Rattle.std.proofs.Common.{length-append, length-take, arith}
 use Rattle.std.proofs.lemmas.List.{append-nil, append_assoc, take-append-drop, take-append-le, drop-append-le}
 use Rattle.bean_codec.specs.declared.reader.Want.{Want}
 use Rattle.bean_codec.specs.declared.reader.Want.TheVariants.{Line, Rest, Big}
@@ -21,7 +23,8 @@ abbrev pub Continues : Want → List ℕ → Item × ℕ → Type 0
 Continues want kept found = (dropped : List ℕ) → Fits want dropped kept → EndsItem dropped kept found
 
 abbrev pub Drops : Want → List ℕ → ℕ → Want → Type 0
-Drops want kept used next = (dropped : List ℕ) → Fits want dropped kept → (1 ≤ used) × (used ≤ length kept) × Fits next (dropped ++ take used kept) (drop used kept)
+Drops want kept used next = (dropped : List ℕ) → Fits want dropped kept → (1 ≤ used) × (used ≤ length kept)
+    × Fits next (dropped ++ take used kept) (drop used kept)
 
 abbrev pub NeedsMore : Want → List ℕ → Type 0
 NeedsMore want kept = (dropped : List ℕ) → Fits want dropped kept → BeginsWithNone (dropped ++ kept)
@@ -35,7 +38,9 @@ if_err (Ok x) p = tt
 if_err (Err e) p = p
 
 -- a piece more
-pub stands_more : (s t : Held) (piece : List ℕ) → t ≡ record s { kept = s.kept ++ piece; read_len = 0; capacity = t.capacity } → (text : List ℕ) → StandsBefore s text → StandsBefore t (text ++ piece)
+pub stands_more : (s t : Held) (piece : List ℕ)
+    → t ≡ record s { kept = s.kept ++ piece; read_len = 0; capacity = t.capacity } → (text : List ℕ)
+    → StandsBefore s text → StandsBefore t (text ++ piece)
 stands_more s t piece e text st =
     subst (λ (h : Held). StandsBefore h (text ++ piece)) (sym e)
     (st.0, fits_more s.want st.0 s.kept piece st.1, ap (λ u. u ++ piece) st.2 ∙ append_assoc st.0 s.kept piece)
@@ -43,7 +48,8 @@ stands_more s t piece e text st =
 -- the faults in front of any text at which it stood are told, and it stands behind them
 abbrev pub Looks : Held → Held → Type 0
 Looks old now = (t : List ℕ) → StandsBefore old t →
-    (faults : List Fault) × (rest : List ℕ) × ReadsFirst t (faulty faults) rest × (now.unsent ≡ old.unsent ++ told_text (faulty faults) []) × StandsBefore now rest
+    (faults : List Fault) × (rest : List ℕ) × ReadsFirst t (faulty faults) rest
+    × (now.unsent ≡ old.unsent ++ told_text (faulty faults) []) × StandsBefore now rest
 
 pub looks_at_first : (s : Held) → Looks s s
 looks_at_first s t st = ([], t, refl, sym (append-nil s.unsent), st)
@@ -51,29 +57,40 @@ looks_at_first s t st = ([], t, refl, sym (append-nil s.unsent), st)
 cut_in : (d kept : List ℕ) (used : ℕ) → d ++ kept ≡ (d ++ take used kept) ++ drop used kept
 cut_in d kept used = ap (λ u. d ++ u) (sym (take-append-drop used kept)) ∙ sym (append_assoc d (take used kept) (drop used kept))
 
-pub looks_dropping : (old : Held) (want next : Want) (kept unsent : List ℕ) (used : ℕ) → Drops want kept used next → Looks old (holding want kept unsent) → Looks old (holding next (drop used kept) unsent)
+pub looks_dropping : (old : Held) (want next : Want) (kept unsent : List ℕ) (used : ℕ) → Drops want kept used next
+    → Looks old (holding want kept unsent) → Looks old (holding next (drop used kept) unsent)
 looks_dropping old want next kept unsent used drops looks t st =
     let l = looks t st in
     let d = l.4.0 in
     (l.0, l.1, l.2, l.3, (d ++ take used kept, (drops d l.4.1).2, l.4.2 ∙ cut_in d kept used))
 
-pub looks_past_fault : (old : Held) (want : Want) (kept unsent new : List ℕ) (fault : Fault) (used : ℕ) → Continues want kept (Err fault, used) → new ≡ unsent ++ fault_text fault → Looks old (holding want kept unsent) → Looks old (holding Line (drop used kept) new)
+pub looks_past_fault : (old : Held) (want : Want) (kept unsent new : List ℕ) (fault : Fault) (used : ℕ)
+    → Continues want kept (Err fault, used) → new ≡ unsent ++ fault_text fault → Looks old (holding want kept unsent)
+    → Looks old (holding Line (drop used kept) new)
 looks_past_fault old want kept unsent new fault used item e looks t st =
     let l = looks t st in
     let d = l.4.0 in (
       l.0 ++ fault ∷ [],
       drop used kept,
-      subst (λ items. ReadsFirst t items (drop used kept)) (sym (faulty-one l.0 fault)) (reads_one t (faulty l.0) l.1 (d ++ take used kept) (drop used kept) (Err fault) l.2 (l.4.2 ∙ cut_in d kept used) ((item d l.4.1).1) refl),
-      e ∙ (ap (λ u. u ++ fault_text fault) l.3 ∙ (append_assoc old.unsent (told_text (faulty l.0) []) (fault_text fault) ∙ ap (λ u. old.unsent ++ u) (sym (told_text-fault l.0 fault)))),
+      subst (λ items. ReadsFirst t items (drop used kept)) (sym (faulty-one l.0 fault))
+          (reads_one t (faulty l.0) l.1 (d ++ take used kept) (drop used kept) (Err fault) l.2
+          (l.4.2 ∙ cut_in d kept used) ((item d l.4.1).1) refl),
+      e ∙ (ap (λ u. u ++ fault_text fault) l.3 ∙
+          (append_assoc old.unsent (told_text (faulty l.0) []) (fault_text fault) ∙ ap (λ u. old.unsent ++ u)
+          (sym (told_text-fault l.0 fault)))),
       ([], refl, refl),
     )
 
-pub finds_none : (old : Held) (want : Want) (kept unsent : List ℕ) → NeedsMore want kept → Looks old (holding want kept unsent) → (t : List ℕ) → StandsBefore old t → Finds old (holding want kept unsent) t None
+pub finds_none : (old : Held) (want : Want) (kept unsent : List ℕ) → NeedsMore want kept
+    → Looks old (holding want kept unsent) → (t : List ℕ) → StandsBefore old t
+    → Finds old (holding want kept unsent) t None
 finds_none old want kept unsent more looks t st =
     let l = looks t st in
     (l.0, l.1, l.2, l.3, (l.4, subst (λ u. BeginsWithNone u) (sym l.4.2) (more l.4.0 l.4.1)))
 
-pub finds_request : (old : Held) (want : Want) (kept unsent : List ℕ) (request : Request) (used : ℕ) → Continues want kept (Ok request, used) → Looks old (holding want kept unsent) → (t : List ℕ) → StandsBefore old t → Finds old (holding Line (drop used kept) unsent) t (Some request)
+pub finds_request : (old : Held) (want : Want) (kept unsent : List ℕ) (request : Request) (used : ℕ)
+    → Continues want kept (Ok request, used) → Looks old (holding want kept unsent) → (t : List ℕ) → StandsBefore old t
+    → Finds old (holding Line (drop used kept) unsent) t (Some request)
 finds_request old want kept unsent request used item looks t st =
     let l = looks t st in
     let d = l.4.0 in
@@ -88,15 +105,27 @@ takes_room : (item : Item) → TakesMemory item → TakesRoom item
 takes_room (Ok request) takes = takes
 takes_room (Err fault) takes = tt
 
-pub request_takes_room : (old : Held) (want : Want) (kept unsent : List ℕ) → (want ≡ Line) × ((found : Item × ℕ) × TakesMemory found.0 × BeginsWith kept found) → Looks old (holding want kept unsent) → (t : List ℕ) → StandsBefore old t → FrontTakesRoom t
+pub request_takes_room : (old : Held) (want : Want) (kept unsent : List ℕ) → (want ≡ Line)
+    × ((found : Item × ℕ) × TakesMemory found.0 × BeginsWith kept found) → Looks old (holding want kept unsent)
+    → (t : List ℕ) → StandsBefore old t → FrontTakesRoom t
 request_takes_room old want kept unsent (line, needs) looks t st =
     let l = looks t st in
     let none : l.4.0 ≡ [] = subst (λ w. Fits w l.4.0 kept) line l.4.1 in
     let same : l.1 ≡ kept = l.4.2 ∙ ap (λ d. d ++ kept) none in
-    let here : FrontTakesRoom kept = (needs.0.0, take needs.0.1 kept, drop needs.0.1 kept, sym (take-append-drop needs.0.1 kept), needs.2.1, takes_room needs.0.0 needs.1) in
+    let here : FrontTakesRoom kept = (
+      needs.0.0,
+      take needs.0.1 kept,
+      drop needs.0.1 kept,
+      sym
+          (take-append-drop needs.0.1 kept),
+      needs.2.1,
+      takes_room needs.0.0 needs.1,
+    ) in
     front_of_faults t l.1 l.0 l.2 (subst FrontTakesRoom (sym same) here)
 
-pub fault_takes_room : (old : Held) (want : Want) (kept unsent : List ℕ) (fault : Fault) (used : ℕ) → Continues want kept (Err fault, used) → Looks old (holding want kept unsent) → (t : List ℕ) → StandsBefore old t → FrontTakesRoom t
+pub fault_takes_room : (old : Held) (want : Want) (kept unsent : List ℕ) (fault : Fault) (used : ℕ)
+    → Continues want kept (Err fault, used) → Looks old (holding want kept unsent) → (t : List ℕ) → StandsBefore old t
+    → FrontTakesRoom t
 fault_takes_room old want kept unsent fault used item looks t st =
     let l = looks t st in
     let d = l.4.0 in
@@ -114,7 +143,9 @@ rank_bound Rest = omega arith
 rank_bound (Big n) = omega arith
 
 spelled_length : (text : List ℕ) (item : Item) → Spells text item → 2 ≤ length text
-spelled_length text item spelled = let e = ap (λ bytes. length bytes) spelled.cut in omega (arith, length-append spelled.line (crlf ++ spelled.rest), length-append crlf spelled.rest)
+spelled_length text item spelled = let e =
+    ap (λ bytes. length bytes) spelled.cut in omega
+    (arith, length-append spelled.line (crlf ++ spelled.rest), length-append crlf spelled.rest)
 
 -- an item takes a byte, or ends a part that was dropped
 pub takes : (want : Want) (kept : List ℕ) (item : Item) (used : ℕ) → Continues want kept (item, used) → 0 < 2 * used + rank want
@@ -128,19 +159,77 @@ takes (Big n) kept item used c = omega arith
 pub still_front : (n : ℕ) (text more front new : List ℕ) → new ≡ text ++ more → n ≤ length text → take n text ≡ front → take n new ≡ front
 still_front n text more front new e within same = ap (take n) e ∙ (take-append-le n text more within ∙ same)
 
-comes_same : (found : Option Request) (want : Want) (kept a b t : List ℕ) (p q : Bool) (i j k l m : ℕ) → ComesTo found (record { want = want; kept = kept; unsent = a; is_open = p; read_len = i; sent_len = j; capacity = 0 }) t → ComesTo found (record { want = want; kept = kept; unsent = b; is_open = q; read_len = k; sent_len = l; capacity = m }) t
+comes_same : (found : Option Request) (want : Want) (kept a b t : List ℕ) (p q : Bool) (i j k l m : ℕ)
+    → ComesTo found (record {
+      want = want;
+      kept = kept;
+      unsent = a;
+      is_open = p;
+      read_len = i;
+      sent_len = j;
+      capacity =
+          0;
+    }) t → ComesTo found (record {
+      want = want;
+      kept = kept;
+      unsent = b;
+      is_open = q;
+      read_len = k;
+      sent_len =
+          l;
+      capacity = m;
+    }) t
 comes_same None want kept a b t p q i j k l m c = c
 comes_same (Some request) want kept a b t p q i j k l m c = c
 
 -- what is found where only a part of the text is unsent
-pub finds_unsent : (want next : Want) (kept rest text new : List ℕ) (sent start at room : ℕ) (p q : Bool) (found : Option Request) → sent ≤ length text → ((t : List ℕ) → StandsBefore (holding want kept text) t → Finds (holding want kept text) (holding next rest new) t found)
-    → (t : List ℕ) → StandsBefore (record { want = want; kept = kept; unsent = drop sent text; is_open = p; read_len = start; sent_len = sent; capacity = room }) t → Finds (record { want = want; kept = kept; unsent = drop sent text; is_open = p; read_len = start; sent_len = sent; capacity = room }) (record { want = next; kept = rest; unsent = drop sent new; is_open = q; read_len = at; sent_len = sent; capacity = room }) t found
+pub finds_unsent : (want next : Want) (kept rest text new : List ℕ) (sent start at room : ℕ) (p q : Bool)
+    (found : Option Request) → sent ≤ length text
+    → ((t : List ℕ) → StandsBefore (holding want kept text) t
+    → Finds (holding want kept text) (holding next rest new) t found)
+    → (t : List ℕ) → StandsBefore (record {
+      want = want;
+      kept = kept;
+      unsent = drop sent text;
+      is_open = p;
+      read_len =
+          start;
+      sent_len = sent;
+      capacity = room;
+    }) t
+    → Finds (record {
+      want = want;
+      kept = kept;
+      unsent = drop sent text;
+      is_open = p;
+      read_len = start;
+      sent_len =
+          sent;
+      capacity = room;
+    }) (record {
+      want = next;
+      kept = rest;
+      unsent = drop sent new;
+      is_open = q;
+      read_len =
+          at;
+      sent_len = sent;
+      capacity = room;
+    }) t found
 finds_unsent want next kept rest text new sent start at room p q found within finds t st =
-    let f = finds t st in
-    (f.0, f.1, f.2, ap (drop sent) f.3 ∙ drop-append-le sent text (told_text (faulty f.0) []) within, comes_same found next rest new (drop sent new) f.1 false q 0 0 at sent room f.4)
+    let f = finds t st in (
+      f.0,
+      f.1,
+      f.2,
+      ap (drop sent) f.3 ∙ drop-append-le sent text
+          (told_text (faulty f.0) []) within,
+      comes_same found next rest new
+          (drop sent new) f.1 false q 0 0 at sent room f.4,
+    )
 
 -- bytes that may be kept, and perhaps a piece more
-pub keeps_more : (want : Want) (start : ℕ) (old new piece : List ℕ) (ok : Bool) → start ≤ length old → new ≡ (if ok then old ++ piece else old) → MayKeep want (drop start old) → MayKeep want (drop start new)
+pub keeps_more : (want : Want) (start : ℕ) (old new piece : List ℕ) (ok : Bool) → start ≤ length old
+    → new ≡ (if ok then old ++ piece else old) → MayKeep want (drop start old) → MayKeep want (drop start new)
 keeps_more want start old new piece true within e keep =
     subst (MayKeep want) (sym (ap (drop start) e ∙ drop-append-le start old piece within)) (keep.0, fits_more want keep.0 (drop start old) piece keep.1)
 keeps_more want start old new piece false within e keep = subst (λ bytes. MayKeep want (drop start bytes)) (sym e) keep

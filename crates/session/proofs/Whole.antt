@@ -1,5 +1,7 @@
 -- Every text reads as items, in one way, and so has one transcript.
-use Rattle.std.proofs.Common.{◌≡◌, ◌⊎◌, inl, inr, ℕ, zero, suc, ◌≤◌, Bool, true, false, List, [], ◌∷◌, ◌++◌, MatchBool, length, take, drop, refl, sym, ap, ap₂, subst, ◌∙◌, length-append, length-take, length-drop, arith}
+use Rattle.std.proofs.Common.{◌≡◌, ◌⊎◌, inl, inr, ℕ, zero, suc, ◌≤◌, Bool, true, false, List, [], ◌∷◌, ◌++◌, MatchBool}
+use Rattle.std.proofs.Common.{length, take, drop, refl, sym, ap, ap₂, subst, ◌∙◌, length-append, length-take}
+use Rattle.std.proofs.Common.{length-drop, arith}
 use Rattle.std.proofs.lemmas.List.{take-append-drop}
 use Rattle.std.proofs.Math.Seq.{take-append_seam, drop-append_seam}
 use Rattle.bean_codec.specs.Lines.{crlf}
@@ -17,7 +19,9 @@ abbrev pub IsOneItem : Type 0
 IsOneItem = (a b x y : List ℕ) (i j : Item) → Spells a i → Spells b j → a ++ x ≡ b ++ y → (a ≡ b) × (i ≡ j)
 
 spelled_length : (text : List ℕ) (item : Item) → Spells text item → 2 ≤ length text
-spelled_length text item spelled = let e = ap (λ bytes. length bytes) spelled.cut in omega (arith, length-append spelled.line (crlf ++ spelled.rest), length-append crlf spelled.rest)
+spelled_length text item spelled = let e =
+    ap (λ bytes. length bytes) spelled.cut in omega
+    (arith, length-append spelled.line (crlf ++ spelled.rest), length-append crlf spelled.rest)
 
 shrinks : (n bound : ℕ) (text : List ℕ) (item : Item) → Spells (take n text) item → length text ≤ suc bound → length (drop n text) ≤ bound
 shrinks n bound text item spelled within =
@@ -27,10 +31,13 @@ shrinks n bound text item spelled within =
     omega arith
 
 ends : (n : ℕ) (text : List ℕ) (b : Bool) → b ≡ true → MatchBool b (◌≡◌ {A = List Item} [] [] × (End.Quit ≡ End.Quit)) (Reads (drop n text) [] End.Quit)
-ends n text b quits = subst (λ (b : Bool). MatchBool b (◌≡◌ {A = List Item} [] [] × (End.Quit ≡ End.Quit)) (Reads (drop n text) [] End.Quit)) (sym quits) (refl, refl)
+ends n text b quits = subst (λ (b : Bool). MatchBool b (◌≡◌ {A = List Item} [] [] × (End.Quit ≡ End.Quit))
+    (Reads (drop n text) [] End.Quit)) (sym quits) (refl, refl)
 
 -- the front item, and what the rest reads as, where the session goes on
-with_front : (n : ℕ) (text : List ℕ) (item : Item) → Spells (take n text) item → ((items : List Item) × (end : End) × Reads (drop n text) items end) → (items : List Item) × (end : End) × Reads text items end
+with_front : (n : ℕ) (text : List ℕ) (item : Item) → Spells (take n text) item
+    → ((items : List Item) × (end : End) × Reads (drop n text) items end) → (items : List Item) × (end : End)
+    × Reads text items end
 with_front n text item spelled more =
     elim (is_quit item) as (λ b. is_quit item ≡ b → (items : List Item) × (end : End) × Reads text items end) [
       | true ↦ λ quits. (
@@ -65,7 +72,8 @@ reads_within front zero text within =
     ]
 reads_within front (suc bound) text within =
     elim (front text) as (λ v. (items : List Item) × (end : End) × Reads text items end) [
-      | inl found ↦ with_front found.0.1 text found.0.0 found.1.1 (reads_within front bound (drop found.0.1 text) (shrinks found.0.1 bound text found.0.0 found.1.1 within))
+      | inl found ↦ with_front found.0.1 text found.0.0 found.1.1
+          (reads_within front bound (drop found.0.1 text) (shrinks found.0.1 bound text found.0.0 found.1.1 within))
       | inr none ↦ ([], End.Eof, (none, refl))
     ]
 
@@ -74,7 +82,8 @@ pub reads_as_items : ((text : List ℕ) → HasFront text) → (input : List ℕ
 reads_as_items front input = reads_within front (length input) input (omega arith)
 
 -- and so has a transcript, whatever the answers
-pub has_transcript : ((text : List ℕ) → HasFront text) → (input : List ℕ) (answers : List Response) → (output : List ℕ) × (end : End) × IsTranscript input answers output end
+pub has_transcript : ((text : List ℕ) → HasFront text) → (input : List ℕ) (answers : List Response) → (output : List ℕ)
+    × (end : End) × IsTranscript input answers output end
 has_transcript front input answers =
     let r = reads_as_items front input in
     (told_text r.0 answers, r.1, (r.0, r.2, refl))
@@ -99,19 +108,23 @@ one_reading one text (i ∷ is) (j ∷ js) d e r q =
     let fronts = one r.0 q.0 r.1 q.1 i j r.3 q.3 (sym r.2 ∙ q.2) in
     let rests : r.1 ≡ q.1 = same_rest r.0 q.0 r.1 q.1 fronts.0 (sym r.2 ∙ q.2) in
     let more : MatchBool (is_quit i) ((js ≡ []) × (e ≡ End.Quit)) (Reads r.1 js e) =
-    subst (λ k. MatchBool (is_quit k) ((js ≡ []) × (e ≡ End.Quit)) (Reads r.1 js e)) (sym fronts.1) (subst (λ bytes. MatchBool (is_quit j) ((js ≡ []) × (e ≡ End.Quit)) (Reads bytes js e)) (sym rests) q.4) in
+    subst (λ k. MatchBool (is_quit k) ((js ≡ []) × (e ≡ End.Quit)) (Reads r.1 js e)) (sym fronts.1)
+    (subst (λ bytes. MatchBool (is_quit j) ((js ≡ []) × (e ≡ End.Quit)) (Reads bytes js e)) (sym rests) q.4) in
     let tails : (is ≡ js) × (d ≡ e) =
-    elim (is_quit i) as (λ b. MatchBool b ((is ≡ []) × (d ≡ End.Quit)) (Reads r.1 is d) → MatchBool b ((js ≡ []) × (e ≡ End.Quit)) (Reads r.1 js e) → (is ≡ js) × (d ≡ e)) [
+    elim (is_quit i) as (λ b. MatchBool b ((is ≡ []) × (d ≡ End.Quit)) (Reads r.1 is d)
+    → MatchBool b ((js ≡ []) × (e ≡ End.Quit)) (Reads r.1 js e) → (is ≡ js) × (d ≡ e)) [
       | true ↦ λ m n. (m.0 ∙ sym n.0, m.1 ∙ sym n.1)
       | false ↦ λ m n. one_reading one r.1 is js d e m n
     ] r.4 more in
     (ap₂ (λ k ks. k ∷ ks) fronts.1 tails.0, tails.1)
 
 -- two transcripts of one input are one
-pub one_transcript : IsOneItem → (input : List ℕ) (answers : List Response) (a b : List ℕ) (d e : End) → IsTranscript input answers a d → IsTranscript input answers b e → (a ≡ b) × (d ≡ e)
+pub one_transcript : IsOneItem → (input : List ℕ) (answers : List Response) (a b : List ℕ) (d e : End)
+    → IsTranscript input answers a d → IsTranscript input answers b e → (a ≡ b) × (d ≡ e)
 one_transcript one input answers a b d e r q =
     let same = one_reading one input r.0 q.0 d e r.1 q.1 in
     (r.2 ∙ ap (λ items. told_text items answers) same.0 ∙ sym q.2, same.1)
 
-pub any_cut : IsOneItem → (input other : List ℕ) (answers : List Response) (a b : List ℕ) (d e : End) → input ≡ other → IsTranscript input answers a d → IsTranscript other answers b e → (a ≡ b) × (d ≡ e)
+pub any_cut : IsOneItem → (input other : List ℕ) (answers : List Response) (a b : List ℕ) (d e : End) → input ≡ other
+    → IsTranscript input answers a d → IsTranscript other answers b e → (a ≡ b) × (d ≡ e)
 any_cut one input other answers a b d e same r q = one_transcript one input answers a b d e r (subst (λ i. IsTranscript i answers b e) (sym same) q)

@@ -1,5 +1,6 @@
 -- The least of what a list gives.
-use Rattle.std.proofs.Common.{◌≡◌, ℕ, Bool, true, false, true≢false, ◌||◌, cond, inl, inr, List, [], ◌∷◌, Option, Some, None, IfSome, IfNone, filter, filter_map, refl, sym, ap, subst, ◌∙◌}
+use Rattle.std.proofs.Common.{◌≡◌, ℕ, Bool, true, false, true≢false, ◌||◌, cond, inl, inr, List, [], ◌∷◌, Option, Some}
+use Rattle.std.proofs.Common.{None, IfSome, IfNone, filter, filter_map, refl, sym, ap, subst, ◌∙◌}
 use Rattle.std.specs.List.{cons_option, list_any}
 use Rattle.object.specs.Lists.{In}
 use Rattle.job_store.specs.Entries.{Rising}
@@ -13,7 +14,9 @@ module _ {X : Type 0} (test test' : ℕ × X → Bool) (by : X → ℕ) where
   nothing_passes : (cs : List (ℕ × X)) → least test' by cs ≡ None → (e : ℕ × X) → In e cs × (test' e ≡ true) → ⊥
   nothing_passes cs none e there = (subst (λ o. IfNone o (NonePasses test' cs)) none (least-none test' by cs)) e there.0 there.1
 
-  pub least_alike : (es cs : List (ℕ × X)) (lo hi : ℕ) → Rising lo hi es → ((e : ℕ × X) → In e cs → test' e ≡ true → In e es × (test e ≡ true)) → ((e : ℕ × X) → In e es → test e ≡ true → In e cs × (test' e ≡ true)) → least test' by cs ≡ least test by es
+  pub least_alike : (es cs : List (ℕ × X)) (lo hi : ℕ) → Rising lo hi es
+      → ((e : ℕ × X) → In e cs → test' e ≡ true → In e es × (test e ≡ true))
+      → ((e : ℕ × X) → In e es → test e ≡ true → In e cs × (test' e ≡ true)) → least test' by cs ≡ least test by es
   least_alike es cs lo hi r back forth =
       elim (least test' by cs) as (λ o. least test' by cs ≡ o → IfSome o (IsLeast test' by cs) → o ≡ least test by es) [
         | None ↦ λ none _.
@@ -33,14 +36,18 @@ module _ {X : Type 0} (test test' : ℕ × X → Bool) (by : X → ℕ) where
 -- The first of some entries and of those that a list gives
 
 module _ {A X : Type 0} (by : X → ℕ) (f : A → Option (ℕ × X)) where
-  pub first-step : (best best' : Option (ℕ × X)) (late : ℕ × X) (a : A) (items rest : List A) (all : Option (ℕ × X)) → best' ≡ first_of by best (Some late) → items ≡ a ∷ rest → f a ≡ Some late → first_of by best (least (λ e. true) by (filter_map f items)) ≡ all → first_of by best' (least (λ e. true) by (filter_map f rest)) ≡ all
+  pub first-step : (best best' : Option (ℕ × X)) (late : ℕ × X) (a : A) (items rest : List A) (all : Option (ℕ × X))
+      → best' ≡ first_of by best (Some late) → items ≡ a ∷ rest → f a ≡ Some late
+      → first_of by best (least (λ e. true) by (filter_map f items)) ≡ all
+      → first_of by best' (least (λ e. true) by (filter_map f rest)) ≡ all
   first-step best best' late a items rest all new one gives was =
       ap (λ b. first_of by b (least (λ e. true) by (filter_map f rest))) new ∙
       first_of-assoc by best (Some late) (least (λ e. true) by (filter_map f rest)) ∙
       ap (λ o. first_of by best (least (λ e. true) by (cons_option o (filter_map f rest)))) (sym gives) ∙
       ap (λ bs. first_of by best (least (λ e. true) by (filter_map f bs))) (sym one) ∙ was
 
-  pub first-end : (best : Option (ℕ × X)) (items : List A) (all : Option (ℕ × X)) → items ≡ [] → first_of by best (least (λ e. true) by (filter_map f items)) ≡ all → best ≡ all
+  pub first-end : (best : Option (ℕ × X)) (items : List A) (all : Option (ℕ × X)) → items ≡ []
+      → first_of by best (least (λ e. true) by (filter_map f items)) ≡ all → best ≡ all
   first-end best items all none was =
       first_of-none by best ∙ ap (λ bs. first_of by best (least (λ e. true) by (filter_map f bs))) (sym none) ∙ was
 
@@ -68,7 +75,12 @@ module _ {A B : Type 0} (f : A → Option B) where
 pub filtered-in : {A : Type 0} (test : A → Bool) (a : A) (xs : List A) → In a xs → test a ≡ true → In a (filter test xs)
 filtered-in test a [] i e = absurd i
 filtered-in test a (x ∷ xs) (inl same) e = rw (ap test (sym same) ∙ e) (inl same)
-filtered-in test a (x ∷ xs) (inr later) e = elim (test x) as (λ b. In a (cond b (x ∷ filter test xs) (filter test xs))) [ true ↦ inr (filtered-in test a xs later e) | false ↦ filtered-in test a xs later e ]
+filtered-in test a (x ∷ xs) (inr later) e =
+    elim (test x) as (λ b. In a (cond b (x ∷ filter test xs) (filter test xs))) [
+      | true ↦ inr
+          (filtered-in test a xs later e)
+      | false ↦ filtered-in test a xs later e
+    ]
 
 -- One of a list that passes a test
 

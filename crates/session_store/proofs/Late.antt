@@ -1,5 +1,7 @@
 -- Waits that are over.
-use Rattle.std.proofs.Common.{◌≡◌, ℕ, ◌<◌, ◌≤◌, ◌^◌, Bool, true, false, cond, ◌&&◌, List, Option, Some, None, IfSome, option_map, filter_map, is_some, nat_le, refl, sym, ap, subst, ◌∙◌, arith, leb-true, unwrap_or}
+use Rattle.std.proofs.Common.{◌≡◌, ℕ, ◌<◌, ◌≤◌, ◌^◌, Bool, true, false, cond, ◌&&◌, List, Option, Some, None, IfSome}
+use Rattle.std.proofs.Common.{option_map, filter_map, is_some, nat_le, refl, sym, ap, subst, ◌∙◌, arith, leb-true}
+use Rattle.std.proofs.Common.{unwrap_or}
 use Rattle.std.specs.declared.ops.Bound.TheVariants.{Included, Unbounded}
 use Rattle.std.specs.BTreeMap.{is_at}
 use Rattle.std.specs.BTreeMap.Range.{range_contains}
@@ -35,18 +37,32 @@ over_waits : (second : ℕ) (wait : Option Wait) → has_timed_out second wait �
 over_waits second None e = e
 over_waits second (Some w) e = refl
 
-over-at : (second : ℕ) (sessions : List (ℕ × SessionState)) (p : LinePlace) (c : SessionState) → value_at p.session sessions ≡ Some c → has_timed_out second c.wait ≡ true → over_at second sessions p ≡ Some (p.session, c)
+over-at : (second : ℕ) (sessions : List (ℕ × SessionState)) (p : LinePlace) (c : SessionState)
+    → value_at p.session sessions ≡ Some c → has_timed_out second c.wait ≡ true
+    → over_at second sessions p ≡ Some (p.session, c)
 over-at second sessions p c there over =
-    let seen : Option SessionState → Option (ℕ × SessionState) = λ o. elim o as (λ _. Option (ℕ × SessionState)) [ None ↦ None | Some s ↦ cond (has_timed_out second s.wait) (Some (p.session, s)) None ] in
+    let seen : Option SessionState → Option (ℕ × SessionState) =
+    λ o. elim o as (λ _. Option (ℕ × SessionState)) [
+      | None ↦ None
+      | Some s ↦ cond (has_timed_out second s.wait)
+          (Some (p.session, s)) None
+    ] in
     ap seen there ∙ cond-true (has_timed_out second c.wait) (Some (p.session, c)) None over
 
 -- who is seen at a place is there, and its wait is over
-over-from : (second : ℕ) (sessions : List (ℕ × SessionState)) (p : LinePlace) (e : ℕ × SessionState) → over_at second sessions p ≡ Some e → In e sessions × (has_timed_out second e.1.wait ≡ true)
+over-from : (second : ℕ) (sessions : List (ℕ × SessionState)) (p : LinePlace) (e : ℕ × SessionState)
+    → over_at second sessions p ≡ Some e → In e sessions × (has_timed_out second e.1.wait ≡ true)
 over-from second sessions p e seen =
-    elim (value_at p.session sessions) as (λ o. value_at p.session sessions ≡ o → (elim o as (λ o. Option (ℕ × SessionState)) [ None ↦ None | Some s ↦ cond (has_timed_out second s.wait) (Some (p.session, s)) None ]) ≡ Some e → In e sessions × (has_timed_out second e.1.wait ≡ true)) [
+    elim (value_at p.session sessions) as (λ o. value_at p.session sessions ≡ o
+    → (elim o as (λ o. Option (ℕ × SessionState)) [
+      | None ↦ None
+      | Some s ↦ cond (has_timed_out second s.wait)
+          (Some (p.session, s)) None
+    ]) ≡ Some e → In e sessions × (has_timed_out second e.1.wait ≡ true)) [
       | None ↦ λ v h. cc
       | Some c ↦ λ v.
-          elim (has_timed_out second c.wait) as (λ b. has_timed_out second c.wait ≡ b → cond b (Some (p.session, c)) None ≡ Some e → In e sessions × (has_timed_out second e.1.wait ≡ true)) [
+          elim (has_timed_out second c.wait) as (λ b. has_timed_out second c.wait ≡ b
+          → cond b (Some (p.session, c)) None ≡ Some e → In e sessions × (has_timed_out second e.1.wait ≡ true)) [
             | false ↦ λ t h. cc
             | true ↦ λ t h.
                 let same : (p.session, c) ≡ e = some_entry (p.session, c) e h in
@@ -56,17 +72,28 @@ over-from second sessions p e seen =
           ] refl
     ] refl seen
 
-over_by : (second x : ℕ) (time_out : Option ℕ) (line : BTreeSet LinePlace) → x < 2 ^ 32 → IfSome (option_map (λ s. place s x) time_out) (IsIn line) → has_ended second time_out ≡ true → (p : LinePlace) × In p (places_by second line) × (p.session ≡ x)
+over_by : (second x : ℕ) (time_out : Option ℕ) (line : BTreeSet LinePlace) → x < 2 ^ 32
+    → IfSome (option_map (λ s. place s x) time_out) (IsIn line) → has_ended second time_out ≡ true → (p : LinePlace)
+    × In p (places_by second line) × (p.session ≡ x)
 over_by second x None line below h e = cc
-over_by second x (Some s) line below h e =
-    (place s x, filtered-in (range_contains line_cmp Unbounded (Included (place second 4294967295))) (place s x) line.keys (in_keys (place s x) line.keys h) (up_to second s x below (leb-true s second e)), refl)
+over_by second x (Some s) line below h e = (
+  place s x,
+  filtered-in (range_contains line_cmp Unbounded (Included (place second 4294967295)))
+      (place s x) line.keys (in_keys (place s x) line.keys h) (up_to second s x below (leb-true s second e)),
+  refl,
+)
 
 -- the place of a wait that is over by the second stands among the places up to it
-over_in : (second x : ℕ) (wait : Option Wait) (line : BTreeSet LinePlace) → x < 2 ^ 32 → IfSome (time_out_place x wait) (IsIn line) → has_timed_out second wait ≡ true → (p : LinePlace) × In p (places_by second line) × (p.session ≡ x)
+over_in : (second x : ℕ) (wait : Option Wait) (line : BTreeSet LinePlace) → x < 2 ^ 32
+    → IfSome (time_out_place x wait) (IsIn line) → has_timed_out second wait ≡ true → (p : LinePlace)
+    × In p (places_by second line) × (p.session ≡ x)
 over_in second x None line below h e = cc
 over_in second x (Some w) line below h e = over_by second x w.time_out line below h e
 
-pub over_found : (second : ℕ) (sessions : List (ℕ × SessionState)) (time_outs : TimeOuts) → Rising 0 (2 ^ 32) sessions → EachStands (StandsByTimeOut time_outs) sessions → least (λ e. true) wait_rank (filter_map (over_at second sessions) (places_by second time_outs.line)) ≡ first_waiting (λ e. has_timed_out second e.1.wait) sessions
+pub over_found : (second : ℕ) (sessions : List (ℕ × SessionState)) (time_outs : TimeOuts) → Rising 0 (2 ^ 32) sessions
+    → EachStands (StandsByTimeOut time_outs) sessions
+    → least (λ e. true) wait_rank (filter_map (over_at second sessions) (places_by second time_outs.line))
+    ≡ first_waiting (λ e. has_timed_out second e.1.wait) sessions
 over_found second sessions time_outs r complete =
     least_alike (λ e. is_waiting e.1 && has_timed_out second e.1.wait) (λ e. true) wait_rank sessions _ 0 (2 ^ 32) r
     (λ e i _.
@@ -77,7 +104,8 @@ over_found second sessions time_outs r complete =
     let over = (and_parts (is_waiting e.1) (has_timed_out second e.1.wait) t).1 in
     let v : value_at e.0 sessions ≡ Some e.1 = value_at-In 0 (2 ^ 32) sessions e r i in
     let p = over_in second e.0 e.1.wait time_outs.line (value_at-below 0 (2 ^ 32) e.0 sessions e.1 r v) (complete e i) over in
-    let seen : over_at second sessions p.0 ≡ Some e = over-at second sessions p.0 e.1 (ap (λ x. value_at x sessions) p.2 ∙ v) over ∙ ap (λ x. Some (x, e.1)) p.2 in
+    let seen : over_at second sessions p.0 ≡ Some e =
+    over-at second sessions p.0 e.1 (ap (λ x. value_at x sessions) p.2 ∙ v) over ∙ ap (λ x. Some (x, e.1)) p.2 in
     (mapped-in (over_at second sessions) p.0 e _ p.1 seen, refl))
 
 -- Places that are left
@@ -92,7 +120,11 @@ time_out_place-of x None p e = cc
 time_out_place-of x (Some w) p e = time_out_of x w.time_out p e
 
 -- a place at which nobody stands is taken out
-pub late-left : (x : ℕ) (k : LinePlace) (time_outs time_outs' : TimeOuts) (sessions : List (ℕ × SessionState)) → Rising 0 (2 ^ 32) sessions → k.session ≡ x → (time_out_place x (session_of x sessions).wait ≡ Some k → ⊥) → ((p : LinePlace) → contains line_cmp time_outs'.line p ≡ cond (is_at (line_cmp k) p) false (contains line_cmp time_outs.line p)) → EachStands (StandsByTimeOut time_outs) sessions → EachStands (StandsByTimeOut time_outs') sessions
+pub late-left : (x : ℕ) (k : LinePlace) (time_outs time_outs' : TimeOuts) (sessions : List (ℕ × SessionState))
+    → Rising 0 (2 ^ 32) sessions → k.session ≡ x → (time_out_place x (session_of x sessions).wait ≡ Some k → ⊥)
+    → ((p : LinePlace) → contains line_cmp time_outs'.line p
+    ≡ cond (is_at (line_cmp k) p) false (contains line_cmp time_outs.line p))
+    → EachStands (StandsByTimeOut time_outs) sessions → EachStands (StandsByTimeOut time_outs') sessions
 late-left x k time_outs time_outs' sessions r whose gone updates h =
     λ e i.
     elim (time_out_place e.0 e.1.wait) as (λ o. time_out_place e.0 e.1.wait ≡ o → IfSome o (IsIn time_outs.line) → IfSome o (IsIn time_outs'.line)) [

@@ -1,5 +1,6 @@
 -- Places in a line.
-use Rattle.std.proofs.Common.{◌≡◌, ℕ, true, false, cond, ◌&&◌, inl, inr, List, [], ◌∷◌, Option, Some, None, IfSome, refl, ap, subst, ◌∙◌, true≢false, ◌==◌, not, eq-eqb}
+use Rattle.std.proofs.Common.{◌≡◌, ℕ, true, false, cond, ◌&&◌, inl, inr, List, [], ◌∷◌, Option, Some, None, IfSome}
+use Rattle.std.proofs.Common.{refl, ap, subst, ◌∙◌, true≢false, ◌==◌, not, eq-eqb}
 use Rattle.std.specs.declared.cmp.Ordering.{Ordering}
 use Rattle.std.specs.declared.cmp.Ordering.TheVariants.{Less, Equal, Greater}
 use Rattle.std.specs.Ordering.{nat_cmp, ordering_then}
@@ -42,9 +43,13 @@ pub some_place : (p q : LinePlace) → Some p ≡ Some q → p ≡ q
 some_place p q e = cc
 
 -- what a test has shown to be another place
-pub another : (o : Option LinePlace) (k : LinePlace) → true ≡ not (option_eq (λ (p q : LinePlace). p.order == q.order && p.session == q.session) o (Some k)) → o ≡ Some k → ⊥
+pub another : (o : Option LinePlace) (k : LinePlace)
+    → true ≡ not (option_eq (λ (p q : LinePlace). p.order == q.order && p.session == q.session) o (Some k)) → o ≡ Some k
+    → ⊥
 another o k t same =
-    let t : true ≡ not (k.order == k.order && k.session == k.session) = subst (λ o. true ≡ not (option_eq (λ (p q : LinePlace). p.order == q.order && p.session == q.session) o (Some k))) same t in
+    let t : true ≡ not (k.order == k.order && k.session == k.session) =
+    subst (λ o. true ≡ not (option_eq (λ (p q : LinePlace). p.order == q.order && p.session == q.session) o
+    (Some k))) same t in
     true≢false (t ∙ ap not (and_from (k.order == k.order) (k.session == k.session) (eq-eqb k.order k.order refl) (eq-eqb k.session k.session refl)))
 
 -- a place is in a line that has all of another

@@ -1,5 +1,7 @@
 -- The lines of tubes, and who is served.
-use Rattle.std.proofs.Common.{◌≡◌, ℕ, ◌<◌, ◌^◌, true, false, cond, ◌&&◌, inl, inr, List, [], ◌∷◌, Option, Some, None, IfSome, IsSome, option_map, filter_map, is_some, refl, sym, ap, ap₂, subst, ◌∙◌, arith, true≢false, eqb-true, ◌==◌, unwrap_or, eq-eqb, ◌⊎◌}
+use Rattle.std.proofs.Common.{◌≡◌, ℕ, ◌<◌, ◌^◌, true, false, cond, ◌&&◌, inl, inr, List, [], ◌∷◌, Option, Some, None}
+use Rattle.std.proofs.Common.{IfSome, IsSome, option_map, filter_map, is_some, refl, sym, ap, ap₂, subst, ◌∙◌, arith}
+use Rattle.std.proofs.Common.{true≢false, eqb-true, ◌==◌, unwrap_or, eq-eqb, ◌⊎◌}
 use Rattle.std.specs.declared.cmp.Ordering.{Ordering}
 use Rattle.std.specs.declared.cmp.Ordering.TheVariants.{Less, Equal, Greater}
 use Rattle.std.specs.Ordering.{nat_cmp, ordering_then}
@@ -30,35 +32,58 @@ use Rattle.session_store.proofs.Late.{some_entry}
 
 -- Who stands at a place
 
-standing-at : (tube : List ℕ) (sessions : List (ℕ × SessionState)) (p : LinePlace) (c : SessionState) → value_at p.session sessions ≡ Some c → is_waiting c ≡ true → is_among tube c.watched ≡ true → wait_rank c ≡ p.order → waiter_at tube sessions p ≡ Some (p.session, c)
+standing-at : (tube : List ℕ) (sessions : List (ℕ × SessionState)) (p : LinePlace) (c : SessionState)
+    → value_at p.session sessions ≡ Some c → is_waiting c ≡ true → is_among tube c.watched ≡ true
+    → wait_rank c ≡ p.order → waiter_at tube sessions p ≡ Some (p.session, c)
 standing-at tube sessions p c there waits watches rank =
-    let seen : Option SessionState → Option (ℕ × SessionState) = λ o. elim o as (λ _. Option (ℕ × SessionState)) [ None ↦ None | Some s ↦ cond (is_waiting s && is_among tube s.watched && wait_rank s == p.order) (Some (p.session, s)) None ] in
+    let seen : Option SessionState → Option (ℕ × SessionState) =
+    λ o. elim o as (λ _. Option (ℕ × SessionState)) [
+      | None ↦ None
+      | Some s ↦ cond
+          (is_waiting s && is_among tube s.watched && wait_rank s == p.order) (Some (p.session, s)) None
+    ] in
     ap seen there ∙
     cond-true (is_waiting c && is_among tube c.watched && wait_rank c == p.order) (Some (p.session, c)) None
-    (and_from (is_waiting c && is_among tube c.watched) (wait_rank c == p.order) (and_from (is_waiting c) (is_among tube c.watched) waits watches) (eq-eqb (wait_rank c) p.order rank))
+    (and_from (is_waiting c && is_among tube c.watched) (wait_rank c == p.order)
+    (and_from (is_waiting c) (is_among tube c.watched) waits watches) (eq-eqb (wait_rank c) p.order rank))
 
-standing-from : (tube : List ℕ) (sessions : List (ℕ × SessionState)) (p : LinePlace) (e : ℕ × SessionState) → waiter_at tube sessions p ≡ Some e → In e sessions × ((is_waiting e.1 && is_among tube e.1.watched) ≡ true) × (wait_rank e.1 ≡ p.order) × (e.0 ≡ p.session)
+standing-from : (tube : List ℕ) (sessions : List (ℕ × SessionState)) (p : LinePlace) (e : ℕ × SessionState)
+    → waiter_at tube sessions p ≡ Some e → In e sessions × ((is_waiting e.1 && is_among tube e.1.watched) ≡ true)
+    × (wait_rank e.1 ≡ p.order) × (e.0 ≡ p.session)
 standing-from tube sessions p e seen =
-    elim (value_at p.session sessions) as (λ o. value_at p.session sessions ≡ o → (elim o as (λ o. Option (ℕ × SessionState)) [ None ↦ None | Some s ↦ cond (is_waiting s && is_among tube s.watched && wait_rank s == p.order) (Some (p.session, s)) None ]) ≡ Some e → In e sessions × ((is_waiting e.1 && is_among tube e.1.watched) ≡ true) × (wait_rank e.1 ≡ p.order) × (e.0 ≡ p.session)) [
+    elim (value_at p.session sessions) as (λ o. value_at p.session sessions ≡ o
+    → (elim o as (λ o. Option (ℕ × SessionState)) [
+      | None ↦ None
+      | Some s ↦ cond
+          (is_waiting s && is_among tube s.watched && wait_rank s == p.order) (Some (p.session, s)) None
+    ]) ≡ Some e
+    → In e sessions × ((is_waiting e.1 && is_among tube e.1.watched) ≡ true) × (wait_rank e.1 ≡ p.order)
+    × (e.0 ≡ p.session)) [
       | None ↦ λ v h. cc
       | Some c ↦ λ v.
-          elim (is_waiting c && is_among tube c.watched && wait_rank c == p.order) as (λ b. (is_waiting c && is_among tube c.watched && wait_rank c == p.order) ≡ b → cond b (Some (p.session, c)) None ≡ Some e → In e sessions × ((is_waiting e.1 && is_among tube e.1.watched) ≡ true) × (wait_rank e.1 ≡ p.order) × (e.0 ≡ p.session)) [
+          elim (is_waiting c && is_among tube c.watched && wait_rank c == p.order) as (λ b.
+          (is_waiting c && is_among tube c.watched && wait_rank c == p.order) ≡ b
+          → cond b (Some (p.session, c)) None ≡ Some e → In e sessions
+          × ((is_waiting e.1 && is_among tube e.1.watched) ≡ true) × (wait_rank e.1 ≡ p.order) × (e.0 ≡ p.session)) [
             | false ↦ λ t h. cc
             | true ↦ λ t h.
                 let same : (p.session, c) ≡ e = some_entry (p.session, c) e h in
                 let there = value_at-found p.session sessions c v in
                 let it : there.0 ≡ (p.session, c) = λ i. (there.2 i, there.3 i) in
                 let both = and_parts (is_waiting c && is_among tube c.watched) (wait_rank c == p.order) t in
-                subst (λ (d : ℕ × SessionState). In d sessions × ((is_waiting d.1 && is_among tube d.1.watched) ≡ true) × (wait_rank d.1 ≡ p.order) × (d.0 ≡ p.session)) same
+                subst (λ (d : ℕ × SessionState). In d sessions × ((is_waiting d.1 && is_among tube d.1.watched) ≡ true)
+                × (wait_rank d.1 ≡ p.order) × (d.0 ≡ p.session)) same
                 (subst (λ d. In d sessions) it there.1, both.0, eqb-true (wait_rank c) p.order both.1, refl)
           ] refl
     ] refl seen
 
-waiting_place_of : (x : ℕ) (wait : Option Wait) → is_some wait ≡ true → rank_place x wait ≡ Some (place (elim wait as (λ _. ℕ) [ None ↦ 0 | Some w ↦ w.rank ]) x)
+waiting_place_of : (x : ℕ) (wait : Option Wait) → is_some wait ≡ true
+    → rank_place x wait ≡ Some (place (elim wait as (λ _. ℕ) [ None ↦ 0 | Some w ↦ w.rank ]) x)
 waiting_place_of x None e = cc
 waiting_place_of x (Some w) e = refl
 
-some_place_of : (x : ℕ) (wait : Option Wait) (p : LinePlace) → rank_place x wait ≡ Some p → (is_some wait ≡ true) × ((elim wait as (λ _. ℕ) [ None ↦ 0 | Some w ↦ w.rank ]) ≡ p.order) × (p.session ≡ x)
+some_place_of : (x : ℕ) (wait : Option Wait) (p : LinePlace) → rank_place x wait ≡ Some p → (is_some wait ≡ true)
+    × ((elim wait as (λ _. ℕ) [ None ↦ 0 | Some w ↦ w.rank ]) ≡ p.order) × (p.session ≡ x)
 some_place_of x None p e = cc
 some_place_of x (Some w) p e =
     let it : place w.rank x ≡ p = some_place (place w.rank x) p e in
@@ -83,11 +108,15 @@ waiting-place : (x : ℕ) (c : SessionState) → is_waiting c ≡ true → rank_
 waiting-place x c e = waiting_place_of x c.wait e
 
 -- each session that waits for a job of the tube is seen at its place in the line
-seen-in : (tube : List ℕ) (sessions : List (ℕ × SessionState)) (tubes : TubeLines) → Rising 0 (2 ^ 32) sessions → EachStands (StandsByTubes tubes) sessions → (e : ℕ × SessionState) → In e sessions → (is_waiting e.1 && is_among tube e.1.watched) ≡ true → In e (filter_map (waiter_at tube sessions) (tube_line tube tubes).keys)
+seen-in : (tube : List ℕ) (sessions : List (ℕ × SessionState)) (tubes : TubeLines) → Rising 0 (2 ^ 32) sessions
+    → EachStands (StandsByTubes tubes) sessions → (e : ℕ × SessionState) → In e sessions
+    → (is_waiting e.1 && is_among tube e.1.watched) ≡ true
+    → In e (filter_map (waiter_at tube sessions) (tube_line tube tubes).keys)
 seen-in tube sessions tubes r complete e i t =
     let both = and_parts (is_waiting e.1) (is_among tube e.1.watched) t in
     let p : LinePlace = place (wait_rank e.1) e.0 in
-    let stands : IsIn (tube_line tube tubes) p = subst (λ o. IfSome o (IsIn (tube_line tube tubes))) (waiting-place e.0 e.1 both.0) (complete e i tube both.1) in
+    let stands : IsIn (tube_line tube tubes) p =
+    subst (λ o. IfSome o (IsIn (tube_line tube tubes))) (waiting-place e.0 e.1 both.0) (complete e i tube both.1) in
     mapped-in (waiter_at tube sessions) p e (tube_line tube tubes).keys (in_keys p (tube_line tube tubes).keys stands)
     (standing-at tube sessions p e.1 (value_at-In 0 (2 ^ 32) sessions e r i) both.0 both.1 refl)
 
@@ -119,17 +148,25 @@ less_by p q e =
     ]
 
 -- who stands later in the line does not come before who stands earlier
-later-not : (p q : LinePlace) (d e : ℕ × SessionState) → line_cmp p q ≡ Less → wait_rank e.1 ≡ p.order → e.0 ≡ p.session → wait_rank d.1 ≡ q.order → d.0 ≡ q.session → ComesBefore wait_rank d e → ⊥
+later-not : (p q : LinePlace) (d e : ℕ × SessionState) → line_cmp p q ≡ Less → wait_rank e.1 ≡ p.order → e.0 ≡ p.session
+    → wait_rank d.1 ≡ q.order → d.0 ≡ q.session → ComesBefore wait_rank d e → ⊥
 later-not p q d e less re se rd sd before =
     elim (less_by p q less) as (λ v. ⊥) [
       | inl order ↦ elim before as (λ v. ⊥) [ inl h ↦ omega (arith, re, rd, h, order) | inr h ↦ omega (arith, re, rd, h.0, order) ]
       | inr both ↦ elim before as (λ v. ⊥) [ inl h ↦ omega (arith, re, rd, h, both.0) | inr h ↦ omega (arith, se, sd, h.1, both.1) ]
     ]
 
-first-least : (tube : List ℕ) (sessions : List (ℕ × SessionState)) (e : ℕ × SessionState) (ks : List LinePlace) → IsStrictlySortedBy line_cmp ks → slice_get (filter_map (waiter_at tube sessions) ks) 0 ≡ Some e → In e (filter_map (waiter_at tube sessions) ks) × ((d : ℕ × SessionState) → In d (filter_map (waiter_at tube sessions) ks) → ComesBefore wait_rank d e → ⊥)
+first-least : (tube : List ℕ) (sessions : List (ℕ × SessionState)) (e : ℕ × SessionState) (ks : List LinePlace)
+    → IsStrictlySortedBy line_cmp ks → slice_get (filter_map (waiter_at tube sessions) ks) 0 ≡ Some e
+    → In e (filter_map (waiter_at tube sessions) ks)
+    × ((d : ℕ × SessionState) → In d (filter_map (waiter_at tube sessions) ks) → ComesBefore wait_rank d e → ⊥)
 first-least tube sessions e [] sorted f = cc
 first-least tube sessions e (k ∷ ks) sorted f =
-    elim (waiter_at tube sessions k) as (λ o. waiter_at tube sessions k ≡ o → slice_get (cons_option o (filter_map (waiter_at tube sessions) ks)) 0 ≡ Some e → In e (cons_option o (filter_map (waiter_at tube sessions) ks)) × ((d : ℕ × SessionState) → In d (cons_option o (filter_map (waiter_at tube sessions) ks)) → ComesBefore wait_rank d e → ⊥)) [
+    elim (waiter_at tube sessions k) as (λ o. waiter_at tube sessions k ≡ o
+    → slice_get (cons_option o (filter_map (waiter_at tube sessions) ks)) 0 ≡ Some e
+    → In e (cons_option o (filter_map (waiter_at tube sessions) ks))
+    × ((d : ℕ × SessionState) → In d (cons_option o (filter_map (waiter_at tube sessions) ks))
+    → ComesBefore wait_rank d e → ⊥)) [
       | None ↦ λ s f. first-least tube sessions e ks (sorted_tail line_cmp k ks sorted) f
       | Some c ↦ λ s f.
           let it : c ≡ e = some_entry c e f in
@@ -141,21 +178,31 @@ first-least tube sessions e (k ∷ ks) sorted f =
                   | inr later ↦
                       let from = mapped-from (waiter_at tube sessions) d ks later in
                       let then = standing-from tube sessions from.0 d from.2 in
-                      later-not k from.0 d e (in_all (λ q. line_cmp k q ≡ Less) from.0 ks (sorted_head line_cmp k ks sorted) from.1) at.2 at.3 then.2 then.3 before
+                      later-not k from.0 d e (in_all (λ q. line_cmp k q ≡ Less) from.0 ks
+                      (sorted_head line_cmp k ks sorted) from.1) at.2 at.3 then.2 then.3 before
                 ],
           )
     ] refl f
 
-nobody-served : (tube : List ℕ) (sessions : List (ℕ × SessionState)) (tubes : TubeLines) → Rising 0 (2 ^ 32) sessions → EachStands (StandsByTubes tubes) sessions → slice_get (filter_map (waiter_at tube sessions) (tube_line tube tubes).keys) 0 ≡ None → None ≡ first_waiting (λ e. is_among tube e.1.watched) sessions
+nobody-served : (tube : List ℕ) (sessions : List (ℕ × SessionState)) (tubes : TubeLines) → Rising 0 (2 ^ 32) sessions
+    → EachStands (StandsByTubes tubes) sessions
+    → slice_get (filter_map (waiter_at tube sessions) (tube_line tube tubes).keys) 0 ≡ None
+    → None ≡ first_waiting (λ e. is_among tube e.1.watched) sessions
 nobody-served tube sessions tubes r complete none =
-    elim (first_waiting (λ e. is_among tube e.1.watched) sessions) as (λ o. IfSome o (IsLeast (λ e. is_waiting e.1 && is_among tube e.1.watched) wait_rank sessions) → None ≡ o) [
+    elim (first_waiting (λ e. is_among tube e.1.watched) sessions) as (λ o. IfSome o
+    (IsLeast (λ e. is_waiting e.1 && is_among tube e.1.watched) wait_rank sessions) → None ≡ o) [
       | None ↦ λ _. refl
       | Some e ↦ λ found. absurd (not_empty e _ none (seen-in tube sessions tubes r complete e found.member found.passes))
     ] (least-found (λ e. is_waiting e.1 && is_among tube e.1.watched) wait_rank sessions)
 
-first-served : (tube : List ℕ) (sessions : List (ℕ × SessionState)) (tubes : TubeLines) → Rising 0 (2 ^ 32) sessions → EachStands (StandsByTubes tubes) sessions → IsStrictlySortedBy line_cmp (tube_line tube tubes).keys → slice_get (filter_map (waiter_at tube sessions) (tube_line tube tubes).keys) 0 ≡ first_waiting (λ e. is_among tube e.1.watched) sessions
+first-served : (tube : List ℕ) (sessions : List (ℕ × SessionState)) (tubes : TubeLines) → Rising 0 (2 ^ 32) sessions
+    → EachStands (StandsByTubes tubes) sessions → IsStrictlySortedBy line_cmp (tube_line tube tubes).keys
+    → slice_get (filter_map (waiter_at tube sessions) (tube_line tube tubes).keys) 0
+    ≡ first_waiting (λ e. is_among tube e.1.watched) sessions
 first-served tube sessions tubes r complete sorted =
-    elim (slice_get (filter_map (waiter_at tube sessions) (tube_line tube tubes).keys) 0) as (λ o. slice_get (filter_map (waiter_at tube sessions) (tube_line tube tubes).keys) 0 ≡ o → o ≡ first_waiting (λ e. is_among tube e.1.watched) sessions) [
+    elim (slice_get (filter_map (waiter_at tube sessions) (tube_line tube tubes).keys) 0) as (λ o. slice_get
+    (filter_map (waiter_at tube sessions) (tube_line tube tubes).keys) 0 ≡ o
+    → o ≡ first_waiting (λ e. is_among tube e.1.watched) sessions) [
       | None ↦ λ none. nobody-served tube sessions tubes r complete none
       | Some e ↦ λ some.
           let least = first-least tube sessions e (tube_line tube tubes).keys sorted some in
@@ -169,18 +216,30 @@ first-served tube sessions tubes r complete sorted =
     ] refl
 
 -- the same of a line that is found, and where there is none
-pub first-in-line : (tube : List ℕ) (sessions : List (ℕ × SessionState)) (tubes : TubeLines) (line : BTreeSet LinePlace) → Some line ≡ get (slice_cmp nat_cmp) tubes.lines tube → Rising 0 (2 ^ 32) sessions → EachStands (StandsByTubes tubes) sessions → IsStrictlySortedBy line_cmp line.keys → slice_get (filter_map (waiter_at tube sessions) line.keys) 0 ≡ first_waiting (λ e. is_among tube e.1.watched) sessions
+pub first-in-line : (tube : List ℕ) (sessions : List (ℕ × SessionState)) (tubes : TubeLines) (line : BTreeSet LinePlace)
+    → Some line ≡ get (slice_cmp nat_cmp) tubes.lines tube → Rising 0 (2 ^ 32) sessions
+    → EachStands (StandsByTubes tubes) sessions → IsStrictlySortedBy line_cmp line.keys
+    → slice_get (filter_map (waiter_at tube sessions) line.keys) 0
+    ≡ first_waiting (λ e. is_among tube e.1.watched) sessions
 first-in-line tube sessions tubes line value r complete sorted =
     let it : line ≡ tube_line tube tubes = sym (found-set line_cmp tube tubes.lines line (sym value)) in
     ap (λ (l : BTreeSet LinePlace). slice_get (filter_map (waiter_at tube sessions) l.keys) 0) it ∙
     first-served tube sessions tubes r complete (subst (λ (l : BTreeSet LinePlace). IsStrictlySortedBy line_cmp l.keys) it sorted)
 
-pub none-in-line : (tube : List ℕ) (sessions : List (ℕ × SessionState)) (tubes : TubeLines) → None ≡ get (slice_cmp nat_cmp) tubes.lines tube → Rising 0 (2 ^ 32) sessions → EachStands (StandsByTubes tubes) sessions → None ≡ first_waiting (λ e. is_among tube e.1.watched) sessions
-none-in-line tube sessions tubes value r complete = nobody-served tube sessions tubes r complete (ap (λ (l : BTreeSet LinePlace). slice_get (filter_map (waiter_at tube sessions) l.keys) 0) (no-set line_cmp tube tubes.lines (sym value)))
+pub none-in-line : (tube : List ℕ) (sessions : List (ℕ × SessionState)) (tubes : TubeLines)
+    → None ≡ get (slice_cmp nat_cmp) tubes.lines tube → Rising 0 (2 ^ 32) sessions
+    → EachStands (StandsByTubes tubes) sessions → None ≡ first_waiting (λ e. is_among tube e.1.watched) sessions
+none-in-line tube sessions tubes value r complete =
+    nobody-served tube sessions tubes r complete
+    (ap (λ (l : BTreeSet LinePlace). slice_get (filter_map (waiter_at tube sessions) l.keys) 0)
+    (no-set line_cmp tube tubes.lines (sym value)))
 
 -- Places that are left
 
-pub tube-left : (tube : List ℕ) (k : LinePlace) (tubes tubes' : TubeLines) (sessions : List (ℕ × SessionState)) → Rising 0 (2 ^ 32) sessions → waiter_at tube sessions k ≡ None → ((t : List ℕ) (p : LinePlace) → (t ≡ tube → k ≡ p → ⊥) → IsIn (tube_line t tubes) p → IsIn (tube_line t tubes') p) → EachStands (StandsByTubes tubes) sessions → EachStands (StandsByTubes tubes') sessions
+pub tube-left : (tube : List ℕ) (k : LinePlace) (tubes tubes' : TubeLines) (sessions : List (ℕ × SessionState))
+    → Rising 0 (2 ^ 32) sessions → waiter_at tube sessions k ≡ None
+    → ((t : List ℕ) (p : LinePlace) → (t ≡ tube → k ≡ p → ⊥) → IsIn (tube_line t tubes) p → IsIn (tube_line t tubes') p)
+    → EachStands (StandsByTubes tubes) sessions → EachStands (StandsByTubes tubes') sessions
 tube-left tube k tubes tubes' sessions r gone stays h =
     λ e i t among.
     elim (rank_place e.0 e.1.wait) as (λ o. rank_place e.0 e.1.wait ≡ o → IfSome o (IsIn (tube_line t tubes)) → IfSome o (IsIn (tube_line t tubes'))) [
@@ -189,8 +248,12 @@ tube-left tube k tubes tubes' sessions r gone stays h =
           stays t p
           (λ same it.
           let of = rank_place-of e.0 e.1 p at in
-          let who : value_at k.session sessions ≡ Some e.1 = ap (λ (q : LinePlace). value_at q.session sessions) it ∙ ap (λ x. value_at x sessions) of.2 ∙ value_at-In 0 (2 ^ 32) sessions e r i in
-          let seen : waiter_at tube sessions k ≡ Some (k.session, e.1) = standing-at tube sessions k e.1 who of.0 (ap (λ u. is_among u e.1.watched) (sym same) ∙ among) (of.1 ∙ ap (λ (q : LinePlace). q.order) (sym it)) in
+          let who : value_at k.session sessions ≡ Some e.1 =
+          ap (λ (q : LinePlace). value_at q.session sessions) it ∙ ap
+          (λ x. value_at x sessions) of.2 ∙ value_at-In 0 (2 ^ 32) sessions e r i in
+          let seen : waiter_at tube sessions k ≡ Some (k.session, e.1) =
+          standing-at tube sessions k e.1 who of.0 (ap (λ u. is_among u e.1.watched) (sym same) ∙ among)
+          (of.1 ∙ ap (λ (q : LinePlace). q.order) (sym it)) in
           none_some (k.session, e.1) (sym gone ∙ seen))
           there
     ] refl (h e i t among)

@@ -1,5 +1,6 @@
 -- Sessions that are taken back are as they were before.
-use Rattle.std.proofs.Common.{◌≡◌, ℕ, ◌<◌, List, [], ◌∷◌, ◌++◌, Option, Some, None, refl, sym, ap, ap₂, subst, ◌∙◌, arith, ◌^◌, ◌==◌, cond, true, false, suc, ◌≤◌, ◌-◌, length, take}
+use Rattle.std.proofs.Common.{◌≡◌, ℕ, ◌<◌, List, [], ◌∷◌, ◌++◌, Option, Some, None, refl, sym, ap, ap₂, subst, ◌∙◌}
+use Rattle.std.proofs.Common.{arith, ◌^◌, ◌==◌, cond, true, false, suc, ◌≤◌, ◌-◌, length, take}
 use Rattle.std.proofs.Math.ListN.{get_or}
 use Rattle.std.proofs.Math.Seq.{take-suc}
 use Rattle.job_store.specs.Entries.{Rising, value_at, with_value, altered, without}
@@ -13,54 +14,76 @@ use Rattle.session_store.specs.Lines.{StandsIn, EachStands, HasGrown}
 use Rattle.session_store.specs.Drafts.{session_step_back, sessions_before, AreInLines}
 use Rattle.session_store.proofs.Standing.{each-grown}
 
-sessions_before-push : (steps : List SessionStep) (step : SessionStep) (sessions : List (ℕ × SessionState)) → sessions_before (steps ++ step ∷ []) sessions ≡ sessions_before steps (session_step_back step sessions)
+sessions_before-push : (steps : List SessionStep) (step : SessionStep) (sessions : List (ℕ × SessionState))
+    → sessions_before (steps ++ step ∷ []) sessions ≡ sessions_before steps (session_step_back step sessions)
 sessions_before-push [] step sessions = refl
 sessions_before-push (s ∷ steps) step sessions = ap (session_step_back s) (sessions_before-push steps step sessions)
 
 -- one step more
-pub before-step : (steps steps' steps'' : List SessionStep) (step : SessionStep) (sessions sessions' before : List (ℕ × SessionState)) → sessions_before steps sessions ≡ before → steps' ≡ steps → steps'' ≡ steps' ++ step ∷ [] → session_step_back step sessions' ≡ sessions → sessions_before steps'' sessions' ≡ before
+pub before-step : (steps steps' steps'' : List SessionStep) (step : SessionStep)
+    (sessions sessions' before : List (ℕ × SessionState)) → sessions_before steps sessions ≡ before → steps' ≡ steps
+    → steps'' ≡ steps' ++ step ∷ [] → session_step_back step sessions' ≡ sessions
+    → sessions_before steps'' sessions' ≡ before
 before-step steps steps' steps'' step sessions sessions' before was same more back =
     ap (λ zs. sessions_before zs sessions') more ∙ sessions_before-push steps' step sessions' ∙ ap₂ (λ zs es. sessions_before zs es) same back ∙ was
 
 -- one step less
-pub before-less : (steps steps' : List SessionStep) (step : SessionStep) (sessions sessions' before : List (ℕ × SessionState)) → steps ≡ steps' ++ step ∷ [] → sessions_before steps sessions ≡ before → sessions' ≡ session_step_back step sessions → sessions_before steps' sessions' ≡ before
+pub before-less : (steps steps' : List SessionStep) (step : SessionStep)
+    (sessions sessions' before : List (ℕ × SessionState)) → steps ≡ steps' ++ step ∷ []
+    → sessions_before steps sessions ≡ before → sessions' ≡ session_step_back step sessions
+    → sessions_before steps' sessions' ≡ before
 before-less steps steps' step sessions sessions' before less was e =
     ap (sessions_before steps') e ∙ sym (sessions_before-push steps' step sessions) ∙ sym (ap (λ zs. sessions_before zs sessions) less) ∙ was
 
 -- one step less of some
-pub steps-less : (steps : List SessionStep) (left : ℕ) (d : SessionStep) (sessions sessions' before : List (ℕ × SessionState)) → 0 < left → left ≤ length steps → sessions_before (take left steps) sessions ≡ before → sessions' ≡ session_step_back (get_or steps (left - 1) d) sessions → sessions_before (take (left - 1) steps) sessions' ≡ before
+pub steps-less : (steps : List SessionStep) (left : ℕ) (d : SessionStep)
+    (sessions sessions' before : List (ℕ × SessionState)) → 0 < left → left ≤ length steps
+    → sessions_before (take left steps) sessions ≡ before
+    → sessions' ≡ session_step_back (get_or steps (left - 1) d) sessions
+    → sessions_before (take (left - 1) steps) sessions' ≡ before
 steps-less steps left d sessions sessions' before some most was e =
     let next : suc (left - 1) ≡ left = omega arith in
-    before-less (take left steps) (take (left - 1) steps) (get_or steps (left - 1) d) sessions sessions' before (ap (λ n. take n steps) (sym next) ∙ take-suc steps (left - 1) d (omega arith)) was e
+    before-less (take left steps) (take (left - 1) steps) (get_or steps (left - 1) d) sessions sessions' before
+    (ap (λ n. take n steps) (sym next) ∙ take-suc steps (left - 1) d (omega arith)) was e
 
 -- the step after a session was made
-pub made-back : (x : ℕ) (v : SessionState) (sessions sessions' : List (ℕ × SessionState)) → value_at x sessions ≡ None → sessions' ≡ with_value x v sessions → session_step_back (SessionStep.Made x) sessions' ≡ sessions
+pub made-back : (x : ℕ) (v : SessionState) (sessions sessions' : List (ℕ × SessionState)) → value_at x sessions ≡ None
+    → sessions' ≡ with_value x v sessions → session_step_back (SessionStep.Made x) sessions' ≡ sessions
 made-back x v sessions sessions' absent e = ap (without x) e ∙ without-insert x v sessions absent
 
 -- the step after a session's wait was set
-pub waited-back : (x lo hi : ℕ) (wait : Option Wait) (v : SessionState) (sessions sessions' : List (ℕ × SessionState)) → Rising lo hi sessions → value_at x sessions ≡ Some v → sessions' ≡ altered x (with_wait wait) sessions → session_step_back (SessionStep.Waited x v.wait wait) sessions' ≡ sessions
-waited-back x lo hi wait v sessions sessions' r there e = ap (altered x (with_wait v.wait)) e ∙ altered-back x lo hi (with_wait wait) (with_wait v.wait) sessions v r there refl
+pub waited-back : (x lo hi : ℕ) (wait : Option Wait) (v : SessionState) (sessions sessions' : List (ℕ × SessionState))
+    → Rising lo hi sessions → value_at x sessions ≡ Some v → sessions' ≡ altered x (with_wait wait) sessions
+    → session_step_back (SessionStep.Waited x v.wait wait) sessions' ≡ sessions
+waited-back x lo hi wait v sessions sessions' r there e =
+    ap (altered x (with_wait v.wait)) e ∙ altered-back x lo hi (with_wait wait)
+    (with_wait v.wait) sessions v r there refl
 
 unaltered : (x : ℕ) (sessions : List (ℕ × SessionState)) → altered x (λ c. c) sessions ≡ sessions
 unaltered x [] = refl
 unaltered x (e ∷ es) = ap₂ (λ v zs. (e.0, v) ∷ zs) (elim (x == e.0) as (λ b. cond b e.1 e.1 ≡ e.1) [ true ↦ refl | false ↦ refl ]) (unaltered x es)
 
-altered_itself : (x lo hi : ℕ) (f : SessionState → SessionState) (sessions : List (ℕ × SessionState)) (v : SessionState) → Rising lo hi sessions → value_at x sessions ≡ Some v → f v ≡ v → altered x f sessions ≡ sessions
+altered_itself : (x lo hi : ℕ) (f : SessionState → SessionState) (sessions : List (ℕ × SessionState)) (v : SessionState)
+    → Rising lo hi sessions → value_at x sessions ≡ Some v → f v ≡ v → altered x f sessions ≡ sessions
 altered_itself x lo hi f sessions v r there same = altered-alike x lo hi f (λ c. c) sessions v r there same ∙ unaltered x sessions
 
 -- the step before a session's wait was set
-pub waited-still : (x lo hi : ℕ) (wait : Option Wait) (v : SessionState) (sessions : List (ℕ × SessionState)) → Rising lo hi sessions → value_at x sessions ≡ Some v → session_step_back (SessionStep.Waited x v.wait wait) sessions ≡ sessions
+pub waited-still : (x lo hi : ℕ) (wait : Option Wait) (v : SessionState) (sessions : List (ℕ × SessionState))
+    → Rising lo hi sessions → value_at x sessions ≡ Some v
+    → session_step_back (SessionStep.Waited x v.wait wait) sessions ≡ sessions
 waited-still x lo hi wait v sessions r there = altered_itself x lo hi (with_wait v.wait) sessions v r there refl
 
 unwaiting : (v : SessionState) → v.wait ≡ None → with_wait None v ≡ v
 unwaiting v none = λ i. record v { wait = sym none i }
 
 -- that a session which doesn't wait waits no longer changes nothing
-pub unwaited : (x lo hi : ℕ) (v : SessionState) (sessions : List (ℕ × SessionState)) → Rising lo hi sessions → value_at x sessions ≡ Some v → v.wait ≡ None → altered x (with_wait None) sessions ≡ sessions
+pub unwaited : (x lo hi : ℕ) (v : SessionState) (sessions : List (ℕ × SessionState)) → Rising lo hi sessions
+    → value_at x sessions ≡ Some v → v.wait ≡ None → altered x (with_wait None) sessions ≡ sessions
 unwaited x lo hi v sessions r there none = altered_itself x lo hi (with_wait None) sessions v r there (unwaiting v none)
 
 -- the sessions in the lines, where nothing can be taken back
-pub kept : (lines : Lines) (steps : List SessionStep) (sessions : List (ℕ × SessionState)) → steps ≡ [] → Rising 0 (2 ^ 32) sessions → EachStands (StandsIn lines) sessions → AreInLines lines steps sessions
+pub kept : (lines : Lines) (steps : List SessionStep) (sessions : List (ℕ × SessionState)) → steps ≡ []
+    → Rising 0 (2 ^ 32) sessions → EachStands (StandsIn lines) sessions → AreInLines lines steps sessions
 kept lines steps sessions none r complete = record {
   rising = r;
   now = complete;
@@ -68,22 +91,28 @@ kept lines steps sessions none r complete = record {
 }
 
 -- and where they are taken back to what they were
-pub stepped : (lines lines' : Lines) (steps steps' : List SessionStep) (sessions sessions' : List (ℕ × SessionState)) → HasGrown lines lines' → sessions_before steps' sessions' ≡ sessions_before steps sessions → Rising 0 (2 ^ 32) sessions' → EachStands (StandsIn lines') sessions' → AreInLines lines steps sessions → AreInLines lines' steps' sessions'
+pub stepped : (lines lines' : Lines) (steps steps' : List SessionStep) (sessions sessions' : List (ℕ × SessionState))
+    → HasGrown lines lines' → sessions_before steps' sessions' ≡ sessions_before steps sessions
+    → Rising 0 (2 ^ 32) sessions' → EachStands (StandsIn lines') sessions' → AreInLines lines steps sessions
+    → AreInLines lines' steps' sessions'
 stepped lines lines' steps steps' sessions sessions' grown same r complete h = record {
   rising = r;
   now = complete;
   before = subst (EachStands (StandsIn lines')) (sym same) (each-grown lines lines' (sessions_before steps sessions) grown h.before);
 }
 
-pub made-rises : (x hi : ℕ) (v : SessionState) (sessions sessions' : List (ℕ × SessionState)) → x < hi → Rising 0 hi sessions → sessions' ≡ with_value x v sessions → Rising 0 hi sessions'
+pub made-rises : (x hi : ℕ) (v : SessionState) (sessions sessions' : List (ℕ × SessionState)) → x < hi
+    → Rising 0 hi sessions → sessions' ≡ with_value x v sessions → Rising 0 hi sessions'
 made-rises x hi v sessions sessions' below r e = subst (λ es. Rising 0 hi es) (sym e) (Rising-insert x 0 hi v sessions (omega arith) below r)
 
-pub change-rises : (x hi : ℕ) (f : SessionState → SessionState) (sessions sessions' : List (ℕ × SessionState)) → Rising 0 hi sessions → sessions' ≡ altered x f sessions → Rising 0 hi sessions'
+pub change-rises : (x hi : ℕ) (f : SessionState → SessionState) (sessions sessions' : List (ℕ × SessionState))
+    → Rising 0 hi sessions → sessions' ≡ altered x f sessions → Rising 0 hi sessions'
 change-rises x hi f sessions sessions' r e = subst (λ es. Rising 0 hi es) (sym e) (Rising-altered x f 0 hi sessions r)
 
 pub removal-rises : (x hi : ℕ) (sessions sessions' : List (ℕ × SessionState)) → Rising 0 hi sessions → sessions' ≡ without x sessions → Rising 0 hi sessions'
 removal-rises x hi sessions sessions' r e = subst (λ es. Rising 0 hi es) (sym e) (Rising-without x 0 hi sessions r)
 
-pub step_back-rises : (hi : ℕ) (step : SessionStep) (sessions sessions' : List (ℕ × SessionState)) → Rising 0 hi sessions → sessions' ≡ session_step_back step sessions → Rising 0 hi sessions'
+pub step_back-rises : (hi : ℕ) (step : SessionStep) (sessions sessions' : List (ℕ × SessionState))
+    → Rising 0 hi sessions → sessions' ≡ session_step_back step sessions → Rising 0 hi sessions'
 step_back-rises hi (SessionStep.Waited x before after) sessions sessions' r e = change-rises x hi _ sessions sessions' r e
 step_back-rises hi (SessionStep.Made x) sessions sessions' r e = removal-rises x hi sessions sessions' r e

@@ -1,5 +1,7 @@
 -- Who stands in the lines.
-use Rattle.std.proofs.Common.{◌≡◌, ℕ, ◌<◌, true, false, cond, codes, nat_cmp, Less, Equal, Greater, inl, inr, List, [], ◌∷◌, Option, Some, IfSome, refl, sym, ap, subst, ◌∙◌, eqb-true, ◌==◌, unwrap_or, not, bytes_eq, ◌++◌, ◌⊎◌, ◌+◌, length, take}
+use Rattle.std.proofs.Common.{◌≡◌, ℕ, ◌<◌, true, false, cond, codes, nat_cmp, Less, Equal, Greater, inl, inr, List, []}
+use Rattle.std.proofs.Common.{◌∷◌, Option, Some, IfSome, refl, sym, ap, subst, ◌∙◌, eqb-true, ◌==◌, unwrap_or, not}
+use Rattle.std.proofs.Common.{bytes_eq, ◌++◌, ◌⊎◌, ◌+◌, length, take}
 use Rattle.std.proofs.lemmas.Bool.{or_cases, or_left, or_right}
 use Rattle.std.proofs.lemmas.Slice.Eq.{bytes_eq-Decides}
 use Rattle.object.specs.Lists.{In}
@@ -34,18 +36,23 @@ among-left_out tube t (n ∷ ns) e =
     ] e
 
 among-last : (tube t : List ℕ) (names : List (List ℕ)) → is_among t (names ++ tube ∷ []) ≡ true → (is_among t names ≡ true) ⊎ (t ≡ tube)
-among-last tube t [] e = elim (or_cases (bytes_eq t tube) false e) as (λ v. (is_among t [] ≡ true) ⊎ (t ≡ tube)) [ inl here ↦ inr ((bytes_eq-Decides t tube).0 here) | inr never ↦ inl never ]
+among-last tube t [] e = elim (or_cases (bytes_eq t tube) false e) as (λ v. (is_among t [] ≡ true)
+    ⊎ (t ≡ tube)) [ inl here ↦ inr ((bytes_eq-Decides t tube).0 here) | inr never ↦ inl never ]
 among-last tube t (n ∷ ns) e =
     elim (or_cases (bytes_eq t n) (is_among t (ns ++ tube ∷ [])) e) as (λ v. (is_among t (n ∷ ns) ≡ true) ⊎ (t ≡ tube)) [
       | inl here ↦ inl (or_left (bytes_eq t n) (is_among t ns) here)
       | inr later ↦
-          elim (among-last tube t ns later) as (λ v. (is_among t (n ∷ ns) ≡ true) ⊎ (t ≡ tube)) [ inl old ↦ inl (or_right (bytes_eq t n) (is_among t ns) old) | inr same ↦ inr same ]
+          elim (among-last tube t ns later) as (λ v. (is_among t (n ∷ ns) ≡ true)
+          ⊎ (t ≡ tube)) [ inl old ↦ inl (or_right (bytes_eq t n) (is_among t ns) old) | inr same ↦ inr same ]
     ]
 
 -- one tube more of some
-pub among-more : (t : List ℕ) (names : List (List ℕ)) (i : ℕ) (d : List ℕ) → i < length names → is_among t (take (i + 1) names) ≡ true → (is_among t (take i names) ≡ true) ⊎ (t ≡ get_or names i d)
+pub among-more : (t : List ℕ) (names : List (List ℕ)) (i : ℕ) (d : List ℕ) → i < length names
+    → is_among t (take (i + 1) names) ≡ true → (is_among t (take i names) ≡ true) ⊎ (t ≡ get_or names i d)
 among-more t names i d inside e =
-    elim (or_cases (is_among t (take i names)) (bytes_eq t (get_or names i d)) (sym (list_any_more (bytes_eq t) names i d inside) ∙ e)) as (λ v. (is_among t (take i names) ≡ true) ⊎ (t ≡ get_or names i d)) [
+    elim (or_cases (is_among t (take i names)) (bytes_eq t (get_or names i d))
+    (sym (list_any_more (bytes_eq t) names i d inside) ∙ e)) as (λ v. (is_among t (take i names) ≡ true)
+    ⊎ (t ≡ get_or names i d)) [
       | inl old ↦ inl old
       | inr here ↦ inr ((bytes_eq-Decides t (get_or names i d)).0 here)
     ]
@@ -61,7 +68,9 @@ among-joined tube t names e =
 
 module _ (stands : ℕ × SessionState → Type 0) where
   -- a change of one session
-  pub each-altered : (x : ℕ) (f : SessionState → SessionState) (sessions sessions' : List (ℕ × SessionState)) → sessions' ≡ altered x f sessions → ((c : SessionState) → In (x, c) sessions → stands (x, f c)) → EachStands stands sessions → EachStands stands sessions'
+  pub each-altered : (x : ℕ) (f : SessionState → SessionState) (sessions sessions' : List (ℕ × SessionState))
+      → sessions' ≡ altered x f sessions → ((c : SessionState) → In (x, c) sessions → stands (x, f c))
+      → EachStands stands sessions → EachStands stands sessions'
   each-altered x f sessions sessions' same new h =
       subst (EachStands stands) (sym same)
       (altered-in x f stands sessions
@@ -72,15 +81,19 @@ module _ (stands : ℕ × SessionState → Type 0) where
       ] refl))
 
   -- a change that does not matter to where it stands
-  pub each-kept : (x : ℕ) (f : SessionState → SessionState) (sessions sessions' : List (ℕ × SessionState)) → sessions' ≡ altered x f sessions → ((c : SessionState) → stands (x, c) → stands (x, f c)) → EachStands stands sessions → EachStands stands sessions'
+  pub each-kept : (x : ℕ) (f : SessionState → SessionState) (sessions sessions' : List (ℕ × SessionState))
+      → sessions' ≡ altered x f sessions → ((c : SessionState) → stands (x, c) → stands (x, f c))
+      → EachStands stands sessions → EachStands stands sessions'
   each-kept x f sessions sessions' same new h = each-altered x f sessions sessions' same (λ c i. new c (h (x, c) i)) h
 
-  pub each-without : (x : ℕ) (sessions sessions' : List (ℕ × SessionState)) → sessions' ≡ without x sessions → EachStands stands sessions → EachStands stands sessions'
+  pub each-without : (x : ℕ) (sessions sessions' : List (ℕ × SessionState)) → sessions' ≡ without x sessions
+      → EachStands stands sessions → EachStands stands sessions'
   each-without x sessions sessions' same h = subst (EachStands stands) (sym same) (λ e i. h e (without-in x sessions e i))
 
 -- A session that is made
 
-made-in : (P : ℕ × SessionState → Type 0) (x : ℕ) (v : SessionState) (es : List (ℕ × SessionState)) → P (x, v) → ((d : ℕ × SessionState) → In d es → P d) → (e : ℕ × SessionState) → In e (with_value x v es) → P e
+made-in : (P : ℕ × SessionState → Type 0) (x : ℕ) (v : SessionState) (es : List (ℕ × SessionState)) → P (x, v)
+    → ((d : ℕ × SessionState) → In d es → P d) → (e : ℕ × SessionState) → In e (with_value x v es) → P e
 made-in P x v [] new old e (inl same) = subst P (sym same) new
 made-in P x v [] new old e (inr never) = absurd never
 made-in P x v (d ∷ es) new old e i =
@@ -95,10 +108,13 @@ default-tube t e =
     elim (or_cases (bytes_eq t (codes "default")) (is_among t (codes "default" ∷ [])) e) as (λ v. t ≡ codes "default") [
       | inl used ↦ (bytes_eq-Decides t (codes "default")).0 used
       | inr among ↦
-          elim (or_cases (bytes_eq t (codes "default")) false among) as (λ v. t ≡ codes "default") [ inl here ↦ (bytes_eq-Decides t (codes "default")).0 here | inr never ↦ cc ]
+          elim (or_cases (bytes_eq t (codes "default")) false among) as (λ v. t
+          ≡ codes "default") [ inl here ↦ (bytes_eq-Decides t (codes "default")).0 here | inr never ↦ cc ]
     ]
 
-pub each-made : (lines : Lines) (x : ℕ) (sessions sessions' : List (ℕ × SessionState)) → sessions' ≡ with_value x new_session sessions → IsOn (codes "default") lines.rolls x → EachStands (StandsIn lines) sessions → EachStands (StandsIn lines) sessions'
+pub each-made : (lines : Lines) (x : ℕ) (sessions sessions' : List (ℕ × SessionState))
+    → sessions' ≡ with_value x new_session sessions → IsOn (codes "default") lines.rolls x
+    → EachStands (StandsIn lines) sessions → EachStands (StandsIn lines) sessions'
 each-made lines x sessions sessions' same on h =
     subst (EachStands (StandsIn lines)) (sym same)
     (made-in (StandsIn lines) x new_session sessions (tt, λ tube among. tt, λ t has. subst (λ u. IsOn u lines.rolls x) (sym (default-tube t has)) on) h)
@@ -112,7 +128,8 @@ stands-grown lines lines' e more h = (
   λ tube has. more.2 tube e.0 (h.2 tube has),
 )
 
-pub each-grown : (lines lines' : Lines) (sessions : List (ℕ × SessionState)) → HasGrown lines lines' → EachStands (StandsIn lines) sessions → EachStands (StandsIn lines') sessions
+pub each-grown : (lines lines' : Lines) (sessions : List (ℕ × SessionState)) → HasGrown lines lines'
+    → EachStands (StandsIn lines) sessions → EachStands (StandsIn lines') sessions
 each-grown lines lines' sessions more h = λ e i. stands-grown lines lines' e more (h e i)
 
 -- A session that uses or watches other tubes
@@ -124,10 +141,12 @@ has-less tube t c e =
       | inr among ↦ or_right (bytes_eq t c.used) (is_among t c.watched) (among-left_out tube t c.watched among)
     ]
 
-pub stands-less : (lines : Lines) (x : ℕ) (tube : List ℕ) (c : SessionState) → StandsIn lines (x, c) → StandsIn lines (x, record c { watched = left_out tube c.watched })
+pub stands-less : (lines : Lines) (x : ℕ) (tube : List ℕ) (c : SessionState) → StandsIn lines (x, c)
+    → StandsIn lines (x, record c { watched = left_out tube c.watched })
 stands-less lines x tube c h = (h.0, λ t among. h.1 t (among-left_out tube t c.watched among), λ t has. h.2 t (has-less tube t c has))
 
-module _ (lines lines' : Lines) (x : ℕ) (tube : List ℕ) (c : SessionState) (more : HasGrown lines lines') (on : IsOn tube lines'.rolls x) (h : StandsIn lines (x, c)) where
+module _ (lines lines' : Lines) (x : ℕ) (tube : List ℕ) (c : SessionState) (more : HasGrown lines lines')
+    (on : IsOn tube lines'.rolls x) (h : StandsIn lines (x, c)) where
   grown : StandsIn lines' (x, c)
   grown = stands-grown lines lines' (x, c) more h
 
@@ -168,28 +187,42 @@ some_session : (c d : SessionState) → Some c ≡ Some d → c ≡ d
 some_session c d e = cc
 
 -- the session that is found is the one that is meant
-pub only-session : (x hi : ℕ) (sessions : List (ℕ × SessionState)) (c d : SessionState) → Rising 0 hi sessions → value_at x sessions ≡ Some c → In (x, d) sessions → c ≡ d
+pub only-session : (x hi : ℕ) (sessions : List (ℕ × SessionState)) (c d : SessionState) → Rising 0 hi sessions
+    → value_at x sessions ≡ Some c → In (x, d) sessions → c ≡ d
 only-session x hi sessions c d r found i = some_session c d (sym found ∙ value_at-In 0 hi sessions (x, d) r i)
 
 -- a session that waits anew
-pub stands-again : (lines : Lines) (x hi : ℕ) (sessions : List (ℕ × SessionState)) (wait : Option Wait) (c d : SessionState) → Rising 0 hi sessions → value_at x sessions ≡ Some c → In (x, d) sessions → StandsByTimeOut lines.time_outs (x, with_wait wait c) × StandsByTubes lines.tubes (x, with_wait wait c) → StandsIn lines (x, d) → StandsIn lines (x, with_wait wait d)
+pub stands-again : (lines : Lines) (x hi : ℕ) (sessions : List (ℕ × SessionState)) (wait : Option Wait)
+    (c d : SessionState) → Rising 0 hi sessions → value_at x sessions ≡ Some c → In (x, d) sessions
+    → StandsByTimeOut lines.time_outs (x, with_wait wait c) × StandsByTubes lines.tubes (x, with_wait wait c)
+    → StandsIn lines (x, d) → StandsIn lines (x, with_wait wait d)
 stands-again lines x hi sessions wait c d r found i waits h =
-    let new = subst (λ s. StandsByTimeOut lines.time_outs (x, with_wait wait s) × StandsByTubes lines.tubes (x, with_wait wait s)) (only-session x hi sessions c d r found i) waits in (new.0, new.1, h.2)
+    let new = subst (λ s. StandsByTimeOut lines.time_outs (x, with_wait wait s)
+    × StandsByTubes lines.tubes (x, with_wait wait s))
+    (only-session x hi sessions c d r found i) waits in (new.0, new.1, h.2)
 
 -- a session that uses another tube is on its roll
-pub each-using : (lines lines' : Lines) (x : ℕ) (tube : List ℕ) (sessions sessions' : List (ℕ × SessionState)) → HasGrown lines lines' → IsOn tube lines'.rolls x → sessions' ≡ altered x (λ (s : SessionState). record s { used = tube }) sessions → EachStands (StandsIn lines) sessions → EachStands (StandsIn lines') sessions'
+pub each-using : (lines lines' : Lines) (x : ℕ) (tube : List ℕ) (sessions sessions' : List (ℕ × SessionState))
+    → HasGrown lines lines' → IsOn tube lines'.rolls x
+    → sessions' ≡ altered x (λ (s : SessionState). record s { used = tube }) sessions
+    → EachStands (StandsIn lines) sessions → EachStands (StandsIn lines') sessions'
 each-using lines lines' x tube sessions sessions' more on same h =
     each-altered (StandsIn lines') x (λ (s : SessionState). record s { used = tube }) sessions sessions' same
     (λ c i. stands-using lines lines' x tube c more on (h (x, c) i))
     (each-grown lines lines' sessions more h)
 
 -- a session that watches one tube more stands in its line too, and on its roll
-pub each-watching : (lines lines' : Lines) (x hi : ℕ) (tube : List ℕ) (sessions sessions' : List (ℕ × SessionState)) → Rising 0 hi sessions → HasGrown lines lines' → IfSome (rank_place x (session_of x sessions).wait) (IsIn (tube_line tube lines'.tubes)) → IsOn tube lines'.rolls x → sessions' ≡ altered x (λ (s : SessionState). record s { watched = joined tube s.watched }) sessions → EachStands (StandsIn lines) sessions → EachStands (StandsIn lines') sessions'
+pub each-watching : (lines lines' : Lines) (x hi : ℕ) (tube : List ℕ) (sessions sessions' : List (ℕ × SessionState))
+    → Rising 0 hi sessions → HasGrown lines lines'
+    → IfSome (rank_place x (session_of x sessions).wait) (IsIn (tube_line tube lines'.tubes)) → IsOn tube lines'.rolls x
+    → sessions' ≡ altered x (λ (s : SessionState). record s { watched = joined tube s.watched }) sessions
+    → EachStands (StandsIn lines) sessions → EachStands (StandsIn lines') sessions'
 each-watching lines lines' x hi tube sessions sessions' r more new on same h =
     each-altered (StandsIn lines') x (λ (s : SessionState). record s { watched = joined tube s.watched }) sessions sessions' same
     (λ c i.
     stands-more lines lines' x tube c more on (h (x, c) i)
-    (subst (λ (s : SessionState). IfSome (rank_place x s.wait) (IsIn (tube_line tube lines'.tubes))) (ap (λ o. unwrap_or o new_session) (value_at-In 0 hi sessions (x, c) r i)) new))
+    (subst (λ (s : SessionState). IfSome (rank_place x s.wait) (IsIn (tube_line tube lines'.tubes)))
+    (ap (λ o. unwrap_or o new_session) (value_at-In 0 hi sessions (x, c) r i)) new))
     (each-grown lines lines' sessions more h)
 
 -- lines that grow twice

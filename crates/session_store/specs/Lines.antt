@@ -81,4 +81,8 @@ over_at second sessions p =
 -- the session at a place, if it waits there for a job of the tube
 abbrev pub waiter_at : List ℕ → List (ℕ × SessionState) → LinePlace → Option (ℕ × SessionState)
 waiter_at tube sessions p =
-    elim (value_at p.session sessions) [ None ↦ None | Some s ↦ if is_waiting s && is_among tube s.watched && wait_rank s == p.order then Some (p.session, s) else None ]
+    elim (value_at p.session sessions) [
+      | None ↦ None
+      | Some s ↦ if is_waiting s && is_among tube s.watched && wait_rank
+          s == p.order then Some (p.session, s) else None
+    ]

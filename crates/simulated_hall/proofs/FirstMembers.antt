@@ -21,14 +21,18 @@ at_most_next : (m n : ℕ) → m ≤ n + 1 → (m ≤ n) ⊎ (m ≡ n + 1)
 at_most_next m n most = grind arith
 
 -- nor the next
-pub none_next : (members : List ℕ) (test : ℕ → Bool) (n : ℕ) → NonePasses members test n → (not (not (is_member members (n + 1))) && test (n + 1)) ≡ false → NonePasses members test (n + 1)
+pub none_next : (members : List ℕ) (test : ℕ → Bool) (n : ℕ) → NonePasses members test n
+    → (not (not (is_member members (n + 1))) && test (n + 1)) ≡ false → NonePasses members test (n + 1)
 none_next members test n none fails = λ m is most. ⊎_elim
     (λ (less : m ≤ n). none m is less)
-    (λ (same : m ≡ n + 1). subst (λ k. test k ≡ false) (sym same) (member_fails (is_member members (n + 1)) (test (n + 1)) fails (subst (λ k. is_member members k ≡ true) same is)))
+    (λ (same : m ≡ n + 1). subst (λ k. test k ≡ false) (sym same)
+    (member_fails (is_member members (n + 1)) (test (n + 1)) fails
+    (subst (λ k. is_member members k ≡ true) same is)))
     (at_most_next m n most)
 
 -- or it does
-pub passes_first : (members : List ℕ) (test : ℕ → Bool) (n : ℕ) → NonePasses members test n → (not (not (is_member members (n + 1))) && test (n + 1)) ≡ true → IsFirstMember members test (Some (n + 1))
+pub passes_first : (members : List ℕ) (test : ℕ → Bool) (n : ℕ) → NonePasses members test n
+    → (not (not (is_member members (n + 1))) && test (n + 1)) ≡ true → IsFirstMember members test (Some (n + 1))
 passes_first members test n none passes =
     let both = member_passes (is_member members (n + 1)) (test (n + 1)) passes in
     (both.0, both.1, λ m is less. none m is (omega (arith, less)))

@@ -1,5 +1,7 @@
 -- What calls of a hall submit.
-use Rattle.std.proofs.Common.{◌≡◌, ◌≢◌, inl, inr, ℕ, Bool, true, false, cond, List, [], ◌∷◌, ◌++◌, map, length, Option, None, Some, Result, Ok, Err, OnOk, OnErr, refl, sym, ap, ◌∙◌, subst, append-nil, append_assoc}
+use Rattle.std.proofs.Common.{◌≡◌, ◌≢◌, inl, inr, ℕ, Bool, true, false, cond, List, [], ◌∷◌, ◌++◌, map, length, Option}
+use Rattle.std.proofs.Common.{None, Some, Result, Ok, Err, OnOk, OnErr, refl, sym, ap, ◌∙◌, subst, append-nil}
+use Rattle.std.proofs.Common.{append_assoc}
 use Rattle.std.specs.Prelude.{◌||◌}
 use Rattle.std.proofs.lemmas.List.{map-append}
 use Rattle.object.specs.Lists.{In}
@@ -24,7 +26,8 @@ abbrev commands_of : {Op : Type 0} → List (Submission Op) → List (Command Op
 commands_of submitted = map (λ s. s.command) submitted
 
 -- a key that no submitted command has isn't submitted
-not_submitted : {Op : Type 0} (k : Key) (submitted : List (Submission Op)) → ((c : Command Op) → In c (commands_of submitted) → c.key ≢ k) → is_submitted k submitted ≡ false
+not_submitted : {Op : Type 0} (k : Key) (submitted : List (Submission Op))
+    → ((c : Command Op) → In c (commands_of submitted) → c.key ≢ k) → is_submitted k submitted ≡ false
 not_submitted k [] other = refl
 not_submitted {Op} k (s ∷ more) other = at (same_key s.command.key k) refl (not_submitted k more (λ d i. other d (inr i)))
   where
@@ -48,14 +51,20 @@ module _ {Op Reply : Type 0} (c : Command Op) (h : Happenings Op Reply) where
   pub submitted_now : is_submitted c.key (with_submission c h).submitted ≡ true
   submitted_now = at (is_submitted c.key h.submitted) refl
     where
-      at : (b : Bool) → is_submitted c.key h.submitted ≡ b → is_submitted c.key (cond b h (record h { submitted = h.submitted ++ (record { command = c; after = length h.answers } ∷ []) })).submitted ≡ true
+      at : (b : Bool) → is_submitted c.key h.submitted ≡ b
+          → is_submitted c.key (cond b h
+          (record h { submitted = h.submitted ++ (record { command = c; after = length h.answers } ∷ []) })).submitted
+          ≡ true
       at true e = e
       at false e = submitted_at_end (record { command = c; after = length h.answers }) h.submitted
 
   -- a new command is submitted last
-  pub submitted_last : ((d : Command Op) → In d (commands_of h.submitted) → d.key ≢ c.key) → commands_of (with_submission c h).submitted ≡ commands_of h.submitted ++ (c ∷ [])
+  pub submitted_last : ((d : Command Op) → In d (commands_of h.submitted) → d.key ≢ c.key)
+      → commands_of (with_submission c h).submitted ≡ commands_of h.submitted ++ (c ∷ [])
   submitted_last other =
-      ap (λ b. commands_of (cond b h (record h { submitted = h.submitted ++ (record { command = c; after = length h.answers } ∷ []) })).submitted) (not_submitted c.key h.submitted other)
+      ap (λ b. commands_of (cond b h
+      (record h { submitted = h.submitted ++ (record { command = c; after = length h.answers } ∷ []) })).submitted)
+      (not_submitted c.key h.submitted other)
       ∙ map-append (λ (s : Submission Op). s.command) h.submitted (record { command = c; after = length h.answers } ∷ [])
 
   -- and one that was submitted changes nothing
@@ -65,7 +74,11 @@ module _ {Op Reply : Type 0} (c : Command Op) (h : Happenings Op Reply) where
 module _ {Op Reply : Type 0} where
   -- the same record
   pub still : (earlier later : Record Op Reply) → later ≡ earlier → SubmitsNothing earlier later
-  still earlier later e = record { submitted = ap (λ (r : Record Op Reply). r.happenings.submitted) e; order = ([], ap (λ (r : Record Op Reply). r.order) e ∙ sym (append-nil earlier.order)) }
+  still earlier later e = record {
+    submitted = ap (λ (r : Record Op Reply). r.happenings.submitted) e;
+    order =
+        ([], ap (λ (r : Record Op Reply). r.order) e ∙ sym (append-nil earlier.order));
+  }
 
   pub further : (a b c : Record Op Reply) → SubmitsNothing a b → SubmitsNothing b c → SubmitsNothing a c
   further a b c first next = record {
@@ -82,20 +95,28 @@ module _ {Op Reply : Type 0} where
   placed (Some key) r = placed_by (stands own_key key r.order) key r
 
   -- what a node does by itself submits nothing
-  pub does_nothing_new : {O : Type 0} (rules : Rules O Op Reply) (h z : HallState Op Reply) (n : ℕ) (deed : Deed Op) → z ≡ with_nodes h (done rules h.nodes n deed) → IsBegun h.nodes.past z.nodes.past → SubmitsNothing h.nodes.past z.nodes.past
+  pub does_nothing_new : {O : Type 0} (rules : Rules O Op Reply) (h z : HallState Op Reply) (n : ℕ) (deed : Deed Op)
+      → z ≡ with_nodes h (done rules h.nodes n deed) → IsBegun h.nodes.past z.nodes.past
+      → SubmitsNothing h.nodes.past z.nodes.past
   does_nothing_new rules h z n deed is begun = record {
     submitted =
         ap (λ (x : HallState Op Reply). x.nodes.past.happenings.submitted) is
-        ∙ ap (λ (g : Happenings Op Reply). g.submitted) (placed (key_placed h.nodes.reach (outcome_of (node_of h.nodes.network n) deed)) (with_first_answers (turn_of rules h.nodes.network n deed).answers h.nodes.past));
+        ∙ ap (λ (g : Happenings Op Reply). g.submitted)
+        (placed (key_placed h.nodes.reach (outcome_of (node_of h.nodes.network n) deed))
+        (with_first_answers (turn_of rules h.nodes.network n deed).answers h.nodes.past));
     order = begun.order;
   }
 
   -- nor does a second that was handed in
-  pub ticks_again : {O : Type 0} (rules : Rules O Op Reply) (h z : HallState Op Reply) (n : ℕ) (key : Key) → key.session ≡ 0 → is_submitted key h.nodes.past.happenings.submitted ≡ true → z ≡ after_tick rules h n key.number → z.nodes.past ≡ h.nodes.past
+  pub ticks_again : {O : Type 0} (rules : Rules O Op Reply) (h z : HallState Op Reply) (n : ℕ) (key : Key)
+      → key.session ≡ 0 → is_submitted key h.nodes.past.happenings.submitted ≡ true
+      → z ≡ after_tick rules h n key.number → z.nodes.past ≡ h.nodes.past
   ticks_again rules h z n key clock was is =
       let own : key ≡ record { session = 0; number = key.number } = λ i. record { session = clock i; number = key.number } in
       ap (λ (x : HallState Op Reply). x.nodes.past) is
-      ∙ ap (λ (g : Happenings Op Reply). record h.nodes.past { happenings = g }) (submitted_again (tick_of key.number) h.nodes.past.happenings (subst (λ k. is_submitted k h.nodes.past.happenings.submitted ≡ true) own was))
+      ∙ ap (λ (g : Happenings Op Reply). record h.nodes.past { happenings = g })
+      (submitted_again (tick_of key.number) h.nodes.past.happenings
+      (subst (λ k. is_submitted k h.nodes.past.happenings.submitted ≡ true) own was))
 
 -- what a call leaves as it was when it is refused, and doesn't change when it is not
 pub either_way : {X E : Type 0} {A : Type 0} (r : Result X E) (P Q : Type 0) (a b : A) → OnOk r P → OnErr r Q → (P → a ≡ b) → (Q → a ≡ b) → a ≡ b

@@ -18,7 +18,9 @@ none_refused true false full m s f = absurd (true≢false (sym s))
 none_refused false second full m s f = absurd (true≢false (sym m))
 
 -- at a member, a second that a clock may show is refused for want of memory, or since the hall takes no event more
-pub refused_full : {Op Reply : Type 0} (h : HallState Op Reply) (second : ℕ) → is_member h.nodes.network.members 1 ≡ true → 1 ≤ second → second ≤ 2 ^ 40 → tick_refusal h second 1 ≢ None → is_full h ≡ true
+pub refused_full : {Op Reply : Type 0} (h : HallState Op Reply) (second : ℕ)
+    → is_member h.nodes.network.members 1 ≡ true → 1 ≤ second → second ≤ 2 ^ 40 → tick_refusal h second 1 ≢ None
+    → is_full h ≡ true
 refused_full {Op} {Reply} h second member least most refused = at (is_full h) refl
   where
     at : (full : Bool) → is_full h ≡ full → is_full h ≡ true

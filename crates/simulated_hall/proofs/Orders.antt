@@ -12,7 +12,8 @@ use Rattle.recorder.specs.Records.{own_key}
 use Rattle.simulated_hall.proofs.Lists.{In-one}
 
 -- along a rising list the numbers of one session are greater later
-pub apart : {Op : Type 0} (xs ys : List (Command Op)) → IsRising (xs ++ ys) → (x y : Command Op) → In x xs → In y ys → y.key.session ≡ x.key.session → x.key.number < y.key.number
+pub apart : {Op : Type 0} (xs ys : List (Command Op)) → IsRising (xs ++ ys) → (x y : Command Op) → In x xs → In y ys
+    → y.key.session ≡ x.key.session → x.key.number < y.key.number
 apart [] ys rising x y i j same = absurd i
 apart {Op} (z ∷ xs) ys rising x y (inl e) j same =
     let first = rising.0 y (In-right y xs ys j) (same ∙ ap (λ (d : Command Op). d.key.session) e) in
@@ -92,7 +93,9 @@ pub stands_in : {Op : Type 0} (k : Key) (cs : List (Command Op)) → stands own_
 stands_in k [] e = absurd (cc)
 stands_in {Op} k (c ∷ cs) e = at (same_key c.key k) refl (stands_in k cs) e
   where
-    at : (b : Bool) → same_key c.key k ≡ b → (stands own_key k (keys cs) ≡ true → (d : Command Op) × In d cs × (d.key ≡ k)) → (b || stands own_key k (keys cs)) ≡ true → (d : Command Op) × In d (c ∷ cs) × (d.key ≡ k)
+    at : (b : Bool) → same_key c.key k ≡ b
+        → (stands own_key k (keys cs) ≡ true → (d : Command Op) × In d cs × (d.key ≡ k))
+        → (b || stands own_key k (keys cs)) ≡ true → (d : Command Op) × In d (c ∷ cs) × (d.key ≡ k)
     at true same later e = (c, inl refl, same_is c.key k same)
     at false same later e = let r = later e in (r.0, inr r.1, r.2)
 

@@ -1,5 +1,6 @@
 -- What a command that has taken effect has said to a key, and how far the client has come.
-use Rattle.std.proofs.Common.{◌≡◌, ◌≢◌, ◌⊎◌, ⊎_elim, ℕ, zero, suc, ◌+◌, ◌-◌, ◌<◌, true, List, [], ◌∷◌, ◌++◌, map, fold, length, Option, None, Some, refl, sym, ap, ◌∙◌, subst, arith}
+use Rattle.std.proofs.Common.{◌≡◌, ◌≢◌, ◌⊎◌, ⊎_elim, ℕ, zero, suc, ◌+◌, ◌-◌, ◌<◌, true, List, [], ◌∷◌, ◌++◌, map, fold}
+use Rattle.std.proofs.Common.{length, Option, None, Some, refl, sym, ap, ◌∙◌, subst, arith}
 use Rattle.std.proofs.lemmas.List.{map-append, length-append}
 use Rattle.object.specs.Lists.{In}
 use Rattle.object.specs.ListLaws.{In-right, In-cases, In-map}
@@ -24,11 +25,13 @@ use Rattle.simulated_hall.specs.OneClient.{Talk, Said, opened, next_key, request
 use Rattle.simulated_hall.specs.Standing.{SimulatedState, IsObeyedBy, StandsFor, IsSaid, IsUnanswered, AreUnused, SubmitsNothing, submitted_in}
 use Rattle.simulated_hall.proofs.Lists.{In-one}
 use Rattle.simulated_hall.proofs.Orders.{keys, grown}
-use Rattle.simulated_hall.proofs.Replays.{replayed, answers_at, one_more, state_more, answers_to, once-right, reply_found, reply_missing, reply_there, reply_none}
+use Rattle.simulated_hall.proofs.Replays.{replayed, answers_at, one_more, state_more, answers_to, once-right}
+use Rattle.simulated_hall.proofs.Replays.{reply_found, reply_missing, reply_there, reply_none}
 use Rattle.simulated_hall.proofs.HandedIn.{submitted_last}
 
 -- A command was handed in after those that an object obeyed, and is all that took effect since.
-module _ {O Op Reply : Type 0} (rules : Rules O Op Reply) (promise : List (Command Op) → Type 0) (old handed new : Record Op Reply) (t : Talk O) (c : Command Op)
+module _ {O Op Reply : Type 0} (rules : Rules O Op Reply) (promise : List (Command Op) → Type 0)
+    (old handed new : Record Op Reply) (t : Talk O) (c : Command Op)
     (past : IsObeyedBy rules old t) (fresh : (d : Command Op) → In d (submitted_in old) → d.key ≢ c.key)
     (last : submitted_in handed ≡ submitted_in old ++ (c ∷ [])) (same_order : handed.order ≡ old.order) (nothing : SubmitsNothing handed new)
     (placed : stands own_key c.key new.order ≡ true) (explained : IsExplained rules promise new) where
@@ -83,7 +86,8 @@ module _ {O Op Reply : Type 0} (rules : Rules O Op Reply) (promise : List (Comma
     said_none : reply_among key new.happenings.answers ≡ None → reply_among key given ≡ None
     said_none none = reply_missing given key (λ a i to.
         let p : Placed Reply = record { place = grows.0; answer = a } in
-        let there = In-right p (replayed rules rules.fresh 0 before) (noted_at grows.0 given) (In-map (λ (b : Answer Reply). record { place = grows.0; answer = b }) a given i) in
+        let there = In-right p (replayed rules rules.fresh 0 before) (noted_at grows.0 given)
+        (In-map (λ (b : Answer Reply). record { place = grows.0; answer = b }) a given i) in
         reply_none new.happenings.answers key none a (told grows.0 a (subst (In p) (sym grows.1) there)) to)
 
     pub said_is : reply_among key (rules.answers t.object c) ≡ reply_among key new.happenings.answers
@@ -126,7 +130,8 @@ module _ {O Op : Type 0} (t : Talk O) (cs : List (Command Op)) (unused : AreUnus
         (In-cases d cs (request t act ∷ []) i);
     ticks = λ d i s. ⊎_elim
         (λ (old : In d cs). unused.ticks d old s)
-        (λ (new : In d (request t act ∷ [])). let same = ap (λ (x : Command Op). x.key.session) (In-one d (request t act) new) in absurd (omega (arith, same, s)))
+        (λ (new : In d (request t act ∷ [])). let same =
+        ap (λ (x : Command Op). x.key.session) (In-one d (request t act) new) in absurd (omega (arith, same, s)))
         (In-cases d cs (request t act ∷ []) i);
   }
 
@@ -134,7 +139,8 @@ module _ {O Op : Type 0} (t : Talk O) (cs : List (Command Op)) (unused : AreUnus
   second_unused = record {
     requests = λ d i s. ⊎_elim
         (λ (old : In d cs). unused.requests d old s)
-        (λ (new : In d (next_second t ∷ [])). let same = ap (λ (x : Command Op). x.key.session) (In-one d (next_second t) new) in absurd (omega (arith, same, s)))
+        (λ (new : In d (next_second t ∷ [])). let same =
+        ap (λ (x : Command Op). x.key.session) (In-one d (next_second t) new) in absurd (omega (arith, same, s)))
         (In-cases d cs (next_second t ∷ []) i);
     ticks = λ d i s. ⊎_elim
         (λ (old : In d cs). let less = unused.ticks d old s in omega (arith, less))
@@ -158,8 +164,10 @@ last_of_act : {Op Reply : Type 0} (ticket : TicketState Op Reply) (act : Act Op)
 last_of_act ticket act = length-append ticket.acts (record { act = act; reply = None } ∷ [])
 
 -- the ticket's next command has the key of the next request
-pub next_key_is : {O Op Reply : Type 0} (rules : Rules O Op Reply) (s : SimulatedState Op Reply) (t : Talk O) (act : Act Op) → StandsFor rules s t → last_key (with_act s.ticket act) ≡ next_key t
-next_key_is rules s t act stands_for = let number = last_of_act s.ticket act ∙ sym stands_for.next in λ i. record { session = stands_for.session i; number = number i }
+pub next_key_is : {O Op Reply : Type 0} (rules : Rules O Op Reply) (s : SimulatedState Op Reply) (t : Talk O)
+    (act : Act Op) → StandsFor rules s t → last_key (with_act s.ticket act) ≡ next_key t
+next_key_is rules s t act stands_for = let number =
+    last_of_act s.ticket act ∙ sym stands_for.next in λ i. record { session = stands_for.session i; number = number i }
 
 -- what was said to the next request
 module _ {O Op Reply : Type 0} (rules : Rules O Op Reply) (promise : List (Command Op) → Type 0) (waits : O → Key → Type 0)
@@ -173,15 +181,22 @@ module _ {O Op Reply : Type 0} (rules : Rules O Op Reply) (promise : List (Comma
       → IsSaid rules (record { hall = new; ticket = with_act s.ticket act; second = s.second; calls = calls }) (next_obeyed rules t act) reply
   request_said s t act asked new reply calls stands_for is nothing placed explained reply_is = record {
     stands = record {
-      past = obeyed_then rules promise s.hall.nodes.past asked.nodes.past new.nodes.past t (request t act) stands_for.past fresh last same_order nothing there explained (next_obeyed rules t act).talk refl (request_unused t (submitted_in s.hall.nodes.past) stands_for.past.unused act);
+      past = obeyed_then rules promise s.hall.nodes.past asked.nodes.past new.nodes.past t
+          (request t act) stands_for.past fresh last same_order nothing there explained
+          (next_obeyed rules t act).talk refl
+          (request_unused t (submitted_in s.hall.nodes.past) stands_for.past.unused act);
       session = stands_for.session;
       next = ap (λ n. n + 1) (stands_for.next ∙ sym (last_of_act s.ticket act));
       second = stands_for.second;
     };
-    same = said_is rules promise s.hall.nodes.past asked.nodes.past new.nodes.past t (request t act) stands_for.past fresh last same_order nothing there explained (next_key t) not_yet ∙ sym reply_then;
+    same = said_is rules promise s.hall.nodes.past asked.nodes.past new.nodes.past t
+        (request t act) stands_for.past fresh last same_order nothing there explained
+        (next_key t) not_yet ∙ sym reply_then;
     none = λ e.
         subst (λ k. (place : ℕ) (a : Answer Reply) → IsGivenAt rules (submitted_in new.nodes.past) place a → a.to ≢ k) (sym key_is)
-        (none_yet rules promise s.hall.nodes.past asked.nodes.past new.nodes.past t (request t act) stands_for.past fresh last same_order nothing there explained (next_key t) not_yet (sym reply_then ∙ e));
+        (none_yet rules promise s.hall.nodes.past asked.nodes.past new.nodes.past t
+        (request t act) stands_for.past fresh last same_order nothing there explained (next_key t) not_yet
+        (sym reply_then ∙ e));
   }
     where
       key_is : last_key (with_act s.ticket act) ≡ next_key t
@@ -212,20 +227,28 @@ module _ {O Op Reply : Type 0} (rules : Rules O Op Reply) (promise : List (Comma
       reply_then = reply_is ∙ ap (λ k. reply_to new k) key_is
 
 -- and what a second says to it
-pub second_said : {O Op Reply : Type 0} (rules : Rules O Op Reply) (promise : List (Command Op) → Type 0) (s : SimulatedState Op Reply) (t : Talk O) (asked new : HallState Op Reply) (reply : Option Reply) (calls : ℕ)
+pub second_said : {O Op Reply : Type 0} (rules : Rules O Op Reply) (promise : List (Command Op) → Type 0)
+    (s : SimulatedState Op Reply) (t : Talk O) (asked new : HallState Op Reply) (reply : Option Reply) (calls : ℕ)
     → StandsFor rules s t → IsUnanswered rules s → asked ≡ after_tick rules s.hall 1 (s.second + 1)
     → SubmitsNothing asked.nodes.past new.nodes.past → stands own_key (record { session = 0; number = s.second + 1 }) new.nodes.past.order ≡ true
     → IsExplained rules promise new.nodes.past → reply ≡ reply_to new (last_key s.ticket)
     → IsSaid rules (record { hall = new; ticket = s.ticket; second = s.second + 1; calls = calls }) (passed rules (last_key s.ticket) t) reply
 second_said {O} {Op} {Reply} rules promise s t asked new reply calls stands_for not_yet is nothing placed explained reply_is = record {
   stands = record {
-    past = obeyed_then rules promise s.hall.nodes.past asked.nodes.past new.nodes.past t (next_second t) stands_for.past fresh last same_order nothing there explained (passed rules (last_key s.ticket) t).talk refl (second_unused t (submitted_in s.hall.nodes.past) stands_for.past.unused);
+    past = obeyed_then rules promise s.hall.nodes.past asked.nodes.past new.nodes.past t
+        (next_second t) stands_for.past fresh last same_order nothing there explained
+        (passed rules (last_key s.ticket) t).talk refl
+        (second_unused t (submitted_in s.hall.nodes.past) stands_for.past.unused);
     session = stands_for.session;
     next = stands_for.next;
     second = ap (λ n. n + 1) stands_for.second;
   };
-  same = said_is rules promise s.hall.nodes.past asked.nodes.past new.nodes.past t (next_second t) stands_for.past fresh last same_order nothing there explained (last_key s.ticket) not_yet ∙ sym reply_is;
-  none = λ e. none_yet rules promise s.hall.nodes.past asked.nodes.past new.nodes.past t (next_second t) stands_for.past fresh last same_order nothing there explained (last_key s.ticket) not_yet (sym reply_is ∙ e);
+  same = said_is rules promise s.hall.nodes.past asked.nodes.past new.nodes.past t
+      (next_second t) stands_for.past fresh last same_order nothing there explained
+      (last_key s.ticket) not_yet ∙ sym reply_is;
+  none = λ e. none_yet rules promise s.hall.nodes.past asked.nodes.past new.nodes.past t
+      (next_second t) stands_for.past fresh last same_order nothing there explained (last_key s.ticket) not_yet
+      (sym reply_is ∙ e);
 }
   where
     fresh : (d : Command Op) → In d (submitted_in s.hall.nodes.past) → d.key ≢ (next_second {Op = Op} t).key
@@ -244,10 +267,20 @@ second_said {O} {Op} {Reply} rules promise s t asked new reply calls stands_for 
     there = subst (λ n. stands own_key (record { session = 0; number = n + 1 }) new.nodes.past.order ≡ true) (sym stands_for.second) placed
 
 -- a new hall stands for a new object
-pub opening_stands : {O Op Reply : Type 0} (rules : Rules O Op Reply) (members : List ℕ) (hall : HallState Op Reply) (ticket : TicketState Op Reply) (calls : ℕ) → hall ≡ record (new_hall members) { book = 0 ∷ [] } → ticket ≡ new_ticket 1 → StandsFor rules (record { hall = hall; ticket = ticket; second = 0; calls = calls }) (opened rules)
+pub opening_stands : {O Op Reply : Type 0} (rules : Rules O Op Reply) (members : List ℕ) (hall : HallState Op Reply)
+    (ticket : TicketState Op Reply) (calls : ℕ) → hall ≡ record (new_hall members) { book = 0 ∷ [] }
+    → ticket ≡ new_ticket 1 → StandsFor rules (record { hall = hall; ticket = ticket; second = 0; calls = calls })
+    (opened rules)
 opening_stands {O} {Op} {Reply} rules members hall ticket calls is ticket_is =
     subst (λ (h : HallState Op Reply). StandsFor rules (record { hall = h; ticket = ticket; second = 0; calls = calls }) (opened rules)) (sym is)
-    (subst (λ (q : TicketState Op Reply). StandsFor rules (record { hall = record { nodes = untouched members; book = 0 ∷ []; second = 0 }; ticket = q; second = 0; calls = calls }) (opened rules)) (sym ticket_is)
+    (subst (λ (q : TicketState Op Reply). StandsFor rules
+    (record {
+      hall = record { nodes = untouched members; book = 0 ∷ []; second = 0 };
+      ticket = q;
+      second =
+          0;
+      calls = calls;
+    }) (opened rules)) (sym ticket_is)
     (record {
       past = record { order = refl; rising = tt; object = refl; unused = record { requests = λ c i s. absurd i; ticks = λ c i s. absurd i } };
       session = refl;
@@ -256,20 +289,24 @@ opening_stands {O} {Op} {Reply} rules members hall ticket calls is ticket_is =
     }))
 
 -- how many calls were made makes no difference to that
-pub still_stands : {O Op Reply : Type 0} (rules : Rules O Op Reply) (s : SimulatedState Op Reply) (calls : ℕ) (t : Talk O) → StandsFor rules s t → StandsFor rules (record s { calls = calls }) t
+pub still_stands : {O Op Reply : Type 0} (rules : Rules O Op Reply) (s : SimulatedState Op Reply) (calls : ℕ)
+    (t : Talk O) → StandsFor rules s t → StandsFor rules (record s { calls = calls }) t
 still_stands rules s calls t stands_for = record { past = stands_for.past; session = stands_for.session; next = stands_for.next; second = stands_for.second }
 
 -- a wait that is over
-pub wait_over : {O Op Reply : Type 0} (rules : Rules O Op Reply) (key : Key) (n : ℕ) (s : Said O Reply) (reply : Reply) → s.reply ≡ Some reply → waited rules key n s ≡ s
+pub wait_over : {O Op Reply : Type 0} (rules : Rules O Op Reply) (key : Key) (n : ℕ) (s : Said O Reply) (reply : Reply)
+    → s.reply ≡ Some reply → waited rules key n s ≡ s
 wait_over rules key zero s reply e = refl
 wait_over rules key (suc n) s reply e = ap (unless_said (λ t. waited rules key n (passed rules key t)) s) e
 
 -- and one that goes on
-pub wait_more : {O Op Reply : Type 0} (rules : Rules O Op Reply) (key : Key) (n : ℕ) (s : Said O Reply) → n < 3600 → s.reply ≡ None → waited rules key (3600 - n) s ≡ waited rules key (3600 - (n + 1)) (passed rules key s.talk)
+pub wait_more : {O Op Reply : Type 0} (rules : Rules O Op Reply) (key : Key) (n : ℕ) (s : Said O Reply) → n < 3600
+    → s.reply ≡ None → waited rules key (3600 - n) s ≡ waited rules key (3600 - (n + 1)) (passed rules key s.talk)
 wait_more rules key n s less e =
     let count : 3600 - n ≡ suc (3600 - (n + 1)) = omega (arith, less) in
     ap (λ m. waited rules key m s) count ∙ ap (unless_said (λ t. waited rules key (3600 - (n + 1)) (passed rules key t)) s) e
 
-pub opens_wait : {O Op Reply : Type 0} (rules : Rules O Op Reply) (t : Talk O) (op : Op) (key : Key) → key ≡ next_key t → waited rules key 3600 (next_obeyed rules t (Do op)) ≡ answered rules t op
+pub opens_wait : {O Op Reply : Type 0} (rules : Rules O Op Reply) (t : Talk O) (op : Op) (key : Key) → key ≡ next_key t
+    → waited rules key 3600 (next_obeyed rules t (Do op)) ≡ answered rules t op
 unfolding answered
 opens_wait rules t op key is = ap (λ k. waited rules k 3600 (next_obeyed rules t (Do op))) is

@@ -1,5 +1,6 @@
 -- One more decision is performed.
-use Rattle.std.proofs.Common.{◌≡◌, ◌⊎◌, inl, inr, ⊎_elim, ◌≤◌, ◌<◌, ◌+◌, ℕ, Bool, true, false, ◌||◌, Some, None, List, [], ◌∷◌, ◌++◌, length, refl, ap, subst, sym, ◌∙◌, arith}
+use Rattle.std.proofs.Common.{◌≡◌, ◌⊎◌, inl, inr, ⊎_elim, ◌≤◌, ◌<◌, ◌+◌, ℕ, Bool, true, false, ◌||◌, Some, None, List}
+use Rattle.std.proofs.Common.{[], ◌∷◌, ◌++◌, length, refl, ap, subst, sym, ◌∙◌, arith}
 use Rattle.std.proofs.lemmas.Bool.{cases_lt, false≢true}
 use Rattle.std.proofs.lemmas.List.Folds.{list_any-append}
 use Rattle.std.specs.List.{list_any}
@@ -48,7 +49,9 @@ module _ {C : Type 0} (same : C → C → Bool) (key_of : C → Key) (exact : (x
       let low = near.low in
       let high = near.high in
       record {
-        low = above a.slot_out s low (λ e. false≢true (ap is_some (sym (none_removed a.proposals a.slot_out) ∙ ap (get (remove a.proposals a.slot_out)) (sym e)) ∙ there));
+        low = above a.slot_out s low (λ e. false≢true
+            (ap is_some (sym (none_removed a.proposals a.slot_out) ∙ ap (get (remove a.proposals a.slot_out)) (sym e)) ∙
+            there));
         high = omega arith;
       })
       (remove_cases a.proposals a.slot_out s)
@@ -57,7 +60,8 @@ module _ {C : Type 0} (same : C → C → Bool) (key_of : C → Key) (exact : (x
   then rs places = record a { slot_out = a.slot_out + 1; requests = rs; proposals = remove a.proposals a.slot_out; places = places }
 
   -- the fields are kept so, where the places find the same commands
-  out_kept : (rs : VecDeque C Global) (places : Places C) → is_some (get a.decisions a.slot_out) ≡ true → deque_len rs + len (remove a.proposals a.slot_out) ≤ deque_capacity rs
+  out_kept : (rs : VecDeque C Global) (places : Places C) → is_some (get a.decisions a.slot_out) ≡ true
+      → deque_len rs + len (remove a.proposals a.slot_out) ≤ deque_capacity rs
       → ((c : C) → is_known same (book_of a) c ≡ is_known same (book_of (then rs places)) c) → places.others.items ≡ a.places.others.items
       → ((c : C) → is_known same (book_of a) c ≡ true → is_found same key_of (at_key places.by_key) (standing (then rs places)) a.places.others.items c ≡ true)
       → KeepsBook same key_of (then rs places)
@@ -82,11 +86,15 @@ module _ {C : Type 0} (same : C → C → Bool) (key_of : C → Key) (exact : (x
       let left : remove a.proposals a.slot_out ≡ a.proposals = remove_none a.proposals a.slot_out none in
       out_kept a.requests a.places there (subst (λ (m : Slots C). deque_len a.requests + len m ≤ deque_capacity a.requests) (sym left) kept.room)
       (λ c. ap (λ (m : Slots C). is_known same (record (book_of a) { proposals = m }) c) (sym left)) refl
-      (λ c h. ap (λ (m : Slots C). is_found same key_of (at_key a.places.by_key) (standing (record a { proposals = m })) a.places.others.items c) left ∙ kept.found c h)
+      (λ c h. ap (λ (m : Slots C). is_found same key_of (at_key a.places.by_key)
+      (standing (record a { proposals = m })) a.places.others.items c) left ∙ kept.found c h)
 
   module _ (x : C) (own : get a.proposals a.slot_out ≡ Some x) where
     proposal_known : is_known same (book_of a) x ≡ true
-    proposal_known = ap (λ b. list_any (λ d. same d x) a.requests.items || (b || list_any (λ d. same d x) (values a.decisions))) (any_found (λ d. same d x) a.proposals a.slot_out x own (itself x)) ∙ or_known (list_any (λ d. same d x) a.requests.items)
+    proposal_known = ap (λ b. list_any (λ d. same d x) a.requests.items ||
+        (b || list_any (λ d. same d x) (values a.decisions)))
+        (any_found (λ d. same d x) a.proposals a.slot_out x own (itself x)) ∙ or_known
+        (list_any (λ d. same d x) a.requests.items)
       where
         or_known : (r : Bool) → (r || true) ≡ true
         or_known true = refl
@@ -106,23 +114,32 @@ module _ {C : Type 0} (same : C → C → Bool) (key_of : C → Key) (exact : (x
     module _ (places : Places C) (to : Place)
         (puts : among same a.places.others.items x ≡ false → (q : Key) → at_key places.by_key q ≡ with_key (at_key a.places.by_key) (key_of x) to q)
         (leaves : among same a.places.others.items x ≡ true → (q : Key) → at_key places.by_key q ≡ at_key a.places.by_key q) where
-      found_then : (rs : VecDeque C Global) → standing (then rs places) to ≡ Some x → ((p : Place) (c : C) → standing a p ≡ Some c → (c ≡ x) ⊎ (standing (then rs places) p ≡ Some c))
-          → (c : C) → is_known same (book_of a) c ≡ true → is_found same key_of (at_key places.by_key) (standing (then rs places)) a.places.others.items c ≡ true
+      found_then : (rs : VecDeque C Global) → standing (then rs places) to ≡ Some x
+          → ((p : Place) (c : C) → standing a p ≡ Some c → (c ≡ x) ⊎ (standing (then rs places) p ≡ Some c))
+          → (c : C) → is_known same (book_of a) c ≡ true
+          → is_found same key_of (at_key places.by_key) (standing (then rs places)) a.places.others.items c ≡ true
       found_then rs here keep c h =
-          found_moved same key_of exact itself (at_key a.places.by_key) (at_key places.by_key) (standing a) (standing (then rs places)) a.places.others.items x to
+          found_moved same key_of exact itself (at_key a.places.by_key) (at_key places.by_key) (standing a)
+          (standing (then rs places)) a.places.others.items x to
           (kept.found x proposal_known) puts leaves here keep c (kept.found c h)
 
     -- the proposal was decided
     pub won_kept : get a.decisions a.slot_out ≡ Some x → (places : Places C)
-        → (among same a.places.others.items x ≡ false → (q : Key) → at_key places.by_key q ≡ with_key (at_key a.places.by_key) (key_of x) (Decided a.slot_out) q)
+        → (among same a.places.others.items x ≡ false → (q : Key)
+        → at_key places.by_key q ≡ with_key (at_key a.places.by_key) (key_of x) (Decided a.slot_out) q)
         → (among same a.places.others.items x ≡ true → (q : Key) → at_key places.by_key q ≡ at_key a.places.by_key q)
-        → places.others.items ≡ a.places.others.items → deque_len a.requests + len (remove a.proposals a.slot_out) ≤ deque_capacity a.requests → KeepsBook same key_of (then a.requests places)
+        → places.others.items ≡ a.places.others.items
+        → deque_len a.requests + len (remove a.proposals a.slot_out) ≤ deque_capacity a.requests
+        → KeepsBook same key_of (then a.requests places)
     won_kept decided places puts leaves others room =
         let keep : (p : Place) (c : C) → standing a p ≡ Some c → (c ≡ x) ⊎ (standing (then a.requests places) p ≡ Some c) = still places in
         out_kept a.requests places (ap is_some decided) room
         (λ c.
-        ap (λ b. list_any (λ d. same d c) a.requests.items || (b || list_any (λ d. same d c) (values a.decisions))) (any_taken (λ d. same d c) a.proposals a.slot_out x own)
-        ∙ is_decided (same x c) (list_any (λ d. same d c) a.requests.items) (list_any (λ d. same d c) (values (remove a.proposals a.slot_out))) (list_any (λ d. same d c) (values a.decisions))
+        ap (λ b. list_any (λ d. same d c) a.requests.items || (b || list_any (λ d. same d c) (values a.decisions)))
+        (any_taken (λ d. same d c) a.proposals a.slot_out x own)
+        ∙ is_decided (same x c) (list_any (λ d. same d c) a.requests.items)
+        (list_any (λ d. same d c) (values (remove a.proposals a.slot_out)))
+        (list_any (λ d. same d c) (values a.decisions))
         (λ h. any_found (λ d. same d c) a.decisions a.slot_out x decided h))
         others (found_then places (Decided a.slot_out) puts leaves a.requests decided keep)
       where
@@ -132,19 +149,28 @@ module _ {C : Type 0} (same : C → C → Bool) (key_of : C → Key) (exact : (x
         still places (Decided s) c there = inr there
 
     -- the proposal was lost, and goes last in the requests
-    pub lost_kept : is_some (get a.decisions a.slot_out) ≡ true → (rs : VecDeque C Global) → rs.items ≡ a.requests.items ++ x ∷ [] → (rank : ℕ) → rank ≡ a.front_rank + length a.requests.items → (places : Places C)
+    pub lost_kept : is_some (get a.decisions a.slot_out) ≡ true → (rs : VecDeque C Global)
+        → rs.items ≡ a.requests.items ++ x ∷ [] → (rank : ℕ) → rank ≡ a.front_rank + length a.requests.items
+        → (places : Places C)
         → (among same a.places.others.items x ≡ false → (q : Key) → at_key places.by_key q ≡ with_key (at_key a.places.by_key) (key_of x) (Requested rank) q)
         → (among same a.places.others.items x ≡ true → (q : Key) → at_key places.by_key q ≡ at_key a.places.by_key q)
-        → places.others.items ≡ a.places.others.items → deque_len rs + len (remove a.proposals a.slot_out) ≤ deque_capacity rs → KeepsBook same key_of (then rs places)
+        → places.others.items ≡ a.places.others.items
+        → deque_len rs + len (remove a.proposals a.slot_out) ≤ deque_capacity rs
+        → KeepsBook same key_of (then rs places)
     lost_kept there rs last rank behind places puts leaves others room =
         out_kept rs places there room
         (λ c.
-        ap (λ b. list_any (λ d. same d c) a.requests.items || (b || list_any (λ d. same d c) (values a.decisions))) (any_taken (λ d. same d c) a.proposals a.slot_out x own)
-        ∙ goes_back (same x c) (list_any (λ d. same d c) a.requests.items) (list_any (λ d. same d c) (values (remove a.proposals a.slot_out))) (list_any (λ d. same d c) (values a.decisions))
+        ap (λ b. list_any (λ d. same d c) a.requests.items || (b || list_any (λ d. same d c) (values a.decisions)))
+        (any_taken (λ d. same d c) a.proposals a.slot_out x own)
+        ∙ goes_back (same x c) (list_any (λ d. same d c) a.requests.items)
+        (list_any (λ d. same d c) (values (remove a.proposals a.slot_out)))
+        (list_any (λ d. same d c) (values a.decisions))
         ∙ ap (λ b. b || (list_any (λ d. same d c) (values (remove a.proposals a.slot_out)) || list_any (λ d. same d c) (values a.decisions)))
         (sym (list_any-append (λ d. same d c) a.requests.items (x ∷ [])) ∙ ap (λ (ds : List C). list_any (λ d. same d c) ds) (sym last)))
         others
-        (found_then places (Requested rank) puts leaves rs (ap (λ (ds : List C). ranked ds a.front_rank rank) last ∙ ranked_last a.requests.items x a.front_rank rank behind) still)
+        (found_then places (Requested rank) puts leaves rs
+        (ap (λ (ds : List C). ranked ds a.front_rank rank) last ∙ ranked_last a.requests.items x a.front_rank rank
+        behind) still)
       where
         still : (p : Place) (c : C) → standing a p ≡ Some c → (c ≡ x) ⊎ (standing (then rs places) p ≡ Some c)
         still (Requested r) c there = inr (ap (λ (ds : List C). ranked ds a.front_rank r) last ∙ ranked_more a.requests.items (x ∷ []) a.front_rank r c there)

@@ -14,7 +14,8 @@ pub decision_at : {C : Type 0} (a : Inside C) (b : SlotBook C) → book_of a ≡
 decision_at a b seen s = ap (λ (b : SlotBook _). get b.decisions s) (sym seen)
 
 -- an open slot is in the window, since those before slot_out have a decision
-pub new_near : {C : Type 0} (same : C → C → Bool) (key_of : C → Key) (a : Inside C) → KeepsBook same key_of a → (s : ℕ) → IsLeastOpen (book_of a) s → IsInWindow a.slot_out s
+pub new_near : {C : Type 0} (same : C → C → Bool) (key_of : C → Key) (a : Inside C) → KeepsBook same key_of a → (s : ℕ)
+    → IsLeastOpen (book_of a) s → IsInWindow a.slot_out s
 new_near same key_of a kept s least = record {
   low =
       ⊎_elim (λ (l : s < a.slot_out).

@@ -16,7 +16,8 @@ use Rattle.slot_log.specs.declared.slot_log.SlotLog.TheInside.{Inside}
 use Rattle.slot_log.proofs.Standing.{among, found_still}
 
 module _ {C : Type 0} (same : C → C → Bool) (key_of : C → Key) (exact : (x y : C) → same x y ≡ true → x ≡ y) (itself : (x : C) → same x x ≡ true)
-    (a b : Inside C) (kept : KeepsBook same key_of a) (book : book_of b ≡ book_of a) (rank : b.front_rank ≡ a.front_rank) (places : b.places.by_key ≡ a.places.by_key)
+    (a b : Inside C) (kept : KeepsBook same key_of a) (book : book_of b ≡ book_of a)
+    (rank : b.front_rank ≡ a.front_rank) (places : b.places.by_key ≡ a.places.by_key)
     (others : b.places.others.items ≡ a.places.others.items) where
   keep : (p : Place) (c : C) → standing a p ≡ Some c → standing b p ≡ Some c
   keep (Requested r) c there = ap₂ (λ (k : SlotBook C) n. ranked k.requests n r) book rank ∙ there

@@ -38,7 +38,8 @@ was false false false d h = inl h
 module _ {C : Type 0} (same : C → C → Bool) (key_of : C → Key) (exact : (x y : C) → same x y ≡ true → x ≡ y) (itself : (x : C) → same x x ≡ true)
     (a : Inside C) (kept : KeepsBook same key_of a) where
   -- the places stay as they are
-  pub places_kept : (places : Places C) → ((q : Key) → at_key places.by_key q ≡ at_key a.places.by_key q) → places.others.items ≡ a.places.others.items → KeepsBook same key_of (record a { places = places })
+  pub places_kept : (places : Places C) → ((q : Key) → at_key places.by_key q ≡ at_key a.places.by_key q)
+      → places.others.items ≡ a.places.others.items → KeepsBook same key_of (record a { places = places })
   places_kept places looks others = record {
     slot_in = kept.slot_in;
     slot_out = kept.slot_out;
@@ -51,26 +52,33 @@ module _ {C : Type 0} (same : C → C → Bool) (key_of : C → Key) (exact : (x
     others = λ c h. kept.others c (ap (λ (os : List C). among same os c) (sym others) ∙ h);
     found = λ c h.
         ap (λ (os : List C). is_found same key_of (at_key places.by_key) (standing a) os c) others
-        ∙ found_still same key_of exact itself (at_key a.places.by_key) (at_key places.by_key) (standing a) (standing a) a.places.others.items looks (λ p c there. there) c (kept.found c h);
+        ∙ found_still same key_of exact itself (at_key a.places.by_key) (at_key places.by_key) (standing a)
+        (standing a) a.places.others.items looks (λ p c there. there) c (kept.found c h);
   }
 
   module _ (slot : ℕ) (x : C) (numbered : slot ≤ 2 ^ 62) (free : get a.decisions slot ≡ None) (places : Places C) where
     abbrev then : Inside C
     then = record a { decisions = insert a.decisions slot x; places = places }
 
-    known_now : (c : C) → is_known same (book_of then) c ≡ (list_any (λ d. same d c) a.requests.items || (list_any (λ d. same d c) (values a.proposals) || (same x c || list_any (λ d. same d c) (values a.decisions))))
-    known_now c = ap (λ b. list_any (λ d. same d c) a.requests.items || (list_any (λ d. same d c) (values a.proposals) || b)) (any_insert (λ d. same d c) a.decisions slot x free)
+    known_now : (c : C) → is_known same (book_of then) c
+        ≡ (list_any (λ d. same d c) a.requests.items ||
+        (list_any (λ d. same d c) (values a.proposals) || (same x c || list_any (λ d. same d c) (values a.decisions))))
+    known_now c = ap (λ b. list_any (λ d. same d c) a.requests.items ||
+        (list_any (λ d. same d c) (values a.proposals) || b)) (any_insert (λ d. same d c) a.decisions slot x free)
 
     known_still : (c : C) → is_known same (book_of a) c ≡ true → is_known same (book_of then) c ≡ true
-    known_still c h = known_now c ∙ stays (same x c) (list_any (λ d. same d c) a.requests.items) (list_any (λ d. same d c) (values a.proposals)) (list_any (λ d. same d c) (values a.decisions)) h
+    known_still c h = known_now c ∙ stays (same x c) (list_any (λ d. same d c) a.requests.items)
+        (list_any (λ d. same d c) (values a.proposals)) (list_any (λ d. same d c) (values a.decisions)) h
 
     known_new : is_known same (book_of then) x ≡ true
-    known_new = known_now x ∙ comes (same x x) (list_any (λ d. same d x) a.requests.items) (list_any (λ d. same d x) (values a.proposals)) (list_any (λ d. same d x) (values a.decisions)) (itself x)
+    known_new = known_now x ∙ comes (same x x) (list_any (λ d. same d x) a.requests.items)
+        (list_any (λ d. same d x) (values a.proposals)) (list_any (λ d. same d x) (values a.decisions)) (itself x)
 
     known_before : (c : C) → is_known same (book_of then) c ≡ true → (is_known same (book_of a) c ≡ true) ⊎ (x ≡ c)
     known_before c h =
         ⊎_elim (λ (k : is_known same (book_of a) c ≡ true). inl k) (λ (e : same x c ≡ true). inr (exact x c e))
-        (was (same x c) (list_any (λ d. same d c) a.requests.items) (list_any (λ d. same d c) (values a.proposals)) (list_any (λ d. same d c) (values a.decisions)) (sym (known_now c) ∙ h))
+        (was (same x c) (list_any (λ d. same d c) a.requests.items) (list_any (λ d. same d c) (values a.proposals))
+        (list_any (λ d. same d c) (values a.decisions)) (sym (known_now c) ∙ h))
 
     keep : (p : Place) (c : C) → standing a p ≡ Some c → standing then p ≡ Some c
     keep (Requested r) c there = there
@@ -108,23 +116,31 @@ module _ {C : Type 0} (same : C → C → Bool) (key_of : C → Key) (exact : (x
         (λ c h.
         ⊎_elim (λ (o : among same a.places.others.items c ≡ true). known_still c (kept.others c o))
         (λ (e : x ≡ c). subst (λ d. is_known same (book_of then) d ≡ true) e known_new)
-        (among_new same key_of exact itself old new (standing a) (standing then) a.places.others.items places.others.items x (Decided slot) looks more here keep c h))
+        (among_new same key_of exact itself old new (standing a)
+        (standing then) a.places.others.items places.others.items x (Decided slot) looks more here keep c h))
         (λ c h.
         ⊎_elim (λ (k : is_known same (book_of a) c ≡ true).
-        found_old same key_of exact itself old new (standing a) (standing then) a.places.others.items places.others.items x (Decided slot) looks more here keep c (kept.found c k))
+        found_old same key_of exact itself old new (standing a)
+        (standing then) a.places.others.items places.others.items x (Decided slot) looks more here keep c
+        (kept.found c k))
         (λ (e : x ≡ c). subst (λ d. is_found same key_of new (standing then) places.others.items d ≡ true) e
-        (found_new same key_of exact itself old new (standing a) (standing then) a.places.others.items places.others.items x (Decided slot) looks more here keep))
+        (found_new same key_of exact itself old new (standing a)
+        (standing then) a.places.others.items places.others.items x (Decided slot) looks more here keep))
         (known_before c h))
 
   -- a known command is decided
-  pub known_kept : (slot : ℕ) (x : C) → slot ≤ 2 ^ 62 → get a.decisions slot ≡ None → is_known same (book_of a) x ≡ true → KeepsBook same key_of (record a { decisions = insert a.decisions slot x })
+  pub known_kept : (slot : ℕ) (x : C) → slot ≤ 2 ^ 62 → get a.decisions slot ≡ None → is_known same (book_of a) x ≡ true
+      → KeepsBook same key_of (record a { decisions = insert a.decisions slot x })
   known_kept slot x numbered free known =
       let now = record a { decisions = insert a.decisions slot x } in
       decision_kept slot x numbered free a.places
       (λ c h. known_still slot x numbered free a.places c (kept.others c h))
       (λ c h.
       ⊎_elim (λ (k : is_known same (book_of a) c ≡ true).
-      found_still same key_of exact itself (at_key a.places.by_key) (at_key a.places.by_key) (standing a) (standing now) a.places.others.items (λ q. refl) (keep slot x numbered free a.places) c (kept.found c k))
+      found_still same key_of exact itself (at_key a.places.by_key) (at_key a.places.by_key) (standing a)
+      (standing now) a.places.others.items (λ q. refl) (keep slot x numbered free a.places) c (kept.found c k))
       (λ (e : x ≡ c).
-      found_still same key_of exact itself (at_key a.places.by_key) (at_key a.places.by_key) (standing a) (standing now) a.places.others.items (λ q. refl) (keep slot x numbered free a.places) c (kept.found c (ap (is_known same (book_of a)) (sym e) ∙ known)))
+      found_still same key_of exact itself (at_key a.places.by_key) (at_key a.places.by_key) (standing a)
+      (standing now) a.places.others.items (λ q. refl) (keep slot x numbered free a.places) c
+      (kept.found c (ap (is_known same (book_of a)) (sym e) ∙ known)))
       (known_before slot x numbered free a.places c h))

@@ -21,7 +21,9 @@ module _ {X : Type 0} (p : X → Bool) where
   any_put : (k : ℕ) (v : X) (es : List (ℕ × X)) → find nat_cmp k es ≡ None → list_any p (values_of (put nat_cmp k v es)) ≡ (p v || list_any p (values_of es))
   any_put k v [] none = refl
   any_put k v (e ∷ es) none =
-      elim (nat_cmp k e.0) as (λ o. cond (is_eq o) (Some e.1) (find nat_cmp k es) ≡ None → list_any p (values_of (by_order o ((k, v) ∷ e ∷ es) ((e.0, v) ∷ es) (e ∷ put nat_cmp k v es))) ≡ (p v || (p e.1 || list_any p (values_of es)))) [
+      elim (nat_cmp k e.0) as (λ o. cond (is_eq o) (Some e.1) (find nat_cmp k es) ≡ None
+      → list_any p (values_of (by_order o ((k, v) ∷ e ∷ es) ((e.0, v) ∷ es) (e ∷ put nat_cmp k v es)))
+      ≡ (p v || (p e.1 || list_any p (values_of es)))) [
         | Less ↦ λ h. refl
         | Equal ↦ λ h. cc
         | Greater ↦ λ h. ap (λ b. p e.1 || b) (any_put k v es h) ∙ swapped (p e.1) (p v) (list_any p (values_of es))
@@ -75,9 +77,13 @@ none_of_length [] h = refl
 none_of_length (x ∷ xs) h = absurd (omega arith)
 
 -- nothing stands in a new book
-pub nothing_known : {C : Type 0} (same : C → C → Bool) (requests : List C) (proposals decisions : Slots C) → requests ≡ [] → proposals ≡ empty → decisions ≡ empty → (c : C) → (list_any (λ d. same d c) requests || (list_any (λ d. same d c) (values proposals) || list_any (λ d. same d c) (values decisions))) ≡ false
+pub nothing_known : {C : Type 0} (same : C → C → Bool) (requests : List C) (proposals decisions : Slots C)
+    → requests ≡ [] → proposals ≡ empty → decisions ≡ empty → (c : C)
+    → (list_any (λ d. same d c) requests ||
+    (list_any (λ d. same d c) (values proposals) || list_any (λ d. same d c) (values decisions))) ≡ false
 nothing_known {C} same requests proposals decisions r p d c =
     let none : (m : Slots C) → m ≡ empty → list_any (λ d. same d c) (values m) ≡ false =
-    λ m e. ap (λ (es : List (ℕ × C)). list_any (λ d. same d c) (values_of es)) (none_of_length (entries m) (sym (len-entries m) ∙ ap len e ∙ len-empty nat_cmp C)) in
+    λ m e. ap (λ (es : List (ℕ × C)). list_any (λ d. same d c) (values_of es))
+    (none_of_length (entries m) (sym (len-entries m) ∙ ap len e ∙ len-empty nat_cmp C)) in
     ap (λ (rs : List C). list_any (λ d. same d c) rs || (list_any (λ d. same d c) (values proposals) || list_any (λ d. same d c) (values decisions))) r
     ∙ ap₂ (λ a b. a || b) (none proposals p) (none decisions d)

@@ -19,7 +19,8 @@ flat_more f base (suc n) =
     ap (λ j. (f base ++ flat_map f (range_with_len (base + 1) n)) ++ f j) last
 
 -- the command of one slot more, if it is known, comes last
-pub commands_more : {C : Type 0} (n : ℕ) (decisions : Slots C) → commands_upto (n + 1) decisions ≡ commands_upto n decisions ++ option_to_list (get decisions (n + 1))
+pub commands_more : {C : Type 0} (n : ℕ) (decisions : Slots C)
+    → commands_upto (n + 1) decisions ≡ commands_upto n decisions ++ option_to_list (get decisions (n + 1))
 commands_more n decisions =
     let same : 1 + n ≡ n + 1 = omega arith in
     flat_more (λ s. option_to_list (get decisions s)) 1 n ∙

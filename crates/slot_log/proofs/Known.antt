@@ -36,13 +36,16 @@ module _ {C : Type 0} (same : C → C → Bool) (key_of : C → Key) (exact : (x
       (any_ranked (λ d. same d c) a.requests.items a.front_rank rank c there (itself c))
   known_standing a (Proposed s) c there =
       or_right (list_any (λ d. same d c) a.requests.items) (list_any (λ d. same d c) (values a.proposals) || list_any (λ d. same d c) (values a.decisions))
-      (or_left (list_any (λ d. same d c) (values a.proposals)) (list_any (λ d. same d c) (values a.decisions)) (any_found (λ d. same d c) a.proposals s c there (itself c)))
+      (or_left (list_any (λ d. same d c) (values a.proposals)) (list_any (λ d. same d c) (values a.decisions))
+      (any_found (λ d. same d c) a.proposals s c there (itself c)))
   known_standing a (Decided s) c there =
       or_right (list_any (λ d. same d c) a.requests.items) (list_any (λ d. same d c) (values a.proposals) || list_any (λ d. same d c) (values a.decisions))
-      (or_right (list_any (λ d. same d c) (values a.proposals)) (list_any (λ d. same d c) (values a.decisions)) (any_found (λ d. same d c) a.decisions s c there (itself c)))
+      (or_right (list_any (λ d. same d c) (values a.proposals)) (list_any (λ d. same d c) (values a.decisions))
+      (any_found (λ d. same d c) a.decisions s c there (itself c)))
 
   -- the places find what the book knows
-  pub known_is : (a : Inside C) → KeepsBook same key_of a → (c : C) → is_found same key_of (at_key a.places.by_key) (standing a) a.places.others.items c ≡ is_known same (book_of a) c
+  pub known_is : (a : Inside C) → KeepsBook same key_of a → (c : C)
+      → is_found same key_of (at_key a.places.by_key) (standing a) a.places.others.items c ≡ is_known same (book_of a) c
   known_is a kept c =
       same_tests _ _
       (λ h.
@@ -52,12 +55,17 @@ module _ {C : Type 0} (same : C → C → Bool) (key_of : C → Key) (exact : (x
       (kept.found c)
 
 -- a search where the key has no place
-pub found_nowhere : {C : Type 0} (same : C → C → Bool) (key_of : C → Key) (look : Key → Option Place) (stands : Place → Option C) (others : List C) (c : C) → look (key_of c) ≡ None → is_found same key_of look stands others c ≡ list_any (λ d. same d c) others
+pub found_nowhere : {C : Type 0} (same : C → C → Bool) (key_of : C → Key) (look : Key → Option Place)
+    (stands : Place → Option C) (others : List C) (c : C) → look (key_of c) ≡ None
+    → is_found same key_of look stands others c ≡ list_any (λ d. same d c) others
 found_nowhere same key_of look stands others c none =
     ap (λ o. option_map_or (λ d. same d c) (option_and_then stands o) false || list_any (λ d. same d c) others) none
 
 -- and where it has one
-pub found_at : {C : Type 0} (same : C → C → Bool) (key_of : C → Key) (look : Key → Option Place) (stands : Place → Option C) (others : List C) (c : C) (p : Place) (o : Option C) → look (key_of c) ≡ Some p → o ≡ stands p → is_found same key_of look stands others c ≡ (option_map_or (λ d. same d c) o false || list_any (λ d. same d c) others)
+pub found_at : {C : Type 0} (same : C → C → Bool) (key_of : C → Key) (look : Key → Option Place)
+    (stands : Place → Option C) (others : List C) (c : C) (p : Place) (o : Option C) → look (key_of c) ≡ Some p
+    → o ≡ stands p → is_found same key_of look stands others c
+    ≡ (option_map_or (λ d. same d c) o false || list_any (λ d. same d c) others)
 found_at same key_of look stands others c p o looked there =
     ap (λ o. option_map_or (λ d. same d c) (option_and_then stands o) false || list_any (λ d. same d c) others) looked
     ∙ ap (λ o. option_map_or (λ d. same d c) o false || list_any (λ d. same d c) others) (sym there)

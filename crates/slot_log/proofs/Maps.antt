@@ -13,10 +13,11 @@ key_itself k = (eq_by_cmp_equiv nat_cmp_total).refl k
 module _ {X : Type 0} (m : Slots X) where
   -- at the key of what was taken out, and at the others
   pub remove_cases : (k q : ℕ) → ((q ≡ k) × (get (remove m k) q ≡ None)) ⊎ (get (remove m k) q ≡ get m q)
-  remove_cases k q = elim (eq_by_cmp nat_cmp q k) as (λ b. eq_by_cmp nat_cmp q k ≡ b → ((q ≡ k) × (get (remove m k) q ≡ None)) ⊎ (get (remove m k) q ≡ get m q)) [
-    | true ↦ λ t. inl (same_key k q t, get-remove nat_cmp_total m k q ∙ ap (λ b. cond b None (get m q)) t)
-    | false ↦ λ f. inr (get-remove nat_cmp_total m k q ∙ ap (λ b. cond b None (get m q)) f)
-  ] refl
+  remove_cases k q = elim (eq_by_cmp nat_cmp q k) as (λ b. eq_by_cmp nat_cmp q k ≡ b
+      → ((q ≡ k) × (get (remove m k) q ≡ None)) ⊎ (get (remove m k) q ≡ get m q)) [
+        | true ↦ λ t. inl (same_key k q t, get-remove nat_cmp_total m k q ∙ ap (λ b. cond b None (get m q)) t)
+        | false ↦ λ f. inr (get-remove nat_cmp_total m k q ∙ ap (λ b. cond b None (get m q)) f)
+      ] refl
 
   pub none_removed : (k : ℕ) → get (remove m k) k ≡ None
   none_removed k = get-remove nat_cmp_total m k k ∙ ap (λ b. cond b None (get m k)) (key_itself k)
@@ -38,7 +39,8 @@ module _ {X : Type 0} (m : Slots X) where
   len_inserted k v new = len-insert nat_cmp_total m k v ∙ ap (λ o. cond (is_some o) (len m) (len m + 1)) new
 
   -- what is true of a new place and of each old one
-  pub within_inserted : (P : ℕ → Type 0) (k : ℕ) (v : X) → P k → ((q : ℕ) → is_some (get m q) ≡ true → P q) → (q : ℕ) → is_some (get (insert m k v) q) ≡ true → P q
+  pub within_inserted : (P : ℕ → Type 0) (k : ℕ) (v : X) → P k → ((q : ℕ) → is_some (get m q) ≡ true → P q) → (q : ℕ)
+      → is_some (get (insert m k v) q) ≡ true → P q
   within_inserted P k v here there q some =
       ⊎_elim (λ (h : (q ≡ k) × (get (insert m k v) q ≡ Some v)). subst P (sym h.0) here)
       (λ (h : get (insert m k v) q ≡ get m q). there q (ap is_some (sym h) ∙ some)) (insert_cases m k v q)

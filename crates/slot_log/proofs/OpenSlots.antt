@@ -13,7 +13,9 @@ module _ {C : Type 0} (book : SlotBook C) where
   pub open_at : (s : ℕ) → IsLeastOpen book s → open_slot book ≡ Some s
   unfolding open_slot
   open_at s is =
-      find_at (λ t. not (contains_key book.decisions t)) book.slot_in (min (book.slot_out + window) (2 ^ 62 + 1) - book.slot_in) s is.next (let a = is.within in let b = is.numbered in omega arith)
+      find_at (λ t. not (contains_key book.decisions t)) book.slot_in
+      (min (book.slot_out + window) (2 ^ 62 + 1) - book.slot_in) s is.next
+      (let a = is.within in let b = is.numbered in omega arith)
       (λ t low high. ap not (is.least t low high)) (ap (λ o. not (is_some o)) is.unknown)
 
   -- none of them is open

@@ -27,7 +27,8 @@ module _ {C : Type 0} (same : C → C → Bool) (key_of : C → Key) (exact : (x
     (a : Inside C) (kept : KeepsBook same key_of a) (rs : VecDeque C Global) (x : C) (first : a.requests.items ≡ x ∷ rs.items) where
   first_known : is_known same (book_of a) x ≡ true
   first_known =
-      ap (λ (ds : List C). list_any (λ d. same d x) ds || (list_any (λ d. same d x) (values a.proposals) || list_any (λ d. same d x) (values a.decisions))) first
+      ap (λ (ds : List C). list_any (λ d. same d x) ds ||
+      (list_any (λ d. same d x) (values a.proposals) || list_any (λ d. same d x) (values a.decisions))) first
       ∙ or_left (list_any (λ d. same d x) (x ∷ rs.items)) (list_any (λ d. same d x) (values a.proposals) || list_any (λ d. same d x) (values a.decisions))
       (or_left (same x x) (list_any (λ d. same d x) rs.items) (itself x))
 
@@ -43,9 +44,12 @@ module _ {C : Type 0} (same : C → C → Bool) (key_of : C → Key) (exact : (x
 
     known_still : (c : C) → is_known same (book_of a) c ≡ is_known same (book_of then) c
     known_still c =
-        ap (λ (ds : List C). list_any (λ d. same d c) ds || (list_any (λ d. same d c) (values a.proposals) || list_any (λ d. same d c) (values a.decisions))) first
-        ∙ goes_to_proposals (same x c) (list_any (λ d. same d c) rs.items) (list_any (λ d. same d c) (values a.proposals)) (list_any (λ d. same d c) (values a.decisions))
-        ∙ ap (λ b. list_any (λ d. same d c) rs.items || (b || list_any (λ d. same d c) (values a.decisions))) (sym (any_insert (λ d. same d c) a.proposals slot x free))
+        ap (λ (ds : List C). list_any (λ d. same d c) ds ||
+        (list_any (λ d. same d c) (values a.proposals) || list_any (λ d. same d c) (values a.decisions))) first
+        ∙ goes_to_proposals (same x c) (list_any (λ d. same d c) rs.items)
+        (list_any (λ d. same d c) (values a.proposals)) (list_any (λ d. same d c) (values a.decisions))
+        ∙ ap (λ b. list_any (λ d. same d c) rs.items || (b || list_any (λ d. same d c) (values a.decisions)))
+        (sym (any_insert (λ d. same d c) a.proposals slot x free))
 
     keep : (p : Place) (c : C) → standing a p ≡ Some c → (c ≡ x) ⊎ (standing then p ≡ Some c)
     keep (Requested r) c there = ranked_rest x rs.items a.front_rank r c (ap (λ (ds : List C). ranked ds a.front_rank r) (sym first) ∙ there)
@@ -58,7 +62,8 @@ module _ {C : Type 0} (same : C → C → Bool) (key_of : C → Key) (exact : (x
 
     found : (c : C) → is_known same (book_of a) c ≡ true → is_found same key_of (at_key places.by_key) (standing then) a.places.others.items c ≡ true
     found c h =
-        found_moved same key_of exact itself (at_key a.places.by_key) (at_key places.by_key) (standing a) (standing then) a.places.others.items x (Proposed slot) (kept.found x first_known)
+        found_moved same key_of exact itself (at_key a.places.by_key) (at_key places.by_key) (standing a)
+        (standing then) a.places.others.items x (Proposed slot) (kept.found x first_known)
         puts leaves (some_inserted a.proposals slot x) keep c (kept.found c h)
 
     -- the fields are kept so

@@ -35,27 +35,33 @@ was true false p d h = inr refl
 was false false p d h = inl h
 
 module _ {C : Type 0} (same : C → C → Bool) (key_of : C → Key) (exact : (x y : C) → same x y ≡ true → x ≡ y) (itself : (x : C) → same x x ≡ true)
-    (a : Inside C) (kept : KeepsBook same key_of a) (rs : VecDeque C Global) (places : Places C) (x : C) (rank : ℕ) (last : rs.items ≡ a.requests.items ++ x ∷ [])
+    (a : Inside C) (kept : KeepsBook same key_of a) (rs : VecDeque C Global) (places : Places C) (x : C) (rank : ℕ)
+    (last : rs.items ≡ a.requests.items ++ x ∷ [])
     (looks : (q : Key) → at_key places.by_key q ≡ with_new_key (at_key a.places.by_key) (key_of x) (Requested rank) q)
     (more : places.others.items ≡ others_noted (at_key a.places.by_key (key_of x)) a.places.others.items x) where
   abbrev then : Inside C
   then = record a { requests = rs; places = places }
 
-  known_now : (c : C) → is_known same (book_of then) c ≡ ((list_any (λ d. same d c) a.requests.items || (same x c || false)) || (list_any (λ d. same d c) (values a.proposals) || list_any (λ d. same d c) (values a.decisions)))
+  known_now : (c : C) → is_known same (book_of then) c
+      ≡ ((list_any (λ d. same d c) a.requests.items || (same x c || false)) ||
+      (list_any (λ d. same d c) (values a.proposals) || list_any (λ d. same d c) (values a.decisions)))
   known_now c =
       ap (λ b. b || (list_any (λ d. same d c) (values a.proposals) || list_any (λ d. same d c) (values a.decisions)))
       (ap (λ (ds : List C). list_any (λ d. same d c) ds) last ∙ list_any-append (λ d. same d c) a.requests.items (x ∷ []))
 
   known_still : (c : C) → is_known same (book_of a) c ≡ true → is_known same (book_of then) c ≡ true
-  known_still c h = known_now c ∙ stays (same x c) (list_any (λ d. same d c) a.requests.items) (list_any (λ d. same d c) (values a.proposals)) (list_any (λ d. same d c) (values a.decisions)) h
+  known_still c h = known_now c ∙ stays (same x c) (list_any (λ d. same d c) a.requests.items)
+      (list_any (λ d. same d c) (values a.proposals)) (list_any (λ d. same d c) (values a.decisions)) h
 
   known_new : is_known same (book_of then) x ≡ true
-  known_new = known_now x ∙ comes (same x x) (list_any (λ d. same d x) a.requests.items) (list_any (λ d. same d x) (values a.proposals)) (list_any (λ d. same d x) (values a.decisions)) (itself x)
+  known_new = known_now x ∙ comes (same x x) (list_any (λ d. same d x) a.requests.items)
+      (list_any (λ d. same d x) (values a.proposals)) (list_any (λ d. same d x) (values a.decisions)) (itself x)
 
   known_before : (c : C) → is_known same (book_of then) c ≡ true → (is_known same (book_of a) c ≡ true) ⊎ (x ≡ c)
   known_before c h =
       ⊎_elim (λ (k : is_known same (book_of a) c ≡ true). inl k) (λ (e : same x c ≡ true). inr (exact x c e))
-      (was (same x c) (list_any (λ d. same d c) a.requests.items) (list_any (λ d. same d c) (values a.proposals)) (list_any (λ d. same d c) (values a.decisions)) (sym (known_now c) ∙ h))
+      (was (same x c) (list_any (λ d. same d c) a.requests.items) (list_any (λ d. same d c) (values a.proposals))
+      (list_any (λ d. same d c) (values a.decisions)) (sym (known_now c) ∙ h))
 
   module _ (own : rank ≡ a.front_rank + length a.requests.items) where
     here : standing then (Requested rank) ≡ Some x
@@ -83,11 +89,16 @@ module _ {C : Type 0} (same : C → C → Bool) (key_of : C → Key) (exact : (x
           others = λ c h.
               ⊎_elim (λ (o : among same a.places.others.items c ≡ true). known_still c (kept.others c o))
               (λ (e : x ≡ c). subst (λ d. is_known same (book_of then) d ≡ true) e known_new)
-              (among_new same key_of exact itself old new (standing a) (standing then) a.places.others.items places.others.items x (Requested rank) looks more here keep c h);
+              (among_new same key_of exact itself old new (standing a)
+              (standing then) a.places.others.items places.others.items x
+              (Requested rank) looks more here keep c h);
           found = λ c h.
               ⊎_elim (λ (k : is_known same (book_of a) c ≡ true).
-              found_old same key_of exact itself old new (standing a) (standing then) a.places.others.items places.others.items x (Requested rank) looks more here keep c (kept.found c k))
+              found_old same key_of exact itself old new (standing a)
+              (standing then) a.places.others.items places.others.items x (Requested rank) looks more here keep c
+              (kept.found c k))
               (λ (e : x ≡ c). subst (λ d. is_found same key_of new (standing then) places.others.items d ≡ true) e
-              (found_new same key_of exact itself old new (standing a) (standing then) a.places.others.items places.others.items x (Requested rank) looks more here keep))
+              (found_new same key_of exact itself old new (standing a)
+              (standing then) a.places.others.items places.others.items x (Requested rank) looks more here keep))
               (known_before c h);
         }

@@ -33,7 +33,8 @@ among same others c = list_any (λ d. same d c) others
 
 module _ {C : Type 0} (same : C → C → Bool) (key_of : C → Key) (exact : (x y : C) → same x y ≡ true → x ≡ y) (itself : (x : C) → same x x ≡ true) where
   pub among_last : (others : List C) (x : C) → among same (others ++ x ∷ []) x ≡ true
-  among_last others x = list_any-append (λ d. same d x) others (x ∷ []) ∙ or_right (among same others x) (same x x || false) (or_left (same x x) false (itself x))
+  among_last others x = list_any-append (λ d. same d x) others (x ∷ []) ∙ or_right (among same others x)
+      (same x x || false) (or_left (same x x) false (itself x))
 
   pub among_more : (others more : List C) (c : C) → among same others c ≡ true → among same (others ++ more) c ≡ true
   among_more others more c h = list_any-append (λ d. same d c) others more ∙ or_left (among same others c) (among same more c) h
@@ -42,7 +43,8 @@ module _ {C : Type 0} (same : C → C → Bool) (key_of : C → Key) (exact : (x
     pub found_in_place : IsInPlace key_of look stands c → is_found same key_of look stands others c ≡ true
     found_in_place is =
         or_left _ (among same others c)
-        (ap (λ o. option_map_or (λ d. same d c) (option_and_then stands o) false) is.looked ∙ ap (λ o. option_map_or (λ d. same d c) o false) is.there ∙ itself c)
+        (ap (λ o. option_map_or (λ d. same d c) (option_and_then stands o) false) is.looked ∙ ap
+        (λ o. option_map_or (λ d. same d c) o false) is.there ∙ itself c)
 
     pub found_among : among same others c ≡ true → is_found same key_of look stands others c ≡ true
     found_among h = or_right (option_map_or (λ d. same d c) (option_and_then stands (look (key_of c))) false) (among same others c) h
@@ -62,7 +64,8 @@ module _ {C : Type 0} (same : C → C → Bool) (key_of : C → Key) (exact : (x
         (or_cases (option_map_or (λ d. same d c) (option_and_then stands (look (key_of c))) false) (among same others c) h)
 
   -- the places and the commands at them stay
-  module _ (look now : Key → Option Place) (stands then : Place → Option C) (others : List C) (looks : (q : Key) → now q ≡ look q) (keep : (p : Place) (c : C) → stands p ≡ Some c → then p ≡ Some c) where
+  module _ (look now : Key → Option Place) (stands then : Place → Option C) (others : List C)
+      (looks : (q : Key) → now q ≡ look q) (keep : (p : Place) (c : C) → stands p ≡ Some c → then p ≡ Some c) where
     pub found_still : (c : C) → is_found same key_of look stands others c ≡ true → is_found same key_of now then others c ≡ true
     found_still c h =
         ⊎_elim (λ (is : IsInPlace key_of look stands c).
@@ -71,20 +74,24 @@ module _ {C : Type 0} (same : C → C → Bool) (key_of : C → Key) (exact : (x
         (found_cases look stands others c h)
 
   -- a new command is noted
-  module _ (look now : Key → Option Place) (stands then : Place → Option C) (others new : List C) (x : C) (to : Place) (looks : (q : Key) → now q ≡ with_new_key look (key_of x) to q) (more : new ≡ others_noted (look (key_of x)) others x)
+  module _ (look now : Key → Option Place) (stands then : Place → Option C) (others new : List C) (x : C) (to : Place)
+      (looks : (q : Key) → now q ≡ with_new_key look (key_of x) to q)
+      (more : new ≡ others_noted (look (key_of x)) others x)
       (here : then to ≡ Some x) (keep : (p : Place) (c : C) → stands p ≡ Some c → then p ≡ Some c) where
     in_new : (b : Bool) → is_some (look (key_of x)) ≡ b → (c : C) → among same others c ≡ true → among same new c ≡ true
     in_new true t c h = ap (λ (os : List C). among same os c) (more ∙ ap (λ b. cond b (others ++ x ∷ []) others) t) ∙ among_more others (x ∷ []) c h
     in_new false t c h = ap (λ (os : List C). among same os c) (more ∙ ap (λ b. cond b (others ++ x ∷ []) others) t) ∙ h
 
     looked_still : (q : Key) (p : Place) → look q ≡ Some p → now q ≡ Some p
-    looked_still q p looked = looks q ∙ elim (is_some (look (key_of x))) as (λ b. is_some (look (key_of x)) ≡ b → cond b (look q) (cond (same_key (key_of x) q) (Some to) (look q)) ≡ Some p) [
-      | true ↦ λ t. looked
-      | false ↦ λ f. elim (same_key (key_of x) q) as (λ b. same_key (key_of x) q ≡ b → cond b (Some to) (look q) ≡ Some p) [
-        | true ↦ λ t. absurd (false≢true (sym f ∙ ap (λ k. is_some (look k)) (same_is (key_of x) q t) ∙ ap is_some looked))
-        | false ↦ λ e. looked
-      ] refl
-    ] refl
+    looked_still q p looked = looks q ∙
+        elim (is_some (look (key_of x))) as (λ b. is_some (look (key_of x)) ≡ b
+        → cond b (look q) (cond (same_key (key_of x) q) (Some to) (look q)) ≡ Some p) [
+          | true ↦ λ t. looked
+          | false ↦ λ f. elim (same_key (key_of x) q) as (λ b. same_key (key_of x) q ≡ b → cond b (Some to) (look q) ≡ Some p) [
+            | true ↦ λ t. absurd (false≢true (sym f ∙ ap (λ k. is_some (look k)) (same_is (key_of x) q t) ∙ ap is_some looked))
+            | false ↦ λ e. looked
+          ] refl
+        ] refl
 
     pub found_old : (c : C) → is_found same key_of look stands others c ≡ true → is_found same key_of now then new c ≡ true
     found_old c h =
@@ -95,7 +102,9 @@ module _ {C : Type 0} (same : C → C → Bool) (key_of : C → Key) (exact : (x
 
     pub found_new : is_found same key_of now then new x ≡ true
     found_new = elim (is_some (look (key_of x))) as (λ b. is_some (look (key_of x)) ≡ b → is_found same key_of now then new x ≡ true) [
-      | true ↦ λ t. found_among now then new x (ap (λ (os : List C). among same os x) (more ∙ ap (λ b. cond b (others ++ x ∷ []) others) t) ∙ among_last others x)
+      | true ↦ λ t. found_among now then new x
+          (ap (λ (os : List C). among same os x)
+          (more ∙ ap (λ b. cond b (others ++ x ∷ []) others) t) ∙ among_last others x)
       | false ↦ λ f. found_in_place now then new x (record {
         place = to;
         looked = looks (key_of x) ∙ ap (λ b. cond b (look (key_of x)) (cond (same_key (key_of x) (key_of x)) (Some to) (look (key_of x)))) f
@@ -108,21 +117,28 @@ module _ {C : Type 0} (same : C → C → Bool) (key_of : C → Key) (exact : (x
     pub among_new : (c : C) → among same new c ≡ true → (among same others c ≡ true) ⊎ (x ≡ c)
     among_new c h = elim (is_some (look (key_of x))) as (λ b. is_some (look (key_of x)) ≡ b → (among same others c ≡ true) ⊎ (x ≡ c)) [
       | true ↦ λ t. ⊎_elim (λ (o : among same others c ≡ true). inl o)
-          (λ (l : (same x c || false) ≡ true). ⊎_elim (λ (e : same x c ≡ true). inr (exact x c e)) (λ (f : false ≡ true). absurd (false≢true f)) (or_cases (same x c) false l))
-          (or_cases (among same others c) (same x c || false) (sym (list_any-append (λ d. same d c) others (x ∷ [])) ∙ ap (λ (os : List C). among same os c) (sym (more ∙ ap (λ b. cond b (others ++ x ∷ []) others) t)) ∙ h))
+          (λ (l : (same x c || false) ≡ true). ⊎_elim (λ (e : same x c ≡ true). inr (exact x c e))
+          (λ (f : false ≡ true). absurd (false≢true f)) (or_cases (same x c) false l))
+          (or_cases (among same others c) (same x c || false)
+          (sym (list_any-append (λ d. same d c) others (x ∷ [])) ∙ ap (λ (os : List C). among same os c)
+          (sym (more ∙ ap (λ b. cond b (others ++ x ∷ []) others) t)) ∙ h))
       | false ↦ λ f. inl (ap (λ (os : List C). among same os c) (sym (more ∙ ap (λ b. cond b (others ++ x ∷ []) others) f)) ∙ h)
     ] refl
 
   -- a command that is found has a place, unless it is among the others
-  pub placed : (look : Key → Option Place) (stands : Place → Option C) (others : List C) (x : C) → is_found same key_of look stands others x ≡ true → among same others x ≡ false → is_some (look (key_of x)) ≡ true
+  pub placed : (look : Key → Option Place) (stands : Place → Option C) (others : List C) (x : C)
+      → is_found same key_of look stands others x ≡ true → among same others x ≡ false
+      → is_some (look (key_of x)) ≡ true
   placed look stands others x h none =
       ⊎_elim (λ (is : IsInPlace key_of look stands x). ap is_some is.looked)
       (λ (t : among same others x ≡ true). absurd (false≢true (sym none ∙ t)))
       (found_cases look stands others x h)
 
   -- a command that is found stands at another place now
-  module _ (look now : Key → Option Place) (stands then : Place → Option C) (others : List C) (x : C) (to : Place) (known : is_found same key_of look stands others x ≡ true)
-      (puts : among same others x ≡ false → (q : Key) → now q ≡ with_key look (key_of x) to q) (leaves : among same others x ≡ true → (q : Key) → now q ≡ look q)
+  module _ (look now : Key → Option Place) (stands then : Place → Option C) (others : List C) (x : C) (to : Place)
+      (known : is_found same key_of look stands others x ≡ true)
+      (puts : among same others x ≡ false → (q : Key) → now q ≡ with_key look (key_of x) to q)
+      (leaves : among same others x ≡ true → (q : Key) → now q ≡ look q)
       (here : then to ≡ Some x) (keep : (p : Place) (c : C) → stands p ≡ Some c → (c ≡ x) ⊎ (then p ≡ Some c)) where
     -- where it is among the others
     found_beside : among same others x ≡ true → (c : C) → IsInPlace key_of look stands c → is_found same key_of now then others c ≡ true
@@ -151,7 +167,13 @@ module _ {C : Type 0} (same : C → C → Bool) (key_of : C → Key) (exact : (x
       found_away : (c : C) → same_key (key_of x) (key_of c) ≡ false → IsInPlace key_of look stands c → is_found same key_of now then others c ≡ true
       found_away c apart is =
           ⊎_elim (λ (e : c ≡ x). absurd (false≢true (sym apart ∙ ap (λ d. same_key (key_of x) (key_of d)) e ∙ same_itself (key_of x))))
-          (λ (k : then is.place ≡ Some c). found_in_place now then others c (record { place = is.place; looked = puts f (key_of c) ∙ ap (λ b. cond b (Some to) (look (key_of c))) apart ∙ is.looked; there = k }))
+          (λ (k : then is.place ≡ Some c). found_in_place now then others c
+          (record {
+            place = is.place;
+            looked =
+                puts f (key_of c) ∙ ap (λ b. cond b (Some to) (look (key_of c))) apart ∙ is.looked;
+            there = k;
+          }))
           (keep is.place c is.there)
 
       found_alone : (c : C) → IsInPlace key_of look stands c → is_found same key_of now then others c ≡ true

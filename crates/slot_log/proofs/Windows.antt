@@ -1,5 +1,6 @@
 -- The decisions of a window.
-use Rattle.std.proofs.Common.{◌≡◌, ⊎_elim, ℕ, ◌+◌, ◌^◌, ◌<◌, ◌≤◌, min, Bool, true, false, ◌&&◌, cond, nat_le, nat_lt, List, [], ◌∷◌, ◌++◌, None, Some, ap, ap₂, refl, sym, ◌∙◌, arith}
+use Rattle.std.proofs.Common.{◌≡◌, ⊎_elim, ℕ, ◌+◌, ◌^◌, ◌<◌, ◌≤◌, min, Bool, true, false, ◌&&◌, cond, nat_le, nat_lt}
+use Rattle.std.proofs.Common.{List, [], ◌∷◌, ◌++◌, None, Some, ap, ap₂, refl, sym, ◌∙◌, arith}
 use Rattle.std.specs.Prelude.{T}
 use Rattle.std.proofs.lemmas.Bool.{cases_lt}
 use Rattle.slot_log.specs.Decisions.{entry_of}
@@ -51,7 +52,8 @@ nothing_yet s n (e ∷ es) h =
     ap (λ b. cond b (e ∷ filter (inside s n) es) (filter (inside s n) es)) out ∙ nothing_yet s n es h
 
 -- one slot more
-pub next_inside : {X : Type 0} (s n : ℕ) (es : List (ℕ × X)) → T (is_sorted nat_cmp es) → s ≤ n → filter (inside s (n + 1)) es ≡ filter (inside s n) es ++ entry_of n (find nat_cmp n es)
+pub next_inside : {X : Type 0} (s n : ℕ) (es : List (ℕ × X)) → T (is_sorted nat_cmp es) → s ≤ n
+    → filter (inside s (n + 1)) es ≡ filter (inside s n) es ++ entry_of n (find nat_cmp n es)
 next_inside s n [] h from = refl
 next_inside {X} s n (e ∷ es) h from =
     let up = first (below_all nat_cmp e.0 es) (is_sorted nat_cmp es) h in
@@ -84,7 +86,9 @@ next_inside {X} s n (e ∷ es) h from =
     (cases_lt e.0 n)
 
 -- the whole window, where no slot is beyond the last
-pub whole_window : {X : Type 0} (s n : ℕ) (es : List (ℕ × X)) → ((q : ℕ) → is_some (find nat_cmp q es) ≡ true → q ≤ 2 ^ 62) → n ≡ min (s + 63) (2 ^ 62) + 1 → filter (inside s n) es ≡ filter (λ e. nat_le s e.0 && nat_lt e.0 (s + 64)) es
+pub whole_window : {X : Type 0} (s n : ℕ) (es : List (ℕ × X))
+    → ((q : ℕ) → is_some (find nat_cmp q es) ≡ true → q ≤ 2 ^ 62) → n ≡ min (s + 63) (2 ^ 62) + 1
+    → filter (inside s n) es ≡ filter (λ e. nat_le s e.0 && nat_lt e.0 (s + 64)) es
 whole_window s n [] within end = refl
 whole_window {X} s n (e ∷ es) within end =
     let own : eq_by_cmp nat_cmp e.0 e.0 ≡ true = grind (arith, nat_tests) in

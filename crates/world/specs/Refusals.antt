@@ -47,7 +47,8 @@ abbrev pub reason_for : {Op Reply : Type 0} → (Op → Op → Bool) → World O
 reason_for same w e = unwrap_or (refusal same w e) OutOfMemory
 
 -- the event of this place is the one that this world refuses, for this reason
-pub record IsRefused {Op Reply : Type 0} (same : Op → Op → Bool) (w : World Op Reply) (events : List (Event Op)) (place : ℕ) (reason : WorldError) : Type 0 where
+pub record IsRefused {Op Reply : Type 0} (same : Op → Op → Bool) (w : World Op Reply) (events : List (Event Op))
+    (place : ℕ) (reason : WorldError) : Type 0 where
   pub event : Event Op
   pub at : slice_get events place ≡ Some event
   pub because : reason ≡ reason_for same w event

@@ -48,7 +48,8 @@ keeps_nodes (Restart n) = false
 -- These events bring the key into the order, whatever report each leader takes. None of them restarts a node. After any
 -- run of the first of them the next one is refused for want of memory alone. And after any run of all of them the key
 -- stands in the order.
-pub record Rescues {O Op Reply : Type 0} (rules : Rules O Op Reply) (same : Op → Op → Bool) (w : World Op Reply) (key : Key) (events : List (Event Op)) : Type 0 where
+pub record Rescues {O Op Reply : Type 0} (rules : Rules O Op Reply) (same : Op → Op → Bool) (w : World Op Reply)
+    (key : Key) (events : List (Event Op)) : Type 0 where
   pub calm : list_all keeps_nodes events ≡ true
   pub allowed : (n : ℕ) (v : World Op Reply) (e : Event Op) → Leads rules w (take n events) v → slice_get events n ≡ Some e → refusal same v e ≡ None
   pub ends : (v : World Op Reply) → Leads rules w events v → IsInOrder v.cluster key

@@ -34,4 +34,5 @@ pub data IsMentioned {C : Type 0} (k : Cluster C) (t : ℕ) : Type 0 where
   says_propose : (l : Letter C) (c : C) → In l k.letters → l.body ≡ Propose t c → IsMentioned k t
   says_decision : (l : Letter C) (c : C) → In l k.letters → l.body ≡ Decision t c → IsMentioned k t
   says_accept : (l : Letter C) (p : Pvalue C) → In l k.letters → l.body ≡ P2a p → p.slot ≡ t → IsMentioned k t
-  says_report : (l : Letter C) (b : Numbers) (report : List (Pvalue C)) (p : Pvalue C) → In l k.letters → l.body ≡ P1b b report → In p report → p.slot ≡ t → IsMentioned k t
+  says_report : (l : Letter C) (b : Numbers) (report : List (Pvalue C)) (p : Pvalue C) → In l k.letters
+      → l.body ≡ P1b b report → In p report → p.slot ≡ t → IsMentioned k t

@@ -1,5 +1,6 @@
 -- The words of a way out of a world. Node 1 leads it, as it is always a member.
-use Rattle.std.specs.Prelude.{◌≡◌, ℕ, ◌+◌, ◌*◌, ◌^◌, ◌<◌, ◌≤◌, ◌==◌, ◌&&◌, Bool, true, false, if◌then◌else◌, List, ◌∷◌, ◌++◌, length, filter, slice_get, Option, None, Some, IsSome}
+use Rattle.std.specs.Prelude.{◌≡◌, ℕ, ◌+◌, ◌*◌, ◌^◌, ◌<◌, ◌≤◌, ◌==◌, ◌&&◌, Bool, true, false, if◌then◌else◌, List, ◌∷◌}
+use Rattle.std.specs.Prelude.{◌++◌, length, filter, slice_get, Option, None, Some, IsSome}
 use Rattle.std.specs.List.{list_all}
 use Rattle.std.specs.FinMap.{empty, get, contains_key, insert, len}
 use Rattle.object.specs.Objects.{Rules}
@@ -72,7 +73,9 @@ pub record IsBeaten {Op Reply : Type 0} (old now : World Op Reply) : Type 0 wher
 -- what a round comes to
 pub data IsOver {Op Reply : Type 0} (old now : World Op Reply) : Type 0 where
   beaten : IsBeaten old now → IsOver old now
-  adopted : (first_leader old.cluster).active ≡ false → (first_leader now.cluster).active ≡ true → rivals now.cluster (first_leader now.cluster).ballot ≤ rivals old.cluster (first_leader old.cluster).ballot → IsOver old now
+  adopted : (first_leader old.cluster).active ≡ false → (first_leader now.cluster).active ≡ true
+      → rivals now.cluster (first_leader now.cluster).ballot ≤ rivals old.cluster (first_leader old.cluster).ballot
+      → IsOver old now
   at_rest : IsAtRest now.cluster → rivals now.cluster (first_leader now.cluster).ballot ≤ rivals old.cluster (first_leader old.cluster).ballot → IsOver old now
 
 -- how much there is to ask for yet: more than the events that it can take until the leader is at rest
@@ -122,7 +125,8 @@ is_talk (Perform n) = false
 is_talk (Restart n) = false
 
 -- some events of this kind led from the one world to the other, and stand behind those before
-pub record Goes {O Op Reply : Type 0} (rules : Rules O Op Reply) (kind : Event Op → Bool) (w : World Op Reply) (before : List (Event Op)) (v : World Op Reply) (after : List (Event Op)) : Type 0 where
+pub record Goes {O Op Reply : Type 0} (rules : Rules O Op Reply) (kind : Event Op → Bool) (w : World Op Reply)
+    (before : List (Event Op)) (v : World Op Reply) (after : List (Event Op)) : Type 0 where
   pub events : List (Event Op)
   pub led : Leads rules w events v
   pub noted : after ≡ before ++ events
@@ -151,7 +155,8 @@ MentionsAsMuch {C} k s z =
 
 -- Events led from the one world to the other for the sake of a slot. Their number is paid for by what there is to ask for, and
 -- this much more. None of them is a restart, nothing else is mentioned than the slot's request, and nothing is submitted anew.
-pub record IsPassage {O Op Reply : Type 0} (rules : Rules O Op Reply) (slot cost : ℕ) (w : World Op Reply) (before : List (Event Op)) (v : World Op Reply) (after : List (Event Op)) : Type 0 where
+pub record IsPassage {O Op Reply : Type 0} (rules : Rules O Op Reply) (slot cost : ℕ) (w : World Op Reply)
+    (before : List (Event Op)) (v : World Op Reply) (after : List (Event Op)) : Type 0 where
   pub spent : v.taken + work v.cluster ≤ w.taken + work w.cluster + cost
   pub mentions : MentionsAsMuch w.cluster slot v.cluster
   pub submitted : v.happenings.submitted ≡ w.happenings.submitted

@@ -1,5 +1,6 @@
 -- From which chosen commands each answer came, and which were chosen when a command was submitted.
-use Rattle.std.proofs.Common.{◌≡◌, ⊎_elim, ℕ, ◌+◌, ◌<◌, ◌≤◌, max, Bool, true, false, cond, List, [], ◌∷◌, ◌++◌, take, length, length-append, Option, Some, None, refl, sym, ap, ◌∙◌, subst, append-nil, arith}
+use Rattle.std.proofs.Common.{◌≡◌, ⊎_elim, ℕ, ◌+◌, ◌<◌, ◌≤◌, max, Bool, true, false, cond, List, [], ◌∷◌, ◌++◌, take}
+use Rattle.std.proofs.Common.{length, length-append, Option, Some, None, refl, sym, ap, ◌∙◌, subst, append-nil, arith}
 use Rattle.std.proofs.lemmas.Bool.{cases_lt}
 use Rattle.std.proofs.lemmas.List.{take-append-le, take_all}
 use Rattle.object.specs.Lists.{In, IsBeginning}
@@ -91,27 +92,39 @@ module _ {O Op Reply : Type 0} (rules : Rules O Op Reply) (v : World Op Reply) (
   }
 
   -- a key that wasn't submitted yet is none of those that are chosen
-  fresh_key : ((s : ℕ) (d : Command Op) → IsChosen v.cluster s d → WasSubmitted d v.happenings.submitted) → (c : Command Op) → is_submitted c.key v.happenings.submitted ≡ false → (d : Command Op) → In d told.reached → d.key ≡ c.key → ⊥
+  fresh_key : ((s : ℕ) (d : Command Op) → IsChosen v.cluster s d → WasSubmitted d v.happenings.submitted)
+      → (c : Command Op) → is_submitted c.key v.happenings.submitted ≡ false → (d : Command Op) → In d told.reached
+      → d.key ≡ c.key → ⊥
   fresh_key submitted c new d i same =
       let at = run_chosen v.cluster 1 told.reached told.chosen d i in
       not_both (ap (λ k. is_submitted k v.happenings.submitted) (sym same) ∙ key_submitted d v.happenings.submitted (submitted at.0 d at.1)) new
 
-  new_past : (z : Cluster (Command Op)) → Grows v.cluster z → (c : Command Op) → ((d : Command Op) → In d told.reached → d.key ≡ c.key → ⊥) → IsPast rules z v.happenings.answers (record { command = c; after = length v.happenings.answers })
+  new_past : (z : Cluster (Command Op)) → Grows v.cluster z → (c : Command Op)
+      → ((d : Command Op) → In d told.reached → d.key ≡ c.key → ⊥)
+      → IsPast rules z v.happenings.answers (record { command = c; after = length v.happenings.answers })
   new_past z g c others = record {
     count = omega arith;
     run = told.reached;
     chosen = run_stays v.cluster z g 1 told.reached told.chosen;
     others = others;
-    given = λ a i. given_stays rules v.cluster z g v.reach (length told.reached) (let e = told.reach in omega arith) a (told.given a (subst (In a) (take_all (length v.happenings.answers) v.happenings.answers (omega arith)) i));
+    given = λ a i. given_stays rules v.cluster z g v.reach (length told.reached) (let e = told.reach in omega arith) a
+        (told.given a (subst (In a) (take_all (length v.happenings.answers) v.happenings.answers (omega arith)) i));
   }
 
-  submits_traced : ((s : ℕ) (d : Command Op) → IsChosen v.cluster s d → WasSubmitted d v.happenings.submitted) → (z : Cluster (Command Op)) → Grows v.cluster z → AllPerformed z → (c : Command Op) → IsTraced rules (counted (record v { cluster = z; happenings = with_submission c v.happenings }))
+  submits_traced : ((s : ℕ) (d : Command Op) → IsChosen v.cluster s d → WasSubmitted d v.happenings.submitted)
+      → (z : Cluster (Command Op)) → Grows v.cluster z → AllPerformed z → (c : Command Op)
+      → IsTraced rules (counted (record v { cluster = z; happenings = with_submission c v.happenings }))
   submits_traced submitted z g full c = at (is_submitted c.key v.happenings.submitted) refl
     where
       new : Submission Op
       new = record { command = c; after = length v.happenings.answers }
 
-      at : (test : Bool) → is_submitted c.key v.happenings.submitted ≡ test → IsTraced rules (counted (record v { cluster = z; happenings = cond test v.happenings (record v.happenings { submitted = v.happenings.submitted ++ (new ∷ []) }) }))
+      at : (test : Bool) → is_submitted c.key v.happenings.submitted ≡ test
+          → IsTraced rules (counted (record v {
+            cluster = z;
+            happenings =
+                cond test v.happenings (record v.happenings { submitted = v.happenings.submitted ++ (new ∷ []) });
+          }))
       at true e = quiet_traced z g full
       at false e = record {
         full = full;
@@ -121,7 +134,9 @@ module _ {O Op Reply : Type 0} (rules : Rules O Op Reply) (v : World Op Reply) (
         given = λ a i. given_stays rules v.cluster z g v.reach v.reach (omega arith) a (told.given a i);
         past = λ s i. ⊎_elim
             (λ (old : In s v.happenings.submitted). past_same rules v.cluster z g v.happenings.answers s (told.past s old))
-            (λ (last : In s (new ∷ [])). ⊎_elim (λ (f : s ≡ new). subst (IsPast rules z v.happenings.answers) (sym f) (new_past z g c (fresh_key submitted c e))) (λ (never : ⊥). absurd never) last)
+            (λ (last : In s (new ∷ [])). ⊎_elim
+            (λ (f : s ≡ new). subst (IsPast rules z v.happenings.answers) (sym f)
+            (new_past z g c (fresh_key submitted c e))) (λ (never : ⊥). absurd never) last)
             (In-cases s v.happenings.submitted (new ∷ []) i);
       }
 
@@ -131,9 +146,12 @@ module _ {O Op Reply : Type 0} (rules : Rules O Op Reply) (v : World Op Reply) (
     done = history_run v.cluster i n (told.full n)
 
     now_done : IsRun v.cluster 1 (history (node v.cluster n).replica ++ (c ∷ []))
-    now_done = run_push v.cluster 1 (history (node v.cluster n).replica) c done.0 (subst (λ s. IsChosen v.cluster s c) (let e = done.1 in omega arith) ((i.nodes n).decisions (node v.cluster n).replica.slot_out c decided))
+    now_done = run_push v.cluster 1 (history (node v.cluster n).replica) c done.0
+        (subst (λ s. IsChosen v.cluster s c) (let e = done.1 in omega arith)
+        ((i.nodes n).decisions (node v.cluster n).replica.slot_out c decided))
 
-    given_now : (a : Answer Reply) → In a (answers_after rules (history (node v.cluster n).replica) c) → IsGiven rules v.cluster (max v.reach (node v.cluster n).replica.slot_out) a
+    given_now : (a : Answer Reply) → In a (answers_after rules (history (node v.cluster n).replica) c)
+        → IsGiven rules v.cluster (max v.reach (node v.cluster n).replica.slot_out) a
     given_now a at = record {
       earlier = history (node v.cluster n).replica;
       last = c;
@@ -144,11 +162,20 @@ module _ {O Op Reply : Type 0} (rules : Rules O Op Reply) (v : World Op Reply) (
 
     reached_now : (cs : List (Command Op)) × IsRun v.cluster 1 cs × (length cs ≡ max v.reach (node v.cluster n).replica.slot_out)
     reached_now = ⊎_elim
-        (λ (l : v.reach < (node v.cluster n).replica.slot_out). (history (node v.cluster n).replica ++ (c ∷ []), now_done, let e = done.1 in let f = length-append (history (node v.cluster n).replica) (c ∷ []) in omega arith))
+        (λ (l : v.reach < (node v.cluster n).replica.slot_out). (
+          history (node v.cluster n).replica ++ (c ∷ []),
+          now_done,
+          let e = done.1 in let f =
+              length-append (history (node v.cluster n).replica) (c ∷ []) in omega arith,
+        ))
         (λ (l : (node v.cluster n).replica.slot_out ≤ v.reach). (told.reached, told.chosen, let e = told.reach in omega arith))
         (cases_lt v.reach (node v.cluster n).replica.slot_out)
 
-  performs_traced : IsSound v.cluster → (n : ℕ) → (o : Option (Command Op)) → next_decided (node v.cluster n).replica ≡ o → Grows v.cluster (after_performing rules v n (node v.cluster n).replica o).cluster → AllPerformed (after_performing rules v n (node v.cluster n).replica o).cluster → IsTraced rules (counted (after_performing rules v n (node v.cluster n).replica o))
+  performs_traced : IsSound v.cluster → (n : ℕ) → (o : Option (Command Op))
+      → next_decided (node v.cluster n).replica ≡ o
+      → Grows v.cluster (after_performing rules v n (node v.cluster n).replica o).cluster
+      → AllPerformed (after_performing rules v n (node v.cluster n).replica o).cluster
+      → IsTraced rules (counted (after_performing rules v n (node v.cluster n).replica o))
   performs_traced i n None e g full = quiet_traced v.cluster g full
   performs_traced i n (Some c) e g full = record {
     full = full;
@@ -172,7 +199,9 @@ module _ {O Op Reply : Type 0} (rules : Rules O Op Reply) (v : World Op Reply) (
       now = answers_after rules (history (node v.cluster n).replica) c
 
 module _ (laws : BallotLaws) {O Op Reply : Type 0} (rules : Rules O Op Reply) where
-  step_traced : (v : World Op Reply) (e : Event Op) (u : World Op Reply) → IsSound v.cluster → ((s : ℕ) (d : Command Op) → IsChosen v.cluster s d → WasSubmitted d v.happenings.submitted) → Grows v.cluster u.cluster → AllPerformed u.cluster → IsTraced rules v → Step rules v e u → IsTraced rules u
+  step_traced : (v : World Op Reply) (e : Event Op) (u : World Op Reply) → IsSound v.cluster
+      → ((s : ℕ) (d : Command Op) → IsChosen v.cluster s d → WasSubmitted d v.happenings.submitted)
+      → Grows v.cluster u.cluster → AllPerformed u.cluster → IsTraced rules v → Step rules v e u → IsTraced rules u
   step_traced v e u i submitted g full told (submit n c member own) = submits_traced rules v told submitted _ g full c
   step_traced v e u i submitted g full told (deliver j l x out at receives) = quiet_traced rules v told _ g full
   step_traced v e u i submitted g full told (wake n member) = quiet_traced rules v told _ g full
@@ -196,13 +225,15 @@ module _ (laws : BallotLaws) {O Op Reply : Type 0} (rules : Rules O Op Reply) wh
   leads_traced members u es (after {es = before} {v = v} e u' l s) =
       let i = (leads_sound laws rules (opening members) v before (opening_sound (Command Op) members) l).sound in
       let told = leads_traced members v before l in
-      step_traced v e u i (chosen_submitted laws rules members v before l) (step_sound laws rules v e u i s).grows (step_full laws rules v e u i s told.full) told s
+      step_traced v e u i (chosen_submitted laws rules members v before l) (step_sound laws rules v e u i s).grows
+      (step_full laws rules v e u i s told.full) told s
 
   pub reachable_traced : (w : World Op Reply) → IsReachable rules w → IsTraced rules w
   reachable_traced w r = leads_traced w.cluster.members w r.0 r.1
 
   -- what a replica performed is a beginning of the chosen commands
-  pub history_beginning : (w : World Op Reply) → IsReachable rules w → (n : ℕ) (all : List (Command Op)) → IsChosenFrom w.cluster 1 all → IsBeginning (history (node w.cluster n).replica) all
+  pub history_beginning : (w : World Op Reply) → IsReachable rules w → (n : ℕ) (all : List (Command Op))
+      → IsChosenFrom w.cluster 1 all → IsBeginning (history (node w.cluster n).replica) all
   history_beginning w r n all chosen =
       let i = reachable_sound laws rules w r in
       run_of_all laws w.cluster i 1 (history (node w.cluster n).replica) all (history_run w.cluster i n ((reachable_traced w r).full n)).0 chosen
@@ -212,7 +243,8 @@ module _ (laws : BallotLaws) {O Op Reply : Type 0} (rules : Rules O Op Reply) wh
   reachable_reached w r = let told = reachable_traced w r in (told.reached, record { chosen = told.chosen; count = told.reach })
 
   -- what is kept of them begins the order
-  pub reached_beginning : (w : World Op Reply) → IsReachable rules w → (cs order : List (Command Op)) → IsReached w cs → IsOrder w.cluster order → IsBeginning (kept cs) order
+  pub reached_beginning : (w : World Op Reply) → IsReachable rules w → (cs order : List (Command Op)) → IsReached w cs
+      → IsOrder w.cluster order → IsBeginning (kept cs) order
   reached_beginning w r cs order h o =
       let b = kept_beginning cs o.0 (run_of_all laws w.cluster (reachable_sound laws rules w r) 1 cs o.0 h.chosen o.1) in
       (b.0, o.2 ∙ b.1)

@@ -1,5 +1,7 @@
 -- Commands that are chosen in slots one after the other, and that each replica performed such a list.
-use Rattle.std.proofs.Common.{◌≡◌, ◌≢◌, inl, inr, ⊎_elim, ℕ, zero, suc, ◌+◌, ◌-◌, ◌<◌, ◌≤◌, Bool, true, false, cond, List, [], ◌∷◌, ◌++◌, flat_map, option_to_list, length, Option, Some, None, refl, sym, ap, ap₂, ◌∙◌, subst, arith}
+use Rattle.std.proofs.Common.{◌≡◌, ◌≢◌, inl, inr, ⊎_elim, ℕ, zero, suc, ◌+◌, ◌-◌, ◌<◌, ◌≤◌, Bool, true, false, cond}
+use Rattle.std.proofs.Common.{List, [], ◌∷◌, ◌++◌, flat_map, option_to_list, length, Option, Some, None, refl, sym, ap}
+use Rattle.std.proofs.Common.{ap₂, ◌∙◌, subst, arith}
 use Rattle.std.specs.Prelude.{IsSome}
 use Rattle.std.specs.List.{range_with_len}
 use Rattle.std.specs.FinMap.{get, insert}
@@ -89,19 +91,27 @@ is_there o c e = subst IsSome (sym e) refl
 abbrev Listed : {C : Type 0} → Cluster C → ℕ → ℕ → List C → Type 0
 Listed k s n cs = IsRun k s cs × (length cs ≡ n)
 
-listed_step : {C : Type 0} (k : Cluster C) (s n : ℕ) (c : C) (o : Option C) (rest : List C) → o ≡ Some c → IsChosen k s c → Listed k (s + 1) n rest → Listed k s (suc n) (option_to_list o ++ rest)
+listed_step : {C : Type 0} (k : Cluster C) (s n : ℕ) (c : C) (o : Option C) (rest : List C) → o ≡ Some c
+    → IsChosen k s c → Listed k (s + 1) n rest → Listed k s (suc n) (option_to_list o ++ rest)
 listed_step {C} k s n c o rest e chosen h = subst (λ (p : Option C). Listed k s (suc n) (option_to_list p ++ rest)) (sym e) ((chosen, h.0), ap suc h.1)
 
-listed : {C : Type 0} (k : Cluster C) (m : Slots C) (s n : ℕ) → ((t : ℕ) → s ≤ t → t < s + n → (c : C) × (get m t ≡ Some c) × IsChosen k t c) → Listed k s n (flat_map (λ t. option_to_list (get m t)) (range_with_len s n))
+listed : {C : Type 0} (k : Cluster C) (m : Slots C) (s n : ℕ)
+    → ((t : ℕ) → s ≤ t → t < s + n → (c : C) × (get m t ≡ Some c) × IsChosen k t c)
+    → Listed k s n (flat_map (λ t. option_to_list (get m t)) (range_with_len s n))
 listed k m s zero h = (tt, refl)
 listed k m s (suc n) h =
     let c = h s (omega arith) (omega arith) in
-    listed_step k s n c.0 (get m s) (flat_map (λ t. option_to_list (get m t)) (range_with_len (s + 1) n)) c.1 c.2 (listed k m (s + 1) n (λ t low high. h t (omega arith) (omega arith)))
+    listed_step k s n c.0 (get m s) (flat_map (λ t. option_to_list (get m t)) (range_with_len (s + 1) n)) c.1 c.2
+    (listed k m (s + 1) n (λ t low high. h t (omega arith) (omega arith)))
 
 -- what a replica performed is chosen, and there is a command for each slot
-pub history_run : {C : Type 0} (k : Cluster C) → IsSound k → (n : ℕ) → IsPerformed (node k n).replica → IsRun k 1 (history (node k n).replica) × (length (history (node k n).replica) + 1 ≡ (node k n).replica.slot_out)
+pub history_run : {C : Type 0} (k : Cluster C) → IsSound k → (n : ℕ) → IsPerformed (node k n).replica
+    → IsRun k 1 (history (node k n).replica) × (length (history (node k n).replica) + 1 ≡ (node k n).replica.slot_out)
 history_run k i n full =
-    let h = listed k (node k n).replica.decisions 1 ((node k n).replica.slot_out - 1) (λ t low high. let a = full.first in let c = some_of (get (node k n).replica.decisions t) (full.known t low (omega arith)) in (c.0, c.1, (i.nodes n).decisions t c.0 c.1)) in
+    let h = listed k (node k n).replica.decisions 1 ((node k n).replica.slot_out - 1)
+    (λ t low high. let a = full.first in let c =
+    some_of (get (node k n).replica.decisions t)
+    (full.known t low (omega arith)) in (c.0, c.1, (i.nodes n).decisions t c.0 c.1)) in
     (h.0, let a = full.first in let e = h.1 in omega arith)
 
 same_full : {C : Type 0} (r z : SlotBook C) → r.slot_out ≡ z.slot_out → r.decisions ≡ z.decisions → IsPerformed r → IsPerformed z
@@ -139,7 +149,8 @@ advanced_full {C} same r c e h = record {
       (cases_eq t r.slot_out);
 }
 
-receives_full : {C : Type 0} (members : List ℕ) (m n : ℕ) (x : NodeState C) (body : LetterBody C) (z : NodeState C) (out : List (Letter C)) → Receives members m n x body z out → IsPerformed x.replica → IsPerformed z.replica
+receives_full : {C : Type 0} (members : List ℕ) (m n : ℕ) (x : NodeState C) (body : LetterBody C) (z : NodeState C)
+    (out : List (Letter C)) → Receives members m n x body z out → IsPerformed x.replica → IsPerformed z.replica
 receives_full members m n x body z out (promises_ballot b report r) h = h
 receives_full members m n x body z out (accepts_pvalue p) h = h
 receives_full members m n x body z out (hears_promise b report fresh taken may) h = h
@@ -153,27 +164,40 @@ abbrev pub AllPerformed : {C : Type 0} → Cluster C → Type 0
 AllPerformed k = (m : ℕ) → IsPerformed (node k m).replica
 
 -- what holds of each replica still does after a node's turn, where it holds of that node's
-pub turn_all : (laws : BallotLaws) {C : Type 0} (P : SlotBook C → Type 0) (k : Cluster C) (i : IsSound k) (n : ℕ) (member : is_member k.members n ≡ true) (x : NodeState C) (out : List (Letter C)) → ((m : ℕ) → P (node k m).replica) → P x.replica → (m : ℕ) → P (node (turned k n x out) m).replica
+pub turn_all : (laws : BallotLaws) {C : Type 0} (P : SlotBook C → Type 0) (k : Cluster C) (i : IsSound k) (n : ℕ)
+    (member : is_member k.members n ≡ true) (x : NodeState C) (out : List (Letter C)) → ((m : ℕ) → P (node k m).replica)
+    → P x.replica → (m : ℕ) → P (node (turned k n x out) m).replica
 turn_all laws {C} P k i n member x out f fx m = ⊎_elim
-    (λ (e : m ≡ n). subst (λ z. P (node (turned k n x out) z).replica) (sym e) (subst (λ (y : NodeState C). P y.replica) (sym (here laws k i n member x out)) fx))
+    (λ (e : m ≡ n). subst (λ z. P (node (turned k n x out) z).replica) (sym e)
+    (subst (λ (y : NodeState C). P y.replica) (sym (here laws k i n member x out)) fx))
     (λ (apart : m ≢ n). subst (λ (y : NodeState C). P y.replica) (sym (there laws k i n member x out m apart)) (f m))
     (cases_eq m n)
 
-turn_full : (laws : BallotLaws) {C : Type 0} (k : Cluster C) (i : IsSound k) (n : ℕ) (member : is_member k.members n ≡ true) (x : NodeState C) (out : List (Letter C)) → AllPerformed k → IsPerformed x.replica → AllPerformed (turned k n x out)
+turn_full : (laws : BallotLaws) {C : Type 0} (k : Cluster C) (i : IsSound k) (n : ℕ)
+    (member : is_member k.members n ≡ true) (x : NodeState C) (out : List (Letter C)) → AllPerformed k
+    → IsPerformed x.replica → AllPerformed (turned k n x out)
 turn_full laws k i n member x out f fx = turn_all laws (λ r. IsPerformed r) k i n member x out f fx
 
 module _ (laws : BallotLaws) {O Op Reply : Type 0} (rules : Rules O Op Reply) where
-  performs_full : (v : World Op Reply) → IsSound v.cluster → (n : ℕ) → is_member v.cluster.members n ≡ true → AllPerformed v.cluster → (o : Option (Command Op)) → next_decided (node v.cluster n).replica ≡ o → AllPerformed (performed_by rules v n (node v.cluster n).replica o).cluster
+  performs_full : (v : World Op Reply) → IsSound v.cluster → (n : ℕ) → is_member v.cluster.members n ≡ true
+      → AllPerformed v.cluster → (o : Option (Command Op)) → next_decided (node v.cluster n).replica ≡ o
+      → AllPerformed (performed_by rules v n (node v.cluster n).replica o).cluster
   performs_full v i n member f None e = f
   performs_full v i n member f (Some c) e = turn_full laws v.cluster i n member _ [] f (advanced_full (is_one rules) (node v.cluster n).replica c e (f n))
 
-  pub step_full : (v : World Op Reply) (e : Event Op) (u : World Op Reply) → IsSound v.cluster → Step rules v e u → AllPerformed v.cluster → AllPerformed u.cluster
+  pub step_full : (v : World Op Reply) (e : Event Op) (u : World Op Reply) → IsSound v.cluster → Step rules v e u
+      → AllPerformed v.cluster → AllPerformed u.cluster
   step_full v e u i (submit n c member own) f = turn_full laws v.cluster i n member _ [] f (requested_full (is_one rules) (node v.cluster n).replica c (f n))
   step_full v e u i (deliver j l x out at receives) f =
       let fair = Each-at (IsFair v.cluster) v.cluster.letters l i.letters (In-get v.cluster.letters j l at) in
       turn_full laws v.cluster i l.to fair.receiver x out f (receives_full v.cluster.members l.«from» l.to (node v.cluster l.to) l.body x out receives (f l.to))
   step_full v e u i (wake n member) f = turn_full laws v.cluster i n member _ (all_to_all v.cluster.members n (woken (node v.cluster n).leader).says) f (f n)
   step_full v e u i (nudge n member) f = turn_full laws v.cluster i n member (node v.cluster n) (said_again v.cluster.members n (node v.cluster n)) f (f n)
-  step_full v e u i (propose n member) f = turn_full laws v.cluster i n member _ (all_to_all v.cluster.members n (proposes_first (next_proposal (node v.cluster n).replica))) f (proposed_full (node v.cluster n).replica (next_proposal (node v.cluster n).replica) (f n))
+  step_full v e u i (propose n member) f =
+      turn_full laws v.cluster i n member _
+      (all_to_all v.cluster.members n (proposes_first (next_proposal (node v.cluster n).replica))) f
+      (proposed_full (node v.cluster n).replica (next_proposal (node v.cluster n).replica) (f n))
   step_full v e u i (perform n member) f = performs_full v i n member f (next_decided (node v.cluster n).replica) refl
-  step_full v e u i (restart n member) f = turn_full laws v.cluster i n member _ [] f (record { first = omega arith; known = λ s low high. absurd (omega arith) })
+  step_full v e u i (restart n member) f =
+      turn_full laws v.cluster i n member _ [] f
+      (record { first = omega arith; known = λ s low high. absurd (omega arith) })

@@ -1,5 +1,6 @@
 -- The keys of what took effect, from event to event.
-use Rattle.std.proofs.Common.{◌≡◌, inl, inr, ℕ, ◌+◌, Bool, true, false, ◌&&◌, nat_lt, cond, List, [], ◌∷◌, ◌++◌, map, Option, Some, None, refl, sym, ap, ◌∙◌, subst, append-nil, arith}
+use Rattle.std.proofs.Common.{◌≡◌, inl, inr, ℕ, ◌+◌, Bool, true, false, ◌&&◌, nat_lt, cond, List, [], ◌∷◌, ◌++◌, map}
+use Rattle.std.proofs.Common.{Option, Some, None, refl, sym, ap, ◌∙◌, subst, append-nil, arith}
 use Rattle.std.specs.Option.{option_to_list}
 use Rattle.std.proofs.lemmas.List.{map-append}
 use Rattle.object.specs.Lists.{In}
@@ -66,7 +67,9 @@ keys_push cs c =
     ∙ sym (map-append (λ x. x.key) (kept cs) (cond (is_new c cs) (c ∷ []) []))
     ∙ ap keys_of (sym (kept-push cs c))
 
-module _ (laws : BallotLaws) {Op Reply : Type 0} (w v : World Op Reply) (i : IsSound w.cluster) (full : AllPerformed w.cluster) (grows : Grows w.cluster v.cluster) (keys : List Key) (placed : HasPlaced w keys) where
+module _ (laws : BallotLaws) {Op Reply : Type 0} (w v : World Op Reply) (i : IsSound w.cluster)
+    (full : AllPerformed w.cluster) (grows : Grows w.cluster v.cluster) (keys : List Key)
+    (placed : HasPlaced w keys) where
   -- where the reach stays, so do the keys
   placed_stays : v.reach ≡ w.reach → HasPlaced v keys
   placed_stays same = (placed.0, reached_stays w v grows placed.0 placed.1 same, placed.2)
@@ -81,10 +84,14 @@ module _ (laws : BallotLaws) {Op Reply : Type 0} (w v : World Op Reply) (i : IsS
         same_run laws w.cluster i 1 (history (node w.cluster n).replica) cs done.0 reached.chosen (omega arith)
 
     -- and performs one more
-    placed_more : (c : Command Op) → next_decided (node w.cluster n).replica ≡ Some c → (node w.cluster n).replica.slot_out ≡ w.reach + 1 → v.reach ≡ w.reach + 1 → HasPlaced v (keys ++ key_if c (is_new c (history (node w.cluster n).replica)))
+    placed_more : (c : Command Op) → next_decided (node w.cluster n).replica ≡ Some c
+        → (node w.cluster n).replica.slot_out ≡ w.reach + 1 → v.reach ≡ w.reach + 1
+        → HasPlaced v (keys ++ key_if c (is_new c (history (node w.cluster n).replica)))
     placed_more c decided at more = (
       placed.0 ++ (c ∷ []),
-      reached_more w v grows placed.0 placed.1 c (subst (λ s. IsChosen w.cluster s c) (omega arith) ((i.nodes n).decisions (node w.cluster n).replica.slot_out c decided)) more,
+      reached_more w v grows placed.0 placed.1 c
+          (subst (λ s. IsChosen w.cluster s c) (omega arith)
+          ((i.nodes n).decisions (node w.cluster n).replica.slot_out c decided)) more,
       ap (λ ks. ks ++ key_if c (is_new c (history (node w.cluster n).replica))) placed.2
           ∙ ap (λ cs. keys_of (kept placed.0) ++ key_if c (is_new c cs)) (history_reached placed.0 placed.1 at)
           ∙ keys_push placed.0 c,
@@ -95,7 +102,9 @@ module _ (laws : BallotLaws) {Op Reply : Type 0} (w v : World Op Reply) (i : IsS
         → HasPlaced v (keys ++ option_to_list (key_placed w.reach (performs (node w.cluster n).replica o)))
     performs_placed within None decided reach = subst (HasPlaced v) (sym (append-nil keys)) (placed_stays reach)
     performs_placed within (Some c) decided reach =
-        elim (nat_lt w.reach slot) as (λ b. nat_lt w.reach slot ≡ b → HasPlaced v (keys ++ option_to_list (cond (b && takes_effect (performance_of book c).effect) (Some c.key) None))) [
+        elim (nat_lt w.reach slot) as (λ b. nat_lt w.reach slot ≡ b
+        → HasPlaced v (keys ++ option_to_list
+        (cond (b && takes_effect (performance_of book c).effect) (Some c.key) None))) [
           | true ↦ λ past. let low = within n in let high = past_when w.reach slot past in placed_more c decided (omega arith) (omega arith)
           | false ↦ λ old. let low = within_when w.reach slot old in subst (HasPlaced v) (sym (append-nil keys)) (placed_stays (reach ∙ omega arith))
         ] refl
@@ -107,11 +116,15 @@ module _ (laws : BallotLaws) {Op Reply : Type 0} (w v : World Op Reply) (i : IsS
         slot = (node w.cluster n).replica.slot_out
 
 module _ (laws : BallotLaws) {O Op Reply : Type 0} (rules : Rules O Op Reply) where
-  reach_then : (w : World Op Reply) (n : ℕ) (o : Option (Command Op)) → (after_performing rules w n (node w.cluster n).replica o).reach ≡ reach_after w.reach (performs (node w.cluster n).replica o)
+  reach_then : (w : World Op Reply) (n : ℕ) (o : Option (Command Op))
+      → (after_performing rules w n (node w.cluster n).replica o).reach
+      ≡ reach_after w.reach (performs (node w.cluster n).replica o)
   reach_then w n None = refl
   reach_then w n (Some c) = refl
 
-  step_placed : (w v : World Op Reply) (e : Event Op) → IsSound w.cluster → AllPerformed w.cluster → AllWithin w.cluster (w.reach + 1) → Grows w.cluster v.cluster → (keys : List Key) → HasPlaced w keys → Step rules w e v → HasPlaced v (placed_after w e keys)
+  step_placed : (w v : World Op Reply) (e : Event Op) → IsSound w.cluster → AllPerformed w.cluster
+      → AllWithin w.cluster (w.reach + 1) → Grows w.cluster v.cluster → (keys : List Key) → HasPlaced w keys
+      → Step rules w e v → HasPlaced v (placed_after w e keys)
   step_placed w v e i full within g keys placed (submit n c member own) = placed_stays laws w v i full g keys placed refl
   step_placed w v e i full within g keys placed (deliver j l x out at receives) = placed_stays laws w v i full g keys placed refl
   step_placed w v e i full within g keys placed (wake n member) = placed_stays laws w v i full g keys placed refl
@@ -123,7 +136,9 @@ module _ (laws : BallotLaws) {O Op Reply : Type 0} (rules : Rules O Op Reply) wh
   step_placed w v e i full within g keys placed (restart n member) = placed_stays laws w v i full g keys placed refl
 
   -- the keys that took effect, after one event more
-  pub placed_next : (w v : World Op Reply) (e : Event Op) (keys : List Key) → IsWorld rules w → Step rules w e v → HasPlaced w keys → HasPlaced v (placed_after w e keys)
+  pub placed_next : (w v : World Op Reply) (e : Event Op) (keys : List Key) → IsWorld rules w → Step rules w e v
+      → HasPlaced w keys → HasPlaced v (placed_after w e keys)
   placed_next w v e keys is s placed =
       let i = reachable_sound laws rules w is.reachable in
-      step_placed w v e i (reachable_traced laws rules w is.reachable).full (reachable_within_reach laws rules w is.reachable) (step_sound laws rules w e v i s).grows keys placed s
+      step_placed w v e i (reachable_traced laws rules w is.reachable).full
+      (reachable_within_reach laws rules w is.reachable) (step_sound laws rules w e v i s).grows keys placed s

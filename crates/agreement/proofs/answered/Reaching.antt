@@ -18,7 +18,8 @@ module _ {Op Reply : Type 0} (v u : World Op Reply) (grows : Grows v.cluster u.c
   reached_more c chosen more =
       let count = reached.count in
       record {
-        chosen = run_stays v.cluster u.cluster grows 1 (cs ++ (c ∷ [])) (run_push v.cluster 1 cs c reached.chosen (subst (λ s. IsChosen v.cluster s c) (omega arith) chosen));
+        chosen = run_stays v.cluster u.cluster grows 1 (cs ++ (c ∷ []))
+            (run_push v.cluster 1 cs c reached.chosen (subst (λ s. IsChosen v.cluster s c) (omega arith) chosen));
         count = let f = length-append cs (c ∷ []) in omega arith;
       }
 

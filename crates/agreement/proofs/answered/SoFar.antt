@@ -33,15 +33,19 @@ stands_longer key first order b n stands = (stands.0, ap (λ l. slice_get l n) b
 
 module _ {O Op Reply : Type 0} (rules : Rules O Op Reply) where
   -- the replay of a beginning begins the replay
-  given_longer : (first order : List (Command Op)) → IsBeginning first order → (n : ℕ) (a : Answer Reply) → IsGivenAt rules first n a → IsGivenAt rules order n a
+  given_longer : (first order : List (Command Op)) → IsBeginning first order → (n : ℕ) (a : Answer Reply)
+      → IsGivenAt rules first n a → IsGivenAt rules order n a
   given_longer first order b n a given =
       subst (In (record { place = n; answer = a }))
       (sym (ap (replay_of rules) b.1 ∙ replay-append rules.after rules.answers rules.fresh first b.0))
-      (In-left (record { place = n; answer = a }) (replay_of rules first) (replay_from rules.after rules.answers (fold rules.after rules.fresh first) (length first) b.0) given)
+      (In-left (record { place = n; answer = a }) (replay_of rules first)
+      (replay_from rules.after rules.answers (fold rules.after rules.fresh first) (length first) b.0) given)
 
   module _ (waits : O → Key → Type 0) (object : ObjectLaws rules waits) where
     -- what is legal for an order is so for a beginning that gives each answer
-    legal_beginning : (h : Happenings Op Reply) (first order : List (Command Op)) → IsBeginning first order → IsRising first → ((a : Answer Reply) → In a h.answers → (n : ℕ) × IsGivenAt rules first n a) → IsLegal rules h order → IsLegal rules h first
+    legal_beginning : (h : Happenings Op Reply) (first order : List (Command Op)) → IsBeginning first order
+        → IsRising first → ((a : Answer Reply) → In a h.answers → (n : ℕ) × IsGivenAt rules first n a)
+        → IsLegal rules h order → IsLegal rules h first
     legal_beginning h first order b rises answered legal = record {
       submitted = λ c i. legal.submitted c (subst (In c) (sym b.1) (In-left c first b.0 i));
       rising = rises;
@@ -51,13 +55,15 @@ module _ {O Op Reply : Type 0} (rules : Rules O Op Reply) where
     }
 
     -- and each key that is answered then was submitted
-    key_known : (h : Happenings Op Reply) (order : List (Command Op)) → IsLegal rules h order → (a : Answer Reply) → In a h.answers → is_submitted a.to h.submitted ≡ true
+    key_known : (h : Happenings Op Reply) (order : List (Command Op)) → IsLegal rules h order → (a : Answer Reply)
+        → In a h.answers → is_submitted a.to h.submitted ≡ true
     key_known h order legal a i =
         let given = legal.answered a i in
         let c = replay_named rules waits object order a (In-placed (record { place = given.0; answer = a }) (replay_of rules order) given.1) in
         ap (λ k. is_submitted k h.submitted) c.2 ∙ key_submitted c.0 h.submitted (legal.submitted c.0 c.1)
 
-module _ (laws : BallotLaws) {O Op Reply : Type 0} (rules : Rules O Op Reply) (waits : O → Key → Type 0) (object : ObjectLaws rules waits) (w : World Op Reply) (r : IsReachable rules w) where
+module _ (laws : BallotLaws) {O Op Reply : Type 0} (rules : Rules O Op Reply) (waits : O → Key → Type 0)
+    (object : ObjectLaws rules waits) (w : World Op Reply) (r : IsReachable rules w) where
   pub reached_legal : (cs : List (Command Op)) → IsReached w cs → IsLegal rules w.happenings (kept cs)
   reached_legal cs reached =
       let one = reachable_one_order laws rules waits object w r in

@@ -1,5 +1,7 @@
 -- Every answer to what was performed has been given.
-use Rattle.std.proofs.Common.{◌≡◌, ◌⊎◌, inl, inr, ⊎_elim, ℕ, ◌+◌, ◌<◌, ◌≤◌, max, Bool, true, false, cond, List, [], ◌∷◌, ◌++◌, length, length-append, fold, Option, Some, None, refl, sym, ap, ◌∙◌, subst, append-nil, arith}
+use Rattle.std.proofs.Common.{◌≡◌, ◌⊎◌, inl, inr, ⊎_elim, ℕ, ◌+◌, ◌<◌, ◌≤◌, max, Bool, true, false, cond, List, [], ◌∷◌}
+use Rattle.std.proofs.Common.{◌++◌, length, length-append, fold, Option, Some, None, refl, sym, ap, ◌∙◌, subst}
+use Rattle.std.proofs.Common.{append-nil, arith}
 use Rattle.std.proofs.lemmas.Bool.{cases_lt, cases_Bool}
 use Rattle.object.specs.Lists.{In}
 use Rattle.object.specs.Replays.{Placed, replay_from, is_new, kept}
@@ -56,7 +58,8 @@ proposed_slot : {C : Type 0} (r : SlotBook C) (o : Option (ℕ × C)) → (propo
 proposed_slot r None = refl
 proposed_slot r (Some p) = refl
 
-receives_slot : {C : Type 0} (members : List ℕ) (m n : ℕ) (x : NodeState C) (body : LetterBody C) (z : NodeState C) (out : List (Letter C)) → Receives members m n x body z out → z.replica.slot_out ≡ x.replica.slot_out
+receives_slot : {C : Type 0} (members : List ℕ) (m n : ℕ) (x : NodeState C) (body : LetterBody C) (z : NodeState C)
+    (out : List (Letter C)) → Receives members m n x body z out → z.replica.slot_out ≡ x.replica.slot_out
 receives_slot members m n x body z out (promises_ballot b report r) = refl
 receives_slot members m n x body z out (accepts_pvalue p) = refl
 receives_slot members m n x body z out (hears_promise b report fresh taken may) = refl
@@ -66,23 +69,41 @@ receives_slot members m n x body z out (learns s c) = refl
 receives_slot members m n x body z out (tells_decisions s) = refl
 
 module _ (laws : BallotLaws) {O Op Reply : Type 0} (rules : Rules O Op Reply) where
-  turn_within : (k : Cluster (Command Op)) (i : IsSound k) (n : ℕ) (member : is_member k.members n ≡ true) (x : NodeState (Command Op)) (out : List (Letter (Command Op))) (bound : ℕ) → AllWithin k bound → x.replica.slot_out ≤ bound → AllWithin (turned k n x out) bound
+  turn_within : (k : Cluster (Command Op)) (i : IsSound k) (n : ℕ) (member : is_member k.members n ≡ true)
+      (x : NodeState (Command Op)) (out : List (Letter (Command Op))) (bound : ℕ) → AllWithin k bound
+      → x.replica.slot_out ≤ bound → AllWithin (turned k n x out) bound
   turn_within k i n member x out bound f fx = turn_all laws (λ r. r.slot_out ≤ bound) k i n member x out f fx
 
-  performs_within : (v : World Op Reply) → IsSound v.cluster → (n : ℕ) → is_member v.cluster.members n ≡ true → AllWithin v.cluster (v.reach + 1) → (o : Option (Command Op)) → AllWithin (after_performing rules v n (node v.cluster n).replica o).cluster ((after_performing rules v n (node v.cluster n).replica o).reach + 1)
+  performs_within : (v : World Op Reply) → IsSound v.cluster → (n : ℕ) → is_member v.cluster.members n ≡ true
+      → AllWithin v.cluster (v.reach + 1) → (o : Option (Command Op))
+      → AllWithin (after_performing rules v n (node v.cluster n).replica o).cluster
+      ((after_performing rules v n (node v.cluster n).replica o).reach + 1)
   performs_within v i n member f None = f
   performs_within v i n member f (Some c) =
       turn_within v.cluster i n member _ [] (max v.reach (node v.cluster n).replica.slot_out + 1) (λ m. let l = f m in omega arith) (omega arith)
 
   -- no replica is past the slot after the reach
-  step_within : (v : World Op Reply) (e : Event Op) (u : World Op Reply) → IsSound v.cluster → Step rules v e u → AllWithin v.cluster (v.reach + 1) → AllWithin u.cluster (u.reach + 1)
-  step_within v e u i (submit n c member own) f = turn_within v.cluster i n member _ [] (v.reach + 1) f (let same = requested_slot (is_one rules) (node v.cluster n).replica c in let l = f n in omega arith)
+  step_within : (v : World Op Reply) (e : Event Op) (u : World Op Reply) → IsSound v.cluster → Step rules v e u
+      → AllWithin v.cluster (v.reach + 1) → AllWithin u.cluster (u.reach + 1)
+  step_within v e u i (submit n c member own) f =
+      turn_within v.cluster i n member _ [] (v.reach + 1) f
+      (let same = requested_slot (is_one rules) (node v.cluster n).replica c in let l = f n in omega arith)
   step_within v e u i (deliver j l x out at receives) f =
       let fair = Each-at (IsFair v.cluster) v.cluster.letters l i.letters (In-get v.cluster.letters j l at) in
-      turn_within v.cluster i l.to fair.receiver x out (v.reach + 1) f (let same = receives_slot v.cluster.members l.«from» l.to (node v.cluster l.to) l.body x out receives in let low = f l.to in omega arith)
-  step_within v e u i (wake n member) f = turn_within v.cluster i n member _ (all_to_all v.cluster.members n (woken (node v.cluster n).leader).says) (v.reach + 1) f (f n)
-  step_within v e u i (nudge n member) f = turn_within v.cluster i n member (node v.cluster n) (said_again v.cluster.members n (node v.cluster n)) (v.reach + 1) f (f n)
-  step_within v e u i (propose n member) f = turn_within v.cluster i n member _ (all_to_all v.cluster.members n (proposes_first (next_proposal (node v.cluster n).replica))) (v.reach + 1) f (let same = proposed_slot (node v.cluster n).replica (next_proposal (node v.cluster n).replica) in let l = f n in omega arith)
+      turn_within v.cluster i l.to fair.receiver x out (v.reach + 1) f
+      (let same = receives_slot v.cluster.members l.«from» l.to
+      (node v.cluster l.to) l.body x out receives in let low = f l.to in omega arith)
+  step_within v e u i (wake n member) f =
+      turn_within v.cluster i n member _ (all_to_all v.cluster.members n (woken (node v.cluster n).leader).says)
+      (v.reach + 1) f (f n)
+  step_within v e u i (nudge n member) f =
+      turn_within v.cluster i n member (node v.cluster n) (said_again v.cluster.members n (node v.cluster n))
+      (v.reach + 1) f (f n)
+  step_within v e u i (propose n member) f =
+      turn_within v.cluster i n member _
+      (all_to_all v.cluster.members n (proposes_first (next_proposal (node v.cluster n).replica))) (v.reach + 1) f
+      (let same = proposed_slot (node v.cluster n).replica (next_proposal (node v.cluster n).replica) in let l =
+      f n in omega arith)
   step_within v e u i (perform n member) f = performs_within v i n member f (next_decided (node v.cluster n).replica)
   step_within v e u i (restart n member) f = turn_within v.cluster i n member _ [] (v.reach + 1) f (omega arith)
 
@@ -93,7 +114,9 @@ noted_answer n (a ∷ given) p (inl e) = inl (ap (λ (q : Placed _). q.answer) e
 noted_answer n (a ∷ given) p (inr i) = inr (noted_answer n given p i)
 
 module _ {O Op Reply : Type 0} (rules : Rules O Op Reply) where
-  given_new : (earlier : List (Command Op)) (c : Command Op) → is_new c earlier ≡ true → (place : ℕ) (a : Answer Reply) → IsGivenAt rules (kept (earlier ++ (c ∷ []))) place a → IsGivenAt rules (kept earlier) place a ⊎ In a (answers_after rules earlier c)
+  given_new : (earlier : List (Command Op)) (c : Command Op) → is_new c earlier ≡ true → (place : ℕ) (a : Answer Reply)
+      → IsGivenAt rules (kept (earlier ++ (c ∷ []))) place a → IsGivenAt rules (kept earlier) place a
+      ⊎ In a (answers_after rules earlier c)
   given_new earlier c e place a i =
       let p : Placed Reply = record { place = place; answer = a } in
       let now = rules.answers (fold rules.after rules.fresh (kept earlier)) c in
@@ -102,29 +125,39 @@ module _ {O Op Reply : Type 0} (rules : Rules O Op Reply) where
       ap (replay_of rules) (kept-push_new earlier c e) ∙ replay-append rules.after rules.answers rules.fresh (kept earlier) (c ∷ []) in
       ⊎_elim
       (λ (old : In p (replay_of rules (kept earlier))). inl old)
-      (λ (new : In p last). inr (subst (In a) (sym (answers_new rules earlier c e)) (noted_answer (length (kept earlier)) now p (subst (In p) (append-nil (noted_at (length (kept earlier)) now)) new))))
+      (λ (new : In p last). inr (subst (In a) (sym (answers_new rules earlier c e))
+      (noted_answer (length (kept earlier)) now p
+      (subst (In p) (append-nil (noted_at (length (kept earlier)) now)) new))))
       (In-cases p (replay_of rules (kept earlier)) last (subst (In p) split i))
 
   -- what is answered with one command more was answered before, or is answered to it
-  given_push : (earlier : List (Command Op)) (c : Command Op) (place : ℕ) (a : Answer Reply) → IsGivenAt rules (kept (earlier ++ (c ∷ []))) place a → IsGivenAt rules (kept earlier) place a ⊎ In a (answers_after rules earlier c)
+  given_push : (earlier : List (Command Op)) (c : Command Op) (place : ℕ) (a : Answer Reply)
+      → IsGivenAt rules (kept (earlier ++ (c ∷ []))) place a → IsGivenAt rules (kept earlier) place a
+      ⊎ In a (answers_after rules earlier c)
   given_push earlier c place a i = ⊎_elim
       (λ (e : is_new c earlier ≡ true). given_new earlier c e place a i)
       (λ (e : is_new c earlier ≡ false). inl (subst (λ l. IsGivenAt rules l place a) (kept-push_old earlier c e) i))
       (cases_Bool (is_new c earlier))
 
-module _ (laws : BallotLaws) {O Op Reply : Type 0} (rules : Rules O Op Reply) (v : World Op Reply) (reached : (cs : List (Command Op)) × IsReached v cs) (told : TellsReached rules v) where
+module _ (laws : BallotLaws) {O Op Reply : Type 0} (rules : Rules O Op Reply) (v : World Op Reply)
+    (reached : (cs : List (Command Op)) × IsReached v cs) (told : TellsReached rules v) where
   -- where the reach stays, so do the commands of its slots
-  still_told : (u : World Op Reply) → IsSound u.cluster → Grows v.cluster u.cluster → u.reach ≡ v.reach → ((a : Answer Reply) → In a v.happenings.answers → In a u.happenings.answers) → TellsReached rules u
+  still_told : (u : World Op Reply) → IsSound u.cluster → Grows v.cluster u.cluster → u.reach ≡ v.reach
+      → ((a : Answer Reply) → In a v.happenings.answers → In a u.happenings.answers) → TellsReached rules u
   still_told u i g same more cs r place a given =
       let old = reached.1 in
-      let e : cs ≡ reached.0 = same_run laws u.cluster i 1 cs reached.0 r.chosen (run_stays v.cluster u.cluster g 1 reached.0 old.chosen) (r.count ∙ same ∙ sym old.count) in
+      let e : cs ≡ reached.0 = same_run laws u.cluster i 1 cs reached.0 r.chosen
+      (run_stays v.cluster u.cluster g 1 reached.0 old.chosen) (r.count ∙ same ∙ sym old.count) in
       more a (told reached.0 old place a (subst (λ l. IsGivenAt rules (kept l) place a) e given))
 
-  quiet_told : (u : World Op Reply) → IsSound u.cluster → Grows v.cluster u.cluster → u.reach ≡ v.reach → u.happenings.answers ≡ v.happenings.answers → TellsReached rules u
+  quiet_told : (u : World Op Reply) → IsSound u.cluster → Grows v.cluster u.cluster → u.reach ≡ v.reach
+      → u.happenings.answers ≡ v.happenings.answers → TellsReached rules u
   quiet_told u i g same answers = still_told u i g same (λ a at. subst (In a) (sym answers) at)
 
   -- a replica performs the slot after the reach
-  further_told : (u : World Op Reply) → IsSound u.cluster → (earlier : List (Command Op)) (c : Command Op) → IsReached v earlier → IsReached u (earlier ++ (c ∷ [])) → u.happenings.answers ≡ v.happenings.answers ++ answers_after rules earlier c → TellsReached rules u
+  further_told : (u : World Op Reply) → IsSound u.cluster → (earlier : List (Command Op)) (c : Command Op)
+      → IsReached v earlier → IsReached u (earlier ++ (c ∷ []))
+      → u.happenings.answers ≡ v.happenings.answers ++ answers_after rules earlier c → TellsReached rules u
   further_told u i earlier c before now answers cs r place a given =
       let e : cs ≡ earlier ++ (c ∷ []) = same_run laws u.cluster i 1 cs (earlier ++ (c ∷ [])) r.chosen now.chosen (r.count ∙ sym now.count) in
       subst (In a) (sym answers)
@@ -133,15 +166,25 @@ module _ (laws : BallotLaws) {O Op Reply : Type 0} (rules : Rules O Op Reply) (v
       (λ (new : In a (answers_after rules earlier c)). In-right a v.happenings.answers (answers_after rules earlier c) new)
       (given_push rules earlier c place a (subst (λ l. IsGivenAt rules (kept l) place a) e given)))
 
-  performs_told : IsSound v.cluster → AllPerformed v.cluster → AllWithin v.cluster (v.reach + 1) → (n : ℕ) (o : Option (Command Op)) → next_decided (node v.cluster n).replica ≡ o → (u : World Op Reply) → IsSound u.cluster → Grows v.cluster u.cluster → u.reach ≡ (after_performing rules v n (node v.cluster n).replica o).reach → u.happenings.answers ≡ (after_performing rules v n (node v.cluster n).replica o).happenings.answers → TellsReached rules u
+  performs_told : IsSound v.cluster → AllPerformed v.cluster → AllWithin v.cluster (v.reach + 1)
+      → (n : ℕ) (o : Option (Command Op)) → next_decided (node v.cluster n).replica ≡ o → (u : World Op Reply)
+      → IsSound u.cluster → Grows v.cluster u.cluster
+      → u.reach ≡ (after_performing rules v n (node v.cluster n).replica o).reach
+      → u.happenings.answers ≡ (after_performing rules v n (node v.cluster n).replica o).happenings.answers
+      → TellsReached rules u
   performs_told i full within n None e u iu g reach answers = quiet_told u iu g reach answers
   performs_told i full within n (Some c) e u iu g reach answers = ⊎_elim
       (λ (l : v.reach < slot).
       further_told u iu earlier c
       (record { chosen = done.0; count = let d = done.1 in let w = within n in omega arith })
-      (record { chosen = run_stays v.cluster u.cluster g 1 (earlier ++ (c ∷ [])) now; count = let d = done.1 in let f = length-append earlier (c ∷ []) in omega arith })
+      (record {
+        chosen = run_stays v.cluster u.cluster g 1 (earlier ++ (c ∷ [])) now;
+        count = let d = done.1 in let f =
+            length-append earlier (c ∷ []) in omega arith;
+      })
       answers)
-      (λ (l : slot ≤ v.reach). still_told u iu g (reach ∙ omega arith) (λ a at. subst (In a) (sym answers) (In-left a v.happenings.answers (answers_after rules earlier c) at)))
+      (λ (l : slot ≤ v.reach). still_told u iu g (reach ∙ omega arith)
+      (λ a at. subst (In a) (sym answers) (In-left a v.happenings.answers (answers_after rules earlier c) at)))
       (cases_lt v.reach slot)
     where
       slot : ℕ
@@ -159,7 +202,12 @@ module _ (laws : BallotLaws) {O Op Reply : Type 0} (rules : Rules O Op Reply) (v
 submitted_answers : {Op Reply : Type 0} (w : World Op Reply) (c : Command Op) → (with_submission c w.happenings).answers ≡ w.happenings.answers
 submitted_answers w c = at (is_submitted c.key w.happenings.submitted)
   where
-    at : (test : Bool) → (cond test w.happenings (record w.happenings { submitted = w.happenings.submitted ++ (record { command = c; after = length w.happenings.answers } ∷ []) })).answers ≡ w.happenings.answers
+    at : (test : Bool) → (cond test w.happenings
+        (record w.happenings {
+          submitted =
+              w.happenings.submitted ++ (record { command = c; after = length w.happenings.answers } ∷ []);
+        })).answers
+        ≡ w.happenings.answers
     at true = refl
     at false = refl
 
@@ -169,13 +217,17 @@ pub record Tells {O Op Reply : Type 0} (rules : Rules O Op Reply) (w : World Op 
   pub told : TellsReached rules w
 
 module _ (laws : BallotLaws) {O Op Reply : Type 0} (rules : Rules O Op Reply) where
-  step_told : (v : World Op Reply) (e : Event Op) (u : World Op Reply) → IsSound v.cluster → AllPerformed v.cluster → (cs : List (Command Op)) × IsReached v cs → IsSound u.cluster → Grows v.cluster u.cluster → Tells rules v → Step rules v e u → TellsReached rules u
+  step_told : (v : World Op Reply) (e : Event Op) (u : World Op Reply) → IsSound v.cluster → AllPerformed v.cluster
+      → (cs : List (Command Op)) × IsReached v cs → IsSound u.cluster → Grows v.cluster u.cluster → Tells rules v
+      → Step rules v e u → TellsReached rules u
   step_told v e u i full reached iu g h (submit n c member own) = quiet_told laws rules v reached h.told u iu g refl (submitted_answers v c)
   step_told v e u i full reached iu g h (deliver j l x out at receives) = quiet_told laws rules v reached h.told u iu g refl refl
   step_told v e u i full reached iu g h (wake n member) = quiet_told laws rules v reached h.told u iu g refl refl
   step_told v e u i full reached iu g h (nudge n member) = quiet_told laws rules v reached h.told u iu g refl refl
   step_told v e u i full reached iu g h (propose n member) = quiet_told laws rules v reached h.told u iu g refl refl
-  step_told v e u i full reached iu g h (perform n member) = performs_told laws rules v reached h.told i full h.within n (next_decided (node v.cluster n).replica) refl u iu g refl refl
+  step_told v e u i full reached iu g h (perform n member) =
+      performs_told laws rules v reached h.told i full h.within n
+      (next_decided (node v.cluster n).replica) refl u iu g refl refl
   step_told v e u i full reached iu g h (restart n member) = quiet_told laws rules v reached h.told u iu g refl refl
 
   opening_told : (members : List ℕ) → TellsReached rules (opening members)

@@ -13,11 +13,16 @@ use Rattle.agreement.proofs.every.Every.{counts}
 module _ (laws : BallotLaws) {O Op Reply : Type 0} (rules : Rules O Op Reply) where
   on_the_way : (members : List ℕ) (es : List (Event Op)) (v : World Op Reply) → Leads rules (opening members) es v → v.taken ≤ most_events → IsWorld rules v
   on_the_way members es v l few = record {
-    reachable = (es, subst (λ ms. Leads rules (opening ms) es v) (sym (leads_sound laws rules (opening members) v es (opening_sound (Command Op) members) l).grows.members) l);
+    reachable = (
+      es,
+      subst (λ ms. Leads rules (opening ms) es v)
+          (sym (leads_sound laws rules (opening members) v es (opening_sound (Command Op) members) l).grows.members) l,
+    );
     few = few;
   }
 
-  module _ (holds : World Op Reply → Type 0) (first : (members : List ℕ) → holds (opening members)) (next : (w v : World Op Reply) (e : Event Op) → IsWorld rules w → Step rules w e v → holds w → holds v) where
+  module _ (holds : World Op Reply → Type 0) (first : (members : List ℕ) → holds (opening members))
+      (next : (w v : World Op Reply) (e : Event Op) → IsWorld rules w → Step rules w e v → holds w → holds v) where
     so_far : (members : List ℕ) (u : World Op Reply) (es : List (Event Op)) → Leads rules (opening members) es u → u.taken ≤ most_events → holds u
     so_far members u es at_once few = first members
     so_far members u es (after {es = before} {v = v} e u' l s) few =

@@ -34,13 +34,16 @@ added m s v none t d e = ⊎_elim
     (get_insert_cases m s v t)
 
 -- where there is a value, there is what is made of it
-mapped_if : {X Y : Type 0} (y : Y) (x : X) (p : Option Y) (o : Option X) → (IsSome o → IsSome p) → (test : Bool) → IsSome (cond test (Some x) o) → IsSome (cond test (Some y) p)
+mapped_if : {X Y : Type 0} (y : Y) (x : X) (p : Option Y) (o : Option X) → (IsSome o → IsSome p) → (test : Bool)
+    → IsSome (cond test (Some x) o) → IsSome (cond test (Some y) p)
 mapped_if y x p o rest true h = refl
 mapped_if y x p o rest false h = rest h
 
-mapped_there : {X Y : Type 0} (f : ℕ → X → Y) (es : List (ℕ × X)) (s : ℕ) → IsSome (find nat_cmp s es) → IsSome (find nat_cmp s (map (λ e. (e.0, f e.0 e.1)) es))
+mapped_there : {X Y : Type 0} (f : ℕ → X → Y) (es : List (ℕ × X)) (s : ℕ) → IsSome (find nat_cmp s es)
+    → IsSome (find nat_cmp s (map (λ e. (e.0, f e.0 e.1)) es))
 mapped_there f [] s h = h
-mapped_there f (e ∷ es) s h = mapped_if (f e.0 e.1) e.1 (find nat_cmp s (map (λ e. (e.0, f e.0 e.1)) es)) (find nat_cmp s es) (mapped_there f es s) (eq_by_cmp nat_cmp s e.0) h
+mapped_there f (e ∷ es) s h = mapped_if (f e.0 e.1) e.1 (find nat_cmp s (map (λ e. (e.0, f e.0 e.1)) es))
+    (find nat_cmp s es) (mapped_there f es s) (eq_by_cmp nat_cmp s e.0) h
 
 pub each_there : {X Y : Type 0} (f : ℕ → X → Y) (m : Slots X) (s : ℕ) (v : X) → get m s ≡ Some v → IsSome (get (each_value f m) s)
 each_there f m s v e =

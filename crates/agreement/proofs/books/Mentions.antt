@@ -1,5 +1,6 @@
 -- What holds of each slot and command that a cluster mentions holds after each event, if it holds of what is proposed.
-use Rattle.std.proofs.Common.{◌≡◌, ◌≢◌, ◌⊎◌, inl, inr, ⊎_elim, ℕ, ◌^◌, Bool, true, false, cond, List, [], ◌∷◌, ◌++◌, map, filter, Some, None, Option, refl, sym, ◌∙◌, subst}
+use Rattle.std.proofs.Common.{◌≡◌, ◌≢◌, ◌⊎◌, inl, inr, ⊎_elim, ℕ, ◌^◌, Bool, true, false, cond, List, [], ◌∷◌, ◌++◌}
+use Rattle.std.proofs.Common.{map, filter, Some, None, Option, refl, sym, ◌∙◌, subst}
 use Rattle.std.specs.Prelude.{◌==◌, not, nat_le, nat_lt, ◌&&◌, ◌+◌}
 use Rattle.std.specs.FinMap.{empty, get, insert, entries, contains_key}
 use Rattle.std.proofs.lemmas.Bool.{cases_eq}
@@ -84,7 +85,14 @@ module _ {C : Type 0} (P : ℕ → C → Type 0) where
         wakes : Done (Leading C) C
         wakes = record { state = record l { scout = Some (new_scout l.members l.ballot) }; says = P1a l.ballot ∷ [] }
 
-    preempted_if : (b : Numbers) (test : Bool) → OfDone (silently (cond test (record l { ballot = next_after b l.ballot.node l.ballot.boot; active = false; scout = None; commanders = empty }) l))
+    preempted_if : (b : Numbers) (test : Bool)
+        → OfDone (silently (cond test (record l {
+          ballot = next_after b l.ballot.node l.ballot.boot;
+          active =
+              false;
+          scout = None;
+          commanders = empty;
+        }) l))
     preempted_if b true = of_silent _ (record { proposals = h.proposals; gathered = λ s f. none_not refl f; commanders = λ s c f. none_in_empty s c f })
     preempted_if b false = of_silent l h
 
@@ -124,11 +132,13 @@ module _ {C : Type 0} (P : ℕ → C → Type 0) where
     abbrev AtHearing : Slots C → Hearing C → Type 0
     AtHearing taken v = AllowsAt l.proposals v.scout v.says taken → OfDone (at_heard l taken v.scout v.says)
 
-    hearing_if : (taken : Slots C) (test : Bool) (v w : Hearing C) → (test ≡ true → AtHearing taken v) → (test ≡ false → AtHearing taken w) → AtHearing taken (cond test v w)
+    hearing_if : (taken : Slots C) (test : Bool) (v w : Hearing C) → (test ≡ true → AtHearing taken v)
+        → (test ≡ false → AtHearing taken w) → AtHearing taken (cond test v w)
     hearing_if taken true v w on off = on refl
     hearing_if taken false v w on off = off refl
 
-    heard_if : (taken : Slots C) (s : Scouting C) → EachPvalue P s.gathered → (test : Bool) → AllowsAt l.proposals s (cond test Adopted Wait) taken → OfDone (at_heard l taken s (cond test Adopted Wait))
+    heard_if : (taken : Slots C) (s : Scouting C) → EachPvalue P s.gathered → (test : Bool)
+        → AllowsAt l.proposals s (cond test Adopted Wait) taken → OfDone (at_heard l taken s (cond test Adopted Wait))
     heard_if taken s g true allowed = adopted_of s.gathered taken g allowed
     heard_if taken s g false allowed = scout_of s g
 
@@ -139,7 +149,9 @@ module _ {C : Type 0} (P : ℕ → C → Type 0) where
           (λ member. hearing_if taken (is_same b s.ballot) (gathers s m fresh) _
           (λ mine.
           let f = takes (record { member = member; same = laws.same b s.ballot mine }) in
-          heard_if taken (gathers s m fresh).scout (λ p at. ⊎_elim (λ (x : In p s.gathered). g p x) (λ (x : In p fresh). r p (f.part p x)) (In-cases p s.gathered fresh at)) (is_majority s.members (add s.heard m)))
+          heard_if taken (gathers s m fresh).scout
+          (λ p at. ⊎_elim (λ (x : In p s.gathered). g p x) (λ (x : In p fresh). r p (f.part p x))
+          (In-cases p s.gathered fresh at)) (is_majority s.members (add s.heard m)))
           (λ other. hearing_if taken (is_below s.ballot b) (unmoved s (Preempted b)) (unmoved s Wait)
           (λ up allowed. preempted_of b)
           (λ down allowed. scout_of s g)))
@@ -155,7 +167,8 @@ module _ {C : Type 0} (P : ℕ → C → Type 0) where
       proposals = h.proposals;
       gathered = h.gathered;
       commanders = λ t y f. ⊎_elim
-          (λ (same : (t ≡ s) × (get (insert l.commanders s c) t ≡ Some c)). subst (λ (q : ℕ × Commanding C). P q.0 q.1.pvalue.value) (λ j. (sym same.0 j, some_same (sym same.1 ∙ f) j)) p)
+          (λ (same : (t ≡ s) × (get (insert l.commanders s c) t ≡ Some c)). subst
+          (λ (q : ℕ × Commanding C). P q.0 q.1.pvalue.value) (λ j. (sym same.0 j, some_same (sym same.1 ∙ f) j)) p)
           (λ (apart : (t ≢ s) × (get (insert l.commanders s c) t ≡ get l.commanders t)). h.commanders t y (sym apart.1 ∙ f))
           (get_insert_cases l.commanders s c t);
     })
@@ -234,8 +247,11 @@ module _ {C : Type 0} (P : ℕ → C → Type 0) where
   sends_of : (ws : List ℕ) (n : ℕ) (bodies : List (LetterBody C)) → Each (MentionsBody P) bodies → Each (λ l. MentionsBody P l.body) (all_to_all ws n bodies)
   sends_of ws n bodies h = Each-to_all (λ l. MentionsBody P l.body) ws n bodies (λ b at m to. Each-at (MentionsBody P) bodies b h at)
 
-  others_of : (ws : List ℕ) (n s : ℕ) (test : Bool) → Each (λ (l : Letter C). MentionsBody P l.body) (cond test (map (letter n (Ask s)) (filter (λ m. not (m == n)) (numbers ws))) [])
-  others_of ws n s true = Each-map (λ l. MentionsBody P l.body) (letter n (Ask s)) (filter (λ m. not (m == n)) (numbers ws)) (Each-all _ (filter (λ m. not (m == n)) (numbers ws)) (λ m. tt))
+  others_of : (ws : List ℕ) (n s : ℕ) (test : Bool)
+      → Each (λ (l : Letter C). MentionsBody P l.body)
+      (cond test (map (letter n (Ask s)) (filter (λ m. not (m == n)) (numbers ws))) [])
+  others_of ws n s true = Each-map (λ l. MentionsBody P l.body) (letter n (Ask s))
+      (filter (λ m. not (m == n)) (numbers ws)) (Each-all _ (filter (λ m. not (m == n)) (numbers ws)) (λ m. tt))
   others_of ws n s false = tt
 
   scout_says_of : (o : Option (Scouting C)) → Each (MentionsBody P) (scout_says o)
@@ -275,10 +291,13 @@ module _ {C : Type 0} (P : ℕ → C → Type 0) where
     }
 
     leader_of : (d : Done (Leading C) C) → OfDone d → Mentions P (leader_turn k n d)
-    leader_of d h = turn_of (led (node k n) d) (all_to_all k.members n d.says) (record { accepted = (f.nodes n).accepted; leader = h.state; replica = (f.nodes n).replica }) (sends_of k.members n d.says h.says)
+    leader_of d h = turn_of (led (node k n) d) (all_to_all k.members n d.says)
+        (record { accepted = (f.nodes n).accepted; leader = h.state; replica = (f.nodes n).replica })
+        (sends_of k.members n d.says h.says)
 
     replica_of : (r : SlotBook C) (out : List (Letter C)) → MentionsBook P r → Each (λ l. MentionsBody P l.body) out → Mentions P (replica_turn k n r out)
-    replica_of r out h o = turn_of (record (node k n) { replica = r }) out (record { accepted = (f.nodes n).accepted; leader = (f.nodes n).leader; replica = h }) o
+    replica_of r out h o = turn_of (record (node k n) { replica = r }) out
+        (record { accepted = (f.nodes n).accepted; leader = (f.nodes n).leader; replica = h }) o
 
     pub restart_of : Mentions P (turned k n (restarted k.members n (node k n)) [])
     restart_of =
@@ -297,19 +316,28 @@ module _ {C : Type 0} (P : ℕ → C → Type 0) where
     commanders_say =
         Each-map (MentionsBody P) (λ e. P2a e.1.pvalue) (entries (node k n).leader.commanders)
         (Each-weaker (λ e. get (node k n).leader.commanders e.0 ≡ Some e.1) (λ e. P e.1.pvalue.slot e.1.pvalue.value)
-        (λ e there. subst (λ s. P s e.1.pvalue.value) (sym ((i.nodes n).leader.commanding e.0 e.1 there).own.slot) ((f.nodes n).leader.commanders e.0 e.1 there))
+        (λ e there. subst (λ s. P s e.1.pvalue.value) (sym ((i.nodes n).leader.commanding e.0 e.1 there).own.slot)
+        ((f.nodes n).leader.commanders e.0 e.1 there))
         (entries (node k n).leader.commanders) (entries_get (node k n).leader.commanders))
 
     pub nudge_of : Mentions P (turned k n (node k n) (said_again k.members n (node k n)))
     nudge_of =
         turn_of (node k n) (said_again k.members n (node k n)) (f.nodes n)
         (Each-append (λ l. MentionsBody P l.body) (all_to_all k.members n (says_again (node k n).leader)) (nudges k.members n (node k n).replica)
-        (sends_of k.members n (says_again (node k n).leader) (Each-append (MentionsBody P) (scout_says (node k n).leader.scout) (map (λ e. P2a e.1.pvalue) (entries (node k n).leader.commanders)) (scout_says_of (node k n).leader.scout) commanders_say))
-        (Each-append (λ l. MentionsBody P l.body) (all_to_all k.members n (proposes_again (node k n).replica)) (asks_others k.members n (node k n).replica.slot_out)
-        (sends_of k.members n (proposes_again (node k n).replica) (Each-map (MentionsBody P) (λ e. Propose e.0 e.1) (entries (node k n).replica.proposals) (entries_at (node k n).replica.proposals (f.nodes n).replica.proposals)))
+        (sends_of k.members n (says_again (node k n).leader)
+        (Each-append (MentionsBody P) (scout_says (node k n).leader.scout)
+        (map (λ e. P2a e.1.pvalue) (entries (node k n).leader.commanders))
+        (scout_says_of (node k n).leader.scout) commanders_say))
+        (Each-append (λ l. MentionsBody P l.body) (all_to_all k.members n (proposes_again (node k n).replica))
+        (asks_others k.members n (node k n).replica.slot_out)
+        (sends_of k.members n (proposes_again (node k n).replica)
+        (Each-map (MentionsBody P) (λ e. Propose e.0 e.1) (entries (node k n).replica.proposals)
+        (entries_at (node k n).replica.proposals (f.nodes n).replica.proposals)))
         (others_of k.members n (node k n).replica.slot_out (nat_le (node k n).replica.slot_out (2 ^ 62)))))
 
-    pub proposes_of : ((s : ℕ) (c : C) → next_proposal (node k n).replica ≡ Some (s, c) → P s c) → Mentions P (replica_turn k n (proposed_next (node k n).replica) (all_to_all k.members n (proposes_first (next_proposal (node k n).replica))))
+    pub proposes_of : ((s : ℕ) (c : C) → next_proposal (node k n).replica ≡ Some (s, c) → P s c)
+        → Mentions P (replica_turn k n (proposed_next (node k n).replica)
+        (all_to_all k.members n (proposes_first (next_proposal (node k n).replica))))
     proposes_of first =
         replica_of (proposed_next (node k n).replica) (all_to_all k.members n (proposes_first (next_proposal (node k n).replica)))
         (proposed_of (node k n).replica (f.nodes n).replica (next_proposal (node k n).replica) first)
@@ -321,12 +349,26 @@ module _ {C : Type 0} (P : ℕ → C → Type 0) where
     pub perform_of : (same : C → C → Bool) → Mentions P (replica_turn k n (advanced same (node k n).replica) [])
     perform_of same = replica_of (advanced same (node k n).replica) [] (advanced_of same (node k n).replica (f.nodes n).replica) tt
 
-    pub receive_of : (m : ℕ) (body : LetterBody C) → MentionsBody P body → (x : NodeState C) (out : List (Letter C)) → Receives k.members m n (node k n) body x out → Mentions P (turned k n x out)
+    pub receive_of : (m : ℕ) (body : LetterBody C) → MentionsBody P body → (x : NodeState C) (out : List (Letter C))
+        → Receives k.members m n (node k n) body x out → Mentions P (turned k n x out)
     receive_of m body h x out (promises_ballot b report r) =
-        turn_of x out (record { accepted = (f.nodes n).accepted; leader = (f.nodes n).leader; replica = (f.nodes n).replica }) ((λ p at. (f.nodes n).accepted p (r.part p at)), tt)
+        turn_of x out (record {
+          accepted = (f.nodes n).accepted;
+          leader = (f.nodes n).leader;
+          replica =
+              (f.nodes n).replica;
+        }) ((λ p at. (f.nodes n).accepted p (r.part p at)), tt)
     receive_of m body h x out (accepts_pvalue p) =
-        turn_of x out (record { accepted = accepts_of (is_promise (node k n).acceptor.promised p.ballot) (node k n).acceptor.accepted p (f.nodes n).accepted h; leader = (f.nodes n).leader; replica = (f.nodes n).replica }) (tt, tt)
-    receive_of m body h x out (hears_promise b report fresh taken may) = leader_of _ (p1b_of (node k n).leader (f.nodes n).leader laws m b report fresh taken h may (node k n).leader.scout refl)
+        turn_of x out (record {
+          accepted =
+              accepts_of (is_promise (node k n).acceptor.promised p.ballot) (node k n).acceptor.accepted p
+              (f.nodes n).accepted h;
+          leader = (f.nodes n).leader;
+          replica = (f.nodes n).replica;
+        }) (tt, tt)
+    receive_of m body h x out (hears_promise b report fresh taken may) =
+        leader_of _ (p1b_of (node k n).leader (f.nodes n).leader laws m b report fresh taken h may
+        (node k n).leader.scout refl)
     receive_of m body h x out (hears_vote b s by) = leader_of _ (p2b_of (node k n).leader (f.nodes n).leader m b s by)
     receive_of m body h x out (hears_proposal s c) = leader_of _ (propose_of (node k n).leader (f.nodes n).leader s c h)
     receive_of m body h x out (learns s c) = replica_of (learnt (node k n).replica s c) [] (learnt_of (node k n).replica s c (f.nodes n).replica h) tt

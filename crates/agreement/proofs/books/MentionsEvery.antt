@@ -58,17 +58,21 @@ module _ {C : Type 0} (P Q : ℕ → C → Type 0) (more : (s : ℕ) (c : C) →
   }
 
 module _ (laws : BallotLaws) {O Op Reply : Type 0} (rules : Rules O Op Reply) (P : ℕ → Command Op → Type 0) where
-  performs_of : (w : World Op Reply) → IsSound w.cluster → Mentions P w.cluster → (n : ℕ) → is_member w.cluster.members n ≡ true → (o : Option (Command Op)) → Mentions P (after_performing rules w n (node w.cluster n).replica o).cluster
+  performs_of : (w : World Op Reply) → IsSound w.cluster → Mentions P w.cluster → (n : ℕ)
+      → is_member w.cluster.members n ≡ true → (o : Option (Command Op))
+      → Mentions P (after_performing rules w n (node w.cluster n).replica o).cluster
   performs_of w i f n member None = f
   performs_of w i f n member (Some c) = perform_of P laws w.cluster i f n member (is_one rules)
 
   -- an event mentions nothing new but what is proposed
-  pub mentions_step : (w v : World Op Reply) (e : Event Op) → IsSound w.cluster → Step rules w e v → ProposesOnly P w e → Mentions P w.cluster → Mentions P v.cluster
+  pub mentions_step : (w v : World Op Reply) (e : Event Op) → IsSound w.cluster → Step rules w e v → ProposesOnly P w e
+      → Mentions P w.cluster → Mentions P v.cluster
   mentions_step w v e i (submit n c member own) only f = submit_of P laws w.cluster i f n member (is_one rules) c
   mentions_step w v e i (deliver j l x out at receives) only f =
       let within = In-get w.cluster.letters j l at in
       let fair = Each-at (IsFair w.cluster) w.cluster.letters l i.letters within in
-      receive_of P laws w.cluster i f l.to fair.receiver l.«from» l.body (Each-at (λ y. MentionsBody P y.body) w.cluster.letters l f.letters within) x out receives
+      receive_of P laws w.cluster i f l.to fair.receiver l.«from» l.body
+      (Each-at (λ y. MentionsBody P y.body) w.cluster.letters l f.letters within) x out receives
   mentions_step w v e i (wake n member) only f = wake_of P laws w.cluster i f n member
   mentions_step w v e i (nudge n member) only f = nudge_of P laws w.cluster i f n member
   mentions_step w v e i (propose n member) only f = proposes_of P laws w.cluster i f n member only
@@ -85,7 +89,8 @@ module _ (laws : BallotLaws) {O Op Reply : Type 0} (rules : Rules O Op Reply) (P
   calm_proposes w (events.Restart n) calm = tt
 
   -- an event that has no replica propose mentions nothing new
-  pub mentions_calm : (w v : World Op Reply) (e : Event Op) → IsSound w.cluster → Step rules w e v → is_calm e ≡ true → Mentions P w.cluster → Mentions P v.cluster
+  pub mentions_calm : (w v : World Op Reply) (e : Event Op) → IsSound w.cluster → Step rules w e v → is_calm e ≡ true
+      → Mentions P w.cluster → Mentions P v.cluster
   mentions_calm w v e i s calm f = mentions_step w v e i s (calm_proposes w e calm) f
 
 -- what is proposed next is proposed in an open slot
@@ -112,7 +117,9 @@ module _ {O Op Reply : Type 0} (rules : Rules O Op Reply) where
   reach_grows w v e (perform n member) = performed_reach w n (next_decided (node w.cluster n).replica)
   reach_grows w v e (restart n member) = omega arith
 
-  performed_next : (w : World Op Reply) (n : ℕ) (o : Option (Command Op)) → (node w.cluster n).replica.slot_out ≤ w.reach + 1 → (after_performing rules w n (node w.cluster n).replica o).reach ≤ w.reach + 1
+  performed_next : (w : World Op Reply) (n : ℕ) (o : Option (Command Op))
+      → (node w.cluster n).replica.slot_out ≤ w.reach + 1
+      → (after_performing rules w n (node w.cluster n).replica o).reach ≤ w.reach + 1
   performed_next w n None low = omega arith
   performed_next w n (Some c) low = omega arith
 

@@ -1,5 +1,7 @@
 -- Each row of a replica leaves its book as books are.
-use Rattle.std.proofs.Common.{◌≡◌, ◌≢◌, ◌⊎◌, inl, inr, ⊎_elim, ℕ, ◌+◌, ◌-◌, ◌<◌, ◌≤◌, Bool, true, false, cond, List, [], ◌∷◌, ◌++◌, length, Some, None, Option, refl, sym, ap, ap₂, ◌∙◌, subst, append-nil, length-append, length-drop, arith}
+use Rattle.std.proofs.Common.{◌≡◌, ◌≢◌, ◌⊎◌, inl, inr, ⊎_elim, ℕ, ◌+◌, ◌-◌, ◌<◌, ◌≤◌, Bool, true, false, cond, List, []}
+use Rattle.std.proofs.Common.{◌∷◌, ◌++◌, length, Some, None, Option, refl, sym, ap, ap₂, ◌∙◌, subst, append-nil}
+use Rattle.std.proofs.Common.{length-append, length-drop, arith}
 use Rattle.std.specs.Prelude.{IsSome, is_some}
 use Rattle.std.specs.FinMap.{get, insert, remove, len, contains_key, get-empty, get-remove, len-empty, len-insert, len-remove, empty_of_len}
 use Rattle.std.specs.Ordering.{nat_cmp, eq_by_cmp}
@@ -115,7 +117,9 @@ module _ {C : Type 0} (r : SlotBook C) (n : ℕ) (h : IsBookAfter n r) where
     in_window : IsInWindow r.slot_out s
     in_window = record {
       low = ⊎_elim
-          (λ (before : s < r.slot_out). let first = h.first in let next = open_at.next in absurd (false≢true (subst IsSome open_at.unknown (h.performed.known s (omega arith) before))))
+          (λ (before : s < r.slot_out). let first = h.first in let next =
+          open_at.next in absurd (false≢true
+          (subst IsSome open_at.unknown (h.performed.known s (omega arith) before))))
           (λ (from : r.slot_out ≤ s). from)
           (cases_lt s r.slot_out);
       high = open_at.within;
@@ -162,7 +166,8 @@ module _ {C : Type 0} (r : SlotBook C) (n : ℕ) (h : IsBookAfter n r) where
   proposed_next_booked = proposed_booked (next_proposal r) refl
 
 -- what is pending when a decision is performed: a proposal goes, and comes back as a request where it was lost
-lost_few : {C : Type 0} (same : C → C → Bool) (r : SlotBook C) (o d : Option C) → get r.proposals r.slot_out ≡ o → length (r.requests ++ lost same o d) + len (remove r.proposals r.slot_out) ≤ pending r
+lost_few : {C : Type 0} (same : C → C → Bool) (r : SlotBook C) (o d : Option C) → get r.proposals r.slot_out ≡ o
+    → length (r.requests ++ lost same o d) + len (remove r.proposals r.slot_out) ≤ pending r
 lost_few same r None d e = let a = ap length (append-nil r.requests) in let l = len_without r.proposals r.slot_out in omega arith
 lost_few same r (Some p) None e = let a = ap length (append-nil r.requests) in let l = len_without r.proposals r.slot_out in omega arith
 lost_few same r (Some p) (Some c) e = at (same p c)
@@ -176,7 +181,8 @@ pub advanced_few : {C : Type 0} (same : C → C → Bool) (r : SlotBook C) → p
 advanced_few same r = lost_few same r (get r.proposals r.slot_out) (next_decided r) refl
 
 -- and one less, where the proposal is the one that was decided
-pub advanced_fewer : {C : Type 0} (same : C → C → Bool) (r : SlotBook C) (p c : C) → next_decided r ≡ Some c → get r.proposals r.slot_out ≡ Some p → same p c ≡ true → pending (advanced same r) + 1 ≡ pending r
+pub advanced_fewer : {C : Type 0} (same : C → C → Bool) (r : SlotBook C) (p c : C) → next_decided r ≡ Some c
+    → get r.proposals r.slot_out ≡ Some p → same p c ≡ true → pending (advanced same r) + 1 ≡ pending r
 advanced_fewer same r p c decided there is =
     let none : lost same (get r.proposals r.slot_out) (next_decided r) ≡ [] = ap₂ (lost same) there decided ∙ ap (λ b. cond b [] (p ∷ [])) is in
     let count = ap length none in
@@ -184,7 +190,8 @@ advanced_fewer same r p c decided there is =
     let less = len_less r.proposals r.slot_out p there in
     omega arith
 
-pub advanced_booked : {C : Type 0} (same : C → C → Bool) (r : SlotBook C) (c : C) (n : ℕ) → next_decided r ≡ Some c → IsBookAfter n r → IsBookAfter n (advanced same r)
+pub advanced_booked : {C : Type 0} (same : C → C → Bool) (r : SlotBook C) (c : C) (n : ℕ) → next_decided r ≡ Some c
+    → IsBookAfter n r → IsBookAfter n (advanced same r)
 advanced_booked same r c n decided h = record {
   performed = record {
     first = omega arith;

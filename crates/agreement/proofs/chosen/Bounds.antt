@@ -1,5 +1,6 @@
 -- Rounds and boots grow by at most one with each event: so there is always a next ballot.
-use Rattle.std.proofs.Common.{◌≡◌, ◌≢◌, ⊎_elim, ℕ, ◌+◌, ◌≤◌, Bool, true, false, cond, List, [], ◌∷◌, map, filter, Some, None, Option, refl, sym, ap, subst, arith}
+use Rattle.std.proofs.Common.{◌≡◌, ◌≢◌, ⊎_elim, ℕ, ◌+◌, ◌≤◌, Bool, true, false, cond, List, [], ◌∷◌, map, filter, Some}
+use Rattle.std.proofs.Common.{None, Option, refl, sym, ap, subst, arith}
 use Rattle.std.specs.Prelude.{◌==◌, not, nat_le, ⊤, ◌^◌}
 use Rattle.std.specs.FinMap.{entries, empty, insert}
 use Rattle.std.proofs.lemmas.Bool.{cases_eq}
@@ -71,7 +72,12 @@ body_more r (Decision s c) h = tt
 body_more r (Ask s) h = tt
 
 node_more : {C : Type 0} (r : ℕ) (x : NodeState C) → NodeWithin r x → NodeWithin (r + 1) x
-node_more r x h = record { boot = let q = h.boot in omega arith; leader = let q = h.leader in omega arith; promised = λ b e. let q = h.promised b e in omega arith }
+node_more r x h = record {
+  boot = let q = h.boot in omega arith;
+  leader = let q = h.leader in omega arith;
+  promised =
+      λ b e. let q = h.promised b e in omega arith;
+}
 
 pub within_more : {C : Type 0} (r : ℕ) (k : Cluster C) → IsWithin r k → IsWithin (r + 1) k
 within_more r k h = record {
@@ -101,7 +107,10 @@ module _ {C : Type 0} (r : ℕ) (l : Leading C) (h : l.ballot.round ≤ r) where
       wakes : Done (Leading C) C
       wakes = record { state = record l { scout = Some (new_scout l.members l.ballot) }; says = P1a l.ballot ∷ [] }
 
-  preempted_if : (b : Numbers) → b.round ≤ r → (test : Bool) → Bounded r (silently (cond test (record l { ballot = next_after b l.ballot.node l.ballot.boot; active = false; scout = None; commanders = empty }) l))
+  preempted_if : (b : Numbers) → b.round ≤ r → (test : Bool)
+      → Bounded r (silently (cond test
+      (record l { ballot = next_after b l.ballot.node l.ballot.boot; active = false; scout = None; commanders = empty })
+      l))
   preempted_if b low true = record { round = omega arith; says = tt }
   preempted_if b low false = silent_bounded l refl
 
@@ -125,7 +134,8 @@ module _ {C : Type 0} (r : ℕ) (l : Leading C) (h : l.ballot.round ≤ r) where
   heard_if taken s true = adopted_bounded taken
   heard_if taken s false = silent_bounded _ refl
 
-  at_scout_bounded : (m : ℕ) (b : Numbers) (report : List (Pvalue C)) (taken : Slots C) → b.round ≤ r → (o : Option (Scouting C)) → Bounded r (at_scout l m b report taken o)
+  at_scout_bounded : (m : ℕ) (b : Numbers) (report : List (Pvalue C)) (taken : Slots C) → b.round ≤ r
+      → (o : Option (Scouting C)) → Bounded r (at_scout l m b report taken o)
   at_scout_bounded m b report taken low None = silent_bounded l refl
   at_scout_bounded m b report taken low (Some s) =
       hearing_if taken (is_member s.members m) _ _
@@ -153,12 +163,14 @@ module _ {C : Type 0} (r : ℕ) (l : Leading C) (h : l.ballot.round ≤ r) where
       voting_if s (is_same b c.pvalue.ballot) (counts c m) _ (voted_if s (counts c m).commander (is_majority c.members (add c.heard m)))
       (voting_if s (is_below c.pvalue.ballot b) _ _ (preempted_bounded b (low b refl)) (silent_bounded _ refl))
 
-  at_commander_bounded : (m : ℕ) (b : Option Numbers) (s : ℕ) → ((y : Numbers) → b ≡ Some y → y.round ≤ r) → (o : Option (Commanding C)) → Bounded r (at_commander l m b s o)
+  at_commander_bounded : (m : ℕ) (b : Option Numbers) (s : ℕ) → ((y : Numbers) → b ≡ Some y → y.round ≤ r)
+      → (o : Option (Commanding C)) → Bounded r (at_commander l m b s o)
   at_commander_bounded m b s low None = silent_bounded l refl
   at_commander_bounded m b s low (Some c) = voting_if s (is_member c.members m) _ _ (votes_bounded m b s c low) (silent_bounded _ refl)
 
   p2b_bounded : (m : ℕ) (b : Option Numbers) (s : ℕ) (by : Numbers) → ((y : Numbers) → b ≡ Some y → y.round ≤ r) → Bounded r (votes_of.on_p2b l m b s by)
-  p2b_bounded m b s by low = bounded_if (silently l) _ (answers_another l b by) (λ e. silent_bounded l refl) (λ e. at_commander_bounded m b s low (Rattle.std.specs.FinMap.get l.commanders s))
+  p2b_bounded m b s by low = bounded_if (silently l) _ (answers_another l b by) (λ e. silent_bounded l refl)
+      (λ e. at_commander_bounded m b s low (Rattle.std.specs.FinMap.get l.commanders s))
 
   proposed_bounded : (s : ℕ) (c : C) → Bounded r (on_propose l s c)
   proposed_bounded s c =
@@ -174,10 +186,12 @@ promised_more r (Some y) b h low = at (is_below y b)
     at false = h y refl
 
 module _ (laws : BallotLaws) {C : Type 0} (k : Cluster C) (i : IsSound k) (r : ℕ) (w : IsWithin r k) where
-  module _ (n : ℕ) (member : is_member k.members n ≡ true) (x : NodeState C) (out : List (Letter C)) (fine : NodeWithin (r + 1) x) (sent : Each (λ l. BodyWithin (r + 1) l.body) out) where
+  module _ (n : ℕ) (member : is_member k.members n ≡ true) (x : NodeState C) (out : List (Letter C))
+      (fine : NodeWithin (r + 1) x) (sent : Each (λ l. BodyWithin (r + 1) l.body) out) where
     now_node : (m : ℕ) → NodeWithin (r + 1) (node (turned k n x out) m)
     now_node m = ⊎_elim
-        (λ (e : m ≡ n). subst (λ z. NodeWithin (r + 1) (node (turned k n x out) z)) (sym e) (subst (NodeWithin (r + 1)) (sym (here laws k i n member x out)) fine))
+        (λ (e : m ≡ n). subst (λ z. NodeWithin (r + 1) (node (turned k n x out) z)) (sym e)
+        (subst (NodeWithin (r + 1)) (sym (here laws k i n member x out)) fine))
         (λ (apart : m ≢ n). subst (NodeWithin (r + 1)) (sym (there laws k i n member x out m apart)) (node_more r (node k m) (w.nodes m)))
         (cases_eq m n)
 
@@ -194,17 +208,26 @@ module _ (laws : BallotLaws) {C : Type 0} (k : Cluster C) (i : IsSound k) (r : �
     old : NodeWithin (r + 1) (node k n)
     old = node_more r (node k n) (w.nodes n)
 
-    leader_within : (d : Done (Leading C) C) → Bounded r d → IsWithin (r + 1) (turned k n (record (node k n) { leader = d.state }) (all_to_all k.members n d.says))
+    leader_within : (d : Done (Leading C) C) → Bounded r d
+        → IsWithin (r + 1) (turned k n (record (node k n) { leader = d.state }) (all_to_all k.members n d.says))
     leader_within d b = turn_within n member _ _ (record { boot = old.boot; leader = b.round; promised = old.promised }) (said d.says b.says)
 
-    replica_within : (book : SlotBook C) (out : List (Letter C)) → Each (λ l. BodyWithin (r + 1) l.body) out → IsWithin (r + 1) (turned k n (record (node k n) { replica = book }) out)
+    replica_within : (book : SlotBook C) (out : List (Letter C)) → Each (λ l. BodyWithin (r + 1) l.body) out
+        → IsWithin (r + 1) (turned k n (record (node k n) { replica = book }) out)
     replica_within book out h = turn_within n member _ out (record { boot = old.boot; leader = old.leader; promised = old.promised }) h
 
-    receive_within : (m : ℕ) (body : LetterBody C) → BodyWithin r body → (x : NodeState C) (out : List (Letter C)) → Receives k.members m n (node k n) body x out → IsWithin (r + 1) (turned k n x out)
+    receive_within : (m : ℕ) (body : LetterBody C) → BodyWithin r body → (x : NodeState C) (out : List (Letter C))
+        → Receives k.members m n (node k n) body x out → IsWithin (r + 1) (turned k n x out)
     receive_within m body low x out (promises_ballot b report is) =
         let top = promised_more r (node k n).acceptor.promised b (w.nodes n).promised low in
         turn_within n member _ _
-        (record { boot = old.boot; leader = old.leader; promised = λ y e. subst (λ (q : Option Numbers). q ≡ Some y → y.round ≤ r + 1) refl (λ f. let g = ap round_of f in omega arith) e })
+        (record {
+          boot = old.boot;
+          leader = old.leader;
+          promised =
+              λ y e. subst (λ (q : Option Numbers). q ≡ Some y → y.round ≤ r + 1) refl
+              (λ f. let g = ap round_of f in omega arith) e;
+        })
         (omega arith, tt)
       where
         round_of : Option Numbers → ℕ
@@ -212,7 +235,8 @@ module _ (laws : BallotLaws) {C : Type 0} (k : Cluster C) (i : IsSound k) (r : �
         round_of (Some y) = y.round
     receive_within m body low x out (accepts_pvalue p) =
         turn_within n member _ _ (record { boot = old.boot; leader = old.leader; promised = old.promised }) ((λ b e. old.promised b e), tt)
-    receive_within m body low x out (hears_promise b report fresh taken may) = leader_within _ (p1b_bounded r (node k n).leader (w.nodes n).leader m b fresh taken low)
+    receive_within m body low x out (hears_promise b report fresh taken may) =
+        leader_within _ (p1b_bounded r (node k n).leader (w.nodes n).leader m b fresh taken low)
     receive_within m body low x out (hears_vote b s by) = leader_within _ (p2b_bounded r (node k n).leader (w.nodes n).leader m b s by low)
     receive_within m body low x out (hears_proposal s c) = leader_within _ (proposed_bounded r (node k n).leader (w.nodes n).leader s c)
     receive_within m body low x out (learns s c) = replica_within _ [] tt
@@ -225,8 +249,12 @@ module _ (laws : BallotLaws) {C : Type 0} (k : Cluster C) (i : IsSound k) (r : �
     scout_within None e = tt
     scout_within (Some s) e = let same = ap (λ b. b.round) ((i.nodes n).leader.scouting s e).own.ballot in let low = (w.nodes n).leader in (omega arith, tt)
 
-    asks_if : (s : ℕ) (test : Bool) → Each (λ (l : Letter C). BodyWithin (r + 1) l.body) (cond test (map (letter n (Ask s)) (filter (λ m. not (m == n)) (numbers k.members))) [])
-    asks_if s true = Each-map (λ l. BodyWithin (r + 1) l.body) (letter n (Ask s)) (filter (λ m. not (m == n)) (numbers k.members)) (Each-all _ (filter (λ m. not (m == n)) (numbers k.members)) (λ m. tt))
+    asks_if : (s : ℕ) (test : Bool)
+        → Each (λ (l : Letter C). BodyWithin (r + 1) l.body)
+        (cond test (map (letter n (Ask s)) (filter (λ m. not (m == n)) (numbers k.members))) [])
+    asks_if s true = Each-map (λ l. BodyWithin (r + 1) l.body) (letter n (Ask s))
+        (filter (λ m. not (m == n)) (numbers k.members))
+        (Each-all _ (filter (λ m. not (m == n)) (numbers k.members)) (λ m. tt))
     asks_if s false = tt
 
     nudge_within : IsWithin (r + 1) (turned k n (node k n) (said_again k.members n (node k n)))
@@ -236,9 +264,13 @@ module _ (laws : BallotLaws) {C : Type 0} (k : Cluster C) (i : IsSound k) (r : �
         (said (says_again (node k n).leader)
         (Each-append (BodyWithin (r + 1)) (scout_says (node k n).leader.scout) (map (λ e. P2a e.1.pvalue) (entries (node k n).leader.commanders))
         (scout_within (node k n).leader.scout refl)
-        (Each-map (BodyWithin (r + 1)) (λ e. P2a e.1.pvalue) (entries (node k n).leader.commanders) (Each-all _ (entries (node k n).leader.commanders) (λ e. tt)))))
-        (Each-append (λ l. BodyWithin (r + 1) l.body) (all_to_all k.members n (proposes_again (node k n).replica)) (asks_others k.members n (node k n).replica.slot_out)
-        (said (proposes_again (node k n).replica) (Each-map (BodyWithin (r + 1)) (λ e. Propose e.0 e.1) (entries (node k n).replica.proposals) (Each-all _ (entries (node k n).replica.proposals) (λ e. tt))))
+        (Each-map (BodyWithin (r + 1)) (λ e. P2a e.1.pvalue) (entries (node k n).leader.commanders)
+        (Each-all _ (entries (node k n).leader.commanders) (λ e. tt)))))
+        (Each-append (λ l. BodyWithin (r + 1) l.body) (all_to_all k.members n (proposes_again (node k n).replica))
+        (asks_others k.members n (node k n).replica.slot_out)
+        (said (proposes_again (node k n).replica)
+        (Each-map (BodyWithin (r + 1)) (λ e. Propose e.0 e.1) (entries (node k n).replica.proposals)
+        (Each-all _ (entries (node k n).replica.proposals) (λ e. tt))))
         (asks_if (node k n).replica.slot_out (nat_le (node k n).replica.slot_out (2 ^ 62)))))
 
     restart_within : IsWithin (r + 1) (turned k n (restarted k.members n (node k n)) [])
@@ -249,18 +281,29 @@ module _ (laws : BallotLaws) {C : Type 0} (k : Cluster C) (i : IsSound k) (r : �
     asked_within (Some p) = (tt, tt)
 
 module _ (laws : BallotLaws) {O Op Reply : Type 0} (rules : Rules O Op Reply) where
-  performs_within : (w : World Op Reply) → IsSound w.cluster → IsWithin w.taken w.cluster → (n : ℕ) → is_member w.cluster.members n ≡ true → (o : Option (Command Op)) → IsWithin ((after_performing rules w n (node w.cluster n).replica o).taken + 1) (after_performing rules w n (node w.cluster n).replica o).cluster
+  performs_within : (w : World Op Reply) → IsSound w.cluster → IsWithin w.taken w.cluster → (n : ℕ)
+      → is_member w.cluster.members n ≡ true → (o : Option (Command Op))
+      → IsWithin ((after_performing rules w n (node w.cluster n).replica o).taken + 1)
+      (after_performing rules w n (node w.cluster n).replica o).cluster
   performs_within w i h n member None = within_more w.taken w.cluster h
   performs_within w i h n member (Some c) = replica_within laws w.cluster i w.taken h n member _ [] tt
 
-  pub step_within : (w : World Op Reply) (e : Event Op) (u : World Op Reply) → IsSound w.cluster → IsWithin w.taken w.cluster → Step rules w e u → IsWithin u.taken u.cluster
+  pub step_within : (w : World Op Reply) (e : Event Op) (u : World Op Reply) → IsSound w.cluster
+      → IsWithin w.taken w.cluster → Step rules w e u → IsWithin u.taken u.cluster
   step_within w e u i h (submit n c member own) = replica_within laws w.cluster i w.taken h n member _ [] tt
   step_within w e u i h (deliver j l x out at receives) =
       let within = In-get w.cluster.letters j l at in
-      receive_within laws w.cluster i w.taken h l.to (Each-at (IsFair w.cluster) w.cluster.letters l i.letters within).receiver l.«from» l.body (Each-at (λ l. BodyWithin w.taken l.body) w.cluster.letters l h.letters within) x out receives
-  step_within w e u i h (wake n member) = leader_within laws w.cluster i w.taken h n member _ (woken_bounded w.taken (node w.cluster n).leader (h.nodes n).leader)
+      receive_within laws w.cluster i w.taken h l.to
+      (Each-at (IsFair w.cluster) w.cluster.letters l i.letters within).receiver l.«from» l.body
+      (Each-at (λ l. BodyWithin w.taken l.body) w.cluster.letters l h.letters within) x out receives
+  step_within w e u i h (wake n member) =
+      leader_within laws w.cluster i w.taken h n member _
+      (woken_bounded w.taken (node w.cluster n).leader (h.nodes n).leader)
   step_within w e u i h (nudge n member) = nudge_within laws w.cluster i w.taken h n member
-  step_within w e u i h (propose n member) = replica_within laws w.cluster i w.taken h n member _ _ (said laws w.cluster i w.taken h n member _ (asked_within laws w.cluster i w.taken h n member (next_proposal (node w.cluster n).replica)))
+  step_within w e u i h (propose n member) =
+      replica_within laws w.cluster i w.taken h n member _ _
+      (said laws w.cluster i w.taken h n member _
+      (asked_within laws w.cluster i w.taken h n member (next_proposal (node w.cluster n).replica)))
   step_within w e u i h (perform n member) = performs_within w i h n member (next_decided (node w.cluster n).replica)
   step_within w e u i h (restart n member) = restart_within laws w.cluster i w.taken h n member
 
@@ -270,7 +313,8 @@ module _ (laws : BallotLaws) {O Op Reply : Type 0} (rules : Rules O Op Reply) wh
     letters = tt;
   }
 
-  pub leads_within : (w u : World Op Reply) (es : List (Event Op)) → IsSound w.cluster → IsWithin w.taken w.cluster → Leads rules w es u → IsWithin u.taken u.cluster
+  pub leads_within : (w u : World Op Reply) (es : List (Event Op)) → IsSound w.cluster → IsWithin w.taken w.cluster
+      → Leads rules w es u → IsWithin u.taken u.cluster
   leads_within w u es i h at_once = h
   leads_within w u es i h (after {es = before} {v = v} e u' l s) =
       step_within v e u (leads_sound laws rules w v before i l).sound (leads_within w v before i h l) s

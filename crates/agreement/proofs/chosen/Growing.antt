@@ -1,5 +1,6 @@
 -- Orders only grow, and so do happenings.
-use Rattle.std.proofs.Common.{◌≡◌, ℕ, ◌+◌, ◌≤◌, Bool, true, false, cond, List, [], ◌∷◌, ◌++◌, length, length-append, Option, Some, None, refl, sym, ap, ap₂, ◌∙◌, append-nil, append_assoc, arith, ⊎_elim}
+use Rattle.std.proofs.Common.{◌≡◌, ℕ, ◌+◌, ◌≤◌, Bool, true, false, cond, List, [], ◌∷◌, ◌++◌, length, length-append}
+use Rattle.std.proofs.Common.{Option, Some, None, refl, sym, ap, ap₂, ◌∙◌, append-nil, append_assoc, arith, ⊎_elim}
 use Rattle.object.specs.Lists.{In, IsBeginning}
 use Rattle.object.specs.declared.command.Command.{Command}
 use Rattle.object.specs.declared.command.Submission.{Submission}
@@ -50,11 +51,21 @@ one_list laws k i s [] (d ∷ ds) h f = absurd (h d f.0)
 one_list laws k i s (c ∷ cs) [] h f = absurd (f c h.0)
 one_list laws k i s (c ∷ cs) (d ∷ ds) h f = ap₂ (λ x xs. x ∷ xs) (agree laws k i s c d h.0 f.0) (one_list laws k i (s + 1) cs ds h.1 f.1)
 
-submissions_go_on : {Op Reply : Type 0} (h : Happenings Op Reply) (c : Command Op) (test : Bool) → GoesOn h (cond test h (record h { submitted = h.submitted ++ (record { command = c; after = length h.answers } ∷ []) }))
+submissions_go_on : {Op Reply : Type 0} (h : Happenings Op Reply) (c : Command Op) (test : Bool)
+    → GoesOn h (cond test h (record h {
+      submitted =
+          h.submitted ++ (record { command = c; after = length h.answers } ∷ []);
+    }))
 submissions_go_on h c true = record { answers = ([], sym (append-nil h.answers)); submitted = ([], sym (append-nil h.submitted), λ s i. absurd i) }
 submissions_go_on h c false = record {
   answers = ([], sym (append-nil h.answers));
-  submitted = (record { command = c; after = length h.answers } ∷ [], refl, λ s i. ⊎_elim (λ (e : s ≡ record { command = c; after = length h.answers }). let f = ap (λ y. y.after) e in omega arith) (λ (never : ⊥). absurd never) i);
+  submitted = (
+    record { command = c; after = length h.answers } ∷ [],
+    refl,
+    λ s i. ⊎_elim
+        (λ (e : s ≡ record { command = c; after = length h.answers }). let f = ap (λ y. y.after) e in omega arith)
+        (λ (never : ⊥). absurd never) i,
+  );
 }
 
 pub goes_on_itself : {Op Reply : Type 0} (h : Happenings Op Reply) → GoesOn h h
@@ -63,19 +74,32 @@ goes_on_itself h = record { answers = ([], sym (append-nil h.answers)); submitte
 pub goes_on_trans : {Op Reply : Type 0} (f g h : Happenings Op Reply) → GoesOn f g → GoesOn g h → GoesOn f h
 goes_on_trans f g h a b = record {
   answers = beginning_trans f.answers g.answers h.answers a.answers b.answers;
-  submitted = (a.submitted.0 ++ b.submitted.0, b.submitted.1 ∙ ap (λ l. l ++ b.submitted.0) a.submitted.1 ∙ append_assoc f.submitted a.submitted.0 b.submitted.0, more);
+  submitted = (
+    a.submitted.0 ++ b.submitted.0,
+    b.submitted.1 ∙ ap
+        (λ l. l ++ b.submitted.0) a.submitted.1 ∙ append_assoc f.submitted a.submitted.0 b.submitted.0,
+    more,
+  );
 }
   where
     fewer : length f.answers ≤ length g.answers
     fewer = let e = ap length a.answers.1 ∙ length-append f.answers a.answers.0 in omega arith
 
     more : (s : Submission _) → In s (a.submitted.0 ++ b.submitted.0) → length f.answers ≤ s.after
-    more s i = ⊎_elim (λ (x : In s a.submitted.0). a.submitted.2 s x) (λ (y : In s b.submitted.0). let l = b.submitted.2 s y in let m = fewer in omega arith) (In-cases s a.submitted.0 b.submitted.0 i)
+    more s i = ⊎_elim (λ (x : In s a.submitted.0). a.submitted.2 s x)
+        (λ (y : In s b.submitted.0). let l = b.submitted.2 s y in let m = fewer in omega arith)
+        (In-cases s a.submitted.0 b.submitted.0 i)
 
 module _ {O Op Reply : Type 0} (rules : Rules O Op Reply) where
-  performs_on : (w : World Op Reply) (n : ℕ) (o : Option (Command Op)) → GoesOn w.happenings (after_performing rules w n (node w.cluster n).replica o).happenings
+  performs_on : (w : World Op Reply) (n : ℕ) (o : Option (Command Op))
+      → GoesOn w.happenings (after_performing rules w n (node w.cluster n).replica o).happenings
   performs_on w n None = goes_on_itself w.happenings
-  performs_on w n (Some c) = record { answers = (answers_after rules (history (node w.cluster n).replica) c, refl); submitted = ([], sym (append-nil w.happenings.submitted), λ s i. absurd i) }
+  performs_on w n (Some c) = record {
+    answers =
+        (answers_after rules (history (node w.cluster n).replica) c, refl);
+    submitted =
+        ([], sym (append-nil w.happenings.submitted), λ s i. absurd i);
+  }
 
   pub step_goes_on : (w : World Op Reply) (e : Event Op) (u : World Op Reply) → Step rules w e u → GoesOn w.happenings u.happenings
   step_goes_on w e u (submit n c member own) = submissions_go_on w.happenings c (is_submitted c.key w.happenings.submitted)
@@ -89,11 +113,13 @@ module _ {O Op Reply : Type 0} (rules : Rules O Op Reply) where
   -- the happenings of a world go on in every later one
   pub happenings_go_on : (w u : World Op Reply) (es : List (Event Op)) → Leads rules w es u → GoesOn w.happenings u.happenings
   happenings_go_on w u es at_once = goes_on_itself w.happenings
-  happenings_go_on w u es (after {es = before} {v = v} e u' l s) = goes_on_trans w.happenings v.happenings u.happenings (happenings_go_on w v before l) (step_goes_on v e u s)
+  happenings_go_on w u es (after {es = before} {v = v} e u' l s) =
+      goes_on_trans w.happenings v.happenings u.happenings (happenings_go_on w v before l) (step_goes_on v e u s)
 
 module _ (laws : BallotLaws) {O Op Reply : Type 0} (rules : Rules O Op Reply) where
   -- the order of a world is a beginning of the order of every later one
-  pub order_grows : (w u : World Op Reply) (es : List (Event Op)) → IsReachable rules w → Leads rules w es u → (cs ds : List (Command Op)) → IsOrder w.cluster cs → IsOrder u.cluster ds → IsBeginning cs ds
+  pub order_grows : (w u : World Op Reply) (es : List (Event Op)) → IsReachable rules w → Leads rules w es u
+      → (cs ds : List (Command Op)) → IsOrder w.cluster cs → IsOrder u.cluster ds → IsBeginning cs ds
   order_grows w u es r l cs ds h f =
       let now : Kept w.cluster u.cluster = leads_sound laws rules w u es (reachable_sound laws rules w r) l in
       let b : IsBeginning (kept h.0) (kept f.0) = kept_beginning h.0 f.0 (chosen_beginning laws w.cluster u.cluster now.grows now.sound 1 h.0 f.0 h.1 f.1) in

@@ -15,7 +15,8 @@ use Rattle.node.specs.Nodes.{NodeState}
 use Rattle.agreement.specs.Nodes.{Cluster, node}
 use Rattle.agreement.specs.Chosen.{IsChosenAt, IsChosen}
 use Rattle.ballot.specs.OrderLaws.{BallotLaws, IsUpto, IsUnder, not_both}
-use Rattle.agreement.proofs.chosen.Invariants.{Asked, IsBlocked, IsSafe, IsPromise, IsVote, IsTrueOf, IsFair, IsGathering, IsScouting, IsVoting, IsAcceptor, IsLeading, IsNode}
+use Rattle.agreement.proofs.chosen.Invariants.{Asked, IsBlocked, IsSafe, IsPromise, IsVote, IsTrueOf, IsFair}
+use Rattle.agreement.proofs.chosen.Invariants.{IsGathering, IsScouting, IsVoting, IsAcceptor, IsLeading, IsNode}
 
 -- no promise was above this ballot
 abbrev pub IsLate : Option Numbers → Numbers → Type 0
@@ -48,7 +49,13 @@ acceptor_trans a b c g h = record {
 }
 
 pub grows_trans : {C : Type 0} (k v z : Cluster C) → Grows k v → Grows v z → Grows k z
-grows_trans k v z g h = record { members = h.members ∙ g.members; letters = λ l i. h.letters l (g.letters l i); acceptors = λ m. acceptor_trans (node k m).acceptor (node v m).acceptor (node z m).acceptor (g.acceptors m) (h.acceptors m) }
+grows_trans k v z g h = record {
+  members = h.members ∙ g.members;
+  letters =
+      λ l i. h.letters l (g.letters l i);
+  acceptors =
+      λ m. acceptor_trans (node k m).acceptor (node v m).acceptor (node z m).acceptor (g.acceptors m) (h.acceptors m);
+}
 
 not_under : (laws : BallotLaws) (b : Numbers) (o : Option Numbers) → IsLate o b → IsUnder b o → ⊥
 not_under laws b None late h = h
@@ -65,7 +72,12 @@ module _ {C : Type 0} (k z : Cluster C) (g : Grows k z) where
   majority_stays row h = subst (λ ws. is_majority ws row ≡ true) (sym g.members) h
 
   pub chosen_at_stays : (b : Numbers) (s : ℕ) (c : C) → IsChosenAt k b s c → IsChosenAt z b s c
-  chosen_at_stays b s c h = record { voters = h.voters; majority = majority_stays h.voters h.majority; accepted = λ m x. (g.acceptors m).accepted _ (h.accepted m x) }
+  chosen_at_stays b s c h = record {
+    voters = h.voters;
+    majority = majority_stays h.voters h.majority;
+    accepted =
+        λ m x. (g.acceptors m).accepted _ (h.accepted m x);
+  }
 
   pub chosen_stays : (s : ℕ) (c : C) → IsChosen k s c → IsChosen z s c
   chosen_stays s c h = (h.0, chosen_at_stays h.0 s c h.1)
@@ -82,17 +94,22 @@ module _ (laws : BallotLaws) {C : Type 0} (k z : Cluster C) (g : Grows k z) wher
     row = h.row;
     majority = majority_stays k z g h.row h.majority;
     promised = λ m x. (g.acceptors m).under b (h.promised m x);
-    nothing = λ m x c i. ⊎_elim (λ (was : In (pvalue b s c) (node k m).acceptor.accepted). h.nothing m x c was) (λ (late : IsLate (node k m).acceptor.promised b). not_under laws b (node k m).acceptor.promised late (h.promised m x)) ((g.acceptors m).new (pvalue b s c) i);
+    nothing = λ m x c i. ⊎_elim (λ (was : In (pvalue b s c) (node k m).acceptor.accepted). h.nothing m x c was)
+        (λ (late : IsLate (node k m).acceptor.promised b). not_under laws b (node k m).acceptor.promised late
+        (h.promised m x)) ((g.acceptors m).new (pvalue b s c) i);
   }
 
   pub safe_stays : (b : Numbers) (s : ℕ) (c : C) → IsSafe k b s c → IsSafe z b s c
-  safe_stays b s c h a x = ⊎_elim (λ (y : Asked k.letters (pvalue a s c)). inl (asked_stays k z g (pvalue a s c) y)) (λ (y : IsBlocked k a s). inr (blocked_stays a s y)) (h a x)
+  safe_stays b s c h a x = ⊎_elim (λ (y : Asked k.letters (pvalue a s c)). inl (asked_stays k z g (pvalue a s c) y))
+      (λ (y : IsBlocked k a s). inr (blocked_stays a s y)) (h a x)
 
   pub promise_stays : (m : ℕ) (b : Numbers) (report : List (Pvalue C)) → IsPromise k m b report → IsPromise z m b report
   promise_stays m b report h = record {
     promised = (g.acceptors m).promised b h.promised;
     sent = λ p i. asked_stays k z g p (h.sent p i);
-    greatest = λ p i x. ⊎_elim (λ (was : In p (node k m).acceptor.accepted). h.greatest p was x) (λ (late : IsLate (node k m).acceptor.promised p.ballot). not_both x (late b h.promised)) ((g.acceptors m).new p i);
+    greatest = λ p i x. ⊎_elim (λ (was : In p (node k m).acceptor.accepted). h.greatest p was x)
+        (λ (late : IsLate (node k m).acceptor.promised p.ballot). not_both x (late b h.promised))
+        ((g.acceptors m).new p i);
   }
 
   pub true_stays : (m : ℕ) (body : LetterBody C) → IsTrueOf k m body → IsTrueOf z m body
@@ -105,7 +122,13 @@ module _ (laws : BallotLaws) {C : Type 0} (k z : Cluster C) (g : Grows k z) wher
   true_stays m (Ask s) h = tt
 
   pub fair_stays : (l : Letter C) → IsFair k l → IsFair z l
-  fair_stays l h = record { says = true_stays l.«from» l.body h.says; sender = subst (λ ws. is_member ws l.«from» ≡ true) (sym g.members) h.sender; receiver = subst (λ ws. is_member ws l.to ≡ true) (sym g.members) h.receiver }
+  fair_stays l h = record {
+    says = true_stays l.«from» l.body h.says;
+    sender =
+        subst (λ ws. is_member ws l.«from» ≡ true) (sym g.members) h.sender;
+    receiver =
+        subst (λ ws. is_member ws l.to ≡ true) (sym g.members) h.receiver;
+  }
 
   pub gathering_stays : (b : Numbers) (heard : List Bool) (gathered : List (Pvalue C)) → IsGathering k b heard gathered → IsGathering z b heard gathered
   gathering_stays b heard gathered h = record {

@@ -46,7 +46,8 @@ pub record IsOwned {C : Type 0} (x : NodeState C) (p : Pvalue C) : Type 0 where
 pub record IsPromise {C : Type 0} (k : Cluster C) (m : ℕ) (b : Numbers) (report : List (Pvalue C)) : Type 0 where
   pub promised : IsUpto b (node k m).acceptor.promised
   pub sent : (p : Pvalue C) → In p report → Asked k.letters p
-  pub greatest : (p : Pvalue C) → In p (node k m).acceptor.accepted → is_below p.ballot b ≡ true → (q : Pvalue C) × In q report × (q.slot ≡ p.slot) × (is_below q.ballot p.ballot ≡ false)
+  pub greatest : (p : Pvalue C) → In p (node k m).acceptor.accepted → is_below p.ballot b ≡ true → (q : Pvalue C)
+      × In q report × (q.slot ≡ p.slot) × (is_below q.ballot p.ballot ≡ false)
 
 -- acceptor m accepted something at this slot and ballot
 abbrev pub IsVote : {C : Type 0} → Cluster C → ℕ → ℕ → Numbers → Type 0
@@ -118,7 +119,8 @@ module _ (laws : BallotLaws) {C : Type 0} (k : Cluster C) (i : IsSound k) where
   -- every pvalue was asked for
   pub was_asked : (p : Pvalue C) → IsPvalue k p → Asked k.letters p
   was_asked p (asked l at same) = (l, at, same)
-  was_asked p (reported l b report at same within) = (subst (λ body. IsTrueOf k l.«from» body) same (Each-at (IsFair k) k.letters l i.letters at).says).sent p within
+  was_asked p (reported l b report at same within) =
+      (subst (λ body. IsTrueOf k l.«from» body) same (Each-at (IsFair k) k.letters l i.letters at).says).sent p within
   was_asked p (accepted m within) = (i.nodes m).acceptor.sent p within
 
   -- who accepted a chosen command

@@ -24,7 +24,8 @@ use Rattle.agreement.proofs.chosen.LeaderRows.{none_not, off_on, woken_good}
 use Rattle.agreement.proofs.chosen.Rows.{receive_sound, restart_sound, nudge_sound, request_sound, propose_sound, quiet_sound}
 
 module _ (laws : BallotLaws) {O Op Reply : Type 0} (rules : Rules O Op Reply) where
-  performs_sound : (w : World Op Reply) → IsSound w.cluster → (n : ℕ) → is_member w.cluster.members n ≡ true → (o : Option (Command Op)) → Kept w.cluster (after_performing rules w n (node w.cluster n).replica o).cluster
+  performs_sound : (w : World Op Reply) → IsSound w.cluster → (n : ℕ) → is_member w.cluster.members n ≡ true
+      → (o : Option (Command Op)) → Kept w.cluster (after_performing rules w n (node w.cluster n).replica o).cluster
   performs_sound w i n member None = record { sound = i; grows = grows_itself w.cluster }
   performs_sound w i n member (Some c) = quiet_sound laws w.cluster i n member (advanced (is_one rules) (node w.cluster n).replica) refl
 
@@ -32,7 +33,8 @@ module _ (laws : BallotLaws) {O Op Reply : Type 0} (rules : Rules O Op Reply) wh
   step_sound w e u i (submit n c member own) = request_sound laws w.cluster i n member (is_one rules) c
   step_sound w e u i (deliver j l x out at receives) =
       let fair = Each-at (IsFair w.cluster) w.cluster.letters l i.letters (In-get w.cluster.letters j l at) in
-      receive_sound laws w.cluster i l.to fair.receiver l.«from» fair.sender l.body fair.says (λ p same. (l, In-get w.cluster.letters j l at, same)) x out receives
+      receive_sound laws w.cluster i l.to fair.receiver l.«from» fair.sender l.body fair.says
+      (λ p same. (l, In-get w.cluster.letters j l at, same)) x out receives
   step_sound w e u i (wake n member) = leader_sound laws w.cluster i n member _ (woken_good laws w.cluster i n (node w.cluster n) (i.nodes n))
   step_sound w e u i (nudge n member) = nudge_sound laws w.cluster i n member
   step_sound w e u i (propose n member) = propose_sound laws w.cluster i n member
@@ -48,7 +50,9 @@ new_fine k n = record {
   decisions = λ s c e. none_in_empty s c e;
 }
 
-opened : {C : Type 0} (members : List ℕ) (len base j n : ℕ) → n ≡ base + j → slice_index_or (map (new_node {C = C} members) (range_with_len base len)) j (new_node members n) ≡ new_node members n
+opened : {C : Type 0} (members : List ℕ) (len base j n : ℕ) → n ≡ base + j
+    → slice_index_or (map (new_node {C = C} members) (range_with_len base len)) j (new_node members n)
+    ≡ new_node members n
 opened members zero base j n e = refl
 opened members (suc len) base zero n e = ap (new_node members) (omega arith)
 opened members (suc len) base (suc j) n e = opened members len (base + 1) j n (omega arith)
@@ -84,8 +88,11 @@ module _ (laws : BallotLaws) {O Op Reply : Type 0} (rules : Rules O Op Reply) wh
 
   -- one event more
   pub one_more : (w : World Op Reply) (e : Event Op) (u : World Op Reply) → IsReachable rules w → Step rules w e u → IsReachable rules u
-  one_more w e u r s =
-      (r.0 ++ (e ∷ []), subst (λ ms. Leads rules (opening ms) (r.0 ++ (e ∷ [])) u) (sym (step_sound laws rules w e u (reachable_sound w r) s).grows.members) (after e u r.1 s))
+  one_more w e u r s = (
+    r.0 ++ (e ∷ []),
+    subst (λ ms. Leads rules (opening ms) (r.0 ++ (e ∷ [])) u)
+        (sym (step_sound laws rules w e u (reachable_sound w r) s).grows.members) (after e u r.1 s),
+  )
 
   pub opening_reachable : (members : List ℕ) → IsReachable rules (opening members)
   opening_reachable members = ([], at_once)

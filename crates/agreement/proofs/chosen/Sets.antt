@@ -1,5 +1,6 @@
 -- Sets of members.
-use Rattle.std.proofs.Common.{◌≡◌, ◌⊎◌, inl, inr, ⊎_elim, ℕ, zero, suc, ◌+◌, ◌<◌, ◌≤◌, Bool, true, false, true≢false, List, [], ◌∷◌, length, replicate, refl, sym, ap, subst, arith}
+use Rattle.std.proofs.Common.{◌≡◌, ◌⊎◌, inl, inr, ⊎_elim, ℕ, zero, suc, ◌+◌, ◌<◌, ◌≤◌, Bool, true, false, true≢false}
+use Rattle.std.proofs.Common.{List, [], ◌∷◌, length, replicate, refl, sym, ap, subst, arith}
 use Rattle.std.specs.List.{range_with_len}
 use Rattle.std.specs.Prelude.{slice_index_or}
 use Rattle.std.proofs.lemmas.Bool.Decides.{nat_tests}
@@ -22,7 +23,8 @@ has_add [] (suc i) (suc j) e = inr e
 has_add (b ∷ bs) (suc zero) (suc zero) e = inl refl
 has_add (b ∷ bs) (suc zero) (suc (suc j)) e = inr e
 has_add (b ∷ bs) (suc (suc i)) (suc zero) e = inr e
-has_add (b ∷ bs) (suc (suc i)) (suc (suc j)) e = ⊎_elim (λ (x : suc j ≡ suc i). inl (ap suc x)) (λ (h : has bs (suc j) ≡ true). inr h) (has_add bs (suc i) (suc j) e)
+has_add (b ∷ bs) (suc (suc i)) (suc (suc j)) e =
+    ⊎_elim (λ (x : suc j ≡ suc i). inl (ap suc x)) (λ (h : has bs (suc j) ≡ true). inr h) (has_add bs (suc i) (suc j) e)
 
 pub member_bounds : (ws : List ℕ) (n : ℕ) → is_member ws n ≡ true → (1 ≤ n) × (n ≤ length ws)
 member_bounds ws n h = (grind (arith, nat_tests), grind (arith, nat_tests))

@@ -29,7 +29,8 @@ use Rattle.agreement.proofs.chosen.Grows.{chosen_stays}
 use Rattle.agreement.proofs.chosen.Reach.{reachable_sound, step_sound, one_more}
 
 module _ (laws : BallotLaws) {O Op Reply : Type 0} (rules : Rules O Op Reply) where
-  pub next_world : (v w : World Op Reply) → v ≡ w → (e : Event Op) (u : World Op Reply) → IsWorld rules v → w.taken < most_events → u.taken ≡ v.taken + 1 → Step rules v e u → IsWorld rules u
+  pub next_world : (v w : World Op Reply) → v ≡ w → (e : Event Op) (u : World Op Reply) → IsWorld rules v
+      → w.taken < most_events → u.taken ≡ v.taken + 1 → Step rules v e u → IsWorld rules u
   next_world v w is e u i room count s = record {
     reachable = one_more laws rules v e u i.reachable s;
     few = let same = ap (λ y. y.taken) is in omega arith;
@@ -54,7 +55,8 @@ module _ (laws : BallotLaws) {O Op Reply : Type 0} (rules : Rules O Op Reply) wh
     boots n room = let b = ((reachable_within laws rules v i.reachable).nodes n).boot in let few = i.few in omega arith
 
     -- what is known to be decided is what a Decision says
-    fit_body : (k : Cluster (Command Op)) → k ≡ v.cluster → (m n : ℕ) (body : LetterBody (Command Op)) → IsTrueOf v.cluster m body → BodyWithin v.taken body → IsFit (node v.cluster n) body
+    fit_body : (k : Cluster (Command Op)) → k ≡ v.cluster → (m n : ℕ) (body : LetterBody (Command Op))
+        → IsTrueOf v.cluster m body → BodyWithin v.taken body → IsFit (node v.cluster n) body
     fit_body k same m n (P1a b) says low = tt
     fit_body k same m n (P1b b report) says low = let few = i.few in omega arith
     fit_body k same m n (P2a p) says low = tt
@@ -67,7 +69,9 @@ module _ (laws : BallotLaws) {O Op Reply : Type 0} (rules : Rules O Op Reply) wh
     fit j l at =
         let there = In-get v.cluster.letters j l at in
         let fair = Each-at (IsFair v.cluster) v.cluster.letters l sound.letters there in
-        fit_body v.cluster refl l.«from» l.to l.body fair.says (Each-at (λ l. BodyWithin v.taken l.body) v.cluster.letters l (reachable_within laws rules v i.reachable).letters there)
+        fit_body v.cluster refl l.«from» l.to l.body fair.says
+        (Each-at (λ l. BodyWithin v.taken l.body) v.cluster.letters l
+        (reachable_within laws rules v i.reachable).letters there)
 
     pub receiver : (j : ℕ) (l : Letter (Command Op)) → slice_get v.cluster.letters j ≡ Some l → HasNode l.to v.cluster
     receiver j l at = record {

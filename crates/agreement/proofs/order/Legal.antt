@@ -1,5 +1,6 @@
 -- The happenings of every reachable world are legal for its order.
-use Rattle.std.proofs.Common.{◌≡◌, ◌⊎◌, inl, inr, ⊎_elim, ℕ, zero, suc, ◌<◌, ◌≤◌, true, false, List, [], ◌∷◌, ◌++◌, length, length-append, fold, Some, refl, sym, ap, ◌∙◌, subst, append_assoc, arith}
+use Rattle.std.proofs.Common.{◌≡◌, ◌⊎◌, inl, inr, ⊎_elim, ℕ, zero, suc, ◌<◌, ◌≤◌, true, false, List, [], ◌∷◌, ◌++◌}
+use Rattle.std.proofs.Common.{length, length-append, fold, Some, refl, sym, ap, ◌∙◌, subst, append_assoc, arith}
 use Rattle.std.specs.Prelude.{slice_get}
 use Rattle.std.proofs.lemmas.Bool.{cases_Bool}
 use Rattle.object.specs.Lists.{In, IsBeginning}
@@ -44,30 +45,42 @@ module _ {O Op Reply : Type 0} (rules : Rules O Op Reply) where
       (cases_Bool (is_new c earlier))
 
   -- the answers of the command after a beginning stand at its place
-  given_at : (first : List (Command Op)) (c : Command Op) (more : List (Command Op)) (a : Answer Reply) → In a (rules.answers (fold rules.after rules.fresh first) c) → IsGivenAt rules (first ++ (c ∷ more)) (length first) a
+  given_at : (first : List (Command Op)) (c : Command Op) (more : List (Command Op)) (a : Answer Reply)
+      → In a (rules.answers (fold rules.after rules.fresh first) c)
+      → IsGivenAt rules (first ++ (c ∷ more)) (length first) a
   given_at first c more a i =
       subst (In (record { place = length first; answer = a })) (sym (replay-append rules.after rules.answers rules.fresh first (c ∷ more)))
-      (In-right (record { place = length first; answer = a }) (replay_of rules first) (replay_from rules.after rules.answers (fold rules.after rules.fresh first) (length first) (c ∷ more))
+      (In-right (record { place = length first; answer = a }) (replay_of rules first)
+      (replay_from rules.after rules.answers (fold rules.after rules.fresh first) (length first) (c ∷ more))
       (In-left (record { place = length first; answer = a }) (noted_at (length first) (rules.answers (fold rules.after rules.fresh first) c)) _
       (In-map (λ b. record { place = length first; answer = b }) a (rules.answers (fold rules.after rules.fresh first) c) i)))
 
   -- what is kept of some commands and a new one begins what is kept of more
-  kept_with : (earlier : List (Command Op)) (c : Command Op) (all : List (Command Op)) → is_new c earlier ≡ true → IsBeginning (earlier ++ (c ∷ [])) all → (more : List (Command Op)) × (kept all ≡ kept earlier ++ (c ∷ more))
+  kept_with : (earlier : List (Command Op)) (c : Command Op) (all : List (Command Op)) → is_new c earlier ≡ true
+      → IsBeginning (earlier ++ (c ∷ [])) all → (more : List (Command Op)) × (kept all ≡ kept earlier ++ (c ∷ more))
   kept_with earlier c all e b =
       let k = kept_beginning (earlier ++ (c ∷ [])) all b in
       (k.0, k.1 ∙ ap (λ l. l ++ k.0) (kept-push_new earlier c e) ∙ append_assoc (kept earlier) (c ∷ []) k.0)
 
-  given_place : (earlier : List (Command Op)) (c : Command Op) (all : List (Command Op)) (a : Answer Reply) → In a (answers_after rules earlier c) → IsBeginning (earlier ++ (c ∷ [])) all → IsGivenAt rules (kept all) (length (kept earlier)) a
+  given_place : (earlier : List (Command Op)) (c : Command Op) (all : List (Command Op)) (a : Answer Reply)
+      → In a (answers_after rules earlier c) → IsBeginning (earlier ++ (c ∷ [])) all
+      → IsGivenAt rules (kept all) (length (kept earlier)) a
   given_place earlier c all a i b =
       let e = answered_new earlier c a i in
       let k = kept_with earlier c all e b in
       subst (λ l. IsGivenAt rules l (length (kept earlier)) a) (sym k.1) (given_at (kept earlier) c k.0 a (subst (In a) (answers_new rules earlier c e) i))
 
   -- an answer of the replay has one place
-  one_place : (order : List (Command Op)) → AnswersOnce (answers_in (replay_of rules order)) → (a : Answer Reply) (m n : ℕ) → IsGivenAt rules order m a → IsGivenAt rules order n a → m ≡ n
-  one_place order once a m n i j = ap (λ (p : Placed Reply). p.place) (one_answer (replay_of rules order) once (record { place = m; answer = a }) (record { place = n; answer = a }) i j refl)
+  one_place : (order : List (Command Op)) → AnswersOnce (answers_in (replay_of rules order))
+      → (a : Answer Reply) (m n : ℕ) → IsGivenAt rules order m a → IsGivenAt rules order n a → m ≡ n
+  one_place order once a m n i j =
+      ap (λ (p : Placed Reply). p.place)
+      (one_answer (replay_of rules order) once (record { place = m; answer = a })
+      (record { place = n; answer = a }) i j refl)
 
-module _ (laws : BallotLaws) {O Op Reply : Type 0} (rules : Rules O Op Reply) (waits : O → Key → Type 0) (object : ObjectLaws rules waits) (w : World Op Reply) (r : IsReachable rules w) (all : List (Command Op)) (chosen : IsChosenFrom w.cluster 1 all) where
+module _ (laws : BallotLaws) {O Op Reply : Type 0} (rules : Rules O Op Reply) (waits : O → Key → Type 0)
+    (object : ObjectLaws rules waits) (w : World Op Reply) (r : IsReachable rules w) (all : List (Command Op))
+    (chosen : IsChosenFrom w.cluster 1 all) where
   told : IsTraced rules w
   told = reachable_traced laws rules w r
 
@@ -86,13 +99,16 @@ module _ (laws : BallotLaws) {O Op Reply : Type 0} (rules : Rules O Op Reply) (w
   place_of bound a h = given_place rules h.earlier h.last all a h.answer (run_of_all laws w.cluster sound 1 (h.earlier ++ (h.last ∷ [])) all h.chosen chosen)
 
   -- an answer's place is among what was kept when it was given
-  placed_within : (run : List (Command Op)) (a : Answer Reply) (h : IsGiven rules w.cluster (length run) a) → IsBeginning (h.earlier ++ (h.last ∷ [])) run → length (kept h.earlier) < length (kept run)
+  placed_within : (run : List (Command Op)) (a : Answer Reply) (h : IsGiven rules w.cluster (length run) a)
+      → IsBeginning (h.earlier ++ (h.last ∷ [])) run → length (kept h.earlier) < length (kept run)
   placed_within run a h b =
       let k = kept_with rules h.earlier h.last run (answered_new rules h.earlier h.last a h.answer) b in
       let e = ap length k.1 ∙ length-append (kept h.earlier) (h.last ∷ k.0) in
       omega arith
 
-  is_later : (s : Submission Op) → IsPast rules w.cluster w.happenings.answers s → (a : Answer Reply) → In a (given_before s w.happenings.answers) → (m n : ℕ) → IsGivenAt rules (kept all) m a → StandsAt s.command.key (kept all) n → m < n
+  is_later : (s : Submission Op) → IsPast rules w.cluster w.happenings.answers s → (a : Answer Reply)
+      → In a (given_before s w.happenings.answers) → (m n : ℕ) → IsGivenAt rules (kept all) m a
+      → StandsAt s.command.key (kept all) n → m < n
   is_later s past a i m n given stands =
       let h = past.given a i in
       let e : m ≡ length (kept h.earlier) = one_place rules (kept all) once a m (length (kept h.earlier)) given (place_of (length past.run) a h) in
@@ -128,5 +144,7 @@ reached_gives laws rules w r cs reached a i =
     )
 
 -- the happenings of a reachable world are legal for its order
-pub reachable_legal : (laws : BallotLaws) {O Op Reply : Type 0} (rules : Rules O Op Reply) (waits : O → Key → Type 0) → ObjectLaws rules waits → (w : World Op Reply) → IsReachable rules w → (order : List (Command Op)) → IsOrder w.cluster order → IsLegal rules w.happenings order
+pub reachable_legal : (laws : BallotLaws) {O Op Reply : Type 0} (rules : Rules O Op Reply) (waits : O → Key → Type 0)
+    → ObjectLaws rules waits → (w : World Op Reply) → IsReachable rules w → (order : List (Command Op))
+    → IsOrder w.cluster order → IsLegal rules w.happenings order
 reachable_legal laws rules waits object w r order h = subst (IsLegal rules w.happenings) (sym h.2) (kept_legal laws rules waits object w r h.0 h.1)

@@ -21,7 +21,8 @@ pub record ObjectLaws {O Op Reply : Type 0} (rules : Rules O Op Reply) (waits : 
   pub over : (s : O) (c : Command Op) (a : Answer Reply) → In a (rules.answers s c) → waits (rules.after s c) a.to → ⊥
   pub once : (s : O) (c : Command Op) → AnswersOnce (rules.answers s c)
 
-once_append : {Reply : Type 0} (xs ys : List (Answer Reply)) → AnswersOnce xs → AnswersOnce ys → ((a b : Answer Reply) → In a xs → In b ys → b.to ≢ a.to) → AnswersOnce (xs ++ ys)
+once_append : {Reply : Type 0} (xs ys : List (Answer Reply)) → AnswersOnce xs → AnswersOnce ys
+    → ((a b : Answer Reply) → In a xs → In b ys → b.to ≢ a.to) → AnswersOnce (xs ++ ys)
 once_append [] ys p q apart = q
 once_append (x ∷ xs) ys p q apart = (
   λ b i. ⊎_elim (λ (j : In b xs). p.0 b j) (λ (j : In b ys). apart x b (inl refl) j) (In-cases b xs ys i),
@@ -62,15 +63,21 @@ module _ {O Op Reply : Type 0} (rules : Rules O Op Reply) where
         (In-cases a (rules.answers s c) (answers_from rules (rules.after s c) cs) i)
 
     -- of a command that is over, nothing is said any more
-    apart : (s : O) (c : Command Op) (cs : List (Command Op)) → IsRising (c ∷ cs) → ((d : Command Op) → In d (c ∷ cs) → waits s d.key → ⊥) → (a b : Answer Reply) → In a (rules.answers s c) → Expected (rules.after s c) cs b.to → b.to ≢ a.to
+    apart : (s : O) (c : Command Op) (cs : List (Command Op)) → IsRising (c ∷ cs)
+        → ((d : Command Op) → In d (c ∷ cs) → waits s d.key → ⊥) → (a b : Answer Reply) → In a (rules.answers s c)
+        → Expected (rules.after s c) cs b.to → b.to ≢ a.to
     apart s c cs rises fresh a b i (inl w) same = laws.over s c a i (subst (waits (rules.after s c)) same w)
     apart s c cs rises fresh a b i (inr d) same = ⊎_elim
         (λ (e : a.to ≡ c.key). other_keys c cs rises d.0 d.1 (sym d.2 ∙ same ∙ e))
         (λ (w : waits s a.to). fresh d.0 (inr d.1) (subst (waits s) (sym same ∙ d.2) w))
         (laws.named s c a i)
 
-    still_fresh : (s : O) (c : Command Op) (cs : List (Command Op)) → IsRising (c ∷ cs) → ((d : Command Op) → In d (c ∷ cs) → waits s d.key → ⊥) → (d : Command Op) → In d cs → waits (rules.after s c) d.key → ⊥
-    still_fresh s c cs rises fresh d i w = ⊎_elim (λ (x : waits s d.key). fresh d (inr i) x) (λ (e : d.key ≡ c.key). other_keys c cs rises d i e) (laws.waited s c d.key w)
+    still_fresh : (s : O) (c : Command Op) (cs : List (Command Op)) → IsRising (c ∷ cs)
+        → ((d : Command Op) → In d (c ∷ cs) → waits s d.key → ⊥) → (d : Command Op) → In d cs
+        → waits (rules.after s c) d.key → ⊥
+    still_fresh s c cs rises fresh d i w =
+        ⊎_elim (λ (x : waits s d.key). fresh d (inr i) x) (λ (e : d.key ≡ c.key). other_keys c cs rises d i e)
+        (laws.waited s c d.key w)
 
     once_from : (s : O) (cs : List (Command Op)) → IsRising cs → ((d : Command Op) → In d cs → waits s d.key → ⊥) → AnswersOnce (answers_from rules s cs)
     once_from s [] rises fresh = tt
@@ -96,7 +103,8 @@ In-placed x (y ∷ ys) (inl e) = inl (ap (λ (z : Placed _). z.answer) e)
 In-placed x (y ∷ ys) (inr i) = inr (In-placed x ys i)
 
 -- where no key is answered twice, two answers to one key are one
-pub one_answer : {Reply : Type 0} (xs : List (Placed Reply)) → AnswersOnce (answers_in xs) → (x y : Placed Reply) → In x xs → In y xs → x.answer.to ≡ y.answer.to → x ≡ y
+pub one_answer : {Reply : Type 0} (xs : List (Placed Reply)) → AnswersOnce (answers_in xs) → (x y : Placed Reply)
+    → In x xs → In y xs → x.answer.to ≡ y.answer.to → x ≡ y
 one_answer [] once x y i j same = absurd i
 one_answer (z ∷ zs) once x y (inl e) (inl f) same = e ∙ sym f
 one_answer {Reply} (z ∷ zs) once x y (inl e) (inr j) same = absurd (once.0 y.answer (In-placed y zs j) (sym same ∙ ap (λ (p : Placed Reply). p.answer.to) e))

@@ -33,5 +33,6 @@ module _ (laws : BallotLaws) {O Op Reply : Type 0} (rules : Rules O Op Reply) wh
       }
 
 -- whatever is the order of a world, its happenings are legal for it
-pub legal_for : {O Op Reply : Type 0} (rules : Rules O Op Reply) (w : World Op Reply) (order : List (Command Op)) → HasOneOrder rules w → IsOrder w.cluster order → IsLegal rules w.happenings order
+pub legal_for : {O Op Reply : Type 0} (rules : Rules O Op Reply) (w : World Op Reply) (order : List (Command Op))
+    → HasOneOrder rules w → IsOrder w.cluster order → IsLegal rules w.happenings order
 legal_for rules w order one is = subst (λ cs. IsLegal rules w.happenings cs) (sym (one.only order is)) one.legal

@@ -1,5 +1,6 @@
 -- Where commands come from: what holds of each submitted command holds of each that is requested, proposed or asked for.
-use Rattle.std.proofs.Common.{◌≡◌, ◌≢◌, ◌⊎◌, inl, inr, ⊎_elim, ℕ, Bool, true, false, cond, List, [], ◌∷◌, ◌++◌, map, filter, drop, Some, None, Option, refl, sym, ◌∙◌, subst, arith}
+use Rattle.std.proofs.Common.{◌≡◌, ◌≢◌, ◌⊎◌, inl, inr, ⊎_elim, ℕ, Bool, true, false, cond, List, [], ◌∷◌, ◌++◌, map}
+use Rattle.std.proofs.Common.{filter, drop, Some, None, Option, refl, sym, ◌∙◌, subst, arith}
 use Rattle.std.specs.Prelude.{⊤, ◌==◌, not, nat_le, ◌^◌}
 use Rattle.std.specs.FinMap.{empty, get, insert, entries, contains_key}
 use Rattle.std.proofs.lemmas.Bool.{cases_eq}
@@ -71,7 +72,9 @@ module _ {C : Type 0} (P : C → Type 0) where
   pub asked_of : (k : Cluster C) → Of k → (p : Pvalue C) → Asked k.letters p → P p.value
   asked_of k f p a = subst OfBody a.2 (Each-at (λ l. OfBody l.body) k.letters a.0 f.letters a.1)
 
-  pub turn_of : (laws : BallotLaws) (k : Cluster C) (i : IsSound k) (n : ℕ) (member : is_member k.members n ≡ true) (x : NodeState C) (out : List (Letter C)) → Of k → OfNode x → Each (λ l. OfBody l.body) out → Of (turned k n x out)
+  pub turn_of : (laws : BallotLaws) (k : Cluster C) (i : IsSound k) (n : ℕ) (member : is_member k.members n ≡ true)
+      (x : NodeState C) (out : List (Letter C)) → Of k → OfNode x → Each (λ l. OfBody l.body) out
+      → Of (turned k n x out)
   turn_of laws k i n member x out f fx fo = record {
     nodes = λ m. ⊎_elim
         (λ (e : m ≡ n). subst (λ z. OfNode (node (turned k n x out) z)) (sym e) (subst OfNode (sym (here laws k i n member x out)) fx))
@@ -124,7 +127,8 @@ module _ {C : Type 0} (P : C → Type 0) where
   taken_at old gathered new h g s c (inl same) e = h s c (sym same.1 ∙ e)
   taken_at old gathered new h g s c (inr p) e = subst P (some_same (sym p.2 ∙ e)) (g p.0 p.1.within)
 
-  adopted_of : (l : Leading C) (gathered : List (Pvalue C)) (new : Slots C) → AllAt l.proposals → ((p : Pvalue C) → In p gathered → P p.value) → TakesGreatest l.proposals gathered new → OfDone (adopted l new)
+  adopted_of : (l : Leading C) (gathered : List (Pvalue C)) (new : Slots C) → AllAt l.proposals
+      → ((p : Pvalue C) → In p gathered → P p.value) → TakesGreatest l.proposals gathered new → OfDone (adopted l new)
   adopted_of l gathered new h g taken =
       let all : AllAt new = λ s c e. taken_at l.proposals gathered new h g s c (taken s) e in
       record {
@@ -136,7 +140,8 @@ module _ {C : Type 0} (P : C → Type 0) where
   abbrev AtHearing : Leading C → Slots C → Hearing C → Type 0
   AtHearing l taken v = AllowsAt l.proposals v.scout v.says taken → OfDone (at_heard l taken v.scout v.says)
 
-  hearing_if : (l : Leading C) (taken : Slots C) (test : Bool) (v w : Hearing C) → (test ≡ true → AtHearing l taken v) → AtHearing l taken w → AtHearing l taken (cond test v w)
+  hearing_if : (l : Leading C) (taken : Slots C) (test : Bool) (v w : Hearing C) → (test ≡ true → AtHearing l taken v)
+      → AtHearing l taken w → AtHearing l taken (cond test v w)
   hearing_if l taken true v w on off = on refl
   hearing_if l taken false v w on off = off
 
@@ -147,21 +152,31 @@ module _ {C : Type 0} (P : C → Type 0) where
       let t : a.boot ≡ b.boot = grind (arith, nat_tests) in
       λ i. record { round = r i; node = n i; boot = t i }
 
-  heard_if : (l : Leading C) (taken : Slots C) (s : Scouting C) → AllAt l.proposals → ((p : Pvalue C) → In p s.gathered → P p.value) → (test : Bool) → AllowsAt l.proposals s (cond test Adopted Wait) taken → OfDone (at_heard l taken s (cond test Adopted Wait))
+  heard_if : (l : Leading C) (taken : Slots C) (s : Scouting C) → AllAt l.proposals
+      → ((p : Pvalue C) → In p s.gathered → P p.value) → (test : Bool)
+      → AllowsAt l.proposals s (cond test Adopted Wait) taken → OfDone (at_heard l taken s (cond test Adopted Wait))
   heard_if l taken s h g true allowed = adopted_of l s.gathered taken h g allowed
   heard_if l taken s h g false allowed = of_silent _ h
 
-  scout_of : (l : Leading C) (m : ℕ) (b : Numbers) (report fresh : List (Pvalue C)) (taken : Slots C) → AllAt l.proposals → ((p : Pvalue C) → In p report → P p.value) → (s : Scouting C) → TakesFresh s m b report fresh → ((p : Pvalue C) → In p s.gathered → P p.value) → AtHearing l taken (scouts.on_p1b s m b fresh)
+  scout_of : (l : Leading C) (m : ℕ) (b : Numbers) (report fresh : List (Pvalue C)) (taken : Slots C)
+      → AllAt l.proposals → ((p : Pvalue C) → In p report → P p.value) → (s : Scouting C)
+      → TakesFresh s m b report fresh → ((p : Pvalue C) → In p s.gathered → P p.value)
+      → AtHearing l taken (scouts.on_p1b s m b fresh)
   scout_of l m b report fresh taken h r s takes g =
       hearing_if l taken (is_member s.members m) _ (unmoved s Wait)
       (λ member. hearing_if l taken (is_same b s.ballot) (gathers s m fresh) _
       (λ mine.
       let f = takes (record { member = member; same = same_numbers b s.ballot mine }) in
-      heard_if l taken (gathers s m fresh).scout h (λ p at. ⊎_elim (λ (x : In p s.gathered). g p x) (λ (x : In p fresh). r p (f.part p x)) (In-cases p s.gathered fresh at)) (is_majority s.members (add s.heard m)))
+      heard_if l taken (gathers s m fresh).scout h
+      (λ p at. ⊎_elim (λ (x : In p s.gathered). g p x) (λ (x : In p fresh). r p (f.part p x))
+      (In-cases p s.gathered fresh at)) (is_majority s.members (add s.heard m)))
       (hearing_if l taken (is_below s.ballot b) (unmoved s (Preempted b)) (unmoved s Wait) (λ up allowed. preempted_of l b h) (λ allowed. of_silent _ h)))
       (λ allowed. of_silent _ h)
 
-  p1b_of : (l : Leading C) (m : ℕ) (b : Numbers) (report fresh : List (Pvalue C)) (taken : Slots C) → AllAt l.proposals → ((p : Pvalue C) → In p report → P p.value) → Hears l m b report fresh taken → (o : Option (Scouting C)) → l.scout ≡ o → ((s : Scouting C) → l.scout ≡ Some s → (p : Pvalue C) → In p s.gathered → P p.value) → OfDone (at_scout l m b fresh taken o)
+  p1b_of : (l : Leading C) (m : ℕ) (b : Numbers) (report fresh : List (Pvalue C)) (taken : Slots C) → AllAt l.proposals
+      → ((p : Pvalue C) → In p report → P p.value) → Hears l m b report fresh taken → (o : Option (Scouting C))
+      → l.scout ≡ o → ((s : Scouting C) → l.scout ≡ Some s → (p : Pvalue C) → In p s.gathered → P p.value)
+      → OfDone (at_scout l m b fresh taken o)
   p1b_of l m b report fresh taken h r may None e g = of_silent l h
   p1b_of l m b report fresh taken h r may (Some s) e g = scout_of l m b report fresh taken h r s (may.gathers s e) (g s e) (may.takes s e)
 
@@ -207,7 +222,8 @@ module _ {C : Type 0} (P : C → Type 0) where
 
   advanced_of : (same : C → C → Bool) (r : SlotBook C) → OfBook r → OfBook (advanced same r)
   advanced_of same r h = record {
-    requests = Each-append P r.requests (lost same (get r.proposals r.slot_out) (next_decided r)) h.requests (back_of same (get r.proposals r.slot_out) (next_decided r) (λ c e. h.proposals r.slot_out c e));
+    requests = Each-append P r.requests (lost same (get r.proposals r.slot_out) (next_decided r)) h.requests
+        (back_of same (get r.proposals r.slot_out) (next_decided r) (λ c e. h.proposals r.slot_out c e));
     proposals = λ s c e. h.proposals s c (get_remove_cases r.proposals r.slot_out s c e);
   }
 
@@ -238,8 +254,11 @@ module _ {C : Type 0} (P : C → Type 0) where
   sends_of : (ws : List ℕ) (n : ℕ) (bodies : List (LetterBody C)) → Each OfBody bodies → Each (λ l. OfBody l.body) (all_to_all ws n bodies)
   sends_of ws n bodies h = Each-to_all (λ l. OfBody l.body) ws n bodies (λ b at m to. Each-at OfBody bodies b h at)
 
-  others_of : (ws : List ℕ) (n s : ℕ) (test : Bool) → Each (λ (l : Letter C). OfBody l.body) (cond test (map (letter n (Ask s)) (filter (λ m. not (m == n)) (numbers ws))) [])
-  others_of ws n s true = Each-map (λ l. OfBody l.body) (letter n (Ask s)) (filter (λ m. not (m == n)) (numbers ws)) (Each-all _ (filter (λ m. not (m == n)) (numbers ws)) (λ m. tt))
+  others_of : (ws : List ℕ) (n s : ℕ) (test : Bool)
+      → Each (λ (l : Letter C). OfBody l.body)
+      (cond test (map (letter n (Ask s)) (filter (λ m. not (m == n)) (numbers ws))) [])
+  others_of ws n s true = Each-map (λ l. OfBody l.body) (letter n (Ask s)) (filter (λ m. not (m == n)) (numbers ws))
+      (Each-all _ (filter (λ m. not (m == n)) (numbers ws)) (λ m. tt))
   others_of ws n s false = tt
 
   scout_says_of : (o : Option (Scouting C)) → Each OfBody (scout_says o)
@@ -248,16 +267,24 @@ module _ {C : Type 0} (P : C → Type 0) where
 
   module _ (laws : BallotLaws) (k : Cluster C) (i : IsSound k) (n : ℕ) (member : is_member k.members n ≡ true) (f : Of k) where
     of_leader : (d : Done (Leading C) C) → OfDone d → Of (leader_turn k n d)
-    of_leader d h = turn_of laws k i n member (led (node k n) d) (all_to_all k.members n d.says) f (record { leader = h.state; replica = (f.nodes n).replica }) (sends_of k.members n d.says h.says)
+    of_leader d h = turn_of laws k i n member (led (node k n) d) (all_to_all k.members n d.says) f
+        (record { leader = h.state; replica = (f.nodes n).replica }) (sends_of k.members n d.says h.says)
 
     of_replica : (r : SlotBook C) (out : List (Letter C)) → OfBook r → Each (λ l. OfBody l.body) out → Of (replica_turn k n r out)
     of_replica r out h o = turn_of laws k i n member (record (node k n) { replica = r }) out f (record { leader = (f.nodes n).leader; replica = h }) o
 
-    same_node : (x : NodeState C) (out : List (Letter C)) → x.leader ≡ (node k n).leader → x.replica ≡ (node k n).replica → Each (λ l. OfBody l.body) out → Of (turned k n x out)
-    same_node x out a b o = turn_of laws k i n member x out f (record { leader = subst (λ (l : Leading C). AllAt l.proposals) (sym a) (f.nodes n).leader; replica = subst OfBook (sym b) (f.nodes n).replica }) o
+    same_node : (x : NodeState C) (out : List (Letter C)) → x.leader ≡ (node k n).leader
+        → x.replica ≡ (node k n).replica → Each (λ l. OfBody l.body) out → Of (turned k n x out)
+    same_node x out a b o = turn_of laws k i n member x out f
+        (record {
+          leader = subst (λ (l : Leading C). AllAt l.proposals) (sym a) (f.nodes n).leader;
+          replica =
+              subst OfBook (sym b) (f.nodes n).replica;
+        }) o
 
     pub restart_of : Of (turned k n (restarted k.members n (node k n)) [])
-    restart_of = turn_of laws k i n member (restarted k.members n (node k n)) [] f (record { leader = empty_at; replica = record { requests = tt; proposals = empty_at } }) tt
+    restart_of = turn_of laws k i n member (restarted k.members n (node k n)) [] f
+        (record { leader = empty_at; replica = record { requests = tt; proposals = empty_at } }) tt
 
     pub wake_of : Of (leader_turn k n (woken (node k n).leader))
     wake_of = of_leader _ (woken_of (node k n).leader (f.nodes n).leader)
@@ -273,16 +300,23 @@ module _ {C : Type 0} (P : C → Type 0) where
     nudge_of =
         same_node (node k n) (said_again k.members n (node k n)) refl refl
         (Each-append (λ l. OfBody l.body) (all_to_all k.members n (says_again (node k n).leader)) (nudges k.members n (node k n).replica)
-        (sends_of k.members n (says_again (node k n).leader) (Each-append OfBody (scout_says (node k n).leader.scout) (map (λ e. P2a e.1.pvalue) (entries (node k n).leader.commanders)) (scout_says_of (node k n).leader.scout) commanders_say))
+        (sends_of k.members n (says_again (node k n).leader)
+        (Each-append OfBody (scout_says (node k n).leader.scout)
+        (map (λ e. P2a e.1.pvalue) (entries (node k n).leader.commanders))
+        (scout_says_of (node k n).leader.scout) commanders_say))
         (Each-append (λ l. OfBody l.body) (all_to_all k.members n (proposes_again (node k n).replica)) (asks_others k.members n (node k n).replica.slot_out)
-        (sends_of k.members n (proposes_again (node k n).replica) (Each-map OfBody (λ e. Propose e.0 e.1) (entries (node k n).replica.proposals) (entries_at (node k n).replica.proposals (f.nodes n).replica.proposals)))
+        (sends_of k.members n (proposes_again (node k n).replica)
+        (Each-map OfBody (λ e. Propose e.0 e.1) (entries (node k n).replica.proposals)
+        (entries_at (node k n).replica.proposals (f.nodes n).replica.proposals)))
         (others_of k.members n (node k n).replica.slot_out (nat_le (node k n).replica.slot_out (2 ^ 62)))))
 
     pub proposes_of : Of (replica_turn k n (proposed_next (node k n).replica) (all_to_all k.members n (proposes_first (next_proposal (node k n).replica))))
     proposes_of =
         let r : SlotBook C = (node k n).replica in
         let first : (p : ℕ × C) → next_proposal r ≡ Some p → P p.1 = λ p e. first_of r.requests (f.nodes n).replica.requests (open_slot r) p e in
-        of_replica (proposed_next r) (all_to_all k.members n (proposes_first (next_proposal r))) (proposed_of r (f.nodes n).replica (next_proposal r) first) (sends_of k.members n (proposes_first (next_proposal r)) (asks_of (next_proposal r) first))
+        of_replica (proposed_next r) (all_to_all k.members n (proposes_first (next_proposal r)))
+        (proposed_of r (f.nodes n).replica (next_proposal r) first)
+        (sends_of k.members n (proposes_first (next_proposal r)) (asks_of (next_proposal r) first))
 
     pub submit_of : (same : C → C → Bool) (c : C) → P c → Of (replica_turn k n (requested same (node k n).replica c) [])
     submit_of same c p = of_replica (requested same (node k n).replica c) [] (requested_of same (node k n).replica c (f.nodes n).replica p) tt
@@ -293,14 +327,22 @@ module _ {C : Type 0} (P : C → Type 0) where
     gathered_of : (s : Scouting C) → (node k n).leader.scout ≡ Some s → (p : Pvalue C) → In p s.gathered → P p.value
     gathered_of s e p at = asked_of k f p (((i.nodes n).leader.scouting s e).gathering.sent p at)
 
-    pub receive_of : (m : ℕ) (body : LetterBody C) → OfBody body → IsTrueOf k m body → (x : NodeState C) (out : List (Letter C)) → Receives k.members m n (node k n) body x out → Of (turned k n x out)
+    pub receive_of : (m : ℕ) (body : LetterBody C) → OfBody body → IsTrueOf k m body
+        → (x : NodeState C) (out : List (Letter C)) → Receives k.members m n (node k n) body x out
+        → Of (turned k n x out)
     receive_of m body h fair x out (promises_ballot b report r) = same_node x out refl refl (tt, tt)
     receive_of m body h fair x out (accepts_pvalue p) = same_node x out refl refl (tt, tt)
     receive_of m body h fair x out (hears_promise b report fresh taken may) =
-        of_leader _ (p1b_of (node k n).leader m b report fresh taken (f.nodes n).leader (λ p at. asked_of k f p (fair.sent p at)) may (node k n).leader.scout refl gathered_of)
+        of_leader _ (p1b_of (node k n).leader m b report fresh taken (f.nodes n).leader
+        (λ p at. asked_of k f p (fair.sent p at)) may (node k n).leader.scout refl gathered_of)
     receive_of m body h fair x out (hears_vote b s by) = of_leader _ (p2b_of (node k n).leader m b s by (f.nodes n).leader)
     receive_of m body h fair x out (hears_proposal s c) = of_leader _ (propose_of (node k n).leader s c (f.nodes n).leader h)
-    receive_of m body h fair x out (learns s c) = of_replica x.replica [] (record { requests = (f.nodes n).replica.requests; proposals = (f.nodes n).replica.proposals }) tt
+    receive_of m body h fair x out (learns s c) =
+        of_replica x.replica [] (record {
+          requests = (f.nodes n).replica.requests;
+          proposals =
+              (f.nodes n).replica.proposals;
+        }) tt
     receive_of m body h fair x out (tells_decisions s) =
         same_node (node k n) _ refl refl
         (Each-map (λ l. OfBody l.body) (λ b. letter n b m) (tells (node k n).replica s)

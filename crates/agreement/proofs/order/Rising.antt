@@ -13,7 +13,10 @@ pub kept_new : {Op : Type 0} (seen cs : List (Command Op)) (d : Command Op) → 
 kept_new seen [] d i = absurd i
 kept_new {Op} seen (c ∷ cs) d i = at (is_new c seen) refl i (kept_new (c ∷ seen) cs d)
   where
-    at : (test : Bool) → is_new c seen ≡ test → In d (cond test (c ∷ kept_after (c ∷ seen) cs) (kept_after (c ∷ seen) cs)) → (In d (kept_after (c ∷ seen) cs) → In d cs × (is_new d (c ∷ seen) ≡ true)) → In d (c ∷ cs) × (is_new d seen ≡ true)
+    at : (test : Bool) → is_new c seen ≡ test
+        → In d (cond test (c ∷ kept_after (c ∷ seen) cs) (kept_after (c ∷ seen) cs))
+        → (In d (kept_after (c ∷ seen) cs) → In d cs × (is_new d (c ∷ seen) ≡ true)) → In d (c ∷ cs)
+        × (is_new d seen ≡ true)
     at true e (inl same) rest = (inl same, subst (λ (x : Command Op). is_new x seen ≡ true) (sym same) e)
     at true e (inr j) rest = let r = rest j in (inr r.0, (and_parts (is_before d c) (is_new d seen) r.1).1)
     at false e j rest = let r = rest j in (inr r.0, (and_parts (is_before d c) (is_new d seen) r.1).1)
@@ -29,7 +32,8 @@ rises_after seen [] = tt
 rises_after {Op} seen (c ∷ cs) = at (is_new c seen) (rises_after (c ∷ seen) cs)
   where
     above : (d : Command Op) → In d (kept_after (c ∷ seen) cs) → d.key.session ≡ c.key.session → c.key.number < d.key.number
-    above d i same = before_rises c.key.session d.key.session c.key.number d.key.number (and_parts (is_before d c) (is_new d seen) (kept_new (c ∷ seen) cs d i).1).0 same
+    above d i same = before_rises c.key.session d.key.session c.key.number d.key.number
+        (and_parts (is_before d c) (is_new d seen) (kept_new (c ∷ seen) cs d i).1).0 same
 
     at : (test : Bool) → IsRising (kept_after (c ∷ seen) cs) → IsRising (cond test (c ∷ kept_after (c ∷ seen) cs) (kept_after (c ∷ seen) cs))
     at true rest = (above, rest)

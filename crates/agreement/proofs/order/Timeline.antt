@@ -1,5 +1,6 @@
 -- Submissions and answers are one list in time.
-use Rattle.std.proofs.Common.{◌≡◌, ◌≢◌, inl, inr, ⊎_elim, ℕ, ◌≤◌, Bool, true, false, cond, List, [], ◌∷◌, ◌++◌, length, length-append, Option, Some, None, refl, sym, ap, ◌∙◌, subst, arith}
+use Rattle.std.proofs.Common.{◌≡◌, ◌≢◌, inl, inr, ⊎_elim, ℕ, ◌≤◌, Bool, true, false, cond, List, [], ◌∷◌, ◌++◌, length}
+use Rattle.std.proofs.Common.{length-append, Option, Some, None, refl, sym, ap, ◌∙◌, subst, arith}
 use Rattle.object.specs.Lists.{In}
 use Rattle.object.specs.declared.command.Answer.{Answer}
 use Rattle.object.specs.declared.command.Command.{Command}
@@ -27,22 +28,28 @@ pub record IsInTime {Op Reply : Type 0} (h : Happenings Op Reply) : Type 0 where
   pub within : (s : Submission Op) → In s h.submitted → s.after ≤ length h.answers
 
 -- a list with a key that it doesn't have yet
-once_push : {Op : Type 0} (submitted : List (Submission Op)) (new : Submission Op) → SubmittedOnce submitted → ((s : Submission Op) → In s submitted → new.command.key ≢ s.command.key) → SubmittedOnce (submitted ++ (new ∷ []))
+once_push : {Op : Type 0} (submitted : List (Submission Op)) (new : Submission Op) → SubmittedOnce submitted
+    → ((s : Submission Op) → In s submitted → new.command.key ≢ s.command.key) → SubmittedOnce (submitted ++ (new ∷ []))
 once_push [] new once other = (λ t i. absurd i, tt)
 once_push {Op} (s ∷ more) new once other = (
   λ t i. ⊎_elim
       (λ (old : In t more). once.0 t old)
-      (λ (last : In t (new ∷ [])). ⊎_elim (λ (e : t ≡ new) (f : t.command.key ≡ s.command.key). other s (inl refl) (ap (λ (x : Submission Op). x.command.key) (sym e) ∙ f)) (λ (never : ⊥). absurd never) last)
+      (λ (last : In t (new ∷ [])). ⊎_elim
+      (λ (e : t ≡ new) (f : t.command.key ≡ s.command.key). other s (inl refl)
+      (ap (λ (x : Submission Op). x.command.key) (sym e) ∙ f)) (λ (never : ⊥). absurd never) last)
       (In-cases t more (new ∷ []) i),
   once_push more new once.1 (λ t i. other t (inr i)),
 )
 
-ordered_push : {Op : Type 0} (submitted : List (Submission Op)) (new : Submission Op) → ComeInOrder submitted → ((s : Submission Op) → In s submitted → s.after ≤ new.after) → ComeInOrder (submitted ++ (new ∷ []))
+ordered_push : {Op : Type 0} (submitted : List (Submission Op)) (new : Submission Op) → ComeInOrder submitted
+    → ((s : Submission Op) → In s submitted → s.after ≤ new.after) → ComeInOrder (submitted ++ (new ∷ []))
 ordered_push [] new ordered last = (λ t i. absurd i, tt)
 ordered_push {Op} (s ∷ more) new ordered last = (
   λ t i. ⊎_elim
       (λ (old : In t more). ordered.0 t old)
-      (λ (there : In t (new ∷ [])). ⊎_elim (λ (e : t ≡ new). subst (λ (x : Submission Op). s.after ≤ x.after) (sym e) (last s (inl refl))) (λ (never : ⊥). absurd never) there)
+      (λ (there : In t (new ∷ [])). ⊎_elim
+      (λ (e : t ≡ new). subst (λ (x : Submission Op). s.after ≤ x.after) (sym e) (last s (inl refl)))
+      (λ (never : ⊥). absurd never) there)
       (In-cases t more (new ∷ []) i),
   ordered_push more new ordered.1 (λ t i. last t (inr i)),
 )
@@ -63,7 +70,9 @@ with_one_more {Op} {Reply} c h t = at (is_submitted c.key h.submitted) refl
       ordered = ordered_push h.submitted new t.ordered t.within;
       within = λ s i. ⊎_elim
           (λ (old : In s h.submitted). t.within s old)
-          (λ (there : In s (new ∷ [])). ⊎_elim (λ (f : s ≡ new). let g = ap (λ (x : Submission Op). x.after) f in omega arith) (λ (never : ⊥). absurd never) there)
+          (λ (there : In s (new ∷ [])). ⊎_elim
+          (λ (f : s ≡ new). let g = ap (λ (x : Submission Op). x.after) f in omega arith)
+          (λ (never : ⊥). absurd never) there)
           (In-cases s h.submitted (new ∷ []) i);
     }
 
@@ -75,7 +84,8 @@ with_more_answers given h t = record {
 }
 
 module _ {O Op Reply : Type 0} (rules : Rules O Op Reply) where
-  performs_timely : (w : World Op Reply) (n : ℕ) (o : Option (Command Op)) → IsInTime w.happenings → IsInTime (after_performing rules w n (node w.cluster n).replica o).happenings
+  performs_timely : (w : World Op Reply) (n : ℕ) (o : Option (Command Op)) → IsInTime w.happenings
+      → IsInTime (after_performing rules w n (node w.cluster n).replica o).happenings
   performs_timely w n None t = t
   performs_timely w n (Some c) t = with_more_answers (answers_after rules (history (node w.cluster n).replica) c) w.happenings t
 

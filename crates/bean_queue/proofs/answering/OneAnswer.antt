@@ -36,14 +36,16 @@ named (c ∷ cs) s a i =
           ]
     ]
 
-once-append : (xs ys : List (Answer Reply)) → AnswersOnce xs → AnswersOnce ys → ((a b : Answer Reply) → In a xs → In b ys → b.to ≡ a.to → ⊥) → AnswersOnce (xs ++ ys)
+once-append : (xs ys : List (Answer Reply)) → AnswersOnce xs → AnswersOnce ys
+    → ((a b : Answer Reply) → In a xs → In b ys → b.to ≡ a.to → ⊥) → AnswersOnce (xs ++ ys)
 once-append [] ys p q h = q
 once-append (x ∷ xs) ys p q h = (
   λ b i e. elim (in-append xs ys b i) as (λ v. ⊥) [ inl j ↦ p.0 b j e | inr j ↦ h x b (inl refl) j e ],
   once-append xs ys p.1 q (λ a b i j. h a b (inr i) j),
 )
 
-each_once-from : (cs : List (Command Op)) (s : QueueState) → HasDistinctKeys cs → ((k : Key) (c : Command Op) → Waits s k → In c cs → k ≡ c.key → ⊥) → AnswersOnce (answers_from s cs)
+each_once-from : (cs : List (Command Op)) (s : QueueState) → HasDistinctKeys cs
+    → ((k : Key) (c : Command Op) → Waits s k → In c cs → k ≡ c.key → ⊥) → AnswersOnce (answers_from s cs)
 each_once-from [] s d new = tt
 each_once-from (c ∷ cs) s d new =
     let l = effect-lawful c s in
@@ -68,17 +70,23 @@ unplaced : (n : ℕ) (xs : List (Answer Reply)) → map (λ p. p.answer) (map (�
 unplaced n [] = refl
 unplaced n (x ∷ xs) = ap (λ zs. x ∷ zs) (unplaced n xs)
 
-replayed : (n : ℕ) (cs : List (Command Op)) (s : QueueState) → map (λ p. p.answer) (replay_from (λ s c. (effect c s).state) (λ s c. (effect c s).answers) s n cs) ≡ answers_from s cs
+replayed : (n : ℕ) (cs : List (Command Op)) (s : QueueState)
+    → map (λ p. p.answer) (replay_from (λ s c. (effect c s).state) (λ s c. (effect c s).answers) s n cs)
+    ≡ answers_from s cs
 replayed n [] s = refl
 replayed n (c ∷ cs) s =
-    map-append (λ p. p.answer) (map (λ a. record { place = n; answer = a }) (effect c s).answers) (replay_from (λ s c. (effect c s).state) (λ s c. (effect c s).answers) (effect c s).state (suc n) cs) ∙
+    map-append (λ p. p.answer) (map (λ a. record { place = n; answer = a }) (effect c s).answers)
+    (replay_from (λ s c. (effect c s).state) (λ s c. (effect c s).answers) (effect c s).state (suc n) cs) ∙
     ap₂ (λ xs ys. xs ++ ys) (unplaced n (effect c s).answers) (replayed (suc n) cs (effect c s).state)
 
-pub each_once : (cs : List (Command Op)) → HasDistinctKeys cs → AnswersOnce (map (λ p. p.answer) (replay_from (λ s c. (effect c s).state) (λ s c. (effect c s).answers) fresh 0 cs))
+pub each_once : (cs : List (Command Op)) → HasDistinctKeys cs
+    → AnswersOnce (map (λ p. p.answer)
+    (replay_from (λ s c. (effect c s).state) (λ s c. (effect c s).answers) fresh 0 cs))
 each_once cs d = subst AnswersOnce (sym (replayed 0 cs fresh)) (each_once-from cs fresh d (λ k c w i e. fresh-idle k w))
 
 -- the answers with their places are those of the places
-pub placed : (n : ℕ) (cs : List (Command Op)) (s : QueueState) → replay_from (λ s c. (effect c s).state) (λ s c. (effect c s).answers) s n cs ≡ placed_from n (places_from s cs)
+pub placed : (n : ℕ) (cs : List (Command Op)) (s : QueueState)
+    → replay_from (λ s c. (effect c s).state) (λ s c. (effect c s).answers) s n cs ≡ placed_from n (places_from s cs)
 unfolding places_from placed_from
 placed n [] s = refl
 placed n (c ∷ cs) s = ap (λ zs. map (λ a. record { place = n; answer = a }) (effect c s).answers ++ zs) (placed (suc n) cs (effect c s).state)

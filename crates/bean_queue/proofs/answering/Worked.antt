@@ -64,7 +64,8 @@ time_runs_out :
     to 2 1 (Reply.Reserved 1 j) ∷
     to 1 4 Reply.NotFound ∷
     []
-unfolding effect act_effect do_effect carried_out tick_effect turned_away row put_row reserve_row delete_row serve all_turns turns serve_turn given deadline_turn timeout_turn told_turn
+unfolding effect act_effect do_effect carried_out tick_effect turned_away row put_row reserve_row delete_row serve
+    all_turns turns serve_turn given deadline_turn timeout_turn told_turn
 time_runs_out = refl
 
 -- a delayed job is ready in the second that is due; a second that came before does nothing
@@ -72,7 +73,8 @@ a_delay_is_over :
     all_answers
     (asks 1 1 (Op.Put 0 4 10 j) ∷ tick 5 ∷ tick 5 ∷ tick 3 ∷ asks 1 2 (Op.Reserve (Some 0)) ∷ []) ≡
     to 1 1 (Reply.Inserted 1) ∷ to 1 2 (Reply.Reserved 1 j) ∷ []
-unfolding effect act_effect do_effect carried_out tick_effect turned_away row put_row reserve_row delete_row serve all_turns turns serve_turn given deadline_turn timeout_turn told_turn
+unfolding effect act_effect do_effect carried_out tick_effect turned_away row put_row reserve_row delete_row serve
+    all_turns turns serve_turn given deadline_turn timeout_turn told_turn
 a_delay_is_over = refl
 
 -- a command whose number is not above those before is not obeyed
@@ -120,7 +122,8 @@ a_kick_and_a_peek :
     to 1 7 Reply.NotFound ∷
     to 1 8 (Reply.KickedCount 0) ∷
     []
-unfolding effect act_effect do_effect carried_out turned_away row put_row reserve_row delete_row bury_row peek_row kick_row kick_job_row kicked serve all_turns turns serve_turn given
+unfolding effect act_effect do_effect carried_out turned_away row put_row reserve_row delete_row bury_row peek_row
+    kick_row kick_job_row kicked serve all_turns turns serve_turn given
 a_kick_and_a_peek = refl
 
 -- lists of tubes

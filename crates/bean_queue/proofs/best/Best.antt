@@ -22,16 +22,27 @@ FindsLeast X = (test : ℕ × X → Bool) (by : X → ℕ) (es : List (ℕ × X)
 never_between : (d e y : ℕ × Job) → (ComesBefore pri_of_job y e → ⊥) → (ComesBefore pri_of_job d y → ⊥) → ComesBefore pri_of_job d e → ⊥
 never_between d e y ye dy h = grind arith
 
-urgent : FindsLeast Job → (s : QueueState) (j : ℕ × Job) → IsLeast (λ e. true) pri_of_job (filter_map (wanted (paused_tubes s) s.jobs) s.sessions) j → (d : ℕ × Job) → IsWanted s d → ComesBefore pri_of_job d j → ⊥
+urgent : FindsLeast Job → (s : QueueState) (j : ℕ × Job)
+    → IsLeast (λ e. true) pri_of_job (filter_map (wanted (paused_tubes s) s.jobs) s.sessions) j → (d : ℕ × Job)
+    → IsWanted s d → ComesBefore pri_of_job d j → ⊥
 urgent finds s j best d w before =
     let x = w.watched.0 in
-    elim (best_ready (not_paused (paused_tubes s) w.watched.0.1.watched) s.jobs) as (λ o. best_ready (not_paused (paused_tubes s) w.watched.0.1.watched) s.jobs ≡ o → IfSome o (IsLeast (ready_in (not_paused (paused_tubes s) w.watched.0.1.watched)) pri_of_job s.jobs) → ⊥) [
-      | None ↦ λ e h. least-none (ready_in (not_paused (paused_tubes s) w.watched.0.1.watched)) pri_of_job s.jobs d e w.there (and_from (is_ready d.1.state) (is_among d.1.tube (not_paused (paused_tubes s) w.watched.0.1.watched)) w.ready (watched-open (paused_tubes s) w.watched.0.1.watched d.1.tube w.watched.3 w.unpaused))
+    elim (best_ready (not_paused (paused_tubes s) w.watched.0.1.watched) s.jobs) as (λ o. best_ready
+    (not_paused (paused_tubes s) w.watched.0.1.watched) s.jobs ≡ o
+    → IfSome o (IsLeast (ready_in (not_paused (paused_tubes s) w.watched.0.1.watched)) pri_of_job s.jobs) → ⊥) [
+      | None ↦ λ e h. least-none (ready_in (not_paused (paused_tubes s) w.watched.0.1.watched)) pri_of_job s.jobs d e
+          w.there (and_from (is_ready d.1.state)
+          (is_among d.1.tube (not_paused (paused_tubes s) w.watched.0.1.watched)) w.ready
+          (watched-open (paused_tubes s) w.watched.0.1.watched d.1.tube w.watched.3 w.unpaused))
       | Some b ↦ λ e h.
           let there : In b (filter_map (wanted (paused_tubes s) s.jobs) s.sessions) =
-          filter_map-there (wanted (paused_tubes s) s.jobs) s.sessions w.watched.0 b w.watched.1 (cond-true (is_waiting w.watched.0.1) (best_ready (not_paused (paused_tubes s) w.watched.0.1.watched) s.jobs) None w.watched.2 ∙ e) in
+          filter_map-there (wanted (paused_tubes s) s.jobs) s.sessions w.watched.0 b w.watched.1
+          (cond-true (is_waiting w.watched.0.1)
+          (best_ready (not_paused (paused_tubes s) w.watched.0.1.watched) s.jobs) None w.watched.2 ∙ e) in
           never_between d j b (best.least b there refl)
-          (h.least d w.there (and_from (is_ready d.1.state) (is_among d.1.tube (not_paused (paused_tubes s) w.watched.0.1.watched)) w.ready (watched-open (paused_tubes s) w.watched.0.1.watched d.1.tube w.watched.3 w.unpaused)))
+          (h.least d w.there (and_from (is_ready d.1.state)
+          (is_among d.1.tube (not_paused (paused_tubes s) w.watched.0.1.watched)) w.ready
+          (watched-open (paused_tubes s) w.watched.0.1.watched d.1.tube w.watched.3 w.unpaused)))
           before
     ] refl (finds (ready_in (not_paused (paused_tubes s) w.watched.0.1.watched)) pri_of_job s.jobs)
 
@@ -44,10 +55,14 @@ same_turn t u e = cc
 pub turn-best : FindsLeast Job → FindsLeast SessionState → (s : QueueState) (t : QueueTurn) → serve_turn s ≡ Some t → IsBestTurn s t
 unfolding serve_turn
 turn-best jobs sessions s t e =
-    elim (next_job s) as (λ o. IfSome o (λ j. In j s.jobs × (is_ready j.1.state ≡ true)) → IfSome o (IsLeast (λ e. true) pri_of_job (filter_map (wanted (paused_tubes s) s.jobs) s.sessions)) → give s o ≡ Some t → IsBestTurn s t) [
+    elim (next_job s) as (λ o. IfSome o (λ j. In j s.jobs × (is_ready j.1.state ≡ true))
+    → IfSome o (IsLeast (λ e. true) pri_of_job (filter_map (wanted (paused_tubes s) s.jobs) s.sessions))
+    → give s o ≡ Some t → IsBestTurn s t) [
       | None ↦ λ i l e. absurd (none≢some t e)
       | Some j ↦ λ i l e.
-          elim (first_waiting (λ e. is_among j.1.tube e.1.watched) s.sessions) as (λ o. IfSome o (IsLeast (λ e. is_waiting e.1 && is_among j.1.tube e.1.watched) wait_rank s.sessions) → give_to s j o ≡ Some t → IsBestTurn s t) [
+          elim (first_waiting (λ e. is_among j.1.tube e.1.watched) s.sessions) as (λ o. IfSome o
+          (IsLeast (λ e. is_waiting e.1 && is_among j.1.tube e.1.watched) wait_rank s.sessions)
+          → give_to s j o ≡ Some t → IsBestTurn s t) [
             | None ↦ λ f e. absurd (none≢some t e)
             | Some w ↦ λ f e. record {
               job = j;

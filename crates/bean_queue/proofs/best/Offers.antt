@@ -1,5 +1,6 @@
 -- The best of what is offered in some tubes is the next job, where the tubes cover all that is wanted.
-use Rattle.std.proofs.Common.{◌≡◌, ℕ, Bool, true, false, cond, not, ◌&&◌, inl, inr, List, [], ◌∷◌, Option, Some, None, IfSome, filter_map, option_map, is_some, refl, sym, ap, subst, ◌∙◌, arith}
+use Rattle.std.proofs.Common.{◌≡◌, ℕ, Bool, true, false, cond, not, ◌&&◌, inl, inr, List, [], ◌∷◌, Option, Some, None}
+use Rattle.std.proofs.Common.{IfSome, filter_map, option_map, is_some, refl, sym, ap, subst, ◌∙◌, arith}
 use Rattle.std.proofs.lemmas.Bool.{cond-true, cond-false, and_parts, and_from}
 use Rattle.object.specs.Lists.{In}
 use Rattle.job_store.specs.declared.job.Job.{Job}
@@ -31,7 +32,9 @@ module _ {X : Type 0} (by : X → ℕ) where
   abbrev IsMatched : List (ℕ × X) → List (ℕ × X) → Type 0
   IsMatched cs ds = (c : ℕ × X) → In c cs → (d : ℕ × X) × In d ds × (ComesBefore by c d → ⊥)
 
-  matched-least : (es cs ds : List (ℕ × X)) (lo hi : ℕ) → Rising lo hi es → ((c : ℕ × X) → In c cs → In c es) → ((d : ℕ × X) → In d ds → In d es) → IsMatched cs ds → IsMatched ds cs → least (λ e. true) by cs ≡ least (λ e. true) by ds
+  matched-least : (es cs ds : List (ℕ × X)) (lo hi : ℕ) → Rising lo hi es → ((c : ℕ × X) → In c cs → In c es)
+      → ((d : ℕ × X) → In d ds → In d es) → IsMatched cs ds → IsMatched ds cs
+      → least (λ e. true) by cs ≡ least (λ e. true) by ds
   matched-least es cs ds lo hi r c-in d-in forth back =
       elim (least (λ e. true) by cs) as (λ o. least (λ e. true) by cs ≡ o → IfSome o (IsLeast (λ e. true) by cs) → o ≡ least (λ e. true) by ds) [
         | None ↦ λ none _.
@@ -68,18 +71,25 @@ best_is : (tubes : List (List ℕ)) (jobs : List (ℕ × Job)) (c : ℕ × Job) 
 best_is tubes jobs c e = subst (λ o. IfSome o (IsLeast (ready_in tubes) pri_of_job jobs)) e (least-found (ready_in tubes) pri_of_job jobs)
 
 -- a ready job of these tubes does not come before the best one
-best_for : (tubes : List (List ℕ)) (jobs : List (ℕ × Job)) (c : ℕ × Job) → In c jobs → ready_in tubes c ≡ true → (d : ℕ × Job) × (best_ready tubes jobs ≡ Some d) × (ComesBefore pri_of_job c d → ⊥)
+best_for : (tubes : List (List ℕ)) (jobs : List (ℕ × Job)) (c : ℕ × Job) → In c jobs → ready_in tubes c ≡ true
+    → (d : ℕ × Job) × (best_ready tubes jobs ≡ Some d) × (ComesBefore pri_of_job c d → ⊥)
 best_for tubes jobs c there passes =
-    elim (best_ready tubes jobs) as (λ o. best_ready tubes jobs ≡ o → IfSome o (IsLeast (ready_in tubes) pri_of_job jobs) → (d : ℕ × Job) × (o ≡ Some d) × (ComesBefore pri_of_job c d → ⊥)) [
+    elim (best_ready tubes jobs) as (λ o. best_ready tubes jobs ≡ o
+    → IfSome o (IsLeast (ready_in tubes) pri_of_job jobs) → (d : ℕ × Job) × (o ≡ Some d)
+    × (ComesBefore pri_of_job c d → ⊥)) [
       | None ↦ λ none _. absurd (least-none (ready_in tubes) pri_of_job jobs c none there passes)
       | Some d ↦ λ _ best. (d, refl, best.least c there passes)
     ] refl (least-found (ready_in tubes) pri_of_job jobs)
 
 -- a session that waits for the tube is found
-waits_for : (sessions : List (ℕ × SessionState)) (tube : List ℕ) (w : ℕ × SessionState) → In w sessions → is_waiting w.1 ≡ true → is_among tube w.1.watched ≡ true → is_some (first_waiting (λ e. is_among tube e.1.watched) sessions) ≡ true
+waits_for : (sessions : List (ℕ × SessionState)) (tube : List ℕ) (w : ℕ × SessionState) → In w sessions
+    → is_waiting w.1 ≡ true → is_among tube w.1.watched ≡ true
+    → is_some (first_waiting (λ e. is_among tube e.1.watched) sessions) ≡ true
 waits_for sessions tube w there waits watches =
     elim (first_waiting (λ e. is_among tube e.1.watched) sessions) as (λ o. first_waiting (λ e. is_among tube e.1.watched) sessions ≡ o → is_some o ≡ true) [
-      | None ↦ λ none. absurd (least-none (λ e. is_waiting e.1 && is_among tube e.1.watched) wait_rank sessions w none there (and_from (is_waiting w.1) (is_among tube w.1.watched) waits watches))
+      | None ↦ λ none. absurd (least-none
+          (λ e. is_waiting e.1 && is_among tube e.1.watched) wait_rank sessions w none there
+          (and_from (is_waiting w.1) (is_among tube w.1.watched) waits watches))
       | Some v ↦ λ _. refl
     ] refl
 
@@ -111,45 +121,88 @@ not-so : (b : Bool) → not b ≡ true → b ≡ false
 not-so true e = sym e
 not-so false e = refl
 
-offered_by : (s : QueueState) (tubes : List (List ℕ)) (d : ℕ × Job) → In d (filter_map (offered (paused_tubes s) s.jobs s.sessions) tubes) → (w : ℕ × SessionState) × IsBestOf s d w
+offered_by : (s : QueueState) (tubes : List (List ℕ)) (d : ℕ × Job)
+    → In d (filter_map (offered (paused_tubes s) s.jobs s.sessions) tubes) → (w : ℕ × SessionState) × IsBestOf s d w
 offered_by s tubes d i =
     let from = mapped-from (offered (paused_tubes s) s.jobs s.sessions) d tubes i in
-    let both = chosen (not (is_among from.0 (paused_tubes s)) && is_some (first_waiting (λ e. is_among from.0 e.1.watched) s.sessions)) (first_ready from.0 s.jobs) d from.2 in
+    let both = chosen (not (is_among from.0 (paused_tubes s)) && is_some
+    (first_waiting (λ e. is_among from.0 e.1.watched) s.sessions)) (first_ready from.0 s.jobs) d from.2 in
     let tests = and_parts (not (is_among from.0 (paused_tubes s))) (is_some (first_waiting (λ e. is_among from.0 e.1.watched) s.sessions)) both.0 in
     let best = best_is (from.0 ∷ []) s.jobs d both.1 in
     let parts = and_parts (is_ready d.1.state) (is_among d.1.tube (from.0 ∷ [])) best.passes in
     let first = the_some (first_waiting (λ e. is_among from.0 e.1.watched) s.sessions) tests.1 in
-    let w = subst (λ o. IfSome o (λ w. In w s.sessions × (is_waiting w.1 ≡ true) × (is_among from.0 w.1.watched ≡ true))) first.1 (first_waiting-in (λ e. is_among from.0 e.1.watched) s.sessions) in
-    let its = in_one from.0 d.1.tube parts.1 in
-    (first.0, record { known = w.0; waits = w.1; there = best.member; ready = parts.0; unpaused = ap (λ t. is_among t (paused_tubes s)) its ∙ not-so _ tests.0; watches = subst (λ t. is_among t first.0.1.watched ≡ true) (sym its) w.2 })
+    let w = subst (λ o. IfSome o (λ w. In w s.sessions × (is_waiting w.1 ≡ true)
+    × (is_among from.0 w.1.watched ≡ true))) first.1
+    (first_waiting-in (λ e. is_among from.0 e.1.watched) s.sessions) in
+    let its = in_one from.0 d.1.tube parts.1 in (
+      first.0,
+      record {
+        known = w.0;
+        waits = w.1;
+        there = best.member;
+        ready = parts.0;
+        unpaused =
+            ap (λ t. is_among t (paused_tubes s)) its ∙ not-so _ tests.0;
+        watches =
+            subst (λ t. is_among t first.0.1.watched ≡ true) (sym its) w.2;
+      },
+    )
 
 -- in tubes that cover what is wanted, the best of what is offered is the next job
-pub next-offered : (tubes : List (List ℕ)) (s : QueueState) (hi : ℕ) → Rising 0 hi s.jobs → Covers tubes s → best_offer (paused_tubes s) s.jobs s.sessions tubes ≡ next_job s
+pub next-offered : (tubes : List (List ℕ)) (s : QueueState) (hi : ℕ) → Rising 0 hi s.jobs → Covers tubes s
+    → best_offer (paused_tubes s) s.jobs s.sessions tubes ≡ next_job s
 next-offered tubes s hi r covers =
-    matched-least pri_of_job s.jobs (filter_map (offered (paused_tubes s) s.jobs s.sessions) tubes) (filter_map (wanted (paused_tubes s) s.jobs) s.sessions) 0 hi r
+    matched-least pri_of_job s.jobs (filter_map (offered (paused_tubes s) s.jobs s.sessions) tubes)
+    (filter_map (wanted (paused_tubes s) s.jobs) s.sessions) 0 hi r
     (λ d i. (offered_by s tubes d i).1.there)
     (λ c i. (wanted_by s c i).1.there)
     (λ d i.
     let w = offered_by s tubes d i in
     let watched = not_paused (paused_tubes s) w.0.1.watched in
-    let best = best_for watched s.jobs d w.1.there (and_from (is_ready d.1.state) (is_among d.1.tube watched) w.1.ready (watched-open (paused_tubes s) w.0.1.watched d.1.tube w.1.watches w.1.unpaused)) in
-    (best.0, mapped-in (wanted (paused_tubes s) s.jobs) w.0 best.0 s.sessions w.1.known (cond-true (is_waiting w.0.1) (best_ready watched s.jobs) None w.1.waits ∙ best.1), best.2))
+    let best = best_for watched s.jobs d w.1.there
+    (and_from (is_ready d.1.state) (is_among d.1.tube watched) w.1.ready
+    (watched-open (paused_tubes s) w.0.1.watched d.1.tube w.1.watches w.1.unpaused)) in (
+      best.0,
+      mapped-in (wanted (paused_tubes s) s.jobs) w.0 best.0 s.sessions w.1.known
+          (cond-true (is_waiting w.0.1) (best_ready watched s.jobs) None w.1.waits ∙ best.1),
+      best.2,
+    ))
     (λ c i.
     let w = wanted_by s c i in
     let alone : is_among c.1.tube (c.1.tube ∷ []) ≡ true = (among-member c.1.tube (c.1.tube ∷ [])).1 (inl refl) in
     let best = best_for (c.1.tube ∷ []) s.jobs c w.1.there (and_from (is_ready c.1.state) (is_among c.1.tube (c.1.tube ∷ [])) w.1.ready alone) in
-    let named : In c.1.tube tubes = covers c (record { there = w.1.there; ready = w.1.ready; unpaused = w.1.unpaused; watched = (w.0, w.1.known, w.1.waits, w.1.watches) }) in
+    let named : In c.1.tube tubes =
+    covers c (record {
+      there = w.1.there;
+      ready = w.1.ready;
+      unpaused = w.1.unpaused;
+      watched =
+          (w.0, w.1.known, w.1.waits, w.1.watches);
+    }) in
     let found = waits_for s.sessions c.1.tube w.0 w.1.known w.1.waits w.1.watches in
-    let passes = and_from (not (is_among c.1.tube (paused_tubes s))) (is_some (first_waiting (λ e. is_among c.1.tube e.1.watched) s.sessions)) (ap not w.1.unpaused) found in
-    (best.0, mapped-in (offered (paused_tubes s) s.jobs s.sessions) c.1.tube best.0 tubes named (cond-true (not (is_among c.1.tube (paused_tubes s)) && is_some (first_waiting (λ e. is_among c.1.tube e.1.watched) s.sessions)) (first_ready c.1.tube s.jobs) None passes ∙ best.1), best.2))
+    let passes = and_from (not (is_among c.1.tube (paused_tubes s)))
+    (is_some (first_waiting (λ e. is_among c.1.tube e.1.watched) s.sessions)) (ap not w.1.unpaused) found in (
+      best.0,
+      mapped-in (offered (paused_tubes s) s.jobs s.sessions) c.1.tube best.0 tubes named
+          (cond-true (not (is_among c.1.tube (paused_tubes s)) && is_some
+          (first_waiting (λ e. is_among c.1.tube e.1.watched) s.sessions))
+          (first_ready c.1.tube s.jobs) None passes ∙ best.1),
+      best.2,
+    ))
 
 -- Offers one by one
 
-pub offer-taken : {B : Type 0} (show : B → ℕ × Job) (best best' job : Option B) (paused : List (List ℕ)) (jobs : List (ℕ × Job)) (sessions : List (ℕ × SessionState)) (tube : List ℕ) → has_taker paused sessions tube ≡ true → option_map show job ≡ first_ready tube jobs → option_map show best' ≡ first_of pri_of_job (option_map show best) (option_map show job) → option_map show best' ≡ first_of pri_of_job (option_map show best) (offered paused jobs sessions tube)
+pub offer-taken : {B : Type 0} (show : B → ℕ × Job) (best best' job : Option B) (paused : List (List ℕ))
+    (jobs : List (ℕ × Job)) (sessions : List (ℕ × SessionState)) (tube : List ℕ) → has_taker paused sessions tube ≡ true
+    → option_map show job ≡ first_ready tube jobs
+    → option_map show best' ≡ first_of pri_of_job (option_map show best) (option_map show job)
+    → option_map show best' ≡ first_of pri_of_job (option_map show best) (offered paused jobs sessions tube)
 offer-taken show best best' job paused jobs sessions tube taken found new =
     new ∙ ap (first_of pri_of_job (option_map show best)) (found ∙ sym (cond-true (has_taker paused sessions tube) (first_ready tube jobs) None taken))
 
-pub offer-passed : {B : Type 0} (show : B → ℕ × Job) (best : Option B) (paused : List (List ℕ)) (jobs : List (ℕ × Job)) (sessions : List (ℕ × SessionState)) (tube : List ℕ) → has_taker paused sessions tube ≡ false → option_map show best ≡ first_of pri_of_job (option_map show best) (offered paused jobs sessions tube)
+pub offer-passed : {B : Type 0} (show : B → ℕ × Job) (best : Option B) (paused : List (List ℕ)) (jobs : List (ℕ × Job))
+    (sessions : List (ℕ × SessionState)) (tube : List ℕ) → has_taker paused sessions tube ≡ false
+    → option_map show best ≡ first_of pri_of_job (option_map show best) (offered paused jobs sessions tube)
 offer-passed show best paused jobs sessions tube none =
     first_of-none pri_of_job (option_map show best) ∙
     ap (first_of pri_of_job (option_map show best)) (sym (cond-false (has_taker paused sessions tube) (first_ready tube jobs) None none))

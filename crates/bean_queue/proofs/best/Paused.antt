@@ -7,7 +7,9 @@ use Rattle.job_store.proofs.least.Least.{among-member}
 in-open : (paused tubes : List (List ℕ)) (tube : List ℕ) → In tube (not_paused paused tubes) → In tube tubes × (is_among tube paused ≡ false)
 in-open paused [] tube i = absurd i
 in-open paused (t ∷ ts) tube i =
-    elim (is_among t paused) as (λ b. is_among t paused ≡ b → In tube (cond (not b) (t ∷ not_paused paused ts) (not_paused paused ts)) → In tube (t ∷ ts) × (is_among tube paused ≡ false)) [
+    elim (is_among t paused) as (λ b. is_among t paused ≡ b
+    → In tube (cond (not b) (t ∷ not_paused paused ts) (not_paused paused ts)) → In tube (t ∷ ts)
+    × (is_among tube paused ≡ false)) [
       | true ↦ λ _ i. let h = in-open paused ts tube i in (inr h.0, h.1)
       | false ↦ λ e i. elim i as (λ _. In tube (t ∷ ts) × (is_among tube paused ≡ false)) [
         | inl same ↦ (inl same, ap (λ n. is_among n paused) same ∙ e)
@@ -26,12 +28,14 @@ open-in paused (t ∷ ts) tube i apart =
       | false ↦ λ e. elim i as (λ _. In tube (t ∷ not_paused paused ts)) [ inl same ↦ inl same | inr more ↦ inr (open-in paused ts tube more apart) ]
     ] refl
 
-pub open-watched : (paused tubes : List (List ℕ)) (tube : List ℕ) → is_among tube (not_paused paused tubes) ≡ true → (is_among tube tubes ≡ true) × (is_among tube paused ≡ false)
+pub open-watched : (paused tubes : List (List ℕ)) (tube : List ℕ) → is_among tube (not_paused paused tubes) ≡ true
+    → (is_among tube tubes ≡ true) × (is_among tube paused ≡ false)
 open-watched paused tubes tube t =
     let h = in-open paused tubes tube ((among-member tube (not_paused paused tubes)).0 t) in
     ((among-member tube tubes).1 h.0, h.1)
 
-pub watched-open : (paused tubes : List (List ℕ)) (tube : List ℕ) → is_among tube tubes ≡ true → is_among tube paused ≡ false → is_among tube (not_paused paused tubes) ≡ true
+pub watched-open : (paused tubes : List (List ℕ)) (tube : List ℕ) → is_among tube tubes ≡ true
+    → is_among tube paused ≡ false → is_among tube (not_paused paused tubes) ≡ true
 watched-open paused tubes tube t apart = (among-member tube (not_paused paused tubes)).1 (open-in paused tubes tube ((among-member tube tubes).0 t) apart)
 
 -- what is paused is not among them

@@ -17,7 +17,8 @@ pub none-served : (s : QueueState) → next_job s ≡ None → serve_turn s ≡ 
 unfolding serve_turn
 none-served s e = ap (give s) e
 
-pub nobody-served : (s : QueueState) (j : ℕ × Job) → next_job s ≡ Some j → first_waiting (λ e. is_among j.1.tube e.1.watched) s.sessions ≡ None → serve_turn s ≡ None
+pub nobody-served : (s : QueueState) (j : ℕ × Job) → next_job s ≡ Some j
+    → first_waiting (λ e. is_among j.1.tube e.1.watched) s.sessions ≡ None → serve_turn s ≡ None
 unfolding serve_turn
 nobody-served s j e f = ap (give s) e ∙ ap (give_to s j) f
 
@@ -30,14 +31,43 @@ unfolding timeout_turn
 none-told_timeout s e = ap (tell s Reply.TimedOut) e
 
 -- a turn
-pub served : (s : QueueState) (j : ℕ × Job) (w : ℕ × SessionState) (jobs : List (ℕ × Job)) (sessions : List (ℕ × SessionState)) (xs ys : List (Answer Reply)) → next_job s ≡ Some j → first_waiting (λ e. is_among j.1.tube e.1.watched) s.sessions ≡ Some w → jobs ≡ altered j.0 (with_state (State.Reserved w.0 (s.now + j.1.ttr))) s.jobs → sessions ≡ with_wait_ended w.0 s.sessions → ys ≡ xs ++ answer_to w (Reply.Reserved j.0 j.1.body) ∷ [] → IsTurn serve_turn s (record s { jobs = jobs; sessions = sessions }) xs ys true
+pub served : (s : QueueState) (j : ℕ × Job) (w : ℕ × SessionState) (jobs : List (ℕ × Job))
+    (sessions : List (ℕ × SessionState)) (xs ys : List (Answer Reply)) → next_job s ≡ Some j
+    → first_waiting (λ e. is_among j.1.tube e.1.watched) s.sessions ≡ Some w
+    → jobs ≡ altered j.0 (with_state (State.Reserved w.0 (s.now + j.1.ttr))) s.jobs
+    → sessions ≡ with_wait_ended w.0 s.sessions → ys ≡ xs ++ answer_to w (Reply.Reserved j.0 j.1.body) ∷ []
+    → IsTurn serve_turn s (record s { jobs = jobs; sessions = sessions }) xs ys true
 unfolding serve_turn given
-served s j w jobs sessions xs ys e f g h a = (given s j w, ap (give s) e ∙ ap (give_to s j) f, ap₂ (λ es ss. let t : QueueState = record s { jobs = es; sessions = ss } in t) g h, a)
+served s j w jobs sessions xs ys e f g h a = (
+  given s j w,
+  ap (give s) e ∙ ap (give_to s j) f,
+  ap₂
+      (λ es ss. let t : QueueState = record s { jobs = es; sessions = ss } in t) g h,
+  a,
+)
 
-pub told_deadline : (s : QueueState) (w : ℕ × SessionState) (sessions : List (ℕ × SessionState)) (xs ys : List (Answer Reply)) → first_waiting (λ e. holds_by e.0 (s.now + 1) s.jobs) s.sessions ≡ Some w → sessions ≡ with_wait_ended w.0 s.sessions → ys ≡ xs ++ answer_to w Reply.DeadlineSoon ∷ [] → IsTurn deadline_turn s (record s { sessions = sessions }) xs ys true
+pub told_deadline : (s : QueueState) (w : ℕ × SessionState) (sessions : List (ℕ × SessionState))
+    (xs ys : List (Answer Reply)) → first_waiting (λ e. holds_by e.0 (s.now + 1) s.jobs) s.sessions ≡ Some w
+    → sessions ≡ with_wait_ended w.0 s.sessions → ys ≡ xs ++ answer_to w Reply.DeadlineSoon ∷ []
+    → IsTurn deadline_turn s (record s { sessions = sessions }) xs ys true
 unfolding deadline_turn told_turn
-told_deadline s w sessions xs ys f h a = (told_turn s Reply.DeadlineSoon w, ap (tell s Reply.DeadlineSoon) f, ap (λ ss. let t : QueueState = record s { sessions = ss } in t) h, a)
+told_deadline s w sessions xs ys f h a = (
+  told_turn s Reply.DeadlineSoon w,
+  ap (tell s Reply.DeadlineSoon) f,
+  ap
+      (λ ss. let t : QueueState = record s { sessions = ss } in t) h,
+  a,
+)
 
-pub told_timeout : (s : QueueState) (w : ℕ × SessionState) (sessions : List (ℕ × SessionState)) (xs ys : List (Answer Reply)) → first_waiting (λ e. has_timed_out s.now e.1.wait) s.sessions ≡ Some w → sessions ≡ with_wait_ended w.0 s.sessions → ys ≡ xs ++ answer_to w Reply.TimedOut ∷ [] → IsTurn timeout_turn s (record s { sessions = sessions }) xs ys true
+pub told_timeout : (s : QueueState) (w : ℕ × SessionState) (sessions : List (ℕ × SessionState))
+    (xs ys : List (Answer Reply)) → first_waiting (λ e. has_timed_out s.now e.1.wait) s.sessions ≡ Some w
+    → sessions ≡ with_wait_ended w.0 s.sessions → ys ≡ xs ++ answer_to w Reply.TimedOut ∷ []
+    → IsTurn timeout_turn s (record s { sessions = sessions }) xs ys true
 unfolding timeout_turn told_turn
-told_timeout s w sessions xs ys f h a = (told_turn s Reply.TimedOut w, ap (tell s Reply.TimedOut) f, ap (λ ss. let t : QueueState = record s { sessions = ss } in t) h, a)
+told_timeout s w sessions xs ys f h a = (
+  told_turn s Reply.TimedOut w,
+  ap (tell s Reply.TimedOut) f,
+  ap
+      (λ ss. let t : QueueState = record s { sessions = ss } in t) h,
+  a,
+)

@@ -20,16 +20,20 @@ still_some (Some v) e = refl
 pub called-there : (s t : QueueState) (x : ℕ) → t ≡ called x s → IsSome (value_at x t.sessions)
 called-there s t x e =
     subst (λ (t : QueueState). IsSome (value_at x t.sessions)) (sym e)
-    (elim (is_some (value_at x s.sessions)) as (λ b. is_some (value_at x s.sessions) ≡ b → is_some (value_at x (cond b (with_wait_ended x s.sessions) (with_value x new_session s.sessions))) ≡ true) [
+    (elim (is_some (value_at x s.sessions)) as (λ b. is_some (value_at x s.sessions) ≡ b
+    → is_some (value_at x (cond b (with_wait_ended x s.sessions) (with_value x new_session s.sessions))) ≡ true) [
       | true ↦ λ there. ap is_some (value_at-altered x (with_wait None) s.sessions) ∙ still_some (value_at x s.sessions) there
       | false ↦ λ absent. ap is_some (value_at-insert x new_session s.sessions)
     ] refl)
 
 -- the state after a quiet operation, and its answer
-pub quiet-state : (op : Op) (key : Key) (s t u : QueueState) → is_quiet op ≡ true → serve_turn s ≡ None → t ≡ called key.session s → u ≡ (row op key t).state → u ≡ (carried_out op key s).state
+pub quiet-state : (op : Op) (key : Key) (s t u : QueueState) → is_quiet op ≡ true → serve_turn s ≡ None
+    → t ≡ called key.session s → u ≡ (row op key t).state → u ≡ (carried_out op key s).state
 quiet-state op key s t u q calm c e =
     e ∙ ap (λ t. (row op key t).state) c ∙ sym (ap (λ (o : QueueOutcome). o.state) (quiet-effect op key s q calm))
 
-pub quiet-reply : (op : Op) (key : Key) (s t : QueueState) (reply : Reply) → is_quiet op ≡ true → serve_turn s ≡ None → t ≡ called key.session s → (row op key t).reply ≡ Some reply → (carried_out op key s).answers ≡ record { to = key; reply = reply } ∷ []
+pub quiet-reply : (op : Op) (key : Key) (s t : QueueState) (reply : Reply) → is_quiet op ≡ true → serve_turn s ≡ None
+    → t ≡ called key.session s → (row op key t).reply ≡ Some reply
+    → (carried_out op key s).answers ≡ record { to = key; reply = reply } ∷ []
 quiet-reply op key s t reply q calm c e =
     ap (λ (o : QueueOutcome). o.answers) (quiet-effect op key s q calm) ∙ ap (own key) (sym (ap (λ t. (row op key t).reply) c) ∙ e)

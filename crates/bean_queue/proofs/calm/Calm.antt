@@ -1,5 +1,7 @@
 -- Where nothing is left to give, nothing is after less: fewer ready jobs, and fewer sessions that wait.
-use Rattle.std.proofs.Common.{◌≡◌, ℕ, ◌+◌, Bool, true, false, cond, inl, inr, List, [], ◌∷◌, ◌++◌, append-nil, filter_map, length, Option, Some, None, is_some, ◌==◌, nat_lt, refl, sym, ap, subst, ◌∙◌, eqb-true, true≢false}
+use Rattle.std.proofs.Common.{◌≡◌, ℕ, ◌+◌, Bool, true, false, cond, inl, inr, List, [], ◌∷◌, ◌++◌, append-nil}
+use Rattle.std.proofs.Common.{filter_map, length, Option, Some, None, is_some, ◌==◌, nat_lt, refl, sym, ap, subst, ◌∙◌}
+use Rattle.std.proofs.Common.{eqb-true, true≢false}
 use Rattle.std.proofs.lemmas.Bool.{and_parts, and_from}
 use Rattle.std.specs.List.{cons_option}
 use Rattle.object.specs.Lists.{In}
@@ -19,9 +21,13 @@ use Rattle.pause_store.specs.Pauses.{is_paused}
 use Rattle.bean_queue.specs.declared.op.Op.{Op}
 use Rattle.bean_queue.specs.declared.reply.Reply.{Reply}
 use Rattle.bean_queue.specs.Queue.{QueueState, paused_tubes, with_sessions, fresh, watched_by, holds_by}
-use Rattle.bean_queue.specs.Rows.{Row, row, put_row, use_row, watch_row, ignore_row, reserve_row, delete_row, may_delete, is_job_that, release_row, touch_row, bury_row, kick_row, kick_job_row, peek_row}
-use Rattle.bean_queue.specs.Turns.{QueueOutcome, after_option, QueueTurn, stop, all_turns, wanted, give, serve_turn, told_turn, deadline_turn, timeout_turn, serve}
-use Rattle.bean_queue.specs.Effects.{own, own_outcome, then_do, called, ends_wait, is_zero, turned_away, has_no_number, carried_out, do_effect, released, forgotten, at_second, tick_effect, is_quiet}
+use Rattle.bean_queue.specs.Rows.{Row, row, put_row, use_row, watch_row, ignore_row, reserve_row, delete_row}
+use Rattle.bean_queue.specs.Rows.{may_delete, is_job_that, release_row, touch_row, bury_row, kick_row, kick_job_row}
+use Rattle.bean_queue.specs.Rows.{peek_row}
+use Rattle.bean_queue.specs.Turns.{QueueOutcome, after_option, QueueTurn, stop, all_turns, wanted, give, serve_turn}
+use Rattle.bean_queue.specs.Turns.{told_turn, deadline_turn, timeout_turn, serve}
+use Rattle.bean_queue.specs.Effects.{own, own_outcome, then_do, called, ends_wait, is_zero, turned_away, has_no_number}
+use Rattle.bean_queue.specs.Effects.{carried_out, do_effect, released, forgotten, at_second, tick_effect, is_quiet}
 use Rattle.bean_queue.specs.TurnLaws.{least-none, none-least, turns-keep, deadline_turn-is, timeout_turn-is, IsTold, IfSome-map}
 use Rattle.bean_queue.proofs.best.Paused.{open-watched, watched-open}
 use Rattle.bean_queue.proofs.best.Served.{serve-done, idle_none, turns-unroll, serves}
@@ -40,15 +46,21 @@ was-open s t tube c open-now =
       | false ↦ λ e. refl
     ] refl
 
-none-wanted : (paused : List (List ℕ)) (jobs : List (ℕ × Job)) (sessions : List (ℕ × SessionState)) → ((w : ℕ × SessionState) → In w sessions → is_waiting w.1 ≡ true → best_ready (not_paused paused w.1.watched) jobs ≡ None) → filter_map (wanted paused jobs) sessions ≡ []
+none-wanted : (paused : List (List ℕ)) (jobs : List (ℕ × Job)) (sessions : List (ℕ × SessionState))
+    → ((w : ℕ × SessionState) → In w sessions → is_waiting w.1 ≡ true
+    → best_ready (not_paused paused w.1.watched) jobs ≡ None) → filter_map (wanted paused jobs) sessions ≡ []
 none-wanted paused jobs [] h = refl
 none-wanted paused jobs (w ∷ ws) h =
-    elim (is_waiting w.1) as (λ b. is_waiting w.1 ≡ b → cons_option (cond b (best_ready (not_paused paused w.1.watched) jobs) None) (filter_map (wanted paused jobs) ws) ≡ []) [
+    elim (is_waiting w.1) as (λ b. is_waiting w.1 ≡ b
+    → cons_option (cond b (best_ready (not_paused paused w.1.watched) jobs) None)
+    (filter_map (wanted paused jobs) ws) ≡ []) [
       | true ↦ λ t. ap (λ o. cons_option o (filter_map (wanted paused jobs) ws)) (h w (inl refl) t) ∙ none-wanted paused jobs ws (λ v i. h v (inr i))
       | false ↦ λ t. none-wanted paused jobs ws (λ v i. h v (inr i))
     ] refl
 
-pub no-turn : (s : QueueState) → ((w : ℕ × SessionState) → In w s.sessions → is_waiting w.1 ≡ true → best_ready (not_paused (paused_tubes s) w.1.watched) s.jobs ≡ None) → serve_turn s ≡ None
+pub no-turn : (s : QueueState)
+    → ((w : ℕ × SessionState) → In w s.sessions → is_waiting w.1 ≡ true
+    → best_ready (not_paused (paused_tubes s) w.1.watched) s.jobs ≡ None) → serve_turn s ≡ None
 unfolding serve_turn
 no-turn s h = ap (λ es. give s (least (λ e. true) pri_of_job es)) (none-wanted (paused_tubes s) s.jobs s.sessions h)
 
@@ -62,7 +74,8 @@ calm s t none c =
     let parts = and_parts (is_ready j.1.state) (is_among j.1.tube (not_paused (paused_tubes t) w.1.watched)) passes in
     let clear = open-watched (paused_tubes t) w.1.watched j.1.tube parts.1 in
     least-none (ready_in (not_paused (paused_tubes s) w.1.watched)) pri_of_job s.jobs j before (c.jobs j there parts.0)
-    (and_from (is_ready j.1.state) (is_among j.1.tube (not_paused (paused_tubes s) w.1.watched)) parts.0 (watched-open (paused_tubes s) w.1.watched j.1.tube clear.0 (was-open s t j.1.tube c clear.1)))))
+    (and_from (is_ready j.1.state) (is_among j.1.tube (not_paused (paused_tubes s) w.1.watched)) parts.0
+    (watched-open (paused_tubes s) w.1.watched j.1.tube clear.0 (was-open s t j.1.tube c clear.1)))))
 
 -- Sessions
 
@@ -73,7 +86,8 @@ the_wait : (o : Option Wait) → is_some o ≡ true → (w : Wait) × (o ≡ Som
 the_wait None e = cc
 the_wait (Some w) e = (w, refl)
 
-pub ended-calmer : (x : ℕ) (sessions : List (ℕ × SessionState)) (w : ℕ × SessionState) → In w (with_wait_ended x sessions) → is_waiting w.1 ≡ true → In w sessions
+pub ended-calmer : (x : ℕ) (sessions : List (ℕ × SessionState)) (w : ℕ × SessionState)
+    → In w (with_wait_ended x sessions) → is_waiting w.1 ≡ true → In w sessions
 ended-calmer x sessions w i =
     altered-in x (with_wait None) (λ w. is_waiting w.1 ≡ true → In w sessions) sessions
     (λ d there.
@@ -85,13 +99,18 @@ ended-calmer x sessions w i =
 
 known-calmer : (x : ℕ) (sessions : List (ℕ × SessionState)) (w : ℕ × SessionState) → In w (known x sessions) → is_waiting w.1 ≡ true → In w sessions
 known-calmer x sessions w i =
-    elim (is_some (value_at x sessions)) as (λ b. In w (cond b (with_wait_ended x sessions) (with_value x new_session sessions)) → is_waiting w.1 ≡ true → In w sessions) [
+    elim (is_some (value_at x sessions)) as (λ b. In w
+    (cond b (with_wait_ended x sessions) (with_value x new_session sessions)) → is_waiting w.1 ≡ true
+    → In w sessions) [
       | true ↦ λ i. ended-calmer x sessions w i
       | false ↦ λ i. insert-in (λ w. is_waiting w.1 ≡ true → In w sessions) x new_session sessions (λ q t. cc) (λ d there t. there) w i
     ] i
 
 -- of sessions among which x does not wait, a change of x that keeps its wait
-kept-calmer : (x : ℕ) (f : SessionState → SessionState) (sessions : List (ℕ × SessionState)) → ((c : SessionState) → (f c).wait ≡ c.wait) → ((d : ℕ × SessionState) → In d sessions → x ≡ d.0 → is_waiting d.1 ≡ true → ⊥) → (w : ℕ × SessionState) → In w (altered x f sessions) → is_waiting w.1 ≡ true → In w sessions
+kept-calmer : (x : ℕ) (f : SessionState → SessionState) (sessions : List (ℕ × SessionState))
+    → ((c : SessionState) → (f c).wait ≡ c.wait)
+    → ((d : ℕ × SessionState) → In d sessions → x ≡ d.0 → is_waiting d.1 ≡ true → ⊥) → (w : ℕ × SessionState)
+    → In w (altered x f sessions) → is_waiting w.1 ≡ true → In w sessions
 kept-calmer x f sessions same idle w i =
     altered-in x f (λ w. is_waiting w.1 ≡ true → In w sessions) sessions
     (λ d there.
@@ -109,7 +128,8 @@ known-idle x sessions d i same t =
 -- Jobs
 
 -- a change to a state that is not ready
-pub changed-calmer : (k : ℕ) (f : Job → Job) (jobs : List (ℕ × Job)) → ((job : Job) → is_ready (f job).state ≡ false) → (j : ℕ × Job) → In j (altered k f jobs) → is_ready j.1.state ≡ true → In j jobs
+pub changed-calmer : (k : ℕ) (f : Job → Job) (jobs : List (ℕ × Job)) → ((job : Job) → is_ready (f job).state ≡ false)
+    → (j : ℕ × Job) → In j (altered k f jobs) → is_ready j.1.state ≡ true → In j jobs
 changed-calmer k f jobs unready j i =
     altered-in k f (λ j. is_ready j.1.state ≡ true → In j jobs) jobs
     (λ d there.
@@ -131,11 +151,30 @@ calmer_if s false r q h k = k
 quiet-row : (op : Op) (key : Key) (s : QueueState) → is_quiet op ≡ true → IsCalmer (called key.session s) (row op key (called key.session s)).state
 unfolding row put_row use_row watch_row ignore_row reserve_row delete_row release_row touch_row bury_row kick_row kick_job_row peek_row
 quiet-row (Op.Put pri delay ttr body) key s q = cc
-quiet-row (Op.Use tube) key s q = record { jobs = λ j i t. i; sessions = kept-calmer key.session _ (known key.session s.sessions) (λ c. refl) (known-idle key.session s.sessions); pauses = λ tube p. p }
-quiet-row (Op.Watch tube) key s q = record { jobs = λ j i t. i; sessions = kept-calmer key.session _ (known key.session s.sessions) (λ c. refl) (known-idle key.session s.sessions); pauses = λ tube p. p }
+quiet-row (Op.Use tube) key s q =
+    record {
+      jobs = λ j i t. i;
+      sessions =
+          kept-calmer key.session _ (known key.session s.sessions) (λ c. refl) (known-idle key.session s.sessions);
+      pauses =
+          λ tube p. p;
+    }
+quiet-row (Op.Watch tube) key s q =
+    record {
+      jobs = λ j i t. i;
+      sessions =
+          kept-calmer key.session _ (known key.session s.sessions) (λ c. refl) (known-idle key.session s.sessions);
+      pauses =
+          λ tube p. p;
+    }
 quiet-row (Op.Ignore tube) key s q =
     calmer_if (called key.session s) (is_alone tube (watched_by (called key.session s) key.session)) _ _ (same-calmer (called key.session s))
-    (record { jobs = λ j i t. i; sessions = kept-calmer key.session _ (known key.session s.sessions) (λ c. refl) (known-idle key.session s.sessions); pauses = λ tube p. p })
+    (record {
+      jobs = λ j i t. i;
+      sessions =
+          kept-calmer key.session _ (known key.session s.sessions) (λ c. refl) (known-idle key.session s.sessions);
+      pauses = λ tube p. p;
+    })
 quiet-row (Op.Reserve seconds) key s q = cc
 quiet-row (Op.Delete id) key s q =
     calmer_if (called key.session s) (is_job_that (may_delete key.session) (value_at id s.jobs)) _ _
@@ -171,7 +210,8 @@ unfolding serve
 serve-none s none = turns-unroll serve_turn serves s ∙ ap (after_option (all_turns serve_turn) s) none
 
 -- after a quiet operation nobody is served
-pub quiet-effect : (op : Op) (key : Key) (s : QueueState) → is_quiet op ≡ true → serve_turn s ≡ None → carried_out op key s ≡ own_outcome key (row op key (called key.session s))
+pub quiet-effect : (op : Op) (key : Key) (s : QueueState) → is_quiet op ≡ true → serve_turn s ≡ None
+    → carried_out op key s ≡ own_outcome key (row op key (called key.session s))
 unfolding carried_out
 quiet-effect op key s q none =
     let r = row op key (called key.session s) in
@@ -204,11 +244,15 @@ told-calm reply s t i none = subst (λ (t : QueueTurn). serve_turn t.state ≡ N
 
 pub deadlines-calm : (s : QueueState) → serve_turn s ≡ None → serve_turn (all_turns deadline_turn s).state ≡ None
 unfolding all_turns
-deadlines-calm s none = (turns-keep deadline_turn (λ s. serve_turn s ≡ None) (λ a. Unit {0}) (λ s n. IfSome-map _ _ (deadline_turn s) (λ t i. (told-calm Reply.DeadlineSoon s t i n, tt)) (deadline_turn-is s)) (length s.sessions) s none).0
+deadlines-calm s none = (turns-keep deadline_turn (λ s. serve_turn s ≡ None) (λ a. Unit {0})
+    (λ s n. IfSome-map _ _ (deadline_turn s) (λ t i. (told-calm Reply.DeadlineSoon s t i n, tt)) (deadline_turn-is s))
+    (length s.sessions) s none).0
 
 pub timeouts-calm : (s : QueueState) → serve_turn s ≡ None → serve_turn (all_turns timeout_turn s).state ≡ None
 unfolding all_turns
-timeouts-calm s none = (turns-keep timeout_turn (λ s. serve_turn s ≡ None) (λ a. Unit {0}) (λ s n. IfSome-map _ _ (timeout_turn s) (λ t i. (told-calm Reply.TimedOut s t i n, tt)) (timeout_turn-is s)) (length s.sessions) s none).0
+timeouts-calm s none = (turns-keep timeout_turn (λ s. serve_turn s ≡ None) (λ a. Unit {0})
+    (λ s n. IfSome-map _ _ (timeout_turn s) (λ t i. (told-calm Reply.TimedOut s t i n, tt)) (timeout_turn-is s))
+    (length s.sessions) s none).0
 
 carried_out-calm : (op : Op) (key : Key) (s : QueueState) → serve_turn (carried_out op key s).state ≡ None
 unfolding carried_out
@@ -216,12 +260,14 @@ carried_out-calm op key s = turned_away-calm op key _ (serve-done (row op key (c
 
 pub do-calm : (op : Op) (key : Key) (s : QueueState) → serve_turn s ≡ None → serve_turn (do_effect op key s).state ≡ None
 unfolding do_effect
-do-calm op key s none = outcome_if (has_no_number op s) (ends_wait s key Reply.InternalError) (carried_out op key s) (ended-calm key.session s none) (carried_out-calm op key s)
+do-calm op key s none = outcome_if (has_no_number op s) (ends_wait s key Reply.InternalError) (carried_out op key s)
+    (ended-calm key.session s none) (carried_out-calm op key s)
 
 pub close-calm : (x : ℕ) (s : QueueState) → serve_turn (forgotten x (serve (released x s)).state) ≡ None
 close-calm x s =
     let o = serve (released x s) in
-    calm o.state (forgotten x o.state) (serve-done (released x s)) (record { jobs = λ j i t. i; sessions = λ w i t. without-in x o.state.sessions w i; pauses = λ tube p. p })
+    calm o.state (forgotten x o.state) (serve-done (released x s))
+    (record { jobs = λ j i t. i; sessions = λ w i t. without-in x o.state.sessions w i; pauses = λ tube p. p })
 
 pub tick-calm : (second : ℕ) (s : QueueState) → serve_turn s ≡ None → serve_turn (tick_effect second s).state ≡ None
 unfolding tick_effect
@@ -233,5 +279,6 @@ unfolding serve_turn
 fresh-calm = refl
 
 -- a state that was kept, and came of an effect that leaves nothing to give
-pub kept-calm : (effect kept before now : QueueState) → serve_turn effect ≡ None → kept ≡ effect → now ≡ kept → before ≡ kept → (before ≡ now) × (serve_turn now ≡ None)
+pub kept-calm : (effect kept before now : QueueState) → serve_turn effect ≡ None → kept ≡ effect → now ≡ kept
+    → before ≡ kept → (before ≡ now) × (serve_turn now ≡ None)
 kept-calm effect kept before now none e n b = (b ∙ sym n, ap serve_turn (n ∙ e) ∙ none)

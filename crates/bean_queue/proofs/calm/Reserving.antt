@@ -1,5 +1,7 @@
 -- A reserve, where nothing was left to give: its own session alone can get a job.
-use Rattle.std.proofs.Common.{◌≡◌, ℕ, suc, ◌+◌, ◌<◌, ◌^◌, Bool, true, false, cond, ◌&&◌, inl, inr, List, [], ◌∷◌, ◌++◌, append-nil, filter_map, Option, Some, None, IfSome, is_some, unwrap_or, ◌==◌, refl, sym, ap, ap₂, subst, ◌∙◌, arith, eq-eqb, eqb-true, ne_eqb}
+use Rattle.std.proofs.Common.{◌≡◌, ℕ, suc, ◌+◌, ◌<◌, ◌^◌, Bool, true, false, cond, ◌&&◌, inl, inr, List, [], ◌∷◌, ◌++◌}
+use Rattle.std.proofs.Common.{append-nil, filter_map, Option, Some, None, IfSome, is_some, unwrap_or, ◌==◌, refl, sym}
+use Rattle.std.proofs.Common.{ap, ap₂, subst, ◌∙◌, arith, eq-eqb, eqb-true, ne_eqb}
 use Rattle.std.proofs.lemmas.Bool.{cases_eq, cond-true, cond-false, and_from, both_ways}
 use Rattle.std.specs.List.{cons_option}
 use Rattle.object.specs.Lists.{In}
@@ -22,7 +24,8 @@ use Rattle.bean_queue.specs.Rows.{row, reserve_row, time_out, waiting}
 use Rattle.bean_queue.specs.Turns.{QueueOutcome, stop, after_turn, after_option, all_turns, wanted, next_job, given, give, give_to, serve_turn, serve}
 use Rattle.bean_queue.specs.TurnLaws.{least-none, none-least, best_ready-in}
 use Rattle.bean_queue.specs.Effects.{then_do, called, own_outcome, is_zero, turned_away, carried_out}
-use Rattle.bean_queue.specs.Reserving.{is_reserve, wake_outcome, IsTaken, best_for, with_next_rank, taken, outcome_with, denial, refused_by, reserved_by, reserve_outcome}
+use Rattle.bean_queue.specs.Reserving.{is_reserve, wake_outcome, IsTaken, best_for, with_next_rank, taken, outcome_with}
+use Rattle.bean_queue.specs.Reserving.{denial, refused_by, reserved_by, reserve_outcome}
 use Rattle.bean_queue.proofs.best.Paused.{open-watched, watched-open}
 use Rattle.bean_queue.proofs.calm.Calm.{calm, changed-calmer, called-calm, no-turn, serve-none}
 use Rattle.bean_queue.proofs.best.Served.{idle_none, turns-unroll, serves}
@@ -41,7 +44,9 @@ module _ (x hi : ℕ) (g : SessionState → SessionState) where
     all-none [] h = refl
     all-none (e ∷ es) h = ap (λ o. cons_option o (filter_map f es)) (h e (inl refl)) ∙ all-none es (λ d i. h d (inr i))
 
-    only-one : (lo : ℕ) (es : List (ℕ × SessionState)) (c : SessionState) (y : Y) → Rising lo hi es → value_at x es ≡ Some c → f (x, g c) ≡ Some y → ((e : ℕ × SessionState) → In e es → f e ≡ None) → filter_map f (altered x g es) ≡ y ∷ []
+    only-one : (lo : ℕ) (es : List (ℕ × SessionState)) (c : SessionState) (y : Y) → Rising lo hi es
+        → value_at x es ≡ Some c → f (x, g c) ≡ Some y → ((e : ℕ × SessionState) → In e es → f e ≡ None)
+        → filter_map f (altered x g es) ≡ y ∷ []
     only-one lo [] c y r there is others = cc
     only-one lo (e ∷ es) c y r there is others =
         elim (cases_eq x e.0) [
@@ -57,7 +62,9 @@ module _ (x hi : ℕ) (g : SessionState → SessionState) where
         ]
 
   module _ (test : ℕ × SessionState → Bool) (by : SessionState → ℕ) where
-    only-least : (lo : ℕ) (es : List (ℕ × SessionState)) (c : SessionState) → Rising lo hi es → value_at x es ≡ Some c → test (x, g c) ≡ true → ((e : ℕ × SessionState) → In e es → test e ≡ false) → least test by (altered x g es) ≡ Some (x, g c)
+    only-least : (lo : ℕ) (es : List (ℕ × SessionState)) (c : SessionState) → Rising lo hi es → value_at x es ≡ Some c
+        → test (x, g c) ≡ true → ((e : ℕ × SessionState) → In e es → test e ≡ false)
+        → least test by (altered x g es) ≡ Some (x, g c)
     only-least lo [] c r there is others = cc
     only-least lo (e ∷ es) c r there is others =
         elim (cases_eq x e.0) [
@@ -67,11 +74,13 @@ module _ (x hi : ℕ) (g : SessionState → SessionState) where
               let below : x < suc e.0 = omega arith in
               let rest : least test by (altered x g es) ≡ None =
               ap (least test by) (altered-none x (suc e.0) hi g es below r.1) ∙ none-least test by es (λ d i t. both_ways (test d) (others d (inr i)) t) in
-              ap (λ (d : ℕ × SessionState). cond (test d) (Some (lesser by d (least test by (altered x g es)))) (least test by (altered x g es))) (changed-here e c same it) ∙
+              ap (λ (d : ℕ × SessionState). cond (test d) (Some (lesser by d (least test by (altered x g es))))
+              (least test by (altered x g es))) (changed-here e c same it) ∙
               cond-true (test (x, g c)) (Some (lesser by (x, g c) (least test by (altered x g es)))) (least test by (altered x g es)) is ∙
               ap (λ o. Some (lesser by (x, g c) o)) rest
           | inr apart ↦
-              ap (λ (d : ℕ × SessionState). cond (test d) (Some (lesser by d (least test by (altered x g es)))) (least test by (altered x g es))) (changed-aside e apart) ∙
+              ap (λ (d : ℕ × SessionState). cond (test d) (Some (lesser by d (least test by (altered x g es))))
+              (least test by (altered x g es))) (changed-aside e apart) ∙
               cond-false (test e) (Some (lesser by e (least test by (altered x g es)))) (least test by (altered x g es)) (others e (inl refl)) ∙
               only-least (suc e.0) es c r.1 (sym (value_at-next x e es apart) ∙ there) is (λ d i. others d (inr i))
         ]
@@ -83,12 +92,14 @@ called-idle x s =
     elim (value_at x s.sessions) as (λ o. value_at x s.sessions ≡ o → (c : SessionState) × (value_at x (called x s).sessions ≡ Some c) × (c.wait ≡ None)) [
       | None ↦ λ e. (
         new_session,
-        ap (λ b. value_at x (cond b (with_wait_ended x s.sessions) (with_value x new_session s.sessions))) (ap is_some e) ∙ value_at-insert x new_session s.sessions,
+        ap (λ b. value_at x (cond b (with_wait_ended x s.sessions) (with_value x new_session s.sessions)))
+            (ap is_some e) ∙ value_at-insert x new_session s.sessions,
         refl,
       )
       | Some v ↦ λ e. (
         with_wait None v,
-        ap (λ b. value_at x (cond b (with_wait_ended x s.sessions) (with_value x new_session s.sessions))) (ap is_some e) ∙ value_at-altered_same x (with_wait None) s.sessions v e,
+        ap (λ b. value_at x (cond b (with_wait_ended x s.sessions) (with_value x new_session s.sessions)))
+            (ap is_some e) ∙ value_at-altered_same x (with_wait None) s.sessions v e,
         refl,
       )
     ] refl
@@ -106,7 +117,9 @@ wanted-none s none e i =
     ] refl
 
 -- no session that waits watches the tube of a ready job that one may have
-nobody-waits : (s : QueueState) (tubes : List (List ℕ)) (j : ℕ × Job) → serve_turn s ≡ None → In j s.jobs → is_ready j.1.state ≡ true → is_among j.1.tube (paused_tubes s) ≡ false → (e : ℕ × SessionState) → In e s.sessions → (is_waiting e.1 && is_among j.1.tube e.1.watched) ≡ false
+nobody-waits : (s : QueueState) (tubes : List (List ℕ)) (j : ℕ × Job) → serve_turn s ≡ None → In j s.jobs
+    → is_ready j.1.state ≡ true → is_among j.1.tube (paused_tubes s) ≡ false → (e : ℕ × SessionState) → In e s.sessions
+    → (is_waiting e.1 && is_among j.1.tube e.1.watched) ≡ false
 nobody-waits s tubes j none there ready unpaused e i =
     elim (is_waiting e.1) as (λ b. is_waiting e.1 ≡ b → (b && is_among j.1.tube e.1.watched) ≡ false) [
       | false ↦ λ t. refl
@@ -116,13 +129,15 @@ nobody-waits s tubes j none there ready unpaused e i =
             | true ↦ λ a.
                 absurd
                 (least-none (ready_in (not_paused (paused_tubes s) e.1.watched)) pri_of_job s.jobs j (idle_none s none e i t) there
-                (and_from (is_ready j.1.state) (is_among j.1.tube (not_paused (paused_tubes s) e.1.watched)) ready (watched-open (paused_tubes s) e.1.watched j.1.tube a unpaused)))
+                (and_from (is_ready j.1.state) (is_among j.1.tube (not_paused (paused_tubes s) e.1.watched)) ready
+                (watched-open (paused_tubes s) e.1.watched j.1.tube a unpaused)))
           ] refl
     ] refl
 
 -- The session alone waits for what there is
 
-module _ (key : Key) (seconds : Option ℕ) (s : QueueState) (c : SessionState) (none : serve_turn s ≡ None) (r : Rising 0 (2 ^ 32) s.sessions) (there : value_at key.session s.sessions ≡ Some c) (idle : c.wait ≡ None) where
+module _ (key : Key) (seconds : Option ℕ) (s : QueueState) (c : SessionState) (none : serve_turn s ≡ None)
+    (r : Rising 0 (2 ^ 32) s.sessions) (there : value_at key.session s.sessions ≡ Some c) (idle : c.wait ≡ None) where
   abbrev its_wait : Wait
   its_wait = record { number = key.number; rank = s.next_rank; time_out = time_out s.now seconds }
 
@@ -143,15 +158,22 @@ module _ (key : Key) (seconds : Option ℕ) (s : QueueState) (c : SessionState) 
     best-own = ap (λ tubes. best_ready (not_paused (paused_tubes s) tubes) s.jobs) (sym its-tubes) ∙ best
 
     best-is : In j s.jobs × (is_ready j.1.state ≡ true) × (is_among j.1.tube (not_paused (paused_tubes s) c.watched) ≡ true)
-    best-is = subst (λ o. IfSome o (λ (j : ℕ × Job). In j s.jobs × (is_ready j.1.state ≡ true) × (is_among j.1.tube (not_paused (paused_tubes s) c.watched) ≡ true))) best-own (best_ready-in (not_paused (paused_tubes s) c.watched) s.jobs)
+    best-is = subst (λ o. IfSome o
+        (λ (j : ℕ × Job). In j s.jobs × (is_ready j.1.state ≡ true)
+        × (is_among j.1.tube (not_paused (paused_tubes s) c.watched) ≡ true))) best-own
+        (best_ready-in (not_paused (paused_tubes s) c.watched) s.jobs)
 
     next-is : next_job waits ≡ Some j
-    next-is = ap (least (λ e. true) pri_of_job) (only-one key.session (2 ^ 32) (with_wait (Some its_wait)) (wanted (paused_tubes s) s.jobs) 0 s.sessions c j r there best-own (wanted-none s none))
+    next-is = ap (least (λ e. true) pri_of_job)
+        (only-one key.session (2 ^ 32) (with_wait (Some its_wait))
+        (wanted (paused_tubes s) s.jobs) 0 s.sessions c j r there best-own (wanted-none s none))
 
     first-is : first_waiting (λ e. is_among j.1.tube e.1.watched) waits.sessions ≡ Some itself
     first-is =
         let clear = open-watched (paused_tubes s) c.watched j.1.tube best-is.2 in
-        only-least key.session (2 ^ 32) (with_wait (Some its_wait)) (λ e. is_waiting e.1 && is_among j.1.tube e.1.watched) wait_rank 0 s.sessions c r there clear.0 (nobody-waits s c.watched j none best-is.0 best-is.1 clear.1)
+        only-least key.session (2 ^ 32) (with_wait (Some its_wait))
+        (λ e. is_waiting e.1 && is_among j.1.tube e.1.watched) wait_rank 0 s.sessions c r there clear.0
+        (nobody-waits s c.watched j none best-is.0 best-is.1 clear.1)
 
     turn-is : serve_turn waits ≡ Some (given waits j itself)
     unfolding serve_turn
@@ -186,11 +208,17 @@ module _ (key : Key) (seconds : Option ℕ) (s : QueueState) (c : SessionState) 
     none-turn =
         no-turn waits
         (λ w i t.
-        altered-in key.session (with_wait (Some its_wait)) (λ w. is_waiting w.1 ≡ true → best_ready (not_paused (paused_tubes s) w.1.watched) s.jobs ≡ None) s.sessions
+        altered-in key.session (with_wait (Some its_wait))
+        (λ w. is_waiting w.1 ≡ true → best_ready (not_paused (paused_tubes s) w.1.watched) s.jobs ≡ None) s.sessions
         (λ d there.
-        elim (key.session == d.0) as (λ b. (key.session == d.0) ≡ b → is_waiting (cond b (with_wait (Some its_wait) d.1) d.1) ≡ true → best_ready (not_paused (paused_tubes s) (cond b (with_wait (Some its_wait) d.1) d.1).watched) s.jobs ≡ None) [
+        elim (key.session == d.0) as (λ b. (key.session == d.0) ≡ b
+        → is_waiting (cond b (with_wait (Some its_wait) d.1) d.1) ≡ true
+        → best_ready (not_paused (paused_tubes s) (cond b (with_wait (Some its_wait) d.1) d.1).watched) s.jobs
+        ≡ None) [
           | true ↦ λ e t.
-              let found : value_at key.session s.sessions ≡ Some d.1 = ap (λ k. value_at k s.sessions) (eqb-true key.session d.0 e) ∙ value_at-In 0 (2 ^ 32) s.sessions d r there in
+              let found : value_at key.session s.sessions ≡ Some d.1 =
+              ap (λ k. value_at k s.sessions) (eqb-true key.session d.0 e) ∙ value_at-In 0
+              (2 ^ 32) s.sessions d r there in
               ap (λ o. best_ready (not_paused (paused_tubes s) (unwrap_or o new_session).watched) s.jobs) (sym found) ∙ best
           | false ↦ λ e t. idle_none s none d there t
         ] refl)
@@ -203,36 +231,52 @@ module _ (key : Key) (seconds : Option ℕ) (s : QueueState) (c : SessionState) 
     unfolding turned_away
     turned =
         cond-true (is_waiting (session_of key.session waits.sessions)) _ (stop waits) still-waits ∙
-        elim (holds_by key.session (s.now + 1) s.jobs) as (λ b. cond b (outcome_with key (with_sessions waits (with_wait_ended key.session waits.sessions)) Reply.DeadlineSoon) (cond (is_zero seconds) (outcome_with key (with_sessions waits (with_wait_ended key.session waits.sessions)) Reply.TimedOut) (stop waits)) ≡ refused_by key seconds s (cond b (Some Reply.DeadlineSoon) (cond (is_zero seconds) (Some Reply.TimedOut) None))) [
+        elim (holds_by key.session (s.now + 1) s.jobs) as (λ b. cond b
+        (outcome_with key (with_sessions waits (with_wait_ended key.session waits.sessions)) Reply.DeadlineSoon)
+        (cond (is_zero seconds) (outcome_with key
+        (with_sessions waits (with_wait_ended key.session waits.sessions)) Reply.TimedOut) (stop waits))
+        ≡ refused_by key seconds s (cond b (Some Reply.DeadlineSoon)
+        (cond (is_zero seconds) (Some Reply.TimedOut) None))) [
           | true ↦ ap (λ sessions. outcome_with key (with_sessions (with_next_rank s) sessions) Reply.DeadlineSoon) sessions-back
-          | false ↦ elim (is_zero seconds) as (λ b. cond b (outcome_with key (with_sessions waits (with_wait_ended key.session waits.sessions)) Reply.TimedOut) (stop waits) ≡ refused_by key seconds s (cond b (Some Reply.TimedOut) None)) [
-            | true ↦ ap (λ sessions. outcome_with key (with_sessions (with_next_rank s) sessions) Reply.TimedOut) sessions-back
-            | false ↦ refl
-          ]
+          | false ↦ elim (is_zero seconds) as (λ b. cond b
+              (outcome_with key (with_sessions waits (with_wait_ended key.session waits.sessions)) Reply.TimedOut)
+              (stop waits) ≡ refused_by key seconds s (cond b (Some Reply.TimedOut) None)) [
+                | true ↦ ap (λ sessions. outcome_with key (with_sessions (with_next_rank s) sessions) Reply.TimedOut) sessions-back
+                | false ↦ refl
+              ]
         ]
 
   -- serve, and what comes after it
   served-turned : then_do (serve waits) (turned_away (Op.Reserve seconds) key) ≡ reserve_outcome key seconds s
   unfolding reserve_outcome
   served-turned =
-      elim (best_for s key.session) as (λ o. best_for s key.session ≡ o → then_do (serve waits) (turned_away (Op.Reserve seconds) key) ≡ reserved_by key seconds s o) [
+      elim (best_for s key.session) as (λ o. best_for s key.session ≡ o
+      → then_do (serve waits) (turned_away (Op.Reserve seconds) key) ≡ reserved_by key seconds s o) [
         | Some j ↦ λ best.
             ap (λ o. then_do o (turned_away (Op.Reserve seconds) key)) (serve-is j best) ∙
-            ap (λ (o : QueueOutcome). record { state = o.state; answers = record { to = key; reply = Reply.Reserved j.0 j.1.body } ∷ o.answers }) (not-turned j best)
+            ap (λ (o : QueueOutcome). record {
+              state = o.state;
+              answers =
+                  record { to = key; reply = Reply.Reserved j.0 j.1.body } ∷ o.answers;
+            }) (not-turned j best)
         | None ↦ λ best.
             ap (λ o. then_do o (turned_away (Op.Reserve seconds) key)) (serve-none waits (none-turn best)) ∙ turned best
       ] refl
 
-  pub reserved : then_do (then_do (own_outcome key (row (Op.Reserve seconds) key s)) serve) (turned_away (Op.Reserve seconds) key) ≡ reserve_outcome key seconds s
+  pub reserved : then_do (then_do (own_outcome key (row (Op.Reserve seconds) key s)) serve)
+      (turned_away (Op.Reserve seconds) key) ≡ reserve_outcome key seconds s
   unfolding row reserve_row
   reserved = served-turned
 
-pub reserve-carried : (op : Op) (key : Key) (seconds : Option ℕ) (s t : QueueState) → op ≡ Op.Reserve seconds → serve_turn s ≡ None → t ≡ called key.session s → Rising 0 (2 ^ 32) t.sessions → reserve_outcome key seconds t ≡ carried_out op key s
+pub reserve-carried : (op : Op) (key : Key) (seconds : Option ℕ) (s t : QueueState) → op ≡ Op.Reserve seconds
+    → serve_turn s ≡ None → t ≡ called key.session s → Rising 0 (2 ^ 32) t.sessions
+    → reserve_outcome key seconds t ≡ carried_out op key s
 unfolding carried_out
 reserve-carried op key seconds s t is none c r =
     let there = called-idle key.session s in
     ap (reserve_outcome key seconds) c ∙
-    sym (reserved key seconds (called key.session s) there.0 (called-calm key.session s none) (subst (λ (u : QueueState). Rising 0 (2 ^ 32) u.sessions) c r) there.1 there.2) ∙
+    sym (reserved key seconds (called key.session s) there.0 (called-calm key.session s none)
+    (subst (λ (u : QueueState). Rising 0 (2 ^ 32) u.sessions) c r) there.1 there.2) ∙
     ap (λ o. carried_out o key s) (sym is)
 
 never-turned : (op : Op) (key : Key) (s : QueueState) → is_reserve op ≡ false → turned_away op key s ≡ stop s
@@ -246,14 +290,20 @@ wake-carried op key s t wakes c =
     let o = wake_outcome op key (called key.session s) in
     ap (wake_outcome op key) c ∙
     ap (λ (xs : List (Answer Reply)). let q : QueueOutcome = record { state = o.state; answers = xs } in q) (sym (append-nil o.answers)) ∙
-    sym (ap (λ (p : QueueOutcome). let q : QueueOutcome = record { state = p.state; answers = o.answers ++ p.answers } in q) (never-turned op key o.state wakes))
+    sym (ap (λ (p : QueueOutcome). let q : QueueOutcome =
+    record { state = p.state; answers = o.answers ++ p.answers } in q) (never-turned op key o.state wakes))
 
 -- The best job is given
 
-pub took : (key : Key) (s : QueueState) (j : ℕ × Job) (jobs : List (ℕ × Job)) (xs ys : List (Answer Reply)) (due : ℕ) (body : List ℕ) → best_for s key.session ≡ Some j → due ≡ s.now + j.1.ttr → jobs ≡ altered j.0 (with_state (State.Reserved key.session due)) s.jobs → body ≡ j.1.body → ys ≡ xs ++ record { to = key; reply = Reply.Reserved j.0 body } ∷ [] → IsTaken key s (record s { next_rank = s.next_rank + 1; jobs = jobs }) xs ys true
+pub took : (key : Key) (s : QueueState) (j : ℕ × Job) (jobs : List (ℕ × Job)) (xs ys : List (Answer Reply)) (due : ℕ)
+    (body : List ℕ) → best_for s key.session ≡ Some j → due ≡ s.now + j.1.ttr
+    → jobs ≡ altered j.0 (with_state (State.Reserved key.session due)) s.jobs → body ≡ j.1.body
+    → ys ≡ xs ++ record { to = key; reply = Reply.Reserved j.0 body } ∷ []
+    → IsTaken key s (record s { next_rank = s.next_rank + 1; jobs = jobs }) xs ys true
 took key s j jobs xs ys due body best d js b a = (
   j,
   best,
-  ap (λ es. let t : QueueState = record s { next_rank = s.next_rank + 1; jobs = es } in t) (js ∙ ap (λ n. altered j.0 (with_state (State.Reserved key.session n)) s.jobs) d),
+  ap (λ es. let t : QueueState = record s { next_rank = s.next_rank + 1; jobs = es } in t)
+      (js ∙ ap (λ n. altered j.0 (with_state (State.Reserved key.session n)) s.jobs) d),
   a ∙ ap (λ bytes. let r : Answer Reply = record { to = key; reply = Reply.Reserved j.0 bytes } in xs ++ r ∷ []) b,
 )

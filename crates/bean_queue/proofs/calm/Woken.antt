@@ -1,5 +1,7 @@
 -- The tubes that an operation wakes cover all that can be given after it.
-use Rattle.std.proofs.Common.{◌≡◌, ℕ, zero, suc, ◌+◌, ◌^◌, Bool, true, false, cond, ◌&&◌, ◌⊎◌, inl, inr, List, [], ◌∷◌, ◌++◌, Option, Some, None, IfSome, is_some, ◌==◌, bytes_eq, refl, sym, ap, subst, ◌∙◌, eqb-true, true≢false}
+use Rattle.std.proofs.Common.{◌≡◌, ℕ, zero, suc, ◌+◌, ◌^◌, Bool, true, false, cond, ◌&&◌, ◌⊎◌, inl, inr, List, [], ◌∷◌}
+use Rattle.std.proofs.Common.{◌++◌, Option, Some, None, IfSome, is_some, ◌==◌, bytes_eq, refl, sym, ap, subst, ◌∙◌}
+use Rattle.std.proofs.Common.{eqb-true, true≢false}
 use Rattle.std.proofs.lemmas.Bool.{and_parts, and_from}
 use Rattle.std.proofs.lemmas.Slice.Eq.{bytes_eq-Decides}
 use Rattle.object.specs.Lists.{In}
@@ -22,7 +24,8 @@ use Rattle.bean_queue.specs.declared.op.Op.{Op}
 use Rattle.bean_queue.specs.declared.reply.Reply.{Reply}
 use Rattle.bean_queue.specs.Best.{IsWanted}
 use Rattle.bean_queue.specs.Queue.{QueueState, paused_tubes, pauses_of, used_by}
-use Rattle.bean_queue.specs.Rows.{Row, kicked, kicked_option, put_job, ready_after, is_job_that, is_idle, row, put_row, release_row, kick_row, kick_job_row, pause_row, all_tubes}
+use Rattle.bean_queue.specs.Rows.{Row, kicked, kicked_option, put_job, ready_after, is_job_that, is_idle, row, put_row}
+use Rattle.bean_queue.specs.Rows.{release_row, kick_row, kick_job_row, pause_row, all_tubes}
 use Rattle.bean_queue.specs.Turns.{QueueTurn, IsTurn, given, serve_turn}
 use Rattle.bean_queue.specs.TurnLaws.{IsServed, serve_turn-is, least-none, least-in, IfSome-map}
 use Rattle.bean_queue.specs.Effects.{released, at_second, is_quiet}
@@ -39,7 +42,8 @@ nothing-wanted s j none w =
     least-none (ready_in (not_paused (paused_tubes s) w.watched.0.1.watched)) pri_of_job s.jobs j
     (idle_none s none w.watched.0 w.watched.1 w.watched.2)
     w.there
-    (and_from (is_ready j.1.state) (is_among j.1.tube (not_paused (paused_tubes s) w.watched.0.1.watched)) w.ready (watched-open (paused_tubes s) w.watched.0.1.watched j.1.tube w.watched.3 w.unpaused))
+    (and_from (is_ready j.1.state) (is_among j.1.tube (not_paused (paused_tubes s) w.watched.0.1.watched)) w.ready
+    (watched-open (paused_tubes s) w.watched.0.1.watched j.1.tube w.watched.3 w.unpaused))
 
 covers-nothing : (tubes : List (List ℕ)) (s : QueueState) → serve_turn s ≡ None → Covers tubes s
 covers-nothing tubes s none j w = absurd (nothing-wanted s j none w)
@@ -49,11 +53,20 @@ abbrev Opens : List (List ℕ) → QueueState → QueueState → Type 0
 Opens tubes s t = (tube : List ℕ) → is_paused tube t.pauses ≡ false → (is_paused tube s.pauses ≡ false) ⊎ In tube tubes
 
 -- what can be given is of a job that became ready, or in a tube that is paused no longer
-covers-new : (tubes : List (List ℕ)) (s t : QueueState) → serve_turn s ≡ None → ((w : ℕ × SessionState) → In w t.sessions → is_waiting w.1 ≡ true → In w s.sessions) → Opens tubes s t → AreWoken tubes s.jobs t.jobs → Covers tubes t
+covers-new : (tubes : List (List ℕ)) (s t : QueueState) → serve_turn s ≡ None
+    → ((w : ℕ × SessionState) → In w t.sessions → is_waiting w.1 ≡ true → In w s.sessions) → Opens tubes s t
+    → AreWoken tubes s.jobs t.jobs → Covers tubes t
 covers-new tubes s t none fewer opens woken j w =
     elim (woken j w.there w.ready) as (λ v. In j.1.tube tubes) [
       | inl was ↦ elim (opens j.1.tube w.unpaused) as (λ v. In j.1.tube tubes) [
-        | inl open-before ↦ absurd (nothing-wanted s j none (record { there = was; ready = w.ready; unpaused = open-before; watched = (w.watched.0, fewer w.watched.0 w.watched.1 w.watched.2, w.watched.2, w.watched.3) }))
+        | inl open-before ↦ absurd (nothing-wanted s j none
+            (record {
+              there = was;
+              ready = w.ready;
+              unpaused = open-before;
+              watched =
+                  (w.watched.0, fewer w.watched.0 w.watched.1 w.watched.2, w.watched.2, w.watched.3);
+            }))
         | inr named ↦ named
       ]
       | inr named ↦ named
@@ -63,7 +76,14 @@ covers-new tubes s t none fewer opens woken j w =
 
 covers-calmer : (tubes : List (List ℕ)) (s t : QueueState) → IsCalmer s t → Covers tubes s → Covers tubes t
 covers-calmer tubes s t c covers j w =
-    covers j (record { there = c.jobs j w.there w.ready; ready = w.ready; unpaused = was-open s t j.1.tube c w.unpaused; watched = (w.watched.0, c.sessions w.watched.0 w.watched.1 w.watched.2, w.watched.2, w.watched.3) })
+    covers j (record {
+      there = c.jobs j w.there w.ready;
+      ready = w.ready;
+      unpaused =
+          was-open s t j.1.tube c w.unpaused;
+      watched =
+          (w.watched.0, c.sessions w.watched.0 w.watched.1 w.watched.2, w.watched.2, w.watched.3);
+    })
 
 given-calmer : (s : QueueState) (j : ℕ × Job) (w : ℕ × SessionState) → IsCalmer s (given s j w).state
 unfolding given
@@ -74,11 +94,14 @@ given-calmer s j w = record {
 }
 
 -- a turn takes a ready job and a waiting session away
-pub covers-turn : (tubes : List (List ℕ)) (s t : QueueState) (xs ys : List (Answer Reply)) (more : Bool) → IsTurn serve_turn s t xs ys more → Covers tubes s → Covers tubes t
+pub covers-turn : (tubes : List (List ℕ)) (s t : QueueState) (xs ys : List (Answer Reply)) (more : Bool)
+    → IsTurn serve_turn s t xs ys more → Covers tubes s → Covers tubes t
 covers-turn tubes s t xs ys false i covers = subst (Covers tubes) (sym i.1) covers
 covers-turn tubes s t xs ys true i covers =
     let served : IsServed s i.0 = subst (λ o. IfSome o (IsServed s)) i.1 (serve_turn-is s) in
-    subst (Covers tubes) (sym (i.2 ∙ ap (λ (u : QueueTurn). u.state) served.made)) (covers-calmer tubes s (given s served.job served.session).state (given-calmer s served.job served.session) covers)
+    subst (Covers tubes) (sym (i.2 ∙ ap (λ (u : QueueTurn). u.state) served.made))
+    (covers-calmer tubes s (given s served.job served.session).state
+    (given-calmer s served.job served.session) covers)
 
 -- Jobs that become ready
 
@@ -90,14 +113,18 @@ woken-then : (tubes : List (List ℕ)) (a b c : List (ℕ × Job)) → AreWoken 
 woken-then tubes a b c first then j i t = elim (then j i t) as (λ v. In j a ⊎ In j.1.tube tubes) [ inl was ↦ first j was t | inr named ↦ inr named ]
 
 pub woken-more : (tubes more : List (List ℕ)) (a b : List (ℕ × Job)) → ((tube : List ℕ) → In tube tubes → In tube more) → AreWoken tubes a b → AreWoken more a b
-woken-more tubes more a b keeps woken j i t = elim (woken j i t) as (λ v. In j a ⊎ In j.1.tube more) [ inl was ↦ inl was | inr named ↦ inr (keeps j.1.tube named) ]
+woken-more tubes more a b keeps woken j i t =
+    elim (woken j i t) as (λ v. In j a
+    ⊎ In j.1.tube more) [ inl was ↦ inl was | inr named ↦ inr (keeps j.1.tube named) ]
 
 -- the job at an id
-altered-woken : (id hi : ℕ) (f : Job → Job) (jobs : List (ℕ × Job)) → Rising 0 hi jobs → ((job : Job) → (f job).tube ≡ job.tube) → AreWoken (tube_of (value_at id jobs)) jobs (altered id f jobs)
+altered-woken : (id hi : ℕ) (f : Job → Job) (jobs : List (ℕ × Job)) → Rising 0 hi jobs
+    → ((job : Job) → (f job).tube ≡ job.tube) → AreWoken (tube_of (value_at id jobs)) jobs (altered id f jobs)
 altered-woken id hi f jobs r same =
     altered-in id f (λ j. is_ready j.1.state ≡ true → In j jobs ⊎ In j.1.tube (tube_of (value_at id jobs))) jobs
     (λ d there.
-    elim (id == d.0) as (λ b. (id == d.0) ≡ b → is_ready (cond b (f d.1) d.1).state ≡ true → In (d.0, cond b (f d.1) d.1) jobs ⊎ In (cond b (f d.1) d.1).tube (tube_of (value_at id jobs))) [
+    elim (id == d.0) as (λ b. (id == d.0) ≡ b → is_ready (cond b (f d.1) d.1).state ≡ true
+    → In (d.0, cond b (f d.1) d.1) jobs ⊎ In (cond b (f d.1) d.1).tube (tube_of (value_at id jobs))) [
       | true ↦ λ e t.
           let found : value_at id jobs ≡ Some d.1 = ap (λ k. value_at k jobs) (eqb-true id d.0 e) ∙ value_at-In 0 hi jobs d r there in
           inr (subst (λ o. In (f d.1).tube (tube_of o)) (sym found) (inl (same d.1)))
@@ -105,9 +132,11 @@ altered-woken id hi f jobs r same =
     ] refl)
 
 -- a job that stands there, which is made ready
-one-woken : (hi : ℕ) (jobs : List (ℕ × Job)) (e : ℕ × Job) → Rising 0 hi jobs → In e jobs → AreWoken (e.1.tube ∷ []) jobs (altered e.0 (with_state State.Ready) jobs)
+one-woken : (hi : ℕ) (jobs : List (ℕ × Job)) (e : ℕ × Job) → Rising 0 hi jobs → In e jobs
+    → AreWoken (e.1.tube ∷ []) jobs (altered e.0 (with_state State.Ready) jobs)
 one-woken hi jobs e r there =
-    subst (λ o. AreWoken (tube_of o) jobs (altered e.0 (with_state State.Ready) jobs)) (value_at-In 0 hi jobs e r there) (altered-woken e.0 hi (with_state State.Ready) jobs r (λ job. refl))
+    subst (λ o. AreWoken (tube_of o) jobs (altered e.0 (with_state State.Ready) jobs)) (value_at-In 0 hi jobs e r there)
+    (altered-woken e.0 hi (with_state State.Ready) jobs r (λ job. refl))
 
 -- a job that is put
 put-woken : (id : ℕ) (job : Job) (jobs : List (ℕ × Job)) → AreWoken (job.tube ∷ []) jobs (with_value id job jobs)
@@ -120,7 +149,8 @@ put-woken id job jobs =
 abbrev PicksIn : List ℕ → (List (ℕ × Job) → Option (ℕ × Job)) → Type 0
 PicksIn tube pick = (jobs : List (ℕ × Job)) → IfSome (pick jobs) (λ e. In e jobs × (e.1.tube ≡ tube))
 
-kicked-woken : (tube : List ℕ) (pick : List (ℕ × Job) → Option (ℕ × Job)) → PicksIn tube pick → (n hi : ℕ) (jobs : List (ℕ × Job)) → Rising 0 hi jobs → AreWoken (tube ∷ []) jobs (kicked pick n jobs).jobs
+kicked-woken : (tube : List ℕ) (pick : List (ℕ × Job) → Option (ℕ × Job)) → PicksIn tube pick
+    → (n hi : ℕ) (jobs : List (ℕ × Job)) → Rising 0 hi jobs → AreWoken (tube ∷ []) jobs (kicked pick n jobs).jobs
 unfolding kicked
 kicked-woken tube pick picks zero hi jobs r = none-woken (tube ∷ []) jobs
 kicked-woken tube pick picks (suc n) hi jobs r =
@@ -143,7 +173,8 @@ picks-delayed : (tube : List ℕ) → PicksIn tube (first_delayed tube)
 picks-delayed tube jobs =
     IfSome-map _ _ (first_delayed tube jobs) (λ e h. (h.0, its-tube (is_delayed e.1.state) tube e.1.tube h.1)) (least-in (delayed_in tube) due_of_job jobs)
 
-kick-woken : (tube : List ℕ) (b : Bool) (bound hi : ℕ) (jobs : List (ℕ × Job)) → Rising 0 hi jobs → AreWoken (tube ∷ []) jobs (kicked (cond b (first_buried tube) (first_delayed tube)) bound jobs).jobs
+kick-woken : (tube : List ℕ) (b : Bool) (bound hi : ℕ) (jobs : List (ℕ × Job)) → Rising 0 hi jobs
+    → AreWoken (tube ∷ []) jobs (kicked (cond b (first_buried tube) (first_delayed tube)) bound jobs).jobs
 kick-woken tube true bound hi jobs r = kicked-woken tube (first_buried tube) (picks-buried tube) bound hi jobs r
 kick-woken tube false bound hi jobs r = kicked-woken tube (first_delayed tube) (picks-delayed tube) bound hi jobs r
 
@@ -161,20 +192,25 @@ paused-opens tube seconds s other u =
       | false ↦ λ t. inl (sym (others tube other seconds (pauses_of s) (λ same. true≢false (sym ((bytes_eq-Decides other tube).1 same) ∙ t))) ∙ u)
     ] refl
 
-row-covers : (op : Op) (key : Key) (s : QueueState) → is_quiet op ≡ false → is_reserve op ≡ false → serve_turn s ≡ None → Rising 0 (2 ^ 64) s.jobs → Rising 0 (2 ^ 32) s.sessions → Covers (woken_by op key s) (row op key s).state
+row-covers : (op : Op) (key : Key) (s : QueueState) → is_quiet op ≡ false → is_reserve op ≡ false → serve_turn s ≡ None
+    → Rising 0 (2 ^ 64) s.jobs → Rising 0 (2 ^ 32) s.sessions → Covers (woken_by op key s) (row op key s).state
 unfolding row put_row release_row kick_row kick_job_row pause_row
 row-covers (Op.Put pri delay ttr body) key s q wakes none ids numbers =
     covers-new (used_by s key.session ∷ []) s _ none (λ w i t. i) (λ tube u. inl u) (put-woken s.next_id (put_job s key.session pri delay ttr body) s.jobs)
 row-covers (Op.Reserve seconds) key s q wakes none ids numbers = cc
 row-covers (Op.Release id pri delay) key s q wakes none ids numbers =
     covers_if (tube_of (value_at id s.jobs)) (is_job_that (is_held key.session) (value_at id s.jobs)) _ _
-    (covers-new (tube_of (value_at id s.jobs)) s _ none (λ w i t. i) (λ tube u. inl u) (altered-woken id (2 ^ 64) (with_pri_and_state pri (ready_after s.now delay)) s.jobs ids (λ job. refl)))
+    (covers-new (tube_of (value_at id s.jobs)) s _ none (λ w i t. i) (λ tube u. inl u)
+    (altered-woken id (2 ^ 64) (with_pri_and_state pri (ready_after s.now delay)) s.jobs ids (λ job. refl)))
     (covers-nothing (tube_of (value_at id s.jobs)) s none)
 row-covers (Op.Kick bound) key s q wakes none ids numbers =
-    covers-new (used_by s key.session ∷ []) s _ none (λ w i t. i) (λ tube u. inl u) (kick-woken (used_by s key.session) (is_some (first_buried (used_by s key.session) s.jobs)) bound (2 ^ 64) s.jobs ids)
+    covers-new (used_by s key.session ∷ []) s _ none (λ w i t. i) (λ tube u. inl u)
+    (kick-woken (used_by s key.session) (is_some (first_buried (used_by s key.session) s.jobs)) bound
+    (2 ^ 64) s.jobs ids)
 row-covers (Op.KickJob id) key s q wakes none ids numbers =
     covers_if (tube_of (value_at id s.jobs)) (is_job_that is_idle (value_at id s.jobs)) _ _
-    (covers-new (tube_of (value_at id s.jobs)) s _ none (λ w i t. i) (λ tube u. inl u) (altered-woken id (2 ^ 64) (with_state State.Ready) s.jobs ids (λ job. refl)))
+    (covers-new (tube_of (value_at id s.jobs)) s _ none (λ w i t. i) (λ tube u. inl u)
+    (altered-woken id (2 ^ 64) (with_state State.Ready) s.jobs ids (λ job. refl)))
     (covers-nothing (tube_of (value_at id s.jobs)) s none)
 row-covers (Op.Use tube) key s q wakes none ids numbers = cc
 row-covers (Op.Watch tube) key s q wakes none ids numbers = cc
@@ -195,12 +231,16 @@ row-covers (Op.Pause tube seconds) key s q wakes none ids numbers =
     (covers-nothing (tube ∷ []) s none)
 
 -- after such an operation
-pub covers-waking : (op : Op) (key : Key) (s t : QueueState) (tubes : List (List ℕ)) → is_quiet op ≡ false → is_reserve op ≡ false → serve_turn s ≡ None → Rising 0 (2 ^ 64) s.jobs → Rising 0 (2 ^ 32) s.sessions → tubes ≡ woken_by op key s → t ≡ (row op key s).state → Covers tubes t
+pub covers-waking : (op : Op) (key : Key) (s t : QueueState) (tubes : List (List ℕ)) → is_quiet op ≡ false
+    → is_reserve op ≡ false → serve_turn s ≡ None → Rising 0 (2 ^ 64) s.jobs → Rising 0 (2 ^ 32) s.sessions
+    → tubes ≡ woken_by op key s → t ≡ (row op key s).state → Covers tubes t
 covers-waking op key s t tubes loud wakes none ids numbers woken e =
     subst (λ ts. Covers ts t) (sym woken) (subst (Covers (woken_by op key s)) (sym e) (row-covers op key s loud wakes none ids numbers))
 
 -- after a second has come
-pub covers-second : (tubes : List (List ℕ)) (second : ℕ) (s t : QueueState) → serve_turn s ≡ None → t ≡ at_second second s → AreWoken tubes s.jobs t.jobs → ((tube : List ℕ) → In tube (tubes_over second s.pauses) → In tube tubes) → Covers tubes t
+pub covers-second : (tubes : List (List ℕ)) (second : ℕ) (s t : QueueState) → serve_turn s ≡ None
+    → t ≡ at_second second s → AreWoken tubes s.jobs t.jobs
+    → ((tube : List ℕ) → In tube (tubes_over second s.pauses) → In tube tubes) → Covers tubes t
 covers-second tubes second s t none e woken over =
     covers-new tubes s t none (λ w i waits. subst (λ (u : QueueState). In w u.sessions) e i)
     (λ tube u.
@@ -211,13 +251,19 @@ covers-second tubes second s t none e woken over =
     woken
 
 -- after a session has given its jobs back
-pub covers-released : (tubes : List (List ℕ)) (x : ℕ) (s t : QueueState) → serve_turn s ≡ None → t ≡ released x s → AreWoken tubes s.jobs t.jobs → Covers tubes t
-covers-released tubes x s t none e woken = covers-new tubes s t none (λ w i waits. ended-calmer x s.sessions w (subst (λ (u : QueueState). In w u.sessions) e i) waits) (λ tube u. inl (subst (λ (v : QueueState). is_paused tube v.pauses ≡ false) e u)) woken
+pub covers-released : (tubes : List (List ℕ)) (x : ℕ) (s t : QueueState) → serve_turn s ≡ None → t ≡ released x s
+    → AreWoken tubes s.jobs t.jobs → Covers tubes t
+covers-released tubes x s t none e woken =
+    covers-new tubes s t none (λ w i waits. ended-calmer x s.sessions w
+    (subst (λ (u : QueueState). In w u.sessions) e i) waits)
+    (λ tube u. inl (subst (λ (v : QueueState). is_paused tube v.pauses ≡ false) e u)) woken
 
 -- Tubes that are gathered one by one
 
 joined-keeps : (name : List ℕ) (names : List (List ℕ)) (tube : List ℕ) → In tube names → In tube (joined name names)
-joined-keeps name names tube i = elim (is_among name names) as (λ b. In tube (cond b names (names ++ name ∷ []))) [ true ↦ i | false ↦ in-front tube names (name ∷ []) i ]
+joined-keeps name names tube i =
+    elim (is_among name names) as (λ b. In tube
+    (cond b names (names ++ name ∷ []))) [ true ↦ i | false ↦ in-front tube names (name ∷ []) i ]
 
 joined-has : (name : List ℕ) (names : List (List ℕ)) → In name (joined name names)
 joined-has name names =
@@ -227,10 +273,18 @@ joined-has name names =
     ] refl
 
 -- one job more was made ready, and its tube was added
-pub gathered : (hi : ℕ) (first jobs new : List (ℕ × Job)) (e : ℕ × Job) (tubes more : List (List ℕ)) (name : List ℕ) → Rising 0 hi jobs → In e jobs → new ≡ altered e.0 (with_state State.Ready) jobs → name ≡ e.1.tube → more ≡ joined name tubes → AreWoken tubes first jobs → AreWoken more first new
+pub gathered : (hi : ℕ) (first jobs new : List (ℕ × Job)) (e : ℕ × Job) (tubes more : List (List ℕ)) (name : List ℕ)
+    → Rising 0 hi jobs → In e jobs → new ≡ altered e.0 (with_state State.Ready) jobs → name ≡ e.1.tube
+    → more ≡ joined name tubes → AreWoken tubes first jobs → AreWoken more first new
 gathered hi first jobs new e tubes more name r there n copied added woken =
     let one : AreWoken (e.1.tube ∷ []) jobs new = subst (AreWoken (e.1.tube ∷ []) jobs) (sym n) (one-woken hi jobs e r there) in
     let same : more ≡ joined e.1.tube tubes = added ∙ ap (λ m. joined m tubes) copied in
     woken-then more first jobs new
     (woken-more tubes more first jobs (λ tube i. subst (In tube) (sym same) (joined-keeps e.1.tube tubes tube i)) woken)
-    (woken-more (e.1.tube ∷ []) more jobs new (λ tube i. elim i as (λ v. In tube more) [ inl here ↦ subst (In tube) (sym same) (subst (λ t. In t (joined e.1.tube tubes)) (sym here) (joined-has e.1.tube tubes)) | inr never ↦ absurd never ]) one)
+    (woken-more (e.1.tube ∷ []) more jobs new
+    (λ tube i. elim i as (λ v. In tube more) [
+      | inl here ↦ subst (In tube) (sym same)
+          (subst (λ t. In t (joined e.1.tube tubes)) (sym here) (joined-has e.1.tube tubes))
+      | inr never ↦ absurd never
+    ])
+    one)

@@ -23,7 +23,9 @@ module _ {X : Type 0} where
 
   pub chosen-alike : (one other : X → Bool) (xs : List X) → ((x : X) → In x xs → one x ≡ other x) → filter one xs ≡ filter other xs
   chosen-alike one other [] same = refl
-  chosen-alike one other (x ∷ xs) same = ap₂ (λ (b : Bool) (ys : List X). cond b (x ∷ ys) ys) (same x (inl refl)) (chosen-alike one other xs (λ y i. same y (inr i)))
+  chosen-alike one other (x ∷ xs) same =
+      ap₂ (λ (b : Bool) (ys : List X). cond b (x ∷ ys) ys) (same x (inl refl))
+      (chosen-alike one other xs (λ y i. same y (inr i)))
 
   pub chosen-none : (test : X → Bool) (xs : List X) → ((x : X) → In x xs → test x ≡ false) → filter test xs ≡ []
   chosen-none test [] none = refl
@@ -31,7 +33,9 @@ module _ {X : Type 0} where
 
 -- one test passes at the entries of other keys that the other passes, and perhaps at this one
 module _ {X : Type 0} (one other : ℕ × X → Bool) (n : ℕ × X) where
-  pub chosen-more : (lo hi : ℕ) (es : List (ℕ × X)) → Rising lo hi es → In n es → ((e : ℕ × X) → In e es → (e.0 ≡ n.0 → ⊥) → one e ≡ other e) → other n ≡ false → length (filter one es) ≡ length (filter other es) + one_if (one n)
+  pub chosen-more : (lo hi : ℕ) (es : List (ℕ × X)) → Rising lo hi es → In n es
+      → ((e : ℕ × X) → In e es → (e.0 ≡ n.0 → ⊥) → one e ≡ other e) → other n ≡ false
+      → length (filter one es) ≡ length (filter other es) + one_if (one n)
   chosen-more lo hi [] r i alike apart = absurd i
   chosen-more lo hi (e ∷ es) r i alike apart =
       let here = length-chosen (one e) e (filter one es) in
@@ -39,7 +43,9 @@ module _ {X : Type 0} (one other : ℕ × X → Bool) (n : ℕ × X) where
       elim i as (λ _. length (filter one (e ∷ es)) ≡ length (filter other (e ∷ es)) + one_if (one n)) [
         | inl same ↦
             let key : n.0 ≡ e.0 = ap (λ (d : ℕ × X). d.0) same in
-            let rest : filter one es ≡ filter other es = chosen-alike one other es (λ d j. alike d (inr j) (λ k. let above = key_from (suc e.0) hi es d r.1 j in absurd (omega (arith, above, k, key)))) in
+            let rest : filter one es ≡ filter other es =
+            chosen-alike one other es (λ d j. alike d (inr j)
+            (λ k. let above = key_from (suc e.0) hi es d r.1 j in absurd (omega (arith, above, k, key)))) in
             let lengths : length (filter one es) ≡ length (filter other es) = ap length rest in
             let own : one_if (one n) ≡ one_if (one e) = ap (λ (d : ℕ × X). one_if (one d)) same in
             let none : one_if (other e) ≡ 0 = ap (λ (b : Bool). one_if b) (ap other (sym same) ∙ apart) in

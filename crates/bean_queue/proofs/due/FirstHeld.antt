@@ -12,17 +12,22 @@ is_by : ℕ → Option (ℕ × Job) → Bool
 is_by second None = false
 is_by second (Some e) = nat_le (due_of e.1.state) second
 
-earlier : (d e : ℕ × Job) (second : ℕ) → comes_before due_of_job d e ≡ true → (nat_le (due_of e.1.state) second || nat_le (due_of d.1.state) second) ≡ nat_le (due_of d.1.state) second
+earlier : (d e : ℕ × Job) (second : ℕ) → comes_before due_of_job d e ≡ true
+    → (nat_le (due_of e.1.state) second || nat_le (due_of d.1.state) second) ≡ nat_le (due_of d.1.state) second
 earlier d e second h = grind (arith, nat_tests)
 
-not_earlier : (d e : ℕ × Job) (second : ℕ) → comes_before due_of_job d e ≡ false → (nat_le (due_of e.1.state) second || nat_le (due_of d.1.state) second) ≡ nat_le (due_of e.1.state) second
+not_earlier : (d e : ℕ × Job) (second : ℕ) → comes_before due_of_job d e ≡ false
+    → (nat_le (due_of e.1.state) second || nat_le (due_of d.1.state) second) ≡ nat_le (due_of e.1.state) second
 not_earlier d e second h = grind (arith, nat_tests)
 
-either_way : (e : ℕ × Job) (second : ℕ) (o : Option (ℕ × Job)) → (nat_le (due_of e.1.state) second || is_by second o) ≡ is_by second (Some (lesser due_of_job e o))
+either_way : (e : ℕ × Job) (second : ℕ) (o : Option (ℕ × Job))
+    → (nat_le (due_of e.1.state) second || is_by second o) ≡ is_by second (Some (lesser due_of_job e o))
 unfolding is_by
 either_way e second None = elim (nat_le (due_of e.1.state) second) as (λ b. (b || false) ≡ b) [ true ↦ refl | false ↦ refl ]
 either_way e second (Some d) =
-    elim (comes_before due_of_job d e) as (λ b. comes_before due_of_job d e ≡ b → (nat_le (due_of e.1.state) second || nat_le (due_of d.1.state) second) ≡ nat_le (due_of (cond b d e).1.state) second) [
+    elim (comes_before due_of_job d e) as (λ b. comes_before due_of_job d e ≡ b
+    → (nat_le (due_of e.1.state) second || nat_le (due_of d.1.state) second)
+    ≡ nat_le (due_of (cond b d e).1.state) second) [
       | true ↦ λ h. earlier d e second h
       | false ↦ λ h. not_earlier d e second h
     ] refl
@@ -31,7 +36,8 @@ holds-first : (x second : ℕ) (jobs : List (ℕ × Job)) → holds_by x second 
 unfolding is_by
 holds-first x second [] = refl
 holds-first x second (e ∷ es) =
-    elim (is_held x e.1.state) as (λ b. ((b && nat_le (due_of e.1.state) second) || holds_by x second es) ≡ is_by second (cond b (Some (lesser due_of_job e (first_held x es))) (first_held x es))) [
+    elim (is_held x e.1.state) as (λ b. ((b && nat_le (due_of e.1.state) second) || holds_by x second es)
+    ≡ is_by second (cond b (Some (lesser due_of_job e (first_held x es))) (first_held x es))) [
       | true ↦ ap (λ b. nat_le (due_of e.1.state) second || b) (holds-first x second es) ∙ either_way e second (first_held x es)
       | false ↦ holds-first x second es
     ]

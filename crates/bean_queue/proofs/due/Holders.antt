@@ -1,5 +1,8 @@
 -- Sessions that have a job due by a second: those that were found, and the first of them.
-use Rattle.std.proofs.Common.{◌≡◌, ℕ, ◌+◌, ◌-◌, ◌*◌, ◌^◌, ◌<◌, ◌≤◌, Bool, true, false, cond, ◌&&◌, ◌||◌, ◌==◌, ◌⊎◌, inl, inr, List, [], ◌∷◌, ◌++◌, filter, length, Option, Some, None, IfSome, filter_map, nat_le, nat_lt, refl, sym, ap, ap₂, subst, ◌∙◌, arith, eq-eqb, eqb-true, ltb-true, lt-ltb, true≢false, append-nil, unwrap_or}
+use Rattle.std.proofs.Common.{◌≡◌, ℕ, ◌+◌, ◌-◌, ◌*◌, ◌^◌, ◌<◌, ◌≤◌, Bool, true, false, cond, ◌&&◌, ◌||◌, ◌==◌, ◌⊎◌, inl}
+use Rattle.std.proofs.Common.{inr, List, [], ◌∷◌, ◌++◌, filter, length, Option, Some, None, IfSome, filter_map, nat_le}
+use Rattle.std.proofs.Common.{nat_lt, refl, sym, ap, ap₂, subst, ◌∙◌, arith, eq-eqb, eqb-true, ltb-true, lt-ltb}
+use Rattle.std.proofs.Common.{true≢false, append-nil, unwrap_or}
 use Rattle.std.proofs.lemmas.Bool.{cases_Bool, cond-true, cases_order, and_parts, and_from, and_left, and_right, or_cases, or_left, or_right, leb-true}
 use Rattle.object.specs.Lists.{In}
 use Rattle.object.specs.declared.command.Answer.{Answer}
@@ -38,11 +41,13 @@ held-due x second (State.Delayed due) h = cc
 held-due x second (State.Reserved y due) h = (and_parts (is_held x (State.Reserved y due)) (nat_le due second) h).1
 held-due x second (State.Buried rank) h = cc
 
-pub holds-one : (x second : ℕ) (jobs : List (ℕ × Job)) (e : ℕ × Job) → In e jobs → due_by second e ≡ true → is_held x e.1.state ≡ true → holds_by x second jobs ≡ true
+pub holds-one : (x second : ℕ) (jobs : List (ℕ × Job)) (e : ℕ × Job) → In e jobs → due_by second e ≡ true
+    → is_held x e.1.state ≡ true → holds_by x second jobs ≡ true
 holds-one x second [] e i t h = absurd i
 holds-one x second (d ∷ ds) e (inl same) t h =
     or_left (is_held x d.1.state && nat_le (due_of d.1.state) second) (holds_by x second ds)
-    (subst (λ (z : ℕ × Job). (is_held x z.1.state && nat_le (due_of z.1.state) second) ≡ true) same (and_from (is_held x e.1.state) (nat_le (due_of e.1.state) second) h (due-time second e.1.state t)))
+    (subst (λ (z : ℕ × Job). (is_held x z.1.state && nat_le (due_of z.1.state) second) ≡ true) same
+    (and_from (is_held x e.1.state) (nat_le (due_of e.1.state) second) h (due-time second e.1.state t)))
 holds-one x second (d ∷ ds) e (inr later) t h =
     or_right (is_held x d.1.state && nat_le (due_of d.1.state) second) (holds_by x second ds) (holds-one x second ds e later t h)
 
@@ -53,7 +58,8 @@ IsDueOf x second e = (due_by second e ≡ true) × (is_held x e.1.state ≡ true
 one-held : (x second : ℕ) (jobs : List (ℕ × Job)) → holds_by x second jobs ≡ true → (e : ℕ × Job) × In e jobs × IsDueOf x second e
 one-held x second [] t = cc
 one-held x second (d ∷ ds) t =
-    elim (or_cases (is_held x d.1.state && nat_le (due_of d.1.state) second) (holds_by x second ds) t) as (λ v. (e : ℕ × Job) × In e (d ∷ ds) × IsDueOf x second e) [
+    elim (or_cases (is_held x d.1.state && nat_le (due_of d.1.state) second)
+    (holds_by x second ds) t) as (λ v. (e : ℕ × Job) × In e (d ∷ ds) × IsDueOf x second e) [
       | inl h ↦ (d, inl refl, (held-due x second d.1.state h, (and_parts (is_held x d.1.state) (nat_le (due_of d.1.state) second) h).0))
       | inr h ↦ let w = one-held x second ds h in (w.0, inr w.1, w.2)
     ]
@@ -70,7 +76,8 @@ before d e t =
     ]
 
 passes-before : (d e : ℕ × Job) → ComesBefore due_of_job d e → comes_before due_of_job d e ≡ true
-passes-before d e (inl h) = or_left (nat_lt (due_of_job d.1) (due_of_job e.1)) (due_of_job d.1 == due_of_job e.1 && nat_lt d.0 e.0) (lt-ltb (due_of_job d.1) (due_of_job e.1) h)
+passes-before d e (inl h) = or_left (nat_lt (due_of_job d.1) (due_of_job e.1))
+    (due_of_job d.1 == due_of_job e.1 && nat_lt d.0 e.0) (lt-ltb (due_of_job d.1) (due_of_job e.1) h)
 passes-before d e (inr h) =
     or_right (nat_lt (due_of_job d.1) (due_of_job e.1)) (due_of_job d.1 == due_of_job e.1 && nat_lt d.0 e.0)
     (and_from (due_of_job d.1 == due_of_job e.1) (nat_lt d.0 e.0) (eq-eqb (due_of_job d.1) (due_of_job e.1) h.0) (lt-ltb d.0 e.0 h.1))
@@ -130,12 +137,18 @@ noted-holder waits y due old new w is = record {
   only = λ x i.
       elim (in-append old (y ∷ []) x (subst (In x) is i)) as (λ v. In x old ⊎ ((waits x && (x == y)) ≡ true)) [
         | inl before ↦ inl before
-        | inr it ↦ inr (elim it as (λ v. (waits x && (x == y)) ≡ true) [ inl same ↦ and_from (waits x) (x == y) (ap waits same ∙ w) (eq-eqb x y same) | inr none ↦ absurd none ])
+        | inr it ↦ inr (elim it as (λ v. (waits x && (x == y))
+            ≡ true) [
+              | inl same ↦ and_from (waits x) (x == y) (ap waits same ∙ w)
+                  (eq-eqb x y same)
+              | inr none ↦ absurd none
+            ])
       ];
   often = λ x v. ap (λ (ns : List ℕ). times_noted x ns) is ∙ chosen-last (λ n. x == n) old y;
 }
 
-noted-nobody : (waits : ℕ → Bool) (state : State) (old new : List ℕ) → new ≡ old ++ [] → ((x : ℕ) → waits x ≡ true → is_held x state ≡ true → ⊥) → IsNoted waits state old new
+noted-nobody : (waits : ℕ → Bool) (state : State) (old new : List ℕ) → new ≡ old ++ []
+    → ((x : ℕ) → waits x ≡ true → is_held x state ≡ true → ⊥) → IsNoted waits state old new
 noted-nobody waits state old new is nobody =
     subst (λ ns. IsNoted waits state old ns) (sym (is ∙ append-nil old))
     (record {
@@ -150,7 +163,8 @@ noted-nobody waits state old new is nobody =
     })
 
 -- the holder that waits was noted
-pub noted-by : (sessions : List (ℕ × SessionState)) (state : State) (old new : List ℕ) → new ≡ old ++ waiting_holder sessions state → IsNoted (waits_at sessions) state old new
+pub noted-by : (sessions : List (ℕ × SessionState)) (state : State) (old new : List ℕ)
+    → new ≡ old ++ waiting_holder sessions state → IsNoted (waits_at sessions) state old new
 noted-by sessions State.Ready old new is = noted-nobody (waits_at sessions) State.Ready old new is (λ x w t. cc)
 noted-by sessions (State.Delayed due) old new is = noted-nobody (waits_at sessions) (State.Delayed due) old new is (λ x w t. cc)
 noted-by sessions (State.Buried rank) old new is = noted-nobody (waits_at sessions) (State.Buried rank) old new is (λ x w t. cc)
@@ -163,7 +177,8 @@ noted-by sessions (State.Reserved y due) old new is =
     ]
 
 -- where a due job has a holder that waits, there is one
-pub some-holder : (second : ℕ) (n : ℕ × Job) (jobs : List (ℕ × Job)) (sessions : List (ℕ × SessionState)) → In n jobs × (due_by second n ≡ true) → (x : ℕ) × In x (waiting_holder sessions n.1.state) → IsSomeHolder second jobs sessions
+pub some-holder : (second : ℕ) (n : ℕ × Job) (jobs : List (ℕ × Job)) (sessions : List (ℕ × SessionState)) → In n jobs
+    × (due_by second n ≡ true) → (x : ℕ) × In x (waiting_holder sessions n.1.state) → IsSomeHolder second jobs sessions
 some-holder second n jobs sessions due w =
     elim ((noted-by sessions n.1.state [] (waiting_holder sessions n.1.state) refl).only w.0 w.1) as (λ v. IsSomeHolder second jobs sessions) [
       | inl none ↦ absurd none
@@ -173,24 +188,29 @@ some-holder second n jobs sessions due w =
     ]
 
 -- nothing that passes comes before the answer
-never-sooner : (test : ℕ × Job → Bool) (jobs : List (ℕ × Job)) (next : Option (ℕ × Job)) (e : ℕ × Job) → IsAnswer test due_of_job jobs next → In e jobs → test e ≡ true → IfSome next (ComesBefore due_of_job e) → ⊥
+never-sooner : (test : ℕ × Job → Bool) (jobs : List (ℕ × Job)) (next : Option (ℕ × Job)) (e : ℕ × Job)
+    → IsAnswer test due_of_job jobs next → In e jobs → test e ≡ true → IfSome next (ComesBefore due_of_job e) → ⊥
 never-sooner test jobs None e none i t b = none e i t
 never-sooner test jobs (Some n) e best i t b = best.least e i t b
 
-answer-passes : (test : ℕ × Job → Bool) (jobs : List (ℕ × Job)) (next : Option (ℕ × Job)) → IsAnswer test due_of_job jobs next → IfSome next (λ n. In n jobs × (test n ≡ true))
+answer-passes : (test : ℕ × Job → Bool) (jobs : List (ℕ × Job)) (next : Option (ℕ × Job))
+    → IsAnswer test due_of_job jobs next → IfSome next (λ n. In n jobs × (test n ≡ true))
 answer-passes test jobs None none = tt
 answer-passes test jobs (Some n) best = (best.member, best.passes)
 
-pub noted-first : (waits : ℕ → Bool) (next : Option (ℕ × Job)) (second : ℕ) (jobs : List (ℕ × Job)) → next ≡ first_due second jobs → AreNoted waits next [] second jobs
+pub noted-first : (waits : ℕ → Bool) (next : Option (ℕ × Job)) (second : ℕ) (jobs : List (ℕ × Job))
+    → next ≡ first_due second jobs → AreNoted waits next [] second jobs
 noted-first waits next second jobs is =
-    let it : IsAnswer (due_by second) due_of_job jobs next = subst (IsAnswer (due_by second) due_of_job jobs) (sym is) (answer (due_by second) due_of_job jobs) in
+    let it : IsAnswer (due_by second) due_of_job jobs next =
+    subst (IsAnswer (due_by second) due_of_job jobs) (sym is) (answer (due_by second) due_of_job jobs) in
     record {
       noted = λ x e i d w before. absurd (never-sooner (due_by second) jobs next e it i d.0 before);
       only = λ x i. absurd i;
       often = λ x w.
           sym (ap length (chosen-none (λ e. has_due x second e && is_gone_over next e) jobs (λ e i.
           elim (cases_Bool (has_due x second e)) as (λ v. (has_due x second e && is_gone_over next e) ≡ false) [
-            | inl t ↦ and_right (has_due x second e) (is_gone_over next e) (not-gone_over next e (never-sooner (due_by second) jobs next e it i (held-due x second e.1.state t)))
+            | inl t ↦ and_right (has_due x second e) (is_gone_over next e)
+                (not-gone_over next e (never-sooner (due_by second) jobs next e it i (held-due x second e.1.state t)))
             | inr f ↦ and_left (has_due x second e) (is_gone_over next e) f
           ])));
       due = answer-passes (due_by second) jobs next it;
@@ -217,30 +237,38 @@ which d n =
       | inr (inr above) ↦ inr (inr (later (inl above)))
     ]
 
-still-due : (second : ℕ) (place : ℕ × ℕ) (jobs : List (ℕ × Job)) (next : Option (ℕ × Job)) → IfSome next (λ n. In n jobs × (due_after second place n ≡ true)) → IfSome next (λ n. In n jobs × (due_by second n ≡ true))
+still-due : (second : ℕ) (place : ℕ × ℕ) (jobs : List (ℕ × Job)) (next : Option (ℕ × Job))
+    → IfSome next (λ n. In n jobs × (due_after second place n ≡ true))
+    → IfSome next (λ n. In n jobs × (due_by second n ≡ true))
 still-due second place jobs None it = tt
 still-due second place jobs (Some n) it = (it.0, (and_parts (due_by second n) (is_after place (due_of_job n.1, n.0)) it.1).0)
 
 -- what comes before the next job has been passed after it, too
-still-gone_over : (second : ℕ) (n : ℕ × Job) (next : Option (ℕ × Job)) (jobs : List (ℕ × Job)) (e : ℕ × Job) → IfSome next (λ m. In m jobs × (due_after second (due_of_job n.1, n.0) m ≡ true)) → ComesBefore due_of_job e n → is_gone_over next e ≡ true
+still-gone_over : (second : ℕ) (n : ℕ × Job) (next : Option (ℕ × Job)) (jobs : List (ℕ × Job)) (e : ℕ × Job)
+    → IfSome next (λ m. In m jobs × (due_after second (due_of_job n.1, n.0) m ≡ true)) → ComesBefore due_of_job e n
+    → is_gone_over next e ≡ true
 still-gone_over second n None jobs e it sooner = refl
 still-gone_over second n (Some m) jobs e it sooner =
     passes-before e m (before-later e n m sooner (before n m (and_parts (due_by second m) (is_after (due_of_job n.1, n.0) (due_of_job m.1, m.0)) it.1).1))
 
 -- a due job that isn't the next one has been passed after it exactly where it was before
-gone_over-same : (second : ℕ) (n : ℕ × Job) (next : Option (ℕ × Job)) (jobs : List (ℕ × Job)) (e : ℕ × Job) → IsAnswer (due_after second (due_of_job n.1, n.0)) due_of_job jobs next → In e jobs → due_by second e ≡ true → (e.0 ≡ n.0 → ⊥) → is_gone_over next e ≡ comes_before due_of_job e n
+gone_over-same : (second : ℕ) (n : ℕ × Job) (next : Option (ℕ × Job)) (jobs : List (ℕ × Job)) (e : ℕ × Job)
+    → IsAnswer (due_after second (due_of_job n.1, n.0)) due_of_job jobs next → In e jobs → due_by second e ≡ true
+    → (e.0 ≡ n.0 → ⊥) → is_gone_over next e ≡ comes_before due_of_job e n
 gone_over-same second n next jobs e it i due apart =
     let place : ℕ × ℕ = (due_of_job n.1, n.0) in
     elim (which e n) as (λ v. is_gone_over next e ≡ comes_before due_of_job e n) [
       | inl sooner ↦ still-gone_over second n next jobs e (answer-passes (due_after second place) jobs next it) sooner ∙ sym (passes-before e n sooner)
       | inr (inl same) ↦ absurd (apart same)
       | inr (inr later) ↦
-          not-gone_over next e (never-sooner (due_after second place) jobs next e it i (and_from (due_by second e) (is_after place (due_of_job e.1, e.0)) due later)) ∙
+          not-gone_over next e (never-sooner (due_after second place) jobs next e it i
+          (and_from (due_by second e) (is_after place (due_of_job e.1, e.0)) due later)) ∙
           sym (not-before e n (never-both n e (before n e later)))
     ]
 
 -- and the next one itself has been passed then
-gone_over-itself : (second : ℕ) (n : ℕ × Job) (next : Option (ℕ × Job)) (jobs : List (ℕ × Job)) → IfSome next (λ m. In m jobs × (due_after second (due_of_job n.1, n.0) m ≡ true)) → is_gone_over next n ≡ true
+gone_over-itself : (second : ℕ) (n : ℕ × Job) (next : Option (ℕ × Job)) (jobs : List (ℕ × Job))
+    → IfSome next (λ m. In m jobs × (due_after second (due_of_job n.1, n.0) m ≡ true)) → is_gone_over next n ≡ true
 gone_over-itself second n None jobs it = refl
 gone_over-itself second n (Some m) jobs it = (and_parts (due_by second m) (is_after (due_of_job n.1, n.0) (due_of_job m.1, m.0)) it.1).1
 
@@ -248,10 +276,14 @@ both-true : (b : Bool) → ((b && true) && true) ≡ b
 both-true true = refl
 both-true false = refl
 
-one-more : (x second hi : ℕ) (n : ℕ × Job) (next : Option (ℕ × Job)) (jobs : List (ℕ × Job)) → Rising 0 hi jobs → In n jobs → due_by second n ≡ true → IsAnswer (due_after second (due_of_job n.1, n.0)) due_of_job jobs next → length (filter (λ e. has_due x second e && is_gone_over next e) jobs) ≡ length (filter (λ e. has_due x second e && comes_before due_of_job e n) jobs) + one_if (is_held x n.1.state)
+one-more : (x second hi : ℕ) (n : ℕ × Job) (next : Option (ℕ × Job)) (jobs : List (ℕ × Job)) → Rising 0 hi jobs
+    → In n jobs → due_by second n ≡ true → IsAnswer (due_after second (due_of_job n.1, n.0)) due_of_job jobs next
+    → length (filter (λ e. has_due x second e && is_gone_over next e) jobs)
+    ≡ length (filter (λ e. has_due x second e && comes_before due_of_job e n) jobs) + one_if (is_held x n.1.state)
 one-more x second hi n next jobs r there due it =
     let own : (has_due x second n && is_gone_over next n) ≡ is_held x n.1.state =
-    ap₂ (λ (a b : Bool). (is_held x n.1.state && a) && b) (due-time second n.1.state due) (gone_over-itself second n next jobs (answer-passes (due_after second (due_of_job n.1, n.0)) jobs next it)) ∙
+    ap₂ (λ (a b : Bool). (is_held x n.1.state && a) && b) (due-time second n.1.state due)
+    (gone_over-itself second n next jobs (answer-passes (due_after second (due_of_job n.1, n.0)) jobs next it)) ∙
     both-true (is_held x n.1.state) in
     chosen-more (λ e. has_due x second e && is_gone_over next e) (λ e. has_due x second e && comes_before due_of_job e n) n 0 hi jobs r there
     (λ e i apart.
@@ -262,16 +294,22 @@ one-more x second hi n next jobs r there due it =
     (and_right (has_due x second n) (comes_before due_of_job n n) (not-before n n (λ own. never-both n n own own))) ∙
     ap (λ (b : Bool). length (filter (λ e. has_due x second e && comes_before due_of_job e n) jobs) + one_if b) own
 
-pub noted-next : (waits : ℕ → Bool) (n : ℕ × Job) (next : Option (ℕ × Job)) (numbers numbers' : List ℕ) (second hi : ℕ) (jobs : List (ℕ × Job)) → Rising 0 hi jobs → AreNoted waits (Some n) numbers second jobs → IsNoted waits n.1.state numbers numbers' → next ≡ first_due_after second (due_of_job n.1, n.0) jobs → AreNoted waits next numbers' second jobs
+pub noted-next : (waits : ℕ → Bool) (n : ℕ × Job) (next : Option (ℕ × Job)) (numbers numbers' : List ℕ) (second hi : ℕ)
+    (jobs : List (ℕ × Job)) → Rising 0 hi jobs → AreNoted waits (Some n) numbers second jobs
+    → IsNoted waits n.1.state numbers numbers' → next ≡ first_due_after second (due_of_job n.1, n.0) jobs
+    → AreNoted waits next numbers' second jobs
 noted-next waits n next numbers numbers' second hi jobs r were more is =
     let place : ℕ × ℕ = (due_of_job n.1, n.0) in
-    let it : IsAnswer (due_after second place) due_of_job jobs next = subst (IsAnswer (due_after second place) due_of_job jobs) (sym is) (answer (due_after second place) due_of_job jobs) in
+    let it : IsAnswer (due_after second place) due_of_job jobs next =
+    subst (IsAnswer (due_after second place) due_of_job jobs) (sym is)
+    (answer (due_after second place) due_of_job jobs) in
     record {
       noted = λ x e i d w before.
           elim (which e n) as (λ v. In x numbers') [
             | inl sooner ↦ more.keeps x (were.noted x e i d w sooner)
             | inr (inl same) ↦ more.holder x w (subst (λ (z : ℕ × Job). is_held x z.1.state ≡ true) (same_entry 0 hi jobs e n r i were.due.0 same) d.1)
-            | inr (inr later) ↦ absurd (never-sooner (due_after second place) jobs next e it i (and_from (due_by second e) (is_after place (due_of_job e.1, e.0)) d.0 later) before)
+            | inr (inr later) ↦ absurd (never-sooner (due_after second place) jobs next e it i
+                (and_from (due_by second e) (is_after place (due_of_job e.1, e.0)) d.0 later) before)
           ];
       only = λ x i.
           elim (more.only x i) as (λ v. (waits x && holds_by x second jobs) ≡ true) [
@@ -287,7 +325,9 @@ noted-next waits n next numbers numbers' second hi jobs r were more is =
       due = still-due second place jobs next (answer-passes (due_after second place) jobs next it);
     }
 
-pub noted-all : (next : Option (ℕ × Job)) (numbers : List ℕ) (second : ℕ) (jobs : List (ℕ × Job)) (sessions : List (ℕ × SessionState)) → next ≡ None → AreNoted (waits_at sessions) next numbers second jobs → AreHolders numbers second jobs sessions
+pub noted-all : (next : Option (ℕ × Job)) (numbers : List ℕ) (second : ℕ) (jobs : List (ℕ × Job))
+    (sessions : List (ℕ × SessionState)) → next ≡ None → AreNoted (waits_at sessions) next numbers second jobs
+    → AreHolders numbers second jobs sessions
 noted-all next numbers second jobs sessions end were x = (
   were.only x,
   λ t.
@@ -300,28 +340,39 @@ true-last : (b : Bool) → (b && true) ≡ b
 true-last true = refl
 true-last false = refl
 
-pub noted-often : (next : Option (ℕ × Job)) (numbers : List ℕ) (second : ℕ) (jobs : List (ℕ × Job)) (sessions : List (ℕ × SessionState)) → next ≡ None → AreNoted (waits_at sessions) next numbers second jobs → StandAsOften numbers second jobs sessions
+pub noted-often : (next : Option (ℕ × Job)) (numbers : List ℕ) (second : ℕ) (jobs : List (ℕ × Job))
+    (sessions : List (ℕ × SessionState)) → next ≡ None → AreNoted (waits_at sessions) next numbers second jobs
+    → StandAsOften numbers second jobs sessions
 noted-often next numbers second jobs sessions end were x w =
     were.often x w ∙
-    ap length (chosen-alike (λ e. has_due x second e && is_gone_over next e) (has_due x second) jobs (λ e i. ap (λ (o : Option (ℕ × Job)). has_due x second e && is_gone_over o e) end ∙ true-last (has_due x second e)))
+    ap length (chosen-alike (λ e. has_due x second e && is_gone_over next e) (has_due x second) jobs
+    (λ e i. ap (λ (o : Option (ℕ × Job)). has_due x second e && is_gone_over o e) end ∙ true-last
+    (has_due x second e)))
 
 -- how far the next job is from the last that may be due
 abbrev pub far : ℕ → Option (ℕ × Job) → ℕ
 far second None = 0
 far second (Some n) = 1 + (second - due_of n.1.state) * 2 ^ 64 + (2 ^ 64 - n.0)
 
-pub nearer : (waits : ℕ → Bool) (n : ℕ × Job) (next : Option (ℕ × Job)) (numbers : List ℕ) (second : ℕ) (jobs : List (ℕ × Job)) → Rising 0 (2 ^ 64) jobs → AreNoted waits (Some n) numbers second jobs → next ≡ first_due_after second (due_of_job n.1, n.0) jobs → far second next < far second (Some n)
+pub nearer : (waits : ℕ → Bool) (n : ℕ × Job) (next : Option (ℕ × Job)) (numbers : List ℕ) (second : ℕ)
+    (jobs : List (ℕ × Job)) → Rising 0 (2 ^ 64) jobs → AreNoted waits (Some n) numbers second jobs
+    → next ≡ first_due_after second (due_of_job n.1, n.0) jobs → far second next < far second (Some n)
 nearer waits n next numbers second jobs r were is =
     let fits : n.0 < 2 ^ 64 = value_at-below 0 (2 ^ 64) n.0 jobs n.1 r (value_at-In 0 (2 ^ 64) jobs n r were.due.0) in
     let place : ℕ × ℕ = (due_of_job n.1, n.0) in
-    let it : IfSome next (λ m. In m jobs × (due_after second place m ≡ true)) = answer-passes (due_after second place) jobs next (subst (IsAnswer (due_after second place) due_of_job jobs) (sym is) (answer (due_after second place) due_of_job jobs)) in
+    let it : IfSome next (λ m. In m jobs × (due_after second place m ≡ true)) =
+    answer-passes (due_after second place) jobs next
+    (subst (IsAnswer (due_after second place) due_of_job jobs) (sym is)
+    (answer (due_after second place) due_of_job jobs)) in
     elim next as (λ o. IfSome o (λ m. In m jobs × (due_after second place m ≡ true)) → far second o < far second (Some n)) [
       | None ↦ λ it. omega arith
       | Some m ↦ λ it.
           let both = and_parts (due_by second m) (is_after place (due_of_job m.1, m.0)) it.1 in
           let a : due_of n.1.state ≤ second = leb-true (due_of n.1.state) second (due-time second n.1.state were.due.1) in
           let b : due_of m.1.state ≤ second = leb-true (due_of m.1.state) second (due-time second m.1.state both.0) in
-          elim (or_cases (nat_lt (due_of n.1.state) (due_of m.1.state)) (due_of n.1.state == due_of m.1.state && nat_lt n.0 m.0) both.1) as (λ v. far second (Some m) < far second (Some n)) [
+          elim (or_cases (nat_lt (due_of n.1.state) (due_of m.1.state))
+          (due_of n.1.state == due_of m.1.state && nat_lt n.0 m.0) both.1) as (λ v. far second (Some m) < far second
+          (Some n)) [
             | inl h ↦ let later : due_of n.1.state < due_of m.1.state = ltb-true (due_of n.1.state) (due_of m.1.state) h in omega arith
             | inr h ↦
                 let p = and_parts (due_of n.1.state == due_of m.1.state) (nat_lt n.0 m.0) h in
@@ -332,34 +383,56 @@ nearer waits n next numbers second jobs r were is =
     ] it
 
 -- a session that waits and has such a job is among those
-pub has-holders : (numbers : List ℕ) (second hi : ℕ) (jobs : List (ℕ × Job)) (sessions : List (ℕ × SessionState)) → Rising 0 hi sessions → AreHolders numbers second jobs sessions → HasHolders numbers second jobs sessions
+pub has-holders : (numbers : List ℕ) (second hi : ℕ) (jobs : List (ℕ × Job)) (sessions : List (ℕ × SessionState))
+    → Rising 0 hi sessions → AreHolders numbers second jobs sessions → HasHolders numbers second jobs sessions
 has-holders numbers second hi jobs sessions r holders w i waits holds =
     let seen : waits_at sessions w.0 ≡ is_waiting w.1 = ap (λ o. is_waiting (unwrap_or o new_session)) (value_at-In 0 hi sessions w r i) in
     (holders w.0).1 (and_from (waits_at sessions w.0) (holds_by w.0 second jobs) (seen ∙ waits) holds)
 
 -- The first of those that were found
 
-holder-is : (second : ℕ) (jobs : List (ℕ × Job)) (sessions : List (ℕ × SessionState)) (number : ℕ) (e : ℕ × SessionState) → holder_by second jobs sessions number ≡ Some e → In e sessions × ((is_waiting e.1 && holds_by e.0 second jobs) ≡ true)
+holder-is : (second : ℕ) (jobs : List (ℕ × Job)) (sessions : List (ℕ × SessionState)) (number : ℕ)
+    (e : ℕ × SessionState) → holder_by second jobs sessions number ≡ Some e → In e sessions
+    × ((is_waiting e.1 && holds_by e.0 second jobs) ≡ true)
 holder-is second jobs sessions number e seen =
-    elim (value_at number sessions) as (λ o. value_at number sessions ≡ o → (elim o as (λ o. Option (ℕ × SessionState)) [ None ↦ None | Some c ↦ cond (is_waiting c && holds_by number second jobs) (Some (number, c)) None ]) ≡ Some e → In e sessions × ((is_waiting e.1 && holds_by e.0 second jobs) ≡ true)) [
+    elim (value_at number sessions) as (λ o. value_at number sessions ≡ o
+    → (elim o as (λ o. Option (ℕ × SessionState)) [
+      | None ↦ None
+      | Some c ↦ cond
+          (is_waiting c && holds_by number second jobs) (Some (number, c)) None
+    ]) ≡ Some e → In e sessions
+    × ((is_waiting e.1 && holds_by e.0 second jobs) ≡ true)) [
       | None ↦ λ v h. cc
       | Some c ↦ λ v.
-          elim (is_waiting c && holds_by number second jobs) as (λ b. (is_waiting c && holds_by number second jobs) ≡ b → cond b (Some (number, c)) None ≡ Some e → In e sessions × ((is_waiting e.1 && holds_by e.0 second jobs) ≡ true)) [
+          elim (is_waiting c && holds_by number second jobs) as (λ b. (is_waiting c && holds_by number second jobs) ≡ b
+          → cond b (Some (number, c)) None ≡ Some e → In e sessions
+          × ((is_waiting e.1 && holds_by e.0 second jobs) ≡ true)) [
             | false ↦ λ t h. cc
             | true ↦ λ t h.
                 let same : (number, c) ≡ e = cc in
                 let there = value_at-found number sessions c v in
                 let it : there.0 ≡ (number, c) = λ i. (there.2 i, there.3 i) in
-                subst (λ (d : ℕ × SessionState). In d sessions × ((is_waiting d.1 && holds_by d.0 second jobs) ≡ true)) same (subst (λ d. In d sessions) it there.1, t)
+                subst (λ (d : ℕ × SessionState). In d sessions × ((is_waiting d.1 && holds_by d.0 second jobs) ≡ true))
+                same (subst (λ d. In d sessions) it there.1, t)
           ] refl
     ] refl seen
 
-holder-at : (second hi : ℕ) (jobs : List (ℕ × Job)) (sessions : List (ℕ × SessionState)) (e : ℕ × SessionState) → Rising 0 hi sessions → In e sessions → (is_waiting e.1 && holds_by e.0 second jobs) ≡ true → holder_by second jobs sessions e.0 ≡ Some e
+holder-at : (second hi : ℕ) (jobs : List (ℕ × Job)) (sessions : List (ℕ × SessionState)) (e : ℕ × SessionState)
+    → Rising 0 hi sessions → In e sessions → (is_waiting e.1 && holds_by e.0 second jobs) ≡ true
+    → holder_by second jobs sessions e.0 ≡ Some e
 holder-at second hi jobs sessions e r i t =
-    let seen : Option SessionState → Option (ℕ × SessionState) = λ o. elim o as (λ _. Option (ℕ × SessionState)) [ None ↦ None | Some c ↦ cond (is_waiting c && holds_by e.0 second jobs) (Some (e.0, c)) None ] in
+    let seen : Option SessionState → Option (ℕ × SessionState) =
+    λ o. elim o as (λ _. Option (ℕ × SessionState)) [
+      | None ↦ None
+      | Some c ↦ cond
+          (is_waiting c && holds_by e.0 second jobs) (Some (e.0, c)) None
+    ] in
     ap seen (value_at-In 0 hi sessions e r i) ∙ cond-true (is_waiting e.1 && holds_by e.0 second jobs) (Some (e.0, e.1)) None t
 
-pub holders-first : (numbers : List ℕ) (second hi : ℕ) (jobs : List (ℕ × Job)) (sessions : List (ℕ × SessionState)) → Rising 0 hi sessions → HasHolders numbers second jobs sessions → least (λ e. true) wait_rank (filter_map (holder_by second jobs sessions) numbers) ≡ first_waiting (λ e. holds_by e.0 second jobs) sessions
+pub holders-first : (numbers : List ℕ) (second hi : ℕ) (jobs : List (ℕ × Job)) (sessions : List (ℕ × SessionState))
+    → Rising 0 hi sessions → HasHolders numbers second jobs sessions
+    → least (λ e. true) wait_rank (filter_map (holder_by second jobs sessions) numbers)
+    ≡ first_waiting (λ e. holds_by e.0 second jobs) sessions
 holders-first numbers second hi jobs sessions r holders =
     least_alike (λ e. is_waiting e.1 && holds_by e.0 second jobs) (λ e. true) wait_rank sessions (filter_map (holder_by second jobs sessions) numbers) 0 hi r
     (λ e i t. let from = mapped-from (holder_by second jobs sessions) e numbers i in holder-is second jobs sessions from.0 e from.2)
@@ -370,10 +443,13 @@ holders-first numbers second hi jobs sessions r holders =
 -- Turns
 
 -- a turn ends a wait, and changes nothing else
-pub holders-turn : (numbers : List ℕ) (s t : QueueState) (xs ys : List (Answer Reply)) (more : Bool) → IsTurn deadline_turn s t xs ys more → HasHolders numbers (s.now + 1) s.jobs s.sessions → HasHolders numbers (t.now + 1) t.jobs t.sessions
+pub holders-turn : (numbers : List ℕ) (s t : QueueState) (xs ys : List (Answer Reply)) (more : Bool)
+    → IsTurn deadline_turn s t xs ys more → HasHolders numbers (s.now + 1) s.jobs s.sessions
+    → HasHolders numbers (t.now + 1) t.jobs t.sessions
 unfolding told_turn
 holders-turn numbers s t xs ys false i holders = subst (λ (u : QueueState). HasHolders numbers (u.now + 1) u.jobs u.sessions) (sym i.1) holders
 holders-turn numbers s t xs ys true i holders =
     let was : IsTold Reply.DeadlineSoon s i.0 = subst (λ o. IfSome o (IsTold Reply.DeadlineSoon s)) i.1 (deadline_turn-is s) in
-    let after : HasHolders numbers (s.now + 1) s.jobs (with_wait_ended was.session.0 s.sessions) = λ w j waits holds. holders w (ended-calmer was.session.0 s.sessions w j waits) waits holds in
+    let after : HasHolders numbers (s.now + 1) s.jobs (with_wait_ended was.session.0 s.sessions) =
+    λ w j waits holds. holders w (ended-calmer was.session.0 s.sessions w j waits) waits holds in
     subst (λ (u : QueueState). HasHolders numbers (u.now + 1) u.jobs u.sessions) (sym (i.2 ∙ ap (λ (u : QueueTurn). u.state) was.made)) after

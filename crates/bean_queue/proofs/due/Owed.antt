@@ -41,11 +41,14 @@ holds-done s = none-holds _ (turns-done deadline_turn tells_deadline (length s.s
 
 told-holds : (reply : Reply) (s : QueueState) (t : QueueTurn) → IsTold reply s t → NobodyHolds s → NobodyHolds t.state
 unfolding told_turn
-told-holds reply s t i h = subst (λ (t : QueueTurn). NobodyHolds t.state) (sym i.made) (λ w there waits holds. h w (ended-calmer i.session.0 s.sessions w there waits) waits holds)
+told-holds reply s t i h = subst (λ (t : QueueTurn). NobodyHolds t.state) (sym i.made)
+    (λ w there waits holds. h w (ended-calmer i.session.0 s.sessions w there waits) waits holds)
 
 timeouts-hold : (s : QueueState) → NobodyHolds s → NobodyHolds (all_turns timeout_turn s).state
 unfolding all_turns
-timeouts-hold s h = (turns-keep timeout_turn NobodyHolds (λ a. Unit {0}) (λ s n. IfSome-map _ _ (timeout_turn s) (λ t i. (told-holds Reply.TimedOut s t i n, tt)) (timeout_turn-is s)) (length s.sessions) s h).0
+timeouts-hold s h = (turns-keep timeout_turn NobodyHolds (λ a. Unit {0})
+    (λ s n. IfSome-map _ _ (timeout_turn s) (λ t i. (told-holds Reply.TimedOut s t i n, tt)) (timeout_turn-is s))
+    (length s.sessions) s h).0
 
 -- nobody waits whose wait is over
 abbrev NobodyIsLate : QueueState → Type 0
@@ -65,7 +68,9 @@ owes-nothing s none holds late w i waits = record {
   no_deadline = λ j there has.
       elim (cases_Bool (nat_le (due_of j.1.state) (s.now + 1))) as (λ v. s.now + 1 < due_of j.1.state) [
         | inl due ↦
-            absurd (holds w i waits (holds-one w.0 (s.now + 1) s.jobs j there (held-due w.0 (s.now + 1) j.1.state (and_from (is_held w.0 j.1.state) (nat_le (due_of j.1.state) (s.now + 1)) has due)) has))
+            absurd (holds w i waits (holds-one w.0 (s.now + 1) s.jobs j there
+            (held-due w.0 (s.now + 1) j.1.state
+            (and_from (is_held w.0 j.1.state) (nat_le (due_of j.1.state) (s.now + 1)) has due)) has))
         | inr early ↦ leb-false (due_of j.1.state) (s.now + 1) early
       ];
   no_time_out =
@@ -83,5 +88,7 @@ second-owes s =
 pub tick-owes : (s : QueueState) (second : ℕ) → s.now < second → OwesNothing (tick_effect second s).state
 unfolding tick_effect
 tick-owes s second above =
-    subst (λ b. OwesNothing (cond b (then_do (then_do (serve (at_second second s)) (all_turns deadline_turn)) (all_turns timeout_turn)) (stop s)).state) (sym (lt-ltb s.now second above))
+    subst (λ b. OwesNothing (cond b
+    (then_do (then_do (serve (at_second second s)) (all_turns deadline_turn)) (all_turns timeout_turn))
+    (stop s)).state) (sym (lt-ltb s.now second above))
     (second-owes (at_second second s))

@@ -1,5 +1,7 @@
 -- What each command gives, and what it does to a hold.
-use Rattle.std.proofs.Common.{◌≡◌, ℕ, ◌+◌, Bool, true, false, cond, ◌&&◌, ◌⊎◌, inl, inr, List, [], ◌∷◌, ◌++◌, Option, Some, ◌==◌, nat_lt, nat_le, refl, sym, ap, subst, ◌∙◌, eq-eqb, ne_eqb, leb-true, append-nil}
+use Rattle.std.proofs.Common.{◌≡◌, ℕ, ◌+◌, Bool, true, false, cond, ◌&&◌, ◌⊎◌, inl, inr, List, [], ◌∷◌, ◌++◌, Option}
+use Rattle.std.proofs.Common.{Some, ◌==◌, nat_lt, nat_le, refl, sym, ap, subst, ◌∙◌, eq-eqb, ne_eqb, leb-true}
+use Rattle.std.proofs.Common.{append-nil}
 use Rattle.std.proofs.lemmas.Bool.{cases_eq, cases_Bool, cond-true, cond-false}
 use Rattle.std.specs.List.{list_any}
 use Rattle.object.specs.Lists.{In}
@@ -15,10 +17,14 @@ use Rattle.bean_queue.specs.declared.reply.Reply.{Reply}
 use Rattle.bean_queue.specs.Queue.{QueueState, holds_by, HasRisingIds}
 use Rattle.bean_queue.specs.Rows.{row}
 use Rattle.bean_queue.specs.Turns.{QueueOutcome, stop, serve, all_turns, deadline_turn, timeout_turn}
-use Rattle.bean_queue.specs.Effects.{own, called, ends_wait, is_zero, turned_away, then_do, own_outcome, has_no_number, carried_out, do_effect, released, close_effect, at_second, tick_effect, act_effect, effect}
+use Rattle.bean_queue.specs.Effects.{own, called, ends_wait, is_zero, turned_away, then_do, own_outcome, has_no_number}
+use Rattle.bean_queue.specs.Effects.{carried_out, do_effect, released, close_effect, at_second, tick_effect, act_effect}
+use Rattle.bean_queue.specs.Effects.{effect}
 use Rattle.bean_queue.specs.Places.{QueuePlace, queue_place}
 use Rattle.bean_queue.specs.Holds.{hands_out, is_touched, is_touch, handing_out, touches, Ends}
-use Rattle.bean_queue.proofs.holders.Held.{Held, Held-each, KeepsHold, IsQuiet, IsAside, quiet-append, handing_out-append, sound-along, aside-keeps, serve-keeps, deadlines-aside, timeouts-aside}
+use Rattle.bean_queue.proofs.holders.Held.{Held, Held-each, KeepsHold, IsQuiet, IsAside, quiet-append}
+use Rattle.bean_queue.proofs.holders.Held.{handing_out-append, sound-along, aside-keeps, serve-keeps, deadlines-aside}
+use Rattle.bean_queue.proofs.holders.Held.{timeouts-aside}
 use Rattle.bean_queue.proofs.holders.Given.{Gave, GivesOnce, serve-gives}
 use Rattle.bean_queue.proofs.holders.RowHolds.{row-ok, EndsHold, HoldAfter, row-holds}
 
@@ -43,9 +49,11 @@ turned_away-aside (Op.Reserve seconds) key s =
 turned_away-aside _ key s = aside-stop s
 
 -- first some answers that reserve nothing
-gives-after : (id now : ℕ) (answers : List (Answer Reply)) (o : QueueOutcome) → IsQuiet id answers → GivesOnce id now o → GivesOnce id now (record { state = o.state; answers = answers ++ o.answers })
+gives-after : (id now : ℕ) (answers : List (Answer Reply)) (o : QueueOutcome) → IsQuiet id answers → GivesOnce id now o
+    → GivesOnce id now (record { state = o.state; answers = answers ++ o.answers })
 gives-after id now answers o quiet g =
-    let skip : handing_out id (answers ++ o.answers) ≡ handing_out id o.answers = handing_out-append id answers o.answers ∙ ap (λ zs. zs ++ handing_out id o.answers) quiet in
+    let skip : handing_out id (answers ++ o.answers) ≡ handing_out id o.answers =
+    handing_out-append id answers o.answers ∙ ap (λ zs. zs ++ handing_out id o.answers) quiet in
     record {
       sound = g.sound;
       at = g.at;
@@ -59,7 +67,9 @@ gives-after id now answers o quiet g =
 -- then an outcome that leaves the jobs alone
 gives-then : (id now : ℕ) (o : QueueOutcome) (f : QueueState → QueueOutcome) → GivesOnce id now o → IsAside o.state (f o.state) → GivesOnce id now (then_do o f)
 gives-then id now o f g a =
-    let skip : handing_out id (o.answers ++ (f o.state).answers) ≡ handing_out id o.answers = handing_out-append id o.answers (f o.state).answers ∙ ap (λ zs. handing_out id o.answers ++ zs) (a.quiet id) ∙ append-nil (handing_out id o.answers) in
+    let skip : handing_out id (o.answers ++ (f o.state).answers) ≡ handing_out id o.answers =
+    handing_out-append id o.answers (f o.state).answers ∙ ap (λ zs. handing_out id o.answers ++ zs)
+    (a.quiet id) ∙ append-nil (handing_out id o.answers) in
     record {
       sound = sound-along o.state (f o.state).state a.jobs a.next g.sound;
       at = a.at ∙ g.at;
@@ -112,10 +122,14 @@ close-gives id x s sound = let g = serve-gives id (released x s) (Rising-each _ 
 pub tick-gives : (id t : ℕ) (s : QueueState) → HasRisingIds s → GivesOnce id (tick_effect t s).state.now (tick_effect t s)
 unfolding tick_effect
 tick-gives id t s sound =
-    elim (nat_lt s.now t) as (λ b. GivesOnce id (cond b (then_do (then_do (serve (at_second t s)) (all_turns deadline_turn)) (all_turns timeout_turn)) (stop s)).state.now (cond b (then_do (then_do (serve (at_second t s)) (all_turns deadline_turn)) (all_turns timeout_turn)) (stop s))) [
+    elim (nat_lt s.now t) as (λ b. GivesOnce id
+    (cond b (then_do (then_do (serve (at_second t s)) (all_turns deadline_turn)) (all_turns timeout_turn))
+    (stop s)).state.now (cond b (then_do (then_do (serve (at_second t s)) (all_turns deadline_turn))
+    (all_turns timeout_turn)) (stop s))) [
       | true ↦
           let g = gives-then id t (then_do (serve (at_second t s)) (all_turns deadline_turn)) (all_turns timeout_turn)
-          (gives-then id t (serve (at_second t s)) (all_turns deadline_turn) (serve-gives id (at_second t s) (Rising-each _ 1 s.next_id s.jobs sound)) (deadlines-aside _))
+          (gives-then id t (serve (at_second t s)) (all_turns deadline_turn)
+          (serve-gives id (at_second t s) (Rising-each _ 1 s.next_id s.jobs sound)) (deadlines-aside _))
           (timeouts-aside _) in
           subst (λ n. GivesOnce id n (then_do (then_do (serve (at_second t s)) (all_turns deadline_turn)) (all_turns timeout_turn))) (sym g.at) g
       | false ↦ record { sound = sound; at = refl; given = inl refl }
@@ -135,13 +149,16 @@ pub data HoldsOn (x id ttr second : ℕ) (p : QueuePlace) : Type 0 where
   ends : Ends p x id (second + ttr) → HoldsOn x id ttr second p
   on : IsQuiet id p.answers → HasRisingIds p.state → Held p.state.jobs x id ttr (cond (touches p x id) p.state.now second) → HoldsOn x id ttr second p
 
-keeps-then : (x id ttr second now : ℕ) (o : QueueOutcome) (f : QueueState → QueueOutcome) → KeepsHold x id ttr second now o → IsAside o.state (f o.state) → KeepsHold x id ttr second now (then_do o f)
+keeps-then : (x id ttr second now : ℕ) (o : QueueOutcome) (f : QueueState → QueueOutcome)
+    → KeepsHold x id ttr second now o → IsAside o.state (f o.state) → KeepsHold x id ttr second now (then_do o f)
 keeps-then x id ttr second now o f k a =
     let r = aside-keeps x id ttr second now o.state (f o.state) k.keeps a in
     record { keeps = r.keeps; quiet = quiet-append id o.answers (f o.state).answers k.quiet r.quiet }
 
 -- after a row that keeps the hold
-carried_out-keeps : (x id ttr second : ℕ) (op : Op) (key : Key) (s : QueueState) → HasRisingIds s → Held (row op key (called key.session s)).state.jobs x id ttr second → KeepsHold x id ttr second s.now (carried_out op key s)
+carried_out-keeps : (x id ttr second : ℕ) (op : Op) (key : Key) (s : QueueState) → HasRisingIds s
+    → Held (row op key (called key.session s)).state.jobs x id ttr second
+    → KeepsHold x id ttr second s.now (carried_out op key s)
 unfolding carried_out
 carried_out-keeps x id ttr second op key s sound h =
     let ok = row-ok op key (called key.session s) sound in
@@ -152,24 +169,40 @@ carried_out-keeps x id ttr second op key s sound h =
     (turned_away-aside op key (serve r.state).state)
 
 -- the own answer stands first
-own_there : (key : Key) (o : Option Reply) (reply : Reply) (xs ys : List (Answer Reply)) → o ≡ Some reply → In (record { to = key; reply = reply }) ((own key o ++ xs) ++ ys)
+own_there : (key : Key) (o : Option Reply) (reply : Reply) (xs ys : List (Answer Reply)) → o ≡ Some reply
+    → In (record { to = key; reply = reply }) ((own key o ++ xs) ++ ys)
 own_there key o reply xs ys e = subst (λ o. In (record { to = key; reply = reply }) ((own key o ++ xs) ++ ys)) (sym e) (inl refl)
 
-own_touched : (key : Key) (o : Option Reply) (xs ys : List (Answer Reply)) → o ≡ Some Reply.Touched → list_any (λ a. is_touched a.reply) ((own key o ++ xs) ++ ys) ≡ true
+own_touched : (key : Key) (o : Option Reply) (xs ys : List (Answer Reply)) → o ≡ Some Reply.Touched
+    → list_any (λ a. is_touched a.reply) ((own key o ++ xs) ++ ys) ≡ true
 own_touched key o xs ys e = subst (λ o. list_any (λ (a : Answer Reply). is_touched a.reply) ((own key o ++ xs) ++ ys) ≡ true) (sym e) refl
 
-carried_out-own : (op : Op) (key : Key) (s : QueueState) (reply : Reply) → (row op key (called key.session s)).reply ≡ Some reply → In (record { to = key; reply = reply }) (carried_out op key s).answers
+carried_out-own : (op : Op) (key : Key) (s : QueueState) (reply : Reply)
+    → (row op key (called key.session s)).reply ≡ Some reply
+    → In (record { to = key; reply = reply }) (carried_out op key s).answers
 unfolding carried_out
 carried_out-own op key s reply e = own_there key _ reply _ _ e
 
-carried_out-touched : (op : Op) (key : Key) (s : QueueState) → (row op key (called key.session s)).reply ≡ Some Reply.Touched → list_any (λ a. is_touched a.reply) (carried_out op key s).answers ≡ true
+carried_out-touched : (op : Op) (key : Key) (s : QueueState)
+    → (row op key (called key.session s)).reply ≡ Some Reply.Touched
+    → list_any (λ a. is_touched a.reply) (carried_out op key s).answers ≡ true
 unfolding carried_out
 carried_out-touched op key s e = own_touched key _ _ _ e
 
-carried_out-ends : (x id due : ℕ) (op : Op) (key : Key) (s : QueueState) (reply : Reply) → EndsHold id op reply → key.session ≡ x → (row op key (called key.session s)).reply ≡ Some reply → Ends (queue_place (record { key = key; act = Act.Do op }) (carried_out op key s)) x id due
-carried_out-ends x id due op key s reply (EndsHold.by_delete j same) who e = Ends.deleted (who, ap (λ q. Act.Do (Op.Delete q)) same, carried_out-own (Op.Delete j) key s Reply.Deleted e)
-carried_out-ends x id due op key s reply (EndsHold.by_release j pri delay same) who e = Ends.released pri delay (who, ap (λ q. Act.Do (Op.Release q pri delay)) same, carried_out-own (Op.Release j pri delay) key s Reply.Released e)
-carried_out-ends x id due op key s reply (EndsHold.by_bury j pri same) who e = Ends.buried pri (who, ap (λ q. Act.Do (Op.Bury q pri)) same, carried_out-own (Op.Bury j pri) key s Reply.Buried e)
+carried_out-ends : (x id due : ℕ) (op : Op) (key : Key) (s : QueueState) (reply : Reply) → EndsHold id op reply
+    → key.session ≡ x → (row op key (called key.session s)).reply ≡ Some reply
+    → Ends (queue_place (record { key = key; act = Act.Do op }) (carried_out op key s)) x id due
+carried_out-ends x id due op key s reply (EndsHold.by_delete j same) who e =
+    Ends.deleted (who, ap (λ q. Act.Do (Op.Delete q)) same, carried_out-own (Op.Delete j) key s Reply.Deleted e)
+carried_out-ends x id due op key s reply (EndsHold.by_release j pri delay same) who e =
+    Ends.released pri delay (
+      who,
+      ap (λ q. Act.Do (Op.Release q pri delay)) same,
+      carried_out-own
+          (Op.Release j pri delay) key s Reply.Released e,
+    )
+carried_out-ends x id due op key s reply (EndsHold.by_bury j pri same) who e =
+    Ends.buried pri (who, ap (λ q. Act.Do (Op.Bury q pri)) same, carried_out-own (Op.Bury j pri) key s Reply.Buried e)
 
 untouched : (a b c : Bool) → (a && b) ≡ false → (a && (b && c)) ≡ false
 untouched true true c e = cc
@@ -179,17 +212,26 @@ untouched false b c e = refl
 touched : (a b c : Bool) → a ≡ true → b ≡ true → c ≡ true → (a && (b && c)) ≡ true
 touched a b c p q r = cc
 
-carried_out-holds : (x id ttr second : ℕ) (op : Op) (key : Key) (s : QueueState) → HasRisingIds s → Held s.jobs x id ttr second → HoldsOn x id ttr second (queue_place (record { key = key; act = Act.Do op }) (carried_out op key s))
+carried_out-holds : (x id ttr second : ℕ) (op : Op) (key : Key) (s : QueueState) → HasRisingIds s
+    → Held s.jobs x id ttr second → HoldsOn x id ttr second
+    (queue_place (record { key = key; act = Act.Do op }) (carried_out op key s))
 carried_out-holds x id ttr second op key s sound h =
     let p : QueuePlace = queue_place (record { key = key; act = Act.Do op }) (carried_out op key s) in
     elim (row-holds x id ttr second op key (called key.session s) sound h) as (λ v. HoldsOn x id ttr second p) [
       | HoldAfter.ended reply e who said ↦ ends (carried_out-ends x id (second + ttr) op key s reply e who said)
       | HoldAfter.stays h e ↦
           let k = carried_out-keeps x id ttr second op key s sound h in
-          on k.quiet k.keeps.sound (subst (λ n. Held (carried_out op key s).state.jobs x id ttr n) (sym (cond-false (touches p x id) p.state.now second (untouched (is_touch id (Act.Do op)) (key.session == x) (list_any (λ (a : Answer Reply). is_touched a.reply) p.answers) e))) k.keeps.held)
+          on k.quiet k.keeps.sound (subst (λ n. Held (carried_out op key s).state.jobs x id ttr n)
+          (sym (cond-false (touches p x id) p.state.now second
+          (untouched (is_touch id (Act.Do op)) (key.session == x)
+          (list_any (λ (a : Answer Reply). is_touched a.reply) p.answers) e))) k.keeps.held)
       | HoldAfter.renewed h e who said ↦
           let k = carried_out-keeps x id ttr s.now op key s sound h in
-          on k.quiet k.keeps.sound (subst (λ n. Held (carried_out op key s).state.jobs x id ttr n) (sym (cond-true (touches p x id) p.state.now second (touched (is_touch id (Act.Do op)) (key.session == x) (list_any (λ (a : Answer Reply). is_touched a.reply) p.answers) e (eq-eqb key.session x who) (carried_out-touched op key s said)) ∙ k.keeps.at)) k.keeps.held)
+          on k.quiet k.keeps.sound (subst (λ n. Held (carried_out op key s).state.jobs x id ttr n)
+          (sym (cond-true (touches p x id) p.state.now second
+          (touched (is_touch id (Act.Do op)) (key.session == x)
+          (list_any (λ (a : Answer Reply). is_touched a.reply) p.answers) e (eq-eqb key.session x who)
+          (carried_out-touched op key s said)) ∙ k.keeps.at)) k.keeps.held)
     ]
 
 without_touch : (a b : Bool) → (a && (b && false)) ≡ false
@@ -198,20 +240,30 @@ without_touch true false = refl
 without_touch false b = refl
 
 -- nothing but the end of a wait
-refused-holds : (x id ttr second : ℕ) (op : Op) (key : Key) (s : QueueState) → HasRisingIds s → Held s.jobs x id ttr second → HoldsOn x id ttr second (queue_place (record { key = key; act = Act.Do op }) (ends_wait s key Reply.InternalError))
+refused-holds : (x id ttr second : ℕ) (op : Op) (key : Key) (s : QueueState) → HasRisingIds s
+    → Held s.jobs x id ttr second → HoldsOn x id ttr second
+    (queue_place (record { key = key; act = Act.Do op }) (ends_wait s key Reply.InternalError))
 refused-holds x id ttr second op key s sound h =
     on refl sound
-    (subst (λ n. Held s.jobs x id ttr n) (sym (cond-false (touches (queue_place (record { key = key; act = Act.Do op }) (ends_wait s key Reply.InternalError)) x id) s.now second (without_touch (is_touch id (Act.Do op)) (key.session == x)))) h)
+    (subst (λ n. Held s.jobs x id ttr n)
+    (sym (cond-false (touches (queue_place (record { key = key; act = Act.Do op })
+    (ends_wait s key Reply.InternalError)) x id) s.now second
+    (without_touch (is_touch id (Act.Do op)) (key.session == x)))) h)
 
-pub do-holds : (x id ttr second : ℕ) (op : Op) (key : Key) (s : QueueState) → HasRisingIds s → Held s.jobs x id ttr second → HoldsOn x id ttr second (queue_place (record { key = key; act = Act.Do op }) (do_effect op key s))
+pub do-holds : (x id ttr second : ℕ) (op : Op) (key : Key) (s : QueueState) → HasRisingIds s
+    → Held s.jobs x id ttr second → HoldsOn x id ttr second
+    (queue_place (record { key = key; act = Act.Do op }) (do_effect op key s))
 unfolding do_effect
 do-holds x id ttr second op key s sound h =
-    elim (has_no_number op s) as (λ b. HoldsOn x id ttr second (queue_place (record { key = key; act = Act.Do op }) (cond b (ends_wait s key Reply.InternalError) (carried_out op key s)))) [
+    elim (has_no_number op s) as (λ b. HoldsOn x id ttr second
+    (queue_place (record { key = key; act = Act.Do op })
+    (cond b (ends_wait s key Reply.InternalError) (carried_out op key s)))) [
       | true ↦ refused-holds x id ttr second op key s sound h
       | false ↦ carried_out-holds x id ttr second op key s sound h
     ]
 
-pub close-holds : (x id ttr second : ℕ) (key : Key) (s : QueueState) → HasRisingIds s → Held s.jobs x id ttr second → HoldsOn x id ttr second (queue_place (record { key = key; act = Act.Close }) (close_effect key.session s))
+pub close-holds : (x id ttr second : ℕ) (key : Key) (s : QueueState) → HasRisingIds s → Held s.jobs x id ttr second
+    → HoldsOn x id ttr second (queue_place (record { key = key; act = Act.Close }) (close_effect key.session s))
 unfolding close_effect
 close-holds x id ttr second key s sound h =
     elim (cases_eq key.session x) [
@@ -219,19 +271,25 @@ close-holds x id ttr second key s sound h =
       | inr apart ↦
           let k = serve-keeps x id ttr second s.now (released key.session s) (record {
             sound = Rising-each _ 1 s.next_id s.jobs sound;
-            held = Held-each _ s.jobs x id ttr second h (cond-false (is_held key.session h.job.state) _ h.job (ap (is_held key.session) h.held ∙ ne_eqb key.session x apart));
+            held = Held-each _ s.jobs x id ttr second h
+                (cond-false (is_held key.session h.job.state) _ h.job
+                (ap (is_held key.session) h.held ∙ ne_eqb key.session x apart));
             at = refl;
           }) in
           on k.quiet k.keeps.sound k.keeps.held
     ]
 
-pub tick-holds : (x id ttr second : ℕ) (key : Key) (s : QueueState) → HasRisingIds s → Held s.jobs x id ttr second → HoldsOn x id ttr second (queue_place (record { key = key; act = Act.Tick }) (tick_effect key.number s))
+pub tick-holds : (x id ttr second : ℕ) (key : Key) (s : QueueState) → HasRisingIds s → Held s.jobs x id ttr second
+    → HoldsOn x id ttr second (queue_place (record { key = key; act = Act.Tick }) (tick_effect key.number s))
 unfolding tick_effect
 tick-holds x id ttr second key s sound h =
     elim (cases_Bool (nat_le (second + ttr) key.number)) [
       | inl due ↦ ends (Ends.came_due refl (leb-true (second + ttr) key.number due))
       | inr early ↦
-          elim (nat_lt s.now key.number) as (λ b. HoldsOn x id ttr second (queue_place (record { key = key; act = Act.Tick }) (cond b (then_do (then_do (serve (at_second key.number s)) (all_turns deadline_turn)) (all_turns timeout_turn)) (stop s)))) [
+          elim (nat_lt s.now key.number) as (λ b. HoldsOn x id ttr second
+          (queue_place (record { key = key; act = Act.Tick })
+          (cond b (then_do (then_do (serve (at_second key.number s)) (all_turns deadline_turn))
+          (all_turns timeout_turn)) (stop s)))) [
             | true ↦
                 let k = serve-keeps x id ttr second key.number (at_second key.number s) (record {
                   sound = Rising-each _ 1 s.next_id s.jobs sound;
@@ -245,7 +303,8 @@ tick-holds x id ttr second key s sound h =
           ]
     ]
 
-pub effect-holds : (x id ttr second : ℕ) (c : Command Op) (s : QueueState) → HasRisingIds s → Held s.jobs x id ttr second → HoldsOn x id ttr second (queue_place c (effect c s))
+pub effect-holds : (x id ttr second : ℕ) (c : Command Op) (s : QueueState) → HasRisingIds s
+    → Held s.jobs x id ttr second → HoldsOn x id ttr second (queue_place c (effect c s))
 unfolding effect act_effect
 effect-holds x id ttr second c s sound h =
     elim c.act as (λ act. HoldsOn x id ttr second (queue_place (record { key = c.key; act = act }) (act_effect act c.key s))) [

@@ -1,5 +1,6 @@
 -- What Serve gives: at most one RESERVED of a job, and then the job is held.
-use Rattle.std.proofs.Common.{◌≡◌, ℕ, zero, suc, ◌+◌, false, ◌⊎◌, inl, inr, [], ◌∷◌, length, Some, None, IfSome, ◌==◌, refl, sym, ap, subst, ◌∙◌, eq-eqb, ne_eqb}
+use Rattle.std.proofs.Common.{◌≡◌, ℕ, zero, suc, ◌+◌, false, ◌⊎◌, inl, inr, [], ◌∷◌, length, Some, None, IfSome, ◌==◌}
+use Rattle.std.proofs.Common.{refl, sym, ap, subst, ◌∙◌, eq-eqb, ne_eqb}
 use Rattle.std.proofs.lemmas.Bool.{cases_eq, cond-true, cond-false}
 use Rattle.object.specs.Lists.{In}
 use Rattle.object.specs.declared.command.Answer.{Answer}
@@ -28,7 +29,8 @@ pub record GivesOnce (id now : ℕ) (o : QueueOutcome) : Type 0 where
   pub at : o.state.now ≡ now
   pub given : IsQuiet id o.answers ⊎ Gave id now o
 
-now_held : (id now : ℕ) (s : QueueState) (j : ℕ × Job) (w : ℕ × SessionState) → id ≡ j.0 → In j s.jobs → HasRisingIds s → s.now ≡ now → Keeps w.0 id j.1.ttr now now (given s j w).state
+now_held : (id now : ℕ) (s : QueueState) (j : ℕ × Job) (w : ℕ × SessionState) → id ≡ j.0 → In j s.jobs → HasRisingIds s
+    → s.now ≡ now → Keeps w.0 id j.1.ttr now now (given s j w).state
 unfolding given
 now_held id now s j w same i sound at =
     record {
@@ -56,7 +58,9 @@ given-to : (s : QueueState) (j : ℕ × Job) (w : ℕ × SessionState) → (give
 unfolding given
 given-to s j w = refl
 
-once_given : (id now : ℕ) (s : QueueState) (j : ℕ × Job) (w : ℕ × SessionState) (o : QueueOutcome) → IsQuiet id o.answers → Keeps w.0 id j.1.ttr now now o.state → id ≡ j.0 → GivesOnce id now (after_turn (given s j w).answer o)
+once_given : (id now : ℕ) (s : QueueState) (j : ℕ × Job) (w : ℕ × SessionState) (o : QueueOutcome)
+    → IsQuiet id o.answers → Keeps w.0 id j.1.ttr now now o.state → id ≡ j.0
+    → GivesOnce id now (after_turn (given s j w).answer o)
 once_given id now s j w o quiet k same =
     record {
       sound = k.sound;
@@ -66,7 +70,8 @@ once_given id now s j w o quiet k same =
             answer = (given s j w).answer;
             ttr = j.1.ttr;
             only =
-                cond-true (hands_out id (given s j w).answer.reply) ((given s j w).answer ∷ handing_out id o.answers) (handing_out id o.answers) (given-reserved id s j w ∙ eq-eqb id j.0 same) ∙
+                cond-true (hands_out id (given s j w).answer.reply) ((given s j w).answer ∷ handing_out id o.answers)
+                (handing_out id o.answers) (given-reserved id s j w ∙ eq-eqb id j.0 same) ∙
                 ap (λ zs. (given s j w).answer ∷ zs) quiet;
             held = subst (λ x. Held o.state.jobs x id j.1.ttr now) (sym (given-to s j w)) k.held;
           });
@@ -74,7 +79,8 @@ once_given id now s j w o quiet k same =
 
 once_later : (id now : ℕ) (a : Answer Reply) (o : QueueOutcome) → hands_out id a.reply ≡ false → GivesOnce id now o → GivesOnce id now (after_turn a o)
 once_later id now a o e g =
-    let skip : handing_out id (a ∷ o.answers) ≡ handing_out id o.answers = cond-false (hands_out id a.reply) (a ∷ handing_out id o.answers) (handing_out id o.answers) e in
+    let skip : handing_out id (a ∷ o.answers) ≡ handing_out id o.answers =
+    cond-false (hands_out id a.reply) (a ∷ handing_out id o.answers) (handing_out id o.answers) e in
     record {
       sound = g.sound;
       at = g.at;
@@ -95,12 +101,16 @@ turns-give id now (suc n) s sound at =
           let j = i.job in
           let w = i.session in
           subst (λ (t : QueueTurn). GivesOnce id now (after_turn t.answer (turns serve_turn n t.state))) (sym i.made)
-          (elim (cases_eq id i.job.0) as (λ v. GivesOnce id now (after_turn (given s i.job i.session).answer (turns serve_turn n (given s i.job i.session).state))) [
+          (elim (cases_eq id i.job.0) as (λ v. GivesOnce id now
+          (after_turn (given s i.job i.session).answer (turns serve_turn n (given s i.job i.session).state))) [
             | inl same ↦
-                let r = turns-keep serve_turn (Keeps i.session.0 id i.job.1.ttr now now) (IsQuietReply id) (serve-keeps_turn i.session.0 id i.job.1.ttr now now) n (given s i.job i.session).state (now_held id now s i.job i.session same i.there sound at) in
+                let r = turns-keep serve_turn (Keeps i.session.0 id i.job.1.ttr now now) (IsQuietReply id)
+                (serve-keeps_turn i.session.0 id i.job.1.ttr now now) n (given s i.job i.session).state
+                (now_held id now s i.job i.session same i.there sound at) in
                 once_given id now s i.job i.session (turns serve_turn n (given s i.job i.session).state) (quiet-all id _ r.1) r.0 same
             | inr apart ↦
-                once_later id now (given s i.job i.session).answer (turns serve_turn n (given s i.job i.session).state) (given-reserved id s i.job i.session ∙ ne_eqb id i.job.0 apart)
+                once_later id now (given s i.job i.session).answer (turns serve_turn n (given s i.job i.session).state)
+                (given-reserved id s i.job i.session ∙ ne_eqb id i.job.0 apart)
                 (turns-give id now n (given s i.job i.session).state (given-sound s i.job i.session sound) (given-now s i.job i.session ∙ at))
           ])
     ] (serve_turn-is s)

@@ -1,5 +1,6 @@
 -- A job that is held, and what Serve and the other turns do to it.
-use Rattle.std.proofs.Common.{◌≡◌, ℕ, ◌+◌, true, false, List, [], ◌∷◌, ◌++◌, length, cond, Option, option_map, Some, IfSome, refl, sym, ap, subst, ◌∙◌, ne_eqb, true≢false}
+use Rattle.std.proofs.Common.{◌≡◌, ℕ, ◌+◌, true, false, List, [], ◌∷◌, ◌++◌, length, cond, Option, option_map, Some}
+use Rattle.std.proofs.Common.{IfSome, refl, sym, ap, subst, ◌∙◌, ne_eqb, true≢false}
 use Rattle.std.proofs.lemmas.Bool.{cond-false}
 use Rattle.std.specs.List.{AllByRecursion}
 use Rattle.object.specs.Lists.{In}
@@ -23,17 +24,21 @@ pub record Held (jobs : List (ℕ × Job)) (x id ttr second : ℕ) : Type 0 wher
   pub runs : job.ttr ≡ ttr
   pub held : job.state ≡ State.Reserved x (second + ttr)
 
-pub Held-altered_other : (k : ℕ) (f : Job → Job) (jobs : List (ℕ × Job)) (x id ttr second : ℕ) → (k ≡ id → ⊥) → Held jobs x id ttr second → Held (altered k f jobs) x id ttr second
+pub Held-altered_other : (k : ℕ) (f : Job → Job) (jobs : List (ℕ × Job)) (x id ttr second : ℕ) → (k ≡ id → ⊥)
+    → Held jobs x id ttr second → Held (altered k f jobs) x id ttr second
 Held-altered_other k f jobs x id ttr second apart h =
     record { job = h.job; there = value_at-altered_other k id f jobs apart ∙ h.there; runs = h.runs; held = h.held }
 
 -- a job that was given or touched
-pub Held-reserved : (jobs : List (ℕ × Job)) (x id now : ℕ) (f : Job → Job) (job : Job) → value_at id jobs ≡ Some job → (f job).state ≡ State.Reserved x (now + job.ttr) → (f job).ttr ≡ job.ttr → Held (altered id f jobs) x id job.ttr now
+pub Held-reserved : (jobs : List (ℕ × Job)) (x id now : ℕ) (f : Job → Job) (job : Job) → value_at id jobs ≡ Some job
+    → (f job).state ≡ State.Reserved x (now + job.ttr) → (f job).ttr ≡ job.ttr
+    → Held (altered id f jobs) x id job.ttr now
 Held-reserved jobs x id now f job e state ttr =
     record { job = f job; there = value_at-altered_same id f jobs job e; runs = ttr; held = state }
 
 -- a job that a map over all jobs leaves alone
-pub Held-each : (f : Job → Job) (jobs : List (ℕ × Job)) (x id ttr second : ℕ) (h : Held jobs x id ttr second) → f h.job ≡ h.job → Held (each_value f jobs) x id ttr second
+pub Held-each : (f : Job → Job) (jobs : List (ℕ × Job)) (x id ttr second : ℕ) (h : Held jobs x id ttr second)
+    → f h.job ≡ h.job → Held (each_value f jobs) x id ttr second
 Held-each f jobs x id ttr second h e =
     record {
       job = h.job;
@@ -46,7 +51,8 @@ ready≢reserved : (x due : ℕ) (st : State) → is_ready st ≡ true → st �
 ready≢reserved x due st r e = true≢false (sym r ∙ ap is_ready e)
 
 -- a Ready job is not one that is held
-pub ready_apart : (jobs : List (ℕ × Job)) (hi x id ttr second : ℕ) (j : ℕ × Job) → Rising 1 hi jobs → Held jobs x id ttr second → In j jobs → is_ready j.1.state ≡ true → j.0 ≡ id → ⊥
+pub ready_apart : (jobs : List (ℕ × Job)) (hi x id ttr second : ℕ) (j : ℕ × Job) → Rising 1 hi jobs
+    → Held jobs x id ttr second → In j jobs → is_ready j.1.state ≡ true → j.0 ≡ id → ⊥
 ready_apart jobs hi x id ttr second j sound h i r same =
     let a : value_at id jobs ≡ Some j.1 = ap (λ q. value_at q jobs) (sym same) ∙ value_at-In 1 hi jobs j sound i in
     let b : h.job ≡ j.1 = cc in
@@ -61,7 +67,8 @@ pub record Keeps (x id ttr second now : ℕ) (s : QueueState) : Type 0 where
 abbrev pub IsQuietReply : ℕ → Answer Reply → Type 0
 IsQuietReply id a = hands_out id a.reply ≡ false
 
-pub serve-keeps_turn : (x id ttr second now : ℕ) (s : QueueState) → Keeps x id ttr second now s → IfSome (serve_turn s) (λ t. Keeps x id ttr second now t.state × IsQuietReply id t.answer)
+pub serve-keeps_turn : (x id ttr second now : ℕ) (s : QueueState) → Keeps x id ttr second now s
+    → IfSome (serve_turn s) (λ t. Keeps x id ttr second now t.state × IsQuietReply id t.answer)
 unfolding given
 serve-keeps_turn x id ttr second now s k =
     IfSome-map _ _ (serve_turn s)
@@ -88,12 +95,14 @@ quiet-all id (a ∷ more) h = cond-false (hands_out id a.reply) (a ∷ handing_o
 pub handing_out-append : (id : ℕ) (more bs : List (Answer Reply)) → handing_out id (more ++ bs) ≡ handing_out id more ++ handing_out id bs
 handing_out-append id [] bs = refl
 handing_out-append id (a ∷ more) bs =
-    elim (hands_out id a.reply) as (λ b. cond b (a ∷ handing_out id (more ++ bs)) (handing_out id (more ++ bs)) ≡ cond b (a ∷ handing_out id more) (handing_out id more) ++ handing_out id bs) [
+    elim (hands_out id a.reply) as (λ b. cond b (a ∷ handing_out id (more ++ bs)) (handing_out id (more ++ bs))
+    ≡ cond b (a ∷ handing_out id more) (handing_out id more) ++ handing_out id bs) [
       | true ↦ ap (λ zs. a ∷ zs) (handing_out-append id more bs)
       | false ↦ handing_out-append id more bs
     ]
 
-all-at : (id : ℕ) (answers : List (Answer Reply)) → AllByRecursion (λ a. (id : ℕ) → hands_out id a.reply ≡ false) answers → AllByRecursion (IsQuietReply id) answers
+all-at : (id : ℕ) (answers : List (Answer Reply))
+    → AllByRecursion (λ a. (id : ℕ) → hands_out id a.reply ≡ false) answers → AllByRecursion (IsQuietReply id) answers
 all-at id [] h = tt
 all-at id (a ∷ more) h = (h.0 id, all-at id more h.1)
 
@@ -128,14 +137,21 @@ told-like : (s t : QueueState) (reply : Reply) (w : ℕ × SessionState) → IsL
 unfolding told_turn
 told-like s t reply w l = record { jobs = l.jobs; at = l.at; next = l.next }
 
-told-quiet : (s : QueueState) (reply : Reply) (w : ℕ × SessionState) (id : ℕ) → hands_out id reply ≡ false → hands_out id (told_turn s reply w).answer.reply ≡ false
+told-quiet : (s : QueueState) (reply : Reply) (w : ℕ × SessionState) (id : ℕ) → hands_out id reply ≡ false
+    → hands_out id (told_turn s reply w).answer.reply ≡ false
 unfolding told_turn
 told-quiet s reply w id e = e
 
-told-aside : (reply : Reply) → ((id : ℕ) → hands_out id reply ≡ false) → (turn : QueueState → Option QueueTurn) → ((s : QueueState) → IfSome (turn s) (IsTold reply s)) → (s : QueueState) → IsAside s (all_turns turn s)
+told-aside : (reply : Reply) → ((id : ℕ) → hands_out id reply ≡ false) → (turn : QueueState → Option QueueTurn)
+    → ((s : QueueState) → IfSome (turn s) (IsTold reply s)) → (s : QueueState) → IsAside s (all_turns turn s)
 unfolding all_turns
 told-aside reply quiet turn is s =
-    let r = turns-keep turn (IsLike s) (λ a. (id : ℕ) → hands_out id a.reply ≡ false) (λ t l. IfSome-map _ _ (turn t) (λ u (i : IsTold reply t u). subst (λ (u : QueueTurn). IsLike s u.state × ((id : ℕ) → hands_out id u.answer.reply ≡ false)) (sym i.made) (told-like s t reply i.session l, λ id. told-quiet t reply i.session id (quiet id))) (is t)) (length s.sessions) s (record { jobs = refl; at = refl; next = refl }) in
+    let r = turns-keep turn (IsLike s) (λ a. (id : ℕ) → hands_out id a.reply ≡ false)
+    (λ t l. IfSome-map _ _ (turn t)
+    (λ u (i : IsTold reply t u). subst
+    (λ (u : QueueTurn). IsLike s u.state × ((id : ℕ) → hands_out id u.answer.reply ≡ false)) (sym i.made)
+    (told-like s t reply i.session l, λ id. told-quiet t reply i.session id (quiet id))) (is t))
+    (length s.sessions) s (record { jobs = refl; at = refl; next = refl }) in
     record { jobs = r.0.jobs; at = r.0.at; next = r.0.next; quiet = λ id. quiet-all id _ (all-at id _ r.1) }
 
 pub deadlines-aside : (s : QueueState) → IsAside s (all_turns deadline_turn s)

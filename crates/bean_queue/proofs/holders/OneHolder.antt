@@ -38,15 +38,20 @@ given_once-from : (cs : List (Command Op)) (s : QueueState) → HasRisingIds s �
 unfolding places_from
 given_once-from [] s sound before rest p id e = absurd (not_empty before rest p e)
 given_once-from (c ∷ cs) s sound [] rest p id e =
-    subst (λ (p : QueuePlace). length (handing_out id p.answers) ≤ 1) (same_head (queue_place c (effect c s)) p (places_from (effect c s).state cs) rest e) (gives_one id _ (effect c s) (effect-gives id c s sound))
+    subst (λ (p : QueuePlace). length (handing_out id p.answers) ≤ 1)
+    (same_head (queue_place c (effect c s)) p (places_from (effect c s).state cs) rest e)
+    (gives_one id _ (effect c s) (effect-gives id c s sound))
 given_once-from (c ∷ cs) s sound (b ∷ before) rest p id e =
-    given_once-from cs (effect c s).state (effect-sound c s sound) before rest p id (same_tail (queue_place c (effect c s)) b (places_from (effect c s).state cs) (before ++ p ∷ rest) e)
+    given_once-from cs (effect c s).state (effect-sound c s sound) before rest p id
+    (same_tail (queue_place c (effect c s)) b (places_from (effect c s).state cs) (before ++ p ∷ rest) e)
 
 -- nobody gets what a quiet place does not give
 none_gets : (p : QueuePlace) (y id : ℕ) → IsQuiet id p.answers → Gets p y id → ⊥
 none_gets p y id quiet g = subst (λ zs. In g.0 zs) quiet g.1
 
-after_hold : (cs : List (Command Op)) (s : QueueState) (between rest : List QueuePlace) (q : QueuePlace) (x y id ttr second : ℕ) → HasRisingIds s → Held s.jobs x id ttr second → places_from s cs ≡ between ++ q ∷ rest → Gets q y id → HasEnded between q x id second ttr
+after_hold : (cs : List (Command Op)) (s : QueueState) (between rest : List QueuePlace) (q : QueuePlace)
+    (x y id ttr second : ℕ) → HasRisingIds s → Held s.jobs x id ttr second → places_from s cs ≡ between ++ q ∷ rest
+    → Gets q y id → HasEnded between q x id second ttr
 unfolding places_from
 after_hold [] s between rest q x y id ttr second sound h e g = absurd (not_empty between rest q e)
 after_hold (c ∷ cs) s [] rest q x y id ttr second sound h e g =
@@ -57,11 +62,13 @@ after_hold (c ∷ cs) s [] rest q x y id ttr second sound h e g =
     ]
 after_hold (c ∷ cs) s (b ∷ between) rest q x y id ttr second sound h e g =
     let same : queue_place c (effect c s) ≡ b = same_head (queue_place c (effect c s)) b (places_from (effect c s).state cs) (between ++ q ∷ rest) e in
-    let next : places_from (effect c s).state cs ≡ between ++ q ∷ rest = same_tail (queue_place c (effect c s)) b (places_from (effect c s).state cs) (between ++ q ∷ rest) e in
+    let next : places_from (effect c s).state cs ≡ between ++ q ∷ rest =
+    same_tail (queue_place c (effect c s)) b (places_from (effect c s).state cs) (between ++ q ∷ rest) e in
     elim (effect-holds x id ttr second c s sound h) as (λ v. HasEnded (b ∷ between) q x id second ttr) [
       | HoldsOn.ends ended ↦ ([], queue_place c (effect c s), between ++ q ∷ [], ap (λ z. z ∷ (between ++ q ∷ [])) (sym same), ended)
       | HoldsOn.on quiet later held ↦
-          let r = after_hold cs (effect c s).state between rest q x y id ttr (cond (touches (queue_place c (effect c s)) x id) (effect c s).state.now second) later held next g in
+          let r = after_hold cs (effect c s).state between rest q x y id ttr
+          (cond (touches (queue_place c (effect c s)) x id) (effect c s).state.now second) later held next g in
           (queue_place c (effect c s) ∷ r.0, r.1, r.2, ap₂ (λ z zs. z ∷ zs) (sym same) r.3, r.4)
     ]
 
@@ -69,7 +76,8 @@ ttr_held : (s : QueueState) (x id ttr second : ℕ) → Held s.jobs x id ttr sec
 ttr_held s x id ttr second h = sym (ap ttr_in h.there ∙ h.runs)
 
 -- the place c gives x the job
-holder : (c : Command Op) (s : QueueState) (x id : ℕ) → HasRisingIds s → Gets (queue_place c (effect c s)) x id → Held (effect c s).state.jobs x id (ttr_of id (effect c s).state) (effect c s).state.now
+holder : (c : Command Op) (s : QueueState) (x id : ℕ) → HasRisingIds s → Gets (queue_place c (effect c s)) x id
+    → Held (effect c s).state.jobs x id (ttr_of id (effect c s).state) (effect c s).state.now
 holder c s x id sound g =
     let o = effect c s in
     let v : GivesOnce id (effect c s).state.now (effect c s) = effect-gives id c s sound in
@@ -78,7 +86,8 @@ holder c s x id sound g =
       | inr gave ↦
           let i : In g.0 (gave.answer ∷ []) = subst (λ zs. In g.0 zs) gave.only g.1 in
           let same : g.0 ≡ gave.answer = elim i as (λ i. g.0 ≡ gave.answer) [ inl here ↦ here | inr never ↦ absurd never ] in
-          subst (λ t. Held (effect c s).state.jobs x id t (effect c s).state.now) (ttr_held (effect c s).state gave.answer.to.session id gave.ttr (effect c s).state.now gave.held)
+          subst (λ t. Held (effect c s).state.jobs x id t (effect c s).state.now)
+          (ttr_held (effect c s).state gave.answer.to.session id gave.ttr (effect c s).state.now gave.held)
           (subst (λ z. Held (effect c s).state.jobs z id gave.ttr (effect c s).state.now) (ap (λ (a : Answer Reply). a.to.session) (sym same) ∙ g.2) gave.held)
     ]
 
@@ -87,7 +96,8 @@ unfolding places_from
 held_by_one-from [] s sound before between rest p q x y id e gp gq = absurd (not_empty before (between ++ q ∷ rest) p e)
 held_by_one-from (c ∷ cs) s sound [] between rest p q x y id e gp gq =
     let same : queue_place c (effect c s) ≡ p = same_head (queue_place c (effect c s)) p (places_from (effect c s).state cs) (between ++ q ∷ rest) e in
-    let next : places_from (effect c s).state cs ≡ between ++ q ∷ rest = same_tail (queue_place c (effect c s)) p (places_from (effect c s).state cs) (between ++ q ∷ rest) e in
+    let next : places_from (effect c s).state cs ≡ between ++ q ∷ rest =
+    same_tail (queue_place c (effect c s)) p (places_from (effect c s).state cs) (between ++ q ∷ rest) e in
     subst (λ (p : QueuePlace). HasEnded between q x id p.state.now (ttr_of id p.state)) same
     (after_hold cs (effect c s).state between rest q x y id (ttr_of id (effect c s).state) (effect c s).state.now (effect-sound c s sound)
     (holder c s x id sound (subst (λ (p : QueuePlace). Gets p x id) (sym same) gp)) next gq)

@@ -1,5 +1,7 @@
 -- What each row does to the jobs, and to one that is held.
-use Rattle.std.proofs.Common.{◌≡◌, ℕ, zero, suc, ◌+◌, Bool, true, false, cond, ◌&&◌, inl, inr, List, Option, Some, None, IfSome, is_some, ◌==◌, bytes_eq, refl, sym, ap, subst, ◌∙◌, arith, eq-eqb, eqb-true, true≢false}
+use Rattle.std.proofs.Common.{◌≡◌, ℕ, zero, suc, ◌+◌, Bool, true, false, cond, ◌&&◌, inl, inr, List, Option, Some, None}
+use Rattle.std.proofs.Common.{IfSome, is_some, ◌==◌, bytes_eq, refl, sym, ap, subst, ◌∙◌, arith, eq-eqb, eqb-true}
+use Rattle.std.proofs.Common.{true≢false}
 use Rattle.std.proofs.lemmas.Bool.{cases_eq, and_parts}
 use Rattle.object.specs.Lists.{In}
 use Rattle.object.specs.declared.command.Act.{Act}
@@ -7,14 +9,17 @@ use Rattle.object.specs.declared.command.Key.{Key}
 use Rattle.job_store.specs.declared.job.Job.{Job}
 use Rattle.job_store.specs.declared.state.State.{State}
 use Rattle.job_store.specs.Entries.{Rising, value_at, altered}
-use Rattle.job_store.specs.EntryLaws.{value_at-without_other, value_at-insert_other, value_at-below, value_at-In, Rising-altered, Rising-without, Rising-insert, Rising-wider, Rising-end}
+use Rattle.job_store.specs.EntryLaws.{value_at-without_other, value_at-insert_other, value_at-below, value_at-In}
+use Rattle.job_store.specs.EntryLaws.{Rising-altered, Rising-without, Rising-insert, Rising-wider, Rising-end}
 use Rattle.job_store.specs.States.{is_held, is_buried, is_delayed, with_state}
 use Rattle.job_store.specs.LookUps.{is_among, first_buried, first_delayed, first_ready, buried_in, delayed_in, due_of_job, rank_of_job}
 use Rattle.session_store.specs.WatchLists.{is_alone}
 use Rattle.bean_queue.specs.declared.op.Op.{Op}
 use Rattle.bean_queue.specs.declared.reply.Reply.{Reply}
 use Rattle.bean_queue.specs.Queue.{QueueState, with_jobs, used_by, watched_by, HasRisingIds}
-use Rattle.bean_queue.specs.Rows.{is_idle, Row, replies, row, put_row, use_row, watch_row, ignore_row, reserve_row, delete_row, may_delete, is_job_that, release_row, touch_row, bury_row, kicked, kicked_option, kick_row, kick_job_row, peek_row, shown, at_id, all_tubes, pause_row}
+use Rattle.bean_queue.specs.Rows.{is_idle, Row, replies, row, put_row, use_row, watch_row, ignore_row, reserve_row}
+use Rattle.bean_queue.specs.Rows.{delete_row, may_delete, is_job_that, release_row, touch_row, bury_row, kicked}
+use Rattle.bean_queue.specs.Rows.{kicked_option, kick_row, kick_job_row, peek_row, shown, at_id, all_tubes, pause_row}
 use Rattle.bean_queue.specs.Effects.{own}
 use Rattle.bean_queue.specs.Holds.{is_touch}
 use Rattle.bean_queue.specs.TurnLaws.{least-in, IfSome-map}
@@ -31,7 +36,9 @@ ok_if : (s : QueueState) (key : Key) (b : Bool) (r q : Row) → IsRowOk s key r 
 ok_if s key true r q h k = h
 ok_if s key false r q h k = k
 
-ok_altered : (s : QueueState) (key : Key) (id : ℕ) (f : Job → Job) (reply : Reply) → ((id : ℕ) → IsQuiet id (own key (Some reply))) → HasRisingIds s → IsRowOk s key (replies (with_jobs s (altered id f s.jobs)) reply)
+ok_altered : (s : QueueState) (key : Key) (id : ℕ) (f : Job → Job) (reply : Reply)
+    → ((id : ℕ) → IsQuiet id (own key (Some reply))) → HasRisingIds s
+    → IsRowOk s key (replies (with_jobs s (altered id f s.jobs)) reply)
 ok_altered s key id f reply quiet sound = record { sound = Rising-altered _ _ 1 s.next_id s.jobs sound; at = refl; quiet = quiet }
 
 ok_same : (s : QueueState) (key : Key) (reply : Reply) → ((id : ℕ) → IsQuiet id (own key (Some reply))) → HasRisingIds s → IsRowOk s key (replies s reply)
@@ -71,17 +78,20 @@ row-ok (Op.Delete j) key s sound =
     (record { sound = Rising-without j 1 s.next_id s.jobs sound; at = refl; quiet = λ id. refl })
     (ok_same s key Reply.NotFound (λ id. refl) sound)
 row-ok (Op.Release j pri delay) key s sound =
-    ok_if s key (is_job_that (is_held key.session) (value_at j s.jobs)) _ _ (ok_altered s key j _ Reply.Released (λ id. refl) sound) (ok_same s key Reply.NotFound (λ id. refl) sound)
+    ok_if s key (is_job_that (is_held key.session) (value_at j s.jobs)) _ _
+    (ok_altered s key j _ Reply.Released (λ id. refl) sound) (ok_same s key Reply.NotFound (λ id. refl) sound)
 row-ok (Op.Bury j pri) key s sound =
     ok_if s key (is_job_that (is_held key.session) (value_at j s.jobs)) _ _
     (record { sound = Rising-altered _ _ 1 s.next_id s.jobs sound; at = refl; quiet = λ id. refl })
     (ok_same s key Reply.NotFound (λ id. refl) sound)
 row-ok (Op.Touch j) key s sound =
-    ok_if s key (is_job_that (is_held key.session) (value_at j s.jobs)) _ _ (ok_altered s key j _ Reply.Touched (λ id. refl) sound) (ok_same s key Reply.NotFound (λ id. refl) sound)
+    ok_if s key (is_job_that (is_held key.session) (value_at j s.jobs)) _ _
+    (ok_altered s key j _ Reply.Touched (λ id. refl) sound) (ok_same s key Reply.NotFound (λ id. refl) sound)
 row-ok (Op.Kick bound) key s sound =
     record { sound = kicked-sound _ s.next_id bound s.jobs sound; at = refl; quiet = λ id. refl }
 row-ok (Op.KickJob j) key s sound =
-    ok_if s key (is_job_that is_idle (value_at j s.jobs)) _ _ (ok_altered s key j _ Reply.Kicked (λ id. refl) sound) (ok_same s key Reply.NotFound (λ id. refl) sound)
+    ok_if s key (is_job_that is_idle (value_at j s.jobs)) _ _ (ok_altered s key j _ Reply.Kicked (λ id. refl) sound)
+    (ok_same s key Reply.NotFound (λ id. refl) sound)
 row-ok (Op.Peek j) key s sound = ok_same s key _ (shown-quiet key (at_id j s.jobs)) sound
 row-ok Op.PeekReady key s sound = ok_same s key _ (shown-quiet key (first_ready (used_by s key.session) s.jobs)) sound
 row-ok Op.PeekDelayed key s sound = ok_same s key _ (shown-quiet key (first_delayed (used_by s key.session) s.jobs)) sound
@@ -102,14 +112,18 @@ pub data EndsHold (id : ℕ) : Op → Reply → Type 0 where
 pub data HoldAfter (x id ttr second now : ℕ) (op : Op) (key : Key) (r : Row) : Type 0 where
   ended : (reply : Reply) → EndsHold id op reply → key.session ≡ x → r.reply ≡ Some reply → HoldAfter x id ttr second now op key r
   stays : Held r.state.jobs x id ttr second → (is_touch id (Act.Do op) && (key.session == x)) ≡ false → HoldAfter x id ttr second now op key r
-  renewed : Held r.state.jobs x id ttr now → is_touch id (Act.Do op) ≡ true → key.session ≡ x → r.reply ≡ Some Reply.Touched → HoldAfter x id ttr second now op key r
+  renewed : Held r.state.jobs x id ttr now → is_touch id (Act.Do op) ≡ true → key.session ≡ x
+      → r.reply ≡ Some Reply.Touched → HoldAfter x id ttr second now op key r
 
 -- a test of the job at an id, where the job is held
-found-held : (test : State → Bool) (jobs : List (ℕ × Job)) (x id j ttr second : ℕ) → j ≡ id → Held jobs x id ttr second → is_job_that test (value_at j jobs) ≡ test (State.Reserved x (second + ttr))
+found-held : (test : State → Bool) (jobs : List (ℕ × Job)) (x id j ttr second : ℕ) → j ≡ id → Held jobs x id ttr second
+    → is_job_that test (value_at j jobs) ≡ test (State.Reserved x (second + ttr))
 found-held test jobs x id j ttr second same h =
     ap (λ q. is_job_that test (value_at q jobs)) same ∙ ap (is_job_that test) h.there ∙ ap test h.held
 
-hold_if : (x id ttr second now : ℕ) (op : Op) (key : Key) (b : Bool) (r q : Row) → (b ≡ true → HoldAfter x id ttr second now op key r) → (b ≡ false → HoldAfter x id ttr second now op key q) → HoldAfter x id ttr second now op key (cond b r q)
+hold_if : (x id ttr second now : ℕ) (op : Op) (key : Key) (b : Bool) (r q : Row)
+    → (b ≡ true → HoldAfter x id ttr second now op key r) → (b ≡ false → HoldAfter x id ttr second now op key q)
+    → HoldAfter x id ttr second now op key (cond b r q)
 hold_if x id ttr second now op key true r q f g = f refl
 hold_if x id ttr second now op key false r q f g = g refl
 
@@ -119,7 +133,8 @@ not_both true false h = refl
 not_both false b h = refl
 
 -- jobs that are not Reserved are not those that are held
-unheld_apart : (jobs : List (ℕ × Job)) (hi x id ttr second : ℕ) (j : ℕ × Job) → Rising 1 hi jobs → Held jobs x id ttr second → In j jobs → is_held x j.1.state ≡ false → j.0 ≡ id → ⊥
+unheld_apart : (jobs : List (ℕ × Job)) (hi x id ttr second : ℕ) (j : ℕ × Job) → Rising 1 hi jobs
+    → Held jobs x id ttr second → In j jobs → is_held x j.1.state ≡ false → j.0 ≡ id → ⊥
 unheld_apart jobs hi x id ttr second j sound h i idle same =
     let a : value_at id jobs ≡ Some j.1 = ap (λ q. value_at q jobs) (sym same) ∙ value_at-In 1 hi jobs j sound i in
     let b : h.job ≡ j.1 = cc in
@@ -138,13 +153,19 @@ buried_unheld x (State.Delayed due) e = refl
 buried_unheld x (State.Reserved y due) e = cc
 buried_unheld x (State.Buried rank) e = refl
 
-kicked-holds : (pick : List (ℕ × Job) → Option (ℕ × Job)) (x : ℕ) → ((jobs : List (ℕ × Job)) → IfSome (pick jobs) (λ e. In e jobs × (is_held x e.1.state ≡ false))) → (hi id ttr second n : ℕ) (jobs : List (ℕ × Job)) → Rising 1 hi jobs → Held jobs x id ttr second → Held (kicked pick n jobs).jobs x id ttr second
+kicked-holds : (pick : List (ℕ × Job) → Option (ℕ × Job)) (x : ℕ)
+    → ((jobs : List (ℕ × Job)) → IfSome (pick jobs) (λ e. In e jobs × (is_held x e.1.state ≡ false)))
+    → (hi id ttr second n : ℕ) (jobs : List (ℕ × Job)) → Rising 1 hi jobs → Held jobs x id ttr second
+    → Held (kicked pick n jobs).jobs x id ttr second
 unfolding kicked
 kicked-holds pick x picks hi id ttr second zero jobs r h = h
 kicked-holds pick x picks hi id ttr second (suc n) jobs r h =
     elim (pick jobs) as (λ o. IfSome o (λ e. In e jobs × (is_held x e.1.state ≡ false)) → Held (kicked_option (kicked pick n) jobs o).jobs x id ttr second) [
       | None ↦ λ i. h
-      | Some e ↦ λ i. kicked-holds pick x picks hi id ttr second n (altered e.0 (with_state State.Ready) jobs) (Rising-altered _ _ 1 hi jobs r) (Held-altered_other e.0 (with_state State.Ready) jobs x id ttr second (unheld_apart jobs hi x id ttr second e r h i.0 i.1) h)
+      | Some e ↦ λ i. kicked-holds pick x picks hi id ttr second n (altered e.0 (with_state State.Ready) jobs)
+          (Rising-altered _ _ 1 hi jobs r)
+          (Held-altered_other e.0 (with_state State.Ready) jobs x id ttr second
+          (unheld_apart jobs hi x id ttr second e r h i.0 i.1) h)
     ] (picks jobs)
 
 picks_buried : (x : ℕ) (tube : List ℕ) (jobs : List (ℕ × Job)) → IfSome (first_buried tube jobs) (λ e. In e jobs × (is_held x e.1.state ≡ false))
@@ -170,22 +191,28 @@ held_row-ends : (x id ttr second now : ℕ) (op : Op) (key : Key) (s : QueueStat
 held_row-ends x id ttr second now op key s j test t reply tests ends untouched h other =
     hold_if x id ttr second now op key (is_job_that test (value_at j s.jobs)) _ _
     (λ e. elim (cases_eq j id) [
-      | inl same ↦ ended reply (ends same) (eqb-true key.session x (sym (tests (second + ttr)) ∙ sym (found-held test s.jobs x id j ttr second same h) ∙ e)) refl
+      | inl same ↦ ended reply (ends same)
+          (eqb-true key.session x (sym (tests (second + ttr)) ∙ sym
+          (found-held test s.jobs x id j ttr second same h) ∙ e)) refl
       | inr apart ↦ stays (other apart) (not_both _ _ (λ p q. true≢false (sym p ∙ untouched)))
     ])
     (λ e. stays h (not_both _ _ (λ p q. true≢false (sym p ∙ untouched))))
 
-stays_same : (x id ttr second now : ℕ) (op : Op) (key : Key) (s : QueueState) (r : Row) → is_touch id (Act.Do op) ≡ false → Held r.state.jobs x id ttr second → HoldAfter x id ttr second now op key r
+stays_same : (x id ttr second now : ℕ) (op : Op) (key : Key) (s : QueueState) (r : Row)
+    → is_touch id (Act.Do op) ≡ false → Held r.state.jobs x id ttr second → HoldAfter x id ttr second now op key r
 stays_same x id ttr second now op key s r untouched h = stays h (not_both _ _ (λ p q. true≢false (sym p ∙ untouched)))
 
 -- x's touch of a job that it holds
-touched_held : (x id ttr second y j : ℕ) (s : QueueState) → Held s.jobs x id ttr second → j ≡ id → y ≡ x → Held (altered j (λ job. with_state (State.Reserved y (s.now + job.ttr)) job) s.jobs) x id ttr s.now
+touched_held : (x id ttr second y j : ℕ) (s : QueueState) → Held s.jobs x id ttr second → j ≡ id → y ≡ x
+    → Held (altered j (λ job. with_state (State.Reserved y (s.now + job.ttr)) job) s.jobs) x id ttr s.now
 touched_held x id ttr second y j s h same who =
     subst (λ q. Held (altered q (λ job. with_state (State.Reserved y (s.now + job.ttr)) job) s.jobs) x id ttr s.now) (sym same)
     (subst (λ t. Held (altered id (λ job. with_state (State.Reserved y (s.now + job.ttr)) job) s.jobs) x id t s.now) h.runs
-    (Held-reserved s.jobs x id s.now (λ job. with_state (State.Reserved y (s.now + job.ttr)) job) h.job h.there (ap (λ z. State.Reserved z (s.now + h.job.ttr)) who) refl))
+    (Held-reserved s.jobs x id s.now (λ job. with_state (State.Reserved y (s.now + job.ttr)) job) h.job h.there
+    (ap (λ z. State.Reserved z (s.now + h.job.ttr)) who) refl))
 
-pub row-holds : (x id ttr second : ℕ) (op : Op) (key : Key) (s : QueueState) → HasRisingIds s → Held s.jobs x id ttr second → HoldAfter x id ttr second s.now op key (row op key s)
+pub row-holds : (x id ttr second : ℕ) (op : Op) (key : Key) (s : QueueState) → HasRisingIds s
+    → Held s.jobs x id ttr second → HoldAfter x id ttr second s.now op key (row op key s)
 unfolding row put_row use_row watch_row ignore_row reserve_row delete_row release_row touch_row bury_row kick_row kick_job_row peek_row pause_row
 row-holds x id ttr second (Op.Put pri delay t body) key s sound h =
     stays_same x id ttr second s.now _ key s _ refl (record {
@@ -199,13 +226,16 @@ row-holds x id ttr second (Op.Put pri delay t body) key s sound h =
 row-holds x id ttr second (Op.Use tube) key s sound h = stays_same x id ttr second s.now _ key s _ refl h
 row-holds x id ttr second (Op.Watch tube) key s sound h = stays_same x id ttr second s.now _ key s _ refl h
 row-holds x id ttr second (Op.Ignore tube) key s sound h =
-    hold_if x id ttr second s.now _ key (is_alone tube (watched_by s key.session)) _ _ (λ e. stays_same x id ttr second s.now _ key s _ refl h) (λ e. stays_same x id ttr second s.now _ key s _ refl h)
+    hold_if x id ttr second s.now _ key (is_alone tube (watched_by s key.session)) _ _
+    (λ e. stays_same x id ttr second s.now _ key s _ refl h)
+    (λ e. stays_same x id ttr second s.now _ key s _ refl h)
 row-holds x id ttr second (Op.Reserve seconds) key s sound h = stays_same x id ttr second s.now _ key s _ refl h
 row-holds x id ttr second (Op.Delete j) key s sound h =
     held_row-ends x id ttr second s.now (Op.Delete j) key s j (may_delete key.session) _ Reply.Deleted (λ due. refl) (λ e. by_delete j e) refl h
     (λ apart. record { job = h.job; there = value_at-without_other j id s.jobs apart ∙ h.there; runs = h.runs; held = h.held })
 row-holds x id ttr second (Op.Release j pri delay) key s sound h =
-    held_row-ends x id ttr second s.now (Op.Release j pri delay) key s j (is_held key.session) _ Reply.Released (λ due. refl) (λ e. by_release j pri delay e) refl h
+    held_row-ends x id ttr second s.now (Op.Release j pri delay) key s j (is_held key.session) _ Reply.Released
+    (λ due. refl) (λ e. by_release j pri delay e) refl h
     (λ apart. Held-altered_other j _ s.jobs x id ttr second apart h)
 row-holds x id ttr second (Op.Bury j pri) key s sound h =
     held_row-ends x id ttr second s.now (Op.Bury j pri) key s j (is_held key.session) _ Reply.Buried (λ due. refl) (λ e. by_bury j pri e) refl h
@@ -227,7 +257,9 @@ row-holds x id ttr second (Op.Touch j) key s sound h =
     ]
 row-holds x id ttr second (Op.Kick bound) key s sound h =
     stays_same x id ttr second s.now (Op.Kick bound) key s _ refl
-    (elim (is_some (first_buried (used_by s key.session) s.jobs)) as (λ b. Held (kicked (cond b (first_buried (used_by s key.session)) (first_delayed (used_by s key.session))) bound s.jobs).jobs x id ttr second) [
+    (elim (is_some (first_buried (used_by s key.session) s.jobs)) as (λ b. Held
+    (kicked (cond b (first_buried (used_by s key.session)) (first_delayed (used_by s key.session))) bound
+    s.jobs).jobs x id ttr second) [
       | true ↦ kicked-holds (first_buried (used_by s key.session)) x (picks_buried x (used_by s key.session)) s.next_id id ttr second bound s.jobs sound h
       | false ↦ kicked-holds (first_delayed (used_by s key.session)) x (picks_delayed x (used_by s key.session)) s.next_id id ttr second bound s.jobs sound h
     ])
@@ -245,4 +277,6 @@ row-holds x id ttr second Op.ListTubes key s sound h = stays_same x id ttr secon
 row-holds x id ttr second Op.ListTubeUsed key s sound h = stays_same x id ttr second s.now _ key s _ refl h
 row-holds x id ttr second Op.ListTubesWatched key s sound h = stays_same x id ttr second s.now _ key s _ refl h
 row-holds x id ttr second (Op.Pause tube seconds) key s sound h =
-    hold_if x id ttr second s.now _ key (is_among tube (all_tubes s)) _ _ (λ e. stays_same x id ttr second s.now _ key s _ refl h) (λ e. stays_same x id ttr second s.now _ key s _ refl h)
+    hold_if x id ttr second s.now _ key (is_among tube (all_tubes s)) _ _
+    (λ e. stays_same x id ttr second s.now _ key s _ refl h)
+    (λ e. stays_same x id ttr second s.now _ key s _ refl h)

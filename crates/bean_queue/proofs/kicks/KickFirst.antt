@@ -1,5 +1,7 @@
 -- A kick makes the first jobs ready.
-use Rattle.std.proofs.Common.{◌≡◌, ℕ, zero, suc, Bool, true, false, cond, ◌&&◌, inl, inr, List, [], ◌∷◌, map, None, Some, IfSome, ◌==◌, nat_lt, refl, sym, ap, ap₂, ◌∙◌, arith, eq-eqb, ne_eqb, lt-ltb, le-ltb}
+use Rattle.std.proofs.Common.{◌≡◌, ℕ, zero, suc, Bool, true, false, cond, ◌&&◌, inl, inr, List, [], ◌∷◌, map, None}
+use Rattle.std.proofs.Common.{Some, IfSome, ◌==◌, nat_lt, refl, sym, ap, ap₂, ◌∙◌, arith, eq-eqb, ne_eqb, lt-ltb}
+use Rattle.std.proofs.Common.{le-ltb}
 use Rattle.std.proofs.lemmas.Bool.{cases_eq, cases_lt, cond-true, cond-false, and_parts, and_from}
 use Rattle.std.specs.List.{list_any}
 use Rattle.object.specs.Lists.{In}
@@ -39,13 +41,17 @@ module _ (test : ℕ × Job → Bool) (unready : (id : ℕ) (job : Job) → test
   none-after : (jobs ds : List (ℕ × Job)) → map (one_after 0 jobs) ds ≡ ds
   none-after jobs [] = refl
   none-after jobs (d ∷ ds) =
-      ap₂ (λ v zs. (d.0, v) ∷ zs) (cond-false (is_among_first test by 0 jobs d) (with_state State.Ready d.1) d.1 (and_never (test d) (nat_lt (passing_before test by jobs d) 0) (never_less (passing_before test by jobs d)))) (none-after jobs ds)
+      ap₂ (λ v zs. (d.0, v) ∷ zs) (cond-false (is_among_first test by 0 jobs d) (with_state State.Ready d.1) d.1
+      (and_never (test d) (nat_lt (passing_before test by jobs d) 0) (never_less (passing_before test by jobs d))))
+      (none-after jobs ds)
 
   nothing-after : (n : ℕ) (jobs ds : List (ℕ × Job)) → ((e : ℕ × Job) → In e ds → test e ≡ true → ⊥) → map (one_after n jobs) ds ≡ ds
   nothing-after n jobs [] none = refl
   nothing-after n jobs (d ∷ ds) none =
       let fails : test d ≡ false = elim (test d) as (λ b. test d ≡ b → b ≡ false) [ true ↦ λ t. absurd (none d (inl refl) t) | false ↦ λ t. refl ] refl in
-      ap₂ (λ v zs. (d.0, v) ∷ zs) (cond-false (is_among_first test by n jobs d) (with_state State.Ready d.1) d.1 (ap (λ b. b && nat_lt (passing_before test by jobs d) n) fails)) (nothing-after n jobs ds (λ e i. none e (inr i)))
+      ap₂ (λ v zs. (d.0, v) ∷ zs) (cond-false (is_among_first test by n jobs d) (with_state State.Ready d.1) d.1
+      (ap (λ b. b && nat_lt (passing_before test by jobs d) n) fails))
+      (nothing-after n jobs ds (λ e i. none e (inr i)))
 
   module _ (n lo hi : ℕ) (jobs : List (ℕ × Job)) (e : ℕ × Job) (r : Rising lo hi jobs) (first : IsLeast test by jobs e) where
     -- the first one comes before each other one that passes
@@ -61,32 +67,45 @@ module _ (test : ℕ × Job → Bool) (unready : (id : ℕ) (job : Job) → test
         (λ d i t. let both = and_parts (test d) (comes_before by d e) t in first.least d i both.0 (before by d e both.1))
 
     -- and one less comes before each other one, once it is ready
-    less-before : (d : ℕ × Job) → In d jobs → test d ≡ true → (e.0 ≡ d.0 → ⊥) → passing_before test by jobs d ≡ suc (passing_before test by (made_ready e.0 jobs) d)
+    less-before : (d : ℕ × Job) → In d jobs → test d ≡ true → (e.0 ≡ d.0 → ⊥)
+        → passing_before test by jobs d ≡ suc (passing_before test by (made_ready e.0 jobs) d)
     less-before d i t apart =
-        one-less (λ c. test c && comes_before by c d) (λ id job. ap (λ b. b && comes_before by (id, with_state State.Ready job) d) (unready id job)) lo hi jobs e r first.member
+        one-less (λ c. test c && comes_before by c d)
+        (λ id job. ap (λ b. b && comes_before by (id, with_state State.Ready job) d) (unready id job)) lo hi jobs e
+        r first.member
         (and_from (test e) (comes_before by e d) first.passes (first-before d i t apart))
 
     -- so the other ones are among the first n exactly where they were among the first suc n
     same-after : (d : ℕ × Job) → In d jobs → (e.0 ≡ d.0 → ⊥) → is_among_first test by n (made_ready e.0 jobs) d ≡ is_among_first test by (suc n) jobs d
     same-after d i apart =
-        elim (test d) as (λ b. test d ≡ b → (b && nat_lt (passing_before test by (made_ready e.0 jobs) d) n) ≡ (b && nat_lt (passing_before test by jobs d) (suc n))) [
+        elim (test d) as (λ b. test d ≡ b
+        → (b && nat_lt (passing_before test by (made_ready e.0 jobs) d) n)
+        ≡ (b && nat_lt (passing_before test by jobs d) (suc n))) [
           | true ↦ λ t. sym (ap (λ k. nat_lt k (suc n)) (less-before d i t apart) ∙ less_next (passing_before test by (made_ready e.0 jobs) d) n)
           | false ↦ λ t. refl
         ] refl
 
     first-after : is_among_first test by (suc n) jobs e ≡ true
-    first-after = and_from (test e) (nat_lt (passing_before test by jobs e) (suc n)) first.passes (lt-ltb (passing_before test by jobs e) (suc n) (omega (arith, none-before)))
+    first-after = and_from (test e) (nat_lt (passing_before test by jobs e) (suc n)) first.passes
+        (lt-ltb (passing_before test by jobs e) (suc n) (omega (arith, none-before)))
 
-    each-after : (ds : List (ℕ × Job)) → ((d : ℕ × Job) → In d ds → In d jobs) → map (one_after n (made_ready e.0 jobs)) (made_ready e.0 ds) ≡ map (one_after (suc n) jobs) ds
+    each-after : (ds : List (ℕ × Job)) → ((d : ℕ × Job) → In d ds → In d jobs)
+        → map (one_after n (made_ready e.0 jobs)) (made_ready e.0 ds) ≡ map (one_after (suc n) jobs) ds
     each-after [] within = refl
     each-after (d ∷ ds) within =
         ap₂ (λ v zs. v ∷ zs)
-        (elim (cases_eq e.0 d.0) as (λ v. one_after n (made_ready e.0 jobs) (d.0, cond (e.0 == d.0) (with_state State.Ready d.1) d.1) ≡ one_after (suc n) jobs d) [
+        (elim (cases_eq e.0 d.0) as (λ v. one_after n (made_ready e.0 jobs)
+        (d.0, cond (e.0 == d.0) (with_state State.Ready d.1) d.1) ≡ one_after (suc n) jobs d) [
           | inl same ↦
               let it : d ≡ e = same_entry lo hi jobs d e r (within d (inl refl)) first.member (sym same) in
               ap (λ v. one_after n (made_ready e.0 jobs) (d.0, v)) (cond-true (e.0 == d.0) (with_state State.Ready d.1) d.1 (eq-eqb e.0 d.0 same)) ∙
-              ap (λ v. (d.0, v)) (cond-false (is_among_first test by n (made_ready e.0 jobs) (d.0, with_state State.Ready d.1)) _ (with_state State.Ready d.1) (ap (λ b. b && nat_lt (passing_before test by (made_ready e.0 jobs) (d.0, with_state State.Ready d.1)) n) (unready d.0 d.1))) ∙
-              sym (ap (λ v. (d.0, v)) (cond-true (is_among_first test by (suc n) jobs d) (with_state State.Ready d.1) d.1 (ap (is_among_first test by (suc n) jobs) it ∙ first-after)))
+              ap (λ v. (d.0, v)) (cond-false
+              (is_among_first test by n (made_ready e.0 jobs) (d.0, with_state State.Ready d.1)) _
+              (with_state State.Ready d.1) (ap
+              (λ b. b && nat_lt (passing_before test by (made_ready e.0 jobs) (d.0, with_state State.Ready d.1)) n)
+              (unready d.0 d.1))) ∙
+              sym (ap (λ v. (d.0, v)) (cond-true (is_among_first test by (suc n) jobs d)
+              (with_state State.Ready d.1) d.1 (ap (is_among_first test by (suc n) jobs) it ∙ first-after)))
           | inr apart ↦
               ap (λ v. one_after n (made_ready e.0 jobs) (d.0, v)) (cond-false (e.0 == d.0) (with_state State.Ready d.1) d.1 (ne_eqb e.0 d.0 apart)) ∙
               ap (λ b. (d.0, cond b (with_state State.Ready d.1) d.1)) (same-after d (within d (inl refl)) apart)
@@ -97,7 +116,8 @@ module _ (test : ℕ × Job → Bool) (unready : (id : ℕ) (job : Job) → test
   unfolding kicked
   kicked-first zero lo hi jobs r = sym (none-after jobs jobs)
   kicked-first (suc n) lo hi jobs r =
-      elim (least test by jobs) as (λ o. least test by jobs ≡ o → IfSome o (IsLeast test by jobs) → (kicked_option (kicked (least test by) n) jobs o).jobs ≡ with_first_ready test by (suc n) jobs) [
+      elim (least test by jobs) as (λ o. least test by jobs ≡ o → IfSome o (IsLeast test by jobs)
+      → (kicked_option (kicked (least test by) n) jobs o).jobs ≡ with_first_ready test by (suc n) jobs) [
         | None ↦ λ none h. sym (nothing-after (suc n) jobs jobs (λ e i t. least-none test by jobs e none i t))
         | Some e ↦ λ some h.
             kicked-first n lo hi (made_ready e.0 jobs) (Rising-altered e.0 (with_state State.Ready) lo hi jobs r) ∙
@@ -108,8 +128,12 @@ pub kicks-first : (s : QueueState) (x bound : ℕ) → HasRisingIds s → (kick_
 unfolding kick_row
 kicks-first s x bound sound =
     ap (with_jobs s)
-    (ap (λ b. (kicked (cond b (first_buried (used_by s x)) (first_delayed (used_by s x))) bound s.jobs).jobs) (is_some-least (buried_in (used_by s x)) rank_of_job s.jobs) ∙
-    elim (list_any (buried_in (used_by s x)) s.jobs) as (λ b. (kicked (cond b (first_buried (used_by s x)) (first_delayed (used_by s x))) bound s.jobs).jobs ≡ cond b (with_first_ready (buried_in (used_by s x)) rank_of_job bound s.jobs) (with_first_ready (delayed_in (used_by s x)) due_of_job bound s.jobs)) [
+    (ap (λ b. (kicked (cond b (first_buried (used_by s x)) (first_delayed (used_by s x))) bound s.jobs).jobs)
+    (is_some-least (buried_in (used_by s x)) rank_of_job s.jobs) ∙
+    elim (list_any (buried_in (used_by s x)) s.jobs) as (λ b.
+    (kicked (cond b (first_buried (used_by s x)) (first_delayed (used_by s x))) bound s.jobs).jobs
+    ≡ cond b (with_first_ready (buried_in (used_by s x)) rank_of_job bound s.jobs)
+    (with_first_ready (delayed_in (used_by s x)) due_of_job bound s.jobs)) [
       | true ↦ kicked-first (buried_in (used_by s x)) (λ id job. refl) rank_of_job bound 1 s.next_id s.jobs sound
       | false ↦ kicked-first (delayed_in (used_by s x)) (λ id job. refl) due_of_job bound 1 s.next_id s.jobs sound
     ])

@@ -16,7 +16,8 @@ module _ (pick : List (ℕ × Job) → Option (ℕ × Job)) where
   unfolding kicked
   none_left n jobs e = ap (λ m. kicked pick m jobs) e
 
-  more : (n m : ℕ) (jobs jobs' : List (ℕ × Job)) (e : ℕ × Job) → n ≡ suc m → pick jobs ≡ Some e → jobs' ≡ altered e.0 (with_state State.Ready) jobs → kicked pick n jobs ≡ and_one (kicked pick m jobs')
+  more : (n m : ℕ) (jobs jobs' : List (ℕ × Job)) (e : ℕ × Job) → n ≡ suc m → pick jobs ≡ Some e
+      → jobs' ≡ altered e.0 (with_state State.Ready) jobs → kicked pick n jobs ≡ and_one (kicked pick m jobs')
   unfolding kicked
   more n m jobs jobs' e s p j =
       ap (λ n. kicked pick n jobs) s ∙ ap (kicked_option (kicked pick m) jobs) p ∙ ap (λ es. and_one (kicked pick m es)) (sym j)
@@ -34,7 +35,9 @@ module _ (pick : List (ℕ × Job) → Option (ℕ × Job)) where
         count_so = omega (arith, ap (λ n. (kicked pick n jobs).count) all);
       }
 
-  pub kicking-more : (bound count : ℕ) (jobs jobs' first : List (ℕ × Job)) (e : ℕ × Job) → count < bound → pick jobs ≡ Some e → jobs' ≡ altered e.0 (with_state State.Ready) jobs → IsKicking bound count jobs first → IsKicking bound (count + 1) jobs' first
+  pub kicking-more : (bound count : ℕ) (jobs jobs' first : List (ℕ × Job)) (e : ℕ × Job) → count < bound
+      → pick jobs ≡ Some e → jobs' ≡ altered e.0 (with_state State.Ready) jobs → IsKicking bound count jobs first
+      → IsKicking bound (count + 1) jobs' first
   kicking-more bound count jobs jobs' first e below p j k =
       let one = more (bound - count) (bound - (count + 1)) jobs jobs' e (omega arith) p j in
       record {
@@ -42,12 +45,15 @@ module _ (pick : List (ℕ × Job) → Option (ℕ × Job)) where
         count_so = omega (arith, ap (λ (k : Kicked). k.count) one, k.count_so);
       }
 
-  pub kicking-none : (bound count : ℕ) (jobs first : List (ℕ × Job)) → pick jobs ≡ None → IsKicking bound count jobs first → (jobs ≡ (kicked pick bound first).jobs) × (count ≡ (kicked pick bound first).count)
+  pub kicking-none : (bound count : ℕ) (jobs first : List (ℕ × Job)) → pick jobs ≡ None
+      → IsKicking bound count jobs first → (jobs ≡ (kicked pick bound first).jobs)
+      × (count ≡ (kicked pick bound first).count)
   kicking-none bound count jobs first e k =
       let none = stop (bound - count) jobs e in
       (sym (ap (λ (k : Kicked). k.jobs) none) ∙ k.jobs_so, omega (arith, ap (λ (k : Kicked). k.count) none, k.count_so))
 
-  pub kicking-end : (bound count : ℕ) (jobs first : List (ℕ × Job)) → count ≡ bound → IsKicking bound count jobs first → (jobs ≡ (kicked pick bound first).jobs) × (bound ≡ (kicked pick bound first).count)
+  pub kicking-end : (bound count : ℕ) (jobs first : List (ℕ × Job)) → count ≡ bound → IsKicking bound count jobs first
+      → (jobs ≡ (kicked pick bound first).jobs) × (bound ≡ (kicked pick bound first).count)
   kicking-end bound count jobs first e k =
       let none = none_left (bound - count) jobs (omega arith) in
       (sym (ap (λ (k : Kicked). k.jobs) none) ∙ k.jobs_so, omega (arith, ap (λ (k : Kicked). k.count) none, k.count_so, e))

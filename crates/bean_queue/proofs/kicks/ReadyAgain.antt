@@ -1,5 +1,6 @@
 -- Jobs that are made ready one by one.
-use Rattle.std.proofs.Common.{◌≡◌, ℕ, suc, ◌+◌, ◌<◌, ◌≤◌, Bool, true, false, cond, inl, inr, List, [], ◌∷◌, Some, None, ◌==◌, refl, sym, ap, subst, ◌∙◌, arith, eq-eqb, ne_eqb, IfSome}
+use Rattle.std.proofs.Common.{◌≡◌, ℕ, suc, ◌+◌, ◌<◌, ◌≤◌, Bool, true, false, cond, inl, inr, List, [], ◌∷◌, Some, None}
+use Rattle.std.proofs.Common.{◌==◌, refl, sym, ap, subst, ◌∙◌, arith, eq-eqb, ne_eqb, IfSome}
 use Rattle.std.proofs.lemmas.Bool.{cases_eq}
 use Rattle.object.specs.Lists.{In}
 use Rattle.job_store.specs.declared.job.Job.{Job}
@@ -21,7 +22,10 @@ module _ (which : Returning) where
   abbrev passes : ℕ × Job → Bool
   passes e = is_returning which e.1.state
 
-  each-altered : (k lo hi : ℕ) (es : List (ℕ × Job)) (v : Job) → Rising lo hi es → value_at k es ≡ Some v → is_returning which v.state ≡ true → each_value (ready_if (is_returning which)) (altered k (with_state State.Ready) es) ≡ each_value (ready_if (is_returning which)) es
+  each-altered : (k lo hi : ℕ) (es : List (ℕ × Job)) (v : Job) → Rising lo hi es → value_at k es ≡ Some v
+      → is_returning which v.state ≡ true
+      → each_value (ready_if (is_returning which)) (altered k (with_state State.Ready) es)
+      ≡ each_value (ready_if (is_returning which)) es
   each-altered k lo hi [] v r e t = refl
   each-altered k lo hi (d ∷ es) v r e t =
       elim (cases_eq k d.0) [
@@ -41,7 +45,8 @@ module _ (which : Returning) where
   fewer_or_same k [] = omega arith
   fewer_or_same k (e ∷ es) =
       let h : many (altered k (with_state State.Ready) es) ≤ many es = fewer_or_same k es in
-      elim (k == e.0) as (λ b. cond (is_returning which (cond b (with_state State.Ready e.1) e.1).state) 1 0 + many (altered k (with_state State.Ready) es) ≤ cond (is_returning which e.1.state) 1 0 + many es) [
+      elim (k == e.0) as (λ b. cond (is_returning which (cond b (with_state State.Ready e.1) e.1).state) 1 0 + many
+      (altered k (with_state State.Ready) es) ≤ cond (is_returning which e.1.state) 1 0 + many es) [
         | true ↦ rw (ready-stays which) (omega arith)
         | false ↦ omega arith
       ]
@@ -56,7 +61,8 @@ module _ (which : Returning) where
       rw (here, passed, ready-stays which) (omega arith)
   fewer d (e ∷ es) (inr later) t =
       let h : many (altered d.0 (with_state State.Ready) es) < many es = fewer d es later t in
-      elim (d.0 == e.0) as (λ b. cond (is_returning which (cond b (with_state State.Ready e.1) e.1).state) 1 0 + many (altered d.0 (with_state State.Ready) es) < cond (is_returning which e.1.state) 1 0 + many es) [
+      elim (d.0 == e.0) as (λ b. cond (is_returning which (cond b (with_state State.Ready e.1) e.1).state) 1 0 + many
+      (altered d.0 (with_state State.Ready) es) < cond (is_returning which e.1.state) 1 0 + many es) [
         | true ↦ rw (ready-stays which) (omega arith)
         | false ↦ omega arith
       ]
@@ -67,7 +73,8 @@ module _ (which : Returning) where
     pub all : each_value (ready_if (is_returning which)) new ≡ each_value (ready_if (is_returning which)) jobs
     pub less : many new < many jobs
 
-  pub one_more : (lo hi : ℕ) (jobs new : List (ℕ × Job)) (e : ℕ × Job) → Rising lo hi jobs → least passes due_of_job jobs ≡ Some e → new ≡ altered e.0 (with_state State.Ready) jobs → IsOneMore jobs new e
+  pub one_more : (lo hi : ℕ) (jobs new : List (ℕ × Job)) (e : ℕ × Job) → Rising lo hi jobs
+      → least passes due_of_job jobs ≡ Some e → new ≡ altered e.0 (with_state State.Ready) jobs → IsOneMore jobs new e
   one_more lo hi jobs new e r found n =
       let i : In e jobs × (passes e ≡ true) = subst (λ o. IfSome o (λ y. In y jobs × (passes y ≡ true))) found (least-in passes due_of_job jobs) in
       record {
@@ -80,7 +87,9 @@ module _ (which : Returning) where
   pub none_left : (jobs : List (ℕ × Job)) → least passes due_of_job jobs ≡ None → jobs ≡ each_value (ready_if (is_returning which)) jobs
   none_left [] e = refl
   none_left (d ∷ es) e =
-      elim (is_returning which d.1.state) as (λ b. cond b (Some (lesser due_of_job d (least passes due_of_job es))) (least passes due_of_job es) ≡ None → (d ∷ es) ≡ ((d.0, cond b (with_state State.Ready d.1) d.1) ∷ each_value (ready_if (is_returning which)) es)) [
+      elim (is_returning which d.1.state) as (λ b. cond b (Some (lesser due_of_job d (least passes due_of_job es)))
+      (least passes due_of_job es) ≡ None
+      → (d ∷ es) ≡ ((d.0, cond b (with_state State.Ready d.1) d.1) ∷ each_value (ready_if (is_returning which)) es)) [
         | true ↦ λ e. cc
         | false ↦ λ e. ap (λ zs. d ∷ zs) (none_left es e)
       ] e

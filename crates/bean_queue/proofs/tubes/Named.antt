@@ -28,7 +28,9 @@ by-default s tube t = it-is s tube (IsTube.default (same-bytes tube (codes "defa
 pub by-job : (s : QueueState) (tube : List ℕ) → list_any (λ e. bytes_eq tube e.1.tube) s.jobs ≡ true → is_among tube (all_tubes s) ≡ true
 by-job s tube t = let j = any-in (λ e. bytes_eq tube e.1.tube) s.jobs t in it-is s tube (IsTube.of_job j.0 j.1 (same-bytes tube j.0.1.tube j.2))
 
-by-session : (s : QueueState) (tube : List ℕ) → list_any (λ e. bytes_eq tube e.1.used || is_among tube e.1.watched) s.sessions ≡ true → is_among tube (all_tubes s) ≡ true
+by-session : (s : QueueState) (tube : List ℕ)
+    → list_any (λ e. bytes_eq tube e.1.used || is_among tube e.1.watched) s.sessions ≡ true
+    → is_among tube (all_tubes s) ≡ true
 by-session s tube t =
     let w = any-in (λ e. bytes_eq tube e.1.used || is_among tube e.1.watched) s.sessions t in
     elim (or_cases (bytes_eq tube w.0.1.used) (is_among tube w.0.1.watched) w.2) as (λ _. is_among tube (all_tubes s) ≡ true) [
@@ -40,16 +42,24 @@ or-right : (a b : Bool) → b ≡ true → (a || b) ≡ true
 or-right true b e = refl
 or-right false b e = e
 
-some-session : (s : QueueState) (tube : List ℕ) → bytes_eq tube (codes "default") ≡ false → list_any (λ e. bytes_eq tube e.1.tube) s.jobs ≡ false → IsTube s tube → list_any (λ e. bytes_eq tube e.1.used || is_among tube e.1.watched) s.sessions ≡ true
+some-session : (s : QueueState) (tube : List ℕ) → bytes_eq tube (codes "default") ≡ false
+    → list_any (λ e. bytes_eq tube e.1.tube) s.jobs ≡ false → IsTube s tube
+    → list_any (λ e. bytes_eq tube e.1.used || is_among tube e.1.watched) s.sessions ≡ true
 some-session s tube d j (IsTube.default same) = absurd (true≢false (sym (alike tube (codes "default") same) ∙ d))
 some-session s tube d j (IsTube.of_job k i e) = absurd (true≢false (sym (in-any (λ e. bytes_eq tube e.1.tube) s.jobs k i (alike tube k.1.tube e)) ∙ j))
-some-session s tube d j (IsTube.used w i e) = in-any (λ e. bytes_eq tube e.1.used || is_among tube e.1.watched) s.sessions w i (ap (λ b. b || is_among tube w.1.watched) (alike tube w.1.used e))
+some-session s tube d j (IsTube.used w i e) =
+    in-any (λ e. bytes_eq tube e.1.used || is_among tube e.1.watched) s.sessions w i
+    (ap (λ b. b || is_among tube w.1.watched) (alike tube w.1.used e))
 some-session s tube d j (IsTube.watched w i e) =
-    in-any (λ e. bytes_eq tube e.1.used || is_among tube e.1.watched) s.sessions w i (or-right (bytes_eq tube w.1.used) (is_among tube w.1.watched) ((among-member tube w.1.watched).1 e))
+    in-any (λ e. bytes_eq tube e.1.used || is_among tube e.1.watched) s.sessions w i
+    (or-right (bytes_eq tube w.1.used) (is_among tube w.1.watched) ((among-member tube w.1.watched).1 e))
 
-pub by-rest : (s : QueueState) (tube : List ℕ) → bytes_eq tube (codes "default") ≡ false → list_any (λ e. bytes_eq tube e.1.tube) s.jobs ≡ false → list_any (λ e. bytes_eq tube e.1.used || is_among tube e.1.watched) s.sessions ≡ is_among tube (all_tubes s)
+pub by-rest : (s : QueueState) (tube : List ℕ) → bytes_eq tube (codes "default") ≡ false
+    → list_any (λ e. bytes_eq tube e.1.tube) s.jobs ≡ false
+    → list_any (λ e. bytes_eq tube e.1.used || is_among tube e.1.watched) s.sessions ≡ is_among tube (all_tubes s)
 by-rest s tube d j =
-    elim (list_any (λ e. bytes_eq tube e.1.used || is_among tube e.1.watched) s.sessions) as (λ b. list_any (λ e. bytes_eq tube e.1.used || is_among tube e.1.watched) s.sessions ≡ b → b ≡ is_among tube (all_tubes s)) [
+    elim (list_any (λ e. bytes_eq tube e.1.used || is_among tube e.1.watched) s.sessions) as (λ b. list_any
+    (λ e. bytes_eq tube e.1.used || is_among tube e.1.watched) s.sessions ≡ b → b ≡ is_among tube (all_tubes s)) [
       | true ↦ λ t. sym (by-session s tube t)
       | false ↦ λ f.
           elim (is_among tube (all_tubes s)) as (λ b. is_among tube (all_tubes s) ≡ b → false ≡ b) [
@@ -59,12 +69,17 @@ by-rest s tube d j =
     ] refl
 
 -- a tube that is named here is one that has jobs, or that a session uses or watches
-pub named-by : (s : QueueState) (tube : List ℕ) → IsTube s tube → (tube ≡ codes "default") ⊎ (list_any (λ e. bytes_eq tube e.1.tube) s.jobs ≡ true) ⊎ (list_any (λ e. bytes_eq tube e.1.used || is_among tube e.1.watched) s.sessions ≡ true)
+pub named-by : (s : QueueState) (tube : List ℕ) → IsTube s tube → (tube ≡ codes "default")
+    ⊎ (list_any (λ e. bytes_eq tube e.1.tube) s.jobs ≡ true)
+    ⊎ (list_any (λ e. bytes_eq tube e.1.used || is_among tube e.1.watched) s.sessions ≡ true)
 named-by s tube (IsTube.default same) = inl same
 named-by s tube (IsTube.of_job k i e) = inr (inl (in-any (λ e. bytes_eq tube e.1.tube) s.jobs k i (alike tube k.1.tube e)))
-named-by s tube (IsTube.used w i e) = inr (inr (in-any (λ e. bytes_eq tube e.1.used || is_among tube e.1.watched) s.sessions w i (ap (λ b. b || is_among tube w.1.watched) (alike tube w.1.used e))))
+named-by s tube (IsTube.used w i e) =
+    inr (inr (in-any (λ e. bytes_eq tube e.1.used || is_among tube e.1.watched) s.sessions w i
+    (ap (λ b. b || is_among tube w.1.watched) (alike tube w.1.used e))))
 named-by s tube (IsTube.watched w i e) =
-    inr (inr (in-any (λ e. bytes_eq tube e.1.used || is_among tube e.1.watched) s.sessions w i (or-right (bytes_eq tube w.1.used) (is_among tube w.1.watched) ((among-member tube w.1.watched).1 e))))
+    inr (inr (in-any (λ e. bytes_eq tube e.1.used || is_among tube e.1.watched) s.sessions w i
+    (or-right (bytes_eq tube w.1.used) (is_among tube w.1.watched) ((among-member tube w.1.watched).1 e))))
 
 -- Names that are added to `default`: those of the jobs, and those of the sessions
 
@@ -85,7 +100,8 @@ module _ (s : QueueState) (jobs : List (ℕ × Job)) (same : jobs ≡ s.jobs) (f
         | inr session ↦ by-session s t session
         | inl i ↦ elim (only t i) as (λ v. is_among t (all_tubes s) ≡ true) [
           | inr job ↦ by-job s t (subst (λ js. has_jobs t js ≡ true) same job)
-          | inl i ↦ elim (subst (In t) is i) as (λ v. is_among t (all_tubes s) ≡ true) [ inl default ↦ it-is s t (IsTube.default default) | inr never ↦ absurd never ]
+          | inl i ↦ elim (subst (In t) is i) as (λ v. is_among t (all_tubes s)
+              ≡ true) [ inl default ↦ it-is s t (IsTube.default default) | inr never ↦ absurd never ]
         ]
       ]))
       (λ t i.

@@ -1,5 +1,6 @@
 -- The list of all tubes: in order, each once, and no others.
-use Rattle.std.proofs.Common.{◌≡◌, ◌↔◌, ℕ, ◌⊎◌, inl, inr, List, [], ◌∷◌, ◌++◌, map, flat_map, fold, codes, nat_cmp, Ordering, Less, Equal, Greater, refl, sym, ap, ap₂, subst, ◌∙◌}
+use Rattle.std.proofs.Common.{◌≡◌, ◌↔◌, ℕ, ◌⊎◌, inl, inr, List, [], ◌∷◌, ◌++◌, map, flat_map, fold, codes, nat_cmp}
+use Rattle.std.proofs.Common.{Ordering, Less, Equal, Greater, refl, sym, ap, ap₂, subst, ◌∙◌}
 use Rattle.std.specs.Ordering.{match_ordering, ordering_reverse}
 use Rattle.std.specs.Cmp.Lexicographic.{slice_cmp}
 use Rattle.std.specs.BTreeSet.{insert_key}
@@ -112,15 +113,18 @@ to-jobs t [] j i e = absurd i
 to-jobs t (d ∷ ds) j (inl same) e = inl (e ∙ ap (λ (p : ℕ × Job). p.1.tube) same)
 to-jobs t (d ∷ ds) j (inr later) e = inr (to-jobs t ds j later e)
 
-pub from-sessions : (t : List ℕ) (sessions : List (ℕ × SessionState)) → In t (tubes_of_sessions sessions) → (w : ℕ × SessionState) × In w sessions × ((t ≡ w.1.used) ⊎ In t w.1.watched)
+pub from-sessions : (t : List ℕ) (sessions : List (ℕ × SessionState)) → In t (tubes_of_sessions sessions)
+    → (w : ℕ × SessionState) × In w sessions × ((t ≡ w.1.used) ⊎ In t w.1.watched)
 from-sessions t [] i = absurd i
 from-sessions t (e ∷ es) i =
-    elim (in-append (e.1.used ∷ e.1.watched) (tubes_of_sessions es) t i) as (λ v. (w : ℕ × SessionState) × In w (e ∷ es) × ((t ≡ w.1.used) ⊎ In t w.1.watched)) [
+    elim (in-append (e.1.used ∷ e.1.watched) (tubes_of_sessions es) t i) as (λ v. (w : ℕ × SessionState) × In w (e ∷ es)
+    × ((t ≡ w.1.used) ⊎ In t w.1.watched)) [
       | inl here ↦ (e, inl refl, here)
       | inr later ↦ let r = from-sessions t es later in (r.0, inr r.1, r.2)
     ]
 
-pub to-sessions : (t : List ℕ) (sessions : List (ℕ × SessionState)) (w : ℕ × SessionState) → In w sessions → (t ≡ w.1.used) ⊎ In t w.1.watched → In t (tubes_of_sessions sessions)
+pub to-sessions : (t : List ℕ) (sessions : List (ℕ × SessionState)) (w : ℕ × SessionState) → In w sessions
+    → (t ≡ w.1.used) ⊎ In t w.1.watched → In t (tubes_of_sessions sessions)
 to-sessions t [] w i h = absurd i
 to-sessions t (e ∷ es) w (inl same) h =
     before t (e.1.used ∷ e.1.watched) (tubes_of_sessions es) (subst (λ (p : ℕ × SessionState). (t ≡ p.1.used) ⊎ In t p.1.watched) same h)
@@ -139,7 +143,8 @@ is-tube s t i =
         | inl same ↦ IsTube.default same
         | inr later ↦ elim (in-append (tubes_of_jobs s.jobs) (tubes_of_sessions s.sessions) t later) as (λ v. IsTube s t) [
           | inl of ↦ let r = from-jobs t s.jobs of in IsTube.of_job r.0 r.1 r.2
-          | inr of ↦ let r = from-sessions t s.sessions of in elim r.2 as (λ v. IsTube s t) [ inl it ↦ IsTube.used r.0 r.1 it | inr it ↦ IsTube.watched r.0 r.1 it ]
+          | inr of ↦ let r = from-sessions t s.sessions of
+              in elim r.2 as (λ v. IsTube s t) [ inl it ↦ IsTube.used r.0 r.1 it | inr it ↦ IsTube.watched r.0 r.1 it ]
         ]
       ]
     ]
@@ -174,12 +179,14 @@ module _ (x : List ℕ) (xs ys : List (List ℕ)) (head : AllByRecursion (λ z. 
     | inr later ↦ later
   ]
 
-same-heads : (x y : List ℕ) (xs ys : List (List ℕ)) → AllByRecursion (λ z. cmp x z ≡ Less) xs → AllByRecursion (λ z. cmp y z ≡ Less) ys → In x (y ∷ ys) → In y (x ∷ xs) → x ≡ y
+same-heads : (x y : List ℕ) (xs ys : List (List ℕ)) → AllByRecursion (λ z. cmp x z ≡ Less) xs
+    → AllByRecursion (λ z. cmp y z ≡ Less) ys → In x (y ∷ ys) → In y (x ∷ xs) → x ≡ y
 same-heads x y xs ys hx hy (inl same) j = same
 same-heads x y xs ys hx hy (inr later) (inl same) = sym same
 same-heads x y xs ys hx hy (inr later) (inr earlier) = absurd (not-both x y (later-than x y xs hx earlier) (later-than y x ys hy later))
 
-pub same-names : (xs ys : List (List ℕ)) → IsStrictlySortedBy cmp xs → IsStrictlySortedBy cmp ys → ((t : List ℕ) → In t xs → In t ys) → ((t : List ℕ) → In t ys → In t xs) → xs ≡ ys
+pub same-names : (xs ys : List (List ℕ)) → IsStrictlySortedBy cmp xs → IsStrictlySortedBy cmp ys
+    → ((t : List ℕ) → In t xs → In t ys) → ((t : List ℕ) → In t ys → In t xs) → xs ≡ ys
 unfolding IsStrictlySortedBy
 same-names [] [] s s' to from = refl
 same-names [] (y ∷ ys) s s' to from = absurd (from y (inl refl))

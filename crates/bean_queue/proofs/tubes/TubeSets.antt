@@ -20,7 +20,10 @@ none-added names rest jobs is = record {
   part = λ t h. subst (λ js. has_jobs t js ≡ true) is h;
 }
 
-module _ (first names names' : List (List ℕ)) (old rest jobs : List (ℕ × Job)) (tube : List ℕ) (cut : (t : List ℕ) → has_jobs t old ≡ (bytes_eq t tube || has_jobs t rest)) (kept : (t : List ℕ) → In t names → In t names') (only : (t : List ℕ) → In t names' → In t names ⊎ (t ≡ tube)) (added : AreAdded first names old jobs) where
+module _ (first names names' : List (List ℕ)) (old rest jobs : List (ℕ × Job)) (tube : List ℕ)
+    (cut : (t : List ℕ) → has_jobs t old ≡ (bytes_eq t tube || has_jobs t rest))
+    (kept : (t : List ℕ) → In t names → In t names') (only : (t : List ℕ) → In t names' → In t names ⊎ (t ≡ tube))
+    (added : AreAdded first names old jobs) where
   pub kept-more : (t : List ℕ) → In t first → In t names'
   kept-more t i = kept t (added.kept t i)
 
@@ -47,6 +50,7 @@ module _ (first names names' : List (List ℕ)) (old rest jobs : List (ℕ × Jo
     part = λ t h. added.part t (cut t ∙ or_right (bytes_eq t tube) (has_jobs t rest) h);
   }
 
-pub all-added : (first names : List (List ℕ)) (rest jobs : List (ℕ × Job)) → rest ≡ [] → AreAdded first names rest jobs → (t : List ℕ) → has_jobs t jobs ≡ true → In t names
+pub all-added : (first names : List (List ℕ)) (rest jobs : List (ℕ × Job)) → rest ≡ [] → AreAdded first names rest jobs
+    → (t : List ℕ) → has_jobs t jobs ≡ true → In t names
 all-added first names rest jobs none added t h =
     elim (added.all t h) as (λ v. In t names) [ inl i ↦ i | inr more ↦ let never : false ≡ true = subst (λ js. has_jobs t js ≡ true) none more in cc ]

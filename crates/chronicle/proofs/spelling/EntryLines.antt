@@ -1,5 +1,6 @@
 -- A line that says something says it alone.
-use Rattle.std.proofs.Common.{◌≡◌, ℕ, ◌<◌, ◌≤◌, ◌^◌, true, List, [], ◌∷◌, ◌++◌, map, length, Some, None, refl, sym, ap, ◌∙◌, arith, codes, decimal, append_assoc, length-append}
+use Rattle.std.proofs.Common.{◌≡◌, ℕ, ◌<◌, ◌≤◌, ◌^◌, true, List, [], ◌∷◌, ◌++◌, map, length, Some, None, refl, sym, ap}
+use Rattle.std.proofs.Common.{◌∙◌, arith, codes, decimal, append_assoc, length-append}
 use Rattle.std.proofs.lemmas.Bool.{lt-ltb, le-leb, eq-eqb}
 use Rattle.std.proofs.lemmas.Fmt.{decimal_is_IsNumeral}
 use Rattle.std.specs.List.{AllByRecursion}
@@ -11,9 +12,14 @@ use Rattle.object.specs.declared.command.Act.TheVariants.{Do, Close, Tick}
 use Rattle.object.specs.declared.command.Key.{Key}
 use Rattle.job_store.specs.Names.{IsName}
 use Rattle.bean_queue.specs.declared.op.Op.{Op}
-use Rattle.bean_queue.specs.declared.op.Op.TheVariants.{Put, Use, Watch, Ignore, Reserve, Delete, Touch, Release, Bury, Kick, KickJob, Peek, PeekReady, PeekDelayed, PeekBuried, ListTubes, ListTubeUsed, ListTubesWatched, Pause}
+use Rattle.bean_queue.specs.declared.op.Op.TheVariants.{Put, Use, Watch, Ignore, Reserve, Delete, Touch, Release, Bury}
+use Rattle.bean_queue.specs.declared.op.Op.TheVariants.{Kick, KickJob, Peek, PeekReady, PeekDelayed, PeekBuried}
+use Rattle.bean_queue.specs.declared.op.Op.TheVariants.{ListTubes, ListTubeUsed, ListTubesWatched, Pause}
 use Rattle.bean_queue.specs.declared.reply.Reply.{Reply}
-use Rattle.bean_queue.specs.declared.reply.Reply.TheVariants.{Inserted, Using, Watching, NotIgnored, Reserved, DeadlineSoon, TimedOut, Deleted, NotFound, Released, Buried, Touched, KickedCount, Kicked, Found, Tubes, Paused, InternalError}
+use Rattle.bean_queue.specs.declared.reply.Reply.TheVariants.{Inserted, Using, Watching, NotIgnored, Reserved}
+use Rattle.bean_queue.specs.declared.reply.Reply.TheVariants.{DeadlineSoon, TimedOut, Deleted, NotFound, Released}
+use Rattle.bean_queue.specs.declared.reply.Reply.TheVariants.{Buried, Touched, KickedCount, Kicked, Found, Tubes}
+use Rattle.bean_queue.specs.declared.reply.Reply.TheVariants.{Paused, InternalError}
 use Rattle.bean_codec.specs.Words.{is_word, words}
 use Rattle.chronicle.specs.declared.entry.Entry.{Entry}
 use Rattle.chronicle.specs.declared.entry.Entry.TheVariants as entry
@@ -25,7 +31,8 @@ use Rattle.chronicle.specs.Entries.{entry_line, IsEntryValue}
 use Rattle.chronicle.specs.Fits.{FitsAct}
 use Rattle.chronicle.specs.Lines.{line, spaced, body_word}
 use Rattle.chronicle.specs.Replies.{reply_words}
-use Rattle.chronicle.specs.Told.{may_ask, submitted_of, entry_under, key_of, keyed_entry, version_of_words, members_of_words, are_weights, weighted, weights_of, entry_of_words}
+use Rattle.chronicle.specs.Told.{may_ask, submitted_of, entry_under, key_of, keyed_entry, version_of_words}
+use Rattle.chronicle.specs.Told.{members_of_words, are_weights, weighted, weights_of, entry_of_words}
 use Rattle.chronicle.specs.Values.{IsShort, IsKeyValue, IsActValue, IsReplyValue, IsLong}
 use Rattle.chronicle.proofs.spelling.Back.{number_plain, act_plain, reply_plain}
 use Rattle.chronicle.proofs.spelling.Heads.{short_weights, weight_numbers, weights_plain}
@@ -227,8 +234,14 @@ others_some : (e : Entry) → IsEntryValue e → AllSome (other_words e)
 others_some (entry.Version v) h = (version_some v, tt)
 others_some (entry.Members n) h = (number_some n (omega arith), tt)
 others_some (entry.Weights ws) h = numbers_some ws (weight_numbers ws h)
-others_some (entry.Submitted c) h = (number_some c.key.session (short_long c.key.session h.0.0), (number_some c.key.number h.0.1, act_some c.act (act_fits c.act h.1)))
-others_some (entry.Answered a) h = (number_some a.to.session (short_long a.to.session h.0.0), (number_some a.to.number h.0.1, reply_some a.reply (reply_fits a.reply h.1)))
+others_some (entry.Submitted c) h = (
+  number_some c.key.session (short_long c.key.session h.0.0),
+  (number_some c.key.number h.0.1, act_some c.act (act_fits c.act h.1)),
+)
+others_some (entry.Answered a) h = (
+  number_some a.to.session (short_long a.to.session h.0.0),
+  (number_some a.to.number h.0.1, reply_some a.reply (reply_fits a.reply h.1)),
+)
 others_some (entry.Placed key) h = (number_some key.session (short_long key.session h.0), (number_some key.number h.1, tt))
 others_some entry.End h = tt
 
@@ -240,7 +253,8 @@ may key Close h = lt-ltb 0 key.session h
 may key Tick h = rw (eq-eqb key.session 0 h.0, le-leb key.number (2 ^ 40) h.1) refl
 
 -- a key that may ask has its command
-pub command_told : (key : Key) (act : Act Op) → IsCommand (record { key = key; act = act }) → submitted_of key act ≡ Some (entry.Submitted (record { key = key; act = act }))
+pub command_told : (key : Key) (act : Act Op) → IsCommand (record { key = key; act = act })
+    → submitted_of key act ≡ Some (entry.Submitted (record { key = key; act = act }))
 unfolding submitted_of
 command_told key act h = rw (may key act h.allowed, lt-ltb 0 key.number h.above, le-leb key.number (2 ^ 62) h.within) refl
 
@@ -248,15 +262,19 @@ key_told : (key : Key) → IsKeyValue key → key_of (decimal key.session) (deci
 unfolding key_of
 key_told key h = rw (short_back key.session h.0, long_back key.number h.1) refl
 
-keyed_told : (letter : List ℕ) (key : Key) (others : List (List ℕ)) (e : Entry) → IsKeyValue key → entry_under letter key others ≡ Some e → keyed_entry letter (decimal key.session ∷ decimal key.number ∷ others) ≡ Some e
+keyed_told : (letter : List ℕ) (key : Key) (others : List (List ℕ)) (e : Entry) → IsKeyValue key
+    → entry_under letter key others ≡ Some e
+    → keyed_entry letter (decimal key.session ∷ decimal key.number ∷ others) ≡ Some e
 unfolding keyed_entry
 keyed_told letter key others e h told = rw (key_told key h) told
 
-submitted_told : (key : Key) (act : Act Op) → IsActValue act → IsCommand (record { key = key; act = act }) → entry_under (codes "S") key (act_words act) ≡ Some (entry.Submitted (record { key = key; act = act }))
+submitted_told : (key : Key) (act : Act Op) → IsActValue act → IsCommand (record { key = key; act = act })
+    → entry_under (codes "S") key (act_words act) ≡ Some (entry.Submitted (record { key = key; act = act }))
 unfolding entry_under
 submitted_told key act h is = rw (act_back act h) (command_told key act is)
 
-answered_told : (key : Key) (reply : Reply) → IsReplyValue reply → entry_under (codes "A") key (reply_words reply) ≡ Some (entry.Answered (record { to = key; reply = reply }))
+answered_told : (key : Key) (reply : Reply) → IsReplyValue reply
+    → entry_under (codes "A") key (reply_words reply) ≡ Some (entry.Answered (record { to = key; reply = reply }))
 unfolding entry_under
 answered_told key reply h = rw (reply_back reply h) refl
 
@@ -297,7 +315,9 @@ entry_told entry.End h = refl
 
 -- the words of a line that was written tell what it says
 pub said_told : (e : Entry) → IsEntryValue e → entry_of_words (words (said e)) ≡ Some e
-said_told e h = ap entry_of_words (words_back (first_word e) (other_words e) (first_plain e) (others_plain e h) (first_some e) (others_some e h)) ∙ entry_told e h
+said_told e h = ap entry_of_words
+    (words_back (first_word e) (other_words e) (first_plain e) (others_plain e h) (first_some e) (others_some e h)) ∙
+    entry_told e h
 
 -- ---- where a line ends
 
@@ -317,7 +337,8 @@ spaced_no_feed [] h = tt
 spaced_no_feed (w ∷ ws) h = ((λ same. omega arith), feeds w (spaced ws) (plain_no_feed w h.0) (spaced_no_feed ws h.1))
 
 pub said_no_feed : (e : Entry) → IsEntryValue e → NoFeed (said e)
-said_no_feed e h = feeds (first_word e) (spaced (other_words e)) (plain_no_feed (first_word e) (first_plain e)) (spaced_no_feed (other_words e) (others_plain e h))
+said_no_feed e h = feeds (first_word e) (spaced (other_words e)) (plain_no_feed (first_word e) (first_plain e))
+    (spaced_no_feed (other_words e) (others_plain e h))
 
 pub one_cut : (a b x y : List ℕ) → NoFeed a → NoFeed b → a ++ (10 ∷ x) ≡ b ++ (10 ∷ y) → (a ≡ b) × (x ≡ y)
 one_cut [] [] x y h k same = let rest : x ≡ y = cc in (refl, rest)

@@ -26,5 +26,6 @@ some_stay : (ws : List (List ℕ)) → AllSome ws → filter is_word ws ≡ ws
 some_stay [] h = refl
 some_stay (w ∷ ws) h = rw h.0 (ap (λ t. w ∷ t) (some_stay ws h.1))
 
-pub words_back : (first : List ℕ) (others : List (List ℕ)) → Plain first → AllPlain others → is_word first ≡ true → AllSome others → words (first ++ spaced others) ≡ first ∷ others
+pub words_back : (first : List ℕ) (others : List (List ℕ)) → Plain first → AllPlain others → is_word first ≡ true
+    → AllSome others → words (first ++ spaced others) ≡ first ∷ others
 words_back first others p ps s ss = ap (filter is_word) (pieces_back first others p ps) ∙ some_stay (first ∷ others) (s, ss)

@@ -35,7 +35,8 @@ pub says_nothing : (line text : List ℕ) → line ≡ text ++ (10 ∷ []) → e
 says_nothing line text cut none e h same = some_none e (sym (tells line text e h cut same) ∙ none)
 
 -- what they tell is written otherwise
-pub says_otherwise : (line text : List ℕ) (e : Entry) → line ≡ text ++ (10 ∷ []) → entry_of_words (words text) ≡ Some e → (entry_line e ≡ line → ⊥) → Says line None
+pub says_otherwise : (line text : List ℕ) (e : Entry) → line ≡ text ++ (10 ∷ []) → entry_of_words (words text) ≡ Some e
+    → (entry_line e ≡ line → ⊥) → Says line None
 says_otherwise line text e cut told other f h same =
     other (subst (λ (g : Entry). entry_line g ≡ line) (one_some f e (sym (tells line text f h cut same) ∙ told)) same)
 

@@ -1,5 +1,7 @@
 -- What the words of a line tell is what was written.
-use Rattle.std.proofs.Common.{◌≡◌, ℕ, ◌<◌, ◌^◌, ◌/◌, ◌%◌, ◌==◌, ◌&&◌, inl, inr, Bool, true, false, slice_index, List, [], ◌∷◌, ◌++◌, map, Some, None, Ok, length, refl, sym, ap, ◌∙◌, arith, codes, decimal, append-nil, append_assoc}
+use Rattle.std.proofs.Common.{◌≡◌, ℕ, ◌<◌, ◌^◌, ◌/◌, ◌%◌, ◌==◌, ◌&&◌, inl, inr, Bool, true, false, slice_index, List}
+use Rattle.std.proofs.Common.{[], ◌∷◌, ◌++◌, map, Some, None, Ok, length, refl, sym, ap, ◌∙◌, arith, codes, decimal}
+use Rattle.std.proofs.Common.{append-nil, append_assoc}
 use Rattle.std.proofs.lemmas.Bool.{lt-ltb}
 use Rattle.std.proofs.lemmas.Fmt.{decimal_is_IsNumeral}
 use Rattle.std.proofs.lemmas.Str.Parse.{IsNumeralModel, numerals_by_value, tells_all_ascii_digits}
@@ -12,10 +14,17 @@ use Rattle.object.specs.declared.command.Act.{Act}
 use Rattle.object.specs.declared.command.Act.TheVariants.{Do, Close, Tick}
 use Rattle.job_store.specs.Names.{IsName}
 use Rattle.bean_queue.specs.declared.op.Op.{Op}
-use Rattle.bean_queue.specs.declared.op.Op.TheVariants.{Put, Use, Watch, Ignore, Reserve, Delete, Touch, Release, Bury, Kick, KickJob, Peek, PeekReady, PeekDelayed, PeekBuried, ListTubes, ListTubeUsed, ListTubesWatched, Pause}
+use Rattle.bean_queue.specs.declared.op.Op.TheVariants.{Put, Use, Watch, Ignore, Reserve, Delete, Touch, Release, Bury}
+use Rattle.bean_queue.specs.declared.op.Op.TheVariants.{Kick, KickJob, Peek, PeekReady, PeekDelayed, PeekBuried}
+use Rattle.bean_queue.specs.declared.op.Op.TheVariants.{ListTubes, ListTubeUsed, ListTubesWatched, Pause}
 use Rattle.bean_queue.specs.declared.reply.Reply.{Reply}
-use Rattle.bean_queue.specs.declared.reply.Reply.TheVariants.{Inserted, Using, Watching, NotIgnored, Reserved, DeadlineSoon, TimedOut, Deleted, NotFound, Released, Buried, Touched, KickedCount, Kicked, Found, Tubes, Paused, InternalError}
-use Rattle.bean_codec.specs.Arguments.{line_of, alone, one_id, one_number, one_name, release_line, bury_line, reserve_line, kick_line, delete_line, touch_line, kick_job_line, peek_line, use_line, watch_line, ignore_line, pause_line}
+use Rattle.bean_queue.specs.declared.reply.Reply.TheVariants.{Inserted, Using, Watching, NotIgnored, Reserved}
+use Rattle.bean_queue.specs.declared.reply.Reply.TheVariants.{DeadlineSoon, TimedOut, Deleted, NotFound, Released}
+use Rattle.bean_queue.specs.declared.reply.Reply.TheVariants.{Buried, Touched, KickedCount, Kicked, Found, Tubes}
+use Rattle.bean_queue.specs.declared.reply.Reply.TheVariants.{Paused, InternalError}
+use Rattle.bean_codec.specs.Arguments.{line_of, alone, one_id, one_number, one_name, release_line, bury_line}
+use Rattle.bean_codec.specs.Arguments.{reserve_line, kick_line, delete_line, touch_line, kick_job_line, peek_line}
+use Rattle.bean_codec.specs.Arguments.{use_line, watch_line, ignore_line, pause_line}
 use Rattle.bean_codec.specs.Commands.{command_of, job_command, tube_command, look_command}
 use Rattle.bean_codec.specs.Numbers.{number_below, u32_of, u64_of}
 use Rattle.bean_codec.specs.TubeNames.{name_of, name_rule, word_if, Decided}
@@ -23,11 +32,13 @@ use Rattle.chronicle.specs.Acts.{op_words, act_words}
 use Rattle.chronicle.specs.Lines.{body_word}
 use Rattle.chronicle.specs.Replies.{reply_words}
 use Rattle.chronicle.specs.Values.{IsShort, IsLong, IsActValue, IsReplyValue}
-use Rattle.chronicle.specs.Told.{body_of, put_of, act_with, act_of, lone_reply, number_reply, reply_with, job_with, job_reply, names_after, other_reply, reply_of, numbers_after}
+use Rattle.chronicle.specs.Told.{body_of, put_of, act_with, act_of, lone_reply, number_reply, reply_with, job_with}
+use Rattle.chronicle.specs.Told.{job_reply, names_after, other_reply, reply_of, numbers_after}
 
 -- ---- numbers
 
-below_back : (limit n : ℕ) (word : List ℕ) → 0 < length word → all_ascii_digits word ≡ true → digits_value 10 word ≡ n → n < limit → number_below limit word ≡ Some n
+below_back : (limit n : ℕ) (word : List ℕ) → 0 < length word → all_ascii_digits word ≡ true → digits_value 10 word ≡ n
+    → n < limit → number_below limit word ≡ Some n
 unfolding number_below
 below_back limit n [] some digits value below = absurd (omega arith)
 below_back limit n (b ∷ rest) some digits value below = rw (digits, value, lt-ltb n limit below) refl
@@ -83,12 +94,16 @@ pub body_back : (bytes : List ℕ) → IsBytes bytes → body_of (body_word byte
 unfolding body_of body_word encode_with
 body_back [] h = refl
 body_back (b ∷ more) h =
-    decodes (encode_lower (b ∷ more)) (b ∷ more) (longer (slice_index lower_digits (b / 16)) (slice_index lower_digits (b % 16)) (encode_lower more)) (decode_of-encode_lower (b ∷ more) h)
+    decodes (encode_lower (b ∷ more)) (b ∷ more)
+    (longer (slice_index lower_digits (b / 16)) (slice_index lower_digits (b % 16)) (encode_lower more))
+    (decode_of-encode_lower (b ∷ more) h)
 
 -- ---- acts
 
 pub act_back : (a : Act Op) → IsActValue a → act_of (act_words a) ≡ Some a
-unfolding act_of act_words op_words act_with put_of command_of job_command tube_command look_command line_of alone one_id one_number one_name release_line bury_line reserve_line kick_line delete_line touch_line kick_job_line peek_line use_line watch_line ignore_line pause_line
+unfolding act_of act_words op_words act_with put_of command_of job_command tube_command look_command line_of alone
+    one_id one_number one_name release_line bury_line reserve_line kick_line delete_line touch_line kick_job_line
+    peek_line use_line watch_line ignore_line pause_line
 act_back Close h = refl
 act_back Tick h = refl
 act_back (Do (Put pri delay ttr b)) h = rw (short_back pri h.0, short_back delay h.1, short_back ttr h.2, body_back b h.3) refl

@@ -1,5 +1,7 @@
 -- What the words of a line tell is a value of its type.
-use Rattle.std.proofs.Common.{rules, ◌≡◌, ℕ, zero, suc, ◌+◌, ◌-◌, ◌%◌, ◌<◌, ◌≤◌, ◌^◌, ◌&&◌, ◌==◌, inl, inr, Bool, true, false, List, [], ◌∷◌, ◌++◌, Option, Some, None, Result, Ok, Err, length, leb, refl, arith, codes}
+use Rattle.std.proofs.Common.{rules, ◌≡◌, ℕ, zero, suc, ◌+◌, ◌-◌, ◌%◌, ◌<◌, ◌≤◌, ◌^◌, ◌&&◌, ◌==◌, inl, inr, Bool, true}
+use Rattle.std.proofs.Common.{false, List, [], ◌∷◌, ◌++◌, Option, Some, None, Result, Ok, Err, length, leb, refl, arith}
+use Rattle.std.proofs.Common.{codes}
 use Rattle.std.proofs.lemmas.Bool.{and_parts, ltb-true, leb-true, eqb-true}
 use Rattle.std.specs.List.{AllByRecursion, list_all}
 use Rattle.std.specs.Option.{option_map, option_and_then}
@@ -24,7 +26,9 @@ use Rattle.bean_codec.specs.declared.line.Meaning.{Meaning}
 use Rattle.bean_codec.specs.declared.line.Meaning.TheVariants.{Whole, WithBody}
 use Rattle.bean_codec.specs.declared.request.Request.TheVariants as request
 use Rattle.bean_codec.specs.declared.request.Request.{Request}
-use Rattle.bean_codec.specs.Arguments.{line_of, alone, one_id, one_number, one_name, put_line, release_line, bury_line, reserve_line, kick_line, delete_line, touch_line, kick_job_line, peek_line, use_line, watch_line, ignore_line, pause_line}
+use Rattle.bean_codec.specs.Arguments.{line_of, alone, one_id, one_number, one_name, put_line, release_line, bury_line}
+use Rattle.bean_codec.specs.Arguments.{reserve_line, kick_line, delete_line, touch_line, kick_job_line, peek_line}
+use Rattle.bean_codec.specs.Arguments.{use_line, watch_line, ignore_line, pause_line}
 use Rattle.bean_codec.specs.Commands.{command_of}
 use Rattle.bean_codec.specs.Numbers.{written_number, number_below, u32_of, u64_of}
 use Rattle.bean_codec.specs.TubeNames.{name_of, name_rule, word_if, Decided}
@@ -33,11 +37,15 @@ use Rattle.chronicle.specs.declared.entry.Entry.TheVariants as entry
 use Rattle.chronicle.specs.declared.version.Version.TheVariants.{One, Two}
 use Rattle.chronicle.specs.Entries.{IsEntryValue}
 use Rattle.chronicle.specs.Values.{IsShort, IsLong, IsKeyValue, IsOpValue, IsActValue, IsReplyValue}
-use Rattle.chronicle.specs.Told.{decoded, body_of, put_of, act_in, act_with, act_of, lone_reply, number_reply, reply_with, job_with, job_reply, names_after, other_reply, reply_of, may_ask, submitted_of, entry_under, key_of, keyed_entry, version_of_words, members_of_words, are_weights, weighted, numbers_after, weights_of, entry_of_words}
+use Rattle.chronicle.specs.Told.{decoded, body_of, put_of, act_in, act_with, act_of, lone_reply, number_reply}
+use Rattle.chronicle.specs.Told.{reply_with, job_with, job_reply, names_after, other_reply, reply_of, may_ask}
+use Rattle.chronicle.specs.Told.{submitted_of, entry_under, key_of, keyed_entry, version_of_words, members_of_words}
+use Rattle.chronicle.specs.Told.{are_weights, weighted, numbers_after, weights_of, entry_of_words}
 
 -- ---- steps
 
-bind : {A B : Type 0} (o : Option A) (f : A → Option B) (P : A → Type 0) (Q : B → Type 0) → IfSome o P → ((a : A) → P a → IfSome (f a) Q) → IfSome (option_and_then f o) Q
+bind : {A B : Type 0} (o : Option A) (f : A → Option B) (P : A → Type 0) (Q : B → Type 0) → IfSome o P
+    → ((a : A) → P a → IfSome (f a) Q) → IfSome (option_and_then f o) Q
 bind None f P Q h k = tt
 bind (Some a) f P Q h k = k a h
 
@@ -62,7 +70,8 @@ any (Some a) = tt
 below_value : (limit : ℕ) (word : List ℕ) → IfSome (number_below limit word) (λ n. n < limit)
 unfolding number_below
 below_value limit word =
-    bind (written_number word) (λ n. if nat_lt n limit then Some n else None) (λ n. ⊤) (λ n. n < limit) (any (written_number word)) (λ n _. where_so (nat_lt n limit) n (λ m. m < limit) (ltb-true n limit))
+    bind (written_number word) (λ n. if nat_lt n limit then Some n else None) (λ n. ⊤) (λ n. n < limit)
+    (any (written_number word)) (λ n _. where_so (nat_lt n limit) n (λ m. m < limit) (ltb-true n limit))
 
 short_value : (word : List ℕ) → IfSome (u32_of word) IsShort
 short_value word = below_value (2 ^ 32) word
@@ -104,7 +113,8 @@ digit_small c =
     (if_so (nat_le 97 c && nat_le c 102) (Some (c - 87)) _ (λ v. v < 16) (λ h. let r = range 97 102 c h in omega arith)
     (if_so (nat_le 48 c && nat_le c 57) (Some (c - 48)) None (λ v. v < 16) (λ h. let r = range 48 57 c h in omega arith) tt))
 
-bind_ok : {A B : Type 0} (r : Result A FromHexError) (f : A → Result B FromHexError) (P : A → Type 0) (Q : B → Type 0) → IfOk r P → ((a : A) → P a → IfOk (f a) Q) → IfOk (r >>= f) Q
+bind_ok : {A B : Type 0} (r : Result A FromHexError) (f : A → Result B FromHexError) (P : A → Type 0) (Q : B → Type 0)
+    → IfOk r P → ((a : A) → P a → IfOk (f a) Q) → IfOk (r >>= f) Q
 bind_ok (Ok a) f P Q h k = k a h
 bind_ok (Err e) f P Q h k = tt
 
@@ -143,7 +153,9 @@ even_bytes false e r h = h
 body_value : (word : List ℕ) → IfSome (body_of word) IsBytes
 unfolding body_of
 body_value word =
-    either (bytes_eq word (codes "-")) (Some []) (decoded (decode_of word)) IsBytes no_bytes (of_decoded (decode_of word) (even_bytes (length word % 2 == 1) OddLength (decode_pairs 0 word) (pairs_bytes 0 word)))
+    either (bytes_eq word (codes "-")) (Some []) (decoded (decode_of word)) IsBytes no_bytes
+    (of_decoded (decode_of word) (even_bytes (length word % 2 == 1) OddLength (decode_pairs 0 word)
+    (pairs_bytes 0 word)))
 
 -- ---- acts
 
@@ -151,7 +163,8 @@ put_value : (words : List (List ℕ)) → IfSome (put_of words) IsActValue
 unfolding put_of
 put_value (pri ∷ delay ∷ ttr ∷ body ∷ []) =
     bind (u32_of pri) _ IsShort IsActValue (short_value pri) (λ p ps. bind (u32_of delay) _ IsShort IsActValue (short_value delay)
-    (λ d ds. bind (u32_of ttr) _ IsShort IsActValue (short_value ttr) (λ t ts. bind (body_of body) _ IsBytes IsActValue (body_value body) (λ b bs. (ps, ds, ts, bs)))))
+    (λ d ds. bind (u32_of ttr) _ IsShort IsActValue (short_value ttr)
+    (λ t ts. bind (body_of body) _ IsBytes IsActValue (body_value body) (λ b bs. (ps, ds, ts, bs)))))
 put_value _ = tt
 
 -- the operation of a request is a value
@@ -190,7 +203,9 @@ tube_value _ = tt
 release_value : (words : List (List ℕ)) → IfSome (release_line words) Means
 unfolding release_line
 release_value (id ∷ pri ∷ delay ∷ []) =
-    bind (u64_of id) _ IsLong Means (long_value id) (λ i is. bind (u32_of pri) _ IsShort Means (short_value pri) (λ p ps. bind (u32_of delay) _ IsShort Means (short_value delay) (λ d ds. (is, ps, ds))))
+    bind (u64_of id) _ IsLong Means (long_value id)
+    (λ i is. bind (u32_of pri) _ IsShort Means (short_value pri)
+    (λ p ps. bind (u32_of delay) _ IsShort Means (short_value delay) (λ d ds. (is, ps, ds))))
 release_value _ = tt
 
 bury_value : (words : List (List ℕ)) → IfSome (bury_line words) Means
@@ -211,7 +226,9 @@ put_line_value _ = tt
 
 pause_value : (words : List (List ℕ)) → IfSome (pause_line words) Means
 unfolding pause_line
-pause_value (tube ∷ seconds ∷ []) = bind (u32_of seconds) _ IsShort Means (short_value seconds) (λ n ns. bind (name_of tube) _ IsName Means (name_value tube) (λ t ts. (ts, ns)))
+pause_value (tube ∷ seconds ∷ []) =
+    bind (u32_of seconds) _ IsShort Means (short_value seconds)
+    (λ n ns. bind (name_of tube) _ IsName Means (name_value tube) (λ t ts. (ts, ns)))
 pause_value _ = tt
 
 line_value : (c : CommandName) (words : List (List ℕ)) → IfSome (line_of c words) Means
@@ -253,7 +270,9 @@ act_value : (words : List (List ℕ)) → IfSome (act_of words) IsActValue
 unfolding act_of
 act_value [] = tt
 act_value (first ∷ words) =
-    either (bytes_eq first (codes "tick")) (Some Tick) _ IsActValue tt (either (bytes_eq first (codes "close")) (Some Close) (act_with (command_of first) words) IsActValue tt (with_value (command_of first) words))
+    either (bytes_eq first (codes "tick")) (Some Tick) _ IsActValue tt
+    (either (bytes_eq first (codes "close")) (Some Close) (act_with (command_of first) words) IsActValue tt
+    (with_value (command_of first) words))
 
 -- ---- replies
 
@@ -296,7 +315,9 @@ reply_value : (words : List (List ℕ)) → IfSome (reply_of words) IsReplyValue
 unfolding reply_of
 reply_value [] = tt
 reply_value (first ∷ words) =
-    either (bytes_eq first (codes "OK")) _ _ IsReplyValue (mapped (names_after [] words) Tubes (AllByRecursion IsName) IsReplyValue (names_value [] words tt) (λ n h. h)) (other_value first words)
+    either (bytes_eq first (codes "OK")) _ _ IsReplyValue
+    (mapped (names_after [] words) Tubes (AllByRecursion IsName) IsReplyValue (names_value [] words tt) (λ n h. h))
+    (other_value first words)
 
 -- ---- lines
 
@@ -306,7 +327,8 @@ asks key Close h = ltb-true 0 key.session h
 asks key Tick h =
     let both = and_parts (key.session == 0) (nat_le key.number (2 ^ 40)) h in (eqb-true key.session 0 both.0, leb-true key.number (2 ^ 40) both.1)
 
-is_command : (key : Key) (act : Act Op) → (may_ask key act && nat_lt 0 key.number && nat_le key.number (2 ^ 62)) ≡ true → IsCommand (record { key = key; act = act })
+is_command : (key : Key) (act : Act Op) → (may_ask key act && nat_lt 0 key.number && nat_le key.number (2 ^ 62)) ≡ true
+    → IsCommand (record { key = key; act = act })
 is_command key act h =
     let both = and_parts (may_ask key act && nat_lt 0 key.number) (nat_le key.number (2 ^ 62)) h in
     let first = and_parts (may_ask key act) (nat_lt 0 key.number) both.0 in
@@ -315,7 +337,8 @@ is_command key act h =
 command_value : (key : Key) (act : Act Op) → IsKeyValue key → IsActValue act → IfSome (submitted_of key act) IsEntryValue
 unfolding submitted_of
 command_value key act h k =
-    where_so (may_ask key act && nat_lt 0 key.number && nat_le key.number (2 ^ 62)) (entry.Submitted (record { key = key; act = act })) IsEntryValue (λ so. (h, k, is_command key act so))
+    where_so (may_ask key act && nat_lt 0 key.number && nat_le key.number (2 ^ 62))
+    (entry.Submitted (record { key = key; act = act })) IsEntryValue (λ so. (h, k, is_command key act so))
 
 none_where : (t : Bool) (x : Entry) → (t ≡ true → ⊥) → (if t then Some x else None) ≡ None
 none_where true x h = absurd (h refl)
@@ -325,13 +348,18 @@ none_where false x h = refl
 pub not_asked : (key : Key) (act : Act Op) → (IsCommand (record { key = key; act = act }) → ⊥) → submitted_of key act ≡ None
 unfolding submitted_of
 not_asked key act h =
-    none_where (may_ask key act && nat_lt 0 key.number && nat_le key.number (2 ^ 62)) (entry.Submitted (record { key = key; act = act })) (λ so. h (is_command key act so))
+    none_where (may_ask key act && nat_lt 0 key.number && nat_le key.number (2 ^ 62))
+    (entry.Submitted (record { key = key; act = act })) (λ so. h (is_command key act so))
 
 under_value : (letter : List ℕ) (key : Key) (words : List (List ℕ)) → IsKeyValue key → IfSome (entry_under letter key words) IsEntryValue
 unfolding entry_under
 under_value letter key words h =
-    either (bytes_eq letter (codes "S")) _ _ IsEntryValue (bind (act_of words) (submitted_of key) IsActValue IsEntryValue (act_value words) (λ a k. command_value key a h k))
-    (either (bytes_eq letter (codes "A")) _ _ IsEntryValue (mapped (reply_of words) (λ reply. entry.Answered (record { to = key; reply = reply })) IsReplyValue IsEntryValue (reply_value words) (λ r k. (h, k)))
+    either (bytes_eq letter (codes "S")) _ _ IsEntryValue
+    (bind (act_of words) (submitted_of key) IsActValue IsEntryValue (act_value words)
+    (λ a k. command_value key a h k))
+    (either (bytes_eq letter (codes "A")) _ _ IsEntryValue
+    (mapped (reply_of words) (λ reply. entry.Answered (record { to = key; reply = reply })) IsReplyValue
+    IsEntryValue (reply_value words) (λ r k. (h, k)))
     (either (bytes_eq letter (codes "O")) (Some (entry.Placed key)) None IsEntryValue h tt))
 
 key_value : (session number : List ℕ) → IfSome (key_of session number) IsKeyValue
@@ -341,7 +369,9 @@ key_value session number =
 
 keyed_value : (letter : List ℕ) (words : List (List ℕ)) → IfSome (keyed_entry letter words) IsEntryValue
 unfolding keyed_entry
-keyed_value letter (session ∷ number ∷ words) = bind (key_of session number) _ IsKeyValue IsEntryValue (key_value session number) (λ key h. under_value letter key words h)
+keyed_value letter (session ∷ number ∷ words) =
+    bind (key_of session number) _ IsKeyValue IsEntryValue (key_value session number)
+    (λ key h. under_value letter key words h)
 keyed_value letter [] = tt
 keyed_value letter (session ∷ []) = tt
 
@@ -349,14 +379,16 @@ version_value : (words : List (List ℕ)) → IfSome (version_of_words words) Is
 unfolding version_of_words
 version_value [] = tt
 version_value (word ∷ words) =
-    either (bytes_eq word (codes "1")) (Some (entry.Version One)) _ IsEntryValue tt (either (bytes_eq word (codes "2")) (Some (entry.Version Two)) None IsEntryValue tt tt)
+    either (bytes_eq word (codes "1")) (Some (entry.Version One)) _ IsEntryValue tt
+    (either (bytes_eq word (codes "2")) (Some (entry.Version Two)) None IsEntryValue tt tt)
 
 members_value : (words : List (List ℕ)) → IfSome (members_of_words words) IsEntryValue
 unfolding members_of_words
 members_value [] = tt
 members_value (word ∷ words) =
     bind (u64_of word) _ IsLong IsEntryValue (long_value word)
-    (λ n ns. where_so (nat_lt 0 n && nat_le n 7) (entry.Members n) IsEntryValue (λ so. let both = and_parts (nat_lt 0 n) (nat_le n 7) so in (ltb-true 0 n both.0, leb-true n 7 both.1)))
+    (λ n ns. where_so (nat_lt 0 n && nat_le n 7) (entry.Members n) IsEntryValue
+    (λ so. let both = and_parts (nat_lt 0 n) (nat_le n 7) so in (ltb-true 0 n both.0, leb-true n 7 both.1)))
 
 are_members : (ws : List ℕ) → are_weights ws ≡ true → IsMembers ws
 are_members ws so =

@@ -66,7 +66,8 @@ one_words [] (w ∷ ws) x y p q same = absurd (differ 10 32 x ((w ++ spaced ws) 
 one_words (v ∷ vs) [] x y p q same = absurd (differ 32 10 ((v ++ spaced vs) ++ (10 ∷ x)) y (λ h. omega arith) same)
 one_words (v ∷ vs) (w ∷ ws) x y p q same =
     let tail : (v ++ spaced vs) ++ (10 ∷ x) ≡ (w ++ spaced ws) ++ (10 ∷ y) = cc in
-    let cut = one_word v w (spaced vs ++ (10 ∷ x)) (spaced ws ++ (10 ∷ y)) p.0 q.0 (ends vs x) (ends ws y) (sym (append_assoc v (spaced vs) (10 ∷ x)) ∙ tail ∙ append_assoc w (spaced ws) (10 ∷ y)) in
+    let cut = one_word v w (spaced vs ++ (10 ∷ x)) (spaced ws ++ (10 ∷ y)) p.0 q.0 (ends vs x) (ends ws y)
+    (sym (append_assoc v (spaced vs) (10 ∷ x)) ∙ tail ∙ append_assoc w (spaced ws) (10 ∷ y)) in
     let t = one_words vs ws x y p.1 q.1 cut.1 in
     let first : v ≡ w = cut.0 in
     let more : vs ≡ ws = t.0 in
@@ -77,7 +78,8 @@ pub line_is : (first : List ℕ) (words : List (List ℕ)) (x : List ℕ) → li
 unfolding line
 line_is first words x = append_assoc (first ++ spaced words) (10 ∷ []) x ∙ append_assoc first (spaced words) (10 ∷ x)
 
-pub one_line : (a b : List ℕ) (vs ws : List (List ℕ)) (x y : List ℕ) → Plain a → Plain b → AllPlain vs → AllPlain ws → line a vs ++ x ≡ line b ws ++ y → (a ≡ b) × (vs ≡ ws) × (x ≡ y)
+pub one_line : (a b : List ℕ) (vs ws : List (List ℕ)) (x y : List ℕ) → Plain a → Plain b → AllPlain vs → AllPlain ws
+    → line a vs ++ x ≡ line b ws ++ y → (a ≡ b) × (vs ≡ ws) × (x ≡ y)
 one_line a b vs ws x y p q ps qs same =
     let cut = one_word a b (spaced vs ++ (10 ∷ x)) (spaced ws ++ (10 ∷ y)) p q (ends vs x) (ends ws y) (sym (line_is a vs x) ∙ same ∙ line_is b ws y) in
     let t = one_words vs ws x y ps qs cut.1 in

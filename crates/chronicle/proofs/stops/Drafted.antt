@@ -1,5 +1,6 @@
 -- Which lines may come next, and which begin a chronicle's text.
-use Rattle.std.proofs.Common.{◌≡◌, ◌≢◌, ℕ, ◌<◌, ◌≤◌, ◌==◌, ◌&&◌, not, false, List, [], ◌∷◌, ◌++◌, map, length, replicate, Option, Some, None, refl, sym, ap, subst, ◌∙◌, arith, append_assoc, append-nil}
+use Rattle.std.proofs.Common.{◌≡◌, ◌≢◌, ℕ, ◌<◌, ◌≤◌, ◌==◌, ◌&&◌, not, false, List, [], ◌∷◌, ◌++◌, map, length}
+use Rattle.std.proofs.Common.{replicate, Option, Some, None, refl, sym, ap, subst, ◌∙◌, arith, append_assoc, append-nil}
 use Rattle.std.proofs.lemmas.Bool.{and_parts, not-true, eq-eqb, eqb-true}
 use Rattle.std.proofs.lemmas.List.{length-replicate}
 use Rattle.std.specs.List.{AllByRecursion}
@@ -72,19 +73,22 @@ IsDraft _ = Unit {0}
 
 -- ---- a line more
 
-last_happened : (firsts : List Entry) (order : List Key) (e : Entry) → order ≡ [] → (firsts ++ (e ∷ [])) ++ map Placed order ≡ (firsts ++ map Placed order) ++ (e ∷ [])
+last_happened : (firsts : List Entry) (order : List Key) (e : Entry) → order ≡ []
+    → (firsts ++ (e ∷ [])) ++ map Placed order ≡ (firsts ++ map Placed order) ++ (e ∷ [])
 last_happened firsts order e none =
     subst (λ (o : List Key). (firsts ++ (e ∷ [])) ++ map Placed o ≡ (firsts ++ map Placed o) ++ (e ∷ [])) (sym none)
     (append-nil (firsts ++ (e ∷ [])) ∙ ap (λ t. t ++ (e ∷ [])) (sym (append-nil firsts)))
 
-last_placed : (firsts : List Entry) (order : List Key) (key : Key) → firsts ++ map Placed (order ++ (key ∷ [])) ≡ (firsts ++ map Placed order) ++ (Placed key ∷ [])
+last_placed : (firsts : List Entry) (order : List Key) (key : Key)
+    → firsts ++ map Placed (order ++ (key ∷ [])) ≡ (firsts ++ map Placed order) ++ (Placed key ∷ [])
 last_placed firsts order key = ap (λ t. firsts ++ t) (map_last Placed order key) ∙ sym (append_assoc firsts (map Placed order) (Placed key ∷ []))
 
 some_last : (order : List Key) (key : Key) → order ++ (key ∷ []) ≢ []
 some_last [] key same = cc
 some_last (k ∷ order) key same = cc
 
-happened_last : (ws : List ℕ) (hs : List (Happening Op Reply)) (h : Happening Op Reply) → head ws ++ map happened (hs ++ (h ∷ [])) ≡ (head ws ++ map happened hs) ++ (happened h ∷ [])
+happened_last : (ws : List ℕ) (hs : List (Happening Op Reply)) (h : Happening Op Reply)
+    → head ws ++ map happened (hs ++ (h ∷ [])) ≡ (head ws ++ map happened hs) ++ (happened h ∷ [])
 happened_last ws hs h = ap (λ t. head ws ++ t) (map_last happened hs h) ∙ sym (append_assoc (head ws) (map happened hs) (happened h ∷ []))
 
 submitted_entries : (c : Chronicle Op Reply) (s : Command Op) → first_entries (submitted_last s c) ≡ first_entries c ++ (Submitted s ∷ [])
@@ -209,7 +213,9 @@ placed_no_heads (key ∷ order) = ((λ h. h), placed_no_heads order)
 tail_no_heads : (c : Chronicle Op Reply) → AllByRecursion NoHead (tail_entries c)
 tail_no_heads c =
     let hs = map happened (happenings c.submitted c.answers) in
-    all_both NoHead (hs ++ map Placed c.order) (End ∷ []) (all_both NoHead hs (map Placed c.order) (no_heads (happenings c.submitted c.answers)) (placed_no_heads c.order)) ((λ h. h), tt)
+    all_both NoHead (hs ++ map Placed c.order) (End ∷ [])
+    (all_both NoHead hs (map Placed c.order) (no_heads (happenings c.submitted c.answers))
+    (placed_no_heads c.order)) ((λ h. h), tt)
 
 -- after a late entry all are late
 abbrev LateLast : List Entry → Type 0
@@ -232,7 +238,8 @@ late_placed (key ∷ order) = (tt, late_placed order)
 tail_late : (c : Chronicle Op Reply) → LateLast (tail_entries c)
 tail_late c =
     let hs = happenings c.submitted c.answers in
-    subst LateLast (sym (append_assoc (map happened hs) (map Placed c.order) (End ∷ []))) (late_happened hs (map Placed c.order ++ (End ∷ [])) (late_all _ (late_placed c.order)))
+    subst LateLast (sym (append_assoc (map happened hs) (map Placed c.order) (End ∷ [])))
+    (late_happened hs (map Placed c.order ++ (End ∷ [])) (late_all _ (late_placed c.order)))
 
 after_late : (xs : List Entry) (x : Entry) (ys : List Entry) (e : Entry) (more : List Entry) → LateLast (xs ++ (x ∷ (ys ++ (e ∷ more)))) → IsLate x → IsLate e
 after_late [] x ys e more h l = all_mid IsLate ys e more (h.0 l)
@@ -255,7 +262,8 @@ end_placed (key ∷ order) = ((λ l. absurd l), end_placed order)
 tail_end : (c : Chronicle Op Reply) → EndLast (tail_entries c)
 tail_end c =
     let hs = happenings c.submitted c.answers in
-    subst EndLast (sym (append_assoc (map happened hs) (map Placed c.order) (End ∷ []))) (end_happened hs (map Placed c.order ++ (End ∷ [])) (end_placed c.order))
+    subst EndLast (sym (append_assoc (map happened hs) (map Placed c.order) (End ∷ [])))
+    (end_happened hs (map Placed c.order ++ (End ∷ [])) (end_placed c.order))
 
 after_end : (xs : List Entry) (e : Entry) (more : List Entry) → EndLast (xs ++ (End ∷ (e ∷ more))) → ⊥
 after_end [] e more h = let none = h.0 tt in cc
@@ -282,7 +290,8 @@ order_next c (Weights ws) h none = h
 order_next c (Submitted s) h none = h
 order_next c (Answered a) h none = h
 
-late_in_order : (firsts : List Entry) (order : List Key) (e : Entry) (more : List Entry) → order ≢ [] → LateLast ((firsts ++ map Placed order) ++ (e ∷ more)) → IsLate e
+late_in_order : (firsts : List Entry) (order : List Key) (e : Entry) (more : List Entry) → order ≢ []
+    → LateLast ((firsts ++ map Placed order) ++ (e ∷ more)) → IsLate e
 late_in_order firsts [] e more some h = absurd (some refl)
 late_in_order firsts (key ∷ order) e more some h =
     after_late firsts (Placed key) (map Placed order) e more (subst LateLast (append_assoc firsts (Placed key ∷ map Placed order) (e ∷ more)) h) tt
@@ -318,13 +327,15 @@ starts : (v : Form) (ws : List ℕ) (ts : List Entry) (e : Entry) (more : List E
 starts One ws ts e more same none = start_next One e (same_first _ _ _ _ same) none
 starts Two ws ts e more same none = start_next Two e (same_first _ _ _ _ same) none
 
-counts : (v w : Form) (ws : List ℕ) (ts : List Entry) (e : Entry) (more : List Entry) → head_entries w ws ++ ts ≡ Version v ∷ e ∷ more → next (Head v) e ≡ None → ⊥
+counts : (v w : Form) (ws : List ℕ) (ts : List Entry) (e : Entry) (more : List Entry)
+    → head_entries w ws ++ ts ≡ Version v ∷ e ∷ more → next (Head v) e ≡ None → ⊥
 counts One One ws ts e more same none = head_next One (length ws) e (same_second _ _ _ _ _ _ same) none
 counts One Two ws ts e more same none = absurd (cc)
 counts Two One ws ts e more same none = absurd (cc)
 counts Two Two ws ts e more same none = head_next Two (length ws) e (same_second _ _ _ _ _ _ same) none
 
-weighs : (w : Form) (ws : List ℕ) (n : ℕ) (ts : List Entry) (e : Entry) (more : List Entry) → version_of ws ≡ w → head_entries w ws ++ ts ≡ Version Two ∷ Members n ∷ e ∷ more → next (Counted n) e ≡ None → ⊥
+weighs : (w : Form) (ws : List ℕ) (n : ℕ) (ts : List Entry) (e : Entry) (more : List Entry) → version_of ws ≡ w
+    → head_entries w ws ++ ts ≡ Version Two ∷ Members n ∷ e ∷ more → next (Counted n) e ≡ None → ⊥
 weighs One ws n ts e more is same none = absurd (cc)
 weighs Two ws n ts e more is same none =
     count_next n ws e (same_count (length ws) n (same_second _ _ _ _ _ _ same)) (two_weighted ws is) (same_third _ _ _ _ _ _ _ _ same) none
@@ -336,23 +347,29 @@ one_tail Two One xs ys ts us same = absurd (cc)
 one_tail Two Two xs ys ts us same = cc
 
 -- those of a chronicle before the last line, by its head
-pub after_head : (b : Chronicle Op Reply) (more : List Entry) → open_entries b ++ more ≡ head b.members ++ ((map happened (happenings b.submitted b.answers) ++ map Placed b.order) ++ more)
+pub after_head : (b : Chronicle Op Reply) (more : List Entry)
+    → open_entries b ++ more ≡ head b.members ++
+    ((map happened (happenings b.submitted b.answers) ++ map Placed b.order) ++ more)
 after_head b more =
     let hs = map happened (happenings b.submitted b.answers) in
     ap (λ t. t ++ more) (append_assoc (head b.members) hs (map Placed b.order)) ∙ append_assoc (head b.members) (hs ++ map Placed b.order) more
 
-same_tail : (c b : Chronicle Op Reply) (more : List Entry) → entries c ≡ open_entries b ++ more → tail_entries c ≡ (map happened (happenings b.submitted b.answers) ++ map Placed b.order) ++ more
+same_tail : (c b : Chronicle Op Reply) (more : List Entry) → entries c ≡ open_entries b ++ more
+    → tail_entries c ≡ (map happened (happenings b.submitted b.answers) ++ map Placed b.order) ++ more
 same_tail c b more same =
-    one_tail (version_of c.members) (version_of b.members) c.members b.members (tail_entries c) ((map happened (happenings b.submitted b.answers) ++ map Placed b.order) ++ more)
+    one_tail (version_of c.members) (version_of b.members) c.members b.members (tail_entries c)
+    ((map happened (happenings b.submitted b.answers) ++ map Placed b.order) ++ more)
     (sym (after_head c (End ∷ [])) ∙ same ∙ after_head b more)
 
-pub follows : (d : ChronicleDraft) (e : Entry) (more : List Entry) (c : Chronicle Op Reply) → IsDraft d → entries c ≡ taken d ++ (e ∷ more) → next d e ≡ None → ⊥
+pub follows : (d : ChronicleDraft) (e : Entry) (more : List Entry) (c : Chronicle Op Reply) → IsDraft d
+    → entries c ≡ taken d ++ (e ∷ more) → next d e ≡ None → ⊥
 follows Start e more c d same none = starts (version_of c.members) c.members (tail_entries c) e more (sym (after_head c (End ∷ [])) ∙ same) none
 follows (Head v) e more c d same none = counts v (version_of c.members) c.members (tail_entries c) e more (sym (after_head c (End ∷ [])) ∙ same) none
 follows (Counted n) e more c d same none = weighs (version_of c.members) c.members n (tail_entries c) e more refl (sym (after_head c (End ∷ [])) ∙ same) none
 follows (Happenings b) e more c d same none =
     let tail = same_tail c b (e ∷ more) same in
-    happenings_next b e (all_mid NoHead (map happened (happenings b.submitted b.answers) ++ map Placed b.order) e more (subst (AllByRecursion NoHead) tail (tail_no_heads c))) none
+    happenings_next b e (all_mid NoHead (map happened (happenings b.submitted b.answers) ++ map Placed b.order) e more
+    (subst (AllByRecursion NoHead) tail (tail_no_heads c))) none
 follows (Order b) e more c d same none =
     let tail = same_tail c b (e ∷ more) same in
     order_next b e (late_in_order (map happened (happenings b.submitted b.answers)) b.order e more d.1 (subst LateLast tail (tail_late c))) none
@@ -377,7 +394,8 @@ ended : (c b : Chronicle Op Reply) → entries c ≡ open_entries b → ⊥
 ended c b same =
     let opened = map happened (happenings b.submitted b.answers) ++ map Placed b.order in
     let tail = same_tail c b [] (same ∙ sym (append-nil (open_entries b))) ∙ append-nil opened in
-    all_mid NoEnd (map happened (happenings c.submitted c.answers) ++ map Placed c.order) End [] (subst (AllByRecursion NoEnd) (sym tail) (open_no_end (happenings b.submitted b.answers) b.order)) tt
+    all_mid NoEnd (map happened (happenings c.submitted c.answers) ++ map Placed c.order) End []
+    (subst (AllByRecursion NoEnd) (sym tail) (open_no_end (happenings b.submitted b.answers) b.order)) tt
 
 -- a head is longer than what is read before its end
 none_read : (v : Form) (ws : List ℕ) (ts : List Entry) → head_entries v ws ++ ts ≡ [] → ⊥

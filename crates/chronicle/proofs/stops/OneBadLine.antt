@@ -46,12 +46,30 @@ text_of es = text_of_lines (map entry_line es)
 on : (e f : Entry) (es fs : List Entry) (rest : List ℕ) → e ≡ f → GoesOn es fs rest → GoesOn (e ∷ es) (f ∷ fs) rest
 on e f es fs rest same g = record { entry = g.entry; more = g.more; later = g.later; is = ap₂ (λ (a : Entry) as'. a ∷ as') (sym same) g.is; at = g.at }
 
-fronts : (es fs : List Entry) (x y : List ℕ) → AllByRecursion IsEntryValue es → AllByRecursion IsEntryValue fs → text_of es ++ x ≡ text_of fs ++ y → (length es ≡ length fs) ⊎ GoesOn es fs x ⊎ GoesOn fs es y
+fronts : (es fs : List Entry) (x y : List ℕ) → AllByRecursion IsEntryValue es → AllByRecursion IsEntryValue fs
+    → text_of es ++ x ≡ text_of fs ++ y → (length es ≡ length fs) ⊎ GoesOn es fs x ⊎ GoesOn fs es y
 fronts [] [] x y h k same = inl refl
-fronts [] (f ∷ fs) x y h k same = inr (inl (record { entry = f; more = fs; later = text_of fs ++ y; is = refl; at = same ∙ append_assoc (entry_line f) (text_of fs) y }))
-fronts (e ∷ es) [] x y h k same = inr (inr (record { entry = e; more = es; later = text_of es ++ x; is = refl; at = sym same ∙ append_assoc (entry_line e) (text_of es) x }))
+fronts [] (f ∷ fs) x y h k same =
+    inr (inl (record {
+      entry = f;
+      more = fs;
+      later = text_of fs ++ y;
+      is = refl;
+      at =
+          same ∙ append_assoc (entry_line f) (text_of fs) y;
+    }))
+fronts (e ∷ es) [] x y h k same =
+    inr (inr (record {
+      entry = e;
+      more = es;
+      later = text_of es ++ x;
+      is = refl;
+      at =
+          sym same ∙ append_assoc (entry_line e) (text_of es) x;
+    }))
 fronts (e ∷ es) (f ∷ fs) x y h k same =
-    let cut = one_front e f (text_of es ++ x) (text_of fs ++ y) h.0 k.0 (sym (append_assoc (entry_line e) (text_of es) x) ∙ same ∙ append_assoc (entry_line f) (text_of fs) y) in
+    let cut = one_front e f (text_of es ++ x) (text_of fs ++ y) h.0 k.0
+    (sym (append_assoc (entry_line e) (text_of es) x) ∙ same ∙ append_assoc (entry_line f) (text_of fs) y) in
     elim (fronts es fs x y h.1 k.1 cut.1) as (λ v. (length (e ∷ es) ≡ length (f ∷ fs)) ⊎ GoesOn (e ∷ es) (f ∷ fs) x ⊎ GoesOn (f ∷ fs) (e ∷ es) y) [
       | inl long ↦ inl (ap suc long)
       | inr (inl g) ↦ inr (inl (on e f es fs x cut.0 g))

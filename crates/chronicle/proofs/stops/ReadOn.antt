@@ -1,5 +1,6 @@
 -- Reading a text line by line.
-use Rattle.std.proofs.Common.{◌≡◌, ℕ, zero, suc, ◌+◌, ◌≤◌, List, [], ◌∷◌, ◌++◌, map, length, take, Option, Some, None, refl, sym, ap, subst, ◌∙◌, arith, append_assoc, append-nil, length-append}
+use Rattle.std.proofs.Common.{◌≡◌, ℕ, zero, suc, ◌+◌, ◌≤◌, List, [], ◌∷◌, ◌++◌, map, length, take, Option, Some, None}
+use Rattle.std.proofs.Common.{refl, sym, ap, subst, ◌∙◌, arith, append_assoc, append-nil, length-append}
 use Rattle.std.proofs.lemmas.Bool.{eqb-true}
 use Rattle.std.specs.List.{AllByRecursion}
 use Rattle.std.specs.Prelude.{IfSome}
@@ -21,13 +22,22 @@ use Rattle.chronicle.proofs.stops.Stops.{NoneFollows, bad_line, entries_text, te
 
 -- ---- the first line of a text
 
-cut_at : (text later : List ℕ) (end : ℕ) → NoFeed text → IsFirstByte (is_byte 10) (text ++ (10 ∷ later)) (Some end) → take (suc end) (text ++ (10 ∷ later)) ≡ text ++ (10 ∷ [])
+cut_at : (text later : List ℕ) (end : ℕ) → NoFeed text → IsFirstByte (is_byte 10) (text ++ (10 ∷ later)) (Some end)
+    → take (suc end) (text ++ (10 ∷ later)) ≡ text ++ (10 ∷ [])
 cut_at [] later zero none found = refl
 cut_at [] later (suc end) none found = absurd (found.0.before 0 (omega arith) (omega arith) refl)
 cut_at (b ∷ text) later zero none found = absurd (none.0 (eqb-true b 10 found.1))
 cut_at (b ∷ text) later (suc end) none found =
     let inside = found.0.high in
-    ap (λ t. b ∷ t) (cut_at text later end none.1 (record { low = omega arith; high = omega arith; before = λ k l m p. found.0.before (suc k) (omega arith) (omega arith) p }, found.1))
+    ap (λ t. b ∷ t) (cut_at text later end none.1 (
+      record {
+        low = omega arith;
+        high = omega arith;
+        before =
+            λ k l m p. found.0.before (suc k) (omega arith) (omega arith) p;
+      },
+      found.1,
+    ))
 
 none_left : (text later : List ℕ) → Nowhere (Passes (is_byte 10) (text ++ (10 ∷ later))) 0 (length (text ++ (10 ∷ later))) → ⊥
 none_left [] later none = none 0 (omega arith) (omega arith) refl
@@ -37,7 +47,9 @@ spelled : (e : Entry) (rest later : List ℕ) → rest ≡ entry_line e ++ later
 spelled e rest later at = at ∙ ap (λ l. l ++ later) (line_is e) ∙ append_assoc (said e) (10 ∷ []) later
 
 -- a line that stands in front is all up to the first line feed
-first_line : (e : Entry) (rest later line : List ℕ) (end : ℕ) → IsEntryValue e → IsFirstByte (is_byte 10) rest (Some end) → line ≡ take (suc end) rest → rest ≡ entry_line e ++ later → entry_line e ≡ line
+first_line : (e : Entry) (rest later line : List ℕ) (end : ℕ) → IsEntryValue e
+    → IsFirstByte (is_byte 10) rest (Some end) → line ≡ take (suc end) rest → rest ≡ entry_line e ++ later
+    → entry_line e ≡ line
 first_line e rest later line end value found is at =
     let words = spelled e rest later at in
     let here : IsFirstByte (is_byte 10) (said e ++ (10 ∷ later)) (Some end) = subst (λ (t : List ℕ). IsFirstByte (is_byte 10) t (Some end)) words found in
@@ -45,13 +57,16 @@ first_line e rest later line end value found is at =
 
 -- ---- none follows
 
-pub none_unread : (d : ChronicleDraft) (rest line : List ℕ) (end : ℕ) → IsFirstByte (is_byte 10) rest (Some end) → line ≡ take (suc end) rest → Says line None → NoneFollows d rest
+pub none_unread : (d : ChronicleDraft) (rest line : List ℕ) (end : ℕ) → IsFirstByte (is_byte 10) rest (Some end)
+    → line ≡ take (suc end) rest → Says line None → NoneFollows d rest
 none_unread d rest line end found is says e later value may at = says e value (first_line e rest later line end value found is at)
 
 same_entry : (e f : Entry) (line : List ℕ) → IsEntryValue e → IsEntryValue f → entry_line e ≡ line → entry_line f ≡ line → e ≡ f
 same_entry e f line h k same also = (one_front e f [] [] h k (ap (λ t. t ++ []) (same ∙ sym also))).0
 
-pub none_next : (d : ChronicleDraft) (rest line : List ℕ) (end : ℕ) (f : Entry) → IsFirstByte (is_byte 10) rest (Some end) → line ≡ take (suc end) rest → Says line (Some f) → next d f ≡ None → NoneFollows d rest
+pub none_next : (d : ChronicleDraft) (rest line : List ℕ) (end : ℕ) (f : Entry)
+    → IsFirstByte (is_byte 10) rest (Some end) → line ≡ take (suc end) rest → Says line (Some f) → next d f ≡ None
+    → NoneFollows d rest
 none_next d rest line end f found is says none e later value may at =
     let same = same_entry e f line value says.1 (first_line e rest later line end value found is at) says.0 in
     may (ap (next d) same ∙ none)
@@ -71,7 +86,8 @@ pub record Reads (d : ChronicleDraft) (text rest : List ℕ) (n : ℕ) : Type 0 
   pub number : n ≡ suc (length (taken d))
 
 text_of_lines_last : (es : List Entry) (e : Entry) → text_of_lines (map entry_line (es ++ (e ∷ []))) ≡ text_of_lines (map entry_line es) ++ entry_line e
-text_of_lines_last es e = ap text_of_lines (map_more es (e ∷ [])) ∙ text_of_lines_more (map entry_line es) (entry_line e ∷ []) ∙ ap (λ t. text_of_lines (map entry_line es) ++ t) (append-nil (entry_line e))
+text_of_lines_last es e = ap text_of_lines (map_more es (e ∷ [])) ∙ text_of_lines_more (map entry_line es)
+    (entry_line e ∷ []) ∙ ap (λ t. text_of_lines (map entry_line es) ++ t) (append-nil (entry_line e))
 
 value_last : (es : List Entry) (e : Entry) → AllByRecursion IsEntryValue es → IsEntryValue e → AllByRecursion IsEntryValue (es ++ (e ∷ []))
 value_last [] e h v = (v, tt)
@@ -85,7 +101,8 @@ read_start text d h none = record {
   number = ap (λ (es : List Entry). suc (length es)) (sym none);
 }
 
-grown : (d f : ChronicleDraft) (e : Entry) (text rest line more : List ℕ) (n : ℕ) → Reads d text rest n → Says line (Some e) → rest ≡ line ++ more → IsDraft f × (taken f ≡ taken d ++ (e ∷ [])) → Reads f text more (n + 1)
+grown : (d f : ChronicleDraft) (e : Entry) (text rest line more : List ℕ) (n : ℕ) → Reads d text rest n
+    → Says line (Some e) → rest ≡ line ++ more → IsDraft f × (taken f ≡ taken d ++ (e ∷ [])) → Reads f text more (n + 1)
 grown d f e text rest line more n r says cut h =
     let es = taken d in
     let whole = text_of_lines (map entry_line es) in
@@ -97,9 +114,12 @@ grown d f e text rest line more n r says cut h =
       number = let number = r.number in let long = ap (λ (t : List Entry). length t) h.1 in omega (arith, number, long, length-append es (e ∷ []));
     }
 
-pub read_on : (d f : ChronicleDraft) (e : Entry) (text rest line more : List ℕ) (n : ℕ) → Reads d text rest n → Says line (Some e) → rest ≡ line ++ more → Some f ≡ next d e → Reads f text more (n + 1)
+pub read_on : (d f : ChronicleDraft) (e : Entry) (text rest line more : List ℕ) (n : ℕ) → Reads d text rest n
+    → Says line (Some e) → rest ≡ line ++ more → Some f ≡ next d e → Reads f text more (n + 1)
 read_on d f e text rest line more n r says cut goes =
-    grown d f e text rest line more n r says cut (subst (λ (o : Option ChronicleDraft). IfSome o (λ g. IsDraft g × (taken g ≡ taken d ++ (e ∷ [])))) (sym goes) (next_draft d e r.drafted says.1))
+    grown d f e text rest line more n r says cut
+    (subst (λ (o : Option ChronicleDraft). IfSome o (λ g. IsDraft g × (taken g ≡ taken d ++ (e ∷ [])))) (sym goes)
+    (next_draft d e r.drafted says.1))
 
 -- so many lines fit
 pub few_lines : (d : ChronicleDraft) (text rest : List ℕ) (n : ℕ) → Reads d text rest n → n + n ≤ length text + 2
@@ -112,7 +132,9 @@ pub stop_here : (d : ChronicleDraft) (text rest : List ℕ) (n : ℕ) → Reads 
 stop_here d text rest n r none unended = bad_line d text rest n r.drafted r.values r.number r.cut none unended
 
 pub read_all : (c : Chronicle Op Reply) (text rest : List ℕ) (n : ℕ) → Reads (Whole c) text rest n → rest ≡ [] → dump_text c ≡ text
-read_all c text rest n r none = entries_text c ∙ sym (r.cut ∙ ap (λ t. text_of_lines (map entry_line (entries c)) ++ t) none ∙ append-nil (text_of_lines (map entry_line (entries c))))
+read_all c text rest n r none =
+    entries_text c ∙ sym (r.cut ∙ ap (λ t. text_of_lines (map entry_line (entries c)) ++ t) none ∙ append-nil
+    (text_of_lines (map entry_line (entries c))))
 
 -- where a line feed stands, something does
 pub some_rest : (rest : List ℕ) (end : ℕ) → IsFirstByte (is_byte 10) rest (Some end) → rest ≡ [] → ⊥

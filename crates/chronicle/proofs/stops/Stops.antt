@@ -1,5 +1,6 @@
 -- Where reading stops, in the words of the lines of a dump.
-use Rattle.std.proofs.Common.{◌≡◌, ℕ, suc, ◌+◌, ◌≤◌, ◌==◌, true, false, cond, List, [], ◌∷◌, ◌++◌, map, length, None, refl, sym, ap, ap₂, subst, ◌∙◌, arith, append_assoc, append-nil, length-append}
+use Rattle.std.proofs.Common.{◌≡◌, ℕ, suc, ◌+◌, ◌≤◌, ◌==◌, true, false, cond, List, [], ◌∷◌, ◌++◌, map, length, None}
+use Rattle.std.proofs.Common.{refl, sym, ap, ap₂, subst, ◌∙◌, arith, append_assoc, append-nil, length-append}
 use Rattle.std.specs.List.{flat_map, AllByRecursion}
 use Rattle.ballot.specs.Members.{IsMembers}
 use Rattle.object.specs.declared.command.Answer.{Answer}
@@ -21,7 +22,8 @@ use Rattle.chronicle.specs.Happenings.Happening.{Submitted as WasSubmitted, Answ
 use Rattle.chronicle.specs.Lines.{text_of_lines}
 use Rattle.chronicle.specs.Reading.{dump_lines, BeginsDump, IsBadLine}
 use Rattle.chronicle.specs.Values.{IsChronicleValue, IsCommandValue, IsAnswerValue, IsKeyValue}
-use Rattle.chronicle.proofs.stops.Drafted.{happened, head_entries, head, after_head, tail_entries, entries, taken, IsDraft, IsWhole, whole, whole_value, whole_begins, follows, all_read}
+use Rattle.chronicle.proofs.stops.Drafted.{happened, head_entries, head, after_head, tail_entries, entries, taken}
+use Rattle.chronicle.proofs.stops.Drafted.{IsDraft, IsWhole, whole, whole_value, whole_begins, follows, all_read}
 use Rattle.chronicle.proofs.spelling.EntryLines.{one_front, line_long}
 use Rattle.chronicle.proofs.texts.LineLists.{to_right}
 use Rattle.chronicle.proofs.spelling.ValueLists.{all_both}
@@ -32,7 +34,9 @@ order_lines : (order : List Key) → map entry_line (map Placed order ++ (End �
 order_lines [] = refl
 order_lines (key ∷ order) = ap (λ t. order_line key ∷ t) (order_lines order)
 
-tail_lines : (hs : List (Happening Op Reply)) (order : List Key) → map entry_line ((map happened hs ++ map Placed order) ++ (End ∷ [])) ≡ map happening_line hs ++ (map order_line order ++ (end_line ∷ []))
+tail_lines : (hs : List (Happening Op Reply)) (order : List Key)
+    → map entry_line ((map happened hs ++ map Placed order) ++ (End ∷ []))
+    ≡ map happening_line hs ++ (map order_line order ++ (end_line ∷ []))
 tail_lines [] order = order_lines order
 tail_lines (WasSubmitted c ∷ hs) order = ap (λ t. submission_line c ∷ t) (tail_lines hs order)
 tail_lines (WasAnswered a ∷ hs) order = ap (λ t. answer_line a ∷ t) (tail_lines hs order)
@@ -64,7 +68,9 @@ text_is c =
     let hs = happenings c.submitted c.answers in
     to_right (text_of_lines (head_lines c.members)) (flat_map happening_line hs) (flat_map order_line c.order) end_line
     ∙ ap (λ t. text_of_lines (head_lines c.members) ++ t)
-    (ap (λ t. flat_map happening_line hs ++ t) (ap (λ t. flat_map order_line c.order ++ t) (sym (append-nil end_line)) ∙ sym (join_map order_line c.order (end_line ∷ [])))
+    (ap (λ t. flat_map happening_line hs ++ t)
+    (ap (λ t. flat_map order_line c.order ++ t) (sym (append-nil end_line)) ∙ sym
+    (join_map order_line c.order (end_line ∷ [])))
     ∙ sym (join_map happening_line hs (map order_line c.order ++ (end_line ∷ []))))
     ∙ sym (text_of_lines_more (head_lines c.members) (map happening_line hs ++ (map order_line c.order ++ (end_line ∷ []))))
 
@@ -73,7 +79,9 @@ entries_text c = text_is c ∙ ap text_of_lines (sym (lines_are c))
 
 -- ---- they are values
 
-values_came : (given : ℕ) (submitted : List (Submission Op)) → AllByRecursion (λ (s : Submission Op). IsCommandValue s.command) submitted → AllByRecursion (λ (s : Submission Op). IsCommandValue s.command) (came_at given submitted)
+values_came : (given : ℕ) (submitted : List (Submission Op))
+    → AllByRecursion (λ (s : Submission Op). IsCommandValue s.command) submitted
+    → AllByRecursion (λ (s : Submission Op). IsCommandValue s.command) (came_at given submitted)
 values_came given [] h = tt
 values_came given (s ∷ rest) h =
     elim (s.after == given) as (λ b. AllByRecursion (λ (s : Submission Op). IsCommandValue s.command) (cond b (s ∷ came_at given rest) (came_at given rest))) [
@@ -81,14 +89,19 @@ values_came given (s ∷ rest) h =
       | false ↦ values_came given rest h.1
     ]
 
-values_each : (came : List (Submission Op)) → AllByRecursion (λ (s : Submission Op). IsCommandValue s.command) came → AllByRecursion (λ h. IsEntryValue (happened h)) (map (λ (s : Submission Op). WasSubmitted s.command) came)
+values_each : (came : List (Submission Op)) → AllByRecursion (λ (s : Submission Op). IsCommandValue s.command) came
+    → AllByRecursion (λ h. IsEntryValue (happened h)) (map (λ (s : Submission Op). WasSubmitted s.command) came)
 values_each [] h = tt
 values_each (s ∷ came) h = (h.0, values_each came h.1)
 
-happening_values : (given : ℕ) (submitted : List (Submission Op)) (answers : List (Answer Reply)) → AllByRecursion (λ (s : Submission Op). IsCommandValue s.command) submitted → AllByRecursion IsAnswerValue answers → AllByRecursion (λ h. IsEntryValue (happened h)) (happenings_from given submitted answers)
+happening_values : (given : ℕ) (submitted : List (Submission Op)) (answers : List (Answer Reply))
+    → AllByRecursion (λ (s : Submission Op). IsCommandValue s.command) submitted → AllByRecursion IsAnswerValue answers
+    → AllByRecursion (λ h. IsEntryValue (happened h)) (happenings_from given submitted answers)
 happening_values given submitted [] h k = values_each (came_at given submitted) (values_came given submitted h)
 happening_values given submitted (a ∷ later) h k =
-    all_both (λ x. IsEntryValue (happened x)) (moment given submitted) (WasAnswered a ∷ happenings_from (suc given) submitted later) (values_each (came_at given submitted) (values_came given submitted h))
+    all_both (λ x. IsEntryValue (happened x)) (moment given submitted)
+    (WasAnswered a ∷ happenings_from (suc given) submitted later)
+    (values_each (came_at given submitted) (values_came given submitted h))
     (k.0, happening_values (suc given) submitted later h k.1)
 
 happened_values : (hs : List (Happening Op Reply)) → AllByRecursion (λ h. IsEntryValue (happened h)) hs → AllByRecursion IsEntryValue (map happened hs)
@@ -109,7 +122,9 @@ entry_values c v =
     subst (AllByRecursion IsEntryValue) (sym (after_head c (End ∷ [])))
     (all_both IsEntryValue (head c.members) (tail_entries c) (head_values (version_of c.members) c.members v.chronicle.members)
     (all_both IsEntryValue (hs ++ map Placed c.order) (End ∷ [])
-    (all_both IsEntryValue hs (map Placed c.order) (happened_values (happenings c.submitted c.answers) (happening_values 0 c.submitted c.answers v.submitted v.answers)) (placed_values c.order v.order))
+    (all_both IsEntryValue hs (map Placed c.order)
+    (happened_values (happenings c.submitted c.answers)
+    (happening_values 0 c.submitted c.answers v.submitted v.answers)) (placed_values c.order v.order))
     (tt, tt)))
 
 -- ---- entries, from their lines
@@ -135,7 +150,8 @@ cons_parts x y xs ys same = let first : x ≡ y = cc in let rest : xs ≡ ys = c
 same_line : (x y : Entry) → IsEntryValue x → IsEntryValue y → entry_line x ≡ entry_line y → x ≡ y
 same_line x y h k same = (one_front x y [] [] h k (ap (λ t. t ++ []) same)).0
 
-unmap : (xs ys : List Entry) (line : List ℕ) (later : List (List ℕ)) → AllByRecursion IsEntryValue xs → AllByRecursion IsEntryValue ys → map entry_line xs ≡ map entry_line ys ++ (line ∷ later) → NextEntry xs ys line
+unmap : (xs ys : List Entry) (line : List ℕ) (later : List (List ℕ)) → AllByRecursion IsEntryValue xs
+    → AllByRecursion IsEntryValue ys → map entry_line xs ≡ map entry_line ys ++ (line ∷ later) → NextEntry xs ys line
 unmap [] [] line later h k same = absurd (no_front line later same)
 unmap (x ∷ xs) [] line later h k same =
     record { entry = x; rest = xs; is = refl; says = (cons_parts (entry_line x) line (map entry_line xs) later same).0; value = h.0 }
@@ -162,11 +178,13 @@ no_line y text rest same =
     let e = ap length same in
     omega (arith, e, length-append (entry_line y ++ text) rest, length-append (entry_line y) text, line_long y)
 
-unjoin : (xs ys : List Entry) (rest : List ℕ) → AllByRecursion IsEntryValue xs → AllByRecursion IsEntryValue ys → text_of_lines (map entry_line xs) ≡ text_of_lines (map entry_line ys) ++ rest → MoreEntries xs ys rest
+unjoin : (xs ys : List Entry) (rest : List ℕ) → AllByRecursion IsEntryValue xs → AllByRecursion IsEntryValue ys
+    → text_of_lines (map entry_line xs) ≡ text_of_lines (map entry_line ys) ++ rest → MoreEntries xs ys rest
 unjoin xs [] rest h k same = record { more = xs; is = refl; says = sym same; values = h }
 unjoin [] (y ∷ ys) rest h k same = absurd (no_line y (text_of_lines (map entry_line ys)) rest same)
 unjoin (x ∷ xs) (y ∷ ys) rest h k same =
-    let cut = one_front x y (text_of_lines (map entry_line xs)) (text_of_lines (map entry_line ys) ++ rest) h.0 k.0 (same ∙ append_assoc (entry_line y) (text_of_lines (map entry_line ys)) rest) in
+    let cut = one_front x y (text_of_lines (map entry_line xs)) (text_of_lines (map entry_line ys) ++ rest) h.0 k.0
+    (same ∙ append_assoc (entry_line y) (text_of_lines (map entry_line ys)) rest) in
     let r = unjoin xs ys rest h.1 k.1 cut.1 in
     record { more = r.more; is = ap₂ (λ (a : Entry) as'. a ∷ as') cut.0 r.is; says = r.says; values = r.values }
 
@@ -185,23 +203,31 @@ begins d h =
       begins = (map entry_line left.0, sym (lines_are (whole d)) ∙ ap (map entry_line) left.1 ∙ map_more (taken d) left.0);
     }
 
-stops : (d : ChronicleDraft) (rest line later : List ℕ) → IsDraft d → AllByRecursion IsEntryValue (taken d) → NoneFollows d rest → rest ≡ line ++ later → BeginsDump (map entry_line (taken d) ++ (line ∷ [])) → ⊥
+stops : (d : ChronicleDraft) (rest line later : List ℕ) → IsDraft d → AllByRecursion IsEntryValue (taken d)
+    → NoneFollows d rest → rest ≡ line ++ later → BeginsDump (map entry_line (taken d) ++ (line ∷ [])) → ⊥
 stops d rest line later h values none at b =
     let c = b.chronicle in
-    let same : map entry_line (entries c) ≡ map entry_line (taken d) ++ (line ∷ b.begins.0) = lines_are c ∙ b.begins.1 ∙ append_assoc (map entry_line (taken d)) (line ∷ []) b.begins.0 in
+    let same : map entry_line (entries c) ≡ map entry_line (taken d) ++ (line ∷ b.begins.0) =
+    lines_are c ∙ b.begins.1 ∙ append_assoc (map entry_line (taken d)) (line ∷ []) b.begins.0 in
     let r = unmap (entries c) (taken d) line b.begins.0 (entry_values c b.is_value) values same in
     none r.entry later r.value (follows d r.entry r.rest c h r.is) (at ∙ ap (λ l. l ++ later) (sym r.says))
 
-ended : (d : ChronicleDraft) (c : Chronicle Op Reply) (rest : List ℕ) (later : List Entry) → IsDraft d → NoneFollows d rest → (rest ≡ [] → IsWhole d → ⊥) → entries c ≡ taken d ++ later → rest ≡ text_of_lines (map entry_line later) → AllByRecursion IsEntryValue later → ⊥
+ended : (d : ChronicleDraft) (c : Chronicle Op Reply) (rest : List ℕ) (later : List Entry) → IsDraft d
+    → NoneFollows d rest → (rest ≡ [] → IsWhole d → ⊥) → entries c ≡ taken d ++ later
+    → rest ≡ text_of_lines (map entry_line later) → AllByRecursion IsEntryValue later → ⊥
 ended d c rest [] h none unended same says values = unended says (all_read d c (same ∙ append-nil (taken d)))
 ended d c rest (e ∷ later) h none unended same says values = none e (text_of_lines (map entry_line later)) values.0 (follows d e later c h same) says
 
-unfinished : (d : ChronicleDraft) (text rest : List ℕ) (c : Chronicle Op Reply) → IsDraft d → AllByRecursion IsEntryValue (taken d) → NoneFollows d rest → (rest ≡ [] → IsWhole d → ⊥) → text ≡ text_of_lines (map entry_line (taken d)) ++ rest → IsChronicleValue c → dump_text c ≡ text → ⊥
+unfinished : (d : ChronicleDraft) (text rest : List ℕ) (c : Chronicle Op Reply) → IsDraft d
+    → AllByRecursion IsEntryValue (taken d) → NoneFollows d rest → (rest ≡ [] → IsWhole d → ⊥)
+    → text ≡ text_of_lines (map entry_line (taken d)) ++ rest → IsChronicleValue c → dump_text c ≡ text → ⊥
 unfinished d text rest c h values none unended cut v same =
     let r = unjoin (entries c) (taken d) rest (entry_values c v) values (sym (entries_text c) ∙ same ∙ cut) in
     ended d c rest r.more h none unended r.is r.says r.values
 
-pub bad_line : (d : ChronicleDraft) (text rest : List ℕ) (n : ℕ) → IsDraft d → AllByRecursion IsEntryValue (taken d) → n ≡ suc (length (taken d)) → text ≡ text_of_lines (map entry_line (taken d)) ++ rest → NoneFollows d rest → (rest ≡ [] → IsWhole d → ⊥) → IsBadLine n text
+pub bad_line : (d : ChronicleDraft) (text rest : List ℕ) (n : ℕ) → IsDraft d → AllByRecursion IsEntryValue (taken d)
+    → n ≡ suc (length (taken d)) → text ≡ text_of_lines (map entry_line (taken d)) ++ rest → NoneFollows d rest
+    → (rest ≡ [] → IsWhole d → ⊥) → IsBadLine n text
 bad_line d text rest n h values number cut none unended = record {
   before = map entry_line (taken d);
   rest = rest;

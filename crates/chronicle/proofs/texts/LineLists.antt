@@ -1,5 +1,6 @@
 -- A dump as lines of words, and back.
-use Rattle.std.proofs.Common.{◌≡◌, ℕ, List, [], ◌∷◌, ◌++◌, map, length, replicate, bytes_eq, refl, sym, ap, ap₂, ◌∙◌, arith, append_assoc, append-nil, length-append, codes, decimal}
+use Rattle.std.proofs.Common.{◌≡◌, ℕ, List, [], ◌∷◌, ◌++◌, map, length, replicate, bytes_eq, refl, sym, ap, ap₂, ◌∙◌}
+use Rattle.std.proofs.Common.{arith, append_assoc, append-nil, length-append, codes, decimal}
 use Rattle.std.specs.Prelude.{if◌then◌else◌}
 use Rattle.std.specs.List.{flat_map, AllByRecursion}
 use Rattle.std.proofs.lemmas.Grind.{flat_map-append}
@@ -13,7 +14,8 @@ use Rattle.chronicle.specs.declared.version.Version.{Version}
 use Rattle.chronicle.specs.declared.version.Version.TheVariants.{One, Two}
 use Rattle.chronicle.specs.Acts.{act_words}
 use Rattle.recorder.specs.Chronicles.{Chronicle}
-use Rattle.chronicle.specs.Dump.{submission_line, answer_line, order_line, happening_line, version_word, version_line, members_line, weights_line, version_of, head_of, head_lines, end_line, dump_text}
+use Rattle.chronicle.specs.Dump.{submission_line, answer_line, order_line, happening_line, version_word, version_line}
+use Rattle.chronicle.specs.Dump.{members_line, weights_line, version_of, head_of, head_lines, end_line, dump_text}
 use Rattle.chronicle.specs.Fits.{FitsKey, FitsCommand, FitsAnswer}
 use Rattle.chronicle.specs.Happenings.{Happening, happenings}
 use Rattle.chronicle.specs.Happenings.Happening.{Submitted, Answered}
@@ -92,7 +94,8 @@ unfolding order_line
 order_texts [] = refl
 order_texts (key ∷ order) = ap (λ t. order_line key ++ t) (order_texts order)
 
-tail_texts : (hs : List (Happening Op Reply)) (order : List Key) → flat_map text (tail_lines hs order) ≡ flat_map happening_line hs ++ (flat_map order_line order ++ end_line)
+tail_texts : (hs : List (Happening Op Reply)) (order : List Key)
+    → flat_map text (tail_lines hs order) ≡ flat_map happening_line hs ++ (flat_map order_line order ++ end_line)
 unfolding end_line
 tail_texts hs order =
     flat_map-append text (map happening_words hs) (map order_words order ++ (end_words ∷ []))
@@ -114,7 +117,8 @@ unfolding dump_text
 dump_is c =
     let hs = happenings c.submitted c.answers in
     to_right (text_of_lines (head_lines c.members)) (flat_map happening_line hs) (flat_map order_line c.order) end_line
-    ∙ sym (flat_map-append text (head_words (version_of c.members) c.members) (tail_lines hs c.order) ∙ ap₂ (λ a b. a ++ b) (head_texts (version_of c.members) c.members) (tail_texts hs c.order))
+    ∙ sym (flat_map-append text (head_words (version_of c.members) c.members) (tail_lines hs c.order) ∙ ap₂
+    (λ a b. a ++ b) (head_texts (version_of c.members) c.members) (tail_texts hs c.order))
 
 -- ---- and back
 
@@ -215,7 +219,8 @@ happening_plain : (h : Happening Op Reply) → FitsHappening h → PlainLine (ha
 happening_plain (Submitted c) h = (by_test (codes "S") refl, (number_plain c.key.session h.0.0, (number_plain c.key.number h.0.1, act_plain c.act h.1)))
 happening_plain (Answered a) h = (by_test (codes "A") refl, (number_plain a.to.session h.0.0, (number_plain a.to.number h.0.1, reply_plain a.reply h.1)))
 
-tail_plain : (hs : List (Happening Op Reply)) (order : List Key) → AllByRecursion FitsHappening hs → AllByRecursion FitsKey order → AllByRecursion PlainLine (tail_lines hs order)
+tail_plain : (hs : List (Happening Op Reply)) (order : List Key) → AllByRecursion FitsHappening hs
+    → AllByRecursion FitsKey order → AllByRecursion PlainLine (tail_lines hs order)
 tail_plain [] [] h k = ((by_test (codes "end") refl, tt), tt)
 tail_plain [] (key ∷ order) h k = ((by_test (codes "O") refl, (number_plain key.session k.0.0, (number_plain key.number k.0.1, tt))), tail_plain [] order h k.1)
 tail_plain (x ∷ hs) order h k = (happening_plain x h.0, tail_plain hs order h.1 k)
@@ -227,6 +232,10 @@ head_plain Two ws h = (
   ((by_test (codes "members") refl, (count_plain ws h, tt)), ((by_test (codes "weights") refl, weights_plain ws h), tt)),
 )
 
-pub lines_plain : (c : Chronicle Op Reply) → IsMembers c.members → AllByRecursion FitsHappening (happenings c.submitted c.answers) → AllByRecursion FitsKey c.order → AllByRecursion PlainLine (lines c)
+pub lines_plain : (c : Chronicle Op Reply) → IsMembers c.members
+    → AllByRecursion FitsHappening (happenings c.submitted c.answers) → AllByRecursion FitsKey c.order
+    → AllByRecursion PlainLine (lines c)
 lines_plain c m h k =
-    all_both PlainLine (head_words (version_of c.members) c.members) (tail_lines (happenings c.submitted c.answers) c.order) (head_plain (version_of c.members) c.members m) (tail_plain (happenings c.submitted c.answers) c.order h k)
+    all_both PlainLine (head_words (version_of c.members) c.members)
+    (tail_lines (happenings c.submitted c.answers) c.order) (head_plain (version_of c.members) c.members m)
+    (tail_plain (happenings c.submitted c.answers) c.order h k)

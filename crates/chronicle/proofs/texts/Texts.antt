@@ -1,5 +1,6 @@
 -- The lines for what happened, taken submission by submission.
-use Rattle.std.proofs.Common.{◌≡◌, ℕ, ◌+◌, ◌-◌, ◌≤◌, List, [], ◌∷◌, ◌++◌, map, length, take, drop, sym, ap, ◌∙◌, arith, append_assoc, length-append, length-drop}
+use Rattle.std.proofs.Common.{◌≡◌, ℕ, ◌+◌, ◌-◌, ◌≤◌, List, [], ◌∷◌, ◌++◌, map, length, take, drop, sym, ap, ◌∙◌, arith}
+use Rattle.std.proofs.Common.{append_assoc, length-append, length-drop}
 use Rattle.std.proofs.Math.Seq.{take-append_seam}
 use Rattle.std.proofs.lemmas.List.{take-take, drop-drop}
 use Rattle.std.proofs.lemmas.List.Folds.{flat_map-map}
@@ -27,9 +28,11 @@ pub told : (answers : List (Answer Reply)) → flat_map happening_line (map Answ
 told answers = flat_map-map happening_line Answered answers
 
 -- The lines from a submission on: those of the answers before it, its own, and the rest.
-pub lines_from : (low : ℕ) (s : Submission Op) (rest : List (Submission Op)) (answers : List (Answer Reply)) → ComeBetween low (length answers) (s ∷ rest) → low ≤ s.after → s.after ≤ length answers →
+pub lines_from : (low : ℕ) (s : Submission Op) (rest : List (Submission Op)) (answers : List (Answer Reply))
+    → ComeBetween low (length answers) (s ∷ rest) → low ≤ s.after → s.after ≤ length answers →
     flat_map happening_line (happenings_from low (s ∷ rest) (drop low answers))
-    ≡ flat_map answer_line (take (s.after - low) (drop low answers)) ++ (submission_line s.command ++ flat_map happening_line (happenings_from s.after rest (drop s.after answers)))
+    ≡ flat_map answer_line (take (s.after - low) (drop low answers)) ++
+    (submission_line s.command ++ flat_map happening_line (happenings_from s.after rest (drop s.after answers)))
 lines_from low s rest answers between least most =
     let n : ℕ = s.after - low in
     let at : low + n ≡ s.after = omega arith in
@@ -38,13 +41,15 @@ lines_from low s rest answers between least most =
     let before = take n (drop low answers) in
     let later = happenings_from s.after rest (drop s.after answers) in
     let tail : happenings_from (low + n) (s ∷ rest) (drop n (drop low answers)) ≡ Submitted s.command ∷ later =
-    ap (λ d. happenings_from (low + n) (s ∷ rest) d) (drop-drop n low answers) ∙ ap (λ k. happenings_from k (s ∷ rest) (drop k answers)) at ∙ comes s rest (drop s.after answers) in
+    ap (λ d. happenings_from (low + n) (s ∷ rest) d) (drop-drop n low answers) ∙ ap
+    (λ k. happenings_from k (s ∷ rest) (drop k answers)) at ∙ comes s rest (drop s.after answers) in
     ap (flat_map happening_line) (answers_first n low (s ∷ rest) (drop low answers) above enough ∙ ap (λ t. map Answered before ++ t) tail)
     ∙ flat_map-append happening_line (map Answered before) (Submitted s.command ∷ later)
     ∙ ap (λ t. t ++ (submission_line s.command ++ flat_map happening_line later)) (told before)
 
 -- the lines after the last submission are those of the answers
-pub lines_last : (given : ℕ) (answers : List (Answer Reply)) → flat_map happening_line (happenings_from {Op = Op} given [] answers) ≡ flat_map answer_line answers
+pub lines_last : (given : ℕ) (answers : List (Answer Reply))
+    → flat_map happening_line (happenings_from {Op = Op} given [] answers) ≡ flat_map answer_line answers
 lines_last given answers = ap (flat_map happening_line) (answers_last given answers) ∙ told answers
 
 -- a text that grew grows on

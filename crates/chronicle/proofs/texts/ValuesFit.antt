@@ -7,7 +7,9 @@ use Rattle.object.specs.declared.command.Answer.{Answer}
 use Rattle.object.specs.declared.command.Key.{Key}
 use Rattle.object.specs.declared.command.Submission.{Submission}
 use Rattle.bean_queue.specs.declared.op.Op.{Op}
-use Rattle.bean_queue.specs.declared.op.Op.TheVariants.{Put, Use, Watch, Ignore, Reserve, Delete, Touch, Release, Bury, Kick, KickJob, Peek, PeekReady, PeekDelayed, PeekBuried, ListTubes, ListTubeUsed, ListTubesWatched, Pause}
+use Rattle.bean_queue.specs.declared.op.Op.TheVariants.{Put, Use, Watch, Ignore, Reserve, Delete, Touch, Release, Bury}
+use Rattle.bean_queue.specs.declared.op.Op.TheVariants.{Kick, KickJob, Peek, PeekReady, PeekDelayed, PeekBuried}
+use Rattle.bean_queue.specs.declared.op.Op.TheVariants.{ListTubes, ListTubeUsed, ListTubesWatched, Pause}
 use Rattle.bean_queue.specs.declared.reply.Reply.{Reply}
 use Rattle.recorder.specs.Chronicles.{Chronicle}
 use Rattle.chronicle.specs.Dump.{dump_text}
@@ -48,7 +50,9 @@ act_fits (Do op) is = op_fits op is
 act_fits Close is = tt
 act_fits Tick is = tt
 
-submitted_fit : (submitted : List (Submission Op)) → AllByRecursion (λ (s : Submission Op). IsCommandValue s.command) submitted → AllByRecursion (λ (s : Submission Op). FitsCommand s.command) submitted
+submitted_fit : (submitted : List (Submission Op))
+    → AllByRecursion (λ (s : Submission Op). IsCommandValue s.command) submitted
+    → AllByRecursion (λ (s : Submission Op). FitsCommand s.command) submitted
 submitted_fit [] is = tt
 submitted_fit (s ∷ more) is = ((key_fits s.command.key is.0.0, act_fits s.command.act is.0.1), submitted_fit more is.1)
 

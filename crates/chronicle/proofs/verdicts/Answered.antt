@@ -24,7 +24,8 @@ use Rattle.chronicle.specs.declared.replay.Given.{Given}
 use Rattle.std.proofs.lemmas.Bool.{false≢true}
 
 -- where no key is answered twice, two answers to one key are one, and have one place
-pub one_place_each : (ps : List (Placed Reply)) → AnswersOnce (map (λ (p : Placed Reply). p.answer) ps) → (p q : Placed Reply) → In p ps → In q ps → p.answer.to ≡ q.answer.to → p ≡ q
+pub one_place_each : (ps : List (Placed Reply)) → AnswersOnce (map (λ (p : Placed Reply). p.answer) ps)
+    → (p q : Placed Reply) → In p ps → In q ps → p.answer.to ≡ q.answer.to → p ≡ q
 one_place_each [] once p q i j same = absurd i
 one_place_each (x ∷ ps) once p q (inl a) (inl b) same = a ∙ sym b
 one_place_each (x ∷ ps) once p q (inl a) (inr j) same =
@@ -52,10 +53,13 @@ answers (g ∷ given) p i =
     ] refl
 
 -- each answer of a replay has the place of a command
-replay_within : {S Op : Type 0} (after : S → Command Op → S) (answers : S → Command Op → List (Answer Reply)) (s : S) (n : ℕ) (cs : List (Command Op)) (p : Placed Reply) → In p (replay_from after answers s n cs) → p.place < n + length cs
+replay_within : {S Op : Type 0} (after : S → Command Op → S) (answers : S → Command Op → List (Answer Reply)) (s : S)
+    (n : ℕ) (cs : List (Command Op)) (p : Placed Reply) → In p (replay_from after answers s n cs)
+    → p.place < n + length cs
 replay_within after answers s n [] p i = absurd i
 replay_within after answers s n (c ∷ cs) p i =
-    elim (In-cases p (map (λ (a : Answer Reply). record { place = n; answer = a }) (answers s c)) (replay_from after answers (after s c) (suc n) cs) i) as (λ v. p.place < n + length (c ∷ cs)) [
+    elim (In-cases p (map (λ (a : Answer Reply). record { place = n; answer = a }) (answers s c))
+    (replay_from after answers (after s c) (suc n) cs) i) as (λ v. p.place < n + length (c ∷ cs)) [
       | inl j ↦ let here = noted (answers s c) j in omega arith
       | inr j ↦ let later = replay_within after answers (after s c) (suc n) cs p j in omega arith
     ]
@@ -77,6 +81,7 @@ fewer f (x ∷ xs) =
 -- so it is below the length of the order
 pub given_within : (c : Chronicle Op Reply) (place : ℕ) (a : Answer Reply) → IsGivenBy c place a → place < length c.order
 given_within c place a given =
-    let inside = replay_within (λ s d. (effect d s).state) (λ s d. (effect d s).answers) fresh 0 (ordered_commands c) (record { place = place; answer = a }) given in
+    let inside = replay_within (λ s d. (effect d s).state) (λ s d. (effect d s).answers) fresh 0 (ordered_commands c)
+    (record { place = place; answer = a }) given in
     let few = fewer (λ key. option_map (λ (s : Submission Op). s.command) (found submitted_key key c.submitted)) c.order in
     omega arith

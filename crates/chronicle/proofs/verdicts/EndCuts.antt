@@ -33,8 +33,10 @@ no_places c earlier key later cut = absurd (no_cut earlier key later cut)
 pub no_lines : (c : Chronicle Op Reply) → AreRightLines c []
 no_lines c earlier h later cut = absurd (no_cut earlier h later cut)
 
-pub more_places : (c : Chronicle Op Reply) (done : List Key) (key : Key) → AreRightPlaces c done → IsRightPlace c done key → AreRightPlaces c (done ++ (key ∷ []))
+pub more_places : (c : Chronicle Op Reply) (done : List Key) (key : Key) → AreRightPlaces c done
+    → IsRightPlace c done key → AreRightPlaces c (done ++ (key ∷ []))
 more_places c done key right last = more_cuts (IsRightPlace c) done key right last
 
-pub more_lines : (c : Chronicle Op Reply) (done : List (Happening Op Reply)) (h : Happening Op Reply) → AreRightLines c done → IsRightLine c done h → AreRightLines c (done ++ (h ∷ []))
+pub more_lines : (c : Chronicle Op Reply) (done : List (Happening Op Reply)) (h : Happening Op Reply)
+    → AreRightLines c done → IsRightLine c done h → AreRightLines c (done ++ (h ∷ []))
 more_lines c done h right last = more_cuts (IsRightLine c) done h right last

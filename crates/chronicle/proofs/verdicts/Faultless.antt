@@ -1,5 +1,6 @@
 -- What is legal for its order has no fault.
-use Rattle.std.proofs.Common.{◌≡◌, ◌≢◌, ℕ, zero, suc, ◌+◌, ◌<◌, ◌==◌, ◌||◌, ◌⊎◌, append-nil, Bool, true, false, cond, inl, inr, List, [], ◌∷◌, ◌++◌, map, take, Some, refl, sym, ap, subst, ◌∙◌, arith}
+use Rattle.std.proofs.Common.{◌≡◌, ◌≢◌, ℕ, zero, suc, ◌+◌, ◌<◌, ◌==◌, ◌||◌, ◌⊎◌, append-nil, Bool, true, false, cond}
+use Rattle.std.proofs.Common.{inl, inr, List, [], ◌∷◌, ◌++◌, map, take, Some, refl, sym, ap, subst, ◌∙◌, arith}
 use Rattle.std.proofs.lemmas.Bool.{false_from_ne_true, eqb-true}
 use Rattle.std.specs.List.{filter_map}
 use Rattle.std.specs.Option.{option_map}
@@ -39,7 +40,8 @@ found_once key_of [] once x i = absurd i
 found_once key_of (y ∷ ys) once x (inl same) =
     ap (λ b. cond b (Some y) (found key_of (key_of x) ys)) (same_when (key_of y) (key_of x) (ap key_of (sym same))) ∙ ap Some (sym same)
 found_once key_of (y ∷ ys) once x (inr i) =
-    ap (λ b. cond b (Some y) (found key_of (key_of x) ys)) (false_from_ne_true (same_key (key_of y) (key_of x)) (λ s. once.0 x i (sym (same_is (key_of y) (key_of x) s))))
+    ap (λ b. cond b (Some y) (found key_of (key_of x) ys))
+    (false_from_ne_true (same_key (key_of y) (key_of x)) (λ s. once.0 x i (sym (same_is (key_of y) (key_of x) s))))
     ∙ found_once key_of ys once.1 x i
 
 -- and so its key stands there
@@ -65,7 +67,8 @@ record CutAt (commands : List (Command Op)) (earlier : List Key) (key : Key) : T
   has : command.key ≡ key
   above : IsAbove key earlier
 
-cut_at : (commands : List (Command Op)) → IsRising commands → (earlier : List Key) (key : Key) (later : List Key) → keys_of commands ≡ earlier ++ (key ∷ later) → CutAt commands earlier key
+cut_at : (commands : List (Command Op)) → IsRising commands → (earlier : List Key) (key : Key) (later : List Key)
+    → keys_of commands ≡ earlier ++ (key ∷ later) → CutAt commands earlier key
 cut_at [] rises [] key later is = absurd (cc)
 cut_at [] rises (k ∷ earlier) key later is = absurd (cc)
 cut_at (d ∷ ds) rises [] key later is =
@@ -89,18 +92,23 @@ cut_at (d ∷ ds) rises (k ∷ earlier) key later is =
     }
 
 -- the commands of the keys are these commands
-commands_back : (submitted : List (Submission Op)) → SubmittedOnce submitted → (commands : List (Command Op)) → ((d : Command Op) → In d commands → WasSubmitted d submitted) →
+commands_back : (submitted : List (Submission Op)) → SubmittedOnce submitted → (commands : List (Command Op))
+    → ((d : Command Op) → In d commands → WasSubmitted d submitted) →
     filter_map (λ key. option_map (λ (s : Submission Op). s.command) (found submitted_key key submitted)) (keys_of commands) ≡ commands
 commands_back submitted once [] was = refl
 commands_back submitted once (d ∷ ds) was =
     let it = was d (inl refl) in
     let key_same : submitted_key it.0 ≡ d.key = ap (λ (e : Command Op). e.key) it.2 in
-    let at : found submitted_key d.key submitted ≡ Some it.0 = ap (λ k. found submitted_key k submitted) (sym key_same) ∙ found_once submitted_key submitted once it.0 it.1 in
+    let at : found submitted_key d.key submitted ≡ Some it.0 =
+    ap (λ k. found submitted_key k submitted) (sym key_same) ∙ found_once submitted_key submitted once it.0 it.1 in
     let rest = commands_back submitted once ds (λ e i. was e (inr i)) in
-    rw at (ap (λ (e : Command Op). e ∷ filter_map (λ key. option_map (λ (s : Submission Op). s.command) (found submitted_key key submitted)) (keys_of ds)) it.2 ∙ ap (λ t. d ∷ t) rest)
+    rw at (ap (λ (e : Command Op). e ∷ filter_map
+    (λ key. option_map (λ (s : Submission Op). s.command) (found submitted_key key submitted)) (keys_of ds)) it.2 ∙
+    ap (λ t. d ∷ t) rest)
 
 -- the command at a key's place
-command_there : (commands : List (Command Op)) (n : ℕ) (key : Key) → slice_get (keys_of commands) n ≡ Some key → (d : Command Op) × (slice_get commands n ≡ Some d) × (d.key ≡ key)
+command_there : (commands : List (Command Op)) (n : ℕ) (key : Key) → slice_get (keys_of commands) n ≡ Some key
+    → (d : Command Op) × (slice_get commands n ≡ Some d) × (d.key ≡ key)
 command_there [] n key at = absurd (cc)
 command_there (d ∷ ds) zero key at = let same : d.key ≡ key = cc in (d, refl, same)
 command_there (d ∷ ds) (suc n) key at = command_there ds n key at
@@ -129,13 +137,15 @@ came_once given (x ∷ xs) once =
       | false ↦ came_once given xs once.1
     ]
 
-no_answer : (came : List (Submission Op)) (a : Answer Reply) → In {X = Happening Op Reply} (Answered a) (map (λ (t : Submission Op). Submitted t.command) came) → ⊥
+no_answer : (came : List (Submission Op)) (a : Answer Reply)
+    → In {X = Happening Op Reply} (Answered a) (map (λ (t : Submission Op). Submitted t.command) came) → ⊥
 no_answer [] a i = i
 no_answer (t ∷ came) a (inl same) = absurd (cc)
 no_answer (t ∷ came) a (inr more) = no_answer came a more
 
 -- each answer among what happened was given
-was_given : (given : ℕ) (submitted : List (Submission Op)) (answers : List (Answer Reply)) (a : Answer Reply) → In (Answered a) (happenings_from given submitted answers) → In a answers
+was_given : (given : ℕ) (submitted : List (Submission Op)) (answers : List (Answer Reply)) (a : Answer Reply)
+    → In (Answered a) (happenings_from given submitted answers) → In a answers
 was_given given submitted [] a i = no_answer (came_at given submitted) a i
 was_given given submitted (b ∷ more) a i =
     elim (In-cases (Answered a) (moment given submitted) (Answered b ∷ happenings_from (suc given) submitted more) i) as (λ v. In a (b ∷ more)) [
@@ -161,20 +171,25 @@ module _ (submitted : List (Submission Op)) (once : SubmittedOnce submitted) whe
     where_from : In it.sub came ⊎ (given < it.sub.after)
 
   abbrev Onward : ℕ → List (Answer Reply) → List (Happening Op Reply) → Type 0
-  Onward given answers tail = (s : Command Op) (earlier later : List (Happening Op Reply)) → tail ≡ earlier ++ (Submitted s ∷ later) → Cut given answers [] s earlier
+  Onward given answers tail = (s : Command Op) (earlier later : List (Happening Op Reply))
+      → tail ≡ earlier ++ (Submitted s ∷ later) → Cut given answers [] s earlier
 
   abbrev said : List (Submission Op) → List (Happening Op Reply)
   said came = map (λ (t : Submission Op). Submitted t.command) came
 
   -- another's key is another
-  apart : (given : ℕ) (t u : Submission Op) (came : List (Submission Op)) → In t submitted → t.after ≡ given → ((v : Submission Op) → In v came → submitted_key v ≢ submitted_key t) → In u submitted → In u came ⊎ (given < u.after) → submitted_key t ≡ submitted_key u → ⊥
+  apart : (given : ℕ) (t u : Submission Op) (came : List (Submission Op)) → In t submitted → t.after ≡ given
+      → ((v : Submission Op) → In v came → submitted_key v ≢ submitted_key t) → In u submitted → In u came
+      ⊎ (given < u.after) → submitted_key t ≡ submitted_key u → ⊥
   apart given t u came i now others j (inl here) same = others u here (sym same)
   apart given t u came i now others j (inr later) same =
       let one = once_one submitted_key submitted once t u i j same in
       let then : t.after ≡ u.after = ap (λ (v : Submission Op). v.after) one in
       absurd (omega arith)
 
-  cut_moment : (given : ℕ) (answers : List (Answer Reply)) (came : List (Submission Op)) → SubmittedOnce came → ((t : Submission Op) → In t came → In t submitted × (t.after ≡ given)) → (tail : List (Happening Op Reply)) → Onward given answers tail →
+  cut_moment : (given : ℕ) (answers : List (Answer Reply)) (came : List (Submission Op)) → SubmittedOnce came
+      → ((t : Submission Op) → In t came → In t submitted × (t.after ≡ given)) → (tail : List (Happening Op Reply))
+      → Onward given answers tail →
       (s : Command Op) (earlier later : List (Happening Op Reply)) → said came ++ tail ≡ earlier ++ (Submitted s ∷ later) → Cut given answers came s earlier
   cut_moment given answers [] lone of tail onward s earlier later is = onward s earlier later is
   cut_moment given answers (t ∷ came) lone of tail onward s [] later is =
@@ -204,7 +219,8 @@ module _ (submitted : List (Submission Op)) (once : SubmittedOnce submitted) whe
             | inl same ↦ λ key.
                 let one : Submitted d ≡ Submitted t.command = same ∙ sym head in
                 let command : d ≡ t.command = cc in
-                apart given t r.it.sub came at.0 at.1 lone.0 r.it.among r.where_from (ap (λ (e : Command Op). e.key) (sym command) ∙ key ∙ ap (λ (e : Command Op). e.key) (sym r.it.is))
+                apart given t r.it.sub came at.0 at.1 lone.0 r.it.among r.where_from
+                (ap (λ (e : Command Op). e.key) (sym command) ∙ key ∙ ap (λ (e : Command Op). e.key) (sym r.it.is))
             | inr more ↦ r.it.first d more
           ];
         };
@@ -220,9 +236,12 @@ module _ (submitted : List (Submission Op)) (once : SubmittedOnce submitted) whe
 
   -- what happened is cut at a submission
   abbrev IsCut : ℕ → List (Answer Reply) → Type 0
-  IsCut given answers = (s : Command Op) (earlier later : List (Happening Op Reply)) → happenings_from given submitted answers ≡ earlier ++ (Submitted s ∷ later) → Cut given answers (came_at given submitted) s earlier
+  IsCut given answers = (s : Command Op) (earlier later : List (Happening Op Reply))
+      → happenings_from given submitted answers ≡ earlier ++ (Submitted s ∷ later)
+      → Cut given answers (came_at given submitted) s earlier
 
-  after_answer : (given : ℕ) (b : Answer Reply) (more : List (Answer Reply)) → IsCut (suc given) more → Onward given (b ∷ more) (Answered b ∷ happenings_from (suc given) submitted more)
+  after_answer : (given : ℕ) (b : Answer Reply) (more : List (Answer Reply)) → IsCut (suc given) more
+      → Onward given (b ∷ more) (Answered b ∷ happenings_from (suc given) submitted more)
   after_answer given b more again s [] later is = absurd (cc)
   after_answer given b more again s (h ∷ earlier) later is =
       let parts = happening_item (Answered b) h (happenings_from (suc given) submitted more) (earlier ++ (Submitted s ∷ later)) is in
@@ -250,15 +269,22 @@ module _ (submitted : List (Submission Op)) (once : SubmittedOnce submitted) whe
 
   cut_there : (given : ℕ) (answers : List (Answer Reply)) → IsCut given answers
   cut_there given [] s earlier later is =
-      cut_moment given [] (came_at given submitted) (came_once given submitted once) (λ t i. came_of given submitted t i) [] (nothing_more given) s earlier later (append-nil (moment given submitted) ∙ is)
+      cut_moment given [] (came_at given submitted) (came_once given submitted once)
+      (λ t i. came_of given submitted t i) [] (nothing_more given) s earlier later
+      (append-nil (moment given submitted) ∙ is)
   cut_there given (b ∷ more) s earlier later is =
-      cut_moment given (b ∷ more) (came_at given submitted) (came_once given submitted once) (λ t i. came_of given submitted t i) (Answered b ∷ happenings_from (suc given) submitted more) (after_answer given b more (cut_there (suc given) more)) s earlier later is
+      cut_moment given (b ∷ more) (came_at given submitted) (came_once given submitted once)
+      (λ t i. came_of given submitted t i) (Answered b ∷ happenings_from (suc given) submitted more)
+      (after_answer given b more (cut_there (suc given) more)) s earlier later is
 
 -- ---- what is legal has no fault
 
-module _ (same : Op → Op → Bool) (c : Chronicle Op Reply) (commands : List (Command Op)) (once : SubmittedOnce c.submitted) (keys : c.order ≡ keys_of commands) (legal : IsLegal (queue_rules same) (record { submitted = c.submitted; answers = c.answers }) commands) where
+module _ (same : Op → Op → Bool) (c : Chronicle Op Reply) (commands : List (Command Op))
+    (once : SubmittedOnce c.submitted) (keys : c.order ≡ keys_of commands)
+    (legal : IsLegal (queue_rules same) (record { submitted = c.submitted; answers = c.answers }) commands) where
   obeyed : ordered_commands c ≡ commands
-  obeyed = ap (filter_map (λ key. option_map (λ (s : Submission Op). s.command) (found submitted_key key c.submitted))) keys ∙ commands_back c.submitted once commands legal.submitted
+  obeyed = ap (filter_map (λ key. option_map (λ (s : Submission Op). s.command) (found submitted_key key c.submitted)))
+      keys ∙ commands_back c.submitted once commands legal.submitted
 
   place : (earlier : List Key) (key : Key) (later : List Key) → c.order ≡ earlier ++ (key ∷ later) → IsRightPlace c earlier key
   place earlier key later is =
@@ -270,7 +296,8 @@ module _ (same : Op → Op → Bool) (c : Chronicle Op Reply) (commands : List (
         kept = cut.above;
       }
 
-  line : (earlier : List (Happening Op Reply)) (h : Happening Op Reply) (later : List (Happening Op Reply)) → happenings c.submitted c.answers ≡ earlier ++ (h ∷ later) → IsRightLine c earlier h
+  line : (earlier : List (Happening Op Reply)) (h : Happening Op Reply) (later : List (Happening Op Reply))
+      → happenings c.submitted c.answers ≡ earlier ++ (h ∷ later) → IsRightLine c earlier h
   line earlier (Submitted s) later is =
       let r = (cut_there c.submitted once 0 c.answers s earlier later is).it in
       let now = r.now in
@@ -279,14 +306,17 @@ module _ (same : Op → Op → Bool) (c : Chronicle Op Reply) (commands : List (
         λ a i m n given at.
             let there = command_there commands n s.key (sym (ap (λ ks. slice_get ks n) keys) ∙ at) in
             let before : In a (take r.sub.after c.answers) = subst (λ (k : ℕ). In a (take k c.answers)) after (r.told a i) in
-            legal.later r.sub r.among a before m n (subst (λ cs. In (record { place = m; answer = a }) (queue_replay cs)) obeyed given) (there.0, there.1, there.2 ∙ ap (λ (e : Command Op). e.key) (sym r.is)),
+            legal.later r.sub r.among a before m n
+            (subst (λ cs. In (record { place = m; answer = a }) (queue_replay cs)) obeyed given)
+            (there.0, there.1, there.2 ∙ ap (λ (e : Command Op). e.key) (sym r.is)),
       )
   line earlier (Answered a) later is =
       let i = was_given 0 c.submitted c.answers a (subst (In (Answered a)) (sym is) (In-right (Answered a) earlier (Answered a ∷ later) (inl refl))) in
       let given = legal.answered a i in
       (given.0, subst (λ cs. In (record { place = given.0; answer = a }) (queue_replay cs)) (sym obeyed) given.1)
 
-pub legal_is_faultless : (same : Op → Op → Bool) (c : Chronicle Op Reply) (commands : List (Command Op)) → SubmittedOnce c.submitted → c.order ≡ map (λ (d : Command Op). d.key) commands →
+pub legal_is_faultless : (same : Op → Op → Bool) (c : Chronicle Op Reply) (commands : List (Command Op))
+    → SubmittedOnce c.submitted → c.order ≡ map (λ (d : Command Op). d.key) commands →
     IsLegal (queue_rules same) (record { submitted = c.submitted; answers = c.answers }) commands → IsFaultless c
 legal_is_faultless same c commands once keys legal = record {
   order = λ earlier key later is. place same c commands once keys legal earlier key later is;

@@ -1,5 +1,6 @@
 -- The place of the first item of a key.
-use Rattle.std.proofs.Common.{◌≡◌, ◌≢◌, ℕ, suc, ◌<◌, true, false, cond, ◌||◌, List, [], ◌∷◌, length, take, get_or, Option, None, Some, inl, inr, refl, sym, ap, subst, ◌∙◌, arith}
+use Rattle.std.proofs.Common.{◌≡◌, ◌≢◌, ℕ, suc, ◌<◌, true, false, cond, ◌||◌, List, [], ◌∷◌, length, take, get_or}
+use Rattle.std.proofs.Common.{Option, None, Some, inl, inr, refl, sym, ap, subst, ◌∙◌, arith}
 use Rattle.std.proofs.lemmas.Bool.{false≢true}
 use Rattle.std.proofs.lemmas.Option.{slice_get_read}
 use Rattle.std.specs.Option.{option_map}
@@ -33,7 +34,8 @@ module _ {X : Type 0} (key_of : X → Key) where
         | false ↦ λ e. no_place k xs (not_later (place_of key_of k xs) e)
       ] h
 
-  others_before : (k : Key) (x : X) (xs : List X) (i : ℕ) → same_key (key_of x) k ≡ false → ((y : X) → In y (take i xs) → key_of y ≢ k) → (y : X) → In y (x ∷ take i xs) → key_of y ≢ k
+  others_before : (k : Key) (x : X) (xs : List X) (i : ℕ) → same_key (key_of x) k ≡ false
+      → ((y : X) → In y (take i xs) → key_of y ≢ k) → (y : X) → In y (x ∷ take i xs) → key_of y ≢ k
   others_before k x xs i other before y (inl same) is = false≢true (sym other ∙ same_when (key_of x) k (ap key_of (sym same) ∙ is))
   others_before k x xs i other before y (inr more) is = before y more is
 
@@ -41,7 +43,8 @@ module _ {X : Type 0} (key_of : X → Key) where
   pub first_at : (k : Key) (xs : List X) (i : ℕ) → place_of key_of k xs ≡ Some i → IsFirst key_of k xs i
   first_at k [] i h = absurd (cc)
   first_at k (x ∷ xs) i h =
-      elim (same_key (key_of x) k) as (λ b. same_key (key_of x) k ≡ b → cond b (Some 0) (option_map suc (place_of key_of k xs)) ≡ Some i → IsFirst key_of k (x ∷ xs) i) [
+      elim (same_key (key_of x) k) as (λ b. same_key (key_of x) k ≡ b
+      → cond b (Some 0) (option_map suc (place_of key_of k xs)) ≡ Some i → IsFirst key_of k (x ∷ xs) i) [
         | true ↦ λ same e. let zeroth : 0 ≡ i = cc in subst (IsFirst key_of k (x ∷ xs)) zeroth (record {
           item = x;
           at = refl;
@@ -54,7 +57,9 @@ module _ {X : Type 0} (key_of : X → Key) where
         | false ↦ λ other e. later i other (λ n. first_at k xs n) (place_of key_of k xs) refl e
       ] refl h
     where
-      later : (i : ℕ) → same_key (key_of x) k ≡ false → ((n : ℕ) → place_of key_of k xs ≡ Some n → IsFirst key_of k xs n) → (o : Option ℕ) → place_of key_of k xs ≡ o → option_map suc o ≡ Some i → IsFirst key_of k (x ∷ xs) i
+      later : (i : ℕ) → same_key (key_of x) k ≡ false
+          → ((n : ℕ) → place_of key_of k xs ≡ Some n → IsFirst key_of k xs n) → (o : Option ℕ)
+          → place_of key_of k xs ≡ o → option_map suc o ≡ Some i → IsFirst key_of k (x ∷ xs) i
       later i other rest None is e = absurd (cc)
       later i other rest (Some n) is e =
           let next : suc n ≡ i = cc in
@@ -70,7 +75,8 @@ module _ {X : Type 0} (key_of : X → Key) where
           })
 
 -- what is read at the place is the first item
-pub read_first : {X : Type 0} (key_of : X → Key) (k : Key) (xs : List X) (i : ℕ) (x : X) → IsFirst key_of k xs i → x ≡ get_or xs i x → (found key_of k xs ≡ Some x) × (key_of x ≡ k)
+pub read_first : {X : Type 0} (key_of : X → Key) (k : Key) (xs : List X) (i : ℕ) (x : X) → IsFirst key_of k xs i
+    → x ≡ get_or xs i x → (found key_of k xs ≡ Some x) × (key_of x ≡ k)
 read_first key_of k xs i x first read =
     let one : Some first.item ≡ Some x = sym first.at ∙ slice_get_read xs (length xs) i x refl first.within read in
     let same : first.item ≡ x = cc in

@@ -9,7 +9,9 @@ use Rattle.chronicle.proofs.texts.InTime.{comes, answers_first, answers_last}
 use Rattle.chronicle.specs.Happenings.{Happening, happenings, happenings_from}
 use Rattle.chronicle.specs.Happenings.Happening.{Answered}
 
-count_from : {Op Reply : Type 0} (given high : ℕ) (submitted : List (Submission Op)) (answers : List (Answer Reply)) → given + length answers ≡ high → ComeBetween given high submitted → length (happenings_from given submitted answers) ≡ length submitted + length answers
+count_from : {Op Reply : Type 0} (given high : ℕ) (submitted : List (Submission Op)) (answers : List (Answer Reply))
+    → given + length answers ≡ high → ComeBetween given high submitted
+    → length (happenings_from given submitted answers) ≡ length submitted + length answers
 count_from given high [] answers all b = ap length (answers_last given answers) ∙ length-map answers Answered ∙ omega arith
 count_from {Op} {Reply} given high (s ∷ rest) answers all b =
     let low = least given high s rest b in
@@ -26,5 +28,9 @@ count_from {Op} {Reply} given high (s ∷ rest) answers all b =
     ∙ length-append (map Answered (take n answers)) _
     ∙ omega arith
 
-pub happenings_count : {Op Reply : Type 0} (submitted : List (Submission Op)) (answers : List (Answer Reply)) → IsTimeline (record { submitted = submitted; answers = answers }) → length (happenings submitted answers) ≡ length submitted + length answers
-happenings_count submitted answers t = count_from 0 (length answers) submitted answers (omega arith) (between_timeline (record { submitted = submitted; answers = answers }) t)
+pub happenings_count : {Op Reply : Type 0} (submitted : List (Submission Op)) (answers : List (Answer Reply))
+    → IsTimeline (record { submitted = submitted; answers = answers })
+    → length (happenings submitted answers) ≡ length submitted + length answers
+happenings_count submitted answers t =
+    count_from 0 (length answers) submitted answers (omega arith)
+    (between_timeline (record { submitted = submitted; answers = answers }) t)

@@ -1,5 +1,7 @@
 -- What has no fault is legal for its order.
-use Rattle.std.proofs.Common.{◌≡◌, ℕ, zero, suc, ◌+◌, ◌<◌, ◌≤◌, ◌==◌, Bool, true, false, cond, inl, inr, List, [], ◌∷◌, ◌++◌, map, length, take, Option, Some, refl, sym, ap, ap₂, subst, ◌∙◌, arith, append_assoc}
+use Rattle.std.proofs.Common.{◌≡◌, ℕ, zero, suc, ◌+◌, ◌<◌, ◌≤◌, ◌==◌, Bool, true, false, cond, inl, inr, List, [], ◌∷◌}
+use Rattle.std.proofs.Common.{◌++◌, map, length, take, Option, Some, refl, sym, ap, ap₂, subst, ◌∙◌, arith}
+use Rattle.std.proofs.Common.{append_assoc}
 use Rattle.std.proofs.lemmas.Bool.{and_parts, eqb-true, eq-eqb}
 use Rattle.std.specs.List.{filter_map}
 use Rattle.std.specs.Option.{option_map}
@@ -73,18 +75,22 @@ record Stands (c : Chronicle Op Reply) (order : List Key) (d : Command Op) : Typ
   among : In d.key order
   was : WasSubmitted d c.submitted
 
-submitted_at : (c : Chronicle Op Reply) (key : Key) → Here key c.submitted → (d : Command Op) → command_at c key ≡ Some d → (d.key ≡ key) × WasSubmitted d c.submitted
+submitted_at : (c : Chronicle Op Reply) (key : Key) → Here key c.submitted → (d : Command Op)
+    → command_at c key ≡ Some d → (d.key ≡ key) × WasSubmitted d c.submitted
 submitted_at c key h d same =
     let one : Some h.first.command ≡ Some d = sym (ap (option_map (λ (s : Submission Op). s.command)) h.found_it) ∙ same in
     let is : h.first.command ≡ d = cc in
     (ap (λ (e : Command Op). e.key) (sym is) ∙ h.has, (h.first, h.among, is))
 
 -- the first of them, and the others
-some_command : (c : Chronicle Op Reply) (key : Key) (rest : List Key) (h : Here key c.submitted) → commands_of c (key ∷ rest) ≡ h.first.command ∷ commands_of c rest
+some_command : (c : Chronicle Op Reply) (key : Key) (rest : List Key) (h : Here key c.submitted)
+    → commands_of c (key ∷ rest) ≡ h.first.command ∷ commands_of c rest
 some_command c key rest h = rw h.found_it refl
 
 -- a command of the order stands under a key of it, and was submitted
-in_commands : (c : Chronicle Op Reply) (order : List Key) (d : Command Op) → ((key : Key) → In key order → stands submitted_key key c.submitted ≡ true) → In d (commands_of c order) → Stands c order d
+in_commands : (c : Chronicle Op Reply) (order : List Key) (d : Command Op)
+    → ((key : Key) → In key order → stands submitted_key key c.submitted ≡ true) → In d (commands_of c order)
+    → Stands c order d
 in_commands c [] d all i = absurd i
 in_commands c (key ∷ rest) d all i =
     let h = here key c.submitted (all key (inl refl)) in
@@ -117,7 +123,9 @@ distinct (c ∷ cs) h = (
 )
 
 -- the key of the command at a place of the order
-placed_key : (c : Chronicle Op Reply) (order : List Key) (n : ℕ) (d : Command Op) → ((key : Key) → In key order → stands submitted_key key c.submitted ≡ true) → slice_get (commands_of c order) n ≡ Some d → slice_get order n ≡ Some d.key
+placed_key : (c : Chronicle Op Reply) (order : List Key) (n : ℕ) (d : Command Op)
+    → ((key : Key) → In key order → stands submitted_key key c.submitted ≡ true)
+    → slice_get (commands_of c order) n ≡ Some d → slice_get order n ≡ Some d.key
 placed_key c [] n d all at = absurd (cc)
 placed_key c (key ∷ rest) zero d all at =
     let h = here key c.submitted (all key (inl refl)) in
@@ -150,7 +158,8 @@ came_then given (t ∷ rest) s (inr more) now =
       | false ↦ came_then given rest s more now
     ]
 
-in_map : (came : List (Submission Op)) (s : Submission Op) → In s came → In {X = Happening Op Reply} (Submitted s.command) (map (λ (t : Submission Op). Submitted t.command) came)
+in_map : (came : List (Submission Op)) (s : Submission Op) → In s came
+    → In {X = Happening Op Reply} (Submitted s.command) (map (λ (t : Submission Op). Submitted t.command) came)
 in_map [] s i = absurd i
 in_map (t ∷ came) s (inl same) = inl (ap (λ (u : Submission Op). Submitted u.command) same)
 in_map (t ∷ came) s (inr more) = inr (in_map came s more)
@@ -162,14 +171,23 @@ record Then (s : Submission Op) (given : List (Answer Reply)) (hs : List (Happen
   is : hs ≡ earlier ++ (Submitted s.command ∷ later)
   told : (a : Answer Reply) → In a given → In (Answered a) earlier
 
-happens_then : (given n : ℕ) (submitted : List (Submission Op)) (answers : List (Answer Reply)) (s : Submission Op) → In s submitted → s.after ≡ given + n → n ≤ length answers → Then s (take n answers) (happenings_from given submitted answers)
+happens_then : (given n : ℕ) (submitted : List (Submission Op)) (answers : List (Answer Reply)) (s : Submission Op)
+    → In s submitted → s.after ≡ given + n → n ≤ length answers
+    → Then s (take n answers) (happenings_from given submitted answers)
 happens_then given zero submitted [] s i now few =
     let cut = split (Submitted s.command) (moment given submitted) (in_map (came_at given submitted) s (came_then given submitted s i (omega arith))) in
     record { earlier = cut.before; later = cut.after; is = cut.is; told = λ a j. absurd j }
 happens_then given zero submitted (b ∷ more) s i now few =
     let cut = split (Submitted s.command) (moment given submitted) (in_map (came_at given submitted) s (came_then given submitted s i (omega arith))) in
     let rest = Answered b ∷ happenings_from (suc given) submitted more in
-    record { earlier = cut.before; later = cut.after ++ rest; is = ap (λ t. t ++ rest) cut.is ∙ append_assoc cut.before (Submitted s.command ∷ cut.after) rest; told = λ a j. absurd j }
+    record {
+      earlier = cut.before;
+      later = cut.after ++ rest;
+      is =
+          ap (λ t. t ++ rest) cut.is ∙ append_assoc cut.before (Submitted s.command ∷ cut.after) rest;
+      told =
+          λ a j. absurd j;
+    }
 happens_then given (suc n) submitted [] s i now few = absurd (omega arith)
 happens_then given (suc n) submitted (b ∷ more) s i now few =
     let r = happens_then (suc given) n submitted more s i (omega arith) (omega arith) in
@@ -184,11 +202,15 @@ happens_then given (suc n) submitted (b ∷ more) s i now few =
       ];
     }
 
-answer_happens : (given : ℕ) (submitted : List (Submission Op)) (answers : List (Answer Reply)) (a : Answer Reply) → In a answers → In (Answered a) (happenings_from given submitted answers)
+answer_happens : (given : ℕ) (submitted : List (Submission Op)) (answers : List (Answer Reply)) (a : Answer Reply)
+    → In a answers → In (Answered a) (happenings_from given submitted answers)
 answer_happens given submitted [] a i = absurd i
-answer_happens given submitted (b ∷ more) a (inl same) = in_more (Answered a) (moment given submitted) (Answered b ∷ happenings_from (suc given) submitted more) (inl (ap Answered same))
+answer_happens given submitted (b ∷ more) a (inl same) =
+    in_more (Answered a) (moment given submitted) (Answered b ∷ happenings_from (suc given) submitted more)
+    (inl (ap Answered same))
 answer_happens given submitted (b ∷ more) a (inr later) =
-    in_more (Answered a) (moment given submitted) (Answered b ∷ happenings_from (suc given) submitted more) (inr (answer_happens (suc given) submitted more a later))
+    in_more (Answered a) (moment given submitted) (Answered b ∷ happenings_from (suc given) submitted more)
+    (inr (answer_happens (suc given) submitted more a later))
 
 -- ---- what has no fault is legal
 
@@ -198,14 +220,18 @@ all_submitted c h key i =
     let right = h.order cut.before key cut.after cut.is in
     right.submitted
 
-later_than : (c : Chronicle Op Reply) → IsChronicle c → IsFaultless c → (s : Submission Op) → In s c.submitted → (a : Answer Reply) → In a (given_before s c.answers) → (m n : ℕ) → IsGivenBy c m a → StandsAt s.command.key (ordered_commands c) n → m < n
+later_than : (c : Chronicle Op Reply) → IsChronicle c → IsFaultless c → (s : Submission Op) → In s c.submitted
+    → (a : Answer Reply) → In a (given_before s c.answers) → (m n : ℕ) → IsGivenBy c m a
+    → StandsAt s.command.key (ordered_commands c) n → m < n
 later_than c is h s i a j m n given at =
     let few = is.timeline.within s i in
     let then = happens_then 0 s.after c.submitted c.answers s i (omega arith) few in
     let right = h.happened then.earlier (Submitted s.command) then.later then.is in
     right.1 a (then.told a j) m n given (placed_key c c.order n at.0 (all_submitted c h) at.1 ∙ ap Some at.2)
 
-pub faultless_is_legal : ((commands : List (Command Op)) → HasDistinctKeys commands → AnswersOnce (map (λ p. p.answer) (queue_replay commands))) → (same : Op → Op → Bool) (c : Chronicle Op Reply) → IsChronicle c → IsFaultless c →
+pub faultless_is_legal : ((commands : List (Command Op)) → HasDistinctKeys commands
+    → AnswersOnce (map (λ p. p.answer) (queue_replay commands))) → (same : Op → Op → Bool) (c : Chronicle Op Reply)
+    → IsChronicle c → IsFaultless c →
     IsLegal (queue_rules same) (record { submitted = c.submitted; answers = c.answers }) (ordered_commands c)
 faultless_is_legal once same c is h =
     let all = all_submitted c h in

@@ -48,7 +48,8 @@ right_place c earlier key SubmittedTwice right wrong = wrong
 right_place c earlier key PlacedTooEarly right wrong = wrong
 right_place c earlier key NotTheQueuesAnswer right wrong = wrong
 
-right_line : (c : Chronicle Op Reply) (earlier : List (Happening Op Reply)) (h : Happening Op Reply) (what : What) → IsRightLine c earlier h → IsWrongLine c earlier h what → ⊥
+right_line : (c : Chronicle Op Reply) (earlier : List (Happening Op Reply)) (h : Happening Op Reply) (what : What)
+    → IsRightLine c earlier h → IsWrongLine c earlier h what → ⊥
 right_line c earlier (Submitted s) NotSubmitted right wrong = wrong
 right_line c earlier (Submitted s) NotKept right wrong = wrong
 right_line c earlier (Submitted s) SubmittedTwice right wrong = wrong right.0
@@ -81,7 +82,8 @@ one_place c earlier key v SubmittedTwice h k = absurd k
 one_place c earlier key v PlacedTooEarly h k = absurd k
 one_place c earlier key v NotTheQueuesAnswer h k = absurd k
 
-one_line : (c : Chronicle Op Reply) (earlier : List (Happening Op Reply)) (x : Happening Op Reply) (v w : What) → IsWrongLine c earlier x v → IsWrongLine c earlier x w → v ≡ w
+one_line : (c : Chronicle Op Reply) (earlier : List (Happening Op Reply)) (x : Happening Op Reply) (v w : What)
+    → IsWrongLine c earlier x v → IsWrongLine c earlier x w → v ≡ w
 one_line c earlier (Submitted s) SubmittedTwice SubmittedTwice h k = refl
 one_line c earlier (Submitted s) SubmittedTwice PlacedTooEarly h k = absurd (h k.0)
 one_line c earlier (Submitted s) PlacedTooEarly SubmittedTwice h k = absurd (k h.0)
@@ -107,7 +109,9 @@ one_order c n m v w h k =
     elim (cuts h.earlier k.earlier h.key k.key h.later k.later (sym h.cut ∙ k.cut)) as (λ r. (n ≡ m) × (v ≡ w)) [
       | inl s ↦ (
         h.line ∙ ap (λ (e : List Key). first_line c + length (happenings c.submitted c.answers) + length e) s.front ∙ sym k.line,
-        one_place c k.earlier k.key v w (subst (λ (x : Key). IsWrongPlace c k.earlier x v) s.item (subst (λ (e : List Key). IsWrongPlace c e h.key v) s.front h.wrong)) k.wrong,
+        one_place c k.earlier k.key v w
+            (subst (λ (x : Key). IsWrongPlace c k.earlier x v) s.item
+            (subst (λ (e : List Key). IsWrongPlace c e h.key v) s.front h.wrong)) k.wrong,
       )
       | inr (inl s) ↦ absurd (right_place c h.earlier h.key v (k.before h.earlier h.key s.more s.is) h.wrong)
       | inr (inr s) ↦ absurd (right_place c k.earlier k.key w (h.before k.earlier k.key s.more s.is) k.wrong)
@@ -118,7 +122,9 @@ one_happening c n m v w h k =
     elim (cuts h.earlier k.earlier h.happening k.happening h.later k.later (sym h.cut ∙ k.cut)) as (λ r. (n ≡ m) × (v ≡ w)) [
       | inl s ↦ (
         h.line ∙ ap (λ (e : List (Happening Op Reply)). first_line c + length e) s.front ∙ sym k.line,
-        one_line c k.earlier k.happening v w (subst (λ (x : Happening Op Reply). IsWrongLine c k.earlier x v) s.item (subst (λ (e : List (Happening Op Reply)). IsWrongLine c e h.happening v) s.front h.wrong)) k.wrong,
+        one_line c k.earlier k.happening v w
+            (subst (λ (x : Happening Op Reply). IsWrongLine c k.earlier x v) s.item
+            (subst (λ (e : List (Happening Op Reply)). IsWrongLine c e h.happening v) s.front h.wrong)) k.wrong,
       )
       | inr (inl s) ↦ absurd (right_line c h.earlier h.happening v (k.before h.earlier h.happening s.more s.is) h.wrong)
       | inr (inr s) ↦ absurd (right_line c k.earlier k.happening w (h.before k.earlier k.happening s.more s.is) k.wrong)

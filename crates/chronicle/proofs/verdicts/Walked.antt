@@ -1,5 +1,7 @@
 -- What happened, line by line.
-use Rattle.std.proofs.Common.{◌≡◌, ◌≢◌, ℕ, zero, suc, ◌+◌, ◌-◌, ◌<◌, ◌≤◌, max, leb, true, false, inl, inr, ◌⊎◌, List, [], ◌∷◌, ◌++◌, map, length, take, drop, get_or, Some, refl, sym, ap, ap₂, subst, ◌∙◌, arith, append_assoc, length-drop}
+use Rattle.std.proofs.Common.{◌≡◌, ◌≢◌, ℕ, zero, suc, ◌+◌, ◌-◌, ◌<◌, ◌≤◌, max, leb, true, false, inl, inr, ◌⊎◌, List}
+use Rattle.std.proofs.Common.{[], ◌∷◌, ◌++◌, map, length, take, drop, get_or, Some, refl, sym, ap, ap₂, subst, ◌∙◌}
+use Rattle.std.proofs.Common.{arith, append_assoc, length-drop}
 use Rattle.std.proofs.Math.Seq.{take-append_seam}
 use Rattle.std.proofs.lemmas.Bool.Decides.{nat_tests}
 use Rattle.std.proofs.lemmas.List.{length-append, take_more, take_all}
@@ -96,9 +98,12 @@ In-drop x (suc i) [] j = j
 In-drop x (suc i) (y ∷ xs) j = inr (In-drop x i xs j)
 
 -- the first of what is left came first
-pub first_left : (submitted : List (Submission Op)) (i : ℕ) (s : Submission Op) → ComeInOrder submitted → slice_get submitted i ≡ Some s → (t : Submission Op) → In t (drop i submitted) → s.after ≤ t.after
+pub first_left : (submitted : List (Submission Op)) (i : ℕ) (s : Submission Op) → ComeInOrder submitted
+    → slice_get submitted i ≡ Some s → (t : Submission Op) → In t (drop i submitted) → s.after ≤ t.after
 first_left [] i s order at t j = absurd (cc)
-first_left (u ∷ submitted) zero s order at t (inl same) = let e : u ≡ s = cc in subst (λ (v : Submission Op). s.after ≤ v.after) (sym same) (subst (λ (v : Submission Op). s.after ≤ v.after) (sym e) (omega arith))
+first_left (u ∷ submitted) zero s order at t (inl same) = let e : u ≡ s =
+    cc in subst (λ (v : Submission Op). s.after ≤ v.after) (sym same)
+    (subst (λ (v : Submission Op). s.after ≤ v.after) (sym e) (omega arith))
 first_left (u ∷ submitted) zero s order at t (inr more) = let e : u ≡ s = cc in subst (λ (v : Submission Op). v.after ≤ t.after) e (order.0 t more)
 first_left (u ∷ submitted) (suc i) s order at t j = first_left submitted i s order.1 at t j
 
@@ -107,7 +112,8 @@ first_left (u ∷ submitted) (suc i) s order at t j = first_left submitted i s o
 step_cut : {X : Type 0} (all front : List X) (x : X) (back : List X) → all ≡ front ++ (x ∷ back) → all ≡ (front ++ (x ∷ [])) ++ back
 step_cut all front x back cut = cut ∙ sym (append_assoc front (x ∷ []) back)
 
-later_drop : (submitted : List (Submission Op)) (i : ℕ) (s : Submission Op) (rest : List (Submission Op)) → drop i submitted ≡ s ∷ rest → (t : Submission Op) → In t rest → In t (drop i submitted)
+later_drop : (submitted : List (Submission Op)) (i : ℕ) (s : Submission Op) (rest : List (Submission Op))
+    → drop i submitted ≡ s ∷ rest → (t : Submission Op) → In t rest → In t (drop i submitted)
 later_drop submitted i s rest is t more = subst (In t) (sym is) (inr more)
 
 no_answer : (a : Answer Reply) (d : Command Op) → Answered a ≡ Submitted d → ⊥
@@ -115,39 +121,55 @@ no_answer a d same = cc
 
 module _ (c : Chronicle Op Reply) where
   -- a submission is next
-  submission_cut : (n m : ℕ) (earlier : List (Happening Op Reply)) → HasPassed c n m earlier → (s : Submission Op) → drop n c.submitted ≡ s ∷ drop (n + 1) c.submitted → s.after ≤ m →
+  submission_cut : (n m : ℕ) (earlier : List (Happening Op Reply)) → HasPassed c n m earlier → (s : Submission Op)
+      → drop n c.submitted ≡ s ∷ drop (n + 1) c.submitted → s.after ≤ m →
       happenings c.submitted c.answers ≡ earlier ++ (Submitted s.command ∷ happenings_from m (drop (n + 1) c.submitted) (drop m c.answers))
   submission_cut n m earlier h s is due =
       let least = h.later s (subst (In s) (sym is) (inl refl)) in
       let now : s.after ≡ m = omega arith in
-      h.cut ∙ ap (λ t. earlier ++ t) (ap (λ xs. happenings_from m xs (drop m c.answers)) is ∙ subst (λ k. happenings_from k (s ∷ drop (n + 1) c.submitted) (drop m c.answers) ≡ Submitted s.command ∷ happenings_from k (drop (n + 1) c.submitted) (drop m c.answers)) now (comes s (drop (n + 1) c.submitted) (drop m c.answers)))
+      h.cut ∙ ap (λ t. earlier ++ t)
+      (ap (λ xs. happenings_from m xs (drop m c.answers)) is ∙ subst
+      (λ k. happenings_from k (s ∷ drop (n + 1) c.submitted) (drop m c.answers)
+      ≡ Submitted s.command ∷ happenings_from k (drop (n + 1) c.submitted) (drop m c.answers)) now
+      (comes s (drop (n + 1) c.submitted) (drop m c.answers)))
 
   -- an answer is next
-  answer_cut : (n m : ℕ) (earlier : List (Happening Op Reply)) → HasPassed c n m earlier → (a : Answer Reply) → drop m c.answers ≡ a ∷ drop (m + 1) c.answers → ((s : Submission Op) → In s (drop n c.submitted) → m < s.after) →
+  answer_cut : (n m : ℕ) (earlier : List (Happening Op Reply)) → HasPassed c n m earlier → (a : Answer Reply)
+      → drop m c.answers ≡ a ∷ drop (m + 1) c.answers
+      → ((s : Submission Op) → In s (drop n c.submitted) → m < s.after) →
       happenings c.submitted c.answers ≡ earlier ++ (Answered a ∷ happenings_from (m + 1) (drop n c.submitted) (drop (m + 1) c.answers))
   answer_cut n m earlier h a is later =
-      h.cut ∙ ap (λ t. earlier ++ t) (ap (λ xs. happenings_from m (drop n c.submitted) xs) is ∙ answers_first 1 m (drop n c.submitted) (a ∷ drop (m + 1) c.answers) (λ s i. let l = later s i in omega arith) (omega arith))
+      h.cut ∙ ap (λ t. earlier ++ t)
+      (ap (λ xs. happenings_from m (drop n c.submitted) xs) is ∙ answers_first 1 m (drop n c.submitted)
+      (a ∷ drop (m + 1) c.answers) (λ s i. let l = later s i in omega arith) (omega arith))
 
-  passed_submission : (n m : ℕ) (earlier : List (Happening Op Reply)) → HasPassed c n m earlier → (s : Submission Op) → drop n c.submitted ≡ s ∷ drop (n + 1) c.submitted → take (n + 1) c.submitted ≡ take n c.submitted ++ (s ∷ []) → n < length c.submitted → s.after ≤ m → HasPassed c (n + 1) m (earlier ++ (Submitted s.command ∷ []))
+  passed_submission : (n m : ℕ) (earlier : List (Happening Op Reply)) → HasPassed c n m earlier → (s : Submission Op)
+      → drop n c.submitted ≡ s ∷ drop (n + 1) c.submitted → take (n + 1) c.submitted ≡ take n c.submitted ++ (s ∷ [])
+      → n < length c.submitted → s.after ≤ m → HasPassed c (n + 1) m (earlier ++ (Submitted s.command ∷ []))
   passed_submission n m earlier h s is more inside due = record {
     cut = step_cut (happenings c.submitted c.answers) earlier (Submitted s.command) _ (submission_cut n m earlier h s is due);
     count = length-append earlier (Submitted s.command ∷ []) ∙ (let k = h.count in omega arith);
     some = omega arith;
     few = h.few;
     later = λ t i. h.later t (later_drop c.submitted n s (drop (n + 1) c.submitted) is t i);
-    said = λ d i. elim (In-cases (Submitted d) earlier (Submitted s.command ∷ []) i) as (λ v. (t : Submission Op) × In t (take (n + 1) c.submitted) × (t.command ≡ d)) [
-      | inl j ↦ let r = h.said d j in (r.0, subst (In r.0) (sym more) (In-left r.0 (take n c.submitted) (s ∷ []) r.1), r.2)
-      | inr (inl same) ↦ (s, subst (In s) (sym more) (In-right s (take n c.submitted) (s ∷ []) (inl refl)), cc)
-      | inr (inr none) ↦ absurd none
-    ];
-    heard = λ t i. elim (In-cases t (take n c.submitted) (s ∷ []) (subst (In t) more i)) as (λ v. In (Submitted t.command) (earlier ++ (Submitted s.command ∷ []))) [
-      | inl j ↦ In-left (Submitted t.command) earlier (Submitted s.command ∷ []) (h.heard t j)
-      | inr (inl same) ↦ In-right (Submitted t.command) earlier (Submitted s.command ∷ []) (inl (ap (λ (u : Submission Op). Submitted u.command) same))
-      | inr (inr none) ↦ absurd none
-    ];
+    said = λ d i. elim (In-cases (Submitted d) earlier (Submitted s.command ∷ []) i) as (λ v. (t : Submission Op)
+        × In t (take (n + 1) c.submitted) × (t.command ≡ d)) [
+          | inl j ↦ let r = h.said d j in (r.0, subst (In r.0) (sym more) (In-left r.0 (take n c.submitted) (s ∷ []) r.1), r.2)
+          | inr (inl same) ↦ (s, subst (In s) (sym more) (In-right s (take n c.submitted) (s ∷ []) (inl refl)), cc)
+          | inr (inr none) ↦ absurd none
+        ];
+    heard = λ t i. elim (In-cases t (take n c.submitted) (s ∷ []) (subst (In t) more i)) as (λ v. In
+        (Submitted t.command) (earlier ++ (Submitted s.command ∷ []))) [
+          | inl j ↦ In-left (Submitted t.command) earlier (Submitted s.command ∷ []) (h.heard t j)
+          | inr (inl same) ↦ In-right (Submitted t.command) earlier (Submitted s.command ∷ []) (inl (ap (λ (u : Submission Op). Submitted u.command) same))
+          | inr (inr none) ↦ absurd none
+        ];
   }
 
-  passed_answer : (n m : ℕ) (earlier : List (Happening Op Reply)) → HasPassed c n m earlier → (a : Answer Reply) → drop m c.answers ≡ a ∷ drop (m + 1) c.answers → m < length c.answers → ((s : Submission Op) → In s (drop n c.submitted) → m < s.after) → HasPassed c n (m + 1) (earlier ++ (Answered a ∷ []))
+  passed_answer : (n m : ℕ) (earlier : List (Happening Op Reply)) → HasPassed c n m earlier → (a : Answer Reply)
+      → drop m c.answers ≡ a ∷ drop (m + 1) c.answers → m < length c.answers
+      → ((s : Submission Op) → In s (drop n c.submitted) → m < s.after)
+      → HasPassed c n (m + 1) (earlier ++ (Answered a ∷ []))
   passed_answer n m earlier h a is inside later = record {
     cut = step_cut (happenings c.submitted c.answers) earlier (Answered a) _ (answer_cut n m earlier h a is later);
     count = length-append earlier (Answered a ∷ []) ∙ (let k = h.count in omega arith);
@@ -164,20 +186,25 @@ module _ (c : Chronicle Op Reply) where
 
   -- ---- the reach
 
-  reach_submission : (reach : ℕ) (earlier : List (Happening Op Reply)) (d : Command Op) → HasReach c reach earlier → HasReach c reach (earlier ++ (Submitted d ∷ []))
+  reach_submission : (reach : ℕ) (earlier : List (Happening Op Reply)) (d : Command Op) → HasReach c reach earlier
+      → HasReach c reach (earlier ++ (Submitted d ∷ []))
   reach_submission reach earlier d h = record {
     below = λ a i. elim (In-cases (Answered a) earlier (Submitted d ∷ []) i) as (λ v. (place : ℕ) → IsGivenBy c place a → place < reach) [
       | inl j ↦ h.below a j
       | inr (inl same) ↦ absurd (no_answer a d same)
       | inr (inr none) ↦ absurd none
     ];
-    met = elim h.met as (λ v. (reach ≡ 0) ⊎ ((a : Answer Reply) × In (Answered a) (earlier ++ (Submitted d ∷ [])) × ((place : ℕ) × IsGivenBy c place a × (reach ≡ suc place)))) [
-      | inl none ↦ inl none
-      | inr r ↦ inr (r.0, In-left (Answered r.0) earlier (Submitted d ∷ []) r.1, r.2)
-    ];
+    met = elim h.met as (λ v. (reach ≡ 0)
+        ⊎ ((a : Answer Reply) × In (Answered a) (earlier ++ (Submitted d ∷ []))
+        × ((place : ℕ) × IsGivenBy c place a × (reach ≡ suc place)))) [
+          | inl none ↦ inl none
+          | inr r ↦ inr (r.0, In-left (Answered r.0) earlier (Submitted d ∷ []) r.1, r.2)
+        ];
   }
 
-  reach_answer : (reach : ℕ) (earlier : List (Happening Op Reply)) (b : Answer Reply) (m : ℕ) → ((place : ℕ) → IsGivenBy c place b → place ≡ m) → IsGivenBy c m b → HasReach c reach earlier → HasReach c (max reach (m + 1)) (earlier ++ (Answered b ∷ []))
+  reach_answer : (reach : ℕ) (earlier : List (Happening Op Reply)) (b : Answer Reply) (m : ℕ)
+      → ((place : ℕ) → IsGivenBy c place b → place ≡ m) → IsGivenBy c m b → HasReach c reach earlier
+      → HasReach c (max reach (m + 1)) (earlier ++ (Answered b ∷ []))
   reach_answer reach earlier b m one given h = record {
     below = λ a i. elim (In-cases (Answered a) earlier (Answered b ∷ []) i) as (λ v. (place : ℕ) → IsGivenBy c place a → place < max reach (m + 1)) [
       | inl j ↦ λ place g. let l = h.below a j place g in omega arith
@@ -186,23 +213,29 @@ module _ (c : Chronicle Op Reply) where
           let here = one place (subst (IsGivenBy c place) is g) in omega arith
       | inr (inr none) ↦ absurd none
     ];
-    met = elim (leb (m + 1) reach) as (λ t. leb (m + 1) reach ≡ t → (max reach (m + 1) ≡ 0) ⊎ ((a : Answer Reply) × In (Answered a) (earlier ++ (Answered b ∷ [])) × ((place : ℕ) × IsGivenBy c place a × (max reach (m + 1) ≡ suc place)))) [
-      | true ↦ λ low.
-          let under : m + 1 ≤ reach = grind (arith, nat_tests) in
-          let same : reach ≡ max reach (m + 1) = omega arith in
-          elim h.met as (λ v. (max reach (m + 1) ≡ 0) ⊎ ((a : Answer Reply) × In (Answered a) (earlier ++ (Answered b ∷ [])) × ((place : ℕ) × IsGivenBy c place a × (max reach (m + 1) ≡ suc place)))) [
-            | inl none ↦ inl (sym same ∙ none)
-            | inr r ↦ inr (r.0, In-left (Answered r.0) earlier (Answered b ∷ []) r.1, (r.2.0, r.2.1, sym same ∙ r.2.2))
-          ]
-      | false ↦ λ high.
-          let over : reach < m + 1 = grind (arith, nat_tests) in
-          inr (b, In-right (Answered b) earlier (Answered b ∷ []) (inl refl), (m, given, omega arith))
-    ] refl;
+    met = elim (leb (m + 1) reach) as (λ t. leb (m + 1) reach ≡ t → (max reach (m + 1) ≡ 0)
+        ⊎ ((a : Answer Reply) × In (Answered a) (earlier ++ (Answered b ∷ []))
+        × ((place : ℕ) × IsGivenBy c place a × (max reach (m + 1) ≡ suc place)))) [
+          | true ↦ λ low.
+              let under : m + 1 ≤ reach = grind (arith, nat_tests) in
+              let same : reach ≡ max reach (m + 1) = omega arith in
+              elim h.met as (λ v. (max reach (m + 1) ≡ 0)
+              ⊎ ((a : Answer Reply) × In (Answered a) (earlier ++ (Answered b ∷ []))
+              × ((place : ℕ) × IsGivenBy c place a × (max reach (m + 1) ≡ suc place)))) [
+                | inl none ↦ inl (sym same ∙ none)
+                | inr r ↦ inr (r.0, In-left (Answered r.0) earlier (Answered b ∷ []) r.1, (r.2.0, r.2.1, sym same ∙ r.2.2))
+              ]
+          | false ↦ λ high.
+              let over : reach < m + 1 = grind (arith, nat_tests) in
+              inr (b, In-right (Answered b) earlier (Answered b ∷ []) (inl refl), (m, given, omega arith))
+        ] refl;
   }
 
   -- ---- a submission that is looked up
 
-  module _ (r : Replayed) (told : IsReplayed c r) (n m reach : ℕ) (earlier : List (Happening Op Reply)) (passed : HasPassed c n m earlier) (reached : HasReach c reach earlier) (s : Submission Op) (at : slice_get c.submitted n ≡ Some s) where
+  module _ (r : Replayed) (told : IsReplayed c r) (n m reach : ℕ) (earlier : List (Happening Op Reply))
+      (passed : HasPassed c n m earlier) (reached : HasReach c reach earlier) (s : Submission Op)
+      (at : slice_get c.submitted n ≡ Some s) where
     is_first : get key_cmp r.firsts s.command.key ≡ Some n → IsFirstOfKey s.command earlier
     is_first is d i same =
         let first = first_at submitted_key s.command.key c.submitted n (sym (told.firsts s.command.key) ∙ is) in
@@ -234,7 +267,9 @@ module _ (c : Chronicle Op Reply) where
           | inr g ↦ let over = later g.0 g.1 g.2.0 p g.2.1 stands in let top = g.2.2 in absurd (omega arith)
         ]
 
-    pub right_submission : get key_cmp r.firsts s.command.key ≡ Some n → ((p : ℕ) → get key_cmp r.places s.command.key ≡ Some p → reach ≤ p) → IsRightLine c earlier (Submitted s.command)
+    pub right_submission : get key_cmp r.firsts s.command.key ≡ Some n
+        → ((p : ℕ) → get key_cmp r.places s.command.key ≡ Some p → reach ≤ p)
+        → IsRightLine c earlier (Submitted s.command)
     right_submission first later = (is_first first, is_later later)
 
     pub wrong_submission : (what : What) → IsMisplaced r n s.command.key reach what → IsWrongLine c earlier (Submitted s.command) what
@@ -246,24 +281,32 @@ module _ (c : Chronicle Op Reply) where
 
   -- ---- an answer that is looked up
 
-  module _ (r : Replayed) (told : IsReplayed c r) (once : AnswersOnce (map (λ (p : Placed Reply). p.answer) (queue_replay (ordered_commands c)))) (a : Answer Reply) where
+  module _ (r : Replayed) (told : IsReplayed c r)
+      (once : AnswersOnce (map (λ (p : Placed Reply). p.answer) (queue_replay (ordered_commands c))))
+      (a : Answer Reply) where
     pub given_at : (place : ℕ) → In (record { place = place; answer = a }) (map placed r.given.items) → IsGivenBy c place a
     given_at place i = subst (In (record { place = place; answer = a })) told.given i
 
     pub one_place : (place : ℕ) → IsGivenBy c place a → (other : ℕ) → IsGivenBy c other a → other ≡ place
-    one_place place g other h = ap (λ (p : Placed Reply). p.place) (one_place_each (queue_replay (ordered_commands c)) once (record { place = other; answer = a }) (record { place = place; answer = a }) h g refl)
+    one_place place g other h = ap (λ (p : Placed Reply). p.place)
+        (one_place_each (queue_replay (ordered_commands c)) once (record { place = other; answer = a })
+        (record { place = place; answer = a }) h g refl)
 
     pub not_given : (what : What) → IsNotGiven r a what → IsWrongLine c [] (Answered a) NotTheQueuesAnswer
     not_given what h place g =
         let first = answers r.given.items (record { place = place; answer = a }) (subst (In (record { place = place; answer = a })) (sym told.given) g) in
-        let same = one_place_each (queue_replay (ordered_commands c)) once (placed first.first) (record { place = place; answer = a }) (subst (In (placed first.first)) told.given first.among) g first.to in
+        let same = one_place_each (queue_replay (ordered_commands c)) once (placed first.first)
+        (record { place = place; answer = a })
+        (subst (In (placed first.first)) told.given first.among) g first.to in
         h.1 first.first first.found_it (ap (λ (p : Placed Reply). p.answer) same)
 
   -- ---- a line more is looked through
 
   module _ (w : Walk) (walked : HasWalked c w) where
     -- a wrong line is the fault
-    fault : (h : Happening Op Reply) (later : List (Happening Op Reply)) (what : What) → AreRightPlaces c c.order → happenings c.submitted c.answers ≡ seen c w ++ (h ∷ later) → IsWrongLine c (seen c w) h what → IsWrongHappening c (first_line c + (w.submitted + w.answered)) what
+    fault : (h : Happening Op Reply) (later : List (Happening Op Reply)) (what : What) → AreRightPlaces c c.order
+        → happenings c.submitted c.answers ≡ seen c w ++ (h ∷ later) → IsWrongLine c (seen c w) h what
+        → IsWrongHappening c (first_line c + (w.submitted + w.answered)) what
     fault h later what order cut wrong = record {
       earlier = seen c w;
       happening = h;
@@ -276,26 +319,39 @@ module _ (c : Chronicle Op Reply) where
     }
 
     -- and a right one is passed
-    next_seen : (next : Walk) (h : Happening Op Reply) → HasPassed c next.submitted next.answered (seen c w ++ (h ∷ [])) → HasReach c next.reach (seen c w ++ (h ∷ [])) → IsRightLine c (seen c w) h → HasWalked c next
+    next_seen : (next : Walk) (h : Happening Op Reply) → HasPassed c next.submitted next.answered (seen c w ++ (h ∷ []))
+        → HasReach c next.reach (seen c w ++ (h ∷ [])) → IsRightLine c (seen c w) h → HasWalked c next
     next_seen next h passed reach right =
-        let is : seen c next ≡ seen c w ++ (h ∷ []) = front_is (next.submitted + next.answered) (happenings c.submitted c.answers) (seen c w ++ (h ∷ [])) (happenings_from next.answered (drop next.submitted c.submitted) (drop next.answered c.answers)) passed.cut passed.count in
+        let is : seen c next ≡ seen c w ++ (h ∷ []) =
+        front_is (next.submitted + next.answered) (happenings c.submitted c.answers) (seen c w ++ (h ∷ []))
+        (happenings_from next.answered (drop next.submitted c.submitted) (drop next.answered c.answers)) passed.cut
+        passed.count in
         subst (HasSeen c next) (sym is) (record { passed = passed; reach = reach; right = more_lines c (seen c w) h walked.right right })
 
     module _ (r : Replayed) (told : IsReplayed c r) (s : Submission Op) (at : slice_get c.submitted w.submitted ≡ Some s) (due : s.after ≤ w.answered) where
-      pub submission_passed : get key_cmp r.firsts s.command.key ≡ Some w.submitted → ((p : ℕ) → get key_cmp r.places s.command.key ≡ Some p → w.reach ≤ p) → HasWalked c (record w { submitted = w.submitted + 1 })
+      pub submission_passed : get key_cmp r.firsts s.command.key ≡ Some w.submitted
+          → ((p : ℕ) → get key_cmp r.places s.command.key ≡ Some p → w.reach ≤ p)
+          → HasWalked c (record w { submitted = w.submitted + 1 })
       submission_passed first later =
           next_seen (record w { submitted = w.submitted + 1 }) (Submitted s.command)
-          (passed_submission w.submitted w.answered (seen c w) walked.passed s (drop_at c.submitted w.submitted s at) (take_at c.submitted w.submitted s at) (at_within c.submitted w.submitted s at) due)
+          (passed_submission w.submitted w.answered (seen c w) walked.passed s (drop_at c.submitted w.submitted s at)
+          (take_at c.submitted w.submitted s at) (at_within c.submitted w.submitted s at) due)
           (reach_submission w.reach (seen c w) s.command walked.reach)
           (right_submission r told w.submitted w.answered w.reach (seen c w) walked.passed walked.reach s at first later)
 
-      pub submission_fault : (what : What) → AreRightPlaces c c.order → IsMisplaced r w.submitted s.command.key w.reach what → IsWrongHappening c (first_line c + (w.submitted + w.answered)) what
+      pub submission_fault : (what : What) → AreRightPlaces c c.order
+          → IsMisplaced r w.submitted s.command.key w.reach what
+          → IsWrongHappening c (first_line c + (w.submitted + w.answered)) what
       submission_fault what order wrong =
           fault (Submitted s.command) _ what order (submission_cut w.submitted w.answered (seen c w) walked.passed s (drop_at c.submitted w.submitted s at) due)
           (wrong_submission r told w.submitted w.answered w.reach (seen c w) walked.passed walked.reach s at what wrong)
 
-    module _ (r : Replayed) (told : IsReplayed c r) (once : AnswersOnce (map (λ (p : Placed Reply). p.answer) (queue_replay (ordered_commands c)))) (a : Answer Reply) (inside : w.answered < length c.answers) (at : a ≡ get_or c.answers w.answered a) (later : NoneIsDue c w) where
-      pub answer_passed : (place : ℕ) → In (record { place = place; answer = a }) (map placed r.given.items) → HasWalked c (record w { answered = w.answered + 1; reach = max w.reach (place + 1) })
+    module _ (r : Replayed) (told : IsReplayed c r)
+        (once : AnswersOnce (map (λ (p : Placed Reply). p.answer) (queue_replay (ordered_commands c))))
+        (a : Answer Reply) (inside : w.answered < length c.answers) (at : a ≡ get_or c.answers w.answered a)
+        (later : NoneIsDue c w) where
+      pub answer_passed : (place : ℕ) → In (record { place = place; answer = a }) (map placed r.given.items)
+          → HasWalked c (record w { answered = w.answered + 1; reach = max w.reach (place + 1) })
       answer_passed place i =
           let given = given_at r told once a place i in
           next_seen (record w { answered = w.answered + 1; reach = max w.reach (place + 1) }) (Answered a)
@@ -306,10 +362,13 @@ module _ (c : Chronicle Op Reply) where
       pub answer_fault : (what : What) → AreRightPlaces c c.order → IsNotGiven r a what → IsWrongHappening c (first_line c + (w.submitted + w.answered)) what
       answer_fault what order wrong =
           subst (IsWrongHappening c (first_line c + (w.submitted + w.answered))) (sym wrong.0)
-          (fault (Answered a) _ NotTheQueuesAnswer order (answer_cut w.submitted w.answered (seen c w) walked.passed a (drop_item c.answers w.answered a inside at) later) (not_given r told once a what wrong))
+          (fault (Answered a) _ NotTheQueuesAnswer order
+          (answer_cut w.submitted w.answered (seen c w) walked.passed a
+          (drop_item c.answers w.answered a inside at) later) (not_given r told once a what wrong))
 
 -- an answer is left where no submission is due
-pub answer_left : (c : Chronicle Op Reply) (w : Walk) → HasWalked c w → IsChronicle c → NoneIsDue c w → w.submitted + w.answered < length c.submitted + length c.answers → w.answered < length c.answers
+pub answer_left : (c : Chronicle Op Reply) (w : Walk) → HasWalked c w → IsChronicle c → NoneIsDue c w
+    → w.submitted + w.answered < length c.submitted + length c.answers → w.answered < length c.answers
 answer_left c w walked is none more = left (drop w.submitted c.submitted) refl
   where
     left : (rest : List (Submission Op)) → drop w.submitted c.submitted ≡ rest → w.answered < length c.answers
@@ -336,7 +395,9 @@ walk_starts c = record {
 }
 
 -- all is looked through
-pub walk_ends : (c : Chronicle Op Reply) (w : Walk) → IsChronicle c → HasWalked c w → length c.submitted + length c.answers ≡ w.submitted + w.answered → AreRightLines c (happenings c.submitted c.answers)
+pub walk_ends : (c : Chronicle Op Reply) (w : Walk) → IsChronicle c → HasWalked c w
+    → length c.submitted + length c.answers ≡ w.submitted + w.answered
+    → AreRightLines c (happenings c.submitted c.answers)
 walk_ends c w is walked all =
     let long = happenings_count c.submitted c.answers is.timeline in
     subst (AreRightLines c) (take_all (w.submitted + w.answered) (happenings c.submitted c.answers) (omega arith)) walked.right

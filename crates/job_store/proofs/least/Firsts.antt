@@ -1,5 +1,6 @@
 -- What comes first of what is made of the elements of a list, one by one.
-use Rattle.std.proofs.Common.{◌≡◌, ℕ, suc, ◌+◌, ◌<◌, ◌≤◌, true, List, ◌∷◌, Option, None, Some, length, get_or, drop, drop-cons, filter_map, refl, sym, ap, ap₂, ◌∙◌, arith}
+use Rattle.std.proofs.Common.{◌≡◌, ℕ, suc, ◌+◌, ◌<◌, ◌≤◌, true, List, ◌∷◌, Option, None, Some, length, get_or, drop}
+use Rattle.std.proofs.Common.{drop-cons, filter_map, refl, sym, ap, ap₂, ◌∙◌, arith}
 use Rattle.std.proofs.lemmas.List.{drop_all}
 use Rattle.std.specs.List.{cons_option}
 use Rattle.job_store.specs.Least.{first_of, least}
@@ -20,7 +21,10 @@ module _ {A X : Type 0} (by : X → ℕ) (f : A → Option (ℕ × X)) where
   first-made None es = refl
   first-made (Some e) es = refl
 
-  pub first-along : (xs : List A) (i : ℕ) (x y : A) (best best' all : Option (ℕ × X)) → i < length xs → x ≡ get_or xs i y → best' ≡ first_of by best (f x) → first_of by best (least (λ e. true) by (filter_map f (drop i xs))) ≡ all → first_of by best' (least (λ e. true) by (filter_map f (drop (i + 1) xs))) ≡ all
+  pub first-along : (xs : List A) (i : ℕ) (x y : A) (best best' all : Option (ℕ × X)) → i < length xs
+      → x ≡ get_or xs i y → best' ≡ first_of by best (f x)
+      → first_of by best (least (λ e. true) by (filter_map f (drop i xs))) ≡ all
+      → first_of by best' (least (λ e. true) by (filter_map f (drop (i + 1) xs))) ≡ all
   first-along xs i x y best best' all below here new was =
       let rest = filter_map f (drop (i + 1) xs) in
       let next : suc i ≡ i + 1 = omega arith in
@@ -31,6 +35,7 @@ module _ {A X : Type 0} (by : X → ℕ) (f : A → Option (ℕ × X)) where
       ap (λ ys. first_of by best (least (λ e. true) by (filter_map f ys))) (sym cut) ∙
       was
 
-  pub first-whole : (xs : List A) (i : ℕ) (best all : Option (ℕ × X)) → length xs ≤ i → first_of by best (least (λ e. true) by (filter_map f (drop i xs))) ≡ all → best ≡ all
+  pub first-whole : (xs : List A) (i : ℕ) (best all : Option (ℕ × X)) → length xs ≤ i
+      → first_of by best (least (λ e. true) by (filter_map f (drop i xs))) ≡ all → best ≡ all
   first-whole xs i best all end was =
       first_of-none by best ∙ ap (λ ys. first_of by best (least (λ e. true) by (filter_map f ys))) (sym (drop_all i xs end)) ∙ was

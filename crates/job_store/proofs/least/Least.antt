@@ -1,5 +1,7 @@
 -- What is least: the test decides what it is named after, and the answer is what is asked for.
-use Rattle.std.proofs.Common.{◌≡◌, ◌↔◌, ℕ, suc, Bool, true, false, cond, ◌&&◌, ◌⊎◌, inl, inr, List, [], ◌∷◌, Option, Some, None, option_map, MatchOption, IfSome, IfNone, ◌==◌, nat_lt, bytes_eq, refl, sym, ap, subst, ◌∙◌, arith, eq-eqb, eqb-true, ltb-true, lt-ltb}
+use Rattle.std.proofs.Common.{◌≡◌, ◌↔◌, ℕ, suc, Bool, true, false, cond, ◌&&◌, ◌⊎◌, inl, inr, List, [], ◌∷◌, Option}
+use Rattle.std.proofs.Common.{Some, None, option_map, MatchOption, IfSome, IfNone, ◌==◌, nat_lt, bytes_eq, refl, sym}
+use Rattle.std.proofs.Common.{ap, subst, ◌∙◌, arith, eq-eqb, eqb-true, ltb-true, lt-ltb}
 use Rattle.std.proofs.lemmas.Bool.{both_ways, cond-true, cond-false, or_cases, or_left, or_right, and_parts, and_from}
 use Rattle.std.proofs.lemmas.Slice.Eq.{bytes_eq-Decides}
 use Rattle.object.specs.Lists.{In}
@@ -21,7 +23,8 @@ module _ {X : Type 0} (by : X → ℕ) where
   pub passes_before : (d e : ℕ × X) → ComesBefore by d e → comes_before by d e ≡ true
   passes_before d e (inl h) = or_left (nat_lt (by d.1) (by e.1)) (by d.1 == by e.1 && nat_lt d.0 e.0) (lt-ltb (by d.1) (by e.1) h)
   passes_before d e (inr h) =
-      or_right (nat_lt (by d.1) (by e.1)) (by d.1 == by e.1 && nat_lt d.0 e.0) (and_from (by d.1 == by e.1) (nat_lt d.0 e.0) (eq-eqb (by d.1) (by e.1) h.0) (lt-ltb d.0 e.0 h.1))
+      or_right (nat_lt (by d.1) (by e.1)) (by d.1 == by e.1 && nat_lt d.0 e.0)
+      (and_from (by d.1 == by e.1) (nat_lt d.0 e.0) (eq-eqb (by d.1) (by e.1) h.0) (lt-ltb d.0 e.0 h.1))
 
   not_before : (d e : ℕ × X) → comes_before by d e ≡ false → ComesBefore by d e → ⊥
   not_before d e t h = both_ways (comes_before by d e) t (passes_before d e h)
@@ -101,7 +104,11 @@ module _ {X : Type 0} (test : ℕ × X → Bool) (by : X → ℕ) where
         | true ↦ λ t. record {
           member = inr best.member;
           passes = best.passes;
-          least = λ d i v first. elim i as (λ i. ⊥) [ inl same ↦ never_both by e y (subst (λ z. ComesBefore by z y) same first) (before by y e t) | inr later ↦ best.least d later v first ];
+          least = λ d i v first. elim i as (λ i. ⊥) [
+            | inl same ↦ never_both by e y
+                (subst (λ z. ComesBefore by z y) same first) (before by y e t)
+            | inr later ↦ best.least d later v first
+          ];
         }
         | false ↦ λ t. record {
           member = inl refl;
@@ -119,7 +126,11 @@ module _ {X : Type 0} (test : ℕ × X → Bool) (by : X → ℕ) where
   with_other e es (Some y) other best = record {
     member = inr best.member;
     passes = best.passes;
-    least = λ d i v first. elim i as (λ i. ⊥) [ inl same ↦ both_ways (test e) other (subst (λ z. test z ≡ true) same v) | inr later ↦ best.least d later v first ];
+    least = λ d i v first. elim i as (λ i. ⊥) [
+      | inl same ↦ both_ways (test e) other
+          (subst (λ z. test z ≡ true) same v)
+      | inr later ↦ best.least d later v first
+    ];
   }
 
   pub answer : (es : List (ℕ × X)) → IsAnswer es (least test by es)
@@ -157,7 +168,9 @@ module _ {X : Type 0} (test : ℕ × X → Bool) (by : X → ℕ) where
       ] (answer es)
 
   -- the same of an entry that is seen through references
-  pub least-shown : {A : Type 0} (show : A → ℕ × X) (es : List (ℕ × X)) (o : Option A) → option_map show o ≡ least test by es → IfSome o (λ a. IsLeast test by es (show a)) × IfNone o (NonePasses test es)
+  pub least-shown : {A : Type 0} (show : A → ℕ × X) (es : List (ℕ × X)) (o : Option A)
+      → option_map show o ≡ least test by es → IfSome o (λ a. IsLeast test by es (show a))
+      × IfNone o (NonePasses test es)
   least-shown show es None e = (tt, subst (λ o. IfNone o (NonePasses test es)) (sym e) (least-none es))
   least-shown show es (Some a) e = (subst (λ o. IfSome o (IsLeast test by es)) (sym e) (least-found es), tt)
 
@@ -166,13 +179,18 @@ module _ {X : Type 0} (test : ℕ × X → Bool) (by : X → ℕ) where
       elim (least test by es) as (λ o. IsAnswer es o → None ≡ o) [ None ↦ λ w. refl | Some d ↦ λ it. absurd (none d it.member it.passes) ] (answer es)
 
   -- what is answered by a least one, or by nothing where nothing passes, is the least
-  pub least-shown-by : {A : Type 0} (show : A → ℕ × X) (es : List (ℕ × X)) (lo hi : ℕ) (o : Option A) → Rising lo hi es → IfSome o (λ a. IsLeast test by es (show a)) → IfNone o (NonePasses test es) → option_map show o ≡ least test by es
+  pub least-shown-by : {A : Type 0} (show : A → ℕ × X) (es : List (ℕ × X)) (lo hi : ℕ) (o : Option A) → Rising lo hi es
+      → IfSome o (λ a. IsLeast test by es (show a)) → IfNone o (NonePasses test es)
+      → option_map show o ≡ least test by es
   least-shown-by show es lo hi (Some a) r best none = sym (least-only es lo hi (show a) r best)
   least-shown-by show es lo hi None r best none = least-nothing es none
 
 -- What is least of those that pass one test or another
 
-module _ {X : Type 0} (one two either : ℕ × X → Bool) (by : X → ℕ) (from-either : (e : ℕ × X) → either e ≡ true → (one e ≡ true) ⊎ (two e ≡ true)) (from-one : (e : ℕ × X) → one e ≡ true → either e ≡ true) (from-two : (e : ℕ × X) → two e ≡ true → either e ≡ true) where
+module _ {X : Type 0} (one two either : ℕ × X → Bool) (by : X → ℕ)
+    (from-either : (e : ℕ × X) → either e ≡ true → (one e ≡ true) ⊎ (two e ≡ true))
+    (from-one : (e : ℕ × X) → one e ≡ true → either e ≡ true)
+    (from-two : (e : ℕ × X) → two e ≡ true → either e ≡ true) where
   pub answer-either : (es : List (ℕ × X)) (o p : Option (ℕ × X)) → IsAnswer one by es o → IsAnswer two by es p → IsAnswer either by es (first_of by o p)
   answer-either es None None a b =
       λ d i t. elim (from-either d t) as (λ v. ⊥) [ inl h ↦ a d i h | inr h ↦ b d i h ]

@@ -1,12 +1,14 @@
 -- Lists of entries, where the keys rise: the words of `BTreeMap`'s contracts in those of the definitions.
-use Rattle.std.proofs.Common.{◌≡◌, ℕ, suc, ◌<◌, ◌≤◌, not, inl, inr, List, [], ◌∷◌, ◌++◌, Some, None, ◌==◌, nat_cmp, refl, sym, ap, ap₂, subst, ◌∙◌, arith, eq-eqb, ne_eqb, Less, Equal, Greater}
+use Rattle.std.proofs.Common.{◌≡◌, ℕ, suc, ◌<◌, ◌≤◌, not, inl, inr, List, [], ◌∷◌, ◌++◌, Some, None, ◌==◌, nat_cmp}
+use Rattle.std.proofs.Common.{refl, sym, ap, ap₂, subst, ◌∙◌, arith, eq-eqb, ne_eqb, Less, Equal, Greater}
 use Rattle.std.proofs.lemmas.Bool.{cases_eq, cases_order, cond-true, cond-false}
 use Rattle.std.proofs.lemmas.List.{append_assoc}
 use Rattle.std.specs.Ordering.{match_ordering}
 use Rattle.std.specs.Map.{remove_entry, set_value}
 use Rattle.std.specs.BTreeMap.{is_at, insert_entry}
 use Rattle.job_store.specs.Entries.{Rising, value_at, altered, without}
-use Rattle.job_store.specs.EntryLaws.{cmp_less, cmp_equal, cmp_greater, at_same, at_other, value_at-here, value_at-next, altered-none, without-absent, Rising-end, Rising-insert}
+use Rattle.job_store.specs.EntryLaws.{cmp_less, cmp_equal, cmp_greater, at_same, at_other, value_at-here, value_at-next}
+use Rattle.job_store.specs.EntryLaws.{altered-none, without-absent, Rising-end, Rising-insert}
 
 pub same_number : (a b : ℕ) → nat_cmp a b ≡ Equal → a ≡ b
 same_number a b h =
@@ -46,7 +48,8 @@ module _ {X : Type 0} where
       ap (λ zs. e ∷ zs) (insert_entry-push (suc e.0) hi v es r.1)
 
   -- What a write through `get_mut` leaves
-  pub set_value-altered : (k lo hi : ℕ) (f : X → X) (v w : X) (es : List (ℕ × X)) → Rising lo hi es → value_at k es ≡ Some v → w ≡ f v → set_value (is_at (nat_cmp k)) es w ≡ altered k f es
+  pub set_value-altered : (k lo hi : ℕ) (f : X → X) (v w : X) (es : List (ℕ × X)) → Rising lo hi es
+      → value_at k es ≡ Some v → w ≡ f v → set_value (is_at (nat_cmp k)) es w ≡ altered k f es
   set_value-altered k lo hi f v w [] r e same = cc
   set_value-altered k lo hi f v w (d ∷ es) r e new =
       elim (cases_eq k d.0) [
@@ -54,10 +57,13 @@ module _ {X : Type 0} where
             let here : Some d.1 ≡ Some v = sym (value_at-here k d es same) ∙ e in
             let it : d.1 ≡ v = cc in
             cond-true (is_at (nat_cmp k) d.0) ((d.0, w) ∷ es) (d ∷ set_value (is_at (nat_cmp k)) es w) (at_same k d.0 same) ∙
-            ap₂ (λ u zs. (d.0, u) ∷ zs) (new ∙ ap f (sym it) ∙ sym (cond-true (k == d.0) (f d.1) d.1 (eq-eqb k d.0 same))) (sym (altered-none k (suc d.0) hi f es (omega (arith, same)) r.1))
+            ap₂ (λ u zs. (d.0, u) ∷ zs) (new ∙ ap f (sym it) ∙ sym
+            (cond-true (k == d.0) (f d.1) d.1 (eq-eqb k d.0 same)))
+            (sym (altered-none k (suc d.0) hi f es (omega (arith, same)) r.1))
         | inr apart ↦
             cond-false (is_at (nat_cmp k) d.0) ((d.0, w) ∷ es) (d ∷ set_value (is_at (nat_cmp k)) es w) (at_other k d.0 apart) ∙
-            ap₂ (λ u zs. (d.0, u) ∷ zs) (sym (cond-false (k == d.0) (f d.1) d.1 (ne_eqb k d.0 apart))) (set_value-altered k (suc d.0) hi f v w es r.1 (sym (value_at-next k d es apart) ∙ e) new)
+            ap₂ (λ u zs. (d.0, u) ∷ zs) (sym (cond-false (k == d.0) (f d.1) d.1 (ne_eqb k d.0 apart)))
+            (set_value-altered k (suc d.0) hi f v w es r.1 (sym (value_at-next k d es apart) ∙ e) new)
       ]
 
   -- What a write of the same value leaves
@@ -76,7 +82,8 @@ module _ {X : Type 0} where
       ]
 
   -- What `insert` leaves at a key that is there
-  pub insert_entry-altered : (k lo hi : ℕ) (f : X → X) (v : X) (es : List (ℕ × X)) → Rising lo hi es → value_at k es ≡ Some v → insert_entry nat_cmp es k (f v) ≡ altered k f es
+  pub insert_entry-altered : (k lo hi : ℕ) (f : X → X) (v : X) (es : List (ℕ × X)) → Rising lo hi es
+      → value_at k es ≡ Some v → insert_entry nat_cmp es k (f v) ≡ altered k f es
   insert_entry-altered k lo hi f v [] r e = cc
   insert_entry-altered k lo hi f v (d ∷ es) r e =
       elim (cases_order k d.0) [
@@ -84,13 +91,15 @@ module _ {X : Type 0} where
             let here : Some d.1 ≡ Some v = sym (value_at-here k d es same) ∙ e in
             let it : d.1 ≡ v = cc in
             ap (λ o. match_ordering o ((k, f v) ∷ d ∷ es) ((d.0, f v) ∷ es) (d ∷ insert_entry nat_cmp es k (f v))) (cmp_equal k d.0 same) ∙
-            ap₂ (λ u zs. (d.0, u) ∷ zs) (ap f (sym it) ∙ sym (cond-true (k == d.0) (f d.1) d.1 (eq-eqb k d.0 same))) (sym (altered-none k (suc d.0) hi f es (omega (arith, same)) r.1))
+            ap₂ (λ u zs. (d.0, u) ∷ zs) (ap f (sym it) ∙ sym (cond-true (k == d.0) (f d.1) d.1 (eq-eqb k d.0 same)))
+            (sym (altered-none k (suc d.0) hi f es (omega (arith, same)) r.1))
         | inr (inl below) ↦
             let none = value_at-below-all k (suc d.0) hi es (omega arith) r.1 in
             let there : Some v ≡ None = sym e ∙ value_at-next k d es (λ same. omega arith) ∙ none in cc
         | inr (inr above) ↦
             ap (λ o. match_ordering o ((k, f v) ∷ d ∷ es) ((d.0, f v) ∷ es) (d ∷ insert_entry nat_cmp es k (f v))) (cmp_greater k d.0 above) ∙
-            ap₂ (λ u zs. (d.0, u) ∷ zs) (sym (cond-false (k == d.0) (f d.1) d.1 (ne_eqb k d.0 (λ same. omega arith)))) (insert_entry-altered k (suc d.0) hi f v es r.1 (sym (value_at-next k d es (λ same. omega arith)) ∙ e))
+            ap₂ (λ u zs. (d.0, u) ∷ zs) (sym (cond-false (k == d.0) (f d.1) d.1 (ne_eqb k d.0 (λ same. omega arith))))
+            (insert_entry-altered k (suc d.0) hi f v es r.1 (sym (value_at-next k d es (λ same. omega arith)) ∙ e))
       ]
 
   -- Entries that are put one after another, in their order
@@ -99,7 +108,8 @@ module _ {X : Type 0} where
   Rising-front lo hi [] e ds r = r.0
   Rising-front lo hi (d ∷ es) e ds r = (r.0, Rising-front (suc d.0) hi es e ds r.1)
 
-  pub insert_entry-next : (lo hi : ℕ) (es new : List (ℕ × X)) (e : ℕ × X) (ds all : List (ℕ × X)) → es ++ (e ∷ ds) ≡ all → Rising lo hi all → new ≡ insert_entry nat_cmp es e.0 e.1 → new ++ ds ≡ all
+  pub insert_entry-next : (lo hi : ℕ) (es new : List (ℕ × X)) (e : ℕ × X) (ds all : List (ℕ × X)) → es ++ (e ∷ ds) ≡ all
+      → Rising lo hi all → new ≡ insert_entry nat_cmp es e.0 e.1 → new ++ ds ≡ all
   insert_entry-next lo hi es new e ds all h r n =
       ap (λ zs. zs ++ ds) (n ∙ insert_entry-push lo e.0 e.1 es (Rising-front lo hi es e ds (subst (λ zs. Rising lo hi zs) (sym h) r))) ∙
       append_assoc es (e ∷ []) ds ∙ h

@@ -1,5 +1,6 @@
 -- Which entries a finite map has, before and after a change.
-use Rattle.std.proofs.Common.{◌≡◌, ℕ, inl, inr, ◌⊎◌, List, [], ◌∷◌, Some, cond, not, ◌==◌, nat_cmp, Less, Equal, Greater, refl, sym, ap, ap₂, subst, ◌∙◌, eq-eqb, ne_eqb}
+use Rattle.std.proofs.Common.{◌≡◌, ℕ, inl, inr, ◌⊎◌, List, [], ◌∷◌, Some, cond, not, ◌==◌, nat_cmp, Less, Equal}
+use Rattle.std.proofs.Common.{Greater, refl, sym, ap, ap₂, subst, ◌∙◌, eq-eqb, ne_eqb}
 use Rattle.std.proofs.lemmas.Bool.{cases_eq, cases_order, cond-true, cond-false}
 use Rattle.std.specs.Ordering.{match_ordering}
 use Rattle.std.specs.BTreeMap.{insert_entry}
@@ -22,7 +23,8 @@ module _ {X : Type 0} where
 
   -- One value is changed
 
-  pub altered-was : (k : ℕ) (f : X → X) (e : ℕ × X) (es : List (ℕ × X)) → In e (altered k f es) → (d : ℕ × X) × In d es × (e ≡ (d.0, cond (k == d.0) (f d.1) d.1))
+  pub altered-was : (k : ℕ) (f : X → X) (e : ℕ × X) (es : List (ℕ × X)) → In e (altered k f es) → (d : ℕ × X) × In d es
+      × (e ≡ (d.0, cond (k == d.0) (f d.1) d.1))
   altered-was k f e [] i = absurd i
   altered-was k f e (d ∷ es) (inl here) = (d, inl refl, here)
   altered-was k f e (d ∷ es) (inr later) = let w = altered-was k f e es later in (w.0, inr w.1, w.2)
@@ -32,7 +34,8 @@ module _ {X : Type 0} where
   altered-has k f d (z ∷ es) (inl here) = inl (ap (λ (y : ℕ × X). (y.0, cond (k == y.0) (f y.1) y.1)) here)
   altered-has k f d (z ∷ es) (inr later) = inr (altered-has k f d es later)
 
-  pub altered-new : (k lo hi : ℕ) (f : X → X) (v : X) (e : ℕ × X) (es : List (ℕ × X)) → Rising lo hi es → value_at k es ≡ Some v → In e (altered k f es) → In e es ⊎ (e ≡ (k, f v))
+  pub altered-new : (k lo hi : ℕ) (f : X → X) (v : X) (e : ℕ × X) (es : List (ℕ × X)) → Rising lo hi es
+      → value_at k es ≡ Some v → In e (altered k f es) → In e es ⊎ (e ≡ (k, f v))
   altered-new k lo hi f v e es r there i =
       let w = altered-was k f e es i in
       elim (cases_eq k w.0.0) [
@@ -44,7 +47,8 @@ module _ {X : Type 0} where
             inl (subst (λ d. In d es) (sym (w.2 ∙ ap (λ y. (w.0.0, y)) (cond-false (k == w.0.0) (f w.0.1) w.0.1 (ne_eqb k w.0.0 apart)))) w.1)
       ]
 
-  pub altered-old : (k lo hi : ℕ) (f : X → X) (v : X) (d : ℕ × X) (es : List (ℕ × X)) → Rising lo hi es → value_at k es ≡ Some v → In d es → In d (altered k f es) ⊎ (d ≡ (k, v))
+  pub altered-old : (k lo hi : ℕ) (f : X → X) (v : X) (d : ℕ × X) (es : List (ℕ × X)) → Rising lo hi es
+      → value_at k es ≡ Some v → In d es → In d (altered k f es) ⊎ (d ≡ (k, v))
   altered-old k lo hi f v d es r there i =
       elim (cases_eq k d.0) [
         | inl same ↦
@@ -67,17 +71,20 @@ module _ {X : Type 0} where
   inserted-new k v e (d ∷ es) i =
       elim (cases_order k d.0) [
         | inl same ↦
-            elim (subst (λ o. In e (match_ordering o ((k, v) ∷ d ∷ es) ((d.0, v) ∷ es) (d ∷ insert_entry nat_cmp es k v))) (cmp_equal k d.0 same) i) as (λ i. In e (d ∷ es) ⊎ (e ≡ (k, v))) [
+            elim (subst (λ o. In e (match_ordering o ((k, v) ∷ d ∷ es) ((d.0, v) ∷ es)
+            (d ∷ insert_entry nat_cmp es k v))) (cmp_equal k d.0 same) i) as (λ i. In e (d ∷ es) ⊎ (e ≡ (k, v))) [
               | inl here ↦ inr (here ∙ ap (λ a. (a, v)) (sym same))
               | inr later ↦ inl (inr later)
             ]
         | inr (inl below) ↦
-            elim (subst (λ o. In e (match_ordering o ((k, v) ∷ d ∷ es) ((d.0, v) ∷ es) (d ∷ insert_entry nat_cmp es k v))) (cmp_less k d.0 below) i) as (λ i. In e (d ∷ es) ⊎ (e ≡ (k, v))) [
+            elim (subst (λ o. In e (match_ordering o ((k, v) ∷ d ∷ es) ((d.0, v) ∷ es)
+            (d ∷ insert_entry nat_cmp es k v))) (cmp_less k d.0 below) i) as (λ i. In e (d ∷ es) ⊎ (e ≡ (k, v))) [
               | inl here ↦ inr here
               | inr later ↦ inl later
             ]
         | inr (inr above) ↦
-            elim (subst (λ o. In e (match_ordering o ((k, v) ∷ d ∷ es) ((d.0, v) ∷ es) (d ∷ insert_entry nat_cmp es k v))) (cmp_greater k d.0 above) i) as (λ i. In e (d ∷ es) ⊎ (e ≡ (k, v))) [
+            elim (subst (λ o. In e (match_ordering o ((k, v) ∷ d ∷ es) ((d.0, v) ∷ es)
+            (d ∷ insert_entry nat_cmp es k v))) (cmp_greater k d.0 above) i) as (λ i. In e (d ∷ es) ⊎ (e ≡ (k, v))) [
               | inl here ↦ inl (inl here)
               | inr later ↦ elim (inserted-new k v e es later) as (λ i. In e (d ∷ es) ⊎ (e ≡ (k, v))) [ inl old ↦ inl (inr old) | inr new ↦ inr new ]
             ]
@@ -86,7 +93,8 @@ module _ {X : Type 0} where
   pub inserted-old : (k : ℕ) (v : X) (e : ℕ × X) (es : List (ℕ × X)) → In e es → In e (insert_entry nat_cmp es k v) ⊎ (e.0 ≡ k)
   inserted-old k v e [] i = absurd i
   inserted-old k v e (d ∷ es) i =
-      elim (nat_cmp k d.0) as (λ o. nat_cmp k d.0 ≡ o → In e (match_ordering o ((k, v) ∷ d ∷ es) ((d.0, v) ∷ es) (d ∷ insert_entry nat_cmp es k v)) ⊎ (e.0 ≡ k)) [
+      elim (nat_cmp k d.0) as (λ o. nat_cmp k d.0 ≡ o
+      → In e (match_ordering o ((k, v) ∷ d ∷ es) ((d.0, v) ∷ es) (d ∷ insert_entry nat_cmp es k v)) ⊎ (e.0 ≡ k)) [
         | Less ↦ λ o. inl (inr i)
         | Equal ↦ λ o. elim i as (λ i. In e ((d.0, v) ∷ es) ⊎ (e.0 ≡ k)) [
           | inl here ↦ inr (ap (λ (p : ℕ × X). p.0) here ∙ sym (same_number k d.0 o))
@@ -94,7 +102,8 @@ module _ {X : Type 0} where
         ]
         | Greater ↦ λ o. elim i as (λ i. In e (d ∷ insert_entry nat_cmp es k v) ⊎ (e.0 ≡ k)) [
           | inl here ↦ inl (inl here)
-          | inr later ↦ elim (inserted-old k v e es later) as (λ i. In e (d ∷ insert_entry nat_cmp es k v) ⊎ (e.0 ≡ k)) [ inl still ↦ inl (inr still) | inr same ↦ inr same ]
+          | inr later ↦ elim (inserted-old k v e es later) as (λ i. In e (d ∷ insert_entry nat_cmp es k v)
+              ⊎ (e.0 ≡ k)) [ inl still ↦ inl (inr still) | inr same ↦ inr same ]
         ]
       ] refl
 

@@ -64,7 +64,10 @@ module _ (Has Wanted : List ℕ → Type 0) where
     all = λ t w i. inr (subst (In t) (sym is) i);
   }
 
-  pub one-added : (first names names' old rest whole : List (List ℕ)) (k : List ℕ) → old ≡ k ∷ rest → ((t : List ℕ) → In t names → In t names') → ((t : List ℕ) → In t names' → In t names ⊎ Has t) → (Wanted k → In k names') → AreAdded Has Wanted first names old whole → AreAdded Has Wanted first names' rest whole
+  pub one-added : (first names names' old rest whole : List (List ℕ)) (k : List ℕ) → old ≡ k ∷ rest
+      → ((t : List ℕ) → In t names → In t names') → ((t : List ℕ) → In t names' → In t names ⊎ Has t)
+      → (Wanted k → In k names') → AreAdded Has Wanted first names old whole
+      → AreAdded Has Wanted first names' rest whole
   one-added first names names' old rest whole k is kept only there added = record {
     kept = λ t i. kept t (added.kept t i);
     only = λ t i. elim (only t i) as (λ v. In t first ⊎ Has t) [ inl was ↦ added.only t was | inr has ↦ inr has ];
@@ -78,11 +81,13 @@ module _ (Has Wanted : List ℕ → Type 0) where
         ];
   }
 
-  pub all-added : (first names rest whole : List (List ℕ)) → rest ≡ [] → AreAdded Has Wanted first names rest whole → (t : List ℕ) → Wanted t → In t whole → In t names
+  pub all-added : (first names rest whole : List (List ℕ)) → rest ≡ [] → AreAdded Has Wanted first names rest whole
+      → (t : List ℕ) → Wanted t → In t whole → In t names
   all-added first names rest whole none added t w i =
       elim (added.all t w i) as (λ v. In t names) [ inl j ↦ j | inr j ↦ absurd (subst (In t) none j) ]
 
 -- One set after another
 
-pub only-then : (Has : List ℕ → Type 0) (a b c : List (List ℕ)) → ((t : List ℕ) → In t b → In t a ⊎ Has t) → ((t : List ℕ) → In t c → In t b ⊎ Has t) → (t : List ℕ) → In t c → In t a ⊎ Has t
+pub only-then : (Has : List ℕ → Type 0) (a b c : List (List ℕ)) → ((t : List ℕ) → In t b → In t a ⊎ Has t)
+    → ((t : List ℕ) → In t c → In t b ⊎ Has t) → (t : List ℕ) → In t c → In t a ⊎ Has t
 only-then Has a b c one two t i = elim (two t i) as (λ v. In t a ⊎ Has t) [ inl j ↦ one t j | inr has ↦ inr has ]

@@ -1,5 +1,6 @@
 -- The bytes of a name.
-use Rattle.std.proofs.Common.{◌↔◌, IsTrue, MatchBool, Bool, true, false, ℕ, zero, suc, ◌≡◌, Some, slice_get, ◌<◌, ◌≤◌, inl, inr, List, [], ◌∷◌, length, refl, sym, ◌∙◌, subst, arith}
+use Rattle.std.proofs.Common.{◌↔◌, IsTrue, MatchBool, Bool, true, false, ℕ, zero, suc, ◌≡◌, Some, slice_get, ◌<◌, ◌≤◌}
+use Rattle.std.proofs.Common.{inl, inr, List, [], ◌∷◌, length, refl, sym, ◌∙◌, subst, arith}
 use Rattle.std.specs.List.{AllWithin, HoldsAt}
 use Rattle.object.specs.Lists.{In}
 use Rattle.job_store.specs.Names.{IsName, IsNameByte, AreNameBytes}
@@ -20,13 +21,16 @@ module _ {X : Type 0} (P : X → Type 0) where
       let found = some-member xs k (omega arith) holds in (found.0, inr found.1, found.2)
 
 -- a search that went over all bytes decides whether a name may have them
-pub name_bytes-decided : (bs : List ℕ) (r : Bool) → MatchBool r (AllWithin IsNameByte bs 0 (length bs)) ((k : ℕ) × (k < length bs) × HoldsAt (λ b. IsNameByte b → ⊥) bs k) → IsTrue r ↔ AreNameBytes bs
+pub name_bytes-decided : (bs : List ℕ) (r : Bool)
+    → MatchBool r (AllWithin IsNameByte bs 0 (length bs))
+    ((k : ℕ) × (k < length bs) × HoldsAt (λ b. IsNameByte b → ⊥) bs k) → IsTrue r ↔ AreNameBytes bs
 name_bytes-decided bs true all = ((λ t. each-member IsNameByte bs all), (λ h. refl))
 name_bytes-decided bs false (k, within, holds) =
     ((λ t. cc), (λ h. let found = some-member (λ b. IsNameByte b → ⊥) bs k within holds in absurd (found.2 (h found.0 found.1))))
 
 -- bytes of which one stands first, that are no more than 200
-pub name-decided : (bs : List ℕ) (x : ℕ) (r : Bool) → slice_get bs 0 ≡ Some x → (x ≡ 45 → ⊥) → length bs ≤ 200 → IsTrue r ↔ AreNameBytes bs → IsTrue r ↔ IsName bs
+pub name-decided : (bs : List ℕ) (x : ℕ) (r : Bool) → slice_get bs 0 ≡ Some x → (x ≡ 45 → ⊥) → length bs ≤ 200
+    → IsTrue r ↔ AreNameBytes bs → IsTrue r ↔ IsName bs
 name-decided [] x r at other few h = cc
 name-decided (b ∷ bs) x r at other few h = (
   (λ t. record {

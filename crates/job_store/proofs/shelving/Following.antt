@@ -1,5 +1,6 @@
 -- Shelves that follow the jobs: in a trial by more places, and at its end by those that go.
-use Rattle.std.proofs.Common.{◌≡◌, ℕ, ◌<◌, ◌≤◌, arith, nat_le, ◌⊎◌, inl, inr, List, [], ◌∷◌, ◌++◌, Option, Some, None, IfSome, IfNone, ◌^◌, refl, sym, ap, subst, ◌∙◌, true, false}
+use Rattle.std.proofs.Common.{◌≡◌, ℕ, ◌<◌, ◌≤◌, arith, nat_le, ◌⊎◌, inl, inr, List, [], ◌∷◌, ◌++◌, Option, Some, None}
+use Rattle.std.proofs.Common.{IfSome, IfNone, ◌^◌, refl, sym, ap, subst, ◌∙◌, true, false}
 use Rattle.std.specs.Prelude.{is_some}
 use Rattle.std.proofs.lemmas.Bool.{both_ways, leb-true, and_parts, and_from}
 use Rattle.std.proofs.lemmas.Bool.Decides.{leb_tells}
@@ -16,7 +17,9 @@ use Rattle.job_store.specs.LookUps.{due_by, due_after, due_of_job, is_after}
 use Rattle.job_store.specs.Least.{IsLeast, NonePasses}
 use Rattle.job_store.specs.ShelfStates.{IsFrom, bare}
 use Rattle.job_store.specs.Spots.{spot_of, at_spot}
-use Rattle.job_store.specs.Shelves.{belongs, belongs_after, BelongsAt, shelf, places, lists, HavePlaces, IsAhead, AreAhead, AreAheadOrListed, IsListed, AreKnown, HasTaken, HasSettled, HasGrown, AreInDoubt, HasCome, HasFollowed, ShelvesMatch}
+use Rattle.job_store.specs.Shelves.{belongs, belongs_after, BelongsAt, shelf, places, lists, HavePlaces, IsAhead}
+use Rattle.job_store.specs.Shelves.{AreAhead, AreAheadOrListed, IsListed, AreKnown, HasTaken, HasSettled, HasGrown}
+use Rattle.job_store.specs.Shelves.{AreInDoubt, HasCome, HasFollowed, ShelvesMatch}
 use Rattle.job_store.specs.EntryLaws.{without-absent, without-in, value_at-insert}
 use Rattle.job_store.proofs.shelving.Shelving.{placed-settled, known-settled, ahead-settled, more-listed, last-listed, of-spot, to-spot, come-at}
 use Rattle.job_store.proofs.maps.Members.{altered-here, altered-new, altered-old, inserted-new, inserted-old, value-in, value-here, value-is, without-others}
@@ -41,9 +44,12 @@ come-same t u e same come = record {
   ahead = λ l p b. subst (λ x. IsFrom x.from p) (sym (same l)) (come.ahead l p b);
 }
 
-gained-new : (s t u : Shelves) (e : ℕ × Job) (new : List (ℕ × Job)) → In e new → ((l : Label) → shelf u l ≡ shelf t l) → ((l : Label) (p : ℕ × ℕ) → In p (places t l) → In p (places s l) ⊎ BelongsAt l p e) → (l : Label) (p : ℕ × ℕ) → In p (places u l) → In p (places s l) ⊎ ((d : ℕ × Job) × BelongsAt l p d × (In d new ⊎ IsListed u.went.items d))
+gained-new : (s t u : Shelves) (e : ℕ × Job) (new : List (ℕ × Job)) → In e new → ((l : Label) → shelf u l ≡ shelf t l)
+    → ((l : Label) (p : ℕ × ℕ) → In p (places t l) → In p (places s l) ⊎ BelongsAt l p e) → (l : Label) (p : ℕ × ℕ)
+    → In p (places u l) → In p (places s l) ⊎ ((d : ℕ × Job) × BelongsAt l p d × (In d new ⊎ IsListed u.went.items d))
 gained-new s t u e new there same only l p i =
-    elim (only l p (subst (λ x. In p x.places) (same l) i)) as (λ v. In p (places s l) ⊎ ((d : ℕ × Job) × BelongsAt l p d × (In d new ⊎ IsListed u.went.items d))) [
+    elim (only l p (subst (λ x. In p x.places) (same l) i)) as (λ v. In p (places s l)
+    ⊎ ((d : ℕ × Job) × BelongsAt l p d × (In d new ⊎ IsListed u.went.items d))) [
       | inl old ↦ inl old
       | inr b ↦ inr (e, b, inl there)
     ]
@@ -64,7 +70,10 @@ grown-moved s t u same came grown = record {
 pub left-stay : (t u : Shelves) → u.went.items ≡ t.went.items → (e : ℕ × Job) → IsListed t.went.items e → IsListed u.went.items e
 left-stay t u same e i = subst (λ x. IsListed x e) (sym same) i
 
-pub stored-only : (s t u : Shelves) (id : ℕ) (job : Job) (spot : Spot) → spot ≡ spot_of job → ((l : Label) → shelf t l ≡ shelf s l) → ((l : Label) (p : ℕ × ℕ) → In p (places u l) → In p (places t l) ⊎ BelongsAt l p (id, at_spot spot)) → (l : Label) (p : ℕ × ℕ) → In p (places u l) → In p (places s l) ⊎ BelongsAt l p (id, job)
+pub stored-only : (s t u : Shelves) (id : ℕ) (job : Job) (spot : Spot) → spot ≡ spot_of job
+    → ((l : Label) → shelf t l ≡ shelf s l)
+    → ((l : Label) (p : ℕ × ℕ) → In p (places u l) → In p (places t l) ⊎ BelongsAt l p (id, at_spot spot))
+    → (l : Label) (p : ℕ × ℕ) → In p (places u l) → In p (places s l) ⊎ BelongsAt l p (id, job)
 stored-only s t u id job spot is same only l p i =
     elim (only l p i) as (λ v. In p (places s l) ⊎ BelongsAt l p (id, job)) [
       | inl old ↦ inl (subst (λ x. In p x.places) (same l) old)
@@ -74,7 +83,11 @@ stored-only s t u id job spot is same only l p i =
 pub stored-come : (u : Shelves) (id : ℕ) (job : Job) (spot : Spot) → spot ≡ spot_of job → HasCome u (id, at_spot spot) → HasCome u (id, job)
 stored-come u id job spot is come = come-at u id job (subst (λ x. HasCome u (id, at_spot x)) is come)
 
-pub followed-altered : (s t u : Shelves) (id lo hi : ℕ) (f : Job → Job) (job : Job) (jobs new : List (ℕ × Job)) → Rising lo hi jobs → Some job ≡ value_at id jobs → new ≡ altered id f jobs → ((l : Label) → shelf u l ≡ shelf t l) → u.went.items ≡ s.went.items ++ (id, spot_of job) ∷ [] → ((l : Label) (p : ℕ × ℕ) → In p (places t l) → In p (places s l) ⊎ BelongsAt l p (id, f job)) → HasCome t (id, f job) → HasFollowed s u jobs new
+pub followed-altered : (s t u : Shelves) (id lo hi : ℕ) (f : Job → Job) (job : Job) (jobs new : List (ℕ × Job))
+    → Rising lo hi jobs → Some job ≡ value_at id jobs → new ≡ altered id f jobs → ((l : Label) → shelf u l ≡ shelf t l)
+    → u.went.items ≡ s.went.items ++ (id, spot_of job) ∷ []
+    → ((l : Label) (p : ℕ × ℕ) → In p (places t l) → In p (places s l) ⊎ BelongsAt l p (id, f job))
+    → HasCome t (id, f job) → HasFollowed s u jobs new
 followed-altered s t u id lo hi f job jobs new r there is same went only it = record {
   listed = more-listed s.went.items u.went.items (id, spot_of job) went;
   went = λ e i.
@@ -90,7 +103,12 @@ followed-altered s t u id lo hi f job jobs new r there is same went only it = re
   only = gained-new s t u (id, f job) new (subst (In (id, f job)) (sym is) (altered-here id f job jobs (sym there))) same only;
 }
 
-pub followed-put : (s t u : Shelves) (id lo hi : ℕ) (job : Job) (jobs new : List (ℕ × Job)) → Rising lo hi jobs → ((e : ℕ × Job) → IsListed s.went.items e → IsListed u.went.items e) → ((old : Job) → value_at id jobs ≡ Some old → IsListed u.went.items (id, old)) → new ≡ with_value id job jobs → ((l : Label) → shelf u l ≡ shelf t l) → ((l : Label) (p : ℕ × ℕ) → In p (places t l) → In p (places s l) ⊎ BelongsAt l p (id, job)) → HasCome t (id, job) → HasFollowed s u jobs new
+pub followed-put : (s t u : Shelves) (id lo hi : ℕ) (job : Job) (jobs new : List (ℕ × Job)) → Rising lo hi jobs
+    → ((e : ℕ × Job) → IsListed s.went.items e → IsListed u.went.items e)
+    → ((old : Job) → value_at id jobs ≡ Some old → IsListed u.went.items (id, old)) → new ≡ with_value id job jobs
+    → ((l : Label) → shelf u l ≡ shelf t l)
+    → ((l : Label) (p : ℕ × ℕ) → In p (places t l) → In p (places s l) ⊎ BelongsAt l p (id, job)) → HasCome t (id, job)
+    → HasFollowed s u jobs new
 followed-put s t u id lo hi job jobs new r listed old is same only it = record {
   listed = listed;
   went = λ e i.
@@ -126,8 +144,16 @@ pub known-step : (s t : Shelves) (jobs new : List (ℕ × Job)) → AreKnown s j
 known-step s t jobs new known followed label p i =
     elim (followed.only label p i) as (λ v. (e : ℕ × Job) × BelongsAt label p e × (In e new ⊎ IsListed t.went.items e)) [
       | inl old ↦
-          let w = known label p old in
-          (w.0, w.1, elim w.2 as (λ v. In w.0 new ⊎ IsListed t.went.items w.0) [ inl job ↦ followed.went w.0 job | inr listed ↦ inr (followed.listed w.0 listed) ])
+          let w = known label p old in (
+            w.0,
+            w.1,
+            elim w.2 as (λ v. In w.0 new
+                ⊎ IsListed t.went.items w.0) [
+                  | inl job ↦ followed.went w.0 job
+                  | inr listed ↦ inr
+                      (followed.listed w.0 listed)
+                ],
+          )
       | inr w ↦ w
     ]
 
@@ -148,14 +174,18 @@ placed-before s a before kept is = subst (λ o. IfSome o (HavePlaces s)) is kept
 pub known-before : (s : Shelves) (a : MapState) (before : List (ℕ × Job)) → ShelvesMatch s a → a.before ≡ Some before → AreKnown s before s.came.items
 known-before s a before kept is = subst (λ o. IfSome o (λ before. AreKnown s before s.came.items)) is kept.known_before
 
-went-before : (s : Shelves) (a : MapState) (before : List (ℕ × Job)) → ShelvesMatch s a → a.before ≡ Some before → (e : ℕ × Job) → In e before → In e a.jobs ⊎ IsListed s.went.items e
+went-before : (s : Shelves) (a : MapState) (before : List (ℕ × Job)) → ShelvesMatch s a → a.before ≡ Some before
+    → (e : ℕ × Job) → In e before → In e a.jobs ⊎ IsListed s.went.items e
 went-before s a before kept is = subst (λ o. IfSome o (λ before. (e : ℕ × Job) → In e before → In e a.jobs ⊎ IsListed s.went.items e)) is kept.went
 
 pub ahead-before : (s : Shelves) (a : MapState) (before : List (ℕ × Job)) → ShelvesMatch s a → a.before ≡ Some before → AreAheadOrListed s before
 ahead-before s a before kept is e i =
     elim (went-before s a before kept is e i) as (λ v. IsAhead s e ⊎ IsListed s.went.items e) [ inl job ↦ inl (kept.ahead e job) | inr l ↦ inr l ]
 
-in-trial : (s : Shelves) (b : MapState) (before : List (ℕ × Job)) → b.before ≡ Some before → Rising 0 (2 ^ 64) b.jobs → HavePlaces s b.jobs → AreAhead s b.jobs → AreKnown s b.jobs s.went.items → HavePlaces s before → AreKnown s before s.came.items → ((e : ℕ × Job) → In e before → In e b.jobs ⊎ IsListed s.went.items e) → ShelvesMatch s b
+in-trial : (s : Shelves) (b : MapState) (before : List (ℕ × Job)) → b.before ≡ Some before → Rising 0 (2 ^ 64) b.jobs
+    → HavePlaces s b.jobs → AreAhead s b.jobs → AreKnown s b.jobs s.went.items → HavePlaces s before
+    → AreKnown s before s.came.items → ((e : ℕ × Job) → In e before → In e b.jobs ⊎ IsListed s.went.items e)
+    → ShelvesMatch s b
 in-trial s b before there r placed ahead known placed-then known-then went = record {
   rising = r;
   placed = placed;
@@ -168,7 +198,8 @@ in-trial s b before there r placed ahead known placed-then known-then went = rec
 }
 
 -- A change in a trial
-pub kept-step : (s t : Shelves) (a b : MapState) (before : List (ℕ × Job)) → ShelvesMatch s a → a.before ≡ Some before → b.before ≡ a.before → HasGrown s t → HasFollowed s t a.jobs b.jobs → Rising 0 (2 ^ 64) b.jobs → ShelvesMatch t b
+pub kept-step : (s t : Shelves) (a b : MapState) (before : List (ℕ × Job)) → ShelvesMatch s a → a.before ≡ Some before
+    → b.before ≡ a.before → HasGrown s t → HasFollowed s t a.jobs b.jobs → Rising 0 (2 ^ 64) b.jobs → ShelvesMatch t b
 kept-step s t a b before kept is same grown followed r =
     in-trial t b before (same ∙ is) r
     (placed-step s t a.jobs b.jobs kept.placed grown followed)
@@ -176,10 +207,12 @@ kept-step s t a b before kept is same grown followed r =
     (known-step s t a.jobs b.jobs kept.known followed)
     (λ e i label p k. grown.keeps label p (placed-before s a before kept is e i label p k))
     (before-step s t before (known-before s a before kept is) grown)
-    (λ e i. elim (went-before s a before kept is e i) as (λ v. In e b.jobs ⊎ IsListed t.went.items e) [ inl old ↦ followed.went e old | inr l ↦ inr (followed.listed e l) ])
+    (λ e i. elim (went-before s a before kept is e i) as (λ v. In e b.jobs
+    ⊎ IsListed t.went.items e) [ inl old ↦ followed.went e old | inr l ↦ inr (followed.listed e l) ])
 
 -- Look-ups begin later
-pub kept-settled : (s t : Shelves) (a : MapState) (before : List (ℕ × Job)) → ShelvesMatch s a → a.before ≡ Some before → HasSettled s t a.jobs → ShelvesMatch t a
+pub kept-settled : (s t : Shelves) (a : MapState) (before : List (ℕ × Job)) → ShelvesMatch s a → a.before ≡ Some before
+    → HasSettled s t a.jobs → ShelvesMatch t a
 kept-settled s t a before kept is settled =
     let came : t.came.items ≡ s.came.items = ap (λ (x : List (ℕ × Spot) × List (ℕ × Spot)). x.0) settled.lists in
     let went : t.went.items ≡ s.went.items = ap (λ (x : List (ℕ × Spot) × List (ℕ × Spot)). x.1) settled.lists in
@@ -192,7 +225,8 @@ kept-settled s t a before kept is settled =
     (λ e i. subst (λ x. In e a.jobs ⊎ IsListed x e) (sym went) (went-before s a before kept is e i))
 
 -- Outside a trial, where none is listed
-pub kept-swept : (s : Shelves) (b : MapState) → b.before ≡ None → Rising 0 (2 ^ 64) b.jobs → HavePlaces s b.jobs → AreAhead s b.jobs → AreKnown s b.jobs [] → lists s ≡ ([], []) → ShelvesMatch s b
+pub kept-swept : (s : Shelves) (b : MapState) → b.before ≡ None → Rising 0 (2 ^ 64) b.jobs → HavePlaces s b.jobs
+    → AreAhead s b.jobs → AreKnown s b.jobs [] → lists s ≡ ([], []) → ShelvesMatch s b
 kept-swept s b none r placed ahead known listed = record {
   rising = r;
   placed = placed;
@@ -215,7 +249,10 @@ none-is None f = refl
 none-is (Some x) f = cc
 
 -- A change, and the shelves after it
-pub kept-followed : (s t u : Shelves) (a b : MapState) → ShelvesMatch s a → b.before ≡ a.before → HasGrown s t → HasFollowed s t a.jobs b.jobs → Rising 0 (2 ^ 64) b.jobs → (is_some b.before ≡ true → HasSettled t u b.jobs) → (is_some b.before ≡ false → lists u ≡ ([], [])) → HavePlaces u b.jobs → AreAhead u b.jobs → AreKnown u b.jobs u.went.items → ShelvesMatch u b
+pub kept-followed : (s t u : Shelves) (a b : MapState) → ShelvesMatch s a → b.before ≡ a.before → HasGrown s t
+    → HasFollowed s t a.jobs b.jobs → Rising 0 (2 ^ 64) b.jobs → (is_some b.before ≡ true → HasSettled t u b.jobs)
+    → (is_some b.before ≡ false → lists u ≡ ([], [])) → HavePlaces u b.jobs → AreAhead u b.jobs
+    → AreKnown u b.jobs u.went.items → ShelvesMatch u b
 kept-followed s t u a b kept same grown followed r settled swept placed ahead known =
     elim (is_some b.before) as (λ v. is_some b.before ≡ v → ShelvesMatch u b) [
       | true ↦ λ e.
@@ -228,11 +265,14 @@ kept-followed s t u a b kept same grown followed r settled swept placed ahead kn
 
 -- At the end of a trial, or its beginning, the jobs are as they were
 
-pub kept-ended : (s : Shelves) (a b : MapState) → b.jobs ≡ a.jobs → b.before ≡ None → Rising 0 (2 ^ 64) a.jobs → HavePlaces s a.jobs → AreAhead s a.jobs → AreKnown s a.jobs [] → lists s ≡ ([], []) → ShelvesMatch s b
+pub kept-ended : (s : Shelves) (a b : MapState) → b.jobs ≡ a.jobs → b.before ≡ None → Rising 0 (2 ^ 64) a.jobs
+    → HavePlaces s a.jobs → AreAhead s a.jobs → AreKnown s a.jobs [] → lists s ≡ ([], []) → ShelvesMatch s b
 kept-ended s a b same none r placed ahead known listed =
-    kept-swept s b none (subst (Rising 0 (2 ^ 64)) (sym same) r) (subst (HavePlaces s) (sym same) placed) (subst (AreAhead s) (sym same) ahead) (subst (λ x. AreKnown s x []) (sym same) known) listed
+    kept-swept s b none (subst (Rising 0 (2 ^ 64)) (sym same) r) (subst (HavePlaces s) (sym same) placed)
+    (subst (AreAhead s) (sym same) ahead) (subst (λ x. AreKnown s x []) (sym same) known) listed
 
-pub kept-begun : (s : Shelves) (a b : MapState) → b.jobs ≡ a.jobs → b.before ≡ Some a.jobs → Rising 0 (2 ^ 64) a.jobs → HavePlaces s a.jobs → AreAhead s a.jobs → AreKnown s a.jobs [] → lists s ≡ ([], []) → ShelvesMatch s b
+pub kept-begun : (s : Shelves) (a b : MapState) → b.jobs ≡ a.jobs → b.before ≡ Some a.jobs → Rising 0 (2 ^ 64) a.jobs
+    → HavePlaces s a.jobs → AreAhead s a.jobs → AreKnown s a.jobs [] → lists s ≡ ([], []) → ShelvesMatch s b
 kept-begun s a b same some r placed ahead known listed =
     in-trial s b a.jobs some
     (subst (Rising 0 (2 ^ 64)) (sym same) r)
@@ -245,7 +285,8 @@ kept-begun s a b same some r placed ahead known listed =
 
 pub kept-none : (s : Shelves) (b : MapState) → b.jobs ≡ [] → b.before ≡ None → ((l : Label) → shelf s l ≡ bare) → lists s ≡ ([], []) → ShelvesMatch s b
 kept-none s b no-jobs none empty listed =
-    kept-swept s b none (subst (Rising 0 (2 ^ 64)) (sym no-jobs) (omega arith)) (subst (HavePlaces s) (sym no-jobs) (λ e i. absurd i)) (subst (AreAhead s) (sym no-jobs) (λ e i. absurd i))
+    kept-swept s b none (subst (Rising 0 (2 ^ 64)) (sym no-jobs) (omega arith))
+    (subst (HavePlaces s) (sym no-jobs) (λ e i. absurd i)) (subst (AreAhead s) (sym no-jobs) (λ e i. absurd i))
     (λ l p i. absurd (subst (λ x. In p x.places) (empty l) i)) listed
 
 -- A job that is removed
@@ -259,7 +300,10 @@ known-unlisted s a kept none = subst (AreKnown s a.jobs) (ap (λ (x : List (ℕ 
 pub ahead-without : (s : Shelves) (id : ℕ) (jobs new : List (ℕ × Job)) → AreAhead s jobs → new ≡ without id jobs → AreAhead s new
 ahead-without s id jobs new ahead is e i = ahead e (without-in id jobs e (subst (In e) is i))
 
-pub kept-removed : (s t : Shelves) (a b : MapState) (id : ℕ) (job : Job) → ShelvesMatch s a → a.before ≡ None → b.before ≡ None → Rising 0 (2 ^ 64) b.jobs → b.jobs ≡ without id a.jobs → value_at id a.jobs ≡ Some job → HasTaken s t b.jobs → ((l : Label) (p : ℕ × ℕ) → In p (places t l) → BelongsAt l p (id, at_spot (spot_of job)) → (e : ℕ × Job) × BelongsAt l p e × In e b.jobs) → ShelvesMatch t b
+pub kept-removed : (s t : Shelves) (a b : MapState) (id : ℕ) (job : Job) → ShelvesMatch s a → a.before ≡ None
+    → b.before ≡ None → Rising 0 (2 ^ 64) b.jobs → b.jobs ≡ without id a.jobs → value_at id a.jobs ≡ Some job
+    → HasTaken s t b.jobs → ((l : Label) (p : ℕ × ℕ) → In p (places t l) → BelongsAt l p (id, at_spot (spot_of job))
+    → (e : ℕ × Job) × BelongsAt l p e × In e b.jobs) → ShelvesMatch t b
 kept-removed s t a b id job kept none ended r is there taken gone =
     kept-swept t b ended r
     (λ e i l p k. taken.keeps l p e i k (kept.placed e (without-in id a.jobs e (subst (In e) is i)) l p k))
@@ -277,7 +321,8 @@ kept-removed s t a b id job kept none ended r is there taken gone =
     ])
     (taken.lists ∙ none-listed s a kept none)
 
-pub kept-absent : (s : Shelves) (a b : MapState) (id : ℕ) → ShelvesMatch s a → a.before ≡ None → b.before ≡ None → b.jobs ≡ without id a.jobs → value_at id a.jobs ≡ None → ShelvesMatch s b
+pub kept-absent : (s : Shelves) (a b : MapState) (id : ℕ) → ShelvesMatch s a → a.before ≡ None → b.before ≡ None
+    → b.jobs ≡ without id a.jobs → value_at id a.jobs ≡ None → ShelvesMatch s b
 kept-absent s a b id kept none ended is absent =
     kept-ended s a b (is ∙ without-absent id a.jobs absent) ended kept.rising kept.placed kept.ahead (known-unlisted s a kept none) (none-listed s a kept none)
 
@@ -304,14 +349,16 @@ late-time second (State.Delayed due) t f = not-yet due second f
 late-time second (State.Reserved y due) t f = not-yet due second f
 late-time second (State.Buried rank) t f = cc
 
-pub due-found : (second : ℕ) (jobs : List (ℕ × Job)) (e : ℕ × Job) → IsLeast (belongs Label.Scheduled) due_of_job jobs e → is_due second e.1.state ≡ true → IsLeast (due_by second) due_of_job jobs e
+pub due-found : (second : ℕ) (jobs : List (ℕ × Job)) (e : ℕ × Job) → IsLeast (belongs Label.Scheduled) due_of_job jobs e
+    → is_due second e.1.state ≡ true → IsLeast (due_by second) due_of_job jobs e
 due-found second jobs e best t = record {
   member = best.member;
   passes = t;
   least = λ d i u. best.least d i (scheduled-due second d.1.state u);
 }
 
-pub due-later : (second : ℕ) (jobs : List (ℕ × Job)) (e : ℕ × Job) → IsLeast (belongs Label.Scheduled) due_of_job jobs e → is_due second e.1.state ≡ false → NonePasses (due_by second) jobs
+pub due-later : (second : ℕ) (jobs : List (ℕ × Job)) (e : ℕ × Job) → IsLeast (belongs Label.Scheduled) due_of_job jobs e
+    → is_due second e.1.state ≡ false → NonePasses (due_by second) jobs
 due-later second jobs e best f d i u =
     best.least d i (scheduled-due second d.1.state u) (inl (omega (arith, due-time second d.1.state u, late-time second e.1.state best.passes f)))
 
@@ -325,18 +372,24 @@ due-on second place e t =
     let both = and_parts (is_due second e.1.state) (is_after place (due_of_job e.1, e.0)) t in
     and_from (is_scheduled e.1.state) (is_after place (due_of_job e.1, e.0)) (scheduled-due second e.1.state both.0) both.1
 
-pub due-found-after : (second : ℕ) (place : ℕ × ℕ) (jobs : List (ℕ × Job)) (e : ℕ × Job) → IsLeast (belongs_after Label.Scheduled place) due_of_job jobs e → is_due second e.1.state ≡ true → IsLeast (due_after second place) due_of_job jobs e
+pub due-found-after : (second : ℕ) (place : ℕ × ℕ) (jobs : List (ℕ × Job)) (e : ℕ × Job)
+    → IsLeast (belongs_after Label.Scheduled place) due_of_job jobs e → is_due second e.1.state ≡ true
+    → IsLeast (due_after second place) due_of_job jobs e
 due-found-after second place jobs e best t = record {
   member = best.member;
-  passes = and_from (is_due second e.1.state) (is_after place (due_of_job e.1, e.0)) t (and_parts (is_scheduled e.1.state) (is_after place (due_of_job e.1, e.0)) best.passes).1;
+  passes = and_from (is_due second e.1.state) (is_after place (due_of_job e.1, e.0)) t
+      (and_parts (is_scheduled e.1.state) (is_after place (due_of_job e.1, e.0)) best.passes).1;
   least = λ d i u. best.least d i (due-on second place d u);
 }
 
-pub due-later-after : (second : ℕ) (place : ℕ × ℕ) (jobs : List (ℕ × Job)) (e : ℕ × Job) → IsLeast (belongs_after Label.Scheduled place) due_of_job jobs e → is_due second e.1.state ≡ false → NonePasses (due_after second place) jobs
+pub due-later-after : (second : ℕ) (place : ℕ × ℕ) (jobs : List (ℕ × Job)) (e : ℕ × Job)
+    → IsLeast (belongs_after Label.Scheduled place) due_of_job jobs e → is_due second e.1.state ≡ false
+    → NonePasses (due_after second place) jobs
 due-later-after second place jobs e best f d i u =
     let soon = due-time second d.1.state (and_parts (is_due second d.1.state) (is_after place (due_of_job d.1, d.0)) u).0 in
     let late = late-time second e.1.state (and_parts (is_scheduled e.1.state) (is_after place (due_of_job e.1, e.0)) best.passes).0 f in
     best.least d i (due-on second place d u) (inl (omega (arith, soon, late)))
 
-pub due-none-after : (second : ℕ) (place : ℕ × ℕ) (jobs : List (ℕ × Job)) → NonePasses (belongs_after Label.Scheduled place) jobs → NonePasses (due_after second place) jobs
+pub due-none-after : (second : ℕ) (place : ℕ × ℕ) (jobs : List (ℕ × Job))
+    → NonePasses (belongs_after Label.Scheduled place) jobs → NonePasses (due_after second place) jobs
 due-none-after second place jobs none d i u = none d i (due-on second place d u)

@@ -1,5 +1,7 @@
 -- What stands on a shelf, in its order, and after a place is put or taken out.
-use Rattle.std.proofs.Common.{◌≡◌, ℕ, ◌<◌, Bool, true, false, cond, ◌⊎◌, inl, inr, List, [], ◌∷◌, Some, refl, sym, ap, ap₂, subst, eq-eqb, eqb-true, ◌&&◌, ◌==◌, ◌∙◌, arith, Less, Equal, Greater, nat_cmp, nat_lt, ◌||◌, Ordering}
+use Rattle.std.proofs.Common.{◌≡◌, ℕ, ◌<◌, Bool, true, false, cond, ◌⊎◌, inl, inr, List, [], ◌∷◌, Some, refl, sym, ap}
+use Rattle.std.proofs.Common.{ap₂, subst, eq-eqb, eqb-true, ◌&&◌, ◌==◌, ◌∙◌, arith, Less, Equal, Greater, nat_cmp}
+use Rattle.std.proofs.Common.{nat_lt, ◌||◌, Ordering}
 use Rattle.std.proofs.lemmas.Bool.{cases_order, both_ways, and_parts, and_from, or_left, or_right}
 use Rattle.std.proofs.Math.Bool.{and-true}
 use Rattle.std.specs.Ordering.{ordering_then, match_ordering, is_le, is_lt}
@@ -80,7 +82,9 @@ from-le p q (inr w) =
 
 pub lt-after : (p q : ℕ × ℕ) → is_lt (shelf_cmp p q) ≡ is_after p q
 lt-after p q =
-    elim (nat_lt p.0 q.0) as (λ b. is_lt (ordering_then (cond b Less (cond (p.0 == q.0) Equal Greater)) (nat_cmp p.1 q.1)) ≡ (b || (p.0 == q.0 && nat_lt p.1 q.1))) [
+    elim (nat_lt p.0 q.0) as (λ b. is_lt
+    (ordering_then (cond b Less (cond (p.0 == q.0) Equal Greater)) (nat_cmp p.1 q.1))
+    ≡ (b || (p.0 == q.0 && nat_lt p.1 q.1))) [
       | true ↦ refl
       | false ↦
           elim (p.0 == q.0) as (λ b. is_lt (ordering_then (cond b Equal Greater) (nat_cmp p.1 q.1)) ≡ (b && nat_lt p.1 q.1)) [
@@ -189,18 +193,23 @@ belongs-passes label p e b =
 
 -- The job that a map has at an id, where it belongs at the place and where not
 
-pub at-id : (label : Label) (number id : ℕ) (job : Job) (jobs : List (ℕ × Job)) → Some job ≡ value_at id jobs → belongs_at label (number, id) (id, job) ≡ true → In (id, job) jobs × BelongsAt label (number, id) (id, job)
+pub at-id : (label : Label) (number id : ℕ) (job : Job) (jobs : List (ℕ × Job)) → Some job ≡ value_at id jobs
+    → belongs_at label (number, id) (id, job) ≡ true → In (id, job) jobs × BelongsAt label (number, id) (id, job)
 at-id label number id job jobs e t = (value-in id job jobs (sym e), passes-belongs label (number, id) (id, job) t)
 
-pub none-at-id : (label : Label) (number id : ℕ) (lo hi : ℕ) (jobs : List (ℕ × Job)) → Rising lo hi jobs → ((job : Job) → value_at id jobs ≡ Some job → belongs_at label (number, id) (id, job) ≡ false) → (e : ℕ × Job) → In e jobs → BelongsAt label (number, id) e → ⊥
+pub none-at-id : (label : Label) (number id : ℕ) (lo hi : ℕ) (jobs : List (ℕ × Job)) → Rising lo hi jobs
+    → ((job : Job) → value_at id jobs ≡ Some job → belongs_at label (number, id) (id, job) ≡ false) → (e : ℕ × Job)
+    → In e jobs → BelongsAt label (number, id) e → ⊥
 none-at-id label number id lo hi jobs r none e i b =
     let same : id ≡ e.0 = ap (λ (q : ℕ × ℕ). q.1) b.1 in
     let there : value_at id jobs ≡ Some e.1 = ap (λ k. value_at k jobs) same ∙ value_at-In lo hi jobs e r i in
-    both_ways (belongs_at label (number, id) (id, e.1)) (none e.1 there) (belongs-passes label (number, id) (id, e.1) (subst (λ k. BelongsAt label (number, id) (k, e.1)) (sym same) b))
+    both_ways (belongs_at label (number, id) (id, e.1)) (none e.1 there)
+    (belongs-passes label (number, id) (id, e.1) (subst (λ k. BelongsAt label (number, id) (k, e.1)) (sym same) b))
 
 -- A shelf whose places have changed
 
-pub gained-by : (old mid new : ShelfState) (k : ℕ × ℕ) → mid.places ≡ insert_key shelf_cmp old.places k → mid.from ≡ old.from → HasReached mid new k → HasGained old new k
+pub gained-by : (old mid new : ShelfState) (k : ℕ × ℕ) → mid.places ≡ insert_key shelf_cmp old.places k
+    → mid.from ≡ old.from → HasReached mid new k → HasGained old new k
 gained-by old mid new k put same reached = record {
   keeps = λ p i. subst (In p) (sym (reached.places ∙ put)) (put-keeps k p old.places i);
   only = λ p i.
@@ -218,7 +227,8 @@ gained-none old new k places from = record {
 pub found-by : (old mid new : ShelfState) (k : ℕ × ℕ) → mid.places ≡ insert_key shelf_cmp old.places k → HasReached mid new k → IsFound new k
 found-by old mid new k put reached = (subst (In k) (sym (reached.places ∙ put)) (put-there k old.places), reached.reached)
 
-pub lost-by : (old new : ShelfState) (k : ℕ × ℕ) → new.places ≡ remove_key (is_at (shelf_cmp k)) old.places → list_any (is_at (shelf_cmp k)) new.places ≡ false → new.from ≡ old.from → HasLost old new k
+pub lost-by : (old new : ShelfState) (k : ℕ × ℕ) → new.places ≡ remove_key (is_at (shelf_cmp k)) old.places
+    → list_any (is_at (shelf_cmp k)) new.places ≡ false → new.from ≡ old.from → HasLost old new k
 lost-by old new k taken gone same = record {
   keeps = λ p i apart. subst (In p) (sym taken) (take-keeps k p old.places i apart);
   only = λ p i. (take-was (is_at (shelf_cmp k)) p old.places (subst (In p) taken i), take-gone k p new.places gone i);
@@ -259,27 +269,36 @@ first-from : (k p : ℕ × ℕ) (ps : List (ℕ × ℕ)) → IsStrictlySortedBy 
 first-from k p ps s (inl here) = subst (IsFrom k) (sym here) (from-itself k)
 first-from k p ps s (inr later) = from-less k p (sorted-first k p ps s later)
 
-pub passed-to : (label : Label) (s : ShelfState) (jobs : List (ℕ × Job)) (k : ℕ × ℕ) (ps : List (ℕ × ℕ)) → AreAllFrom label s jobs (k ∷ ps) → IsStrictlySortedBy shelf_cmp (k ∷ ps) → IsPassed label jobs s k
+pub passed-to : (label : Label) (s : ShelfState) (jobs : List (ℕ × Job)) (k : ℕ × ℕ) (ps : List (ℕ × ℕ))
+    → AreAllFrom label s jobs (k ∷ ps) → IsStrictlySortedBy shelf_cmp (k ∷ ps) → IsPassed label jobs s k
 passed-to label s jobs k ps all sorted p e i b f = first-from k p ps sorted (all p e i b f)
 
-pub passed-here : (label : Label) (s : ShelfState) (jobs : List (ℕ × Job)) (k : ℕ × ℕ) (ps : List (ℕ × ℕ)) → ((e : ℕ × Job) → In e jobs → BelongsAt label k e → ⊥) → AreAllFrom label s jobs (k ∷ ps) → AreAllFrom label s jobs ps
+pub passed-here : (label : Label) (s : ShelfState) (jobs : List (ℕ × Job)) (k : ℕ × ℕ) (ps : List (ℕ × ℕ))
+    → ((e : ℕ × Job) → In e jobs → BelongsAt label k e → ⊥) → AreAllFrom label s jobs (k ∷ ps)
+    → AreAllFrom label s jobs ps
 passed-here label s jobs k ps none all p e i b f =
     elim (all p e i b f) as (λ v. In p ps) [ inl here ↦ absurd (none e i (subst (λ q. BelongsAt label q e) here b)) | inr later ↦ later ]
 
-pub none-here : (label : Label) (k : ℕ × ℕ) (ps : List (ℕ × ℕ)) (jobs : List (ℕ × Job)) → ((e : ℕ × Job) → In e jobs → BelongsAt label k e → ⊥) → AreAllOn label (k ∷ ps) jobs → AreAllOn label ps jobs
+pub none-here : (label : Label) (k : ℕ × ℕ) (ps : List (ℕ × ℕ)) (jobs : List (ℕ × Job))
+    → ((e : ℕ × Job) → In e jobs → BelongsAt label k e → ⊥) → AreAllOn label (k ∷ ps) jobs → AreAllOn label ps jobs
 none-here label k ps jobs none all p e i b =
     elim (all p e i b) as (λ v. In p ps) [ inl here ↦ absurd (none e i (subst (λ q. BelongsAt label q e) here b)) | inr later ↦ later ]
 
-never-before : (label : Label) (k : ℕ × ℕ) (ps : List (ℕ × ℕ)) (d e : ℕ × Job) → IsStrictlySortedBy shelf_cmp (k ∷ ps) → k ≡ (number label e.1, e.0) → In (number label d.1, d.0) (k ∷ ps) → ComesBefore (number label) d e → ⊥
+never-before : (label : Label) (k : ℕ × ℕ) (ps : List (ℕ × ℕ)) (d e : ℕ × Job) → IsStrictlySortedBy shelf_cmp (k ∷ ps)
+    → k ≡ (number label e.1, e.0) → In (number label d.1, d.0) (k ∷ ps) → ComesBefore (number label) d e → ⊥
 never-before label k ps d e s is (inl here) first =
     let a : number label d.1 ≡ number label e.1 = ap (λ (p : ℕ × ℕ). p.0) (here ∙ is) in
     let b : d.0 ≡ e.0 = ap (λ (p : ℕ × ℕ). p.1) (here ∙ is) in
     elim first as (λ v. ⊥) [ inl h ↦ omega (arith, a) | inr h ↦ omega (arith, b, h.1) ]
 never-before label k ps d e s is (inr later) first =
-    let less = before_place (number label e.1, e.0) (number label d.1, d.0) (subst (λ q. shelf_cmp q (number label d.1, d.0) ≡ Less) is (sorted-first k (number label d.1, d.0) ps s later)) in
+    let less = before_place (number label e.1, e.0) (number label d.1, d.0)
+    (subst (λ q. shelf_cmp q (number label d.1, d.0) ≡ Less) is (sorted-first k (number label d.1, d.0) ps s later))
+    in
     grind arith
 
-pub first-is-least : (label : Label) (k : ℕ × ℕ) (ps : List (ℕ × ℕ)) (jobs : List (ℕ × Job)) (e : ℕ × Job) → AreAllOn label (k ∷ ps) jobs → IsStrictlySortedBy shelf_cmp (k ∷ ps) → In e jobs → BelongsAt label k e → IsLeast (belongs label) (number label) jobs e
+pub first-is-least : (label : Label) (k : ℕ × ℕ) (ps : List (ℕ × ℕ)) (jobs : List (ℕ × Job)) (e : ℕ × Job)
+    → AreAllOn label (k ∷ ps) jobs → IsStrictlySortedBy shelf_cmp (k ∷ ps) → In e jobs → BelongsAt label k e
+    → IsLeast (belongs label) (number label) jobs e
 first-is-least label k ps jobs e all s i b = record {
   member = i;
   passes = b.0;
@@ -303,11 +322,15 @@ AreAllAfter label after places jobs =
 abbrev pub AreAfter : ℕ × ℕ → List (ℕ × ℕ) → Type 0
 AreAfter after places = (p : ℕ × ℕ) → In p places → is_after after p ≡ true
 
-pub none-here-after : (label : Label) (after k : ℕ × ℕ) (ps : List (ℕ × ℕ)) (jobs : List (ℕ × Job)) → ((e : ℕ × Job) → In e jobs → BelongsAt label k e → ⊥) → AreAllAfter label after (k ∷ ps) jobs → AreAllAfter label after ps jobs
+pub none-here-after : (label : Label) (after k : ℕ × ℕ) (ps : List (ℕ × ℕ)) (jobs : List (ℕ × Job))
+    → ((e : ℕ × Job) → In e jobs → BelongsAt label k e → ⊥) → AreAllAfter label after (k ∷ ps) jobs
+    → AreAllAfter label after ps jobs
 none-here-after label after k ps jobs none all p e i b t =
     elim (all p e i b t) as (λ v. In p ps) [ inl here ↦ absurd (none e i (subst (λ q. BelongsAt label q e) here b)) | inr later ↦ later ]
 
-pub first-after-is-least : (label : Label) (after k : ℕ × ℕ) (ps : List (ℕ × ℕ)) (jobs : List (ℕ × Job)) (e : ℕ × Job) → AreAllAfter label after (k ∷ ps) jobs → IsStrictlySortedBy shelf_cmp (k ∷ ps) → AreAfter after (k ∷ ps) → In e jobs → BelongsAt label k e → IsLeast (belongs_after label after) (number label) jobs e
+pub first-after-is-least : (label : Label) (after k : ℕ × ℕ) (ps : List (ℕ × ℕ)) (jobs : List (ℕ × Job)) (e : ℕ × Job)
+    → AreAllAfter label after (k ∷ ps) jobs → IsStrictlySortedBy shelf_cmp (k ∷ ps) → AreAfter after (k ∷ ps)
+    → In e jobs → BelongsAt label k e → IsLeast (belongs_after label after) (number label) jobs e
 first-after-is-least label after k ps jobs e all s later i b = record {
   member = i;
   passes = and_from (belongs label e) (is_after after (number label e.1, e.0)) b.0 (subst (λ p. is_after after p ≡ true) b.1 (later k (inl refl)));
@@ -323,7 +346,8 @@ none-after label after jobs all e i t =
 
 -- Whether a job belongs at a place of its own id
 
-pub at-test : (label : Label) (at id n : ℕ) (job : Job) → belongs label (id, job) ≡ true → n ≡ number label job → (n == at) ≡ belongs_at label (at, id) (id, job)
+pub at-test : (label : Label) (at id n : ℕ) (job : Job) → belongs label (id, job) ≡ true → n ≡ number label job
+    → (n == at) ≡ belongs_at label (at, id) (id, job)
 at-test label at id n job fits is =
     ap (λ m. m == at) is ∙
     sym (ap (λ t. t && number label job == at && id == id) fits ∙ ap (λ t. number label job == at && t) (eq-eqb id id refl) ∙ and-true (number label job == at))

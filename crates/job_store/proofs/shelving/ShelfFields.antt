@@ -31,9 +31,11 @@ same-name a b =
       | false ↦ λ f. inr (λ same. both_ways (bytes_eq a b) f ((bytes_eq-Decides a b).1 same))
     ] refl
 
-pub only-ready : (s : Shelves) (r : Rack Name ℕ) (tube : Bor Name) → AreOthersKept name_cmp tube.now s.ready.shelves r.shelves → IsOnly s (record s { ready = r }) (Label.Ready tube)
+pub only-ready : (s : Shelves) (r : Rack Name ℕ) (tube : Bor Name)
+    → AreOthersKept name_cmp tube.now s.ready.shelves r.shelves → IsOnly s (record s { ready = r }) (Label.Ready tube)
 only-ready s r tube others (Label.Ready t) =
-    elim (same-name t.now tube.now) as (λ v. IsLike s (record s { ready = r }) (Label.Ready t) (Label.Ready tube) ⊎ (shelf_at name_cmp r.shelves t.now ≡ shelf_at name_cmp s.ready.shelves t.now)) [
+    elim (same-name t.now tube.now) as (λ v. IsLike s (record s { ready = r }) (Label.Ready t) (Label.Ready tube)
+    ⊎ (shelf_at name_cmp r.shelves t.now ≡ shelf_at name_cmp s.ready.shelves t.now)) [
       | inl same ↦ inl (record {
         test = λ i e. is_ready e.1.state && bytes_eq (same i) e.1.tube;
         by = refl;
@@ -48,10 +50,13 @@ only-ready s r tube others (Label.Held x) = inr refl
 only-ready s r tube others Label.Scheduled = inr refl
 only-ready s r tube others (Label.Reserved t) = inr refl
 
-pub only-delayed : (s : Shelves) (r : Rack Name ℕ) (tube : Bor Name) → AreOthersKept name_cmp tube.now s.delayed.shelves r.shelves → IsOnly s (record s { delayed = r }) (Label.Delayed tube)
+pub only-delayed : (s : Shelves) (r : Rack Name ℕ) (tube : Bor Name)
+    → AreOthersKept name_cmp tube.now s.delayed.shelves r.shelves
+    → IsOnly s (record s { delayed = r }) (Label.Delayed tube)
 only-delayed s r tube others (Label.Ready t) = inr refl
 only-delayed s r tube others (Label.Delayed t) =
-    elim (same-name t.now tube.now) as (λ v. IsLike s (record s { delayed = r }) (Label.Delayed t) (Label.Delayed tube) ⊎ (shelf_at name_cmp r.shelves t.now ≡ shelf_at name_cmp s.delayed.shelves t.now)) [
+    elim (same-name t.now tube.now) as (λ v. IsLike s (record s { delayed = r }) (Label.Delayed t) (Label.Delayed tube)
+    ⊎ (shelf_at name_cmp r.shelves t.now ≡ shelf_at name_cmp s.delayed.shelves t.now)) [
       | inl same ↦ inl (record {
         test = λ i e. is_delayed e.1.state && bytes_eq (same i) e.1.tube;
         by = refl;
@@ -65,11 +70,14 @@ only-delayed s r tube others (Label.Held x) = inr refl
 only-delayed s r tube others Label.Scheduled = inr refl
 only-delayed s r tube others (Label.Reserved t) = inr refl
 
-pub only-buried : (s : Shelves) (r : Rack Name ℕ) (tube : Bor Name) → AreOthersKept name_cmp tube.now s.buried.shelves r.shelves → IsOnly s (record s { buried = r }) (Label.Buried tube)
+pub only-buried : (s : Shelves) (r : Rack Name ℕ) (tube : Bor Name)
+    → AreOthersKept name_cmp tube.now s.buried.shelves r.shelves
+    → IsOnly s (record s { buried = r }) (Label.Buried tube)
 only-buried s r tube others (Label.Ready t) = inr refl
 only-buried s r tube others (Label.Delayed t) = inr refl
 only-buried s r tube others (Label.Buried t) =
-    elim (same-name t.now tube.now) as (λ v. IsLike s (record s { buried = r }) (Label.Buried t) (Label.Buried tube) ⊎ (shelf_at name_cmp r.shelves t.now ≡ shelf_at name_cmp s.buried.shelves t.now)) [
+    elim (same-name t.now tube.now) as (λ v. IsLike s (record s { buried = r }) (Label.Buried t) (Label.Buried tube)
+    ⊎ (shelf_at name_cmp r.shelves t.now ≡ shelf_at name_cmp s.buried.shelves t.now)) [
       | inl same ↦ inl (record {
         test = λ i e. is_buried e.1.state && bytes_eq (same i) e.1.tube;
         by = refl;
@@ -87,7 +95,8 @@ only-held s r x others (Label.Ready t) = inr refl
 only-held s r x others (Label.Delayed t) = inr refl
 only-held s r x others (Label.Buried t) = inr refl
 only-held s r x others (Label.Held y) =
-    elim (cases_eq y x) as (λ v. IsLike s (record s { held = r }) (Label.Held y) (Label.Held x) ⊎ (shelf_at nat_cmp r.shelves y ≡ shelf_at nat_cmp s.held.shelves y)) [
+    elim (cases_eq y x) as (λ v. IsLike s (record s { held = r }) (Label.Held y) (Label.Held x)
+    ⊎ (shelf_at nat_cmp r.shelves y ≡ shelf_at nat_cmp s.held.shelves y)) [
       | inl same ↦ inl (record {
         test = λ i e. is_held (same i) e.1.state;
         by = refl;
@@ -107,12 +116,15 @@ only-scheduled s r (Label.Held x) = inr refl
 only-scheduled s r Label.Scheduled = inl (record { test = refl; by = refl; old = refl; new = refl })
 only-scheduled s r (Label.Reserved t) = inr refl
 
-pub only-reserved : (s : Shelves) (r : Rack Name ℕ) (tube : Bor Name) → AreOthersKept name_cmp tube.now s.reserved.shelves r.shelves → IsOnly s (record s { reserved = r }) (Label.Reserved tube)
+pub only-reserved : (s : Shelves) (r : Rack Name ℕ) (tube : Bor Name)
+    → AreOthersKept name_cmp tube.now s.reserved.shelves r.shelves
+    → IsOnly s (record s { reserved = r }) (Label.Reserved tube)
 only-reserved s r tube others (Label.Ready t) = inr refl
 only-reserved s r tube others (Label.Delayed t) = inr refl
 only-reserved s r tube others (Label.Buried t) = inr refl
 only-reserved s r tube others (Label.Reserved t) =
-    elim (same-name t.now tube.now) as (λ v. IsLike s (record s { reserved = r }) (Label.Reserved t) (Label.Reserved tube) ⊎ (shelf_at name_cmp r.shelves t.now ≡ shelf_at name_cmp s.reserved.shelves t.now)) [
+    elim (same-name t.now tube.now) as (λ v. IsLike s (record s { reserved = r }) (Label.Reserved t)
+    (Label.Reserved tube) ⊎ (shelf_at name_cmp r.shelves t.now ≡ shelf_at name_cmp s.reserved.shelves t.now)) [
       | inl same ↦ inl (record {
         test = λ i e. is_reserved e.1.state && bytes_eq (same i) e.1.tube;
         by = refl;
@@ -125,7 +137,9 @@ only-reserved s r tube others (Label.Held x) = inr refl
 only-reserved s r tube others Label.Scheduled = inr refl
 
 module _ (s t : Shelves) (k : Label) (only : IsOnly s t k) where
-  each-shelf : (R : Label → ShelfState → ShelfState → Type 0) → ((l : Label) → belongs l ≡ belongs k → number l ≡ number k → R l (shelf s k) (shelf t k)) → ((l : Label) (x : ShelfState) → R l x x) → (l : Label) → R l (shelf s l) (shelf t l)
+  each-shelf : (R : Label → ShelfState → ShelfState → Type 0)
+      → ((l : Label) → belongs l ≡ belongs k → number l ≡ number k → R l (shelf s k) (shelf t k))
+      → ((l : Label) (x : ShelfState) → R l x x) → (l : Label) → R l (shelf s l) (shelf t l)
   each-shelf R here others l =
       elim (only l) as (λ v. R l (shelf s l) (shelf t l)) [
         | inl like ↦ subst (λ x. R l x (shelf t l)) (sym like.old) (subst (R l (shelf s k)) (sym like.new) (here l like.test like.by))
@@ -149,7 +163,8 @@ module _ (s t : Shelves) (k : Label) (only : IsOnly s t k) where
       lists = same;
     }
 
-    pub take-at : (jobs : List (ℕ × Job)) (place : ℕ × ℕ) → ((e : ℕ × Job) → In e jobs → BelongsAt k place e → ⊥) → HasLost (shelf s k) (shelf t k) place → HasTaken s t jobs
+    pub take-at : (jobs : List (ℕ × Job)) (place : ℕ × ℕ) → ((e : ℕ × Job) → In e jobs → BelongsAt k place e → ⊥)
+        → HasLost (shelf s k) (shelf t k) place → HasTaken s t jobs
     take-at jobs place none lost = record {
       keeps = each-shelf (λ l x y. (p : ℕ × ℕ) (e : ℕ × Job) → In e jobs → BelongsAt l p e → In p x.places → In p y.places)
           (λ l test by p e i b j. lost.keeps p j (λ at. none e i (subst (λ q. BelongsAt k q e) at (belongs-like l test by p e b))))
@@ -174,14 +189,26 @@ module _ (s t : Shelves) (k : Label) (only : IsOnly s t k) where
       lists = same;
     }
 
-pub settle-ready : (s : Shelves) (r : Rack Name ℕ) (jobs : List (ℕ × Job)) {tube : Bor Name} → HasMovedOn (Label.Ready tube) jobs (shelf_at name_cmp s.ready.shelves tube.now) (shelf_at name_cmp r.shelves tube.now) → AreOthersKept name_cmp tube.now s.ready.shelves r.shelves → HasSettled s (record s { ready = r }) jobs
+pub settle-ready : (s : Shelves) (r : Rack Name ℕ) (jobs : List (ℕ × Job)) {tube : Bor Name}
+    → HasMovedOn (Label.Ready tube) jobs (shelf_at name_cmp s.ready.shelves tube.now)
+    (shelf_at name_cmp r.shelves tube.now) → AreOthersKept name_cmp tube.now s.ready.shelves r.shelves
+    → HasSettled s (record s { ready = r }) jobs
 settle-ready s r jobs {tube} moved others = settle-at s (record s { ready = r }) (Label.Ready tube) (only-ready s r tube others) refl jobs moved
 
-pub settle-delayed : (s : Shelves) (r : Rack Name ℕ) (jobs : List (ℕ × Job)) {tube : Bor Name} → HasMovedOn (Label.Delayed tube) jobs (shelf_at name_cmp s.delayed.shelves tube.now) (shelf_at name_cmp r.shelves tube.now) → AreOthersKept name_cmp tube.now s.delayed.shelves r.shelves → HasSettled s (record s { delayed = r }) jobs
+pub settle-delayed : (s : Shelves) (r : Rack Name ℕ) (jobs : List (ℕ × Job)) {tube : Bor Name}
+    → HasMovedOn (Label.Delayed tube) jobs (shelf_at name_cmp s.delayed.shelves tube.now)
+    (shelf_at name_cmp r.shelves tube.now) → AreOthersKept name_cmp tube.now s.delayed.shelves r.shelves
+    → HasSettled s (record s { delayed = r }) jobs
 settle-delayed s r jobs {tube} moved others = settle-at s (record s { delayed = r }) (Label.Delayed tube) (only-delayed s r tube others) refl jobs moved
 
-pub settle-buried : (s : Shelves) (r : Rack Name ℕ) (jobs : List (ℕ × Job)) {tube : Bor Name} → HasMovedOn (Label.Buried tube) jobs (shelf_at name_cmp s.buried.shelves tube.now) (shelf_at name_cmp r.shelves tube.now) → AreOthersKept name_cmp tube.now s.buried.shelves r.shelves → HasSettled s (record s { buried = r }) jobs
+pub settle-buried : (s : Shelves) (r : Rack Name ℕ) (jobs : List (ℕ × Job)) {tube : Bor Name}
+    → HasMovedOn (Label.Buried tube) jobs (shelf_at name_cmp s.buried.shelves tube.now)
+    (shelf_at name_cmp r.shelves tube.now) → AreOthersKept name_cmp tube.now s.buried.shelves r.shelves
+    → HasSettled s (record s { buried = r }) jobs
 settle-buried s r jobs {tube} moved others = settle-at s (record s { buried = r }) (Label.Buried tube) (only-buried s r tube others) refl jobs moved
 
-pub settle-reserved : (s : Shelves) (r : Rack Name ℕ) (jobs : List (ℕ × Job)) {tube : Bor Name} → HasMovedOn (Label.Reserved tube) jobs (shelf_at name_cmp s.reserved.shelves tube.now) (shelf_at name_cmp r.shelves tube.now) → AreOthersKept name_cmp tube.now s.reserved.shelves r.shelves → HasSettled s (record s { reserved = r }) jobs
+pub settle-reserved : (s : Shelves) (r : Rack Name ℕ) (jobs : List (ℕ × Job)) {tube : Bor Name}
+    → HasMovedOn (Label.Reserved tube) jobs (shelf_at name_cmp s.reserved.shelves tube.now)
+    (shelf_at name_cmp r.shelves tube.now) → AreOthersKept name_cmp tube.now s.reserved.shelves r.shelves
+    → HasSettled s (record s { reserved = r }) jobs
 settle-reserved s r jobs {tube} moved others = settle-at s (record s { reserved = r }) (Label.Reserved tube) (only-reserved s r tube others) refl jobs moved

@@ -10,7 +10,9 @@ use Rattle.job_store.specs.declared.state.State.{State}
 use Rattle.job_store.specs.States.{with_pri_and_state}
 use Rattle.job_store.specs.ShelfStates.{IsFrom, bare}
 use Rattle.job_store.specs.Spots.{spot_of, at_spot}
-use Rattle.job_store.specs.Shelves.{belongs, number, BelongsAt, shelf, places, lists, HasPlaces, HavePlaces, IsAhead, AreAhead, AreAheadOrListed, BeginNoLater, HasPut, HasTaken, HasGoneBack, HasSettled, HasCome, IsListed, AreKnown, HasGrown, AreInDoubt}
+use Rattle.job_store.specs.Shelves.{belongs, number, BelongsAt, shelf, places, lists, HasPlaces, HavePlaces, IsAhead}
+use Rattle.job_store.specs.Shelves.{AreAhead, AreAheadOrListed, BeginNoLater, HasPut, HasTaken, HasGoneBack, HasSettled}
+use Rattle.job_store.specs.Shelves.{HasCome, IsListed, AreKnown, HasGrown, AreInDoubt}
 
 module _ {X : Type 0} where
   pub in-front : (x : X) (xs ys : List X) → In x xs → In x (xs ++ ys)
@@ -119,17 +121,20 @@ put-doubt s t u e doubt there put =
 
 -- A job is listed, and then put
 
-pub listed-put-grown : (s t u : Shelves) (id : ℕ) (spot copy : Spot) → ((l : Label) → shelf t l ≡ shelf s l) → t.came.items ≡ s.came.items ++ (id, copy) ∷ [] → copy ≡ spot → HasPut t u (id, at_spot spot) → HasGrown s u
+pub listed-put-grown : (s t u : Shelves) (id : ℕ) (spot copy : Spot) → ((l : Label) → shelf t l ≡ shelf s l)
+    → t.came.items ≡ s.came.items ++ (id, copy) ∷ [] → copy ≡ spot → HasPut t u (id, at_spot spot) → HasGrown s u
 listed-put-grown s t u id spot copy same came is put =
     put-grown s t u (id, at_spot spot) (same-grown s t same (more-listed s.came.items t.came.items (id, copy) came))
     (last-listed s.came.items t.came.items (id, at_spot spot) (came ∙ ap (λ x. s.came.items ++ (id, x) ∷ []) is)) put
 
-pub listed-put-doubt : (s t u : Shelves) (id : ℕ) (spot copy : Spot) → ((l : Label) → shelf t l ≡ shelf s l) → t.went.items ≡ s.went.items ++ (id, copy) ∷ [] → copy ≡ spot → HasPut t u (id, at_spot spot) → AreInDoubt s u
+pub listed-put-doubt : (s t u : Shelves) (id : ℕ) (spot copy : Spot) → ((l : Label) → shelf t l ≡ shelf s l)
+    → t.went.items ≡ s.went.items ++ (id, copy) ∷ [] → copy ≡ spot → HasPut t u (id, at_spot spot) → AreInDoubt s u
 listed-put-doubt s t u id spot copy same went is put =
     put-doubt s t u (id, at_spot spot) (same-doubt s t same (more-listed s.went.items t.went.items (id, copy) went))
     (last-listed s.went.items t.went.items (id, at_spot spot) (went ∙ ap (λ x. s.went.items ++ (id, x) ∷ []) is)) put
 
-pub only-put : (s t u : Shelves) (e : ℕ × Job) → ((l : Label) → shelf t l ≡ shelf s l) → HasPut t u e → (l : Label) (p : ℕ × ℕ) → In p (places u l) → In p (places s l) ⊎ BelongsAt l p e
+pub only-put : (s t u : Shelves) (e : ℕ × Job) → ((l : Label) → shelf t l ≡ shelf s l) → HasPut t u e
+    → (l : Label) (p : ℕ × ℕ) → In p (places u l) → In p (places s l) ⊎ BelongsAt l p e
 only-put s t u e same put l p i =
     elim (put.only l p i) as (λ v. In p (places s l) ⊎ BelongsAt l p e) [
       | inl old ↦ inl (subst (λ x. In p x.places) (same l) old)
@@ -138,23 +143,34 @@ only-put s t u e same put l p i =
 
 -- A changed job is put
 
-changed-spot : (pri : ℕ) (state : State) (tube : List ℕ) (job : Job) → tube ≡ job.tube → record { tube = tube; pri = pri; state = state } ≡ spot_of (with_pri_and_state pri state job)
+changed-spot : (pri : ℕ) (state : State) (tube : List ℕ) (job : Job) → tube ≡ job.tube
+    → record { tube = tube; pri = pri; state = state } ≡ spot_of (with_pri_and_state pri state job)
 changed-spot pri state tube job same = ap (λ (t : List ℕ). record { tube = t; pri = pri; state = state }) same
 
-pub changed-only : (s t u : Shelves) (id pri : ℕ) (state : State) (tube : List ℕ) (job : Job) → tube ≡ job.tube → ((l : Label) → shelf t l ≡ shelf s l) → ((l : Label) (p : ℕ × ℕ) → In p (places u l) → In p (places t l) ⊎ BelongsAt l p (id, at_spot (record { tube = tube; pri = pri; state = state }))) → (l : Label) (p : ℕ × ℕ) → In p (places u l) → In p (places s l) ⊎ BelongsAt l p (id, with_pri_and_state pri state job)
+pub changed-only : (s t u : Shelves) (id pri : ℕ) (state : State) (tube : List ℕ) (job : Job) → tube ≡ job.tube
+    → ((l : Label) → shelf t l ≡ shelf s l)
+    → ((l : Label) (p : ℕ × ℕ) → In p (places u l) → In p (places t l)
+    ⊎ BelongsAt l p (id, at_spot (record { tube = tube; pri = pri; state = state }))) → (l : Label) (p : ℕ × ℕ)
+    → In p (places u l) → In p (places s l) ⊎ BelongsAt l p (id, with_pri_and_state pri state job)
 changed-only s t u id pri state tube job is same only l p i =
     elim (only l p i) as (λ v. In p (places s l) ⊎ BelongsAt l p (id, with_pri_and_state pri state job)) [
       | inl old ↦ inl (subst (λ x. In p x.places) (same l) old)
       | inr b ↦ inr (of-spot l p id (with_pri_and_state pri state job) (subst (λ x. BelongsAt l p (id, at_spot x)) (changed-spot pri state tube job is) b))
     ]
 
-pub changed-come : (u : Shelves) (id pri : ℕ) (state : State) (tube : List ℕ) (job : Job) → tube ≡ job.tube → HasCome u (id, at_spot (record { tube = tube; pri = pri; state = state })) → HasCome u (id, with_pri_and_state pri state job)
+pub changed-come : (u : Shelves) (id pri : ℕ) (state : State) (tube : List ℕ) (job : Job) → tube ≡ job.tube
+    → HasCome u (id, at_spot (record { tube = tube; pri = pri; state = state }))
+    → HasCome u (id, with_pri_and_state pri state job)
 changed-come u id pri state tube job is come =
     come-at u id (with_pri_and_state pri state job) (subst (λ x. HasCome u (id, at_spot x)) (changed-spot pri state tube job is) come)
 
-pub changed-went : (s t u : Shelves) (id pri : ℕ) (state : State) (tube : List ℕ) (job : Job) → tube ≡ job.tube → t.went.items ≡ s.went.items ++ (id, spot_of job) ∷ [] → u.went.items ≡ t.went.items ++ (id, record { tube = tube; pri = pri; state = state }) ∷ [] → u.went.items ≡ (s.went.items ++ (id, spot_of job) ∷ []) ++ (id, spot_of (with_pri_and_state pri state job)) ∷ []
+pub changed-went : (s t u : Shelves) (id pri : ℕ) (state : State) (tube : List ℕ) (job : Job) → tube ≡ job.tube
+    → t.went.items ≡ s.went.items ++ (id, spot_of job) ∷ []
+    → u.went.items ≡ t.went.items ++ (id, record { tube = tube; pri = pri; state = state }) ∷ []
+    → u.went.items ≡ (s.went.items ++ (id, spot_of job) ∷ []) ++ (id, spot_of (with_pri_and_state pri state job)) ∷ []
 changed-went s t u id pri state tube job is one two =
-    two ∙ ap (λ (xs : List (ℕ × Spot)). xs ++ (id, record { tube = tube; pri = pri; state = state }) ∷ []) one ∙ ap (λ (x : Spot). (s.went.items ++ (id, spot_of job) ∷ []) ++ (id, x) ∷ []) (changed-spot pri state tube job is)
+    two ∙ ap (λ (xs : List (ℕ × Spot)). xs ++ (id, record { tube = tube; pri = pri; state = state }) ∷ []) one ∙ ap
+    (λ (x : Spot). (s.went.items ++ (id, spot_of job) ∷ []) ++ (id, x) ∷ []) (changed-spot pri state tube job is)
 
 -- Growth on growth
 
@@ -188,7 +204,10 @@ doubt-twice s t u one two = record {
 
 -- Where no job of the map stands
 
-pub untaken : (label : Label) (id n : ℕ) (spot : Spot) (jobs : List (ℕ × Job)) → belongs label (id, at_spot spot) ≡ true → n ≡ number label (at_spot spot) → ((p : ℕ × ℕ) → BelongsAt label p (id, at_spot spot) → (e : ℕ × Job) → In e jobs → BelongsAt label p e → ⊥) → (e : ℕ × Job) → In e jobs → BelongsAt label (n, id) e → ⊥
+pub untaken : (label : Label) (id n : ℕ) (spot : Spot) (jobs : List (ℕ × Job)) → belongs label (id, at_spot spot) ≡ true
+    → n ≡ number label (at_spot spot)
+    → ((p : ℕ × ℕ) → BelongsAt label p (id, at_spot spot) → (e : ℕ × Job) → In e jobs → BelongsAt label p e → ⊥)
+    → (e : ℕ × Job) → In e jobs → BelongsAt label (n, id) e → ⊥
 untaken label id n spot jobs fits is none = none (n, id) (fits, ap (λ m. (m, id)) is)
 
 -- A listed job is taken out
@@ -199,17 +218,29 @@ pub record IsSwept (s : Shelves) (jobs : List (ℕ × Job)) : Type 0 where
   pub ahead : AreAhead s jobs
   pub none : s.came.items ≡ []
 
-pub sweep-begins : (s t : Shelves) (jobs : List (ℕ × Job)) → ((l : Label) → shelf t l ≡ shelf s l) → t.came.items ≡ [] → t.went.items ≡ s.went.items → HavePlaces s jobs → AreKnown s jobs s.went.items → AreAhead s jobs → IsSwept t jobs
+pub sweep-begins : (s t : Shelves) (jobs : List (ℕ × Job)) → ((l : Label) → shelf t l ≡ shelf s l) → t.came.items ≡ []
+    → t.went.items ≡ s.went.items → HavePlaces s jobs → AreKnown s jobs s.went.items → AreAhead s jobs → IsSwept t jobs
 sweep-begins s t jobs same none went placed known ahead = record {
   placed = λ e i l p b. subst (λ y. In p y.places) (sym (same l)) (placed e i l p b);
   known = λ l p i.
-      let w = known l p (subst (λ x. In p x.places) (same l) i) in
-      (w.0, w.1, elim w.2 as (λ v. In w.0 jobs ⊎ IsListed t.went.items w.0) [ inl job ↦ inl job | inr listed ↦ inr (subst (λ x. IsListed x w.0) (sym went) listed) ]);
+      let w = known l p (subst (λ x. In p x.places) (same l) i) in (
+        w.0,
+        w.1,
+        elim w.2 as (λ v. In w.0 jobs
+            ⊎ IsListed t.went.items w.0) [
+              | inl job ↦ inl job
+              | inr listed ↦ inr
+                  (subst (λ x. IsListed x w.0) (sym went) listed)
+            ],
+      );
   ahead = λ e i l p b. subst (λ y. IsFrom y.from p) (sym (same l)) (ahead e i l p b);
   none = none;
 }
 
-pub sweep-step : (s t u : Shelves) (jobs : List (ℕ × Job)) (x : ℕ × Spot) → ((l : Label) → shelf t l ≡ shelf s l) → t.came.items ≡ s.came.items → s.went.items ≡ t.went.items ++ (x ∷ []) → HasTaken t u jobs → ((l : Label) (p : ℕ × ℕ) → In p (places u l) → BelongsAt l p (x.0, at_spot x.1) → (e : ℕ × Job) × BelongsAt l p e × In e jobs) → IsSwept s jobs → IsSwept u jobs
+pub sweep-step : (s t u : Shelves) (jobs : List (ℕ × Job)) (x : ℕ × Spot) → ((l : Label) → shelf t l ≡ shelf s l)
+    → t.came.items ≡ s.came.items → s.went.items ≡ t.went.items ++ (x ∷ []) → HasTaken t u jobs
+    → ((l : Label) (p : ℕ × ℕ) → In p (places u l) → BelongsAt l p (x.0, at_spot x.1) → (e : ℕ × Job) × BelongsAt l p e
+    × In e jobs) → IsSwept s jobs → IsSwept u jobs
 sweep-step s t u jobs x same came popped taken gone swept =
     let came-same : u.came.items ≡ t.came.items = ap (λ (y : List (ℕ × Spot) × List (ℕ × Spot)). y.0) taken.lists in
     let went-same : u.went.items ≡ t.went.items = ap (λ (y : List (ℕ × Spot) × List (ℕ × Spot)). y.1) taken.lists in
@@ -219,10 +250,12 @@ sweep-step s t u jobs x same came popped taken gone swept =
           let w = swept.known l p (subst (λ y. In p y.places) (same l) (taken.only l p i)) in
           elim w.2 as (λ v. (e : ℕ × Job) × BelongsAt l p e × (In e jobs ⊎ IsListed u.went.items e)) [
             | inl job ↦ (w.0, w.1, inl job)
-            | inr listed ↦ elim (in-push (w.0.0, spot_of w.0.1) x t.went.items (subst (In (w.0.0, spot_of w.0.1)) popped listed)) as (λ v. (e : ℕ × Job) × BelongsAt l p e × (In e jobs ⊎ IsListed u.went.items e)) [
-              | inl before ↦ (w.0, w.1, inr (subst (λ y. IsListed y w.0) (sym went-same) before))
-              | inr last ↦ let y = gone l p i (like-spot l p w.0 x last w.1) in (y.0, y.1, inl y.2)
-            ]
+            | inr listed ↦ elim (in-push (w.0.0, spot_of w.0.1) x t.went.items
+                (subst (In (w.0.0, spot_of w.0.1)) popped listed)) as (λ v. (e : ℕ × Job) × BelongsAt l p e
+                × (In e jobs ⊎ IsListed u.went.items e)) [
+                  | inl before ↦ (w.0, w.1, inr (subst (λ y. IsListed y w.0) (sym went-same) before))
+                  | inr last ↦ let y = gone l p i (like-spot l p w.0 x last w.1) in (y.0, y.1, inl y.2)
+                ]
           ];
       ahead = λ e i l p b. taken.ahead l p (subst (λ y. IsFrom y.from p) (sym (same l)) (swept.ahead e i l p b));
       none = came-same ∙ came ∙ swept.none;
@@ -231,7 +264,8 @@ sweep-step s t u jobs x same came popped taken gone swept =
 pub ahead-same : (s t : Shelves) (jobs : List (ℕ × Job)) → ((l : Label) → shelf t l ≡ shelf s l) → AreAhead s jobs → AreAhead t jobs
 ahead-same s t jobs same ahead e i l p b = subst (λ y. IsFrom y.from p) (sym (same l)) (ahead e i l p b)
 
-pub known-none : (s t : Shelves) (jobs : List (ℕ × Job)) → ((l : Label) → shelf t l ≡ shelf s l) → s.went.items ≡ [] → AreKnown s jobs s.went.items → AreKnown t jobs []
+pub known-none : (s t : Shelves) (jobs : List (ℕ × Job)) → ((l : Label) → shelf t l ≡ shelf s l) → s.went.items ≡ []
+    → AreKnown s jobs s.went.items → AreKnown t jobs []
 known-none s t jobs same none known l p i =
     let w = known l p (subst (λ x. In p x.places) (same l) i) in
     (w.0, w.1, elim w.2 as (λ v. In w.0 jobs ⊎ IsListed [] w.0) [ inl job ↦ inl job | inr listed ↦ absurd (subst (λ x. IsListed x w.0) none listed) ])
@@ -239,7 +273,8 @@ known-none s t jobs same none known l p i =
 pub placed-same : (s t : Shelves) (jobs : List (ℕ × Job)) → ((l : Label) → shelf t l ≡ shelf s l) → HavePlaces s jobs → HavePlaces t jobs
 placed-same s t jobs same placed e i l p b = subst (λ y. In p y.places) (sym (same l)) (placed e i l p b)
 
-pub known-moved : (s t : Shelves) (jobs : List (ℕ × Job)) (listed : List (ℕ × Spot)) → ((l : Label) → shelf t l ≡ shelf s l) → AreKnown s jobs listed → AreKnown t jobs listed
+pub known-moved : (s t : Shelves) (jobs : List (ℕ × Job)) (listed : List (ℕ × Spot))
+    → ((l : Label) → shelf t l ≡ shelf s l) → AreKnown s jobs listed → AreKnown t jobs listed
 known-moved s t jobs listed same known l p i = known l p (subst (λ x. In p x.places) (same l) i)
 
 -- Look-ups find those again that went
@@ -253,7 +288,9 @@ pub record AreReached (first s : Shelves) : Type 0 where
 pub none-reached : (s : Shelves) → AreReached s s
 none-reached s = record { places = λ l. refl; ahead = λ l p h. h; came = refl; reached = λ e i. inl i }
 
-pub reach-step : (first s t u : Shelves) (x : ℕ × Spot) → ((l : Label) → shelf t l ≡ shelf s l) → t.came.items ≡ s.came.items → s.went.items ≡ t.went.items ++ (x ∷ []) → HasGoneBack t u → IsAhead u (x.0, at_spot x.1) → AreReached first s → AreReached first u
+pub reach-step : (first s t u : Shelves) (x : ℕ × Spot) → ((l : Label) → shelf t l ≡ shelf s l)
+    → t.came.items ≡ s.came.items → s.went.items ≡ t.went.items ++ (x ∷ []) → HasGoneBack t u
+    → IsAhead u (x.0, at_spot x.1) → AreReached first s → AreReached first u
 reach-step first s t u x same came popped back ahead reached =
     let came-same : u.came.items ≡ t.came.items = ap (λ (y : List (ℕ × Spot) × List (ℕ × Spot)). y.0) back.lists in
     let went-same : u.went.items ≡ t.went.items = ap (λ (y : List (ℕ × Spot) × List (ℕ × Spot)). y.1) back.lists in
@@ -263,15 +300,17 @@ reach-step first s t u x same came popped back ahead reached =
       came = came-same ∙ came ∙ reached.came;
       reached = λ e i.
           elim (reached.reached e i) as (λ v. IsListed u.went.items e ⊎ IsAhead u e) [
-            | inl listed ↦ elim (in-push (e.0, spot_of e.1) x t.went.items (subst (In (e.0, spot_of e.1)) popped listed)) as (λ v. IsListed u.went.items e ⊎ IsAhead u e) [
-              | inl before ↦ inl (subst (λ y. IsListed y e) (sym went-same) before)
-              | inr last ↦ inr (λ l p b. ahead l p (like-spot l p e x last b))
-            ]
+            | inl listed ↦ elim (in-push (e.0, spot_of e.1) x t.went.items
+                (subst (In (e.0, spot_of e.1)) popped listed)) as (λ v. IsListed u.went.items e ⊎ IsAhead u e) [
+                  | inl before ↦ inl (subst (λ y. IsListed y e) (sym went-same) before)
+                  | inr last ↦ inr (λ l p b. ahead l p (like-spot l p e x last b))
+                ]
             | inr old ↦ inr (λ l p b. back.ahead l p (subst (λ y. IsFrom y.from p) (sym (same l)) (old l p b)))
           ];
     }
 
-pub all-reached : (first s t : Shelves) → ((l : Label) → shelf t l ≡ shelf s l) → s.went.items ≡ [] → AreReached first s → (e : ℕ × Job) → IsListed first.went.items e → IsAhead t e
+pub all-reached : (first s t : Shelves) → ((l : Label) → shelf t l ≡ shelf s l) → s.went.items ≡ [] → AreReached first s
+    → (e : ℕ × Job) → IsListed first.went.items e → IsAhead t e
 all-reached first s t same none reached e i =
     elim (reached.reached e i) as (λ v. IsAhead t e) [
       | inl listed ↦ absurd (subst (λ x. IsListed x e) none listed)
@@ -282,12 +321,14 @@ all-reached first s t same none reached e i =
 pub back-placed : (s t : Shelves) (jobs : List (ℕ × Job)) → ((l : Label) → places t l ≡ places s l) → HavePlaces s jobs → HavePlaces t jobs
 back-placed s t jobs same placed e i l p b = subst (In p) (sym (same l)) (placed e i l p b)
 
-pub back-known : (s t : Shelves) (jobs : List (ℕ × Job)) (old new : List (ℕ × Spot)) → ((l : Label) → places t l ≡ places s l) → new ≡ old → AreKnown s jobs old → AreKnown t jobs new
+pub back-known : (s t : Shelves) (jobs : List (ℕ × Job)) (old new : List (ℕ × Spot))
+    → ((l : Label) → places t l ≡ places s l) → new ≡ old → AreKnown s jobs old → AreKnown t jobs new
 back-known s t jobs old new same is known l p i =
     let w = known l p (subst (In p) (same l) i) in
     (w.0, w.1, elim w.2 as (λ v. In w.0 jobs ⊎ IsListed new w.0) [ inl job ↦ inl job | inr listed ↦ inr (subst (λ x. IsListed x w.0) (sym is) listed) ])
 
-pub back-ahead : (s t : Shelves) (jobs : List (ℕ × Job)) → BeginNoLater s t → ((e : ℕ × Job) → IsListed s.went.items e → IsAhead t e) → AreAheadOrListed s jobs → AreAhead t jobs
+pub back-ahead : (s t : Shelves) (jobs : List (ℕ × Job)) → BeginNoLater s t
+    → ((e : ℕ × Job) → IsListed s.went.items e → IsAhead t e) → AreAheadOrListed s jobs → AreAhead t jobs
 back-ahead s t jobs later reached ahead e i =
     elim (ahead e i) as (λ v. IsAhead t e) [
       | inl old ↦ λ l p b. later l p (old l p b)
@@ -341,7 +382,9 @@ all-put s jobs put = (
   λ e i. elim (put.found e i) as (λ v. IsAhead s e) [ inl rest ↦ absurd rest | inr there ↦ there.ahead ],
 )
 
-pub one-put : (s t : Shelves) (e : ℕ × Job) (spot : Spot) (all rest jobs : List (ℕ × Job)) → all ≡ e ∷ rest → spot ≡ spot_of e.1 → HasCome t (e.0, at_spot spot) → HasPut s t (e.0, at_spot spot) → ArePut s all jobs → ArePut t rest jobs
+pub one-put : (s t : Shelves) (e : ℕ × Job) (spot : Spot) (all rest jobs : List (ℕ × Job)) → all ≡ e ∷ rest
+    → spot ≡ spot_of e.1 → HasCome t (e.0, at_spot spot) → HasPut s t (e.0, at_spot spot) → ArePut s all jobs
+    → ArePut t rest jobs
 one-put s t e spot all rest jobs is at come one put =
     let here : HasCome t e = come-at t e.0 e.1 (subst (λ x. HasCome t (e.0, at_spot x)) at come) in
     record {

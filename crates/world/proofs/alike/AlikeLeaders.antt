@@ -31,26 +31,32 @@ pub done_itself : (laws : BallotLaws) {C : Type 0} (d : Done (Leading C) C) → 
 done_itself laws d = record { state = leader_itself laws d.state; says = refl }
 
 -- leaders with these scouts
-pub silent_alike : {C : Type 0} (l : Leading C) (o p : Option (Scouting C)) → IsAlikeScout o p → IsAlikeDone (silently (record l { scout = o })) (silently (record l { scout = p }))
+pub silent_alike : {C : Type 0} (l : Leading C) (o p : Option (Scouting C)) → IsAlikeScout o p
+    → IsAlikeDone (silently (record l { scout = o })) (silently (record l { scout = p }))
 silent_alike l o p h = record { state = but_scout (record l { scout = o }) p h; says = refl }
 
 done_if : {C : Type 0} (test : Bool) (d e f g : Done (Leading C) C) → IsAlikeDone d f → IsAlikeDone e g → IsAlikeDone (cond test d e) (cond test f g)
 done_if true d e f g a b = a
 done_if false d e f g a b = b
 
-silent_if : {C : Type 0} (test : Bool) (l k t o : Leading C) → IsAlikeDone (silently l) (silently t) → IsAlikeDone (silently k) (silently o) → IsAlikeDone (silently (cond test l k)) (silently (cond test t o))
+silent_if : {C : Type 0} (test : Bool) (l k t o : Leading C) → IsAlikeDone (silently l) (silently t)
+    → IsAlikeDone (silently k) (silently o) → IsAlikeDone (silently (cond test l k)) (silently (cond test t o))
 silent_if true l k t o a b = a
 silent_if false l k t o a b = b
 
 module _ (laws : BallotLaws) {C : Type 0} (l : Leading C) where
   woken_with : (o p : Option (Scouting C)) → IsAlikeScout o p → IsAlikeDone (woken (record l { scout = o })) (woken (record l { scout = p }))
   woken_with o p no_scout = done_itself laws (woken (record l { scout = None }))
-  woken_with o p (but_gathered s ps h) = done_if (not l.active && false) _ _ _ _ (done_itself laws _) (silent_alike l (Some s) (Some (record s { gathered = ps })) (but_gathered s ps h))
+  woken_with o p (but_gathered s ps h) =
+      done_if (not l.active && false) _ _ _ _ (done_itself laws _)
+      (silent_alike l (Some s) (Some (record s { gathered = ps })) (but_gathered s ps h))
 
-  pub preempted_with : (o p : Option (Scouting C)) → IsAlikeScout o p → (b : Numbers) → IsAlikeDone (silently (preempted (record l { scout = o }) b)) (silently (preempted (record l { scout = p }) b))
+  pub preempted_with : (o p : Option (Scouting C)) → IsAlikeScout o p → (b : Numbers)
+      → IsAlikeDone (silently (preempted (record l { scout = o }) b)) (silently (preempted (record l { scout = p }) b))
   preempted_with o p h b = silent_if (is_below l.ballot b) _ _ _ _ (done_itself laws _) (silent_alike l o p h)
 
-  proposed_with : (o p : Option (Scouting C)) → IsAlikeScout o p → (s : ℕ) (c : C) → IsAlikeDone (on_propose (record l { scout = o }) s c) (on_propose (record l { scout = p }) s c)
+  proposed_with : (o p : Option (Scouting C)) → IsAlikeScout o p → (s : ℕ) (c : C)
+      → IsAlikeDone (on_propose (record l { scout = o }) s c) (on_propose (record l { scout = p }) s c)
   proposed_with o p h s c =
       done_if (contains_key l.proposals s) _ _ _ _
       (silent_alike l o p h)
@@ -58,16 +64,20 @@ module _ (laws : BallotLaws) {C : Type 0} (l : Leading C) where
       (record { state = but_scout _ p h; says = refl })
       (silent_alike (record l { proposals = insert l.proposals s c }) o p h))
 
-  voted_with : (o p : Option (Scouting C)) → IsAlikeScout o p → (s : ℕ) (c : Commanding C) (says : Voted) → IsAlikeDone (at_voted (record l { scout = o }) s c says) (at_voted (record l { scout = p }) s c says)
+  voted_with : (o p : Option (Scouting C)) → IsAlikeScout o p → (s : ℕ) (c : Commanding C) (says : Voted)
+      → IsAlikeDone (at_voted (record l { scout = o }) s c says) (at_voted (record l { scout = p }) s c says)
   voted_with o p h s c VoteWaits = silent_alike (record l { commanders = insert l.commanders s c }) o p h
   voted_with o p h s c Decided = record { state = but_scout _ p h; says = refl }
   voted_with o p h s c (VotePreempted b) = preempted_with o p h b
 
-  commander_with : (o p : Option (Scouting C)) → IsAlikeScout o p → (m : ℕ) (b : Option Numbers) (s : ℕ) (c : Option (Commanding C)) → IsAlikeDone (at_commander (record l { scout = o }) m b s c) (at_commander (record l { scout = p }) m b s c)
+  commander_with : (o p : Option (Scouting C)) → IsAlikeScout o p
+      → (m : ℕ) (b : Option Numbers) (s : ℕ) (c : Option (Commanding C))
+      → IsAlikeDone (at_commander (record l { scout = o }) m b s c) (at_commander (record l { scout = p }) m b s c)
   commander_with o p h m b s None = silent_alike l o p h
   commander_with o p h m b s (Some c) = let v = commanders.on_p2b c m b in voted_with o p h s v.commander v.says
 
-  vote_with : (o p : Option (Scouting C)) → IsAlikeScout o p → (m : ℕ) (b : Option Numbers) (s : ℕ) (by : Numbers) → IsAlikeDone (votes.on_p2b (record l { scout = o }) m b s by) (votes.on_p2b (record l { scout = p }) m b s by)
+  vote_with : (o p : Option (Scouting C)) → IsAlikeScout o p → (m : ℕ) (b : Option Numbers) (s : ℕ) (by : Numbers)
+      → IsAlikeDone (votes.on_p2b (record l { scout = o }) m b s by) (votes.on_p2b (record l { scout = p }) m b s by)
   vote_with o p h m b s by =
       done_if (answers_another l b by) _ _ _ _
       (silent_alike l o p h)
@@ -84,7 +94,8 @@ module _ (laws : BallotLaws) {C : Type 0} where
   pub proposed_alike : (l k : Leading C) → IsAlikeLeader l k → (s : ℕ) (c : C) → IsAlikeDone (on_propose l s c) (on_propose k s c)
   proposed_alike l k (but_scout t o h) s c = proposed_with laws t t.scout o h s c
 
-  pub vote_alike : (l k : Leading C) → IsAlikeLeader l k → (m : ℕ) (b : Option Numbers) (s : ℕ) (by : Numbers) → IsAlikeDone (votes.on_p2b l m b s by) (votes.on_p2b k m b s by)
+  pub vote_alike : (l k : Leading C) → IsAlikeLeader l k → (m : ℕ) (b : Option Numbers) (s : ℕ) (by : Numbers)
+      → IsAlikeDone (votes.on_p2b l m b s by) (votes.on_p2b k m b s by)
   vote_alike l k (but_scout t o h) m b s by = vote_with laws t t.scout o h m b s by
 
   pub again_alike : (l k : Leading C) → IsAlikeLeader l k → says_again l ≡ says_again k

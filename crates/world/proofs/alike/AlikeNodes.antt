@@ -33,11 +33,15 @@ pub node_itself : (laws : BallotLaws) {C : Type 0} (x : NodeState C) → IsAlike
 node_itself laws x = but_leader x x.leader (leader_itself laws x.leader)
 
 -- the nodes in one place
-pub node_alike : (laws : BallotLaws) {C : Type 0} (members : List ℕ) (nodes others : List (NodeState C)) (n : ℕ) → InPairs IsAlikeNode nodes others → IsAlikeNode (node_in members nodes n) (node_in members others n)
+pub node_alike : (laws : BallotLaws) {C : Type 0} (members : List ℕ) (nodes others : List (NodeState C)) (n : ℕ)
+    → InPairs IsAlikeNode nodes others → IsAlikeNode (node_in members nodes n) (node_in members others n)
 node_alike laws members nodes others zero h = node_itself laws (new_node members 0)
-node_alike laws members nodes others (suc i) h = InPairs-index IsAlikeNode nodes others i (new_node members (suc i)) (new_node members (suc i)) h (node_itself laws (new_node members (suc i)))
+node_alike laws members nodes others (suc i) h =
+    InPairs-index IsAlikeNode nodes others i (new_node members (suc i)) (new_node members (suc i)) h
+    (node_itself laws (new_node members (suc i)))
 
-pub put_alike : {C : Type 0} (nodes others : List (NodeState C)) (n : ℕ) (x y : NodeState C) → InPairs IsAlikeNode nodes others → IsAlikeNode x y → InPairs IsAlikeNode (put nodes n x) (put others n y)
+pub put_alike : {C : Type 0} (nodes others : List (NodeState C)) (n : ℕ) (x y : NodeState C)
+    → InPairs IsAlikeNode nodes others → IsAlikeNode x y → InPairs IsAlikeNode (put nodes n x) (put others n y)
 put_alike nodes others zero x y h a = h
 put_alike nodes others (suc i) x y h a = InPairs-set IsAlikeNode nodes others i x y h a
 
@@ -52,23 +56,32 @@ acceptor_same x y (but_leader z l h) = refl
 pub replica_same : {C : Type 0} (x y : NodeState C) → IsAlikeNode x y → x.replica ≡ y.replica
 replica_same x y (but_leader z l h) = refl
 
-pub replica_alike : {C : Type 0} (f : SlotBook C → SlotBook C) (g : SlotBook C → List (Letter C)) (x y : NodeState C) → IsAlikeNode x y → IsAlikeTurn (record x { replica = f x.replica }) (record y { replica = f y.replica }) (g x.replica) (g y.replica)
+pub replica_alike : {C : Type 0} (f : SlotBook C → SlotBook C) (g : SlotBook C → List (Letter C)) (x y : NodeState C)
+    → IsAlikeNode x y → IsAlikeTurn (record x { replica = f x.replica }) (record y { replica = f y.replica })
+    (g x.replica) (g y.replica)
 replica_alike f g x y (but_leader z l h) = record { state = but_leader (record z { replica = f z.replica }) l h; letters = letters_itself (g z.replica) }
 
 module _ (laws : BallotLaws) {C : Type 0} (members : List ℕ) (n : ℕ) where
-  led_alike : (x : NodeState C) (l : Leading C) (d e : Done (Leading C) C) → IsAlikeDone d e → IsAlikeTurn (led x d) (led (record x { leader = l }) e) (all_to_all members n d.says) (all_to_all members n e.says)
+  led_alike : (x : NodeState C) (l : Leading C) (d e : Done (Leading C) C) → IsAlikeDone d e
+      → IsAlikeTurn (led x d) (led (record x { leader = l }) e) (all_to_all members n d.says)
+      (all_to_all members n e.says)
   led_alike x l d e h = record {
     state = but_leader (led x d) e.state h.state;
-    letters = same_letters (all_to_all members n d.says) (all_to_all members n e.says) (ap (λ (bodies : List (LetterBody C)). all_to_all members n bodies) h.says);
+    letters = same_letters (all_to_all members n d.says) (all_to_all members n e.says)
+        (ap (λ (bodies : List (LetterBody C)). all_to_all members n bodies) h.says);
   }
 
-  pub wakes_alike : (x y : NodeState C) → IsAlikeNode x y → IsAlikeTurn (led x (woken x.leader)) (led y (woken y.leader)) (all_to_all members n (woken x.leader).says) (all_to_all members n (woken y.leader).says)
+  pub wakes_alike : (x y : NodeState C) → IsAlikeNode x y
+      → IsAlikeTurn (led x (woken x.leader)) (led y (woken y.leader)) (all_to_all members n (woken x.leader).says)
+      (all_to_all members n (woken y.leader).says)
   wakes_alike x y (but_leader z l h) = led_alike z l (woken z.leader) (woken l) (woken_alike laws z.leader l h)
 
   pub nudged_alike : (x y : NodeState C) → IsAlikeNode x y → IsAlikeTurn x y (said_again members n x) (said_again members n y)
   nudged_alike x y (but_leader z l h) = record {
     state = but_leader z l h;
-    letters = same_letters (said_again members n z) (said_again members n (record z { leader = l })) (ap (λ (bodies : List (LetterBody C)). all_to_all members n bodies ++ nudges members n z.replica) (again_alike laws z.leader l h));
+    letters = same_letters (said_again members n z) (said_again members n (record z { leader = l }))
+        (ap (λ (bodies : List (LetterBody C)). all_to_all members n bodies ++ nudges members n z.replica)
+        (again_alike laws z.leader l h));
   }
 
   pub restarted_alike : (x y : NodeState C) → IsAlikeNode x y → IsAlikeTurn (restarted members n x) (restarted members n y) [] []
@@ -78,8 +91,13 @@ module _ (laws : BallotLaws) {C : Type 0} (members : List ℕ) (n : ℕ) where
 abbrev pub BodyAsked : {C : Type 0} → (Pvalue C → Type 0) → LetterBody C → Type 0
 BodyAsked {C} asked body = (b : Numbers) (report : List (Pvalue C)) → body ≡ P1b b report → WasAsked asked report
 
-module _ (laws : BallotLaws) {C : Type 0} (asked : Pvalue C → Type 0) (unique : (p q : Pvalue C) → asked p → asked q → p.ballot ≡ q.ballot → p.slot ≡ q.slot → p.value ≡ q.value) (members : List ℕ) where
-  receives_same : (m n : ℕ) (x : NodeState C) (l : Leading C) → IsAlikeLeader x.leader l → ScoutAsked asked x.leader → ScoutAsked asked l → (body : LetterBody C) → BodyAsked asked body → (a c : NodeState C) (out sent : List (Letter C)) → Receives members m n x body a out → Receives members m n (record x { leader = l }) body c sent → IsAlikeTurn a c out sent
+module _ (laws : BallotLaws) {C : Type 0} (asked : Pvalue C → Type 0)
+    (unique : (p q : Pvalue C) → asked p → asked q → p.ballot ≡ q.ballot → p.slot ≡ q.slot → p.value ≡ q.value)
+    (members : List ℕ) where
+  receives_same : (m n : ℕ) (x : NodeState C) (l : Leading C) → IsAlikeLeader x.leader l → ScoutAsked asked x.leader
+      → ScoutAsked asked l → (body : LetterBody C) → BodyAsked asked body
+      → (a c : NodeState C) (out sent : List (Letter C)) → Receives members m n x body a out
+      → Receives members m n (record x { leader = l }) body c sent → IsAlikeTurn a c out sent
   receives_same m n x l h one other body known a c out sent (promises_ballot b ps r) (promises_ballot d qs t) = record {
     state = but_leader (record x { acceptor = after_p1a x.acceptor b }) l h;
     letters = (but_report n m (higher x.acceptor.promised b) ps qs (reports_alike x.acceptor.accepted ps qs r t), tt);
@@ -90,7 +108,8 @@ module _ (laws : BallotLaws) {C : Type 0} (asked : Pvalue C → Type 0) (unique 
   }
   receives_same m n x l h one other body known a c out sent (hears_promise b report fs u r) (hears_promise d same gs v t) =
       led_alike laws members n x l (promises.on_p1b x.leader m b fs u) (promises.on_p1b l m b gs v)
-      (promise_alike laws asked unique m b report report fs gs u v (report_itself laws report) (known b report refl) (known b report refl) x.leader l h one other r t)
+      (promise_alike laws asked unique m b report report fs gs u v (report_itself laws report) (known b report refl)
+      (known b report refl) x.leader l h one other r t)
   receives_same m n x l h one other body known a c out sent (hears_vote b s by) (hears_vote d t of) =
       led_alike laws members n x l (votes.on_p2b x.leader m b s by) (votes.on_p2b l m b s by) (vote_alike laws x.leader l h m b s by)
   receives_same m n x l h one other body known a c out sent (hears_proposal s d) (hears_proposal t e) =
@@ -104,12 +123,20 @@ module _ (laws : BallotLaws) {C : Type 0} (asked : Pvalue C → Type 0) (unique 
     letters = letters_itself (map (λ b. letter n b m) (tells x.replica s));
   }
 
-  receives_report : (m n : ℕ) (x : NodeState C) (l : Leading C) → IsAlikeLeader x.leader l → ScoutAsked asked x.leader → ScoutAsked asked l → (b : Numbers) (ps qs : List (Pvalue C)) → IsAlikeReport ps qs → WasAsked asked ps → WasAsked asked qs → (a c : NodeState C) (out sent : List (Letter C)) → Receives members m n x (P1b b ps) a out → Receives members m n (record x { leader = l }) (P1b b qs) c sent → IsAlikeTurn a c out sent
+  receives_report : (m n : ℕ) (x : NodeState C) (l : Leading C) → IsAlikeLeader x.leader l → ScoutAsked asked x.leader
+      → ScoutAsked asked l → (b : Numbers) (ps qs : List (Pvalue C)) → IsAlikeReport ps qs → WasAsked asked ps
+      → WasAsked asked qs → (a c : NodeState C) (out sent : List (Letter C)) → Receives members m n x (P1b b ps) a out
+      → Receives members m n (record x { leader = l }) (P1b b qs) c sent → IsAlikeTurn a c out sent
   receives_report m n x l h one other b ps qs alike known_ps known_qs a c out sent (hears_promise d rs fs u r) (hears_promise e ts gs v t) =
       led_alike laws members n x l (promises.on_p1b x.leader m b fs u) (promises.on_p1b l m b gs v)
       (promise_alike laws asked unique m b ps qs fs gs u v alike known_ps known_qs x.leader l h one other r t)
 
   -- the receivers of letters that are alike
-  pub received_alike : (x y : NodeState C) → IsAlikeNode x y → ScoutAsked asked x.leader → ScoutAsked asked y.leader → (l k : Letter C) → IsAlikeLetter l k → BodyAsked asked l.body → BodyAsked asked k.body → (a c : NodeState C) (out sent : List (Letter C)) → Receives members l.«from» l.to x l.body a out → Receives members k.«from» k.to y k.body c sent → IsAlikeTurn a c out sent
-  received_alike x y (but_leader z t h) one other l k (same_letter j) known_l known_k a c out sent r q = receives_same j.«from» j.to z t h one other j.body known_l a c out sent r q
-  received_alike x y (but_leader z t h) one other l k (but_report n m b ps qs alike) known_l known_k a c out sent r q = receives_report n m z t h one other b ps qs alike (known_l b ps refl) (known_k b qs refl) a c out sent r q
+  pub received_alike : (x y : NodeState C) → IsAlikeNode x y → ScoutAsked asked x.leader → ScoutAsked asked y.leader
+      → (l k : Letter C) → IsAlikeLetter l k → BodyAsked asked l.body → BodyAsked asked k.body
+      → (a c : NodeState C) (out sent : List (Letter C)) → Receives members l.«from» l.to x l.body a out
+      → Receives members k.«from» k.to y k.body c sent → IsAlikeTurn a c out sent
+  received_alike x y (but_leader z t h) one other l k (same_letter j) known_l known_k a c out sent r q =
+      receives_same j.«from» j.to z t h one other j.body known_l a c out sent r q
+  received_alike x y (but_leader z t h) one other l k (but_report n m b ps qs alike) known_l known_k a c out sent r q =
+      receives_report n m z t h one other b ps qs alike (known_l b ps refl) (known_k b qs refl) a c out sent r q

@@ -49,16 +49,26 @@ module _ (laws : BallotLaws) {Op Reply : Type 0} (w v : World Op Reply) (a : IsA
   same_acceptors : HasSameAcceptors w.cluster v.cluster
   same_acceptors = record {
     members = a.members;
-    acceptors = λ n. subst (λ ms. (node w.cluster n).acceptor ≡ (node_in ms v.cluster.nodes n).acceptor) a.members (acceptor_same (node w.cluster n) (node_in w.cluster.members v.cluster.nodes n) (node_alike laws w.cluster.members w.cluster.nodes v.cluster.nodes n a.nodes));
+    acceptors = λ n. subst (λ ms. (node w.cluster n).acceptor ≡ (node_in ms v.cluster.nodes n).acceptor) a.members
+        (acceptor_same (node w.cluster n) (node_in w.cluster.members v.cluster.nodes n)
+        (node_alike laws w.cluster.members w.cluster.nodes v.cluster.nodes n a.nodes));
   }
 
   -- the same commands are chosen
   pub alike_chosen : (s : ℕ) (c : Command Op) → IsChosen w.cluster s c ↔ IsChosen v.cluster s c
-  alike_chosen s c = (chosen_there w.cluster v.cluster same_acceptors s c, chosen_there v.cluster w.cluster (turned_back w.cluster v.cluster same_acceptors) s c)
+  alike_chosen s c = (
+    chosen_there w.cluster v.cluster same_acceptors s c,
+    chosen_there v.cluster w.cluster
+        (turned_back w.cluster v.cluster same_acceptors) s c,
+  )
 
   -- so the same list is the order
   pub alike_order : (order : List (Command Op)) → IsOrder w.cluster order ↔ IsOrder v.cluster order
-  alike_order order = (order_there w.cluster v.cluster same_acceptors order, order_there v.cluster w.cluster (turned_back w.cluster v.cluster same_acceptors) order)
+  alike_order order = (
+    order_there w.cluster v.cluster same_acceptors order,
+    order_there v.cluster w.cluster
+        (turned_back w.cluster v.cluster same_acceptors) order,
+  )
 
 -- the same events are refused, for the same reason
 pub alike_refusals : {Op Reply : Type 0} (w v : World Op Reply) → IsAlike w v → (same : Op → Op → Bool) (e : Event Op) → refusal same w e ≡ refusal same v e

@@ -22,7 +22,8 @@ pub reports_alike : {C : Type 0} (all ps qs : List (Pvalue C)) → IsReport all 
 reports_alike all ps qs r t = record { covered = λ p i. t.greatest p (r.part p i); covers = λ p i. r.greatest p (t.part p i) }
 
 -- what is gathered and what is reported is covered, where the one and the other are
-gathers_covered : {C : Type 0} (ps qs : List (Pvalue C)) (rs ts : List (Pvalue C)) (fs gs : List (Pvalue C)) → IsCovered ps qs → IsCovered rs ts → IsFresh ps rs fs → IsFresh qs ts gs → IsCovered (ps ++ fs) (qs ++ gs)
+gathers_covered : {C : Type 0} (ps qs : List (Pvalue C)) (rs ts : List (Pvalue C)) (fs gs : List (Pvalue C))
+    → IsCovered ps qs → IsCovered rs ts → IsFresh ps rs fs → IsFresh qs ts gs → IsCovered (ps ++ fs) (qs ++ gs)
 gathers_covered ps qs rs ts fs gs old new f g p i =
     ⊎_elim
     (λ (at : In p ps). let h = old p at in (h.0, In-left h.0 qs gs h.1, h.2, h.3))
@@ -32,15 +33,19 @@ gathers_covered ps qs rs ts fs gs old new f g p i =
     (In-cases p ps fs i)
 
 -- what scouts gather of alike reports stays alike
-pub gathers_alike : {C : Type 0} (ps qs : List (Pvalue C)) (rs ts : List (Pvalue C)) (fs gs : List (Pvalue C)) → IsAlikeReport ps qs → IsAlikeReport rs ts → IsFresh ps rs fs → IsFresh qs ts gs → IsAlikeReport (ps ++ fs) (qs ++ gs)
+pub gathers_alike : {C : Type 0} (ps qs : List (Pvalue C)) (rs ts : List (Pvalue C)) (fs gs : List (Pvalue C))
+    → IsAlikeReport ps qs → IsAlikeReport rs ts → IsFresh ps rs fs → IsFresh qs ts gs
+    → IsAlikeReport (ps ++ fs) (qs ++ gs)
 gathers_alike ps qs rs ts fs gs old new f g = record {
   covered = gathers_covered ps qs rs ts fs gs old.covered new.covered f g;
   covers = gathers_covered qs ps ts rs gs fs old.covers new.covers g f;
 }
 
-module _ (laws : BallotLaws) {C : Type 0} (ps qs : List (Pvalue C)) (alike : IsAlikeReport ps qs) (unique : (p q : Pvalue C) → In p ps → In q qs → p.ballot ≡ q.ballot → p.slot ≡ q.slot → p.value ≡ q.value) where
+module _ (laws : BallotLaws) {C : Type 0} (ps qs : List (Pvalue C)) (alike : IsAlikeReport ps qs)
+    (unique : (p q : Pvalue C) → In p ps → In q qs → p.ballot ≡ q.ballot → p.slot ≡ q.slot → p.value ≡ q.value) where
   -- the greatest of the one is not below the greatest of the other
-  not_below : (these others : List (Pvalue C)) → IsCovered others these → (s : ℕ) (p q : Pvalue C) → IsGreatest these s p → IsGreatest others s q → is_below p.ballot q.ballot ≡ false
+  not_below : (these others : List (Pvalue C)) → IsCovered others these → (s : ℕ) (p q : Pvalue C)
+      → IsGreatest these s p → IsGreatest others s q → is_below p.ballot q.ballot ≡ false
   not_below these others covered s p q g h =
       let r = covered q h.within in
       upto_trans laws q.ballot r.0.ballot p.ballot r.3 (g.greatest r.0 r.1 (r.2 ∙ h.slot))

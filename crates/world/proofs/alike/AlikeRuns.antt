@@ -42,7 +42,8 @@ module _ (laws : BallotLaws) {O Op Reply : Type 0} (rules : Rules O Op Reply) wh
   pub alike_itself : InEvery rules (λ w. IsAlike w w)
   alike_itself w i = world_itself w
 
-  sound_alike : (w v : World Op Reply) (e : Event Op) (x y : World Op Reply) → IsSound w.cluster → IsSound v.cluster → IsAlike w v → Step rules w e x → Step rules v e y → IsAlike x y
+  sound_alike : (w v : World Op Reply) (e : Event Op) (x y : World Op Reply) → IsSound w.cluster → IsSound v.cluster
+      → IsAlike w v → Step rules w e x → Step rules v e y → IsAlike x y
   sound_alike w v e x y i j a s t =
       event_alike laws rules w v.cluster.nodes v.cluster.letters a.nodes a.letters i
       (subst (λ (u : World Op Reply). IsSound u.cluster) (sym (is_with_its w v a)) j)
@@ -50,7 +51,8 @@ module _ (laws : BallotLaws) {O Op Reply : Type 0} (rules : Rules O Op Reply) wh
       (subst (λ (u : World Op Reply). Step rules u e y) (sym (is_with_its w v a)) t)
 
   -- worlds that are alike are so after an event
-  pub alike_step : (w v : World Op Reply) (e : Event Op) (x y : World Op Reply) → IsWorld rules w → IsWorld rules v → IsAlike w v → Step rules w e x → Step rules v e y → IsAlike x y
+  pub alike_step : (w v : World Op Reply) (e : Event Op) (x y : World Op Reply) → IsWorld rules w → IsWorld rules v
+      → IsAlike w v → Step rules w e x → Step rules v e y → IsAlike x y
   alike_step w v e x y i j a s t = sound_alike w v e x y (reachable_sound laws rules w i.reachable) (reachable_sound laws rules v j.reachable) a s t
 
   -- an event does not lead nowhere
@@ -58,7 +60,8 @@ module _ (laws : BallotLaws) {O Op Reply : Type 0} (rules : Rules O Op Reply) wh
   some_events [] e same = absurd (cc)
   some_events (d ∷ es) e same = absurd (cc)
 
-  leads_alike : (w : World Op Reply) → IsSound w.cluster → (es ds : List (Event Op)) → es ≡ ds → (v u : World Op Reply) → Leads rules w es v → Leads rules w ds u → IsAlike v u
+  leads_alike : (w : World Op Reply) → IsSound w.cluster → (es ds : List (Event Op)) → es ≡ ds → (v u : World Op Reply)
+      → Leads rules w es v → Leads rules w ds u → IsAlike v u
   leads_alike w i es ds same v u at_once at_once = world_itself w
   leads_alike w i es ds same v u at_once (after {es = before} {v = y} e u' m t) = some_events before e same
   leads_alike w i es ds same v u (after {es = before} {v = x} e v' l s) at_once = some_events before e (sym same)

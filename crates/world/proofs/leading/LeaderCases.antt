@@ -36,10 +36,15 @@ pub data HearsPromise {C : Type 0} (l : Leading C) (m : ℕ) (b : Numbers) (z : 
 -- a vote of m for the pvalue of the commander at slot s, by what m promised
 pub data HearsVote {C : Type 0} (l : Leading C) (m : ℕ) (o : Option Numbers) (s : ℕ) (z : Leading C) : Type 0 where
   no_commander : get l.commanders s ≡ None → z ≡ l → HearsVote l m o s z
-  stays : (c : Commanding C) → get l.commanders s ≡ Some c → is_promise o c.pvalue.ballot ≡ false → is_promise_below (Some c.pvalue.ballot) o ≡ false → z ≡ record l { commanders = insert l.commanders s c } → HearsVote l m o s z
-  counts_more : (c : Commanding C) → get l.commanders s ≡ Some c → o ≡ Some c.pvalue.ballot → z ≡ record l { commanders = insert l.commanders s (record c { heard = add c.heard m }) } → HearsVote l m o s z
-  decides : (c : Commanding C) → get l.commanders s ≡ Some c → o ≡ Some c.pvalue.ballot → z ≡ record l { commanders = remove l.commanders s } → HearsVote l m o s z
-  gives_way : (c : Commanding C) (b : Numbers) → get l.commanders s ≡ Some c → o ≡ Some b → is_below c.pvalue.ballot b ≡ true → z ≡ preempted l b → HearsVote l m o s z
+  stays : (c : Commanding C) → get l.commanders s ≡ Some c → is_promise o c.pvalue.ballot ≡ false
+      → is_promise_below (Some c.pvalue.ballot) o ≡ false → z ≡ record l { commanders = insert l.commanders s c }
+      → HearsVote l m o s z
+  counts_more : (c : Commanding C) → get l.commanders s ≡ Some c → o ≡ Some c.pvalue.ballot
+      → z ≡ record l { commanders = insert l.commanders s (record c { heard = add c.heard m }) } → HearsVote l m o s z
+  decides : (c : Commanding C) → get l.commanders s ≡ Some c → o ≡ Some c.pvalue.ballot
+      → z ≡ record l { commanders = remove l.commanders s } → HearsVote l m o s z
+  gives_way : (c : Commanding C) (b : Numbers) → get l.commanders s ≡ Some c → o ≡ Some b
+      → is_below c.pvalue.ballot b ≡ true → z ≡ preempted l b → HearsVote l m o s z
 
 is_there : {X : Type 0} (o : Option X) (v : X) → o ≡ Some v → is_some o ≡ true
 is_there o v e = ap is_some e
@@ -59,7 +64,8 @@ module _ (laws : BallotLaws) {C : Type 0} (l : Leading C) (m : ℕ) where
     majority_case s is same false e allows = gathers_more s (gathers s m fresh).scout is same refl refl
 
     below_case : (s : Scouting C) → l.scout ≡ Some s → is_below b s.ballot ≡ false → is_same b s.ballot ≡ false → (test : Bool) → is_below s.ballot b ≡ test
-        → HearsPromise l m b (at_heard l taken (cond test (unmoved s (Preempted b)) (unmoved s Wait)).scout (cond test (unmoved s (Preempted b)) (unmoved s Wait)).says).state
+        → HearsPromise l m b (at_heard l taken (cond test (unmoved s (Preempted b)) (unmoved s Wait)).scout
+        (cond test (unmoved s (Preempted b)) (unmoved s Wait)).says).state
     below_case s is upto other true e = gives_up s is e refl
     below_case s is upto other false e = elim (laws.total b s.ballot) as (λ v. HearsPromise l m b (record l { scout = Some s })) [
       | inl below ↦ not_both below upto
@@ -68,14 +74,29 @@ module _ (laws : BallotLaws) {C : Type 0} (l : Leading C) (m : ℕ) where
     ]
 
     same_case : (s : Scouting C) → l.scout ≡ Some s → is_below b s.ballot ≡ false → (test : Bool) → is_same b s.ballot ≡ test
-        → AllowsAt l.proposals (cond test (gathers s m fresh) (cond (is_below s.ballot b) (unmoved s (Preempted b)) (unmoved s Wait))).scout (cond test (gathers s m fresh) (cond (is_below s.ballot b) (unmoved s (Preempted b)) (unmoved s Wait))).says taken
-        → HearsPromise l m b (at_heard l taken (cond test (gathers s m fresh) (cond (is_below s.ballot b) (unmoved s (Preempted b)) (unmoved s Wait))).scout (cond test (gathers s m fresh) (cond (is_below s.ballot b) (unmoved s (Preempted b)) (unmoved s Wait))).says).state
+        → AllowsAt l.proposals (cond test (gathers s m fresh)
+        (cond (is_below s.ballot b) (unmoved s (Preempted b)) (unmoved s Wait))).scout
+        (cond test (gathers s m fresh) (cond (is_below s.ballot b) (unmoved s (Preempted b)) (unmoved s Wait))).says
+        taken
+        → HearsPromise l m b (at_heard l taken
+        (cond test (gathers s m fresh)
+        (cond (is_below s.ballot b) (unmoved s (Preempted b)) (unmoved s Wait))).scout
+        (cond test (gathers s m fresh)
+        (cond (is_below s.ballot b) (unmoved s (Preempted b)) (unmoved s Wait))).says).state
     same_case s is upto true e allows = majority_case s is (laws.same b s.ballot e) (is_majority s.members (add s.heard m)) refl allows
     same_case s is upto false e allows = below_case s is upto e (is_below s.ballot b) refl
 
     member_case : (s : Scouting C) → l.scout ≡ Some s → is_below b s.ballot ≡ false → (test : Bool) → test ≡ true
-        → AllowsAt l.proposals (cond test (cond (is_same b s.ballot) (gathers s m fresh) (cond (is_below s.ballot b) (unmoved s (Preempted b)) (unmoved s Wait))) (unmoved s Wait)).scout (cond test (cond (is_same b s.ballot) (gathers s m fresh) (cond (is_below s.ballot b) (unmoved s (Preempted b)) (unmoved s Wait))) (unmoved s Wait)).says taken
-        → HearsPromise l m b (at_heard l taken (cond test (cond (is_same b s.ballot) (gathers s m fresh) (cond (is_below s.ballot b) (unmoved s (Preempted b)) (unmoved s Wait))) (unmoved s Wait)).scout (cond test (cond (is_same b s.ballot) (gathers s m fresh) (cond (is_below s.ballot b) (unmoved s (Preempted b)) (unmoved s Wait))) (unmoved s Wait)).says).state
+        → AllowsAt l.proposals (cond test
+        (cond (is_same b s.ballot) (gathers s m fresh)
+        (cond (is_below s.ballot b) (unmoved s (Preempted b)) (unmoved s Wait))) (unmoved s Wait)).scout
+        (cond test (cond (is_same b s.ballot) (gathers s m fresh)
+        (cond (is_below s.ballot b) (unmoved s (Preempted b)) (unmoved s Wait))) (unmoved s Wait)).says taken
+        → HearsPromise l m b (at_heard l taken
+        (cond test (cond (is_same b s.ballot) (gathers s m fresh)
+        (cond (is_below s.ballot b) (unmoved s (Preempted b)) (unmoved s Wait))) (unmoved s Wait)).scout
+        (cond test (cond (is_same b s.ballot) (gathers s m fresh)
+        (cond (is_below s.ballot b) (unmoved s (Preempted b)) (unmoved s Wait))) (unmoved s Wait)).says).state
     member_case s is upto true member allows = same_case s is upto (is_same b s.ballot) refl allows
     member_case s is upto false member allows = absurd (cc)
 
@@ -86,7 +107,8 @@ module _ (laws : BallotLaws) {C : Type 0} (l : Leading C) (m : ℕ) where
     scout_case (Some s) is fits takes = member_case s is (fits s refl).1 (is_member s.members m) (fits s refl).0 (takes s refl)
 
     -- a promise of a member, of no lower ballot than the scout's
-    pub promise_cases : (report : List (Pvalue C)) → Hears l m b report fresh taken → ((s : Scouting C) → l.scout ≡ Some s → (is_member s.members m ≡ true) × (is_below b s.ballot ≡ false))
+    pub promise_cases : (report : List (Pvalue C)) → Hears l m b report fresh taken
+        → ((s : Scouting C) → l.scout ≡ Some s → (is_member s.members m ≡ true) × (is_below b s.ballot ≡ false))
         → HearsPromise l m b (on_p1b l m b fresh taken).state
     promise_cases report hears fits = scout_case l.scout refl fits (λ s is. hears.takes s is)
 
@@ -96,13 +118,22 @@ module _ (laws : BallotLaws) {C : Type 0} (l : Leading C) (m : ℕ) where
     counts_case c is same true = decides c is same refl
     counts_case c is same false = counts_more c is same refl
 
-    higher_case : (c : Commanding C) (b : Numbers) → get l.commanders s ≡ Some c → o ≡ Some b → is_same b c.pvalue.ballot ≡ false → (test : Bool) → is_below c.pvalue.ballot b ≡ test
-        → HearsVote l m o s (at_voted l s (cond test (commanders.unmoved c (voted.Preempted b)) (commanders.unmoved c voted.Wait)).commander (cond test (commanders.unmoved c (voted.Preempted b)) (commanders.unmoved c voted.Wait)).says).state
+    higher_case : (c : Commanding C) (b : Numbers) → get l.commanders s ≡ Some c → o ≡ Some b
+        → is_same b c.pvalue.ballot ≡ false → (test : Bool) → is_below c.pvalue.ballot b ≡ test
+        → HearsVote l m o s (at_voted l s
+        (cond test (commanders.unmoved c (voted.Preempted b)) (commanders.unmoved c voted.Wait)).commander
+        (cond test (commanders.unmoved c (voted.Preempted b)) (commanders.unmoved c voted.Wait)).says).state
     higher_case c b is promised other true e = gives_way c b is promised e refl
-    higher_case c b is promised other false e = stays c is (ap (λ y. is_promise y c.pvalue.ballot) promised ∙ other) (ap (is_promise_below (Some c.pvalue.ballot)) promised ∙ e) refl
+    higher_case c b is promised other false e =
+        stays c is (ap (λ y. is_promise y c.pvalue.ballot) promised ∙ other)
+        (ap (is_promise_below (Some c.pvalue.ballot)) promised ∙ e) refl
 
     own_case : (c : Commanding C) (b : Numbers) → get l.commanders s ≡ Some c → o ≡ Some b → (test : Bool) → is_same b c.pvalue.ballot ≡ test
-        → HearsVote l m o s (at_voted l s (cond test (counts c m) (cond (is_below c.pvalue.ballot b) (commanders.unmoved c (voted.Preempted b)) (commanders.unmoved c voted.Wait))).commander (cond test (counts c m) (cond (is_below c.pvalue.ballot b) (commanders.unmoved c (voted.Preempted b)) (commanders.unmoved c voted.Wait))).says).state
+        → HearsVote l m o s (at_voted l s
+        (cond test (counts c m) (cond (is_below c.pvalue.ballot b) (commanders.unmoved c (voted.Preempted b))
+        (commanders.unmoved c voted.Wait))).commander
+        (cond test (counts c m) (cond (is_below c.pvalue.ballot b) (commanders.unmoved c (voted.Preempted b))
+        (commanders.unmoved c voted.Wait))).says).state
     own_case c b is promised true e = counts_case c is (promised ∙ ap (λ y. Some y) (laws.same b c.pvalue.ballot e)) (is_majority c.members (add c.heard m))
     own_case c b is promised false e = higher_case c b is promised e (is_below c.pvalue.ballot b) refl
 
@@ -112,11 +143,15 @@ module _ (laws : BallotLaws) {C : Type 0} (l : Leading C) (m : ℕ) where
     votes_case c is (Some b) e = own_case c b is e (is_same b c.pvalue.ballot) refl
 
     voter_case : (c : Commanding C) → get l.commanders s ≡ Some c → (test : Bool) → test ≡ true
-        → HearsVote l m o s (at_voted l s (cond test (commanders.votes c m o) (commanders.unmoved c voted.Wait)).commander (cond test (commanders.votes c m o) (commanders.unmoved c voted.Wait)).says).state
+        → HearsVote l m o s (at_voted l s
+        (cond test (commanders.votes c m o) (commanders.unmoved c voted.Wait)).commander
+        (cond test (commanders.votes c m o) (commanders.unmoved c voted.Wait)).says).state
     voter_case c is true member = votes_case c is o refl
     voter_case c is false member = absurd (cc)
 
-    commander_case : (at : Option (Commanding C)) → get l.commanders s ≡ at → ((c : Commanding C) → at ≡ Some c → is_member c.members m ≡ true) → HearsVote l m o s (at_commander l m o s at).state
+    commander_case : (at : Option (Commanding C)) → get l.commanders s ≡ at
+        → ((c : Commanding C) → at ≡ Some c → is_member c.members m ≡ true)
+        → HearsVote l m o s (at_commander l m o s at).state
     commander_case None is member = no_commander is refl
     commander_case (Some c) is member = voter_case c is (is_member c.members m) (member c refl)
 
@@ -128,7 +163,9 @@ module _ (laws : BallotLaws) {C : Type 0} (l : Leading C) (m : ℕ) where
     -- a vote of a member that answers what the leader asks now
     pub vote_cases : (asked : Numbers) → asked ≡ l.ballot → ((c : Commanding C) → get l.commanders s ≡ Some c → is_member c.members m ≡ true)
         → HearsVote l m o s (on_p2b l m o s asked).state
-    vote_cases asked own member = asked_case _ (answers (is_promise o l.ballot) (is_same asked l.ballot) (subst (λ y. is_same y l.ballot ≡ true) (sym own) (same_itself l.ballot))) member
+    vote_cases asked own member = asked_case _
+        (answers (is_promise o l.ballot) (is_same asked l.ballot)
+        (subst (λ y. is_same y l.ballot ≡ true) (sym own) (same_itself l.ballot))) member
       where
         answers : (a b : Bool) → b ≡ true → (a && not b) ≡ false
         answers true true e = refl

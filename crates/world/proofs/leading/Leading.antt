@@ -1,5 +1,7 @@
 -- Each row of a leader leaves it as leaders are.
-use Rattle.std.proofs.Common.{◌≡◌, ◌≢◌, ◌⊎◌, inl, inr, ⊎_elim, ℕ, zero, suc, ◌<◌, Bool, true, false, true≢false, cond, List, [], ◌∷◌, replicate, Some, None, Option, refl, sym, ap, ◌∙◌, subst, arith, length, length-set}
+use Rattle.std.proofs.Common.{◌≡◌, ◌≢◌, ◌⊎◌, inl, inr, ⊎_elim, ℕ, zero, suc, ◌<◌, Bool, true, false, true≢false, cond}
+use Rattle.std.proofs.Common.{List, [], ◌∷◌, replicate, Some, None, Option, refl, sym, ap, ◌∙◌, subst, arith, length}
+use Rattle.std.proofs.Common.{length-set}
 use Rattle.std.specs.Prelude.{is_none, not, ◌&&◌, nat_le, IsSome}
 use Rattle.std.specs.FinMap.{get, insert, empty, contains_key}
 use Rattle.std.proofs.lemmas.Bool.{cases_eq}
@@ -49,7 +51,9 @@ pub nobody_few : (ws : List ℕ) → is_majority ws nobody ≡ false
 nobody_few ws = let h = weigh_nobody ws 7 in below_test (majority ws) (weigh ws nobody) (omega arith)
 
 -- with one more member that was heard
-heard_within : (ws : List ℕ) (heard : List Bool) (m : ℕ) → is_member ws m ≡ true → ((j : ℕ) → has heard j ≡ true → is_member ws j ≡ true) → (j : ℕ) → has (add heard m) j ≡ true → is_member ws j ≡ true
+heard_within : (ws : List ℕ) (heard : List Bool) (m : ℕ) → is_member ws m ≡ true
+    → ((j : ℕ) → has heard j ≡ true → is_member ws j ≡ true) → (j : ℕ) → has (add heard m) j ≡ true
+    → is_member ws j ≡ true
 heard_within ws heard m member within j h = ⊎_elim
     (λ (e : j ≡ m). subst (λ y. is_member ws y ≡ true) (sym e) member)
     (λ (old : has heard j ≡ true). within j old)
@@ -77,7 +81,8 @@ module _ {C : Type 0} (k z : Cluster C) (g : Grows k z) where
     active = λ on. let a = h.active on in record {
       promised = promised_stays l.ballot a.promised;
       alone = a.alone;
-      followed_up = λ s c e. ⊎_elim (λ (there : IsSome (get l.commanders s)). inl there) (λ (told : IsToldToAll k n s c). inr (told_stays n s c told)) (a.followed_up s c e);
+      followed_up = λ s c e. ⊎_elim (λ (there : IsSome (get l.commanders s)). inl there)
+          (λ (told : IsToldToAll k n s c). inr (told_stays n s c told)) (a.followed_up s c e);
     };
     asleep = h.asleep;
     scout = λ s e. scout_stays s (h.scout s e);
@@ -114,7 +119,10 @@ module _ (laws : BallotLaws) {C : Type 0} (k : Cluster C) (n : ℕ) (l : Leading
       })
       (λ e. silent_led)
 
-  preempted_if : (b : Numbers) (test : Bool) → IsLedBy k n (silently (cond test (record l { ballot = next_after b l.ballot.node l.ballot.boot; active = false; scout = None; commanders = empty }) l))
+  preempted_if : (b : Numbers) (test : Bool)
+      → IsLedBy k n (silently (cond test
+      (record l { ballot = next_after b l.ballot.node l.ballot.boot; active = false; scout = None; commanders = empty })
+      l))
   preempted_if b true z g said = record {
     active = λ on. off_on refl on;
     asleep = λ off. refl;
@@ -127,7 +135,9 @@ module _ (laws : BallotLaws) {C : Type 0} (k : Cluster C) (n : ℕ) (l : Leading
   preempted_led b = preempted_if b (is_below l.ballot b)
 
   -- a majority was heard, which has promised the leader's ballot
-  adopted_led : (heard : List Bool) → is_majority k.members heard ≡ true → ((m : ℕ) → has heard m ≡ true → IsUpto l.ballot (node k m).acceptor.promised) → (new : Slots C) → IsLedBy k n (adopted l new)
+  adopted_led : (heard : List Bool) → is_majority k.members heard ≡ true
+      → ((m : ℕ) → has heard m ≡ true → IsUpto l.ballot (node k m).acceptor.promised) → (new : Slots C)
+      → IsLedBy k n (adopted l new)
   adopted_led heard most promised new z g said = record {
     active = λ on. record {
       promised = record { row = heard; majority = majority_stays k z g heard most; promised = λ m x. (g.acceptors m).promised l.ballot (promised m x) };
@@ -150,7 +160,9 @@ module _ (laws : BallotLaws) {C : Type 0} (k : Cluster C) (n : ℕ) (l : Leading
     commander = λ r c f. commander_stays k z g l.proposals r c (h.commander r c f);
   }
 
-  heard_if : (s t : Scouting C) → l.scout ≡ Some s → t.members ≡ k.members → ((m : ℕ) → has t.heard m ≡ true → IsUpto l.ballot (node k m).acceptor.promised) → ((m : ℕ) → has t.heard m ≡ true → is_member k.members m ≡ true)
+  heard_if : (s t : Scouting C) → l.scout ≡ Some s → t.members ≡ k.members
+      → ((m : ℕ) → has t.heard m ≡ true → IsUpto l.ballot (node k m).acceptor.promised)
+      → ((m : ℕ) → has t.heard m ≡ true → is_member k.members m ≡ true)
       → length t.heard ≡ 7 → (taken : Slots C) (test : Bool) → is_majority t.members t.heard ≡ test → IsLedBy k n (at_heard l taken t (cond test Adopted Wait))
   heard_if s t e same promised within full taken true most = adopted_led t.heard (subst (λ ws. is_majority ws t.heard ≡ true) same most) promised taken
   heard_if s t e same promised within full taken false few = scout_led s t e (record { few = few; full = full; within = within })
@@ -159,7 +171,8 @@ module _ (laws : BallotLaws) {C : Type 0} (k : Cluster C) (n : ℕ) (l : Leading
   abbrev AtHearing : Slots C → Hearing C → Type 0
   AtHearing taken v = IsLedBy k n (at_heard l taken v.scout v.says)
 
-  hearing_if : (taken : Slots C) (test : Bool) (v w : Hearing C) → (test ≡ true → AtHearing taken v) → (test ≡ false → AtHearing taken w) → AtHearing taken (cond test v w)
+  hearing_if : (taken : Slots C) (test : Bool) (v w : Hearing C) → (test ≡ true → AtHearing taken v)
+      → (test ≡ false → AtHearing taken w) → AtHearing taken (cond test v w)
   hearing_if taken true v w on off = on refl
   hearing_if taken false v w on off = off refl
 
@@ -169,7 +182,9 @@ module _ (laws : BallotLaws) {C : Type 0} (k : Cluster C) (n : ℕ) (l : Leading
 
     promised_now : is_same b s.ballot ≡ true → (j : ℕ) → has (add s.heard m) j ≡ true → IsUpto l.ballot (node k j).acceptor.promised
     promised_now mine j x = ⊎_elim
-        (λ (f : j ≡ m). subst (λ y. IsUpto l.ballot (node k y).acceptor.promised) (sym f) (subst (λ y. IsUpto y (node k m).acceptor.promised) (laws.same b s.ballot mine ∙ (own.scouting s e).own.ballot) upto))
+        (λ (f : j ≡ m). subst (λ y. IsUpto l.ballot (node k y).acceptor.promised) (sym f)
+        (subst (λ y. IsUpto y (node k m).acceptor.promised)
+        (laws.same b s.ballot mine ∙ (own.scouting s e).own.ballot) upto))
         (λ (old : has s.heard j ≡ true). ((own.scouting s e).gathering.reports j old).1.promised)
         (has_add s.heard m j x)
 
@@ -177,13 +192,18 @@ module _ (laws : BallotLaws) {C : Type 0} (k : Cluster C) (n : ℕ) (l : Leading
     hearing_led fresh taken =
         hearing_if taken (is_member s.members m) _ (unmoved s Wait)
         (λ member. hearing_if taken (is_same b s.ballot) (gathers s m fresh) _
-        (λ mine. heard_if s (gathers s m fresh).scout e scout_members (promised_now mine) (heard_within k.members s.heard m (subst (λ ws. is_member ws m ≡ true) scout_members member) (h.scout s e).within) (full_add s.heard m (h.scout s e).full) taken (is_majority s.members (add s.heard m)) refl)
+        (λ mine. heard_if s (gathers s m fresh).scout e scout_members (promised_now mine)
+        (heard_within k.members s.heard m (subst (λ ws. is_member ws m ≡ true) scout_members member)
+        (h.scout s e).within) (full_add s.heard m (h.scout s e).full) taken
+        (is_majority s.members (add s.heard m)) refl)
         (λ other. hearing_if taken (is_below s.ballot b) (unmoved s (Preempted b)) (unmoved s Wait)
         (λ up. preempted_led b)
         (λ down. scout_led s s e (h.scout s e))))
         (λ stranger. scout_led s s e (h.scout s e))
 
-  pub p1b_led : (m : ℕ) (b : Numbers) (fresh : List (Pvalue C)) (taken : Slots C) → IsUpto b (node k m).acceptor.promised → (o : Option (Scouting C)) → l.scout ≡ o → IsLedBy k n (at_scout l m b fresh taken o)
+  pub p1b_led : (m : ℕ) (b : Numbers) (fresh : List (Pvalue C)) (taken : Slots C)
+      → IsUpto b (node k m).acceptor.promised → (o : Option (Scouting C)) → l.scout ≡ o
+      → IsLedBy k n (at_scout l m b fresh taken o)
   p1b_led m b fresh taken upto None e = silent_led
   p1b_led m b fresh taken upto (Some s) e = hearing_led m b upto s e fresh taken
 
@@ -209,8 +229,11 @@ module _ (laws : BallotLaws) {C : Type 0} (k : Cluster C) (n : ℕ) (l : Leading
       asleep = awake;
       scout = λ y f. scout_stays k z g y (h.scout y f);
       commander = λ t y f. ⊎_elim
-          (λ (same : (t ≡ s) × (get (insert l.commanders s d) t ≡ Some d)). subst (λ (q : ℕ × Commanding C). IsStillCommanding z l.proposals q.0 q.1) (λ j. (sym same.0 j, some_same (sym same.1 ∙ f) j)) (commander_stays k z g l.proposals s d is))
-          (λ (apart : (t ≢ s) × (get (insert l.commanders s d) t ≡ get l.commanders t)). commander_stays k z g l.proposals t y (h.commander t y (sym apart.1 ∙ f)))
+          (λ (same : (t ≡ s) × (get (insert l.commanders s d) t ≡ Some d)). subst
+          (λ (q : ℕ × Commanding C). IsStillCommanding z l.proposals q.0 q.1)
+          (λ j. (sym same.0 j, some_same (sym same.1 ∙ f) j)) (commander_stays k z g l.proposals s d is))
+          (λ (apart : (t ≢ s) × (get (insert l.commanders s d) t ≡ get l.commanders t)).
+          commander_stays k z g l.proposals t y (h.commander t y (sym apart.1 ∙ f)))
           (get_insert_cases l.commanders s d t);
     }
 
@@ -224,7 +247,9 @@ module _ (laws : BallotLaws) {C : Type 0} (k : Cluster C) (n : ℕ) (l : Leading
         promised = promised_stays k z g l.ballot a.promised;
         alone = a.alone;
         followed_up = λ t v f. ⊎_elim
-            (λ (here : t ≡ s). inr (subst (λ y. IsToldToAll z n y v) (sym here) (told_now z (subst (λ (p : Pvalue C). IsSentToAll z n (Decision s p.value)) same (said (Decision s d.pvalue.value) (inl refl))) v (ap (λ y. get l.proposals y) (sym here) ∙ f))))
+            (λ (here : t ≡ s). inr (subst (λ y. IsToldToAll z n y v) (sym here)
+            (told_now z (subst (λ (p : Pvalue C). IsSentToAll z n (Decision s p.value)) same
+            (said (Decision s d.pvalue.value) (inl refl))) v (ap (λ y. get l.proposals y) (sym here) ∙ f))))
             (λ (apart : t ≢ s). ⊎_elim
             (λ (there : IsSome (get l.commanders t)). inl (others_there l.commanders s t apart there))
             (λ (told : IsToldToAll k n t v). inr (told_stays k z g n t v told))
@@ -236,7 +261,8 @@ module _ (laws : BallotLaws) {C : Type 0} (k : Cluster C) (n : ℕ) (l : Leading
       commander = λ t y f. commander_stays k z g l.proposals t y (h.commander t y (get_remove_cases l.commanders s t y f));
     }
 
-    voted_if : (m : ℕ) → is_member c.members m ≡ true → (test : Bool) → is_majority c.members (add c.heard m) ≡ test → IsLedBy k n (at_voted l s (counts c m).commander (cond test Decided VoteWaits))
+    voted_if : (m : ℕ) → is_member c.members m ≡ true → (test : Bool) → is_majority c.members (add c.heard m) ≡ test
+        → IsLedBy k n (at_voted l s (counts c m).commander (cond test Decided VoteWaits))
     voted_if m member true most = decided_led (counts c m).commander refl
     voted_if m member false few = commander_led (counts c m).commander (record {
       few = few;
@@ -283,9 +309,12 @@ module _ (laws : BallotLaws) {C : Type 0} (k : Cluster C) (n : ℕ) (l : Leading
     new : Commanding C
     new = new_commander l.members (pvalue l.ballot s c)
 
-    at_rest_more : (z : Cluster C) → Grows k z → l.active ≡ true → (t : ℕ) (v : C) → get (insert l.proposals s c) t ≡ Some v → IsSome (get (insert l.commanders s new) t) ⊎ IsToldToAll z n t v
+    at_rest_more : (z : Cluster C) → Grows k z → l.active ≡ true → (t : ℕ) (v : C)
+        → get (insert l.proposals s c) t ≡ Some v → IsSome (get (insert l.commanders s new) t) ⊎ IsToldToAll z n t v
     at_rest_more z g on t v f = ⊎_elim
-        (λ (same : (t ≡ s) × (get (insert l.proposals s c) t ≡ Some c)). inl (is_there (get (insert l.commanders s new) t) new (ap (λ y. get (insert l.commanders s new) y) same.0 ∙ get_insert_same l.commanders s new)))
+        (λ (same : (t ≡ s) × (get (insert l.proposals s c) t ≡ Some c)). inl
+        (is_there (get (insert l.commanders s new) t) new
+        (ap (λ y. get (insert l.commanders s new) y) same.0 ∙ get_insert_same l.commanders s new)))
         (λ (apart : (t ≢ s) × (get (insert l.proposals s c) t ≡ get l.proposals t)). ⊎_elim
         (λ (there : IsSome (get l.commanders t)). inl (still_there l.commanders s new t there))
         (λ (told : IsToldToAll k n t v). inr (told_stays k z g n t v told))
@@ -303,7 +332,16 @@ module _ (laws : BallotLaws) {C : Type 0} (k : Cluster C) (n : ℕ) (l : Leading
       asleep = λ off. off_on off on;
       scout = λ y f. scout_stays k z g y (h.scout y f);
       commander = λ t y f. ⊎_elim
-          (λ (same : (t ≡ s) × (get (insert l.commanders s new) t ≡ Some new)). subst (λ (q : ℕ × Commanding C). IsStillCommanding z (insert l.proposals s c) q.0 q.1) (λ j. (sym same.0 j, some_same (sym same.1 ∙ f) j)) (record { few = nobody_few l.members; full = refl; value = get_insert_same l.proposals s c; within = λ m x. nobody_has m x }))
+          (λ (same : (t ≡ s) × (get (insert l.commanders s new) t ≡ Some new)). subst
+          (λ (q : ℕ × Commanding C). IsStillCommanding z (insert l.proposals s c) q.0 q.1)
+          (λ j. (sym same.0 j, some_same (sym same.1 ∙ f) j))
+          (record {
+            few = nobody_few l.members;
+            full = refl;
+            value = get_insert_same l.proposals s c;
+            within =
+                λ m x. nobody_has m x;
+          }))
           (λ (apart : (t ≢ s) × (get (insert l.commanders s new) t ≡ get l.commanders t)). more_stays z g t y (sym apart.1 ∙ f))
           (get_insert_cases l.commanders s new t);
     }

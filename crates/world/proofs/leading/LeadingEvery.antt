@@ -32,9 +32,12 @@ use Rattle.agreement.proofs.chosen.Turns.{here, there}
 use Rattle.node.specs.SlotLaws.{none_in_empty}
 
 -- what is said to all is sent to each member
-pub In-to_each : {C : Type 0} (ws : List ℕ) (n : ℕ) (bodies : List (LetterBody C)) (b : LetterBody C) (m : ℕ) → is_member ws m ≡ true → In b bodies → In (letter n b m) (all_to_all ws n bodies)
+pub In-to_each : {C : Type 0} (ws : List ℕ) (n : ℕ) (bodies : List (LetterBody C)) (b : LetterBody C) (m : ℕ)
+    → is_member ws m ≡ true → In b bodies → In (letter n b m) (all_to_all ws n bodies)
 In-to_each ws n [] b m member i = absurd i
-In-to_each ws n (c ∷ cs) b m member (inl e) = In-left (letter n b m) (to_all ws n c) (all_to_all ws n cs) (subst (λ z. In (letter n b m) (to_all ws n z)) e (In-map (letter n b) m (numbers ws) (In-numbers ws m member)))
+In-to_each ws n (c ∷ cs) b m member (inl e) =
+    In-left (letter n b m) (to_all ws n c) (all_to_all ws n cs)
+    (subst (λ z. In (letter n b m) (to_all ws n z)) e (In-map (letter n b) m (numbers ws) (In-numbers ws m member)))
 In-to_each ws n (c ∷ cs) b m member (inr i) = In-right (letter n b m) (to_all ws n c) (all_to_all ws n cs) (In-to_each ws n cs b m member i)
 
 new_led : {C : Type 0} (k : Cluster C) (n : ℕ) (members : List ℕ) (boot : ℕ) → IsLed k n (new_leader members n boot)
@@ -46,10 +49,13 @@ new_led k n members boot = record {
 }
 
 module _ (laws : BallotLaws) {C : Type 0} (k : Cluster C) (i : IsSound k) (all : (m : ℕ) → HasLeader k m) (n : ℕ) (member : is_member k.members n ≡ true) where
-  turn_led : (x : NodeState C) (out : List (Letter C)) → Grows k (turned k n x out) → IsLed (turned k n x out) n x.leader → (m : ℕ) → HasLeader (turned k n x out) m
+  turn_led : (x : NodeState C) (out : List (Letter C)) → Grows k (turned k n x out)
+      → IsLed (turned k n x out) n x.leader → (m : ℕ) → HasLeader (turned k n x out) m
   turn_led x out g fine m = ⊎_elim
-      (λ (e : m ≡ n). subst (HasLeader (turned k n x out)) (sym e) (subst (λ (y : NodeState C). IsLed (turned k n x out) n y.leader) (sym (here laws k i n member x out)) fine))
-      (λ (apart : m ≢ n). subst (λ (y : NodeState C). IsLed (turned k n x out) m y.leader) (sym (there laws k i n member x out m apart)) (led_stays k (turned k n x out) g m (node k m).leader (all m)))
+      (λ (e : m ≡ n). subst (HasLeader (turned k n x out)) (sym e)
+      (subst (λ (y : NodeState C). IsLed (turned k n x out) n y.leader) (sym (here laws k i n member x out)) fine))
+      (λ (apart : m ≢ n). subst (λ (y : NodeState C). IsLed (turned k n x out) m y.leader)
+      (sym (there laws k i n member x out m apart)) (led_stays k (turned k n x out) g m (node k m).leader (all m)))
       (cases_eq m n)
 
   leader_led : (d : Done (Leading C) C) → IsLedBy k n d → Grows k (leader_turn k n d) → (m : ℕ) → HasLeader (leader_turn k n d) m
@@ -61,10 +67,14 @@ module _ (laws : BallotLaws) {C : Type 0} (k : Cluster C) (i : IsSound k) (all :
   same_led : (x : NodeState C) (out : List (Letter C)) → x.leader ≡ (node k n).leader → Grows k (turned k n x out) → (m : ℕ) → HasLeader (turned k n x out) m
   same_led x out same g = turn_led x out g (subst (IsLed (turned k n x out) n) (sym same) (led_stays k (turned k n x out) g n (node k n).leader (all n)))
 
-  receive_led : (m : ℕ) (body : LetterBody C) → IsTrueOf k m body → (x : NodeState C) (out : List (Letter C)) → Receives k.members m n (node k n) body x out → Grows k (turned k n x out) → (j : ℕ) → HasLeader (turned k n x out) j
+  receive_led : (m : ℕ) (body : LetterBody C) → IsTrueOf k m body → (x : NodeState C) (out : List (Letter C))
+      → Receives k.members m n (node k n) body x out → Grows k (turned k n x out) → (j : ℕ)
+      → HasLeader (turned k n x out) j
   receive_led m body says x out (promises_ballot b report r) g = same_led x out refl g
   receive_led m body says x out (accepts_pvalue p) g = same_led x out refl g
-  receive_led m body says x out (hears_promise b report fresh taken may) g = leader_led _ (p1b_led laws k n (node k n).leader (i.nodes n).leader (all n) m b fresh taken says.promised (node k n).leader.scout refl) g
+  receive_led m body says x out (hears_promise b report fresh taken may) g =
+      leader_led _ (p1b_led laws k n (node k n).leader (i.nodes n).leader (all n) m b fresh taken says.promised
+      (node k n).leader.scout refl) g
   receive_led m body says x out (hears_vote b s by) g = leader_led _ (p2b_led laws k n (node k n).leader (i.nodes n).leader (all n) m b s by) g
   receive_led m body says x out (hears_proposal s c) g = leader_led _ (proposed_led laws k n (node k n).leader (i.nodes n).leader (all n) s c) g
   receive_led m body says x out (learns s c) g = same_led x out refl g
@@ -74,7 +84,9 @@ module _ (laws : BallotLaws) {O Op Reply : Type 0} (rules : Rules O Op Reply) wh
   abbrev AllLed : World Op Reply → Type 0
   AllLed w = (m : ℕ) → HasLeader w.cluster m
 
-  performs_led : (w : World Op Reply) → IsSound w.cluster → AllLed w → (n : ℕ) → is_member w.cluster.members n ≡ true → (o : Option (Command Op)) → Grows w.cluster (after_performing rules w n (node w.cluster n).replica o).cluster → AllLed (after_performing rules w n (node w.cluster n).replica o)
+  performs_led : (w : World Op Reply) → IsSound w.cluster → AllLed w → (n : ℕ) → is_member w.cluster.members n ≡ true
+      → (o : Option (Command Op)) → Grows w.cluster (after_performing rules w n (node w.cluster n).replica o).cluster
+      → AllLed (after_performing rules w n (node w.cluster n).replica o)
   performs_led w i all n member None g = all
   performs_led w i all n member (Some c) g = same_led laws w.cluster i all n member _ [] refl g
 
@@ -83,14 +95,20 @@ module _ (laws : BallotLaws) {O Op Reply : Type 0} (rules : Rules O Op Reply) wh
   step_led w v e i g (deliver j l x out at receives) all =
       let fair = Each-at (IsFair w.cluster) w.cluster.letters l i.letters (In-get w.cluster.letters j l at) in
       receive_led laws w.cluster i all l.to fair.receiver l.«from» l.body fair.says x out receives g
-  step_led w v e i g (wake n member) all = leader_led laws w.cluster i all n member _ (woken_led laws w.cluster n (node w.cluster n).leader (i.nodes n).leader (all n)) g
+  step_led w v e i g (wake n member) all =
+      leader_led laws w.cluster i all n member _
+      (woken_led laws w.cluster n (node w.cluster n).leader (i.nodes n).leader (all n)) g
   step_led w v e i g (nudge n member) all = same_led laws w.cluster i all n member (node w.cluster n) _ refl g
   step_led w v e i g (propose n member) all = same_led laws w.cluster i all n member _ _ refl g
   step_led w v e i g (perform n member) all = performs_led w i all n member (next_decided (node w.cluster n).replica) g
-  step_led w v e i g (restart n member) all = turn_led laws w.cluster i all n member (restarted w.cluster.members n (node w.cluster n)) [] g (new_led _ n w.cluster.members _)
+  step_led w v e i g (restart n member) all =
+      turn_led laws w.cluster i all n member (restarted w.cluster.members n (node w.cluster n)) [] g
+      (new_led _ n w.cluster.members _)
 
   first_led : (members : List ℕ) → AllLed (opening members)
-  first_led members m = subst (λ (x : NodeState (Command Op)). IsLed (opening {Reply = Reply} members).cluster m x.leader) (sym (opened_at members m)) (new_led (opening {Reply = Reply} members).cluster m members 0)
+  first_led members m = subst (λ (x : NodeState (Command Op)). IsLed
+      (opening {Reply = Reply} members).cluster m x.leader) (sym (opened_at members m))
+      (new_led (opening {Reply = Reply} members).cluster m members 0)
 
   every_leader : InEvery rules AllLed
   every_leader = in_every laws rules AllLed first_led

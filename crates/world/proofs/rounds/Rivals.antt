@@ -1,5 +1,6 @@
 -- How many acceptors have promised a ballot above one.
-use Rattle.std.proofs.Common.{◌≡◌, ◌⊎◌, inl, inr, ⊎_elim, ℕ, ◌<◌, ◌≤◌, Bool, true, false, cond, List, [], ◌∷◌, length, filter, Option, None, Some, refl, sym, ap, ◌∙◌, subst, arith}
+use Rattle.std.proofs.Common.{◌≡◌, ◌⊎◌, inl, inr, ⊎_elim, ℕ, ◌<◌, ◌≤◌, Bool, true, false, cond, List, [], ◌∷◌, length}
+use Rattle.std.proofs.Common.{filter, Option, None, Some, refl, sym, ap, ◌∙◌, subst, arith}
 use Rattle.object.specs.Lists.{In}
 use Rattle.ballot.specs.Ballots.{Numbers, is_below, is_promise_below, higher, next_after}
 use Rattle.ballot.specs.Members.{is_member, numbers}
@@ -26,7 +27,8 @@ module _ (f g : ℕ → Bool) (more : (j : ℕ) → f j ≡ true → g j ≡ tru
   less_here x xs ys h false true p q = omega arith
   less_here x xs ys h false false p q = not_both q refl
 
-  less_later : (x : ℕ) (xs ys : List ℕ) → length xs < length ys → (a b : Bool) → (a ≡ true → b ≡ true) → length (cond a (x ∷ xs) xs) < length (cond b (x ∷ ys) ys)
+  less_later : (x : ℕ) (xs ys : List ℕ) → length xs < length ys → (a b : Bool) → (a ≡ true → b ≡ true)
+      → length (cond a (x ∷ xs) xs) < length (cond b (x ∷ ys) ys)
   less_later x xs ys h true true k = omega arith
   less_later x xs ys h true false k = not_both (k refl) refl
   less_later x xs ys h false true k = omega arith
@@ -68,13 +70,18 @@ module _ (laws : BallotLaws) where
   no_rival c b below = below_upto laws b c below
 
   -- among acceptors that promised what they had promised before or b, there are no more above b than before
-  module _ {C : Type 0} (k z : Cluster C) (same : z.members ≡ k.members) (b : Numbers) (promised : (j : ℕ) → ((node z j).acceptor.promised ≡ (node k j).acceptor.promised) ⊎ ((node z j).acceptor.promised ≡ Some b)) where
+  module _ {C : Type 0} (k z : Cluster C) (same : z.members ≡ k.members) (b : Numbers)
+      (promised : (j : ℕ) → ((node z j).acceptor.promised ≡ (node k j).acceptor.promised)
+      ⊎ ((node z j).acceptor.promised ≡ Some b)) where
     rival_before : (c : Numbers) → (is_below b c ≡ true) ⊎ (b ≡ c) → (j : ℕ) → is_rival z c j ≡ true → is_rival k b j ≡ true
     rival_before c above j rival = elim (promised j) as (λ v. is_rival k b j ≡ true) [
       | inl stays ↦ let was : is_promise_below (Some c) (node k j).acceptor.promised ≡ true = ap (is_promise_below (Some c)) (sym stays) ∙ rival in
-          ⊎_elim (λ (below : is_below b c ≡ true). rival_above b c (node k j).acceptor.promised below was) (λ (e : b ≡ c). subst (λ y. is_promise_below (Some y) (node k j).acceptor.promised ≡ true) (sym e) was) above
+          ⊎_elim (λ (below : is_below b c ≡ true). rival_above b c (node k j).acceptor.promised below was)
+          (λ (e : b ≡ c). subst (λ y. is_promise_below (Some y) (node k j).acceptor.promised ≡ true) (sym e) was)
+          above
       | inr now ↦ let own : is_below c b ≡ true = ap (is_promise_below (Some c)) (sym now) ∙ rival in
-          ⊎_elim (λ (below : is_below b c ≡ true). not_both own (below_upto laws b c below)) (λ (e : b ≡ c). not_both (subst (λ y. is_below y b ≡ true) (sym e) own) (laws.itself b)) above
+          ⊎_elim (λ (below : is_below b c ≡ true). not_both own (below_upto laws b c below))
+          (λ (e : b ≡ c). not_both (subst (λ y. is_below y b ≡ true) (sym e) own) (laws.itself b)) above
     ]
 
     counted_in : (c : Numbers) → length (filter (is_rival z c) (numbers z.members)) ≡ length (filter (is_rival z c) (numbers k.members))
@@ -94,13 +101,15 @@ module _ (laws : BallotLaws) where
     no_more_rivals = let h = fewer (is_rival z b) (is_rival k b) (rival_before b (inr refl)) (numbers k.members) in let e = counted_in b in omega arith
 
     -- and fewer above a ballot that passes one of them
-    pub fewer_rivals : (m : ℕ) (x c : Numbers) → is_member k.members m ≡ true → (node z m).acceptor.promised ≡ Some x → is_below b x ≡ true → is_below x c ≡ true → rivals z c < rivals k b
+    pub fewer_rivals : (m : ℕ) (x c : Numbers) → is_member k.members m ≡ true → (node z m).acceptor.promised ≡ Some x
+        → is_below b x ≡ true → is_below x c ≡ true → rivals z c < rivals k b
     fewer_rivals m x c member now above past =
         let was : is_rival k b m ≡ true = elim (promised m) as (λ v. is_rival k b m ≡ true) [
           | inl stays ↦ ap (is_promise_below (Some b)) (sym stays ∙ now) ∙ above
           | inr own ↦ let e : x ≡ b = (cc) in not_both (subst (λ y. is_below b y ≡ true) e above) (laws.itself b)
         ] in
         let gone : is_rival z c m ≡ false = ap (is_promise_below (Some c)) now ∙ below_upto laws x c past in
-        let h = less (is_rival z c) (is_rival k b) (rival_before c (inl (laws.through b x c above past))) m gone was (numbers k.members) (In-numbers k.members m member) in
+        let h = less (is_rival z c) (is_rival k b) (rival_before c (inl (laws.through b x c above past))) m gone was
+        (numbers k.members) (In-numbers k.members m member) in
         let e = counted_in c in
         omega arith

@@ -23,7 +23,8 @@ use Rattle.world.proofs.rounds.RoundSteps.{manned_world, is_question, has_asked}
 use Rattle.world.proofs.rounds.RoundMembers.{first_member}
 use Rattle.world.proofs.rounds.Working.{over_from}
 
-module _ (laws : BallotLaws) {O Op Reply : Type 0} (rules : Rules O Op Reply) (w n : World Op Reply) (i : IsWorld rules w) (members : IsMembers w.cluster.members) (posted : HasScout w.cluster)
+module _ (laws : BallotLaws) {O Op Reply : Type 0} (rules : Rules O Op Reply) (w n : World Op Reply)
+    (i : IsWorld rules w) (members : IsMembers w.cluster.members) (posted : HasScout w.cluster)
     (step : Step rules w (events.Nudge 1) n) (room : w.taken < most_events) where
   first : is_member w.cluster.members 1 ≡ true
   first = first_member w.cluster.members members
@@ -48,7 +49,8 @@ module _ (laws : BallotLaws) {O Op Reply : Type 0} (rules : Rules O Op Reply) (w
       subst (λ a. IsRound (nudged w) a stop) (sym from) (subst (λ b. IsRound (nudged w) (length w.cluster.letters) b) (sym upto)
       (round_nudged laws w (reachable_sound laws rules w i.reachable) first (manned_world laws rules w i first) (has_leader laws rules w i 1 first).asleep))
 
-  module _ (v : World Op Reply) (start stop p : ℕ) (from : start ≡ length w.cluster.letters) (upto : stop ≡ length w.cluster.letters + questions w.cluster) (asking : IsAsking (nudged w) v start p) where
+  module _ (v : World Op Reply) (start stop p : ℕ) (from : start ≡ length w.cluster.letters)
+      (upto : stop ≡ length w.cluster.letters + questions w.cluster) (asking : IsAsking (nudged w) v start p) where
     pub round_question : start ≤ p → p < stop → IsQuestion v p
     round_question low high = is_question laws rules (nudged w) v start stop p (round start stop from upto) low high asking
 
@@ -67,7 +69,9 @@ module _ (laws : BallotLaws) {O Op Reply : Type 0} (rules : Rules O Op Reply) (w
     pub round_ends : p ≡ stop → IsWorld rules v → IsOver w v
     round_ends over world = over_from w (nudged w) v (ap (λ l. l.ballot) same_leader) (ap (λ l. l.active) same_leader)
         (no_more_rivals laws w.cluster (nudged w).cluster refl (first_leader w.cluster).ballot
-        (λ j. inl (at_each laws w (reachable_sound laws rules w i.reachable) 1 first (node w.cluster 1) (said_again w.cluster.members 1 (node w.cluster 1)) (λ k x. x.acceptor.promised ≡ (node w.cluster k).acceptor.promised) refl (λ k apart. refl) j)))
+        (λ j. inl (at_each laws w (reachable_sound laws rules w i.reachable) 1 first (node w.cluster 1)
+        (said_again w.cluster.members 1 (node w.cluster 1))
+        (λ k x. x.acceptor.promised ≡ (node w.cluster k).acceptor.promised) refl (λ k apart. refl) j)))
         (ends over world)
 
     pub round_talks : IsTalk w v

@@ -1,5 +1,7 @@
 -- How a round begins and ends.
-use Rattle.std.proofs.Common.{◌≡◌, ◌⊎◌, inl, inr, ℕ, zero, suc, ◌+◌, ◌*◌, ◌/◌, ◌<◌, ◌≤◌, Bool, true, false, true≢false, cond, List, [], ◌∷◌, ◌++◌, map, length, Option, None, Some, refl, sym, ap, ap₂, ◌∙◌, subst, arith}
+use Rattle.std.proofs.Common.{◌≡◌, ◌⊎◌, inl, inr, ℕ, zero, suc, ◌+◌, ◌*◌, ◌/◌, ◌<◌, ◌≤◌, Bool, true, false, true≢false}
+use Rattle.std.proofs.Common.{cond, List, [], ◌∷◌, ◌++◌, map, length, Option, None, Some, refl, sym, ap, ap₂, ◌∙◌}
+use Rattle.std.proofs.Common.{subst, arith}
 use Rattle.std.specs.Prelude.{slice_get, slice_index_or, sum, nat_le, ◌&&◌}
 use Rattle.std.specs.List.{list_all}
 use Rattle.std.specs.FinMap.{get, entries}
@@ -28,7 +30,8 @@ place_of (y ∷ ys) x (inl e) = (0, omega arith, ap (λ z. Some z) (sym e))
 place_of (y ∷ ys) x (inr within) = let h = place_of ys x within in (suc h.0, (let a = h.1 in omega arith), h.2)
 
 -- in a list with others before and behind it
-pub amid : {A : Type 0} (front xs behind : List A) (i j : ℕ) (x : A) → j ≡ length front + i → slice_get xs i ≡ Some x → slice_get (front ++ (xs ++ behind)) j ≡ Some x
+pub amid : {A : Type 0} (front xs behind : List A) (i j : ℕ) (x : A) → j ≡ length front + i → slice_get xs i ≡ Some x
+    → slice_get (front ++ (xs ++ behind)) j ≡ Some x
 amid [] xs behind i j x at e = subst (λ k. slice_get (xs ++ behind) k ≡ Some x) (omega arith) (still_at xs behind i x e)
 amid (y ∷ front) xs behind i zero x at e = absurd (omega arith)
 amid (y ∷ front) xs behind i (suc j) x at e = amid front xs behind i j x (omega arith) e
@@ -42,7 +45,8 @@ at_some (x ∷ xs) (suc i) h = at_some xs i (omega arith)
 pub all_length : {C : Type 0} (ms : List ℕ) (n : ℕ) (bodies : List (LetterBody C)) → length (all_to_all ms n bodies) ≡ length ms * length bodies
 all_length ms n [] = grind (arith)
 all_length ms n (b ∷ bs) = length-append (to_all ms n b) (all_to_all ms n bs)
-    ∙ product (length (to_all ms n b)) (length (all_to_all ms n bs)) (length ms) (length bs) (length-map (numbers ms) (letter n b) ∙ length-range_with_len 1 (length ms)) (all_length ms n bs)
+    ∙ product (length (to_all ms n b)) (length (all_to_all ms n bs)) (length ms) (length bs)
+    (length-map (numbers ms) (letter n b) ∙ length-range_with_len 1 (length ms)) (all_length ms n bs)
   where
     product : (a c m k : ℕ) → a ≡ m → c ≡ m * k → a + c ≡ m * suc k
     product a c m k p q = ap₂ (λ x y. x + y) p q ∙ grind (arith)
@@ -52,23 +56,33 @@ in_mapped f y [] within = absurd within
 in_mapped f y (x ∷ xs) (inl e) = (x, inl refl, e)
 in_mapped f y (x ∷ xs) (inr within) = let h = in_mapped f y xs within in (h.0, inr h.1, h.2)
 
-pub from_all : {C : Type 0} (ms : List ℕ) (n : ℕ) (bodies : List (LetterBody C)) (l : Letter C) → In l (all_to_all ms n bodies) → (body : LetterBody C) × In body bodies × ((m : ℕ) × (is_member ms m ≡ true) × (l ≡ letter n body m))
+pub from_all : {C : Type 0} (ms : List ℕ) (n : ℕ) (bodies : List (LetterBody C)) (l : Letter C)
+    → In l (all_to_all ms n bodies) → (body : LetterBody C) × In body bodies
+    × ((m : ℕ) × (is_member ms m ≡ true) × (l ≡ letter n body m))
 from_all ms n [] l within = absurd within
-from_all {C} ms n (b ∷ bs) l within = elim (In-cases l (to_all ms n b) (all_to_all ms n bs) within) as (λ v. (body : LetterBody C) × In body (b ∷ bs) × ((m : ℕ) × (is_member ms m ≡ true) × (l ≡ letter n body m))) [
-  | inl here ↦ let h = in_mapped (letter n b) l (numbers ms) here in (b, inl refl, (h.0, numbers_members ms h.0 h.1, h.2))
-  | inr later ↦ let h = from_all ms n bs l later in (h.0, inr h.1, h.2)
-]
+from_all {C} ms n (b ∷ bs) l within =
+    elim (In-cases l (to_all ms n b) (all_to_all ms n bs) within) as (λ v. (body : LetterBody C) × In body (b ∷ bs)
+    × ((m : ℕ) × (is_member ms m ≡ true) × (l ≡ letter n body m))) [
+      | inl here ↦ let h = in_mapped (letter n b) l (numbers ms) here in (b, inl refl, (h.0, numbers_members ms h.0 h.1, h.2))
+      | inr later ↦ let h = from_all ms n bs l later in (h.0, inr h.1, h.2)
+    ]
 
-pub to_each : {C : Type 0} (ms : List ℕ) (n : ℕ) (bodies : List (LetterBody C)) (body : LetterBody C) (m : ℕ) → In body bodies → is_member ms m ≡ true → In (letter n body m) (all_to_all ms n bodies)
+pub to_each : {C : Type 0} (ms : List ℕ) (n : ℕ) (bodies : List (LetterBody C)) (body : LetterBody C) (m : ℕ)
+    → In body bodies → is_member ms m ≡ true → In (letter n body m) (all_to_all ms n bodies)
 to_each ms n [] body m within member = absurd within
-to_each ms n (b ∷ bs) body m (inl e) member = In-left (letter n body m) (to_all ms n b) (all_to_all ms n bs) (subst (λ y. In (letter n body m) (to_all ms n y)) e (In-map (letter n body) m (numbers ms) (In-numbers ms m member)))
+to_each ms n (b ∷ bs) body m (inl e) member =
+    In-left (letter n body m) (to_all ms n b) (all_to_all ms n bs)
+    (subst (λ y. In (letter n body m) (to_all ms n y)) e
+    (In-map (letter n body) m (numbers ms) (In-numbers ms m member)))
 to_each ms n (b ∷ bs) body m (inr within) member = In-right (letter n body m) (to_all ms n b) (all_to_all ms n bs) (to_each ms n bs body m within member)
 
 -- all members together are a majority
 weigh_all : (ws : List ℕ) (row : List Bool) → ((i : ℕ) → i < length ws → slice_index_or row i false ≡ true) → weigh ws row ≡ sum ws
 weigh_all [] row h = refl
 weigh_all (w ∷ ws) [] h = absurd (true≢false (sym (h 0 (omega arith))))
-weigh_all (w ∷ ws) (b ∷ row) h = ap₂ (λ x y. x + y) (ap (λ t. cond t w 0) (h 0 (omega arith))) (weigh_all ws row (λ i low. h (suc i) (omega arith))) ∙ sym (sum_by-cons (λ x. x) w ws)
+weigh_all (w ∷ ws) (b ∷ row) h =
+    ap₂ (λ x y. x + y) (ap (λ t. cond t w 0) (h 0 (omega arith)))
+    (weigh_all ws row (λ i low. h (suc i) (omega arith))) ∙ sym (sum_by-cons (λ x. x) w ws)
 
 both_true : (a b : Bool) → (a && b) ≡ true → (a ≡ true) × (b ≡ true)
 both_true true true e = (refl, refl)
@@ -93,10 +107,13 @@ le_yes : (a c d : ℕ) → a ≤ c → c ≡ d → nat_le a d ≡ true
 le_yes a c d h e = grind (arith, nat_tests)
 
 pub everyone : (ws : List ℕ) → IsMembers ws → (row : List Bool) → ((m : ℕ) → is_member ws m ≡ true → has row m ≡ true) → is_majority ws row ≡ true
-everyone ws is row h = le_yes (majority ws) (sum ws) (weigh ws row) (half (sum ws) (some_total ws is)) (sym (weigh_all ws row (λ i low. h (suc i) (grind (arith, nat_tests)))))
+everyone ws is row h = le_yes (majority ws) (sum ws) (weigh ws row) (half (sum ws) (some_total ws is))
+    (sym (weigh_all ws row (λ i low. h (suc i) (grind (arith, nat_tests)))))
 
 -- a row that has all members of a majority is one
-weigh_members : (ws : List ℕ) (a b : List Bool) → ((i : ℕ) → i < length ws → slice_index_or a i false ≡ true → slice_index_or b i false ≡ true) → weigh ws a ≤ weigh ws b
+weigh_members : (ws : List ℕ) (a b : List Bool)
+    → ((i : ℕ) → i < length ws → slice_index_or a i false ≡ true → slice_index_or b i false ≡ true)
+    → weigh ws a ≤ weigh ws b
 weigh_members [] a b h = omega arith
 weigh_members (w ∷ ws) [] b h = omega arith
 weigh_members (w ∷ ws) (x ∷ a) [] h = let rest = weigh_members ws a [] (λ i low. h (suc i) (omega arith)) in at x (h 0 (omega arith)) rest (weigh_none ws)
@@ -115,8 +132,12 @@ weigh_members (w ∷ ws) (x ∷ a) (y ∷ b) h = at x y (h 0 (omega arith)) (wei
     at true false e rest = absurd (true≢false (sym (e refl)))
     at false y e rest = omega arith
 
-pub majority_of_members : (ws : List ℕ) (a b : List Bool) → ((m : ℕ) → is_member ws m ≡ true → has a m ≡ true → has b m ≡ true) → is_majority ws a ≡ true → is_majority ws b ≡ true
-majority_of_members ws a b h e = let le = weigh_members ws a b (λ i low. h (suc i) (grind (arith, nat_tests))) in more (majority ws) (weigh ws a) (weigh ws b) le e
+pub majority_of_members : (ws : List ℕ) (a b : List Bool)
+    → ((m : ℕ) → is_member ws m ≡ true → has a m ≡ true → has b m ≡ true) → is_majority ws a ≡ true
+    → is_majority ws b ≡ true
+majority_of_members ws a b h e = let le =
+    weigh_members ws a b (λ i low. h (suc i) (grind (arith, nat_tests))) in more (majority ws) (weigh ws a)
+    (weigh ws b) le e
   where
     more : (m x y : ℕ) → x ≤ y → nat_le m x ≡ true → nat_le m y ≡ true
     more m x y le e = grind (arith, nat_tests)
@@ -124,11 +145,14 @@ majority_of_members ws a b h e = let le = weigh_members ws a b (λ i low. h (suc
 -- what a round of a leader says
 pub says_cases : {C : Type 0} (l : Leading C) (body : LetterBody C) → In body (says_again l)
     → ((s : Scouting C) × (l.scout ≡ Some s) × (body ≡ P1a s.ballot)) ⊎ ((s : ℕ) × ((c : Commanding C) × (get l.commanders s ≡ Some c) × (body ≡ P2a c.pvalue)))
-says_cases {C} l body within = elim (In-cases body (scout_says l.scout) _ within) as (λ v. ((s : Scouting C) × (l.scout ≡ Some s) × (body ≡ P1a s.ballot)) ⊎ ((s : ℕ) × ((c : Commanding C) × (get l.commanders s ≡ Some c) × (body ≡ P2a c.pvalue)))) [
-  | inl scout ↦ inl (at l.scout scout)
-  | inr other ↦ let h = in_mapped (λ (e : ℕ × Commanding C). P2a e.1.pvalue) body (entries l.commanders) other in
-      inr (h.0.0, (h.0.1, Each-at (λ e. get l.commanders e.0 ≡ Some e.1) (entries l.commanders) h.0 (entries_get l.commanders) h.1, h.2))
-]
+says_cases {C} l body within =
+    elim (In-cases body (scout_says l.scout) _ within) as (λ v.
+    ((s : Scouting C) × (l.scout ≡ Some s) × (body ≡ P1a s.ballot))
+    ⊎ ((s : ℕ) × ((c : Commanding C) × (get l.commanders s ≡ Some c) × (body ≡ P2a c.pvalue)))) [
+      | inl scout ↦ inl (at l.scout scout)
+      | inr other ↦ let h = in_mapped (λ (e : ℕ × Commanding C). P2a e.1.pvalue) body (entries l.commanders) other in
+          inr (h.0.0, (h.0.1, Each-at (λ e. get l.commanders e.0 ≡ Some e.1) (entries l.commanders) h.0 (entries_get l.commanders) h.1, h.2))
+    ]
   where
     at : (o : Option (Scouting C)) → In body (scout_says o) → (s : Scouting C) × (o ≡ Some s) × (body ≡ P1a s.ballot)
     at None within = absurd within
@@ -136,7 +160,9 @@ says_cases {C} l body within = elim (In-cases body (scout_says l.scout) _ within
     at (Some s) (inr within) = absurd within
 
 pub says_scout : {C : Type 0} (l : Leading C) (s : Scouting C) → l.scout ≡ Some s → In (P1a s.ballot) (says_again l)
-says_scout {C} l s is = In-left (P1a s.ballot) (scout_says l.scout) _ (subst (λ (o : Option (Scouting C)). In (P1a s.ballot) (scout_says o)) (sym is) (inl refl))
+says_scout {C} l s is = In-left (P1a s.ballot) (scout_says l.scout) _
+    (subst (λ (o : Option (Scouting C)). In (P1a s.ballot) (scout_says o)) (sym is) (inl refl))
 
 pub says_commander : {C : Type 0} (l : Leading C) (s : ℕ) (c : Commanding C) → get l.commanders s ≡ Some c → In (P2a c.pvalue) (says_again l)
-says_commander {C} l s c is = In-right (P2a c.pvalue) (scout_says l.scout) _ (In-map (λ (e : ℕ × Commanding C). P2a e.1.pvalue) (s, c) (entries l.commanders) (get_entries l.commanders s c is))
+says_commander {C} l s c is = In-right (P2a c.pvalue) (scout_says l.scout) _
+    (In-map (λ (e : ℕ × Commanding C). P2a e.1.pvalue) (s, c) (entries l.commanders) (get_entries l.commanders s c is))

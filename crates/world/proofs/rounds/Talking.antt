@@ -49,7 +49,15 @@ last_at [] x more = refl
 last_at (y ∷ xs) x more = last_at xs x more
 
 pub talk_itself : {Op Reply : Type 0} (w : World Op Reply) → IsTalk w w
-talk_itself w = record { members = refl; replicas = λ n. refl; happenings = refl; reach = refl; letters = begins_itself w.cluster.letters; covers = λ s there. there }
+talk_itself w = record {
+  members = refl;
+  replicas = λ n. refl;
+  happenings = refl;
+  reach = refl;
+  letters =
+      begins_itself w.cluster.letters;
+  covers = λ s there. there;
+}
 
 pub talk_on : {Op Reply : Type 0} (w u v : World Op Reply) → IsTalk w u → IsTalk u v → IsTalk w v
 talk_on w u v a b = record {
@@ -61,15 +69,20 @@ talk_on w u v a b = record {
   covers = λ s there. b.covers s (a.covers s there);
 }
 
-module _ (laws : BallotLaws) {Op Reply : Type 0} (w : World Op Reply) (i : IsSound w.cluster) (n : ℕ) (member : is_member w.cluster.members n ≡ true) (x : NodeState (Command Op)) (out : List (Letter (Command Op))) where
+module _ (laws : BallotLaws) {Op Reply : Type 0} (w : World Op Reply) (i : IsSound w.cluster) (n : ℕ)
+    (member : is_member w.cluster.members n ≡ true) (x : NodeState (Command Op))
+    (out : List (Letter (Command Op))) where
   -- what is so of the node that turned, and of the others, is so of each
-  pub at_each : (P : ℕ → NodeState (Command Op) → Type 0) → P n x → ((j : ℕ) → j ≢ n → P j (node w.cluster j)) → (j : ℕ) → P j (node (turned w.cluster n x out) j)
+  pub at_each : (P : ℕ → NodeState (Command Op) → Type 0) → P n x → ((j : ℕ) → j ≢ n → P j (node w.cluster j)) → (j : ℕ)
+      → P j (node (turned w.cluster n x out) j)
   at_each P own other j = ⊎_elim
       (λ (e : j ≡ n). subst (λ z. P z (node (turned w.cluster n x out) z)) (sym e) (subst (P n) (sym (here laws w.cluster i n member x out)) own))
       (λ (apart : j ≢ n). subst (P j) (sym (there laws w.cluster i n member x out j apart)) (other j apart))
       (cases_eq j n)
 
-  pub turn_talks : x.replica ≡ (node w.cluster n).replica → (n ≡ 1 → Covers (node w.cluster n).leader.proposals x.leader.proposals) → IsTalk w (counted (with_cluster w (turned w.cluster n x out)))
+  pub turn_talks : x.replica ≡ (node w.cluster n).replica
+      → (n ≡ 1 → Covers (node w.cluster n).leader.proposals x.leader.proposals)
+      → IsTalk w (counted (with_cluster w (turned w.cluster n x out)))
   turn_talks same covers = record {
     members = refl;
     replicas = at_each (λ j y. y.replica ≡ (node w.cluster j).replica) same (λ j apart. refl);
@@ -106,10 +119,13 @@ pub record AsksVote {Op Reply : Type 0} (w v : World Op Reply) (m : ℕ) (p : Pv
   pub letters : IsBeginning w.cluster.letters v.cluster.letters
   pub count : v.taken ≡ w.taken + 2
 
-module _ (laws : BallotLaws) {O Op Reply : Type 0} (rules : Rules O Op Reply) (w u v : World Op Reply) (i : IsSound w.cluster) (first : is_member w.cluster.members 1 ≡ true) (m : ℕ) (member : is_member w.cluster.members m ≡ true) where
+module _ (laws : BallotLaws) {O Op Reply : Type 0} (rules : Rules O Op Reply) (w u v : World Op Reply)
+    (i : IsSound w.cluster) (first : is_member w.cluster.members 1 ≡ true) (m : ℕ)
+    (member : is_member w.cluster.members m ≡ true) where
   -- node m received a letter of node 1, became x and answered, and node 1 received the answer and became y
   module _ (x : NodeState (Command Op)) (body : LetterBody (Command Op)) (is : u ≡ counted (with_cluster w (turned w.cluster m x (letter m body 1 ∷ []))))
-      (y : NodeState (Command Op)) (out : List (Letter (Command Op))) (next : v ≡ counted (with_cluster u (turned u.cluster 1 y out))) (sound : IsSound u.cluster) where
+      (y : NodeState (Command Op)) (out : List (Letter (Command Op)))
+      (next : v ≡ counted (with_cluster u (turned u.cluster 1 y out))) (sound : IsSound u.cluster) where
     middle : (P : World Op Reply → Type 0) → P (counted (with_cluster w (turned w.cluster m x (letter m body 1 ∷ [])))) → P u
     middle P h = subst P (sym is) h
 
@@ -148,10 +164,14 @@ module _ (laws : BallotLaws) {O Op Reply : Type 0} (rules : Rules O Op Reply) (w
     pub promised_own : (node u.cluster m).acceptor ≡ x.acceptor
     promised_own = ap (λ z. z.acceptor) node_m
 
-    pub replicas_after : x.replica ≡ (node w.cluster m).replica → y.replica ≡ (node u.cluster 1).replica → (n : ℕ) → (node v.cluster n).replica ≡ (node w.cluster n).replica
+    pub replicas_after : x.replica ≡ (node w.cluster m).replica → y.replica ≡ (node u.cluster 1).replica → (n : ℕ)
+        → (node v.cluster n).replica ≡ (node w.cluster n).replica
     replicas_after same again n =
-        last (λ z. (node z.cluster n).replica ≡ (node u.cluster n).replica) (at_each laws u sound 1 one y out (λ k z. z.replica ≡ (node u.cluster k).replica) again (λ k apart. refl) n)
-        ∙ middle (λ z. (node z.cluster n).replica ≡ (node w.cluster n).replica) (at_each laws w i m member x (letter m body 1 ∷ []) (λ k z. z.replica ≡ (node w.cluster k).replica) same (λ k apart. refl) n)
+        last (λ z. (node z.cluster n).replica ≡ (node u.cluster n).replica)
+        (at_each laws u sound 1 one y out (λ k z. z.replica ≡ (node u.cluster k).replica) again (λ k apart. refl) n)
+        ∙ middle (λ z. (node z.cluster n).replica ≡ (node w.cluster n).replica)
+        (at_each laws w i m member x (letter m body 1 ∷ []) (λ k z. z.replica ≡ (node w.cluster k).replica) same
+        (λ k apart. refl) n)
 
     pub letters_between : u.cluster.letters ≡ w.cluster.letters ++ (letter m body 1 ∷ [])
     letters_between = middle (λ z. z.cluster.letters ≡ w.cluster.letters ++ (letter m body 1 ∷ [])) refl
@@ -173,8 +193,11 @@ module _ (laws : BallotLaws) {O Op Reply : Type 0} (rules : Rules O Op Reply) (w
     pub count_after : v.taken ≡ w.taken + 2
     count_after = last (λ z. z.taken ≡ u.taken + 1) refl ∙ ap (λ t. t + 1) (middle (λ z. z.taken ≡ w.taken + 1) refl) ∙ omega arith
 
-  reply_at : (x : NodeState (Command Op)) (body : LetterBody (Command Op)) → u ≡ counted (with_cluster w (turned w.cluster m x (letter m body 1 ∷ []))) → slice_get u.cluster.letters (length w.cluster.letters) ≡ Some (letter m body 1)
-  reply_at x body is = subst (λ (z : World Op Reply). slice_get z.cluster.letters (length w.cluster.letters) ≡ Some (letter m body 1)) (sym is) (last_at w.cluster.letters (letter m body 1) [])
+  reply_at : (x : NodeState (Command Op)) (body : LetterBody (Command Op))
+      → u ≡ counted (with_cluster w (turned w.cluster m x (letter m body 1 ∷ [])))
+      → slice_get u.cluster.letters (length w.cluster.letters) ≡ Some (letter m body 1)
+  reply_at x body is = subst (λ (z : World Op Reply). slice_get z.cluster.letters (length w.cluster.letters)
+      ≡ Some (letter m body 1)) (sym is) (last_at w.cluster.letters (letter m body 1) [])
 
   -- a promise is asked of m, and node 1 hears the answer
   pub asks_promise : (b : Numbers) (j : ℕ) → slice_get w.cluster.letters j ≡ Some (letter 1 (P1a b) m)
@@ -184,7 +207,8 @@ module _ (laws : BallotLaws) {O Op Reply : Type 0} (rules : Rules O Op Reply) (w
       let p = p1a_received w.cluster.members 1 m (node w.cluster m) b a.state a.sent a.receives in
       let x = record (node w.cluster m) { acceptor = after_p1a (node w.cluster m).acceptor b } in
       let body = P1b (higher (node w.cluster m).acceptor.promised b) p.0 in
-      let is : u ≡ counted (with_cluster w (turned w.cluster m x (letter m body 1 ∷ []))) = a.is ∙ ap₂ (λ s o. counted (with_cluster w (turned w.cluster m s o))) p.2 p.3 in
+      let is : u ≡ counted (with_cluster w (turned w.cluster m x (letter m body 1 ∷ []))) =
+      a.is ∙ ap₂ (λ s o. counted (with_cluster w (turned w.cluster m s o))) p.2 p.3 in
       let r = received rules u v (length w.cluster.letters) (letter m body 1) (reply_at x body is) back in
       let q = p1b_received u.cluster.members m 1 (node u.cluster 1) (higher (node w.cluster m).acceptor.promised b) p.0 r.state r.sent r.receives in
       let sound = (step_sound laws rules w (events.Deliver j) u i there).sound in
@@ -198,7 +222,8 @@ module _ (laws : BallotLaws) {O Op Reply : Type 0} (rules : Rules O Op Reply) (w
         promised = ap (λ z. z.promised) (promised_after x body is y r.sent next sound refl m ∙ promised_own x body is y r.sent next sound);
         others = λ k apart. ap (λ z. z.promised) (promised_after x body is y r.sent next sound refl k ∙ promised_between x body is y r.sent next sound k apart);
         hears = subst (λ l. Hears l m (higher (node w.cluster m).acceptor.promised b) p.0 q.0 q.1) same q.2;
-        leader = leader_after x body is y r.sent next sound ∙ ap (λ l. (promises.on_p1b l m (higher (node w.cluster m).acceptor.promised b) q.0 q.1).state) same;
+        leader = leader_after x body is y r.sent next sound ∙ ap
+            (λ l. (promises.on_p1b l m (higher (node w.cluster m).acceptor.promised b) q.0 q.1).state) same;
         members = members_after x body is y r.sent next sound;
         replicas = replicas_after x body is y r.sent next sound refl refl;
         happenings = happenings_after x body is y r.sent next sound;
@@ -215,7 +240,8 @@ module _ (laws : BallotLaws) {O Op Reply : Type 0} (rules : Rules O Op Reply) (w
       let h = p2a_received w.cluster.members 1 m (node w.cluster m) p a.state a.sent a.receives in
       let x = record (node w.cluster m) { acceptor = after_p2a (node w.cluster m).acceptor p } in
       let body = P2b (node w.cluster m).acceptor.promised p.slot p.ballot in
-      let is : u ≡ counted (with_cluster w (turned w.cluster m x (letter m body 1 ∷ []))) = a.is ∙ ap₂ (λ s o. counted (with_cluster w (turned w.cluster m s o))) h.0 h.1 in
+      let is : u ≡ counted (with_cluster w (turned w.cluster m x (letter m body 1 ∷ []))) =
+      a.is ∙ ap₂ (λ s o. counted (with_cluster w (turned w.cluster m s o))) h.0 h.1 in
       let r = received rules u v (length w.cluster.letters) (letter m body 1) (reply_at x body is) back in
       let q = p2b_received u.cluster.members m 1 (node u.cluster 1) (node w.cluster m).acceptor.promised p.slot p.ballot r.state r.sent r.receives in
       let sound = (step_sound laws rules w (events.Deliver j) u i there).sound in
@@ -225,7 +251,8 @@ module _ (laws : BallotLaws) {O Op Reply : Type 0} (rules : Rules O Op Reply) (w
       record {
         promised = λ k. ap (λ z. z.promised) (promised_after x body is y r.sent next sound refl k)
             ∙ ⊎_elim
-            (λ (e : k ≡ m). subst (λ n. (node u.cluster n).acceptor.promised ≡ (node w.cluster n).acceptor.promised) (sym e) (ap (λ z. z.promised) (promised_own x body is y r.sent next sound)))
+            (λ (e : k ≡ m). subst (λ n. (node u.cluster n).acceptor.promised ≡ (node w.cluster n).acceptor.promised)
+            (sym e) (ap (λ z. z.promised) (promised_own x body is y r.sent next sound)))
             (λ (apart : k ≢ m). ap (λ z. z.promised) (promised_between x body is y r.sent next sound k apart))
             (cases_eq k m);
         leader = leader_after x body is y r.sent next sound ∙ ap (λ l. (votes.on_p2b l m (node w.cluster m).acceptor.promised p.slot p.ballot).state) same;

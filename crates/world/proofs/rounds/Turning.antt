@@ -23,7 +23,9 @@ use Rattle.world.proofs.leading.LeadingEvery.{has_leader}
 use Rattle.agreement.proofs.books.MentionsEvery.{mentions_calm}
 use Rattle.world.proofs.ways.MentionsFew.{few_proposals}
 use Rattle.world.proofs.rounds.RoundMembers.{first_member}
-use Rattle.world.proofs.rounds.Working.{waits_asleep, waits_awake, some_left, over_from, round_spent, same_ballot, same_active, same_commanders, has_scout, same_rivals, wake_counts, leader_woken, woken_alone}
+use Rattle.world.proofs.rounds.Working.{waits_asleep, waits_awake, some_left, over_from, round_spent, same_ballot}
+use Rattle.world.proofs.rounds.Working.{same_active, same_commanders, has_scout, same_rivals, wake_counts, leader_woken}
+use Rattle.world.proofs.rounds.Working.{woken_alone}
 
 pub at_most_seven : (n w : ℕ) → n ≤ 7 → n * w ≤ 7 * w
 at_most_seven n w h = grind (arith)
@@ -37,7 +39,8 @@ all_before test [] x h = at (test x) h
     at false h = absurd (cc)
 all_before test (y ∷ xs) x h = at (test y) (λ rest. all_before test xs x rest) h
   where
-    at : (b : Bool) → (list_all test (xs ++ (x ∷ [])) ≡ true → (list_all test xs ≡ true) × (test x ≡ true)) → (b && list_all test (xs ++ (x ∷ []))) ≡ true → ((b && list_all test xs) ≡ true) × (test x ≡ true)
+    at : (b : Bool) → (list_all test (xs ++ (x ∷ [])) ≡ true → (list_all test xs ≡ true) × (test x ≡ true))
+        → (b && list_all test (xs ++ (x ∷ []))) ≡ true → ((b && list_all test xs) ≡ true) × (test x ≡ true)
     at true rest h = rest h
     at false rest h = absurd (cc)
 
@@ -53,7 +56,8 @@ talk_calm (Restart n) h = refl
 module _ (laws : BallotLaws) {O Op Reply : Type 0} (rules : Rules O Op Reply) where
   -- talk mentions nothing new
   module _ (P : ℕ → Command Op → Type 0) (w : World Op Reply) (i : IsSound w.cluster) where
-    talked : (es : List (Event Op)) (v : World Op Reply) → Leads rules w es v → list_all is_talk es ≡ true → Mentions P w.cluster → IsSound v.cluster × Mentions P v.cluster
+    talked : (es : List (Event Op)) (v : World Op Reply) → Leads rules w es v → list_all is_talk es ≡ true
+        → Mentions P w.cluster → IsSound v.cluster × Mentions P v.cluster
     talked _ _ at_once h m = (i, m)
     talked _ v (after {es = es} {v = u} e _ led step) h m =
         let both = all_before is_talk es e h in
@@ -69,31 +73,46 @@ module _ (laws : BallotLaws) {O Op Reply : Type 0} (rules : Rules O Op Reply) wh
     where
       at : (active : Bool) → (first_leader w.cluster).active ≡ active → 0 < work w.cluster
       at true e =
-          let b : work w.cluster ≡ 2 ^ 41 * (2 * rivals w.cluster (first_leader w.cluster).ballot + 0) + 16 * len (first_leader w.cluster).commanders = ap (λ x. 2 ^ 41 * (2 * rivals w.cluster (first_leader w.cluster).ballot + cond x 0 1) + 16 * len (first_leader w.cluster).commanders) e in
+          let b : work w.cluster ≡ 2 ^ 41 * (2 * rivals w.cluster (first_leader w.cluster).ballot + 0) + 16 * len
+          (first_leader w.cluster).commanders =
+          ap (λ x. 2 ^ 41 * (2 * rivals w.cluster (first_leader w.cluster).ballot + cond x 0 1) + 16 * len
+          (first_leader w.cluster).commanders) e in
           let some = some_left w.cluster left e in
           omega arith
       at false e =
-          let b : work w.cluster ≡ 2 ^ 41 * (2 * rivals w.cluster (first_leader w.cluster).ballot + 1) + 16 * len (first_leader w.cluster).commanders = ap (λ x. 2 ^ 41 * (2 * rivals w.cluster (first_leader w.cluster).ballot + cond x 0 1) + 16 * len (first_leader w.cluster).commanders) e in
+          let b : work w.cluster ≡ 2 ^ 41 * (2 * rivals w.cluster (first_leader w.cluster).ballot + 1) + 16 * len
+          (first_leader w.cluster).commanders =
+          ap (λ x. 2 ^ 41 * (2 * rivals w.cluster (first_leader w.cluster).ballot + cond x 0 1) + 16 * len
+          (first_leader w.cluster).commanders) e in
           omega arith
 
   -- an active leader that waits for nothing is at rest, and no other
-  pub at_rest_when : (w : World Op Reply) → IsWorld rules w → is_member w.cluster.members 1 ≡ true → (first_leader w.cluster).active ≡ true → length (says_again (first_leader w.cluster)) ≡ 0 → IsAtRest w.cluster
+  pub at_rest_when : (w : World Op Reply) → IsWorld rules w → is_member w.cluster.members 1 ≡ true
+      → (first_leader w.cluster).active ≡ true → length (says_again (first_leader w.cluster)) ≡ 0 → IsAtRest w.cluster
   at_rest_when w i first active none = record {
     active = active;
-    done = empty_of_len (first_leader w.cluster).commanders (sym (waits_awake (first_leader w.cluster) ((has_leader laws rules w i 1 first).active active).alone) ∙ none);
+    done = empty_of_len (first_leader w.cluster).commanders
+        (sym (waits_awake (first_leader w.cluster) ((has_leader laws rules w i 1 first).active active).alone) ∙ none);
   }
 
-  pub waits_for_nothing : (w : World Op Reply) → IsWorld rules w → is_member w.cluster.members 1 ≡ true → IsAtRest w.cluster → length (says_again (first_leader w.cluster)) ≡ 0
-  waits_for_nothing w i first at_rest = waits_awake (first_leader w.cluster) ((has_leader laws rules w i 1 first).active at_rest.active).alone ∙ ap len at_rest.done ∙ len-empty nat_cmp (Commanding (Command Op))
+  pub waits_for_nothing : (w : World Op Reply) → IsWorld rules w → is_member w.cluster.members 1 ≡ true
+      → IsAtRest w.cluster → length (says_again (first_leader w.cluster)) ≡ 0
+  waits_for_nothing w i first at_rest =
+      waits_awake (first_leader w.cluster)
+      ((has_leader laws rules w i 1 first).active at_rest.active).alone ∙ ap len at_rest.done ∙ len-empty nat_cmp
+      (Commanding (Command Op))
 
-  module _ (w u : World Op Reply) (i : IsWorld rules w) (members : IsMembers w.cluster.members) (left : IsAtRest w.cluster → ⊥) (step : Step rules w (events.Wake 1) u) where
+  module _ (w u : World Op Reply) (i : IsWorld rules w) (members : IsMembers w.cluster.members)
+      (left : IsAtRest w.cluster → ⊥) (step : Step rules w (events.Wake 1) u) where
     first : is_member w.cluster.members 1 ≡ true
     first = first_member w.cluster.members members
 
     sound : IsSound w.cluster
     sound = reachable_sound laws rules w i.reachable
 
-    awake : (first_leader w.cluster).active ≡ true → (length (says_again (first_leader u.cluster)) ≡ len (first_leader w.cluster).commanders) × (0 < length (says_again (first_leader u.cluster)))
+    awake : (first_leader w.cluster).active ≡ true
+        → (length (says_again (first_leader u.cluster)) ≡ len (first_leader w.cluster).commanders)
+        × (0 < length (says_again (first_leader u.cluster)))
     awake active =
         let led = (has_leader laws rules w i 1 first).active active in
         let alone = ap (λ l. l.scout) (leader_woken laws rules w u sound first step) ∙ woken_alone (first_leader w.cluster) active led.alone in
@@ -109,25 +128,36 @@ module _ (laws : BallotLaws) {O Op Reply : Type 0} (rules : Rules O Op Reply) wh
     few_questions : length u.cluster.members ≡ length w.cluster.members → questions u.cluster ≤ 7 * length (says_again (first_leader u.cluster))
     few_questions same = let few = members.few in at_most_seven (length u.cluster.members) (length (says_again (first_leader u.cluster))) (omega arith)
 
-    costs_by : (active : Bool) → (first_leader w.cluster).active ≡ active → questions u.cluster ≤ 7 * length (says_again (first_leader u.cluster)) → 2 + 2 * questions u.cluster ≤ work w.cluster
+    costs_by : (active : Bool) → (first_leader w.cluster).active ≡ active
+        → questions u.cluster ≤ 7 * length (says_again (first_leader u.cluster))
+        → 2 + 2 * questions u.cluster ≤ work w.cluster
     costs_by true e few =
         let a = awake e in
-        let b : work w.cluster ≡ 2 ^ 41 * (2 * rivals w.cluster (first_leader w.cluster).ballot + 0) + 16 * len (first_leader w.cluster).commanders = ap (λ x. 2 ^ 41 * (2 * rivals w.cluster (first_leader w.cluster).ballot + cond x 0 1) + 16 * len (first_leader w.cluster).commanders) e in
+        let b : work w.cluster ≡ 2 ^ 41 * (2 * rivals w.cluster (first_leader w.cluster).ballot + 0) + 16 * len
+        (first_leader w.cluster).commanders =
+        ap (λ x. 2 ^ 41 * (2 * rivals w.cluster (first_leader w.cluster).ballot + cond x 0 1) + 16 * len
+        (first_leader w.cluster).commanders) e in
         let n = a.0 in let some = a.1 in
         omega arith
     costs_by false e few =
         let n = asleep e in
-        let b : work w.cluster ≡ 2 ^ 41 * (2 * rivals w.cluster (first_leader w.cluster).ballot + 1) + 16 * len (first_leader w.cluster).commanders = ap (λ x. 2 ^ 41 * (2 * rivals w.cluster (first_leader w.cluster).ballot + cond x 0 1) + 16 * len (first_leader w.cluster).commanders) e in
+        let b : work w.cluster ≡ 2 ^ 41 * (2 * rivals w.cluster (first_leader w.cluster).ballot + 1) + 16 * len
+        (first_leader w.cluster).commanders =
+        ap (λ x. 2 ^ 41 * (2 * rivals w.cluster (first_leader w.cluster).ballot + cond x 0 1) + 16 * len
+        (first_leader w.cluster).commanders) e in
         omega arith
 
     pub turn_costs : length u.cluster.members ≡ length w.cluster.members → 2 + 2 * questions u.cluster ≤ work w.cluster
     turn_costs same = costs_by (first_leader w.cluster).active refl (few_questions same)
 
-    pub turn_spent : (v : World Op Reply) → length u.cluster.members ≡ length w.cluster.members → v.taken ≡ u.taken + 1 + 2 * questions u.cluster → IsOver u v → IsSmall v.cluster → v.taken + work v.cluster ≤ w.taken + work w.cluster
+    pub turn_spent : (v : World Op Reply) → length u.cluster.members ≡ length w.cluster.members
+        → v.taken ≡ u.taken + 1 + 2 * questions u.cluster → IsOver u v → IsSmall v.cluster
+        → v.taken + work v.cluster ≤ w.taken + work w.cluster
     turn_spent v same taken over small =
         let few = few_questions same in
         let count = wake_counts laws rules w u sound first step in
         round_spent w v (length (says_again (first_leader u.cluster))) (omega arith)
         (few_proposals (first_leader v.cluster).commanders most_slots (λ s c is. ((small.nodes 1).leader).commanders s c is))
         awake asleep
-        (over_from w u v (same_ballot laws rules w u sound first step) (same_active laws rules w u sound first step) (same_rivals laws rules w u sound first step (first_leader w.cluster).ballot) over)
+        (over_from w u v (same_ballot laws rules w u sound first step) (same_active laws rules w u sound first step)
+        (same_rivals laws rules w u sound first step (first_leader w.cluster).ballot) over)

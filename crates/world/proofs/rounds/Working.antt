@@ -1,5 +1,6 @@
 -- What a round takes of the work that is left.
-use Rattle.std.proofs.Common.{◌≡◌, inl, ℕ, zero, suc, ◌+◌, ◌*◌, ◌^◌, ◌<◌, ◌≤◌, Bool, true, false, cond, not, ◌&&◌, [], ◌∷◌, map, length, Option, None, Some, is_none, refl, sym, ap, ap₂, ◌∙◌, subst, arith}
+use Rattle.std.proofs.Common.{◌≡◌, inl, ℕ, zero, suc, ◌+◌, ◌*◌, ◌^◌, ◌<◌, ◌≤◌, Bool, true, false, cond, not, ◌&&◌, []}
+use Rattle.std.proofs.Common.{◌∷◌, map, length, Option, None, Some, is_none, refl, sym, ap, ap₂, ◌∙◌, subst, arith}
 use Rattle.std.specs.FinMap.{empty, contains_key, entries, len, len-entries, len-empty, empty_of_len}
 use Rattle.std.specs.Ordering.{nat_cmp}
 use Rattle.std.proofs.lemmas.List.{length-append, length-map}
@@ -30,13 +31,16 @@ use Rattle.world.proofs.rounds.Rivals.{no_more_rivals}
 pub waits_asleep : {C : Type 0} (l : Leading C) (s : Scouting C) → l.scout ≡ Some s → l.commanders ≡ empty → length (says_again l) ≡ 1
 waits_asleep {C} l s is nobody =
     let one : length (scout_says {C = C} l.scout) ≡ 1 = ap (λ o. length (scout_says o)) is in
-    let none : length (map (λ (e : ℕ × Commanding C). P2a e.1.pvalue) (entries l.commanders)) ≡ 0 = length-map (entries l.commanders) (λ e. P2a e.1.pvalue) ∙ sym (len-entries l.commanders) ∙ ap len nobody ∙ len-empty nat_cmp (Commanding C) in
+    let none : length (map (λ (e : ℕ × Commanding C). P2a e.1.pvalue) (entries l.commanders)) ≡ 0 =
+    length-map (entries l.commanders) (λ e. P2a e.1.pvalue) ∙ sym
+    (len-entries l.commanders) ∙ ap len nobody ∙ len-empty nat_cmp (Commanding C) in
     length-append (scout_says l.scout) _ ∙ ap₂ (λ a b. a + b) one none
 
 pub waits_awake : {C : Type 0} (l : Leading C) → l.scout ≡ None → length (says_again l) ≡ len l.commanders
 waits_awake {C} l is =
     let none : length (scout_says {C = C} l.scout) ≡ 0 = ap (λ o. length (scout_says o)) is in
-    length-append (scout_says l.scout) _ ∙ ap₂ (λ a b. a + b) none (length-map (entries l.commanders) (λ e. P2a e.1.pvalue) ∙ sym (len-entries l.commanders)) ∙ omega arith
+    length-append (scout_says l.scout) _ ∙ ap₂ (λ a b. a + b) none
+    (length-map (entries l.commanders) (λ e. P2a e.1.pvalue) ∙ sym (len-entries l.commanders)) ∙ omega arith
 
 none_left : {C : Type 0} (cs : Slots (Commanding C)) → cs ≡ empty → len cs ≡ 0
 none_left {C} cs e = ap len e ∙ len-empty nat_cmp (Commanding C)
@@ -53,47 +57,85 @@ abbrev asleep_count : Bool → ℕ
 asleep_count active = cond active 0 1
 
 -- what a round leaves of the work, where it took no more events than it has questions and answers
-module _ {Op Reply : Type 0} (w v : World Op Reply) (waits : ℕ) (spent : v.taken ≤ w.taken + 2 + 14 * waits) (few : len (first_leader v.cluster).commanders ≤ most_slots + 1) where
-  left_beaten : (active : Bool) → (first_leader w.cluster).active ≡ active → (active ≡ true → waits ≡ len (first_leader w.cluster).commanders) → (active ≡ false → waits ≡ 1) → IsBeaten w v → v.taken + work v.cluster < w.taken + work w.cluster
+module _ {Op Reply : Type 0} (w v : World Op Reply) (waits : ℕ) (spent : v.taken ≤ w.taken + 2 + 14 * waits)
+    (few : len (first_leader v.cluster).commanders ≤ most_slots + 1) where
+  left_beaten : (active : Bool) → (first_leader w.cluster).active ≡ active
+      → (active ≡ true → waits ≡ len (first_leader w.cluster).commanders) → (active ≡ false → waits ≡ 1) → IsBeaten w v
+      → v.taken + work v.cluster < w.taken + work w.cluster
   left_beaten true e awake asleep h =
-      let a : work v.cluster ≡ 2 ^ 41 * (2 * rivals v.cluster (first_leader v.cluster).ballot + 1) + 16 * 0 = ap₂ (λ x y. 2 ^ 41 * (2 * rivals v.cluster (first_leader v.cluster).ballot + cond x 0 1) + 16 * y) h.asleep (none_left (first_leader v.cluster).commanders h.nobody) in
-      let b : work w.cluster ≡ 2 ^ 41 * (2 * rivals w.cluster (first_leader w.cluster).ballot + 0) + 16 * len (first_leader w.cluster).commanders = ap (λ x. 2 ^ 41 * (2 * rivals w.cluster (first_leader w.cluster).ballot + cond x 0 1) + 16 * len (first_leader w.cluster).commanders) e in
+      let a : work v.cluster ≡ 2 ^ 41 * (2 * rivals v.cluster (first_leader v.cluster).ballot + 1) + 16 * 0 =
+      ap₂ (λ x y. 2 ^ 41 * (2 * rivals v.cluster (first_leader v.cluster).ballot + cond x 0 1) + 16 * y) h.asleep
+      (none_left (first_leader v.cluster).commanders h.nobody) in
+      let b : work w.cluster ≡ 2 ^ 41 * (2 * rivals w.cluster (first_leader w.cluster).ballot + 0) + 16 * len
+      (first_leader w.cluster).commanders =
+      ap (λ x. 2 ^ 41 * (2 * rivals w.cluster (first_leader w.cluster).ballot + cond x 0 1) + 16 * len
+      (first_leader w.cluster).commanders) e in
       let fewer = h.fewer in
       let n = awake refl in
       omega arith
   left_beaten false e awake asleep h =
-      let a : work v.cluster ≡ 2 ^ 41 * (2 * rivals v.cluster (first_leader v.cluster).ballot + 1) + 16 * 0 = ap₂ (λ x y. 2 ^ 41 * (2 * rivals v.cluster (first_leader v.cluster).ballot + cond x 0 1) + 16 * y) h.asleep (none_left (first_leader v.cluster).commanders h.nobody) in
-      let b : work w.cluster ≡ 2 ^ 41 * (2 * rivals w.cluster (first_leader w.cluster).ballot + 1) + 16 * len (first_leader w.cluster).commanders = ap (λ x. 2 ^ 41 * (2 * rivals w.cluster (first_leader w.cluster).ballot + cond x 0 1) + 16 * len (first_leader w.cluster).commanders) e in
+      let a : work v.cluster ≡ 2 ^ 41 * (2 * rivals v.cluster (first_leader v.cluster).ballot + 1) + 16 * 0 =
+      ap₂ (λ x y. 2 ^ 41 * (2 * rivals v.cluster (first_leader v.cluster).ballot + cond x 0 1) + 16 * y) h.asleep
+      (none_left (first_leader v.cluster).commanders h.nobody) in
+      let b : work w.cluster ≡ 2 ^ 41 * (2 * rivals w.cluster (first_leader w.cluster).ballot + 1) + 16 * len
+      (first_leader w.cluster).commanders =
+      ap (λ x. 2 ^ 41 * (2 * rivals w.cluster (first_leader w.cluster).ballot + cond x 0 1) + 16 * len
+      (first_leader w.cluster).commanders) e in
       let fewer = h.fewer in
       let n = asleep refl in
       omega arith
 
-  left_adopted : (first_leader w.cluster).active ≡ false → waits ≡ 1 → (first_leader v.cluster).active ≡ true → rivals v.cluster (first_leader v.cluster).ballot ≤ rivals w.cluster (first_leader w.cluster).ballot → v.taken + work v.cluster < w.taken + work w.cluster
+  left_adopted : (first_leader w.cluster).active ≡ false → waits ≡ 1 → (first_leader v.cluster).active ≡ true
+      → rivals v.cluster (first_leader v.cluster).ballot ≤ rivals w.cluster (first_leader w.cluster).ballot
+      → v.taken + work v.cluster < w.taken + work w.cluster
   left_adopted asleep one active no_more =
-      let a : work v.cluster ≡ 2 ^ 41 * (2 * rivals v.cluster (first_leader v.cluster).ballot + 0) + 16 * len (first_leader v.cluster).commanders = ap (λ x. 2 ^ 41 * (2 * rivals v.cluster (first_leader v.cluster).ballot + cond x 0 1) + 16 * len (first_leader v.cluster).commanders) active in
-      let b : work w.cluster ≡ 2 ^ 41 * (2 * rivals w.cluster (first_leader w.cluster).ballot + 1) + 16 * len (first_leader w.cluster).commanders = ap (λ x. 2 ^ 41 * (2 * rivals w.cluster (first_leader w.cluster).ballot + cond x 0 1) + 16 * len (first_leader w.cluster).commanders) asleep in
+      let a : work v.cluster ≡ 2 ^ 41 * (2 * rivals v.cluster (first_leader v.cluster).ballot + 0) + 16 * len
+      (first_leader v.cluster).commanders =
+      ap (λ x. 2 ^ 41 * (2 * rivals v.cluster (first_leader v.cluster).ballot + cond x 0 1) + 16 * len
+      (first_leader v.cluster).commanders) active in
+      let b : work w.cluster ≡ 2 ^ 41 * (2 * rivals w.cluster (first_leader w.cluster).ballot + 1) + 16 * len
+      (first_leader w.cluster).commanders =
+      ap (λ x. 2 ^ 41 * (2 * rivals w.cluster (first_leader w.cluster).ballot + cond x 0 1) + 16 * len
+      (first_leader w.cluster).commanders) asleep in
       omega arith
 
-  left_at_rest : (active : Bool) → (first_leader w.cluster).active ≡ active → (active ≡ true → (waits ≡ len (first_leader w.cluster).commanders) × (0 < waits)) → (active ≡ false → waits ≡ 1) → IsAtRest v.cluster → rivals v.cluster (first_leader v.cluster).ballot ≤ rivals w.cluster (first_leader w.cluster).ballot → v.taken + work v.cluster ≤ w.taken + work w.cluster
+  left_at_rest : (active : Bool) → (first_leader w.cluster).active ≡ active
+      → (active ≡ true → (waits ≡ len (first_leader w.cluster).commanders) × (0 < waits)) → (active ≡ false → waits ≡ 1)
+      → IsAtRest v.cluster → rivals v.cluster (first_leader v.cluster).ballot ≤ rivals w.cluster
+      (first_leader w.cluster).ballot → v.taken + work v.cluster ≤ w.taken + work w.cluster
   left_at_rest true e awake asleep h no_more =
-      let a : work v.cluster ≡ 2 ^ 41 * (2 * rivals v.cluster (first_leader v.cluster).ballot + 0) + 16 * 0 = ap₂ (λ x y. 2 ^ 41 * (2 * rivals v.cluster (first_leader v.cluster).ballot + cond x 0 1) + 16 * y) h.active (none_left (first_leader v.cluster).commanders h.done) in
-      let b : work w.cluster ≡ 2 ^ 41 * (2 * rivals w.cluster (first_leader w.cluster).ballot + 0) + 16 * len (first_leader w.cluster).commanders = ap (λ x. 2 ^ 41 * (2 * rivals w.cluster (first_leader w.cluster).ballot + cond x 0 1) + 16 * len (first_leader w.cluster).commanders) e in
+      let a : work v.cluster ≡ 2 ^ 41 * (2 * rivals v.cluster (first_leader v.cluster).ballot + 0) + 16 * 0 =
+      ap₂ (λ x y. 2 ^ 41 * (2 * rivals v.cluster (first_leader v.cluster).ballot + cond x 0 1) + 16 * y) h.active
+      (none_left (first_leader v.cluster).commanders h.done) in
+      let b : work w.cluster ≡ 2 ^ 41 * (2 * rivals w.cluster (first_leader w.cluster).ballot + 0) + 16 * len
+      (first_leader w.cluster).commanders =
+      ap (λ x. 2 ^ 41 * (2 * rivals w.cluster (first_leader w.cluster).ballot + cond x 0 1) + 16 * len
+      (first_leader w.cluster).commanders) e in
       let n = (awake refl).0 in
       let some = (awake refl).1 in
       omega arith
   left_at_rest false e awake asleep h no_more =
-      let a : work v.cluster ≡ 2 ^ 41 * (2 * rivals v.cluster (first_leader v.cluster).ballot + 0) + 16 * 0 = ap₂ (λ x y. 2 ^ 41 * (2 * rivals v.cluster (first_leader v.cluster).ballot + cond x 0 1) + 16 * y) h.active (none_left (first_leader v.cluster).commanders h.done) in
-      let b : work w.cluster ≡ 2 ^ 41 * (2 * rivals w.cluster (first_leader w.cluster).ballot + 1) + 16 * len (first_leader w.cluster).commanders = ap (λ x. 2 ^ 41 * (2 * rivals w.cluster (first_leader w.cluster).ballot + cond x 0 1) + 16 * len (first_leader w.cluster).commanders) e in
+      let a : work v.cluster ≡ 2 ^ 41 * (2 * rivals v.cluster (first_leader v.cluster).ballot + 0) + 16 * 0 =
+      ap₂ (λ x y. 2 ^ 41 * (2 * rivals v.cluster (first_leader v.cluster).ballot + cond x 0 1) + 16 * y) h.active
+      (none_left (first_leader v.cluster).commanders h.done) in
+      let b : work w.cluster ≡ 2 ^ 41 * (2 * rivals w.cluster (first_leader w.cluster).ballot + 1) + 16 * len
+      (first_leader w.cluster).commanders =
+      ap (λ x. 2 ^ 41 * (2 * rivals w.cluster (first_leader w.cluster).ballot + cond x 0 1) + 16 * len
+      (first_leader w.cluster).commanders) e in
       let n = asleep refl in
       omega arith
 
-  pub round_spent : ((first_leader w.cluster).active ≡ true → (waits ≡ len (first_leader w.cluster).commanders) × (0 < waits)) → ((first_leader w.cluster).active ≡ false → waits ≡ 1) → IsOver w v → v.taken + work v.cluster ≤ w.taken + work w.cluster
+  pub round_spent : ((first_leader w.cluster).active ≡ true → (waits ≡ len (first_leader w.cluster).commanders)
+      × (0 < waits)) → ((first_leader w.cluster).active ≡ false → waits ≡ 1) → IsOver w v
+      → v.taken + work v.cluster ≤ w.taken + work w.cluster
   round_spent awake asleep (beaten h) = let less = left_beaten (first_leader w.cluster).active refl (λ e. (awake e).0) asleep h in omega arith
   round_spent awake asleep (adopted sleeps active no_more) = let less = left_adopted sleeps (asleep sleeps) active no_more in omega arith
   round_spent awake asleep (at_rest h no_more) = left_at_rest (first_leader w.cluster).active refl awake asleep h no_more
 
 -- the world after node 1 woke
-pub wake_is : {O Op Reply : Type 0} (rules : Rules O Op Reply) (w : World Op Reply) (n : ℕ) (v : World Op Reply) → Step rules w (events.Wake n) v → v ≡ counted (with_cluster w (leader_turn w.cluster n (woken (node w.cluster n).leader)))
+pub wake_is : {O Op Reply : Type 0} (rules : Rules O Op Reply) (w : World Op Reply) (n : ℕ) (v : World Op Reply)
+    → Step rules w (events.Wake n) v
+    → v ≡ counted (with_cluster w (leader_turn w.cluster n (woken (node w.cluster n).leader)))
 wake_is rules w n _ (wake m member) = refl
 
 -- a leader that sends a scout out
@@ -101,7 +143,8 @@ abbrev sends_out : {C : Type 0} → Leading C → Done (Leading C) C
 sends_out l = record { state = record l { scout = Some (new_scout l.members l.ballot) }; says = P1a l.ballot ∷ [] }
 
 module _ {C : Type 0} (l : Leading C) where
-  woken_by : (test : Bool) (P : Leading C → Type 0) → P (record l { scout = Some (new_scout l.members l.ballot) }) → P l → P (cond {A = Done (Leading C) C} test (sends_out l) (silently l)).state
+  woken_by : (test : Bool) (P : Leading C → Type 0) → P (record l { scout = Some (new_scout l.members l.ballot) }) → P l
+      → P (cond {A = Done (Leading C) C} test (sends_out l) (silently l)).state
   woken_by true P a b = a
   woken_by false P a b = b
 
@@ -119,15 +162,20 @@ woken_alone {C} l active alone = at l.active (is_none l.scout) active
     at true n e = alone
     at false n e = absurd (cc)
 
-module _ (laws : BallotLaws) {O Op Reply : Type 0} (rules : Rules O Op Reply) (w v : World Op Reply) (i : IsSound w.cluster) (first : is_member w.cluster.members 1 ≡ true) (step : Step rules w (events.Wake 1) v) where
+module _ (laws : BallotLaws) {O Op Reply : Type 0} (rules : Rules O Op Reply) (w v : World Op Reply)
+    (i : IsSound w.cluster) (first : is_member w.cluster.members 1 ≡ true) (step : Step rules w (events.Wake 1) v) where
   after_wake : (P : World Op Reply → Type 0) → P (counted (with_cluster w (leader_turn w.cluster 1 (woken (first_leader w.cluster))))) → P v
   after_wake P h = subst P (sym (wake_is rules w 1 v step)) h
 
   pub leader_woken : first_leader v.cluster ≡ (woken (first_leader w.cluster)).state
-  leader_woken = after_wake (λ z. first_leader z.cluster ≡ (woken (first_leader w.cluster)).state) (ap (λ x. x.leader) (here laws w.cluster i 1 first (led (node w.cluster 1) (woken (first_leader w.cluster))) (all_to_all w.cluster.members 1 (woken (first_leader w.cluster)).says)))
+  leader_woken = after_wake (λ z. first_leader z.cluster ≡ (woken (first_leader w.cluster)).state)
+      (ap (λ x. x.leader) (here laws w.cluster i 1 first (led (node w.cluster 1) (woken (first_leader w.cluster)))
+      (all_to_all w.cluster.members 1 (woken (first_leader w.cluster)).says)))
 
   pub wake_talks : IsTalk w v
-  wake_talks = after_wake (IsTalk w) (turn_talks laws w i 1 first (led (node w.cluster 1) (woken (first_leader w.cluster))) (all_to_all w.cluster.members 1 (woken (first_leader w.cluster)).says) refl
+  wake_talks = after_wake (IsTalk w)
+      (turn_talks laws w i 1 first (led (node w.cluster 1) (woken (first_leader w.cluster)))
+      (all_to_all w.cluster.members 1 (woken (first_leader w.cluster)).says) refl
       (λ e s there. woken_by (first_leader w.cluster) _ (λ l. contains_key l.proposals s ≡ true) there there))
 
   pub same_ballot : (first_leader v.cluster).ballot ≡ (first_leader w.cluster).ballot
@@ -137,20 +185,27 @@ module _ (laws : BallotLaws) {O Op Reply : Type 0} (rules : Rules O Op Reply) (w
   same_active = ap (λ l. l.active) leader_woken ∙ woken_by (first_leader w.cluster) _ (λ l. l.active ≡ (first_leader w.cluster).active) refl refl
 
   pub same_commanders : (first_leader v.cluster).commanders ≡ (first_leader w.cluster).commanders
-  same_commanders = ap (λ l. l.commanders) leader_woken ∙ woken_by (first_leader w.cluster) _ (λ l. l.commanders ≡ (first_leader w.cluster).commanders) refl refl
+  same_commanders = ap (λ l. l.commanders) leader_woken ∙ woken_by (first_leader w.cluster) _
+      (λ l. l.commanders ≡ (first_leader w.cluster).commanders) refl refl
 
   pub has_scout : HasScout v.cluster
-  has_scout = subst (λ l. l.active ≡ false → (s : Scouting (Command Op)) × (l.scout ≡ Some s)) (sym leader_woken) (woken_scout (first_leader w.cluster) (first_leader w.cluster).active (first_leader w.cluster).scout refl refl)
+  has_scout = subst (λ l. l.active ≡ false → (s : Scouting (Command Op)) × (l.scout ≡ Some s)) (sym leader_woken)
+      (woken_scout (first_leader w.cluster) (first_leader w.cluster).active (first_leader w.cluster).scout refl refl)
 
   pub same_rivals : (b : Numbers) → rivals v.cluster b ≤ rivals w.cluster b
-  same_rivals b = after_wake (λ z. rivals z.cluster b ≤ rivals w.cluster b) (no_more_rivals laws w.cluster (leader_turn w.cluster 1 (woken (first_leader w.cluster))) refl b
-      (λ j. inl (at_each laws w i 1 first (led (node w.cluster 1) (woken (first_leader w.cluster))) (all_to_all w.cluster.members 1 (woken (first_leader w.cluster)).says) (λ n x. x.acceptor.promised ≡ (node w.cluster n).acceptor.promised) refl (λ n apart. refl) j)))
+  same_rivals b = after_wake (λ z. rivals z.cluster b ≤ rivals w.cluster b)
+      (no_more_rivals laws w.cluster (leader_turn w.cluster 1 (woken (first_leader w.cluster))) refl b
+      (λ j. inl (at_each laws w i 1 first (led (node w.cluster 1) (woken (first_leader w.cluster)))
+      (all_to_all w.cluster.members 1 (woken (first_leader w.cluster)).says)
+      (λ n x. x.acceptor.promised ≡ (node w.cluster n).acceptor.promised) refl (λ n apart. refl) j)))
 
   pub wake_counts : v.taken ≡ w.taken + 1
   wake_counts = after_wake (λ z. z.taken ≡ w.taken + 1) refl
 
 -- what a round from a later world of the same leader comes to
-pub over_from : {Op Reply : Type 0} (w u v : World Op Reply) → (first_leader u.cluster).ballot ≡ (first_leader w.cluster).ballot → (first_leader u.cluster).active ≡ (first_leader w.cluster).active
+pub over_from : {Op Reply : Type 0} (w u v : World Op Reply)
+    → (first_leader u.cluster).ballot ≡ (first_leader w.cluster).ballot
+    → (first_leader u.cluster).active ≡ (first_leader w.cluster).active
     → rivals u.cluster (first_leader w.cluster).ballot ≤ rivals w.cluster (first_leader w.cluster).ballot → IsOver u v → IsOver w v
 over_from w u v ballot active no_more (beaten h) = beaten (record {
   asleep = h.asleep;
@@ -159,5 +214,10 @@ over_from w u v ballot active no_more (beaten h) = beaten (record {
   above = subst (λ b. is_below b (first_leader v.cluster).ballot ≡ true) ballot h.above;
   fewer = let a = subst (λ b. rivals v.cluster (first_leader v.cluster).ballot < rivals u.cluster b) ballot h.fewer in omega arith;
 })
-over_from w u v ballot active no_more (adopted asleep now fewer) = adopted (sym active ∙ asleep) now (let a = subst (λ b. rivals v.cluster (first_leader v.cluster).ballot ≤ rivals u.cluster b) ballot fewer in omega arith)
-over_from w u v ballot active no_more (at_rest h fewer) = at_rest h (let a = subst (λ b. rivals v.cluster (first_leader v.cluster).ballot ≤ rivals u.cluster b) ballot fewer in omega arith)
+over_from w u v ballot active no_more (adopted asleep now fewer) =
+    adopted (sym active ∙ asleep) now
+    (let a = subst (λ b. rivals v.cluster (first_leader v.cluster).ballot ≤ rivals u.cluster b) ballot fewer in omega
+    arith)
+over_from w u v ballot active no_more (at_rest h fewer) =
+    at_rest h (let a = subst (λ b. rivals v.cluster (first_leader v.cluster).ballot ≤ rivals u.cluster b) ballot fewer
+    in omega arith)

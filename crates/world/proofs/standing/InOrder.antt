@@ -68,7 +68,8 @@ module _ {Op : Type 0} (key : Key) where
   top_kept cs top h = found_kept key [] cs (λ d i. absurd i) (finds_top cs top h)
 
 -- no command that was submitted is of a greater number
-last_top : {Op : Type 0} (key : Key) (submitted : List (Submission Op)) → IsLast key submitted → (d : Command Op) → WasSubmitted d submitted → d.key.session ≡ key.session → d.key.number ≤ key.number
+last_top : {Op : Type 0} (key : Key) (submitted : List (Submission Op)) → IsLast key submitted → (d : Command Op)
+    → WasSubmitted d submitted → d.key.session ≡ key.session → d.key.number ≤ key.number
 last_top {Op} key submitted is d was same =
     let of : was.0.command.key ≡ d.key = ap (λ (c : Command Op). c.key) was.2 in
     let low = is.last was.0 was.1 (ap (λ (k : Key). k.session) of ∙ same) in
@@ -77,7 +78,9 @@ last_top {Op} key submitted is d was same =
 
 module _ (laws : BallotLaws) {O Op Reply : Type 0} (rules : Rules O Op Reply) where
   -- the last key of its session stands in the order, where it is the key of a chosen command
-  pub chosen_in_order : InEvery rules (λ w. (all : List (Command Op)) → IsChosenFrom w.cluster 1 all → (key : Key) → HasKey key all → IsLast key w.happenings.submitted → IsInOrder w.cluster key)
+  pub chosen_in_order : InEvery rules
+      (λ w. (all : List (Command Op)) → IsChosenFrom w.cluster 1 all → (key : Key) → HasKey key all
+      → IsLast key w.happenings.submitted → IsInOrder w.cluster key)
   chosen_in_order w i all chosen key has is = (kept all, (all, chosen, refl), top_kept key all top has)
     where
       top : (d : Command Op) → In d all → d.key.session ≡ key.session → d.key.number ≤ key.number
@@ -94,7 +97,8 @@ module _ (laws : BallotLaws) {O Op Reply : Type 0} (rules : Rules O Op Reply) wh
       (key_submitted c w.happenings.submitted (knows_chosen laws rules w i slot.0 c slot.1))
 
   -- and where it is the key of a command that a replica performed
-  pub in_order : InEvery rules (λ w. (n : ℕ) (c : Command Op) → In c (history (node w.cluster n).replica) → IsLast c.key w.happenings.submitted → IsInOrder w.cluster c.key)
+  pub in_order : InEvery rules (λ w. (n : ℕ) (c : Command Op) → In c (history (node w.cluster n).replica)
+      → IsLast c.key w.happenings.submitted → IsInOrder w.cluster c.key)
   in_order w i n c at is =
       let all = chosen_from laws w.cluster (reachable_sound laws rules w i.reachable) 1 in
       let first = history_beginning laws rules w i.reachable n all.0 all.1 in

@@ -1,5 +1,7 @@
 -- Whether a key is kept is told by the first command of its session whose number isn't lower.
-use Rattle.std.proofs.Common.{◌≡◌, ◌⊎◌, inl, inr, ⊎_elim, ℕ, ◌+◌, ◌<◌, ◌≤◌, ◌==◌, Bool, true, false, true≢false, not, ◌&&◌, ◌||◌, nat_lt, cond, List, [], ◌∷◌, ◌++◌, drop, map, length, Option, None, Some, refl, sym, ap, ◌∙◌, subst, arith}
+use Rattle.std.proofs.Common.{◌≡◌, ◌⊎◌, inl, inr, ⊎_elim, ℕ, ◌+◌, ◌<◌, ◌≤◌, ◌==◌, Bool, true, false, true≢false, not}
+use Rattle.std.proofs.Common.{◌&&◌, ◌||◌, nat_lt, cond, List, [], ◌∷◌, ◌++◌, drop, map, length, Option, None, Some}
+use Rattle.std.proofs.Common.{refl, sym, ap, ◌∙◌, subst, arith}
 use Rattle.std.specs.Prelude.{◌↔◌, nat_le, slice_index_or}
 use Rattle.std.proofs.lemmas.Bool.{and_parts, and_from, cases_Bool}
 use Rattle.std.proofs.lemmas.Bool.Decides.{nat_tests}
@@ -50,7 +52,8 @@ module _ {Op : Type 0} (key : Key) where
   new_here c same [] low = refl
   new_here c same (d ∷ seen) low =
       and_from (is_before c d) (is_new c seen)
-      (subst (λ (k : Key). (not (d.key.session == k.session) || nat_lt d.key.number k.number) ≡ true) (sym same) (lower_before d.key.session d.key.number key.session key.number (low d (inl refl))))
+      (subst (λ (k : Key). (not (d.key.session == k.session) || nat_lt d.key.number k.number) ≡ true) (sym same)
+      (lower_before d.key.session d.key.number key.session key.number (low d (inl refl))))
       (new_here c same seen (λ x i. low x (inr i)))
 
   lower_too : (c : Command Op) (seen : List (Command Op)) → is_as_late c.key key ≡ false → AllLower key seen → AllLower key (c ∷ seen)
@@ -113,12 +116,16 @@ pub finds_first : (key : Key) (ks : List Key) → finds key ks ≡ told key (fir
 finds_first key [] = refl
 finds_first key (own ∷ rest) = step (is_as_late own key) (finds_first key rest)
   where
-    step : (late : Bool) → finds key rest ≡ told key (first_as_late key rest) → cond late (same_key own key) (finds key rest) ≡ told key (cond late (Some own) (first_as_late key rest))
+    step : (late : Bool) → finds key rest ≡ told key (first_as_late key rest)
+        → cond late (same_key own key) (finds key rest) ≡ told key (cond late (Some own) (first_as_late key rest))
     step true h = refl
     step false h = h
 
 -- the first of two lists of keys, one behind the other: one of the first list, or else of the second
-before_step : (late : Bool) (key k own : Key) (ks ls : List Key) → (first_as_late key ks ≡ Some own → first_as_late key (ks ++ ls) ≡ Some own) → cond late (Some k) (first_as_late key ks) ≡ Some own → cond late (Some k) (first_as_late key (ks ++ ls)) ≡ Some own
+before_step : (late : Bool) (key k own : Key) (ks ls : List Key)
+    → (first_as_late key ks ≡ Some own → first_as_late key (ks ++ ls) ≡ Some own)
+    → cond late (Some k) (first_as_late key ks) ≡ Some own
+    → cond late (Some k) (first_as_late key (ks ++ ls)) ≡ Some own
 before_step true key k own ks ls rest h = h
 before_step false key k own ks ls rest h = rest h
 
@@ -126,7 +133,10 @@ pub late_before : (key own : Key) (ks ls : List Key) → first_as_late key ks �
 late_before key own [] ls h = absurd (cc)
 late_before key own (k ∷ ks) ls h = before_step (is_as_late k key) key k own ks ls (late_before key own ks ls) h
 
-behind_step : (late : Bool) (key k : Key) (ks ls : List Key) → (first_as_late key ks ≡ None → first_as_late key (ks ++ ls) ≡ first_as_late key ls) → cond late (Some k) (first_as_late key ks) ≡ None → cond late (Some k) (first_as_late key (ks ++ ls)) ≡ first_as_late key ls
+behind_step : (late : Bool) (key k : Key) (ks ls : List Key)
+    → (first_as_late key ks ≡ None → first_as_late key (ks ++ ls) ≡ first_as_late key ls)
+    → cond late (Some k) (first_as_late key ks) ≡ None
+    → cond late (Some k) (first_as_late key (ks ++ ls)) ≡ first_as_late key ls
 behind_step true key k ks ls rest h = absurd (cc)
 behind_step false key k ks ls rest h = rest h
 
@@ -139,14 +149,20 @@ module _ {X : Type 0} (key_of : X → Key) (key : Key) (xs : List X) (i : ℕ) w
   more d low = ap (map key_of) (drop_more xs i d low)
 
   -- one that isn't as late
-  pub late_next : (d : X) → i < length xs → is_as_late (key_of (slice_index_or xs i d)) key ≡ false → first_as_late key (map key_of xs) ≡ first_as_late key (map key_of (drop i xs)) → first_as_late key (map key_of xs) ≡ first_as_late key (map key_of (drop (i + 1) xs))
+  pub late_next : (d : X) → i < length xs → is_as_late (key_of (slice_index_or xs i d)) key ≡ false
+      → first_as_late key (map key_of xs) ≡ first_as_late key (map key_of (drop i xs))
+      → first_as_late key (map key_of xs) ≡ first_as_late key (map key_of (drop (i + 1) xs))
   late_next d low off sought =
-      sought ∙ ap (first_as_late key) (more d low) ∙ ap (λ b. cond b (Some (key_of (slice_index_or xs i d))) (first_as_late key (map key_of (drop (i + 1) xs)))) off
+      sought ∙ ap (first_as_late key) (more d low) ∙ ap
+      (λ b. cond b (Some (key_of (slice_index_or xs i d))) (first_as_late key (map key_of (drop (i + 1) xs)))) off
 
   -- one that is
-  pub late_here : (d : X) → i < length xs → is_as_late (key_of (slice_index_or xs i d)) key ≡ true → first_as_late key (map key_of xs) ≡ first_as_late key (map key_of (drop i xs)) → first_as_late key (map key_of xs) ≡ Some (key_of (slice_index_or xs i d))
+  pub late_here : (d : X) → i < length xs → is_as_late (key_of (slice_index_or xs i d)) key ≡ true
+      → first_as_late key (map key_of xs) ≡ first_as_late key (map key_of (drop i xs))
+      → first_as_late key (map key_of xs) ≡ Some (key_of (slice_index_or xs i d))
   late_here d low on sought =
-      sought ∙ ap (first_as_late key) (more d low) ∙ ap (λ b. cond b (Some (key_of (slice_index_or xs i d))) (first_as_late key (map key_of (drop (i + 1) xs)))) on
+      sought ∙ ap (first_as_late key) (more d low) ∙ ap
+      (λ b. cond b (Some (key_of (slice_index_or xs i d))) (first_as_late key (map key_of (drop (i + 1) xs)))) on
 
   -- none is
   pub late_nowhere : length xs ≤ i → first_as_late key (map key_of xs) ≡ first_as_late key (map key_of (drop i xs)) → first_as_late key (map key_of xs) ≡ None
@@ -157,12 +173,17 @@ own_keys : (ks : List Key) → map (λ (k : Key). k) ks ≡ ks
 own_keys [] = refl
 own_keys (k ∷ ks) = ap (λ xs. k ∷ xs) (own_keys ks)
 
-pub performed_late : (key : Key) (ks own : List Key) → ks ≡ own → (found : Option Key) → found ≡ first_as_late key (map (λ (k : Key). k) ks) → found ≡ first_as_late key own
+pub performed_late : (key : Key) (ks own : List Key) → ks ≡ own → (found : Option Key)
+    → found ≡ first_as_late key (map (λ (k : Key). k) ks) → found ≡ first_as_late key own
 performed_late key ks own same found e = e ∙ ap (first_as_late key) (own_keys ks ∙ same)
 
 -- what the noted keys tell is what the world tells
-pub placed_when : (laws : BallotLaws) {Op Reply : Type 0} (w : World Op Reply) → IsSound w.cluster → (key : Key) (keys : List Key) → HasNoted w keys → (result : Bool) → result ≡ told key (first_as_late key keys) → (result ≡ true) ↔ IsPlaced w key
+pub placed_when : (laws : BallotLaws) {Op Reply : Type 0} (w : World Op Reply) → IsSound w.cluster
+    → (key : Key) (keys : List Key) → HasNoted w keys → (result : Bool) → result ≡ told key (first_as_late key keys)
+    → (result ≡ true) ↔ IsPlaced w key
 placed_when laws w i key keys noted result same = (
   λ e. (noted.0, noted.1, found_kept key [] noted.0 (λ d i. absurd i) (ap (finds key) (sym noted.2) ∙ finds_first key keys ∙ sym same ∙ e)),
-  λ h. same ∙ sym (finds_first key keys) ∙ ap (finds key) (noted.2 ∙ ap keys_of (same_run laws w.cluster i 1 noted.0 h.0 noted.1.chosen h.1.chosen (noted.1.count ∙ sym h.1.count))) ∙ kept_found key [] h.0 h.2,
+  λ h. same ∙ sym (finds_first key keys) ∙ ap (finds key)
+      (noted.2 ∙ ap keys_of (same_run laws w.cluster i 1 noted.0 h.0 noted.1.chosen h.1.chosen
+      (noted.1.count ∙ sym h.1.count))) ∙ kept_found key [] h.0 h.2,
 )

@@ -22,7 +22,8 @@ module _ {Op : Type 0} (k : Cluster (Command Op)) (first : ℕ) (key : Key) wher
   IsSought slot = (cs : List (Command Op)) × IsRun k first cs × (first + length cs ≡ slot) × (first_as_late key (map (λ c. c.key) cs) ≡ None)
 
   -- of these and more behind them the first is one of those behind
-  behind : (cs ds : List (Command Op)) → first_as_late key (map (λ c. c.key) cs) ≡ None → first_as_late key (map (λ c. c.key) (cs ++ ds)) ≡ first_as_late key (map (λ c. c.key) ds)
+  behind : (cs ds : List (Command Op)) → first_as_late key (map (λ c. c.key) cs) ≡ None
+      → first_as_late key (map (λ c. c.key) (cs ++ ds)) ≡ first_as_late key (map (λ c. c.key) ds)
   behind cs ds none = ap (first_as_late key) (map-append (λ (c : Command Op). c.key) cs ds) ∙ late_behind key (map (λ c. c.key) cs) (map (λ c. c.key) ds) none
 
   pub nothing_sought : IsSought first
@@ -40,7 +41,8 @@ module _ {Op : Type 0} (k : Cluster (Command Op)) (first : ℕ) (key : Key) wher
   sought_all slot (cs, run, count, none) ended =
       (cs, run_ended k first cs run (λ c chosen. ended c (subst (λ t. IsChosen k t c) count chosen)), sym none)
 
-  pub sought_found : BallotLaws → IsSound k → (slot : ℕ) (c : Command Op) → IsSought slot → IsChosen k slot c → is_as_late c.key key ≡ true → IsFirstAsLate k first key (Some c.key)
+  pub sought_found : BallotLaws → IsSound k → (slot : ℕ) (c : Command Op) → IsSought slot → IsChosen k slot c
+      → is_as_late c.key key ≡ true → IsFirstAsLate k first key (Some c.key)
   sought_found laws sound slot c (cs, run, count, none) chosen late =
       let ahead = chosen_from laws k sound (slot + 1) in
       let from : IsChosenFrom k (first + length cs) (c ∷ ahead.0) = subst (λ t. IsChosenFrom k t (c ∷ ahead.0)) (sym count) (chosen, ahead.1) in (

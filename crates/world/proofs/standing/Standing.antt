@@ -23,20 +23,26 @@ run_on k s [] ds run behind = subst (λ t. IsChosenFrom k t ds) (omega arith) be
 run_on k s (c ∷ cs) ds run behind = (run.0, run_on k (s + 1) cs ds run.1 (subst (λ t. IsChosenFrom k t ds) (omega arith) behind))
 
 pub stands_when : (laws : BallotLaws) {Op Reply : Type 0} (w : World Op Reply) → IsSound w.cluster → (key : Key) (keys : List Key) → HasNoted w keys
-    → (ahead : List (Command Op)) → IsChosenFrom w.cluster (w.reach + 1) ahead → (result : Bool) → result ≡ told key (first_as_late key (keys ++ map (λ c. c.key) ahead)) → (result ≡ true) ↔ IsInOrder w.cluster key
+    → (ahead : List (Command Op)) → IsChosenFrom w.cluster (w.reach + 1) ahead → (result : Bool)
+    → result ≡ told key (first_as_late key (keys ++ map (λ c. c.key) ahead))
+    → (result ≡ true) ↔ IsInOrder w.cluster key
 stands_when laws {Op} w sound key keys noted ahead chosen result same = (
   λ e. (kept all, (all, from, refl), found_kept key [] all (λ d i. absurd i) (sym tells ∙ e)),
-  λ h. tells ∙ kept_found key [] all (subst (λ cs. HasKeyIn cs) (one_list laws w.cluster sound 1 h.1.0 all h.1.1 from) (subst (λ order. HasKey key order) h.1.2 h.2)),
+  λ h. tells ∙ kept_found key [] all
+      (subst (λ cs. HasKeyIn cs) (one_list laws w.cluster sound 1 h.1.0 all h.1.1 from)
+      (subst (λ order. HasKey key order) h.1.2 h.2)),
 )
   where
     all : List (Command Op)
     all = noted.0 ++ ahead
 
     from : IsChosenFrom w.cluster 1 all
-    from = run_on w.cluster 1 noted.0 ahead noted.1.chosen (subst (λ s. IsChosenFrom w.cluster s ahead) (ap (λ n. n + 1) (sym noted.1.count) ∙ omega arith) chosen)
+    from = run_on w.cluster 1 noted.0 ahead noted.1.chosen
+        (subst (λ s. IsChosenFrom w.cluster s ahead) (ap (λ n. n + 1) (sym noted.1.count) ∙ omega arith) chosen)
 
     HasKeyIn : List (Command Op) → Type 0
     HasKeyIn cs = HasKey key (kept cs)
 
     tells : result ≡ finds key (map (λ (c : Command Op). c.key) all)
-    tells = same ∙ sym (finds_first key (keys ++ map (λ c. c.key) ahead)) ∙ ap (finds key) (ap (λ ks. ks ++ map (λ c. c.key) ahead) noted.2 ∙ sym (map-append (λ (c : Command Op). c.key) noted.0 ahead))
+    tells = same ∙ sym (finds_first key (keys ++ map (λ c. c.key) ahead)) ∙ ap (finds key)
+        (ap (λ ks. ks ++ map (λ c. c.key) ahead) noted.2 ∙ sym (map-append (λ (c : Command Op). c.key) noted.0 ahead))

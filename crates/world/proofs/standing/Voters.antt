@@ -1,5 +1,6 @@
 -- A slot's chosen command, read off what the acceptors accepted.
-use Rattle.std.proofs.Common.{◌≡◌, ◌≢◌, ◌⊎◌, inl, inr, ⊎_elim, ℕ, zero, suc, ◌+◌, ◌<◌, Bool, true, false, List, [], ◌∷◌, ◌++◌, take, length, refl, sym, ap, ap₂, ◌∙◌, subst, arith}
+use Rattle.std.proofs.Common.{◌≡◌, ◌≢◌, ◌⊎◌, inl, inr, ⊎_elim, ℕ, zero, suc, ◌+◌, ◌<◌, Bool, true, false, List, [], ◌∷◌}
+use Rattle.std.proofs.Common.{◌++◌, take, length, refl, sym, ap, ap₂, ◌∙◌, subst, arith}
 use Rattle.std.specs.Prelude.{slice_index_or, Option, Some, None, IfSome, IfNone}
 use Rattle.std.proofs.lemmas.Bool.{cases_eq}
 use Rattle.std.proofs.lemmas.List.{take_more, length-append}
@@ -50,10 +51,13 @@ In-next xs i x y h e at = ⊎_elim
     (In-cases y (take i xs) (x ∷ []) (subst (In y) (take_next xs i x h e) at))
 
 module _ {C : Type 0} (k : Cluster C) where
-  pub has_voted : (xs : List (Pvalue C)) (s i : ℕ) (p : Pvalue C) → i < length xs → p ≡ slice_index_or xs i p → p.slot ≡ s → is_voted k p.ballot p.slot ≡ true → HasVoted k xs s p.value
+  pub has_voted : (xs : List (Pvalue C)) (s i : ℕ) (p : Pvalue C) → i < length xs → p ≡ slice_index_or xs i p
+      → p.slot ≡ s → is_voted k p.ballot p.slot ≡ true → HasVoted k xs s p.value
   has_voted xs s i p h e same voted = (p, In-at xs i p h e, same, refl, voted)
 
-  pub none_next : (xs : List (Pvalue C)) (s i : ℕ) (p : Pvalue C) → i < length xs → p ≡ slice_index_or xs i p → (p.slot ≡ s → is_voted k p.ballot p.slot ≡ false) → HasNoneVoted k (take i xs) s → HasNoneVoted k (take (i + 1) xs) s
+  pub none_next : (xs : List (Pvalue C)) (s i : ℕ) (p : Pvalue C) → i < length xs → p ≡ slice_index_or xs i p
+      → (p.slot ≡ s → is_voted k p.ballot p.slot ≡ false) → HasNoneVoted k (take i xs) s
+      → HasNoneVoted k (take (i + 1) xs) s
   none_next xs s i p h e missed none = λ q at same. ⊎_elim
       (λ (j : In q (take i xs)). none q j same)
       (λ (is : q ≡ p). subst (λ (y : Pvalue C). y.slot ≡ s → is_voted k y.ballot y.slot ≡ false) (sym is) missed same)
@@ -62,24 +66,43 @@ module _ {C : Type 0} (k : Cluster C) where
   node_at : (xs : List (NodeState C)) → xs ≡ k.nodes → (i : ℕ) (x : NodeState C) → i < length xs → x ≡ slice_index_or xs i x → x ≡ node k (suc i)
   node_at xs same i x h e = e ∙ any_default xs i x (new_node k.members (suc i)) h ∙ ap (λ ys. slice_index_or ys i (new_node k.members (suc i))) same
 
-  pub node_voted : (xs : List (NodeState C)) → xs ≡ k.nodes → (i : ℕ) (x : NodeState C) → i < length xs → x ≡ slice_index_or xs i x → (ps : List (Pvalue C)) → ps ≡ x.acceptor.accepted → (s : ℕ) (c : C) → HasVoted k ps s c → (m : ℕ) × HasVoted k (node k m).acceptor.accepted s c
-  node_voted xs same i x h e ps is s c v = (suc i, subst (λ qs. HasVoted k qs s c) (is ∙ ap (λ (y : NodeState C). y.acceptor.accepted) (node_at xs same i x h e)) v)
+  pub node_voted : (xs : List (NodeState C)) → xs ≡ k.nodes → (i : ℕ) (x : NodeState C) → i < length xs
+      → x ≡ slice_index_or xs i x → (ps : List (Pvalue C)) → ps ≡ x.acceptor.accepted → (s : ℕ) (c : C)
+      → HasVoted k ps s c → (m : ℕ) × HasVoted k (node k m).acceptor.accepted s c
+  node_voted xs same i x h e ps is s c v = (
+    suc i,
+    subst (λ qs. HasVoted k qs s c)
+        (is ∙ ap (λ (y : NodeState C). y.acceptor.accepted) (node_at xs same i x h e)) v,
+  )
 
-  pub none_node : (xs : List (NodeState C)) → xs ≡ k.nodes → (i : ℕ) (x : NodeState C) → i < length xs → x ≡ slice_index_or xs i x → (ps : List (Pvalue C)) → ps ≡ x.acceptor.accepted → (s : ℕ) → HasNoneVoted k ps s → ((j : ℕ) → j < i → HasNoneVoted k (node k (suc j)).acceptor.accepted s) → (j : ℕ) → j < i + 1 → HasNoneVoted k (node k (suc j)).acceptor.accepted s
+  pub none_node : (xs : List (NodeState C)) → xs ≡ k.nodes → (i : ℕ) (x : NodeState C) → i < length xs
+      → x ≡ slice_index_or xs i x → (ps : List (Pvalue C)) → ps ≡ x.acceptor.accepted → (s : ℕ) → HasNoneVoted k ps s
+      → ((j : ℕ) → j < i → HasNoneVoted k (node k (suc j)).acceptor.accepted s) → (j : ℕ) → j < i + 1
+      → HasNoneVoted k (node k (suc j)).acceptor.accepted s
   none_node xs same i x h e ps is s none before j low = ⊎_elim
-      (λ (f : j ≡ i). subst (λ t. HasNoneVoted k (node k (suc t)).acceptor.accepted s) (sym f) (subst (λ qs. HasNoneVoted k qs s) (is ∙ ap (λ (y : NodeState C). y.acceptor.accepted) (node_at xs same i x h e)) none))
+      (λ (f : j ≡ i). subst (λ t. HasNoneVoted k (node k (suc t)).acceptor.accepted s) (sym f)
+      (subst (λ qs. HasNoneVoted k qs s)
+      (is ∙ ap (λ (y : NodeState C). y.acceptor.accepted) (node_at xs same i x h e)) none))
       (λ (f : j ≢ i). before j (omega arith))
       (cases_eq j i)
 
-  none_behind : (xs : List (NodeState C)) (d : NodeState C) (i s : ℕ) → d.acceptor.accepted ≡ [] → ((j : ℕ) → j < length xs → HasNoneVoted k (slice_index_or xs j d).acceptor.accepted s) → HasNoneVoted k (slice_index_or xs i d).acceptor.accepted s
+  none_behind : (xs : List (NodeState C)) (d : NodeState C) (i s : ℕ) → d.acceptor.accepted ≡ []
+      → ((j : ℕ) → j < length xs → HasNoneVoted k (slice_index_or xs j d).acceptor.accepted s)
+      → HasNoneVoted k (slice_index_or xs i d).acceptor.accepted s
   none_behind [] d i s none h = subst (λ qs. HasNoneVoted k qs s) (sym none) (λ p at. absurd at)
   none_behind (x ∷ xs) d zero s none h = h 0 (omega arith)
   none_behind (x ∷ xs) d (suc i) s none h = none_behind xs d i s none (λ j low. h (suc j) (omega arith))
 
   -- the node of number 0, which is none, and those behind the last accepted nothing
-  pub none_voted : (xs : List (NodeState C)) → xs ≡ k.nodes → (s : ℕ) → ((j : ℕ) → j < length xs → HasNoneVoted k (node k (suc j)).acceptor.accepted s) → (m : ℕ) → HasNoneVoted k (node k m).acceptor.accepted s
+  pub none_voted : (xs : List (NodeState C)) → xs ≡ k.nodes → (s : ℕ)
+      → ((j : ℕ) → j < length xs → HasNoneVoted k (node k (suc j)).acceptor.accepted s) → (m : ℕ)
+      → HasNoneVoted k (node k m).acceptor.accepted s
   none_voted xs same s h zero = λ p at. absurd at
-  none_voted xs same s h (suc i) = none_behind k.nodes (new_node k.members (suc i)) i s refl (λ j low. subst (λ (y : NodeState C). HasNoneVoted k y.acceptor.accepted s) (any_default k.nodes j (new_node k.members (suc j)) (new_node k.members (suc i)) low) (h j (subst (λ ys. j < length ys) (sym same) low)))
+  none_voted xs same s h (suc i) =
+      none_behind k.nodes (new_node k.members (suc i)) i s refl
+      (λ j low. subst (λ (y : NodeState C). HasNoneVoted k y.acceptor.accepted s)
+      (any_default k.nodes j (new_node k.members (suc j)) (new_node k.members (suc i)) low)
+      (h j (subst (λ ys. j < length ys) (sym same) low)))
 
   pub run_ended : (s : ℕ) (cs : List C) → IsRun k s cs → ((c : C) → IsChosen k (s + length cs) c → ⊥) → IsChosenFrom k s cs
   run_ended s [] h none = λ c chosen. none c (subst (λ t. IsChosen k t c) (omega arith) chosen)
@@ -92,17 +115,21 @@ module _ {C : Type 0} (k : Cluster C) where
     none_chosen : (s : ℕ) → ((m : ℕ) → HasNoneVoted k (node k m).acceptor.accepted s) → (c : C) → IsChosen k s c → ⊥
     none_chosen s none = none_by_rows laws k i s (λ m p at same. subst (λ t. is_voted k p.ballot t ≡ false) same (none m p at same))
 
-    pub some_chosen : {X : Type 0} (seen : X → C) (s : ℕ) (o : Option X) → IfSome o (λ x. (m : ℕ) × HasVoted k (node k m).acceptor.accepted s (seen x)) → IfSome o (λ x. IsChosen k s (seen x))
+    pub some_chosen : {X : Type 0} (seen : X → C) (s : ℕ) (o : Option X)
+        → IfSome o (λ x. (m : ℕ) × HasVoted k (node k m).acceptor.accepted s (seen x))
+        → IfSome o (λ x. IsChosen k s (seen x))
     some_chosen seen s None h = tt
     some_chosen seen s (Some x) h = is_chosen s h.0 (seen x) h.1
 
-    pub no_chosen : {X : Type 0} (s : ℕ) (o : Option X) → IfNone o ((m : ℕ) → HasNoneVoted k (node k m).acceptor.accepted s) → IfNone o ((c : C) → IsChosen k s c → ⊥)
+    pub no_chosen : {X : Type 0} (s : ℕ) (o : Option X)
+        → IfNone o ((m : ℕ) → HasNoneVoted k (node k m).acceptor.accepted s) → IfNone o ((c : C) → IsChosen k s c → ⊥)
     no_chosen s None h = none_chosen s h
     no_chosen s (Some x) h = tt
 
 module _ {Op : Type 0} (cs : List (Command Op)) (i : ℕ) (c : Command Op) (low : i < length cs) (at : c ≡ slice_index_or cs i c) where
   -- a new command is kept
-  pub kept_next : (order now : List (Command Op)) (d : Command Op) → order ≡ kept (take i cs) → is_new c (take i cs) ≡ true → d ≡ c → now ≡ order ++ (d ∷ []) → now ≡ kept (take (i + 1) cs)
+  pub kept_next : (order now : List (Command Op)) (d : Command Op) → order ≡ kept (take i cs)
+      → is_new c (take i cs) ≡ true → d ≡ c → now ≡ order ++ (d ∷ []) → now ≡ kept (take (i + 1) cs)
   kept_next order now d before new copied pushed =
       pushed
       ∙ ap₂ (λ xs x. xs ++ (x ∷ [])) before copied

@@ -1,5 +1,6 @@
 -- What a node does by itself, as an event of its world.
-use Rattle.std.proofs.Common.{◌≡◌, ℕ, zero, suc, ◌-◌, ◌+◌, ◌<◌, ◌≤◌, ◌^◌, Bool, true, false, nat_lt, cond, List, [], ◌∷◌, ◌++◌, length, append-nil, Option, Some, None, refl, sym, ap, ap₂, ◌∙◌, subst, arith}
+use Rattle.std.proofs.Common.{◌≡◌, ℕ, zero, suc, ◌-◌, ◌+◌, ◌<◌, ◌≤◌, ◌^◌, Bool, true, false, nat_lt, cond, List, []}
+use Rattle.std.proofs.Common.{◌∷◌, ◌++◌, length, append-nil, Option, Some, None, refl, sym, ap, ap₂, ◌∙◌, subst, arith}
 use Rattle.std.specs.Prelude.{slice_index_or, slice_set, is_some, Result, Ok, Err, IsOk, OnOk, OnErr}
 use Rattle.std.proofs.lemmas.Bool.{false≢true}
 use Rattle.std.proofs.lemmas.Bool.Decides.{nat_tests}
@@ -55,7 +56,9 @@ nothing_more : {Op Reply : Type 0} (h : Happenings Op Reply) → record { submit
 nothing_more h = λ i. record { submitted = append-nil h.submitted i; answers = append-nil h.answers i }
 
 -- a submission, where its key is new
-submitted_if : {Op Reply : Type 0} (h : Happenings Op Reply) (x : Submission Op) (test : Bool) → cond test h (record h { submitted = h.submitted ++ (x ∷ []) }) ≡ record { submitted = h.submitted ++ option_to_list (cond test None (Some x)); answers = h.answers ++ [] }
+submitted_if : {Op Reply : Type 0} (h : Happenings Op Reply) (x : Submission Op) (test : Bool)
+    → cond test h (record h { submitted = h.submitted ++ (x ∷ []) })
+    ≡ record { submitted = h.submitted ++ option_to_list (cond test None (Some x)); answers = h.answers ++ [] }
 submitted_if h x true = sym (nothing_more h)
 submitted_if h x false = λ i. record { submitted = h.submitted ++ (x ∷ []); answers = sym (append-nil h.answers) i }
 
@@ -86,8 +89,21 @@ module _ {O Op Reply : Type 0} (rules : Rules O Op Reply) (w : World Op Reply) (
     reach = reach_after w.reach (performs (node w.cluster n).replica o);
     taken = w.taken + 1;
   }
-  performed_if None = λ i. record { cluster = sym (turned_not w.cluster n) i; happenings = sym (nothing_more w.happenings) i; reach = w.reach; taken = w.taken + 1 }
-  performed_if (Some c) = λ i. record (counted (after_performing rules w n (node w.cluster n).replica (Some c))) { happenings = record (after_performing rules w n (node w.cluster n).replica (Some c)).happenings { submitted = sym (append-nil w.happenings.submitted) i } }
+  performed_if None = λ i. record {
+    cluster = sym (turned_not w.cluster n) i;
+    happenings =
+        sym (nothing_more w.happenings) i;
+    reach = w.reach;
+    taken = w.taken + 1;
+  }
+  performed_if (Some c) = λ i. record (counted
+      (after_performing rules w n (node w.cluster n).replica (Some c))) {
+        happenings =
+            record (after_performing rules w n (node w.cluster n).replica (Some c)).happenings {
+              submitted =
+                  sym (append-nil w.happenings.submitted) i;
+            };
+      }
 
   -- it is one event
   pub acts_step : HasNode n w.cluster → (d : Deed Op) → AsksForItsOwn d w.happenings.submitted → Step rules w (event_of n d) (acts rules w n d)
@@ -95,24 +111,41 @@ module _ {O Op Reply : Type 0} (rules : Rules O Op Reply) (w : World Op Reply) (
       subst (λ h. Step rules w (event_of n (deeds.Request c)) (record (acts rules w n (deeds.Request c)) { happenings = h }))
       (submitted_if w.happenings (record { command = c; after = length w.happenings.answers }) (is_submitted c.key w.happenings.submitted))
       (submit n c has.seated.member own)
-  acts_step has deeds.Wake own = subst (λ h. Step rules w (event_of n deeds.Wake) (record (acts rules w n deeds.Wake) { happenings = h })) (sym (nothing_more w.happenings)) (wake n has.seated.member)
-  acts_step has deeds.Nudge own = subst (λ h. Step rules w (event_of n deeds.Nudge) (record (acts rules w n deeds.Nudge) { happenings = h })) (sym (nothing_more w.happenings)) (nudge n has.seated.member)
+  acts_step has deeds.Wake own =
+      subst (λ h. Step rules w (event_of n deeds.Wake) (record (acts rules w n deeds.Wake) { happenings = h }))
+      (sym (nothing_more w.happenings)) (wake n has.seated.member)
+  acts_step has deeds.Nudge own =
+      subst (λ h. Step rules w (event_of n deeds.Nudge) (record (acts rules w n deeds.Nudge) { happenings = h }))
+      (sym (nothing_more w.happenings)) (nudge n has.seated.member)
   acts_step has deeds.Propose own =
-      subst (λ r. Step rules w (event_of n deeds.Propose) (record (acts rules w n deeds.Propose) { reach = r })) (sym (same_reach w.reach (next_proposal (node w.cluster n).replica)))
-      (subst (λ h. Step rules w (event_of n deeds.Propose) (record (acts rules w n deeds.Propose) { happenings = h; reach = w.reach })) (sym (nothing_more w.happenings)) (propose n has.seated.member))
-  acts_step has deeds.Perform own = subst (Step rules w (event_of n deeds.Perform)) (performed_if (next_decided (node w.cluster n).replica)) (perform n has.seated.member)
-  acts_step has deeds.Restart own = subst (λ h. Step rules w (event_of n deeds.Restart) (record (acts rules w n deeds.Restart) { happenings = h })) (sym (nothing_more w.happenings)) (restart n has.seated.member)
+      subst (λ r. Step rules w (event_of n deeds.Propose) (record (acts rules w n deeds.Propose) { reach = r }))
+      (sym (same_reach w.reach (next_proposal (node w.cluster n).replica)))
+      (subst (λ h. Step rules w (event_of n deeds.Propose)
+      (record (acts rules w n deeds.Propose) { happenings = h; reach = w.reach })) (sym (nothing_more w.happenings))
+      (propose n has.seated.member))
+  acts_step has deeds.Perform own =
+      subst (Step rules w (event_of n deeds.Perform)) (performed_if (next_decided (node w.cluster n).replica))
+      (perform n has.seated.member)
+  acts_step has deeds.Restart own =
+      subst (λ h. Step rules w (event_of n deeds.Restart) (record (acts rules w n deeds.Restart) { happenings = h }))
+      (sym (nothing_more w.happenings)) (restart n has.seated.member)
 
   -- and the keys that are noted beside the world go on
-  module _ (laws : BallotLaws) (keys : List Key) (i : IsNoted rules w keys) (room : w.taken < most_events) (d : Deed Op) (s : Step rules w (event_of n d) (acts rules w n d)) where
-    quietly_noted : (acts rules w n d).reach ≡ w.reach → key_past w.reach (outcome_of (node w.cluster n) d) ≡ None → IsNoted rules (acts rules w n d) (keys ++ option_to_list (key_past w.reach (outcome_of (node w.cluster n) d)))
+  module _ (laws : BallotLaws) (keys : List Key) (i : IsNoted rules w keys) (room : w.taken < most_events) (d : Deed Op)
+      (s : Step rules w (event_of n d) (acts rules w n d)) where
+    quietly_noted : (acts rules w n d).reach ≡ w.reach → key_past w.reach (outcome_of (node w.cluster n) d) ≡ None
+        → IsNoted rules (acts rules w n d) (keys ++ option_to_list (key_past w.reach (outcome_of (node w.cluster n) d)))
     quietly_noted reach none = record {
       world = next_world laws rules w w refl (event_of n d) (acts rules w n d) i.world room refl s;
       noted = subst (HasNoted (acts rules w n d)) (sym (ap (λ o. keys ++ option_to_list o) none ∙ append-nil keys))
-          (noted_stays w (acts rules w n d) (step_sound laws rules w (event_of n d) (acts rules w n d) (reachable_sound laws rules w i.world.reachable) s).grows keys i.noted reach);
+          (noted_stays w (acts rules w n d)
+          (step_sound laws rules w (event_of n d) (acts rules w n d)
+          (reachable_sound laws rules w i.world.reachable) s).grows keys i.noted reach);
     }
 
-  pub acts_noted : (laws : BallotLaws) (keys : List Key) → IsNoted rules w keys → w.taken < most_events → (d : Deed Op) → Step rules w (event_of n d) (acts rules w n d) → IsNoted rules (acts rules w n d) (keys ++ option_to_list (key_past w.reach (outcome_of (node w.cluster n) d)))
+  pub acts_noted : (laws : BallotLaws) (keys : List Key) → IsNoted rules w keys → w.taken < most_events → (d : Deed Op)
+      → Step rules w (event_of n d) (acts rules w n d)
+      → IsNoted rules (acts rules w n d) (keys ++ option_to_list (key_past w.reach (outcome_of (node w.cluster n) d)))
   acts_noted laws keys i room (deeds.Request c) s = quietly_noted laws keys i room (deeds.Request c) s refl refl
   acts_noted laws keys i room deeds.Wake s = quietly_noted laws keys i room deeds.Wake s refl refl
   acts_noted laws keys i room deeds.Nudge s = quietly_noted laws keys i room deeds.Nudge s refl refl
@@ -123,12 +156,16 @@ module _ {O Op Reply : Type 0} (rules : Rules O Op Reply) (w : World Op Reply) (
       let sound = reachable_sound laws rules w i.world.reachable in
       record {
         world = next_world laws rules w w refl (event_of n deeds.Perform) (acts rules w n deeds.Perform) i.world room refl s;
-        noted = performs_noted w (acts rules w n deeds.Perform) sound (reachable_within_reach laws rules w i.world.reachable) (step_sound laws rules w (event_of n deeds.Perform) (acts rules w n deeds.Perform) sound s).grows keys i.noted n (next_decided (node w.cluster n).replica) refl refl;
+        noted = performs_noted w (acts rules w n deeds.Perform) sound
+            (reachable_within_reach laws rules w i.world.reachable)
+            (step_sound laws rules w (event_of n deeds.Perform) (acts rules w n deeds.Perform) sound s).grows keys
+            i.noted n (next_decided (node w.cluster n).replica) refl refl;
       }
   acts_noted laws keys i room deeds.Restart s = quietly_noted laws keys i room deeds.Restart s refl refl
 
 -- the parts of a world after node n, at place p, did something
-module _ {O Op Reply : Type 0} (rules : Rules O Op Reply) (v : World Op Reply) (n p : ℕ) (place : p ≡ n - 1) (has : HasNode n v.cluster) (x : NodeState (Command Op)) (at : x ≡ slice_index_or v.cluster.nodes p x) where
+module _ {O Op Reply : Type 0} (rules : Rules O Op Reply) (v : World Op Reply) (n p : ℕ) (place : p ≡ n - 1)
+    (has : HasNode n v.cluster) (x : NodeState (Command Op)) (at : x ≡ slice_index_or v.cluster.nodes p x) where
   bounds : (1 ≤ n) × (n ≤ length v.cluster.nodes)
   bounds = let b = member_bounds v.cluster.members n has.seated.member in let size = has.size in (b.0, omega (arith, b.1))
 
@@ -151,14 +188,30 @@ module _ {O Op Reply : Type 0} (rules : Rules O Op Reply) (v : World Op Reply) (
 
   module _ (z : NodeState (Command Op)) (d : Deed Op) (new : z ≡ (own_turn rules x d).state) where
     -- they are those that the world's event makes
-    pub acts_are : (letters : List (Letter (Command Op))) → letters ≡ v.cluster.letters ++ (own_turn rules x d).sent → (given : List (Answer Reply)) → given ≡ v.happenings.answers ++ (own_turn rules x d).answers
-        → (submitted : List (Submission Op)) → submitted ≡ v.happenings.submitted ++ option_to_list (submission_by d v.happenings.submitted (length v.happenings.answers))
+    pub acts_are : (letters : List (Letter (Command Op))) → letters ≡ v.cluster.letters ++ (own_turn rules x d).sent
+        → (given : List (Answer Reply)) → given ≡ v.happenings.answers ++ (own_turn rules x d).answers
+        → (submitted : List (Submission Op))
+        → submitted ≡ v.happenings.submitted ++ option_to_list
+        (submission_by d v.happenings.submitted (length v.happenings.answers))
         → (came : Outcome) → came ≡ outcome_of x d → (reach : ℕ) → reach ≡ reach_after v.reach came
-        → record { cluster = record { members = v.cluster.members; nodes = slice_set v.cluster.nodes p z; letters = letters }; happenings = record { submitted = submitted; answers = given }; reach = reach; taken = v.taken + 1 } ≡ acts rules v n d
+        → record {
+          cluster = record {
+            members = v.cluster.members;
+            nodes = slice_set v.cluster.nodes p z;
+            letters =
+                letters;
+          };
+          happenings = record { submitted = submitted; answers = given };
+          reach = reach;
+          taken =
+              v.taken + 1;
+        } ≡ acts rules v n d
     acts_are letters sent given answered submitted asked came out reach high = λ i. record {
       cluster = record {
         members = v.cluster.members;
-        nodes = (ap₂ (λ j y. slice_set v.cluster.nodes j y) place (new ∙ ap (λ t. t.state) (seated d)) ∙ put_at v.cluster.nodes n (acted rules v.cluster.members n (node v.cluster n) d).state bounds.0) i;
+        nodes = (ap₂ (λ j y. slice_set v.cluster.nodes j y) place
+            (new ∙ ap (λ t. t.state) (seated d)) ∙ put_at v.cluster.nodes n
+            (acted rules v.cluster.members n (node v.cluster n) d).state bounds.0) i;
         letters = (sent ∙ ap (λ t. v.cluster.letters ++ t.sent) (seated d)) i;
       };
       happenings = record { submitted = asked i; answers = (answered ∙ ap (λ t. v.happenings.answers ++ t.answers) (seated d)) i };
@@ -178,7 +231,9 @@ at_member members n deeds.Propose h = h
 at_member members n deeds.Perform h = h
 at_member members n deeds.Restart h = h
 
-pub asks_own : {Op Reply : Type 0} (same : Op → Op → Bool) → ((x y : Op) → same x y ≡ true → x ≡ y) → (w : World Op Reply) (n : ℕ) (d : Deed Op) → IsAllowed same w (event_of n d) → AsksForItsOwn d w.happenings.submitted
+pub asks_own : {Op Reply : Type 0} (same : Op → Op → Bool) → ((x y : Op) → same x y ≡ true → x ≡ y)
+    → (w : World Op Reply) (n : ℕ) (d : Deed Op) → IsAllowed same w (event_of n d)
+    → AsksForItsOwn d w.happenings.submitted
 asks_own same exact w n (deeds.Request c) a = own_event same exact w.happenings.submitted (event_of n (deeds.Request c)) n c refl a.acts
 asks_own same exact w n deeds.Wake a = tt
 asks_own same exact w n deeds.Nudge a = tt
@@ -187,13 +242,30 @@ asks_own same exact w n deeds.Perform a = tt
 asks_own same exact w n deeds.Restart a = tt
 
 -- what a deed submits stands after the submissions before
-pub asked_more : {Op Reply : Type 0} (submitted seen room now : List (Submission Op)) (answers : List (Answer Reply)) (after : ℕ) (d : Deed Op) (added : Option (Submission Op)) → seen ≡ submitted → after ≡ length answers → added ≡ submission_by d seen after → room ≡ submitted → now ≡ room ++ option_to_list added → now ≡ submitted ++ option_to_list (submission_by d submitted (length answers))
+pub asked_more : {Op Reply : Type 0} (submitted seen room now : List (Submission Op)) (answers : List (Answer Reply))
+    (after : ℕ) (d : Deed Op) (added : Option (Submission Op)) → seen ≡ submitted → after ≡ length answers
+    → added ≡ submission_by d seen after → room ≡ submitted → now ≡ room ++ option_to_list added
+    → now ≡ submitted ++ option_to_list (submission_by d submitted (length answers))
 asked_more submitted seen room now answers after d added same count new kept more =
     more ∙ (λ i. kept i ++ option_to_list (new i)) ∙ (λ i. submitted ++ option_to_list (submission_by d (same i) (count i)))
 
 -- parts that are as before
-pub acts_not : {Op Reply : Type 0} (v : World Op Reply) (p : ℕ) (x z : NodeState (Command Op)) → x ≡ slice_index_or v.cluster.nodes p x → z ≡ x → (letters : List (Letter (Command Op))) → letters ≡ v.cluster.letters → (given : List (Answer Reply)) → given ≡ v.happenings.answers → (submitted : List (Submission Op)) → submitted ≡ v.happenings.submitted
-    → record { cluster = record { members = v.cluster.members; nodes = slice_set v.cluster.nodes p z; letters = letters }; happenings = record { submitted = submitted; answers = given }; reach = v.reach; taken = v.taken } ≡ v
+pub acts_not : {Op Reply : Type 0} (v : World Op Reply) (p : ℕ) (x z : NodeState (Command Op))
+    → x ≡ slice_index_or v.cluster.nodes p x → z ≡ x → (letters : List (Letter (Command Op)))
+    → letters ≡ v.cluster.letters → (given : List (Answer Reply)) → given ≡ v.happenings.answers
+    → (submitted : List (Submission Op)) → submitted ≡ v.happenings.submitted
+    → record {
+      cluster = record {
+        members = v.cluster.members;
+        nodes = slice_set v.cluster.nodes p z;
+        letters =
+            letters;
+      };
+      happenings = record { submitted = submitted; answers = given };
+      reach = v.reach;
+      taken = v.taken;
+    }
+    ≡ v
 acts_not v p x z at same letters sent given answered submitted asked =
     let nodes : slice_set v.cluster.nodes p z ≡ v.cluster.nodes = ap (slice_set v.cluster.nodes p) (same ∙ at) ∙ set_own v.cluster.nodes p x in
     λ i. record {
@@ -204,13 +276,19 @@ acts_not v p x z at same letters sent given answered submitted asked =
     }
 
 -- what has nothing to do submits nothing
-pub nothing_submitted : (laws : BallotLaws) {O Op Reply : Type 0} (rules : Rules O Op Reply) (v w : World Op Reply) → v ≡ w → (keys : List Key) → IsNoted rules v keys → (n : ℕ) (d : Deed Op) → ComesToNothing rules (node w.cluster n) d → (seen : List (Submission Op)) → seen ≡ v.happenings.submitted → (after : ℕ) → submission_by d seen after ≡ None
+pub nothing_submitted : (laws : BallotLaws) {O Op Reply : Type 0} (rules : Rules O Op Reply) (v w : World Op Reply)
+    → v ≡ w → (keys : List Key) → IsNoted rules v keys → (n : ℕ) (d : Deed Op)
+    → ComesToNothing rules (node w.cluster n) d → (seen : List (Submission Op)) → seen ≡ v.happenings.submitted
+    → (after : ℕ) → submission_by d seen after ≡ None
 nothing_submitted laws {O} {Op} {Reply} rules v w is keys noted n d i seen same after =
     ap (λ s. submission_by d s after) same
     ∙ no_submission laws rules v noted.world.reachable n d (subst (λ (y : World Op Reply). ComesToNothing rules (node y.cluster n) d) (sym is) i) after
 
 -- A world, from its fields after a deed of node n, which stands at place p.
-module _ (laws : BallotLaws) {O Op Reply : Type 0} (rules : Rules O Op Reply) (v w : World Op Reply) (is : v ≡ w) (keys : List Key) (noted : IsNoted rules v keys) (n p : ℕ) (d : Deed Op) (member : is_member w.cluster.members n ≡ true) (own : AsksForItsOwn d w.happenings.submitted) (room : w.taken < most_events) (place : p ≡ n - 1) where
+module _ (laws : BallotLaws) {O Op Reply : Type 0} (rules : Rules O Op Reply) (v w : World Op Reply) (is : v ≡ w)
+    (keys : List Key) (noted : IsNoted rules v keys) (n p : ℕ) (d : Deed Op)
+    (member : is_member w.cluster.members n ≡ true) (own : AsksForItsOwn d w.happenings.submitted)
+    (room : w.taken < most_events) (place : p ≡ n - 1) where
   there : HasNode n v.cluster
   there = has_node laws rules v w is noted.world n member
 
@@ -231,16 +309,34 @@ module _ (laws : BallotLaws) {O Op Reply : Type 0} (rules : Rules O Op Reply) (v
     performs_none i = no_performance rules x d (nothing_now i)
 
     -- what was looked at before performs a command where one was performed
-    pub performs_now : (y : NodeState (Command Op)) → y ≡ slice_index_or v.cluster.nodes p y → (does : Bool) → does ≡ is_performance (outcome_of y d) → (came : Outcome) → came ≡ outcome_of x d → (past : Option Key) → past ≡ key_past v.reach came → is_some past ≡ true → does ≡ true
+    pub performs_now : (y : NodeState (Command Op)) → y ≡ slice_index_or v.cluster.nodes p y → (does : Bool)
+        → does ≡ is_performance (outcome_of y d) → (came : Outcome) → came ≡ outcome_of x d → (past : Option Key)
+        → past ≡ key_past v.reach came → is_some past ≡ true → does ≡ true
     performs_now y looked does performs came out past key e =
         performs
         ∙ ap (λ z. is_performance (outcome_of z d)) (own_at rules v n p place there y looked ∙ sym (own_at rules v n p place there x at))
         ∙ ap is_performance (sym out)
         ∙ noted_where v.reach came (ap is_some (sym key) ∙ e)
 
-    module _ (z : NodeState (Command Op)) (new : z ≡ (own_turn rules x d).state) (letters : List (Letter (Command Op))) (sent : letters ≡ v.cluster.letters ++ (own_turn rules x d).sent) (given : List (Answer Reply)) (answered : given ≡ v.happenings.answers ++ (own_turn rules x d).answers) (submitted : List (Submission Op)) (asked : submitted ≡ v.happenings.submitted ++ option_to_list (submission_by d v.happenings.submitted (length v.happenings.answers))) (came : Outcome) (out : came ≡ outcome_of x d) (reach : ℕ) (high : reach ≡ reach_after v.reach came) where
+    module _ (z : NodeState (Command Op)) (new : z ≡ (own_turn rules x d).state) (letters : List (Letter (Command Op)))
+        (sent : letters ≡ v.cluster.letters ++ (own_turn rules x d).sent) (given : List (Answer Reply))
+        (answered : given ≡ v.happenings.answers ++ (own_turn rules x d).answers) (submitted : List (Submission Op))
+        (asked : submitted ≡ v.happenings.submitted ++ option_to_list
+        (submission_by d v.happenings.submitted (length v.happenings.answers))) (came : Outcome)
+        (out : came ≡ outcome_of x d) (reach : ℕ) (high : reach ≡ reach_after v.reach came) where
       abbrev now : World Op Reply
-      now = record { cluster = record { members = v.cluster.members; nodes = slice_set v.cluster.nodes p z; letters = letters }; happenings = record { submitted = submitted; answers = given }; reach = reach; taken = v.taken + 1 }
+      now = record {
+        cluster = record {
+          members = v.cluster.members;
+          nodes = slice_set v.cluster.nodes p z;
+          letters =
+              letters;
+        };
+        happenings = record { submitted = submitted; answers = given };
+        reach = reach;
+        taken =
+            v.taken + 1;
+      }
 
       same : now ≡ acts rules v n d
       same = acts_are rules v n p place there x at z d new letters sent given answered submitted asked came out reach high
@@ -251,7 +347,8 @@ module _ (laws : BallotLaws) {O Op Reply : Type 0} (rules : Rules O Op Reply) (v
       pub acts_taken : Step rules w (event_of n d) now
       acts_taken = subst (λ y. Step rules y (event_of n d) now) is (subst (Step rules v (event_of n d)) (sym same) step)
 
-      pub acts_kept : (past : Option Key) → past ≡ key_past v.reach came → (kept after : List Key) → kept ≡ keys → after ≡ kept ++ option_to_list past → IsNoted rules now after
+      pub acts_kept : (past : Option Key) → past ≡ key_past v.reach came → (kept after : List Key) → kept ≡ keys
+          → after ≡ kept ++ option_to_list past → IsNoted rules now after
       acts_kept past key kept after stay more =
           subst (λ y. IsNoted rules y after) (sym same)
           (subst (IsNoted rules (acts rules v n d))

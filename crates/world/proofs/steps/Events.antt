@@ -1,5 +1,7 @@
 -- One event of a world, from what was done to its parts.
-use Rattle.std.proofs.Common.{◌≡◌, inl, inr, ℕ, zero, suc, ◌+◌, ◌<◌, Bool, true, false, true≢false, cond, not, ◌&&◌, ◌||◌, List, [], ◌∷◌, ◌++◌, length, take, Some, None, Option, refl, sym, ap, ◌∙◌, subst, arith}
+use Rattle.std.proofs.Common.{◌≡◌, inl, inr, ℕ, zero, suc, ◌+◌, ◌<◌, Bool, true, false, true≢false, cond, not, ◌&&◌}
+use Rattle.std.proofs.Common.{◌||◌, List, [], ◌∷◌, ◌++◌, length, take, Some, None, Option, refl, sym, ap, ◌∙◌, subst}
+use Rattle.std.proofs.Common.{arith}
 use Rattle.std.specs.Prelude.{slice_get, slice_index_or, nat_le}
 use Rattle.std.proofs.lemmas.Bool.Decides.{nat_tests}
 use Rattle.std.proofs.lemmas.List.{take_more}
@@ -39,7 +41,9 @@ module _ (laws : BallotLaws) {O Op Reply : Type 0} (rules : Rules O Op Reply) wh
       (record { world = record { reachable = opening_reachable laws rules members; few = omega arith }; noted = opening_noted members }))
 
   -- an event that leaves the reach and the noted keys
-  pub next_noted : (v w : World Op Reply) → v ≡ w → (e : Event Op) (u : World Op Reply) (keys : List Key) → IsNoted rules v keys → w.taken < most_events → u.taken ≡ v.taken + 1 → u.reach ≡ v.reach → Step rules v e u → IsNoted rules u keys
+  pub next_noted : (v w : World Op Reply) → v ≡ w → (e : Event Op) (u : World Op Reply) (keys : List Key)
+      → IsNoted rules v keys → w.taken < most_events → u.taken ≡ v.taken + 1 → u.reach ≡ v.reach → Step rules v e u
+      → IsNoted rules u keys
   next_noted v w is e u keys i room count reach s = record {
     world = next_world laws rules v w is e u i.world room count s;
     noted = noted_stays v u (step_sound laws rules v e u (reachable_sound laws rules v i.world.reachable) s).grows keys i.noted reach;
@@ -55,7 +59,9 @@ module _ {O Op Reply : Type 0} (rules : Rules O Op Reply) (v : World Op Reply) w
   some_letter (l ∷ ls) zero h = (l, refl)
   some_letter (l ∷ ls) (suc j) h = some_letter ls j (omega arith)
 
-  pub deliver_row : (j : ℕ) (k : Cluster (Command Op)) → j < length v.cluster.letters → ((l : Letter (Command Op)) → slice_get v.cluster.letters j ≡ Some l → Delivered v.cluster l k) → Step rules v (events.Deliver j) (counted (with_cluster v k))
+  pub deliver_row : (j : ℕ) (k : Cluster (Command Op)) → j < length v.cluster.letters
+      → ((l : Letter (Command Op)) → slice_get v.cluster.letters j ≡ Some l → Delivered v.cluster l k)
+      → Step rules v (events.Deliver j) (counted (with_cluster v k))
   deliver_row j k within delivered =
       let l = some_letter v.cluster.letters j within in
       let d = delivered l.0 l.1 in
@@ -82,13 +88,18 @@ later : (a rest : Bool) → (a || rest) ≡ false → rest ≡ false
 later true rest h = absurd (true≢false h)
 later false rest h = h
 
-pub its_own : {Op : Type 0} (same : Op → Op → Bool) → ((x y : Op) → same x y ≡ true → x ≡ y) → (submitted : List (Submission Op)) (c : Command Op) → has_other_act same submitted c ≡ false → IsItsOwn c submitted
+pub its_own : {Op : Type 0} (same : Op → Op → Bool) → ((x y : Op) → same x y ≡ true → x ≡ y)
+    → (submitted : List (Submission Op)) (c : Command Op) → has_other_act same submitted c ≡ false
+    → IsItsOwn c submitted
 its_own same exact [] c h s at k = absurd at
 its_own same exact (x ∷ xs) c h s (inl e) k =
     let l : same_key x.command.key c.key ≡ true = ap (λ y. same_key y.command.key c.key) (sym e) ∙ k in
-    let act = acts_same same exact x.command.act c.act (both (same_key x.command.key c.key) (same_acts same x.command.act c.act) (has_other_act same xs c) h l) in
+    let act = acts_same same exact x.command.act c.act
+    (both (same_key x.command.key c.key) (same_acts same x.command.act c.act) (has_other_act same xs c) h l) in
     ap (λ y. y.command) e ∙ (λ i. record { key = same_is x.command.key c.key l i; act = act i })
-its_own same exact (x ∷ xs) c h s (inr at) k = its_own same exact xs c (later (same_key x.command.key c.key && not (same_acts same x.command.act c.act)) (has_other_act same xs c) h) s at k
+its_own same exact (x ∷ xs) c h s (inr at) k =
+    its_own same exact xs c (later (same_key x.command.key c.key && not (same_acts same x.command.act c.act))
+    (has_other_act same xs c) h) s at k
 
 -- what is not refused is allowed
 not_not : (b : Bool) → not b ≡ false → b ≡ true
@@ -115,20 +126,28 @@ allowed same w e h =
     }
 
 -- an event that keeps the acts submits a key with its own act
-pub own_event : {Op : Type 0} (same : Op → Op → Bool) → ((x y : Op) → same x y ≡ true → x ≡ y) → (submitted : List (Submission Op)) (e : Event Op) (n : ℕ) (c : Command Op) → e ≡ events.Submit n c → keeps_acts same submitted e ≡ true → IsItsOwn c submitted
-own_event same exact submitted e n c is keeps = its_own same exact submitted c (is_false (has_other_act same submitted c) (ap (keeps_acts same submitted) (sym is) ∙ keeps))
+pub own_event : {Op : Type 0} (same : Op → Op → Bool) → ((x y : Op) → same x y ≡ true → x ≡ y)
+    → (submitted : List (Submission Op)) (e : Event Op) (n : ℕ) (c : Command Op) → e ≡ events.Submit n c
+    → keeps_acts same submitted e ≡ true → IsItsOwn c submitted
+own_event same exact submitted e n c is keeps =
+    its_own same exact submitted c
+    (is_false (has_other_act same submitted c) (ap (keeps_acts same submitted) (sym is) ∙ keeps))
   where
     is_false : (b : Bool) → not b ≡ true → b ≡ false
     is_false true h = absurd (true≢false (sym h))
     is_false false h = refl
 
 -- a run by one event more
-pub run_more : {O Op Reply : Type 0} (rules : Rules O Op Reply) (w v u : World Op Reply) (es : List (Event Op)) (j : ℕ) (e : Event Op) → j < length es → e ≡ slice_index_or es j e → Leads rules w (take j es) v → Step rules v e u → Leads rules w (take (j + 1) es) u
+pub run_more : {O Op Reply : Type 0} (rules : Rules O Op Reply) (w v u : World Op Reply) (es : List (Event Op)) (j : ℕ)
+    (e : Event Op) → j < length es → e ≡ slice_index_or es j e → Leads rules w (take j es) v → Step rules v e u
+    → Leads rules w (take (j + 1) es) u
 run_more rules w v u es j e within at l s =
     subst (λ t. Leads rules w t u) (sym (take_more es j e within ∙ ap (λ x. take j es ++ (x ∷ [])) (sym at))) (Runs.after e u l s)
 
 -- an event of a run that is refused
-pub refused_at : {Op Reply : Type 0} (same : Op → Op → Bool) (old new : World Op Reply) (es : List (Event Op)) (j : ℕ) (e : Event Op) (reason : WorldError) → j < length es → e ≡ slice_index_or es j e → new ≡ old → reason ≡ reason_for same old e → IsRefused same new es j reason
+pub refused_at : {Op Reply : Type 0} (same : Op → Op → Bool) (old new : World Op Reply) (es : List (Event Op)) (j : ℕ)
+    (e : Event Op) (reason : WorldError) → j < length es → e ≡ slice_index_or es j e → new ≡ old
+    → reason ≡ reason_for same old e → IsRefused same new es j reason
 refused_at same old new es j e reason within at kept cause = record {
   event = e;
   at = slice_get-get_or es j e within ∙ ap (λ x. Some x) (sym at);

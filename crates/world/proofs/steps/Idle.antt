@@ -47,7 +47,8 @@ accepts_none x (Decision s c) i = refl
 accepts_none x (Ask s) i = absurd i
 
 -- an event that brings nothing is a deed at a node that has nothing to do
-pub nothing_to_do : {O Op Reply : Type 0} (rules : Rules O Op Reply) (k : Cluster (Command Op)) (n : ℕ) (d : Deed Op) → BringsNothing rules k (event_of n d) → ComesToNothing rules (node k n) d
+pub nothing_to_do : {O Op Reply : Type 0} (rules : Rules O Op Reply) (k : Cluster (Command Op)) (n : ℕ) (d : Deed Op)
+    → BringsNothing rules k (event_of n d) → ComesToNothing rules (node k n) d
 nothing_to_do rules k n (deeds.Request c) i = i
 nothing_to_do rules k n deeds.Wake i = i
 nothing_to_do rules k n deeds.Nudge i = i
@@ -56,7 +57,8 @@ nothing_to_do rules k n deeds.Perform i = i
 nothing_to_do rules k n deeds.Restart i = i
 
 -- then no command is performed
-pub no_performance : {O Op Reply : Type 0} (rules : Rules O Op Reply) (x : NodeState (Command Op)) (d : Deed Op) → ComesToNothing rules x d → is_performance (outcome_of x d) ≡ false
+pub no_performance : {O Op Reply : Type 0} (rules : Rules O Op Reply) (x : NodeState (Command Op)) (d : Deed Op)
+    → ComesToNothing rules x d → is_performance (outcome_of x d) ≡ false
 no_performance rules x (deeds.Request c) i = refl
 no_performance rules x deeds.Wake i = refl
 no_performance rules x deeds.Nudge i = refl
@@ -75,7 +77,9 @@ module _ {Op : Type 0} (submitted : List (Submission Op)) where
   Was c = WasSubmitted c submitted
 
   values_were : (m : Slots (Command Op)) → AllAt Was m → Each Was (values m)
-  values_were m all = Each-map Was (λ e. e.1) (entries m) (Each-weaker (λ e. get m e.0 ≡ Some e.1) (λ e. Was e.1) (λ e there. all e.0 e.1 there) (entries m) (entries_get m))
+  values_were m all = Each-map Was (λ e. e.1) (entries m)
+      (Each-weaker (λ e. get m e.0 ≡ Some e.1) (λ e. Was e.1) (λ e there. all e.0 e.1 there) (entries m)
+      (entries_get m))
 
   module _ {O Reply : Type 0} (rules : Rules O Op Reply) (c : Command Op) where
     one_of : (ds : List (Command Op)) → Each Was ds → list_any (λ d. is_one rules d c) ds ≡ true → is_submitted c.key submitted ≡ true
@@ -84,13 +88,16 @@ module _ {Op : Type 0} (submitted : List (Submission Op)) where
         subst (λ key. is_submitted key submitted ≡ true) (one_key rules r.0 c r.2) (key_submitted r.0 submitted (Each-at Was ds r.0 all r.1))
 
     -- the key of a command that a replica knows was submitted
-    known_submitted : (book : SlotBook (Command Op)) → Each Was book.requests → AllAt Was book.proposals → AllAt Was book.decisions → is_known (is_one rules) book c ≡ true → is_submitted c.key submitted ≡ true
+    known_submitted : (book : SlotBook (Command Op)) → Each Was book.requests → AllAt Was book.proposals
+        → AllAt Was book.decisions → is_known (is_one rules) book c ≡ true → is_submitted c.key submitted ≡ true
     known_submitted book requests proposals decisions e =
         ⊎_elim (λ q. one_of book.requests requests q)
         (λ q. ⊎_elim (λ z. one_of (values book.proposals) (values_were book.proposals proposals) z)
         (λ z. one_of (values book.decisions) (values_were book.decisions decisions) z)
         (or_cases (list_any (λ d. is_one rules d c) (values book.proposals)) (list_any (λ d. is_one rules d c) (values book.decisions)) q))
-        (or_cases (list_any (λ d. is_one rules d c) book.requests) (list_any (λ d. is_one rules d c) (values book.proposals) || list_any (λ d. is_one rules d c) (values book.decisions)) e)
+        (or_cases (list_any (λ d. is_one rules d c) book.requests)
+        (list_any (λ d. is_one rules d c) (values book.proposals) || list_any (λ d. is_one rules d c)
+        (values book.decisions)) e)
 
 module _ (laws : BallotLaws) {O Op Reply : Type 0} (rules : Rules O Op Reply) (w : World Op Reply) (r : IsReachable rules w) (n : ℕ) where
   -- and a node that has nothing to do brings no submission

@@ -1,5 +1,6 @@
 -- The keys of what was performed, from event to event.
-use Rattle.std.proofs.Common.{◌≡◌, ⊎_elim, ℕ, ◌+◌, true, false, nat_lt, cond, List, [], ◌∷◌, ◌++◌, Option, Some, None, refl, sym, ap, ◌∙◌, subst, append-nil, arith}
+use Rattle.std.proofs.Common.{◌≡◌, ⊎_elim, ℕ, ◌+◌, true, false, nat_lt, cond, List, [], ◌∷◌, ◌++◌, Option, Some, None}
+use Rattle.std.proofs.Common.{refl, sym, ap, ◌∙◌, subst, append-nil, arith}
 use Rattle.std.specs.Option.{option_to_list}
 use Rattle.std.proofs.lemmas.Bool.{cases_Bool}
 use Rattle.std.proofs.lemmas.List.{map-append}
@@ -22,7 +23,8 @@ pub opening_noted : {Op Reply : Type 0} (members : List ℕ) → HasNoted {Op = 
 opening_noted members = ([], record { chosen = tt; count = refl }, refl)
 
 -- the same world with the same keys
-pub noted_again : {O Op Reply : Type 0} (rules : Rules O Op Reply) (w z : World Op Reply) (keys again : List Key) → z ≡ w → again ≡ keys → IsNoted rules w keys → IsNoted rules z again
+pub noted_again : {O Op Reply : Type 0} (rules : Rules O Op Reply) (w z : World Op Reply) (keys again : List Key)
+    → z ≡ w → again ≡ keys → IsNoted rules w keys → IsNoted rules z again
 noted_again rules w z keys again same kept noted = subst (IsNoted rules z) (sym kept) (subst (λ v. IsNoted rules v keys) (sym same) noted)
 
 module _ {Op Reply : Type 0} (v u : World Op Reply) (grows : Grows v.cluster u.cluster) (keys : List Key) (noted : HasNoted v keys) where
@@ -39,7 +41,9 @@ module _ {Op Reply : Type 0} (v u : World Op Reply) (grows : Grows v.cluster u.c
   )
 
 -- a replica performs
-pub performs_noted : {Op Reply : Type 0} (v u : World Op Reply) → IsSound v.cluster → AllWithin v.cluster (v.reach + 1) → Grows v.cluster u.cluster → (keys : List Key) → HasNoted v keys → (n : ℕ) (o : Option (Command Op)) → next_decided (node v.cluster n).replica ≡ o
+pub performs_noted : {Op Reply : Type 0} (v u : World Op Reply) → IsSound v.cluster → AllWithin v.cluster (v.reach + 1)
+    → Grows v.cluster u.cluster → (keys : List Key) → HasNoted v keys → (n : ℕ) (o : Option (Command Op))
+    → next_decided (node v.cluster n).replica ≡ o
     → u.reach ≡ reach_after v.reach (performs (node v.cluster n).replica o)
     → HasNoted u (keys ++ option_to_list (key_past v.reach (performs (node v.cluster n).replica o)))
 performs_noted v u i within g keys noted n None e reach = subst (HasNoted u) (sym (append-nil keys)) (noted_stays v u g keys noted reach)

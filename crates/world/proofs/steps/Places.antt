@@ -13,7 +13,9 @@ use Rattle.world.specs.Kept.{Delivered}
 use Rattle.agreement.proofs.chosen.Sets.{member_bounds}
 
 -- a letter that was received where it was to, by the node at place p
-pub delivered : {C : Type 0} (k : Cluster C) (l : Letter C) (y x : NodeState C) (p : ℕ) (letters : List (Letter C)) → p ≡ l.to - 1 → HasNode l.to k → y ≡ slice_index_or k.nodes p y → Received l.«from» y l.body x k.letters letters → Delivered k l (record { members = k.members; nodes = slice_set k.nodes p x; letters = letters })
+pub delivered : {C : Type 0} (k : Cluster C) (l : Letter C) (y x : NodeState C) (p : ℕ) (letters : List (Letter C))
+    → p ≡ l.to - 1 → HasNode l.to k → y ≡ slice_index_or k.nodes p y → Received l.«from» y l.body x k.letters letters
+    → Delivered k l (record { members = k.members; nodes = slice_set k.nodes p x; letters = letters })
 delivered {C} k l y x p letters here has at received =
     let b = member_bounds k.members l.to has.seated.member in
     let size = has.size in
@@ -29,12 +31,17 @@ delivered {C} k l y x p letters here has at received =
     )
 
 -- one new node more, and all of them
-pub one_node_more : {C : Type 0} (members : List ℕ) (ns now : List (NodeState C)) (x : NodeState C) (before : ℕ) → ns ≡ map (new_node members) (range_with_len 1 before) → x ≡ new_node members (before + 1) → now ≡ ns ++ (x ∷ []) → now ≡ map (new_node members) (range_with_len 1 (before + 1))
+pub one_node_more : {C : Type 0} (members : List ℕ) (ns now : List (NodeState C)) (x : NodeState C) (before : ℕ)
+    → ns ≡ map (new_node members) (range_with_len 1 before) → x ≡ new_node members (before + 1) → now ≡ ns ++ (x ∷ [])
+    → now ≡ map (new_node members) (range_with_len 1 (before + 1))
 one_node_more members ns now x before all new more =
     let last : 1 + before ≡ before + 1 = omega arith in
     more ∙ ap₂ (λ l y. l ++ (y ∷ [])) all new ∙ sym (map-range_with_len_more (new_node members) 1 before (before + 1) last)
 
-pub all_nodes : {C : Type 0} (members : List ℕ) (nodes : List (NodeState C)) (letters : List (Letter C)) (before count : ℕ) → count ≡ length members → before ≤ count → count ≤ before → nodes ≡ map (new_node members) (range_with_len 1 before) → letters ≡ [] → record { members = members; nodes = nodes; letters = letters } ≡ new_cluster members
+pub all_nodes : {C : Type 0} (members : List ℕ) (nodes : List (NodeState C)) (letters : List (Letter C))
+    (before count : ℕ) → count ≡ length members → before ≤ count → count ≤ before
+    → nodes ≡ map (new_node members) (range_with_len 1 before) → letters ≡ []
+    → record { members = members; nodes = nodes; letters = letters } ≡ new_cluster members
 all_nodes members nodes letters before count all low high made none =
     let same : before ≡ length members = omega arith in
     λ i. record { members = members; nodes = (made ∙ ap (λ n. map (new_node members) (range_with_len 1 n)) same) i; letters = none i }

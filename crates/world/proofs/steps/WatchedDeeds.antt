@@ -76,7 +76,9 @@ module _ {O Op Reply : Type 0} (rules : Rules O Op Reply) (members : List ℕ) (
   same_acceptor deeds.Restart = refl
 
 -- what is watched is shown after it did something
-acted_shows : {O Op Reply : Type 0} (rules : Rules O Op Reply) (nd z : NodeState (Command Op)) (all : List (Pvalue (Command Op))) (d : Deed Op) → z ≡ (own_turn rules nd d).state → ShowsNode nd (with_accepted nd all) → ShowsNode z (with_accepted z all)
+acted_shows : {O Op Reply : Type 0} (rules : Rules O Op Reply) (nd z : NodeState (Command Op))
+    (all : List (Pvalue (Command Op))) (d : Deed Op) → z ≡ (own_turn rules nd d).state
+    → ShowsNode nd (with_accepted nd all) → ShowsNode z (with_accepted z all)
 acted_shows rules nd z all d new shows = still_shows nd z all (ap (λ y. y.acceptor) new ∙ same_acceptor rules (members_of nd) (number_of nd) nd all d) shows
 
 able : {Op C : Type 0} (nd : NodeState C) (all : List (Pvalue C)) (d : Deed Op) → IsAble (with_accepted nd all) d → IsAble nd d
@@ -87,7 +89,9 @@ able nd all deeds.Propose h = tt
 able nd all deeds.Perform h = tt
 able nd all deeds.Restart h = h
 
-nothing : {O Op Reply : Type 0} (rules : Rules O Op Reply) (nd : NodeState (Command Op)) (all : List (Pvalue (Command Op))) (d : Deed Op) → ComesToNothing rules (with_accepted nd all) d → ComesToNothing rules nd d
+nothing : {O Op Reply : Type 0} (rules : Rules O Op Reply) (nd : NodeState (Command Op))
+    (all : List (Pvalue (Command Op))) (d : Deed Op) → ComesToNothing rules (with_accepted nd all) d
+    → ComesToNothing rules nd d
 nothing rules nd all (deeds.Request c) h = h
 nothing rules nd all deeds.Wake h = h
 nothing rules nd all deeds.Nudge h = h
@@ -96,7 +100,8 @@ nothing rules nd all deeds.Perform h = h
 nothing rules nd all deeds.Restart h = h
 
 -- Node nd, which is watched as k, did something and became z.
-module _ {O Op Reply : Type 0} (rules : Rules O Op Reply) (nd z k : NodeState (Command Op)) (all : List (Pvalue (Command Op))) (is : with_accepted nd all ≡ k) (d : Deed Op) where
+module _ {O Op Reply : Type 0} (rules : Rules O Op Reply) (nd z k : NodeState (Command Op))
+    (all : List (Pvalue (Command Op))) (is : with_accepted nd all ≡ k) (d : Deed Op) where
   pub watched_able : IsAble k d → IsAble nd d
   watched_able h = able nd all d (subst (λ x. IsAble x d) (sym is) h)
 
@@ -110,7 +115,9 @@ module _ {O Op Reply : Type 0} (rules : Rules O Op Reply) (nd z k : NodeState (C
   watched_sent before now sent = sent ∙ ap (λ l. before ++ l) (same_sent rules (members_of nd) (number_of nd) nd all d ∙ ap (λ x. (own_turn rules x d).sent) is)
 
   pub watched_answers : (before now : List (Answer Reply)) → now ≡ before ++ (own_turn rules nd d).answers → now ≡ before ++ (own_turn rules k d).answers
-  watched_answers before now given = given ∙ ap (λ l. before ++ l) (same_answers rules (members_of nd) (number_of nd) nd all d ∙ ap (λ x. (own_turn rules x d).answers) is)
+  watched_answers before now given =
+      given ∙ ap (λ l. before ++ l) (same_answers rules (members_of nd) (number_of nd) nd all d ∙ ap
+      (λ x. (own_turn rules x d).answers) is)
 
   pub watched_outcome : (came : Outcome) → came ≡ outcome_of nd d → came ≡ outcome_of k d
   watched_outcome came out = out ∙ same_outcome rules (members_of nd) (number_of nd) nd all d ∙ ap (λ x. outcome_of x d) is
@@ -119,6 +126,7 @@ module _ {O Op Reply : Type 0} (rules : Rules O Op Reply) (nd z k : NodeState (C
   watched_still same = ap (λ y. with_accepted y all) same ∙ is
 
   -- whether it could or not
-  pub watched_shown : {T E : Type 0} (r : Result T E) → OnOk r (z ≡ (own_turn rules nd d).state) → OnErr r (z ≡ nd) → ShowsNode nd (with_accepted nd all) → ShowsNode z (with_accepted z all)
+  pub watched_shown : {T E : Type 0} (r : Result T E) → OnOk r (z ≡ (own_turn rules nd d).state) → OnErr r (z ≡ nd)
+      → ShowsNode nd (with_accepted nd all) → ShowsNode z (with_accepted z all)
   watched_shown (Ok x) new same shows = acted_shows rules nd z all d new shows
   watched_shown (Err e) new same shows = still_shows nd z all (ap (λ y. y.acceptor) same) shows

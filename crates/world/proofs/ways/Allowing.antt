@@ -34,31 +34,41 @@ pub on_three : {T E P Q S R : Type 0} (r : Result T E) → OnOk r P → OnOk r Q
 on_three (Ok x) p q s f = f p q s
 on_three (Err e) p q s f = tt
 
-pub unrefused : {Op Reply : Type 0} (same : Op → Op → Bool) (w : World Op Reply) (e : Event Op) → is_at_member w.cluster.members e ≡ true → is_sent (length w.cluster.letters) e ≡ true → keeps_acts same w.happenings.submitted e ≡ true → w.taken < most_events → refusal same w e ≡ None
+pub unrefused : {Op Reply : Type 0} (same : Op → Op → Bool) (w : World Op Reply) (e : Event Op)
+    → is_at_member w.cluster.members e ≡ true → is_sent (length w.cluster.letters) e ≡ true
+    → keeps_acts same w.happenings.submitted e ≡ true → w.taken < most_events → refusal same w e ≡ None
 unfolding refusal
 unrefused same w e member sent acts room =
-    at reasons.NoSuchNode reasons.NoSuchLetter reasons.BadNumber reasons.Full (is_at_member w.cluster.members e) (is_sent (length w.cluster.letters) e) (keeps_acts same w.happenings.submitted e) (nat_le most_events w.taken) member sent acts (grind (arith, nat_tests))
+    at reasons.NoSuchNode reasons.NoSuchLetter reasons.BadNumber reasons.Full (is_at_member w.cluster.members e)
+    (is_sent (length w.cluster.letters) e) (keeps_acts same w.happenings.submitted e)
+    (nat_le most_events w.taken) member sent acts (grind (arith, nat_tests))
   where
-    at : {X : Type 0} (a b c d : X) (m s k f : Bool) → m ≡ true → s ≡ true → k ≡ true → f ≡ false → cond (not m) (Some a) (cond (not s) (Some b) (cond (not k) (Some c) (cond f (Some d) None))) ≡ None
+    at : {X : Type 0} (a b c d : X) (m s k f : Bool) → m ≡ true → s ≡ true → k ≡ true → f ≡ false
+        → cond (not m) (Some a) (cond (not s) (Some b) (cond (not k) (Some c) (cond f (Some d) None))) ≡ None
     at a b c d true true true false p q r t = refl
     at a b c d true true true true p q r t = absurd (cc)
     at a b c d true true false f p q r t = absurd (cc)
     at a b c d true false k f p q r t = absurd (cc)
     at a b c d false s k f p q r t = absurd (cc)
 
-pub may_deliver : {Op Reply : Type 0} (same : Op → Op → Bool) (w : World Op Reply) (j : ℕ) → j < length w.cluster.letters → w.taken < most_events → refusal same w (events.Deliver j) ≡ None
+pub may_deliver : {Op Reply : Type 0} (same : Op → Op → Bool) (w : World Op Reply) (j : ℕ)
+    → j < length w.cluster.letters → w.taken < most_events → refusal same w (events.Deliver j) ≡ None
 may_deliver same w j there room = unrefused same w (events.Deliver j) refl (grind (arith, nat_tests)) refl room
 
-pub may_wake : {Op Reply : Type 0} (same : Op → Op → Bool) (w : World Op Reply) (n : ℕ) → is_member w.cluster.members n ≡ true → w.taken < most_events → refusal same w (events.Wake n) ≡ None
+pub may_wake : {Op Reply : Type 0} (same : Op → Op → Bool) (w : World Op Reply) (n : ℕ)
+    → is_member w.cluster.members n ≡ true → w.taken < most_events → refusal same w (events.Wake n) ≡ None
 may_wake same w n member room = unrefused same w (events.Wake n) member refl refl room
 
-pub may_nudge : {Op Reply : Type 0} (same : Op → Op → Bool) (w : World Op Reply) (n : ℕ) → is_member w.cluster.members n ≡ true → w.taken < most_events → refusal same w (events.Nudge n) ≡ None
+pub may_nudge : {Op Reply : Type 0} (same : Op → Op → Bool) (w : World Op Reply) (n : ℕ)
+    → is_member w.cluster.members n ≡ true → w.taken < most_events → refusal same w (events.Nudge n) ≡ None
 may_nudge same w n member room = unrefused same w (events.Nudge n) member refl refl room
 
-pub may_propose : {Op Reply : Type 0} (same : Op → Op → Bool) (w : World Op Reply) (n : ℕ) → is_member w.cluster.members n ≡ true → w.taken < most_events → refusal same w (events.Propose n) ≡ None
+pub may_propose : {Op Reply : Type 0} (same : Op → Op → Bool) (w : World Op Reply) (n : ℕ)
+    → is_member w.cluster.members n ≡ true → w.taken < most_events → refusal same w (events.Propose n) ≡ None
 may_propose same w n member room = unrefused same w (events.Propose n) member refl refl room
 
-pub may_perform : {Op Reply : Type 0} (same : Op → Op → Bool) (w : World Op Reply) (n : ℕ) → is_member w.cluster.members n ≡ true → w.taken < most_events → refusal same w (events.Perform n) ≡ None
+pub may_perform : {Op Reply : Type 0} (same : Op → Op → Bool) (w : World Op Reply) (n : ℕ)
+    → is_member w.cluster.members n ≡ true → w.taken < most_events → refusal same w (events.Perform n) ≡ None
 may_perform same w n member room = unrefused same w (events.Perform n) member refl refl room
 
 pub question_sent : {Op Reply : Type 0} (w : World Op Reply) (j : ℕ) → IsQuestion w j → j < length w.cluster.letters
@@ -68,7 +78,8 @@ question_sent w j (vote p m member at) = slice_get_within w.cluster.letters j (l
 -- a question has one answer
 module _ {O Op Reply : Type 0} (rules : Rules O Op Reply) (w u : World Op Reply) (j : ℕ) (step : Step rules w (events.Deliver j) u) where
   one_more : (l a : Letter (Command Op)) → (h : HasReceived w u l) → h.sent ≡ a ∷ [] → length u.cluster.letters ≡ length w.cluster.letters + 1
-  one_more l a h sent = ap (λ z. length z.cluster.letters) h.is ∙ length-append w.cluster.letters h.sent ∙ ap (λ out. length w.cluster.letters + length out) sent
+  one_more l a h sent = ap (λ z. length z.cluster.letters) h.is ∙ length-append w.cluster.letters h.sent ∙ ap
+      (λ out. length w.cluster.letters + length out) sent
 
   pub one_answer : IsQuestion w j → length u.cluster.letters ≡ length w.cluster.letters + 1
   one_answer (promise b m member at) =

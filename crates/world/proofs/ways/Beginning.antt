@@ -1,5 +1,6 @@
 -- How a way that brings a command begins: the command is submitted at node 1, whose leader comes to rest.
-use Rattle.std.proofs.Common.{◌≡◌, inl, inr, ℕ, ◌+◌, ◌*◌, ◌^◌, ◌<◌, ◌≤◌, max, Bool, true, false, cond, List, [], ◌∷◌, ◌++◌, length, filter, refl, sym, ap, ap₂, ◌∙◌, subst, arith}
+use Rattle.std.proofs.Common.{◌≡◌, inl, inr, ℕ, ◌+◌, ◌*◌, ◌^◌, ◌<◌, ◌≤◌, max, Bool, true, false, cond, List, [], ◌∷◌}
+use Rattle.std.proofs.Common.{◌++◌, length, filter, refl, sym, ap, ap₂, ◌∙◌, subst, arith}
 use Rattle.std.specs.Prelude.{◌&&◌, ◌==◌}
 use Rattle.std.specs.FinMap.{len}
 use Rattle.std.proofs.lemmas.Bool.Decides.{nat_tests}
@@ -78,7 +79,8 @@ one_key rules a b e =
 module _ {O Op Reply : Type 0} (rules : Rules O Op Reply) (same : Op → Op → Bool) (law : rules.same ≡ same) where
   pub one_exact : ((x y : Op) → same x y ≡ true → x ≡ y) → (a b : Command Op) → is_one rules a b ≡ true → a ≡ b
   one_exact exact a b e =
-      let both = both_true (a.key.session == b.key.session && a.key.number == b.key.number) (same_acts same a.act b.act) (subst (λ f. same_commands f a b ≡ true) law e) in
+      let both = both_true (a.key.session == b.key.session && a.key.number == b.key.number) (same_acts same a.act b.act)
+      (subst (λ f. same_commands f a b ≡ true) law e) in
       λ i. record { key = one_key rules a b e i; act = acts_exact same exact a.act b.act both.1 i }
 
   pub one_itself : ((x : Op) → same x x ≡ true) → (a : Command Op) → is_one rules a a ≡ true
@@ -107,14 +109,20 @@ work_few k few small =
     at active e =
         let r = rivals_few k (first_leader k).ballot in
         let n = few_proposals (first_leader k).commanders most_slots (λ s c is. (small.nodes 1).leader.commanders s c is) in
-        let a : work k ≡ 2 ^ 41 * (2 * rivals k (first_leader k).ballot + cond active 0 1) + 16 * len (first_leader k).commanders = ap (λ x. 2 ^ 41 * (2 * rivals k (first_leader k).ballot + cond x 0 1) + 16 * len (first_leader k).commanders) e in
+        let a : work k ≡ 2 ^ 41 * (2 * rivals k (first_leader k).ballot + cond active 0 1) + 16 * len
+        (first_leader k).commanders = ap
+        (λ x. 2 ^ 41 * (2 * rivals k (first_leader k).ballot + cond x 0 1) + 16 * len (first_leader k).commanders) e
+        in
         of active a r n
       where
-        of : (active : Bool) → work k ≡ 2 ^ 41 * (2 * rivals k (first_leader k).ballot + cond active 0 1) + 16 * len (first_leader k).commanders → rivals k (first_leader k).ballot ≤ length k.members → len (first_leader k).commanders ≤ most_slots + 1 → work k ≤ 2 ^ 46
+        of : (active : Bool) → work k ≡ 2 ^ 41 * (2 * rivals k (first_leader k).ballot + cond active 0 1) + 16 * len
+            (first_leader k).commanders → rivals k (first_leader k).ballot ≤ length k.members
+            → len (first_leader k).commanders ≤ most_slots + 1 → work k ≤ 2 ^ 46
         of true a r n = omega arith
         of false a r n = omega arith
 
-module _ (laws : BallotLaws) {O Op Reply : Type 0} (rules : Rules O Op Reply) (w u : World Op Reply) (i : IsWorld rules w) (first : is_member w.cluster.members 1 ≡ true) (c : Command Op)
+module _ (laws : BallotLaws) {O Op Reply : Type 0} (rules : Rules O Op Reply) (w u : World Op Reply)
+    (i : IsWorld rules w) (first : is_member w.cluster.members 1 ≡ true) (c : Command Op)
     (was : WasSubmitted c w.happenings.submitted) (step : Step rules w (events.Submit 1 c) u) where
   submit_is : (z : World Op Reply) → Step rules w (events.Submit 1 c) z → z ≡ counted (record w {
     cluster = replica_turn w.cluster 1 (requested (is_one rules) (first_book w.cluster) c) [];
@@ -122,14 +130,30 @@ module _ (laws : BallotLaws) {O Op Reply : Type 0} (rules : Rules O Op Reply) (w
   })
   submit_is _ (submit n d member own) = refl
 
-  same_submitted : (test : Bool) → test ≡ true → (cond test w.happenings (record w.happenings { submitted = w.happenings.submitted ++ (record { command = c; after = length w.happenings.answers } ∷ []) })).submitted ≡ w.happenings.submitted
+  same_submitted : (test : Bool) → test ≡ true
+      → (cond test w.happenings (record w.happenings {
+        submitted =
+            w.happenings.submitted ++ (record { command = c; after = length w.happenings.answers } ∷ []);
+      })).submitted
+      ≡ w.happenings.submitted
   same_submitted true e = refl
   same_submitted false e = absurd (cc)
 
   submit_turned : IsTurned w u (record (node w.cluster 1) { replica = requested (is_one rules) (first_book w.cluster) c }) []
-  submit_turned = subst (λ z. IsTurned w z (record (node w.cluster 1) { replica = requested (is_one rules) (first_book w.cluster) c }) []) (sym (submit_is u step))
-      (let t = turned_first laws w (reachable_sound laws rules w i.reachable) first (record (node w.cluster 1) { replica = requested (is_one rules) (first_book w.cluster) c }) [] refl in
-      record { first = t.first; acceptors = t.acceptors; members = refl; letters = refl; submitted = same_submitted (is_submitted c.key w.happenings.submitted) (key_submitted c w.happenings.submitted was); count = refl })
+  submit_turned = subst (λ z. IsTurned w z
+      (record (node w.cluster 1) { replica = requested (is_one rules) (first_book w.cluster) c }) [])
+      (sym (submit_is u step))
+      (let t = turned_first laws w (reachable_sound laws rules w i.reachable) first
+      (record (node w.cluster 1) { replica = requested (is_one rules) (first_book w.cluster) c }) [] refl in
+      record {
+        first = t.first;
+        acceptors = t.acceptors;
+        members = refl;
+        letters = refl;
+        submitted =
+            same_submitted (is_submitted c.key w.happenings.submitted) (key_submitted c w.happenings.submitted was);
+        count = refl;
+      })
 
   pub submit_small : IsSmall w.cluster → IsSmall u.cluster
   submit_small small = mentions_calm laws rules (λ s d. s ≤ most_slots) w u (events.Submit 1 c) (reachable_sound laws rules w i.reachable) step refl small
@@ -144,8 +168,10 @@ module _ (laws : BallotLaws) {O Op Reply : Type 0} (rules : Rules O Op Reply) (w
   submit_work = work_stays laws w u _ _ submit_turned refl
 
   -- once its leader has come to rest
-  module _ (v : World Op Reply) (exact : (a b : Command Op) → is_one rules a b ≡ true → a ≡ b) (few : w.taken ≤ 2 ^ 32) (members : length w.cluster.members ≤ 7) (talk : IsTalk u v) (at_rest : IsAtRest v.cluster)
-      (spent : v.taken + work v.cluster ≤ u.taken + work u.cluster) (before now : List (Event Op)) (goes : Goes rules is_talk u before v now) (room : w.taken < most_events) where
+  module _ (v : World Op Reply) (exact : (a b : Command Op) → is_one rules a b ≡ true → a ≡ b) (few : w.taken ≤ 2 ^ 32)
+      (members : length w.cluster.members ≤ 7) (talk : IsTalk u v) (at_rest : IsAtRest v.cluster)
+      (spent : v.taken + work v.cluster ≤ u.taken + work u.cluster) (before now : List (Event Op))
+      (goes : Goes rules is_talk u before v now) (room : w.taken < most_events) where
     near : Mentions (λ s d. s ≤ w.reach + 64) v.cluster
     near =
         let sound = reachable_sound laws rules w i.reachable in
@@ -155,7 +181,9 @@ module _ (laws : BallotLaws) {O Op Reply : Type 0} (rules : Rules O Op Reply) (w
     book_now : first_book v.cluster ≡ requested (is_one rules) (first_book w.cluster) c
     book_now = talk.replicas 1 ∙ book_turned laws w u _ _ submit_turned
 
-    same_out : (test : Bool) → (cond test (first_book w.cluster) (record (first_book w.cluster) { requests = (first_book w.cluster).requests ++ (c ∷ []) })).slot_out ≡ (first_book w.cluster).slot_out
+    same_out : (test : Bool) → (cond test (first_book w.cluster)
+        (record (first_book w.cluster) { requests = (first_book w.cluster).requests ++ (c ∷ []) })).slot_out
+        ≡ (first_book w.cluster).slot_out
     same_out true = refl
     same_out false = refl
 
@@ -182,7 +210,8 @@ module _ (laws : BallotLaws) {O Op Reply : Type 0} (rules : Rules O Op Reply) (w
         let m = submit_work in
         record {
           at_rest = at_rest;
-          near = mentions_weaker (λ s d. s ≤ w.reach + 64) (λ s d. s < max (w.reach + 64 + 1) (first_book v.cluster).slot_out) (λ s d h. omega arith) v.cluster near;
+          near = mentions_weaker (λ s d. s ≤ w.reach + 64)
+              (λ s d. s < max (w.reach + 64 + 1) (first_book v.cluster).slot_out) (λ s d h. omega arith) v.cluster near;
           spent = omega arith;
           low = omega arith;
           holds = subst (λ b. Holds b c) (sym book_now) (holds_requested (first_book w.cluster) (is_one rules) exact c);
@@ -197,6 +226,7 @@ once_one (x ∷ xs) once a b (inl p) (inr there) e = absurd (once.0 b there (sym
 once_one (x ∷ xs) once a b (inr at) (inl q) e = absurd (once.0 a at (e ∙ ap (λ s. s.command.key) q))
 once_one (x ∷ xs) once a b (inr at) (inr there) e = once_one xs once.1 a b at there e
 
-pub own_command : {Op : Type 0} (submitted : List (Submission Op)) → SubmittedOnce submitted → (c : Command Op) → WasSubmitted c submitted → IsItsOwn c submitted
+pub own_command : {Op : Type 0} (submitted : List (Submission Op)) → SubmittedOnce submitted → (c : Command Op)
+    → WasSubmitted c submitted → IsItsOwn c submitted
 own_command submitted once c was = λ s within same.
     ap (λ t. t.command) (once_one submitted once s was.0 within was.1 (same_is s.command.key c.key same ∙ ap (λ d. d.key) (sym was.2))) ∙ was.2

@@ -1,5 +1,6 @@
 -- What becomes of the commands that a replica holds.
-use Rattle.std.proofs.Common.{◌≡◌, ◌≢◌, ◌⊎◌, inl, inr, ⊎_elim, ℕ, ◌+◌, Bool, true, false, cond, List, [], ◌∷◌, ◌++◌, drop, length, None, Some, is_some, refl, sym, ap, ◌∙◌, subst, arith}
+use Rattle.std.proofs.Common.{◌≡◌, ◌≢◌, ◌⊎◌, inl, inr, ⊎_elim, ℕ, ◌+◌, Bool, true, false, cond, List, [], ◌∷◌, ◌++◌}
+use Rattle.std.proofs.Common.{drop, length, None, Some, is_some, refl, sym, ap, ◌∙◌, subst, arith}
 use Rattle.std.specs.FinMap.{get, insert, remove, entries, values, get-remove, len, len-insert}
 use Rattle.std.specs.List.{list_any}
 use Rattle.std.specs.Prelude.{◌||◌, map}
@@ -38,13 +39,18 @@ in_values m v within =
     (h.0, Each-at (λ e. get m e.0 ≡ Some e.1) (entries m) (h.0, v) (entries_get m) h.1)
 
 -- what is known is held
-pub held_known : {C : Type 0} (same : C → C → Bool) (exact : (x y : C) → same x y ≡ true → x ≡ y) (book : SlotBook C) (c : C) → is_known same book c ≡ true → Holds book c
+pub held_known : {C : Type 0} (same : C → C → Bool) (exact : (x y : C) → same x y ≡ true → x ≡ y) (book : SlotBook C)
+    (c : C) → is_known same book c ≡ true → Holds book c
 held_known same exact book c e = at (list_any (λ d. same d c) book.requests) (list_any (λ d. same d c) (values book.proposals)) refl refl e
   where
-    at : (a b : Bool) → list_any (λ d. same d c) book.requests ≡ a → list_any (λ d. same d c) (values book.proposals) ≡ b → (a || (b || list_any (λ d. same d c) (values book.decisions))) ≡ true → Holds book c
+    at : (a b : Bool) → list_any (λ d. same d c) book.requests ≡ a
+        → list_any (λ d. same d c) (values book.proposals) ≡ b
+        → (a || (b || list_any (λ d. same d c) (values book.decisions))) ≡ true → Holds book c
     at true b p q e = let h = any_found (λ d. same d c) book.requests p in in_requests (subst (λ x. In x book.requests) (exact h.0 c h.2) h.1)
-    at false true p q e = let h = any_found (λ d. same d c) (values book.proposals) q in let v = in_values book.proposals h.0 h.1 in in_proposals v.0 (v.1 ∙ ap (λ x. Some x) (exact h.0 c h.2))
-    at false false p q e = let h = any_found (λ d. same d c) (values book.decisions) e in let v = in_values book.decisions h.0 h.1 in in_decisions v.0 (v.1 ∙ ap (λ x. Some x) (exact h.0 c h.2))
+    at false true p q e = let h = any_found (λ d. same d c) (values book.proposals) q in let v =
+        in_values book.proposals h.0 h.1 in in_proposals v.0 (v.1 ∙ ap (λ x. Some x) (exact h.0 c h.2))
+    at false false p q e = let h = any_found (λ d. same d c) (values book.decisions) e in let v =
+        in_values book.decisions h.0 h.1 in in_decisions v.0 (v.1 ∙ ap (λ x. Some x) (exact h.0 c h.2))
 
 module _ {C : Type 0} (book : SlotBook C) where
   -- the first request is proposed at a slot that had no proposal
@@ -75,7 +81,9 @@ module _ {C : Type 0} (book : SlotBook C) where
   pub holds_learnt : (s : ℕ) (c : C) → get book.decisions s ≡ None → (d : C) → Holds book d → Holds (learnt book s c) d
   holds_learnt s c none d (in_requests within) = in_requests within
   holds_learnt s c none d (in_proposals t there) = in_proposals t there
-  holds_learnt s c none d (in_decisions t there) = in_decisions t (get_insert_other book.decisions s c t (λ e. none_not none (subst (λ q. get book.decisions q ≡ Some d) e there)) ∙ there)
+  holds_learnt s c none d (in_decisions t there) =
+      in_decisions t (get_insert_other book.decisions s c t
+      (λ e. none_not none (subst (λ q. get book.decisions q ≡ Some d) e there)) ∙ there)
 
   -- the decision at slot_out is performed
   module _ (same : C → C → Bool) (exact : (x y : C) → same x y ≡ true → x ≡ y) (c : C) (known : next_decided book ≡ Some c) where
@@ -85,7 +93,8 @@ module _ {C : Type 0} (book : SlotBook C) where
 
     of_out : (d : C) → get book.proposals book.slot_out ≡ Some d → Holds (advanced same book) d
     of_out d there = ⊎_elim
-        (λ (within : In d (cond (same d c) [] (d ∷ []))). in_requests (In-right d book.requests (lost same (get book.proposals book.slot_out) (next_decided book))
+        (λ (within : In d (cond (same d c) [] (d ∷ []))). in_requests
+        (In-right d book.requests (lost same (get book.proposals book.slot_out) (next_decided book))
         (subst (λ o. In d (lost same o (next_decided book))) (sym there) (subst (λ o. In d (lost same (Some d) o)) (sym known) within))))
         (λ (e : d ≡ c). in_decisions book.slot_out (known ∙ ap (λ x. Some x) (sym e)))
         (lost_or_decided d (same d c) refl there)

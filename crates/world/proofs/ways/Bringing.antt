@@ -1,5 +1,6 @@
 -- One slot more after another, until nothing is left to perform.
-use Rattle.std.proofs.Common.{◌≡◌, ◌≢◌, ◌⊎◌, inl, ⊎_elim, ℕ, zero, suc, ◌+◌, ◌-◌, ◌*◌, ◌<◌, ◌≤◌, max, Bool, true, false, List, [], ◌∷◌, length, Option, None, Some, refl, sym, ap, ◌∙◌, subst, arith}
+use Rattle.std.proofs.Common.{◌≡◌, ◌≢◌, ◌⊎◌, inl, ⊎_elim, ℕ, zero, suc, ◌+◌, ◌-◌, ◌*◌, ◌<◌, ◌≤◌, max, Bool, true, false}
+use Rattle.std.proofs.Common.{List, [], ◌∷◌, length, Option, None, Some, refl, sym, ap, ◌∙◌, subst, arith}
 use Rattle.std.specs.Prelude.{nat_lt, not, ◌||◌, ◌==◌}
 use Rattle.std.specs.List.{range_with_len, flat_map}
 use Rattle.std.specs.Option.{option_to_list}
@@ -28,8 +29,11 @@ use Rattle.agreement.proofs.chosen.LeaderRows.{none_not}
 use Rattle.agreement.proofs.chosen.Reach.{reachable_sound, opened_at}
 use Rattle.agreement.specs.Mentions.{Mentions, MentionsNode, ProposesOnly, MentionsBody}
 use Rattle.agreement.specs.SlotBooks.{IsBookAfter, pending}
-use Rattle.world.specs.Telling.{IsProposedAt, IsMentioned, is_proposed, is_decided, is_led, is_commanded, is_gathered, is_accepted, says_propose, says_decision, says_accept, says_report}
-use Rattle.world.specs.WaysOut.{first_book, IsAtRest, IsSmall, work, most_slots, IsReady, stays as ready_stays, proposes as ready_proposes, HasLearnt, HasDecided, knew, learnt, HasAdvanced, MentionsAsMuch, Holds, in_requests, in_proposals, in_decisions}
+use Rattle.world.specs.Telling.{IsProposedAt, IsMentioned, is_proposed, is_decided, is_led, is_commanded, is_gathered}
+use Rattle.world.specs.Telling.{is_accepted, says_propose, says_decision, says_accept, says_report}
+use Rattle.world.specs.WaysOut.{first_book, IsAtRest, IsSmall, work, most_slots, IsReady, stays as ready_stays}
+use Rattle.world.specs.WaysOut.{proposes as ready_proposes, HasLearnt, HasDecided, knew, learnt, HasAdvanced}
+use Rattle.world.specs.WaysOut.{MentionsAsMuch, Holds, in_requests, in_proposals, in_decisions}
 use Rattle.world.proofs.ways.Booking.{holds_proposed, holds_learnt, holds_advanced, pending_proposed}
 use Rattle.agreement.proofs.books.LeadingRuns.{in_every}
 use Rattle.world.proofs.ways.Learning.{decided_next, ready_out}
@@ -55,7 +59,8 @@ module _ (laws : BallotLaws) {O Op Reply : Type 0} (rules : Rules O Op Reply) wh
       only w i (events.Deliver j) = tt
       only w i (events.Wake n) = tt
       only w i (events.Nudge n) = tt
-      only w i (events.Propose n) = λ s c e. let low = (next_open (node w.cluster n).replica s c e).next in let first = (books laws rules w i n).first in omega arith
+      only w i (events.Propose n) = λ s c e. let low = (next_open (node w.cluster n).replica s c e).next in let first =
+          (books laws rules w i n).first in omega arith
       only w i (events.Perform n) = tt
       only w i (events.Restart n) = tt
 
@@ -77,7 +82,8 @@ module _ (laws : BallotLaws) {O Op Reply : Type 0} (rules : Rules O Op Reply) wh
       at : (s : ℕ) → IsMentioned w.cluster s → 0 < s → IsProposedAt w.cluster s
       at s is some = told laws rules w i s is s some (omega arith)
 
-      of_body : (l : Letter (Command Op)) → In l w.cluster.letters → (body : LetterBody (Command Op)) → l.body ≡ body → MentionsBody (λ s c. 0 < s → IsProposedAt w.cluster s) body
+      of_body : (l : Letter (Command Op)) → In l w.cluster.letters → (body : LetterBody (Command Op)) → l.body ≡ body
+          → MentionsBody (λ s c. 0 < s → IsProposedAt w.cluster s) body
       of_body l within (P1a b) e = tt
       of_body l within (P1b b report) e = λ p there. at p.slot (says_report l b report p within e there refl)
       of_body l within (P2a p) e = at p.slot (says_accept l p within e refl)
@@ -111,11 +117,14 @@ own_passes same s c d h = at (s == s)
     at true = h
     at false = refl
 
-pending_proposed_next : {C : Type 0} (book : SlotBook C) (s : ℕ) (c : C) (more : List C) → next_proposal book ≡ Some (s, c) → book.requests ≡ c ∷ more → get book.proposals s ≡ None → pending (proposed_next book) ≡ pending book
+pending_proposed_next : {C : Type 0} (book : SlotBook C) (s : ℕ) (c : C) (more : List C)
+    → next_proposal book ≡ Some (s, c) → book.requests ≡ c ∷ more → get book.proposals s ≡ None
+    → pending (proposed_next book) ≡ pending book
 pending_proposed_next book s c more is first none = ap (λ o. pending (proposed book o)) is ∙ pending_proposed book s c more first none
 
 module _ (laws : BallotLaws) {O Op Reply : Type 0} (rules : Rules O Op Reply) (w v : World Op Reply) (i : IsWorld rules w)
-    (more : IsProposedAt w.cluster (first_book w.cluster).slot_out ⊎ (0 < length (first_book w.cluster).requests)) (h : HasAdvanced (is_one rules) w.cluster (first_book v.cluster)) where
+    (more : IsProposedAt w.cluster (first_book w.cluster).slot_out ⊎ (0 < length (first_book w.cluster).requests))
+    (h : HasAdvanced (is_one rules) w.cluster (first_book v.cluster)) where
   booked : IsBookAfter w.taken (first_book w.cluster)
   booked = books laws rules w i 1
 
@@ -125,10 +134,14 @@ module _ (laws : BallotLaws) {O Op Reply : Type 0} (rules : Rules O Op Reply) (w
     where
       at : (o : Option (Command Op)) → get (first_book w.cluster).decisions (first_book w.cluster).slot_out ≡ o → o ≡ None
       at None e = refl
-      at (Some d) e = let first = booked.performed.first in absurd (new (told_by_decision laws rules w i 1 (first_book w.cluster).slot_out d e (first_book w.cluster).slot_out first (omega arith)))
+      at (Some d) e = let first = booked.performed.first in absurd
+          (new (told_by_decision laws rules w i 1 (first_book w.cluster).slot_out d e
+          (first_book w.cluster).slot_out first (omega arith)))
 
-  requests_there : (IsProposedAt w.cluster (first_book w.cluster).slot_out → ⊥) → (c : Command Op) × (rest : List (Command Op)) × ((first_book w.cluster).requests ≡ c ∷ rest)
-  requests_there new = ⊎_elim (λ (there : IsProposedAt w.cluster (first_book w.cluster).slot_out). absurd (new there)) (λ (some : 0 < length (first_book w.cluster).requests). first_request (first_book w.cluster).requests some) more
+  requests_there : (IsProposedAt w.cluster (first_book w.cluster).slot_out → ⊥) → (c : Command Op)
+      × (rest : List (Command Op)) × ((first_book w.cluster).requests ≡ c ∷ rest)
+  requests_there new = ⊎_elim (λ (there : IsProposedAt w.cluster (first_book w.cluster).slot_out). absurd (new there))
+      (λ (some : 0 < length (first_book w.cluster).requests). first_request (first_book w.cluster).requests some) more
 
   -- what is proposed then
   module _ (new : IsProposedAt w.cluster (first_book w.cluster).slot_out → ⊥) where
@@ -143,7 +156,9 @@ module _ (laws : BallotLaws) {O Op Reply : Type 0} (rules : Rules O Op Reply) (w
 
   pending_ready : (book : SlotBook (Command Op)) → IsReady w.cluster (first_book w.cluster).slot_out book → pending book ≡ pending (first_book w.cluster)
   pending_ready book (ready_stays there is) = ap pending is
-  pending_ready book (ready_proposes new is) = let r = requests_there new in ap pending is ∙ pending_proposed_next (first_book w.cluster) (first_book w.cluster).slot_out r.0 r.1 (next_own new) r.2 (free_own new)
+  pending_ready book (ready_proposes new is) = let r =
+      requests_there new in ap pending is ∙ pending_proposed_next (first_book w.cluster)
+      (first_book w.cluster).slot_out r.0 r.1 (next_own new) r.2 (free_own new)
 
   pending_decided : (book : SlotBook (Command Op)) → HasDecided w.cluster (first_book w.cluster).slot_out book → pending book ≡ pending (first_book w.cluster)
   pending_decided book (knew c there is) = ap pending is
@@ -164,26 +179,35 @@ module _ (laws : BallotLaws) {O Op Reply : Type 0} (rules : Rules O Op Reply) (w
       omega arith
 
   -- a slot that nobody had proposed anything for goes to the first request
-  module _ (same_itself : (c : Command Op) → is_one rules c c ≡ true) (as_much : MentionsAsMuch w.cluster (first_book w.cluster).slot_out v.cluster) (new : IsProposedAt w.cluster (first_book w.cluster).slot_out → ⊥) where
+  module _ (same_itself : (c : Command Op) → is_one rules c c ≡ true)
+      (as_much : MentionsAsMuch w.cluster (first_book w.cluster).slot_out v.cluster)
+      (new : IsProposedAt w.cluster (first_book w.cluster).slot_out → ⊥) where
     only_own : Mentions (λ t d. is_only (is_one rules) (first_book w.cluster).slot_out (requests_there new).0 t d ≡ true) v.cluster
     only_own =
         let r = requests_there new in
         let first = booked.performed.first in
         as_much (is_only (is_one rules) (first_book w.cluster).slot_out r.0)
-        (λ c rest is never. own_passes (is_one rules) (first_book w.cluster).slot_out r.0 c (subst (λ d. is_one rules r.0 d ≡ true) (same_first r.0 c r.1 rest (sym r.2 ∙ is)) (same_itself r.0)))
+        (λ c rest is never. own_passes (is_one rules) (first_book w.cluster).slot_out r.0 c
+        (subst (λ d. is_one rules r.0 d ≡ true) (same_first r.0 c r.1 rest (sym r.2 ∙ is)) (same_itself r.0)))
         (mentions_weaker (λ t d. (0 < t → IsProposedAt w.cluster t)) (λ t d. is_only (is_one rules) (first_book w.cluster).slot_out r.0 t d ≡ true)
-        (λ t d told_there. other_passes (is_one rules) (first_book w.cluster).slot_out r.0 t d (λ e. new (subst (IsProposedAt w.cluster) e (told_there (omega arith))))) w.cluster (mentions_told laws rules w i))
+        (λ t d told_there. other_passes (is_one rules) (first_book w.cluster).slot_out r.0 t d
+        (λ e. new (subst (IsProposedAt w.cluster) e (told_there (omega arith))))) w.cluster
+        (mentions_told laws rules w i))
       where
         same_first : (c d : Command Op) (cs ds : List (Command Op)) → c ∷ cs ≡ d ∷ ds → c ≡ d
         same_first c d cs ds e = cc
 
-    fewer_learnt : (l : HasLearnt w.cluster (first_book w.cluster).slot_out h.before) → IsReady w.cluster (first_book w.cluster).slot_out l.before → pending (first_book v.cluster) + 1 ≡ pending (first_book w.cluster)
+    fewer_learnt : (l : HasLearnt w.cluster (first_book w.cluster).slot_out h.before)
+        → IsReady w.cluster (first_book w.cluster).slot_out l.before
+        → pending (first_book v.cluster) + 1 ≡ pending (first_book w.cluster)
     fewer_learnt l (ready_stays there is) = absurd (new there)
     fewer_learnt l (ready_proposes never is) =
         let r = requests_there new in
         let s = (first_book w.cluster).slot_out in
         let at : h.before.slot_out ≡ s = out_decided h.before h.decided in
-        let proposal : get h.before.proposals s ≡ Some r.0 = ap (λ b. get b.proposals s) l.learns ∙ ap (λ b. get b.proposals s) is ∙ ap (λ b. get b.proposals s) (next_book new) ∙ get_insert_same (first_book w.cluster).proposals s r.0 in
+        let proposal : get h.before.proposals s ≡ Some r.0 =
+        ap (λ b. get b.proposals s) l.learns ∙ ap (λ b. get b.proposals s) is ∙ ap (λ b. get b.proposals s)
+        (next_book new) ∙ get_insert_same (first_book w.cluster).proposals s r.0 in
         let known : get h.before.decisions s ≡ Some l.command = ap (λ b. get b.decisions s) l.learns ∙ get_insert_same l.before.decisions s l.command in
         let mine : is_one rules r.0 l.command ≡ true = same_passes (is_one rules) s r.0 l.command
         ((only_own.nodes 1).replica.decisions s l.command (ap (λ b. get b.decisions s) h.performed ∙ known)) in
@@ -200,15 +224,21 @@ module _ (laws : BallotLaws) {O Op Reply : Type 0} (rules : Rules O Op Reply) (w
 
   -- no command is lost
   module _ (exact : (c d : Command Op) → is_one rules c d ≡ true → c ≡ d) where
-    holds_ready : (book : SlotBook (Command Op)) → IsReady w.cluster (first_book w.cluster).slot_out book → (d : Command Op) → Holds (first_book w.cluster) d → Holds book d
+    holds_ready : (book : SlotBook (Command Op)) → IsReady w.cluster (first_book w.cluster).slot_out book
+        → (d : Command Op) → Holds (first_book w.cluster) d → Holds book d
     holds_ready book (ready_stays there is) d held = subst (λ b. Holds b d) (sym is) held
     holds_ready book (ready_proposes new is) d held =
         let r = requests_there new in
-        subst (λ b. Holds b d) (sym (is ∙ next_book new)) (holds_proposed (first_book w.cluster) (first_book w.cluster).slot_out r.0 r.1 r.2 (free_own new) d held)
+        subst (λ b. Holds b d) (sym (is ∙ next_book new))
+        (holds_proposed (first_book w.cluster) (first_book w.cluster).slot_out r.0 r.1 r.2 (free_own new) d held)
 
-    holds_decided : (book : SlotBook (Command Op)) → HasDecided w.cluster (first_book w.cluster).slot_out book → (d : Command Op) → Holds (first_book w.cluster) d → Holds book d
+    holds_decided : (book : SlotBook (Command Op)) → HasDecided w.cluster (first_book w.cluster).slot_out book
+        → (d : Command Op) → Holds (first_book w.cluster) d → Holds book d
     holds_decided book (knew c there is) d held = subst (λ b. Holds b d) (sym is) held
-    holds_decided book (learnt l) d held = subst (λ b. Holds b d) (sym l.learns) (holds_learnt l.before (first_book w.cluster).slot_out l.command l.unknown d (holds_ready l.before l.ready d held))
+    holds_decided book (learnt l) d held =
+        subst (λ b. Holds b d) (sym l.learns)
+        (holds_learnt l.before (first_book w.cluster).slot_out l.command l.unknown d
+        (holds_ready l.before l.ready d held))
 
     pub holds_after : (d : Command Op) → Holds (first_book w.cluster) d → Holds (first_book v.cluster) d
     holds_after d held =
@@ -235,13 +265,16 @@ lt_yes a b h = grind (arith, nat_tests)
 yes_lt : (a b : ℕ) → nat_lt a b ≡ true → a < b
 yes_lt a b h = grind (arith, nat_tests)
 
-module _ (laws : BallotLaws) {O Op Reply : Type 0} (rules : Rules O Op Reply) (w v : World Op Reply) (i : IsWorld rules v) (top : ℕ) (c : Command Op) (h : IsBringing w v top c)
+module _ (laws : BallotLaws) {O Op Reply : Type 0} (rules : Rules O Op Reply) (w v : World Op Reply)
+    (i : IsWorld rules v) (top : ℕ) (c : Command Op) (h : IsBringing w v top c)
     (more : IsProposedAt v.cluster (first_book v.cluster).slot_out ⊎ (0 < length (first_book v.cluster).requests)) where
   -- beyond `top` nothing is proposed
   new_beyond : top < (first_book v.cluster).slot_out → IsProposedAt v.cluster (first_book v.cluster).slot_out → ⊥
   new_beyond beyond p =
       let low : (first_book v.cluster).slot_out < max (top + 1) (first_book v.cluster).slot_out =
-      subst (MentionsBody (λ s d. s < max (top + 1) (first_book v.cluster).slot_out)) p.body (Each-at (λ l. MentionsBody (λ s d. s < max (top + 1) (first_book v.cluster).slot_out) l.body) v.cluster.letters p.letter h.near.letters p.sent) in
+      subst (MentionsBody (λ s d. s < max (top + 1) (first_book v.cluster).slot_out)) p.body
+      (Each-at (λ l. MentionsBody (λ s d. s < max (top + 1) (first_book v.cluster).slot_out) l.body)
+      v.cluster.letters p.letter h.near.letters p.sent) in
       absurd (omega arith)
 
   pending_some : 0 < length (first_book v.cluster).requests → 0 < pending (first_book v.cluster)
@@ -264,29 +297,36 @@ module _ (laws : BallotLaws) {O Op Reply : Type 0} (rules : Rules O Op Reply) (w
   advance_room = let a = h.spent in let b = some_left_there in omega arith
 
   pub advance_small : IsSmall v.cluster
-  advance_small = mentions_weaker (λ s d. s < max (top + 1) (first_book v.cluster).slot_out) (λ s d. s ≤ most_slots) (λ s d near. let a = h.low in let b = some_left_there in small_of s near) v.cluster h.near
+  advance_small = mentions_weaker (λ s d. s < max (top + 1) (first_book v.cluster).slot_out) (λ s d. s ≤ most_slots)
+      (λ s d near. let a = h.low in let b = some_left_there in small_of s near) v.cluster h.near
     where
       small_of : (s : ℕ) → s < max (top + 1) (first_book v.cluster).slot_out → s ≤ most_slots
       small_of s near = let a = h.low in omega arith
 
   module _ (u : World Op Reply) (exact : (a b : Command Op) → is_one rules a b ≡ true → a ≡ b) (same_itself : (a : Command Op) → is_one rules a a ≡ true)
-      (at_rest : IsAtRest u.cluster) (advanced_to : HasAdvanced (is_one rules) v.cluster (first_book u.cluster)) (spent : u.taken + work u.cluster ≤ v.taken + work v.cluster + 20)
+      (at_rest : IsAtRest u.cluster) (advanced_to : HasAdvanced (is_one rules) v.cluster (first_book u.cluster))
+      (spent : u.taken + work u.cluster ≤ v.taken + work v.cluster + 20)
       (as_much : MentionsAsMuch v.cluster (first_book v.cluster).slot_out u.cluster) (submitted : u.happenings.submitted ≡ v.happenings.submitted) where
     pub less_left : left top (first_book u.cluster) < left top (first_book v.cluster)
     less_left =
         let on = out_after laws rules v u i more advanced_to in
         ⊎_elim
         (λ (within : (first_book v.cluster).slot_out < top + 1). let a = pending_after laws rules v u i more advanced_to in omega arith)
-        (λ (beyond : top + 1 ≤ (first_book v.cluster).slot_out). let a = fewer_after laws rules v u i more advanced_to same_itself as_much (new_beyond (omega arith)) in omega arith)
+        (λ (beyond : top + 1 ≤ (first_book v.cluster).slot_out). let a =
+        fewer_after laws rules v u i more advanced_to same_itself as_much (new_beyond (omega arith)) in omega arith)
         (cases_lt (first_book v.cluster).slot_out (top + 1))
 
     near_now : Mentions (λ s d. s < max (top + 1) (first_book u.cluster).slot_out) u.cluster
     near_now =
         let on = out_after laws rules v u i more advanced_to in
-        mentions_weaker (λ s d. nat_lt s (max (top + 1) (first_book u.cluster).slot_out) ≡ true) (λ s d. s < max (top + 1) (first_book u.cluster).slot_out) (λ s d near. yes_lt s (max (top + 1) (first_book u.cluster).slot_out) near) u.cluster
+        mentions_weaker (λ s d. nat_lt s (max (top + 1) (first_book u.cluster).slot_out) ≡ true)
+        (λ s d. s < max (top + 1) (first_book u.cluster).slot_out)
+        (λ s d near. yes_lt s (max (top + 1) (first_book u.cluster).slot_out) near) u.cluster
         (as_much (λ s d. nat_lt s (max (top + 1) (first_book u.cluster).slot_out))
         (λ d rest is never. lt_yes (first_book v.cluster).slot_out (max (top + 1) (first_book u.cluster).slot_out) (omega arith))
-        (mentions_weaker (λ s d. s < max (top + 1) (first_book v.cluster).slot_out) (λ s d. nat_lt s (max (top + 1) (first_book u.cluster).slot_out) ≡ true) (λ s d near. lt_yes s (max (top + 1) (first_book u.cluster).slot_out) (omega arith)) v.cluster h.near))
+        (mentions_weaker (λ s d. s < max (top + 1) (first_book v.cluster).slot_out)
+        (λ s d. nat_lt s (max (top + 1) (first_book u.cluster).slot_out) ≡ true)
+        (λ s d near. lt_yes s (max (top + 1) (first_book u.cluster).slot_out) (omega arith)) v.cluster h.near))
 
     pub brings_on : IsBringing w u top c
     brings_on = record {
@@ -299,14 +339,20 @@ module _ (laws : BallotLaws) {O Op Reply : Type 0} (rules : Rules O Op Reply) (w
     }
 
 -- where nothing is left, the command was performed
-in_commands : {C : Type 0} (m : Slots C) (s : ℕ) (c : C) → get m s ≡ Some c → (base n : ℕ) → base ≤ s → s < base + n → In c (flat_map (λ t. option_to_list (get m t)) (range_with_len base n))
+in_commands : {C : Type 0} (m : Slots C) (s : ℕ) (c : C) → get m s ≡ Some c → (base n : ℕ) → base ≤ s → s < base + n
+    → In c (flat_map (λ t. option_to_list (get m t)) (range_with_len base n))
 in_commands m s c there base zero low high = absurd (omega arith)
 in_commands m s c there base (suc n) low high = ⊎_elim
-    (λ (e : s ≡ base). In-left c (option_to_list (get m base)) (flat_map (λ t. option_to_list (get m t)) (range_with_len (base + 1) n)) (subst (λ o. In c (option_to_list o)) (sym (subst (λ t. get m t ≡ Some c) e there)) (inl refl)))
-    (λ (apart : s ≢ base). In-right c (option_to_list (get m base)) (flat_map (λ t. option_to_list (get m t)) (range_with_len (base + 1) n)) (in_commands m s c there (base + 1) n (omega arith) (omega arith)))
+    (λ (e : s ≡ base). In-left c (option_to_list (get m base))
+    (flat_map (λ t. option_to_list (get m t)) (range_with_len (base + 1) n))
+    (subst (λ o. In c (option_to_list o)) (sym (subst (λ t. get m t ≡ Some c) e there)) (inl refl)))
+    (λ (apart : s ≢ base). In-right c (option_to_list (get m base))
+    (flat_map (λ t. option_to_list (get m t)) (range_with_len (base + 1) n))
+    (in_commands m s c there (base + 1) n (omega arith) (omega arith)))
     (cases_eq s base)
 
-pub performed_then : (laws : BallotLaws) {O Op Reply : Type 0} (rules : Rules O Op Reply) (v : World Op Reply) → IsWorld rules v → (c : Command Op) → Holds (first_book v.cluster) c
+pub performed_then : (laws : BallotLaws) {O Op Reply : Type 0} (rules : Rules O Op Reply) (v : World Op Reply)
+    → IsWorld rules v → (c : Command Op) → Holds (first_book v.cluster) c
     → (IsProposedAt v.cluster (first_book v.cluster).slot_out → ⊥) → (first_book v.cluster).requests ≡ [] → In c (history (first_book v.cluster))
 performed_then laws rules v i c held new none = of_held held
   where
@@ -322,5 +368,7 @@ performed_then laws rules v i c held new none = of_held held
 
     of_held : Holds (first_book v.cluster) c → In c (history (first_book v.cluster))
     of_held (in_requests within) = absurd (subst (In c) none within)
-    of_held (in_proposals s there) = absurd (new (told_by_proposal laws rules v i 1 s c there (first_book v.cluster).slot_out first ((books laws rules v i 1).near s c there).low))
+    of_held (in_proposals s there) =
+        absurd (new (told_by_proposal laws rules v i 1 s c there (first_book v.cluster).slot_out first
+        ((books laws rules v i 1).near s c there).low))
     of_held (in_decisions s there) = of_decided s there

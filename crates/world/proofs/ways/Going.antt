@@ -36,12 +36,14 @@ talk_submitted {Op} {Reply} w v talk = ap (λ (h : Happenings Op Reply). h.submi
 module _ {O Op Reply : Type 0} (rules : Rules O Op Reply) where
   pub leads_on : (w v u : World Op Reply) (es fs : List (Event Op)) → Leads rules w es v → Leads rules v fs u → Leads rules w (es ++ fs) u
   leads_on w v _ es _ first at_once = subst (λ l. Leads rules w l v) (sym (append-nil es)) first
-  leads_on w v u es _ first (after {es = fs} {v = x} e _ led step) = subst (λ l. Leads rules w l u) (append_assoc es fs (e ∷ [])) (after e u (leads_on w v x es fs first led) step)
+  leads_on w v u es _ first (after {es = fs} {v = x} e _ led step) =
+      subst (λ l. Leads rules w l u) (append_assoc es fs (e ∷ [])) (after e u (leads_on w v x es fs first led) step)
 
   pub stays_there : (kind : Event Op → Bool) (w : World Op Reply) (before : List (Event Op)) → Goes rules kind w before w before
   stays_there kind w before = record { events = []; led = at_once; noted = sym (append-nil before); each = refl }
 
-  pub goes_on : (kind : Event Op → Bool) (w v u : World Op Reply) (a b c : List (Event Op)) → Goes rules kind w a v b → Goes rules kind v b u c → Goes rules kind w a u c
+  pub goes_on : (kind : Event Op → Bool) (w v u : World Op Reply) (a b c : List (Event Op)) → Goes rules kind w a v b
+      → Goes rules kind v b u c → Goes rules kind w a u c
   goes_on kind w v u a b c x y = record {
     events = x.events ++ y.events;
     led = leads_on w v u x.events y.events x.led y.led;
@@ -49,10 +51,12 @@ module _ {O Op Reply : Type 0} (rules : Rules O Op Reply) where
     each = all_both kind x.events y.events x.each y.each;
   }
 
-  pub one_goes : (kind : Event Op → Bool) (w v : World Op Reply) (e : Event Op) (before now : List (Event Op)) → Step rules w e v → now ≡ before ++ (e ∷ []) → kind e ≡ true → Goes rules kind w before v now
+  pub one_goes : (kind : Event Op → Bool) (w v : World Op Reply) (e : Event Op) (before now : List (Event Op))
+      → Step rules w e v → now ≡ before ++ (e ∷ []) → kind e ≡ true → Goes rules kind w before v now
   one_goes kind w v e before now step noted is = record { events = e ∷ []; led = after e v at_once step; noted = noted; each = ap (λ t. t && true) is }
 
-  pub goes_weaker : (p q : Event Op → Bool) → ((e : Event Op) → p e ≡ true → q e ≡ true) → (w v : World Op Reply) (a b : List (Event Op)) → Goes rules p w a v b → Goes rules q w a v b
+  pub goes_weaker : (p q : Event Op → Bool) → ((e : Event Op) → p e ≡ true → q e ≡ true)
+      → (w v : World Op Reply) (a b : List (Event Op)) → Goes rules p w a v b → Goes rules q w a v b
   goes_weaker p q weaker w v a b g = record { events = g.events; led = g.led; noted = g.noted; each = all_weaker p q weaker g.events g.each }
 
 pub talk_keeps : {Op : Type 0} (e : Event Op) → is_talk e ≡ true → keeps_nodes e ≡ true

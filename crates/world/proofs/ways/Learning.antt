@@ -27,7 +27,9 @@ use Rattle.agreement.specs.declared.event.Event.TheVariants as events
 use Rattle.agreement.proofs.chosen.Invariants.{IsSound}
 use Rattle.agreement.specs.Mentions.{is_calm}
 use Rattle.world.specs.Telling.{IsProposedAt}
-use Rattle.world.specs.WaysOut.{first_leader, first_book, IsAtRest, IsSmall, IsReady, stays as ready_stays, proposes as ready_proposes, HasDecided, knew, learnt, MentionsAsMuch, Decides, Goes, is_talk, work, most_slots}
+use Rattle.world.specs.WaysOut.{first_leader, first_book, IsAtRest, IsSmall, IsReady, stays as ready_stays}
+use Rattle.world.specs.WaysOut.{proposes as ready_proposes, HasDecided, knew, learnt, MentionsAsMuch, Decides, Goes}
+use Rattle.world.specs.WaysOut.{is_talk, work, most_slots}
 use Rattle.world.proofs.leading.LeadingEvery.{has_leader}
 use Rattle.agreement.proofs.books.MentionsEvery.{mentions_weaker, mentions_calm}
 use Rattle.world.proofs.rounds.Rounds.{place_of}
@@ -71,11 +73,15 @@ proposed_decisions : {C : Type 0} (book : SlotBook C) (o : Option (ℕ × C)) �
 proposed_decisions book None = refl
 proposed_decisions book (Some p) = refl
 
-pub ready_unknown : {C : Type 0} (k : Cluster C) (s : ℕ) (book : SlotBook C) → IsReady k s book → get (first_book k).decisions s ≡ None → get book.decisions s ≡ None
+pub ready_unknown : {C : Type 0} (k : Cluster C) (s : ℕ) (book : SlotBook C) → IsReady k s book
+    → get (first_book k).decisions s ≡ None → get book.decisions s ≡ None
 ready_unknown k s book (ready_stays there is) none = ap (λ b. get b.decisions s) is ∙ none
-ready_unknown k s book (ready_proposes new is) none = ap (λ b. get b.decisions s) is ∙ ap (λ m. get m s) (proposed_decisions (first_book k) (next_proposal (first_book k))) ∙ none
+ready_unknown k s book (ready_proposes new is) none =
+    ap (λ b. get b.decisions s) is ∙ ap (λ m. get m s)
+    (proposed_decisions (first_book k) (next_proposal (first_book k))) ∙ none
 
-pub decided_next : {C : Type 0} (k : Cluster C) (s : ℕ) (book : SlotBook C) → HasDecided k s book → s ≡ (first_book k).slot_out → (d : C) × (next_decided book ≡ Some d)
+pub decided_next : {C : Type 0} (k : Cluster C) (s : ℕ) (book : SlotBook C) → HasDecided k s book
+    → s ≡ (first_book k).slot_out → (d : C) × (next_decided book ≡ Some d)
 decided_next k s book (knew c there is) out = (c, ap next_decided is ∙ ap (get (first_book k).decisions) (sym out) ∙ there)
 decided_next k s book (learnt h) out =
     let same : h.before.slot_out ≡ s = ready_out k s h.before h.ready ∙ sym out in
@@ -83,17 +89,24 @@ decided_next k s book (learnt h) out =
 
 module _ (laws : BallotLaws) {O Op Reply : Type 0} (rules : Rules O Op Reply) where
   pub ready_led : (w : World Op Reply) → IsWorld rules w → (s : ℕ) → 0 < s → contains_key (first_leader w.cluster).proposals s ≡ true → IsProposedAt w.cluster s
-  ready_led w i s some there = let c = some_there (get (first_leader w.cluster).proposals s) there in told_by_leader laws rules w i 1 s c.0 c.1 s some (omega arith)
+  ready_led w i s some there = let c =
+      some_there (get (first_leader w.cluster).proposals s) there in told_by_leader laws rules w i 1 s c.0 c.1 s some
+      (omega arith)
 
   -- talk after that
-  pub mentions_on : (w u v : World Op Reply) (s : ℕ) → MentionsAsMuch w.cluster s u.cluster → IsSound u.cluster → (before now : List (Event Op)) → Goes rules is_talk u before v now → MentionsAsMuch w.cluster s v.cluster
-  mentions_on w u v s as_much i before now goes = λ test fits all. talk_mentions laws rules (λ t d. test t d ≡ true) u i v before now goes (as_much test fits all)
+  pub mentions_on : (w u v : World Op Reply) (s : ℕ) → MentionsAsMuch w.cluster s u.cluster → IsSound u.cluster
+      → (before now : List (Event Op)) → Goes rules is_talk u before v now → MentionsAsMuch w.cluster s v.cluster
+  mentions_on w u v s as_much i before now goes =
+      λ test fits all. talk_mentions laws rules (λ t d. test t d ≡ true) u i v before now goes (as_much test fits all)
 
-  pub mentions_then : (w u v : World Op Reply) (s : ℕ) (e : Event Op) → MentionsAsMuch w.cluster s u.cluster → IsSound u.cluster → Step rules u e v → is_calm e ≡ true → MentionsAsMuch w.cluster s v.cluster
+  pub mentions_then : (w u v : World Op Reply) (s : ℕ) (e : Event Op) → MentionsAsMuch w.cluster s u.cluster
+      → IsSound u.cluster → Step rules u e v → is_calm e ≡ true → MentionsAsMuch w.cluster s v.cluster
   mentions_then w u v s e as_much i step calm = λ test fits all. mentions_calm laws rules (λ t d. test t d ≡ true) u v e i step calm (as_much test fits all)
 
   -- a leader at rest has told what became of its proposals
-  pub decision_there : (w : World Op Reply) → IsWorld rules w → is_member w.cluster.members 1 ≡ true → IsAtRest w.cluster → (s : ℕ) → contains_key (first_leader w.cluster).proposals s ≡ true → (j : ℕ) × Decides w.cluster.letters j s
+  pub decision_there : (w : World Op Reply) → IsWorld rules w → is_member w.cluster.members 1 ≡ true
+      → IsAtRest w.cluster → (s : ℕ) → contains_key (first_leader w.cluster).proposals s ≡ true → (j : ℕ)
+      × Decides w.cluster.letters j s
   decision_there w i first at_rest s there =
       let c = some_there (get (first_leader w.cluster).proposals s) there in
       ⊎_elim

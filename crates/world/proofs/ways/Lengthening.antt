@@ -13,7 +13,8 @@ use Rattle.agreement.specs.declared.event.Event.{Event}
 use Rattle.world.proofs.rounds.Talking.{begins_itself, begins_further}
 
 module _ {O Op Reply : Type 0} (rules : Rules O Op Reply) where
-  performed_letters : (w : World Op Reply) (n : ℕ) (book : SlotBook (Command Op)) (o : Option (Command Op)) → IsBeginning w.cluster.letters (after_performing rules w n book o).cluster.letters
+  performed_letters : (w : World Op Reply) (n : ℕ) (book : SlotBook (Command Op)) (o : Option (Command Op))
+      → IsBeginning w.cluster.letters (after_performing rules w n book o).cluster.letters
   performed_letters w n book None = begins_itself w.cluster.letters
   performed_letters w n book (Some c) = ([], refl)
 
@@ -28,4 +29,6 @@ module _ {O Op Reply : Type 0} (rules : Rules O Op Reply) where
 
   pub leads_letters : (w v : World Op Reply) (es : List (Event Op)) → Leads rules w es v → IsBeginning w.cluster.letters v.cluster.letters
   leads_letters w _ _ at_once = begins_itself w.cluster.letters
-  leads_letters w v _ (after {es = es} {v = u} e _ led step) = begins_further w.cluster.letters u.cluster.letters v.cluster.letters (leads_letters w u es led) (step_letters u v e step)
+  leads_letters w v _ (after {es = es} {v = u} e _ led step) =
+      begins_further w.cluster.letters u.cluster.letters v.cluster.letters (leads_letters w u es led)
+      (step_letters u v e step)

@@ -41,24 +41,28 @@ module _ {C : Type 0} (slot to : ℕ) where
   decides_is (Ask s) e = absurd (cc)
 
 -- the letter at a place that passes the test
-pub proposal_at : {C : Type 0} (letters : List (Letter C)) (j slot : ℕ) (l : Letter C) → j < length letters → l ≡ slice_index_or letters j l → is_proposal slot l ≡ true → Proposes letters j slot
+pub proposal_at : {C : Type 0} (letters : List (Letter C)) (j slot : ℕ) (l : Letter C) → j < length letters
+    → l ≡ slice_index_or letters j l → is_proposal slot l ≡ true → Proposes letters j slot
 proposal_at letters j slot l within at e =
     let h = proposes_is slot l.to l.body e in
     record { letter = l; command = h.0; at = slice_get-get_or letters j l within ∙ ap (λ y. Some y) (sym at); to = h.1; body = h.2 }
 
-pub decision_at : {C : Type 0} (letters : List (Letter C)) (j slot : ℕ) (l : Letter C) → j < length letters → l ≡ slice_index_or letters j l → is_decision slot l ≡ true → Decides letters j slot
+pub decision_at : {C : Type 0} (letters : List (Letter C)) (j slot : ℕ) (l : Letter C) → j < length letters
+    → l ≡ slice_index_or letters j l → is_decision slot l ≡ true → Decides letters j slot
 decision_at letters j slot l within at e =
     let h = decides_is slot l.to l.body e in
     record { letter = l; command = h.0; at = slice_get-get_or letters j l within ∙ ap (λ y. Some y) (sym at); to = h.1; body = h.2 }
 
 -- one that doesn't pass it is none
-pub no_proposal : {C : Type 0} (letters : List (Letter C)) (j slot : ℕ) (l : Letter C) → j < length letters → l ≡ slice_index_or letters j l → is_proposal slot l ≡ false → Proposes letters j slot → ⊥
+pub no_proposal : {C : Type 0} (letters : List (Letter C)) (j slot : ℕ) (l : Letter C) → j < length letters
+    → l ≡ slice_index_or letters j l → is_proposal slot l ≡ false → Proposes letters j slot → ⊥
 no_proposal letters j slot l within at e h =
     let same : h.letter ≡ l = some_same (sym h.at ∙ slice_get-get_or letters j l within ∙ ap (λ y. Some y) (sym at)) in
     let yes : is_proposal slot h.letter ≡ true = ap (λ n. proposes_to slot n h.letter.body) h.to ∙ ap (proposes_to slot 1) h.body ∙ number_itself slot in
     true≢false (sym yes ∙ ap (is_proposal slot) same ∙ e)
 
-pub no_decision : {C : Type 0} (letters : List (Letter C)) (j slot : ℕ) (l : Letter C) → j < length letters → l ≡ slice_index_or letters j l → is_decision slot l ≡ false → Decides letters j slot → ⊥
+pub no_decision : {C : Type 0} (letters : List (Letter C)) (j slot : ℕ) (l : Letter C) → j < length letters
+    → l ≡ slice_index_or letters j l → is_decision slot l ≡ false → Decides letters j slot → ⊥
 no_decision letters j slot l within at e h =
     let same : h.letter ≡ l = some_same (sym h.at ∙ slice_get-get_or letters j l within ∙ ap (λ y. Some y) (sym at)) in
     let yes : is_decision slot h.letter ≡ true = ap (λ n. decides_to slot n h.letter.body) h.to ∙ ap (decides_to slot 1) h.body ∙ number_itself slot in

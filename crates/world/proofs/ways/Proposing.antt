@@ -1,5 +1,6 @@
 -- A proposal for the slot that replica 1 performs next reaches the leader of node 1.
-use Rattle.std.proofs.Common.{◌≡◌, ℕ, ◌+◌, ◌*◌, ◌^◌, ◌<◌, ◌≤◌, true, false, cond, List, [], ◌∷◌, ◌++◌, length, Option, None, Some, is_some, refl, sym, ap, ◌∙◌, subst, arith}
+use Rattle.std.proofs.Common.{◌≡◌, ℕ, ◌+◌, ◌*◌, ◌^◌, ◌<◌, ◌≤◌, true, false, cond, List, [], ◌∷◌, ◌++◌, length, Option}
+use Rattle.std.proofs.Common.{None, Some, is_some, refl, sym, ap, ◌∙◌, subst, arith}
 use Rattle.std.specs.Prelude.{slice_get}
 use Rattle.std.specs.FinMap.{get, contains_key, len}
 use Rattle.std.proofs.lemmas.Option.{slice_get_within}
@@ -31,7 +32,8 @@ use Rattle.world.specs.WaysOut.{first_leader, first_book, rivals, IsAtRest, Ment
 use Rattle.agreement.proofs.books.MentionsEvery.{mentions_step, mentions_calm, reach_taken}
 use Rattle.agreement.proofs.books.SlotBooksEvery.{books}
 use Rattle.world.proofs.ways.SlotBooksNext.{next_at_out}
-use Rattle.world.proofs.rounds.Stepping.{IsTurned, proposal_turned, propose_turned, rivals_turned, leader_turned, book_turned, work_stays, at_rest_stays, takes_proposal, one_commander}
+use Rattle.world.proofs.rounds.Stepping.{IsTurned, proposal_turned, propose_turned, rivals_turned, leader_turned}
+use Rattle.world.proofs.rounds.Stepping.{book_turned, work_stays, at_rest_stays, takes_proposal, one_commander}
 use Rattle.world.proofs.rounds.Talking.{last_at}
 use Rattle.world.proofs.ways.Telling.{told_by_proposal}
 
@@ -41,14 +43,18 @@ nothing_there P (Some v) f never = absurd (never (f v refl))
 
 module _ (laws : BallotLaws) {O Op Reply : Type 0} (rules : Rules O Op Reply) where
   -- such a letter is delivered to a leader at rest that has no proposal there
-  module _ (w v : World Op Reply) (i : IsSound w.cluster) (first : is_member w.cluster.members 1 ≡ true) (at_rest : IsAtRest w.cluster) (j s : ℕ) (free : contains_key (first_leader w.cluster).proposals s ≡ false)
+  module _ (w v : World Op Reply) (i : IsSound w.cluster) (first : is_member w.cluster.members 1 ≡ true)
+      (at_rest : IsAtRest w.cluster) (j s : ℕ) (free : contains_key (first_leader w.cluster).proposals s ≡ false)
       (h : Proposes w.cluster.letters j s) (step : Step rules w (events.Deliver j) v) where
-    turned : IsTurned w v (led (node w.cluster 1) (commands (first_leader w.cluster) s h.command)) (all_to_all w.cluster.members 1 (commands (first_leader w.cluster) s h.command).says)
-    turned = subst (λ d. IsTurned w v (led (node w.cluster 1) d) (all_to_all w.cluster.members 1 d.says)) (takes_proposal (first_leader w.cluster) s h.command at_rest.active free)
+    turned : IsTurned w v (led (node w.cluster 1) (commands (first_leader w.cluster) s h.command))
+        (all_to_all w.cluster.members 1 (commands (first_leader w.cluster) s h.command).says)
+    turned = subst (λ d. IsTurned w v (led (node w.cluster 1) d) (all_to_all w.cluster.members 1 d.says))
+        (takes_proposal (first_leader w.cluster) s h.command at_rest.active free)
         (proposal_turned laws rules w v i first j h.letter s h.command h.at h.to h.body step)
 
     pub proposal_led : contains_key (first_leader v.cluster).proposals s ≡ true
-    proposal_led = ap (λ l. contains_key l.proposals s) (leader_turned laws w v _ _ turned) ∙ ap is_some (get_insert_same (first_leader w.cluster).proposals s h.command)
+    proposal_led = ap (λ l. contains_key l.proposals s) (leader_turned laws w v _ _ turned) ∙ ap is_some
+        (get_insert_same (first_leader w.cluster).proposals s h.command)
 
     pub proposal_book : first_book v.cluster ≡ first_book w.cluster
     proposal_book = book_turned laws w v _ _ turned
@@ -59,14 +65,18 @@ module _ (laws : BallotLaws) {O Op Reply : Type 0} (rules : Rules O Op Reply) wh
     pub proposal_spent : v.taken + work v.cluster ≤ w.taken + work w.cluster + 17
     proposal_spent =
         let l = leader_turned laws w v _ _ turned in
-        let a : work v.cluster ≡ 2 ^ 41 * (2 * rivals v.cluster (first_leader w.cluster).ballot + cond (first_leader w.cluster).active 0 1) + 16 * len (commands (first_leader w.cluster) s h.command).state.commanders = ap (λ y. 2 ^ 41 * (2 * rivals v.cluster y.ballot + cond y.active 0 1) + 16 * len y.commanders) l in
+        let a : work v.cluster ≡ 2 ^ 41 *
+        (2 * rivals v.cluster (first_leader w.cluster).ballot + cond (first_leader w.cluster).active 0 1) + 16 * len
+        (commands (first_leader w.cluster) s h.command).state.commanders =
+        ap (λ y. 2 ^ 41 * (2 * rivals v.cluster y.ballot + cond y.active 0 1) + 16 * len y.commanders) l in
         let one = one_commander (first_leader w.cluster) s h.command at_rest.done in
         let r = rivals_turned laws w v _ _ turned (first_leader w.cluster).ballot in
         let count = turned.count in
         omega arith
 
   -- what replica 1 proposes next where nothing is proposed for the slot that is performed next
-  module _ (w : World Op Reply) (i : IsWorld rules w) (s : ℕ) (next : s ≡ (first_book w.cluster).slot_out) (unknown : get (first_book w.cluster).decisions s ≡ None)
+  module _ (w : World Op Reply) (i : IsWorld rules w) (s : ℕ) (next : s ≡ (first_book w.cluster).slot_out)
+      (unknown : get (first_book w.cluster).decisions s ≡ None)
       (new : IsProposedAt w.cluster s → ⊥) (c : Command Op) (more : List (Command Op)) (requests : (first_book w.cluster).requests ≡ c ∷ more) where
     booked : IsBookAfter w.taken (first_book w.cluster)
     booked = books laws rules w i 1
@@ -80,16 +90,21 @@ module _ (laws : BallotLaws) {O Op Reply : Type 0} (rules : Rules O Op Reply) wh
         let near = within_reach laws rules w i 1 in
         let few = reach_taken laws rules w i in
         let all = i.few in
-        next_at_out (first_book w.cluster) w.taken booked (subst (λ t. get (first_book w.cluster).decisions t ≡ None) next unknown) (subst (λ t. get (first_book w.cluster).proposals t ≡ None) next free_there) (omega arith) c more requests
+        next_at_out (first_book w.cluster) w.taken booked
+        (subst (λ t. get (first_book w.cluster).decisions t ≡ None) next unknown)
+        (subst (λ t. get (first_book w.cluster).proposals t ≡ None) next free_there) (omega arith) c more requests
         ∙ ap (λ t. Some (t, c)) (sym next)
 
   -- where nothing is proposed for the slot that is performed next, replica 1 proposes its first request there
-  module _ (w u : World Op Reply) (i : IsWorld rules w) (first : is_member w.cluster.members 1 ≡ true) (s : ℕ) (next : s ≡ (first_book w.cluster).slot_out) (unknown : get (first_book w.cluster).decisions s ≡ None)
-      (new : IsProposedAt w.cluster s → ⊥) (c : Command Op) (more : List (Command Op)) (requests : (first_book w.cluster).requests ≡ c ∷ more) (step : Step rules w (events.Propose 1) u) where
+  module _ (w u : World Op Reply) (i : IsWorld rules w) (first : is_member w.cluster.members 1 ≡ true) (s : ℕ)
+      (next : s ≡ (first_book w.cluster).slot_out) (unknown : get (first_book w.cluster).decisions s ≡ None)
+      (new : IsProposedAt w.cluster s → ⊥) (c : Command Op) (more : List (Command Op))
+      (requests : (first_book w.cluster).requests ≡ c ∷ more) (step : Step rules w (events.Propose 1) u) where
     next_is : next_proposal (first_book w.cluster) ≡ Some (s, c)
     next_is = next_there w i s next unknown new c more requests
 
-    turned_own : IsTurned w u (record (node w.cluster 1) { replica = proposed_next (first_book w.cluster) }) (all_to_all w.cluster.members 1 (proposes_first (next_proposal (first_book w.cluster))))
+    turned_own : IsTurned w u (record (node w.cluster 1) { replica = proposed_next (first_book w.cluster) })
+        (all_to_all w.cluster.members 1 (proposes_first (next_proposal (first_book w.cluster))))
     turned_own = propose_turned laws rules w u (reachable_sound laws rules w i.reachable) first step
 
     pub own_members : u.cluster.members ≡ w.cluster.members
@@ -111,7 +126,8 @@ module _ (laws : BallotLaws) {O Op Reply : Type 0} (rules : Rules O Op Reply) wh
     own_submitted = turned_own.submitted
 
     -- the first of its letters goes to node 1
-    to_first : (ms : List ℕ) → is_member ms 1 ≡ true → (rest : List (Letter (Command Op))) × (all_to_all ms 1 (Propose s c ∷ []) ≡ letter 1 (Propose s c) 1 ∷ rest)
+    to_first : (ms : List ℕ) → is_member ms 1 ≡ true → (rest : List (Letter (Command Op)))
+        × (all_to_all ms 1 (Propose s c ∷ []) ≡ letter 1 (Propose s c) 1 ∷ rest)
     to_first [] member = absurd (cc)
     to_first (m ∷ ms) member = (_, refl)
 
@@ -119,15 +135,26 @@ module _ (laws : BallotLaws) {O Op Reply : Type 0} (rules : Rules O Op Reply) wh
     own_letter =
         let out = to_first w.cluster.members first in
         let is : u.cluster.letters ≡ w.cluster.letters ++ (letter 1 (Propose s c) 1 ∷ out.0) =
-        turned_own.letters ∙ ap (λ o. w.cluster.letters ++ all_to_all w.cluster.members 1 (proposes_first o)) next_is ∙ ap (λ o. w.cluster.letters ++ o) out.1 in
-        record { letter = letter 1 (Propose s c) 1; command = c; at = ap (λ ls. slice_get ls (length w.cluster.letters)) is ∙ last_at w.cluster.letters (letter 1 (Propose s c) 1) out.0; to = refl; body = refl }
+        turned_own.letters ∙ ap (λ o. w.cluster.letters ++ all_to_all w.cluster.members 1 (proposes_first o)) next_is ∙
+        ap (λ o. w.cluster.letters ++ o) out.1 in
+        record {
+          letter = letter 1 (Propose s c) 1;
+          command = c;
+          at =
+              ap (λ ls. slice_get ls (length w.cluster.letters)) is ∙ last_at w.cluster.letters
+              (letter 1 (Propose s c) 1) out.0;
+          to = refl;
+          body = refl;
+        }
 
     pub own_mentions : (v : World Op Reply) (j : ℕ) → Step rules u (events.Deliver j) v → MentionsAsMuch w.cluster s v.cluster
     own_mentions v j again = λ test fits all.
         let sound = reachable_sound laws rules w i.reachable in
         mentions_calm laws rules (λ t d. test t d ≡ true) u v (events.Deliver j) (step_sound laws rules w (events.Propose 1) u sound step).sound again refl
         (mentions_step laws rules (λ t d. test t d ≡ true) w u (events.Propose 1) sound step
-        (λ t d is. let e : (s, c) ≡ (t, d) = some_same (sym next_is ∙ is) in subst (λ (p : ℕ × Command Op). test p.0 p.1 ≡ true) e (fits c more requests new)) all)
+        (λ t d is. let e : (s, c) ≡ (t, d) =
+        some_same (sym next_is ∙ is) in subst (λ (p : ℕ × Command Op). test p.0 p.1 ≡ true) e
+        (fits c more requests new)) all)
 
   pub there_mentions : (w v : World Op Reply) (j s : ℕ) → IsSound w.cluster → Step rules w (events.Deliver j) v → MentionsAsMuch w.cluster s v.cluster
   there_mentions w v j s i step = λ test fits all. mentions_calm laws rules (λ t d. test t d ≡ true) w v (events.Deliver j) i step refl all

@@ -1,6 +1,8 @@
 -- Events that led to an order with the key bring the key into the order whenever they are tried again; and a key that
 -- was submitted is the last of its session, or a greater number was submitted.
-use Rattle.std.proofs.Common.{◌≡◌, ◌⊎◌, inl, inr, ⊎_elim, ℕ, zero, suc, ◌+◌, ◌<◌, ◌≤◌, ◌==◌, Bool, true, false, not, ◌&&◌, ◌||◌, List, [], ◌∷◌, ◌++◌, length, take, None, Some, refl, sym, ap, ◌∙◌, subst, arith}
+use Rattle.std.proofs.Common.{◌≡◌, ◌⊎◌, inl, inr, ⊎_elim, ℕ, zero, suc, ◌+◌, ◌<◌, ◌≤◌, ◌==◌, Bool, true, false, not}
+use Rattle.std.proofs.Common.{◌&&◌, ◌||◌, List, [], ◌∷◌, ◌++◌, length, take, None, Some, refl, sym, ap, ◌∙◌, subst}
+use Rattle.std.proofs.Common.{arith}
 use Rattle.std.specs.Prelude.{slice_get, nat_lt, nat_le, if◌then◌else◌}
 use Rattle.std.specs.List.{list_all, list_any}
 use Rattle.std.proofs.lemmas.Bool.{cases_Bool, false≢true}
@@ -100,7 +102,8 @@ module _ {O Op Reply : Type 0} (rules : Rules O Op Reply) (same : Op → Op → 
   })
 
 -- an element of a list with one more at its end stands in the list, or is that one
-at_push : {X : Type 0} (xs : List X) (d : X) (n : ℕ) (e : X) → slice_get (xs ++ (d ∷ [])) n ≡ Some e → ((take n (xs ++ (d ∷ [])) ≡ take n xs) × (slice_get xs n ≡ Some e)) ⊎ ((take n (xs ++ (d ∷ [])) ≡ xs) × (d ≡ e))
+at_push : {X : Type 0} (xs : List X) (d : X) (n : ℕ) (e : X) → slice_get (xs ++ (d ∷ [])) n ≡ Some e
+    → ((take n (xs ++ (d ∷ [])) ≡ take n xs) × (slice_get xs n ≡ Some e)) ⊎ ((take n (xs ++ (d ∷ [])) ≡ xs) × (d ≡ e))
 at_push [] d zero e at = inr (refl, cc)
 at_push [] d (suc n) e at = absurd (cc)
 at_push (x ∷ xs) d zero e at = inl (refl, at)
@@ -145,7 +148,9 @@ module _ (laws : BallotLaws) {O Op Reply : Type 0} (rules : Rules O Op Reply) wh
 
 module _ (laws : BallotLaws) {O Op Reply : Type 0} (rules : Rules O Op Reply) (same : Op → Op → Bool) (reflexive : (o : Op) → same o o ≡ true) where
   -- events that restart no node and led to an order with the key bring it into the order on every run
-  pub rescued : (w u : World Op Reply) (events : List (Event Op)) (key : Key) → IsWorld rules w → Leads rules w events u → w.taken + length events ≤ most_events → list_all keeps_nodes events ≡ true → IsInOrder u.cluster key → Rescues rules same w key events
+  pub rescued : (w u : World Op Reply) (events : List (Event Op)) (key : Key) → IsWorld rules w → Leads rules w events u
+      → w.taken + length events ≤ most_events → list_all keeps_nodes events ≡ true → IsInOrder u.cluster key
+      → Rescues rules same w key events
   rescued w u events key i l room calm has = record {
     calm = calm;
     allowed = λ n v e m at.
@@ -229,7 +234,9 @@ module _ {Op : Type 0} (key : Key) where
   is_greater s = s.command.key.session == key.session && nat_lt key.number s.command.key.number
 
   -- a key that was submitted, with no greater number, is the last of its session
-  pub is_last : (submitted : List (Submission Op)) → is_submitted key submitted ≡ true → list_any (λ s. s.command.key.session == key.session && nat_lt key.number s.command.key.number) submitted ≡ false → IsLast key submitted
+  pub is_last : (submitted : List (Submission Op)) → is_submitted key submitted ≡ true
+      → list_any (λ s. s.command.key.session == key.session && nat_lt key.number s.command.key.number) submitted ≡ false
+      → IsLast key submitted
   is_last submitted was none =
       let f = finds_one (λ s. same_key s.command.key key) submitted was in
       record {
@@ -240,7 +247,9 @@ module _ {Op : Type 0} (key : Key) where
       }
 
   -- and where the test finds one, a greater number was submitted
-  pub has_greater : (submitted : List (Submission Op)) → list_any (λ s. s.command.key.session == key.session && nat_lt key.number s.command.key.number) submitted ≡ true → HasGreater key submitted
+  pub has_greater : (submitted : List (Submission Op))
+      → list_any (λ s. s.command.key.session == key.session && nat_lt key.number s.command.key.number) submitted ≡ true
+      → HasGreater key submitted
   has_greater submitted some =
       let f = finds_one is_greater submitted some in
       let parts = greater_parts f.0.command.key.session f.0.command.key.number key.session key.number f.2 in

@@ -9,7 +9,8 @@ use Rattle.slot_log.specs.Books.{SlotBook}
 use Rattle.slot_log.specs.Proposals.{first_for, next_proposal, IsLeastOpen}
 use Rattle.agreement.specs.SlotBooks.{IsBookAfter}
 
-module _ {C : Type 0} (book : SlotBook C) (count : ℕ) (h : IsBookAfter count book) (unknown : get book.decisions book.slot_out ≡ None) (free : get book.proposals book.slot_out ≡ None) where
+module _ {C : Type 0} (book : SlotBook C) (count : ℕ) (h : IsBookAfter count book)
+    (unknown : get book.decisions book.slot_out ≡ None) (free : get book.proposals book.slot_out ≡ None) where
   -- proposals have not gone past it
   not_past : book.slot_in ≤ book.slot_out
   not_past = ⊎_elim

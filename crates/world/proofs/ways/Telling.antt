@@ -27,7 +27,9 @@ use Rattle.agreement.specs.Chosen.{IsChosen}
 use Rattle.agreement.specs.Nodes.{Cluster, node, new_cluster, turned}
 use Rattle.agreement.specs.Runs.{Leads, at_once, after, IsReachable, InEvery}
 use Rattle.agreement.specs.Steps.{Step, submit, deliver, wake, nudge, propose, perform, restart, after_performing, replica_turn}
-use Rattle.world.specs.Telling.{IsProposedAt, IsProposedUpto, IsMentioned, is_proposed, is_decided, is_led, is_commanded, is_gathered, is_accepted, says_propose, says_decision, says_accept, says_report}
+use Rattle.world.specs.Telling.{IsProposedAt, IsProposedUpto, IsMentioned, is_proposed, is_decided, is_led}
+use Rattle.world.specs.Telling.{is_commanded, is_gathered, is_accepted, says_propose, says_decision, says_accept}
+use Rattle.world.specs.Telling.{says_report}
 use Rattle.agreement.specs.Worlds.{World, opening}
 use Rattle.agreement.specs.declared.event.Event.{Event}
 use Rattle.agreement.proofs.answered.Answered.{reachable_traced}
@@ -36,12 +38,16 @@ use Rattle.agreement.proofs.chosen.Invariants.{IsFair, IsSound, IsTrueOf}
 use Rattle.agreement.proofs.chosen.LeaderRows.{none_not}
 use Rattle.agreement.proofs.chosen.Reach.{opened_at, opening_sound, leads_sound, step_sound, reachable_sound}
 use Rattle.agreement.proofs.chosen.Sets.{In-numbers, member_bounds}
-use Rattle.world.proofs.ways.TellingSlots.{OfBody, OfNode, Of, of_weaker, asked_of, new_of, submit_of, receive_of, wake_of, nudge_of, proposes_of, perform_of, restart_of}
+use Rattle.world.proofs.ways.TellingSlots.{OfBody, OfNode, Of, of_weaker, asked_of, new_of, submit_of, receive_of}
+use Rattle.world.proofs.ways.TellingSlots.{wake_of, nudge_of, proposes_of, perform_of, restart_of}
 
 -- what is said to all is sent to each member
-In-to_each : {C : Type 0} (ws : List ℕ) (n : ℕ) (bodies : List (LetterBody C)) (b : LetterBody C) (m : ℕ) → is_member ws m ≡ true → In b bodies → In (letter n b m) (all_to_all ws n bodies)
+In-to_each : {C : Type 0} (ws : List ℕ) (n : ℕ) (bodies : List (LetterBody C)) (b : LetterBody C) (m : ℕ)
+    → is_member ws m ≡ true → In b bodies → In (letter n b m) (all_to_all ws n bodies)
 In-to_each ws n [] b m member i = absurd i
-In-to_each ws n (c ∷ cs) b m member (inl e) = In-left (letter n b m) (to_all ws n c) (all_to_all ws n cs) (subst (λ z. In (letter n b m) (to_all ws n z)) e (In-map (letter n b) m (numbers ws) (In-numbers ws m member)))
+In-to_each ws n (c ∷ cs) b m member (inl e) =
+    In-left (letter n b m) (to_all ws n c) (all_to_all ws n cs)
+    (subst (λ z. In (letter n b m) (to_all ws n z)) e (In-map (letter n b) m (numbers ws) (In-numbers ws m member)))
 In-to_each ws n (c ∷ cs) b m member (inr i) = In-right (letter n b m) (to_all ws n c) (all_to_all ws n cs) (In-to_each ws n cs b m member i)
 
 -- node 1 is a member where any is
@@ -106,7 +112,8 @@ module _ (laws : BallotLaws) {C : Type 0} (k : Cluster C) (i : IsSound k) (f : O
   now_proposed p e = record {
     letter = letter n (Propose p.0 p.1) 1;
     command = p.1;
-    sent = In-right _ k.letters _ (In-to_each k.members n (proposes_first (next_proposal (node k n).replica)) (Propose p.0 p.1) 1 (first_member k.members n member)
+    sent = In-right _ k.letters _ (In-to_each k.members n (proposes_first (next_proposal (node k n).replica))
+        (Propose p.0 p.1) 1 (first_member k.members n member)
         (subst (λ o. In (Propose p.0 p.1) (proposes_first o)) (sym e) (inl refl)));
     to = refl;
     body = refl;
@@ -115,7 +122,8 @@ module _ (laws : BallotLaws) {C : Type 0} (k : Cluster C) (i : IsSound k) (f : O
   -- and each slot before it was proposed: those before slot_in, and those that are known to be decided
   next_upto : (g : Grows k after_proposing) (p : ℕ × C) → next_proposal (node k n).replica ≡ Some p → IsProposedUpto after_proposing p.0
   next_upto g p e s low high = ⊎_elim
-      (λ (before : s < (node k n).replica.slot_in). upto_stays k after_proposing g ((node k n).replica.slot_in - 1) (f.nodes n).replica.last s low (omega arith))
+      (λ (before : s < (node k n).replica.slot_in). upto_stays k after_proposing g ((node k n).replica.slot_in - 1)
+      (f.nodes n).replica.last s low (omega arith))
       (λ (on : (node k n).replica.slot_in ≤ s). ⊎_elim
       (λ (under : s < p.0).
       let d = known_some (get (node k n).replica.decisions s) ((next_open (node k n).replica p e).least s on under) in
@@ -130,32 +138,47 @@ module _ (laws : BallotLaws) {O Op Reply : Type 0} (rules : Rules O Op Reply) wh
 
   -- each event but a Propose, for any slots that may be told of
   module _ (P : ℕ → Type 0) (zero_of : P 0) where
-    performs_of : (v : World Op Reply) → IsSound v.cluster → (n : ℕ) → is_member v.cluster.members n ≡ true → Of P v.cluster → (o : Option (Command Op)) → Of P (after_performing rules v n (node v.cluster n).replica o).cluster
+    performs_of : (v : World Op Reply) → IsSound v.cluster → (n : ℕ) → is_member v.cluster.members n ≡ true
+        → Of P v.cluster → (o : Option (Command Op))
+        → Of P (after_performing rules v n (node v.cluster n).replica o).cluster
     performs_of v i n member f None = f
     performs_of v i n member f (Some c) = perform_of P zero_of laws v.cluster i n member f (is_one rules)
 
-    deliver_of : (v : World Op Reply) → IsSound v.cluster → (l : Letter (Command Op)) → In l v.cluster.letters → Of P v.cluster → (x : NodeState (Command Op)) (out : List (Letter (Command Op))) → Receives v.cluster.members l.«from» l.to (node v.cluster l.to) l.body x out → Of P (turned v.cluster l.to x out)
+    deliver_of : (v : World Op Reply) → IsSound v.cluster → (l : Letter (Command Op)) → In l v.cluster.letters
+        → Of P v.cluster → (x : NodeState (Command Op)) (out : List (Letter (Command Op)))
+        → Receives v.cluster.members l.«from» l.to (node v.cluster l.to) l.body x out
+        → Of P (turned v.cluster l.to x out)
     deliver_of v i l within f x out receives =
         let fair = Each-at (IsFair v.cluster) v.cluster.letters l i.letters within in
-        receive_of P zero_of laws v.cluster i l.to fair.receiver f l.«from» l.body (Each-at (λ l. OfBody P l.body) v.cluster.letters l f.letters within) fair.says x out receives
+        receive_of P zero_of laws v.cluster i l.to fair.receiver f l.«from» l.body
+        (Each-at (λ l. OfBody P l.body) v.cluster.letters l f.letters within) fair.says x out receives
 
-  step_of : (v : World Op Reply) (e : Event Op) (u : World Op Reply) → IsSound v.cluster → Grows v.cluster u.cluster → Tells v → Of (IsProposedUpto u.cluster) v.cluster → Step rules v e u → Tells u
+  step_of : (v : World Op Reply) (e : Event Op) (u : World Op Reply) → IsSound v.cluster → Grows v.cluster u.cluster
+      → Tells v → Of (IsProposedUpto u.cluster) v.cluster → Step rules v e u → Tells u
   step_of v e u i g f h (submit n c member own) = submit_of (IsProposedUpto u.cluster) (upto_zero u.cluster) laws v.cluster i n member h (is_one rules) c
-  step_of v e u i g f h (deliver j l x out at receives) = deliver_of (IsProposedUpto u.cluster) (upto_zero u.cluster) v i l (In-get v.cluster.letters j l at) h x out receives
+  step_of v e u i g f h (deliver j l x out at receives) =
+      deliver_of (IsProposedUpto u.cluster) (upto_zero u.cluster) v i l
+      (In-get v.cluster.letters j l at) h x out receives
   step_of v e u i g f h (wake n member) = wake_of (IsProposedUpto u.cluster) (upto_zero u.cluster) laws v.cluster i n member h
   step_of v e u i g f h (nudge n member) = nudge_of (IsProposedUpto u.cluster) (upto_zero u.cluster) laws v.cluster i n member h
-  step_of v e u i g f h (propose n member) = proposes_of (IsProposedUpto u.cluster) (upto_zero u.cluster) laws v.cluster i n member h (next_upto laws v.cluster i f n member g)
-  step_of v e u i g f h (perform n member) = performs_of (IsProposedUpto u.cluster) (upto_zero u.cluster) v i n member h (next_decided (node v.cluster n).replica)
+  step_of v e u i g f h (propose n member) =
+      proposes_of (IsProposedUpto u.cluster) (upto_zero u.cluster) laws v.cluster i n member h
+      (next_upto laws v.cluster i f n member g)
+  step_of v e u i g f h (perform n member) =
+      performs_of (IsProposedUpto u.cluster) (upto_zero u.cluster) v i n member h
+      (next_decided (node v.cluster n).replica)
   step_of v e u i g f h (restart n member) = restart_of (IsProposedUpto u.cluster) (upto_zero u.cluster) laws v.cluster i n member h
 
   step_tells : (v : World Op Reply) (e : Event Op) (u : World Op Reply) → IsSound v.cluster → Grows v.cluster u.cluster → Step rules v e u → Tells v → Tells u
-  step_tells v e u i g s f = step_of v e u i g f (of_weaker (IsProposedUpto v.cluster) (IsProposedUpto u.cluster) (upto_stays v.cluster u.cluster g) v.cluster f) s
+  step_tells v e u i g s f = step_of v e u i g f
+      (of_weaker (IsProposedUpto v.cluster) (IsProposedUpto u.cluster) (upto_stays v.cluster u.cluster g) v.cluster f) s
 
   opening_tells : (members : List ℕ) → Tells (opening members)
   opening_tells members =
       let P : ℕ → Type 0 = IsProposedUpto (new_cluster {C = Command Op} members) in
       record {
-        nodes = λ n. subst (λ (x : NodeState (Command Op)). OfNode P x) (sym (opened_at members n)) (new_of P (upto_zero (new_cluster {C = Command Op} members)) members n);
+        nodes = λ n. subst (λ (x : NodeState (Command Op)). OfNode P x) (sym (opened_at members n))
+            (new_of P (upto_zero (new_cluster {C = Command Op} members)) members n);
         letters = tt;
       }
 

@@ -1,5 +1,6 @@
 -- What holds of each slot that a replica proposes holds of each that a cluster mentions.
-use Rattle.std.proofs.Common.{◌≡◌, ◌≢◌, ◌⊎◌, inl, inr, ⊎_elim, ℕ, ◌-◌, ◌^◌, Bool, true, false, cond, List, [], ◌∷◌, ◌++◌, map, filter, Some, None, Option, refl, sym, ◌∙◌, subst, arith}
+use Rattle.std.proofs.Common.{◌≡◌, ◌≢◌, ◌⊎◌, inl, inr, ⊎_elim, ℕ, ◌-◌, ◌^◌, Bool, true, false, cond, List, [], ◌∷◌}
+use Rattle.std.proofs.Common.{◌++◌, map, filter, Some, None, Option, refl, sym, ◌∙◌, subst, arith}
 use Rattle.std.specs.Prelude.{⊤, ◌==◌, not, nat_le}
 use Rattle.std.specs.FinMap.{empty, get, insert, entries, contains_key}
 use Rattle.std.proofs.lemmas.Bool.{cases_eq}
@@ -83,7 +84,11 @@ module _ (P Q : ℕ → Type 0) (more : (s : ℕ) → P s → Q s) where
   of_weaker k f = record {
     nodes = λ n. record {
       leader = λ s c e. more s ((f.nodes n).leader s c e);
-      replica = record { proposals = λ s c e. more s ((f.nodes n).replica.proposals s c e); last = more ((node k n).replica.slot_in - 1) (f.nodes n).replica.last };
+      replica = record {
+        proposals = λ s c e. more s ((f.nodes n).replica.proposals s c e);
+        last =
+            more ((node k n).replica.slot_in - 1) (f.nodes n).replica.last;
+      };
     };
     letters = Each-weaker (λ l. OfBody P l.body) (λ l. OfBody Q l.body) (λ l. body_weaker l.body) k.letters f.letters;
   }
@@ -93,7 +98,9 @@ module _ (P : ℕ → Type 0) {C : Type 0} where
   pub asked_of : (k : Cluster C) → Of P k → (p : Pvalue C) → Asked k.letters p → P p.slot
   asked_of k f p a = subst (OfBody P) a.2 (Each-at (λ l. OfBody P l.body) k.letters a.0 f.letters a.1)
 
-  turn_of : (laws : BallotLaws) (k : Cluster C) (i : IsSound k) (n : ℕ) (member : is_member k.members n ≡ true) (x : NodeState C) (out : List (Letter C)) → Of P k → OfNode P x → Each (λ l. OfBody P l.body) out → Of P (turned k n x out)
+  turn_of : (laws : BallotLaws) (k : Cluster C) (i : IsSound k) (n : ℕ) (member : is_member k.members n ≡ true)
+      (x : NodeState C) (out : List (Letter C)) → Of P k → OfNode P x → Each (λ l. OfBody P l.body) out
+      → Of P (turned k n x out)
   turn_of laws k i n member x out f fx fo = record {
     nodes = λ m. ⊎_elim
         (λ (e : m ≡ n). subst (λ z. OfNode P (node (turned k n x out) z)) (sym e) (subst (OfNode P) (sym (here laws k i n member x out)) fx))
@@ -147,7 +154,8 @@ module _ (P : ℕ → Type 0) {C : Type 0} where
     taken_at gathered new g s c (inl same) e = h s c (sym same.1 ∙ e)
     taken_at gathered new g s c (inr p) e = subst P p.1.slot (g p.0 p.1.within)
 
-    adopted_of : (gathered : List (Pvalue C)) (new : Slots C) → ((p : Pvalue C) → In p gathered → P p.slot) → TakesGreatest l.proposals gathered new → OfDone (adopted l new)
+    adopted_of : (gathered : List (Pvalue C)) (new : Slots C) → ((p : Pvalue C) → In p gathered → P p.slot)
+        → TakesGreatest l.proposals gathered new → OfDone (adopted l new)
     adopted_of gathered new g taken =
         let all : AllAt P new = λ s c e. taken_at gathered new g s c (taken s) e in
         record {
@@ -163,22 +171,28 @@ module _ (P : ℕ → Type 0) {C : Type 0} where
     hearing_if taken true v w on off = on refl
     hearing_if taken false v w on off = off
 
-    heard_if : (taken : Slots C) (s : Scouting C) → ((p : Pvalue C) → In p s.gathered → P p.slot) → (test : Bool) → AllowsAt l.proposals s (cond test Adopted Wait) taken → OfDone (at_heard l taken s (cond test Adopted Wait))
+    heard_if : (taken : Slots C) (s : Scouting C) → ((p : Pvalue C) → In p s.gathered → P p.slot) → (test : Bool)
+        → AllowsAt l.proposals s (cond test Adopted Wait) taken → OfDone (at_heard l taken s (cond test Adopted Wait))
     heard_if taken s g true allowed = adopted_of s.gathered taken g allowed
     heard_if taken s g false allowed = of_silent _ h
 
     module _ (laws : BallotLaws) (m : ℕ) (b : Numbers) (report fresh : List (Pvalue C)) (taken : Slots C) (r : (p : Pvalue C) → In p report → P p.slot) where
-      hearing_of : (s : Scouting C) → TakesFresh s m b report fresh → ((p : Pvalue C) → In p s.gathered → P p.slot) → AtHearing taken (scouts.on_p1b s m b fresh)
+      hearing_of : (s : Scouting C) → TakesFresh s m b report fresh → ((p : Pvalue C) → In p s.gathered → P p.slot)
+          → AtHearing taken (scouts.on_p1b s m b fresh)
       hearing_of s takes g =
           hearing_if taken (is_member s.members m) _ (unmoved s Wait)
           (λ member. hearing_if taken (is_same b s.ballot) (gathers s m fresh) _
           (λ mine.
           let f = takes (record { member = member; same = laws.same b s.ballot mine }) in
-          heard_if taken (gathers s m fresh).scout (λ p at. ⊎_elim (λ (x : In p s.gathered). g p x) (λ (x : In p fresh). r p (f.part p x)) (In-cases p s.gathered fresh at)) (is_majority s.members (add s.heard m)))
+          heard_if taken (gathers s m fresh).scout
+          (λ p at. ⊎_elim (λ (x : In p s.gathered). g p x) (λ (x : In p fresh). r p (f.part p x))
+          (In-cases p s.gathered fresh at)) (is_majority s.members (add s.heard m)))
           (hearing_if taken (is_below s.ballot b) (unmoved s (Preempted b)) (unmoved s Wait) (λ up allowed. preempted_of b) (λ allowed. of_silent _ h)))
           (λ allowed. of_silent _ h)
 
-      p1b_of : Hears l m b report fresh taken → (o : Option (Scouting C)) → l.scout ≡ o → ((s : Scouting C) → l.scout ≡ Some s → (p : Pvalue C) → In p s.gathered → P p.slot) → OfDone (at_scout l m b fresh taken o)
+      p1b_of : Hears l m b report fresh taken → (o : Option (Scouting C)) → l.scout ≡ o
+          → ((s : Scouting C) → l.scout ≡ Some s → (p : Pvalue C) → In p s.gathered → P p.slot)
+          → OfDone (at_scout l m b fresh taken o)
       p1b_of may None e g = of_silent l h
       p1b_of may (Some s) e g = hearing_of s (may.gathers s e) (g s e) (may.takes s e)
 
@@ -246,16 +260,24 @@ module _ (P : ℕ → Type 0) {C : Type 0} where
 
     module _ (laws : BallotLaws) (k : Cluster C) (i : IsSound k) (n : ℕ) (member : is_member k.members n ≡ true) (f : Of P k) where
       of_leader : (d : Done (Leading C) C) → OfDone d → Of P (leader_turn k n d)
-      of_leader d h = turn_of laws k i n member (led (node k n) d) (all_to_all k.members n d.says) f (record { leader = h.state; replica = (f.nodes n).replica }) (sends_of k.members n d.says h.says)
+      of_leader d h = turn_of laws k i n member (led (node k n) d) (all_to_all k.members n d.says) f
+          (record { leader = h.state; replica = (f.nodes n).replica }) (sends_of k.members n d.says h.says)
 
       of_replica : (r : SlotBook C) (out : List (Letter C)) → OfBook P r → Each (λ l. OfBody P l.body) out → Of P (replica_turn k n r out)
       of_replica r out h o = turn_of laws k i n member (record (node k n) { replica = r }) out f (record { leader = (f.nodes n).leader; replica = h }) o
 
-      same_node : (x : NodeState C) (out : List (Letter C)) → x.leader ≡ (node k n).leader → x.replica ≡ (node k n).replica → Each (λ l. OfBody P l.body) out → Of P (turned k n x out)
-      same_node x out a b o = turn_of laws k i n member x out f (record { leader = subst (λ (l : Leading C). AllAt P l.proposals) (sym a) (f.nodes n).leader; replica = subst (OfBook P) (sym b) (f.nodes n).replica }) o
+      same_node : (x : NodeState C) (out : List (Letter C)) → x.leader ≡ (node k n).leader
+          → x.replica ≡ (node k n).replica → Each (λ l. OfBody P l.body) out → Of P (turned k n x out)
+      same_node x out a b o = turn_of laws k i n member x out f
+          (record {
+            leader = subst (λ (l : Leading C). AllAt P l.proposals) (sym a) (f.nodes n).leader;
+            replica =
+                subst (OfBook P) (sym b) (f.nodes n).replica;
+          }) o
 
       pub restart_of : Of P (turned k n (restarted k.members n (node k n)) [])
-      restart_of = turn_of laws k i n member (restarted k.members n (node k n)) [] f (record { leader = empty_at; replica = record { proposals = empty_at; last = zero_of } }) tt
+      restart_of = turn_of laws k i n member (restarted k.members n (node k n)) [] f
+          (record { leader = empty_at; replica = record { proposals = empty_at; last = zero_of } }) tt
 
       pub wake_of : Of P (leader_turn k n (woken (node k n).leader))
       wake_of = of_leader _ (woken_of (node k n).leader (f.nodes n).leader)
@@ -267,23 +289,36 @@ module _ (P : ℕ → Type 0) {C : Type 0} where
           (λ e there. asked_of k f e.1.pvalue ((i.nodes n).leader.commanding e.0 e.1 there).sent)
           (entries (node k n).leader.commanders) (entries_get (node k n).leader.commanders))
 
-      others_of : (test : Bool) → Each (λ (l : Letter C). OfBody P l.body) (cond test (map (letter n (Ask (node k n).replica.slot_out)) (filter (λ m. not (m == n)) (numbers k.members))) [])
-      others_of true = Each-map (λ l. OfBody P l.body) (letter n (Ask (node k n).replica.slot_out)) (filter (λ m. not (m == n)) (numbers k.members)) (Each-all _ (filter (λ m. not (m == n)) (numbers k.members)) (λ m. tt))
+      others_of : (test : Bool) → Each (λ (l : Letter C). OfBody P l.body)
+          (cond test (map (letter n (Ask (node k n).replica.slot_out)) (filter (λ m. not (m == n)) (numbers k.members)))
+          [])
+      others_of true = Each-map (λ l. OfBody P l.body) (letter n (Ask (node k n).replica.slot_out))
+          (filter (λ m. not (m == n)) (numbers k.members))
+          (Each-all _ (filter (λ m. not (m == n)) (numbers k.members)) (λ m. tt))
       others_of false = tt
 
       pub nudge_of : Of P (turned k n (node k n) (said_again k.members n (node k n)))
       nudge_of =
           same_node (node k n) (said_again k.members n (node k n)) refl refl
           (Each-append (λ l. OfBody P l.body) (all_to_all k.members n (says_again (node k n).leader)) (nudges k.members n (node k n).replica)
-          (sends_of k.members n (says_again (node k n).leader) (Each-append (OfBody P) (scout_says (node k n).leader.scout) (map (λ e. P2a e.1.pvalue) (entries (node k n).leader.commanders)) (scout_says_of (node k n).leader.scout) commanders_say))
+          (sends_of k.members n (says_again (node k n).leader)
+          (Each-append (OfBody P) (scout_says (node k n).leader.scout)
+          (map (λ e. P2a e.1.pvalue) (entries (node k n).leader.commanders))
+          (scout_says_of (node k n).leader.scout) commanders_say))
           (Each-append (λ l. OfBody P l.body) (all_to_all k.members n (proposes_again (node k n).replica)) (asks_others k.members n (node k n).replica.slot_out)
-          (sends_of k.members n (proposes_again (node k n).replica) (Each-map (OfBody P) (λ e. Propose e.0 e.1) (entries (node k n).replica.proposals) (entries_at (node k n).replica.proposals (f.nodes n).replica.proposals)))
+          (sends_of k.members n (proposes_again (node k n).replica)
+          (Each-map (OfBody P) (λ e. Propose e.0 e.1) (entries (node k n).replica.proposals)
+          (entries_at (node k n).replica.proposals (f.nodes n).replica.proposals)))
           (others_of (nat_le (node k n).replica.slot_out (2 ^ 62)))))
 
-      pub proposes_of : ((p : ℕ × C) → next_proposal (node k n).replica ≡ Some p → P p.0) → Of P (replica_turn k n (proposed_next (node k n).replica) (all_to_all k.members n (proposes_first (next_proposal (node k n).replica))))
+      pub proposes_of : ((p : ℕ × C) → next_proposal (node k n).replica ≡ Some p → P p.0)
+          → Of P (replica_turn k n (proposed_next (node k n).replica)
+          (all_to_all k.members n (proposes_first (next_proposal (node k n).replica))))
       proposes_of first =
           let r : SlotBook C = (node k n).replica in
-          of_replica (proposed_next r) (all_to_all k.members n (proposes_first (next_proposal r))) (proposed_of r (f.nodes n).replica (next_proposal r) first) (sends_of k.members n (proposes_first (next_proposal r)) (asks_of (next_proposal r) first))
+          of_replica (proposed_next r) (all_to_all k.members n (proposes_first (next_proposal r)))
+          (proposed_of r (f.nodes n).replica (next_proposal r) first)
+          (sends_of k.members n (proposes_first (next_proposal r)) (asks_of (next_proposal r) first))
 
       pub submit_of : (same : C → C → Bool) (c : C) → Of P (replica_turn k n (requested same (node k n).replica c) [])
       submit_of same c = of_replica (requested same (node k n).replica c) [] (requested_of same (node k n).replica c (f.nodes n).replica) tt
@@ -294,14 +329,22 @@ module _ (P : ℕ → Type 0) {C : Type 0} where
       gathered_of : (s : Scouting C) → (node k n).leader.scout ≡ Some s → (p : Pvalue C) → In p s.gathered → P p.slot
       gathered_of s e p at = asked_of k f p (((i.nodes n).leader.scouting s e).gathering.sent p at)
 
-      pub receive_of : (m : ℕ) (body : LetterBody C) → OfBody P body → IsTrueOf k m body → (x : NodeState C) (out : List (Letter C)) → Receives k.members m n (node k n) body x out → Of P (turned k n x out)
+      pub receive_of : (m : ℕ) (body : LetterBody C) → OfBody P body → IsTrueOf k m body
+          → (x : NodeState C) (out : List (Letter C)) → Receives k.members m n (node k n) body x out
+          → Of P (turned k n x out)
       receive_of m body h fair x out (promises_ballot b report r) = same_node x out refl refl (tt, tt)
       receive_of m body h fair x out (accepts_pvalue p) = same_node x out refl refl (tt, tt)
       receive_of m body h fair x out (hears_promise b report fresh taken may) =
-          of_leader _ (p1b_of (node k n).leader (f.nodes n).leader laws m b report fresh taken (λ p at. asked_of k f p (fair.sent p at)) may (node k n).leader.scout refl gathered_of)
+          of_leader _ (p1b_of (node k n).leader (f.nodes n).leader laws m b report fresh taken
+          (λ p at. asked_of k f p (fair.sent p at)) may (node k n).leader.scout refl gathered_of)
       receive_of m body h fair x out (hears_vote b s by) = of_leader _ (p2b_of (node k n).leader (f.nodes n).leader m b s by)
       receive_of m body h fair x out (hears_proposal s c) = of_leader _ (propose_of (node k n).leader (f.nodes n).leader s c h)
-      receive_of m body h fair x out (learns s c) = of_replica x.replica [] (record { proposals = (f.nodes n).replica.proposals; last = (f.nodes n).replica.last }) tt
+      receive_of m body h fair x out (learns s c) =
+          of_replica x.replica [] (record {
+            proposals = (f.nodes n).replica.proposals;
+            last =
+                (f.nodes n).replica.last;
+          }) tt
       receive_of m body h fair x out (tells_decisions s) =
           same_node (node k n) _ refl refl
           (Each-map (λ l. OfBody P l.body) (λ b. letter n b m) (tells (node k n).replica s)

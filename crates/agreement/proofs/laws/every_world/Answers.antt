@@ -1,6 +1,8 @@
 use Rattle.std.proofs.Common.{refl}
 use Rattle.agreement.proofs.every.Events.{has_node, boots, order_now, later_step}
-use Rattle.agreement.proofs.every.Every.{opens, goes_on, may_receive, within_reach, is_decided, agrees, chosen_for_good, has_one_command, keeps_what_is_chosen, decides_what_is_chosen, submitted_once, in_time, is_given, knows_chosen, counts}
+use Rattle.agreement.proofs.every.Every.{opens, goes_on, may_receive, within_reach, is_decided, agrees, chosen_for_good}
+use Rattle.agreement.proofs.every.Every.{has_one_command, keeps_what_is_chosen, decides_what_is_chosen, submitted_once}
+use Rattle.agreement.proofs.every.Every.{in_time, is_given, knows_chosen, counts}
 use Rattle.agreement.proofs.answered.Told.{answered_now}
 use Rattle.agreement.proofs.answered.Placing.{placed_next, one_place_each}
 use Rattle.agreement.proofs.answered.SoFar.{reached_legal, answered_submitted}
@@ -36,7 +38,14 @@ returns-clause-stays g c = chosen_for_good c.ballot_laws.ensures g.O.Object.rule
 pub returns-clause-one_order : goal.returns-clause-one_order
 returns-clause-one_order g c = λ w i.
     order_now c.ballot_laws.ensures g.O.Object.rules g.O.Object.waits
-    (record { idle = g.met.O.Object.idle; waited = g.met.O.Object.waited; named = g.met.O.Object.named; over = g.met.O.Object.over; once = g.met.O.Object.once })
+    (record {
+      idle = g.met.O.Object.idle;
+      waited = g.met.O.Object.waited;
+      named = g.met.O.Object.named;
+      over =
+          g.met.O.Object.over;
+      once = g.met.O.Object.once;
+    })
     w w refl i
 
 pub returns-clause-answered : goal.returns-clause-answered
@@ -72,7 +81,14 @@ returns-clause-placed_once g c = λ w i keys placed. one_place_each w keys place
 pub returns-clause-legal_so_far : goal.returns-clause-legal_so_far
 returns-clause-legal_so_far g c = λ w i.
     reached_legal c.ballot_laws.ensures g.O.Object.rules g.O.Object.waits
-    (record { idle = g.met.O.Object.idle; waited = g.met.O.Object.waited; named = g.met.O.Object.named; over = g.met.O.Object.over; once = g.met.O.Object.once })
+    (record {
+      idle = g.met.O.Object.idle;
+      waited = g.met.O.Object.waited;
+      named = g.met.O.Object.named;
+      over =
+          g.met.O.Object.over;
+      once = g.met.O.Object.once;
+    })
     w i.reachable
 
 pub returns-clause-chosen_known : goal.returns-clause-chosen_known
@@ -81,7 +97,14 @@ returns-clause-chosen_known g c = knows_chosen c.ballot_laws.ensures g.O.Object.
 pub returns-clause-answered_known : goal.returns-clause-answered_known
 returns-clause-answered_known g c = λ w i.
     answered_submitted c.ballot_laws.ensures g.O.Object.rules g.O.Object.waits
-    (record { idle = g.met.O.Object.idle; waited = g.met.O.Object.waited; named = g.met.O.Object.named; over = g.met.O.Object.over; once = g.met.O.Object.once })
+    (record {
+      idle = g.met.O.Object.idle;
+      waited = g.met.O.Object.waited;
+      named = g.met.O.Object.named;
+      over =
+          g.met.O.Object.over;
+      once = g.met.O.Object.once;
+    })
     w i.reachable
 
 pub returns-clause-counted : goal.returns-clause-counted

@@ -11,8 +11,12 @@ returns-then-used-eq0-clause-more c = λ dropped fits. rest_more dropped c.args.
 pub returns-in_default-clause-drop : goal.returns-in_default-clause-drop
 returns-in_default-clause-drop c = λ dropped fits.
     let some : 1 ≤ c.len_without_cr-used.result = omega (arith, c.if-used-eq0.false) in
-    let within = before_within c.args.bytes.now c.len_without_cr-used.result c.len_without_cr-used.ensures in
-    (some, within, rest_drop dropped c.args.bytes.now c.len_without_cr-used.result fits (found_none c.args.bytes.now c.in_default.ensures) some within c.len_without_cr-used.ensures)
+    let within = before_within c.args.bytes.now c.len_without_cr-used.result c.len_without_cr-used.ensures in (
+      some,
+      within,
+      rest_drop dropped c.args.bytes.now c.len_without_cr-used.result fits
+          (found_none c.args.bytes.now c.in_default.ensures) some within c.len_without_cr-used.ensures,
+    )
 
 pub returns-clause-item : goal.returns-clause-item
 returns-clause-item c = λ dropped fits. rest_item dropped c.args.bytes.now c.in-Some.end fits (first_cut c.args.bytes.now c.in-Some.end c.in-Some.ensures)

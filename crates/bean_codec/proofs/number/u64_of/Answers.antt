@@ -5,11 +5,15 @@ use Rattle.bean_codec.proofs.Digits.{number_below-bytes, parse_number}
 use Rattle.bean_codec.proofs.number.u64_of.Goals as goal
 
 -- what `from_utf8` refuses is no text, and what it gives is the word
-no_text : {E : Type 0} (word : List ℕ) (r : Result (Bor (List ℕ)) E) (P : E → Type 0) → MatchResult r (λ s. (s.now ≡ word) × IsUtf8 word) (λ e. ¬ (IsUtf8 word) × P e) → None ≡ result_ok r → ¬ (IsUtf8 word)
+no_text : {E : Type 0} (word : List ℕ) (r : Result (Bor (List ℕ)) E) (P : E → Type 0)
+    → MatchResult r (λ s. (s.now ≡ word) × IsUtf8 word) (λ e. ¬ (IsUtf8 word) × P e) → None ≡ result_ok r
+    → ¬ (IsUtf8 word)
 no_text word (Ok s) P h e = absurd (cc)
 no_text word (Err x) P h e = h.0
 
-same_text : {E : Type 0} (word : List ℕ) (r : Result (Bor (List ℕ)) E) (text : Bor (List ℕ)) (P : E → Type 0) → MatchResult r (λ s. (s.now ≡ word) × IsUtf8 word) (λ e. ¬ (IsUtf8 word) × P e) → Some text ≡ result_ok r → text.now ≡ word
+same_text : {E : Type 0} (word : List ℕ) (r : Result (Bor (List ℕ)) E) (text : Bor (List ℕ)) (P : E → Type 0)
+    → MatchResult r (λ s. (s.now ≡ word) × IsUtf8 word) (λ e. ¬ (IsUtf8 word) × P e) → Some text ≡ result_ok r
+    → text.now ≡ word
 same_text word (Ok s) text P h e = let same : text ≡ s = cc in ap (λ (b : Bor (List ℕ)). b.now) same ∙ h.0
 same_text word (Err x) text P h e = absurd (cc)
 

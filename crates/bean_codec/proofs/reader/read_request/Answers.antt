@@ -10,7 +10,10 @@ use Rattle.bean_codec.proofs.DroppedTexts.{only_told}
 use Rattle.bean_codec.proofs.Due.{awaits_from, dropped_from}
 use Rattle.bean_codec.proofs.reader.read_request.Goals as goal
 
-only_told_if : {E : Type 0} (want : Want) (bytes : List ℕ) (r : Result Read E) → IfOk r (TellsItem want bytes) → IfOk r (TellsMore want bytes) → IfOk r (λ read. (dropped : List ℕ) (found : Item × ℕ) → Fits want dropped bytes → EndsItem dropped bytes found → IsDrop read ⊎ (item_read read ≡ Some found))
+only_told_if : {E : Type 0} (want : Want) (bytes : List ℕ) (r : Result Read E) → IfOk r (TellsItem want bytes)
+    → IfOk r (TellsMore want bytes)
+    → IfOk r (λ read. (dropped : List ℕ) (found : Item × ℕ) → Fits want dropped bytes → EndsItem dropped bytes found
+    → IsDrop read ⊎ (item_read read ≡ Some found))
 only_told_if want bytes (Ok read) item more = only_told want bytes read item more
 only_told_if want bytes (Err e) item more = tt
 
@@ -27,7 +30,8 @@ awaits_if : {E : Type 0} (want : Want) (bytes : List ℕ) (r : Result Read E) �
 awaits_if want bytes (Ok read) due = awaits_from want bytes read due
 awaits_if want bytes (Err e) due = tt
 
-dropped_if : {E : Type 0} (want : Want) (bytes : List ℕ) (r : Result Read E) → IfOk r (IsDue want bytes) → IfOk r (λ read. (used : ℕ) (next : Want) → (read ≡ Drop used next) ↔ IsDropped want bytes used next)
+dropped_if : {E : Type 0} (want : Want) (bytes : List ℕ) (r : Result Read E) → IfOk r (IsDue want bytes)
+    → IfOk r (λ read. (used : ℕ) (next : Want) → (read ≡ Drop used next) ↔ IsDropped want bytes used next)
 dropped_if want bytes (Ok read) due = dropped_from want bytes read due
 dropped_if want bytes (Err e) due = tt
 

@@ -6,10 +6,23 @@ use Rattle.bean_codec.proofs.tube_list.append_data.Goals as goal
 
 pub returns-in_err-append_tube-clause-front : goal.returns-in_err-append_tube-clause-front
 returns-in_err-append_tube-clause-front c =
-    front_kept c.args.out.now.items (tubes_data (take c.loop-name.name-index c.args.names.now)) c.loop-name.out.items c.append_tube.new.out.items _ _ c.args.out.now.ok.0 c.loop-name.out.ok.0 c.loop-name.invariant.0 c.append_tube.ensures.front
+    front_kept c.args.out.now.items
+    (tubes_data (take c.loop-name.name-index c.args.names.now)) c.loop-name.out.items c.append_tube.new.out.items _
+    _ c.args.out.now.ok.0 c.loop-name.out.ok.0 c.loop-name.invariant.0 c.append_tube.ensures.front
 
 pub returns-in_err-append_tube-clause-full : goal.returns-in_err-append_tube-clause-full
 returns-in_err-append_tube-clause-full c =
     let grows = length-tubes_data-take c.args.names.now c.loop-name.name-index c.name-item.result c.loop-name-test.true c.name-item.is in
     let begun = ap length c.loop-name.invariant.0 in
-    if_err c.from_residual-in_err-append_tube.result (omega (arith, grows, begun, length-append c.args.out.now.items (tubes_data (take c.loop-name.name-index c.args.names.now)), c.in_err-append_tube.ensures.full, c.loop-name.invariant.1, c.args.out.now.ok.0, c.loop-name.out.ok.0))
+    if_err c.from_residual-in_err-append_tube.result
+    (omega (
+      arith,
+      grows,
+      begun,
+      length-append c.args.out.now.items
+          (tubes_data (take c.loop-name.name-index c.args.names.now)),
+      c.in_err-append_tube.ensures.full,
+      c.loop-name.invariant.1,
+      c.args.out.now.ok.0,
+      c.loop-name.out.ok.0,
+    ))

@@ -12,10 +12,12 @@ loop-number-preserved g c =
     let jobs = g.M.JobMap.entries c.args.jobs.now in
     let sessions = c.args.sessions.now.entries in
     let numbers = c.args.numbers.now in
-    first-along wait_rank (holder_by c.args.second jobs sessions) numbers c.loop-number.number-index (get_or numbers c.loop-number.number-index 0) 0 _ _ _ (search rules) refl
+    first-along wait_rank (holder_by c.args.second jobs sessions) numbers c.loop-number.number-index
+    (get_or numbers c.loop-number.number-index 0) 0 _ _ _ (search rules) refl
     (elim c.match-holder_by.branch [
       | in-Some w ↦ ap (option_map _) w.best-is ∙ w.first-best.ensures ∙ ap (first_of wait_rank (option_map _ c.loop-number.best)) w.in-Some.ensures
-      | in_default w ↦ ap (option_map _) w.best-is ∙ first_of-none wait_rank (option_map _ c.loop-number.best) ∙ ap (first_of wait_rank (option_map _ c.loop-number.best)) w.in_default.ensures
+      | in_default w ↦ ap (option_map _) w.best-is ∙ first_of-none wait_rank (option_map _ c.loop-number.best) ∙ ap
+          (first_of wait_rank (option_map _ c.loop-number.best)) w.in_default.ensures
     ])
     c.loop-number.invariant
 
@@ -23,5 +25,6 @@ pub returns : goal.returns
 returns g c =
     let jobs = g.M.JobMap.entries c.args.jobs.now in
     let sessions = c.args.sessions.now.entries in
-    first-whole wait_rank (holder_by c.args.second jobs sessions) c.args.numbers.now c.loop-number.number-index _ _ c.loop-number-test.false c.loop-number.invariant ∙
+    first-whole wait_rank (holder_by c.args.second jobs sessions) c.args.numbers.now c.loop-number.number-index _ _
+    c.loop-number-test.false c.loop-number.invariant ∙
     holders-first c.args.numbers.now c.args.second _ jobs sessions c.requires.rising c.requires.holders

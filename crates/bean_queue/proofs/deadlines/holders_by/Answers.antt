@@ -12,31 +12,46 @@ pub jobs-init : goal.jobs-init
 unfolding seen
 jobs-init g c =
     let jobs = g.M.JobMap.entries c.args.jobs.now in
-    subst (λ ns. AreNoted (waits_at c.args.sessions.now.entries) (seen c.due-next.result) ns c.args.second jobs) (sym c.new-numbers.ensures.items) (noted-first (waits_at c.args.sessions.now.entries) (seen c.due-next.result) c.args.second jobs c.due-next.ensures.job)
+    subst (λ ns. AreNoted (waits_at c.args.sessions.now.entries) (seen c.due-next.result) ns c.args.second jobs)
+    (sym c.new-numbers.ensures.items)
+    (noted-first (waits_at c.args.sessions.now.entries)
+    (seen c.due-next.result) c.args.second jobs c.due-next.ensures.job)
 
 pub jobs-smaller : goal.jobs-smaller
 unfolding seen
 jobs-smaller g c =
     let jobs = g.M.JobMap.entries c.args.jobs.now in
     let n : ℕ × Job = (c.in-Some.id, c.in-Some.job.now) in
-    let were : AreNoted (waits_at c.args.sessions.now.entries) (Some n) c.jobs.numbers.items c.args.second jobs = subst (λ o. AreNoted (waits_at c.args.sessions.now.entries) (seen o) c.jobs.numbers.items c.args.second jobs) c.in-Some.is c.jobs.invariant in
+    let were : AreNoted (waits_at c.args.sessions.now.entries) (Some n) c.jobs.numbers.items c.args.second jobs =
+    subst (λ o. AreNoted (waits_at c.args.sessions.now.entries) (seen o) c.jobs.numbers.items c.args.second jobs)
+    c.in-Some.is c.jobs.invariant in
     subst (λ o. far c.args.second (seen c.due_after-next.result) < far c.args.second (seen o)) (sym c.in-Some.is)
-    (nearer (waits_at c.args.sessions.now.entries) n (seen c.due_after-next.result) c.jobs.numbers.items c.args.second jobs c.by_id.ensures.rising were (subst (λ due. seen c.due_after-next.result ≡ first_due_after c.args.second (due, c.in-Some.id) jobs) c.due.ensures c.due_after-next.ensures.job))
+    (nearer (waits_at c.args.sessions.now.entries) n
+    (seen c.due_after-next.result) c.jobs.numbers.items c.args.second jobs c.by_id.ensures.rising were
+    (subst (λ due. seen c.due_after-next.result ≡ first_due_after c.args.second (due, c.in-Some.id) jobs)
+    c.due.ensures c.due_after-next.ensures.job))
 
 pub jobs-preserved : goal.jobs-preserved
 unfolding seen
 jobs-preserved g c =
     let jobs = g.M.JobMap.entries c.args.jobs.now in
     let n : ℕ × Job = (c.in-Some.id, c.in-Some.job.now) in
-    let were : AreNoted (waits_at c.args.sessions.now.entries) (Some n) c.jobs.numbers.items c.args.second jobs = subst (λ o. AreNoted (waits_at c.args.sessions.now.entries) (seen o) c.jobs.numbers.items c.args.second jobs) c.in-Some.is c.jobs.invariant in
+    let were : AreNoted (waits_at c.args.sessions.now.entries) (Some n) c.jobs.numbers.items c.args.second jobs =
+    subst (λ o. AreNoted (waits_at c.args.sessions.now.entries) (seen o) c.jobs.numbers.items c.args.second jobs)
+    c.in-Some.is c.jobs.invariant in
     let more : IsNoted (waits_at c.args.sessions.now.entries) c.in-Some.job.now.state c.jobs.numbers.items c.note_holder.new.numbers.items =
     noted-by c.args.sessions.now.entries c.in-Some.job.now.state c.jobs.numbers.items c.note_holder.new.numbers.items c.in_ok-note_holder.ensures.ok in
-    noted-next (waits_at c.args.sessions.now.entries) n (seen c.due_after-next.result) c.jobs.numbers.items c.note_holder.new.numbers.items c.args.second (2 ^ 64) jobs c.by_id.ensures.rising were more (subst (λ due. seen c.due_after-next.result ≡ first_due_after c.args.second (due, c.in-Some.id) jobs) c.due.ensures c.due_after-next.ensures.job)
+    noted-next (waits_at c.args.sessions.now.entries) n
+    (seen c.due_after-next.result) c.jobs.numbers.items c.note_holder.new.numbers.items c.args.second
+    (2 ^ 64) jobs c.by_id.ensures.rising were more
+    (subst (λ due. seen c.due_after-next.result ≡ first_due_after c.args.second (due, c.in-Some.id) jobs)
+    c.due.ensures c.due_after-next.ensures.job)
 
 pub returns-clause-ok : goal.returns-clause-ok
 unfolding seen
 returns-clause-ok g c =
-    noted-all (seen c.jobs.next) c.jobs.numbers.items c.args.second (g.M.JobMap.entries c.args.jobs.now) c.args.sessions.now.entries (ap seen c.in_default.is) c.jobs.invariant
+    noted-all (seen c.jobs.next) c.jobs.numbers.items c.args.second
+    (g.M.JobMap.entries c.args.jobs.now) c.args.sessions.now.entries (ap seen c.in_default.is) c.jobs.invariant
 
 if_err : {T E P : Type 0} (r : Result T E) → P → OnErr r P
 if_err (Ok v) h = tt
@@ -47,10 +62,13 @@ unfolding seen
 returns-in_err-note_holder-clause-err g c =
     let jobs = g.M.JobMap.entries c.args.jobs.now in
     let n : ℕ × Job = (c.in-Some.id, c.in-Some.job.now) in
-    let were : AreNoted (waits_at c.args.sessions.now.entries) (Some n) c.jobs.numbers.items c.args.second jobs = subst (λ o. AreNoted (waits_at c.args.sessions.now.entries) (seen o) c.jobs.numbers.items c.args.second jobs) c.in-Some.is c.jobs.invariant in
+    let were : AreNoted (waits_at c.args.sessions.now.entries) (Some n) c.jobs.numbers.items c.args.second jobs =
+    subst (λ o. AreNoted (waits_at c.args.sessions.now.entries) (seen o) c.jobs.numbers.items c.args.second jobs)
+    c.in-Some.is c.jobs.invariant in
     if_err c.from_residual.result (some-holder c.args.second n jobs c.args.sessions.now.entries were.due c.in_err-note_holder.ensures.err)
 
 pub returns-clause-often : goal.returns-clause-often
 unfolding seen
 returns-clause-often g c =
-    noted-often (seen c.jobs.next) c.jobs.numbers.items c.args.second (g.M.JobMap.entries c.args.jobs.now) c.args.sessions.now.entries (ap seen c.in_default.is) c.jobs.invariant
+    noted-often (seen c.jobs.next) c.jobs.numbers.items c.args.second
+    (g.M.JobMap.entries c.args.jobs.now) c.args.sessions.now.entries (ap seen c.in_default.is) c.jobs.invariant

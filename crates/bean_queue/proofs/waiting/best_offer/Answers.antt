@@ -15,7 +15,10 @@ loop-tube-preserved g c =
     let tube = c.tube-item.result in
     first-along pri_of_job (offered paused jobs sessions) c.args.tubes.now c.loop-tube.tube-index tube tube _ _ _ (search rules) c.tube-item.is
     (elim c.if-has_taker.branch [
-      | then-has_taker w ↦ ap (option_map _) w.best-is ∙ offer-taken _ c.loop-tube.best _ w.first_ready.result paused jobs sessions tube (sym c.has_taker.ensures ∙ w.if-has_taker.true) w.first_ready.ensures.job w.more_urgent-best.ensures
-      | else-has_taker w ↦ ap (option_map _) w.best-is ∙ offer-passed _ c.loop-tube.best paused jobs sessions tube (sym c.has_taker.ensures ∙ w.if-has_taker.false)
+      | then-has_taker w ↦ ap (option_map _) w.best-is ∙ offer-taken _ c.loop-tube.best _ w.first_ready.result paused
+          jobs sessions tube (sym c.has_taker.ensures ∙ w.if-has_taker.true) w.first_ready.ensures.job
+          w.more_urgent-best.ensures
+      | else-has_taker w ↦ ap (option_map _) w.best-is ∙ offer-passed _ c.loop-tube.best paused jobs sessions tube
+          (sym c.has_taker.ensures ∙ w.if-has_taker.false)
     ])
     c.loop-tube.invariant

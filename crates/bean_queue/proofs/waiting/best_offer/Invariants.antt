@@ -8,5 +8,8 @@ use Rattle.bean_queue.proofs.waiting.best_offer.Given as goal
 
 abbrev pub invariant-loop-tube : goal.invariant-loop-tube
 invariant-loop-tube g l =
-    first_of pri_of_job (option_map (λ e. (e.0, e.1.now)) l.best) (least (λ e. true) pri_of_job (filter_map (offered (keys_of l.pauses.now.pauses) (g.M.JobMap.entries l.jobs) l.sessions.now) (drop l.tube-index l.tubes))) ≡
+    first_of pri_of_job (option_map (λ e. (e.0, e.1.now)) l.best)
+    (least (λ e. true) pri_of_job (filter_map
+    (offered (keys_of l.pauses.now.pauses) (g.M.JobMap.entries l.jobs) l.sessions.now) (drop l.tube-index l.tubes)))
+    ≡
     least (λ e. true) pri_of_job (filter_map (offered (keys_of l.pauses.now.pauses) (g.M.JobMap.entries l.jobs) l.sessions.now) l.tubes)

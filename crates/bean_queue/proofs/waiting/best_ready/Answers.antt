@@ -21,10 +21,16 @@ loop-tube-preserved g c =
     elim c.if-not-is_paused.branch [
       | then-not-is_paused w ↦
           subst (λ o. IsBestSoFar (not_paused paused tubes) (not_paused paused (drop (i + 1) tubes)) jobs (option_map (λ e. (e.0, e.1.now)) o)) (sym w.best-is)
-          (best-open paused (not_paused paused tubes) (drop i tubes) (drop (i + 1) tubes) tube jobs (option_map (λ e. (e.0, e.1.now)) c.loop-tube.best) (option_map (λ e. (e.0, e.1.now)) w.first_ready-first.result) _ cut (sym c.is_paused.ensures ∙ w.if-not-is_paused.true) c.loop-tube.invariant w.first_ready-first.ensures.job w.more_urgent-best.ensures)
+          (best-open paused (not_paused paused tubes) (drop i tubes) (drop (i + 1) tubes) tube jobs
+          (option_map (λ e. (e.0, e.1.now)) c.loop-tube.best)
+          (option_map (λ e. (e.0, e.1.now)) w.first_ready-first.result) _ cut
+          (sym c.is_paused.ensures ∙ w.if-not-is_paused.true) c.loop-tube.invariant w.first_ready-first.ensures.job
+          w.more_urgent-best.ensures)
       | else-not-is_paused w ↦
           subst (λ o. IsBestSoFar (not_paused paused tubes) (not_paused paused (drop (i + 1) tubes)) jobs (option_map (λ e. (e.0, e.1.now)) o)) (sym w.best-is)
-          (best-past paused (not_paused paused tubes) (drop i tubes) (drop (i + 1) tubes) tube jobs (option_map (λ e. (e.0, e.1.now)) c.loop-tube.best) cut (sym c.is_paused.ensures ∙ w.if-not-is_paused.false) c.loop-tube.invariant)
+          (best-past paused (not_paused paused tubes) (drop i tubes) (drop (i + 1) tubes) tube jobs
+          (option_map (λ e. (e.0, e.1.now)) c.loop-tube.best) cut
+          (sym c.is_paused.ensures ∙ w.if-not-is_paused.false) c.loop-tube.invariant)
     ]
 
 pub returns : goal.returns
@@ -33,5 +39,9 @@ returns g c =
     let tubes = not_paused paused c.args.tubes.now in
     let jobs = g.M.JobMap.entries c.args.jobs.now in
     let none : drop c.loop-tube.tube-index c.args.tubes.now ≡ [] = drop_all c.loop-tube.tube-index c.args.tubes.now (search rules) in
-    let all = best-answer tubes jobs _ (subst (λ rest. IsBestSoFar tubes (not_paused paused rest) jobs (option_map (λ e. (e.0, e.1.now)) c.loop-tube.best)) none c.loop-tube.invariant) in
-    least-shown-by (ready_in tubes) pri_of_job (λ e. (e.0, e.1.now)) jobs _ _ c.loop-tube.best c.by_id.ensures.rising (best-found (λ e. (e.0, e.1.now)) tubes jobs c.loop-tube.best all) (best-missed (λ e. (e.0, e.1.now)) tubes jobs c.loop-tube.best all)
+    let all = best-answer tubes jobs _
+    (subst (λ rest. IsBestSoFar tubes (not_paused paused rest) jobs
+    (option_map (λ e. (e.0, e.1.now)) c.loop-tube.best)) none c.loop-tube.invariant) in
+    least-shown-by (ready_in tubes) pri_of_job (λ e. (e.0, e.1.now)) jobs _ _ c.loop-tube.best c.by_id.ensures.rising
+    (best-found (λ e. (e.0, e.1.now)) tubes jobs c.loop-tube.best all)
+    (best-missed (λ e. (e.0, e.1.now)) tubes jobs c.loop-tube.best all)

@@ -10,7 +10,9 @@ use Rattle.beanpax.proofs.entry.program.Goals as goal
 pub returns-in-Ok-Inspect-clause-right : goal.returns-in-Ok-Inspect-clause-right
 returns-in-Ok-Inspect-clause-right g c = λ done.
     let r = c.status_of.ensures.done done in
-    let told = subst (λ found. IfOk found (HasInspected (g.W.ByteOut.contents c.args.output.now) (g.W.ByteOut.contents c.inspect_file-found.new.output))) r.1 c.inspect_file-found.ensures.ok in
+    let told = subst (λ found. IfOk found
+    (HasInspected (g.W.ByteOut.contents c.args.output.now) (g.W.ByteOut.contents c.inspect_file-found.new.output)))
+    r.1 c.inspect_file-found.ensures.ok in
     let asked = subst (IsAskedBy (map string_bytes c.args.words.now)) c.in-Ok-Inspect.field-0-is c.in-Ok-Inspect.ensures in
     inr (inr (inr (c.in-Ok-Inspect.file.now, asked, (r.0, r.2, told), refl)))
 
@@ -19,14 +21,25 @@ returns-in-Err-clause-breaks_off g c = λ fault run.
     ([], [], Consumes-nil (g.R.ByteIn.remaining c.args.input.now), Appends-nil (g.W.ByteOut.contents c.args.output.now), nothing_begins c.front_item.ensures [])
 
 -- where the status tells of no fault, there was none
-ok_told : (r : Result Unit ProgramFault) (status : ℕ) (P : Type 0) (X : ProgramFault → Type 0) → OnOk r P → IfErr r (λ fault. (status ≡ 1) × X fault) → status ≡ 0 → P
+ok_told : (r : Result Unit ProgramFault) (status : ℕ) (P : Type 0) (X : ProgramFault → Type 0) → OnOk r P
+    → IfErr r (λ fault. (status ≡ 1) × X fault) → status ≡ 0 → P
 ok_told (Ok done) status P X ok err is = ok
 ok_told (Err fault) status P X ok err is = let told = err.0 in absurd (omega (arith, told, is))
 
 pub returns-in-Ok-Help-clause-right : goal.returns-in-Ok-Help-clause-right
 returns-in-Ok-Help-clause-right g c = λ done.
     let asked = subst (IsAskedBy (map string_bytes c.args.words.now)) c.in-Ok-Help.field-0-is c.in-Ok-Help.ensures in
-    inr (inl (asked.0, (string_bytes c.in-Ok-Help.text, asked.1, subst (Appends _ _) c.as_str.ensures.value (ok_told c.show_help-shown.result _ _ _ c.show_help-shown.ensures.ok c.status_after-in-Ok-Help.ensures.fault done)), refl))
+    inr (inl (
+      asked.0,
+      (
+        string_bytes c.in-Ok-Help.text,
+        asked.1,
+        subst (Appends _ _) c.as_str.ensures.value
+            (ok_told c.show_help-shown.result _ _ _ c.show_help-shown.ensures.ok c.status_after-in-Ok-Help.ensures.fault
+            done),
+      ),
+      refl,
+    ))
 
 pub returns-in-Ok-Wrong-clause-wrong : goal.returns-in-Ok-Wrong-clause-wrong
 returns-in-Ok-Wrong-clause-wrong g c = λ wrong.

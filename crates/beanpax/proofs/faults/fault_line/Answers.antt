@@ -2,7 +2,9 @@
 use Rattle.std.proofs.Common.{◌≡◌, ◌∙◌, refl, sym, ap, codes, arith}
 use Rattle.std.proofs.lemmas.Fmt.{decimal_digit, decimal_step}
 use Rattle.beanpax.specs.Faults.{fault_line_text}
-use Rattle.beanpax.specs.declared.faults.ProgramFault.TheVariants.{OutOfMemory, BadNumber, ReadFailed, WriteFailed, ServiceStopped, ListenFailed, FileFailed, ThreadFailed}
+use Rattle.beanpax.specs.declared.faults.ProgramFault.TheVariants.{OutOfMemory, BadNumber, ReadFailed, WriteFailed}
+use Rattle.beanpax.specs.declared.faults.ProgramFault.TheVariants.{ServiceStopped, ListenFailed, FileFailed}
+use Rattle.beanpax.specs.declared.faults.ProgramFault.TheVariants.{ThreadFailed}
 use Rattle.beanpax.proofs.faults.fault_line.Goals as goal
 
 out_of_memory : fault_line_text OutOfMemory ≡ codes "beanpax: 1 out of memory\n"

@@ -34,7 +34,8 @@ returns-in_err-simulation g c = record {
 pub returns : goal.returns
 returns g c = record {
   told = record {
-    answers = served Stands Stops Ends c.in_ok-simulation.simulation c.serve.new.service _ _ c.serve.result c.in_ok-simulation.ensures.stands c.serve.ensures.told;
+    answers = served Stands Stops Ends c.in_ok-simulation.simulation c.serve.new.service _ _ c.serve.result
+        c.in_ok-simulation.ensures.stands c.serve.ensures.told;
     breaks_off =
         served_partly Stands Stops Ends c.in_ok-simulation.simulation c.serve.new.service _ _ c.serve.result
         c.front_item.ensures c.in_ok-simulation.ensures.stands c.serve.ensures.told;

@@ -15,9 +15,16 @@ returns-in-Some c =
     let met = met_by _ words c.in-Ok.matches is_program c.in-Ok.ensures.matches in
     let found = found_of c.in-Some.run'.now in
     let rows = c.in-Some.ensures.rows in
-    let run : AskForRun words = (holds_of_errors (λ kinds. kinds ≡ []) _ _ is_program c.in-Ok.ensures.kinds, command_given-of words c.in-Ok.matches (codes "run") met (c.in-Some.ensures.found.0 refl)) in
+    let run : AskForRun words = (
+      holds_of_errors
+          (λ kinds. kinds ≡ []) _ _ is_program c.in-Ok.ensures.kinds,
+      command_given-of words c.in-Ok.matches
+          (codes "run") met (c.in-Some.ensures.found.0 refl),
+    ) in
     IfOk-weaker c.run_of.result _ _
-    (λ asked is. run_asked words run asked (run_same _ _ _ _ (text_given-of words c.in-Ok.matches found met rows) (word_given-of words c.in-Ok.matches found met rows) asked is))
+    (λ asked is. run_asked words run asked
+    (run_same _ _ _ _ (text_given-of words c.in-Ok.matches found met rows)
+    (word_given-of words c.in-Ok.matches found met rows) asked is))
     c.run_of.ensures
 
 pub returns-in-Some-subcommand_matches : goal.returns-in-Some-subcommand_matches
@@ -27,9 +34,15 @@ returns-in-Some-subcommand_matches c =
     let met = met_by _ words c.in-Ok.matches is_program c.in-Ok.ensures.matches in
     let found = found_of c.in-Some-subcommand_matches.serve.now in
     let rows = c.in-Some-subcommand_matches.ensures.rows in
-    let serve : AskFor (codes "serve") words = (holds_of_errors (λ kinds. kinds ≡ []) _ _ is_program c.in-Ok.ensures.kinds, command_given-of words c.in-Ok.matches (codes "serve") met (c.in-Some-subcommand_matches.ensures.found.0 refl)) in
+    let serve : AskFor (codes "serve") words = (
+      holds_of_errors (λ kinds. kinds ≡ []) _ _ is_program c.in-Ok.ensures.kinds,
+      command_given-of words
+          c.in-Ok.matches (codes "serve") met (c.in-Some-subcommand_matches.ensures.found.0 refl),
+    ) in
     IfOk-weaker c.serve_of.result _ _
-    (λ asked is. serve_asked words serve asked (serve_same _ _ _ _ (text_given-of words c.in-Ok.matches found met rows) (word_given-of words c.in-Ok.matches found met rows) asked is))
+    (λ asked is. serve_asked words serve asked
+    (serve_same _ _ _ _ (text_given-of words c.in-Ok.matches found met rows)
+    (word_given-of words c.in-Ok.matches found met rows) asked is))
     c.serve_of.ensures
 
 pub returns-in-Some-subcommand_matches-2 : goal.returns-in-Some-subcommand_matches-2
@@ -39,7 +52,11 @@ returns-in-Some-subcommand_matches-2 c =
     let met = met_by _ words c.in-Ok.matches is_program c.in-Ok.ensures.matches in
     let found = found_of c.in-Some-subcommand_matches-2.inspect.now in
     let rows = c.in-Some-subcommand_matches-2.ensures.rows in (
-      (holds_of_errors (λ kinds. kinds ≡ []) _ _ is_program c.in-Ok.ensures.kinds, command_given-of words c.in-Ok.matches (codes "inspect") met (c.in-Some-subcommand_matches-2.ensures.found.0 refl)),
+      (
+        holds_of_errors (λ kinds. kinds ≡ []) _ _ is_program c.in-Ok.ensures.kinds,
+        command_given-of words
+            c.in-Ok.matches (codes "inspect") met (c.in-Some-subcommand_matches-2.ensures.found.0 refl),
+      ),
       c.file_of.ensures ∙ ap (λ w. unwrap_or w []) (word_given-of words c.in-Ok.matches found met rows (codes "file")),
     )
 
@@ -53,7 +70,8 @@ unreachable-requires c =
     let words = map string_bytes c.args.words.now in
     let is_required = ap (λ (a : App). a.top.subcommand_required) is_program in
     let met : has_subcommand c.in-Ok.matches ≡ true = subcommand_required _ _ c.in-Ok.ensures.parsed c.in_ok-program_words.ensures.no_globals is_required in
-    meets_one words c.in-Ok.matches (holds_of_errors (λ kinds. kinds ≡ []) _ _ is_program c.in-Ok.ensures.kinds) (met_by _ words c.in-Ok.matches is_program c.in-Ok.ensures.matches) met
+    meets_one words c.in-Ok.matches (holds_of_errors (λ kinds. kinds ≡ []) _ _ is_program c.in-Ok.ensures.kinds)
+    (met_by _ words c.in-Ok.matches is_program c.in-Ok.ensures.matches) met
     (λ e. never (c.in_default.ensures.found.1 e)) (λ e. never (c.in_default-subcommand_matches.ensures.found.1 e)) (λ e. never (c.in-None.ensures.found.1 e))
 
 pub returns-in-DisplayHelp : goal.returns-in-DisplayHelp

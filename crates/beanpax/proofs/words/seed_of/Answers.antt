@@ -9,4 +9,6 @@ pub returns : goal.returns
 returns c =
     let fits : 2 ^ 64 - 1 < 2 ^ 64 = omega arith in
     subst (IsNumberOr 0 0 (2 ^ 64 - 1) (one_text (found_of c.args.run.now) (codes "seed"))) (sym c.unwrap_or.ensures)
-    (number_read 64 0 0 (2 ^ 64 - 1) fits _ (λ t r. ParsesUnsigned 64 10 t r × ExplainsUnsignedError 10 t r × HasUnsignedDigitsIfOk t r) (λ t r given. given.0) _ c.get_one.result c.get_one.ensures.none c.get_one.ensures.value)
+    (number_read 64 0 0 (2 ^ 64 - 1) fits _
+    (λ t r. ParsesUnsigned 64 10 t r × ExplainsUnsignedError 10 t r × HasUnsignedDigitsIfOk t r)
+    (λ t r given. given.0) _ c.get_one.result c.get_one.ensures.none c.get_one.ensures.value)

@@ -10,6 +10,8 @@ returns c = record {
   workers = c.workers_of.ensures.workers;
   some_workers = c.workers_of.ensures.some;
   few_workers = c.workers_of.ensures.few;
-  sessions = number_if_read 32 1 1000000 (omega arith) _ (λ t r. ParsesUnsigned 32 10 t r × ExplainsUnsignedError 10 t r × HasUnsignedDigitsIfOk t r) (λ t r given. given.0) _ c.get_one.result c.get_one.ensures.none c.get_one.ensures.value;
+  sessions = number_if_read 32 1 1000000 (omega arith) _
+      (λ t r. ParsesUnsigned 32 10 t r × ExplainsUnsignedError 10 t r × HasUnsignedDigitsIfOk t r)
+      (λ t r given. given.0) _ c.get_one.result c.get_one.ensures.none c.get_one.ensures.value;
   dump = c.get_str.ensures;
 }

@@ -8,12 +8,15 @@ use Rattle.chronicle.proofs.append.append_names.Goals as goal
 
 pub returns-in_err-append_word-clause-front : goal.returns-in_err-append_word-clause-front
 returns-in_err-append_word-clause-front c =
-    front_kept c.args.out.now.items (spaced (take c.loop-name.name-index c.args.names.now)) c.loop-name.out.items c.append_word.new.out.items _ _ c.args.out.now.ok.0 c.loop-name.out.ok.0 c.loop-name.invariant.told c.append_word.ensures.front
+    front_kept c.args.out.now.items
+    (spaced (take c.loop-name.name-index c.args.names.now)) c.loop-name.out.items c.append_word.new.out.items _ _
+    c.args.out.now.ok.0 c.loop-name.out.ok.0 c.loop-name.invariant.told c.append_word.ensures.front
 
 pub loop-name-preserved : goal.loop-name-preserved
 loop-name-preserved c = record {
   told = grind (arith, common_steps);
-  value = all_next IsName c.args.names.now c.loop-name.name-index c.name-item.result c.loop-name-test.true c.name-item.is c.loop-name.invariant.value c.as_slice.ensures.rule;
+  value = all_next IsName c.args.names.now c.loop-name.name-index c.name-item.result c.loop-name-test.true
+      c.name-item.is c.loop-name.invariant.value c.as_slice.ensures.rule;
 }
 
 pub returns-clause-value : goal.returns-clause-value

@@ -20,7 +20,9 @@ returns-in_default c =
 
 pub returns-in_default-2 : goal.returns-in_default-2
 returns-in_default-2 c =
-    says_nothing c.args.line.now c.in-Some.words.now (strip_suffix_is Decides-eqb c.args.line.now (10 ∷ []) (Some c.in-Some.words) (rw c.as_slice.ensures at c.in-Some.ensures.cases))
+    says_nothing c.args.line.now c.in-Some.words.now
+    (strip_suffix_is Decides-eqb c.args.line.now (10 ∷ []) (Some c.in-Some.words)
+    (rw c.as_slice.ensures at c.in-Some.ensures.cases))
     (ap entry_of_words (sym c.new.ensures) ∙ sym c.in_ok-entry.ensures ∙ c.in_default-2.is)
 
 pub returns-then-ne : goal.returns-then-ne

@@ -13,7 +13,8 @@ returns-in_default-2-clause-err c =
     let line = c.split_at.result.0.now in
     let front = c.split_at.ensures.front ∙ ap (λ (k : ℕ). take k rest) (add-one c.in-Some.end) in
     let nothing : Says line None = subst (Says line) c.in_default-2.is c.in_ok-entry.ensures in
-    stop_here c.loop-end.draft c.args.text.now rest c.loop-end.number c.loop-end.invariant (none_unread c.loop-end.draft rest line c.in-Some.end c.in-Some.ensures front nothing)
+    stop_here c.loop-end.draft c.args.text.now rest c.loop-end.number c.loop-end.invariant
+    (none_unread c.loop-end.draft rest line c.in-Some.end c.in-Some.ensures front nothing)
     (λ none w. some_rest rest c.in-Some.end c.in-Some.ensures none)
 
 pub returns-in_default-3-clause-err : goal.returns-in_default-3-clause-err
@@ -36,8 +37,11 @@ loop-end-preserved c =
     let rest = c.loop-end.rest.now in
     let line = c.split_at.result.0.now in
     let says : Says line (Some c.in-Some-2.entry) = subst (Says line) c.in-Some-2.is c.in_ok-entry.ensures in
-    let cut : rest ≡ line ++ c.split_at.result.1.now = sym (take-append-drop (c.in-Some.end + 1) rest) ∙ ap₂ (λ (a b : List ℕ). a ++ b) (sym c.split_at.ensures.front) (sym c.split_at.ensures.back) in
-    read_on c.loop-end.draft c.in-Some-3.next c.in-Some-2.entry c.args.text.now rest line c.split_at.result.1.now c.loop-end.number c.loop-end.invariant says cut (sym c.in-Some-3.is ∙ c.in_ok-next.ensures)
+    let cut : rest ≡ line ++ c.split_at.result.1.now =
+    sym (take-append-drop (c.in-Some.end + 1) rest) ∙ ap₂ (λ (a b : List ℕ). a ++ b) (sym c.split_at.ensures.front)
+    (sym c.split_at.ensures.back) in
+    read_on c.loop-end.draft c.in-Some-3.next c.in-Some-2.entry c.args.text.now rest line c.split_at.result.1.now
+    c.loop-end.number c.loop-end.invariant says cut (sym c.in-Some-3.is ∙ c.in_ok-next.ensures)
 
 pub returns-in-Whole-clause-ok : goal.returns-in-Whole-clause-ok
 returns-in-Whole-clause-ok c =

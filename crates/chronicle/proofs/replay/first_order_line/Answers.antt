@@ -8,5 +8,6 @@ returns-clause-line c =
     let h = c.args.chronicle.now in
     let s = ap length c.submitted.ensures.submitted in
     let a = ap length c.answers.ensures.answers in
-    let all : length (happenings h.submitted h.answers) ≡ length h.submitted + length h.answers = happenings_count h.submitted h.answers c.submitted.ensures.kept.timeline in
+    let all : length (happenings h.submitted h.answers) ≡ length h.submitted + length h.answers =
+    happenings_count h.submitted h.answers c.submitted.ensures.kept.timeline in
     omega arith

@@ -14,14 +14,18 @@ use Rattle.chronicle.proofs.replay.obey_order.Goals as goal
 
 pub loop-place-init : goal.loop-place-init
 loop-place-init c =
-    subst (HasObeyed c.args.chronicle.now [] c.in_ok-queue.queue) (sym c.new-given.ensures.items) (nothing_obeyed c.args.chronicle.now c.in_ok-queue.queue c.in_ok-queue.ensures.object (rw c.in_ok-queue.ensures.latest c.filter_remembers.ensures.none))
+    subst (HasObeyed c.args.chronicle.now [] c.in_ok-queue.queue) (sym c.new-given.ensures.items)
+    (nothing_obeyed c.args.chronicle.now c.in_ok-queue.queue c.in_ok-queue.ensures.object
+    (rw c.in_ok-queue.ensures.latest c.filter_remembers.ensures.none))
 
 pub returns-in_default-clause-at : goal.returns-in_default-clause-at
 returns-in_default-clause-at c =
     let h = c.args.chronicle.now in
     let place = c.loop-place.place in
     let key = get_or c.order-key-items.result.now place (record { session = 0; number = 0 }) in
-    wrong_place h place key (search rules) (search rules) c.first_order_line-first_line.result NotSubmitted c.loop-place.invariant.right c.first_order_line-first_line.ensures.line
+    wrong_place h place key (search rules)
+    (search rules) c.first_order_line-first_line.result NotSubmitted c.loop-place.invariant.right
+    c.first_order_line-first_line.ensures.line
     (no_place submitted_key key h.submitted (sym (c.requires key) ∙ sym c.in_default.ensures.value))
 
 pub bounds-submitted-first : goal.bounds-submitted-first
@@ -45,24 +49,45 @@ offset_bounds-submitted-first c =
 pub returns-in-Stale-clause-at : goal.returns-in-Stale-clause-at
 returns-in-Stale-clause-at c =
     let h = c.args.chronicle.now in
-    let laws : FilterLaws Op = record { none = c.filter_remembers.ensures.none; done = c.filter_remembers.ensures.done; stale = c.filter_remembers.ensures.stale } in
+    let laws : FilterLaws Op = record {
+      none = c.filter_remembers.ensures.none;
+      done =
+          c.filter_remembers.ensures.done;
+      stale = c.filter_remembers.ensures.stale;
+    } in
     let place = c.loop-place.place in
     let key = get_or c.order-key-items.result.now place (record { session = 0; number = 0 }) in
     let s = get_or c.submitted-submitted.result.now c.in-Some.first.now c.index-submitted-first.result in
     let first = first_at submitted_key key h.submitted c.in-Some.first.now (sym (c.requires key) ∙ sym c.in-Some.ensures.value) in
-    let read = read_first submitted_key key h.submitted c.in-Some.first.now s first (ap (get_or c.submitted-submitted.result.now c.in-Some.first.now) c.index-submitted-first.is ∙ ap (λ xs. get_or xs c.in-Some.first.now s) c.submitted-submitted.ensures.submitted) in
-    wrong_place h place key (search rules) (search rules) c.first_order_line-first_line.result NotKept c.loop-place.invariant.right c.first_order_line-first_line.ensures.line
-    (first.known, λ above. let done = c.in_ok-obey.ensures.done.1 (above_later laws h (take place h.order) c.loop-place.queue c.loop-place.given.items c.loop-place.invariant key s read.0 read.1 first.known above) in cc)
+    let read = read_first submitted_key key h.submitted c.in-Some.first.now s first
+    (ap (get_or c.submitted-submitted.result.now c.in-Some.first.now) c.index-submitted-first.is ∙ ap
+    (λ xs. get_or xs c.in-Some.first.now s) c.submitted-submitted.ensures.submitted) in
+    wrong_place h place key (search rules)
+    (search rules) c.first_order_line-first_line.result NotKept c.loop-place.invariant.right
+    c.first_order_line-first_line.ensures.line (
+      first.known,
+      λ above. let done =
+          c.in_ok-obey.ensures.done.1 (above_later laws h
+          (take place h.order) c.loop-place.queue c.loop-place.given.items c.loop-place.invariant key s read.0 read.1
+          first.known above) in cc,
+    )
 
 pub loop-place-preserved : goal.loop-place-preserved
 loop-place-preserved c =
     let h = c.args.chronicle.now in
-    let laws : FilterLaws Op = record { none = c.filter_remembers.ensures.none; done = c.filter_remembers.ensures.done; stale = c.filter_remembers.ensures.stale } in
+    let laws : FilterLaws Op = record {
+      none = c.filter_remembers.ensures.none;
+      done =
+          c.filter_remembers.ensures.done;
+      stale = c.filter_remembers.ensures.stale;
+    } in
     let place = c.loop-place.place in
     let key = get_or c.order-key-items.result.now place (record { session = 0; number = 0 }) in
     let s = get_or c.submitted-submitted.result.now c.in-Some.first.now c.index-submitted-first.result in
     let first = first_at submitted_key key h.submitted c.in-Some.first.now (sym (c.requires key) ∙ sym c.in-Some.ensures.value) in
-    let read = read_first submitted_key key h.submitted c.in-Some.first.now s first (ap (get_or c.submitted-submitted.result.now c.in-Some.first.now) c.index-submitted-first.is ∙ ap (λ xs. get_or xs c.in-Some.first.now s) c.submitted-submitted.ensures.submitted) in
+    let read = read_first submitted_key key h.submitted c.in-Some.first.now s first
+    (ap (get_or c.submitted-submitted.result.now c.in-Some.first.now) c.index-submitted-first.is ∙ ap
+    (λ xs. get_or xs c.in-Some.first.now s) c.submitted-submitted.ensures.submitted) in
     let many : length (take place h.order) ≡ place = so_many h place key (search rules) (search rules) in
     let later = c.in_ok-obey.ensures.done.0 (cc) in
     let next = one_obeyed laws h (take place h.order) c.loop-place.queue c.loop-place.given.items c.loop-place.invariant key s read.0 read.1 first.known
@@ -79,4 +104,5 @@ pub returns-clause-given : goal.returns-clause-given
 returns-clause-given c =
     let h = c.args.chronicle.now in
     let same = ap length c.order-key-items.ensures.order in
-    subst (λ done. map placed c.loop-place.given.items ≡ queue_replay (commands_of h done)) (take_all c.loop-place.place h.order (omega arith)) c.loop-place.invariant.says
+    subst (λ done. map placed c.loop-place.given.items ≡ queue_replay (commands_of h done))
+    (take_all c.loop-place.place h.order (omega arith)) c.loop-place.invariant.says

@@ -10,7 +10,9 @@ use Rattle.chronicle.proofs.writer.append_happenings.Given as goal
 -- what is written and the lines of what is left are all lines
 abbrev pub invariant-loop-submission : goal.invariant-loop-submission
 invariant-loop-submission l = record {
-  told : l.out.items ++ flat_map happening_line (happenings_from l.given (drop l.submission-index l.submitted) (drop l.given l.answers)) ≡ l.fn.out.items ++ flat_map happening_line (happenings l.submitted l.answers);
+  told : l.out.items ++ flat_map happening_line
+      (happenings_from l.given (drop l.submission-index l.submitted) (drop l.given l.answers))
+      ≡ l.fn.out.items ++ flat_map happening_line (happenings l.submitted l.answers);
   grown : (text : List ℕ) × (l.out.items ≡ l.fn.out.items ++ text);
   between : ComeBetween l.given (length l.answers) (drop l.submission-index l.submitted);
   within : l.given ≤ length l.answers;

@@ -9,7 +9,10 @@ use Rattle.chronicle.proofs.writer.append_order.Goals as goal
 
 pub returns-in_err-append_place-clause-front : goal.returns-in_err-append_place-clause-front
 returns-in_err-append_place-clause-front c =
-    front_kept c.args.out.now.items (flat_map order_line (take c.loop-key.key-index c.args.order.now)) c.loop-key.out.items c.append_place.new.out.items _ _ c.args.out.now.ok.0 c.loop-key.out.ok.0 c.loop-key.invariant.told c.append_place.ensures.front
+    front_kept c.args.out.now.items
+    (flat_map order_line (take c.loop-key.key-index c.args.order.now)) c.loop-key.out.items
+    c.append_place.new.out.items _ _ c.args.out.now.ok.0 c.loop-key.out.ok.0 c.loop-key.invariant.told
+    c.append_place.ensures.front
 
 pub loop-key-preserved : goal.loop-key-preserved
 loop-key-preserved c = record {

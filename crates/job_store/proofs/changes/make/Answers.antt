@@ -10,7 +10,9 @@ use Rattle.job_store.proofs.changes.make.Goals as goal
 pub returns-in-Some : goal.returns-in-Some
 returns-in-Some c =
     (c.get_mut.follows.holds (with_pri_and_state c.args.change.now.pri c.args.change.now.state c.in-Some.job.now)).0 ∙
-    set_value-altered c.args.change.now.id _ _ (with_pri_and_state c.args.change.now.pri c.args.change.now.state) c.in-Some.job.now _ c.args.jobs.now.entries c.requires (sym c.in-Some.ensures.value) refl
+    set_value-altered c.args.change.now.id _ _
+    (with_pri_and_state c.args.change.now.pri c.args.change.now.state) c.in-Some.job.now _ c.args.jobs.now.entries
+    c.requires (sym c.in-Some.ensures.value) refl
 
 pub returns-in_default : goal.returns-in_default
 returns-in_default c =

@@ -10,7 +10,9 @@ loop-tube-init g c = none-added _ _ _ _ _ (ap keys_of (search rules))
 pub loop-tube-preserved : goal.loop-tube-preserved
 loop-tube-preserved g c =
     let cut : keys_of c.loop-tube.tube-iterator ≡ c.in-Some.tube.now ∷ keys_of c.next.new.self = search rules in
-    one-added (λ t. has_jobs t c.args.jobs.now.jobs ≡ true) (λ t. has_jobs t c.args.jobs.now.jobs ≡ true) _ _ _ _ _ _ c.in-Some.tube.now cut c.add_filled.ensures.kept c.add_filled.ensures.only c.in_ok-add_filled.ensures.there c.loop-tube.invariant
+    one-added (λ t. has_jobs t c.args.jobs.now.jobs ≡ true)
+    (λ t. has_jobs t c.args.jobs.now.jobs ≡ true) _ _ _ _ _ _ c.in-Some.tube.now cut c.add_filled.ensures.kept
+    c.add_filled.ensures.only c.in_ok-add_filled.ensures.there c.loop-tube.invariant
 
 pub returns-in_err-add_filled-clause-kept : goal.returns-in_err-add_filled-clause-kept
 returns-in_err-add_filled-clause-kept g c = λ t i. c.add_filled.ensures.kept t (c.loop-tube.invariant.kept t i)
@@ -21,4 +23,5 @@ returns-in_err-add_filled-clause-only g c = only-then (λ t. has_jobs t c.args.j
 pub returns-clause-all : goal.returns-clause-all
 returns-clause-all g c =
     let none : c.loop-tube.tube-iterator ≡ [] = search rules in
-    λ t has i. all-added (λ t. has_jobs t c.args.jobs.now.jobs ≡ true) (λ t. has_jobs t c.args.jobs.now.jobs ≡ true) _ _ _ _ (ap keys_of none) c.loop-tube.invariant t has i
+    λ t has i. all-added (λ t. has_jobs t c.args.jobs.now.jobs ≡ true)
+    (λ t. has_jobs t c.args.jobs.now.jobs ≡ true) _ _ _ _ (ap keys_of none) c.loop-tube.invariant t has i

@@ -6,4 +6,5 @@ use Rattle.job_store.proofs.jobs.add_shelved.Given as goal
 
 abbrev pub invariant-loop-tube : goal.invariant-loop-tube
 invariant-loop-tube g l =
-    AreAdded (λ t. has_jobs t l.jobs.jobs ≡ true) (λ t. has_jobs t l.jobs.jobs ≡ true) l.initial.names.keys l.names.keys (keys_of l.tube-iterator) (keys_of l.rack.shelves.entries)
+    AreAdded (λ t. has_jobs t l.jobs.jobs ≡ true) (λ t. has_jobs t l.jobs.jobs ≡ true) l.initial.names.keys l.names.keys
+    (keys_of l.tube-iterator) (keys_of l.rack.shelves.entries)

@@ -7,4 +7,5 @@ use Rattle.job_store.proofs.name.are_name_bytes.Goals as goal
 pub returns : goal.returns
 returns c =
     name_bytes-decided c.args.bytes.now c.all.result
-    (cases_from_all _ _ _ IsNameByte (λ b. IsNameByte b → ⊥) c.all.ensures.ran (YieldsList-from_slice c.args.bytes.now cc) (λ x q k. search rules) (λ x q k. search rules))
+    (cases_from_all _ _ _ IsNameByte (λ b. IsNameByte b → ⊥) c.all.ensures.ran
+    (YieldsList-from_slice c.args.bytes.now cc) (λ x q k. search rules) (λ x q k. search rules))

@@ -11,11 +11,13 @@ returns-in_ok-insert-clause-kept c = λ t i. subst (In t) (sym c.in_ok-insert.en
 
 pub returns-in_ok-insert-clause-only : goal.returns-in_ok-insert-clause-only
 returns-in_ok-insert-clause-only c = λ t i.
-    elim (from-insert t c.in_ok-copy.field-0 c.args.names.now.keys (subst (In t) c.in_ok-insert.ensures.keys i)) as (λ v. In t c.args.names.now.keys ⊎ (t ≡ c.args.name.now)) [
+    elim (from-insert t c.in_ok-copy.field-0 c.args.names.now.keys
+    (subst (In t) c.in_ok-insert.ensures.keys i)) as (λ v. In t c.args.names.now.keys ⊎ (t ≡ c.args.name.now)) [
       | inl old ↦ inl old
       | inr same ↦ inr (same ∙ c.in_ok-copy.ensures)
     ]
 
 pub returns-in_ok-insert-clause-there : goal.returns-in_ok-insert-clause-there
 returns-in_ok-insert-clause-there c =
-    subst (In c.args.name.now) (sym c.in_ok-insert.ensures.keys) (to-insert c.args.name.now c.in_ok-copy.field-0 c.args.names.now.keys (inr (sym c.in_ok-copy.ensures)))
+    subst (In c.args.name.now) (sym c.in_ok-insert.ensures.keys)
+    (to-insert c.args.name.now c.in_ok-copy.field-0 c.args.names.now.keys (inr (sym c.in_ok-copy.ensures)))

@@ -13,8 +13,11 @@ loop-pvalue-preserved g c =
     let test : is_promise_below (get now p.slot) (Some p.ballot) ≡ c.lt.result =
     ap (λ o. is_promise_below o (Some p.ballot)) (sym c.get.ensures ∙ sym c.copied.ensures) ∙
     sym (option_below _ (λ a b. grind (arith, nat_tests)) c.copied.result p.ballot) ∙ sym c.lt.ensures in
-    let next = noted_turn c.args.pvalues.now c.loop-pvalue.pvalue-index p c.pvalue-item.is c.loop-pvalue-test.true c.args.greatest.now now c.if-lt.greatest c.loop-pvalue.invariant in
+    let next = noted_turn c.args.pvalues.now c.loop-pvalue.pvalue-index p c.pvalue-item.is c.loop-pvalue-test.true
+    c.args.greatest.now now c.if-lt.greatest c.loop-pvalue.invariant in
     elim c.if-lt.branch [
-      | then-lt+in_ok-insert w ↦ next (w.greatest-is ∙ w.in_ok-insert.ensures.ok ∙ ap (λ b. cond b (insert now p.slot p.ballot) now) (sym (test ∙ w.if-lt.true)))
+      | then-lt+in_ok-insert w ↦ next
+          (w.greatest-is ∙ w.in_ok-insert.ensures.ok ∙ ap (λ b. cond b (insert now p.slot p.ballot) now)
+          (sym (test ∙ w.if-lt.true)))
       | else-lt w ↦ next (w.greatest-is ∙ ap (λ b. cond b (insert now p.slot p.ballot) now) (sym (test ∙ w.if-lt.false)))
     ]

@@ -17,7 +17,8 @@ returns g c =
     sym (all_raised-append empty ps qs) in
     let taken : c.take_greatest-2.new.taken ≡ all_taken (all_raised empty all) empty all =
     c.in_ok-take_greatest-2.ensures ∙
-    ap (λ m. all_taken c.note_greatest-2.new.greatest m qs) (c.in_ok-take_greatest.ensures ∙ ap (λ m. all_taken c.note_greatest-2.new.greatest m ps) c.new-taken.ensures) ∙
+    ap (λ m. all_taken c.note_greatest-2.new.greatest m qs)
+    (c.in_ok-take_greatest.ensures ∙ ap (λ m. all_taken c.note_greatest-2.new.greatest m ps) c.new-taken.ensures) ∙
     sym (all_taken-append c.note_greatest-2.new.greatest empty ps qs) ∙ ap (λ m. all_taken m empty all) greatest in
     takes c.args.proposals.now c.take_open.new.taken all
     (λ s. c.in_ok-take_open.ensures s ∙ ap (λ (m : Slots g.row.C.Denot). option_or (get m s) (get c.in_ok-own.own s)) taken ∙

@@ -5,11 +5,15 @@ use Rattle.network.proofs.sorting.has_any.Goals as goal
 
 pub returns-then-letters-place : goal.returns-then-letters-place
 returns-then-letters-place g c =
-    sym (found c.args.to c.args.letters.now c.loop-place.place c.index-letters-place.result c.index-letters-place.is c.loop-place-test.true (ap (λ (l : Letter g.row.C.Denot). l.to) c.index-letters-place.is ∙ c.if-letters-place.true) c.loop-place.invariant).0
+    sym (found c.args.to c.args.letters.now c.loop-place.place c.index-letters-place.result c.index-letters-place.is
+    c.loop-place-test.true (ap (λ (l : Letter g.row.C.Denot). l.to) c.index-letters-place.is ∙
+    c.if-letters-place.true) c.loop-place.invariant).0
 
 pub loop-place-preserved : goal.loop-place-preserved
 loop-place-preserved g c =
-    one_more_not c.args.to c.args.letters.now c.loop-place.place c.index-letters-place.result c.index-letters-place.is c.loop-place-test.true (λ e. c.if-letters-place.false (sym (ap (λ (l : Letter g.row.C.Denot). l.to) c.index-letters-place.is) ∙ e)) c.loop-place.invariant
+    one_more_not c.args.to c.args.letters.now c.loop-place.place c.index-letters-place.result c.index-letters-place.is
+    c.loop-place-test.true (λ e. c.if-letters-place.false
+    (sym (ap (λ (l : Letter g.row.C.Denot). l.to) c.index-letters-place.is) ∙ e)) c.loop-place.invariant
 
 pub returns : goal.returns
 returns g c =

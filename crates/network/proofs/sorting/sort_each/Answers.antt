@@ -19,7 +19,9 @@ loop-preserved g c = record {
   post = c.sort_first.ensures.post;
   left =
       let more : suc c.loop.counter ≡ c.loop.counter + 1 = omega arith in
-      c.in_ok-sort_first.ensures.ok ∙ ap (drop 1) c.loop.invariant.left ∙ drop_one_more c.loop.counter c.args.letters.now.items ∙ ap (λ n. drop n c.args.letters.now.items) more;
+      c.in_ok-sort_first.ensures.ok ∙ ap
+      (drop 1) c.loop.invariant.left ∙ drop_one_more c.loop.counter c.args.letters.now.items ∙ ap
+      (λ n. drop n c.args.letters.now.items) more;
 }
 
 pub returns-clause-same : goal.returns-clause-same
@@ -29,4 +31,5 @@ pub returns-clause-post : goal.returns-clause-post
 returns-clause-post g c = c.loop.invariant.post
 
 pub returns-clause-ok : goal.returns-clause-ok
-returns-clause-ok g c = c.loop.invariant.left ∙ drop_all c.loop.counter c.args.letters.now.items (omega (arith, c.loop-test.false, c.len-end.ensures, c.args.letters.now.ok.0))
+returns-clause-ok g c = c.loop.invariant.left ∙ drop_all c.loop.counter c.args.letters.now.items
+    (omega (arith, c.loop-test.false, c.len-end.ensures, c.args.letters.now.ok.0))

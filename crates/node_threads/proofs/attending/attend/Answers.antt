@@ -19,5 +19,7 @@ returns-clause-ran_short g c = λ e.
 
 pub returns-clause-counted : goal.returns-clause-counted
 returns-clause-counted g c =
-    served_balance (attendance_of c.args.ticket c.args.commands.amount) (attendance_of c.serve-ended.new.service.ticket c.serve-ended.new.service.commands.amount) _ _ c.serve-ended.result
+    served_balance (attendance_of c.args.ticket c.args.commands.amount)
+    (attendance_of c.serve-ended.new.service.ticket c.serve-ended.new.service.commands.amount) _ _
+    c.serve-ended.result
     (returns-clause-told g c)

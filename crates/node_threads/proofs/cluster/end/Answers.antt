@@ -8,7 +8,9 @@ returns-clause-accounted g c = record {
   opened = search rules;
   handed_in = search rules;
   agree = λ other. elim c.if-are_its_tickets.branch [
-    | then-are_its_tickets w ↦ subst (λ l. AreItsTickets c.into_hall-hall.result.0 (all_tickets l)) c.as_slice.ensures.value (c.are_its_tickets.ensures.0 w.if-are_its_tickets.true)
+    | then-are_its_tickets w ↦ subst
+        (λ l. AreItsTickets c.into_hall-hall.result.0 (all_tickets l)) c.as_slice.ensures.value
+        (c.are_its_tickets.ensures.0 w.if-are_its_tickets.true)
     | else-are_its_tickets w ↦ absurd (other w.fault-is)
   ];
   disagree = λ bad are. elim c.if-are_its_tickets.branch [

@@ -9,7 +9,8 @@ returns-in_default g c = record {
     accounted = record {
       opened = search rules;
       handed_in = search rules;
-      agree = λ other. none_opened c.args.hall (all_tickets c.new-in_default.result.items) c.requires.none (ap (λ l. all_tickets l) c.new-in_default.ensures.items);
+      agree = λ other. none_opened c.args.hall (all_tickets c.new-in_default.result.items) c.requires.none
+          (ap (λ l. all_tickets l) c.new-in_default.ensures.items);
       disagree = search rules;
     };
     untouched = search rules;

@@ -18,7 +18,8 @@ pub loop-place-preserved : goal.loop-place-preserved
 loop-place-preserved g c =
     let ts = c.args.tickets.now in
     let t = c.index-tickets-place.result in
-    all_more (λ u. Agrees c.args.hall.now u) (take c.loop-place.place ts) (t ∷ []) _ (one_taken ts c.loop-place.place t c.loop-place-test.true c.index-tickets-place.is)
+    all_more (λ u. Agrees c.args.hall.now u) (take c.loop-place.place ts) (t ∷ []) _
+    (one_taken ts c.loop-place.place t c.loop-place-test.true c.index-tickets-place.is)
     c.loop-place.invariant (of_one (λ u. Agrees c.args.hall.now u) t (c.agrees.ensures.0 c.if-not-agrees.false))
 
 pub returns : goal.returns

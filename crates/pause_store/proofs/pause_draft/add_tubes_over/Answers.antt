@@ -13,27 +13,41 @@ loop-end-preserved-in_ok-insert c =
     let end = c.in-Some.end.now in
     let by = c.if-end-second.false in
     record {
-      grown = λ tube i. subst (In tube) (sym c.in_ok-insert.ensures.keys) (joined-keeps c.in_ok-copy.field-0 c.loop-end.tubes.keys tube (c.loop-end.invariant.grown tube i));
-      over = gathered-more c.args.earlier es c.args.ends.now.keys c.loop-end.end-iterator c.next.new.self end c.loop-end.tubes.keys c.insert.new.self.keys c.in_ok-copy.field-0 c.in-Some.ensures.steps c.in_ok-copy.ensures c.in_ok-insert.ensures.keys c.loop-end.invariant.over;
-      no_others = none-but c.args.tubes.now.keys (tubes_over c.args.second (left_at c.args.earlier es)) c.loop-end.tubes.keys c.insert.new.self.keys c.in_ok-copy.field-0 end.tube c.in_ok-insert.ensures.keys c.in_ok-copy.ensures (over-in c.args.second (end.tube, end.until) (left_at c.args.earlier es) (c.is_end.ensures.0 c.if-is_end.true) (omega (arith, by))) c.loop-end.invariant.no_others;
+      grown = λ tube i. subst (In tube) (sym c.in_ok-insert.ensures.keys)
+          (joined-keeps c.in_ok-copy.field-0 c.loop-end.tubes.keys tube (c.loop-end.invariant.grown tube i));
+      over = gathered-more c.args.earlier es c.args.ends.now.keys c.loop-end.end-iterator c.next.new.self end
+          c.loop-end.tubes.keys c.insert.new.self.keys c.in_ok-copy.field-0 c.in-Some.ensures.steps c.in_ok-copy.ensures
+          c.in_ok-insert.ensures.keys c.loop-end.invariant.over;
+      no_others = none-but c.args.tubes.now.keys
+          (tubes_over c.args.second (left_at c.args.earlier es)) c.loop-end.tubes.keys c.insert.new.self.keys
+          c.in_ok-copy.field-0 end.tube c.in_ok-insert.ensures.keys c.in_ok-copy.ensures
+          (over-in c.args.second (end.tube, end.until) (left_at c.args.earlier es) (c.is_end.ensures.0 c.if-is_end.true)
+          (omega (arith, by))) c.loop-end.invariant.no_others;
       sorted = sorted-rest c.loop-end.end-iterator c.next.new.self end c.in-Some.ensures.steps c.loop-end.invariant.sorted;
     }
 
 pub loop-end-preserved : goal.loop-end-preserved
 loop-end-preserved c = record {
   grown = c.loop-end.invariant.grown;
-  over = gathered-past c.args.earlier c.args.seconds.now.entries c.args.ends.now.keys c.loop-end.end-iterator c.next.new.self c.in-Some.end.now c.loop-end.tubes.keys c.in-Some.ensures.steps (λ i. absurd (false≢true (sym c.if-is_end.false ∙ c.is_end.ensures.1 i))) c.loop-end.invariant.over;
+  over = gathered-past c.args.earlier c.args.seconds.now.entries c.args.ends.now.keys c.loop-end.end-iterator
+      c.next.new.self c.in-Some.end.now c.loop-end.tubes.keys c.in-Some.ensures.steps
+      (λ i. absurd (false≢true (sym c.if-is_end.false ∙ c.is_end.ensures.1 i))) c.loop-end.invariant.over;
   no_others = c.loop-end.invariant.no_others;
   sorted = sorted-rest c.loop-end.end-iterator c.next.new.self c.in-Some.end.now c.in-Some.ensures.steps c.loop-end.invariant.sorted;
 }
 
 pub returns-in-None-clause-over : goal.returns-in-None-clause-over
 returns-in-None-clause-over c =
-    all-gathered c.args.earlier c.args.seconds.now.entries c.args.ends.now.keys c.args.second c.loop-end.end-iterator c.loop-end.tubes.keys c.requires.ends (none-left c.args.second c.loop-end.end-iterator c.in-None.ensures.steps.0) c.loop-end.invariant.over
+    all-gathered c.args.earlier c.args.seconds.now.entries c.args.ends.now.keys c.args.second c.loop-end.end-iterator
+    c.loop-end.tubes.keys c.requires.ends
+    (none-left c.args.second c.loop-end.end-iterator c.in-None.ensures.steps.0) c.loop-end.invariant.over
 
 pub returns-then-end-second-clause-over : goal.returns-then-end-second-clause-over
 returns-then-end-second-clause-over c =
-    all-gathered c.args.earlier c.args.seconds.now.entries c.args.ends.now.keys c.args.second c.loop-end.end-iterator c.loop-end.tubes.keys c.requires.ends (all-late c.args.second c.loop-end.end-iterator c.next.new.self c.in-Some.end.now c.in-Some.ensures.steps c.if-end-second.true c.loop-end.invariant.sorted) c.loop-end.invariant.over
+    all-gathered c.args.earlier c.args.seconds.now.entries c.args.ends.now.keys c.args.second c.loop-end.end-iterator
+    c.loop-end.tubes.keys c.requires.ends
+    (all-late c.args.second c.loop-end.end-iterator c.next.new.self c.in-Some.end.now c.in-Some.ensures.steps
+    c.if-end-second.true c.loop-end.invariant.sorted) c.loop-end.invariant.over
 
 pub returns-in_err-insert-clause-grown : goal.returns-in_err-insert-clause-grown
 returns-in_err-insert-clause-grown c = λ tube i. subst (In tube) (sym c.in_err-insert.ensures.err) (c.loop-end.invariant.grown tube i)

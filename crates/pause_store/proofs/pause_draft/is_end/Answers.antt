@@ -7,15 +7,22 @@ pub returns-then-end-second : goal.returns-then-end-second
 returns-then-end-second c =
     let over = c.if-end-second.true in (
       λ e. absurd (false≢true e),
-      λ i. let later = (in-left c.args.second (c.args.end.now.tube, c.args.end.now.until) c.args.seconds.now.entries i).1 in absurd (omega (arith, over, later)),
+      λ i. let later = (in-left c.args.second
+          (c.args.end.now.tube, c.args.end.now.until) c.args.seconds.now.entries i).1 in absurd
+          (omega (arith, over, later)),
     )
 
 pub returns-in-Some : goal.returns-in-Some
 returns-in-Some c =
     let end = c.args.end.now in
     let es = c.args.seconds.now.entries in (
-      λ e. left-in c.args.second (end.tube, end.until) es (in-lookup end.tube end.until es (sym c.in-Some.ensures.value ∙ ap Some (eqb-true c.in-Some.until.now end.until e))) c.if-end-second.false,
-      λ i. eq-eqb c.in-Some.until.now end.until (the-some c.in-Some.until.now end.until (c.in-Some.ensures.value ∙ lookup-in end.tube end.until es c.requires (in-left c.args.second (end.tube, end.until) es i).0)),
+      λ e. left-in c.args.second (end.tube, end.until) es
+          (in-lookup end.tube end.until es
+          (sym c.in-Some.ensures.value ∙ ap Some (eqb-true c.in-Some.until.now end.until e))) c.if-end-second.false,
+      λ i. eq-eqb c.in-Some.until.now end.until
+          (the-some c.in-Some.until.now end.until
+          (c.in-Some.ensures.value ∙ lookup-in end.tube end.until es c.requires
+          (in-left c.args.second (end.tube, end.until) es i).0)),
     )
 
 pub returns-in-None : goal.returns-in-None

@@ -5,6 +5,9 @@ use Rattle.pause_store.proofs.pause_step.take_steps_back.Goals as goal
 
 pub loop-step-preserved : goal.loop-step-preserved
 loop-step-preserved c = (
-  before-less c.loop-step.steps.items c.pop.new.self.items c.in-Some.step c.loop-step.seconds.entries c.take_step_back.new.seconds.entries _ (c.pop.ensures.items ∙ ap (λ o. c.pop.new.self.items ++ option_to_list o) c.in-Some.is) c.loop-step.invariant.0 c.take_step_back.ensures.seconds,
+  before-less c.loop-step.steps.items c.pop.new.self.items c.in-Some.step c.loop-step.seconds.entries
+      c.take_step_back.new.seconds.entries _
+      (c.pop.ensures.items ∙ ap (λ o. c.pop.new.self.items ++ option_to_list o) c.in-Some.is) c.loop-step.invariant.0
+      c.take_step_back.ensures.seconds,
   c.take_step_back.ensures.ordered,
 )

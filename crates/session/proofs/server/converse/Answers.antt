@@ -5,7 +5,8 @@ use Rattle.session.specs.declared.faults.End.{End}
 use Rattle.session.specs.declared.faults.SessionFault.TheVariants.{OutOfMemory, WriteFailed}
 use Rattle.session.specs.Held.{Held, StandsBefore, ComesTo, is_asked, nothing_held}
 use Rattle.session.specs.Items.{answer_text}
-use Rattle.session.proofs.Endings.{Goes, Ends, goes_as, sets_out, finds, sends, reads, answers, began, ends_looking, ends_counting, ends_writing, ends_eof, ends_quit, ends_reading, ends_answering}
+use Rattle.session.proofs.Endings.{Goes, Ends, goes_as, sets_out, finds, sends, reads, answers, began, ends_looking}
+use Rattle.session.proofs.Endings.{ends_counting, ends_writing, ends_eof, ends_quit, ends_reading, ends_answering}
 use Rattle.session.proofs.server.converse.Goals.{in-None+in_ok-read_piece-in-None+else-not-branch, in-Some-Do+in_ok-answer-in-Some-Do}
 use Rattle.session.proofs.server.converse.Goals as goal
 
@@ -13,7 +14,11 @@ pub turns-init : goal.turns-init
 turns-init g c =
     let e : c.new-session.result ≡ nothing_held = c.new-session.ensures in
     record {
-      goes = subst (λ (s : Held). Goes g.S.Service.asks c.args.service.now c.args.service.now 0 (g.R.ByteIn.remaining c.args.reader.now) (g.R.ByteIn.remaining c.args.reader.now) (g.W.ByteOut.contents c.args.writer.now) (g.W.ByteOut.contents c.args.writer.now) s.unsent (StandsBefore s)) (sym e) (sets_out g.S.Service.asks c.args.service.now (g.R.ByteIn.remaining c.args.reader.now) (g.W.ByteOut.contents c.args.writer.now));
+      goes = subst (λ (s : Held). Goes g.S.Service.asks c.args.service.now c.args.service.now 0
+          (g.R.ByteIn.remaining c.args.reader.now) (g.R.ByteIn.remaining c.args.reader.now)
+          (g.W.ByteOut.contents c.args.writer.now) (g.W.ByteOut.contents c.args.writer.now) s.unsent (StandsBefore s))
+          (sym e) (sets_out g.S.Service.asks c.args.service.now (g.R.ByteIn.remaining c.args.reader.now)
+          (g.W.ByteOut.contents c.args.writer.now));
       closed = ap (λ (s : Held). s.is_open) e;
       not_ended = refl;
       not_failed = refl;
@@ -27,7 +32,8 @@ returns-in_err-found-clause-run g c =
     let h = g.W.ByteOut.contents c.args.writer.now in
     let k = g.W.ByteOut.contents c.turns.writer in
     let fault : c.from_residual.result ≡ Err OutOfMemory = search rules in
-    ends_looking g.S.Service.asks c.args.service.now c.turns.service c.turns._turn a b h k c.turns.session c.from_residual.result fault c.in_err-found.ensures.memory c.turns.invariant.goes
+    ends_looking g.S.Service.asks c.args.service.now c.turns.service c.turns._turn a b h k c.turns.session
+    c.from_residual.result fault c.in_err-found.ensures.memory c.turns.invariant.goes
 
 pub returns-clause-run : goal.returns-clause-run
 returns-clause-run g c =
@@ -35,7 +41,8 @@ returns-clause-run g c =
     let b = g.R.ByteIn.remaining c.turns.reader in
     let h = g.W.ByteOut.contents c.args.writer.now in
     let k = g.W.ByteOut.contents c.turns.writer in
-    ends_counting g.S.Service.asks c.args.service.now c.turns.service c.turns._turn a b h k c.turns.session.unsent (StandsBefore c.turns.session) (Err OutOfMemory) refl (omega arith) c.turns.invariant.goes
+    ends_counting g.S.Service.asks c.args.service.now c.turns.service c.turns._turn a b h k c.turns.session.unsent
+    (StandsBefore c.turns.session) (Err OutOfMemory) refl (omega arith) c.turns.invariant.goes
 
 pub returns-in_err-map_err-clause-run : goal.returns-in_err-map_err-clause-run
 returns-in_err-map_err-clause-run g c =
@@ -47,7 +54,8 @@ returns-in_err-map_err-clause-run g c =
     let t = c.next_ask.new.self in
     let found = c.in_ok-found.found in
     let fault : c.from_residual-in_err-map_err.result ≡ Err WriteFailed = search rules in
-    ends_writing g.S.Service.asks c.args.service.now c.turns.service c.turns._turn a b h k l t.unsent (ComesTo found t) c.from_residual-in_err-map_err.result fault
+    ends_writing g.S.Service.asks c.args.service.now c.turns.service c.turns._turn a b h k l t.unsent
+    (ComesTo found t) c.from_residual-in_err-map_err.result fault
     (began c.send.result k l t.unsent c.send.ensures.written.ok c.send.ensures.written.err)
     (finds g.S.Service.asks c.args.service.now c.turns.service c.turns._turn a b h k c.turns.session t found c.in_ok-found.ensures.found c.turns.invariant.goes)
 
@@ -65,10 +73,12 @@ returns-in_err-read_piece-in-None-clause-run g c =
     let fault = c.in_err-read_piece-in-None.field-0.0 in
     let result : c.from_residual-in_err-read_piece-in-None.result ≡ Err fault = search rules in
     subst (Ends g.S.Service.asks c.args.service.now c.turns.service a (g.R.ByteIn.remaining c.read_piece.new.reader) h l) (sym result)
-    (ends_reading g.S.Service.asks c.args.service.now c.turns.service c.turns._turn g.R.ByteIn.remaining a h l c.turns.reader c.read_piece.new.reader t fault _ c.in_err-read_piece-in-None.ensures.err
+    (ends_reading g.S.Service.asks c.args.service.now c.turns.service c.turns._turn g.R.ByteIn.remaining a h l
+    c.turns.reader c.read_piece.new.reader t fault _ c.in_err-read_piece-in-None.ensures.err
     (subst (λ found. Goes g.S.Service.asks c.args.service.now c.turns.service c.turns._turn a b h l [] (ComesTo found t)) c.in-None.is
     (sends g.S.Service.asks c.args.service.now c.turns.service c.turns._turn a b h k l t.unsent (ComesTo found t) sent
-    (finds g.S.Service.asks c.args.service.now c.turns.service c.turns._turn a b h k c.turns.session t found c.in_ok-found.ensures.found c.turns.invariant.goes))))
+    (finds g.S.Service.asks c.args.service.now c.turns.service c.turns._turn a b h k c.turns.session t found
+    c.in_ok-found.ensures.found c.turns.invariant.goes))))
 
 pub returns-then-not-branch-clause-run : goal.returns-then-not-branch-clause-run
 returns-then-not-branch-clause-run g c =
@@ -84,7 +94,8 @@ returns-then-not-branch-clause-run g c =
     ends_eof g.S.Service.asks c.args.service.now c.turns.service c.turns._turn a b (g.R.ByteIn.remaining c.read_piece.new.reader) h l t (Ok End.Eof) refl read
     (subst (λ found. Goes g.S.Service.asks c.args.service.now c.turns.service c.turns._turn a b h l [] (ComesTo found t)) c.in-None.is
     (sends g.S.Service.asks c.args.service.now c.turns.service c.turns._turn a b h k l t.unsent (ComesTo found t) sent
-    (finds g.S.Service.asks c.args.service.now c.turns.service c.turns._turn a b h k c.turns.session t found c.in_ok-found.ensures.found c.turns.invariant.goes)))
+    (finds g.S.Service.asks c.args.service.now c.turns.service c.turns._turn a b h k c.turns.session t found
+    c.in_ok-found.ensures.found c.turns.invariant.goes)))
 
 pub returns-in-Some-Quit-clause-run : goal.returns-in-Some-Quit-clause-run
 returns-in-Some-Quit-clause-run g c =
@@ -100,7 +111,8 @@ returns-in-Some-Quit-clause-run g c =
     ends_quit g.S.Service.asks c.args.service.now c.turns.service c.turns._turn a b h l t
     (subst (λ found. Goes g.S.Service.asks c.args.service.now c.turns.service c.turns._turn a b h l [] (ComesTo found t)) quits
     (sends g.S.Service.asks c.args.service.now c.turns.service c.turns._turn a b h k l t.unsent (ComesTo found t) sent
-    (finds g.S.Service.asks c.args.service.now c.turns.service c.turns._turn a b h k c.turns.session t found c.in_ok-found.ensures.found c.turns.invariant.goes)))
+    (finds g.S.Service.asks c.args.service.now c.turns.service c.turns._turn a b h k c.turns.session t found
+    c.in_ok-found.ensures.found c.turns.invariant.goes)))
 
 pub returns-in_err-answer-in-Some-Do-clause-run : goal.returns-in_err-answer-in-Some-Do-clause-run
 returns-in_err-answer-in-Some-Do-clause-run g c =
@@ -117,10 +129,12 @@ returns-in_err-answer-in-Some-Do-clause-run g c =
     let fault = c.in_err-answer-in-Some-Do.field-0.0 in
     let result : c.from_residual-in_err-answer-in-Some-Do.result ≡ Err fault = search rules in
     subst (Ends g.S.Service.asks c.args.service.now c.answer.new.service a b h l) (sym result)
-    (ends_answering g.S.Service.asks c.args.service.now c.turns.service c.answer.new.service c.turns._turn a b h l t op fault c.in_err-answer-in-Some-Do.ensures.err
+    (ends_answering g.S.Service.asks c.args.service.now c.turns.service c.answer.new.service c.turns._turn a b h l t op
+    fault c.in_err-answer-in-Some-Do.ensures.err
     (subst (λ found. Goes g.S.Service.asks c.args.service.now c.turns.service c.turns._turn a b h l [] (ComesTo found t)) asks
     (sends g.S.Service.asks c.args.service.now c.turns.service c.turns._turn a b h k l t.unsent (ComesTo found t) sent
-    (finds g.S.Service.asks c.args.service.now c.turns.service c.turns._turn a b h k c.turns.session t found c.in_ok-found.ensures.found c.turns.invariant.goes))))
+    (finds g.S.Service.asks c.args.service.now c.turns.service c.turns._turn a b h k c.turns.session t found
+    c.in_ok-found.ensures.found c.turns.invariant.goes))))
 
 pub turns-preserved : goal.turns-preserved
 turns-preserved g c =
@@ -138,16 +152,22 @@ turns-preserved g c =
     let no_write_failed = stays ∙ c.turns.invariant.no_write_failed in
     let going : Goes g.S.Service.asks c.args.service.now c.turns.service c.turns._turn a b h l [] (ComesTo found t) =
     sends g.S.Service.asks c.args.service.now c.turns.service c.turns._turn a b h k l t.unsent (ComesTo found t) sent
-    (finds g.S.Service.asks c.args.service.now c.turns.service c.turns._turn a b h k c.turns.session t found c.in_ok-found.ensures.found c.turns.invariant.goes) in
+    (finds g.S.Service.asks c.args.service.now c.turns.service c.turns._turn a b h k c.turns.session t found
+    c.in_ok-found.ensures.found c.turns.invariant.goes) in
     elim c.match-found-4.branch [
       | in-None+in_ok-read_piece-in-None+else-not-branch w ↦
           let m = g.R.ByteIn.remaining w.read_piece.new.reader in
           let s = w.read_piece.new.session in
           let some : w.in_ok-read_piece-in-None.field-0 ≡ true = search rules in
           let fed = w.in_ok-read_piece-in-None.ensures.fed some in
-          let stands : (text : List ℕ) → StandsBefore t text → StandsBefore s (text ++ fed.0) = subst (λ (u : Held). (text : List ℕ) → StandsBefore u text → StandsBefore s (text ++ fed.0)) cleared fed.6 in
+          let stands : (text : List ℕ) → StandsBefore t text → StandsBefore s (text ++ fed.0) =
+          subst (λ (u : Held). (text : List ℕ) → StandsBefore u text → StandsBefore s (text ++ fed.0)) cleared fed.6
+          in
           record {
-            goes = goes_as g.S.Service.asks c.args.service.now c.turns.service c.match-found-4.service (c.turns._turn + 1) a m (g.R.ByteIn.remaining c.match-found-4.reader) h l [] s c.match-found-4.session w.service-is (ap g.R.ByteIn.remaining w.reader-is) w.session-is (fed.4 ∙ ap (λ (u : Held). u.unsent) cleared)
+            goes = goes_as g.S.Service.asks c.args.service.now c.turns.service c.match-found-4.service
+                (c.turns._turn + 1) a m (g.R.ByteIn.remaining c.match-found-4.reader) h l
+                [] s c.match-found-4.session w.service-is (ap g.R.ByteIn.remaining w.reader-is) w.session-is
+                (fed.4 ∙ ap (λ (u : Held). u.unsent) cleared)
                 (reads g.S.Service.asks c.args.service.now c.turns.service c.turns._turn a b m h l fed.0 t s fed.1 fed.3 stands
                 (subst (λ found. Goes g.S.Service.asks c.args.service.now c.turns.service c.turns._turn a b h l [] (ComesTo found t)) w.in-None.is going));
             closed = ap (λ (u : Held). u.is_open) w.session-is ∙ (fed.5 ∙ (ap (λ (u : Held). u.is_open) cleared ∙ (closed ∙ ap is_asked w.in-None.is)));
@@ -162,7 +182,10 @@ turns-preserved g c =
           let s : Held = record t { unsent = answer_text given.0; is_open = false; sent_len = 0 } in
           let after : w.answer.new.session ≡ s = given.2 ∙ ap (λ (u : Held). record u { unsent = u.unsent ++ answer_text given.0; is_open = false }) cleared in
           record {
-            goes = goes_as g.S.Service.asks c.args.service.now w.answer.new.service c.match-found-4.service (c.turns._turn + 1) a b (g.R.ByteIn.remaining c.match-found-4.reader) h l (answer_text given.0) s c.match-found-4.session w.service-is (ap g.R.ByteIn.remaining w.reader-is) (w.session-is ∙ after) refl
+            goes = goes_as g.S.Service.asks c.args.service.now w.answer.new.service c.match-found-4.service
+                (c.turns._turn + 1) a b (g.R.ByteIn.remaining c.match-found-4.reader) h l
+                (answer_text given.0) s c.match-found-4.session w.service-is (ap g.R.ByteIn.remaining w.reader-is)
+                (w.session-is ∙ after) refl
                 (answers g.S.Service.asks c.args.service.now c.turns.service w.answer.new.service c.turns._turn a b h l t op given.0 given.1
                 (subst (λ found. Goes g.S.Service.asks c.args.service.now c.turns.service c.turns._turn a b h l [] (ComesTo found t)) asks going));
             closed = ap (λ (u : Held). u.is_open) (w.session-is ∙ after);

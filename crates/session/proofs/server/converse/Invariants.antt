@@ -6,7 +6,9 @@ use Rattle.session.proofs.server.converse.Given as goal
 
 abbrev pub invariant-turns : goal.invariant-turns
 invariant-turns g l = record {
-  goes : Goes g.S.Service.asks l.initial.service l.service l._turn (g.R.ByteIn.remaining l.initial.reader) (g.R.ByteIn.remaining l.reader) (g.W.ByteOut.contents l.initial.writer) (g.W.ByteOut.contents l.writer) l.session.unsent (StandsBefore l.session);
+  goes : Goes g.S.Service.asks l.initial.service l.service l._turn (g.R.ByteIn.remaining l.initial.reader)
+      (g.R.ByteIn.remaining l.reader) (g.W.ByteOut.contents l.initial.writer)
+      (g.W.ByteOut.contents l.writer) l.session.unsent (StandsBefore l.session);
   closed : l.session.is_open ≡ false;
   not_ended : g.R.ByteIn.has_ended l.reader ≡ g.R.ByteIn.has_ended l.initial.reader;
   not_failed : g.R.ByteIn.has_failed l.reader ≡ g.R.ByteIn.has_failed l.initial.reader;

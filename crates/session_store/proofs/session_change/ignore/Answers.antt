@@ -9,5 +9,7 @@ returns-clause-sessions c =
     let found = c.in-Some.found.now in
     let left : SessionState = record found { watched = c.remove.new.self } in
     (c.get_mut.follows.holds left).0 ∙
-    set_value-altered c.args.session 0 _ (λ (s : SessionState). record s { watched = left_out c.args.name.now s.watched }) found left c.args.sessions.now.entries c.requires.rising (sym c.in-Some.ensures.value)
+    set_value-altered c.args.session 0 _
+    (λ (s : SessionState). record s { watched = left_out c.args.name.now s.watched }) found left
+    c.args.sessions.now.entries c.requires.rising (sym c.in-Some.ensures.value)
     (ap (λ names. let s : SessionState = record found { watched = names } in s) c.remove.ensures)

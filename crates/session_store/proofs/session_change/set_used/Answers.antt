@@ -11,7 +11,9 @@ returns-in-Some c =
     let left : SessionState = record found { used = c.replace.new.dest } in
     let name : c.replace.new.dest ≡ c.args.name = search rules in
     (c.get_mut.follows.holds left).0 ∙
-    set_value-altered c.args.session 0 _ (λ (s : SessionState). record s { used = c.args.name }) found left c.args.sessions.now.entries c.requires (sym c.in-Some.ensures.value)
+    set_value-altered c.args.session 0 _
+    (λ (s : SessionState). record s { used = c.args.name }) found left c.args.sessions.now.entries c.requires
+    (sym c.in-Some.ensures.value)
     (ap (λ tube. let s : SessionState = record found { used = tube } in s) name)
 
 pub returns-in-None : goal.returns-in-None

@@ -19,5 +19,7 @@ returns-clause-ok c =
     let found = c.in-Some.found.now in
     let left : SessionState = record found { watched = c.insert.new.self } in
     (c.get_mut.follows.holds left).0 ∙
-    set_value-altered c.args.session 0 _ (λ (s : SessionState). record s { watched = joined c.args.name s.watched }) found left c.args.sessions.now.entries c.requires.rising (sym c.in-Some.ensures.value)
+    set_value-altered c.args.session 0 _
+    (λ (s : SessionState). record s { watched = joined c.args.name s.watched }) found left
+    c.args.sessions.now.entries c.requires.rising (sym c.in-Some.ensures.value)
     (ap (λ names. let s : SessionState = record found { watched = names } in s) c.in_ok-insert-in-Some.ensures.ok)

@@ -22,11 +22,14 @@ returns-in-Some-clause-complete c =
     λ h.
     c.strike_all.ensures
     (c.strike.ensures
-    (c.leave.ensures (each-without (StandsIn c.args.lines.now) c.args.session c.args.sessions.now.entries c.remove.new.self.entries (c.remove.ensures.entries ∙ remove_entry-without _ _ _ _ c.requires) h)))
+    (c.leave.ensures (each-without
+    (StandsIn c.args.lines.now) c.args.session c.args.sessions.now.entries c.remove.new.self.entries
+    (c.remove.ensures.entries ∙ remove_entry-without _ _ _ _ c.requires) h)))
 
 pub returns-in_default-clause-sessions : goal.returns-in_default-clause-sessions
 returns-in_default-clause-sessions c = c.remove.ensures.entries ∙ remove_entry-without _ _ _ _ c.requires
 
 pub returns-in_default-clause-complete : goal.returns-in_default-clause-complete
 returns-in_default-clause-complete c =
-    each-without (StandsIn c.args.lines.now) c.args.session c.args.sessions.now.entries c.remove.new.self.entries (c.remove.ensures.entries ∙ remove_entry-without _ _ _ _ c.requires)
+    each-without (StandsIn c.args.lines.now) c.args.session c.args.sessions.now.entries c.remove.new.self.entries
+    (c.remove.ensures.entries ∙ remove_entry-without _ _ _ _ c.requires)

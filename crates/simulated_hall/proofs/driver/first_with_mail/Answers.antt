@@ -5,12 +5,20 @@ use Rattle.simulated_hall.proofs.driver.first_with_mail.Goals as goal
 
 pub loop-before-preserved : goal.loop-before-preserved
 loop-before-preserved g c =
-    none_next c.args.hall.now.nodes.network.members (λ n. has_mail c.args.hall.now.nodes.network n) c.loop-before.before c.loop-before.invariant (sym c.work.ensures.mail ∙ c.if-work.false)
+    none_next c.args.hall.now.nodes.network.members
+    (λ n. has_mail c.args.hall.now.nodes.network n) c.loop-before.before c.loop-before.invariant
+    (sym c.work.ensures.mail ∙ c.if-work.false)
 
 pub returns-then-work : goal.returns-then-work
 returns-then-work g c =
-    passes_first c.args.hall.now.nodes.network.members (λ n. has_mail c.args.hall.now.nodes.network n) c.loop-before.before c.loop-before.invariant (sym c.work.ensures.mail ∙ c.if-work.true)
+    passes_first c.args.hall.now.nodes.network.members
+    (λ n. has_mail c.args.hall.now.nodes.network n) c.loop-before.before c.loop-before.invariant
+    (sym c.work.ensures.mail ∙ c.if-work.true)
 
 pub returns : goal.returns
 returns g c =
-    passes_none c.args.hall.now.nodes.network.members (λ n. has_mail c.args.hall.now.nodes.network n) c.loop-before.before (subst (λ n. n ≤ c.loop-before.before) (c.count-before-end.ensures.count ∙ ap length c.members.ensures) c.loop-before-test.false) c.loop-before.invariant
+    passes_none c.args.hall.now.nodes.network.members
+    (λ n. has_mail c.args.hall.now.nodes.network n) c.loop-before.before
+    (subst (λ n. n ≤ c.loop-before.before)
+    (c.count-before-end.ensures.count ∙ ap length c.members.ensures) c.loop-before-test.false)
+    c.loop-before.invariant

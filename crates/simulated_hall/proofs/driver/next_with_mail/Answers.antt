@@ -12,6 +12,8 @@ returns g c =
     let first = c.in_ok-first.ensures in (
       c.heaviest_with_mail.ensures.member,
       c.heaviest_with_mail.ensures.mail,
-      λ mail. absurd (true≢false (sym mail ∙ first.2 1 (subst (λ ms. is_member ms 1 ≡ true) c.members.ensures c.home_is_member.ensures) (after_first c.args.hall.now.nodes.network.members c.in_ok-first.first first.0 c.if-first-eq-HOME.false))),
+      λ mail. absurd (true≢false (sym mail ∙ first.2 1
+          (subst (λ ms. is_member ms 1 ≡ true) c.members.ensures c.home_is_member.ensures)
+          (after_first c.args.hall.now.nodes.network.members c.in_ok-first.first first.0 c.if-first-eq-HOME.false))),
       λ other m is mail. c.heaviest_with_mail.ensures.heaviest m is mail,
     )

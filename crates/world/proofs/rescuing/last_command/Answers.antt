@@ -17,10 +17,18 @@ stands_at : {A : Type 0} (xs : List A) (i : ℕ) (x : A) → i < length xs → x
 stands_at xs i x within at = In-get xs i x (slice_get-get_or xs i x within ∙ ap (λ y. Some y) (sym at))
 
 pub returns-then-eq-clause-was : goal.returns-then-eq-clause-was
-returns-then-eq-clause-was g c = (c.submission-item.result, stands_at c.args.submitted.now c.loop-submission.submission-index c.submission-item.result c.loop-submission-test.true c.submission-item.is, refl)
+returns-then-eq-clause-was g c = (
+  c.submission-item.result,
+  stands_at c.args.submitted.now c.loop-submission.submission-index
+      c.submission-item.result c.loop-submission-test.true c.submission-item.is,
+  refl,
+)
 
 pub returns-then-eq-clause-last : goal.returns-then-eq-clause-last
 returns-then-eq-clause-last g c =
     is_last c.args.key c.args.submitted.now
-    (subst (λ k. is_submitted k c.args.submitted.now ≡ true) (same_is c.submission-item.result.command.key c.args.key (subst (λ k. same_key k c.args.key ≡ true) c.key.ensures.key (sym c.eq.ensures ∙ c.if-eq.true))) (key_submitted c.submission-item.result.command c.args.submitted.now (returns-then-eq-clause-was g c)))
+    (subst (λ k. is_submitted k c.args.submitted.now ≡ true)
+    (same_is c.submission-item.result.command.key c.args.key
+    (subst (λ k. same_key k c.args.key ≡ true) c.key.ensures.key (sym c.eq.ensures ∙ c.if-eq.true)))
+    (key_submitted c.submission-item.result.command c.args.submitted.now (returns-then-eq-clause-was g c)))
     (sym c.has_greater.ensures ∙ c.if-has_greater.false)

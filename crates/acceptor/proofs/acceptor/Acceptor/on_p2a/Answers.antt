@@ -12,7 +12,9 @@ use Rattle.acceptor.proofs.acceptor.Acceptor.on_p2a.Goals as goal
 pub returns-then-ne-clause-state : goal.returns-then-ne-clause-state
 returns-then-ne-clause-state g c =
     kept_refused c.args.self.now c.args.pvalue
-    (ap (λ (a : Acceptances _). is_promise a.promised c.args.pvalue.ballot) (sym c.self.view_is) ∙ is_promised c.self.inside.promised c.args.pvalue.ballot c.ne.result c.ne.ensures ∙ ap not c.if-ne.true)
+    (ap (λ (a : Acceptances _). is_promise a.promised c.args.pvalue.ballot)
+    (sym c.self.view_is) ∙ is_promised c.self.inside.promised c.args.pvalue.ballot c.ne.result c.ne.ensures ∙ ap not
+    c.if-ne.true)
 
 pub returns-then-is_higher-clause-state : goal.returns-then-is_higher-clause-state
 returns-then-is_higher-clause-state g c =
@@ -20,9 +22,12 @@ returns-then-is_higher-clause-state g c =
     let p = c.args.pvalue in
     let own : c.args.self.now.accepted ≡ map pvalue_of (entries m) = ap (λ (a : Acceptances _). a.accepted) (sym c.self.view_is) in
     kept_report c.args.self.now c.args.self.now p (map pvalue_of (entries m)) (map pvalue_of (entries m))
-    (ap (λ (a : Acceptances _). is_promise a.promised p.ballot) (sym c.self.view_is) ∙ is_promised c.self.inside.promised p.ballot c.ne.result c.ne.ensures ∙ ap not c.if-ne.false)
+    (ap (λ (a : Acceptances _). is_promise a.promised p.ballot)
+    (sym c.self.view_is) ∙ is_promised c.self.inside.promised p.ballot c.ne.result c.ne.ensures ∙ ap not
+    c.if-ne.false)
     own refl own
-    (report_of_lower m p.slot (record { ballot = p.ballot; value = p.value }) (ap (λ o. is_higher o p.ballot) (sym c.get.ensures) ∙ sym c.is_higher.ensures ∙ c.if-is_higher.true))
+    (report_of_lower m p.slot (record { ballot = p.ballot; value = p.value })
+    (ap (λ o. is_higher o p.ballot) (sym c.get.ensures) ∙ sym c.is_higher.ensures ∙ c.if-is_higher.true))
 
 pub returns-clause-state : goal.returns-clause-state
 returns-clause-state g c =
@@ -30,7 +35,9 @@ returns-clause-state g c =
     let p = c.args.pvalue in
     let x : Accepted g.row.C.Denot = record { ballot = p.ballot; value = p.value } in
     kept_report c.args.self.now _ p (map pvalue_of (entries m)) (map pvalue_of (entries c.insert.new.self))
-    (ap (λ (a : Acceptances _). is_promise a.promised p.ballot) (sym c.self.view_is) ∙ is_promised c.self.inside.promised p.ballot c.ne.result c.ne.ensures ∙ ap not c.if-ne.false)
+    (ap (λ (a : Acceptances _). is_promise a.promised p.ballot)
+    (sym c.self.view_is) ∙ is_promised c.self.inside.promised p.ballot c.ne.result c.ne.ensures ∙ ap not
+    c.if-ne.false)
     (ap (λ (a : Acceptances _). a.accepted) (sym c.self.view_is))
     (ap (λ (a : Acceptances _). a.promised) c.self.view_is)
     refl

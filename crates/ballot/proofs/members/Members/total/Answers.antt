@@ -9,7 +9,8 @@ overflow_add-total c =
     let is = c.weights-weight-items.ensures.weights in
     let m : IsMembers c.weights-weight-items.result.now = subst IsMembers (sym is) c.weights-weight-items.ensures.members in
     let few = sum-few c.weights-weight-items.result.now c.loop-weight.weight-index c.loop-weight-test.true m in
-    let so : c.loop-weight.total ≡ sum (take c.loop-weight.weight-index c.weights-weight-items.result.now) = c.loop-weight.invariant ∙ ap (λ ws. sum (take c.loop-weight.weight-index ws)) (sym is) in
+    let so : c.loop-weight.total ≡ sum (take c.loop-weight.weight-index c.weights-weight-items.result.now) =
+    c.loop-weight.invariant ∙ ap (λ ws. sum (take c.loop-weight.weight-index ws)) (sym is) in
     omega arith
 
 pub loop-weight-preserved : goal.loop-weight-preserved
@@ -23,4 +24,6 @@ loop-weight-preserved c =
 pub returns : goal.returns
 returns c =
     let is = c.weights-weight-items.ensures.weights in
-    c.loop-weight.invariant ∙ ap sum (take_all c.loop-weight.weight-index c.args.self.now (subst (λ ws. length ws ≤ c.loop-weight.weight-index) is c.loop-weight-test.false))
+    c.loop-weight.invariant ∙ ap sum
+    (take_all c.loop-weight.weight-index c.args.self.now
+    (subst (λ ws. length ws ≤ c.loop-weight.weight-index) is c.loop-weight-test.false))

@@ -11,7 +11,8 @@ overflow_add-weight c =
     let i = c.loop-place.place in
     let m : IsMembers c.weights-weights.result.now = subst IsMembers (sym is) c.weights-weights.ensures.members in
     let few = weigh-few c.weights-weights.result.now c.args.set.now i c.loop-place-test.true m in
-    let so : c.loop-place.weight ≡ weigh (take i c.weights-weights.result.now) c.args.set.now = c.loop-place.invariant ∙ ap (λ ws. weigh (take i ws) c.args.set.now) (sym is) in
+    let so : c.loop-place.weight ≡ weigh (take i c.weights-weights.result.now) c.args.set.now =
+    c.loop-place.invariant ∙ ap (λ ws. weigh (take i ws) c.args.set.now) (sym is) in
     omega arith
 
 pub loop-place-preserved : goal.loop-place-preserved

@@ -26,6 +26,7 @@ returns g c =
           (λ none. ap (λ (m : BTreeMap ℕ g.row.X.Denot). from_sorted {R = nat_cmp} m.entries) c.get_mut.follows.holds-at-none ∙ c.self.view_is),
       record {
         writes_back = tt;
-        value = c.get_mut.ensures.value ∙ sym (get_view entries c.self.invariant c.args.slot) ∙ ap (λ (m : Slots g.row.X.Denot). get m c.args.slot) c.self.view_is;
+        value = c.get_mut.ensures.value ∙ sym (get_view entries c.self.invariant c.args.slot) ∙ ap
+            (λ (m : Slots g.row.X.Denot). get m c.args.slot) c.self.view_is;
       },
     )

@@ -14,6 +14,7 @@ returns-clause-value g c =
 
 pub returns-clause-rest : goal.returns-clause-rest
 returns-clause-rest g c =
-    remove_view c.self.inside.entries.entries c.remove.new.self.entries c.self.invariant (sorted_from c.remove.new.self.entries c.remove.ensures.ordered) c.args.slot
+    remove_view c.self.inside.entries.entries c.remove.new.self.entries c.self.invariant
+    (sorted_from c.remove.new.self.entries c.remove.ensures.ordered) c.args.slot
     (λ q. c.remove.ensures.updates.0 q) ∙
     ap (λ (m : Slots g.row.X.Denot). remove m c.args.slot) c.self.view_is

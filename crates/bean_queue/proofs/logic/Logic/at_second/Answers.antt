@@ -14,4 +14,5 @@ returns-clause-woken g c =
 
 pub returns-clause-over : goal.returns-clause-over
 returns-clause-over g c =
-    subst (λ (d : Draft QueueState). (tube : List ℕ) → In tube (tubes_over c.args.second d.now.pauses) → In tube c.add_over.new.tubes.keys) c.self.view_is c.in_ok-add_over.ensures.over
+    subst (λ (d : Draft QueueState). (tube : List ℕ) → In tube (tubes_over c.args.second d.now.pauses)
+    → In tube c.add_over.new.tubes.keys) c.self.view_is c.in_ok-add_over.ensures.over

@@ -8,7 +8,8 @@ quiet_row-requires-clause-there g c = called-there c.args.self.now.now c.call.ne
 pub returns-clause-state : goal.returns-clause-state
 returns-clause-state g c =
     on_ok_weaker c.quiet_row.result
-    (quiet-state c.args.op.now c.args.key c.args.self.now.now c.call.new.self.now c.quiet_row.new.self.now c.requires.quiet c.requires.calm c.in_ok-call.ensures.now)
+    (quiet-state c.args.op.now c.args.key c.args.self.now.now c.call.new.self.now c.quiet_row.new.self.now
+    c.requires.quiet c.requires.calm c.in_ok-call.ensures.now)
     c.quiet_row.ensures.state
 
 pub returns-clause-reply : goal.returns-clause-reply

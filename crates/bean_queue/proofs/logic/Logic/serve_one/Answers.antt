@@ -35,9 +35,13 @@ returns-clause-turn g c =
     let w : ℕ × SessionState = (c.in-Some-first_watcher.session, c.in-Some-first_watcher.watcher.now) in
     let next : next_job s ≡ Some j = ap (λ (d : Draft QueueState). next_job d.now) c.self.view_is ∙ sym c.in-Some.ensures in
     let first : first_waiting (λ e. is_among j.1.tube e.1.watched) s.sessions ≡ Some w = sym c.in-Some-first_watcher.ensures in
-    subst (λ (d : Draft QueueState). IsTurn serve_turn d.now (state_of c.self.inside.counters c.set_state.new.self.now c.set_wait.new.self.now c.self.inside.pauses.now.pauses) c.args.answers.now.items c.push.new.self.items true) c.self.view_is
+    subst (λ (d : Draft QueueState). IsTurn serve_turn d.now
+    (state_of c.self.inside.counters c.set_state.new.self.now c.set_wait.new.self.now
+    c.self.inside.pauses.now.pauses) c.args.answers.now.items c.push.new.self.items true) c.self.view_is
     (served s j w c.set_state.new.self.now c.set_wait.new.self.now c.args.answers.now.items c.push.new.self.items next first
     (c.in_ok-set_state.ensures.now ∙ ap (λ ttr. altered j.0 (with_state (State.Reserved w.0 (s.now + ttr))) s.jobs) c.from.ensures)
     c.in_ok-set_wait.ensures.now
     (c.in_ok-push.ensures.items ∙
-    ap₂ (λ number body. let a : Answer Reply = record { to = record { session = w.0; number = number }; reply = Reply.Reserved j.0 body } in c.args.answers.now.items ++ a ∷ []) c.wait_number.ensures c.in_ok-body.ensures))
+    ap₂ (λ number body. let a : Answer Reply =
+    record { to = record { session = w.0; number = number }; reply = Reply.Reserved j.0 body }
+    in c.args.answers.now.items ++ a ∷ []) c.wait_number.ensures c.in_ok-body.ensures))

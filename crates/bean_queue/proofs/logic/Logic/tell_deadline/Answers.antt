@@ -34,7 +34,11 @@ returns-clause-turn g c =
     let w : ℕ × SessionState = (c.in-Some.session, c.in-Some.holder.now) in
     let first : first_waiting (λ e. holds_by e.0 (s.now + 1) s.jobs) s.sessions ≡ Some w =
     ap₂ (λ jobs. first_waiting (λ e. holds_by e.0 (s.now + 1) jobs)) (sym c.map.ensures.jobs) (sym c.map-2.ensures.sessions) ∙ sym c.in-Some.ensures in
-    subst (λ (d : Draft QueueState). IsTurn deadline_turn d.now (state_of c.self.inside.counters c.self.inside.jobs.now c.set_wait.new.self.now c.self.inside.pauses.now.pauses) c.args.answers.now.items c.push.new.self.items true) c.self.view_is
+    subst (λ (d : Draft QueueState). IsTurn deadline_turn d.now
+    (state_of c.self.inside.counters c.self.inside.jobs.now c.set_wait.new.self.now c.self.inside.pauses.now.pauses)
+    c.args.answers.now.items c.push.new.self.items true) c.self.view_is
     (told_deadline s w c.set_wait.new.self.now c.args.answers.now.items c.push.new.self.items first c.in_ok-set_wait.ensures.now
     (c.in_ok-push.ensures.items ∙
-    ap (λ number. let a : Answer Reply = record { to = record { session = w.0; number = number }; reply = Reply.DeadlineSoon } in c.args.answers.now.items ++ a ∷ []) c.wait_number.ensures))
+    ap (λ number. let a : Answer Reply =
+    record { to = record { session = w.0; number = number }; reply = Reply.DeadlineSoon }
+    in c.args.answers.now.items ++ a ∷ []) c.wait_number.ensures))

@@ -39,8 +39,10 @@ turns-preserved g c =
 
 pub returns-clause-state : goal.returns-clause-state
 returns-clause-state g c =
-    (no_turn deadline_turn tells_deadline _ _ _ _ c.in_ok-tell_deadline.field-0 c.if-branch.false c.in_ok-tell_deadline.ensures.turn).state ∙ c.turns.invariant.state
+    (no_turn deadline_turn tells_deadline _ _ _ _ c.in_ok-tell_deadline.field-0 c.if-branch.false
+    c.in_ok-tell_deadline.ensures.turn).state ∙ c.turns.invariant.state
 
 pub returns-clause-answers : goal.returns-clause-answers
 returns-clause-answers g c =
-    (no_turn deadline_turn tells_deadline _ _ _ _ c.in_ok-tell_deadline.field-0 c.if-branch.false c.in_ok-tell_deadline.ensures.turn).answers ∙ c.turns.invariant.answers
+    (no_turn deadline_turn tells_deadline _ _ _ _ c.in_ok-tell_deadline.field-0 c.if-branch.false
+    c.in_ok-tell_deadline.ensures.turn).answers ∙ c.turns.invariant.answers

@@ -20,7 +20,11 @@ returns-clause-turn g c =
     let s = state_of c.self.inside.counters c.self.inside.jobs.now c.self.inside.sessions.now c.self.inside.pauses.now.pauses in
     let w : ℕ × SessionState = (c.in-Some.session, c.in-Some.late.now) in
     let first : first_waiting (λ e. has_timed_out s.now e.1.wait) s.sessions ≡ Some w = sym c.in-Some.ensures in
-    subst (λ (d : Draft QueueState). IsTurn timeout_turn d.now (state_of c.self.inside.counters c.self.inside.jobs.now c.set_wait.new.self.now c.self.inside.pauses.now.pauses) c.args.answers.now.items c.push.new.self.items true) c.self.view_is
+    subst (λ (d : Draft QueueState). IsTurn timeout_turn d.now
+    (state_of c.self.inside.counters c.self.inside.jobs.now c.set_wait.new.self.now c.self.inside.pauses.now.pauses)
+    c.args.answers.now.items c.push.new.self.items true) c.self.view_is
     (told_timeout s w c.set_wait.new.self.now c.args.answers.now.items c.push.new.self.items first c.in_ok-set_wait.ensures.now
     (c.in_ok-push.ensures.items ∙
-    ap (λ number. let a : Answer Reply = record { to = record { session = w.0; number = number }; reply = Reply.TimedOut } in c.args.answers.now.items ++ a ∷ []) c.wait_number.ensures))
+    ap (λ number. let a : Answer Reply =
+    record { to = record { session = w.0; number = number }; reply = Reply.TimedOut } in c.args.answers.now.items ++
+    a ∷ []) c.wait_number.ensures))

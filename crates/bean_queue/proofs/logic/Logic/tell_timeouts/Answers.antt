@@ -17,8 +17,10 @@ turns-preserved g c =
 
 pub returns-clause-state : goal.returns-clause-state
 returns-clause-state g c =
-    (no_turn timeout_turn tells_timeout _ _ _ _ c.in_ok-tell_timeout.field-0 c.if-branch.false c.in_ok-tell_timeout.ensures.turn).state ∙ c.turns.invariant.state
+    (no_turn timeout_turn tells_timeout _ _ _ _ c.in_ok-tell_timeout.field-0 c.if-branch.false
+    c.in_ok-tell_timeout.ensures.turn).state ∙ c.turns.invariant.state
 
 pub returns-clause-answers : goal.returns-clause-answers
 returns-clause-answers g c =
-    (no_turn timeout_turn tells_timeout _ _ _ _ c.in_ok-tell_timeout.field-0 c.if-branch.false c.in_ok-tell_timeout.ensures.turn).answers ∙ c.turns.invariant.answers
+    (no_turn timeout_turn tells_timeout _ _ _ _ c.in_ok-tell_timeout.field-0 c.if-branch.false
+    c.in_ok-tell_timeout.ensures.turn).answers ∙ c.turns.invariant.answers

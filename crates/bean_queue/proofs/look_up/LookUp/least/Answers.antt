@@ -7,14 +7,19 @@ use Rattle.bean_queue.proofs.look_up.LookUp.least.Goals as goal
 
 pub loop-id-preserved-then-passes : goal.loop-id-preserved-then-passes
 loop-id-preserved-then-passes c =
-    least-step (passes c.args.self.now) (look_up_number c.args.self.now) (option_map (λ e. (e.0, e.1.now)) c.loop-id.least) (c.in-Some.id.now, c.in-Some.job.now) (c.first_of.result.0, c.first_of.result.1.now) c.next.new.self c.args.jobs.now.entries (search rules) (sym c.passes.ensures ∙ c.if-passes.true) c.first_of.ensures
+    least-step (passes c.args.self.now) (look_up_number c.args.self.now)
+    (option_map (λ e. (e.0, e.1.now)) c.loop-id.least) (c.in-Some.id.now, c.in-Some.job.now)
+    (c.first_of.result.0, c.first_of.result.1.now) c.next.new.self c.args.jobs.now.entries (search rules)
+    (sym c.passes.ensures ∙ c.if-passes.true) c.first_of.ensures
 
 pub returns-clause-found : goal.returns-clause-found
 returns-clause-found c =
-    let whole : option_map (λ e. (e.0, e.1.now)) c.loop-id.least ≡ least (passes c.args.self.now) (look_up_number c.args.self.now) c.args.jobs.now.entries = search rules in
+    let whole : option_map (λ e. (e.0, e.1.now)) c.loop-id.least
+    ≡ least (passes c.args.self.now) (look_up_number c.args.self.now) c.args.jobs.now.entries = search rules in
     (least-shown (passes c.args.self.now) (look_up_number c.args.self.now) (λ e. (e.0, e.1.now)) c.args.jobs.now.entries c.loop-id.least whole).0
 
 pub returns-clause-none : goal.returns-clause-none
 returns-clause-none c =
-    let whole : option_map (λ e. (e.0, e.1.now)) c.loop-id.least ≡ least (passes c.args.self.now) (look_up_number c.args.self.now) c.args.jobs.now.entries = search rules in
+    let whole : option_map (λ e. (e.0, e.1.now)) c.loop-id.least
+    ≡ least (passes c.args.self.now) (look_up_number c.args.self.now) c.args.jobs.now.entries = search rules in
     (least-shown (passes c.args.self.now) (look_up_number c.args.self.now) (λ e. (e.0, e.1.now)) c.args.jobs.now.entries c.loop-id.least whole).1

@@ -7,14 +7,16 @@ pub again-init : goal.again-init
 again-init g c = record { all = refl; woken = none-woken _ c.args.jobs.now.now; before = refl }
 
 pub again-smaller : goal.again-smaller
-again-smaller g c = (one_more c.args.self _ _ _ _ (c.in-Some.id, c.in-Some.job.now) c.map.ensures.rising (cc c.in-Some.ensures) c.in_ok-set_state.ensures.now).less
+again-smaller g c = (one_more c.args.self _ _ _ _ (c.in-Some.id, c.in-Some.job.now) c.map.ensures.rising
+    (cc c.in-Some.ensures) c.in_ok-set_state.ensures.now).less
 
 pub again-preserved : goal.again-preserved
 again-preserved g c =
     let one = one_more c.args.self _ _ _ _ (c.in-Some.id, c.in-Some.job.now) c.map.ensures.rising (cc c.in-Some.ensures) c.in_ok-set_state.ensures.now in
     record {
       all = one.all ∙ c.again.invariant.all;
-      woken = gathered _ _ _ _ (c.in-Some.id, c.in-Some.job.now) c.again.woken.keys _ _ c.map.ensures.rising one.there c.in_ok-set_state.ensures.now c.in_ok-copy.ensures c.in_ok-insert.ensures.keys c.again.invariant.woken;
+      woken = gathered _ _ _ _ (c.in-Some.id, c.in-Some.job.now) c.again.woken.keys _ _ c.map.ensures.rising one.there
+          c.in_ok-set_state.ensures.now c.in_ok-copy.ensures c.in_ok-insert.ensures.keys c.again.invariant.woken;
       before = c.set_state.ensures.before ∙ c.again.invariant.before;
     }
 

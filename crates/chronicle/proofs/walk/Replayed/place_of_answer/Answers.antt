@@ -9,12 +9,17 @@ use Rattle.chronicle.proofs.verdicts.FirstPlaces.{first_at, none_found, read_fir
 use Rattle.chronicle.proofs.walk.Replayed.place_of_answer.Goals as goal
 
 pub returns-in_default-clause-err : goal.returns-in_default-clause-err
-returns-in_default-clause-err c =
-    (refl, λ g found_it same. absurd (none_found (λ (g : Given). g.answer.to) c.args.answer.now.to c.args.self.now.given.items g (sym (c.requires c.args.answer.now.to) ∙ sym c.in_default.ensures.value) found_it))
+returns-in_default-clause-err c = (
+  refl,
+  λ g found_it same. absurd
+      (none_found (λ (g : Given). g.answer.to) c.args.answer.now.to c.args.self.now.given.items g
+      (sym (c.requires c.args.answer.now.to) ∙ sym c.in_default.ensures.value) found_it),
+)
 
 pub index-given-requires : goal.index-given-requires
 index-given-requires c =
-    let first = first_at (λ (g : Given). g.answer.to) c.args.answer.now.to c.args.self.now.given.items c.in-Some.index.now (sym (c.requires c.args.answer.now.to) ∙ sym c.in-Some.ensures.value) in
+    let first = first_at (λ (g : Given). g.answer.to) c.args.answer.now.to c.args.self.now.given.items
+    c.in-Some.index.now (sym (c.requires c.args.answer.now.to) ∙ sym c.in-Some.ensures.value) in
     let within = first.within in
     search rules
 
@@ -22,7 +27,8 @@ pub returns-then-is_same-clause-ok : goal.returns-then-is_same-clause-ok
 returns-then-is_same-clause-ok c =
     let given = c.index-given.result.now in
     let items = c.args.self.now.given.items in
-    let first = first_at (λ (g : Given). g.answer.to) c.args.answer.now.to items c.in-Some.index.now (sym (c.requires c.args.answer.now.to) ∙ sym c.in-Some.ensures.value) in
+    let first = first_at (λ (g : Given). g.answer.to) c.args.answer.now.to items c.in-Some.index.now
+    (sym (c.requires c.args.answer.now.to) ∙ sym c.in-Some.ensures.value) in
     let at = slice_get_read items (length items) c.in-Some.index.now given refl first.within c.index-given.ensures in
     let same = c.is_same.ensures.0 c.if-is_same.true in
     subst (λ a. In (record { place = given.place; answer = a }) (map placed items)) same (In-map placed given items (In-get items c.in-Some.index.now given at))
@@ -31,7 +37,8 @@ pub returns-else-is_same-clause-err : goal.returns-else-is_same-clause-err
 returns-else-is_same-clause-err c =
     let given = c.index-given.result.now in
     let items = c.args.self.now.given.items in
-    let first = first_at (λ (g : Given). g.answer.to) c.args.answer.now.to items c.in-Some.index.now (sym (c.requires c.args.answer.now.to) ∙ sym c.in-Some.ensures.value) in
+    let first = first_at (λ (g : Given). g.answer.to) c.args.answer.now.to items c.in-Some.index.now
+    (sym (c.requires c.args.answer.now.to) ∙ sym c.in-Some.ensures.value) in
     let read = read_first (λ (g : Given). g.answer.to) c.args.answer.now.to items c.in-Some.index.now given first c.index-given.ensures in (
       refl,
       λ g found_it same.

@@ -15,7 +15,9 @@ returns-in_default-clause-none c _ s i =
     elim c.in_default.branch [
       | in_default-via-in-Some+else-submission-self w ↦
           let t = w.in-Some.submission.now in
-          let at : slice_get h.submitted n ≡ Some t = ap (λ xs. slice_get xs n) (sym same) ∙ slice_get_read c.submitted.result.now (length c.submitted.result.now) n t refl w.in-Some.ensures.lookup.3.0 (w.in-Some.ensures.lookup.3.1 t) in
+          let at : slice_get h.submitted n ≡ Some t =
+          ap (λ xs. slice_get xs n) (sym same) ∙ slice_get_read c.submitted.result.now
+          (length c.submitted.result.now) n t refl w.in-Some.ensures.lookup.3.0 (w.in-Some.ensures.lookup.3.1 t) in
           let order = c.submitted.ensures.kept.timeline.ordered in
           let first = first_left h.submitted n t order at s i in
           let late = w.if-submission-self.false in

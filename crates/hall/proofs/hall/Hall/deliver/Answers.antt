@@ -12,7 +12,9 @@ deliver-requires-clause-fit g c =
 pub invariant_of-self-2 : goal.invariant_of-self-2
 invariant_of-self-2 g c =
     let none = sym c.event_refusal.ensures ∙ c.in_default.is in
-    delivered_is g.O.Object.rules c.laws_below.ensures _ c.self.invariant c.args.node c.deliver.new.self c.in_ok-came.ensures.none (event_member _ _ c.self.view_is c.args.node none) (event_room _ _ c.self.view_is c.args.node none) c.in_ok-came.ensures.ok
+    delivered_is g.O.Object.rules c.laws_below.ensures _ c.self.invariant c.args.node c.deliver.new.self
+    c.in_ok-came.ensures.none (event_member _ _ c.self.view_is c.args.node none)
+    (event_room _ _ c.self.view_is c.args.node none) c.in_ok-came.ensures.ok
 
 pub returns-clause-ok : goal.returns-clause-ok
 returns-clause-ok g c = received_in _ _ c.self.view_is c.args.node c.deliver.new.self c.in_ok-came.ensures.ok
@@ -20,4 +22,6 @@ returns-clause-ok g c = received_in _ _ c.self.view_is c.args.node c.deliver.new
 pub returns-clause-event : goal.returns-clause-event
 returns-clause-event g c =
     let none = sym c.event_refusal.ensures ∙ c.in_default.is in
-    delivered_follows g.O.Object.rules c.laws_below.ensures _ c.self.invariant c.args.node c.deliver.new.self c.in_ok-came.ensures.none (event_member _ _ c.self.view_is c.args.node none) c.in_ok-came.ensures.ok _ c.self.view_is
+    delivered_follows g.O.Object.rules c.laws_below.ensures _ c.self.invariant c.args.node c.deliver.new.self
+    c.in_ok-came.ensures.none (event_member _ _ c.self.view_is c.args.node none) c.in_ok-came.ensures.ok _
+    c.self.view_is

@@ -14,7 +14,8 @@ unwrap-command-requires g c =
 pub invariant_of-self-2 : goal.invariant_of-self-2
 invariant_of-self-2 g c =
     next_is g.O.Object.rules c.laws_below.ensures _ _ c.self.view_is c.self.invariant c.args.key c.args.act c.requires.next c.requires.own c.requires.room
-    c.args.node c.requires.member c.ask.new.self c.unwrap-command.result (value_if c.new.result _ _ _ c.new.ensures c.unwrap-command.ensures).1 c.in_ok-ask.ensures.ok _ refl
+    c.args.node c.requires.member c.ask.new.self c.unwrap-command.result
+    (value_if c.new.result _ _ _ c.new.ensures c.unwrap-command.ensures).1 c.in_ok-ask.ensures.ok _ refl
 
 pub returns-clause-event : goal.returns-clause-event
 returns-clause-event g c =

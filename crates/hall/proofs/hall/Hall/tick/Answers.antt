@@ -11,7 +11,8 @@ pub invariant_of-self-2 : goal.invariant_of-self-2
 invariant_of-self-2 g c =
     let none = sym c.tick_refusal.ensures ∙ c.in_default.is in
     let made = value_if c.new.result _ _ _ c.new.ensures c.unwrap-command.ensures in
-    tick_is g.O.Object.rules c.laws_below.ensures _ _ c.self.view_is c.self.invariant c.args.second c.args.node none made.0 c.ask.new.self c.unwrap-command.result made.1 c.in_ok-ask.ensures.ok _ c.max-self-inside.ensures
+    tick_is g.O.Object.rules c.laws_below.ensures _ _ c.self.view_is c.self.invariant c.args.second c.args.node none
+    made.0 c.ask.new.self c.unwrap-command.result made.1 c.in_ok-ask.ensures.ok _ c.max-self-inside.ensures
 
 pub returns-clause-event : goal.returns-clause-event
 returns-clause-event g c =

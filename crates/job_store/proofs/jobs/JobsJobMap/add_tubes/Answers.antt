@@ -12,27 +12,39 @@ pub returns-in_err-add_shelved-2-clause-kept : goal.returns-in_err-add_shelved-2
 returns-in_err-add_shelved-2-clause-kept c = λ t i. c.add_shelved-2.ensures.kept t (c.add_shelved.ensures.kept t i)
 
 pub returns-in_err-add_shelved-2-clause-only : goal.returns-in_err-add_shelved-2-clause-only
-returns-in_err-add_shelved-2-clause-only c = only-then (λ t. has_jobs t c.args.self.now.jobs ≡ true) _ _ _ c.add_shelved.ensures.only c.add_shelved-2.ensures.only
+returns-in_err-add_shelved-2-clause-only c =
+    only-then (λ t. has_jobs t c.args.self.now.jobs ≡ true) _ _ _ c.add_shelved.ensures.only
+    c.add_shelved-2.ensures.only
 
 pub returns-in_err-add_shelved-3-clause-kept : goal.returns-in_err-add_shelved-3-clause-kept
 returns-in_err-add_shelved-3-clause-kept c = λ t i. c.add_shelved-3.ensures.kept t (c.add_shelved-2.ensures.kept t (c.add_shelved.ensures.kept t i))
 
 pub returns-in_err-add_shelved-3-clause-only : goal.returns-in_err-add_shelved-3-clause-only
-returns-in_err-add_shelved-3-clause-only c = only-then (λ t. has_jobs t c.args.self.now.jobs ≡ true) _ _ _ (only-then (λ t. has_jobs t c.args.self.now.jobs ≡ true) _ _ _ c.add_shelved.ensures.only c.add_shelved-2.ensures.only) c.add_shelved-3.ensures.only
+returns-in_err-add_shelved-3-clause-only c =
+    only-then (λ t. has_jobs t c.args.self.now.jobs ≡ true) _ _ _
+    (only-then (λ t. has_jobs t c.args.self.now.jobs ≡ true) _ _ _ c.add_shelved.ensures.only
+    c.add_shelved-2.ensures.only) c.add_shelved-3.ensures.only
 
 pub returns-clause-kept : goal.returns-clause-kept
 returns-clause-kept c = λ t i. c.add_shelved-4.ensures.kept t (c.add_shelved-3.ensures.kept t (c.add_shelved-2.ensures.kept t (c.add_shelved.ensures.kept t i)))
 
 pub returns-clause-only : goal.returns-clause-only
-returns-clause-only c = only-then (λ t. has_jobs t c.args.self.now.jobs ≡ true) _ _ _ (only-then (λ t. has_jobs t c.args.self.now.jobs ≡ true) _ _ _ (only-then (λ t. has_jobs t c.args.self.now.jobs ≡ true) _ _ _ c.add_shelved.ensures.only c.add_shelved-2.ensures.only) c.add_shelved-3.ensures.only) c.add_shelved-4.ensures.only
+returns-clause-only c = only-then (λ t. has_jobs t c.args.self.now.jobs ≡ true) _ _ _
+    (only-then (λ t. has_jobs t c.args.self.now.jobs ≡ true) _ _ _
+    (only-then (λ t. has_jobs t c.args.self.now.jobs ≡ true) _ _ _ c.add_shelved.ensures.only
+    c.add_shelved-2.ensures.only) c.add_shelved-3.ensures.only) c.add_shelved-4.ensures.only
 
 pub returns-clause-all : goal.returns-clause-all
 returns-clause-all c =
     on_ok_weaker c.add_shelved-4.result
     (λ last t has.
-    let placed : HavePlaces c.self.inside.shelves c.args.self.now.jobs = subst (HavePlaces c.self.inside.shelves) (ap (λ (m : MapState). m.jobs) c.self.view_is) c.self.invariant.placed in
+    let placed : HavePlaces c.self.inside.shelves c.args.self.now.jobs =
+    subst (HavePlaces c.self.inside.shelves)
+    (ap (λ (m : MapState). m.jobs) c.self.view_is) c.self.invariant.placed in
     elim (shelved c.self.inside.shelves c.args.self.now.jobs t placed has).one as (λ v. In t c.add_shelved-4.new.names.keys) [
-      | inl ready ↦ c.add_shelved-4.ensures.kept t (c.add_shelved-3.ensures.kept t (c.add_shelved-2.ensures.kept t (c.in_ok-add_shelved.ensures.all t has ready)))
+      | inl ready ↦ c.add_shelved-4.ensures.kept t
+          (c.add_shelved-3.ensures.kept t
+          (c.add_shelved-2.ensures.kept t (c.in_ok-add_shelved.ensures.all t has ready)))
       | inr (inl delayed) ↦ c.add_shelved-4.ensures.kept t (c.add_shelved-3.ensures.kept t (c.in_ok-add_shelved-2.ensures.all t has delayed))
       | inr (inr (inl buried)) ↦ c.add_shelved-4.ensures.kept t (c.in_ok-add_shelved-3.ensures.all t has buried)
       | inr (inr (inr reserved)) ↦ last t has reserved

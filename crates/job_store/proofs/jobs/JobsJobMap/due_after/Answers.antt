@@ -17,8 +17,10 @@ first_after-requires-clause-all c p e i b =
 
 pub returns-in-Some-clause-found : goal.returns-in-Some-clause-found
 returns-in-Some-clause-found c =
-    subst (λ jobs. IsLeast (due_after c.args.second c.args.place) due_of_job jobs (c.in-Some.id, c.in-Some.job.now)) (c.by_id.ensures.jobs ∙ ap (λ (m : MapState). m.jobs) c.self.view_is)
-    (due-found-after c.args.second c.args.place c.by_id.result.now.entries (c.in-Some.id, c.in-Some.job.now) c.in-Some.ensures.found (sym c.is_due.ensures ∙ c.if-is_due.true))
+    subst (λ jobs. IsLeast (due_after c.args.second c.args.place) due_of_job jobs (c.in-Some.id, c.in-Some.job.now))
+    (c.by_id.ensures.jobs ∙ ap (λ (m : MapState). m.jobs) c.self.view_is)
+    (due-found-after c.args.second c.args.place c.by_id.result.now.entries
+    (c.in-Some.id, c.in-Some.job.now) c.in-Some.ensures.found (sym c.is_due.ensures ∙ c.if-is_due.true))
 
 pub returns-in-Some-clause-job : goal.returns-in-Some-clause-job
 returns-in-Some-clause-job c =
@@ -30,7 +32,8 @@ returns-in_default-clause-none c =
     subst (NonePasses (due_after c.args.second c.args.place)) (c.by_id.ensures.jobs ∙ ap (λ (m : MapState). m.jobs) c.self.view_is)
     (elim c.in_default.branch as (λ b. NonePasses (due_after c.args.second c.args.place) c.by_id.result.now.entries) [
       | in_default-via-in-Some+else-is_due w ↦
-          due-later-after c.args.second c.args.place c.by_id.result.now.entries (w.in-Some.id, w.in-Some.job.now) w.in-Some.ensures.found (sym w.is_due.ensures ∙ w.if-is_due.false)
+          due-later-after c.args.second c.args.place c.by_id.result.now.entries
+          (w.in-Some.id, w.in-Some.job.now) w.in-Some.ensures.found (sym w.is_due.ensures ∙ w.if-is_due.false)
       | in_default-via-in_default w ↦ due-none-after c.args.second c.args.place c.by_id.result.now.entries w.in_default.ensures.none
     ])
 

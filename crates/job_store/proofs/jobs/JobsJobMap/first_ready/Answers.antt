@@ -21,10 +21,16 @@ returns-clause-job c =
 
 pub returns-clause-found : goal.returns-clause-found
 returns-clause-found c =
-    subst (λ jobs. IfSome c.first.result (λ e. IsLeast (ready_in (c.args.tube.now ∷ [])) pri_of_job jobs (e.0, e.1.now))) (c.by_id.ensures.jobs ∙ ap (λ (m : MapState). m.jobs) c.self.view_is)
-    (subst (λ (test : ℕ × Job → Bool). IfSome c.first.result (λ e. IsLeast test pri_of_job c.by_id.result.now.entries (e.0, e.1.now))) (sym (ready-test c.args.tube.now)) c.first.ensures.found)
+    subst (λ jobs. IfSome c.first.result
+    (λ e. IsLeast (ready_in (c.args.tube.now ∷ [])) pri_of_job jobs (e.0, e.1.now)))
+    (c.by_id.ensures.jobs ∙ ap (λ (m : MapState). m.jobs) c.self.view_is)
+    (subst (λ (test : ℕ × Job → Bool). IfSome c.first.result
+    (λ e. IsLeast test pri_of_job c.by_id.result.now.entries (e.0, e.1.now)))
+    (sym (ready-test c.args.tube.now)) c.first.ensures.found)
 
 pub returns-clause-none : goal.returns-clause-none
 returns-clause-none c =
-    subst (λ jobs. IfNone c.first.result (NonePasses (ready_in (c.args.tube.now ∷ [])) jobs)) (c.by_id.ensures.jobs ∙ ap (λ (m : MapState). m.jobs) c.self.view_is)
-    (subst (λ (test : ℕ × Job → Bool). IfNone c.first.result (NonePasses test c.by_id.result.now.entries)) (sym (ready-test c.args.tube.now)) c.first.ensures.none)
+    subst (λ jobs. IfNone c.first.result (NonePasses (ready_in (c.args.tube.now ∷ [])) jobs))
+    (c.by_id.ensures.jobs ∙ ap (λ (m : MapState). m.jobs) c.self.view_is)
+    (subst (λ (test : ℕ × Job → Bool). IfNone c.first.result (NonePasses test c.by_id.result.now.entries))
+    (sym (ready-test c.args.tube.now)) c.first.ensures.none)

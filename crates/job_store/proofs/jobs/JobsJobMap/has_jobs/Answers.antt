@@ -24,5 +24,7 @@ returns c =
     let no_ready : is_some c.first_ready.result ≡ false = search rules in
     let no_delayed : is_some c.first_delayed.result ≡ false = search rules in
     let no_buried : is_some c.first_buried.result ≡ false = search rules in
-    none-has (λ e. (e.0, e.1.now)) c.args.tube.now c.args.self.now.jobs due_of_job c.first_ready.result c.first_delayed.result c.first_buried.result c.first_reserved.result c.is_some-4.result result no_ready no_delayed no_buried
+    none-has (λ e. (e.0, e.1.now)) c.args.tube.now c.args.self.now.jobs due_of_job c.first_ready.result
+    c.first_delayed.result c.first_buried.result c.first_reserved.result c.is_some-4.result result no_ready
+    no_delayed no_buried
     c.first_ready.ensures.none c.first_delayed.ensures.none c.first_buried.ensures.none c.first_reserved.ensures.none c.first_reserved.ensures.found

@@ -22,4 +22,5 @@ invariant_of-self-2 c =
 
 pub take_everywhere-requires-clause-ahead : goal.take_everywhere-requires-clause-ahead
 take_everywhere-requires-clause-ahead c =
-    ahead-without c.self.inside.shelves c.args.id c.self.inside.jobs.jobs c.by_id.result.now.entries c.self.invariant.ahead (c.by_id.ensures.jobs ∙ c.remove.ensures.jobs)
+    ahead-without c.self.inside.shelves c.args.id c.self.inside.jobs.jobs c.by_id.result.now.entries
+    c.self.invariant.ahead (c.by_id.ensures.jobs ∙ c.remove.ensures.jobs)

@@ -16,4 +16,5 @@ go_back-requires-clause-ahead c =
 
 pub invariant_of-self : goal.invariant_of-self
 invariant_of-self c =
-    kept-swept c.go_back.new.shelves c.roll_back.new.self c.roll_back.ensures.before c.go_back.ensures.rising c.go_back.ensures.placed c.go_back.ensures.ahead c.go_back.ensures.known c.go_back.ensures.listed
+    kept-swept c.go_back.new.shelves c.roll_back.new.self c.roll_back.ensures.before c.go_back.ensures.rising
+    c.go_back.ensures.placed c.go_back.ensures.ahead c.go_back.ensures.known c.go_back.ensures.listed

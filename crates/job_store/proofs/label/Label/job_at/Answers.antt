@@ -7,7 +7,8 @@ use Rattle.job_store.proofs.label.Label.job_at.Goals.{in_default-via-in-Some+els
 
 pub returns-in-Some-clause-found : goal.returns-in-Some-clause-found
 returns-in-Some-clause-found c =
-    at-id c.args.self.now c.args.number c.args.id c.in-Some.job.now c.args.jobs.now.entries c.in-Some.ensures.value (sym (c.fits_at.ensures c.args.id) ∙ c.if-fits_at.true)
+    at-id c.args.self.now c.args.number c.args.id c.in-Some.job.now c.args.jobs.now.entries c.in-Some.ensures.value
+    (sym (c.fits_at.ensures c.args.id) ∙ c.if-fits_at.true)
 
 pub returns-in_default-clause-none : goal.returns-in_default-clause-none
 returns-in_default-clause-none c =
@@ -17,6 +18,7 @@ returns-in_default-clause-none c =
       | in_default-via-in-Some+else-fits_at w ↦
           let both : Some w.in-Some.job.now ≡ Some job = w.in-Some.ensures.value ∙ there in
           let same : w.in-Some.job.now ≡ job = cc in
-          subst (λ (j : Job). belongs_at c.args.self.now (c.args.number, c.args.id) (c.args.id, j) ≡ false) same (sym (w.fits_at.ensures c.args.id) ∙ w.if-fits_at.false)
+          subst (λ (j : Job). belongs_at c.args.self.now (c.args.number, c.args.id) (c.args.id, j) ≡ false) same
+          (sym (w.fits_at.ensures c.args.id) ∙ w.if-fits_at.false)
       | in_default-via-in_default w ↦ let both : None ≡ Some job = w.in_default.ensures.value ∙ there in cc
     ])

@@ -12,7 +12,9 @@ returns-then-self-clause-rising c = inserted-rises c.args.id 0 _ _ _ _ (omega ar
 
 pub returns-then-self-clause-before : goal.returns-then-self-clause-before
 returns-then-self-clause-before c =
-    before-put c.self.inside.is_trial c.args.id _ _ c.args.job c.self.inside.log.items c.put.new.log.items c.self.inside.jobs.entries c.put.new.jobs.entries c.if-self.true c.self.invariant c.in_ok-put.ensures.log c.in_ok-put.ensures.jobs ∙
+    before-put c.self.inside.is_trial c.args.id _ _ c.args.job c.self.inside.log.items c.put.new.log.items
+    c.self.inside.jobs.entries c.put.new.jobs.entries c.if-self.true c.self.invariant c.in_ok-put.ensures.log
+    c.in_ok-put.ensures.jobs ∙
     ap (λ (m : MapState). m.before) c.self.view_is
 
 pub invariant_of-self-2 : goal.invariant_of-self-2

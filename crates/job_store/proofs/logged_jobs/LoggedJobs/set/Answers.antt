@@ -14,5 +14,8 @@ returns-clause-rising c = Rising-same _ _ _ _ c.make.ensures (Rising-altered c.a
 
 pub returns-clause-before : goal.returns-clause-before
 returns-clause-before c =
-    before-set c.self.inside.is_trial c.args.id _ _ (with_pri_and_state c.args.pri c.args.state) c.self.inside.log.items c.note.new.log.items c.self.inside.jobs.entries c.make.new.jobs.entries (λ job. refl) c.self.invariant c.in_ok-note.ensures.ok c.make.ensures ∙
+    before-set c.self.inside.is_trial c.args.id _ _
+    (with_pri_and_state c.args.pri c.args.state) c.self.inside.log.items c.note.new.log.items
+    c.self.inside.jobs.entries c.make.new.jobs.entries
+    (λ job. refl) c.self.invariant c.in_ok-note.ensures.ok c.make.ensures ∙
     ap (λ (m : MapState). m.before) c.self.view_is

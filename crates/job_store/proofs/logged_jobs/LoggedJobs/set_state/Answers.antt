@@ -14,5 +14,7 @@ returns-clause-rising c = Rising-same _ _ _ _ c.set_state.ensures (Rising-altere
 
 pub returns-clause-before : goal.returns-clause-before
 returns-clause-before c =
-    before-set c.self.inside.is_trial c.args.id _ _ (with_state c.args.state) c.self.inside.log.items c.note.new.log.items c.self.inside.jobs.entries c.set_state.new.jobs.entries (λ job. refl) c.self.invariant c.in_ok-note.ensures.ok c.set_state.ensures ∙
+    before-set c.self.inside.is_trial c.args.id _ _
+    (with_state c.args.state) c.self.inside.log.items c.note.new.log.items c.self.inside.jobs.entries
+    c.set_state.new.jobs.entries (λ job. refl) c.self.invariant c.in_ok-note.ensures.ok c.set_state.ensures ∙
     ap (λ (m : MapState). m.before) c.self.view_is

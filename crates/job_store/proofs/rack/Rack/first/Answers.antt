@@ -9,4 +9,6 @@ use Rattle.job_store.proofs.rack.Rack.first.Goals as goal
 pub returns-in-None-clause-job : goal.returns-in-None-clause-job
 returns-in-None-clause-job g c =
     least-nothing (belongs c.args.label) (number c.args.label) c.args.jobs.now.entries
-    (none-found c.args.label c.args.jobs.now.entries (subst (λ s. AreAllFound c.args.label s c.args.jobs.now.entries) (ap (λ o. unwrap_or o bare) (sym c.in-None.ensures.value)) c.requires.all))
+    (none-found c.args.label c.args.jobs.now.entries
+    (subst (λ s. AreAllFound c.args.label s c.args.jobs.now.entries)
+    (ap (λ o. unwrap_or o bare) (sym c.in-None.ensures.value)) c.requires.all))

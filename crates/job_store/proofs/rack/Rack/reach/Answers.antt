@@ -5,8 +5,13 @@ use Rattle.job_store.proofs.rack.Rack.reach.Goals as goal
 
 pub returns-in-Some-clause-reached : goal.returns-in-Some-clause-reached
 returns-in-Some-clause-reached g c =
-    one-changed g.K.Ord.cmp c.args.self.now.shelves (c.get_mut.follows.lender c.reach.new.self) c.args.key.now (Some c.in-Some.shelf.now) (Some c.reach.new.self) (λ x y. HasReached x y (g.N.ShelfNumber.value c.args.number, c.args.id)) (sym c.in-Some.ensures.value) ((c.get_mut.follows.holds c.reach.new.self).3 (subst IsSome c.in-Some.ensures.value refl)).1 c.reach.ensures
+    one-changed g.K.Ord.cmp c.args.self.now.shelves (c.get_mut.follows.lender c.reach.new.self) c.args.key.now
+    (Some c.in-Some.shelf.now) (Some c.reach.new.self)
+    (λ x y. HasReached x y (g.N.ShelfNumber.value c.args.number, c.args.id)) (sym c.in-Some.ensures.value)
+    ((c.get_mut.follows.holds c.reach.new.self).3 (subst IsSome c.in-Some.ensures.value refl)).1 c.reach.ensures
 
 pub returns-in-Some-clause-others : goal.returns-in-Some-clause-others
 returns-in-Some-clause-others g c =
-    others-kept g.K.Ord.cmp (exact_by g.K.Ord.cmp g.K.PartialEq.eq g.met.K.Ord.matches_eq g.met.K.ShelfName.exact) c.args.self.now.shelves (c.get_mut.follows.lender c.reach.new.self) c.args.key.now (Some c.reach.new.self) ((c.get_mut.follows.holds c.reach.new.self).3 (subst IsSome c.in-Some.ensures.value refl)).0
+    others-kept g.K.Ord.cmp (exact_by g.K.Ord.cmp g.K.PartialEq.eq g.met.K.Ord.matches_eq g.met.K.ShelfName.exact)
+    c.args.self.now.shelves (c.get_mut.follows.lender c.reach.new.self) c.args.key.now (Some c.reach.new.self)
+    ((c.get_mut.follows.holds c.reach.new.self).3 (subst IsSome c.in-Some.ensures.value refl)).0

@@ -5,8 +5,13 @@ use Rattle.job_store.proofs.rack.Rack.settle.Goals as goal
 
 pub returns-in-Some-clause-moved_on : goal.returns-in-Some-clause-moved_on
 returns-in-Some-clause-moved_on g c =
-    one-changed g.K.Ord.cmp c.args.self.now.shelves (c.get_mut.follows.lender c.settle.new.self) c.args.key.now (Some c.in-Some.shelf.now) (Some c.settle.new.self) (λ x y. HasMovedOn c.args.label c.args.jobs.now.entries x y) (sym c.in-Some.ensures.value) ((c.get_mut.follows.holds c.settle.new.self).3 (subst IsSome c.in-Some.ensures.value refl)).1 c.settle.ensures
+    one-changed g.K.Ord.cmp c.args.self.now.shelves (c.get_mut.follows.lender c.settle.new.self) c.args.key.now
+    (Some c.in-Some.shelf.now) (Some c.settle.new.self) (λ x y. HasMovedOn c.args.label c.args.jobs.now.entries x y)
+    (sym c.in-Some.ensures.value) ((c.get_mut.follows.holds c.settle.new.self).3
+    (subst IsSome c.in-Some.ensures.value refl)).1 c.settle.ensures
 
 pub returns-in-Some-clause-others : goal.returns-in-Some-clause-others
 returns-in-Some-clause-others g c =
-    others-kept g.K.Ord.cmp (exact_by g.K.Ord.cmp g.K.PartialEq.eq g.met.K.Ord.matches_eq g.met.K.ShelfName.exact) c.args.self.now.shelves (c.get_mut.follows.lender c.settle.new.self) c.args.key.now (Some c.settle.new.self) ((c.get_mut.follows.holds c.settle.new.self).3 (subst IsSome c.in-Some.ensures.value refl)).0
+    others-kept g.K.Ord.cmp (exact_by g.K.Ord.cmp g.K.PartialEq.eq g.met.K.Ord.matches_eq g.met.K.ShelfName.exact)
+    c.args.self.now.shelves (c.get_mut.follows.lender c.settle.new.self) c.args.key.now (Some c.settle.new.self)
+    ((c.get_mut.follows.holds c.settle.new.self).3 (subst IsSome c.in-Some.ensures.value refl)).0

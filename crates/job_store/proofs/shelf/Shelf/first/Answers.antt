@@ -13,43 +13,69 @@ use Rattle.job_store.proofs.shelf.Shelf.first.Goals as goal
 
 pub loop-place-init : goal.loop-place-init
 loop-place-init g c =
-    let ahead : c.into_iter-place-iterator.result ≡ keys_between (pair_cmp g.N.Ord.cmp g.N.ShelfNumber.value g.met.N.ShelfNumber.in_order) (Included c.self.inside.from) Unbounded c.self.inside.places = search (rules, c.range-place-items.ensures.between tt) in (
+    let ahead : c.into_iter-place-iterator.result
+    ≡ keys_between (pair_cmp g.N.Ord.cmp g.N.ShelfNumber.value g.met.N.ShelfNumber.in_order)
+    (Included c.self.inside.from) Unbounded c.self.inside.places =
+    search (rules, c.range-place-items.ensures.between tt) in (
       λ p e i b.
-          let found : IsFound (record { places = map (numbered_place g.N.ShelfNumber.value) c.self.inside.places.keys; from = numbered_place g.N.ShelfNumber.value c.self.inside.from }) p = subst (λ (s : ShelfState). IsFound s p) (sym c.self.view_is) (c.requires.all p e i b) in
-          subst (λ ks. In p (map (numbered_place g.N.ShelfNumber.value) ks)) (sym ahead) (ranged-of g.N.Ord.cmp g.N.ShelfNumber.value g.met.N.ShelfNumber.in_order c.self.inside.from p c.self.inside.places.keys found.0 found.1),
-      subst (λ ks. IsStrictlySortedBy shelf_cmp (map (numbered_place g.N.ShelfNumber.value) ks)) (sym ahead) (ranged-sorted g.N.Ord.cmp g.N.ShelfNumber.value g.met.N.ShelfNumber.in_order c.self.inside.from c.self.inside.places.keys c.range-place-items.ensures.ordered),
+          let found : IsFound (record {
+            places =
+                map (numbered_place g.N.ShelfNumber.value) c.self.inside.places.keys;
+            from =
+                numbered_place g.N.ShelfNumber.value c.self.inside.from;
+          }) p =
+          subst (λ (s : ShelfState). IsFound s p) (sym c.self.view_is) (c.requires.all p e i b) in
+          subst (λ ks. In p (map (numbered_place g.N.ShelfNumber.value) ks)) (sym ahead)
+          (ranged-of g.N.Ord.cmp g.N.ShelfNumber.value g.met.N.ShelfNumber.in_order c.self.inside.from p
+          c.self.inside.places.keys found.0 found.1),
+      subst (λ ks. IsStrictlySortedBy shelf_cmp (map (numbered_place g.N.ShelfNumber.value) ks)) (sym ahead)
+          (ranged-sorted g.N.Ord.cmp g.N.ShelfNumber.value g.met.N.ShelfNumber.in_order c.self.inside.from
+          c.self.inside.places.keys c.range-place-items.ensures.ordered),
     )
 
 pub loop-place-preserved : goal.loop-place-preserved
 loop-place-preserved g c =
     let rest : c.loop-place.place-iterator ≡ c.in-Some.place.now ∷ c.next.new.self = search rules in (
-      none-here c.args.label (numbered_place g.N.ShelfNumber.value c.in-Some.place.now) (map (numbered_place g.N.ShelfNumber.value) c.next.new.self) c.args.jobs.now.entries
-          (subst (λ n. (e : ℕ × Job) → In e c.args.jobs.now.entries → BelongsAt c.args.label (n, c.in-Some.place.now.1) e → ⊥) c.wide.ensures c.in_default.ensures.none)
+      none-here c.args.label (numbered_place g.N.ShelfNumber.value c.in-Some.place.now)
+          (map (numbered_place g.N.ShelfNumber.value) c.next.new.self) c.args.jobs.now.entries
+          (subst (λ n. (e : ℕ × Job) → In e c.args.jobs.now.entries
+          → BelongsAt c.args.label (n, c.in-Some.place.now.1) e → ⊥) c.wide.ensures c.in_default.ensures.none)
           (subst (λ ks. AreAllOn c.args.label (map (numbered_place g.N.ShelfNumber.value) ks) c.args.jobs.now.entries) rest c.loop-place.invariant.0),
-      sorted-rest (numbered_place g.N.ShelfNumber.value c.in-Some.place.now) (map (numbered_place g.N.ShelfNumber.value) c.next.new.self) (subst (λ ks. IsStrictlySortedBy shelf_cmp (map (numbered_place g.N.ShelfNumber.value) ks)) rest c.loop-place.invariant.1),
+      sorted-rest (numbered_place g.N.ShelfNumber.value c.in-Some.place.now)
+          (map (numbered_place g.N.ShelfNumber.value) c.next.new.self)
+          (subst (λ ks. IsStrictlySortedBy shelf_cmp (map (numbered_place g.N.ShelfNumber.value) ks)) rest
+          c.loop-place.invariant.1),
     )
 
 pub returns-in-Some-job_at-clause-found : goal.returns-in-Some-job_at-clause-found
 returns-in-Some-job_at-clause-found g c =
     let rest : c.loop-place.place-iterator ≡ c.in-Some.place.now ∷ c.next.new.self = search rules in
-    first-is-least c.args.label (numbered_place g.N.ShelfNumber.value c.in-Some.place.now) (map (numbered_place g.N.ShelfNumber.value) c.next.new.self) c.args.jobs.now.entries (c.in-Some.place.now.1, c.in-Some-job_at.job.now)
+    first-is-least c.args.label (numbered_place g.N.ShelfNumber.value c.in-Some.place.now)
+    (map (numbered_place g.N.ShelfNumber.value) c.next.new.self) c.args.jobs.now.entries
+    (c.in-Some.place.now.1, c.in-Some-job_at.job.now)
     (subst (λ ks. AreAllOn c.args.label (map (numbered_place g.N.ShelfNumber.value) ks) c.args.jobs.now.entries) rest c.loop-place.invariant.0)
     (subst (λ ks. IsStrictlySortedBy shelf_cmp (map (numbered_place g.N.ShelfNumber.value) ks)) rest c.loop-place.invariant.1)
     c.in-Some-job_at.ensures.found.0
-    (subst (λ n. BelongsAt c.args.label (n, c.in-Some.place.now.1) (c.in-Some.place.now.1, c.in-Some-job_at.job.now)) c.wide.ensures c.in-Some-job_at.ensures.found.1)
+    (subst (λ n. BelongsAt c.args.label (n, c.in-Some.place.now.1) (c.in-Some.place.now.1, c.in-Some-job_at.job.now))
+    c.wide.ensures c.in-Some-job_at.ensures.found.1)
 
 pub returns-in-Some-job_at-clause-job : goal.returns-in-Some-job_at-clause-job
 returns-in-Some-job_at-clause-job g c =
     let rest : c.loop-place.place-iterator ≡ c.in-Some.place.now ∷ c.next.new.self = search rules in
     sym (least-only (belongs c.args.label) (number c.args.label) c.args.jobs.now.entries _ _ (c.in-Some.place.now.1, c.in-Some-job_at.job.now) c.requires.rising
-    (first-is-least c.args.label (numbered_place g.N.ShelfNumber.value c.in-Some.place.now) (map (numbered_place g.N.ShelfNumber.value) c.next.new.self) c.args.jobs.now.entries (c.in-Some.place.now.1, c.in-Some-job_at.job.now)
+    (first-is-least c.args.label (numbered_place g.N.ShelfNumber.value c.in-Some.place.now)
+    (map (numbered_place g.N.ShelfNumber.value) c.next.new.self) c.args.jobs.now.entries
+    (c.in-Some.place.now.1, c.in-Some-job_at.job.now)
     (subst (λ ks. AreAllOn c.args.label (map (numbered_place g.N.ShelfNumber.value) ks) c.args.jobs.now.entries) rest c.loop-place.invariant.0)
     (subst (λ ks. IsStrictlySortedBy shelf_cmp (map (numbered_place g.N.ShelfNumber.value) ks)) rest c.loop-place.invariant.1)
     c.in-Some-job_at.ensures.found.0
-    (subst (λ n. BelongsAt c.args.label (n, c.in-Some.place.now.1) (c.in-Some.place.now.1, c.in-Some-job_at.job.now)) c.wide.ensures c.in-Some-job_at.ensures.found.1)))
+    (subst (λ n. BelongsAt c.args.label (n, c.in-Some.place.now.1) (c.in-Some.place.now.1, c.in-Some-job_at.job.now))
+    c.wide.ensures c.in-Some-job_at.ensures.found.1)))
 
 pub returns-clause-job : goal.returns-clause-job
 returns-clause-job g c =
     let rest : c.loop-place.place-iterator ≡ [] = search rules in
     least-nothing (belongs c.args.label) (number c.args.label) c.args.jobs.now.entries
-    (none-on c.args.label c.args.jobs.now.entries (subst (λ ks. AreAllOn c.args.label (map (numbered_place g.N.ShelfNumber.value) ks) c.args.jobs.now.entries) rest c.loop-place.invariant.0))
+    (none-on c.args.label c.args.jobs.now.entries
+    (subst (λ ks. AreAllOn c.args.label (map (numbered_place g.N.ShelfNumber.value) ks) c.args.jobs.now.entries)
+    rest c.loop-place.invariant.0))

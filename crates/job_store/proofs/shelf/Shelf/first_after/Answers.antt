@@ -15,11 +15,19 @@ loop-place-init g c =
     let value = g.N.ShelfNumber.value in
     let law = g.met.N.ShelfNumber.in_order in
     let keys = c.self.inside.places.keys in
-    let ahead : c.into_iter-place-iterator.result ≡ keys_between (pair_cmp g.N.Ord.cmp value law) (Excluded c.args.after) Unbounded c.self.inside.places = search (rules, c.range-place-items.ensures.between tt) in (
+    let ahead : c.into_iter-place-iterator.result
+    ≡ keys_between (pair_cmp g.N.Ord.cmp value law) (Excluded c.args.after) Unbounded c.self.inside.places =
+    search (rules, c.range-place-items.ensures.between tt) in (
       λ p e i b t.
-          let found : IsFound (record { places = map (numbered_place value) keys; from = numbered_place value c.self.inside.from }) p = subst (λ (s : ShelfState). IsFound s p) (sym c.self.view_is) (c.requires.all p e i b) in
+          let found : IsFound (record {
+            places = map (numbered_place value) keys;
+            from =
+                numbered_place value c.self.inside.from;
+          }) p =
+          subst (λ (s : ShelfState). IsFound s p) (sym c.self.view_is) (c.requires.all p e i b) in
           subst (λ ks. In p (map (numbered_place value) ks)) (sym ahead) (after-kept g.N.Ord.cmp value law c.args.after p keys found.0 t),
-      subst (λ ks. IsStrictlySortedBy shelf_cmp (map (numbered_place value) ks)) (sym ahead) (after-sorted g.N.Ord.cmp value law c.args.after keys c.range-place-items.ensures.ordered),
+      subst (λ ks. IsStrictlySortedBy shelf_cmp (map (numbered_place value) ks)) (sym ahead)
+          (after-sorted g.N.Ord.cmp value law c.args.after keys c.range-place-items.ensures.ordered),
       λ p i. after-only g.N.Ord.cmp value law c.args.after p keys (subst (λ ks. In p (map (numbered_place value) ks)) ahead i),
     )
 
@@ -27,10 +35,14 @@ pub loop-place-preserved : goal.loop-place-preserved
 loop-place-preserved g c =
     let value = g.N.ShelfNumber.value in
     let rest : c.loop-place.place-iterator ≡ c.in-Some.place.now ∷ c.next.new.self = search rules in (
-      none-here-after c.args.label (numbered_place value c.args.after) (numbered_place value c.in-Some.place.now) (map (numbered_place value) c.next.new.self) c.args.jobs.now.entries
-          (subst (λ n. (e : ℕ × Job) → In e c.args.jobs.now.entries → BelongsAt c.args.label (n, c.in-Some.place.now.1) e → ⊥) c.wide.ensures c.in_default.ensures.none)
-          (subst (λ ks. AreAllAfter c.args.label (numbered_place value c.args.after) (map (numbered_place value) ks) c.args.jobs.now.entries) rest c.loop-place.invariant.0),
-      sorted-rest (numbered_place value c.in-Some.place.now) (map (numbered_place value) c.next.new.self) (subst (λ ks. IsStrictlySortedBy shelf_cmp (map (numbered_place value) ks)) rest c.loop-place.invariant.1),
+      none-here-after c.args.label (numbered_place value c.args.after) (numbered_place value c.in-Some.place.now)
+          (map (numbered_place value) c.next.new.self) c.args.jobs.now.entries
+          (subst (λ n. (e : ℕ × Job) → In e c.args.jobs.now.entries
+          → BelongsAt c.args.label (n, c.in-Some.place.now.1) e → ⊥) c.wide.ensures c.in_default.ensures.none)
+          (subst (λ ks. AreAllAfter c.args.label (numbered_place value c.args.after)
+          (map (numbered_place value) ks) c.args.jobs.now.entries) rest c.loop-place.invariant.0),
+      sorted-rest (numbered_place value c.in-Some.place.now) (map (numbered_place value) c.next.new.self)
+          (subst (λ ks. IsStrictlySortedBy shelf_cmp (map (numbered_place value) ks)) rest c.loop-place.invariant.1),
       λ p i. (subst (λ ks. AreAfter (numbered_place value c.args.after) (map (numbered_place value) ks)) rest c.loop-place.invariant.2) p (inr i),
     )
 
@@ -38,16 +50,21 @@ pub returns-in-Some-job_at-clause-found : goal.returns-in-Some-job_at-clause-fou
 returns-in-Some-job_at-clause-found g c =
     let value = g.N.ShelfNumber.value in
     let rest : c.loop-place.place-iterator ≡ c.in-Some.place.now ∷ c.next.new.self = search rules in
-    first-after-is-least c.args.label (numbered_place value c.args.after) (numbered_place value c.in-Some.place.now) (map (numbered_place value) c.next.new.self) c.args.jobs.now.entries (c.in-Some.place.now.1, c.in-Some-job_at.job.now)
-    (subst (λ ks. AreAllAfter c.args.label (numbered_place value c.args.after) (map (numbered_place value) ks) c.args.jobs.now.entries) rest c.loop-place.invariant.0)
+    first-after-is-least c.args.label (numbered_place value c.args.after) (numbered_place value c.in-Some.place.now)
+    (map (numbered_place value) c.next.new.self) c.args.jobs.now.entries
+    (c.in-Some.place.now.1, c.in-Some-job_at.job.now)
+    (subst (λ ks. AreAllAfter c.args.label (numbered_place value c.args.after)
+    (map (numbered_place value) ks) c.args.jobs.now.entries) rest c.loop-place.invariant.0)
     (subst (λ ks. IsStrictlySortedBy shelf_cmp (map (numbered_place value) ks)) rest c.loop-place.invariant.1)
     (subst (λ ks. AreAfter (numbered_place value c.args.after) (map (numbered_place value) ks)) rest c.loop-place.invariant.2)
     c.in-Some-job_at.ensures.found.0
-    (subst (λ n. BelongsAt c.args.label (n, c.in-Some.place.now.1) (c.in-Some.place.now.1, c.in-Some-job_at.job.now)) c.wide.ensures c.in-Some-job_at.ensures.found.1)
+    (subst (λ n. BelongsAt c.args.label (n, c.in-Some.place.now.1) (c.in-Some.place.now.1, c.in-Some-job_at.job.now))
+    c.wide.ensures c.in-Some-job_at.ensures.found.1)
 
 pub returns-clause-none : goal.returns-clause-none
 returns-clause-none g c =
     let value = g.N.ShelfNumber.value in
     let rest : c.loop-place.place-iterator ≡ [] = search rules in
     none-after c.args.label (numbered_place value c.args.after) c.args.jobs.now.entries
-    (subst (λ ks. AreAllAfter c.args.label (numbered_place value c.args.after) (map (numbered_place value) ks) c.args.jobs.now.entries) rest c.loop-place.invariant.0)
+    (subst (λ ks. AreAllAfter c.args.label (numbered_place value c.args.after)
+    (map (numbered_place value) ks) c.args.jobs.now.entries) rest c.loop-place.invariant.0)

@@ -7,18 +7,41 @@ use Rattle.job_store.proofs.shelf.Shelf.put.Goals as goal
 
 pub returns-clause-ok : goal.returns-clause-ok
 returns-clause-ok g c =
-    found-by c.args.self.now (record { places = map (numbered_place g.N.ShelfNumber.value) c.insert.new.self.keys; from = numbered_place g.N.ShelfNumber.value c.self.inside.from }) c.reach.new.self (g.N.ShelfNumber.value c.args.number, c.args.id)
-    (ap (map (numbered_place g.N.ShelfNumber.value)) c.in_ok-insert.ensures.keys ∙ put-of g.N.Ord.cmp g.N.ShelfNumber.value g.met.N.ShelfNumber.in_order (c.args.number, c.args.id) c.self.inside.places.keys ∙ ap (λ (s : ShelfState). insert_key shelf_cmp s.places (g.N.ShelfNumber.value c.args.number, c.args.id)) c.self.view_is)
+    found-by c.args.self.now (record {
+      places =
+          map (numbered_place g.N.ShelfNumber.value) c.insert.new.self.keys;
+      from =
+          numbered_place g.N.ShelfNumber.value c.self.inside.from;
+    }) c.reach.new.self
+    (g.N.ShelfNumber.value c.args.number, c.args.id)
+    (ap (map (numbered_place g.N.ShelfNumber.value)) c.in_ok-insert.ensures.keys ∙ put-of g.N.Ord.cmp
+    g.N.ShelfNumber.value g.met.N.ShelfNumber.in_order (c.args.number, c.args.id) c.self.inside.places.keys ∙ ap
+    (λ (s : ShelfState). insert_key shelf_cmp s.places (g.N.ShelfNumber.value c.args.number, c.args.id))
+    c.self.view_is)
     c.reach.ensures
 
 pub returns-clause-gained : goal.returns-clause-gained
 returns-clause-gained g c =
-    gained-by c.args.self.now (record { places = map (numbered_place g.N.ShelfNumber.value) c.insert.new.self.keys; from = numbered_place g.N.ShelfNumber.value c.self.inside.from }) c.reach.new.self (g.N.ShelfNumber.value c.args.number, c.args.id)
-    (ap (map (numbered_place g.N.ShelfNumber.value)) c.in_ok-insert.ensures.keys ∙ put-of g.N.Ord.cmp g.N.ShelfNumber.value g.met.N.ShelfNumber.in_order (c.args.number, c.args.id) c.self.inside.places.keys ∙ ap (λ (s : ShelfState). insert_key shelf_cmp s.places (g.N.ShelfNumber.value c.args.number, c.args.id)) c.self.view_is)
+    gained-by c.args.self.now (record {
+      places =
+          map (numbered_place g.N.ShelfNumber.value) c.insert.new.self.keys;
+      from =
+          numbered_place g.N.ShelfNumber.value c.self.inside.from;
+    }) c.reach.new.self
+    (g.N.ShelfNumber.value c.args.number, c.args.id)
+    (ap (map (numbered_place g.N.ShelfNumber.value)) c.in_ok-insert.ensures.keys ∙ put-of g.N.Ord.cmp
+    g.N.ShelfNumber.value g.met.N.ShelfNumber.in_order (c.args.number, c.args.id) c.self.inside.places.keys ∙ ap
+    (λ (s : ShelfState). insert_key shelf_cmp s.places (g.N.ShelfNumber.value c.args.number, c.args.id))
+    c.self.view_is)
     (ap (λ (s : ShelfState). s.from) c.self.view_is) c.reach.ensures
 
 pub returns-in_err-insert-clause-gained : goal.returns-in_err-insert-clause-gained
 returns-in_err-insert-clause-gained g c =
-    gained-none c.args.self.now (record { places = map (numbered_place g.N.ShelfNumber.value) c.insert.new.self.keys; from = numbered_place g.N.ShelfNumber.value c.self.inside.from }) (g.N.ShelfNumber.value c.args.number, c.args.id)
+    gained-none c.args.self.now (record {
+      places =
+          map (numbered_place g.N.ShelfNumber.value) c.insert.new.self.keys;
+      from =
+          numbered_place g.N.ShelfNumber.value c.self.inside.from;
+    }) (g.N.ShelfNumber.value c.args.number, c.args.id)
     (ap (map (numbered_place g.N.ShelfNumber.value)) c.in_err-insert.ensures.err ∙ ap (λ (s : ShelfState). s.places) c.self.view_is)
     (ap (λ (s : ShelfState). s.from) c.self.view_is)

@@ -10,12 +10,16 @@ loop-id-init c =
 
 pub loop-id-preserved-in_ok-put_everywhere : goal.loop-id-preserved-in_ok-put_everywhere
 loop-id-preserved-in_ok-put_everywhere c =
-    one-put c.loop-id.shelves c.put_everywhere.new.self (c.in-Some.id.now, c.in-Some.job.now) c.in_ok-spot.spot c.loop-id.id-iterator c.next.new.self c.args.jobs.now.entries (search rules) c.in_ok-spot.ensures
+    one-put c.loop-id.shelves c.put_everywhere.new.self
+    (c.in-Some.id.now, c.in-Some.job.now) c.in_ok-spot.spot c.loop-id.id-iterator c.next.new.self
+    c.args.jobs.now.entries (search rules) c.in_ok-spot.ensures
     c.in_ok-put_everywhere.ensures.come c.in_ok-put_everywhere.ensures.put c.loop-id.invariant
 
 pub loop-id-preserved : goal.loop-id-preserved
 loop-id-preserved c =
-    one-put c.loop-id.shelves c.put_everywhere.new.self (c.in-Some.id.now, c.in-Some.job.now) c.in_ok-spot.spot c.loop-id.id-iterator c.next.new.self c.args.jobs.now.entries (search rules) c.in_ok-spot.ensures
+    one-put c.loop-id.shelves c.put_everywhere.new.self
+    (c.in-Some.id.now, c.in-Some.job.now) c.in_ok-spot.spot c.loop-id.id-iterator c.next.new.self
+    c.args.jobs.now.entries (search rules) c.in_ok-spot.ensures
     c.in_ok-put_everywhere.ensures.come c.in_ok-put_everywhere.ensures.put c.loop-id.invariant
 
 pub returns-clause-placed : goal.returns-clause-placed

@@ -3,23 +3,58 @@ use Rattle.job_store.proofs.shelving.Everywhere.{taken-twice, ahead-taken, gone-
 use Rattle.job_store.proofs.shelves.Shelves.take_everywhere.Goals as goal
 
 pub returns-clause-taken : goal.returns-clause-taken
-returns-clause-taken c = (taken-twice c.args.self.now c.take_from-5.new.self c.take_from-6.new.self c.args.jobs.now.entries (taken-twice c.args.self.now c.take_from-4.new.self c.take_from-5.new.self c.args.jobs.now.entries (taken-twice c.args.self.now c.take_from-3.new.self c.take_from-4.new.self c.args.jobs.now.entries (taken-twice c.args.self.now c.take_from-2.new.self c.take_from-3.new.self c.args.jobs.now.entries (taken-twice c.args.self.now c.take_from.new.self c.take_from-2.new.self c.args.jobs.now.entries c.take_from.ensures.taken c.take_from-2.ensures.taken) c.take_from-3.ensures.taken) c.take_from-4.ensures.taken) c.take_from-5.ensures.taken) c.take_from-6.ensures.taken)
+returns-clause-taken c = (taken-twice c.args.self.now c.take_from-5.new.self c.take_from-6.new.self
+    c.args.jobs.now.entries (taken-twice c.args.self.now c.take_from-4.new.self c.take_from-5.new.self
+    c.args.jobs.now.entries (taken-twice c.args.self.now c.take_from-3.new.self c.take_from-4.new.self
+    c.args.jobs.now.entries (taken-twice c.args.self.now c.take_from-2.new.self c.take_from-3.new.self
+    c.args.jobs.now.entries (taken-twice c.args.self.now c.take_from.new.self c.take_from-2.new.self
+    c.args.jobs.now.entries c.take_from.ensures.taken c.take_from-2.ensures.taken) c.take_from-3.ensures.taken)
+    c.take_from-4.ensures.taken) c.take_from-5.ensures.taken) c.take_from-6.ensures.taken)
 
 pub returns-clause-gone : goal.returns-clause-gone
 returns-clause-gone c =
-    gone-everywhere c.take_from.new.self c.take_from-2.new.self c.take_from-3.new.self c.take_from-4.new.self c.take_from-5.new.self c.take_from-6.new.self c.args.jobs.now.entries c.args.id (at_spot c.args.spot.now) c.holder.result c.holder.ensures c.take_from.ensures.gone c.take_from-2.ensures.gone c.take_from-3.ensures.gone c.take_from-4.ensures.gone c.take_from-5.ensures.gone c.take_from-6.ensures.gone c.take_from-2.ensures.taken c.take_from-3.ensures.taken c.take_from-4.ensures.taken c.take_from-5.ensures.taken c.take_from-6.ensures.taken
+    gone-everywhere c.take_from.new.self c.take_from-2.new.self c.take_from-3.new.self c.take_from-4.new.self
+    c.take_from-5.new.self c.take_from-6.new.self c.args.jobs.now.entries c.args.id
+    (at_spot c.args.spot.now) c.holder.result c.holder.ensures c.take_from.ensures.gone c.take_from-2.ensures.gone
+    c.take_from-3.ensures.gone c.take_from-4.ensures.gone c.take_from-5.ensures.gone c.take_from-6.ensures.gone
+    c.take_from-2.ensures.taken c.take_from-3.ensures.taken c.take_from-4.ensures.taken c.take_from-5.ensures.taken
+    c.take_from-6.ensures.taken
 
 pub take_from-requires-2-clause-ahead : goal.take_from-requires-2-clause-ahead
-take_from-requires-2-clause-ahead c = ahead-taken c.args.self.now c.take_from.new.self c.args.jobs.now.entries c.args.jobs.now.entries c.take_from.ensures.taken c.requires.ahead
+take_from-requires-2-clause-ahead c =
+    ahead-taken c.args.self.now c.take_from.new.self c.args.jobs.now.entries c.args.jobs.now.entries
+    c.take_from.ensures.taken c.requires.ahead
 
 pub take_from-requires-3-clause-ahead : goal.take_from-requires-3-clause-ahead
-take_from-requires-3-clause-ahead c = ahead-taken c.take_from.new.self c.take_from-2.new.self c.args.jobs.now.entries c.args.jobs.now.entries c.take_from-2.ensures.taken (ahead-taken c.args.self.now c.take_from.new.self c.args.jobs.now.entries c.args.jobs.now.entries c.take_from.ensures.taken c.requires.ahead)
+take_from-requires-3-clause-ahead c =
+    ahead-taken c.take_from.new.self c.take_from-2.new.self c.args.jobs.now.entries c.args.jobs.now.entries
+    c.take_from-2.ensures.taken (ahead-taken c.args.self.now c.take_from.new.self c.args.jobs.now.entries
+    c.args.jobs.now.entries c.take_from.ensures.taken c.requires.ahead)
 
 pub take_from-requires-4-clause-ahead : goal.take_from-requires-4-clause-ahead
-take_from-requires-4-clause-ahead c = ahead-taken c.take_from-2.new.self c.take_from-3.new.self c.args.jobs.now.entries c.args.jobs.now.entries c.take_from-3.ensures.taken (ahead-taken c.take_from.new.self c.take_from-2.new.self c.args.jobs.now.entries c.args.jobs.now.entries c.take_from-2.ensures.taken (ahead-taken c.args.self.now c.take_from.new.self c.args.jobs.now.entries c.args.jobs.now.entries c.take_from.ensures.taken c.requires.ahead))
+take_from-requires-4-clause-ahead c =
+    ahead-taken c.take_from-2.new.self c.take_from-3.new.self c.args.jobs.now.entries c.args.jobs.now.entries
+    c.take_from-3.ensures.taken (ahead-taken c.take_from.new.self c.take_from-2.new.self c.args.jobs.now.entries
+    c.args.jobs.now.entries c.take_from-2.ensures.taken
+    (ahead-taken c.args.self.now c.take_from.new.self c.args.jobs.now.entries c.args.jobs.now.entries
+    c.take_from.ensures.taken c.requires.ahead))
 
 pub take_from-requires-5-clause-ahead : goal.take_from-requires-5-clause-ahead
-take_from-requires-5-clause-ahead c = ahead-taken c.take_from-3.new.self c.take_from-4.new.self c.args.jobs.now.entries c.args.jobs.now.entries c.take_from-4.ensures.taken (ahead-taken c.take_from-2.new.self c.take_from-3.new.self c.args.jobs.now.entries c.args.jobs.now.entries c.take_from-3.ensures.taken (ahead-taken c.take_from.new.self c.take_from-2.new.self c.args.jobs.now.entries c.args.jobs.now.entries c.take_from-2.ensures.taken (ahead-taken c.args.self.now c.take_from.new.self c.args.jobs.now.entries c.args.jobs.now.entries c.take_from.ensures.taken c.requires.ahead)))
+take_from-requires-5-clause-ahead c =
+    ahead-taken c.take_from-3.new.self c.take_from-4.new.self c.args.jobs.now.entries c.args.jobs.now.entries
+    c.take_from-4.ensures.taken (ahead-taken c.take_from-2.new.self c.take_from-3.new.self c.args.jobs.now.entries
+    c.args.jobs.now.entries c.take_from-3.ensures.taken
+    (ahead-taken c.take_from.new.self c.take_from-2.new.self c.args.jobs.now.entries c.args.jobs.now.entries
+    c.take_from-2.ensures.taken (ahead-taken c.args.self.now c.take_from.new.self c.args.jobs.now.entries
+    c.args.jobs.now.entries c.take_from.ensures.taken c.requires.ahead)))
 
 pub take_from-requires-6-clause-ahead : goal.take_from-requires-6-clause-ahead
-take_from-requires-6-clause-ahead c = ahead-taken c.take_from-4.new.self c.take_from-5.new.self c.args.jobs.now.entries c.args.jobs.now.entries c.take_from-5.ensures.taken (ahead-taken c.take_from-3.new.self c.take_from-4.new.self c.args.jobs.now.entries c.args.jobs.now.entries c.take_from-4.ensures.taken (ahead-taken c.take_from-2.new.self c.take_from-3.new.self c.args.jobs.now.entries c.args.jobs.now.entries c.take_from-3.ensures.taken (ahead-taken c.take_from.new.self c.take_from-2.new.self c.args.jobs.now.entries c.args.jobs.now.entries c.take_from-2.ensures.taken (ahead-taken c.args.self.now c.take_from.new.self c.args.jobs.now.entries c.args.jobs.now.entries c.take_from.ensures.taken c.requires.ahead))))
+take_from-requires-6-clause-ahead c =
+    ahead-taken c.take_from-4.new.self c.take_from-5.new.self c.args.jobs.now.entries c.args.jobs.now.entries
+    c.take_from-5.ensures.taken (ahead-taken c.take_from-3.new.self c.take_from-4.new.self c.args.jobs.now.entries
+    c.args.jobs.now.entries c.take_from-4.ensures.taken
+    (ahead-taken c.take_from-2.new.self c.take_from-3.new.self c.args.jobs.now.entries c.args.jobs.now.entries
+    c.take_from-3.ensures.taken (ahead-taken c.take_from.new.self c.take_from-2.new.self c.args.jobs.now.entries
+    c.args.jobs.now.entries c.take_from-2.ensures.taken
+    (ahead-taken c.args.self.now c.take_from.new.self c.args.jobs.now.entries c.args.jobs.now.entries
+    c.take_from.ensures.taken c.requires.ahead))))

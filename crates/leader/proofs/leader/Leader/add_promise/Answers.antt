@@ -16,9 +16,20 @@ pub invariant_of-self-2 : goal.invariant_of-self-2
 invariant_of-self-2 g c =
     let p = c.self.inside in
     let s = c.in-Some.scout in
-    let l : Leading g.row.C.Denot = record { members = p.members; ballot = p.ballot; active = p.active; proposals = p.proposals; scout = p.scout; commanders = p.commanders } in
+    let l : Leading g.row.C.Denot =
+    record {
+      members = p.members;
+      ballot = p.ballot;
+      active = p.active;
+      proposals = p.proposals;
+      scout =
+          p.scout;
+      commanders = p.commanders;
+    } in
     kept_scout p.node p.boot l c.on_p1b.new.self c.self.invariant
-    (subst (IsScoutOf l) (sym c.in_ok-on_p1b.ensures.state) (same_scout l s c.args.from p.ballot (fresh_of s c.on_p1b.new.self) (c.self.invariant.leader.scout s c.in-Some.is)))
+    (subst (IsScoutOf l) (sym c.in_ok-on_p1b.ensures.state)
+    (same_scout l s c.args.from p.ballot (fresh_of s c.on_p1b.new.self)
+    (c.self.invariant.leader.scout s c.in-Some.is)))
 
 pub returns-clause-hears : goal.returns-clause-hears
 returns-clause-hears g c = λ sent.

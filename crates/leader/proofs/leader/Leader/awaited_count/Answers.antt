@@ -23,5 +23,6 @@ byte false = refl
 
 pub returns : goal.returns
 returns g c = subst (λ l. c.from.result + c.len.result ≡ length (says_again l)) c.self.view_is
-    (ap₂ (λ a b. a + b) (c.from.ensures ∙ ap bool_byte c.is_some.ensures ∙ byte (is_some c.self.inside.scout) ∙ sym (one_or_none c.self.inside.scout)) (c.len.ensures.len ∙ sym (votes c.self.inside.commanders))
+    (ap₂ (λ a b. a + b) (c.from.ensures ∙ ap bool_byte c.is_some.ensures ∙ byte (is_some c.self.inside.scout) ∙ sym
+    (one_or_none c.self.inside.scout)) (c.len.ensures.len ∙ sym (votes c.self.inside.commanders))
     ∙ sym (length-append (scout_says c.self.inside.scout) _))

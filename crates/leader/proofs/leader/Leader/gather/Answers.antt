@@ -23,7 +23,9 @@ returns-clause-hears g c =
     subst (λ (x : Leading g.row.C.Denot). IsAdopting s c.args.from x.ballot) c.self.view_is (c.would_adopt.ensures.0 c.if-not-would_adopt.false) in
     let greatest : TakesGreatest l.proposals (s.gathered ++ c.args.report.now) c.in_ok-proposals.proposals =
     subst (λ (x : Leading g.row.C.Denot). TakesGreatest x.proposals (s.gathered ++ c.args.report.now) c.in_ok-proposals.proposals) c.self.view_is
-    (subst (λ (ps : List (Pvalue g.row.C.Denot)). TakesGreatest c.self.inside.proposals (ps ++ c.args.report.now) c.in_ok-proposals.proposals) c.gathered_so_far-gathered.ensures c.in_ok-proposals.ensures) in
+    (subst (λ (ps : List (Pvalue g.row.C.Denot)). TakesGreatest c.self.inside.proposals
+    (ps ++ c.args.report.now) c.in_ok-proposals.proposals) c.gathered_so_far-gathered.ensures
+    c.in_ok-proposals.ensures) in
     on_ok_both c.lead.result
     (λ state out.
     adopts l c.args.from c.args.report.now c.args.out.now.items c.lead.new.out.items s c.in_ok-proposals.proposals c.lead.new.self

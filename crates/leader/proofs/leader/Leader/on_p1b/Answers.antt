@@ -19,7 +19,9 @@ pub returns-then-not-has-clause-hears : goal.returns-then-not-has-clause-hears
 returns-then-not-has-clause-hears g c =
     let l = c.args.self.now in
     let leads : IsLeader l = subst IsLeader c.self.view_is c.self.invariant.leader in
-    let stranger : is_member l.members c.args.from ≡ false = ap (λ (x : Leading g.row.C.Denot). is_member x.members c.args.from) (sym c.self.view_is) ∙ sym c.if-not-has.ensures in
+    let stranger : is_member l.members c.args.from ≡ false =
+    ap (λ (x : Leading g.row.C.Denot). is_member x.members c.args.from)
+    (sym c.self.view_is) ∙ sym c.if-not-has.ensures in
     of_stranger l c.args.from c.args.ballot c.args.report.now c.args.out.now.items leads stranger
 
 pub returns-then-ne-clause-hears : goal.returns-then-ne-clause-hears
@@ -30,7 +32,9 @@ returns-then-ne-clause-hears g c =
     let found = some_there c.self.inside.scout c.if-is_none.ensures in
     let there = ap (λ (x : Leading g.row.C.Denot). x.scout) (sym c.self.view_is) ∙ found.1 in
     let member : is_member l.members c.args.from ≡ true = now (λ x. is_member x.members c.args.from) ∙ sym c.if-not-has.ensures in
-    let other : is_same c.args.ballot l.ballot ≡ false = now (λ x. is_same c.args.ballot x.ballot) ∙ untrue (is_same c.args.ballot c.self.inside.ballot) c.if-ne.ensures in
+    let other : is_same c.args.ballot l.ballot ≡ false =
+    now (λ x. is_same c.args.ballot x.ballot) ∙ untrue
+    (is_same c.args.ballot c.self.inside.ballot) c.if-ne.ensures in
     on_ok_weaker c.preempted.result
     (λ e. subst (λ x. HearsP1b l c.args.from c.args.ballot c.args.report.now x c.args.out.now.items c.args.out.now.items) (sym e)
     (of_another l c.args.from c.args.ballot c.args.report.now c.args.out.now.items found.0 there leads member other)) c.preempted.ensures.ok

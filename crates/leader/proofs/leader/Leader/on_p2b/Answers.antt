@@ -15,23 +15,32 @@ pub returns-in_default-clause-state : goal.returns-in_default-clause-state
 returns-in_default-clause-state g c =
     let l = c.args.self.now in
     let none : c.args.ballot ≡ None = c.in_default.is in
-    sym (ap (λ (o : Option Numbers). (votes.on_p2b l c.args.from o c.args.slot c.args.asked).state) none ∙ ap (λ (d : Done (Leading g.row.C.Denot) g.row.C.Denot). d.state) (of_none l c.args.from c.args.slot c.args.asked))
+    sym (ap (λ (o : Option Numbers). (votes.on_p2b l c.args.from o c.args.slot c.args.asked).state) none ∙ ap
+    (λ (d : Done (Leading g.row.C.Denot) g.row.C.Denot). d.state) (of_none l c.args.from c.args.slot c.args.asked))
 
 pub returns-then-not-has-clause-state : goal.returns-then-not-has-clause-state
 returns-then-not-has-clause-state g c =
     let leads : IsLeader c.args.self.now = subst IsLeader c.self.view_is c.self.invariant.leader in
-    let stranger : is_member c.args.self.now.members c.args.from ≡ false = ap (λ (l : Leading g.row.C.Denot). is_member l.members c.args.from) (sym c.self.view_is) ∙ sym c.if-not-has.ensures in
-    sym (ap (λ (d : Done (Leading g.row.C.Denot) g.row.C.Denot). d.state) (of_stranger c.args.self.now c.args.from c.args.slot c.args.ballot c.args.asked leads stranger))
+    let stranger : is_member c.args.self.now.members c.args.from ≡ false =
+    ap (λ (l : Leading g.row.C.Denot). is_member l.members c.args.from)
+    (sym c.self.view_is) ∙ sym c.if-not-has.ensures in
+    sym (ap (λ (d : Done (Leading g.row.C.Denot) g.row.C.Denot). d.state)
+    (of_stranger c.args.self.now c.args.from c.args.slot c.args.ballot c.args.asked leads stranger))
 
 pub returns-then-not-has-clause-out : goal.returns-then-not-has-clause-out
 returns-then-not-has-clause-out g c =
     let leads : IsLeader c.args.self.now = subst IsLeader c.self.view_is c.self.invariant.leader in
-    let stranger : is_member c.args.self.now.members c.args.from ≡ false = ap (λ (l : Leading g.row.C.Denot). is_member l.members c.args.from) (sym c.self.view_is) ∙ sym c.if-not-has.ensures in
+    let stranger : is_member c.args.self.now.members c.args.from ≡ false =
+    ap (λ (l : Leading g.row.C.Denot). is_member l.members c.args.from)
+    (sym c.self.view_is) ∙ sym c.if-not-has.ensures in
     said_nothing c.args.out.now.items c.args.self.now.members c.args.self.now.ballot.node _
-    (ap (λ (d : Done (Leading g.row.C.Denot) g.row.C.Denot). d.says) (of_stranger c.args.self.now c.args.from c.args.slot c.args.ballot c.args.asked leads stranger))
+    (ap (λ (d : Done (Leading g.row.C.Denot) g.row.C.Denot). d.says)
+    (of_stranger c.args.self.now c.args.from c.args.slot c.args.ballot c.args.asked leads stranger))
 
 -- a member's vote of another ballot, where a commander stands
-preempts : (g : Over) (c : goal.After-preempted g) → votes.on_p2b c.args.self.now c.args.from c.args.ballot c.args.slot c.args.asked ≡ silently (preempted c.args.self.now c.in-Some.ballot)
+preempts : (g : Over) (c : goal.After-preempted g)
+    → votes.on_p2b c.args.self.now c.args.from c.args.ballot c.args.slot c.args.asked
+    ≡ silently (preempted c.args.self.now c.in-Some.ballot)
 preempts g c =
     let leads : IsLeader c.args.self.now = subst IsLeader c.self.view_is c.self.invariant.leader in
     let now = λ (B : Leading g.row.C.Denot → Bool). ap B (sym c.self.view_is) in

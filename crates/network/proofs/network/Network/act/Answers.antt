@@ -12,34 +12,50 @@ index_mut-requires g c =
 
 pub act-requires : goal.act-requires
 act-requires g c =
-    able g.O.Object.rules (at_place c.self.invariant c.self.view_is c.from.ensures c.requires.member) c.index_mut.result.now c.index_mut.ensures.value c.args.deed c.requires.able
+    able g.O.Object.rules (at_place c.self.invariant c.self.view_is c.from.ensures c.requires.member)
+    c.index_mut.result.now c.index_mut.ensures.value c.args.deed c.requires.able
 
 pub invariant_of-self : goal.invariant_of-self
 invariant_of-self g c =
-    stays_quiet (at_place c.self.invariant c.self.view_is c.from.ensures c.requires.member) c.index_mut.result.now c.act.new.self c.act.new.sent.items c.index_mut.ensures.value c.in_err-outcome.ensures.err c.in_err-outcome.ensures.unsaid.0
+    stays_quiet (at_place c.self.invariant c.self.view_is c.from.ensures c.requires.member) c.index_mut.result.now
+    c.act.new.self c.act.new.sent.items c.index_mut.ensures.value c.in_err-outcome.ensures.err
+    c.in_err-outcome.ensures.unsaid.0
 
 pub returns-in_err-outcome-clause-err : goal.returns-in_err-outcome-clause-err
 returns-in_err-outcome-clause-err g c = on_err c.from_residual.result
-    (turned_not (at_place c.self.invariant c.self.view_is c.from.ensures c.requires.member) c.index_mut.result.now c.index_mut.ensures.value c.act.new.self c.act.new.sent.items c.in_err-outcome.ensures.err c.in_err-outcome.ensures.unsaid.0)
+    (turned_not (at_place c.self.invariant c.self.view_is c.from.ensures c.requires.member) c.index_mut.result.now
+    c.index_mut.ensures.value c.act.new.self c.act.new.sent.items c.in_err-outcome.ensures.err
+    c.in_err-outcome.ensures.unsaid.0)
 
 pub invariant_of-self-2 : goal.invariant_of-self-2
 invariant_of-self-2 g c =
-    acted_whole g.O.Object.rules (at_place c.self.invariant c.self.view_is c.from.ensures c.requires.member) c.index_mut.result.now c.index_mut.ensures.value c.args.deed c.act.new.self c.act.new.sent.items c.in_ok-outcome.ensures.state c.in_ok-outcome.ensures.sent
+    acted_whole g.O.Object.rules (at_place c.self.invariant c.self.view_is c.from.ensures c.requires.member)
+    c.index_mut.result.now c.index_mut.ensures.value c.args.deed c.act.new.self c.act.new.sent.items
+    c.in_ok-outcome.ensures.state c.in_ok-outcome.ensures.sent
 
 pub returns-clause-ok : goal.returns-clause-ok
 returns-clause-ok g c =
     c.sort_mail.ensures
-    ∙ acted_ok g.O.Object.rules (at_place c.self.invariant c.self.view_is c.from.ensures c.requires.member) c.index_mut.result.now c.index_mut.ensures.value c.args.deed c.act.new.self c.act.new.sent.items c.in_ok-outcome.ensures.state c.in_ok-outcome.ensures.sent
+    ∙ acted_ok g.O.Object.rules (at_place c.self.invariant c.self.view_is c.from.ensures c.requires.member)
+    c.index_mut.result.now c.index_mut.ensures.value c.args.deed c.act.new.self c.act.new.sent.items
+    c.in_ok-outcome.ensures.state c.in_ok-outcome.ensures.sent
 
 pub returns-clause-answers : goal.returns-clause-answers
 returns-clause-answers g c =
     c.in_ok-outcome.ensures.answers
-    ∙ ap (λ (t : Turn g.row.O-Op.Denot g.row.O-Reply.Denot). c.args.answers.now.items ++ t.answers) (turn_is g.O.Object.rules (at_place c.self.invariant c.self.view_is c.from.ensures c.requires.member) c.index_mut.result.now c.index_mut.ensures.value c.args.deed)
+    ∙ ap (λ (t : Turn g.row.O-Op.Denot g.row.O-Reply.Denot). c.args.answers.now.items ++ t.answers)
+    (turn_is g.O.Object.rules (at_place c.self.invariant c.self.view_is c.from.ensures c.requires.member)
+    c.index_mut.result.now c.index_mut.ensures.value c.args.deed)
 
 pub returns-clause-outcome : goal.returns-clause-outcome
 returns-clause-outcome g c =
     c.in_ok-outcome.ensures.outcome
-    ∙ ap (λ z. outcome_of z c.args.deed) (node_read (at_place c.self.invariant c.self.view_is c.from.ensures c.requires.member) c.index_mut.result.now c.index_mut.ensures.value)
+    ∙ ap (λ z. outcome_of z c.args.deed)
+    (node_read (at_place c.self.invariant c.self.view_is c.from.ensures c.requires.member) c.index_mut.result.now
+    c.index_mut.ensures.value)
 
 pub returns-in_err-outcome-clause-idle : goal.returns-in_err-outcome-clause-idle
-returns-in_err-outcome-clause-idle g c = λ i. absurd (false≢true (c.in_err-outcome.ensures.idle (idle g.O.Object.rules (at_place c.self.invariant c.self.view_is c.from.ensures c.requires.member) c.index_mut.result.now c.index_mut.ensures.value c.args.deed i)))
+returns-in_err-outcome-clause-idle g c =
+    λ i. absurd (false≢true (c.in_err-outcome.ensures.idle
+    (idle g.O.Object.rules (at_place c.self.invariant c.self.view_is c.from.ensures c.requires.member)
+    c.index_mut.result.now c.index_mut.ensures.value c.args.deed i)))

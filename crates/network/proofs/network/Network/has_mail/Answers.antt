@@ -8,9 +8,11 @@ use Rattle.network.proofs.network.Network.has_mail.Goals as goal
 pub returns-then-has_letters : goal.returns-then-has_letters
 returns-then-has_letters g c =
     c.if-has_letters.true
-    ∙ mail_filled (at_place c.self.invariant c.self.view_is c.from.ensures c.requires) c.index.result.now c.index.ensures (sym c.has_letters.ensures ∙ c.if-has_letters.true)
+    ∙ mail_filled (at_place c.self.invariant c.self.view_is c.from.ensures c.requires) c.index.result.now
+    c.index.ensures (sym c.has_letters.ensures ∙ c.if-has_letters.true)
 
 pub returns-else-has_letters : goal.returns-else-has_letters
 returns-else-has_letters g c =
-    late_does (at_place c.self.invariant c.self.view_is c.from.ensures c.requires) c.index.result.now c.index.ensures (sym c.has_letters.ensures ∙ c.if-has_letters.false) c.has_any.result
+    late_does (at_place c.self.invariant c.self.view_is c.from.ensures c.requires) c.index.result.now c.index.ensures
+    (sym c.has_letters.ensures ∙ c.if-has_letters.false) c.has_any.result
     (c.has_any.ensures ∙ ap (λ ls. is_some (front (letters_to c.args.id ls))) c.deref.ensures.value)

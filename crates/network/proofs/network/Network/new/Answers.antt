@@ -8,12 +8,19 @@ loop-before-init g c = record { nodes = c.new-nodes.ensures.items; mails = c.new
 
 pub loop-before-preserved : goal.loop-before-preserved
 loop-before-preserved g c = record {
-  nodes = one_more (new_node c.args.members) _ _ c.in_ok-new.field-0 c.loop-before.before c.loop-before.invariant.nodes c.in_ok-new.ensures c.in_ok-push.ensures.items;
-  mails = one_more (λ _. []) _ _ c.new-in-loop-before.result c.loop-before.before c.loop-before.invariant.mails c.new-in-loop-before.ensures c.in_ok-push-2.ensures.items;
+  nodes = one_more (new_node c.args.members) _ _ c.in_ok-new.field-0 c.loop-before.before c.loop-before.invariant.nodes
+      c.in_ok-new.ensures c.in_ok-push.ensures.items;
+  mails = one_more (λ _. []) _ _ c.new-in-loop-before.result c.loop-before.before c.loop-before.invariant.mails
+      c.new-in-loop-before.ensures c.in_ok-push-2.ensures.items;
 }
 
 pub invariant_of-result : goal.invariant_of-result
-invariant_of-result g c = opened_whole c.args.members c.loop-before.nodes.items c.loop-before.mails.items c.new-2.result.items c.loop-before.before c.count-before-end.result c.count-before-end.ensures.count c.loop-before.auto.before-end c.loop-before-test.false c.loop-before.invariant.nodes c.loop-before.invariant.mails c.new-2.ensures.items
+invariant_of-result g c = opened_whole c.args.members c.loop-before.nodes.items c.loop-before.mails.items
+    c.new-2.result.items c.loop-before.before c.count-before-end.result c.count-before-end.ensures.count
+    c.loop-before.auto.before-end c.loop-before-test.false c.loop-before.invariant.nodes c.loop-before.invariant.mails
+    c.new-2.ensures.items
 
 pub returns : goal.returns
-returns g c = opened c.args.members c.loop-before.nodes.items c.loop-before.mails.items c.new-2.result.items c.loop-before.before c.count-before-end.result c.count-before-end.ensures.count c.loop-before.auto.before-end c.loop-before-test.false c.loop-before.invariant.nodes c.loop-before.invariant.mails c.new-2.ensures.items
+returns g c = opened c.args.members c.loop-before.nodes.items c.loop-before.mails.items c.new-2.result.items
+    c.loop-before.before c.count-before-end.result c.count-before-end.ensures.count c.loop-before.auto.before-end
+    c.loop-before-test.false c.loop-before.invariant.nodes c.loop-before.invariant.mails c.new-2.ensures.items

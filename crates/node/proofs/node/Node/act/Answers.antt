@@ -6,5 +6,6 @@ use Rattle.node.proofs.node.Node.act.Goals as goal
 pub returns-in_ok-request-in-Request-clause-state :
     goal.returns-in_ok-request-in-Request-clause-state
 returns-in_ok-request-in-Request-clause-state g c =
-    requested_turn g.O.Object.rules _ g.met.O.Object.same _ _ _ c.self.inside.replica _ c.in-Request.command c.in_ok-request-in-Request.ensures.state _ c.self.view_is
+    requested_turn g.O.Object.rules _ g.met.O.Object.same _ _ _ c.self.inside.replica _ c.in-Request.command
+    c.in_ok-request-in-Request.ensures.state _ c.self.view_is
     ∙ ap (λ d. (own_turn g.O.Object.rules c.args.self.now d).state) (sym c.in-Request.is)

@@ -4,4 +4,6 @@ use Rattle.node.proofs.Received.{received_ask}
 use Rattle.node.proofs.node.Node.on_ask.Goals as goal
 
 pub returns-clause-ok : goal.returns-clause-ok
-returns-clause-ok g c = received_ask _ _ _ c.self.view_is _ _ _ _ c.node.ensures.node (c.in_ok-send_each.ensures.ok ∙ ap (λ bs. c.args.out.now.items ++ map (λ b. letter c.node.result b c.args.«from») bs) c.in_ok-told.ensures)
+returns-clause-ok g c = received_ask _ _ _ c.self.view_is _ _ _ _ c.node.ensures.node
+    (c.in_ok-send_each.ensures.ok ∙ ap
+    (λ bs. c.args.out.now.items ++ map (λ b. letter c.node.result b c.args.«from») bs) c.in_ok-told.ensures)

@@ -6,4 +6,5 @@ use Rattle.node.proofs.node.Node.on_p1b.Goals as goal
 pub returns-clause-ok : goal.returns-clause-ok
 returns-clause-ok g c =
     received_p1b _ _ _ c.self.view_is _ _ _ _ _
-    (subst (λ ps. HearsP1b c.self.inside.leader c.args.«from» c.args.ballot ps c.hear_promise.new.leader c.args.out.now.items c.hear_promise.new.out.items) c.as_slice.ensures c.in_ok-hear_promise.ensures.hears)
+    (subst (λ ps. HearsP1b c.self.inside.leader c.args.«from» c.args.ballot ps c.hear_promise.new.leader
+    c.args.out.now.items c.hear_promise.new.out.items) c.as_slice.ensures c.in_ok-hear_promise.ensures.hears)

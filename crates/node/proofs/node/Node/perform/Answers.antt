@@ -26,6 +26,10 @@ returns-clause-outcome g c =
     g.O.Object.rules c.self.inside.replica c.args.self.now (sym (ap (λ n. n.replica) c.self.view_is)) c.self.invariant
     c.in_ok-perform.field-0 c.in_ok-perform.ensures.slot c.in_ok-perform.ensures.key c.in_ok-perform.ensures.effect in
     elim c.match-branch-2.branch [
-      | in-None w ↦ subst (λ r. IfOk r (λ outcome. outcome ≡ performs c.args.self.now.replica (next_decided c.args.self.now.replica))) (sym w.result-is) (sym (ap outcome_told w.in-None.is) ∙ own)
-      | in-Some w ↦ subst (λ r. IfOk r (λ outcome. outcome ≡ performs c.args.self.now.replica (next_decided c.args.self.now.replica))) (sym w.result-is) (sym (ap outcome_told w.in-Some.is) ∙ own)
+      | in-None w ↦ subst (λ r. IfOk r
+          (λ outcome. outcome ≡ performs c.args.self.now.replica (next_decided c.args.self.now.replica)))
+          (sym w.result-is) (sym (ap outcome_told w.in-None.is) ∙ own)
+      | in-Some w ↦ subst (λ r. IfOk r
+          (λ outcome. outcome ≡ performs c.args.self.now.replica (next_decided c.args.self.now.replica)))
+          (sym w.result-is) (sym (ap outcome_told w.in-Some.is) ∙ own)
     ]

@@ -11,5 +11,6 @@ invariant_of-self-2 g c =
     record {
       marked = c.args.self.now.marked ∙ sym long;
       opened = long ∙ c.args.self.now.opened;
-      handed_in = ap sum book ∙ book_sum c.args.self.now.hall.book _ _ next.opened next.number ∙ ap (λ n. n + 1) c.args.self.now.handed_in ∙ sym c.add.ensures.total;
+      handed_in = ap sum book ∙ book_sum c.args.self.now.hall.book _ _ next.opened next.number ∙ ap
+          (λ n. n + 1) c.args.self.now.handed_in ∙ sym c.add.ensures.total;
     }

@@ -5,4 +5,5 @@ use Rattle.object.proofs.LatestMaps.{taken_at}
 use Rattle.object.proofs.latest.Latest.forget.Goals as goal
 
 pub returns : goal.returns
-returns c = taken_at c.self.inside.numbers.entries _ c.args.session c.remove.ensures.updates.0 ∙ ap (λ (m : LatestNumbers). remove m c.args.session) c.self.view_is
+returns c = taken_at c.self.inside.numbers.entries _ c.args.session c.remove.ensures.updates.0 ∙ ap
+    (λ (m : LatestNumbers). remove m c.args.session) c.self.view_is

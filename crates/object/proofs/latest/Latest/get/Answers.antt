@@ -6,4 +6,5 @@ use Rattle.object.proofs.latest.Latest.get.Goals as goal
 
 pub returns : goal.returns
 returns c =
-    c.copied.ensures ∙ c.get.ensures.value ∙ sym (get_at c.self.inside.numbers.entries c.args.session) ∙ ap (λ (m : LatestNumbers). get m c.args.session) c.self.view_is
+    c.copied.ensures ∙ c.get.ensures.value ∙ sym (get_at c.self.inside.numbers.entries c.args.session) ∙ ap
+    (λ (m : LatestNumbers). get m c.args.session) c.self.view_is

@@ -8,5 +8,6 @@ pub returns-in-Err-clause-err : goal.returns-in-Err-clause-err
 returns-in-Err-clause-err g c =
     let key = c.key-key.result in
     let latest : c.forget.new.self ≡ c.self.inside.latest =
-    c.forget.ensures ∙ ap (λ (m : LatestNumbers). remove m key.session) c.in_ok-set-in-None.ensures.ok ∙ remove-insert c.self.inside.latest key.session key.number (sym c.get.ensures ∙ c.in-None.is) in
+    c.forget.ensures ∙ ap (λ (m : LatestNumbers). remove m key.session) c.in_ok-set-in-None.ensures.ok ∙ remove-insert
+    c.self.inside.latest key.session key.number (sym c.get.ensures ∙ c.in-None.is) in
     (ap₂ (λ o (l : LatestNumbers). record { object = o; latest = l }) c.in-Err.ensures.err.0 latest ∙ c.self.view_is, c.in-Err.ensures.err.1)

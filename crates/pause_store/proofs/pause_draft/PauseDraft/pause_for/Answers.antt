@@ -19,10 +19,15 @@ invariant_of-self-2 c = record {
   later = c.self.invariant.later;
   in_range = c.self.invariant.in_range;
   ordered = c.set_second.ensures.ordered;
-  now = ends-set c.set_second.result c.self.inside.kept c.self.inside.ends.keys c.note_end.new.ends.keys c.args.tube.now _ c.self.inside.seconds.entries c.set_second.new.seconds.entries c.set_second.ensures.seconds c.set_second.ensures.err c.note_end.ensures.grown c.in_ok-note_end.ensures.ok c.self.invariant.now;
-  before = ends-grown c.self.inside.kept c.self.inside.ends.keys c.note_end.new.ends.keys _ _ c.set_second.ensures.before c.note_end.ensures.grown c.self.invariant.before;
+  now = ends-set c.set_second.result c.self.inside.kept c.self.inside.ends.keys c.note_end.new.ends.keys c.args.tube.now
+      _ c.self.inside.seconds.entries c.set_second.new.seconds.entries c.set_second.ensures.seconds
+      c.set_second.ensures.err c.note_end.ensures.grown c.in_ok-note_end.ensures.ok c.self.invariant.now;
+  before = ends-grown c.self.inside.kept c.self.inside.ends.keys c.note_end.new.ends.keys _ _
+      c.set_second.ensures.before c.note_end.ensures.grown c.self.invariant.before;
 }
 
 pub returns-clause-now : goal.returns-clause-now
 returns-clause-now c =
-    paused-then c.set_second.result c.self.inside.second c.args.seconds c.from.result c.args.tube.now c.self.inside.seconds.entries c.set_second.new.seconds.entries c.args.self.now.now c.self.invariant.ordered (ap (λ (d : Draft PauseState). d.now) c.self.view_is) c.from.ensures c.set_second.ensures.seconds
+    paused-then c.set_second.result c.self.inside.second c.args.seconds c.from.result c.args.tube.now
+    c.self.inside.seconds.entries c.set_second.new.seconds.entries c.args.self.now.now c.self.invariant.ordered
+    (ap (λ (d : Draft PauseState). d.now) c.self.view_is) c.from.ensures c.set_second.ensures.seconds

@@ -14,7 +14,9 @@ returns-in_err-place g c =
     ∙ ap (found g.X.Keyed.key_of c.args.key) c.self.view_is
 
 -- what a slice gives at a place
-given : {X : Type 0} (xs : List X) (i : ℕ) (r : Option (Bor X)) → MatchOption r (length xs ≤ i) (λ x. (i < length xs) × HoldsAt (λ y. x.now ≡ y) xs i) → option_copied r ≡ slice_get xs i
+given : {X : Type 0} (xs : List X) (i : ℕ) (r : Option (Bor X))
+    → MatchOption r (length xs ≤ i) (λ x. (i < length xs) × HoldsAt (λ y. x.now ≡ y) xs i)
+    → option_copied r ≡ slice_get xs i
 given xs i None h = sym (slice_get_past xs i h)
 given xs i (Some x) h = sym (slice_get_read xs (length xs) i x.now refl h.0 (h.1 x.now))
 

@@ -9,7 +9,8 @@ invariant_of-self-2 g c =
     let key_of = g.X.Keyed.key_of in
     let old = c.self.inside.items.items in
     let new = ap (stands key_of (key_of c.args.item)) c.self.view_is ∙ c.requires in
-    let items : c.push_reserved.new.self.items ≡ old ++ c.args.item ∷ [] = c.push_reserved.ensures.items ∙ ap (λ xs. xs ++ c.args.item ∷ []) c.in_ok-reserve.ensures.items in
+    let items : c.push_reserved.new.self.items ≡ old ++ c.args.item ∷ [] =
+    c.push_reserved.ensures.items ∙ ap (λ xs. xs ++ c.args.item ∷ []) c.in_ok-reserve.ensures.items in
     record {
       at = λ q.
           c.in_ok-insert.ensures.ok q
@@ -25,5 +26,6 @@ returns-clause-once g c =
     let key_of = g.X.Keyed.key_of in
     let old = c.self.inside.items.items in
     let new = ap (stands key_of (key_of c.args.item)) c.self.view_is ∙ c.requires in
-    let items : c.push_reserved.new.self.items ≡ old ++ c.args.item ∷ [] = c.push_reserved.ensures.items ∙ ap (λ xs. xs ++ c.args.item ∷ []) c.in_ok-reserve.ensures.items in
+    let items : c.push_reserved.new.self.items ≡ old ++ c.args.item ∷ [] =
+    c.push_reserved.ensures.items ∙ ap (λ xs. xs ++ c.args.item ∷ []) c.in_ok-reserve.ensures.items in
     subst (KeysOnce key_of) (sym items) (once_more key_of old c.args.item c.self.invariant.once new)

@@ -29,7 +29,8 @@ push_reserved-requires g c =
     let O = c.self.inside.order.items in
     let a = c.args.answer in
     let known = ap (λ r. is_submitted a.to r.happenings.submitted) c.self.view_is ∙ c.requires in
-    let fate = fate_read (record_of S A O) c.self.inside.fates.items a.to c.in-Some.place c.index_mut-fate.result.now c.self.invariant.fated (sym c.place_of.ensures ∙ c.in-Some.is) c.index_mut-fate.ensures.value in
+    let fate = fate_read (record_of S A O) c.self.inside.fates.items a.to c.in-Some.place c.index_mut-fate.result.now
+    c.self.invariant.fated (sym c.place_of.ensures ∙ c.in-Some.is) c.index_mut-fate.ensures.value in
     let new = sym (ap (λ f. is_some f.answer) fate ∙ stands_at answered_key a.to A) ∙ c.if-is_none.ensures in
     let room = answers_room S A O a c.self.invariant.recorded known new in
     let fits = c.self.invariant.answers_fit in
@@ -44,12 +45,14 @@ invariant_of-self g c =
     let a = c.args.answer in
     let at = sym c.place_of.ensures ∙ c.in-Some.is in
     let known = ap (λ r. is_submitted a.to r.happenings.submitted) c.self.view_is ∙ c.requires in
-    let fate = fate_read (record_of S A O) c.self.inside.fates.items a.to c.in-Some.place c.index_mut-fate.result.now c.self.invariant.fated at c.index_mut-fate.ensures.value in
+    let fate = fate_read (record_of S A O) c.self.inside.fates.items a.to c.in-Some.place c.index_mut-fate.result.now
+    c.self.invariant.fated at c.index_mut-fate.ensures.value in
     let new = sym (ap (λ f. is_some f.answer) fate ∙ stands_at answered_key a.to A) ∙ c.if-is_none.ensures in
     let items = c.push_reserved.ensures.items in
     record {
       recorded = subst (λ xs. IsRecord (record_of S xs O)) (sym items) (answered_told S A O a c.self.invariant.recorded known new);
-      fated = answered_fates S A O c.self.inside.fates.items a c.in-Some.place c.len.result c.index_mut-fate.result.now c.index_mut-fate.result.now.is_placed c.self.invariant.recorded c.self.invariant.fated at new
+      fated = answered_fates S A O c.self.inside.fates.items a c.in-Some.place c.len.result c.index_mut-fate.result.now
+          c.index_mut-fate.result.now.is_placed c.self.invariant.recorded c.self.invariant.fated at new
           (c.len.ensures ∙ c.self.inside.answers.ok.0) (ap (λ f. f.is_placed) c.index_mut-fate.ensures.value)
           ∙ ap (λ xs. map (λ t. fate_at (record_of S xs O) (submitted_key t)) S) (sym items);
       answers_fit = let fits = c.self.invariant.answers_fit in let same = c.push_reserved.ensures.capacity in omega arith;
@@ -63,7 +66,8 @@ returns-then-is_none-clause-kept g c =
     let O = c.self.inside.order.items in
     let a = c.args.answer in
     let known = ap (λ r. is_submitted a.to r.happenings.submitted) c.self.view_is ∙ c.requires in
-    let fate = fate_read (record_of S A O) c.self.inside.fates.items a.to c.in-Some.place c.index_mut-fate.result.now c.self.invariant.fated (sym c.place_of.ensures ∙ c.in-Some.is) c.index_mut-fate.ensures.value in
+    let fate = fate_read (record_of S A O) c.self.inside.fates.items a.to c.in-Some.place c.index_mut-fate.result.now
+    c.self.invariant.fated (sym c.place_of.ensures ∙ c.in-Some.is) c.index_mut-fate.ensures.value in
     let new = sym (ap (λ f. is_some f.answer) fate ∙ stands_at answered_key a.to A) ∙ c.if-is_none.ensures in
     subst (λ xs. IsRecord (record_of S xs O)) (sym c.push_reserved.ensures.items) (answered_told S A O a c.self.invariant.recorded known new)
 
@@ -74,10 +78,12 @@ returns-then-is_none-clause-answers g c =
     let O = c.self.inside.order.items in
     let a = c.args.answer in
     let known = ap (λ r. is_submitted a.to r.happenings.submitted) c.self.view_is ∙ c.requires in
-    let fate = fate_read (record_of S A O) c.self.inside.fates.items a.to c.in-Some.place c.index_mut-fate.result.now c.self.invariant.fated (sym c.place_of.ensures ∙ c.in-Some.is) c.index_mut-fate.ensures.value in
+    let fate = fate_read (record_of S A O) c.self.inside.fates.items a.to c.in-Some.place c.index_mut-fate.result.now
+    c.self.invariant.fated (sym c.place_of.ensures ∙ c.in-Some.is) c.index_mut-fate.ensures.value in
     let new = sym (ap (λ f. is_some f.answer) fate ∙ stands_at answered_key a.to A) ∙ c.if-is_none.ensures in
     let once = (answered_told S A O a c.self.invariant.recorded known new).answered_once in
-    ap (λ xs. record_of S xs O) (c.push_reserved.ensures.items ∙ sym (firsts_all answered_key (A ++ a ∷ []) once)) ∙ ap (with_first_answers (a ∷ [])) c.self.view_is
+    ap (λ xs. record_of S xs O) (c.push_reserved.ensures.items ∙ sym (firsts_all answered_key (A ++ a ∷ []) once)) ∙ ap
+    (with_first_answers (a ∷ [])) c.self.view_is
 
 pub returns-else-is_none-clause-answers : goal.returns-else-is_none-clause-answers
 returns-else-is_none-clause-answers g c =
@@ -85,6 +91,8 @@ returns-else-is_none-clause-answers g c =
     let A = c.self.inside.answers.items in
     let O = c.self.inside.order.items in
     let a = c.args.answer in
-    let fate = fate_read (record_of S A O) c.self.inside.fates.items a.to c.in-Some.place c.index_mut-fate.result.now c.self.invariant.fated (sym c.place_of.ensures ∙ c.in-Some.is) c.index_mut-fate.ensures.value in
+    let fate = fate_read (record_of S A O) c.self.inside.fates.items a.to c.in-Some.place c.index_mut-fate.result.now
+    c.self.invariant.fated (sym c.place_of.ensures ∙ c.in-Some.is) c.index_mut-fate.ensures.value in
     let known = sym (ap (λ f. is_some f.answer) fate ∙ stands_at answered_key a.to A) ∙ c.if-is_none.ensures in
-    ap (λ xs. record_of S xs O) (sym (firsts_known answered_key A a c.self.invariant.recorded.answered_once known)) ∙ ap (with_first_answers (a ∷ [])) c.self.view_is
+    ap (λ xs. record_of S xs O) (sym (firsts_known answered_key A a c.self.invariant.recorded.answered_once known)) ∙ ap
+    (with_first_answers (a ∷ [])) c.self.view_is

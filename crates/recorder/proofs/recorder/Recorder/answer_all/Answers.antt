@@ -41,7 +41,9 @@ pub returns-clause-answers : goal.returns-clause-answers
 returns-clause-answers g c =
     let r = c.loop-answer.self in
     let none = empty c.loop-answer.given.items (sym c.loop-answer.given.ok.0 ∙ c.in_default.ensures.cases.0) in
-    ap (λ xs. record_of r.happenings.submitted xs r.order) (sym (firsts_all answered_key r.happenings.answers c.loop-answer.invariant.recorded.answered_once) ∙ ap (firsts answered_key) (sym (append-nil r.happenings.answers)))
+    ap (λ xs. record_of r.happenings.submitted xs r.order)
+    (sym (firsts_all answered_key r.happenings.answers c.loop-answer.invariant.recorded.answered_once) ∙ ap
+    (firsts answered_key) (sym (append-nil r.happenings.answers)))
     ∙ ap (λ xs. with_first_answers (reverse xs) r) (sym none)
     ∙ c.loop-answer.invariant.left
     ∙ ap (λ xs. with_first_answers xs c.args.self.now) (ap reverse c.reverse.ensures.items ∙ reverse-reverse c.args.given.now.items)

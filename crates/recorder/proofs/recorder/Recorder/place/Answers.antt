@@ -25,13 +25,15 @@ returns-then-fate-clause-placed g c =
     let A = c.self.inside.answers.items in
     let O = c.self.inside.order.items in
     let k = c.args.key in
-    let fate = fate_read (record_of S A O) c.self.inside.fates.items k c.in-Some.place c.index_mut-fate.result.now c.self.invariant.fated (sym c.place_of.ensures ∙ c.in-Some.is) c.index_mut-fate.ensures.value in
+    let fate = fate_read (record_of S A O) c.self.inside.fates.items k c.in-Some.place c.index_mut-fate.result.now
+    c.self.invariant.fated (sym c.place_of.ensures ∙ c.in-Some.is) c.index_mut-fate.ensures.value in
     ap (λ b. cond b (record_of S A O) (record_of S A (O ++ k ∷ []))) (sym c.if-fate.true ∙ ap (λ f. f.is_placed) fate) ∙ ap (with_place k) c.self.view_is
 
 pub returns-then-fate-clause-new : goal.returns-then-fate-clause-new
 returns-then-fate-clause-new g c =
     let r = record_of c.self.inside.submitted c.self.inside.answers.items c.self.inside.order.items in
-    let fate = fate_read r c.self.inside.fates.items c.args.key c.in-Some.place c.index_mut-fate.result.now c.self.invariant.fated (sym c.place_of.ensures ∙ c.in-Some.is) c.index_mut-fate.ensures.value in
+    let fate = fate_read r c.self.inside.fates.items c.args.key c.in-Some.place c.index_mut-fate.result.now
+    c.self.invariant.fated (sym c.place_of.ensures ∙ c.in-Some.is) c.index_mut-fate.ensures.value in
     ap not (sym c.if-fate.true ∙ ap (λ f. f.is_placed) fate) ∙ ap (λ q. not (stands own_key c.args.key q.order)) c.self.view_is
 
 pub push_reserved-requires : goal.push_reserved-requires
@@ -41,7 +43,8 @@ push_reserved-requires g c =
     let O = c.self.inside.order.items in
     let k = c.args.key in
     let known = ap (λ r. is_submitted k r.happenings.submitted) c.self.view_is ∙ c.requires in
-    let fate = fate_read (record_of S A O) c.self.inside.fates.items k c.in-Some.place c.index_mut-fate.result.now c.self.invariant.fated (sym c.place_of.ensures ∙ c.in-Some.is) c.index_mut-fate.ensures.value in
+    let fate = fate_read (record_of S A O) c.self.inside.fates.items k c.in-Some.place c.index_mut-fate.result.now
+    c.self.invariant.fated (sym c.place_of.ensures ∙ c.in-Some.is) c.index_mut-fate.ensures.value in
     let room = places_room S A O k c.self.invariant.recorded known (sym (ap (λ f. f.is_placed) fate) ∙ c.if-fate.false) in
     let fits = c.self.invariant.places_fit in
     let long = c.self.inside.order.ok.0 in
@@ -55,11 +58,15 @@ invariant_of-self-2 g c =
     let k = c.args.key in
     let at = sym c.place_of.ensures ∙ c.in-Some.is in
     let known = ap (λ r. is_submitted k r.happenings.submitted) c.self.view_is ∙ c.requires in
-    let fate = fate_read (record_of S A O) c.self.inside.fates.items k c.in-Some.place c.index_mut-fate.result.now c.self.invariant.fated at c.index_mut-fate.ensures.value in
+    let fate = fate_read (record_of S A O) c.self.inside.fates.items k c.in-Some.place c.index_mut-fate.result.now
+    c.self.invariant.fated at c.index_mut-fate.ensures.value in
     let items = c.push_reserved.ensures.items in
     record {
-      recorded = subst (λ xs. IsRecord (record_of S A xs)) (sym items) (placed_told S A O k c.self.invariant.recorded known (sym (ap (λ f. f.is_placed) fate) ∙ c.if-fate.false));
-      fated = placed_fates S A O c.self.inside.fates.items k c.in-Some.place c.index_mut-fate.result.now c.index_mut-fate.result.now.answer c.self.invariant.recorded c.self.invariant.fated at (ap (λ f. f.answer) c.index_mut-fate.ensures.value)
+      recorded = subst (λ xs. IsRecord (record_of S A xs)) (sym items)
+          (placed_told S A O k c.self.invariant.recorded known (sym (ap (λ f. f.is_placed) fate) ∙ c.if-fate.false));
+      fated = placed_fates S A O c.self.inside.fates.items k c.in-Some.place c.index_mut-fate.result.now
+          c.index_mut-fate.result.now.answer c.self.invariant.recorded c.self.invariant.fated at
+          (ap (λ f. f.answer) c.index_mut-fate.ensures.value)
           ∙ ap (λ xs. map (λ t. fate_at (record_of S A xs) (submitted_key t)) S) (sym items);
       answers_fit = c.self.invariant.answers_fit;
       places_fit = let fits = c.self.invariant.places_fit in let same = c.push_reserved.ensures.capacity in omega arith;
@@ -71,7 +78,8 @@ returns-clause-placed g c =
     let A = c.self.inside.answers.items in
     let O = c.self.inside.order.items in
     let k = c.args.key in
-    let fate = fate_read (record_of S A O) c.self.inside.fates.items k c.in-Some.place c.index_mut-fate.result.now c.self.invariant.fated (sym c.place_of.ensures ∙ c.in-Some.is) c.index_mut-fate.ensures.value in
+    let fate = fate_read (record_of S A O) c.self.inside.fates.items k c.in-Some.place c.index_mut-fate.result.now
+    c.self.invariant.fated (sym c.place_of.ensures ∙ c.in-Some.is) c.index_mut-fate.ensures.value in
     ap (λ xs. record_of S A xs) c.push_reserved.ensures.items
     ∙ ap (λ b. cond b (record_of S A O) (record_of S A (O ++ k ∷ []))) (sym c.if-fate.false ∙ ap (λ f. f.is_placed) fate)
     ∙ ap (with_place k) c.self.view_is
@@ -79,5 +87,6 @@ returns-clause-placed g c =
 pub returns-clause-new : goal.returns-clause-new
 returns-clause-new g c =
     let r = record_of c.self.inside.submitted c.self.inside.answers.items c.self.inside.order.items in
-    let fate = fate_read r c.self.inside.fates.items c.args.key c.in-Some.place c.index_mut-fate.result.now c.self.invariant.fated (sym c.place_of.ensures ∙ c.in-Some.is) c.index_mut-fate.ensures.value in
+    let fate = fate_read r c.self.inside.fates.items c.args.key c.in-Some.place c.index_mut-fate.result.now
+    c.self.invariant.fated (sym c.place_of.ensures ∙ c.in-Some.is) c.index_mut-fate.ensures.value in
     ap not (sym c.if-fate.false ∙ ap (λ f. f.is_placed) fate) ∙ ap (λ q. not (stands own_key c.args.key q.order)) c.self.view_is

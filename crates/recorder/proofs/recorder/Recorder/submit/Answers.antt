@@ -19,7 +19,8 @@ invariant_of-self-2 g c =
     let now : record_of c.push.new.self c.make_room.new.items.items c.make_room-2.new.items.items ≡ record_of (S ++ s ∷ []) A O =
     λ i. record_of (c.in_ok-push.ensures.ok i) (c.in_ok-make_room.ensures.items i) (c.in_ok-make_room-2.ensures.items i) in
     let longer : length c.push.new.self ≡ length S + 1 = ap length c.in_ok-push.ensures.ok ∙ length-append S (s ∷ []) in
-    let fates : length c.self.inside.fates.items ≡ length S = ap length c.self.invariant.fated ∙ length-map S (λ t. fate_at (record_of S A O) (submitted_key t)) in
+    let fates : length c.self.inside.fates.items ≡ length S =
+    ap length c.self.invariant.fated ∙ length-map S (λ t. fate_at (record_of S A O) (submitted_key t)) in
     let count = c.self.inside.fates.ok.0 in
     let same = c.in_ok-reserve.ensures.len in
     let room = c.in_ok-reserve.ensures.ok in

@@ -24,9 +24,13 @@ invariant_of-self g c =
     let answers_fit = c.self.invariant.answers_fit in
     let places_fit = c.self.invariant.places_fit in
     record {
-      recorded = subst (λ xs. IsRecord (record_of xs A O)) (sym left) (withdrawn_told before A O s (subst (λ xs. IsRecord (record_of xs A O)) split c.self.invariant.recorded) unanswered unplaced);
+      recorded = subst (λ xs. IsRecord (record_of xs A O)) (sym left)
+          (withdrawn_told before A O s (subst (λ xs. IsRecord (record_of xs A O)) split c.self.invariant.recorded)
+          unanswered unplaced);
       fated = c.pop-2.ensures.rest
-          ∙ ap₂ (λ n fs. take (n - 1) fs) (c.self.inside.fates.ok.0 ∙ ap length c.self.invariant.fated ∙ length-map S (λ t. fate_at (record_of S A O) (submitted_key t))) c.self.invariant.fated
+          ∙ ap₂ (λ n fs. take (n - 1) fs)
+          (c.self.inside.fates.ok.0 ∙ ap length c.self.invariant.fated ∙ length-map S
+          (λ t. fate_at (record_of S A O) (submitted_key t))) c.self.invariant.fated
           ∙ take-map (λ t. fate_at (record_of S A O) (submitted_key t)) (length S - 1) S
           ∙ ap (map (λ t. fate_at (record_of S A O) (submitted_key t))) (sym c.pop.ensures);
       answers_fit = omega arith;

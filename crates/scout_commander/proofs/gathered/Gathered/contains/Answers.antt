@@ -13,10 +13,12 @@ returns g c =
     let ps = c.self.inside.pvalues.items in
     let from = c.start-start.result in
     let at : from ≡ start c.self.inside.starts (p.slot, p.ballot) (length ps) =
-    c.start-start.ensures ∙ ap (λ n. start c.self.inside.starts (p.slot, p.ballot) n) (c.len.ensures ∙ sym c.deref.ensures.len ∙ ap length c.deref.ensures.value) in
+    c.start-start.ensures ∙ ap (λ n. start c.self.inside.starts (p.slot, p.ballot) n)
+    (c.len.ensures ∙ sym c.deref.ensures.len ∙ ap length c.deref.ensures.value) in
     let f = found_from g.C.PartialEq.eq g.met.C.Value.exact g.met.C.Eq.laws.refl c.self.inside.starts ps p from c.self.invariant at in
     let lent = c.deref.result.now in
-    let whole : take (length lent - from) (drop from lent) ≡ drop from lent = take_all (length lent - from) (drop from lent) (omega (arith, length-drop from lent)) in
+    let whole : take (length lent - from) (drop from lent) ≡ drop from lent =
+    take_all (length lent - from) (drop from lent) (omega (arith, length-drop from lent)) in
     let tested : c.contains.result ≡ list_any (λ q. same_pvalues g.C.PartialEq.eq q p) (drop from ps) =
     c.contains.ensures.value ∙ ap (λ qs. list_any (λ q. same_pvalues g.C.PartialEq.eq q p) qs) (whole ∙ ap (λ qs. drop from qs) c.deref.ensures.value) in (
       λ h. subst (λ qs. In p qs) c.self.view_is (f.0 (sym tested ∙ h)),

@@ -9,7 +9,20 @@ returns-after-matches-clause-found c =
     let f = c.in-Ok.found in
     let new = c.look_on.new.text.items in
     let within : s.sent ≤ length s.text.items = search rules in
-    let after : Held = record { want = f.want; kept = drop f.start s.bytes.items; unsent = drop s.sent new; is_open = c.match-matches.self; read_len = f.start; sent_len = s.sent; capacity = vec_capacity s.bytes } in
+    let after : Held = record {
+      want = f.want;
+      kept = drop f.start s.bytes.items;
+      unsent = drop s.sent new;
+      is_open =
+          c.match-matches.self;
+      read_len = f.start;
+      sent_len = s.sent;
+      capacity = vec_capacity s.bytes;
+    } in
     subst (λ (h : Held). (t : List ℕ) → StandsBefore h t → Finds h after t f.request) c.self.view_is
-    (finds_unsent s.want f.want (drop s.start s.bytes.items) (drop f.start s.bytes.items) s.text.items new s.sent s.start f.start (vec_capacity s.bytes) s.is_open c.match-matches.self f.request within
-    (subst (λ bytes. (t : List ℕ) → StandsBefore (holding s.want (drop s.start bytes) s.text.items) t → Finds (holding s.want (drop s.start bytes) s.text.items) (holding f.want (drop f.start bytes) new) t f.request) c.as_slice.ensures.value c.in-Ok.ensures.found))
+    (finds_unsent s.want f.want (drop s.start s.bytes.items)
+    (drop f.start s.bytes.items) s.text.items new s.sent s.start f.start
+    (vec_capacity s.bytes) s.is_open c.match-matches.self f.request within
+    (subst (λ bytes. (t : List ℕ) → StandsBefore (holding s.want (drop s.start bytes) s.text.items) t
+    → Finds (holding s.want (drop s.start bytes) s.text.items)
+    (holding f.want (drop f.start bytes) new) t f.request) c.as_slice.ensures.value c.in-Ok.ensures.found))

@@ -13,7 +13,8 @@ use Rattle.session_store.proofs.session_draft.SessionDraft.set_wait.Goals as goa
 pub returns-in_default-clause-now : goal.returns-in_default-clause-now
 returns-in_default-clause-now c =
     let none : value_at c.args.session c.args.self.now.now ≡ None =
-    ap (λ (d : Draft (List (ℕ × SessionState))). value_at c.args.session d.now) (sym c.self.view_is) ∙ sym c.get.ensures.value ∙ ap option_copied c.in_default.is in
+    ap (λ (d : Draft (List (ℕ × SessionState))). value_at c.args.session d.now)
+    (sym c.self.view_is) ∙ sym c.get.ensures.value ∙ ap option_copied c.in_default.is in
     sym (altered-absent c.args.session (with_wait c.args.wait) c.args.self.now.now none)
 
 pub returns-then-is_none-2-clause-now : goal.returns-then-is_none-2-clause-now
@@ -36,7 +37,8 @@ invariant_of-self-in_err-join c =
 
 pub returns-in_err-join-clause-before : goal.returns-in_err-join-clause-before
 returns-in_err-join-clause-before c =
-    before-step c.self.inside.steps.items c.self.inside.steps.items c.push.new.self.items _ _ _ _ (ap (λ (d : Draft (List (ℕ × SessionState))). d.before) c.self.view_is) refl c.in_ok-push.ensures.items
+    before-step c.self.inside.steps.items c.self.inside.steps.items c.push.new.self.items _ _ _ _
+    (ap (λ (d : Draft (List (ℕ × SessionState))). d.before) c.self.view_is) refl c.in_ok-push.ensures.items
     (waited-still c.args.session 0 _ c.args.wait c.in-Some.found.now _ c.self.invariant.rising (sym c.in-Some.ensures.value))
 
 pub invariant_of-self-2 : goal.invariant_of-self-2
@@ -45,12 +47,15 @@ invariant_of-self-2 c =
     (before-step c.self.inside.steps.items c.self.inside.steps.items c.push.new.self.items _ _ _ _ refl refl c.in_ok-push.ensures.items
     (waited-back c.args.session 0 _ c.args.wait c.in-Some.found.now _ _ c.self.invariant.rising (sym c.in-Some.ensures.value) c.set_wait.ensures))
     (change-rises c.args.session _ (with_wait c.args.wait) _ _ c.self.invariant.rising c.set_wait.ensures)
-    (each-altered (StandsIn c.join.new.self) c.args.session (with_wait c.args.wait) _ _ c.set_wait.ensures (λ s i. stands-again c.join.new.self c.args.session _ c.self.inside.sessions.entries c.args.wait c.in-Some.found.now s c.self.invariant.rising (sym c.in-Some.ensures.value) i c.in_ok-join.ensures.stands
+    (each-altered (StandsIn c.join.new.self) c.args.session (with_wait c.args.wait) _ _ c.set_wait.ensures
+    (λ s i. stands-again c.join.new.self c.args.session _ c.self.inside.sessions.entries c.args.wait
+    c.in-Some.found.now s c.self.invariant.rising (sym c.in-Some.ensures.value) i c.in_ok-join.ensures.stands
     (each-grown c.self.inside.lines c.join.new.self _ c.join.ensures.grown c.self.invariant.now (c.args.session, s) i))
     (each-grown c.self.inside.lines c.join.new.self _ c.join.ensures.grown c.self.invariant.now))
     c.self.invariant
 
 pub returns-clause-before : goal.returns-clause-before
 returns-clause-before c =
-    before-step c.self.inside.steps.items c.self.inside.steps.items c.push.new.self.items _ _ _ _ (ap (λ (d : Draft (List (ℕ × SessionState))). d.before) c.self.view_is) refl c.in_ok-push.ensures.items
+    before-step c.self.inside.steps.items c.self.inside.steps.items c.push.new.self.items _ _ _ _
+    (ap (λ (d : Draft (List (ℕ × SessionState))). d.before) c.self.view_is) refl c.in_ok-push.ensures.items
     (waited-back c.args.session 0 _ c.args.wait c.in-Some.found.now _ _ c.self.invariant.rising (sym c.in-Some.ensures.value) c.set_wait.ensures)

@@ -8,4 +8,7 @@ pub invariant_of-self : goal.invariant_of-self
 invariant_of-self c =
     kept _ _ _ c.clear.ensures.items c.take_steps_back.ensures.rising
     (c.leave_steps.ensures
-    (subst (EachStands (StandsIn c.self.inside.lines)) (sym (c.take_steps_back.ensures.sessions ∙ ap (λ steps. sessions_before steps c.self.inside.sessions.entries) c.as_slice.ensures.value)) c.self.invariant.before))
+    (subst (EachStands (StandsIn c.self.inside.lines))
+    (sym (c.take_steps_back.ensures.sessions ∙ ap
+    (λ steps. sessions_before steps c.self.inside.sessions.entries) c.as_slice.ensures.value))
+    c.self.invariant.before))

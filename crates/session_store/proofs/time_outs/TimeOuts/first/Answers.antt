@@ -7,7 +7,9 @@ use Rattle.session_store.proofs.time_outs.TimeOuts.first.Goals as goal
 
 pub loop-place-preserved-in-Some-over_at : goal.loop-place-preserved-in-Some-over_at
 loop-place-preserved-in-Some-over_at c =
-    first-step wait_rank (over_at c.args.second c.args.sessions.now.entries) _ _ (c.in-Some-over_at.late.0, c.in-Some-over_at.late.1.now) c.in-Some.place.now _ _ _ c.first-best.ensures c.in-Some.ensures.steps
+    first-step wait_rank (over_at c.args.second c.args.sessions.now.entries) _ _
+    (c.in-Some-over_at.late.0, c.in-Some-over_at.late.1.now) c.in-Some.place.now _ _ _ c.first-best.ensures
+    c.in-Some.ensures.steps
     (sym c.in-Some-over_at.ensures) c.loop-place.invariant
 
 pub returns : goal.returns

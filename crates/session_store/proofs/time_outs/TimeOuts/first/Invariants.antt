@@ -7,5 +7,6 @@ use Rattle.session_store.proofs.time_outs.TimeOuts.first.Given as goal
 
 abbrev pub invariant-loop-place : goal.invariant-loop-place
 invariant-loop-place l =
-    first_of wait_rank (option_map (λ e. (e.0, e.1.now)) l.best) (least (λ e. true) wait_rank (filter_map (over_at l.second l.sessions.entries) l.place-iterator)) ≡
+    first_of wait_rank (option_map (λ e. (e.0, e.1.now)) l.best)
+    (least (λ e. true) wait_rank (filter_map (over_at l.second l.sessions.entries) l.place-iterator)) ≡
     least (λ e. true) wait_rank (filter_map (over_at l.second l.sessions.entries) (places_by l.second l.self.line))

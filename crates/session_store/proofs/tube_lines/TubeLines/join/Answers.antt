@@ -11,9 +11,13 @@ pub loop-tube-preserved : goal.loop-tube-preserved
 loop-tube-preserved c = (
   λ t p h. c.join_tube.ensures.grown t p (c.loop-tube.invariant.0 t p h),
   λ t among.
-      elim (among-more t c.args.watched.now c.loop-tube.tube-index c.tube-item.result c.loop-tube-test.true among) as (λ v. IfSome (rank_place c.args.number c.args.wait) (IsIn (tube_line t c.join_tube.new.self))) [
+      elim (among-more t c.args.watched.now c.loop-tube.tube-index c.tube-item.result c.loop-tube-test.true
+      among) as (λ v. IfSome (rank_place c.args.number c.args.wait) (IsIn (tube_line t c.join_tube.new.self))) [
         | inl old ↦
-            some_in (tube_line t c.loop-tube.self) (tube_line t c.join_tube.new.self) (rank_place c.args.number c.args.wait) (c.join_tube.ensures.grown t) (c.loop-tube.invariant.1 t old)
-        | inr same ↦ subst (λ u. IfSome (rank_place c.args.number c.args.wait) (IsIn (tube_line u c.join_tube.new.self))) (sym (same ∙ sym c.tube-item.is)) c.in_ok-join_tube.ensures.stands
+            some_in (tube_line t c.loop-tube.self) (tube_line t c.join_tube.new.self)
+            (rank_place c.args.number c.args.wait) (c.join_tube.ensures.grown t) (c.loop-tube.invariant.1 t old)
+        | inr same ↦ subst (λ u. IfSome (rank_place c.args.number c.args.wait)
+            (IsIn (tube_line u c.join_tube.new.self)))
+            (sym (same ∙ sym c.tube-item.is)) c.in_ok-join_tube.ensures.stands
       ],
 )

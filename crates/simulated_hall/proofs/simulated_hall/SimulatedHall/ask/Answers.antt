@@ -14,12 +14,40 @@ pub loop-init : goal.loop-init
 loop-init g c = record {
   second = c.in_ok-reply.ensures.second ∙ ap (λ (s : SimulatedState _ _). s.second) c.self.view_is ∙ sym (add-zero _);
   said = λ t stands_for.
-      let was : SimulatedState _ _ = record { hall = c.self.inside.carrier.hall; ticket = c.self.inside.carrier.ticket; second = c.self.inside.second; calls = c.self.inside.carrier.calls } in
-      let begun : SimulatedState _ _ = record { hall = c.begin.new.self.hall; ticket = c.begin.new.self.ticket; second = c.self.inside.second; calls = c.begin.new.self.calls } in
-      let same : begun ≡ record was { calls = c.begin.new.self.calls } = (λ i. record { hall = c.begin.ensures.hall i; ticket = c.begin.ensures.ticket i; second = c.self.inside.second; calls = c.begin.new.self.calls }) in
-      let there = subst (λ s. StandsFor g.O.Object.rules s t) (sym same) (still_stands g.O.Object.rules was c.begin.new.self.calls t (subst (λ s. StandsFor g.O.Object.rules s t) (sym c.self.view_is) stands_for)) in
-      let key = ap (λ (q : TicketState _ _). last_key q) c.in_ok-reply.ensures.ticket ∙ next_key_is g.O.Object.rules begun t (Do c.args.op) there in
-      (next_obeyed g.O.Object.rules t (Do c.args.op), c.in_ok-reply.ensures.said t there, opens_wait g.O.Object.rules t c.args.op (last_key c.request.new.self.ticket) key);
+      let was : SimulatedState _ _ =
+      record {
+        hall = c.self.inside.carrier.hall;
+        ticket = c.self.inside.carrier.ticket;
+        second =
+            c.self.inside.second;
+        calls = c.self.inside.carrier.calls;
+      } in
+      let begun : SimulatedState _ _ =
+      record {
+        hall = c.begin.new.self.hall;
+        ticket = c.begin.new.self.ticket;
+        second =
+            c.self.inside.second;
+        calls = c.begin.new.self.calls;
+      } in
+      let same : begun ≡ record was { calls = c.begin.new.self.calls } =
+      (λ i. record {
+        hall = c.begin.ensures.hall i;
+        ticket = c.begin.ensures.ticket i;
+        second =
+            c.self.inside.second;
+        calls = c.begin.new.self.calls;
+      }) in
+      let there = subst (λ s. StandsFor g.O.Object.rules s t) (sym same)
+      (still_stands g.O.Object.rules was c.begin.new.self.calls t
+      (subst (λ s. StandsFor g.O.Object.rules s t) (sym c.self.view_is) stands_for)) in
+      let key = ap (λ (q : TicketState _ _). last_key q) c.in_ok-reply.ensures.ticket ∙ next_key_is g.O.Object.rules begun t (Do c.args.op) there in (
+        next_obeyed g.O.Object.rules t
+            (Do c.args.op),
+        c.in_ok-reply.ensures.said t there,
+        opens_wait g.O.Object.rules t c.args.op
+            (last_key c.request.new.self.ticket) key,
+      );
 }
 
 pub returns-in-Some-clause-reply : goal.returns-in-Some-clause-reply

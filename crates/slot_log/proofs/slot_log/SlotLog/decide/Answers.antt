@@ -30,7 +30,9 @@ there (Some r) x h = refl
 
 pub unwrap-command-requires : goal.unwrap-command-requires
 unwrap-command-requires g c =
-    there c.get.result c.args.command (put_there c.self.inside.decisions c.insert.new.self c.args.slot c.args.command c.get.result c.in_ok-insert.ensures.ok c.get.ensures)
+    there c.get.result c.args.command
+    (put_there c.self.inside.decisions c.insert.new.self c.args.slot c.args.command c.get.result
+    c.in_ok-insert.ensures.ok c.get.ensures)
 
 pub invariant_of-self-in-Ok : goal.invariant_of-self-in-Ok
 invariant_of-self-in-Ok g c =
@@ -38,9 +40,14 @@ invariant_of-self-in-Ok g c =
     let x = c.unwrap-command.result.now in
     let numbered : c.args.slot ≤ 2 ^ 62 = omega arith in
     let free = sym (decision_at a c.args.self.now c.self.view_is c.args.slot) ∙ c.requires in
-    let is : c.args.command ≡ x = same_Some c.args.command x (sym (put_there a.decisions c.insert.new.self c.args.slot c.args.command c.get.result c.in_ok-insert.ensures.ok c.get.ensures) ∙ ap option_copied c.unwrap-command.ensures) in
-    subst (λ (ds : Slots g.row.C.Denot). KeepsBook g.C.PartialEq.eq g.C.Keyed.key_of (record a { decisions = ds; places = c.note.new.self })) (sym (c.in_ok-insert.ensures.ok ∙ ap (insert a.decisions c.args.slot) is))
-    (noted_kept g.C.PartialEq.eq g.C.Keyed.key_of g.met.C.Value.exact g.met.C.Eq.laws.refl a c.self.invariant c.args.slot x numbered free c.note.new.self c.in-Ok.ensures.places c.in-Ok.ensures.others)
+    let is : c.args.command ≡ x = same_Some c.args.command x
+    (sym (put_there a.decisions c.insert.new.self c.args.slot c.args.command c.get.result c.in_ok-insert.ensures.ok
+    c.get.ensures) ∙ ap option_copied c.unwrap-command.ensures) in
+    subst (λ (ds : Slots g.row.C.Denot). KeepsBook g.C.PartialEq.eq g.C.Keyed.key_of
+    (record a { decisions = ds; places = c.note.new.self }))
+    (sym (c.in_ok-insert.ensures.ok ∙ ap (insert a.decisions c.args.slot) is))
+    (noted_kept g.C.PartialEq.eq g.C.Keyed.key_of g.met.C.Value.exact g.met.C.Eq.laws.refl a c.self.invariant
+    c.args.slot x numbered free c.note.new.self c.in-Ok.ensures.places c.in-Ok.ensures.others)
 
 -- what is put in a new place and taken out again
 restored : {C : Type 0} (m n k : Slots C) (slot : ℕ) (x : C) → get m slot ≡ None → n ≡ insert m slot x → k ≡ remove n slot → m ≡ k
@@ -52,11 +59,14 @@ invariant_of-self-in-Err g c =
     let free = sym (decision_at a c.args.self.now c.self.view_is c.args.slot) ∙ c.requires in
     subst (λ (ds : Slots g.row.C.Denot). KeepsBook g.C.PartialEq.eq g.C.Keyed.key_of (record a { decisions = ds; places = c.note.new.self }))
     (restored a.decisions c.insert.new.self c.remove.new.self c.args.slot c.args.command free c.in_ok-insert.ensures.ok c.remove.ensures.rest)
-    (places_kept g.C.PartialEq.eq g.C.Keyed.key_of g.met.C.Value.exact g.met.C.Eq.laws.refl a c.self.invariant c.note.new.self c.in-Err.ensures.err.0 c.in-Err.ensures.err.1)
+    (places_kept g.C.PartialEq.eq g.C.Keyed.key_of g.met.C.Value.exact g.met.C.Eq.laws.refl a c.self.invariant
+    c.note.new.self c.in-Err.ensures.err.0 c.in-Err.ensures.err.1)
 
 pub returns-in-Err-clause-err : goal.returns-in-Err-clause-err
 returns-in-Err-clause-err g c =
     let a = c.self.inside in
     let free = sym (decision_at a c.args.self.now c.self.view_is c.args.slot) ∙ c.requires in
-    sym (ap (λ (ds : Slots g.row.C.Denot). record (book_of a) { decisions = ds }) (restored a.decisions c.insert.new.self c.remove.new.self c.args.slot c.args.command free c.in_ok-insert.ensures.ok c.remove.ensures.rest))
+    sym (ap (λ (ds : Slots g.row.C.Denot). record (book_of a) { decisions = ds })
+    (restored a.decisions c.insert.new.self c.remove.new.self c.args.slot c.args.command free
+    c.in_ok-insert.ensures.ok c.remove.ensures.rest))
     ∙ c.self.view_is

@@ -14,7 +14,8 @@ returns-in_default g c =
     let a = c.self.inside in
     let look = at_key a.places.by_key in
     c.has_other.ensures
-    ∙ sym (found_nowhere g.C.PartialEq.eq g.C.Keyed.key_of look (standing a) a.places.others.items c.args.command.now (ap look (sym c.key.ensures) ∙ sym c.of.ensures ∙ c.in_default.is))
+    ∙ sym (found_nowhere g.C.PartialEq.eq g.C.Keyed.key_of look (standing a) a.places.others.items c.args.command.now
+    (ap look (sym c.key.ensures) ∙ sym c.of.ensures ∙ c.in_default.is))
     ∙ known_is g.C.PartialEq.eq g.C.Keyed.key_of g.met.C.Value.exact g.met.C.Eq.laws.refl a c.self.invariant c.args.command.now
     ∙ ap (λ b. is_known g.C.PartialEq.eq b c.args.command.now) c.self.view_is
 
@@ -30,7 +31,10 @@ returns-in-Some-standing g c =
       | in-Decided w ↦ ap option_copied w.standing-is ∙ w.get-standing-in-Decided.ensures ∙ ap (standing a) (sym w.in-Decided.is)
     ] in
     sym (or_left (option_map_or E (option_copied c.match-place.standing) false) (list_any E a.places.others.items)
-    (ap (λ (o : Option _). option_map_or E (option_copied o) false) c.in-Some-standing.is ∙ ap (λ (r : Bor g.row.C.Denot). E r.now) (sym c.in-Some-standing.other-is) ∙ sym c.eq.ensures ∙ c.if-eq.true))
-    ∙ sym (found_at g.C.PartialEq.eq g.C.Keyed.key_of look (standing a) a.places.others.items c.args.command.now c.in-Some.place (option_copied c.match-place.standing) (ap look (sym c.key.ensures) ∙ sym c.of.ensures ∙ c.in-Some.is) here)
+    (ap (λ (o : Option _). option_map_or E (option_copied o) false) c.in-Some-standing.is ∙ ap
+    (λ (r : Bor g.row.C.Denot). E r.now) (sym c.in-Some-standing.other-is) ∙ sym c.eq.ensures ∙ c.if-eq.true))
+    ∙ sym (found_at g.C.PartialEq.eq g.C.Keyed.key_of look
+    (standing a) a.places.others.items c.args.command.now c.in-Some.place (option_copied c.match-place.standing)
+    (ap look (sym c.key.ensures) ∙ sym c.of.ensures ∙ c.in-Some.is) here)
     ∙ known_is g.C.PartialEq.eq g.C.Keyed.key_of g.met.C.Value.exact g.met.C.Eq.laws.refl a c.self.invariant c.args.command.now
     ∙ ap (λ b. is_known g.C.PartialEq.eq b c.args.command.now) c.self.view_is

@@ -32,7 +32,8 @@ returns-in-Some-2-clause-clash g c =
 pub returns-in-Some-2-clause-again : goal.returns-in-Some-2-clause-again
 returns-in-Some-2-clause-again g c =
     let there = decision_at c.self.inside c.args.self.now c.self.view_is c.args.slot ∙ sym c.in-Some.ensures in
-    λ h. sym c.if-eq.false ∙ c.eq.ensures ∙ ap (λ x. g.C.PartialEq.eq x c.args.command) (same_Some c.in-Some.decided.now c.args.command (sym there ∙ h)) ∙ g.met.C.Eq.laws.refl c.args.command
+    λ h. sym c.if-eq.false ∙ c.eq.ensures ∙ ap (λ x. g.C.PartialEq.eq x c.args.command)
+    (same_Some c.in-Some.decided.now c.args.command (sym there ∙ h)) ∙ g.met.C.Eq.laws.refl c.args.command
 
 pub decide-requires : goal.decide-requires
 decide-requires g c = decision_at c.self.inside c.args.self.now c.self.view_is c.args.slot ∙ sym c.in-None.ensures

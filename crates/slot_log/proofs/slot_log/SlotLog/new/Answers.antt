@@ -23,5 +23,7 @@ invariant_of-result g c =
       ahead = λ s low. none c.new-2.result s c.new-2.ensures;
       room = omega arith;
       others = λ d h. absurd (false≢true (ap (λ (ds : List g.row.C.Denot). among g.C.PartialEq.eq ds d) (sym c.new-4.ensures.others) ∙ h));
-      found = λ d h. absurd (false≢true (sym (nothing_known g.C.PartialEq.eq c.new.result.items c.new-2.result c.new-3.result c.new.ensures.items c.new-2.ensures c.new-3.ensures d) ∙ h));
+      found = λ d h. absurd (false≢true
+          (sym (nothing_known g.C.PartialEq.eq c.new.result.items c.new-2.result c.new-3.result c.new.ensures.items
+          c.new-2.ensures c.new-3.ensures d) ∙ h));
     }

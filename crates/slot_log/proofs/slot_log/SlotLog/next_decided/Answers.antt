@@ -8,7 +8,9 @@ use Rattle.slot_log.proofs.slot_log.SlotLog.next_decided.Goals as goal
 pub returns-in_err-slot-clause-decision : goal.returns-in_err-slot-clause-decision
 returns-in_err-slot-clause-decision g c =
     ap option_copied c.from_residual.ensures
-    ∙ sym (none_from (get c.self.inside.decisions c.self.inside.slot_out) (λ there. c.in_err-slot.ensures (c.self.invariant.slot_out.0, c.self.invariant.within c.self.inside.slot_out there)))
+    ∙ sym (none_from (get c.self.inside.decisions c.self.inside.slot_out)
+    (λ there. c.in_err-slot.ensures
+    (c.self.invariant.slot_out.0, c.self.invariant.within c.self.inside.slot_out there)))
     ∙ ap next_decided c.self.view_is
 
 pub returns-clause-decision : goal.returns-clause-decision

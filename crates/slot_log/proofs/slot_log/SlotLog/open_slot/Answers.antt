@@ -14,7 +14,9 @@ returns-in_err-slot g c =
     ∙ sym (open_none (book_of c.self.inside) (λ t low high within.
     c.loop-number.invariant t low
     (let first = c.self.invariant.slot_in.0 in
-    ⊎_elim (λ (l : t < c.loop-number.number). l) (λ (l : c.loop-number.number ≤ t). absurd (c.in_err-slot.ensures (omega arith, omega arith))) (cases_lt t c.loop-number.number))))
+    ⊎_elim (λ (l : t < c.loop-number.number). l)
+    (λ (l : c.loop-number.number ≤ t). absurd (c.in_err-slot.ensures (omega arith, omega arith)))
+    (cases_lt t c.loop-number.number))))
     ∙ ap open_slot c.self.view_is
 
 pub returns-then-not-contains : goal.returns-then-not-contains

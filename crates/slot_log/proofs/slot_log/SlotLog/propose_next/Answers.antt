@@ -17,7 +17,9 @@ invariant_of-self-2 g c =
     let slot = c.in-Some-open_slot.slot in
     let x = c.unwrap-command.result in
     let least : IsLeastOpen (book_of a) slot = open_is (book_of a) slot (ap open_slot c.self.view_is ∙ sym c.in-Some-open_slot.ensures) in
-    let first : a.requests.items ≡ x ∷ c.pop_front.new.self.items = c.pop_front.ensures.items ∙ ap (λ (o : Option _). option_to_list o ++ c.pop_front.new.self.items) c.unwrap-command.ensures in
+    let first : a.requests.items ≡ x ∷ c.pop_front.new.self.items =
+    c.pop_front.ensures.items ∙ ap
+    (λ (o : Option _). option_to_list o ++ c.pop_front.new.self.items) c.unwrap-command.ensures in
     let copy : c.in_ok-copy.copy ≡ x = c.in_ok-copy.ensures ∙ c.in-Some.ensures.lookup ∙ ap (λ (xs : List _). slice_index_or xs 0 c.in-Some.first.now) first in
     let popped = c.pop_front.ensures.len in
     let one = ap (λ (o : Option _). length (option_to_list o)) c.unwrap-command.ensures in
@@ -25,6 +27,16 @@ invariant_of-self-2 g c =
     let puts : c.insert.new.self ≡ insert a.proposals slot x = c.in_ok-insert.ensures.ok ∙ ap (insert a.proposals slot) copy in
     let room = kept.room in
     let rest = c.pop_front.ensures.capacity in
-    subst (λ (ps : Slots g.row.C.Denot). KeepsBook g.C.PartialEq.eq g.C.Keyed.key_of (record a { slot_in = c.number.result + 1; requests = c.pop_front.new.self; proposals = ps; front_rank = a.front_rank + 1; places = c.relocate.new.self })) (sym puts)
-    (proposal_kept g.C.PartialEq.eq g.C.Keyed.key_of g.met.C.Value.exact g.met.C.Eq.laws.refl a kept c.pop_front.new.self x first slot (c.number.result + 1) least (ap (λ n. n + 1) c.number.ensures.number) c.relocate.new.self
+    subst (λ (ps : Slots g.row.C.Denot). KeepsBook g.C.PartialEq.eq g.C.Keyed.key_of
+    (record a {
+      slot_in = c.number.result + 1;
+      requests = c.pop_front.new.self;
+      proposals = ps;
+      front_rank =
+          a.front_rank + 1;
+      places = c.relocate.new.self;
+    })) (sym puts)
+    (proposal_kept g.C.PartialEq.eq g.C.Keyed.key_of g.met.C.Value.exact g.met.C.Eq.laws.refl a kept
+    c.pop_front.new.self x first slot (c.number.result + 1) least
+    (ap (λ n. n + 1) c.number.ensures.number) c.relocate.new.self
     c.relocate.ensures.here c.relocate.ensures.other c.relocate.ensures.others (omega arith))

@@ -13,7 +13,8 @@ returns g c =
     let keys = keys_of c.entries.result.now.entries in
     let found : c.find.result ≡ find (λ s. not (contains_key c.self.inside.decisions s)) keys =
     sym (option_map_id c.find.result)
-    ∙ find_from_yields_List (λ s. not (contains_key c.self.inside.decisions s)) _ _ c.find.result c.find.ensures.ran (YieldsList-from_copied (YieldsList-from_rest keys cc)) (λ x b q k. search (rules, tests)) in
+    ∙ find_from_yields_List (λ s. not (contains_key c.self.inside.decisions s)) _ _ c.find.result c.find.ensures.ran
+    (YieldsList-from_copied (YieldsList-from_rest keys cc)) (λ x b q k. search (rules, tests)) in
     found
     ∙ ap (λ (es : List (ℕ × _)). find (λ s. not (contains_key c.self.inside.decisions s)) (keys_of es)) c.entries.ensures
     ∙ ap undecided c.self.view_is

@@ -17,5 +17,7 @@ loop-self-preserved g c = record {
   small = c.in_ok-turn.ensures.small;
   spent = let a = c.in_ok-turn.ensures.spent in let b = c.loop-self.invariant.spent in omega arith;
   talk = talk_on c.args.self.now.trial c.loop-self.self.trial c.turn.new.self.trial c.loop-self.invariant.talk c.in_ok-turn.ensures.talk;
-  goes = goes_on g.O.Object.rules is_talk c.args.self.now.trial c.loop-self.self.trial c.turn.new.self.trial c.args.self.now.events.items c.loop-self.self.events.items c.turn.new.self.events.items c.loop-self.invariant.goes c.in_ok-turn.ensures.goes;
+  goes = goes_on g.O.Object.rules is_talk c.args.self.now.trial c.loop-self.self.trial c.turn.new.self.trial
+      c.args.self.now.events.items c.loop-self.self.events.items c.turn.new.self.events.items c.loop-self.invariant.goes
+      c.in_ok-turn.ensures.goes;
 }

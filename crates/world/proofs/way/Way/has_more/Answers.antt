@@ -17,10 +17,14 @@ none_found (Some x) h none = absurd (cc)
 pub returns-clause-more : goal.returns-clause-more
 returns-clause-more g c = λ more.
     let h = found _ c.proposal_for.result c.proposal_for.ensures.some (sym c.is_some.ensures ∙ more) in
-    inl (subst (λ s. IsProposedAt c.args.self.now.trial.cluster s) c.slot_out-slot.ensures (proposes_at c.args.self.now.trial.cluster h.0 c.slot_out-slot.result (subst (λ ls. Proposes ls h.0 c.slot_out-slot.result) c.letters-2.ensures h.1)))
+    inl (subst (λ s. IsProposedAt c.args.self.now.trial.cluster s) c.slot_out-slot.ensures
+    (proposes_at c.args.self.now.trial.cluster h.0 c.slot_out-slot.result
+    (subst (λ ls. Proposes ls h.0 c.slot_out-slot.result) c.letters-2.ensures h.1)))
 
 pub returns-clause-at_rest : goal.returns-clause-at_rest
 returns-clause-at_rest g c = λ never there.
     let none = none_found c.proposal_for.result c.proposal_for.ensures.none (sym c.is_some.ensures ∙ never) in
     let p = place_of c.args.self.now.trial.cluster.letters there.letter there.sent in
-    none p.0 (subst (λ s. Proposes c.letters-2.result.now p.0 s) (sym c.slot_out-slot.ensures) (subst (λ ls. Proposes ls p.0 (first_book c.args.self.now.trial.cluster).slot_out) (sym c.letters-2.ensures) (record { letter = there.letter; command = there.command; at = p.2; to = there.to; body = there.body })))
+    none p.0 (subst (λ s. Proposes c.letters-2.result.now p.0 s) (sym c.slot_out-slot.ensures)
+    (subst (λ ls. Proposes ls p.0 (first_book c.args.self.now.trial.cluster).slot_out) (sym c.letters-2.ensures)
+    (record { letter = there.letter; command = there.command; at = p.2; to = there.to; body = there.body })))

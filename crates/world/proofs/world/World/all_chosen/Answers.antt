@@ -11,7 +11,11 @@ returns-in-None g c =
 
 pub loop-slot-preserved : goal.loop-slot-preserved
 loop-slot-preserved g c = record {
-  run = run_next c.args.self.now.cluster c.loop-slot.chosen.items _ c.in-Some.command.now c.in_ok-copy-in-Some.field-0 c.in_ok-copy-in-Some.ensures c.in_ok-push-in-Some.ensures.items 1 c.loop-slot.slot c.loop-slot.invariant.count c.loop-slot.invariant.run c.in-Some.ensures.some;
-  count = count_next c.args.self.now.cluster c.loop-slot.chosen.items _ c.in-Some.command.now c.in_ok-copy-in-Some.field-0 c.in_ok-copy-in-Some.ensures c.in_ok-push-in-Some.ensures.items 1 c.loop-slot.slot c.loop-slot.invariant.count;
+  run = run_next c.args.self.now.cluster c.loop-slot.chosen.items _ c.in-Some.command.now c.in_ok-copy-in-Some.field-0
+      c.in_ok-copy-in-Some.ensures c.in_ok-push-in-Some.ensures.items 1 c.loop-slot.slot c.loop-slot.invariant.count
+      c.loop-slot.invariant.run c.in-Some.ensures.some;
+  count = count_next c.args.self.now.cluster c.loop-slot.chosen.items _ c.in-Some.command.now
+      c.in_ok-copy-in-Some.field-0 c.in_ok-copy-in-Some.ensures c.in_ok-push-in-Some.ensures.items 1 c.loop-slot.slot
+      c.loop-slot.invariant.count;
   within = let low = c.in-Some.ensures.within in omega arith;
 }

@@ -19,7 +19,8 @@ returns-clause-leader g c =
     let nodes = ap (λ w. length w.cluster.nodes) c.self.view_is in
     let members = ap (λ w. length w.cluster.members) c.self.view_is in
     let some = c.weights.ensures.members.some in
-    ap (λ x. x.leader) (c.behind-self.view_is ∙ node_at c.self.inside.members c.self.inside.nodes.items 1 c.index.result.now (omega arith) (omega arith) c.index.ensures)
+    ap (λ x. x.leader) (c.behind-self.view_is ∙ node_at c.self.inside.members c.self.inside.nodes.items 1
+    c.index.result.now (omega arith) (omega arith) c.index.ensures)
     ∙ ap (λ w. first_leader w.cluster) c.self.view_is
 
 pub returns-clause-book : goal.returns-clause-book
@@ -28,5 +29,6 @@ returns-clause-book g c =
     let nodes = ap (λ w. length w.cluster.nodes) c.self.view_is in
     let members = ap (λ w. length w.cluster.members) c.self.view_is in
     let some = c.weights.ensures.members.some in
-    ap (λ x. x.replica) (c.behind-self.view_is ∙ node_at c.self.inside.members c.self.inside.nodes.items 1 c.index.result.now (omega arith) (omega arith) c.index.ensures)
+    ap (λ x. x.replica) (c.behind-self.view_is ∙ node_at c.self.inside.members c.self.inside.nodes.items 1
+    c.index.result.now (omega arith) (omega arith) c.index.ensures)
     ∙ ap (λ w. first_book w.cluster) c.self.view_is

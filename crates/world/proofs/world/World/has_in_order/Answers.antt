@@ -14,22 +14,32 @@ returns-in-Some g c =
     stands_when c.ballot_laws.ensures c.args.self.now sound c.args.key c.self.inside.performed.items
     (subst (λ w. HasNoted w c.self.inside.performed.items) c.self.view_is c.self.invariant.noted) ahead.0 ahead.1 c.eq.result
     (c.eq.ensures ∙ ap (told c.args.key) (sym (late_before c.args.key c.in-Some.own c.self.inside.performed.items (map (λ x. x.key) ahead.0)
-    (sym (performed_late c.args.key c.deref.result.now c.self.inside.performed.items c.deref.ensures.value c.first_as_late.result c.first_as_late.ensures) ∙ c.in-Some.is))))
+    (sym (performed_late c.args.key c.deref.result.now c.self.inside.performed.items c.deref.ensures.value
+    c.first_as_late.result c.first_as_late.ensures) ∙ c.in-Some.is))))
 
 pub returns-in-Some-first_chosen_as_late : goal.returns-in-Some-first_chosen_as_late
 returns-in-Some-first_chosen_as_late g c =
     let ahead = c.first_chosen_as_late.ensures in
-    stands_when c.ballot_laws.ensures c.args.self.now (sound_now c.ballot_laws.ensures g.O.Object.rules _ _ c.self.view_is c.self.invariant.world) c.args.key c.self.inside.performed.items
-    (subst (λ w. HasNoted w c.self.inside.performed.items) c.self.view_is c.self.invariant.noted) ahead.0 (subst (λ w. IsChosenFrom c.args.self.now.cluster (w.reach + 1) ahead.0) c.self.view_is ahead.1) c.eq-in-Some-first_chosen_as_late.result
+    stands_when c.ballot_laws.ensures c.args.self.now
+    (sound_now c.ballot_laws.ensures g.O.Object.rules _ _ c.self.view_is c.self.invariant.world) c.args.key
+    c.self.inside.performed.items
+    (subst (λ w. HasNoted w c.self.inside.performed.items) c.self.view_is c.self.invariant.noted) ahead.0
+    (subst (λ w. IsChosenFrom c.args.self.now.cluster (w.reach + 1) ahead.0) c.self.view_is ahead.1)
+    c.eq-in-Some-first_chosen_as_late.result
     (c.eq-in-Some-first_chosen_as_late.ensures ∙ ap (told c.args.key) (sym c.in-Some-first_chosen_as_late.is ∙ ahead.2
     ∙ sym (late_behind c.args.key c.self.inside.performed.items (map (λ x. x.key) ahead.0)
-    (sym (performed_late c.args.key c.deref.result.now c.self.inside.performed.items c.deref.ensures.value c.first_as_late.result c.first_as_late.ensures) ∙ c.in_default.is))))
+    (sym (performed_late c.args.key c.deref.result.now c.self.inside.performed.items c.deref.ensures.value
+    c.first_as_late.result c.first_as_late.ensures) ∙ c.in_default.is))))
 
 pub returns-in-None : goal.returns-in-None
 returns-in-None g c =
     let ahead = c.first_chosen_as_late.ensures in
-    stands_when c.ballot_laws.ensures c.args.self.now (sound_now c.ballot_laws.ensures g.O.Object.rules _ _ c.self.view_is c.self.invariant.world) c.args.key c.self.inside.performed.items
-    (subst (λ w. HasNoted w c.self.inside.performed.items) c.self.view_is c.self.invariant.noted) ahead.0 (subst (λ w. IsChosenFrom c.args.self.now.cluster (w.reach + 1) ahead.0) c.self.view_is ahead.1) _
+    stands_when c.ballot_laws.ensures c.args.self.now
+    (sound_now c.ballot_laws.ensures g.O.Object.rules _ _ c.self.view_is c.self.invariant.world) c.args.key
+    c.self.inside.performed.items
+    (subst (λ w. HasNoted w c.self.inside.performed.items) c.self.view_is c.self.invariant.noted) ahead.0
+    (subst (λ w. IsChosenFrom c.args.self.now.cluster (w.reach + 1) ahead.0) c.self.view_is ahead.1) _
     (ap (told c.args.key) (sym c.in-None.is ∙ ahead.2
     ∙ sym (late_behind c.args.key c.self.inside.performed.items (map (λ x. x.key) ahead.0)
-    (sym (performed_late c.args.key c.deref.result.now c.self.inside.performed.items c.deref.ensures.value c.first_as_late.result c.first_as_late.ensures) ∙ c.in_default.is))))
+    (sym (performed_late c.args.key c.deref.result.now c.self.inside.performed.items c.deref.ensures.value
+    c.first_as_late.result c.first_as_late.ensures) ∙ c.in_default.is))))

@@ -15,8 +15,12 @@ pub returns-then-has_in_order-clause-none : goal.returns-then-has_in_order-claus
 returns-then-has_in_order-clause-none g c = (
   λ is. cc,
   λ no_way. ⊎_elim
-      (λ (never : is_submitted c.args.key c.args.self.now.happenings.submitted ≡ false). absurd (true≢false (sym (in_order_submitted c.ballot_laws.ensures g.O.Object.rules c.args.self.now c.show_reachable.ensures.world c.args.key (c.has_in_order.ensures.0 c.if-has_in_order.true)) ∙ never)))
-      (λ (outside : (IsInOrder c.args.self.now.cluster c.args.key → ⊥) × HasGreater c.args.key c.args.self.now.happenings.submitted). absurd (outside.0 (c.has_in_order.ensures.0 c.if-has_in_order.true)))
+      (λ (never : is_submitted c.args.key c.args.self.now.happenings.submitted ≡ false). absurd
+      (true≢false (sym (in_order_submitted c.ballot_laws.ensures g.O.Object.rules c.args.self.now
+      c.show_reachable.ensures.world c.args.key (c.has_in_order.ensures.0 c.if-has_in_order.true)) ∙ never)))
+      (λ (outside : (IsInOrder c.args.self.now.cluster c.args.key
+      → ⊥) × HasGreater c.args.key c.args.self.now.happenings.submitted). absurd
+      (outside.0 (c.has_in_order.ensures.0 c.if-has_in_order.true)))
       no_way,
 )
 
@@ -35,7 +39,9 @@ on_found P Q more (Err e) h = tt
 
 pub returns-in-Some-clause-empty : goal.returns-in-Some-clause-empty
 returns-in-Some-clause-empty g c = on_found _ _ (λ events found. (
-  λ none. subst (λ k. IsInOrder c.args.self.now.cluster k) c.in-Some.ensures.own (at_once_in g.O.Object.rules g.O.Op.PartialEq.eq c.args.self.now c.in-Some.command.now.key events.items found none),
+  λ none. subst (λ k. IsInOrder c.args.self.now.cluster k) c.in-Some.ensures.own
+      (at_once_in g.O.Object.rules g.O.Op.PartialEq.eq c.args.self.now c.in-Some.command.now.key events.items found
+      none),
   λ stands. absurd (true≢false (sym (c.has_in_order.ensures.1 stands) ∙ c.if-has_in_order.false)),
 ))
     c.bring_last.result c.bring_last.ensures.some

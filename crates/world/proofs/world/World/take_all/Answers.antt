@@ -9,19 +9,28 @@ pub loop-index-init : goal.loop-index-init
 loop-index-init g c = record { led = at_once; stays = λ s x h. h }
 
 pub returns-in-Err-clause-refused : goal.returns-in-Err-clause-refused
-returns-in-Err-clause-refused g c = refused_at g.O.Op.PartialEq.eq c.loop-index.self c.take_copy.new.self c.args.events.now c.loop-index.index c.index-events-index.result c.in-Err.refused c.loop-index-test.true c.index-events-index.is c.in-Err.ensures.err c.in-Err.ensures.refused
+returns-in-Err-clause-refused g c =
+    refused_at g.O.Op.PartialEq.eq c.loop-index.self c.take_copy.new.self c.args.events.now c.loop-index.index
+    c.index-events-index.result c.in-Err.refused c.loop-index-test.true c.index-events-index.is c.in-Err.ensures.err
+    c.in-Err.ensures.refused
 
 pub loop-index-preserved : goal.loop-index-preserved
 loop-index-preserved g c = record {
-  led = run_more g.O.Object.rules c.args.self.now c.loop-index.self c.take_copy.new.self c.args.events.now c.loop-index.index c.index-events-index.result c.loop-index-test.true c.index-events-index.is c.loop-index.invariant.led c.in_default.ensures.ok;
+  led = run_more g.O.Object.rules c.args.self.now c.loop-index.self c.take_copy.new.self c.args.events.now
+      c.loop-index.index c.index-events-index.result c.loop-index-test.true c.index-events-index.is
+      c.loop-index.invariant.led c.in_default.ensures.ok;
   stays = λ s x h. c.in_default.ensures.stays s x (c.loop-index.invariant.stays s x h);
 }
 
 pub returns-in-Err-clause-later : goal.returns-in-Err-clause-later
-returns-in-Err-clause-later g c = subst (GoesOnFrom c.args.self.now) (sym c.in-Err.ensures.err) (later_by c.ballot_laws.ensures g.O.Object.rules _ _ c.self.view_is c.self.invariant.world (take c.loop-index.index c.args.events.now) c.loop-index.self c.loop-index.invariant.led)
+returns-in-Err-clause-later g c =
+    subst (GoesOnFrom c.args.self.now) (sym c.in-Err.ensures.err)
+    (later_by c.ballot_laws.ensures g.O.Object.rules _ _ c.self.view_is c.self.invariant.world
+    (take c.loop-index.index c.args.events.now) c.loop-index.self c.loop-index.invariant.led)
 
 pub returns-clause-later : goal.returns-clause-later
-returns-clause-later g c = later_by c.ballot_laws.ensures g.O.Object.rules _ _ c.self.view_is c.self.invariant.world (take c.loop-index.index c.args.events.now) c.loop-index.self c.loop-index.invariant.led
+returns-clause-later g c = later_by c.ballot_laws.ensures g.O.Object.rules _ _ c.self.view_is c.self.invariant.world
+    (take c.loop-index.index c.args.events.now) c.loop-index.self c.loop-index.invariant.led
 
 pub returns-in-Err-clause-stays : goal.returns-in-Err-clause-stays
 returns-in-Err-clause-stays g c = λ s x h. c.in-Err.ensures.stays s x (c.loop-index.invariant.stays s x h)

@@ -4,7 +4,10 @@ use Rattle.world.proofs.world.World.voted.Goals.{else-number-slot-via-then-numbe
 use Rattle.world.proofs.world.World.voted.Goals as goal
 
 pub returns-then-is_voted-clause-some : goal.returns-then-is_voted-clause-some
-returns-then-is_voted-clause-some g c = has_voted c.args.self.now.cluster c.args.accepted.now c.args.slot c.loop-pvalue.pvalue-index c.pvalue-item.result c.loop-pvalue-test.true c.pvalue-item.is (sym c.number.ensures.number ∙ c.if-number-slot.true) (sym c.is_voted.ensures ∙ c.if-is_voted.true)
+returns-then-is_voted-clause-some g c =
+    has_voted c.args.self.now.cluster c.args.accepted.now c.args.slot c.loop-pvalue.pvalue-index c.pvalue-item.result
+    c.loop-pvalue-test.true c.pvalue-item.is (sym c.number.ensures.number ∙ c.if-number-slot.true)
+    (sym c.is_voted.ensures ∙ c.if-is_voted.true)
 
 pub loop-pvalue-preserved : goal.loop-pvalue-preserved
 loop-pvalue-preserved g c =
