@@ -12,6 +12,7 @@ mod comparing;
 mod counted_hall;
 mod faults;
 mod gate;
+mod hooks;
 mod news;
 mod node_thread;
 mod places;

@@ -10,18 +10,17 @@ use std::sync::ledger::Ledger;
 
 /// What the thread of a node does: it takes its turn when there is something for it, until all is over. Nodes count from
 /// 1.
-pub(crate) fn run_node<O: Object, S: Ledger, C: Ledger, R: Wait, G: Gate, F: Faults>(
+pub(crate) fn run_node<O: Object, S: Ledger, C: Ledger, R: Wait, H: Gate + Faults>(
     rt: &R,
     shared: &Shared<O, S, C>,
     node: u8,
-    gate: &G,
-    faults: &F,
+    hooks: &H,
 )
     requires { 0 < node }
 {
     let mut patience = Patience::new();
     for _ in rt.forever() {
-        let has_more = shared.take_own_turn(rt, node, gate, faults);
+        let has_more = shared.take_own_turn(rt, node, hooks);
         if shared.is_over() {
             return;
         }

@@ -1,28 +1,20 @@
 //! One replica that decides slot after slot, and says when it comes by some of them.
 //!
 //! `bench/slot_log_growth` reads the time at each line.
-#![tactic(auto)]
 
 use ballot::{Letter, Members};
 use object::{Act, Answer, Command, Key, Register, RegisterOp, RegisterReply};
 use replica::Replica;
 use std::alloc::Global;
-use std::io::{self, Write};
-use std::process::ExitCode;
+use std::io::Write;
 
 const SLOTS: u64 = 100_000;
 
 /// After these many slots a line is written.
 const MARKS: [u64; 4] = [1, 1_001, SLOTS - 1_000, SLOTS];
 
-fn main(rt: HostRuntime) -> ExitCode {
-    match decide_all(rt.alloc(), &mut rt.stdout()) {
-        Some(()) => ExitCode::SUCCESS,
-        None => ExitCode::FAILURE,
-    }
-}
-
-fn decide_all<W: Write>(alloc: Global, out: &mut W) -> Option<()> {
+/// Decides all slots.
+pub fn measure<W: Write>(alloc: Global, out: &mut W) -> Option<()> {
     let mut replica = Replica::new(alloc).ok()?;
     let members = Members::new(1)?;
     let mut letters = Vec::new(alloc);

@@ -1,28 +1,18 @@
 //! Worlds of many decided slots whose leader restarts, and what the way out of them costs, for `bench/rescue_growth`.
 //!
-//! It reads how many members there are and how many slots, and whether it tells the processor time. It writes both, how
-//! many events bring a last command into the order, and how many microseconds it took to find them, or 0. Where it doesn't
+//! Its words are how many members there are and how many slots, and maybe that it tells the processor time. It writes
+//! both, how many events bring a last command into the order, and how many microseconds it took to find them, or 0. Where it doesn't
 //! tell the time, it looks whether the order has all commands then.
-#![tactic(auto)]
 
 use ballot::Members;
 use object::{Act, Command, Key, Register, RegisterOp};
 use std::alloc::Global;
-use std::process::ExitCode;
+use std::str::SplitWhitespace;
 use std::time::CpuClock;
 use world::{Event, World};
 
-fn main(rt: HostRuntime) -> ExitCode {
-    match run(&rt) {
-        Some(()) => ExitCode::SUCCESS,
-        None => ExitCode::FAILURE,
-    }
-}
-
-fn run(rt: &HostRuntime) -> Option<()> {
-    let mut line = String::new(rt.alloc());
-    rt.read_line(&mut line).ok()?;
-    let mut words = line.split_whitespace();
+/// Finds the way out of one world, and goes it.
+pub fn measure(rt: &HostRuntime, mut words: SplitWhitespace<'_>) -> Option<()> {
     let count: u8 = words.next()?.parse().ok()?;
     let slots: u32 = words.next()?.parse().ok()?;
     let is_timed = words.next().is_some();

@@ -1,7 +1,7 @@
 //! Jobs that are put, reserved and deleted, one after the other, by two sessions in turn.
 
-use crate::calls::ask;
-use crate::dumps::count_dump;
+use super::calls::ask;
+use super::dumps::count_dump;
 use ballot::Members;
 use bean_queue::{Body, Op, Queue, Reply};
 use hall::{Hall, Ticket};

@@ -1,7 +1,7 @@
 //! What is measured. Each writes a line before and after what is timed.
 
-use crate::clients::Clients;
-use crate::marks::Marks;
+use super::clients::Clients;
+use super::marks::Marks;
 use bean_queue::{Op, Reply};
 
 /// The tubes that have the jobs, by their letters. The session that puts into a tube has its letter's number.

@@ -2,7 +2,6 @@
 //! of what an acceptor accepted in many slots, and has them decided.
 //!
 //! `bench/acceptor_growth` reads the time at each line of the acceptor's slots.
-#![tactic(auto)]
 
 mod leading;
 
@@ -12,7 +11,6 @@ use leading::decided_again;
 use object::{Act, Command, Key, RegisterOp};
 use std::alloc::Global;
 use std::io::{self, Write};
-use std::process::ExitCode;
 
 const SLOTS: u64 = 1_010_000;
 
@@ -22,14 +20,8 @@ const MARKS: [u64; 4] = [1_000, 11_000, 1_000_000, SLOTS];
 /// Of so many slots the leader hears what was accepted there.
 const GATHERED: u64 = 70_000;
 
-fn main(rt: HostRuntime) -> ExitCode {
-    match measure(rt.alloc(), &mut rt.stdout()) {
-        Some(()) => ExitCode::SUCCESS,
-        None => ExitCode::FAILURE,
-    }
-}
-
-fn measure<W: Write>(alloc: Global, out: &mut W) -> Option<()> {
+/// Accepts in all slots, and has what is accepted in some of them decided.
+pub fn measure<W: Write>(alloc: Global, out: &mut W) -> Option<()> {
     accept_all(alloc, SLOTS, out)?;
     let acceptor = accept_all(alloc, GATHERED, &mut io::sink())?;
     let decided = decided_again(alloc, acceptor, GATHERED)?;

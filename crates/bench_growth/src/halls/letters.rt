@@ -1,6 +1,6 @@
 //! Mails of many letters.
 
-use crate::calls::{deliver_all, deliver_each, perform_each};
+use super::calls::{deliver_all, deliver_each, perform_each};
 use ballot::Members;
 use bean_queue::{Op, Queue, Reply};
 use hall::{Hall, Ticket};

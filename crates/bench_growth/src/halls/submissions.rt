@@ -1,7 +1,7 @@
 //! Many submissions, of which few take effect.
 
-use crate::calls::{decide_next, deliver_all};
-use crate::dumps::count_dump;
+use super::calls::{decide_next, deliver_all};
+use super::dumps::count_dump;
 use ballot::Members;
 use bean_queue::{Op, Queue};
 use hall::Hall;

@@ -1,0 +1,22 @@
+use crate::faults::{Faults, Mishap};
+use crate::gate::{Actor, Gate, Point};
+
+/// What a test hangs into a cluster, as one value: who is told where each thread stands, and who says what befalls the
+/// nodes.
+#[derive(Drop)]
+pub(crate) struct Hooks<'a, G, F> {
+    pub(crate) gate: &'a G,
+    pub(crate) faults: &'a F,
+}
+
+impl<'a, G: Gate, F> Gate for Hooks<'a, G, F> {
+    fn at(&self, who: Actor, point: Point) {
+        self.gate.at(who, point);
+    }
+}
+
+impl<'a, G, F: Faults> Faults for Hooks<'a, G, F> {
+    fn choose(&self, node: u8, turn: u64) -> Mishap {
+        self.faults.choose(node, turn)
+    }
+}
