@@ -9,7 +9,8 @@ ghost use Rattle.beanpax.specs.Faults.{IsOfDump, IsOfOutput, of_cluster};
 ghost use Rattle.chronicle.specs.Checking.{IsFaultless};
 ghost use Rattle.chronicle.specs.Dump.{dump_text};
 ghost use Rattle.hall.specs.Halls.{chronicle_of, new_hall};
-ghost use Rattle.node_threads.specs.Clusters.{IsAccountedFor, IsWorkerCount, all_tickets};
+ghost use Rattle.counted_hall.specs.Accounts.{all_tickets};
+ghost use Rattle.node_threads.specs.Clusters.{IsAccountedFor, IsWorkerCount};
 ghost use Rattle.session.specs.Streams.{AppendsBeginning};
 ghost use Rattle.beanpax.specs.Servers.{TellsPort, listening_line};
 

@@ -31,7 +31,3 @@ TakesLeave old (Err Stopped) new = new ≡ old
 -- the ticket, and so many commands
 abbrev pub attendance_of : {Op Reply : Type 0} → TicketState Op Reply → ℕ → Attendance Op Reply
 attendance_of ticket count = record { ticket = ticket; count = count }
-
--- how many acts all these tickets have
-abbrev pub acts_in : {Op Reply : Type 0} → List (TicketState Op Reply) → ℕ
-acts_in tickets = sum (map (λ t. length t.acts) tickets)

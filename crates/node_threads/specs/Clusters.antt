@@ -1,4 +1,4 @@
--- The tickets of all workers, and the hall of whose sessions they are.
+-- What a cluster leaves when it has ended, and what it needs before it begins.
 use Rattle.std.specs.Prelude.{◌≡◌, ◌≢◌, ◌<◌, ◌≤◌, ◌==◌, ℕ, ◌+◌, true, List, length, vec_len, vec_capacity, sum, map, flat_map, Option, None, Some}
 use Rattle.std.specs.Global.{Vec}
 use Rattle.std.specs.List.{IsDistinct}
@@ -10,21 +10,7 @@ use Rattle.hall.specs.Tickets.{TicketState}
 use Rattle.node_threads.specs.declared.accept.Accept.{Ghosts as Accept}
 use Rattle.node_threads.specs.declared.cluster_error.ClusterError.{ClusterError}
 use Rattle.node_threads.specs.declared.cluster_error.ClusterError.TheVariants.{BadNumber, ListenFailed, OutOfMemory}
-use Rattle.node_threads.specs.Attending.{acts_in}
-
--- the lists of all workers, one after the other
-abbrev pub all_tickets : {Op Reply : Type 0} → List (Vec (TicketState Op Reply)) → List (TicketState Op Reply)
-all_tickets lists = flat_map (λ v. v.items) lists
-
--- of which session each is
-abbrev pub sessions_of : {Op Reply : Type 0} → List (TicketState Op Reply) → List ℕ
-sessions_of tickets = map (λ t. t.session) tickets
-
--- Each ticket agrees with the hall, and each session that was opened has one ticket.
-pub record AreItsTickets {Op Reply : Type 0} (h : HallState Op Reply) (tickets : List (TicketState Op Reply)) : Type 0 where
-  pub agree : (t : TicketState Op Reply) → In t tickets → Agrees h t
-  pub once : IsDistinct (λ a b. a == b) (sessions_of tickets)
-  pub each : (session : ℕ) → is_opened h.book session ≡ true → (t : TicketState Op Reply) × In t tickets × (t.session ≡ session)
+use Rattle.counted_hall.specs.Accounts.{AreItsTickets, acts_in, all_tickets}
 
 -- There are as many tickets as sessions were opened, and as many acts in them as these handed in; and the fault is bad
 -- number exactly where they aren't the tickets of the hall's sessions.

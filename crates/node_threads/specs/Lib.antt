@@ -1,5 +1,3 @@
 pub mod Attending
 pub mod Clusters
-pub mod Counting
-pub mod Marks
 pub mod Rings

@@ -1,12 +1,12 @@
 ghost use Rattle.std.specs.Prelude.{◌≡◌, ◌≢◌, ◌+◌, ◌≤◌, [], Some, IfOk, length, vec_capacity};
 ghost use Rattle.node_threads.specs.declared.cluster_error.ClusterError.TheVariants.{BadNumber, OutOfMemory};
-ghost use Rattle.node_threads.specs.Clusters.{IsAccountedFor, IsWorkerCount, LeavesCluster, all_tickets};
-ghost use Rattle.node_threads.specs.Counting.{CountsNone, HaveAllParts};
+ghost use Rattle.counted_hall.specs.Accounts.{all_tickets};
+ghost use Rattle.node_threads.specs.Clusters.{IsAccountedFor, IsWorkerCount, LeavesCluster};
+ghost use Rattle.counted_hall.specs.Counting.{CountsNone, HaveAllParts};
 
 use crate::accept::Accept;
 use crate::clock::Seconds;
 use crate::cluster_error::ClusterError;
-use crate::comparing::are_its_tickets;
 use crate::faults::{Faults, NoFaults};
 use crate::gate::Gate;
 use crate::hooks::Hooks;
@@ -15,6 +15,7 @@ use crate::shared::Shared;
 use crate::staff::{Common, Door, Finished, run_threads};
 use crate::tally::Tally;
 use bean_queue::{Op, Reply};
+use counted_hall::are_its_tickets;
 use crossbeam_channel::{Receiver, Sender};
 use hall::{Hall, Ticket};
 use object::Object;

@@ -1,15 +1,4 @@
-/// What befalls a node before one of its turns.
-#[derive(Clone, Copy, Debug, PartialEq, Eq)]
-pub enum Mishap {
-    /// Nothing does.
-    None,
-    /// The letter in front of its mail is lost.
-    Lose,
-    /// The letter in front of its mail comes again, behind the others.
-    Repeat,
-    /// The node stops and begins anew, with what its acceptor keeps.
-    Restart,
-}
+use counted_hall::Mishap;
 
 /// Says what befalls the nodes of a cluster. It is asked once before each turn of a node, while the hall's lock is free.
 pub trait Faults {

@@ -1,5 +1,6 @@
-use crate::faults::{Faults, Mishap};
+use crate::faults::Faults;
 use crate::gate::{Actor, Gate, Point};
+use counted_hall::Mishap;
 
 /// What a test hangs into a cluster, as one value: who is told where each thread stands, and who says what befalls the
 /// nodes.

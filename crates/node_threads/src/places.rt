@@ -3,7 +3,7 @@ ghost use Rattle.node_threads.specs.Rings.{node_after, node_of_second};
 
 use crate::bell::{Bell, Patience};
 use crate::rounds::Rounds;
-use crate::turn::Watch;
+use counted_hall::Watch;
 use std::alloc::{AllocError, Global};
 use std::sync::atomic::{AtomicBool, AtomicU64, Ordering};
 use std::sync::{Mutex, MutexGuard, Wait};

@@ -3,16 +3,16 @@ ghost use Rattle.hall.specs.declared.ticket.NotedAct.{NotedAct};
 ghost use Rattle.hall.specs.Halls.{after_tick, with_nodes};
 ghost use Rattle.hall.specs.Recorded.{asked};
 ghost use Rattle.hall.specs.Tickets.{last_command, last_noted, with_noted};
-ghost use Rattle.node_threads.specs.Counting.{CountNothing, CountsAll, CountsNone, HandsInOne, HaveAllParts, OpensOne};
+ghost use Rattle.counted_hall.specs.Counting.{CountNothing, CountsAll, CountsNone, HandsInOne, HaveAllParts, OpensOne};
 ghost use Rattle.node_threads.specs.Rings.{node_after, node_of_second};
 
 mod helping;
 
 use crate::bell::Patience;
-use crate::counted_hall::CountedHall;
 use crate::faults::Faults;
 use crate::gate::Gate;
 use crate::places::WaitingPlaces;
+use counted_hall::CountedHall;
 use hall::{Hall, HallError, Ticket};
 use object::{Act, Object};
 use std::alloc::{AllocError, Global};

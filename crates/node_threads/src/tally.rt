@@ -1,6 +1,5 @@
 ghost use Rattle.std.specs.Prelude.{◌≡◌, ◌+◌, ◌<◌, [], length, vec_len, vec_capacity};
-ghost use Rattle.node_threads.specs.Attending.{acts_in};
-ghost use Rattle.node_threads.specs.Clusters.{all_tickets};
+ghost use Rattle.counted_hall.specs.Accounts.{acts_in, all_tickets};
 
 use crate::worker::Worker;
 use hall::Ticket;

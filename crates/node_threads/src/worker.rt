@@ -1,5 +1,5 @@
 ghost use Rattle.std.specs.Prelude.{◌≡◌, length};
-ghost use Rattle.node_threads.specs.Attending.{acts_in};
+ghost use Rattle.counted_hall.specs.Accounts.{acts_in};
 
 use crate::attending::{Desk, attend};
 use crate::faults::Faults;

@@ -2,7 +2,7 @@ use super::Shared;
 use crate::faults::Faults;
 use crate::gate::{Actor, Gate, Point};
 use crate::news::{MOST_NODES, News};
-use crate::turn::Watch;
+use counted_hall::Watch;
 use object::Object;
 use std::sync::ledger::Ledger;
 use std::sync::{MutexGuard, Wait};

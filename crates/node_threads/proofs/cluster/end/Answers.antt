@@ -1,5 +1,5 @@
 use Rattle.std.proofs.Common.{rules, subst, sym, ◌∙◌}
-use Rattle.node_threads.specs.Clusters.{AreItsTickets, all_tickets}
+use Rattle.counted_hall.specs.Accounts.{AreItsTickets, all_tickets}
 use Rattle.node_threads.proofs.cluster.end.Goals.{then-are_its_tickets, else-are_its_tickets}
 use Rattle.node_threads.proofs.cluster.end.Goals as goal
 

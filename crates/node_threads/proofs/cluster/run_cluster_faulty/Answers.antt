@@ -1,6 +1,6 @@
 use Rattle.std.proofs.Common.{ap, rules}
-use Rattle.node_threads.specs.Clusters.{all_tickets}
-use Rattle.node_threads.proofs.Judging.{none_opened}
+use Rattle.counted_hall.specs.Accounts.{all_tickets}
+use Rattle.counted_hall.proofs.Judging.{none_opened}
 use Rattle.node_threads.proofs.cluster.run_cluster_faulty.Goals as goal
 
 pub returns-in_default : goal.returns-in_default

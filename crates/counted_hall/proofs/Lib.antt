@@ -1,0 +1,4 @@
+pub mod Counts
+pub mod Marking
+pub mod Taking
+pub mod Judging
