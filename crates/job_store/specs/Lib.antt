@@ -1,4 +1,5 @@
 pub mod Names
+pub mod NameSets
 pub mod Entries
 pub mod EntryLaws
 pub mod States

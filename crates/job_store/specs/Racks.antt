@@ -15,6 +15,12 @@ shelf_at cmp shelves k = unwrap_or (get cmp shelves k) bare
 abbrev pub AreOthersKept : {K : Type 0} → (K → K → Ordering) → K → BTreeMap K ShelfState → BTreeMap K ShelfState → Type 0
 AreOthersKept {K} cmp k old new = (q : K) → (q ≡ k → ⊥) → shelf_at cmp new q ≡ shelf_at cmp old q
 
+-- the shelf with this name changes so, and all others are the same
+pub record ChangesOne {K : Type 0} (cmp : K → K → Ordering) (k : K) (old new : BTreeMap K ShelfState)
+    (How : ShelfState → ShelfState → Type 0) : Type 0 where
+  pub change : How (shelf_at cmp old k) (shelf_at cmp new k)
+  pub others : AreOthersKept cmp k old new
+
 -- the order of names: that of their bytes
 abbrev pub name_cmp : List ℕ → List ℕ → Ordering
 name_cmp = slice_cmp nat_cmp

@@ -1,5 +1,6 @@
 -- On which shelf a job stands, and where.
-use Rattle.std.specs.Prelude.{◌≡◌, ◌^◌, ℕ, Bool, true, ◌&&◌, ◌⊎◌, ◌==◌, List, [], IfSome, IfNone, bytes_eq}
+use Rattle.std.specs.Prelude.{◌≡◌, ◌^◌, ℕ, Bool, true, false, ◌&&◌, ◌⊎◌, ◌==◌, List, [], Option, Result, option_map, IfSome, IfNone, OnOk, OnErr, bytes_eq}
+use Rattle.std.specs.Borrow.{Bor}
 use Rattle.std.specs.Ordering.{nat_cmp}
 use Rattle.object.specs.Lists.{In}
 use Rattle.job_store.specs.declared.job.Job.{Job}
@@ -8,6 +9,7 @@ use Rattle.job_store.specs.declared.shelves.Shelves.{Shelves}
 use Rattle.job_store.specs.declared.spot.Spot.{Spot}
 use Rattle.job_store.specs.Entries.{Rising}
 use Rattle.job_store.specs.Undone.{MapState}
+use Rattle.job_store.specs.Least.{IsLeast, NonePasses, least}
 use Rattle.job_store.specs.States.{is_ready, is_scheduled}
 use Rattle.job_store.specs.LookUps.{delayed_in, buried_in, reserved_in, held_by, is_after, pri_of_job, due_of_job, rank_of_job}
 use Rattle.job_store.specs.ShelfStates.{ShelfState, IsFrom, IsFound}
@@ -51,6 +53,17 @@ AreAllFound label s jobs = (p : ℕ × ℕ) (e : ℕ × Job) → In e jobs → B
 -- no job that a look-up of the shelf finds stands before this place
 abbrev pub IsPassed : Label → List (ℕ × Job) → ShelfState → ℕ × ℕ → Type 0
 IsPassed label jobs s place = (p : ℕ × ℕ) (e : ℕ × Job) → In e jobs → BelongsAt label p e → IsFound s p → IsFrom place p
+
+-- the ids rise, and a look-up of the shelf finds each of the jobs that belongs there
+pub record CanLookUp (label : Label) (s : ShelfState) (jobs : List (ℕ × Job)) : Type 0 where
+  pub rising : Rising 0 (2 ^ 64) jobs
+  pub all : AreAllFound label s jobs
+
+-- what is found is the least of the jobs that pass, and nothing where none passes
+pub record FindsFirst (test : ℕ × Job → Bool) (by : Job → ℕ) (jobs : List (ℕ × Job)) (result : Option (ℕ × Bor Job)) : Type 0 where
+  pub job : option_map (λ e. (e.0, e.1.now)) result ≡ least test by jobs
+  pub found : IfSome result (λ e. IsLeast test by jobs (e.0, e.1.now))
+  pub none : IfNone result (NonePasses test jobs)
 
 -- the places are the same, and look-ups begin after none of the jobs that they found
 pub record HasMovedOn (label : Label) (jobs : List (ℕ × Job)) (old new : ShelfState) : Type 0 where
@@ -102,6 +115,35 @@ AreAheadOrListed s jobs = (e : ℕ × Job) → In e jobs → IsAhead s e ⊎ IsL
 abbrev pub AreKnown : Shelves → List (ℕ × Job) → List (ℕ × Spot) → Type 0
 AreKnown s jobs listed = (label : Label) (p : ℕ × ℕ) → In p (places s label) → (e : ℕ × Job) × BelongsAt label p e × (In e jobs ⊎ IsListed listed e)
 
+-- the ids rise, and the shelves may be asked for each of the jobs: none belongs before the place at which look-ups begin
+pub record AreInReach (s : Shelves) (jobs : List (ℕ × Job)) : Type 0 where
+  pub rising : Rising 0 (2 ^ 64) jobs
+  pub ahead : AreAhead s jobs
+
+-- The ids rise. The jobs have their places, and look-ups find them there. At each place belongs one of them, or one that
+-- is listed.
+pub record HoldJobs (s : Shelves) (jobs : List (ℕ × Job)) (listed : List (ℕ × Spot)) : Type 0 where
+  pub rising : Rising 0 (2 ^ 64) jobs
+  pub placed : HavePlaces s jobs
+  pub ahead : AreAhead s jobs
+  pub known : AreKnown s jobs listed
+
+-- the shelves hold the jobs and nothing else, and none is listed
+pub record AreSwept (s : Shelves) (jobs : List (ℕ × Job)) : Type 0 where
+  pub held : HoldJobs s jobs []
+  pub listed : lists s ≡ ([], [])
+
+-- The jobs, to which a trial goes back, have their places. Look-ups find them, but for those that are listed as ones that
+-- went. At each place belongs one of them, or one that came.
+pub record CanGoBack (s : Shelves) (jobs : List (ℕ × Job)) : Type 0 where
+  pub placed : HavePlaces s jobs
+  pub ahead : AreAheadOrListed s jobs
+  pub known : AreKnown s jobs s.came.items
+
+-- where a place is left at which the job belongs, one of these jobs belongs there too
+abbrev pub IsGone : Shelves → List (ℕ × Job) → ℕ × Job → Label → Type 0
+IsGone s jobs gone label = (p : ℕ × ℕ) → In p (places s label) → BelongsAt label p gone → (e : ℕ × Job) × BelongsAt label p e × In e jobs
+
 -- look-ups of each shelf begin nowhere later
 abbrev pub BeginNoLater : Shelves → Shelves → Type 0
 BeginNoLater old new = (label : Label) (p : ℕ × ℕ) → IsFrom (shelf old label).from p → IsFrom (shelf new label).from p
@@ -125,6 +167,13 @@ pub record HasSettled (old new : Shelves) (jobs : List (ℕ × Job)) : Type 0 wh
   pub shelves : (label : Label) → HasMovedOn label jobs (shelf old label) (shelf new label)
   pub lists : lists new ≡ lists old
 
+-- After a change, in a trial or outside one, the shelves hold the jobs. In a trial the places are the same, and outside
+-- one no job is listed.
+pub record HasCaughtUp (is_trial : Bool) (old new : Shelves) (jobs : List (ℕ × Job)) : Type 0 where
+  pub held : HoldJobs new jobs new.went.items
+  pub settled : is_trial ≡ true → HasSettled old new jobs
+  pub swept : is_trial ≡ false → lists new ≡ ([], [])
+
 -- the same places, and look-ups begin nowhere later
 pub record HasGoneBack (old new : Shelves) : Type 0 where
   pub places : (label : Label) → places new label ≡ places old label
@@ -143,10 +192,23 @@ pub record AreInDoubt (old new : Shelves) : Type 0 where
   pub went : (e : ℕ × Job) → IsListed old.went.items e → IsListed new.went.items e
   pub only : (label : Label) (p : ℕ × ℕ) → In p (places new label) → In p (places old label) ⊎ ((e : ℕ × Job) × BelongsAt label p e × IsListed new.went.items e)
 
+-- the shelves are the same, and what was listed still is
+pub record ListsMore (old new : Shelves) : Type 0 where
+  pub shelves : (label : Label) → shelf new label ≡ shelf old label
+  pub came : (e : ℕ × Job) → IsListed old.came.items e → IsListed new.came.items e
+  pub went : (e : ℕ × Job) → IsListed old.went.items e → IsListed new.went.items e
+
 -- the job stands where it belongs, and look-ups find it there
 pub record HasCome (s : Shelves) (e : ℕ × Job) : Type 0 where
   pub placed : HasPlaces s e
   pub ahead : IsAhead s e
+
+-- A job is put, and isn't known to stay. The places more are its own. Where memory was refused it may lack some.
+pub record PutsInDoubt {E : Type 0} (old new : Shelves) (e : ℕ × Job) (result : Result Unit E) : Type 0 where
+  pub grown : HasGrown old new
+  pub doubt : AreInDoubt old new
+  pub only : (label : Label) (p : ℕ × ℕ) → In p (places new label) → In p (places old label) ⊎ BelongsAt label p e
+  pub come : OnOk result (HasCome new e)
 
 -- After a change of the jobs those that went are listed so, and those that came are found. The places more are of jobs
 -- that are there, or listed as ones that went.
@@ -157,14 +219,21 @@ pub record HasFollowed (old new : Shelves) (jobs after : List (ℕ × Job)) : Ty
   pub only : (label : Label) (p : ℕ × ℕ) → In p (places new label) → In p (places old label)
       ⊎ ((e : ℕ × Job) × BelongsAt label p e × (In e after ⊎ IsListed new.went.items e))
 
--- The jobs have their places, and look-ups find them there. The jobs before the trial have theirs too. At each place
--- belongs one of the jobs or one that went, and one of those before the trial or one that came. What went in the trial
--- is listed so, and outside a trial nothing is.
+-- The jobs become these, of which the shelves have grown more places. Where memory was refused they stay. What they go
+-- back to stays in any case.
+pub record MovesJobs {E : Type 0} (s t : Shelves) (old new : MapState) (jobs : List (ℕ × Job)) (result : Result Unit E) : Type 0 where
+  pub ok : OnOk result (new.jobs ≡ jobs)
+  pub err : OnErr result (new.jobs ≡ old.jobs)
+  pub rising : Rising 0 (2 ^ 64) new.jobs
+  pub before : new.before ≡ old.before
+  pub grown : HasGrown s t
+  pub followed : HasFollowed s t old.jobs new.jobs
+
+-- The shelves hold the jobs, and each place at which none of them belongs is of one that went. The jobs before the trial
+-- have their places too, and each place is one of theirs or of one that came. What went in the trial is listed so, and
+-- outside a trial nothing is.
 pub record ShelvesMatch (s : Shelves) (state : MapState) : Type 0 where
-  pub rising : Rising 0 (2 ^ 64) state.jobs
-  pub placed : HavePlaces s state.jobs
-  pub ahead : AreAhead s state.jobs
-  pub known : AreKnown s state.jobs s.went.items
+  pub held : HoldJobs s state.jobs s.went.items
   pub placed_before : IfSome state.before (HavePlaces s)
   pub known_before : IfSome state.before (λ before. AreKnown s before s.came.items)
   pub went : IfSome state.before (λ before. (e : ℕ × Job) → In e before → In e state.jobs ⊎ IsListed s.went.items e)

@@ -1,7 +1,9 @@
-ghost use Rattle.std.specs.Prelude.{◌≡◌, ◌↔◌, ◌⊎◌, ℕ, List, [], ◌∷◌, true, None, IfSome, IfNone, IsNone, OnOk, option_map};
+ghost use Rattle.std.specs.Prelude.{◌≡◌, ◌↔◌, ℕ, List, [], ◌∷◌, true, None, IfSome, IsNone, OnOk, option_map};
 ghost use Rattle.std.specs.Map.{keys_of};
 ghost use Rattle.object.specs.Lists.{In};
-ghost use Rattle.job_store.specs.Least.{IsLeast, NonePasses, first_of};
+ghost use Rattle.job_store.specs.Least.{NonePasses, first_of};
+ghost use Rattle.job_store.specs.NameSets.{AddsOnly};
+ghost use Rattle.job_store.specs.Shelves.{FindsFirst};
 ghost use Rattle.job_store.specs.LookUps.{pri_of_job, due_of_job, ready_in, reserved_in, has_jobs, AreReadyPlaces};
 
 use crate::change::Change;
@@ -63,9 +65,7 @@ pub fn more_urgent<'a>(
 
 /// Puts a tube among the names, if it has jobs.
 fn add_filled(names: &mut BTreeSet<Name>, tube: &Name, jobs: &Jobs) -> Result<(), AllocError>
-    ensures kept { (t : List ℕ) → In t names.old.keys → In t names.new.keys }
-    ensures only { (t : List ℕ) → In t names.new.keys
-        → In t names.old.keys ⊎ (has_jobs t jobs.now.jobs ≡ true) }
+    ensures added { AddsOnly (λ t. has_jobs t jobs.now.jobs ≡ true) names.old.keys names.new.keys }
     ensures there { OnOk result (has_jobs tube.now jobs.now.jobs ≡ true
         → In tube.now names.new.keys) }
 {
@@ -81,9 +81,7 @@ fn add_shelved<N: ShelfNumber>(
     rack: &Rack<Name, N>,
     jobs: &Jobs,
 ) -> Result<(), AllocError>
-    ensures kept { (tube : List ℕ) → In tube names.old.keys → In tube names.new.keys }
-    ensures only { (tube : List ℕ) → In tube names.new.keys
-        → In tube names.old.keys ⊎ (has_jobs tube jobs.now.jobs ≡ true) }
+    ensures added { AddsOnly (λ t. has_jobs t jobs.now.jobs ≡ true) names.old.keys names.new.keys }
     ensures all { OnOk result ((tube : List ℕ) → has_jobs tube jobs.now.jobs ≡ true
         → In tube (keys_of rack.now.shelves.entries) → In tube names.new.keys) }
 {
@@ -96,9 +94,7 @@ fn add_shelved<N: ShelfNumber>(
 impl Jobs {
     /// The tube's reserved job of the least (due, id).
     fn first_reserved(&self, tube: &Name) -> Option<(u64, &Job)>
-        ensures found { IfSome result
-            (λ e. IsLeast (reserved_in tube.now) due_of_job self.now.jobs (e.0, e.1.now)) }
-        ensures none { IfNone result (NonePasses (reserved_in tube.now) self.now.jobs) }
+        ensures { FindsFirst (reserved_in tube.now) due_of_job self.now.jobs result }
     {
         self.shelves
             .reserved

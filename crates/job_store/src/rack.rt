@@ -1,9 +1,8 @@
-ghost use Rattle.std.specs.Prelude.{◌≡◌, ◌^◌, [], true, map, IfOk, OnOk, IfSome, IfNone, option_map};
+ghost use Rattle.std.specs.Prelude.{◌≡◌, ◌^◌, [], true, map, IfOk, OnOk, IfSome, IfNone};
 ghost use Rattle.job_store.specs.Entries.{Rising};
-ghost use Rattle.job_store.specs.Least.{IsLeast, NonePasses, least};
 ghost use Rattle.job_store.specs.ShelfStates.{bare, numbered_place, IsFound, HasGained, HasLost, HasReached, IsFrom};
-ghost use Rattle.job_store.specs.Shelves.{belongs, number, AreAllFound, HasMovedOn};
-ghost use Rattle.job_store.specs.Racks.{shelf_at, AreOthersKept};
+ghost use Rattle.job_store.specs.Shelves.{belongs, number, CanLookUp, FindsFirst, HasMovedOn};
+ghost use Rattle.job_store.specs.Racks.{shelf_at, ChangesOne};
 
 use crate::job::Job;
 use crate::label::Label;
@@ -65,9 +64,8 @@ impl<K: ShelfName, N: ShelfNumber> Rack<K, N> {
     /// Adds a place to a shelf, unless it is there.
     pub fn put(&mut self, key: &K, number: N, id: u64) -> Result<(), AllocError>
         ensures ok { OnOk result (IsFound (shelf_at K.cmp self.new.shelves key.now) (N.value number, id)) }
-        ensures gained { HasGained (shelf_at K.cmp self.old.shelves key.now)
-            (shelf_at K.cmp self.new.shelves key.now) (N.value number, id) }
-        ensures others { AreOthersKept K.cmp key.now self.old.shelves self.new.shelves }
+        ensures put { ChangesOne K.cmp key.now self.old.shelves self.new.shelves
+            (λ old new. HasGained old new (N.value number, id)) }
     {
         if let Some(shelf) = self.shelves.get_mut(key) {
             shelf.put(number, id)?;
@@ -81,9 +79,8 @@ impl<K: ShelfName, N: ShelfNumber> Rack<K, N> {
 
     /// Takes a place from a shelf, if it is there.
     pub fn take(&mut self, key: &K, number: N, id: u64)
-        ensures lost { HasLost (shelf_at K.cmp self.old.shelves key.now)
-            (shelf_at K.cmp self.new.shelves key.now) (N.value number, id) }
-        ensures others { AreOthersKept K.cmp key.now self.old.shelves self.new.shelves }
+        ensures { ChangesOne K.cmp key.now self.old.shelves self.new.shelves
+            (λ old new. HasLost old new (N.value number, id)) }
     {
         let Some(shelf) = self.shelves.get_mut(key) else {
             return;
@@ -107,9 +104,8 @@ impl<K: ShelfName, N: ShelfNumber> Rack<K, N> {
 
     /// Lets look-ups of a shelf begin at a place, if they begin after it.
     pub fn reach(&mut self, key: &K, number: N, id: u64)
-        ensures reached { HasReached (shelf_at K.cmp self.old.shelves key.now)
-            (shelf_at K.cmp self.new.shelves key.now) (N.value number, id) }
-        ensures others { AreOthersKept K.cmp key.now self.old.shelves self.new.shelves }
+        ensures { ChangesOne K.cmp key.now self.old.shelves self.new.shelves
+            (λ old new. HasReached old new (N.value number, id)) }
     {
         if let Some(shelf) = self.shelves.get_mut(key) {
             shelf.reach(number, id);
@@ -119,9 +115,8 @@ impl<K: ShelfName, N: ShelfNumber> Rack<K, N> {
     /// Lets look-ups of a shelf begin after the places that were left, as far as the first job stands behind them.
     pub fn settle(&mut self, key: &K, label: Label, jobs: &BTreeMap<u64, Job>)
         requires { Rising 0 (2 ^ 64) jobs.now.entries }
-        ensures moved_on { HasMovedOn label.entry jobs.now.entries
-            (shelf_at K.cmp self.old.shelves key.now) (shelf_at K.cmp self.new.shelves key.now) }
-        ensures others { AreOthersKept K.cmp key.now self.old.shelves self.new.shelves }
+        ensures { ChangesOne K.cmp key.now self.old.shelves self.new.shelves
+            (HasMovedOn label.entry jobs.now.entries) }
     {
         if let Some(shelf) = self.shelves.get_mut(key) {
             shelf.settle(label, jobs);
@@ -148,13 +143,8 @@ impl<K: ShelfName, N: ShelfNumber> Rack<K, N> {
         label: Label,
         jobs: &'a BTreeMap<u64, Job>,
     ) -> Option<(u64, &'a Job)>
-        requires rising { Rising 0 (2 ^ 64) jobs.now.entries }
-        requires all { AreAllFound label (shelf_at K.cmp self.now.shelves key.now) jobs.now.entries }
-        ensures job { option_map (λ e. (e.0, e.1.now)) result
-            ≡ least (belongs label.entry) (number label.entry) jobs.now.entries }
-        ensures found { IfSome result
-            (λ e. IsLeast (belongs label.entry) (number label.entry) jobs.now.entries (e.0, e.1.now)) }
-        ensures none { IfNone result (NonePasses (belongs label.entry) jobs.now.entries) }
+        requires { CanLookUp label (shelf_at K.cmp self.now.shelves key.now) jobs.now.entries }
+        ensures { FindsFirst (belongs label.entry) (number label.entry) jobs.now.entries result }
     {
         match self.shelves.get(key) {
             Some(shelf) => shelf.first(label, jobs),

@@ -1,9 +1,8 @@
-ghost use Rattle.std.specs.Prelude.{◌≡◌, ◌^◌, ℕ, true, map, OnOk, IfSome, IfNone, option_map};
+ghost use Rattle.std.specs.Prelude.{◌≡◌, ◌^◌, ℕ, true, map, OnOk};
 ghost use Rattle.object.specs.Lists.{In};
 ghost use Rattle.job_store.specs.Entries.{Rising};
-ghost use Rattle.job_store.specs.Least.{IsLeast, NonePasses, least};
 ghost use Rattle.job_store.specs.ShelfStates.{bare, numbered_place, IsFound, HasGained, HasLost, HasReached, IsFrom};
-ghost use Rattle.job_store.specs.Shelves.{belongs, belongs_after, number, AreAllFound, IsPassed, HasMovedOn};
+ghost use Rattle.job_store.specs.Shelves.{belongs, belongs_after, number, CanLookUp, FindsFirst, IsPassed, HasMovedOn};
 
 use crate::job::Job;
 use crate::label::Label;
@@ -114,13 +113,8 @@ impl<N: ShelfNumber> Shelf<N> {
 
     /// The first of the jobs that belong on the shelf, where a look-up finds all of them.
     pub fn first<'a>(&self, label: Label, jobs: &'a BTreeMap<u64, Job>) -> Option<(u64, &'a Job)>
-        requires rising { Rising 0 (2 ^ 64) jobs.now.entries }
-        requires all { AreAllFound label self.now jobs.now.entries }
-        ensures job { option_map (λ e. (e.0, e.1.now)) result
-            ≡ least (belongs label.entry) (number label.entry) jobs.now.entries }
-        ensures found { IfSome result
-            (λ e. IsLeast (belongs label.entry) (number label.entry) jobs.now.entries (e.0, e.1.now)) }
-        ensures none { IfNone result (NonePasses (belongs label.entry) jobs.now.entries) }
+        requires { CanLookUp label self.now jobs.now.entries }
+        ensures { FindsFirst (belongs label.entry) (number label.entry) jobs.now.entries result }
     {
         for place in self.places.range(self.from..) {
             if let Some(job) = label.job_at(jobs, place.0.wide(), place.1) {
@@ -138,13 +132,9 @@ impl<N: ShelfNumber> Shelf<N> {
         jobs: &'a BTreeMap<u64, Job>,
         after: (N, u64),
     ) -> Option<(u64, &'a Job)>
-        requires rising { Rising 0 (2 ^ 64) jobs.now.entries }
-        requires all { AreAllFound label self.now jobs.now.entries }
-        ensures found { IfSome result
-            (λ e. IsLeast (belongs_after label.entry (numbered_place N.value after)) (number label.entry)
-            jobs.now.entries (e.0, e.1.now)) }
-        ensures none { IfNone result
-            (NonePasses (belongs_after label.entry (numbered_place N.value after)) jobs.now.entries) }
+        requires { CanLookUp label self.now jobs.now.entries }
+        ensures { FindsFirst (belongs_after label.entry (numbered_place N.value after))
+            (number label.entry) jobs.now.entries result }
     {
         for place in self
             .places

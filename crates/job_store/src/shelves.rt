@@ -1,4 +1,4 @@
-ghost use Rattle.std.specs.Prelude.{◌≡◌, ◌^◌, ◌++◌, ◌∷◌, [], ℕ, List, OnOk, OnErr, IfOk, ◌⊎◌, Some, true, false};
+ghost use Rattle.std.specs.Prelude.{◌≡◌, ◌^◌, ◌++◌, ◌∷◌, [], ℕ, List, OnOk, IfOk, Some, true, false};
 ghost use Rattle.object.specs.Lists.{In};
 ghost use Rattle.job_store.specs.declared.job.Job.{Job};
 ghost use Rattle.job_store.specs.declared.label.Label.{Label};
@@ -7,7 +7,7 @@ ghost use Rattle.job_store.specs.Entries.{Rising, value_at};
 ghost use Rattle.job_store.specs.States.{with_pri_and_state};
 ghost use Rattle.job_store.specs.ShelfStates.{bare, IsFrom, IsFound};
 ghost use Rattle.job_store.specs.Spots.{spot_of, at_spot};
-ghost use Rattle.job_store.specs.Shelves.{shelf, places, lists, BelongsAt, HasPlaces, HavePlaces, IsAhead, AreAhead, AreAheadOrListed, BeginNoLater, HasPut, HasTaken, HasGoneBack, HasSettled, HasCome, IsListed, AreKnown, HasGrown, AreInDoubt};
+ghost use Rattle.job_store.specs.Shelves.{shelf, places, lists, BelongsAt, IsAhead, AreInReach, HoldJobs, AreSwept, CanGoBack, IsGone, BeginNoLater, HasPut, HasTaken, HasGoneBack, HasSettled, HasCome, IsListed, ListsMore, PutsInDoubt, HasCaughtUp};
 
 use crate::job::Job;
 use crate::label::Label;
@@ -60,10 +60,8 @@ impl Shelves {
 
     /// Shelves where these jobs stand, and nothing else.
     pub fn of(alloc: Global, jobs: &BTreeMap<u64, Job>) -> Result<Shelves, AllocError>
-        ensures placed { IfOk result (λ s. HavePlaces s jobs.now.entries) }
-        ensures ahead { IfOk result (λ s. AreAhead s jobs.now.entries) }
-        ensures known { IfOk result (λ s. AreKnown s jobs.now.entries []) }
-        ensures listed { IfOk result (λ s. lists s ≡ ([], [])) }
+        requires { Rising 0 (2 ^ 64) jobs.now.entries }
+        ensures { IfOk result (λ s. AreSwept s jobs.now.entries) }
     {
         let mut shelves = Shelves::new(alloc);
         for (id, job) in jobs {
@@ -132,8 +130,7 @@ impl Shelves {
     /// Whether the map has a job that belongs on the shelf with this label at the place of a job. Where look-ups begin
     /// after it there is none, and the map isn't looked at.
     fn is_taken(&self, label: Label, jobs: &BTreeMap<u64, Job>, id: u64, spot: &Spot) -> bool
-        requires rising { Rising 0 (2 ^ 64) jobs.now.entries }
-        requires ahead { AreAhead self.now jobs.now.entries }
+        requires { AreInReach self.now jobs.now.entries }
         ensures yes { result ≡ true → (p : ℕ × ℕ) → BelongsAt label.entry p (id, at_spot spot.now)
             → ((e : ℕ × Job) × BelongsAt label.entry p e × In e jobs.now.entries) }
         ensures no { result ≡ false → (p : ℕ × ℕ) → BelongsAt label.entry p (id, at_spot spot.now)
@@ -148,12 +145,9 @@ impl Shelves {
 
     /// Takes a job from the shelf with this label, unless the map has a job that belongs there.
     fn take_from(&mut self, label: Label, jobs: &BTreeMap<u64, Job>, id: u64, spot: &Spot)
-        requires rising { Rising 0 (2 ^ 64) jobs.now.entries }
-        requires ahead { AreAhead self.old jobs.now.entries }
+        requires { AreInReach self.old jobs.now.entries }
         ensures taken { HasTaken self.old self.new jobs.now.entries }
-        ensures gone { (p : ℕ × ℕ) → In p (places self.new label.entry)
-            → BelongsAt label.entry p (id, at_spot spot.now)
-            → ((e : ℕ × Job) × BelongsAt label.entry p e × In e jobs.now.entries) }
+        ensures gone { IsGone self.new jobs.now.entries (id, at_spot spot.now) label.entry }
     {
         if !label.fits(&spot.tube, spot.state) {
             return;
@@ -201,12 +195,10 @@ impl Shelves {
 
     /// Takes a job from its shelves, but for places where the map has a job that belongs there.
     pub fn take_everywhere(&mut self, jobs: &BTreeMap<u64, Job>, id: u64, spot: &Spot)
-        requires rising { Rising 0 (2 ^ 64) jobs.now.entries }
-        requires ahead { AreAhead self.old jobs.now.entries }
+        requires { AreInReach self.old jobs.now.entries }
         ensures taken { HasTaken self.old self.new jobs.now.entries }
-        ensures gone { (l : Label) (p : ℕ × ℕ) → In p (places self.new l)
-            → BelongsAt l p (id, at_spot spot.now)
-            → ((e : ℕ × Job) × BelongsAt l p e × In e jobs.now.entries) }
+        ensures gone { (label : Label)
+            → IsGone self.new jobs.now.entries (id, at_spot spot.now) label }
     {
         self.take_from(Label::Ready(&spot.tube), jobs, id, spot);
         self.take_from(Label::Delayed(&spot.tube), jobs, id, spot);
@@ -218,9 +210,7 @@ impl Shelves {
 
     /// Lists a job as one that went.
     fn leave(&mut self, id: u64, job: &Job) -> Result<(), AllocError>
-        ensures grown { HasGrown self.old self.new }
-        ensures doubt { AreInDoubt self.old self.new }
-        ensures same { (label : Label) → shelf self.new label ≡ shelf self.old label }
+        ensures more { ListsMore self.old self.new }
         ensures ok { OnOk result (self.new.went.items
             ≡ self.old.went.items ++ (id, spot_of job.now) ∷ []) }
     {
@@ -230,9 +220,7 @@ impl Shelves {
 
     /// Lists the job that the map has at an id, if there is one, as one that went.
     pub fn leave_at(&mut self, jobs: &BTreeMap<u64, Job>, id: u64) -> Result<(), AllocError>
-        ensures grown { HasGrown self.old self.new }
-        ensures doubt { AreInDoubt self.old self.new }
-        ensures same { (label : Label) → shelf self.new label ≡ shelf self.old label }
+        ensures more { ListsMore self.old self.new }
         ensures ok { OnOk result ((job : Job) → value_at id jobs.now.entries ≡ Some job
             → IsListed self.new.went.items (id, job)) }
     {
@@ -242,18 +230,24 @@ impl Shelves {
         Ok(())
     }
 
-    /// Puts a job onto the shelves where it belongs, and lists it as one that came. Until `keep_last` says that it stays
-    /// it is listed as one that went, too.
-    pub fn put(&mut self, id: u64, spot: Spot) -> Result<(), AllocError>
-        ensures grown { HasGrown self.old self.new }
-        ensures doubt { AreInDoubt self.old self.new }
-        ensures only { (label : Label) (p : ℕ × ℕ) → In p (places self.new label)
-            → In p (places self.old label) ⊎ BelongsAt label p (id, at_spot spot) }
-        ensures come { OnOk result (HasCome self.new (id, at_spot spot)) }
-        ensures went { OnOk result (self.new.went.items ≡ self.old.went.items ++ (id, spot) ∷ []) }
+    /// Lists a job both as one that came and as one that went.
+    fn list(&mut self, id: u64, spot: &Spot) -> Result<(), AllocError>
+        ensures more { ListsMore self.old self.new }
+        ensures came { OnOk result (self.new.came.items ≡ self.old.came.items ++ (id, spot.now) ∷ []) }
+        ensures went { OnOk result (self.new.went.items ≡ self.old.went.items ++ (id, spot.now) ∷ []) }
     {
         self.came.push((id, spot.copy()?))?;
         self.went.push((id, spot.copy()?))?;
+        Ok(())
+    }
+
+    /// Puts a job onto the shelves where it belongs, and lists it as one that came. Until `keep_last` says that it stays
+    /// it is listed as one that went, too.
+    pub fn put(&mut self, id: u64, spot: Spot) -> Result<(), AllocError>
+        ensures put { PutsInDoubt self.old self.new (id, at_spot spot) result }
+        ensures went { OnOk result (self.new.went.items ≡ self.old.went.items ++ (id, spot) ∷ []) }
+    {
+        self.list(id, &spot)?;
         self.put_everywhere(id, &spot)?;
         Ok(())
     }
@@ -266,12 +260,8 @@ impl Shelves {
         pri: u32,
         state: State,
     ) -> Result<(), AllocError>
-        ensures grown { HasGrown self.old self.new }
-        ensures doubt { AreInDoubt self.old self.new }
-        ensures only { (label : Label) (p : ℕ × ℕ) → In p (places self.new label)
-            → In p (places self.old label)
-            ⊎ BelongsAt label p (id, with_pri_and_state pri state job.now) }
-        ensures come { OnOk result (HasCome self.new (id, with_pri_and_state pri state job.now)) }
+        ensures put { PutsInDoubt self.old self.new (id, with_pri_and_state pri state job.now)
+            result }
         ensures went { OnOk result (self.new.went.items
             ≡ (self.old.went.items ++ (id, spot_of job.now) ∷ [])
             ++ (id, spot_of (with_pri_and_state pri state job.now)) ∷ []) }
@@ -331,14 +321,8 @@ impl Shelves {
 
     /// Takes out the places of the jobs that went, but for those where the map has a job, and lists none.
     pub fn sweep(&mut self, jobs: &BTreeMap<u64, Job>)
-        requires rising { Rising 0 (2 ^ 64) jobs.now.entries }
-        requires placed { HavePlaces self.old jobs.now.entries }
-        requires known { AreKnown self.old jobs.now.entries self.old.went.items }
-        requires ahead { AreAhead self.old jobs.now.entries }
-        ensures placed { HavePlaces self.new jobs.now.entries }
-        ensures known { AreKnown self.new jobs.now.entries [] }
-        ensures ahead { AreAhead self.new jobs.now.entries }
-        ensures listed { lists self.new ≡ ([], []) }
+        requires { HoldJobs self.old jobs.now.entries self.old.went.items }
+        ensures { AreSwept self.new jobs.now.entries }
     {
         self.came.clear();
         while let Some((id, spot)) = self.went.pop() {
@@ -350,13 +334,8 @@ impl Shelves {
     /// but for those where the map has a job, and none is listed.
     pub fn go_back(&mut self, jobs: &BTreeMap<u64, Job>)
         requires rising { Rising 0 (2 ^ 64) jobs.now.entries }
-        requires placed { HavePlaces self.old jobs.now.entries }
-        requires known { AreKnown self.old jobs.now.entries self.old.came.items }
-        requires ahead { AreAheadOrListed self.old jobs.now.entries }
-        ensures placed { HavePlaces self.new jobs.now.entries }
-        ensures known { AreKnown self.new jobs.now.entries [] }
-        ensures ahead { AreAhead self.new jobs.now.entries }
-        ensures listed { lists self.new ≡ ([], []) }
+        requires back { CanGoBack self.old jobs.now.entries }
+        ensures { AreSwept self.new jobs.now.entries }
     {
         self.reach_all();
         swap(&mut self.came, &mut self.went);
@@ -365,15 +344,8 @@ impl Shelves {
 
     /// After a change of a job: in a trial look-ups begin after the places that it has left, and else those go.
     pub fn follow(&mut self, jobs: &BTreeMap<u64, Job>, is_trial: bool)
-        requires rising { Rising 0 (2 ^ 64) jobs.now.entries }
-        requires placed { HavePlaces self.old jobs.now.entries }
-        requires known { AreKnown self.old jobs.now.entries self.old.went.items }
-        requires ahead { AreAhead self.old jobs.now.entries }
-        ensures placed { HavePlaces self.new jobs.now.entries }
-        ensures known { AreKnown self.new jobs.now.entries self.new.went.items }
-        ensures ahead { AreAhead self.new jobs.now.entries }
-        ensures settled { is_trial ≡ true → HasSettled self.old self.new jobs.now.entries }
-        ensures swept { is_trial ≡ false → lists self.new ≡ ([], []) }
+        requires { HoldJobs self.old jobs.now.entries self.old.went.items }
+        ensures { HasCaughtUp is_trial self.old self.new jobs.now.entries }
     {
         if is_trial {
             self.settle(jobs);

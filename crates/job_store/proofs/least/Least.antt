@@ -41,10 +41,10 @@ module _ {X : Type 0} (by : X → ℕ) where
   never_both d e (inr h) (inl k) = omega (arith, h.0)
   never_both d e (inr h) (inr k) = omega (arith, h.1, k.1)
 
-  never_between : (d e y : ℕ × X) → (ComesBefore by y e → ⊥) → (ComesBefore by d y → ⊥) → ComesBefore by d e → ⊥
+  pub never_between : (d e y : ℕ × X) → (ComesBefore by y e → ⊥) → (ComesBefore by d y → ⊥) → ComesBefore by d e → ⊥
   never_between d e y ye dy h = grind arith
 
-  same_key : (d e : ℕ × X) → (ComesBefore by d e → ⊥) → (ComesBefore by e d → ⊥) → d.0 ≡ e.0
+  pub same_key : (d e : ℕ × X) → (ComesBefore by d e → ⊥) → (ComesBefore by e d → ⊥) → d.0 ≡ e.0
   same_key d e de ed = grind arith
 
   -- Of three, the one that comes first

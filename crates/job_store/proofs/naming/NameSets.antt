@@ -9,6 +9,7 @@ use Rattle.std.proofs.lemmas.Map.Lookups.{exact_bytes}
 use Rattle.std.proofs.lemmas.Map.Text.{is_eq-slice_cmp}
 use Rattle.std.proofs.lemmas.Slice.Eq.{bytes_eq-Decides}
 use Rattle.object.specs.Lists.{In}
+use Rattle.job_store.specs.NameSets.{AddsOnly}
 use Rattle.job_store.specs.Racks.{name_cmp}
 
 pub from-insert : (t x : List ℕ) (xs : List (List ℕ)) → In t (insert_key name_cmp xs x) → In t xs ⊎ (t ≡ x)
@@ -49,31 +50,38 @@ found-in t (x ∷ xs) e =
       | inr later ↦ inr (found-in t xs later)
     ]
 
+-- One set after another
+
+pub adds-none : (Such : List ℕ → Type 0) (names : List (List ℕ)) → AddsOnly Such names names
+adds-none Such names = record { kept = λ t i. i; only = λ t i. inl i }
+
+pub adds-twice : {Such : List ℕ → Type 0} {a b c : List (List ℕ)} → AddsOnly Such a b → AddsOnly Such b c → AddsOnly Such a c
+adds-twice {Such} {a} {b} {c} one two = record {
+  kept = λ t i. two.kept t (one.kept t i);
+  only = λ t i. elim (two.only t i) as (λ v. In t a ⊎ Such t) [ inl j ↦ one.only t j | inr has ↦ inr has ];
+}
+
 -- Some names are gone over, and those that are wanted are added
 
 pub record AreAdded (Has Wanted : List ℕ → Type 0) (first names rest whole : List (List ℕ)) : Type 0 where
-  pub kept : (t : List ℕ) → In t first → In t names
-  pub only : (t : List ℕ) → In t names → In t first ⊎ Has t
+  pub added : AddsOnly Has first names
   pub all : (t : List ℕ) → Wanted t → In t whole → In t names ⊎ In t rest
 
 module _ (Has Wanted : List ℕ → Type 0) where
   pub none-added : (names rest whole : List (List ℕ)) → rest ≡ whole → AreAdded Has Wanted names names rest whole
   none-added names rest whole is = record {
-    kept = λ t i. i;
-    only = λ t i. inl i;
+    added = adds-none Has names;
     all = λ t w i. inr (subst (In t) (sym is) i);
   }
 
   pub one-added : (first names names' old rest whole : List (List ℕ)) (k : List ℕ) → old ≡ k ∷ rest
-      → ((t : List ℕ) → In t names → In t names') → ((t : List ℕ) → In t names' → In t names ⊎ Has t)
-      → (Wanted k → In k names') → AreAdded Has Wanted first names old whole
+      → AddsOnly Has names names' → (Wanted k → In k names') → AreAdded Has Wanted first names old whole
       → AreAdded Has Wanted first names' rest whole
-  one-added first names names' old rest whole k is kept only there added = record {
-    kept = λ t i. kept t (added.kept t i);
-    only = λ t i. elim (only t i) as (λ v. In t first ⊎ Has t) [ inl was ↦ added.only t was | inr has ↦ inr has ];
+  one-added first names names' old rest whole k is more there were = record {
+    added = adds-twice were.added more;
     all = λ t w i.
-        elim (added.all t w i) as (λ v. In t names' ⊎ In t rest) [
-          | inl j ↦ inl (kept t j)
+        elim (were.all t w i) as (λ v. In t names' ⊎ In t rest) [
+          | inl j ↦ inl (more.kept t j)
           | inr j ↦ elim (subst (In t) is j) as (λ v. In t names' ⊎ In t rest) [
             | inl same ↦ inl (subst (λ u. In u names') (sym same) (there (subst Wanted same w)))
             | inr later ↦ inr later
@@ -85,9 +93,3 @@ module _ (Has Wanted : List ℕ → Type 0) where
       → (t : List ℕ) → Wanted t → In t whole → In t names
   all-added first names rest whole none added t w i =
       elim (added.all t w i) as (λ v. In t names) [ inl j ↦ j | inr j ↦ absurd (subst (In t) none j) ]
-
--- One set after another
-
-pub only-then : (Has : List ℕ → Type 0) (a b c : List (List ℕ)) → ((t : List ℕ) → In t b → In t a ⊎ Has t)
-    → ((t : List ℕ) → In t c → In t b ⊎ Has t) → (t : List ℕ) → In t c → In t a ⊎ Has t
-only-then Has a b c one two t i = elim (two t i) as (λ v. In t a ⊎ Has t) [ inl j ↦ one t j | inr has ↦ inr has ]

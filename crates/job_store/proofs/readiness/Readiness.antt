@@ -24,7 +24,7 @@ use Rattle.job_store.specs.Shelves.{places, lists, IsListed, ShelvesMatch}
 use Rattle.job_store.proofs.least.Least.{IsAnswer, answer, answer-either, among-member}
 use Rattle.job_store.proofs.shelving.Shelving.{in-front, in-last, in-push}
 
-one-answer : (a b : Bool) → (a ≡ true → b ≡ true) → (b ≡ true → a ≡ true) → a ≡ b
+pub one-answer : (a b : Bool) → (a ≡ true → b ≡ true) → (b ≡ true → a ≡ true) → a ≡ b
 one-answer true b f g = sym (f refl)
 one-answer false true f g = g refl
 one-answer false false f g = refl
@@ -152,7 +152,7 @@ module _ (s : Shelves) (state : MapState) (tube : Bor Name) (kept : ShelvesMatch
   ready-places : (keys : List (ℕ × ℕ)) → map (numbered_place (λ n. n)) keys ≡ places s (Label.Ready tube) → AreReadyPlaces keys tube.now state.jobs
   ready-places keys same p = (
     λ i.
-        let w = kept.known (Label.Ready tube) p (subst (In p) (sym (same-places keys) ∙ same) i) in
+        let w = kept.held.known (Label.Ready tube) p (subst (In p) (sym (same-places keys) ∙ same) i) in
         let unlisted : lists s ≡ ([], []) = subst (λ o. IfNone o (lists s ≡ ([], []))) none kept.none_listed in
         let job : In w.0 state.jobs = elim w.2 as (λ v. In w.0 state.jobs) [
           | inl job ↦ job
@@ -162,7 +162,7 @@ module _ (s : Shelves) (state : MapState) (tube : Bor Name) (kept : ShelvesMatch
         (w.0, job, ap (λ (test : ℕ × Job → Bool). test w.0) (ready-test tube.now) ∙ w.1.0, w.1.1),
     λ w.
         subst (In p) (sym same ∙ same-places keys)
-        (kept.placed w.0 w.1 (Label.Ready tube) p (ap (λ (test : ℕ × Job → Bool). test w.0) (sym (ready-test tube.now)) ∙ w.2, w.3)),
+        (kept.held.placed w.0 w.1 (Label.Ready tube) p (ap (λ (test : ℕ × Job → Bool). test w.0) (sym (ready-test tube.now)) ∙ w.2, w.3)),
   )
 
   module _ {X : Type 0} (keys : X → List (ℕ × ℕ)) where
@@ -182,7 +182,7 @@ module _ (s : Shelves) (state : MapState) (tube : Bor Name) (kept : ShelvesMatch
         → IsNone o ↔ NonePasses (ready_in (tube.now ∷ [])) state.jobs
     ready-none None same filled empty = (
       λ is e i t. subst (In (e.1.pri, e.0)) empty
-          (kept.placed e i (Label.Ready tube) (e.1.pri, e.0)
+          (kept.held.placed e i (Label.Ready tube) (e.1.pri, e.0)
           (ap (λ (test : ℕ × Job → Bool). test e) (sym (ready-test tube.now)) ∙ t, refl)),
       λ passes. refl,
     )

@@ -1,7 +1,8 @@
 -- Shelves that follow the jobs: in a trial by more places, and at its end by those that go.
-use Rattle.std.proofs.Common.{◌≡◌, ℕ, ◌<◌, ◌≤◌, arith, nat_le, ◌⊎◌, inl, inr, List, [], ◌∷◌, ◌++◌, Option, Some, None}
+use Rattle.std.proofs.Common.{◌≡◌, ℕ, ◌<◌, ◌≤◌, arith, nat_le, ◌⊎◌, inl, inr, List, [], ◌∷◌, ◌++◌, Option, Some, None, Result, Ok}
 use Rattle.std.proofs.Common.{IfSome, IfNone, ◌^◌, refl, sym, ap, subst, ◌∙◌, true, false}
 use Rattle.std.specs.Prelude.{is_some}
+use Rattle.std.specs.Result.{IsErr}
 use Rattle.std.proofs.lemmas.Bool.{both_ways, leb-true, and_parts, and_from}
 use Rattle.std.proofs.lemmas.Bool.Decides.{leb_tells}
 use Rattle.object.specs.Lists.{In}
@@ -17,11 +18,13 @@ use Rattle.job_store.specs.LookUps.{due_by, due_after, due_of_job, is_after}
 use Rattle.job_store.specs.Least.{IsLeast, NonePasses}
 use Rattle.job_store.specs.ShelfStates.{IsFrom, bare}
 use Rattle.job_store.specs.Spots.{spot_of, at_spot}
-use Rattle.job_store.specs.Shelves.{belongs, belongs_after, BelongsAt, shelf, places, lists, HavePlaces, IsAhead}
-use Rattle.job_store.specs.Shelves.{AreAhead, AreAheadOrListed, IsListed, AreKnown, HasTaken, HasSettled, HasGrown}
-use Rattle.job_store.specs.Shelves.{AreInDoubt, HasCome, HasFollowed, ShelvesMatch}
+use Rattle.job_store.specs.Shelves.{belongs, belongs_after, BelongsAt, CanLookUp, shelf, places, lists, HavePlaces, IsAhead}
+use Rattle.job_store.specs.Shelves.{AreInReach, HoldJobs, AreSwept, CanGoBack, IsGone, IsListed, AreKnown, HasTaken}
+use Rattle.job_store.specs.Shelves.{HasSettled, HasCaughtUp, HasGrown, AreInDoubt, HasCome, HasFollowed, MovesJobs, ShelvesMatch}
 use Rattle.job_store.specs.EntryLaws.{without-absent, without-in, value_at-insert}
-use Rattle.job_store.proofs.shelving.Shelving.{placed-settled, known-settled, ahead-settled, more-listed, last-listed, of-spot, to-spot, come-at}
+use Rattle.job_store.proofs.shelving.Shelving.{placed-settled, known-settled, held-settled, held-listed, same-grown, same-doubt}
+use Rattle.object.proofs.KeyMaps.{on_err}
+use Rattle.job_store.proofs.shelving.Shelving.{not_ok, more-listed, last-listed, of-spot, to-spot, come-at}
 use Rattle.job_store.proofs.maps.Members.{altered-here, altered-new, altered-old, inserted-new, inserted-old, value-in, value-here, value-is, without-others}
 
 -- The jobs that went and came
@@ -66,9 +69,6 @@ grown-moved s t u same came grown = record {
       ];
   ahead = λ l p h. subst (λ x. IsFrom x.from p) (sym (same l)) (grown.ahead l p h);
 }
-
-pub left-stay : (t u : Shelves) → u.went.items ≡ t.went.items → (e : ℕ × Job) → IsListed t.went.items e → IsListed u.went.items e
-left-stay t u same e i = subst (λ x. IsListed x e) (sym same) i
 
 pub stored-only : (s t u : Shelves) (id : ℕ) (job : Job) (spot : Spot) → spot ≡ spot_of job
     → ((l : Label) → shelf t l ≡ shelf s l)
@@ -126,38 +126,36 @@ followed-put s t u id lo hi job jobs new r listed old is same only it = record {
 
 -- A change, before any place goes
 
-pub placed-step : (s t : Shelves) (jobs new : List (ℕ × Job)) → HavePlaces s jobs → HasGrown s t → HasFollowed s t jobs new → HavePlaces t new
-placed-step s t jobs new placed grown followed e i label p b =
-    elim (followed.came e i) as (λ v. In p (places t label)) [
-      | inl before ↦ grown.keeps label p (placed e before label p b)
-      | inr come ↦ come.placed label p b
-    ]
+pub held-step : (s t : Shelves) (jobs new : List (ℕ × Job)) → Rising 0 (2 ^ 64) new → HasGrown s t → HasFollowed s t jobs new
+    → HoldJobs s jobs s.went.items → HoldJobs t new t.went.items
+held-step s t jobs new r grown followed held = record {
+  rising = r;
+  placed = λ e i label p b.
+      elim (followed.came e i) as (λ v. In p (places t label)) [
+        | inl before ↦ grown.keeps label p (held.placed e before label p b)
+        | inr come ↦ come.placed label p b
+      ];
+  ahead = λ e i label p b.
+      elim (followed.came e i) as (λ v. IsFrom (shelf t label).from p) [
+        | inl before ↦ grown.ahead label p (held.ahead e before label p b)
+        | inr come ↦ come.ahead label p b
+      ];
+  known = λ label p i.
+      elim (followed.only label p i) as (λ v. (e : ℕ × Job) × BelongsAt label p e × (In e new ⊎ IsListed t.went.items e)) [
+        | inl old ↦
+            let w = held.known label p old in (
+              w.0,
+              w.1,
+              elim w.2 as (λ v. In w.0 new ⊎ IsListed t.went.items w.0) [
+                | inl job ↦ followed.went w.0 job
+                | inr listed ↦ inr (followed.listed w.0 listed)
+              ],
+            )
+        | inr w ↦ w
+      ];
+}
 
-pub ahead-step : (s t : Shelves) (jobs new : List (ℕ × Job)) → AreAhead s jobs → HasGrown s t → HasFollowed s t jobs new → AreAhead t new
-ahead-step s t jobs new ahead grown followed e i label p b =
-    elim (followed.came e i) as (λ v. IsFrom (shelf t label).from p) [
-      | inl before ↦ grown.ahead label p (ahead e before label p b)
-      | inr come ↦ come.ahead label p b
-    ]
-
-pub known-step : (s t : Shelves) (jobs new : List (ℕ × Job)) → AreKnown s jobs s.went.items → HasFollowed s t jobs new → AreKnown t new t.went.items
-known-step s t jobs new known followed label p i =
-    elim (followed.only label p i) as (λ v. (e : ℕ × Job) × BelongsAt label p e × (In e new ⊎ IsListed t.went.items e)) [
-      | inl old ↦
-          let w = known label p old in (
-            w.0,
-            w.1,
-            elim w.2 as (λ v. In w.0 new
-                ⊎ IsListed t.went.items w.0) [
-                  | inl job ↦ followed.went w.0 job
-                  | inr listed ↦ inr
-                      (followed.listed w.0 listed)
-                ],
-          )
-      | inr w ↦ w
-    ]
-
-pub before-step : (s t : Shelves) (before : List (ℕ × Job)) → AreKnown s before s.came.items → HasGrown s t → AreKnown t before t.came.items
+before-step : (s t : Shelves) (before : List (ℕ × Job)) → AreKnown s before s.came.items → HasGrown s t → AreKnown t before t.came.items
 before-step s t before known grown label p i =
     elim (grown.only label p i) as (λ v. (e : ℕ × Job) × BelongsAt label p e × (In e before ⊎ IsListed t.came.items e)) [
       | inl old ↦
@@ -166,76 +164,95 @@ before-step s t before known grown label p i =
       | inr w ↦ (w.0, w.1, inr w.2)
     ]
 
+-- Where memory was refused before the jobs have changed, the shelves may have grown
+pub moves-none : {E : Type 0} (s t : Shelves) (a b : MapState) (jobs : List (ℕ × Job)) (result : Result Unit E) → IsErr result
+    → b.jobs ≡ a.jobs → b.before ≡ a.before → Rising 0 (2 ^ 64) b.jobs → HasGrown s t → AreInDoubt s t
+    → MovesJobs s t a b jobs result
+moves-none s t a b jobs result failed same before r grown doubt = record {
+  ok = not_ok _ result failed;
+  err = on_err result same;
+  rising = r;
+  before = before;
+  grown = grown;
+  followed = followed-stay s t a.jobs b.jobs same doubt;
+}
+
+-- Where there is no job to change, nothing does
+pub moves-nothing : {E : Type 0} (s : Shelves) (a : MapState) (jobs : List (ℕ × Job)) → a.jobs ≡ jobs
+    → Rising 0 (2 ^ 64) a.jobs → MovesJobs {E = E} s s a a jobs (Ok tt)
+moves-nothing s a jobs same r = record {
+  ok = same;
+  err = tt;
+  rising = r;
+  before = refl;
+  grown = same-grown s s (λ l. refl) (λ e i. i);
+  followed = followed-stay s s a.jobs a.jobs refl (same-doubt s s (λ l. refl) (λ e i. i));
+}
+
+pub held-moved : {E : Type 0} {s t : Shelves} {a b : MapState} {jobs : List (ℕ × Job)} {result : Result Unit E}
+    → ShelvesMatch s a → MovesJobs s t a b jobs result → HoldJobs t b.jobs t.went.items
+held-moved {E} {s} {t} {a} {b} kept moved = held-step s t a.jobs b.jobs moved.rising moved.grown moved.followed kept.held
+
 -- What is kept in a trial
 
-pub placed-before : (s : Shelves) (a : MapState) (before : List (ℕ × Job)) → ShelvesMatch s a → a.before ≡ Some before → HavePlaces s before
+placed-before : (s : Shelves) (a : MapState) (before : List (ℕ × Job)) → ShelvesMatch s a → a.before ≡ Some before → HavePlaces s before
 placed-before s a before kept is = subst (λ o. IfSome o (HavePlaces s)) is kept.placed_before
 
-pub known-before : (s : Shelves) (a : MapState) (before : List (ℕ × Job)) → ShelvesMatch s a → a.before ≡ Some before → AreKnown s before s.came.items
+known-before : (s : Shelves) (a : MapState) (before : List (ℕ × Job)) → ShelvesMatch s a → a.before ≡ Some before → AreKnown s before s.came.items
 known-before s a before kept is = subst (λ o. IfSome o (λ before. AreKnown s before s.came.items)) is kept.known_before
 
 went-before : (s : Shelves) (a : MapState) (before : List (ℕ × Job)) → ShelvesMatch s a → a.before ≡ Some before
     → (e : ℕ × Job) → In e before → In e a.jobs ⊎ IsListed s.went.items e
 went-before s a before kept is = subst (λ o. IfSome o (λ before. (e : ℕ × Job) → In e before → In e a.jobs ⊎ IsListed s.went.items e)) is kept.went
 
-pub ahead-before : (s : Shelves) (a : MapState) (before : List (ℕ × Job)) → ShelvesMatch s a → a.before ≡ Some before → AreAheadOrListed s before
-ahead-before s a before kept is e i =
-    elim (went-before s a before kept is e i) as (λ v. IsAhead s e ⊎ IsListed s.went.items e) [ inl job ↦ inl (kept.ahead e job) | inr l ↦ inr l ]
+pub can-go-back : (s : Shelves) (a : MapState) (before : List (ℕ × Job)) → ShelvesMatch s a → a.before ≡ Some before → CanGoBack s before
+can-go-back s a before kept is = record {
+  placed = placed-before s a before kept is;
+  ahead = λ e i.
+      elim (went-before s a before kept is e i) as (λ v. IsAhead s e ⊎ IsListed s.went.items e) [ inl job ↦ inl (kept.held.ahead e job) | inr l ↦ inr l ];
+  known = known-before s a before kept is;
+}
 
-in-trial : (s : Shelves) (b : MapState) (before : List (ℕ × Job)) → b.before ≡ Some before → Rising 0 (2 ^ 64) b.jobs
-    → HavePlaces s b.jobs → AreAhead s b.jobs → AreKnown s b.jobs s.went.items → HavePlaces s before
-    → AreKnown s before s.came.items → ((e : ℕ × Job) → In e before → In e b.jobs ⊎ IsListed s.went.items e)
-    → ShelvesMatch s b
-in-trial s b before there r placed ahead known placed-then known-then went = record {
-  rising = r;
-  placed = placed;
-  ahead = ahead;
-  known = known;
-  placed_before = subst (λ o. IfSome o (HavePlaces s)) (sym there) placed-then;
-  known_before = subst (λ o. IfSome o (λ before. AreKnown s before s.came.items)) (sym there) known-then;
+in-trial : (s : Shelves) (b : MapState) (before : List (ℕ × Job)) → b.before ≡ Some before → HoldJobs s b.jobs s.went.items
+    → HavePlaces s before → AreKnown s before s.came.items
+    → ((e : ℕ × Job) → In e before → In e b.jobs ⊎ IsListed s.went.items e) → ShelvesMatch s b
+in-trial s b before there held placed known went = record {
+  held = held;
+  placed_before = subst (λ o. IfSome o (HavePlaces s)) (sym there) placed;
+  known_before = subst (λ o. IfSome o (λ before. AreKnown s before s.came.items)) (sym there) known;
   went = subst (λ o. IfSome o (λ before. (e : ℕ × Job) → In e before → In e b.jobs ⊎ IsListed s.went.items e)) (sym there) went;
   none_listed = subst (λ o. IfNone o (lists s ≡ ([], []))) (sym there) tt;
 }
 
 -- A change in a trial
-pub kept-step : (s t : Shelves) (a b : MapState) (before : List (ℕ × Job)) → ShelvesMatch s a → a.before ≡ Some before
-    → b.before ≡ a.before → HasGrown s t → HasFollowed s t a.jobs b.jobs → Rising 0 (2 ^ 64) b.jobs → ShelvesMatch t b
-kept-step s t a b before kept is same grown followed r =
-    in-trial t b before (same ∙ is) r
-    (placed-step s t a.jobs b.jobs kept.placed grown followed)
-    (ahead-step s t a.jobs b.jobs kept.ahead grown followed)
-    (known-step s t a.jobs b.jobs kept.known followed)
-    (λ e i label p k. grown.keeps label p (placed-before s a before kept is e i label p k))
-    (before-step s t before (known-before s a before kept is) grown)
+kept-step : {E : Type 0} (s t : Shelves) (a b : MapState) (before jobs : List (ℕ × Job)) (result : Result Unit E)
+    → ShelvesMatch s a → a.before ≡ Some before → MovesJobs s t a b jobs result → ShelvesMatch t b
+kept-step s t a b before jobs result kept is moved =
+    in-trial t b before (moved.before ∙ is) (held-moved kept moved)
+    (λ e i label p k. moved.grown.keeps label p (placed-before s a before kept is e i label p k))
+    (before-step s t before (known-before s a before kept is) moved.grown)
     (λ e i. elim (went-before s a before kept is e i) as (λ v. In e b.jobs
-    ⊎ IsListed t.went.items e) [ inl old ↦ followed.went e old | inr l ↦ inr (followed.listed e l) ])
+    ⊎ IsListed t.went.items e) [ inl old ↦ moved.followed.went e old | inr l ↦ inr (moved.followed.listed e l) ])
 
 -- Look-ups begin later
-pub kept-settled : (s t : Shelves) (a : MapState) (before : List (ℕ × Job)) → ShelvesMatch s a → a.before ≡ Some before
+kept-settled : (s t : Shelves) (a : MapState) (before : List (ℕ × Job)) → ShelvesMatch s a → a.before ≡ Some before
     → HasSettled s t a.jobs → ShelvesMatch t a
 kept-settled s t a before kept is settled =
     let came : t.came.items ≡ s.came.items = ap (λ (x : List (ℕ × Spot) × List (ℕ × Spot)). x.0) settled.lists in
     let went : t.went.items ≡ s.went.items = ap (λ (x : List (ℕ × Spot) × List (ℕ × Spot)). x.1) settled.lists in
-    in-trial t a before is kept.rising
-    (placed-settled s t a.jobs a.jobs settled kept.placed)
-    (ahead-settled s t a.jobs settled kept.placed kept.ahead)
-    (subst (AreKnown t a.jobs) (sym went) (known-settled s t a.jobs a.jobs s.went.items settled kept.known))
+    in-trial t a before is (held-settled s t a.jobs settled kept.held)
     (placed-settled s t a.jobs before settled (placed-before s a before kept is))
     (subst (AreKnown t before) (sym came) (known-settled s t a.jobs before s.came.items settled (known-before s a before kept is)))
     (λ e i. subst (λ x. In e a.jobs ⊎ IsListed x e) (sym went) (went-before s a before kept is e i))
 
 -- Outside a trial, where none is listed
-pub kept-swept : (s : Shelves) (b : MapState) → b.before ≡ None → Rising 0 (2 ^ 64) b.jobs → HavePlaces s b.jobs
-    → AreAhead s b.jobs → AreKnown s b.jobs [] → lists s ≡ ([], []) → ShelvesMatch s b
-kept-swept s b none r placed ahead known listed = record {
-  rising = r;
-  placed = placed;
-  ahead = ahead;
-  known = subst (AreKnown s b.jobs) (sym (ap (λ (x : List (ℕ × Spot) × List (ℕ × Spot)). x.1) listed)) known;
+pub kept-swept : (s : Shelves) (b : MapState) → b.before ≡ None → AreSwept s b.jobs → ShelvesMatch s b
+kept-swept s b none swept = record {
+  held = held-listed s b.jobs [] s.went.items (ap (λ (x : List (ℕ × Spot) × List (ℕ × Spot)). x.1) swept.listed) swept.held;
   placed_before = subst (λ o. IfSome o (HavePlaces s)) (sym none) tt;
   known_before = subst (λ o. IfSome o (λ before. AreKnown s before s.came.items)) (sym none) tt;
   went = subst (λ o. IfSome o (λ before. (e : ℕ × Job) → In e before → In e b.jobs ⊎ IsListed s.went.items e)) (sym none) tt;
-  none_listed = subst (λ o. IfNone o (lists s ≡ ([], []))) (sym none) listed;
+  none_listed = subst (λ o. IfNone o (lists s ≡ ([], []))) (sym none) swept.listed;
 }
 
 -- Whether a trial is on
@@ -249,82 +266,105 @@ none-is None f = refl
 none-is (Some x) f = cc
 
 -- A change, and the shelves after it
-pub kept-followed : (s t u : Shelves) (a b : MapState) → ShelvesMatch s a → b.before ≡ a.before → HasGrown s t
-    → HasFollowed s t a.jobs b.jobs → Rising 0 (2 ^ 64) b.jobs → (is_some b.before ≡ true → HasSettled t u b.jobs)
-    → (is_some b.before ≡ false → lists u ≡ ([], [])) → HavePlaces u b.jobs → AreAhead u b.jobs
-    → AreKnown u b.jobs u.went.items → ShelvesMatch u b
-kept-followed s t u a b kept same grown followed r settled swept placed ahead known =
+pub kept-followed : {E : Type 0} {s t u : Shelves} {a b : MapState} {jobs : List (ℕ × Job)} {result : Result Unit E}
+    → ShelvesMatch s a → MovesJobs s t a b jobs result → HasCaughtUp (is_some b.before) t u b.jobs → ShelvesMatch u b
+kept-followed {E} {s} {t} {u} {a} {b} {jobs} {result} kept moved now =
     elim (is_some b.before) as (λ v. is_some b.before ≡ v → ShelvesMatch u b) [
       | true ↦ λ e.
           let w = some-is b.before e in
-          kept-settled t u b w.0 (kept-step s t a b w.0 kept (sym same ∙ w.1) same grown followed r) w.1 (settled e)
+          kept-settled t u b w.0 (kept-step s t a b w.0 jobs result kept (sym moved.before ∙ w.1) moved) w.1 (now.settled e)
       | false ↦ λ e.
-          kept-swept u b (none-is b.before e) r placed ahead
-          (subst (AreKnown u b.jobs) (ap (λ (x : List (ℕ × Spot) × List (ℕ × Spot)). x.1) (swept e)) known) (swept e)
+          kept-swept u b (none-is b.before e) (record {
+            held = held-listed u b.jobs u.went.items [] (sym (ap (λ (x : List (ℕ × Spot) × List (ℕ × Spot)). x.1) (now.swept e))) now.held;
+            listed = now.swept e;
+          })
     ] refl
 
 -- At the end of a trial, or its beginning, the jobs are as they were
 
-pub kept-ended : (s : Shelves) (a b : MapState) → b.jobs ≡ a.jobs → b.before ≡ None → Rising 0 (2 ^ 64) a.jobs
-    → HavePlaces s a.jobs → AreAhead s a.jobs → AreKnown s a.jobs [] → lists s ≡ ([], []) → ShelvesMatch s b
-kept-ended s a b same none r placed ahead known listed =
-    kept-swept s b none (subst (Rising 0 (2 ^ 64)) (sym same) r) (subst (HavePlaces s) (sym same) placed)
-    (subst (AreAhead s) (sym same) ahead) (subst (λ x. AreKnown s x []) (sym same) known) listed
+pub kept-ended : (s : Shelves) (a b : MapState) → b.jobs ≡ a.jobs → b.before ≡ None → AreSwept s a.jobs → ShelvesMatch s b
+kept-ended s a b same none swept = kept-swept s b none (subst (AreSwept s) (sym same) swept)
 
-pub kept-begun : (s : Shelves) (a b : MapState) → b.jobs ≡ a.jobs → b.before ≡ Some a.jobs → Rising 0 (2 ^ 64) a.jobs
-    → HavePlaces s a.jobs → AreAhead s a.jobs → AreKnown s a.jobs [] → lists s ≡ ([], []) → ShelvesMatch s b
-kept-begun s a b same some r placed ahead known listed =
+pub kept-begun : (s : Shelves) (a b : MapState) → b.jobs ≡ a.jobs → b.before ≡ Some a.jobs → AreSwept s a.jobs → ShelvesMatch s b
+kept-begun s a b same some swept =
     in-trial s b a.jobs some
-    (subst (Rising 0 (2 ^ 64)) (sym same) r)
-    (subst (HavePlaces s) (sym same) placed)
-    (subst (AreAhead s) (sym same) ahead)
-    (subst (AreKnown s b.jobs) (sym (ap (λ (x : List (ℕ × Spot) × List (ℕ × Spot)). x.1) listed)) (subst (λ x. AreKnown s x []) (sym same) known))
-    placed
-    (subst (AreKnown s a.jobs) (sym (ap (λ (x : List (ℕ × Spot) × List (ℕ × Spot)). x.0) listed)) known)
+    (subst (λ x. HoldJobs s x s.went.items) (sym same)
+    (held-listed s a.jobs [] s.went.items (ap (λ (x : List (ℕ × Spot) × List (ℕ × Spot)). x.1) swept.listed) swept.held))
+    swept.held.placed
+    (subst (AreKnown s a.jobs) (sym (ap (λ (x : List (ℕ × Spot) × List (ℕ × Spot)). x.0) swept.listed)) swept.held.known)
     (λ e i. inl (subst (In e) (sym same) i))
 
 pub kept-none : (s : Shelves) (b : MapState) → b.jobs ≡ [] → b.before ≡ None → ((l : Label) → shelf s l ≡ bare) → lists s ≡ ([], []) → ShelvesMatch s b
 kept-none s b no-jobs none empty listed =
-    kept-swept s b none (subst (Rising 0 (2 ^ 64)) (sym no-jobs) (omega arith))
-    (subst (HavePlaces s) (sym no-jobs) (λ e i. absurd i)) (subst (AreAhead s) (sym no-jobs) (λ e i. absurd i))
-    (λ l p i. absurd (subst (λ x. In p x.places) (empty l) i)) listed
+    kept-swept s b none (subst (AreSwept s) (sym no-jobs) (record {
+      held = record {
+        rising = omega arith;
+        placed = λ e i. absurd i;
+        ahead = λ e i. absurd i;
+        known = λ l p i. absurd (subst (λ x. In p x.places) (empty l) i);
+      };
+      listed = listed;
+    }))
 
 -- A job that is removed
 
 none-listed : (s : Shelves) (a : MapState) → ShelvesMatch s a → a.before ≡ None → lists s ≡ ([], [])
 none-listed s a kept none = subst (λ o. IfNone o (lists s ≡ ([], []))) none kept.none_listed
 
-known-unlisted : (s : Shelves) (a : MapState) → ShelvesMatch s a → a.before ≡ None → AreKnown s a.jobs []
-known-unlisted s a kept none = subst (AreKnown s a.jobs) (ap (λ (x : List (ℕ × Spot) × List (ℕ × Spot)). x.1) (none-listed s a kept none)) kept.known
+swept-untried : (s : Shelves) (a : MapState) → ShelvesMatch s a → a.before ≡ None → AreSwept s a.jobs
+swept-untried s a kept none =
+    let listed : lists s ≡ ([], []) = none-listed s a kept none in
+    record {
+      held = held-listed s a.jobs s.went.items [] (sym (ap (λ (x : List (ℕ × Spot) × List (ℕ × Spot)). x.1) listed)) kept.held;
+      listed = listed;
+    }
 
-pub ahead-without : (s : Shelves) (id : ℕ) (jobs new : List (ℕ × Job)) → AreAhead s jobs → new ≡ without id jobs → AreAhead s new
-ahead-without s id jobs new ahead is e i = ahead e (without-in id jobs e (subst (In e) is i))
+pub reach-without : (s : Shelves) (id : ℕ) (jobs new : List (ℕ × Job)) (listed : List (ℕ × Spot)) → HoldJobs s jobs listed
+    → Rising 0 (2 ^ 64) new → new ≡ without id jobs → AreInReach s new
+reach-without s id jobs new listed held r is = record {
+  rising = r;
+  ahead = λ e i. held.ahead e (without-in id jobs e (subst (In e) is i));
+}
 
 pub kept-removed : (s t : Shelves) (a b : MapState) (id : ℕ) (job : Job) → ShelvesMatch s a → a.before ≡ None
     → b.before ≡ None → Rising 0 (2 ^ 64) b.jobs → b.jobs ≡ without id a.jobs → value_at id a.jobs ≡ Some job
-    → HasTaken s t b.jobs → ((l : Label) (p : ℕ × ℕ) → In p (places t l) → BelongsAt l p (id, at_spot (spot_of job))
-    → (e : ℕ × Job) × BelongsAt l p e × In e b.jobs) → ShelvesMatch t b
+    → HasTaken s t b.jobs → ((l : Label) → IsGone t b.jobs (id, at_spot (spot_of job)) l) → ShelvesMatch t b
 kept-removed s t a b id job kept none ended r is there taken gone =
-    kept-swept t b ended r
-    (λ e i l p k. taken.keeps l p e i k (kept.placed e (without-in id a.jobs e (subst (In e) is i)) l p k))
-    (λ e i l p k. taken.ahead l p (kept.ahead e (without-in id a.jobs e (subst (In e) is i)) l p k))
-    (λ l p i.
-    let w = known-unlisted s a kept none l p (taken.only l p i) in
-    elim w.2 as (λ v. (e : ℕ × Job) × BelongsAt l p e × (In e b.jobs ⊎ IsListed [] e)) [
-      | inl old ↦ elim (without-others id w.0 a.jobs old) as (λ v. (e : ℕ × Job) × BelongsAt l p e × (In e b.jobs ⊎ IsListed [] e)) [
-        | inl still ↦ (w.0, w.1, inl (subst (In w.0) (sym is) still))
-        | inr same ↦
-            let y = gone l p i (to-spot l p id job (subst (BelongsAt l p) (value-is id 0 (2 ^ 64) job w.0 a.jobs kept.rising there old same) w.1)) in
-            (y.0, y.1, inl y.2)
-      ]
-      | inr listed ↦ absurd listed
-    ])
-    (taken.lists ∙ none-listed s a kept none)
+    let swept = swept-untried s a kept none in
+    kept-swept t b ended (record {
+      held = record {
+        rising = r;
+        placed = λ e i l p k. taken.keeps l p e i k (swept.held.placed e (without-in id a.jobs e (subst (In e) is i)) l p k);
+        ahead = λ e i l p k. taken.ahead l p (swept.held.ahead e (without-in id a.jobs e (subst (In e) is i)) l p k);
+        known = λ l p i.
+            let w = swept.held.known l p (taken.only l p i) in
+            elim w.2 as (λ v. (e : ℕ × Job) × BelongsAt l p e × (In e b.jobs ⊎ IsListed [] e)) [
+              | inl old ↦ elim (without-others id w.0 a.jobs old) as (λ v. (e : ℕ × Job) × BelongsAt l p e × (In e b.jobs ⊎ IsListed [] e)) [
+                | inl still ↦ (w.0, w.1, inl (subst (In w.0) (sym is) still))
+                | inr same ↦
+                    let y = gone l p i (to-spot l p id job
+                    (subst (BelongsAt l p) (value-is id 0 (2 ^ 64) job w.0 a.jobs swept.held.rising there old same) w.1)) in
+                    (y.0, y.1, inl y.2)
+              ]
+              | inr listed ↦ absurd listed
+            ];
+      };
+      listed = taken.lists ∙ swept.listed;
+    })
 
 pub kept-absent : (s : Shelves) (a b : MapState) (id : ℕ) → ShelvesMatch s a → a.before ≡ None → b.before ≡ None
     → b.jobs ≡ without id a.jobs → value_at id a.jobs ≡ None → ShelvesMatch s b
 kept-absent s a b id kept none ended is absent =
-    kept-ended s a b (is ∙ without-absent id a.jobs absent) ended kept.rising kept.placed kept.ahead (known-unlisted s a kept none) (none-listed s a kept none)
+    kept-ended s a b (is ∙ without-absent id a.jobs absent) ended (swept-untried s a kept none)
+
+-- A look-up of a shelf finds the jobs that belong there
+pub looks-up : {s : Shelves} {state : MapState} {jobs : List (ℕ × Job)} (label : Label) → jobs ≡ state.jobs → ShelvesMatch s state
+    → CanLookUp label (shelf s label) jobs
+looks-up {s} {state} {jobs} label same kept =
+    subst (CanLookUp label (shelf s label)) (sym same) (record {
+      rising = kept.held.rising;
+      all = λ p e i b. (kept.held.placed e i label p b, kept.held.ahead e i label p b);
+    })
 
 -- Which job is due
 

@@ -1,7 +1,7 @@
 -- What stands on a shelf, in its order, and after a place is put or taken out.
-use Rattle.std.proofs.Common.{◌≡◌, ℕ, ◌<◌, Bool, true, false, cond, ◌⊎◌, inl, inr, List, [], ◌∷◌, Some, refl, sym, ap}
+use Rattle.std.proofs.Common.{◌≡◌, ℕ, ◌<◌, Bool, true, false, cond, ◌⊎◌, inl, inr, List, [], ◌∷◌, Some, None, refl, sym, ap}
 use Rattle.std.proofs.Common.{ap₂, subst, eq-eqb, eqb-true, ◌&&◌, ◌==◌, ◌∙◌, arith, Less, Equal, Greater, nat_cmp}
-use Rattle.std.proofs.Common.{nat_lt, ◌||◌, Ordering}
+use Rattle.std.proofs.Common.{nat_lt, ◌||◌, Ordering, Bor}
 use Rattle.std.proofs.lemmas.Bool.{cases_order, both_ways, and_parts, and_from, or_left, or_right}
 use Rattle.std.proofs.Math.Bool.{and-true}
 use Rattle.std.specs.Ordering.{ordering_then, match_ordering, is_le, is_lt}
@@ -17,7 +17,8 @@ use Rattle.job_store.specs.Entries.{Rising, value_at}
 use Rattle.job_store.specs.Least.{ComesBefore, IsLeast, NonePasses}
 use Rattle.job_store.specs.LookUps.{is_after}
 use Rattle.job_store.specs.ShelfStates.{ShelfState, IsFrom, bare, HasLost, HasReached, HasGained, IsFound}
-use Rattle.job_store.specs.Shelves.{belongs, belongs_after, number, belongs_at, BelongsAt, AreAllFound, IsPassed}
+use Rattle.job_store.specs.Shelves.{belongs, belongs_after, number, belongs_at, BelongsAt, AreAllFound, FindsFirst, IsPassed}
+use Rattle.job_store.proofs.least.Least.{least-only, least-nothing}
 use Rattle.job_store.proofs.maps.Members.{value-in}
 use Rattle.job_store.specs.EntryLaws.{cmp_less, cmp_equal, cmp_greater, value_at-In}
 use Rattle.job_store.proofs.maps.Entries.{same_number}
@@ -241,6 +242,19 @@ lost-all old new k lost none = record {
   only = λ p i. absurd i;
   ahead = λ p h. from-zero p;
 }
+
+-- What a look-up finds
+
+pub finds-some : (test : ℕ × Job → Bool) (by : Job → ℕ) (jobs : List (ℕ × Job)) (lo hi : ℕ) (x : ℕ × Bor Job)
+    → Rising lo hi jobs → IsLeast test by jobs (x.0, x.1.now) → FindsFirst test by jobs (Some x)
+finds-some test by jobs lo hi x r best = record {
+  job = sym (least-only test by jobs lo hi (x.0, x.1.now) r best);
+  found = best;
+  none = tt;
+}
+
+pub finds-none : (test : ℕ × Job → Bool) (by : Job → ℕ) (jobs : List (ℕ × Job)) → NonePasses test jobs → FindsFirst test by jobs None
+finds-none test by jobs none = record { job = least-nothing test by jobs none; found = tt; none = none }
 
 -- The first place where a job stands by the map
 

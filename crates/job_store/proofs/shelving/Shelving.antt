@@ -1,18 +1,22 @@
 -- Shelves after jobs were put, listed and taken out.
-use Rattle.std.proofs.Common.{◌≡◌, ℕ, true, false, ◌⊎◌, inl, inr, List, [], ◌∷◌, ◌++◌, Option, Some, None, IfNone, refl, sym, ap, subst, ◌∙◌}
+use Rattle.std.proofs.Common.{◌≡◌, ℕ, ◌^◌, true, false, ◌⊎◌, inl, inr, List, [], ◌∷◌, ◌++◌, Option, Some, None, IfNone}
+use Rattle.std.proofs.Common.{Result, Ok, Err, OnOk, refl, sym, ap, subst, ◌∙◌}
 use Rattle.std.specs.Prelude.{is_some}
+use Rattle.std.specs.Result.{IsErr}
+use Rattle.std.proofs.lemmas.Result.{on_ok_weaker}
 use Rattle.object.specs.Lists.{In}
 use Rattle.job_store.specs.declared.job.Job.{Job}
 use Rattle.job_store.specs.declared.label.Label.{Label}
 use Rattle.job_store.specs.declared.shelves.Shelves.{Shelves}
 use Rattle.job_store.specs.declared.spot.Spot.{Spot}
 use Rattle.job_store.specs.declared.state.State.{State}
+use Rattle.job_store.specs.Entries.{Rising}
 use Rattle.job_store.specs.States.{with_pri_and_state}
 use Rattle.job_store.specs.ShelfStates.{IsFrom, bare}
 use Rattle.job_store.specs.Spots.{spot_of, at_spot}
 use Rattle.job_store.specs.Shelves.{belongs, number, BelongsAt, shelf, places, lists, HasPlaces, HavePlaces, IsAhead}
-use Rattle.job_store.specs.Shelves.{AreAhead, AreAheadOrListed, BeginNoLater, HasPut, HasTaken, HasGoneBack, HasSettled}
-use Rattle.job_store.specs.Shelves.{HasCome, IsListed, AreKnown, HasGrown, AreInDoubt}
+use Rattle.job_store.specs.Shelves.{AreInReach, HoldJobs, AreSwept, CanGoBack, IsGone, BeginNoLater, HasPut, HasTaken}
+use Rattle.job_store.specs.Shelves.{HasGoneBack, HasSettled, HasCome, IsListed, AreKnown, HasGrown, AreInDoubt, ListsMore, PutsInDoubt}
 
 module _ {X : Type 0} where
   pub in-front : (x : X) (xs ys : List X) → In x xs → In x (xs ++ ys)
@@ -30,6 +34,10 @@ module _ {X : Type 0} where
   in-push x y (z ∷ xs) (inl here) = inl (inl here)
   in-push x y (z ∷ xs) (inr later) =
       elim (in-push x y xs later) as (λ v. In x (z ∷ xs) ⊎ (x ≡ y)) [ inl i ↦ inl (inr i) | inr last ↦ inr last ]
+
+  pub not_ok : {E : Type 0} (P : Type 0) (r : Result X E) → IsErr r → OnOk r P
+  not_ok P (Ok x) failed = cc
+  not_ok P (Err e) failed = tt
 
   pub nothing : {P : Type 0} (o : Option X) → is_some o ≡ false → IfNone o P → P
   nothing None e p = p
@@ -82,95 +90,11 @@ same-doubt s t same went = record {
 pub more-listed : (old new : List (ℕ × Spot)) (x : ℕ × Spot) → new ≡ old ++ (x ∷ []) → (e : ℕ × Job) → IsListed old e → IsListed new e
 more-listed old new x is e i = subst (In (e.0, spot_of e.1)) (sym is) (in-front (e.0, spot_of e.1) old (x ∷ []) i)
 
+pub still-listed : (old new : List (ℕ × Spot)) → new ≡ old → (e : ℕ × Job) → IsListed old e → IsListed new e
+still-listed old new same e i = subst (λ x. IsListed x e) (sym same) i
+
 pub last-listed : (old new : List (ℕ × Spot)) (e : ℕ × Job) → new ≡ old ++ ((e.0, spot_of e.1) ∷ []) → IsListed new e
 last-listed old new e is = subst (In (e.0, spot_of e.1)) (sym is) (in-last (e.0, spot_of e.1) old)
-
--- A job is put that is listed
-
-pub put-grown : (s t u : Shelves) (e : ℕ × Job) → HasGrown s t → IsListed t.came.items e → HasPut t u e → HasGrown s u
-put-grown s t u e grown there put =
-    let same : u.came.items ≡ t.came.items = ap (λ (x : List (ℕ × Spot) × List (ℕ × Spot)). x.0) put.lists in
-    record {
-      keeps = λ l p i. put.keeps l p (grown.keeps l p i);
-      came = λ d i. subst (λ x. IsListed x d) (sym same) (grown.came d i);
-      only = λ l p i.
-          elim (put.only l p i) as (λ v. In p (places s l) ⊎ ((d : ℕ × Job) × BelongsAt l p d × IsListed u.came.items d)) [
-            | inl old ↦ elim (grown.only l p old) as (λ v. In p (places s l) ⊎ ((d : ℕ × Job) × BelongsAt l p d × IsListed u.came.items d)) [
-              | inl older ↦ inl older
-              | inr w ↦ inr (w.0, w.1, subst (λ x. IsListed x w.0) (sym same) w.2)
-            ]
-            | inr b ↦ inr (e, b, subst (λ x. IsListed x e) (sym same) there)
-          ];
-      ahead = λ l p h. put.ahead l p (grown.ahead l p h);
-    }
-
-pub put-doubt : (s t u : Shelves) (e : ℕ × Job) → AreInDoubt s t → IsListed t.went.items e → HasPut t u e → AreInDoubt s u
-put-doubt s t u e doubt there put =
-    let same : u.went.items ≡ t.went.items = ap (λ (x : List (ℕ × Spot) × List (ℕ × Spot)). x.1) put.lists in
-    record {
-      went = λ d i. subst (λ x. IsListed x d) (sym same) (doubt.went d i);
-      only = λ l p i.
-          elim (put.only l p i) as (λ v. In p (places s l) ⊎ ((d : ℕ × Job) × BelongsAt l p d × IsListed u.went.items d)) [
-            | inl old ↦ elim (doubt.only l p old) as (λ v. In p (places s l) ⊎ ((d : ℕ × Job) × BelongsAt l p d × IsListed u.went.items d)) [
-              | inl older ↦ inl older
-              | inr w ↦ inr (w.0, w.1, subst (λ x. IsListed x w.0) (sym same) w.2)
-            ]
-            | inr b ↦ inr (e, b, subst (λ x. IsListed x e) (sym same) there)
-          ];
-    }
-
--- A job is listed, and then put
-
-pub listed-put-grown : (s t u : Shelves) (id : ℕ) (spot copy : Spot) → ((l : Label) → shelf t l ≡ shelf s l)
-    → t.came.items ≡ s.came.items ++ (id, copy) ∷ [] → copy ≡ spot → HasPut t u (id, at_spot spot) → HasGrown s u
-listed-put-grown s t u id spot copy same came is put =
-    put-grown s t u (id, at_spot spot) (same-grown s t same (more-listed s.came.items t.came.items (id, copy) came))
-    (last-listed s.came.items t.came.items (id, at_spot spot) (came ∙ ap (λ x. s.came.items ++ (id, x) ∷ []) is)) put
-
-pub listed-put-doubt : (s t u : Shelves) (id : ℕ) (spot copy : Spot) → ((l : Label) → shelf t l ≡ shelf s l)
-    → t.went.items ≡ s.went.items ++ (id, copy) ∷ [] → copy ≡ spot → HasPut t u (id, at_spot spot) → AreInDoubt s u
-listed-put-doubt s t u id spot copy same went is put =
-    put-doubt s t u (id, at_spot spot) (same-doubt s t same (more-listed s.went.items t.went.items (id, copy) went))
-    (last-listed s.went.items t.went.items (id, at_spot spot) (went ∙ ap (λ x. s.went.items ++ (id, x) ∷ []) is)) put
-
-pub only-put : (s t u : Shelves) (e : ℕ × Job) → ((l : Label) → shelf t l ≡ shelf s l) → HasPut t u e
-    → (l : Label) (p : ℕ × ℕ) → In p (places u l) → In p (places s l) ⊎ BelongsAt l p e
-only-put s t u e same put l p i =
-    elim (put.only l p i) as (λ v. In p (places s l) ⊎ BelongsAt l p e) [
-      | inl old ↦ inl (subst (λ x. In p x.places) (same l) old)
-      | inr b ↦ inr b
-    ]
-
--- A changed job is put
-
-changed-spot : (pri : ℕ) (state : State) (tube : List ℕ) (job : Job) → tube ≡ job.tube
-    → record { tube = tube; pri = pri; state = state } ≡ spot_of (with_pri_and_state pri state job)
-changed-spot pri state tube job same = ap (λ (t : List ℕ). record { tube = t; pri = pri; state = state }) same
-
-pub changed-only : (s t u : Shelves) (id pri : ℕ) (state : State) (tube : List ℕ) (job : Job) → tube ≡ job.tube
-    → ((l : Label) → shelf t l ≡ shelf s l)
-    → ((l : Label) (p : ℕ × ℕ) → In p (places u l) → In p (places t l)
-    ⊎ BelongsAt l p (id, at_spot (record { tube = tube; pri = pri; state = state }))) → (l : Label) (p : ℕ × ℕ)
-    → In p (places u l) → In p (places s l) ⊎ BelongsAt l p (id, with_pri_and_state pri state job)
-changed-only s t u id pri state tube job is same only l p i =
-    elim (only l p i) as (λ v. In p (places s l) ⊎ BelongsAt l p (id, with_pri_and_state pri state job)) [
-      | inl old ↦ inl (subst (λ x. In p x.places) (same l) old)
-      | inr b ↦ inr (of-spot l p id (with_pri_and_state pri state job) (subst (λ x. BelongsAt l p (id, at_spot x)) (changed-spot pri state tube job is) b))
-    ]
-
-pub changed-come : (u : Shelves) (id pri : ℕ) (state : State) (tube : List ℕ) (job : Job) → tube ≡ job.tube
-    → HasCome u (id, at_spot (record { tube = tube; pri = pri; state = state }))
-    → HasCome u (id, with_pri_and_state pri state job)
-changed-come u id pri state tube job is come =
-    come-at u id (with_pri_and_state pri state job) (subst (λ x. HasCome u (id, at_spot x)) (changed-spot pri state tube job is) come)
-
-pub changed-went : (s t u : Shelves) (id pri : ℕ) (state : State) (tube : List ℕ) (job : Job) → tube ≡ job.tube
-    → t.went.items ≡ s.went.items ++ (id, spot_of job) ∷ []
-    → u.went.items ≡ t.went.items ++ (id, record { tube = tube; pri = pri; state = state }) ∷ []
-    → u.went.items ≡ (s.went.items ++ (id, spot_of job) ∷ []) ++ (id, spot_of (with_pri_and_state pri state job)) ∷ []
-changed-went s t u id pri state tube job is one two =
-    two ∙ ap (λ (xs : List (ℕ × Spot)). xs ++ (id, record { tube = tube; pri = pri; state = state }) ∷ []) one ∙ ap
-    (λ (x : Spot). (s.went.items ++ (id, spot_of job) ∷ []) ++ (id, x) ∷ []) (changed-spot pri state tube job is)
 
 -- Growth on growth
 
@@ -202,6 +126,114 @@ doubt-twice s t u one two = record {
       ];
 }
 
+-- A job is put that is listed
+
+put-grown : (s t u : Shelves) (e : ℕ × Job) → HasGrown s t → IsListed t.came.items e → HasPut t u e → HasGrown s u
+put-grown s t u e grown there put =
+    let same : u.came.items ≡ t.came.items = ap (λ (x : List (ℕ × Spot) × List (ℕ × Spot)). x.0) put.lists in
+    record {
+      keeps = λ l p i. put.keeps l p (grown.keeps l p i);
+      came = λ d i. subst (λ x. IsListed x d) (sym same) (grown.came d i);
+      only = λ l p i.
+          elim (put.only l p i) as (λ v. In p (places s l) ⊎ ((d : ℕ × Job) × BelongsAt l p d × IsListed u.came.items d)) [
+            | inl old ↦ elim (grown.only l p old) as (λ v. In p (places s l) ⊎ ((d : ℕ × Job) × BelongsAt l p d × IsListed u.came.items d)) [
+              | inl older ↦ inl older
+              | inr w ↦ inr (w.0, w.1, subst (λ x. IsListed x w.0) (sym same) w.2)
+            ]
+            | inr b ↦ inr (e, b, subst (λ x. IsListed x e) (sym same) there)
+          ];
+      ahead = λ l p h. put.ahead l p (grown.ahead l p h);
+    }
+
+put-doubt : (s t u : Shelves) (e : ℕ × Job) → AreInDoubt s t → IsListed t.went.items e → HasPut t u e → AreInDoubt s u
+put-doubt s t u e doubt there put =
+    let same : u.went.items ≡ t.went.items = ap (λ (x : List (ℕ × Spot) × List (ℕ × Spot)). x.1) put.lists in
+    record {
+      went = λ d i. subst (λ x. IsListed x d) (sym same) (doubt.went d i);
+      only = λ l p i.
+          elim (put.only l p i) as (λ v. In p (places s l) ⊎ ((d : ℕ × Job) × BelongsAt l p d × IsListed u.went.items d)) [
+            | inl old ↦ elim (doubt.only l p old) as (λ v. In p (places s l) ⊎ ((d : ℕ × Job) × BelongsAt l p d × IsListed u.went.items d)) [
+              | inl older ↦ inl older
+              | inr w ↦ inr (w.0, w.1, subst (λ x. IsListed x w.0) (sym same) w.2)
+            ]
+            | inr b ↦ inr (e, b, subst (λ x. IsListed x e) (sym same) there)
+          ];
+    }
+
+-- A job is listed, and then put
+
+only-put : (s t u : Shelves) (e : ℕ × Job) → ((l : Label) → shelf t l ≡ shelf s l) → HasPut t u e
+    → (l : Label) (p : ℕ × ℕ) → In p (places u l) → In p (places s l) ⊎ BelongsAt l p e
+only-put s t u e same put l p i =
+    elim (put.only l p i) as (λ v. In p (places s l) ⊎ BelongsAt l p e) [
+      | inl old ↦ inl (subst (λ x. In p x.places) (same l) old)
+      | inr b ↦ inr b
+    ]
+
+pub puts-listed : {E : Type 0} (s t u : Shelves) (id : ℕ) (spot : Spot) (result : Result Unit E) → ListsMore s t
+    → t.came.items ≡ s.came.items ++ (id, spot) ∷ [] → t.went.items ≡ s.went.items ++ (id, spot) ∷ []
+    → HasPut t u (id, at_spot spot) → OnOk result (HasCome u (id, at_spot spot)) → PutsInDoubt s u (id, at_spot spot) result
+puts-listed s t u id spot result left came went put come = record {
+  grown = put-grown s t u (id, at_spot spot) (same-grown s t left.shelves left.came)
+      (last-listed s.came.items t.came.items (id, at_spot spot) came) put;
+  doubt = put-doubt s t u (id, at_spot spot) (same-doubt s t left.shelves left.went)
+      (last-listed s.went.items t.went.items (id, at_spot spot) went) put;
+  only = only-put s t u (id, at_spot spot) left.shelves put;
+  come = come;
+}
+
+-- Where memory was refused before the job was put, more may be listed
+pub puts-nothing : {E : Type 0} (s t : Shelves) (e : ℕ × Job) (result : Result Unit E) → IsErr result → ListsMore s t → PutsInDoubt s t e result
+puts-nothing s t e result failed left = record {
+  grown = same-grown s t left.shelves left.came;
+  doubt = same-doubt s t left.shelves left.went;
+  only = λ l p i. inl (subst (λ y. In p y.places) (left.shelves l) i);
+  come = not_ok _ result failed;
+}
+
+-- A changed job is put
+
+changed-spot : (pri : ℕ) (state : State) (tube : List ℕ) (job : Job) → tube ≡ job.tube
+    → record { tube = tube; pri = pri; state = state } ≡ spot_of (with_pri_and_state pri state job)
+changed-spot pri state tube job same = ap (λ (t : List ℕ). record { tube = t; pri = pri; state = state }) same
+
+changed-only : (s t u : Shelves) (id pri : ℕ) (state : State) (tube : List ℕ) (job : Job) → tube ≡ job.tube
+    → ((l : Label) → shelf t l ≡ shelf s l)
+    → ((l : Label) (p : ℕ × ℕ) → In p (places u l) → In p (places t l)
+    ⊎ BelongsAt l p (id, at_spot (record { tube = tube; pri = pri; state = state }))) → (l : Label) (p : ℕ × ℕ)
+    → In p (places u l) → In p (places s l) ⊎ BelongsAt l p (id, with_pri_and_state pri state job)
+changed-only s t u id pri state tube job is same only l p i =
+    elim (only l p i) as (λ v. In p (places s l) ⊎ BelongsAt l p (id, with_pri_and_state pri state job)) [
+      | inl old ↦ inl (subst (λ x. In p x.places) (same l) old)
+      | inr b ↦ inr (of-spot l p id (with_pri_and_state pri state job) (subst (λ x. BelongsAt l p (id, at_spot x)) (changed-spot pri state tube job is) b))
+    ]
+
+changed-come : (u : Shelves) (id pri : ℕ) (state : State) (tube : List ℕ) (job : Job) → tube ≡ job.tube
+    → HasCome u (id, at_spot (record { tube = tube; pri = pri; state = state }))
+    → HasCome u (id, with_pri_and_state pri state job)
+changed-come u id pri state tube job is come =
+    come-at u id (with_pri_and_state pri state job) (subst (λ x. HasCome u (id, at_spot x)) (changed-spot pri state tube job is) come)
+
+pub changed-went : (s t u : Shelves) (id pri : ℕ) (state : State) (tube : List ℕ) (job : Job) → tube ≡ job.tube
+    → t.went.items ≡ s.went.items ++ (id, spot_of job) ∷ []
+    → u.went.items ≡ t.went.items ++ (id, record { tube = tube; pri = pri; state = state }) ∷ []
+    → u.went.items ≡ (s.went.items ++ (id, spot_of job) ∷ []) ++ (id, spot_of (with_pri_and_state pri state job)) ∷ []
+changed-went s t u id pri state tube job is one two =
+    two ∙ ap (λ (xs : List (ℕ × Spot)). xs ++ (id, record { tube = tube; pri = pri; state = state }) ∷ []) one ∙ ap
+    (λ (x : Spot). (s.went.items ++ (id, spot_of job) ∷ []) ++ (id, x) ∷ []) (changed-spot pri state tube job is)
+
+pub changed-put : {E F : Type 0} (s t u : Shelves) (id pri : ℕ) (state : State) (tube : List ℕ) (job : Job)
+    (one : Result Unit E) (two : Result Unit F) → tube ≡ job.tube → ListsMore s t
+    → PutsInDoubt t u (id, at_spot (record { tube = tube; pri = pri; state = state })) one
+    → OnOk two (HasCome u (id, at_spot (record { tube = tube; pri = pri; state = state })))
+    → PutsInDoubt s u (id, with_pri_and_state pri state job) two
+changed-put s t u id pri state tube job one two is left put come = record {
+  grown = grown-twice s t u (same-grown s t left.shelves left.came) put.grown;
+  doubt = doubt-twice s t u (same-doubt s t left.shelves left.went) put.doubt;
+  only = changed-only s t u id pri state tube job is left.shelves put.only;
+  come = on_ok_weaker two (changed-come u id pri state tube job is) come;
+}
+
 -- Where no job of the map stands
 
 pub untaken : (label : Label) (id n : ℕ) (spot : Spot) (jobs : List (ℕ × Job)) → belongs label (id, at_spot spot) ≡ true
@@ -210,72 +242,59 @@ pub untaken : (label : Label) (id n : ℕ) (spot : Spot) (jobs : List (ℕ × Jo
     → (e : ℕ × Job) → In e jobs → BelongsAt label (n, id) e → ⊥
 untaken label id n spot jobs fits is none = none (n, id) (fits, ap (λ m. (m, id)) is)
 
+-- The same shelves hold the same jobs
+
+pub held-listed : (s : Shelves) (jobs : List (ℕ × Job)) (old new : List (ℕ × Spot)) → new ≡ old → HoldJobs s jobs old → HoldJobs s jobs new
+held-listed s jobs old new same held = subst (HoldJobs s jobs) (sym same) held
+
+pub held-same : (s t : Shelves) (jobs : List (ℕ × Job)) (old new : List (ℕ × Spot)) → ((l : Label) → shelf t l ≡ shelf s l)
+    → new ≡ old → HoldJobs s jobs old → HoldJobs t jobs new
+held-same s t jobs old new same is held =
+    held-listed t jobs old new is (record {
+      rising = held.rising;
+      placed = λ e i l p b. subst (λ y. In p y.places) (sym (same l)) (held.placed e i l p b);
+      ahead = λ e i l p b. subst (λ y. IsFrom y.from p) (sym (same l)) (held.ahead e i l p b);
+      known = λ l p i. held.known l p (subst (λ x. In p x.places) (same l) i);
+    })
+
+pub reach-same : (s t : Shelves) (jobs : List (ℕ × Job)) (listed : List (ℕ × Spot)) → ((l : Label) → shelf t l ≡ shelf s l)
+    → HoldJobs s jobs listed → AreInReach t jobs
+reach-same s t jobs listed same held =
+    let there = held-same s t jobs listed listed same refl held in
+    record { rising = there.rising; ahead = there.ahead }
+
 -- A listed job is taken out
 
-pub record IsSwept (s : Shelves) (jobs : List (ℕ × Job)) : Type 0 where
-  pub placed : HavePlaces s jobs
-  pub known : AreKnown s jobs s.went.items
-  pub ahead : AreAhead s jobs
+pub record AreBeingSwept (s : Shelves) (jobs : List (ℕ × Job)) : Type 0 where
+  pub held : HoldJobs s jobs s.went.items
   pub none : s.came.items ≡ []
-
-pub sweep-begins : (s t : Shelves) (jobs : List (ℕ × Job)) → ((l : Label) → shelf t l ≡ shelf s l) → t.came.items ≡ []
-    → t.went.items ≡ s.went.items → HavePlaces s jobs → AreKnown s jobs s.went.items → AreAhead s jobs → IsSwept t jobs
-sweep-begins s t jobs same none went placed known ahead = record {
-  placed = λ e i l p b. subst (λ y. In p y.places) (sym (same l)) (placed e i l p b);
-  known = λ l p i.
-      let w = known l p (subst (λ x. In p x.places) (same l) i) in (
-        w.0,
-        w.1,
-        elim w.2 as (λ v. In w.0 jobs
-            ⊎ IsListed t.went.items w.0) [
-              | inl job ↦ inl job
-              | inr listed ↦ inr
-                  (subst (λ x. IsListed x w.0) (sym went) listed)
-            ],
-      );
-  ahead = λ e i l p b. subst (λ y. IsFrom y.from p) (sym (same l)) (ahead e i l p b);
-  none = none;
-}
 
 pub sweep-step : (s t u : Shelves) (jobs : List (ℕ × Job)) (x : ℕ × Spot) → ((l : Label) → shelf t l ≡ shelf s l)
     → t.came.items ≡ s.came.items → s.went.items ≡ t.went.items ++ (x ∷ []) → HasTaken t u jobs
-    → ((l : Label) (p : ℕ × ℕ) → In p (places u l) → BelongsAt l p (x.0, at_spot x.1) → (e : ℕ × Job) × BelongsAt l p e
-    × In e jobs) → IsSwept s jobs → IsSwept u jobs
+    → ((l : Label) → IsGone u jobs (x.0, at_spot x.1) l) → AreBeingSwept s jobs → AreBeingSwept u jobs
 sweep-step s t u jobs x same came popped taken gone swept =
     let came-same : u.came.items ≡ t.came.items = ap (λ (y : List (ℕ × Spot) × List (ℕ × Spot)). y.0) taken.lists in
     let went-same : u.went.items ≡ t.went.items = ap (λ (y : List (ℕ × Spot) × List (ℕ × Spot)). y.1) taken.lists in
+    let held = swept.held in
     record {
-      placed = λ e i l p b. taken.keeps l p e i b (subst (λ y. In p y.places) (sym (same l)) (swept.placed e i l p b));
-      known = λ l p i.
-          let w = swept.known l p (subst (λ y. In p y.places) (same l) (taken.only l p i)) in
-          elim w.2 as (λ v. (e : ℕ × Job) × BelongsAt l p e × (In e jobs ⊎ IsListed u.went.items e)) [
-            | inl job ↦ (w.0, w.1, inl job)
-            | inr listed ↦ elim (in-push (w.0.0, spot_of w.0.1) x t.went.items
-                (subst (In (w.0.0, spot_of w.0.1)) popped listed)) as (λ v. (e : ℕ × Job) × BelongsAt l p e
-                × (In e jobs ⊎ IsListed u.went.items e)) [
-                  | inl before ↦ (w.0, w.1, inr (subst (λ y. IsListed y w.0) (sym went-same) before))
-                  | inr last ↦ let y = gone l p i (like-spot l p w.0 x last w.1) in (y.0, y.1, inl y.2)
-                ]
-          ];
-      ahead = λ e i l p b. taken.ahead l p (subst (λ y. IsFrom y.from p) (sym (same l)) (swept.ahead e i l p b));
+      held = record {
+        rising = held.rising;
+        placed = λ e i l p b. taken.keeps l p e i b (subst (λ y. In p y.places) (sym (same l)) (held.placed e i l p b));
+        ahead = λ e i l p b. taken.ahead l p (subst (λ y. IsFrom y.from p) (sym (same l)) (held.ahead e i l p b));
+        known = λ l p i.
+            let w = held.known l p (subst (λ y. In p y.places) (same l) (taken.only l p i)) in
+            elim w.2 as (λ v. (e : ℕ × Job) × BelongsAt l p e × (In e jobs ⊎ IsListed u.went.items e)) [
+              | inl job ↦ (w.0, w.1, inl job)
+              | inr listed ↦ elim (in-push (w.0.0, spot_of w.0.1) x t.went.items
+                  (subst (In (w.0.0, spot_of w.0.1)) popped listed)) as (λ v. (e : ℕ × Job) × BelongsAt l p e
+                  × (In e jobs ⊎ IsListed u.went.items e)) [
+                    | inl before ↦ (w.0, w.1, inr (subst (λ y. IsListed y w.0) (sym went-same) before))
+                    | inr last ↦ let y = gone l p i (like-spot l p w.0 x last w.1) in (y.0, y.1, inl y.2)
+                  ]
+            ];
+      };
       none = came-same ∙ came ∙ swept.none;
     }
-
-pub ahead-same : (s t : Shelves) (jobs : List (ℕ × Job)) → ((l : Label) → shelf t l ≡ shelf s l) → AreAhead s jobs → AreAhead t jobs
-ahead-same s t jobs same ahead e i l p b = subst (λ y. IsFrom y.from p) (sym (same l)) (ahead e i l p b)
-
-pub known-none : (s t : Shelves) (jobs : List (ℕ × Job)) → ((l : Label) → shelf t l ≡ shelf s l) → s.went.items ≡ []
-    → AreKnown s jobs s.went.items → AreKnown t jobs []
-known-none s t jobs same none known l p i =
-    let w = known l p (subst (λ x. In p x.places) (same l) i) in
-    (w.0, w.1, elim w.2 as (λ v. In w.0 jobs ⊎ IsListed [] w.0) [ inl job ↦ inl job | inr listed ↦ absurd (subst (λ x. IsListed x w.0) none listed) ])
-
-pub placed-same : (s t : Shelves) (jobs : List (ℕ × Job)) → ((l : Label) → shelf t l ≡ shelf s l) → HavePlaces s jobs → HavePlaces t jobs
-placed-same s t jobs same placed e i l p b = subst (λ y. In p y.places) (sym (same l)) (placed e i l p b)
-
-pub known-moved : (s t : Shelves) (jobs : List (ℕ × Job)) (listed : List (ℕ × Spot))
-    → ((l : Label) → shelf t l ≡ shelf s l) → AreKnown s jobs listed → AreKnown t jobs listed
-known-moved s t jobs listed same known l p i = known l p (subst (λ x. In p x.places) (same l) i)
 
 -- Look-ups find those again that went
 
@@ -317,23 +336,22 @@ all-reached first s t same none reached e i =
       | inr ahead ↦ λ l p b. subst (λ y. IsFrom y.from p) (sym (same l)) (ahead l p b)
     ]
 
--- what holds of the shelves before it holds after it
-pub back-placed : (s t : Shelves) (jobs : List (ℕ × Job)) → ((l : Label) → places t l ≡ places s l) → HavePlaces s jobs → HavePlaces t jobs
-back-placed s t jobs same placed e i l p b = subst (In p) (sym (same l)) (placed e i l p b)
-
-pub back-known : (s t : Shelves) (jobs : List (ℕ × Job)) (old new : List (ℕ × Spot))
-    → ((l : Label) → places t l ≡ places s l) → new ≡ old → AreKnown s jobs old → AreKnown t jobs new
-back-known s t jobs old new same is known l p i =
-    let w = known l p (subst (In p) (same l) i) in
-    (w.0, w.1, elim w.2 as (λ v. In w.0 jobs ⊎ IsListed new w.0) [ inl job ↦ inl job | inr listed ↦ inr (subst (λ x. IsListed x w.0) (sym is) listed) ])
-
-pub back-ahead : (s t : Shelves) (jobs : List (ℕ × Job)) → BeginNoLater s t
-    → ((e : ℕ × Job) → IsListed s.went.items e → IsAhead t e) → AreAheadOrListed s jobs → AreAhead t jobs
-back-ahead s t jobs later reached ahead e i =
-    elim (ahead e i) as (λ v. IsAhead t e) [
-      | inl old ↦ λ l p b. later l p (old l p b)
-      | inr listed ↦ reached e listed
-    ]
+-- the shelves hold the jobs, where places are to go of those that came
+pub held-back : (s t u : Shelves) (jobs : List (ℕ × Job)) (listed : List (ℕ × Spot)) → Rising 0 (2 ^ 64) jobs → CanGoBack s jobs
+    → ((l : Label) → places t l ≡ places s l) → BeginNoLater s t
+    → ((e : ℕ × Job) → IsListed s.went.items e → IsAhead t e) → ((l : Label) → shelf u l ≡ shelf t l)
+    → listed ≡ s.came.items → HoldJobs u jobs listed
+held-back s t u jobs listed r back places later reached same is =
+    held-same t u jobs s.came.items listed same is (record {
+      rising = r;
+      placed = λ e i l p b. subst (In p) (sym (places l)) (back.placed e i l p b);
+      ahead = λ e i.
+          elim (back.ahead e i) as (λ v. IsAhead t e) [
+            | inl old ↦ λ l p b. later l p (old l p b)
+            | inr went ↦ reached e went
+          ];
+      known = λ l p i. back.known l p (subst (In p) (places l) i);
+    })
 
 -- Look-ups begin later
 
@@ -352,8 +370,14 @@ placed-settled s t jobs of settled placed e i l p b = subst (In p) (sym (settled
 pub known-settled : (s t : Shelves) (jobs of : List (ℕ × Job)) (listed : List (ℕ × Spot)) → HasSettled s t jobs → AreKnown s of listed → AreKnown t of listed
 known-settled s t jobs of listed settled known l p i = known l p (subst (In p) (settled.shelves l).places i)
 
-pub ahead-settled : (s t : Shelves) (jobs : List (ℕ × Job)) → HasSettled s t jobs → HavePlaces s jobs → AreAhead s jobs → AreAhead t jobs
-ahead-settled s t jobs settled placed ahead e i l p b = (settled.shelves l).passed p e i b (placed e i l p b, ahead e i l p b)
+pub held-settled : (s t : Shelves) (jobs : List (ℕ × Job)) → HasSettled s t jobs → HoldJobs s jobs s.went.items → HoldJobs t jobs t.went.items
+held-settled s t jobs settled held =
+    held-listed t jobs s.went.items t.went.items (ap (λ (x : List (ℕ × Spot) × List (ℕ × Spot)). x.1) settled.lists) (record {
+      rising = held.rising;
+      placed = placed-settled s t jobs jobs settled held.placed;
+      ahead = λ e i l p b. (settled.shelves l).passed p e i b (held.placed e i l p b, held.ahead e i l p b);
+      known = known-settled s t jobs jobs s.went.items settled held.known;
+    })
 
 -- The place of a job
 
@@ -376,11 +400,16 @@ none-put s jobs none listed = record {
   listed = listed;
 }
 
-pub all-put : (s : Shelves) (jobs : List (ℕ × Job)) → ArePut s [] jobs → HavePlaces s jobs × AreAhead s jobs
-all-put s jobs put = (
-  λ e i. elim (put.found e i) as (λ v. HasPlaces s e) [ inl rest ↦ absurd rest | inr there ↦ there.placed ],
-  λ e i. elim (put.found e i) as (λ v. IsAhead s e) [ inl rest ↦ absurd rest | inr there ↦ there.ahead ],
-)
+pub all-put : (s : Shelves) (rest jobs : List (ℕ × Job)) → Rising 0 (2 ^ 64) jobs → rest ≡ [] → ArePut s rest jobs → AreSwept s jobs
+all-put s rest jobs r none put = record {
+  held = record {
+    rising = r;
+    placed = λ e i. elim (put.found e i) as (λ v. HasPlaces s e) [ inl more ↦ absurd (subst (In e) none more) | inr there ↦ there.placed ];
+    ahead = λ e i. elim (put.found e i) as (λ v. IsAhead s e) [ inl more ↦ absurd (subst (In e) none more) | inr there ↦ there.ahead ];
+    known = put.known;
+  };
+  listed = put.listed;
+}
 
 pub one-put : (s t : Shelves) (e : ℕ × Job) (spot : Spot) (all rest jobs : List (ℕ × Job)) → all ≡ e ∷ rest
     → spot ≡ spot_of e.1 → HasCome t (e.0, at_spot spot) → HasPut s t (e.0, at_spot spot) → ArePut s all jobs

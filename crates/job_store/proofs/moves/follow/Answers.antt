@@ -1,9 +1,11 @@
 use Rattle.std.proofs.Common.{sym, subst}
-use Rattle.job_store.specs.Shelves.{AreKnown}
+use Rattle.job_store.specs.Shelves.{HoldJobs, HasCaughtUp}
 use Rattle.job_store.proofs.moves.follow.Goals as goal
 
-pub follow-requires-clause-known : goal.follow-requires-clause-known
-follow-requires-clause-known c = subst (λ x. AreKnown c.args.shelves.now x c.args.shelves.now.went.items) (sym c.by_id.ensures.jobs) c.requires.known
+pub follow-requires : goal.follow-requires
+follow-requires c = subst (λ x. HoldJobs c.args.shelves.now x c.args.shelves.now.went.items) (sym c.by_id.ensures.jobs) c.requires
 
-pub returns-clause-known : goal.returns-clause-known
-returns-clause-known c = subst (λ x. AreKnown c.follow.new.self x c.follow.new.self.went.items) c.by_id.ensures.jobs c.follow.ensures.known
+pub returns : goal.returns
+returns c =
+    subst (λ b. HasCaughtUp b c.args.shelves.now c.follow.new.self c.args.jobs.now.jobs) c.is_trial.ensures
+    (subst (HasCaughtUp c.is_trial.result c.args.shelves.now c.follow.new.self) c.by_id.ensures.jobs c.follow.ensures)

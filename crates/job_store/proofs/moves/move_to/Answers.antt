@@ -3,35 +3,43 @@ use Rattle.job_store.specs.Entries.{value_at}
 use Rattle.job_store.specs.Spots.{spot_of}
 use Rattle.job_store.specs.States.{with_pri_and_state}
 use Rattle.job_store.specs.EntryLaws.{altered-absent}
-use Rattle.job_store.proofs.shelving.Following.{followed-stay, followed-altered, grown-moved}
+use Rattle.job_store.proofs.shelving.Following.{moves-none, moves-nothing, followed-altered, grown-moved}
 use Rattle.job_store.proofs.moves.move_to.Goals as goal
 
-pub returns-in_default-clause-jobs : goal.returns-in_default-clause-jobs
-returns-in_default-clause-jobs c =
-    sym (altered-absent c.args.change.now.id
-    (with_pri_and_state c.args.change.now.pri c.args.change.now.state) c.args.jobs.now.jobs
-    (ap (value_at c.args.change.now.id) (sym c.by_id.ensures.jobs) ∙ sym c.in_default.ensures.value))
+pub returns-in_default-clause-moved : goal.returns-in_default-clause-moved
+returns-in_default-clause-moved c =
+    moves-nothing c.args.shelves.now c.args.jobs.now _
+    (sym (altered-absent c.args.change.now.id (with_pri_and_state c.args.change.now.pri c.args.change.now.state) c.args.jobs.now.jobs
+    (ap (value_at c.args.change.now.id) (sym c.by_id.ensures.jobs) ∙ sym c.in_default.ensures.value)))
+    c.by_id.ensures.rising
 
-pub returns-in_err-put_changed-clause-followed : goal.returns-in_err-put_changed-clause-followed
-returns-in_err-put_changed-clause-followed c =
-    followed-stay c.args.shelves.now c.put_changed.new.self c.args.jobs.now.jobs c.args.jobs.now.jobs refl
-    c.in_err-put_changed.ensures.doubt
+pub returns-in_err-put_changed-clause-moved : goal.returns-in_err-put_changed-clause-moved
+returns-in_err-put_changed-clause-moved c =
+    moves-none c.args.shelves.now c.put_changed.new.self c.args.jobs.now c.args.jobs.now _ c.from_residual.result
+    c.from_residual.ensures.0 refl refl c.by_id.ensures.rising
+    c.in_err-put_changed.ensures.put.grown c.in_err-put_changed.ensures.put.doubt
 
-pub returns-in_err-set-clause-followed : goal.returns-in_err-set-clause-followed
-returns-in_err-set-clause-followed c =
-    followed-stay c.args.shelves.now c.put_changed.new.self c.args.jobs.now.jobs c.set.new.self.jobs
-    c.in_err-set.ensures.err c.in_ok-put_changed.ensures.doubt
+pub returns-in_err-set-clause-moved : goal.returns-in_err-set-clause-moved
+returns-in_err-set-clause-moved c =
+    moves-none c.args.shelves.now c.put_changed.new.self c.args.jobs.now c.set.new.self _
+    c.from_residual-in_err-set.result c.from_residual-in_err-set.ensures.0 c.in_err-set.ensures.err
+    c.in_err-set.ensures.before c.in_err-set.ensures.rising c.in_ok-put_changed.ensures.put.grown
+    c.in_ok-put_changed.ensures.put.doubt
 
-pub returns-clause-grown : goal.returns-clause-grown
-returns-clause-grown c = grown-moved c.args.shelves.now c.put_changed.new.self c.keep_last.new.self
-    c.keep_last.ensures.shelves c.keep_last.ensures.came c.in_ok-put_changed.ensures.grown
-
-pub returns-clause-followed : goal.returns-clause-followed
-returns-clause-followed c =
-    followed-altered c.args.shelves.now c.put_changed.new.self c.keep_last.new.self c.args.change.now.id _ _
-    (with_pri_and_state c.args.change.now.pri c.args.change.now.state) c.in-Some.job.now c.args.jobs.now.jobs
-    c.set.new.self.jobs c.by_id.ensures.rising
-    (c.in-Some.ensures.value ∙ ap (value_at c.args.change.now.id) c.by_id.ensures.jobs) c.in_ok-set.ensures.ok
-    c.keep_last.ensures.shelves
-    (c.keep_last.ensures.went (c.args.shelves.now.went.items ++ (c.args.change.now.id, spot_of c.in-Some.job.now) ∷ []) _ c.in_ok-put_changed.ensures.went)
-    c.in_ok-put_changed.ensures.only c.in_ok-put_changed.ensures.come
+pub returns-clause-moved : goal.returns-clause-moved
+returns-clause-moved c = record {
+  ok = c.in_ok-set.ensures.ok;
+  err = tt;
+  rising = c.in_ok-set.ensures.rising;
+  before = c.in_ok-set.ensures.before;
+  grown = grown-moved c.args.shelves.now c.put_changed.new.self c.keep_last.new.self c.keep_last.ensures.shelves
+      c.keep_last.ensures.came c.in_ok-put_changed.ensures.put.grown;
+  followed = followed-altered c.args.shelves.now c.put_changed.new.self c.keep_last.new.self c.args.change.now.id _ _
+      (with_pri_and_state c.args.change.now.pri c.args.change.now.state) c.in-Some.job.now c.args.jobs.now.jobs
+      c.set.new.self.jobs c.by_id.ensures.rising
+      (c.in-Some.ensures.value ∙ ap (value_at c.args.change.now.id) c.by_id.ensures.jobs) c.in_ok-set.ensures.ok
+      c.keep_last.ensures.shelves
+      (c.keep_last.ensures.went (c.args.shelves.now.went.items ++ (c.args.change.now.id, spot_of c.in-Some.job.now) ∷ []) _
+      c.in_ok-put_changed.ensures.went)
+      c.in_ok-put_changed.ensures.put.only c.in_ok-put_changed.ensures.put.come;
+}

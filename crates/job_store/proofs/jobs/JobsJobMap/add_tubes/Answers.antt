@@ -1,38 +1,35 @@
-use Rattle.std.proofs.Common.{◌≡◌, true, inl, inr, subst, ap}
+use Rattle.std.proofs.Common.{inl, inr, subst, ap}
 use Rattle.std.proofs.lemmas.Result.{on_ok_weaker}
 use Rattle.object.specs.Lists.{In}
-use Rattle.job_store.specs.LookUps.{has_jobs}
 use Rattle.job_store.specs.Undone.{MapState}
 use Rattle.job_store.specs.Shelves.{HavePlaces}
 use Rattle.job_store.proofs.readiness.TubeJobs.{shelved}
-use Rattle.job_store.proofs.naming.NameSets.{only-then}
+use Rattle.job_store.proofs.naming.NameSets.{adds-twice}
 use Rattle.job_store.proofs.jobs.JobsJobMap.add_tubes.Goals as goal
 
 pub returns-in_err-add_shelved-2-clause-kept : goal.returns-in_err-add_shelved-2-clause-kept
-returns-in_err-add_shelved-2-clause-kept c = λ t i. c.add_shelved-2.ensures.kept t (c.add_shelved.ensures.kept t i)
+returns-in_err-add_shelved-2-clause-kept c = (adds-twice c.add_shelved.ensures.added c.add_shelved-2.ensures.added).kept
 
 pub returns-in_err-add_shelved-2-clause-only : goal.returns-in_err-add_shelved-2-clause-only
-returns-in_err-add_shelved-2-clause-only c =
-    only-then (λ t. has_jobs t c.args.self.now.jobs ≡ true) _ _ _ c.add_shelved.ensures.only
-    c.add_shelved-2.ensures.only
+returns-in_err-add_shelved-2-clause-only c = (adds-twice c.add_shelved.ensures.added c.add_shelved-2.ensures.added).only
 
 pub returns-in_err-add_shelved-3-clause-kept : goal.returns-in_err-add_shelved-3-clause-kept
-returns-in_err-add_shelved-3-clause-kept c = λ t i. c.add_shelved-3.ensures.kept t (c.add_shelved-2.ensures.kept t (c.add_shelved.ensures.kept t i))
+returns-in_err-add_shelved-3-clause-kept c =
+    (adds-twice (adds-twice c.add_shelved.ensures.added c.add_shelved-2.ensures.added) c.add_shelved-3.ensures.added).kept
 
 pub returns-in_err-add_shelved-3-clause-only : goal.returns-in_err-add_shelved-3-clause-only
 returns-in_err-add_shelved-3-clause-only c =
-    only-then (λ t. has_jobs t c.args.self.now.jobs ≡ true) _ _ _
-    (only-then (λ t. has_jobs t c.args.self.now.jobs ≡ true) _ _ _ c.add_shelved.ensures.only
-    c.add_shelved-2.ensures.only) c.add_shelved-3.ensures.only
+    (adds-twice (adds-twice c.add_shelved.ensures.added c.add_shelved-2.ensures.added) c.add_shelved-3.ensures.added).only
 
 pub returns-clause-kept : goal.returns-clause-kept
-returns-clause-kept c = λ t i. c.add_shelved-4.ensures.kept t (c.add_shelved-3.ensures.kept t (c.add_shelved-2.ensures.kept t (c.add_shelved.ensures.kept t i)))
+returns-clause-kept c =
+    (adds-twice (adds-twice (adds-twice c.add_shelved.ensures.added c.add_shelved-2.ensures.added) c.add_shelved-3.ensures.added)
+    c.add_shelved-4.ensures.added).kept
 
 pub returns-clause-only : goal.returns-clause-only
-returns-clause-only c = only-then (λ t. has_jobs t c.args.self.now.jobs ≡ true) _ _ _
-    (only-then (λ t. has_jobs t c.args.self.now.jobs ≡ true) _ _ _
-    (only-then (λ t. has_jobs t c.args.self.now.jobs ≡ true) _ _ _ c.add_shelved.ensures.only
-    c.add_shelved-2.ensures.only) c.add_shelved-3.ensures.only) c.add_shelved-4.ensures.only
+returns-clause-only c =
+    (adds-twice (adds-twice (adds-twice c.add_shelved.ensures.added c.add_shelved-2.ensures.added) c.add_shelved-3.ensures.added)
+    c.add_shelved-4.ensures.added).only
 
 pub returns-clause-all : goal.returns-clause-all
 returns-clause-all c =
@@ -40,13 +37,13 @@ returns-clause-all c =
     (λ last t has.
     let placed : HavePlaces c.self.inside.shelves c.args.self.now.jobs =
     subst (HavePlaces c.self.inside.shelves)
-    (ap (λ (m : MapState). m.jobs) c.self.view_is) c.self.invariant.placed in
+    (ap (λ (m : MapState). m.jobs) c.self.view_is) c.self.invariant.held.placed in
     elim (shelved c.self.inside.shelves c.args.self.now.jobs t placed has).one as (λ v. In t c.add_shelved-4.new.names.keys) [
-      | inl ready ↦ c.add_shelved-4.ensures.kept t
-          (c.add_shelved-3.ensures.kept t
-          (c.add_shelved-2.ensures.kept t (c.in_ok-add_shelved.ensures.all t has ready)))
-      | inr (inl delayed) ↦ c.add_shelved-4.ensures.kept t (c.add_shelved-3.ensures.kept t (c.in_ok-add_shelved-2.ensures.all t has delayed))
-      | inr (inr (inl buried)) ↦ c.add_shelved-4.ensures.kept t (c.in_ok-add_shelved-3.ensures.all t has buried)
+      | inl ready ↦ c.add_shelved-4.ensures.added.kept t
+          (c.add_shelved-3.ensures.added.kept t
+          (c.add_shelved-2.ensures.added.kept t (c.in_ok-add_shelved.ensures.all t has ready)))
+      | inr (inl delayed) ↦ c.add_shelved-4.ensures.added.kept t (c.add_shelved-3.ensures.added.kept t (c.in_ok-add_shelved-2.ensures.all t has delayed))
+      | inr (inr (inl buried)) ↦ c.add_shelved-4.ensures.added.kept t (c.in_ok-add_shelved-3.ensures.all t has buried)
       | inr (inr (inr reserved)) ↦ last t has reserved
     ])
     c.add_shelved-4.ensures.all

@@ -3,5 +3,4 @@ use Rattle.job_store.proofs.jobs.JobsJobMap.begin.Goals as goal
 
 pub invariant_of-self : goal.invariant_of-self
 invariant_of-self c =
-    kept-begun c.sweep.new.shelves c.self.inside.jobs c.begin.new.self c.begin.ensures.jobs c.begin.ensures.before
-    c.sweep.ensures.rising c.sweep.ensures.placed c.sweep.ensures.ahead c.sweep.ensures.known c.sweep.ensures.listed
+    kept-begun c.sweep.new.shelves c.self.inside.jobs c.begin.new.self c.begin.ensures.jobs c.begin.ensures.before c.sweep.ensures

@@ -48,4 +48,4 @@ pub returns-clause-job : goal.returns-clause-job
 returns-clause-job c =
     least-shown-by (ready_in (not_paused (keys_of c.args.paused.now.entries) c.args.tubes.now.keys)) pri_of_job
     (λ e. (e.0, e.1.now)) c.args.self.now.jobs _ _ c.loop-tube.best
-    (subst (Rising 0 (2 ^ 64)) (ap (λ (m : MapState). m.jobs) c.self.view_is) c.self.invariant.rising) (returns-clause-found c) (returns-clause-none c)
+    (subst (Rising 0 (2 ^ 64)) (ap (λ (m : MapState). m.jobs) c.self.view_is) c.self.invariant.held.rising) (returns-clause-found c) (returns-clause-none c)

@@ -3,5 +3,4 @@ use Rattle.job_store.proofs.jobs.JobsJobMap.commit.Goals as goal
 
 pub invariant_of-self : goal.invariant_of-self
 invariant_of-self c =
-    kept-ended c.sweep.new.shelves c.self.inside.jobs c.commit.new.self c.commit.ensures.jobs c.commit.ensures.before
-    c.sweep.ensures.rising c.sweep.ensures.placed c.sweep.ensures.ahead c.sweep.ensures.known c.sweep.ensures.listed
+    kept-ended c.sweep.new.shelves c.self.inside.jobs c.commit.new.self c.commit.ensures.jobs c.commit.ensures.before c.sweep.ensures

@@ -1,5 +1,4 @@
 use Rattle.std.proofs.Common.{◌^◌, ap, subst, sym, ◌∙◌}
-use Rattle.object.specs.Lists.{In}
 use Rattle.job_store.specs.declared.label.Label.{Label}
 use Rattle.job_store.specs.Undone.{MapState}
 use Rattle.job_store.specs.Entries.{Rising}
@@ -7,13 +6,12 @@ use Rattle.job_store.specs.Least.{IsLeast, NonePasses}
 use Rattle.job_store.specs.LookUps.{due_by, due_of_job}
 use Rattle.job_store.proofs.least.Least.{least-only, least-nothing}
 use Rattle.job_store.proofs.shelving.Following.{due-found, due-later, due-none}
+use Rattle.job_store.proofs.shelving.Following.{looks-up}
 use Rattle.job_store.proofs.jobs.JobsJobMap.due.Goals as goal
 use Rattle.job_store.proofs.jobs.JobsJobMap.due.Goals.{in_default-via-in-Some+else-is_due, in_default-via-in_default}
 
-pub first-requires-clause-all : goal.first-requires-clause-all
-first-requires-clause-all c p e i b =
-    let there : In e c.self.inside.jobs.jobs = subst (In e) c.by_id.ensures.jobs i in
-    (c.self.invariant.placed e there Label.Scheduled p b, c.self.invariant.ahead e there Label.Scheduled p b)
+pub first-requires : goal.first-requires
+first-requires c = looks-up Label.Scheduled c.by_id.ensures.jobs c.self.invariant
 
 pub returns-in-Some-clause-found : goal.returns-in-Some-clause-found
 returns-in-Some-clause-found c =
@@ -24,7 +22,7 @@ returns-in-Some-clause-found c =
 pub returns-in-Some-clause-job : goal.returns-in-Some-clause-job
 returns-in-Some-clause-job c =
     sym (least-only (due_by c.args.second) due_of_job c.args.self.now.jobs _ _ (c.in-Some.id, c.in-Some.job.now)
-    (subst (Rising 0 (2 ^ 64)) (ap (λ (m : MapState). m.jobs) c.self.view_is) c.self.invariant.rising) (returns-in-Some-clause-found c))
+    (subst (Rising 0 (2 ^ 64)) (ap (λ (m : MapState). m.jobs) c.self.view_is) c.self.invariant.held.rising) (returns-in-Some-clause-found c))
 
 pub returns-in_default-clause-none : goal.returns-in_default-clause-none
 returns-in_default-clause-none c =

@@ -1,5 +1,4 @@
 use Rattle.std.proofs.Common.{◌^◌, ap, subst, sym, ◌∙◌}
-use Rattle.object.specs.Lists.{In}
 use Rattle.job_store.specs.declared.label.Label.{Label}
 use Rattle.job_store.specs.Undone.{MapState}
 use Rattle.job_store.specs.Entries.{Rising}
@@ -7,13 +6,12 @@ use Rattle.job_store.specs.Least.{IsLeast, NonePasses}
 use Rattle.job_store.specs.LookUps.{due_after, due_of_job}
 use Rattle.job_store.proofs.least.Least.{least-only, least-nothing}
 use Rattle.job_store.proofs.shelving.Following.{due-found-after, due-later-after, due-none-after}
+use Rattle.job_store.proofs.shelving.Following.{looks-up}
 use Rattle.job_store.proofs.jobs.JobsJobMap.due_after.Goals as goal
 use Rattle.job_store.proofs.jobs.JobsJobMap.due_after.Goals.{in_default-via-in-Some+else-is_due, in_default-via-in_default}
 
-pub first_after-requires-clause-all : goal.first_after-requires-clause-all
-first_after-requires-clause-all c p e i b =
-    let there : In e c.self.inside.jobs.jobs = subst (In e) c.by_id.ensures.jobs i in
-    (c.self.invariant.placed e there Label.Scheduled p b, c.self.invariant.ahead e there Label.Scheduled p b)
+pub first_after-requires : goal.first_after-requires
+first_after-requires c = looks-up Label.Scheduled c.by_id.ensures.jobs c.self.invariant
 
 pub returns-in-Some-clause-found : goal.returns-in-Some-clause-found
 returns-in-Some-clause-found c =
@@ -25,7 +23,7 @@ returns-in-Some-clause-found c =
 pub returns-in-Some-clause-job : goal.returns-in-Some-clause-job
 returns-in-Some-clause-job c =
     sym (least-only (due_after c.args.second c.args.place) due_of_job c.args.self.now.jobs _ _ (c.in-Some.id, c.in-Some.job.now)
-    (subst (Rising 0 (2 ^ 64)) (ap (λ (m : MapState). m.jobs) c.self.view_is) c.self.invariant.rising) (returns-in-Some-clause-found c))
+    (subst (Rising 0 (2 ^ 64)) (ap (λ (m : MapState). m.jobs) c.self.view_is) c.self.invariant.held.rising) (returns-in-Some-clause-found c))
 
 pub returns-in_default-clause-none : goal.returns-in_default-clause-none
 returns-in_default-clause-none c =

@@ -1,17 +1,15 @@
 use Rattle.std.proofs.Common.{ℕ, Bool, [], ◌∷◌, IfSome, IfNone, subst, sym, ap, ◌∙◌}
-use Rattle.object.specs.Lists.{In}
 use Rattle.job_store.specs.declared.job.Job.{Job}
 use Rattle.job_store.specs.declared.label.Label.{Label}
 use Rattle.job_store.specs.Undone.{MapState}
 use Rattle.job_store.specs.Least.{IsLeast, NonePasses, least}
 use Rattle.job_store.specs.LookUps.{ready_in, pri_of_job}
 use Rattle.job_store.proofs.readiness.Readiness.{ready-test}
+use Rattle.job_store.proofs.shelving.Following.{looks-up}
 use Rattle.job_store.proofs.jobs.JobsJobMap.first_ready.Goals as goal
 
-pub first-requires-clause-all : goal.first-requires-clause-all
-first-requires-clause-all c p e i b =
-    let there : In e c.self.inside.jobs.jobs = subst (In e) c.by_id.ensures.jobs i in
-    (c.self.invariant.placed e there (Label.Ready c.args.tube) p b, c.self.invariant.ahead e there (Label.Ready c.args.tube) p b)
+pub first-requires : goal.first-requires
+first-requires c = looks-up (Label.Ready c.args.tube) c.by_id.ensures.jobs c.self.invariant
 
 pub returns-clause-job : goal.returns-clause-job
 returns-clause-job c =

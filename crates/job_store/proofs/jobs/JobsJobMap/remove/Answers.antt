@@ -1,8 +1,9 @@
-use Rattle.std.proofs.Common.{ap, sym, subst, ◌∙◌}
+use Rattle.std.proofs.Common.{◌^◌, ap, sym, subst, ◌∙◌}
 use Rattle.object.specs.Lists.{In}
+use Rattle.job_store.specs.Entries.{Rising}
 use Rattle.job_store.specs.Undone.{MapState}
 use Rattle.job_store.specs.Shelves.{HasTaken}
-use Rattle.job_store.proofs.shelving.Following.{ahead-without, kept-removed, kept-absent}
+use Rattle.job_store.proofs.shelving.Following.{reach-without, kept-removed, kept-absent}
 use Rattle.job_store.proofs.jobs.JobsJobMap.remove.Goals as goal
 
 pub invariant_of-self : goal.invariant_of-self
@@ -20,7 +21,8 @@ invariant_of-self-2 c =
     (subst (HasTaken c.self.inside.shelves c.take_everywhere.new.self) c.by_id.ensures.jobs c.take_everywhere.ensures.taken)
     (λ l p i b. let w = c.take_everywhere.ensures.gone l p i b in (w.0, w.1, subst (In w.0) c.by_id.ensures.jobs w.2))
 
-pub take_everywhere-requires-clause-ahead : goal.take_everywhere-requires-clause-ahead
-take_everywhere-requires-clause-ahead c =
-    ahead-without c.self.inside.shelves c.args.id c.self.inside.jobs.jobs c.by_id.result.now.entries
-    c.self.invariant.ahead (c.by_id.ensures.jobs ∙ c.remove.ensures.jobs)
+pub take_everywhere-requires : goal.take_everywhere-requires
+take_everywhere-requires c =
+    reach-without c.self.inside.shelves c.args.id c.self.inside.jobs.jobs c.by_id.result.now.entries _ c.self.invariant.held
+    (subst (Rising 0 (2 ^ 64)) (sym c.by_id.ensures.jobs) c.by_id.ensures.rising)
+    (c.by_id.ensures.jobs ∙ c.remove.ensures.jobs)

@@ -6,9 +6,8 @@ use Rattle.object.specs.Lists.{In}
 use Rattle.job_store.specs.declared.job.Job.{Job}
 use Rattle.job_store.specs.ShelfStates.{ShelfState, numbered_place, IsFound}
 use Rattle.job_store.specs.Shelves.{BelongsAt, belongs, number}
-use Rattle.job_store.proofs.shelving.Places.{shelf_cmp, AreAllOn, sorted-rest, none-here, none-on, first-is-least}
+use Rattle.job_store.proofs.shelving.Places.{shelf_cmp, AreAllOn, sorted-rest, none-here, none-on, first-is-least, finds-some, finds-none}
 use Rattle.job_store.proofs.shelving.Numbered.{pair_cmp, ranged-of, ranged-sorted}
-use Rattle.job_store.proofs.least.Least.{least-only, least-nothing}
 use Rattle.job_store.proofs.shelf.Shelf.first.Goals as goal
 
 pub loop-place-init : goal.loop-place-init
@@ -47,22 +46,10 @@ loop-place-preserved g c =
           c.loop-place.invariant.1),
     )
 
-pub returns-in-Some-job_at-clause-found : goal.returns-in-Some-job_at-clause-found
-returns-in-Some-job_at-clause-found g c =
+pub returns-in-Some-job_at : goal.returns-in-Some-job_at
+returns-in-Some-job_at g c =
     let rest : c.loop-place.place-iterator ≡ c.in-Some.place.now ∷ c.next.new.self = search rules in
-    first-is-least c.args.label (numbered_place g.N.ShelfNumber.value c.in-Some.place.now)
-    (map (numbered_place g.N.ShelfNumber.value) c.next.new.self) c.args.jobs.now.entries
-    (c.in-Some.place.now.1, c.in-Some-job_at.job.now)
-    (subst (λ ks. AreAllOn c.args.label (map (numbered_place g.N.ShelfNumber.value) ks) c.args.jobs.now.entries) rest c.loop-place.invariant.0)
-    (subst (λ ks. IsStrictlySortedBy shelf_cmp (map (numbered_place g.N.ShelfNumber.value) ks)) rest c.loop-place.invariant.1)
-    c.in-Some-job_at.ensures.found.0
-    (subst (λ n. BelongsAt c.args.label (n, c.in-Some.place.now.1) (c.in-Some.place.now.1, c.in-Some-job_at.job.now))
-    c.wide.ensures c.in-Some-job_at.ensures.found.1)
-
-pub returns-in-Some-job_at-clause-job : goal.returns-in-Some-job_at-clause-job
-returns-in-Some-job_at-clause-job g c =
-    let rest : c.loop-place.place-iterator ≡ c.in-Some.place.now ∷ c.next.new.self = search rules in
-    sym (least-only (belongs c.args.label) (number c.args.label) c.args.jobs.now.entries _ _ (c.in-Some.place.now.1, c.in-Some-job_at.job.now) c.requires.rising
+    finds-some (belongs c.args.label) (number c.args.label) c.args.jobs.now.entries _ _ (c.in-Some.place.now.1, c.in-Some-job_at.job) c.requires.rising
     (first-is-least c.args.label (numbered_place g.N.ShelfNumber.value c.in-Some.place.now)
     (map (numbered_place g.N.ShelfNumber.value) c.next.new.self) c.args.jobs.now.entries
     (c.in-Some.place.now.1, c.in-Some-job_at.job.now)
@@ -70,12 +57,12 @@ returns-in-Some-job_at-clause-job g c =
     (subst (λ ks. IsStrictlySortedBy shelf_cmp (map (numbered_place g.N.ShelfNumber.value) ks)) rest c.loop-place.invariant.1)
     c.in-Some-job_at.ensures.found.0
     (subst (λ n. BelongsAt c.args.label (n, c.in-Some.place.now.1) (c.in-Some.place.now.1, c.in-Some-job_at.job.now))
-    c.wide.ensures c.in-Some-job_at.ensures.found.1)))
+    c.wide.ensures c.in-Some-job_at.ensures.found.1))
 
-pub returns-clause-job : goal.returns-clause-job
-returns-clause-job g c =
+pub returns : goal.returns
+returns g c =
     let rest : c.loop-place.place-iterator ≡ [] = search rules in
-    least-nothing (belongs c.args.label) (number c.args.label) c.args.jobs.now.entries
+    finds-none (belongs c.args.label) (number c.args.label) c.args.jobs.now.entries
     (none-on c.args.label c.args.jobs.now.entries
     (subst (λ ks. AreAllOn c.args.label (map (numbered_place g.N.ShelfNumber.value) ks) c.args.jobs.now.entries)
     rest c.loop-place.invariant.0))

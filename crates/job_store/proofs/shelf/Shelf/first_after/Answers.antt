@@ -5,8 +5,9 @@ use Rattle.std.specs.declared.ops.Bound.TheVariants.{Excluded, Unbounded}
 use Rattle.object.specs.Lists.{In}
 use Rattle.job_store.specs.declared.job.Job.{Job}
 use Rattle.job_store.specs.ShelfStates.{ShelfState, numbered_place, IsFound}
-use Rattle.job_store.specs.Shelves.{BelongsAt}
+use Rattle.job_store.specs.Shelves.{BelongsAt, belongs_after, number}
 use Rattle.job_store.proofs.shelving.Places.{shelf_cmp, AreAllAfter, AreAfter, sorted-rest, none-here-after, none-after, first-after-is-least}
+use Rattle.job_store.proofs.shelving.Places.{finds-some, finds-none}
 use Rattle.job_store.proofs.shelving.Numbered.{pair_cmp, after-kept, after-only, after-sorted}
 use Rattle.job_store.proofs.shelf.Shelf.first_after.Goals as goal
 
@@ -46,11 +47,13 @@ loop-place-preserved g c =
       λ p i. (subst (λ ks. AreAfter (numbered_place value c.args.after) (map (numbered_place value) ks)) rest c.loop-place.invariant.2) p (inr i),
     )
 
-pub returns-in-Some-job_at-clause-found : goal.returns-in-Some-job_at-clause-found
-returns-in-Some-job_at-clause-found g c =
+pub returns-in-Some-job_at : goal.returns-in-Some-job_at
+returns-in-Some-job_at g c =
     let value = g.N.ShelfNumber.value in
     let rest : c.loop-place.place-iterator ≡ c.in-Some.place.now ∷ c.next.new.self = search rules in
-    first-after-is-least c.args.label (numbered_place value c.args.after) (numbered_place value c.in-Some.place.now)
+    finds-some (belongs_after c.args.label (numbered_place value c.args.after)) (number c.args.label)
+    c.args.jobs.now.entries _ _ (c.in-Some.place.now.1, c.in-Some-job_at.job) c.requires.rising
+    (first-after-is-least c.args.label (numbered_place value c.args.after) (numbered_place value c.in-Some.place.now)
     (map (numbered_place value) c.next.new.self) c.args.jobs.now.entries
     (c.in-Some.place.now.1, c.in-Some-job_at.job.now)
     (subst (λ ks. AreAllAfter c.args.label (numbered_place value c.args.after)
@@ -59,12 +62,14 @@ returns-in-Some-job_at-clause-found g c =
     (subst (λ ks. AreAfter (numbered_place value c.args.after) (map (numbered_place value) ks)) rest c.loop-place.invariant.2)
     c.in-Some-job_at.ensures.found.0
     (subst (λ n. BelongsAt c.args.label (n, c.in-Some.place.now.1) (c.in-Some.place.now.1, c.in-Some-job_at.job.now))
-    c.wide.ensures c.in-Some-job_at.ensures.found.1)
+    c.wide.ensures c.in-Some-job_at.ensures.found.1))
 
-pub returns-clause-none : goal.returns-clause-none
-returns-clause-none g c =
+pub returns : goal.returns
+returns g c =
     let value = g.N.ShelfNumber.value in
     let rest : c.loop-place.place-iterator ≡ [] = search rules in
-    none-after c.args.label (numbered_place value c.args.after) c.args.jobs.now.entries
+    finds-none (belongs_after c.args.label (numbered_place value c.args.after)) (number c.args.label)
+    c.args.jobs.now.entries
+    (none-after c.args.label (numbered_place value c.args.after) c.args.jobs.now.entries
     (subst (λ ks. AreAllAfter c.args.label (numbered_place value c.args.after)
-    (map (numbered_place value) ks) c.args.jobs.now.entries) rest c.loop-place.invariant.0)
+    (map (numbered_place value) ks) c.args.jobs.now.entries) rest c.loop-place.invariant.0))

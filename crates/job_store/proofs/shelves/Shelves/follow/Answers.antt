@@ -1,16 +1,19 @@
-use Rattle.std.proofs.Common.{ℕ, List, ap, subst, sym}
+use Rattle.std.proofs.Common.{◌≡◌, ℕ, List, false, true, ap, sym, ◌∙◌}
 use Rattle.job_store.specs.declared.spot.Spot.{Spot}
-use Rattle.job_store.specs.Shelves.{AreKnown}
-use Rattle.job_store.proofs.shelving.Shelving.{known-settled}
+use Rattle.job_store.proofs.shelving.Shelving.{held-settled, held-listed}
 use Rattle.job_store.proofs.shelves.Shelves.follow.Goals as goal
 
-pub returns-then-is_trial-clause-known : goal.returns-then-is_trial-clause-known
-returns-then-is_trial-clause-known c =
-    subst (AreKnown c.settle.new.self c.args.jobs.now.entries) (sym (ap (λ (x : List (ℕ × Spot) × List (ℕ × Spot)). x.1) c.settle.ensures.lists))
-    (known-settled c.args.self.now c.settle.new.self c.args.jobs.now.entries c.args.jobs.now.entries
-    c.args.self.now.went.items c.settle.ensures c.requires.known)
+pub returns-then-is_trial : goal.returns-then-is_trial
+returns-then-is_trial c = record {
+  held = held-settled c.args.self.now c.settle.new.self c.args.jobs.now.entries c.settle.ensures c.requires;
+  settled = λ on. c.settle.ensures;
+  swept = λ off. let both : true ≡ false = sym c.if-is_trial.true ∙ off in cc;
+}
 
-pub returns-else-is_trial-clause-known : goal.returns-else-is_trial-clause-known
-returns-else-is_trial-clause-known c =
-    subst (AreKnown c.sweep.new.self c.args.jobs.now.entries)
-    (sym (ap (λ (x : List (ℕ × Spot) × List (ℕ × Spot)). x.1) c.sweep.ensures.listed)) c.sweep.ensures.known
+pub returns-else-is_trial : goal.returns-else-is_trial
+returns-else-is_trial c = record {
+  held = held-listed c.sweep.new.self c.args.jobs.now.entries _ _
+      (ap (λ (x : List (ℕ × Spot) × List (ℕ × Spot)). x.1) c.sweep.ensures.listed) c.sweep.ensures.held;
+  settled = λ on. let both : true ≡ false = sym on ∙ c.if-is_trial.false in cc;
+  swept = λ off. c.sweep.ensures.listed;
+}

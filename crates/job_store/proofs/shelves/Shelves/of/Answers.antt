@@ -22,12 +22,7 @@ loop-id-preserved c =
     c.args.jobs.now.entries (search rules) c.in_ok-spot.ensures
     c.in_ok-put_everywhere.ensures.come c.in_ok-put_everywhere.ensures.put c.loop-id.invariant
 
-pub returns-clause-placed : goal.returns-clause-placed
-returns-clause-placed c =
+pub returns : goal.returns
+returns c =
     let none : c.loop-id.id-iterator ≡ [] = search rules in
-    (all-put c.loop-id.shelves c.args.jobs.now.entries (subst (λ rest. ArePut c.loop-id.shelves rest c.args.jobs.now.entries) none c.loop-id.invariant)).0
-
-pub returns-clause-ahead : goal.returns-clause-ahead
-returns-clause-ahead c =
-    let none : c.loop-id.id-iterator ≡ [] = search rules in
-    (all-put c.loop-id.shelves c.args.jobs.now.entries (subst (λ rest. ArePut c.loop-id.shelves rest c.args.jobs.now.entries) none c.loop-id.invariant)).1
+    all-put c.loop-id.shelves c.loop-id.id-iterator c.args.jobs.now.entries c.requires none c.loop-id.invariant

@@ -5,11 +5,11 @@ use Rattle.job_store.proofs.shelving.ShelfFields.{only-held, only-scheduled, set
 use Rattle.job_store.proofs.shelves.Shelves.settle.Goals as goal
 
 pub returns-in-Ready : goal.returns-in-Ready
-returns-in-Ready c = settle-ready c.args.self.now c.settle.new.self c.args.jobs.now.entries c.settle.ensures.moved_on c.settle.ensures.others
+returns-in-Ready c = settle-ready c.args.self.now c.settle.new.self c.args.jobs.now.entries c.settle.ensures.change c.settle.ensures.others
 
 pub returns-in-Buried : goal.returns-in-Buried
 returns-in-Buried c = settle-buried c.args.self.now c.settle-in-Buried.new.self c.args.jobs.now.entries
-    c.settle-in-Buried.ensures.moved_on c.settle-in-Buried.ensures.others
+    c.settle-in-Buried.ensures.change c.settle-in-Buried.ensures.others
 
 pub returns-in-Delayed : goal.returns-in-Delayed
 returns-in-Delayed c =
@@ -17,7 +17,7 @@ returns-in-Delayed c =
     (record c.args.self.now { delayed = c.settle-in-Delayed.new.self; scheduled = c.settle-in-Delayed-2.new.self })
     c.args.jobs.now.entries
     (settle-delayed c.args.self.now c.settle-in-Delayed.new.self c.args.jobs.now.entries
-    c.settle-in-Delayed.ensures.moved_on c.settle-in-Delayed.ensures.others)
+    c.settle-in-Delayed.ensures.change c.settle-in-Delayed.ensures.others)
     (settle-at (record c.args.self.now { delayed = c.settle-in-Delayed.new.self })
     (record (record c.args.self.now { delayed = c.settle-in-Delayed.new.self }) {
       scheduled =
@@ -45,7 +45,7 @@ returns-in-Reserved c =
     (settle-at c.args.self.now (record c.args.self.now { held = c.settle-in-Reserved.new.self })
     (Label.Held c.in-Reserved.session)
     (only-held c.args.self.now c.settle-in-Reserved.new.self c.in-Reserved.session
-    c.settle-in-Reserved.ensures.others) refl c.args.jobs.now.entries c.settle-in-Reserved.ensures.moved_on)
+    c.settle-in-Reserved.ensures.others) refl c.args.jobs.now.entries c.settle-in-Reserved.ensures.change)
     (settle-at (record c.args.self.now { held = c.settle-in-Reserved.new.self })
     (record (record c.args.self.now { held = c.settle-in-Reserved.new.self }) {
       scheduled =
@@ -58,4 +58,4 @@ returns-in-Reserved c =
       scheduled =
           c.settle-in-Reserved-2.new.self;
     }) c.settle-in-Reserved-3.new.self c.args.jobs.now.entries
-    c.settle-in-Reserved-3.ensures.moved_on c.settle-in-Reserved-3.ensures.others)
+    c.settle-in-Reserved-3.ensures.change c.settle-in-Reserved-3.ensures.others)

@@ -1,5 +1,5 @@
 use Rattle.job_store.specs.Spots.{at_spot}
-use Rattle.job_store.proofs.shelving.Everywhere.{taken-twice, ahead-taken, gone-everywhere}
+use Rattle.job_store.proofs.shelving.Everywhere.{taken-twice, reach-taken, gone-everywhere}
 use Rattle.job_store.proofs.shelves.Shelves.take_everywhere.Goals as goal
 
 pub returns-clause-taken : goal.returns-clause-taken
@@ -20,41 +20,22 @@ returns-clause-gone c =
     c.take_from-2.ensures.taken c.take_from-3.ensures.taken c.take_from-4.ensures.taken c.take_from-5.ensures.taken
     c.take_from-6.ensures.taken
 
-pub take_from-requires-2-clause-ahead : goal.take_from-requires-2-clause-ahead
-take_from-requires-2-clause-ahead c =
-    ahead-taken c.args.self.now c.take_from.new.self c.args.jobs.now.entries c.args.jobs.now.entries
-    c.take_from.ensures.taken c.requires.ahead
+pub take_from-requires-2 : goal.take_from-requires-2
+take_from-requires-2 c = reach-taken c.take_from.ensures.taken c.requires
 
-pub take_from-requires-3-clause-ahead : goal.take_from-requires-3-clause-ahead
-take_from-requires-3-clause-ahead c =
-    ahead-taken c.take_from.new.self c.take_from-2.new.self c.args.jobs.now.entries c.args.jobs.now.entries
-    c.take_from-2.ensures.taken (ahead-taken c.args.self.now c.take_from.new.self c.args.jobs.now.entries
-    c.args.jobs.now.entries c.take_from.ensures.taken c.requires.ahead)
+pub take_from-requires-3 : goal.take_from-requires-3
+take_from-requires-3 c = reach-taken c.take_from-2.ensures.taken (reach-taken c.take_from.ensures.taken c.requires)
 
-pub take_from-requires-4-clause-ahead : goal.take_from-requires-4-clause-ahead
-take_from-requires-4-clause-ahead c =
-    ahead-taken c.take_from-2.new.self c.take_from-3.new.self c.args.jobs.now.entries c.args.jobs.now.entries
-    c.take_from-3.ensures.taken (ahead-taken c.take_from.new.self c.take_from-2.new.self c.args.jobs.now.entries
-    c.args.jobs.now.entries c.take_from-2.ensures.taken
-    (ahead-taken c.args.self.now c.take_from.new.self c.args.jobs.now.entries c.args.jobs.now.entries
-    c.take_from.ensures.taken c.requires.ahead))
+pub take_from-requires-4 : goal.take_from-requires-4
+take_from-requires-4 c =
+    reach-taken c.take_from-3.ensures.taken (reach-taken c.take_from-2.ensures.taken (reach-taken c.take_from.ensures.taken c.requires))
 
-pub take_from-requires-5-clause-ahead : goal.take_from-requires-5-clause-ahead
-take_from-requires-5-clause-ahead c =
-    ahead-taken c.take_from-3.new.self c.take_from-4.new.self c.args.jobs.now.entries c.args.jobs.now.entries
-    c.take_from-4.ensures.taken (ahead-taken c.take_from-2.new.self c.take_from-3.new.self c.args.jobs.now.entries
-    c.args.jobs.now.entries c.take_from-3.ensures.taken
-    (ahead-taken c.take_from.new.self c.take_from-2.new.self c.args.jobs.now.entries c.args.jobs.now.entries
-    c.take_from-2.ensures.taken (ahead-taken c.args.self.now c.take_from.new.self c.args.jobs.now.entries
-    c.args.jobs.now.entries c.take_from.ensures.taken c.requires.ahead)))
+pub take_from-requires-5 : goal.take_from-requires-5
+take_from-requires-5 c =
+    reach-taken c.take_from-4.ensures.taken
+    (reach-taken c.take_from-3.ensures.taken (reach-taken c.take_from-2.ensures.taken (reach-taken c.take_from.ensures.taken c.requires)))
 
-pub take_from-requires-6-clause-ahead : goal.take_from-requires-6-clause-ahead
-take_from-requires-6-clause-ahead c =
-    ahead-taken c.take_from-4.new.self c.take_from-5.new.self c.args.jobs.now.entries c.args.jobs.now.entries
-    c.take_from-5.ensures.taken (ahead-taken c.take_from-3.new.self c.take_from-4.new.self c.args.jobs.now.entries
-    c.args.jobs.now.entries c.take_from-4.ensures.taken
-    (ahead-taken c.take_from-2.new.self c.take_from-3.new.self c.args.jobs.now.entries c.args.jobs.now.entries
-    c.take_from-3.ensures.taken (ahead-taken c.take_from.new.self c.take_from-2.new.self c.args.jobs.now.entries
-    c.args.jobs.now.entries c.take_from-2.ensures.taken
-    (ahead-taken c.args.self.now c.take_from.new.self c.args.jobs.now.entries c.args.jobs.now.entries
-    c.take_from.ensures.taken c.requires.ahead))))
+pub take_from-requires-6 : goal.take_from-requires-6
+take_from-requires-6 c =
+    reach-taken c.take_from-5.ensures.taken (reach-taken c.take_from-4.ensures.taken
+    (reach-taken c.take_from-3.ensures.taken (reach-taken c.take_from-2.ensures.taken (reach-taken c.take_from.ensures.taken c.requires))))

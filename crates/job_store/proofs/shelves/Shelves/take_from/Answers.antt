@@ -21,11 +21,11 @@ returns-in-Ready-clause-taken c =
     (untaken c.args.label c.args.id c.number-number.result c.args.spot.now c.args.jobs.now.entries
     (sym (c.fits.ensures c.args.id c.args.spot.now.pri 0 []) ∙ c.if-not-fits.false)
     (c.number-number.ensures 0 c.args.spot.now.tube []) (c.is_taken.ensures.no c.if-is_taken.false))))
-    c.take.ensures.lost
+    c.take.ensures.change
 
 pub returns-in-Ready-clause-gone : goal.returns-in-Ready-clause-gone
 returns-in-Ready-clause-gone c p i b =
-    absurd ((c.take.ensures.lost.only p
+    absurd ((c.take.ensures.change.only p
     (subst (λ (l : Label). In p (places (record c.args.self.now { ready = c.take.new.self }) l)) c.in-Ready.is i)).1
     (only-place c.args.label c.args.id c.args.spot.now.pri (at_spot c.args.spot.now) p
     (ap (λ (l : Label). number l (at_spot c.args.spot.now)) (sym c.in-Ready.is)) b))
@@ -41,11 +41,11 @@ returns-in-Delayed-clause-taken c =
     (untaken c.args.label c.args.id c.number-number.result c.args.spot.now c.args.jobs.now.entries
     (sym (c.fits.ensures c.args.id c.args.spot.now.pri 0 []) ∙ c.if-not-fits.false)
     (c.number-number.ensures 0 c.args.spot.now.tube []) (c.is_taken.ensures.no c.if-is_taken.false)))
-    c.take-in-Delayed.ensures.lost
+    c.take-in-Delayed.ensures.change
 
 pub returns-in-Delayed-clause-gone : goal.returns-in-Delayed-clause-gone
 returns-in-Delayed-clause-gone c p i b =
-    absurd ((c.take-in-Delayed.ensures.lost.only p
+    absurd ((c.take-in-Delayed.ensures.change.only p
     (subst (λ (l : Label). In p (places (record c.args.self.now { delayed = c.take-in-Delayed.new.self }) l))
     c.in-Delayed.is i)).1 (only-place c.args.label c.args.id _ (at_spot c.args.spot.now) p
     (c.number-number.ensures 0 c.args.spot.now.tube []) b))
@@ -61,11 +61,11 @@ returns-in-Buried-clause-taken c =
     (untaken c.args.label c.args.id c.number-number.result c.args.spot.now c.args.jobs.now.entries
     (sym (c.fits.ensures c.args.id c.args.spot.now.pri 0 []) ∙ c.if-not-fits.false)
     (c.number-number.ensures 0 c.args.spot.now.tube []) (c.is_taken.ensures.no c.if-is_taken.false)))
-    c.take-in-Buried.ensures.lost
+    c.take-in-Buried.ensures.change
 
 pub returns-in-Buried-clause-gone : goal.returns-in-Buried-clause-gone
 returns-in-Buried-clause-gone c p i b =
-    absurd ((c.take-in-Buried.ensures.lost.only p
+    absurd ((c.take-in-Buried.ensures.change.only p
     (subst (λ (l : Label). In p (places (record c.args.self.now { buried = c.take-in-Buried.new.self }) l))
     c.in-Buried.is i)).1 (only-place c.args.label c.args.id _ (at_spot c.args.spot.now) p
     (c.number-number.ensures 0 c.args.spot.now.tube []) b))
@@ -80,11 +80,11 @@ returns-in-Held-clause-taken c =
     (untaken c.args.label c.args.id c.number-number.result c.args.spot.now c.args.jobs.now.entries
     (sym (c.fits.ensures c.args.id c.args.spot.now.pri 0 []) ∙ c.if-not-fits.false)
     (c.number-number.ensures 0 c.args.spot.now.tube []) (c.is_taken.ensures.no c.if-is_taken.false)))
-    c.take-in-Held.ensures.lost
+    c.take-in-Held.ensures.change
 
 pub returns-in-Held-clause-gone : goal.returns-in-Held-clause-gone
 returns-in-Held-clause-gone c p i b =
-    absurd ((c.take-in-Held.ensures.lost.only p
+    absurd ((c.take-in-Held.ensures.change.only p
     (subst (λ (l : Label). In p (places (record c.args.self.now { held = c.take-in-Held.new.self }) l)) c.in-Held.is
     i)).1 (only-place c.args.label c.args.id _ (at_spot c.args.spot.now) p
     (c.number-number.ensures 0 c.args.spot.now.tube []) b))
@@ -122,11 +122,11 @@ returns-in-Reserved-clause-taken c =
     (untaken c.args.label c.args.id c.number-number.result c.args.spot.now c.args.jobs.now.entries
     (sym (c.fits.ensures c.args.id c.args.spot.now.pri 0 []) ∙ c.if-not-fits.false)
     (c.number-number.ensures 0 c.args.spot.now.tube []) (c.is_taken.ensures.no c.if-is_taken.false)))
-    c.take-in-Reserved.ensures.lost
+    c.take-in-Reserved.ensures.change
 
 pub returns-in-Reserved-clause-gone : goal.returns-in-Reserved-clause-gone
 returns-in-Reserved-clause-gone c p i b =
-    absurd ((c.take-in-Reserved.ensures.lost.only p
+    absurd ((c.take-in-Reserved.ensures.change.only p
     (subst (λ (l : Label). In p (places (record c.args.self.now { reserved = c.take-in-Reserved.new.self }) l))
     c.in-Reserved.is i)).1 (only-place c.args.label c.args.id _ (at_spot c.args.spot.now) p
     (c.number-number.ensures 0 c.args.spot.now.tube []) b))
