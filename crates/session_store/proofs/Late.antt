@@ -9,7 +9,7 @@ use Rattle.std.specs.BTreeSet.{BTreeSet, contains}
 use Rattle.std.proofs.lemmas.Bool.{cond-true, and_parts, and_from}
 use Rattle.std.proofs.lemmas.Bool.Decides.{nat_tests}
 use Rattle.object.specs.Lists.{In}
-use Rattle.job_store.specs.Entries.{Rising, value_at}
+use Rattle.job_store.specs.Entries.{value_at}
 use Rattle.job_store.specs.EntryLaws.{value_at-In, value_at-found, value_at-below}
 use Rattle.job_store.specs.Least.{least}
 use Rattle.session_store.specs.declared.session.SessionState.{SessionState}
@@ -17,7 +17,7 @@ use Rattle.session_store.specs.declared.session.Wait.{Wait}
 use Rattle.session_store.specs.declared.place.LinePlace.{LinePlace}
 use Rattle.session_store.specs.declared.time_outs.TimeOuts.{TimeOuts}
 use Rattle.session_store.specs.Sessions.{new_session, session_of, is_waiting, wait_rank, has_timed_out, first_waiting}
-use Rattle.session_store.specs.Lines.{line_cmp, place, IsIn, time_out_place, places_by, StandsByTimeOut, EachStands, over_at}
+use Rattle.session_store.specs.Lines.{line_cmp, place, IsIn, time_out_place, places_by, StandsByTimeOut, AllStand, StillStand, over_at}
 use Rattle.session_store.proofs.TubeSets.{stays_but}
 use Rattle.session_store.proofs.Places.{same_place, in_keys, some_place}
 use Rattle.session_store.proofs.Found.{least_alike, mapped-in, mapped-from, filtered-in}
@@ -90,20 +90,20 @@ over_in : (second x : ℕ) (wait : Option Wait) (line : BTreeSet LinePlace) → 
 over_in second x None line below h e = cc
 over_in second x (Some w) line below h e = over_by second x w.time_out line below h e
 
-pub over_found : (second : ℕ) (sessions : List (ℕ × SessionState)) (time_outs : TimeOuts) → Rising 0 (2 ^ 32) sessions
-    → EachStands (StandsByTimeOut time_outs) sessions
+pub over_found : (second : ℕ) (sessions : List (ℕ × SessionState)) (time_outs : TimeOuts)
+    → AllStand (StandsByTimeOut time_outs) sessions
     → least (λ e. true) wait_rank (filter_map (over_at second sessions) (places_by second time_outs.line))
     ≡ first_waiting (λ e. has_timed_out second e.1.wait) sessions
-over_found second sessions time_outs r complete =
-    least_alike (λ e. is_waiting e.1 && has_timed_out second e.1.wait) (λ e. true) wait_rank sessions _ 0 (2 ^ 32) r
+over_found second sessions time_outs all =
+    least_alike (λ e. is_waiting e.1 && has_timed_out second e.1.wait) (λ e. true) wait_rank sessions _ 0 (2 ^ 32) all.rising
     (λ e i _.
     let from = mapped-from (over_at second sessions) e _ i in
     let there = over-from second sessions from.0 e from.2 in
     (there.0, and_from (is_waiting e.1) (has_timed_out second e.1.wait) (over_waits second e.1.wait there.1) there.1))
     (λ e i t.
     let over = (and_parts (is_waiting e.1) (has_timed_out second e.1.wait) t).1 in
-    let v : value_at e.0 sessions ≡ Some e.1 = value_at-In 0 (2 ^ 32) sessions e r i in
-    let p = over_in second e.0 e.1.wait time_outs.line (value_at-below 0 (2 ^ 32) e.0 sessions e.1 r v) (complete e i) over in
+    let v : value_at e.0 sessions ≡ Some e.1 = value_at-In 0 (2 ^ 32) sessions e all.rising i in
+    let p = over_in second e.0 e.1.wait time_outs.line (value_at-below 0 (2 ^ 32) e.0 sessions e.1 all.rising v) (all.each e i) over in
     let seen : over_at second sessions p.0 ≡ Some e =
     over-at second sessions p.0 e.1 (ap (λ x. value_at x sessions) p.2 ∙ v) over ∙ ap (λ x. Some (x, e.1)) p.2 in
     (mapped-in (over_at second sessions) p.0 e _ p.1 seen, refl))
@@ -121,19 +121,22 @@ time_out_place-of x (Some w) p e = time_out_of x w.time_out p e
 
 -- a place at which nobody stands is taken out
 pub late-left : (x : ℕ) (k : LinePlace) (time_outs time_outs' : TimeOuts) (sessions : List (ℕ × SessionState))
-    → Rising 0 (2 ^ 32) sessions → k.session ≡ x → (time_out_place x (session_of x sessions).wait ≡ Some k → ⊥)
+    → k.session ≡ x → (time_out_place x (session_of x sessions).wait ≡ Some k → ⊥)
     → ((p : LinePlace) → contains line_cmp time_outs'.line p
     ≡ cond (is_at (line_cmp k) p) false (contains line_cmp time_outs.line p))
-    → EachStands (StandsByTimeOut time_outs) sessions → EachStands (StandsByTimeOut time_outs') sessions
-late-left x k time_outs time_outs' sessions r whose gone updates h =
-    λ e i.
-    elim (time_out_place e.0 e.1.wait) as (λ o. time_out_place e.0 e.1.wait ≡ o → IfSome o (IsIn time_outs.line) → IfSome o (IsIn time_outs'.line)) [
-      | None ↦ λ _ _. tt
-      | Some p ↦ λ at there.
-          stays_but line_cmp same_place k p time_outs.line time_outs'.line (updates p)
-          (λ same.
-          let who : e.0 ≡ x = sym (time_out_place-of e.0 e.1.wait p at) ∙ ap (λ (q : LinePlace). q.session) (sym same) ∙ whose in
-          let found : value_at x sessions ≡ Some e.1 = ap (λ q. value_at q sessions) (sym who) ∙ value_at-In 0 (2 ^ 32) sessions e r i in
-          gone (ap (λ o. time_out_place x (unwrap_or o new_session).wait) found ∙ ap (λ q. time_out_place q e.1.wait) (sym who) ∙ at ∙ ap Some (sym same)))
-          there
-    ] refl (h e i)
+    → StillStand (StandsByTimeOut time_outs) (StandsByTimeOut time_outs') sessions
+late-left x k time_outs time_outs' sessions whose gone updates all = record {
+  rising = all.rising;
+  each = λ e i.
+      elim (time_out_place e.0 e.1.wait) as (λ o. time_out_place e.0 e.1.wait ≡ o → IfSome o (IsIn time_outs.line) → IfSome o (IsIn time_outs'.line)) [
+        | None ↦ λ _ _. tt
+        | Some p ↦ λ at there.
+            stays_but line_cmp same_place k p time_outs.line time_outs'.line (updates p)
+            (λ same.
+            let who : e.0 ≡ x = sym (time_out_place-of e.0 e.1.wait p at) ∙ ap (λ (q : LinePlace). q.session) (sym same) ∙ whose in
+            let found : value_at x sessions ≡ Some e.1 =
+            ap (λ q. value_at q sessions) (sym who) ∙ value_at-In 0 (2 ^ 32) sessions e all.rising i in
+            gone (ap (λ o. time_out_place x (unwrap_or o new_session).wait) found ∙ ap (λ q. time_out_place q e.1.wait) (sym who) ∙ at ∙ ap Some (sym same)))
+            there
+      ] refl (all.each e i);
+}

@@ -1,23 +1,19 @@
 -- Places in a line.
-use Rattle.std.proofs.Common.{◌≡◌, ℕ, true, false, cond, ◌&&◌, inl, inr, List, [], ◌∷◌, Option, Some, None, IfSome}
+use Rattle.std.proofs.Common.{◌≡◌, ℕ, true, false, ◌&&◌, inl, inr, List, [], ◌∷◌, Option, Some, None, IfSome}
 use Rattle.std.proofs.Common.{refl, ap, subst, ◌∙◌, true≢false, ◌==◌, not, eq-eqb}
 use Rattle.std.specs.declared.cmp.Ordering.{Ordering}
 use Rattle.std.specs.declared.cmp.Ordering.TheVariants.{Less, Equal, Greater}
-use Rattle.std.specs.Ordering.{nat_cmp, ordering_then}
+use Rattle.std.specs.Ordering.{nat_cmp}
 use Rattle.std.specs.List.{list_any}
 use Rattle.std.specs.Option.{option_eq}
 use Rattle.std.specs.BTreeMap.{is_at}
-use Rattle.std.specs.BTreeSet.{BTreeSet, contains}
+use Rattle.std.specs.BTreeSet.{BTreeSet}
 use Rattle.std.proofs.lemmas.Bool.{and_from, or_cases}
 use Rattle.std.proofs.lemmas.Map.Lookups.{exact_unsigned}
 use Rattle.object.specs.Lists.{In}
+use Rattle.object.specs.KeyLaws.{then_equal}
 use Rattle.session_store.specs.declared.place.LinePlace.{LinePlace}
 use Rattle.session_store.specs.Lines.{line_cmp, IsIn, HasAll}
-
-then_equal : (a b : Ordering) → ordering_then a b ≡ Equal → (a ≡ Equal) × (b ≡ Equal)
-then_equal Less b e = cc
-then_equal Equal b e = (refl, e)
-then_equal Greater b e = cc
 
 pub at_equal : (o : Ordering) → is_at (λ (x : ℕ). o) 0 ≡ true → o ≡ Equal
 at_equal Less e = cc

@@ -1,20 +1,19 @@
 -- The lines of tubes, and who is served.
 use Rattle.std.proofs.Common.{◌≡◌, ℕ, ◌<◌, ◌^◌, true, false, cond, ◌&&◌, inl, inr, List, [], ◌∷◌, Option, Some, None}
-use Rattle.std.proofs.Common.{IfSome, IsSome, option_map, filter_map, is_some, refl, sym, ap, ap₂, subst, ◌∙◌, arith}
-use Rattle.std.proofs.Common.{true≢false, eqb-true, ◌==◌, unwrap_or, eq-eqb, ◌⊎◌}
+use Rattle.std.proofs.Common.{IfSome, option_map, filter_map, is_some, refl, sym, ap, ap₂, subst, ◌∙◌, arith}
+use Rattle.std.proofs.Common.{eqb-true, ◌==◌, eq-eqb, ◌⊎◌}
 use Rattle.std.specs.declared.cmp.Ordering.{Ordering}
 use Rattle.std.specs.declared.cmp.Ordering.TheVariants.{Less, Equal, Greater}
 use Rattle.std.specs.Ordering.{nat_cmp, ordering_then}
-use Rattle.std.specs.List.{list_any, cons_option, slice_get, AllByRecursion}
+use Rattle.std.specs.List.{cons_option, slice_get, AllByRecursion}
 use Rattle.std.specs.Cmp.Lexicographic.{slice_cmp}
-use Rattle.std.specs.BTreeMap.{BTreeMap, get, is_at, WritesThrough}
+use Rattle.std.specs.BTreeMap.{get}
 use Rattle.std.specs.List.Sorted.{IsStrictlySortedBy}
 use Rattle.std.proofs.lemmas.Map.Keys.{sorted_head, sorted_tail}
 use Rattle.std.specs.BTreeSet.{BTreeSet}
 use Rattle.std.proofs.lemmas.Bool.{cases_order, cond-true, and_parts, and_from}
-use Rattle.std.proofs.lemmas.Map.Lookups.{exact_bytes}
 use Rattle.object.specs.Lists.{In}
-use Rattle.job_store.specs.Entries.{Rising, value_at}
+use Rattle.job_store.specs.Entries.{value_at}
 use Rattle.job_store.specs.EntryLaws.{cmp_equal, cmp_greater, value_at-In, value_at-found}
 use Rattle.job_store.specs.Least.{ComesBefore, IsLeast}
 use Rattle.job_store.proofs.least.Least.{least-found, least-only}
@@ -23,7 +22,7 @@ use Rattle.session_store.specs.declared.session.Wait.{Wait}
 use Rattle.session_store.specs.declared.place.LinePlace.{LinePlace}
 use Rattle.session_store.specs.declared.tube_lines.TubeLines.{TubeLines}
 use Rattle.session_store.specs.Sessions.{is_waiting, wait_rank, first_waiting}
-use Rattle.session_store.specs.Lines.{line_cmp, place, IsIn, rank_place, tube_line, StandsByTubes, EachStands, waiter_at}
+use Rattle.session_store.specs.Lines.{line_cmp, place, IsIn, rank_place, tube_line, StandsByTubes, AllStand, StillStand, waiter_at}
 use Rattle.job_store.specs.LookUps.{is_among}
 use Rattle.session_store.proofs.TubeSets.{found-set, no-set}
 use Rattle.session_store.proofs.Places.{in_keys, some_place}
@@ -108,17 +107,17 @@ waiting-place : (x : ℕ) (c : SessionState) → is_waiting c ≡ true → rank_
 waiting-place x c e = waiting_place_of x c.wait e
 
 -- each session that waits for a job of the tube is seen at its place in the line
-seen-in : (tube : List ℕ) (sessions : List (ℕ × SessionState)) (tubes : TubeLines) → Rising 0 (2 ^ 32) sessions
-    → EachStands (StandsByTubes tubes) sessions → (e : ℕ × SessionState) → In e sessions
+seen-in : (tube : List ℕ) (sessions : List (ℕ × SessionState)) (tubes : TubeLines)
+    → AllStand (StandsByTubes tubes) sessions → (e : ℕ × SessionState) → In e sessions
     → (is_waiting e.1 && is_among tube e.1.watched) ≡ true
     → In e (filter_map (waiter_at tube sessions) (tube_line tube tubes).keys)
-seen-in tube sessions tubes r complete e i t =
+seen-in tube sessions tubes all e i t =
     let both = and_parts (is_waiting e.1) (is_among tube e.1.watched) t in
     let p : LinePlace = place (wait_rank e.1) e.0 in
     let stands : IsIn (tube_line tube tubes) p =
-    subst (λ o. IfSome o (IsIn (tube_line tube tubes))) (waiting-place e.0 e.1 both.0) (complete e i tube both.1) in
+    subst (λ o. IfSome o (IsIn (tube_line tube tubes))) (waiting-place e.0 e.1 both.0) (all.each e i tube both.1) in
     mapped-in (waiter_at tube sessions) p e (tube_line tube tubes).keys (in_keys p (tube_line tube tubes).keys stands)
-    (standing-at tube sessions p e.1 (value_at-In 0 (2 ^ 32) sessions e r i) both.0 both.1 refl)
+    (standing-at tube sessions p e.1 (value_at-In 0 (2 ^ 32) sessions e all.rising i) both.0 both.1 refl)
 
 -- The first that stands is the least
 
@@ -184,79 +183,81 @@ first-least tube sessions e (k ∷ ks) sorted f =
           )
     ] refl f
 
-nobody-served : (tube : List ℕ) (sessions : List (ℕ × SessionState)) (tubes : TubeLines) → Rising 0 (2 ^ 32) sessions
-    → EachStands (StandsByTubes tubes) sessions
+nobody-served : (tube : List ℕ) (sessions : List (ℕ × SessionState)) (tubes : TubeLines)
+    → AllStand (StandsByTubes tubes) sessions
     → slice_get (filter_map (waiter_at tube sessions) (tube_line tube tubes).keys) 0 ≡ None
     → None ≡ first_waiting (λ e. is_among tube e.1.watched) sessions
-nobody-served tube sessions tubes r complete none =
+nobody-served tube sessions tubes all none =
     elim (first_waiting (λ e. is_among tube e.1.watched) sessions) as (λ o. IfSome o
     (IsLeast (λ e. is_waiting e.1 && is_among tube e.1.watched) wait_rank sessions) → None ≡ o) [
       | None ↦ λ _. refl
-      | Some e ↦ λ found. absurd (not_empty e _ none (seen-in tube sessions tubes r complete e found.member found.passes))
+      | Some e ↦ λ found. absurd (not_empty e _ none (seen-in tube sessions tubes all e found.member found.passes))
     ] (least-found (λ e. is_waiting e.1 && is_among tube e.1.watched) wait_rank sessions)
 
-first-served : (tube : List ℕ) (sessions : List (ℕ × SessionState)) (tubes : TubeLines) → Rising 0 (2 ^ 32) sessions
-    → EachStands (StandsByTubes tubes) sessions → IsStrictlySortedBy line_cmp (tube_line tube tubes).keys
+first-served : (tube : List ℕ) (sessions : List (ℕ × SessionState)) (tubes : TubeLines)
+    → AllStand (StandsByTubes tubes) sessions → IsStrictlySortedBy line_cmp (tube_line tube tubes).keys
     → slice_get (filter_map (waiter_at tube sessions) (tube_line tube tubes).keys) 0
     ≡ first_waiting (λ e. is_among tube e.1.watched) sessions
-first-served tube sessions tubes r complete sorted =
+first-served tube sessions tubes all sorted =
     elim (slice_get (filter_map (waiter_at tube sessions) (tube_line tube tubes).keys) 0) as (λ o. slice_get
     (filter_map (waiter_at tube sessions) (tube_line tube tubes).keys) 0 ≡ o
     → o ≡ first_waiting (λ e. is_among tube e.1.watched) sessions) [
-      | None ↦ λ none. nobody-served tube sessions tubes r complete none
+      | None ↦ λ none. nobody-served tube sessions tubes all none
       | Some e ↦ λ some.
           let least = first-least tube sessions e (tube_line tube tubes).keys sorted some in
           let from = mapped-from (waiter_at tube sessions) e (tube_line tube tubes).keys least.0 in
           let there = standing-from tube sessions from.0 e from.2 in
-          sym (least-only (λ e. is_waiting e.1 && is_among tube e.1.watched) wait_rank sessions 0 (2 ^ 32) e r (record {
+          sym (least-only (λ e. is_waiting e.1 && is_among tube e.1.watched) wait_rank sessions 0 (2 ^ 32) e all.rising (record {
             member = there.0;
             passes = there.1;
-            least = λ d i t. least.1 d (seen-in tube sessions tubes r complete d i t);
+            least = λ d i t. least.1 d (seen-in tube sessions tubes all d i t);
           }))
     ] refl
 
 -- the same of a line that is found, and where there is none
 pub first-in-line : (tube : List ℕ) (sessions : List (ℕ × SessionState)) (tubes : TubeLines) (line : BTreeSet LinePlace)
-    → Some line ≡ get (slice_cmp nat_cmp) tubes.lines tube → Rising 0 (2 ^ 32) sessions
-    → EachStands (StandsByTubes tubes) sessions → IsStrictlySortedBy line_cmp line.keys
+    → Some line ≡ get (slice_cmp nat_cmp) tubes.lines tube
+    → AllStand (StandsByTubes tubes) sessions → IsStrictlySortedBy line_cmp line.keys
     → slice_get (filter_map (waiter_at tube sessions) line.keys) 0
     ≡ first_waiting (λ e. is_among tube e.1.watched) sessions
-first-in-line tube sessions tubes line value r complete sorted =
+first-in-line tube sessions tubes line value all sorted =
     let it : line ≡ tube_line tube tubes = sym (found-set line_cmp tube tubes.lines line (sym value)) in
     ap (λ (l : BTreeSet LinePlace). slice_get (filter_map (waiter_at tube sessions) l.keys) 0) it ∙
-    first-served tube sessions tubes r complete (subst (λ (l : BTreeSet LinePlace). IsStrictlySortedBy line_cmp l.keys) it sorted)
+    first-served tube sessions tubes all (subst (λ (l : BTreeSet LinePlace). IsStrictlySortedBy line_cmp l.keys) it sorted)
 
 pub none-in-line : (tube : List ℕ) (sessions : List (ℕ × SessionState)) (tubes : TubeLines)
-    → None ≡ get (slice_cmp nat_cmp) tubes.lines tube → Rising 0 (2 ^ 32) sessions
-    → EachStands (StandsByTubes tubes) sessions → None ≡ first_waiting (λ e. is_among tube e.1.watched) sessions
-none-in-line tube sessions tubes value r complete =
-    nobody-served tube sessions tubes r complete
+    → None ≡ get (slice_cmp nat_cmp) tubes.lines tube
+    → AllStand (StandsByTubes tubes) sessions → None ≡ first_waiting (λ e. is_among tube e.1.watched) sessions
+none-in-line tube sessions tubes value all =
+    nobody-served tube sessions tubes all
     (ap (λ (l : BTreeSet LinePlace). slice_get (filter_map (waiter_at tube sessions) l.keys) 0)
     (no-set line_cmp tube tubes.lines (sym value)))
 
 -- Places that are left
 
 pub tube-left : (tube : List ℕ) (k : LinePlace) (tubes tubes' : TubeLines) (sessions : List (ℕ × SessionState))
-    → Rising 0 (2 ^ 32) sessions → waiter_at tube sessions k ≡ None
+    → waiter_at tube sessions k ≡ None
     → ((t : List ℕ) (p : LinePlace) → (t ≡ tube → k ≡ p → ⊥) → IsIn (tube_line t tubes) p → IsIn (tube_line t tubes') p)
-    → EachStands (StandsByTubes tubes) sessions → EachStands (StandsByTubes tubes') sessions
-tube-left tube k tubes tubes' sessions r gone stays h =
-    λ e i t among.
-    elim (rank_place e.0 e.1.wait) as (λ o. rank_place e.0 e.1.wait ≡ o → IfSome o (IsIn (tube_line t tubes)) → IfSome o (IsIn (tube_line t tubes'))) [
-      | None ↦ λ _ _. tt
-      | Some p ↦ λ at there.
-          stays t p
-          (λ same it.
-          let of = rank_place-of e.0 e.1 p at in
-          let who : value_at k.session sessions ≡ Some e.1 =
-          ap (λ (q : LinePlace). value_at q.session sessions) it ∙ ap
-          (λ x. value_at x sessions) of.2 ∙ value_at-In 0 (2 ^ 32) sessions e r i in
-          let seen : waiter_at tube sessions k ≡ Some (k.session, e.1) =
-          standing-at tube sessions k e.1 who of.0 (ap (λ u. is_among u e.1.watched) (sym same) ∙ among)
-          (of.1 ∙ ap (λ (q : LinePlace). q.order) (sym it)) in
-          none_some (k.session, e.1) (sym gone ∙ seen))
-          there
-    ] refl (h e i t among)
+    → StillStand (StandsByTubes tubes) (StandsByTubes tubes') sessions
+tube-left tube k tubes tubes' sessions gone stays all = record {
+  rising = all.rising;
+  each = λ e i t among.
+      elim (rank_place e.0 e.1.wait) as (λ o. rank_place e.0 e.1.wait ≡ o → IfSome o (IsIn (tube_line t tubes)) → IfSome o (IsIn (tube_line t tubes'))) [
+        | None ↦ λ _ _. tt
+        | Some p ↦ λ at there.
+            stays t p
+            (λ same it.
+            let of = rank_place-of e.0 e.1 p at in
+            let who : value_at k.session sessions ≡ Some e.1 =
+            ap (λ (q : LinePlace). value_at q.session sessions) it ∙ ap
+            (λ x. value_at x sessions) of.2 ∙ value_at-In 0 (2 ^ 32) sessions e all.rising i in
+            let seen : waiter_at tube sessions k ≡ Some (k.session, e.1) =
+            standing-at tube sessions k e.1 who of.0 (ap (λ u. is_among u e.1.watched) (sym same) ∙ among)
+            (of.1 ∙ ap (λ (q : LinePlace). q.order) (sym it)) in
+            none_some (k.session, e.1) (sym gone ∙ seen))
+            there
+      ] refl (all.each e i t among);
+}
 
 pub none-seen : {A : Type 0} (view : A → ℕ × SessionState) (o : Option A) → is_some o ≡ false → option_map view o ≡ None
 none-seen view None e = refl

@@ -1,18 +1,18 @@
 -- Sessions that are taken back are as they were before.
 use Rattle.std.proofs.Common.{◌≡◌, ℕ, ◌<◌, List, [], ◌∷◌, ◌++◌, Option, Some, None, refl, sym, ap, ap₂, subst, ◌∙◌}
-use Rattle.std.proofs.Common.{arith, ◌^◌, ◌==◌, cond, true, false, suc, ◌≤◌, ◌-◌, length, take}
+use Rattle.std.proofs.Common.{arith, ◌==◌, cond, true, false, suc, ◌≤◌, ◌-◌, length, take}
 use Rattle.std.proofs.Math.ListN.{get_or}
 use Rattle.std.proofs.Math.Seq.{take-suc}
 use Rattle.job_store.specs.Entries.{Rising, value_at, with_value, altered, without}
-use Rattle.job_store.specs.EntryLaws.{altered-alike, altered-back, without-insert, Rising-altered, Rising-without, Rising-insert}
+use Rattle.job_store.specs.EntryLaws.{altered-alike, altered-back, without-insert, Rising-altered, Rising-without}
 use Rattle.session_store.specs.declared.session.SessionState.{SessionState}
 use Rattle.session_store.specs.declared.session.Wait.{Wait}
 use Rattle.session_store.specs.declared.session_step.SessionStep.{SessionStep}
 use Rattle.session_store.specs.declared.lines.Lines.{Lines}
 use Rattle.session_store.specs.Sessions.{with_wait}
-use Rattle.session_store.specs.Lines.{StandsIn, EachStands, HasGrown}
+use Rattle.session_store.specs.Lines.{StandsIn, EachStands, AllStand, HasGrown}
 use Rattle.session_store.specs.Drafts.{session_step_back, sessions_before, AreInLines}
-use Rattle.session_store.proofs.Standing.{each-grown}
+use Rattle.session_store.proofs.Standing.{each-grown, all-grown}
 
 sessions_before-push : (steps : List SessionStep) (step : SessionStep) (sessions : List (ℕ × SessionState))
     → sessions_before (steps ++ step ∷ []) sessions ≡ sessions_before steps (session_step_back step sessions)
@@ -83,33 +83,33 @@ unwaited x lo hi v sessions r there none = altered_itself x lo hi (with_wait Non
 
 -- the sessions in the lines, where nothing can be taken back
 pub kept : (lines : Lines) (steps : List SessionStep) (sessions : List (ℕ × SessionState)) → steps ≡ []
-    → Rising 0 (2 ^ 32) sessions → EachStands (StandsIn lines) sessions → AreInLines lines steps sessions
-kept lines steps sessions none r complete = record {
-  rising = r;
-  now = complete;
-  before = subst (λ zs. EachStands (StandsIn lines) (sessions_before zs sessions)) (sym none) complete;
+    → AllStand (StandsIn lines) sessions → AreInLines lines steps sessions
+kept lines steps sessions none all = record {
+  now = all;
+  before = subst (λ zs. EachStands (StandsIn lines) (sessions_before zs sessions)) (sym none) all.each;
 }
 
 -- and where they are taken back to what they were
 pub stepped : (lines lines' : Lines) (steps steps' : List SessionStep) (sessions sessions' : List (ℕ × SessionState))
     → HasGrown lines lines' → sessions_before steps' sessions' ≡ sessions_before steps sessions
-    → Rising 0 (2 ^ 32) sessions' → EachStands (StandsIn lines') sessions' → AreInLines lines steps sessions
-    → AreInLines lines' steps' sessions'
-stepped lines lines' steps steps' sessions sessions' grown same r complete h = record {
-  rising = r;
-  now = complete;
+    → AllStand (StandsIn lines') sessions' → AreInLines lines steps sessions → AreInLines lines' steps' sessions'
+stepped lines lines' steps steps' sessions sessions' grown same all h = record {
+  now = all;
   before = subst (EachStands (StandsIn lines')) (sym same) (each-grown lines lines' (sessions_before steps sessions) grown h.before);
 }
 
-pub made-rises : (x hi : ℕ) (v : SessionState) (sessions sessions' : List (ℕ × SessionState)) → x < hi
-    → Rising 0 hi sessions → sessions' ≡ with_value x v sessions → Rising 0 hi sessions'
-made-rises x hi v sessions sessions' below r e = subst (λ es. Rising 0 hi es) (sym e) (Rising-insert x 0 hi v sessions (omega arith) below r)
+-- and where the lines alone have grown
+pub grown : (lines lines' : Lines) (steps steps' : List SessionStep) (sessions : List (ℕ × SessionState)) → HasGrown lines lines'
+    → steps' ≡ steps → AreInLines lines steps sessions → AreInLines lines' steps' sessions
+grown lines lines' steps steps' sessions more same h =
+    stepped lines lines' steps steps' sessions sessions more (ap (λ zs. sessions_before zs sessions) same)
+    (all-grown lines lines' sessions more h.now) h
 
-pub change-rises : (x hi : ℕ) (f : SessionState → SessionState) (sessions sessions' : List (ℕ × SessionState))
+change-rises : (x hi : ℕ) (f : SessionState → SessionState) (sessions sessions' : List (ℕ × SessionState))
     → Rising 0 hi sessions → sessions' ≡ altered x f sessions → Rising 0 hi sessions'
 change-rises x hi f sessions sessions' r e = subst (λ es. Rising 0 hi es) (sym e) (Rising-altered x f 0 hi sessions r)
 
-pub removal-rises : (x hi : ℕ) (sessions sessions' : List (ℕ × SessionState)) → Rising 0 hi sessions → sessions' ≡ without x sessions → Rising 0 hi sessions'
+removal-rises : (x hi : ℕ) (sessions sessions' : List (ℕ × SessionState)) → Rising 0 hi sessions → sessions' ≡ without x sessions → Rising 0 hi sessions'
 removal-rises x hi sessions sessions' r e = subst (λ es. Rising 0 hi es) (sym e) (Rising-without x 0 hi sessions r)
 
 pub step_back-rises : (hi : ℕ) (step : SessionStep) (sessions sessions' : List (ℕ × SessionState))

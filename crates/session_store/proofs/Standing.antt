@@ -1,13 +1,13 @@
 -- Who stands in the lines.
 use Rattle.std.proofs.Common.{◌≡◌, ℕ, ◌<◌, true, false, cond, codes, nat_cmp, Less, Equal, Greater, inl, inr, List, []}
 use Rattle.std.proofs.Common.{◌∷◌, Option, Some, IfSome, refl, sym, ap, subst, ◌∙◌, eqb-true, ◌==◌, unwrap_or, not}
-use Rattle.std.proofs.Common.{bytes_eq, ◌++◌, ◌⊎◌, ◌+◌, length, take}
+use Rattle.std.proofs.Common.{bytes_eq, ◌++◌, ◌⊎◌, ◌+◌, ◌^◌, length, take, arith}
 use Rattle.std.proofs.lemmas.Bool.{or_cases, or_left, or_right}
 use Rattle.std.proofs.lemmas.Slice.Eq.{bytes_eq-Decides}
 use Rattle.object.specs.Lists.{In}
 use Rattle.job_store.specs.Entries.{Rising, value_at, with_value, altered, without}
 use Rattle.std.specs.Ordering.{match_ordering}
-use Rattle.job_store.specs.EntryLaws.{value_at-In, altered-in, without-in}
+use Rattle.job_store.specs.EntryLaws.{value_at-In, altered-in, without-in, Rising-altered, Rising-without, Rising-insert}
 use Rattle.job_store.proofs.maps.Entries.{same_number}
 use Rattle.std.proofs.Math.ListN.{get_or}
 use Rattle.std.proofs.lemmas.List.Folds.{list_any_more}
@@ -17,7 +17,8 @@ use Rattle.session_store.specs.declared.session.Wait.{Wait}
 use Rattle.session_store.specs.declared.lines.Lines.{Lines}
 use Rattle.session_store.specs.Sessions.{new_session, session_of, with_wait}
 use Rattle.session_store.specs.Rolls.{has_tube, IsOn}
-use Rattle.session_store.specs.Lines.{IsIn, time_out_place, rank_place, tube_line, StandsByTimeOut, StandsByTubes, StandsIn, EachStands, HasGrown}
+use Rattle.session_store.specs.Lines.{IsIn, time_out_place, rank_place, tube_line, StandsByTimeOut, StandsByTubes, StandsIn}
+use Rattle.session_store.specs.Lines.{EachStands, AllStand, HasGrown}
 use Rattle.session_store.specs.WatchLists.{joined, left_out}
 use Rattle.job_store.specs.LookUps.{is_among}
 
@@ -66,9 +67,14 @@ among-joined tube t names e =
 
 -- Sessions that change
 
+-- who stands so stands in other ways, too
+pub stand-so : {stands stands' : ℕ × SessionState → Type 0} {sessions : List (ℕ × SessionState)} → AllStand stands sessions
+    → ((e : ℕ × SessionState) → stands e → stands' e) → AllStand stands' sessions
+stand-so all so = record { rising = all.rising; each = λ e i. so e (all.each e i) }
+
 module _ (stands : ℕ × SessionState → Type 0) where
   -- a change of one session
-  pub each-altered : (x : ℕ) (f : SessionState → SessionState) (sessions sessions' : List (ℕ × SessionState))
+  each-altered : (x : ℕ) (f : SessionState → SessionState) (sessions sessions' : List (ℕ × SessionState))
       → sessions' ≡ altered x f sessions → ((c : SessionState) → In (x, c) sessions → stands (x, f c))
       → EachStands stands sessions → EachStands stands sessions'
   each-altered x f sessions sessions' same new h =
@@ -80,15 +86,27 @@ module _ (stands : ℕ × SessionState → Type 0) where
         | false ↦ λ t. h d i
       ] refl))
 
-  -- a change that does not matter to where it stands
-  pub each-kept : (x : ℕ) (f : SessionState → SessionState) (sessions sessions' : List (ℕ × SessionState))
-      → sessions' ≡ altered x f sessions → ((c : SessionState) → stands (x, c) → stands (x, f c))
-      → EachStands stands sessions → EachStands stands sessions'
-  each-kept x f sessions sessions' same new h = each-altered x f sessions sessions' same (λ c i. new c (h (x, c) i)) h
+  pub all-altered : (x : ℕ) (f : SessionState → SessionState) (sessions sessions' : List (ℕ × SessionState))
+      → sessions' ≡ altered x f sessions → ((c : SessionState) → In (x, c) sessions → stands (x, f c))
+      → AllStand stands sessions → AllStand stands sessions'
+  all-altered x f sessions sessions' same new all = record {
+    rising = subst (Rising 0 (2 ^ 32)) (sym same) (Rising-altered x f 0 (2 ^ 32) sessions all.rising);
+    each = each-altered x f sessions sessions' same new all.each;
+  }
 
-  pub each-without : (x : ℕ) (sessions sessions' : List (ℕ × SessionState)) → sessions' ≡ without x sessions
-      → EachStands stands sessions → EachStands stands sessions'
-  each-without x sessions sessions' same h = subst (EachStands stands) (sym same) (λ e i. h e (without-in x sessions e i))
+  -- a change that does not matter to where it stands
+  pub all-kept : (x : ℕ) (f : SessionState → SessionState) (sessions sessions' : List (ℕ × SessionState))
+      → sessions' ≡ altered x f sessions → ((c : SessionState) → stands (x, c) → stands (x, f c))
+      → AllStand stands sessions → AllStand stands sessions'
+  all-kept x f sessions sessions' same new all = all-altered x f sessions sessions' same (λ c i. new c (all.each (x, c) i)) all
+
+  pub all-without : (x : ℕ) (sessions sessions' : List (ℕ × SessionState)) → sessions' ≡ without x sessions
+      → AllStand stands sessions → AllStand stands sessions'
+  all-without x sessions sessions' same all =
+      subst (AllStand stands) (sym same) (record {
+        rising = Rising-without x 0 (2 ^ 32) sessions all.rising;
+        each = λ e i. all.each e (without-in x sessions e i);
+      })
 
 -- A session that is made
 
@@ -112,12 +130,18 @@ default-tube t e =
           ≡ codes "default") [ inl here ↦ (bytes_eq-Decides t (codes "default")).0 here | inr never ↦ cc ]
     ]
 
-pub each-made : (lines : Lines) (x : ℕ) (sessions sessions' : List (ℕ × SessionState))
+pub all-made : (lines : Lines) (x : ℕ) (sessions sessions' : List (ℕ × SessionState)) → x < 2 ^ 32
     → sessions' ≡ with_value x new_session sessions → IsOn (codes "default") lines.rolls x
-    → EachStands (StandsIn lines) sessions → EachStands (StandsIn lines) sessions'
-each-made lines x sessions sessions' same on h =
-    subst (EachStands (StandsIn lines)) (sym same)
-    (made-in (StandsIn lines) x new_session sessions (tt, λ tube among. tt, λ t has. subst (λ u. IsOn u lines.rolls x) (sym (default-tube t has)) on) h)
+    → AllStand (StandsIn lines) sessions → AllStand (StandsIn lines) sessions'
+all-made lines x sessions sessions' below same on all =
+    subst (AllStand (StandsIn lines)) (sym same) (record {
+      rising = Rising-insert x 0 (2 ^ 32) new_session sessions (omega arith) below all.rising;
+      each = made-in (StandsIn lines) x new_session sessions (
+        tt,
+        λ tube among. tt,
+        λ t has. subst (λ u. IsOn u lines.rolls x) (sym (default-tube t has)) on,
+      ) all.each;
+    })
 
 -- Lines that grow
 
@@ -131,6 +155,10 @@ stands-grown lines lines' e more h = (
 pub each-grown : (lines lines' : Lines) (sessions : List (ℕ × SessionState)) → HasGrown lines lines'
     → EachStands (StandsIn lines) sessions → EachStands (StandsIn lines') sessions
 each-grown lines lines' sessions more h = λ e i. stands-grown lines lines' e more (h e i)
+
+pub all-grown : (lines lines' : Lines) (sessions : List (ℕ × SessionState)) → HasGrown lines lines'
+    → AllStand (StandsIn lines) sessions → AllStand (StandsIn lines') sessions
+all-grown lines lines' sessions more all = stand-so all (λ e h. stands-grown lines lines' e more h)
 
 -- A session that uses or watches other tubes
 
@@ -202,28 +230,28 @@ stands-again lines x hi sessions wait c d r found i waits h =
     (only-session x hi sessions c d r found i) waits in (new.0, new.1, h.2)
 
 -- a session that uses another tube is on its roll
-pub each-using : (lines lines' : Lines) (x : ℕ) (tube : List ℕ) (sessions sessions' : List (ℕ × SessionState))
+pub all-using : (lines lines' : Lines) (x : ℕ) (tube : List ℕ) (sessions sessions' : List (ℕ × SessionState))
     → HasGrown lines lines' → IsOn tube lines'.rolls x
     → sessions' ≡ altered x (λ (s : SessionState). record s { used = tube }) sessions
-    → EachStands (StandsIn lines) sessions → EachStands (StandsIn lines') sessions'
-each-using lines lines' x tube sessions sessions' more on same h =
-    each-altered (StandsIn lines') x (λ (s : SessionState). record s { used = tube }) sessions sessions' same
-    (λ c i. stands-using lines lines' x tube c more on (h (x, c) i))
-    (each-grown lines lines' sessions more h)
+    → AllStand (StandsIn lines) sessions → AllStand (StandsIn lines') sessions'
+all-using lines lines' x tube sessions sessions' more on same all =
+    all-altered (StandsIn lines') x (λ (s : SessionState). record s { used = tube }) sessions sessions' same
+    (λ c i. stands-using lines lines' x tube c more on (all.each (x, c) i))
+    (all-grown lines lines' sessions more all)
 
 -- a session that watches one tube more stands in its line too, and on its roll
-pub each-watching : (lines lines' : Lines) (x hi : ℕ) (tube : List ℕ) (sessions sessions' : List (ℕ × SessionState))
-    → Rising 0 hi sessions → HasGrown lines lines'
+pub all-watching : (lines lines' : Lines) (x : ℕ) (tube : List ℕ) (sessions sessions' : List (ℕ × SessionState))
+    → HasGrown lines lines'
     → IfSome (rank_place x (session_of x sessions).wait) (IsIn (tube_line tube lines'.tubes)) → IsOn tube lines'.rolls x
     → sessions' ≡ altered x (λ (s : SessionState). record s { watched = joined tube s.watched }) sessions
-    → EachStands (StandsIn lines) sessions → EachStands (StandsIn lines') sessions'
-each-watching lines lines' x hi tube sessions sessions' r more new on same h =
-    each-altered (StandsIn lines') x (λ (s : SessionState). record s { watched = joined tube s.watched }) sessions sessions' same
+    → AllStand (StandsIn lines) sessions → AllStand (StandsIn lines') sessions'
+all-watching lines lines' x tube sessions sessions' more new on same all =
+    all-altered (StandsIn lines') x (λ (s : SessionState). record s { watched = joined tube s.watched }) sessions sessions' same
     (λ c i.
-    stands-more lines lines' x tube c more on (h (x, c) i)
+    stands-more lines lines' x tube c more on (all.each (x, c) i)
     (subst (λ (s : SessionState). IfSome (rank_place x s.wait) (IsIn (tube_line tube lines'.tubes)))
-    (ap (λ o. unwrap_or o new_session) (value_at-In 0 hi sessions (x, c) r i)) new))
-    (each-grown lines lines' sessions more h)
+    (ap (λ o. unwrap_or o new_session) (value_at-In 0 (2 ^ 32) sessions (x, c) all.rising i)) new))
+    (all-grown lines lines' sessions more all)
 
 -- lines that grow twice
 pub grown-twice : (lines lines' lines'' : Lines) → HasGrown lines lines' → HasGrown lines' lines'' → HasGrown lines lines''

@@ -1,11 +1,11 @@
 -- Changes that may be taken back.
-use Rattle.std.specs.Prelude.{ℕ, ◌^◌, List, [], ◌∷◌}
-use Rattle.job_store.specs.Entries.{Rising, altered, without}
+use Rattle.std.specs.Prelude.{ℕ, ◌^◌, List, [], ◌∷◌, IsSome}
+use Rattle.job_store.specs.Entries.{Rising, value_at, altered, without}
 use Rattle.session_store.specs.declared.session.SessionState.{SessionState}
 use Rattle.session_store.specs.declared.session_step.SessionStep.{SessionStep}
 use Rattle.session_store.specs.declared.lines.Lines.{Lines}
 use Rattle.session_store.specs.Sessions.{with_wait}
-use Rattle.session_store.specs.Lines.{StandsIn, EachStands}
+use Rattle.session_store.specs.Lines.{StandsIn, EachStands, AllStand}
 
 -- something as it is by now, and as it was when it was kept last
 pub record Draft (X : Type 0) : Type 0 where
@@ -22,8 +22,12 @@ abbrev pub sessions_before : List SessionStep → List (ℕ × SessionState) →
 sessions_before [] sessions = sessions
 sessions_before (step ∷ steps) sessions = session_step_back step (sessions_before steps sessions)
 
+-- the numbers rise, and session x is there
+pub record IsThere (x : ℕ) (sessions : List (ℕ × SessionState)) : Type 0 where
+  pub rising : Rising 0 (2 ^ 32) sessions
+  pub there : IsSome (value_at x sessions)
+
 -- the sessions stand in the lines where they wait, now and before the steps
 pub record AreInLines (lines : Lines) (steps : List SessionStep) (sessions : List (ℕ × SessionState)) : Type 0 where
-  pub rising : Rising 0 (2 ^ 32) sessions
-  pub now : EachStands (StandsIn lines) sessions
+  pub now : AllStand (StandsIn lines) sessions
   pub before : EachStands (StandsIn lines) (sessions_before steps sessions)

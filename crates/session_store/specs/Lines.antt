@@ -1,11 +1,11 @@
 -- The lines in which waiting sessions stand.
-use Rattle.std.specs.Prelude.{◌≡◌, ℕ, true, ◌&&◌, List, Option, None, Some, option_map, IfSome, ◌==◌, if◌then◌else◌}
+use Rattle.std.specs.Prelude.{◌≡◌, ◌^◌, ℕ, true, ◌&&◌, List, Option, None, Some, option_map, IfSome, ◌==◌, if◌then◌else◌}
 use Rattle.std.specs.declared.cmp.Ordering.{Ordering}
 use Rattle.std.specs.Ordering.{nat_cmp, ordering_then}
 use Rattle.std.specs.declared.ops.Bound.TheVariants.{Included, Unbounded}
 use Rattle.std.specs.BTreeSet.{BTreeSet, contains, keys_between}
 use Rattle.object.specs.Lists.{In}
-use Rattle.job_store.specs.Entries.{value_at}
+use Rattle.job_store.specs.Entries.{Rising, value_at}
 use Rattle.job_store.specs.LookUps.{is_among}
 use Rattle.session_store.specs.declared.session.SessionState.{SessionState}
 use Rattle.session_store.specs.declared.session.Wait.{Wait}
@@ -61,6 +61,15 @@ StandsIn lines e = StandsByTimeOut lines.time_outs e × StandsByTubes lines.tube
 -- each session stands so
 abbrev pub EachStands : (ℕ × SessionState → Type 0) → List (ℕ × SessionState) → Type 0
 EachStands stands sessions = (e : ℕ × SessionState) → In e sessions → stands e
+
+-- the numbers rise, and each session stands so
+pub record AllStand (stands : ℕ × SessionState → Type 0) (sessions : List (ℕ × SessionState)) : Type 0 where
+  pub rising : Rising 0 (2 ^ 32) sessions
+  pub each : EachStands stands sessions
+
+-- where all stood so before, all stand so after
+abbrev pub StillStand : (before after : ℕ × SessionState → Type 0) → List (ℕ × SessionState) → Type 0
+StillStand before after sessions = AllStand before sessions → AllStand after sessions
 
 -- the other line has all places of the one
 abbrev pub HasAll : BTreeSet LinePlace → BTreeSet LinePlace → Type 0

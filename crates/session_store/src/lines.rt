@@ -1,9 +1,8 @@
-ghost use Rattle.std.specs.Prelude.{◌≡◌, ◌^◌, ◌⊎◌, ℕ, List, true, OnOk, IfSome, option_map};
-ghost use Rattle.object.specs.Lists.{In};
-ghost use Rattle.job_store.specs.Entries.{Rising};
+ghost use Rattle.std.specs.Prelude.{◌≡◌, true, OnOk, IfSome, option_map};
+ghost use Rattle.job_store.specs.NameSets.{AddsAll};
 ghost use Rattle.job_store.specs.LookUps.{is_among};
 ghost use Rattle.session_store.specs.Sessions.{first_waiting, has_timed_out, with_wait};
-ghost use Rattle.session_store.specs.Lines.{EachStands, HasGrown, IsIn, StandsByTimeOut, StandsByTubes, StandsIn, tube_line, rank_place};
+ghost use Rattle.session_store.specs.Lines.{AllStand, StillStand, HasGrown, IsIn, StandsByTimeOut, StandsByTubes, StandsIn, tube_line, rank_place};
 ghost use Rattle.session_store.specs.Rolls.{IsOn, is_named};
 
 use crate::rolls::Rolls;
@@ -57,9 +56,7 @@ impl Lines {
         number: u32,
         wait: Option<Wait>,
     )
-        requires { Rising 0 (2 ^ 32) sessions.now.entries }
-        ensures { EachStands (StandsIn self.old) sessions.now.entries
-            → EachStands (StandsIn self.new) sessions.now.entries }
+        ensures { StillStand (StandsIn self.old) (StandsIn self.new) sessions.now.entries }
     {
         self.time_outs.leave(sessions, number, wait);
         self.tubes.leave(sessions, watched, number, wait);
@@ -87,9 +84,7 @@ impl Lines {
         number: u32,
         wait: Option<Wait>,
     )
-        requires { Rising 0 (2 ^ 32) sessions.now.entries }
-        ensures { EachStands (StandsIn self.old) sessions.now.entries
-            → EachStands (StandsIn self.new) sessions.now.entries }
+        ensures { StillStand (StandsIn self.old) (StandsIn self.new) sessions.now.entries }
     {
         self.tubes.leave_tube(sessions, tube, number, wait);
     }
@@ -104,9 +99,7 @@ impl Lines {
 
     /// Takes a session from the roll of a tube, unless it still uses or watches that.
     pub fn strike(&mut self, sessions: &BTreeMap<u32, SessionState>, tube: &Name, number: u32)
-        requires { Rising 0 (2 ^ 32) sessions.now.entries }
-        ensures { EachStands (StandsIn self.old) sessions.now.entries
-            → EachStands (StandsIn self.new) sessions.now.entries }
+        ensures { StillStand (StandsIn self.old) (StandsIn self.new) sessions.now.entries }
     {
         self.rolls.strike(sessions, tube, number);
     }
@@ -118,9 +111,7 @@ impl Lines {
         tubes: &[Name],
         number: u32,
     )
-        requires { Rising 0 (2 ^ 32) sessions.now.entries }
-        ensures { EachStands (StandsIn self.old) sessions.now.entries
-            → EachStands (StandsIn self.new) sessions.now.entries }
+        ensures { StillStand (StandsIn self.old) (StandsIn self.new) sessions.now.entries }
     {
         for tube in tubes {
             self.strike(sessions, tube, number);
@@ -129,8 +120,7 @@ impl Lines {
 
     /// Whether a session uses or watches the tube.
     pub fn has_named(&self, sessions: &BTreeMap<u32, SessionState>, tube: &Name) -> bool
-        requires rising { Rising 0 (2 ^ 32) sessions.now.entries }
-        requires complete { EachStands (StandsIn self.now) sessions.now.entries }
+        requires { AllStand (StandsIn self.now) sessions.now.entries }
         ensures { result ≡ is_named tube.now sessions.now.entries }
     {
         self.rolls.has_named(sessions, tube)
@@ -142,13 +132,9 @@ impl Lines {
         sessions: &BTreeMap<u32, SessionState>,
         names: &mut BTreeSet<Name>,
     ) -> Result<(), AllocError>
-        requires rising { Rising 0 (2 ^ 32) sessions.now.entries }
-        requires complete { EachStands (StandsIn self.now) sessions.now.entries }
-        ensures kept { (tube : List ℕ) → In tube names.old.keys → In tube names.new.keys }
-        ensures only { (tube : List ℕ) → In tube names.new.keys
-            → In tube names.old.keys ⊎ (is_named tube sessions.now.entries ≡ true) }
-        ensures all { OnOk result ((tube : List ℕ) → is_named tube sessions.now.entries ≡ true
-            → In tube names.new.keys) }
+        requires { AllStand (StandsIn self.now) sessions.now.entries }
+        ensures { AddsAll (λ tube. is_named tube sessions.now.entries ≡ true) names.old.keys
+            names.new.keys result }
     {
         self.rolls.add_tubes(sessions, names)
     }
@@ -159,8 +145,7 @@ impl Lines {
         sessions: &'a BTreeMap<u32, SessionState>,
         tube: &Name,
     ) -> Option<(u32, &'a SessionState)>
-        requires rising { Rising 0 (2 ^ 32) sessions.now.entries }
-        requires complete { EachStands (StandsIn self.now) sessions.now.entries }
+        requires { AllStand (StandsIn self.now) sessions.now.entries }
         ensures { option_map (λ e. (e.0, e.1.now)) result
             ≡ first_waiting (λ e. is_among tube.now e.1.watched) sessions.now.entries }
     {
@@ -173,8 +158,7 @@ impl Lines {
         sessions: &'a BTreeMap<u32, SessionState>,
         second: u64,
     ) -> Option<(u32, &'a SessionState)>
-        requires rising { Rising 0 (2 ^ 32) sessions.now.entries }
-        requires complete { EachStands (StandsIn self.now) sessions.now.entries }
+        requires { AllStand (StandsIn self.now) sessions.now.entries }
         ensures { option_map (λ e. (e.0, e.1.now)) result
             ≡ first_waiting (λ e. has_timed_out second e.1.wait) sessions.now.entries }
     {

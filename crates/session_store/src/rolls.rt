@@ -1,8 +1,8 @@
-ghost use Rattle.std.specs.Prelude.{◌≡◌, ◌^◌, ◌⊎◌, ℕ, List, [], true, IsTrue, OnOk};
+ghost use Rattle.std.specs.Prelude.{◌≡◌, ℕ, List, [], true, IsTrue, OnOk};
 ghost use Rattle.std.specs.List.{list_any};
 ghost use Rattle.object.specs.Lists.{In};
-ghost use Rattle.job_store.specs.Entries.{Rising};
-ghost use Rattle.session_store.specs.Lines.{EachStands};
+ghost use Rattle.job_store.specs.NameSets.{AddsOnly, AddsAll};
+ghost use Rattle.session_store.specs.Lines.{AllStand, StillStand};
 ghost use Rattle.session_store.specs.TubeSets.{tube_set};
 ghost use Rattle.session_store.specs.Rolls.{HaveAll, IsEnrolled, IsOn, is_named, names_tube};
 
@@ -48,11 +48,9 @@ fn add_named(
     rolls: &Rolls,
     sessions: &BTreeMap<u32, SessionState>,
 ) -> Result<(), AllocError>
-    requires rising { Rising 0 (2 ^ 32) sessions.now.entries }
-    requires complete { EachStands (IsEnrolled rolls.now) sessions.now.entries }
-    ensures kept { (t : List ℕ) → In t names.old.keys → In t names.new.keys }
-    ensures only { (t : List ℕ) → In t names.new.keys
-        → In t names.old.keys ⊎ (is_named t sessions.now.entries ≡ true) }
+    requires { AllStand (IsEnrolled rolls.now) sessions.now.entries }
+    ensures added { AddsOnly (λ t. is_named t sessions.now.entries ≡ true) names.old.keys
+        names.new.keys }
     ensures there { OnOk result (is_named tube.now sessions.now.entries ≡ true
         → In tube.now names.new.keys) }
 {
@@ -113,9 +111,7 @@ impl Rolls {
 
     /// Takes a session from the roll of a tube, unless it still uses or watches that.
     pub fn strike(&mut self, sessions: &BTreeMap<u32, SessionState>, tube: &Name, number: u32)
-        requires { Rising 0 (2 ^ 32) sessions.now.entries }
-        ensures { EachStands (IsEnrolled self.old) sessions.now.entries
-            → EachStands (IsEnrolled self.new) sessions.now.entries }
+        ensures { StillStand (IsEnrolled self.old) (IsEnrolled self.new) sessions.now.entries }
     {
         if !names_tube(sessions, tube, number) {
             self.take_out(tube, number);
@@ -124,8 +120,7 @@ impl Rolls {
 
     /// Whether a session uses or watches the tube.
     pub fn has_named(&self, sessions: &BTreeMap<u32, SessionState>, tube: &Name) -> bool
-        requires rising { Rising 0 (2 ^ 32) sessions.now.entries }
-        requires complete { EachStands (IsEnrolled self.now) sessions.now.entries }
+        requires { AllStand (IsEnrolled self.now) sessions.now.entries }
         ensures { result ≡ is_named tube.now sessions.now.entries }
     {
         match self.rolls.get(tube) {
@@ -140,13 +135,9 @@ impl Rolls {
         sessions: &BTreeMap<u32, SessionState>,
         names: &mut BTreeSet<Name>,
     ) -> Result<(), AllocError>
-        requires rising { Rising 0 (2 ^ 32) sessions.now.entries }
-        requires complete { EachStands (IsEnrolled self.now) sessions.now.entries }
-        ensures kept { (tube : List ℕ) → In tube names.old.keys → In tube names.new.keys }
-        ensures only { (tube : List ℕ) → In tube names.new.keys
-            → In tube names.old.keys ⊎ (is_named tube sessions.now.entries ≡ true) }
-        ensures all { OnOk result ((tube : List ℕ) → is_named tube sessions.now.entries ≡ true
-            → In tube names.new.keys) }
+        requires { AllStand (IsEnrolled self.now) sessions.now.entries }
+        ensures { AddsAll (λ tube. is_named tube sessions.now.entries ≡ true) names.old.keys
+            names.new.keys result }
     {
         for (tube, _) in &self.rolls {
             add_named(names, tube, self, sessions)?;

@@ -1,6 +1,7 @@
-ghost use Rattle.std.specs.Prelude.{◌≡◌, ◌^◌, IsSome, IfOk, OnOk, OnErr, length};
-ghost use Rattle.job_store.specs.Entries.{Rising, value_at, altered};
+ghost use Rattle.std.specs.Prelude.{◌≡◌, ◌^◌, IfOk, OnOk, OnErr, length};
+ghost use Rattle.job_store.specs.Entries.{Rising, altered};
 ghost use Rattle.session_store.specs.Sessions.{session_of, with_wait};
+ghost use Rattle.session_store.specs.Drafts.{IsThere};
 ghost use Rattle.session_store.specs.WatchLists.{joined, left_out};
 
 use crate::session::{SessionState, Wait};
@@ -41,8 +42,7 @@ pub fn watch(
     session: u32,
     name: Name,
 ) -> Result<usize, AllocError>
-    requires there { IsSome (value_at session sessions.old.entries) }
-    requires rising { Rising 0 (2 ^ 32) sessions.old.entries }
+    requires { IsThere session sessions.old.entries }
     ensures count { IfOk result (λ count. count
         ≡ length (joined name (session_of session sessions.old.entries).watched)) }
     ensures ok { OnOk result
@@ -62,8 +62,7 @@ pub fn watch(
 
 /// Lets a session that is there watch a tube no more, and tells how many it watches then.
 pub fn ignore(sessions: &mut BTreeMap<u32, SessionState>, session: u32, name: &Name) -> usize
-    requires there { IsSome (value_at session sessions.old.entries) }
-    requires rising { Rising 0 (2 ^ 32) sessions.old.entries }
+    requires { IsThere session sessions.old.entries }
     ensures count { result ≡ length
         (left_out name.now (session_of session sessions.old.entries).watched) }
     ensures sessions { sessions.new.entries

@@ -3,7 +3,7 @@ ghost use Rattle.object.specs.Lists.{In};
 ghost use Rattle.job_store.specs.Entries.{Rising, value_at, with_value, altered, without};
 ghost use Rattle.job_store.specs.LookUps.{is_among};
 ghost use Rattle.session_store.specs.Sessions.{new_session, session_of, with_wait, first_waiting, has_timed_out};
-ghost use Rattle.session_store.specs.Lines.{EachStands, StandsIn};
+ghost use Rattle.session_store.specs.Lines.{AllStand, StandsIn};
 ghost use Rattle.session_store.specs.Rolls.{is_named};
 ghost use Rattle.session_store.specs.WatchLists.{joined, left_out};
 
@@ -44,8 +44,8 @@ impl Model for SessionDraft {
 fn forget(lines: &mut Lines, sessions: &mut BTreeMap<u32, SessionState>, session: u32)
     requires { Rising 0 (2 ^ 32) sessions.old.entries }
     ensures sessions { sessions.new.entries ≡ without session sessions.old.entries }
-    ensures complete { EachStands (StandsIn lines.old) sessions.old.entries
-        → EachStands (StandsIn lines.new) sessions.new.entries }
+    ensures complete { AllStand (StandsIn lines.old) sessions.old.entries
+        → AllStand (StandsIn lines.new) sessions.new.entries }
 {
     if let Some(gone) = sessions.remove(&session) {
         lines.leave(sessions, gone.watched.as_slice(), session, gone.wait);

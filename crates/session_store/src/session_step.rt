@@ -1,6 +1,6 @@
 ghost use Rattle.std.specs.Prelude.{◌≡◌, ◌^◌};
 ghost use Rattle.job_store.specs.Entries.{Rising};
-ghost use Rattle.session_store.specs.Lines.{EachStands, StandsIn};
+ghost use Rattle.session_store.specs.Lines.{StillStand, StandsIn};
 ghost use Rattle.session_store.specs.Drafts.{session_step_back, sessions_before};
 
 use crate::lines::Lines;
@@ -60,9 +60,7 @@ fn leave_lines(
     session: u32,
     wait: Option<Wait>,
 )
-    requires { Rising 0 (2 ^ 32) sessions.now.entries }
-    ensures { EachStands (StandsIn lines.old) sessions.now.entries
-        → EachStands (StandsIn lines.new) sessions.now.entries }
+    ensures { StillStand (StandsIn lines.old) (StandsIn lines.new) sessions.now.entries }
 {
     match sessions.get(&session) {
         Some(found) => lines.leave(sessions, found.watched.as_slice(), session, wait),
@@ -73,9 +71,7 @@ fn leave_lines(
 /// Takes a session out of the lines where it stood before and after a step, and off the roll that it came on, unless it
 /// still stands there.
 fn leave_step(lines: &mut Lines, sessions: &BTreeMap<u32, SessionState>, step: SessionStep)
-    requires { Rising 0 (2 ^ 32) sessions.now.entries }
-    ensures { EachStands (StandsIn lines.old) sessions.now.entries
-        → EachStands (StandsIn lines.new) sessions.now.entries }
+    ensures { StillStand (StandsIn lines.old) (StandsIn lines.new) sessions.now.entries }
 {
     match step {
         SessionStep::Waited {
@@ -96,9 +92,7 @@ pub(crate) fn leave_steps(
     sessions: &BTreeMap<u32, SessionState>,
     steps: &[SessionStep],
 )
-    requires { Rising 0 (2 ^ 32) sessions.now.entries }
-    ensures { EachStands (StandsIn lines.old) sessions.now.entries
-        → EachStands (StandsIn lines.new) sessions.now.entries }
+    ensures { StillStand (StandsIn lines.old) (StandsIn lines.new) sessions.now.entries }
 {
     for step in steps {
         leave_step(lines, sessions, *step);

@@ -1,7 +1,6 @@
-ghost use Rattle.std.specs.Prelude.{◌≡◌, ◌^◌, OnOk, IfSome, option_map};
-ghost use Rattle.job_store.specs.Entries.{Rising};
+ghost use Rattle.std.specs.Prelude.{◌≡◌, OnOk, IfSome, option_map};
 ghost use Rattle.session_store.specs.Sessions.{first_waiting, has_timed_out, session_of};
-ghost use Rattle.session_store.specs.Lines.{EachStands, HasAll, IsIn, StandsByTimeOut, over_at, time_out_place};
+ghost use Rattle.session_store.specs.Lines.{AllStand, StillStand, HasAll, IsIn, StandsByTimeOut, over_at, time_out_place};
 
 use crate::place::{LinePlace, time_out_place};
 use crate::session::{SessionState, Wait};
@@ -64,9 +63,7 @@ impl TimeOuts {
 
     /// Takes a session out where it stood with this wait, unless it still stands there.
     pub fn leave(&mut self, sessions: &BTreeMap<u32, SessionState>, number: u32, wait: Option<Wait>)
-        requires { Rising 0 (2 ^ 32) sessions.now.entries }
-        ensures { EachStands (StandsByTimeOut self.old) sessions.now.entries
-            → EachStands (StandsByTimeOut self.new) sessions.now.entries }
+        ensures { StillStand (StandsByTimeOut self.old) (StandsByTimeOut self.new) sessions.now.entries }
     {
         let standing = wait_of(sessions, number);
         if let Some(place) = time_out_place(number, wait)
@@ -82,8 +79,7 @@ impl TimeOuts {
         sessions: &'a BTreeMap<u32, SessionState>,
         second: u64,
     ) -> Option<(u32, &'a SessionState)>
-        requires rising { Rising 0 (2 ^ 32) sessions.now.entries }
-        requires complete { EachStands (StandsByTimeOut self.now) sessions.now.entries }
+        requires { AllStand (StandsByTimeOut self.now) sessions.now.entries }
         ensures { option_map (λ e. (e.0, e.1.now)) result
             ≡ first_waiting (λ e. has_timed_out second e.1.wait) sessions.now.entries }
     {

@@ -1,10 +1,9 @@
-ghost use Rattle.std.specs.Prelude.{◌≡◌, ◌^◌, ℕ, List, [], IsTrue, true, OnOk, IfSome, option_map, filter_map, slice_get};
+ghost use Rattle.std.specs.Prelude.{◌≡◌, ℕ, List, [], IsTrue, true, OnOk, IfSome, option_map, filter_map, slice_get};
 ghost use Rattle.std.specs.BTreeSet.{IsOrdered};
-ghost use Rattle.job_store.specs.Entries.{Rising};
 ghost use Rattle.job_store.specs.LookUps.{is_among};
 ghost use Rattle.session_store.specs.Sessions.{first_waiting};
 ghost use Rattle.session_store.specs.declared.place.LinePlace.{LinePlace};
-ghost use Rattle.session_store.specs.Lines.{EachStands, HasAll, IsIn, StandsByTubes, tube_line, line_cmp, rank_place, waiter_at};
+ghost use Rattle.session_store.specs.Lines.{AllStand, StillStand, HasAll, IsIn, StandsByTubes, tube_line, line_cmp, rank_place, waiter_at};
 
 use crate::place::{LinePlace, rank_place};
 use crate::session::{SessionState, Wait};
@@ -151,9 +150,7 @@ impl TubeLines {
         number: u32,
         wait: Option<Wait>,
     )
-        requires { Rising 0 (2 ^ 32) sessions.now.entries }
-        ensures { EachStands (StandsByTubes self.old) sessions.now.entries
-            → EachStands (StandsByTubes self.new) sessions.now.entries }
+        ensures { StillStand (StandsByTubes self.old) (StandsByTubes self.new) sessions.now.entries }
     {
         if let Some(place) = rank_place(number, wait)
             && waiter_at(sessions, tube, place).is_none()
@@ -170,9 +167,7 @@ impl TubeLines {
         number: u32,
         wait: Option<Wait>,
     )
-        requires { Rising 0 (2 ^ 32) sessions.now.entries }
-        ensures { EachStands (StandsByTubes self.old) sessions.now.entries
-            → EachStands (StandsByTubes self.new) sessions.now.entries }
+        ensures { StillStand (StandsByTubes self.old) (StandsByTubes self.new) sessions.now.entries }
     {
         if wait.is_none() {
             return;
@@ -188,8 +183,7 @@ impl TubeLines {
         sessions: &'a BTreeMap<u32, SessionState>,
         tube: &Name,
     ) -> Option<(u32, &'a SessionState)>
-        requires rising { Rising 0 (2 ^ 32) sessions.now.entries }
-        requires complete { EachStands (StandsByTubes self.now) sessions.now.entries }
+        requires { AllStand (StandsByTubes self.now) sessions.now.entries }
         ensures { option_map (λ e. (e.0, e.1.now)) result
             ≡ first_waiting (λ e. is_among tube.now e.1.watched) sessions.now.entries }
     {

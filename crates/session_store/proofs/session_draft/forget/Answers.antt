@@ -1,35 +1,25 @@
 use Rattle.std.proofs.Common.{◌∙◌}
 use Rattle.job_store.proofs.maps.Entries.{remove_entry-without}
 use Rattle.session_store.specs.Lines.{StandsIn}
-use Rattle.session_store.proofs.Standing.{each-without}
-use Rattle.session_store.proofs.SessionDrafts.{removal-rises}
+use Rattle.session_store.proofs.Standing.{all-without}
 use Rattle.session_store.proofs.session_draft.forget.Goals as goal
-
-pub leave-requires : goal.leave-requires
-leave-requires c = removal-rises c.args.session _ _ _ c.requires (c.remove.ensures.entries ∙ remove_entry-without _ _ _ _ c.requires)
-
-pub strike-requires : goal.strike-requires
-strike-requires c = removal-rises c.args.session _ _ _ c.requires (c.remove.ensures.entries ∙ remove_entry-without _ _ _ _ c.requires)
-
-pub strike_all-requires : goal.strike_all-requires
-strike_all-requires c = removal-rises c.args.session _ _ _ c.requires (c.remove.ensures.entries ∙ remove_entry-without _ _ _ _ c.requires)
 
 pub returns-in-Some-clause-sessions : goal.returns-in-Some-clause-sessions
 returns-in-Some-clause-sessions c = c.remove.ensures.entries ∙ remove_entry-without _ _ _ _ c.requires
 
 pub returns-in-Some-clause-complete : goal.returns-in-Some-clause-complete
 returns-in-Some-clause-complete c =
-    λ h.
+    λ all.
     c.strike_all.ensures
     (c.strike.ensures
-    (c.leave.ensures (each-without
+    (c.leave.ensures (all-without
     (StandsIn c.args.lines.now) c.args.session c.args.sessions.now.entries c.remove.new.self.entries
-    (c.remove.ensures.entries ∙ remove_entry-without _ _ _ _ c.requires) h)))
+    (c.remove.ensures.entries ∙ remove_entry-without _ _ _ _ c.requires) all)))
 
 pub returns-in_default-clause-sessions : goal.returns-in_default-clause-sessions
 returns-in_default-clause-sessions c = c.remove.ensures.entries ∙ remove_entry-without _ _ _ _ c.requires
 
 pub returns-in_default-clause-complete : goal.returns-in_default-clause-complete
 returns-in_default-clause-complete c =
-    each-without (StandsIn c.args.lines.now) c.args.session c.args.sessions.now.entries c.remove.new.self.entries
+    all-without (StandsIn c.args.lines.now) c.args.session c.args.sessions.now.entries c.remove.new.self.entries
     (c.remove.ensures.entries ∙ remove_entry-without _ _ _ _ c.requires)

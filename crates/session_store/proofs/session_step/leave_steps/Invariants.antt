@@ -1,5 +1,5 @@
-use Rattle.session_store.specs.Lines.{StandsIn, EachStands}
+use Rattle.session_store.specs.Lines.{StandsIn, StillStand}
 use Rattle.session_store.proofs.session_step.leave_steps.Given as goal
 
 abbrev pub invariant-loop-step : goal.invariant-loop-step
-invariant-loop-step l = EachStands (StandsIn l.initial.lines) l.sessions.entries → EachStands (StandsIn l.lines) l.sessions.entries
+invariant-loop-step l = StillStand (StandsIn l.initial.lines) (StandsIn l.lines) l.sessions.entries

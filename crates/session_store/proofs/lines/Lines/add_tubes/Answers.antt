@@ -1,4 +1,5 @@
+use Rattle.session_store.proofs.Standing.{stand-so}
 use Rattle.session_store.proofs.lines.Lines.add_tubes.Goals as goal
 
-pub add_tubes-requires-clause-complete : goal.add_tubes-requires-clause-complete
-add_tubes-requires-clause-complete c = λ e i. (c.requires.complete e i).2
+pub add_tubes-requires : goal.add_tubes-requires
+add_tubes-requires c = stand-so c.requires (λ e h. h.2)

@@ -1,4 +1,5 @@
+use Rattle.session_store.proofs.Standing.{stand-so}
 use Rattle.session_store.proofs.lines.Lines.first_watcher.Goals as goal
 
-pub first-requires-clause-complete : goal.first-requires-clause-complete
-first-requires-clause-complete c = λ e i. (c.requires.complete e i).1
+pub first-requires : goal.first-requires
+first-requires c = stand-so c.requires (λ e h. h.1)

@@ -1,4 +1,5 @@
+use Rattle.session_store.proofs.Standing.{stand-so}
 use Rattle.session_store.proofs.lines.Lines.has_named.Goals as goal
 
-pub has_named-requires-clause-complete : goal.has_named-requires-clause-complete
-has_named-requires-clause-complete c = λ e i. (c.requires.complete e i).2
+pub has_named-requires : goal.has_named-requires
+has_named-requires c = stand-so c.requires (λ e h. h.2)

@@ -1,4 +1,7 @@
+use Rattle.session_store.proofs.Standing.{stand-so}
 use Rattle.session_store.proofs.lines.Lines.strike.Goals as goal
 
 pub returns : goal.returns
-returns c = λ h e i. ((h e i).0, (h e i).1, c.strike.ensures (λ d j. (h d j).2) e i)
+returns c all =
+    let rolls = c.strike.ensures (stand-so all (λ e h. h.2)) in
+    record { rising = all.rising; each = λ e i. ((all.each e i).0, (all.each e i).1, rolls.each e i) }

@@ -1,29 +1,16 @@
 use Rattle.session_store.specs.declared.session.SessionState.{SessionState}
 use Rattle.session_store.specs.Lines.{StandsIn}
 use Rattle.session_store.specs.WatchLists.{left_out}
-use Rattle.session_store.proofs.Standing.{each-kept, stands-less}
-use Rattle.session_store.proofs.SessionDrafts.{change-rises, kept}
+use Rattle.session_store.proofs.Standing.{all-kept, stands-less}
+use Rattle.session_store.proofs.SessionDrafts.{kept}
 use Rattle.session_store.proofs.session_draft.SessionDraft.ignore_for_good.Goals as goal
-
-pub leave_tube-requires : goal.leave_tube-requires
-leave_tube-requires c = change-rises c.args.session _
-    (λ (s : SessionState). record s { watched = left_out c.args.name.now s.watched }) _ _ c.self.invariant.rising
-    c.ignore-count.ensures.sessions
-
-pub strike-requires : goal.strike-requires
-strike-requires c = change-rises c.args.session _
-    (λ (s : SessionState). record s { watched = left_out c.args.name.now s.watched }) _ _ c.self.invariant.rising
-    c.ignore-count.ensures.sessions
 
 pub invariant_of-self : goal.invariant_of-self
 invariant_of-self c =
     kept _ _ _ c.clear.ensures.items
-    (change-rises c.args.session _
-    (λ (s : SessionState). record s { watched = left_out c.args.name.now s.watched }) _ _ c.self.invariant.rising
-    c.ignore-count.ensures.sessions)
     (c.strike.ensures
     (c.leave_tube.ensures
-    (each-kept (StandsIn c.leave_steps.new.lines) c.args.session
+    (all-kept (StandsIn c.leave_steps.new.lines) c.args.session
     (λ (s : SessionState). record s { watched = left_out c.args.name.now s.watched }) _ _
     c.ignore-count.ensures.sessions (λ s h. stands-less c.leave_steps.new.lines c.args.session c.args.name.now s h)
     (c.leave_steps.ensures c.self.invariant.now))))

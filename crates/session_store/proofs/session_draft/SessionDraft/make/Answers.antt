@@ -2,26 +2,22 @@ use Rattle.std.proofs.Common.{◌≡◌, ◌∙◌, ap, sym, subst, List, ℕ, r
 use Rattle.job_store.specs.Entries.{value_at, with_value}
 use Rattle.session_store.specs.declared.session.SessionState.{SessionState}
 use Rattle.session_store.specs.Rolls.{IsOn}
-use Rattle.session_store.specs.Drafts.{Draft, AreInLines, sessions_before}
-use Rattle.session_store.proofs.Standing.{each-grown, each-made}
-use Rattle.session_store.proofs.SessionDrafts.{before-step, made-back, made-rises, stepped}
+use Rattle.session_store.specs.Drafts.{Draft, AreInLines}
+use Rattle.session_store.proofs.Standing.{all-grown, all-made}
+use Rattle.session_store.proofs.SessionDrafts.{before-step, made-back, stepped, grown}
 use Rattle.session_store.proofs.session_draft.SessionDraft.make.Goals as goal
 
 pub invariant_of-self-in_err-enrol : goal.invariant_of-self-in_err-enrol
 invariant_of-self-in_err-enrol c =
-    stepped c.self.inside.lines c.enrol.new.self c.self.inside.steps.items c.reserve.new.self.items
-    c.self.inside.sessions.entries c.self.inside.sessions.entries c.enrol.ensures.grown
-    (ap (λ steps. sessions_before steps c.self.inside.sessions.entries) c.in_ok-reserve.ensures.items) c.self.invariant.rising
-    (each-grown c.self.inside.lines c.enrol.new.self c.self.inside.sessions.entries c.enrol.ensures.grown c.self.invariant.now) c.self.invariant
+    grown c.self.inside.lines c.enrol.new.self c.self.inside.steps.items c.reserve.new.self.items
+    c.self.inside.sessions.entries c.enrol.ensures.grown c.in_ok-reserve.ensures.items c.self.invariant
 
 pub invariant_of-self-in_err-insert : goal.invariant_of-self-in_err-insert
 invariant_of-self-in_err-insert c =
     let same : c.insert.new.self.entries ≡ c.self.inside.sessions.entries = search rules in
     subst (AreInLines c.enrol.new.self c.reserve.new.self.items) (sym same)
-    (stepped c.self.inside.lines c.enrol.new.self c.self.inside.steps.items c.reserve.new.self.items
-    c.self.inside.sessions.entries c.self.inside.sessions.entries c.enrol.ensures.grown
-    (ap (λ steps. sessions_before steps c.self.inside.sessions.entries) c.in_ok-reserve.ensures.items) c.self.invariant.rising
-    (each-grown c.self.inside.lines c.enrol.new.self c.self.inside.sessions.entries c.enrol.ensures.grown c.self.invariant.now) c.self.invariant)
+    (grown c.self.inside.lines c.enrol.new.self c.self.inside.steps.items c.reserve.new.self.items
+    c.self.inside.sessions.entries c.enrol.ensures.grown c.in_ok-reserve.ensures.items c.self.invariant)
 
 pub invariant_of-self-2 : goal.invariant_of-self-2
 invariant_of-self-2 c =
@@ -33,13 +29,12 @@ invariant_of-self-2 c =
     (made-back c.args.session _ _ _
     (ap (λ (d : Draft (List (ℕ × SessionState))). value_at c.args.session d.now) c.self.view_is ∙ c.requires)
     c.in_ok-insert.ensures.entries))
-    (made-rises c.args.session _ _ _ _ c.ranges.session.fits c.self.invariant.rising c.in_ok-insert.ensures.entries)
-    (each-made c.enrol.new.self c.args.session _ _
+    (all-made c.enrol.new.self c.args.session _ _ c.ranges.session.fits
     (c.in_ok-insert.ensures.entries ∙ ap
     (λ s. with_value c.args.session s c.self.inside.sessions.entries) c.in_ok-made.ensures)
     (subst (λ t. IsOn t c.enrol.new.self.rolls c.args.session)
     (ap (λ (v : SessionState). v.used) c.in_ok-made.ensures) c.in_ok-enrol.ensures.on)
-    (each-grown c.self.inside.lines c.enrol.new.self c.self.inside.sessions.entries c.enrol.ensures.grown c.self.invariant.now))
+    (all-grown c.self.inside.lines c.enrol.new.self c.self.inside.sessions.entries c.enrol.ensures.grown c.self.invariant.now))
     c.self.invariant
 
 pub returns-clause-before : goal.returns-clause-before

@@ -15,4 +15,4 @@ loop-place-preserved-in-Some-over_at c =
 pub returns : goal.returns
 returns c =
     first-end wait_rank (over_at c.args.second c.args.sessions.now.entries) _ _ _ c.in-None.ensures.steps.0 c.loop-place.invariant ∙
-    over_found c.args.second c.args.sessions.now.entries c.args.self.now c.requires.rising c.requires.complete
+    over_found c.args.second c.args.sessions.now.entries c.args.self.now c.requires

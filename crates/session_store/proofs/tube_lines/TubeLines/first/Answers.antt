@@ -6,7 +6,7 @@ pub returns-in-Some : goal.returns-in-Some
 returns-in-Some c =
     c.first_standing.ensures.first ∙
     first-in-line c.args.tube.now c.args.sessions.now.entries c.args.self.now c.in-Some.line.now c.in-Some.ensures.value
-    c.requires.rising c.requires.complete c.first_standing.ensures.ordered
+    c.requires c.first_standing.ensures.ordered
 
 pub returns-in-None : goal.returns-in-None
-returns-in-None c = none-in-line c.args.tube.now c.args.sessions.now.entries c.args.self.now c.in-None.ensures.value c.requires.rising c.requires.complete
+returns-in-None c = none-in-line c.args.tube.now c.args.sessions.now.entries c.args.self.now c.in-None.ensures.value c.requires
