@@ -1,6 +1,6 @@
 -- The ends of pauses, and the steps that take changes back.
 use Rattle.std.proofs.Common.{◌≡◌, ℕ, ◌≤◌, ◌⊎◌, inl, inr, List, [], ◌∷◌, ◌++◌, refl, sym, ap, ap₂, subst, ◌∙◌, arith}
-use Rattle.std.proofs.Common.{Some, None, Ordering, Less, Equal, Greater, nat_lt, ltb-false, ltb-true, true, false}
+use Rattle.std.proofs.Common.{Some, None, Less, Equal, Greater, nat_lt, ltb-false, ltb-true, true, false}
 use Rattle.std.specs.Ordering.{match_ordering, nat_cmp, ordering_then}
 use Rattle.std.specs.List.{AllByRecursion}
 use Rattle.std.specs.List.Sorted.{IsStrictlySortedBy}
@@ -10,11 +10,12 @@ use Rattle.std.specs.BTreeSet.{insert_key}
 use Rattle.std.proofs.lemmas.Map.Keys.{sorted_head, sorted_tail}
 use Rattle.std.proofs.lemmas.Map.Lookups.{exact_bytes, exact_unsigned}
 use Rattle.object.specs.Lists.{In}
+use Rattle.object.specs.KeyLaws.{then_equal}
 use Rattle.job_store.specs.Racks.{name_cmp}
 use Rattle.job_store.specs.EntryLaws.{cmp_greater}
 use Rattle.pause_store.specs.declared.pause.Pause.{Pause}
 use Rattle.pause_store.specs.declared.pause_step.PauseStep.{PauseStep}
-use Rattle.pause_store.specs.Pauses.{HasEnds, pause_cmp, step_back, before_steps}
+use Rattle.pause_store.specs.Pauses.{AreInOrder, DropsOver, HasEnds, pause_cmp, step_back, before_steps}
 use Rattle.pause_store.proofs.Seconds.{remove-insert, set-insert}
 
 pub before-push : (steps : List PauseStep) (step : PauseStep) (es : List (List ℕ × ℕ))
@@ -50,9 +51,6 @@ pub ends-grown : (second : ℕ) (ends more : List Pause) (es fs : List (List ℕ
     → ((p : Pause) → In p ends → In p more) → HasEnds second ends es → HasEnds second more fs
 ends-grown second ends more es fs is grown h p i later = grown (record { until = p.1; tube = p.0 }) (h p (subst (In p) is i) later)
 
-pub ends-later : (second later : ℕ) (ends : List Pause) (es : List (List ℕ × ℕ)) → second ≤ later → HasEnds second ends es → HasEnds later ends es
-ends-later second later ends es h e p i l = e p i (omega (arith, h, l))
-
 -- the first end is over, and went
 pub ends-less : (second : ℕ) (end : Pause) (ends rest : List Pause) (es fs : List (List ℕ × ℕ)) → end.until ≤ second
     → ends ≡ end ∷ rest → ((p : List ℕ × ℕ) → In p fs → In p es) → HasEnds second ends es → HasEnds second rest fs
@@ -63,11 +61,6 @@ ends-less second end ends rest es fs over is fewer h p i later =
     ]
 
 -- Ends in their order
-
-then_equal : (a b : Ordering) → ordering_then a b ≡ Equal → (a ≡ Equal) × (b ≡ Equal)
-then_equal Less b e = cc
-then_equal Equal b e = (refl, e)
-then_equal Greater b e = cc
 
 same-pause : (p q : Pause) → pause_cmp p q ≡ Equal → p ≡ q
 same-pause p q e =
@@ -150,3 +143,15 @@ before-less steps fewer step es fs before is was back =
 
 pub sorted-rest : (items rest : List Pause) (first : Pause) → items ≡ first ∷ rest → IsStrictlySortedBy pause_cmp items → IsStrictlySortedBy pause_cmp rest
 sorted-rest items rest first is sorted = sorted_tail pause_cmp first rest (subst (IsStrictlySortedBy pause_cmp) is sorted)
+
+-- What is over is dropped
+
+pub drops-none : (second : ℕ) (es : List (List ℕ × ℕ)) → AreInOrder es → DropsOver second es es
+drops-none second es ordered = record { left = refl; ordered = ordered; fewer = λ p i. i }
+
+pub drops-twice : {second : ℕ} {a b c : List (List ℕ × ℕ)} → DropsOver second a b → DropsOver second b c → DropsOver second a c
+drops-twice one two = record {
+  left = two.left ∙ one.left;
+  ordered = two.ordered;
+  fewer = λ p i. one.fewer p (two.fewer p i);
+}

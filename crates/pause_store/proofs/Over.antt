@@ -18,7 +18,7 @@ joined-keeps name names tube i =
     elim (is_among name names) as (λ b. In tube
     (cond b names (names ++ name ∷ []))) [ true ↦ i | false ↦ in-front tube names (name ∷ []) i ]
 
-joined-has : (name : List ℕ) (names : List (List ℕ)) → In name (joined name names)
+pub joined-has : (name : List ℕ) (names : List (List ℕ)) → In name (joined name names)
 joined-has name names =
     elim (is_among name names) as (λ b. is_among name names ≡ b → In name (cond b names (names ++ name ∷ []))) [
       | true ↦ λ e. (among-member name names).0 e

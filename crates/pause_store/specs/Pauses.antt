@@ -1,5 +1,5 @@
 -- Until which second tubes are paused.
-use Rattle.std.specs.Prelude.{ℕ, ◌+◌, ◌^◌, ◌<◌, ◌≤◌, Bool, not, List, [], ◌∷◌, ◌==◌, nat_lt, bytes_eq, if◌then◌else◌}
+use Rattle.std.specs.Prelude.{◌≡◌, ℕ, ◌+◌, ◌^◌, ◌<◌, ◌≤◌, Bool, not, List, [], ◌∷◌, ◌==◌, nat_lt, bytes_eq, if◌then◌else◌}
 use Rattle.std.specs.declared.cmp.Ordering.{Ordering}
 use Rattle.std.specs.Ordering.{nat_cmp, ordering_then}
 use Rattle.std.specs.List.{filter}
@@ -66,6 +66,21 @@ abbrev pub before_steps : List PauseStep → List (List ℕ × ℕ) → List (Li
 before_steps [] es = es
 before_steps (step ∷ steps) es = step_back step (before_steps steps es)
 
+-- the tubes stand in the order of their names, each once
+abbrev pub AreInOrder : List (List ℕ × ℕ) → Type 0
+AreInOrder es = IsStrictlySortedBy name_cmp (keys_of es)
+
+-- of what was there, some that is over at this second has gone, and nothing else
+pub record DropsOver (second : ℕ) (old new : List (List ℕ × ℕ)) : Type 0 where
+  pub left : left_at second new ≡ left_at second old
+  pub ordered : AreInOrder new
+  pub fewer : (p : List ℕ × ℕ) → In p new → In p old
+
+-- the map, in order, has become this
+pub record GoesTo (es wanted : List (List ℕ × ℕ)) : Type 0 where
+  pub same : es ≡ wanted
+  pub ordered : AreInOrder es
+
 -- ends go by their second, and then by the tube's name
 abbrev pub pause_cmp : Pause → Pause → Ordering
 pause_cmp p q = ordering_then (nat_cmp p.until q.until) (name_cmp p.tube q.tube)
@@ -78,6 +93,6 @@ HasEnds second ends es = (p : List ℕ × ℕ) → In p es → second < p.1 → 
 pub record IsComplete (kept second : ℕ) (ends : List Pause) (steps : List PauseStep) (es : List (List ℕ × ℕ)) : Type 0 where
   pub later : kept ≤ second
   pub in_range : second ≤ 2 ^ 40
-  pub ordered : IsStrictlySortedBy name_cmp (keys_of es)
+  pub ordered : AreInOrder es
   pub now : HasEnds kept ends es
   pub before : HasEnds kept ends (before_steps steps es)

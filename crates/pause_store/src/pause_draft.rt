@@ -1,10 +1,8 @@
 ghost use Rattle.std.specs.Prelude.{◌≡◌, ◌<◌, ◌≤◌, ◌^◌, ◌∷◌, ◌⊎◌, ◌↔◌, ℕ, List, true, IfSome, IfNone, OnOk, OnErr};
-ghost use Rattle.std.specs.List.Sorted.{IsStrictlySortedBy};
-ghost use Rattle.std.specs.Map.{keys_of};
 ghost use Rattle.object.specs.Lists.{In};
-ghost use Rattle.job_store.specs.Racks.{name_cmp};
+ghost use Rattle.job_store.specs.NameSets.{AddsAll};
 ghost use Rattle.pause_store.specs.declared.pause.Pause.{Pause};
-ghost use Rattle.pause_store.specs.Pauses.{fresh, is_paused, paused_for, at_second, left_at, tubes_over, HasEnds};
+ghost use Rattle.pause_store.specs.Pauses.{fresh, is_paused, paused_for, at_second, left_at, tubes_over, AreInOrder, DropsOver, HasEnds};
 
 use crate::pause::Pause;
 use crate::pause_step::{PauseStep, set_second, take_steps_back};
@@ -56,7 +54,7 @@ fn note_end(ends: &mut BTreeSet<Pause>, tube: &Name, until: u64) -> Result<(), A
 
 /// Whether a pause that isn't over at this second ends there.
 fn is_end(seconds: &BTreeMap<Name, u64>, second: u64, end: &Pause) -> bool
-    requires { IsStrictlySortedBy name_cmp (keys_of seconds.now.entries) }
+    requires { AreInOrder seconds.now.entries }
     ensures { (result ≡ true)
         ↔ In (end.now.tube, end.now.until) (left_at second seconds.now.entries) }
 {
@@ -78,14 +76,11 @@ fn add_tubes_over(
     second: u64,
     tubes: &mut IndexSet<Name>,
 ) -> Result<(), AllocError>
-    requires ordered { IsStrictlySortedBy name_cmp (keys_of seconds.now.entries) }
+    requires ordered { AreInOrder seconds.now.entries }
     requires ends { HasEnds earlier ends.now.keys seconds.now.entries }
-    ensures grown { (tube : List ℕ) → In tube tubes.old.keys → In tube tubes.new.keys }
-    ensures over { OnOk result ((tube : List ℕ)
-        → In tube (tubes_over second (left_at earlier seconds.now.entries))
-        → In tube tubes.new.keys) }
-    ensures no_others { (tube : List ℕ) → In tube tubes.new.keys → In tube tubes.old.keys
-        ⊎ In tube (tubes_over second (left_at earlier seconds.now.entries)) }
+    ensures { AddsAll
+        (λ tube. In tube (tubes_over second (left_at earlier seconds.now.entries)))
+        tubes.old.keys tubes.new.keys result }
 {
     for end in ends {
         if end.until > second {
@@ -111,10 +106,8 @@ fn pop_over(ends: &mut BTreeSet<Pause>, second: u64) -> Option<Pause>
 
 /// Takes the second of a tube out, if it is over at this one.
 fn drop_over(seconds: &mut BTreeMap<Name, u64>, tube: &Name, second: u64)
-    requires { IsStrictlySortedBy name_cmp (keys_of seconds.old.entries) }
-    ensures left { left_at second seconds.new.entries ≡ left_at second seconds.old.entries }
-    ensures ordered { IsStrictlySortedBy name_cmp (keys_of seconds.new.entries) }
-    ensures fewer { (p : List ℕ × ℕ) → In p seconds.new.entries → In p seconds.old.entries }
+    requires { AreInOrder seconds.old.entries }
+    ensures { DropsOver second seconds.old.entries seconds.new.entries }
 {
     match seconds.get(tube) {
         Some(until) if *until <= second => {
@@ -126,10 +119,9 @@ fn drop_over(seconds: &mut BTreeMap<Name, u64>, tube: &Name, second: u64)
 
 /// Takes out what is over at this second.
 fn drop_all_over(seconds: &mut BTreeMap<Name, u64>, ends: &mut BTreeSet<Pause>, second: u64)
-    requires ordered { IsStrictlySortedBy name_cmp (keys_of seconds.old.entries) }
+    requires ordered { AreInOrder seconds.old.entries }
     requires ends { HasEnds second ends.old.keys seconds.old.entries }
-    ensures left { left_at second seconds.new.entries ≡ left_at second seconds.old.entries }
-    ensures ordered { IsStrictlySortedBy name_cmp (keys_of seconds.new.entries) }
+    ensures dropped { DropsOver second seconds.old.entries seconds.new.entries }
     ensures ends { HasEnds second ends.new.keys seconds.new.entries }
 {
     'over: while let Some(end) = pop_over(ends, second) {

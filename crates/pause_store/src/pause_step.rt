@@ -1,9 +1,7 @@
 ghost use Rattle.std.specs.Prelude.{◌≡◌, [], OnOk, OnErr};
-ghost use Rattle.std.specs.List.Sorted.{IsStrictlySortedBy};
-ghost use Rattle.std.specs.Map.{keys_of};
 ghost use Rattle.std.specs.BTreeMap.{insert_entry};
 ghost use Rattle.job_store.specs.Racks.{name_cmp};
-ghost use Rattle.pause_store.specs.Pauses.{step_back, before_steps};
+ghost use Rattle.pause_store.specs.Pauses.{step_back, before_steps, AreInOrder, GoesTo};
 
 use crate::pause::Pause;
 use job_store::Name;
@@ -22,9 +20,8 @@ pub(crate) enum PauseStep {
 
 /// Takes one step back.
 fn take_step_back(seconds: &mut BTreeMap<Name, u64>, step: PauseStep)
-    requires { IsStrictlySortedBy name_cmp (keys_of seconds.old.entries) }
-    ensures seconds { seconds.new.entries ≡ step_back step seconds.old.entries }
-    ensures ordered { IsStrictlySortedBy name_cmp (keys_of seconds.new.entries) }
+    requires { AreInOrder seconds.old.entries }
+    ensures { GoesTo seconds.new.entries (step_back step seconds.old.entries) }
 {
     match step {
         PauseStep::Begun(tube) => {
@@ -40,9 +37,9 @@ fn take_step_back(seconds: &mut BTreeMap<Name, u64>, step: PauseStep)
 
 /// Takes all these steps back, the last one first.
 pub(crate) fn take_steps_back(seconds: &mut BTreeMap<Name, u64>, steps: &mut Vec<PauseStep>)
-    requires { IsStrictlySortedBy name_cmp (keys_of seconds.old.entries) }
-    ensures seconds { seconds.new.entries ≡ before_steps steps.old.items seconds.old.entries }
-    ensures ordered { IsStrictlySortedBy name_cmp (keys_of seconds.new.entries) }
+    requires { AreInOrder seconds.old.entries }
+    ensures seconds { GoesTo seconds.new.entries
+        (before_steps steps.old.items seconds.old.entries) }
     ensures steps { steps.new.items ≡ [] }
 {
     while let Some(step) = steps.pop() {
@@ -57,13 +54,13 @@ pub(crate) fn set_second(
     tube: &Name,
     until: u64,
 ) -> Result<(), AllocError>
-    requires { IsStrictlySortedBy name_cmp (keys_of seconds.old.entries) }
+    requires { AreInOrder seconds.old.entries }
     ensures seconds { OnOk result
         (seconds.new.entries ≡ insert_entry name_cmp seconds.old.entries tube.now until) }
     ensures err { OnErr result (seconds.new.entries ≡ seconds.old.entries) }
     ensures before { before_steps steps.new.items seconds.new.entries
         ≡ before_steps steps.old.items seconds.old.entries }
-    ensures ordered { IsStrictlySortedBy name_cmp (keys_of seconds.new.entries) }
+    ensures ordered { AreInOrder seconds.new.entries }
 {
     steps.reserve(1)?;
     let step = match seconds.get(tube) {

@@ -1,6 +1,7 @@
 use Rattle.std.proofs.Common.{◌∙◌, sym, subst, arith}
 use Rattle.std.proofs.lemmas.Bool.{false≢true}
 use Rattle.object.specs.Lists.{In}
+use Rattle.job_store.proofs.shelving.Shelving.{not_ok}
 use Rattle.pause_store.specs.Pauses.{left_at, tubes_over}
 use Rattle.pause_store.proofs.Ends.{sorted-rest}
 use Rattle.pause_store.proofs.Seconds.{over-in}
@@ -36,21 +37,35 @@ loop-end-preserved c = record {
   sorted = sorted-rest c.loop-end.end-iterator c.next.new.self c.in-Some.end.now c.in-Some.ensures.steps c.loop-end.invariant.sorted;
 }
 
-pub returns-in-None-clause-over : goal.returns-in-None-clause-over
-returns-in-None-clause-over c =
-    all-gathered c.args.earlier c.args.seconds.now.entries c.args.ends.now.keys c.args.second c.loop-end.end-iterator
-    c.loop-end.tubes.keys c.requires.ends
-    (none-left c.args.second c.loop-end.end-iterator c.in-None.ensures.steps.0) c.loop-end.invariant.over
+pub returns-in-None : goal.returns-in-None
+returns-in-None c = record {
+  kept = c.loop-end.invariant.grown;
+  only = c.loop-end.invariant.no_others;
+  all = all-gathered c.args.earlier c.args.seconds.now.entries c.args.ends.now.keys c.args.second c.loop-end.end-iterator
+      c.loop-end.tubes.keys c.requires.ends
+      (none-left c.args.second c.loop-end.end-iterator c.in-None.ensures.steps.0) c.loop-end.invariant.over;
+}
 
-pub returns-then-end-second-clause-over : goal.returns-then-end-second-clause-over
-returns-then-end-second-clause-over c =
-    all-gathered c.args.earlier c.args.seconds.now.entries c.args.ends.now.keys c.args.second c.loop-end.end-iterator
-    c.loop-end.tubes.keys c.requires.ends
-    (all-late c.args.second c.loop-end.end-iterator c.next.new.self c.in-Some.end.now c.in-Some.ensures.steps
-    c.if-end-second.true c.loop-end.invariant.sorted) c.loop-end.invariant.over
+pub returns-then-end-second : goal.returns-then-end-second
+returns-then-end-second c = record {
+  kept = c.loop-end.invariant.grown;
+  only = c.loop-end.invariant.no_others;
+  all = all-gathered c.args.earlier c.args.seconds.now.entries c.args.ends.now.keys c.args.second c.loop-end.end-iterator
+      c.loop-end.tubes.keys c.requires.ends
+      (all-late c.args.second c.loop-end.end-iterator c.next.new.self c.in-Some.end.now c.in-Some.ensures.steps
+      c.if-end-second.true c.loop-end.invariant.sorted) c.loop-end.invariant.over;
+}
 
-pub returns-in_err-insert-clause-grown : goal.returns-in_err-insert-clause-grown
-returns-in_err-insert-clause-grown c = λ tube i. subst (In tube) (sym c.in_err-insert.ensures.err) (c.loop-end.invariant.grown tube i)
+pub returns-in_err-copy : goal.returns-in_err-copy
+returns-in_err-copy c = record {
+  kept = c.loop-end.invariant.grown;
+  only = c.loop-end.invariant.no_others;
+  all = not_ok _ c.from_residual.result c.from_residual.ensures.0;
+}
 
-pub returns-in_err-insert-clause-no_others : goal.returns-in_err-insert-clause-no_others
-returns-in_err-insert-clause-no_others c = λ tube i. c.loop-end.invariant.no_others tube (subst (In tube) c.in_err-insert.ensures.err i)
+pub returns-in_err-insert : goal.returns-in_err-insert
+returns-in_err-insert c = record {
+  kept = λ tube i. subst (In tube) (sym c.in_err-insert.ensures.err) (c.loop-end.invariant.grown tube i);
+  only = λ tube i. c.loop-end.invariant.no_others tube (subst (In tube) c.in_err-insert.ensures.err i);
+  all = not_ok _ c.from_residual-in_err-insert.result c.from_residual-in_err-insert.ensures.0;
+}

@@ -1,11 +1,12 @@
-use Rattle.std.proofs.Common.{◌∙◌}
-use Rattle.pause_store.proofs.Ends.{ends-less}
+use Rattle.pause_store.proofs.Ends.{ends-less, drops-none, drops-twice}
 use Rattle.pause_store.proofs.pause_draft.drop_all_over.Goals as goal
+
+pub over-init : goal.over-init
+over-init c = record { dropped = drops-none c.args.second c.args.seconds.now.entries c.requires.ordered; ends = c.requires.ends }
 
 pub over-preserved-in-Some : goal.over-preserved-in-Some
 over-preserved-in-Some c = record {
-  left = c.drop_over.ensures.left ∙ c.over.invariant.left;
-  ordered = c.drop_over.ensures.ordered;
+  dropped = drops-twice c.over.invariant.dropped c.drop_over.ensures;
   ends = ends-less c.args.second c.in-Some.end c.over.ends.keys c.pop_over.new.ends.keys c.over.seconds.entries
       c.drop_over.new.seconds.entries c.in-Some.ensures.some.0 c.in-Some.ensures.some.1 c.drop_over.ensures.fewer
       c.over.invariant.ends;
@@ -13,8 +14,7 @@ over-preserved-in-Some c = record {
 
 pub over-preserved : goal.over-preserved
 over-preserved c = record {
-  left = c.drop_over.ensures.left ∙ c.over.invariant.left;
-  ordered = c.drop_over.ensures.ordered;
+  dropped = drops-twice c.over.invariant.dropped c.drop_over.ensures;
   ends = ends-less c.args.second c.in-Some.end c.over.ends.keys c.pop_over.new.ends.keys c.over.seconds.entries
       c.drop_over.new.seconds.entries c.in-Some.ensures.some.0 c.in-Some.ensures.some.1 c.drop_over.ensures.fewer
       c.over.invariant.ends;

@@ -8,6 +8,6 @@ loop-step-preserved c = (
   before-less c.loop-step.steps.items c.pop.new.self.items c.in-Some.step c.loop-step.seconds.entries
       c.take_step_back.new.seconds.entries _
       (c.pop.ensures.items ∙ ap (λ o. c.pop.new.self.items ++ option_to_list o) c.in-Some.is) c.loop-step.invariant.0
-      c.take_step_back.ensures.seconds,
+      c.take_step_back.ensures.same,
   c.take_step_back.ensures.ordered,
 )
