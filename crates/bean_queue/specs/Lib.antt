@@ -15,3 +15,4 @@ pub mod Owed
 pub mod Sound
 pub mod WaitLaws
 pub mod Searches
+pub mod Calls

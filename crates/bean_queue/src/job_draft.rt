@@ -1,6 +1,7 @@
-ghost use Rattle.std.specs.Prelude.{◌≡◌, ◌^◌, [], IsSome, OnOk, OnErr};
+ghost use Rattle.std.specs.Prelude.{◌≡◌, ◌^◌, [], IsSome};
 ghost use Rattle.job_store.specs.Entries.{Rising, with_value, altered, without};
 ghost use Rattle.job_store.specs.States.{with_state, with_pri_and_state};
+ghost use Rattle.bean_queue.specs.Calls.{DraftsState, KeepsDraft, TakesDraftBack};
 
 use job_store::{Job, JobMap, State};
 use std::alloc::{AllocError, Global};
@@ -47,36 +48,29 @@ impl<M: JobMap> JobDraft<M> {
 
     /// Puts a job at an id.
     pub fn insert(&mut self, id: u64, job: Job) -> Result<(), AllocError>
-        ensures now { OnOk result (self.new.now ≡ with_value id job self.old.now) }
-        ensures before { self.new.before ≡ self.old.before }
-        ensures err { OnErr result (self.new.now ≡ self.old.now) }
+        ensures { DraftsState self.old self.new (with_value id job self.old.now) result }
     {
         self.jobs.insert(id, job)
     }
 
     /// Sets the priority and the state of the job at an id, if there is one.
     pub fn set(&mut self, id: u64, pri: u32, state: State) -> Result<(), AllocError>
-        ensures now { OnOk result (self.new.now
-            ≡ altered id (with_pri_and_state pri state) self.old.now) }
-        ensures before { self.new.before ≡ self.old.before }
-        ensures err { OnErr result (self.new.now ≡ self.old.now) }
+        ensures { DraftsState self.old self.new
+            (altered id (with_pri_and_state pri state) self.old.now) result }
     {
         self.jobs.set(id, pri, state)
     }
 
     /// Sets the state of the job at an id, if there is one.
     pub fn set_state(&mut self, id: u64, state: State) -> Result<(), AllocError>
-        ensures now { OnOk result (self.new.now ≡ altered id (with_state state) self.old.now) }
-        ensures before { self.new.before ≡ self.old.before }
-        ensures err { OnErr result (self.new.now ≡ self.old.now) }
+        ensures { DraftsState self.old self.new (altered id (with_state state) self.old.now) result }
     {
         self.jobs.set_state(id, state)
     }
 
     /// Keeps all changes.
     pub fn keep(&mut self)
-        ensures now { self.new.now ≡ self.old.now }
-        ensures before { self.new.before ≡ self.old.now }
+        ensures { KeepsDraft self.old self.new }
     {
         self.jobs.begin();
     }
@@ -92,8 +86,7 @@ impl<M: JobMap> JobDraft<M> {
 
     /// Takes back all changes since they were kept last.
     pub fn take_back(&mut self)
-        ensures now { self.new.now ≡ self.old.before }
-        ensures before { self.new.before ≡ self.old.before }
+        ensures { TakesDraftBack self.old self.new }
     {
         self.jobs.roll_back();
         self.jobs.begin();

@@ -1,8 +1,9 @@
-ghost use Rattle.std.specs.Prelude.{◌≡◌, ◌^◌, IsSome, OnOk};
+ghost use Rattle.std.specs.Prelude.{◌≡◌, ◌^◌, IsSome};
 ghost use Rattle.job_store.specs.Entries.{Rising, value_at};
 ghost use Rattle.session_store.specs.Sessions.{session_of};
 ghost use Rattle.bean_queue.specs.Queue.{fresh};
 ghost use Rattle.bean_queue.specs.Effects.{called};
+ghost use Rattle.bean_queue.specs.Calls.{DraftsState, KeepsDraft, TakesDraftBack};
 
 mod held;
 mod kick;
@@ -72,8 +73,7 @@ impl<M: JobMap> Logic<M> {
 
     /// Keeps all changes.
     pub fn keep(&mut self)
-        ensures now { self.new.now ≡ self.old.now }
-        ensures before { self.new.before ≡ self.old.now }
+        ensures { KeepsDraft self.old self.new }
     {
         self.kept = self.counters;
         self.pauses.keep();
@@ -83,8 +83,7 @@ impl<M: JobMap> Logic<M> {
 
     /// Takes back all changes since they were kept last.
     pub fn take_back(&mut self)
-        ensures now { self.new.now ≡ self.old.before }
-        ensures before { self.new.before ≡ self.old.before }
+        ensures { TakesDraftBack self.old self.new }
     {
         self.counters = self.kept;
         self.pauses.take_back();
@@ -94,8 +93,7 @@ impl<M: JobMap> Logic<M> {
 
     /// Makes a session, or ends its wait.
     pub fn call(&mut self, session: u32) -> Result<(), AllocError>
-        ensures now { OnOk result (self.new.now ≡ called session self.old.now) }
-        ensures before { self.new.before ≡ self.old.before }
+        ensures { DraftsState self.old self.new (called session self.old.now) result }
     {
         if self.sessions.map().contains_key(&session) {
             self.sessions.set_wait(session, None)

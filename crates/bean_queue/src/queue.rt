@@ -1,5 +1,6 @@
-ghost use Rattle.std.specs.Prelude.{◌≡◌, ◌≤◌, ◌^◌, ◌++◌, true, false, OnOk, OnErr};
+ghost use Rattle.std.specs.Prelude.{◌≡◌, ◌≤◌, ◌^◌, true, false};
 ghost use Rattle.bean_queue.specs.Effects.{do_effect, close_effect, tick_effect, is_quiet};
+ghost use Rattle.bean_queue.specs.Calls.{HasObeyed};
 
 use crate::laws::one_holder;
 use crate::logic::Logic;
@@ -47,10 +48,8 @@ impl<M: JobMap> QueueOver<M> {
         out: &mut Vec<Answer<Reply>>,
     ) -> Result<(), AllocError>
         requires { is_quiet op.now ≡ true }
-        ensures state { OnOk result (self.new ≡ (do_effect op.now key self.old).state) }
-        ensures out { OnOk result (out.new.items ≡ out.old.items
-            ++ (do_effect op.now key self.old).answers) }
-        ensures err { OnErr result ((self.new ≡ self.old) × (out.new.items ≡ out.old.items)) }
+        ensures { HasObeyed self.old self.new out.old.items out.new.items
+            (do_effect op.now key self.old) result }
     {
         out.reserve(1)?;
         match self.logic.obey_quiet(self.alloc, key, op) {
@@ -74,10 +73,8 @@ impl<M: JobMap> QueueOver<M> {
         out: &mut Vec<Answer<Reply>>,
     ) -> Result<(), AllocError>
         requires { is_quiet op.now ≡ false }
-        ensures state { OnOk result (self.new ≡ (do_effect op.now key self.old).state) }
-        ensures out { OnOk result (out.new.items ≡ out.old.items
-            ++ (do_effect op.now key self.old).answers) }
-        ensures err { OnErr result ((self.new ≡ self.old) × (out.new.items ≡ out.old.items)) }
+        ensures { HasObeyed self.old self.new out.old.items out.new.items
+            (do_effect op.now key self.old) result }
     {
         self.answers.clear();
         if let Err(e) = self.logic.obey_loud(key, op, &mut self.answers) {
@@ -95,10 +92,8 @@ impl<M: JobMap> QueueOver<M> {
     /// Ends a session.
     #[tactic(auto, unfolding(crate::specs::Effects::close_effect))]
     fn close(&mut self, session: u32, out: &mut Vec<Answer<Reply>>) -> Result<(), AllocError>
-        ensures state { OnOk result (self.new ≡ (close_effect session self.old).state) }
-        ensures out { OnOk result (out.new.items ≡ out.old.items
-            ++ (close_effect session self.old).answers) }
-        ensures err { OnErr result ((self.new ≡ self.old) × (out.new.items ≡ out.old.items)) }
+        ensures { HasObeyed self.old self.new out.old.items out.new.items
+            (close_effect session self.old) result }
     {
         self.answers.clear();
         let alloc = self.alloc;
@@ -118,10 +113,8 @@ impl<M: JobMap> QueueOver<M> {
     /// Lets a second come.
     fn tick(&mut self, second: u64, out: &mut Vec<Answer<Reply>>) -> Result<(), AllocError>
         requires { second ≤ 2 ^ 40 }
-        ensures state { OnOk result (self.new ≡ (tick_effect second self.old).state) }
-        ensures out { OnOk result (out.new.items ≡ out.old.items
-            ++ (tick_effect second self.old).answers) }
-        ensures err { OnErr result ((self.new ≡ self.old) × (out.new.items ≡ out.old.items)) }
+        ensures { HasObeyed self.old self.new out.old.items out.new.items
+            (tick_effect second self.old) result }
     {
         self.answers.clear();
         if let Err(e) = self.logic.tick(self.alloc, second, &mut self.answers) {

@@ -1,8 +1,8 @@
-ghost use Rattle.std.specs.Prelude.{◌≡◌, IfOk, OnOk};
+ghost use Rattle.std.specs.Prelude.{◌≡◌};
 ghost use Rattle.job_store.specs.Entries.{each_value};
 ghost use Rattle.job_store.specs.States.{is_due, is_held};
 ghost use Rattle.bean_queue.specs.Effects.{ready_if};
-ghost use Rattle.bean_queue.specs.Woken.{AreWoken};
+ghost use Rattle.bean_queue.specs.Calls.{DraftsWaking};
 
 use crate::job_draft::JobDraft;
 use indexmap::IndexSet;
@@ -42,9 +42,8 @@ impl Returning {
         alloc: Global,
         jobs: &mut JobDraft<M>,
     ) -> Result<IndexSet<Name>, AllocError>
-        ensures now { OnOk result (jobs.new.now ≡ each_value (ready_if (is_returning self)) jobs.old.now) }
-        ensures woken { IfOk result (λ tubes. AreWoken tubes.keys jobs.old.now jobs.new.now) }
-        ensures before { jobs.new.before ≡ jobs.old.before }
+        ensures { DraftsWaking (λ jobs. jobs) jobs.old jobs.new
+            (each_value (ready_if (is_returning self)) jobs.old.now) result }
     {
         let mut woken = IndexSet::new(alloc);
         'again: while let Some((id, job)) = self.first(jobs.map()) {
@@ -61,9 +60,8 @@ pub fn make_due_ready<M: JobMap>(
     jobs: &mut JobDraft<M>,
     second: u64,
 ) -> Result<IndexSet<Name>, AllocError>
-    ensures now { OnOk result (jobs.new.now ≡ each_value (ready_if (is_due second)) jobs.old.now) }
-    ensures woken { IfOk result (λ tubes. AreWoken tubes.keys jobs.old.now jobs.new.now) }
-    ensures before { jobs.new.before ≡ jobs.old.before }
+    ensures { DraftsWaking (λ jobs. jobs) jobs.old jobs.new
+        (each_value (ready_if (is_due second)) jobs.old.now) result }
 {
     Returning::Due { second }.make_ready(alloc, jobs)
 }
@@ -74,9 +72,8 @@ pub fn release_held<M: JobMap>(
     jobs: &mut JobDraft<M>,
     session: u32,
 ) -> Result<IndexSet<Name>, AllocError>
-    ensures now { OnOk result (jobs.new.now ≡ each_value (ready_if (is_held session)) jobs.old.now) }
-    ensures woken { IfOk result (λ tubes. AreWoken tubes.keys jobs.old.now jobs.new.now) }
-    ensures before { jobs.new.before ≡ jobs.old.before }
+    ensures { DraftsWaking (λ jobs. jobs) jobs.old jobs.new
+        (each_value (ready_if (is_held session)) jobs.old.now) result }
 {
     Returning::Held { session }.make_ready(alloc, jobs)
 }

@@ -1,11 +1,12 @@
 -- What a turn of Serve gives is the best.
-use Rattle.std.proofs.Common.{◌≡◌, ℕ, Bool, true, ◌&&◌, List, Some, None, IfSome, filter_map, refl, ◌∙◌, arith}
+use Rattle.std.proofs.Common.{◌≡◌, ℕ, Bool, true, ◌&&◌, List, Some, None, IfSome, filter_map, refl, ◌∙◌}
 use Rattle.std.proofs.lemmas.Bool.{cond-true, and_from}
 use Rattle.object.specs.Lists.{In}
 use Rattle.job_store.specs.declared.job.Job.{Job}
 use Rattle.job_store.specs.Least.{ComesBefore, IsLeast, least}
 use Rattle.job_store.specs.LookUps.{is_among, ready_in, best_ready, pri_of_job, not_paused}
 use Rattle.job_store.specs.States.{is_ready}
+use Rattle.job_store.proofs.least.Least.{never_between}
 use Rattle.session_store.specs.declared.session.SessionState.{SessionState}
 use Rattle.session_store.specs.Sessions.{first_waiting, is_waiting, wait_rank}
 use Rattle.bean_queue.specs.Best.{IsWanted, IsBestTurn}
@@ -18,9 +19,6 @@ use Rattle.bean_queue.proofs.best.Served.{filter_map-there, wanted-by}
 -- what is found is least: of jobs, and of sessions
 abbrev pub FindsLeast : Type 0 → Type 0
 FindsLeast X = (test : ℕ × X → Bool) (by : X → ℕ) (es : List (ℕ × X)) → IfSome (least test by es) (IsLeast test by es)
-
-never_between : (d e y : ℕ × Job) → (ComesBefore pri_of_job y e → ⊥) → (ComesBefore pri_of_job d y → ⊥) → ComesBefore pri_of_job d e → ⊥
-never_between d e y ye dy h = grind arith
 
 urgent : FindsLeast Job → (s : QueueState) (j : ℕ × Job)
     → IsLeast (λ e. true) pri_of_job (filter_map (wanted (paused_tubes s) s.jobs) s.sessions) j → (d : ℕ × Job)
@@ -39,7 +37,7 @@ urgent finds s j best d w before =
           filter_map-there (wanted (paused_tubes s) s.jobs) s.sessions w.watched.0 b w.watched.1
           (cond-true (is_waiting w.watched.0.1)
           (best_ready (not_paused (paused_tubes s) w.watched.0.1.watched) s.jobs) None w.watched.2 ∙ e) in
-          never_between d j b (best.least b there refl)
+          never_between pri_of_job d j b (best.least b there refl)
           (h.least d w.there (and_from (is_ready d.1.state)
           (is_among d.1.tube (not_paused (paused_tubes s) w.watched.0.1.watched)) w.ready
           (watched-open (paused_tubes s) w.watched.0.1.watched d.1.tube w.watched.3 w.unpaused)))

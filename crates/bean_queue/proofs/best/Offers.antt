@@ -1,6 +1,6 @@
 -- The best of what is offered in some tubes is the next job, where the tubes cover all that is wanted.
 use Rattle.std.proofs.Common.{◌≡◌, ℕ, Bool, true, false, cond, not, ◌&&◌, inl, inr, List, [], ◌∷◌, Option, Some, None}
-use Rattle.std.proofs.Common.{IfSome, filter_map, option_map, is_some, refl, sym, ap, subst, ◌∙◌, arith}
+use Rattle.std.proofs.Common.{IfSome, filter_map, option_map, is_some, refl, sym, ap, subst, ◌∙◌}
 use Rattle.std.proofs.lemmas.Bool.{cond-true, cond-false, and_parts, and_from}
 use Rattle.object.specs.Lists.{In}
 use Rattle.job_store.specs.declared.job.Job.{Job}
@@ -8,7 +8,7 @@ use Rattle.job_store.specs.Entries.{Rising}
 use Rattle.job_store.specs.Least.{ComesBefore, IsLeast, first_of, least}
 use Rattle.job_store.specs.LookUps.{is_among, ready_in, best_ready, first_ready, pri_of_job, not_paused}
 use Rattle.job_store.specs.States.{is_ready}
-use Rattle.job_store.proofs.least.Least.{least-found, same_entry, among-member}
+use Rattle.job_store.proofs.least.Least.{least-found, same_entry, among-member, never_between, same_key}
 use Rattle.job_store.proofs.least.Firsts.{first_of-none}
 use Rattle.session_store.specs.declared.session.SessionState.{SessionState}
 use Rattle.session_store.specs.Sessions.{first_waiting, is_waiting, wait_rank}
@@ -22,12 +22,6 @@ use Rattle.bean_queue.proofs.best.Paused.{open-watched, watched-open}
 -- Two lists with one least
 
 module _ {X : Type 0} (by : X → ℕ) where
-  between : (d e y : ℕ × X) → (ComesBefore by y e → ⊥) → (ComesBefore by d y → ⊥) → ComesBefore by d e → ⊥
-  between d e y ye dy h = grind arith
-
-  same_key : (d e : ℕ × X) → (ComesBefore by d e → ⊥) → (ComesBefore by e d → ⊥) → d.0 ≡ e.0
-  same_key d e de ed = grind arith
-
   -- for each entry of the one list there is one of the other that does not come after it
   abbrev IsMatched : List (ℕ × X) → List (ℕ × X) → Type 0
   IsMatched cs ds = (c : ℕ × X) → In c cs → (d : ℕ × X) × In d ds × (ComesBefore by c d → ⊥)
@@ -50,7 +44,7 @@ module _ {X : Type 0} (by : X → ℕ) where
                   let b = back d found.member in
                   ap Some
                   (same_entry lo hi es c d r (c-in c best.member) (d-in d found.member)
-                  (same_key c d (between c d f.0 (found.least f.0 f.1 refl) f.2) (between d c b.0 (best.least b.0 b.1 refl) b.2)))
+                  (same_key by c d (never_between by c d f.0 (found.least f.0 f.1 refl) f.2) (never_between by d c b.0 (best.least b.0 b.1 refl) b.2)))
             ] refl (least-found (λ e. true) by ds)
       ] refl (least-found (λ e. true) by cs)
 

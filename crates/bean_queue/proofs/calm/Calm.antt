@@ -79,9 +79,6 @@ calm s t none c =
 
 -- Sessions
 
-session_key : ℕ → Wait → Key
-session_key x w = record { session = x; number = w.number }
-
 the_wait : (o : Option Wait) → is_some o ≡ true → (w : Wait) × (o ≡ Some w)
 the_wait None e = cc
 the_wait (Some w) e = (w, refl)

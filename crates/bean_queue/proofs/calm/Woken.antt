@@ -1,6 +1,6 @@
 -- The tubes that an operation wakes cover all that can be given after it.
 use Rattle.std.proofs.Common.{◌≡◌, ℕ, zero, suc, ◌+◌, ◌^◌, Bool, true, false, cond, ◌&&◌, ◌⊎◌, inl, inr, List, [], ◌∷◌}
-use Rattle.std.proofs.Common.{◌++◌, Option, Some, None, IfSome, is_some, ◌==◌, bytes_eq, refl, sym, ap, subst, ◌∙◌}
+use Rattle.std.proofs.Common.{Option, Some, None, IfSome, is_some, ◌==◌, bytes_eq, refl, sym, ap, subst, ◌∙◌}
 use Rattle.std.proofs.Common.{eqb-true, true≢false}
 use Rattle.std.proofs.lemmas.Bool.{and_parts, and_from}
 use Rattle.std.proofs.lemmas.Slice.Eq.{bytes_eq-Decides}
@@ -13,13 +13,12 @@ use Rattle.job_store.specs.Entries.{Rising, value_at, with_value, altered}
 use Rattle.job_store.specs.EntryLaws.{altered-in, insert-in, value_at-In, Rising-altered}
 use Rattle.job_store.specs.LookUps.{is_among, ready_in, first_buried, first_delayed, buried_in, delayed_in, pri_of_job, rank_of_job, due_of_job, not_paused}
 use Rattle.job_store.specs.States.{is_ready, is_held, is_buried, is_delayed, with_state, with_pri_and_state}
-use Rattle.job_store.proofs.least.Least.{among-member}
-use Rattle.job_store.proofs.shelving.Shelving.{in-front, in-last}
 use Rattle.session_store.specs.declared.session.SessionState.{SessionState}
 use Rattle.session_store.specs.Sessions.{is_waiting}
 use Rattle.session_store.specs.WatchLists.{joined}
 use Rattle.pause_store.specs.Pauses.{is_paused, paused_for, tubes_over}
 use Rattle.pause_store.proofs.OneTube.{others, goes-on-or-over}
+use Rattle.pause_store.proofs.Over.{joined-keeps, joined-has}
 use Rattle.bean_queue.specs.declared.op.Op.{Op}
 use Rattle.bean_queue.specs.declared.reply.Reply.{Reply}
 use Rattle.bean_queue.specs.Best.{IsWanted}
@@ -259,18 +258,6 @@ covers-released tubes x s t none e woken =
     (λ tube u. inl (subst (λ (v : QueueState). is_paused tube v.pauses ≡ false) e u)) woken
 
 -- Tubes that are gathered one by one
-
-joined-keeps : (name : List ℕ) (names : List (List ℕ)) (tube : List ℕ) → In tube names → In tube (joined name names)
-joined-keeps name names tube i =
-    elim (is_among name names) as (λ b. In tube
-    (cond b names (names ++ name ∷ []))) [ true ↦ i | false ↦ in-front tube names (name ∷ []) i ]
-
-joined-has : (name : List ℕ) (names : List (List ℕ)) → In name (joined name names)
-joined-has name names =
-    elim (is_among name names) as (λ b. is_among name names ≡ b → In name (cond b names (names ++ name ∷ []))) [
-      | true ↦ λ e. (among-member name names).0 e
-      | false ↦ λ e. in-last name names
-    ] refl
 
 -- one job more was made ready, and its tube was added
 pub gathered : (hi : ℕ) (first jobs new : List (ℕ × Job)) (e : ℕ × Job) (tubes more : List (List ℕ)) (name : List ℕ)

@@ -4,6 +4,7 @@ use Rattle.std.proofs.Common.{inr, List, [], ◌∷◌, ◌++◌, filter, length
 use Rattle.std.proofs.Common.{nat_lt, refl, sym, ap, ap₂, subst, ◌∙◌, arith, eq-eqb, eqb-true, ltb-true, lt-ltb}
 use Rattle.std.proofs.Common.{true≢false, append-nil, unwrap_or}
 use Rattle.std.proofs.lemmas.Bool.{cases_Bool, cond-true, cases_order, and_parts, and_from, and_left, and_right, or_cases, or_left, or_right, leb-true}
+use Rattle.std.proofs.Math.Bool.{and-true}
 use Rattle.object.specs.Lists.{In}
 use Rattle.object.specs.declared.command.Answer.{Answer}
 use Rattle.job_store.specs.declared.job.Job.{Job}
@@ -336,17 +337,13 @@ noted-all next numbers second jobs sessions end were x = (
       were.noted x w.0 w.1 w.2 both.0 (subst (λ o. IfSome o (ComesBefore due_of_job w.0)) (sym end) tt),
 )
 
-true-last : (b : Bool) → (b && true) ≡ b
-true-last true = refl
-true-last false = refl
-
 pub noted-often : (next : Option (ℕ × Job)) (numbers : List ℕ) (second : ℕ) (jobs : List (ℕ × Job))
     (sessions : List (ℕ × SessionState)) → next ≡ None → AreNoted (waits_at sessions) next numbers second jobs
     → StandAsOften numbers second jobs sessions
 noted-often next numbers second jobs sessions end were x w =
     were.often x w ∙
     ap length (chosen-alike (λ e. has_due x second e && is_gone_over next e) (has_due x second) jobs
-    (λ e i. ap (λ (o : Option (ℕ × Job)). has_due x second e && is_gone_over o e) end ∙ true-last
+    (λ e i. ap (λ (o : Option (ℕ × Job)). has_due x second e && is_gone_over o e) end ∙ and-true
     (has_due x second e)))
 
 -- how far the next job is from the last that may be due

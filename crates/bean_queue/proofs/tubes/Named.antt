@@ -6,12 +6,13 @@ use Rattle.object.specs.Lists.{In}
 use Rattle.std.proofs.lemmas.Bool.{or_cases}
 use Rattle.std.proofs.lemmas.Slice.Eq.{bytes_eq-Decides}
 use Rattle.job_store.specs.declared.job.Job.{Job}
+use Rattle.job_store.specs.Racks.{name_cmp}
 use Rattle.job_store.specs.LookUps.{is_among, has_jobs}
 use Rattle.job_store.proofs.least.Least.{among-member}
 use Rattle.session_store.proofs.Found.{any-in, in-any}
 use Rattle.bean_queue.specs.Queue.{QueueState}
 use Rattle.bean_queue.specs.Rows.{all_tubes, IsTube}
-use Rattle.bean_queue.proofs.tubes.TubeLists.{cmp, same-names, tubes-all, tubes-sorted}
+use Rattle.bean_queue.proofs.tubes.TubeLists.{same-names, tubes-all, tubes-sorted}
 
 same-bytes : (x y : List ℕ) → bytes_eq x y ≡ true → x ≡ y
 same-bytes x y t = (bytes_eq-Decides x y).0 t
@@ -91,7 +92,7 @@ module _ (s : QueueState) (jobs : List (ℕ × Job)) (same : jobs ≡ s.jobs) (f
       ((t : List ℕ) → In t of_jobs → In t names) →
       ((t : List ℕ) → In t names → In t of_jobs ⊎ (list_any (λ e. bytes_eq t e.1.used || is_among t e.1.watched) s.sessions ≡ true)) →
       ((t : List ℕ) → list_any (λ e. bytes_eq t e.1.used || is_among t e.1.watched) s.sessions ≡ true → In t names) →
-      IsStrictlySortedBy cmp names → names ≡ all_tubes s
+      IsStrictlySortedBy name_cmp names → names ≡ all_tubes s
   all-named is kept only all kept' only' all' sorted =
       same-names names (all_tubes s) sorted (tubes-sorted s)
       (λ t i.

@@ -1,7 +1,8 @@
-ghost use Rattle.std.specs.Prelude.{◌≡◌, ◌^◌, ◌==◌, false, Some, IfOk, OnOk};
+ghost use Rattle.std.specs.Prelude.{◌≡◌, ◌^◌, ◌==◌, false, Some};
 ghost use Rattle.job_store.specs.Entries.{value_at};
 ghost use Rattle.job_store.specs.States.{is_held};
 ghost use Rattle.bean_queue.specs.Rows.{is_job_that, may_delete, delete_row, touch_row, release_row, bury_row};
+ghost use Rattle.bean_queue.specs.Calls.{DraftsRow};
 
 use crate::logic::Logic;
 use crate::logic::put::ready_after;
@@ -51,10 +52,7 @@ impl<M: JobMap> Logic<M> {
     /// Lets the time to run of a job begin anew.
     #[tactic(auto, unfolding(crate::specs::Rows::touch_row))]
     pub fn touch(&mut self, session: u32, id: u64) -> Result<Reply, AllocError>
-        ensures state { OnOk result (self.new.now ≡ (touch_row self.old.now session id).state) }
-        ensures reply { IfOk result (λ reply. (touch_row self.old.now session id).reply
-            ≡ Some reply) }
-        ensures before { self.new.before ≡ self.old.before }
+        ensures { DraftsRow self.old self.new (touch_row self.old.now session id) result }
     {
         match self.jobs.map().get(id) {
             Some(job) if job.state.is_held_by(session) => {
@@ -75,11 +73,8 @@ impl<M: JobMap> Logic<M> {
         pri: u32,
         delay: u32,
     ) -> Result<Reply, AllocError>
-        ensures state { OnOk result (self.new.now
-            ≡ (release_row self.old.now session id pri delay).state) }
-        ensures reply { IfOk result (λ reply. (release_row self.old.now session id pri delay).reply
-            ≡ Some reply) }
-        ensures before { self.new.before ≡ self.old.before }
+        ensures { DraftsRow self.old self.new
+            (release_row self.old.now session id pri delay) result }
     {
         if !self.has(session, id) {
             return Ok(Reply::NotFound);
@@ -93,10 +88,7 @@ impl<M: JobMap> Logic<M> {
     #[tactic(auto, unfolding(crate::specs::Rows::bury_row))]
     pub fn bury(&mut self, session: u32, id: u64, pri: u32) -> Result<Reply, AllocError>
         requires { (self.old.now.next_rank == 2 ^ 63) ≡ false }
-        ensures state { OnOk result (self.new.now ≡ (bury_row self.old.now session id pri).state) }
-        ensures reply { IfOk result (λ reply. (bury_row self.old.now session id pri).reply
-            ≡ Some reply) }
-        ensures before { self.new.before ≡ self.old.before }
+        ensures { DraftsRow self.old self.new (bury_row self.old.now session id pri) result }
     {
         let rank = self.counters.next_rank;
         if !self.has(session, id) {

@@ -2,6 +2,7 @@ ghost use Rattle.std.specs.Prelude.{◌≡◌, Some, IsSome, IfOk, OnOk, option_
 ghost use Rattle.job_store.specs.Entries.{value_at};
 ghost use Rattle.job_store.specs.LookUps.{first_buried, first_delayed};
 ghost use Rattle.bean_queue.specs.Rows.{kicked, kick_row, kick_job_row};
+ghost use Rattle.bean_queue.specs.Calls.{DraftsRow};
 
 use crate::job_draft::JobDraft;
 use crate::logic::Logic;
@@ -51,10 +52,7 @@ impl<M: JobMap> Logic<M> {
     #[tactic(auto, unfolding(crate::specs::Rows::kick_row))]
     pub fn kick(&mut self, session: u32, bound: u32) -> Result<Reply, AllocError>
         requires { IsSome (value_at session self.old.now.sessions) }
-        ensures state { OnOk result (self.new.now ≡ (kick_row self.old.now session bound).state) }
-        ensures reply { IfOk result (λ reply. (kick_row self.old.now session bound).reply
-            ≡ Some reply) }
-        ensures before { self.new.before ≡ self.old.before }
+        ensures { DraftsRow self.old self.new (kick_row self.old.now session bound) result }
     {
         let tube = self.session(session).used.copy()?;
         let buried = self.jobs.map().first_buried(&tube).is_some();
@@ -65,9 +63,7 @@ impl<M: JobMap> Logic<M> {
     /// Makes a job ready that is buried or delayed.
     #[tactic(auto, unfolding(crate::specs::Rows::kick_job_row))]
     pub fn kick_job(&mut self, id: u64) -> Result<Reply, AllocError>
-        ensures state { OnOk result (self.new.now ≡ (kick_job_row self.old.now id).state) }
-        ensures reply { IfOk result (λ reply. (kick_job_row self.old.now id).reply ≡ Some reply) }
-        ensures before { self.new.before ≡ self.old.before }
+        ensures { DraftsRow self.old self.new (kick_job_row self.old.now id) result }
     {
         match self.jobs.map().get(id) {
             Some(job) if job.state.is_buried() || job.state.is_delayed() => {

@@ -1,6 +1,7 @@
-ghost use Rattle.std.specs.Prelude.{◌≡◌, Some, IfOk, OnOk};
+ghost use Rattle.std.specs.Prelude.{◌≡◌};
 ghost use Rattle.job_store.specs.LookUps.{is_among};
 ghost use Rattle.bean_queue.specs.Rows.{all_tubes, pause_row};
+ghost use Rattle.bean_queue.specs.Calls.{DraftsRow};
 
 use crate::logic::Logic;
 use crate::reply::Reply;
@@ -24,10 +25,7 @@ impl<M: JobMap> Logic<M> {
     /// Pauses a tube for so many seconds, or no longer where they are none.
     #[tactic(auto, unfolding(crate::specs::Rows::pause_row))]
     pub fn pause_tube(&mut self, tube: &Name, seconds: u32) -> Result<Reply, AllocError>
-        ensures state { OnOk result (self.new.now ≡ (pause_row self.old.now tube.now seconds).state) }
-        ensures reply { IfOk result (λ reply. (pause_row self.old.now tube.now seconds).reply
-            ≡ Some reply) }
-        ensures before { self.new.before ≡ self.old.before }
+        ensures { DraftsRow self.old self.new (pause_row self.old.now tube.now seconds) result }
     {
         if !self.is_tube(tube) {
             return Ok(Reply::NotFound);

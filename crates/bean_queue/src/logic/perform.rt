@@ -1,9 +1,10 @@
-ghost use Rattle.std.specs.Prelude.{◌≡◌, ◌∷◌, [], ◌++◌, true, false, None, Some, IsSome, IfOk, OnOk, OnErr};
+ghost use Rattle.std.specs.Prelude.{◌≡◌, [], true, false, None, Some, IsSome};
 ghost use Rattle.job_store.specs.Entries.{value_at};
 ghost use Rattle.bean_queue.specs.Rows.{row};
 ghost use Rattle.bean_queue.specs.Turns.{serve_turn};
 ghost use Rattle.bean_queue.specs.Effects.{has_no_number, carried_out, do_effect, is_quiet};
-ghost use Rattle.bean_queue.specs.Reserving.{is_reserve, wake_outcome};
+ghost use Rattle.bean_queue.specs.Calls.{CanObey, CanCarryOut, CanWake, DoesRow, DoesQuietly, DraftsRow, DraftsOutcome};
+ghost use Rattle.bean_queue.specs.Reserving.{wake_outcome};
 
 use crate::counters::LIMIT;
 use crate::logic::Logic;
@@ -31,9 +32,7 @@ impl<M: JobMap> Logic<M> {
         requires there { IsSome (value_at key.session self.old.now.sessions) }
         requires quiet { is_quiet op.now ≡ true }
         requires numbered { has_no_number op.now self.old.now ≡ false }
-        ensures state { OnOk result (self.new.now ≡ (row op.now key self.old.now).state) }
-        ensures reply { IfOk result (λ reply. (row op.now key self.old.now).reply ≡ Some reply) }
-        ensures err { OnErr result (self.new.before ≡ self.old.before) }
+        ensures { DoesRow self.old self.new (row op.now key self.old.now) result }
     {
         let session = key.session;
         match op {
@@ -61,14 +60,8 @@ impl<M: JobMap> Logic<M> {
 
     /// Carries out a quiet operation, where a number is left for it and nothing is left to give.
     fn carry_out_quietly(&mut self, alloc: Global, key: Key, op: &Op) -> Result<Reply, AllocError>
-        requires quiet { is_quiet op.now ≡ true }
-        requires numbered { has_no_number op.now self.old.now ≡ false }
-        requires calm { serve_turn self.old.now ≡ None }
-        ensures state { OnOk result (self.new.now ≡ (carried_out op.now key self.old.now).state) }
-        ensures reply { IfOk result
-            (λ reply. (carried_out op.now key self.old.now).answers
-            ≡ record { to = key; reply = reply } ∷ []) }
-        ensures err { OnErr result (self.new.before ≡ self.old.before) }
+        requires { CanCarryOut true op.now self.old.now }
+        ensures { DoesQuietly key self.old self.new (carried_out op.now key self.old.now) result }
     {
         self.call(key.session)?;
         self.quiet_row(alloc, key, op)
@@ -77,13 +70,8 @@ impl<M: JobMap> Logic<M> {
     /// Obeys a quiet operation, where nothing is left to give.
     #[tactic(auto, unfolding(crate::specs::Effects::do_effect))]
     pub fn obey_quiet(&mut self, alloc: Global, key: Key, op: &Op) -> Result<Reply, AllocError>
-        requires quiet { is_quiet op.now ≡ true }
-        requires calm { serve_turn self.old.now ≡ None }
-        ensures state { OnOk result (self.new.now ≡ (do_effect op.now key self.old.now).state) }
-        ensures reply { IfOk result
-            (λ reply. (do_effect op.now key self.old.now).answers
-            ≡ record { to = key; reply = reply } ∷ []) }
-        ensures err { OnErr result (self.new.before ≡ self.old.before) }
+        requires { CanObey true op.now self.old.now }
+        ensures { DoesQuietly key self.old self.new (do_effect op.now key self.old.now) result }
     {
         if self.has_no_number(op) {
             self.stop_waiting(key.session)?;
@@ -96,13 +84,8 @@ impl<M: JobMap> Logic<M> {
     /// the sessions that wait.
     #[tactic(auto, unfolding(crate::specs::Rows::row))]
     fn waking_row(&mut self, key: Key, op: &Op) -> Result<Reply, AllocError>
-        requires there { IsSome (value_at key.session self.old.now.sessions) }
-        requires loud { is_quiet op.now ≡ false }
-        requires waking { is_reserve op.now ≡ false }
-        requires numbered { has_no_number op.now self.old.now ≡ false }
-        ensures state { OnOk result (self.new.now ≡ (row op.now key self.old.now).state) }
-        ensures reply { IfOk result (λ reply. (row op.now key self.old.now).reply ≡ Some reply) }
-        ensures before { self.new.before ≡ self.old.before }
+        requires { CanWake op.now key self.old.now }
+        ensures { DraftsRow self.old self.new (row op.now key self.old.now) result }
     {
         let session = key.session;
         match op {
@@ -128,16 +111,10 @@ impl<M: JobMap> Logic<M> {
         op: &Op,
         answers: &mut Vec<Answer<Reply>>,
     ) -> Result<(), AllocError>
-        requires there { IsSome (value_at key.session self.old.now.sessions) }
-        requires loud { is_quiet op.now ≡ false }
-        requires waking { is_reserve op.now ≡ false }
-        requires numbered { has_no_number op.now self.old.now ≡ false }
+        requires wakes { CanWake op.now key self.old.now }
         requires calm { serve_turn self.old.now ≡ None }
-        ensures state { OnOk result (self.new.now ≡ (wake_outcome op.now key self.old.now).state) }
-        ensures answers { OnOk result
-            (answers.new.items
-            ≡ answers.old.items ++ (wake_outcome op.now key self.old.now).answers) }
-        ensures before { self.new.before ≡ self.old.before }
+        ensures { DraftsOutcome self.old self.new answers.old.items answers.new.items
+            (wake_outcome op.now key self.old.now) result }
     {
         let woken = self.woken_by(key, op)?;
         let reply = self.waking_row(key, op)?;
@@ -155,14 +132,9 @@ impl<M: JobMap> Logic<M> {
         op: &Op,
         answers: &mut Vec<Answer<Reply>>,
     ) -> Result<(), AllocError>
-        requires loud { is_quiet op.now ≡ false }
-        requires numbered { has_no_number op.now self.old.now ≡ false }
-        requires calm { serve_turn self.old.now ≡ None }
-        ensures state { OnOk result (self.new.now ≡ (carried_out op.now key self.old.now).state) }
-        ensures answers { OnOk result
-            (answers.new.items
-            ≡ answers.old.items ++ (carried_out op.now key self.old.now).answers) }
-        ensures before { self.new.before ≡ self.old.before }
+        requires { CanCarryOut false op.now self.old.now }
+        ensures { DraftsOutcome self.old self.new answers.old.items answers.new.items
+            (carried_out op.now key self.old.now) result }
     {
         self.call(key.session)?;
         self.numbers_rise();
@@ -180,12 +152,9 @@ impl<M: JobMap> Logic<M> {
         op: &Op,
         answers: &mut Vec<Answer<Reply>>,
     ) -> Result<(), AllocError>
-        requires loud { is_quiet op.now ≡ false }
-        requires calm { serve_turn self.old.now ≡ None }
-        ensures state { OnOk result (self.new.now ≡ (do_effect op.now key self.old.now).state) }
-        ensures answers { OnOk result
-            (answers.new.items ≡ answers.old.items ++ (do_effect op.now key self.old.now).answers) }
-        ensures before { self.new.before ≡ self.old.before }
+        requires { CanObey false op.now self.old.now }
+        ensures { DraftsOutcome self.old self.new answers.old.items answers.new.items
+            (do_effect op.now key self.old.now) result }
     {
         if self.has_no_number(op) {
             return self.end_wait(key, Reply::InternalError, answers);

@@ -1,6 +1,7 @@
-ghost use Rattle.std.specs.Prelude.{◌≡◌, ◌≤◌, ◌^◌, ◌==◌, false, Some, IsSome, IfOk, OnOk};
+ghost use Rattle.std.specs.Prelude.{◌≡◌, ◌≤◌, ◌^◌, ◌==◌, false, IsSome};
 ghost use Rattle.job_store.specs.Entries.{value_at};
 ghost use Rattle.bean_queue.specs.Rows.{ready_after, put_row};
+ghost use Rattle.bean_queue.specs.Calls.{DraftsRow};
 
 use crate::logic::Logic;
 use crate::reply::Reply;
@@ -35,11 +36,8 @@ impl<M: JobMap> Logic<M> {
     ) -> Result<Reply, AllocError>
         requires there { IsSome (value_at session self.old.now.sessions) }
         requires numbered { (self.old.now.next_id == 2 ^ 63) ≡ false }
-        ensures state { OnOk result (self.new.now
-            ≡ (put_row self.old.now session pri delay ttr body.now).state) }
-        ensures reply { IfOk result
-            (λ reply. (put_row self.old.now session pri delay ttr body.now).reply ≡ Some reply) }
-        ensures before { self.new.before ≡ self.old.before }
+        ensures { DraftsRow self.old self.new
+            (put_row self.old.now session pri delay ttr body.now) result }
     {
         let id = self.counters.next_id;
         let job = Job {

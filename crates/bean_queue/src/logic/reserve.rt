@@ -1,10 +1,11 @@
-ghost use Rattle.std.specs.Prelude.{◌≡◌, ◌≤◌, ◌^◌, ◌+◌, ◌==◌, ◌++◌, false, IsSome, IfOk, OnOk, option_map};
+ghost use Rattle.std.specs.Prelude.{◌≡◌, ◌≤◌, ◌^◌, ◌+◌, ◌==◌, false, IsSome, IfOk, option_map};
 ghost use Rattle.job_store.specs.Entries.{value_at};
 ghost use Rattle.session_store.specs.Sessions.{with_wait_ended};
 ghost use Rattle.bean_queue.specs.Queue.{with_sessions};
 ghost use Rattle.bean_queue.specs.Rows.{time_out, waiting};
 ghost use Rattle.bean_queue.specs.Effects.{ends_wait};
-ghost use Rattle.bean_queue.specs.Reserving.{best_for, taken, with_next_rank, denial, reserve_outcome, IsTaken};
+ghost use Rattle.bean_queue.specs.Calls.{CanReserve, DraftsState, DraftsOutcome};
+ghost use Rattle.bean_queue.specs.Reserving.{best_for, taken, denial, reserve_outcome, IsTaken};
 
 use crate::deadlines::holds_by;
 use crate::logic::Logic;
@@ -46,8 +47,7 @@ impl<M: JobMap> Logic<M> {
 
     /// Gives the best job for a session to it, and tells whether there is one.
     fn take_best(&mut self, key: Key, answers: &mut Vec<Answer<Reply>>) -> Result<bool, AllocError>
-        requires there { IsSome (value_at key.session self.old.now.sessions) }
-        requires numbered { (self.old.now.next_rank == 2 ^ 63) ≡ false }
+        requires { CanReserve key self.old.now }
         ensures taken { IfOk result (λ is_one. IsTaken key self.old.now self.new.now
             answers.old.items answers.new.items is_one) }
         ensures before { self.new.before ≡ self.old.before }
@@ -84,9 +84,8 @@ impl<M: JobMap> Logic<M> {
     /// Lets a session wait for a job, where a rank is left.
     fn begin_wait(&mut self, key: Key, seconds: Option<u32>) -> Result<(), AllocError>
         requires { (self.old.now.next_rank == 2 ^ 63) ≡ false }
-        ensures state { OnOk result (self.new.now
-            ≡ waiting self.old.now key.session key.number seconds) }
-        ensures before { self.new.before ≡ self.old.before }
+        ensures { DraftsState self.old self.new (waiting self.old.now key.session key.number seconds)
+            result }
     {
         let rank = self.counters.next_rank;
         let wait = Wait {
@@ -108,13 +107,9 @@ impl<M: JobMap> Logic<M> {
         seconds: Option<u32>,
         answers: &mut Vec<Answer<Reply>>,
     ) -> Result<(), AllocError>
-        requires there { IsSome (value_at key.session self.old.now.sessions) }
-        requires numbered { (self.old.now.next_rank == 2 ^ 63) ≡ false }
-        ensures state { OnOk result (self.new.now
-            ≡ (reserve_outcome key seconds self.old.now).state) }
-        ensures answers { OnOk result (answers.new.items
-            ≡ answers.old.items ++ (reserve_outcome key seconds self.old.now).answers) }
-        ensures before { self.new.before ≡ self.old.before }
+        requires { CanReserve key self.old.now }
+        ensures { DraftsOutcome self.old self.new answers.old.items answers.new.items
+            (reserve_outcome key seconds self.old.now) result }
     {
         if self.take_best(key, answers)? {
             return Ok(());
@@ -129,9 +124,8 @@ impl<M: JobMap> Logic<M> {
 
     /// Lets a session wait no longer.
     pub fn stop_waiting(&mut self, session: u32) -> Result<(), AllocError>
-        ensures now { OnOk result (self.new.now
-            ≡ with_sessions self.old.now (with_wait_ended session self.old.now.sessions)) }
-        ensures before { self.new.before ≡ self.old.before }
+        ensures { DraftsState self.old self.new
+            (with_sessions self.old.now (with_wait_ended session self.old.now.sessions)) result }
     {
         self.sessions.set_wait(session, None)
     }
@@ -143,10 +137,8 @@ impl<M: JobMap> Logic<M> {
         reply: Reply,
         answers: &mut Vec<Answer<Reply>>,
     ) -> Result<(), AllocError>
-        ensures state { OnOk result (self.new.now ≡ (ends_wait self.old.now key reply).state) }
-        ensures answers { OnOk result
-            (answers.new.items ≡ answers.old.items ++ (ends_wait self.old.now key reply).answers) }
-        ensures before { self.new.before ≡ self.old.before }
+        ensures { DraftsOutcome self.old self.new answers.old.items answers.new.items
+            (ends_wait self.old.now key reply) result }
     {
         answers.push(Answer { to: key, reply })?;
         self.stop_waiting(key.session)

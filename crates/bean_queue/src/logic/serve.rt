@@ -1,5 +1,6 @@
-ghost use Rattle.std.specs.Prelude.{◌≡◌, ◌+◌, ◌++◌, IfOk, OnOk, option_map};
-ghost use Rattle.bean_queue.specs.Turns.{IsTurn, next_job, serve_turn, deadline_turn, timeout_turn, all_turns};
+ghost use Rattle.std.specs.Prelude.{◌≡◌, ◌+◌, option_map};
+ghost use Rattle.bean_queue.specs.Turns.{next_job, serve_turn, deadline_turn, timeout_turn, all_turns};
+ghost use Rattle.bean_queue.specs.Calls.{DraftsOutcome, DraftsTurn};
 ghost use Rattle.bean_queue.specs.Woken.{Covers};
 ghost use Rattle.bean_queue.specs.Holders.{HasHolders};
 
@@ -28,10 +29,8 @@ impl<M: JobMap> Logic<M> {
         answers: &mut Vec<Answer<Reply>>,
     ) -> Result<bool, AllocError>
         requires { Covers woken.now self.old.now }
-        ensures turn { IfOk result
-            (λ more. IsTurn serve_turn self.old.now self.new.now answers.old.items answers.new.items
-            more) }
-        ensures before { self.new.before ≡ self.old.before }
+        ensures { DraftsTurn serve_turn self.old self.new answers.old.items answers.new.items
+            result }
     {
         let Some((id, job)) = self.next_job(woken) else {
             return Ok(false);
@@ -61,10 +60,8 @@ impl<M: JobMap> Logic<M> {
         answers: &mut Vec<Answer<Reply>>,
     ) -> Result<(), AllocError>
         requires { Covers woken.now self.old.now }
-        ensures state { OnOk result (self.new.now ≡ (all_turns serve_turn self.old.now).state) }
-        ensures answers { OnOk result
-            (answers.new.items ≡ answers.old.items ++ (all_turns serve_turn self.old.now).answers) }
-        ensures before { self.new.before ≡ self.old.before }
+        ensures { DraftsOutcome self.old self.new answers.old.items answers.new.items
+            (all_turns serve_turn self.old.now) result }
     {
         'turns: while self.serve_one(woken, answers)? {}
         Ok(())
@@ -79,10 +76,8 @@ impl<M: JobMap> Logic<M> {
     ) -> Result<bool, AllocError>
         requires { HasHolders holders.now (self.old.now.now + 1) self.old.now.jobs
             self.old.now.sessions }
-        ensures turn { IfOk result
-            (λ more. IsTurn deadline_turn self.old.now self.new.now answers.old.items
-            answers.new.items more) }
-        ensures before { self.new.before ≡ self.old.before }
+        ensures { DraftsTurn deadline_turn self.old self.new answers.old.items answers.new.items
+            result }
     {
         let second = self.counters.now + 1;
         let Some((session, holder)) = first_holder(
@@ -111,11 +106,8 @@ impl<M: JobMap> Logic<M> {
         alloc: Global,
         answers: &mut Vec<Answer<Reply>>,
     ) -> Result<(), AllocError>
-        ensures state { OnOk result (self.new.now ≡ (all_turns deadline_turn self.old.now).state) }
-        ensures answers { OnOk result
-            (answers.new.items
-            ≡ answers.old.items ++ (all_turns deadline_turn self.old.now).answers) }
-        ensures before { self.new.before ≡ self.old.before }
+        ensures { DraftsOutcome self.old self.new answers.old.items answers.new.items
+            (all_turns deadline_turn self.old.now) result }
     {
         let second = self.counters.now + 1;
         let holders = holders_by(alloc, self.jobs.map(), self.sessions.map(), second)?;
@@ -125,10 +117,8 @@ impl<M: JobMap> Logic<M> {
 
     /// Tells the first session whose wait is over so, and whether there was one.
     fn tell_timeout(&mut self, answers: &mut Vec<Answer<Reply>>) -> Result<bool, AllocError>
-        ensures turn { IfOk result
-            (λ more. IsTurn timeout_turn self.old.now self.new.now answers.old.items
-            answers.new.items more) }
-        ensures before { self.new.before ≡ self.old.before }
+        ensures { DraftsTurn timeout_turn self.old self.new answers.old.items answers.new.items
+            result }
     {
         let Some((session, late)) = self.sessions.first_late(self.counters.now) else {
             return Ok(false);
@@ -147,11 +137,8 @@ impl<M: JobMap> Logic<M> {
 
     /// Tells all sessions whose wait is over so.
     pub fn tell_timeouts(&mut self, answers: &mut Vec<Answer<Reply>>) -> Result<(), AllocError>
-        ensures state { OnOk result (self.new.now ≡ (all_turns timeout_turn self.old.now).state) }
-        ensures answers { OnOk result
-            (answers.new.items
-            ≡ answers.old.items ++ (all_turns timeout_turn self.old.now).answers) }
-        ensures before { self.new.before ≡ self.old.before }
+        ensures { DraftsOutcome self.old self.new answers.old.items answers.new.items
+            (all_turns timeout_turn self.old.now) result }
     {
         'turns: while self.tell_timeout(answers)? {}
         Ok(())

@@ -1,9 +1,9 @@
-ghost use Rattle.std.specs.Prelude.{◌≡◌, ℕ, List, ◌≤◌, ◌<◌, ◌^◌, ◌++◌, None, IfOk, OnOk};
+ghost use Rattle.std.specs.Prelude.{◌≡◌, ℕ, List, ◌≤◌, ◌<◌, ◌^◌, None, IfOk};
 ghost use Rattle.object.specs.Lists.{In};
 ghost use Rattle.pause_store.specs.Pauses.{tubes_over};
 ghost use Rattle.bean_queue.specs.Effects.{released, forgotten, at_second, tick_effect};
 ghost use Rattle.bean_queue.specs.Turns.{serve, serve_turn};
-ghost use Rattle.bean_queue.specs.Woken.{AreWoken};
+ghost use Rattle.bean_queue.specs.Calls.{DraftsOutcome, DraftsWaking};
 
 use crate::logic::Logic;
 use crate::ready_again::{make_due_ready, release_held};
@@ -18,12 +18,10 @@ impl<M: JobMap> Logic<M> {
     fn at_second(&mut self, alloc: Global, second: u64) -> Result<IndexSet<Name>, AllocError>
         requires later { self.old.now.now ≤ second }
         requires in_range { second ≤ 2 ^ 40 }
-        ensures state { OnOk result (self.new.now ≡ at_second second self.old.now) }
-        ensures woken { IfOk result
-            (λ tubes. AreWoken tubes.keys self.old.now.jobs self.new.now.jobs) }
+        ensures second { DraftsWaking (λ s. s.jobs) self.old self.new
+            (at_second second self.old.now) result }
         ensures over { IfOk result (λ tubes. (tube : List ℕ)
             → In tube (tubes_over second self.old.now.pauses) → In tube tubes.keys) }
-        ensures before { self.new.before ≡ self.old.before }
     {
         let mut woken = make_due_ready(alloc, &mut self.jobs, second)?;
         self.pauses.add_over(second, &mut woken)?;
@@ -42,10 +40,8 @@ impl<M: JobMap> Logic<M> {
     ) -> Result<(), AllocError>
         requires second { second ≤ 2 ^ 40 }
         requires calm { serve_turn self.old.now ≡ None }
-        ensures state { OnOk result (self.new.now ≡ (tick_effect second self.old.now).state) }
-        ensures answers { OnOk result
-            (answers.new.items ≡ answers.old.items ++ (tick_effect second self.old.now).answers) }
-        ensures before { self.new.before ≡ self.old.before }
+        ensures { DraftsOutcome self.old self.new answers.old.items answers.new.items
+            (tick_effect second self.old.now) result }
     {
         if second <= self.counters.now {
             return Ok(());
@@ -58,10 +54,8 @@ impl<M: JobMap> Logic<M> {
 
     /// Ends the wait of a session, makes its jobs ready, and tells their tubes.
     fn give_back(&mut self, alloc: Global, session: u32) -> Result<IndexSet<Name>, AllocError>
-        ensures state { OnOk result (self.new.now ≡ released session self.old.now) }
-        ensures woken { IfOk result
-            (λ tubes. AreWoken tubes.keys self.old.now.jobs self.new.now.jobs) }
-        ensures before { self.new.before ≡ self.old.before }
+        ensures { DraftsWaking (λ s. s.jobs) self.old self.new (released session self.old.now)
+            result }
     {
         let woken = release_held(alloc, &mut self.jobs, session)?;
         self.sessions.set_wait(session, None)?;
@@ -77,11 +71,8 @@ impl<M: JobMap> Logic<M> {
         answers: &mut Vec<Answer<Reply>>,
     ) -> Result<(), AllocError>
         requires { serve_turn self.old.now ≡ None }
-        ensures state { OnOk result (self.new.now ≡ (serve (released session self.old.now)).state) }
-        ensures answers { OnOk result
-            (answers.new.items
-            ≡ answers.old.items ++ (serve (released session self.old.now)).answers) }
-        ensures before { self.new.before ≡ self.old.before }
+        ensures { DraftsOutcome self.old self.new answers.old.items answers.new.items
+            (serve (released session self.old.now)) result }
     {
         let woken = self.give_back(alloc, session)?;
         self.serve(woken.as_slice(), answers)

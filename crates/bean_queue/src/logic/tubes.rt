@@ -1,6 +1,7 @@
-ghost use Rattle.std.specs.Prelude.{◌≡◌, Some, IsSome, IfOk, OnOk, OnErr};
+ghost use Rattle.std.specs.Prelude.{◌≡◌, Some, IsSome};
 ghost use Rattle.job_store.specs.Entries.{value_at};
 ghost use Rattle.bean_queue.specs.Rows.{use_row, watch_row, ignore_row};
+ghost use Rattle.bean_queue.specs.Calls.{DoesRow};
 
 use crate::logic::Logic;
 use crate::reply::Reply;
@@ -12,10 +13,7 @@ impl<M: JobMap> Logic<M> {
     /// Lets a session use a tube.
     #[tactic(auto, unfolding(crate::specs::Rows::use_row))]
     pub fn use_tube(&mut self, session: u32, tube: &Name) -> Result<Reply, AllocError>
-        ensures state { OnOk result (self.new.now ≡ (use_row self.old.now session tube.now).state) }
-        ensures reply { IfOk result (λ reply. (use_row self.old.now session tube.now).reply
-            ≡ Some reply) }
-        ensures err { OnErr result (self.new.before ≡ self.old.before) }
+        ensures { DoesRow self.old self.new (use_row self.old.now session tube.now) result }
     {
         let shown = tube.copy()?;
         self.sessions.use_tube_for_good(session, tube.copy()?)?;
@@ -26,11 +24,7 @@ impl<M: JobMap> Logic<M> {
     #[tactic(auto, unfolding(crate::specs::Rows::watch_row))]
     pub fn watch(&mut self, session: u32, tube: &Name) -> Result<Reply, AllocError>
         requires { IsSome (value_at session self.old.now.sessions) }
-        ensures state { OnOk result (self.new.now
-            ≡ (watch_row self.old.now session tube.now).state) }
-        ensures reply { IfOk result (λ reply. (watch_row self.old.now session tube.now).reply
-            ≡ Some reply) }
-        ensures err { OnErr result (self.new.before ≡ self.old.before) }
+        ensures { DoesRow self.old self.new (watch_row self.old.now session tube.now) result }
     {
         let count = self.sessions.watch_for_good(session, tube.copy()?)?;
         Ok(Reply::Watching(count as u64))

@@ -1,4 +1,4 @@
-use Rattle.std.proofs.Common.{ℕ, List, subst}
+use Rattle.std.proofs.Common.{ℕ, List, subst, rules}
 use Rattle.object.specs.Lists.{In}
 use Rattle.session_store.specs.Drafts.{Draft}
 use Rattle.pause_store.specs.Pauses.{tubes_over}
@@ -7,10 +7,14 @@ use Rattle.bean_queue.specs.Woken.{AreWoken}
 use Rattle.bean_queue.proofs.calm.Woken.{woken-more}
 use Rattle.bean_queue.proofs.logic.Logic.at_second.Goals as goal
 
-pub returns-clause-woken : goal.returns-clause-woken
-returns-clause-woken g c =
-    subst (λ (d : Draft QueueState). AreWoken c.add_over.new.tubes.keys d.now.jobs c.make_due_ready.new.jobs.now) c.self.view_is
-    (woken-more c.in_ok-woken.woken.keys c.add_over.new.tubes.keys _ _ c.add_over.ensures.grown c.in_ok-woken.ensures.woken)
+pub returns-clause-second : goal.returns-clause-second
+returns-clause-second g c = record {
+  now = search rules;
+  woken =
+      subst (λ (d : Draft QueueState). AreWoken c.add_over.new.tubes.keys d.now.jobs c.make_due_ready.new.jobs.now) c.self.view_is
+      (woken-more c.in_ok-woken.woken.keys c.add_over.new.tubes.keys _ _ c.add_over.ensures.grown c.in_ok-woken.ensures.woken);
+  before = search rules;
+}
 
 pub returns-clause-over : goal.returns-clause-over
 returns-clause-over g c =

@@ -7,4 +7,4 @@ pub serve-requires : goal.serve-requires
 serve-requires g c =
     subst (λ tubes. Covers tubes c.give_back.new.self.now) (sym c.as_slice.ensures.keys)
     (covers-released c.in_ok-woken.woken.keys c.args.session c.args.self.now.now c.give_back.new.self.now c.requires
-    c.in_ok-woken.ensures.state c.in_ok-woken.ensures.woken)
+    c.in_ok-woken.ensures.now c.in_ok-woken.ensures.woken)

@@ -17,10 +17,9 @@ turns-preserved g c =
       before = c.serve_one.ensures.before ∙ c.turns.invariant.before;
     }
 
-pub returns-clause-state : goal.returns-clause-state
-returns-clause-state g c =
-    (no_turn serve_turn serves _ _ _ _ c.in_ok-serve_one.field-0 c.if-branch.false c.in_ok-serve_one.ensures.turn).state ∙ c.turns.invariant.state
-
-pub returns-clause-answers : goal.returns-clause-answers
-returns-clause-answers g c =
-    (no_turn serve_turn serves _ _ _ _ c.in_ok-serve_one.field-0 c.if-branch.false c.in_ok-serve_one.ensures.turn).answers ∙ c.turns.invariant.answers
+pub returns : goal.returns
+returns g c = record {
+  state = (no_turn serve_turn serves _ _ _ _ c.in_ok-serve_one.field-0 c.if-branch.false c.in_ok-serve_one.ensures.turn).state ∙ c.turns.invariant.state;
+  answers = (no_turn serve_turn serves _ _ _ _ c.in_ok-serve_one.field-0 c.if-branch.false c.in_ok-serve_one.ensures.turn).answers ∙ c.turns.invariant.answers;
+  before = c.serve_one.ensures.before ∙ c.turns.invariant.before;
+}

@@ -1,4 +1,4 @@
-use Rattle.std.proofs.Common.{◌≡◌, ◌∙◌, ℕ, ◌+◌, true, ◌∷◌, [], ◌++◌, Some, None, refl, sym, ap, ap₂, subst}
+use Rattle.std.proofs.Common.{◌≡◌, ◌∙◌, ℕ, ◌+◌, true, ◌∷◌, [], ◌++◌, Some, None, rules, refl, sym, ap, ap₂, subst}
 use Rattle.job_store.specs.declared.job.Job.{Job}
 use Rattle.job_store.specs.declared.state.State.{State}
 use Rattle.job_store.specs.Entries.{altered}
@@ -14,34 +14,43 @@ use Rattle.bean_queue.specs.Turns.{IsTurn, next_job, serve_turn}
 use Rattle.bean_queue.proofs.best.Turned.{none-served, nobody-served, served}
 use Rattle.bean_queue.proofs.logic.Logic.serve_one.Goals as goal
 
-pub returns-in_default-clause-turn : goal.returns-in_default-clause-turn
-returns-in_default-clause-turn g c =
-    let s = state_of c.self.inside.counters c.self.inside.jobs.now c.self.inside.sessions.now c.self.inside.pauses.now.pauses in
-    let next : next_job s ≡ None = ap (λ (d : Draft QueueState). next_job d.now) c.self.view_is ∙ sym c.in_default.ensures in
-    (ap (λ (d : Draft QueueState). serve_turn d.now) (sym c.self.view_is) ∙ none-served s next, refl, refl)
+pub returns-in_default : goal.returns-in_default
+returns-in_default g c = record {
+  turn =
+      let s = state_of c.self.inside.counters c.self.inside.jobs.now c.self.inside.sessions.now c.self.inside.pauses.now.pauses in
+      let next : next_job s ≡ None = ap (λ (d : Draft QueueState). next_job d.now) c.self.view_is ∙ sym c.in_default.ensures in
+      (ap (λ (d : Draft QueueState). serve_turn d.now) (sym c.self.view_is) ∙ none-served s next, refl, refl);
+  before = refl;
+}
 
-pub returns-in_default-first_watcher-clause-turn : goal.returns-in_default-first_watcher-clause-turn
-returns-in_default-first_watcher-clause-turn g c =
-    let s = state_of c.self.inside.counters c.self.inside.jobs.now c.self.inside.sessions.now c.self.inside.pauses.now.pauses in
-    let j : ℕ × Job = (c.in-Some.id, c.in-Some.job.now) in
-    let next : next_job s ≡ Some j = ap (λ (d : Draft QueueState). next_job d.now) c.self.view_is ∙ sym c.in-Some.ensures in
-    let nobody : first_waiting (λ e. is_among j.1.tube e.1.watched) s.sessions ≡ None = sym c.in_default-first_watcher.ensures in
-    (ap (λ (d : Draft QueueState). serve_turn d.now) (sym c.self.view_is) ∙ nobody-served s j next nobody, refl, refl)
+pub returns-in_default-first_watcher : goal.returns-in_default-first_watcher
+returns-in_default-first_watcher g c = record {
+  turn =
+      let s = state_of c.self.inside.counters c.self.inside.jobs.now c.self.inside.sessions.now c.self.inside.pauses.now.pauses in
+      let j : ℕ × Job = (c.in-Some.id, c.in-Some.job.now) in
+      let next : next_job s ≡ Some j = ap (λ (d : Draft QueueState). next_job d.now) c.self.view_is ∙ sym c.in-Some.ensures in
+      let nobody : first_waiting (λ e. is_among j.1.tube e.1.watched) s.sessions ≡ None = sym c.in_default-first_watcher.ensures in
+      (ap (λ (d : Draft QueueState). serve_turn d.now) (sym c.self.view_is) ∙ nobody-served s j next nobody, refl, refl);
+  before = refl;
+}
 
-pub returns-clause-turn : goal.returns-clause-turn
-returns-clause-turn g c =
-    let s = state_of c.self.inside.counters c.self.inside.jobs.now c.self.inside.sessions.now c.self.inside.pauses.now.pauses in
-    let j : ℕ × Job = (c.in-Some.id, c.in-Some.job.now) in
-    let w : ℕ × SessionState = (c.in-Some-first_watcher.session, c.in-Some-first_watcher.watcher.now) in
-    let next : next_job s ≡ Some j = ap (λ (d : Draft QueueState). next_job d.now) c.self.view_is ∙ sym c.in-Some.ensures in
-    let first : first_waiting (λ e. is_among j.1.tube e.1.watched) s.sessions ≡ Some w = sym c.in-Some-first_watcher.ensures in
-    subst (λ (d : Draft QueueState). IsTurn serve_turn d.now
-    (state_of c.self.inside.counters c.set_state.new.self.now c.set_wait.new.self.now
-    c.self.inside.pauses.now.pauses) c.args.answers.now.items c.push.new.self.items true) c.self.view_is
-    (served s j w c.set_state.new.self.now c.set_wait.new.self.now c.args.answers.now.items c.push.new.self.items next first
-    (c.in_ok-set_state.ensures.now ∙ ap (λ ttr. altered j.0 (with_state (State.Reserved w.0 (s.now + ttr))) s.jobs) c.from.ensures)
-    c.in_ok-set_wait.ensures.now
-    (c.in_ok-push.ensures.items ∙
-    ap₂ (λ number body. let a : Answer Reply =
-    record { to = record { session = w.0; number = number }; reply = Reply.Reserved j.0 body }
-    in c.args.answers.now.items ++ a ∷ []) c.wait_number.ensures c.in_ok-body.ensures))
+pub returns : goal.returns
+returns g c = record {
+  turn =
+      let s = state_of c.self.inside.counters c.self.inside.jobs.now c.self.inside.sessions.now c.self.inside.pauses.now.pauses in
+      let j : ℕ × Job = (c.in-Some.id, c.in-Some.job.now) in
+      let w : ℕ × SessionState = (c.in-Some-first_watcher.session, c.in-Some-first_watcher.watcher.now) in
+      let next : next_job s ≡ Some j = ap (λ (d : Draft QueueState). next_job d.now) c.self.view_is ∙ sym c.in-Some.ensures in
+      let first : first_waiting (λ e. is_among j.1.tube e.1.watched) s.sessions ≡ Some w = sym c.in-Some-first_watcher.ensures in
+      subst (λ (d : Draft QueueState). IsTurn serve_turn d.now
+      (state_of c.self.inside.counters c.set_state.new.self.now c.set_wait.new.self.now
+      c.self.inside.pauses.now.pauses) c.args.answers.now.items c.push.new.self.items true) c.self.view_is
+      (served s j w c.set_state.new.self.now c.set_wait.new.self.now c.args.answers.now.items c.push.new.self.items next first
+      (c.in_ok-set_state.ensures.now ∙ ap (λ ttr. altered j.0 (with_state (State.Reserved w.0 (s.now + ttr))) s.jobs) c.from.ensures)
+      c.in_ok-set_wait.ensures.now
+      (c.in_ok-push.ensures.items ∙
+      ap₂ (λ number body. let a : Answer Reply =
+      record { to = record { session = w.0; number = number }; reply = Reply.Reserved j.0 body }
+      in c.args.answers.now.items ++ a ∷ []) c.wait_number.ensures c.in_ok-body.ensures));
+  before = search rules;
+}

@@ -1,4 +1,4 @@
-use Rattle.std.proofs.Common.{◌≡◌, ◌∙◌, ℕ, ◌+◌, ◌^◌, true, ◌∷◌, [], ◌++◌, Some, None, refl, sym, ap, ap₂, subst}
+use Rattle.std.proofs.Common.{◌≡◌, ◌∙◌, ℕ, ◌+◌, ◌^◌, true, ◌∷◌, [], ◌++◌, Some, None, rules, refl, sym, ap, ap₂, subst}
 use Rattle.object.specs.declared.command.Answer.{Answer}
 use Rattle.job_store.specs.Entries.{Rising}
 use Rattle.session_store.specs.declared.session.SessionState.{SessionState}
@@ -21,24 +21,30 @@ first_holder-requires-clause-holders g c =
     (subst (HasHolders c.args.holders.now (s.now + 1) s.jobs) (sym c.map-2.ensures.sessions)
     (subst (λ (d : Draft QueueState). HasHolders c.args.holders.now (d.now.now + 1) d.now.jobs d.now.sessions) (sym c.self.view_is) c.requires))
 
-pub returns-in_default-clause-turn : goal.returns-in_default-clause-turn
-returns-in_default-clause-turn g c =
-    let s = state_of c.self.inside.counters c.self.inside.jobs.now c.self.inside.sessions.now c.self.inside.pauses.now.pauses in
-    let nobody : first_waiting (λ e. holds_by e.0 (s.now + 1) s.jobs) s.sessions ≡ None =
-    ap₂ (λ jobs. first_waiting (λ e. holds_by e.0 (s.now + 1) jobs)) (sym c.map.ensures.jobs) (sym c.map-2.ensures.sessions) ∙ sym c.in_default.ensures in
-    (ap (λ (d : Draft QueueState). deadline_turn d.now) (sym c.self.view_is) ∙ none-told_deadline s nobody, refl, refl)
+pub returns-in_default : goal.returns-in_default
+returns-in_default g c = record {
+  turn =
+      let s = state_of c.self.inside.counters c.self.inside.jobs.now c.self.inside.sessions.now c.self.inside.pauses.now.pauses in
+      let nobody : first_waiting (λ e. holds_by e.0 (s.now + 1) s.jobs) s.sessions ≡ None =
+      ap₂ (λ jobs. first_waiting (λ e. holds_by e.0 (s.now + 1) jobs)) (sym c.map.ensures.jobs) (sym c.map-2.ensures.sessions) ∙ sym c.in_default.ensures in
+      (ap (λ (d : Draft QueueState). deadline_turn d.now) (sym c.self.view_is) ∙ none-told_deadline s nobody, refl, refl);
+  before = refl;
+}
 
-pub returns-clause-turn : goal.returns-clause-turn
-returns-clause-turn g c =
-    let s = state_of c.self.inside.counters c.self.inside.jobs.now c.self.inside.sessions.now c.self.inside.pauses.now.pauses in
-    let w : ℕ × SessionState = (c.in-Some.session, c.in-Some.holder.now) in
-    let first : first_waiting (λ e. holds_by e.0 (s.now + 1) s.jobs) s.sessions ≡ Some w =
-    ap₂ (λ jobs. first_waiting (λ e. holds_by e.0 (s.now + 1) jobs)) (sym c.map.ensures.jobs) (sym c.map-2.ensures.sessions) ∙ sym c.in-Some.ensures in
-    subst (λ (d : Draft QueueState). IsTurn deadline_turn d.now
-    (state_of c.self.inside.counters c.self.inside.jobs.now c.set_wait.new.self.now c.self.inside.pauses.now.pauses)
-    c.args.answers.now.items c.push.new.self.items true) c.self.view_is
-    (told_deadline s w c.set_wait.new.self.now c.args.answers.now.items c.push.new.self.items first c.in_ok-set_wait.ensures.now
-    (c.in_ok-push.ensures.items ∙
-    ap (λ number. let a : Answer Reply =
-    record { to = record { session = w.0; number = number }; reply = Reply.DeadlineSoon }
-    in c.args.answers.now.items ++ a ∷ []) c.wait_number.ensures))
+pub returns : goal.returns
+returns g c = record {
+  turn =
+      let s = state_of c.self.inside.counters c.self.inside.jobs.now c.self.inside.sessions.now c.self.inside.pauses.now.pauses in
+      let w : ℕ × SessionState = (c.in-Some.session, c.in-Some.holder.now) in
+      let first : first_waiting (λ e. holds_by e.0 (s.now + 1) s.jobs) s.sessions ≡ Some w =
+      ap₂ (λ jobs. first_waiting (λ e. holds_by e.0 (s.now + 1) jobs)) (sym c.map.ensures.jobs) (sym c.map-2.ensures.sessions) ∙ sym c.in-Some.ensures in
+      subst (λ (d : Draft QueueState). IsTurn deadline_turn d.now
+      (state_of c.self.inside.counters c.self.inside.jobs.now c.set_wait.new.self.now c.self.inside.pauses.now.pauses)
+      c.args.answers.now.items c.push.new.self.items true) c.self.view_is
+      (told_deadline s w c.set_wait.new.self.now c.args.answers.now.items c.push.new.self.items first c.in_ok-set_wait.ensures.now
+      (c.in_ok-push.ensures.items ∙
+      ap (λ number. let a : Answer Reply =
+      record { to = record { session = w.0; number = number }; reply = Reply.DeadlineSoon }
+      in c.args.answers.now.items ++ a ∷ []) c.wait_number.ensures));
+  before = search rules;
+}

@@ -37,12 +37,13 @@ turns-preserved g c =
       before = c.tell_deadline.ensures.before ∙ c.turns.invariant.before;
     }
 
-pub returns-clause-state : goal.returns-clause-state
-returns-clause-state g c =
-    (no_turn deadline_turn tells_deadline _ _ _ _ c.in_ok-tell_deadline.field-0 c.if-branch.false
-    c.in_ok-tell_deadline.ensures.turn).state ∙ c.turns.invariant.state
-
-pub returns-clause-answers : goal.returns-clause-answers
-returns-clause-answers g c =
-    (no_turn deadline_turn tells_deadline _ _ _ _ c.in_ok-tell_deadline.field-0 c.if-branch.false
-    c.in_ok-tell_deadline.ensures.turn).answers ∙ c.turns.invariant.answers
+pub returns : goal.returns
+returns g c = record {
+  state =
+      (no_turn deadline_turn tells_deadline _ _ _ _ c.in_ok-tell_deadline.field-0 c.if-branch.false
+      c.in_ok-tell_deadline.ensures.turn).state ∙ c.turns.invariant.state;
+  answers =
+      (no_turn deadline_turn tells_deadline _ _ _ _ c.in_ok-tell_deadline.field-0 c.if-branch.false
+      c.in_ok-tell_deadline.ensures.turn).answers ∙ c.turns.invariant.answers;
+  before = c.tell_deadline.ensures.before ∙ c.turns.invariant.before;
+}

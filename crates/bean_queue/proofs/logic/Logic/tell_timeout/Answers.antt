@@ -1,4 +1,4 @@
-use Rattle.std.proofs.Common.{◌≡◌, ◌∙◌, ℕ, true, ◌∷◌, [], ◌++◌, Some, None, refl, sym, ap, subst}
+use Rattle.std.proofs.Common.{◌≡◌, ◌∙◌, ℕ, true, ◌∷◌, [], ◌++◌, Some, None, rules, refl, sym, ap, subst}
 use Rattle.object.specs.declared.command.Answer.{Answer}
 use Rattle.session_store.specs.declared.session.SessionState.{SessionState}
 use Rattle.session_store.specs.Sessions.{first_waiting, has_timed_out}
@@ -9,22 +9,28 @@ use Rattle.bean_queue.specs.Turns.{IsTurn, timeout_turn}
 use Rattle.bean_queue.proofs.best.Turned.{none-told_timeout, told_timeout}
 use Rattle.bean_queue.proofs.logic.Logic.tell_timeout.Goals as goal
 
-pub returns-in_default-clause-turn : goal.returns-in_default-clause-turn
-returns-in_default-clause-turn g c =
-    let s = state_of c.self.inside.counters c.self.inside.jobs.now c.self.inside.sessions.now c.self.inside.pauses.now.pauses in
-    let nobody : first_waiting (λ e. has_timed_out s.now e.1.wait) s.sessions ≡ None = sym c.in_default.ensures in
-    (ap (λ (d : Draft QueueState). timeout_turn d.now) (sym c.self.view_is) ∙ none-told_timeout s nobody, refl, refl)
+pub returns-in_default : goal.returns-in_default
+returns-in_default g c = record {
+  turn =
+      let s = state_of c.self.inside.counters c.self.inside.jobs.now c.self.inside.sessions.now c.self.inside.pauses.now.pauses in
+      let nobody : first_waiting (λ e. has_timed_out s.now e.1.wait) s.sessions ≡ None = sym c.in_default.ensures in
+      (ap (λ (d : Draft QueueState). timeout_turn d.now) (sym c.self.view_is) ∙ none-told_timeout s nobody, refl, refl);
+  before = refl;
+}
 
-pub returns-clause-turn : goal.returns-clause-turn
-returns-clause-turn g c =
-    let s = state_of c.self.inside.counters c.self.inside.jobs.now c.self.inside.sessions.now c.self.inside.pauses.now.pauses in
-    let w : ℕ × SessionState = (c.in-Some.session, c.in-Some.late.now) in
-    let first : first_waiting (λ e. has_timed_out s.now e.1.wait) s.sessions ≡ Some w = sym c.in-Some.ensures in
-    subst (λ (d : Draft QueueState). IsTurn timeout_turn d.now
-    (state_of c.self.inside.counters c.self.inside.jobs.now c.set_wait.new.self.now c.self.inside.pauses.now.pauses)
-    c.args.answers.now.items c.push.new.self.items true) c.self.view_is
-    (told_timeout s w c.set_wait.new.self.now c.args.answers.now.items c.push.new.self.items first c.in_ok-set_wait.ensures.now
-    (c.in_ok-push.ensures.items ∙
-    ap (λ number. let a : Answer Reply =
-    record { to = record { session = w.0; number = number }; reply = Reply.TimedOut } in c.args.answers.now.items ++
-    a ∷ []) c.wait_number.ensures))
+pub returns : goal.returns
+returns g c = record {
+  turn =
+      let s = state_of c.self.inside.counters c.self.inside.jobs.now c.self.inside.sessions.now c.self.inside.pauses.now.pauses in
+      let w : ℕ × SessionState = (c.in-Some.session, c.in-Some.late.now) in
+      let first : first_waiting (λ e. has_timed_out s.now e.1.wait) s.sessions ≡ Some w = sym c.in-Some.ensures in
+      subst (λ (d : Draft QueueState). IsTurn timeout_turn d.now
+      (state_of c.self.inside.counters c.self.inside.jobs.now c.set_wait.new.self.now c.self.inside.pauses.now.pauses)
+      c.args.answers.now.items c.push.new.self.items true) c.self.view_is
+      (told_timeout s w c.set_wait.new.self.now c.args.answers.now.items c.push.new.self.items first c.in_ok-set_wait.ensures.now
+      (c.in_ok-push.ensures.items ∙
+      ap (λ number. let a : Answer Reply =
+      record { to = record { session = w.0; number = number }; reply = Reply.TimedOut } in c.args.answers.now.items ++
+      a ∷ []) c.wait_number.ensures));
+  before = search rules;
+}

@@ -15,12 +15,13 @@ turns-preserved g c =
       before = c.tell_timeout.ensures.before ∙ c.turns.invariant.before;
     }
 
-pub returns-clause-state : goal.returns-clause-state
-returns-clause-state g c =
-    (no_turn timeout_turn tells_timeout _ _ _ _ c.in_ok-tell_timeout.field-0 c.if-branch.false
-    c.in_ok-tell_timeout.ensures.turn).state ∙ c.turns.invariant.state
-
-pub returns-clause-answers : goal.returns-clause-answers
-returns-clause-answers g c =
-    (no_turn timeout_turn tells_timeout _ _ _ _ c.in_ok-tell_timeout.field-0 c.if-branch.false
-    c.in_ok-tell_timeout.ensures.turn).answers ∙ c.turns.invariant.answers
+pub returns : goal.returns
+returns g c = record {
+  state =
+      (no_turn timeout_turn tells_timeout _ _ _ _ c.in_ok-tell_timeout.field-0 c.if-branch.false
+      c.in_ok-tell_timeout.ensures.turn).state ∙ c.turns.invariant.state;
+  answers =
+      (no_turn timeout_turn tells_timeout _ _ _ _ c.in_ok-tell_timeout.field-0 c.if-branch.false
+      c.in_ok-tell_timeout.ensures.turn).answers ∙ c.turns.invariant.answers;
+  before = c.tell_timeout.ensures.before ∙ c.turns.invariant.before;
+}

@@ -7,4 +7,4 @@ pub serve-requires : goal.serve-requires
 serve-requires g c =
     subst (λ tubes. Covers tubes c.at_second.new.self.now) (sym c.as_slice.ensures.keys)
     (covers-second c.in_ok-woken.woken.keys c.args.second c.args.self.now.now c.at_second.new.self.now c.requires.calm
-    c.in_ok-woken.ensures.state c.in_ok-woken.ensures.woken c.in_ok-woken.ensures.over)
+    c.in_ok-woken.ensures.second.now c.in_ok-woken.ensures.second.woken c.in_ok-woken.ensures.over)

@@ -6,11 +6,16 @@ use Rattle.bean_queue.specs.Rows.{touch_row}
 use Rattle.bean_queue.proofs.due.Touched.{touched}
 use Rattle.bean_queue.proofs.logic.Logic.touch.Goals as goal
 
-pub returns-in_ok-set_state-in-Some-clause-state : goal.returns-in_ok-set_state-in-Some-clause-state
-returns-in_ok-set_state-in-Some-clause-state g c =
-    let s = state_of c.self.inside.counters c.self.inside.jobs.now c.self.inside.sessions.now c.self.inside.pauses.now.pauses in
-    touched s c.args.session c.args.id _ c.in-Some.job.now _ c.map.ensures.rising
-    (ap (value_at c.args.id) (sym c.map.ensures.jobs) ∙ sym c.in-Some.ensures)
-    (search rules)
-    (search rules) ∙
-    ap (λ (d : Draft QueueState). (touch_row d.now c.args.session c.args.id).state) c.self.view_is
+pub returns-in_ok-set_state-in-Some : goal.returns-in_ok-set_state-in-Some
+unfolding touch_row
+returns-in_ok-set_state-in-Some g c = record {
+  state =
+      let s = state_of c.self.inside.counters c.self.inside.jobs.now c.self.inside.sessions.now c.self.inside.pauses.now.pauses in
+      touched s c.args.session c.args.id _ c.in-Some.job.now _ c.map.ensures.rising
+      (ap (value_at c.args.id) (sym c.map.ensures.jobs) ∙ sym c.in-Some.ensures)
+      (search rules)
+      (search rules) ∙
+      ap (λ (d : Draft QueueState). (touch_row d.now c.args.session c.args.id).state) c.self.view_is;
+  reply = search rules;
+  before = search rules;
+}

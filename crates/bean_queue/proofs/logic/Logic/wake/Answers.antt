@@ -6,12 +6,12 @@ use Rattle.bean_queue.proofs.logic.Logic.wake.Goals as goal
 pub serve-requires : goal.serve-requires
 serve-requires g c =
     covers-waking c.args.op.now c.args.key c.args.self.now.now c.waking_row.new.self.now
-    (c.in-Some.tube ∷ []) c.requires.loud c.requires.waking c.requires.calm c.woken_by.ensures.ids_rise
+    (c.in-Some.tube ∷ []) c.requires.wakes.loud c.requires.wakes.waking c.requires.calm c.woken_by.ensures.ids_rise
     c.woken_by.ensures.numbers_rise
     (sym (ap option_to_list c.in-Some.is) ∙ c.in_ok-woken.ensures.tube) c.in_ok-reply.ensures.state
 
 pub serve-requires-in-None : goal.serve-requires-in-None
 serve-requires-in-None g c =
     covers-waking c.args.op.now c.args.key c.args.self.now.now c.waking_row.new.self.now
-    [] c.requires.loud c.requires.waking c.requires.calm c.woken_by.ensures.ids_rise c.woken_by.ensures.numbers_rise
+    [] c.requires.wakes.loud c.requires.wakes.waking c.requires.calm c.woken_by.ensures.ids_rise c.woken_by.ensures.numbers_rise
     (sym (ap option_to_list c.in-None.is) ∙ c.in_ok-woken.ensures.tube) c.in_ok-reply.ensures.state

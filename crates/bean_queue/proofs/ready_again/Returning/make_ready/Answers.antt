@@ -20,5 +20,9 @@ again-preserved g c =
       before = c.set_state.ensures.before ∙ c.again.invariant.before;
     }
 
-pub returns-clause-now : goal.returns-clause-now
-returns-clause-now g c = none_left c.args.self c.again.jobs.now (cc c.in_default.ensures) ∙ c.again.invariant.all
+pub returns : goal.returns
+returns g c = record {
+  now = none_left c.args.self c.again.jobs.now (cc c.in_default.ensures) ∙ c.again.invariant.all;
+  woken = c.again.invariant.woken;
+  before = c.again.invariant.before;
+}
