@@ -1,4 +1,4 @@
-ghost use Rattle.std.specs.Prelude.{◌≡◌, true, IsSome, is_some, OnErr};
+ghost use Rattle.std.specs.Prelude.{IsSome, is_some, OnErr};
 ghost use Rattle.job_store.specs.Entries.{value_at, with_value, altered};
 ghost use Rattle.job_store.specs.States.{with_state};
 ghost use Rattle.job_store.specs.Changes.{after_change};

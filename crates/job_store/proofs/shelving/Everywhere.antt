@@ -13,24 +13,24 @@ use Rattle.job_store.specs.ShelfStates.{ShelfState, IsFound}
 use Rattle.job_store.specs.Racks.{shelf_at, name_cmp}
 use Rattle.job_store.specs.Shelves.{BelongsAt, shelf, places, AreInReach, HasPut, HasTaken, HasGoneBack, HasCome}
 
-pub put-twice : (s t u : Shelves) (e : ℕ × Job) → HasPut s t e → HasPut t u e → HasPut s u e
-put-twice s t u e one two = record {
+pub put-twice : {s t u : Shelves} {e : ℕ × Job} → HasPut s t e → HasPut t u e → HasPut s u e
+put-twice {s} {t} {u} {e} one two = record {
   keeps = λ l p i. two.keeps l p (one.keeps l p i);
   only = λ l p i. elim (two.only l p i) as (λ v. In p (places s l) ⊎ BelongsAt l p e) [ inl old ↦ one.only l p old | inr b ↦ inr b ];
   ahead = λ l p h. two.ahead l p (one.ahead l p h);
   lists = two.lists ∙ one.lists;
 }
 
-pub taken-twice : (s t u : Shelves) (jobs : List (ℕ × Job)) → HasTaken s t jobs → HasTaken t u jobs → HasTaken s u jobs
-taken-twice s t u jobs one two = record {
+pub taken-twice : {s t u : Shelves} {jobs : List (ℕ × Job)} → HasTaken s t jobs → HasTaken t u jobs → HasTaken s u jobs
+taken-twice one two = record {
   keeps = λ l p e i b j. two.keeps l p e i b (one.keeps l p e i b j);
   only = λ l p i. one.only l p (two.only l p i);
   ahead = λ l p h. two.ahead l p (one.ahead l p h);
   lists = two.lists ∙ one.lists;
 }
 
-pub back-twice : (s t u : Shelves) → HasGoneBack s t → HasGoneBack t u → HasGoneBack s u
-back-twice s t u one two = record {
+pub back-twice : {s t u : Shelves} → HasGoneBack s t → HasGoneBack t u → HasGoneBack s u
+back-twice one two = record {
   places = λ l. two.places l ∙ one.places l;
   ahead = λ l p h. two.ahead l p (one.ahead l p h);
   lists = two.lists ∙ one.lists;

@@ -5,54 +5,33 @@ use Rattle.job_store.proofs.shelves.Shelves.put_everywhere.Goals as goal
 
 pub returns-in_err-put_on-2-clause-put : goal.returns-in_err-put_on-2-clause-put
 returns-in_err-put_on-2-clause-put c =
-    (put-twice c.args.self.now c.put_on.new.self c.put_on-2.new.self
-    (c.args.id, at_spot c.args.spot.now) c.in_ok-put_on.ensures.put c.in_err-put_on-2.ensures.put)
+    put-twice c.in_ok-put_on.ensures.put c.in_err-put_on-2.ensures.put
 
 pub returns-in_err-put_on-3-clause-put : goal.returns-in_err-put_on-3-clause-put
 returns-in_err-put_on-3-clause-put c =
-    (put-twice c.args.self.now c.put_on-2.new.self c.put_on-3.new.self (c.args.id, at_spot c.args.spot.now)
-    (put-twice c.args.self.now c.put_on.new.self c.put_on-2.new.self
-    (c.args.id, at_spot c.args.spot.now) c.in_ok-put_on.ensures.put c.in_ok-put_on-2.ensures.put)
-    c.in_err-put_on-3.ensures.put)
+    put-twice (put-twice c.in_ok-put_on.ensures.put c.in_ok-put_on-2.ensures.put) c.in_err-put_on-3.ensures.put
 
 pub returns-in_err-put_on-4-clause-put : goal.returns-in_err-put_on-4-clause-put
 returns-in_err-put_on-4-clause-put c =
-    (put-twice c.args.self.now c.put_on-3.new.self c.put_on-4.new.self (c.args.id, at_spot c.args.spot.now)
-    (put-twice c.args.self.now c.put_on-2.new.self c.put_on-3.new.self (c.args.id, at_spot c.args.spot.now)
-    (put-twice c.args.self.now c.put_on.new.self c.put_on-2.new.self
-    (c.args.id, at_spot c.args.spot.now) c.in_ok-put_on.ensures.put c.in_ok-put_on-2.ensures.put)
-    c.in_ok-put_on-3.ensures.put) c.in_err-put_on-4.ensures.put)
+    put-twice (put-twice (put-twice c.in_ok-put_on.ensures.put c.in_ok-put_on-2.ensures.put)
+    c.in_ok-put_on-3.ensures.put) c.in_err-put_on-4.ensures.put
 
 pub returns-in_err-put_on-5-clause-put : goal.returns-in_err-put_on-5-clause-put
 returns-in_err-put_on-5-clause-put c =
-    (put-twice c.args.self.now c.put_on-4.new.self c.put_on-5.new.self (c.args.id, at_spot c.args.spot.now)
-    (put-twice c.args.self.now c.put_on-3.new.self c.put_on-4.new.self (c.args.id, at_spot c.args.spot.now)
-    (put-twice c.args.self.now c.put_on-2.new.self c.put_on-3.new.self (c.args.id, at_spot c.args.spot.now)
-    (put-twice c.args.self.now c.put_on.new.self c.put_on-2.new.self
-    (c.args.id, at_spot c.args.spot.now) c.in_ok-put_on.ensures.put c.in_ok-put_on-2.ensures.put)
-    c.in_ok-put_on-3.ensures.put) c.in_ok-put_on-4.ensures.put) c.in_err-put_on-5.ensures.put)
+    put-twice (put-twice (put-twice (put-twice c.in_ok-put_on.ensures.put c.in_ok-put_on-2.ensures.put)
+    c.in_ok-put_on-3.ensures.put) c.in_ok-put_on-4.ensures.put) c.in_err-put_on-5.ensures.put
 
 pub returns-in_err-put_on-6-clause-put : goal.returns-in_err-put_on-6-clause-put
 returns-in_err-put_on-6-clause-put c =
-    (put-twice c.args.self.now c.put_on-5.new.self c.put_on-6.new.self (c.args.id, at_spot c.args.spot.now)
-    (put-twice c.args.self.now c.put_on-4.new.self c.put_on-5.new.self (c.args.id, at_spot c.args.spot.now)
-    (put-twice c.args.self.now c.put_on-3.new.self c.put_on-4.new.self (c.args.id, at_spot c.args.spot.now)
-    (put-twice c.args.self.now c.put_on-2.new.self c.put_on-3.new.self (c.args.id, at_spot c.args.spot.now)
-    (put-twice c.args.self.now c.put_on.new.self c.put_on-2.new.self
-    (c.args.id, at_spot c.args.spot.now) c.in_ok-put_on.ensures.put c.in_ok-put_on-2.ensures.put)
+    put-twice (put-twice (put-twice (put-twice (put-twice c.in_ok-put_on.ensures.put c.in_ok-put_on-2.ensures.put)
     c.in_ok-put_on-3.ensures.put) c.in_ok-put_on-4.ensures.put) c.in_ok-put_on-5.ensures.put)
-    c.in_err-put_on-6.ensures.put)
+    c.in_err-put_on-6.ensures.put
 
 pub returns-clause-put : goal.returns-clause-put
-returns-clause-put c = (put-twice c.args.self.now c.put_on-5.new.self c.put_on-6.new.self
-    (c.args.id, at_spot c.args.spot.now)
-    (put-twice c.args.self.now c.put_on-4.new.self c.put_on-5.new.self (c.args.id, at_spot c.args.spot.now)
-    (put-twice c.args.self.now c.put_on-3.new.self c.put_on-4.new.self (c.args.id, at_spot c.args.spot.now)
-    (put-twice c.args.self.now c.put_on-2.new.self c.put_on-3.new.self (c.args.id, at_spot c.args.spot.now)
-    (put-twice c.args.self.now c.put_on.new.self c.put_on-2.new.self
-    (c.args.id, at_spot c.args.spot.now) c.in_ok-put_on.ensures.put c.in_ok-put_on-2.ensures.put)
+returns-clause-put c =
+    put-twice (put-twice (put-twice (put-twice (put-twice c.in_ok-put_on.ensures.put c.in_ok-put_on-2.ensures.put)
     c.in_ok-put_on-3.ensures.put) c.in_ok-put_on-4.ensures.put) c.in_ok-put_on-5.ensures.put)
-    c.in_ok-put_on-6.ensures.put)
+    c.in_ok-put_on-6.ensures.put
 
 pub returns-clause-come : goal.returns-clause-come
 returns-clause-come c =

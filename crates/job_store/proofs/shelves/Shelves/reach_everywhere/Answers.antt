@@ -4,13 +4,9 @@ use Rattle.job_store.proofs.shelving.Everywhere.{back-twice, everywhere}
 use Rattle.job_store.proofs.shelves.Shelves.reach_everywhere.Goals as goal
 
 pub returns-clause-back : goal.returns-clause-back
-returns-clause-back c = (back-twice c.args.self.now c.reach_on-5.new.self c.reach_on-6.new.self
-    (back-twice c.args.self.now c.reach_on-4.new.self c.reach_on-5.new.self
-    (back-twice c.args.self.now c.reach_on-3.new.self c.reach_on-4.new.self
-    (back-twice c.args.self.now c.reach_on-2.new.self c.reach_on-3.new.self
-    (back-twice c.args.self.now c.reach_on.new.self c.reach_on-2.new.self c.reach_on.ensures.back
-    c.reach_on-2.ensures.back) c.reach_on-3.ensures.back) c.reach_on-4.ensures.back) c.reach_on-5.ensures.back)
-    c.reach_on-6.ensures.back)
+returns-clause-back c =
+    back-twice (back-twice (back-twice (back-twice (back-twice c.reach_on.ensures.back c.reach_on-2.ensures.back)
+    c.reach_on-3.ensures.back) c.reach_on-4.ensures.back) c.reach_on-5.ensures.back) c.reach_on-6.ensures.back
 
 pub returns-clause-ahead : goal.returns-clause-ahead
 returns-clause-ahead c =

@@ -3,13 +3,10 @@ use Rattle.job_store.proofs.shelving.Everywhere.{taken-twice, reach-taken, gone-
 use Rattle.job_store.proofs.shelves.Shelves.take_everywhere.Goals as goal
 
 pub returns-clause-taken : goal.returns-clause-taken
-returns-clause-taken c = (taken-twice c.args.self.now c.take_from-5.new.self c.take_from-6.new.self
-    c.args.jobs.now.entries (taken-twice c.args.self.now c.take_from-4.new.self c.take_from-5.new.self
-    c.args.jobs.now.entries (taken-twice c.args.self.now c.take_from-3.new.self c.take_from-4.new.self
-    c.args.jobs.now.entries (taken-twice c.args.self.now c.take_from-2.new.self c.take_from-3.new.self
-    c.args.jobs.now.entries (taken-twice c.args.self.now c.take_from.new.self c.take_from-2.new.self
-    c.args.jobs.now.entries c.take_from.ensures.taken c.take_from-2.ensures.taken) c.take_from-3.ensures.taken)
-    c.take_from-4.ensures.taken) c.take_from-5.ensures.taken) c.take_from-6.ensures.taken)
+returns-clause-taken c =
+    taken-twice (taken-twice (taken-twice (taken-twice (taken-twice c.take_from.ensures.taken
+    c.take_from-2.ensures.taken) c.take_from-3.ensures.taken) c.take_from-4.ensures.taken)
+    c.take_from-5.ensures.taken) c.take_from-6.ensures.taken
 
 pub returns-clause-gone : goal.returns-clause-gone
 returns-clause-gone c =
