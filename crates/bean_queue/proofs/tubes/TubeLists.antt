@@ -6,10 +6,10 @@ use Rattle.std.specs.BTreeSet.{insert_key}
 use Rattle.std.specs.List.{AllByRecursion}
 use Rattle.std.specs.List.Sorted.{IsStrictlySortedBy}
 use Rattle.std.proofs.lemmas.Cmp.{nat_list_cmp_total}
-use Rattle.std.proofs.lemmas.Map.Lookups.{exact_bytes}
 use Rattle.object.specs.Lists.{In}
 use Rattle.job_store.specs.declared.job.Job.{Job}
 use Rattle.job_store.specs.Racks.{name_cmp}
+use Rattle.job_store.proofs.naming.NameSets.{from-insert, to-insert}
 use Rattle.job_store.proofs.shelving.Shelving.{in-front}
 use Rattle.session_store.specs.declared.session.SessionState.{SessionState}
 use Rattle.bean_queue.specs.Queue.{QueueState}
@@ -40,30 +40,6 @@ insert-sorted x (y ∷ ys) h =
       | Greater ↦ λ e. (all-insert (λ z. name_cmp y z ≡ Less) x ys (nat_list_cmp_total.antisymm y x ∙ ap ordering_reverse e) h.0, insert-sorted x ys h.1)
     ] refl
 
-from-insert : (t x : List ℕ) (xs : List (List ℕ)) → In t (insert_key name_cmp xs x) → (t ≡ x) ⊎ In t xs
-from-insert t x [] i = i
-from-insert t x (y ∷ ys) i =
-    elim (name_cmp x y) as (λ r. In t (match_ordering r (x ∷ y ∷ ys) (y ∷ ys) (y ∷ insert_key name_cmp ys x)) → (t ≡ x) ⊎ In t (y ∷ ys)) [
-      | Less ↦ λ i. i
-      | Equal ↦ λ i. inr i
-      | Greater ↦ λ i. elim i as (λ v. (t ≡ x) ⊎ In t (y ∷ ys)) [
-        | inl same ↦ inr (inl same)
-        | inr later ↦ elim (from-insert t x ys later) as (λ v. (t ≡ x) ⊎ In t (y ∷ ys)) [ inl it ↦ inl it | inr j ↦ inr (inr j) ]
-      ]
-    ] i
-
-to-insert : (t x : List ℕ) (xs : List (List ℕ)) → (t ≡ x) ⊎ In t xs → In t (insert_key name_cmp xs x)
-to-insert t x [] i = i
-to-insert t x (y ∷ ys) i =
-    elim (name_cmp x y) as (λ r. name_cmp x y ≡ r → In t (match_ordering r (x ∷ y ∷ ys) (y ∷ ys) (y ∷ insert_key name_cmp ys x))) [
-      | Less ↦ λ e. i
-      | Equal ↦ λ e. elim i as (λ v. In t (y ∷ ys)) [ inl same ↦ inl (same ∙ exact_bytes x y e) | inr j ↦ j ]
-      | Greater ↦ λ e. elim i as (λ v. In t (y ∷ insert_key name_cmp ys x)) [
-        | inl same ↦ inr (to-insert t x ys (inl same))
-        | inr j ↦ elim j as (λ v. In t (y ∷ insert_key name_cmp ys x)) [ inl same ↦ inl same | inr later ↦ inr (to-insert t x ys (inr later)) ]
-      ]
-    ] refl
-
 fold-sorted : (names acc : List (List ℕ)) → IsStrictlySortedBy name_cmp acc → IsStrictlySortedBy name_cmp (fold (insert_key name_cmp) acc names)
 fold-sorted [] acc h = h
 fold-sorted (x ∷ xs) acc h = fold-sorted xs (insert_key name_cmp acc x) (insert-sorted x acc h)
@@ -73,15 +49,15 @@ from-fold t [] acc i = inr i
 from-fold t (x ∷ xs) acc i =
     elim (from-fold t xs (insert_key name_cmp acc x) i) as (λ v. In t (x ∷ xs) ⊎ In t acc) [
       | inl later ↦ inl (inr later)
-      | inr j ↦ elim (from-insert t x acc j) as (λ v. In t (x ∷ xs) ⊎ In t acc) [ inl same ↦ inl (inl same) | inr k ↦ inr k ]
+      | inr j ↦ elim (from-insert t x acc j) as (λ v. In t (x ∷ xs) ⊎ In t acc) [ inl k ↦ inr k | inr same ↦ inl (inl same) ]
     ]
 
 pub to-fold : (t : List ℕ) (names acc : List (List ℕ)) → In t names ⊎ In t acc → In t (fold (insert_key name_cmp) acc names)
 to-fold t [] acc i = elim i as (λ v. In t acc) [ inl never ↦ absurd never | inr j ↦ j ]
 to-fold t (x ∷ xs) acc i =
     to-fold t xs (insert_key name_cmp acc x) (elim i as (λ v. In t xs ⊎ In t (insert_key name_cmp acc x)) [
-      | inl j ↦ elim j as (λ v. In t xs ⊎ In t (insert_key name_cmp acc x)) [ inl same ↦ inr (to-insert t x acc (inl same)) | inr later ↦ inl later ]
-      | inr k ↦ inr (to-insert t x acc (inr k))
+      | inl j ↦ elim j as (λ v. In t xs ⊎ In t (insert_key name_cmp acc x)) [ inl same ↦ inr (to-insert t x acc (inr same)) | inr later ↦ inl later ]
+      | inr k ↦ inr (to-insert t x acc (inl k))
     ])
 
 -- The tubes of a state

@@ -1,4 +1,4 @@
-ghost use Rattle.std.specs.Prelude.{◌≡◌, Some, IsSome, IfOk, OnOk, option_map, if◌then◌else◌};
+ghost use Rattle.std.specs.Prelude.{◌≡◌, IsSome, IfOk, OnOk, option_map, if◌then◌else◌};
 ghost use Rattle.job_store.specs.Entries.{value_at};
 ghost use Rattle.job_store.specs.LookUps.{first_buried, first_delayed};
 ghost use Rattle.bean_queue.specs.Rows.{kicked, kick_row, kick_job_row};

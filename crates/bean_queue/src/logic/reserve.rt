@@ -5,7 +5,7 @@ ghost use Rattle.bean_queue.specs.Queue.{with_sessions};
 ghost use Rattle.bean_queue.specs.Rows.{time_out, waiting};
 ghost use Rattle.bean_queue.specs.Effects.{ends_wait};
 ghost use Rattle.bean_queue.specs.Calls.{CanReserve, DraftsState, DraftsOutcome};
-ghost use Rattle.bean_queue.specs.Reserving.{best_for, taken, denial, reserve_outcome, IsTaken};
+ghost use Rattle.bean_queue.specs.Reserving.{best_for, denial, reserve_outcome, IsTaken};
 
 use crate::deadlines::holds_by;
 use crate::logic::Logic;

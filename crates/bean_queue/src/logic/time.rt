@@ -1,4 +1,4 @@
-ghost use Rattle.std.specs.Prelude.{◌≡◌, ℕ, List, ◌≤◌, ◌<◌, ◌^◌, None, IfOk};
+ghost use Rattle.std.specs.Prelude.{◌≡◌, ℕ, List, ◌≤◌, ◌^◌, None, IfOk};
 ghost use Rattle.object.specs.Lists.{In};
 ghost use Rattle.pause_store.specs.Pauses.{tubes_over};
 ghost use Rattle.bean_queue.specs.Effects.{released, forgotten, at_second, tick_effect};
