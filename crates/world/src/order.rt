@@ -1,4 +1,4 @@
-ghost use Rattle.std.specs.Prelude.{◌≡◌, ◌↔◌, ◌+◌, ◌≤◌, ◌^◌, ◌==◌, ◌&&◌, ◌||◌, ℕ, map, length, slice_index_or, true, false, not, nat_lt, nat_le, IfSome, IfNone, IfOk};
+ghost use Rattle.std.specs.Prelude.{◌≡◌, ◌↔◌, ◌+◌, ◌≤◌, ◌^◌, ◌==◌, ◌&&◌, ◌||◌, ℕ, map, slice_index_or, true, false, not, nat_lt, nat_le, IfSome, IfNone, IfOk};
 ghost use Rattle.object.specs.declared.command.Command.{Command};
 ghost use Rattle.object.specs.Legal.{IsLegal};
 ghost use Rattle.object.specs.Replays.{is_new, kept};
@@ -19,10 +19,10 @@ use std::alloc::{AllocError, Global};
 impl<O: Object> World<O> {
     // The nodes that accepted something under this ballot and slot.
     fn voters(&self, ballot: Ballot, slot: Slot) -> MemberSet
-        requires { length self.now.cluster.nodes ≡ length self.now.cluster.members }
         ensures { (i : ℕ) → slice_index_or result i false
             ≡ slice_index_or (voters_of self.now.cluster ballot slot) i false }
     {
+        ballot_laws();
         let nodes = &self.nodes;
         let mut voters = MemberSet::nobody();
         for before in 0..self.members.count() {
@@ -35,7 +35,6 @@ impl<O: Object> World<O> {
 
     // Whether a majority accepted something under this ballot and slot.
     fn is_voted(&self, ballot: Ballot, slot: Slot) -> bool
-        requires { length self.now.cluster.nodes ≡ length self.now.cluster.members }
         ensures { result ≡ is_voted self.now.cluster ballot slot }
     {
         let voters = self.voters(ballot, slot);
@@ -48,10 +47,8 @@ impl<O: Object> World<O> {
         accepted: &'a [Pvalue<Command<O::Op>>],
         slot: u64,
     ) -> Option<&'a Command<O::Op>>
-        requires { length self.now.cluster.nodes ≡ length self.now.cluster.members }
         ensures some { IfSome result (λ c. HasVoted self.now.cluster accepted.now slot c.now) }
         ensures none { IfNone result (HasNoneVoted self.now.cluster accepted.now slot) }
-        ensures within { IfSome result (λ c. slot ≤ 2 ^ 62) }
     {
         for pvalue in accepted {
             if pvalue.slot.number() == slot && self.is_voted(pvalue.ballot, pvalue.slot) {
@@ -63,12 +60,10 @@ impl<O: Object> World<O> {
 
     // The value of a pvalue that some node accepted, of this slot and with the votes of a majority.
     fn voted_anywhere(&self, slot: u64) -> Option<&Command<O::Op>>
-        requires { length self.now.cluster.nodes ≡ length self.now.cluster.members }
         ensures some { IfSome result (λ c. (m : ℕ)
             × HasVoted self.now.cluster (node self.now.cluster m).acceptor.accepted slot c.now) }
         ensures none { IfNone result ((m : ℕ) →
             HasNoneVoted self.now.cluster (node self.now.cluster m).acceptor.accepted slot) }
-        ensures within { IfSome result (λ c. slot ≤ 2 ^ 62) }
     {
         let nodes = &self.nodes;
         for node in nodes {

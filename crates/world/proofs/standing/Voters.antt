@@ -1,9 +1,11 @@
 -- A slot's chosen command, read off what the acceptors accepted.
-use Rattle.std.proofs.Common.{◌≡◌, ◌≢◌, ◌⊎◌, inl, inr, ⊎_elim, ℕ, zero, suc, ◌+◌, ◌<◌, Bool, true, false, List, [], ◌∷◌}
+use Rattle.std.proofs.Common.{◌≡◌, ◌≢◌, ◌⊎◌, inl, inr, ⊎_elim, ℕ, suc, ◌+◌, ◌<◌, ◌≤◌, ◌^◌, Bool, true, false, List, [], ◌∷◌}
 use Rattle.std.proofs.Common.{◌++◌, take, length, refl, sym, ap, ap₂, ◌∙◌, subst, arith}
 use Rattle.std.specs.Prelude.{slice_index_or, Option, Some, None, IfSome, IfNone}
+use Rattle.std.specs.Cmp.{both_ways}
 use Rattle.std.proofs.lemmas.Bool.{cases_eq}
-use Rattle.std.proofs.lemmas.List.{take_more, length-append}
+use Rattle.std.proofs.lemmas.List.{get_or_default, take_more, length-append}
+use Rattle.std.proofs.lemmas.Option.{slice_get_read}
 use Rattle.object.specs.Lists.{In}
 use Rattle.object.specs.declared.command.Command.{Command}
 use Rattle.object.specs.Replays.{is_new, kept}
@@ -14,31 +16,19 @@ use Rattle.agreement.specs.Nodes.{Cluster, node}
 use Rattle.agreement.specs.Chosen.{IsChosen, IsChosenFrom}
 use Rattle.agreement.specs.Reached.{IsRun}
 use Rattle.world.specs.Voters.{is_voted, HasVoted, HasNoneVoted}
-use Rattle.object.specs.ListLaws.{In-cases}
+use Rattle.object.specs.ListLaws.{In-cases, In-get}
 use Rattle.ballot.specs.OrderLaws.{BallotLaws}
 use Rattle.agreement.proofs.chosen.Invariants.{IsSound}
 use Rattle.object.specs.ReplayLaws.{kept-push_new, kept-push_old}
 use Rattle.agreement.proofs.answered.Performed.{run_push}
 use Rattle.agreement.proofs.order.Deciding.{majority_more, chosen_by_row, none_by_rows}
 
-both : (x y : Bool) → (x ≡ true → y ≡ true) → (y ≡ true → x ≡ true) → x ≡ y
-both true y f g = sym (f refl)
-both false true f g = g refl
-both false false f g = refl
-
 -- where the same are in two sets, both are a majority or neither is
 pub same_majority : (ws : List ℕ) (a b : List Bool) → ((i : ℕ) → slice_index_or a i false ≡ slice_index_or b i false) → is_majority ws a ≡ is_majority ws b
-same_majority ws a b h = both (is_majority ws a) (is_majority ws b) (majority_more ws a b (λ i e. sym (h i) ∙ e)) (majority_more ws b a (λ i e. h i ∙ e))
+same_majority ws a b h = both_ways (is_majority ws a) (is_majority ws b) (majority_more ws a b (λ i e. sym (h i) ∙ e)) (majority_more ws b a (λ i e. h i ∙ e))
 
-In-at : {A : Type 0} (xs : List A) (i : ℕ) (x : A) → i < length xs → x ≡ slice_index_or xs i x → In x xs
-In-at [] i x h e = absurd (omega arith)
-In-at (y ∷ ys) zero x h e = inl e
-In-at (y ∷ ys) (suc i) x h e = inr (In-at ys i x (omega arith) e)
-
-any_default : {A : Type 0} (xs : List A) (i : ℕ) (d e : A) → i < length xs → slice_index_or xs i d ≡ slice_index_or xs i e
-any_default [] i d e h = absurd (omega arith)
-any_default (y ∷ ys) zero d e h = refl
-any_default (y ∷ ys) (suc i) d e h = any_default ys i d e (omega arith)
+pub In-at : {A : Type 0} (xs : List A) (i : ℕ) (x : A) → i < length xs → x ≡ slice_index_or xs i x → In x xs
+In-at xs i x h e = In-get xs i x (slice_get_read xs (length xs) i x refl h e)
 
 -- one element more at the end
 pub take_next : {A : Type 0} (xs : List A) (i : ℕ) (x : A) → i < length xs → x ≡ slice_index_or xs i x → take (i + 1) xs ≡ take i xs ++ (x ∷ [])
@@ -52,8 +42,9 @@ In-next xs i x y h e at = ⊎_elim
 
 module _ {C : Type 0} (k : Cluster C) where
   pub has_voted : (xs : List (Pvalue C)) (s i : ℕ) (p : Pvalue C) → i < length xs → p ≡ slice_index_or xs i p
-      → p.slot ≡ s → is_voted k p.ballot p.slot ≡ true → HasVoted k xs s p.value
-  has_voted xs s i p h e same voted = (p, In-at xs i p h e, same, refl, voted)
+      → p.slot ≡ s → is_voted k p.ballot p.slot ≡ true → s ≤ 2 ^ 62 → HasVoted k xs s p.value
+  has_voted xs s i p h e same voted low =
+      record { pvalue = p; among = In-at xs i p h e; slot = same; value = refl; voted = voted; low = low }
 
   pub none_next : (xs : List (Pvalue C)) (s i : ℕ) (p : Pvalue C) → i < length xs → p ≡ slice_index_or xs i p
       → (p.slot ≡ s → is_voted k p.ballot p.slot ≡ false) → HasNoneVoted k (take i xs) s
@@ -64,7 +55,7 @@ module _ {C : Type 0} (k : Cluster C) where
       (In-next xs i p q h e at)
 
   node_at : (xs : List (NodeState C)) → xs ≡ k.nodes → (i : ℕ) (x : NodeState C) → i < length xs → x ≡ slice_index_or xs i x → x ≡ node k (suc i)
-  node_at xs same i x h e = e ∙ any_default xs i x (new_node k.members (suc i)) h ∙ ap (λ ys. slice_index_or ys i (new_node k.members (suc i))) same
+  node_at xs same i x h e = e ∙ get_or_default xs i x (new_node k.members (suc i)) h ∙ ap (λ ys. slice_index_or ys i (new_node k.members (suc i))) same
 
   pub node_voted : (xs : List (NodeState C)) → xs ≡ k.nodes → (i : ℕ) (x : NodeState C) → i < length xs
       → x ≡ slice_index_or xs i x → (ps : List (Pvalue C)) → ps ≡ x.acceptor.accepted → (s : ℕ) (c : C)
@@ -86,31 +77,13 @@ module _ {C : Type 0} (k : Cluster C) where
       (λ (f : j ≢ i). before j (omega arith))
       (cases_eq j i)
 
-  none_behind : (xs : List (NodeState C)) (d : NodeState C) (i s : ℕ) → d.acceptor.accepted ≡ []
-      → ((j : ℕ) → j < length xs → HasNoneVoted k (slice_index_or xs j d).acceptor.accepted s)
-      → HasNoneVoted k (slice_index_or xs i d).acceptor.accepted s
-  none_behind [] d i s none h = subst (λ qs. HasNoneVoted k qs s) (sym none) (λ p at. absurd at)
-  none_behind (x ∷ xs) d zero s none h = h 0 (omega arith)
-  none_behind (x ∷ xs) d (suc i) s none h = none_behind xs d i s none (λ j low. h (suc j) (omega arith))
-
-  -- the node of number 0, which is none, and those behind the last accepted nothing
-  pub none_voted : (xs : List (NodeState C)) → xs ≡ k.nodes → (s : ℕ)
-      → ((j : ℕ) → j < length xs → HasNoneVoted k (node k (suc j)).acceptor.accepted s) → (m : ℕ)
-      → HasNoneVoted k (node k m).acceptor.accepted s
-  none_voted xs same s h zero = λ p at. absurd at
-  none_voted xs same s h (suc i) =
-      none_behind k.nodes (new_node k.members (suc i)) i s refl
-      (λ j low. subst (λ (y : NodeState C). HasNoneVoted k y.acceptor.accepted s)
-      (any_default k.nodes j (new_node k.members (suc j)) (new_node k.members (suc i)) low)
-      (h j (subst (λ ys. j < length ys) (sym same) low)))
-
   pub run_ended : (s : ℕ) (cs : List C) → IsRun k s cs → ((c : C) → IsChosen k (s + length cs) c → ⊥) → IsChosenFrom k s cs
   run_ended s [] h none = λ c chosen. none c (subst (λ t. IsChosen k t c) (omega arith) chosen)
   run_ended s (d ∷ cs) h none = (h.0, run_ended (s + 1) cs h.1 (λ c chosen. none c (subst (λ t. IsChosen k t c) (omega arith) chosen)))
 
   module _ (laws : BallotLaws) (i : IsSound k) where
     is_chosen : (s m : ℕ) (c : C) → HasVoted k (node k m).acceptor.accepted s c → IsChosen k s c
-    is_chosen s m c v = subst (λ t. IsChosen k t c) v.2 (subst (IsChosen k v.0.slot) v.3 (chosen_by_row laws k i m v.0 v.1 v.4))
+    is_chosen s m c v = subst (λ t. IsChosen k t c) v.slot (subst (IsChosen k v.pvalue.slot) v.value (chosen_by_row laws k i m v.pvalue v.among v.voted))
 
     none_chosen : (s : ℕ) → ((m : ℕ) → HasNoneVoted k (node k m).acceptor.accepted s) → (c : C) → IsChosen k s c → ⊥
     none_chosen s none = none_by_rows laws k i s (λ m p at same. subst (λ t. is_voted k p.ballot t ≡ false) same (none m p at same))
