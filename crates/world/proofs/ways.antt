@@ -1,8 +1,8 @@
 -- There is a way out of every world: a slot after the other is proposed, decided and performed.
 pub mod Going
 pub mod Allowing
+pub mod Passing
 pub mod Telling
-pub mod TellingSlots
 pub mod LetterTests
 pub mod Finding
 pub mod Lengthening

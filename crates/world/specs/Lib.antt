@@ -1,6 +1,7 @@
 pub mod Tasks
 pub mod Refusals
 pub mod Quiet
+pub mod Agreed
 pub mod Voters
 pub mod Placed
 pub mod Kept
@@ -9,3 +10,4 @@ pub mod Leading
 pub mod Rescues
 pub mod Telling
 pub mod WaysOut
+pub mod WaySteps

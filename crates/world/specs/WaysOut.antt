@@ -1,5 +1,5 @@
 -- The words of a way out of a world. Node 1 leads it, as it is always a member.
-use Rattle.std.specs.Prelude.{◌≡◌, ℕ, ◌+◌, ◌*◌, ◌^◌, ◌<◌, ◌≤◌, ◌==◌, ◌&&◌, Bool, true, false, if◌then◌else◌, List, ◌∷◌}
+use Rattle.std.specs.Prelude.{◌≡◌, ℕ, ◌+◌, ◌*◌, ◌^◌, ◌<◌, ◌≤◌, ◌==◌, ◌&&◌, ◌⊎◌, Bool, true, false, if◌then◌else◌, List, [], ◌∷◌}
 use Rattle.std.specs.Prelude.{◌++◌, length, filter, slice_get, Option, None, Some, IsSome}
 use Rattle.std.specs.List.{list_all}
 use Rattle.std.specs.FinMap.{empty, get, contains_key, insert, len}
@@ -26,6 +26,7 @@ use Rattle.slot_log.specs.Proposals.{proposed_next}
 use Rattle.slot_log.specs.Decisions.{learnt as with_decision}
 use Rattle.slot_log.specs.Advances.{advanced}
 use Rattle.world.specs.Rescues.{keeps_nodes}
+use Rattle.world.specs.declared.letter_places.LetterPlaces.{LetterPlaces}
 use Rattle.world.specs.Telling.{IsProposedAt}
 use Rattle.agreement.specs.Nodes.{Cluster, node}
 use Rattle.agreement.specs.Mentions.{Mentions}
@@ -91,6 +92,10 @@ most_slots = 2 ^ 36
 abbrev pub IsSmall : {C : Type 0} → Cluster C → Type 0
 IsSmall k = Mentions (λ s c. s ≤ most_slots) k
 
+-- something is left for replica 1 to perform at this slot: a command is proposed there, or it has a request
+abbrev pub HasMore : {C : Type 0} → Cluster C → ℕ → Type 0
+HasMore k s = IsProposedAt k s ⊎ (0 < length (first_book k).requests)
+
 -- node 1 sent this body to m, by the letter of this number
 abbrev pub AsksAt : {Op Reply : Type 0} → World Op Reply → ℕ → LetterBody (Command Op) → ℕ → Type 0
 AsksAt w j body m = slice_get w.cluster.letters j ≡ Some (letter 1 body m)
@@ -132,6 +137,18 @@ pub record Goes {O Op Reply : Type 0} (rules : Rules O Op Reply) (kind : Event O
   pub noted : after ≡ before ++ events
   pub each : list_all kind events ≡ true
 
+-- these are talk, and the worlds differ by talk alone
+pub record HasTalked {O Op Reply : Type 0} (rules : Rules O Op Reply) (w : World Op Reply) (before : List (Event Op))
+    (v : World Op Reply) (after : List (Event Op)) : Type 0 where
+  pub goes : Goes rules is_talk w before v after
+  pub talk : IsTalk w v
+
+-- one event led from the one world to the other, and stands behind those before
+pub record AddsEvent {O Op Reply : Type 0} (rules : Rules O Op Reply) (e : Event Op) (w : World Op Reply)
+    (before : List (Event Op)) (v : World Op Reply) (after : List (Event Op)) : Type 0 where
+  pub step : Step rules w e v
+  pub noted : after ≡ before ++ (e ∷ [])
+
 -- The book of replica 1 where its slot_out is about to be decided: as it was where a proposal for the slot had been sent, and
 -- else with its first request proposed there.
 pub data IsReady {C : Type 0} (k : Cluster C) (s : ℕ) (book : SlotBook C) : Type 0 where
@@ -162,21 +179,27 @@ pub record IsPassage {O Op Reply : Type 0} (rules : Rules O Op Reply) (slot cost
   pub submitted : v.happenings.submitted ≡ w.happenings.submitted
   pub goes : Goes rules keeps_nodes w before v after
 
--- the letter of this number proposes a command for the slot to node 1
-pub record Proposes {C : Type 0} (letters : List (Letter C)) (j s : ℕ) : Type 0 where
-  pub letter : Letter C
-  pub command : C
-  pub at : slice_get letters j ≡ Some letter
-  pub to : letter.to ≡ 1
-  pub body : letter.body ≡ Propose s command
+-- and then the leader is at rest again
+pub record IsWholePassage {O Op Reply : Type 0} (rules : Rules O Op Reply) (slot cost : ℕ) (w : World Op Reply)
+    (before : List (Event Op)) (v : World Op Reply) (after : List (Event Op)) : Type 0 where
+  pub passage : IsPassage rules slot cost w before v after
+  pub at_rest : IsAtRest v.cluster
 
--- and this one tells it what is decided there
-pub record Decides {C : Type 0} (letters : List (Letter C)) (j s : ℕ) : Type 0 where
+-- the letter of this number goes to node 1, and is of this kind for the slot
+pub record IsToFirst {C : Type 0} (kind : ℕ → C → LetterBody C) (letters : List (Letter C)) (j s : ℕ) : Type 0 where
   pub letter : Letter C
   pub command : C
   pub at : slice_get letters j ≡ Some letter
   pub to : letter.to ≡ 1
-  pub body : letter.body ≡ Decision s command
+  pub body : letter.body ≡ kind s command
+
+-- it proposes a command for the slot to node 1
+abbrev pub Proposes : {C : Type 0} → List (Letter C) → ℕ → ℕ → Type 0
+Proposes letters j s = IsToFirst Propose letters j s
+
+-- it tells node 1 what is decided there
+abbrev pub Decides : {C : Type 0} → List (Letter C) → ℕ → ℕ → Type 0
+Decides letters j s = IsToFirst Decision letters j s
 
 -- the command is a request, or was proposed, or is known to be decided
 pub data Holds {C : Type 0} (book : SlotBook C) (c : C) : Type 0 where
@@ -221,16 +244,20 @@ decides_to slot to (Ask s) = false
 abbrev pub is_decision : {C : Type 0} → ℕ → Letter C → Bool
 is_decision slot l = decides_to slot l.to l.body
 
--- These places are of such letters, and each slot that one of the first `read` letters is for has one.
-pub record ArePlacesOf {C : Type 0} (is : List (Letter C) → ℕ → ℕ → Type 0) (letters : List (Letter C)) (read : ℕ) (places : Slots ℕ) : Type 0 where
-  pub sound : (s j : ℕ) → get places s ≡ Some j → is letters j s
-  pub whole : (j s : ℕ) → j < read → is letters j s → IsSome (get places s)
+-- These places are of letters of this kind to node 1, and each slot that one of the first `read` letters is for has one.
+pub record ArePlacesOf {C : Type 0} (kind : ℕ → C → LetterBody C) (letters : List (Letter C)) (read : ℕ) (places : Slots ℕ) : Type 0 where
+  pub sound : (s j : ℕ) → get places s ≡ Some j → IsToFirst kind letters j s
+  pub whole : (j s : ℕ) → j < read → IsToFirst kind letters j s → IsSome (get places s)
 
--- All of these letters are read: here stand those that propose to node 1, and those that tell it what is decided.
-pub record AreAllRead {C : Type 0} (letters : List (Letter C)) (read : ℕ) (proposals decisions : Slots ℕ) : Type 0 where
-  pub all : read ≡ length letters
-  pub of_proposals : ArePlacesOf Proposes letters read proposals
-  pub of_decisions : ArePlacesOf Decides letters read decisions
+-- of the letters so many are read, and these are the places of those that propose to node 1 or tell it what is decided
+pub record ArePlaces {C : Type 0} (letters : List (Letter C)) (read : ℕ) (places : LetterPlaces) : Type 0 where
+  pub of_proposals : ArePlacesOf Propose letters read places.proposals
+  pub of_decisions : ArePlacesOf Decision letters read places.decisions
+
+-- and all of them are read
+pub record AreAllRead {C : Type 0} (letters : List (Letter C)) (places : LetterPlaces) : Type 0 where
+  pub all : places.read ≡ length letters
+  pub found : ArePlaces letters places.read places
 
 -- the places with this one for the slot, if there is one
 abbrev pub noted_place : Slots ℕ → Option ℕ → ℕ → Slots ℕ

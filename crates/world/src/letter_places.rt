@@ -1,6 +1,6 @@
 ghost use Rattle.std.specs.Prelude.{◌≡◌, ◌<◌, ◌+◌, ℕ, true, false, length, IfSome, IfNone, OnOk};
 ghost use Rattle.std.specs.FinMap.{empty};
-ghost use Rattle.world.specs.WaysOut.{ArePlacesOf, AreAllRead, Proposes, Decides, is_proposal, is_decision, noted_place};
+ghost use Rattle.world.specs.WaysOut.{ArePlaces, AreAllRead, Proposes, Decides, is_proposal, is_decision, noted_place};
 
 use crate::letters::find_decision;
 use ballot::{Letter, LetterBody, Slot, SlotMap};
@@ -32,10 +32,8 @@ impl LetterPlaces {
 
     /// Reads the letters that weren't read.
     pub(crate) fn read_on<C: Value>(&mut self, letters: &[Letter<C>]) -> Result<(), AllocError>
-        requires proposals { ArePlacesOf Proposes letters.now self.old.read self.old.proposals }
-        requires decisions { ArePlacesOf Decides letters.now self.old.read self.old.decisions }
-        ensures read { OnOk result (AreAllRead letters.now self.new.read self.new.proposals
-            self.new.decisions) }
+        requires { ArePlaces letters.now self.old.read self.old }
+        ensures { OnOk result (AreAllRead letters.now self.new) }
     {
         for place in self.read..letters.len() {
             self.read_one(letters, place)?;
@@ -47,13 +45,9 @@ impl LetterPlaces {
     // Reads one letter more.
     fn read_one<C: Value>(&mut self, letters: &[Letter<C>], place: usize) -> Result<(), AllocError>
         requires within { place < length letters.now }
-        requires proposals { ArePlacesOf Proposes letters.now place self.old.proposals }
-        requires decisions { ArePlacesOf Decides letters.now place self.old.decisions }
-        ensures proposals { OnOk result (ArePlacesOf Proposes letters.now (place + 1)
-            self.new.proposals) }
-        ensures decisions { OnOk result (ArePlacesOf Decides letters.now (place + 1)
-            self.new.decisions) }
-        ensures read { OnOk result (self.new.read ≡ self.old.read) }
+        requires before { ArePlaces letters.now place self.old }
+        ensures read { OnOk result (ArePlaces letters.now (place + 1) self.new) }
+        ensures count { OnOk result (self.new.read ≡ self.old.read) }
     {
         let letter = &letters[place];
         note(&mut self.proposals, proposed_slot(letter), place)?;
@@ -63,8 +57,7 @@ impl LetterPlaces {
 
     /// A letter that proposes something for the slot to node 1, where all letters were read.
     pub(crate) fn proposal_for<C: Value>(&self, letters: &[Letter<C>], slot: Slot) -> Option<usize>
-        requires read { AreAllRead letters.now self.now.read self.now.proposals
-            self.now.decisions }
+        requires { AreAllRead letters.now self.now }
         ensures some { IfSome result (λ place. Proposes letters.now place slot) }
         ensures none { IfNone result ((place : ℕ) → Proposes letters.now place slot → ⊥) }
     {
@@ -74,7 +67,7 @@ impl LetterPlaces {
 
     /// A letter that tells node 1 what is decided in the slot, read or not.
     pub(crate) fn decision_for<C: Value>(&self, letters: &[Letter<C>], slot: Slot) -> Option<usize>
-        requires { ArePlacesOf Decides letters.now self.now.read self.now.decisions }
+        requires { ArePlaces letters.now self.now.read self.now }
         ensures some { IfSome result (λ place. Decides letters.now place slot) }
         ensures none { IfNone result ((place : ℕ) → Decides letters.now place slot → ⊥) }
     {

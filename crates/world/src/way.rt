@@ -1,7 +1,7 @@
-ghost use Rattle.std.specs.Prelude.{◌≡◌, ◌++◌, ◌∷◌, [], true, None, IfOk, IfErr, OnOk, OnErr};
-ghost use Rattle.world.specs.declared.error.WorldError.TheVariants.{OutOfMemory};
-ghost use Rattle.agreement.specs.Steps.{Step};
+ghost use Rattle.std.specs.Prelude.{◌≡◌, ◌++◌, ◌∷◌, [], None, IfOk, OnOk};
 ghost use Rattle.world.specs.Refusals.{refusal};
+ghost use Rattle.world.specs.WaySteps.{ButForMemory};
+ghost use Rattle.world.specs.WaysOut.{AddsEvent};
 
 use crate::error::WorldError;
 use crate::world::World;
@@ -36,9 +36,8 @@ impl<O: Object> Way<O> {
     // Takes an event that the world doesn't refuse.
     pub(crate) fn take(&mut self, event: Event<O::Op>) -> Result<(), WorldError>
         requires { refusal O.Op.eq self.old.trial event ≡ None }
-        ensures step { OnOk result (Step O.rules self.old.trial event self.new.trial) }
-        ensures noted { OnOk result (self.new.events.items ≡ self.old.events.items ++ (event ∷ [])) }
-        ensures memory { IfErr result (λ r. r ≡ OutOfMemory) }
+        ensures { ButForMemory result (AddsEvent O.rules event self.old.trial self.old.events.items
+            self.new.trial self.new.events.items) }
     {
         let noted = event.copy()?;
         self.note(noted)?;

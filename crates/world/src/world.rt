@@ -6,9 +6,7 @@ ghost use Rattle.agreement.specs.Steps.{Step};
 ghost use Rattle.world.specs.Quiet.{BringsNothing};
 ghost use Rattle.agreement.specs.Runs.{Leads};
 ghost use Rattle.world.specs.Refusals.{refusal, reason_for, IsRefused};
-ghost use Rattle.agreement.specs.OneOrder.{HasOneOrder, KeepsPromise, GoesOnFrom};
-ghost use Rattle.agreement.specs.Told.{IsAnswered};
-ghost use Rattle.agreement.specs.Agreements.{HasOneCommand, KeepsChosen, ChoosesOne, DecidesChosen, StaysChosen};
+ghost use Rattle.world.specs.Agreed.{HasAgreement, Continues};
 
 mod acting;
 mod copying;
@@ -68,9 +66,7 @@ impl<O: Object> World<O> {
     /// These members, to whom nothing happened yet.
     pub fn new(alloc: Global, members: Members) -> Result<World<O>, AllocError>
         ensures opening { IfOk result (λ w. w ≡ opening members) }
-        ensures one_order { IfOk result (HasOneOrder O.rules) }
-        ensures promised { IfOk result (λ w. KeepsPromise O.promise w.cluster) }
-        ensures answered { IfOk result (IsAnswered O.rules) }
+        ensures agrees { IfOk result (HasAgreement O.rules O.promise) }
     {
         ballot_laws();
         let mut nodes = Vec::new(alloc);
@@ -103,15 +99,8 @@ impl<O: Object> World<O> {
             IfErr result (λ r. r ≡ OutOfMemory) }
         ensures idle { refusal O.Op.eq self.old event ≡ None →
             BringsNothing O.rules self.old.cluster event → IsOk result }
-        ensures one_command { HasOneCommand self.new.cluster }
-        ensures keeps_chosen { KeepsChosen self.new.cluster }
-        ensures chooses_one { ChoosesOne self.new.cluster }
-        ensures decides_chosen { DecidesChosen self.new.cluster }
-        ensures stays { StaysChosen self.old.cluster self.new.cluster }
-        ensures one_order { HasOneOrder O.rules self.new }
-        ensures promised { KeepsPromise O.promise self.new.cluster }
-        ensures answered { IsAnswered O.rules self.new }
-        ensures later { GoesOnFrom self.old self.new }
+        ensures agrees { HasAgreement O.rules O.promise self.new }
+        ensures continues { Continues self.old self.new }
     {
         let _ = &self.alloc;
         ballot_laws();
@@ -138,37 +127,18 @@ impl<O: Object> World<O> {
         ensures err { IfErr result (λ e. Leads O.rules self.old (take e.0 events.now) self.new) }
         ensures place { IfErr result (λ e. e.0 < length events.now) }
         ensures refused { IfErr result (λ e. IsRefused O.Op.eq self.new events.now e.0 e.1) }
-        ensures one_command { HasOneCommand self.new.cluster }
-        ensures keeps_chosen { KeepsChosen self.new.cluster }
-        ensures chooses_one { ChoosesOne self.new.cluster }
-        ensures decides_chosen { DecidesChosen self.new.cluster }
-        ensures stays { StaysChosen self.old.cluster self.new.cluster }
-        ensures one_order { HasOneOrder O.rules self.new }
-        ensures promised { KeepsPromise O.promise self.new.cluster }
-        ensures answered { IsAnswered O.rules self.new }
-        ensures later { GoesOnFrom self.old self.new }
-    {
-        let ran = self.take_all(events);
-        self.show_agreement();
-        ran
-    }
-
-    // The same, but for what the new world agrees on.
-    fn take_all(&mut self, events: &[Event<O::Op>]) -> Result<(), (usize, WorldError)>
-        ensures ok { OnOk result (Leads O.rules self.old events.now self.new) }
-        ensures err { IfErr result (λ e. Leads O.rules self.old (take e.0 events.now) self.new) }
-        ensures place { IfErr result (λ e. e.0 < length events.now) }
-        ensures refused { IfErr result (λ e. IsRefused O.Op.eq self.new events.now e.0 e.1) }
-        ensures stays { StaysChosen self.old.cluster self.new.cluster }
-        ensures later { GoesOnFrom self.old self.new }
+        ensures agrees { HasAgreement O.rules O.promise self.new }
+        ensures continues { Continues self.old self.new }
     {
         let _ = &self.alloc;
         ballot_laws();
         for (index, event) in events.iter().enumerate() {
             if let Err(refused) = self.take_copy(event) {
+                self.show_agreement();
                 return Err((index, refused));
             }
         }
+        self.show_agreement();
         Ok(())
     }
 
@@ -177,8 +147,7 @@ impl<O: Object> World<O> {
         ensures ok { OnOk result (Step O.rules self.old event.now self.new) }
         ensures err { OnErr result (self.new ≡ self.old) }
         ensures refused { IfErr result (λ r. r ≡ reason_for O.Op.eq self.old event.now) }
-        ensures stays { StaysChosen self.old.cluster self.new.cluster }
-        ensures later { GoesOnFrom self.old self.new }
+        ensures continues { Continues self.old self.new }
     {
         let _ = &self.alloc;
         ballot_laws();
@@ -193,13 +162,7 @@ impl<O: Object> World<O> {
     /// stays in later ballots, no slot has two chosen commands, and each Decision names one; there is one order, for which
     /// what happened is legal; what the object promises holds of it; and what was performed is answered.
     pub fn show_agreement(&self)
-        ensures one_command { HasOneCommand self.now.cluster }
-        ensures keeps_chosen { KeepsChosen self.now.cluster }
-        ensures chooses_one { ChoosesOne self.now.cluster }
-        ensures decides_chosen { DecidesChosen self.now.cluster }
-        ensures one_order { HasOneOrder O.rules self.now }
-        ensures promised { KeepsPromise O.promise self.now.cluster }
-        ensures answered { IsAnswered O.rules self.now }
+        ensures { HasAgreement O.rules O.promise self.now }
     {
         let _ = &self.alloc;
         ballot_laws();

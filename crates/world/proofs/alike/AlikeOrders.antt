@@ -54,15 +54,7 @@ module _ (laws : BallotLaws) {Op Reply : Type 0} (w v : World Op Reply) (a : IsA
         (node_alike laws w.cluster.members w.cluster.nodes v.cluster.nodes n a.nodes));
   }
 
-  -- the same commands are chosen
-  pub alike_chosen : (s : ℕ) (c : Command Op) → IsChosen w.cluster s c ↔ IsChosen v.cluster s c
-  alike_chosen s c = (
-    chosen_there w.cluster v.cluster same_acceptors s c,
-    chosen_there v.cluster w.cluster
-        (turned_back w.cluster v.cluster same_acceptors) s c,
-  )
-
-  -- so the same list is the order
+  -- the same list is the order
   pub alike_order : (order : List (Command Op)) → IsOrder w.cluster order ↔ IsOrder v.cluster order
   alike_order order = (
     order_there w.cluster v.cluster same_acceptors order,

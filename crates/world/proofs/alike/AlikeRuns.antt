@@ -6,7 +6,7 @@ use Rattle.ballot.specs.OrderLaws.{BallotLaws}
 use Rattle.agreement.specs.declared.event.Event.{Event}
 use Rattle.agreement.specs.Worlds.{World}
 use Rattle.agreement.specs.Steps.{Step}
-use Rattle.agreement.specs.Runs.{Leads, at_once, after, IsWorld, InEvery}
+use Rattle.agreement.specs.Runs.{Leads, at_once, after, IsWorld}
 use Rattle.world.specs.Alike.{IsAlikeNode, IsAlikeLetter, IsAlike, same_letter}
 use Rattle.agreement.proofs.chosen.Invariants.{IsSound}
 use Rattle.agreement.proofs.chosen.Turns.{Kept}
@@ -38,10 +38,6 @@ module _ (laws : BallotLaws) {O Op Reply : Type 0} (rules : Rules O Op Reply) wh
     taken = refl;
   }
 
-  -- each world is alike itself
-  pub alike_itself : InEvery rules (λ w. IsAlike w w)
-  alike_itself w i = world_itself w
-
   sound_alike : (w v : World Op Reply) (e : Event Op) (x y : World Op Reply) → IsSound w.cluster → IsSound v.cluster
       → IsAlike w v → Step rules w e x → Step rules v e y → IsAlike x y
   sound_alike w v e x y i j a s t =
@@ -49,11 +45,6 @@ module _ (laws : BallotLaws) {O Op Reply : Type 0} (rules : Rules O Op Reply) wh
       (subst (λ (u : World Op Reply). IsSound u.cluster) (sym (is_with_its w v a)) j)
       e x y s
       (subst (λ (u : World Op Reply). Step rules u e y) (sym (is_with_its w v a)) t)
-
-  -- worlds that are alike are so after an event
-  pub alike_step : (w v : World Op Reply) (e : Event Op) (x y : World Op Reply) → IsWorld rules w → IsWorld rules v
-      → IsAlike w v → Step rules w e x → Step rules v e y → IsAlike x y
-  alike_step w v e x y i j a s t = sound_alike w v e x y (reachable_sound laws rules w i.reachable) (reachable_sound laws rules v j.reachable) a s t
 
   -- an event does not lead nowhere
   some_events : {P : Type 0} (es : List (Event Op)) (e : Event Op) → [] ≡ es ++ (e ∷ []) → P

@@ -46,13 +46,10 @@ pub data HearsVote {C : Type 0} (l : Leading C) (m : ℕ) (o : Option Numbers) (
   gives_way : (c : Commanding C) (b : Numbers) → get l.commanders s ≡ Some c → o ≡ Some b
       → is_below c.pvalue.ballot b ≡ true → z ≡ preempted l b → HearsVote l m o s z
 
-is_there : {X : Type 0} (o : Option X) (v : X) → o ≡ Some v → is_some o ≡ true
-is_there o v e = ap is_some e
-
 pub covers_taken : {C : Type 0} (old : Slots C) (gathered : List (Pvalue C)) (new : Slots C) → TakesGreatest old gathered new → Covers old new
 covers_taken old gathered new takes s there = elim (takes s) as (λ v. contains_key new s ≡ true) [
   | inl none ↦ ap is_some none.1 ∙ there
-  | inr greatest ↦ is_there (get new s) _ greatest.2
+  | inr greatest ↦ ap is_some greatest.2
 ]
 
 module _ (laws : BallotLaws) {C : Type 0} (l : Leading C) (m : ℕ) where

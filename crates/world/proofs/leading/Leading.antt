@@ -1,10 +1,10 @@
 -- Each row of a leader leaves it as leaders are.
-use Rattle.std.proofs.Common.{◌≡◌, ◌≢◌, ◌⊎◌, inl, inr, ⊎_elim, ℕ, zero, suc, ◌<◌, Bool, true, false, true≢false, cond}
+use Rattle.std.proofs.Common.{◌≡◌, ◌≢◌, ◌⊎◌, inl, inr, ⊎_elim, ℕ, zero, suc, ◌<◌, Bool, true, false, cond}
 use Rattle.std.proofs.Common.{List, [], ◌∷◌, replicate, Some, None, Option, refl, sym, ap, ◌∙◌, subst, arith, length}
 use Rattle.std.proofs.Common.{length-set}
-use Rattle.std.specs.Prelude.{is_none, not, ◌&&◌, nat_le, IsSome}
+use Rattle.std.specs.Prelude.{is_none, not, nat_le, IsSome}
 use Rattle.std.specs.FinMap.{get, insert, empty, contains_key}
-use Rattle.std.proofs.lemmas.Bool.{cases_eq}
+use Rattle.std.proofs.lemmas.Bool.{and_parts, cases_eq, cond_both, not-true}
 use Rattle.std.proofs.lemmas.Bool.Decides.{nat_tests}
 use Rattle.object.specs.Lists.{In}
 use Rattle.ballot.specs.Ballots.{Numbers, is_below, is_same, next_after}
@@ -97,22 +97,14 @@ IsSentToAll k n b = (m : ℕ) → is_member k.members m ≡ true → In (letter 
 abbrev pub IsLedBy : {C : Type 0} → Cluster C → ℕ → Done (Leading C) C → Type 0
 IsLedBy {C} k n d = (z : Cluster C) → Grows k z → ((b : LetterBody C) → In b d.says → IsSentToAll z n b) → IsLed z n d.state
 
-idle : {C : Type 0} (a : Bool) (o : Option (Scouting C)) → (not a && is_none o) ≡ true → a ≡ false
-idle true o e = absurd (true≢false (sym e))
-idle false o e = refl
-
 module _ (laws : BallotLaws) {C : Type 0} (k : Cluster C) (n : ℕ) (l : Leading C) (own : IsLeading k l) (h : IsLed k n l) where
-  led_if : (d e : Done (Leading C) C) (test : Bool) → (test ≡ true → IsLedBy k n d) → (test ≡ false → IsLedBy k n e) → IsLedBy k n (cond test d e)
-  led_if d e true on off = on refl
-  led_if d e false on off = off refl
-
   silent_led : IsLedBy k n (silently l)
   silent_led z g said = led_stays k z g n l h
 
   pub woken_led : IsLedBy k n (woken l)
-  woken_led = led_if _ (silently l) _
+  woken_led = cond_both _ _ (silently l) (IsLedBy k n)
       (λ e z g said. record {
-        active = λ on. off_on (idle l.active l.scout e) on;
+        active = λ on. off_on (not-true l.active (and_parts (not l.active) (is_none l.scout) e).0) on;
         asleep = h.asleep;
         scout = λ s f. subst (IsStillScouting z) (some_same f) (record { few = nobody_few l.members; full = refl; within = λ m x. nobody_has m x });
         commander = λ s c f. commander_stays k z g l.proposals s c (h.commander s c f);
@@ -171,11 +163,6 @@ module _ (laws : BallotLaws) {C : Type 0} (k : Cluster C) (n : ℕ) (l : Leading
   abbrev AtHearing : Slots C → Hearing C → Type 0
   AtHearing taken v = IsLedBy k n (at_heard l taken v.scout v.says)
 
-  hearing_if : (taken : Slots C) (test : Bool) (v w : Hearing C) → (test ≡ true → AtHearing taken v)
-      → (test ≡ false → AtHearing taken w) → AtHearing taken (cond test v w)
-  hearing_if taken true v w on off = on refl
-  hearing_if taken false v w on off = off refl
-
   module _ (m : ℕ) (b : Numbers) (upto : IsUpto b (node k m).acceptor.promised) (s : Scouting C) (e : l.scout ≡ Some s) where
     scout_members : s.members ≡ k.members
     scout_members = (own.scouting s e).own.members ∙ own.members
@@ -190,13 +177,13 @@ module _ (laws : BallotLaws) {C : Type 0} (k : Cluster C) (n : ℕ) (l : Leading
 
     hearing_led : (fresh : List (Pvalue C)) (taken : Slots C) → AtHearing taken (scouts.on_p1b s m b fresh)
     hearing_led fresh taken =
-        hearing_if taken (is_member s.members m) _ (unmoved s Wait)
-        (λ member. hearing_if taken (is_same b s.ballot) (gathers s m fresh) _
+        cond_both (is_member s.members m) _ (unmoved s Wait) (AtHearing taken)
+        (λ member. cond_both (is_same b s.ballot) (gathers s m fresh) _ (AtHearing taken)
         (λ mine. heard_if s (gathers s m fresh).scout e scout_members (promised_now mine)
         (heard_within k.members s.heard m (subst (λ ws. is_member ws m ≡ true) scout_members member)
         (h.scout s e).within) (full_add s.heard m (h.scout s e).full) taken
         (is_majority s.members (add s.heard m)) refl)
-        (λ other. hearing_if taken (is_below s.ballot b) (unmoved s (Preempted b)) (unmoved s Wait)
+        (λ other. cond_both (is_below s.ballot b) (unmoved s (Preempted b)) (unmoved s Wait) (AtHearing taken)
         (λ up. preempted_led b)
         (λ down. scout_led s s e (h.scout s e))))
         (λ stranger. scout_led s s e (h.scout s e))
@@ -278,23 +265,23 @@ module _ (laws : BallotLaws) {C : Type 0} (k : Cluster C) (n : ℕ) (l : Leading
     abbrev AtVoting : Voting C → Type 0
     AtVoting v = IsLedBy k n (at_voted l s v.commander v.says)
 
-    voting_if : (test : Bool) (v w : Voting C) → (test ≡ true → AtVoting v) → (test ≡ false → AtVoting w) → AtVoting (cond test v w)
-    voting_if true v w on off = on refl
-    voting_if false v w on off = off refl
-
     votes_led : (m : ℕ) (b : Option Numbers) → is_member c.members m ≡ true → AtVoting (votes c m b)
     votes_led m None member = unmoved_led
     votes_led m (Some b) member =
-        voting_if (is_same b c.pvalue.ballot) (counts c m) _
+        cond_both (is_same b c.pvalue.ballot) (counts c m) _ AtVoting
         (λ mine. voted_if m member (is_majority c.members (add c.heard m)) refl)
-        (λ other. voting_if (is_below c.pvalue.ballot b) _ _ (λ up. preempted_led b) (λ down. unmoved_led))
+        (λ other. cond_both (is_below c.pvalue.ballot b) _ _ AtVoting (λ up. preempted_led b) (λ down. unmoved_led))
 
   at_commander_led : (m : ℕ) (b : Option Numbers) (s : ℕ) (o : Option (Commanding C)) → get l.commanders s ≡ o → IsLedBy k n (at_commander l m b s o)
   at_commander_led m b s None e = silent_led
-  at_commander_led m b s (Some c) e = voting_if s c e (is_member c.members m) _ _ (λ member. votes_led s c e m b member) (λ stranger. unmoved_led s c e)
+  at_commander_led m b s (Some c) e = cond_both (is_member c.members m) _ _ (AtVoting s c e)
+      (λ member. votes_led s c e m b member)
+      (λ stranger. unmoved_led s c e)
 
   pub p2b_led : (m : ℕ) (b : Option Numbers) (s : ℕ) (by : Numbers) → IsLedBy k n (votes_of.on_p2b l m b s by)
-  p2b_led m b s by = led_if (silently l) _ (answers_another l b by) (λ another. silent_led) (λ mine. at_commander_led m b s (get l.commanders s) refl)
+  p2b_led m b s by = cond_both (answers_another l b by) (silently l) _ (IsLedBy k n)
+      (λ another. silent_led)
+      (λ mine. at_commander_led m b s (get l.commanders s) refl)
 
   -- a proposal is added where there was none
   module _ (s : ℕ) (c : C) (none : get l.proposals s ≡ None) where
@@ -355,8 +342,8 @@ module _ (laws : BallotLaws) {C : Type 0} (k : Cluster C) (n : ℕ) (l : Leading
     }
 
   pub proposed_led : (s : ℕ) (c : C) → IsLedBy k n (on_propose l s c)
-  proposed_led s c = led_if (silently l) _ (contains_key l.proposals s)
+  proposed_led s c = cond_both (contains_key l.proposals s) (silently l) _ (IsLedBy k n)
       (λ there. silent_led)
-      (λ free. led_if _ _ l.active
+      (λ free. cond_both l.active _ _ (IsLedBy k n)
       (λ on. commands_led s c (absent l.proposals s free) on)
       (λ off. kept_led s c (absent l.proposals s free) off))

@@ -29,7 +29,7 @@ use Rattle.world.specs.WaysOut.{first_leader, rivals, IsTalk, AsksAt, IsBeaten}
 use Rattle.world.proofs.leading.LeaderCases.{Covers, HearsPromise, no_scout, gathers_more, adopts, gives_up, HearsVote}
 use Rattle.world.proofs.leading.LeaderCases.{no_commander, stays, counts_more, decides, gives_way, given_up}
 use Rattle.world.proofs.leading.LeaderCases.{preempted_is, promise_cases, vote_cases}
-use Rattle.world.proofs.rounds.Talking.{AsksPromise, AsksVote, talk_on}
+use Rattle.world.proofs.rounds.Talking.{AsksPromise, AsksVote, exchange_talks, talk_on}
 use Rattle.world.proofs.rounds.Rivals.{promises as promised_cases, not_below, below_next, fewer_rivals, rivals_stay}
 
 -- it asks a member for what the leader waits for
@@ -254,36 +254,25 @@ module _ (laws : BallotLaws) {Op Reply : Type 0} (old w v : World Op Reply) (sta
         awake = λ h. off_on asleep h;
         commanders = λ h. off_on asleep h;
       })
-      p1a_going g (gives_up s stands above is) = inr (beaten_now m _ member (asked.members ∙ before.talk.members) g.ballot asked.promised
+      p1a_going g (gives_up s stands above is) = inr (beaten_now m _ member (asked.exchange.members ∙ before.talk.members) g.ballot asked.promised
           (subst (λ y. is_below y (higher (node w.cluster m).acceptor.promised (first_leader old.cluster).ballot)
           ≡ true) ((manned.scout s stands).1 ∙ g.ballot) above) p1a_promised is)
 
       p1a_beaten : IsBeaten old w → HearsPromise (first_leader w.cluster) m
           (higher (node w.cluster m).acceptor.promised (first_leader old.cluster).ballot) (first_leader v.cluster)
           → IsBeaten old v
-      p1a_beaten h (no_scout none is) = beaten_still h is asked.members p1a_step
+      p1a_beaten h (no_scout none is) = beaten_still h is asked.exchange.members p1a_step
       p1a_beaten h (gathers_more s t stands same heard is) = none_not h.alone stands
       p1a_beaten h (adopts s taken stands same covers is) = none_not h.alone stands
       p1a_beaten h (gives_up s stands above is) = none_not h.alone stands
-
-      p1a_talk : Covers (first_leader w.cluster).proposals (first_leader v.cluster).proposals → IsTalk w v
-      p1a_talk covers = record {
-        members = asked.members;
-        replicas = asked.replicas;
-        happenings =
-            asked.happenings;
-        reach = asked.reach;
-        letters = asked.letters;
-        covers = covers;
-      }
 
       p1a_asking : HearsPromise (first_leader w.cluster) m
           (higher (node w.cluster m).acceptor.promised (first_leader old.cluster).ballot) (first_leader v.cluster)
           → IsGoing old v start (p + 1) ⊎ IsBeaten old v → IsAsking old v start (p + 1)
       p1a_asking heard then = record {
-        talk = talk_on old w v before.talk (p1a_talk (p1a_covers heard));
+        talk = talk_on old w v before.talk (exchange_talks asked.exchange (p1a_covers heard));
         promised = p1a_promised;
-        spent = let a = asked.count in let c = before.spent in omega arith;
+        spent = let a = asked.exchange.count in let c = before.spent in omega arith;
         so_far = then;
       }
 
@@ -447,7 +436,7 @@ module _ (laws : BallotLaws) {Op Reply : Type 0} (old w v : World Op Reply) (sta
             (g.commanders h t c then);
       })
       p2a_going g (gives_way d y there promised above is) =
-          inr (beaten_now m y member (asked.members ∙ before.talk.members) g.ballot (asked.promised m ∙ promised)
+          inr (beaten_now m y member (asked.exchange.members ∙ before.talk.members) g.ballot (asked.promised m ∙ promised)
           (subst (λ z. is_below z y ≡ true) ((manned.commander slot d there).1 ∙ g.ballot) above) p2a_promised is)
 
       -- where nobody waits for the vote, nothing comes of it
@@ -466,18 +455,9 @@ module _ (laws : BallotLaws) {Op Reply : Type 0} (old w v : World Op Reply) (sta
       p2a_asking : Covers (first_leader w.cluster).proposals (first_leader v.cluster).proposals
           → IsGoing old v start (p + 1) ⊎ IsBeaten old v → IsAsking old v start (p + 1)
       p2a_asking covers then = record {
-        talk = talk_on old w v before.talk
-            (record {
-              members = asked.members;
-              replicas = asked.replicas;
-              happenings = asked.happenings;
-              reach =
-                  asked.reach;
-              letters = asked.letters;
-              covers = covers;
-            });
+        talk = talk_on old w v before.talk (exchange_talks asked.exchange covers);
         promised = p2a_promised;
-        spent = let a = asked.count in let c = before.spent in omega arith;
+        spent = let a = asked.exchange.count in let c = before.spent in omega arith;
         so_far = then;
       }
 
@@ -486,5 +466,5 @@ module _ (laws : BallotLaws) {Op Reply : Type 0} (old w v : World Op Reply) (sta
         | inl g ↦ let heard = p2a_heard g.ballot in p2a_asking (p2a_covers g.ballot heard) (p2a_going g heard)
         | inr h ↦ let same = unheard h.nobody in p2a_asking
             (λ t there. subst (λ l. contains_key l.proposals t ≡ true) (sym same) there)
-            (inr (beaten_still h same asked.members (λ j. inl (asked.promised j))))
+            (inr (beaten_still h same asked.exchange.members (λ j. inl (asked.promised j))))
       ]

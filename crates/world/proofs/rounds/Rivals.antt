@@ -1,5 +1,5 @@
 -- How many acceptors have promised a ballot above one.
-use Rattle.std.proofs.Common.{◌≡◌, ◌⊎◌, inl, inr, ⊎_elim, ℕ, ◌<◌, ◌≤◌, Bool, true, false, cond, List, [], ◌∷◌, length}
+use Rattle.std.proofs.Common.{◌≡◌, ◌⊎◌, inl, inr, ⊎_elim, ℕ, ◌+◌, ◌*◌, ◌^◌, ◌<◌, ◌≤◌, Bool, true, false, cond, List, [], ◌∷◌, length}
 use Rattle.std.proofs.Common.{filter, Option, None, Some, refl, sym, ap, ◌∙◌, subst, arith}
 use Rattle.object.specs.Lists.{In}
 use Rattle.ballot.specs.Ballots.{Numbers, is_below, is_promise_below, higher, next_after}
@@ -8,7 +8,9 @@ use Rattle.ballot.specs.OrderLaws.{BallotLaws, below_upto, not_both}
 use Rattle.std.proofs.lemmas.Bool.Decides.{nat_tests}
 use Rattle.agreement.specs.Nodes.{Cluster, node}
 use Rattle.agreement.proofs.chosen.Sets.{In-numbers}
-use Rattle.world.specs.WaysOut.{is_rival, rivals}
+use Rattle.leader.specs.Leaders.{Leading}
+use Rattle.std.specs.FinMap.{len}
+use Rattle.world.specs.WaysOut.{first_leader, is_rival, rivals, work}
 
 -- what fewer tests hold of
 module _ (f g : ℕ → Bool) (more : (j : ℕ) → f j ≡ true → g j ≡ true) where
@@ -113,3 +115,12 @@ module _ (laws : BallotLaws) where
         (numbers k.members) (In-numbers k.members m member) in
         let e = counted_in c in
         omega arith
+
+-- the work, by what the leader is
+pub work_of : {C : Type 0} (k : Cluster C) (l : Leading C) → first_leader k ≡ l
+    → work k ≡ 2 ^ 41 * (2 * rivals k l.ballot + cond l.active 0 1) + 16 * len l.commanders
+work_of k l is = ap (λ l. 2 ^ 41 * (2 * rivals k l.ballot + cond l.active 0 1) + 16 * len l.commanders) is
+
+pub work_when : {C : Type 0} (k : Cluster C) (active : Bool) → (first_leader k).active ≡ active
+    → work k ≡ 2 ^ 41 * (2 * rivals k (first_leader k).ballot + cond active 0 1) + 16 * len (first_leader k).commanders
+work_when k active is = ap (λ a. 2 ^ 41 * (2 * rivals k (first_leader k).ballot + cond a 0 1) + 16 * len (first_leader k).commanders) is

@@ -29,11 +29,12 @@ use Rattle.agreement.proofs.chosen.Invariants.{IsSound}
 use Rattle.agreement.proofs.chosen.LeaderRows.{none_not}
 use Rattle.agreement.proofs.chosen.Turns.{here}
 use Rattle.world.specs.Leading.{HasLeader}
-use Rattle.world.specs.WaysOut.{first_leader, rivals, IsTalk, HasScout, AsksAt, IsOver, beaten, adopted, at_rest}
-use Rattle.world.proofs.rounds.Talking.{talk_itself, turn_talks}
+use Rattle.world.specs.WaysOut.{first_leader, rivals, HasScout, AsksAt, IsOver, beaten, adopted, at_rest}
+use Rattle.world.proofs.leading.LeadingEvery.{In-to_each}
+use Rattle.world.proofs.rounds.Talking.{talk_itself}
 use Rattle.world.proofs.rounds.Rivals.{no_more_rivals}
 use Rattle.world.proofs.rounds.Asking.{IsAsk, promise, vote, IsRound, IsManned, IsAsking, IsGoing, HasHeard}
-use Rattle.world.proofs.rounds.Rounds.{place_of, amid, at_some, all_length, from_all, to_each, says_cases, says_scout}
+use Rattle.world.proofs.rounds.Rounds.{place_of, amid, at_some, all_length, from_all, says_cases, says_scout}
 use Rattle.world.proofs.rounds.Rounds.{says_commander, everyone, majority_of_members}
 
 -- the world after node 1 has said again what it waits for
@@ -50,9 +51,6 @@ module _ (laws : BallotLaws) {Op Reply : Type 0} (w : World Op Reply) (i : IsSou
   pub leader_nudged : first_leader (nudged w).cluster ≡ first_leader w.cluster
   leader_nudged = ap (λ x. x.leader) (here laws w.cluster i 1 first (node w.cluster 1) (said_again w.cluster.members 1 (node w.cluster 1)))
 
-  pub nudge_talks : IsTalk w (nudged w)
-  nudge_talks = turn_talks laws w i 1 first (node w.cluster 1) (said_again w.cluster.members 1 (node w.cluster 1)) refl (λ e s there. there)
-
   -- one of the letters that ask
   asked_there : (body : LetterBody (Command Op)) (m : ℕ) → In body (says_again (first_leader w.cluster)) → is_member w.cluster.members m ≡ true
       → (j : ℕ) × (length w.cluster.letters ≤ j)
@@ -60,7 +58,7 @@ module _ (laws : BallotLaws) {Op Reply : Type 0} (w : World Op Reply) (i : IsSou
       × AsksAt (nudged w) j body m
   asked_there body m within member =
       let asks = all_to_all w.cluster.members 1 (says_again (first_leader w.cluster)) in
-      let p = place_of asks (letter 1 body m) (to_each w.cluster.members 1 (says_again (first_leader w.cluster)) body m within member) in
+      let p = place_of asks (letter 1 body m) (In-to_each w.cluster.members 1 (says_again (first_leader w.cluster)) body m member within) in
       let e = all_length w.cluster.members 1 (says_again (first_leader w.cluster)) in
       let low = p.1 in (
         length w.cluster.letters + p.0,

@@ -1,10 +1,11 @@
 -- How a round begins and ends.
 use Rattle.std.proofs.Common.{◌≡◌, ◌⊎◌, inl, inr, ℕ, zero, suc, ◌+◌, ◌*◌, ◌/◌, ◌<◌, ◌≤◌, Bool, true, false, true≢false}
-use Rattle.std.proofs.Common.{cond, List, [], ◌∷◌, ◌++◌, map, length, Option, None, Some, refl, sym, ap, ap₂, ◌∙◌}
+use Rattle.std.proofs.Common.{cond, List, [], ◌∷◌, ◌++◌, length, Option, None, Some, refl, sym, ap, ap₂, ◌∙◌}
 use Rattle.std.proofs.Common.{subst, arith}
-use Rattle.std.specs.Prelude.{slice_get, slice_index_or, sum, nat_le, ◌&&◌}
+use Rattle.std.specs.Prelude.{slice_get, slice_index_or, sum}
 use Rattle.std.specs.List.{list_all}
 use Rattle.std.specs.FinMap.{get, entries}
+use Rattle.std.proofs.lemmas.Bool.{and_parts, le-leb, leb-true}
 use Rattle.std.proofs.lemmas.Bool.Decides.{nat_tests}
 use Rattle.std.proofs.lemmas.List.{length-append, length-map}
 use Rattle.std.proofs.lemmas.List.FromFn.{length-range_with_len}
@@ -16,11 +17,12 @@ use Rattle.ballot.specs.Members.{IsMembers, is_member, is_weight, is_majority, m
 use Rattle.ballot.specs.declared.letter.Letter.{Letter}
 use Rattle.ballot.specs.declared.letter.LetterBody.{LetterBody}
 use Rattle.ballot.specs.declared.letter.LetterBody.TheVariants.{P1a, P2a}
+use Rattle.acceptor.proofs.Memberships.{made_of}
 use Rattle.node.specs.SlotLaws.{entries_get, get_entries}
 use Rattle.scout_commander.specs.Scouts.{Scouting}
 use Rattle.scout_commander.specs.Commanders.{Commanding}
 use Rattle.leader.specs.Leaders.{Leading, scout_says, says_again}
-use Rattle.agreement.proofs.chosen.Sets.{In-numbers, numbers_members}
+use Rattle.agreement.proofs.chosen.Sets.{numbers_members}
 use Rattle.world.proofs.rounds.Talking.{still_at}
 
 -- where an element of a list stands
@@ -51,11 +53,6 @@ all_length ms n (b ∷ bs) = length-append (to_all ms n b) (all_to_all ms n bs)
     product : (a c m k : ℕ) → a ≡ m → c ≡ m * k → a + c ≡ m * suc k
     product a c m k p q = ap₂ (λ x y. x + y) p q ∙ grind (arith)
 
-in_mapped : {A B : Type 0} (f : A → B) (y : B) (xs : List A) → In y (map f xs) → (x : A) × In x xs × (y ≡ f x)
-in_mapped f y [] within = absurd within
-in_mapped f y (x ∷ xs) (inl e) = (x, inl refl, e)
-in_mapped f y (x ∷ xs) (inr within) = let h = in_mapped f y xs within in (h.0, inr h.1, h.2)
-
 pub from_all : {C : Type 0} (ms : List ℕ) (n : ℕ) (bodies : List (LetterBody C)) (l : Letter C)
     → In l (all_to_all ms n bodies) → (body : LetterBody C) × In body bodies
     × ((m : ℕ) × (is_member ms m ≡ true) × (l ≡ letter n body m))
@@ -63,18 +60,9 @@ from_all ms n [] l within = absurd within
 from_all {C} ms n (b ∷ bs) l within =
     elim (In-cases l (to_all ms n b) (all_to_all ms n bs) within) as (λ v. (body : LetterBody C) × In body (b ∷ bs)
     × ((m : ℕ) × (is_member ms m ≡ true) × (l ≡ letter n body m))) [
-      | inl here ↦ let h = in_mapped (letter n b) l (numbers ms) here in (b, inl refl, (h.0, numbers_members ms h.0 h.1, h.2))
+      | inl here ↦ let h = made_of (letter n b) l (numbers ms) here in (b, inl refl, (h.0, numbers_members ms h.0 h.1, h.2))
       | inr later ↦ let h = from_all ms n bs l later in (h.0, inr h.1, h.2)
     ]
-
-pub to_each : {C : Type 0} (ms : List ℕ) (n : ℕ) (bodies : List (LetterBody C)) (body : LetterBody C) (m : ℕ)
-    → In body bodies → is_member ms m ≡ true → In (letter n body m) (all_to_all ms n bodies)
-to_each ms n [] body m within member = absurd within
-to_each ms n (b ∷ bs) body m (inl e) member =
-    In-left (letter n body m) (to_all ms n b) (all_to_all ms n bs)
-    (subst (λ y. In (letter n body m) (to_all ms n y)) e
-    (In-map (letter n body) m (numbers ms) (In-numbers ms m member)))
-to_each ms n (b ∷ bs) body m (inr within) member = In-right (letter n body m) (to_all ms n b) (all_to_all ms n bs) (to_each ms n bs body m within member)
 
 -- all members together are a majority
 weigh_all : (ws : List ℕ) (row : List Bool) → ((i : ℕ) → i < length ws → slice_index_or row i false ≡ true) → weigh ws row ≡ sum ws
@@ -84,18 +72,13 @@ weigh_all (w ∷ ws) (b ∷ row) h =
     ap₂ (λ x y. x + y) (ap (λ t. cond t w 0) (h 0 (omega arith)))
     (weigh_all ws row (λ i low. h (suc i) (omega arith))) ∙ sym (sum_by-cons (λ x. x) w ws)
 
-both_true : (a b : Bool) → (a && b) ≡ true → (a ≡ true) × (b ≡ true)
-both_true true true e = (refl, refl)
-both_true true false e = absurd (cc)
-both_true false b e = absurd (cc)
-
 some_weight : (w : ℕ) → is_weight w ≡ true → 1 ≤ w
 some_weight w e = grind (arith, nat_tests)
 
 some_total : (ws : List ℕ) → IsMembers ws → 1 ≤ sum ws
 some_total [] is = let h = is.some in absurd (omega arith)
 some_total (w ∷ ws) is =
-    let one = some_weight w (both_true (is_weight w) (list_all is_weight ws) is.each).0 in
+    let one = some_weight w (and_parts (is_weight w) (list_all is_weight ws) is.each).0 in
     let e = sum_by-cons (λ x. x) w ws in
     let h : sum (w ∷ ws) ≡ w + sum ws = e in
     omega arith
@@ -103,12 +86,11 @@ some_total (w ∷ ws) is =
 half : (s : ℕ) → 1 ≤ s → s / 2 + 1 ≤ s
 half s h = omega arith
 
-le_yes : (a c d : ℕ) → a ≤ c → c ≡ d → nat_le a d ≡ true
-le_yes a c d h e = grind (arith, nat_tests)
-
 pub everyone : (ws : List ℕ) → IsMembers ws → (row : List Bool) → ((m : ℕ) → is_member ws m ≡ true → has row m ≡ true) → is_majority ws row ≡ true
-everyone ws is row h = le_yes (majority ws) (sum ws) (weigh ws row) (half (sum ws) (some_total ws is))
-    (sym (weigh_all ws row (λ i low. h (suc i) (grind (arith, nat_tests)))))
+everyone ws is row h =
+    let total = weigh_all ws row (λ i low. h (suc i) (grind (arith, nat_tests))) in
+    let few = half (sum ws) (some_total ws is) in
+    le-leb (majority ws) (weigh ws row) (subst (λ t. majority ws ≤ t) (sym total) few)
 
 -- a row that has all members of a majority is one
 weigh_members : (ws : List ℕ) (a b : List Bool)
@@ -135,12 +117,10 @@ weigh_members (w ∷ ws) (x ∷ a) (y ∷ b) h = at x y (h 0 (omega arith)) (wei
 pub majority_of_members : (ws : List ℕ) (a b : List Bool)
     → ((m : ℕ) → is_member ws m ≡ true → has a m ≡ true → has b m ≡ true) → is_majority ws a ≡ true
     → is_majority ws b ≡ true
-majority_of_members ws a b h e = let le =
-    weigh_members ws a b (λ i low. h (suc i) (grind (arith, nat_tests))) in more (majority ws) (weigh ws a)
-    (weigh ws b) le e
-  where
-    more : (m x y : ℕ) → x ≤ y → nat_le m x ≡ true → nat_le m y ≡ true
-    more m x y le e = grind (arith, nat_tests)
+majority_of_members ws a b h e =
+    let more = weigh_members ws a b (λ i low. h (suc i) (grind (arith, nat_tests))) in
+    let enough = leb-true (majority ws) (weigh ws a) e in
+    le-leb (majority ws) (weigh ws b) (omega arith)
 
 -- what a round of a leader says
 pub says_cases : {C : Type 0} (l : Leading C) (body : LetterBody C) → In body (says_again l)
@@ -150,7 +130,7 @@ says_cases {C} l body within =
     ((s : Scouting C) × (l.scout ≡ Some s) × (body ≡ P1a s.ballot))
     ⊎ ((s : ℕ) × ((c : Commanding C) × (get l.commanders s ≡ Some c) × (body ≡ P2a c.pvalue)))) [
       | inl scout ↦ inl (at l.scout scout)
-      | inr other ↦ let h = in_mapped (λ (e : ℕ × Commanding C). P2a e.1.pvalue) body (entries l.commanders) other in
+      | inr other ↦ let h = made_of (λ (e : ℕ × Commanding C). P2a e.1.pvalue) body (entries l.commanders) other in
           inr (h.0.0, (h.0.1, Each-at (λ e. get l.commanders e.0 ≡ Some e.1) (entries l.commanders) h.0 (entries_get l.commanders) h.1, h.2))
     ]
   where

@@ -1,7 +1,6 @@
 -- What node 1 becomes by an event of its own, and what stays.
-use Rattle.std.proofs.Common.{◌≡◌, ◌≢◌, inl, ⊎_elim, ℕ, ◌+◌, ◌*◌, ◌^◌, ◌≤◌, Bool, true, false, cond, List, [], ◌++◌}
+use Rattle.std.proofs.Common.{◌≡◌, ◌≢◌, inl, ⊎_elim, ℕ, ◌+◌, ◌≤◌, Bool, true, false, cond, List, [], ◌++◌}
 use Rattle.std.proofs.Common.{Some, is_some, refl, sym, ap, ap₂, ◌∙◌, subst, arith}
-use Rattle.std.specs.Prelude.{slice_get}
 use Rattle.std.proofs.lemmas.Bool.{cases_eq}
 use Rattle.std.specs.FinMap.{empty, contains_key, insert, len, len-insert, len-empty, get-empty}
 use Rattle.std.specs.Ordering.{nat_cmp}
@@ -10,13 +9,13 @@ use Rattle.object.specs.declared.command.Command.{Command}
 use Rattle.object.specs.Objects.{Rules, is_one}
 use Rattle.ballot.specs.Ballots.{Numbers}
 use Rattle.ballot.specs.Letters.{all_to_all}
-use Rattle.ballot.specs.Members.{is_member}
 use Rattle.ballot.specs.OrderLaws.{BallotLaws}
 use Rattle.ballot.specs.declared.letter.Letter.{Letter}
 use Rattle.ballot.specs.declared.letter.LetterBody.{LetterBody}
 use Rattle.ballot.specs.declared.letter.LetterBody.TheVariants.{Propose, Decision}
 use Rattle.scout_commander.specs.Commanders.{Commanding, new_commander}
 use Rattle.leader.specs.Leaders.{Leading, Done, pvalue, commands, silently, on_propose}
+use Rattle.slot_log.specs.Books.{SlotBook}
 use Rattle.slot_log.specs.Proposals.{next_proposal, proposed_next}
 use Rattle.slot_log.specs.Decisions.{learnt, next_decided}
 use Rattle.slot_log.specs.Advances.{advanced}
@@ -28,11 +27,11 @@ use Rattle.agreement.specs.Nodes.{node, turned}
 use Rattle.agreement.specs.Worlds.{World}
 use Rattle.agreement.specs.Steps.{Step, propose, perform, counted, with_cluster, replica_turn, after_performing}
 use Rattle.agreement.specs.declared.event.Event.TheVariants as events
-use Rattle.agreement.proofs.chosen.Invariants.{IsSound}
 use Rattle.agreement.proofs.chosen.Turns.{here, there}
-use Rattle.world.specs.WaysOut.{first_leader, rivals, work, IsAtRest}
-use Rattle.world.proofs.rounds.Hearing.{HasReceived, received}
-use Rattle.world.proofs.rounds.Rivals.{no_more_rivals}
+use Rattle.world.specs.WaysOut.{first_leader, first_book, rivals, work, IsAtRest, IsToFirst, Proposes, Decides}
+use Rattle.world.proofs.rounds.Hearing.{received}
+use Rattle.world.proofs.rounds.Rivals.{no_more_rivals, work_of}
+use Rattle.world.proofs.rounds.RoundMembers.{HasFirst}
 
 -- node 1 became x and sent these letters; acceptors, all other nodes and what was submitted stay
 pub record IsTurned {Op Reply : Type 0} (w v : World Op Reply) (x : NodeState (Command Op)) (out : List (Letter (Command Op))) : Type 0 where
@@ -43,25 +42,35 @@ pub record IsTurned {Op Reply : Type 0} (w v : World Op Reply) (x : NodeState (C
   pub submitted : v.happenings.submitted ≡ w.happenings.submitted
   pub count : v.taken ≡ w.taken + 1
 
-module _ (laws : BallotLaws) {Op Reply : Type 0} (w : World Op Reply) (i : IsSound w.cluster)
-    (first : is_member w.cluster.members 1 ≡ true) (x : NodeState (Command Op)) (out : List (Letter (Command Op))) where
-  acceptors_stay : x.acceptor ≡ (node w.cluster 1).acceptor → (j : ℕ) → (node (turned w.cluster 1 x out) j).acceptor ≡ (node w.cluster j).acceptor
-  acceptors_stay same j = ⊎_elim
+-- replica 1 has this book then; the leader of node 1 and what was submitted stay, and there is no more work
+pub record TurnsBook {Op Reply : Type 0} (w v : World Op Reply) (b : SlotBook (Command Op)) : Type 0 where
+  pub book : first_book v.cluster ≡ b
+  pub leader : first_leader v.cluster ≡ first_leader w.cluster
+  pub at_rest : IsAtRest w.cluster → IsAtRest v.cluster
+  pub spent : v.taken + work v.cluster ≤ w.taken + work w.cluster + 1
+  pub submitted : v.happenings.submitted ≡ w.happenings.submitted
+
+module _ (laws : BallotLaws) {Op Reply : Type 0} (w : World Op Reply) (h : HasFirst w.cluster)
+    (x : NodeState (Command Op)) (out : List (Letter (Command Op))) (same : x.acceptor ≡ (node w.cluster 1).acceptor) where
+  acceptors_stay : (j : ℕ) → (node (turned w.cluster 1 x out) j).acceptor ≡ (node w.cluster j).acceptor
+  acceptors_stay j = ⊎_elim
       (λ (e : j ≡ 1). subst (λ n. (node (turned w.cluster 1 x out) n).acceptor ≡ (node w.cluster n).acceptor) (sym e)
-      (ap (λ y. y.acceptor) (here laws w.cluster i 1 first x out) ∙ same))
-      (λ (apart : j ≢ 1). ap (λ y. y.acceptor) (there laws w.cluster i 1 first x out j apart))
+      (ap (λ y. y.acceptor) (here laws w.cluster h.sound 1 h.first x out) ∙ same))
+      (λ (apart : j ≢ 1). ap (λ y. y.acceptor) (there laws w.cluster h.sound 1 h.first x out j apart))
       (cases_eq j 1)
 
-  pub turned_first : x.acceptor ≡ (node w.cluster 1).acceptor → IsTurned w (counted (with_cluster w (turned w.cluster 1 x out))) x out
-  turned_first same = record {
-    first = here laws w.cluster i 1 first x out;
-    acceptors = acceptors_stay same;
-    members =
-        refl;
+  pub turned_first : IsTurned w (counted (with_cluster w (turned w.cluster 1 x out))) x out
+  turned_first = record {
+    first = here laws w.cluster h.sound 1 h.first x out;
+    acceptors = acceptors_stay;
+    members = refl;
     letters = refl;
     submitted = refl;
     count = refl;
   }
+
+  turned_so : (v : World Op Reply) → v ≡ counted (with_cluster w (turned w.cluster 1 x out)) → IsTurned w v x out
+  turned_so v is = subst (λ z. IsTurned w z x out) (sym is) turned_first
 
 -- what a letter for a proposal or a decision makes of a node
 proposal_received : {C : Type 0} (members : List ℕ) (m n : ℕ) (x : NodeState C) (s : ℕ) (c : C) (y : NodeState C)
@@ -74,106 +83,91 @@ decision_received : {C : Type 0} (members : List ℕ) (m n : ℕ) (x : NodeState
     → (y ≡ record x { replica = learnt x.replica s c }) × (out ≡ [])
 decision_received members m n x s c _ _ (learns t d) = (refl, refl)
 
-module _ (laws : BallotLaws) {O Op Reply : Type 0} (rules : Rules O Op Reply) (w v : World Op Reply)
-    (i : IsSound w.cluster) (first : is_member w.cluster.members 1 ≡ true) where
-  at_first : (l : Letter (Command Op)) (body : LetterBody (Command Op)) → l.to ≡ 1 → l.body ≡ body → (h : HasReceived w v l)
-      → Receives w.cluster.members l.«from» 1 (node w.cluster 1) body h.state h.sent × (v ≡ counted (with_cluster w (turned w.cluster 1 h.state h.sent)))
-  at_first l body to is h = (
-    subst (λ n. Receives w.cluster.members l.«from» n (node w.cluster n) body h.state h.sent) to
-        (subst (λ b. Receives w.cluster.members l.«from» l.to (node w.cluster l.to) b h.state h.sent) is h.receives),
-    subst (λ n. v ≡ counted (with_cluster w (turned w.cluster n h.state h.sent))) to h.is,
-  )
+module _ (laws : BallotLaws) {O Op Reply : Type 0} (rules : Rules O Op Reply) (w v : World Op Reply) (h : HasFirst w.cluster) where
+  -- node 1 with another leader, or with another book
+  abbrev with_leader : Done (Leading (Command Op)) (Command Op) → NodeState (Command Op)
+  with_leader d = led (node w.cluster 1) d
+
+  abbrev with_book : SlotBook (Command Op) → NodeState (Command Op)
+  with_book b = record (node w.cluster 1) { replica = b }
+
+  -- a letter of this kind reached node 1, which became this and sent those
+  reached : {kind : ℕ → Command Op → LetterBody (Command Op)} {j s : ℕ} (l : IsToFirst kind w.cluster.letters j s)
+      (x : NodeState (Command Op)) (out : List (Letter (Command Op))) → x.acceptor ≡ (node w.cluster 1).acceptor
+      → ((y : NodeState (Command Op)) (sent : List (Letter (Command Op)))
+      → Receives w.cluster.members l.letter.«from» 1 (node w.cluster 1) (kind s l.command) y sent → (y ≡ x) × (sent ≡ out))
+      → Step rules w (events.Deliver j) v → IsTurned w v x out
+  reached {kind = kind} {j = j} {s = s} l x out same becomes step =
+      let r = received rules w v j l.letter l.at step in
+      let at_node = subst (λ (n : ℕ). Receives w.cluster.members l.letter.«from» n (node w.cluster n) l.letter.body r.state r.sent) l.to r.receives in
+      let b = becomes r.state r.sent
+      (subst (λ (y : LetterBody (Command Op)). Receives w.cluster.members l.letter.«from» 1 (node w.cluster 1) y r.state r.sent) l.body at_node) in
+      turned_so laws w h x out same v
+      (subst (λ n. v ≡ counted (with_cluster w (turned w.cluster n r.state r.sent))) l.to r.is
+      ∙ ap₂ (λ y o. counted (with_cluster w (turned w.cluster 1 y o))) b.0 b.1)
 
   -- a proposal reached node 1
-  pub proposal_turned : (j : ℕ) (l : Letter (Command Op)) (s : ℕ) (c : Command Op)
-      → slice_get w.cluster.letters j ≡ Some l → l.to ≡ 1 → l.body ≡ Propose s c → Step rules w (events.Deliver j) v
-      → IsTurned w v (led (node w.cluster 1) (on_propose (first_leader w.cluster) s c))
-      (all_to_all w.cluster.members 1 (on_propose (first_leader w.cluster) s c).says)
-  proposal_turned j l s c at to is step =
-      let h = received rules w v j l at step in
-      let a = at_first l (Propose s c) to is h in
-      let r = proposal_received w.cluster.members l.«from» 1 (node w.cluster 1) s c h.state h.sent a.0 in
-      let now : v ≡ counted (with_cluster w
-      (turned w.cluster 1 (led (node w.cluster 1) (on_propose (first_leader w.cluster) s c))
-      (all_to_all w.cluster.members 1 (on_propose (first_leader w.cluster) s c).says))) =
-      a.1 ∙ ap₂ (λ x o. counted (with_cluster w (turned w.cluster 1 x o))) r.0 r.1 in
-      subst (λ z. IsTurned w z (led (node w.cluster 1) (on_propose (first_leader w.cluster) s c))
-      (all_to_all w.cluster.members 1 (on_propose (first_leader w.cluster) s c).says)) (sym now)
-      (turned_first laws w i first (led (node w.cluster 1) (on_propose (first_leader w.cluster) s c))
-      (all_to_all w.cluster.members 1 (on_propose (first_leader w.cluster) s c).says) refl)
+  pub proposal_turned : {j s : ℕ} (l : Proposes w.cluster.letters j s) → Step rules w (events.Deliver j) v
+      → IsTurned w v (with_leader (on_propose (first_leader w.cluster) s l.command))
+      (all_to_all w.cluster.members 1 (on_propose (first_leader w.cluster) s l.command).says)
+  proposal_turned {s = s} l step = reached l _ _ refl
+      (λ y sent r. proposal_received w.cluster.members l.letter.«from» 1 (node w.cluster 1) s l.command y sent r) step
 
   -- and a decision did
-  pub decision_turned : (j : ℕ) (l : Letter (Command Op)) (s : ℕ) (c : Command Op)
-      → slice_get w.cluster.letters j ≡ Some l → l.to ≡ 1 → l.body ≡ Decision s c → Step rules w (events.Deliver j) v
-      → IsTurned w v (record (node w.cluster 1) { replica = learnt (node w.cluster 1).replica s c }) []
-  decision_turned j l s c at to is step =
-      let h = received rules w v j l at step in
-      let a = at_first l (Decision s c) to is h in
-      let r = decision_received w.cluster.members l.«from» 1 (node w.cluster 1) s c h.state h.sent a.0 in
-      let now : v ≡ counted (with_cluster w
-      (turned w.cluster 1 (record (node w.cluster 1) { replica = learnt (node w.cluster 1).replica s c }) [])) =
-      a.1 ∙ ap₂ (λ x o. counted (with_cluster w (turned w.cluster 1 x o))) r.0 r.1 in
-      subst (λ z. IsTurned w z (record (node w.cluster 1) { replica = learnt (node w.cluster 1).replica s c }) []) (sym now)
-      (turned_first laws w i first (record (node w.cluster 1) { replica = learnt (node w.cluster 1).replica s c }) [] refl)
+  pub decision_turned : {j s : ℕ} (l : Decides w.cluster.letters j s) → Step rules w (events.Deliver j) v
+      → IsTurned w v (with_book (learnt (first_book w.cluster) s l.command)) []
+  decision_turned {s = s} l step = reached l _ _ refl
+      (λ y sent r. decision_received w.cluster.members l.letter.«from» 1 (node w.cluster 1) s l.command y sent r) step
 
   -- replica 1 proposed
   propose_is : (z : World Op Reply) → Step rules w (events.Propose 1) z
-      → z ≡ counted (with_cluster w (replica_turn w.cluster 1 (proposed_next (node w.cluster 1).replica)
-      (all_to_all w.cluster.members 1 (proposes_first (next_proposal (node w.cluster 1).replica)))))
+      → z ≡ counted (with_cluster w (replica_turn w.cluster 1 (proposed_next (first_book w.cluster))
+      (all_to_all w.cluster.members 1 (proposes_first (next_proposal (first_book w.cluster))))))
   propose_is _ (propose n member) = refl
 
-  pub propose_turned : Step rules w (events.Propose 1) v
-      → IsTurned w v (record (node w.cluster 1) { replica = proposed_next (node w.cluster 1).replica })
-      (all_to_all w.cluster.members 1 (proposes_first (next_proposal (node w.cluster 1).replica)))
-  propose_turned step = subst (λ z. IsTurned w z
-      (record (node w.cluster 1) { replica = proposed_next (node w.cluster 1).replica })
-      (all_to_all w.cluster.members 1 (proposes_first (next_proposal (node w.cluster 1).replica))))
-      (sym (propose_is v step))
-      (turned_first laws w i first (record (node w.cluster 1) { replica = proposed_next (node w.cluster 1).replica })
-      (all_to_all w.cluster.members 1 (proposes_first (next_proposal (node w.cluster 1).replica))) refl)
+  pub propose_turned : Step rules w (events.Propose 1) v → IsTurned w v (with_book (proposed_next (first_book w.cluster)))
+      (all_to_all w.cluster.members 1 (proposes_first (next_proposal (first_book w.cluster))))
+  propose_turned step = turned_so laws w h _ _ refl v (propose_is v step)
 
   -- replica 1 performed the next decision
   perform_is : (z : World Op Reply) → Step rules w (events.Perform 1) z
-      → z ≡ counted (after_performing rules w 1 (node w.cluster 1).replica (next_decided (node w.cluster 1).replica))
+      → z ≡ counted (after_performing rules w 1 (first_book w.cluster) (next_decided (first_book w.cluster)))
   perform_is _ (perform n member) = refl
 
-  pub perform_turned : (c : Command Op) → next_decided (node w.cluster 1).replica ≡ Some c → Step rules w (events.Perform 1) v
-      → IsTurned w v (record (node w.cluster 1) { replica = advanced (is_one rules) (node w.cluster 1).replica }) []
+  pub perform_turned : (c : Command Op) → next_decided (first_book w.cluster) ≡ Some c → Step rules w (events.Perform 1) v
+      → IsTurned w v (with_book (advanced (is_one rules) (first_book w.cluster))) []
   perform_turned c known step =
-      subst (λ z. IsTurned w z x []) (sym (perform_is v step ∙ ap (λ o. counted (after_performing rules w 1 (node w.cluster 1).replica o)) known))
+      let t = turned_first laws w h (with_book (advanced (is_one rules) (first_book w.cluster))) [] refl in
+      subst (λ z. IsTurned w z (with_book (advanced (is_one rules) (first_book w.cluster))) [])
+      (sym (perform_is v step ∙ ap (λ o. counted (after_performing rules w 1 (first_book w.cluster) o)) known))
       (record { first = t.first; acceptors = t.acceptors; members = refl; letters = refl; submitted = refl; count = refl })
-    where
-      x : NodeState (Command Op)
-      x = record (node w.cluster 1) { replica = advanced (is_one rules) (node w.cluster 1).replica }
-
-      t : IsTurned w (counted (with_cluster w (turned w.cluster 1 x []))) x []
-      t = turned_first laws w i first x [] refl
 
 -- the rivals of a ballot, and what follows for the work
-module _ (laws : BallotLaws) {Op Reply : Type 0} (w v : World Op Reply) (x : NodeState (Command Op))
-    (out : List (Letter (Command Op))) (t : IsTurned w v x out) where
+module _ (laws : BallotLaws) {Op Reply : Type 0} {w v : World Op Reply} {x : NodeState (Command Op)}
+    {out : List (Letter (Command Op))} (t : IsTurned w v x out) where
   pub rivals_turned : (b : Numbers) → rivals v.cluster b ≤ rivals w.cluster b
   rivals_turned b = no_more_rivals laws w.cluster v.cluster t.members b (λ j. inl (ap (λ a. a.promised) (t.acceptors j)))
 
   pub leader_turned : first_leader v.cluster ≡ x.leader
   leader_turned = ap (λ y. y.leader) t.first
 
-  pub book_turned : (node v.cluster 1).replica ≡ x.replica
-  book_turned = ap (λ y. y.replica) t.first
-
-  -- where the leader stays, there is no more work
-  pub work_stays : x.leader ≡ first_leader w.cluster → work v.cluster ≤ work w.cluster
-  work_stays same =
-      let e = leader_turned ∙ same in
-      let a : work v.cluster ≡ 2 ^ 41 *
-      (2 * rivals v.cluster (first_leader w.cluster).ballot + cond (first_leader w.cluster).active 0 1) + 16 * len
-      (first_leader w.cluster).commanders =
-      ap (λ l. 2 ^ 41 * (2 * rivals v.cluster l.ballot + cond l.active 0 1) + 16 * len l.commanders) e in
+  work_stays : first_leader v.cluster ≡ first_leader w.cluster → work v.cluster ≤ work w.cluster
+  work_stays e =
+      let a = work_of v.cluster (first_leader w.cluster) e in
       let r = rivals_turned (first_leader w.cluster).ballot in
       omega arith
 
-  pub at_rest_stays : x.leader ≡ first_leader w.cluster → IsAtRest w.cluster → IsAtRest v.cluster
-  at_rest_stays same s = record { active = ap (λ l. l.active) (leader_turned ∙ same) ∙ s.active; done = ap (λ l. l.commanders) (leader_turned ∙ same) ∙ s.done }
+  -- where the leader stays
+  pub turns_book : x.leader ≡ first_leader w.cluster → TurnsBook w v x.replica
+  turns_book same =
+      let e = leader_turned ∙ same in
+      record {
+        book = ap (λ y. y.replica) t.first;
+        leader = e;
+        at_rest = λ s. record { active = ap (λ l. l.active) e ∙ s.active; done = ap (λ l. l.commanders) e ∙ s.done };
+        spent = let a = work_stays e in let count = t.count in omega arith;
+        submitted = t.submitted;
+      }
 
 -- a leader at rest takes a proposal for a slot where it has none
 pub takes_proposal : {C : Type 0} (l : Leading C) (s : ℕ) (c : C) → l.active ≡ true → contains_key l.proposals s ≡ false → on_propose l s c ≡ commands l s c

@@ -2,7 +2,6 @@
 use Rattle.std.proofs.Common.{◌≡◌, ◌≢◌, ⊎_elim, ℕ, zero, suc, ◌+◌, true, List, [], ◌∷◌, ◌++◌, length, Some, refl, sym, ap, ap₂, ◌∙◌, subst, arith}
 use Rattle.std.specs.Prelude.{slice_get}
 use Rattle.std.proofs.lemmas.Bool.{cases_eq}
-use Rattle.std.proofs.lemmas.List.{append-nil, append_assoc}
 use Rattle.object.specs.Lists.{IsBeginning}
 use Rattle.object.specs.declared.command.Command.{Command}
 use Rattle.object.specs.Objects.{Rules}
@@ -25,18 +24,13 @@ use Rattle.agreement.specs.Nodes.{node, turned}
 use Rattle.agreement.specs.Worlds.{World}
 use Rattle.agreement.specs.Steps.{Step, counted, with_cluster}
 use Rattle.agreement.specs.declared.event.Event.TheVariants as events
+use Rattle.agreement.proofs.chosen.Growing.{beginning_trans, same_beginning}
 use Rattle.agreement.proofs.chosen.Invariants.{IsSound}
 use Rattle.agreement.proofs.chosen.Reach.{step_sound}
 use Rattle.agreement.proofs.chosen.Turns.{here, there}
 use Rattle.world.specs.WaysOut.{first_leader, IsTalk}
 use Rattle.world.proofs.rounds.Hearing.{received, p1a_received, p1b_received, p2a_received, p2b_received}
 use Rattle.world.proofs.leading.LeaderCases.{Covers}
-
-pub begins_itself : {A : Type 0} (xs : List A) → IsBeginning xs xs
-begins_itself xs = ([], sym (append-nil xs))
-
-pub begins_further : {A : Type 0} (xs ys zs : List A) → IsBeginning xs ys → IsBeginning ys zs → IsBeginning xs zs
-begins_further xs ys zs a b = (a.0 ++ b.0, b.1 ∙ ap (λ l. l ++ b.0) a.1 ∙ append_assoc xs a.0 b.0)
 
 -- what stands in a list stands in one that goes on
 pub still_at : {A : Type 0} (xs more : List A) (i : ℕ) (x : A) → slice_get xs i ≡ Some x → slice_get (xs ++ more) i ≡ Some x
@@ -55,7 +49,7 @@ talk_itself w = record {
   happenings = refl;
   reach = refl;
   letters =
-      begins_itself w.cluster.letters;
+      same_beginning w.cluster.letters w.cluster.letters refl;
   covers = λ s there. there;
 }
 
@@ -65,7 +59,7 @@ talk_on w u v a b = record {
   replicas = λ n. b.replicas n ∙ a.replicas n;
   happenings = b.happenings ∙ a.happenings;
   reach = b.reach ∙ a.reach;
-  letters = begins_further w.cluster.letters u.cluster.letters v.cluster.letters a.letters b.letters;
+  letters = beginning_trans w.cluster.letters u.cluster.letters v.cluster.letters a.letters b.letters;
   covers = λ s there. b.covers s (a.covers s there);
 }
 
@@ -92,6 +86,26 @@ module _ (laws : BallotLaws) {Op Reply : Type 0} (w : World Op Reply) (i : IsSou
     covers = at_each (λ j y. j ≡ 1 → Covers (node w.cluster j).leader.proposals y.leader.proposals) covers (λ j apart one s there. there) 1 refl;
   }
 
+-- node 1 asked something, and was answered: but for acceptors and leaders all stays, and letters go on
+pub record IsExchange {Op Reply : Type 0} (w v : World Op Reply) : Type 0 where
+  pub members : v.cluster.members ≡ w.cluster.members
+  pub replicas : (n : ℕ) → (node v.cluster n).replica ≡ (node w.cluster n).replica
+  pub happenings : v.happenings ≡ w.happenings
+  pub reach : v.reach ≡ w.reach
+  pub letters : IsBeginning w.cluster.letters v.cluster.letters
+  pub count : v.taken ≡ w.taken + 2
+
+pub exchange_talks : {Op Reply : Type 0} {w v : World Op Reply} → IsExchange w v
+    → Covers (first_leader w.cluster).proposals (first_leader v.cluster).proposals → IsTalk w v
+exchange_talks e covers = record {
+  members = e.members;
+  replicas = e.replicas;
+  happenings = e.happenings;
+  reach = e.reach;
+  letters = e.letters;
+  covers = covers;
+}
+
 -- a promise that node 1 asked of m, and heard
 pub record AsksPromise {Op Reply : Type 0} (w v : World Op Reply) (m : ℕ) (b : Numbers) : Type 0 where
   pub report : List (Pvalue (Command Op))
@@ -101,23 +115,13 @@ pub record AsksPromise {Op Reply : Type 0} (w v : World Op Reply) (m : ℕ) (b :
   pub others : (j : ℕ) → j ≢ m → (node v.cluster j).acceptor.promised ≡ (node w.cluster j).acceptor.promised
   pub hears : Hears (first_leader w.cluster) m (higher (node w.cluster m).acceptor.promised b) report fresh taken
   pub leader : first_leader v.cluster ≡ (promises.on_p1b (first_leader w.cluster) m (higher (node w.cluster m).acceptor.promised b) fresh taken).state
-  pub members : v.cluster.members ≡ w.cluster.members
-  pub replicas : (n : ℕ) → (node v.cluster n).replica ≡ (node w.cluster n).replica
-  pub happenings : v.happenings ≡ w.happenings
-  pub reach : v.reach ≡ w.reach
-  pub letters : IsBeginning w.cluster.letters v.cluster.letters
-  pub count : v.taken ≡ w.taken + 2
+  pub exchange : IsExchange w v
 
 -- and a vote
 pub record AsksVote {Op Reply : Type 0} (w v : World Op Reply) (m : ℕ) (p : Pvalue (Command Op)) : Type 0 where
   pub promised : (j : ℕ) → (node v.cluster j).acceptor.promised ≡ (node w.cluster j).acceptor.promised
   pub leader : first_leader v.cluster ≡ (votes.on_p2b (first_leader w.cluster) m (node w.cluster m).acceptor.promised p.slot p.ballot).state
-  pub members : v.cluster.members ≡ w.cluster.members
-  pub replicas : (n : ℕ) → (node v.cluster n).replica ≡ (node w.cluster n).replica
-  pub happenings : v.happenings ≡ w.happenings
-  pub reach : v.reach ≡ w.reach
-  pub letters : IsBeginning w.cluster.letters v.cluster.letters
-  pub count : v.taken ≡ w.taken + 2
+  pub exchange : IsExchange w v
 
 module _ (laws : BallotLaws) {O Op Reply : Type 0} (rules : Rules O Op Reply) (w u v : World Op Reply)
     (i : IsSound w.cluster) (first : is_member w.cluster.members 1 ≡ true) (m : ℕ)
@@ -164,34 +168,22 @@ module _ (laws : BallotLaws) {O Op Reply : Type 0} (rules : Rules O Op Reply) (w
     pub promised_own : (node u.cluster m).acceptor ≡ x.acceptor
     promised_own = ap (λ z. z.acceptor) node_m
 
-    pub replicas_after : x.replica ≡ (node w.cluster m).replica → y.replica ≡ (node u.cluster 1).replica → (n : ℕ)
-        → (node v.cluster n).replica ≡ (node w.cluster n).replica
-    replicas_after same again n =
-        last (λ z. (node z.cluster n).replica ≡ (node u.cluster n).replica)
-        (at_each laws u sound 1 one y out (λ k z. z.replica ≡ (node u.cluster k).replica) again (λ k apart. refl) n)
-        ∙ middle (λ z. (node z.cluster n).replica ≡ (node w.cluster n).replica)
-        (at_each laws w i m member x (letter m body 1 ∷ []) (λ k z. z.replica ≡ (node w.cluster k).replica) same
-        (λ k apart. refl) n)
-
-    pub letters_between : u.cluster.letters ≡ w.cluster.letters ++ (letter m body 1 ∷ [])
-    letters_between = middle (λ z. z.cluster.letters ≡ w.cluster.letters ++ (letter m body 1 ∷ [])) refl
-
-    pub letters_after : IsBeginning w.cluster.letters v.cluster.letters
-    letters_after = begins_further w.cluster.letters u.cluster.letters v.cluster.letters
-        (letter m body 1 ∷ [], letters_between)
-        (out, last (λ z. z.cluster.letters ≡ u.cluster.letters ++ out) refl)
-
-    pub members_after : v.cluster.members ≡ w.cluster.members
-    members_after = last (λ z. z.cluster.members ≡ u.cluster.members) refl ∙ same_members
-
-    pub happenings_after : v.happenings ≡ w.happenings
-    happenings_after = last (λ z. z.happenings ≡ u.happenings) refl ∙ middle (λ z. z.happenings ≡ w.happenings) refl
-
-    pub reach_after : v.reach ≡ w.reach
-    reach_after = last (λ z. z.reach ≡ u.reach) refl ∙ middle (λ z. z.reach ≡ w.reach) refl
-
-    pub count_after : v.taken ≡ w.taken + 2
-    count_after = last (λ z. z.taken ≡ u.taken + 1) refl ∙ ap (λ t. t + 1) (middle (λ z. z.taken ≡ w.taken + 1) refl) ∙ omega arith
+    pub exchanged : x.replica ≡ (node w.cluster m).replica → y.replica ≡ (node u.cluster 1).replica → IsExchange w v
+    exchanged same again = record {
+      members = last (λ z. z.cluster.members ≡ u.cluster.members) refl ∙ same_members;
+      replicas = λ n.
+          last (λ z. (node z.cluster n).replica ≡ (node u.cluster n).replica)
+          (at_each laws u sound 1 one y out (λ k z. z.replica ≡ (node u.cluster k).replica) again (λ k apart. refl) n)
+          ∙ middle (λ z. (node z.cluster n).replica ≡ (node w.cluster n).replica)
+          (at_each laws w i m member x (letter m body 1 ∷ []) (λ k z. z.replica ≡ (node w.cluster k).replica) same
+          (λ k apart. refl) n);
+      happenings = last (λ z. z.happenings ≡ u.happenings) refl ∙ middle (λ z. z.happenings ≡ w.happenings) refl;
+      reach = last (λ z. z.reach ≡ u.reach) refl ∙ middle (λ z. z.reach ≡ w.reach) refl;
+      letters = beginning_trans w.cluster.letters u.cluster.letters v.cluster.letters
+          (letter m body 1 ∷ [], middle (λ z. z.cluster.letters ≡ w.cluster.letters ++ (letter m body 1 ∷ [])) refl)
+          (out, last (λ z. z.cluster.letters ≡ u.cluster.letters ++ out) refl);
+      count = last (λ z. z.taken ≡ u.taken + 1) refl ∙ ap (λ t. t + 1) (middle (λ z. z.taken ≡ w.taken + 1) refl) ∙ omega arith;
+    }
 
   reply_at : (x : NodeState (Command Op)) (body : LetterBody (Command Op))
       → u ≡ counted (with_cluster w (turned w.cluster m x (letter m body 1 ∷ [])))
@@ -224,12 +216,7 @@ module _ (laws : BallotLaws) {O Op Reply : Type 0} (rules : Rules O Op Reply) (w
         hears = subst (λ l. Hears l m (higher (node w.cluster m).acceptor.promised b) p.0 q.0 q.1) same q.2;
         leader = leader_after x body is y r.sent next sound ∙ ap
             (λ l. (promises.on_p1b l m (higher (node w.cluster m).acceptor.promised b) q.0 q.1).state) same;
-        members = members_after x body is y r.sent next sound;
-        replicas = replicas_after x body is y r.sent next sound refl refl;
-        happenings = happenings_after x body is y r.sent next sound;
-        reach = reach_after x body is y r.sent next sound;
-        letters = letters_after x body is y r.sent next sound;
-        count = count_after x body is y r.sent next sound;
+        exchange = exchanged x body is y r.sent next sound refl refl;
       }
 
   -- and a vote
@@ -256,10 +243,5 @@ module _ (laws : BallotLaws) {O Op Reply : Type 0} (rules : Rules O Op Reply) (w
             (λ (apart : k ≢ m). ap (λ z. z.promised) (promised_between x body is y r.sent next sound k apart))
             (cases_eq k m);
         leader = leader_after x body is y r.sent next sound ∙ ap (λ l. (votes.on_p2b l m (node w.cluster m).acceptor.promised p.slot p.ballot).state) same;
-        members = members_after x body is y r.sent next sound;
-        replicas = replicas_after x body is y r.sent next sound refl refl;
-        happenings = happenings_after x body is y r.sent next sound;
-        reach = reach_after x body is y r.sent next sound;
-        letters = letters_after x body is y r.sent next sound;
-        count = count_after x body is y r.sent next sound;
+        exchange = exchanged x body is y r.sent next sound refl refl;
       }

@@ -1,6 +1,8 @@
 -- What a turn of the leader costs: it wakes, and asks for whatever it waits for.
-use Rattle.std.proofs.Common.{◌≡◌, ℕ, ◌+◌, ◌*◌, ◌^◌, ◌<◌, ◌≤◌, Bool, true, false, cond, List, [], ◌∷◌, ◌++◌, ◌&&◌, length, refl, sym, ap, ◌∙◌, arith}
+use Rattle.std.proofs.Common.{◌≡◌, ℕ, ◌+◌, ◌*◌, ◌<◌, ◌≤◌, Bool, true, false, List, [], ◌∷◌, length, refl, sym, ap, ◌∙◌, arith}
 use Rattle.std.specs.List.{list_all}
+use Rattle.std.proofs.lemmas.Bool.{and_parts}
+use Rattle.std.proofs.lemmas.List.Folds.{list_all-append}
 use Rattle.std.specs.FinMap.{len, len-empty, empty_of_len}
 use Rattle.std.specs.Ordering.{nat_cmp}
 use Rattle.object.specs.declared.command.Command.{Command}
@@ -18,10 +20,11 @@ use Rattle.agreement.specs.declared.event.Event.TheVariants.{Submit, Deliver, Wa
 use Rattle.agreement.proofs.chosen.Invariants.{IsSound}
 use Rattle.agreement.proofs.chosen.Reach.{reachable_sound, step_sound}
 use Rattle.agreement.specs.Mentions.{Mentions, is_calm}
-use Rattle.world.specs.WaysOut.{first_leader, rivals, IsAtRest, IsOver, IsSmall, Goes, is_talk, questions, work, most_slots}
+use Rattle.world.specs.WaysOut.{first_leader, IsAtRest, IsOver, IsSmall, Goes, is_talk, questions, work, most_slots}
 use Rattle.world.proofs.leading.LeadingEvery.{has_leader}
 use Rattle.agreement.proofs.books.MentionsEvery.{mentions_calm}
 use Rattle.world.proofs.ways.MentionsFew.{few_proposals}
+use Rattle.world.proofs.rounds.Rivals.{work_when}
 use Rattle.world.proofs.rounds.RoundMembers.{first_member}
 use Rattle.world.proofs.rounds.Working.{waits_asleep, waits_awake, some_left, over_from, round_spent, same_ballot}
 use Rattle.world.proofs.rounds.Working.{same_active, same_commanders, has_scout, same_rivals, wake_counts, leader_woken}
@@ -29,20 +32,6 @@ use Rattle.world.proofs.rounds.Working.{woken_alone}
 
 pub at_most_seven : (n w : ℕ) → n ≤ 7 → n * w ≤ 7 * w
 at_most_seven n w h = grind (arith)
-
--- a list that all pass, without its last
-all_before : {A : Type 0} (test : A → Bool) (xs : List A) (x : A) → list_all test (xs ++ (x ∷ [])) ≡ true → (list_all test xs ≡ true) × (test x ≡ true)
-all_before test [] x h = at (test x) h
-  where
-    at : (b : Bool) → (b && true) ≡ true → (true ≡ true) × (b ≡ true)
-    at true h = (refl, refl)
-    at false h = absurd (cc)
-all_before test (y ∷ xs) x h = at (test y) (λ rest. all_before test xs x rest) h
-  where
-    at : (b : Bool) → (list_all test (xs ++ (x ∷ [])) ≡ true → (list_all test xs ≡ true) × (test x ≡ true))
-        → (b && list_all test (xs ++ (x ∷ []))) ≡ true → ((b && list_all test xs) ≡ true) × (test x ≡ true)
-    at true rest h = rest h
-    at false rest h = absurd (cc)
 
 talk_calm : {Op : Type 0} (e : Event Op) → is_talk e ≡ true → is_calm e ≡ true
 talk_calm (Submit n c) h = refl
@@ -60,9 +49,10 @@ module _ (laws : BallotLaws) {O Op Reply : Type 0} (rules : Rules O Op Reply) wh
         → Mentions P w.cluster → IsSound v.cluster × Mentions P v.cluster
     talked _ _ at_once h m = (i, m)
     talked _ v (after {es = es} {v = u} e _ led step) h m =
-        let both = all_before is_talk es e h in
+        let both = and_parts (list_all is_talk es) (list_all is_talk (e ∷ [])) (sym (list_all-append is_talk es (e ∷ [])) ∙ h) in
         let before = talked es u led both.0 m in
-        ((step_sound laws rules u e v before.0 step).sound, mentions_calm laws rules P u v e before.0 step (talk_calm e both.1) before.1)
+        let talk = (and_parts (is_talk e) true both.1).0 in
+        ((step_sound laws rules u e v before.0 step).sound, mentions_calm laws rules P u v e before.0 step (talk_calm e talk) before.1)
 
     pub talk_mentions : (v : World Op Reply) (before now : List (Event Op)) → Goes rules is_talk w before v now → Mentions P w.cluster → Mentions P v.cluster
     talk_mentions v before now g m = (talked g.events v g.led g.each m).1
@@ -73,17 +63,11 @@ module _ (laws : BallotLaws) {O Op Reply : Type 0} (rules : Rules O Op Reply) wh
     where
       at : (active : Bool) → (first_leader w.cluster).active ≡ active → 0 < work w.cluster
       at true e =
-          let b : work w.cluster ≡ 2 ^ 41 * (2 * rivals w.cluster (first_leader w.cluster).ballot + 0) + 16 * len
-          (first_leader w.cluster).commanders =
-          ap (λ x. 2 ^ 41 * (2 * rivals w.cluster (first_leader w.cluster).ballot + cond x 0 1) + 16 * len
-          (first_leader w.cluster).commanders) e in
+          let b = work_when w.cluster true e in
           let some = some_left w.cluster left e in
           omega arith
       at false e =
-          let b : work w.cluster ≡ 2 ^ 41 * (2 * rivals w.cluster (first_leader w.cluster).ballot + 1) + 16 * len
-          (first_leader w.cluster).commanders =
-          ap (λ x. 2 ^ 41 * (2 * rivals w.cluster (first_leader w.cluster).ballot + cond x 0 1) + 16 * len
-          (first_leader w.cluster).commanders) e in
+          let b = work_when w.cluster false e in
           omega arith
 
   -- an active leader that waits for nothing is at rest, and no other
@@ -133,18 +117,12 @@ module _ (laws : BallotLaws) {O Op Reply : Type 0} (rules : Rules O Op Reply) wh
         → 2 + 2 * questions u.cluster ≤ work w.cluster
     costs_by true e few =
         let a = awake e in
-        let b : work w.cluster ≡ 2 ^ 41 * (2 * rivals w.cluster (first_leader w.cluster).ballot + 0) + 16 * len
-        (first_leader w.cluster).commanders =
-        ap (λ x. 2 ^ 41 * (2 * rivals w.cluster (first_leader w.cluster).ballot + cond x 0 1) + 16 * len
-        (first_leader w.cluster).commanders) e in
+        let b = work_when w.cluster true e in
         let n = a.0 in let some = a.1 in
         omega arith
     costs_by false e few =
         let n = asleep e in
-        let b : work w.cluster ≡ 2 ^ 41 * (2 * rivals w.cluster (first_leader w.cluster).ballot + 1) + 16 * len
-        (first_leader w.cluster).commanders =
-        ap (λ x. 2 ^ 41 * (2 * rivals w.cluster (first_leader w.cluster).ballot + cond x 0 1) + 16 * len
-        (first_leader w.cluster).commanders) e in
+        let b = work_when w.cluster false e in
         omega arith
 
     pub turn_costs : length u.cluster.members ≡ length w.cluster.members → 2 + 2 * questions u.cluster ≤ work w.cluster

@@ -1,5 +1,5 @@
 -- What a round takes of the work that is left.
-use Rattle.std.proofs.Common.{◌≡◌, inl, ℕ, zero, suc, ◌+◌, ◌*◌, ◌^◌, ◌<◌, ◌≤◌, Bool, true, false, cond, not, ◌&&◌, []}
+use Rattle.std.proofs.Common.{◌≡◌, inl, ℕ, zero, suc, ◌+◌, ◌*◌, ◌<◌, ◌≤◌, Bool, true, false, cond, not, ◌&&◌, []}
 use Rattle.std.proofs.Common.{◌∷◌, map, length, Option, None, Some, is_none, refl, sym, ap, ap₂, ◌∙◌, subst, arith}
 use Rattle.std.specs.FinMap.{empty, contains_key, entries, len, len-entries, len-empty, empty_of_len}
 use Rattle.std.specs.Ordering.{nat_cmp}
@@ -25,7 +25,7 @@ use Rattle.agreement.proofs.chosen.LeaderRows.{off_on}
 use Rattle.agreement.proofs.chosen.Turns.{here}
 use Rattle.world.specs.WaysOut.{first_leader, rivals, IsTalk, IsAtRest, HasScout, work, most_slots, IsBeaten, IsOver, beaten, adopted, at_rest}
 use Rattle.world.proofs.rounds.Talking.{turn_talks, at_each}
-use Rattle.world.proofs.rounds.Rivals.{no_more_rivals}
+use Rattle.world.proofs.rounds.Rivals.{no_more_rivals, work_when}
 
 -- how many things a leader waits for
 pub waits_asleep : {C : Type 0} (l : Leading C) (s : Scouting C) → l.scout ≡ Some s → l.commanders ≡ empty → length (says_again l) ≡ 1
@@ -52,10 +52,6 @@ some_left k left active = at (len (first_leader k).commanders) refl
     at zero e = absurd (left (record { active = active; done = empty_of_len (first_leader k).commanders e }))
     at (suc n) e = omega arith
 
--- the work by its parts
-abbrev asleep_count : Bool → ℕ
-asleep_count active = cond active 0 1
-
 -- what a round leaves of the work, where it took no more events than it has questions and answers
 module _ {Op Reply : Type 0} (w v : World Op Reply) (waits : ℕ) (spent : v.taken ≤ w.taken + 2 + 14 * waits)
     (few : len (first_leader v.cluster).commanders ≤ most_slots + 1) where
@@ -63,24 +59,16 @@ module _ {Op Reply : Type 0} (w v : World Op Reply) (waits : ℕ) (spent : v.tak
       → (active ≡ true → waits ≡ len (first_leader w.cluster).commanders) → (active ≡ false → waits ≡ 1) → IsBeaten w v
       → v.taken + work v.cluster < w.taken + work w.cluster
   left_beaten true e awake asleep h =
-      let a : work v.cluster ≡ 2 ^ 41 * (2 * rivals v.cluster (first_leader v.cluster).ballot + 1) + 16 * 0 =
-      ap₂ (λ x y. 2 ^ 41 * (2 * rivals v.cluster (first_leader v.cluster).ballot + cond x 0 1) + 16 * y) h.asleep
-      (none_left (first_leader v.cluster).commanders h.nobody) in
-      let b : work w.cluster ≡ 2 ^ 41 * (2 * rivals w.cluster (first_leader w.cluster).ballot + 0) + 16 * len
-      (first_leader w.cluster).commanders =
-      ap (λ x. 2 ^ 41 * (2 * rivals w.cluster (first_leader w.cluster).ballot + cond x 0 1) + 16 * len
-      (first_leader w.cluster).commanders) e in
+      let a = work_when v.cluster false h.asleep in
+      let none = none_left (first_leader v.cluster).commanders h.nobody in
+      let b = work_when w.cluster true e in
       let fewer = h.fewer in
       let n = awake refl in
       omega arith
   left_beaten false e awake asleep h =
-      let a : work v.cluster ≡ 2 ^ 41 * (2 * rivals v.cluster (first_leader v.cluster).ballot + 1) + 16 * 0 =
-      ap₂ (λ x y. 2 ^ 41 * (2 * rivals v.cluster (first_leader v.cluster).ballot + cond x 0 1) + 16 * y) h.asleep
-      (none_left (first_leader v.cluster).commanders h.nobody) in
-      let b : work w.cluster ≡ 2 ^ 41 * (2 * rivals w.cluster (first_leader w.cluster).ballot + 1) + 16 * len
-      (first_leader w.cluster).commanders =
-      ap (λ x. 2 ^ 41 * (2 * rivals w.cluster (first_leader w.cluster).ballot + cond x 0 1) + 16 * len
-      (first_leader w.cluster).commanders) e in
+      let a = work_when v.cluster false h.asleep in
+      let none = none_left (first_leader v.cluster).commanders h.nobody in
+      let b = work_when w.cluster false e in
       let fewer = h.fewer in
       let n = asleep refl in
       omega arith
@@ -89,14 +77,8 @@ module _ {Op Reply : Type 0} (w v : World Op Reply) (waits : ℕ) (spent : v.tak
       → rivals v.cluster (first_leader v.cluster).ballot ≤ rivals w.cluster (first_leader w.cluster).ballot
       → v.taken + work v.cluster < w.taken + work w.cluster
   left_adopted asleep one active no_more =
-      let a : work v.cluster ≡ 2 ^ 41 * (2 * rivals v.cluster (first_leader v.cluster).ballot + 0) + 16 * len
-      (first_leader v.cluster).commanders =
-      ap (λ x. 2 ^ 41 * (2 * rivals v.cluster (first_leader v.cluster).ballot + cond x 0 1) + 16 * len
-      (first_leader v.cluster).commanders) active in
-      let b : work w.cluster ≡ 2 ^ 41 * (2 * rivals w.cluster (first_leader w.cluster).ballot + 1) + 16 * len
-      (first_leader w.cluster).commanders =
-      ap (λ x. 2 ^ 41 * (2 * rivals w.cluster (first_leader w.cluster).ballot + cond x 0 1) + 16 * len
-      (first_leader w.cluster).commanders) asleep in
+      let a = work_when v.cluster true active in
+      let b = work_when w.cluster false asleep in
       omega arith
 
   left_at_rest : (active : Bool) → (first_leader w.cluster).active ≡ active
@@ -104,24 +86,16 @@ module _ {Op Reply : Type 0} (w v : World Op Reply) (waits : ℕ) (spent : v.tak
       → IsAtRest v.cluster → rivals v.cluster (first_leader v.cluster).ballot ≤ rivals w.cluster
       (first_leader w.cluster).ballot → v.taken + work v.cluster ≤ w.taken + work w.cluster
   left_at_rest true e awake asleep h no_more =
-      let a : work v.cluster ≡ 2 ^ 41 * (2 * rivals v.cluster (first_leader v.cluster).ballot + 0) + 16 * 0 =
-      ap₂ (λ x y. 2 ^ 41 * (2 * rivals v.cluster (first_leader v.cluster).ballot + cond x 0 1) + 16 * y) h.active
-      (none_left (first_leader v.cluster).commanders h.done) in
-      let b : work w.cluster ≡ 2 ^ 41 * (2 * rivals w.cluster (first_leader w.cluster).ballot + 0) + 16 * len
-      (first_leader w.cluster).commanders =
-      ap (λ x. 2 ^ 41 * (2 * rivals w.cluster (first_leader w.cluster).ballot + cond x 0 1) + 16 * len
-      (first_leader w.cluster).commanders) e in
+      let a = work_when v.cluster true h.active in
+      let none = none_left (first_leader v.cluster).commanders h.done in
+      let b = work_when w.cluster true e in
       let n = (awake refl).0 in
       let some = (awake refl).1 in
       omega arith
   left_at_rest false e awake asleep h no_more =
-      let a : work v.cluster ≡ 2 ^ 41 * (2 * rivals v.cluster (first_leader v.cluster).ballot + 0) + 16 * 0 =
-      ap₂ (λ x y. 2 ^ 41 * (2 * rivals v.cluster (first_leader v.cluster).ballot + cond x 0 1) + 16 * y) h.active
-      (none_left (first_leader v.cluster).commanders h.done) in
-      let b : work w.cluster ≡ 2 ^ 41 * (2 * rivals w.cluster (first_leader w.cluster).ballot + 1) + 16 * len
-      (first_leader w.cluster).commanders =
-      ap (λ x. 2 ^ 41 * (2 * rivals w.cluster (first_leader w.cluster).ballot + cond x 0 1) + 16 * len
-      (first_leader w.cluster).commanders) e in
+      let a = work_when v.cluster true h.active in
+      let none = none_left (first_leader v.cluster).commanders h.done in
+      let b = work_when w.cluster false e in
       let n = asleep refl in
       omega arith
 

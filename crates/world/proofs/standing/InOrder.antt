@@ -24,7 +24,7 @@ use Rattle.agreement.proofs.answered.Answered.{history_beginning}
 use Rattle.agreement.proofs.order.Deciding.{chosen_from}
 use Rattle.agreement.proofs.every.Every.{knows_chosen}
 use Rattle.agreement.proofs.answered.Performed.{run_from, run_chosen}
-use Rattle.world.proofs.standing.Placed.{is_as_late, finds, found_kept}
+use Rattle.world.proofs.standing.Placed.{is_as_late, finds, found_kept, has_late}
 use Rattle.agreement.proofs.chosen.Reach.{reachable_sound}
 use Rattle.agreement.proofs.order.Rising.{In-kept}
 use Rattle.agreement.proofs.order.Submitted.{key_submitted}
@@ -36,16 +36,10 @@ late_is_same s n t m late top =
     let high = top same in
     grind (arith, nat_tests)
 
-late_itself : (s n : ℕ) → (s == s && nat_le n n) ≡ true
-late_itself s n = grind (arith, nat_tests)
-
 module _ {Op : Type 0} (key : Key) where
   -- no command of the key's session has a greater number
   abbrev IsTop : List (Command Op) → Type 0
   IsTop cs = (d : Command Op) → In d cs → d.key.session ≡ key.session → d.key.number ≤ key.number
-
-  own_late : (c : Command Op) → c.key ≡ key → is_as_late c.key key ≡ true
-  own_late c same = subst (λ (k : Key). (k.session == key.session && nat_le key.number k.number) ≡ true) (sym same) (late_itself key.session key.number)
 
   -- the first that is as late as the key is the key, where none is later
   finds_top : (cs : List (Command Op)) → IsTop cs → HasKey key cs → finds key (map (λ c. c.key) cs) ≡ true
@@ -60,7 +54,7 @@ module _ {Op : Type 0} (key : Key) where
       (cases_Bool (is_as_late c.key key))
     where
       behind : is_as_late c.key key ≡ false → HasKey key (c ∷ cs) → HasKey key cs
-      behind early (d, inl same, own) = absurd (false≢true (sym early ∙ own_late c (ap (λ (x : Command Op). x.key) (sym same) ∙ own)))
+      behind early (d, inl same, own) = absurd (false≢true (sym early ∙ has_late key c (ap (λ (x : Command Op). x.key) (sym same) ∙ own)))
       behind early (d, inr i, own) = (d, i, own)
 
   -- so it is kept

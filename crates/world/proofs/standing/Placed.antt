@@ -1,11 +1,10 @@
 -- Whether a key is kept is told by the first command of its session whose number isn't lower.
-use Rattle.std.proofs.Common.{◌≡◌, ◌⊎◌, inl, inr, ⊎_elim, ℕ, ◌+◌, ◌<◌, ◌≤◌, ◌==◌, Bool, true, false, true≢false, not}
-use Rattle.std.proofs.Common.{◌&&◌, ◌||◌, nat_lt, cond, List, [], ◌∷◌, ◌++◌, drop, map, length, Option, None, Some}
+use Rattle.std.proofs.Common.{◌≡◌, ◌⊎◌, inl, inr, ⊎_elim, ℕ, ◌==◌, Bool, true, false, true≢false, not}
+use Rattle.std.proofs.Common.{◌&&◌, ◌||◌, nat_lt, cond, List, [], ◌∷◌, ◌++◌, map, Option, None, Some}
 use Rattle.std.proofs.Common.{refl, sym, ap, ◌∙◌, subst, arith}
-use Rattle.std.specs.Prelude.{◌↔◌, nat_le, slice_index_or}
+use Rattle.std.specs.Prelude.{◌↔◌, nat_le}
 use Rattle.std.proofs.lemmas.Bool.{and_parts, and_from, cases_Bool}
 use Rattle.std.proofs.lemmas.Bool.Decides.{nat_tests}
-use Rattle.std.proofs.lemmas.List.{drop_all, drop_more}
 use Rattle.object.specs.Lists.{In}
 use Rattle.object.specs.Replays.{is_new, kept_after}
 use Rattle.object.specs.declared.command.Command.{Command}
@@ -85,7 +84,7 @@ module _ {Op : Type 0} (key : Key) where
   first_or_later c true rest (d, inr i, same) = inr (d, i, same)
   first_or_later c false rest h = inr h
 
-  has_late : (c : Command Op) → c.key ≡ key → is_as_late c.key key ≡ true
+  pub has_late : (c : Command Op) → c.key ≡ key → is_as_late c.key key ≡ true
   has_late c same = subst (λ (k : Key). (k.session == key.session && nat_le key.number k.number) ≡ true) (sym same) (late_itself key.session key.number)
 
   -- no command of the key is kept behind a later one
@@ -143,30 +142,6 @@ behind_step false key k ks ls rest h = rest h
 pub late_behind : (key : Key) (ks ls : List Key) → first_as_late key ks ≡ None → first_as_late key (ks ++ ls) ≡ first_as_late key ls
 late_behind key [] ls h = refl
 late_behind key (k ∷ ks) ls h = behind_step (is_as_late k key) key k ks ls (late_behind key ks ls) h
-
-module _ {X : Type 0} (key_of : X → Key) (key : Key) (xs : List X) (i : ℕ) where
-  more : (d : X) → i < length xs → map key_of (drop i xs) ≡ key_of (slice_index_or xs i d) ∷ map key_of (drop (i + 1) xs)
-  more d low = ap (map key_of) (drop_more xs i d low)
-
-  -- one that isn't as late
-  pub late_next : (d : X) → i < length xs → is_as_late (key_of (slice_index_or xs i d)) key ≡ false
-      → first_as_late key (map key_of xs) ≡ first_as_late key (map key_of (drop i xs))
-      → first_as_late key (map key_of xs) ≡ first_as_late key (map key_of (drop (i + 1) xs))
-  late_next d low off sought =
-      sought ∙ ap (first_as_late key) (more d low) ∙ ap
-      (λ b. cond b (Some (key_of (slice_index_or xs i d))) (first_as_late key (map key_of (drop (i + 1) xs)))) off
-
-  -- one that is
-  pub late_here : (d : X) → i < length xs → is_as_late (key_of (slice_index_or xs i d)) key ≡ true
-      → first_as_late key (map key_of xs) ≡ first_as_late key (map key_of (drop i xs))
-      → first_as_late key (map key_of xs) ≡ Some (key_of (slice_index_or xs i d))
-  late_here d low on sought =
-      sought ∙ ap (first_as_late key) (more d low) ∙ ap
-      (λ b. cond b (Some (key_of (slice_index_or xs i d))) (first_as_late key (map key_of (drop (i + 1) xs)))) on
-
-  -- none is
-  pub late_nowhere : length xs ≤ i → first_as_late key (map key_of xs) ≡ first_as_late key (map key_of (drop i xs)) → first_as_late key (map key_of xs) ≡ None
-  late_nowhere high sought = sought ∙ ap (λ ys. first_as_late key (map key_of ys)) (drop_all i xs high)
 
 -- keys are their own keys
 own_keys : (ks : List Key) → map (λ (k : Key). k) ks ≡ ks

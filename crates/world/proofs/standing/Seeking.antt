@@ -1,5 +1,5 @@
 -- The first key of a session that is as late as another, sought in the slots one after another.
-use Rattle.std.proofs.Common.{◌≡◌, ℕ, ◌+◌, false, true, cond, List, [], ◌∷◌, ◌++◌, map, length, Some, None, refl, sym, ap, ◌∙◌, subst, arith}
+use Rattle.std.proofs.Common.{◌≡◌, ℕ, ◌+◌, false, true, cond, List, [], ◌∷◌, ◌++◌, map, length, Some, None, sym, ap, ◌∙◌, subst, arith}
 use Rattle.std.proofs.lemmas.List.{map-append, length-append}
 use Rattle.object.specs.declared.command.Command.{Command}
 use Rattle.object.specs.declared.command.Key.{Key}
@@ -25,9 +25,6 @@ module _ {Op : Type 0} (k : Cluster (Command Op)) (first : ℕ) (key : Key) wher
   behind : (cs ds : List (Command Op)) → first_as_late key (map (λ c. c.key) cs) ≡ None
       → first_as_late key (map (λ c. c.key) (cs ++ ds)) ≡ first_as_late key (map (λ c. c.key) ds)
   behind cs ds none = ap (first_as_late key) (map-append (λ (c : Command Op). c.key) cs ds) ∙ late_behind key (map (λ c. c.key) cs) (map (λ c. c.key) ds) none
-
-  pub nothing_sought : IsSought first
-  nothing_sought = ([], tt, omega arith, refl)
 
   pub sought_on : (slot : ℕ) (c : Command Op) → IsSought slot → IsChosen k slot c → is_as_late c.key key ≡ false → IsSought (slot + 1)
   sought_on slot c (cs, run, count, none) chosen early = (

@@ -1,9 +1,8 @@
 -- What a node does by itself, as an event of its world.
-use Rattle.std.proofs.Common.{◌≡◌, ℕ, zero, suc, ◌-◌, ◌+◌, ◌<◌, ◌≤◌, ◌^◌, Bool, true, false, nat_lt, cond, List, []}
+use Rattle.std.proofs.Common.{◌≡◌, ℕ, zero, suc, ◌-◌, ◌+◌, ◌<◌, ◌≤◌, ◌^◌, Bool, true, false, cond, List, []}
 use Rattle.std.proofs.Common.{◌∷◌, ◌++◌, length, append-nil, Option, Some, None, refl, sym, ap, ap₂, ◌∙◌, subst, arith}
 use Rattle.std.specs.Prelude.{slice_index_or, slice_set, is_some, Result, Ok, Err, IsOk, OnOk, OnErr}
 use Rattle.std.proofs.lemmas.Bool.{false≢true}
-use Rattle.std.proofs.lemmas.Bool.Decides.{nat_tests}
 use Rattle.std.specs.Option.{option_to_list}
 use Rattle.object.specs.declared.command.Answer.{Answer}
 use Rattle.object.specs.declared.command.Command.{Command}
@@ -367,6 +366,3 @@ err_of {Q = Q} r s x same e h = subst (λ t. OnErr t Q) (sym same ∙ e) h
 
 pub not_err : {T E Q : Type 0} (r s : Result T E) (x : E) → s ≡ r → s ≡ Err x → IsOk r → Q
 not_err r s x same e h = absurd (false≢true (subst (λ t. IsOk t) (sym same ∙ e) h))
-
-pub sent_when : (i count : ℕ) → nat_lt i count ≡ true → i < count
-sent_when i count h = grind (arith, nat_tests)

@@ -1,6 +1,6 @@
 -- A letter that reaches its receiver, as an event of its world. It is lent to the receiver, and another stands in its
 -- place while letters are sent.
-use Rattle.std.proofs.Common.{◌≡◌, ℕ, zero, suc, ◌-◌, ◌+◌, ◌<◌, ◌≤◌, List, [], ◌∷◌, ◌++◌, length, length-append}
+use Rattle.std.proofs.Common.{◌≡◌, ℕ, zero, suc, ◌-◌, ◌+◌, ◌<◌, ◌≤◌, List, [], ◌∷◌, ◌++◌, length, length-append, append-nil}
 use Rattle.std.proofs.Common.{length-set, Some, refl, sym, ap, ◌∙◌, subst, arith}
 use Rattle.std.specs.Prelude.{slice_index_or, slice_set, slice_get, Result, Ok, Err, OnOk, OnErr}
 use Rattle.std.proofs.lemmas.Option.{slice_get-get_or}
@@ -34,9 +34,8 @@ put_back (y ∷ xs) more zero other x d within at = ap (λ z. z ∷ (xs ++ more)
 put_back (y ∷ xs) more (suc j) other x d within at = ap (λ zs. y ∷ zs) (put_back xs more j other x d (omega arith) at)
 
 put_back_alone : {A : Type 0} (xs : List A) (j : ℕ) (other x d : A) → j < length xs → x ≡ slice_index_or xs j d → slice_set (slice_set xs j other) j x ≡ xs
-put_back_alone [] j other x d within at = absurd (omega arith)
-put_back_alone (y ∷ xs) zero other x d within at = ap (λ z. z ∷ xs) at
-put_back_alone (y ∷ xs) (suc j) other x d within at = ap (λ zs. y ∷ zs) (put_back_alone xs j other x d (omega arith) at)
+put_back_alone xs j other x d within at =
+    ap (λ zs. slice_set zs j x) (sym (append-nil (slice_set xs j other))) ∙ put_back xs [] j other x d within at ∙ append-nil xs
 
 -- its place is still there when it is put back
 pub still_there : {C T E : Type 0} (r : Result T E) (m : ℕ) (y z : NodeState C) (l : Letter C)

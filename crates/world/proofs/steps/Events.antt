@@ -1,8 +1,9 @@
 -- One event of a world, from what was done to its parts.
-use Rattle.std.proofs.Common.{◌≡◌, inl, inr, ℕ, zero, suc, ◌+◌, ◌<◌, Bool, true, false, true≢false, cond, not, ◌&&◌}
-use Rattle.std.proofs.Common.{◌||◌, List, [], ◌∷◌, ◌++◌, length, take, Some, None, Option, refl, sym, ap, ◌∙◌, subst}
+use Rattle.std.proofs.Common.{◌≡◌, inl, inr, ℕ, ◌+◌, ◌<◌, Bool, true, false, true≢false, cond, not, ◌&&◌}
+use Rattle.std.proofs.Common.{List, [], ◌∷◌, ◌++◌, length, take, Some, None, Option, refl, sym, ap, ◌∙◌, subst}
 use Rattle.std.proofs.Common.{arith}
-use Rattle.std.specs.Prelude.{slice_get, slice_index_or, nat_le}
+use Rattle.std.specs.Prelude.{slice_index_or, nat_le}
+use Rattle.std.proofs.lemmas.Bool.{not-false, not-true, or_parts}
 use Rattle.std.proofs.lemmas.Bool.Decides.{nat_tests}
 use Rattle.std.proofs.lemmas.List.{take_more}
 use Rattle.std.proofs.lemmas.Option.{slice_get-get_or}
@@ -12,25 +13,25 @@ use Rattle.object.specs.declared.command.Command.{Command}
 use Rattle.object.specs.declared.command.Key.{Key}
 use Rattle.object.specs.declared.command.Submission.{Submission}
 use Rattle.object.specs.Commands.{same_acts}
-use Rattle.ballot.specs.declared.letter.Letter.{Letter}
 use Rattle.agreement.specs.declared.event.Event.{Event}
 use Rattle.agreement.specs.declared.event.Event.TheVariants as events
 use Rattle.world.specs.declared.error.WorldError.{WorldError}
 use Rattle.world.specs.declared.error.WorldError.TheVariants as reasons
 use Rattle.object.specs.Objects.{Rules}
-use Rattle.agreement.specs.Nodes.{Cluster, turned}
 use Rattle.agreement.specs.Worlds.{World, opening}
 use Rattle.object.specs.Keys.{same_key}
 use Rattle.object.specs.KeyLaws.{same_is}
-use Rattle.agreement.specs.Steps.{Step, IsItsOwn, counted, with_cluster, deliver}
-use Rattle.agreement.specs.Runs.{Leads, most_events}
+use Rattle.agreement.specs.Steps.{Step, IsItsOwn}
+use Rattle.agreement.specs.Agreements.{StaysChosen}
+use Rattle.agreement.specs.Runs.{IsWorld, Leads, most_events}
 use Rattle.agreement.specs.Runs as Runs
+use Rattle.world.specs.Agreed.{Continues}
 use Rattle.world.specs.Refusals.{IsAllowed, has_other_act, keeps_acts, refusal, reason_for, IsRefused}
 use Rattle.agreement.specs.Events.{is_at_member, is_sent}
-use Rattle.world.specs.Kept.{Delivered, IsNoted}
+use Rattle.world.specs.Kept.{IsNoted}
 use Rattle.ballot.specs.OrderLaws.{BallotLaws}
 use Rattle.agreement.proofs.chosen.Reach.{reachable_sound, step_sound, opening_reachable}
-use Rattle.agreement.proofs.every.Events.{next_world}
+use Rattle.agreement.proofs.every.Events.{next_world, later_same, later_step, stays_chosen}
 use Rattle.world.proofs.steps.Noted.{opening_noted, noted_stays}
 
 module _ (laws : BallotLaws) {O Op Reply : Type 0} (rules : Rules O Op Reply) where
@@ -49,26 +50,8 @@ module _ (laws : BallotLaws) {O Op Reply : Type 0} (rules : Rules O Op Reply) wh
     noted = noted_stays v u (step_sound laws rules v e u (reachable_sound laws rules v i.world.reachable) s).grows keys i.noted reach;
   }
 
-module _ {O Op Reply : Type 0} (rules : Rules O Op Reply) (v : World Op Reply) where
-  -- a row that the cluster alone has taken
-  pub row : (e : Event Op) (k z : Cluster (Command Op)) → k ≡ z → Step rules v e (counted (with_cluster v z)) → Step rules v e (counted (with_cluster v k))
-  row e k z same s = subst (λ y. Step rules v e (counted (with_cluster v y))) (sym same) s
-
-  some_letter : (ls : List (Letter (Command Op))) (j : ℕ) → j < length ls → (l : Letter (Command Op)) × (slice_get ls j ≡ Some l)
-  some_letter [] j h = absurd (omega arith)
-  some_letter (l ∷ ls) zero h = (l, refl)
-  some_letter (l ∷ ls) (suc j) h = some_letter ls j (omega arith)
-
-  pub deliver_row : (j : ℕ) (k : Cluster (Command Op)) → j < length v.cluster.letters
-      → ((l : Letter (Command Op)) → slice_get v.cluster.letters j ≡ Some l → Delivered v.cluster l k)
-      → Step rules v (events.Deliver j) (counted (with_cluster v k))
-  deliver_row j k within delivered =
-      let l = some_letter v.cluster.letters j within in
-      let d = delivered l.0 l.1 in
-      row (events.Deliver j) k (turned v.cluster l.0.to d.0 d.1) d.3 (deliver j l.0 d.0 d.1 l.1 d.2)
-
 -- a key with its own act
-acts_same : {Op : Type 0} (same : Op → Op → Bool) → ((x y : Op) → same x y ≡ true → x ≡ y) → (a b : Act Op) → same_acts same a b ≡ true → a ≡ b
+pub acts_same : {Op : Type 0} (same : Op → Op → Bool) → ((x y : Op) → same x y ≡ true → x ≡ y) → (a b : Act Op) → same_acts same a b ≡ true → a ≡ b
 acts_same same exact (Do o) (Do p) h = ap Do (exact o p h)
 acts_same same exact (Do o) Close h = absurd (true≢false (sym h))
 acts_same same exact (Do o) Tick h = absurd (true≢false (sym h))
@@ -79,33 +62,21 @@ acts_same same exact Tick (Do p) h = absurd (true≢false (sym h))
 acts_same same exact Tick Close h = absurd (true≢false (sym h))
 acts_same same exact Tick Tick h = refl
 
-both : (a b rest : Bool) → ((a && not b) || rest) ≡ false → a ≡ true → b ≡ true
-both true true rest h e = refl
-both true false rest h e = absurd (true≢false h)
-both false b rest h e = absurd (true≢false (sym e))
-
-later : (a rest : Bool) → (a || rest) ≡ false → rest ≡ false
-later true rest h = absurd (true≢false h)
-later false rest h = h
-
 pub its_own : {Op : Type 0} (same : Op → Op → Bool) → ((x y : Op) → same x y ≡ true → x ≡ y)
     → (submitted : List (Submission Op)) (c : Command Op) → has_other_act same submitted c ≡ false
     → IsItsOwn c submitted
 its_own same exact [] c h s at k = absurd at
 its_own same exact (x ∷ xs) c h s (inl e) k =
     let l : same_key x.command.key c.key ≡ true = ap (λ y. same_key y.command.key c.key) (sym e) ∙ k in
+    let differs = (or_parts (same_key x.command.key c.key && not (same_acts same x.command.act c.act)) (has_other_act same xs c) h).0 in
     let act = acts_same same exact x.command.act c.act
-    (both (same_key x.command.key c.key) (same_acts same x.command.act c.act) (has_other_act same xs c) h l) in
+    (not-false (same_acts same x.command.act c.act) (ap (λ b. b && not (same_acts same x.command.act c.act)) (sym l) ∙ differs)) in
     ap (λ y. y.command) e ∙ (λ i. record { key = same_is x.command.key c.key l i; act = act i })
 its_own same exact (x ∷ xs) c h s (inr at) k =
-    its_own same exact xs c (later (same_key x.command.key c.key && not (same_acts same x.command.act c.act))
-    (has_other_act same xs c) h) s at k
+    its_own same exact xs c (or_parts (same_key x.command.key c.key && not (same_acts same x.command.act c.act))
+    (has_other_act same xs c) h).1 s at k
 
 -- what is not refused is allowed
-not_not : (b : Bool) → not b ≡ false → b ≡ true
-not_not true h = refl
-not_not false h = absurd (true≢false h)
-
 none_if : {X : Type 0} (test : Bool) (x : X) (o : Option X) → cond test (Some x) o ≡ None → (test ≡ false) × (o ≡ None)
 none_if true x o h = absurd (cc)
 none_if false x o h = (refl, h)
@@ -119,9 +90,9 @@ allowed same w e h =
     let d = none_if (nat_le most_events w.taken) reasons.Full None c.1 in
     let full = d.0 in
     record {
-      member = not_not (is_at_member w.cluster.members e) a.0;
-      sent = not_not (is_sent (length w.cluster.letters) e) b.0;
-      acts = not_not (keeps_acts same w.happenings.submitted e) c.0;
+      member = not-false (is_at_member w.cluster.members e) a.0;
+      sent = not-false (is_sent (length w.cluster.letters) e) b.0;
+      acts = not-false (keeps_acts same w.happenings.submitted e) c.0;
       room = grind (arith, nat_tests);
     }
 
@@ -131,11 +102,7 @@ pub own_event : {Op : Type 0} (same : Op → Op → Bool) → ((x y : Op) → sa
     → keeps_acts same submitted e ≡ true → IsItsOwn c submitted
 own_event same exact submitted e n c is keeps =
     its_own same exact submitted c
-    (is_false (has_other_act same submitted c) (ap (keeps_acts same submitted) (sym is) ∙ keeps))
-  where
-    is_false : (b : Bool) → not b ≡ true → b ≡ false
-    is_false true h = absurd (true≢false (sym h))
-    is_false false h = refl
+    (not-true (has_other_act same submitted c) (ap (keeps_acts same submitted) (sym is) ∙ keeps))
 
 -- a run by one event more
 pub run_more : {O Op Reply : Type 0} (rules : Rules O Op Reply) (w v u : World Op Reply) (es : List (Event Op)) (j : ℕ)
@@ -153,3 +120,14 @@ refused_at same old new es j e reason within at kept cause = record {
   at = slice_get-get_or es j e within ∙ ap (λ x. Some x) (sym at);
   because = cause ∙ sym (ap (λ w. reason_for same w e) kept);
 }
+
+-- what went on where nothing changed, and where one event was taken
+module _ (laws : BallotLaws) {O Op Reply : Type 0} (rules : Rules O Op Reply) (v w : World Op Reply) (is : v ≡ w) (i : IsWorld rules v) where
+  pub continues_itself : (u : World Op Reply) → u ≡ w → Continues w u
+  continues_itself u same = record {
+    stays = subst (λ z. StaysChosen w.cluster z.cluster) (sym same) (λ s c chosen. chosen);
+    later = later_same laws rules v w is i u same;
+  }
+
+  pub continues_by : (e : Event Op) (u : World Op Reply) → Step rules w e u → Continues w u
+  continues_by e u step = record { stays = stays_chosen laws rules v w is i e u step; later = later_step laws rules v w is i e u step }

@@ -12,19 +12,16 @@ use Rattle.object.specs.ListLaws.{Each, Each-at, Each-map, Each-weaker}
 use Rattle.object.specs.Objects.{Rules, is_one}
 use Rattle.ballot.specs.OrderLaws.{BallotLaws}
 use Rattle.ballot.specs.Slots.{Slots}
-use Rattle.ballot.specs.declared.letter.LetterBody.{LetterBody}
-use Rattle.ballot.specs.declared.letter.LetterBody.TheVariants.{P1a, P1b, P2a, P2b, Propose, Decision, Ask}
 use Rattle.slot_log.specs.Books.{SlotBook}
 use Rattle.slot_log.specs.Requests.{is_known}
 use Rattle.node.specs.Nodes.{NodeState}
 use Rattle.node.specs.Deeds.{ComesToNothing, done_if, performs, outcome_of}
-use Rattle.node.specs.Receiving.{SaysNothingNew}
 use Rattle.node.specs.SlotLaws.{entries_get}
 use Rattle.node.specs.declared.deed.Deed.{Deed}
 use Rattle.node.specs.declared.deed.Deed.TheVariants as deeds
 use Rattle.node.specs.declared.deed.Outcome.{Outcome}
 use Rattle.node.specs.declared.deed.Outcome.TheVariants.{Idle, Done, Performed}
-use Rattle.world.specs.Kept.{accepts_of, key_past, is_performance, submission_by}
+use Rattle.world.specs.Kept.{key_past, is_performance, submission_by}
 use Rattle.agreement.specs.Nodes.{Cluster, node}
 use Rattle.world.specs.Quiet.{BringsNothing}
 use Rattle.agreement.specs.Runs.{IsReachable}
@@ -35,16 +32,6 @@ use Rattle.agreement.proofs.order.Deciding.{any_found}
 use Rattle.agreement.proofs.order.Origins.{AllAt}
 use Rattle.agreement.proofs.chosen.Reach.{reachable_sound}
 use Rattle.agreement.proofs.order.Submitted.{all_submitted, chosen_submitted, key_submitted}
-
--- an acceptor accepts nothing of what says nothing new
-pub accepts_none : {C : Type 0} (x : NodeState C) (body : LetterBody C) → SaysNothingNew x body → accepts_of x.acceptor body ≡ None
-accepts_none x (P1a b) i = absurd i
-accepts_none x (P1b b report) i = refl
-accepts_none x (P2a p) i = absurd i
-accepts_none x (P2b o s by) i = refl
-accepts_none x (Propose s c) i = refl
-accepts_none x (Decision s c) i = refl
-accepts_none x (Ask s) i = absurd i
 
 -- an event that brings nothing is a deed at a node that has nothing to do
 pub nothing_to_do : {O Op Reply : Type 0} (rules : Rules O Op Reply) (k : Cluster (Command Op)) (n : ℕ) (d : Deed Op)

@@ -1,6 +1,6 @@
 -- Events that a world doesn't refuse.
-use Rattle.std.proofs.Common.{◌≡◌, ℕ, ◌+◌, ◌<◌, Bool, true, false, cond, not, [], ◌∷◌, length, None, Some, Result, Ok, Err, OnOk, refl, ap, ◌∙◌, arith}
-use Rattle.std.specs.Prelude.{nat_le}
+use Rattle.std.proofs.Common.{◌≡◌, ℕ, ◌+◌, ◌<◌, Bool, true, false, not, [], ◌∷◌, length, None, Some, Result, Ok, Err, OnOk, refl, ap, ◌∙◌, arith}
+use Rattle.std.specs.Prelude.{nat_le, if◌then◌else◌}
 use Rattle.std.proofs.lemmas.Bool.Decides.{nat_tests}
 use Rattle.std.proofs.lemmas.List.{length-append}
 use Rattle.std.proofs.lemmas.Option.{slice_get_within}
@@ -13,43 +13,53 @@ use Rattle.ballot.specs.declared.letter.LetterBody.TheVariants.{P1a, P2a}
 use Rattle.agreement.specs.Nodes.{node}
 use Rattle.agreement.specs.Worlds.{World}
 use Rattle.agreement.specs.Steps.{Step}
-use Rattle.world.specs.Refusals.{refusal, keeps_acts}
+use Rattle.world.specs.Refusals.{IsAllowed, refusal, keeps_acts}
 use Rattle.agreement.specs.Events.{is_at_member, is_sent}
 use Rattle.agreement.specs.Runs.{most_events}
+use Rattle.world.specs.declared.error.WorldError.{WorldError}
 use Rattle.world.specs.declared.error.WorldError.TheVariants as reasons
 use Rattle.agreement.specs.declared.event.Event.{Event}
 use Rattle.agreement.specs.declared.event.Event.TheVariants as events
+use Rattle.world.specs.WaySteps.{ButForMemory}
 use Rattle.world.specs.WaysOut.{IsQuestion, promise, vote}
 use Rattle.world.proofs.rounds.Hearing.{HasReceived, received, p1a_received, p2a_received}
 
-pub on_both : {T E P Q R : Type 0} (r : Result T E) → OnOk r P → OnOk r Q → (P → Q → R) → OnOk r R
-on_both (Ok x) p q f = f p q
-on_both (Err e) p q f = tt
+-- what follows where memory was not refused
+pub but_for_memory : {P R : Type 0} (r : Result Unit WorldError) → ButForMemory r P → (P → R) → ButForMemory r R
+but_for_memory (Ok x) p f = f p
+but_for_memory (Err e) p f = p
 
-pub on_ok : {T E P R : Type 0} (r : Result T E) → OnOk r P → (P → R) → OnOk r R
+pub where_done : {P R : Type 0} (r : Result Unit WorldError) → ButForMemory r P → (P → R) → OnOk r R
+where_done (Ok x) p f = f p
+where_done (Err e) p f = tt
+
+pub and_also : {P Q S R : Type 0} (r : Result Unit WorldError) → OnOk r P → OnOk r Q → ButForMemory r S → (P → Q → S → R) → ButForMemory r R
+and_also (Ok x) p q s f = f p q s
+and_also (Err e) p q s f = s
+
+pub on_ok : {P R : Type 0} (r : Result Unit WorldError) → OnOk r P → (P → R) → OnOk r R
 on_ok (Ok x) p f = f p
 on_ok (Err e) p f = tt
 
-pub on_three : {T E P Q S R : Type 0} (r : Result T E) → OnOk r P → OnOk r Q → OnOk r S → (P → Q → S → R) → OnOk r R
+pub on_three : {P Q S R : Type 0} (r : Result Unit WorldError) → OnOk r P → OnOk r Q → OnOk r S → (P → Q → S → R) → OnOk r R
 on_three (Ok x) p q s f = f p q s
 on_three (Err e) p q s f = tt
+
+pub not_refused : {Op Reply : Type 0} (same : Op → Op → Bool) (w : World Op Reply) (e : Event Op) → IsAllowed same w e → refusal same w e ≡ None
+unfolding refusal
+not_refused same w e a =
+    let room = a.room in
+    let full : nat_le most_events w.taken ≡ false = grind (arith, nat_tests) in
+    λ j.
+    if not (a.member j) then Some reasons.NoSuchNode
+    else (if not (a.sent j) then Some reasons.NoSuchLetter
+    else (if not (a.acts j) then Some reasons.BadNumber
+    else (if full j then Some reasons.Full else None)))
 
 pub unrefused : {Op Reply : Type 0} (same : Op → Op → Bool) (w : World Op Reply) (e : Event Op)
     → is_at_member w.cluster.members e ≡ true → is_sent (length w.cluster.letters) e ≡ true
     → keeps_acts same w.happenings.submitted e ≡ true → w.taken < most_events → refusal same w e ≡ None
-unfolding refusal
-unrefused same w e member sent acts room =
-    at reasons.NoSuchNode reasons.NoSuchLetter reasons.BadNumber reasons.Full (is_at_member w.cluster.members e)
-    (is_sent (length w.cluster.letters) e) (keeps_acts same w.happenings.submitted e)
-    (nat_le most_events w.taken) member sent acts (grind (arith, nat_tests))
-  where
-    at : {X : Type 0} (a b c d : X) (m s k f : Bool) → m ≡ true → s ≡ true → k ≡ true → f ≡ false
-        → cond (not m) (Some a) (cond (not s) (Some b) (cond (not k) (Some c) (cond f (Some d) None))) ≡ None
-    at a b c d true true true false p q r t = refl
-    at a b c d true true true true p q r t = absurd (cc)
-    at a b c d true true false f p q r t = absurd (cc)
-    at a b c d true false k f p q r t = absurd (cc)
-    at a b c d false s k f p q r t = absurd (cc)
+unrefused same w e member sent acts room = not_refused same w e (record { member = member; sent = sent; acts = acts; room = room })
 
 pub may_deliver : {Op Reply : Type 0} (same : Op → Op → Bool) (w : World Op Reply) (j : ℕ)
     → j < length w.cluster.letters → w.taken < most_events → refusal same w (events.Deliver j) ≡ None

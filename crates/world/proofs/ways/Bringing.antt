@@ -1,21 +1,18 @@
 -- One slot more after another, until nothing is left to perform.
-use Rattle.std.proofs.Common.{◌≡◌, ◌≢◌, ◌⊎◌, inl, ⊎_elim, ℕ, zero, suc, ◌+◌, ◌-◌, ◌*◌, ◌<◌, ◌≤◌, max, Bool, true, false}
+use Rattle.std.proofs.Common.{◌≡◌, ◌≢◌, inl, inr, ⊎_elim, ℕ, zero, suc, ◌+◌, ◌-◌, ◌*◌, ◌<◌, ◌≤◌, max, Bool, true, false}
 use Rattle.std.proofs.Common.{List, [], ◌∷◌, length, Option, None, Some, refl, sym, ap, ◌∙◌, subst, arith}
 use Rattle.std.specs.Prelude.{nat_lt, not, ◌||◌, ◌==◌}
 use Rattle.std.specs.List.{range_with_len, flat_map}
 use Rattle.std.specs.Option.{option_to_list}
 use Rattle.std.specs.FinMap.{get}
-use Rattle.std.proofs.lemmas.Bool.{cases_eq, cases_lt}
+use Rattle.std.proofs.lemmas.Bool.{cases_eq, cases_lt, lt-ltb, ltb-true}
 use Rattle.std.proofs.lemmas.Bool.Decides.{nat_tests}
 use Rattle.object.specs.Lists.{In}
-use Rattle.object.specs.ListLaws.{Each-at, Each-from, In-left, In-right}
+use Rattle.object.specs.ListLaws.{Each-at, In-left, In-right}
 use Rattle.object.specs.declared.command.Command.{Command}
 use Rattle.object.specs.Objects.{Rules, is_one}
 use Rattle.ballot.specs.OrderLaws.{BallotLaws}
 use Rattle.ballot.specs.Slots.{Slots}
-use Rattle.ballot.specs.declared.letter.Letter.{Letter}
-use Rattle.ballot.specs.declared.letter.LetterBody.{LetterBody}
-use Rattle.ballot.specs.declared.letter.LetterBody.TheVariants.{P1a, P1b, P2a, P2b, Propose, Decision, Ask}
 use Rattle.slot_log.specs.Histories.{history}
 use Rattle.node.specs.SlotLaws.{get_insert_same}
 use Rattle.slot_log.specs.Books.{SlotBook}
@@ -29,10 +26,10 @@ use Rattle.agreement.proofs.chosen.LeaderRows.{none_not}
 use Rattle.agreement.proofs.chosen.Reach.{reachable_sound, opened_at}
 use Rattle.agreement.specs.Mentions.{Mentions, MentionsNode, ProposesOnly, MentionsBody}
 use Rattle.agreement.specs.SlotBooks.{IsBookAfter, pending}
-use Rattle.world.specs.Telling.{IsProposedAt, IsMentioned, is_proposed, is_decided, is_led, is_commanded, is_gathered}
-use Rattle.world.specs.Telling.{is_accepted, says_propose, says_decision, says_accept, says_report}
-use Rattle.world.specs.WaysOut.{first_book, IsAtRest, IsSmall, work, most_slots, IsReady, stays as ready_stays}
+use Rattle.world.specs.Telling.{IsProposedAt}
+use Rattle.world.specs.WaysOut.{first_book, IsAtRest, work, most_slots, HasMore, IsReady, IsWholePassage, stays as ready_stays}
 use Rattle.world.specs.WaysOut.{proposes as ready_proposes, HasLearnt, HasDecided, knew, learnt, HasAdvanced}
+use Rattle.world.specs.WaySteps.{IsDueAt}
 use Rattle.world.specs.WaysOut.{MentionsAsMuch, Holds, in_requests, in_proposals, in_decisions}
 use Rattle.world.proofs.ways.Booking.{holds_proposed, holds_learnt, holds_advanced, pending_proposed}
 use Rattle.agreement.proofs.books.LeadingRuns.{in_every}
@@ -42,7 +39,7 @@ use Rattle.agreement.proofs.books.MentionsEvery.{mentions_step, mentions_weaker,
 use Rattle.world.proofs.ways.Proposing.{first_request, next_there, free_there}
 use Rattle.agreement.proofs.books.SlotBooks.{advanced_few, advanced_fewer}
 use Rattle.agreement.proofs.books.SlotBooksEvery.{books}
-use Rattle.world.proofs.ways.Telling.{told, told_by_decision, told_by_proposal}
+use Rattle.world.proofs.ways.Telling.{IsProposedUpto, told, told_by_decision, told_by_proposal}
 
 module _ (laws : BallotLaws) {O Op Reply : Type 0} (rules : Rules O Op Reply) where
   -- all slots are numbered from 1
@@ -66,31 +63,8 @@ module _ (laws : BallotLaws) {O Op Reply : Type 0} (rules : Rules O Op Reply) wh
 
   -- what is mentioned was proposed to node 1
   mentions_told : InEvery rules (λ w. Mentions (λ s c. 0 < s → IsProposedAt w.cluster s) w.cluster)
-  mentions_told w i = record {
-    nodes = λ n. record {
-      accepted = λ p within. at p.slot (is_accepted n p within refl);
-      leader = record {
-        proposals = λ s c e. at s (is_led n c e);
-        gathered = λ s is p within. at p.slot (is_gathered n s p is within refl);
-        commanders = λ s c e. at s (is_commanded n c e);
-      };
-      replica = record { proposals = λ s c e. at s (is_proposed n c e); decisions = λ s c e. at s (is_decided n c e) };
-    };
-    letters = Each-from (λ l. MentionsBody (λ s c. 0 < s → IsProposedAt w.cluster s) l.body) w.cluster.letters (λ l within. of_body l within l.body refl);
-  }
-    where
-      at : (s : ℕ) → IsMentioned w.cluster s → 0 < s → IsProposedAt w.cluster s
-      at s is some = told laws rules w i s is s some (omega arith)
-
-      of_body : (l : Letter (Command Op)) → In l w.cluster.letters → (body : LetterBody (Command Op)) → l.body ≡ body
-          → MentionsBody (λ s c. 0 < s → IsProposedAt w.cluster s) body
-      of_body l within (P1a b) e = tt
-      of_body l within (P1b b report) e = λ p there. at p.slot (says_report l b report p within e there refl)
-      of_body l within (P2a p) e = at p.slot (says_accept l p within e refl)
-      of_body l within (P2b o s by) e = tt
-      of_body l within (Propose s c) e = at s (says_propose l c within e)
-      of_body l within (Decision s c) e = at s (says_decision l c within e)
-      of_body l within (Ask s) e = tt
+  mentions_told w i = mentions_weaker (λ s c. IsProposedUpto w.cluster s) (λ s c. 0 < s → IsProposedAt w.cluster s)
+      (λ s c upto some. upto s some (omega arith)) w.cluster (told laws rules w i)
 
 -- a test that a command of slot s is c, and that others may be any
 abbrev is_only : {C : Type 0} → (C → C → Bool) → ℕ → C → ℕ → C → Bool
@@ -123,8 +97,7 @@ pending_proposed_next : {C : Type 0} (book : SlotBook C) (s : ℕ) (c : C) (more
 pending_proposed_next book s c more is first none = ap (λ o. pending (proposed book o)) is ∙ pending_proposed book s c more first none
 
 module _ (laws : BallotLaws) {O Op Reply : Type 0} (rules : Rules O Op Reply) (w v : World Op Reply) (i : IsWorld rules w)
-    (more : IsProposedAt w.cluster (first_book w.cluster).slot_out ⊎ (0 < length (first_book w.cluster).requests))
-    (h : HasAdvanced (is_one rules) w.cluster (first_book v.cluster)) where
+    (more : HasMore w.cluster (first_book w.cluster).slot_out) (h : HasAdvanced (is_one rules) w.cluster (first_book v.cluster)) where
   booked : IsBookAfter w.taken (first_book w.cluster)
   booked = books laws rules w i 1
 
@@ -259,15 +232,8 @@ pub record IsBringing {Op Reply : Type 0} (w v : World Op Reply) (top : ℕ) (c 
   pub holds : Holds (first_book v.cluster) c
   pub submitted : v.happenings.submitted ≡ w.happenings.submitted
 
-lt_yes : (a b : ℕ) → a < b → nat_lt a b ≡ true
-lt_yes a b h = grind (arith, nat_tests)
-
-yes_lt : (a b : ℕ) → nat_lt a b ≡ true → a < b
-yes_lt a b h = grind (arith, nat_tests)
-
 module _ (laws : BallotLaws) {O Op Reply : Type 0} (rules : Rules O Op Reply) (w v : World Op Reply)
-    (i : IsWorld rules v) (top : ℕ) (c : Command Op) (h : IsBringing w v top c)
-    (more : IsProposedAt v.cluster (first_book v.cluster).slot_out ⊎ (0 < length (first_book v.cluster).requests)) where
+    (i : IsWorld rules v) (top : ℕ) (c : Command Op) (h : IsBringing w v top c) (more : HasMore v.cluster (first_book v.cluster).slot_out) where
   -- beyond `top` nothing is proposed
   new_beyond : top < (first_book v.cluster).slot_out → IsProposedAt v.cluster (first_book v.cluster).slot_out → ⊥
   new_beyond beyond p =
@@ -277,43 +243,42 @@ module _ (laws : BallotLaws) {O Op Reply : Type 0} (rules : Rules O Op Reply) (w
       v.cluster.letters p.letter h.near.letters p.sent) in
       absurd (omega arith)
 
-  pending_some : 0 < length (first_book v.cluster).requests → 0 < pending (first_book v.cluster)
-  pending_some some = omega arith
-
   -- something is left
-  pub some_left_there : 0 < left top (first_book v.cluster)
+  some_left_there : 0 < left top (first_book v.cluster)
   some_left_there = ⊎_elim
       (λ (within : (first_book v.cluster).slot_out < top + 1). omega arith)
       (λ (beyond : top + 1 ≤ (first_book v.cluster).slot_out). ⊎_elim
       (λ (p : IsProposedAt v.cluster (first_book v.cluster).slot_out). absurd (new_beyond (omega arith) p))
-      (λ (some : 0 < length (first_book v.cluster).requests). let a = pending_some some in omega arith)
+      (λ (some : 0 < length (first_book v.cluster).requests). omega arith)
       more)
       (cases_lt (first_book v.cluster).slot_out (top + 1))
 
-  pub advance_low : (first_book v.cluster).slot_out ≤ most_slots
-  advance_low = let a = h.low in omega arith
-
-  pub advance_room : v.taken + work v.cluster + 20 ≤ most_events
-  advance_room = let a = h.spent in let b = some_left_there in omega arith
-
-  pub advance_small : IsSmall v.cluster
-  advance_small = mentions_weaker (λ s d. s < max (top + 1) (first_book v.cluster).slot_out) (λ s d. s ≤ most_slots)
-      (λ s d near. let a = h.low in let b = some_left_there in small_of s near) v.cluster h.near
+  pub advance_due : IsDueAt v (first_book v.cluster).slot_out 20
+  advance_due = record {
+    at_rest = h.at_rest;
+    next = refl;
+    more = more;
+    low = let a = h.low in omega arith;
+    room = record {
+      small = mentions_weaker (λ s d. s < max (top + 1) (first_book v.cluster).slot_out) (λ s d. s ≤ most_slots)
+          (λ s d near. let a = h.low in let b = some_left_there in small_of s near) v.cluster h.near;
+      room = let a = h.spent in let b = some_left_there in omega arith;
+    };
+  }
     where
       small_of : (s : ℕ) → s < max (top + 1) (first_book v.cluster).slot_out → s ≤ most_slots
       small_of s near = let a = h.low in omega arith
 
-  module _ (u : World Op Reply) (exact : (a b : Command Op) → is_one rules a b ≡ true → a ≡ b) (same_itself : (a : Command Op) → is_one rules a a ≡ true)
-      (at_rest : IsAtRest u.cluster) (advanced_to : HasAdvanced (is_one rules) v.cluster (first_book u.cluster))
-      (spent : u.taken + work u.cluster ≤ v.taken + work v.cluster + 20)
-      (as_much : MentionsAsMuch v.cluster (first_book v.cluster).slot_out u.cluster) (submitted : u.happenings.submitted ≡ v.happenings.submitted) where
+  module _ {u : World Op Reply} {before after : List (Event Op)} (exact : (a b : Command Op) → is_one rules a b ≡ true → a ≡ b)
+      (same_itself : (a : Command Op) → is_one rules a a ≡ true) (advanced_to : HasAdvanced (is_one rules) v.cluster (first_book u.cluster))
+      (p : IsWholePassage rules (first_book v.cluster).slot_out 20 v before u after) where
     pub less_left : left top (first_book u.cluster) < left top (first_book v.cluster)
     less_left =
         let on = out_after laws rules v u i more advanced_to in
         ⊎_elim
         (λ (within : (first_book v.cluster).slot_out < top + 1). let a = pending_after laws rules v u i more advanced_to in omega arith)
         (λ (beyond : top + 1 ≤ (first_book v.cluster).slot_out). let a =
-        fewer_after laws rules v u i more advanced_to same_itself as_much (new_beyond (omega arith)) in omega arith)
+        fewer_after laws rules v u i more advanced_to same_itself p.passage.mentions (new_beyond (omega arith)) in omega arith)
         (cases_lt (first_book v.cluster).slot_out (top + 1))
 
     near_now : Mentions (λ s d. s < max (top + 1) (first_book u.cluster).slot_out) u.cluster
@@ -321,21 +286,21 @@ module _ (laws : BallotLaws) {O Op Reply : Type 0} (rules : Rules O Op Reply) (w
         let on = out_after laws rules v u i more advanced_to in
         mentions_weaker (λ s d. nat_lt s (max (top + 1) (first_book u.cluster).slot_out) ≡ true)
         (λ s d. s < max (top + 1) (first_book u.cluster).slot_out)
-        (λ s d near. yes_lt s (max (top + 1) (first_book u.cluster).slot_out) near) u.cluster
-        (as_much (λ s d. nat_lt s (max (top + 1) (first_book u.cluster).slot_out))
-        (λ d rest is never. lt_yes (first_book v.cluster).slot_out (max (top + 1) (first_book u.cluster).slot_out) (omega arith))
+        (λ s d near. ltb-true s (max (top + 1) (first_book u.cluster).slot_out) near) u.cluster
+        (p.passage.mentions (λ s d. nat_lt s (max (top + 1) (first_book u.cluster).slot_out))
+        (λ d rest is never. lt-ltb (first_book v.cluster).slot_out (max (top + 1) (first_book u.cluster).slot_out) (omega arith))
         (mentions_weaker (λ s d. s < max (top + 1) (first_book v.cluster).slot_out)
         (λ s d. nat_lt s (max (top + 1) (first_book u.cluster).slot_out) ≡ true)
-        (λ s d near. lt_yes s (max (top + 1) (first_book u.cluster).slot_out) (omega arith)) v.cluster h.near))
+        (λ s d near. lt-ltb s (max (top + 1) (first_book u.cluster).slot_out) (omega arith)) v.cluster h.near))
 
     pub brings_on : IsBringing w u top c
     brings_on = record {
-      at_rest = at_rest;
+      at_rest = p.at_rest;
       near = near_now;
-      spent = let a = h.spent in let b = less_left in omega arith;
+      spent = let a = h.spent in let b = less_left in let e = p.passage.spent in omega arith;
       low = let a = h.low in let b = less_left in let on = out_after laws rules v u i more advanced_to in omega arith;
       holds = holds_after laws rules v u i more advanced_to exact c h.holds;
-      submitted = submitted ∙ h.submitted;
+      submitted = p.passage.submitted ∙ h.submitted;
     }
 
 -- where nothing is left, the command was performed
@@ -352,10 +317,13 @@ in_commands m s c there base (suc n) low high = ⊎_elim
     (cases_eq s base)
 
 pub performed_then : (laws : BallotLaws) {O Op Reply : Type 0} (rules : Rules O Op Reply) (v : World Op Reply)
-    → IsWorld rules v → (c : Command Op) → Holds (first_book v.cluster) c
-    → (IsProposedAt v.cluster (first_book v.cluster).slot_out → ⊥) → (first_book v.cluster).requests ≡ [] → In c (history (first_book v.cluster))
-performed_then laws rules v i c held new none = of_held held
+    → IsWorld rules v → (c : Command Op) → Holds (first_book v.cluster) c → (HasMore v.cluster (first_book v.cluster).slot_out → ⊥)
+    → In c (history (first_book v.cluster))
+performed_then laws {Op = Op} rules v i c held nothing = of_held held
   where
+    new : IsProposedAt v.cluster (first_book v.cluster).slot_out → ⊥
+    new there = nothing (inl there)
+
     first : 0 < (first_book v.cluster).slot_out
     first = (books laws rules v i 1).performed.first
 
@@ -366,8 +334,12 @@ performed_then laws rules v i c held new none = of_held held
         (λ (past : (first_book v.cluster).slot_out ≤ s). absurd (new (told_by_decision laws rules v i 1 s c there (first_book v.cluster).slot_out first past)))
         (cases_lt s (first_book v.cluster).slot_out)
 
+    some_in : (requests : List (Command Op)) → In c requests → 0 < length requests
+    some_in [] within = absurd within
+    some_in (d ∷ more) within = omega arith
+
     of_held : Holds (first_book v.cluster) c → In c (history (first_book v.cluster))
-    of_held (in_requests within) = absurd (subst (In c) none within)
+    of_held (in_requests within) = absurd (nothing (inr (some_in (first_book v.cluster).requests within)))
     of_held (in_proposals s there) =
         absurd (new (told_by_proposal laws rules v i 1 s c there (first_book v.cluster).slot_out first
         ((books laws rules v i 1).near s c there).low))

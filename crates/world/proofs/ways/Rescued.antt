@@ -3,9 +3,9 @@
 use Rattle.std.proofs.Common.{◌≡◌, ◌⊎◌, inl, inr, ⊎_elim, ℕ, zero, suc, ◌+◌, ◌<◌, ◌≤◌, ◌==◌, Bool, true, false, not}
 use Rattle.std.proofs.Common.{◌&&◌, ◌||◌, List, [], ◌∷◌, ◌++◌, length, take, None, Some, refl, sym, ap, ◌∙◌, subst}
 use Rattle.std.proofs.Common.{arith}
-use Rattle.std.specs.Prelude.{slice_get, nat_lt, nat_le, if◌then◌else◌}
+use Rattle.std.specs.Prelude.{slice_get, nat_lt}
 use Rattle.std.specs.List.{list_all, list_any}
-use Rattle.std.proofs.lemmas.Bool.{cases_Bool, false≢true}
+use Rattle.std.proofs.lemmas.Bool.{false≢true, or_parts}
 use Rattle.std.proofs.lemmas.Bool.Decides.{nat_tests}
 use Rattle.std.proofs.lemmas.List.{length-take-le, length_push}
 use Rattle.std.proofs.lemmas.Option.{slice_get_within}
@@ -21,32 +21,21 @@ use Rattle.object.specs.declared.command.Act.TheVariants.{Do, Close, Tick}
 use Rattle.object.specs.declared.command.Command.{Command}
 use Rattle.object.specs.declared.command.Key.{Key}
 use Rattle.object.specs.declared.command.Submission.{Submission}
-use Rattle.world.specs.Refusals.{IsAllowed, has_other_act, keeps_acts, refusal}
+use Rattle.world.specs.Refusals.{has_other_act, keeps_acts, refusal}
 use Rattle.agreement.specs.Events.{is_at_member, is_sent}
 use Rattle.agreement.specs.Runs.{most_events, Leads, at_once, after, IsWorld}
 use Rattle.world.specs.Rescues.{IsInOrder, IsLast, HasGreater, Rescues, keeps_nodes}
 use Rattle.agreement.specs.Steps.{Step, IsItsOwn, submit, deliver, wake, nudge, propose, perform, restart}
 use Rattle.agreement.specs.Worlds.{World}
-use Rattle.world.specs.declared.error.WorldError.TheVariants.{NoSuchNode, NoSuchLetter, BadNumber, Full}
 use Rattle.agreement.specs.declared.event.Event.{Event}
+use Rattle.world.proofs.ways.Allowing.{not_refused}
+use Rattle.agreement.proofs.order.Deciding.{any_found, any_from}
 use Rattle.world.proofs.alike.AlikeOrders.{alike_order, alike_refusals}
 use Rattle.world.proofs.alike.AlikeRuns.{alike_runs}
 use Rattle.agreement.proofs.every.Every.{counts}
 
--- what is allowed is not refused
-pub not_refused : {Op Reply : Type 0} (same : Op → Op → Bool) (w : World Op Reply) (e : Event Op) → IsAllowed same w e → refusal same w e ≡ None
-unfolding refusal
-not_refused same w e a =
-    let room = a.room in
-    let full : nat_le most_events w.taken ≡ false = grind (arith, nat_tests) in
-    λ j.
-    if not (a.member j) then Some NoSuchNode
-    else (if not (a.sent j) then Some NoSuchLetter
-    else (if not (a.acts j) then Some BadNumber
-    else (if full j then Some Full else None)))
-
 module _ {Op : Type 0} (same : Op → Op → Bool) (reflexive : (o : Op) → same o o ≡ true) where
-  act_itself : (a : Act Op) → same_acts same a a ≡ true
+  pub act_itself : (a : Act Op) → same_acts same a a ≡ true
   act_itself (Do o) = reflexive o
   act_itself Close = refl
   act_itself Tick = refl
@@ -196,37 +185,11 @@ greater_parts t n s m h = (grind (arith, nat_tests), grind (arith, nat_tests))
 not_greater : (t n s m : ℕ) → (t == s && nat_lt m n) ≡ false → t ≡ s → n ≤ m
 not_greater t n s m h e = grind (arith, nat_tests)
 
-either : (a b : Bool) → (a || b) ≡ true → (a ≡ true) ⊎ (b ≡ true)
-either true b h = inl refl
-either false b h = inr h
-
-neither : (a b : Bool) → (a || b) ≡ false → (a ≡ false) × (b ≡ false)
-neither true b h = absurd (false≢true (sym h))
-neither false b h = (refl, h)
-
--- a test of elements that finds one
-finds_one : {X : Type 0} (test : X → Bool) (xs : List X) → list_any test xs ≡ true → (x : X) × In x xs × (test x ≡ true)
-finds_one test [] h = absurd (false≢true h)
-finds_one test (x ∷ xs) h = ⊎_elim
-    (λ (here : test x ≡ true). (x, inl refl, here))
-    (λ (there : list_any test xs ≡ true). let f = finds_one test xs there in (f.0, inr f.1, f.2))
-    (either (test x) (list_any test xs) h)
-
--- and one that finds none
+-- a test of elements that finds none
 finds_none : {X : Type 0} (test : X → Bool) (xs : List X) → list_any test xs ≡ false → (x : X) → In x xs → test x ≡ false
 finds_none test [] h x i = absurd i
-finds_none test (y ∷ ys) h x (inl e) = ap test e ∙ (neither (test y) (list_any test ys) h).0
-finds_none test (y ∷ ys) h x (inr i) = finds_none test ys (neither (test y) (list_any test ys) h).1 x i
-
--- an element that passes is found
-finds_it : {X : Type 0} (test : X → Bool) (xs : List X) (x : X) → In x xs → test x ≡ true → list_any test xs ≡ true
-finds_it test [] x i h = absurd i
-finds_it test (y ∷ ys) x (inl e) h = ap (λ b. b || list_any test ys) (ap test (sym e) ∙ h)
-finds_it test (y ∷ ys) x (inr i) h = ap (λ b. test y || b) (finds_it test ys x i h) ∙ or_true (test y)
-  where
-    or_true : (b : Bool) → (b || true) ≡ true
-    or_true true = refl
-    or_true false = refl
+finds_none test (y ∷ ys) h x (inl e) = ap test e ∙ (or_parts (test y) (list_any test ys) h).0
+finds_none test (y ∷ ys) h x (inr i) = finds_none test ys (or_parts (test y) (list_any test ys) h).1 x i
 
 module _ {Op : Type 0} (key : Key) where
   -- the submission is of a greater number of the key's session
@@ -238,7 +201,7 @@ module _ {Op : Type 0} (key : Key) where
       → list_any (λ s. s.command.key.session == key.session && nat_lt key.number s.command.key.number) submitted ≡ false
       → IsLast key submitted
   is_last submitted was none =
-      let f = finds_one (λ s. same_key s.command.key key) submitted was in
+      let f = any_found (λ s. same_key s.command.key key) submitted was in
       record {
         command = f.0.command;
         was = (f.0, f.1, refl);
@@ -251,18 +214,11 @@ module _ {Op : Type 0} (key : Key) where
       → list_any (λ s. s.command.key.session == key.session && nat_lt key.number s.command.key.number) submitted ≡ true
       → HasGreater key submitted
   has_greater submitted some =
-      let f = finds_one is_greater submitted some in
+      let f = any_found is_greater submitted some in
       let parts = greater_parts f.0.command.key.session f.0.command.key.number key.session key.number f.2 in
       record { submission = f.0; was = f.1; session = parts.0; greater = parts.1 }
 
-  -- so it is one of the two
-  pub last_or_greater : (submitted : List (Submission Op)) → is_submitted key submitted ≡ true → IsLast key submitted ⊎ HasGreater key submitted
-  last_or_greater submitted was = ⊎_elim
-      (λ (some : list_any is_greater submitted ≡ true). inr (has_greater submitted some))
-      (λ (none : list_any is_greater submitted ≡ false). inl (is_last submitted was none))
-      (cases_Bool (list_any is_greater submitted))
-
-  -- and not both
+  -- a key is not both
   apart : (submitted : List (Submission Op)) → HasGreater key submitted → IsLast key submitted → ⊥
   apart submitted more is =
       let low = is.last more.submission more.was more.session in
@@ -273,7 +229,7 @@ module _ {Op : Type 0} (key : Key) where
   last_submitted : (submitted : List (Submission Op)) → IsLast key submitted → is_submitted key submitted ≡ true
   last_submitted submitted is =
       let own : is.was.0.command.key ≡ key = ap (λ (c : Command Op). c.key) is.was.2 ∙ is.own in
-      finds_it (λ s. same_key s.command.key key) submitted is.was.0 is.was.1 (same_when is.was.0.command.key key own)
+      any_from (λ s. same_key s.command.key key) is.was.0 submitted is.was.1 (same_when is.was.0.command.key key own)
 
   -- a key that was never submitted, or before a greater number of its session, is not the last of its session
   pub not_last : (submitted : List (Submission Op)) → (is_submitted key submitted ≡ false) ⊎ HasGreater key submitted → IsLast key submitted → ⊥

@@ -1,10 +1,9 @@
 -- Where nothing is known of slot_out and nothing is proposed there, the next request is proposed in it.
-use Rattle.std.proofs.Common.{◌≡◌, ⊎_elim, ℕ, ◌+◌, ◌<◌, ◌≤◌, ◌^◌, Bool, List, ◌∷◌, Some, None, refl, ap₂, subst, arith}
+use Rattle.std.proofs.Common.{◌≡◌, ⊎_elim, ℕ, ◌<◌, ◌≤◌, ◌^◌, List, ◌∷◌, Some, None, ap₂, subst, arith}
 use Rattle.std.specs.Prelude.{IsSome}
 use Rattle.std.specs.FinMap.{get}
 use Rattle.std.proofs.lemmas.Bool.{cases_lt, false≢true}
 use Rattle.slot_log.proofs.OpenSlots.{open_at}
-use Rattle.slot_log.specs.Advances.{advanced}
 use Rattle.slot_log.specs.Books.{SlotBook}
 use Rattle.slot_log.specs.Proposals.{first_for, next_proposal, IsLeastOpen}
 use Rattle.agreement.specs.SlotBooks.{IsBookAfter}
@@ -32,7 +31,3 @@ module _ {C : Type 0} (book : SlotBook C) (count : ℕ) (h : IsBookAfter count b
 
   pub next_at_out : book.slot_out ≤ 2 ^ 62 → (c : C) (more : List C) → book.requests ≡ c ∷ more → next_proposal book ≡ Some (book.slot_out, c)
   next_at_out low c more requests = ap₂ first_for requests (open_at book book.slot_out (least_open low))
-
--- a decision that is performed takes slot_out on by one
-pub advanced_out : {C : Type 0} (same : C → C → Bool) (book : SlotBook C) → (advanced same book).slot_out ≡ book.slot_out + 1
-advanced_out same book = refl

@@ -1,7 +1,7 @@
-ghost use Rattle.std.specs.Prelude.{◌≡◌, ◌<◌, ◌≤◌, ◌+◌, ◌*◌, IfErr, OnOk};
-ghost use Rattle.world.specs.declared.error.WorldError.TheVariants.{OutOfMemory};
+ghost use Rattle.std.specs.Prelude.{◌≡◌, ◌<◌, ◌≤◌, ◌+◌, ◌*◌, OnOk};
 ghost use Rattle.agreement.specs.Runs.{most_events};
-ghost use Rattle.world.specs.WaysOut.{IsQuestion, HasAsked, HasScout, questions, IsOver, IsTalk, Goes, is_talk};
+ghost use Rattle.world.specs.WaySteps.{ButForMemory};
+ghost use Rattle.world.specs.WaysOut.{IsQuestion, HasAsked, HasScout, questions, IsOver, HasTalked, Goes, is_talk};
 
 use crate::error::WorldError;
 use crate::way::Way;
@@ -15,9 +15,8 @@ impl<O: Object> Way<O> {
         requires question { IsQuestion self.old.trial place }
         requires room { self.old.trial.taken + 1 < most_events }
         ensures asked { OnOk result (HasAsked O.rules self.old.trial place self.new.trial) }
-        ensures goes { OnOk result (Goes O.rules is_talk self.old.trial self.old.events.items
-            self.new.trial self.new.events.items) }
-        ensures memory { IfErr result (λ r. r ≡ OutOfMemory) }
+        ensures goes { ButForMemory result (Goes O.rules is_talk self.old.trial
+            self.old.events.items self.new.trial self.new.events.items) }
     {
         ballot_laws();
         self.trial.show_reachable();
@@ -32,12 +31,10 @@ impl<O: Object> Way<O> {
         requires room { self.old.trial.taken + 1 + 2 * questions self.old.trial.cluster
             ≤ most_events }
         ensures over { OnOk result (IsOver self.old.trial self.new.trial) }
-        ensures talk { OnOk result (IsTalk self.old.trial self.new.trial) }
+        ensures talked { ButForMemory result (HasTalked O.rules self.old.trial
+            self.old.events.items self.new.trial self.new.events.items) }
         ensures spent { OnOk result (self.new.trial.taken ≡ self.old.trial.taken + 1
             + 2 * questions self.old.trial.cluster) }
-        ensures goes { OnOk result (Goes O.rules is_talk self.old.trial self.old.events.items
-            self.new.trial self.new.events.items) }
-        ensures memory { IfErr result (λ r. r ≡ OutOfMemory) }
     {
         ballot_laws();
         self.trial.show_reachable();

@@ -1,11 +1,10 @@
-ghost use Rattle.std.specs.Prelude.{◌≡◌, ◌⊎◌, ◌<◌, ◌≤◌, ◌^◌, true, false, [], length, IfOk, IfErr, OnOk};
+ghost use Rattle.std.specs.Prelude.{◌≡◌, ◌↔◌, ◌≤◌, ◌^◌, true, IfOk, OnOk};
 ghost use Rattle.object.specs.Lists.{In};
 ghost use Rattle.object.specs.Legal.{WasSubmitted};
 ghost use Rattle.slot_log.specs.Histories.{history};
-ghost use Rattle.world.specs.declared.error.WorldError.TheVariants.{OutOfMemory};
 ghost use Rattle.world.specs.Rescues.{keeps_nodes};
-ghost use Rattle.world.specs.Telling.{IsProposedAt};
-ghost use Rattle.world.specs.WaysOut.{first_book, ArePlacesOf, AreAllRead, Proposes, Decides, Goes};
+ghost use Rattle.world.specs.WaySteps.{ButForMemory};
+ghost use Rattle.world.specs.WaysOut.{first_book, Goes, HasMore, ArePlaces, AreAllRead};
 
 use crate::error::WorldError;
 use crate::letter_places::LetterPlaces;
@@ -24,9 +23,8 @@ impl<O: Object> Way<O> {
             (history (first_book self.new.trial.cluster))) }
         ensures submitted { OnOk result (self.new.trial.happenings.submitted
             ≡ self.old.trial.happenings.submitted) }
-        ensures goes { OnOk result (Goes O.rules keeps_nodes self.old.trial self.old.events.items
-            self.new.trial self.new.events.items) }
-        ensures memory { IfErr result (λ r. r ≡ OutOfMemory) }
+        ensures goes { ButForMemory result (Goes O.rules keeps_nodes self.old.trial
+            self.old.events.items self.new.trial self.new.events.items) }
     {
         ballot_laws();
         self.trial.show_reachable();
@@ -45,19 +43,10 @@ impl<O: Object> Way<O> {
 
     // Whether something is left for replica 1 to perform, or to propose. All letters are read then.
     fn has_more(&self, places: &mut LetterPlaces) -> Result<bool, AllocError>
-        requires proposals { ArePlacesOf Proposes self.now.trial.cluster.letters places.old.read
-            places.old.proposals }
-        requires decisions { ArePlacesOf Decides self.now.trial.cluster.letters places.old.read
-            places.old.decisions }
-        ensures more { IfOk result (λ more. more ≡ true
-            → IsProposedAt self.now.trial.cluster (first_book self.now.trial.cluster).slot_out
-            ⊎ (0 < length (first_book self.now.trial.cluster).requests)) }
-        ensures at_rest { IfOk result (λ more. more ≡ false
-            → IsProposedAt self.now.trial.cluster (first_book self.now.trial.cluster).slot_out → ⊥) }
-        ensures none { IfOk result (λ more. more ≡ false
-            → (first_book self.now.trial.cluster).requests ≡ []) }
-        ensures read { OnOk result (AreAllRead self.now.trial.cluster.letters places.new.read
-            places.new.proposals places.new.decisions) }
+        requires { ArePlaces self.now.trial.cluster.letters places.old.read places.old }
+        ensures more { IfOk result (λ more. (more ≡ true)
+            ↔ HasMore self.now.trial.cluster (first_book self.now.trial.cluster).slot_out) }
+        ensures read { OnOk result (AreAllRead self.now.trial.cluster.letters places.new) }
     {
         self.trial.show_reachable();
         places.read_on(self.trial.letters())?;

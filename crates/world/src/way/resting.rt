@@ -1,7 +1,6 @@
-ghost use Rattle.std.specs.Prelude.{◌≡◌, ◌↔◌, ◌<◌, ◌≤◌, ◌+◌, true, IfErr, OnOk};
-ghost use Rattle.world.specs.declared.error.WorldError.TheVariants.{OutOfMemory};
-ghost use Rattle.agreement.specs.Runs.{most_events};
-ghost use Rattle.world.specs.WaysOut.{IsAtRest, IsSmall, IsTalk, Goes, is_talk, work};
+ghost use Rattle.std.specs.Prelude.{◌≡◌, ◌↔◌, ◌<◌, ◌≤◌, ◌+◌, true, OnOk};
+ghost use Rattle.world.specs.WaySteps.{ButForMemory, HasRoom};
+ghost use Rattle.world.specs.WaysOut.{IsAtRest, IsSmall, HasTalked, work};
 
 use crate::error::WorldError;
 use crate::way::Way;
@@ -12,15 +11,12 @@ use object::Object;
 impl<O: Object> Way<O> {
     // Goes on until the leader of node 1 is active and waits for nothing.
     pub(crate) fn come_to_rest(&mut self) -> Result<(), WorldError>
-        requires small { IsSmall self.old.trial.cluster }
-        requires room { self.old.trial.taken + work self.old.trial.cluster ≤ most_events }
+        requires { HasRoom self.old.trial 0 }
         ensures at_rest { OnOk result (IsAtRest self.new.trial.cluster) }
         ensures spent { OnOk result (self.new.trial.taken + work self.new.trial.cluster
             ≤ self.old.trial.taken + work self.old.trial.cluster) }
-        ensures talk { OnOk result (IsTalk self.old.trial self.new.trial) }
-        ensures goes { OnOk result (Goes O.rules is_talk self.old.trial self.old.events.items
-            self.new.trial self.new.events.items) }
-        ensures memory { IfErr result (λ r. r ≡ OutOfMemory) }
+        ensures talked { ButForMemory result (HasTalked O.rules self.old.trial
+            self.old.events.items self.new.trial self.new.events.items) }
     {
         while !self.is_at_rest() {
             self.turn()?;
@@ -31,16 +27,13 @@ impl<O: Object> Way<O> {
     // The leader of node 1 wakes, and asks for whatever it waits for.
     fn turn(&mut self) -> Result<(), WorldError>
         requires left { IsAtRest self.old.trial.cluster → ⊥ }
-        requires small { IsSmall self.old.trial.cluster }
-        requires room { self.old.trial.taken + work self.old.trial.cluster ≤ most_events }
+        requires room { HasRoom self.old.trial 0 }
         ensures small { OnOk result (IsSmall self.new.trial.cluster) }
         ensures spent { OnOk result (self.new.trial.taken + work self.new.trial.cluster
             ≤ self.old.trial.taken + work self.old.trial.cluster) }
         ensures later { OnOk result (self.old.trial.taken < self.new.trial.taken) }
-        ensures talk { OnOk result (IsTalk self.old.trial self.new.trial) }
-        ensures goes { OnOk result (Goes O.rules is_talk self.old.trial self.old.events.items
-            self.new.trial self.new.events.items) }
-        ensures memory { IfErr result (λ r. r ≡ OutOfMemory) }
+        ensures talked { ButForMemory result (HasTalked O.rules self.old.trial
+            self.old.events.items self.new.trial self.new.events.items) }
     {
         ballot_laws();
         self.trial.show_reachable();

@@ -12,8 +12,7 @@ returns-clause-none g c = where_none c.find_decision.result
     (there : Decides c.args.letters.now place c.args.slot).
     ⊎_elim
     (λ (low : place < c.args.self.now.read).
-    not_found Decides c.args.letters.now c.args.self.now.read c.args.self.now.decisions c.requires c.args.slot None
-    (sym (ap option_copied c.in_default.is) ∙ c.get.ensures) place low there)
+    not_found c.requires.of_decisions c.args.slot None (sym (ap option_copied c.in_default.is) ∙ c.get.ensures) place low there)
     (λ (high : c.args.self.now.read ≤ place). none place high there)
     (cases_lt place c.args.self.now.read))
     c.find_decision.ensures.none

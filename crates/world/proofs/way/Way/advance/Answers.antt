@@ -1,67 +1,43 @@
-use Rattle.std.proofs.Common.{refl, ◌∙◌, subst, arith}
-use Rattle.agreement.specs.declared.event.Event.TheVariants as events
-use Rattle.agreement.proofs.chosen.Reach.{reachable_sound}
-use Rattle.world.specs.Rescues.{keeps_nodes}
-use Rattle.world.specs.WaysOut.{first_book, HasDecided, MentionsAsMuch}
-use Rattle.world.proofs.ways.Allowing.{may_perform, on_both, on_ok}
-use Rattle.world.proofs.ways.Going.{goes_on, one_goes}
-use Rattle.world.proofs.ways.Learning.{decided_next, mentions_then, performs_book, performs_at_rest, performs_spent, performs_submitted}
-use Rattle.world.proofs.rounds.RoundMembers.{first_member}
+use Rattle.std.proofs.Common.{refl, sym, subst, arith}
+use Rattle.world.specs.WaySteps.{IsDueAt}
+use Rattle.world.specs.WaysOut.{first_book, HasDecided, IsPassage}
+use Rattle.world.proofs.rounds.RoundMembers.{has_first}
+use Rattle.world.proofs.ways.Allowing.{may_perform, but_for_memory, where_done}
+use Rattle.world.proofs.ways.Learning.{decided_next, performs}
+use Rattle.world.proofs.ways.Passing.{due_within, passes_on}
 use Rattle.world.proofs.way.Way.advance.Goals as goal
 
-pub take-requires : goal.take-requires
-take-requires g c = let room = c.requires.room in let spent =
-    c.in_ok-learn.ensures.passage.spent in may_perform g.O.Op.PartialEq.eq c.learn.new.self.trial 1
-    (first_member c.learn.new.self.trial.cluster.members c.show_reachable-2.ensures.members) (omega arith)
+pub learn-requires-clause-due : goal.learn-requires-clause-due
+learn-requires-clause-due g c = subst (λ s. IsDueAt c.args.self.now.trial s 19) (sym c.slot_out-slot.ensures) (due_within (omega arith) c.requires.due)
 
-pub returns-clause-at_rest : goal.returns-clause-at_rest
-returns-clause-at_rest g c = let d =
-    decided_next c.args.self.now.trial.cluster _
-    (first_book c.learn.new.self.trial.cluster) c.in_ok-learn.ensures.decided c.slot_out-slot.ensures in on_ok
-    c.take.result c.take.ensures.step
-    (λ step. performs_at_rest c.ballot_laws.ensures g.O.Object.rules c.learn.new.self.trial c.take.new.self.trial
-    (reachable_sound c.ballot_laws.ensures g.O.Object.rules c.learn.new.self.trial
-    c.show_reachable-2.ensures.world.reachable)
-    (first_member c.learn.new.self.trial.cluster.members c.show_reachable-2.ensures.members) d.0 d.1 step
-    c.in_ok-learn.ensures.at_rest)
+pub take-requires : goal.take-requires
+take-requires g c =
+    let room = c.requires.due.room.room in
+    let spent = c.in_ok-learn.ensures.passage.passage.spent in
+    may_perform g.O.Op.PartialEq.eq c.learn.new.self.trial 1
+    (has_first c.ballot_laws.ensures c.show_reachable-2.ensures.world c.show_reachable-2.ensures.members).first (omega arith)
 
 pub returns-clause-advanced : goal.returns-clause-advanced
-returns-clause-advanced g c = let d =
-    decided_next c.args.self.now.trial.cluster _
-    (first_book c.learn.new.self.trial.cluster) c.in_ok-learn.ensures.decided c.slot_out-slot.ensures in on_ok
-    c.take.result c.take.ensures.step (λ step. record {
+returns-clause-advanced g c =
+    let here = has_first c.ballot_laws.ensures c.show_reachable-2.ensures.world c.show_reachable-2.ensures.members in
+    let d = decided_next c.args.self.now.trial.cluster _ (first_book c.learn.new.self.trial.cluster) c.in_ok-learn.ensures.decided c.slot_out-slot.ensures in
+    where_done c.take.result c.take.ensures (λ one. record {
       before = first_book c.learn.new.self.trial.cluster;
       decided = subst (λ s. HasDecided c.args.self.now.trial.cluster s (first_book c.learn.new.self.trial.cluster))
           c.slot_out-slot.ensures c.in_ok-learn.ensures.decided;
-      performed = performs_book c.ballot_laws.ensures g.O.Object.rules c.learn.new.self.trial c.take.new.self.trial
-          (reachable_sound c.ballot_laws.ensures g.O.Object.rules c.learn.new.self.trial
-          c.show_reachable-2.ensures.world.reachable)
-          (first_member c.learn.new.self.trial.cluster.members c.show_reachable-2.ensures.members) d.0 d.1 step;
+      performed = (performs c.ballot_laws.ensures g.O.Object.rules here d.1 one.step).book;
     })
 
 pub returns-clause-passage : goal.returns-clause-passage
 returns-clause-passage g c =
+    let here = has_first c.ballot_laws.ensures c.show_reachable-2.ensures.world c.show_reachable-2.ensures.members in
     let d = decided_next c.args.self.now.trial.cluster _ (first_book c.learn.new.self.trial.cluster) c.in_ok-learn.ensures.decided c.slot_out-slot.ensures in
     let learnt = c.in_ok-learn.ensures.passage in
-    let spent = learnt.spent in
-    on_both c.take.result c.take.ensures.step c.take.ensures.noted (λ step noted. record {
-      spent = let more = performs_spent c.ballot_laws.ensures g.O.Object.rules c.learn.new.self.trial
-          c.take.new.self.trial (reachable_sound c.ballot_laws.ensures g.O.Object.rules c.learn.new.self.trial
-          c.show_reachable-2.ensures.world.reachable)
-          (first_member c.learn.new.self.trial.cluster.members c.show_reachable-2.ensures.members) d.0 d.1 step in omega
-          arith;
-      mentions = subst (λ s. MentionsAsMuch c.args.self.now.trial.cluster s c.take.new.self.trial.cluster) c.slot_out-slot.ensures
-          (mentions_then c.ballot_laws.ensures g.O.Object.rules c.args.self.now.trial c.learn.new.self.trial
-          c.take.new.self.trial _ (events.Perform 1) learnt.mentions
-          (reachable_sound c.ballot_laws.ensures g.O.Object.rules c.learn.new.self.trial
-          c.show_reachable-2.ensures.world.reachable) step refl);
-      submitted = performs_submitted c.ballot_laws.ensures g.O.Object.rules c.learn.new.self.trial c.take.new.self.trial
-          (reachable_sound c.ballot_laws.ensures g.O.Object.rules c.learn.new.self.trial
-          c.show_reachable-2.ensures.world.reachable)
-          (first_member c.learn.new.self.trial.cluster.members c.show_reachable-2.ensures.members) d.0 d.1 step ∙
-          learnt.submitted;
-      goes = goes_on g.O.Object.rules keeps_nodes c.args.self.now.trial c.learn.new.self.trial c.take.new.self.trial
-          c.args.self.now.events.items c.learn.new.self.events.items c.take.new.self.events.items learnt.goes
-          (one_goes g.O.Object.rules keeps_nodes c.learn.new.self.trial c.take.new.self.trial
-          (events.Perform 1) c.learn.new.self.events.items c.take.new.self.events.items step noted refl);
+    but_for_memory c.take.result c.take.ensures (λ one.
+    let now = performs c.ballot_laws.ensures g.O.Object.rules here d.1 one.step in
+    let p = passes_on c.ballot_laws.ensures 1 learnt.passage here.sound one refl refl now.spent now.submitted in
+    record {
+      passage = subst (λ s. IsPassage g.O.Object.rules s 20 c.args.self.now.trial c.args.self.now.events.items
+          c.take.new.self.trial c.take.new.self.events.items) c.slot_out-slot.ensures p;
+      at_rest = now.at_rest learnt.at_rest;
     })

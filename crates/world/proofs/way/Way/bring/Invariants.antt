@@ -1,14 +1,13 @@
 use Rattle.std.proofs.Common.{◌+◌}
 use Rattle.world.specs.Rescues.{keeps_nodes}
-use Rattle.world.specs.WaysOut.{first_book, ArePlacesOf, Proposes, Decides, Goes}
+use Rattle.world.specs.WaysOut.{first_book, ArePlaces, Goes}
 use Rattle.world.proofs.ways.Bringing.{IsBringing, left}
 use Rattle.world.proofs.way.Way.bring.Given as goal
 
 abbrev pub invariant-loop-places : goal.invariant-loop-places
 invariant-loop-places g l = record {
   bringing : IsBringing l.fn.self.trial l.self.trial (l.fn.self.trial.reach + 64) l.command;
-  proposals : ArePlacesOf Proposes l.self.trial.cluster.letters l.places.read l.places.proposals;
-  decisions : ArePlacesOf Decides l.self.trial.cluster.letters l.places.read l.places.decisions;
+  read : ArePlaces l.self.trial.cluster.letters l.places.read l.places;
   goes : Goes g.O.Object.rules keeps_nodes l.fn.self.trial l.fn.self.events.items l.self.trial l.self.events.items;
 }
 

@@ -1,82 +1,60 @@
-use Rattle.std.proofs.Common.{refl, sym, ◌∙◌, subst, arith}
-use Rattle.agreement.specs.declared.event.Event.TheVariants as events
-use Rattle.agreement.proofs.chosen.Reach.{reachable_sound}
-use Rattle.world.specs.Rescues.{keeps_nodes}
-use Rattle.world.specs.WaysOut.{first_book, Decides, ArePlacesOf}
-use Rattle.world.proofs.ways.Allowing.{may_deliver, on_both, on_ok}
-use Rattle.world.proofs.ways.Going.{goes_on, one_goes}
-use Rattle.world.proofs.ways.Learning.{decides_sent, ready_unknown, decision_there, mentions_then, learns_book, learns_at_rest, learns_spent, learns_submitted}
-use Rattle.world.proofs.ways.Finding.{decisions_further}
+use Rattle.std.proofs.Common.{refl, sym, subst, arith}
+use Rattle.world.specs.WaysOut.{first_book, ArePlaces, Decides}
+use Rattle.world.proofs.rounds.RoundMembers.{has_first}
+use Rattle.world.proofs.ways.Allowing.{may_deliver, but_for_memory, where_done}
+use Rattle.world.proofs.ways.Finding.{places_further}
+use Rattle.world.proofs.ways.Learning.{ready_unknown, decision_there, learns}
 use Rattle.world.proofs.ways.Lengthening.{leads_letters}
-use Rattle.world.proofs.rounds.RoundMembers.{first_member}
+use Rattle.world.proofs.ways.LetterTests.{is_sent}
+use Rattle.world.proofs.ways.Passing.{due_within, passes_on}
 use Rattle.world.proofs.way.Way.decide.Goals as goal
 
+pub lead-requires-clause-undecided : goal.lead-requires-clause-undecided
+lead-requires-clause-undecided g c =
+    record { due = due_within (omega arith) c.requires.undecided.due; unknown = c.requires.undecided.unknown }
+
 pub take-requires : goal.take-requires
-take-requires g c = let room = c.requires.room in let spent =
-    c.in_ok-lead.ensures.passage.spent in may_deliver g.O.Op.PartialEq.eq c.lead.new.self.trial c.in-Some.place
-    (decides_sent c.lead.new.self.trial.cluster.letters c.in-Some.place c.args.slot
-    (subst (λ ls. Decides ls c.in-Some.place c.args.slot) c.letters.ensures c.in-Some.ensures.some)) (omega arith)
+take-requires g c =
+    let room = c.requires.undecided.due.room.room in
+    let spent = c.in_ok-lead.ensures.passage.passage.spent in
+    may_deliver g.O.Op.PartialEq.eq c.lead.new.self.trial c.in-Some.place
+    (is_sent (subst (λ ls. Decides ls c.in-Some.place c.args.slot) c.letters.ensures c.in-Some.ensures.some)) (omega arith)
 
 pub unreachable-requires : goal.unreachable-requires
-unreachable-requires g c = let d =
-    decision_there c.ballot_laws.ensures g.O.Object.rules c.lead.new.self.trial c.show_reachable.ensures.world
-    (first_member c.lead.new.self.trial.cluster.members c.show_reachable.ensures.members) c.in_ok-lead.ensures.at_rest
-    c.args.slot c.in_ok-lead.ensures.led in c.in-None.ensures.none d.0
-    (subst (λ ls. Decides ls d.0 c.args.slot) (sym c.letters.ensures) d.1)
-
-pub returns-clause-at_rest : goal.returns-clause-at_rest
-returns-clause-at_rest g c = on_ok c.take.result c.take.ensures.step
-    (λ step. learns_at_rest c.ballot_laws.ensures g.O.Object.rules c.lead.new.self.trial c.take.new.self.trial
-    (reachable_sound c.ballot_laws.ensures g.O.Object.rules c.lead.new.self.trial
-    c.show_reachable.ensures.world.reachable)
-    (first_member c.lead.new.self.trial.cluster.members c.show_reachable.ensures.members) c.in-Some.place c.args.slot
-    (subst (λ ls. Decides ls c.in-Some.place c.args.slot) c.letters.ensures c.in-Some.ensures.some) step
-    c.in_ok-lead.ensures.at_rest)
+unreachable-requires g c =
+    let here = has_first c.ballot_laws.ensures c.show_reachable.ensures.world c.show_reachable.ensures.members in
+    let d = decision_there c.ballot_laws.ensures g.O.Object.rules c.show_reachable.ensures.world here.first
+    c.in_ok-lead.ensures.passage.at_rest c.args.slot c.in_ok-lead.ensures.proposal.led in
+    c.in-None.ensures.none d.0 (subst (λ ls. Decides ls d.0 c.args.slot) (sym c.letters.ensures) d.1)
 
 pub returns-clause-learnt : goal.returns-clause-learnt
-returns-clause-learnt g c = on_ok c.take.result c.take.ensures.step (λ step. record {
-  before = first_book c.lead.new.self.trial.cluster;
-  command = (subst (λ ls. Decides ls c.in-Some.place c.args.slot) c.letters.ensures c.in-Some.ensures.some).command;
-  ready = c.in_ok-lead.ensures.ready;
-  unknown = ready_unknown c.args.self.now.trial.cluster c.args.slot (first_book c.lead.new.self.trial.cluster) c.in_ok-lead.ensures.ready c.requires.unknown;
-  learns = learns_book c.ballot_laws.ensures g.O.Object.rules c.lead.new.self.trial c.take.new.self.trial
-      (reachable_sound c.ballot_laws.ensures g.O.Object.rules c.lead.new.self.trial
-      c.show_reachable.ensures.world.reachable)
-      (first_member c.lead.new.self.trial.cluster.members c.show_reachable.ensures.members) c.in-Some.place c.args.slot
-      (subst (λ ls. Decides ls c.in-Some.place c.args.slot) c.letters.ensures c.in-Some.ensures.some) step;
-})
+returns-clause-learnt g c =
+    let here = has_first c.ballot_laws.ensures c.show_reachable.ensures.world c.show_reachable.ensures.members in
+    let decision = subst (λ ls. Decides ls c.in-Some.place c.args.slot) c.letters.ensures c.in-Some.ensures.some in
+    let ready = c.in_ok-lead.ensures.proposal.ready in
+    where_done c.take.result c.take.ensures (λ one. record {
+      before = first_book c.lead.new.self.trial.cluster;
+      command = decision.command;
+      ready = ready;
+      unknown = ready_unknown c.args.self.now.trial.cluster c.args.slot (first_book c.lead.new.self.trial.cluster) ready c.requires.undecided.unknown;
+      learns = (learns c.ballot_laws.ensures g.O.Object.rules here decision one.step).book;
+    })
 
 pub returns-clause-passage : goal.returns-clause-passage
 returns-clause-passage g c =
+    let here = has_first c.ballot_laws.ensures c.show_reachable.ensures.world c.show_reachable.ensures.members in
+    let decision = subst (λ ls. Decides ls c.in-Some.place c.args.slot) c.letters.ensures c.in-Some.ensures.some in
     let led = c.in_ok-lead.ensures.passage in
-    let spent = led.spent in
-    on_both c.take.result c.take.ensures.step c.take.ensures.noted (λ step noted. record {
-      spent = let more = learns_spent c.ballot_laws.ensures g.O.Object.rules c.lead.new.self.trial c.take.new.self.trial
-          (reachable_sound c.ballot_laws.ensures g.O.Object.rules c.lead.new.self.trial
-          c.show_reachable.ensures.world.reachable)
-          (first_member c.lead.new.self.trial.cluster.members c.show_reachable.ensures.members) c.in-Some.place
-          c.args.slot (subst (λ ls. Decides ls c.in-Some.place c.args.slot) c.letters.ensures c.in-Some.ensures.some)
-          step in omega arith;
-      mentions = mentions_then c.ballot_laws.ensures g.O.Object.rules c.args.self.now.trial c.lead.new.self.trial
-          c.take.new.self.trial c.args.slot (events.Deliver c.in-Some.place) led.mentions
-          (reachable_sound c.ballot_laws.ensures g.O.Object.rules c.lead.new.self.trial
-          c.show_reachable.ensures.world.reachable) step refl;
-      submitted = learns_submitted c.ballot_laws.ensures g.O.Object.rules c.lead.new.self.trial c.take.new.self.trial
-          (reachable_sound c.ballot_laws.ensures g.O.Object.rules c.lead.new.self.trial
-          c.show_reachable.ensures.world.reachable)
-          (first_member c.lead.new.self.trial.cluster.members c.show_reachable.ensures.members) c.in-Some.place
-          c.args.slot (subst (λ ls. Decides ls c.in-Some.place c.args.slot) c.letters.ensures c.in-Some.ensures.some)
-          step ∙ led.submitted;
-      goes = goes_on g.O.Object.rules keeps_nodes c.args.self.now.trial c.lead.new.self.trial c.take.new.self.trial
-          c.args.self.now.events.items c.lead.new.self.events.items c.take.new.self.events.items led.goes
-          (one_goes g.O.Object.rules keeps_nodes c.lead.new.self.trial c.take.new.self.trial
-          (events.Deliver c.in-Some.place) c.lead.new.self.events.items c.take.new.self.events.items step noted
-          refl);
+    but_for_memory c.take.result c.take.ensures (λ one.
+    let now = learns c.ballot_laws.ensures g.O.Object.rules here decision one.step in
+    record {
+      passage = passes_on c.ballot_laws.ensures 1 led.passage here.sound one refl refl now.spent now.submitted;
+      at_rest = now.at_rest led.at_rest;
     })
 
 pub decision_for-requires : goal.decision_for-requires
-decision_for-requires g c = subst (λ ls. ArePlacesOf Decides ls c.args.places.now.read c.args.places.now.decisions) (sym c.letters.ensures)
-    (decisions_further c.args.self.now.trial.cluster.letters c.lead.new.self.trial.cluster.letters
-    (leads_letters g.O.Object.rules c.args.self.now.trial c.lead.new.self.trial
-    c.in_ok-lead.ensures.passage.goes.events c.in_ok-lead.ensures.passage.goes.led)
-    c.args.places.now.read c.args.places.now.decisions (let all = c.requires.read.all in omega arith) c.requires.read.of_decisions)
+decision_for-requires g c =
+    let led = c.in_ok-lead.ensures.passage.passage.goes in
+    subst (λ ls. ArePlaces ls c.args.places.now.read c.args.places.now) (sym c.letters.ensures)
+    (places_further (leads_letters g.O.Object.rules c.args.self.now.trial c.lead.new.self.trial led.events led.led)
+    (let all = c.requires.read.all in omega arith) c.requires.read.found)

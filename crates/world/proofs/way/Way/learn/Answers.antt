@@ -1,9 +1,8 @@
-use Rattle.std.proofs.Common.{refl, sym, ◌∙◌, arith}
+use Rattle.std.proofs.Common.{refl, sym, ◌∙◌}
 use Rattle.std.specs.FinMap.{get}
-use Rattle.world.specs.Rescues.{keeps_nodes}
+use Rattle.leader.proofs.Outcomes.{some_there}
 use Rattle.world.specs.WaysOut.{first_book, knew}
-use Rattle.world.proofs.ways.Going.{stays_there}
-use Rattle.world.proofs.ways.Learning.{some_there}
+use Rattle.world.proofs.ways.Passing.{passage_itself}
 use Rattle.world.proofs.way.Way.learn.Goals as goal
 
 pub returns-then-knows-clause-decided : goal.returns-then-knows-clause-decided
@@ -12,9 +11,5 @@ returns-then-knows-clause-decided g c =
     knew d.0 d.1 refl
 
 pub returns-then-knows-clause-passage : goal.returns-then-knows-clause-passage
-returns-then-knows-clause-passage g c = record {
-  spent = omega arith;
-  mentions = λ test own all. all;
-  submitted = refl;
-  goes = stays_there g.O.Object.rules keeps_nodes c.args.self.now.trial c.args.self.now.events.items;
-}
+returns-then-knows-clause-passage g c =
+    record { passage = passage_itself _ _ c.args.self.now.trial c.args.self.now.events.items; at_rest = c.requires.due.at_rest }

@@ -1,17 +1,16 @@
 use Rattle.std.proofs.Common.{refl, sym, ◌∙◌, subst}
-use Rattle.agreement.specs.Agreements.{StaysChosen}
-use Rattle.agreement.specs.OneOrder.{GoesOnFrom}
+use Rattle.std.proofs.lemmas.Bool.{ltb-true}
+use Rattle.world.specs.Agreed.{Continues}
 use Rattle.world.specs.Quiet.{BringsNothing}
 use Rattle.world.specs.Refusals.{IsAllowed}
-use Rattle.world.proofs.steps.Acting.{at_member, asks_own, sent_when, ok_of, err_of, not_err}
-use Rattle.agreement.proofs.every.Events.{stays_chosen, later_step, later_same}
-use Rattle.world.proofs.steps.Events.{allowed}
+use Rattle.world.proofs.steps.Acting.{at_member, asks_own, ok_of, err_of, not_err}
+use Rattle.world.proofs.steps.Events.{allowed, continues_by, continues_itself}
 use Rattle.world.proofs.steps.Idle.{nothing_to_do}
 use Rattle.world.proofs.world.World.step.Goals.{in-Act, in-Deliver}
 use Rattle.world.proofs.world.World.step.Goals as goal
 
-pub returns-in-Some-clause-later : goal.returns-in-Some-clause-later
-returns-in-Some-clause-later g c = later_same c.ballot_laws.ensures g.O.Object.rules _ _ c.self.view_is c.self.invariant.world _ refl
+pub returns-in-Some-clause-continues : goal.returns-in-Some-clause-continues
+returns-in-Some-clause-continues g c = continues_itself c.ballot_laws.ensures g.O.Object.rules _ _ c.self.view_is c.self.invariant.world _ refl
 
 pub act-taken-requires-clause-member : goal.act-taken-requires-clause-member
 act-taken-requires-clause-member g c =
@@ -32,7 +31,7 @@ act-taken-requires-clause-room g c =
 
 pub deliver-taken-requires-clause-sent : goal.deliver-taken-requires-clause-sent
 deliver-taken-requires-clause-sent g c =
-    sent_when _ _ (subst (IsAllowed g.O.Op.PartialEq.eq c.args.self.now) (sym c.in-Deliver.ensures)
+    ltb-true _ _ (subst (IsAllowed g.O.Op.PartialEq.eq c.args.self.now) (sym c.in-Deliver.ensures)
     (allowed g.O.Op.PartialEq.eq c.args.self.now c.args.event (sym c.refusal.ensures ∙ c.in-None.is))).sent
 
 pub deliver-taken-requires-clause-room : goal.deliver-taken-requires-clause-room
@@ -40,44 +39,24 @@ deliver-taken-requires-clause-room g c =
     (subst (IsAllowed g.O.Op.PartialEq.eq c.args.self.now) (sym c.in-Deliver.ensures)
     (allowed g.O.Op.PartialEq.eq c.args.self.now c.args.event (sym c.refusal.ensures ∙ c.in-None.is))).room
 
-pub returns-in_err-taken-clause-later : goal.returns-in_err-taken-clause-later
-returns-in_err-taken-clause-later g c =
+pub returns-in_err-taken-clause-continues : goal.returns-in_err-taken-clause-continues
+returns-in_err-taken-clause-continues g c =
     elim c.match-task_of.branch [
-      | in-Act w ↦ later_same c.ballot_laws.ensures g.O.Object.rules _ _ c.self.view_is c.self.invariant.world _
+      | in-Act w ↦ continues_itself c.ballot_laws.ensures g.O.Object.rules _ _ c.self.view_is c.self.invariant.world _
           (w.self-is ∙ err_of _ _ _ w.taken-is c.in_err-taken.was w.act-taken.ensures.err)
-      | in-Deliver w ↦ later_same c.ballot_laws.ensures g.O.Object.rules _ _ c.self.view_is c.self.invariant.world _
+      | in-Deliver w ↦ continues_itself c.ballot_laws.ensures g.O.Object.rules _ _ c.self.view_is c.self.invariant.world _
           (w.self-is ∙ err_of _ _ _ w.taken-is c.in_err-taken.was w.deliver-taken.ensures.err)
     ]
 
-pub returns-clause-later : goal.returns-clause-later
-returns-clause-later g c =
+pub returns-clause-continues : goal.returns-clause-continues
+returns-clause-continues g c =
     elim c.match-task_of.branch [
-      | in-Act w ↦ subst (λ u. GoesOnFrom c.args.self.now u) (sym w.self-is)
-          (later_step c.ballot_laws.ensures g.O.Object.rules _ _ c.self.view_is c.self.invariant.world _ _
+      | in-Act w ↦ subst (Continues c.args.self.now) (sym w.self-is)
+          (continues_by c.ballot_laws.ensures g.O.Object.rules _ _ c.self.view_is c.self.invariant.world _ _
           (ok_of _ _ _ w.taken-is c.in_ok-taken.was w.act-taken.ensures.ok))
-      | in-Deliver w ↦ subst (λ u. GoesOnFrom c.args.self.now u) (sym w.self-is)
-          (later_step c.ballot_laws.ensures g.O.Object.rules _ _ c.self.view_is c.self.invariant.world _ _
+      | in-Deliver w ↦ subst (Continues c.args.self.now) (sym w.self-is)
+          (continues_by c.ballot_laws.ensures g.O.Object.rules _ _ c.self.view_is c.self.invariant.world _ _
           (ok_of _ _ _ w.taken-is c.in_ok-taken.was w.deliver-taken.ensures.ok))
-    ]
-
-pub returns-clause-stays : goal.returns-clause-stays
-returns-clause-stays g c =
-    elim c.match-task_of.branch [
-      | in-Act w ↦ subst (λ u. StaysChosen c.args.self.now.cluster u.cluster) (sym w.self-is)
-          (stays_chosen c.ballot_laws.ensures g.O.Object.rules _ _ c.self.view_is c.self.invariant.world _ _
-          (ok_of _ _ _ w.taken-is c.in_ok-taken.was w.act-taken.ensures.ok))
-      | in-Deliver w ↦ subst (λ u. StaysChosen c.args.self.now.cluster u.cluster) (sym w.self-is)
-          (stays_chosen c.ballot_laws.ensures g.O.Object.rules _ _ c.self.view_is c.self.invariant.world _ _
-          (ok_of _ _ _ w.taken-is c.in_ok-taken.was w.deliver-taken.ensures.ok))
-    ]
-
-pub returns-in_err-taken-clause-stays : goal.returns-in_err-taken-clause-stays
-returns-in_err-taken-clause-stays g c =
-    elim c.match-task_of.branch [
-      | in-Act w ↦ subst (λ u. StaysChosen c.args.self.now.cluster u.cluster)
-          (sym (w.self-is ∙ err_of _ _ _ w.taken-is c.in_err-taken.was w.act-taken.ensures.err)) (λ s x h. h)
-      | in-Deliver w ↦ subst (λ u. StaysChosen c.args.self.now.cluster u.cluster)
-          (sym (w.self-is ∙ err_of _ _ _ w.taken-is c.in_err-taken.was w.deliver-taken.ensures.err)) (λ s x h. h)
     ]
 
 pub returns-in_err-taken-clause-idle : goal.returns-in_err-taken-clause-idle

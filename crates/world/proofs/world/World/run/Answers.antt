@@ -3,7 +3,7 @@ use Rattle.agreement.specs.OneOrder.{GoesOnFrom}
 use Rattle.agreement.specs.Runs.{at_once}
 use Rattle.agreement.proofs.every.Events.{later_by}
 use Rattle.world.proofs.steps.Events.{run_more, refused_at}
-use Rattle.world.proofs.world.World.take_all.Goals as goal
+use Rattle.world.proofs.world.World.run.Goals as goal
 
 pub loop-index-init : goal.loop-index-init
 loop-index-init g c = record { led = at_once; stays = λ s x h. h }
@@ -19,18 +19,20 @@ loop-index-preserved g c = record {
   led = run_more g.O.Object.rules c.args.self.now c.loop-index.self c.take_copy.new.self c.args.events.now
       c.loop-index.index c.index-events-index.result c.loop-index-test.true c.index-events-index.is
       c.loop-index.invariant.led c.in_default.ensures.ok;
-  stays = λ s x h. c.in_default.ensures.stays s x (c.loop-index.invariant.stays s x h);
+  stays = λ s x h. c.in_default.ensures.continues.stays s x (c.loop-index.invariant.stays s x h);
 }
 
-pub returns-in-Err-clause-later : goal.returns-in-Err-clause-later
-returns-in-Err-clause-later g c =
-    subst (GoesOnFrom c.args.self.now) (sym c.in-Err.ensures.err)
-    (later_by c.ballot_laws.ensures g.O.Object.rules _ _ c.self.view_is c.self.invariant.world
-    (take c.loop-index.index c.args.events.now) c.loop-index.self c.loop-index.invariant.led)
+pub returns-in-Err-clause-continues : goal.returns-in-Err-clause-continues
+returns-in-Err-clause-continues g c = record {
+  stays = λ s x h. c.in-Err.ensures.continues.stays s x (c.loop-index.invariant.stays s x h);
+  later = subst (GoesOnFrom c.args.self.now) (sym c.in-Err.ensures.err)
+      (later_by c.ballot_laws.ensures g.O.Object.rules _ _ c.self.view_is c.self.invariant.world
+      (take c.loop-index.index c.args.events.now) c.loop-index.self c.loop-index.invariant.led);
+}
 
-pub returns-clause-later : goal.returns-clause-later
-returns-clause-later g c = later_by c.ballot_laws.ensures g.O.Object.rules _ _ c.self.view_is c.self.invariant.world
-    (take c.loop-index.index c.args.events.now) c.loop-index.self c.loop-index.invariant.led
-
-pub returns-in-Err-clause-stays : goal.returns-in-Err-clause-stays
-returns-in-Err-clause-stays g c = λ s x h. c.in-Err.ensures.stays s x (c.loop-index.invariant.stays s x h)
+pub returns-clause-continues : goal.returns-clause-continues
+returns-clause-continues g c = record {
+  stays = c.loop-index.invariant.stays;
+  later = later_by c.ballot_laws.ensures g.O.Object.rules _ _ c.self.view_is c.self.invariant.world
+      (take c.loop-index.index c.args.events.now) c.loop-index.self c.loop-index.invariant.led;
+}

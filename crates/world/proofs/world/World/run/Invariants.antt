@@ -1,7 +1,7 @@
 use Rattle.std.proofs.Common.{take}
 use Rattle.agreement.specs.Runs.{Leads}
 use Rattle.agreement.specs.Agreements.{StaysChosen}
-use Rattle.world.proofs.world.World.take_all.Given as goal
+use Rattle.world.proofs.world.World.run.Given as goal
 
 abbrev pub invariant-loop-index : goal.invariant-loop-index
 invariant-loop-index g l = record {
