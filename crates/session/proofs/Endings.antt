@@ -22,7 +22,7 @@ use Rattle.session.proofs.Items.{reads_one, operations-append, told_text-append}
 use Rattle.session.proofs.Going.{Going, asked_length, asked_one, goes_at_first, goes_finding, goes_reading, goes_sending, runs_short, breaks_off}
 
 -- no item is left
-reads_to_end : (t : List ℕ) (items : List Item) (rest : List ℕ) → ReadsFirst t items rest → BeginsWithNone rest → Reads t items End.Eof
+pub reads_to_end : (t : List ℕ) (items : List Item) (rest : List ℕ) → ReadsFirst t items rest → BeginsWithNone rest → Reads t items End.Eof
 reads_to_end t [] rest r none = (subst BeginsWithNone (sym r) none, refl)
 reads_to_end t (i ∷ items) rest r none = (
   r.0,
@@ -34,7 +34,7 @@ reads_to_end t (i ∷ items) rest r none = (
 )
 
 -- a quit is next
-reads_to_quit : (t : List ℕ) (items : List Item) (rest front more : List ℕ) → ReadsFirst t items rest
+pub reads_to_quit : (t : List ℕ) (items : List Item) (rest front more : List ℕ) → ReadsFirst t items rest
     → rest ≡ front ++ more → Spells front (Ok Quit) → Reads t (items ++ Ok Quit ∷ []) End.Quit
 reads_to_quit t [] rest front more r cut spelled = (front, more, r ∙ cut, spelled, (refl, refl))
 reads_to_quit t (i ∷ items) rest front more r cut spelled = (
