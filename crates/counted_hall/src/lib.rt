@@ -5,9 +5,11 @@
 mod comparing;
 mod counted;
 mod mishap;
+mod seconds;
 mod turn;
 
 pub use comparing::are_its_tickets;
 pub use counted::CountedHall;
 pub use mishap::Mishap;
+pub use seconds::Seconds;
 pub use turn::Watch;

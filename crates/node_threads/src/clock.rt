@@ -1,15 +1,10 @@
 use crate::gate::{Actor, Gate, Point};
 use crate::shared::Shared;
+use counted_hall::Seconds;
 use object::Object;
 use std::rt::Clock;
 use std::sync::Wait;
 use std::sync::ledger::Ledger;
-
-/// Where the seconds of a clock come from.
-pub trait Seconds {
-    /// Waits for the next second; none at its end. Seconds rise, from 1 to 2^40.
-    fn next(&mut self) -> Option<u64>;
-}
 
 /// What the thread of the clock does: it hands in each second, at one node after the other, until all is over. Between two
 /// seconds that come in a row it gives each node a turn.

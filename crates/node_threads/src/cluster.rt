@@ -5,7 +5,6 @@ ghost use Rattle.node_threads.specs.Clusters.{IsAccountedFor, IsWorkerCount, Lea
 ghost use Rattle.counted_hall.specs.Counting.{CountsNone, HaveAllParts};
 
 use crate::accept::Accept;
-use crate::clock::Seconds;
 use crate::cluster_error::ClusterError;
 use crate::faults::{Faults, NoFaults};
 use crate::gate::Gate;
@@ -15,7 +14,7 @@ use crate::shared::Shared;
 use crate::staff::{Common, Door, Finished, run_threads};
 use crate::tally::Tally;
 use bean_queue::{Op, Reply};
-use counted_hall::are_its_tickets;
+use counted_hall::{Seconds, are_its_tickets};
 use crossbeam_channel::{Receiver, Sender};
 use hall::{Hall, Ticket};
 use object::Object;

@@ -23,10 +23,9 @@ mod worker;
 
 pub use accept::Accept;
 pub use attending::{Attended, Desk, attend};
-pub use clock::Seconds;
 pub use cluster::{Ended, run_cluster, run_cluster_faulty};
 pub use cluster_error::ClusterError;
-pub use counted_hall::Mishap;
+pub use counted_hall::{Mishap, Seconds};
 pub use faults::Faults;
 pub use gate::{Actor, Gate, Point};
 pub use shared::Shared;

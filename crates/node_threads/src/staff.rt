@@ -5,7 +5,7 @@ ghost use Rattle.node_threads.specs.declared.cluster_error.ClusterError.TheVaria
 
 use crate::accept::Accept;
 use crate::attending::Desk;
-use crate::clock::{Seconds, run_clock};
+use crate::clock::run_clock;
 use crate::cluster_error::ClusterError;
 use crate::faults::Faults;
 use crate::gate::Gate;
@@ -14,6 +14,7 @@ use crate::shared::Shared;
 use crate::tally::Tally;
 use crate::worker::Worker;
 use bean_queue::{Op, Reply};
+use counted_hall::Seconds;
 use crossbeam_channel::{Receiver, Sender};
 use object::Object;
 use session::{ByteIn, ByteOut, Failed};
