@@ -1,0 +1,10 @@
+use Rattle.std.proofs.Common.{rules}
+use Rattle.conversation.specs.Desks.{HandsIn}
+use Rattle.conversation.proofs.Handing.{goes_handing_in}
+use Rattle.conversation.proofs.conversation.Conversation.hand_in.Goals as goal
+
+pub returns-in-Found-clause-goes : goal.returns-in-Found-clause-goes
+returns-in-Found-clause-goes g c = λ fed given.
+    let handed_in : HandsIn g.D.Desk.submits c.args.desk.now c.hand_in_op.new.desk c.args.self.now c.hand_in_op.new.self c.hand_in_op.result =
+    search rules in
+    goes_handing_in fed given c.args.self.now c.hand_in_op.new.self g.D.Desk.submits c.args.desk.now c.hand_in_op.new.desk c.hand_in_op.result handed_in

@@ -1,0 +1,98 @@
+-- What a client was told for what it was fed, and what its session handed in, wherever its conversation stands.
+use Rattle.std.specs.Prelude.{◌≡◌, ◌⊎◌, ℕ, List, [], ◌∷◌, ◌++◌, length, Option, None, Some, Ok}
+use Rattle.std.specs.List.{filter_map}
+use Rattle.object.specs.declared.command.Act.TheVariants.{Do, Close}
+use Rattle.bean_queue.specs.declared.op.Op.{Op}
+use Rattle.bean_queue.specs.declared.reply.Reply.{Reply}
+use Rattle.bean_codec.specs.declared.request.Request.{Request}
+use Rattle.bean_codec.specs.Grammar.{Item, Spells}
+use Rattle.session.specs.declared.faults.End.{End}
+use Rattle.session.specs.Items.{Response, Reads, ReadsFirst, operations, told_text}
+use Rattle.session.specs.Items.Response.{Replied, Refused}
+use Rattle.session.specs.Held.{Held, StandsBefore, ComesTo}
+use Rattle.hall.specs.declared.ticket.NotedAct.{NotedAct}
+use Rattle.conversation.specs.declared.stage.Stage.{Stage}
+use Rattle.conversation.specs.declared.stage.Stage.TheVariants.{Looking, Reading, Found, Asked, Leaving, Left}
+use Rattle.conversation.specs.Talks.{ConversationState}
+
+-- an act of a ticket: an operation, and the reply that was noted for it, if any
+abbrev pub noted_op : Op → Option Reply → NotedAct Op Reply
+noted_op op reply = record { act = Do op; reply = reply }
+
+-- and the session's end
+abbrev pub noted_close : NotedAct Op Reply
+noted_close = record { act = Close; reply = None }
+
+-- what a ticket has of these operations with these answers: each that was replied to, with its reply, and none that was refused
+abbrev pub acts_of : List Op → List Response → List (NotedAct Op Reply)
+acts_of [] answers = []
+acts_of (op ∷ ops) [] = []
+acts_of (op ∷ ops) (Replied reply ∷ answers) = noted_op op (Some reply) ∷ acts_of ops answers
+acts_of (op ∷ ops) (Refused ∷ answers) = acts_of ops answers
+
+-- Each operation among the items has its answer; the ticket has these acts of them; and this is told.
+pub record HasAnswered (items : List Item) (answers : List Response) (acts : List (NotedAct Op Reply)) (told : List ℕ) : Type 0 where
+  pub each : length answers ≡ length (operations items)
+  pub noted : acts ≡ acts_of (operations items) answers
+  pub text : told ≡ told_text items answers
+
+-- All items of what was fed are answered, up to this end.
+pub record ToldWhole (fed : List ℕ) (acts : List (NotedAct Op Reply)) (told : List ℕ) (end : End) : Type 0 where
+  pub items : List Item
+  pub answers : List Response
+  pub reads : Reads fed items end
+  pub answered : HasAnswered items answers acts told
+
+-- Some first items of what was fed are answered, and what is left of it is so.
+pub record Along (fed : List ℕ) (acts : List (NotedAct Op Reply)) (told : List ℕ) (IsLeft : List ℕ → Type 0) : Type 0 where
+  pub items : List Item
+  pub answers : List Response
+  pub rest : List ℕ
+  pub reads : ReadsFirst fed items rest
+  pub answered : HasAnswered items answers acts told
+  pub left : IsLeft rest
+
+-- All but the last act are of some first items, which are answered; that one is the next operation, and its answer isn't told.
+pub record Pending (fed : List ℕ) (acts : List (NotedAct Op Reply)) (told : List ℕ) (IsLeft : Op → List ℕ → Type 0) : Type 0 where
+  pub before : List (NotedAct Op Reply)
+  pub op : Op
+  pub reply : Option Reply
+  pub handed_in : acts ≡ before ++ noted_op op reply ∷ []
+  pub along : Along fed before told (IsLeft op)
+
+-- the text begins with this operation
+abbrev pub BeginsWithOp : Op → List ℕ → Type 0
+BeginsWithOp op text = (front rest : List ℕ) × (text ≡ front ++ rest) × Spells front (Ok (Request.Do op))
+
+-- the client left so: at this end; or it went away (None), and at most one operation was handed in beyond what is told
+abbrev pub EndsSo : Option End → List ℕ → List (NotedAct Op Reply) → List ℕ → Type 0
+EndsSo (Some end) fed acts told = ToldWhole fed acts told end
+EndsSo None fed acts told = Along fed acts told (λ rest. Unit {0}) ⊎ Pending fed acts told BeginsWithOp
+
+-- by where it stands: what its session holds, what was fed, the acts of its ticket, and what was told or is yet to be
+abbrev pub Stands : Stage → Held → List ℕ → List (NotedAct Op Reply) → List ℕ → Type 0
+Stands Looking session fed acts told = Along fed acts told (StandsBefore session)
+Stands Reading session fed acts told = Along fed acts told (ComesTo None session)
+Stands (Found op) session fed acts told = Along fed acts told (ComesTo (Some (Request.Do op)) session)
+Stands Asked session fed acts told = Pending fed acts told (λ op. ComesTo (Some (Request.Do op)) session)
+Stands (Leaving how) session fed acts told = EndsSo how fed acts told
+Stands (Left how) session fed acts told =
+    (before : List (NotedAct Op Reply)) × EndsSo how fed before told × (acts ≡ before ++ noted_close ∷ [])
+
+-- this was fed and that was handed out so far: with what is yet to be handed out, it is what is told where the conversation stands
+abbrev pub Converses : List ℕ → List ℕ → ConversationState → Type 0
+Converses fed given talk = Stands talk.stage talk.session fed talk.ticket.acts (given ++ talk.session.unsent)
+
+-- whatever was fed and handed out, where it conversed it converses still
+abbrev pub CarriesOn : ConversationState → ConversationState → Type 0
+CarriesOn old new = (fed given : List ℕ) → Converses fed given old → Converses fed given new
+
+-- the replies among the answers
+abbrev pub replies_among : List Response → List Reply
+replies_among [] = []
+replies_among (Replied reply ∷ answers) = reply ∷ replies_among answers
+replies_among (Refused ∷ answers) = replies_among answers
+
+-- the replies that are noted for these acts
+abbrev pub noted_replies : List (NotedAct Op Reply) → List Reply
+noted_replies acts = filter_map (λ noted. noted.reply) acts

@@ -1,0 +1,4 @@
+pub mod Talks
+pub mod Conversing
+pub mod Desks
+pub mod Links

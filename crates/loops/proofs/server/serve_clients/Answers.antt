@@ -1,0 +1,24 @@
+use Rattle.std.proofs.Common.{◌≡◌, Option, Some, None, is_some, sym, ap, ◌∙◌, true≢false}
+use Rattle.loops.proofs.server.serve_clients.Goals as goal
+
+-- a fault is told
+told : {X P : Type 0} (fault : X) → Some fault ≡ None → P
+told fault e = absurd (true≢false (ap is_some e))
+
+pub returns-then-agree : goal.returns-then-agree
+returns-then-agree g c = record {
+  served = record {
+    marked = c.into_hall-hall.ensures.marked;
+    agreed = λ none. c.into_hall-hall.ensures.agreed c.if-agree.true;
+    handed_in = λ none. c.into_hall-hall.ensures.handed_in c.if-agree.true;
+  };
+}
+
+pub returns : goal.returns
+returns g c = record {
+  served = record {
+    marked = c.into_hall-hall.ensures.marked;
+    agreed = λ none. told _ none;
+    handed_in = λ none. told _ none;
+  };
+}

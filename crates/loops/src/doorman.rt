@@ -1,0 +1,119 @@
+ghost use Rattle.std.specs.Prelude.{◌≡◌, ◌↔◌, ◌-◌, true, None, Some, IfOk, IfSome};
+
+use crate::mailbox::Mailbox;
+use mio::net::{TcpListener, TcpStream};
+use mio::{Events, Interest, Poll, Token};
+use std::io;
+use std::io::ErrorKind;
+use std::sync::Wait;
+use std::time::Duration;
+
+const LISTENER: Token = Token(1);
+
+/// So many milliseconds it waits where the system is short of something.
+const PAUSE: u64 = 100;
+
+/// Where clients come in, who are handed to the loop with the fewest.
+#[derive(Drop)]
+pub(crate) struct Doorman {
+    poll: Poll,
+    listener: TcpListener,
+    /// So many more are let in; none where there is no end.
+    left: Option<u32>,
+}
+
+impl Doorman {
+    /// Lets in so many clients that connect here.
+    pub(crate) fn new(poll: Poll, listener: TcpListener, left: Option<u32>) -> io::Result<Doorman>
+        ensures { IfOk result (λ doorman. doorman.left ≡ left) }
+    {
+        let mut listener = listener;
+        poll.registry()
+            .register(&mut listener, LISTENER, Interest::READABLE)?;
+        Ok(Doorman {
+            poll,
+            listener,
+            left,
+        })
+    }
+
+    /// Lets clients in, until as many have come as there was said.
+    pub(crate) fn let_in<R: Wait + AllocGlobal>(
+        mut self,
+        rt: &R,
+        loops: &[Mailbox],
+    ) -> io::Result<()> {
+        let mut events = Events::with_capacity(rt.alloc(), 4)?;
+        let mut timeout = Some(Duration::ZERO);
+        for _ in rt.forever() {
+            self.poll.poll(&mut events, timeout)?;
+            timeout = match self.accept_all(rt, loops) {
+                Ok(()) => None,
+                Err(_) => Some(Duration::from_millis(PAUSE)),
+            };
+            if self.is_full() {
+                return Ok(());
+            }
+        }
+        unreachable!()
+    }
+
+    // Whether as many have come as there was said.
+    fn is_full(&self) -> bool
+        ensures { (result ≡ true) ↔ self.now.left ≡ Some 0 }
+    {
+        self.left == Some(0)
+    }
+
+    // One more has come.
+    fn count_one(&mut self)
+        ensures counted { IfSome self.old.left (λ left. self.new.left ≡ Some (left - 1)) }
+        ensures endless { self.old.left ≡ None → self.new.left ≡ None }
+    {
+        self.left = self.left.map(|left| left.saturating_sub(1));
+    }
+
+    // Accepts until none waits, or as many have come as there was said.
+    fn accept_all<R: Wait>(&mut self, rt: &R, loops: &[Mailbox]) -> io::Result<()> {
+        for _ in 0..u64::MAX {
+            if self.is_full() {
+                return Ok(());
+            }
+            match self.listener.accept() {
+                Ok((stream, _)) => {
+                    self.count_one();
+                    if sends_at_once(&stream).unwrap_or(false) {
+                        hand_over(rt, loops, stream);
+                    }
+                }
+                Err(e) if e.kind() == ErrorKind::WouldBlock => return Ok(()),
+                Err(e) if is_of_one_client(e.kind()) => {}
+                Err(e) => return Err(e),
+            }
+        }
+        Ok(())
+    }
+}
+
+// Hands the client to the loop with the fewest.
+fn hand_over<R: Wait>(rt: &R, loops: &[Mailbox], stream: TcpStream) {
+    let Some(fewest) = loops.iter().min_by_key(|mailbox| mailbox.clients()) else {
+        return;
+    };
+    fewest.hand_over(rt, stream);
+}
+
+// Has the connection send each reply at once, and not hold it back until more can be sent. Answers whether it does, as read
+// back from the system.
+fn sends_at_once(stream: &TcpStream) -> io::Result<bool> {
+    stream.set_nodelay(true)?;
+    stream.nodelay()
+}
+
+// Whether it went wrong for one client alone, and the next can be accepted.
+fn is_of_one_client(kind: ErrorKind) -> bool {
+    matches!(
+        kind,
+        ErrorKind::ConnectionAborted | ErrorKind::ConnectionReset | ErrorKind::Interrupted
+    )
+}

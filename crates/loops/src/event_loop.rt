@@ -1,0 +1,318 @@
+use crate::house::House;
+use crate::mailbox::{Mail, Mailbox};
+use crate::seat::{Seat, Wish};
+use crate::seats::Seats;
+use crate::wire::Wire;
+use bean_queue::{Op, Reply};
+use conversation::{Client, Conversation, LONGEST_PIECE};
+use mio::net::TcpStream;
+use mio::{Events, Interest, Poll, Token};
+use object::Object;
+use std::alloc::Global;
+use std::io;
+use std::sync::{Mutex, MutexGuard, Wait};
+use std::thread::yield_now;
+use std::time::Duration;
+
+/// The waker's token. No client has this key.
+pub(crate) const WAKER: Token = Token(usize::MAX);
+
+/// So many events are looked at before what they bring is handed in.
+const MOST_EVENTS: usize = 256;
+
+/// So often a loop looks whether the lock is free before it sleeps until it is.
+const LOOKS_AT_LOCK: u32 = 16;
+
+/// What loops have in common.
+#[derive(Drop)]
+pub(crate) struct Common<'a, R, O: Object> {
+    pub(crate) rt: &'a R,
+    pub(crate) alloc: Global,
+    pub(crate) house: &'a Mutex<House<O>>,
+    pub(crate) mailboxes: &'a [Mailbox],
+    pub(crate) nodes: u8,
+}
+
+/// A loop over its clients.
+#[derive(Drop)]
+pub(crate) struct EventLoop<'a, R, O: Object<Op = Op, Reply = Reply>> {
+    common: &'a Common<'a, R, O>,
+    own: &'a Mailbox,
+    /// Which of the loops it is, from 0.
+    at: usize,
+    /// The node at which it hands in.
+    node: u8,
+    seats: Seats<O>,
+    /// The keys of those with something to hand in.
+    asking: Vec<usize>,
+    /// The keys of those whose ask was answered.
+    answered: Vec<usize>,
+    /// The keys of those that it goes on with in the next turn.
+    listed: Vec<usize>,
+    /// What others are told once the lock is free: a session that was answered, and its loop.
+    told: Vec<(u32, usize)>,
+    piece: [u8; LONGEST_PIECE],
+    second: Option<u64>,
+    is_over: bool,
+}
+
+impl<'a, R: Wait, O: Object<Op = Op, Reply = Reply>> EventLoop<'a, R, O> {
+    /// A loop without clients.
+    pub(crate) fn new(
+        common: &'a Common<'a, R, O>,
+        own: &'a Mailbox,
+        at: usize,
+        node: u8,
+    ) -> EventLoop<'a, R, O> {
+        let alloc = common.alloc;
+        EventLoop {
+            common,
+            own,
+            at,
+            node,
+            seats: Seats::new(alloc),
+            asking: Vec::new(alloc),
+            answered: Vec::new(alloc),
+            listed: Vec::new(alloc),
+            told: Vec::new(alloc),
+            piece: [0; LONGEST_PIECE],
+            second: None,
+            is_over: false,
+        }
+    }
+
+    /// Serves its clients, until none is there and no more come.
+    pub(crate) fn run(&mut self, mut poll: Poll) -> io::Result<()> {
+        let mut events = Events::with_capacity(self.common.alloc, MOST_EVENTS)?;
+        for _ in self.common.rt.forever() {
+            let timeout = self.timeout();
+            poll.poll(&mut events, timeout)?;
+            if let Some(mail) = self.own.take(self.common.rt, self.common.alloc) {
+                self.read_mail(mail, &poll);
+            }
+            self.serve_listed();
+            self.serve_reported(&events);
+            self.meet();
+            if self.is_over && self.seats.is_empty() {
+                return Ok(());
+            }
+        }
+        unreachable!()
+    }
+
+    // How long it may wait: not at all where there is something to go on with.
+    fn timeout(&self) -> Option<Duration> {
+        if self.listed.is_empty() && self.asking.is_empty() && self.own.may_sleep() {
+            None
+        } else {
+            Some(Duration::ZERO)
+        }
+    }
+
+    // Takes what others have left for it.
+    fn read_mail(&mut self, mail: Mail, poll: &Poll) {
+        for session in mail.answered.iter() {
+            if let Some(key) = self.seats.key_of(*session) {
+                let _ = self.answered.push(key);
+            }
+        }
+        for stream in mail.streams {
+            if self.take_in(stream, poll).is_none() {
+                self.own.forget_one();
+            }
+        }
+        self.second = mail.second;
+        self.is_over = mail.is_over;
+    }
+
+    // Takes in a client. Where there is no room for it, or no session, its connection is closed.
+    fn take_in(&mut self, stream: TcpStream, poll: &Poll) -> Option<()> {
+        self.seats.make_room().ok()?;
+        let ticket = self.lock().open_session(self.at).ok()?;
+        let mut stream = stream;
+        let token = Token(self.seats.next_key());
+        let both = Interest::READABLE | Interest::WRITABLE;
+        let registered = poll.registry().register(&mut stream, token, both);
+        let conversation = Conversation::new(self.common.alloc, ticket);
+        let mut seat = Seat::new(Client::new(Wire(stream), conversation));
+        if registered.is_err() {
+            seat.give_up();
+        }
+        let key = self.seats.take_in(seat).ok()?;
+        self.go_on_with(key);
+        Some(())
+    }
+
+    // Goes on with those that are listed.
+    fn serve_listed(&mut self) {
+        let listed = std::mem::replace(&mut self.listed, Vec::new(self.common.alloc));
+        for key in listed {
+            if let Some(seat) = self.seats.get_mut(key) {
+                seat.is_listed = false;
+            }
+            self.go_on_with(key);
+        }
+    }
+
+    // Goes on with those of which something is reported.
+    fn serve_reported(&mut self, events: &Events) {
+        for event in events.iter() {
+            if event.token() != WAKER {
+                let key = event.token().0;
+                if let Some(seat) = self.seats.get_mut(key) {
+                    seat.note(event);
+                }
+                self.go_on_with(key);
+            }
+        }
+    }
+
+    // Goes on with a client.
+    fn go_on_with(&mut self, key: usize) {
+        let Some(seat) = self.seats.get_mut(key) else {
+            return;
+        };
+        match seat.go_on(&mut self.piece) {
+            Wish::Wait => {}
+            Wish::HandIn => {
+                if !seat.is_listed {
+                    seat.is_listed = self.asking.push(key).is_ok();
+                }
+            }
+            Wish::GoOn => {
+                if !seat.is_listed {
+                    seat.is_listed = self.listed.push(key).is_ok();
+                }
+            }
+            Wish::End => {
+                self.seats.let_go(key);
+                self.own.forget_one();
+            }
+        }
+    }
+
+    // Hands in what there is under one hold of the lock, and goes on with those that were answered.
+    fn meet(&mut self) {
+        if self.asking.is_empty() && self.answered.is_empty() && self.second.is_none() {
+            return;
+        }
+        self.confer();
+        self.tell_others();
+        let asked = std::mem::replace(&mut self.asking, Vec::new(self.common.alloc));
+        let answered = std::mem::replace(&mut self.answered, Vec::new(self.common.alloc));
+        for key in asked {
+            if let Some(seat) = self.seats.get_mut(key) {
+                seat.is_listed = false;
+            }
+            self.go_on_with(key);
+        }
+        for key in answered {
+            self.go_on_with(key);
+        }
+    }
+
+    // What is done under the lock: what there is is handed in, the nodes' turns are taken, and answers are noted.
+    fn confer(&mut self) {
+        let mut house = self.lock();
+        if let Some(second) = self.second.take() {
+            self.pass_second(&mut house, second);
+        }
+        self.hand_in(&mut house);
+        let is_settled = house.desk.settle(self.node);
+        self.sort_answers(&mut house);
+        self.note_answers(&house);
+        self.see_off(&mut house, is_settled);
+    }
+
+    // Hands in what there is.
+    fn hand_in(&mut self, house: &mut House<O>) {
+        house.desk.stand_at(self.node);
+        for key in self.asking.iter() {
+            if let Some(seat) = self.seats.get_mut(*key) {
+                seat.hand_in(&mut house.desk);
+            }
+        }
+    }
+
+    // Whose clients were answered: its own, or those of other loops.
+    fn sort_answers(&mut self, house: &mut House<O>) {
+        for _ in 0..u64::MAX {
+            let Some((session, owner)) = house.next_answered() else {
+                break;
+            };
+            if owner != self.at {
+                let _ = self.told.push((session, owner));
+            } else if let Some(key) = self.seats.key_of(session) {
+                let _ = self.answered.push(key);
+            }
+        }
+    }
+
+    // Notes the answers to its own clients.
+    fn note_answers(&mut self, house: &House<O>) {
+        for key in self.answered.iter() {
+            if let Some(seat) = self.seats.get_mut(*key) {
+                let _ = seat.client.note(&house.desk);
+            }
+        }
+    }
+
+    // Compares the tickets of those that have left. Where no node has anything left to do, those that send nothing more wait
+    // no longer.
+    fn see_off(&mut self, house: &mut House<O>, is_settled: bool) {
+        for key in self.asking.iter() {
+            if let Some(seat) = self.seats.get_mut(*key) {
+                if is_settled {
+                    seat.give_up_waiting();
+                }
+                if seat.has_left() {
+                    house.see_off(seat.ticket());
+                }
+            }
+        }
+    }
+
+    // A second has passed: the first loop hands it in. What clients wait for is looked for once more, and handed in again.
+    fn pass_second(&mut self, house: &mut House<O>, second: u64) {
+        let node = node_of_second(self.common.nodes, second);
+        if self.at == 0 {
+            house.tick(second, node);
+        }
+        for key in 0..self.seats.key_bound() {
+            if let Some(seat) = self.seats.get_mut(key) {
+                seat.is_refused = false;
+                if seat.is_asked() {
+                    house.desk.hand_in_again(seat.ticket(), node);
+                    let _ = self.answered.push(key);
+                }
+            }
+        }
+    }
+
+    // Tells other loops whose clients were answered.
+    fn tell_others(&mut self) {
+        for (session, owner) in self.told.iter() {
+            if let Some(mailbox) = self.common.mailboxes.get(*owner) {
+                mailbox.answer(self.common.rt, *session);
+            }
+        }
+        self.told.clear();
+    }
+
+    // Takes the lock. It looks for a while before it sleeps, and lets others go on meanwhile.
+    fn lock(&self) -> MutexGuard<'a, House<O>> {
+        let common = self.common;
+        for _ in 0..LOOKS_AT_LOCK {
+            if let Some(guard) = common.house.try_lock() {
+                return guard;
+            }
+            yield_now();
+        }
+        common.house.lock(common.rt)
+    }
+}
+
+// The node of so many at which a second is handed in: one after the other.
+fn node_of_second(nodes: u8, second: u64) -> u8 {
+    (second % u64::from(nodes.max(1))) as u8 + 1
+}

@@ -1,0 +1,106 @@
+ghost use Rattle.std.specs.Prelude.{◌≡◌, [], IfOk};
+
+use crate::desk::HallDesk;
+use counted_hall::Watch;
+use hall::{Hall, HallError, Ticket};
+use indexmap::IndexMap;
+use object::Object;
+use std::alloc::Global;
+
+/// A hall has so many nodes at most.
+const MOST_NODES: usize = 7;
+
+/// What all loops share under one lock: the desk of the hall, what its nodes keep in mind, and which loop has each session.
+#[derive(Drop)]
+pub(crate) struct House<O: Object> {
+    pub(crate) desk: HallDesk<O>,
+    /// The first of these are the members'.
+    watches: [Watch; MOST_NODES],
+    owners: IndexMap<u32, usize>,
+    /// So many answers are told to the loops.
+    told: usize,
+    /// So many seconds have passed.
+    round: u64,
+}
+
+impl<O: Object> House<O> {
+    /// A hall in which no session was opened yet.
+    pub(crate) fn new(alloc: Global, hall: Hall<O>) -> House<O>
+        requires none { hall.book ≡ [] }
+    {
+        House {
+            desk: HallDesk::new(alloc, hall),
+            watches: first_watches(),
+            owners: IndexMap::new(alloc),
+            told: 0,
+            round: 0,
+        }
+    }
+
+    /// Opens a session for a loop.
+    pub(crate) fn open_session(&mut self, owner: usize) -> Result<Ticket<O>, HallError>
+        ensures new { IfOk result (λ t. t.acts ≡ []) }
+    {
+        self.owners.reserve(1)?;
+        let ticket = self.desk.open_session()?;
+        let _ = self.owners.insert(ticket.session(), owner);
+        Ok(ticket)
+    }
+
+    /// A session hands in nothing more: its ticket is compared with the hall.
+    pub(crate) fn see_off(&mut self, ticket: &Ticket<O>) {
+        let _ = self.owners.swap_remove(&ticket.session());
+        self.desk.compare(ticket);
+    }
+
+    /// Hands in a second of the clock, and has each node take note of it.
+    pub(crate) fn tick(&mut self, second: u64, node: u8) {
+        self.round = self.round.saturating_add(1);
+        let House {
+            desk,
+            watches,
+            round,
+            ..
+        } = self;
+        desk.tick(second, node);
+        let count = desk.hall().members().count();
+        for watch in watches.iter_mut() {
+            if watch.node() <= count {
+                desk.take_turn(watch, *round);
+            }
+        }
+    }
+
+    /// The next session that was answered, and which loop has it, of those of which this wasn't told yet.
+    pub(crate) fn next_answered(&mut self) -> Option<(u32, usize)> {
+        let House {
+            desk,
+            owners,
+            told,
+            ..
+        } = self;
+        let hall = desk.hall();
+        for index in *told..hall.answer_count() {
+            *told = index + 1;
+            if let Some(key) = hall.answered_key(index) {
+                if let Some(owner) = owners.get(&key.session) {
+                    return Some((key.session, *owner));
+                }
+            }
+        }
+        None
+    }
+}
+
+// What each node keeps in mind at first.
+fn first_watches() -> [Watch; MOST_NODES] {
+    [
+        Watch::new(1, true),
+        Watch::new(2, true),
+        Watch::new(3, true),
+        Watch::new(4, true),
+        Watch::new(5, true),
+        Watch::new(6, true),
+        Watch::new(7, true),
+    ]
+}

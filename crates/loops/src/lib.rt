@@ -1,0 +1,23 @@
+//! A server: loops over many connections, which share one hall under a lock.
+//!
+//! Each loop has a thread of its own and waits for all of its clients at once. What these ask for is handed in under one hold
+//! of the lock; the loop then takes the nodes' turns itself, until none has anything left to do, and tells the other loops
+//! whose clients were answered meanwhile.
+#![tactic(auto)]
+
+mod clock;
+mod desk;
+mod doorman;
+mod event_loop;
+mod fault;
+mod house;
+mod mailbox;
+mod seat;
+mod seats;
+mod server;
+mod settling;
+mod wire;
+
+pub use counted_hall::Seconds;
+pub use fault::ServeFault;
+pub use server::{Host, Served, serve_clients};

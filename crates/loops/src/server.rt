@@ -1,0 +1,192 @@
+ghost use Rattle.std.specs.Prelude.{◌≡◌, [], IfOk};
+ghost use Rattle.loops.specs.Comparing.{IsLoopCount, AllCompared};
+
+use crate::clock::run_clock;
+use crate::doorman::Doorman;
+use crate::event_loop::{Common, EventLoop, WAKER};
+use crate::fault::ServeFault;
+use crate::house::House;
+use crate::mailbox::Mailbox;
+use bean_queue::{Op, Reply};
+use counted_hall::Seconds;
+use hall::Hall;
+use mio::Poll;
+use mio::net::TcpListener;
+use object::Object;
+use std::alloc::Global;
+use std::net::Net;
+use std::rt::Clock;
+use std::sync::{Mutex, Wait};
+use std::thread::{JoinHandle, Scope, Threads};
+use std::{io, thread};
+
+/// What a server takes of the machine.
+pub trait Host: Net + Clock + Threads + Wait + AllocGlobal + Sync {}
+
+impl<R: Net + Clock + Threads + Wait + AllocGlobal + Sync> Host for R {}
+
+/// What is left when a server has ended: its hall, and what went wrong, where something did.
+#[derive(Drop)]
+pub struct Served<O: Object> {
+    pub hall: Hall<O>,
+    /// A mark for each session, set where its ticket agreed with the hall at its end.
+    pub compared: Vec<bool>,
+    /// So many acts those tickets have.
+    pub acts: u64,
+    pub fault: Option<ServeFault>,
+}
+
+/// Serves the clients that connect to this listener, up to so many, by so many loops, 1 to 64. It returns when as many as there
+/// was said have left; all threads have ended then.
+pub fn serve_clients<O: Object<Op = Op, Reply = Reply> + Send, T: Seconds + Send + Drop, R: Host>(
+    rt: &R,
+    hall: Hall<O>,
+    listener: TcpListener,
+    seconds: T,
+    loops: u32,
+    sessions: Option<u32>,
+) -> Result<Served<O>, ServeFault>
+    requires none { hall.book ≡ [] }
+    requires loops { IsLoopCount loops }
+    ensures served { IfOk result (λ s.
+        AllCompared s.hall.book s.compared.items s.acts s.fault) }
+{
+    let alloc = rt.alloc();
+    let nodes = hall.members().count();
+    let room = Room::new(rt, alloc, loops)?;
+    let door = Poll::new(rt)?;
+    let own = Mailbox::new(alloc, door.registry(), WAKER)?;
+    let doorman = Doorman::new(door, listener, sessions)?;
+    let house = Mutex::new(House::new(alloc, hall));
+    let Room { polls, mailboxes } = room;
+    let fault = serve_all(
+        &Common {
+            rt,
+            alloc,
+            house: &house,
+            mailboxes: mailboxes.as_slice(),
+            nodes,
+        },
+        polls,
+        &own,
+        doorman,
+        seconds,
+    );
+    let (hall, compared, acts, agree) = house.into_inner().desk.into_hall();
+    if agree {
+        return Ok(Served {
+            hall,
+            compared,
+            acts,
+            fault,
+        });
+    }
+    Ok(Served {
+        hall,
+        compared,
+        acts,
+        fault: Some(fault.unwrap_or(ServeFault::BadNumber)),
+    })
+}
+
+// What loops wait at, and where mail is left for them.
+#[derive(Drop)]
+struct Room {
+    polls: Vec<Poll>,
+    mailboxes: Vec<Mailbox>,
+}
+
+impl Room {
+    // Room for so many loops.
+    fn new<R: Net>(rt: &R, alloc: Global, loops: u32) -> Result<Room, ServeFault> {
+        let mut polls = Vec::new(alloc);
+        let mut mailboxes = Vec::new(alloc);
+        for _ in 0..loops {
+            let poll = Poll::new(rt)?;
+            let mailbox = Mailbox::new(alloc, poll.registry(), WAKER)?;
+            mailboxes
+                .push(mailbox)
+                .map_err(|_| ServeFault::OutOfMemory)?;
+            polls.push(poll).map_err(|_| ServeFault::OutOfMemory)?;
+        }
+        Ok(Room { polls, mailboxes })
+    }
+}
+
+// Runs a thread for each loop and one for the clock, and lets clients in. All threads have ended when it returns.
+fn serve_all<'s, O, T, R>(
+    common: &'s Common<'s, R, O>,
+    polls: Vec<Poll>,
+    own: &'s Mailbox,
+    doorman: Doorman,
+    seconds: T,
+) -> Option<ServeFault>
+where
+    O: Object<Op = Op, Reply = Reply> + Send,
+    T: Seconds + Send + Drop + 's,
+    R: Clock + Threads + Wait + AllocGlobal + Sync,
+{
+    thread::scope(
+        thread::scope_env(),
+        common.rt,
+        move |scope| -> Option<ServeFault> {
+            let clock = scope.spawn(move || run_clock(common.rt, common.mailboxes, own, seconds));
+            let mut threads = Vec::new(common.alloc);
+            let started = start_loops(scope, common, polls, &mut threads);
+            let let_in = match started {
+                Ok(()) => doorman
+                    .let_in(common.rt, common.mailboxes)
+                    .map_err(ServeFault::from),
+                Err(fault) => Err(fault),
+            };
+            let mut fault = let_in.err();
+            for mailbox in common.mailboxes {
+                mailbox.end(common.rt);
+            }
+            for thread in threads {
+                if thread.join(common.rt).is_err() {
+                    fault = Some(ServeFault::ListenFailed);
+                }
+            }
+            own.end(common.rt);
+            if let Ok(clock) = clock {
+                clock.join(common.rt);
+            }
+            fault
+        },
+    )
+}
+
+// Starts a thread for each loop.
+fn start_loops<'s, E, O, R>(
+    scope: &Scope<'s, E>,
+    common: &'s Common<'s, R, O>,
+    polls: Vec<Poll>,
+    threads: &mut Vec<JoinHandle<io::Result<()>>>,
+) -> Result<(), ServeFault>
+where
+    O: Object<Op = Op, Reply = Reply> + Send,
+    R: Wait + Sync,
+{
+    for poll in polls {
+        let at = threads.len();
+        let Ok(thread) = scope.spawn(move || run_loop(common, poll, at)) else {
+            return Err(ServeFault::ThreadFailed);
+        };
+        threads.push(thread).map_err(|_| ServeFault::OutOfMemory)?;
+    }
+    Ok(())
+}
+
+// What the thread of a loop does.
+fn run_loop<R: Wait, O: Object<Op = Op, Reply = Reply>>(
+    common: &Common<'_, R, O>,
+    poll: Poll,
+    at: usize,
+) -> io::Result<()> {
+    let Some(own) = common.mailboxes.get(at) else {
+        return Ok(());
+    };
+    let node = (at % usize::from(common.nodes.max(1))) as u8 + 1;
+    EventLoop::new(common, own, at, node).run(poll)
+}
