@@ -97,7 +97,7 @@ impl<O: Object> HallDesk<O> {
     }
 
     /// Takes the nodes' turns, from this one on, until none has anything to do. Answers false where something is left.
-    pub(crate) fn settle(&mut self, first: u8) -> bool {
+    pub(crate) fn settle(&mut self, first: u8) -> Result<bool, HallError> {
         let HallDesk { hall, .. } = self;
         settle(hall, first)
     }

@@ -53,6 +53,8 @@ pub(crate) struct EventLoop<'a, R, O: Object<Op = Op, Reply = Reply>> {
     told: Vec<(u32, usize)>,
     piece: [u8; LONGEST_PIECE],
     second: Option<u64>,
+    /// The nodes have something left to do.
+    has_more: bool,
     is_over: bool,
 }
 
@@ -77,6 +79,7 @@ impl<'a, R: Wait, O: Object<Op = Op, Reply = Reply>> EventLoop<'a, R, O> {
             told: Vec::new(alloc),
             piece: [0; LONGEST_PIECE],
             second: None,
+            has_more: false,
             is_over: false,
         }
     }
@@ -102,11 +105,16 @@ impl<'a, R: Wait, O: Object<Op = Op, Reply = Reply>> EventLoop<'a, R, O> {
 
     // How long it may wait: not at all where there is something to go on with.
     fn timeout(&self) -> Option<Duration> {
-        if self.listed.is_empty() && self.asking.is_empty() && self.own.may_sleep() {
-            None
-        } else {
+        if self.has_work() || !self.own.may_sleep() {
             Some(Duration::ZERO)
+        } else {
+            None
         }
+    }
+
+    // Whether there is something to go on with.
+    fn has_work(&self) -> bool {
+        self.has_more || !self.listed.is_empty() || !self.asking.is_empty()
     }
 
     // Takes what others have left for it.
@@ -193,7 +201,8 @@ impl<'a, R: Wait, O: Object<Op = Op, Reply = Reply>> EventLoop<'a, R, O> {
 
     // Hands in what there is under one hold of the lock, and goes on with those that were answered.
     fn meet(&mut self) {
-        if self.asking.is_empty() && self.answered.is_empty() && self.second.is_none() {
+        let has_mail = !self.answered.is_empty() || self.second.is_some();
+        if !has_mail && !self.has_more && self.asking.is_empty() {
             return;
         }
         self.confer();
@@ -218,10 +227,11 @@ impl<'a, R: Wait, O: Object<Op = Op, Reply = Reply>> EventLoop<'a, R, O> {
             self.pass_second(&mut house, second);
         }
         self.hand_in(&mut house);
-        let is_settled = house.desk.settle(self.node);
+        let settled = house.desk.settle(self.node);
+        self.has_more = matches!(settled, Ok(false));
         self.sort_answers(&mut house);
         self.note_answers(&house);
-        self.see_off(&mut house, is_settled);
+        self.see_off(&mut house, matches!(settled, Ok(true)));
     }
 
     // Hands in what there is.
@@ -272,7 +282,8 @@ impl<'a, R: Wait, O: Object<Op = Op, Reply = Reply>> EventLoop<'a, R, O> {
         }
     }
 
-    // A second has passed: the first loop hands it in. What clients wait for is looked for once more, and handed in again.
+    // A second has passed: the first loop hands it in. What clients wait for is looked for once more, and handed in again; and
+    // what was refused is tried again.
     fn pass_second(&mut self, house: &mut House<O>, second: u64) {
         let node = node_of_second(self.common.nodes, second);
         if self.at == 0 {
@@ -280,9 +291,11 @@ impl<'a, R: Wait, O: Object<Op = Op, Reply = Reply>> EventLoop<'a, R, O> {
         }
         for key in 0..self.seats.key_bound() {
             if let Some(seat) = self.seats.get_mut(key) {
-                seat.is_refused = false;
                 if seat.is_asked() {
                     house.desk.hand_in_again(seat.ticket(), node);
+                }
+                if seat.is_asked() || seat.is_refused {
+                    seat.is_refused = false;
                     let _ = self.answered.push(key);
                 }
             }

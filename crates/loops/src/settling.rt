@@ -10,25 +10,25 @@ const MOST_IN_A_TURN: u32 = 64;
 const MOST_TURNS: u32 = 1024;
 
 /// Takes the nodes' turns, one after the other from this one on, until none has anything to do. Answers false where something
-/// is left, since memory was refused or there were too many turns.
-pub(crate) fn settle<O: Object>(hall: &mut Hall<O>, first: u8) -> bool
+/// is left after so many turns that others are to have the lock.
+pub(crate) fn settle<O: Object>(hall: &mut Hall<O>, first: u8) -> Result<bool, HallError>
     ensures book { hall.new.book ≡ hall.old.book }
 {
     let count = hall.members().count();
     let mut node = first;
     let mut calm = 0u8;
     for _ in 0..MOST_TURNS {
-        match take_turn(hall, node) {
-            Ok(true) => calm = 0,
-            Ok(false) => calm = calm.saturating_add(1),
-            Err(_) => return false,
+        if take_turn(hall, node)? {
+            calm = 0;
+        } else {
+            calm = calm.saturating_add(1);
         }
         if calm >= count {
-            return true;
+            return Ok(true);
         }
         node = if node < count { node + 1 } else { 1 };
     }
-    false
+    Ok(false)
 }
 
 // One turn of a node: it proposes what was asked for, receives what is in its mail, and performs what was decided. Whether
