@@ -17,10 +17,11 @@ use std::sync::ledger::{Ledger, Share};
 
 /// A worker with the ticket of the client that it serves: it hands in what the client asks for, and waits for the answer.
 #[derive(Drop)]
-pub(crate) struct Attendant<'a, O: Object, S: Ledger, C: Ledger, R, H> {
+pub(crate) struct Attendant<'a, O: Object, S: Ledger, C: Ledger, R, G, F> {
     pub(crate) rt: &'a R,
     pub(crate) shared: &'a Shared<O, S, C>,
-    pub(crate) hooks: &'a H,
+    pub(crate) gate: &'a G,
+    pub(crate) faults: &'a F,
     pub(crate) worker: u32,
     /// The node at which it hands in.
     pub(crate) node: u8,
@@ -31,8 +32,15 @@ pub(crate) struct Attendant<'a, O: Object, S: Ledger, C: Ledger, R, H> {
     ghost one_part: { commands.parts ≡ 1 },
 }
 
-impl<'a, O: Object<Op = Op, Reply = Reply>, S: Ledger, C: Ledger, R: Wait, H: Gate + Faults> Service
-    for Attendant<'a, O, S, C, R, H> {
+impl<
+    'a,
+    O: Object<Op = Op, Reply = Reply>,
+    S: Ledger,
+    C: Ledger,
+    R: Wait,
+    G: Gate,
+    F: Faults,
+> Service for Attendant<'a, O, S, C, R, G, F> {
     ghost use Rattle.node_threads.specs.Attending.{Adds, TakesLeave, attendance_of};
 
     ghost asks = { λ old op result new. Adds
@@ -44,9 +52,9 @@ impl<'a, O: Object<Op = Op, Reply = Reply>, S: Ledger, C: Ledger, R: Wait, H: Ga
         (attendance_of new.ticket new.commands.amount) };
 
     fn ask(&mut self, op: Op) -> Result<Reply, ServiceFault> {
-        self.hooks.at(Actor::Worker(self.worker), Point::Asked);
+        self.gate.at(Actor::Worker(self.worker), Point::Asked);
         let answered = self.obtain(op);
-        self.hooks.at(Actor::Worker(self.worker), Point::Answered);
+        self.gate.at(Actor::Worker(self.worker), Point::Answered);
         answered
     }
 
@@ -54,7 +62,8 @@ impl<'a, O: Object<Op = Op, Reply = Reply>, S: Ledger, C: Ledger, R: Wait, H: Ga
         for _ in self.rt.forever() {
             match self.hand_in(Act::Close) {
                 Ok(_) => {
-                    self.shared.leave(self.rt, self.hooks, self.worker);
+                    self.shared
+                        .leave(self.rt, self.gate, self.faults, self.worker);
                     return Ok(());
                 }
                 Err(ServiceFault::Refused) => std::thread::yield_now(),
@@ -71,8 +80,9 @@ impl<
     S: Ledger,
     C: Ledger,
     R: Wait,
-    H: Gate + Faults,
-> Attendant<'a, O, S, C, R, H> {
+    G: Gate,
+    F: Faults,
+> Attendant<'a, O, S, C, R, G, F> {
     // Hands in what the client asks for, and waits for the answer to it.
     fn obtain(&mut self, op: Op) -> Result<Reply, ServiceFault>
         ensures added { Adds (attendance_of self.old.ticket self.old.commands.amount) op result
@@ -84,7 +94,15 @@ impl<
     }
 }
 
-impl<'a, O: Object, S: Ledger, C: Ledger, R: Wait, H: Gate + Faults> Attendant<'a, O, S, C, R, H> {
+impl<'a, O: Object, S: Ledger, C: Ledger, R: Wait, G: Gate, F: Faults> Attendant<
+    'a,
+    O,
+    S,
+    C,
+    R,
+    G,
+    F,
+> {
     // Hands in the session's next command.
     fn hand_in(&mut self, act: Act<O::Op>) -> Result<HandedIn, ServiceFault>
         ensures ticket { OnOk result (self.new.ticket ≡ with_act self.old.ticket act) }
@@ -118,7 +136,8 @@ impl<'a, O: Object, S: Ledger, C: Ledger, R: Wait, H: Gate + Faults> Attendant<'
     {
         let Ok(()) = self.shared.note_answer(
             self.rt,
-            self.hooks,
+            self.gate,
+            self.faults,
             &mut self.ticket,
             self.worker,
             handed_in,

@@ -8,7 +8,6 @@ use crate::attendant::Attendant;
 use crate::bell::Patience;
 use crate::faults::Faults;
 use crate::gate::Gate;
-use crate::hooks::Hooks;
 use crate::shared::Shared;
 use crate::watched_reader::WatchedReader;
 use bean_queue::{Op, Reply};
@@ -84,7 +83,6 @@ pub fn attend<
         (attendance_of result.ticket result.commands.amount)
         × (I.has_ended result.reader ≡ I.has_ended reader)) }
 {
-    let hooks = Hooks { gate, faults };
     let mut reader = WatchedReader {
         reader,
         gate,
@@ -93,7 +91,8 @@ pub fn attend<
     let mut attendant = Attendant {
         rt,
         shared,
-        hooks: &hooks,
+        gate,
+        faults,
         worker: desk.worker,
         node: desk.node,
         ticket,

@@ -8,7 +8,6 @@ use crate::accept::Accept;
 use crate::cluster_error::ClusterError;
 use crate::faults::{Faults, NoFaults};
 use crate::gate::Gate;
-use crate::hooks::Hooks;
 use crate::places::WaitingPlaces;
 use crate::shared::Shared;
 use crate::staff::{Common, Door, Finished, run_threads};
@@ -92,13 +91,13 @@ pub fn run_cluster_faulty<
         };
     };
     let parts = u64::from(workers) + 1;
-    let hooks = Hooks { gate, faults };
     let outside = Outside {
         accept,
         seconds,
-        hooks: &hooks,
+        gate,
+        faults,
     };
-    run_counted::<O, Brand, Brand, A, T, Hooks<'_, G, F>, R>(
+    run_counted::<O, Brand, Brand, A, T, G, F, R>(
         rt,
         alloc,
         hall,
@@ -141,12 +140,13 @@ impl<O: Object, A: Accept> Room<O, A> {
     }
 }
 
-// What comes from outside: clients, the seconds of the clock, and what a test hangs in.
+// What comes from outside: clients, the seconds of the clock, who is told where threads stand, and mishaps.
 #[derive(Drop)]
-struct Outside<'a, A, T, H> {
+struct Outside<'a, A, T, G, F> {
     accept: A,
     seconds: T,
-    hooks: &'a H,
+    gate: &'a G,
+    faults: &'a F,
 }
 
 // Runs the cluster over counts of sessions and of commands.
@@ -156,14 +156,15 @@ fn run_counted<
     C: Ledger + Send + Sync,
     A: Accept + Drop,
     T: Seconds + Send + Drop,
-    H: Gate + Faults + Sync,
+    G: Gate + Sync,
+    F: Faults + Sync,
     R: Threads + Wait + Clock + Sync,
 >(
     rt: &R,
     alloc: Global,
     hall: Hall<O>,
     room: Room<O, A>,
-    outside: Outside<'_, A, T, H>,
+    outside: Outside<'_, A, T, G, F>,
     workers: u32,
     sessions: Blank,
     commands: Blank,
@@ -197,7 +198,8 @@ fn run_counted<
         alloc,
         shared: &shared,
         clients: &receiver,
-        hooks: outside.hooks,
+        gate: outside.gate,
+        faults: outside.faults,
     };
     let door = Door {
         accept: outside.accept,

@@ -10,7 +10,6 @@ mod cluster;
 mod cluster_error;
 mod faults;
 mod gate;
-mod hooks;
 mod news;
 mod node_thread;
 mod places;

@@ -10,17 +10,18 @@ use std::sync::ledger::Ledger;
 
 /// What the thread of a node does: it takes its turn when there is something for it, until all is over. Nodes count from
 /// 1.
-pub(crate) fn run_node<O: Object, S: Ledger, C: Ledger, R: Wait, H: Gate + Faults>(
+pub(crate) fn run_node<O: Object, S: Ledger, C: Ledger, R: Wait, G: Gate, F: Faults>(
     rt: &R,
     shared: &Shared<O, S, C>,
     node: u8,
-    hooks: &H,
+    gate: &G,
+    faults: &F,
 )
     requires { 0 < node }
 {
     let mut patience = Patience::new();
     for _ in rt.forever() {
-        let has_more = shared.take_own_turn(rt, node, hooks);
+        let has_more = shared.take_own_turn(rt, node, gate, faults);
         if shared.is_over() {
             return;
         }

@@ -135,10 +135,11 @@ impl<O: Object, S: Ledger, C: Ledger> Shared<O, S, C> {
 
     /// Waits for the answer to a session's last command, and notes it in the ticket. At each second without one the
     /// command is handed in again, at the next node.
-    pub(crate) fn note_answer<R: Wait, H: Gate + Faults>(
+    pub(crate) fn note_answer<R: Wait, G: Gate, F: Faults>(
         &self,
         rt: &R,
-        hooks: &H,
+        gate: &G,
+        faults: &F,
         ticket: &mut Ticket<O>,
         worker: u32,
         handed_in: HandedIn,
@@ -150,11 +151,11 @@ impl<O: Object, S: Ledger, C: Ledger> Shared<O, S, C> {
     {
         let mut handed_in = handed_in;
         for _ in rt.forever() {
-            if !self.help(rt, hooks, worker, handed_in.work) {
+            if !self.help(rt, gate, faults, worker, handed_in.work) {
                 self.places.wait_as_worker(rt, worker, patience);
             }
             if self.look_for_answer(rt, ticket, &mut handed_in)? {
-                self.tidy(rt, hooks, worker);
+                self.tidy(rt, gate, faults, worker);
                 return Ok(());
             }
         }

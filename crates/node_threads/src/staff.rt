@@ -27,12 +27,13 @@ use std::thread::{JoinHandle, Scope, Threads};
 
 /// What the threads of a cluster have in common.
 #[derive(Drop)]
-pub(crate) struct Common<'s, O: Object, S: Ledger, C: Ledger, I, W, R, H> {
+pub(crate) struct Common<'s, O: Object, S: Ledger, C: Ledger, I, W, R, G, F> {
     pub(crate) rt: &'s R,
     pub(crate) alloc: Global,
     pub(crate) shared: &'s Shared<O, S, C>,
     pub(crate) clients: &'s Receiver<(I, W), Global>,
-    pub(crate) hooks: &'s H,
+    pub(crate) gate: &'s G,
+    pub(crate) faults: &'s F,
 }
 
 impl<
@@ -43,8 +44,9 @@ impl<
     I: ByteIn + Drop,
     W: ByteOut + Drop,
     R: Wait,
-    H: Gate + Faults,
-> Common<'s, O, S, C, I, W, R, H> {
+    G: Gate,
+    F: Faults,
+> Common<'s, O, S, C, I, W, R, G, F> {
     // What the thread of a worker does.
     fn work(&self, worker: Worker<O, S, C>, desk: Desk) -> Worker<O, S, C> {
         worker.serve_clients(
@@ -53,7 +55,8 @@ impl<
             self.shared,
             self.clients,
             desk,
-            self.hooks,
+            self.gate,
+            self.faults,
         )
     }
 
@@ -139,9 +142,10 @@ pub(crate) fn run_threads<
     A: Accept + Drop,
     T: Seconds + Send + Drop + 's,
     R: Threads + Wait + Clock + Sync,
-    H: Gate + Faults + Sync,
+    G: Gate + Sync,
+    F: Faults + Sync,
 >(
-    common: &'s Common<'s, O, S, C, A::R, A::W, R, H>,
+    common: &'s Common<'s, O, S, C, A::R, A::W, R, G, F>,
     nodes: u8,
     seconds: T,
     workers: u32,
@@ -201,10 +205,11 @@ fn start_nodes_and_clock<
     W: Send,
     T: Seconds + Send + Drop + 's,
     R: Wait + Clock + Sync,
-    H: Gate + Faults + Sync,
+    G: Gate + Sync,
+    F: Faults + Sync,
 >(
     scope: &Scope<'s, E>,
-    common: &'s Common<'s, O, S, C, I, W, R, H>,
+    common: &'s Common<'s, O, S, C, I, W, R, G, F>,
     nodes: u8,
     seconds: T,
     crew: &mut Vec<JoinHandle<()>>,
@@ -216,17 +221,18 @@ fn start_nodes_and_clock<
     let Common {
         rt,
         shared,
-        hooks,
+        gate,
+        faults,
         ..
     } = common;
     for before in 0..nodes {
         let node = before + 1;
-        let Ok(thread) = scope.spawn(move || run_node(*rt, *shared, node, *hooks)) else {
+        let Ok(thread) = scope.spawn(move || run_node(*rt, *shared, node, *gate, *faults)) else {
             return Err(ClusterError::ThreadFailed);
         };
         crew.push_reserved(thread);
     }
-    let Ok(thread) = scope.spawn(move || run_clock(*rt, *shared, seconds, *hooks)) else {
+    let Ok(thread) = scope.spawn(move || run_clock(*rt, *shared, seconds, *gate)) else {
         return Err(ClusterError::ThreadFailed);
     };
     crew.push_reserved(thread);
@@ -242,10 +248,11 @@ fn run_workers<
     C: Ledger + Send + Sync,
     A: Accept + Drop,
     R: Threads + Wait + Clock + Sync,
-    H: Gate + Faults + Sync,
+    G: Gate + Sync,
+    F: Faults + Sync,
 >(
     scope: &Scope<'s, E>,
-    common: &'s Common<'s, O, S, C, A::R, A::W, R, H>,
+    common: &'s Common<'s, O, S, C, A::R, A::W, R, G, F>,
     desk: Desk,
     workers: u32,
     mut tally: Tally<O, S, C>,

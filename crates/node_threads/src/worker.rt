@@ -58,7 +58,7 @@ impl<O: Object, S: Ledger, C: Ledger> Worker<O, S, C> {
 impl<O: Object<Op = Op, Reply = Reply>, S: Ledger, C: Ledger> Worker<O, S, C> {
     /// Opens a session and serves a client there. Where there is no room for the ticket, or no session can be opened, the
     /// client isn't answered.
-    pub fn serve_client<R: Wait, H: Gate + Faults, I: ByteIn + Drop, W: ByteOut>(
+    pub fn serve_client<R: Wait, G: Gate, F: Faults, I: ByteIn + Drop, W: ByteOut>(
         self,
         rt: &R,
         alloc: Global,
@@ -66,7 +66,8 @@ impl<O: Object<Op = Op, Reply = Reply>, S: Ledger, C: Ledger> Worker<O, S, C> {
         reader: I,
         writer: &mut W,
         desk: Desk,
-        hooks: &H,
+        gate: &G,
+        faults: &F,
     ) -> Worker<O, S, C> {
         let Worker {
             mut tickets,
@@ -76,7 +77,7 @@ impl<O: Object<Op = Op, Reply = Reply>, S: Ledger, C: Ledger> Worker<O, S, C> {
         if tickets.reserve(1).is_ok() {
             if let Ok(ticket) = shared.open_session(rt, &mut sessions, desk.worker) {
                 let attended = attend(
-                    rt, alloc, shared, commands, ticket, reader, writer, desk, hooks, hooks,
+                    rt, alloc, shared, commands, ticket, reader, writer, desk, gate, faults,
                 );
                 commands = attended.commands;
                 tickets.push_reserved(attended.ticket);
@@ -90,18 +91,28 @@ impl<O: Object<Op = Op, Reply = Reply>, S: Ledger, C: Ledger> Worker<O, S, C> {
     }
 
     /// Serves one client after the other, until no more are let in.
-    pub(crate) fn serve_clients<R: Wait, H: Gate + Faults, I: ByteIn + Drop, W: ByteOut + Drop>(
+    pub(crate) fn serve_clients<R: Wait, G: Gate, F: Faults, I: ByteIn + Drop, W: ByteOut + Drop>(
         self,
         rt: &R,
         alloc: Global,
         shared: &Shared<O, S, C>,
         clients: &Receiver<(I, W), Global>,
         desk: Desk,
-        hooks: &H,
+        gate: &G,
+        faults: &F,
     ) -> Worker<O, S, C> {
         let mut worker = self;
         for (reader, mut writer) in clients.iter(rt) {
-            worker = worker.serve_client(rt, alloc, shared, reader, &mut writer, desk, hooks);
+            worker = worker.serve_client(
+                rt,
+                alloc,
+                shared,
+                reader,
+                &mut writer,
+                desk,
+                gate,
+                faults,
+            );
         }
         worker
     }

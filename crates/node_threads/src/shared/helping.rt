@@ -19,16 +19,17 @@ const MOST_LEFT: u32 = 6;
 impl<O: Object, S: Ledger, C: Ledger> Shared<O, S, C> {
     /// One turn of a node by its own thread. Answers whether there is something for the node at once; where it was refused
     /// memory, it tries again when it is rung. Other nodes are told by a worker, where one helps.
-    pub(crate) fn take_own_turn<R: Wait, H: Gate + Faults>(
+    pub(crate) fn take_own_turn<R: Wait, G: Gate, F: Faults>(
         &self,
         rt: &R,
         node: u8,
-        hooks: &H,
+        gate: &G,
+        faults: &F,
     ) -> bool {
         let Some(mut watch) = self.places.watch(rt, node) else {
             return false;
         };
-        let news = self.take_turn(rt, hooks, &mut watch);
+        let news = self.take_turn(rt, gate, faults, &mut watch);
         drop(watch);
         if !self.places.has_helper() {
             news.tell_nodes(&self.places, Some(node));
@@ -39,10 +40,11 @@ impl<O: Object, S: Ledger, C: Ledger> Shared<O, S, C> {
     /// A worker takes the turns of the nodes that have something to do, this one first, until no node has or its bell has
     /// rung. Answers false where it need not look for its answer before it waits: another worker takes these turns; or the
     /// node was told, since it has its turns itself; or there was none to take, or memory was refused, and then all were.
-    pub(crate) fn help<R: Wait, H: Gate + Faults>(
+    pub(crate) fn help<R: Wait, G: Gate, F: Faults>(
         &self,
         rt: &R,
-        hooks: &H,
+        gate: &G,
+        faults: &F,
         worker: u32,
         first: Option<u8>,
     ) -> bool {
@@ -56,7 +58,7 @@ impl<O: Object, S: Ledger, C: Ledger> Shared<O, S, C> {
         if !self.places.begin_to_help() {
             return false;
         }
-        let has_helped = self.take_turns(rt, hooks, worker, first, MOST_TURNS);
+        let has_helped = self.take_turns(rt, gate, faults, worker, first, MOST_TURNS);
         self.places.end_help();
         if !has_helped {
             self.ring_nodes(rt);
@@ -66,7 +68,13 @@ impl<O: Object, S: Ledger, C: Ledger> Shared<O, S, C> {
 
     /// A worker that goes on takes some of the turns that are left, where workers do, and no other does. What is left then
     /// is told to the nodes.
-    pub(crate) fn tidy<R: Wait, H: Gate + Faults>(&self, rt: &R, hooks: &H, worker: u32) {
+    pub(crate) fn tidy<R: Wait, G: Gate, F: Faults>(
+        &self,
+        rt: &R,
+        gate: &G,
+        faults: &F,
+        worker: u32,
+    ) {
         if !self.places.can_help() {
             return;
         }
@@ -74,7 +82,7 @@ impl<O: Object, S: Ledger, C: Ledger> Shared<O, S, C> {
             return;
         };
         if self.places.begin_to_help() {
-            let _ = self.take_turns(rt, hooks, worker, first, MOST_LEFT);
+            let _ = self.take_turns(rt, gate, faults, worker, first, MOST_LEFT);
             self.places.end_help();
             self.ring_nodes(rt);
         }
@@ -82,9 +90,15 @@ impl<O: Object, S: Ledger, C: Ledger> Shared<O, S, C> {
 
     /// After a worker handed in its client's end, for which it doesn't wait: it takes some of the turns that are left, or
     /// tells the nodes.
-    pub(crate) fn leave<R: Wait, H: Gate + Faults>(&self, rt: &R, hooks: &H, worker: u32) {
+    pub(crate) fn leave<R: Wait, G: Gate, F: Faults>(
+        &self,
+        rt: &R,
+        gate: &G,
+        faults: &F,
+        worker: u32,
+    ) {
         if self.places.can_help() {
-            self.tidy(rt, hooks, worker);
+            self.tidy(rt, gate, faults, worker);
         } else {
             self.ring_nodes(rt);
         }
@@ -106,10 +120,11 @@ impl<O: Object, S: Ledger, C: Ledger> Shared<O, S, C> {
     }
 
     // Takes turns, so many at most, as long as there are some and the worker's bell hasn't rung.
-    fn take_turns<R: Wait, H: Gate + Faults>(
+    fn take_turns<R: Wait, G: Gate, F: Faults>(
         &self,
         rt: &R,
-        hooks: &H,
+        gate: &G,
+        faults: &F,
         worker: u32,
         first: u8,
         most: u32,
@@ -122,7 +137,7 @@ impl<O: Object, S: Ledger, C: Ledger> Shared<O, S, C> {
                 return has_helped;
             };
             let node = watch.node();
-            let news = self.take_turn(rt, hooks, &mut watch);
+            let news = self.take_turn(rt, gate, faults, &mut watch);
             drop(watch);
             if news.was_refused() {
                 return false;
@@ -190,10 +205,16 @@ impl<O: Object, S: Ledger, C: Ledger> Shared<O, S, C> {
 
     // One turn of a node, after the mishap that is chosen for it. The workers whose clients were answered are told when the
     // lock is free.
-    fn take_turn<R: Wait, H: Gate + Faults>(&self, rt: &R, hooks: &H, watch: &mut Watch) -> News {
+    fn take_turn<R: Wait, G: Gate, F: Faults>(
+        &self,
+        rt: &R,
+        gate: &G,
+        faults: &F,
+        watch: &mut Watch,
+    ) -> News {
         let node = watch.node();
-        hooks.at(Actor::Node(node), Point::Turn);
-        let mishap = hooks.choose(node, watch.count_turn());
+        gate.at(Actor::Node(node), Point::Turn);
+        let mishap = faults.choose(node, watch.count_turn());
         let rounds = self.places.rounds();
         let mut guard = self.lock(rt);
         rounds.begin_turn(node);
