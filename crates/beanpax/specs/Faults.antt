@@ -3,8 +3,8 @@ use Rattle.std.specs.Prelude.{◌≡◌, ◌⊎◌, ℕ, List, ◌++◌, codes}
 use Rattle.std.specs.Fmt.{decimal}
 use Rattle.session.specs.declared.faults.SessionFault.{SessionFault}
 use Rattle.session.specs.declared.faults.SessionFault.TheVariants as of
-use Rattle.node_threads.specs.declared.cluster_error.ClusterError.{ClusterError}
-use Rattle.node_threads.specs.declared.cluster_error.ClusterError.TheVariants as cluster
+use Rattle.loops.specs.declared.fault.ServeFault.{ServeFault}
+use Rattle.loops.specs.declared.fault.ServeFault.TheVariants as server
 use Rattle.beanpax.specs.declared.faults.ProgramFault.{ProgramFault}
 use Rattle.beanpax.specs.declared.faults.ProgramFault.TheVariants.{OutOfMemory, BadNumber, ReadFailed, WriteFailed}
 use Rattle.beanpax.specs.declared.faults.ProgramFault.TheVariants.{ServiceStopped, ListenFailed, FileFailed}
@@ -17,12 +17,12 @@ of_session of.ReadFailed = ReadFailed
 of_session of.WriteFailed = WriteFailed
 of_session of.ServiceStopped = ServiceStopped
 
--- and that of a cluster
-abbrev pub of_cluster : ClusterError → ProgramFault
-of_cluster cluster.OutOfMemory = OutOfMemory
-of_cluster cluster.BadNumber = BadNumber
-of_cluster cluster.ListenFailed = ListenFailed
-of_cluster cluster.ThreadFailed = ThreadFailed
+-- and that of a server
+abbrev pub of_server : ServeFault → ProgramFault
+of_server server.OutOfMemory = OutOfMemory
+of_server server.BadNumber = BadNumber
+of_server server.ListenFailed = ListenFailed
+of_server server.ThreadFailed = ThreadFailed
 
 -- what can go wrong while a line is written to the output
 abbrev pub IsOfOutput : ProgramFault → Type 0

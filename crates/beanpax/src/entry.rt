@@ -42,7 +42,7 @@ pub const DUMP_REFUSED: u8 = 3;
 ///
 /// The help goes to the output, and what is wrong with the words to the errors. A server returns
 /// when it has served as many connections as were asked for; what it does for them is in the
-/// contract of `run_cluster`.
+/// contract of `serve_clients`.
 pub fn program<H: Host, R: ByteIn, W: ByteOut, E: ByteOut>(
     rt: &H,
     words: &[String],

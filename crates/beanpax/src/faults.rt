@@ -1,9 +1,9 @@
 ghost use Rattle.std.specs.Prelude.{◌≡◌, ◌≢◌};
 ghost use Rattle.std_io.specs.IoError.{error_kind};
 ghost use Rattle.beanpax.specs.declared.faults.ProgramFault.TheVariants.{OutOfMemory, FileFailed};
-ghost use Rattle.beanpax.specs.Faults.{number_of_fault, fault_line_text, of_session, of_cluster};
+ghost use Rattle.beanpax.specs.Faults.{number_of_fault, fault_line_text, of_session, of_server};
 
-use node_threads::ClusterError;
+use loops::ServeFault;
 use session::SessionFault;
 use std::alloc::AllocError;
 use std::io;
@@ -47,15 +47,15 @@ impl From<SessionFault> for ProgramFault {
     }
 }
 
-impl From<ClusterError> for ProgramFault {
-    ghost from_gives = { λ f p. p ≡ of_cluster f };
+impl From<ServeFault> for ProgramFault {
+    ghost from_gives = { λ f p. p ≡ of_server f };
 
-    fn from(fault: ClusterError) -> ProgramFault {
+    fn from(fault: ServeFault) -> ProgramFault {
         match fault {
-            ClusterError::OutOfMemory => ProgramFault::OutOfMemory,
-            ClusterError::BadNumber => ProgramFault::BadNumber,
-            ClusterError::ListenFailed => ProgramFault::ListenFailed,
-            ClusterError::ThreadFailed => ProgramFault::ThreadFailed,
+            ServeFault::OutOfMemory => ProgramFault::OutOfMemory,
+            ServeFault::BadNumber => ProgramFault::BadNumber,
+            ServeFault::ListenFailed => ProgramFault::ListenFailed,
+            ServeFault::ThreadFailed => ProgramFault::ThreadFailed,
         }
     }
 }

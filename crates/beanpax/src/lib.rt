@@ -4,7 +4,6 @@
 //! bytes, and `specs/Runs.antt` what a run over streams has read and written.
 #![tactic(auto)]
 
-mod connections;
 mod entry;
 mod faults;
 mod host;
@@ -14,7 +13,6 @@ mod run;
 mod seconds;
 mod server;
 mod simulation;
-mod troubles;
 mod verdict;
 mod warning;
 mod weights;

@@ -2,7 +2,7 @@ ghost use Rattle.std.specs.Prelude.{◌≡◌, ◌↔◌, ◌+◌, ◌-◌, ◌*
 ghost use Rattle.std.specs.Duration.{as_nanos};
 
 use hall::LAST_SECOND;
-use node_threads::Seconds;
+use loops::Seconds;
 use std::rt::Clock;
 use std::thread;
 use std::time::{Duration, Instant};

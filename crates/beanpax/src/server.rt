@@ -1,20 +1,18 @@
-ghost use Rattle.std.specs.Prelude.{◌≡◌, ◌≢◌, ◌⊎◌, ◌∷◌, [], length, true, None, Ok, Err, IfOk, IfErr, IfSome, OnOk};
+ghost use Rattle.std.specs.Prelude.{◌≡◌, ◌≢◌, ◌⊎◌, ◌∷◌, [], true, None, Ok, Err, IfOk, IfErr, IfSome, OnOk};
 ghost use Rattle.std.specs.Io.KnownBytes.{Appends};
 ghost use Rattle.std.specs.Net.Addr.{IsV4And, ipv4_octets};
 ghost use Rattle.std.specs.Net.Socket.{socket_ip, socket_port};
 ghost use Rattle.beanpax.specs.declared.faults.ProgramFault.TheVariants.{ReadFailed, WriteFailed};
 ghost use Rattle.beanpax.specs.declared.faults.ProgramFault.TheVariants.{FileFailed, ListenFailed};
 ghost use Rattle.beanpax.specs.declared.faults.ProgramFault.TheVariants.{ServiceStopped};
-ghost use Rattle.beanpax.specs.Faults.{IsOfDump, IsOfOutput, of_cluster};
+ghost use Rattle.beanpax.specs.Faults.{IsOfDump, IsOfOutput, of_server};
 ghost use Rattle.chronicle.specs.Checking.{IsFaultless};
 ghost use Rattle.chronicle.specs.Dump.{dump_text};
 ghost use Rattle.hall.specs.Halls.{chronicle_of, new_hall};
-ghost use Rattle.counted_hall.specs.Accounts.{all_tickets};
-ghost use Rattle.node_threads.specs.Clusters.{IsAccountedFor, IsWorkerCount};
+ghost use Rattle.loops.specs.Comparing.{AllCompared, IsLoopCount};
 ghost use Rattle.session.specs.Streams.{AppendsBeginning};
 ghost use Rattle.beanpax.specs.Servers.{TellsPort, listening_line};
 
-use crate::connections::Connections;
 use crate::faults::{ProgramFault, file_fault};
 use crate::host::Host;
 use crate::laws::no_fault_in_a_dump;
@@ -23,11 +21,12 @@ use crate::words::ServerOptions;
 use bean_queue::Queue;
 use chronicle::WriteText;
 use hall::Hall;
-use node_threads::{Actor, Ended, Gate, Point, run_cluster};
+use loops::{ServeFault, Served, serve_clients};
+use mio::net::TcpListener;
 use session::{ByteOut, write_all};
 use std::alloc::{AllocError, Global};
 use std::fs;
-use std::net::{Ipv4Addr, SocketAddr, TcpListener};
+use std::net::{Ipv4Addr, SocketAddr};
 
 /// Serves clients over TCP, as the options say, and tells on the output where it listens before it
 /// accepts the first.
@@ -39,7 +38,7 @@ pub(crate) fn serve_tcp<R: Host, W: ByteOut>(
     options: &ServerOptions<'_>,
     output: &mut W,
 ) -> Result<(), ProgramFault>
-    requires workers { IsWorkerCount options.now.workers }
+    requires workers { IsLoopCount options.now.workers }
     ensures tells { TellsPort W.ByteOut output.old output.new options.now.port result }
     ensures reads_nothing { result ≢ Err ReadFailed }
     ensures never_stops { result ≢ Err ServiceStopped }
@@ -51,9 +50,8 @@ pub(crate) fn serve_tcp<R: Host, W: ByteOut>(
 {
     let listener = open_port(rt, options.port, output)?;
     let hall = Hall::new(rt.alloc(), options.members)?;
-    let connections = Connections::new(rt, listener, options.sessions);
-    let ended = run_as_asked(rt, hall, connections, options);
-    conclude(rt, &ended, options)
+    let served = serve_as_asked(rt, hall, listener, options)?;
+    conclude(rt, &served, options)
 }
 
 // Listens at this port of the loopback, and tells that then. Where it can't listen, nothing is told.
@@ -101,47 +99,44 @@ fn tell_port<W: ByteOut>(alloc: Global, port: u16, output: &mut W) -> Result<(),
     write_all(output, line.as_bytes()).map_err(|_| ProgramFault::WriteFailed)
 }
 
-// Serves these connections on this hall, both of which are as the options ask.
-fn run_as_asked<'a, R: Host>(
-    rt: &'a R,
+// Serves those who connect here on this hall, by as many loops and as many of them as the options ask.
+fn serve_as_asked<R: Host>(
+    rt: &R,
     hall: Hall<Queue>,
-    connections: Connections<'a, R>,
+    listener: TcpListener,
     options: &ServerOptions<'_>,
-) -> Ended<Queue, Connections<'a, R>>
+) -> Result<Served<Queue>, ServeFault>
     requires hall { hall ≡ new_hall options.now.members }
-    requires connections { connections.left ≡ options.now.sessions }
-    requires workers { IsWorkerCount options.now.workers }
-    ensures accounted { IsAccountedFor result.hall (all_tickets result.tickets.items) result.fault }
-    ensures each_worker { result.fault ≡ None →
-        length result.tickets.items ≡ options.now.workers }
+    requires workers { IsLoopCount options.now.workers }
+    ensures served { IfOk result (λ s.
+        AllCompared s.hall.book s.compared.items s.acts s.fault) }
 {
-    run_cluster(
+    serve_clients(
         rt,
-        rt.alloc(),
         hall,
-        connections,
+        listener,
         ClockSeconds::new(rt),
         options.workers,
-        &Open,
+        options.sessions,
     )
 }
 
-// Tells what went wrong with the cluster. Where nothing did, it writes the dump, if that was asked
+// Tells what went wrong with the server. Where nothing did, it writes the dump, if that was asked
 // for.
 fn conclude<R: Host>(
     rt: &R,
-    ended: &Ended<Queue, Connections<'_, R>>,
+    served: &Served<Queue>,
     options: &ServerOptions<'_>,
 ) -> Result<(), ProgramFault>
-    ensures fault { IfSome ended.now.fault (λ fault. result ≡ Err (of_cluster fault)) }
-    ensures no_fault { ended.now.fault ≡ None → IfErr result IsOfDump }
-    ensures no_dump { ended.now.fault ≡ None → options.now.dump ≡ None → result ≡ Ok tt }
+    ensures fault { IfSome served.now.fault (λ fault. result ≡ Err (of_server fault)) }
+    ensures no_fault { served.now.fault ≡ None → IfErr result IsOfDump }
+    ensures no_dump { served.now.fault ≡ None → options.now.dump ≡ None → result ≡ Ok tt }
 {
-    if let Some(fault) = ended.fault {
+    if let Some(fault) = served.fault {
         return Err(ProgramFault::from(fault));
     }
     match options.dump {
-        Some(file) => write_dump(rt, &ended.hall, file),
+        Some(file) => write_dump(rt, &served.hall, file),
         None => Ok(()),
     }
 }
@@ -163,11 +158,4 @@ fn dump_of(alloc: Global, hall: &Hall<Queue>) -> Result<Vec<u8>, AllocError>
     let mut text = Vec::new(alloc);
     hall.dump()?.write_text(&mut text)?;
     Ok(text)
-}
-
-/// Holds nobody up.
-struct Open;
-
-impl Gate for Open {
-    fn at(&self, _who: Actor, _point: Point) {}
 }

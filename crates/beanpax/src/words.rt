@@ -80,7 +80,7 @@ pub struct ServerOptions<'a> {
     pub port: u16,
     /// These nodes keep the queue.
     pub members: Members,
-    /// So many clients are served at a time: 1 to 64.
+    /// So many event loops serve the clients: 1 to 64.
     pub workers: u32,
     /// It ends after so many connections.
     pub sessions: Option<u32>,
@@ -327,7 +327,7 @@ fn workers_words<'a>(alloc: Global) -> Arg<'a>
     Arg::new(alloc, "workers")
         .long("workers")
         .value_name("K")
-        .help("How many clients are served at a time: 1 to 64 [default: 4]")
+        .help("How many event loops serve the clients: 1 to 64 [default: 4]")
         .value_parser(value_parser!(u32).range(1..=64))
 }
 

@@ -1,6 +1,8 @@
 ghost use Rattle.std.specs.Prelude.{◌≡◌, ◌↔◌, ◌-◌, true, None, Some, IfOk, IfSome};
 
+use crate::fault::ServeFault;
 use crate::mailbox::Mailbox;
+use crate::troubles::{Trouble, trouble_of};
 use mio::net::{TcpListener, TcpStream};
 use mio::{Events, Interest, Poll, Token};
 use std::io;
@@ -10,7 +12,7 @@ use std::time::Duration;
 
 const LISTENER: Token = Token(1);
 
-/// So many milliseconds it waits where the system is short of something.
+/// So many milliseconds pass until it tries again where the system was short of something.
 const PAUSE: u64 = 100;
 
 /// Where clients come in, who are handed to the loop with the fewest.
@@ -37,19 +39,21 @@ impl Doorman {
         })
     }
 
-    /// Lets clients in, until as many have come as there was said.
+    /// Lets clients in, until as many have come as there was said. Where the system is short of something, it tries again
+    /// after a pause.
     pub(crate) fn let_in<R: Wait + AllocGlobal>(
         mut self,
         rt: &R,
         loops: &[Mailbox],
-    ) -> io::Result<()> {
+    ) -> Result<(), ServeFault> {
         let mut events = Events::with_capacity(rt.alloc(), 4)?;
         let mut timeout = Some(Duration::ZERO);
         for _ in rt.forever() {
             self.poll.poll(&mut events, timeout)?;
             timeout = match self.accept_all(rt, loops) {
                 Ok(()) => None,
-                Err(_) => Some(Duration::from_millis(PAUSE)),
+                Err(Trouble::Listener) => return Err(ServeFault::ListenFailed),
+                Err(Trouble::Shortage | Trouble::Connection) => Some(Duration::from_millis(PAUSE)),
             };
             if self.is_full() {
                 return Ok(());
@@ -73,22 +77,25 @@ impl Doorman {
         self.left = self.left.map(|left| left.saturating_sub(1));
     }
 
-    // Accepts until none waits, or as many have come as there was said.
-    fn accept_all<R: Wait>(&mut self, rt: &R, loops: &[Mailbox]) -> io::Result<()> {
+    // Accepts until none waits, or as many have come as there was said. A connection that went wrong before it was accepted
+    // counts for nothing.
+    fn accept_all<R: Wait>(&mut self, rt: &R, loops: &[Mailbox]) -> Result<(), Trouble> {
         for _ in 0..u64::MAX {
             if self.is_full() {
                 return Ok(());
             }
             match self.listener.accept() {
                 Ok((stream, _)) => {
-                    self.count_one();
                     if sends_at_once(&stream).unwrap_or(false) {
+                        self.count_one();
                         hand_over(rt, loops, stream);
                     }
                 }
                 Err(e) if e.kind() == ErrorKind::WouldBlock => return Ok(()),
-                Err(e) if is_of_one_client(e.kind()) => {}
-                Err(e) => return Err(e),
+                Err(e) => match trouble_of(&e) {
+                    Trouble::Connection => {}
+                    trouble => return Err(trouble),
+                },
             }
         }
         Ok(())
@@ -108,12 +115,4 @@ fn hand_over<R: Wait>(rt: &R, loops: &[Mailbox], stream: TcpStream) {
 fn sends_at_once(stream: &TcpStream) -> io::Result<bool> {
     stream.set_nodelay(true)?;
     stream.nodelay()
-}
-
-// Whether it went wrong for one client alone, and the next can be accepted.
-fn is_of_one_client(kind: ErrorKind) -> bool {
-    matches!(
-        kind,
-        ErrorKind::ConnectionAborted | ErrorKind::ConnectionReset | ErrorKind::Interrupted
-    )
 }

@@ -16,6 +16,7 @@ mod seat;
 mod seats;
 mod server;
 mod settling;
+mod troubles;
 mod wire;
 
 pub use counted_hall::Seconds;

@@ -134,9 +134,7 @@ where
             let mut threads = Vec::new(common.alloc);
             let started = start_loops(scope, common, polls, &mut threads);
             let let_in = match started {
-                Ok(()) => doorman
-                    .let_in(common.rt, common.mailboxes)
-                    .map_err(ServeFault::from),
+                Ok(()) => doorman.let_in(common.rt, common.mailboxes),
                 Err(fault) => Err(fault),
             };
             let mut fault = let_in.err();
