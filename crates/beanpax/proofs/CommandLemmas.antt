@@ -24,10 +24,11 @@ use Rattle.clap.specs.declared.parser.matches.ArgMatches.TheViews.{out-ArgMatche
 use Rattle.clap.specs.declared.parser.matches.Found.{Found}
 use Rattle.clap.proofs.OnLiterals.{clap_on_literals}
 use Rattle.clap.proofs.WalkLemmas.{first_value-rows, one_text-rows}
+use Rattle.beanpax.specs.Hosts.{IsHostOf}
 use Rattle.beanpax.specs.Numbers.{IsNumberIfGiven, IsNumberOr}
 use Rattle.beanpax.specs.Weights.{AreMembersOf}
 use Rattle.beanpax.specs.declared.words.Action.{Action}
-use Rattle.beanpax.specs.declared.words.Action.TheVariants.{Run, Serve, Inspect, BadWeights, Help, Wrong}
+use Rattle.beanpax.specs.declared.words.Action.TheVariants.{Run, Serve, Inspect, BadWeights, BadHost, Help, Wrong}
 use Rattle.beanpax.specs.Words.{AskFor, AskForRun, IsAskedBy, IsRunOf, IsServeOf, IsServerOf, command_given, errors_in}
 use Rattle.beanpax.specs.Words.{program_command, run_command, serve_command, inspect_command, text_given, word_given}
 use Rattle.beanpax.specs.declared.words.ServerOptions.{ServerOptions}
@@ -263,6 +264,7 @@ members_same number other weights another members n w is =
 pub server_same : (text other word another : List ℕ → Option (List ℕ)) → ((id : List ℕ) → text id ≡ other id) → ((id : List ℕ) → word id ≡ another id)
     → (options : ServerOptions) → IsServerOf text word options → IsServerOf other another options
 server_same text other word another texts words options is = record {
+  host = subst (λ w. IsHostOf w (Some options.host)) (words (codes "host")) is.host;
   port = subst (λ t. IsNumberOr 11300 1 65535 t options.port) (texts (codes "port")) is.port;
   members = members_same (text (codes "nodes")) (other (codes "nodes")) (word (codes "weights"))
       (another (codes "weights")) (Some options.members) (texts (codes "nodes")) (words (codes "weights")) is.members;
@@ -296,6 +298,7 @@ run_same text other word another texts words (Run options) is = (
   subst (λ t. IsNumberOr 0 0 (2 ^ 64 - 1) t options.seed) (texts (codes "seed")) is.1,
 )
 run_same text other word another texts words BadWeights is = members_same _ _ _ _ None (texts (codes "nodes")) (words (codes "weights")) is
+run_same text other word another texts words BadHost is = absurd is
 run_same text other word another texts words (Serve options) is = absurd is
 run_same text other word another texts words (Inspect file) is = absurd is
 run_same text other word another texts words (Help told) is = absurd is
@@ -306,6 +309,7 @@ pub serve_same : (text other word another : List ℕ → Option (List ℕ)) → 
     → (asked : Action) → IsServeOf text word asked → IsServeOf other another asked
 serve_same text other word another texts words (Serve options) is = server_same text other word another texts words options is
 serve_same text other word another texts words BadWeights is = members_same _ _ _ _ None (texts (codes "nodes")) (words (codes "weights")) is
+serve_same text other word another texts words BadHost is = subst (λ w. IsHostOf w None) (words (codes "host")) is
 serve_same text other word another texts words (Run options) is = absurd is
 serve_same text other word another texts words (Inspect file) is = absurd is
 serve_same text other word another texts words (Help told) is = absurd is
@@ -315,6 +319,7 @@ serve_same text other word another texts words (Wrong told) is = absurd is
 pub run_asked : (words : List Text) → AskForRun words → (asked : Action) → IsRunOf (text_given words) (word_given words) asked → IsAskedBy words asked
 run_asked words run (Run options) is = (run, is)
 run_asked words run BadWeights is = (run.0, is)
+run_asked words run BadHost is = absurd is
 run_asked words run (Serve options) is = absurd is
 run_asked words run (Inspect file) is = absurd is
 run_asked words run (Help told) is = absurd is
@@ -325,6 +330,7 @@ pub serve_asked : (words : List Text) → AskFor (codes "serve") words → (aske
     → IsServeOf (text_given words) (word_given words) asked → IsAskedBy words asked
 serve_asked words serve (Serve options) is = (serve, is)
 serve_asked words serve BadWeights is = (serve.0, is)
+serve_asked words serve BadHost is = (serve, is)
 serve_asked words serve (Run options) is = absurd is
 serve_asked words serve (Inspect file) is = absurd is
 serve_asked words serve (Help told) is = absurd is

@@ -5,6 +5,7 @@ pub mod Simulations
 pub mod Runs
 pub mod Numbers
 pub mod Weights
+pub mod Hosts
 pub mod Words
 pub mod Servers
 pub mod Verdicts

@@ -52,7 +52,7 @@ TellsSome held holds = (text : List ℕ) × (text ≢ []) × Appends held holds 
 
 -- a server has told at which port it listens, and nothing else
 abbrev pub HasListened : ServerOptions → Option (List ℕ) → Option (List ℕ) → Type 0
-HasListened options held holds = Appends held holds (listening_line options.port)
+HasListened options held holds = Appends held holds (listening_line options.host options.port)
 
 -- the verdict on some text was told
 abbrev pub HasInspected : Option (List ℕ) → Option (List ℕ) → Verdict → Type 0
@@ -75,7 +75,7 @@ BeginsVerdict held holds = (line : List ℕ) × ((line ≡ []) ⊎ IsVerdictLine
 abbrev pub MayTell : List (List ℕ) → List ℕ → Type 0
 MayTell words text =
     (text ≡ []) ⊎ AskForHelp words ⊎
-    ((options : ServerOptions) × AskForServer words options × (text ≡ listening_line options.port)) ⊎
+    ((options : ServerOptions) × AskForServer words options × (text ≡ listening_line options.host options.port)) ⊎
     (AskFor (codes "inspect") words × IsVerdictLine text)
 
 -- a beginning of what it may tell was told, and nothing else

@@ -7,8 +7,9 @@ use Rattle.clap.specs.declared.builder.value_parser.ValueParser.TheVariants as p
 use Rattle.clap.specs.declared.error.kind.ErrorKind.{ErrorKind}
 use Rattle.clap.specs.declared.error.kind.ErrorKind.TheVariants.{DisplayHelp}
 use Rattle.beanpax.specs.declared.words.Action.{Action}
-use Rattle.beanpax.specs.declared.words.Action.TheVariants.{Run, Serve, Inspect, BadWeights, Help, Wrong}
+use Rattle.beanpax.specs.declared.words.Action.TheVariants.{Run, Serve, Inspect, BadWeights, BadHost, Help, Wrong}
 use Rattle.beanpax.specs.declared.words.ServerOptions.{ServerOptions}
+use Rattle.beanpax.specs.Hosts.{IsHostOf, IsLoopback}
 use Rattle.beanpax.specs.Numbers.{IsNumberOr, IsNumberIfGiven}
 use Rattle.beanpax.specs.Weights.{AreMembersOf}
 
@@ -28,6 +29,10 @@ weights_option = record (new_rule (codes "weights")) { long = Some (codes "weigh
 -- `--seed S`, where S is any number of 64 bits
 abbrev pub seed_option : Rule
 seed_option = record (new_rule (codes "seed")) { long = Some (codes "seed"); value_names = 1; parser = Some (parser.Unsigned 0 18446744073709551615) }
+
+-- `--host ADDR`, which is read by itself
+abbrev pub host_option : Rule
+host_option = record (new_rule (codes "host")) { long = Some (codes "host"); value_names = 1 }
 
 -- `--port P`, where P is 1 to 65535
 abbrev pub port_option : Rule
@@ -56,7 +61,8 @@ run_command = with_rule (with_rule (with_rule (new_app (codes "run")) nodes_opti
 -- `serve` with its options
 unfoldable pub serve_command : App
 serve_command =
-    let nodes = with_rule (with_rule (with_rule (new_app (codes "serve")) port_option) nodes_option) weights_option in
+    let address = with_rule (with_rule (new_app (codes "serve")) host_option) port_option in
+    let nodes = with_rule (with_rule address nodes_option) weights_option in
     with_rule (with_rule (with_rule nodes workers_option) sessions_option) dump_option
 
 -- `inspect` with its file
@@ -88,6 +94,7 @@ word_given words option = option_and_then (λ command. first_of option command.1
 
 -- what a server is to do, by the texts of its options: those from which numbers are read, and those that are taken as they stand
 pub record IsServerOf (text word : List ℕ → Option (List ℕ)) (options : ServerOptions) : Type 0 where
+  pub host : IsHostOf (word (codes "host")) (Some options.host)
   pub port : IsNumberOr 11300 1 65535 (text (codes "port")) options.port
   pub members : AreMembersOf (text (codes "nodes")) (word (codes "weights")) (Some options.members)
   pub workers : IsNumberOr 4 1 64 (text (codes "workers")) options.workers
@@ -103,10 +110,11 @@ IsRunOf text word (Run options) =
 IsRunOf text word BadWeights = AreMembersOf (text (codes "nodes")) (word (codes "weights")) None
 IsRunOf text word _ = ⊥
 
--- a server, by the texts of its options, unless the weights are bad
+-- a server, by the texts of its options, unless the weights or the address are bad
 abbrev pub IsServeOf : (List ℕ → Option (List ℕ)) → (List ℕ → Option (List ℕ)) → Action → Type 0
 IsServeOf text word (Serve options) = IsServerOf text word options
 IsServeOf text word BadWeights = AreMembersOf (text (codes "nodes")) (word (codes "weights")) None
+IsServeOf text word BadHost = IsHostOf (word (codes "host")) None
 IsServeOf text word _ = ⊥
 
 -- nothing is wrong with the words, and they name this command
@@ -133,6 +141,10 @@ has_unwritten_dump options = is_some options.dump && not (is_some options.sessio
 abbrev pub AskForUnwrittenDump : List (List ℕ) → Type 0
 AskForUnwrittenDump words = (options : ServerOptions) × AskForServer words options × (has_unwritten_dump options ≡ true)
 
+-- they ask for a server at which clients of other machines come in
+abbrev pub AskForOpenServer : List (List ℕ) → Type 0
+AskForOpenServer words = (options : ServerOptions) × AskForServer words options × (IsLoopback options.host → ⊥)
+
 -- they ask for an inspection of this file; clap finds a fault where they name none
 abbrev pub AskForInspection : List (List ℕ) → List ℕ → Type 0
 AskForInspection words file = AskFor (codes "inspect") words × (file ≡ unwrap_or (word_given words (codes "file")) [])
@@ -149,11 +161,16 @@ AreWrong words = (kind : ErrorKind) × (kind ≢ DisplayHelp) × IsAmong kind (e
 abbrev pub HaveBadWeights : List (List ℕ) → Type 0
 HaveBadWeights words = (errors_in words ≡ []) × AreMembersOf (text_given words (codes "nodes")) (word_given words (codes "weights")) None
 
+-- they ask for a server, and nothing is wrong with them but that what they name as its address is none
+abbrev pub HaveBadHost : List (List ℕ) → Type 0
+HaveBadHost words = AskFor (codes "serve") words × IsHostOf (word_given words (codes "host")) None
+
 -- this is what the words ask for; the help, and what is wrong with them, is some text
 abbrev pub IsAskedBy : List (List ℕ) → Action → Type 0
 IsAskedBy words (Run options) = AskForRun words × IsRunOf (text_given words) (word_given words) (Run options)
 IsAskedBy words (Serve options) = AskForServer words options
 IsAskedBy words (Inspect file) = AskForInspection words file.now
 IsAskedBy words BadWeights = HaveBadWeights words
+IsAskedBy words BadHost = HaveBadHost words
 IsAskedBy words (Help text) = AskForHelp words × (string_bytes text ≢ [])
 IsAskedBy words (Wrong text) = AreWrong words × (string_bytes text ≢ [])

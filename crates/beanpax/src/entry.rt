@@ -10,7 +10,7 @@ ghost use Rattle.beanpax.specs.Program.{BeginsToTell, IsWholeRun};
 ghost use Rattle.beanpax.specs.Runs.{TellsBeginning};
 ghost use Rattle.beanpax.specs.declared.verdict.Verdict.{Verdict};
 ghost use Rattle.beanpax.specs.Verdicts.{is_legal};
-ghost use Rattle.beanpax.specs.Words.{AreWrong, HaveBadWeights, AskForHelp, AskForInspection, AskForRun, AskForServer};
+ghost use Rattle.beanpax.specs.Words.{AreWrong, HaveBadHost, HaveBadWeights, AskForHelp, AskForInspection, AskForRun, AskForServer};
 
 use crate::faults::{ProgramFault, fault_line};
 use crate::host::Host;
@@ -34,6 +34,9 @@ pub const WRONG_WORDS: u8 = 2;
 
 /// What is told where the weights are outside their rule, or stand beside a number of nodes.
 const BAD_WEIGHTS: &str = "beanpax: bad weights\n";
+
+/// What is told where what stands for an address is none.
+const BAD_HOST: &str = "beanpax: bad host\n";
 
 /// The status where something is wrong with a dump.
 pub const DUMP_REFUSED: u8 = 3;
@@ -76,9 +79,12 @@ pub fn program<H: Host, R: ByteIn, W: ByteOut, E: ByteOut>(
     ensures wrong { result ≡ WRONG_WORDS
         → (AreWrong (map string_bytes words.now)
         × WritesSome (E.contents errors.old) (E.contents errors.new) (E.has_failed errors.new))
-        ⊎ (HaveBadWeights (map string_bytes words.now)
+        ⊎ ((HaveBadWeights (map string_bytes words.now)
         × WritesText (E.contents errors.old) (E.contents errors.new) (E.has_failed errors.new)
-        (codes "beanpax: bad weights\n")) }
+        (codes "beanpax: bad weights\n"))
+        ⊎ (HaveBadHost (map string_bytes words.now)
+        × WritesText (E.contents errors.old) (E.contents errors.new) (E.has_failed errors.new)
+        (codes "beanpax: bad host\n"))) }
     ensures untouched { result ≡ WRONG_WORDS → (input.new ≡ input.old) × (output.new ≡ output.old) }
 
     ensures whole { result ≡ DONE → AskForRun (map string_bytes words.now)
@@ -106,6 +112,10 @@ pub fn program<H: Host, R: ByteIn, W: ByteOut, E: ByteOut>(
         }
         Ok(Action::BadWeights) => {
             tell_error(BAD_WEIGHTS, errors);
+            WRONG_WORDS
+        }
+        Ok(Action::BadHost) => {
+            tell_error(BAD_HOST, errors);
             WRONG_WORDS
         }
         Ok(Action::Help(text)) => {

@@ -7,6 +7,7 @@
 mod entry;
 mod faults;
 mod host;
+mod hosts;
 mod inspecting;
 mod laws;
 mod run;
@@ -28,5 +29,5 @@ pub use session::{
     ByteIn, ByteOut, End, Failed, Reading, SessionFault, Writing, memory, write_all,
 };
 pub use verdict::Verdict;
-pub use warning::warn;
+pub use warning::{warn, warn_of_host};
 pub use words::{Action, ServerOptions, parse_words};

@@ -1,6 +1,5 @@
-ghost use Rattle.std.specs.Prelude.{◌≡◌, ◌≢◌, ◌⊎◌, ◌∷◌, [], true, None, Ok, Err, IfOk, IfErr, IfSome, OnOk};
+ghost use Rattle.std.specs.Prelude.{◌≡◌, ◌≢◌, ◌⊎◌, true, string_bytes, None, Ok, Err, IfOk, IfErr, IfSome, OnOk};
 ghost use Rattle.std.specs.Io.KnownBytes.{Appends};
-ghost use Rattle.std.specs.Net.Addr.{IsV4And, ipv4_octets};
 ghost use Rattle.std.specs.Net.Socket.{socket_ip, socket_port};
 ghost use Rattle.beanpax.specs.declared.faults.ProgramFault.TheVariants.{ReadFailed, WriteFailed};
 ghost use Rattle.beanpax.specs.declared.faults.ProgramFault.TheVariants.{FileFailed, ListenFailed};
@@ -26,7 +25,7 @@ use mio::net::TcpListener;
 use session::{ByteOut, write_all};
 use std::alloc::{AllocError, Global};
 use std::fs;
-use std::net::{Ipv4Addr, SocketAddr};
+use std::net::{IpAddr, SocketAddr};
 
 /// Serves clients over TCP, as the options say, and tells on the output where it listens before it
 /// accepts the first.
@@ -39,64 +38,72 @@ pub(crate) fn serve_tcp<R: Host, W: ByteOut>(
     output: &mut W,
 ) -> Result<(), ProgramFault>
     requires workers { IsLoopCount options.now.workers }
-    ensures tells { TellsPort W.ByteOut output.old output.new options.now.port result }
+    ensures tells { TellsPort W.ByteOut output.old output.new options.now.host options.now.port result }
     ensures reads_nothing { result ≢ Err ReadFailed }
     ensures never_stops { result ≢ Err ServiceStopped }
     ensures dumps { result ≡ Err FileFailed → options.now.dump ≢ None }
     ensures not_listening { result ≡ Err ListenFailed →
         (W.contents output.new ≡ W.contents output.old)
         ⊎ Appends (W.contents output.old) (W.contents output.new)
-        (listening_line options.now.port) }
+        (listening_line options.now.host options.now.port) }
 {
-    let listener = open_port(rt, options.port, output)?;
+    let listener = open_port(rt, options.host, options.port, output)?;
     let hall = Hall::new(rt.alloc(), options.members)?;
     let served = serve_as_asked(rt, hall, listener, options)?;
     conclude(rt, &served, options)
 }
 
-// Listens at this port of the loopback, and tells that then. Where it can't listen, nothing is told.
+// Listens at this address and port, and tells that then. Where it can't listen, nothing is told.
 fn open_port<R: Host, W: ByteOut>(
     rt: &R,
+    host: IpAddr,
     port: u16,
     output: &mut W,
 ) -> Result<TcpListener, ProgramFault>
-    ensures tells { TellsPort W.ByteOut output.old output.new port result }
+    ensures tells { TellsPort W.ByteOut output.old output.new host port result }
     ensures fault { IfErr result (λ fault. (fault ≡ ListenFailed) ⊎ IsOfOutput fault) }
     ensures not_listening { result ≡ Err ListenFailed →
         W.contents output.new ≡ W.contents output.old }
 {
-    let listener = listen(rt, port)?;
-    tell_port(rt.alloc(), port, output)?;
+    let listener = listen(rt, host, port)?;
+    tell_port(rt.alloc(), host, port, output)?;
     Ok(listener)
 }
 
-// Listens at this port of the loopback.
-fn listen<R: Host>(rt: &R, port: u16) -> Result<TcpListener, ProgramFault>
+// Listens at this address and port.
+fn listen<R: Host>(rt: &R, host: IpAddr, port: u16) -> Result<TcpListener, ProgramFault>
     ensures { IfErr result (λ fault. fault ≡ ListenFailed) }
 {
-    TcpListener::bind(rt, loopback(port)).map_err(|_| ProgramFault::ListenFailed)
+    TcpListener::bind(rt, SocketAddr::new(host, port)).map_err(|_| ProgramFault::ListenFailed)
 }
 
-// This port of the loopback.
-fn loopback(port: u16) -> SocketAddr
-    ensures ip { IsV4And (socket_ip result) (λ ip. ipv4_octets ip ≡ 127 ∷ 0 ∷ 0 ∷ 1 ∷ []) }
-    ensures port { socket_port result ≡ port }
-{
-    SocketAddr::from((Ipv4Addr::LOCALHOST, port))
-}
-
-// Tells at which port it listens.
-#[tactic(auto, unfolding(crate::specs::Servers::listening_line))]
-fn tell_port<W: ByteOut>(alloc: Global, port: u16, output: &mut W) -> Result<(), ProgramFault>
+// Tells where it listens.
+fn tell_port<W: ByteOut>(
+    alloc: Global,
+    host: IpAddr,
+    port: u16,
+    output: &mut W,
+) -> Result<(), ProgramFault>
     ensures told { OnOk result
-        (Appends (W.contents output.old) (W.contents output.new) (listening_line port)) }
+        (Appends (W.contents output.old) (W.contents output.new) (listening_line host port)) }
     ensures begins { AppendsBeginning (W.contents output.old) (W.contents output.new)
-        (listening_line port) }
+        (listening_line host port) }
     ensures fault { IfErr result IsOfOutput }
     ensures write_failed { result ≡ Err WriteFailed → W.has_failed output.new ≡ true }
 {
-    let line = format!(in alloc; "listening on 127.0.0.1:{port}\n")?;
+    let line = line_of(alloc, host, port)?;
     write_all(output, line.as_bytes()).map_err(|_| ProgramFault::WriteFailed)
+}
+
+// The line by which that is told.
+#[tactic(auto, unfolding(crate::specs::Servers::listening_line))]
+fn line_of(alloc: Global, host: IpAddr, port: u16) -> Result<String, AllocError>
+    ensures { IfOk result (λ line. string_bytes line ≡ listening_line host port) }
+{
+    match host {
+        IpAddr::V4(ip) => format!(in alloc; "listening on {ip}:{port}\n"),
+        IpAddr::V6(ip) => format!(in alloc; "listening on [{ip}]:{port}\n"),
+    }
 }
 
 // Serves those who connect here on this hall, by as many loops and as many of them as the options ask.

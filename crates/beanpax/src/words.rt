@@ -3,19 +3,22 @@ ghost use Rattle.clap.specs.Words.{app_of, first_value, found_of, one_text};
 ghost use Rattle.clap.specs.declared.builder.command.Command.TheViews.{out-Command as fields_of};
 ghost use Rattle.beanpax.specs.declared.words.Action.TheVariants.{Serve};
 ghost use Rattle.beanpax.specs.declared.words.ServerOptions.{ServerOptions};
+ghost use Rattle.beanpax.specs.Hosts.{IsHostOf, IsLoopback};
 ghost use Rattle.beanpax.specs.Numbers.{IsNumberOr};
 ghost use Rattle.beanpax.specs.Weights.{AreMembersOf};
 ghost use Rattle.beanpax.specs.Words.{IsAskedBy, IsRunOf, IsServeOf, IsServerOf, has_unwritten_dump};
 ghost use Rattle.beanpax.specs.Words.{program_command, run_command, serve_command, inspect_command};
 ghost use Rattle.beanpax.specs.Words.{IsArgument, file_argument};
-ghost use Rattle.beanpax.specs.Words.{nodes_option, weights_option, seed_option, port_option};
+ghost use Rattle.beanpax.specs.Words.{nodes_option, weights_option, seed_option, host_option, port_option};
 ghost use Rattle.beanpax.specs.Words.{workers_option, sessions_option, dump_option};
 
+use crate::hosts::host_in;
 use crate::weights::members_in;
 use ballot::Members;
 use clap::error::ErrorKind;
 use clap::{Arg, ArgMatches, Command, Error, value_parser};
 use std::alloc::{AllocError, Global};
+use std::net::IpAddr;
 
 /// There are so many nodes at most.
 const MOST_NODES: u8 = 7;
@@ -43,6 +46,8 @@ pub enum Action<'a> {
     Inspect { file: &'a str },
     /// Nothing: the weights are outside their rule, or stand beside a number of nodes.
     BadWeights,
+    /// Nothing: what stands for an address is none.
+    BadHost,
     /// This help.
     Help(String),
     /// Nothing: the words are wrong, and the text says why.
@@ -62,6 +67,19 @@ impl Action<'_> {
             _ => false,
         }
     }
+
+    /// Whether a server is asked for at which clients of other machines come in.
+    pub(crate) fn has_open_server(&self) -> bool
+        ensures asked { result ≡ true → (options : ServerOptions) × (self.now ≡ Serve options)
+            × (IsLoopback options.host → ⊥) }
+        ensures told { (options : ServerOptions) → self.now ≡ Serve options
+            → result ≡ false → IsLoopback options.host }
+    {
+        match self {
+            Action::Serve(options) => !options.host.is_loopback(),
+            _ => false,
+        }
+    }
 }
 
 /// What a run is to do.
@@ -76,7 +94,9 @@ pub struct RunOptions {
 /// What a server is to do.
 #[derive(Drop)]
 pub struct ServerOptions<'a> {
-    /// It listens at this port of the loopback.
+    /// It listens at this address.
+    pub host: IpAddr,
+    /// And there at this port.
     pub port: u16,
     /// These nodes keep the queue.
     pub members: Members,
@@ -149,16 +169,21 @@ fn serve_of<'a>(alloc: Global, serve: &ArgMatches<'a>) -> Result<Action<'a>, All
     let Some(members) = members_of(alloc, serve)? else {
         return Ok(Action::BadWeights);
     };
-    Ok(Action::Serve(server_of(members, serve)))
+    let Some(host) = host_in(serve.get_str("host")) else {
+        return Ok(Action::BadHost);
+    };
+    Ok(Action::Serve(server_of(members, host, serve)))
 }
 
-// The options of a server of these nodes.
-fn server_of<'a>(members: Members, serve: &ArgMatches<'a>) -> ServerOptions<'a>
-    requires { AreMembersOf (one_text (found_of serve.now) (codes "nodes"))
+// The options of a server of these nodes at this address.
+fn server_of<'a>(members: Members, host: IpAddr, serve: &ArgMatches<'a>) -> ServerOptions<'a>
+    requires members { AreMembersOf (one_text (found_of serve.now) (codes "nodes"))
         (first_value (found_of serve.now) (codes "weights")) (Some members) }
+    requires host { IsHostOf (first_value (found_of serve.now) (codes "host")) (Some host) }
     ensures { IsServerOf (one_text (found_of serve.now)) (first_value (found_of serve.now)) result }
 {
     ServerOptions {
+        host,
         port: port_of(serve),
         members,
         workers: workers_of(serve),
@@ -262,6 +287,7 @@ fn serve_words<'a>(alloc: Global) -> Result<Command<'a>, AllocError>
 {
     Command::new(alloc, "serve")
         .about("Answers clients over TCP")
+        .arg(host_words(alloc))?
         .arg(port_words(alloc))?
         .arg(nodes_words(alloc))?
         .arg(weights_words(alloc))?
@@ -311,13 +337,21 @@ fn seed_words<'a>(alloc: Global) -> Arg<'a>
         .value_parser(value_parser!(u64))
 }
 
+fn host_words<'a>(alloc: Global) -> Arg<'a>
+    ensures { IsArgument host_option result }
+{
+    Arg::new(alloc, "host").long("host").value_name("ADDR").help(
+        "The IPv4 or IPv6 address that it listens at [default: 127.0.0.1]",
+    )
+}
+
 fn port_words<'a>(alloc: Global) -> Arg<'a>
     ensures { IsArgument port_option result }
 {
     Arg::new(alloc, "port")
         .long("port")
         .value_name("P")
-        .help("The port of 127.0.0.1 that it listens at: 1 to 65535 [default: 11300]")
+        .help("The port that it listens at: 1 to 65535 [default: 11300]")
         .value_parser(value_parser!(u16).range(1..=65535))
 }
 

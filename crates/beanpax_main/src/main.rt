@@ -1,7 +1,9 @@
 //! The program: its words, and the standard streams.
 #![tactic(auto)]
 
-use beanpax::{ProgramFault, Reading, Writing, fault_line, no_sockets, program, warn, write_all};
+use beanpax::{
+    ProgramFault, Reading, Writing, fault_line, no_sockets, program, warn, warn_of_host, write_all,
+};
 use std::process::ExitCode;
 use std::rt::Env;
 use std::{env, io};
@@ -14,6 +16,7 @@ fn main(rt: HostRuntime) -> ExitCode {
     let status = match words(&rt) {
         Ok(words) => {
             warn(rt.alloc(), words.as_slice(), &mut errors);
+            warn_of_host(rt.alloc(), words.as_slice(), &mut errors);
             program(&rt, words.as_slice(), &mut input, &mut output, &mut errors)
         }
         Err(e) if e.kind() == io::ErrorKind::OutOfMemory => {

@@ -77,10 +77,11 @@ fn mark_each<O: Object>(tickets: &[Ticket<O>], marks: &mut [bool]) -> bool
     true
 }
 
-// Marks a session.
-fn mark(marks: &mut [bool], session: u32) -> bool
+/// Marks a session; false where it has no mark, or is marked already.
+pub fn mark(marks: &mut [bool], session: u32) -> bool
     ensures free { result ≡ is_free marks.old session }
     ensures ok { result ≡ true → marks.new ≡ with_mark marks.old session }
+    ensures none { result ≡ false → marks.new ≡ marks.old }
 {
     let Some(place) = (session as usize).checked_sub(1) else {
         return false;

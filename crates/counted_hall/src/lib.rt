@@ -8,7 +8,7 @@ mod mishap;
 mod seconds;
 mod turn;
 
-pub use comparing::are_its_tickets;
+pub use comparing::{are_its_tickets, mark};
 pub use counted::CountedHall;
 pub use mishap::Mishap;
 pub use seconds::Seconds;

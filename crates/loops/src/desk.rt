@@ -1,10 +1,11 @@
 ghost use Rattle.std.specs.Prelude.{◌≡◌, [], true, length, sum, All, IfOk};
+ghost use Rattle.counted_hall.specs.Marks.{is_free, with_mark};
 ghost use Rattle.hall.specs.Halls.{Agrees};
 
 use crate::settling::settle;
 use bean_queue::{Op, Reply};
 use conversation::Desk;
-use counted_hall::{Mishap, Watch};
+use counted_hall::{Mishap, Watch, mark};
 use hall::{Hall, HallError, Ticket};
 use object::{Act, Object};
 use std::alloc::{AllocError, Global};
@@ -62,19 +63,20 @@ impl<O: Object> HallDesk<O> {
 
     /// A session hands in nothing more: its ticket is compared with the hall.
     pub(crate) fn compare(&mut self, ticket: &Ticket<O>)
+        ensures agrees { Agrees self.old.hall ticket.now
+            → is_free self.old.compared.items ticket.now.session ≡ true
+            → self.new.compared.items ≡ with_mark self.old.compared.items ticket.now.session }
         ensures disagrees { ¬ (Agrees self.old.hall ticket.now) →
-            (self.new.compared ≡ self.old.compared) × (self.new.acts ≡ self.old.acts) }
+            (self.new.compared.items ≡ self.old.compared.items) × (self.new.acts ≡ self.old.acts) }
     {
-        if !self.hall.agrees(ticket) {
-            return;
-        }
-        let last = ticket.last_key();
-        let Some(place) = (last.session as usize).checked_sub(1) else {
-            return;
-        };
-        if let Some(false) = self.compared.get(place) {
-            self.compared[place] = true;
-            self.acts = self.acts.saturating_add(last.number);
+        let HallDesk {
+            hall,
+            compared,
+            acts,
+            ..
+        } = self;
+        if hall.agrees(ticket) && mark(compared.as_mut_slice(), ticket.session()) {
+            *acts = acts.saturating_add(ticket.last_key().number);
         }
     }
 

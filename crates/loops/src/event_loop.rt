@@ -5,6 +5,7 @@ use crate::seats::Seats;
 use crate::wire::Wire;
 use bean_queue::{Op, Reply};
 use conversation::{Client, Conversation, LONGEST_PIECE};
+use hall::HallError;
 use mio::net::TcpStream;
 use mio::{Events, Interest, Poll, Token};
 use object::Object;
@@ -182,16 +183,8 @@ impl<'a, R: Wait, O: Object<Op = Op, Reply = Reply>> EventLoop<'a, R, O> {
         };
         match seat.go_on(&mut self.piece) {
             Wish::Wait => {}
-            Wish::HandIn => {
-                if !seat.is_listed {
-                    seat.is_listed = self.asking.push(key).is_ok();
-                }
-            }
-            Wish::GoOn => {
-                if !seat.is_listed {
-                    seat.is_listed = self.listed.push(key).is_ok();
-                }
-            }
+            Wish::HandIn => seat.put_on(&mut self.asking, key),
+            Wish::GoOn => seat.put_on(&mut self.listed, key),
             Wish::End => {
                 self.seats.let_go(key);
                 self.own.forget_one();
@@ -231,7 +224,7 @@ impl<'a, R: Wait, O: Object<Op = Op, Reply = Reply>> EventLoop<'a, R, O> {
         self.has_more = matches!(settled, Ok(false));
         self.sort_answers(&mut house);
         self.note_answers(&house);
-        self.see_off(&mut house, matches!(settled, Ok(true)));
+        self.see_off(&mut house, settled);
     }
 
     // Hands in what there is.
@@ -268,12 +261,14 @@ impl<'a, R: Wait, O: Object<Op = Op, Reply = Reply>> EventLoop<'a, R, O> {
     }
 
     // Compares the tickets of those that have left. Where no node has anything left to do, those that send nothing more wait
-    // no longer.
-    fn see_off(&mut self, house: &mut House<O>, is_settled: bool) {
+    // no longer; where a node was refused memory, all is tried again at the next second.
+    fn see_off(&mut self, house: &mut House<O>, settled: Result<bool, HallError>) {
         for key in self.asking.iter() {
             if let Some(seat) = self.seats.get_mut(*key) {
-                if is_settled {
-                    seat.give_up_waiting();
+                match settled {
+                    Ok(true) => seat.give_up_waiting(),
+                    Ok(false) => {}
+                    Err(_) => seat.is_refused = true,
                 }
                 if seat.has_left() {
                     house.see_off(seat.ticket());
@@ -295,8 +290,7 @@ impl<'a, R: Wait, O: Object<Op = Op, Reply = Reply>> EventLoop<'a, R, O> {
                     house.desk.hand_in_again(seat.ticket(), node);
                 }
                 if seat.is_asked() || seat.is_refused {
-                    seat.is_refused = false;
-                    let _ = self.answered.push(key);
+                    seat.is_refused = self.answered.push(key).is_err();
                 }
             }
         }

@@ -37,6 +37,12 @@ impl<O: Object> House<O> {
         }
     }
 
+    /// Has each node take its first turn, in which the first one asks to lead.
+    pub(crate) fn begin(&mut self) {
+        self.take_turns();
+        let _ = self.desk.settle(1);
+    }
+
     /// Opens a session for a loop.
     pub(crate) fn open_session(&mut self, owner: usize) -> Result<Ticket<O>, HallError>
         ensures new { IfOk result (λ t. t.acts ≡ []) }
@@ -56,13 +62,18 @@ impl<O: Object> House<O> {
     /// Hands in a second of the clock, and has each node take note of it.
     pub(crate) fn tick(&mut self, second: u64, node: u8) {
         self.round = self.round.saturating_add(1);
+        self.desk.tick(second, node);
+        self.take_turns();
+    }
+
+    // Has each node take a turn, in which it takes note of the round.
+    fn take_turns(&mut self) {
         let House {
             desk,
             watches,
             round,
             ..
         } = self;
-        desk.tick(second, node);
         let count = desk.hall().members().count();
         for watch in watches.iter_mut() {
             if watch.node() <= count {

@@ -7,6 +7,7 @@ use conversation::{Client, Desk, LONGEST_UNSENT, Pause, Stage};
 use hall::{HallError, Ticket};
 use mio::event::Event;
 use object::Object;
+use std::alloc::AllocError;
 
 /// A client of a loop.
 #[derive(Drop)]
@@ -20,7 +21,7 @@ pub(crate) struct Seat<O: Object<Op = Op, Reply = Reply>> {
     has_gone: bool,
     /// The hall takes nothing more of its session.
     is_abandoned: bool,
-    /// What it handed in last was refused for want of memory: it is tried again at the next second.
+    /// Something was refused for want of memory: it is tried again at the next second.
     pub(crate) is_refused: bool,
     /// The loop has it on its list of those that it goes on with.
     pub(crate) is_listed: bool,
@@ -31,7 +32,7 @@ pub(crate) struct Seat<O: Object<Op = Op, Reply = Reply>> {
 pub(crate) enum Wish {
     /// To wait until something is reported or answered.
     Wait,
-    /// To hand something in.
+    /// To hand something in, or to be told whether the nodes have anything left to do.
     HandIn,
     /// To go on when others have had their turn.
     GoOn,
@@ -64,7 +65,6 @@ impl<O: Object<Op = Op, Reply = Reply>> Seat<O> {
         if event.is_error() || event.is_write_closed() {
             self.give_up();
         }
-        self.give_up_waiting();
     }
 
     /// Its client has gone.
@@ -82,12 +82,24 @@ impl<O: Object<Op = Op, Reply = Reply>> Seat<O> {
         }
     }
 
+    /// Puts it on a list under its key, unless it is on one. Where there is no memory for that, it is tried again at the next
+    /// second.
+    pub(crate) fn put_on(&mut self, list: &mut Vec<usize>, key: usize) {
+        if self.is_listed {
+            return;
+        }
+        match list.push(key) {
+            Ok(()) => self.is_listed = true,
+            Err(AllocError) => self.is_refused = true,
+        }
+    }
+
     /// Whether its session hands in nothing more.
     pub(crate) fn has_left(&self) -> bool {
         self.is_abandoned || matches!(self.client.conversation().stage(), Stage::Left(_))
     }
 
-    /// Where its client sends nothing more, a wait for an answer ends, as if it had gone.
+    /// Where its client sends nothing more, a wait for an answer ends, as if it had gone: no node has anything left to do.
     pub(crate) fn give_up_waiting(&mut self) {
         if self.is_half_closed && self.is_asked() {
             self.client.leave();
@@ -163,6 +175,7 @@ impl<O: Object<Op = Op, Reply = Reply>> Seat<O> {
             Stage::Found(_) | Stage::Leaving(_) => Wish::HandIn,
             Stage::Looking if conversation.unsent().len() <= LONGEST_UNSENT => Wish::GoOn,
             Stage::Reading if self.may_read && conversation.wants_piece() => Wish::GoOn,
+            Stage::Asked if self.is_half_closed && !self.is_refused => Wish::HandIn,
             Stage::Left(_) if self.has_gone || conversation.unsent().is_empty() => Wish::End,
             Stage::Looking | Stage::Reading | Stage::Asked | Stage::Left(_) => Wish::Wait,
         }

@@ -57,7 +57,9 @@ pub fn serve_clients<O: Object<Op = Op, Reply = Reply> + Send, T: Seconds + Send
     let door = Poll::new(rt)?;
     let own = Mailbox::new(alloc, door.registry(), WAKER)?;
     let doorman = Doorman::new(door, listener, sessions)?;
-    let house = Mutex::new(House::new(alloc, hall));
+    let mut house = House::new(alloc, hall);
+    house.begin();
+    let house = Mutex::new(house);
     let Room { polls, mailboxes } = room;
     let fault = serve_all(
         &Common {
@@ -132,7 +134,10 @@ where
         move |scope| -> Option<ServeFault> {
             let clock = scope.spawn(move || run_clock(common.rt, common.mailboxes, own, seconds));
             let mut threads = Vec::new(common.alloc);
-            let started = start_loops(scope, common, polls, &mut threads);
+            let started = match &clock {
+                Ok(_) => start_loops(scope, common, polls, &mut threads),
+                Err(_) => Err(ServeFault::ThreadFailed),
+            };
             let let_in = match started {
                 Ok(()) => doorman.let_in(common.rt, common.mailboxes),
                 Err(fault) => Err(fault),

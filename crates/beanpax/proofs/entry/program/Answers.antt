@@ -49,5 +49,8 @@ returns-in-Ok-Wrong-clause-wrong g c = λ wrong.
 pub returns-in-Ok-BadWeights-clause-begins : goal.returns-in-Ok-BadWeights-clause-begins
 returns-in-Ok-BadWeights-clause-begins g c = λ no_run. ([], inl refl, (0, Appends-nil (g.W.ByteOut.contents c.args.output.now)))
 
+pub returns-in-Ok-BadHost-clause-begins : goal.returns-in-Ok-BadHost-clause-begins
+returns-in-Ok-BadHost-clause-begins g c = λ no_run. ([], inl refl, (0, Appends-nil (g.W.ByteOut.contents c.args.output.now)))
+
 pub returns-in-Ok-Wrong-clause-begins : goal.returns-in-Ok-Wrong-clause-begins
 returns-in-Ok-Wrong-clause-begins g c = λ no_run. ([], inl refl, (0, Appends-nil (g.W.ByteOut.contents c.args.output.now)))

@@ -10,12 +10,13 @@ pub returns-clause-app : goal.returns-clause-app
 unfolding serve_command
 returns-clause-app c =
     let named : app_of c.about.result ≡ new_app (codes "serve") = search rules in
-    let port = c.in_ok-arg.ensures.shape c.port_words.ensures.local ∙ ap₂ with_rule named c.port_words.ensures.rule in
-    let nodes = c.in_ok-arg-2.ensures.shape c.nodes_words.ensures.local ∙ ap₂ with_rule port c.nodes_words.ensures.rule in
-    let weights = c.in_ok-arg-3.ensures.shape c.weights_words.ensures.local ∙ ap₂ with_rule nodes c.weights_words.ensures.rule in
-    let workers = c.in_ok-arg-4.ensures.shape c.workers_words.ensures.local ∙ ap₂ with_rule weights c.workers_words.ensures.rule in
-    let sessions = c.in_ok-arg-5.ensures.shape c.sessions_words.ensures.local ∙ ap₂ with_rule workers c.sessions_words.ensures.rule in
-    IfOk-weaker c.arg-6.result _ _ (λ r adds. adds.shape c.dump_words.ensures.local ∙ ap₂ with_rule sessions c.dump_words.ensures.rule) c.arg-6.ensures
+    let host = c.in_ok-arg.ensures.shape c.host_words.ensures.local ∙ ap₂ with_rule named c.host_words.ensures.rule in
+    let port = c.in_ok-arg-2.ensures.shape c.port_words.ensures.local ∙ ap₂ with_rule host c.port_words.ensures.rule in
+    let nodes = c.in_ok-arg-3.ensures.shape c.nodes_words.ensures.local ∙ ap₂ with_rule port c.nodes_words.ensures.rule in
+    let weights = c.in_ok-arg-4.ensures.shape c.weights_words.ensures.local ∙ ap₂ with_rule nodes c.weights_words.ensures.rule in
+    let workers = c.in_ok-arg-5.ensures.shape c.workers_words.ensures.local ∙ ap₂ with_rule weights c.workers_words.ensures.rule in
+    let sessions = c.in_ok-arg-6.ensures.shape c.sessions_words.ensures.local ∙ ap₂ with_rule workers c.sessions_words.ensures.rule in
+    IfOk-weaker c.arg-7.result _ _ (λ r adds. adds.shape c.dump_words.ensures.local ∙ ap₂ with_rule sessions c.dump_words.ensures.rule) c.arg-7.ensures
 
 none_global : (a b : Bool) → a ≡ false → b ≡ false → (a || b) ≡ false
 none_global a b p q = ap₂ (λ x y. x || y) p q
@@ -23,9 +24,10 @@ none_global a b p q = ap₂ (λ x y. x || y) p q
 pub returns-clause-no_globals : goal.returns-clause-no_globals
 returns-clause-no_globals c =
     let named : (out-Command c.about.result).has_globals ≡ false = search rules in
-    let port = c.in_ok-arg.ensures.globals ∙ none_global _ _ named c.port_words.ensures.local in
-    let nodes = c.in_ok-arg-2.ensures.globals ∙ none_global _ _ port c.nodes_words.ensures.local in
-    let weights = c.in_ok-arg-3.ensures.globals ∙ none_global _ _ nodes c.weights_words.ensures.local in
-    let workers = c.in_ok-arg-4.ensures.globals ∙ none_global _ _ weights c.workers_words.ensures.local in
-    let sessions = c.in_ok-arg-5.ensures.globals ∙ none_global _ _ workers c.sessions_words.ensures.local in
-    IfOk-weaker c.arg-6.result _ _ (λ r adds. adds.globals ∙ none_global _ _ sessions c.dump_words.ensures.local) c.arg-6.ensures
+    let host = c.in_ok-arg.ensures.globals ∙ none_global _ _ named c.host_words.ensures.local in
+    let port = c.in_ok-arg-2.ensures.globals ∙ none_global _ _ host c.port_words.ensures.local in
+    let nodes = c.in_ok-arg-3.ensures.globals ∙ none_global _ _ port c.nodes_words.ensures.local in
+    let weights = c.in_ok-arg-4.ensures.globals ∙ none_global _ _ nodes c.weights_words.ensures.local in
+    let workers = c.in_ok-arg-5.ensures.globals ∙ none_global _ _ weights c.workers_words.ensures.local in
+    let sessions = c.in_ok-arg-6.ensures.globals ∙ none_global _ _ workers c.sessions_words.ensures.local in
+    IfOk-weaker c.arg-7.result _ _ (λ r adds. adds.globals ∙ none_global _ _ sessions c.dump_words.ensures.local) c.arg-7.ensures

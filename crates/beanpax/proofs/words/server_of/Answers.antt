@@ -5,8 +5,9 @@ use Rattle.beanpax.proofs.words.server_of.Goals as goal
 
 pub returns : goal.returns
 returns c = record {
+  host = c.requires.host;
   port = c.port_of.ensures;
-  members = c.requires;
+  members = c.requires.members;
   workers = c.workers_of.ensures.workers;
   some_workers = c.workers_of.ensures.some;
   few_workers = c.workers_of.ensures.few;
