@@ -7,7 +7,6 @@ use conversation::{Client, Desk, LONGEST_UNSENT, Pause, Stage};
 use hall::{HallError, Ticket};
 use mio::event::Event;
 use object::Object;
-use std::alloc::AllocError;
 
 /// A client of a loop.
 #[derive(Drop)]
@@ -90,7 +89,7 @@ impl<O: Object<Op = Op, Reply = Reply>> Seat<O> {
         }
         match list.push(key) {
             Ok(()) => self.is_listed = true,
-            Err(AllocError) => self.is_refused = true,
+            Err(_) => self.is_refused = true,
         }
     }
 
