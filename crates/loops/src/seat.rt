@@ -136,13 +136,14 @@ impl<O: Object<Op = Op, Reply = Reply>> Seat<O> {
         }
     }
 
-    // Reads a piece. After one that doesn't fill the room for it, what comes next is reported.
+    // Reads a piece. After one that doesn't fill the room for it, what comes next is reported; but where the client sends
+    // nothing more, that was reported before.
     fn read(&mut self, piece: &mut [u8])
         requires some { 0 < length piece.old }
         requires few { length piece.old ≤ longest_piece }
     {
         match self.client.read(piece) {
-            Ok(n) => self.may_read = n == piece.len(),
+            Ok(n) => self.may_read = n > 0 && (n == piece.len() || self.is_half_closed),
             Err(Pause::Later) => self.may_read = false,
             Err(Pause::Failed) => self.give_up(),
         }
