@@ -277,13 +277,11 @@ impl<'a, R: Wait, O: Object<Op = Op, Reply = Reply>> EventLoop<'a, R, O> {
         }
     }
 
-    // A second has passed: the first loop hands it in. What clients wait for is looked for once more, and handed in again; and
+    // A second has passed: the loop that comes first hands it in. What clients wait for is looked for once more, and handed in again; and
     // what was refused is tried again.
     fn pass_second(&mut self, house: &mut House<O>, second: u64) {
         let node = node_of_second(self.common.nodes, second);
-        if self.at == 0 {
-            house.tick(second, node);
-        }
+        house.tick(second, node);
         for key in 0..self.seats.key_bound() {
             if let Some(seat) = self.seats.get_mut(key) {
                 if seat.is_asked() {

@@ -59,8 +59,11 @@ impl<O: Object> House<O> {
         self.desk.compare(ticket);
     }
 
-    /// Hands in a second of the clock, and has each node take note of it.
+    /// Hands in a second of the clock, and has each node take note of it, unless another loop did that.
     pub(crate) fn tick(&mut self, second: u64, node: u8) {
+        if second <= self.desk.hall().last_second() {
+            return;
+        }
         self.round = self.round.saturating_add(1);
         self.desk.tick(second, node);
         self.take_turns();
