@@ -133,11 +133,11 @@ where
         common.rt,
         move |scope| -> Option<ServeFault> {
             let clock = scope.spawn(move || run_clock(common.rt, common.mailboxes, own, seconds));
-            let mut threads = Vec::new(common.alloc);
-            let started = match &clock {
-                Ok(_) => start_loops(scope, common, polls, &mut threads),
-                Err(_) => Err(ServeFault::ThreadFailed),
+            let Ok(clock) = clock else {
+                return Some(ServeFault::ThreadFailed);
             };
+            let mut threads = Vec::new(common.alloc);
+            let started = start_loops(scope, common, polls, &mut threads);
             let let_in = match started {
                 Ok(()) => doorman.let_in(common.rt, common.mailboxes),
                 Err(fault) => Err(fault),
@@ -152,9 +152,7 @@ where
                 }
             }
             own.end(common.rt);
-            if let Ok(clock) = clock {
-                clock.join(common.rt);
-            }
+            clock.join(common.rt);
             fault
         },
     )
