@@ -6,3 +6,4 @@ pub mod Beginnings
 pub mod Obeyed
 pub mod Served
 pub mod OneVerdict
+pub mod Lines

@@ -4,14 +4,17 @@ use Rattle.std.specs.Fmt.{decimal}
 use Rattle.std.specs.Io.KnownBytes.{Appends}
 use Rattle.session.specs.declared.streams.ByteOut.{Ghosts as ByteOut}
 use Rattle.std.specs.declared.net.ip_addr.IpAddr.{IpAddr}
+use Rattle.std.specs.declared.net.ip_addr.IpAddr.TheVariants.{V4, V6}
+use Rattle.std.specs.Net.Addr.{ipv4_octets, ipv6_segments}
+use Rattle.std.specs.Net.Text.{ipv4_text, ipv6_text}
 use Rattle.session.specs.Streams.{AppendsBeginning}
-use Rattle.beanpax.specs.Hosts.{host_text}
 use Rattle.beanpax.specs.declared.faults.ProgramFault.{ProgramFault}
 use Rattle.beanpax.specs.declared.faults.ProgramFault.TheVariants.{WriteFailed}
 
--- the line by which it tells that it listens
+-- the line by which it tells that it listens: an IPv6 address stands in brackets before a port (RFC 3986, 3.2.2)
 unfoldable pub listening_line : IpAddr → ℕ → List ℕ
-listening_line host port = codes "listening on " ++ host_text host ++ codes ":" ++ decimal port ++ codes "\n"
+listening_line (V4 ip) port = codes "listening on " ++ ipv4_text (ipv4_octets ip) ++ codes ":" ++ decimal port ++ codes "\n"
+listening_line (V6 ip) port = codes "listening on [" ++ ipv6_text (ipv6_segments ip) ++ codes "]:" ++ decimal port ++ codes "\n"
 
 -- Of all that is written, this line is told at most: where it succeeded all of it, and else a beginning, or nothing. It says
 -- that a write failed only where the writer has failed.

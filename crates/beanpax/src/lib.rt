@@ -7,7 +7,6 @@
 mod entry;
 mod faults;
 mod host;
-mod hosts;
 mod inspecting;
 mod laws;
 mod run;

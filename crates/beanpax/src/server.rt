@@ -1,5 +1,6 @@
 ghost use Rattle.std.specs.Prelude.{◌≡◌, ◌≢◌, ◌⊎◌, true, string_bytes, None, Ok, Err, IfOk, IfErr, IfSome, OnOk};
 ghost use Rattle.std.specs.Io.KnownBytes.{Appends};
+ghost use Rattle.std.specs.declared.net.ip_addr.IpAddr.TheVariants.{V4, V6};
 ghost use Rattle.std.specs.Net.Socket.{socket_ip, socket_port};
 ghost use Rattle.beanpax.specs.declared.faults.ProgramFault.TheVariants.{ReadFailed, WriteFailed};
 ghost use Rattle.beanpax.specs.declared.faults.ProgramFault.TheVariants.{FileFailed, ListenFailed};
@@ -25,7 +26,7 @@ use mio::net::TcpListener;
 use session::{ByteOut, write_all};
 use std::alloc::{AllocError, Global};
 use std::fs;
-use std::net::{IpAddr, SocketAddr};
+use std::net::{IpAddr, Ipv4Addr, Ipv6Addr, SocketAddr};
 
 /// Serves clients over TCP, as the options say, and tells on the output where it listens before it
 /// accepts the first.
@@ -96,14 +97,29 @@ fn tell_port<W: ByteOut>(
 }
 
 // The line by which that is told.
-#[tactic(auto, unfolding(crate::specs::Servers::listening_line))]
 fn line_of(alloc: Global, host: IpAddr, port: u16) -> Result<String, AllocError>
     ensures { IfOk result (λ line. string_bytes line ≡ listening_line host port) }
 {
     match host {
-        IpAddr::V4(ip) => format!(in alloc; "listening on {ip}:{port}\n"),
-        IpAddr::V6(ip) => format!(in alloc; "listening on [{ip}]:{port}\n"),
+        IpAddr::V4(ip) => ipv4_line(alloc, ip, port),
+        IpAddr::V6(ip) => ipv6_line(alloc, ip, port),
     }
+}
+
+// The line where the address is one of IPv4.
+#[tactic(auto, unfolding(crate::specs::Servers::listening_line))]
+fn ipv4_line(alloc: Global, ip: Ipv4Addr, port: u16) -> Result<String, AllocError>
+    ensures { IfOk result (λ line. string_bytes line ≡ listening_line (V4 ip) port) }
+{
+    format!(in alloc; "listening on {ip}:{port}\n")
+}
+
+// The line where it is one of IPv6.
+#[tactic(auto, unfolding(crate::specs::Servers::listening_line))]
+fn ipv6_line(alloc: Global, ip: Ipv6Addr, port: u16) -> Result<String, AllocError>
+    ensures { IfOk result (λ line. string_bytes line ≡ listening_line (V6 ip) port) }
+{
+    format!(in alloc; "listening on [{ip}]:{port}\n")
 }
 
 // Serves those who connect here on this hall, by as many loops and as many of them as the options ask.

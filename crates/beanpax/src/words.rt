@@ -12,13 +12,12 @@ ghost use Rattle.beanpax.specs.Words.{IsArgument, file_argument};
 ghost use Rattle.beanpax.specs.Words.{nodes_option, weights_option, seed_option, host_option, port_option};
 ghost use Rattle.beanpax.specs.Words.{workers_option, sessions_option, dump_option};
 
-use crate::hosts::host_in;
 use crate::weights::members_in;
 use ballot::Members;
 use clap::error::ErrorKind;
 use clap::{Arg, ArgMatches, Command, Error, value_parser};
 use std::alloc::{AllocError, Global};
-use std::net::IpAddr;
+use std::net::{IpAddr, Ipv4Addr};
 
 /// There are so many nodes at most.
 const MOST_NODES: u8 = 7;
@@ -169,7 +168,7 @@ fn serve_of<'a>(alloc: Global, serve: &ArgMatches<'a>) -> Result<Action<'a>, All
     let Some(members) = members_of(alloc, serve)? else {
         return Ok(Action::BadWeights);
     };
-    let Some(host) = host_in(serve.get_str("host")) else {
+    let Some(host) = host_of(serve) else {
         return Ok(Action::BadHost);
     };
     Ok(Action::Serve(server_of(members, host, serve)))
@@ -238,6 +237,16 @@ fn workers_of(serve: &ArgMatches<'_>) -> u32
         workers
     } else {
         DEFAULT_WORKERS
+    }
+}
+
+// The address that the words name; none where what they name is no address.
+fn host_of(serve: &ArgMatches<'_>) -> Option<IpAddr>
+    ensures { IsHostOf (first_value (found_of serve.now) (codes "host")) result }
+{
+    match serve.get_str("host") {
+        Some(text) => text.parse().ok(),
+        None => Some(IpAddr::V4(Ipv4Addr::LOCALHOST)),
     }
 }
 
