@@ -25,6 +25,12 @@ BEANSTALKD = shutil.which("beanstalkd")
 # The bytes of a job.
 SIZE = 100
 
+# So many threads share the connections that load a server.
+LOAD_THREADS = 2
+
+# So many seconds a server has to end by itself.
+LONGEST_END = 30
+
 TICK = os.sysconf("SC_CLK_TCK")
 PRINTED = re.compile(r"(\d+) commands a second, median ([\d.]+) us, 99th percentile ([\d.]+) us\n")
 
@@ -32,7 +38,7 @@ PRINTED = re.compile(r"(\d+) commands a second, median ([\d.]+) us, 99th percent
 def build(with_beanpax):
     """Builds the load program, and beanpax where it is wanted and no other program stands for it."""
     end_on_a_signal()
-    subprocess.run(["rt", "run", "--", "0", "0", "0", "0"], cwd=LOAD_CRATE, stdout=subprocess.DEVNULL, check=True)
+    subprocess.run(["rt", "run", "--", "0", "0", "0", "0", "0"], cwd=LOAD_CRATE, stdout=subprocess.DEVNULL, check=True)
     if with_beanpax:
         build_beanpax()
 
@@ -58,7 +64,8 @@ class Server:
 
     def load(self, connections, jobs):
         """The commands a second, and the median and the 99th percentile of a command's time in microseconds."""
-        words = [LOAD, *map(str, (self.port, connections, jobs, SIZE))]
+        threads = min(connections, LOAD_THREADS)
+        words = [LOAD, *map(str, (self.port, connections, jobs, SIZE, threads))]
         run = subprocess.run(words, stdout=subprocess.PIPE, text=True, check=True, timeout=600)
         return [float(number) for number in PRINTED.fullmatch(run.stdout).groups()]
 
@@ -88,9 +95,9 @@ def free_port():
 
 
 @contextlib.contextmanager
-def running(words, port, is_told, most_files=None):
+def running(words, port, is_told, most_files=None, is_to_end=False):
     """A server that was started by these words, and serves. It says on its first line that it listens, or is asked. It may
-    have so many files open at most, where that is said."""
+    have so many files open at most, where that is said. Where it is to end by itself, it does so well, and soon."""
     limit = None if most_files is None else lambda: resource.setrlimit(resource.RLIMIT_NOFILE, (most_files, most_files))
     process = subprocess.Popen(words, stdout=subprocess.PIPE, text=True, preexec_fn=limit)
     try:
@@ -100,7 +107,10 @@ def running(words, port, is_told, most_files=None):
         else:
             wait_until_it_listens(port)
         yield Server(process, port)
-        assert process.poll() is None, f"{words[0]} ended by itself"
+        if is_to_end:
+            assert process.wait(LONGEST_END) == 0, f"{words[0]} ended with {process.returncode}"
+        else:
+            assert process.poll() is None, f"{words[0]} ended by itself"
     finally:
         process.terminate()
         try:
@@ -126,6 +136,15 @@ def beanpax(nodes, workers, most_files=None):
     port = free_port()
     words = [BEANPAX, "serve", "--port", port, "--nodes", nodes, "--workers", workers]
     with running([str(word) for word in words], port, is_told=True, most_files=most_files) as server:
+        yield server
+
+
+@contextlib.contextmanager
+def dumping_beanpax(nodes, workers, sessions, dump, most_files=None):
+    """One that ends when so many connections have ended, and writes what happened to a file."""
+    port = free_port()
+    words = [BEANPAX, "serve", "--port", port, "--nodes", nodes, "--workers", workers, "--sessions", sessions, "--dump", dump]
+    with running([str(word) for word in words], port, is_told=True, most_files=most_files, is_to_end=True) as server:
         yield server
 
 
