@@ -25,6 +25,9 @@ BEANSTALKD = shutil.which("beanstalkd")
 # The bytes of a job.
 SIZE = 100
 
+# So many workers a server has that is measured, where nothing else is said.
+WORKERS = 2
+
 # So many threads share the connections that load a server.
 LOAD_THREADS = 2
 
@@ -63,11 +66,14 @@ class Server:
         self.folder = f"/proc/{process.pid}"
 
     def load(self, connections, jobs):
-        """The commands a second, and the median and the 99th percentile of a command's time in microseconds."""
+        """The commands a second, the median and the 99th percentile of a command's time in microseconds, and which part of the
+        time the threads that load it used a processor."""
         threads = min(connections, LOAD_THREADS)
         words = [LOAD, *map(str, (self.port, connections, jobs, SIZE, threads))]
+        spent, since = children_seconds(), time.monotonic()
         run = subprocess.run(words, stdout=subprocess.PIPE, text=True, check=True, timeout=600)
-        return [float(number) for number in PRINTED.fullmatch(run.stdout).groups()]
+        busy = (children_seconds() - spent) / (time.monotonic() - since) / threads
+        return [*map(float, PRINTED.fullmatch(run.stdout).groups()), busy]
 
     def switches(self):
         """How often its threads were taken off a processor so far."""
@@ -83,10 +89,33 @@ class Server:
             fields = stat.read().rsplit(")", 1)[1].split()
         return (int(fields[11]) + int(fields[12])) / TICK
 
+    def share(self, seconds):
+        """The processor time of the next seconds, as a part of them."""
+        spent, since = self.seconds(), time.monotonic()
+        time.sleep(seconds)
+        return (self.seconds() - spent) / (time.monotonic() - since)
+
+    def files(self):
+        """How many files it has open."""
+        return len(os.listdir(f"{self.folder}/fd"))
+
     def resident(self):
         """The bytes of its resident set."""
         with open(f"{self.folder}/status") as status:
             return next(int(line.split()[1]) * 1024 for line in status if line.startswith("VmRSS"))
+
+
+def children_seconds():
+    """The processor time of the processes that were waited for so far."""
+    used = resource.getrusage(resource.RUSAGE_CHILDREN)
+    return used.ru_utime + used.ru_stime
+
+
+def allow_many_files():
+    """This process and those that it starts may have as many files open as the system lets them."""
+    most = resource.getrlimit(resource.RLIMIT_NOFILE)[1]
+    resource.setrlimit(resource.RLIMIT_NOFILE, (most, most))
+    return most
 
 
 def free_port():
