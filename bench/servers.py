@@ -34,7 +34,6 @@ LOAD_THREADS = 2
 # So many seconds a server has to end by itself.
 LONGEST_END = 30
 
-TICK = os.sysconf("SC_CLK_TCK")
 PRINTED = re.compile(r"(\d+) commands a second, median ([\d.]+) us, 99th percentile ([\d.]+) us\n")
 
 
@@ -84,10 +83,12 @@ class Server:
         return total
 
     def seconds(self):
-        """The processor time that it used so far."""
-        with open(f"{self.folder}/stat") as stat:
-            fields = stat.read().rsplit(")", 1)[1].split()
-        return (int(fields[11]) + int(fields[12])) / TICK
+        """The processor time that its threads used so far."""
+        total = 0
+        for thread in os.listdir(f"{self.folder}/task"):
+            with open(f"{self.folder}/task/{thread}/schedstat") as stat:
+                total += int(stat.read().split()[0])
+        return total / 1e9
 
     def share(self, seconds):
         """The processor time of the next seconds, as a part of them."""
