@@ -31,9 +31,6 @@ WORKERS = 2
 # So many threads share the connections that load a server.
 LOAD_THREADS = 2
 
-# So many seconds a server has to end by itself.
-LONGEST_END = 30
-
 PRINTED = re.compile(r"(\d+) commands a second, median ([\d.]+) us, 99th percentile ([\d.]+) us\n")
 
 
@@ -125,9 +122,10 @@ def free_port():
 
 
 @contextlib.contextmanager
-def running(words, port, is_told, most_files=None, is_to_end=False):
+def running(words, port, is_told, most_files=None, longest_end=None):
     """A server that was started by these words, and serves. It says on its first line that it listens, or is asked. It may
-    have so many files open at most, where that is said. Where it is to end by itself, it does so well, and soon."""
+    have so many files open at most, where that is said. Where it is said how long its end takes, it ends by itself then, and
+    well."""
     limit = None if most_files is None else lambda: resource.setrlimit(resource.RLIMIT_NOFILE, (most_files, most_files))
     process = subprocess.Popen(words, stdout=subprocess.PIPE, text=True, preexec_fn=limit)
     try:
@@ -137,10 +135,10 @@ def running(words, port, is_told, most_files=None, is_to_end=False):
         else:
             wait_until_it_listens(port)
         yield Server(process, port)
-        if is_to_end:
-            assert process.wait(LONGEST_END) == 0, f"{words[0]} ended with {process.returncode}"
-        else:
+        if longest_end is None:
             assert process.poll() is None, f"{words[0]} ended by itself"
+        else:
+            assert process.wait(longest_end) == 0, f"{words[0]} ended with {process.returncode}"
     finally:
         process.terminate()
         try:
@@ -170,11 +168,11 @@ def beanpax(nodes, workers, most_files=None):
 
 
 @contextlib.contextmanager
-def dumping_beanpax(nodes, workers, sessions, dump, most_files=None):
-    """One that ends when so many connections have ended, and writes what happened to a file."""
+def dumping_beanpax(nodes, workers, sessions, dump, longest_end, most_files=None):
+    """One that ends when so many connections have ended, in so many seconds, and writes what happened to a file."""
     port = free_port()
     words = [BEANPAX, "serve", "--port", port, "--nodes", nodes, "--workers", workers, "--sessions", sessions, "--dump", dump]
-    with running([str(word) for word in words], port, is_told=True, most_files=most_files, is_to_end=True) as server:
+    with running([str(word) for word in words], port, True, most_files, longest_end) as server:
         yield server
 
 
