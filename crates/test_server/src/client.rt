@@ -1,13 +1,16 @@
 //! A client of a server.
 use std::alloc::{AllocError, Global};
 use std::io::{Read, Write};
-use std::net::{Ipv4Addr, Net, SocketAddr, TcpListener, TcpStream};
+use std::net::{Ipv4Addr, Net, Shutdown, SocketAddr, TcpListener, TcpStream};
 use std::rt::Clock;
 use std::thread;
 use std::time::Duration;
 
 /// How often a client tries to connect, a hundredth of a second apart.
 const TRIES: u32 = 3000;
+
+/// How often a client looks at the tubes, a hundredth of a second apart.
+const LOOKS: u32 = 1000;
 
 /// So many seconds a client waits for a reply.
 const PATIENCE: u64 = 30;
@@ -64,21 +67,40 @@ impl Client {
         matches!(self.stream.peek(&mut [0]), Ok(1))
     }
 
-    /// Whether no byte has come.
-    pub fn hears_nothing(&self) -> bool {
-        let is_unblocked = self.stream.set_nonblocking(true).is_ok();
-        let has_heard = self.stream.peek(&mut [0]).is_ok();
-        is_unblocked && !has_heard && self.stream.set_nonblocking(false).is_ok()
+    /// Sends nothing more, and answers whether that is told to the server.
+    pub fn stops_sending(&self) -> bool {
+        self.stream.shutdown(Shutdown::Write).is_ok()
     }
 
-    /// Whether so many bytes come, and the end of a line.
-    pub fn skips(&mut self, len: usize) -> bool {
-        for _ in 0..len {
-            if self.next_byte().is_none() {
-                return false;
+    /// Whether the server closes the connection, and no byte has come before.
+    pub fn is_let_go(&mut self) -> bool {
+        matches!(self.stream.read(&mut [0]), Ok(0))
+    }
+
+    /// Whether in a while these are all tubes, as a reply lists them.
+    pub fn sees_tubes<H: Clock + AllocGlobal>(&mut self, rt: &H, tubes: &[u8]) -> bool {
+        for _ in 0..LOOKS {
+            match self.tubes(rt.alloc()) {
+                Some(heard) if heard.as_slice() == tubes => return true,
+                Some(_) => thread::sleep(rt, Duration::from_millis(10)),
+                None => return false,
             }
         }
-        self.hears(b"\r\n")
+        false
+    }
+
+    // All tubes, as a reply lists them.
+    fn tubes(&mut self, alloc: Global) -> Option<Vec<u8>> {
+        if !self.is_told(b"list-tubes\r\n", b"OK ") {
+            return None;
+        }
+        let line = self.line(alloc).ok()?;
+        let len: usize = std::str::from_utf8(line.as_slice()).ok()?.parse().ok()?;
+        let mut data = Vec::new(alloc);
+        for _ in 0..len {
+            data.push(self.next_byte()?).ok()?;
+        }
+        self.hears(b"\r\n").then_some(data)
     }
 
     /// The next line, without its end.

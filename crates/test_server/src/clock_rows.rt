@@ -143,3 +143,36 @@ fn ten_seconds_are_ten_of_the_clock(rt: HostRuntime) -> Result<(), Fail> {
     assert_eq!(rt; ended.status, 0);
     Ok(())
 }
+
+/// Whether seconds pass for the last one of two clients, after the first one has left.
+fn passes<H: Host>(rt: &H, port: u16) -> Option<bool> {
+    let mut first = Client::connect(rt, port)?;
+    let is_first = first.is_told(b"use a\r\n", b"USING a\r\n");
+    let mut last = Client::connect(rt, port)?;
+    let is_last = last.is_told(b"use b\r\n", b"USING b\r\n");
+    drop(first);
+    let waits = (0..2).all(|_| last.is_told(b"reserve-with-timeout 1\r\n", b"TIMED_OUT\r\n"));
+    Some(is_first && is_last && waits)
+}
+
+#[test]
+fn seconds_pass_for_who_is_left(rt: HostRuntime) -> Result<(), Fail> {
+    let _sockets = no_sockets();
+    let port = free_port(&rt)?;
+    let line = format!(in rt.alloc(); "serve --sessions 2 --workers 2 --nodes 1 --port {port}")?;
+    let words = words(rt.alloc(), line.as_str())?;
+    let (ended, passes) = thread::join(
+        &rt,
+        || {
+            let _sockets = no_sockets();
+            start(&rt, words.as_slice())
+        },
+        || {
+            let _sockets = no_sockets();
+            passes(&rt, port)
+        },
+    );
+    assert_eq!(rt; passes, Some(true));
+    assert_eq!(rt; ended.status, 0);
+    Ok(())
+}

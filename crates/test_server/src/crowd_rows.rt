@@ -1,4 +1,4 @@
-//! Connections that hold their workers and get nothing done, while others work.
+//! Connections that get nothing done, while others work.
 use crate::client::Client;
 use crate::cycle_rows::cycle;
 use crate::resources::{comes_back, in_use};
@@ -9,7 +9,6 @@ use std::rt::Clock;
 use std::test::Fail;
 use std::thread;
 use std::thread::Threads;
-use std::time::Duration;
 
 /// So many connections send nothing.
 const SILENT: usize = 20;
@@ -28,16 +27,16 @@ const WORKING: usize = 8;
 
 const CYCLES: usize = 20;
 
-/// So many more come than there are workers.
-const WAITING: usize = 8;
+/// So many come when all these are there.
+const LATE: usize = 8;
 
 /// How many bytes the largest body has.
 const LARGEST: usize = 65_535;
 
 /// All tubes when those have left: two with jobs, and that of who asks.
-const TUBES: &[u8] = b"OK 27\r\n---\n- big\n- default\n- slow\n\r\n";
+const TUBES: &[u8] = b"---\n- big\n- default\n- slow\n";
 
-/// What a connection does while the others hold their workers.
+/// What a connection does beside those that get nothing done.
 #[derive(Drop)]
 enum Errand {
     Work(Client),
@@ -129,17 +128,8 @@ fn working<H: Net<Listener = TcpListener, Stream = TcpStream> + Clock + AllocGlo
     Some(client)
 }
 
-/// A client that has asked for its tube. It comes when each worker has another client.
-fn waiting<H: Net<Listener = TcpListener, Stream = TcpStream> + Clock + AllocGlobal>(
-    rt: &H,
-    port: u16,
-) -> Option<Client> {
-    let mut client = Client::connect(rt, port)?;
-    client.sends(b"list-tube-used\r\n").then_some(client)
-}
-
-/// Those that hold a worker each and wait for nothing.
-fn holding<H: Net<Listener = TcpListener, Stream = TcpStream> + Clock + AllocGlobal>(
+/// Those that get nothing done.
+fn idle<H: Net<Listener = TcpListener, Stream = TcpStream> + Clock + AllocGlobal>(
     rt: &H,
     port: u16,
     body: &[u8],
@@ -157,7 +147,7 @@ fn holding<H: Net<Listener = TcpListener, Stream = TcpStream> + Clock + AllocGlo
     Some(clients)
 }
 
-/// Those that work or send a body, each with a worker of its own.
+/// Those that work or send a body.
 fn errands<H: Net<Listener = TcpListener, Stream = TcpStream> + Clock + AllocGlobal>(
     rt: &H,
     port: u16,
@@ -172,37 +162,37 @@ fn errands<H: Net<Listener = TcpListener, Stream = TcpStream> + Clock + AllocGlo
     Some(errands)
 }
 
-/// Those that come when no worker is free.
+/// Those that come last, of whom each is answered at once.
 fn late<H: Net<Listener = TcpListener, Stream = TcpStream> + Clock + AllocGlobal>(
     rt: &H,
     port: u16,
 ) -> Option<Vec<Client>> {
     let mut clients = Vec::new(rt.alloc());
-    for _ in 0..WAITING {
-        clients.push(waiting(rt, port)?).ok()?;
+    for _ in 0..LATE {
+        let mut client = Client::connect(rt, port)?;
+        if !client.is_told(b"list-tube-used\r\n", b"USING default\r\n") {
+            return None;
+        }
+        clients.push(client).ok()?;
     }
     Some(clients)
 }
 
-/// While 64 connections hold all workers and 8 wait for one, those that work get all their answers, and nobody who waits
-/// gets one. When all have left, those that waited are served.
+/// While 48 connections get nothing done and 16 have begun with something, those that come are answered, and then those 16 get
+/// all their answers. When all have left, nothing is left of them.
 fn are_served<
     H: Net<Listener = TcpListener, Stream = TcpStream> + Clock + AllocGlobal + Threads + Sync,
 >(rt: &H, port: u16) -> Option<bool> {
     let body = vec![in rt.alloc(); b'a'; LARGEST].ok()?;
-    let holding = holding(rt, port, body.as_slice())?;
+    let idle = idle(rt, port, body.as_slice())?;
     let errands = errands(rt, port)?;
-    let mut late = late(rt, port)?;
+    let late = late(rt, port)?;
     let done = thread::map_vec(rt, errands, &|errand| errand.is_done(rt, body.as_slice())).ok()?;
     let are_done = done.iter().all(|(_, is_done)| *is_done);
-    let nobody_else = late.iter().all(|client| client.hears_nothing());
-    drop(holding);
+    drop(idle);
     drop(done);
-    let are_late = late
-        .iter_mut()
-        .all(|client| client.hears(b"USING default\r\n"));
     drop(late);
-    Some(are_done && nobody_else && are_late && are_gone(rt, port))
+    Some(are_done && are_gone(rt, port))
 }
 
 /// Whether in a while nothing is left of them but the jobs that they put.
@@ -210,30 +200,10 @@ fn are_gone<H: Net<Listener = TcpListener, Stream = TcpStream> + Clock + AllocGl
     rt: &H,
     port: u16,
 ) -> bool {
-    let Some(mut last) = Client::connect(rt, port) else {
-        return false;
-    };
-    for _ in 0..1000 {
-        match tubes_len(rt, &mut last) {
-            Some(27) => return last.is_told(b"list-tubes\r\n", TUBES),
-            Some(_) => thread::sleep(rt, Duration::from_millis(10)),
-            None => return false,
-        }
+    match Client::connect(rt, port) {
+        Some(mut last) => last.sees_tubes(rt, TUBES),
+        None => false,
     }
-    false
-}
-
-/// How many bytes a list of all tubes has, which is read.
-fn tubes_len<H: Net<Listener = TcpListener, Stream = TcpStream> + Clock + AllocGlobal>(
-    rt: &H,
-    client: &mut Client,
-) -> Option<usize> {
-    if !client.is_told(b"list-tubes\r\n", b"OK ") {
-        return None;
-    }
-    let line = client.line(rt.alloc()).ok()?;
-    let len = std::str::from_utf8(line.as_slice()).ok()?.parse().ok()?;
-    client.skips(len).then_some(len)
 }
 
 #[test]
@@ -241,7 +211,7 @@ fn who_works_is_answered_amid_a_crowd(rt: HostRuntime) -> Result<(), Fail> {
     let _sockets = no_sockets();
     let port = free_port(&rt)?;
     let before = in_use(&rt)?;
-    let line = format!(in rt.alloc(); "serve --sessions 73 --workers 64 --nodes 3 --port {port}")?;
+    let line = format!(in rt.alloc(); "serve --sessions 73 --workers 2 --nodes 3 --port {port}")?;
     let words = words(rt.alloc(), line.as_str())?;
     let (ended, served) = thread::join(
         &rt,

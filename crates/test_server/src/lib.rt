@@ -17,6 +17,12 @@ mod dump_rows;
 #[cfg(test)]
 mod end_rows;
 #[cfg(test)]
+mod flood_rows;
+#[cfg(test)]
+mod half_closed_rows;
+#[cfg(test)]
+mod killed_rows;
+#[cfg(test)]
 mod resources;
 #[cfg(test)]
 mod session_rows;
