@@ -4,8 +4,7 @@ ghost use Rattle.hall.specs.declared.error.HallError.TheVariants.{OutOfMemory};
 ghost use Rattle.hall.specs.Tickets.{with_act, with_noted};
 ghost use Rattle.node_threads.specs.Attending.{Adds, attendance_of};
 
-use crate::bell::Patience;
-use crate::faults::Faults;
+use crate::attending::Desk;
 use crate::gate::{Actor, Gate, Point};
 use crate::shared::{HandedIn, Shared};
 use bean_queue::{Op, Reply};
@@ -17,30 +16,19 @@ use std::sync::ledger::{Ledger, Share};
 
 /// A worker with the ticket of the client that it serves: it hands in what the client asks for, and waits for the answer.
 #[derive(Drop)]
-pub(crate) struct Attendant<'a, O: Object, S: Ledger, C: Ledger, R, G, F> {
+pub(crate) struct Attendant<'a, O: Object, S: Ledger, C: Ledger, R, G> {
     pub(crate) rt: &'a R,
     pub(crate) shared: &'a Shared<O, S, C>,
     pub(crate) gate: &'a G,
-    pub(crate) faults: &'a F,
-    pub(crate) worker: u32,
-    /// The node at which it hands in.
-    pub(crate) node: u8,
+    pub(crate) desk: Desk,
     pub(crate) ticket: Ticket<O>,
     /// How many commands it has handed in.
     pub(crate) commands: Share<C>,
-    pub(crate) patience: Patience,
     ghost one_part: { commands.parts ≡ 1 },
 }
 
-impl<
-    'a,
-    O: Object<Op = Op, Reply = Reply>,
-    S: Ledger,
-    C: Ledger,
-    R: Wait,
-    G: Gate,
-    F: Faults,
-> Service for Attendant<'a, O, S, C, R, G, F> {
+impl<'a, O: Object<Op = Op, Reply = Reply>, S: Ledger, C: Ledger, R: Wait, G: Gate> Service
+    for Attendant<'a, O, S, C, R, G> {
     ghost use Rattle.node_threads.specs.Attending.{Adds, TakesLeave, attendance_of};
 
     ghost asks = { λ old op result new. Adds
@@ -52,20 +40,17 @@ impl<
         (attendance_of new.ticket new.commands.amount) };
 
     fn ask(&mut self, op: Op) -> Result<Reply, ServiceFault> {
-        self.gate.at(Actor::Worker(self.worker), Point::Asked);
+        let worker = Actor::Worker(self.desk.worker);
+        self.gate.at(worker, Point::Asked);
         let answered = self.obtain(op);
-        self.gate.at(Actor::Worker(self.worker), Point::Answered);
+        self.gate.at(worker, Point::Answered);
         answered
     }
 
     fn close(&mut self) -> Result<(), ServiceFault> {
         for _ in self.rt.forever() {
             match self.hand_in(Act::Close) {
-                Ok(_) => {
-                    self.shared
-                        .leave(self.rt, self.gate, self.faults, self.worker);
-                    return Ok(());
-                }
+                Ok(_) => return Ok(()),
                 Err(ServiceFault::Refused) => std::thread::yield_now(),
                 Err(ServiceFault::Stopped) => return Err(ServiceFault::Stopped),
             }
@@ -74,15 +59,14 @@ impl<
     }
 }
 
-impl<
+impl<'a, O: Object<Op = Op, Reply = Reply>, S: Ledger, C: Ledger, R: Wait, G: Gate> Attendant<
     'a,
-    O: Object<Op = Op, Reply = Reply>,
-    S: Ledger,
-    C: Ledger,
-    R: Wait,
-    G: Gate,
-    F: Faults,
-> Attendant<'a, O, S, C, R, G, F> {
+    O,
+    S,
+    C,
+    R,
+    G,
+> {
     // Hands in what the client asks for, and waits for the answer to it.
     fn obtain(&mut self, op: Op) -> Result<Reply, ServiceFault>
         ensures added { Adds (attendance_of self.old.ticket self.old.commands.amount) op result
@@ -94,15 +78,7 @@ impl<
     }
 }
 
-impl<'a, O: Object, S: Ledger, C: Ledger, R: Wait, G: Gate, F: Faults> Attendant<
-    'a,
-    O,
-    S,
-    C,
-    R,
-    G,
-    F,
-> {
+impl<'a, O: Object, S: Ledger, C: Ledger, R: Wait, G: Gate> Attendant<'a, O, S, C, R, G> {
     // Hands in the session's next command.
     fn hand_in(&mut self, act: Act<O::Op>) -> Result<HandedIn, ServiceFault>
         ensures ticket { OnOk result (self.new.ticket ≡ with_act self.old.ticket act) }
@@ -117,10 +93,10 @@ impl<'a, O: Object, S: Ledger, C: Ledger, R: Wait, G: Gate, F: Faults> Attendant
             shared,
             ticket,
             commands,
-            node,
+            desk,
             ..
         } = self;
-        match shared.submit(*rt, commands, ticket, act, *node) {
+        match shared.submit(*rt, commands, ticket, act, desk.node) {
             Ok(handed_in) => Ok(handed_in),
             Err(error) => Err(fault_of(error)),
         }
@@ -134,15 +110,9 @@ impl<'a, O: Object, S: Ledger, C: Ledger, R: Wait, G: Gate, F: Faults> Attendant
             × ((noted : Option O.Reply) × (self.new.ticket ≡ with_noted self.old.ticket noted))) }
         ensures commands { self.new.commands ≡ self.old.commands }
     {
-        let Ok(()) = self.shared.note_answer(
-            self.rt,
-            self.gate,
-            self.faults,
-            &mut self.ticket,
-            self.worker,
-            handed_in,
-            &mut self.patience,
-        )
+        let Ok(()) = self
+            .shared
+            .note_answer(self.rt, &mut self.ticket, self.desk.worker, handed_in)
         else {
             return Err(ServiceFault::Stopped);
         };

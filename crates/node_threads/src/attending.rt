@@ -5,7 +5,6 @@ ghost use Rattle.session.specs.StreamStates.{LeavesStreams, streams_of};
 ghost use Rattle.node_threads.specs.Attending.{Adds, TakesLeave, attendance_of};
 
 use crate::attendant::Attendant;
-use crate::bell::Patience;
 use crate::faults::Faults;
 use crate::gate::Gate;
 use crate::shared::Shared;
@@ -36,7 +35,8 @@ pub struct Desk {
 }
 
 /// Serves one client, with the ticket of its session as the service: what the client asks for is handed in, its answer is
-/// noted in the ticket and told to the client. It returns once the client has left, or its session broke off.
+/// noted in the ticket and told to the client. It returns once the client has left, or its session broke off. It takes no
+/// turn of a node, and so asks the faults nothing.
 pub fn attend<
     O: Object<Op = Op, Reply = Reply>,
     S: Ledger,
@@ -56,7 +56,7 @@ pub fn attend<
     writer: &mut W,
     desk: Desk,
     gate: &G,
-    faults: &F,
+    _faults: &F,
 ) -> Attended<O, C, I>
     requires { commands.parts ≡ 1 }
     ensures one_part { result.commands.parts ≡ 1 }
@@ -92,12 +92,9 @@ pub fn attend<
         rt,
         shared,
         gate,
-        faults,
-        worker: desk.worker,
-        node: desk.node,
+        desk,
         ticket,
         commands,
-        patience: Patience::new(),
     };
     let ended = serve(alloc, &mut reader, writer, &mut attendant);
     Attended {

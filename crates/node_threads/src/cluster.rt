@@ -59,7 +59,7 @@ pub fn run_cluster<
     run_cluster_faulty(rt, alloc, hall, accept, seconds, workers, gate, &NoFaults)
 }
 
-/// Does the same while mishaps befall the nodes: before each turn of a node, whoever takes it, one is chosen.
+/// Does the same while mishaps befall the nodes: before each turn of a node one is chosen.
 pub fn run_cluster_faulty<
     O: Object<Op = Op, Reply = Reply> + Send,
     A: Accept + Drop,

@@ -4,13 +4,11 @@
 mod accept;
 mod attendant;
 mod attending;
-mod bell;
 mod clock;
 mod cluster;
 mod cluster_error;
 mod faults;
 mod gate;
-mod news;
 mod node_thread;
 mod places;
 mod rounds;

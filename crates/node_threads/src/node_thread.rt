@@ -1,9 +1,9 @@
 ghost use Rattle.std.specs.Prelude.{◌<◌};
 
-use crate::bell::Patience;
 use crate::faults::Faults;
 use crate::gate::Gate;
 use crate::shared::Shared;
+use counted_hall::Watch;
 use object::Object;
 use std::sync::Wait;
 use std::sync::ledger::Ledger;
@@ -19,14 +19,15 @@ pub(crate) fn run_node<O: Object, S: Ledger, C: Ledger, R: Wait, G: Gate, F: Fau
 )
     requires { 0 < node }
 {
-    let mut patience = Patience::new();
+    // it proposes before it reads its mail, so no request waits as long as letters keep coming
+    let mut watch = Watch::new(node, false);
     for _ in rt.forever() {
-        let has_more = shared.take_own_turn(rt, node, gate, faults);
+        let has_more = shared.take_turn(rt, &mut watch, gate, faults);
         if shared.is_over() {
             return;
         }
         if !has_more {
-            shared.wait_as_node(rt, node, &mut patience);
+            shared.wait_as_node(rt, node);
         }
     }
 }

@@ -6,24 +6,18 @@ ghost use Rattle.hall.specs.Tickets.{last_command, last_noted, with_noted};
 ghost use Rattle.counted_hall.specs.Counting.{CountNothing, CountsAll, CountsNone, HandsInOne, HaveAllParts, OpensOne};
 ghost use Rattle.node_threads.specs.Rings.{node_after, node_of_second};
 
-mod helping;
-
-use crate::bell::Patience;
 use crate::faults::Faults;
-use crate::gate::Gate;
+use crate::gate::{Actor, Gate, Point};
 use crate::places::WaitingPlaces;
-use counted_hall::CountedHall;
+use counted_hall::{CountedHall, Watch};
 use hall::{Hall, HallError, Ticket};
 use object::{Act, Object};
 use std::alloc::{AllocError, Global};
 use std::rt::Clock;
 use std::sync::ledger::{Blank, Ledger, Share};
-use std::sync::{Mutex, MutexGuard, Wait};
-use std::thread::{sleep, yield_now};
+use std::sync::{Mutex, Wait};
+use std::thread::sleep;
 use std::time::Duration;
-
-/// So often a thread looks whether the lock is free before it sleeps until it is.
-const LOOKS_AT_LOCK: u32 = 16;
 
 /// So many naps the clock waits for the nodes' turns at most, and so many milliseconds each.
 const MOST_NAPS: u32 = 100;
@@ -42,8 +36,19 @@ pub struct Shared<O: Object, S: Ledger, C: Ledger> {
 pub(crate) struct HandedIn {
     node: u8,
     second: u64,
-    /// A node that has something to do since.
-    work: Option<u8>,
+}
+
+impl HandedIn {
+    // What is kept of a command that was handed in at the node just now.
+    fn at<O: Object>(node: u8, hall: &Hall<O>) -> HandedIn
+        ensures node { result.node ≡ node }
+        ensures second { result.second ≡ hall.now.second }
+    {
+        HandedIn {
+            node,
+            second: hall.last_second(),
+        }
+    }
 }
 
 impl<O: Object, S: Ledger, C: Ledger> Shared<O, S, C> {
@@ -110,12 +115,12 @@ impl<O: Object, S: Ledger, C: Ledger> Shared<O, S, C> {
         requires { 0 < mine.old.parts }
         ensures opened { OpensOne mine.old mine.new result }
     {
-        let ticket = self.lock(rt).open_session(mine)?;
+        let ticket = self.hall.lock(rt).open_session(mine)?;
         self.places.sit(worker, ticket.session());
         Ok(ticket)
     }
 
-    /// Hands in the next command of a session at a node. Answers where and when that was.
+    /// Hands in the next command of a session at a node, and rings that node's bell. Answers where and when that was.
     pub(crate) fn submit<R: Wait>(
         &self,
         rt: &R,
@@ -128,22 +133,20 @@ impl<O: Object, S: Ledger, C: Ledger> Shared<O, S, C> {
         ensures handed_in { HandsInOne act ticket.old ticket.new mine.old mine.new result }
         ensures at { IfOk result (λ handed_in. handed_in.node ≡ node) }
     {
-        let mut guard = self.lock(rt);
+        let mut guard = self.hall.lock(rt);
         guard.submit(mine, ticket, act, node)?;
-        Ok(self.handed_in_at(node, guard.hall()))
+        self.places.ring_node(node);
+        Ok(HandedIn::at(node, guard.hall()))
     }
 
     /// Waits for the answer to a session's last command, and notes it in the ticket. At each second without one the
     /// command is handed in again, at the next node.
-    pub(crate) fn note_answer<R: Wait, G: Gate, F: Faults>(
+    pub(crate) fn note_answer<R: Wait>(
         &self,
         rt: &R,
-        gate: &G,
-        faults: &F,
         ticket: &mut Ticket<O>,
         worker: u32,
         handed_in: HandedIn,
-        patience: &mut Patience,
     ) -> Result<(), AllocError>
         ensures noted { OnOk result ((reply : O.Reply)
             × (ticket.new ≡ with_noted ticket.old (Some reply))) }
@@ -151,15 +154,37 @@ impl<O: Object, S: Ledger, C: Ledger> Shared<O, S, C> {
     {
         let mut handed_in = handed_in;
         for _ in rt.forever() {
-            if !self.help(rt, gate, faults, worker, handed_in.work) {
-                self.places.wait_as_worker(rt, worker, patience);
-            }
+            self.places.wait_as_worker(rt, worker);
             if self.look_for_answer(rt, ticket, &mut handed_in)? {
-                self.tidy(rt, gate, faults, worker);
                 return Ok(());
             }
         }
         unreachable!()
+    }
+
+    /// One turn of a node, after the mishap that is chosen for it. Then the bells ring of the other nodes that have mail, and
+    /// of the workers whose clients were answered. Tells whether there is more for the node to do at once; where it was
+    /// refused memory, it tries again when its bell rings.
+    pub(crate) fn take_turn<R: Wait, G: Gate, F: Faults>(
+        &self,
+        rt: &R,
+        watch: &mut Watch,
+        gate: &G,
+        faults: &F,
+    ) -> bool {
+        let node = watch.node();
+        gate.at(Actor::Node(node), Point::Turn);
+        let mishap = faults.choose(node, watch.count_turn());
+        let rounds = self.places.rounds();
+        let mut guard = self.hall.lock(rt);
+        rounds.begin_turn(node);
+        let answers = guard.hall().answer_count();
+        let went = guard.take_turn(watch, mishap, rounds.current()).is_ok();
+        let hall = guard.hall();
+        rounds.end_turn(hall, node, watch.round());
+        self.ring_nodes(hall, node);
+        self.ring_workers(hall, answers);
+        went && hall.work(node).is_some()
     }
 
     /// Waits until each node has had a turn since the last second; a tenth of a second at most.
@@ -174,16 +199,15 @@ impl<O: Object, S: Ledger, C: Ledger> Shared<O, S, C> {
 
     /// Hands in a second of the clock, at one node after the other, and tells everybody that it has passed.
     pub(crate) fn tick<R: Wait>(&self, rt: &R, second: u64) {
-        let mut guard = self.lock(rt);
+        let mut guard = self.hall.lock(rt);
         self.places.rounds().begin_second(guard.hall());
         let _ = self.hand_in_second(&mut guard, second);
-        drop(guard);
         self.places.ring_all();
     }
 
     /// A node waits until there is something for it.
-    pub(crate) fn wait_as_node<R: Wait>(&self, rt: &R, node: u8, patience: &mut Patience) {
-        self.places.wait_as_node(rt, node, patience)
+    pub(crate) fn wait_as_node<R: Wait>(&self, rt: &R, node: u8) {
+        self.places.wait_as_node(rt, node)
     }
 
     /// The node after this one, in a ring.
@@ -201,6 +225,24 @@ impl<O: Object, S: Ledger, C: Ledger> Shared<O, S, C> {
     /// Whether they are.
     pub(crate) fn is_over(&self) -> bool {
         self.places.is_over()
+    }
+
+    // Rings the bells of the nodes that have mail, but for this one.
+    fn ring_nodes(&self, hall: &Hall<O>, but: u8) {
+        for node in 1..=hall.members().count() {
+            if node != but && hall.work(node).mail {
+                self.places.ring_node(node);
+            }
+        }
+    }
+
+    // Rings the bells of the workers whose clients were answered since there were so many answers.
+    fn ring_workers(&self, hall: &Hall<O>, answers: usize) {
+        for index in answers..hall.answer_count() {
+            if let Some(key) = hall.answered_key(index) {
+                self.places.ring_worker_of(key.session);
+            }
+        }
     }
 
     // Hands in a second of the clock, at the node whose turn it is.
@@ -229,16 +271,15 @@ impl<O: Object, S: Ledger, C: Ledger> Shared<O, S, C> {
             handed_in.new.node ≡ node_after (vec_len self.now.places.nodes) handed_in.old.node }
         ensures rises { handed_in.old.second ≤ handed_in.new.second }
     {
-        let mut guard = self.lock(rt);
+        let mut guard = self.hall.lock(rt);
         if guard.hall().note(ticket)? {
             return Ok(true);
         }
-        handed_in.work = self.work_for_helper(guard.hall());
         let _ = self.hand_in_again(&mut guard, ticket, handed_in);
         Ok(false)
     }
 
-    // Where a second has passed since the command was handed in, it is handed in again, at the next node.
+    // Where a second has passed since the command was handed in, it is handed in again, at the next node, whose bell rings.
     fn hand_in_again(
         &self,
         hall: &mut CountedHall<O, S, C>,
@@ -263,66 +304,9 @@ impl<O: Object, S: Ledger, C: Ledger> Shared<O, S, C> {
             return Ok(());
         }
         let node = self.places.next_node(handed_in.node);
-        *handed_in = HandedIn {
-            node,
-            second,
-            work: Some(node),
-        };
-        hall.resubmit(ticket, node)
-    }
-
-    // What is kept of a command that was handed in at the node just now.
-    fn handed_in_at(&self, node: u8, hall: &Hall<O>) -> HandedIn
-        ensures node { result.node ≡ node }
-        ensures second { result.second ≡ hall.now.second }
-    {
-        HandedIn {
-            node,
-            second: hall.last_second(),
-            work: self.first_work(hall, node),
-        }
-    }
-
-    // The node that is to have a turn first after a command was handed in at this one.
-    fn first_work(&self, hall: &Hall<O>, node: u8) -> Option<u8> {
-        if self.places.can_help() {
-            self.work_in(hall)
-        } else {
-            Some(node)
-        }
-    }
-
-    // A node that has something to do, where workers take turns.
-    fn work_for_helper(&self, hall: &Hall<O>) -> Option<u8> {
-        if self.places.can_help() {
-            self.work_in(hall)
-        } else {
-            None
-        }
-    }
-
-    // A node that has something to do: mail comes first, then what can be performed, then requests.
-    fn work_in(&self, hall: &Hall<O>) -> Option<u8> {
-        let count = hall.members().count();
-        let with_mail = (1..=count).find(|node| hall.work(*node).mail);
-        if with_mail.is_some() {
-            return with_mail;
-        }
-        let with_decision = (1..=count).find(|node| hall.work(*node).decision);
-        if with_decision.is_some() {
-            return with_decision;
-        }
-        (1..=count).find(|node| hall.work(*node).request)
-    }
-
-    // Takes the lock. It looks for a while before it sleeps, and lets others go on meanwhile.
-    fn lock<R: Wait>(&self, rt: &R) -> MutexGuard<'_, CountedHall<O, S, C>> {
-        for _ in 0..LOOKS_AT_LOCK {
-            if let Some(guard) = self.hall.try_lock() {
-                return guard;
-            }
-            yield_now();
-        }
-        self.hall.lock(rt)
+        *handed_in = HandedIn { node, second };
+        hall.resubmit(ticket, node)?;
+        self.places.ring_node(node);
+        Ok(())
     }
 }
