@@ -10,7 +10,7 @@ use std::test::Fail;
 use std::thread;
 use std::time::Duration;
 
-/// So many nodes, and so many workers that none takes turns of nodes, with a client each.
+/// So many nodes, and so many workers, with a client each.
 const NODES: u8 = 3;
 
 const WORKERS: u32 = 9;

@@ -13,30 +13,35 @@ use std::sync::atomic::{AtomicBool, Ordering};
 use std::test::Fail;
 use std::thread;
 use std::thread::Threads;
+use std::time::Duration;
 
-/// So often the clock looks whether the put was answered before it goes, and then before each second.
-const LOOKS: u64 = 100_000;
+/// So many naps the clock waits for the answer to the put before it goes, and then before each second; and how long a nap
+/// is, in milliseconds.
+const NAPS: u32 = 100;
 
-const LOOKS_A_SECOND: u64 = 1000;
+const NAPS_A_SECOND: u32 = 1;
+
+const NAP: u64 = 1;
 
 /// A clock that goes when it has looked so often in vain whether it is stopped.
 #[derive(Drop)]
-struct Late<'a> {
-    looks: u64,
+struct Late<'a, R> {
+    rt: &'a R,
+    naps: u32,
     second: u64,
     goes: &'a AtomicBool,
     is_stopped: &'a AtomicBool,
 }
 
-impl<'a> Seconds for Late<'a> {
+impl<'a, R: Clock> Seconds for Late<'a, R> {
     fn next(&mut self) -> Option<u64> {
-        for _ in 0..self.looks {
+        for _ in 0..self.naps {
             if self.is_stopped.load(Ordering::SeqCst) {
                 break;
             }
-            thread::yield_now();
+            thread::sleep(self.rt, Duration::from_millis(NAP));
         }
-        self.looks = LOOKS_A_SECOND;
+        self.naps = NAPS_A_SECOND;
         if self.is_stopped.load(Ordering::SeqCst) || self.second >= 1 << 40 {
             return None;
         }
@@ -66,7 +71,8 @@ fn is_late<R: Threads + Wait + Clock + Sync + Abort + Files + AllocGlobal, F: Fa
     let clients = vec![in alloc; served]?;
     let is_stopped = AtomicBool::new(false);
     let seconds = Late {
-        looks: LOOKS,
+        rt,
+        naps: NAPS,
         second: 0,
         goes,
         is_stopped: &is_stopped,

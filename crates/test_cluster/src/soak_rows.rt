@@ -151,7 +151,7 @@ fn soak<R: Threads + Wait + Sync + Abort + Clock + Files + AllocGlobal>(
     })
 }
 
-// Four workers, which take turns of nodes.
+// Four workers, so that some clients wait for one.
 #[test]
 fn three_nodes_soak(rt: HostRuntime) -> Result<(), Fail> {
     for seed in SEEDS {
@@ -163,7 +163,7 @@ fn three_nodes_soak(rt: HostRuntime) -> Result<(), Fail> {
     Ok(())
 }
 
-// Nine workers, so that the nodes' own threads take all turns.
+// Nine workers, so that no client waits for one.
 #[test]
 fn five_nodes_soak(rt: HostRuntime) -> Result<(), Fail> {
     for seed in SEEDS {

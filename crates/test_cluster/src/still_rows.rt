@@ -97,7 +97,6 @@ fn are_answered<R: Threads + Wait + Sync + Abort + Clock + Files + AllocGlobal>(
 
 // Tried: where the last node's mail is overlooked in what there is after a turn, where of several clients that were answered
 // one worker is woken, or where no node wakes at the start, somebody isn't answered, and the clock ends the test, failed.
-// Where workers that look for work overlook the last node, it passes.
 #[test]
 fn all_are_answered_at_once(rt: HostRuntime) -> Result<(), Fail> {
     for (nodes, workers) in CLUSTERS {
