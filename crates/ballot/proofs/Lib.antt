@@ -5,4 +5,7 @@ pub mod Sending
 pub mod Lending
 pub mod SlotMaps
 pub mod SlotRows
+pub mod Rests
+pub mod Bounds
+pub mod Filters
 pub mod Turns

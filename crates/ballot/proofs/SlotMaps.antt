@@ -1,7 +1,7 @@
 -- The entries of a tree, in rising slot, as a finite map, and what changes of such a map leave.
-use Rattle.std.proofs.Common.{◌≡◌, ◌⊎◌, inl, inr, ⊎_elim, arith, ℕ, Bool, true, false, cond, List, [], ◌∷◌, Option}
+use Rattle.std.proofs.Common.{◌≡◌, ◌⊎◌, inl, inr, ⊎_elim, arith, ℕ, Bool, true, false, cond, List, [], ◌∷◌, map, Option}
 use Rattle.std.proofs.Common.{None, Some, refl, sym, ap, ap₂, subst, ◌∙◌, Less}
-use Rattle.std.specs.Prelude.{T, ◌&&◌, is_some}
+use Rattle.std.specs.Prelude.{T, ◌&&◌, is_some, option_map}
 use Rattle.std.specs.Ordering.{nat_cmp, eq_by_cmp, is_lt}
 use Rattle.std.specs.Cmp.{nat_cmp_total, eq_by_cmp_equiv}
 use Rattle.std.specs.Map.{lookup, keys_of}
@@ -13,7 +13,11 @@ use Rattle.std.specs.FinMap.{is_sorted, same_map, nat_cmp-IsAntisymmetric, get-e
 use Rattle.std.specs.FinMap.{get-insert, get-remove, get-from_entries}
 use Rattle.std.specs.FinMap.Entries.{below_all}
 use Rattle.std.proofs.lemmas.Bool.Decides.{nat_tests}
-use Rattle.ballot.specs.Slots.{Slots}
+use Rattle.ballot.specs.Slots.{Slots, each_value}
+
+-- maps that answer alike are the same
+pub same_slots : {X : Type 0} (m n : Slots X) → ((q : ℕ) → get m q ≡ get n q) → m ≡ n
+same_slots m n h = same_map nat_cmp_total nat_cmp-IsAntisymmetric m n h
 
 both : (a b : Bool) → T a → T b → T (a && b)
 both true b p q = q
@@ -106,3 +110,19 @@ insert_again m k v there =
     ⊎_elim
     (λ (h : eq_by_cmp nat_cmp q k ≡ true). ap (λ b. cond b (Some v) (get m q)) h ∙ sym (ap (λ n. get m n) (same_key k q h) ∙ there))
     (λ (h : eq_by_cmp nat_cmp q k ≡ false). ap (λ b. cond b (Some v) (get m q)) h) (key_cases k q))
+
+-- a map with other values
+find_mapped : {X Y : Type 0} (f : ℕ → X → Y) (es : List (ℕ × X)) (q : ℕ)
+    → find nat_cmp q (map (λ e. (e.0, f e.0 e.1)) es) ≡ option_map (f q) (find nat_cmp q es)
+find_mapped f [] q = refl
+find_mapped {X} {Y} f (e ∷ es) q =
+    elim (eq_by_cmp nat_cmp q e.0) as (λ b. eq_by_cmp nat_cmp q e.0 ≡ b
+    → cond b (Some (f e.0 e.1)) (find nat_cmp q (map (λ e. (e.0, f e.0 e.1)) es))
+    ≡ option_map (f q) (cond b (Some e.1) (find nat_cmp q es))) [
+      | true ↦ λ t. ap (λ s. Some (f s e.1)) (sym (same_key e.0 q t))
+      | false ↦ λ t. find_mapped f es q
+    ] refl
+
+pub get_each : {X Y : Type 0} (f : ℕ → X → Y) (m : Slots X) (q : ℕ) → get (each_value f m) q ≡ option_map (f q) (get m q)
+get_each f m q = get-from_entries nat_cmp_total (map (λ x. (x.0, f x.0 x.1)) (entries m)) q ∙ find_mapped f
+    (entries m) q ∙ ap (option_map (f q)) (sym (get-entries m q))

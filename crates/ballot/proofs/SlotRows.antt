@@ -8,10 +8,12 @@ use Rattle.std.specs.Ordering.{nat_cmp, eq_by_cmp}
 use Rattle.std.specs.Cmp.{nat_cmp_total}
 use Rattle.std.specs.FinMap.{get, insert, remove, get-insert, get-remove, same_map, nat_cmp-IsAntisymmetric}
 use Rattle.std.proofs.lemmas.Option.{slice_get_past}
-use Rattle.ballot.proofs.SlotMaps.{same_key}
+use Rattle.ballot.proofs.SlotMaps.{same_key, same_slots}
+use Rattle.ballot.proofs.Rests.{get_above}
 use Rattle.std.proofs.lemmas.Bool.Decides.{nat_tests}
 use Rattle.ballot.specs.Slots.{Slots}
 use Rattle.ballot.specs.SlotRows.{in_row, with_row, but_at}
+use Rattle.ballot.specs.Rests.{kept_from}
 
 -- the slot is before, at, or behind the first of the row
 cases : (n q : ℕ) → (nat_le n q ≡ false) ⊎ ((q ≡ n) ⊎ ((nat_le (n + 1) q ≡ true) × (nat_le n q ≡ true)))
@@ -204,3 +206,15 @@ with_row_one n x m = refl
 pub with_row_none : {X : Type 0} (n : ℕ) (m : Slots X) → with_row n (None ∷ []) m ≡ m
 unfolding with_row
 with_row_none n m = refl
+
+-- from a base on, a row goes on as one that was cut
+pub cut_row : {X : Type 0} (n k base : ℕ) (os ps : List (Option X)) (m : Slots X)
+    → ((s : ℕ) → in_row k ps s ≡ cond (nat_le base s) (in_row n os s) None)
+    → with_row k ps (kept_from base m) ≡ kept_from base (with_row n os m)
+cut_row n k base os ps m is = same_slots _ _ (λ q.
+    get_with_row k ps (kept_from base m) q
+    ∙ ap₂ (λ o r. option_or o r) (is q) (get_above base m q)
+    ∙ elim (nat_le base q) as (λ b. option_or (cond b (in_row n os q) None) (cond b (get m q) None)
+    ≡ cond b (option_or (in_row n os q) (get m q)) None) [ true ↦ refl | false ↦ refl ]
+    ∙ ap (λ o. cond (nat_le base q) o None) (sym (get_with_row n os m q))
+    ∙ sym (get_above base (with_row n os m) q))

@@ -9,3 +9,4 @@ pub mod BallotLaws
 pub mod OrderLaws
 pub mod Slots
 pub mod SlotRows
+pub mod Rests

@@ -1,7 +1,8 @@
-ghost use Rattle.std.specs.Prelude.{◌≡◌, ◌==◌, ◌<◌, ◌^◌, IfOk, OnOk, OnErr};
+ghost use Rattle.std.specs.Prelude.{◌≡◌, ◌==◌, ◌<◌, ◌^◌, IfOk, OnOk, OnErr, filter, nat_le};
 ghost use Rattle.std.specs.Option.{option_copied, option_copied_mut};
 ghost use Rattle.std.specs.Borrow.{LendsIf, sem};
 ghost use Rattle.std.specs.FinMap as slots;
+ghost use Rattle.ballot.specs.Rests.{kept_from};
 ghost use Rattle.ballot.specs.contracts.slot_map.SlotMap.{the_row};
 
 use crate::slot::Slot;
@@ -106,6 +107,15 @@ impl<X> SlotMap<X> {
     {
         self.entries.remove(&slot)
     }
+
+    /// Forgets the slots below the base. It takes no memory, and its time is that of what is forgotten.
+    pub fn forget(&mut self, base: u64)
+    where
+        X: Drop,
+        ensures { self.new ≡ kept_from base self.old }
+    {
+        drop_below(&mut self.entries, base);
+    }
 }
 
 impl<C: Value> SlotMap<C> {
@@ -119,5 +129,17 @@ impl<C: Value> SlotMap<C> {
             copy.insert(*slot, value.copy()?)?;
         }
         Ok(copy)
+    }
+}
+
+// Drops the entries of the slots below the base.
+fn drop_below<X: Drop>(entries: &mut BTreeMap<Slot, X>, base: u64)
+    ensures { entries.new.entries ≡ filter (λ e. nat_le base e.0) entries.old.entries }
+{
+    while let Some((first, _)) = entries.first_key_value() {
+        if first.number() >= base {
+            return;
+        }
+        entries.pop_first();
     }
 }

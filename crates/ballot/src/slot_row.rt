@@ -1,13 +1,17 @@
-ghost use Rattle.std.specs.Prelude.{◌≡◌, ◌⊎◌, ◌∷◌, [], ◌+◌, ◌<◌, ◌≤◌, ◌^◌, ℕ, Some, None, IfOk, IfSome, IfNone, OnOk, OnErr, length, max};
+ghost use Rattle.std.specs.Prelude.{◌≡◌, ◌⊎◌, ◌∷◌, [], ◌+◌, ◌<◌, ◌≤◌, ◌^◌, ℕ, Some, None, IfOk, IfSome, IfNone, OnOk, OnErr, length, max, nat_le, if◌then◌else◌};
 ghost use Rattle.std.specs.Option.{option_copied};
 ghost use Rattle.std.specs.FinMap as slots;
+ghost use Rattle.ballot.specs.Rests.{kept_from};
 ghost use Rattle.ballot.specs.SlotRows.{in_row, with_row, but_at};
 ghost use Rattle.ballot.specs.Slots.{Slots};
 
+mod bounds;
+
 use crate::slot::Slot;
 use crate::slot_map::SlotMap;
-use object::{Value, copies_of};
+use object::Value;
 use std::alloc::{AllocError, Global};
+use std::collections::VecDeque;
 use std::marker::Model;
 use std::mem;
 
@@ -20,7 +24,7 @@ const GAP: u64 = 64;
 pub struct SlotRow<X> {
     // The number of the row's first slot.
     first: u64,
-    row: Vec<Option<X>>,
+    row: VecDeque<Option<X>>,
     beside: SlotMap<X>,
 }
 
@@ -52,7 +56,7 @@ impl<X> SlotRow<X> {
     {
         SlotRow {
             first: 1,
-            row: Vec::new(alloc),
+            row: VecDeque::new(alloc),
             beside: values,
         }
     }
@@ -102,6 +106,16 @@ impl<X> SlotRow<X> {
             None => beside,
         }
     }
+
+    /// Forgets the slots below the base. It takes no memory, and its time is that of what is forgotten.
+    pub fn forget(&mut self, base: u64)
+    where
+        X: Drop,
+        ensures { self.new ≡ kept_from base self.old }
+    {
+        self.beside.forget(base);
+        self.first = cut(self.first, &mut self.row, base);
+    }
 }
 
 impl<X: Value> SlotRow<X> {
@@ -109,10 +123,9 @@ impl<X: Value> SlotRow<X> {
     pub fn copy(&self) -> Result<SlotRow<X>, AllocError>
         ensures { IfOk result (λ copy. copy ≡ self.now) }
     {
-        let row = copies_of(*self.row.allocator(), &self.row)?;
         Ok(SlotRow {
             first: self.first,
-            row,
+            row: copy_of_row(&self.row)?,
             beside: self.beside.copy()?,
         })
     }
@@ -122,13 +135,13 @@ impl<X: Value> SlotRow<X> {
         ensures { IfOk result (λ m. m ≡ self.now) }
     {
         let mut map = self.beside.copy()?;
-        copy_row(self.first, self.row.as_slice(), &mut map)?;
+        copy_row(self.first, &self.row, &mut map)?;
         Ok(map)
     }
 }
 
 // The value that the row has for the slot, if it has one.
-fn in_row<X>(first: u64, row: &Vec<Option<X>>, slot: Slot) -> Option<&X>
+fn in_row<X>(first: u64, row: &VecDeque<Option<X>>, slot: Slot) -> Option<&X>
     ensures { option_copied result ≡ in_row first row.now.items slot }
 {
     let place = slot.number().checked_sub(first)?;
@@ -136,7 +149,7 @@ fn in_row<X>(first: u64, row: &Vec<Option<X>>, slot: Slot) -> Option<&X>
 }
 
 // Where the row begins with which this slot is to be kept: an empty one may begin anywhere.
-fn first_for<X>(first: u64, row: &Vec<Option<X>>, slot: Slot) -> u64
+fn first_for<X>(first: u64, row: &VecDeque<Option<X>>, slot: Slot) -> u64
     requires some { 0 < first }
     requires within { first + length row.now.items ≤ 2 ^ 62 + 1 }
     ensures same { (m : Slots X) → with_row result row.now.items m
@@ -162,7 +175,7 @@ fn place_in_row(first: u64, length: usize, slot: Slot) -> Option<usize>
 }
 
 // Puts a value at a place of the row, which is made long enough.
-fn put<X: Drop>(row: &mut Vec<Option<X>>, place: usize, value: X) -> Result<(), AllocError>
+fn put<X: Drop>(row: &mut VecDeque<Option<X>>, place: usize, value: X) -> Result<(), AllocError>
     requires { place < 2 ^ 62 }
     ensures ok { OnOk result ((first s : ℕ) → in_row first row.new.items s
         ≡ but_at (in_row first row.old.items) (first + place) (Some value) s) }
@@ -171,14 +184,14 @@ fn put<X: Drop>(row: &mut Vec<Option<X>>, place: usize, value: X) -> Result<(), 
     ensures length { length row.new.items ≤ max (length row.old.items) (place + 1) }
 {
     for _ in row.len()..place + 1 {
-        row.push(None)?;
+        row.push_back(None)?;
     }
     row[place] = Some(value);
     Ok(())
 }
 
 // Takes the value of the slot out of the row, if it has one there.
-fn take<X: Drop>(first: u64, row: &mut Vec<Option<X>>, slot: Slot) -> Option<X>
+fn take<X: Drop>(first: u64, row: &mut VecDeque<Option<X>>, slot: Slot) -> Option<X>
     ensures value { result ≡ in_row first row.old.items slot }
     ensures rest { (s : ℕ) → in_row first row.new.items s
         ≡ but_at (in_row first row.old.items) slot None s }
@@ -192,11 +205,44 @@ fn take<X: Drop>(first: u64, row: &mut Vec<Option<X>>, slot: Slot) -> Option<X>
     }
 }
 
+// Cuts the slots below the base off the row, and answers where it begins then. Where none is left, it holds no memory.
+fn cut<X: Drop>(first: u64, row: &mut VecDeque<Option<X>>, base: u64) -> u64
+    requires { first + length row.old.items ≤ 2 ^ 62 + 1 }
+    ensures kept { (s : ℕ) → in_row result row.new.items s
+        ≡ (if nat_le base s then in_row first row.old.items s else None) }
+    ensures later { first ≤ result }
+    ensures end { result + length row.new.items ≡ first + length row.old.items }
+{
+    let below = base.saturating_sub(first).min(row.len() as u64);
+    for _ in 0..below {
+        row.pop_front();
+    }
+    if row.is_empty() {
+        row.shrink_to_fit();
+    }
+    first + below
+}
+
+// The same row once more.
+fn copy_of_row<X: Value>(row: &VecDeque<Option<X>>) -> Result<VecDeque<Option<X>>, AllocError>
+    ensures { IfOk result (λ copy. copy.items ≡ row.now.items) }
+{
+    let mut copy = VecDeque::with_capacity(*row.allocator(), row.len())?;
+    for entry in row {
+        copy.push_back(entry.copy()?)?;
+    }
+    Ok(copy)
+}
+
 // Copies the values of the row into the map.
-fn copy_row<X: Value>(first: u64, row: &[Option<X>], map: &mut SlotMap<X>) -> Result<(), AllocError>
+fn copy_row<X: Value>(
+    first: u64,
+    row: &VecDeque<Option<X>>,
+    map: &mut SlotMap<X>,
+) -> Result<(), AllocError>
     requires some { 0 < first }
-    requires within { first + length row.now ≤ 2 ^ 62 + 1 }
-    ensures { OnOk result (map.new ≡ with_row first row.now map.old) }
+    requires within { first + length row.now.items ≤ 2 ^ 62 + 1 }
+    ensures { OnOk result (map.new ≡ with_row first row.now.items map.old) }
 {
     for place in 0..row.len() {
         copy_entry(first + place as u64, &row[place], map)?;

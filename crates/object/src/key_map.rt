@@ -82,7 +82,7 @@ impl<V: Copy> KeyMap<V> {
         }
     }
 
-    /// Takes the key's value away. It takes no memory.
+    /// Takes the key's value away. It takes no memory, and a session that has no value then keeps none.
     pub fn remove(&mut self, key: Key)
         ensures { (q : Key) → at_key self.new q ≡ without_key (at_key self.old) key q }
     {
@@ -90,5 +90,8 @@ impl<V: Copy> KeyMap<V> {
             return;
         };
         numbers.remove(key.number);
+        if numbers.is_empty() {
+            self.sessions.remove(&key.session);
+        }
     }
 }

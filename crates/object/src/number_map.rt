@@ -1,4 +1,4 @@
-ghost use Rattle.std.specs.Prelude.{◌≡◌, [], IfOk, IfErr, IsSome, OnOk, OnErr};
+ghost use Rattle.std.specs.Prelude.{◌≡◌, ◌==◌, [], length, IfOk, IfErr, IsSome, OnOk, OnErr};
 ghost use Rattle.object.specs.NumberMaps.{Rises, IsAt, IsGapFor, Sets, Lacks, value_of};
 
 use std::alloc::{AllocError, Global};
@@ -91,6 +91,13 @@ impl<V: Copy> NumberMap<V> {
         if let Ok(place) = self.search(number) {
             self.pairs.remove(place);
         }
+    }
+
+    /// Whether no number has a value.
+    pub(crate) fn is_empty(&self) -> bool
+        ensures { result ≡ (length self.now == 0) }
+    {
+        self.pairs.is_empty()
     }
 
     // Where the number is, or where it would go.

@@ -6,16 +6,16 @@ use Rattle.ballot.proofs.slot_row.put.Goals as goal
 pub loop-init : goal.loop-init
 loop-init g c = (λ first s. refl, search rules, omega arith)
 
-pub returns-in_err-push-clause-err : goal.returns-in_err-push-clause-err
-returns-in_err-push-clause-err g c = search (rules, c.loop.invariant.0)
+pub returns-in_err-push_back-clause-err : goal.returns-in_err-push_back-clause-err
+returns-in_err-push_back-clause-err g c = search (rules, c.loop.invariant.0)
 
-pub returns-in_err-push-clause-length : goal.returns-in_err-push-clause-length
-returns-in_err-push-clause-length g c = search (rules, c.loop.invariant.2)
+pub returns-in_err-push_back-clause-length : goal.returns-in_err-push_back-clause-length
+returns-in_err-push_back-clause-length g c = search (rules, c.loop.invariant.2)
 
 pub loop-preserved : goal.loop-preserved
 loop-preserved g c = (
   λ first s. ap
-      (λ (os : List (Option g.row.X.Denot)). in_row first os s) c.in_ok-push.ensures.items ∙ in_row_push_none first
+      (λ (os : List (Option g.row.X.Denot)). in_row first os s) c.in_ok-push_back.ensures.items ∙ in_row_push_none first
       c.loop.row.items s ∙ c.loop.invariant.0 first s,
   search rules,
   search rules,
