@@ -1,2 +1,3 @@
 pub mod Memberships
 pub mod Kept
+pub mod Rests

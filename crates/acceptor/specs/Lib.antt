@@ -1,3 +1,4 @@
 pub mod Reports
 pub mod Acceptors
 pub mod Places
+pub mod Rests

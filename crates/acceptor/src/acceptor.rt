@@ -4,6 +4,7 @@ ghost use Rattle.ballot.specs.Ballots.{higher, is_promise};
 ghost use Rattle.acceptor.specs.Reports.{IsReport};
 ghost use Rattle.acceptor.specs.Places.{is_higher};
 ghost use Rattle.acceptor.specs.Acceptors.{new_acceptor, after_p1a, after_p2a, Keeps};
+ghost use Rattle.acceptor.specs.Rests.{rest_of_acceptor};
 
 use crate::accepted::Accepted;
 use ballot::{Ballot, Pvalue, SlotRow};
@@ -105,6 +106,13 @@ impl<C: Value> Acceptor<C> {
         ensures { result ≡ is_promise self.now.promised ballot }
     {
         self.promised == Some(ballot)
+    }
+
+    /// Forgets what it accepted in the slots below the base; the promise stays. It takes no memory.
+    pub fn forget(&mut self, base: u64)
+        ensures { self.new ≡ rest_of_acceptor base self.old }
+    {
+        self.accepted.forget(base);
     }
 
     // What was accepted in each slot, in rising slot.

@@ -4,3 +4,4 @@ pub mod GreatestValues
 pub mod VoteRows
 pub mod PromiseRows
 pub mod Saying
+pub mod Rests

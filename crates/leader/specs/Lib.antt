@@ -3,3 +3,4 @@ pub mod Adoptions
 pub mod Greatest
 pub mod Promises
 pub mod Votes
+pub mod Rests

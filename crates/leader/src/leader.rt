@@ -6,6 +6,7 @@ ghost use Rattle.leader.specs.Leaders.{new_leader, preempted, woken, scout_says,
 
 mod adopting;
 mod copying;
+mod forgetting;
 mod promises;
 mod proposing;
 mod votes;

@@ -1,4 +1,4 @@
-ghost use Rattle.std.specs.Prelude.{◌≡◌, ◌↔◌, ◌++◌, ◌<◌, true, None, Some, Ok, is_some, map, take, vec_len, IfOk, IfSome, OnOk, OnErr, IsOk, IsErrOf};
+ghost use Rattle.std.specs.Prelude.{◌≡◌, ◌↔◌, ◌++◌, ◌<◌, ◌≤◌, true, None, Some, Ok, is_some, map, take, vec_len, IfOk, IfSome, OnOk, OnErr, IsOk, IsErrOf};
 ghost use Rattle.std.specs.Option.{option_map};
 ghost use Rattle.std.specs.FinMap.{empty, get, contains_key};
 ghost use Rattle.ballot.specs.Members.{is_member};
@@ -12,6 +12,7 @@ ghost use Rattle.slot_log.specs.Requests.{is_known, requested};
 ghost use Rattle.slot_log.specs.Proposals.{next_proposal, proposed_next};
 ghost use Rattle.slot_log.specs.Decisions as deciding;
 ghost use Rattle.slot_log.specs.Histories.{history};
+ghost use Rattle.slot_log.specs.Rests.{rest_of_book};
 ghost use Rattle.replica.specs.Replicas.{but_last, proposes_first, tells, nudges, proposes_again, asks_others, performed, performed_answers};
 
 use crate::obeying::obeying;
@@ -108,6 +109,14 @@ impl<O: Object> Replica<O> {
         ensures { result ≡ contains_key self.now.slots.decisions slot }
     {
         self.slots.knows(slot)
+    }
+
+    /// Forgets what is known of the slots below the base, all of which were performed. It takes no memory.
+    pub fn forget(&mut self, base: u64)
+        requires { base ≤ self.old.slots.slot_out }
+        ensures { self.new ≡ record self.old { slots = rest_of_book base self.old.slots } }
+    {
+        self.slots.forget(base);
     }
 
     /// The least slot with a proposal and without a known decision. It takes no memory.

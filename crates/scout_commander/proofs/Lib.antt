@@ -1,3 +1,4 @@
 pub mod Members
 pub mod Fresh
 pub mod Places
+pub mod Rests

@@ -1,8 +1,11 @@
-ghost use Rattle.std.specs.Prelude.{◌≡◌, ◌↔◌, ◌≤◌, ℕ, ◌+◌, ◌++◌, ◌∷◌, [], true, length, take, IfOk, OnOk, OnErr};
+ghost use Rattle.std.specs.Prelude.{◌≡◌, ◌↔◌, ◌≤◌, ℕ, ◌+◌, ◌++◌, ◌∷◌, [], true, length, take, IfOk, OnOk, OnErr, Some, if◌then◌else◌, ◌&&◌, is_some, nat_le};
+ghost use Rattle.std.specs.List.{list_all};
+ghost use Rattle.std.specs.BTreeMap.{get, is_at};
 ghost use Rattle.object.specs.Lists.{In};
 ghost use Rattle.ballot.specs.Ballots.{Numbers};
+ghost use Rattle.ballot.specs.Rests.{pvalues_from};
 ghost use Rattle.scout_commander.specs.Reports.{IsFresh, HasNews, beyond};
-ghost use Rattle.scout_commander.specs.Starts.{start};
+ghost use Rattle.scout_commander.specs.Starts.{start, place_cmp, HasStarts, IsIndexOf};
 
 use ballot::{Ballot, Pvalue, Slot};
 use object::Value;
@@ -105,6 +108,18 @@ impl<C: Value> Gathered<C> {
         Ok(())
     }
 
+    /// Forgets the slots below the base. It takes no memory.
+    pub(crate) fn forget(&mut self, base: u64)
+        ensures { self.new ≡ pvalues_from base self.old }
+    {
+        if are_from(base, &self.pvalues) {
+            return;
+        }
+        self.pvalues.retain(|pvalue| pvalue.slot.number() >= base);
+        drop_starts(&mut self.starts, base);
+        set_starts(&mut self.starts, &self.pvalues);
+    }
+
     /// The same pvalues once more.
     pub(crate) fn copy(&self) -> Result<Self, AllocError>
         ensures { IfOk result (λ gathered. gathered ≡ self.now) }
@@ -140,4 +155,47 @@ fn note_end(
         starts.insert((slot, ballot), len)?;
     }
     Ok(())
+}
+
+/// Whether no slot of the pvalues is below the base.
+fn are_from<C>(base: u64, pvalues: &[Pvalue<C>]) -> bool
+    ensures { result ≡ list_all (λ p. nat_le base p.slot) pvalues.now }
+{
+    pvalues.iter().all(|pvalue| pvalue.slot.number() >= base)
+}
+
+/// Drops the indices of the slots below the base.
+fn drop_starts(starts: &mut BTreeMap<(Slot, Ballot), usize>, base: u64)
+    ensures { (place : ℕ × Numbers) → base ≤ place.0
+        → get place_cmp starts.new place ≡ get place_cmp starts.old place }
+{
+    while let Some(((slot, _), _)) = starts.first_key_value() {
+        if slot.number() >= base {
+            return;
+        }
+        starts.pop_first();
+    }
+}
+
+/// Sets the index of each slot and ballot of the pvalues anew, to that of their first pvalue.
+fn set_starts<C>(starts: &mut BTreeMap<(Slot, Ballot), usize>, pvalues: &[Pvalue<C>])
+    requires { HasStarts starts.old pvalues.now }
+    ensures { IsIndexOf starts.new pvalues.now }
+{
+    // The first pvalue is put last, and stays.
+    for index in (0..pvalues.len()).rev() {
+        let pvalue = &pvalues[index];
+        set_start(starts, pvalue.slot, pvalue.ballot, index);
+    }
+}
+
+/// Sets the index of this slot and ballot, where one is kept.
+fn set_start(starts: &mut BTreeMap<(Slot, Ballot), usize>, slot: Slot, ballot: Ballot, index: usize)
+    ensures { (place : ℕ × Numbers) → get place_cmp starts.new place
+        ≡ (if is_at (place_cmp (slot, ballot)) place && is_some (get place_cmp starts.old place)
+        then Some index else get place_cmp starts.old place) }
+{
+    if let Some(start) = starts.get_mut(&(slot, ballot)) {
+        *start = index;
+    }
 }

@@ -1,5 +1,6 @@
 ghost use Rattle.std.specs.Prelude.{◌≡◌, ◌↔◌, true, IsOk, IfOk, OnOk, OnErr};
 ghost use Rattle.scout_commander.specs.Reports.{HasNews};
+ghost use Rattle.scout_commander.specs.Rests.{rest_of_scout};
 ghost use Rattle.scout_commander.specs.Scouts.{new_scout, on_p1b as hearing, fresh_of, TakesFresh, IsPromising, IsAdopting, IsPreempting};
 
 use crate::gathered::Gathered;
@@ -102,6 +103,13 @@ impl<C: Value> Scout<C> {
         } else {
             Heard::Wait
         })
+    }
+
+    /// Forgets what was gathered of the slots below the base; whom it heard stays heard. It takes no memory.
+    pub fn forget(&mut self, base: u64)
+        ensures { self.new ≡ rest_of_scout base self.old }
+    {
+        self.gathered.forget(base);
     }
 
     /// What was gathered so far, in the order in which it was heard.

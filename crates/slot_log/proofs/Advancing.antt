@@ -27,7 +27,7 @@ use Rattle.slot_log.proofs.Standing.{among, found_moved, placed}
 
 module _ {C : Type 0} (same : C → C → Bool) (key_of : C → Key) (exact : (x y : C) → same x y ≡ true → x ≡ y) (itself : (x : C) → same x x ≡ true)
     (a : Inside C) (kept : KeepsBook same key_of a) where
-  out_performed : is_some (get a.decisions a.slot_out) ≡ true → (s : ℕ) → 0 < s → s < a.slot_out + 1 → is_some (get a.decisions s) ≡ true
+  out_performed : is_some (get a.decisions a.slot_out) ≡ true → (s : ℕ) → a.slot_in ≤ s → s < a.slot_out + 1 → is_some (get a.decisions s) ≡ true
   out_performed there s low high =
       ⊎_elim (λ (l : s < a.slot_out). kept.performed s low l)
       (λ (l : a.slot_out ≤ s). let e : a.slot_out ≡ s = omega arith in subst (λ t. is_some (get a.decisions t) ≡ true) e there)
@@ -37,6 +37,12 @@ module _ {C : Type 0} (same : C → C → Bool) (key_of : C → Key) (exact : (x
   gone s none =
       ⊎_elim (λ (h : (s ≡ a.slot_out) × (get (remove a.proposals a.slot_out) s ≡ None)). h.1)
       (λ (h : get (remove a.proposals a.slot_out) s ≡ get a.proposals s). h ∙ none) (remove_cases a.proposals a.slot_out s)
+
+  still_there : (s : ℕ) → is_some (get (remove a.proposals a.slot_out) s) ≡ true → is_some (get a.proposals s) ≡ true
+  still_there s there =
+      ⊎_elim (λ (h : (s ≡ a.slot_out) × (get (remove a.proposals a.slot_out) s ≡ None)). absurd (false≢true (ap is_some (sym h.1) ∙ there)))
+      (λ (h : get (remove a.proposals a.slot_out) s ≡ get a.proposals s). ap is_some (sym h) ∙ there)
+      (remove_cases a.proposals a.slot_out s)
 
   above : (n s : ℕ) → n ≤ s → (s ≡ n → ⊥) → n + 1 ≤ s
   above n s low other = omega arith
@@ -73,6 +79,7 @@ module _ {C : Type 0} (same : C → C → Bool) (key_of : C → Key) (exact : (x
         front_rank = kept.front_rank;
         within = kept.within;
         performed = out_performed there;
+        numbered = λ s there. kept.numbered s (still_there s there);
         near = still_near;
         ahead = λ s h. gone s (kept.ahead s h);
         room = room;

@@ -1,5 +1,5 @@
 -- A log whose fields are those of another.
-use Rattle.std.proofs.Common.{◌≡◌, ◌+◌, ◌≤◌, ◌<◌, ℕ, Bool, true, Some, None, List, arith, sym, ap, ap₂, subst, ◌∙◌}
+use Rattle.std.proofs.Common.{◌≡◌, ◌+◌, ◌≤◌, ◌<◌, ℕ, Bool, true, Some, List, arith, sym, ap, ap₂, subst, ◌∙◌}
 use Rattle.std.specs.Prelude.{IsSome}
 use Rattle.std.specs.FinMap.{get, len}
 use Rattle.std.specs.VecDeque.{deque_len, deque_capacity}
@@ -40,7 +40,9 @@ module _ {C : Type 0} (same : C → C → Bool) (key_of : C → Key) (exact : (x
         slot_out = subst IsNext slot_out kept.slot_out;
         front_rank = let less = kept.front_rank in omega (arith, less, rank, slot_in);
         within = λ s h. kept.within s (subst IsSome (decision s) h);
-        performed = λ s low high. subst IsSome (sym (decision s)) (kept.performed s low (subst (λ n. s < n) (sym slot_out) high));
+        performed = λ s low high. subst IsSome (sym (decision s))
+            (kept.performed s (subst (λ n. n ≤ s) (sym slot_in) low) (subst (λ n. s < n) (sym slot_out) high));
+        numbered = λ s h. kept.numbered s (subst IsSome (proposal s) h);
         near = λ s h. subst (λ n. IsInWindow n s) slot_out (kept.near s (subst IsSome (proposal s) h));
         ahead = λ s low. proposal s ∙ kept.ahead s (subst (λ n. n ≤ s) (sym slot_in) low);
         room = room;

@@ -46,6 +46,7 @@ module _ {C : Type 0} (same : C → C → Bool) (key_of : C → Key) (exact : (x
     front_rank = kept.front_rank;
     within = kept.within;
     performed = kept.performed;
+    numbered = kept.numbered;
     near = kept.near;
     ahead = kept.ahead;
     room = kept.room;
@@ -98,6 +99,7 @@ module _ {C : Type 0} (same : C → C → Bool) (key_of : C → Key) (exact : (x
       front_rank = kept.front_rank;
       within = within_inserted a.decisions (λ s. s ≤ 2 ^ 62) slot x numbered kept.within;
       performed = λ s low high. stays_inserted a.decisions slot x s (kept.performed s low high);
+      numbered = kept.numbered;
       near = kept.near;
       ahead = kept.ahead;
       room = kept.room;

@@ -4,6 +4,10 @@ pub mod Held
 pub mod Searches
 pub mod OpenSlots
 pub mod Known
+pub mod Stands
+pub mod Settling
+pub mod Forgetting
+pub mod Seen
 pub mod Ranks
 pub mod Requesting
 pub mod Proposing

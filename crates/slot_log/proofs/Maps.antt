@@ -7,7 +7,7 @@ use Rattle.std.specs.FinMap.{get, insert, remove, len, get-insert, get-remove, l
 use Rattle.ballot.specs.Slots.{Slots}
 use Rattle.ballot.proofs.SlotMaps.{same_key, insert_cases}
 
-key_itself : (k : ℕ) → eq_by_cmp nat_cmp k k ≡ true
+pub key_itself : (k : ℕ) → eq_by_cmp nat_cmp k k ≡ true
 key_itself k = (eq_by_cmp_equiv nat_cmp_total).refl k
 
 module _ {X : Type 0} (m : Slots X) where

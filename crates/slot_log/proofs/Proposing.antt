@@ -1,5 +1,5 @@
 -- The first request goes to the proposals.
-use Rattle.std.proofs.Common.{◌≡◌, ◌⊎◌, inr, ⊎_elim, ℕ, ◌+◌, ◌≤◌, Bool, true, false, ◌||◌, Some, None, List, ◌∷◌, sym, ap, ◌∙◌, arith}
+use Rattle.std.proofs.Common.{◌≡◌, ◌⊎◌, inr, ⊎_elim, ℕ, ◌+◌, ◌^◌, ◌≤◌, Bool, true, false, ◌||◌, Some, None, List, ◌∷◌, sym, ap, ◌∙◌, arith}
 use Rattle.std.proofs.lemmas.Bool.{or_left}
 use Rattle.std.specs.List.{list_any}
 use Rattle.object.specs.KeyMaps.{at_key, with_key}
@@ -77,7 +77,8 @@ module _ {C : Type 0} (same : C → C → Bool) (key_of : C → Key) (exact : (x
           slot_out = kept.slot_out;
           front_rank = omega arith;
           within = kept.within;
-          performed = kept.performed;
+          performed = λ s low high. kept.performed s (omega arith) high;
+          numbered = within_inserted a.proposals (λ s. s ≤ 2 ^ 62) slot x high kept.numbered;
           near = within_inserted a.proposals (IsInWindow a.slot_out) slot x (new_near same key_of a kept slot least) kept.near;
           ahead = λ s h. others_inserted a.proposals slot x s (λ e. absurd (omega arith)) ∙ kept.ahead s (omega arith);
           room = room;

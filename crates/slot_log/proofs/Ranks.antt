@@ -1,8 +1,8 @@
 -- Requests by their rank.
-use Rattle.std.proofs.Common.{◌≡◌, ◌⊎◌, inl, inr, ℕ, zero, suc, ◌+◌, ◌-◌, ◌≤◌, Bool, true, false, cond, nat_le, Some}
+use Rattle.std.proofs.Common.{◌≡◌, ◌⊎◌, inl, inr, ℕ, zero, suc, ◌+◌, ◌-◌, ◌<◌, ◌≤◌, Bool, true, false, cond, nat_le, Some}
 use Rattle.std.proofs.Common.{None, List, [], ◌∷◌, ◌++◌, length, refl, sym, ap, ◌∙◌, arith}
 use Rattle.std.proofs.lemmas.Bool.Decides.{nat_tests}
-use Rattle.std.proofs.lemmas.Option.{same_Some}
+use Rattle.std.proofs.lemmas.Option.{same_Some, slice_get_within}
 use Rattle.std.specs.List.{slice_get}
 use Rattle.slot_log.specs.Places.{ranked}
 
@@ -22,19 +22,20 @@ true_le : (a b : ℕ) → nat_le a b ≡ true → a ≤ b
 true_le a b h = grind (arith, nat_tests)
 
 -- a rank that has a request
-record HasRank {C : Type 0} (xs : List C) (front rank : ℕ) (c : C) : Type 0 where
-  index : ℕ
-  is : rank ≡ front + index
-  got : slice_get xs index ≡ Some c
+pub record HasRank {C : Type 0} (xs : List C) (front rank : ℕ) (c : C) : Type 0 where
+  pub index : ℕ
+  pub is : rank ≡ front + index
+  pub got : slice_get xs index ≡ Some c
 
 module _ {C : Type 0} where
-  ranked_at : (xs : List C) (front rank i : ℕ) → rank ≡ front + i → ranked xs front rank ≡ slice_get xs i
+  -- the request of a place in the list
+  pub ranked_at : (xs : List C) (front rank i : ℕ) → rank ≡ front + i → ranked xs front rank ≡ slice_get xs i
   ranked_at xs front rank i is =
       let low : front ≤ rank = omega arith in
       let far : rank - front ≡ i = omega arith in
       ap (λ b. cond b (slice_get xs (rank - front)) None) (le_true front rank low) ∙ ap (slice_get xs) far
 
-  rank_of : (xs : List C) (front rank : ℕ) (c : C) → ranked xs front rank ≡ Some c → HasRank xs front rank c
+  pub rank_of : (xs : List C) (front rank : ℕ) (c : C) → ranked xs front rank ≡ Some c → HasRank xs front rank c
   rank_of xs front rank c got = go (nat_le front rank) refl got
     where
       go : (b : Bool) → nat_le front rank ≡ b → cond b (slice_get xs (rank - front)) None ≡ Some c → HasRank xs front rank c
@@ -60,3 +61,11 @@ module _ {C : Type 0} where
   ranked_rest x xs front rank c got =
       let at = rank_of (x ∷ xs) front rank c got in
       behind x xs front rank at.index c at.is at.got
+
+  -- ranks of requests are below that of the next one
+  pub rank_within : (xs : List C) (front rank : ℕ) (c : C) → ranked xs front rank ≡ Some c → rank < front + length xs
+  rank_within xs front rank c got =
+      let at = rank_of xs front rank c got in
+      let is = at.is in
+      let low = slice_get_within xs at.index c at.got in
+      omega arith

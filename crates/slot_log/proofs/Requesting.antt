@@ -83,6 +83,7 @@ module _ {C : Type 0} (same : C → C → Bool) (key_of : C → Key) (exact : (x
           front_rank = kept.front_rank;
           within = kept.within;
           performed = kept.performed;
+          numbered = kept.numbered;
           near = kept.near;
           ahead = kept.ahead;
           room = room;

@@ -14,11 +14,11 @@ use Rattle.std.specs.Ordering.{nat_cmp, eq_by_cmp, is_lt}
 abbrev pub inside : {X : Type 0} → ℕ → ℕ → ℕ × X → Bool
 inside s n e = nat_le s e.0 && nat_lt e.0 n
 
-first : (a b : Bool) → T (a && b) → T a
+pub first : (a b : Bool) → T (a && b) → T a
 first true b p = tt
 first false b p = p
 
-second : (a b : Bool) → T (a && b) → T b
+pub second : (a b : Bool) → T (a && b) → T b
 second true b p = p
 second false b p = absurd p
 
@@ -37,7 +37,7 @@ none_inside s n k (e ∷ es) h low =
     let out : inside s n e ≡ false = grind (arith, nat_tests, far) in
     ap (λ b. cond b (e ∷ filter (inside s n) es) (filter (inside s n) es)) out ∙ none_inside s n k es (second _ _ h) low
 
-none_found : {X : Type 0} (n k : ℕ) (es : List (ℕ × X)) → T (below_all nat_cmp k es) → n ≤ k → find nat_cmp n es ≡ None
+pub none_found : {X : Type 0} (n k : ℕ) (es : List (ℕ × X)) → T (below_all nat_cmp k es) → n ≤ k → find nat_cmp n es ≡ None
 none_found n k [] h low = refl
 none_found n k (e ∷ es) h low =
     let far = above k e.0 (first _ _ h) in

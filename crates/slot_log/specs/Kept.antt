@@ -8,9 +8,8 @@ use Rattle.object.specs.declared.command.Key.{Key}
 use Rattle.slot_log.specs.Books.{SlotBook}
 use Rattle.slot_log.specs.Requests.{is_known}
 use Rattle.slot_log.specs.Proposals.{IsInWindow}
-use Rattle.slot_log.specs.Places.{ranked, is_found}
+use Rattle.slot_log.specs.Places.{stands_at, is_found}
 use Rattle.slot_log.specs.declared.places.Place.{Place}
-use Rattle.slot_log.specs.declared.places.Place.TheVariants.{Requested, Proposed, Decided}
 use Rattle.slot_log.specs.declared.slot_log.SlotLog.TheInside.{Inside}
 
 -- the book that is kept
@@ -25,23 +24,23 @@ book_of a = record {
 
 -- what stands at a place
 abbrev pub standing : {C : Type 0} → Inside C → Place → Option C
-standing a (Requested rank) = ranked a.requests.items a.front_rank rank
-standing a (Proposed s) = get a.proposals s
-standing a (Decided s) = get a.decisions s
+standing a = stands_at a.requests.items a.front_rank a.proposals a.decisions
 
 -- a slot, or the number behind the last one
 abbrev pub IsNext : ℕ → Type 0
 IsNext s = (0 < s) × (s ≤ 2 ^ 62 + 1)
 
 -- What is true of the fields. Each request that was proposed had a slot of its own. A known decision is of a slot, and
--- each slot before slot_out has one. Proposals stand in the window, before slot_in. The requests have room for the
--- proposals, which may come back to them. The known commands are found by the places.
+-- each slot from slot_in on and before slot_out has one; those before both may be forgotten. Proposals are of slots, and
+-- stand in the window, before slot_in. The requests have room for the proposals, which may come back to them. The known
+-- commands are found by the places.
 pub record KeepsBook {C : Type 0} (same : C → C → Bool) (key_of : C → Key) (a : Inside C) : Type 0 where
   pub slot_in : IsNext a.slot_in
   pub slot_out : IsNext a.slot_out
   pub front_rank : a.front_rank < a.slot_in
   pub within : (s : ℕ) → IsSome (get a.decisions s) → s ≤ 2 ^ 62
-  pub performed : (s : ℕ) → 0 < s → s < a.slot_out → IsSome (get a.decisions s)
+  pub performed : (s : ℕ) → a.slot_in ≤ s → s < a.slot_out → IsSome (get a.decisions s)
+  pub numbered : (s : ℕ) → IsSome (get a.proposals s) → s ≤ 2 ^ 62
   pub near : (s : ℕ) → IsSome (get a.proposals s) → IsInWindow a.slot_out s
   pub ahead : (s : ℕ) → a.slot_in ≤ s → get a.proposals s ≡ None
   pub room : deque_len a.requests + len a.proposals ≤ deque_capacity a.requests

@@ -6,3 +6,4 @@ pub mod Advances
 pub mod Histories
 pub mod Places
 pub mod Kept
+pub mod Rests

@@ -2,6 +2,7 @@
 #![tactic(auto)]
 
 mod errors;
+mod looking;
 mod places;
 mod slot_log;
 

@@ -1,12 +1,17 @@
-ghost use Rattle.std.specs.Prelude.{◌≡◌, true, false, [], IsSome, IfOk, OnOk, OnErr};
+ghost use Rattle.std.specs.Prelude.{◌≡◌, true, false, [], not, nat_le, filter, Some, None, if◌then◌else◌, IsSome, IfOk, OnOk, OnErr};
 ghost use Rattle.std.specs.List.{list_any};
 ghost use Rattle.object.specs.declared.command.Key.{Key};
 ghost use Rattle.object.specs.KeyMaps.{at_key, with_key};
-ghost use Rattle.slot_log.specs.Places.{with_new_key, others_noted};
+ghost use Rattle.object.specs.Keys.{same_key};
+ghost use Rattle.slot_log.specs.Books.{SlotBook};
+ghost use Rattle.slot_log.specs.Places.{with_new_key, others_noted, place_from};
+ghost use Rattle.slot_log.specs.Requests.{is_known};
 
-use ballot::Slot;
+use crate::looking::stands_in;
+use ballot::{Slot, SlotMap, SlotRow};
 use object::{Key, KeyMap, Keyed, Value, copies_of};
 use std::alloc::{AllocError, Global};
+use std::collections::VecDeque;
 
 /// Where a command stands.
 #[derive(Clone, Copy)]
@@ -17,6 +22,24 @@ pub(crate) enum Place {
     Proposed(Slot),
     /// In the decisions, by its slot.
     Decided(Slot),
+}
+
+impl Place {
+    /// Whether it is a decision's of a slot below the base.
+    fn is_below(self, base: u64) -> bool
+        ensures { place_from base (Some self) ≡ (if result then None else Some self) }
+    {
+        match self {
+            Place::Decided(slot) => is_before(slot, base),
+            _ => false,
+        }
+    }
+}
+
+fn is_before(slot: Slot, base: u64) -> bool
+    ensures { result ≡ not (nat_le base slot) }
+{
+    slot.number() < base
 }
 
 /// Where the command of each key stands.
@@ -101,5 +124,36 @@ impl<C: Value + Keyed> Places<C> {
             return;
         }
         self.by_key.replace(command.key(), place);
+    }
+
+    /// Takes away the key's place where it is a decision's of a slot below the base. It takes no memory.
+    pub(crate) fn forget(&mut self, key: Key, base: u64)
+        ensures places { (q : Key) → at_key self.new.by_key q
+            ≡ (if same_key key q then place_from base (at_key self.old.by_key q)
+            else at_key self.old.by_key q) }
+        ensures others { self.new.others.items ≡ self.old.others.items }
+    {
+        let Some(place) = self.by_key.get(key) else {
+            return;
+        };
+        if place.is_below(base) {
+            self.by_key.remove(key);
+        }
+    }
+
+    /// Keeps those of the others that a book with these requests, proposals and decisions knows. It takes no memory.
+    pub(crate) fn keep_others(
+        &mut self,
+        requests: &VecDeque<C>,
+        proposals: &SlotMap<C>,
+        decisions: &SlotRow<C>,
+    )
+        ensures places { self.new.by_key ≡ self.old.by_key }
+        ensures others { (book : SlotBook C) → book.requests ≡ requests.now.items
+            → book.proposals ≡ proposals.now → book.decisions ≡ decisions.now
+            → self.new.others.items ≡ filter (is_known C.eq book) self.old.others.items }
+    {
+        self.others
+            .retain(|other| stands_in(requests, proposals, decisions, other));
     }
 }

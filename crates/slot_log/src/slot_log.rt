@@ -9,6 +9,7 @@ ghost use Rattle.slot_log.specs.Decisions as deciding;
 ghost use Rattle.slot_log.specs.Advances.{advanced};
 
 mod copying;
+mod forgetting;
 
 use crate::errors::LearnError;
 use crate::places::{Place, Places};
@@ -166,7 +167,7 @@ impl<C: Value + Keyed> SlotLog<C> {
         Ok(Some((slot, command)))
     }
 
-    // The least slot from `slot_in` on, within the window, that has no known decision. The slots before
+    // The least slot from `slot_in` on, within the window, that has no known decision. Those before
     // `slot_out` have one.
     fn open_slot(&self) -> Option<Slot>
         ensures { result ≡ proposing.open_slot self.now }

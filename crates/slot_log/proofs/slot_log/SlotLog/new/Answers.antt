@@ -19,6 +19,7 @@ invariant_of-result g c =
       front_rank = omega arith;
       within = λ s h. absurd (false≢true (ap is_some (sym (none c.new-3.result s c.new-3.ensures)) ∙ h));
       performed = λ s low high. absurd (omega arith);
+      numbered = λ s h. absurd (false≢true (ap is_some (sym (none c.new-2.result s c.new-2.ensures)) ∙ h));
       near = λ s h. absurd (false≢true (ap is_some (sym (none c.new-2.result s c.new-2.ensures)) ∙ h));
       ahead = λ s low. none c.new-2.result s c.new-2.ensures;
       room = omega arith;
