@@ -131,14 +131,6 @@ module _ {O Op Reply : Type 0} (rules : Rules O Op Reply) where
     performed = subst IsPerformed (sym new) (record { first = omega arith; known = λ s low high. absurd (omega arith) });
   }
 
-  -- a replica that obeyed again what another one performed
-  pub kept_again : (x z : Replicating Op O) (slots : SlotBook (Command Op)) → ObeysBook rules x.object x.slots
-      → slots ≡ x.slots → z.slots ≡ slots → z.object ≡ obeyed rules (history slots) → ObeysBook rules z.object z.slots
-  kept_again x z slots k same own obeys = record {
-    obeys = obeys ∙ ap (λ b. obeyed rules (history b)) (sym own);
-    performed = subst IsPerformed (sym (own ∙ same)) k.performed;
-  }
-
   -- a replica that performed and learnt nothing
   pub kept_same : (object : Filtered O) (x y : SlotBook (Command Op)) → ObeysBook rules object x
       → y.slot_out ≡ x.slot_out → y.decisions ≡ x.decisions → ObeysBook rules object y
@@ -204,30 +196,3 @@ module _ {O Op Reply : Type 0} (rules : Rules O Op Reply) where
   pub kept_proposed : (object : Filtered O) (x : SlotBook (Command Op)) (o : Option (ℕ × Command Op))
       → ObeysBook rules object x → ObeysBook rules object (proposed x o)
   kept_proposed object x o k = let r = proposed_if x o in kept_same object x _ k r.0 r.1
-
-  performed_if : (same : Command Op → Command Op → Bool) (r : Replicating Op O) → ObeysBook rules r.object r.slots
-      → (o : Option (Command Op)) → next_decided r.slots ≡ o
-      → ObeysBook rules (performed_as same rules.after r o).object (performed_as same rules.after r o).slots
-  performed_if same r k None e = k
-  performed_if same r k (Some c) e = kept_performed same r.object r.slots c k e
-
-  pub kept_perform : (same : Command Op → Command Op → Bool) (r z : Replicating Op O) → z ≡ performed same rules.after r
-      → ObeysBook rules r.object r.slots → ObeysBook rules z.object z.slots
-  kept_perform same r z new k =
-      subst (λ (y : Replicating Op O). ObeysBook rules y.object y.slots) (sym new) (performed_if same r k (next_decided r.slots) refl)
-
-  pub answers_performed : FilterLaws Op → (r : Replicating Op O) (book : SlotBook (Command Op)) → book ≡ r.slots
-      → r.object ≡ obeyed rules (history r.slots) → (c : Command Op) → next_decided book ≡ Some c
-      → performed_answers rules.answers r ≡ answers_after rules (history book) c
-  answers_performed laws r book slots obeys c e =
-      ap (answers_as rules.answers r) (sym (ap next_decided slots) ∙ e) ∙
-      ap (λ o. filtered_answers rules.answers o c) obeys ∙
-      answers_obeyed laws rules (history r.slots) c ∙
-      ap (λ b. answers_after rules (history b) c) (sym slots)
-
-  pub kept_learns : (r z : Replicating Op O) (book : SlotBook (Command Op)) (s : ℕ) (c : Command Op) → r.slots ≡ book
-      → z ≡ record r { slots = learnt r.slots s c } → ObeysBook rules r.object r.slots
-      → ((d : Command Op) → get book.decisions s ≡ Some d → d ≡ c) → ObeysBook rules z.object z.slots
-  kept_learns r z book s c is new k agrees =
-      subst (λ (y : Replicating Op O). ObeysBook rules y.object y.slots) (sym new)
-      (kept_learnt r.object r.slots s c k (λ d e. agrees d (ap (λ b. get b.decisions s) (sym is) ∙ e)))

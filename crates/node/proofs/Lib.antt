@@ -1,4 +1,5 @@
 pub mod Keeping
 pub mod Received
-pub mod Performing
+pub mod Asked
 pub mod Shown
+pub mod Holding

@@ -3,6 +3,8 @@ pub mod Deeds
 pub mod Outcomes
 pub mod Receiving
 pub mod Kept
+pub mod Holding
+pub mod Rests
 pub mod Turns
 pub mod SlotLaws
 pub mod PlaceLaws

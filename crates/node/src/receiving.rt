@@ -11,7 +11,7 @@ ghost use Rattle.leader.specs.Votes as votes;
 ghost use Rattle.slot_log.specs.Decisions.{learnt};
 ghost use Rattle.node.specs.Receiving.{IsFit, SaysNothingNew, ShowsReceived};
 
-use crate::node::{Letters, Node};
+use crate::lean_node::{LeanNode, Letters};
 use acceptor::Acceptor;
 use ballot::{Ballot, Letter, LetterBody, Pvalue, Pvalues, Slot, ballot_laws};
 use leader::{Leader, LeaderError};
@@ -20,7 +20,7 @@ use replica::Replica;
 use slot_log::LearnError;
 use std::alloc::AllocError;
 
-impl<O: Object> Node<O> {
+impl<O: Object> LeanNode<O> {
     /// Receives a body from a member, and appends what it sends. What it keeps of the body it copies. For want of memory
     /// it changes nothing. What says nothing new takes no memory.
     pub fn receive(
@@ -29,10 +29,11 @@ impl<O: Object> Node<O> {
         body: &LetterBody<Command<O::Op>>,
         out: &mut Letters<O>,
     ) -> Result<(), AllocError>
-        requires { IsFit self.old body.now }
+        requires { IsFit self.old.state body.now }
         ensures ok { OnOk result
-            (ShowsReceived «from» self.old body.now self.new out.old.items out.new.items) }
-        ensures idle { SaysNothingNew self.old body.now → IsOk result }
+            (ShowsReceived «from» self.old.state body.now self.new.state out.old.items out.new.items) }
+        ensures object { OnOk result (self.new.object ≡ self.old.object) }
+        ensures idle { SaysNothingNew self.old.state body.now → IsOk result }
         ensures err { OnErr result ((self.new ≡ self.old) × (out.new.items ≡ out.old.items)) }
     {
         match body {
@@ -53,7 +54,8 @@ impl<O: Object> Node<O> {
     // A leader asks for a promise.
     fn on_p1a(&mut self, from: u8, ballot: Ballot, out: &mut Letters<O>) -> Result<(), AllocError>
         ensures ok { OnOk result
-            (ShowsReceived «from» self.old (P1a ballot) self.new out.old.items out.new.items) }
+            (ShowsReceived «from» self.old.state (P1a ballot) self.new.state out.old.items out.new.items) }
+        ensures object { OnOk result (self.new.object ≡ self.old.object) }
         ensures err { OnErr result ((self.new ≡ self.old) × (out.new.items ≡ out.old.items)) }
     {
         ballot_laws();
@@ -76,7 +78,8 @@ impl<O: Object> Node<O> {
         out: &mut Letters<O>,
     ) -> Result<(), AllocError>
         ensures ok { OnOk result
-            (ShowsReceived «from» self.old (P2a pvalue.now) self.new out.old.items out.new.items) }
+            (ShowsReceived «from» self.old.state (P2a pvalue.now) self.new.state out.old.items out.new.items) }
+        ensures object { OnOk result (self.new.object ≡ self.old.object) }
         ensures err { OnErr result ((self.new ≡ self.old) × (out.new.items ≡ out.old.items)) }
     {
         ballot_laws();
@@ -105,9 +108,10 @@ impl<O: Object> Node<O> {
     ) -> Result<(), AllocError>
         requires not_last { ballot.round < 2 ^ 62 }
         ensures ok { OnOk result
-            (ShowsReceived «from» self.old
-            (P1b ballot report.now) self.new out.old.items out.new.items) }
-        ensures idle { self.old.leader.scout ≡ None → IsOk result }
+            (ShowsReceived «from» self.old.state
+            (P1b ballot report.now) self.new.state out.old.items out.new.items) }
+        ensures object { OnOk result (self.new.object ≡ self.old.object) }
+        ensures idle { self.old.state.leader.scout ≡ None → IsOk result }
         ensures err { OnErr result ((self.new ≡ self.old) × (out.new.items ≡ out.old.items)) }
     {
         hear_promise(&mut self.leader, from, ballot, report.as_slice(), out)?;
@@ -125,9 +129,10 @@ impl<O: Object> Node<O> {
     ) -> Result<(), AllocError>
         requires not_last { (b : Numbers) → ballot ≡ Some b → b.round < 2 ^ 62 }
         ensures ok { OnOk result
-            (ShowsReceived «from» self.old
-            (P2b ballot slot asked) self.new out.old.items out.new.items) }
-        ensures idle { slots.get self.old.leader.commanders slot ≡ None → IsOk result }
+            (ShowsReceived «from» self.old.state
+            (P2b ballot slot asked) self.new.state out.old.items out.new.items) }
+        ensures object { OnOk result (self.new.object ≡ self.old.object) }
+        ensures idle { slots.get self.old.state.leader.commanders slot ≡ None → IsOk result }
         ensures err { OnErr result ((self.new ≡ self.old) × (out.new.items ≡ out.old.items)) }
     {
         hear_vote(&mut self.leader, from, ballot, slot, asked, out)?;
@@ -143,9 +148,10 @@ impl<O: Object> Node<O> {
         out: &mut Letters<O>,
     ) -> Result<(), AllocError>
         ensures ok { OnOk result
-            (ShowsReceived «from» self.old
-            (Propose slot command.now) self.new out.old.items out.new.items) }
-        ensures idle { slots.contains_key self.old.leader.proposals slot ≡ true → IsOk result }
+            (ShowsReceived «from» self.old.state
+            (Propose slot command.now) self.new.state out.old.items out.new.items) }
+        ensures object { OnOk result (self.new.object ≡ self.old.object) }
+        ensures idle { slots.contains_key self.old.state.leader.proposals slot ≡ true → IsOk result }
         ensures err { OnErr result ((self.new ≡ self.old) × (out.new.items ≡ out.old.items)) }
     {
         hear_proposal(&mut self.leader, slot, command, out)?;
@@ -160,12 +166,13 @@ impl<O: Object> Node<O> {
         command: &Command<O::Op>,
         out: &mut Letters<O>,
     ) -> Result<(), AllocError>
-        requires agrees { (d : Command O.Op) → slots.get self.old.replica.decisions slot
+        requires agrees { (d : Command O.Op) → slots.get self.old.state.replica.decisions slot
             ≡ Some d → d ≡ command.now }
         ensures ok { OnOk result
-            (ShowsReceived «from» self.old
-            (Decision slot command.now) self.new out.old.items out.new.items) }
-        ensures idle { slots.contains_key self.old.replica.decisions slot ≡ true → IsOk result }
+            (ShowsReceived «from» self.old.state
+            (Decision slot command.now) self.new.state out.old.items out.new.items) }
+        ensures object { OnOk result (self.new.object ≡ self.old.object) }
+        ensures idle { slots.contains_key self.old.state.replica.decisions slot ≡ true → IsOk result }
         ensures err { OnErr result ((self.new ≡ self.old) × (out.new.items ≡ out.old.items)) }
     {
         learn(&mut self.replica, slot, command)?;
@@ -175,7 +182,8 @@ impl<O: Object> Node<O> {
     // A replica asks what is decided from a slot on.
     fn on_ask(&mut self, from: u8, slot: Slot, out: &mut Letters<O>) -> Result<(), AllocError>
         ensures ok { OnOk result
-            (ShowsReceived «from» self.old (Ask slot) self.new out.old.items out.new.items) }
+            (ShowsReceived «from» self.old.state (Ask slot) self.new.state out.old.items out.new.items) }
+        ensures object { OnOk result (self.new.object ≡ self.old.object) }
         ensures same { self.new ≡ self.old }
         ensures err { OnErr result (out.new.items ≡ out.old.items) }
     {

@@ -107,6 +107,8 @@ enum Step {
     Clash(Placed),
     /// The next decision is known, and was performed.
     Advance,
+    /// It forgets the slots below this one, all of which were performed.
+    Forget(u64),
     /// It looks so.
     Shows(Sight),
 }
@@ -133,6 +135,13 @@ fn goes(alloc: Global, log: &mut SlotLog<Command<Word>>, step: &Step) -> Result<
                 return Ok(false);
             }
             log.advance();
+            Ok(true)
+        }
+        Step::Forget(base) => {
+            if log.slot_out() < *base {
+                return Ok(false);
+            }
+            log.forget(*base);
             Ok(true)
         }
         Step::Shows(sight) => shows(alloc, log, sight),
@@ -225,6 +234,30 @@ static DECIDED: [Step; 8] = [
     Step::Shows(Sight::Decided(None)),
 ];
 
+// The commands of slots 1 and 3 are of the keys of slots 4 and 5; that of slot 1 is that of slot 4 once more.
+static FORGOTTEN: [Step; 20] = [
+    Step::Learn((1, (1, 0))),
+    Step::Learn((2, (2, 0))),
+    Step::Learn((3, (3, 0))),
+    Step::Learn((4, (1, 0))),
+    Step::Learn((5, (3, 1))),
+    Step::Request((9, 0)),
+    Step::Advance,
+    Step::Advance,
+    Step::Advance,
+    Step::Forget(4),
+    Step::Shows(Sight::SlotOut(4)),
+    Step::Shows(Sight::DecidedFrom(1, &[(4, (1, 0)), (5, (3, 1))])),
+    Step::Request((1, 0)),
+    Step::Request((3, 1)),
+    Step::Request((2, 0)),
+    Step::Request((3, 0)),
+    Step::Propose(Some((6, (9, 0)))),
+    Step::Propose(Some((7, (2, 0)))),
+    Step::Propose(Some((8, (3, 0)))),
+    Step::Propose(None),
+];
+
 #[test]
 fn slot_logs_go_so(rt: HostRuntime) -> Result<(), Fail> {
     for (title, steps) in [
@@ -232,6 +265,7 @@ fn slot_logs_go_so(rt: HostRuntime) -> Result<(), Fail> {
         ("a known command is no request", KNOWN.as_slice()),
         ("a lost proposal goes back", LOST.as_slice()),
         ("a slot is decided once", DECIDED.as_slice()),
+        ("what is forgotten is new", FORGOTTEN.as_slice()),
     ] {
         assert_eq!(rt; wrong_step_of_new(rt.alloc(), steps)?, None, "{title}");
     }

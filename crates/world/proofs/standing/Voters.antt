@@ -1,10 +1,10 @@
 -- A slot's chosen command, read off what the acceptors accepted.
-use Rattle.std.proofs.Common.{◌≡◌, ◌≢◌, ◌⊎◌, inl, inr, ⊎_elim, ℕ, suc, ◌+◌, ◌<◌, ◌≤◌, ◌^◌, Bool, true, false, List, [], ◌∷◌}
+use Rattle.std.proofs.Common.{◌≡◌, ◌≢◌, ◌⊎◌, inl, inr, ⊎_elim, ℕ, zero, suc, ◌+◌, ◌<◌, ◌≤◌, ◌^◌, Bool, true, false, List, [], ◌∷◌}
 use Rattle.std.proofs.Common.{◌++◌, take, length, refl, sym, ap, ap₂, ◌∙◌, subst, arith}
 use Rattle.std.specs.Prelude.{slice_index_or, Option, Some, None, IfSome, IfNone}
 use Rattle.std.specs.Cmp.{both_ways}
-use Rattle.std.proofs.lemmas.Bool.{cases_eq}
-use Rattle.std.proofs.lemmas.List.{get_or_default, take_more, length-append}
+use Rattle.std.proofs.lemmas.Bool.{cases_eq, cases_lt}
+use Rattle.std.proofs.lemmas.List.{get_or_default, get_or_past, take_more, length-append}
 use Rattle.std.proofs.lemmas.Option.{slice_get_read}
 use Rattle.object.specs.Lists.{In}
 use Rattle.object.specs.declared.command.Command.{Command}
@@ -76,6 +76,18 @@ module _ {C : Type 0} (k : Cluster C) where
       (is ∙ ap (λ (y : NodeState C). y.acceptor.accepted) (node_at xs same i x h e)) none))
       (λ (f : j ≢ i). before j (omega arith))
       (cases_eq j i)
+
+  pub none_anywhere : (xs : List (NodeState C)) → xs ≡ k.nodes → (i : ℕ) → length xs ≤ i → (s : ℕ)
+      → ((j : ℕ) → j < i → HasNoneVoted k (node k (suc j)).acceptor.accepted s)
+      → (m : ℕ) → HasNoneVoted k (node k m).acceptor.accepted s
+  none_anywhere xs same i all s before zero = λ p at. absurd at
+  none_anywhere xs same i all s before (suc j) = ⊎_elim
+      (λ (low : j < i). before j low)
+      (λ (high : i ≤ j). subst (λ (y : NodeState C). HasNoneVoted k y.acceptor.accepted s)
+      (sym (ap (λ ys. slice_index_or ys j (new_node k.members (suc j))) (sym same)
+      ∙ get_or_past xs j (new_node k.members (suc j)) (omega (arith, all, high))))
+      (λ p at. absurd at))
+      (cases_lt j i)
 
   pub run_ended : (s : ℕ) (cs : List C) → IsRun k s cs → ((c : C) → IsChosen k (s + length cs) c → ⊥) → IsChosenFrom k s cs
   run_ended s [] h none = λ c chosen. none c (subst (λ t. IsChosen k t c) (omega arith) chosen)

@@ -1,9 +1,13 @@
 use Rattle.std.proofs.Common.{◌++◌, ap, ◌∙◌, arith}
 use Rattle.std.proofs.lemmas.Bool.{false≢true}
 use Rattle.node.specs.Deeds.{Turn, outcome_of}
+use Rattle.network.proofs.Sent.{member_bounds}
 use Rattle.network.proofs.Turned.{on_err, at_place, within_nodes, node_read, turned_not, stays_quiet}
 use Rattle.network.proofs.Acting.{able, idle, turn_is, acted_whole, acted_ok}
 use Rattle.network.proofs.network.Network.act.Goals as goal
+
+pub overflow_sub-id : goal.overflow_sub-id
+overflow_sub-id g c = (member_bounds c.args.self.now.members c.args.id c.requires.member).0
 
 pub index_mut-requires : goal.index_mut-requires
 index_mut-requires g c =

@@ -1,45 +1,22 @@
-use Rattle.std.proofs.Common.{OnOk, subst, sym}
-use Rattle.node.specs.Receiving.{ShowsReceived}
+use Rattle.std.proofs.Common.{sym, subst}
+use Rattle.std.proofs.lemmas.Result.{on_ok_weaker}
+use Rattle.node.specs.Holding.{Holding}
+use Rattle.node.specs.Kept.{ObeysBook}
+use Rattle.node.specs.Receiving.{IsFit, ShowsReceived}
+use Rattle.node.proofs.Holding.{still_obeys, either_way_both}
 use Rattle.node.proofs.node.Node.receive.Goals as goal
 
-pub returns-in-P1a-clause-ok : goal.returns-in-P1a-clause-ok
-returns-in-P1a-clause-ok g c =
-    subst (λ b. OnOk c.on_p1a.result
-    (ShowsReceived c.args.«from» c.args.self.now b c.on_p1a.new.self c.args.out.now.items c.on_p1a.new.out.items))
-    (sym c.in-P1a.is) c.on_p1a.ensures.ok
+pub invariant_of-self : goal.invariant_of-self
+invariant_of-self g c =
+    let h = c.self.inside.lean in
+    either_way_both c.receive.result c.receive.ensures.ok c.receive.ensures.object c.receive.ensures.err
+    (λ shows stays. subst (λ o. ObeysBook g.O.Object.rules o c.receive.new.self.state.replica) (sym stays)
+    (still_obeys g.O.Object.rules h.object c.ballot_laws.ensures c.args.«from» h.state c.receive.new.self.state c.args.body.now
+    c.args.out.now.items c.receive.new.out.items shows
+    (subst (λ x. IsFit x c.args.body.now) (sym c.self.view_is) c.requires) c.self.invariant))
+    (λ e. subst (λ (y : Holding _ _). ObeysBook g.O.Object.rules y.object y.state.replica) (sym e.0) c.self.invariant)
 
-pub returns-in-P2a-clause-ok : goal.returns-in-P2a-clause-ok
-returns-in-P2a-clause-ok g c =
-    subst (λ b. OnOk c.on_p2a.result
-    (ShowsReceived c.args.«from» c.args.self.now b c.on_p2a.new.self c.args.out.now.items c.on_p2a.new.out.items))
-    (sym c.in-P2a.is) c.on_p2a.ensures.ok
-
-pub returns-in-P1b-clause-ok : goal.returns-in-P1b-clause-ok
-returns-in-P1b-clause-ok g c =
-    subst (λ b. OnOk c.on_p1b.result
-    (ShowsReceived c.args.«from» c.args.self.now b c.on_p1b.new.self c.args.out.now.items c.on_p1b.new.out.items))
-    (sym c.in-P1b.is) c.on_p1b.ensures.ok
-
-pub returns-in-P2b-clause-ok : goal.returns-in-P2b-clause-ok
-returns-in-P2b-clause-ok g c =
-    subst (λ b. OnOk c.on_p2b.result
-    (ShowsReceived c.args.«from» c.args.self.now b c.on_p2b.new.self c.args.out.now.items c.on_p2b.new.out.items))
-    (sym c.in-P2b.is) c.on_p2b.ensures.ok
-
-pub returns-in-Propose-clause-ok : goal.returns-in-Propose-clause-ok
-returns-in-Propose-clause-ok g c =
-    subst (λ b. OnOk c.on_propose.result
-    (ShowsReceived c.args.«from» c.args.self.now b c.on_propose.new.self c.args.out.now.items
-    c.on_propose.new.out.items)) (sym c.in-Propose.is) c.on_propose.ensures.ok
-
-pub returns-in-Decision-clause-ok : goal.returns-in-Decision-clause-ok
-returns-in-Decision-clause-ok g c =
-    subst (λ b. OnOk c.on_decision.result
-    (ShowsReceived c.args.«from» c.args.self.now b c.on_decision.new.self c.args.out.now.items
-    c.on_decision.new.out.items)) (sym c.in-Decision.is) c.on_decision.ensures.ok
-
-pub returns-in-Ask-clause-ok : goal.returns-in-Ask-clause-ok
-returns-in-Ask-clause-ok g c =
-    subst (λ b. OnOk c.on_ask.result
-    (ShowsReceived c.args.«from» c.args.self.now b c.on_ask.new.self c.args.out.now.items c.on_ask.new.out.items))
-    (sym c.in-Ask.is) c.on_ask.ensures.ok
+pub returns-clause-ok : goal.returns-clause-ok
+returns-clause-ok g c = on_ok_weaker c.receive.result (λ shows.
+    subst (λ x. ShowsReceived c.args.«from» x c.args.body.now c.receive.new.self.state c.args.out.now.items c.receive.new.out.items) c.self.view_is shows)
+    c.receive.ensures.ok

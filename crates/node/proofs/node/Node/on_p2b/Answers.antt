@@ -1,5 +1,0 @@
-use Rattle.node.proofs.Received.{received_p2b}
-use Rattle.node.proofs.node.Node.on_p2b.Goals as goal
-
-pub returns-clause-ok : goal.returns-clause-ok
-returns-clause-ok g c = received_p2b _ _ _ c.self.view_is _ _ _ _ _ _ c.in_ok-hear_vote.ensures.state c.in_ok-hear_vote.ensures.out
