@@ -8,11 +8,16 @@ use Rattle.ballot.specs.declared.pvalue.Pvalue.{Pvalue}
 use Rattle.scout_commander.specs.Scouts.{Scouting}
 use Rattle.acceptor.specs.Acceptors.{Acceptances, Keeps}
 use Rattle.node.specs.Nodes.{NodeState}
-use Rattle.forgetting.specs.Rests.{kept_from, if_from, pvalues_from, rest_of_acceptor, rest_of_scout, rest_of_node, rest_of_body}
+use Rattle.ballot.specs.Rests.{kept_from, if_from, pvalues_from, rest_of_body}
+use Rattle.acceptor.specs.Rests.{rest_of_acceptor}
+use Rattle.scout_commander.specs.Rests.{rest_of_scout}
+use Rattle.node.specs.Rests.{rest_of_node}
 use Rattle.ballot.specs.declared.letter.LetterBody.{LetterBody}
 use Rattle.ballot.specs.declared.letter.LetterBody.TheVariants.{P1a, P1b, P2a, P2b, Propose, Decision, Ask}
-use Rattle.forgetting.proofs.Maps.{get_above, same_slots}
-use Rattle.forgetting.proofs.Parts.{filter_all, rest_of_report}
+use Rattle.ballot.proofs.SlotMaps.{same_slots}
+use Rattle.ballot.proofs.Rests.{get_above}
+use Rattle.ballot.proofs.Filters.{filter_all}
+use Rattle.forgetting.proofs.Parts.{rest_of_report}
 
 module _ (low high : ℕ) (h : low ≤ high) where
   lower : (s : ℕ) → nat_le high s ≡ true → nat_le low s ≡ true

@@ -17,8 +17,9 @@ use Rattle.slot_log.specs.Requests.{is_known, requested}
 use Rattle.slot_log.proofs.OpenSlots.{open_at, open_is}
 use Rattle.replica.specs.Replicas.{tells, proposes_again, asks_others}
 use Rattle.node.specs.SlotLaws.{entries_get}
-use Rattle.forgetting.specs.Rests.{kept_from, rest_of_book, rests, is_forgotten, IsPast}
-use Rattle.forgetting.proofs.Maps.{lt_true, get_high, above_insert, entries_above}
+use Rattle.ballot.specs.Rests.{kept_from, rests}
+use Rattle.slot_log.specs.Rests.{rest_of_book, is_forgotten, IsPast}
+use Rattle.ballot.proofs.Rests.{lt_true, get_high, above_insert, entries_above}
 use Rattle.forgetting.proofs.Letters.{bodies, said_each, some_to}
 
 low_or_high : (t base : ℕ) → (t < base) ⊎ (base ≤ t)

@@ -26,8 +26,10 @@ use Rattle.leader.specs.Promises.{at_heard, at_scout}
 use Rattle.leader.specs.Votes as votes
 use Rattle.leader.specs.Votes.{at_voted, at_commander, answers_another}
 use Rattle.node.specs.SlotLaws.{entries_get}
-use Rattle.forgetting.specs.Rests.{StandInSlots, kept_from, if_from, pvalues_from, rest_of_scout, rest_of_leader, rest_of_body, rest_of_done}
-use Rattle.forgetting.proofs.Maps.{lt_true, get_high, above_insert, above_remove, above_empty, above_each, entries_above}
+use Rattle.ballot.specs.Rests.{kept_from, if_from, pvalues_from, rest_of_body}
+use Rattle.scout_commander.specs.Rests.{rest_of_scout}
+use Rattle.leader.specs.Rests.{StandInSlots, rest_of_leader, rest_of_done}
+use Rattle.ballot.proofs.Rests.{lt_true, get_high, above_insert, above_remove, above_empty, above_each, entries_above}
 use Rattle.forgetting.proofs.Letters.{bodies, said_each}
 
 -- what is made of a choice

@@ -25,10 +25,16 @@ use Rattle.node.specs.Deeds.{acted, led, performing}
 use Rattle.node.specs.Receiving.{IsFit, Receives, promises_ballot, accepts_pvalue, hears_promise, hears_vote, hears_proposal, learns, tells_decisions}
 use Rattle.node.specs.declared.deed.Deed.{Deed}
 use Rattle.node.specs.declared.deed.Deed.TheVariants as deeds
-use Rattle.forgetting.specs.Rests.{StandInSlots, IsPast, pvalues_from, if_from, rest_of_acceptor, rest_of_leader}
-use Rattle.forgetting.specs.Rests.{rest_of_book, rest_of_node, rest_of_body, rest_of_done, rests}
+use Rattle.ballot.specs.Rests.{pvalues_from, if_from}
+use Rattle.acceptor.specs.Rests.{rest_of_acceptor}
+use Rattle.leader.specs.Rests.{StandInSlots, rest_of_leader}
+use Rattle.slot_log.specs.Rests.{IsPast}
+use Rattle.ballot.specs.Rests.{rest_of_body, rests}
+use Rattle.leader.specs.Rests.{rest_of_done}
+use Rattle.slot_log.specs.Rests.{rest_of_book}
+use Rattle.node.specs.Rests.{rest_of_node}
 use Rattle.forgetting.specs.RestLaws.{IsDoneByRest, IsRestOfTurn, ReceivesWhole}
-use Rattle.forgetting.proofs.Maps.{lt_true, get_high}
+use Rattle.ballot.proofs.Rests.{lt_true, get_high}
 use Rattle.forgetting.proofs.Letters.{bodies, rests_to_all, rests_to_one}
 use Rattle.forgetting.proofs.Books.{rest_learnt, rest_next, rest_advanced, rest_proposal, rest_proposed_next}
 use Rattle.forgetting.proofs.Books.{proposal_high, rest_requested, rest_tells, rest_proposes_again, rest_asks}

@@ -21,8 +21,11 @@ use Rattle.scout_commander.specs.Scouts.{Scouting, Hearing, IsPromising, TakesFr
 use Rattle.scout_commander.specs.Scouts as scouts
 use Rattle.scout_commander.specs.declared.scout.Heard.{Heard}
 use Rattle.scout_commander.specs.declared.scout.Heard.TheVariants as heard
-use Rattle.forgetting.specs.Rests.{kept_from, pvalues_from, rest_of_scout, rest_of_leader, rest_of_done}
-use Rattle.forgetting.proofs.Maps.{get_above, find_filter, same_slots}
+use Rattle.ballot.specs.Rests.{kept_from, pvalues_from}
+use Rattle.scout_commander.specs.Rests.{rest_of_scout}
+use Rattle.leader.specs.Rests.{rest_of_leader, rest_of_done}
+use Rattle.ballot.proofs.SlotMaps.{same_slots}
+use Rattle.ballot.proofs.Rests.{get_above, find_filter}
 use Rattle.forgetting.proofs.Parts.{test_cases, above_In, In_above, whole_fresh}
 use Rattle.forgetting.proofs.Leaders.{rest_scout, rest_on_p1b}
 

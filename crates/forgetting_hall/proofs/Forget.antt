@@ -13,7 +13,11 @@ use Rattle.node.specs.Nodes.{NodeState, node_in, new_node}
 use Rattle.node.specs.Receiving.{ShowsNode}
 use Rattle.network.specs.Networks.{NetworkState, node_of}
 use Rattle.agreement.specs.Nodes.{Cluster, node}
-use Rattle.forgetting.specs.Rests.{if_from, rest_of_acceptor, rest_of_leader, rest_of_book, rest_of_node, rest_of_body}
+use Rattle.ballot.specs.Rests.{if_from, rest_of_body}
+use Rattle.acceptor.specs.Rests.{rest_of_acceptor}
+use Rattle.leader.specs.Rests.{rest_of_leader}
+use Rattle.slot_log.specs.Rests.{rest_of_book}
+use Rattle.node.specs.Rests.{rest_of_node}
 use Rattle.forgetting.proofs.Bases.{node_twice, pvalues_twice, rest_keeps}
 use Rattle.forgetting_hall.specs.Shown.{ShowsRest, IsLetterOf, forgotten_net}
 use Rattle.forgetting_hall.proofs.Clusters.{member_bounds}

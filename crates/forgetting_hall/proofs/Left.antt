@@ -6,7 +6,7 @@ use Rattle.object.specs.Lists.{In}
 use Rattle.ballot.specs.declared.letter.Letter.{Letter}
 use Rattle.ballot.specs.declared.letter.LetterBody.{LetterBody}
 use Rattle.ballot.specs.declared.letter.LetterBody.TheVariants.{P1a, P1b, P2a, P2b, Propose, Decision, Ask}
-use Rattle.forgetting.specs.Rests.{if_from, rest_of_body, rest_of_letter, rests}
+use Rattle.ballot.specs.Rests.{if_from, rest_of_body, rest_of_letter, rests}
 use Rattle.forgetting.proofs.Bases.{pvalues_twice}
 
 module _ {C : Type 0} (base : ℕ) where

@@ -15,8 +15,8 @@ use Rattle.node.specs.Receiving.{ShowsNode}
 use Rattle.network.specs.Networks.{new_network}
 use Rattle.network.specs.MailLaws.{new_mail}
 use Rattle.agreement.specs.Nodes.{new_cluster}
-use Rattle.forgetting.specs.Rests.{rest_of_node}
-use Rattle.forgetting.proofs.Maps.{above_empty}
+use Rattle.node.specs.Rests.{rest_of_node}
+use Rattle.ballot.proofs.Rests.{above_empty}
 use Rattle.forgetting_hall.specs.Shown.{ShowsRest, ObeyWorld}
 
 module _ {C : Type 0} (members : List ℕ) where

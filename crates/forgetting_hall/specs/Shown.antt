@@ -16,8 +16,10 @@ use Rattle.agreement.specs.Worlds.{World}
 use Rattle.agreement.specs.Steps.{Step, IsItsOwn}
 use Rattle.agreement.specs.Events.{event_of}
 use Rattle.agreement.specs.declared.event.Event.TheVariants.{Deliver}
-use Rattle.forgetting.specs.Rests.{rest_of_node, rest_of_body}
-use Rattle.forgetting.specs.Holding.{Holding, HeldTurn, acted_held, outcome_held}
+use Rattle.ballot.specs.Rests.{rest_of_body}
+use Rattle.node.specs.Rests.{rest_of_node}
+use Rattle.node.specs.Holding.{Holding, HeldTurn, outcome_held}
+use Rattle.forgetting.specs.Holding.{acted_held}
 use Rattle.object.specs.OnceOnly.{Filtered}
 use Rattle.object.specs.Obeying.{obeyed}
 use Rattle.object.specs.declared.command.Submission.{Submission}
@@ -106,11 +108,3 @@ pub record FollowsLetter {O Op Reply : Type 0} (rules : Rules O Op Reply) (base 
 -- the nodes forget the slots up to a higher base
 abbrev pub forgotten_net : {C : Type 0} → ℕ → NetworkState C → NetworkState C
 forgotten_net base k = record k { nodes = map (rest_of_node base) k.nodes }
-
--- The hall's ShowsCluster , word for word (its crate stands on this one).
-pub record ShowsAll {C : Type 0} (k : NetworkState C) (w : Cluster C) : Type 0 where
-  pub members : k.members ≡ w.members
-  pub has_nodes : length k.nodes ≡ length k.members
-  pub has_mails : length k.mails ≡ length k.members
-  pub nodes : (n : ℕ) → is_member k.members n ≡ true → ShowsNode (node_of k n) (node w n)
-  pub letters : (n : ℕ) (l : Letter C) → In l (mail_of k n) → In l w.letters × (l.to ≡ n)

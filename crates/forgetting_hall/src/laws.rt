@@ -10,9 +10,10 @@ ghost use Rattle.std.specs.FinMap.{empty};
 ghost use Rattle.agreement.specs.Nodes.{Cluster, new_cluster};
 ghost use Rattle.agreement.specs.Runs.{IsWorld};
 ghost use Rattle.agreement.specs.Worlds.{World};
-ghost use Rattle.forgetting.specs.Rests.{rest_of_body};
+ghost use Rattle.ballot.specs.Rests.{rest_of_body};
 ghost use Rattle.forgetting_hall.specs.Firsts.{Performs, TellsFirsts, CountsFirsts};
-ghost use Rattle.forgetting_hall.specs.Shown.{ShowsRest, ShowsAll, ObeyWorld, FollowsDeed, FollowsLetter, IsDeliveredSince, AsksForLastSubmitted, forgotten_net};
+ghost use Rattle.hall.specs.Shows.{ShowsCluster};
+ghost use Rattle.forgetting_hall.specs.Shown.{ShowsRest, ObeyWorld, FollowsDeed, FollowsLetter, IsDeliveredSince, AsksForLastSubmitted, forgotten_net};
 
 use ballot::ballot_laws;
 use object::{Object, filter_remembers};
@@ -25,7 +26,7 @@ use object::{Object, filter_remembers};
 /// first answers alone, and one that performs up to it gives none (`firsts`), which is what the first answers grow by
 /// (`counts`).
 pub fn clusters_rest<O: Object>()
-    ensures today { (k : NetworkState (Command O.Op)) (w : Cluster (Command O.Op)) → ShowsAll k w ↔ ShowsRest 0 k w }
+    ensures today { (k : NetworkState (Command O.Op)) (w : Cluster (Command O.Op)) → ShowsCluster k w ↔ ShowsRest 0 k w }
     ensures opening { (members : List ℕ) → ShowsRest {C = Command O.Op} 0 (new_network members) (new_cluster members) }
     ensures obey { (members : List ℕ) → ObeyWorld O.rules (new_network members)
         (λ n. record { object = O.rules.fresh; latest = empty }) (new_cluster members) }
