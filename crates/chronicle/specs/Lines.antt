@@ -1,6 +1,6 @@
 -- The lines of a dump: words, parted by single spaces.
-use Rattle.std.specs.Prelude.{ℕ, List, [], ◌∷◌, ◌++◌, codes}
-use Rattle.std.specs.List.{flat_map}
+use Rattle.std.specs.Prelude.{◌≢◌, ℕ, List, [], ◌∷◌, ◌++◌, codes}
+use Rattle.std.specs.List.{AllByRecursion, flat_map}
 use Rattle.hex.specs.Hex.{encode_lower}
 
 -- a word, with the space in front
@@ -18,6 +18,10 @@ line first words = first ++ spaced words ++ codes "\n"
 -- lines as one text
 abbrev pub text_of_lines : List (List ℕ) → List ℕ
 text_of_lines lines = flat_map (λ line. line) lines
+
+-- no line feed stands in it
+abbrev pub NoFeed : List ℕ → Type 0
+NoFeed text = AllByRecursion (λ (b : ℕ). b ≢ 10) text
 
 -- the word for a body: two digits a byte, in lower case, or a hyphen where it is empty
 unfoldable pub body_word : List ℕ → List ℕ

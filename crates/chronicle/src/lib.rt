@@ -28,12 +28,16 @@ mod version;
 mod walk;
 mod writer;
 
+pub use acts::append_act;
+pub use append::{append_number, append_numbers, append_word};
 pub use check_fault::{CheckFault, What};
 pub use checker::check;
+pub use entry::{Entry, read_entry};
 pub use faults::ReadFault;
 pub use laws::{
     faultless_is_legal, legal_is_faultless, one_bad_line, one_chronicle, one_dump, one_fault,
 };
 pub use reader::read_text;
 pub use recorder::Chronicle;
+pub use version::Version;
 pub use writer::WriteText;

@@ -97,7 +97,7 @@ at_plain [] k h = ((λ same. omega arith), (λ same. omega arith))
 at_plain (b ∷ table) zero h = h.0
 at_plain (b ∷ table) (suc k) h = at_plain table k h.1
 
-hex_plain : (bytes : List ℕ) → Plain (encode_lower bytes)
+pub hex_plain : (bytes : List ℕ) → Plain (encode_lower bytes)
 unfolding encode_with
 hex_plain [] = tt
 hex_plain (b ∷ more) =

@@ -29,7 +29,7 @@ use Rattle.chronicle.specs.Acts.{op_words, act_words}
 use Rattle.chronicle.specs.Dump.{version_word, version_line, members_line, weights_line, submission_line, answer_line, order_line, end_line}
 use Rattle.chronicle.specs.Entries.{entry_line, IsEntryValue}
 use Rattle.chronicle.specs.Fits.{FitsAct}
-use Rattle.chronicle.specs.Lines.{line, spaced, body_word}
+use Rattle.chronicle.specs.Lines.{NoFeed, line, spaced, body_word}
 use Rattle.chronicle.specs.Replies.{reply_words}
 use Rattle.chronicle.specs.Told.{may_ask, submitted_of, entry_under, key_of, keyed_entry, version_of_words}
 use Rattle.chronicle.specs.Told.{members_of_words, are_weights, weighted, weights_of, entry_of_words}
@@ -321,18 +321,15 @@ said_told e h = ap entry_of_words
 
 -- ---- where a line ends
 
-abbrev pub NoFeed : List ℕ → Type 0
-NoFeed text = AllByRecursion (λ (b : ℕ). b ≡ 10 → ⊥) text
-
-feeds : (xs ys : List ℕ) → NoFeed xs → NoFeed ys → NoFeed (xs ++ ys)
+pub feeds : (xs ys : List ℕ) → NoFeed xs → NoFeed ys → NoFeed (xs ++ ys)
 feeds [] ys h k = k
 feeds (x ∷ xs) ys h k = (h.0, feeds xs ys h.1 k)
 
-plain_no_feed : (word : List ℕ) → Plain word → NoFeed word
+pub plain_no_feed : (word : List ℕ) → Plain word → NoFeed word
 plain_no_feed [] h = tt
 plain_no_feed (b ∷ word) h = (h.0.1, plain_no_feed word h.1)
 
-spaced_no_feed : (ws : List (List ℕ)) → AllPlain ws → NoFeed (spaced ws)
+pub spaced_no_feed : (ws : List (List ℕ)) → AllPlain ws → NoFeed (spaced ws)
 spaced_no_feed [] h = tt
 spaced_no_feed (w ∷ ws) h = ((λ same. omega arith), feeds w (spaced ws) (plain_no_feed w h.0) (spaced_no_feed ws h.1))
 

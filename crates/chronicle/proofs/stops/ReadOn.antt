@@ -14,15 +14,15 @@ use Rattle.recorder.specs.Chronicles.{Chronicle}
 use Rattle.chronicle.specs.Drafts.{next}
 use Rattle.chronicle.specs.Dump.{dump_text}
 use Rattle.chronicle.specs.Entries.{entry_line, IsEntryValue, Says}
-use Rattle.chronicle.specs.Lines.{text_of_lines}
+use Rattle.chronicle.specs.Lines.{NoFeed, text_of_lines}
 use Rattle.chronicle.specs.Reading.{IsBadLine}
 use Rattle.chronicle.proofs.stops.Drafted.{IsDraft, IsWhole, taken, entries, next_draft}
-use Rattle.chronicle.proofs.spelling.EntryLines.{NoFeed, said, said_no_feed, line_is, one_front}
+use Rattle.chronicle.proofs.spelling.EntryLines.{said, said_no_feed, line_is, one_front}
 use Rattle.chronicle.proofs.stops.Stops.{NoneFollows, bad_line, entries_text, text_of_lines_more, map_more, lines_long}
 
 -- ---- the first line of a text
 
-cut_at : (text later : List ℕ) (end : ℕ) → NoFeed text → IsFirstByte (is_byte 10) (text ++ (10 ∷ later)) (Some end)
+pub cut_at : (text later : List ℕ) (end : ℕ) → NoFeed text → IsFirstByte (is_byte 10) (text ++ (10 ∷ later)) (Some end)
     → take (suc end) (text ++ (10 ∷ later)) ≡ text ++ (10 ∷ [])
 cut_at [] later zero none found = refl
 cut_at [] later (suc end) none found = absurd (found.0.before 0 (omega arith) (omega arith) refl)
@@ -39,7 +39,7 @@ cut_at (b ∷ text) later (suc end) none found =
       found.1,
     ))
 
-none_left : (text later : List ℕ) → Nowhere (Passes (is_byte 10) (text ++ (10 ∷ later))) 0 (length (text ++ (10 ∷ later))) → ⊥
+pub none_left : (text later : List ℕ) → Nowhere (Passes (is_byte 10) (text ++ (10 ∷ later))) 0 (length (text ++ (10 ∷ later))) → ⊥
 none_left [] later none = none 0 (omega arith) (omega arith) refl
 none_left (b ∷ text) later none = none_left text later (λ k l m p. none (suc k) (omega arith) (omega arith) p)
 

@@ -1,0 +1,10 @@
+pub mod Cuts
+pub mod Endings
+pub mod Feeding
+pub mod Kept
+pub mod LinesRead
+pub mod Logs
+pub mod OneLog
+pub mod Spelled
+pub mod Steps
+pub mod Sums
