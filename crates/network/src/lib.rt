@@ -1,8 +1,8 @@
 //! Nodes in one process, each with its mail: the letters that are on their way to it.
 #![tactic(auto)]
 
-mod mail;
+pub mod mail;
 mod network;
-mod sorting;
+pub mod sorting;
 
 pub use network::Network;

@@ -10,7 +10,7 @@ use std::marker::Model;
 
 /// The letters that are on their way to one node, in the order in which they were sent.
 #[derive(Drop)]
-pub(crate) struct Mail<C: Value> {
+pub struct Mail<C: Value> {
     letters: VecDeque<Letter<C>>,
 }
 
@@ -29,7 +29,7 @@ impl<C: Value> Model for Mail<C> {
 
 impl<C: Value> Mail<C> {
     /// No letters.
-    pub(crate) fn new(alloc: Global) -> Mail<C>
+    pub fn new(alloc: Global) -> Mail<C>
         ensures { result ≡ [] }
     {
         Mail {
@@ -38,7 +38,7 @@ impl<C: Value> Mail<C> {
     }
 
     /// Takes the first of these letters to its back.
-    pub(crate) fn take_first(&mut self, letters: &mut VecDeque<Letter<C>>) -> Result<(), AllocError>
+    pub fn take_first(&mut self, letters: &mut VecDeque<Letter<C>>) -> Result<(), AllocError>
         requires { is_some (front letters.old.items) ≡ true }
         ensures ok { OnOk result ((l : Letter C) → (ls : List (Letter C))
             → letters.old.items ≡ l ∷ ls
@@ -54,14 +54,14 @@ impl<C: Value> Mail<C> {
     }
 
     /// Whether it has letters.
-    pub(crate) fn has_letters(&self) -> bool
+    pub fn has_letters(&self) -> bool
         ensures { result ≡ is_some (front self.now) }
     {
         self.letters.front().is_some()
     }
 
     /// The letter in front.
-    pub(crate) fn front(&self) -> Option<&Letter<C>>
+    pub fn front(&self) -> Option<&Letter<C>>
         ensures some { IfSome result (λ letter. front self.now ≡ Some letter.now) }
         ensures none { IfNone result (front self.now ≡ None) }
     {
@@ -69,7 +69,7 @@ impl<C: Value> Mail<C> {
     }
 
     /// A copy of the letter in front.
-    pub(crate) fn copy_front(&self) -> Result<Option<Letter<C>>, AllocError>
+    pub fn copy_front(&self) -> Result<Option<Letter<C>>, AllocError>
         ensures { IfOk result (λ letter. letter ≡ front self.now) }
     {
         match self.front() {
@@ -79,7 +79,7 @@ impl<C: Value> Mail<C> {
     }
 
     /// Drops the letter in front, where there is one; and tells whether there was.
-    pub(crate) fn drop_front(&mut self) -> bool
+    pub fn drop_front(&mut self) -> bool
         ensures does { result ≡ is_some (front self.old) }
         ensures left { self.new ≡ drop 1 self.old }
     {
@@ -87,7 +87,7 @@ impl<C: Value> Mail<C> {
     }
 
     /// Takes this letter to its back.
-    pub(crate) fn push(&mut self, letter: Letter<C>) -> Result<(), AllocError>
+    pub fn push(&mut self, letter: Letter<C>) -> Result<(), AllocError>
         ensures ok { OnOk result (self.new ≡ self.old ++ (letter ∷ [])) }
         ensures err { OnErr result (self.new ≡ self.old) }
     {

@@ -10,7 +10,7 @@ use std::collections::VecDeque;
 use std::mem;
 
 /// Moves these letters to the back of their receivers' mail. Where memory is refused, the rest of them stays.
-pub(crate) fn sort<C: Value>(
+pub fn sort<C: Value>(
     alloc: Global,
     mails: &mut Vec<Mail<C>>,
     fresh: &mut Vec<Letter<C>>,
@@ -69,7 +69,7 @@ fn sort_first<C: Value>(
 }
 
 /// Drops the first of these letters that is to this node, where there is one; and tells whether there was.
-pub(crate) fn drop_first<C: Value>(letters: &mut Vec<Letter<C>>, to: u8) -> bool
+pub fn drop_first<C: Value>(letters: &mut Vec<Letter<C>>, to: u8) -> bool
     ensures does { result ≡ is_some (front (letters_to to letters.old.items)) }
     ensures left { letters.new.items ≡ but_first to letters.old.items }
 {
@@ -83,7 +83,7 @@ pub(crate) fn drop_first<C: Value>(letters: &mut Vec<Letter<C>>, to: u8) -> bool
 }
 
 /// Whether one of these letters is to this node.
-pub(crate) fn has_any<C: Value>(letters: &[Letter<C>], to: u8) -> bool
+pub fn has_any<C: Value>(letters: &[Letter<C>], to: u8) -> bool
     ensures { result ≡ is_some (front (letters_to to letters.now)) }
 {
     for place in 0..letters.len() {
