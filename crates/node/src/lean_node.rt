@@ -6,6 +6,7 @@ ghost use Rattle.ballot.specs.Letters.{all_to_all};
 ghost use Rattle.leader.specs.Leaders.{says_again};
 ghost use Rattle.slot_log.specs.Proposals.{next_proposal, proposed_next};
 ghost use Rattle.object.specs.Obeying.{obeyed};
+ghost use Rattle.object.specs.OnceOnly.{is_later};
 ghost use Rattle.slot_log.specs.Decisions.{next_decided, undecided};
 ghost use Rattle.slot_log.specs.Histories.{history};
 ghost use Rattle.replica.specs.Replicas.{proposes_first};
@@ -18,7 +19,7 @@ use crate::deed::{Deed, Outcome};
 use acceptor::Acceptor;
 use ballot::{Ballot, Letter, Members, Slot};
 use leader::Leader;
-use object::{Answer, Command, Object};
+use object::{Answer, Command, Key, Object};
 use replica::Replica;
 use slot_log::SlotLog;
 use std::alloc::{AllocError, Global};
@@ -146,6 +147,13 @@ impl<O: Object> LeanNode<O> {
         ensures { result ≡ is_some (next_decided self.now.state.replica) }
     {
         self.replica.can_perform()
+    }
+
+    /// Whether its object would obey a command of this key.
+    pub fn lets_through(&self, key: Key) -> bool
+        ensures { result ≡ is_later key self.now.object.latest }
+    {
+        self.replica.lets_through(key)
     }
 
     /// Whether its acceptor has promised this ballot, and no higher one.

@@ -2,7 +2,7 @@ ghost use Rattle.std.specs.Prelude.{◌≡◌, ◌++◌, true, ◌↔◌, IfOk, 
 ghost use Rattle.std.specs.FinMap.{empty};
 ghost use Rattle.object.specs.OnceOnly.{is_later, filtered, filtered_answers};
 
-use crate::command::{Answer, Command};
+use crate::command::{Answer, Command, Key};
 use crate::latest::Latest;
 use crate::objects::Object;
 use std::alloc::{AllocError, Global};
@@ -45,6 +45,16 @@ impl<O: Object> Once<O> {
             object: O::new(alloc)?,
             latest: Latest::new(alloc),
         })
+    }
+
+    /// Whether a command of this key is later than each earlier one of its session, so that the object would obey it.
+    pub fn lets_through(&self, key: Key) -> bool
+        ensures { result ≡ is_later key self.now.latest }
+    {
+        match self.latest.get(key.session) {
+            None => true,
+            Some(latest) => latest < key.number,
+        }
     }
 
     /// Lets the object obey the command, unless it is stale, and appends the answers to `out`.

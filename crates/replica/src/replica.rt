@@ -18,7 +18,7 @@ ghost use Rattle.replica.specs.Replicas.{but_last, proposes_first, tells, nudges
 use crate::obeying::obeying;
 use crate::performed::Performed;
 use ballot::{Letter, LetterBody, Members, Slot, send_to_all};
-use object::{Answer, Command, Object, Once, Value};
+use object::{Answer, Command, Key, Object, Once, Value};
 use slot_log::{LearnError, SlotLog};
 use std::alloc::{AllocError, Global};
 use std::marker::Model;
@@ -109,6 +109,13 @@ impl<O: Object> Replica<O> {
         ensures { result ≡ contains_key self.now.slots.decisions slot }
     {
         self.slots.knows(slot)
+    }
+
+    /// Whether its object would obey a command of this key.
+    pub fn lets_through(&self, key: Key) -> bool
+        ensures { result ≡ is_later key self.now.object.latest }
+    {
+        self.object.lets_through(key)
     }
 
     /// Forgets what is known of the slots below the base, all of which were performed. It takes no memory.
