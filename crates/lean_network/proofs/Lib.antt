@@ -1,0 +1,6 @@
+pub mod Reports
+pub mod States
+pub mod Placed
+pub mod Begun
+pub mod Received
+pub mod Forgetting

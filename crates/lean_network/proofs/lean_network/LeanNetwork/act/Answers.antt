@@ -1,0 +1,65 @@
+use Rattle.std.proofs.Common.{◌++◌, ap, ◌∙◌, arith}
+use Rattle.std.proofs.lemmas.Bool.{false≢true}
+use Rattle.node.specs.Holding.{HeldTurn}
+use Rattle.network.proofs.Sent.{member_bounds}
+use Rattle.network.proofs.Turned.{on_err}
+use Rattle.lean_network.proofs.Placed.{at_lean_place, within_leans, lean_turned_not, lean_stays_quiet, lean_able, lean_idle, lean_turn_is, lean_outcome}
+use Rattle.lean_network.proofs.Placed.{lean_acted_whole, lean_acted_ok}
+use Rattle.lean_network.proofs.lean_network.LeanNetwork.act.Goals as goal
+
+pub overflow_sub-id : goal.overflow_sub-id
+overflow_sub-id g c = (member_bounds c.args.self.now.members c.args.id c.requires.member).0
+
+pub index_mut-requires : goal.index_mut-requires
+index_mut-requires g c =
+    let h = within_leans (at_lean_place c.self.invariant c.self.view_is c.from.ensures c.requires.member) in
+    omega (arith, h, c.self.inside.nodes.ok.0)
+
+pub act-requires : goal.act-requires
+act-requires g c =
+    lean_able g.O.Object.rules (at_lean_place c.self.invariant c.self.view_is c.from.ensures c.requires.member)
+    c.index_mut.result.now c.index_mut.ensures.value c.args.deed c.requires.able
+
+pub invariant_of-self : goal.invariant_of-self
+invariant_of-self g c =
+    lean_stays_quiet (at_lean_place c.self.invariant c.self.view_is c.from.ensures c.requires.member) c.index_mut.result.now
+    c.index_mut.ensures.value c.act.new.self c.act.new.sent.items c.in_err-outcome.ensures.err
+    c.in_err-outcome.ensures.unsaid.0
+
+pub returns-in_err-outcome-clause-err : goal.returns-in_err-outcome-clause-err
+returns-in_err-outcome-clause-err g c = on_err c.from_residual.result
+    (lean_turned_not (at_lean_place c.self.invariant c.self.view_is c.from.ensures c.requires.member) c.index_mut.result.now
+    c.index_mut.ensures.value c.act.new.self c.act.new.sent.items c.in_err-outcome.ensures.err
+    c.in_err-outcome.ensures.unsaid.0)
+
+pub invariant_of-self-2 : goal.invariant_of-self-2
+invariant_of-self-2 g c =
+    lean_acted_whole g.O.Object.rules (at_lean_place c.self.invariant c.self.view_is c.from.ensures c.requires.member)
+    c.index_mut.result.now c.index_mut.ensures.value c.args.deed c.act.new.self c.act.new.sent.items
+    c.in_ok-outcome.ensures.state c.in_ok-outcome.ensures.sent
+
+pub returns-clause-ok : goal.returns-clause-ok
+returns-clause-ok g c =
+    c.sort_mail.ensures
+    ∙ lean_acted_ok g.O.Object.rules (at_lean_place c.self.invariant c.self.view_is c.from.ensures c.requires.member)
+    c.index_mut.result.now c.index_mut.ensures.value c.args.deed c.act.new.self c.act.new.sent.items
+    c.in_ok-outcome.ensures.state c.in_ok-outcome.ensures.sent
+
+pub returns-clause-answers : goal.returns-clause-answers
+returns-clause-answers g c =
+    c.in_ok-outcome.ensures.answers
+    ∙ ap (λ (t : HeldTurn g.row.O-Op.Denot g.row.O.Denot g.row.O-Reply.Denot). c.args.answers.now.items ++ t.answers)
+    (lean_turn_is g.O.Object.rules (at_lean_place c.self.invariant c.self.view_is c.from.ensures c.requires.member)
+    c.index_mut.result.now c.index_mut.ensures.value c.args.deed)
+
+pub returns-clause-outcome : goal.returns-clause-outcome
+returns-clause-outcome g c =
+    c.in_ok-outcome.ensures.outcome
+    ∙ lean_outcome g.O.Object.rules (at_lean_place c.self.invariant c.self.view_is c.from.ensures c.requires.member)
+    c.index_mut.result.now c.index_mut.ensures.value c.args.deed
+
+pub returns-in_err-outcome-clause-idle : goal.returns-in_err-outcome-clause-idle
+returns-in_err-outcome-clause-idle g c =
+    λ i. absurd (false≢true (c.in_err-outcome.ensures.idle
+    (lean_idle g.O.Object.rules (at_lean_place c.self.invariant c.self.view_is c.from.ensures c.requires.member)
+    c.index_mut.result.now c.index_mut.ensures.value c.args.deed i)))
