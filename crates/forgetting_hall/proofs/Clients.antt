@@ -3,7 +3,6 @@ use Rattle.std.proofs.Common.{◌≡◌, ◌≢◌, ◌+◌, inl, inr, ⊎_elim,
 use Rattle.std.proofs.Common.{Option, Some, None, refl, sym, ap, ◌∙◌, subst, arith}
 use Rattle.std.specs.Prelude.{option_map}
 use Rattle.std.specs.Option.{option_or}
-use Rattle.std.proofs.lemmas.List.Folds.{find-append}
 use Rattle.object.specs.Answers.{answered_key}
 use Rattle.object.specs.Happenings.{Happenings, with_answers}
 use Rattle.object.specs.KeyLaws.{same_is, same_when}
@@ -15,7 +14,10 @@ use Rattle.object.specs.declared.command.Answer.{Answer}
 use Rattle.object.specs.declared.command.Command.{Command}
 use Rattle.object.specs.declared.command.Key.{Key}
 use Rattle.object.specs.declared.command.Submission.{Submission}
-use Rattle.forgetting_hall.specs.Clients.{Client, IsClientOf, number_of_last, first_reply, replied}
+use Rattle.client_table.specs.Clients.{number_of_last, first_reply, replied}
+use Rattle.client_table.specs.declared.client.Client.{Client}
+use Rattle.client_table.proofs.Replies.{reply_of_both}
+use Rattle.forgetting_hall.specs.Clients.{IsClientOf}
 
 module _ {Reply : Type 0} where
   found_if : (key : Key) (x : Answer Reply) (xs : List (Answer Reply)) (a : Answer Reply) (b : Bool) → same_key x.to key ≡ b
@@ -57,10 +59,6 @@ module _ {Reply : Type 0} where
       (same_when x.to key (ap (λ (y : Answer Reply). y.to) (sym same) ∙ is)) e
   given_found key (x ∷ xs) a (inr i) is e = given_found key xs a i is (rest_if (same_key x.to key) x (found answered_key key xs) e)
 
-map_or : {A B : Type 0} (f : A → B) (o p : Option A) → option_map f (option_or o p) ≡ option_or (option_map f o) (option_map f p)
-map_or f None p = refl
-map_or f (Some x) p = refl
-
 or_none : {A : Type 0} (o p : Option A) → (o ≡ None → p ≡ None) → o ≡ option_or o p
 or_none None p h = sym (h refl)
 or_none (Some x) p h = refl
@@ -74,14 +72,6 @@ nothing_found None h = refl
 nothing_found (Some a) h = absurd (h a refl)
 
 module _ {Op Reply : Type 0} where
-  -- the first reply of two lists in a row
-  pub reply_of_both : (xs ys : List (Answer Reply)) (last : Option (Command Op))
-      → first_reply (xs ++ ys) last ≡ option_or (first_reply xs last) (first_reply ys last)
-  reply_of_both xs ys None = refl
-  reply_of_both xs ys (Some c) =
-      ap (option_map (λ (a : Answer Reply). a.reply)) (find-append (λ (a : Answer Reply). same_key (answered_key a) c.key) xs ys)
-      ∙ map_or (λ (a : Answer Reply). a.reply) (found answered_key c.key xs) (found answered_key c.key ys)
-
   -- nothing more is told by answers that were given before
   pub reply_again : (xs ys : List (Answer Reply)) → ((a : Answer Reply) → In a ys → In a xs) → (last : Option (Command Op))
       → first_reply xs last ≡ first_reply (xs ++ ys) last

@@ -40,8 +40,10 @@ use Rattle.agreement.specs.Events.{event_of}
 use Rattle.agreement.specs.Worlds.{World, opening}
 use Rattle.agreement.specs.declared.event.Event.TheVariants.{Deliver}
 use Rattle.hall.proofs.Told.{once_one}
-use Rattle.forgetting_hall.specs.Clients.{Client, Summary, IsClientOf, IsSummaryOf, IsOpenedUpTo, CountsPlaced, IsNextOf, IsLastOf}
-use Rattle.forgetting_hall.specs.Clients.{number_of_last, first_reply, with_replies, with_effect, with_command}
+use Rattle.client_table.specs.Clients.{Summary}
+use Rattle.client_table.specs.declared.client.Client.{Client}
+use Rattle.forgetting_hall.specs.Clients.{IsClientOf, IsSummaryOf, IsOpenedUpTo, CountsPlaced, IsNextOf, IsLastOf}
+use Rattle.client_table.specs.Clients.{number_of_last, first_reply, with_replies, with_effect, with_command}
 use Rattle.forgetting_hall.specs.Firsts.{Performs}
 use Rattle.forgetting_hall.specs.WorldFacts.{WorldFacts}
 use Rattle.forgetting_hall.specs.Rests.{HallRest, ShowsWorld, FollowsEvent, FollowsLetterOf, IsGoingOn, IsReplyInOrder}
@@ -257,14 +259,15 @@ module _ {O Op Reply : Type 0} (rules : Rules O Op Reply) (facts : WorldFacts ru
         }
 
   -- a letter is delivered, of which this was left
-  module _ (left : LetterBody (Command Op)) (network : NetworkState (Command Op)) (f : FollowsLetter rules h.base left h.objects network w) where
-    pub letter_shows : FollowsLetterOf rules w h.base left (record h { network = network; taken = h.taken + 1 })
+  module _ (n : ℕ) (l : Letter (Command Op)) (left : LetterBody (Command Op)) (network : NetworkState (Command Op)) (f : FollowsLetter rules h.base n l left h.objects network w) where
+    pub letter_shows : FollowsLetterOf rules w h.base n l left (record h { network = network; taken = h.taken + 1 })
     letter_shows =
         let happenings = happens rules w f.world (Deliver f.place) f.step in (
           f.place,
           f.letter,
           f.sent,
           f.was,
+          f.stood,
           (
             f.world,
             f.step,
@@ -347,6 +350,7 @@ reply_explained rules w order legal session client is c r last reply =
     let a = found_given c.key w.happenings.answers found_it.0 found_it.1 in
     let given = legal.answered found_it.0 a.0 in
     record {
+      told = subst (λ b. In b w.happenings.answers) (λ j. record { to = a.1 j; reply = found_it.2 j }) a.0;
       order = order;
       legal = legal;
       place = given.0;

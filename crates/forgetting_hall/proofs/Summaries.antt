@@ -2,7 +2,7 @@
 use Rattle.std.proofs.Common.{◌≡◌, ◌≢◌, ◌≤◌, ◌+◌, ◌⊎◌, inl, inr, ⊎_elim, ℕ, Bool, true, false, true≢false, cond, List, [], ◌∷◌, ◌++◌, length}
 use Rattle.std.proofs.Common.{Option, Some, None, refl, sym, ap, ◌∙◌, subst, arith, append-nil, length-append}
 use Rattle.std.specs.Prelude.{IsSome, option_map}
-use Rattle.std.specs.Option.{option_or, option_to_list}
+use Rattle.std.specs.Option.{option_to_list}
 use Rattle.std.specs.Cmp.{nat_cmp_total}
 use Rattle.std.specs.FinMap.{empty, get, insert, remove, get-insert, get-empty}
 use Rattle.std.specs.Ordering.{nat_cmp, eq_by_cmp}
@@ -23,8 +23,10 @@ use Rattle.node.specs.SlotLaws.{get_each_value}
 use Rattle.recorder.specs.Firsts.{firsts}
 use Rattle.forgetting.proofs.Gone.{any_In, In_any}
 use Rattle.ballot.proofs.SlotMaps.{get_each}
-use Rattle.forgetting_hall.specs.Clients.{Client, Summary, IsClientOf, IsSummaryOf, IsOpenedUpTo, IsNextOf, IsLastOf}
-use Rattle.forgetting_hall.specs.Clients.{new_client, blank_summary, first_reply, replied, with_command, with_replies, with_effect}
+use Rattle.client_table.specs.Clients.{Summary}
+use Rattle.client_table.proofs.Replies.{replied_none}
+use Rattle.forgetting_hall.specs.Clients.{IsClientOf, IsSummaryOf, IsOpenedUpTo, IsNextOf, IsLastOf}
+use Rattle.client_table.specs.Clients.{new_client, blank_summary, replied, with_command, with_replies, with_effect}
 use Rattle.forgetting_hall.proofs.Clients.{client_answered, client_told, client_beside, client_next, next_is_new}
 
 -- what a map has for a slot, once another one has a value
@@ -49,10 +51,6 @@ module _ {X : Type 0} (m : Slots X) (s : ℕ) (v : X) where
       (λ (h : get (insert m s v) q ≡ get m q). inr (subst (λ o. IsSome o) h i))
       (insert_cases m s v q)
 
-none_or : {X : Type 0} (o : Option X) → o ≡ option_or o None
-none_or None = refl
-none_or (Some x) = refl
-
 some_there : {X : Type 0} (o : Option X) → IsSome o → (x : X) × (o ≡ Some x)
 some_there None h = absurd (cc)
 some_there (Some x) h = (x, refl)
@@ -62,14 +60,6 @@ mapped_some f None i = i
 mapped_some f (Some x) i = refl
 
 module _ {Op Reply : Type 0} where
-  no_reply : (last : Option (Command Op)) → first_reply {Reply = Reply} [] last ≡ None
-  no_reply None = refl
-  no_reply (Some c) = refl
-
-  -- where nothing is answered the client is as it was
-  not_replied : (client : Client Op Reply) → client ≡ replied [] client
-  not_replied client = λ i. record client { reply = (none_or client.reply ∙ ap (option_or client.reply) (sym (no_reply client.last))) i }
-
   -- the count of what took effect is no client's
   pub effect_kept : (key : Option Key) (s : Summary Op Reply) (h : Happenings Op Reply) → IsSummaryOf s h → IsSummaryOf (with_effect key s) h
   effect_kept None s h is = is
@@ -103,7 +93,7 @@ module _ {Op Reply : Type 0} where
     replies_told given old same = record {
       clients = λ session client e.
           let was = get_each_value (λ _ c. replied [] c) s.clients session client e in
-          subst (IsClientOf (with_answers given h) session) (not_replied was.0 ∙ sym was.2)
+          subst (IsClientOf (with_answers given h) session) (sym (replied_none was.0) ∙ sym was.2)
           (client_told h session was.0 (is.clients session was.0 was.1) given old);
       submitted = is.submitted;
       answered = (let n = is.answered in omega (arith, n)) ∙ ap length (sym same);

@@ -22,8 +22,9 @@ use Rattle.agreement.specs.declared.event.Event.TheVariants.{Deliver}
 use Rattle.object.specs.Legal.{IsLegal, IsGivenAt}
 use Rattle.ballot.specs.Rests.{rest_of_body}
 use Rattle.node.specs.Holding.{outcome_held}
-use Rattle.forgetting_hall.specs.Clients.{Summary, IsSummaryOf, CountsPlaced, IsOpenedUpTo, blank_summary, new_client, with_command, with_replies, with_effect}
-use Rattle.forgetting_hall.specs.Shown.{ShowsRest, ObeyWorld, holder, with_object, turn_held, acted_net_held, forgotten_net, IsDeliveredSince}
+use Rattle.client_table.specs.Clients.{Summary, blank_summary, new_client, with_command, with_replies, with_effect}
+use Rattle.forgetting_hall.specs.Clients.{IsSummaryOf, CountsPlaced, IsOpenedUpTo}
+use Rattle.forgetting_hall.specs.Shown.{ShowsRest, ObeyWorld, IsLetterOf, holder, with_object, turn_held, acted_net_held, forgotten_net, IsDeliveredSince}
 
 -- The nodes with their mail, from a base on, and their objects; what is kept of what happened; how many sessions were opened;
 -- the reach, and the count of events.
@@ -64,11 +65,12 @@ pub record ShowsWorld {O Op Reply : Type 0} (rules : Rules O Op Reply) (h : Hall
 abbrev pub FollowsEvent : {O Op Reply : Type 0} → Rules O Op Reply → World Op Reply → Event Op → HallRest Op O Reply → Type 0
 FollowsEvent {O} {Op} {Reply} rules w e z = (v : World Op Reply) × Step rules w e v × ShowsWorld rules z v
 
--- the same, where the event is that a letter is delivered of which this was left
-abbrev pub FollowsLetterOf : {O Op Reply : Type 0} → Rules O Op Reply → World Op Reply → ℕ → LetterBody (Command Op) → HallRest Op O Reply → Type 0
-FollowsLetterOf {O} {Op} {Reply} rules w base left z =
+-- the same, where the event is that a letter is delivered of which this was left: the one that l, in front of node n's mail,
+-- stands for, so it is from the same sender, and to node n
+abbrev pub FollowsLetterOf : {O Op Reply : Type 0} → Rules O Op Reply → World Op Reply → ℕ → ℕ → Letter (Command Op) → LetterBody (Command Op) → HallRest Op O Reply → Type 0
+FollowsLetterOf {O} {Op} {Reply} rules w base n l left z =
     (place : ℕ) × (letter : Letter (Command Op)) × (slice_get w.cluster.letters place ≡ Some letter)
-    × (rest_of_body base letter.body ≡ Some left) × FollowsEvent rules w (Deliver place) z
+    × (rest_of_body base letter.body ≡ Some left) × IsLetterOf base n l letter × FollowsEvent rules w (Deliver place) z
 
 -- the deed is one that a node does by itself, but that it doesn't begin anew
 abbrev pub IsGoingOn : {Op : Type 0} → Deed Op → Type 0
@@ -79,8 +81,9 @@ IsGoingOn Propose = ⊤
 IsGoingOn Perform = ⊤
 IsGoingOn Restart = ⊥
 
--- what happened is legal for an order, in which this is the reply to the command
+-- this reply to the command was given, and what happened is legal for an order, in which it is the reply
 pub record IsReplyInOrder {O Op Reply : Type 0} (rules : Rules O Op Reply) (w : World Op Reply) (c : Command Op) (reply : Reply) : Type 0 where
+  pub told : In (record { to = c.key; reply = reply }) w.happenings.answers
   pub order : List (Command Op)
   pub legal : IsLegal rules w.happenings order
   pub place : ℕ

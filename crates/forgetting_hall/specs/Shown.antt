@@ -93,13 +93,14 @@ IsDeliveredSince {C} k n l left z =
     × (z ≡ turned_net (without_front k n) n x sent)
     × ShowsReceived l.«from» (node_of k n) left x [] sent
 
--- the world's event is that a letter is delivered, of which this was left
-pub record FollowsLetter {O Op Reply : Type 0} (rules : Rules O Op Reply) (base : ℕ) (left : LetterBody (Command Op))
+-- the world's event is that a letter is delivered, of which this was left: the one that l, in front of node n's mail, stands for
+pub record FollowsLetter {O Op Reply : Type 0} (rules : Rules O Op Reply) (base n : ℕ) (l : Letter (Command Op)) (left : LetterBody (Command Op))
     (objects : ℕ → Filtered O) (z : NetworkState (Command Op)) (w : World Op Reply) : Type 0 where
   pub place : ℕ
   pub letter : Letter (Command Op)
   pub sent : slice_get w.cluster.letters place ≡ Some letter
   pub was : rest_of_body base letter.body ≡ Some left
+  pub stood : IsLetterOf base n l letter
   pub world : World Op Reply
   pub step : Step rules w (Deliver place) world
   pub shows : ShowsRest base z world.cluster

@@ -11,7 +11,8 @@ ghost use Rattle.agreement.specs.Runs.{IsWorld};
 ghost use Rattle.agreement.specs.Worlds.{World, opening};
 ghost use Rattle.agreement.specs.declared.event.Event.TheVariants.{Submit};
 ghost use Rattle.ballot.specs.Rests.{rest_of_body};
-ghost use Rattle.forgetting_hall.specs.Clients.{Client, IsNextOf, IsLastOf};
+ghost use Rattle.client_table.specs.declared.client.Client.{Client};
+ghost use Rattle.forgetting_hall.specs.Clients.{IsNextOf, IsLastOf};
 ghost use Rattle.forgetting_hall.specs.Rests.{HallRest, ShowsWorld, FollowsEvent, FollowsLetterOf, IsGoingOn, IsReceivedRest, IsReplyInOrder, new_rest, acted_rest, handed_in, done_rest, lost_rest, repeated_rest, forgotten_rest, opened_rest, let_go_rest};
 ghost use Rattle.forgetting_hall.specs.WorldFacts.{WorldFacts};
 
@@ -42,7 +43,7 @@ pub fn halls_rest<O: Object>()
         (l : Letter (Command O.Op)) (left : LetterBody (Command O.Op)) →
         IsWorld O.rules w → ShowsWorld O.rules h w → is_member h.network.members n ≡ true →
         front (mail_of h.network n) ≡ Some l → rest_of_body h.base l.body ≡ Some left →
-        IsReceivedRest h n l left z → FollowsLetterOf O.rules w h.base left z }
+        IsReceivedRest h n l left z → FollowsLetterOf O.rules w h.base n l left z }
     ensures loses { (h : HallRest O.Op O O.Reply) (w : World O.Op O.Reply) (n : ℕ) →
         IsWorld O.rules w → ShowsWorld O.rules h w → ShowsWorld O.rules (lost_rest h n) w }
     ensures repeats { (h : HallRest O.Op O O.Reply) (w : World O.Op O.Reply) (n : ℕ) (l : Letter (Command O.Op)) →

@@ -40,7 +40,7 @@ pub fn clusters_rest<O: Object>()
         IsWorld O.rules w → ShowsRest base k w.cluster → ObeyWorld O.rules k objects w.cluster →
         is_member k.members n ≡ true →
         front (mail_of k n) ≡ Some l → rest_of_body base l.body ≡ Some left → IsDeliveredSince k n l left z →
-        FollowsLetter O.rules base left objects z w }
+        FollowsLetter O.rules base n l left objects z w }
     ensures lost { (base : ℕ) (k : NetworkState (Command O.Op)) (w : World O.Op O.Reply) (n : ℕ) →
         ShowsRest base k w.cluster → ShowsRest base (without_front k n) w.cluster }
     ensures forget { (low high : ℕ) (k : NetworkState (Command O.Op)) (w : World O.Op O.Reply) →

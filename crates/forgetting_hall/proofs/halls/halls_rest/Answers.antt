@@ -40,8 +40,8 @@ returns-clause-acts g c = λ h w n d i s member own.
 
 pub returns-clause-receives : goal.returns-clause-receives
 returns-clause-receives g c = λ h z w n l left i s member at was received.
-    subst (FollowsLetterOf g.O.Object.rules w h.base left) (sym received.2)
-    (letter_shows g.O.Object.rules c.facts_of_worlds.ensures h w i s left received.0
+    subst (FollowsLetterOf g.O.Object.rules w h.base n l left) (sym received.2)
+    (letter_shows g.O.Object.rules c.facts_of_worlds.ensures h w i s n l left received.0
     (c.clusters_rest.ensures.letters h.base h.network received.0 h.objects w n l left i s.cluster s.objects member at was received.1))
 
 pub returns-clause-loses : goal.returns-clause-loses

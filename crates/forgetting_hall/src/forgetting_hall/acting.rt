@@ -1,0 +1,61 @@
+ghost use Rattle.std.specs.Prelude.{◌≡◌, None, Some, IsOk, IfOk, IfErr, OnOk, OnErr};
+ghost use Rattle.node.specs.Deeds.{ComesToNothing};
+ghost use Rattle.lean_network.specs.LeanNetworks.{lean_node_of};
+ghost use Rattle.agreement.specs.Events.{event_of};
+ghost use Rattle.hall.specs.declared.error.HallError.{HallError};
+ghost use Rattle.hall.specs.declared.error.HallError.TheVariants.{OutOfMemory};
+ghost use Rattle.forgetting_hall.specs.Rests.{IsGoingOn, fresh_answers, outcome_rest, done_rest};
+ghost use Rattle.forgetting_hall.specs.Halls.{rest_of_hall, FollowsIn};
+ghost use Rattle.forgetting_hall.specs.Refusing.{refusal_of_event};
+
+use super::ForgettingHall;
+use crate::halls::halls_rest;
+use agreement::every_world;
+use hall::HallError;
+use node::{Deed, Outcome};
+use object::{Answer, Object};
+
+impl<O: Object> ForgettingHall<O> {
+    /// A node does something by itself: it wakes, nudges, proposes or performs. What it answers is told to the clients, where
+    /// nobody was told before. It may not begin anew, since it would need what the others forgot; a request is handed in
+    /// by `submit`.
+    pub fn act(&mut self, node: u8, deed: Deed<O::Op>) -> Result<Outcome, HallError>
+        requires { IsGoingOn deed }
+        ensures outcome { IfOk result (λ outcome.
+            outcome ≡ outcome_rest (rest_of_hall O.rules self.old) node deed) }
+        ensures ok { OnOk result (rest_of_hall O.rules self.new
+            ≡ done_rest O.rules (rest_of_hall O.rules self.old) node deed) }
+        ensures event { OnOk result (FollowsIn O.rules self.old (event_of node deed) self.new) }
+        ensures err { OnErr result (self.new ≡ self.old) }
+        ensures refused { (r : HallError) → refusal_of_event self.old node ≡ Some r →
+            result ≡ Err r }
+        ensures memory { refusal_of_event self.old node ≡ None →
+            IfErr result (λ r. r ≡ OutOfMemory) }
+        ensures idle { refusal_of_event self.old node ≡ None →
+            ComesToNothing O.rules (lean_node_of O.rules self.old.network node).state deed →
+            IsOk result }
+    {
+        every_world::<O>();
+        halls_rest::<O>();
+        if let Some(refused) = self.refusal_of_event(node) {
+            return Err(refused);
+        }
+        let mut given = Vec::new(self.alloc);
+        let outcome = self.network.act(node, deed, &mut given)?;
+        self.clients.hear(fresh_of(&outcome, self.reach, given));
+        self.clients.place(outcome.key_placed(self.reach));
+        self.reach = outcome.reach_after(self.reach);
+        self.taken += 1;
+        Ok(outcome)
+    }
+}
+
+// Those of the answers that nobody was given before, where the slots up to the reach were performed.
+fn fresh_of<R: Drop>(outcome: &Outcome, reach: u64, given: Vec<Answer<R>>) -> Vec<Answer<R>>
+    ensures { result.items ≡ fresh_answers reach outcome.now given.items }
+{
+    match outcome {
+        Outcome::Performed(performed) if performed.slot.number() > reach => given,
+        _ => Vec::new(*given.allocator()),
+    }
+}

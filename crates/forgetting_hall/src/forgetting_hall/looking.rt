@@ -1,0 +1,82 @@
+ghost use Rattle.std.specs.Prelude.{◌≡◌, ◌&&◌, not, is_some, Some};
+ghost use Rattle.std.specs.Option.{option_copied};
+ghost use Rattle.std.specs.FinMap.{get};
+ghost use Rattle.slot_log.specs.Decisions.{next_decided};
+ghost use Rattle.slot_log.specs.Proposals.{next_proposal};
+ghost use Rattle.network.specs.Networks.{has_mail};
+ghost use Rattle.lean_network.specs.LeanNetworks.{states, lean_node_of};
+ghost use Rattle.object.specs.declared.command.Command.{Command};
+ghost use Rattle.agreement.specs.Runs.{IsWorld};
+ghost use Rattle.agreement.specs.Worlds.{World};
+ghost use Rattle.forgetting_hall.specs.Halls.{rest_of_hall};
+ghost use Rattle.forgetting_hall.specs.Handing.{last_of, reply_of};
+ghost use Rattle.forgetting_hall.specs.Rests.{ShowsWorld, IsReplyInOrder};
+ghost use Rattle.forgetting_hall.specs.Refusing.{is_foreign};
+
+use super::ForgettingHall;
+use crate::halls::halls_rest;
+use ballot::Members;
+use client_table::Client;
+use hall::Work;
+use object::{Command, Object};
+
+/// Look-ups, which take no memory.
+impl<O: Object> ForgettingHall<O> {
+    /// The members.
+    pub fn members(&self) -> Members
+        ensures { result ≡ self.now.network.members }
+    {
+        self.network.members()
+    }
+
+    /// The first slot that it keeps.
+    pub fn base(&self) -> u64
+        ensures { result ≡ self.now.base }
+    {
+        self.base
+    }
+
+    /// What it keeps of a session; the clock is session 0.
+    pub fn client(&self, session: u32) -> Option<&Client<O::Op, O::Reply>>
+        ensures { option_copied result ≡ get self.now.summary.clients session }
+    {
+        self.clients.client(session)
+    }
+
+    /// The reply to a session's last command, if it was given. One order explains it with all else that happened.
+    pub fn reply(&self, session: u32) -> Option<&O::Reply>
+        ensures reply { option_copied result ≡ reply_of self.now session }
+        ensures legal { (w : World O.Op O.Reply) (c : Command O.Op) (reply : O.Reply) → IsWorld O.rules w
+            → ShowsWorld O.rules (rest_of_hall O.rules self.now) w → last_of self.now session ≡ Some c
+            → reply_of self.now session ≡ Some reply → IsReplyInOrder O.rules w c reply }
+    {
+        halls_rest::<O>();
+        self.clients.client(session)?.reply.as_ref()
+    }
+
+    /// What a node has to do: nothing where it isn't a member.
+    pub fn work(&self, node: u8) -> Work
+        ensures mail { result.mail ≡ (not (is_foreign self.now node)
+            && has_mail (states self.now.network) node) }
+        ensures request { result.request ≡ (not (is_foreign self.now node)
+            && is_some (next_proposal (lean_node_of O.rules self.now.network node).state.replica)) }
+        ensures decision { result.decision ≡ (not (is_foreign self.now node)
+            && is_some (next_decided (lean_node_of O.rules self.now.network node).state.replica)) }
+    {
+        if self.is_foreign(node) {
+            return Work::NONE;
+        }
+        Work {
+            mail: self.network.has_mail(node),
+            request: self.network.node(node).can_propose(),
+            decision: self.network.node(node).can_perform(),
+        }
+    }
+
+    // The session's last command.
+    pub(super) fn last(&self, session: u32) -> Option<&Command<O::Op>>
+        ensures { option_copied result ≡ last_of self.now session }
+    {
+        self.clients.client(session)?.last.as_ref()
+    }
+}
