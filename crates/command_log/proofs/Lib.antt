@@ -8,3 +8,4 @@ pub mod OneLog
 pub mod Spelled
 pub mod Steps
 pub mod Sums
+pub mod Sizes

@@ -1,8 +1,11 @@
 -- Which lines are right.
-use Rattle.std.specs.Prelude.{◌≡◌, ℕ, ◌≤◌, List, ◌++◌, length, codes, Option, Some, None}
+use Rattle.std.specs.Prelude.{◌≡◌, ℕ, ◌≤◌, ⊤, List, ◌++◌, length, codes, Option, Some, None}
+use Rattle.object.specs.declared.command.Act.{Act}
+use Rattle.object.specs.declared.command.Act.TheVariants.{Do}
 use Rattle.object.specs.declared.command.Command.{Command}
 use Rattle.ballot.specs.Members.{IsMembers}
 use Rattle.bean_queue.specs.declared.op.Op.{Op}
+use Rattle.bean_queue.specs.declared.op.Op.TheVariants.{Put}
 use Rattle.chronicle.specs.Lines.{NoFeed}
 use Rattle.chronicle.specs.Values.{IsCommandValue}
 use Rattle.command_log.specs.declared.line.TheConstants.{MAX_LINE}
@@ -12,6 +15,11 @@ use Rattle.command_log.specs.Text.{head_line, command_words, summed, line_of_com
 pub record IsLogged (c : Command Op) : Type 0 where
   pub value : IsCommandValue c
   pub short : length (line_of_command c) ≤ MAX_LINE
+
+-- a body in it isn't longer than a client's may be
+abbrev pub HasClientBody : Act Op → Type 0
+HasClientBody (Do (Put pri delay ttr body)) = length body ≤ 65535
+HasClientBody _ = ⊤
 
 -- a line has its line feed at its end alone
 pub record IsLogLine (line : List ℕ) : Type 0 where

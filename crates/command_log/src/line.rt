@@ -1,7 +1,7 @@
-ghost use Rattle.std.specs.Prelude.{◌≡◌, ◌++◌, take, vec_len, IfOk, IfErr, OnOk, OnErr};
+ghost use Rattle.std.specs.Prelude.{◌≡◌, ◌++◌, take, vec_len, IfOk, IfErr, IsErrOf, OnOk, OnErr};
 ghost use Rattle.chronicle.specs.Values.{IsCommandValue};
 ghost use Rattle.command_log.specs.Faults.{IsWriteFault};
-ghost use Rattle.command_log.specs.Lines.{IsLogged, HoldsCommand, TellsCommand};
+ghost use Rattle.command_log.specs.Lines.{IsLogged, HasClientBody, HoldsCommand, TellsCommand};
 ghost use Rattle.command_log.specs.Spelling.{told_command};
 ghost use Rattle.command_log.specs.Text.{command_words, line_of_command};
 
@@ -16,12 +16,14 @@ use std::alloc::{AllocError, Global};
 /// How many bytes a line has at most. The longest command of a client, a put of 65535 bytes, has 131148.
 pub const MAX_LINE: usize = 131_200;
 
-/// Writes the line of a command at the end. At a fault nothing is written.
+/// Writes the line of a command at the end. At a fault nothing is written. No command of a client is too long.
+#[tactic(auto, using(crate::proofs::Sizes::client_short))]
 pub fn write_command(command: &Command<Op>, out: &mut Vec<u8>) -> Result<(), WriteFault>
     ensures ok { OnOk result (out.new.items ≡ out.old.items ++ line_of_command command.now) }
     ensures err { OnErr result (out.new.items ≡ out.old.items) }
     ensures logged { OnOk result (IsLogged command.now) }
     ensures fault { IfErr result (IsWriteFault command.now) }
+    ensures fits { HasClientBody command.now.act → IsErrOf result WriteFault.TooLong → ⊥ }
 {
     let alloc = *out.allocator();
     let mut line = Vec::new(alloc);

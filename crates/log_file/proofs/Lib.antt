@@ -1,0 +1,4 @@
+pub mod Writes
+pub mod Holding
+pub mod Recovering
+pub mod CutLogs

@@ -1,0 +1,51 @@
+ghost use Rattle.std.specs.Prelude.{◌≡◌, ℕ, List, length, Option, IfOk, IfSome, OnOk};
+ghost use Rattle.std.specs.Io.KnownBytes.{Keeps};
+ghost use Rattle.log_file.specs.Bytes.{CutsTo};
+
+use std::fs::File;
+use std::io;
+use std::io::Write;
+
+/// A writer that can be told to keep what was written.
+pub trait Durable: Write {
+    // The bytes that stay whatever happens, where they are known.
+    ghost kept: { Self → Option (List ℕ) };
+
+    /// Returns once all that was written is kept, or fails.
+    fn sync(&mut self) -> io::Result<()>
+        ensures bytes { Keeps (Self.contents self.old) (Self.contents self.new) }
+        ensures kept { OnOk result (Keeps (Self.contents self.new) (kept self.new)) };
+}
+
+impl Durable for File {
+    ghost kept = { λ _. None };
+
+    ghost use Rattle.std.specs.Prelude.{None};
+
+    fn sync(&mut self) -> io::Result<()> {
+        self.sync_data()
+    }
+}
+
+/// A writer whose bytes can be cut off behind a length.
+pub(crate) trait Cuttable: Durable {
+    /// How many bytes it holds.
+    fn size(&self) -> io::Result<u64>
+        ensures { IfOk result (λ n. IfSome (Self.contents self.now) (λ held. n ≡ length held)) };
+
+    /// Cuts off what stands behind so many bytes, and returns once these are kept, or fails.
+    fn cut(&mut self, bytes: u64) -> io::Result<()>
+        ensures bytes { OnOk result (CutsTo (Self.contents self.old) (Self.contents self.new) bytes) }
+        ensures kept { OnOk result (Keeps (Self.contents self.new) (Self.kept self.new)) };
+}
+
+impl Cuttable for File {
+    fn size(&self) -> io::Result<u64> {
+        Ok(self.metadata()?.len())
+    }
+
+    fn cut(&mut self, bytes: u64) -> io::Result<()> {
+        self.set_len(bytes)?;
+        self.sync_all()
+    }
+}

@@ -1,0 +1,147 @@
+ghost use Rattle.std.specs.Prelude.{◌≡◌, ◌<◌, ◌⊎◌, ◌↔◌, ◌++◌, ◌∷◌, ℕ, List, [], true, false, length, Some, IsOk, IsErrOf, IfOk, IfErr, OnOk, OnErr};
+ghost use Rattle.std.specs.Io.KnownBytes.{Keeps};
+ghost use Rattle.object.specs.declared.command.Command.{Command};
+ghost use Rattle.bean_queue.specs.declared.op.Op.{Op};
+ghost use Rattle.command_log.specs.Lines.{IsLogged, HasClientBody};
+ghost use Rattle.command_log.specs.Text.{head_line, line_of_command};
+ghost use Rattle.log_file.specs.Bytes.{WritesAll};
+ghost use Rattle.log_file.specs.Faults.{IsKeepFault, IsNoteFault};
+ghost use Rattle.log_file.specs.Logs.{BeginsLog, HoldsLog};
+
+use crate::bytes::write_and_sync;
+use crate::durable::Durable;
+use crate::faults::{KeepFault, NoteFault};
+use ballot::Members;
+use bean_queue::Op;
+use command_log::{write_command, write_head};
+use object::Command;
+use std::alloc::{AllocError, Global};
+use std::marker::Model;
+
+/// A log that is written, a batch of lines at a time.
+///
+/// A command is noted first, which puts its line into the batch, and is kept with the batch. Once a write or a sync has
+/// failed, nothing is noted or written any more: nobody knows then what stands behind what was kept.
+#[derive(Drop)]
+pub struct LogWriter<W> {
+    writer: W,
+    batch: Vec<u8>,
+    has_failed: bool,
+}
+
+impl<W> Model for LogWriter<W> {
+    ghost use Rattle.log_file.specs.States.{LogState};
+
+    ghost Value = { LogState W };
+
+    ghost view = { λ log. record { writer = log.writer; batch = log.batch.items; has_failed = log.has_failed } };
+}
+
+impl<W: Durable> LogWriter<W> {
+    /// A new log, whose head is in the batch. The writer holds nothing as yet.
+    pub fn begin(alloc: Global, writer: W, members: Members) -> Result<LogWriter<W>, AllocError>
+    where
+        W: Drop,
+        ensures begun { IfOk result (λ log. log
+            ≡ record { writer = writer; batch = head_line members; has_failed = false }) }
+        ensures log { IfOk result (λ log. W.contents writer ≡ Some []
+            → HoldsLog (W.contents log.writer) log.batch members []) }
+    {
+        // It does nothing when it runs: the proof reads there what members are.
+        let _ = members.weights();
+        let mut batch = Vec::new(alloc);
+        write_head(members, &mut batch)?;
+        Ok(LogWriter {
+            writer,
+            batch,
+            has_failed: false,
+        })
+    }
+
+    /// A log that goes on behind what the writer holds.
+    pub fn resume(alloc: Global, writer: W) -> LogWriter<W>
+        ensures { result ≡ record { writer = writer; batch = []; has_failed = false } }
+    {
+        LogWriter {
+            writer,
+            batch: Vec::new(alloc),
+            has_failed: false,
+        }
+    }
+
+    /// Puts the command's line into the batch.
+    pub fn note(&mut self, command: &Command<Op>) -> Result<(), NoteFault>
+        ensures ok { OnOk result (self.new
+            ≡ record self.old { batch = self.old.batch ++ line_of_command command.now }) }
+        ensures err { OnErr result (self.new ≡ self.old) }
+        ensures logged { OnOk result (IsLogged command.now) }
+        ensures fault { IfErr result (IsNoteFault self.old.has_failed command.now) }
+        ensures fits { HasClientBody command.now.act → IsErrOf result NoteFault.TooLong → ⊥ }
+        ensures refused { self.old.has_failed ≡ true → IsErrOf result NoteFault.HasFailed }
+        ensures log { OnOk result ((members : List ℕ) (commands : List (Command Op))
+            → HoldsLog (W.contents self.old.writer) self.old.batch members commands
+            → HoldsLog (W.contents self.new.writer) self.new.batch members (commands ++ command.now ∷ [])) }
+    {
+        if self.has_failed {
+            return Err(NoteFault::HasFailed);
+        }
+        write_command(command, &mut self.batch)?;
+        Ok(())
+    }
+
+    /// Writes the batch, and returns once it is kept. After a failure some first bytes of it may have been written.
+    pub fn keep(&mut self) -> Result<(), KeepFault>
+        ensures ok { OnOk result (self.new ≡ record self.old { writer = self.new.writer; batch = [] }) }
+        ensures err { OnErr result (self.new
+            ≡ record self.old { writer = self.new.writer; has_failed = true }) }
+        ensures written { WritesAll (W.contents self.old.writer) (W.contents self.new.writer)
+            self.old.batch result }
+        ensures kept { OnOk result (0 < length self.old.batch
+            → Keeps (W.contents self.new.writer) (W.kept self.new.writer)) }
+        ensures fault { IfErr result (IsKeepFault (W.contents self.old.writer) (W.contents self.new.writer)
+            self.old.batch) }
+        ensures idle { (self.old.batch ≡ []) ⊎ (self.old.has_failed ≡ true) → self.new.writer ≡ self.old.writer }
+        ensures succeeds { self.old.batch ≡ [] → self.old.has_failed ≡ false → IsOk result }
+        ensures refused { IsErrOf result KeepFault.HasFailed ↔ (self.old.has_failed ≡ true) }
+        ensures log { OnOk result ((members : List ℕ) (commands : List (Command Op))
+            → HoldsLog (W.contents self.old.writer) self.old.batch members commands
+            → HoldsLog (W.contents self.new.writer) [] members commands) }
+        ensures torn { OnErr result ((members : List ℕ) (commands : List (Command Op))
+            → HoldsLog (W.contents self.old.writer) self.old.batch members commands
+            → BeginsLog (W.contents self.new.writer) members commands) }
+    {
+        if self.has_failed {
+            return Err(KeepFault::HasFailed);
+        }
+        if self.batch.is_empty() {
+            return Ok(());
+        }
+        let result = write_and_sync(&mut self.writer, &self.batch);
+        match result {
+            Ok(()) => self.batch.clear(),
+            Err(_) => self.has_failed = true,
+        }
+        result
+    }
+
+    /// Whether there is something to keep.
+    pub fn has_batch(&self) -> bool
+        ensures { result ≡ true ↔ 0 < length self.now.batch }
+    {
+        !self.batch.is_empty()
+    }
+
+    /// Whether a write or a sync has failed.
+    pub fn has_failed(&self) -> bool
+        ensures { result ≡ self.now.has_failed }
+    {
+        self.has_failed
+    }
+
+    /// What the log is written to.
+    pub fn writer(&self) -> &W
+        ensures { result.now ≡ self.now.writer }
+    {
+        &self.writer
+    }
+}

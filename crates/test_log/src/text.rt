@@ -1,0 +1,36 @@
+//! A log of three members and three commands.
+use bean_queue::Op;
+use job_store::Body;
+use object::{Act, Command, Key};
+use std::alloc::Global;
+use std::test::Fail;
+
+pub(crate) const TEXT: &[u8] =
+    b"beanpax-log 1 1 1 1\n0 5 tick 562a2e4c\n1 1 put 0 0 9 78 fa47b1fd\n2 3 close d8945d41\n";
+
+/// How many bytes its head has, and its beginnings that end with its first, second and third command.
+pub(crate) const ENDS: [usize; 4] = [20, 38, 64, 83];
+
+fn command(session: u32, number: u64, act: Act<Op>) -> Result<Command<Op>, Fail> {
+    Ok(Command::new(Key { session, number }, act).ok_or("no command")?)
+}
+
+/// Its commands.
+pub(crate) fn commands(alloc: Global) -> Result<Vec<Command<Op>>, Fail> {
+    let put = Op::Put {
+        pri: 0,
+        delay: 0,
+        ttr: 9,
+        body: Body::new(alloc, b"x")?,
+    };
+    let mut commands = Vec::with_capacity(alloc, 3)?;
+    commands.push(command(0, 5, Act::Tick)?)?;
+    commands.push(command(1, 1, Act::Do(put))?)?;
+    commands.push(command(2, 3, Act::Close)?)?;
+    Ok(commands)
+}
+
+/// How many commands, or lines, stand whole in so many first bytes of it.
+pub(crate) fn lines_within(bytes: usize) -> usize {
+    ENDS.iter().filter(|end| **end <= bytes).count()
+}
