@@ -268,14 +268,14 @@ module _ {O Op Reply : Type 0} {rules : Rules O Op Reply} (h : ForgettingState O
           record { client = client; is_there = ap (get h.summary.clients) own ∙ e; last = of }
 
 -- the reply to a session's last command is that of one order
-pub reply_in_order : {O Op Reply : Type 0} (rules : Rules O Op Reply) (h : ForgettingState Op O Reply) (session : ℕ)
+pub reply_in_order : {O Op Reply : Type 0} (rules : Rules O Op Reply) (promise : List (Command Op) → Type 0) (h : ForgettingState Op O Reply) (session : ℕ)
     → ((q : HallRest Op O Reply) (w : World Op Reply) (s : ℕ) (client : Client Op Reply) (c : Command Op) (reply : Reply) → IsWorld rules w
-    → ShowsWorld rules q w → get q.summary.clients s ≡ Some client → client.last ≡ Some c → client.reply ≡ Some reply → IsReplyInOrder rules w c reply)
+    → ShowsWorld rules q w → get q.summary.clients s ≡ Some client → client.last ≡ Some c → client.reply ≡ Some reply → IsReplyInOrder rules promise w c reply)
     → (w : World Op Reply) (c : Command Op) (reply : Reply) → IsWorld rules w → ShowsWorld rules (rest_of_hall rules h) w
-    → last_of h session ≡ Some c → reply_of h session ≡ Some reply → IsReplyInOrder rules w c reply
-reply_in_order {Op = Op} {Reply = Reply} rules h session replies w c reply i s last told = at (get h.summary.clients session) refl
+    → last_of h session ≡ Some c → reply_of h session ≡ Some reply → IsReplyInOrder rules promise w c reply
+reply_in_order {Op = Op} {Reply = Reply} rules promise h session replies w c reply i s last told = at (get h.summary.clients session) refl
   where
-    at : (o : Option (Client Op Reply)) → get h.summary.clients session ≡ o → IsReplyInOrder rules w c reply
+    at : (o : Option (Client Op Reply)) → get h.summary.clients session ≡ o → IsReplyInOrder rules promise w c reply
     at None e = absurd (none_some (sym (ap last_of_client e) ∙ last))
     at (Some client) e = replies (rest_of_hall rules h) w session client c reply i s e
         (sym (ap last_of_client e) ∙ last) (sym (ap reply_of_client e) ∙ told)

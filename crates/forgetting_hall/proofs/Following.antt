@@ -32,6 +32,7 @@ use Rattle.forgetting_hall.specs.Halls.{ForgettingState, IsForgettingHall, Follo
 use Rattle.forgetting_hall.specs.Refusing.{refusal_of_event, has_all_events}
 use Rattle.forgetting_hall.specs.Rests.{HallRest, ShowsWorld, FollowsEvent, FollowsLetterOf, IsGoingOn, IsReceivedRest, fresh_answers, done_rest, forgotten_rest, lost_rest}
 use Rattle.forgetting_hall.proofs.Counting.{room_for}
+use Rattle.forgetting_hall.proofs.Forget.{forgotten_same}
 use Rattle.forgetting_hall.proofs.Keeping.{all_nodes, lost_still}
 use Rattle.forgetting_hall.proofs.Turning.{after_deed, deed_is}
 
@@ -114,6 +115,11 @@ module _ {O Op Reply : Type 0} (rules : Rules O Op Reply) (h : ForgettingState O
       receives (rest_of_hall rules h) (rest_of_hall rules (record h { network = k; taken = h.taken + 1 })) w n l left i s member at was (received_is l left k r)
 
 module _ {O Op Reply : Type 0} (rules : Rules O Op Reply) (h : ForgettingState Op O Reply) where
+  -- nothing more is forgotten at the same base
+  pub forgotten_already : IsForgettingHall rules h → rest_of_hall rules h ≡ forgotten_rest (rest_of_hall rules h) h.base
+  forgotten_already is = ap (λ k. record (rest_of_hall rules h) { network = k })
+      (sym (forgotten_same h.base (states h.network) is.shown.0.cluster is.shown.2.cluster))
+
   -- slots are forgotten
   pub forgotten_is : (base : ℕ) (k : LeanState Op O) → k ≡ forgotten_lean base h.network
       → rest_of_hall rules (record h { network = k; base = base }) ≡ forgotten_rest (rest_of_hall rules h) base

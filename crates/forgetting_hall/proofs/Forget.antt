@@ -1,6 +1,6 @@
 -- Nodes that forget more show on what they showed.
 use Rattle.std.proofs.Common.{◌≡◌, ◌<◌, ◌≤◌, ℕ, zero, suc, Bool, true, false, true≢false, cond, List, [], ◌∷◌, length}
-use Rattle.std.proofs.Common.{map, Some, None, refl, sym, ap, ◌∙◌, subst, arith}
+use Rattle.std.proofs.Common.{map, Some, None, refl, sym, ap, ap₂, ◌∙◌, subst, arith}
 use Rattle.std.proofs.lemmas.List.{length-map}
 use Rattle.std.specs.Prelude.{nat_le, option_and_then, slice_index_or}
 use Rattle.std.proofs.lemmas.Bool.Decides.{nat_tests}
@@ -13,7 +13,8 @@ use Rattle.node.specs.Nodes.{NodeState, node_in, new_node}
 use Rattle.node.specs.Receiving.{ShowsNode}
 use Rattle.network.specs.Networks.{NetworkState, node_of}
 use Rattle.agreement.specs.Nodes.{Cluster, node}
-use Rattle.ballot.specs.Rests.{if_from, rest_of_body}
+use Rattle.ballot.specs.Rests.{if_from, rest_of_body, pvalues_from}
+use Rattle.ballot.proofs.Filters.{In_filter, filter_all}
 use Rattle.acceptor.specs.Rests.{rest_of_acceptor}
 use Rattle.leader.specs.Rests.{rest_of_leader}
 use Rattle.slot_log.specs.Rests.{rest_of_book}
@@ -21,6 +22,7 @@ use Rattle.node.specs.Rests.{rest_of_node}
 use Rattle.forgetting.proofs.Bases.{node_twice, pvalues_twice, rest_keeps}
 use Rattle.forgetting_hall.specs.Shown.{ShowsRest, IsLetterOf, forgotten_net}
 use Rattle.forgetting_hall.proofs.Clusters.{member_bounds}
+use Rattle.forgetting_hall.proofs.Least.{is_member_at}
 
 lower : (low high s : ℕ) → low ≤ high → nat_le high s ≡ true → nat_le low s ≡ true
 lower low high s h t = grind (arith, nat_tests)
@@ -86,3 +88,29 @@ module _ {C : Type 0} (low : ℕ) (k : NetworkState C) (w : Cluster C) (s : Show
     past = λ n member. subst (λ (b : SlotBook C). high ≤ b.slot_out) (s.nodes n member).replica (out n member);
     letters = λ n l j. let old = s.letters n l j in (old.0, old.1, letter_then low high more n l old.0 old.2);
   }
+
+-- a node forgets nothing more that has forgotten the same slots
+node_same : {C : Type 0} (base : ℕ) (kept x : NodeState C) → ShowsNode kept (rest_of_node base x) → rest_of_node base kept ≡ kept
+node_same base kept x s =
+    let twice = node_twice base base (omega arith) x in
+    let accepted : pvalues_from base kept.acceptor.accepted ≡ kept.acceptor.accepted =
+    filter_all (λ p. nat_le base p.slot) kept.acceptor.accepted
+    (λ p i. (In_filter (λ p. nat_le base p.slot) p x.acceptor.accepted (s.acceptor.accepted.part p i)).1) in
+    let leader : rest_of_leader base kept.leader ≡ kept.leader =
+    ap (rest_of_leader base) s.leader ∙ ap (λ (y : NodeState _). y.leader) twice ∙ sym s.leader in
+    let replica : rest_of_book base kept.replica ≡ kept.replica =
+    ap (rest_of_book base) s.replica ∙ ap (λ (y : NodeState _). y.replica) twice ∙ sym s.replica in
+    λ i. record kept { acceptor = record kept.acceptor { accepted = accepted i }; leader = leader i; replica = replica i }
+
+each_same : {X : Type 0} (f : X → X) (xs : List X) (d : ℕ → X)
+    → ((i : ℕ) → i < length xs → f (slice_index_or xs i (d i)) ≡ slice_index_or xs i (d i)) → map f xs ≡ xs
+each_same f [] d h = refl
+each_same f (x ∷ xs) d h = ap₂ (λ y ys. y ∷ ys) (h 0 (omega arith)) (each_same f xs (λ i. d (suc i)) (λ i l. h (suc i) (omega (arith, l))))
+
+-- and so do all nodes that show a world
+pub forgotten_same : {C : Type 0} (base : ℕ) (k : NetworkState C) (w : Cluster C) → ShowsRest base k w → forgotten_net base k ≡ k
+forgotten_same base k w s = ap (λ ns. record k { nodes = ns }) (each_same (rest_of_node base) k.nodes (λ i. new_node k.members (suc i))
+    (λ i l. node_same base (node_of k (suc i)) (node w (suc i)) (s.nodes (suc i) (member i l))))
+  where
+    member : (i : ℕ) → i < length k.nodes → is_member k.members (suc i) ≡ true
+    member i l = let size = s.has_nodes in is_member_at k.members (suc i) (omega arith) (omega (arith, size, l))

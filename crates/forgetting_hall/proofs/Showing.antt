@@ -341,10 +341,11 @@ reply_found : {Reply : Type 0} (o : Option (Answer Reply)) (r : Reply) → optio
 reply_found None r e = absurd (cc)
 reply_found (Some a) r e = (a, refl, cc)
 
-pub reply_explained : {O Op Reply : Type 0} (rules : Rules O Op Reply) (w : World Op Reply) (order : List (Command Op)) → IsLegal rules w.happenings order
+pub reply_explained : {O Op Reply : Type 0} (rules : Rules O Op Reply) (promise : List (Command Op) → Type 0) (w : World Op Reply)
+    (order : List (Command Op)) → IsLegal rules w.happenings order → promise order
     → (session : ℕ) (client : Client Op Reply) → IsClientOf w.happenings session client → (c : Command Op) (r : Reply)
-    → client.last ≡ Some c → client.reply ≡ Some r → IsReplyInOrder rules w c r
-reply_explained rules w order legal session client is c r last reply =
+    → client.last ≡ Some c → client.reply ≡ Some r → IsReplyInOrder rules promise w c r
+reply_explained rules promise w order legal kept session client is c r last reply =
     let found_it = reply_found (found answered_key c.key w.happenings.answers) r
     (ap (first_reply w.happenings.answers) (sym last) ∙ sym is.reply ∙ reply) in
     let a = found_given c.key w.happenings.answers found_it.0 found_it.1 in
@@ -355,4 +356,5 @@ reply_explained rules w order legal session client is c r last reply =
       legal = legal;
       place = given.0;
       given = subst (IsGivenAt rules order given.0) (λ j. record { to = a.1 j; reply = found_it.2 j }) given.1;
+      promised = kept;
     }

@@ -81,13 +81,16 @@ IsGoingOn Propose = ⊤
 IsGoingOn Perform = ⊤
 IsGoingOn Restart = ⊥
 
--- this reply to the command was given, and what happened is legal for an order, in which it is the reply
-pub record IsReplyInOrder {O Op Reply : Type 0} (rules : Rules O Op Reply) (w : World Op Reply) (c : Command Op) (reply : Reply) : Type 0 where
+-- this reply to the command was given, and what happened is legal for an order, in which it is the reply; what the object promises
+-- of all commands holds of that order
+pub record IsReplyInOrder {O Op Reply : Type 0} (rules : Rules O Op Reply) (promise : List (Command Op) → Type 0) (w : World Op Reply)
+    (c : Command Op) (reply : Reply) : Type 0 where
   pub told : In (record { to = c.key; reply = reply }) w.happenings.answers
   pub order : List (Command Op)
   pub legal : IsLegal rules w.happenings order
   pub place : ℕ
   pub given : IsGivenAt rules order place (record { to = c.key; reply = reply })
+  pub promised : promise order
 
 -- node n does this: nodes, letters and objects
 abbrev pub acted_rest : {O Op Reply : Type 0} → Rules O Op Reply → HallRest Op O Reply → ℕ → Deed Op → HallRest Op O Reply

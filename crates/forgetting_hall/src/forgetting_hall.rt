@@ -4,6 +4,7 @@ ghost use Rattle.forgetting_hall.specs.Halls.{new_forgetting};
 mod acting;
 mod looking;
 mod mailing;
+mod noting;
 mod refusing;
 mod resting;
 mod submitting;
@@ -34,6 +35,8 @@ pub struct ForgettingHall<O: Object> {
     reach: u64,
     // How many events there were.
     taken: u64,
+    // The sessions that were answered since somebody asked for them.
+    answered: Vec<u32>,
     alloc: Global,
 }
 
@@ -80,6 +83,7 @@ impl<O: Object> ForgettingHall<O> {
             opened: 0,
             reach: 0,
             taken: 0,
+            answered: Vec::new(alloc),
             alloc,
         })
     }

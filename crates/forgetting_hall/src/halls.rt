@@ -26,7 +26,8 @@ use object::Object;
 /// for a restart (`acts`), and a letter of which something is left (`receives`). A letter that is lost or repeated is no
 /// event (`loses`, `repeats`), nor is it that a session is opened or let go of (`opens`, `lets_go`), or that slots which
 /// every replica has performed are forgotten (`forgets`). And the reply that a client has is that of one order, for which
-/// all that happened is legal (`replies`). Of a restart nothing is said: such a node would need what the others forgot.
+/// all that happened is legal, and which keeps what the object promises (`replies`). Of a restart nothing is said: such a
+/// node would need what the others forgot.
 pub fn halls_rest<O: Object>()
     ensures opening { (members : List ℕ) → ShowsWorld O.rules (new_rest O.rules members) (opening members) }
     ensures hands_in { (h : HallRest O.Op O O.Reply) (w : World O.Op O.Reply) (n : ℕ) (c : Command O.Op) →
@@ -60,11 +61,12 @@ pub fn halls_rest<O: Object>()
     ensures replies { (h : HallRest O.Op O O.Reply) (w : World O.Op O.Reply) (session : ℕ)
         (client : Client O.Op O.Reply) (c : Command O.Op) (reply : O.Reply) →
         IsWorld O.rules w → ShowsWorld O.rules h w → get h.summary.clients session ≡ Some client →
-        client.last ≡ Some c → client.reply ≡ Some reply → IsReplyInOrder O.rules w c reply }
+        client.last ≡ Some c → client.reply ≡ Some reply → IsReplyInOrder O.rules O.promise w c reply }
 {
     every_world::<O>();
     clusters_rest::<O>();
     facts_of_worlds::<O>();
+    O::keeps_promise();
 }
 
 // What is so of every world.

@@ -9,6 +9,7 @@ ghost use Rattle.forgetting_hall.specs.Halls.{rest_of_hall, FollowsIn};
 ghost use Rattle.forgetting_hall.specs.Refusing.{refusal_of_event};
 
 use super::ForgettingHall;
+use super::noting::note;
 use crate::halls::halls_rest;
 use agreement::every_world;
 use hall::HallError;
@@ -42,7 +43,10 @@ impl<O: Object> ForgettingHall<O> {
         }
         let mut given = Vec::new(self.alloc);
         let outcome = self.network.act(node, deed, &mut given)?;
-        self.clients.hear(fresh_of(&outcome, self.reach, given));
+        let fresh = fresh_of(&outcome, self.reach, given);
+        // who can't be noted for want of memory is left out
+        let _ = note(&mut self.answered, fresh.as_slice());
+        self.clients.hear(fresh);
         self.clients.place(outcome.key_placed(self.reach));
         self.reach = outcome.reach_after(self.reach);
         self.taken += 1;

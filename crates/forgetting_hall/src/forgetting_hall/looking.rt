@@ -1,21 +1,24 @@
-ghost use Rattle.std.specs.Prelude.{◌≡◌, ◌&&◌, not, is_some, Some};
+ghost use Rattle.std.specs.Prelude.{◌≡◌, ◌&&◌, not, length, is_some, if◌then◌else◌, None, Some};
 ghost use Rattle.std.specs.Option.{option_copied};
 ghost use Rattle.std.specs.FinMap.{get};
-ghost use Rattle.slot_log.specs.Decisions.{next_decided};
+ghost use Rattle.slot_log.specs.Decisions.{next_decided, undecided};
 ghost use Rattle.slot_log.specs.Proposals.{next_proposal};
 ghost use Rattle.network.specs.Networks.{has_mail};
 ghost use Rattle.lean_network.specs.LeanNetworks.{states, lean_node_of};
+ghost use Rattle.object.specs.Answers.{answered_key};
 ghost use Rattle.object.specs.declared.command.Command.{Command};
+ghost use Rattle.recorder.specs.Firsts.{firsts};
 ghost use Rattle.agreement.specs.Runs.{IsWorld};
 ghost use Rattle.agreement.specs.Worlds.{World};
+ghost use Rattle.forgetting_hall.specs.Clients.{CountsPlaced};
 ghost use Rattle.forgetting_hall.specs.Halls.{rest_of_hall};
-ghost use Rattle.forgetting_hall.specs.Handing.{last_of, reply_of};
+ghost use Rattle.forgetting_hall.specs.Handing.{last_of, reply_of, second_of};
 ghost use Rattle.forgetting_hall.specs.Rests.{ShowsWorld, IsReplyInOrder};
 ghost use Rattle.forgetting_hall.specs.Refusing.{is_foreign};
 
 use super::ForgettingHall;
 use crate::halls::halls_rest;
-use ballot::Members;
+use ballot::{Members, Slot};
 use client_table::Client;
 use hall::Work;
 use object::{Command, Object};
@@ -48,7 +51,7 @@ impl<O: Object> ForgettingHall<O> {
         ensures reply { option_copied result ≡ reply_of self.now session }
         ensures legal { (w : World O.Op O.Reply) (c : Command O.Op) (reply : O.Reply) → IsWorld O.rules w
             → ShowsWorld O.rules (rest_of_hall O.rules self.now) w → last_of self.now session ≡ Some c
-            → reply_of self.now session ≡ Some reply → IsReplyInOrder O.rules w c reply }
+            → reply_of self.now session ≡ Some reply → IsReplyInOrder O.rules O.promise w c reply }
     {
         halls_rest::<O>();
         self.clients.client(session)?.reply.as_ref()
@@ -71,6 +74,49 @@ impl<O: Object> ForgettingHall<O> {
             request: self.network.node(node).can_propose(),
             decision: self.network.node(node).can_perform(),
         }
+    }
+
+    /// The least slot that a node proposed a command for without a known decision. There is none where the node isn't a
+    /// member.
+    pub fn undecided(&self, node: u8) -> Option<Slot>
+        ensures { result ≡ (if is_foreign self.now node then None
+            else undecided (lean_node_of O.rules self.now.network node).state.replica) }
+    {
+        if self.is_foreign(node) {
+            return None;
+        }
+        self.network.node(node).undecided()
+    }
+
+    /// The greatest second that the clock handed in, 0 where there is none.
+    pub fn last_second(&self) -> u64
+        ensures { result ≡ second_of self.now }
+    {
+        self.last_number(0)
+    }
+
+    /// How many commands were submitted.
+    pub fn submitted_count(&self) -> u64
+        ensures { (w : World O.Op O.Reply) → ShowsWorld O.rules (rest_of_hall O.rules self.now) w →
+            result ≡ length w.happenings.submitted }
+    {
+        self.clients.submitted()
+    }
+
+    /// How many commands were answered.
+    pub fn answer_count(&self) -> u64
+        ensures { (w : World O.Op O.Reply) → ShowsWorld O.rules (rest_of_hall O.rules self.now) w →
+            result ≡ length (firsts answered_key w.happenings.answers) }
+    {
+        self.clients.answered()
+    }
+
+    /// How many commands took effect.
+    pub fn placed_count(&self) -> u64
+        ensures { (w : World O.Op O.Reply) → ShowsWorld O.rules (rest_of_hall O.rules self.now) w →
+            CountsPlaced result w }
+    {
+        self.clients.placed()
     }
 
     // The session's last command.

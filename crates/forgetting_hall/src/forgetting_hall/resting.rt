@@ -15,7 +15,7 @@ const MOST_SESSIONS: u32 = 4_294_967_295;
 
 impl<O: Object> ForgettingHall<O> {
     /// Forgets the slots that every node has performed: the base becomes the least slot that some node hasn't performed yet.
-    /// It takes no memory.
+    /// It takes no memory, and where nothing can be forgotten it does nothing.
     pub fn forget(&mut self)
         ensures base { IsLeastOut O.rules self.old self.new.base }
         ensures forgotten { rest_of_hall O.rules self.new
@@ -24,6 +24,9 @@ impl<O: Object> ForgettingHall<O> {
     {
         halls_rest::<O>();
         let base = self.least_out();
+        if base == self.base {
+            return;
+        }
         self.network.forget(base);
         self.base = base;
     }
@@ -57,6 +60,13 @@ impl<O: Object> ForgettingHall<O> {
     {
         halls_rest::<O>();
         self.clients.let_go(session);
+    }
+
+    /// How many slots could be forgotten now: those from the base on that every node has performed.
+    pub fn lag(&self) -> u64
+        ensures { IsLeastOut O.rules self.now (self.now.base + result) }
+    {
+        self.least_out() - self.base
     }
 
     // The least slot that some node hasn't performed yet.

@@ -65,5 +65,5 @@ returns-clause-lets_go g c = λ h w session i s. let_go_shows g.O.Object.rules c
 pub returns-clause-replies : goal.returns-clause-replies
 returns-clause-replies g c = λ h w session client k reply i s there last told.
     let reached = (c.every_world.ensures.answered w i).some in
-    reply_explained g.O.Object.rules w (kept reached.0) (c.every_world.ensures.legal_so_far w i reached.0 reached.1)
-    session client (s.summary.clients session client there) k reply last told
+    reply_explained g.O.Object.rules g.O.Object.promise w (kept reached.0) (c.every_world.ensures.legal_so_far w i reached.0 reached.1)
+    (c.keeps_promise.ensures (kept reached.0)) session client (s.summary.clients session client there) k reply last told

@@ -1,8 +1,8 @@
-use Rattle.std.proofs.Common.{ap, sym, subst, ◌∙◌}
+use Rattle.std.proofs.Common.{◌≡◌, ap, sym, subst, ◌∙◌}
 use Rattle.forgetting_hall.specs.Halls.{ForgettingState, ShowsStill, IsLeastOut, rest_of_hall}
 use Rattle.forgetting_hall.specs.Rests.{forgotten_rest}
 use Rattle.forgetting_hall.proofs.Keeping.{stays}
-use Rattle.forgetting_hall.proofs.Following.{forgotten_is, forgotten_still}
+use Rattle.forgetting_hall.proofs.Following.{forgotten_already, forgotten_is, forgotten_still}
 use Rattle.forgetting_hall.proofs.forgetting_hall.ForgettingHall.forget.Goals as goal
 
 pub forget-requires : goal.forget-requires
@@ -12,6 +12,11 @@ forget-requires g c = λ n member.
     let least : IsLeastOut g.O.Object.rules h c.least_out-base.result =
     subst (λ q. IsLeastOut g.O.Object.rules q c.least_out-base.result) (sym c.self.view_is) c.least_out-base.ensures in
     least.least n member
+
+pub returns-then-base-self-clause-forgotten : goal.returns-then-base-self-clause-forgotten
+returns-then-base-self-clause-forgotten g c =
+    subst (λ (q : ForgettingState _ _ _). rest_of_hall g.O.Object.rules q ≡ forgotten_rest (rest_of_hall g.O.Object.rules q) q.base) c.self.view_is
+    (forgotten_already g.O.Object.rules _ c.self.invariant)
 
 pub invariant_of-self : goal.invariant_of-self
 invariant_of-self g c =
