@@ -5,12 +5,11 @@ ghost use Rattle.hall.specs.Recorded.{asked};
 ghost use Rattle.hall.specs.Tickets.{last_command, last_noted};
 ghost use Rattle.counted_hall.specs.Counting.{CountNothing, CountsAll, CountsNone, HandsInOne, HaveAllParts, OpensOne};
 
-use crate::mishap::Mishap;
-use crate::turn::Watch;
 use hall::{Hall, HallError, Ticket};
 use object::{Act, Object};
 use std::alloc::Global;
 use std::sync::ledger::{Blank, Book, Ledger, Share};
+use turns::{Mishap, Watch, befall};
 
 /// A hall, and beside it how many sessions were opened there and how many commands these handed in. The counts are the
 /// totals of two ledgers, in which each thread has its share.
@@ -127,7 +126,9 @@ impl<O: Object, S: Ledger, C: Ledger> CountedHall<O, S, C> {
         round: u64,
     ) -> Result<(), HallError> {
         let CountedHall { hall, .. } = self;
-        watch.take_turn(hall, mishap, round)
+        // one that the hall refuses is left out
+        let _ = befall(hall, watch.node(), mishap);
+        watch.take_turn(hall, round)
     }
 
     /// Hands in a second of the clock.

@@ -4,12 +4,9 @@
 
 mod comparing;
 mod counted;
-mod mishap;
 mod seconds;
-mod turn;
 
 pub use comparing::{are_its_tickets, mark};
 pub use counted::CountedHall;
-pub use mishap::Mishap;
 pub use seconds::Seconds;
-pub use turn::Watch;
+pub use turns::{Mishap, Watch};

@@ -1,0 +1,6 @@
+use Rattle.std.proofs.Common.{◌≡◌}
+use Rattle.turns.proofs.watch.receive.Given as goal
+
+-- nothing more was handed in
+abbrev pub invariant-loop : goal.invariant-loop
+invariant-loop g l = g.N.Nodes.handed_in l.nodes ≡ g.N.Nodes.handed_in l.fn.nodes

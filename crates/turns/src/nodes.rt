@@ -1,0 +1,77 @@
+ghost use Rattle.std.specs.Prelude.{◌≡◌, ℕ, List};
+
+use ballot::Slot;
+use hall::{Hall, HallError, Work};
+use object::Object;
+
+/// Nodes that take turns, as a hall has them under its lock. They are numbered from 1.
+pub trait Nodes {
+    // How many commands each session handed in, which no turn changes.
+    ghost handed_in: { Self → List ℕ };
+
+    /// How many nodes there are.
+    fn count(&self) -> u8;
+
+    /// What a node has to do.
+    fn work(&self, node: u8) -> Work;
+
+    /// The least slot that a node proposed a command for without a known decision.
+    fn undecided(&self, node: u8) -> Option<Slot>;
+
+    /// A node asks to lead, unless it leads or asks already.
+    fn wake(&mut self, node: u8) -> Result<(), HallError>
+        ensures kept { handed_in self.new ≡ handed_in self.old };
+
+    /// A node says again what it waits for.
+    fn nudge(&mut self, node: u8) -> Result<(), HallError>
+        ensures kept { handed_in self.new ≡ handed_in self.old };
+
+    /// A node proposes its first request; false where there is nothing that it can propose.
+    fn propose(&mut self, node: u8) -> Result<bool, HallError>
+        ensures kept { handed_in self.new ≡ handed_in self.old };
+
+    /// A node receives the letter in front of its mail; false where there is none.
+    fn deliver(&mut self, node: u8) -> Result<bool, HallError>
+        ensures kept { handed_in self.new ≡ handed_in self.old };
+
+    /// A node performs the next decided command; false where none is known.
+    fn perform(&mut self, node: u8) -> Result<bool, HallError>
+        ensures kept { handed_in self.new ≡ handed_in self.old };
+}
+
+impl<O: Object> Nodes for Hall<O> {
+    // Its book counts them.
+    ghost handed_in = { λ hall. hall.book };
+
+    fn count(&self) -> u8 {
+        self.members().count()
+    }
+
+    fn work(&self, node: u8) -> Work {
+        self.work(node)
+    }
+
+    fn undecided(&self, node: u8) -> Option<Slot> {
+        self.undecided(node)
+    }
+
+    fn wake(&mut self, node: u8) -> Result<(), HallError> {
+        self.wake(node)
+    }
+
+    fn nudge(&mut self, node: u8) -> Result<(), HallError> {
+        self.nudge(node)
+    }
+
+    fn propose(&mut self, node: u8) -> Result<bool, HallError> {
+        self.propose(node)
+    }
+
+    fn deliver(&mut self, node: u8) -> Result<bool, HallError> {
+        self.deliver(node)
+    }
+
+    fn perform(&mut self, node: u8) -> Result<bool, HallError> {
+        self.perform(node)
+    }
+}
