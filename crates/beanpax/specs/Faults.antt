@@ -32,6 +32,10 @@ IsOfOutput fault = (fault ≡ OutOfMemory) ⊎ (fault ≡ WriteFailed)
 abbrev pub IsOfDump : ProgramFault → Type 0
 IsOfDump fault = (fault ≡ OutOfMemory) ⊎ (fault ≡ FileFailed)
 
+-- and with a server
+abbrev pub IsOfServer : ProgramFault → Type 0
+IsOfServer fault = (fault ≡ OutOfMemory) ⊎ ((served : ServeFault) × (fault ≡ of_server served))
+
 -- the number by which a fault is told
 abbrev pub number_of_fault : ProgramFault → ℕ
 number_of_fault OutOfMemory = 1

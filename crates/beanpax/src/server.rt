@@ -5,9 +5,10 @@ ghost use Rattle.std.specs.Net.Socket.{socket_ip, socket_port};
 ghost use Rattle.beanpax.specs.declared.faults.ProgramFault.TheVariants.{ReadFailed, WriteFailed};
 ghost use Rattle.beanpax.specs.declared.faults.ProgramFault.TheVariants.{FileFailed, ListenFailed};
 ghost use Rattle.beanpax.specs.declared.faults.ProgramFault.TheVariants.{ServiceStopped};
-ghost use Rattle.beanpax.specs.Faults.{IsOfDump, IsOfOutput, of_server};
+ghost use Rattle.beanpax.specs.Faults.{IsOfDump, IsOfOutput, IsOfServer, of_server};
 ghost use Rattle.chronicle.specs.Checking.{IsFaultless};
 ghost use Rattle.chronicle.specs.Dump.{dump_text};
+ghost use Rattle.forgetting_hall.specs.Halls.{new_forgetting};
 ghost use Rattle.hall.specs.Halls.{chronicle_of, new_hall};
 ghost use Rattle.loops.specs.Comparing.{AllCompared, IsLoopCount};
 ghost use Rattle.session.specs.Streams.{AppendsBeginning};
@@ -20,9 +21,11 @@ use crate::seconds::ClockSeconds;
 use crate::words::ServerOptions;
 use bean_queue::Queue;
 use chronicle::WriteText;
+use forgetting_hall::ForgettingHall;
 use hall::Hall;
-use loops::{ServeFault, Served, serve_clients};
+use loops::{ServeFault, Served, ServedForgetting, serve_clients, serve_forgetting};
 use mio::net::TcpListener;
+use object::Object;
 use session::{ByteOut, write_all};
 use std::alloc::{AllocError, Global};
 use std::fs;
@@ -49,9 +52,10 @@ pub(crate) fn serve_tcp<R: Host, W: ByteOut>(
         (listening_line options.now.host options.now.port) }
 {
     let listener = open_port(rt, options.host, options.port, output)?;
-    let hall = Hall::new(rt.alloc(), options.members)?;
-    let served = serve_as_asked(rt, hall, listener, options)?;
-    conclude(rt, &served, options)
+    match options.dump {
+        Some(file) => serve_and_dump(rt, listener, options, file),
+        None => serve_on(rt, listener, options),
+    }
 }
 
 // Listens at this address and port, and tells that then. Where it can't listen, nothing is told.
@@ -122,8 +126,37 @@ fn ipv6_line(alloc: Global, ip: Ipv6Addr, port: u16) -> Result<String, AllocErro
     format!(in alloc; "listening on [{ip}]:{port}\n")
 }
 
-// Serves those who connect here on this hall, by as many loops and as many of them as the options ask.
-fn serve_as_asked<R: Host>(
+// Serves those who connect here over a hall that keeps all, and writes its dump to this file at the end.
+fn serve_and_dump<R: Host>(
+    rt: &R,
+    listener: TcpListener,
+    options: &ServerOptions<'_>,
+    file: &str,
+) -> Result<(), ProgramFault>
+    requires workers { IsLoopCount options.now.workers }
+    ensures fault { IfErr result (λ fault. IsOfServer fault ⊎ IsOfDump fault) }
+{
+    let hall = Hall::new(rt.alloc(), options.members)?;
+    let served = serve_keeping(rt, hall, listener, options)?;
+    conclude(rt, &served, file)
+}
+
+// Serves them over a hall that forgets.
+fn serve_on<R: Host>(
+    rt: &R,
+    listener: TcpListener,
+    options: &ServerOptions<'_>,
+) -> Result<(), ProgramFault>
+    requires workers { IsLoopCount options.now.workers }
+    ensures fault { IfErr result IsOfServer }
+{
+    let hall = ForgettingHall::new(rt.alloc(), options.members)?;
+    let served = serve_forgetful(rt, hall, listener, options)?;
+    end_of(served.fault)
+}
+
+// Serves on this hall, by as many loops and as many clients as the options ask.
+fn serve_keeping<R: Host>(
     rt: &R,
     hall: Hall<Queue>,
     listener: TcpListener,
@@ -144,24 +177,46 @@ fn serve_as_asked<R: Host>(
     )
 }
 
-// Tells what went wrong with the server. Where nothing did, it writes the dump, if that was asked
-// for.
-fn conclude<R: Host>(
+// The same on a hall that forgets.
+fn serve_forgetful<R: Host>(
     rt: &R,
-    served: &Served<Queue>,
+    hall: ForgettingHall<Queue>,
+    listener: TcpListener,
     options: &ServerOptions<'_>,
-) -> Result<(), ProgramFault>
-    ensures fault { IfSome served.now.fault (λ fault. result ≡ Err (of_server fault)) }
-    ensures no_fault { served.now.fault ≡ None → IfErr result IsOfDump }
-    ensures no_dump { served.now.fault ≡ None → options.now.dump ≡ None → result ≡ Ok tt }
+) -> Result<ServedForgetting<Queue>, ServeFault>
+    requires hall { hall ≡ new_forgetting ⟦<Queue as Object>⟧.rules options.now.members }
+    requires workers { IsLoopCount options.now.workers }
 {
-    if let Some(fault) = served.fault {
-        return Err(ProgramFault::from(fault));
-    }
-    match options.dump {
-        Some(file) => write_dump(rt, &served.hall, file),
+    serve_forgetting(
+        rt,
+        hall,
+        listener,
+        ClockSeconds::new(rt),
+        options.workers,
+        options.sessions,
+    )
+}
+
+// Tells what went wrong with the server, where something did.
+fn end_of(fault: Option<ServeFault>) -> Result<(), ProgramFault>
+    ensures fault { IfSome fault (λ fault. result ≡ Err (of_server fault)) }
+    ensures no_fault { fault ≡ None → result ≡ Ok tt }
+    ensures only { IfErr result IsOfServer }
+{
+    match fault {
+        Some(fault) => Err(ProgramFault::from(fault)),
         None => Ok(()),
     }
+}
+
+// The same; and where nothing did, it writes the dump to this file.
+fn conclude<R: Host>(rt: &R, served: &Served<Queue>, file: &str) -> Result<(), ProgramFault>
+    ensures fault { IfSome served.now.fault (λ fault. result ≡ Err (of_server fault)) }
+    ensures no_fault { served.now.fault ≡ None → IfErr result IsOfDump }
+    ensures only { IfErr result (λ fault. IsOfServer fault ⊎ IsOfDump fault) }
+{
+    end_of(served.fault)?;
+    write_dump(rt, &served.hall, file)
 }
 
 // Writes the dump of the hall to the file.

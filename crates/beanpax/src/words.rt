@@ -388,7 +388,7 @@ fn dump_words<'a>(alloc: Global) -> Arg<'a>
     ensures { IsArgument dump_option result }
 {
     Arg::new(alloc, "dump").long("dump").value_name("FILE").help(
-        "Where what happened is written at the end [default: nowhere]",
+        "Where what happened is written at the end; until then all of it is kept [default: nowhere]",
     )
 }
 

@@ -14,9 +14,8 @@ use Rattle.session.proofs.Items.{reads_one, reads_more}
 use Rattle.session.proofs.Going.{reads_in_front}
 use Rattle.session.proofs.Endings.{reads_to_end, reads_to_quit}
 use Rattle.hall.specs.declared.ticket.NotedAct.{NotedAct}
-use Rattle.hall.specs.Tickets.{TicketState, last_noted, noted_reply, with_noted}
-use Rattle.conversation.specs.Conversing.{noted_op, acts_of, ToldWhole, Along, Pending, BeginsWithOp, EndsSo}
-use Rattle.conversation.proofs.Acts.{acts-noted, noted-last}
+use Rattle.conversation.specs.Keeping.{noted_op}
+use Rattle.conversation.specs.Conversing.{acts_of, ToldWhole, Along, Pending, BeginsWithOp, EndsSo}
 use Rattle.conversation.proofs.Answers.{answered_nothing, answered_faults, answered_quit, answered_op}
 
 -- at first
@@ -91,25 +90,10 @@ pub pending_first : {fed : List ℕ} {acts : List (NotedAct Op Reply)} {told : L
     → Along fed acts told (ComesTo (Some (Do op)) t) → Pending fed (acts ++ noted_op op None ∷ []) told (λ op. ComesTo (Some (Do op)) t)
 pending_first {acts = acts} t op a = record { before = acts; op = op; reply = None; handed_in = refl; along = a }
 
--- a reply is noted for it, or none
-pub pending_noting : (t : TicketState Op Reply) (noted : Option Reply) (fed told : List ℕ) (P : Op → List ℕ → Type 0)
-    → Pending fed t.acts told P → Pending fed (with_noted t noted).acts told P
-pending_noting t None fed told P p = p
-pending_noting t (Some reply) fed told P p = record {
-  before = p.before;
-  op = p.op;
-  reply = Some reply;
-  handed_in = acts-noted t p.before p.op p.reply reply p.handed_in;
-  along = p.along;
-}
-
--- the reply that is noted is told
-pub pending_telling : (t : TicketState Op Reply) (reply : Reply) (fed told : List ℕ) (s : Held) → noted_reply (last_noted t) ≡ Some reply
-    → Pending fed t.acts told (λ op. ComesTo (Some (Do op)) s) → Along fed t.acts (told ++ reply_text reply) (StandsBefore s)
-pending_telling t reply fed told s is p =
-    let noted : p.reply ≡ Some reply = sym (noted-last t p.before p.op p.reply p.handed_in) ∙ is in
-    let acts : t.acts ≡ p.before ++ noted_op p.op (Some reply) ∷ [] = p.handed_in ∙ ap (λ r. p.before ++ noted_op p.op r ∷ []) noted in
-    subst (λ acts. Along fed acts (told ++ reply_text reply) (StandsBefore s)) (sym acts) (along_answering s p.op (Replied reply) p.along)
+-- the reply that is noted for it is told
+pub pending_telling : (before : List (NotedAct Op Reply)) (op : Op) (reply : Reply) (fed told : List ℕ) (s : Held)
+    → Along fed before told (ComesTo (Some (Do op)) s) → Along fed (before ++ noted_op op (Some reply) ∷ []) (told ++ reply_text reply) (StandsBefore s)
+pending_telling before op reply fed told s a = along_answering s op (Replied reply) a
 
 -- the client goes
 pub pending_gone : {fed : List ℕ} {acts : List (NotedAct Op Reply)} {told : List ℕ} (t : Held)

@@ -10,7 +10,8 @@ use Rattle.hall.specs.declared.ticket.NotedAct.{NotedAct}
 use Rattle.conversation.specs.declared.stage.Stage.{Stage}
 use Rattle.conversation.specs.declared.stage.Stage.TheVariants.{Looking, Reading, Found, Asked, Leaving, Left}
 use Rattle.conversation.specs.Talks.{ConversationState, is_looking, is_reading, may_look, wants_piece, stage_after, stage_at_end, stage_once_gone}
-use Rattle.conversation.specs.Conversing.{Along, Stands, Converses}
+use Rattle.conversation.specs.Keeping.{Keeping}
+use Rattle.conversation.specs.Conversing.{Along, Stands, Converses, ConversesFor}
 use Rattle.conversation.proofs.Going.{along_at_first, along_feeding, along_finding, along_gone, whole_eof, whole_quit, pending_gone}
 
 -- what a test tells of a stage
@@ -31,9 +32,15 @@ reading_if (Leaving how) b e = absurd (cc)
 reading_if (Left how) b e = absurd (cc)
 
 -- at first
-pub begins : (s : Held) (acts : List (NotedAct Op Reply)) → s ≡ nothing_held → acts ≡ [] → Along [] acts s.unsent (StandsBefore s)
-begins s acts nothing none = subst (λ (s : Held). Along [] acts s.unsent (StandsBefore s)) (sym nothing)
-    (subst (λ acts. Along [] acts [] (StandsBefore nothing_held)) (sym none) along_at_first)
+pub begins : {T : Type 0} (keeping : Keeping T) (talk : ConversationState T) → talk.session ≡ nothing_held → talk.stage ≡ Looking
+    → keeping.IsOf talk.ticket [] → Converses keeping [] [] talk
+unfolding Converses
+begins keeping talk nothing there is = (
+  [],
+  is,
+  subst (λ (stage : Stage). Stands stage talk.session [] [] talk.session.unsent) (sym there)
+      (subst (λ (s : Held). Along [] [] s.unsent (StandsBefore s)) (sym nothing) along_at_first),
+)
 
 -- what was found
 found_so : (s : Held) (found : Option Request) (has_ended : Bool) (fed told : List ℕ) (acts : List (NotedAct Op Reply))
@@ -44,47 +51,64 @@ found_so s None true fed told acts a = whole_eof s a
 found_so s None false fed told acts a = a
 
 -- was is what old is seen as
-module _ {was old : ConversationState} (is : was ≡ old) (fed given : List ℕ) where
+module _ {T : Type 0} (keeping : Keeping T) {was old : ConversationState T} (is : was ≡ old) (fed given : List ℕ) where
+  -- its ticket is of the same acts
+  still_of : (acts : List (NotedAct Op Reply)) → keeping.IsOf old.ticket acts → keeping.IsOf was.ticket acts
+  still_of acts k = subst (λ (t : ConversationState T). keeping.IsOf t.ticket acts) (sym is) k
+
   -- it stands so, where its stage is this
-  stands_at : (stage : Stage) → old.stage ≡ stage → Converses fed given old
-      → Stands stage was.session fed was.ticket.acts (given ++ was.session.unsent)
-  stands_at stage here c =
-      subst (λ (t : ConversationState). Stands stage t.session fed t.ticket.acts (given ++ t.session.unsent)) (sym is)
-      (subst (λ stage. Stands stage old.session fed old.ticket.acts (given ++ old.session.unsent)) here c)
+  stands_at : (acts : List (NotedAct Op Reply)) (stage : Stage) → old.stage ≡ stage → ConversesFor acts fed given old
+      → Stands stage was.session fed acts (given ++ was.session.unsent)
+  stands_at acts stage here c =
+      subst (λ (t : ConversationState T). Stands stage t.session fed acts (given ++ t.session.unsent)) (sym is)
+      (subst (λ stage. Stands stage old.session fed acts (given ++ old.session.unsent)) here c)
 
   -- and where it has come to another one
-  stands_by : (s : Held) (now : Stage) (fed : List ℕ) (stage : Stage) → now ≡ stage → Stands stage s fed was.ticket.acts (given ++ s.unsent)
-      → Stands now s fed was.ticket.acts (given ++ s.unsent)
-  stands_by s now fed stage there c = subst (λ stage. Stands stage s fed was.ticket.acts (given ++ s.unsent)) (sym there) c
+  stands_by : (acts : List (NotedAct Op Reply)) (s : Held) (now : Stage) (fed : List ℕ) (stage : Stage) → now ≡ stage
+      → Stands stage s fed acts (given ++ s.unsent) → Stands now s fed acts (given ++ s.unsent)
+  stands_by acts s now fed stage there c = subst (λ stage. Stands stage s fed acts (given ++ s.unsent)) (sym there) c
 
   -- a piece is fed, with which the session stands there
   pub goes_feeding : (s : Held) (stage : Stage) (piece : List ℕ) → wants_piece old ≡ true → s.unsent ≡ was.session.unsent
       → ((text : List ℕ) → StandsBefore was.session text → StandsBefore s (text ++ piece)) → stage ≡ Looking
-      → Converses fed given old → Converses (fed ++ piece) given (record was { session = s; stage = stage })
+      → Converses keeping fed given old → Converses keeping (fed ++ piece) given (record was { session = s; stage = stage })
+  unfolding Converses
   goes_feeding s stage piece wanted same f there c =
-      let a = stands_at Reading (reading_if old.stage _ wanted) c in
-      stands_by s stage (fed ++ piece) Looking there
-      (subst (λ u. Along (fed ++ piece) was.ticket.acts (given ++ u) (StandsBefore s)) (sym same)
-      (along_feeding piece (StandsBefore s) (λ text l. f text l.0) a))
+      let a = stands_at c.0 Reading (reading_if old.stage _ wanted) c.2 in (
+        c.0,
+        still_of c.0 c.1,
+        stands_by c.0 s stage (fed ++ piece) Looking there
+            (subst (λ u. Along (fed ++ piece) c.0 (given ++ u) (StandsBefore s)) (sym same)
+            (along_feeding piece (StandsBefore s) (λ text l. f text l.0) a)),
+      )
 
   -- or is lost, and the client given up
   pub goes_losing : (s : Held) (stage : Stage) (piece : List ℕ) → wants_piece old ≡ true → s.unsent ≡ was.session.unsent
-      → stage ≡ Leaving None → Converses fed given old → Converses (fed ++ piece) given (record was { session = s; stage = stage })
+      → stage ≡ Leaving None
+      → Converses keeping fed given old → Converses keeping (fed ++ piece) given (record was { session = s; stage = stage })
+  unfolding Converses
   goes_losing s stage piece wanted same there c =
-      let a = stands_at Reading (reading_if old.stage _ wanted) c in
-      stands_by s stage (fed ++ piece) (Leaving None) there
-      (along_gone (subst (λ u. Along (fed ++ piece) was.ticket.acts (given ++ u) (λ rest. Unit {0})) (sym same)
-      (along_feeding piece (λ rest. Unit {0}) (λ text l. tt) a)))
+      let a = stands_at c.0 Reading (reading_if old.stage _ wanted) c.2 in (
+        c.0,
+        still_of c.0 c.1,
+        stands_by c.0 s stage (fed ++ piece) (Leaving None) there
+            (along_gone (subst (λ u. Along (fed ++ piece) c.0 (given ++ u) (λ rest. Unit {0})) (sym same)
+            (along_feeding piece (λ rest. Unit {0}) (λ text l. tt) a))),
+      )
 
   -- the next request is looked for
   pub goes_looking : (s : Held) (found : Option Request) (stage : Stage) → may_look old ≡ true
       → ((text : List ℕ) → StandsBefore was.session text → Finds was.session s text found)
       → stage ≡ stage_after found was.has_ended
-      → Converses fed given old → Converses fed given (record was { session = s; stage = stage })
+      → Converses keeping fed given old → Converses keeping fed given (record was { session = s; stage = stage })
+  unfolding Converses
   goes_looking s found stage looked finds there c =
-      let a = stands_at Looking (looking_if old.stage _ looked) c in
-      stands_by s stage fed (stage_after found was.has_ended) there
-      (found_so s found was.has_ended fed (given ++ s.unsent) was.ticket.acts (along_finding given was.session s found finds a))
+      let a = stands_at c.0 Looking (looking_if old.stage _ looked) c.2 in (
+        c.0,
+        still_of c.0 c.1,
+        stands_by c.0 s stage fed (stage_after found was.has_ended) there
+            (found_so s found was.has_ended fed (given ++ s.unsent) c.0 (along_finding given was.session s found finds a)),
+      )
 
 -- bytes are sent
 sent_so : (stage : Stage) (s : Held) (unsent : List ℕ) (sent_len : ℕ) (fed told : List ℕ) (acts : List (NotedAct Op Reply))
@@ -96,16 +120,21 @@ sent_so Asked s unsent sent_len fed told acts a = a
 sent_so (Leaving how) s unsent sent_len fed told acts a = a
 sent_so (Left how) s unsent sent_len fed told acts a = a
 
-pub goes_sending : {was old : ConversationState} (is : was ≡ old) (fed given : List ℕ) (s : Held) (n : ℕ)
-    → s ≡ record was.session { unsent = drop n was.session.unsent; sent_len = s.sent_len } → Converses fed given old
-    → Converses fed (given ++ take n old.session.unsent) (record was { session = s })
-goes_sending {was = was} {old = old} is fed given s n sent c =
+pub goes_sending : {T : Type 0} (keeping : Keeping T) {was old : ConversationState T} (is : was ≡ old) (fed given : List ℕ) (s : Held) (n : ℕ)
+    → s ≡ record was.session { unsent = drop n was.session.unsent; sent_len = s.sent_len } → Converses keeping fed given old
+    → Converses keeping fed (given ++ take n old.session.unsent) (record was { session = s })
+unfolding Converses
+goes_sending {T = T} keeping {was = was} {old = old} is fed given s n sent c =
     let u = was.session.unsent in
-    let text : (given ++ take n u) ++ drop n u ≡ given ++ u = append_assoc given (take n u) (drop n u) ∙ ap (λ v. given ++ v) (take-append-drop n u) in
-    subst (λ (t : ConversationState). Converses fed (given ++ take n t.session.unsent) (record was { session = s })) is
-    (subst (λ (s : Held). Converses fed (given ++ take n u) (record was { session = s })) (sym sent)
-    (sent_so was.stage was.session (drop n u) s.sent_len fed ((given ++ take n u) ++ drop n u) was.ticket.acts
-    (subst (Stands was.stage was.session fed was.ticket.acts) (sym text) (subst (Converses fed given) (sym is) c))))
+    let text : (given ++ take n u) ++ drop n u ≡ given ++ u = append_assoc given (take n u) (drop n u) ∙ ap (λ v. given ++ v) (take-append-drop n u) in (
+      c.0,
+      still_of keeping is fed given c.0 c.1,
+      subst (λ (t : ConversationState T). ConversesFor c.0 fed (given ++ take n t.session.unsent) (record was { session = s })) is
+          (subst (λ (s : Held). ConversesFor c.0 fed (given ++ take n u) (record was { session = s })) (sym sent)
+          (sent_so was.stage was.session (drop n u) s.sent_len fed ((given ++ take n u) ++ drop n u) c.0
+          (subst (Stands was.stage was.session fed c.0) (sym text)
+          (subst (λ (t : ConversationState T). ConversesFor c.0 fed given t) (sym is) c.2)))),
+    )
 
 -- the input ends
 ended_so : (stage : Stage) (s : Held) (fed told : List ℕ) (acts : List (NotedAct Op Reply))
@@ -117,11 +146,17 @@ ended_so Asked s fed told acts a = a
 ended_so (Leaving how) s fed told acts a = a
 ended_so (Left how) s fed told acts a = a
 
-pub goes_ending : {was old : ConversationState} (is : was ≡ old) (fed given : List ℕ) (stage : Stage) → stage ≡ stage_at_end was.stage
-    → Converses fed given old → Converses fed given (record was { has_ended = true; stage = stage })
-goes_ending {was = was} is fed given stage there c =
-    subst (λ stage. Stands stage was.session fed was.ticket.acts (given ++ was.session.unsent)) (sym there)
-    (ended_so was.stage was.session fed (given ++ was.session.unsent) was.ticket.acts (subst (Converses fed given) (sym is) c))
+pub goes_ending : {T : Type 0} (keeping : Keeping T) {was old : ConversationState T} (is : was ≡ old) (fed given : List ℕ) (stage : Stage)
+    → stage ≡ stage_at_end was.stage
+    → Converses keeping fed given old → Converses keeping fed given (record was { has_ended = true; stage = stage })
+unfolding Converses
+goes_ending {T = T} keeping {was = was} is fed given stage there c = (
+  c.0,
+  still_of keeping is fed given c.0 c.1,
+  subst (λ stage. Stands stage was.session fed c.0 (given ++ was.session.unsent)) (sym there)
+      (ended_so was.stage was.session fed (given ++ was.session.unsent) c.0
+      (subst (λ (t : ConversationState T). ConversesFor c.0 fed given t) (sym is) c.2)),
+)
 
 -- the client goes
 gone_so : (stage : Stage) (s : Held) (fed told : List ℕ) (acts : List (NotedAct Op Reply))
@@ -133,8 +168,14 @@ gone_so Asked s fed told acts p = pending_gone s p
 gone_so (Leaving how) s fed told acts a = a
 gone_so (Left how) s fed told acts a = a
 
-pub goes_leaving : {was old : ConversationState} (is : was ≡ old) (fed given : List ℕ) (stage : Stage) → stage ≡ stage_once_gone was.stage
-    → Converses fed given old → Converses fed given (record was { stage = stage })
-goes_leaving {was = was} is fed given stage there c =
-    subst (λ stage. Stands stage was.session fed was.ticket.acts (given ++ was.session.unsent)) (sym there)
-    (gone_so was.stage was.session fed (given ++ was.session.unsent) was.ticket.acts (subst (Converses fed given) (sym is) c))
+pub goes_leaving : {T : Type 0} (keeping : Keeping T) {was old : ConversationState T} (is : was ≡ old) (fed given : List ℕ) (stage : Stage)
+    → stage ≡ stage_once_gone was.stage
+    → Converses keeping fed given old → Converses keeping fed given (record was { stage = stage })
+unfolding Converses
+goes_leaving {T = T} keeping {was = was} is fed given stage there c = (
+  c.0,
+  still_of keeping is fed given c.0 c.1,
+  subst (λ stage. Stands stage was.session fed c.0 (given ++ was.session.unsent)) (sym there)
+      (gone_so was.stage was.session fed (given ++ was.session.unsent) c.0
+      (subst (λ (t : ConversationState T). ConversesFor c.0 fed given t) (sym is) c.2)),
+)

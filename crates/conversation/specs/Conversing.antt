@@ -1,7 +1,6 @@
 -- What a client was told for what it was fed, and what its session handed in, wherever its conversation stands.
 use Rattle.std.specs.Prelude.{◌≡◌, ◌⊎◌, ℕ, List, [], ◌∷◌, ◌++◌, length, Option, None, Some, Ok}
 use Rattle.std.specs.List.{filter_map}
-use Rattle.object.specs.declared.command.Act.TheVariants.{Do, Close}
 use Rattle.bean_queue.specs.declared.op.Op.{Op}
 use Rattle.bean_queue.specs.declared.reply.Reply.{Reply}
 use Rattle.bean_codec.specs.declared.request.Request.{Request}
@@ -13,15 +12,8 @@ use Rattle.session.specs.Held.{Held, StandsBefore, ComesTo}
 use Rattle.hall.specs.declared.ticket.NotedAct.{NotedAct}
 use Rattle.conversation.specs.declared.stage.Stage.{Stage}
 use Rattle.conversation.specs.declared.stage.Stage.TheVariants.{Looking, Reading, Found, Asked, Leaving, Left}
+use Rattle.conversation.specs.Keeping.{Keeping, noted_op, noted_close}
 use Rattle.conversation.specs.Talks.{ConversationState}
-
--- an act of a ticket: an operation, and the reply that was noted for it, if any
-abbrev pub noted_op : Op → Option Reply → NotedAct Op Reply
-noted_op op reply = record { act = Do op; reply = reply }
-
--- and the session's end
-abbrev pub noted_close : NotedAct Op Reply
-noted_close = record { act = Close; reply = None }
 
 -- what a ticket has of these operations with these answers: each that was replied to, with its reply, and none that was refused
 abbrev pub acts_of : List Op → List Response → List (NotedAct Op Reply)
@@ -79,13 +71,18 @@ Stands (Leaving how) session fed acts told = EndsSo how fed acts told
 Stands (Left how) session fed acts told =
     (before : List (NotedAct Op Reply)) × EndsSo how fed before told × (acts ≡ before ++ noted_close ∷ [])
 
--- this was fed and that was handed out so far: with what is yet to be handed out, it is what is told where the conversation stands
-abbrev pub Converses : List ℕ → List ℕ → ConversationState → Type 0
-Converses fed given talk = Stands talk.stage talk.session fed talk.ticket.acts (given ++ talk.session.unsent)
+-- these acts were handed in, this was fed and that was handed out so far: with what is yet to be handed out, it is what is told where
+-- the conversation stands
+abbrev pub ConversesFor : {T : Type 0} → List (NotedAct Op Reply) → List ℕ → List ℕ → ConversationState T → Type 0
+ConversesFor acts fed given talk = Stands talk.stage talk.session fed acts (given ++ talk.session.unsent)
+
+-- and so for acts of which its ticket is
+unfoldable pub Converses : {T : Type 0} → Keeping T → List ℕ → List ℕ → ConversationState T → Type 0
+Converses keeping fed given talk = (acts : List (NotedAct Op Reply)) × keeping.IsOf talk.ticket acts × ConversesFor acts fed given talk
 
 -- whatever was fed and handed out, where it conversed it converses still
-abbrev pub CarriesOn : ConversationState → ConversationState → Type 0
-CarriesOn old new = (fed given : List ℕ) → Converses fed given old → Converses fed given new
+abbrev pub CarriesOn : {T : Type 0} → Keeping T → ConversationState T → ConversationState T → Type 0
+CarriesOn keeping old new = (fed given : List ℕ) → Converses keeping fed given old → Converses keeping fed given new
 
 -- the replies among the answers
 abbrev pub replies_among : List Response → List Reply

@@ -9,58 +9,56 @@ ghost use Rattle.conversation.specs.Links.{ConversesOver};
 use crate::conversation::Conversation;
 use crate::desk::Desk;
 use crate::link::{Link, Pause};
-use crate::stage::Stage;
-use bean_queue::{Op, Reply};
-use hall::{HallError, Ticket};
-use object::Object;
-use std::alloc::{AllocError, Global};
+use crate::session_ticket::SessionTicket;
+use hall::HallError;
+use std::alloc::AllocError;
 use std::marker::Model;
 
 /// A client at the other end of a link, and its conversation: what was given to the link, and then what waits to be written,
 /// is what is told for what was taken of it.
 #[derive(Drop)]
-pub struct Client<L: Link, O: Object<Op = Op, Reply = Reply>> {
+pub struct Client<L: Link, T: SessionTicket> {
     link: L,
-    conversation: Conversation<O>,
+    conversation: Conversation<T>,
 }
 
-impl<L: Link, O: Object<Op = Op, Reply = Reply>> Model for Client<L, O> {
+impl<L: Link, T: SessionTicket> Model for Client<L, T> {
     ghost use Rattle.conversation.specs.Talks.{ConversationState};
     ghost use Rattle.conversation.specs.Links.{ConversesOver};
 
-    ghost Value = { ConversationState };
+    ghost Value = { ConversationState T };
 
     ghost view = { λ c. c.conversation };
 
-    ghost invariant = { λ c. ConversesOver (L.taken c.link) (L.given c.link) c.conversation };
+    ghost invariant = { λ c. ConversesOver T.keeping (L.taken c.link) (L.given c.link) c.conversation };
 }
 
-impl<L: Link, O: Object<Op = Op, Reply = Reply>> Client<L, O> {
+impl<L: Link, T: SessionTicket> Client<L, T> {
     /// A conversation over a link.
-    pub fn new(link: L, conversation: Conversation<O>) -> Client<L, O>
-        requires { ConversesOver (L.taken link) (L.given link) conversation }
+    pub fn new(link: L, conversation: Conversation<T>) -> Client<L, T>
+        requires { ConversesOver T.keeping (L.taken link) (L.given link) conversation }
         ensures { result ≡ conversation }
     {
         Client { link, conversation }
     }
 
     /// Its link and its conversation.
-    pub fn into_parts(self) -> (L, Conversation<O>)
+    pub fn into_parts(self) -> (L, Conversation<T>)
         ensures talk { result.1 ≡ self }
-        ensures converses { ConversesOver (L.taken result.0) (L.given result.0) result.1 }
+        ensures converses { ConversesOver T.keeping (L.taken result.0) (L.given result.0) result.1 }
     {
         (self.link, self.conversation)
     }
 
     /// Its link.
     pub fn link(&self) -> &L
-        ensures { ConversesOver (L.taken result.now) (L.given result.now) self.now }
+        ensures { ConversesOver T.keeping (L.taken result.now) (L.given result.now) self.now }
     {
         &self.link
     }
 
     /// Its conversation.
-    pub fn conversation(&self) -> &Conversation<O>
+    pub fn conversation(&self) -> &Conversation<T>
         ensures { result.now ≡ self.now }
     {
         &self.conversation
@@ -134,15 +132,15 @@ impl<L: Link, O: Object<Op = Op, Reply = Reply>> Client<L, O> {
     }
 
     /// Hands in at a desk what is to be handed in.
-    pub fn hand_in<D: Desk<Object = O>>(&mut self, desk: &mut D) -> Result<(), HallError>
-        ensures { HandsIn D.submits desk.old desk.new self.old self.new result }
+    pub fn hand_in<D: Desk<Ticket = T>>(&mut self, desk: &mut D) -> Result<(), HallError>
+        ensures { HandsIn T.keeping D.submits desk.old desk.new self.old self.new result }
     {
         self.conversation.hand_in(desk)
     }
 
     /// Notes the answer to what was handed in, where it is there, and tells it.
-    pub fn note<D: Desk<Object = O>>(&mut self, desk: &D) -> Result<bool, AllocError>
-        ensures { Notes (D.to_note desk.now self.old.ticket) self.old self.new result }
+    pub fn note<D: Desk<Ticket = T>>(&mut self, desk: &D) -> Result<bool, AllocError>
+        ensures { Notes T.keeping (D.to_note desk.now self.old.ticket) self.old self.new result }
     {
         self.conversation.note(desk)
     }

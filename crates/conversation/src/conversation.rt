@@ -7,11 +7,12 @@ ghost use Rattle.conversation.specs.Conversing.{Converses, CarriesOn};
 ghost use Rattle.conversation.specs.Desks.{AsksOp, HandsIn, Notes, closing};
 
 use crate::desk::Desk;
+use crate::session_ticket::SessionTicket;
 use crate::stage::Stage;
 use bean_codec::Request;
-use bean_queue::{Op, Reply};
-use hall::{HallError, Ticket};
-use object::{Act, Object};
+use bean_queue::Op;
+use hall::HallError;
+use object::Act;
 use session::{End, Session};
 use std::alloc::{AllocError, Global};
 use std::marker::Model;
@@ -29,29 +30,29 @@ pub const LONGEST_UNSENT: usize = 65_536;
 /// found is handed in at a desk, and its answer is told once it is noted. What the client is to be told gathers until it is
 /// sent. Once it has quit, or its input has ended, or it has gone, the session's end is handed in.
 #[derive(Drop)]
-pub struct Conversation<O: Object<Op = Op, Reply = Reply>> {
+pub struct Conversation<T: SessionTicket> {
     session: Session,
-    ticket: Ticket<O>,
+    ticket: T,
     stage: Stage,
     has_ended: bool,
 }
 
-impl<O: Object<Op = Op, Reply = Reply>> Model for Conversation<O> {
+impl<T: SessionTicket> Model for Conversation<T> {
     ghost use Rattle.conversation.specs.Talks.{ConversationState, IsConversation};
 
-    ghost Value = { ConversationState };
+    ghost Value = { ConversationState T };
 
     ghost view = { λ c. record { session = c.session; ticket = c.ticket; stage = c.stage; has_ended = c.has_ended } };
 
     ghost invariant = { λ c. IsConversation (record { session = c.session; ticket = c.ticket; stage = c.stage; has_ended = c.has_ended }) };
 }
 
-impl<O: Object<Op = Op, Reply = Reply>> Conversation<O> {
+impl<T: SessionTicket> Conversation<T> {
     /// The conversation of a session that has handed in nothing.
-    pub fn new(alloc: Global, ticket: Ticket<O>) -> Conversation<O>
-        requires { ticket.acts ≡ [] }
+    pub fn new(alloc: Global, ticket: T) -> Conversation<T>
+        requires { T.keeping.IsOf ticket [] }
         ensures first { result ≡ first_talk ticket }
-        ensures begins { Converses [] [] result }
+        ensures begins { Converses T.keeping [] [] result }
     {
         Conversation {
             session: Session::new(alloc),
@@ -70,14 +71,14 @@ impl<O: Object<Op = Op, Reply = Reply>> Conversation<O> {
     }
 
     /// What its session handed in, and which replies were noted for it.
-    pub fn ticket(&self) -> &Ticket<O>
+    pub fn ticket(&self) -> &T
         ensures { result.now ≡ self.now.ticket }
     {
         &self.ticket
     }
 
     /// Gives its ticket up.
-    pub fn into_ticket(self) -> Ticket<O>
+    pub fn into_ticket(self) -> T
         ensures { result ≡ self.ticket }
     {
         self.ticket
@@ -101,8 +102,8 @@ impl<O: Object<Op = Op, Reply = Reply>> Conversation<O> {
     pub fn feed(&mut self, piece: &[u8]) -> Result<(), AllocError>
         requires wanted { wants_piece self.old ≡ true }
         requires few { length piece.now ≤ longest_piece }
-        ensures goes { (fed given : List ℕ) → Converses fed given self.old
-            → Converses (fed ++ piece.now) given self.new }
+        ensures goes { (fed given : List ℕ) → Converses T.keeping fed given self.old
+            → Converses T.keeping (fed ++ piece.now) given self.new }
         ensures ok { OnOk result (self.new.stage ≡ Looking) }
         ensures err { OnErr result (self.new.stage ≡ Leaving None) }
         ensures ticket { self.new.ticket ≡ self.old.ticket }
@@ -122,7 +123,7 @@ impl<O: Object<Op = Op, Reply = Reply>> Conversation<O> {
 
     /// The client sends nothing more.
     pub fn end_input(&mut self)
-        ensures goes { CarriesOn self.old self.new }
+        ensures goes { CarriesOn T.keeping self.old self.new }
         ensures ended { self.new ≡ ending self.old }
     {
         self.has_ended = true;
@@ -131,7 +132,7 @@ impl<O: Object<Op = Op, Reply = Reply>> Conversation<O> {
 
     /// The client has gone: it is told nothing more than what waits to be written, and is asked for nothing.
     pub fn leave(&mut self)
-        ensures goes { CarriesOn self.old self.new }
+        ensures goes { CarriesOn T.keeping self.old self.new }
         ensures left { self.new ≡ leaving self.old }
     {
         self.stage.leave();
@@ -139,7 +140,7 @@ impl<O: Object<Op = Op, Reply = Reply>> Conversation<O> {
 
     /// Looks for the next request, where none is open and not too much waits to be written. The faults before it are told.
     pub fn look(&mut self) -> Result<(), AllocError>
-        ensures goes { CarriesOn self.old self.new }
+        ensures goes { CarriesOn T.keeping self.old self.new }
         ensures looks { Looks self.old self.new result }
     {
         if !self.may_look() {
@@ -160,9 +161,9 @@ impl<O: Object<Op = Op, Reply = Reply>> Conversation<O> {
     /// Hands in at a desk what is to be handed in: an operation that was found, or the session's end. An operation for which
     /// memory is refused is answered so; at another refusal, or where there is no memory for that answer, the client is given
     /// up. An end that is refused is handed in at a later call.
-    pub fn hand_in<D: Desk<Object = O>>(&mut self, desk: &mut D) -> Result<(), HallError>
-        ensures goes { CarriesOn self.old self.new }
-        ensures handed_in { HandsIn D.submits desk.old desk.new self.old self.new result }
+    pub fn hand_in<D: Desk<Ticket = T>>(&mut self, desk: &mut D) -> Result<(), HallError>
+        ensures goes { CarriesOn T.keeping self.old self.new }
+        ensures handed_in { HandsIn T.keeping D.submits desk.old desk.new self.old self.new result }
     {
         match replace(&mut self.stage, Stage::Leaving(None)) {
             Stage::Found(op) => self.hand_in_op(desk, op),
@@ -176,9 +177,9 @@ impl<O: Object<Op = Op, Reply = Reply>> Conversation<O> {
 
     /// Notes the answer to what was handed in, where it is there, and tells it; false where it isn't there. Where memory is
     /// refused it is told at a later call.
-    pub fn note<D: Desk<Object = O>>(&mut self, desk: &D) -> Result<bool, AllocError>
-        ensures goes { CarriesOn self.old self.new }
-        ensures noted { Notes (D.to_note desk.now self.old.ticket) self.old self.new result }
+    pub fn note<D: Desk<Ticket = T>>(&mut self, desk: &D) -> Result<bool, AllocError>
+        ensures goes { CarriesOn T.keeping self.old self.new }
+        ensures noted { Notes T.keeping (D.to_note desk.now self.old.ticket) self.old self.new result }
     {
         if !matches!(self.stage, Stage::Asked) {
             return Ok(false);
@@ -202,17 +203,17 @@ impl<O: Object<Op = Op, Reply = Reply>> Conversation<O> {
     /// So many bytes more are sent.
     pub fn sent(&mut self, n: usize)
         requires { n ≤ length self.old.session.unsent }
-        ensures goes { (fed given : List ℕ) → Converses fed given self.old
-            → Converses fed (given ++ take n self.old.session.unsent) self.new }
+        ensures goes { (fed given : List ℕ) → Converses T.keeping fed given self.old
+            → Converses T.keeping fed (given ++ take n self.old.session.unsent) self.new }
         ensures sent { HasSent n self.old self.new }
     {
         self.session.sent(n);
     }
 
     // Hands in an operation.
-    fn hand_in_op<D: Desk<Object = O>>(&mut self, desk: &mut D, op: Op) -> Result<(), HallError>
+    fn hand_in_op<D: Desk<Ticket = T>>(&mut self, desk: &mut D, op: Op) -> Result<(), HallError>
         requires { self.old.session.is_open ≡ true }
-        ensures ok { OnOk result (AsksOp D.submits desk.old desk.new op self.old self.new) }
+        ensures ok { OnOk result (AsksOp T.keeping D.submits desk.old desk.new op self.old self.new) }
         ensures err { IfErr result (λ error. D.submits desk.old (Do op) (Err error) desk.new
             × (self.new ≡ self.old)) }
     {
@@ -231,13 +232,13 @@ impl<O: Object<Op = Op, Reply = Reply>> Conversation<O> {
     }
 
     // Hands in the session's end.
-    fn hand_in_end<D: Desk<Object = O>>(
+    fn hand_in_end<D: Desk<Ticket = T>>(
         &mut self,
         desk: &mut D,
         how: Option<End>,
     ) -> Result<(), HallError>
         ensures ok { OnOk result (D.submits desk.old Close (Ok tt) desk.new
-            × (self.new ≡ closing how self.old)) }
+            × (self.new ≡ closing T.keeping how self.old)) }
         ensures err { IfErr result (λ error. D.submits desk.old Close (Err error) desk.new
             × (self.new ≡ record self.old { stage = Leaving how })) }
     {

@@ -3,34 +3,34 @@ ghost use Rattle.object.specs.declared.command.Act.{Act};
 ghost use Rattle.bean_queue.specs.declared.op.Op.{Op};
 ghost use Rattle.bean_queue.specs.declared.reply.Reply.{Reply};
 ghost use Rattle.hall.specs.declared.error.HallError.{HallError};
-ghost use Rattle.hall.specs.Tickets.{TicketState, with_act, with_noted};
 
-use bean_queue::{Op, Reply};
-use hall::{HallError, Ticket};
-use object::{Act, Object};
+use crate::session_ticket::SessionTicket;
+use bean_queue::Op;
+use hall::HallError;
+use object::Act;
 use std::alloc::AllocError;
 
 /// Where sessions hand in, and where answers are looked up: a hall under its lock.
 pub trait Desk {
-    /// What the hall's nodes replicate.
-    type Object: Object<Op = Op, Reply = Reply>;
+    /// What a session keeps of its acts.
+    type Ticket: SessionTicket;
 
     // It before, the act that is submitted, the result, and it after.
     ghost submits: { Self → Act Op → Result Unit HallError → Self → Type 0 };
 
     // The reply that is there to be noted in a ticket.
-    ghost to_note: { Self → TicketState Op Reply → Option Reply };
+    ghost to_note: { Self → Self.Ticket → Option Reply };
 
     /// The ticket's session hands in its next act.
-    fn submit(&mut self, ticket: &mut Ticket<Self::Object>, act: Act<Op>) -> Result<(), HallError>
+    fn submit(&mut self, ticket: &mut Self::Ticket, act: Act<Op>) -> Result<(), HallError>
         ensures submitted { submits self.old act result self.new }
-        ensures ok { OnOk result (ticket.new ≡ with_act ticket.old act) }
+        ensures ok { OnOk result (ticket.new ≡ Self.Ticket.keeping.with_act ticket.old act) }
         ensures kept { OnErr result (ticket.new ≡ ticket.old) };
 
     /// Notes the reply that is there in the ticket; false where there is none.
-    fn note(&self, ticket: &mut Ticket<Self::Object>) -> Result<bool, AllocError>
+    fn note(&self, ticket: &mut Self::Ticket) -> Result<bool, AllocError>
         ensures does { IfOk result (λ does. does ≡ is_some (to_note self.now ticket.old)) }
         ensures noted { OnOk result (ticket.new
-            ≡ with_noted ticket.old (to_note self.now ticket.old)) }
+            ≡ Self.Ticket.keeping.with_noted ticket.old (to_note self.now ticket.old)) }
         ensures err { OnErr result (ticket.new ≡ ticket.old) };
 }

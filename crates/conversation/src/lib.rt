@@ -9,12 +9,16 @@ mod client;
 mod conversation;
 mod desk;
 mod laws;
+mod lean_ticket;
 mod link;
+mod session_ticket;
 mod stage;
 
 pub use client::Client;
 pub use conversation::{Conversation, LONGEST_PIECE, LONGEST_UNSENT};
 pub use desk::Desk;
 pub use laws::whole_transcript;
+pub use lean_ticket::LeanTicket;
 pub use link::{Link, Pause};
+pub use session_ticket::SessionTicket;
 pub use stage::Stage;

@@ -8,6 +8,7 @@ mod noting;
 mod refusing;
 mod resting;
 mod submitting;
+mod turning;
 
 use crate::halls::halls_rest;
 use agreement::every_world;

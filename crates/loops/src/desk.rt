@@ -1,170 +1,40 @@
-ghost use Rattle.std.specs.Prelude.{◌≡◌, [], true, length, sum, All, IfOk};
-ghost use Rattle.counted_hall.specs.Marks.{is_free, with_mark};
-ghost use Rattle.hall.specs.Halls.{Agrees};
+ghost use Rattle.std.specs.Prelude.{[], IfOk};
 
-use crate::settling::settle;
-use bean_queue::{Op, Reply};
 use conversation::Desk;
-use counted_hall::{Mishap, Watch, mark};
-use hall::{Hall, HallError, Ticket};
-use object::{Act, Object};
-use std::alloc::{AllocError, Global};
+use hall::HallError;
+use turns::Watch;
 
-/// The desk of a hall: where sessions hand in, and where their tickets are compared with the hall at their end.
-#[derive(Drop)]
-pub(crate) struct HallDesk<O: Object> {
-    hall: Hall<O>,
-    /// The node at which is handed in.
-    node: u8,
-    /// So many commands were handed in.
-    handed_in: u64,
-    /// A mark for each session, set where its ticket agreed with the hall at its end.
-    compared: Vec<bool>,
-    /// So many acts those tickets have that agreed.
-    acts: u64,
-    ghost marked: { length compared.items ≡ length hall.book },
-    ghost counted: { sum hall.book ≡ handed_in },
-}
+/// The desk of a hall that loops share: sessions are opened and end there, seconds pass, and the nodes take their turns.
+pub(crate) trait LoopDesk: Desk {
+    /// Opens a session.
+    fn open_session(&mut self) -> Result<Self::Ticket, HallError>
+        ensures new { IfOk result (λ t. Self.Ticket.keeping.IsOf t []) };
 
-impl<O: Object> HallDesk<O> {
-    /// A hall in which no session was opened yet.
-    pub(crate) fn new(alloc: Global, hall: Hall<O>) -> HallDesk<O>
-        requires none { hall.book ≡ [] }
-    {
-        HallDesk {
-            hall,
-            node: 1,
-            handed_in: 0,
-            compared: Vec::new(alloc),
-            acts: 0,
-        }
-    }
-
-    /// The hall.
-    pub(crate) fn hall(&self) -> &Hall<O> {
-        &self.hall
-    }
+    /// A session hands in nothing more.
+    fn see_off(&mut self, ticket: &Self::Ticket);
 
     /// What is handed in next is handed in at this node.
-    pub(crate) fn stand_at(&mut self, node: u8) {
-        self.node = node;
-    }
+    fn stand_at(&mut self, node: u8);
 
-    /// Opens a session.
-    pub(crate) fn open_session(&mut self) -> Result<Ticket<O>, HallError>
-        ensures new { IfOk result (λ t. t.acts ≡ []) }
-    {
-        self.compared.reserve(1)?;
-        let HallDesk { hall, compared, .. } = self;
-        let ticket = hall.open_session()?;
-        compared.push_reserved(false);
-        Ok(ticket)
-    }
+    /// How many nodes there are.
+    fn node_count(&self) -> u8;
 
-    /// A session hands in nothing more: its ticket is compared with the hall.
-    pub(crate) fn compare(&mut self, ticket: &Ticket<O>)
-        ensures agrees { Agrees self.old.hall ticket.now
-            → is_free self.old.compared.items ticket.now.session ≡ true
-            → self.new.compared.items ≡ with_mark self.old.compared.items ticket.now.session }
-        ensures disagrees { ¬ (Agrees self.old.hall ticket.now) →
-            (self.new.compared.items ≡ self.old.compared.items) × (self.new.acts ≡ self.old.acts) }
-    {
-        let HallDesk {
-            hall,
-            compared,
-            acts,
-            ..
-        } = self;
-        if hall.agrees(ticket) && mark(compared.as_mut_slice(), ticket.session()) {
-            *acts = acts.saturating_add(ticket.last_key().number);
-        }
-    }
+    /// The last second of the clock that was handed in.
+    fn last_second(&self) -> u64;
 
-    /// Hands in a second of the clock, at a node.
-    pub(crate) fn tick(&mut self, second: u64, node: u8) {
-        let HallDesk { hall, .. } = self;
-        let _ = hall.tick(second, node);
-    }
+    /// Hands in that this second of the clock has come, at a node.
+    fn tick(&mut self, second: u64, node: u8);
 
     /// One turn of a node, which takes note of a round.
-    pub(crate) fn take_turn(&mut self, watch: &mut Watch, round: u64) {
-        let HallDesk { hall, .. } = self;
-        let _ = watch.take_turn(hall, Mishap::None, round);
-    }
-
-    /// Hands in again what a session waits for, at a node.
-    pub(crate) fn hand_in_again(&mut self, ticket: &Ticket<O>, node: u8) {
-        let HallDesk { hall, .. } = self;
-        let _ = hall.resubmit(ticket, node);
-    }
+    fn take_turn(&mut self, watch: &mut Watch, round: u64);
 
     /// Takes the nodes' turns, from this one on, until none has anything to do. Answers false where something is left.
-    pub(crate) fn settle(&mut self, first: u8) -> Result<bool, HallError> {
-        let HallDesk { hall, .. } = self;
-        settle(hall, first)
-    }
+    fn settle(&mut self, first: u8) -> Result<bool, HallError>;
 
-    /// The hall, a mark for each session, set where its ticket agreed with the hall at its end, and how many acts those tickets
-    /// have; and whether all agreed, and have as many acts as commands were handed in.
-    pub(crate) fn into_hall(self) -> (Hall<O>, Vec<bool>, u64, bool)
-        ensures marked { length result.1.items ≡ length result.0.book }
-        ensures agreed { result.3 ≡ true → All (λ mark. mark ≡ true) result.1.items }
-        ensures handed_in { result.3 ≡ true → result.2 ≡ sum result.0.book }
-    {
-        let HallDesk {
-            hall,
-            compared,
-            acts,
-            handed_in,
-            ..
-        } = self;
-        if acts != handed_in || !are_set(compared.as_slice()) {
-            return (hall, compared, acts, false);
-        }
-        (hall, compared, acts, true)
-    }
-}
+    /// Hands in again what a session waits for, at a node.
+    fn hand_in_again(&mut self, ticket: &Self::Ticket, node: u8);
 
-impl<O: Object<Op = Op, Reply = Reply>> Desk for HallDesk<O> {
-    type Object = O;
-
-    ghost use Rattle.std.specs.Prelude.{◌≡◌, ◌+◌, OnOk, OnErr};
-    ghost use Rattle.hall.specs.Halls.{to_note};
-
-    // One command more was handed in, or none.
-    ghost submits = { λ old act result new. OnOk result (new.handed_in ≡ old.handed_in + 1)
-        × OnErr result (new.handed_in ≡ old.handed_in) };
-
-    ghost to_note = { λ desk ticket. to_note desk.hall ticket };
-
-    fn submit(&mut self, ticket: &mut Ticket<O>, act: Act<Op>) -> Result<(), HallError> {
-        if self.handed_in == u64::MAX {
-            return Err(HallError::Full);
-        }
-        let HallDesk {
-            hall,
-            handed_in,
-            node,
-            ..
-        } = self;
-        hall.submit(ticket, act, *node)?;
-        *handed_in += 1;
-        Ok(())
-    }
-
-    fn note(&self, ticket: &mut Ticket<O>) -> Result<bool, AllocError> {
-        self.hall.note(ticket)
-    }
-}
-
-// Whether all marks are set.
-fn are_set(marks: &[bool]) -> bool
-    ensures { result ≡ true → All (λ mark. mark ≡ true) marks.now }
-{
-    for place in 0..marks.len() {
-        if !marks[place] {
-            return false;
-        }
-    }
-    true
+    /// The next session that was answered, of those of which this wasn't told yet. Where there was no memory to note one, a loop
+    /// finds its answer at the next second.
+    fn next_answered(&mut self) -> Option<u32>;
 }

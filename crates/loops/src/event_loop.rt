@@ -1,14 +1,13 @@
+use crate::desk::LoopDesk;
 use crate::house::House;
 use crate::mailbox::{Mail, Mailbox};
 use crate::seat::{Seat, Wish};
 use crate::seats::Seats;
 use crate::wire::Wire;
-use bean_queue::{Op, Reply};
 use conversation::{Client, Conversation, LONGEST_PIECE};
 use hall::HallError;
 use mio::net::TcpStream;
 use mio::{Events, Interest, Poll, Token};
-use object::Object;
 use std::alloc::Global;
 use std::io;
 use std::sync::{Mutex, MutexGuard, Wait};
@@ -26,24 +25,24 @@ const LOOKS_AT_LOCK: u32 = 16;
 
 /// What loops have in common.
 #[derive(Drop)]
-pub(crate) struct Common<'a, R, O: Object> {
+pub(crate) struct Common<'a, R, D: LoopDesk> {
     pub(crate) rt: &'a R,
     pub(crate) alloc: Global,
-    pub(crate) house: &'a Mutex<House<O>>,
+    pub(crate) house: &'a Mutex<House<D>>,
     pub(crate) mailboxes: &'a [Mailbox],
     pub(crate) nodes: u8,
 }
 
 /// A loop over its clients.
 #[derive(Drop)]
-pub(crate) struct EventLoop<'a, R, O: Object<Op = Op, Reply = Reply>> {
-    common: &'a Common<'a, R, O>,
+pub(crate) struct EventLoop<'a, R, D: LoopDesk> {
+    common: &'a Common<'a, R, D>,
     own: &'a Mailbox,
     /// Which of the loops it is, from 0.
     at: usize,
     /// The node at which it hands in.
     node: u8,
-    seats: Seats<O>,
+    seats: Seats<D::Ticket>,
     /// The keys of those with something to hand in.
     asking: Vec<usize>,
     /// The keys of those whose ask was answered.
@@ -59,14 +58,14 @@ pub(crate) struct EventLoop<'a, R, O: Object<Op = Op, Reply = Reply>> {
     is_over: bool,
 }
 
-impl<'a, R: Wait, O: Object<Op = Op, Reply = Reply>> EventLoop<'a, R, O> {
+impl<'a, R: Wait, D: LoopDesk> EventLoop<'a, R, D> {
     /// A loop without clients.
     pub(crate) fn new(
-        common: &'a Common<'a, R, O>,
+        common: &'a Common<'a, R, D>,
         own: &'a Mailbox,
         at: usize,
         node: u8,
-    ) -> EventLoop<'a, R, O> {
+    ) -> EventLoop<'a, R, D> {
         let alloc = common.alloc;
         EventLoop {
             common,
@@ -228,7 +227,7 @@ impl<'a, R: Wait, O: Object<Op = Op, Reply = Reply>> EventLoop<'a, R, O> {
     }
 
     // Hands in what there is.
-    fn hand_in(&mut self, house: &mut House<O>) {
+    fn hand_in(&mut self, house: &mut House<D>) {
         house.desk.stand_at(self.node);
         for key in self.asking.iter() {
             if let Some(seat) = self.seats.get_mut(*key) {
@@ -238,7 +237,7 @@ impl<'a, R: Wait, O: Object<Op = Op, Reply = Reply>> EventLoop<'a, R, O> {
     }
 
     // Whose clients were answered: its own, or those of other loops.
-    fn sort_answers(&mut self, house: &mut House<O>) {
+    fn sort_answers(&mut self, house: &mut House<D>) {
         for _ in 0..u64::MAX {
             let Some((session, owner)) = house.next_answered() else {
                 break;
@@ -252,7 +251,7 @@ impl<'a, R: Wait, O: Object<Op = Op, Reply = Reply>> EventLoop<'a, R, O> {
     }
 
     // Notes the answers to its own clients.
-    fn note_answers(&mut self, house: &House<O>) {
+    fn note_answers(&mut self, house: &House<D>) {
         for key in self.answered.iter() {
             if let Some(seat) = self.seats.get_mut(*key) {
                 let _ = seat.client.note(&house.desk);
@@ -260,9 +259,9 @@ impl<'a, R: Wait, O: Object<Op = Op, Reply = Reply>> EventLoop<'a, R, O> {
         }
     }
 
-    // Compares the tickets of those that have left. Where no node has anything left to do, those that send nothing more wait
+    // Sees off those that have left. Where no node has anything left to do, those that send nothing more wait
     // no longer; where a node was refused memory, all is tried again at the next second.
-    fn see_off(&mut self, house: &mut House<O>, settled: Result<bool, HallError>) {
+    fn see_off(&mut self, house: &mut House<D>, settled: Result<bool, HallError>) {
         for key in self.asking.iter() {
             if let Some(seat) = self.seats.get_mut(*key) {
                 match settled {
@@ -279,7 +278,7 @@ impl<'a, R: Wait, O: Object<Op = Op, Reply = Reply>> EventLoop<'a, R, O> {
 
     // A second has passed: the loop that comes first hands it in. What clients wait for is looked for once more, and handed in again; and
     // what was refused is tried again.
-    fn pass_second(&mut self, house: &mut House<O>, second: u64) {
+    fn pass_second(&mut self, house: &mut House<D>, second: u64) {
         let node = node_of_second(self.common.nodes, second);
         house.tick(second, node);
         for key in 0..self.seats.key_bound() {
@@ -305,7 +304,7 @@ impl<'a, R: Wait, O: Object<Op = Op, Reply = Reply>> EventLoop<'a, R, O> {
     }
 
     // Takes the lock. It looks for a while before it sleeps, and lets others go on meanwhile.
-    fn lock(&self) -> MutexGuard<'a, House<O>> {
+    fn lock(&self) -> MutexGuard<'a, House<D>> {
         let common = self.common;
         for _ in 0..LOOKS_AT_LOCK {
             if let Some(guard) = common.house.try_lock() {

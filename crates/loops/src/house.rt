@@ -1,38 +1,33 @@
-ghost use Rattle.std.specs.Prelude.{◌≡◌, [], IfOk};
+ghost use Rattle.std.specs.Prelude.{[], IfOk};
 
-use crate::desk::HallDesk;
-use counted_hall::Watch;
-use hall::{Hall, HallError, Ticket};
+use crate::desk::LoopDesk;
+use conversation::SessionTicket;
+use hall::HallError;
 use indexmap::IndexMap;
-use object::Object;
 use std::alloc::Global;
+use turns::Watch;
 
 /// A hall has so many nodes at most.
 const MOST_NODES: usize = 7;
 
 /// What all loops share under one lock: the desk of the hall, what its nodes keep in mind, and which loop has each session.
 #[derive(Drop)]
-pub(crate) struct House<O: Object> {
-    pub(crate) desk: HallDesk<O>,
+pub(crate) struct House<D: LoopDesk> {
+    pub(crate) desk: D,
     /// The first of these are the members'.
     watches: [Watch; MOST_NODES],
     owners: IndexMap<u32, usize>,
-    /// So many answers are told to the loops.
-    told: usize,
     /// So many seconds have passed.
     round: u64,
 }
 
-impl<O: Object> House<O> {
-    /// A hall in which no session was opened yet.
-    pub(crate) fn new(alloc: Global, hall: Hall<O>) -> House<O>
-        requires none { hall.book ≡ [] }
-    {
+impl<D: LoopDesk> House<D> {
+    /// A desk at which no session was opened yet.
+    pub(crate) fn new(alloc: Global, desk: D) -> House<D> {
         House {
-            desk: HallDesk::new(alloc, hall),
+            desk,
             watches: first_watches(),
             owners: IndexMap::new(alloc),
-            told: 0,
             round: 0,
         }
     }
@@ -44,8 +39,8 @@ impl<O: Object> House<O> {
     }
 
     /// Opens a session for a loop.
-    pub(crate) fn open_session(&mut self, owner: usize) -> Result<Ticket<O>, HallError>
-        ensures new { IfOk result (λ t. t.acts ≡ []) }
+    pub(crate) fn open_session(&mut self, owner: usize) -> Result<D::Ticket, HallError>
+        ensures new { IfOk result (λ t. D.Ticket.keeping.IsOf t []) }
     {
         self.owners.reserve(1)?;
         let ticket = self.desk.open_session()?;
@@ -53,15 +48,15 @@ impl<O: Object> House<O> {
         Ok(ticket)
     }
 
-    /// A session hands in nothing more: its ticket is compared with the hall.
-    pub(crate) fn see_off(&mut self, ticket: &Ticket<O>) {
+    /// A session hands in nothing more.
+    pub(crate) fn see_off(&mut self, ticket: &D::Ticket) {
         let _ = self.owners.swap_remove(&ticket.session());
-        self.desk.compare(ticket);
+        self.desk.see_off(ticket);
     }
 
     /// Hands in a second of the clock, and has each node take note of it, unless another loop did that.
     pub(crate) fn tick(&mut self, second: u64, node: u8) {
-        if second <= self.desk.hall().last_second() {
+        if second <= self.desk.last_second() {
             return;
         }
         self.round = self.round.saturating_add(1);
@@ -77,7 +72,7 @@ impl<O: Object> House<O> {
             round,
             ..
         } = self;
-        let count = desk.hall().members().count();
+        let count = desk.node_count();
         for watch in watches.iter_mut() {
             if watch.node() <= count {
                 desk.take_turn(watch, *round);
@@ -87,19 +82,10 @@ impl<O: Object> House<O> {
 
     /// The next session that was answered, and which loop has it, of those of which this wasn't told yet.
     pub(crate) fn next_answered(&mut self) -> Option<(u32, usize)> {
-        let House {
-            desk,
-            owners,
-            told,
-            ..
-        } = self;
-        let hall = desk.hall();
-        for index in *told..hall.answer_count() {
-            *told = index + 1;
-            if let Some(key) = hall.answered_key(index) {
-                if let Some(owner) = owners.get(&key.session) {
-                    return Some((key.session, *owner));
-                }
+        for _ in 0..u64::MAX {
+            let session = self.desk.next_answered()?;
+            if let Some(owner) = self.owners.get(&session) {
+                return Some((session, *owner));
             }
         }
         None

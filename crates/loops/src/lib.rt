@@ -10,15 +10,16 @@ mod desk;
 mod doorman;
 mod event_loop;
 mod fault;
+mod forgetting_desk;
+mod hall_desk;
 mod house;
 mod mailbox;
 mod seat;
 mod seats;
 mod server;
-mod settling;
 mod troubles;
 mod wire;
 
 pub use counted_hall::Seconds;
 pub use fault::ServeFault;
-pub use server::{Host, Served, serve_clients};
+pub use server::{Host, Served, ServedForgetting, serve_clients, serve_forgetting};

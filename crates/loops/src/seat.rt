@@ -2,16 +2,14 @@ ghost use Rattle.std.specs.Prelude.{◌<◌, ◌≤◌, length};
 ghost use Rattle.session.specs.Serving.{longest_piece};
 
 use crate::wire::Wire;
-use bean_queue::{Op, Reply};
-use conversation::{Client, Desk, LONGEST_UNSENT, Pause, Stage};
-use hall::{HallError, Ticket};
+use conversation::{Client, Desk, LONGEST_UNSENT, Pause, SessionTicket, Stage};
+use hall::HallError;
 use mio::event::Event;
-use object::Object;
 
 /// A client of a loop.
 #[derive(Drop)]
-pub(crate) struct Seat<O: Object<Op = Op, Reply = Reply>> {
-    pub(crate) client: Client<Wire, O>,
+pub(crate) struct Seat<T: SessionTicket> {
+    pub(crate) client: Client<Wire, T>,
     /// There may be bytes to read.
     may_read: bool,
     /// The client sends nothing more.
@@ -39,9 +37,9 @@ pub(crate) enum Wish {
     End,
 }
 
-impl<O: Object<Op = Op, Reply = Reply>> Seat<O> {
+impl<T: SessionTicket> Seat<T> {
     /// A client whose session has handed in nothing.
-    pub(crate) fn new(client: Client<Wire, O>) -> Seat<O> {
+    pub(crate) fn new(client: Client<Wire, T>) -> Seat<T> {
         Seat {
             client,
             may_read: true,
@@ -73,7 +71,7 @@ impl<O: Object<Op = Op, Reply = Reply>> Seat<O> {
     }
 
     /// Hands in what there is. Where that is refused, and not for want of memory, its session ends without more.
-    pub(crate) fn hand_in<D: Desk<Object = O>>(&mut self, desk: &mut D) {
+    pub(crate) fn hand_in<D: Desk<Ticket = T>>(&mut self, desk: &mut D) {
         match self.client.hand_in(desk) {
             Ok(()) => {}
             Err(HallError::OutOfMemory) => self.is_refused = true,
@@ -120,7 +118,7 @@ impl<O: Object<Op = Op, Reply = Reply>> Seat<O> {
     }
 
     /// Its session's ticket.
-    pub(crate) fn ticket(&self) -> &Ticket<O> {
+    pub(crate) fn ticket(&self) -> &T {
         self.client.conversation().ticket()
     }
 

@@ -1,19 +1,18 @@
 use crate::seat::Seat;
-use bean_queue::{Op, Reply};
+use conversation::SessionTicket;
 use indexmap::IndexMap;
-use object::Object;
 use slab::Slab;
 use std::alloc::{AllocError, Global};
 
 /// The clients of a loop: each has a key, under which its connection is reported, and is found by its session.
 #[derive(Drop)]
-pub(crate) struct Seats<O: Object<Op = Op, Reply = Reply>> {
-    seats: Slab<Seat<O>>,
+pub(crate) struct Seats<T: SessionTicket> {
+    seats: Slab<Seat<T>>,
     keys: IndexMap<u32, usize>,
 }
 
-impl<O: Object<Op = Op, Reply = Reply>> Seats<O> {
-    pub(crate) fn new(alloc: Global) -> Seats<O> {
+impl<T: SessionTicket> Seats<T> {
+    pub(crate) fn new(alloc: Global) -> Seats<T> {
         Seats {
             seats: Slab::new(alloc),
             keys: IndexMap::new(alloc),
@@ -32,7 +31,7 @@ impl<O: Object<Op = Op, Reply = Reply>> Seats<O> {
     }
 
     /// Takes in a client, where there is room for it.
-    pub(crate) fn take_in(&mut self, seat: Seat<O>) -> Result<usize, AllocError> {
+    pub(crate) fn take_in(&mut self, seat: Seat<T>) -> Result<usize, AllocError> {
         let session = seat.ticket().session();
         let key = self.seats.insert(seat).map_err(|_| AllocError)?;
         let _ = self.keys.insert(session, key);
@@ -40,7 +39,7 @@ impl<O: Object<Op = Op, Reply = Reply>> Seats<O> {
     }
 
     /// The client of this key.
-    pub(crate) fn get_mut(&mut self, key: usize) -> Option<&mut Seat<O>> {
+    pub(crate) fn get_mut(&mut self, key: usize) -> Option<&mut Seat<T>> {
         self.seats.get_mut(key)
     }
 

@@ -2,13 +2,17 @@ ghost use Rattle.std.specs.Prelude.{◌≡◌, [], IfOk};
 ghost use Rattle.loops.specs.Comparing.{IsLoopCount, AllCompared};
 
 use crate::clock::run_clock;
+use crate::desk::LoopDesk;
 use crate::doorman::Doorman;
 use crate::event_loop::{Common, EventLoop, WAKER};
 use crate::fault::ServeFault;
+use crate::forgetting_desk::ForgettingDesk;
+use crate::hall_desk::HallDesk;
 use crate::house::House;
 use crate::mailbox::Mailbox;
 use bean_queue::{Op, Reply};
 use counted_hall::Seconds;
+use forgetting_hall::ForgettingHall;
 use hall::Hall;
 use mio::Poll;
 use mio::net::TcpListener;
@@ -36,8 +40,15 @@ pub struct Served<O: Object> {
     pub fault: Option<ServeFault>,
 }
 
-/// Serves the clients that connect to this listener, up to so many, by so many loops, 1 to 64. It returns when as many as there
-/// was said have left; all threads have ended then.
+/// The same of a server whose hall forgets.
+#[derive(Drop)]
+pub struct ServedForgetting<O: Object> {
+    pub hall: ForgettingHall<O>,
+    pub fault: Option<ServeFault>,
+}
+
+/// Serves the clients that connect to this listener, up to so many, by so many loops, 1 to 64, over a hall that keeps all. It
+/// returns when as many as there was said have left; all threads have ended then.
 pub fn serve_clients<O: Object<Op = Op, Reply = Reply> + Send, T: Seconds + Send + Drop, R: Host>(
     rt: &R,
     hall: Hall<O>,
@@ -51,13 +62,70 @@ pub fn serve_clients<O: Object<Op = Op, Reply = Reply> + Send, T: Seconds + Send
     ensures served { IfOk result (λ s.
         AllCompared s.hall.book s.compared.items s.acts s.fault) }
 {
+    let desk = HallDesk::new(rt.alloc(), hall);
+    let (desk, fault) = serve_desk(rt, desk, listener, seconds, loops, sessions)?;
+    let (hall, compared, acts, agree) = desk.into_hall();
+    if agree {
+        return Ok(Served {
+            hall,
+            compared,
+            acts,
+            fault,
+        });
+    }
+    Ok(Served {
+        hall,
+        compared,
+        acts,
+        fault: Some(fault.unwrap_or(ServeFault::BadNumber)),
+    })
+}
+
+/// The same over a hall that forgets. What a client is told is what the hall had for its session's last command at that
+/// time.
+pub fn serve_forgetting<
+    O: Object<Op = Op, Reply = Reply> + Send,
+    T: Seconds + Send + Drop,
+    R: Host,
+>(
+    rt: &R,
+    hall: ForgettingHall<O>,
+    listener: TcpListener,
+    seconds: T,
+    loops: u32,
+    sessions: Option<u32>,
+) -> Result<ServedForgetting<O>, ServeFault>
+    requires loops { IsLoopCount loops }
+{
+    let desk = ForgettingDesk::new(rt.alloc(), hall);
+    let (desk, fault) = serve_desk(rt, desk, listener, seconds, loops, sessions)?;
+    let hall = desk.into_hall();
+    Ok(ServedForgetting { hall, fault })
+}
+
+// Serves clients at a desk. It gives the desk back, and what went wrong, where something did.
+fn serve_desk<D, T, R>(
+    rt: &R,
+    desk: D,
+    listener: TcpListener,
+    seconds: T,
+    loops: u32,
+    sessions: Option<u32>,
+) -> Result<(D, Option<ServeFault>), ServeFault>
+where
+    D: LoopDesk + Send + Drop,
+    D::Ticket: Send,
+    T: Seconds + Send + Drop,
+    R: Host,
+    requires loops { IsLoopCount loops }
+{
     let alloc = rt.alloc();
-    let nodes = hall.members().count();
+    let nodes = desk.node_count();
     let room = Room::new(rt, alloc, loops)?;
     let door = Poll::new(rt)?;
     let own = Mailbox::new(alloc, door.registry(), WAKER)?;
     let doorman = Doorman::new(door, listener, sessions)?;
-    let mut house = House::new(alloc, hall);
+    let mut house = House::new(alloc, desk);
     house.begin();
     let house = Mutex::new(house);
     let Room { polls, mailboxes } = room;
@@ -74,21 +142,7 @@ pub fn serve_clients<O: Object<Op = Op, Reply = Reply> + Send, T: Seconds + Send
         doorman,
         seconds,
     );
-    let (hall, compared, acts, agree) = house.into_inner().desk.into_hall();
-    if agree {
-        return Ok(Served {
-            hall,
-            compared,
-            acts,
-            fault,
-        });
-    }
-    Ok(Served {
-        hall,
-        compared,
-        acts,
-        fault: Some(fault.unwrap_or(ServeFault::BadNumber)),
-    })
+    Ok((house.into_inner().desk, fault))
 }
 
 // What loops wait at, and where mail is left for them.
@@ -116,15 +170,16 @@ impl Room {
 }
 
 // Runs a thread for each loop and one for the clock, and lets clients in. All threads have ended when it returns.
-fn serve_all<'s, O, T, R>(
-    common: &'s Common<'s, R, O>,
+fn serve_all<'s, D, T, R>(
+    common: &'s Common<'s, R, D>,
     polls: Vec<Poll>,
     own: &'s Mailbox,
     doorman: Doorman,
     seconds: T,
 ) -> Option<ServeFault>
 where
-    O: Object<Op = Op, Reply = Reply> + Send,
+    D: LoopDesk + Send,
+    D::Ticket: Send,
     T: Seconds + Send + Drop + 's,
     R: Clock + Threads + Wait + AllocGlobal + Sync,
 {
@@ -159,14 +214,15 @@ where
 }
 
 // Starts a thread for each loop.
-fn start_loops<'s, E, O, R>(
+fn start_loops<'s, E, D, R>(
     scope: &Scope<'s, E>,
-    common: &'s Common<'s, R, O>,
+    common: &'s Common<'s, R, D>,
     polls: Vec<Poll>,
     threads: &mut Vec<JoinHandle<io::Result<()>>>,
 ) -> Result<(), ServeFault>
 where
-    O: Object<Op = Op, Reply = Reply> + Send,
+    D: LoopDesk + Send,
+    D::Ticket: Send,
     R: Wait + Sync,
 {
     for poll in polls {
@@ -180,8 +236,8 @@ where
 }
 
 // What the thread of a loop does.
-fn run_loop<R: Wait, O: Object<Op = Op, Reply = Reply>>(
-    common: &Common<'_, R, O>,
+fn run_loop<R: Wait, D: LoopDesk>(
+    common: &Common<'_, R, D>,
     poll: Poll,
     at: usize,
 ) -> io::Result<()> {

@@ -40,7 +40,7 @@ impl<O: Object> OneNode<O> {
 }
 
 impl<O: Object<Op = Op, Reply = Reply>> Desk for OneNode<O> {
-    type Object = O;
+    type Ticket = Ticket<O>;
 
     ghost submits = { λ _ _ _ _. Unit {0} };
 

@@ -3,6 +3,7 @@ use crate::one_node::OneNode;
 use crate::pipe::{Ending, Pipe};
 use bean_queue::Queue;
 use conversation::{Client, Conversation, Stage};
+use hall::Ticket;
 use session::End;
 use std::alloc::Global;
 use std::test::Fail;
@@ -14,7 +15,7 @@ fn client_of(
     input: &'static [u8],
     piece_len: usize,
     ending: Ending,
-) -> Result<Client<Pipe, Queue>, Fail> {
+) -> Result<Client<Pipe, Ticket<Queue>>, Fail> {
     let ticket = node.hall.open_session()?;
     let conversation = Conversation::new(alloc, ticket);
     Ok(Client::new(Pipe::new(alloc, input, piece_len, ending), conversation))
@@ -22,7 +23,7 @@ fn client_of(
 
 /// The client goes so many rounds, in each of which the node works.
 fn go(
-    client: &mut Client<Pipe, Queue>,
+    client: &mut Client<Pipe, Ticket<Queue>>,
     node: &mut OneNode<Queue>,
     rounds: usize,
 ) -> Result<(), Fail> {
@@ -39,7 +40,7 @@ fn go(
 }
 
 /// How the client has left, if it has.
-fn left(client: &Client<Pipe, Queue>) -> Option<Option<End>> {
+fn left(client: &Client<Pipe, Ticket<Queue>>) -> Option<Option<End>> {
     match client.conversation().stage() {
         Stage::Left(how) => Some(*how),
         _ => None,
@@ -48,7 +49,7 @@ fn left(client: &Client<Pipe, Queue>) -> Option<Option<End>> {
 
 /// Whether the client has left so, was told this, and has a ticket that agrees with the hall.
 fn has_left(
-    client: Client<Pipe, Queue>,
+    client: Client<Pipe, Ticket<Queue>>,
     node: &OneNode<Queue>,
     how: Option<End>,
     output: &[u8],

@@ -6,5 +6,5 @@ use Rattle.conversation.proofs.conversation.Conversation.look.Goals as goal
 pub returns-clause-goes : goal.returns-clause-goes
 returns-clause-goes g c = λ fed given.
     let looked : may_look c.args.self.now ≡ true = search rules in
-    goes_looking c.self.view_is fed given c.next_ask.new.self c.in_ok-found.found c.go_to.new.self looked
+    goes_looking g.T.SessionTicket.keeping c.self.view_is fed given c.next_ask.new.self c.in_ok-found.found c.go_to.new.self looked
     c.in_ok-found.ensures.found (c.go_to.ensures ∙ c.stage_after.ensures)

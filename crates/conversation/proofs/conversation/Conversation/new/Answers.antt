@@ -1,5 +1,8 @@
+use Rattle.std.proofs.Common.{false, refl}
+use Rattle.conversation.specs.declared.stage.Stage.TheVariants.{Looking}
 use Rattle.conversation.proofs.Steps.{begins}
 use Rattle.conversation.proofs.conversation.Conversation.new.Goals as goal
 
 pub returns-clause-begins : goal.returns-clause-begins
-returns-clause-begins g c = begins c.new.result c.args.ticket.acts c.new.ensures c.requires
+returns-clause-begins g c = begins g.T.SessionTicket.keeping
+    (record { session = c.new.result; ticket = c.args.ticket; stage = Looking; has_ended = false }) c.new.ensures refl c.requires

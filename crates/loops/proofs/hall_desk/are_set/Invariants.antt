@@ -1,6 +1,6 @@
 use Rattle.std.proofs.Common.{◌≡◌, true, take}
 use Rattle.std.specs.Prelude.{All}
-use Rattle.loops.proofs.desk.are_set.Given as goal
+use Rattle.loops.proofs.hall_desk.are_set.Given as goal
 
 -- the first ones are set
 abbrev pub invariant-loop-place : goal.invariant-loop-place

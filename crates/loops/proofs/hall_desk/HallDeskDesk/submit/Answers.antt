@@ -1,7 +1,7 @@
 use Rattle.std.proofs.Common.{◌∙◌, ◌+◌, length, sum, sym, ap}
 use Rattle.hall.specs.Halls.{HallState}
 use Rattle.counted_hall.proofs.Counts.{book_sum, book_length}
-use Rattle.loops.proofs.desk.HallDeskDesk.submit.Goals as goal
+use Rattle.loops.proofs.hall_desk.HallDeskDesk.submit.Goals as goal
 
 pub invariant_of-self-2 : goal.invariant_of-self-2
 invariant_of-self-2 g c =

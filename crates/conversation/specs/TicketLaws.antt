@@ -1,0 +1,43 @@
+-- Both kinds of tickets keep their acts.
+use Rattle.std.specs.Prelude.{◌≡◌, ◌<◌, ◌-◌, List, [], ◌∷◌, ◌++◌, length, slice_get, Option, None, Some, refl}
+use Rattle.std.proofs.Common.{sym, ap, ◌∙◌, length-append, arith}
+use Rattle.std.proofs.lemmas.Option.{slice_get-get_or}
+use Rattle.std.proofs.Math.Seq.{get_or-append_seam}
+use Rattle.bean_queue.specs.declared.op.Op.{Op}
+use Rattle.bean_queue.specs.declared.reply.Reply.{Reply}
+use Rattle.hall.specs.declared.ticket.NotedAct.{NotedAct}
+use Rattle.hall.specs.Tickets.{noted_reply, with_last_reply}
+use Rattle.conversation.specs.Keeping.{KeepsActs, noted_op, unanswered}
+use Rattle.conversation.specs.Tickets.{keeping_all, keeping_last, last_of}
+
+-- the last of a list that ends so
+last_of-append : (acts : List (NotedAct Op Reply)) (a : NotedAct Op Reply) → last_of (acts ++ a ∷ []) ≡ Some a
+last_of-append acts a =
+    let long : length (acts ++ a ∷ []) - 1 ≡ length acts = omega (arith, length-append acts (a ∷ [])) in
+    let within : length acts < length (acts ++ a ∷ []) = omega (arith, length-append acts (a ∷ [])) in
+    ap (slice_get (acts ++ a ∷ [])) long ∙ (slice_get-get_or (acts ++ a ∷ []) (length acts) a within ∙ ap Some (get_or-append_seam acts a [] a))
+
+-- its reply is noted there
+with_last_reply-append : (acts : List (NotedAct Op Reply)) (a : NotedAct Op Reply) (reply : Reply)
+    → with_last_reply (acts ++ a ∷ []) reply ≡ acts ++ record a { reply = Some reply } ∷ []
+with_last_reply-append [] a reply = refl
+with_last_reply-append (b ∷ []) a reply = refl
+with_last_reply-append (b ∷ c ∷ more) a reply = ap (λ (acts : List (NotedAct Op Reply)). b ∷ acts) (with_last_reply-append (c ∷ more) a reply)
+
+pub keeps_all : KeepsActs keeping_all
+keeps_all = record {
+  adds = λ t acts act is. ap (λ (acts : List (NotedAct Op Reply)). acts ++ unanswered act ∷ []) is;
+  notes = λ t before op last reply is.
+      ap (λ (acts : List (NotedAct Op Reply)). with_last_reply acts reply) is ∙ with_last_reply-append before (noted_op op last) reply;
+  leaves = λ t. refl;
+  tells = λ t before op last is.
+      ap (λ (acts : List (NotedAct Op Reply)). noted_reply (last_of acts)) is ∙ ap noted_reply (last_of-append before (noted_op op last));
+}
+
+pub keeps_last : KeepsActs keeping_last
+keeps_last = record {
+  adds = λ t acts act is. sym (ap noted_reply (last_of-append acts (unanswered act)));
+  notes = λ t before op last reply is. sym (ap noted_reply (last_of-append before (noted_op op (Some reply))));
+  leaves = λ t. refl;
+  tells = λ t before op last is. is ∙ ap noted_reply (last_of-append before (noted_op op last));
+}

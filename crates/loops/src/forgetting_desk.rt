@@ -1,0 +1,130 @@
+use crate::desk::LoopDesk;
+use bean_queue::{Op, Reply};
+use conversation::{Desk, LeanTicket, SessionTicket};
+use forgetting_hall::ForgettingHall;
+use hall::HallError;
+use object::{Act, Object, Value};
+use std::alloc::{AllocError, Global};
+use turns::{Watch, settle};
+
+/// So many slots are forgotten at once.
+const FORGOTTEN_AT_ONCE: u64 = 256;
+
+/// So many seconds that were missed are made up under one hold of the lock.
+const MOST_SECONDS: u32 = 1024;
+
+/// The desk of a hall that forgets: where sessions hand in, and where slots are forgotten once every node has performed them.
+#[derive(Drop)]
+pub(crate) struct ForgettingDesk<O: Object> {
+    hall: ForgettingHall<O>,
+    /// The node at which is handed in.
+    node: u8,
+    /// Sessions that were answered. The loops were told of so many of them.
+    answered: Vec<u32>,
+    told: usize,
+}
+
+impl<O: Object> ForgettingDesk<O> {
+    /// The desk of this hall.
+    pub(crate) fn new(alloc: Global, hall: ForgettingHall<O>) -> ForgettingDesk<O> {
+        ForgettingDesk {
+            hall,
+            node: 1,
+            answered: Vec::new(alloc),
+            told: 0,
+        }
+    }
+
+    /// The hall.
+    pub(crate) fn into_hall(self) -> ForgettingHall<O> {
+        self.hall
+    }
+}
+
+impl<O: Object<Op = Op, Reply = Reply>> Desk for ForgettingDesk<O> {
+    type Ticket = LeanTicket;
+
+    ghost use Rattle.std.specs.Prelude.{◌≡◌, ◌+◌, OnOk, OnErr};
+    ghost use Rattle.forgetting_hall.specs.Handing.{reply_of};
+
+    // One command more was handed in, or nothing happened.
+    ghost submits = { λ old act result new.
+        OnOk result (new.hall.summary.submitted ≡ old.hall.summary.submitted + 1)
+        × OnErr result (new.hall ≡ old.hall) };
+
+    // The reply that the hall has for the session's last command.
+    ghost to_note = { λ desk ticket. reply_of desk.hall ticket.session };
+
+    fn submit(&mut self, ticket: &mut LeanTicket, act: Act<Op>) -> Result<(), HallError> {
+        self.hall.submit(ticket.session(), act, self.node)?;
+        ticket.hand_in();
+        Ok(())
+    }
+
+    fn note(&self, ticket: &mut LeanTicket) -> Result<bool, AllocError> {
+        let Some(reply) = self.hall.reply(ticket.session()) else {
+            return Ok(false);
+        };
+        ticket.note(reply.copy()?);
+        Ok(true)
+    }
+}
+
+impl<O: Object<Op = Op, Reply = Reply>> LoopDesk for ForgettingDesk<O> {
+    fn open_session(&mut self) -> Result<LeanTicket, HallError> {
+        Ok(LeanTicket::new(self.hall.open_session()?))
+    }
+
+    fn see_off(&mut self, ticket: &LeanTicket) {
+        let session = ticket.session();
+        if session != 0 {
+            self.hall.let_go(session);
+        }
+    }
+
+    fn stand_at(&mut self, node: u8) {
+        self.node = node;
+    }
+
+    fn node_count(&self) -> u8 {
+        self.hall.members().count()
+    }
+
+    fn last_second(&self) -> u64 {
+        self.hall.last_second()
+    }
+
+    fn tick(&mut self, second: u64, node: u8) {
+        for _ in 0..MOST_SECONDS {
+            if self.hall.last_second() >= second || self.hall.tick(node).is_err() {
+                return;
+            }
+        }
+    }
+
+    fn take_turn(&mut self, watch: &mut Watch, round: u64) {
+        let _ = watch.take_turn(&mut self.hall, round);
+    }
+
+    fn settle(&mut self, first: u8) -> Result<bool, HallError> {
+        let is_calm = settle(&mut self.hall, first)?;
+        if self.hall.lag() >= FORGOTTEN_AT_ONCE {
+            self.hall.forget();
+        }
+        Ok(is_calm)
+    }
+
+    fn hand_in_again(&mut self, ticket: &LeanTicket, node: u8) {
+        let _ = self.hall.resubmit(ticket.session(), node);
+    }
+
+    fn next_answered(&mut self) -> Option<u32> {
+        if self.told >= self.answered.len() {
+            self.answered = self.hall.take_answered();
+            self.told = 0;
+        }
+        let session = *self.answered.get(self.told)?;
+        self.told += 1;
+        Some(session)
+    }
+}

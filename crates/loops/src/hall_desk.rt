@@ -1,0 +1,182 @@
+ghost use Rattle.std.specs.Prelude.{◌≡◌, [], true, length, sum, All, IfOk};
+ghost use Rattle.counted_hall.specs.Marks.{is_free, with_mark};
+ghost use Rattle.hall.specs.Halls.{Agrees};
+
+use crate::desk::LoopDesk;
+use bean_queue::{Op, Reply};
+use conversation::Desk;
+use counted_hall::mark;
+use hall::{Hall, HallError, Ticket};
+use object::{Act, Object};
+use std::alloc::{AllocError, Global};
+use turns::{Watch, settle};
+
+/// The desk of a hall that keeps all: where sessions hand in, and where their tickets are compared with the hall at their end.
+#[derive(Drop)]
+pub(crate) struct HallDesk<O: Object> {
+    hall: Hall<O>,
+    /// The node at which is handed in.
+    node: u8,
+    /// So many commands were handed in.
+    handed_in: u64,
+    /// A mark for each session, set where its ticket agreed with the hall at its end.
+    compared: Vec<bool>,
+    /// So many acts those tickets have that agreed.
+    acts: u64,
+    /// So many answers were told to the loops.
+    told: usize,
+    ghost marked: { length compared.items ≡ length hall.book },
+    ghost counted: { sum hall.book ≡ handed_in },
+}
+
+impl<O: Object> HallDesk<O> {
+    /// A hall in which no session was opened yet.
+    pub(crate) fn new(alloc: Global, hall: Hall<O>) -> HallDesk<O>
+        requires none { hall.book ≡ [] }
+    {
+        HallDesk {
+            hall,
+            node: 1,
+            handed_in: 0,
+            compared: Vec::new(alloc),
+            acts: 0,
+            told: 0,
+        }
+    }
+
+    /// A session hands in nothing more: its ticket is compared with the hall.
+    pub(crate) fn compare(&mut self, ticket: &Ticket<O>)
+        ensures agrees { Agrees self.old.hall ticket.now
+            → is_free self.old.compared.items ticket.now.session ≡ true
+            → self.new.compared.items ≡ with_mark self.old.compared.items ticket.now.session }
+        ensures disagrees { ¬ (Agrees self.old.hall ticket.now) →
+            (self.new.compared.items ≡ self.old.compared.items) × (self.new.acts ≡ self.old.acts) }
+    {
+        let HallDesk {
+            hall,
+            compared,
+            acts,
+            ..
+        } = self;
+        if hall.agrees(ticket) && mark(compared.as_mut_slice(), ticket.session()) {
+            *acts = acts.saturating_add(ticket.last_key().number);
+        }
+    }
+
+    /// The hall, a mark for each session, set where its ticket agreed with the hall at its end, and how many acts those tickets
+    /// have; and whether all agreed, and have as many acts as commands were handed in.
+    pub(crate) fn into_hall(self) -> (Hall<O>, Vec<bool>, u64, bool)
+        ensures marked { length result.1.items ≡ length result.0.book }
+        ensures agreed { result.3 ≡ true → All (λ mark. mark ≡ true) result.1.items }
+        ensures handed_in { result.3 ≡ true → result.2 ≡ sum result.0.book }
+    {
+        let HallDesk {
+            hall,
+            compared,
+            acts,
+            handed_in,
+            ..
+        } = self;
+        if acts != handed_in || !are_set(compared.as_slice()) {
+            return (hall, compared, acts, false);
+        }
+        (hall, compared, acts, true)
+    }
+}
+
+impl<O: Object<Op = Op, Reply = Reply>> Desk for HallDesk<O> {
+    type Ticket = Ticket<O>;
+
+    ghost use Rattle.std.specs.Prelude.{◌≡◌, ◌+◌, OnOk, OnErr};
+    ghost use Rattle.hall.specs.Halls.{to_note};
+
+    // One command more was handed in, or none.
+    ghost submits = { λ old act result new. OnOk result (new.handed_in ≡ old.handed_in + 1)
+        × OnErr result (new.handed_in ≡ old.handed_in) };
+
+    ghost to_note = { λ desk ticket. to_note desk.hall ticket };
+
+    fn submit(&mut self, ticket: &mut Ticket<O>, act: Act<Op>) -> Result<(), HallError> {
+        if self.handed_in == u64::MAX {
+            return Err(HallError::Full);
+        }
+        let HallDesk {
+            hall,
+            handed_in,
+            node,
+            ..
+        } = self;
+        hall.submit(ticket, act, *node)?;
+        *handed_in += 1;
+        Ok(())
+    }
+
+    fn note(&self, ticket: &mut Ticket<O>) -> Result<bool, AllocError> {
+        self.hall.note(ticket)
+    }
+}
+
+impl<O: Object<Op = Op, Reply = Reply>> LoopDesk for HallDesk<O> {
+    fn open_session(&mut self) -> Result<Ticket<O>, HallError> {
+        self.compared.reserve(1)?;
+        let HallDesk { hall, compared, .. } = self;
+        let ticket = hall.open_session()?;
+        compared.push_reserved(false);
+        Ok(ticket)
+    }
+
+    fn see_off(&mut self, ticket: &Ticket<O>) {
+        self.compare(ticket);
+    }
+
+    fn stand_at(&mut self, node: u8) {
+        self.node = node;
+    }
+
+    fn node_count(&self) -> u8 {
+        self.hall.members().count()
+    }
+
+    fn last_second(&self) -> u64 {
+        self.hall.last_second()
+    }
+
+    fn tick(&mut self, second: u64, node: u8) {
+        let HallDesk { hall, .. } = self;
+        let _ = hall.tick(second, node);
+    }
+
+    fn take_turn(&mut self, watch: &mut Watch, round: u64) {
+        let HallDesk { hall, .. } = self;
+        let _ = watch.take_turn(hall, round);
+    }
+
+    fn settle(&mut self, first: u8) -> Result<bool, HallError> {
+        let HallDesk { hall, .. } = self;
+        settle(hall, first)
+    }
+
+    fn hand_in_again(&mut self, ticket: &Ticket<O>, node: u8) {
+        let HallDesk { hall, .. } = self;
+        let _ = hall.resubmit(ticket, node);
+    }
+
+    fn next_answered(&mut self) -> Option<u32> {
+        let HallDesk { hall, told, .. } = self;
+        let key = hall.answered_key(*told)?;
+        *told = told.saturating_add(1);
+        Some(key.session)
+    }
+}
+
+// Whether all marks are set.
+fn are_set(marks: &[bool]) -> bool
+    ensures { result ≡ true → All (λ mark. mark ≡ true) marks.now }
+{
+    for place in 0..marks.len() {
+        if !marks[place] {
+            return false;
+        }
+    }
+    true
+}
