@@ -3,6 +3,12 @@
 #![tactic(auto)]
 
 #[cfg(test)]
+mod driven;
+#[cfg(test)]
+mod driven_desk;
+#[cfg(test)]
+mod one_forgetting_node;
+#[cfg(test)]
 mod one_node;
 #[cfg(test)]
 mod pipe;

@@ -1,6 +1,7 @@
-//! The desk of a hall of one node.
+//! The desk of a hall of one node, which keeps all.
 ghost use Rattle.hall.specs.Halls.{to_note};
 
+use crate::driven_desk::DrivenDesk;
 use ballot::Members;
 use bean_queue::{Op, Reply};
 use conversation::Desk;
@@ -12,8 +13,8 @@ use std::test::Fail;
 /// A hall of one node, which refuses the next act for want of memory where it is told to.
 #[derive(Drop)]
 pub struct OneNode<O: Object> {
-    pub hall: Hall<O>,
-    pub refuses: bool,
+    hall: Hall<O>,
+    refuses: bool,
 }
 
 impl<O: Object> OneNode<O> {
@@ -26,16 +27,6 @@ impl<O: Object> OneNode<O> {
             hall,
             refuses: false,
         })
-    }
-
-    /// The node does what there is to do.
-    pub fn work(&mut self) -> Result<(), Fail> {
-        self.hall.propose(1)?;
-        for _ in 0..20 {
-            self.hall.deliver(1)?;
-        }
-        self.hall.perform(1)?;
-        Ok(())
     }
 }
 
@@ -56,5 +47,28 @@ impl<O: Object<Op = Op, Reply = Reply>> Desk for OneNode<O> {
 
     fn note(&self, ticket: &mut Ticket<O>) -> Result<bool, AllocError> {
         self.hall.note(ticket)
+    }
+}
+
+impl<O: Object<Op = Op, Reply = Reply>> DrivenDesk for OneNode<O> {
+    fn open_session(&mut self) -> Result<Ticket<O>, Fail> {
+        Ok(self.hall.open_session()?)
+    }
+
+    fn refuse(&mut self) {
+        self.refuses = true;
+    }
+
+    fn work(&mut self) -> Result<(), Fail> {
+        self.hall.propose(1)?;
+        for _ in 0..20 {
+            self.hall.deliver(1)?;
+        }
+        self.hall.perform(1)?;
+        Ok(())
+    }
+
+    fn agrees(&self, ticket: &Ticket<O>) -> bool {
+        self.hall.agrees(ticket)
     }
 }
