@@ -156,7 +156,7 @@ fn come_to(alloc: Global, seed: u64) -> Result<Option<(u64, u64)>, Fail> {
 #[test]
 fn each_is_answered_alike(rt: HostRuntime) -> Result<(), Fail> {
     let (mut bases, mut answers) = (0u64, 0u64);
-    for seed in 0..100 {
+    for seed in 0..134 {
         let came = come_to(rt.alloc(), seed)?;
         assert!(rt; came.is_some(), "seed {seed}");
         let (base, answered) = came.unwrap_or((0, 0));

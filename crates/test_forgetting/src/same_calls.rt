@@ -108,7 +108,7 @@ struct Sums {
 
 /// The first of the seeds whose calls both halls don't answer alike.
 fn first_wrong(alloc: Global, forgets: bool, sums: &mut Sums) -> Result<Option<u64>, Fail> {
-    for seed in 0..100 {
+    for seed in 0..134 {
         let mut course: Course<Queue> = Course::new(alloc, seed, forgets)?;
         if !course.run()? {
             return Ok(Some(seed));
