@@ -18,7 +18,10 @@ const FIRST_PAUSE: u64 = 100;
 
 const LONGEST_PAUSE: u64 = 1000;
 
-/// Where clients come in, who are handed to the loop with the fewest.
+/// While a loop has fewer clients than these, no other one is begun.
+const FEW: usize = 8;
+
+/// Where clients come in, who are handed to the loops.
 #[derive(Drop)]
 pub(crate) struct Doorman {
     poll: Poll,
@@ -119,8 +122,15 @@ impl Doorman {
     }
 }
 
-// Hands the client to the loop with the fewest.
+// Hands the client to the first loop that has but few, or else to the one with the fewest: loops that have little to do wait
+// more for the lock than they save.
 fn hand_over<R: Wait>(rt: &R, loops: &[Mailbox], stream: TcpStream) {
+    for mailbox in loops {
+        if mailbox.clients() < FEW {
+            mailbox.hand_over(rt, stream);
+            return;
+        }
+    }
     let Some(fewest) = loops.iter().min_by_key(|mailbox| mailbox.clients()) else {
         return;
     };
