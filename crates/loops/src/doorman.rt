@@ -1,4 +1,4 @@
-ghost use Rattle.std.specs.Prelude.{◌≡◌, ◌↔◌, ◌-◌, true, None, Some, IfOk, IfSome};
+ghost use Rattle.std.specs.Prelude.{◌≡◌, ◌↔◌, ◌-◌, ◌*◌, min, true, None, Some, IfOk, IfSome};
 
 use crate::fault::ServeFault;
 use crate::mailbox::Mailbox;
@@ -12,16 +12,24 @@ use std::time::Duration;
 
 const LISTENER: Token = Token(1);
 
-/// So many milliseconds pass until it tries again where the system was short of something.
-const PAUSE: u64 = 100;
+/// So many milliseconds pass until it tries again where the system was short of something: twice as many each time, until
+/// somebody is let in.
+const FIRST_PAUSE: u64 = 100;
 
-/// Where clients come in, who are handed to the loop with the fewest.
+const LONGEST_PAUSE: u64 = 1000;
+
+/// While a loop has fewer clients than these, no other one is begun.
+const FEW: usize = 8;
+
+/// Where clients come in, who are handed to the loops.
 #[derive(Drop)]
 pub(crate) struct Doorman {
     poll: Poll,
     listener: TcpListener,
     /// So many more are let in; none where there is no end.
     left: Option<u32>,
+    /// The next pause, in milliseconds.
+    pause: u64,
 }
 
 impl Doorman {
@@ -36,6 +44,7 @@ impl Doorman {
             poll,
             listener,
             left,
+            pause: FIRST_PAUSE,
         })
     }
 
@@ -53,7 +62,7 @@ impl Doorman {
             timeout = match self.accept_all(rt, loops) {
                 Ok(()) => None,
                 Err(Trouble::Listener) => return Err(ServeFault::ListenFailed),
-                Err(Trouble::Shortage | Trouble::Connection) => Some(Duration::from_millis(PAUSE)),
+                Err(Trouble::Shortage | Trouble::Connection) => Some(self.next_pause()),
             };
             if self.is_full() {
                 return Ok(());
@@ -77,6 +86,16 @@ impl Doorman {
         self.left = self.left.map(|left| left.saturating_sub(1));
     }
 
+    // How long it waits now. The next time it is longer.
+    fn next_pause(&mut self) -> Duration
+        ensures longer { self.new.pause ≡ min (self.old.pause * 2) LONGEST_PAUSE }
+        ensures left { self.new.left ≡ self.old.left }
+    {
+        let pause = self.pause;
+        self.pause = pause.saturating_mul(2).min(LONGEST_PAUSE);
+        Duration::from_millis(pause)
+    }
+
     // Accepts until none waits, or as many have come as there was said. A connection that went wrong before it was accepted
     // counts for nothing.
     fn accept_all<R: Wait>(&mut self, rt: &R, loops: &[Mailbox]) -> Result<(), Trouble> {
@@ -86,6 +105,7 @@ impl Doorman {
             }
             match self.listener.accept() {
                 Ok((stream, _)) => {
+                    self.pause = FIRST_PAUSE;
                     if sends_at_once(&stream).unwrap_or(false) {
                         self.count_one();
                         hand_over(rt, loops, stream);
@@ -102,8 +122,15 @@ impl Doorman {
     }
 }
 
-// Hands the client to the loop with the fewest.
+// Hands the client to the first loop that has but few, or else to the one with the fewest: loops that have little to do wait
+// more for the lock than they save.
 fn hand_over<R: Wait>(rt: &R, loops: &[Mailbox], stream: TcpStream) {
+    for mailbox in loops {
+        if mailbox.clients() < FEW {
+            mailbox.hand_over(rt, stream);
+            return;
+        }
+    }
     let Some(fewest) = loops.iter().min_by_key(|mailbox| mailbox.clients()) else {
         return;
     };

@@ -7,7 +7,7 @@ use object::{Act, Object, Value};
 use std::alloc::{AllocError, Global};
 use turns::{Watch, settle};
 
-/// So many slots are forgotten at once.
+/// Once so many slots can be forgotten they are, also within a second.
 const FORGOTTEN_AT_ONCE: u64 = 256;
 
 /// So many seconds that were missed are made up under one hold of the lock.
@@ -94,7 +94,9 @@ impl<O: Object<Op = Op, Reply = Reply>> LoopDesk for ForgettingDesk<O> {
         self.hall.last_second()
     }
 
+    // What there is to forget is forgotten before, so that seconds alone leave nothing behind.
     fn tick(&mut self, second: u64, node: u8) {
+        self.hall.forget();
         for _ in 0..MOST_SECONDS {
             if self.hall.last_second() >= second || self.hall.tick(node).is_err() {
                 return;
