@@ -25,7 +25,7 @@ const WORKING: usize = 8;
 
 const CYCLES: usize = 20;
 
-/// So many come when all these are there.
+/// So many come when all these are there, of whom each is answered at once.
 const LATE: usize = 8;
 
 /// How many bytes the largest body has.
@@ -161,22 +161,6 @@ fn errands<H: Net<Listener = TcpListener, Stream = TcpStream> + Clock + AllocGlo
     Some(errands)
 }
 
-/// Those that come last, of whom each is answered at once.
-fn late<H: Net<Listener = TcpListener, Stream = TcpStream> + Clock + AllocGlobal>(
-    rt: &H,
-    port: u16,
-) -> Option<Vec<Client>> {
-    let mut clients = Vec::new(rt.alloc());
-    for _ in 0..LATE {
-        let mut client = Client::connect(rt, port)?;
-        if !client.is_told(b"list-tube-used\r\n", b"USING default\r\n") {
-            return None;
-        }
-        clients.push(client).ok()?;
-    }
-    Some(clients)
-}
-
 /// While 40 connections and some that don't read get nothing done, and 16 have begun with something, those that come are
 /// answered, and then those 16 get all their answers. When all have left, nothing is left of them.
 fn are_served<
@@ -185,7 +169,7 @@ fn are_served<
     let body = vec![in rt.alloc(); b'a'; LARGEST].ok()?;
     let idle = idle(rt, port, body.as_slice(), unread)?;
     let errands = errands(rt, port)?;
-    let late = late(rt, port)?;
+    let late = Client::connect_idle(rt, port, LATE)?;
     let done = thread::map_vec(rt, errands, &|errand| errand.is_done(rt, body.as_slice())).ok()?;
     let are_done = done.iter().all(|(_, is_done)| *is_done);
     drop(idle);

@@ -7,9 +7,9 @@ use std::thread;
 use std::thread::Threads;
 
 /// So many clients go through so many cycles each.
-const CLIENTS: usize = 8;
+const CLIENTS: usize = 16;
 
-const CYCLES: usize = 100;
+const CYCLES: usize = 50;
 
 /// Puts a job, reserves one and deletes it, and answers the number of the one that was reserved;
 /// none where a reply is another.

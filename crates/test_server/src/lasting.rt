@@ -1,5 +1,5 @@
 //! What is there still after some thousand commands.
-use crate::client::Client;
+use crate::client::{Client, FIRST_LOOP};
 use beanpax::Host;
 
 /// So many pass.
@@ -28,10 +28,11 @@ fn waiting<H: Host>(rt: &H, port: u16) -> Option<Client> {
     (has_asked && client.hears(b"WATCHING 2\r\nWATCHING 1\r\n")).then_some(client)
 }
 
-/// Whether the jobs are as they were, and the client that waits is answered, after many commands of another one.
+/// Whether the jobs are as they were, and the client that waits is answered, after many commands of one of another loop.
 pub fn are_there<H: Host>(rt: &H, port: u16) -> Option<bool> {
     let mut holding = holding(rt, port)?;
     let mut waiting = waiting(rt, port)?;
+    let _idle = Client::connect_idle(rt, port, FIRST_LOOP - 2)?;
     let mut asking = Client::connect(rt, port)?;
     let requests = REQUEST.repeat(rt.alloc(), COMMANDS).ok()?;
     let replies = REPLY.repeat(rt.alloc(), COMMANDS).ok()?;

@@ -1,13 +1,14 @@
 //! Clients that come one after another.
-use crate::client::Client;
+use crate::client::{Client, FIRST_LOOP};
 use beanpax::Host;
 
 /// So many come.
 const CLIENTS: usize = 40;
 
-/// Whether each gets the job that the one before had when it left, by a quit or without a word.
+/// Whether each gets the job that the one before had when it left, by a quit or without a word. The first has another loop.
 pub fn is_passed_on<H: Host>(rt: &H, port: u16) -> Option<bool> {
     let mut first = Client::connect(rt, port)?;
+    let _idle = Client::connect_idle(rt, port, FIRST_LOOP - 1)?;
     if !first.is_told(b"put 0 0 600 3\r\njob\r\n", b"INSERTED 1\r\n") {
         return Some(false);
     }

@@ -22,7 +22,7 @@ pub enum Talk {
     HalfClosed,
     /// One sends many requests at once.
     Flood,
-    /// Eight put, reserve and delete at once.
+    /// Many put, reserve and delete at once.
     Cycles,
     /// A job is passed on from one to the next.
     PassedOn,

@@ -35,11 +35,11 @@ static FEW_COMMANDS: [Row; 7] = [
     },
     Row {
         talk: Talk::PassedOn,
-        options: "--sessions 41 --workers 2 --nodes 3",
+        options: "--sessions 48 --workers 2 --nodes 3",
     },
     Row {
         talk: Talk::Seconds,
-        options: "--sessions 2 --workers 2 --nodes 1",
+        options: "--sessions 9 --workers 2 --nodes 1",
     },
 ];
 
@@ -79,11 +79,11 @@ static MANY_COMMANDS: [Row; 4] = [
     },
     Row {
         talk: Talk::Cycles,
-        options: "--sessions 9 --workers 8 --nodes 3",
+        options: "--sessions 17 --workers 2 --nodes 3",
     },
     Row {
         talk: Talk::Lasting,
-        options: "--sessions 3 --workers 2 --nodes 3",
+        options: "--sessions 9 --workers 2 --nodes 3",
     },
 ];
 
