@@ -52,7 +52,7 @@ module _ {T : Type 0} (keeping : Keeping T) (laws : KeepsActs keeping) (fed give
   Was stage acts = Stands stage old.session fed acts (given ++ old.session.unsent)
 
   -- the operation is asked, or answered as refused
-  asks_so : {D : Type 0} (submits : Submits D) (before after : D) (op : Op) (acts : List (NotedAct Op Reply)) → keeping.IsOf old.ticket acts
+  asks_so : {D : Type 0} (submits : Submits D T) (before after : D) (op : Op) (acts : List (NotedAct Op Reply)) → keeping.IsOf old.ticket acts
       → AsksOp keeping submits before after op old new → Was (Found op) acts → Converses keeping fed given new
   unfolding Converses
   asks_so submits before after op acts k (inl asked) a =
@@ -67,7 +67,7 @@ module _ {T : Type 0} (keeping : Keeping T) (laws : KeepsActs keeping) (fed give
             (subst (λ u. Along fed (acts ++ []) u (StandsBefore old.session)) (append_assoc given old.session.unsent refused_text) told),
       )
 
-  handed_so : {D : Type 0} (submits : Submits D) (before after : D) (stage : Stage) (result : Result Unit HallError)
+  handed_so : {D : Type 0} (submits : Submits D T) (before after : D) (stage : Stage) (result : Result Unit HallError)
       → old.stage ≡ stage → HandsIn keeping submits before after old new result → (acts : List (NotedAct Op Reply)) → keeping.IsOf old.ticket acts
       → Was stage acts → Converses keeping fed given old → Converses keeping fed given new
   unfolding Converses
@@ -81,7 +81,7 @@ module _ {T : Type 0} (keeping : Keeping T) (laws : KeepsActs keeping) (fed give
   handed_so submits before after Asked result is h acts k a c = same old (h.idle (ap hands_in is)).2 c
   handed_so submits before after (Left how) result is h acts k a c = same old (h.idle (ap hands_in is)).2 c
 
-  pub goes_handing_in : {D : Type 0} (submits : Submits D) (before after : D) (result : Result Unit HallError)
+  pub goes_handing_in : {D : Type 0} (submits : Submits D T) (before after : D) (result : Result Unit HallError)
       → HandsIn keeping submits before after old new result → Converses keeping fed given old → Converses keeping fed given new
   unfolding Converses
   goes_handing_in submits before after result h c = handed_so submits before after old.stage result refl h c.0 c.1 c.2 c

@@ -15,9 +15,9 @@ use Rattle.conversation.specs.declared.stage.Stage.TheVariants.{Looking, Found, 
 use Rattle.conversation.specs.Keeping.{Keeping}
 use Rattle.conversation.specs.Talks.{ConversationState, is_awaiting}
 
--- a desk by what is submitted there: it before, the act, the result, and it after
-abbrev pub Submits : Type 0 → Type 1
-Submits D = D → Act Op → Result Unit HallError → D → Type 0
+-- a desk by what is submitted there: it before, the ticket, its session's next act, the result, and it after
+abbrev pub Submits : Type 0 → Type 0 → Type 1
+Submits D T = D → T → Act Op → Result Unit HallError → D → Type 0
 
 -- there is something to hand in
 abbrev pub hands_in : Stage → Bool
@@ -42,22 +42,22 @@ abbrev pub giving_up : {T : Type 0} → ConversationState T → ConversationStat
 giving_up talk = record talk { stage = Leaving None }
 
 -- it was submitted, and is asked; or memory was refused to it, and it is answered so
-abbrev pub AsksOp : {D T : Type 0} → Keeping T → Submits D → D → D → Op → ConversationState T → ConversationState T → Type 0
+abbrev pub AsksOp : {D T : Type 0} → Keeping T → Submits D T → D → D → Op → ConversationState T → ConversationState T → Type 0
 AsksOp keeping submits before after op old new =
-    (submits before (Do op) (Ok tt) after × (new ≡ asking keeping op old))
-    ⊎ (submits before (Do op) (Err OutOfMemory) after × (new ≡ answering refused_text old))
+    (submits before old.ticket (Do op) (Ok tt) after × (new ≡ asking keeping op old))
+    ⊎ (submits before old.ticket (Do op) (Err OutOfMemory) after × (new ≡ answering refused_text old))
 
 -- What was handed in at a desk that was so before and after, each act by one submission.
-pub record HandsIn {D T : Type 0} (keeping : Keeping T) (submits : Submits D) (before after : D) (old new : ConversationState T)
+pub record HandsIn {D T : Type 0} (keeping : Keeping T) (submits : Submits D T) (before after : D) (old new : ConversationState T)
     (result : Result Unit HallError) : Type 0 where
   -- the operation that was found
   pub asks : (op : Op) → old.stage ≡ Found op → OnOk result (AsksOp keeping submits before after op old new)
   -- at another refusal the client is given up
-  pub gives_up : (op : Op) → old.stage ≡ Found op → IfErr result (λ error. submits before (Do op) (Err error) after × (new ≡ giving_up old))
+  pub gives_up : (op : Op) → old.stage ≡ Found op → IfErr result (λ error. submits before old.ticket (Do op) (Err error) after × (new ≡ giving_up old))
   -- the session's end
-  pub closes : (how : Option End) → old.stage ≡ Leaving how → OnOk result (submits before Close (Ok tt) after × (new ≡ closing keeping how old))
+  pub closes : (how : Option End) → old.stage ≡ Leaving how → OnOk result (submits before old.ticket Close (Ok tt) after × (new ≡ closing keeping how old))
   -- where that is refused, it is owed still
-  pub owes : (how : Option End) → old.stage ≡ Leaving how → IfErr result (λ error. submits before Close (Err error) after × (new ≡ old))
+  pub owes : (how : Option End) → old.stage ≡ Leaving how → IfErr result (λ error. submits before old.ticket Close (Err error) after × (new ≡ old))
   -- and else nothing
   pub idle : hands_in old.stage ≡ false → (result ≡ Ok tt) × (after ≡ before) × (new ≡ old)
 

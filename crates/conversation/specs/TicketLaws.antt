@@ -6,9 +6,9 @@ use Rattle.std.proofs.Math.Seq.{get_or-append_seam}
 use Rattle.bean_queue.specs.declared.op.Op.{Op}
 use Rattle.bean_queue.specs.declared.reply.Reply.{Reply}
 use Rattle.hall.specs.declared.ticket.NotedAct.{NotedAct}
-use Rattle.hall.specs.Tickets.{noted_reply, with_last_reply}
+use Rattle.hall.specs.Tickets.{TicketState, noted_reply, with_last_reply, with_noted}
 use Rattle.conversation.specs.Keeping.{KeepsActs, noted_op, unanswered}
-use Rattle.conversation.specs.Tickets.{keeping_all, keeping_last, last_of}
+use Rattle.conversation.specs.Tickets.{LeanTicketState, keeping_all, keeping_last, last_of, lean_with_noted}
 
 -- the last of a list that ends so
 last_of-append : (acts : List (NotedAct Op Reply)) (a : NotedAct Op Reply) → last_of (acts ++ a ∷ []) ≡ Some a
@@ -24,6 +24,15 @@ with_last_reply-append [] a reply = refl
 with_last_reply-append (b ∷ []) a reply = refl
 with_last_reply-append (b ∷ c ∷ more) a reply = ap (λ (acts : List (NotedAct Op Reply)). b ∷ acts) (with_last_reply-append (c ∷ more) a reply)
 
+-- a note leaves the session as it is
+all_stays : (t : TicketState Op Reply) (reply : Option Reply) → (with_noted t reply).session ≡ t.session
+all_stays t None = refl
+all_stays t (Some reply) = refl
+
+lean_stays : (t : LeanTicketState) (reply : Option Reply) → (lean_with_noted t reply).session ≡ t.session
+lean_stays t None = refl
+lean_stays t (Some reply) = refl
+
 pub keeps_all : KeepsActs keeping_all
 keeps_all = record {
   adds = λ t acts act is. ap (λ (acts : List (NotedAct Op Reply)). acts ++ unanswered act ∷ []) is;
@@ -32,6 +41,8 @@ keeps_all = record {
   leaves = λ t. refl;
   tells = λ t before op last is.
       ap (λ (acts : List (NotedAct Op Reply)). noted_reply (last_of acts)) is ∙ ap noted_reply (last_of-append before (noted_op op last));
+  stays_with_act = λ t act. refl;
+  stays_with_noted = all_stays;
 }
 
 pub keeps_last : KeepsActs keeping_last
@@ -40,4 +51,6 @@ keeps_last = record {
   notes = λ t before op last reply is. sym (ap noted_reply (last_of-append before (noted_op op (Some reply))));
   leaves = λ t. refl;
   tells = λ t before op last is. is ∙ ap noted_reply (last_of-append before (noted_op op last));
+  stays_with_act = λ t act. refl;
+  stays_with_noted = lean_stays;
 }

@@ -12,6 +12,7 @@ abbrev pub keeping_all : Keeping (TicketState Op Reply)
 keeping_all = record {
   with_act = with_act;
   with_noted = with_noted;
+  session = λ t. t.session;
   last_reply = λ t. noted_reply (last_noted t);
   IsOf = λ t acts. t.acts ≡ acts;
 }
@@ -39,6 +40,7 @@ abbrev pub keeping_last : Keeping LeanTicketState
 keeping_last = record {
   with_act = lean_with_act;
   with_noted = lean_with_noted;
+  session = λ t. t.session;
   last_reply = λ t. t.reply;
   IsOf = λ t acts. t.reply ≡ noted_reply (last_of acts);
 }

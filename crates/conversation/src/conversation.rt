@@ -214,7 +214,7 @@ impl<T: SessionTicket> Conversation<T> {
     fn hand_in_op<D: Desk<Ticket = T>>(&mut self, desk: &mut D, op: Op) -> Result<(), HallError>
         requires { self.old.session.is_open ≡ true }
         ensures ok { OnOk result (AsksOp T.keeping D.submits desk.old desk.new op self.old self.new) }
-        ensures err { IfErr result (λ error. D.submits desk.old (Do op) (Err error) desk.new
+        ensures err { IfErr result (λ error. D.submits desk.old self.old.ticket (Do op) (Err error) desk.new
             × (self.new ≡ self.old)) }
     {
         match desk.submit(&mut self.ticket, Act::Do(op)) {
@@ -237,9 +237,9 @@ impl<T: SessionTicket> Conversation<T> {
         desk: &mut D,
         how: Option<End>,
     ) -> Result<(), HallError>
-        ensures ok { OnOk result (D.submits desk.old Close (Ok tt) desk.new
+        ensures ok { OnOk result (D.submits desk.old self.old.ticket Close (Ok tt) desk.new
             × (self.new ≡ closing T.keeping how self.old)) }
-        ensures err { IfErr result (λ error. D.submits desk.old Close (Err error) desk.new
+        ensures err { IfErr result (λ error. D.submits desk.old self.old.ticket Close (Err error) desk.new
             × (self.new ≡ record self.old { stage = Leaving how })) }
     {
         match desk.submit(&mut self.ticket, Act::Close) {

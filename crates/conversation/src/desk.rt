@@ -15,15 +15,15 @@ pub trait Desk {
     /// What a session keeps of its acts.
     type Ticket: SessionTicket;
 
-    // It before, the act that is submitted, the result, and it after.
-    ghost submits: { Self → Act Op → Result Unit HallError → Self → Type 0 };
+    // It before, the ticket, the act that its session submits next, the result, and it after.
+    ghost submits: { Self → Self.Ticket → Act Op → Result Unit HallError → Self → Type 0 };
 
     // The reply that is there to be noted in a ticket.
     ghost to_note: { Self → Self.Ticket → Option Reply };
 
     /// The ticket's session hands in its next act.
     fn submit(&mut self, ticket: &mut Self::Ticket, act: Act<Op>) -> Result<(), HallError>
-        ensures submitted { submits self.old act result self.new }
+        ensures submitted { submits self.old ticket.old act result self.new }
         ensures ok { OnOk result (ticket.new ≡ Self.Ticket.keeping.with_act ticket.old act) }
         ensures kept { OnErr result (ticket.new ≡ ticket.old) };
 

@@ -11,7 +11,8 @@ pub trait SessionTicket: Drop {
     ghost keeping: { Keeping Self };
 
     /// The number of the session.
-    fn session(&self) -> u32;
+    fn session(&self) -> u32
+        ensures { result ≡ keeping.session self.now };
 
     /// The reply that is noted for its last act.
     fn noted(&self) -> Option<&Reply>

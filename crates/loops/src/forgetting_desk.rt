@@ -44,12 +44,15 @@ impl<O: Object> ForgettingDesk<O> {
 impl<O: Object<Op = Op, Reply = Reply>> Desk for ForgettingDesk<O> {
     type Ticket = LeanTicket;
 
-    ghost use Rattle.std.specs.Prelude.{◌≡◌, ◌+◌, OnOk, OnErr};
-    ghost use Rattle.forgetting_hall.specs.Handing.{reply_of};
+    ghost use Rattle.std.specs.Prelude.{◌≡◌, OnOk, OnErr};
+    ghost use Rattle.forgetting_hall.specs.Halls.{rest_of_hall};
+    ghost use Rattle.forgetting_hall.specs.Handing.{next_of, reply_of};
+    ghost use Rattle.forgetting_hall.specs.Rests.{handed_in};
 
-    // One command more was handed in, or nothing happened.
-    ghost submits = { λ old act result new.
-        OnOk result (new.hall.summary.submitted ≡ old.hall.summary.submitted + 1)
+    // The session's next command was handed in with this act, or nothing happened.
+    ghost submits = { λ old ticket act result new.
+        OnOk result (rest_of_hall O.rules new.hall ≡ handed_in O.rules
+        (rest_of_hall O.rules old.hall) old.node (next_of old.hall ticket.session act))
         × OnErr result (new.hall ≡ old.hall) };
 
     // The reply that the hall has for the session's last command.

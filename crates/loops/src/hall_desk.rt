@@ -91,7 +91,7 @@ impl<O: Object<Op = Op, Reply = Reply>> Desk for HallDesk<O> {
     ghost use Rattle.hall.specs.Halls.{to_note};
 
     // One command more was handed in, or none.
-    ghost submits = { λ old act result new. OnOk result (new.handed_in ≡ old.handed_in + 1)
+    ghost submits = { λ old ticket act result new. OnOk result (new.handed_in ≡ old.handed_in + 1)
         × OnErr result (new.handed_in ≡ old.handed_in) };
 
     ghost to_note = { λ desk ticket. to_note desk.hall ticket };

@@ -36,7 +36,7 @@ impl<O: Object> OneForgettingNode<O> {
 impl<O: Object<Op = Op, Reply = Reply>> Desk for OneForgettingNode<O> {
     type Ticket = LeanTicket;
 
-    ghost submits = { λ _ _ _ _. Unit {0} };
+    ghost submits = { λ _ _ _ _ _. Unit {0} };
 
     ghost to_note = { λ d t. reply_of d.hall t.session };
 

@@ -33,7 +33,7 @@ impl<O: Object> OneNode<O> {
 impl<O: Object<Op = Op, Reply = Reply>> Desk for OneNode<O> {
     type Ticket = Ticket<O>;
 
-    ghost submits = { λ _ _ _ _. Unit {0} };
+    ghost submits = { λ _ _ _ _ _. Unit {0} };
 
     ghost to_note = { λ d t. to_note d.hall t };
 

@@ -1,4 +1,4 @@
-ghost use Rattle.std.specs.Prelude.{[]};
+ghost use Rattle.std.specs.Prelude.{[], ◌∷◌};
 
 use super::ForgettingHall;
 use ballot::Slot;
@@ -10,8 +10,8 @@ use turns::Nodes;
 
 /// Its nodes take turns as those of a hall that keeps all.
 impl<O: Object> Nodes for ForgettingHall<O> {
-    // It keeps no book.
-    ghost handed_in = { λ hall. [] };
+    // How many commands all sessions and the clock handed in, and how many sessions were opened.
+    ghost handed_in = { λ hall. hall.summary.submitted ∷ hall.opened ∷ [] };
 
     fn count(&self) -> u8 {
         self.members().count()
