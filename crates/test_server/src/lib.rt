@@ -3,7 +3,7 @@
 #![tactic(auto)]
 
 #[cfg(test)]
-mod address_rows;
+mod address;
 #[cfg(test)]
 mod client;
 #[cfg(test)]
@@ -11,22 +11,38 @@ mod clock_rows;
 #[cfg(test)]
 mod crowd_rows;
 #[cfg(test)]
-mod cycle_rows;
+mod cycles;
 #[cfg(test)]
 mod dump_rows;
 #[cfg(test)]
 mod end_rows;
 #[cfg(test)]
-mod flood_rows;
+mod flood;
 #[cfg(test)]
-mod half_closed_rows;
+mod half_closed;
 #[cfg(test)]
-mod killed_rows;
+mod kept;
+#[cfg(test)]
+mod killed;
+#[cfg(test)]
+mod last_client;
+#[cfg(test)]
+mod lasting;
+#[cfg(test)]
+mod leaving;
+#[cfg(test)]
+mod passed_on;
 #[cfg(test)]
 mod resources;
 #[cfg(test)]
-mod session_rows;
+mod seconds;
 #[cfg(test)]
 mod started;
+#[cfg(test)]
+mod talk;
+#[cfg(test)]
+mod talk_rows;
+#[cfg(test)]
+mod two_clients;
 #[cfg(test)]
 mod warning_rows;
