@@ -1,6 +1,6 @@
 //! How long a server's seconds are.
 use crate::client::Client;
-use crate::kept::{BOTH, GOOD};
+use crate::kept::{BOTH, GOOD, Kept, Outcome};
 use crate::started::{free_port, start, words};
 use beanpax::{Host, no_sockets};
 use std::test::Fail;
@@ -47,27 +47,32 @@ static TALKS: [&[Exchange]; 2] = [
     ],
 ];
 
+/// What comes of a server with such a hall, whose clients have to be told this in three seconds and more.
+fn outcome_of<H: Host>(rt: &H, kept: Kept, talk: &'static [Exchange]) -> Result<Outcome, Fail> {
+    let port = free_port(rt)?;
+    let options = format!(in rt.alloc(); "--sessions {} --nodes 1", talk.len())?;
+    let words = kept.words(rt.alloc(), port, options.as_str())?;
+    let before = Instant::now(rt)?;
+    let (ended, waited) = thread::join(
+        rt,
+        || {
+            let _sockets = no_sockets();
+            start(rt, words.as_slice())
+        },
+        || {
+            let _sockets = no_sockets();
+            waited(rt, port, before, talk)
+        },
+    );
+    kept.outcome(rt, port, &ended, waited.map(is_long))
+}
+
 #[test]
 fn three_seconds_are_three_of_the_clock(rt: HostRuntime) -> Result<(), Fail> {
     let _sockets = no_sockets();
-    for talk in &TALKS {
+    for talk in TALKS {
         for kept in BOTH {
-            let port = free_port(&rt)?;
-            let options = format!(in rt.alloc(); "--sessions {} --nodes 1", talk.len())?;
-            let words = kept.words(rt.alloc(), port, options.as_str())?;
-            let before = Instant::now(&rt)?;
-            let (ended, waited) = thread::join(
-                &rt,
-                || {
-                    let _sockets = no_sockets();
-                    start(&rt, words.as_slice())
-                },
-                || {
-                    let _sockets = no_sockets();
-                    waited(&rt, port, before, talk)
-                },
-            );
-            let outcome = kept.outcome(&rt, port, &ended, waited.map(is_long))?;
+            let outcome = outcome_of(&rt, kept, talk)?;
             assert_eq!(rt; outcome, GOOD, "{kept:?}");
         }
     }

@@ -1,8 +1,8 @@
 //! What clients are told that a server serves, over a hall that forgets and over one that keeps all.
-use crate::kept::{BOTH, GOOD};
+use crate::kept::{BOTH, GOOD, Kept, Outcome};
 use crate::started::{free_port, start};
 use crate::talk::Talk;
-use beanpax::no_sockets;
+use beanpax::{Host, no_sockets};
 use std::test::Fail;
 use std::thread;
 
@@ -10,6 +10,24 @@ use std::thread;
 struct Row {
     talk: Talk,
     options: &'static str,
+}
+
+/// What comes of a server with such a hall, whose clients talk so.
+fn outcome_of<H: Host>(rt: &H, kept: Kept, talk: Talk, options: &str) -> Result<Outcome, Fail> {
+    let port = free_port(rt)?;
+    let words = kept.words(rt.alloc(), port, options)?;
+    let (ended, is_right) = thread::join(
+        rt,
+        || {
+            let _sockets = no_sockets();
+            start(rt, words.as_slice())
+        },
+        || {
+            let _sockets = no_sockets();
+            talk.is_right(rt, port)
+        },
+    );
+    kept.outcome(rt, port, &ended, is_right)
 }
 
 static FEW_COMMANDS: [Row; 7] = [
@@ -48,20 +66,7 @@ fn clients_are_told_the_same_over_both_halls(rt: HostRuntime) -> Result<(), Fail
     let _sockets = no_sockets();
     for row in &FEW_COMMANDS {
         for kept in BOTH {
-            let port = free_port(&rt)?;
-            let words = kept.words(rt.alloc(), port, row.options)?;
-            let (ended, is_right) = thread::join(
-                &rt,
-                || {
-                    let _sockets = no_sockets();
-                    start(&rt, words.as_slice())
-                },
-                || {
-                    let _sockets = no_sockets();
-                    row.talk.is_right(&rt, port)
-                },
-            );
-            let outcome = kept.outcome(&rt, port, &ended, is_right)?;
+            let outcome = outcome_of(&rt, kept, row.talk, row.options)?;
             assert_eq!(rt; outcome, GOOD, "{:?} {kept:?}", row.talk);
         }
     }
@@ -92,20 +97,7 @@ fn many_commands_are_answered_over_both_halls(rt: HostRuntime) -> Result<(), Fai
     let _sockets = no_sockets();
     for row in &MANY_COMMANDS {
         for kept in BOTH {
-            let port = free_port(&rt)?;
-            let words = kept.words(rt.alloc(), port, row.options)?;
-            let (ended, is_right) = thread::join(
-                &rt,
-                || {
-                    let _sockets = no_sockets();
-                    start(&rt, words.as_slice())
-                },
-                || {
-                    let _sockets = no_sockets();
-                    row.talk.is_right(&rt, port)
-                },
-            );
-            let outcome = kept.outcome(&rt, port, &ended, is_right)?;
+            let outcome = outcome_of(&rt, kept, row.talk, row.options)?;
             assert_eq!(rt; outcome, GOOD, "{:?} {kept:?}", row.talk);
         }
     }
