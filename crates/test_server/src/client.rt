@@ -15,9 +15,6 @@ const LOOKS: u32 = 1000;
 /// So many seconds a client waits for a reply.
 const PATIENCE: u64 = 30;
 
-/// A loop of a server has so many clients before the next one is begun.
-pub const FIRST_LOOP: usize = 8;
-
 /// A connection to a server at the loopback.
 #[derive(Drop)]
 pub struct Client {
@@ -43,23 +40,6 @@ impl Client {
             thread::sleep(rt, Duration::from_millis(10));
         }
         None
-    }
-
-    /// So many clients that have been answered, and send nothing more.
-    pub fn connect_idle<H: Net<Listener = TcpListener, Stream = TcpStream> + Clock + AllocGlobal>(
-        rt: &H,
-        port: u16,
-        count: usize,
-    ) -> Option<Vec<Client>> {
-        let mut clients = Vec::new(rt.alloc());
-        for _ in 0..count {
-            let mut client = Client::connect(rt, port)?;
-            if !client.is_told(b"list-tube-used\r\n", b"USING default\r\n") {
-                return None;
-            }
-            clients.push(client).ok()?;
-        }
-        Some(clients)
     }
 
     /// Sends these bytes, and answers whether all went out.

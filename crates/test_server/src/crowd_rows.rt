@@ -1,9 +1,8 @@
 //! Connections that get nothing done, while others work.
 use crate::client::Client;
-use crate::cycles::cycle;
-use crate::kept::{GOOD, Kept};
+use crate::cycle_rows::cycle;
 use crate::resources::{comes_back, in_use};
-use crate::started::{free_port, start};
+use crate::started::{free_port, start, words};
 use beanpax::no_sockets;
 use std::net::{Net, TcpListener, TcpStream};
 use std::rt::Clock;
@@ -17,6 +16,9 @@ const SILENT: usize = 20;
 /// So many send half a command.
 const HALFWAY: usize = 20;
 
+/// So many don't read what they ask for.
+const UNREADING: usize = 8;
+
 /// These send a body in pieces: of how many bytes each.
 const PIECES: [usize; 8] = [1, 1, 7, 7, 64, 64, 512, 512];
 
@@ -25,7 +27,7 @@ const WORKING: usize = 8;
 
 const CYCLES: usize = 20;
 
-/// So many come when all these are there, of whom each is answered at once.
+/// So many come when all these are there.
 const LATE: usize = 8;
 
 /// How many bytes the largest body has.
@@ -126,12 +128,11 @@ fn working<H: Net<Listener = TcpListener, Stream = TcpStream> + Clock + AllocGlo
     Some(client)
 }
 
-/// Those that get nothing done, of whom so many don't read what they ask for.
+/// Those that get nothing done.
 fn idle<H: Net<Listener = TcpListener, Stream = TcpStream> + Clock + AllocGlobal>(
     rt: &H,
     port: u16,
     body: &[u8],
-    unread: usize,
 ) -> Option<Vec<Client>> {
     let mut clients = Vec::new(rt.alloc());
     for _ in 0..SILENT {
@@ -140,7 +141,7 @@ fn idle<H: Net<Listener = TcpListener, Stream = TcpStream> + Clock + AllocGlobal
     for _ in 0..HALFWAY {
         clients.push(halfway(rt, port)?).ok()?;
     }
-    for _ in 0..unread {
+    for _ in 0..UNREADING {
         clients.push(unreading(rt, port, body)?).ok()?;
     }
     Some(clients)
@@ -161,15 +162,31 @@ fn errands<H: Net<Listener = TcpListener, Stream = TcpStream> + Clock + AllocGlo
     Some(errands)
 }
 
-/// While 40 connections and some that don't read get nothing done, and 16 have begun with something, those that come are
-/// answered, and then those 16 get all their answers. When all have left, nothing is left of them.
+/// Those that come last, of whom each is answered at once.
+fn late<H: Net<Listener = TcpListener, Stream = TcpStream> + Clock + AllocGlobal>(
+    rt: &H,
+    port: u16,
+) -> Option<Vec<Client>> {
+    let mut clients = Vec::new(rt.alloc());
+    for _ in 0..LATE {
+        let mut client = Client::connect(rt, port)?;
+        if !client.is_told(b"list-tube-used\r\n", b"USING default\r\n") {
+            return None;
+        }
+        clients.push(client).ok()?;
+    }
+    Some(clients)
+}
+
+/// While 48 connections get nothing done and 16 have begun with something, those that come are answered, and then those 16 get
+/// all their answers. When all have left, nothing is left of them.
 fn are_served<
     H: Net<Listener = TcpListener, Stream = TcpStream> + Clock + AllocGlobal + Threads + Sync,
->(rt: &H, port: u16, unread: usize) -> Option<bool> {
+>(rt: &H, port: u16) -> Option<bool> {
     let body = vec![in rt.alloc(); b'a'; LARGEST].ok()?;
-    let idle = idle(rt, port, body.as_slice(), unread)?;
+    let idle = idle(rt, port, body.as_slice())?;
     let errands = errands(rt, port)?;
-    let late = Client::connect_idle(rt, port, LATE)?;
+    let late = late(rt, port)?;
     let done = thread::map_vec(rt, errands, &|errand| errand.is_done(rt, body.as_slice())).ok()?;
     let are_done = done.iter().all(|(_, is_done)| *is_done);
     drop(idle);
@@ -189,32 +206,27 @@ fn are_gone<H: Net<Listener = TcpListener, Stream = TcpStream> + Clock + AllocGl
     }
 }
 
-/// What the hall keeps, how many clients don't read what they ask for, and how many connections there are. What is asked for is
-/// in a dump, too.
-static ROWS: [(Kept, usize, u32); 2] = [(Kept::Rest, 8, 73), (Kept::All, 1, 66)];
-
 #[test]
 fn who_works_is_answered_amid_a_crowd(rt: HostRuntime) -> Result<(), Fail> {
     let _sockets = no_sockets();
+    let port = free_port(&rt)?;
     let before = in_use(&rt)?;
-    for (kept, unread, sessions) in &ROWS {
-        let port = free_port(&rt)?;
-        let options = format!(in rt.alloc(); "--sessions {sessions} --workers 2 --nodes 3")?;
-        let words = kept.words(rt.alloc(), port, options.as_str())?;
-        let (ended, are_served) = thread::join(
-            &rt,
-            || {
-                let _sockets = no_sockets();
-                start(&rt, words.as_slice())
-            },
-            || {
-                let _sockets = no_sockets();
-                are_served(&rt, port, *unread)
-            },
-        );
-        let outcome = kept.outcome(&rt, port, &ended, are_served)?;
-        assert_eq!(rt; outcome, GOOD, "{kept:?}");
-        assert!(rt; comes_back(&rt, before)?, "{kept:?}");
-    }
+    let line = format!(in rt.alloc(); "serve --sessions 73 --workers 2 --nodes 3 --port {port}")?;
+    let words = words(rt.alloc(), line.as_str())?;
+    let (ended, served) = thread::join(
+        &rt,
+        || {
+            let _sockets = no_sockets();
+            start(&rt, words.as_slice())
+        },
+        || {
+            let _sockets = no_sockets();
+            are_served(&rt, port)
+        },
+    );
+    assert_eq!(rt; served, Some(true));
+    assert_eq!(rt; ended.status, 0);
+    assert!(rt; ended.errors.bytes().is_empty());
+    assert!(rt; comes_back(&rt, before)?);
     Ok(())
 }

@@ -3,7 +3,7 @@
 #![tactic(auto)]
 
 #[cfg(test)]
-mod address;
+mod address_rows;
 #[cfg(test)]
 mod client;
 #[cfg(test)]
@@ -11,38 +11,22 @@ mod clock_rows;
 #[cfg(test)]
 mod crowd_rows;
 #[cfg(test)]
-mod cycles;
+mod cycle_rows;
 #[cfg(test)]
 mod dump_rows;
 #[cfg(test)]
 mod end_rows;
 #[cfg(test)]
-mod flood;
+mod flood_rows;
 #[cfg(test)]
-mod half_closed;
+mod half_closed_rows;
 #[cfg(test)]
-mod kept;
-#[cfg(test)]
-mod killed;
-#[cfg(test)]
-mod last_client;
-#[cfg(test)]
-mod lasting;
-#[cfg(test)]
-mod leaving;
-#[cfg(test)]
-mod passed_on;
+mod killed_rows;
 #[cfg(test)]
 mod resources;
 #[cfg(test)]
-mod seconds;
+mod session_rows;
 #[cfg(test)]
 mod started;
-#[cfg(test)]
-mod talk;
-#[cfg(test)]
-mod talk_rows;
-#[cfg(test)]
-mod two_clients;
 #[cfg(test)]
 mod warning_rows;

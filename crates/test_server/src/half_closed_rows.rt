@@ -1,6 +1,8 @@
 //! Clients that close their writing half, and read on.
 use crate::client::Client;
-use beanpax::Host;
+use crate::started::{free_port, start, words};
+use beanpax::{Host, no_sockets};
+use std::test::Fail;
 use std::thread;
 use std::time::Duration;
 
@@ -63,12 +65,34 @@ fn is_given<H: Host>(rt: &H, port: u16) -> Option<bool> {
     Some(is_put && there.is_told(b"reserve\r\n", b"RESERVED 1 3\r\njob\r\n"))
 }
 
-/// Whether all of them are answered and let go, and nothing is given to them then.
-pub fn are_let_go<H: Host>(rt: &H, port: u16) -> Option<bool> {
+fn talk<H: Host>(rt: &H, port: u16) -> Option<bool> {
     Some(
         are_answered(rt, port)?
             && is_let_go(rt, port, 0)?
             && is_let_go(rt, port, ARRIVED)?
             && is_given(rt, port)?,
     )
+}
+
+#[test]
+fn who_sends_nothing_more_is_answered_and_let_go(rt: HostRuntime) -> Result<(), Fail> {
+    let _sockets = no_sockets();
+    let port = free_port(&rt)?;
+    let line = format!(in rt.alloc(); "serve --sessions 12 --workers 1 --nodes 3 --port {port}")?;
+    let words = words(rt.alloc(), line.as_str())?;
+    let (ended, talked) = thread::join(
+        &rt,
+        || {
+            let _sockets = no_sockets();
+            start(&rt, words.as_slice())
+        },
+        || {
+            let _sockets = no_sockets();
+            talk(&rt, port)
+        },
+    );
+    assert_eq!(rt; talked, Some(true));
+    assert_eq!(rt; ended.status, 0);
+    assert!(rt; ended.errors.bytes().is_empty());
+    Ok(())
 }

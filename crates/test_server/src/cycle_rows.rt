@@ -1,15 +1,18 @@
 //! Clients that put, reserve and delete at once.
 use crate::client::Client;
+use crate::started::{free_port, start, words};
+use beanpax::no_sockets;
 use std::alloc::AllocError;
 use std::net::{Net, TcpListener, TcpStream};
 use std::rt::Clock;
+use std::test::Fail;
 use std::thread;
 use std::thread::Threads;
 
 /// So many clients go through so many cycles each.
-const CLIENTS: usize = 16;
+const CLIENTS: usize = 8;
 
-const CYCLES: usize = 50;
+const CYCLES: usize = 100;
 
 /// Puts a job, reserves one and deletes it, and answers the number of the one that was reserved;
 /// none where a reply is another.
@@ -52,19 +55,45 @@ fn jobs<H: Net<Listener = TcpListener, Stream = TcpStream> + Clock + AllocGlobal
     Ok(jobs)
 }
 
-/// Whether all clients get all their answers, no job is given to two of them, and one that comes after them finds none.
-pub fn is_given_once<
+/// The jobs that all clients reserved, in order, and whether one that comes after them finds none.
+fn all_jobs<
     H: Net<Listener = TcpListener, Stream = TcpStream> + Clock + AllocGlobal + Threads + Sync,
->(rt: &H, port: u16) -> Option<bool> {
-    let reserved = thread::map_indices(rt, rt.alloc(), CLIENTS, &|_| jobs(rt, port)).ok()?;
+>(rt: &H, port: u16) -> Result<(Vec<u64>, bool), AllocError> {
+    let reserved = thread::map_indices(rt, rt.alloc(), CLIENTS, &|_| jobs(rt, port))?;
     let mut all = Vec::new(rt.alloc());
     for one in reserved {
-        for id in one.ok()?.iter() {
-            all.push(*id).ok()?;
+        for id in one?.iter() {
+            all.push(*id)?;
         }
     }
     all.sort_unstable();
-    let mut last = Client::connect(rt, port)?;
-    let is_empty = last.is_told(b"reserve-with-timeout 0\r\n", b"TIMED_OUT\r\n");
-    Some(is_empty && all.iter().copied().eq(1..=800))
+    let is_empty = match Client::connect(rt, port) {
+        Some(mut last) => last.is_told(b"reserve-with-timeout 0\r\n", b"TIMED_OUT\r\n"),
+        None => false,
+    };
+    Ok((all, is_empty))
+}
+
+#[test]
+fn no_job_is_given_twice(rt: HostRuntime) -> Result<(), Fail> {
+    let _sockets = no_sockets();
+    let port = free_port(&rt)?;
+    let line = format!(in rt.alloc(); "serve --sessions 9 --workers 8 --nodes 3 --port {port}")?;
+    let words = words(rt.alloc(), line.as_str())?;
+    let (ended, found) = thread::join(
+        &rt,
+        || {
+            let _sockets = no_sockets();
+            start(&rt, words.as_slice())
+        },
+        || {
+            let _sockets = no_sockets();
+            all_jobs(&rt, port)
+        },
+    );
+    let (all, is_empty) = found?;
+    assert_eq!(rt; ended.status, 0);
+    assert!(rt; all.iter().copied().eq(1..=800));
+    assert!(rt; is_empty);
+    Ok(())
 }
