@@ -1,6 +1,6 @@
 -- A letter that reaches its receiver, once all letters are sorted into the mails.
-use Rattle.std.proofs.Common.{◌≡◌, ⊎_elim, inl, inr, Bool, false, ◌&&◌, ◌||◌, ◌==◌, ℕ, zero, suc, ◌-◌, ◌<◌, ◌≤◌, true}
-use Rattle.std.proofs.Common.{List, [], ◌∷◌, ◌++◌, drop, length, Option, Some, refl, sym, ap, ◌∙◌, subst, arith}
+use Rattle.std.proofs.Common.{◌≡◌, ⊎_elim, inl, inr, Bool, false, ◌&&◌, ◌||◌, ◌==◌, ℕ, ◌<◌, true}
+use Rattle.std.proofs.Common.{List, [], ◌∷◌, drop, length, Option, Some, refl, sym, ap, ◌∙◌, subst, arith}
 use Rattle.std.proofs.Common.{length-set}
 use Rattle.std.specs.Prelude.{slice_index_or, slice_set, nat_lt}
 use Rattle.std.proofs.lemmas.Bool.Decides.{nat_tests}
@@ -17,11 +17,12 @@ use Rattle.node.specs.PlaceLaws.{put_at}
 use Rattle.node.specs.Receiving.{IsFit, Receives, promises_ballot, accepts_pvalue, hears_promise, hears_vote}
 use Rattle.node.specs.Receiving.{hears_proposal, learns, tells_decisions, ShowsNode, ShowsReceived}
 use Rattle.network.proofs.Sent.{of_map, member_bounds}
-use Rattle.network.specs.Networks.{NetworkState, node_of, mail_in, mail_of, front, put_mail, posted, with_last, IsDelivered}
+use Rattle.network.specs.Networks.{NetworkState, node_of, mail_in, mail_of, front, put_mail, posted, IsDelivered}
 use Rattle.network.specs.Posting.{IsAmong, IsBetween, AreBetween, IsPost, IsNetwork}
-use Rattle.network.proofs.Posts.{none_posted, in_at, post_put, between_append}
+use Rattle.network.proofs.Posts.{none_posted, in_at, post_put}
+use Rattle.network.proofs.OnWay.{mail_at, put_mail_at}
 use Rattle.network.proofs.Seats.{HasSeat, received_seat, seated_by}
-use Rattle.network.proofs.Turned.{seen, IsPlace, all_between, none_between, own_member, low, within_mails, node_read, node_seated, stays_whole, set_again}
+use Rattle.network.proofs.Turned.{seen, IsPlace, all_between, none_between, own_member, low, within_mails, node_read, node_seated, stays_whole}
 
 lt_itself : (n : ℕ) → nat_lt n n ≡ false
 lt_itself n = grind (arith, nat_tests)
@@ -35,17 +36,6 @@ not_below_itself : (b : Numbers) → is_below b b ≡ false
 not_below_itself b =
     (λ i. lt_itself b.round i || ((b.round == b.round) && (lt_itself b.node i || ((b.node == b.node) && lt_itself b.boot i))))
     ∙ below_cases (b.round == b.round) (b.node == b.node)
-
-pub mail_at : {C : Type 0} (mails : List (List (Letter C))) (n p : ℕ) (m : List (Letter C)) → p ≡ n - 1 → 1 ≤ n
-    → p < length mails → m ≡ slice_index_or mails p m → m ≡ mail_in mails n
-mail_at mails zero p m place low h at = absurd (omega (arith, low))
-mail_at mails (suc i) p m place low h at =
-    let here : p ≡ i = omega (arith, place) in
-    at ∙ get_or_default mails p m [] h ∙ ap (λ j. slice_index_or mails j []) here
-
-pub put_mail_at : {C : Type 0} (mails : List (List (Letter C))) (n p : ℕ) (x : List (Letter C)) → p ≡ n - 1 → 1 ≤ n → slice_set mails p x ≡ put_mail mails n x
-put_mail_at mails zero p x place low = absurd (omega (arith, low))
-put_mail_at mails (suc i) p x place low = let here : p ≡ i = omega (arith, place) in ap (λ j. slice_set mails j x) here
 
 -- what a node sends when it receives a letter of a member is between members
 received_between : {C : Type 0} (members : List ℕ) (m n : ℕ) (x : NodeState C) (body : LetterBody C) (y : NodeState C)
@@ -114,12 +104,6 @@ module _ {C : Type 0} {members : List ℕ} {nodes : List (NodeState C)} {mails :
             post_put mails fresh p mail h.whole.post between;
       }
 
-      pub same_whole : (mail : List (Letter C)) → mail ≡ m → IsNetwork members nodes (slice_set mails p mail) fresh
-      same_whole mail same = put_whole mail (subst (AreBetween (length mails)) (sym same) its_letters)
-
-      pub repeated_not : (mail : List (Letter C)) → mail ≡ m → seen members nodes (slice_set mails p mail) fresh ≡ k
-      repeated_not mail same = (λ i. seen members nodes ((ap (slice_set mails p) same ∙ set_again mails p m at) i) fresh) ∙ h.is
-
       -- the letter in front of it
       module _ (l : Letter C) (first : front m ≡ Some l) where
         in_front : (xs : List (Letter C)) → front xs ≡ Some l → In l xs
@@ -131,27 +115,6 @@ module _ {C : Type 0} {members : List ℕ} {nodes : List (NodeState C)} {mails :
 
         pub first_of : (l2 : Letter C) → front (mail_of k n) ≡ Some l2 → l ≡ l2
         first_of l2 e = same_Some l l2 (sym (front_read (Some l) first) ∙ e)
-
-        -- it goes to the back of its mail
-        module _ (mail : List (Letter C)) (more : mail ≡ m ++ (l ∷ [])) where
-          repeated_ok : seen members nodes (slice_set mails p mail) fresh ≡ with_last k n l
-          repeated_ok = λ i. record {
-            members = ap (λ z. z.members) h.is i;
-            nodes = ap (λ z. z.nodes) h.is i;
-            mails = (
-                ap (λ z. posted z (slice_set mails p mail)) none
-                ∙ none_posted 1 (slice_set mails p mail)
-                ∙ put_mail_at mails n p mail h.place (low h)
-                ∙ ap (put_mail mails n) (more ∙ ap (λ z. z ++ (l ∷ [])) mail_read)
-                ∙ ap (λ z. put_mail z n (mail_of k n ++ (l ∷ []))) mails_are) i;
-          }
-
-          pub repeated_any : (l2 : Letter C) → front (mail_of k n) ≡ Some l2 → seen members nodes (slice_set mails p mail) fresh ≡ with_last k n l2
-          repeated_any l2 e = repeated_ok ∙ ap (with_last k n) (first_of l2 e)
-
-          pub repeated_whole : IsNetwork members nodes (slice_set mails p mail) fresh
-          repeated_whole = put_whole mail (subst (AreBetween (length mails)) (sym more) (between_append (length mails) m (l ∷ []) its_letters
-              (λ z i. ⊎_elim (λ e. subst (IsBetween (length mails)) (sym e) its_first) (λ no. absurd no) i)))
 
         -- the node receives it
         module _ (y : NodeState C) (read : y ≡ slice_index_or nodes p y) where

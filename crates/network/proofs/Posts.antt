@@ -27,6 +27,11 @@ in_set (z ∷ zs) zero x y (inr h) = inl (inr h)
 in_set (z ∷ zs) (suc i) x y (inl e) = inl (inl e)
 in_set (z ∷ zs) (suc i) x y (inr h) = ⊎_elim (λ (a : In y zs). inl (inr a)) (λ (e : y ≡ x). inr e) (in_set zs i x y h)
 
+pub set_again : {A : Type 0} (xs : List A) (i : ℕ) (y : A) → y ≡ slice_index_or xs i y → slice_set xs i y ≡ xs
+set_again [] i y e = refl
+set_again (x ∷ xs) zero y e = ap (λ z. z ∷ xs) e
+set_again (x ∷ xs) (suc i) y e = ap (λ zs. x ∷ zs) (set_again xs i y e)
+
 pub in_at : {A : Type 0} (xs : List A) (i : ℕ) (d : A) → i < length xs → In (slice_index_or xs i d) xs
 in_at [] i d h = absurd (omega (arith, h))
 in_at (x ∷ xs) zero d h = inl refl

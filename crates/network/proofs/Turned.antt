@@ -1,6 +1,6 @@
 -- A network after one of its nodes did something.
-use Rattle.std.proofs.Common.{◌≡◌, Bool, false, cond, map, ℕ, zero, suc, ◌-◌, ◌<◌, ◌≤◌, true, List, [], ◌∷◌, ◌++◌}
-use Rattle.std.proofs.Common.{length, Result, Ok, Err, refl, sym, ap, ◌∙◌, subst, arith, length-set}
+use Rattle.std.proofs.Common.{◌≡◌, Bool, false, cond, map, ℕ, ◌-◌, ◌<◌, ◌≤◌, true, List, [], ◌++◌}
+use Rattle.std.proofs.Common.{length, Result, Ok, Err, sym, ap, ◌∙◌, subst, arith, length-set}
 use Rattle.std.specs.Prelude.{slice_index_or, slice_set, OnErr, nat_le, not, ◌==◌, ◌^◌}
 use Rattle.std.proofs.lemmas.List.{append-nil}
 use Rattle.ballot.specs.declared.letter.Letter.{Letter}
@@ -14,21 +14,16 @@ use Rattle.ballot.specs.declared.letter.LetterBody.TheVariants.{Ask}
 use Rattle.leader.specs.Leaders.{says_again}
 use Rattle.replica.specs.Replicas.{proposes_again, asks_others, nudges}
 use Rattle.node.specs.Deeds.{said_again}
-use Rattle.network.specs.Networks.{NetworkState, node_of, posted, turned_net}
-use Rattle.network.specs.Posting.{IsBetween, AreBetween, IsNetwork}
+use Rattle.network.specs.Networks.{NetworkState, node_of, mail_of, posted, turned_net}
+use Rattle.network.specs.Posting.{IsAmong, IsBetween, AreBetween, IsNetwork, on_way}
 use Rattle.network.specs.MailLaws.{of_filter}
 use Rattle.network.proofs.Sent.{of_map, among_numbers, member_bounds, sent_to_all}
-use Rattle.network.proofs.Posts.{both_posted, between_append}
+use Rattle.network.proofs.Posts.{both_posted, between_append, set_again}
 use Rattle.network.proofs.Seats.{seats_stay}
 
 pub on_err : {T E Q : Type 0} (r : Result T E) → Q → OnErr r Q
 on_err (Ok x) q = tt
 on_err (Err e) q = q
-
-pub set_again : {A : Type 0} (xs : List A) (i : ℕ) (y : A) → y ≡ slice_index_or xs i y → slice_set xs i y ≡ xs
-set_again [] i y e = refl
-set_again (x ∷ xs) zero y e = ap (λ z. z ∷ xs) e
-set_again (x ∷ xs) (suc i) y e = ap (λ zs. x ∷ zs) (set_again xs i y e)
 
 -- what is sent to all is between members
 pub all_between : {C : Type 0} (members : List ℕ) (n : ℕ) (bodies : List (LetterBody C)) (count : ℕ)
@@ -95,6 +90,10 @@ module _ {C : Type 0} {members : List ℕ} {nodes : List (NodeState C)} {mails :
   pub within_mails : p < length mails
   within_mails = let b = member_bounds members n own_member in omega (arith, h.place, b.0, b.1, h.whole.has_mails)
 
+  -- it has a mail
+  pub among_mails : IsAmong (length mails) n
+  among_mails = subst (λ c. IsAmong c n) (sym h.whole.has_mails) (member_bounds members n own_member)
+
   module _ (y : NodeState C) (at : y ≡ slice_index_or nodes p y) where
     own_node : y ≡ node_in members nodes n
     own_node = node_at members nodes n y low (omega (arith, (member_bounds members n own_member).1, h.whole.has_nodes))
@@ -111,6 +110,19 @@ module _ {C : Type 0} {members : List ℕ} {nodes : List (NodeState C)} {mails :
     pub turned_not : (x : NodeState C) (now : List (Letter C)) → x ≡ y → now ≡ fresh → seen members (slice_set nodes p x) mails now ≡ k
     turned_not x now same none =
         (λ i. seen members ((ap (slice_set nodes p) same ∙ set_again nodes p y at) i) mails (none i)) ∙ h.is
+
+  -- whatever becomes of the mails becomes of the network
+  pub with_mails : (mails' : List (List (Letter C))) (fresh' : List (Letter C)) (now : List (List (Letter C)))
+      → posted fresh' mails' ≡ now → seen members nodes mails' fresh' ≡ record k { mails = now }
+  with_mails mails' fresh' now same = λ i. record {
+    members = ap (λ z. z.members) h.is i;
+    nodes = ap (λ z. z.nodes) h.is i;
+    mails = same i;
+  }
+
+  -- what is on its way to the node
+  pub on_way_is : on_way mails fresh n ≡ mail_of k n
+  on_way_is = ap (λ z. mail_of z n) h.is
 
   -- node n became x, and sent letters
   pub turned_by : (x : NodeState C) (now out : List (Letter C)) → now ≡ fresh ++ out → seen members (slice_set nodes p x) mails now ≡ turned_net k n x out

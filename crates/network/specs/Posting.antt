@@ -4,6 +4,7 @@ use Rattle.object.specs.Lists.{In}
 use Rattle.ballot.specs.declared.letter.Letter.{Letter}
 use Rattle.ballot.specs.Members.{is_member}
 use Rattle.node.specs.Nodes.{NodeState, IsSeated, node_in}
+use Rattle.network.specs.Networks.{mail_in, posted}
 
 -- one of the numbers 1 to count
 abbrev pub IsAmong : ℕ → ℕ → Type 0
@@ -29,6 +30,10 @@ pub record IsNetwork {C : Type 0} (members : List ℕ) (nodes : List (NodeState 
   pub has_mails : length mails ≡ length members
   pub seated : (n : ℕ) → is_member members n ≡ true → IsSeated members n (node_in members nodes n)
   pub post : IsPost mails fresh
+
+-- the letters that are on their way to node n: those in its mail, and behind them those that aren't sorted into it yet
+abbrev pub on_way : {C : Type 0} → List (List (Letter C)) → List (Letter C) → ℕ → List (Letter C)
+on_way mails fresh n = mail_in (posted fresh mails) n
 
 -- the letters without the first that is to node n
 abbrev pub but_first : {C : Type 0} → ℕ → List (Letter C) → List (Letter C)

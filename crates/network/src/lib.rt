@@ -3,6 +3,7 @@
 
 pub mod mail;
 mod network;
+pub mod post;
 pub mod sorting;
 
 pub use network::Network;

@@ -7,7 +7,8 @@ ghost use Rattle.node.specs.Receiving.{IsFit};
 ghost use Rattle.network.specs.Networks.{new_network, node_of, mail_of, front, has_mail, turn_of, acted_net, without_front, with_last, IsDelivered};
 
 use crate::mail::Mail;
-use crate::sorting::{drop_first, has_any, sort};
+use crate::post;
+use crate::sorting::sort;
 use ballot::{Letter, Members};
 use node::{Deed, Node, Outcome};
 use object::{Answer, Command, Object};
@@ -82,7 +83,7 @@ impl<O: Object> Network<O> {
         requires { is_member self.now.members id ≡ true }
         ensures { result ≡ has_mail self.now id }
     {
-        self.mails[usize::from(id - 1)].has_letters() || has_any(&self.fresh, id)
+        post::has_mail(&self.mails, &self.fresh, id)
     }
 
     /// A node does this, and appends the answers that it gives. Where there is nothing to do it can't be
@@ -144,16 +145,7 @@ impl<O: Object> Network<O> {
         ensures idle { front (mail_of self.old id) ≡ None → IsOk result }
         ensures err { OnErr result (self.new ≡ self.old) }
     {
-        if !self.has_mail(id) {
-            return Ok(false);
-        }
-        sort(self.alloc, &mut self.mails, &mut self.fresh)?;
-        let place = usize::from(id - 1);
-        let Some(letter) = self.mails[place].copy_front()? else {
-            return Ok(false);
-        };
-        self.mails[place].push(letter)?;
-        Ok(true)
+        post::repeat(self.alloc, &mut self.mails, &mut self.fresh, id)
     }
 
     /// Drops the letter in front of a node's mail; false where there is none. It takes no memory.
@@ -162,11 +154,7 @@ impl<O: Object> Network<O> {
         ensures lost { result ≡ has_mail self.old id }
         ensures left { self.new ≡ without_front self.old id }
     {
-        let place = usize::from(id - 1);
-        if self.mails[place].drop_front() {
-            return true;
-        }
-        drop_first(&mut self.fresh, id)
+        post::lose(&mut self.mails, &mut self.fresh, id)
     }
 
     // Moves what was sent to the back of its receivers' mail, as far as there is memory.
