@@ -15,8 +15,8 @@ use Rattle.node.specs.declared.deed.Deed.TheVariants as deeds
 use Rattle.slot_log.specs.Decisions.{next_decided}
 use Rattle.network.specs.Networks.{posted}
 use Rattle.network.specs.Posting.{IsPost, IsNetwork}
-use Rattle.network.proofs.Posts.{both_posted}
-use Rattle.network.proofs.Turned.{IsPlace, at_place, low, within_nodes, node_seated, stays_quiet, set_again}
+use Rattle.network.proofs.Posts.{both_posted, set_again}
+use Rattle.network.proofs.Turned.{IsPlace, at_place, low, within_nodes, node_seated, stays_quiet}
 use Rattle.network.proofs.Acting.{acted_whole}
 use Rattle.network.proofs.Delivering.{sorted_whole}
 use Rattle.lean_network.specs.LeanNetworks.{LeanState, states, lean_node_of, turned_lean, lean_turn_of, acted_lean}

@@ -1,5 +1,5 @@
 -- A letter of which something is left, or nothing, once all letters are sorted into the mails.
-use Rattle.std.proofs.Common.{◌≡◌, ⊎_elim, ℕ, zero, suc, ◌<◌, List, [], ◌∷◌, ◌++◌, map, drop, length, Option, None, Some, refl, sym, ap, ◌∙◌, subst, true}
+use Rattle.std.proofs.Common.{◌≡◌, ⊎_elim, ℕ, zero, suc, ◌<◌, List, [], ◌∷◌, ◌++◌, map, drop, length, Option, None, Some, refl, sym, ap, ◌∙◌, subst, true, length-set}
 use Rattle.std.specs.Prelude.{slice_index_or, slice_set, is_some}
 use Rattle.std.proofs.lemmas.List.{map-set, get_or-set_same, get_or_default}
 use Rattle.object.specs.Lists.{In}
@@ -12,16 +12,16 @@ use Rattle.ballot.specs.Rests.{rest_of_body}
 use Rattle.node.specs.Nodes.{NodeState}
 use Rattle.node.specs.Holding.{Holding}
 use Rattle.node.specs.Receiving.{IsFit, ShowsReceived}
-use Rattle.network.specs.Networks.{NetworkState, front, put_mail, posted}
+use Rattle.network.specs.Networks.{NetworkState, mail_in, front, put_mail, posted}
 use Rattle.network.specs.Posting.{IsBetween, AreBetween, IsNetwork}
 use Rattle.network.specs.MailLaws.{in_behind}
-use Rattle.network.proofs.Posts.{none_posted, in_at}
-use Rattle.network.proofs.Turned.{IsPlace, at_place, own_member, low, within_mails, stays_quiet, set_again}
-use Rattle.network.proofs.Delivering.{front_read, first_of, read_again, put_whole, delivered_whole, repeated_not, repeated_any, repeated_whole}
-use Rattle.network.proofs.Losing.{put_lost_whole, lost_first}
-use Rattle.lean_network.specs.LeanNetworks.{LeanState, lean_node_of, lean_mail_of, put_lean, lean_without_front, lean_with_last, IsLeanDelivered}
+use Rattle.network.proofs.Posts.{none_posted, set_again, in_at}
+use Rattle.network.proofs.Turned.{IsPlace, at_place, own_member, among_mails, low, within_mails, stays_quiet}
+use Rattle.network.proofs.OnWay.{lost_first, lost_post}
+use Rattle.network.proofs.Delivering.{sorted_whole, front_read, first_of, read_again, put_whole, delivered_whole}
+use Rattle.lean_network.specs.LeanNetworks.{LeanState, lean_node_of, lean_mail_of, put_lean, lean_without_front, IsLeanDelivered}
 use Rattle.lean_network.proofs.States.{state_of, put_lean_at}
-use Rattle.lean_network.proofs.Placed.{lean_seen, IsLeanPlace, place_of, with_mails, state_read, lean_read}
+use Rattle.lean_network.proofs.Placed.{lean_seen, IsLeanPlace, place_of, state_read, lean_read}
 
 set_twice : {A : Type 0} (xs : List A) (i : ℕ) (x y : A) → slice_set (slice_set xs i x) i y ≡ slice_set xs i y
 set_twice [] i x y = refl
@@ -81,10 +81,6 @@ receives some object none = record { some = some; object = object; none = none }
 module _ {Op O : Type 0} {members : List ℕ} {nodes : List (Holding Op O)} {mails : List (List (Letter (Command Op)))}
     {fresh : List (Letter (Command Op))} {k : LeanState Op O} {n p : ℕ} (h : IsLeanPlace members nodes mails fresh k n p)
     (none : fresh ≡ []) (m : List (Letter (Command Op))) (at : m ≡ slice_index_or mails p m) where
-  -- the mail stays
-  pub lean_repeated_not : (mail : List (Letter (Command Op))) → mail ≡ m → lean_seen members nodes (slice_set mails p mail) fresh ≡ k
-  lean_repeated_not mail same = with_mails h (slice_set mails p mail) fresh k.mails (ap (λ w. w.mails) (repeated_not (place_of h) none m at mail same))
-
   module _ (l : Letter (Command Op)) (first : front m ≡ Some l) where
     -- the letter in front is gone
     module _ (m2 : List (Letter (Command Op))) (at2 : m2 ≡ slice_index_or mails p m2) (left : List (Letter (Command Op)))
@@ -96,13 +92,15 @@ module _ {Op O : Type 0} {members : List ℕ} {nodes : List (Holding Op O)} {mai
       gone =
           sym (none_posted 1 (slice_set mails p left))
           ∙ ap (λ z. posted z (slice_set mails p left)) (sym none)
-          ∙ ap (λ z. z.mails) (lost_first (place_of h) m at left taken (has_front m l first))
+          ∙ lost_first mails h.place (among_mails (place_of h)) m at fresh left taken (has_front m l first)
+          ∙ ap (λ z. put_mail z n (drop 1 (mail_in z n))) (ap (λ z. z.mails) h.is)
 
       module _ (y : Holding Op O) (read : y ≡ slice_index_or nodes p y) (x : Holding Op O) (now : List (Letter (Command Op))) where
         whole_if : (o : Option (LetterBody (Command Op))) → Receives l o y x fresh now
             → IsNetwork members (slice_set (map state_of nodes) p x.state) (slice_set mails p left) now
         whole_if None r = stays_quiet
-            (at_place (put_lost_whole (place_of h) m at left taken) refl h.place (own_member (place_of h)))
+            (at_place (sorted_whole h.whole (slice_set mails p left) fresh (length-set mails p left)
+            (lost_post mails h.place (among_mails (place_of h)) m at fresh h.whole.post left taken)) refl h.place (own_member (place_of h)))
             y.state x.state now (state_read h y read) (ap state_of (r.none refl).0) (r.none refl).1
         whole_if (Some body) r = body_whole (place_of h) none m at l first body y.state (state_read h y read) x.state now
             (r.some body refl) left taken
@@ -172,17 +170,3 @@ module _ {Op O : Type 0} {members : List ℕ} {nodes : List (Holding Op O)} {mai
         → (left : LetterBody (Command Op)) → rest_of_body base l.body ≡ Some left → IsFit y.state left
     lean_fit rules base fit y read left rest = subst (λ (w : Holding Op O). IsFit w.state left) (sym (lean_read h y read rules))
         (fit l left (front_read (place_of h) none m at (Some l) first) rest)
-
-    -- it goes to the back of its mail
-    module _ (m2 : List (Letter (Command Op))) (at2 : m2 ≡ slice_index_or mails p m2) (mail : List (Letter (Command Op)))
-        (longer : mail ≡ m2 ++ (l ∷ [])) where
-      more : mail ≡ m ++ (l ∷ [])
-      more = longer ∙ ap (λ z. z ++ (l ∷ [])) (read_again (place_of h) none m at m2 at2)
-
-      pub lean_repeated_whole : IsNetwork members (map state_of nodes) (slice_set mails p mail) fresh
-      lean_repeated_whole = repeated_whole (place_of h) none m at l first mail more
-
-      pub lean_repeated : (l2 : Letter (Command Op)) → front (lean_mail_of k n) ≡ Some l2
-          → lean_seen members nodes (slice_set mails p mail) fresh ≡ lean_with_last k n l2
-      lean_repeated l2 e = with_mails h (slice_set mails p mail) fresh _
-          (ap (λ w. w.mails) (repeated_any (place_of h) none m at l first mail more l2 e))

@@ -16,7 +16,8 @@ use crate::left::{Left, left_of};
 use crate::receipt::Receipt;
 use ballot::{Letter, Members};
 use network::mail::Mail;
-use network::sorting::{drop_first, has_any, sort};
+use network::post;
+use network::sorting::sort;
 use node::{Deed, LeanNode, Outcome};
 use object::{Answer, Command, Object};
 use std::alloc::{AllocError, Global};
@@ -97,7 +98,7 @@ impl<O: Object> LeanNetwork<O> {
         requires { is_member self.now.members id ≡ true }
         ensures { result ≡ has_mail (states self.now) id }
     {
-        self.mails[usize::from(id - 1)].has_letters() || has_any(&self.fresh, id)
+        post::has_mail(&self.mails, &self.fresh, id)
     }
 
     /// A node does this, and appends the answers that its object gives. Where there is nothing to do it can't be refused
@@ -166,16 +167,7 @@ impl<O: Object> LeanNetwork<O> {
         ensures idle { front (lean_mail_of self.old id) ≡ None → IsOk result }
         ensures err { OnErr result (self.new ≡ self.old) }
     {
-        if !self.has_mail(id) {
-            return Ok(false);
-        }
-        sort(self.alloc, &mut self.mails, &mut self.fresh)?;
-        let place = usize::from(id - 1);
-        let Some(letter) = self.mails[place].copy_front()? else {
-            return Ok(false);
-        };
-        self.mails[place].push(letter)?;
-        Ok(true)
+        post::repeat(self.alloc, &mut self.mails, &mut self.fresh, id)
     }
 
     /// Drops the letter in front of a node's mail; false where there is none. It takes no memory.
@@ -184,11 +176,7 @@ impl<O: Object> LeanNetwork<O> {
         ensures lost { result ≡ has_mail (states self.old) id }
         ensures left { self.new ≡ lean_without_front self.old id }
     {
-        let place = usize::from(id - 1);
-        if self.mails[place].drop_front() {
-            return true;
-        }
-        drop_first(&mut self.fresh, id)
+        post::lose(&mut self.mails, &mut self.fresh, id)
     }
 
     /// Each node forgets the slots below the base, which is at most the slot that its replica performs next. It takes no
