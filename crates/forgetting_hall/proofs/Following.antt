@@ -28,6 +28,7 @@ use Rattle.lean_network.specs.LeanNetworks.{LeanState, states, lean_node_of, lea
 use Rattle.lean_network.specs.Receipts.{receipt_of, receipt_of_rest}
 use Rattle.lean_network.proofs.States.{state_at, states_forgotten, kept_object, delivered_object, delivered_states}
 use Rattle.client_table.specs.Clients.{Summary, with_replies, with_effect}
+use Rattle.forgetting_hall.specs.Gathered.{Gathering}
 use Rattle.forgetting_hall.specs.Halls.{ForgettingState, IsForgettingHall, FollowsIn, FollowsLeft, ShowsStill, IsCounted, IsLeastOut, rest_of_hall, is_received}
 use Rattle.forgetting_hall.specs.Refusing.{refusal_of_event, has_all_events}
 use Rattle.forgetting_hall.specs.Rests.{HallRest, ShowsWorld, FollowsEvent, FollowsLetterOf, IsGoingOn, IsReceivedRest, fresh_answers, done_rest, forgotten_rest, lost_rest}
@@ -66,15 +67,15 @@ module _ {O Op Reply : Type 0} (rules : Rules O Op Reply) (h : ForgettingState O
       → is_member q.network.members m ≡ true → IsGoingOn d → FollowsEvent rules w (event_of m d) (done_rest rules q m d)
 
   module _ (acts : Acts) (d : Deed Op) (own : IsGoingOn d) (member : is_member h.network.members n ≡ true) where
-    pub deed_follows : FollowsIn rules h (event_of n d) (after_deed rules h n d)
-    deed_follows w i s = subst (FollowsEvent rules w (event_of n d)) (sym (deed_is rules h n d own (all_nodes rules h w s) member))
+    pub deed_follows : (g : Gathering Op) → FollowsIn rules h (event_of n d) (after_deed rules h n d g)
+    deed_follows g w i s = subst (FollowsEvent rules w (event_of n d)) (sym (deed_is rules h n d own g (all_nodes rules h w s) member))
         (acts (rest_of_hall rules h) w n d i s member own)
 
     -- its answers can be counted
     pub room_to_tell : Next rules → Known rules → IsForgettingHall rules h → h.taken < most_events
         → h.summary.answered + length (fresh_answers h.reach (outcome_held (lean_node_of rules h.network n) d) (lean_turn_of rules h.network n d).answers) < 2 ^ 64
     room_to_tell next known is room =
-        let f = deed_follows is.shown.0 is.shown.1 is.shown.2 in
+        let f = deed_follows h.gathering is.shown.0 is.shown.1 is.shown.2 in
         let world = next is.shown.0 f.0 (event_of n d) is.shown.1 f.1 (subst (λ t. t < most_events) is.shown.2.taken room) in
         room_for h.summary h.opened h.taken is.counted room
         (fresh_answers h.reach (outcome_held (lean_node_of rules h.network n) d) (lean_turn_of rules h.network n d).answers)
@@ -82,19 +83,19 @@ module _ {O Op Reply : Type 0} (rules : Rules O Op Reply) (h : ForgettingState O
         f.0.happenings f.2.summary (known f.0 world)
 
   -- the hall, once its parts have become these
-  pub deed_became : (d : Deed Op) (k : LeanState Op O) (o : Outcome) (xs : List (Answer Reply)) (t u : Summary Op Reply) (key : Option Key) (r : ℕ)
+  pub deed_became : (d : Deed Op) (k : LeanState Op O) (o : Outcome) (xs : List (Answer Reply)) (t u : Summary Op Reply) (key : Option Key) (r : ℕ) (g : Gathering Op)
       → k ≡ acted_lean rules h.network n d → o ≡ outcome_held (lean_node_of rules h.network n) d
       → xs ≡ fresh_answers h.reach o (lean_turn_of rules h.network n d).answers → t ≡ with_replies xs h.summary
       → key ≡ key_placed h.reach o → u ≡ with_effect key t → r ≡ reach_after h.reach o
-      → record { network = k; base = h.base; summary = u; opened = h.opened; reach = r; taken = h.taken + 1 } ≡ after_deed rules h n d
-  deed_became d k o xs t u key r nodes outcome fresh told placed effect reached =
+      → record { network = k; base = h.base; summary = u; opened = h.opened; reach = r; taken = h.taken + 1; gathering = g } ≡ after_deed rules h n d g
+  deed_became d k o xs t u key r g nodes outcome fresh told placed effect reached =
       let replies : t ≡ with_replies (fresh_answers h.reach (outcome_held (lean_node_of rules h.network n) d) (lean_turn_of rules h.network n d).answers) h.summary =
       told ∙ ap (λ ys. with_replies ys h.summary) (fresh ∙ ap (λ p. fresh_answers h.reach p (lean_turn_of rules h.network n d).answers) outcome) in
-      let summary : u ≡ (after_deed rules h n d).summary =
+      let summary : u ≡ (after_deed rules h n d g).summary =
       effect ∙ ap (λ q. with_effect q t) (placed ∙ ap (key_placed h.reach) outcome)
       ∙ ap (with_effect (key_placed h.reach (outcome_held (lean_node_of rules h.network n) d))) replies in
       let reach : r ≡ reach_after h.reach (outcome_held (lean_node_of rules h.network n) d) = reached ∙ ap (reach_after h.reach) outcome in
-      λ i. record { network = nodes i; base = h.base; summary = summary i; opened = h.opened; reach = reach i; taken = h.taken + 1 }
+      λ i. record { network = nodes i; base = h.base; summary = summary i; opened = h.opened; reach = reach i; taken = h.taken + 1; gathering = g }
 
   -- what is left of a letter is received
   pub received_is : (l : Letter (Command Op)) (left : LetterBody (Command Op)) (k : LeanState Op O) → IsLeanDelivered rules h.network n l left k

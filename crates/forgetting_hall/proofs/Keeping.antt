@@ -1,5 +1,5 @@
 -- The hall shows a world after each of its calls: one that it showed before, or what the event makes of it.
-use Rattle.std.proofs.Common.{◌≡◌, ◌<◌, ◌+◌, ℕ, zero, suc, List, [], ◌∷◌, map, length, Option, Some, None, refl, sym, subst, ◌∙◌}
+use Rattle.std.proofs.Common.{◌≡◌, ◌<◌, ◌+◌, ℕ, false, zero, suc, List, [], ◌∷◌, map, length, Option, Some, None, refl, sym, subst, ◌∙◌}
 use Rattle.std.specs.Prelude.{slice_index_or}
 use Rattle.std.specs.FinMap.{insert, remove}
 use Rattle.std.proofs.lemmas.List.{length-map}
@@ -63,9 +63,17 @@ module _ {O Op Reply : Type 0} (rules : Rules O Op Reply) where
     taken = 0;
   }
 
-  pub begun : (members : List ℕ) (k : LeanState Op O) (t : Summary Op Reply) → k ≡ new_lean rules members → t ≡ blank_summary
-      → new_forgetting rules members ≡ record { network = k; base = 0; summary = t; opened = 0; reach = 0; taken = 0 }
-  begun members k t nodes clients = λ i. record { network = sym nodes i; base = 0; summary = sym clients i; opened = 0; reach = 0; taken = 0 }
+  pub begun : (members : List ℕ) (k : LeanState Op O) (t : Summary Op Reply) (cs : List (Command Op)) → k ≡ new_lean rules members → t ≡ blank_summary → cs ≡ []
+      → new_forgetting rules members ≡ record { network = k; base = 0; summary = t; opened = 0; reach = 0; taken = 0; gathering = record { is_on = false; commands = cs } }
+  begun members k t cs nodes clients none = λ i. record {
+    network = sym nodes i;
+    base = 0;
+    summary = sym clients i;
+    opened = 0;
+    reach = 0;
+    taken = 0;
+    gathering = record { is_on = false; commands = sym none i };
+  }
 
   pub opens : (members : List ℕ) → IsWorld rules (opening members) → ShowsWorld rules (new_rest rules members) (opening members)
       → IsForgettingHall rules (new_forgetting rules members)

@@ -15,6 +15,7 @@ use Rattle.forgetting.specs.Holding.{acted_held}
 use Rattle.lean_network.specs.LeanNetworks.{LeanState, states, lean_node_of, object_of, lean_turn_of, turned_lean, acted_lean}
 use Rattle.lean_network.proofs.States.{state_at, states_turned, own_object, other_object}
 use Rattle.client_table.specs.Clients.{with_replies, with_effect}
+use Rattle.forgetting_hall.specs.Gathered.{Gathering}
 use Rattle.forgetting_hall.specs.Halls.{ForgettingState, rest_of_hall}
 use Rattle.forgetting_hall.specs.Rests.{IsGoingOn, fresh_answers, done_rest, outcome_rest}
 use Rattle.forgetting_hall.specs.Shown.{holder, with_object, turn_held}
@@ -65,9 +66,9 @@ module _ {O Op Reply : Type 0} (rules : Rules O Op Reply) where
         → object_of rules (turned_lean k n u.state u.sent) ≡ with_object (object_of rules k) n t.state.object
     held_turned t u e = objects_turned u.state u.sent ∙ ap (λ (q : HeldTurn Op O Reply). with_object (object_of rules k) n q.state.object) (sym e)
 
-  -- what the hall becomes where node n does this by itself
-  abbrev pub after_deed : ForgettingState Op O Reply → ℕ → Deed Op → ForgettingState Op O Reply
-  after_deed h n d = record {
+  -- what the hall becomes where node n does this by itself, and where it has gathered this
+  abbrev pub after_deed : ForgettingState Op O Reply → ℕ → Deed Op → Gathering Op → ForgettingState Op O Reply
+  after_deed h n d g = record {
     network = acted_lean rules h.network n d;
     base = h.base;
     summary = with_effect (key_placed h.reach (outcome_held (lean_node_of rules h.network n) d))
@@ -75,15 +76,16 @@ module _ {O Op Reply : Type 0} (rules : Rules O Op Reply) where
     opened = h.opened;
     reach = reach_after h.reach (outcome_held (lean_node_of rules h.network n) d);
     taken = h.taken + 1;
+    gathering = g;
   }
 
   module _ (h : ForgettingState Op O Reply) (n : ℕ) (d : Deed Op) (own : IsGoingOn d) where
     pub outcome_is : outcome_rest (rest_of_hall rules h) n d ≡ outcome_held (lean_node_of rules h.network n) d
     outcome_is = ap (λ (x : Holding Op O). outcome_held x d) (holder_is h.network n)
 
-    pub deed_is : length h.network.nodes ≡ length h.network.members → is_member h.network.members n ≡ true
-        → rest_of_hall rules (after_deed h n d) ≡ done_rest rules (rest_of_hall rules h) n d
-    deed_is all member =
+    pub deed_is : (g : Gathering Op) → length h.network.nodes ≡ length h.network.members → is_member h.network.members n ≡ true
+        → rest_of_hall rules (after_deed h n d g) ≡ done_rest rules (rest_of_hall rules h) n d
+    deed_is g all member =
         let turn = turn_is h.network n d own in
         λ i. record {
           network = net_turned h.network n all member (turn_held rules (states h.network) (object_of rules h.network) n d) (lean_turn_of rules h.network n d) turn i;

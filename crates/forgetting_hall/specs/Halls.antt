@@ -15,10 +15,11 @@ use Rattle.lean_network.specs.declared.receipt.Receipt.{Receipt}
 use Rattle.lean_network.specs.declared.receipt.Receipt.TheVariants as receipts
 use Rattle.client_table.specs.Clients.{Summary, blank_summary, number_of_last}
 use Rattle.client_table.specs.declared.client.Client.{Client}
+use Rattle.forgetting_hall.specs.Gathered.{Gathering, not_gathering}
 use Rattle.forgetting_hall.specs.Rests.{HallRest, ShowsWorld, FollowsEvent, FollowsLetterOf}
 
 -- the nodes, each with its object, and their mail, from the base on; what is kept of what happened; how many sessions were
--- opened; the reach, and the count of events
+-- opened; the reach, and the count of events; and what it gathers
 pub record ForgettingState (Op O Reply : Type 0) : Type 0 where
   pub network : LeanState Op O
   pub base : ℕ
@@ -26,8 +27,9 @@ pub record ForgettingState (Op O Reply : Type 0) : Type 0 where
   pub opened : ℕ
   pub reach : ℕ
   pub taken : ℕ
+  pub gathering : Gathering Op
 
--- what it keeps, the objects apart
+-- what it keeps, the objects apart, but for what it gathers
 abbrev pub rest_of_hall : {O Op Reply : Type 0} → Rules O Op Reply → ForgettingState Op O Reply → HallRest Op O Reply
 rest_of_hall rules h = record {
   network = states h.network;
@@ -48,6 +50,7 @@ new_forgetting rules members = record {
   opened = 0;
   reach = 0;
   taken = 0;
+  gathering = not_gathering;
 }
 
 -- The clock is there; no more was handed in, took effect, or is some session's number than there were events; and no more

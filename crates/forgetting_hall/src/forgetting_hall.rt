@@ -2,6 +2,7 @@ ghost use Rattle.std.specs.Prelude.{◌≡◌, IfOk};
 ghost use Rattle.forgetting_hall.specs.Halls.{new_forgetting};
 
 mod acting;
+mod gathering;
 mod looking;
 mod mailing;
 mod noting;
@@ -15,7 +16,7 @@ use agreement::every_world;
 use ballot::Members;
 use client_table::ClientTable;
 use lean_network::LeanNetwork;
-use object::Object;
+use object::{Command, Object};
 use std::alloc::{AllocError, Global};
 use std::marker::Model;
 
@@ -38,6 +39,9 @@ pub struct ForgettingHall<O: Object> {
     taken: u64,
     // The sessions that were answered since somebody asked for them.
     answered: Vec<u32>,
+    // Whether the commands that take effect are gathered, and those that did since somebody asked for them.
+    gathers: bool,
+    gathered: Vec<Command<O::Op>>,
     alloc: Global,
 }
 
@@ -58,6 +62,7 @@ impl<O: Object> Model for ForgettingHall<O> {
       opened = h.opened;
       reach = h.reach;
       taken = h.taken;
+      gathering = record { is_on = h.gathers; commands = h.gathered.items };
     } };
 
     ghost invariant = { λ h. IsForgettingHall O.rules (record {
@@ -67,6 +72,7 @@ impl<O: Object> Model for ForgettingHall<O> {
       opened = h.opened;
       reach = h.reach;
       taken = h.taken;
+      gathering = record { is_on = h.gathers; commands = h.gathered.items };
     }) };
 }
 
@@ -85,6 +91,8 @@ impl<O: Object> ForgettingHall<O> {
             reach: 0,
             taken: 0,
             answered: Vec::new(alloc),
+            gathers: false,
+            gathered: Vec::new(alloc),
             alloc,
         })
     }

@@ -4,11 +4,14 @@ ghost use Rattle.lean_network.specs.LeanNetworks.{lean_node_of};
 ghost use Rattle.agreement.specs.Events.{event_of};
 ghost use Rattle.hall.specs.declared.error.HallError.{HallError};
 ghost use Rattle.hall.specs.declared.error.HallError.TheVariants.{OutOfMemory};
+ghost use Rattle.forgetting_hall.specs.Effects.{placed_by};
+ghost use Rattle.forgetting_hall.specs.Gathered.{gathered};
 ghost use Rattle.forgetting_hall.specs.Rests.{IsGoingOn, fresh_answers, outcome_rest, done_rest};
 ghost use Rattle.forgetting_hall.specs.Halls.{rest_of_hall, FollowsIn};
 ghost use Rattle.forgetting_hall.specs.Refusing.{refusal_of_event};
 
 use super::ForgettingHall;
+use super::gathering::{make_room, put};
 use super::noting::note;
 use crate::halls::halls_rest;
 use agreement::every_world;
@@ -27,6 +30,8 @@ impl<O: Object> ForgettingHall<O> {
         ensures ok { OnOk result (rest_of_hall O.rules self.new
             ≡ done_rest O.rules (rest_of_hall O.rules self.old) node deed) }
         ensures event { OnOk result (FollowsIn O.rules self.old (event_of node deed) self.new) }
+        ensures gathering { OnOk result (self.new.gathering
+            ≡ gathered (placed_by (rest_of_hall O.rules self.old) node deed) self.old.gathering) }
         ensures err { OnErr result (self.new ≡ self.old) }
         ensures refused { (r : HallError) → refusal_of_event self.old node ≡ Some r →
             result ≡ Err r }
@@ -41,6 +46,8 @@ impl<O: Object> ForgettingHall<O> {
         if let Some(refused) = self.refusal_of_event(node) {
             return Err(refused);
         }
+        let placed = self.copy_placed(node, &deed)?;
+        make_room(&mut self.gathered, &placed)?;
         let mut given = Vec::new(self.alloc);
         let outcome = self.network.act(node, deed, &mut given)?;
         let fresh = fresh_of(&outcome, self.reach, given);
@@ -50,6 +57,7 @@ impl<O: Object> ForgettingHall<O> {
         self.clients.place(outcome.key_placed(self.reach));
         self.reach = outcome.reach_after(self.reach);
         self.taken += 1;
+        put(&mut self.gathered, placed);
         Ok(outcome)
     }
 }

@@ -43,6 +43,7 @@ impl<O: Object> ForgettingHall<O> {
             → rest_of_body self.old.base l.body ≡ None → ShowsStill O.rules self.old self.new) }
         ensures none { OnOk result (front (lean_mail_of self.old.network node) ≡ None
             → self.new ≡ self.old) }
+        ensures gathering { self.new.gathering ≡ self.old.gathering }
         ensures err { OnErr result (self.new ≡ self.old) }
         ensures refused { (r : HallError) → refusal_of_event self.old node ≡ Some r → result ≡ Err r }
         ensures memory { refusal_of_event self.old node ≡ None →
@@ -69,6 +70,7 @@ impl<O: Object> ForgettingHall<O> {
         ensures ok { OnOk result (rest_of_hall O.rules self.new
             ≡ lost_rest (rest_of_hall O.rules self.old) node) }
         ensures still { ShowsStill O.rules self.old self.new }
+        ensures gathering { self.new.gathering ≡ self.old.gathering }
         ensures err { OnErr result (self.new ≡ self.old) }
         ensures refused { (r : HallError) → refusal_of_node self.old node ≡ Some r → result ≡ Err r }
         ensures succeeds { refusal_of_node self.old node ≡ None → IsOk result }
@@ -89,6 +91,7 @@ impl<O: Object> ForgettingHall<O> {
         ensures none { OnOk result (front (lean_mail_of self.old.network node) ≡ None
             → self.new ≡ self.old) }
         ensures still { ShowsStill O.rules self.old self.new }
+        ensures gathering { self.new.gathering ≡ self.old.gathering }
         ensures err { OnErr result (self.new ≡ self.old) }
         ensures refused { (r : HallError) → refusal_of_node self.old node ≡ Some r → result ≡ Err r }
         ensures memory { refusal_of_node self.old node ≡ None →

@@ -21,6 +21,7 @@ impl<O: Object> ForgettingHall<O> {
         ensures forgotten { rest_of_hall O.rules self.new
             ≡ forgotten_rest (rest_of_hall O.rules self.old) self.new.base }
         ensures still { ShowsStill O.rules self.old self.new }
+        ensures gathering { self.new.gathering ≡ self.old.gathering }
     {
         halls_rest::<O>();
         let base = self.least_out();
@@ -37,6 +38,7 @@ impl<O: Object> ForgettingHall<O> {
         ensures ok { OnOk result (rest_of_hall O.rules self.new
             ≡ opened_rest (rest_of_hall O.rules self.old)) }
         ensures still { ShowsStill O.rules self.old self.new }
+        ensures gathering { self.new.gathering ≡ self.old.gathering }
         ensures err { OnErr result (self.new ≡ self.old) }
         ensures full { most_sessions ≤ self.old.opened → result ≡ Err Full }
         ensures memory { self.old.opened < most_sessions → IfErr result (λ r. r ≡ OutOfMemory) }
@@ -57,6 +59,7 @@ impl<O: Object> ForgettingHall<O> {
         ensures let_go { rest_of_hall O.rules self.new
             ≡ let_go_rest (rest_of_hall O.rules self.old) session }
         ensures still { ShowsStill O.rules self.old self.new }
+        ensures gathering { self.new.gathering ≡ self.old.gathering }
     {
         halls_rest::<O>();
         self.clients.let_go(session);

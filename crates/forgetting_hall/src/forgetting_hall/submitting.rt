@@ -28,6 +28,7 @@ impl<O: Object> ForgettingHall<O> {
             ≡ handed_in O.rules (rest_of_hall O.rules self.old) node (next_of self.old session act)) }
         ensures event { OnOk result (FollowsIn O.rules self.old
             (Submit node (next_of self.old session act)) self.new) }
+        ensures gathering { self.new.gathering ≡ self.old.gathering }
         ensures err { OnErr result (self.new ≡ self.old) }
         ensures refused { (r : HallError) → refusal_of_submit self.old session act node ≡ Some r →
             result ≡ Err r }
@@ -56,6 +57,7 @@ impl<O: Object> ForgettingHall<O> {
         ensures event { OnOk result ((c : Command O.Op) → last_of self.old session ≡ Some c →
             FollowsIn O.rules self.old (Submit node c) self.new) }
         ensures none { OnOk result (last_of self.old session ≡ None → self.new ≡ self.old) }
+        ensures gathering { self.new.gathering ≡ self.old.gathering }
         ensures err { OnErr result (self.new ≡ self.old) }
         ensures refused { (r : HallError) → refusal_of_resubmit self.old session node ≡ Some r →
             result ≡ Err r }
@@ -84,6 +86,7 @@ impl<O: Object> ForgettingHall<O> {
             ≡ handed_in O.rules (rest_of_hall O.rules self.old) node (tick_of (second_of self.old + 1))) }
         ensures event { OnOk result (FollowsIn O.rules self.old
             (Submit node (tick_of (second_of self.old + 1))) self.new) }
+        ensures gathering { self.new.gathering ≡ self.old.gathering }
         ensures err { OnErr result (self.new ≡ self.old) }
         ensures refused { (r : HallError) → refusal_of_tick self.old node ≡ Some r → result ≡ Err r }
         ensures memory { refusal_of_tick self.old node ≡ None → IfErr result (λ r. r ≡ OutOfMemory) }

@@ -7,13 +7,15 @@ use Rattle.forgetting_hall.proofs.forgetting_hall.ForgettingHall.open_session.Go
 pub invariant_of-self-2 : goal.invariant_of-self-2
 invariant_of-self-2 g c =
     let room : c.self.inside.opened < 4294967295 = search rules in
-    stays g.O.Object.rules _ _ c.self.invariant (opened_still g.O.Object.rules _ c.halls_rest.ensures.opens c.open.new.self c.in_ok-open.ensures.ok)
+    let h : ForgettingState _ _ _ =
+    record { network = c.self.inside.network; base = c.self.inside.base; summary = c.self.inside.clients; opened = c.self.inside.opened; reach = c.self.inside.reach; taken = c.self.inside.taken; gathering = record { is_on = c.self.inside.gathers; commands = c.self.inside.gathered.items } } in
+    stays g.O.Object.rules h (record h { summary = c.open.new.self; opened = h.opened + 1 }) c.self.invariant (opened_still g.O.Object.rules h c.halls_rest.ensures.opens c.open.new.self c.in_ok-open.ensures.ok)
     (subst (λ t. IsCounted t (c.self.inside.opened + 1) c.self.inside.taken) (sym c.in_ok-open.ensures.ok)
     (counted_open c.self.inside.clients c.self.inside.opened c.self.inside.taken c.self.invariant.counted room))
 
 pub returns-clause-still : goal.returns-clause-still
 returns-clause-still g c =
     let h : ForgettingState _ _ _ =
-    record { network = c.self.inside.network; base = c.self.inside.base; summary = c.self.inside.clients; opened = c.self.inside.opened; reach = c.self.inside.reach; taken = c.self.inside.taken } in
+    record { network = c.self.inside.network; base = c.self.inside.base; summary = c.self.inside.clients; opened = c.self.inside.opened; reach = c.self.inside.reach; taken = c.self.inside.taken; gathering = record { is_on = c.self.inside.gathers; commands = c.self.inside.gathered.items } } in
     subst (λ q. ShowsStill g.O.Object.rules q (record h { summary = c.open.new.self; opened = h.opened + 1 })) c.self.view_is
     (opened_still g.O.Object.rules h c.halls_rest.ensures.opens c.open.new.self c.in_ok-open.ensures.ok)

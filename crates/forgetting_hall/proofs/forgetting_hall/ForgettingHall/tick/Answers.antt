@@ -16,7 +16,7 @@ use Rattle.forgetting_hall.proofs.forgetting_hall.ForgettingHall.tick.Goals as g
 pub invariant_of-self-2 : goal.invariant_of-self-2
 invariant_of-self-2 g c =
     let h : ForgettingState _ _ _ =
-    record { network = c.self.inside.network; base = c.self.inside.base; summary = c.self.inside.clients; opened = c.self.inside.opened; reach = c.self.inside.reach; taken = c.self.inside.taken } in
+    record { network = c.self.inside.network; base = c.self.inside.base; summary = c.self.inside.clients; opened = c.self.inside.opened; reach = c.self.inside.reach; taken = c.self.inside.taken; gathering = record { is_on = c.self.inside.gathers; commands = c.self.inside.gathered.items } } in
     let none : refusal_of_tick h c.args.node ≡ None =
     subst (λ q. refusal_of_tick q c.args.node ≡ None) (sym c.self.view_is) (sym c.refusal_of_tick.ensures ∙ c.in_default.is) in
     let number : c.last_number-number.result ≡ last_number_of h 0 =
@@ -36,7 +36,7 @@ invariant_of-self-2 g c =
 pub returns-clause-ok : goal.returns-clause-ok
 returns-clause-ok g c =
     let h : ForgettingState _ _ _ =
-    record { network = c.self.inside.network; base = c.self.inside.base; summary = c.self.inside.clients; opened = c.self.inside.opened; reach = c.self.inside.reach; taken = c.self.inside.taken } in
+    record { network = c.self.inside.network; base = c.self.inside.base; summary = c.self.inside.clients; opened = c.self.inside.opened; reach = c.self.inside.reach; taken = c.self.inside.taken; gathering = record { is_on = c.self.inside.gathers; commands = c.self.inside.gathered.items } } in
     let none : refusal_of_tick h c.args.node ≡ None =
     subst (λ q. refusal_of_tick q c.args.node ≡ None) (sym c.self.view_is) (sym c.refusal_of_tick.ensures ∙ c.in_default.is) in
     let number : c.last_number-number.result ≡ last_number_of h 0 =
@@ -54,7 +54,7 @@ returns-clause-ok g c =
 pub returns-clause-event : goal.returns-clause-event
 returns-clause-event g c =
     let h : ForgettingState _ _ _ =
-    record { network = c.self.inside.network; base = c.self.inside.base; summary = c.self.inside.clients; opened = c.self.inside.opened; reach = c.self.inside.reach; taken = c.self.inside.taken } in
+    record { network = c.self.inside.network; base = c.self.inside.base; summary = c.self.inside.clients; opened = c.self.inside.opened; reach = c.self.inside.reach; taken = c.self.inside.taken; gathering = record { is_on = c.self.inside.gathers; commands = c.self.inside.gathered.items } } in
     let none : refusal_of_tick h c.args.node ≡ None =
     subst (λ q. refusal_of_tick q c.args.node ≡ None) (sym c.self.view_is) (sym c.refusal_of_tick.ensures ∙ c.in_default.is) in
     let number : c.last_number-number.result ≡ last_number_of h 0 =
