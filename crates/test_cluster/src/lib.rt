@@ -26,6 +26,8 @@ mod missed_rows;
 #[cfg(test)]
 mod narrow;
 #[cfg(test)]
+mod refused_rows;
+#[cfg(test)]
 mod served_rows;
 #[cfg(test)]
 mod soak_rows;
