@@ -20,6 +20,8 @@ mod leader_rows;
 #[cfg(test)]
 mod leaving_rows;
 #[cfg(test)]
+mod memory_rows;
+#[cfg(test)]
 mod mishap_rows;
 #[cfg(test)]
 mod missed_rows;
