@@ -2,14 +2,15 @@ ghost use Rattle.std.specs.Prelude.{◌<◌};
 
 use crate::faults::Faults;
 use crate::gate::Gate;
-use crate::shared::Shared;
+use crate::pause::Pause;
+use crate::shared::{AfterTurn, Shared};
 use counted_hall::Watch;
 use object::Object;
 use std::sync::Wait;
 use std::sync::ledger::Ledger;
 
-/// What the thread of a node does: it takes its turn when there is something for it, until all is over. Nodes count from
-/// 1.
+/// What the thread of a node does: it takes its turn when there is something for it, until all is over. Where it is
+/// refused memory, it tries again after a pause. Nodes count from 1.
 pub(crate) fn run_node<O: Object, S: Ledger, C: Ledger, R: Wait, G: Gate, F: Faults>(
     rt: &R,
     shared: &Shared<O, S, C>,
@@ -21,12 +22,18 @@ pub(crate) fn run_node<O: Object, S: Ledger, C: Ledger, R: Wait, G: Gate, F: Fau
 {
     // it proposes before it reads its mail, so no request waits as long as letters keep coming
     let mut watch = Watch::new(node, false);
+    let mut pause = Pause::first();
     for _ in rt.forever() {
-        let has_more = shared.take_turn(rt, &mut watch, gate, faults);
+        let stands = shared.take_turn(rt, &mut watch, gate, faults);
         if shared.is_over() {
             return;
         }
-        if !has_more {
+        if stands == AfterTurn::WasRefused {
+            shared.pause_as_node(rt, node, pause.take());
+            continue;
+        }
+        pause = Pause::first();
+        if stands == AfterTurn::HasNothing {
             shared.wait_as_node(rt, node);
         }
     }

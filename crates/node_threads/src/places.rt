@@ -6,6 +6,7 @@ use std::alloc::{AllocError, Global};
 use std::sync::Wait;
 use std::sync::atomic::{AtomicBool, AtomicU64, Ordering};
 use std::thread::{Parker, yield_now};
+use std::time::Duration;
 
 /// Where the threads wait: node n at place n - 1 of the nodes, worker k at place k - 1 of the workers. And whether all is
 /// over.
@@ -76,7 +77,15 @@ impl WaitingPlaces {
         }
     }
 
-    /// A worker does.
+    /// A node waits until there is something for it, for so long at most.
+    pub(crate) fn pause_as_node<R: Wait>(&self, rt: &R, node: u8, pause: Duration) {
+        match self.node_bell(node) {
+            Some(bell) => bell.park_timeout(rt, pause),
+            None => yield_now(),
+        }
+    }
+
+    /// A worker waits until there is something for it.
     pub(crate) fn wait_as_worker<R: Wait>(&self, rt: &R, worker: u32) {
         match self.seat(worker) {
             Some(seat) => seat.bell.park(rt),

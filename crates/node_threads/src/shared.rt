@@ -51,6 +51,17 @@ impl HandedIn {
     }
 }
 
+/// How a node stands after its turn.
+#[derive(Clone, Copy, Debug, PartialEq, Eq)]
+pub(crate) enum AfterTurn {
+    /// There is more for it to do at once.
+    HasMore,
+    /// There is nothing for it to do until its bell rings.
+    HasNothing,
+    /// It was refused memory, or the hall took no event more: it is to try again.
+    WasRefused,
+}
+
 impl<O: Object, S: Ledger, C: Ledger> Shared<O, S, C> {
     /// A hall in which no session was opened yet, for so many workers, with the shares of all of both counts. Its nodes
     /// have no threads: who runs a cluster starts them.
@@ -163,15 +174,14 @@ impl<O: Object, S: Ledger, C: Ledger> Shared<O, S, C> {
     }
 
     /// One turn of a node, after the mishap that is chosen for it. Then the bells ring of the other nodes that have mail, and
-    /// of the workers whose clients were answered. Tells whether there is more for the node to do at once; where it was
-    /// refused memory, it tries again when its bell rings.
+    /// of the workers whose clients were answered. Tells how the node stands then.
     pub(crate) fn take_turn<R: Wait, G: Gate, F: Faults>(
         &self,
         rt: &R,
         watch: &mut Watch,
         gate: &G,
         faults: &F,
-    ) -> bool {
+    ) -> AfterTurn {
         let node = watch.node();
         gate.at(Actor::Node(node), Point::Turn);
         let mishap = faults.choose(node, watch.count_turn());
@@ -179,12 +189,16 @@ impl<O: Object, S: Ledger, C: Ledger> Shared<O, S, C> {
         let mut guard = self.hall.lock(rt);
         rounds.begin_turn(node);
         let answers = guard.hall().answer_count();
-        let went = guard.take_turn(watch, mishap, rounds.current()).is_ok();
+        let went = guard.take_turn(watch, mishap, rounds.current());
         let hall = guard.hall();
         rounds.end_turn(hall, node, watch.round());
         self.ring_nodes(hall, node);
         self.ring_workers(hall, answers);
-        went && hall.work(node).is_some()
+        match went {
+            Err(_) => AfterTurn::WasRefused,
+            Ok(()) if hall.work(node).is_some() => AfterTurn::HasMore,
+            Ok(()) => AfterTurn::HasNothing,
+        }
     }
 
     /// Waits until each node has had a turn since the last second; a tenth of a second at most.
@@ -208,6 +222,11 @@ impl<O: Object, S: Ledger, C: Ledger> Shared<O, S, C> {
     /// A node waits until there is something for it.
     pub(crate) fn wait_as_node<R: Wait>(&self, rt: &R, node: u8) {
         self.places.wait_as_node(rt, node)
+    }
+
+    /// The same, for so long at most.
+    pub(crate) fn pause_as_node<R: Wait>(&self, rt: &R, node: u8, pause: Duration) {
+        self.places.pause_as_node(rt, node, pause)
     }
 
     /// The node after this one, in a ring.

@@ -128,7 +128,7 @@ fn serve_one<S: Ledger, C: Ledger, R: Wait, G: Gate, I: ByteIn + Drop, W: ByteOu
 }
 
 /// How it ends where it is the only one.
-fn end_of<S: Ledger, C: Ledger, R: Wait, G: Gate, I: ByteIn + Drop, W: ByteOut>(
+pub fn end_of<S: Ledger, C: Ledger, R: Wait, G: Gate, I: ByteIn + Drop, W: ByteOut>(
     rt: &R,
     alloc: Global,
     sessions: Blank,

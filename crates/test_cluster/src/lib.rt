@@ -20,11 +20,15 @@ mod leader_rows;
 #[cfg(test)]
 mod leaving_rows;
 #[cfg(test)]
+mod memory_rows;
+#[cfg(test)]
 mod mishap_rows;
 #[cfg(test)]
 mod missed_rows;
 #[cfg(test)]
 mod narrow;
+#[cfg(test)]
+mod refused_rows;
 #[cfg(test)]
 mod served_rows;
 #[cfg(test)]
