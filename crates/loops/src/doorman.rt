@@ -1,5 +1,6 @@
-ghost use Rattle.std.specs.Prelude.{◌≡◌, ◌↔◌, ◌-◌, ◌*◌, min, true, None, Some, IfOk, IfSome};
+ghost use Rattle.std.specs.Prelude.{◌≡◌, ◌↔◌, ◌-◌, true, None, Some, IfOk, IfSome};
 
+use crate::backoff::Backoff;
 use crate::fault::ServeFault;
 use crate::mailbox::Mailbox;
 use crate::troubles::{Trouble, trouble_of};
@@ -12,11 +13,8 @@ use std::time::Duration;
 
 const LISTENER: Token = Token(1);
 
-/// So many milliseconds pass until it tries again where the system was short of something: twice as many each time, until
-/// somebody is let in.
+/// So many milliseconds pass at first until it tries again where the system was short of something.
 const FIRST_PAUSE: u64 = 100;
-
-const LONGEST_PAUSE: u64 = 1000;
 
 /// While a loop has fewer clients than these, no other one is begun.
 const FEW: usize = 8;
@@ -28,8 +26,8 @@ pub(crate) struct Doorman {
     listener: TcpListener,
     /// So many more are let in; none where there is no end.
     left: Option<u32>,
-    /// The next pause, in milliseconds.
-    pause: u64,
+    /// It begins anew when somebody is let in.
+    backoff: Backoff,
 }
 
 impl Doorman {
@@ -44,7 +42,7 @@ impl Doorman {
             poll,
             listener,
             left,
-            pause: FIRST_PAUSE,
+            backoff: Backoff::new(FIRST_PAUSE),
         })
     }
 
@@ -62,7 +60,7 @@ impl Doorman {
             timeout = match self.accept_all(rt, loops) {
                 Ok(()) => None,
                 Err(Trouble::Listener) => return Err(ServeFault::ListenFailed),
-                Err(Trouble::Shortage | Trouble::Connection) => Some(self.next_pause()),
+                Err(Trouble::Shortage | Trouble::Connection) => Some(self.backoff.next_pause()),
             };
             if self.is_full() {
                 return Ok(());
@@ -86,16 +84,6 @@ impl Doorman {
         self.left = self.left.map(|left| left.saturating_sub(1));
     }
 
-    // How long it waits now. The next time it is longer.
-    fn next_pause(&mut self) -> Duration
-        ensures longer { self.new.pause ≡ min (self.old.pause * 2) LONGEST_PAUSE }
-        ensures left { self.new.left ≡ self.old.left }
-    {
-        let pause = self.pause;
-        self.pause = pause.saturating_mul(2).min(LONGEST_PAUSE);
-        Duration::from_millis(pause)
-    }
-
     // Accepts until none waits, or as many have come as there was said. A connection that went wrong before it was accepted
     // counts for nothing.
     fn accept_all<R: Wait>(&mut self, rt: &R, loops: &[Mailbox]) -> Result<(), Trouble> {
@@ -105,7 +93,7 @@ impl Doorman {
             }
             match self.listener.accept() {
                 Ok((stream, _)) => {
-                    self.pause = FIRST_PAUSE;
+                    self.backoff.reset();
                     if sends_at_once(&stream).unwrap_or(false) {
                         self.count_one();
                         hand_over(rt, loops, stream);

@@ -1,3 +1,4 @@
+use crate::backoff::Backoff;
 use crate::desk::LoopDesk;
 use crate::house::House;
 use crate::mailbox::{Mail, Mailbox};
@@ -22,6 +23,9 @@ const MOST_EVENTS: usize = 256;
 
 /// So often a loop looks whether the lock is free before it sleeps until it is.
 const LOOKS_AT_LOCK: u32 = 16;
+
+/// So many milliseconds pass at first until a loop tries again what was refused for want of memory.
+const FIRST_PAUSE: u64 = 10;
 
 /// What loops have in common.
 #[derive(Drop)]
@@ -55,6 +59,11 @@ pub(crate) struct EventLoop<'a, R, D: LoopDesk> {
     second: Option<u64>,
     /// The nodes have something left to do.
     has_more: bool,
+    /// Something was refused for want of memory in this turn.
+    is_refused: bool,
+    /// How long it sleeps at most where something was so in the last one.
+    pause: Option<Duration>,
+    backoff: Backoff,
     is_over: bool,
 }
 
@@ -80,6 +89,9 @@ impl<'a, R: Wait, D: LoopDesk> EventLoop<'a, R, D> {
             piece: [0; LONGEST_PIECE],
             second: None,
             has_more: false,
+            is_refused: false,
+            pause: None,
+            backoff: Backoff::new(FIRST_PAUSE),
             is_over: false,
         }
     }
@@ -96,6 +108,7 @@ impl<'a, R: Wait, D: LoopDesk> EventLoop<'a, R, D> {
             self.serve_listed();
             self.serve_reported(&events);
             self.meet();
+            self.choose_pause();
             if self.is_over && self.seats.is_empty() {
                 return Ok(());
             }
@@ -103,13 +116,24 @@ impl<'a, R: Wait, D: LoopDesk> EventLoop<'a, R, D> {
         unreachable!()
     }
 
-    // How long it may wait: not at all where there is something to go on with.
+    // How long it may wait: not at all where there is something to go on with, and not for long where memory was refused.
     fn timeout(&self) -> Option<Duration> {
         if self.has_work() || !self.own.may_sleep() {
             Some(Duration::ZERO)
         } else {
-            None
+            self.pause
         }
+    }
+
+    // A turn in which memory was refused is tried again soon, but later each time.
+    fn choose_pause(&mut self) {
+        if self.is_refused {
+            self.pause = Some(self.backoff.next_pause());
+        } else {
+            self.pause = None;
+            self.backoff.reset();
+        }
+        self.is_refused = false;
     }
 
     // Whether there is something to go on with.
@@ -121,7 +145,7 @@ impl<'a, R: Wait, D: LoopDesk> EventLoop<'a, R, D> {
     fn read_mail(&mut self, mail: Mail, poll: &Poll) {
         for session in mail.answered.iter() {
             if let Some(key) = self.seats.key_of(*session) {
-                let _ = self.answered.push(key);
+                self.is_refused |= self.answered.push(key).is_err();
             }
         }
         for stream in mail.streams {
@@ -182,8 +206,8 @@ impl<'a, R: Wait, D: LoopDesk> EventLoop<'a, R, D> {
         };
         match seat.go_on(&mut self.piece) {
             Wish::Wait => {}
-            Wish::HandIn => seat.put_on(&mut self.asking, key),
-            Wish::GoOn => seat.put_on(&mut self.listed, key),
+            Wish::HandIn => self.is_refused |= !seat.put_on(&mut self.asking, key),
+            Wish::GoOn => self.is_refused |= !seat.put_on(&mut self.listed, key),
             Wish::End => {
                 self.seats.let_go(key);
                 self.own.forget_one();
@@ -194,7 +218,7 @@ impl<'a, R: Wait, D: LoopDesk> EventLoop<'a, R, D> {
     // Hands in what there is under one hold of the lock, and goes on with those that were answered.
     fn meet(&mut self) {
         let has_mail = !self.answered.is_empty() || self.second.is_some();
-        if !has_mail && !self.has_more && self.asking.is_empty() {
+        if !has_mail && !self.has_more && self.asking.is_empty() && self.pause.is_none() {
             return;
         }
         self.confer();
@@ -215,12 +239,17 @@ impl<'a, R: Wait, D: LoopDesk> EventLoop<'a, R, D> {
     // What is done under the lock: what there is is handed in, the nodes' turns are taken, and answers are noted.
     fn confer(&mut self) {
         let mut house = self.lock();
-        if let Some(second) = self.second.take() {
+        let second = self.second.take();
+        if let Some(second) = second {
             self.pass_second(&mut house, second);
+        }
+        if second.is_some() || self.pause.is_some() {
+            self.try_again();
         }
         self.hand_in(&mut house);
         let settled = house.desk.settle(self.node);
         self.has_more = matches!(settled, Ok(false));
+        self.is_refused |= settled.is_err();
         self.sort_answers(&mut house);
         self.note_answers(&house);
         self.see_off(&mut house, settled);
@@ -232,6 +261,7 @@ impl<'a, R: Wait, D: LoopDesk> EventLoop<'a, R, D> {
         for key in self.asking.iter() {
             if let Some(seat) = self.seats.get_mut(*key) {
                 seat.hand_in(&mut house.desk);
+                self.is_refused |= seat.is_refused;
             }
         }
     }
@@ -245,7 +275,7 @@ impl<'a, R: Wait, D: LoopDesk> EventLoop<'a, R, D> {
             if owner != self.at {
                 let _ = self.told.push((session, owner));
             } else if let Some(key) = self.seats.key_of(session) {
-                let _ = self.answered.push(key);
+                self.is_refused |= self.answered.push(key).is_err();
             }
         }
     }
@@ -254,13 +284,13 @@ impl<'a, R: Wait, D: LoopDesk> EventLoop<'a, R, D> {
     fn note_answers(&mut self, house: &House<D>) {
         for key in self.answered.iter() {
             if let Some(seat) = self.seats.get_mut(*key) {
-                let _ = seat.client.note(&house.desk);
+                self.is_refused |= seat.client.note(&house.desk).is_err();
             }
         }
     }
 
     // Sees off those that have left. Where no node has anything left to do, those that send nothing more wait
-    // no longer; where a node was refused memory, all is tried again at the next second.
+    // no longer; where a node was refused memory, all wait until the loop tries again.
     fn see_off(&mut self, house: &mut House<D>, settled: Result<bool, HallError>) {
         for key in self.asking.iter() {
             if let Some(seat) = self.seats.get_mut(*key) {
@@ -276,8 +306,7 @@ impl<'a, R: Wait, D: LoopDesk> EventLoop<'a, R, D> {
         }
     }
 
-    // A second has passed: the loop that comes first hands it in. What clients wait for is looked for once more, and handed in again; and
-    // what was refused is tried again.
+    // A second has passed: the loop that comes first hands it in. What clients wait for is handed in again.
     fn pass_second(&mut self, house: &mut House<D>, second: u64) {
         let node = node_of_second(self.common.nodes, second);
         house.tick(second, node);
@@ -286,8 +315,20 @@ impl<'a, R: Wait, D: LoopDesk> EventLoop<'a, R, D> {
                 if seat.is_asked() {
                     house.desk.hand_in_again(seat.ticket(), node);
                 }
-                if seat.is_asked() || seat.is_refused {
-                    seat.is_refused = self.answered.push(key).is_err();
+            }
+        }
+    }
+
+    // What clients wait for is looked for once more, and what was refused for want of memory is tried again.
+    fn try_again(&mut self) {
+        for key in 0..self.seats.key_bound() {
+            if let Some(seat) = self.seats.get_mut(key) {
+                if seat.is_asked() {
+                    self.is_refused |= self.answered.push(key).is_err();
+                }
+                if seat.is_refused {
+                    seat.is_refused = false;
+                    self.is_refused |= !seat.put_on(&mut self.asking, key);
                 }
             }
         }

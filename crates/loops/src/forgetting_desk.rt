@@ -1,3 +1,6 @@
+ghost use Rattle.std.specs.Prelude.{◌≡◌, ◌≢◌, ◌≤◌, ℕ, max};
+ghost use Rattle.forgetting_hall.specs.Handing.{last_number_of, second_of};
+
 use crate::desk::LoopDesk;
 use bean_queue::{Op, Reply};
 use conversation::{Desk, LeanTicket, SessionTicket};
@@ -74,6 +77,17 @@ impl<O: Object<Op = Op, Reply = Reply>> Desk for ForgettingDesk<O> {
 }
 
 impl<O: Object<Op = Op, Reply = Reply>> LoopDesk for ForgettingDesk<O> {
+    ghost use Rattle.std.specs.Prelude.{[], ◌∷◌};
+
+    // By all sessions and the clock; beside that, how many sessions were opened.
+    ghost handed_in = { λ desk. desk.hall.summary.submitted ∷ desk.hall.opened ∷ [] };
+
+    ghost last_number = { λ desk. last_number_of desk.hall };
+
+    ghost opened = { λ desk. desk.hall.opened };
+
+    ghost clock = { λ desk. second_of desk.hall };
+
     fn open_session(&mut self) -> Result<LeanTicket, HallError> {
         Ok(LeanTicket::new(self.hall.open_session()?))
     }
@@ -100,11 +114,7 @@ impl<O: Object<Op = Op, Reply = Reply>> LoopDesk for ForgettingDesk<O> {
     // What there is to forget is forgotten before, so that seconds alone leave nothing behind.
     fn tick(&mut self, second: u64, node: u8) {
         self.hall.forget();
-        for _ in 0..MOST_SECONDS {
-            if self.hall.last_second() >= second || self.hall.tick(node).is_err() {
-                return;
-            }
-        }
+        hand_in_seconds(&mut self.hall, second, node);
     }
 
     fn take_turn(&mut self, watch: &mut Watch, round: u64) {
@@ -112,11 +122,11 @@ impl<O: Object<Op = Op, Reply = Reply>> LoopDesk for ForgettingDesk<O> {
     }
 
     fn settle(&mut self, first: u8) -> Result<bool, HallError> {
-        let is_calm = settle(&mut self.hall, first)?;
+        let settled = settle(&mut self.hall, first);
         if self.hall.lag() >= FORGOTTEN_AT_ONCE {
             self.hall.forget();
         }
-        Ok(is_calm)
+        settled
     }
 
     fn hand_in_again(&mut self, ticket: &LeanTicket, node: u8) {
@@ -131,5 +141,19 @@ impl<O: Object<Op = Op, Reply = Reply>> LoopDesk for ForgettingDesk<O> {
         let session = *self.answered.get(self.told)?;
         self.told += 1;
         Some(session)
+    }
+}
+
+// Hands in the seconds up to this one, as far as the hall takes them.
+fn hand_in_seconds<O: Object>(hall: &mut ForgettingHall<O>, second: u64, node: u8)
+    ensures rises { second_of hall.old ≤ second_of hall.new }
+    ensures bound { second_of hall.new ≤ max (second_of hall.old) second }
+    ensures others { (session : ℕ) → session ≢ 0 →
+        last_number_of hall.new session ≡ last_number_of hall.old session }
+{
+    for _ in 0..MOST_SECONDS {
+        if hall.last_second() >= second || hall.tick(node).is_err() {
+            return;
+        }
     }
 }

@@ -51,6 +51,7 @@ impl<O: Object> HallDesk<O> {
             → self.new.compared.items ≡ with_mark self.old.compared.items ticket.now.session }
         ensures disagrees { ¬ (Agrees self.old.hall ticket.now) →
             (self.new.compared.items ≡ self.old.compared.items) × (self.new.acts ≡ self.old.acts) }
+        ensures hall { self.new.hall ≡ self.old.hall }
     {
         let HallDesk {
             hall,
@@ -117,6 +118,18 @@ impl<O: Object<Op = Op, Reply = Reply>> Desk for HallDesk<O> {
 }
 
 impl<O: Object<Op = Op, Reply = Reply>> LoopDesk for HallDesk<O> {
+    ghost use Rattle.std.specs.Prelude.{length};
+    ghost use Rattle.hall.specs.Books.{last_number};
+
+    // By each session.
+    ghost handed_in = { λ desk. desk.hall.book };
+
+    ghost last_number = { λ desk. last_number desk.hall.book };
+
+    ghost opened = { λ desk. length desk.hall.book };
+
+    ghost clock = { λ desk. desk.hall.second };
+
     fn open_session(&mut self) -> Result<Ticket<O>, HallError> {
         self.compared.reserve(1)?;
         let HallDesk { hall, compared, .. } = self;

@@ -5,6 +5,7 @@
 //! whose clients were answered meanwhile.
 #![tactic(auto)]
 
+mod backoff;
 mod clock;
 mod desk;
 mod doorman;

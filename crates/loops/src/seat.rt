@@ -18,7 +18,7 @@ pub(crate) struct Seat<T: SessionTicket> {
     has_gone: bool,
     /// The hall takes nothing more of its session.
     is_abandoned: bool,
-    /// Something was refused for want of memory: it is tried again at the next second.
+    /// Something was refused for want of memory: it waits until the loop tries again.
     pub(crate) is_refused: bool,
     /// The loop has it on its list of those that it goes on with.
     pub(crate) is_listed: bool,
@@ -79,16 +79,13 @@ impl<T: SessionTicket> Seat<T> {
         }
     }
 
-    /// Puts it on a list under its key, unless it is on one. Where there is no memory for that, it is tried again at the next
-    /// second.
-    pub(crate) fn put_on(&mut self, list: &mut Vec<usize>, key: usize) {
-        if self.is_listed {
-            return;
+    /// Puts it on a list under its key, unless it is on one. False where there is no memory for that.
+    pub(crate) fn put_on(&mut self, list: &mut Vec<usize>, key: usize) -> bool {
+        if !self.is_listed {
+            self.is_listed = list.push(key).is_ok();
+            self.is_refused = !self.is_listed;
         }
-        match list.push(key) {
-            Ok(()) => self.is_listed = true,
-            Err(_) => self.is_refused = true,
-        }
+        self.is_listed
     }
 
     /// Whether its session hands in nothing more.

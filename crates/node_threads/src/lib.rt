@@ -10,7 +10,6 @@ mod cluster_error;
 mod faults;
 mod gate;
 mod node_thread;
-mod pause;
 mod places;
 mod rounds;
 mod shared;

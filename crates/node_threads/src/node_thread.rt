@@ -2,12 +2,15 @@ ghost use Rattle.std.specs.Prelude.{◌<◌};
 
 use crate::faults::Faults;
 use crate::gate::Gate;
-use crate::pause::Pause;
 use crate::shared::{AfterTurn, Shared};
+use backoff::Backoff;
 use counted_hall::Watch;
 use object::Object;
 use std::sync::Wait;
 use std::sync::ledger::Ledger;
+
+/// So many milliseconds a node pauses at first where it was refused memory in its turn.
+const FIRST_PAUSE: u64 = 10;
 
 /// What the thread of a node does: it takes its turn when there is something for it, until all is over. Where it is
 /// refused memory, it tries again after a pause. Nodes count from 1.
@@ -22,17 +25,17 @@ pub(crate) fn run_node<O: Object, S: Ledger, C: Ledger, R: Wait, G: Gate, F: Fau
 {
     // it proposes before it reads its mail, so no request waits as long as letters keep coming
     let mut watch = Watch::new(node, false);
-    let mut pause = Pause::first();
+    let mut backoff = Backoff::new(FIRST_PAUSE);
     for _ in rt.forever() {
         let stands = shared.take_turn(rt, &mut watch, gate, faults);
         if shared.is_over() {
             return;
         }
         if stands == AfterTurn::WasRefused {
-            shared.pause_as_node(rt, node, pause.take());
+            shared.pause_as_node(rt, node, backoff.next_pause());
             continue;
         }
-        pause = Pause::first();
+        backoff.reset();
         if stands == AfterTurn::HasNothing {
             shared.wait_as_node(rt, node);
         }
