@@ -1,9 +1,9 @@
 ghost use Rattle.std.specs.Prelude.{◌≡◌, ◌↔◌, ◌-◌, true, None, Some, IfOk, IfSome};
 
-use crate::backoff::Backoff;
 use crate::fault::ServeFault;
 use crate::mailbox::Mailbox;
 use crate::troubles::{Trouble, trouble_of};
+use backoff::Backoff;
 use mio::net::{TcpListener, TcpStream};
 use mio::{Events, Interest, Poll, Token};
 use std::io;

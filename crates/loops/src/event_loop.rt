@@ -1,10 +1,10 @@
-use crate::backoff::Backoff;
 use crate::desk::LoopDesk;
 use crate::house::House;
 use crate::mailbox::{Mail, Mailbox};
 use crate::seat::{Seat, Wish};
 use crate::seats::Seats;
 use crate::wire::Wire;
+use backoff::Backoff;
 use conversation::{Client, Conversation, LONGEST_PIECE};
 use hall::HallError;
 use mio::net::TcpStream;

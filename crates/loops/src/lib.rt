@@ -5,7 +5,6 @@
 //! whose clients were answered meanwhile.
 #![tactic(auto)]
 
-mod backoff;
 mod clock;
 mod desk;
 mod doorman;
