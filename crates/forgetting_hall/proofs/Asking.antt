@@ -1,7 +1,7 @@
 -- What is handed in to the hall is what the laws speak of.
 use Rattle.std.proofs.Common.{◌≡◌, ◌≢◌, ◌<◌, ◌≤◌, ◌+◌, ◌^◌, ◌==◌, ◌&&◌, ⊎_elim, ℕ, zero, suc, Bool, true, false, cond, not, List, [], ◌∷◌, length, Option, Some, None}
 use Rattle.std.proofs.Common.{refl, sym, ap, ◌∙◌, subst, arith}
-use Rattle.std.specs.Prelude.{is_some, nat_le, slice_index_or, slice_set}
+use Rattle.std.specs.Prelude.{is_some, nat_le, nat_lt, slice_index_or, slice_set}
 use Rattle.std.specs.FinMap.{get}
 use Rattle.std.proofs.lemmas.Bool.{cases_eq}
 use Rattle.std.proofs.lemmas.Bool.Decides.{nat_tests}
@@ -31,7 +31,7 @@ use Rattle.client_table.specs.declared.client.Client.{Client}
 use Rattle.forgetting_hall.specs.Clients.{IsNextOf, IsLastOf}
 use Rattle.forgetting_hall.specs.Halls.{ForgettingState, IsForgettingHall, IsCounted, FollowsIn, rest_of_hall}
 use Rattle.forgetting_hall.specs.Handing.{asked_lean, last_of, last_of_client, reply_of, reply_of_client, last_number_of, next_of, second_of}
-use Rattle.forgetting_hall.specs.Refusing.{has_all_events, is_session, keeps_waiting, refusal_of_submit, refusal_of_resubmit, refusal_of_tick}
+use Rattle.forgetting_hall.specs.Refusing.{has_all_events, is_session, keeps_waiting, is_behind_last, refusal_of_submit, refusal_of_resubmit, refusal_of_tick, refusal_of_keyed}
 use Rattle.forgetting_hall.specs.Rests.{HallRest, ShowsWorld, FollowsEvent, IsReplyInOrder, acted_rest, handed_in}
 use Rattle.forgetting_hall.specs.Shown.{with_object, turn_held, acted_net_held}
 use Rattle.forgetting_hall.proofs.Keeping.{all_nodes}
@@ -175,20 +175,26 @@ not_clock : (session : ℕ) → not (session == 0) ≡ true → 0 < session
 not_clock session e = grind (arith, nat_tests, e)
 
 module _ {O Op Reply : Type 0} (h : ForgettingState Op O Reply) where
-  -- the number of a session's last command is no greater than the count of events
-  pub number_below : IsCounted h.summary h.opened h.taken → (session : ℕ) → last_number_of h session ≤ h.taken
+  -- the number of a session's last command is no greater than what is counted
+  pub number_below : IsCounted h.summary h.opened h.taken → (session : ℕ) → last_number_of h session ≤ 2 ^ 61 + h.taken
   number_below is session = at (get h.summary.clients session) refl
     where
-      at : (o : Option (Client Op Reply)) → get h.summary.clients session ≡ o → number_of_last (last_of_client o) ≤ h.taken
+      at : (o : Option (Client Op Reply)) → get h.summary.clients session ≡ o → number_of_last (last_of_client o) ≤ 2 ^ 61 + h.taken
       at None e = omega arith
       at (Some client) e = is.numbers session client e
+
+  -- the next number is greater than the last one
+  next_above : (session : ℕ) (client : Client Op Reply) → get h.summary.clients session ≡ Some client
+      → number_of_last client.last < last_number_of h session + 1
+  next_above session client e =
+      let same : last_number_of h session ≡ number_of_last client.last = ap (λ o. number_of_last (last_of_client o)) e in omega (arith, same)
 
   next_from : (session : ℕ) (o : Option (Client Op Reply)) → get h.summary.clients session ≡ o → is_some o ≡ true → (act : Act Op) → IsNextOf h.summary (next_of h session act)
   next_from session None e i act = absurd (cc)
   next_from session (Some client) e i act = record {
     client = client;
     is_there = e;
-    number = ap (λ o. number_of_last (last_of_client o) + 1) e;
+    number = next_above session client e;
   }
 
   module _ (session : ℕ) (act : Act Op) (n : ℕ) (none : refusal_of_submit h session act n ≡ None) where
@@ -212,6 +218,9 @@ module _ {O Op Reply : Type 0} (h : ForgettingState Op O Reply) where
     may Close e number low high = record { above = low; within = high; allowed = not_clock session there.0 }
     may Tick e number low high = absurd (cc)
 
+    pub submit_low : IsCounted h.summary h.opened h.taken → last_number_of h session + 1 ≤ 2 ^ 61 + h.taken + 1
+    submit_low is = let low = number_below is session in omega (arith, low)
+
     pub submit_command : IsCounted h.summary h.opened h.taken → IsCommand {Op = Op} (next_of h session act)
     submit_command is =
         let low = number_below is session in
@@ -233,12 +242,15 @@ module _ {O Op Reply : Type 0} (h : ForgettingState Op O Reply) where
         let low = below (2 ^ 40) (second_of h) at_tick.1 in
         record { above = omega arith; within = omega (arith, low); allowed = (refl, omega (arith, low)) }
 
+    pub tick_low : IsCounted h.summary h.opened h.taken → second_of h + 1 ≤ 2 ^ 61 + h.taken + 1
+    tick_low is = let low = number_below is 0 in omega (arith, low)
+
     pub tick_next : IsCounted h.summary h.opened h.taken → IsNextOf h.summary (tick_of (second_of h + 1))
     tick_next is =
         let clock = some_there (get h.summary.clients 0) is.clock in record {
           client = clock.0;
           is_there = clock.1;
-          number = ap (λ o. number_of_last (last_of_client o) + 1) clock.1;
+          number = next_above 0 clock.0 clock.1;
         }
 
   module _ (session n : ℕ) (none : refusal_of_resubmit h session n ≡ None) where
@@ -266,6 +278,42 @@ module _ {O Op Reply : Type 0} {rules : Rules O Op Reply} (h : ForgettingState O
           let of : client.last ≡ Some c = sym (ap last_of_client e) ∙ last in
           let own = ((is.shown.2.summary.clients session client e).own c of).0 in
           record { client = client; is_there = ap (get h.summary.clients) own ∙ e; last = of }
+
+behind_parts : (a b c : Bool) → (a && (b && c)) ≡ true → (a ≡ true) × (b ≡ true) × (c ≡ true)
+behind_parts true true true e = (refl, refl, refl)
+behind_parts true true false e = absurd (cc)
+behind_parts true false c e = absurd (cc)
+behind_parts false b c e = absurd (cc)
+
+above_when : (a b : ℕ) → nat_lt a b ≡ true → a < b
+above_when a b e = grind (arith, nat_tests, e)
+
+most_when : (a b : ℕ) → nat_le a b ≡ true → a ≤ b
+most_when a b e = grind (arith, nat_tests, e)
+
+-- a command that is handed in with its key is behind the last one of its session
+module _ {O Op Reply : Type 0} (h : ForgettingState Op O Reply) (c : Command Op) (n : ℕ) (none : refusal_of_keyed h c.key n ≡ None) where
+  at_keyed : (is_member h.network.members n ≡ true) × (is_behind_last h c.key ≡ true) × (has_all_events h ≡ false)
+  at_keyed = submit_left (is_member h.network.members n) (is_behind_last h c.key) false (has_all_events h) none
+
+  parts : (is_some (get h.summary.clients c.key.session) ≡ true) × (nat_lt (last_number_of h c.key.session) c.key.number ≡ true) × (nat_le c.key.number (2 ^ 61) ≡ true)
+  parts = behind_parts (is_some (get h.summary.clients c.key.session)) (nat_lt (last_number_of h c.key.session) c.key.number) (nat_le c.key.number (2 ^ 61)) at_keyed.1
+
+  pub keyed_member : is_member h.network.members n ≡ true
+  keyed_member = at_keyed.0
+
+  pub keyed_room : h.taken < most_events
+  keyed_room = below most_events h.taken at_keyed.2
+
+  pub keyed_low : c.key.number ≤ 2 ^ 61 + h.taken + 1
+  keyed_low = let low = most_when c.key.number (2 ^ 61) parts.2 in omega (arith, low)
+
+  pub keyed_next : IsNextOf h.summary c
+  keyed_next =
+      let client = some_there (get h.summary.clients c.key.session) parts.0 in
+      let last : last_number_of h c.key.session ≡ number_of_last client.0.last = ap (λ o. number_of_last (last_of_client o)) client.1 in
+      let more = above_when (last_number_of h c.key.session) c.key.number parts.1 in
+      record { client = client.0; is_there = client.1; number = omega (arith, last, more) }
 
 -- the reply to a session's last command is that of one order
 pub reply_in_order : {O Op Reply : Type 0} (rules : Rules O Op Reply) (promise : List (Command Op) → Type 0) (h : ForgettingState Op O Reply) (session : ℕ)

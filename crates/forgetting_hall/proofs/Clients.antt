@@ -1,5 +1,5 @@
 -- What is kept of the clients, from one happening to the next.
-use Rattle.std.proofs.Common.{◌≡◌, ◌≢◌, ◌+◌, inl, inr, ⊎_elim, ℕ, Bool, true, false, cond, List, [], ◌∷◌, ◌++◌}
+use Rattle.std.proofs.Common.{◌≡◌, ◌<◌, ◌≢◌, inl, inr, ⊎_elim, ℕ, Bool, true, false, cond, List, [], ◌∷◌, ◌++◌}
 use Rattle.std.proofs.Common.{Option, Some, None, refl, sym, ap, ◌∙◌, subst, arith}
 use Rattle.std.specs.Prelude.{option_map}
 use Rattle.std.specs.Option.{option_or}
@@ -105,7 +105,7 @@ module _ {Op Reply : Type 0} where
     }
 
     -- a next command wasn't submitted before
-    pub next_is_new : (c : Command Op) → c.key.session ≡ session → c.key.number ≡ number_of_last client.last + 1
+    pub next_is_new : (c : Command Op) → c.key.session ≡ session → number_of_last client.last < c.key.number
         → (t : Submission Op) → In t h.submitted → t.command.key ≢ c.key
     next_is_new c own next t i e =
         let low = is.last t i (ap (λ (k : Key). k.session) e ∙ own) in
@@ -135,7 +135,7 @@ module _ {Op Reply : Type 0} where
       }
 
       -- by this one: its next command
-      pub client_next : c.key.session ≡ session → c.key.number ≡ number_of_last client.last + 1
+      pub client_next : c.key.session ≡ session → number_of_last client.last < c.key.number
           → ((a : Answer Reply) → In a h.answers → a.to ≢ c.key)
           → IsClientOf after session (record { last = Some c; reply = None })
       client_next own next unanswered = record {

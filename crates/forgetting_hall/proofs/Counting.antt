@@ -20,7 +20,7 @@ use Rattle.recorder.proofs.Cuts.{firsts_once}
 use Rattle.node.specs.SlotLaws.{get_each_value, get_insert_same, get_insert_other}
 use Rattle.client_table.specs.Clients.{Summary, blank_summary, new_client, client_of, number_of_last, replied, with_command, with_replies, with_effect}
 use Rattle.client_table.specs.declared.client.Client.{Client}
-use Rattle.forgetting_hall.specs.Clients.{IsSummaryOf, IsNextOf}
+use Rattle.forgetting_hall.specs.Clients.{IsSummaryOf}
 use Rattle.forgetting_hall.specs.Halls.{IsCounted}
 use Rattle.forgetting_hall.proofs.Firsts.{firsts_in}
 use Rattle.forgetting_hall.proofs.Summaries.{inserted}
@@ -73,18 +73,16 @@ module _ {Op Reply : Type 0} where
   }
 
   -- a next command was handed in
-  pub counted_command : (s : Summary Op Reply) (opened taken : ℕ) → IsCounted s opened taken → (c : Command Op) → IsNextOf s c
+  pub counted_command : (s : Summary Op Reply) (opened taken : ℕ) → IsCounted s opened taken → (c : Command Op) → c.key.number ≤ 2 ^ 61 + taken + 1
       → IsCounted (with_command c s) opened (taken + 1)
-  counted_command s opened taken is c next = record {
+  counted_command s opened taken is c low = record {
     clock = stays_there s.clients c.key.session (client_of c) 0 is.clock;
     submitted = let h = is.submitted in omega (arith, h);
     placed = let h = is.placed in omega (arith, h);
     numbers = λ session client at. ⊎_elim
         (λ (here : (session ≡ c.key.session) × (client_of c ≡ client)).
         let same : number_of_last client.last ≡ c.key.number = ap (λ (x : Client Op Reply). number_of_last x.last) (sym here.1) in
-        let was : number_of_last next.client.last ≤ taken = is.numbers c.key.session next.client next.is_there in
-        let more : c.key.number ≡ number_of_last next.client.last + 1 = next.number in
-        omega (arith, same, was, more))
+        omega (arith, same, low))
         (λ (there : (session ≢ c.key.session) × (get s.clients session ≡ Some client)). let h = is.numbers session client there.1 in omega (arith, h))
         (inserted s.clients c.key.session (client_of c) session client at);
     few = is.few;
@@ -98,7 +96,7 @@ module _ {Op Reply : Type 0} where
     placed = is.placed;
     numbers = λ session client at.
         let was = get_each_value (λ _ x. replied given x) s.clients session client at in
-        subst (λ n. n ≤ taken) (sym (ap (λ (x : Client Op Reply). number_of_last x.last) was.2)) (is.numbers session was.0 was.1);
+        subst (λ n. n ≤ 2 ^ 61 + taken) (sym (ap (λ (x : Client Op Reply). number_of_last x.last) was.2)) (is.numbers session was.0 was.1);
     few = is.few;
   }
 
@@ -118,18 +116,18 @@ module _ {Op Reply : Type 0} where
   counted_deed s opened taken is given key = counted_effect key (with_replies given s) opened taken (counted_replies s opened taken is given)
 
   -- a session was opened
-  pub counted_open : (s : Summary Op Reply) (opened taken : ℕ) → IsCounted s opened taken → opened < 4294967295
-      → IsCounted (record s { clients = insert s.clients (opened + 1) new_client }) (opened + 1) taken
-  counted_open s opened taken is room = record {
-    clock = stays_there s.clients (opened + 1) new_client 0 is.clock;
+  pub counted_open : (s : Summary Op Reply) (opened taken : ℕ) → IsCounted s opened taken → (more : ℕ) → more < 2 ^ 32
+      → IsCounted (record s { clients = insert s.clients more new_client }) more taken
+  counted_open s opened taken is more room = record {
+    clock = stays_there s.clients more new_client 0 is.clock;
     submitted = is.submitted;
     placed = is.placed;
     numbers = λ session client at. ⊎_elim
-        (λ (here : (session ≡ opened + 1) × (new_client ≡ client)).
+        (λ (here : (session ≡ more) × (new_client ≡ client)).
         let none : number_of_last client.last ≡ 0 = ap (λ (x : Client Op Reply). number_of_last x.last) (sym here.1) in omega (arith, none))
-        (λ (there : (session ≢ opened + 1) × (get s.clients session ≡ Some client)). is.numbers session client there.1)
-        (inserted s.clients (opened + 1) new_client session client at);
-    few = omega (arith, room);
+        (λ (there : (session ≢ more) × (get s.clients session ≡ Some client)). is.numbers session client there.1)
+        (inserted s.clients more new_client session client at);
+    few = room;
   }
 
   -- a session is kept no more

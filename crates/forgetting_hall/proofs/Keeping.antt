@@ -1,5 +1,5 @@
 -- The hall shows a world after each of its calls: one that it showed before, or what the event makes of it.
-use Rattle.std.proofs.Common.{◌≡◌, ◌<◌, ◌+◌, ℕ, false, zero, suc, List, [], ◌∷◌, map, length, Option, Some, None, refl, sym, subst, ◌∙◌}
+use Rattle.std.proofs.Common.{◌≡◌, ◌<◌, ℕ, false, zero, suc, List, [], ◌∷◌, map, length, Option, Some, None, refl, sym, subst, ◌∙◌}
 use Rattle.std.specs.Prelude.{slice_index_or}
 use Rattle.std.specs.FinMap.{insert, remove}
 use Rattle.std.proofs.lemmas.List.{length-map}
@@ -17,7 +17,7 @@ use Rattle.lean_network.proofs.States.{states_opened}
 use Rattle.network.specs.Networks.{front, mail_of}
 use Rattle.client_table.specs.Clients.{Summary, blank_summary, new_client}
 use Rattle.forgetting_hall.specs.Halls.{ForgettingState, IsForgettingHall, IsCounted, FollowsIn, ShowsStill, new_forgetting, rest_of_hall}
-use Rattle.forgetting_hall.specs.Rests.{HallRest, ShowsWorld, new_rest, lost_rest, repeated_rest, opened_rest, let_go_rest}
+use Rattle.forgetting_hall.specs.Rests.{HallRest, ShowsWorld, new_rest, lost_rest, repeated_rest, opened_as, let_go_rest}
 use Rattle.forgetting_hall.proofs.Counting.{counted_blank}
 
 module _ {O Op Reply : Type 0} (rules : Rules O Op Reply) where
@@ -102,11 +102,12 @@ module _ {O Op Reply : Type 0} (rules : Rules O Op Reply) (h : ForgettingState O
           (repeats (rest_of_hall rules h) w n l i s e)
 
   -- a session is opened
-  pub opened_still : ((q : HallRest Op O Reply) (w : World Op Reply) → IsWorld rules w → ShowsWorld rules q w → ShowsWorld rules (opened_rest q) w)
-      → (t : Summary Op Reply) → t ≡ record h.summary { clients = insert h.summary.clients (h.opened + 1) new_client }
-      → ShowsStill rules h (record h { summary = t; opened = h.opened + 1 })
-  opened_still opens t is w i s =
-      subst (λ q. ShowsWorld rules (rest_of_hall rules (record h { summary = q; opened = h.opened + 1 })) w) (sym is) (opens (rest_of_hall rules h) w i s)
+  pub opened_still : ((q : HallRest Op O Reply) (w : World Op Reply) (session : ℕ) → IsWorld rules w → ShowsWorld rules q w → q.opened < session
+      → ShowsWorld rules (opened_as q session) w)
+      → (session : ℕ) → h.opened < session → (t : Summary Op Reply) → t ≡ record h.summary { clients = insert h.summary.clients session new_client }
+      → ShowsStill rules h (record h { summary = t; opened = session })
+  opened_still opens session above t is w i s =
+      subst (λ q. ShowsWorld rules (rest_of_hall rules (record h { summary = q; opened = session })) w) (sym is) (opens (rest_of_hall rules h) w session i s above)
 
   -- and kept no more
   pub let_go_still : ((q : HallRest Op O Reply) (w : World Op Reply) (session : ℕ) → IsWorld rules w → ShowsWorld rules q w

@@ -47,7 +47,7 @@ use Rattle.client_table.specs.Clients.{number_of_last, first_reply, with_replies
 use Rattle.forgetting_hall.specs.Firsts.{Performs}
 use Rattle.forgetting_hall.specs.WorldFacts.{WorldFacts}
 use Rattle.forgetting_hall.specs.Rests.{HallRest, ShowsWorld, FollowsEvent, FollowsLetterOf, IsGoingOn, IsReplyInOrder}
-use Rattle.forgetting_hall.specs.Rests.{new_rest, fresh_answers, outcome_rest, acted_rest, handed_in, done_rest, opened_rest, let_go_rest}
+use Rattle.forgetting_hall.specs.Rests.{new_rest, fresh_answers, outcome_rest, acted_rest, handed_in, done_rest, opened_as, let_go_rest}
 use Rattle.forgetting_hall.specs.Shown.{ShowsRest, FollowsDeed, FollowsLetter, IsLastSubmitted, turn_held}
 use Rattle.forgetting_hall.proofs.Clients.{found_given, next_is_new}
 use Rattle.forgetting_hall.proofs.Opening.{opening_shows, opening_obeys}
@@ -298,14 +298,14 @@ module _ {O Op Reply : Type 0} (rules : Rules O Op Reply) (facts : WorldFacts ru
     taken = s.taken;
   }
 
-  pub open_shows : ShowsWorld rules (opened_rest h) w
-  open_shows = record {
+  pub open_shows : (session : ℕ) → h.opened < session → ShowsWorld rules (opened_as h session) w
+  open_shows session above = record {
     cluster = s.cluster;
     objects = s.objects;
-    summary = open_kept h.summary w.happenings s.summary h.opened s.handed_in;
+    summary = open_kept h.summary w.happenings s.summary session (λ t j. let low = s.handed_in t j in omega (arith, low, above));
     placed = s.placed;
-    opened = open_opened h.summary h.opened s.opened;
-    handed_in = λ t j. let low = s.handed_in t j in omega (arith, low);
+    opened = open_opened h.summary h.opened s.opened session (omega (arith, above));
+    handed_in = λ t j. let low = s.handed_in t j in omega (arith, low, above);
     reach = s.reach;
     taken = s.taken;
   }

@@ -1,5 +1,5 @@
 -- What is kept of what happened, from one event to the next.
-use Rattle.std.proofs.Common.{◌≡◌, ◌≢◌, ◌≤◌, ◌+◌, ◌⊎◌, inl, inr, ⊎_elim, ℕ, Bool, true, false, true≢false, cond, List, [], ◌∷◌, ◌++◌, length}
+use Rattle.std.proofs.Common.{◌≡◌, ◌<◌, ◌≢◌, ◌≤◌, ◌+◌, ◌⊎◌, inl, inr, ⊎_elim, ℕ, Bool, true, false, true≢false, cond, List, [], ◌∷◌, ◌++◌, length}
 use Rattle.std.proofs.Common.{Option, Some, None, refl, sym, ap, ◌∙◌, subst, arith, append-nil, length-append}
 use Rattle.std.specs.Prelude.{IsSome, option_map}
 use Rattle.std.specs.Option.{option_to_list}
@@ -141,17 +141,17 @@ module _ {Op Reply : Type 0} where
           })
 
     -- a session is opened that handed in nothing
-    pub open_kept : (count : ℕ) → ((t : Submission Op) → In t h.submitted → t.command.key.session ≤ count)
-        → IsSummaryOf (record s { clients = insert s.clients (count + 1) new_client }) h
-    open_kept count few = record {
+    pub open_kept : (opened : ℕ) → ((t : Submission Op) → In t h.submitted → t.command.key.session < opened)
+        → IsSummaryOf (record s { clients = insert s.clients opened new_client }) h
+    open_kept opened few = record {
       clients = λ session client e. ⊎_elim
-          (λ (here : (session ≡ count + 1) × (new_client ≡ client)). subst (IsClientOf h session) here.1 (record {
+          (λ (here : (session ≡ opened) × (new_client ≡ client)). subst (IsClientOf h session) here.1 (record {
             last = λ t i f. let low = few t i in let high = here.0 in absurd (omega (arith, low, high, f));
             own = λ c f. absurd (cc);
             reply = refl;
           }))
-          (λ (there : (session ≢ count + 1) × (get s.clients session ≡ Some client)). is.clients session client there.1)
-          (inserted s.clients (count + 1) new_client session client e);
+          (λ (there : (session ≢ opened) × (get s.clients session ≡ Some client)). is.clients session client there.1)
+          (inserted s.clients opened new_client session client e);
       submitted = is.submitted;
       answered = is.answered;
     }
@@ -176,11 +176,11 @@ module _ {Op Reply : Type 0} where
         (λ (there : IsSome (get s.clients session)). opened session there)
         (some_inserted s.clients c.key.session (record { last = Some c; reply = None }) session i)
 
-    pub open_opened : IsOpenedUpTo (count + 1) (record s { clients = insert s.clients (count + 1) new_client })
-    open_opened session i = ⊎_elim
-        (λ (here : session ≡ count + 1). omega (arith, here))
-        (λ (there : IsSome (get s.clients session)). let low = opened session there in omega (arith, low))
-        (some_inserted s.clients (count + 1) new_client session i)
+    pub open_opened : (more : ℕ) → count ≤ more → IsOpenedUpTo more (record s { clients = insert s.clients more new_client })
+    open_opened more above session i = ⊎_elim
+        (λ (here : session ≡ more). omega (arith, here))
+        (λ (there : IsSome (get s.clients session)). let low = opened session there in omega (arith, low, above))
+        (some_inserted s.clients more new_client session i)
 
     pub let_go_opened : (session : ℕ) → IsOpenedUpTo count (record s { clients = remove s.clients session })
     let_go_opened session other i =

@@ -1,5 +1,5 @@
 -- What it is that a table of clients, as a hall that forgets keeps it, tells of what happened.
-use Rattle.std.specs.Prelude.{◌≡◌, ℕ, ◌+◌, ◌≤◌, List, length, Some, IsSome}
+use Rattle.std.specs.Prelude.{◌≡◌, ℕ, ◌<◌, ◌≤◌, List, length, Some, IsSome}
 use Rattle.std.specs.FinMap.{get}
 use Rattle.object.specs.Answers.{answered_key}
 use Rattle.object.specs.Happenings.{Happenings}
@@ -34,11 +34,11 @@ CountsPlaced count w = (keys : List Key) × HasPlaced w keys × (count ≡ lengt
 abbrev pub IsOpenedUpTo : {Op Reply : Type 0} → ℕ → Summary Op Reply → Type 0
 IsOpenedUpTo count s = (session : ℕ) → IsSome (get s.clients session) → session ≤ count
 
--- the command is the next one of a session that is there
+-- the command comes behind the last one of a session that is there
 pub record IsNextOf {Op Reply : Type 0} (s : Summary Op Reply) (c : Command Op) : Type 0 where
   pub client : Client Op Reply
   pub is_there : get s.clients c.key.session ≡ Some client
-  pub number : c.key.number ≡ number_of_last client.last + 1
+  pub number : number_of_last client.last < c.key.number
 
 -- the command is the last one of a session that is there
 pub record IsLastOf {Op Reply : Type 0} (s : Summary Op Reply) (c : Command Op) : Type 0 where

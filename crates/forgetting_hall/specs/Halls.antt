@@ -1,6 +1,6 @@
 -- A hall that forgets, as its code has it: nodes with their mail that keep the slots from a base on, and what is kept of what
 -- happened; and which world it shows.
-use Rattle.std.specs.Prelude.{◌≡◌, ◌≤◌, ◌<◌, ℕ, ◌^◌, Bool, true, false, List, IsSome, Some}
+use Rattle.std.specs.Prelude.{◌≡◌, ◌≤◌, ◌<◌, ℕ, ◌+◌, ◌^◌, Bool, true, false, List, IsSome, Some}
 use Rattle.std.specs.FinMap.{get}
 use Rattle.object.specs.Objects.{Rules}
 use Rattle.object.specs.declared.command.Command.{Command}
@@ -53,13 +53,13 @@ new_forgetting rules members = record {
   gathering = not_gathering;
 }
 
--- The clock is there; no more was handed in, took effect, or is some session's number than there were events; and no more
--- sessions were opened than a hall opens.
+-- The clock is there; no more was handed in or took effect than there were events; no session's number is greater than one
+-- that is handed in with its command, and the events after that; and no more sessions were opened than a hall opens.
 pub record IsCounted {Op Reply : Type 0} (s : Summary Op Reply) (opened taken : ℕ) : Type 0 where
   pub clock : IsSome (get s.clients 0)
   pub submitted : s.submitted ≤ taken
   pub placed : s.placed ≤ taken
-  pub numbers : (session : ℕ) (client : Client Op Reply) → get s.clients session ≡ Some client → number_of_last client.last ≤ taken
+  pub numbers : (session : ℕ) (client : Client Op Reply) → get s.clients session ≡ Some client → number_of_last client.last ≤ 2 ^ 61 + taken
   pub few : opened < 2 ^ 32
 
 -- events lead to a world that it shows

@@ -1,9 +1,10 @@
 -- Which calls a hall that forgets refuses, and why, want of memory aside. Of several reasons the first in this order is told:
 -- no such node, bad number, busy, full.
-use Rattle.std.specs.Prelude.{ℕ, ◌^◌, Bool, false, not, ◌&&◌, ◌||◌, ◌==◌, nat_le, Option, None, Some, is_some, if◌then◌else◌}
+use Rattle.std.specs.Prelude.{ℕ, ◌^◌, Bool, false, not, ◌&&◌, ◌||◌, ◌==◌, nat_le, nat_lt, Option, None, Some, is_some, if◌then◌else◌}
 use Rattle.std.specs.FinMap.{get}
 use Rattle.object.specs.declared.command.Act.{Act}
 use Rattle.object.specs.declared.command.Command.{Command}
+use Rattle.object.specs.declared.command.Key.{Key}
 use Rattle.ballot.specs.Members.{is_member}
 use Rattle.agreement.specs.Runs.{most_events}
 use Rattle.hall.specs.declared.error.HallError.{HallError}
@@ -11,7 +12,7 @@ use Rattle.hall.specs.declared.error.HallError.TheVariants.{NoSuchNode, BadNumbe
 use Rattle.hall.specs.Tickets.{is_close, is_tick}
 use Rattle.client_table.specs.declared.client.Client.{Client}
 use Rattle.forgetting_hall.specs.Halls.{ForgettingState}
-use Rattle.forgetting_hall.specs.Handing.{last_of, second_of}
+use Rattle.forgetting_hall.specs.Handing.{last_of, last_number_of, second_of}
 
 -- the node isn't a member
 abbrev pub is_foreign : {Op O Reply : Type 0} → ForgettingState Op O Reply → ℕ → Bool
@@ -63,4 +64,16 @@ abbrev pub refusal_of_tick : {Op O Reply : Type 0} → ForgettingState Op O Repl
 refusal_of_tick h n =
     if is_foreign h n then Some NoSuchNode
     else (if nat_le (2 ^ 40) (second_of h) then Some BadNumber
+    else (if has_all_events h then Some Full else None))
+
+-- the number is greater than the last one of its session, which is there, and at most 2^61
+abbrev pub is_behind_last : {Op O Reply : Type 0} → ForgettingState Op O Reply → Key → Bool
+is_behind_last h key = is_some (get h.summary.clients key.session)
+    && (nat_lt (last_number_of h key.session) key.number && nat_le key.number (2 ^ 61))
+
+-- why a command is refused that has its key
+abbrev pub refusal_of_keyed : {Op O Reply : Type 0} → ForgettingState Op O Reply → Key → ℕ → Option HallError
+refusal_of_keyed h key n =
+    if is_foreign h n then Some NoSuchNode
+    else (if not (is_behind_last h key) then Some BadNumber
     else (if has_all_events h then Some Full else None))

@@ -147,6 +147,13 @@ opened_rest h = record h {
   opened = h.opened + 1;
 }
 
+-- a session is opened that has this number
+abbrev pub opened_as : {Op O Reply : Type 0} → HallRest Op O Reply → ℕ → HallRest Op O Reply
+opened_as h session = record h {
+  summary = record h.summary { clients = insert h.summary.clients session new_client };
+  opened = session;
+}
+
 -- a session is let go of
 abbrev pub let_go_rest : {Op O Reply : Type 0} → HallRest Op O Reply → ℕ → HallRest Op O Reply
 let_go_rest h session = record h { summary = record h.summary { clients = remove h.summary.clients session } }

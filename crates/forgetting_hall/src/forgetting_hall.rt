@@ -8,6 +8,7 @@ mod mailing;
 mod noting;
 mod refusing;
 mod resting;
+mod resuming;
 mod submitting;
 mod turning;
 

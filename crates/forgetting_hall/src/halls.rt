@@ -1,4 +1,4 @@
-ghost use Rattle.std.specs.Prelude.{◌≡◌, ◌≤◌, ℕ, List, Some, true};
+ghost use Rattle.std.specs.Prelude.{◌≡◌, ◌<◌, ◌≤◌, ℕ, List, Some, true};
 ghost use Rattle.std.specs.FinMap.{get};
 ghost use Rattle.object.specs.declared.command.Command.{Command};
 ghost use Rattle.ballot.specs.Members.{is_member};
@@ -13,21 +13,21 @@ ghost use Rattle.agreement.specs.declared.event.Event.TheVariants.{Submit};
 ghost use Rattle.ballot.specs.Rests.{rest_of_body};
 ghost use Rattle.client_table.specs.declared.client.Client.{Client};
 ghost use Rattle.forgetting_hall.specs.Clients.{IsNextOf, IsLastOf};
-ghost use Rattle.forgetting_hall.specs.Rests.{HallRest, ShowsWorld, FollowsEvent, FollowsLetterOf, IsGoingOn, IsReceivedRest, IsReplyInOrder, new_rest, acted_rest, handed_in, done_rest, lost_rest, repeated_rest, forgotten_rest, opened_rest, let_go_rest};
+ghost use Rattle.forgetting_hall.specs.Rests.{HallRest, ShowsWorld, FollowsEvent, FollowsLetterOf, IsGoingOn, IsReceivedRest, IsReplyInOrder, new_rest, acted_rest, handed_in, done_rest, lost_rest, repeated_rest, forgotten_rest, opened_rest, opened_as, let_go_rest};
 ghost use Rattle.forgetting_hall.specs.WorldFacts.{WorldFacts};
 
 use crate::laws::clusters_rest;
 use agreement::every_world;
 use object::Object;
 
-/// A hall that forgets the slots below a base, and of what happened keeps each session's last command with its reply. It
-/// shows a world that events lead to, and goes on to: at first the opening one (`opening`); a session's next command that
-/// is handed in, or its last one again, is that event (`hands_in`, `hands_again`), as is what a node does by itself, but
-/// for a restart (`acts`), and a letter of which something is left (`receives`). A letter that is lost or repeated is no
-/// event (`loses`, `repeats`), nor is it that a session is opened or let go of (`opens`, `lets_go`), or that slots which
-/// every replica has performed are forgotten (`forgets`). And the reply that a client has is that of one order, for which
-/// all that happened is legal, and which keeps what the object promises (`replies`). Of a restart nothing is said: such a
-/// node would need what the others forgot.
+/// A hall that forgets the slots below a base, and of what happened keeps each session's last command with its reply.
+/// It shows a world that events lead to, and goes on to: at first the opening one (`opening`); a session's next command
+/// that is handed in, or its last one again, is that event (`hands_in`, `hands_again`), as is what a node does by
+/// itself, but for a restart (`acts`), and a letter of which something is left (`receives`). A letter that is lost or
+/// repeated is no event (`loses`, `repeats`), nor is it that a session is opened or let go of (`opens`, `opens_as`,
+/// `lets_go`), or that slots which every replica has performed are forgotten (`forgets`). And the reply that a client
+/// has is that of one order, for which all that happened is legal, and which keeps what the object promises
+/// (`replies`). Of a restart nothing is said: such a node would need what the others forgot.
 pub fn halls_rest<O: Object>()
     ensures opening { (members : List ℕ) → ShowsWorld O.rules (new_rest O.rules members) (opening members) }
     ensures hands_in { (h : HallRest O.Op O O.Reply) (w : World O.Op O.Reply) (n : ℕ) (c : Command O.Op) →
@@ -56,6 +56,9 @@ pub fn halls_rest<O: Object>()
         ShowsWorld O.rules (forgotten_rest h base) w }
     ensures opens { (h : HallRest O.Op O O.Reply) (w : World O.Op O.Reply) →
         IsWorld O.rules w → ShowsWorld O.rules h w → ShowsWorld O.rules (opened_rest h) w }
+    ensures opens_as { (h : HallRest O.Op O O.Reply) (w : World O.Op O.Reply) (session : ℕ) →
+        IsWorld O.rules w → ShowsWorld O.rules h w → h.opened < session →
+        ShowsWorld O.rules (opened_as h session) w }
     ensures lets_go { (h : HallRest O.Op O O.Reply) (w : World O.Op O.Reply) (session : ℕ) →
         IsWorld O.rules w → ShowsWorld O.rules h w → ShowsWorld O.rules (let_go_rest h session) w }
     ensures replies { (h : HallRest O.Op O O.Reply) (w : World O.Op O.Reply) (session : ℕ)

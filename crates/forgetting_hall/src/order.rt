@@ -18,8 +18,9 @@ use agreement::every_world;
 use ballot::ballot_laws;
 use object::Object;
 
-/// What took effect in a world begins its order (`begins`): at first nothing (`opening`), and with each event one command more
-/// or none (`goes_on`), which is the one that a hall tells that shows the world (`told`), and counts (`counted`).
+/// What took effect in a world begins its order (`begins`): at first nothing (`opening`), and with each event one
+/// command more or none (`goes_on`), which is the one that a hall tells that shows the world (`told`), and counts
+/// (`counted`).
 pub fn effects_in_order<O: Object>()
     ensures opening { (members : List ℕ) → TookEffect {Op = O.Op} {Reply = O.Reply} (opening members) [] }
     ensures goes_on { (w v : World O.Op O.Reply) (e : Event O.Op) (order : List (Command O.Op)) →

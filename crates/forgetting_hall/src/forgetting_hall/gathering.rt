@@ -25,8 +25,8 @@ impl<O: Object> ForgettingHall<O> {
         self.gathers = true;
     }
 
-    /// The commands that took effect since this was asked last, in the one order, as far as the hall gathers them. It takes
-    /// no memory.
+    /// The commands that took effect since this was asked last, in the one order, as far as the hall gathers them. It
+    /// takes no memory.
     pub fn take_placed(&mut self) -> Vec<Command<O::Op>>
         ensures placed { result.items ≡ self.old.gathering.commands }
         ensures left { self.new

@@ -1,13 +1,16 @@
 ghost use Rattle.std.specs.Prelude.{◌≡◌};
 ghost use Rattle.hall.specs.Tickets.{is_close, is_tick};
 ghost use Rattle.forgetting_hall.specs.Handing.{last_number_of};
-ghost use Rattle.forgetting_hall.specs.Refusing.{is_foreign, has_all_events, is_session, keeps_waiting, refusal_of_event, refusal_of_submit, refusal_of_resubmit, refusal_of_tick};
+ghost use Rattle.forgetting_hall.specs.Refusing.{is_foreign, has_all_events, is_session, is_behind_last, keeps_waiting, refusal_of_event, refusal_of_keyed, refusal_of_submit, refusal_of_resubmit, refusal_of_tick};
 ghost use Rattle.std.specs.FinMap.{get};
 
 use super::ForgettingHall;
 use agreement::MOST_EVENTS;
 use hall::{HallError, LAST_SECOND};
-use object::{Act, Object};
+use object::{Act, Key, Object};
+
+/// A command that is handed in with its key has this number at most.
+const MOST_KEYED: u64 = 1 << 61;
 
 impl<O: Object> ForgettingHall<O> {
     // Why a session's next command is refused, want of memory aside.
@@ -66,6 +69,22 @@ impl<O: Object> ForgettingHall<O> {
         None
     }
 
+    // Why a command is that has this key.
+    pub(super) fn refusal_of_keyed(&self, key: Key, node: u8) -> Option<HallError>
+        ensures { result ≡ refusal_of_keyed self.now key node }
+    {
+        if self.is_foreign(node) {
+            return Some(HallError::NoSuchNode);
+        }
+        if !self.is_behind_last(key) {
+            return Some(HallError::BadNumber);
+        }
+        if self.has_all_events() {
+            return Some(HallError::Full);
+        }
+        None
+    }
+
     // Why an event at a node is.
     pub(super) fn refusal_of_event(&self, node: u8) -> Option<HallError>
         ensures { result ≡ refusal_of_event self.now node }
@@ -108,6 +127,15 @@ impl<O: Object> ForgettingHall<O> {
         ensures { result ≡ is_session self.now session }
     {
         session != 0 && self.clients.client(session).is_some()
+    }
+
+    // The number is behind the last one of its session, which is there, and low enough.
+    fn is_behind_last(&self, key: Key) -> bool
+        ensures { result ≡ is_behind_last self.now key }
+    {
+        self.clients.client(key.session).is_some()
+            && key.number > self.last_number(key.session)
+            && key.number <= MOST_KEYED
     }
 
     // The session's last command leaves no room for this act.

@@ -106,7 +106,7 @@ impl<O: Object> ForgettingHall<O> {
 }
 
 // A node is asked for a command. One that its object would not obey is none.
-fn ask<O: Object>(
+pub(super) fn ask<O: Object>(
     alloc: Global,
     network: &mut LeanNetwork<O>,
     node: u8,

@@ -1,4 +1,4 @@
-use Rattle.std.proofs.Common.{List, sym, refl, subst}
+use Rattle.std.proofs.Common.{◌+◌, List, sym, refl, subst, arith}
 use Rattle.node.specs.declared.deed.Deed.{Deed}
 use Rattle.node.specs.declared.deed.Deed.TheVariants as deeds
 use Rattle.object.specs.declared.command.Submission.{Submission}
@@ -57,7 +57,10 @@ returns-clause-forgets g c = λ h w base i s more out. still_shows g.O.Object.ru
     (c.clusters_rest.ensures.forget h.base base h.network w s.cluster more out)
 
 pub returns-clause-opens : goal.returns-clause-opens
-returns-clause-opens g c = λ h w i s. open_shows g.O.Object.rules c.facts_of_worlds.ensures h w i s
+returns-clause-opens g c = λ h w i s. open_shows g.O.Object.rules c.facts_of_worlds.ensures h w i s (h.opened + 1) (omega arith)
+
+pub returns-clause-opens_as : goal.returns-clause-opens_as
+returns-clause-opens_as g c = λ h w session i s above. open_shows g.O.Object.rules c.facts_of_worlds.ensures h w i s session above
 
 pub returns-clause-lets_go : goal.returns-clause-lets_go
 returns-clause-lets_go g c = λ h w session i s. let_go_shows g.O.Object.rules c.facts_of_worlds.ensures h w i s session

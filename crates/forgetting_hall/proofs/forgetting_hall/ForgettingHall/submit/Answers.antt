@@ -8,7 +8,7 @@ use Rattle.forgetting_hall.specs.Refusing.{refusal_of_submit}
 use Rattle.forgetting_hall.specs.Rests.{handed_in}
 use Rattle.forgetting_hall.proofs.Counting.{counted_command}
 use Rattle.forgetting_hall.proofs.Keeping.{goes_on, all_nodes}
-use Rattle.forgetting_hall.proofs.Asking.{after_next, next_is, next_follows, submit_member, submit_room, submit_next}
+use Rattle.forgetting_hall.proofs.Asking.{after_next, next_is, next_follows, submit_member, submit_room, submit_next, submit_low}
 use Rattle.forgetting_hall.proofs.forgetting_hall.ForgettingHall.submit.Goals as goal
 
 pub invariant_of-self-2 : goal.invariant_of-self-2
@@ -29,7 +29,7 @@ invariant_of-self-2 g c =
     (goes_on g.O.Object.rules (λ w v e i s room. c.every_world.ensures.next w v e i s room) h (after_next g.O.Object.rules h c.args.node (next_of h c.args.session c.args.act))
     (Submit c.args.node (next_of h c.args.session c.args.act)) c.self.invariant (submit_room h c.args.session c.args.act c.args.node none)
     (next_follows g.O.Object.rules h c.args.node (next_of h c.args.session c.args.act) c.halls_rest.ensures.hands_in (submit_member h c.args.session c.args.act c.args.node none) (submit_next h c.args.session c.args.act c.args.node none))
-    (counted_command h.summary h.opened h.taken c.self.invariant.counted (next_of h c.args.session c.args.act) (submit_next h c.args.session c.args.act c.args.node none)))
+    (counted_command h.summary h.opened h.taken c.self.invariant.counted (next_of h c.args.session c.args.act) (submit_low h c.args.session c.args.act c.args.node none c.self.invariant.counted)))
 
 pub returns-clause-ok : goal.returns-clause-ok
 returns-clause-ok g c =

@@ -10,7 +10,7 @@ use Rattle.forgetting_hall.specs.Refusing.{refusal_of_tick}
 use Rattle.forgetting_hall.specs.Rests.{handed_in}
 use Rattle.forgetting_hall.proofs.Counting.{counted_command}
 use Rattle.forgetting_hall.proofs.Keeping.{goes_on, all_nodes}
-use Rattle.forgetting_hall.proofs.Asking.{after_next, next_is, next_follows, tick_member, tick_room, tick_next}
+use Rattle.forgetting_hall.proofs.Asking.{after_next, next_is, next_follows, tick_member, tick_room, tick_next, tick_low}
 use Rattle.forgetting_hall.proofs.forgetting_hall.ForgettingHall.tick.Goals as goal
 
 pub invariant_of-self-2 : goal.invariant_of-self-2
@@ -31,7 +31,7 @@ invariant_of-self-2 g c =
     (goes_on g.O.Object.rules (λ w v e i s room. c.every_world.ensures.next w v e i s room) h (after_next g.O.Object.rules h c.args.node (tick_of (second_of h + 1)))
     (Submit c.args.node (tick_of (second_of h + 1))) c.self.invariant (tick_room h c.args.node none)
     (next_follows g.O.Object.rules h c.args.node (tick_of (second_of h + 1)) c.halls_rest.ensures.hands_in (tick_member h c.args.node none) (tick_next h c.args.node none c.self.invariant.counted))
-    (counted_command h.summary h.opened h.taken c.self.invariant.counted (tick_of (second_of h + 1)) (tick_next h c.args.node none c.self.invariant.counted)))
+    (counted_command h.summary h.opened h.taken c.self.invariant.counted (tick_of (second_of h + 1)) (tick_low h c.args.node none c.self.invariant.counted)))
 
 pub returns-clause-ok : goal.returns-clause-ok
 returns-clause-ok g c =
