@@ -6,6 +6,15 @@ use std::io;
 use std::io::{ErrorKind, Read, Write};
 use std::test::Fail;
 
+/// Of an input that takes more reads than these, what comes before a read that fails isn't read piece by piece each time: but
+/// for fewer pieces than `MOST_REPEATED` it is read as one.
+const FEW_READS: usize = 1_024;
+
+const MOST_REPEATED: usize = 64;
+
+/// The reads are shared out among so many tests.
+const SHARES: usize = 4;
+
 /// Bytes: each part stands there so often.
 type Parts = &'static [(usize, &'static [u8])];
 
@@ -101,24 +110,30 @@ fn bytes_of(alloc: Global, parts: Parts) -> Result<Vec<u8>, AllocError> {
     Ok(bytes)
 }
 
-/// Gives the next bytes so often, and fails then.
+/// Gives the next bytes so often, and fails then. Before that it gives its lead, as many bytes at a time as are asked for.
 #[derive(Drop)]
 struct FailingReader<'a> {
     rest: &'a [u8],
+    lead: usize,
     good_reads: usize,
     piece_len: usize,
 }
 
 impl Read for FailingReader<'_> {
     fn read(&mut self, buf: &mut [u8]) -> io::Result<usize> {
-        if self.good_reads == 0 {
+        let most = if self.lead > 0 {
+            self.lead
+        } else if self.good_reads > 0 {
+            self.good_reads -= 1;
+            self.piece_len
+        } else {
             return Err(io::Error::from(ErrorKind::ConnectionReset));
-        }
-        self.good_reads -= 1;
-        let n = buf.len().min(self.rest.len()).min(self.piece_len);
+        };
+        let n = buf.len().min(self.rest.len()).min(most);
         let (piece, rest) = self.rest.split_at(n);
         buf[..n].copy_from_slice(piece);
         self.rest = rest;
+        self.lead = self.lead.saturating_sub(n);
         Ok(n)
     }
 }
@@ -196,11 +211,19 @@ impl Client {
             .saturating_add(last)
     }
 
-    /// Serves it, where so many reads and writes are good.
-    fn serve(&self, alloc: Global, good_reads: usize, good_writes: usize, breaks: Break) -> Served {
+    /// Serves it, where so many reads and writes are good. The first pieces, so many, are read as one.
+    fn serve(
+        &self,
+        alloc: Global,
+        joined: usize,
+        good_reads: usize,
+        good_writes: usize,
+        breaks: Break,
+    ) -> Served {
         let mut echo = Echo::new();
         let mut reader = Reading::new(FailingReader {
             rest: self.input.as_slice(),
+            lead: joined.saturating_mul(self.piece_len),
             good_reads,
             piece_len: self.piece_len,
         });
@@ -232,9 +255,20 @@ impl Client {
         served.end == Ok(self.end) && served.written == self.transcript && served.times_closed == 1
     }
 
+    /// Of the pieces before this read, how many are read as one.
+    fn joined_before(&self, read: usize) -> usize {
+        if self.reads() <= FEW_READS {
+            return 0;
+        }
+        let pieces = self.input.len() / self.piece_len.max(1);
+        read.saturating_sub(read % MOST_REPEATED).min(pieces)
+    }
+
     /// Whether it goes so where the reads after so many of them fail.
     fn fails_after(&self, alloc: Global, good_reads: usize) -> bool {
-        let served = self.serve(alloc, good_reads, usize::MAX, Break::Fails);
+        let joined = self.joined_before(good_reads);
+        let repeated = good_reads.saturating_sub(joined);
+        let served = self.serve(alloc, joined, repeated, usize::MAX, Break::Fails);
         if good_reads < self.reads() {
             self.broke_off(&served, SessionFault::ReadFailed)
         } else {
@@ -250,7 +284,7 @@ impl Client {
         writes: usize,
         breaks: Break,
     ) -> bool {
-        let served = self.serve(alloc, usize::MAX, good_writes, breaks);
+        let served = self.serve(alloc, 0, usize::MAX, good_writes, breaks);
         if good_writes < writes {
             self.broke_off(&served, SessionFault::WriteFailed)
         } else {
@@ -260,7 +294,7 @@ impl Client {
 
     /// How many writes there are where nothing breaks off. Then it goes well, and no write takes more than a piece.
     fn writes(&self, alloc: Global) -> Option<usize> {
-        let whole = self.serve(alloc, usize::MAX, usize::MAX, Break::Fails);
+        let whole = self.serve(alloc, 0, usize::MAX, usize::MAX, Break::Fails);
         let pieces = self.transcript.len().div_ceil(self.piece_len.max(1));
         if self.went_well(&whole) && whole.writes >= pieces {
             Some(whole.writes)
@@ -269,11 +303,10 @@ impl Client {
         }
     }
 
-    /// The first number of good reads after which it doesn't go so.
-    fn first_wrong_read(&self, alloc: Global) -> Option<usize> {
-        let reads = self.reads();
-        for read in 0..=reads {
-            if is_tried(read, reads) && !self.fails_after(alloc, read) {
+    /// Of the numbers that leave this remainder, the first number of good reads after which it doesn't go so.
+    fn first_wrong_read(&self, alloc: Global, remainder: usize) -> Option<usize> {
+        for read in 0..=self.reads() {
+            if read % SHARES == remainder && !self.fails_after(alloc, read) {
                 return Some(read);
             }
         }
@@ -291,15 +324,14 @@ impl Client {
     }
 }
 
-/// Whether a reader is tried that fails at this read: in most rows at each, and of very many at the first and last ones and
-/// at some between.
-fn is_tried(read: usize, reads: usize) -> bool {
-    read < 320 || reads.saturating_sub(read) < 8 || read % 8191 == 0
-}
-
-fn wrong_read(alloc: Global, row: &Row, piece_len: usize) -> Result<Option<usize>, Fail> {
+fn wrong_read(
+    alloc: Global,
+    row: &Row,
+    piece_len: usize,
+    remainder: usize,
+) -> Result<Option<usize>, Fail> {
     let client = Client::of(alloc, row, piece_len)?;
-    Ok(client.first_wrong_read(alloc))
+    Ok(client.first_wrong_read(alloc, remainder))
 }
 
 fn wrong_write(
@@ -313,14 +345,39 @@ fn wrong_write(
     Ok(client.first_wrong_write(alloc, writes, breaks))
 }
 
-#[test]
-fn a_reader_fails_at_each_read(rt: HostRuntime) -> Result<(), Fail> {
+/// The first row, size of a piece, and number of good reads that leaves this remainder, for which it doesn't go so.
+fn first_wrong(alloc: Global, remainder: usize) -> Result<Option<(usize, usize, usize)>, Fail> {
     for (number, row) in ROWS.iter().enumerate() {
         for piece_len in row.piece_lens {
-            let wrong = wrong_read(rt.alloc(), row, *piece_len)?;
-            assert_eq!(rt; wrong, None, "row {number}, {piece_len} at a time");
+            if let Some(read) = wrong_read(alloc, row, *piece_len, remainder)? {
+                return Ok(Some((number, *piece_len, read)));
+            }
         }
     }
+    Ok(None)
+}
+
+#[test]
+fn a_reader_fails_at_reads_that_leave_0(rt: HostRuntime) -> Result<(), Fail> {
+    assert_eq!(rt; first_wrong(rt.alloc(), 0)?, None);
+    Ok(())
+}
+
+#[test]
+fn a_reader_fails_at_reads_that_leave_1(rt: HostRuntime) -> Result<(), Fail> {
+    assert_eq!(rt; first_wrong(rt.alloc(), 1)?, None);
+    Ok(())
+}
+
+#[test]
+fn a_reader_fails_at_reads_that_leave_2(rt: HostRuntime) -> Result<(), Fail> {
+    assert_eq!(rt; first_wrong(rt.alloc(), 2)?, None);
+    Ok(())
+}
+
+#[test]
+fn a_reader_fails_at_reads_that_leave_3(rt: HostRuntime) -> Result<(), Fail> {
+    assert_eq!(rt; first_wrong(rt.alloc(), 3)?, None);
     Ok(())
 }
 
