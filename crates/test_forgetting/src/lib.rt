@@ -2,6 +2,8 @@
 #![tactic(auto)]
 
 #[cfg(test)]
+mod begun_anew;
+#[cfg(test)]
 mod both;
 #[cfg(test)]
 mod draws;

@@ -47,8 +47,11 @@ impl<O: Object<Op = Op, Reply = Reply>> Course<O> {
             if !alike || !self.both.have_same_replies() || !self.both.have_noted(answered)? {
                 return Ok(false);
             }
+            if !self.both.take_placed()? {
+                return Ok(false);
+            }
         }
-        Ok(true)
+        self.both.have_gathered()
     }
 
     /// Draws a call, and makes it.
