@@ -1,4 +1,4 @@
-ghost use Rattle.std.specs.Prelude.{◌≡◌, ◌≢◌, ◌≤◌, ◌+◌, ℕ, max, List, [], IfOk, OnOk, OnErr};
+ghost use Rattle.std.specs.Prelude.{◌≡◌, ◌+◌, ℕ, List, [], IfOk, OnOk, OnErr};
 
 use conversation::Desk;
 use hall::HallError;
@@ -8,9 +8,6 @@ use turns::Watch;
 pub(crate) trait LoopDesk: Desk {
     // How many commands were handed in, as far as its hall counts them.
     ghost handed_in: { Self → List ℕ };
-
-    // The number of a session's last command, 0 where there is none; the clock is session 0.
-    ghost last_number: { Self → ℕ → ℕ };
 
     // How many sessions were opened.
     ghost opened: { Self → ℕ };
@@ -23,16 +20,12 @@ pub(crate) trait LoopDesk: Desk {
         ensures new { IfOk result (λ t. Self.Ticket.keeping.IsOf t []) }
         ensures session { IfOk result (λ t. Self.Ticket.keeping.session t ≡ opened self.old + 1) }
         ensures opened { OnOk result (opened self.new ≡ opened self.old + 1) }
-        ensures others { (session : ℕ) → session ≢ opened self.old + 1 →
-            last_number self.new session ≡ last_number self.old session }
         ensures err { OnErr result (opened self.new ≡ opened self.old) }
         ensures kept { OnErr result (handed_in self.new ≡ handed_in self.old) };
 
     /// A session hands in nothing more.
     fn see_off(&mut self, ticket: &Self::Ticket)
-        ensures kept { handed_in self.new ≡ handed_in self.old }
-        ensures others { (session : ℕ) → session ≢ Self.Ticket.keeping.session ticket.now →
-            last_number self.new session ≡ last_number self.old session };
+        ensures kept { handed_in self.new ≡ handed_in self.old };
 
     /// What is handed in next is handed in at this node.
     fn stand_at(&mut self, node: u8)
@@ -46,11 +39,7 @@ pub(crate) trait LoopDesk: Desk {
         ensures { result ≡ clock self.now };
 
     /// Hands in that this second of the clock has come, at a node.
-    fn tick(&mut self, second: u64, node: u8)
-        ensures rises { clock self.old ≤ clock self.new }
-        ensures bound { clock self.new ≤ max (clock self.old) second }
-        ensures others { (session : ℕ) → session ≢ 0 →
-            last_number self.new session ≡ last_number self.old session };
+    fn tick(&mut self, second: u64, node: u8);
 
     /// One turn of a node, which takes note of a round.
     fn take_turn(&mut self, watch: &mut Watch, round: u64)
@@ -61,8 +50,7 @@ pub(crate) trait LoopDesk: Desk {
         ensures kept { handed_in self.new ≡ handed_in self.old };
 
     /// Hands in again what a session waits for, at a node.
-    fn hand_in_again(&mut self, ticket: &Self::Ticket, node: u8)
-        ensures kept { handed_in self.new ≡ handed_in self.old };
+    fn hand_in_again(&mut self, ticket: &Self::Ticket, node: u8);
 
     /// The next session that was answered, of those of which this wasn't told yet. Where there was no memory to note one, a loop
     /// finds its answer at the next second.

@@ -1,5 +1,4 @@
-ghost use Rattle.std.specs.Prelude.{◌≡◌, ◌≢◌, ◌≤◌, ℕ, max};
-ghost use Rattle.forgetting_hall.specs.Handing.{last_number_of, second_of};
+ghost use Rattle.forgetting_hall.specs.Handing.{second_of};
 
 use crate::desk::LoopDesk;
 use bean_queue::{Op, Reply};
@@ -82,8 +81,6 @@ impl<O: Object<Op = Op, Reply = Reply>> LoopDesk for ForgettingDesk<O> {
     // By all sessions and the clock; beside that, how many sessions were opened.
     ghost handed_in = { λ desk. desk.hall.summary.submitted ∷ desk.hall.opened ∷ [] };
 
-    ghost last_number = { λ desk. last_number_of desk.hall };
-
     ghost opened = { λ desk. desk.hall.opened };
 
     ghost clock = { λ desk. second_of desk.hall };
@@ -114,7 +111,11 @@ impl<O: Object<Op = Op, Reply = Reply>> LoopDesk for ForgettingDesk<O> {
     // What there is to forget is forgotten before, so that seconds alone leave nothing behind.
     fn tick(&mut self, second: u64, node: u8) {
         self.hall.forget();
-        hand_in_seconds(&mut self.hall, second, node);
+        for _ in 0..MOST_SECONDS {
+            if self.hall.last_second() >= second || self.hall.tick(node).is_err() {
+                return;
+            }
+        }
     }
 
     fn take_turn(&mut self, watch: &mut Watch, round: u64) {
@@ -141,19 +142,5 @@ impl<O: Object<Op = Op, Reply = Reply>> LoopDesk for ForgettingDesk<O> {
         let session = *self.answered.get(self.told)?;
         self.told += 1;
         Some(session)
-    }
-}
-
-// Hands in the seconds up to this one, as far as the hall takes them.
-fn hand_in_seconds<O: Object>(hall: &mut ForgettingHall<O>, second: u64, node: u8)
-    ensures rises { second_of hall.old ≤ second_of hall.new }
-    ensures bound { second_of hall.new ≤ max (second_of hall.old) second }
-    ensures others { (session : ℕ) → session ≢ 0 →
-        last_number_of hall.new session ≡ last_number_of hall.old session }
-{
-    for _ in 0..MOST_SECONDS {
-        if hall.last_second() >= second || hall.tick(node).is_err() {
-            return;
-        }
     }
 }

@@ -119,12 +119,9 @@ impl<O: Object<Op = Op, Reply = Reply>> Desk for HallDesk<O> {
 
 impl<O: Object<Op = Op, Reply = Reply>> LoopDesk for HallDesk<O> {
     ghost use Rattle.std.specs.Prelude.{length};
-    ghost use Rattle.hall.specs.Books.{last_number};
 
     // By each session.
     ghost handed_in = { λ desk. desk.hall.book };
-
-    ghost last_number = { λ desk. last_number desk.hall.book };
 
     ghost opened = { λ desk. length desk.hall.book };
 
