@@ -19,7 +19,8 @@ const MOST_ROUNDS: u32 = 1_000;
 
 /// The number of a session.
 fn session_at(place: usize) -> u32 {
-    (place as u32).saturating_add(1).saturating_mul(2)
+    let number = u32::try_from(place).unwrap_or(u32::MAX);
+    number.saturating_add(1).saturating_mul(2)
 }
 
 /// A hall of these members that gathers, with its sessions, whose first node leads.

@@ -8,8 +8,7 @@ use forgetting_hall::ForgettingHall;
 use hall::{Hall, Ticket};
 use lean_network::Receipt;
 use node::Deed;
-use object::{Act, Command, Object, Value};
-use recorder::Chronicle;
+use object::{Act, Object, Value};
 use std::alloc::Global;
 use std::test::Fail;
 
@@ -42,20 +41,15 @@ pub struct Both<O: Object> {
     pub whole: Hall<O>,
     pub lean: ForgettingHall<O>,
     tickets: Vec<Ticket<O>>,
-    /// What the one that forgets has gathered.
-    gathered: Vec<Command<O::Op>>,
     alloc: Global,
 }
 
 impl<O: Object<Op = Op, Reply = Reply>> Both<O> {
     pub fn new(alloc: Global, members: Members) -> Result<Both<O>, Fail> {
-        let mut lean = ForgettingHall::new(alloc, members)?;
-        lean.gather();
         Ok(Both {
             whole: Hall::new(alloc, members)?,
-            lean,
+            lean: ForgettingHall::new(alloc, members)?,
             tickets: Vec::new(alloc),
-            gathered: Vec::new(alloc),
             alloc,
         })
     }
@@ -153,38 +147,4 @@ impl<O: Object<Op = Op, Reply = Reply>> Both<O> {
         }
         Ok(self.lean.take_answered() == sessions)
     }
-
-    /// Takes what the one has gathered; whether it counts as many.
-    pub fn take_placed(&mut self) -> Result<bool, Fail> {
-        for command in self.lean.take_placed() {
-            self.gathered.push(command)?;
-        }
-        Ok(self.gathered.len() as u64 == self.lean.placed_count())
-    }
-
-    /// Whether what the one has gathered is the order of the other, and each command was submitted there.
-    pub fn have_gathered(&self) -> Result<bool, Fail> {
-        let chronicle = self.whole.dump()?;
-        let order = chronicle.order();
-        if order.len() != self.gathered.len() {
-            return Ok(false);
-        }
-        for place in 0..order.len() {
-            let command = &self.gathered[place];
-            if command.key() != order[place] || !was_submitted(&chronicle, command) {
-                return Ok(false);
-            }
-        }
-        Ok(true)
-    }
-}
-
-/// Whether the command was submitted, with its act.
-fn was_submitted<A: Value>(chronicle: &Chronicle<Op, A>, command: &Command<Op>) -> bool {
-    for submission in chronicle.submitted() {
-        if submission.command == *command {
-            return true;
-        }
-    }
-    false
 }

@@ -47,11 +47,8 @@ impl<O: Object<Op = Op, Reply = Reply>> Course<O> {
             if !alike || !self.both.have_same_replies() || !self.both.have_noted(answered)? {
                 return Ok(false);
             }
-            if !self.both.take_placed()? {
-                return Ok(false);
-            }
         }
-        self.both.have_gathered()
+        Ok(true)
     }
 
     /// Draws a call, and makes it.
