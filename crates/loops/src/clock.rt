@@ -1,3 +1,4 @@
+use crate::fault::ServeFault;
 use crate::mailbox::Mailbox;
 use counted_hall::Seconds;
 use std::sync::Wait;
@@ -8,16 +9,17 @@ pub(crate) fn run_clock<R: Wait, T: Seconds + Drop>(
     mailboxes: &[Mailbox],
     own: &Mailbox,
     mut seconds: T,
-) {
+) -> Result<(), ServeFault> {
     for _ in rt.forever() {
         let Some(second) = seconds.next() else {
-            return;
+            return Ok(());
         };
         if own.is_over(rt) {
-            return;
+            return Ok(());
         }
         for mailbox in mailboxes {
             mailbox.tick(rt, second);
         }
     }
+    unreachable!()
 }

@@ -1,7 +1,11 @@
 ghost use Rattle.std.specs.Prelude.{◌≡◌, ◌+◌, ℕ, List, [], IfOk, OnOk, OnErr};
+ghost use Rattle.object.specs.declared.command.Command.{Command};
+ghost use Rattle.bean_queue.specs.declared.op.Op.{Op};
 
+use bean_queue::Op;
 use conversation::Desk;
 use hall::HallError;
+use object::Command;
 use turns::Watch;
 
 /// The desk of a hall that loops share: sessions are opened and end there, seconds pass, and the nodes take their turns.
@@ -14,6 +18,9 @@ pub(crate) trait LoopDesk: Desk {
 
     // The last second of the clock.
     ghost clock: { Self → ℕ };
+
+    // What took effect since it was taken, as far as that is gathered.
+    ghost placed: { Self → List (Command Op) };
 
     /// Opens a session: the next one.
     fn open_session(&mut self) -> Result<Self::Ticket, HallError>
@@ -55,5 +62,14 @@ pub(crate) trait LoopDesk: Desk {
     /// The next session that was answered, of those of which this wasn't told yet. Where there was no memory to note one, a loop
     /// finds its answer at the next second.
     fn next_answered(&mut self) -> Option<u32>
+        ensures kept { handed_in self.new ≡ handed_in self.old };
+
+    /// How many commands took effect, where they are gathered.
+    fn placed_count(&self) -> u64;
+
+    /// Takes the commands that took effect since this was called last, in the one order, as far as they are gathered.
+    fn take_placed(&mut self) -> Vec<Command<Op>>
+        ensures taken { result.items ≡ placed self.old }
+        ensures left { placed self.new ≡ [] }
         ensures kept { handed_in self.new ≡ handed_in self.old };
 }

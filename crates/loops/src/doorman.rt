@@ -46,16 +46,20 @@ impl Doorman {
         })
     }
 
-    /// Lets clients in, until as many have come as there was said. Where the system is short of something, it tries again
-    /// after a pause.
+    /// Lets clients in, until as many have come as there was said, or no more may. Where the system is short of something,
+    /// it tries again after a pause.
     pub(crate) fn let_in<R: Wait + AllocGlobal>(
         mut self,
         rt: &R,
         loops: &[Mailbox],
+        own: &Mailbox,
     ) -> Result<(), ServeFault> {
         let mut events = Events::with_capacity(rt.alloc(), 4)?;
         let mut timeout = Some(Duration::ZERO);
         for _ in rt.forever() {
+            if !own.may_sleep() {
+                return Ok(());
+            }
             self.poll.poll(&mut events, timeout)?;
             timeout = match self.accept_all(rt, loops) {
                 Ok(()) => None,

@@ -1,8 +1,10 @@
 use crate::desk::LoopDesk;
+use crate::fault::ServeFault;
 use crate::house::House;
 use crate::mailbox::{Mail, Mailbox};
 use crate::seat::{Seat, Wish};
 use crate::seats::Seats;
+use crate::shared_log::SharedLog;
 use crate::wire::Wire;
 use backoff::Backoff;
 use conversation::{Client, Conversation, LONGEST_PIECE};
@@ -10,7 +12,7 @@ use hall::HallError;
 use mio::net::TcpStream;
 use mio::{Events, Interest, Poll, Token};
 use std::alloc::Global;
-use std::io;
+use std::rt::Clock;
 use std::sync::{Mutex, MutexGuard, Wait};
 use std::thread::yield_now;
 use std::time::Duration;
@@ -27,6 +29,9 @@ const LOOKS_AT_LOCK: u32 = 16;
 /// So many milliseconds pass at first until a loop tries again what was refused for want of memory.
 const FIRST_PAUSE: u64 = 10;
 
+/// Where nobody is told anything, what takes effect is kept after so many seconds.
+const MOST_UNKEPT: u64 = 16;
+
 /// What loops have in common.
 #[derive(Drop)]
 pub(crate) struct Common<'a, R, D: LoopDesk> {
@@ -34,7 +39,25 @@ pub(crate) struct Common<'a, R, D: LoopDesk> {
     pub(crate) alloc: Global,
     pub(crate) house: &'a Mutex<House<D>>,
     pub(crate) mailboxes: &'a [Mailbox],
+    /// Of who lets clients in.
+    pub(crate) door: &'a Mailbox,
     pub(crate) nodes: u8,
+    pub(crate) log: Option<&'a SharedLog>,
+}
+
+impl<'a, R: Wait, D: LoopDesk> Common<'a, R, D> {
+    /// Wakes all, since no client comes any more.
+    pub(crate) fn end_all(&self) {
+        for mailbox in self.mailboxes {
+            mailbox.end(self.rt);
+        }
+        self.door.end(self.rt);
+    }
+
+    /// Whether the log has failed, so that nobody is told anything more.
+    pub(crate) fn has_failed(&self) -> bool {
+        self.log.is_some_and(|log| log.has_failed())
+    }
 }
 
 /// A loop over its clients.
@@ -55,6 +78,8 @@ pub(crate) struct EventLoop<'a, R, D: LoopDesk> {
     listed: Vec<usize>,
     /// What others are told once the lock is free: a session that was answered, and its loop.
     told: Vec<(u32, usize)>,
+    /// Somebody is to be told something, or nothing was kept for long.
+    owes: bool,
     piece: [u8; LONGEST_PIECE],
     second: Option<u64>,
     /// The nodes have something left to do.
@@ -67,7 +92,7 @@ pub(crate) struct EventLoop<'a, R, D: LoopDesk> {
     is_over: bool,
 }
 
-impl<'a, R: Wait, D: LoopDesk> EventLoop<'a, R, D> {
+impl<'a, R: Wait + Clock, D: LoopDesk> EventLoop<'a, R, D> {
     /// A loop without clients.
     pub(crate) fn new(
         common: &'a Common<'a, R, D>,
@@ -86,6 +111,7 @@ impl<'a, R: Wait, D: LoopDesk> EventLoop<'a, R, D> {
             answered: Vec::new(alloc),
             listed: Vec::new(alloc),
             told: Vec::new(alloc),
+            owes: false,
             piece: [0; LONGEST_PIECE],
             second: None,
             has_more: false,
@@ -96,18 +122,21 @@ impl<'a, R: Wait, D: LoopDesk> EventLoop<'a, R, D> {
         }
     }
 
-    /// Serves its clients, until none is there and no more come.
-    pub(crate) fn run(&mut self, mut poll: Poll) -> io::Result<()> {
+    /// Serves its clients, until none is there and no more come. Where the log fails, nobody is told anything more.
+    pub(crate) fn run(&mut self, mut poll: Poll) -> Result<(), ServeFault> {
         let mut events = Events::with_capacity(self.common.alloc, MOST_EVENTS)?;
         for _ in self.common.rt.forever() {
             let timeout = self.timeout();
             poll.poll(&mut events, timeout)?;
+            if self.common.has_failed() {
+                return Ok(());
+            }
             if let Some(mail) = self.own.take(self.common.rt, self.common.alloc) {
                 self.read_mail(mail, &poll);
             }
             self.serve_listed();
             self.serve_reported(&events);
-            self.meet();
+            self.meet()?;
             self.choose_pause();
             if self.is_over && self.seats.is_empty() {
                 return Ok(());
@@ -215,13 +244,15 @@ impl<'a, R: Wait, D: LoopDesk> EventLoop<'a, R, D> {
         }
     }
 
-    // Hands in what there is under one hold of the lock, and goes on with those that were answered.
-    fn meet(&mut self) {
+    // Hands in what there is under one hold of the lock, and goes on with those that were answered, once what took effect is
+    // kept.
+    fn meet(&mut self) -> Result<(), ServeFault> {
         let has_mail = !self.answered.is_empty() || self.second.is_some();
         if !has_mail && !self.has_more && self.asking.is_empty() && self.pause.is_none() {
-            return;
+            return Ok(());
         }
-        self.confer();
+        let count = self.confer();
+        self.keep(count)?;
         self.tell_others();
         let asked = std::mem::replace(&mut self.asking, Vec::new(self.common.alloc));
         let answered = std::mem::replace(&mut self.answered, Vec::new(self.common.alloc));
@@ -234,10 +265,27 @@ impl<'a, R: Wait, D: LoopDesk> EventLoop<'a, R, D> {
         for key in answered {
             self.go_on_with(key);
         }
+        Ok(())
     }
 
-    // What is done under the lock: what there is is handed in, the nodes' turns are taken, and answers are noted.
-    fn confer(&mut self) {
+    // Has the log kept up to this count of commands, where somebody waits for that.
+    fn keep(&self, count: u64) -> Result<(), ServeFault> {
+        let common = self.common;
+        match common.log {
+            Some(log) if self.owes && log.pause().is_zero() => {
+                let kept = log.keep(common.rt, common.house, count);
+                if kept.is_err() {
+                    common.end_all();
+                }
+                kept
+            }
+            _ => Ok(()),
+        }
+    }
+
+    // What is done under the lock: what there is is handed in, the nodes' turns are taken, and answers are noted. How many
+    // commands have taken effect then.
+    fn confer(&mut self) -> u64 {
         let mut house = self.lock();
         let second = self.second.take();
         if let Some(second) = second {
@@ -253,6 +301,9 @@ impl<'a, R: Wait, D: LoopDesk> EventLoop<'a, R, D> {
         self.sort_answers(&mut house);
         self.note_answers(&house);
         self.see_off(&mut house, settled);
+        let is_long = second.is_some_and(|second| second % MOST_UNKEPT == 0);
+        self.owes = is_long || !self.answered.is_empty() || !self.told.is_empty();
+        house.desk.placed_count()
     }
 
     // Hands in what there is.

@@ -12,6 +12,10 @@ pub enum ServeFault {
     ThreadFailed,
     /// A session's ticket doesn't agree with the hall.
     BadNumber,
+    /// A write to the log failed.
+    WriteFailed,
+    /// The log could not be synced, or it takes no such command.
+    SyncFailed,
 }
 
 impl From<AllocError> for ServeFault {

@@ -5,7 +5,7 @@ use bean_queue::{Op, Reply};
 use conversation::{Desk, LeanTicket, SessionTicket};
 use forgetting_hall::ForgettingHall;
 use hall::HallError;
-use object::{Act, Object, Value};
+use object::{Act, Command, Object, Value};
 use std::alloc::{AllocError, Global};
 use turns::{Watch, settle};
 
@@ -85,6 +85,8 @@ impl<O: Object<Op = Op, Reply = Reply>> LoopDesk for ForgettingDesk<O> {
 
     ghost clock = { λ desk. second_of desk.hall };
 
+    ghost placed = { λ desk. desk.hall.gathering.commands };
+
     fn open_session(&mut self) -> Result<LeanTicket, HallError> {
         Ok(LeanTicket::new(self.hall.open_session()?))
     }
@@ -142,5 +144,13 @@ impl<O: Object<Op = Op, Reply = Reply>> LoopDesk for ForgettingDesk<O> {
         let session = *self.answered.get(self.told)?;
         self.told += 1;
         Some(session)
+    }
+
+    fn placed_count(&self) -> u64 {
+        self.hall.placed_count()
+    }
+
+    fn take_placed(&mut self) -> Vec<Command<Op>> {
+        self.hall.take_placed()
     }
 }

@@ -7,7 +7,7 @@ use bean_queue::{Op, Reply};
 use conversation::Desk;
 use counted_hall::mark;
 use hall::{Hall, HallError, Ticket};
-use object::{Act, Object};
+use object::{Act, Command, Object};
 use std::alloc::{AllocError, Global};
 use turns::{Watch, settle};
 
@@ -118,7 +118,7 @@ impl<O: Object<Op = Op, Reply = Reply>> Desk for HallDesk<O> {
 }
 
 impl<O: Object<Op = Op, Reply = Reply>> LoopDesk for HallDesk<O> {
-    ghost use Rattle.std.specs.Prelude.{length};
+    ghost use Rattle.std.specs.Prelude.{length, []};
 
     // By each session.
     ghost handed_in = { λ desk. desk.hall.book };
@@ -126,6 +126,9 @@ impl<O: Object<Op = Op, Reply = Reply>> LoopDesk for HallDesk<O> {
     ghost opened = { λ desk. length desk.hall.book };
 
     ghost clock = { λ desk. desk.hall.second };
+
+    // It gathers nothing.
+    ghost placed = { λ desk. [] };
 
     fn open_session(&mut self) -> Result<Ticket<O>, HallError> {
         self.compared.reserve(1)?;
@@ -176,6 +179,14 @@ impl<O: Object<Op = Op, Reply = Reply>> LoopDesk for HallDesk<O> {
         let key = hall.answered_key(*told)?;
         *told = told.saturating_add(1);
         Some(key.session)
+    }
+
+    fn placed_count(&self) -> u64 {
+        0
+    }
+
+    fn take_placed(&mut self) -> Vec<Command<Op>> {
+        Vec::new(*self.compared.allocator())
     }
 }
 

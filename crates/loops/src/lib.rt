@@ -17,9 +17,12 @@ mod mailbox;
 mod seat;
 mod seats;
 mod server;
+mod shared_log;
+mod syncs;
 mod troubles;
 mod wire;
 
 pub use counted_hall::Seconds;
 pub use fault::ServeFault;
-pub use server::{Host, Served, ServedForgetting, serve_clients, serve_forgetting};
+pub use server::{Host, Served, ServedForgetting, serve_clients, serve_forgetting, serve_logged};
+pub use shared_log::Logging;

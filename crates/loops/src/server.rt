@@ -10,6 +10,8 @@ use crate::forgetting_desk::ForgettingDesk;
 use crate::hall_desk::HallDesk;
 use crate::house::House;
 use crate::mailbox::Mailbox;
+use crate::shared_log::{Logging, SharedLog};
+use crate::syncs::{keep_all, run_syncs};
 use bean_queue::{Op, Reply};
 use counted_hall::Seconds;
 use forgetting_hall::ForgettingHall;
@@ -21,8 +23,8 @@ use std::alloc::Global;
 use std::net::Net;
 use std::rt::Clock;
 use std::sync::{Mutex, Wait};
+use std::thread;
 use std::thread::{JoinHandle, Scope, Threads};
-use std::{io, thread};
 
 /// What a server takes of the machine.
 pub trait Host: Net + Clock + Threads + Wait + AllocGlobal + Sync {}
@@ -63,7 +65,13 @@ pub fn serve_clients<O: Object<Op = Op, Reply = Reply> + Send, T: Seconds + Send
         AllCompared s.hall.book s.compared.items s.acts s.fault) }
 {
     let desk = HallDesk::new(rt.alloc(), hall);
-    let (desk, fault) = serve_desk(rt, desk, listener, seconds, loops, sessions)?;
+    let terms = Terms {
+        listener,
+        loops,
+        sessions,
+        log: None,
+    };
+    let (desk, fault) = serve_desk(rt, desk, seconds, terms)?;
     let (hall, compared, acts, agree) = desk.into_hall();
     if agree {
         return Ok(Served {
@@ -97,8 +105,58 @@ pub fn serve_forgetting<
 ) -> Result<ServedForgetting<O>, ServeFault>
     requires loops { IsLoopCount loops }
 {
+    let terms = Terms {
+        listener,
+        loops,
+        sessions,
+        log: None,
+    };
+    serve_lean(rt, hall, seconds, terms)
+}
+
+/// The same, where a log is kept of what takes effect from now on in a hall that gathers it. Where each answer waits for the
+/// log, nobody is told anything before all that took effect until then is kept there. Where the log fails, nobody is told
+/// anything more, and the server ends.
+pub fn serve_logged<O: Object<Op = Op, Reply = Reply> + Send, T: Seconds + Send + Drop, R: Host>(
+    rt: &R,
+    hall: ForgettingHall<O>,
+    logging: Logging,
+    listener: TcpListener,
+    seconds: T,
+    loops: u32,
+    sessions: Option<u32>,
+) -> Result<ServedForgetting<O>, ServeFault>
+    requires loops { IsLoopCount loops }
+{
+    let terms = Terms {
+        listener,
+        loops,
+        sessions,
+        log: Some(SharedLog::new(logging)),
+    };
+    serve_lean(rt, hall, seconds, terms)
+}
+
+// How it is served.
+#[derive(Drop)]
+struct Terms {
+    listener: TcpListener,
+    loops: u32,
+    sessions: Option<u32>,
+    log: Option<SharedLog>,
+}
+
+// Serves clients over a hall that forgets.
+fn serve_lean<O: Object<Op = Op, Reply = Reply> + Send, T: Seconds + Send + Drop, R: Host>(
+    rt: &R,
+    hall: ForgettingHall<O>,
+    seconds: T,
+    terms: Terms,
+) -> Result<ServedForgetting<O>, ServeFault>
+    requires loops { IsLoopCount terms.loops }
+{
     let desk = ForgettingDesk::new(rt.alloc(), hall);
-    let (desk, fault) = serve_desk(rt, desk, listener, seconds, loops, sessions)?;
+    let (desk, fault) = serve_desk(rt, desk, seconds, terms)?;
     let hall = desk.into_hall();
     Ok(ServedForgetting { hall, fault })
 }
@@ -107,38 +165,42 @@ pub fn serve_forgetting<
 fn serve_desk<D, T, R>(
     rt: &R,
     desk: D,
-    listener: TcpListener,
     seconds: T,
-    loops: u32,
-    sessions: Option<u32>,
+    terms: Terms,
 ) -> Result<(D, Option<ServeFault>), ServeFault>
 where
     D: LoopDesk + Send + Drop,
     D::Ticket: Send,
     T: Seconds + Send + Drop,
     R: Host,
-    requires loops { IsLoopCount loops }
+    requires loops { IsLoopCount terms.loops }
 {
     let alloc = rt.alloc();
     let nodes = desk.node_count();
-    let room = Room::new(rt, alloc, loops)?;
+    let Terms {
+        listener,
+        loops,
+        sessions,
+        log,
+    } = terms;
+    let Room { polls, mailboxes } = Room::new(rt, alloc, loops)?;
     let door = Poll::new(rt)?;
     let own = Mailbox::new(alloc, door.registry(), WAKER)?;
     let doorman = Doorman::new(door, listener, sessions)?;
     let mut house = House::new(alloc, desk);
     house.begin();
     let house = Mutex::new(house);
-    let Room { polls, mailboxes } = room;
     let fault = serve_all(
         &Common {
             rt,
             alloc,
             house: &house,
             mailboxes: mailboxes.as_slice(),
+            door: &own,
             nodes,
+            log: log.as_ref(),
         },
         polls,
-        &own,
         doorman,
         seconds,
     );
@@ -169,11 +231,11 @@ impl Room {
     }
 }
 
-// Runs a thread for each loop and one for the clock, and lets clients in. All threads have ended when it returns.
+// Runs a thread for each loop, one for the clock, and one that syncs the log, where that is to be done from time to time; and
+// lets clients in. All threads have ended when it returns, and all that took effect is kept.
 fn serve_all<'s, D, T, R>(
     common: &'s Common<'s, R, D>,
     polls: Vec<Poll>,
-    own: &'s Mailbox,
     doorman: Doorman,
     seconds: T,
 ) -> Option<ServeFault>
@@ -187,30 +249,44 @@ where
         thread::scope_env(),
         common.rt,
         move |scope| -> Option<ServeFault> {
-            let clock = scope.spawn(move || run_clock(common.rt, common.mailboxes, own, seconds));
-            let Ok(clock) = clock else {
-                return Some(ServeFault::ThreadFailed);
-            };
             let mut threads = Vec::new(common.alloc);
             let started = start_loops(scope, common, polls, &mut threads);
-            let let_in = match started {
-                Ok(()) => doorman.let_in(common.rt, common.mailboxes),
-                Err(fault) => Err(fault),
-            };
-            let mut fault = let_in.err();
+            let mut others = Vec::new(common.alloc);
+            let started = started.and_then(|()| start_others(scope, common, seconds, &mut others));
+            let let_in = started.and_then(|()| doorman.let_in(
+                common.rt,
+                common.mailboxes,
+                common.door,
+            ));
             for mailbox in common.mailboxes {
                 mailbox.end(common.rt);
             }
-            for thread in threads {
-                if thread.join(common.rt).is_err() {
-                    fault = Some(ServeFault::ListenFailed);
-                }
-            }
-            own.end(common.rt);
-            clock.join(common.rt);
-            fault
+            let ended = join_all(common.rt, threads);
+            common.door.end(common.rt);
+            let others = join_all(common.rt, others);
+            first_fault(&[let_in, ended, others, keep_all(common)])
         },
     )
+}
+
+// The first of these faults, where there is one.
+fn first_fault(ended: &[Result<(), ServeFault>]) -> Option<ServeFault> {
+    ended.iter().find_map(|end| end.err())
+}
+
+// Waits until all of these threads have ended.
+fn join_all<R: Threads + Wait>(
+    rt: &R,
+    threads: Vec<JoinHandle<Result<(), ServeFault>>>,
+) -> Result<(), ServeFault> {
+    let mut ended = Ok(());
+    for thread in threads {
+        let result = thread.join(rt);
+        if ended.is_ok() {
+            ended = result;
+        }
+    }
+    ended
 }
 
 // Starts a thread for each loop.
@@ -218,12 +294,12 @@ fn start_loops<'s, E, D, R>(
     scope: &Scope<'s, E>,
     common: &'s Common<'s, R, D>,
     polls: Vec<Poll>,
-    threads: &mut Vec<JoinHandle<io::Result<()>>>,
+    threads: &mut Vec<JoinHandle<Result<(), ServeFault>>>,
 ) -> Result<(), ServeFault>
 where
     D: LoopDesk + Send,
     D::Ticket: Send,
-    R: Wait + Sync,
+    R: Clock + Threads + Wait + AllocGlobal + Sync,
 {
     for poll in polls {
         let at = threads.len();
@@ -235,12 +311,39 @@ where
     Ok(())
 }
 
+// Starts the thread of the clock, and that which syncs the log, where one is to.
+fn start_others<'s, E, D, T, R>(
+    scope: &Scope<'s, E>,
+    common: &'s Common<'s, R, D>,
+    seconds: T,
+    threads: &mut Vec<JoinHandle<Result<(), ServeFault>>>,
+) -> Result<(), ServeFault>
+where
+    D: LoopDesk + Send,
+    D::Ticket: Send,
+    T: Seconds + Send + Drop + 's,
+    R: Clock + Threads + Wait + AllocGlobal + Sync,
+{
+    let clock = scope.spawn(move || run_clock(common.rt, common.mailboxes, common.door, seconds));
+    let clock = clock.map_err(|_| ServeFault::ThreadFailed)?;
+    threads.push(clock).map_err(|_| ServeFault::OutOfMemory)?;
+    match common.log {
+        Some(log) if !log.pause().is_zero() => {
+            let pause = log.pause();
+            let syncs = scope.spawn(move || run_syncs(common, pause));
+            let syncs = syncs.map_err(|_| ServeFault::ThreadFailed)?;
+            threads.push(syncs).map_err(|_| ServeFault::OutOfMemory)
+        }
+        _ => Ok(()),
+    }
+}
+
 // What the thread of a loop does.
-fn run_loop<R: Wait, D: LoopDesk>(
+fn run_loop<R: Wait + Clock, D: LoopDesk>(
     common: &Common<'_, R, D>,
     poll: Poll,
     at: usize,
-) -> io::Result<()> {
+) -> Result<(), ServeFault> {
     let Some(own) = common.mailboxes.get(at) else {
         return Ok(());
     };

@@ -13,6 +13,7 @@ const MOST_TURNS: u32 = 1024;
 /// is left after so many turns that others are to have the lock.
 pub fn settle<N: Nodes>(nodes: &mut N, first: u8) -> Result<bool, HallError>
     ensures kept { N.handed_in nodes.new ≡ N.handed_in nodes.old }
+    ensures goes_on { N.goes_on nodes.old nodes.new }
 {
     let count = nodes.count();
     let mut node = first;
@@ -35,6 +36,7 @@ pub fn settle<N: Nodes>(nodes: &mut N, first: u8) -> Result<bool, HallError>
 // there was anything to do.
 fn take_turn<N: Nodes>(nodes: &mut N, node: u8) -> Result<bool, HallError>
     ensures kept { N.handed_in nodes.new ≡ N.handed_in nodes.old }
+    ensures goes_on { N.goes_on nodes.old nodes.new }
 {
     let has_proposed = propose(nodes, node)?;
     let has_received = receive(nodes, node)?;
@@ -45,6 +47,7 @@ fn take_turn<N: Nodes>(nodes: &mut N, node: u8) -> Result<bool, HallError>
 // It proposes what was asked for.
 fn propose<N: Nodes>(nodes: &mut N, node: u8) -> Result<bool, HallError>
     ensures kept { N.handed_in nodes.new ≡ N.handed_in nodes.old }
+    ensures goes_on { N.goes_on nodes.old nodes.new }
 {
     for count in 0..MOST_IN_A_TURN {
         if !nodes.propose(node)? {
@@ -57,6 +60,7 @@ fn propose<N: Nodes>(nodes: &mut N, node: u8) -> Result<bool, HallError>
 // It receives what is in its mail.
 fn receive<N: Nodes>(nodes: &mut N, node: u8) -> Result<bool, HallError>
     ensures kept { N.handed_in nodes.new ≡ N.handed_in nodes.old }
+    ensures goes_on { N.goes_on nodes.old nodes.new }
 {
     for count in 0..MOST_IN_A_TURN {
         if !nodes.deliver(node)? {
@@ -69,6 +73,7 @@ fn receive<N: Nodes>(nodes: &mut N, node: u8) -> Result<bool, HallError>
 // It performs what was decided.
 fn perform<N: Nodes>(nodes: &mut N, node: u8) -> Result<bool, HallError>
     ensures kept { N.handed_in nodes.new ≡ N.handed_in nodes.old }
+    ensures goes_on { N.goes_on nodes.old nodes.new }
 {
     for count in 0..MOST_IN_A_TURN {
         if !nodes.perform(node)? {

@@ -66,6 +66,7 @@ impl Watch {
     /// it, it says again what it waits for.
     pub fn take_turn<N: Nodes>(&mut self, nodes: &mut N, round: u64) -> Result<(), HallError>
         ensures kept { N.handed_in nodes.new ≡ N.handed_in nodes.old }
+        ensures goes_on { N.goes_on nodes.old nodes.new }
     {
         self.begin(nodes)?;
         self.propose(nodes)?;
@@ -78,6 +79,7 @@ impl Watch {
     // slot.
     fn propose<N: Nodes>(&self, nodes: &mut N) -> Result<(), HallError>
         ensures kept { N.handed_in nodes.new ≡ N.handed_in nodes.old }
+        ensures goes_on { N.goes_on nodes.old nodes.new }
     {
         let work = nodes.work(self.node);
         let waits = self.reads_first && work.mail;
@@ -90,6 +92,7 @@ impl Watch {
     // The first node wakes in its first turn.
     fn begin<N: Nodes>(&mut self, nodes: &mut N) -> Result<(), HallError>
         ensures kept { N.handed_in nodes.new ≡ N.handed_in nodes.old }
+        ensures goes_on { N.goes_on nodes.old nodes.new }
     {
         if self.node == FIRST_NODE && !self.has_begun {
             nodes.wake(self.node)?;
@@ -102,6 +105,7 @@ impl Watch {
     // its own stood undecided over n rounds.
     fn note_round<N: Nodes>(&mut self, nodes: &mut N, round: u64) -> Result<(), HallError>
         ensures kept { N.handed_in nodes.new ≡ N.handed_in nodes.old }
+        ensures goes_on { N.goes_on nodes.old nodes.new }
     {
         if round <= self.round || nodes.work(self.node).mail {
             return Ok(());
@@ -130,6 +134,7 @@ impl Watch {
 // The node receives what is in its mail.
 fn receive<N: Nodes>(nodes: &mut N, node: u8) -> Result<(), HallError>
     ensures kept { N.handed_in nodes.new ≡ N.handed_in nodes.old }
+    ensures goes_on { N.goes_on nodes.old nodes.new }
 {
     for _ in 0..MOST_LETTERS {
         if !nodes.work(node).mail {
@@ -143,6 +148,7 @@ fn receive<N: Nodes>(nodes: &mut N, node: u8) -> Result<(), HallError>
 // It performs what was decided.
 fn perform<N: Nodes>(nodes: &mut N, node: u8) -> Result<(), HallError>
     ensures kept { N.handed_in nodes.new ≡ N.handed_in nodes.old }
+    ensures goes_on { N.goes_on nodes.old nodes.new }
 {
     for _ in 0..u64::MAX {
         if !nodes.work(node).decision {

@@ -1,6 +1,6 @@
-use Rattle.std.proofs.Common.{◌≡◌}
+use Rattle.std.proofs.Common.{◌≡◌, ◌×◌}
 use Rattle.turns.proofs.watch.perform.Given as goal
 
--- nothing more was handed in
+-- nothing more was handed in, and what each turn keeps is kept
 abbrev pub invariant-loop : goal.invariant-loop
-invariant-loop g l = g.N.Nodes.handed_in l.nodes ≡ g.N.Nodes.handed_in l.fn.nodes
+invariant-loop g l = (g.N.Nodes.handed_in l.nodes ≡ g.N.Nodes.handed_in l.fn.nodes) × g.N.Nodes.goes_on l.fn.nodes l.nodes

@@ -1,0 +1,101 @@
+-- What a hall has told goes on from call to call.
+use Rattle.std.proofs.Common.{◌≡◌, ◌<◌, ℕ, true, cond, List, [], ◌++◌, Option, Some, None, refl, sym, ap, ◌∙◌, subst, append-nil}
+use Rattle.std.specs.Option.{option_to_list}
+use Rattle.std.proofs.lemmas.List.{append_assoc}
+use Rattle.object.specs.Objects.{Rules}
+use Rattle.object.specs.declared.command.Command.{Command}
+use Rattle.ballot.specs.Members.{is_member}
+use Rattle.ballot.specs.declared.letter.Letter.{Letter}
+use Rattle.ballot.specs.declared.letter.LetterBody.{LetterBody}
+use Rattle.node.specs.declared.deed.Deed.{Deed}
+use Rattle.agreement.specs.Events.{event_of}
+use Rattle.agreement.specs.Runs.{most_events, IsWorld}
+use Rattle.agreement.specs.Steps.{Step}
+use Rattle.agreement.specs.Worlds.{World}
+use Rattle.agreement.specs.declared.event.Event.{Event}
+use Rattle.agreement.specs.declared.event.Event.TheVariants.{Submit, Deliver}
+use Rattle.forgetting_hall.specs.Effects.{TookEffect, effect_of, placed_by}
+use Rattle.forgetting_hall.specs.Gathered.{Gathering, gathered}
+use Rattle.forgetting_hall.specs.Halls.{ForgettingState, FollowsIn, FollowsLeft, ShowsStill, rest_of_hall}
+use Rattle.forgetting_hall.specs.Rests.{HallRest, ShowsWorld, FollowsEvent, IsGoingOn}
+use Rattle.forgetting_hall.specs.Telling.{HasTold, TellsOn}
+use Rattle.forgetting_hall.proofs.Following.{Next}
+
+-- what takes effect, after one event more
+abbrev pub Effects : {O Op Reply : Type 0} → Rules O Op Reply → Type 0
+Effects {O} {Op} {Reply} rules = (w v : World Op Reply) (e : Event Op) (order : List (Command Op)) → IsWorld rules w → Step rules w e v
+    → TookEffect w order → TookEffect v (order ++ option_to_list (effect_of w e))
+
+module _ {O Op Reply : Type 0} (rules : Rules O Op Reply) (h z : ForgettingState Op O Reply) where
+  -- where there is no event
+  pub stays_told : ShowsStill rules h z → z.gathering ≡ h.gathering → TellsOn rules h z
+  stays_told still same told t = record {
+    gathers = ap (λ (g : Gathering Op). g.is_on) same ∙ t.gathers;
+    world = t.world;
+    reachable = t.reachable;
+    shown = still t.world t.reachable t.shown;
+    took = subst (λ (g : Gathering Op). TookEffect t.world (told ++ g.commands)) (sym same) t.took;
+  }
+
+  module _ (next : Next rules) (effects : Effects rules) (room : h.taken < most_events) where
+    -- where there is one in which this takes effect
+    event_told : (e : Event Op) (c : Option (Command Op)) (told : List (Command Op)) (t : HasTold rules h told)
+        → FollowsEvent rules t.world e (rest_of_hall rules z) → effect_of t.world e ≡ c
+        → z.gathering ≡ gathered c h.gathering → HasTold rules z told
+    event_told e c told t follows effect same =
+        let on : z.gathering.is_on ≡ true = ap (λ (g : Gathering Op). g.is_on) same ∙ t.gathers in
+        let more : z.gathering.commands ≡ h.gathering.commands ++ option_to_list c =
+        ap (λ (g : Gathering Op). g.commands) same
+        ∙ ap (λ b. h.gathering.commands ++ option_to_list (cond b c None)) t.gathers in
+        record {
+          gathers = on;
+          world = follows.0;
+          reachable = next t.world follows.0 e t.reachable follows.1 (subst (λ n. n < most_events) t.shown.taken room);
+          shown = follows.2;
+          took = subst (TookEffect follows.0)
+              (ap (λ o. (told ++ h.gathering.commands) ++ option_to_list o) effect
+              ∙ append_assoc told h.gathering.commands (option_to_list c)
+              ∙ ap (λ ds. told ++ ds) (sym more))
+              (effects t.world follows.0 e (told ++ h.gathering.commands) t.reachable follows.1 t.took);
+        }
+
+    -- nothing does
+    quiet_told : (e : Event Op) (told : List (Command Op)) (t : HasTold rules h told)
+        → FollowsEvent rules t.world e (rest_of_hall rules z) → effect_of t.world e ≡ None
+        → z.gathering ≡ h.gathering → HasTold rules z told
+    quiet_told e told t follows effect same = event_told e None told t follows effect (same ∙ sym (nothing h.gathering))
+      where
+        none_of : (b : _) → cond b (None {A = Command Op}) None ≡ None
+        none_of true = refl
+        none_of false = refl
+
+        nothing : (g : Gathering Op) → gathered None g ≡ g
+        nothing g = λ i. record g { commands = (ap (λ o. g.commands ++ option_to_list o) (none_of g.is_on) ∙ append-nil g.commands) i }
+
+    pub submit_told : (n : ℕ) (c : Command Op) → FollowsIn rules h (Submit n c) z → z.gathering ≡ h.gathering → TellsOn rules h z
+    submit_told n c follows same told t = quiet_told (Submit n c) told t (follows t.world t.reachable t.shown) refl same
+
+    pub act_told : ((q : HallRest Op O Reply) (w : World Op Reply) (n : ℕ) (d : Deed Op) → IsWorld rules w → ShowsWorld rules q w
+        → is_member q.network.members n ≡ true → IsGoingOn d → effect_of w (event_of n d) ≡ placed_by q n d)
+        → (n : ℕ) (d : Deed Op) → is_member h.network.members n ≡ true → IsGoingOn d → FollowsIn rules h (event_of n d) z
+        → z.gathering ≡ gathered (placed_by (rest_of_hall rules h) n d) h.gathering → TellsOn rules h z
+    act_told tells n d member own follows same told t =
+        event_told (event_of n d) (placed_by (rest_of_hall rules h) n d) told t (follows t.world t.reachable t.shown)
+        (tells (rest_of_hall rules h) t.world n d t.reachable t.shown member own) same
+
+    pub receive_told : (n : ℕ) (l : Letter (Command Op)) (left : LetterBody (Command Op)) → FollowsLeft rules h n l left z
+        → z.gathering ≡ h.gathering → TellsOn rules h z
+    receive_told n l left follows same told t =
+        let f = follows t.world t.reachable t.shown in
+        quiet_told (Deliver f.0) told t f.5 refl same
+
+-- what was gathered is taken from it
+pub take_told : {O Op Reply : Type 0} (rules : Rules O Op Reply) (h : ForgettingState Op O Reply) (told : List (Command Op)) → HasTold rules h told
+    → HasTold rules (record h { gathering = record h.gathering { commands = [] } }) (told ++ h.gathering.commands)
+take_told rules h told t = record {
+  gathers = t.gathers;
+  world = t.world;
+  reachable = t.reachable;
+  shown = t.shown;
+  took = subst (TookEffect t.world) (sym (append-nil (told ++ h.gathering.commands))) t.took;
+}

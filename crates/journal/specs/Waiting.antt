@@ -1,0 +1,30 @@
+-- A log, and what waits to be written to it.
+use Rattle.std.specs.Prelude.{◌≡◌, ℕ, List, ◌++◌, Option}
+use Rattle.object.specs.declared.command.Command.{Command}
+use Rattle.bean_queue.specs.declared.op.Op.{Op}
+use Rattle.log_file.specs.Logs.{HoldsLog}
+use Rattle.log_file.specs.States.{LogState}
+use Rattle.log_file.specs.declared.faults.KeepFault.TheVariants as keep
+use Rattle.log_file.specs.declared.faults.NoteFault.{NoteFault}
+use Rattle.log_file.specs.declared.faults.NoteFault.TheVariants as note
+use Rattle.journal.specs.declared.fault.JournalFault.{JournalFault}
+use Rattle.journal.specs.declared.fault.JournalFault.TheVariants.{OutOfMemory, TooLong, Unkept}
+
+-- the log; the commands that come next in it, and how many there are of all once these are kept; and how many of all are kept
+pub record JournalState (W : Type 0) : Type 0 where
+  pub log : LogState W
+  pub waiting : List (Command Op)
+  pub due : ℕ
+  pub kept : ℕ
+
+-- the log, with what waits behind it, is one of these commands; the bytes of its writer are known
+pub record HoldsAll {W : Type 0} (contents : W → Option (List ℕ)) (j : JournalState W) (members : List ℕ) (commands : List (Command Op)) : Type 0 where
+  pub noted : List (Command Op)
+  pub log : HoldsLog (contents j.log.writer) j.log.batch members noted
+  pub rest : noted ++ j.waiting ≡ commands
+
+-- the fault of a command that isn't noted
+abbrev pub fault_of_note : NoteFault → JournalFault
+fault_of_note note.OutOfMemory = OutOfMemory
+fault_of_note note.TooLong = TooLong
+fault_of_note note.HasFailed = Unkept keep.HasFailed

@@ -1,0 +1,23 @@
+-- How far a start from a log has come.
+use Rattle.std.specs.Prelude.{◌≡◌, ℕ, List}
+use Rattle.std.specs.BTreeSet.{BTreeSet, contains}
+use Rattle.std.specs.Ordering.{nat_cmp}
+use Rattle.object.specs.Objects.{Rules}
+use Rattle.object.specs.declared.command.Command.{Command}
+use Rattle.forgetting_hall.specs.Halls.{ForgettingState}
+use Rattle.forgetting_hall.specs.Telling.{HasTold}
+use Rattle.recovery.specs.Opened.{is_left_open}
+
+-- the hall, and the sessions that are open
+pub record RecoveryState (Op O Reply : Type 0) : Type 0 where
+  pub hall : ForgettingState Op O Reply
+  pub open : BTreeSet ℕ
+
+-- these are the sessions that the commands leave open
+abbrev pub AreLeftOpen : {Op : Type 0} → BTreeSet ℕ → List (Command Op) → Type 0
+AreLeftOpen open commands = (session : ℕ) → contains nat_cmp open session ≡ is_left_open session commands
+
+-- in the hall these commands took effect, in this order and no others, and it is known which sessions they leave open
+pub record HasObeyed {O Op Reply : Type 0} (rules : Rules O Op Reply) (r : RecoveryState Op O Reply) (commands : List (Command Op)) : Type 0 where
+  pub told : HasTold rules r.hall commands
+  pub open : AreLeftOpen r.open commands

@@ -1,0 +1,70 @@
+ghost use Rattle.std.specs.Prelude.{◌≡◌, ◌∷◌, ◌++◌, ℕ, List, [], OnOk, true, IsTrue};
+ghost use Rattle.std.specs.BTreeSet.{contains};
+ghost use Rattle.std.specs.Ordering.{nat_cmp};
+ghost use Rattle.object.specs.declared.command.Command.{Command};
+ghost use Rattle.hall.specs.Tickets.{is_close};
+ghost use Rattle.recovery.specs.Obeyed.{AreLeftOpen};
+ghost use Rattle.recovery.specs.Opened.{sessions_of, AllEnd};
+
+use crate::fault::RecoverFault;
+use object::{Act, Command, Value};
+use std::collections::BTreeSet;
+
+/// Takes note of which sessions the commands leave open, behind others.
+pub(crate) fn note_all<Op: Value>(
+    open: &mut BTreeSet<u32>,
+    commands: &[Command<Op>],
+) -> Result<(), RecoverFault>
+    ensures { OnOk result ((before : List (Command Op)) → AreLeftOpen open.old before
+        → AreLeftOpen open.new (before ++ commands.now)) }
+{
+    for command in commands {
+        note(open, command)?;
+    }
+    Ok(())
+}
+
+// The same of one command.
+fn note<Op: Value>(open: &mut BTreeSet<u32>, command: &Command<Op>) -> Result<(), RecoverFault>
+    ensures { OnOk result ((before : List (Command Op)) → AreLeftOpen open.old before
+        → AreLeftOpen open.new (before ++ command.now ∷ [])) }
+{
+    let session = command.key().session;
+    if session == 0 {
+        return Ok(());
+    }
+    match command.act() {
+        Act::Close => {
+            open.remove(&session);
+        }
+        Act::Do(_) | Act::Tick => {
+            open.insert(session).map_err(|_| RecoverFault::OutOfMemory)?;
+        }
+    }
+    Ok(())
+}
+
+/// Whether each command ends a session, and these are the open ones, in rising order.
+pub(crate) fn end_them<Op: Value>(open: &BTreeSet<u32>, commands: &[Command<Op>]) -> bool
+    ensures ends { IsTrue result → AllEnd commands.now }
+    ensures sessions { IsTrue result → sessions_of commands.now ≡ open.now.keys }
+{
+    let mut rest = commands;
+    for session in open {
+        let Some((command, others)) = rest.split_first() else {
+            return false;
+        };
+        if command.key().session != *session || !is_close(command.act()) {
+            return false;
+        }
+        rest = others;
+    }
+    rest.is_empty()
+}
+
+// The act ends its session.
+fn is_close<Op: Value>(act: &Act<Op>) -> bool
+    ensures { result ≡ is_close act.now }
+{
+    matches!(act, Act::Close)
+}

@@ -1,0 +1,158 @@
+ghost use Rattle.std.specs.Prelude.{◌≡◌, ◌≤◌, ◌<◌, ◌++◌, ℕ, List, [], length, take, IfOk, OnOk, IsTrue};
+ghost use Rattle.object.specs.declared.command.Command.{Command};
+ghost use Rattle.forgetting_hall.specs.Telling.{HasTold};
+ghost use Rattle.recovery.specs.Obeyed.{HasObeyed};
+ghost use Rattle.recovery.specs.Opened.{EndsAll};
+
+use crate::fault::RecoverFault;
+use crate::open_sessions::{end_them, note_all};
+use crate::sessions::sessions_of;
+use crate::steps;
+use ballot::Members;
+use forgetting_hall::{ForgettingHall, tells_in_order};
+use object::{Command, Object, Value};
+use std::alloc::Global;
+use std::collections::BTreeSet;
+use std::marker::Model;
+
+/// So many commands are handed in before the nodes take their turns.
+const AT_ONCE: usize = 64;
+
+/// A hall that obeys the commands of a log.
+#[derive(Drop)]
+pub struct Recovery<O: Object> {
+    hall: ForgettingHall<O>,
+    // Those that are open after what was obeyed.
+    open: BTreeSet<u32>,
+    // All that the log has, in rising order; so many were opened.
+    sessions: Vec<u32>,
+    opened: usize,
+    alloc: Global,
+}
+
+impl<O: Object> Model for Recovery<O> {
+    ghost use Rattle.recovery.specs.Obeyed.{RecoveryState};
+
+    ghost Value = { RecoveryState O.Op O O.Reply };
+
+    ghost view = { λ r. record { hall = r.hall; open = r.open } };
+}
+
+/// A hall that has obeyed a log, and the commands by which it ended each session that the log leaves open. They took effect
+/// behind the log's.
+#[derive(Drop)]
+pub struct Recovered<O: Object> {
+    pub hall: ForgettingHall<O>,
+    pub closes: Vec<Command<O::Op>>,
+}
+
+impl<O: Object> Recovery<O> {
+    /// A hall of these members that has obeyed nothing. All commands of the log are looked through for their sessions.
+    pub fn begin(
+        alloc: Global,
+        members: Members,
+        commands: &[Command<O::Op>],
+    ) -> Result<Recovery<O>, RecoverFault>
+        ensures { IfOk result (λ r. HasObeyed O.rules r []) }
+    {
+        Ok(Recovery {
+            hall: begun(alloc, members)?,
+            open: BTreeSet::new(alloc),
+            sessions: sessions_of(alloc, commands)?,
+            opened: 0,
+            alloc,
+        })
+    }
+
+    /// Obeys some first ones of these commands, which come next in the log, and tells how many: none where there are none,
+    /// and 64 at most.
+    pub fn obey_some(&mut self, commands: &[Command<O::Op>]) -> Result<usize, RecoverFault>
+        ensures obeyed { IfOk result (λ count. (before : List (Command O.Op)) → HasObeyed O.rules self.old before
+            → HasObeyed O.rules self.new (before ++ take count commands.now)) }
+        ensures few { IfOk result (λ count. count ≤ length commands.now) }
+        ensures some { IfOk result (λ count. 0 < length commands.now → 0 < count) }
+    {
+        let count = commands.len().min(AT_ONCE);
+        self.obey(&commands[..count])?;
+        Ok(count)
+    }
+
+    /// Ends each session that is open.
+    pub fn finish(self) -> Result<Recovered<O>, RecoverFault>
+        ensures told { IfOk result (λ r. (before : List (Command O.Op)) → HasObeyed O.rules self before
+            → HasTold O.rules r.hall (before ++ r.closes.items)) }
+        ensures closes { IfOk result (λ r. (before : List (Command O.Op)) → HasObeyed O.rules self before
+            → EndsAll before r.closes.items) }
+    {
+        let Recovery { mut hall, open, .. } = self;
+        for session in &open {
+            steps::close(&mut hall, *session)?;
+        }
+        let closes = placed(&mut hall)?;
+        if !end_them(&open, &closes) {
+            return Err(RecoverFault::NoOrder);
+        }
+        steps::forget(&mut hall, &closes);
+        Ok(Recovered { hall, closes })
+    }
+
+    // Obeys these commands. What takes effect has to be just these.
+    fn obey(&mut self, commands: &[Command<O::Op>]) -> Result<(), RecoverFault>
+        ensures { OnOk result ((before : List (Command O.Op)) → HasObeyed O.rules self.old before
+            → HasObeyed O.rules self.new (before ++ commands.now)) }
+    {
+        for command in commands {
+            self.hand_in(command)?;
+        }
+        let placed = placed(&mut self.hall)?;
+        if !are_same(&placed, commands) {
+            return Err(RecoverFault::NoOrder);
+        }
+        note_all(&mut self.open, commands)?;
+        steps::forget(&mut self.hall, commands);
+        Ok(())
+    }
+
+    // Hands in a command, once all sessions of the log are there whose number is no greater.
+    fn hand_in(&mut self, command: &Command<O::Op>) -> Result<(), RecoverFault>
+        ensures hall { (before : List (Command O.Op)) → HasTold O.rules self.old.hall before
+            → HasTold O.rules self.new.hall before }
+        ensures open { self.new.open ≡ self.old.open }
+    {
+        let session = command.key().session;
+        while self.opened < self.sessions.len() && self.sessions[self.opened] <= session {
+            steps::open(&mut self.hall, self.sessions[self.opened])?;
+            self.opened += 1;
+        }
+        steps::hand_in(&mut self.hall, command)
+    }
+}
+
+// A hall in which nothing happened but that its first node asked to lead. It gathers what takes effect.
+fn begun<O: Object>(alloc: Global, members: Members) -> Result<ForgettingHall<O>, RecoverFault>
+    ensures { IfOk result (λ hall. HasTold O.rules hall []) }
+{
+    tells_in_order::<O>();
+    let mut hall = ForgettingHall::new(alloc, members)?;
+    hall.gather();
+    steps::wake(&mut hall)?;
+    steps::settle_all(&mut hall)?;
+    Ok(hall)
+}
+
+// What takes effect as the nodes take their turns, until none has anything to do.
+fn placed<O: Object>(hall: &mut ForgettingHall<O>) -> Result<Vec<Command<O::Op>>, RecoverFault>
+    ensures { IfOk result (λ placed. (before : List (Command O.Op)) → HasTold O.rules hall.old before
+        → HasTold O.rules hall.new (before ++ placed.items)) }
+{
+    tells_in_order::<O>();
+    steps::settle_all(hall)?;
+    Ok(hall.take_placed())
+}
+
+// Whether the commands are the same, one by one.
+fn are_same<Op: Value>(placed: &[Command<Op>], commands: &[Command<Op>]) -> bool
+    ensures { IsTrue result → placed.now ≡ commands.now }
+{
+    placed == commands
+}
