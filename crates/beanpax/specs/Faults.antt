@@ -1,6 +1,17 @@
 -- What is told of a fault.
-use Rattle.std.specs.Prelude.{◌≡◌, ◌⊎◌, ℕ, List, ◌++◌, codes}
+use Rattle.std.specs.Prelude.{◌≡◌, ◌≢◌, ◌⊎◌, ℕ, List, ◌++◌, codes}
 use Rattle.std.specs.Fmt.{decimal}
+use Rattle.std_io.specs.IoError.{error_kind}
+use Rattle.std_io.specs.declared.io.kind.ErrorKind.{ErrorKind}
+use Rattle.std_io.specs.declared.io.kind.ErrorKind.TheVariants as io
+use Rattle.command_log.specs.declared.faults.LogFault.{LogFault}
+use Rattle.command_log.specs.declared.faults.LogFault.TheVariants as log
+use Rattle.log_file.specs.declared.faults.KeepFault.{KeepFault}
+use Rattle.log_file.specs.declared.faults.KeepFault.TheVariants as keeping
+use Rattle.log_file.specs.declared.faults.OpenFault.{OpenFault}
+use Rattle.log_file.specs.declared.faults.OpenFault.TheVariants as opening
+use Rattle.log_file.specs.declared.faults.ReadFault.{ReadFault}
+use Rattle.log_file.specs.declared.faults.ReadFault.TheVariants as reading
 use Rattle.session.specs.declared.faults.SessionFault.{SessionFault}
 use Rattle.session.specs.declared.faults.SessionFault.TheVariants as of
 use Rattle.loops.specs.declared.fault.ServeFault.{ServeFault}
@@ -8,7 +19,7 @@ use Rattle.loops.specs.declared.fault.ServeFault.TheVariants as server
 use Rattle.beanpax.specs.declared.faults.ProgramFault.{ProgramFault}
 use Rattle.beanpax.specs.declared.faults.ProgramFault.TheVariants.{OutOfMemory, BadNumber, ReadFailed, WriteFailed}
 use Rattle.beanpax.specs.declared.faults.ProgramFault.TheVariants.{ServiceStopped, ListenFailed, FileFailed}
-use Rattle.beanpax.specs.declared.faults.ProgramFault.TheVariants.{ThreadFailed}
+use Rattle.beanpax.specs.declared.faults.ProgramFault.TheVariants.{ThreadFailed, LogDamaged}
 
 -- the fault of a session, as one of the program
 abbrev pub of_session : SessionFault → ProgramFault
@@ -24,6 +35,38 @@ of_server server.BadNumber = BadNumber
 of_server server.ListenFailed = ListenFailed
 of_server server.ThreadFailed = ThreadFailed
 
+-- a file could not be read or written: for want of memory, or not
+pub record IsOfFile (kind : ErrorKind) (fault : ProgramFault) : Type 0 where
+  pub memory : kind ≡ io.OutOfMemory → fault ≡ OutOfMemory
+  pub other : kind ≢ io.OutOfMemory → fault ≡ FileFailed
+
+-- a text that is no log is damaged; where it has no head, in its first line
+abbrev pub of_log : LogFault → ProgramFault
+of_log log.Unbegun = LogDamaged 1
+of_log log.BadHead = LogDamaged 1
+of_log (log.Damaged line) = LogDamaged line
+
+-- why a log isn't read
+abbrev pub IsOfReading : ReadFault → ProgramFault → Type 0
+IsOfReading reading.OutOfMemory fault = fault ≡ OutOfMemory
+IsOfReading (reading.ReadFailed e) fault = IsOfFile (error_kind e) fault
+IsOfReading reading.TooLong fault = fault ≡ FileFailed
+IsOfReading (reading.NoLog found) fault = fault ≡ of_log found
+
+-- why the head of a new log isn't kept
+abbrev pub of_keeping : KeepFault → ProgramFault
+of_keeping (keeping.WriteFailed e) = WriteFailed
+of_keeping (keeping.SyncFailed e) = FileFailed
+of_keeping keeping.HasFailed = FileFailed
+
+-- why a file isn't opened as a log
+abbrev pub IsOfOpening : OpenFault → ProgramFault → Type 0
+IsOfOpening opening.OutOfMemory fault = fault ≡ OutOfMemory
+IsOfOpening opening.Locked fault = fault ≡ FileFailed
+IsOfOpening (opening.FileFailed e) fault = IsOfFile (error_kind e) fault
+IsOfOpening (opening.Unread unread) fault = IsOfReading unread fault
+IsOfOpening (opening.Unkept unkept) fault = fault ≡ of_keeping unkept
+
 -- what can go wrong while a line is written to the output
 abbrev pub IsOfOutput : ProgramFault → Type 0
 IsOfOutput fault = (fault ≡ OutOfMemory) ⊎ (fault ≡ WriteFailed)
@@ -36,6 +79,10 @@ IsOfDump fault = (fault ≡ OutOfMemory) ⊎ (fault ≡ FileFailed)
 abbrev pub IsOfServer : ProgramFault → Type 0
 IsOfServer fault = (fault ≡ OutOfMemory) ⊎ ((served : ServeFault) × (fault ≡ of_server served))
 
+-- and with its log
+abbrev pub IsOfLog : ProgramFault → Type 0
+IsOfLog fault = (fault ≡ OutOfMemory) ⊎ (fault ≡ WriteFailed) ⊎ (fault ≡ FileFailed) ⊎ ((line : ℕ) × (fault ≡ LogDamaged line))
+
 -- the number by which a fault is told
 abbrev pub number_of_fault : ProgramFault → ℕ
 number_of_fault OutOfMemory = 1
@@ -46,6 +93,7 @@ number_of_fault ServiceStopped = 9
 number_of_fault ListenFailed = 12
 number_of_fault FileFailed = 13
 number_of_fault ThreadFailed = 14
+number_of_fault (LogDamaged line) = 15
 
 -- what a fault is called
 abbrev pub text_of : ProgramFault → List ℕ
@@ -57,6 +105,7 @@ text_of ServiceStopped = codes "service stopped"
 text_of ListenFailed = codes "cannot listen"
 text_of FileFailed = codes "file failed"
 text_of ThreadFailed = codes "cannot start a thread"
+text_of (LogDamaged line) = codes "log damaged: line " ++ decimal line
 
 -- the line by which a fault is told
 unfoldable pub fault_line_text : ProgramFault → List ℕ

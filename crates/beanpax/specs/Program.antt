@@ -1,33 +1,35 @@
 -- What the program tells of its end.
-use Rattle.std.specs.Prelude.{◌≡◌, ◌≢◌, ◌⊎◌, ℕ, Bool, true, false, Option, List, [], codes}
+use Rattle.std.specs.Prelude.{◌≡◌, ◌≢◌, ◌⊎◌, ◌<◌, ℕ, Bool, true, false, Option, None, List, [], codes}
 use Rattle.std.specs.Bool.{⊤}
 use Rattle.std.specs.Io.KnownBytes.{Appends, IsAtEnd}
 use Rattle.session.specs.Streams.{AppendsBeginning}
+use Rattle.session.specs.declared.streams.ByteOut.{Ghosts as ByteOut}
 use Rattle.beanpax.specs.Runs.{TellsAll}
 use Rattle.session.specs.declared.faults.End.{End}
 use Rattle.session.specs.declared.faults.End.TheVariants.{Eof}
 use Rattle.beanpax.specs.declared.faults.ProgramFault.{ProgramFault}
 use Rattle.beanpax.specs.declared.faults.ProgramFault.TheVariants.{OutOfMemory, BadNumber, ReadFailed, WriteFailed}
 use Rattle.beanpax.specs.declared.faults.ProgramFault.TheVariants.{ServiceStopped, ListenFailed, FileFailed}
-use Rattle.beanpax.specs.declared.faults.ProgramFault.TheVariants.{ThreadFailed}
+use Rattle.beanpax.specs.declared.faults.ProgramFault.TheVariants.{ThreadFailed, LogDamaged}
 use Rattle.beanpax.specs.declared.words.ServerOptions.{ServerOptions}
-use Rattle.beanpax.specs.Servers.{listening_line}
+use Rattle.beanpax.specs.Servers.{cut_line, listening_line}
 use Rattle.beanpax.specs.Verdicts.{IsVerdict, is_legal, verdict_line}
-use Rattle.beanpax.specs.Words.{AskFor, AskForDump, AskForHelp, AskForRun, AskForServer}
+use Rattle.beanpax.specs.Words.{AskFor, AskForDump, AskForHelp, AskForLog, AskForRun, AskForServer}
 use Rattle.beanpax.specs.declared.verdict.Verdict.{Verdict}
 
--- A failure is told only of a stream that has failed, that the service stopped only where the words ask for a run, and
--- what only a server meets only where they ask for one: of a file only where they name one for its dump, or ask for an
--- inspection.
+-- A failure is told only of a stream that has failed, or of a log, that the service stopped only where the words ask for a
+-- run, and what only a server meets only where they ask for one: of a file only where they name one for its dump or its log,
+-- or ask for an inspection, and that a log is damaged only where they name one.
 abbrev pub IsCaused : List (List ℕ) → ProgramFault → Bool → Bool → Type 0
 IsCaused words OutOfMemory input_failed output_failed = ⊤
 IsCaused words ReadFailed input_failed output_failed = input_failed ≡ true
-IsCaused words WriteFailed input_failed output_failed = output_failed ≡ true
+IsCaused words WriteFailed input_failed output_failed = (output_failed ≡ true) ⊎ AskForLog words
 IsCaused words ServiceStopped input_failed output_failed = AskForRun words
 IsCaused words BadNumber input_failed output_failed = AskFor (codes "serve") words
 IsCaused words ListenFailed input_failed output_failed = AskFor (codes "serve") words
-IsCaused words FileFailed input_failed output_failed = AskForDump words ⊎ AskFor (codes "inspect") words
+IsCaused words FileFailed input_failed output_failed = AskForDump words ⊎ AskForLog words ⊎ AskFor (codes "inspect") words
 IsCaused words ThreadFailed input_failed output_failed = AskFor (codes "serve") words
+IsCaused words (LogDamaged line) input_failed output_failed = AskForLog words
 
 -- a client was answered to the end of its session
 abbrev pub AnswersToSomeEnd : Option (List ℕ) → Option (List ℕ) → Option (List ℕ) → Option (List ℕ) → Type 0
@@ -45,6 +47,18 @@ IsRunFault input_failed output_failed ServiceStopped = ⊤
 IsRunFault input_failed output_failed ReadFailed = input_failed ≡ true
 IsRunFault input_failed output_failed WriteFailed = output_failed ≡ true
 IsRunFault input_failed output_failed fault = ⊥
+
+-- why a server ended before: of its output only where that has failed, and of files only where it has them
+abbrev pub IsServingFault : ServerOptions → Bool → ProgramFault → Type 0
+IsServingFault options output_failed OutOfMemory = ⊤
+IsServingFault options output_failed BadNumber = ⊤
+IsServingFault options output_failed ListenFailed = ⊤
+IsServingFault options output_failed ThreadFailed = ⊤
+IsServingFault options output_failed ReadFailed = ⊥
+IsServingFault options output_failed ServiceStopped = ⊥
+IsServingFault options output_failed WriteFailed = (output_failed ≡ true) ⊎ (options.log ≢ None)
+IsServingFault options output_failed FileFailed = (options.dump ≢ None) ⊎ (options.log ≢ None)
+IsServingFault options output_failed (LogDamaged line) = options.log ≢ None
 
 -- some text was told
 abbrev pub TellsSome : Option (List ℕ) → Option (List ℕ) → Type 0
@@ -97,3 +111,17 @@ pub record WritesText (old new : Option (List ℕ)) (has_failed : Bool) (text : 
 -- and this of some text
 abbrev pub WritesSome : Option (List ℕ) → Option (List ℕ) → Bool → Type 0
 WritesSome old new has_failed = (text : List ℕ) × (text ≢ []) × WritesText old new has_failed text
+
+-- it is told how many bytes were cut off behind a log, where there were some, and else nothing
+pub record TellsCut {E : Type 0} (writes : ByteOut E) (old new : E) (bytes : ℕ) : Type 0 where
+  pub none : bytes ≡ 0 → new ≡ old
+  pub some : 0 < bytes → WritesText (writes.contents old) (writes.contents new) (writes.has_failed new) (cut_line bytes)
+
+-- this was told of some bytes, or nothing was told
+abbrev pub TellsSomeCut : {E : Type 0} → ByteOut E → E → E → Type 0
+TellsSomeCut writes old new = (new ≡ old) ⊎ ((bytes : ℕ) × (0 < bytes) × TellsCut writes old new bytes)
+
+-- and where no log is asked for, nothing was told
+pub record TellsOfLog {E : Type 0} (has_log : Type 0) (writes : ByteOut E) (old new : E) : Type 0 where
+  pub cut : TellsSomeCut writes old new
+  pub silent : (has_log → ⊥) → new ≡ old

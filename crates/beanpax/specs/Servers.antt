@@ -1,5 +1,5 @@
 -- What a server writes.
-use Rattle.std.specs.Prelude.{◌≡◌, ℕ, true, List, ◌++◌, Result, Err, OnOk, codes}
+use Rattle.std.specs.Prelude.{◌≡◌, ℕ, List, ◌++◌, Result, OnOk, codes}
 use Rattle.std.specs.Fmt.{decimal}
 use Rattle.std.specs.Io.KnownBytes.{Appends}
 use Rattle.session.specs.declared.streams.ByteOut.{Ghosts as ByteOut}
@@ -9,16 +9,17 @@ use Rattle.std.specs.Net.Addr.{ipv4_octets, ipv6_segments}
 use Rattle.std.specs.Net.Text.{ipv4_text, ipv6_text}
 use Rattle.session.specs.Streams.{AppendsBeginning}
 use Rattle.beanpax.specs.declared.faults.ProgramFault.{ProgramFault}
-use Rattle.beanpax.specs.declared.faults.ProgramFault.TheVariants.{WriteFailed}
 
 -- the line by which it tells that it listens: an IPv6 address stands in brackets before a port (RFC 3986, 3.2.2)
 unfoldable pub listening_line : IpAddr → ℕ → List ℕ
 listening_line (V4 ip) port = codes "listening on " ++ ipv4_text (ipv4_octets ip) ++ codes ":" ++ decimal port ++ codes "\n"
 listening_line (V6 ip) port = codes "listening on [" ++ ipv6_text (ipv6_segments ip) ++ codes "]:" ++ decimal port ++ codes "\n"
 
--- Of all that is written, this line is told at most: where it succeeded all of it, and else a beginning, or nothing. It says
--- that a write failed only where the writer has failed.
+-- the line by which it tells how many bytes were cut off behind its log
+unfoldable pub cut_line : ℕ → List ℕ
+cut_line bytes = codes "beanpax: " ++ (decimal bytes ++ codes " bytes behind the log were cut off\n")
+
+-- Of all that is written, the line of the port is told at most: where it succeeded all of it, and else a beginning, or nothing.
 pub record TellsPort {W X : Type 0} (writes : ByteOut W) (old new : W) (host : IpAddr) (port : ℕ) (result : Result X ProgramFault) : Type 0 where
   pub told : OnOk result (Appends (writes.contents old) (writes.contents new) (listening_line host port))
   pub begins : AppendsBeginning (writes.contents old) (writes.contents new) (listening_line host port)
-  pub write_failed : result ≡ Err WriteFailed → writes.has_failed new ≡ true

@@ -7,7 +7,7 @@ use Rattle.clap.specs.declared.builder.value_parser.ValueParser.TheVariants as p
 use Rattle.clap.specs.declared.error.kind.ErrorKind.{ErrorKind}
 use Rattle.clap.specs.declared.error.kind.ErrorKind.TheVariants.{DisplayHelp}
 use Rattle.beanpax.specs.declared.words.Action.{Action}
-use Rattle.beanpax.specs.declared.words.Action.TheVariants.{Run, Serve, Inspect, BadWeights, BadHost, Help, Wrong}
+use Rattle.beanpax.specs.declared.words.Action.TheVariants.{Run, Serve, Inspect, BadWeights, BadHost, DumpBesideLog, Help, Wrong}
 use Rattle.beanpax.specs.declared.words.ServerOptions.{ServerOptions}
 use Rattle.beanpax.specs.Hosts.{IsHostOf, IsLoopback}
 use Rattle.beanpax.specs.Numbers.{IsNumberOr, IsNumberIfGiven}
@@ -50,6 +50,14 @@ sessions_option = record (new_rule (codes "sessions")) { long = Some (codes "ses
 abbrev pub dump_option : Rule
 dump_option = record (new_rule (codes "dump")) { long = Some (codes "dump"); value_names = 1 }
 
+-- `--log FILE`
+abbrev pub log_option : Rule
+log_option = record (new_rule (codes "log")) { long = Some (codes "log"); value_names = 1 }
+
+-- `--sync MS`, where MS is 0 to 3600000
+abbrev pub sync_option : Rule
+sync_option = record (new_rule (codes "sync")) { long = Some (codes "sync"); value_names = 1; parser = Some (parser.Signed (pos 0) (pos 3600000)) }
+
 -- `FILE`, which has to be given
 abbrev pub file_argument : Rule
 file_argument = record (new_rule (codes "file")) { value_names = 1; required = true }
@@ -63,7 +71,8 @@ unfoldable pub serve_command : App
 serve_command =
     let address = with_rule (with_rule (new_app (codes "serve")) host_option) port_option in
     let nodes = with_rule (with_rule address nodes_option) weights_option in
-    with_rule (with_rule (with_rule nodes workers_option) sessions_option) dump_option
+    let served = with_rule (with_rule nodes workers_option) sessions_option in
+    with_rule (with_rule (with_rule served dump_option) log_option) sync_option
 
 -- `inspect` with its file
 unfoldable pub inspect_command : App
@@ -92,6 +101,10 @@ text_given words option = option_and_then (λ command. one_of option command.1) 
 unfoldable pub word_given : List (List ℕ) → List ℕ → Option (List ℕ)
 word_given words option = option_and_then (λ command. first_of option command.1) (subcommand_of program_command words)
 
+-- both are given
+abbrev pub are_both : Option (List ℕ) → Option (List ℕ) → Bool
+are_both one other = is_some one && is_some other
+
 -- what a server is to do, by the texts of its options: those from which numbers are read, and those that are taken as they stand
 pub record IsServerOf (text word : List ℕ → Option (List ℕ)) (options : ServerOptions) : Type 0 where
   pub host : IsHostOf (word (codes "host")) (Some options.host)
@@ -102,6 +115,9 @@ pub record IsServerOf (text word : List ℕ → Option (List ℕ)) (options : Se
   pub few_workers : options.workers ≤ 64
   pub sessions : IsNumberIfGiven 1 1000000 (text (codes "sessions")) options.sessions
   pub dump : option_map (λ file. file.now) options.dump ≡ word (codes "dump")
+  pub log : option_map (λ file. file.now) options.log ≡ word (codes "log")
+  pub one_file : are_both (word (codes "dump")) (word (codes "log")) ≡ false
+  pub sync : IsNumberOr 0 0 3600000 (text (codes "sync")) options.sync
 
 -- a run, by the texts of its options, unless the weights are bad
 abbrev pub IsRunOf : (List ℕ → Option (List ℕ)) → (List ℕ → Option (List ℕ)) → Action → Type 0
@@ -110,11 +126,12 @@ IsRunOf text word (Run options) =
 IsRunOf text word BadWeights = AreMembersOf (text (codes "nodes")) (word (codes "weights")) None
 IsRunOf text word _ = ⊥
 
--- a server, by the texts of its options, unless the weights or the address are bad
+-- a server, by the texts of its options, unless the weights or the address are bad, or a dump is asked for beside a log
 abbrev pub IsServeOf : (List ℕ → Option (List ℕ)) → (List ℕ → Option (List ℕ)) → Action → Type 0
 IsServeOf text word (Serve options) = IsServerOf text word options
 IsServeOf text word BadWeights = AreMembersOf (text (codes "nodes")) (word (codes "weights")) None
 IsServeOf text word BadHost = IsHostOf (word (codes "host")) None
+IsServeOf text word DumpBesideLog = are_both (word (codes "dump")) (word (codes "log")) ≡ true
 IsServeOf text word _ = ⊥
 
 -- nothing is wrong with the words, and they name this command
@@ -132,6 +149,10 @@ AskForServer words options = AskFor (codes "serve") words × IsServerOf (text_gi
 -- they ask for a server that writes a dump
 abbrev pub AskForDump : List (List ℕ) → Type 0
 AskForDump words = (options : ServerOptions) × AskForServer words options × (options.dump ≢ None)
+
+-- they ask for a server that keeps a log
+abbrev pub AskForLog : List (List ℕ) → Type 0
+AskForLog words = (options : ServerOptions) × AskForServer words options × (options.log ≢ None)
 
 -- the server is to write a dump at its end, and has none
 abbrev pub has_unwritten_dump : ServerOptions → Bool
@@ -165,6 +186,10 @@ HaveBadWeights words = (errors_in words ≡ []) × AreMembersOf (text_given word
 abbrev pub HaveBadHost : List (List ℕ) → Type 0
 HaveBadHost words = AskFor (codes "serve") words × IsHostOf (word_given words (codes "host")) None
 
+-- they ask for a server, and nothing is wrong with them but that they name a file for a dump beside one for a log
+abbrev pub HaveDumpBesideLog : List (List ℕ) → Type 0
+HaveDumpBesideLog words = AskFor (codes "serve") words × (are_both (word_given words (codes "dump")) (word_given words (codes "log")) ≡ true)
+
 -- this is what the words ask for; the help, and what is wrong with them, is some text
 abbrev pub IsAskedBy : List (List ℕ) → Action → Type 0
 IsAskedBy words (Run options) = AskForRun words × IsRunOf (text_given words) (word_given words) (Run options)
@@ -172,5 +197,6 @@ IsAskedBy words (Serve options) = AskForServer words options
 IsAskedBy words (Inspect file) = AskForInspection words file.now
 IsAskedBy words BadWeights = HaveBadWeights words
 IsAskedBy words BadHost = HaveBadHost words
+IsAskedBy words DumpBesideLog = HaveDumpBesideLog words
 IsAskedBy words (Help text) = AskForHelp words × (string_bytes text ≢ [])
 IsAskedBy words (Wrong text) = AreWrong words × (string_bytes text ≢ [])

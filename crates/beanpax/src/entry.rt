@@ -6,17 +6,19 @@ ghost use Rattle.session.specs.Streams.{AppendsBeginning};
 ghost use Rattle.beanpax.specs.declared.words.ServerOptions.{ServerOptions};
 ghost use Rattle.beanpax.specs.Faults.{fault_line_text};
 ghost use Rattle.beanpax.specs.Program.{EndsWith, HasListened, IsCaused, AnswersToSomeEnd, IsRunFault, TellsSome, WritesSome, WritesText};
-ghost use Rattle.beanpax.specs.Program.{BeginsToTell, IsWholeRun};
+ghost use Rattle.beanpax.specs.Program.{BeginsToTell, IsWholeRun, TellsOfLog, TellsSomeCut};
 ghost use Rattle.beanpax.specs.Runs.{TellsBeginning};
 ghost use Rattle.beanpax.specs.declared.verdict.Verdict.{Verdict};
 ghost use Rattle.beanpax.specs.Verdicts.{is_legal};
-ghost use Rattle.beanpax.specs.Words.{AreWrong, HaveBadHost, HaveBadWeights, AskForHelp, AskForInspection, AskForRun, AskForServer};
+ghost use Rattle.beanpax.specs.Words.{AreWrong, HaveBadHost, HaveBadWeights, HaveDumpBesideLog};
+ghost use Rattle.beanpax.specs.Words.{AskForHelp, AskForInspection, AskForLog, AskForRun, AskForServer};
 
-use crate::faults::{ProgramFault, fault_line};
+use crate::faults::ProgramFault;
 use crate::host::Host;
 use crate::inspecting::inspect_file;
 use crate::run::run_bytes_weighted;
 use crate::server::serve_tcp;
+use crate::telling::{tell_error, tell_fault};
 use crate::verdict::Verdict;
 use crate::words::{Action, RunOptions, parse_words};
 use bean_codec::front_item;
@@ -38,14 +40,17 @@ const BAD_WEIGHTS: &str = "beanpax: bad weights\n";
 /// What is told where what stands for an address is none.
 const BAD_HOST: &str = "beanpax: bad host\n";
 
-/// The status where something is wrong with a dump.
+/// What is told where a file for a dump is named beside one for a log.
+const DUMP_BESIDE_LOG: &str = "beanpax: no dump beside a log\n";
+
+/// The status where something is wrong with a dump or a log.
 pub const DUMP_REFUSED: u8 = 3;
 
 /// Does what the program does with these words, of which the first is its name. Answers the status.
 ///
 /// The help goes to the output, and what is wrong with the words to the errors. A server returns
 /// when it has served as many connections as were asked for; what it does for them is in the
-/// contract of `serve_clients`.
+/// contract of `serve_clients`. What was cut off behind a log is told on the errors before anything else.
 pub fn program<H: Host, R: ByteIn, W: ByteOut, E: ByteOut>(
     rt: &H,
     words: &[String],
@@ -70,11 +75,14 @@ pub fn program<H: Host, R: ByteIn, W: ByteOut, E: ByteOut>(
         → (file : List ℕ) × AskForInspection (map string_bytes words.now) file
         × EndsWith false (W.contents output.old) (W.contents output.new)
         × (input.new ≡ input.old) × (errors.new ≡ errors.old) }
-    ensures silent { result ≡ DONE → errors.new ≡ errors.old }
-    ensures fault { result ≡ FAULT → (fault : ProgramFault)
+    ensures silent { result ≡ DONE → (AskForLog (map string_bytes words.now) → ⊥)
+        → errors.new ≡ errors.old }
+    ensures cut { result ≡ DONE → TellsSomeCut E.ByteOut errors.old errors.new }
+    ensures fault { result ≡ FAULT → (fault : ProgramFault) × (before : E)
         × IsCaused (map string_bytes words.now) fault
         (R.has_failed input.new) (W.has_failed output.new)
-        × WritesText (E.contents errors.old) (E.contents errors.new) (E.has_failed errors.new)
+        × TellsOfLog (AskForLog (map string_bytes words.now)) E.ByteOut errors.old before
+        × WritesText (E.contents before) (E.contents errors.new) (E.has_failed errors.new)
         (fault_line_text fault) }
     ensures wrong { result ≡ WRONG_WORDS
         → (AreWrong (map string_bytes words.now)
@@ -82,9 +90,12 @@ pub fn program<H: Host, R: ByteIn, W: ByteOut, E: ByteOut>(
         ⊎ ((HaveBadWeights (map string_bytes words.now)
         × WritesText (E.contents errors.old) (E.contents errors.new) (E.has_failed errors.new)
         (codes "beanpax: bad weights\n"))
-        ⊎ (HaveBadHost (map string_bytes words.now)
+        ⊎ ((HaveBadHost (map string_bytes words.now)
         × WritesText (E.contents errors.old) (E.contents errors.new) (E.has_failed errors.new)
-        (codes "beanpax: bad host\n"))) }
+        (codes "beanpax: bad host\n"))
+        ⊎ (HaveDumpBesideLog (map string_bytes words.now)
+        × WritesText (E.contents errors.old) (E.contents errors.new) (E.has_failed errors.new)
+        (codes "beanpax: no dump beside a log\n")))) }
     ensures untouched { result ≡ WRONG_WORDS → (input.new ≡ input.old) × (output.new ≡ output.old) }
 
     ensures whole { result ≡ DONE → AskForRun (map string_bytes words.now)
@@ -103,7 +114,7 @@ pub fn program<H: Host, R: ByteIn, W: ByteOut, E: ByteOut>(
             status_after(ended, errors)
         }
         Ok(Action::Serve(options)) => {
-            let ended = serve_tcp(rt, &options, output);
+            let ended = serve_tcp(rt, &options, output, errors);
             status_after(ended, errors)
         }
         Ok(Action::Inspect { file }) => {
@@ -116,6 +127,10 @@ pub fn program<H: Host, R: ByteIn, W: ByteOut, E: ByteOut>(
         }
         Ok(Action::BadHost) => {
             tell_error(BAD_HOST, errors);
+            WRONG_WORDS
+        }
+        Ok(Action::DumpBesideLog) => {
+            tell_error(DUMP_BESIDE_LOG, errors);
             WRONG_WORDS
         }
         Ok(Action::Help(text)) => {
@@ -163,14 +178,6 @@ fn show_help<W: ByteOut>(text: &str, output: &mut W) -> Result<(), ProgramFault>
     write_all(output, text.as_bytes()).map_err(|_| ProgramFault::WriteFailed)
 }
 
-// Writes the text to the errors, or a beginning of it where they fail.
-pub(crate) fn tell_error<E: ByteOut>(text: &str, errors: &mut E)
-    ensures { WritesText (E.contents errors.old) (E.contents errors.new) (E.has_failed errors.new)
-        text.now }
-{
-    let _ = write_all(errors, text.as_bytes());
-}
-
 // Tells the fault, where there is one.
 fn status_after<E: ByteOut>(ended: Result<(), ProgramFault>, errors: &mut E) -> u8
     ensures done { OnOk ended ((result ≡ DONE) × (errors.new ≡ errors.old)) }
@@ -181,7 +188,7 @@ fn status_after<E: ByteOut>(ended: Result<(), ProgramFault>, errors: &mut E) -> 
     match ended {
         Ok(()) => DONE,
         Err(fault) => {
-            tell_error(fault_line(fault), errors);
+            tell_fault(fault, errors);
             FAULT
         }
     }

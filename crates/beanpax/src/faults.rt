@@ -1,8 +1,11 @@
-ghost use Rattle.std.specs.Prelude.{◌≡◌, ◌≢◌};
+ghost use Rattle.std.specs.Prelude.{◌≡◌};
 ghost use Rattle.std_io.specs.IoError.{error_kind};
-ghost use Rattle.beanpax.specs.declared.faults.ProgramFault.TheVariants.{OutOfMemory, FileFailed};
-ghost use Rattle.beanpax.specs.Faults.{number_of_fault, fault_line_text, of_session, of_server};
+ghost use Rattle.beanpax.specs.declared.faults.ProgramFault.TheVariants.{OutOfMemory};
+ghost use Rattle.beanpax.specs.Faults.{IsOfFile, IsOfOpening, IsOfReading};
+ghost use Rattle.beanpax.specs.Faults.{number_of_fault, of_keeping, of_log, of_server, of_session};
 
+use command_log::LogFault;
+use log_file::{KeepFault, OpenFault, ReadFault};
 use loops::ServeFault;
 use session::SessionFault;
 use std::alloc::AllocError;
@@ -27,11 +30,14 @@ pub enum ProgramFault {
     /// The port is taken, or no client more could be accepted.
     #[error("cannot listen")]
     ListenFailed,
-    /// The dump could not be written to its file, or the file to be inspected not be read.
+    /// The dump could not be written to its file, the file to be inspected not be read, or a log not be opened or synced.
     #[error("file failed")]
     FileFailed,
     #[error("cannot start a thread")]
     ThreadFailed,
+    /// This line of the log is wrong, counted from 1: it is no head, or a right one stands behind it.
+    #[error("log damaged: line {0}")]
+    LogDamaged(u64),
 }
 
 impl From<SessionFault> for ProgramFault {
@@ -68,10 +74,55 @@ impl From<AllocError> for ProgramFault {
     }
 }
 
+impl From<OpenFault> for ProgramFault {
+    ghost from_gives = { λ f p. IsOfOpening f p };
+
+    fn from(fault: OpenFault) -> ProgramFault {
+        match fault {
+            OpenFault::OutOfMemory => ProgramFault::OutOfMemory,
+            OpenFault::Locked => ProgramFault::FileFailed,
+            OpenFault::FileFailed(error) => file_fault(&error),
+            OpenFault::Unread(unread) => fault_of_reading(unread),
+            OpenFault::Unkept(unkept) => fault_of_keeping(unkept),
+        }
+    }
+}
+
+// Why a log isn't read.
+fn fault_of_reading(fault: ReadFault) -> ProgramFault
+    ensures { IsOfReading fault result }
+{
+    match fault {
+        ReadFault::OutOfMemory => ProgramFault::OutOfMemory,
+        ReadFault::ReadFailed(error) => file_fault(&error),
+        ReadFault::TooLong => ProgramFault::FileFailed,
+        ReadFault::NoLog(found) => fault_of_log(found),
+    }
+}
+
+// What is wrong with a text that is no log.
+fn fault_of_log(fault: LogFault) -> ProgramFault
+    ensures { result ≡ of_log fault }
+{
+    match fault {
+        LogFault::Unbegun | LogFault::BadHead => ProgramFault::LogDamaged(1),
+        LogFault::Damaged(line) => ProgramFault::LogDamaged(line),
+    }
+}
+
+// Why the head of a new log isn't kept.
+fn fault_of_keeping(fault: KeepFault) -> ProgramFault
+    ensures { result ≡ of_keeping fault }
+{
+    match fault {
+        KeepFault::WriteFailed(_) => ProgramFault::WriteFailed,
+        KeepFault::SyncFailed(_) | KeepFault::HasFailed => ProgramFault::FileFailed,
+    }
+}
+
 /// Why a file could not be read or written: for want of memory, or not.
 pub(crate) fn file_fault(error: &io::Error) -> ProgramFault
-    ensures memory { error_kind error.now ≡ ErrorKind.OutOfMemory → result ≡ OutOfMemory }
-    ensures other { error_kind error.now ≢ ErrorKind.OutOfMemory → result ≡ FileFailed }
+    ensures { IsOfFile (error_kind error.now) result }
 {
     match error.kind() {
         ErrorKind::OutOfMemory => ProgramFault::OutOfMemory,
@@ -92,21 +143,6 @@ pub fn fault_number(fault: ProgramFault) -> u8
         ProgramFault::ListenFailed => 12,
         ProgramFault::FileFailed => 13,
         ProgramFault::ThreadFailed => 14,
-    }
-}
-
-/// The line by which the program tells a fault.
-pub fn fault_line(fault: ProgramFault) -> &'static str
-    ensures { result.now ≡ fault_line_text fault }
-{
-    match fault {
-        ProgramFault::OutOfMemory => "beanpax: 1 out of memory\n",
-        ProgramFault::BadNumber => "beanpax: 6 bad number\n",
-        ProgramFault::ReadFailed => "beanpax: 7 read failed\n",
-        ProgramFault::WriteFailed => "beanpax: 8 write failed\n",
-        ProgramFault::ServiceStopped => "beanpax: 9 service stopped\n",
-        ProgramFault::ListenFailed => "beanpax: 12 cannot listen\n",
-        ProgramFault::FileFailed => "beanpax: 13 file failed\n",
-        ProgramFault::ThreadFailed => "beanpax: 14 cannot start a thread\n",
+        ProgramFault::LogDamaged(_) => 15,
     }
 }

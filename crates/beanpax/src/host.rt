@@ -1,3 +1,4 @@
+use std::fs::File;
 use std::net::{Net, TcpListener, TcpStream};
 use std::rt::{Clock, Files};
 use std::sync::Wait;
@@ -7,7 +8,7 @@ use std::thread::Threads;
 /// threads, and leave to wait.
 pub trait Host: Net<Listener = TcpListener, Stream = TcpStream>
     + Clock
-    + Files
+    + Files<File = File>
     + Threads
     + Wait
     + AllocGlobal
@@ -16,7 +17,7 @@ pub trait Host: Net<Listener = TcpListener, Stream = TcpStream>
 impl<
     R: Net<Listener = TcpListener, Stream = TcpStream>
         + Clock
-        + Files
+        + Files<File = File>
         + Threads
         + Wait
         + AllocGlobal

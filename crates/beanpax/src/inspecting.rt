@@ -3,10 +3,11 @@ ghost use Rattle.std.specs.Io.KnownBytes.{Appends};
 ghost use Rattle.beanpax.specs.declared.faults.ProgramFault.TheVariants.{WriteFailed};
 ghost use Rattle.beanpax.specs.Faults.{IsOfOutput};
 ghost use Rattle.beanpax.specs.Program.{BeginsVerdict, HasInspected, IsInspectionFault};
-ghost use Rattle.beanpax.specs.Verdicts.{IsVerdict, IsVerdictOn, verdict_line};
+ghost use Rattle.beanpax.specs.Verdicts.{IsDumpVerdict, IsVerdict, IsVerdictOn, verdict_line};
 
 use crate::faults::{ProgramFault, file_fault};
 use crate::host::Host;
+use crate::inspecting_log::inspect_log;
 use crate::verdict::Verdict;
 use bean_queue::{Op, Reply};
 use chronicle::{CheckFault, Chronicle, ReadFault, check, read_text};
@@ -14,9 +15,21 @@ use session::{ByteOut, write_all};
 use std::alloc::{AllocError, Global};
 use std::fs;
 
-/// What is found of the text: it is read as a dump, and checked. It fails for want of memory alone.
+/// What is found of the text: it is read as a dump, and checked, or as a log, where it begins as one. It fails for want of
+/// memory alone.
 pub fn inspect_text(alloc: Global, text: &[u8]) -> Result<Verdict, AllocError>
     ensures { IfOk result (IsVerdict text.now) }
+{
+    if text.starts_with(b"beanpax-log ".as_slice()) {
+        inspect_log(alloc, text)
+    } else {
+        inspect_dump(alloc, text)
+    }
+}
+
+// What is found of it as a dump.
+fn inspect_dump(alloc: Global, text: &[u8]) -> Result<Verdict, AllocError>
+    ensures { IfOk result (IsDumpVerdict text.now) }
 {
     match read_text(alloc, text) {
         Ok(chronicle) => verdict_on(alloc, &chronicle),

@@ -1,15 +1,15 @@
-ghost use Rattle.std.specs.Prelude.{◌≡◌, ◌≢◌, ◌⊎◌, true, string_bytes, None, Ok, Err, IfOk, IfErr, IfSome, OnOk};
+ghost use Rattle.std.specs.Prelude.{◌≡◌, ◌≢◌, ◌⊎◌, true, string_bytes, None, Ok, Err, IfOk, IfErr, IfSome, OnOk, OnErr};
 ghost use Rattle.std.specs.Io.KnownBytes.{Appends};
 ghost use Rattle.std.specs.declared.net.ip_addr.IpAddr.TheVariants.{V4, V6};
 ghost use Rattle.std.specs.Net.Socket.{socket_ip, socket_port};
-ghost use Rattle.beanpax.specs.declared.faults.ProgramFault.TheVariants.{ReadFailed, WriteFailed};
-ghost use Rattle.beanpax.specs.declared.faults.ProgramFault.TheVariants.{FileFailed, ListenFailed};
-ghost use Rattle.beanpax.specs.declared.faults.ProgramFault.TheVariants.{ServiceStopped};
-ghost use Rattle.beanpax.specs.Faults.{IsOfDump, IsOfOutput, IsOfServer, of_server};
+ghost use Rattle.beanpax.specs.declared.faults.ProgramFault.TheVariants.{ListenFailed, WriteFailed};
+ghost use Rattle.beanpax.specs.Faults.{IsOfDump, IsOfLog, IsOfOutput, IsOfServer, of_server};
+ghost use Rattle.beanpax.specs.Program.{IsServingFault, TellsCut, TellsOfLog, TellsSomeCut};
 ghost use Rattle.chronicle.specs.Checking.{IsFaultless};
 ghost use Rattle.chronicle.specs.Dump.{dump_text};
 ghost use Rattle.forgetting_hall.specs.Halls.{new_forgetting};
 ghost use Rattle.hall.specs.Halls.{chronicle_of, new_hall};
+ghost use Rattle.log_file.specs.States.{IsIdle};
 ghost use Rattle.loops.specs.Comparing.{AllCompared, IsLoopCount};
 ghost use Rattle.session.specs.Streams.{AppendsBeginning};
 ghost use Rattle.beanpax.specs.Servers.{TellsPort, listening_line};
@@ -18,61 +18,139 @@ use crate::faults::{ProgramFault, file_fault};
 use crate::host::Host;
 use crate::laws::no_fault_in_a_dump;
 use crate::seconds::ClockSeconds;
+use crate::telling::tell_number;
 use crate::words::ServerOptions;
+use ballot::Members;
 use bean_queue::Queue;
 use chronicle::WriteText;
 use forgetting_hall::ForgettingHall;
 use hall::Hall;
+use log_file::{OpenedLog, open_log};
 use loops::{ServeFault, Served, ServedForgetting, serve_clients, serve_forgetting};
 use mio::net::TcpListener;
 use object::Object;
 use session::{ByteOut, write_all};
 use std::alloc::{AllocError, Global};
 use std::fs;
+use std::fs::File;
 use std::net::{IpAddr, Ipv4Addr, Ipv6Addr, SocketAddr};
 
 /// Serves clients over TCP, as the options say, and tells on the output where it listens before it
 /// accepts the first.
 ///
 /// It returns when as many connections as were asked for have ended, and has written the dump then,
-/// where that was asked for. What goes wrong with one client ends that client's session alone.
-pub(crate) fn serve_tcp<R: Host, W: ByteOut>(
+/// where that was asked for. What goes wrong with one client ends that client's session alone. A log is
+/// opened once it listens, and what was cut off behind it is told on the errors.
+pub(crate) fn serve_tcp<R: Host, W: ByteOut, E: ByteOut>(
     rt: &R,
+    options: &ServerOptions<'_>,
+    output: &mut W,
+    errors: &mut E,
+) -> Result<(), ProgramFault>
+    requires workers { IsLoopCount options.now.workers }
+    ensures tells { TellsPort W.ByteOut output.old output.new options.now.host options.now.port result }
+    ensures fault { IfErr result (IsServingFault options.now (W.has_failed output.new)) }
+    ensures not_listening { result ≡ Err ListenFailed →
+        (W.contents output.new ≡ W.contents output.old)
+        ⊎ Appends (W.contents output.old) (W.contents output.new)
+        (listening_line options.now.host options.now.port) }
+    ensures log { TellsOfLog (options.now.log ≢ None) E.ByteOut errors.old errors.new }
+{
+    let listener = listen(rt, options.host, options.port)?;
+    match options.log {
+        Some(file) => serve_logged(rt, listener, options, file, output, errors),
+        None => serve_unlogged(rt, listener, options, output),
+    }
+}
+
+// Serves those who connect here, and keeps what takes effect in the log of this file.
+fn serve_logged<R: Host, W: ByteOut, E: ByteOut>(
+    rt: &R,
+    listener: TcpListener,
+    options: &ServerOptions<'_>,
+    file: &str,
+    output: &mut W,
+    errors: &mut E,
+) -> Result<(), ProgramFault>
+    requires workers { IsLoopCount options.now.workers }
+    ensures tells { TellsPort W.ByteOut output.old output.new options.now.host options.now.port result }
+    ensures fault { IfErr result (λ fault. IsOfServer fault ⊎ IsOfLog fault) }
+    ensures not_listening { result ≡ Err ListenFailed →
+        Appends (W.contents output.old) (W.contents output.new)
+        (listening_line options.now.host options.now.port) }
+    ensures cut { TellsSomeCut E.ByteOut errors.old errors.new }
+{
+    let opened = open_file(rt, file, options.members, errors)?;
+    tell_port(rt.alloc(), options.host, options.port, output)?;
+    serve_from_log(rt, listener, options, opened)
+}
+
+// Opens the log of this file, or begins one of these members, and tells what was cut off behind it.
+fn open_file<R: Host, E: ByteOut>(
+    rt: &R,
+    file: &str,
+    members: Members,
+    errors: &mut E,
+) -> Result<OpenedLog<File>, ProgramFault>
+    ensures idle { IfOk result (λ opened. IsIdle opened.log) }
+    ensures cut { IfOk result (λ opened. TellsCut E.ByteOut errors.old errors.new opened.cut) }
+    ensures silent { OnErr result (errors.new ≡ errors.old) }
+    ensures fault { IfErr result IsOfLog }
+{
+    let opened = open_log(rt, file, members)?;
+    tell_cut(opened.cut, errors);
+    Ok(opened)
+}
+
+// Tells how many bytes were cut off behind the log, where there were some.
+fn tell_cut<E: ByteOut>(bytes: u64, errors: &mut E)
+    ensures { TellsCut E.ByteOut errors.old errors.new bytes }
+{
+    if bytes > 0 {
+        tell_number(
+            "beanpax: ",
+            bytes,
+            " bytes behind the log were cut off\n",
+            errors,
+        );
+    }
+}
+
+// Serves them from the state that the log leads to, and writes on.
+fn serve_from_log<R: Host>(
+    rt: &R,
+    listener: TcpListener,
+    options: &ServerOptions<'_>,
+    opened: OpenedLog<File>,
+) -> Result<(), ProgramFault>
+    requires workers { IsLoopCount options.now.workers }
+    requires idle { IsIdle opened.log }
+    ensures fault { IfErr result (λ fault. IsOfServer fault ⊎ IsOfLog fault) }
+{
+    // to come
+    let _ = (rt, listener, options, opened);
+    Err(ProgramFault::FileFailed)
+}
+
+// Tells where it listens, and serves those who connect here, without a log.
+fn serve_unlogged<R: Host, W: ByteOut>(
+    rt: &R,
+    listener: TcpListener,
     options: &ServerOptions<'_>,
     output: &mut W,
 ) -> Result<(), ProgramFault>
     requires workers { IsLoopCount options.now.workers }
     ensures tells { TellsPort W.ByteOut output.old output.new options.now.host options.now.port result }
-    ensures reads_nothing { result ≢ Err ReadFailed }
-    ensures never_stops { result ≢ Err ServiceStopped }
-    ensures dumps { result ≡ Err FileFailed → options.now.dump ≢ None }
+    ensures fault { IfErr result (λ fault. IsOfServer fault ⊎ IsOfDump fault) }
     ensures not_listening { result ≡ Err ListenFailed →
-        (W.contents output.new ≡ W.contents output.old)
-        ⊎ Appends (W.contents output.old) (W.contents output.new)
+        Appends (W.contents output.old) (W.contents output.new)
         (listening_line options.now.host options.now.port) }
 {
-    let listener = open_port(rt, options.host, options.port, output)?;
+    tell_port(rt.alloc(), options.host, options.port, output)?;
     match options.dump {
         Some(file) => serve_and_dump(rt, listener, options, file),
         None => serve_on(rt, listener, options),
     }
-}
-
-// Listens at this address and port, and tells that then. Where it can't listen, nothing is told.
-fn open_port<R: Host, W: ByteOut>(
-    rt: &R,
-    host: IpAddr,
-    port: u16,
-    output: &mut W,
-) -> Result<TcpListener, ProgramFault>
-    ensures tells { TellsPort W.ByteOut output.old output.new host port result }
-    ensures fault { IfErr result (λ fault. (fault ≡ ListenFailed) ⊎ IsOfOutput fault) }
-    ensures not_listening { result ≡ Err ListenFailed →
-        W.contents output.new ≡ W.contents output.old }
-{
-    let listener = listen(rt, host, port)?;
-    tell_port(rt.alloc(), host, port, output)?;
-    Ok(listener)
 }
 
 // Listens at this address and port.

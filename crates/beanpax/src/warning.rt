@@ -2,7 +2,7 @@ ghost use Rattle.std.specs.Prelude.{◌≡◌, true, false, codes, map, string_b
 ghost use Rattle.beanpax.specs.Program.{WritesText};
 ghost use Rattle.beanpax.specs.Words.{AskForOpenServer, AskForUnwrittenDump};
 
-use crate::entry::tell_error;
+use crate::telling::tell_error;
 use crate::words::parse_words;
 use session::ByteOut;
 use std::alloc::Global;

@@ -6,11 +6,11 @@ ghost use Rattle.beanpax.specs.declared.words.ServerOptions.{ServerOptions};
 ghost use Rattle.beanpax.specs.Hosts.{IsHostOf, IsLoopback};
 ghost use Rattle.beanpax.specs.Numbers.{IsNumberOr};
 ghost use Rattle.beanpax.specs.Weights.{AreMembersOf};
-ghost use Rattle.beanpax.specs.Words.{IsAskedBy, IsRunOf, IsServeOf, IsServerOf, has_unwritten_dump};
+ghost use Rattle.beanpax.specs.Words.{IsAskedBy, IsRunOf, IsServeOf, IsServerOf, are_both, has_unwritten_dump};
 ghost use Rattle.beanpax.specs.Words.{program_command, run_command, serve_command, inspect_command};
 ghost use Rattle.beanpax.specs.Words.{IsArgument, file_argument};
 ghost use Rattle.beanpax.specs.Words.{nodes_option, weights_option, seed_option, host_option, port_option};
-ghost use Rattle.beanpax.specs.Words.{workers_option, sessions_option, dump_option};
+ghost use Rattle.beanpax.specs.Words.{workers_option, sessions_option, dump_option, log_option, sync_option};
 
 use crate::weights::members_in;
 use ballot::Members;
@@ -34,6 +34,9 @@ const MOST_WORKERS: u32 = 64;
 /// How many workers there are where no word says it.
 const DEFAULT_WORKERS: u32 = 4;
 
+/// How many milliseconds pass between two syncs where no word says it: none, and each is done at once.
+const DEFAULT_SYNC: u32 = 0;
+
 /// What the words of a command line ask for.
 #[derive(Drop)]
 pub enum Action<'a> {
@@ -47,6 +50,8 @@ pub enum Action<'a> {
     BadWeights,
     /// Nothing: what stands for an address is none.
     BadHost,
+    /// Nothing: a server with a log writes no dump as yet.
+    DumpBesideLog,
     /// This help.
     Help(String),
     /// Nothing: the words are wrong, and the text says why.
@@ -105,6 +110,10 @@ pub struct ServerOptions<'a> {
     pub sessions: Option<u32>,
     /// The file for the dump at its end.
     pub dump: Option<&'a str>,
+    /// The file of the log from which it goes on, and in which it keeps what takes effect. There is no dump beside it.
+    pub log: Option<&'a str>,
+    /// So many milliseconds may pass until a command in the log is synced.
+    pub sync: u32,
 }
 
 /// What the words ask for; the first is the program's name.
@@ -171,6 +180,9 @@ fn serve_of<'a>(alloc: Global, serve: &ArgMatches<'a>) -> Result<Action<'a>, All
     let Some(host) = host_of(serve) else {
         return Ok(Action::BadHost);
     };
+    if has_dump_beside_log(serve) {
+        return Ok(Action::DumpBesideLog);
+    }
     Ok(Action::Serve(server_of(members, host, serve)))
 }
 
@@ -179,6 +191,8 @@ fn server_of<'a>(members: Members, host: IpAddr, serve: &ArgMatches<'a>) -> Serv
     requires members { AreMembersOf (one_text (found_of serve.now) (codes "nodes"))
         (first_value (found_of serve.now) (codes "weights")) (Some members) }
     requires host { IsHostOf (first_value (found_of serve.now) (codes "host")) (Some host) }
+    requires one_file { are_both (first_value (found_of serve.now) (codes "dump"))
+        (first_value (found_of serve.now) (codes "log")) ≡ false }
     ensures { IsServerOf (one_text (found_of serve.now)) (first_value (found_of serve.now)) result }
 {
     ServerOptions {
@@ -188,6 +202,8 @@ fn server_of<'a>(members: Members, host: IpAddr, serve: &ArgMatches<'a>) -> Serv
         workers: workers_of(serve),
         sessions: serve.get_one("sessions"),
         dump: serve.get_str("dump"),
+        log: serve.get_str("log"),
+        sync: sync_of(serve),
     }
 }
 
@@ -250,11 +266,26 @@ fn host_of(serve: &ArgMatches<'_>) -> Option<IpAddr>
     }
 }
 
+// Whether the words name a file for a dump and one for a log.
+fn has_dump_beside_log(serve: &ArgMatches<'_>) -> bool
+    ensures { result ≡ are_both (first_value (found_of serve.now) (codes "dump"))
+        (first_value (found_of serve.now) (codes "log")) }
+{
+    serve.get_str("dump").is_some() && serve.get_str("log").is_some()
+}
+
 // The port that the words name.
 fn port_of(serve: &ArgMatches<'_>) -> u16
     ensures { IsNumberOr 11300 1 65535 (one_text (found_of serve.now) (codes "port")) result }
 {
     serve.get_one("port").unwrap_or(DEFAULT_PORT)
+}
+
+// How many milliseconds may pass until a sync.
+fn sync_of(serve: &ArgMatches<'_>) -> u32
+    ensures { IsNumberOr 0 0 3600000 (one_text (found_of serve.now) (codes "sync")) result }
+{
+    serve.get_one("sync").unwrap_or(DEFAULT_SYNC)
 }
 
 // The seed that the words give.
@@ -302,7 +333,9 @@ fn serve_words<'a>(alloc: Global) -> Result<Command<'a>, AllocError>
         .arg(weights_words(alloc))?
         .arg(workers_words(alloc))?
         .arg(sessions_words(alloc))?
-        .arg(dump_words(alloc))
+        .arg(dump_words(alloc))?
+        .arg(log_words(alloc))?
+        .arg(sync_words(alloc))
 }
 
 // The words of `inspect`.
@@ -311,7 +344,7 @@ fn inspect_words<'a>(alloc: Global) -> Result<Command<'a>, AllocError>
     ensures no_globals { IfOk result (λ c. (fields_of c).has_globals ≡ false) }
 {
     Command::new(alloc, "inspect")
-        .about("Tells what is wrong with a dump, or that nothing is")
+        .about("Tells what is wrong with a dump or a log, or that nothing is")
         .arg(file_words(alloc))
 }
 
@@ -392,11 +425,31 @@ fn dump_words<'a>(alloc: Global) -> Arg<'a>
     )
 }
 
+fn log_words<'a>(alloc: Global) -> Arg<'a>
+    ensures { IsArgument log_option result }
+{
+    Arg::new(alloc, "log").long("log").value_name("FILE").help(
+        "Where what takes effect is kept, and where it goes on from at a start; not beside --dump [default: nowhere]",
+    )
+}
+
+fn sync_words<'a>(alloc: Global) -> Arg<'a>
+    ensures { IsArgument sync_option result }
+{
+    Arg::new(alloc, "sync")
+        .long("sync")
+        .value_name("MS")
+        .help(
+            "How many milliseconds the log is synced after at most: 0 to 3600000; nothing without --log [default: 0]",
+        )
+        .value_parser(value_parser!(u32).range(0..=3_600_000))
+}
+
 fn file_words<'a>(alloc: Global) -> Arg<'a>
     ensures { IsArgument file_argument result }
 {
     Arg::new(alloc, "file")
         .value_name("FILE")
-        .help("The dump")
+        .help("The dump or the log")
         .required(true)
 }

@@ -2,7 +2,7 @@
 #![tactic(auto)]
 
 use beanpax::{
-    ProgramFault, Reading, Writing, fault_line, no_sockets, program, warn, warn_of_host, write_all,
+    ProgramFault, Reading, Writing, no_sockets, program, tell_fault, warn, warn_of_host, write_all,
 };
 use std::process::ExitCode;
 use std::rt::Env;
@@ -20,10 +20,7 @@ fn main(rt: HostRuntime) -> ExitCode {
             program(&rt, words.as_slice(), &mut input, &mut output, &mut errors)
         }
         Err(e) if e.kind() == io::ErrorKind::OutOfMemory => {
-            let _ = write_all(
-                &mut errors,
-                fault_line(ProgramFault::OutOfMemory).as_bytes(),
-            );
+            tell_fault(ProgramFault::OutOfMemory, &mut errors);
             1
         }
         Err(_) => {
