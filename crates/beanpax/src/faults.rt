@@ -5,8 +5,10 @@ ghost use Rattle.beanpax.specs.Faults.{IsOfFile, IsOfOpening, IsOfReading};
 ghost use Rattle.beanpax.specs.Faults.{number_of_fault, of_keeping, of_log, of_server, of_session};
 
 use command_log::LogFault;
+use journal::JournalFault;
 use log_file::{KeepFault, OpenFault, ReadFault};
 use loops::ServeFault;
+use recovery::RecoverFault;
 use session::SessionFault;
 use std::alloc::AllocError;
 use std::io;
@@ -62,6 +64,8 @@ impl From<ServeFault> for ProgramFault {
             ServeFault::BadNumber => ProgramFault::BadNumber,
             ServeFault::ListenFailed => ProgramFault::ListenFailed,
             ServeFault::ThreadFailed => ProgramFault::ThreadFailed,
+            ServeFault::WriteFailed => ProgramFault::WriteFailed,
+            ServeFault::SyncFailed => ProgramFault::FileFailed,
         }
     }
 }
@@ -84,6 +88,25 @@ impl From<OpenFault> for ProgramFault {
             OpenFault::FileFailed(error) => file_fault(&error),
             OpenFault::Unread(unread) => fault_of_reading(unread),
             OpenFault::Unkept(unkept) => fault_of_keeping(unkept),
+        }
+    }
+}
+
+impl From<JournalFault> for ProgramFault {
+    fn from(fault: JournalFault) -> ProgramFault {
+        match fault {
+            JournalFault::OutOfMemory => ProgramFault::OutOfMemory,
+            JournalFault::TooLong => ProgramFault::FileFailed,
+            JournalFault::Unkept(fault) => fault_of_keeping(fault),
+        }
+    }
+}
+
+impl From<RecoverFault> for ProgramFault {
+    fn from(fault: RecoverFault) -> ProgramFault {
+        match fault {
+            RecoverFault::OutOfMemory => ProgramFault::OutOfMemory,
+            RecoverFault::NoOrder => ProgramFault::LogDamaged(1),
         }
     }
 }

@@ -14,6 +14,7 @@ mod run;
 mod seconds;
 mod server;
 mod simulation;
+mod starting;
 mod telling;
 mod verdict;
 mod warning;

@@ -18,6 +18,7 @@ use crate::faults::{ProgramFault, file_fault};
 use crate::host::Host;
 use crate::laws::no_fault_in_a_dump;
 use crate::seconds::ClockSeconds;
+use crate::starting::{Started, start_from};
 use crate::telling::tell_number;
 use crate::words::ServerOptions;
 use ballot::Members;
@@ -26,7 +27,9 @@ use chronicle::WriteText;
 use forgetting_hall::ForgettingHall;
 use hall::Hall;
 use log_file::{OpenedLog, open_log};
-use loops::{ServeFault, Served, ServedForgetting, serve_clients, serve_forgetting};
+use loops::{
+    Logging, ServeFault, Served, ServedForgetting, serve_clients, serve_forgetting, serve_logged,
+};
 use mio::net::TcpListener;
 use object::Object;
 use session::{ByteOut, write_all};
@@ -34,6 +37,7 @@ use std::alloc::{AllocError, Global};
 use std::fs;
 use std::fs::File;
 use std::net::{IpAddr, Ipv4Addr, Ipv6Addr, SocketAddr};
+use std::time::Duration;
 
 /// Serves clients over TCP, as the options say, and tells on the output where it listens before it
 /// accepts the first.
@@ -58,13 +62,13 @@ pub(crate) fn serve_tcp<R: Host, W: ByteOut, E: ByteOut>(
 {
     let listener = listen(rt, options.host, options.port)?;
     match options.log {
-        Some(file) => serve_logged(rt, listener, options, file, output, errors),
+        Some(file) => serve_from_log(rt, listener, options, file, output, errors),
         None => serve_unlogged(rt, listener, options, output),
     }
 }
 
 // Serves those who connect here, and keeps what takes effect in the log of this file.
-fn serve_logged<R: Host, W: ByteOut, E: ByteOut>(
+fn serve_from_log<R: Host, W: ByteOut, E: ByteOut>(
     rt: &R,
     listener: TcpListener,
     options: &ServerOptions<'_>,
@@ -81,8 +85,9 @@ fn serve_logged<R: Host, W: ByteOut, E: ByteOut>(
     ensures cut { TellsSomeCut E.ByteOut errors.old errors.new }
 {
     let opened = open_file(rt, file, options.members, errors)?;
+    let started = start_from(rt, options.members, opened, errors)?;
     tell_port(rt.alloc(), options.host, options.port, output)?;
-    serve_from_log(rt, listener, options, opened)
+    serve_started(rt, listener, options, started)
 }
 
 // Opens the log of this file, or begins one of these members, and tells what was cut off behind it.
@@ -116,20 +121,25 @@ fn tell_cut<E: ByteOut>(bytes: u64, errors: &mut E)
     }
 }
 
-// Serves them from the state that the log leads to, and writes on.
-fn serve_from_log<R: Host>(
+// Serves them from where a log has led. Seconds go on behind its last one.
+fn serve_started<R: Host>(
     rt: &R,
     listener: TcpListener,
     options: &ServerOptions<'_>,
-    opened: OpenedLog<File>,
+    started: Started,
 ) -> Result<(), ProgramFault>
     requires workers { IsLoopCount options.now.workers }
-    requires idle { IsIdle opened.log }
-    ensures fault { IfErr result (λ fault. IsOfServer fault ⊎ IsOfLog fault) }
+    ensures fault { IfErr result IsOfServer }
 {
-    // to come
-    let _ = (rt, listener, options, opened);
-    Err(ProgramFault::FileFailed)
+    let Started { hall, journal } = started;
+    let seconds = ClockSeconds::after(rt, hall.last_second());
+    let logging = Logging {
+        journal,
+        pause: Duration::from_millis(u64::from(options.sync)),
+    };
+    let (workers, sessions) = (options.workers, options.sessions);
+    let served = serve_logged(rt, hall, logging, listener, seconds, workers, sessions)?;
+    end_of(served.fault)
 }
 
 // Tells where it listens, and serves those who connect here, without a log.

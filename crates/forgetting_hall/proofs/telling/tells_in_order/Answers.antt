@@ -2,7 +2,7 @@ use Rattle.std.proofs.Common.{[], refl, sym, subst}
 use Rattle.agreement.specs.Worlds.{opening}
 use Rattle.forgetting_hall.specs.Rests.{ShowsWorld}
 use Rattle.forgetting_hall.proofs.Keeping.{opened_is}
-use Rattle.forgetting_hall.proofs.Telling.{stays_told, submit_told, act_told, receive_told, take_told}
+use Rattle.forgetting_hall.proofs.Told.{stays_told, submit_told, act_told, receive_told, take_told}
 use Rattle.forgetting_hall.proofs.telling.tells_in_order.Goals as goal
 
 pub returns-clause-opening : goal.returns-clause-opening

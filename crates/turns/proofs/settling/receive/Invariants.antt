@@ -1,4 +1,4 @@
-use Rattle.std.proofs.Common.{◌≡◌, ◌×◌}
+use Rattle.std.proofs.Common.{◌≡◌}
 use Rattle.turns.proofs.settling.receive.Given as goal
 
 -- nothing more was handed in, and what each turn keeps is kept

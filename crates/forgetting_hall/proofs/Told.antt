@@ -1,6 +1,13 @@
 -- What a hall has told goes on from call to call.
-use Rattle.std.proofs.Common.{◌≡◌, ◌<◌, ℕ, true, cond, List, [], ◌++◌, Option, Some, None, refl, sym, ap, ◌∙◌, subst, append-nil}
+use Rattle.std.proofs.Common.{◌≡◌, ◌<◌, ℕ, Bool, true, cond, List, [], ◌++◌, Option, Some, None, refl, sym, ap, ◌∙◌, subst, append-nil}
 use Rattle.std.specs.Option.{option_to_list}
+use Rattle.std.specs.Prelude.{Result, Ok, Err, OnOk, OnErr}
+use Rattle.ballot.specs.Rests.{rest_of_body}
+use Rattle.network.specs.Networks.{front}
+use Rattle.hall.specs.declared.error.HallError.{HallError}
+use Rattle.lean_network.specs.LeanNetworks.{lean_mail_of}
+use Rattle.lean_network.specs.declared.receipt.Receipt.{Receipt}
+use Rattle.node.specs.declared.deed.Outcome.{Outcome}
 use Rattle.std.proofs.lemmas.List.{append_assoc}
 use Rattle.object.specs.Objects.{Rules}
 use Rattle.object.specs.declared.command.Command.{Command}
@@ -17,9 +24,11 @@ use Rattle.agreement.specs.declared.event.Event.TheVariants.{Submit, Deliver}
 use Rattle.forgetting_hall.specs.Effects.{TookEffect, effect_of, placed_by}
 use Rattle.forgetting_hall.specs.Gathered.{Gathering, gathered}
 use Rattle.forgetting_hall.specs.Halls.{ForgettingState, FollowsIn, FollowsLeft, ShowsStill, rest_of_hall}
+use Rattle.forgetting_hall.specs.Refusing.{refusal_of_event}
 use Rattle.forgetting_hall.specs.Rests.{HallRest, ShowsWorld, FollowsEvent, IsGoingOn}
 use Rattle.forgetting_hall.specs.Telling.{HasTold, TellsOn}
-use Rattle.forgetting_hall.proofs.Following.{Next}
+use Rattle.forgetting_hall.proofs.Effects.{none_if}
+use Rattle.forgetting_hall.proofs.Following.{Next, event_member, event_room}
 
 -- what takes effect, after one event more
 abbrev pub Effects : {O Op Reply : Type 0} → Rules O Op Reply → Type 0
@@ -65,12 +74,8 @@ module _ {O Op Reply : Type 0} (rules : Rules O Op Reply) (h z : ForgettingState
         → z.gathering ≡ h.gathering → HasTold rules z told
     quiet_told e told t follows effect same = event_told e None told t follows effect (same ∙ sym (nothing h.gathering))
       where
-        none_of : (b : _) → cond b (None {A = Command Op}) None ≡ None
-        none_of true = refl
-        none_of false = refl
-
         nothing : (g : Gathering Op) → gathered None g ≡ g
-        nothing g = λ i. record g { commands = (ap (λ o. g.commands ++ option_to_list o) (none_of g.is_on) ∙ append-nil g.commands) i }
+        nothing g = λ i. record g { commands = (ap (λ o. g.commands ++ option_to_list o) (none_if g.is_on None refl) ∙ append-nil g.commands) i }
 
     pub submit_told : (n : ℕ) (c : Command Op) → FollowsIn rules h (Submit n c) z → z.gathering ≡ h.gathering → TellsOn rules h z
     submit_told n c follows same told t = quiet_told (Submit n c) told t (follows t.world t.reachable t.shown) refl same
@@ -99,3 +104,44 @@ take_told rules h told t = record {
   shown = t.shown;
   took = subst (TookEffect t.world) (sym (append-nil (told ++ h.gathering.commands))) t.took;
 }
+
+-- nothing is refused where the answer is no refusal
+pub not_refused : {X E : Type 0} (o : Option E) (x : X) → ((e : E) → o ≡ Some e → Ok x ≡ Err e) → o ≡ None
+not_refused None x refused = refl
+not_refused (Some e) x refused = absurd (let r = refused e refl in cc)
+
+module _ {O Op Reply : Type 0} (rules : Rules O Op Reply) (h z : ForgettingState Op O Reply) (n : ℕ) where
+  same_told : z ≡ h → TellsOn rules h z
+  same_told same told t = subst (λ q. HasTold rules q told) (sym same) t
+
+  -- a node did something by itself, or was refused it
+  pub turn_told : (d : Deed Op)
+      → (h.taken < most_events → is_member h.network.members n ≡ true → FollowsIn rules h (event_of n d) z
+      → z.gathering ≡ gathered (placed_by (rest_of_hall rules h) n d) h.gathering → TellsOn rules h z)
+      → (r : Result Outcome HallError) → OnOk r (FollowsIn rules h (event_of n d) z)
+      → OnOk r (z.gathering ≡ gathered (placed_by (rest_of_hall rules h) n d) h.gathering) → OnErr r (z ≡ h)
+      → ((e : HallError) → refusal_of_event h n ≡ Some e → r ≡ Err e) → TellsOn rules h z
+  turn_told d acts (Ok x) follows same err refused =
+      let none = not_refused (refusal_of_event h n) x refused in acts (event_room h n none) (event_member h n none) follows same
+  turn_told d acts (Err e) follows same err refused = same_told err
+
+  -- it received a letter, or was refused that
+  pub letter_told : ((l : Letter (Command Op)) (left : LetterBody (Command Op)) → h.taken < most_events → FollowsLeft rules h n l left z
+      → z.gathering ≡ h.gathering → TellsOn rules h z) → (ShowsStill rules h z → z.gathering ≡ h.gathering → TellsOn rules h z)
+      → (r : Result Receipt HallError)
+      → OnOk r ((l : Letter (Command Op)) (left : LetterBody (Command Op)) → front (lean_mail_of h.network n) ≡ Some l
+      → rest_of_body h.base l.body ≡ Some left → FollowsLeft rules h n l left z)
+      → OnOk r ((l : Letter (Command Op)) → front (lean_mail_of h.network n) ≡ Some l → rest_of_body h.base l.body ≡ None → ShowsStill rules h z)
+      → OnOk r (front (lean_mail_of h.network n) ≡ None → z ≡ h) → z.gathering ≡ h.gathering → OnErr r (z ≡ h)
+      → ((e : HallError) → refusal_of_event h n ≡ Some e → r ≡ Err e) → TellsOn rules h z
+  letter_told receives stays (Err e) follows still none same err refused = same_told err
+  letter_told receives stays (Ok x) follows still none same err refused = at (front (lean_mail_of h.network n)) refl
+    where
+      of : (l : Letter (Command Op)) → front (lean_mail_of h.network n) ≡ Some l → (left : Option (LetterBody (Command Op)))
+          → rest_of_body h.base l.body ≡ left → TellsOn rules h z
+      of l came None was = stays (still l came was) same
+      of l came (Some left) was = receives l left (event_room h n (not_refused (refusal_of_event h n) x refused)) (follows l left came was) same
+
+      at : (o : Option (Letter (Command Op))) → front (lean_mail_of h.network n) ≡ o → TellsOn rules h z
+      at None came = same_told (none came)
+      at (Some l) came = of l came (rest_of_body h.base l.body) refl

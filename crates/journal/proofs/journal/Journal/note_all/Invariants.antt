@@ -1,0 +1,22 @@
+use Rattle.std.proofs.Common.{◌≡◌, ◌-◌, ℕ, List, Option, length, drop}
+use Rattle.object.specs.declared.command.Command.{Command}
+use Rattle.bean_queue.specs.declared.op.Op.{Op}
+use Rattle.journal.specs.Waiting.{HoldsAll, JournalState}
+use Rattle.journal.proofs.journal.Journal.note_all.Given as goal
+
+-- what was noted stands in the log, and the rest waits
+pub record Noting (W : Type 0) (contents : W → Option (List ℕ)) (old new : JournalState W) : Type 0 where
+  pub log : (members : List ℕ) (commands : List (Command Op)) → HoldsAll contents old members commands → HoldsAll contents new members commands
+  pub due : new.due ≡ old.due
+  pub kept : new.kept ≡ old.kept
+
+abbrev pub invariant-loop-self : goal.invariant-loop-self
+invariant-loop-self g l = Noting g.row.W.Denot g.W.Write.contents l.fn.self (record {
+  log = l.self-inside.log;
+  waiting = drop l.self-inside.noted l.self-inside.waiting.items;
+  due = l.self-inside.due;
+  kept = l.self-inside.kept;
+})
+
+abbrev pub decreases-loop-self : goal.decreases-loop-self
+decreases-loop-self g l = length l.self-inside.waiting.items - l.self-inside.noted
