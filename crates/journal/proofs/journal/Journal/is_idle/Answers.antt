@@ -6,7 +6,7 @@ use Rattle.journal.proofs.Rests.{rest_none, none_rest, le_true, true_le}
 pub returns : goal.returns
 returns g c =
     let items = c.self.inside.waiting.items in
-    let len : c.len.result ≡ length items = c.len.ensures ∙ c.self.inside.waiting.ok in (
+    let len : c.len.result ≡ length items = c.len.ensures ∙ c.self.inside.waiting.ok.0 in (
       λ all. subst (λ (j : JournalState _). j.waiting ≡ []) c.self.view_is
           (rest_none items c.self.inside.noted (subst (λ n. n ≤ c.self.inside.noted) len (le_true c.len.result c.self.inside.noted all))),
       λ none. true_le c.len.result c.self.inside.noted (subst (λ n. n ≤ c.self.inside.noted) (sym len)
