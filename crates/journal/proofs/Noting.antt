@@ -6,7 +6,7 @@ use Rattle.object.specs.declared.command.Command.{Command}
 use Rattle.bean_queue.specs.declared.op.Op.{Op}
 use Rattle.log_file.specs.Logs.{HoldsLog}
 use Rattle.log_file.specs.States.{LogState}
-use Rattle.journal.specs.Waiting.{HoldsAll, JournalState}
+use Rattle.journal.specs.Waiting.{HoldsAll}
 
 pub note_next : {W : Type 0} (contents : W → Option (List ℕ)) (log more : LogState W) (items : List (Command Op)) (n due kept : ℕ) (x : Command Op)
     → n < length items → get_or items n x ≡ x

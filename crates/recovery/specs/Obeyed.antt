@@ -11,13 +11,13 @@ use Rattle.recovery.specs.Opened.{is_left_open}
 -- the hall, and the sessions that are open
 pub record RecoveryState (Op O Reply : Type 0) : Type 0 where
   pub hall : ForgettingState Op O Reply
-  pub open : BTreeSet ℕ
+  pub live : BTreeSet ℕ
 
 -- these are the sessions that the commands leave open
 abbrev pub AreLeftOpen : {Op : Type 0} → BTreeSet ℕ → List (Command Op) → Type 0
-AreLeftOpen open commands = (session : ℕ) → contains nat_cmp open session ≡ is_left_open session commands
+AreLeftOpen live commands = (session : ℕ) → contains nat_cmp live session ≡ is_left_open session commands
 
 -- in the hall these commands took effect, in this order and no others, and it is known which sessions they leave open
 pub record HasObeyed {O Op Reply : Type 0} (rules : Rules O Op Reply) (r : RecoveryState Op O Reply) (commands : List (Command Op)) : Type 0 where
   pub told : HasTold rules r.hall commands
-  pub open : AreLeftOpen r.open commands
+  pub live : AreLeftOpen r.live commands

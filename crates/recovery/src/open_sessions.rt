@@ -12,22 +12,22 @@ use std::collections::BTreeSet;
 
 /// Takes note of which sessions the commands leave open, behind others.
 pub(crate) fn note_all<Op: Value>(
-    open: &mut BTreeSet<u32>,
+    live: &mut BTreeSet<u32>,
     commands: &[Command<Op>],
 ) -> Result<(), RecoverFault>
-    ensures { OnOk result ((before : List (Command Op)) → AreLeftOpen open.old before
-        → AreLeftOpen open.new (before ++ commands.now)) }
+    ensures { OnOk result ((before : List (Command Op)) → AreLeftOpen live.old before
+        → AreLeftOpen live.new (before ++ commands.now)) }
 {
     for command in commands {
-        note(open, command)?;
+        note(live, command)?;
     }
     Ok(())
 }
 
 // The same of one command.
-fn note<Op: Value>(open: &mut BTreeSet<u32>, command: &Command<Op>) -> Result<(), RecoverFault>
-    ensures { OnOk result ((before : List (Command Op)) → AreLeftOpen open.old before
-        → AreLeftOpen open.new (before ++ command.now ∷ [])) }
+fn note<Op: Value>(live: &mut BTreeSet<u32>, command: &Command<Op>) -> Result<(), RecoverFault>
+    ensures { OnOk result ((before : List (Command Op)) → AreLeftOpen live.old before
+        → AreLeftOpen live.new (before ++ command.now ∷ [])) }
 {
     let session = command.key().session;
     if session == 0 {
@@ -35,22 +35,22 @@ fn note<Op: Value>(open: &mut BTreeSet<u32>, command: &Command<Op>) -> Result<()
     }
     match command.act() {
         Act::Close => {
-            open.remove(&session);
+            live.remove(&session);
         }
         Act::Do(_) | Act::Tick => {
-            open.insert(session).map_err(|_| RecoverFault::OutOfMemory)?;
+            live.insert(session).map_err(|_| RecoverFault::OutOfMemory)?;
         }
     }
     Ok(())
 }
 
 /// Whether each command ends a session, and these are the open ones, in rising order.
-pub(crate) fn end_them<Op: Value>(open: &BTreeSet<u32>, commands: &[Command<Op>]) -> bool
+pub(crate) fn end_them<Op: Value>(live: &BTreeSet<u32>, commands: &[Command<Op>]) -> bool
     ensures ends { IsTrue result → AllEnd commands.now }
-    ensures sessions { IsTrue result → sessions_of commands.now ≡ open.now.keys }
+    ensures sessions { IsTrue result → sessions_of commands.now ≡ live.now.keys }
 {
     let mut rest = commands;
-    for session in open {
+    for session in live {
         let Some((command, others)) = rest.split_first() else {
             return false;
         };

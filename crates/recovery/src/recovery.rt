@@ -23,7 +23,7 @@ const AT_ONCE: usize = 64;
 pub struct Recovery<O: Object> {
     hall: ForgettingHall<O>,
     // Those that are open after what was obeyed.
-    open: BTreeSet<u32>,
+    live: BTreeSet<u32>,
     // All that the log has, in rising order; so many were opened.
     sessions: Vec<u32>,
     opened: usize,
@@ -31,11 +31,16 @@ pub struct Recovery<O: Object> {
 }
 
 impl<O: Object> Model for Recovery<O> {
+    ghost use Rattle.std.specs.Coded.{codes};
+    ghost use Rattle.object.specs.OnceOnly.{latest_code};
+    ghost use Rattle.ballot.specs.Slots.{slots_code};
     ghost use Rattle.recovery.specs.Obeyed.{RecoveryState};
 
     ghost Value = { RecoveryState O.Op O O.Reply };
 
-    ghost view = { λ r. record { hall = r.hall; open = r.open } };
+    ghost coded = { Prim.hlevel (codes, slots_code, latest_code, O.code, O.Op.code, O.Reply.code) };
+
+    ghost view = { λ r. record { hall = r.hall; live = r.live } };
 }
 
 /// A hall that has obeyed a log, and the commands by which it ended each session that the log leaves open. They took effect
@@ -57,7 +62,7 @@ impl<O: Object> Recovery<O> {
     {
         Ok(Recovery {
             hall: begun(alloc, members)?,
-            open: BTreeSet::new(alloc),
+            live: BTreeSet::new(alloc),
             sessions: sessions_of(alloc, commands)?,
             opened: 0,
             alloc,
@@ -84,12 +89,12 @@ impl<O: Object> Recovery<O> {
         ensures closes { IfOk result (λ r. (before : List (Command O.Op)) → HasObeyed O.rules self before
             → EndsAll before r.closes.items) }
     {
-        let Recovery { mut hall, open, .. } = self;
-        for session in &open {
+        let Recovery { mut hall, live, .. } = self;
+        for session in &live {
             steps::close(&mut hall, *session)?;
         }
         let closes = placed(&mut hall)?;
-        if !end_them(&open, &closes) {
+        if !end_them(&live, &closes) {
             return Err(RecoverFault::NoOrder);
         }
         steps::forget(&mut hall, &closes);
@@ -108,7 +113,7 @@ impl<O: Object> Recovery<O> {
         if !are_same(&placed, commands) {
             return Err(RecoverFault::NoOrder);
         }
-        note_all(&mut self.open, commands)?;
+        note_all(&mut self.live, commands)?;
         steps::forget(&mut self.hall, commands);
         Ok(())
     }
@@ -117,11 +122,11 @@ impl<O: Object> Recovery<O> {
     fn hand_in(&mut self, command: &Command<O::Op>) -> Result<(), RecoverFault>
         ensures hall { (before : List (Command O.Op)) → HasTold O.rules self.old.hall before
             → HasTold O.rules self.new.hall before }
-        ensures open { self.new.open ≡ self.old.open }
+        ensures live { self.new.live ≡ self.old.live }
     {
         let session = command.key().session;
         while self.opened < self.sessions.len() && self.sessions[self.opened] <= session {
-            steps::open(&mut self.hall, self.sessions[self.opened])?;
+            steps::open_as(&mut self.hall, self.sessions[self.opened])?;
             self.opened += 1;
         }
         steps::hand_in(&mut self.hall, command)

@@ -33,7 +33,7 @@ pub(crate) fn settle_all<O: Object>(hall: &mut ForgettingHall<O>) -> Result<(), 
 }
 
 /// A session of this number is there.
-pub(crate) fn open<O: Object>(
+pub(crate) fn open_as<O: Object>(
     hall: &mut ForgettingHall<O>,
     session: u32,
 ) -> Result<(), RecoverFault>

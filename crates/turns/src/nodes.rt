@@ -14,6 +14,7 @@ pub trait Nodes {
 
     // It is kept where nothing is done, and from turn to turn.
     ghost stays: { (nodes : Self) → goes_on nodes nodes };
+
     ghost further: { (a b c : Self) → goes_on a b → goes_on b c → goes_on a c };
 
     /// How many nodes there are.

@@ -1,4 +1,4 @@
-use Rattle.std.proofs.Common.{[], refl, sym, subst}
+use Rattle.std.proofs.Common.{refl, sym, subst}
 use Rattle.agreement.specs.Worlds.{opening}
 use Rattle.forgetting_hall.specs.Rests.{ShowsWorld}
 use Rattle.forgetting_hall.proofs.Keeping.{opened_is}

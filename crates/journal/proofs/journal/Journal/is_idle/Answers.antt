@@ -1,4 +1,4 @@
-use Rattle.std.proofs.Common.{◌≡◌, ◌≤◌, ℕ, [], length, ap, sym, subst, ◌∙◌}
+use Rattle.std.proofs.Common.{◌≡◌, ◌≤◌, [], length, sym, subst, ◌∙◌}
 use Rattle.journal.specs.Waiting.{JournalState}
 use Rattle.journal.proofs.journal.Journal.is_idle.Goals as goal
 use Rattle.journal.proofs.Rests.{rest_none, none_rest, le_true, true_le}

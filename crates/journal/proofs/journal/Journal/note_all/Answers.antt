@@ -1,4 +1,4 @@
-use Rattle.std.proofs.Common.{rules, ◌≡◌, ◌<◌, subst, ◌∙◌}
+use Rattle.std.proofs.Common.{rules, ◌<◌, subst, ◌∙◌}
 use Rattle.journal.proofs.journal.Journal.note_all.Goals as goal
 use Rattle.journal.proofs.Noting.{note_next}
 

@@ -1,0 +1,9 @@
+use Rattle.std.proofs.Common.{◌≡◌, true, [], sym, ap, subst, ◌∙◌}
+use Rattle.forgetting_hall.specs.Halls.{ForgettingState, new_forgetting}
+use Rattle.forgetting_hall.specs.Telling.{HasTold}
+use Rattle.recovery.proofs.recovery.begun.Goals as goal
+
+pub returns : goal.returns
+returns g c =
+    let is = c.gather.ensures ∙ ap (λ (h : ForgettingState _ _ _). record h { gathering = record h.gathering { is_on = true } }) c.in_ok-new.ensures in
+    c.settle_all.ensures [] (c.wake.ensures [] (subst (λ h. HasTold g.O.Object.rules h []) (sym is) (c.tells_in_order.ensures.opening c.args.members)))

@@ -1,0 +1,5 @@
+use Rattle.forgetting_hall.specs.Telling.{TellsOn}
+use Rattle.recovery.proofs.steps.forget.Given as goal
+
+abbrev pub invariant-loop-command : goal.invariant-loop-command
+invariant-loop-command g l = TellsOn g.O.Object.rules l.fn.hall l.hall
