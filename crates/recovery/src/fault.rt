@@ -1,5 +1,5 @@
 use hall::HallError;
-use std::alloc::AllocError;
+use std::alloc::{AllocError, AllocFailed};
 use thiserror::Error;
 
 /// Why no hall comes of a log.
@@ -26,5 +26,11 @@ impl From<HallError> for RecoverFault {
                 RecoverFault::NoOrder
             }
         }
+    }
+}
+
+impl From<AllocFailed<u32>> for RecoverFault {
+    fn from(_: AllocFailed<u32>) -> RecoverFault {
+        RecoverFault::OutOfMemory
     }
 }

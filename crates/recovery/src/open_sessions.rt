@@ -4,7 +4,7 @@ ghost use Rattle.std.specs.Ordering.{nat_cmp};
 ghost use Rattle.object.specs.declared.command.Command.{Command};
 ghost use Rattle.hall.specs.Tickets.{is_close};
 ghost use Rattle.recovery.specs.Obeyed.{AreLeftOpen};
-ghost use Rattle.recovery.specs.Opened.{sessions_of, AllEnd};
+ghost use Rattle.recovery.specs.Opened.{EndsAll};
 
 use crate::fault::RecoverFault;
 use object::{Act, Command, Value};
@@ -38,28 +38,24 @@ fn note<Op: Value>(live: &mut BTreeSet<u32>, command: &Command<Op>) -> Result<()
             live.remove(&session);
         }
         Act::Do(_) | Act::Tick => {
-            live.insert(session).map_err(|_| RecoverFault::OutOfMemory)?;
+            live.insert(session)?;
         }
     }
     Ok(())
 }
 
-/// Whether each command ends a session, and these are the open ones, in rising order.
-pub(crate) fn end_them<Op: Value>(live: &BTreeSet<u32>, commands: &[Command<Op>]) -> bool
-    ensures ends { IsTrue result → AllEnd commands.now }
-    ensures sessions { IsTrue result → sessions_of commands.now ≡ live.now.keys }
+/// Whether each command ends a session that is open then, and none is in the end.
+pub(crate) fn end_all<Op: Value>(live: BTreeSet<u32>, commands: &[Command<Op>]) -> bool
+    ensures { IsTrue result → (before : List (Command Op)) → AreLeftOpen live before
+        → EndsAll before commands.now }
 {
-    let mut rest = commands;
-    for session in live {
-        let Some((command, others)) = rest.split_first() else {
-            return false;
-        };
-        if command.key().session != *session || !is_close(command.act()) {
+    let mut left = live;
+    for command in commands {
+        if !is_close(command.act()) || !left.remove(&command.key().session) {
             return false;
         }
-        rest = others;
     }
-    rest.is_empty()
+    left.is_empty()
 }
 
 // The act ends its session.

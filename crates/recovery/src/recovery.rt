@@ -5,7 +5,7 @@ ghost use Rattle.recovery.specs.Obeyed.{HasObeyed};
 ghost use Rattle.recovery.specs.Opened.{EndsAll};
 
 use crate::fault::RecoverFault;
-use crate::open_sessions::{end_them, note_all};
+use crate::open_sessions::{end_all, note_all};
 use crate::sessions::sessions_of;
 use crate::steps;
 use ballot::Members;
@@ -94,7 +94,7 @@ impl<O: Object> Recovery<O> {
             steps::close(&mut hall, *session)?;
         }
         let closes = placed(&mut hall)?;
-        if !end_them(&live, &closes) {
+        if !end_all(live, &closes) {
             return Err(RecoverFault::NoOrder);
         }
         steps::forget(&mut hall, &closes);
@@ -155,9 +155,9 @@ fn placed<O: Object>(hall: &mut ForgettingHall<O>) -> Result<Vec<Command<O::Op>>
     Ok(hall.take_placed())
 }
 
-// Whether the commands are the same, one by one.
-fn are_same<Op: Value>(placed: &[Command<Op>], commands: &[Command<Op>]) -> bool
-    ensures { IsTrue result → placed.now ≡ commands.now }
+// Whether the values are the same, one by one.
+fn are_same<V: Value>(some: &[V], others: &[V]) -> bool
+    ensures { IsTrue result → some.now ≡ others.now }
 {
-    placed == commands
+    some == others
 }

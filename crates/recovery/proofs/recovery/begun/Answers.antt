@@ -5,5 +5,5 @@ use Rattle.recovery.proofs.recovery.begun.Goals as goal
 
 pub returns : goal.returns
 returns g c =
-    let is = c.gather.ensures ∙ ap (λ (h : ForgettingState _ _ _). record h { gathering = record h.gathering { is_on = true } }) c.in_ok-new.ensures in
+    let is = c.gather.ensures ∙ ap (λ (h : ForgettingState _ _ _). record h { gathering = record h.gathering { is_on = true } }) c.in_ok-hall.ensures in
     c.settle_all.ensures [] (c.wake.ensures [] (subst (λ h. HasTold g.O.Object.rules h []) (sym is) (c.tells_in_order.ensures.opening c.args.members)))
