@@ -90,3 +90,12 @@ no_keys (k ∷ ks) none = absurd (omega (arith, none))
 -- an empty set has nobody
 pub none_in : (s : BTreeSet ℕ) → btree_set_len s ≡ 0 → (q : ℕ) → contains nat_cmp s q ≡ false
 none_in s none q = ap (λ ks. contains nat_cmp (record { keys = ks }) q) (no_keys s.keys none)
+
+-- at first nobody is open
+pub none_left : (Op : Type 0) (q : ℕ) → false ≡ is_left_open {Op = Op} q []
+unfolding is_open_behind
+none_left Op q = at (q == 0)
+  where
+    at : (z : Bool) → false ≡ (not z && false)
+    at true = refl
+    at false = refl

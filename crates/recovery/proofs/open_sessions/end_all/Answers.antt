@@ -1,5 +1,4 @@
 use Rattle.std.proofs.Common.{◌≡◌, ◌++◌, true, false, not, take, sym, ap, subst, ◌∙◌}
-use Rattle.std.proofs.lemmas.List.{take_all}
 use Rattle.std.specs.BTreeSet.{Updates, contains}
 use Rattle.std.specs.Ordering.{nat_cmp}
 use Rattle.object.specs.declared.command.Key.{Key}

@@ -1,4 +1,4 @@
-use Rattle.std.proofs.Common.{◌≡◌, ◌++◌, List, take, drop}
+use Rattle.std.proofs.Common.{◌++◌, List, take, drop}
 use Rattle.object.specs.declared.command.Command.{Command}
 use Rattle.recovery.specs.Obeyed.{AreLeftOpen}
 use Rattle.recovery.specs.Opened.{EndsAll}

@@ -1,4 +1,4 @@
-use Rattle.std.proofs.Common.{◌≡◌, ◌++◌, ap, subst}
+use Rattle.std.proofs.Common.{◌++◌, subst}
 use Rattle.std.proofs.lemmas.List.{take_all}
 use Rattle.recovery.specs.Obeyed.{AreLeftOpen}
 use Rattle.recovery.proofs.Live.{live_item}

@@ -1,4 +1,4 @@
-use Rattle.std.proofs.Common.{◌≡◌, ◌++◌, List, take}
+use Rattle.std.proofs.Common.{◌++◌, List, take}
 use Rattle.object.specs.declared.command.Command.{Command}
 use Rattle.recovery.specs.Obeyed.{AreLeftOpen}
 use Rattle.recovery.proofs.open_sessions.note_all.Given as goal

@@ -1,4 +1,4 @@
-use Rattle.std.proofs.Common.{◌≡◌, ◌∙◌, sym}
+use Rattle.std.proofs.Common.{◌∙◌, sym}
 use Rattle.ballot.specs.Exact.{pointwise_exact}
 use Rattle.recovery.proofs.recovery.are_same.Goals as goal
 

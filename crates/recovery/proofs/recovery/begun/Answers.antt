@@ -1,5 +1,5 @@
-use Rattle.std.proofs.Common.{◌≡◌, true, [], sym, ap, subst, ◌∙◌}
-use Rattle.forgetting_hall.specs.Halls.{ForgettingState, new_forgetting}
+use Rattle.std.proofs.Common.{true, [], sym, ap, subst, ◌∙◌}
+use Rattle.forgetting_hall.specs.Halls.{ForgettingState}
 use Rattle.forgetting_hall.specs.Telling.{HasTold}
 use Rattle.recovery.proofs.recovery.begun.Goals as goal
 

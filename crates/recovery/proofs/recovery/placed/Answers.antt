@@ -1,4 +1,4 @@
-use Rattle.std.proofs.Common.{◌≡◌, ◌++◌, [], sym, subst}
+use Rattle.std.proofs.Common.{◌++◌, [], sym, subst}
 use Rattle.forgetting_hall.specs.Telling.{HasTold}
 use Rattle.recovery.proofs.recovery.placed.Goals as goal
 

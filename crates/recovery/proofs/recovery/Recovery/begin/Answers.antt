@@ -1,6 +1,6 @@
-use Rattle.std.proofs.Common.{◌≡◌, false, refl, sym, ap, ◌∙◌}
-use Rattle.recovery.proofs.Live.{none_in}
+use Rattle.std.proofs.Common.{◌∙◌}
+use Rattle.recovery.proofs.Live.{none_in, none_left}
 use Rattle.recovery.proofs.recovery.Recovery.begin.Goals as goal
 
 pub returns : goal.returns
-returns g c = record { told = c.in_ok-begun.ensures; live = λ q. none_in c.new.result c.new.ensures.len q ∙ ? }
+returns g c = record { told = c.in_ok-begun.ensures; live = λ q. none_in c.new.result c.new.ensures.len q ∙ none_left _ q }
