@@ -72,9 +72,10 @@ fn serve_logged<R: Host, W: ByteOut, E: ByteOut>(
     output: &mut W,
     errors: &mut E,
 ) -> Result<(), ProgramFault>
+    requires log { options.now.log ≢ None }
     requires workers { IsLoopCount options.now.workers }
     ensures tells { TellsPort W.ByteOut output.old output.new options.now.host options.now.port result }
-    ensures fault { IfErr result (λ fault. IsOfServer fault ⊎ IsOfLog fault) }
+    ensures fault { IfErr result (IsServingFault options.now (W.has_failed output.new)) }
     ensures not_listening { result ≡ Err ListenFailed →
         Appends (W.contents output.old) (W.contents output.new)
         (listening_line options.now.host options.now.port) }
@@ -141,7 +142,7 @@ fn serve_unlogged<R: Host, W: ByteOut>(
 ) -> Result<(), ProgramFault>
     requires workers { IsLoopCount options.now.workers }
     ensures tells { TellsPort W.ByteOut output.old output.new options.now.host options.now.port result }
-    ensures fault { IfErr result (λ fault. IsOfServer fault ⊎ IsOfDump fault) }
+    ensures fault { IfErr result (IsServingFault options.now (W.has_failed output.new)) }
     ensures not_listening { result ≡ Err ListenFailed →
         Appends (W.contents output.old) (W.contents output.new)
         (listening_line options.now.host options.now.port) }
