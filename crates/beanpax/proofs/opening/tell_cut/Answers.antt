@@ -1,6 +1,6 @@
 use Rattle.std.proofs.Common.{arith}
 use Rattle.beanpax.specs.Servers.{cut_line}
-use Rattle.beanpax.proofs.server.tell_cut.Goals as goal
+use Rattle.beanpax.proofs.opening.tell_cut.Goals as goal
 
 pub returns-then-bytes-gt0 : goal.returns-then-bytes-gt0
 unfolding cut_line
