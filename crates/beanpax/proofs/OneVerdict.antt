@@ -1,6 +1,6 @@
 -- One thing is found of a text.
-use Rattle.std.proofs.Common.{◌≡◌, ◌∙◌, ◌⊎◌, inl, inr, ℕ, ◌+◌, ◌<◌, ◌≤◌, zero, suc, List, [], ◌∷◌, ◌++◌, length, drop, codes, arith}
-use Rattle.std.proofs.Common.{refl, sym, ap, ap₂, subst, append_assoc, append-nil, length-append, take-append-drop}
+use Rattle.std.proofs.Common.{◌≡◌, ◌∙◌, inl, inr, ℕ, ◌+◌, ◌<◌, ◌≤◌, List, [], ◌∷◌, ◌++◌, length, drop, codes, arith}
+use Rattle.std.proofs.Common.{sym, ap, ap₂, subst, append_assoc, append-nil, length-append, take-append-drop}
 use Rattle.std.proofs.lemmas.List.{drop_at}
 use Rattle.object.specs.Lists.{IsBeginning}
 use Rattle.object.specs.declared.command.Command.{Command}

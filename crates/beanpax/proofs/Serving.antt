@@ -1,5 +1,5 @@
 -- A server as the program that was asked for it.
-use Rattle.std.proofs.Common.{◌≡◌, ◌≢◌, ◌⊎◌, inl, inr, ℕ, Bool, List, None, Result, Ok, Err, OnOk, IfErr, arith}
+use Rattle.std.proofs.Common.{◌≡◌, ◌≢◌, inl, inr, ℕ, Bool, List, None, Result, Ok, Err, OnOk, IfErr, arith}
 use Rattle.session.specs.declared.streams.ByteOut.{Ghosts as ByteOut}
 use Rattle.beanpax.specs.declared.faults.ProgramFault.{ProgramFault}
 use Rattle.beanpax.specs.declared.faults.ProgramFault.TheVariants.{OutOfMemory, BadNumber, ReadFailed, WriteFailed}

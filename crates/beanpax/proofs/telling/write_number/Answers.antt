@@ -1,4 +1,4 @@
-use Rattle.std.proofs.Common.{◌∙◌, ◌++◌, List, ℕ, decimal, subst}
+use Rattle.std.proofs.Common.{◌∙◌, ◌++◌, decimal, subst}
 use Rattle.session.specs.StreamStates.{WritesAll}
 use Rattle.beanpax.proofs.Tellings.{breaks, goes_on}
 use Rattle.beanpax.proofs.telling.write_number.Goals as goal
