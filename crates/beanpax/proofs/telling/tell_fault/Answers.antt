@@ -51,25 +51,32 @@ pub returns-in-OutOfMemory : goal.returns-in-OutOfMemory
 returns-in-OutOfMemory g c = subst (WritesText _ _ _) (sym (ap fault_line_text c.in-OutOfMemory.is ∙ out_of_memory)) c.tell_error.ensures
 
 pub returns-in-BadNumber : goal.returns-in-BadNumber
-returns-in-BadNumber g c = subst (WritesText _ _ _) (sym (ap fault_line_text c.in-BadNumber.is ∙ bad_number)) c.tell_error-in-BadNumber.ensures
+returns-in-BadNumber g c =
+    subst (WritesText _ _ _) (sym (ap fault_line_text c.in-BadNumber.is ∙ bad_number)) c.tell_error-in-BadNumber.ensures
 
 pub returns-in-ReadFailed : goal.returns-in-ReadFailed
-returns-in-ReadFailed g c = subst (WritesText _ _ _) (sym (ap fault_line_text c.in-ReadFailed.is ∙ read_failed)) c.tell_error-in-ReadFailed.ensures
+returns-in-ReadFailed g c =
+    subst (WritesText _ _ _) (sym (ap fault_line_text c.in-ReadFailed.is ∙ read_failed)) c.tell_error-in-ReadFailed.ensures
 
 pub returns-in-WriteFailed : goal.returns-in-WriteFailed
-returns-in-WriteFailed g c = subst (WritesText _ _ _) (sym (ap fault_line_text c.in-WriteFailed.is ∙ write_failed)) c.tell_error-in-WriteFailed.ensures
+returns-in-WriteFailed g c =
+    subst (WritesText _ _ _) (sym (ap fault_line_text c.in-WriteFailed.is ∙ write_failed)) c.tell_error-in-WriteFailed.ensures
 
 pub returns-in-ServiceStopped : goal.returns-in-ServiceStopped
-returns-in-ServiceStopped g c = subst (WritesText _ _ _) (sym (ap fault_line_text c.in-ServiceStopped.is ∙ service_stopped)) c.tell_error-in-ServiceStopped.ensures
+returns-in-ServiceStopped g c =
+    subst (WritesText _ _ _) (sym (ap fault_line_text c.in-ServiceStopped.is ∙ service_stopped)) c.tell_error-in-ServiceStopped.ensures
 
 pub returns-in-ListenFailed : goal.returns-in-ListenFailed
-returns-in-ListenFailed g c = subst (WritesText _ _ _) (sym (ap fault_line_text c.in-ListenFailed.is ∙ cannot_listen)) c.tell_error-in-ListenFailed.ensures
+returns-in-ListenFailed g c =
+    subst (WritesText _ _ _) (sym (ap fault_line_text c.in-ListenFailed.is ∙ cannot_listen)) c.tell_error-in-ListenFailed.ensures
 
 pub returns-in-FileFailed : goal.returns-in-FileFailed
-returns-in-FileFailed g c = subst (WritesText _ _ _) (sym (ap fault_line_text c.in-FileFailed.is ∙ file_failed)) c.tell_error-in-FileFailed.ensures
+returns-in-FileFailed g c =
+    subst (WritesText _ _ _) (sym (ap fault_line_text c.in-FileFailed.is ∙ file_failed)) c.tell_error-in-FileFailed.ensures
 
 pub returns-in-ThreadFailed : goal.returns-in-ThreadFailed
-returns-in-ThreadFailed g c = subst (WritesText _ _ _) (sym (ap fault_line_text c.in-ThreadFailed.is ∙ cannot_start)) c.tell_error-in-ThreadFailed.ensures
+returns-in-ThreadFailed g c =
+    subst (WritesText _ _ _) (sym (ap fault_line_text c.in-ThreadFailed.is ∙ cannot_start)) c.tell_error-in-ThreadFailed.ensures
 
 pub returns-in-LogDamaged : goal.returns-in-LogDamaged
 returns-in-LogDamaged g c =
