@@ -1,3 +1,4 @@
+pub mod Tellings
 pub mod WordsLemmas
 pub mod CommandLemmas
 pub mod WeightWords
@@ -6,4 +7,6 @@ pub mod Beginnings
 pub mod Obeyed
 pub mod Served
 pub mod OneVerdict
+pub mod LogsRead
+pub mod Serving
 pub mod Lines

@@ -34,6 +34,8 @@ of_server server.OutOfMemory = OutOfMemory
 of_server server.BadNumber = BadNumber
 of_server server.ListenFailed = ListenFailed
 of_server server.ThreadFailed = ThreadFailed
+of_server server.WriteFailed = WriteFailed
+of_server server.SyncFailed = FileFailed
 
 -- a file could not be read or written: for want of memory, or not
 pub record IsOfFile (kind : ErrorKind) (fault : ProgramFault) : Type 0 where

@@ -10,3 +10,4 @@ pub mod Words
 pub mod Servers
 pub mod Verdicts
 pub mod Program
+pub mod Starts

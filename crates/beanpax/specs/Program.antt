@@ -117,11 +117,11 @@ pub record TellsCut {E : Type 0} (writes : ByteOut E) (old new : E) (bytes : ℕ
   pub none : bytes ≡ 0 → new ≡ old
   pub some : 0 < bytes → WritesText (writes.contents old) (writes.contents new) (writes.has_failed new) (cut_line bytes)
 
--- this was told of some bytes, or nothing was told
-abbrev pub TellsSomeCut : {E : Type 0} → ByteOut E → E → E → Type 0
-TellsSomeCut writes old new = (new ≡ old) ⊎ ((bytes : ℕ) × (0 < bytes) × TellsCut writes old new bytes)
+-- nothing was told, or some text
+abbrev pub TellsMore : {E : Type 0} → ByteOut E → E → E → Type 0
+TellsMore writes old new = (new ≡ old) ⊎ ((text : List ℕ) × Appends (writes.contents old) (writes.contents new) text)
 
 -- and where no log is asked for, nothing was told
 pub record TellsOfLog {E : Type 0} (has_log : Type 0) (writes : ByteOut E) (old new : E) : Type 0 where
-  pub cut : TellsSomeCut writes old new
+  pub more : TellsMore writes old new
   pub silent : (has_log → ⊥) → new ≡ old

@@ -1,5 +1,5 @@
 -- What a server writes.
-use Rattle.std.specs.Prelude.{◌≡◌, ℕ, List, ◌++◌, Result, OnOk, codes}
+use Rattle.std.specs.Prelude.{ℕ, List, ◌++◌, Result, OnOk, codes}
 use Rattle.std.specs.Fmt.{decimal}
 use Rattle.std.specs.Io.KnownBytes.{Appends}
 use Rattle.session.specs.declared.streams.ByteOut.{Ghosts as ByteOut}

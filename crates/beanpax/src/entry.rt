@@ -6,7 +6,7 @@ ghost use Rattle.session.specs.Streams.{AppendsBeginning};
 ghost use Rattle.beanpax.specs.declared.words.ServerOptions.{ServerOptions};
 ghost use Rattle.beanpax.specs.Faults.{fault_line_text};
 ghost use Rattle.beanpax.specs.Program.{EndsWith, HasListened, IsCaused, AnswersToSomeEnd, IsRunFault, TellsSome, WritesSome, WritesText};
-ghost use Rattle.beanpax.specs.Program.{BeginsToTell, IsWholeRun, TellsOfLog, TellsSomeCut};
+ghost use Rattle.beanpax.specs.Program.{BeginsToTell, IsWholeRun, TellsMore, TellsOfLog};
 ghost use Rattle.beanpax.specs.Runs.{TellsBeginning};
 ghost use Rattle.beanpax.specs.declared.verdict.Verdict.{Verdict};
 ghost use Rattle.beanpax.specs.Verdicts.{is_legal};
@@ -50,7 +50,7 @@ pub const DUMP_REFUSED: u8 = 3;
 ///
 /// The help goes to the output, and what is wrong with the words to the errors. A server returns
 /// when it has served as many connections as were asked for; what it does for them is in the
-/// contract of `serve_clients`. What was cut off behind a log is told on the errors before anything else.
+/// contract of `serve_clients`. What is cut off behind a log is told on the errors, and how far a start from it is.
 pub fn program<H: Host, R: ByteIn, W: ByteOut, E: ByteOut>(
     rt: &H,
     words: &[String],
@@ -77,7 +77,7 @@ pub fn program<H: Host, R: ByteIn, W: ByteOut, E: ByteOut>(
         × (input.new ≡ input.old) × (errors.new ≡ errors.old) }
     ensures silent { result ≡ DONE → (AskForLog (map string_bytes words.now) → ⊥)
         → errors.new ≡ errors.old }
-    ensures cut { result ≡ DONE → TellsSomeCut E.ByteOut errors.old errors.new }
+    ensures more { result ≡ DONE → TellsMore E.ByteOut errors.old errors.new }
     ensures fault { result ≡ FAULT → (fault : ProgramFault) × (before : E)
         × IsCaused (map string_bytes words.now) fault
         (R.has_failed input.new) (W.has_failed output.new)

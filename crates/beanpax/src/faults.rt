@@ -1,7 +1,7 @@
 ghost use Rattle.std.specs.Prelude.{◌≡◌};
 ghost use Rattle.std_io.specs.IoError.{error_kind};
 ghost use Rattle.beanpax.specs.declared.faults.ProgramFault.TheVariants.{OutOfMemory};
-ghost use Rattle.beanpax.specs.Faults.{IsOfFile, IsOfOpening, IsOfReading};
+ghost use Rattle.beanpax.specs.Faults.{IsOfFile, IsOfLog, IsOfOpening, IsOfReading};
 ghost use Rattle.beanpax.specs.Faults.{number_of_fault, of_keeping, of_log, of_server, of_session};
 
 use command_log::LogFault;
@@ -93,6 +93,8 @@ impl From<OpenFault> for ProgramFault {
 }
 
 impl From<JournalFault> for ProgramFault {
+    ghost from_gives = { λ _ p. IsOfLog p };
+
     fn from(fault: JournalFault) -> ProgramFault {
         match fault {
             JournalFault::OutOfMemory => ProgramFault::OutOfMemory,
@@ -103,6 +105,8 @@ impl From<JournalFault> for ProgramFault {
 }
 
 impl From<RecoverFault> for ProgramFault {
+    ghost from_gives = { λ _ p. IsOfLog p };
+
     fn from(fault: RecoverFault) -> ProgramFault {
         match fault {
             RecoverFault::OutOfMemory => ProgramFault::OutOfMemory,

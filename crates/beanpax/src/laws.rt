@@ -16,6 +16,7 @@ ghost use Rattle.beanpax.specs.declared.verdict.Verdict.{Verdict};
 
 use bean_codec::one_item;
 use chronicle::{legal_is_faultless, one_bad_line, one_dump, one_fault};
+use log_file::kept_is_read;
 
 /// Every input has one transcript at most, but for which operations were refused for want of memory: what a client is
 /// told is a function of the bytes that it sent, and of that.
@@ -36,11 +37,13 @@ pub fn no_fault_in_a_dump()
     legal_is_faultless();
 }
 
-/// One thing at most is found of a text: its counts, or its fault, or its bad line.
+/// One thing at most is found of a text: its counts, or its fault, or its bad line; or as a log, what it has, or the line in
+/// which it is damaged.
 pub fn one_verdict()
     ensures { (text : List ℕ) (v w : Verdict) → IsVerdict text v → IsVerdict text w → v ≡ w }
 {
     one_dump();
     one_fault();
     one_bad_line();
+    kept_is_read();
 }

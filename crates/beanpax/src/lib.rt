@@ -10,6 +10,7 @@ mod host;
 mod inspecting;
 mod inspecting_log;
 mod laws;
+mod opening;
 mod run;
 mod seconds;
 mod server;

@@ -1,50 +1,42 @@
-ghost use Rattle.std.specs.Prelude.{◌≡◌, ◌≢◌, ◌⊎◌, true, string_bytes, None, Ok, Err, IfOk, IfErr, IfSome, OnOk, OnErr};
+ghost use Rattle.std.specs.Prelude.{◌≡◌, ◌≢◌, ◌⊎◌, None, Ok, Err, IfOk, IfErr, IfSome, OnOk};
 ghost use Rattle.std.specs.Io.KnownBytes.{Appends};
-ghost use Rattle.std.specs.declared.net.ip_addr.IpAddr.TheVariants.{V4, V6};
-ghost use Rattle.std.specs.Net.Socket.{socket_ip, socket_port};
-ghost use Rattle.beanpax.specs.declared.faults.ProgramFault.TheVariants.{ListenFailed, WriteFailed};
-ghost use Rattle.beanpax.specs.Faults.{IsOfDump, IsOfLog, IsOfOutput, IsOfServer, of_server};
-ghost use Rattle.beanpax.specs.Program.{IsServingFault, TellsCut, TellsOfLog, TellsSomeCut};
+ghost use Rattle.beanpax.specs.declared.faults.ProgramFault.TheVariants.{ListenFailed};
+ghost use Rattle.beanpax.specs.Faults.{IsOfDump, IsOfServer, of_server};
+ghost use Rattle.beanpax.specs.Program.{IsServingFault, TellsOfLog};
 ghost use Rattle.chronicle.specs.Checking.{IsFaultless};
 ghost use Rattle.chronicle.specs.Dump.{dump_text};
 ghost use Rattle.forgetting_hall.specs.Halls.{new_forgetting};
 ghost use Rattle.hall.specs.Halls.{chronicle_of, new_hall};
-ghost use Rattle.log_file.specs.States.{IsIdle};
 ghost use Rattle.loops.specs.Comparing.{AllCompared, IsLoopCount};
-ghost use Rattle.session.specs.Streams.{AppendsBeginning};
 ghost use Rattle.beanpax.specs.Servers.{TellsPort, listening_line};
 
 use crate::faults::{ProgramFault, file_fault};
 use crate::host::Host;
 use crate::laws::no_fault_in_a_dump;
+use crate::opening::{Opened, open_all};
 use crate::seconds::ClockSeconds;
-use crate::starting::{Started, start_from};
-use crate::telling::tell_number;
+use crate::starting::Started;
 use crate::words::ServerOptions;
-use ballot::Members;
 use bean_queue::Queue;
 use chronicle::WriteText;
 use forgetting_hall::ForgettingHall;
 use hall::Hall;
-use log_file::{OpenedLog, open_log};
 use loops::{
     Logging, ServeFault, Served, ServedForgetting, serve_clients, serve_forgetting, serve_logged,
 };
 use mio::net::TcpListener;
 use object::Object;
-use session::{ByteOut, write_all};
+use session::ByteOut;
 use std::alloc::{AllocError, Global};
 use std::fs;
 use std::fs::File;
-use std::net::{IpAddr, Ipv4Addr, Ipv6Addr, SocketAddr};
 use std::time::Duration;
 
 /// Serves clients over TCP, as the options say, and tells on the output where it listens before it
-/// accepts the first.
+/// accepts the first. What was cut off behind its log is told on the errors before.
 ///
 /// It returns when as many connections as were asked for have ended, and has written the dump then,
-/// where that was asked for. What goes wrong with one client ends that client's session alone. A log is
-/// opened once it listens, and what was cut off behind it is told on the errors.
+/// where that was asked for. What goes wrong with one client ends that client's session alone.
 pub(crate) fn serve_tcp<R: Host, W: ByteOut, E: ByteOut>(
     rt: &R,
     options: &ServerOptions<'_>,
@@ -60,73 +52,20 @@ pub(crate) fn serve_tcp<R: Host, W: ByteOut, E: ByteOut>(
         (listening_line options.now.host options.now.port) }
     ensures log { TellsOfLog (options.now.log ≢ None) E.ByteOut errors.old errors.new }
 {
-    let listener = listen(rt, options.host, options.port)?;
-    match options.log {
-        Some(file) => serve_from_log(rt, listener, options, file, output, errors),
-        None => serve_unlogged(rt, listener, options, output),
-    }
-}
-
-// Serves those who connect here, and keeps what takes effect in the log of this file.
-fn serve_from_log<R: Host, W: ByteOut, E: ByteOut>(
-    rt: &R,
-    listener: TcpListener,
-    options: &ServerOptions<'_>,
-    file: &str,
-    output: &mut W,
-    errors: &mut E,
-) -> Result<(), ProgramFault>
-    requires workers { IsLoopCount options.now.workers }
-    ensures tells { TellsPort W.ByteOut output.old output.new options.now.host options.now.port result }
-    ensures fault { IfErr result (λ fault. IsOfServer fault ⊎ IsOfLog fault) }
-    ensures not_listening { result ≡ Err ListenFailed →
-        Appends (W.contents output.old) (W.contents output.new)
-        (listening_line options.now.host options.now.port) }
-    ensures cut { TellsSomeCut E.ByteOut errors.old errors.new }
-{
-    let opened = open_file(rt, file, options.members, errors)?;
-    let started = start_from(rt, options.members, opened, errors)?;
-    tell_port(rt.alloc(), options.host, options.port, output)?;
-    serve_started(rt, listener, options, started)
-}
-
-// Opens the log of this file, or begins one of these members, and tells what was cut off behind it.
-fn open_file<R: Host, E: ByteOut>(
-    rt: &R,
-    file: &str,
-    members: Members,
-    errors: &mut E,
-) -> Result<OpenedLog<File>, ProgramFault>
-    ensures idle { IfOk result (λ opened. IsIdle opened.log) }
-    ensures cut { IfOk result (λ opened. TellsCut E.ByteOut errors.old errors.new opened.cut) }
-    ensures silent { OnErr result (errors.new ≡ errors.old) }
-    ensures fault { IfErr result IsOfLog }
-{
-    let opened = open_log(rt, file, members)?;
-    tell_cut(opened.cut, errors);
-    Ok(opened)
-}
-
-// Tells how many bytes were cut off behind the log, where there were some.
-fn tell_cut<E: ByteOut>(bytes: u64, errors: &mut E)
-    ensures { TellsCut E.ByteOut errors.old errors.new bytes }
-{
-    if bytes > 0 {
-        tell_number(
-            "beanpax: ",
-            bytes,
-            " bytes behind the log were cut off\n",
-            errors,
-        );
+    let Opened { listener, log } = open_all(rt, options, output, errors)?;
+    match (log, options.dump) {
+        (Some(log), _) => serve_from_log(rt, listener, options, log),
+        (None, Some(file)) => serve_and_dump(rt, listener, options, file),
+        (None, None) => serve_on(rt, listener, options),
     }
 }
 
 // Serves them from where a log has led. Seconds go on behind its last one.
-fn serve_started<R: Host>(
+fn serve_from_log<R: Host>(
     rt: &R,
     listener: TcpListener,
     options: &ServerOptions<'_>,
-    started: Started,
+    started: Started<File>,
 ) -> Result<(), ProgramFault>
     requires workers { IsLoopCount options.now.workers }
     ensures fault { IfErr result IsOfServer }
@@ -140,78 +79,6 @@ fn serve_started<R: Host>(
     let (workers, sessions) = (options.workers, options.sessions);
     let served = serve_logged(rt, hall, logging, listener, seconds, workers, sessions)?;
     end_of(served.fault)
-}
-
-// Tells where it listens, and serves those who connect here, without a log.
-fn serve_unlogged<R: Host, W: ByteOut>(
-    rt: &R,
-    listener: TcpListener,
-    options: &ServerOptions<'_>,
-    output: &mut W,
-) -> Result<(), ProgramFault>
-    requires workers { IsLoopCount options.now.workers }
-    ensures tells { TellsPort W.ByteOut output.old output.new options.now.host options.now.port result }
-    ensures fault { IfErr result (λ fault. IsOfServer fault ⊎ IsOfDump fault) }
-    ensures not_listening { result ≡ Err ListenFailed →
-        Appends (W.contents output.old) (W.contents output.new)
-        (listening_line options.now.host options.now.port) }
-{
-    tell_port(rt.alloc(), options.host, options.port, output)?;
-    match options.dump {
-        Some(file) => serve_and_dump(rt, listener, options, file),
-        None => serve_on(rt, listener, options),
-    }
-}
-
-// Listens at this address and port.
-fn listen<R: Host>(rt: &R, host: IpAddr, port: u16) -> Result<TcpListener, ProgramFault>
-    ensures { IfErr result (λ fault. fault ≡ ListenFailed) }
-{
-    TcpListener::bind(rt, SocketAddr::new(host, port)).map_err(|_| ProgramFault::ListenFailed)
-}
-
-// Tells where it listens.
-fn tell_port<W: ByteOut>(
-    alloc: Global,
-    host: IpAddr,
-    port: u16,
-    output: &mut W,
-) -> Result<(), ProgramFault>
-    ensures told { OnOk result
-        (Appends (W.contents output.old) (W.contents output.new) (listening_line host port)) }
-    ensures begins { AppendsBeginning (W.contents output.old) (W.contents output.new)
-        (listening_line host port) }
-    ensures fault { IfErr result IsOfOutput }
-    ensures write_failed { result ≡ Err WriteFailed → W.has_failed output.new ≡ true }
-{
-    let line = line_of(alloc, host, port)?;
-    write_all(output, line.as_bytes()).map_err(|_| ProgramFault::WriteFailed)
-}
-
-// The line by which that is told.
-fn line_of(alloc: Global, host: IpAddr, port: u16) -> Result<String, AllocError>
-    ensures { IfOk result (λ line. string_bytes line ≡ listening_line host port) }
-{
-    match host {
-        IpAddr::V4(ip) => ipv4_line(alloc, ip, port),
-        IpAddr::V6(ip) => ipv6_line(alloc, ip, port),
-    }
-}
-
-// The line where the address is one of IPv4.
-#[tactic(auto, unfolding(crate::specs::Servers::listening_line))]
-fn ipv4_line(alloc: Global, ip: Ipv4Addr, port: u16) -> Result<String, AllocError>
-    ensures { IfOk result (λ line. string_bytes line ≡ listening_line (V4 ip) port) }
-{
-    format!(in alloc; "listening on {ip}:{port}\n")
-}
-
-// The line where it is one of IPv6.
-#[tactic(auto, unfolding(crate::specs::Servers::listening_line))]
-fn ipv6_line(alloc: Global, ip: Ipv6Addr, port: u16) -> Result<String, AllocError>
-    ensures { IfOk result (λ line. string_bytes line ≡ listening_line (V6 ip) port) }
-{
-    format!(in alloc; "listening on [{ip}]:{port}\n")
 }
 
 // Serves those who connect here over a hall that keeps all, and writes its dump to this file at the end.

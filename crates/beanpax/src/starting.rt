@@ -1,3 +1,10 @@
+ghost use Rattle.std.specs.Prelude.{◌≡◌, ◌++◌, ◌≤◌, ℕ, List, length, take, IfOk, IfErr, IfSome};
+ghost use Rattle.forgetting_hall.specs.Telling.{HasTold};
+ghost use Rattle.recovery.specs.Opened.{EndsAll};
+ghost use Rattle.beanpax.specs.Faults.{IsOfLog};
+ghost use Rattle.beanpax.specs.Program.{TellsMore};
+ghost use Rattle.beanpax.specs.Starts.{IsStarted};
+
 use crate::faults::ProgramFault;
 use crate::host::Host;
 use crate::telling::tell_number;
@@ -5,34 +12,37 @@ use ballot::Members;
 use bean_queue::{Op, Queue};
 use forgetting_hall::ForgettingHall;
 use journal::Journal;
-use log_file::OpenedLog;
-use object::Command;
+use log_file::{Durable, OpenedLog};
+use object::{Command, Object};
 use recovery::{Recovered, Recovery};
 use session::ByteOut;
-use std::fs::File;
 use std::time::{Duration, Instant};
 
 /// After so many seconds it is told how far it is.
 const TOLD_AFTER: u64 = 1;
 
-/// A hall that has obeyed a log, and the log, to which it is to be gone on with.
+/// A hall that has obeyed a log, and the log, which goes on from there.
 #[derive(Drop)]
-pub(crate) struct Started {
+pub(crate) struct Started<W> {
     pub(crate) hall: ForgettingHall<Queue>,
-    pub(crate) journal: Journal<File>,
+    pub(crate) journal: Journal<W>,
 }
 
-/// Obeys the log's commands, ends each session that it leaves open, and keeps these ends in the log.
-pub(crate) fn start_from<R: Host, E: ByteOut>(
+/// Obeys the log's commands in a hall of these members, ends each session that they leave open, and keeps these ends in the
+/// log.
+pub(crate) fn start_from<R: Host, E: ByteOut, W: Durable + Drop>(
     rt: &R,
     members: Members,
-    opened: OpenedLog<File>,
+    opened: OpenedLog<W>,
     errors: &mut E,
-) -> Result<Started, ProgramFault> {
+) -> Result<Started<W>, ProgramFault>
+    ensures started { IfOk result (IsStarted ⟦<Queue as Object>⟧.rules W.contents opened) }
+    ensures fault { IfErr result IsOfLog }
+    ensures more { TellsMore E.ByteOut errors.old errors.new }
+{
     let OpenedLog { log, commands, .. } = opened;
     let Recovered { hall, closes } = obey(rt, members, &commands, errors)?;
-    let kept = commands.len() as u64;
-    let mut journal = Journal::new(rt.alloc(), log, kept);
+    let mut journal = Journal::new(rt.alloc(), log, commands.len() as u64);
     journal.put(closes, hall.placed_count());
     journal.keep()?;
     Ok(Started { hall, journal })
@@ -44,7 +54,12 @@ fn obey<R: Host, E: ByteOut>(
     members: Members,
     commands: &[Command<Op>],
     errors: &mut E,
-) -> Result<Recovered<Queue>, ProgramFault> {
+) -> Result<Recovered<Queue>, ProgramFault>
+    ensures told { IfOk result (λ r. HasTold ⟦<Queue as Object>⟧.rules r.hall (commands.now ++ r.closes.items)) }
+    ensures ends { IfOk result (λ r. EndsAll commands.now r.closes.items) }
+    ensures fault { IfErr result IsOfLog }
+    ensures more { TellsMore E.ByteOut errors.old errors.new }
+{
     let mut recovery = Recovery::begin(rt.alloc(), members, commands)?;
     let mut since = Instant::now(rt).ok();
     let mut done = 0;
@@ -52,15 +67,18 @@ fn obey<R: Host, E: ByteOut>(
         done += recovery.obey_some(&commands[done..])?;
         if has_passed(rt, since) {
             since = Instant::now(rt).ok();
-            tell_number(
-                "beanpax: ",
-                done as u64,
-                " commands of the log are obeyed\n",
-                errors,
-            );
+            tell_obeyed(done, errors);
         }
     }
     Ok(recovery.finish()?)
+}
+
+// Tells how far it is.
+fn tell_obeyed<E: ByteOut>(count: usize, errors: &mut E)
+    ensures { TellsMore E.ByteOut errors.old errors.new }
+{
+    let rest = " commands of the log are obeyed\n";
+    tell_number("beanpax: ", count as u64, rest, errors);
 }
 
 // Whether a second has passed since then.

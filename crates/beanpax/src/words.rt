@@ -429,7 +429,7 @@ fn log_words<'a>(alloc: Global) -> Arg<'a>
     ensures { IsArgument log_option result }
 {
     Arg::new(alloc, "log").long("log").value_name("FILE").help(
-        "Where what takes effect is kept, and where it goes on from at a start; not beside --dump [default: nowhere]",
+        "Where what takes effect is kept, and from where it goes on at a start [default: nowhere]",
     )
 }
 
@@ -440,7 +440,7 @@ fn sync_words<'a>(alloc: Global) -> Arg<'a>
         .long("sync")
         .value_name("MS")
         .help(
-            "How many milliseconds the log is synced after at most: 0 to 3600000; nothing without --log [default: 0]",
+            "How many milliseconds may pass before the log is synced: 0 to 3600000; without --log no effect [default: 0]",
         )
         .value_parser(value_parser!(u32).range(0..=3_600_000))
 }

@@ -18,6 +18,7 @@ fn a_fault_is_told_by_its_name(rt: HostRuntime) -> Result<(), Fail> {
         (ProgramFault::ListenFailed, "12 cannot listen"),
         (ProgramFault::FileFailed, "13 file failed"),
         (ProgramFault::ThreadFailed, "14 cannot start a thread"),
+        (ProgramFault::LogDamaged(7), "15 log damaged: line 7"),
     ];
     for (fault, text) in faults {
         let number = fault_number(fault);

@@ -5,6 +5,7 @@ use Rattle.std.proofs.KnownBytes.{Appends-nil, Consumes-nil}
 use Rattle.beanpax.specs.Program.{HasInspected, WritesText}
 use Rattle.beanpax.specs.Words.{IsAskedBy}
 use Rattle.beanpax.proofs.Served.{nothing_begins}
+use Rattle.beanpax.proofs.Serving.{tells_fault}
 use Rattle.beanpax.proofs.entry.program.Goals as goal
 
 pub returns-in-Ok-Inspect-clause-right : goal.returns-in-Ok-Inspect-clause-right
@@ -52,5 +53,16 @@ returns-in-Ok-BadWeights-clause-begins g c = λ no_run. ([], inl refl, (0, Appen
 pub returns-in-Ok-BadHost-clause-begins : goal.returns-in-Ok-BadHost-clause-begins
 returns-in-Ok-BadHost-clause-begins g c = λ no_run. ([], inl refl, (0, Appends-nil (g.W.ByteOut.contents c.args.output.now)))
 
+pub returns-in-Ok-DumpBesideLog-clause-begins : goal.returns-in-Ok-DumpBesideLog-clause-begins
+returns-in-Ok-DumpBesideLog-clause-begins g c = λ no_run. ([], inl refl, (0, Appends-nil (g.W.ByteOut.contents c.args.output.now)))
+
 pub returns-in-Ok-Wrong-clause-begins : goal.returns-in-Ok-Wrong-clause-begins
 returns-in-Ok-Wrong-clause-begins g c = λ no_run. ([], inl refl, (0, Appends-nil (g.W.ByteOut.contents c.args.output.now)))
+
+pub returns-in-Ok-Serve-clause-fault : goal.returns-in-Ok-Serve-clause-fault
+returns-in-Ok-Serve-clause-fault g c = λ failed.
+    let words = map string_bytes c.args.words.now in
+    let asked = subst (IsAskedBy words) c.in-Ok-Serve.field-0-is c.in-Ok-Serve.ensures in
+    tells_fault words c.in-Ok-Serve.options _ _ g.E.ByteOut c.args.errors.now c.serve_tcp-ended.new.errors c.status_after-in-Ok-Serve.new.errors
+    c.serve_tcp-ended.result c.status_after-in-Ok-Serve.result asked c.serve_tcp-ended.ensures.fault c.serve_tcp-ended.ensures.log
+    c.status_after-in-Ok-Serve.ensures.done c.status_after-in-Ok-Serve.ensures.fault failed

@@ -1,6 +1,10 @@
-use Rattle.std.proofs.Common.{◌∙◌, inr}
+use Rattle.std.proofs.Common.{◌∙◌, [], inl, inr, refl}
+use Rattle.std.proofs.KnownBytes.{Appends-nil}
 use Rattle.session.proofs.Endings.{began}
 use Rattle.beanpax.proofs.inspecting.tell_verdict.Goals as goal
+
+pub returns-in_err-line-clause-begins : goal.returns-in_err-line-clause-begins
+returns-in_err-line-clause-begins g c = ([], inl refl, (0, Appends-nil (g.W.ByteOut.contents c.args.output.now)))
 
 pub returns-in_err-map_err-clause-begins : goal.returns-in_err-map_err-clause-begins
 returns-in_err-map_err-clause-begins g c =

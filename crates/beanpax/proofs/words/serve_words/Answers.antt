@@ -16,7 +16,9 @@ returns-clause-app c =
     let weights = c.in_ok-arg-4.ensures.shape c.weights_words.ensures.local ∙ ap₂ with_rule nodes c.weights_words.ensures.rule in
     let workers = c.in_ok-arg-5.ensures.shape c.workers_words.ensures.local ∙ ap₂ with_rule weights c.workers_words.ensures.rule in
     let sessions = c.in_ok-arg-6.ensures.shape c.sessions_words.ensures.local ∙ ap₂ with_rule workers c.sessions_words.ensures.rule in
-    IfOk-weaker c.arg-7.result _ _ (λ r adds. adds.shape c.dump_words.ensures.local ∙ ap₂ with_rule sessions c.dump_words.ensures.rule) c.arg-7.ensures
+    let dump = c.in_ok-arg-7.ensures.shape c.dump_words.ensures.local ∙ ap₂ with_rule sessions c.dump_words.ensures.rule in
+    let log = c.in_ok-arg-8.ensures.shape c.log_words.ensures.local ∙ ap₂ with_rule dump c.log_words.ensures.rule in
+    IfOk-weaker c.arg-9.result _ _ (λ r adds. adds.shape c.sync_words.ensures.local ∙ ap₂ with_rule log c.sync_words.ensures.rule) c.arg-9.ensures
 
 none_global : (a b : Bool) → a ≡ false → b ≡ false → (a || b) ≡ false
 none_global a b p q = ap₂ (λ x y. x || y) p q
@@ -30,4 +32,6 @@ returns-clause-no_globals c =
     let weights = c.in_ok-arg-4.ensures.globals ∙ none_global _ _ nodes c.weights_words.ensures.local in
     let workers = c.in_ok-arg-5.ensures.globals ∙ none_global _ _ weights c.workers_words.ensures.local in
     let sessions = c.in_ok-arg-6.ensures.globals ∙ none_global _ _ workers c.sessions_words.ensures.local in
-    IfOk-weaker c.arg-7.result _ _ (λ r adds. adds.globals ∙ none_global _ _ sessions c.dump_words.ensures.local) c.arg-7.ensures
+    let dump = c.in_ok-arg-7.ensures.globals ∙ none_global _ _ sessions c.dump_words.ensures.local in
+    let log = c.in_ok-arg-8.ensures.globals ∙ none_global _ _ dump c.log_words.ensures.local in
+    IfOk-weaker c.arg-9.result _ _ (λ r adds. adds.globals ∙ none_global _ _ log c.sync_words.ensures.local) c.arg-9.ensures

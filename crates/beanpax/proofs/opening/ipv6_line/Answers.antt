@@ -5,7 +5,7 @@ use Rattle.std.specs.Net.Addr.{ipv6_segments}
 use Rattle.std.specs.Net.Text.{ipv6_text}
 use Rattle.beanpax.specs.Servers.{listening_line}
 use Rattle.beanpax.proofs.Lines.{regrouped}
-use Rattle.beanpax.proofs.server.ipv6_line.Goals as goal
+use Rattle.beanpax.proofs.opening.ipv6_line.Goals as goal
 
 pub returns : goal.returns
 unfolding listening_line

@@ -1,11 +1,12 @@
 -- Each number has a digit or two.
-use Rattle.std.proofs.Common.{◌≡◌, ◌∙◌, refl, sym, ap, codes, arith}
+use Rattle.std.proofs.Common.{◌≡◌, ◌∙◌, ◌++◌, ℕ, refl, sym, ap, subst, codes, decimal, append_assoc, arith}
 use Rattle.std.proofs.lemmas.Fmt.{decimal_digit, decimal_step}
 use Rattle.beanpax.specs.Faults.{fault_line_text}
+use Rattle.beanpax.specs.Program.{WritesText}
 use Rattle.beanpax.specs.declared.faults.ProgramFault.TheVariants.{OutOfMemory, BadNumber, ReadFailed, WriteFailed}
 use Rattle.beanpax.specs.declared.faults.ProgramFault.TheVariants.{ServiceStopped, ListenFailed, FileFailed}
-use Rattle.beanpax.specs.declared.faults.ProgramFault.TheVariants.{ThreadFailed}
-use Rattle.beanpax.proofs.faults.fault_line.Goals as goal
+use Rattle.beanpax.specs.declared.faults.ProgramFault.TheVariants.{ThreadFailed, LogDamaged}
+use Rattle.beanpax.proofs.telling.tell_fault.Goals as goal
 
 out_of_memory : fault_line_text OutOfMemory ≡ codes "beanpax: 1 out of memory\n"
 unfolding fault_line_text
@@ -39,26 +40,44 @@ cannot_start : fault_line_text ThreadFailed ≡ codes "beanpax: 14 cannot start 
 unfolding fault_line_text
 cannot_start = rw (decimal_step 14 (omega arith) (omega arith), decimal_digit 1 (omega arith)) refl
 
+damaged : (line : ℕ) → fault_line_text (LogDamaged line) ≡ codes "beanpax: 15 log damaged: line " ++ (decimal line ++ codes "\n")
+unfolding fault_line_text
+damaged line =
+    rw (decimal_step 15 (omega arith) (omega arith), decimal_digit 1 (omega arith))
+    (append_assoc (codes "beanpax: 15 ") (codes "log damaged: line " ++ decimal line) (codes "\n")
+    ∙ ap (λ text. codes "beanpax: 15 " ++ text) (append_assoc (codes "log damaged: line ") (decimal line) (codes "\n")))
+
 pub returns-in-OutOfMemory : goal.returns-in-OutOfMemory
-returns-in-OutOfMemory c = sym (ap fault_line_text c.in-OutOfMemory.is ∙ out_of_memory)
+returns-in-OutOfMemory g c = subst (WritesText _ _ _) (sym (ap fault_line_text c.in-OutOfMemory.is ∙ out_of_memory)) c.tell_error.ensures
 
 pub returns-in-BadNumber : goal.returns-in-BadNumber
-returns-in-BadNumber c = sym (ap fault_line_text c.in-BadNumber.is ∙ bad_number)
+returns-in-BadNumber g c =
+    subst (WritesText _ _ _) (sym (ap fault_line_text c.in-BadNumber.is ∙ bad_number)) c.tell_error-in-BadNumber.ensures
 
 pub returns-in-ReadFailed : goal.returns-in-ReadFailed
-returns-in-ReadFailed c = sym (ap fault_line_text c.in-ReadFailed.is ∙ read_failed)
+returns-in-ReadFailed g c =
+    subst (WritesText _ _ _) (sym (ap fault_line_text c.in-ReadFailed.is ∙ read_failed)) c.tell_error-in-ReadFailed.ensures
 
 pub returns-in-WriteFailed : goal.returns-in-WriteFailed
-returns-in-WriteFailed c = sym (ap fault_line_text c.in-WriteFailed.is ∙ write_failed)
+returns-in-WriteFailed g c =
+    subst (WritesText _ _ _) (sym (ap fault_line_text c.in-WriteFailed.is ∙ write_failed)) c.tell_error-in-WriteFailed.ensures
 
 pub returns-in-ServiceStopped : goal.returns-in-ServiceStopped
-returns-in-ServiceStopped c = sym (ap fault_line_text c.in-ServiceStopped.is ∙ service_stopped)
+returns-in-ServiceStopped g c =
+    subst (WritesText _ _ _) (sym (ap fault_line_text c.in-ServiceStopped.is ∙ service_stopped)) c.tell_error-in-ServiceStopped.ensures
 
 pub returns-in-ListenFailed : goal.returns-in-ListenFailed
-returns-in-ListenFailed c = sym (ap fault_line_text c.in-ListenFailed.is ∙ cannot_listen)
+returns-in-ListenFailed g c =
+    subst (WritesText _ _ _) (sym (ap fault_line_text c.in-ListenFailed.is ∙ cannot_listen)) c.tell_error-in-ListenFailed.ensures
 
 pub returns-in-FileFailed : goal.returns-in-FileFailed
-returns-in-FileFailed c = sym (ap fault_line_text c.in-FileFailed.is ∙ file_failed)
+returns-in-FileFailed g c =
+    subst (WritesText _ _ _) (sym (ap fault_line_text c.in-FileFailed.is ∙ file_failed)) c.tell_error-in-FileFailed.ensures
 
 pub returns-in-ThreadFailed : goal.returns-in-ThreadFailed
-returns-in-ThreadFailed c = sym (ap fault_line_text c.in-ThreadFailed.is ∙ cannot_start)
+returns-in-ThreadFailed g c =
+    subst (WritesText _ _ _) (sym (ap fault_line_text c.in-ThreadFailed.is ∙ cannot_start)) c.tell_error-in-ThreadFailed.ensures
+
+pub returns-in-LogDamaged : goal.returns-in-LogDamaged
+returns-in-LogDamaged g c =
+    subst (WritesText _ _ _) (sym (ap fault_line_text c.in-LogDamaged.is ∙ damaged c.in-LogDamaged.line)) c.tell_number.ensures

@@ -1,7 +1,7 @@
 use Rattle.std.proofs.Common.{◌∙◌, subst}
 use Rattle.session.specs.Streams.{AppendsBeginning}
 use Rattle.session.proofs.Endings.{began}
-use Rattle.beanpax.proofs.server.tell_port.Goals as goal
+use Rattle.beanpax.proofs.opening.tell_port.Goals as goal
 
 pub returns-clause-begins : goal.returns-clause-begins
 returns-clause-begins g c =

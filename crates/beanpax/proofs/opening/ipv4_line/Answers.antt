@@ -5,7 +5,7 @@ use Rattle.std.specs.Net.Addr.{ipv4_octets}
 use Rattle.std.specs.Net.Text.{ipv4_text}
 use Rattle.beanpax.specs.Servers.{listening_line}
 use Rattle.beanpax.proofs.Lines.{regrouped}
-use Rattle.beanpax.proofs.server.ipv4_line.Goals as goal
+use Rattle.beanpax.proofs.opening.ipv4_line.Goals as goal
 
 pub returns : goal.returns
 unfolding listening_line

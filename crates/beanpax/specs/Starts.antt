@@ -1,0 +1,21 @@
+-- A server that starts from a log.
+use Rattle.std.specs.Prelude.{◌≡◌, ℕ, List, [], ◌++◌, Option}
+use Rattle.object.specs.Objects.{Rules}
+use Rattle.object.specs.declared.command.Command.{Command}
+use Rattle.bean_queue.specs.declared.op.Op.{Op}
+use Rattle.bean_queue.specs.declared.reply.Reply.{Reply}
+use Rattle.bean_queue.specs.Queue.{QueueState}
+use Rattle.forgetting_hall.specs.Telling.{HasTold}
+use Rattle.log_file.specs.Logs.{HoldsLog}
+use Rattle.log_file.specs.declared.file.OpenedLog.{OpenedLog}
+use Rattle.recovery.specs.Opened.{EndsAll}
+use Rattle.beanpax.specs.declared.starting.Started.{Started}
+
+-- In the hall the commands of the log took effect, in their order, and then one Close for each session that they leave open, and nothing
+-- else; and all of these are kept in the log, if it held what was read of it.
+pub record IsStarted {W : Type 0} (rules : Rules QueueState Op Reply) (contents : W → Option (List ℕ)) (opened : OpenedLog W) (started : Started W) : Type 0 where
+  pub closes : List (Command Op)
+  pub ends : EndsAll opened.commands.items closes
+  pub told : HasTold rules started.hall (opened.commands.items ++ closes)
+  pub log : (members : List ℕ) → HoldsLog (contents opened.log.writer) opened.log.batch members opened.commands.items
+      → HoldsLog (contents started.journal.log.writer) [] members (opened.commands.items ++ closes)
