@@ -42,7 +42,7 @@ pub(crate) struct Common<'a, R, D: LoopDesk> {
     /// Of who lets clients in.
     pub(crate) door: &'a Mailbox,
     pub(crate) nodes: u8,
-    pub(crate) log: Option<&'a SharedLog>,
+    pub(crate) log: &'a Option<SharedLog>,
 }
 
 impl<'a, R: Wait, D: LoopDesk> Common<'a, R, D> {
@@ -56,7 +56,10 @@ impl<'a, R: Wait, D: LoopDesk> Common<'a, R, D> {
 
     /// Whether the log has failed, so that nobody is told anything more.
     pub(crate) fn has_failed(&self) -> bool {
-        self.log.is_some_and(|log| log.has_failed())
+        match self.log {
+            Some(log) => log.has_failed(),
+            None => false,
+        }
     }
 }
 

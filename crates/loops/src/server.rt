@@ -198,7 +198,7 @@ where
             mailboxes: mailboxes.as_slice(),
             door: &own,
             nodes,
-            log: log.as_ref(),
+            log: &log,
         },
         polls,
         doorman,
@@ -250,14 +250,12 @@ where
         common.rt,
         move |scope| -> Option<ServeFault> {
             let mut threads = Vec::new(common.alloc);
-            let started = start_loops(scope, common, polls, &mut threads);
             let mut others = Vec::new(common.alloc);
-            let started = started.and_then(|()| start_others(scope, common, seconds, &mut others));
-            let let_in = started.and_then(|()| doorman.let_in(
-                common.rt,
-                common.mailboxes,
-                common.door,
-            ));
+            let started = start_all(scope, common, polls, seconds, &mut threads, &mut others);
+            let let_in = match started {
+                Ok(()) => doorman.let_in(common.rt, common.mailboxes, common.door),
+                Err(fault) => Err(fault),
+            };
             for mailbox in common.mailboxes {
                 mailbox.end(common.rt);
             }
@@ -287,6 +285,25 @@ fn join_all<R: Threads + Wait>(
         }
     }
     ended
+}
+
+// Starts all threads: those of the loops, and the others.
+fn start_all<'s, E, D, T, R>(
+    scope: &Scope<'s, E>,
+    common: &'s Common<'s, R, D>,
+    polls: Vec<Poll>,
+    seconds: T,
+    threads: &mut Vec<JoinHandle<Result<(), ServeFault>>>,
+    others: &mut Vec<JoinHandle<Result<(), ServeFault>>>,
+) -> Result<(), ServeFault>
+where
+    D: LoopDesk + Send,
+    D::Ticket: Send,
+    T: Seconds + Send + Drop + 's,
+    R: Clock + Threads + Wait + AllocGlobal + Sync,
+{
+    start_loops(scope, common, polls, threads)?;
+    start_others(scope, common, seconds, others)
 }
 
 // Starts a thread for each loop.

@@ -70,7 +70,10 @@ impl SharedLog {
     ) -> Result<(), ServeFault> {
         let mut writing = self.writing.lock(rt);
         let mut backoff = Backoff::new(FIRST_PAUSE);
-        while writing.journal.kept() < count {
+        for _ in rt.forever() {
+            if writing.journal.kept() >= count {
+                return Ok(());
+            }
             match writing.keep_next(rt, house) {
                 Ok(()) => {}
                 Err(ServeFault::OutOfMemory) => sleep(rt, backoff.next_pause()),
@@ -81,7 +84,7 @@ impl SharedLog {
                 }
             }
         }
-        Ok(())
+        unreachable!()
     }
 }
 

@@ -42,13 +42,14 @@ pub(crate) fn keep_all<R: Wait + Clock, D: LoopDesk>(
 // Sleeps so long, or until all is over. Answers whether it is.
 fn sleep_long<R: Wait + Clock, D: LoopDesk>(common: &Common<'_, R, D>, pause: Duration) -> bool {
     let mut left = pause;
-    while !left.is_zero() {
-        if common.door.is_over(common.rt) {
-            return true;
+    for _ in common.rt.forever() {
+        let is_over = common.door.is_over(common.rt);
+        if is_over || left.is_zero() {
+            return is_over;
         }
         let part = left.min(Duration::from_secs(LONGEST_SLEEP));
         sleep(common.rt, part);
         left = left.saturating_sub(part);
     }
-    common.door.is_over(common.rt)
+    unreachable!()
 }
