@@ -10,3 +10,4 @@ pub mod OneVerdict
 pub mod LogsRead
 pub mod Serving
 pub mod Lines
+pub mod Starts

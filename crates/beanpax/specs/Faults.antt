@@ -34,8 +34,17 @@ of_server server.OutOfMemory = OutOfMemory
 of_server server.BadNumber = BadNumber
 of_server server.ListenFailed = ListenFailed
 of_server server.ThreadFailed = ThreadFailed
-of_server server.WriteFailed = WriteFailed
-of_server server.SyncFailed = FileFailed
+of_server server.WriteFailed = ListenFailed
+of_server server.SyncFailed = ListenFailed
+
+-- and of one that has a log
+abbrev pub of_logged : ServeFault → ProgramFault
+of_logged server.OutOfMemory = OutOfMemory
+of_logged server.BadNumber = BadNumber
+of_logged server.ListenFailed = ListenFailed
+of_logged server.ThreadFailed = ThreadFailed
+of_logged server.WriteFailed = WriteFailed
+of_logged server.SyncFailed = FileFailed
 
 -- a file could not be read or written: for want of memory, or not
 pub record IsOfFile (kind : ErrorKind) (fault : ProgramFault) : Type 0 where

@@ -2,7 +2,7 @@ ghost use Rattle.std.specs.Prelude.{◌≡◌};
 ghost use Rattle.std_io.specs.IoError.{error_kind};
 ghost use Rattle.beanpax.specs.declared.faults.ProgramFault.TheVariants.{OutOfMemory};
 ghost use Rattle.beanpax.specs.Faults.{IsOfFile, IsOfLog, IsOfOpening, IsOfReading};
-ghost use Rattle.beanpax.specs.Faults.{number_of_fault, of_keeping, of_log, of_server, of_session};
+ghost use Rattle.beanpax.specs.Faults.{number_of_fault, of_keeping, of_log, of_logged, of_server, of_session};
 
 use command_log::LogFault;
 use journal::JournalFault;
@@ -64,8 +64,8 @@ impl From<ServeFault> for ProgramFault {
             ServeFault::BadNumber => ProgramFault::BadNumber,
             ServeFault::ListenFailed => ProgramFault::ListenFailed,
             ServeFault::ThreadFailed => ProgramFault::ThreadFailed,
-            ServeFault::WriteFailed => ProgramFault::WriteFailed,
-            ServeFault::SyncFailed => ProgramFault::FileFailed,
+            // none of a server without a log
+            ServeFault::WriteFailed | ServeFault::SyncFailed => ProgramFault::ListenFailed,
         }
     }
 }
@@ -112,6 +112,17 @@ impl From<RecoverFault> for ProgramFault {
             RecoverFault::OutOfMemory => ProgramFault::OutOfMemory,
             RecoverFault::NoOrder => ProgramFault::LogDamaged(1),
         }
+    }
+}
+
+/// Why a server with a log ended.
+pub(crate) fn fault_of_logged(fault: ServeFault) -> ProgramFault
+    ensures { result ≡ of_logged fault }
+{
+    match fault {
+        ServeFault::WriteFailed => ProgramFault::WriteFailed,
+        ServeFault::SyncFailed => ProgramFault::FileFailed,
+        other => ProgramFault::from(other),
     }
 }
 

@@ -1,7 +1,7 @@
 ghost use Rattle.std.specs.Prelude.{◌≡◌, ◌≢◌, ◌⊎◌, None, Ok, Err, IfOk, IfErr, IfSome, OnOk};
 ghost use Rattle.std.specs.Io.KnownBytes.{Appends};
 ghost use Rattle.beanpax.specs.declared.faults.ProgramFault.TheVariants.{ListenFailed};
-ghost use Rattle.beanpax.specs.Faults.{IsOfDump, IsOfServer, of_server};
+ghost use Rattle.beanpax.specs.Faults.{IsOfDump, IsOfLog, IsOfServer, of_server};
 ghost use Rattle.beanpax.specs.Program.{IsServingFault, TellsOfLog};
 ghost use Rattle.chronicle.specs.Checking.{IsFaultless};
 ghost use Rattle.chronicle.specs.Dump.{dump_text};
@@ -10,7 +10,7 @@ ghost use Rattle.hall.specs.Halls.{chronicle_of, new_hall};
 ghost use Rattle.loops.specs.Comparing.{AllCompared, IsLoopCount};
 ghost use Rattle.beanpax.specs.Servers.{TellsPort, listening_line};
 
-use crate::faults::{ProgramFault, file_fault};
+use crate::faults::{ProgramFault, fault_of_logged, file_fault};
 use crate::host::Host;
 use crate::laws::no_fault_in_a_dump;
 use crate::opening::{Opened, open_all};
@@ -68,7 +68,7 @@ fn serve_from_log<R: Host>(
     started: Started<File>,
 ) -> Result<(), ProgramFault>
     requires workers { IsLoopCount options.now.workers }
-    ensures fault { IfErr result IsOfServer }
+    ensures fault { IfErr result (λ fault. IsOfServer fault ⊎ IsOfLog fault) }
 {
     let Started { hall, journal } = started;
     let seconds = ClockSeconds::after(rt, hall.last_second());
@@ -77,8 +77,11 @@ fn serve_from_log<R: Host>(
         pause: Duration::from_millis(u64::from(options.sync)),
     };
     let (workers, sessions) = (options.workers, options.sessions);
-    let served = serve_logged(rt, hall, logging, listener, seconds, workers, sessions)?;
-    end_of(served.fault)
+    let served = serve_logged(rt, hall, logging, listener, seconds, workers, sessions);
+    match served.map_err(fault_of_logged)?.fault {
+        Some(fault) => Err(fault_of_logged(fault)),
+        None => Ok(()),
+    }
 }
 
 // Serves those who connect here over a hall that keeps all, and writes its dump to this file at the end.

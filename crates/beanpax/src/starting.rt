@@ -9,7 +9,7 @@ use crate::faults::ProgramFault;
 use crate::host::Host;
 use crate::telling::tell_number;
 use ballot::Members;
-use bean_queue::{Op, Queue};
+use bean_queue::Queue;
 use forgetting_hall::ForgettingHall;
 use journal::Journal;
 use log_file::{Durable, OpenedLog};
@@ -49,13 +49,13 @@ pub(crate) fn start_from<R: Host, E: ByteOut, W: Durable + Drop>(
 }
 
 // Obeys the commands, and ends each session that they leave open. Each second it is told how far it is.
-fn obey<R: Host, E: ByteOut>(
+fn obey<R: Host, E: ByteOut, O: Object>(
     rt: &R,
     members: Members,
-    commands: &[Command<Op>],
+    commands: &[Command<O::Op>],
     errors: &mut E,
-) -> Result<Recovered<Queue>, ProgramFault>
-    ensures told { IfOk result (λ r. HasTold ⟦<Queue as Object>⟧.rules r.hall (commands.now ++ r.closes.items)) }
+) -> Result<Recovered<O>, ProgramFault>
+    ensures told { IfOk result (λ r. HasTold O.rules r.hall (commands.now ++ r.closes.items)) }
     ensures ends { IfOk result (λ r. EndsAll commands.now r.closes.items) }
     ensures fault { IfErr result IsOfLog }
     ensures more { TellsMore E.ByteOut errors.old errors.new }
