@@ -184,9 +184,20 @@ def beanstalkd(*more):
 
 
 @contextlib.contextmanager
-def synced_beanstalkd():
-    """One that syncs its log at each command that changes it. The log is no file in memory."""
-    with tempfile.TemporaryDirectory(dir="/var/tmp") as folder, beanstalkd("-b", folder, "-f", "0") as server:
+def logging_beanpax(nodes, workers, milliseconds):
+    """One that keeps a log, and syncs it after so many milliseconds, or before each answer. The log is no file in memory."""
+    port = free_port()
+    words = [BEANPAX, "serve", "--port", port, "--nodes", nodes, "--workers", workers, "--sync", milliseconds]
+    with tempfile.TemporaryDirectory(dir="/var/tmp") as folder:
+        words += ["--log", os.path.join(folder, "log")]
+        with running([str(word) for word in words], port, is_told=True) as server:
+            yield server
+
+
+@contextlib.contextmanager
+def logging_beanstalkd(milliseconds):
+    """The same."""
+    with tempfile.TemporaryDirectory(dir="/var/tmp") as folder, beanstalkd("-b", folder, "-f", str(milliseconds)) as server:
         yield server
 
 
