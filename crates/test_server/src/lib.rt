@@ -23,6 +23,8 @@ mod half_closed_rows;
 #[cfg(test)]
 mod killed_rows;
 #[cfg(test)]
+mod log_rows;
+#[cfg(test)]
 mod resources;
 #[cfg(test)]
 mod session_rows;
