@@ -87,6 +87,7 @@ impl<W: Durable> Journal<W> {
             → (members : List ℕ) (commands : List (Command Op)) → HoldsAll W.contents self.old members commands
             → HoldsAll W.contents self.new members commands }
         ensures unkept { OnErr result (self.new.kept ≡ self.old.kept) }
+        ensures due { OnErr result (self.new.due ≡ self.old.due) }
     {
         self.note_all()?;
         self.log.keep()?;

@@ -14,11 +14,12 @@ pub(crate) fn run_clock<R: Wait, T: Seconds + Drop>(
         let Some(second) = seconds.next() else {
             return Ok(());
         };
-        if own.is_over(rt) {
-            return Ok(());
-        }
+        let is_over = own.is_over(rt);
         for mailbox in mailboxes {
             mailbox.tick(rt, second);
+        }
+        if is_over {
+            return Ok(());
         }
     }
     unreachable!()

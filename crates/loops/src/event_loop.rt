@@ -131,10 +131,12 @@ impl<'a, R: Wait + Clock, D: LoopDesk> EventLoop<'a, R, D> {
         for _ in self.common.rt.forever() {
             let timeout = self.timeout();
             poll.poll(&mut events, timeout)?;
+            let mail = self.own.take(self.common.rt, self.common.alloc);
+            // whoever sees the log fail leaves mail after that
             if self.common.has_failed() {
                 return Ok(());
             }
-            if let Some(mail) = self.own.take(self.common.rt, self.common.alloc) {
+            if let Some(mail) = mail {
                 self.read_mail(mail, &poll);
             }
             self.serve_listed();

@@ -78,6 +78,8 @@ pub(crate) fn forget<O: Object>(hall: &mut ForgettingHall<O>, commands: &[Comman
         }
     }
     drop_slots(hall);
+    // nobody waits for them
+    let _ = hall.take_answered();
 }
 
 // A session is let go of.
