@@ -1,5 +1,5 @@
 -- A server that starts from a log.
-use Rattle.std.specs.Prelude.{ℕ, List, [], ◌++◌, Option}
+use Rattle.std.specs.Prelude.{◌≡◌, ℕ, List, [], ◌++◌, Option}
 use Rattle.object.specs.Objects.{Rules}
 use Rattle.object.specs.declared.command.Command.{Command}
 use Rattle.bean_queue.specs.declared.op.Op.{Op}
@@ -17,5 +17,7 @@ pub record IsStarted {W : Type 0} (rules : Rules QueueState Op Reply) (contents 
   pub closes : List (Command Op)
   pub ends : EndsAll opened.commands.items closes
   pub told : HasTold rules started.hall (opened.commands.items ++ closes)
+  pub gathered : started.hall.gathering.commands ≡ []
+  pub waiting : started.journal.waiting ≡ []
   pub log : (members : List ℕ) → HoldsLog (contents opened.log.writer) opened.log.batch members opened.commands.items
       → HoldsLog (contents started.journal.log.writer) [] members (opened.commands.items ++ closes)

@@ -1,4 +1,4 @@
-ghost use Rattle.std.specs.Prelude.{◌≡◌, ◌++◌, ◌≤◌, ℕ, List, length, take, IfOk, IfErr, IfSome};
+ghost use Rattle.std.specs.Prelude.{◌≡◌, ◌++◌, ◌≤◌, ℕ, List, [], length, take, IfOk, IfErr, IfSome};
 ghost use Rattle.forgetting_hall.specs.Telling.{HasTold};
 ghost use Rattle.recovery.specs.Opened.{EndsAll};
 ghost use Rattle.beanpax.specs.Faults.{IsOfLog};
@@ -57,6 +57,7 @@ fn obey<R: Host, E: ByteOut, O: Object>(
 ) -> Result<Recovered<O>, ProgramFault>
     ensures told { IfOk result (λ r. HasTold O.rules r.hall (commands.now ++ r.closes.items)) }
     ensures ends { IfOk result (λ r. EndsAll commands.now r.closes.items) }
+    ensures gathered { IfOk result (λ r. r.hall.gathering.commands ≡ []) }
     ensures fault { IfErr result IsOfLog }
     ensures more { TellsMore E.ByteOut errors.old errors.new }
 {

@@ -88,6 +88,7 @@ impl<O: Object> Recovery<O> {
             → HasTold O.rules r.hall (before ++ r.closes.items)) }
         ensures closes { IfOk result (λ r. (before : List (Command O.Op)) → HasObeyed O.rules self before
             → EndsAll before r.closes.items) }
+        ensures gathered { IfOk result (λ r. r.hall.gathering.commands ≡ []) }
     {
         let Recovery { mut hall, live, .. } = self;
         for session in &live {
@@ -147,8 +148,9 @@ fn begun<O: Object>(alloc: Global, members: Members) -> Result<ForgettingHall<O>
 
 // What takes effect as the nodes take their turns, until none has anything to do.
 fn placed<O: Object>(hall: &mut ForgettingHall<O>) -> Result<Vec<Command<O::Op>>, RecoverFault>
-    ensures { IfOk result (λ placed. (before : List (Command O.Op)) → HasTold O.rules hall.old before
+    ensures told { IfOk result (λ placed. (before : List (Command O.Op)) → HasTold O.rules hall.old before
         → HasTold O.rules hall.new (before ++ placed.items)) }
+    ensures none { OnOk result (hall.new.gathering.commands ≡ []) }
 {
     tells_in_order::<O>();
     steps::settle_all(hall)?;

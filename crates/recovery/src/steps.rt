@@ -70,7 +70,8 @@ pub(crate) fn close<O: Object>(
 
 /// The sessions that these commands end are let go of, and slots that every node has performed are forgotten.
 pub(crate) fn forget<O: Object>(hall: &mut ForgettingHall<O>, commands: &[Command<O::Op>])
-    ensures { TellsOn O.rules hall.old hall.new }
+    ensures told { TellsOn O.rules hall.old hall.new }
+    ensures gathering { hall.new.gathering ≡ hall.old.gathering }
 {
     for command in commands {
         if matches!(command.act(), Act::Close) {
@@ -84,7 +85,8 @@ pub(crate) fn forget<O: Object>(hall: &mut ForgettingHall<O>, commands: &[Comman
 
 // A session is let go of.
 fn let_go<O: Object>(hall: &mut ForgettingHall<O>, session: u32)
-    ensures { TellsOn O.rules hall.old hall.new }
+    ensures told { TellsOn O.rules hall.old hall.new }
+    ensures gathering { hall.new.gathering ≡ hall.old.gathering }
 {
     tells_in_order::<O>();
     if session != 0 {
@@ -94,7 +96,8 @@ fn let_go<O: Object>(hall: &mut ForgettingHall<O>, session: u32)
 
 // Slots are forgotten.
 fn drop_slots<O: Object>(hall: &mut ForgettingHall<O>)
-    ensures { TellsOn O.rules hall.old hall.new }
+    ensures told { TellsOn O.rules hall.old hall.new }
+    ensures gathering { hall.new.gathering ≡ hall.old.gathering }
 {
     tells_in_order::<O>();
     hall.forget();

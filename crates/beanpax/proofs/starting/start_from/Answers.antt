@@ -9,6 +9,8 @@ returns-clause-started g c = record {
   closes = c.in_ok-hall.field-0.closes.items;
   ends = subst (λ cs. EndsAll cs c.in_ok-hall.field-0.closes.items) c.deref.ensures.value c.in_ok-hall.ensures.ends;
   told = told_same c.in_ok-hall.field-0.closes.items c.deref.ensures.value c.in_ok-hall.ensures.told;
+  gathered = c.in_ok-hall.ensures.gathered;
+  waiting = c.in_ok-keep.ensures.kept.0;
   log = λ members holds. c.in_ok-keep.ensures.log members (c.args.opened.commands.items ++ c.in_ok-hall.field-0.closes.items)
       (c.put.ensures.log members c.args.opened.commands.items
       (subst (λ j. HoldsAll g.W.Write.contents j members c.args.opened.commands.items) (sym c.new-journal.ensures)

@@ -8,7 +8,7 @@ loop-session-preserved g c = λ told has. c.close.ensures told (c.loop-session.i
 
 pub returns-clause-told : goal.returns-clause-told
 returns-clause-told g c = λ before has.
-    c.forget.ensures (before ++ c.in_ok-closes.closes.items) (c.in_ok-closes.ensures before (c.loop-session.invariant before has.told))
+    c.forget.ensures.told (before ++ c.in_ok-closes.closes.items) (c.in_ok-closes.ensures.told before (c.loop-session.invariant before has.told))
 
 pub returns-clause-closes : goal.returns-clause-closes
 returns-clause-closes g c = λ before has.
