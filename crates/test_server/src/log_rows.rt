@@ -1,35 +1,9 @@
-//! Servers that start from the log of the one before.
+//! Servers that start from a log.
 use crate::client::Client;
-use crate::started::{Ended, free_port, start, words};
+use crate::started::{free_port, start, words};
 use beanpax::{Host, no_sockets};
 use std::test::Fail;
 use std::{fs, thread};
-
-/// What a server did while one client was there, who was told what it expects or not.
-#[derive(Drop)]
-struct Served {
-    ended: Ended,
-    is_told: bool,
-}
-
-/// A server with the log of this name, for one client, who sends each request once the reply to the one before is there.
-fn serve<H: Host>(rt: &H, name: u16, more: &str, talk: &[(&[u8], &[u8])]) -> Result<Served, Fail> {
-    let port = free_port(rt)?;
-    let line = format!(in rt.alloc(); "serve --sessions 1 --port {port} --log {name}.log {more}")?;
-    let words = words(rt.alloc(), line.as_str())?;
-    let (ended, is_told) = thread::join(
-        rt,
-        || {
-            let _sockets = no_sockets();
-            start(rt, words.as_slice())
-        },
-        || {
-            let _sockets = no_sockets();
-            is_told_all(rt, port, talk)
-        },
-    );
-    Ok(Served { ended, is_told })
-}
 
 /// Whether a client is told each of these replies.
 fn is_told_all<H: Host>(rt: &H, port: u16, talk: &[(&[u8], &[u8])]) -> bool {
@@ -44,7 +18,7 @@ fn is_told_all<H: Host>(rt: &H, port: u16, talk: &[(&[u8], &[u8])]) -> bool {
     true
 }
 
-/// The first client puts two jobs and a delayed one, has one and deletes one.
+/// The first client puts four jobs, one of which is delayed, has one and deletes one.
 const BEFORE: &[(&[u8], &[u8])] = &[
     (b"put 5 0 60 1\r\na\r\n", b"INSERTED 1\r\n"),
     (b"put 5 0 60 1\r\nb\r\n", b"INSERTED 2\r\n"),
@@ -65,45 +39,81 @@ const AFTER: &[(&[u8], &[u8])] = &[
     (b"put 0 0 60 1\r\nf\r\n", b"INSERTED 5\r\n"),
 ];
 
-/// And the third one what the second left.
-const AT_LAST: &[(&[u8], &[u8])] = &[
-    (b"reserve-with-timeout 0\r\n", b"RESERVED 5 1\r\nf\r\n"),
-    (b"reserve-with-timeout 0\r\n", b"RESERVED 4 2\r\nde\r\n"),
-    (b"reserve-with-timeout 0\r\n", b"TIMED_OUT\r\n"),
-];
-
 #[test]
 fn jobs_outlive_a_server(rt: HostRuntime) -> Result<(), Fail> {
     let _sockets = no_sockets();
-    let name = free_port(&rt)?;
-    let before = serve(&rt, name, "--nodes 3", BEFORE)?;
-    let after = serve(&rt, name, "--nodes 1 --workers 1", AFTER)?;
-    let last = serve(&rt, name, "--nodes 5 --sync 20", AT_LAST)?;
-    fs::remove_file(&rt, format!(in rt.alloc(); "{name}.log")?.as_str())?;
-    assert!(rt; before.is_told && after.is_told && last.is_told);
-    assert_eq!(rt; before.ended.status, 0);
-    assert_eq!(rt; after.ended.status, 0);
-    assert_eq!(rt; last.ended.status, 0);
-    assert!(rt; last.ended.errors.bytes().is_empty());
+    let (port, next) = (free_port(&rt)?, free_port(&rt)?);
+    let line = format!(in rt.alloc(); "serve --sessions 1 --port {port} --log {port}.log")?;
+    let first = words(rt.alloc(), line.as_str())?;
+    let line = format!(in rt.alloc();
+        "serve --sessions 1 --port {next} --log {port}.log --nodes 1 --sync 20"
+    )?;
+    let second = words(rt.alloc(), line.as_str())?;
+    let (before, told_before) = thread::join(
+        &rt,
+        || {
+            let _sockets = no_sockets();
+            start(&rt, first.as_slice())
+        },
+        || {
+            let _sockets = no_sockets();
+            is_told_all(&rt, port, BEFORE)
+        },
+    );
+    let (after, told_after) = thread::join(
+        &rt,
+        || {
+            let _sockets = no_sockets();
+            start(&rt, second.as_slice())
+        },
+        || {
+            let _sockets = no_sockets();
+            is_told_all(&rt, next, AFTER)
+        },
+    );
+    fs::remove_file(&rt, format!(in rt.alloc(); "{port}.log")?.as_str())?;
+    assert!(rt; told_before && told_after);
+    assert_eq!(rt; before.status, 0);
+    assert_eq!(rt; after.status, 0);
+    assert!(rt; after.errors.bytes().is_empty());
     Ok(())
 }
 
-// What stands behind the log when a server is killed as it writes is cut off, and told.
+/// After seven seconds session 1 put two jobs, and session 2 deleted the first; then a server was killed as it wrote.
+const TORN: &[u8] =
+    b"beanpax-log 1 1 1 1\n0 7 tick 7789f496\n1 1 put 5 0 60 61 6651e97c\n1 2 put 9 0 60 6465 d47036fa\n2 1 delete 1 dfc79c41\n1 3 put 0 0 6";
+
+/// One client finds the other job.
+const LEFT: &[(&[u8], &[u8])] = &[
+    (b"peek 1\r\n", b"NOT_FOUND\r\n"),
+    (b"reserve-with-timeout 0\r\n", b"RESERVED 2 2\r\nde\r\n"),
+    (b"put 0 0 60 1\r\nf\r\n", b"INSERTED 3\r\n"),
+];
+
 #[test]
 fn what_was_torn_is_cut_off(rt: HostRuntime) -> Result<(), Fail> {
     let _sockets = no_sockets();
-    let name = free_port(&rt)?;
-    let file = format!(in rt.alloc(); "{name}.log")?;
-    let before = serve(&rt, name, "--nodes 1", BEFORE)?;
-    let mut text = fs::read(&rt, file.as_str())?;
-    text.extend_from_slice(b"1 7 put 0 0 60 78")?;
-    fs::write(&rt, file.as_str(), text.as_slice())?;
-    let after = serve(&rt, name, "--nodes 1", AFTER)?;
+    let port = free_port(&rt)?;
+    let file = format!(in rt.alloc(); "{port}.log")?;
+    fs::write(&rt, file.as_str(), TORN)?;
+    let line = format!(in rt.alloc(); "serve --sessions 1 --port {port} --log {port}.log")?;
+    let words = words(rt.alloc(), line.as_str())?;
+    let (ended, is_told) = thread::join(
+        &rt,
+        || {
+            let _sockets = no_sockets();
+            start(&rt, words.as_slice())
+        },
+        || {
+            let _sockets = no_sockets();
+            is_told_all(&rt, port, LEFT)
+        },
+    );
     fs::remove_file(&rt, file.as_str())?;
-    assert!(rt; before.is_told && after.is_told);
-    assert_eq!(rt; after.ended.status, 0);
+    assert!(rt; is_told);
+    assert_eq!(rt; ended.status, 0);
     assert!(rt;
-        after.ended.errors.bytes() == b"beanpax: 17 bytes behind the log were cut off\n".as_slice()
+        ended.errors.bytes() == b"beanpax: 13 bytes behind the log were cut off\n".as_slice()
     );
     Ok(())
 }
