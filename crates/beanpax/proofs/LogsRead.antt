@@ -4,10 +4,10 @@ use Rattle.object.specs.declared.command.Command.{Command}
 use Rattle.bean_queue.specs.declared.op.Op.{Op}
 use Rattle.command_log.specs.declared.whole.Whole.{Whole}
 use Rattle.command_log.specs.Reading.{IsWholeLog}
-use Rattle.beanpax.specs.Verdicts.{HoldsLog}
+use Rattle.beanpax.specs.Verdicts.{CountsLog}
 
 pub holds_log : (text : List ℕ) (whole : Whole) (commands : List (Command Op)) (behind : ℕ) → IsWholeLog text whole commands
-    → behind ≡ length text - whole.bytes → HoldsLog text (length commands) behind
+    → behind ≡ length text - whole.bytes → CountsLog text (length commands) behind
 holds_log text whole commands behind h is =
     let bytes = h.log.bytes in
     let begins = ap length h.begins in

@@ -21,7 +21,7 @@ use Rattle.command_log.specs.Lines.{IsLogLine}
 use Rattle.command_log.specs.Reading.{HasRightLine, IsDamagedAt, IsLineStart, IsWholeLog}
 use Rattle.command_log.specs.Text.{log_text}
 use Rattle.log_file.specs.Logs.{BeginsWithLog, IsBehind}
-use Rattle.beanpax.specs.Verdicts.{BeginsAsLog, HoldsLog, IsDamagedLog, IsDumpVerdict, IsLogVerdict, IsVerdict, IsVerdictOn, IsVerdictOnDump}
+use Rattle.beanpax.specs.Verdicts.{BeginsAsLog, CountsLog, IsDamagedLog, IsDumpVerdict, IsLogVerdict, IsVerdict, IsVerdictOn, IsVerdictOnDump}
 use Rattle.beanpax.specs.declared.verdict.Verdict.{Verdict}
 use Rattle.beanpax.specs.declared.verdict.Verdict.TheVariants.{Legal, BadLine, At, Log, LogDamaged}
 
@@ -93,7 +93,7 @@ module _
     not_begun : (text : List ℕ) (n a : ℕ) → BeginsAsLog text n a → IsLogFault text Unbegun → ⊥
     not_begun text n a is h = behind text is.whole.members is.commands Unbegun (in_front text is.whole is.commands is.log) h
 
-    one_held : (text : List ℕ) (n m a b : ℕ) → HoldsLog text n a → HoldsLog text m b → (n ≡ m) × (a ≡ b)
+    one_held : (text : List ℕ) (n m a b : ℕ) → CountsLog text n a → CountsLog text m b → (n ≡ m) × (a ≡ b)
     one_held text n m a b (inl is) (inl other) = one_begun text n m a b is other
     one_held text n m a b (inl is) (inr (unbegun, none, all)) = absurd (not_begun text n a is unbegun)
     one_held text n m a b (inr (unbegun, none, all)) (inl other) = absurd (not_begun text m b other unbegun)
@@ -110,7 +110,7 @@ module _
     one_damage text n m (inr (bad, line)) (inl other) = absurd (behind text other.weights other.commands BadHead (before_damage m text other) bad)
     one_damage text n m (inr (bad, line)) (inr (again, same)) = line ∙ sym same
 
-    not_held : (text : List ℕ) (n a m : ℕ) → HoldsLog text n a → IsDamagedLog text m → ⊥
+    not_held : (text : List ℕ) (n a m : ℕ) → CountsLog text n a → IsDamagedLog text m → ⊥
     not_held text n a m (inl is) (inl damaged) = no_damage text is.whole is.commands m is.log damaged
     not_held text n a m (inl is) (inr (bad, line)) = behind text is.whole.members is.commands BadHead (in_front text is.whole is.commands is.log) bad
     not_held text n a m (inr (unbegun, none, all)) (inl damaged) =

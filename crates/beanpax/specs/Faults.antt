@@ -39,12 +39,9 @@ of_server server.SyncFailed = ListenFailed
 
 -- and of one that has a log
 abbrev pub of_logged : ServeFault → ProgramFault
-of_logged server.OutOfMemory = OutOfMemory
-of_logged server.BadNumber = BadNumber
-of_logged server.ListenFailed = ListenFailed
-of_logged server.ThreadFailed = ThreadFailed
 of_logged server.WriteFailed = WriteFailed
 of_logged server.SyncFailed = FileFailed
+of_logged fault = of_server fault
 
 -- a file could not be read or written: for want of memory, or not
 pub record IsOfFile (kind : ErrorKind) (fault : ProgramFault) : Type 0 where
@@ -58,11 +55,11 @@ of_log log.BadHead = LogDamaged 1
 of_log (log.Damaged line) = LogDamaged line
 
 -- why a log isn't read
-abbrev pub IsOfReading : ReadFault → ProgramFault → Type 0
-IsOfReading reading.OutOfMemory fault = fault ≡ OutOfMemory
-IsOfReading (reading.ReadFailed e) fault = IsOfFile (error_kind e) fault
-IsOfReading reading.TooLong fault = fault ≡ FileFailed
-IsOfReading (reading.NoLog found) fault = fault ≡ of_log found
+abbrev pub IsOfUnread : ReadFault → ProgramFault → Type 0
+IsOfUnread reading.OutOfMemory fault = fault ≡ OutOfMemory
+IsOfUnread (reading.ReadFailed e) fault = IsOfFile (error_kind e) fault
+IsOfUnread reading.TooLong fault = fault ≡ FileFailed
+IsOfUnread (reading.NoLog found) fault = fault ≡ of_log found
 
 -- why the head of a new log isn't kept
 abbrev pub of_keeping : KeepFault → ProgramFault
@@ -75,7 +72,7 @@ abbrev pub IsOfOpening : OpenFault → ProgramFault → Type 0
 IsOfOpening opening.OutOfMemory fault = fault ≡ OutOfMemory
 IsOfOpening opening.Locked fault = fault ≡ FileFailed
 IsOfOpening (opening.FileFailed e) fault = IsOfFile (error_kind e) fault
-IsOfOpening (opening.Unread unread) fault = IsOfReading unread fault
+IsOfOpening (opening.Unread unread) fault = IsOfUnread unread fault
 IsOfOpening (opening.Unkept unkept) fault = fault ≡ of_keeping unkept
 
 -- what can go wrong while a line is written to the output

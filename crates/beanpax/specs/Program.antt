@@ -118,10 +118,10 @@ pub record TellsCut {E : Type 0} (writes : ByteOut E) (old new : E) (bytes : ℕ
   pub some : 0 < bytes → WritesText (writes.contents old) (writes.contents new) (writes.has_failed new) (cut_line bytes)
 
 -- nothing was told, or some text
-abbrev pub TellsMore : {E : Type 0} → ByteOut E → E → E → Type 0
-TellsMore writes old new = (new ≡ old) ⊎ ((text : List ℕ) × Appends (writes.contents old) (writes.contents new) text)
+abbrev pub WritesMore : {E : Type 0} → ByteOut E → E → E → Type 0
+WritesMore writes old new = (new ≡ old) ⊎ ((text : List ℕ) × Appends (writes.contents old) (writes.contents new) text)
 
 -- and where no log is asked for, nothing was told
 pub record TellsOfLog {E : Type 0} (has_log : Type 0) (writes : ByteOut E) (old new : E) : Type 0 where
-  pub more : TellsMore writes old new
+  pub more : WritesMore writes old new
   pub silent : (has_log → ⊥) → new ≡ old

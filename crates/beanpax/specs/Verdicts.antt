@@ -50,8 +50,8 @@ pub record BeginsAsLog (text : List ℕ) (count behind : ℕ) : Type 0 where
   pub left : whole.bytes + behind ≡ length text
 
 -- or it ends within its head, so that all of it is behind a log that has nothing
-abbrev pub HoldsLog : List ℕ → ℕ → ℕ → Type 0
-HoldsLog text count behind = BeginsAsLog text count behind ⊎ (IsLogFault text log.Unbegun × (count ≡ 0) × (behind ≡ length text))
+abbrev pub CountsLog : List ℕ → ℕ → ℕ → Type 0
+CountsLog text count behind = BeginsAsLog text count behind ⊎ (IsLogFault text log.Unbegun × (count ≡ 0) × (behind ≡ length text))
 
 -- its first wrong line, behind which stands a right one; or the first line, where that is no head
 abbrev pub IsDamagedLog : List ℕ → ℕ → Type 0
@@ -59,7 +59,7 @@ IsDamagedLog text n = IsLogFault text (log.Damaged n) ⊎ (IsLogFault text log.B
 
 -- the verdict on a text as a log
 abbrev pub IsLogVerdict : List ℕ → Verdict → Type 0
-IsLogVerdict text (Log commands behind) = HoldsLog text commands behind
+IsLogVerdict text (Log commands behind) = CountsLog text commands behind
 IsLogVerdict text (LogDamaged n) = IsDamagedLog text n
 IsLogVerdict text (BadLine n) = ⊥
 IsLogVerdict text (Legal submitted answered ordered) = ⊥

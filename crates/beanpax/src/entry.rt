@@ -6,7 +6,7 @@ ghost use Rattle.session.specs.Streams.{AppendsBeginning};
 ghost use Rattle.beanpax.specs.declared.words.ServerOptions.{ServerOptions};
 ghost use Rattle.beanpax.specs.Faults.{fault_line_text};
 ghost use Rattle.beanpax.specs.Program.{EndsWith, HasListened, IsCaused, AnswersToSomeEnd, IsRunFault, TellsSome, WritesSome, WritesText};
-ghost use Rattle.beanpax.specs.Program.{BeginsToTell, IsWholeRun, TellsMore, TellsOfLog};
+ghost use Rattle.beanpax.specs.Program.{BeginsToTell, IsWholeRun, WritesMore, TellsOfLog};
 ghost use Rattle.beanpax.specs.Runs.{TellsBeginning};
 ghost use Rattle.beanpax.specs.declared.verdict.Verdict.{Verdict};
 ghost use Rattle.beanpax.specs.Verdicts.{is_legal};
@@ -77,7 +77,7 @@ pub fn program<H: Host, R: ByteIn, W: ByteOut, E: ByteOut>(
         × (input.new ≡ input.old) × (errors.new ≡ errors.old) }
     ensures silent { result ≡ DONE → (AskForLog (map string_bytes words.now) → ⊥)
         → errors.new ≡ errors.old }
-    ensures more { result ≡ DONE → TellsMore E.ByteOut errors.old errors.new }
+    ensures more { result ≡ DONE → WritesMore E.ByteOut errors.old errors.new }
     ensures fault { result ≡ FAULT → (fault : ProgramFault) × (before : E)
         × IsCaused (map string_bytes words.now) fault
         (R.has_failed input.new) (W.has_failed output.new)

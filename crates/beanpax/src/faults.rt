@@ -1,7 +1,7 @@
 ghost use Rattle.std.specs.Prelude.{◌≡◌};
 ghost use Rattle.std_io.specs.IoError.{error_kind};
 ghost use Rattle.beanpax.specs.declared.faults.ProgramFault.TheVariants.{OutOfMemory};
-ghost use Rattle.beanpax.specs.Faults.{IsOfFile, IsOfLog, IsOfOpening, IsOfReading};
+ghost use Rattle.beanpax.specs.Faults.{IsOfFile, IsOfLog, IsOfOpening, IsOfUnread};
 ghost use Rattle.beanpax.specs.Faults.{number_of_fault, of_keeping, of_log, of_logged, of_server, of_session};
 
 use command_log::LogFault;
@@ -128,7 +128,7 @@ pub(crate) fn fault_of_logged(fault: ServeFault) -> ProgramFault
 
 // Why a log isn't read.
 fn fault_of_reading(fault: ReadFault) -> ProgramFault
-    ensures { IsOfReading fault result }
+    ensures { IsOfUnread fault result }
 {
     match fault {
         ReadFault::OutOfMemory => ProgramFault::OutOfMemory,

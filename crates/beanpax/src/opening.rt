@@ -5,7 +5,7 @@ ghost use Rattle.session.specs.Streams.{AppendsBeginning};
 ghost use Rattle.log_file.specs.States.{IsIdle};
 ghost use Rattle.beanpax.specs.declared.faults.ProgramFault.TheVariants.{ListenFailed, WriteFailed};
 ghost use Rattle.beanpax.specs.Faults.{IsOfLog, IsOfOutput};
-ghost use Rattle.beanpax.specs.Program.{IsServingFault, TellsCut, TellsMore, TellsOfLog};
+ghost use Rattle.beanpax.specs.Program.{IsServingFault, TellsCut, WritesMore, TellsOfLog};
 ghost use Rattle.beanpax.specs.Servers.{TellsPort, listening_line};
 
 use crate::faults::ProgramFault;
@@ -60,7 +60,7 @@ fn start<R: Host, E: ByteOut>(
     errors: &mut E,
 ) -> Result<Started<File>, ProgramFault>
     ensures fault { IfErr result IsOfLog }
-    ensures more { TellsMore E.ByteOut errors.old errors.new }
+    ensures more { WritesMore E.ByteOut errors.old errors.new }
 {
     let opened = open_file(rt, file, members, errors)?;
     start_from(rt, members, opened, errors)

@@ -2,7 +2,7 @@ ghost use Rattle.std.specs.Prelude.{◌≡◌, ◌++◌, ◌≤◌, ℕ, List, [
 ghost use Rattle.forgetting_hall.specs.Telling.{HasTold};
 ghost use Rattle.recovery.specs.Opened.{EndsAll};
 ghost use Rattle.beanpax.specs.Faults.{IsOfLog};
-ghost use Rattle.beanpax.specs.Program.{TellsMore};
+ghost use Rattle.beanpax.specs.Program.{WritesMore};
 ghost use Rattle.beanpax.specs.Starts.{IsStarted};
 
 use crate::faults::ProgramFault;
@@ -38,7 +38,7 @@ pub(crate) fn start_from<R: Host, E: ByteOut, W: Durable + Drop>(
 ) -> Result<Started<W>, ProgramFault>
     ensures started { IfOk result (IsStarted ⟦<Queue as Object>⟧.rules W.contents opened) }
     ensures fault { IfErr result IsOfLog }
-    ensures more { TellsMore E.ByteOut errors.old errors.new }
+    ensures more { WritesMore E.ByteOut errors.old errors.new }
 {
     let OpenedLog { log, commands, .. } = opened;
     let Recovered { hall, closes } = obey(rt, members, &commands, errors)?;
@@ -59,7 +59,7 @@ fn obey<R: Host, E: ByteOut, O: Object>(
     ensures ends { IfOk result (λ r. EndsAll commands.now r.closes.items) }
     ensures gathered { IfOk result (λ r. r.hall.gathering.commands ≡ []) }
     ensures fault { IfErr result IsOfLog }
-    ensures more { TellsMore E.ByteOut errors.old errors.new }
+    ensures more { WritesMore E.ByteOut errors.old errors.new }
 {
     let mut recovery = Recovery::begin(rt.alloc(), members, commands)?;
     let mut since = Instant::now(rt).ok();
@@ -76,7 +76,7 @@ fn obey<R: Host, E: ByteOut, O: Object>(
 
 // Tells how far it is.
 fn tell_obeyed<E: ByteOut>(count: usize, errors: &mut E)
-    ensures { TellsMore E.ByteOut errors.old errors.new }
+    ensures { WritesMore E.ByteOut errors.old errors.new }
 {
     let rest = " commands of the log are obeyed\n";
     tell_number("beanpax: ", count as u64, rest, errors);

@@ -1,10 +1,12 @@
 -- What happened: what was submitted, what was answered, and which commands took effect.
-use Rattle.std.specs.Prelude.{◌≡◌, true, false, if◌then◌else◌, List, [], ◌∷◌, ◌++◌, ◌-◌, length, take}
+use Rattle.std.specs.Prelude.{◌≡◌, true, false, if◌then◌else◌, ℕ, List, [], ◌∷◌, ◌++◌, ◌-◌, length, take, drop, Option, option_map}
+use Rattle.std.specs.List.{filter_map}
 use Rattle.object.specs.Lists.{In}
-use Rattle.object.specs.Keys.{stands, KeysOnce}
+use Rattle.object.specs.Keys.{stands, found, KeysOnce}
 use Rattle.object.specs.Answers.{answered_key, AnswersOnce}
-use Rattle.object.specs.Happenings.{Happenings, IsTimeline, SubmittedOnce, is_submitted, nothing}
+use Rattle.object.specs.Happenings.{Happenings, IsTimeline, SubmittedOnce, is_submitted, nothing, submitted_key}
 use Rattle.object.specs.declared.command.Answer.{Answer}
+use Rattle.object.specs.declared.command.Command.{Command}
 use Rattle.object.specs.declared.command.Key.{Key}
 use Rattle.object.specs.declared.command.Submission.{Submission}
 use Rattle.recorder.specs.Firsts.{firsts}
@@ -34,6 +36,14 @@ with_first_answers given r =
 -- the command of the key takes effect, unless it did
 abbrev pub with_place : {Op Reply : Type 0} → Key → Record Op Reply → Record Op Reply
 with_place key r = if stands own_key key r.order then r else record r { order = r.order ++ key ∷ [] }
+
+-- the command that was submitted under the key
+abbrev pub command_of : {Op : Type 0} → List (Submission Op) → Key → Option (Command Op)
+command_of submitted key = option_map (λ s. s.command) (found submitted_key key submitted)
+
+-- the commands that took effect, in their order, but for so many of the first ones
+abbrev pub placed_from : {Op Reply : Type 0} → ℕ → Record Op Reply → List (Command Op)
+placed_from count r = filter_map (command_of r.happenings.submitted) (drop count r.order)
 
 -- the last submission is taken back
 abbrev pub without_last_submission : {Op Reply : Type 0} → Record Op Reply → Record Op Reply

@@ -1,11 +1,12 @@
 ghost use Rattle.std.specs.Prelude.{◌≡◌, List, [], ◌∷◌, true, false, None, Some, if◌then◌else◌, not, option_map, IsOk, IfOk, OnOk, OnErr};
+ghost use Rattle.std.specs.List.{filter_map};
 ghost use Rattle.std.specs.Option.{option_copied};
 ghost use Rattle.object.specs.Lists.{In};
 ghost use Rattle.object.specs.Keys.{stands, found};
 ghost use Rattle.object.specs.Answers.{answered_key};
 ghost use Rattle.object.specs.Happenings.{submitted_key, is_submitted, with_submission};
 ghost use Rattle.object.specs.declared.command.Answer.{Answer};
-ghost use Rattle.recorder.specs.Records.{IsRecord, EndsOpen, blank, own_key, with_first_answers, with_place, without_last_submission};
+ghost use Rattle.recorder.specs.Records.{IsRecord, EndsOpen, blank, command_of, own_key, placed_from, with_first_answers, with_place, without_last_submission};
 ghost use Rattle.recorder.specs.Fates.{fate_at};
 
 use crate::fate::Fate;
@@ -212,6 +213,14 @@ impl<Op: Value, Reply: Value> Recorder<Op, Reply> {
         self.order.as_slice()
     }
 
+    /// The commands that took effect, in their order, but for so many of the first ones. It fails for want of memory alone.
+    pub fn placed_from(&self, count: usize) -> Result<Vec<Command<Op>>, AllocError>
+        ensures { IfOk result (λ commands. commands.items ≡ placed_from count self.now) }
+    {
+        let keys = self.order.get(count..).unwrap_or(&[]);
+        commands_of(self.alloc, &self.submitted, keys)
+    }
+
     /// The three lists once more. It fails for want of memory alone.
     pub fn copies(&self) -> Result<(Vec<Submission<Op>>, Vec<Answer<Reply>>, Vec<Key>), AllocError>
         ensures submitted { IfOk result (λ copies. copies.0.items ≡ self.now.happenings.submitted) }
@@ -224,4 +233,22 @@ impl<Op: Value, Reply: Value> Recorder<Op, Reply> {
         let order = copies_of(self.alloc, self.order.as_slice())?;
         Ok((submitted, answers, order))
     }
+}
+
+// The commands that were submitted under these keys.
+fn commands_of<Op: Value>(
+    alloc: Global,
+    submitted: &KeyedList<Submission<Op>>,
+    keys: &[Key],
+) -> Result<Vec<Command<Op>>, AllocError>
+    ensures { IfOk result (λ commands. commands.items
+        ≡ filter_map (command_of submitted.now) keys.now) }
+{
+    let mut commands = Vec::new(alloc);
+    for key in keys {
+        if let Some(submission) = submitted.get(*key) {
+            commands.push(submission.command.copy()?)?;
+        }
+    }
+    Ok(commands)
 }

@@ -1,7 +1,7 @@
 ghost use Rattle.std.specs.Prelude.{◌≡◌, ◌≤◌, ◌<◌, ◌++◌, ℕ, List, [], length, take, IfOk, OnOk, IsTrue};
 ghost use Rattle.object.specs.declared.command.Command.{Command};
 ghost use Rattle.forgetting_hall.specs.Telling.{HasTold};
-ghost use Rattle.recovery.specs.Obeyed.{HasObeyed};
+ghost use Rattle.recovery.specs.Obeyed.{HasReplayed};
 ghost use Rattle.recovery.specs.Opened.{EndsAll};
 
 use crate::fault::RecoverFault;
@@ -58,7 +58,7 @@ impl<O: Object> Recovery<O> {
         members: Members,
         commands: &[Command<O::Op>],
     ) -> Result<Recovery<O>, RecoverFault>
-        ensures { IfOk result (λ r. HasObeyed O.rules r []) }
+        ensures { IfOk result (λ r. HasReplayed O.rules r []) }
     {
         Ok(Recovery {
             hall: begun(alloc, members)?,
@@ -72,8 +72,8 @@ impl<O: Object> Recovery<O> {
     /// Obeys some first ones of these commands, which come next in the log, and tells how many: none where there are none,
     /// and 64 at most.
     pub fn obey_some(&mut self, commands: &[Command<O::Op>]) -> Result<usize, RecoverFault>
-        ensures obeyed { IfOk result (λ count. (before : List (Command O.Op)) → HasObeyed O.rules self.old before
-            → HasObeyed O.rules self.new (before ++ take count commands.now)) }
+        ensures obeyed { IfOk result (λ count. (before : List (Command O.Op)) → HasReplayed O.rules self.old before
+            → HasReplayed O.rules self.new (before ++ take count commands.now)) }
         ensures few { IfOk result (λ count. count ≤ length commands.now) }
         ensures some { IfOk result (λ count. 0 < length commands.now → 0 < count) }
     {
@@ -84,9 +84,9 @@ impl<O: Object> Recovery<O> {
 
     /// Ends each session that is open.
     pub fn finish(self) -> Result<Recovered<O>, RecoverFault>
-        ensures told { IfOk result (λ r. (before : List (Command O.Op)) → HasObeyed O.rules self before
+        ensures told { IfOk result (λ r. (before : List (Command O.Op)) → HasReplayed O.rules self before
             → HasTold O.rules r.hall (before ++ r.closes.items)) }
-        ensures closes { IfOk result (λ r. (before : List (Command O.Op)) → HasObeyed O.rules self before
+        ensures closes { IfOk result (λ r. (before : List (Command O.Op)) → HasReplayed O.rules self before
             → EndsAll before r.closes.items) }
         ensures gathered { IfOk result (λ r. r.hall.gathering.commands ≡ []) }
     {
@@ -104,8 +104,8 @@ impl<O: Object> Recovery<O> {
 
     // Obeys these commands. What takes effect has to be just these.
     fn obey(&mut self, commands: &[Command<O::Op>]) -> Result<(), RecoverFault>
-        ensures { OnOk result ((before : List (Command O.Op)) → HasObeyed O.rules self.old before
-            → HasObeyed O.rules self.new (before ++ commands.now)) }
+        ensures { OnOk result ((before : List (Command O.Op)) → HasReplayed O.rules self.old before
+            → HasReplayed O.rules self.new (before ++ commands.now)) }
     {
         for command in commands {
             self.hand_in(command)?;

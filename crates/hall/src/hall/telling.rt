@@ -1,6 +1,7 @@
-ghost use Rattle.std.specs.Prelude.{◌≡◌, None, is_some, IsOk, IfOk, OnOk, OnErr};
+ghost use Rattle.std.specs.Prelude.{◌≡◌, None, is_some, length, IsOk, IfOk, OnOk, OnErr};
 ghost use Rattle.std.specs.Option.{option_copied};
 ghost use Rattle.object.specs.Happenings.{SubmittedOnce};
+ghost use Rattle.recorder.specs.Records.{placed_from};
 ghost use Rattle.hall.specs.Books.{IsBooked};
 ghost use Rattle.hall.specs.Explained.{IsExplained};
 ghost use Rattle.hall.specs.Halls.{reply_to, to_note, chronicle_of};
@@ -9,7 +10,7 @@ ghost use Rattle.hall.specs.Tickets.{last_key, with_noted};
 use super::Hall;
 use crate::laws::every_hall;
 use crate::ticket::Ticket;
-use object::{Object, Value};
+use object::{Command, Object, Value};
 use recorder::Chronicle;
 use std::alloc::AllocError;
 
@@ -41,6 +42,20 @@ impl<O: Object> Hall<O> {
         };
         ticket.note(reply.copy()?);
         Ok(true)
+    }
+
+    /// How many commands took effect.
+    pub fn placed_count(&self) -> u64
+        ensures { result ≡ length self.now.nodes.past.order }
+    {
+        self.nodes.recorder.order().len() as u64
+    }
+
+    /// The commands that took effect, in the one order, but for so many of the first ones.
+    pub fn placed_from(&self, count: u64) -> Result<Vec<Command<O::Op>>, AllocError>
+        ensures { IfOk result (λ commands. commands.items ≡ placed_from count self.now.nodes.past) }
+    {
+        self.nodes.recorder.placed_from(count as usize)
     }
 
     /// What happened, as a chronicle: what was submitted and answered so far, and the order of what took effect. That

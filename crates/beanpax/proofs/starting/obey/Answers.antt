@@ -1,7 +1,7 @@
 use Rattle.std.proofs.Common.{◌≤◌, ◌++◌, length, take, subst}
 use Rattle.std.proofs.lemmas.List.{take_all}
 use Rattle.forgetting_hall.specs.Telling.{HasTold}
-use Rattle.recovery.specs.Obeyed.{HasObeyed}
+use Rattle.recovery.specs.Obeyed.{HasReplayed}
 use Rattle.recovery.specs.Opened.{EndsAll}
 use Rattle.beanpax.proofs.Starts.{behind_is, more_told, still_inside, taken_more}
 use Rattle.beanpax.proofs.starting.obey.Goals as goal
@@ -13,8 +13,8 @@ loop-done-preserved-then-has_passed g c =
     let n = c.in_ok-done.field-0 in
     let so_far = c.loop-done.invariant in (
       still_inside cs a n so_far.0 (subst (λ s. n ≤ length s) (behind_is cs a) c.in_ok-done.ensures.few),
-      taken_more (HasObeyed g.O.Object.rules c.obey_some.new.self) cs a n
-          (subst (λ s. HasObeyed g.O.Object.rules c.obey_some.new.self (take a cs ++ take n s)) (behind_is cs a)
+      taken_more (HasReplayed g.O.Object.rules c.obey_some.new.self) cs a n
+          (subst (λ s. HasReplayed g.O.Object.rules c.obey_some.new.self (take a cs ++ take n s)) (behind_is cs a)
           (c.in_ok-done.ensures.obeyed (take a cs) so_far.1)),
       more_told g.E.ByteOut c.args.errors.now c.loop-done.errors c.tell_obeyed.new.errors so_far.2 c.tell_obeyed.ensures,
     )
@@ -26,8 +26,8 @@ loop-done-preserved g c =
     let n = c.in_ok-done.field-0 in
     let so_far = c.loop-done.invariant in (
       still_inside cs a n so_far.0 (subst (λ s. n ≤ length s) (behind_is cs a) c.in_ok-done.ensures.few),
-      taken_more (HasObeyed g.O.Object.rules c.obey_some.new.self) cs a n
-          (subst (λ s. HasObeyed g.O.Object.rules c.obey_some.new.self (take a cs ++ take n s)) (behind_is cs a)
+      taken_more (HasReplayed g.O.Object.rules c.obey_some.new.self) cs a n
+          (subst (λ s. HasReplayed g.O.Object.rules c.obey_some.new.self (take a cs ++ take n s)) (behind_is cs a)
           (c.in_ok-done.ensures.obeyed (take a cs) so_far.1)),
       so_far.2,
     )
