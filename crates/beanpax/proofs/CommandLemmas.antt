@@ -28,8 +28,8 @@ use Rattle.beanpax.specs.Hosts.{IsHostOf}
 use Rattle.beanpax.specs.Numbers.{IsNumberIfGiven, IsNumberOr}
 use Rattle.beanpax.specs.Weights.{AreMembersOf}
 use Rattle.beanpax.specs.declared.words.Action.{Action}
-use Rattle.beanpax.specs.declared.words.Action.TheVariants.{Run, Serve, Inspect, BadWeights, BadHost, DumpBesideLog, Help, Wrong}
-use Rattle.beanpax.specs.Words.{AskFor, AskForRun, IsAskedBy, IsRunOf, IsServeOf, IsServerOf, are_both, command_given, errors_in}
+use Rattle.beanpax.specs.declared.words.Action.TheVariants.{Run, Serve, Inspect, BadWeights, BadHost, Help, Wrong}
+use Rattle.beanpax.specs.Words.{AskFor, AskForRun, IsAskedBy, IsRunOf, IsServeOf, IsServerOf, command_given, errors_in}
 use Rattle.beanpax.specs.Words.{program_command, run_command, serve_command, inspect_command, text_given, word_given}
 use Rattle.beanpax.specs.declared.words.ServerOptions.{ServerOptions}
 use Rattle.beanpax.proofs.WordsLemmas.{is_simple-program_command}
@@ -260,9 +260,6 @@ members_same number other weights another members n w is =
     subst (λ (v : Option (List ℕ)). AreMembersOf other v members) w
     (subst (λ (m : Option (List ℕ)). AreMembersOf m weights members) n is)
 
-both_same : (one other first second : Option (List ℕ)) (b : Bool) → one ≡ other → first ≡ second → are_both one first ≡ b → are_both other second ≡ b
-both_same one other first second b o f is = sym (ap₂ are_both o f) ∙ is
-
 -- the options by one reading of the words are those by another that gives the same
 pub server_same : (text other word another : List ℕ → Option (List ℕ)) → ((id : List ℕ) → text id ≡ other id) → ((id : List ℕ) → word id ≡ another id)
     → (options : ServerOptions) → IsServerOf text word options → IsServerOf other another options
@@ -277,8 +274,6 @@ server_same text other word another texts words options is = record {
   sessions = subst (λ t. IsNumberIfGiven 1 1000000 t options.sessions) (texts (codes "sessions")) is.sessions;
   dump = is.dump ∙ words (codes "dump");
   log = is.log ∙ words (codes "log");
-  one_file = both_same (word (codes "dump")) (another (codes "dump")) (word (codes "log")) (another (codes "log")) false
-      (words (codes "dump")) (words (codes "log")) is.one_file;
   sync = subst (λ t. IsNumberOr 0 0 3600000 t options.sync) (texts (codes "sync")) is.sync;
 }
 
@@ -306,7 +301,6 @@ run_same text other word another texts words (Run options) is = (
 )
 run_same text other word another texts words BadWeights is = members_same _ _ _ _ None (texts (codes "nodes")) (words (codes "weights")) is
 run_same text other word another texts words BadHost is = absurd is
-run_same text other word another texts words DumpBesideLog is = absurd is
 run_same text other word another texts words (Serve options) is = absurd is
 run_same text other word another texts words (Inspect file) is = absurd is
 run_same text other word another texts words (Help told) is = absurd is
@@ -318,9 +312,6 @@ pub serve_same : (text other word another : List ℕ → Option (List ℕ)) → 
 serve_same text other word another texts words (Serve options) is = server_same text other word another texts words options is
 serve_same text other word another texts words BadWeights is = members_same _ _ _ _ None (texts (codes "nodes")) (words (codes "weights")) is
 serve_same text other word another texts words BadHost is = subst (λ w. IsHostOf w None) (words (codes "host")) is
-serve_same text other word another texts words DumpBesideLog is =
-    both_same (word (codes "dump")) (another (codes "dump")) (word (codes "log")) (another (codes "log")) true
-    (words (codes "dump")) (words (codes "log")) is
 serve_same text other word another texts words (Run options) is = absurd is
 serve_same text other word another texts words (Inspect file) is = absurd is
 serve_same text other word another texts words (Help told) is = absurd is
@@ -331,7 +322,6 @@ pub run_asked : (words : List Text) → AskForRun words → (asked : Action) →
 run_asked words run (Run options) is = (run, is)
 run_asked words run BadWeights is = (run.0, is)
 run_asked words run BadHost is = absurd is
-run_asked words run DumpBesideLog is = absurd is
 run_asked words run (Serve options) is = absurd is
 run_asked words run (Inspect file) is = absurd is
 run_asked words run (Help told) is = absurd is
@@ -343,7 +333,6 @@ pub serve_asked : (words : List Text) → AskFor (codes "serve") words → (aske
 serve_asked words serve (Serve options) is = (serve, is)
 serve_asked words serve BadWeights is = (serve.0, is)
 serve_asked words serve BadHost is = (serve, is)
-serve_asked words serve DumpBesideLog is = (serve, is)
 serve_asked words serve (Run options) is = absurd is
 serve_asked words serve (Inspect file) is = absurd is
 serve_asked words serve (Help told) is = absurd is

@@ -11,3 +11,4 @@ pub mod Servers
 pub mod Verdicts
 pub mod Program
 pub mod Starts
+pub mod Restorings

@@ -7,7 +7,7 @@ use Rattle.clap.specs.declared.builder.value_parser.ValueParser.TheVariants as p
 use Rattle.clap.specs.declared.error.kind.ErrorKind.{ErrorKind}
 use Rattle.clap.specs.declared.error.kind.ErrorKind.TheVariants.{DisplayHelp}
 use Rattle.beanpax.specs.declared.words.Action.{Action}
-use Rattle.beanpax.specs.declared.words.Action.TheVariants.{Run, Serve, Inspect, BadWeights, BadHost, DumpBesideLog, Help, Wrong}
+use Rattle.beanpax.specs.declared.words.Action.TheVariants.{Run, Serve, Inspect, BadWeights, BadHost, Help, Wrong}
 use Rattle.beanpax.specs.declared.words.ServerOptions.{ServerOptions}
 use Rattle.beanpax.specs.Hosts.{IsHostOf, IsLoopback}
 use Rattle.beanpax.specs.Numbers.{IsNumberOr, IsNumberIfGiven}
@@ -101,10 +101,6 @@ text_given words option = option_and_then (λ command. one_of option command.1) 
 unfoldable pub word_given : List (List ℕ) → List ℕ → Option (List ℕ)
 word_given words option = option_and_then (λ command. first_of option command.1) (subcommand_of program_command words)
 
--- both are given
-abbrev pub are_both : Option (List ℕ) → Option (List ℕ) → Bool
-are_both one other = is_some one && is_some other
-
 -- what a server is to do, by the texts of its options: those from which numbers are read, and those that are taken as they stand
 pub record IsServerOf (text word : List ℕ → Option (List ℕ)) (options : ServerOptions) : Type 0 where
   pub host : IsHostOf (word (codes "host")) (Some options.host)
@@ -116,7 +112,6 @@ pub record IsServerOf (text word : List ℕ → Option (List ℕ)) (options : Se
   pub sessions : IsNumberIfGiven 1 1000000 (text (codes "sessions")) options.sessions
   pub dump : option_map (λ file. file.now) options.dump ≡ word (codes "dump")
   pub log : option_map (λ file. file.now) options.log ≡ word (codes "log")
-  pub one_file : are_both (word (codes "dump")) (word (codes "log")) ≡ false
   pub sync : IsNumberOr 0 0 3600000 (text (codes "sync")) options.sync
 
 -- a run, by the texts of its options, unless the weights are bad
@@ -126,12 +121,11 @@ IsRunOf text word (Run options) =
 IsRunOf text word BadWeights = AreMembersOf (text (codes "nodes")) (word (codes "weights")) None
 IsRunOf text word _ = ⊥
 
--- a server, by the texts of its options, unless the weights or the address are bad, or a dump is asked for beside a log
+-- a server, by the texts of its options, unless the weights or the address are bad
 abbrev pub IsServeOf : (List ℕ → Option (List ℕ)) → (List ℕ → Option (List ℕ)) → Action → Type 0
 IsServeOf text word (Serve options) = IsServerOf text word options
 IsServeOf text word BadWeights = AreMembersOf (text (codes "nodes")) (word (codes "weights")) None
 IsServeOf text word BadHost = IsHostOf (word (codes "host")) None
-IsServeOf text word DumpBesideLog = are_both (word (codes "dump")) (word (codes "log")) ≡ true
 IsServeOf text word _ = ⊥
 
 -- nothing is wrong with the words, and they name this command
@@ -186,10 +180,6 @@ HaveBadWeights words = (errors_in words ≡ []) × AreMembersOf (text_given word
 abbrev pub HaveBadHost : List (List ℕ) → Type 0
 HaveBadHost words = AskFor (codes "serve") words × IsHostOf (word_given words (codes "host")) None
 
--- they ask for a server, and nothing is wrong with them but that they name a file for a dump beside one for a log
-abbrev pub HaveDumpBesideLog : List (List ℕ) → Type 0
-HaveDumpBesideLog words = AskFor (codes "serve") words × (are_both (word_given words (codes "dump")) (word_given words (codes "log")) ≡ true)
-
 -- this is what the words ask for; the help, and what is wrong with them, is some text
 abbrev pub IsAskedBy : List (List ℕ) → Action → Type 0
 IsAskedBy words (Run options) = AskForRun words × IsRunOf (text_given words) (word_given words) (Run options)
@@ -197,6 +187,5 @@ IsAskedBy words (Serve options) = AskForServer words options
 IsAskedBy words (Inspect file) = AskForInspection words file.now
 IsAskedBy words BadWeights = HaveBadWeights words
 IsAskedBy words BadHost = HaveBadHost words
-IsAskedBy words DumpBesideLog = HaveDumpBesideLog words
 IsAskedBy words (Help text) = AskForHelp words × (string_bytes text ≢ [])
 IsAskedBy words (Wrong text) = AreWrong words × (string_bytes text ≢ [])

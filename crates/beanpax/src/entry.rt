@@ -10,7 +10,7 @@ ghost use Rattle.beanpax.specs.Program.{BeginsToTell, IsWholeRun, WritesMore, Te
 ghost use Rattle.beanpax.specs.Runs.{TellsBeginning};
 ghost use Rattle.beanpax.specs.declared.verdict.Verdict.{Verdict};
 ghost use Rattle.beanpax.specs.Verdicts.{is_legal};
-ghost use Rattle.beanpax.specs.Words.{AreWrong, HaveBadHost, HaveBadWeights, HaveDumpBesideLog};
+ghost use Rattle.beanpax.specs.Words.{AreWrong, HaveBadHost, HaveBadWeights};
 ghost use Rattle.beanpax.specs.Words.{AskForHelp, AskForInspection, AskForLog, AskForRun, AskForServer};
 
 use crate::faults::ProgramFault;
@@ -39,9 +39,6 @@ const BAD_WEIGHTS: &str = "beanpax: bad weights\n";
 
 /// What is told where what stands for an address is none.
 const BAD_HOST: &str = "beanpax: bad host\n";
-
-/// What is told where a file for a dump is named beside one for a log.
-const DUMP_BESIDE_LOG: &str = "beanpax: no dump beside a log\n";
 
 /// The status where something is wrong with a dump or a log.
 pub const DUMP_REFUSED: u8 = 3;
@@ -90,12 +87,9 @@ pub fn program<H: Host, R: ByteIn, W: ByteOut, E: ByteOut>(
         ⊎ ((HaveBadWeights (map string_bytes words.now)
         × WritesText (E.contents errors.old) (E.contents errors.new) (E.has_failed errors.new)
         (codes "beanpax: bad weights\n"))
-        ⊎ ((HaveBadHost (map string_bytes words.now)
+        ⊎ (HaveBadHost (map string_bytes words.now)
         × WritesText (E.contents errors.old) (E.contents errors.new) (E.has_failed errors.new)
-        (codes "beanpax: bad host\n"))
-        ⊎ (HaveDumpBesideLog (map string_bytes words.now)
-        × WritesText (E.contents errors.old) (E.contents errors.new) (E.has_failed errors.new)
-        (codes "beanpax: no dump beside a log\n")))) }
+        (codes "beanpax: bad host\n"))) }
     ensures untouched { result ≡ WRONG_WORDS → (input.new ≡ input.old) × (output.new ≡ output.old) }
 
     ensures whole { result ≡ DONE → AskForRun (map string_bytes words.now)
@@ -127,10 +121,6 @@ pub fn program<H: Host, R: ByteIn, W: ByteOut, E: ByteOut>(
         }
         Ok(Action::BadHost) => {
             tell_error(BAD_HOST, errors);
-            WRONG_WORDS
-        }
-        Ok(Action::DumpBesideLog) => {
-            tell_error(DUMP_BESIDE_LOG, errors);
             WRONG_WORDS
         }
         Ok(Action::Help(text)) => {

@@ -11,6 +11,7 @@ mod inspecting;
 mod inspecting_log;
 mod laws;
 mod opening;
+mod restoring;
 mod run;
 mod seconds;
 mod server;

@@ -10,6 +10,7 @@ ghost use Rattle.beanpax.specs.Servers.{TellsPort, listening_line};
 
 use crate::faults::ProgramFault;
 use crate::host::Host;
+use crate::restoring::{Restored, restore_from};
 use crate::starting::{Started, start_from};
 use crate::telling::tell_number;
 use crate::words::ServerOptions;
@@ -23,19 +24,29 @@ use std::net::{IpAddr, Ipv4Addr, Ipv6Addr, SocketAddr};
 
 /// What a server has opened before it accepts the first client.
 #[derive(Drop)]
-pub(crate) struct Opened {
+pub(crate) struct Opened<'a> {
     pub(crate) listener: TcpListener,
-    pub(crate) log: Option<Started<File>>,
+    pub(crate) log: Option<FromLog<'a>>,
+}
+
+/// What a log has led to: a hall that forgets, or one that keeps all for the dump in a file.
+#[derive(Drop)]
+pub(crate) enum FromLog<'a> {
+    Forgetting(Started<File>),
+    Keeping {
+        restored: Restored<File>,
+        dump: &'a str,
+    },
 }
 
 /// Listens at the address and port, starts from the log, where there is to be one, and tells where it listens then.
 /// Where it can't listen, nothing is told.
-pub(crate) fn open_all<R: Host, W: ByteOut, E: ByteOut>(
+pub(crate) fn open_all<'a, R: Host, W: ByteOut, E: ByteOut>(
     rt: &R,
-    options: &ServerOptions<'_>,
+    options: &ServerOptions<'a>,
     output: &mut W,
     errors: &mut E,
-) -> Result<Opened, ProgramFault>
+) -> Result<Opened<'a>, ProgramFault>
     ensures has_log { IfOk result (λ opened. is_some opened.log ≡ is_some options.now.log) }
     ensures tells { TellsPort W.ByteOut output.old output.new options.now.host options.now.port result }
     ensures fault { IfErr result (IsServingFault options.now (W.has_failed output.new)) }
@@ -45,25 +56,34 @@ pub(crate) fn open_all<R: Host, W: ByteOut, E: ByteOut>(
 {
     let listener = listen(rt, options.host, options.port)?;
     let log = match options.log {
-        Some(file) => Some(start(rt, file, options.members, errors)?),
+        Some(file) => Some(start(rt, file, options, errors)?),
         None => None,
     };
     tell_port(rt.alloc(), options.host, options.port, output)?;
     Ok(Opened { listener, log })
 }
 
-// Starts from the log of this file, or begins one of these members.
-fn start<R: Host, E: ByteOut>(
+// Starts from the log of this file, or begins one. The hall keeps all where there is to be a dump.
+fn start<'a, R: Host, E: ByteOut>(
     rt: &R,
     file: &str,
-    members: Members,
+    options: &ServerOptions<'a>,
     errors: &mut E,
-) -> Result<Started<File>, ProgramFault>
+) -> Result<FromLog<'a>, ProgramFault>
     ensures fault { IfErr result IsOfLog }
     ensures more { WritesMore E.ByteOut errors.old errors.new }
 {
+    let members = options.members;
     let opened = open_file(rt, file, members, errors)?;
-    start_from(rt, members, opened, errors)
+    match options.dump {
+        Some(dump) => {
+            let restored = restore_from(rt, members, opened, errors)?;
+            Ok(FromLog::Keeping { restored, dump })
+        }
+        None => Ok(FromLog::Forgetting(start_from(
+            rt, members, opened, errors,
+        )?)),
+    }
 }
 
 // Opens the log of this file, or begins one of these members, and tells what was cut off behind it.

@@ -1,7 +1,7 @@
 ghost use Rattle.std.specs.Prelude.{◌≡◌, ◌≢◌, ◌⊎◌, None, Ok, Err, IfOk, IfErr, IfSome, OnOk};
 ghost use Rattle.std.specs.Io.KnownBytes.{Appends};
 ghost use Rattle.beanpax.specs.declared.faults.ProgramFault.TheVariants.{ListenFailed};
-ghost use Rattle.beanpax.specs.Faults.{IsOfDump, IsOfLog, IsOfServer, of_server};
+ghost use Rattle.beanpax.specs.Faults.{IsOfDump, IsOfLog, IsOfServer, of_logged, of_server};
 ghost use Rattle.beanpax.specs.Program.{IsServingFault, TellsOfLog};
 ghost use Rattle.chronicle.specs.Checking.{IsFaultless};
 ghost use Rattle.chronicle.specs.Dump.{dump_text};
@@ -13,7 +13,8 @@ ghost use Rattle.beanpax.specs.Servers.{TellsPort, listening_line};
 use crate::faults::{ProgramFault, fault_of_logged, file_fault};
 use crate::host::Host;
 use crate::laws::no_fault_in_a_dump;
-use crate::opening::{Opened, open_all};
+use crate::opening::{FromLog, Opened, open_all};
+use crate::restoring::Restored;
 use crate::seconds::ClockSeconds;
 use crate::starting::Started;
 use crate::words::ServerOptions;
@@ -21,8 +22,10 @@ use bean_queue::Queue;
 use chronicle::WriteText;
 use forgetting_hall::ForgettingHall;
 use hall::Hall;
+use journal::Journal;
 use loops::{
-    Logging, ServeFault, Served, ServedForgetting, serve_clients, serve_forgetting, serve_logged,
+    Logging, ServeFault, Served, ServedForgetting, serve_again, serve_clients, serve_forgetting,
+    serve_logged,
 };
 use mio::net::TcpListener;
 use object::Object;
@@ -54,7 +57,10 @@ pub(crate) fn serve_tcp<R: Host, W: ByteOut, E: ByteOut>(
 {
     let Opened { listener, log } = open_all(rt, options, output, errors)?;
     match (log, options.dump) {
-        (Some(log), _) => serve_from_log(rt, listener, options, log),
+        (Some(FromLog::Forgetting(started)), _) => serve_from_log(rt, listener, options, started),
+        (Some(FromLog::Keeping { restored, dump }), _) => {
+            serve_again_and_dump(rt, listener, options, restored, dump)
+        }
         (None, Some(file)) => serve_and_dump(rt, listener, options, file),
         (None, None) => serve_on(rt, listener, options),
     }
@@ -72,16 +78,39 @@ fn serve_from_log<R: Host>(
 {
     let Started { hall, journal } = started;
     let seconds = ClockSeconds::after(rt, hall.last_second());
-    let logging = Logging {
-        journal,
-        pause: Duration::from_millis(u64::from(options.sync)),
-    };
+    let logging = logging_of(journal, options);
     let (workers, sessions) = (options.workers, options.sessions);
     let served = serve_logged(rt, hall, logging, listener, seconds, workers, sessions);
-    match served.map_err(fault_of_logged)?.fault {
-        Some(fault) => Err(fault_of_logged(fault)),
-        None => Ok(()),
+    end_of_logged(served.map_err(fault_of_logged)?.fault)
+}
+
+// How the log is kept.
+fn logging_of(journal: Journal<File>, options: &ServerOptions<'_>) -> Logging {
+    Logging {
+        journal,
+        pause: Duration::from_millis(u64::from(options.sync)),
     }
+}
+
+// Serves them from where a log has led, over a hall that keeps all, and writes its dump to this file at the end.
+fn serve_again_and_dump<R: Host>(
+    rt: &R,
+    listener: TcpListener,
+    options: &ServerOptions<'_>,
+    restored: Restored<File>,
+    file: &str,
+) -> Result<(), ProgramFault>
+    requires workers { IsLoopCount options.now.workers }
+    ensures fault { IfErr result (λ fault. IsOfServer fault ⊎ IsOfLog fault ⊎ IsOfDump fault) }
+{
+    let Restored { kept, journal } = restored;
+    let seconds = ClockSeconds::after(rt, kept.hall.last_second());
+    let logging = logging_of(journal, options);
+    let (workers, sessions) = (options.workers, options.sessions);
+    let served = serve_again(rt, kept, logging, listener, seconds, workers, sessions);
+    let served = served.map_err(fault_of_logged)?;
+    end_of_logged(served.fault)?;
+    write_dump(rt, &served.hall, file)
 }
 
 // Serves those who connect here over a hall that keeps all, and writes its dump to this file at the end.
@@ -167,7 +196,18 @@ fn end_of(fault: Option<ServeFault>) -> Result<(), ProgramFault>
     }
 }
 
-// The same; and where nothing did, it writes the dump to this file.
+// The same of a server that has a log.
+fn end_of_logged(fault: Option<ServeFault>) -> Result<(), ProgramFault>
+    ensures fault { IfSome fault (λ fault. result ≡ Err (of_logged fault)) }
+    ensures only { IfErr result (λ fault. IsOfServer fault ⊎ IsOfLog fault) }
+{
+    match fault {
+        Some(fault) => Err(fault_of_logged(fault)),
+        None => Ok(()),
+    }
+}
+
+// As `end_of`; and where nothing went wrong, it writes the dump to this file.
 fn conclude<R: Host>(rt: &R, served: &Served<Queue>, file: &str) -> Result<(), ProgramFault>
     ensures fault { IfSome served.now.fault (λ fault. result ≡ Err (of_server fault)) }
     ensures no_fault { served.now.fault ≡ None → IfErr result IsOfDump }

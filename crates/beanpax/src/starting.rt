@@ -74,16 +74,16 @@ fn obey<R: Host, E: ByteOut, O: Object>(
     Ok(recovery.finish()?)
 }
 
-// Tells how far it is.
-fn tell_obeyed<E: ByteOut>(count: usize, errors: &mut E)
+/// Tells how far it is.
+pub(crate) fn tell_obeyed<E: ByteOut>(count: usize, errors: &mut E)
     ensures { WritesMore E.ByteOut errors.old errors.new }
 {
     let rest = " commands of the log are obeyed\n";
     tell_number("beanpax: ", count as u64, rest, errors);
 }
 
-// Whether a second has passed since then.
-fn has_passed<R: Host>(rt: &R, since: Option<Instant>) -> bool {
+/// Whether a second has passed since then.
+pub(crate) fn has_passed<R: Host>(rt: &R, since: Option<Instant>) -> bool {
     let passed = since.and_then(|since| since.elapsed(rt).ok());
     passed.is_some_and(|passed| passed >= Duration::from_secs(TOLD_AFTER))
 }

@@ -6,7 +6,7 @@ ghost use Rattle.beanpax.specs.declared.words.ServerOptions.{ServerOptions};
 ghost use Rattle.beanpax.specs.Hosts.{IsHostOf, IsLoopback};
 ghost use Rattle.beanpax.specs.Numbers.{IsNumberOr};
 ghost use Rattle.beanpax.specs.Weights.{AreMembersOf};
-ghost use Rattle.beanpax.specs.Words.{IsAskedBy, IsRunOf, IsServeOf, IsServerOf, are_both, has_unwritten_dump};
+ghost use Rattle.beanpax.specs.Words.{IsAskedBy, IsRunOf, IsServeOf, IsServerOf, has_unwritten_dump};
 ghost use Rattle.beanpax.specs.Words.{program_command, run_command, serve_command, inspect_command};
 ghost use Rattle.beanpax.specs.Words.{IsArgument, file_argument};
 ghost use Rattle.beanpax.specs.Words.{nodes_option, weights_option, seed_option, host_option, port_option};
@@ -50,8 +50,6 @@ pub enum Action<'a> {
     BadWeights,
     /// Nothing: what stands for an address is none.
     BadHost,
-    /// Nothing: a server with a log writes no dump as yet.
-    DumpBesideLog,
     /// This help.
     Help(String),
     /// Nothing: the words are wrong, and the text says why.
@@ -110,7 +108,7 @@ pub struct ServerOptions<'a> {
     pub sessions: Option<u32>,
     /// The file for the dump at its end.
     pub dump: Option<&'a str>,
-    /// The file of the log from which it goes on, and in which it keeps what takes effect. There is no dump beside it.
+    /// The file of the log from which it goes on, and in which it keeps what takes effect.
     pub log: Option<&'a str>,
     /// So many milliseconds may pass until a command in the log is synced.
     pub sync: u32,
@@ -180,9 +178,6 @@ fn serve_of<'a>(alloc: Global, serve: &ArgMatches<'a>) -> Result<Action<'a>, All
     let Some(host) = host_of(serve) else {
         return Ok(Action::BadHost);
     };
-    if has_dump_beside_log(serve) {
-        return Ok(Action::DumpBesideLog);
-    }
     Ok(Action::Serve(server_of(members, host, serve)))
 }
 
@@ -191,8 +186,6 @@ fn server_of<'a>(members: Members, host: IpAddr, serve: &ArgMatches<'a>) -> Serv
     requires members { AreMembersOf (one_text (found_of serve.now) (codes "nodes"))
         (first_value (found_of serve.now) (codes "weights")) (Some members) }
     requires host { IsHostOf (first_value (found_of serve.now) (codes "host")) (Some host) }
-    requires one_file { are_both (first_value (found_of serve.now) (codes "dump"))
-        (first_value (found_of serve.now) (codes "log")) ≡ false }
     ensures { IsServerOf (one_text (found_of serve.now)) (first_value (found_of serve.now)) result }
 {
     ServerOptions {
@@ -264,14 +257,6 @@ fn host_of(serve: &ArgMatches<'_>) -> Option<IpAddr>
         Some(text) => text.parse().ok(),
         None => Some(IpAddr::V4(Ipv4Addr::LOCALHOST)),
     }
-}
-
-// Whether the words name a file for a dump and one for a log.
-fn has_dump_beside_log(serve: &ArgMatches<'_>) -> bool
-    ensures { result ≡ are_both (first_value (found_of serve.now) (codes "dump"))
-        (first_value (found_of serve.now) (codes "log")) }
-{
-    serve.get_str("dump").is_some() && serve.get_str("log").is_some()
 }
 
 // The port that the words name.

@@ -6,6 +6,7 @@ use bean_queue::Op;
 use conversation::Desk;
 use hall::HallError;
 use object::Command;
+use std::alloc::AllocError;
 use turns::Watch;
 
 /// The desk of a hall that loops share: sessions are opened and end there, seconds pass, and the nodes take their turns.
@@ -64,12 +65,13 @@ pub(crate) trait LoopDesk: Desk {
     fn next_answered(&mut self) -> Option<u32>
         ensures kept { handed_in self.new ≡ handed_in self.old };
 
-    /// How many commands took effect, where they are gathered.
+    /// How many commands took effect.
     fn placed_count(&self) -> u64;
 
     /// Takes the commands that took effect since this was called last, in the one order, as far as they are gathered.
-    fn take_placed(&mut self) -> Vec<Command<Op>>
-        ensures taken { result.items ≡ placed self.old }
-        ensures left { placed self.new ≡ [] }
+    fn take_placed(&mut self) -> Result<Vec<Command<Op>>, AllocError>
+        ensures taken { IfOk result (λ taken. taken.items ≡ placed self.old) }
+        ensures left { OnOk result (placed self.new ≡ []) }
+        ensures err { OnErr result (placed self.new ≡ placed self.old) }
         ensures kept { handed_in self.new ≡ handed_in self.old };
 }

@@ -150,7 +150,7 @@ impl<O: Object<Op = Op, Reply = Reply>> LoopDesk for ForgettingDesk<O> {
         self.hall.placed_count()
     }
 
-    fn take_placed(&mut self) -> Vec<Command<Op>> {
-        self.hall.take_placed()
+    fn take_placed(&mut self) -> Result<Vec<Command<Op>>, AllocError> {
+        Ok(self.hall.take_placed())
     }
 }

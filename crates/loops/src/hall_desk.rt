@@ -1,8 +1,9 @@
-ghost use Rattle.std.specs.Prelude.{◌≡◌, [], true, length, sum, All, IfOk};
+ghost use Rattle.std.specs.Prelude.{◌≡◌, [], true, length, sum, All, IfOk, IfSome};
 ghost use Rattle.counted_hall.specs.Marks.{is_free, with_mark};
 ghost use Rattle.hall.specs.Halls.{Agrees};
 
 use crate::desk::LoopDesk;
+use crate::fault::ServeFault;
 use bean_queue::{Op, Reply};
 use conversation::Desk;
 use counted_hall::mark;
@@ -25,6 +26,8 @@ pub(crate) struct HallDesk<O: Object> {
     acts: u64,
     /// So many answers were told to the loops.
     told: usize,
+    /// So many commands that took effect were taken.
+    taken: u64,
     ghost marked: { length compared.items ≡ length hall.book },
     ghost counted: { sum hall.book ≡ handed_in },
 }
@@ -41,7 +44,35 @@ impl<O: Object> HallDesk<O> {
             compared: Vec::new(alloc),
             acts: 0,
             told: 0,
+            taken: 0,
         }
+    }
+
+    /// A hall in which sessions were there before. These tickets of theirs are compared with it.
+    pub(crate) fn over(
+        alloc: Global,
+        hall: Hall<O>,
+        tickets: &[Ticket<O>],
+    ) -> Result<HallDesk<O>, ServeFault>
+        ensures { IfOk result (λ desk. desk.hall ≡ hall) }
+    {
+        let handed_in = sum_of(hall.book()).ok_or(ServeFault::BadNumber)?;
+        let told = hall.answer_count();
+        let taken = hall.placed_count();
+        let compared = unset(alloc, hall.book().len())?;
+        let mut desk = HallDesk {
+            hall,
+            node: 1,
+            handed_in,
+            compared,
+            acts: 0,
+            told,
+            taken,
+        };
+        for ticket in tickets {
+            desk.compare(ticket);
+        }
+        Ok(desk)
     }
 
     /// A session hands in nothing more: its ticket is compared with the hall.
@@ -118,7 +149,8 @@ impl<O: Object<Op = Op, Reply = Reply>> Desk for HallDesk<O> {
 }
 
 impl<O: Object<Op = Op, Reply = Reply>> LoopDesk for HallDesk<O> {
-    ghost use Rattle.std.specs.Prelude.{length, []};
+    ghost use Rattle.std.specs.Prelude.{length};
+    ghost use Rattle.recorder.specs.Records.{placed_from};
 
     // By each session.
     ghost handed_in = { λ desk. desk.hall.book };
@@ -127,8 +159,8 @@ impl<O: Object<Op = Op, Reply = Reply>> LoopDesk for HallDesk<O> {
 
     ghost clock = { λ desk. desk.hall.second };
 
-    // It gathers nothing.
-    ghost placed = { λ desk. [] };
+    // What the order has behind what was taken.
+    ghost placed = { λ desk. placed_from desk.taken desk.hall.nodes.past };
 
     fn open_session(&mut self) -> Result<Ticket<O>, HallError> {
         self.compared.reserve(1)?;
@@ -182,12 +214,32 @@ impl<O: Object<Op = Op, Reply = Reply>> LoopDesk for HallDesk<O> {
     }
 
     fn placed_count(&self) -> u64 {
-        0
+        self.hall.placed_count()
     }
 
-    fn take_placed(&mut self) -> Vec<Command<Op>> {
-        Vec::new(*self.compared.allocator())
+    fn take_placed(&mut self) -> Result<Vec<Command<Op>>, AllocError> {
+        let placed = self.hall.placed_from(self.taken)?;
+        self.taken = self.hall.placed_count();
+        Ok(placed)
     }
+}
+
+// The sum of these numbers, where it is no greater than a u64.
+fn sum_of(numbers: &[u64]) -> Option<u64>
+    ensures { IfSome result (λ total. total ≡ sum numbers.now) }
+{
+    let mut total = 0u64;
+    for number in numbers {
+        total = total.checked_add(*number)?;
+    }
+    Some(total)
+}
+
+// So many marks, none of which is set.
+fn unset(alloc: Global, count: usize) -> Result<Vec<bool>, AllocError>
+    ensures { IfOk result (λ marks. length marks.items ≡ count) }
+{
+    vec![in alloc; false; count]
 }
 
 // Whether all marks are set.

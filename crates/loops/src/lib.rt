@@ -24,5 +24,7 @@ mod wire;
 
 pub use counted_hall::Seconds;
 pub use fault::ServeFault;
-pub use server::{Host, Served, ServedForgetting, serve_clients, serve_forgetting, serve_logged};
+pub use server::{
+    Host, KeptHall, Served, ServedForgetting, serve_again, serve_clients, serve_forgetting, serve_logged,
+};
 pub use shared_log::Logging;

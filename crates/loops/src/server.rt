@@ -15,7 +15,7 @@ use crate::syncs::{keep_all, run_syncs};
 use bean_queue::{Op, Reply};
 use counted_hall::Seconds;
 use forgetting_hall::ForgettingHall;
-use hall::Hall;
+use hall::{Hall, Ticket};
 use mio::Poll;
 use mio::net::TcpListener;
 use object::Object;
@@ -30,6 +30,13 @@ use std::thread::{JoinHandle, Scope, Threads};
 pub trait Host: Net + Clock + Threads + Wait + AllocGlobal + Sync {}
 
 impl<R: Net + Clock + Threads + Wait + AllocGlobal + Sync> Host for R {}
+
+/// A hall that keeps all, and the tickets of the sessions that ended there before.
+#[derive(Drop)]
+pub struct KeptHall<O: Object> {
+    pub hall: Hall<O>,
+    pub tickets: Vec<Ticket<O>>,
+}
 
 /// What is left when a server has ended: its hall, and what went wrong, where something did.
 #[derive(Drop)]
@@ -71,6 +78,46 @@ pub fn serve_clients<O: Object<Op = Op, Reply = Reply> + Send, T: Seconds + Send
         sessions,
         log: None,
     };
+    serve_whole(rt, desk, seconds, terms)
+}
+
+/// The same over a hall that goes on from a log, which is kept as by `serve_logged`. Each session of the log needs a mark,
+/// too.
+pub fn serve_again<O: Object<Op = Op, Reply = Reply> + Send, T: Seconds + Send + Drop, R: Host>(
+    rt: &R,
+    kept: KeptHall<O>,
+    logging: Logging,
+    listener: TcpListener,
+    seconds: T,
+    loops: u32,
+    sessions: Option<u32>,
+) -> Result<Served<O>, ServeFault>
+    requires loops { IsLoopCount loops }
+    ensures served { IfOk result (λ s.
+        AllCompared s.hall.book s.compared.items s.acts s.fault) }
+{
+    let KeptHall { hall, tickets } = kept;
+    let desk = HallDesk::over(rt.alloc(), hall, tickets.as_slice())?;
+    let terms = Terms {
+        listener,
+        loops,
+        sessions,
+        log: Some(SharedLog::new(logging)),
+    };
+    serve_whole(rt, desk, seconds, terms)
+}
+
+// Serves clients over a hall that keeps all.
+fn serve_whole<O: Object<Op = Op, Reply = Reply> + Send, T: Seconds + Send + Drop, R: Host>(
+    rt: &R,
+    desk: HallDesk<O>,
+    seconds: T,
+    terms: Terms,
+) -> Result<Served<O>, ServeFault>
+    requires loops { IsLoopCount terms.loops }
+    ensures served { IfOk result (λ s.
+        AllCompared s.hall.book s.compared.items s.acts s.fault) }
+{
     let (desk, fault) = serve_desk(rt, desk, seconds, terms)?;
     let (hall, compared, acts, agree) = desk.into_hall();
     if agree {
@@ -114,8 +161,7 @@ pub fn serve_forgetting<
     serve_lean(rt, hall, seconds, terms)
 }
 
-/// The same, where a log is kept of what takes effect from now on in a hall that gathers it. Where each answer waits for the
-/// log, nobody is told anything before all that took effect until then is kept there. Where the log fails, nobody is told
+/// The same, where a log is kept of what takes effect from now on. Where each answer waits for the log, nobody is told anything before all that took effect until then is kept there. Where the log fails, nobody is told
 /// anything more, and the server ends.
 pub fn serve_logged<O: Object<Op = Op, Reply = Reply> + Send, T: Seconds + Send + Drop, R: Host>(
     rt: &R,
@@ -128,6 +174,8 @@ pub fn serve_logged<O: Object<Op = Op, Reply = Reply> + Send, T: Seconds + Send 
 ) -> Result<ServedForgetting<O>, ServeFault>
     requires loops { IsLoopCount loops }
 {
+    let mut hall = hall;
+    hall.gather();
     let terms = Terms {
         listener,
         loops,

@@ -8,3 +8,4 @@ pub mod Steps
 pub mod LookUps
 pub mod Between
 pub mod Grown
+pub mod Placed

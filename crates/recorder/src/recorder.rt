@@ -1,4 +1,4 @@
-ghost use Rattle.std.specs.Prelude.{◌≡◌, List, [], ◌∷◌, true, false, None, Some, if◌then◌else◌, not, option_map, IsOk, IfOk, OnOk, OnErr};
+ghost use Rattle.std.specs.Prelude.{◌≡◌, List, [], ◌∷◌, true, false, None, Some, if◌then◌else◌, not, option_map, map, drop, IsOk, IfOk, OnOk, OnErr};
 ghost use Rattle.std.specs.List.{filter_map};
 ghost use Rattle.std.specs.Option.{option_copied};
 ghost use Rattle.object.specs.Lists.{In};
@@ -215,7 +215,8 @@ impl<Op: Value, Reply: Value> Recorder<Op, Reply> {
 
     /// The commands that took effect, in their order, but for so many of the first ones. It fails for want of memory alone.
     pub fn placed_from(&self, count: usize) -> Result<Vec<Command<Op>>, AllocError>
-        ensures { IfOk result (λ commands. commands.items ≡ placed_from count self.now) }
+        ensures commands { IfOk result (λ commands. commands.items ≡ placed_from count self.now) }
+        ensures keys { map (λ c. c.key) (placed_from count self.now) ≡ drop count self.now.order }
     {
         let keys = self.order.get(count..).unwrap_or(&[]);
         commands_of(self.alloc, &self.submitted, keys)

@@ -157,8 +157,8 @@ fn placed<O: Object>(hall: &mut ForgettingHall<O>) -> Result<Vec<Command<O::Op>>
     Ok(hall.take_placed())
 }
 
-// Whether the values are the same, one by one.
-fn are_same<V: Value>(some: &[V], others: &[V]) -> bool
+/// Whether the values are the same, one by one.
+pub(crate) fn are_same<V: Value>(some: &[V], others: &[V]) -> bool
     ensures { IsTrue result → some.now ≡ others.now }
 {
     some == others

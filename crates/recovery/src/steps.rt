@@ -7,7 +7,7 @@ use object::{Act, Command, Object, Value};
 use turns::{Nodes, settle};
 
 /// The node at which all is handed in, and which leads.
-const FIRST_NODE: u8 = 1;
+pub(crate) const FIRST_NODE: u8 = 1;
 
 /// The nodes' turns are taken so many times at most until none has anything to do.
 const MOST_ROUNDS: u32 = 1 << 20;
@@ -21,8 +21,8 @@ pub(crate) fn wake<O: Object>(hall: &mut ForgettingHall<O>) -> Result<(), Recove
 }
 
 /// The nodes take their turns, until none has anything to do.
-pub(crate) fn settle_all<O: Object>(hall: &mut ForgettingHall<O>) -> Result<(), RecoverFault>
-    ensures { TellsOn O.rules hall.old hall.new }
+pub(crate) fn settle_all<N: Nodes>(hall: &mut N) -> Result<(), RecoverFault>
+    ensures { N.goes_on hall.old hall.new }
 {
     for _ in 0..MOST_ROUNDS {
         if settle(hall, FIRST_NODE)? {

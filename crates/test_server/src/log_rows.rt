@@ -1,7 +1,7 @@
 //! Servers that start from a log.
 use crate::client::Client;
 use crate::started::{free_port, start, words};
-use beanpax::{Host, no_sockets};
+use beanpax::{Host, Verdict, inspect_text, no_sockets};
 use std::test::Fail;
 use std::{fs, thread};
 
@@ -115,5 +115,42 @@ fn what_was_torn_is_cut_off(rt: HostRuntime) -> Result<(), Fail> {
     assert!(rt;
         ended.errors.bytes() == b"beanpax: 13 bytes behind the log were cut off\n".as_slice()
     );
+    Ok(())
+}
+
+#[test]
+fn a_dump_beside_a_log_has_all_since_it_began(rt: HostRuntime) -> Result<(), Fail> {
+    let _sockets = no_sockets();
+    let alloc = rt.alloc();
+    let port = free_port(&rt)?;
+    let (file, dump) = (
+        format!(in alloc; "{port}.log")?,
+        format!(in alloc; "{port}.dump")?,
+    );
+    fs::write(&rt, file.as_str(), TORN)?;
+    let line = format!(in alloc; "serve --sessions 1 --port {port} --log {port}.log --dump {port}.dump")?;
+    let words = words(alloc, line.as_str())?;
+    let (ended, is_told) = thread::join(
+        &rt,
+        || {
+            let _sockets = no_sockets();
+            start(&rt, words.as_slice())
+        },
+        || {
+            let _sockets = no_sockets();
+            is_told_all(&rt, port, LEFT)
+        },
+    );
+    let (log, text) = (fs::read(&rt, file.as_str())?, fs::read(&rt, dump.as_str())?);
+    fs::remove_file(&rt, file.as_str())?;
+    fs::remove_file(&rt, dump.as_str())?;
+    assert!(rt; is_told);
+    assert_eq!(rt; ended.status, 0);
+    // two puts and a delete of before, and three commands of this client; nobody is told of an end
+    let found = inspect_text(alloc, text.as_slice())?;
+    assert!(rt; matches!(found, Verdict::Legal { answered: 6, .. }));
+    // the four of before, three ends, and these three; seconds may have passed
+    let kept = inspect_text(alloc, log.as_slice())?;
+    assert!(rt; matches!(kept, Verdict::Log { commands, behind: 0 } if commands >= 10));
     Ok(())
 }

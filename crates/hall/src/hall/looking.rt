@@ -21,6 +21,13 @@ impl<O: Object> Hall<O> {
         self.nodes.network.members()
     }
 
+    /// How many commands each session has handed in, from the first session on.
+    pub fn book(&self) -> &[u64]
+        ensures { result.now ≡ self.now.book }
+    {
+        self.book.as_slice()
+    }
+
     /// Whether the order has the key.
     pub fn placed(&self, key: Key) -> bool
         ensures { result ≡ stands own_key key self.now.nodes.past.order }

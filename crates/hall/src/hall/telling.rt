@@ -1,4 +1,4 @@
-ghost use Rattle.std.specs.Prelude.{◌≡◌, None, is_some, length, IsOk, IfOk, OnOk, OnErr};
+ghost use Rattle.std.specs.Prelude.{◌≡◌, None, is_some, length, map, drop, IsOk, IfOk, OnOk, OnErr};
 ghost use Rattle.std.specs.Option.{option_copied};
 ghost use Rattle.object.specs.Happenings.{SubmittedOnce};
 ghost use Rattle.recorder.specs.Records.{placed_from};
@@ -53,7 +53,10 @@ impl<O: Object> Hall<O> {
 
     /// The commands that took effect, in the one order, but for so many of the first ones.
     pub fn placed_from(&self, count: u64) -> Result<Vec<Command<O::Op>>, AllocError>
-        ensures { IfOk result (λ commands. commands.items ≡ placed_from count self.now.nodes.past) }
+        ensures commands { IfOk result (λ commands.
+            commands.items ≡ placed_from count self.now.nodes.past) }
+        ensures keys { map (λ c. c.key) (placed_from count self.now.nodes.past)
+            ≡ drop count self.now.nodes.past.order }
     {
         self.nodes.recorder.placed_from(count as usize)
     }

@@ -53,9 +53,6 @@ returns-in-Ok-BadWeights-clause-begins g c = λ no_run. ([], inl refl, (0, Appen
 pub returns-in-Ok-BadHost-clause-begins : goal.returns-in-Ok-BadHost-clause-begins
 returns-in-Ok-BadHost-clause-begins g c = λ no_run. ([], inl refl, (0, Appends-nil (g.W.ByteOut.contents c.args.output.now)))
 
-pub returns-in-Ok-DumpBesideLog-clause-begins : goal.returns-in-Ok-DumpBesideLog-clause-begins
-returns-in-Ok-DumpBesideLog-clause-begins g c = λ no_run. ([], inl refl, (0, Appends-nil (g.W.ByteOut.contents c.args.output.now)))
-
 pub returns-in-Ok-Wrong-clause-begins : goal.returns-in-Ok-Wrong-clause-begins
 returns-in-Ok-Wrong-clause-begins g c = λ no_run. ([], inl refl, (0, Appends-nil (g.W.ByteOut.contents c.args.output.now)))
 

@@ -16,6 +16,5 @@ returns c = record {
       (λ t r given. given.0) _ c.get_one.result c.get_one.ensures.none c.get_one.ensures.value;
   dump = c.get_str.ensures;
   log = c.get_str-2.ensures;
-  one_file = c.requires.one_file;
   sync = c.sync_of.ensures;
 }

@@ -1,5 +1,4 @@
-use Rattle.forgetting_hall.specs.Telling.{TellsOn}
 use Rattle.recovery.proofs.steps.settle_all.Given as goal
 
 abbrev pub invariant-loop : goal.invariant-loop
-invariant-loop g l = TellsOn g.O.Object.rules l.fn.hall l.hall
+invariant-loop g l = g.N.Nodes.goes_on l.fn.hall l.hall

@@ -1,5 +1,5 @@
 use Rattle.std.proofs.Common.{◌≡◌, Option, Some, None, is_some, sym, ap, ◌∙◌, true≢false}
-use Rattle.loops.proofs.server.serve_clients.Goals as goal
+use Rattle.loops.proofs.server.serve_whole.Goals as goal
 
 -- a fault is told
 told : {X P : Type 0} (fault : X) → Some fault ≡ None → P

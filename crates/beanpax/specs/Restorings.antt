@@ -1,0 +1,20 @@
+-- A server that starts from a log with a hall that keeps all.
+use Rattle.std.specs.Prelude.{◌≡◌, ℕ, List, [], ◌++◌, length, Option}
+use Rattle.object.specs.declared.command.Command.{Command}
+use Rattle.bean_queue.specs.declared.op.Op.{Op}
+use Rattle.log_file.specs.Logs.{HoldsLog}
+use Rattle.log_file.specs.declared.file.OpenedLog.{OpenedLog}
+use Rattle.recorder.specs.Records.{placed_from}
+use Rattle.recovery.specs.Opened.{EndsAll}
+use Rattle.beanpax.specs.declared.restoring.Restored.{Restored}
+
+-- In the hall the commands of the log took effect, in their order, and then one Close for each session that they leave open, and nothing
+-- else; all that took effect there is kept in the log, if it held what was read of it, and nothing waits.
+pub record IsRestored {W : Type 0} (contents : W → Option (List ℕ)) (opened : OpenedLog W) (restored : Restored W) : Type 0 where
+  pub closes : List (Command Op)
+  pub ends : EndsAll opened.commands.items closes
+  pub placed : placed_from 0 restored.kept.hall.nodes.past ≡ opened.commands.items ++ closes
+  pub waiting : restored.journal.waiting ≡ []
+  pub kept : restored.journal.kept ≡ length restored.kept.hall.nodes.past.order
+  pub log : (members : List ℕ) → HoldsLog (contents opened.log.writer) opened.log.batch members opened.commands.items
+      → HoldsLog (contents restored.journal.log.writer) [] members (opened.commands.items ++ closes)

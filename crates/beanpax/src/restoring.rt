@@ -1,0 +1,77 @@
+ghost use Rattle.std.specs.Prelude.{◌≡◌, ◌++◌, IfOk, IfErr};
+ghost use Rattle.recorder.specs.Records.{placed_from};
+ghost use Rattle.recovery.specs.Opened.{EndsAll};
+ghost use Rattle.beanpax.specs.Faults.{IsOfLog};
+ghost use Rattle.beanpax.specs.Program.{WritesMore};
+ghost use Rattle.beanpax.specs.Restorings.{IsRestored};
+
+use crate::faults::ProgramFault;
+use crate::host::Host;
+use crate::starting::{has_passed, tell_obeyed};
+use ballot::Members;
+use bean_queue::Queue;
+use journal::Journal;
+use log_file::{Durable, OpenedLog};
+use loops::KeptHall;
+use object::{Command, Object};
+use recovery::{KeepingRecovery, RecoveredKeeping};
+use session::ByteOut;
+use std::time::Instant;
+
+/// A hall that keeps all and has obeyed a log, and the log, which goes on from there.
+#[derive(Drop)]
+pub(crate) struct Restored<W> {
+    pub(crate) kept: KeptHall<Queue>,
+    pub(crate) journal: Journal<W>,
+}
+
+/// Does as `start_from` with a hall that keeps all: for a server that is to write a dump of all that its log has.
+pub(crate) fn restore_from<R: Host, E: ByteOut, W: Durable + Drop>(
+    rt: &R,
+    members: Members,
+    opened: OpenedLog<W>,
+    errors: &mut E,
+) -> Result<Restored<W>, ProgramFault>
+    ensures restored { IfOk result (IsRestored W.contents opened) }
+    ensures fault { IfErr result IsOfLog }
+    ensures more { WritesMore E.ByteOut errors.old errors.new }
+{
+    let OpenedLog { log, commands, .. } = opened;
+    let recovered = obey_keeping(rt, members, &commands, errors)?;
+    let RecoveredKeeping {
+        hall,
+        tickets,
+        closes,
+    } = recovered;
+    let mut journal = Journal::new(rt.alloc(), log, commands.len() as u64);
+    journal.put(closes, hall.placed_count());
+    journal.keep()?;
+    let kept = KeptHall { hall, tickets };
+    Ok(Restored { kept, journal })
+}
+
+// Obeys the commands in a hall that keeps all, and ends each session that they leave open. Each second it is told how far it
+// is.
+fn obey_keeping<R: Host, E: ByteOut, O: Object>(
+    rt: &R,
+    members: Members,
+    commands: &[Command<O::Op>],
+    errors: &mut E,
+) -> Result<RecoveredKeeping<O>, ProgramFault>
+    ensures placed { IfOk result (λ r.
+        placed_from 0 r.hall.nodes.past ≡ commands.now ++ r.closes.items) }
+    ensures ends { IfOk result (λ r. EndsAll commands.now r.closes.items) }
+    ensures fault { IfErr result IsOfLog }
+    ensures more { WritesMore E.ByteOut errors.old errors.new }
+{
+    let mut recovery = KeepingRecovery::begin(rt.alloc(), members)?;
+    let mut since = Instant::now(rt).ok();
+    for done in 0..commands.len() {
+        recovery.obey(&commands[done])?;
+        if has_passed(rt, since) {
+            since = Instant::now(rt).ok();
+            tell_obeyed(done, errors);
+        }
+    }
+    Ok(recovery.finish(commands)?)
+}

@@ -1,0 +1,121 @@
+ghost use Rattle.std.specs.Prelude.{◌≡◌, ◌++◌, IfOk};
+ghost use Rattle.recorder.specs.Records.{placed_from};
+ghost use Rattle.recovery.specs.Opened.{EndsAll};
+
+use crate::fault::RecoverFault;
+use crate::open_sessions::{end_all, note_all};
+use crate::recovery::are_same;
+use crate::steps::{FIRST_NODE, settle_all};
+use ballot::Members;
+use hall::{Hall, Ticket};
+use object::{Act, Command, Object, Value, copies_of};
+use std::alloc::Global;
+use std::collections::BTreeSet;
+
+/// A hall that keeps all, and obeys the commands of a log.
+#[derive(Drop)]
+pub struct KeepingRecovery<O: Object> {
+    hall: Hall<O>,
+    // Those of the sessions so far, from session 1 on.
+    tickets: Vec<Ticket<O>>,
+    alloc: Global,
+}
+
+/// A hall that keeps all and has obeyed a log, the tickets of its sessions, and the commands by which it ended each session
+/// that the log leaves open. They took effect behind the log's.
+#[derive(Drop)]
+pub struct RecoveredKeeping<O: Object> {
+    pub hall: Hall<O>,
+    pub tickets: Vec<Ticket<O>>,
+    pub closes: Vec<Command<O::Op>>,
+}
+
+impl<O: Object> KeepingRecovery<O> {
+    /// A hall of these members that has obeyed nothing.
+    pub fn begin(alloc: Global, members: Members) -> Result<KeepingRecovery<O>, RecoverFault> {
+        let mut hall = Hall::new(alloc, members)?;
+        hall.wake(FIRST_NODE)?;
+        settle_all(&mut hall)?;
+        Ok(KeepingRecovery {
+            hall,
+            tickets: Vec::new(alloc),
+            alloc,
+        })
+    }
+
+    /// Obeys the log's next command.
+    pub fn obey(&mut self, command: &Command<O::Op>) -> Result<(), RecoverFault> {
+        self.hand_in(command)?;
+        settle_all(&mut self.hall)
+    }
+
+    /// Ends each session that is open. What took effect has to be these commands, which are all of the log, and then the
+    /// ends.
+    pub fn finish(
+        self,
+        commands: &[Command<O::Op>],
+    ) -> Result<RecoveredKeeping<O>, RecoverFault>
+        ensures placed { IfOk result (λ r.
+            placed_from 0 r.hall.nodes.past ≡ commands.now ++ r.closes.items) }
+        ensures closes { IfOk result (λ r. EndsAll commands.now r.closes.items) }
+    {
+        let mut recovery = self;
+        let mut live = BTreeSet::new(recovery.alloc);
+        note_all(&mut live, commands)?;
+        for session in &live {
+            recovery.submit(*session, Act::Close)?;
+            settle_all(&mut recovery.hall)?;
+        }
+        let closes = recovery.placed_behind(commands)?;
+        if !end_all(live, &closes) {
+            return Err(RecoverFault::NoOrder);
+        }
+        let KeepingRecovery { hall, tickets, .. } = recovery;
+        Ok(RecoveredKeeping {
+            hall,
+            tickets,
+            closes,
+        })
+    }
+
+    // Hands in a command, once its session is there.
+    fn hand_in(&mut self, command: &Command<O::Op>) -> Result<(), RecoverFault> {
+        let key = command.key();
+        if key.session == 0 {
+            self.hall.tick(key.number, FIRST_NODE)?;
+            return Ok(());
+        }
+        while self.tickets.len() < key.session as usize {
+            self.tickets.reserve(1)?;
+            let ticket = self.hall.open_session()?;
+            self.tickets.push_reserved(ticket);
+        }
+        self.submit(key.session, command.act().copy()?)
+    }
+
+    // A session that is there hands in its next command.
+    fn submit(&mut self, session: u32, act: Act<O::Op>) -> Result<(), RecoverFault> {
+        let KeepingRecovery { hall, tickets, .. } = self;
+        let Some(ticket) = tickets.get_mut((session as usize).saturating_sub(1)) else {
+            return Err(RecoverFault::NoOrder);
+        };
+        hall.submit(ticket, act, FIRST_NODE)?;
+        Ok(())
+    }
+
+    // What took effect behind these commands, which have to come first.
+    fn placed_behind(
+        &self,
+        commands: &[Command<O::Op>],
+    ) -> Result<Vec<Command<O::Op>>, RecoverFault>
+        ensures { IfOk result (λ behind.
+            placed_from 0 self.now.hall.nodes.past ≡ commands.now ++ behind.items) }
+    {
+        let placed = self.hall.placed_from(0)?;
+        let count = commands.len();
+        if count > placed.len() || !are_same(&placed[..count], commands) {
+            return Err(RecoverFault::NoOrder);
+        }
+        Ok(copies_of(self.alloc, &placed[count..])?)
+    }
+}
