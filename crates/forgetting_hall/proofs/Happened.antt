@@ -62,6 +62,21 @@ module _ {O Op Reply : Type 0} (rules : Rules O Op Reply) where
   reaches w v e (perform n member) = refl
   reaches w v e (restart n member) = refl
 
+  performed_members : (w : World Op Reply) (n : ℕ) (o : Option (Command Op))
+      → (after_performing rules w n (node w.cluster n).replica o).cluster.members ≡ w.cluster.members
+  performed_members w n None = refl
+  performed_members w n (Some c) = refl
+
+  -- the members are the same
+  pub members_stay : (w v : World Op Reply) (e : Event Op) → Step rules w e v → v.cluster.members ≡ w.cluster.members
+  members_stay w v e (submit n c member own) = refl
+  members_stay w v e (deliver j l x out at receives) = refl
+  members_stay w v e (wake n member) = refl
+  members_stay w v e (nudge n member) = refl
+  members_stay w v e (propose n member) = refl
+  members_stay w v e (perform n member) = performed_members w n (next_decided (node w.cluster n).replica)
+  members_stay w v e (restart n member) = refl
+
   module _ (w : World Op Reply) (n : ℕ) where
     abbrev x : NodeState (Command Op)
     x = node w.cluster n

@@ -29,6 +29,7 @@ use Rattle.forgetting_hall.specs.Rests.{HallRest, ShowsWorld, FollowsEvent, IsGo
 use Rattle.forgetting_hall.specs.Telling.{HasTold, TellsOn}
 use Rattle.forgetting_hall.proofs.Effects.{none_if}
 use Rattle.forgetting_hall.proofs.Following.{Next, event_member, event_room}
+use Rattle.forgetting_hall.proofs.Happened.{members_stay}
 
 -- what takes effect, after one event more
 abbrev pub Effects : {O Op Reply : Type 0} → Rules O Op Reply → Type 0
@@ -38,7 +39,8 @@ Effects {O} {Op} {Reply} rules = (w v : World Op Reply) (e : Event Op) (order : 
 module _ {O Op Reply : Type 0} (rules : Rules O Op Reply) (h z : ForgettingState Op O Reply) where
   -- where there is no event
   pub stays_told : ShowsStill rules h z → z.gathering ≡ h.gathering → TellsOn rules h z
-  stays_told still same told t = record {
+  stays_told still same members told t = record {
+    has_members = (still t.world t.reachable t.shown).cluster.members ∙ sym t.shown.cluster.members ∙ t.has_members;
     gathers = ap (λ (g : Gathering Op). g.is_on) same ∙ t.gathers;
     world = t.world;
     reachable = t.reachable;
@@ -48,15 +50,16 @@ module _ {O Op Reply : Type 0} (rules : Rules O Op Reply) (h z : ForgettingState
 
   module _ (next : Next rules) (effects : Effects rules) (room : h.taken < most_events) where
     -- where there is one in which this takes effect
-    event_told : (e : Event Op) (c : Option (Command Op)) (told : List (Command Op)) (t : HasTold rules h told)
+    event_told : (e : Event Op) (c : Option (Command Op)) (members : List ℕ) (told : List (Command Op)) (t : HasTold rules members h told)
         → FollowsEvent rules t.world e (rest_of_hall rules z) → effect_of t.world e ≡ c
-        → z.gathering ≡ gathered c h.gathering → HasTold rules z told
-    event_told e c told t follows effect same =
+        → z.gathering ≡ gathered c h.gathering → HasTold rules members z told
+    event_told e c members told t follows effect same =
         let on : z.gathering.is_on ≡ true = ap (λ (g : Gathering Op). g.is_on) same ∙ t.gathers in
         let more : z.gathering.commands ≡ h.gathering.commands ++ option_to_list c =
         ap (λ (g : Gathering Op). g.commands) same
         ∙ ap (λ b. h.gathering.commands ++ option_to_list (cond b c None)) t.gathers in
         record {
+          has_members = follows.2.cluster.members ∙ members_stay rules t.world follows.0 e follows.1 ∙ sym t.shown.cluster.members ∙ t.has_members;
           gathers = on;
           world = follows.0;
           reachable = next t.world follows.0 e t.reachable follows.1 (subst (λ n. n < most_events) t.shown.taken room);
@@ -69,35 +72,37 @@ module _ {O Op Reply : Type 0} (rules : Rules O Op Reply) (h z : ForgettingState
         }
 
     -- nothing does
-    quiet_told : (e : Event Op) (told : List (Command Op)) (t : HasTold rules h told)
+    quiet_told : (e : Event Op) (members : List ℕ) (told : List (Command Op)) (t : HasTold rules members h told)
         → FollowsEvent rules t.world e (rest_of_hall rules z) → effect_of t.world e ≡ None
-        → z.gathering ≡ h.gathering → HasTold rules z told
-    quiet_told e told t follows effect same = event_told e None told t follows effect (same ∙ sym (nothing h.gathering))
+        → z.gathering ≡ h.gathering → HasTold rules members z told
+    quiet_told e members told t follows effect same = event_told e None members told t follows effect (same ∙ sym (nothing h.gathering))
       where
         nothing : (g : Gathering Op) → gathered None g ≡ g
         nothing g = λ i. record g { commands = (ap (λ o. g.commands ++ option_to_list o) (none_if g.is_on None refl) ∙ append-nil g.commands) i }
 
     pub submit_told : (n : ℕ) (c : Command Op) → FollowsIn rules h (Submit n c) z → z.gathering ≡ h.gathering → TellsOn rules h z
-    submit_told n c follows same told t = quiet_told (Submit n c) told t (follows t.world t.reachable t.shown) refl same
+    submit_told n c follows same members told t = quiet_told (Submit n c) members told t (follows t.world t.reachable t.shown) refl same
 
     pub act_told : ((q : HallRest Op O Reply) (w : World Op Reply) (n : ℕ) (d : Deed Op) → IsWorld rules w → ShowsWorld rules q w
         → is_member q.network.members n ≡ true → IsGoingOn d → effect_of w (event_of n d) ≡ placed_by q n d)
         → (n : ℕ) (d : Deed Op) → is_member h.network.members n ≡ true → IsGoingOn d → FollowsIn rules h (event_of n d) z
         → z.gathering ≡ gathered (placed_by (rest_of_hall rules h) n d) h.gathering → TellsOn rules h z
-    act_told tells n d member own follows same told t =
-        event_told (event_of n d) (placed_by (rest_of_hall rules h) n d) told t (follows t.world t.reachable t.shown)
+    act_told tells n d member own follows same members told t =
+        event_told (event_of n d) (placed_by (rest_of_hall rules h) n d) members told t (follows t.world t.reachable t.shown)
         (tells (rest_of_hall rules h) t.world n d t.reachable t.shown member own) same
 
     pub receive_told : (n : ℕ) (l : Letter (Command Op)) (left : LetterBody (Command Op)) → FollowsLeft rules h n l left z
         → z.gathering ≡ h.gathering → TellsOn rules h z
-    receive_told n l left follows same told t =
+    receive_told n l left follows same members told t =
         let f = follows t.world t.reachable t.shown in
-        quiet_told (Deliver f.0) told t f.5 refl same
+        quiet_told (Deliver f.0) members told t f.5 refl same
 
 -- what was gathered is taken from it
-pub take_told : {O Op Reply : Type 0} (rules : Rules O Op Reply) (h : ForgettingState Op O Reply) (told : List (Command Op)) → HasTold rules h told
-    → HasTold rules (record h { gathering = record h.gathering { commands = [] } }) (told ++ h.gathering.commands)
-take_told rules h told t = record {
+pub take_told : {O Op Reply : Type 0} (rules : Rules O Op Reply) (h : ForgettingState Op O Reply) (members : List ℕ) (told : List (Command Op))
+    → HasTold rules members h told
+    → HasTold rules members (record h { gathering = record h.gathering { commands = [] } }) (told ++ h.gathering.commands)
+take_told rules h members told t = record {
+  has_members = t.has_members;
   gathers = t.gathers;
   world = t.world;
   reachable = t.reachable;
@@ -112,7 +117,7 @@ not_refused (Some e) x refused = absurd (let r = refused e refl in cc)
 
 module _ {O Op Reply : Type 0} (rules : Rules O Op Reply) (h z : ForgettingState Op O Reply) (n : ℕ) where
   same_told : z ≡ h → TellsOn rules h z
-  same_told same told t = subst (λ q. HasTold rules q told) (sym same) t
+  same_told same members told t = subst (λ q. HasTold rules members q told) (sym same) t
 
   -- a node did something by itself, or was refused it
   pub turn_told : (d : Deed Op)

@@ -1,4 +1,4 @@
-ghost use Rattle.std.specs.Prelude.{◌≡◌, ◌++◌, ◌<◌, ℕ, List, [], true};
+ghost use Rattle.std.specs.Prelude.{◌≡◌, ◌++◌, ◌<◌, ℕ, List, [], length, true};
 ghost use Rattle.object.specs.declared.command.Command.{Command};
 ghost use Rattle.ballot.specs.Members.{is_member};
 ghost use Rattle.ballot.specs.declared.letter.Letter.{Letter};
@@ -18,11 +18,12 @@ use crate::order::effects_in_order;
 use agreement::every_world;
 use object::Object;
 
-/// What a hall that gathers has told is what took effect, in the one order, and nothing else: at first nothing (`opening`); a
-/// call that is no event tells nothing (`stays`), nor does one that hands in (`submits`) or receives (`receives`); what takes
-/// effect as a node does something is gathered (`acts`), and told when it is taken (`takes`).
+/// What a hall that gathers has told is what took effect, in the one order, and nothing else: at first nothing
+/// (`opening`); a call that is no event tells nothing (`stays`), nor does one that hands in (`submits`) or receives
+/// (`receives`); what takes effect as a node does something is gathered (`acts`), and told when it is taken (`takes`).
+/// The hall counts as many as took effect (`counted`), and has the members that it had at first.
 pub fn tells_in_order<O: Object>()
-    ensures opening { (members : List ℕ) → HasTold O.rules (record (new_forgetting O.rules members)
+    ensures opening { (members : List ℕ) → HasTold O.rules members (record (new_forgetting O.rules members)
         { gathering = record { is_on = true; commands = [] } }) [] }
     ensures stays { (h z : ForgettingState O.Op O O.Reply) → ShowsStill O.rules h z
         → z.gathering ≡ h.gathering → TellsOn O.rules h z }
@@ -34,9 +35,12 @@ pub fn tells_in_order<O: Object>()
     ensures receives { (h z : ForgettingState O.Op O O.Reply) (n : ℕ) (l : Letter (Command O.Op))
         (left : LetterBody (Command O.Op)) → h.taken < most_events → FollowsLeft O.rules h n l left z
         → z.gathering ≡ h.gathering → TellsOn O.rules h z }
-    ensures takes { (h : ForgettingState O.Op O O.Reply) (told : List (Command O.Op)) → HasTold O.rules h told
-        → HasTold O.rules (record h { gathering = record h.gathering { commands = [] } })
+    ensures takes { (h : ForgettingState O.Op O O.Reply) (members : List ℕ) (told : List (Command O.Op))
+        → HasTold O.rules members h told
+        → HasTold O.rules members (record h { gathering = record h.gathering { commands = [] } })
         (told ++ h.gathering.commands) }
+    ensures counted { (h : ForgettingState O.Op O O.Reply) (members : List ℕ) (told : List (Command O.Op))
+        → HasTold O.rules members h told → h.summary.placed ≡ length (told ++ h.gathering.commands) }
 {
     every_world::<O>();
     halls_rest::<O>();

@@ -23,6 +23,11 @@ pub record HoldsAll {W : Type 0} (contents : W → Option (List ℕ)) (j : Journ
   pub log : HoldsLog (contents j.log.writer) j.log.batch members noted
   pub rest : noted ++ j.waiting ≡ commands
 
+-- nothing is lost: what the log was, with what waited behind it, it still is with what waits behind it now
+abbrev pub LosesNothing : {W : Type 0} → (W → Option (List ℕ)) → JournalState W → JournalState W → Type 0
+LosesNothing contents old new =
+    (members : List ℕ) (commands : List (Command Op)) → HoldsAll contents old members commands → HoldsAll contents new members commands
+
 -- the fault of a command that isn't noted
 abbrev pub fault_of_note : NoteFault → JournalFault
 fault_of_note note.OutOfMemory = OutOfMemory

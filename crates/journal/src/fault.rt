@@ -10,7 +10,7 @@ pub enum JournalFault {
     /// Nothing is lost: they wait as before.
     #[error("out of memory")]
     OutOfMemory,
-    /// One has a line that no log may have.
+    /// One has a line that no log may have. Nothing is lost: it waits as before, and so do those behind it.
     #[error("a command is too long for a log")]
     TooLong,
     /// A write or a sync failed, now or before.

@@ -3,7 +3,7 @@ ghost use Rattle.std.specs.Io.KnownBytes.{Keeps};
 ghost use Rattle.object.specs.declared.command.Command.{Command};
 ghost use Rattle.bean_queue.specs.declared.op.Op.{Op};
 ghost use Rattle.log_file.specs.Logs.{BeginsLog, HoldsLog};
-ghost use Rattle.journal.specs.Waiting.{HoldsAll};
+ghost use Rattle.journal.specs.Waiting.{HoldsAll, LosesNothing};
 
 use crate::fault::JournalFault;
 use bean_queue::Op;
@@ -14,8 +14,8 @@ use std::marker::Model;
 
 /// A log, and the commands that come next in it.
 ///
-/// Whoever waits for a command takes what took effect, puts it here, and has it kept; who comes later finds that it is. One
-/// sync does for all whose commands took effect meanwhile.
+/// Whoever waits for a command takes what took effect, puts it here, and has it kept; who comes later finds that it is.
+/// One sync does for all whose commands took effect meanwhile.
 #[derive(Drop)]
 pub struct Journal<W> {
     log: LogWriter<W>,
@@ -77,17 +77,17 @@ impl<W: Durable> Journal<W> {
         self.due = count;
     }
 
-    /// Keeps all that waits. Where memory is refused it may be tried again; after another fault nothing is kept any more.
+    /// Keeps all that waits. Where memory is refused it may be tried again. A command that is too long goes on waiting,
+    /// and all behind it; after a failed write or sync nothing is kept any more.
     pub fn keep(&mut self) -> Result<(), JournalFault>
         ensures kept { OnOk result ((self.new.waiting ≡ []) × (self.new.kept ≡ self.old.due)) }
         ensures log { OnOk result ((members : List ℕ) (commands : List (Command Op))
             → HoldsAll W.contents self.old members commands
             → HoldsLog (W.contents self.new.log.writer) [] members commands) }
-        ensures later { IsErrOf result JournalFault.OutOfMemory
-            → (members : List ℕ) (commands : List (Command Op)) → HoldsAll W.contents self.old members commands
-            → HoldsAll W.contents self.new members commands }
+        ensures later { IsErrOf result JournalFault.OutOfMemory ⊎ IsErrOf result JournalFault.TooLong
+            → LosesNothing W.contents self.old self.new }
         ensures unkept { OnErr result (self.new.kept ≡ self.old.kept) }
-        ensures due { OnErr result (self.new.due ≡ self.old.due) }
+        ensures due { self.new.due ≡ self.old.due }
     {
         self.note_all()?;
         self.log.keep()?;
@@ -100,8 +100,7 @@ impl<W: Durable> Journal<W> {
     // Puts what waits into the log's batch.
     fn note_all(&mut self) -> Result<(), JournalFault>
         ensures noted { OnOk result (self.new.waiting ≡ []) }
-        ensures log { (members : List ℕ) (commands : List (Command Op))
-            → HoldsAll W.contents self.old members commands → HoldsAll W.contents self.new members commands }
+        ensures log { LosesNothing W.contents self.old self.new }
         ensures due { self.new.due ≡ self.old.due }
         ensures kept { self.new.kept ≡ self.old.kept }
     {

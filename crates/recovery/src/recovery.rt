@@ -1,6 +1,6 @@
 ghost use Rattle.std.specs.Prelude.{◌≡◌, ◌≤◌, ◌<◌, ◌++◌, ℕ, List, [], length, take, IfOk, OnOk, IsTrue};
 ghost use Rattle.object.specs.declared.command.Command.{Command};
-ghost use Rattle.forgetting_hall.specs.Telling.{HasTold};
+ghost use Rattle.forgetting_hall.specs.Telling.{HasTold, TellsOn};
 ghost use Rattle.recovery.specs.Obeyed.{HasReplayed};
 ghost use Rattle.recovery.specs.Opened.{EndsAll};
 
@@ -43,8 +43,8 @@ impl<O: Object> Model for Recovery<O> {
     ghost view = { λ r. record { hall = r.hall; live = r.live } };
 }
 
-/// A hall that has obeyed a log, and the commands by which it ended each session that the log leaves open. They took effect
-/// behind the log's.
+/// A hall that has obeyed a log, and the commands by which it ended each session that the log leaves open. They took
+/// effect behind the log's.
 #[derive(Drop)]
 pub struct Recovered<O: Object> {
     pub hall: ForgettingHall<O>,
@@ -58,7 +58,7 @@ impl<O: Object> Recovery<O> {
         members: Members,
         commands: &[Command<O::Op>],
     ) -> Result<Recovery<O>, RecoverFault>
-        ensures { IfOk result (λ r. HasReplayed O.rules r []) }
+        ensures { IfOk result (λ r. HasReplayed O.rules members r []) }
     {
         Ok(Recovery {
             hall: begun(alloc, members)?,
@@ -69,11 +69,12 @@ impl<O: Object> Recovery<O> {
         })
     }
 
-    /// Obeys some first ones of these commands, which come next in the log, and tells how many: none where there are none,
-    /// and 64 at most.
+    /// Obeys some first ones of these commands, which come next in the log, and tells how many: none where there are
+    /// none, and 64 at most.
     pub fn obey_some(&mut self, commands: &[Command<O::Op>]) -> Result<usize, RecoverFault>
-        ensures obeyed { IfOk result (λ count. (before : List (Command O.Op)) → HasReplayed O.rules self.old before
-            → HasReplayed O.rules self.new (before ++ take count commands.now)) }
+        ensures obeyed { IfOk result (λ count. (members : List ℕ) (before : List (Command O.Op))
+            → HasReplayed O.rules members self.old before
+            → HasReplayed O.rules members self.new (before ++ take count commands.now)) }
         ensures few { IfOk result (λ count. count ≤ length commands.now) }
         ensures some { IfOk result (λ count. 0 < length commands.now → 0 < count) }
     {
@@ -84,12 +85,17 @@ impl<O: Object> Recovery<O> {
 
     /// Ends each session that is open.
     pub fn finish(self) -> Result<Recovered<O>, RecoverFault>
-        ensures told { IfOk result (λ r. (before : List (Command O.Op)) → HasReplayed O.rules self before
-            → HasTold O.rules r.hall (before ++ r.closes.items)) }
-        ensures closes { IfOk result (λ r. (before : List (Command O.Op)) → HasReplayed O.rules self before
-            → EndsAll before r.closes.items) }
+        ensures told { IfOk result (λ r. (members : List ℕ) (before : List (Command O.Op))
+            → HasReplayed O.rules members self before
+            → HasTold O.rules members r.hall (before ++ r.closes.items)) }
+        ensures closes { IfOk result (λ r. (members : List ℕ) (before : List (Command O.Op))
+            → HasReplayed O.rules members self before → EndsAll before r.closes.items) }
+        ensures counted { IfOk result (λ r. (members : List ℕ) (before : List (Command O.Op))
+            → HasReplayed O.rules members self before
+            → r.hall.summary.placed ≡ length (before ++ r.closes.items)) }
         ensures gathered { IfOk result (λ r. r.hall.gathering.commands ≡ []) }
     {
+        tells_in_order::<O>();
         let Recovery { mut hall, live, .. } = self;
         for session in &live {
             steps::close(&mut hall, *session)?;
@@ -104,8 +110,9 @@ impl<O: Object> Recovery<O> {
 
     // Obeys these commands. What takes effect has to be just these.
     fn obey(&mut self, commands: &[Command<O::Op>]) -> Result<(), RecoverFault>
-        ensures { OnOk result ((before : List (Command O.Op)) → HasReplayed O.rules self.old before
-            → HasReplayed O.rules self.new (before ++ commands.now)) }
+        ensures { OnOk result ((members : List ℕ) (before : List (Command O.Op))
+            → HasReplayed O.rules members self.old before
+            → HasReplayed O.rules members self.new (before ++ commands.now)) }
     {
         for command in commands {
             self.hand_in(command)?;
@@ -121,8 +128,7 @@ impl<O: Object> Recovery<O> {
 
     // Hands in a command, once all sessions of the log are there whose number is no greater.
     fn hand_in(&mut self, command: &Command<O::Op>) -> Result<(), RecoverFault>
-        ensures hall { (before : List (Command O.Op)) → HasTold O.rules self.old.hall before
-            → HasTold O.rules self.new.hall before }
+        ensures hall { TellsOn O.rules self.old.hall self.new.hall }
         ensures live { self.new.live ≡ self.old.live }
     {
         let session = command.key().session;
@@ -136,7 +142,7 @@ impl<O: Object> Recovery<O> {
 
 // A hall in which nothing happened but that its first node asked to lead. It gathers what takes effect.
 fn begun<O: Object>(alloc: Global, members: Members) -> Result<ForgettingHall<O>, RecoverFault>
-    ensures { IfOk result (λ hall. HasTold O.rules hall []) }
+    ensures { IfOk result (λ hall. HasTold O.rules members hall []) }
 {
     tells_in_order::<O>();
     let mut hall = ForgettingHall::new(alloc, members)?;
@@ -148,8 +154,9 @@ fn begun<O: Object>(alloc: Global, members: Members) -> Result<ForgettingHall<O>
 
 // What takes effect as the nodes take their turns, until none has anything to do.
 fn placed<O: Object>(hall: &mut ForgettingHall<O>) -> Result<Vec<Command<O::Op>>, RecoverFault>
-    ensures told { IfOk result (λ placed. (before : List (Command O.Op)) → HasTold O.rules hall.old before
-        → HasTold O.rules hall.new (before ++ placed.items)) }
+    ensures told { IfOk result (λ placed. (members : List ℕ) (before : List (Command O.Op))
+        → HasTold O.rules members hall.old before
+        → HasTold O.rules members hall.new (before ++ placed.items)) }
     ensures none { OnOk result (hall.new.gathering.commands ≡ []) }
 {
     tells_in_order::<O>();

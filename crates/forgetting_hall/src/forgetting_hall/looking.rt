@@ -113,7 +113,8 @@ impl<O: Object> ForgettingHall<O> {
 
     /// How many commands took effect.
     pub fn placed_count(&self) -> u64
-        ensures { (w : World O.Op O.Reply) → ShowsWorld O.rules (rest_of_hall O.rules self.now) w →
+        ensures count { result ≡ self.now.summary.placed }
+        ensures placed { (w : World O.Op O.Reply) → ShowsWorld O.rules (rest_of_hall O.rules self.now) w →
             CountsPlaced result w }
     {
         self.clients.placed()

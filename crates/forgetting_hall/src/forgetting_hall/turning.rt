@@ -16,12 +16,12 @@ impl<O: Object> Nodes for ForgettingHall<O> {
     // How many commands all sessions and the clock handed in, and how many sessions were opened.
     ghost handed_in = { λ hall. hall.summary.submitted ∷ hall.opened ∷ [] };
 
-    // What it gathers is what takes effect, in the one order.
+    // What it gathers is what takes effect, in the one order, and its members stay.
     ghost goes_on = { λ old new. TellsOn O.rules old new };
 
-    ghost stays = { λ hall told has. has };
+    ghost stays = { λ hall members told has. has };
 
-    ghost further = { λ a b c first then told has. then told (first told has) };
+    ghost further = { λ a b c first then members told has. then members told (first members told has) };
 
     fn count(&self) -> u8 {
         self.members().count()

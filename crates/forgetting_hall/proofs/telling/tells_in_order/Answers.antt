@@ -1,5 +1,6 @@
-use Rattle.std.proofs.Common.{refl, sym, subst}
+use Rattle.std.proofs.Common.{◌++◌, refl, sym, subst}
 use Rattle.agreement.specs.Worlds.{opening}
+use Rattle.forgetting_hall.specs.Halls.{rest_of_hall}
 use Rattle.forgetting_hall.specs.Rests.{ShowsWorld}
 use Rattle.forgetting_hall.proofs.Keeping.{opened_is}
 use Rattle.forgetting_hall.proofs.Told.{stays_told, submit_told, act_told, receive_told, take_told}
@@ -7,6 +8,7 @@ use Rattle.forgetting_hall.proofs.telling.tells_in_order.Goals as goal
 
 pub returns-clause-opening : goal.returns-clause-opening
 returns-clause-opening g c = λ members. record {
+  has_members = refl;
   gathers = refl;
   world = opening members;
   reachable = c.every_world.ensures.opening members;
@@ -34,4 +36,8 @@ returns-clause-receives g c = λ h z n l left room follows same.
     (λ w v e order i s took. c.effects_in_order.ensures.goes_on w v e order i s took) room n l left follows same
 
 pub returns-clause-takes : goal.returns-clause-takes
-returns-clause-takes g c = λ h told t. take_told g.O.Object.rules h told t
+returns-clause-takes g c = λ h members told t. take_told g.O.Object.rules h members told t
+
+pub returns-clause-counted : goal.returns-clause-counted
+returns-clause-counted g c = λ h members told t.
+    sym (c.effects_in_order.ensures.counted (rest_of_hall g.O.Object.rules h) t.world (told ++ h.gathering.commands) t.reachable t.shown t.took)

@@ -1,12 +1,10 @@
 use Rattle.std.proofs.Common.{◌≡◌, ◌-◌, ℕ, List, Option, length, drop}
-use Rattle.object.specs.declared.command.Command.{Command}
-use Rattle.bean_queue.specs.declared.op.Op.{Op}
-use Rattle.journal.specs.Waiting.{HoldsAll, JournalState}
+use Rattle.journal.specs.Waiting.{JournalState, LosesNothing}
 use Rattle.journal.proofs.journal.Journal.note_all.Given as goal
 
 -- what was noted stands in the log, and the rest waits
 pub record Noting (W : Type 0) (contents : W → Option (List ℕ)) (old new : JournalState W) : Type 0 where
-  pub log : (members : List ℕ) (commands : List (Command Op)) → HoldsAll contents old members commands → HoldsAll contents new members commands
+  pub log : LosesNothing contents old new
   pub due : new.due ≡ old.due
   pub kept : new.kept ≡ old.kept
 

@@ -1,16 +1,26 @@
-use Rattle.std.proofs.Common.{◌++◌, sym, subst}
+use Rattle.std.proofs.Common.{◌++◌, ap, length, append-nil, sym, subst, ◌∙◌}
+use Rattle.forgetting_hall.specs.Gathered.{Gathering}
 use Rattle.recovery.specs.Obeyed.{AreLeftOpen, RecoveryState}
 use Rattle.recovery.specs.Opened.{EndsAll}
 use Rattle.recovery.proofs.recovery.Recovery.finish.Goals as goal
 
 pub loop-session-preserved : goal.loop-session-preserved
-loop-session-preserved g c = λ told has. c.close.ensures told (c.loop-session.invariant told has)
+loop-session-preserved g c = λ members told has. c.close.ensures members told (c.loop-session.invariant members told has)
 
 pub returns-clause-told : goal.returns-clause-told
-returns-clause-told g c = λ before has.
-    c.forget.ensures.told (before ++ c.in_ok-closes.closes.items) (c.in_ok-closes.ensures.told before (c.loop-session.invariant before has.told))
+returns-clause-told g c = λ members before has.
+    c.forget.ensures.told members (before ++ c.in_ok-closes.closes.items)
+    (c.in_ok-closes.ensures.told members before (c.loop-session.invariant members before has.told))
 
 pub returns-clause-closes : goal.returns-clause-closes
-returns-clause-closes g c = λ before has.
+returns-clause-closes g c = λ members before has.
     subst (EndsAll before) c.deref.ensures.value
     (c.end_all.ensures c.if-not-end_all.false before (subst (λ (r : RecoveryState _ _ _). AreLeftOpen r.live before) (sym c.self.view_is) has.live))
+
+pub returns-clause-counted : goal.returns-clause-counted
+returns-clause-counted g c = λ members before has.
+    let all = before ++ c.in_ok-closes.closes.items in
+    c.tells_in_order.ensures.counted c.forget.new.hall members all
+    (c.forget.ensures.told members all (c.in_ok-closes.ensures.told members before (c.loop-session.invariant members before has.told)))
+    ∙ ap (λ cs. length (all ++ cs)) (ap (λ (q : Gathering _). q.commands) c.forget.ensures.gathering ∙ c.in_ok-closes.ensures.none)
+    ∙ ap length (append-nil all)
