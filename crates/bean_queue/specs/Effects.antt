@@ -5,10 +5,11 @@ use Rattle.object.specs.declared.command.Act.{Act}
 use Rattle.object.specs.declared.command.Answer.{Answer}
 use Rattle.object.specs.declared.command.Command.{Command}
 use Rattle.object.specs.declared.command.Key.{Key}
+use Rattle.job_store.specs.declared.history.History.{History}
 use Rattle.job_store.specs.declared.job.Job.{Job}
 use Rattle.job_store.specs.declared.state.State.{State}
 use Rattle.job_store.specs.Entries.{without, each_value}
-use Rattle.job_store.specs.States.{is_due, is_held, with_state}
+use Rattle.job_store.specs.States.{is_due, is_held, with_state, over_history, over_job}
 use Rattle.session_store.specs.Sessions.{session_of, known, with_wait_ended, is_waiting}
 use Rattle.pause_store.specs.Pauses.{left_at}
 use Rattle.bean_queue.specs.declared.op.Op.{Op}
@@ -75,13 +76,13 @@ unfoldable pub do_effect : Op → Key → QueueState → QueueOutcome
 do_effect op key s =
     if has_no_number op s then ends_wait s key Reply.InternalError else carried_out op key s
 
--- the job is ready again, if its state is one of these
-abbrev pub ready_if : (State → Bool) → Job → Job
-ready_if which job = if which job.state then with_state State.Ready job else job
+-- the job is changed, if its state is one of these
+abbrev pub change_if : (State → Bool) → (Job → Job) → Job → Job
+change_if which f job = if which job.state then f job else job
 
--- session x waits no longer, and the jobs that it has are ready again
+-- session x waits no longer, and the jobs that it has are ready again, which isn't counted
 abbrev pub released : ℕ → QueueState → QueueState
-released x s = record s { jobs = each_value (ready_if (is_held x)) s.jobs; sessions = with_wait_ended x s.sessions }
+released x s = record s { jobs = each_value (change_if (is_held x) (with_state State.Ready)) s.jobs; sessions = with_wait_ended x s.sessions }
 
 -- session x is gone
 abbrev pub forgotten : ℕ → QueueState → QueueState
@@ -96,12 +97,22 @@ abbrev pub is_returning : Returning → State → Bool
 is_returning (Returning.Due second) = is_due second
 is_returning (Returning.Held x) = is_held x
 
+-- the history of a job that is one of those, and was in this state
+abbrev pub returned_history : Returning → State → History → History
+returned_history (Returning.Due second) state h = over_history state h
+returned_history (Returning.Held x) state h = h
+
+-- the job as one of those: it is ready
+abbrev pub returned_job : Returning → Job → Job
+returned_job which job =
+    record job { state = State.Ready; history = returned_history which job.state job.history }
+
 -- it is this second: jobs whose delay or time to run is over by it are ready (protocol.txt of beanstalkd, "put": delay
 -- and ttr), and pauses that are over by it are gone
 abbrev pub at_second : ℕ → QueueState → QueueState
 at_second second s = record s {
   now = second;
-  jobs = each_value (ready_if (is_due second)) s.jobs;
+  jobs = each_value (change_if (is_due second) over_job) s.jobs;
   pauses = left_at second s.pauses;
 }
 

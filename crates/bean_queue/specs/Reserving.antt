@@ -4,9 +4,8 @@ use Rattle.std.specs.Prelude.{◌≡◌, ℕ, ◌+◌, Bool, true, false, List, 
 use Rattle.object.specs.declared.command.Answer.{Answer}
 use Rattle.object.specs.declared.command.Key.{Key}
 use Rattle.job_store.specs.declared.job.Job.{Job}
-use Rattle.job_store.specs.declared.state.State.{State}
 use Rattle.job_store.specs.Entries.{altered}
-use Rattle.job_store.specs.States.{with_state}
+use Rattle.job_store.specs.States.{reserved_job}
 use Rattle.job_store.specs.LookUps.{best_ready, not_paused}
 use Rattle.bean_queue.specs.declared.op.Op.{Op}
 use Rattle.bean_queue.specs.declared.reply.Reply.{Reply}
@@ -36,7 +35,7 @@ with_next_rank s = record s { next_rank = s.next_rank + 1 }
 abbrev pub taken : QueueState → ℕ → ℕ × Job → QueueState
 taken s x j = record s {
   next_rank = s.next_rank + 1;
-  jobs = altered j.0 (with_state (State.Reserved x (s.now + j.1.ttr))) s.jobs;
+  jobs = altered j.0 (reserved_job x (s.now + j.1.ttr)) s.jobs;
 }
 
 -- this state, and this reply to the reserve

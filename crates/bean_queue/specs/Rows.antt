@@ -10,7 +10,8 @@ use Rattle.object.specs.declared.command.Key.{Key}
 use Rattle.job_store.specs.declared.job.Job.{Job}
 use Rattle.job_store.specs.declared.state.State.{State}
 use Rattle.job_store.specs.Entries.{value_at, with_value, altered, without}
-use Rattle.job_store.specs.States.{is_held, is_delayed, is_buried, with_state, with_pri_and_state}
+use Rattle.job_store.specs.Histories.{new_history}
+use Rattle.job_store.specs.States.{is_held, is_delayed, is_buried, with_state, released_job, buried_job, kicked_job}
 use Rattle.job_store.specs.LookUps.{is_among, delayed_in, buried_in, first_ready, first_delayed, first_buried}
 use Rattle.session_store.specs.declared.session.SessionState.{SessionState}
 use Rattle.session_store.specs.Sessions.{with_wait}
@@ -41,7 +42,14 @@ ready_after now delay = if delay == 0 then State.Ready else State.Delayed (now +
 -- "put": ttr)
 abbrev pub put_job : QueueState → ℕ → ℕ → ℕ → ℕ → List ℕ → Job
 put_job s x pri delay ttr body =
-    record { tube = used_by s x; pri = pri; ttr = max ttr 1; body = body; state = ready_after s.now delay }
+    record {
+      tube = used_by s x;
+      pri = pri;
+      ttr = max ttr 1;
+      body = body;
+      state = ready_after s.now delay;
+      history = new_history s.now delay;
+    }
 
 -- the job stands under the next id (protocol.txt of beanstalkd, "put")
 unfoldable pub put_row : QueueState → ℕ → ℕ → ℕ → ℕ → List ℕ → Row
@@ -117,7 +125,7 @@ held_row s x id f reply =
 
 -- session x gives a job back (protocol.txt of beanstalkd, "release")
 unfoldable pub release_row : QueueState → ℕ → ℕ → ℕ → ℕ → Row
-release_row s x id pri delay = held_row s x id (with_pri_and_state pri (ready_after s.now delay)) Reply.Released
+release_row s x id pri delay = held_row s x id (released_job pri delay (ready_after s.now delay)) Reply.Released
 
 -- the time to run of a job of session x begins anew (protocol.txt of beanstalkd, "touch")
 unfoldable pub touch_row : QueueState → ℕ → ℕ → Row
@@ -131,7 +139,7 @@ bury_row s x id pri =
     replies
     (record s {
       next_rank = s.next_rank + 1;
-      jobs = altered id (with_pri_and_state pri (State.Buried s.next_rank)) s.jobs;
+      jobs = altered id (buried_job pri s.next_rank) s.jobs;
     })
     Reply.Buried
     else replies s Reply.NotFound
@@ -148,7 +156,7 @@ and_one k = record { jobs = k.jobs; count = k.count + 1 }
 -- the job that is picked is kicked, and then more are; none where none is picked
 abbrev pub kicked_option : (List (ℕ × Job) → Kicked) → List (ℕ × Job) → Option (ℕ × Job) → Kicked
 kicked_option more jobs None = record { jobs = jobs; count = 0 }
-kicked_option more jobs (Some e) = and_one (more (altered e.0 (with_state State.Ready) jobs))
+kicked_option more jobs (Some e) = and_one (more (altered e.0 kicked_job jobs))
 
 -- up to n of the jobs that `pick` picks in turn are ready
 unfoldable pub kicked : (List (ℕ × Job) → Option (ℕ × Job)) → ℕ → List (ℕ × Job) → Kicked
@@ -181,7 +189,7 @@ is_idle state = is_buried state || is_delayed state
 unfoldable pub kick_job_row : QueueState → ℕ → Row
 kick_job_row s id =
     if is_job_that is_idle (value_at id s.jobs)
-    then replies (with_jobs s (altered id (with_state State.Ready) s.jobs)) Reply.Kicked
+    then replies (with_jobs s (altered id kicked_job s.jobs)) Reply.Kicked
     else replies s Reply.NotFound
 
 -- the job that was looked for

@@ -2,11 +2,10 @@
 use Rattle.std.specs.Prelude.{◌≡◌, ℕ, zero, suc, ◌+◌, Bool, true, false, List, [], ◌∷◌, ◌++◌, Option, None, Some, filter_map, length, if◌then◌else◌}
 use Rattle.object.specs.declared.command.Answer.{Answer}
 use Rattle.job_store.specs.declared.job.Job.{Job}
-use Rattle.job_store.specs.declared.state.State.{State}
 use Rattle.job_store.specs.Entries.{altered}
 use Rattle.job_store.specs.Least.{least}
 use Rattle.job_store.specs.LookUps.{is_among, best_ready, pri_of_job, not_paused}
-use Rattle.job_store.specs.States.{with_state}
+use Rattle.job_store.specs.States.{reserved_job}
 use Rattle.session_store.specs.declared.session.SessionState.{SessionState}
 use Rattle.session_store.specs.Sessions.{first_waiting, with_wait_ended, is_waiting, wait_number, has_timed_out}
 use Rattle.bean_queue.specs.declared.reply.Reply.{Reply}
@@ -60,7 +59,7 @@ next_job s = least (λ e. true) pri_of_job (filter_map (wanted (paused_tubes s) 
 unfoldable pub given : QueueState → ℕ × Job → ℕ × SessionState → QueueTurn
 given s j w = record {
   state = record s {
-    jobs = altered j.0 (with_state (State.Reserved w.0 (s.now + j.1.ttr))) s.jobs;
+    jobs = altered j.0 (reserved_job w.0 (s.now + j.1.ttr)) s.jobs;
     sessions = with_wait_ended w.0 s.sessions;
   };
   answer = answer_to w (Reply.Reserved j.0 j.1.body);

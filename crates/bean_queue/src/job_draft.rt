@@ -1,9 +1,9 @@
 ghost use Rattle.std.specs.Prelude.{◌≡◌, ◌^◌, [], IsSome};
 ghost use Rattle.job_store.specs.Entries.{Rising, with_value, altered, without};
-ghost use Rattle.job_store.specs.States.{with_state, with_pri_and_state};
+ghost use Rattle.job_store.specs.States.{marked, marked_at};
 ghost use Rattle.bean_queue.specs.Calls.{DraftsState, KeepsDraft, TakesDraftBack};
 
-use job_store::{Job, JobMap, State};
+use job_store::{Job, JobMap, Mark, State};
 use std::alloc::{AllocError, Global};
 use std::marker::Model;
 
@@ -53,19 +53,19 @@ impl<M: JobMap> JobDraft<M> {
         self.jobs.insert(id, job)
     }
 
-    /// Sets the priority and the state of the job at an id, if there is one.
-    pub fn set(&mut self, id: u64, pri: u32, state: State) -> Result<(), AllocError>
+    /// Sets the priority and the state of the job at an id, with this mark in its history, if there is one.
+    pub fn set(&mut self, id: u64, pri: u32, state: State, mark: Mark) -> Result<(), AllocError>
         ensures { DraftsState self.old self.new
-            (altered id (with_pri_and_state pri state) self.old.now) result }
+            (altered id (marked_at pri state mark) self.old.now) result }
     {
-        self.jobs.set(id, pri, state)
+        self.jobs.set(id, pri, state, mark)
     }
 
-    /// Sets the state of the job at an id, if there is one.
-    pub fn set_state(&mut self, id: u64, state: State) -> Result<(), AllocError>
-        ensures { DraftsState self.old self.new (altered id (with_state state) self.old.now) result }
+    /// Sets the state of the job at an id, with this mark in its history, if there is one.
+    pub fn set_state(&mut self, id: u64, state: State, mark: Mark) -> Result<(), AllocError>
+        ensures { DraftsState self.old self.new (altered id (marked state mark) self.old.now) result }
     {
-        self.jobs.set_state(id, state)
+        self.jobs.set_state(id, state, mark)
     }
 
     /// Keeps all changes.

@@ -14,7 +14,7 @@ mod reply;
 mod scan_jobs;
 mod waiting;
 
-pub use job_store::{Body, Job, Name, State};
+pub use job_store::{Body, History, Job, Name, State};
 pub use laws::{
     kick_counts, kick_makes_the_first_ready, one_answer, one_holder, queue_stays_sound,
     serve_gives_the_best, tick_owes_nothing, tubes_are_listed_once,

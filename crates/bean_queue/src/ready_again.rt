@@ -1,12 +1,13 @@
 ghost use Rattle.std.specs.Prelude.{◌≡◌};
 ghost use Rattle.job_store.specs.Entries.{each_value};
-ghost use Rattle.job_store.specs.States.{is_due, is_held};
-ghost use Rattle.bean_queue.specs.Effects.{ready_if};
+ghost use Rattle.job_store.specs.States.{is_due, is_held, with_state, over_job};
+ghost use Rattle.job_store.specs.declared.state.State.{State};
+ghost use Rattle.bean_queue.specs.Effects.{change_if};
 ghost use Rattle.bean_queue.specs.Calls.{DraftsWaking};
 
 use crate::job_draft::JobDraft;
 use indexmap::IndexSet;
-use job_store::{Job, JobMap, Name, State};
+use job_store::{Job, JobMap, Mark, Name, State};
 use object::Value;
 use std::alloc::{AllocError, Global};
 
@@ -23,7 +24,9 @@ impl Returning {
     ghost use Rattle.std.specs.Prelude.{option_map};
     ghost use Rattle.job_store.specs.Least.{least};
     ghost use Rattle.job_store.specs.LookUps.{due_of_job};
-    ghost use Rattle.bean_queue.specs.Effects.{is_returning};
+    ghost use Rattle.job_store.specs.declared.history.History.{History};
+    ghost use Rattle.job_store.specs.Histories.{after_mark};
+    ghost use Rattle.bean_queue.specs.Effects.{is_returning, returned_history, returned_job};
 
     /// Of these jobs in a map, that of the least (due, id).
     fn first<M: JobMap>(self, jobs: &M) -> Option<(u64, &Job)>
@@ -36,6 +39,16 @@ impl Returning {
         }
     }
 
+    /// What of the return of one from this state goes into its history.
+    fn mark(self, state: State) -> Mark
+        ensures { (h : History) → after_mark result h ≡ returned_history self state h }
+    {
+        match self {
+            Returning::Due { .. } if state.is_reserved() => Mark::TimedOut,
+            Returning::Due { .. } | Returning::Held { .. } => Mark::Nothing,
+        }
+    }
+
     /// Makes them ready, and tells their tubes.
     fn make_ready<M: JobMap>(
         self,
@@ -43,12 +56,13 @@ impl Returning {
         jobs: &mut JobDraft<M>,
     ) -> Result<IndexSet<Name>, AllocError>
         ensures { DraftsWaking (λ jobs. jobs) jobs.old jobs.new
-            (each_value (ready_if (is_returning self)) jobs.old.now) result }
+            (each_value (change_if (is_returning self) (returned_job self)) jobs.old.now) result }
     {
         let mut woken = IndexSet::new(alloc);
         'again: while let Some((id, job)) = self.first(jobs.map()) {
+            let mark = self.mark(job.state);
             woken.insert(job.tube.copy()?)?;
-            jobs.set_state(id, State::Ready)?;
+            jobs.set_state(id, State::Ready, mark)?;
         }
         Ok(woken)
     }
@@ -61,7 +75,7 @@ pub fn make_due_ready<M: JobMap>(
     second: u64,
 ) -> Result<IndexSet<Name>, AllocError>
     ensures { DraftsWaking (λ jobs. jobs) jobs.old jobs.new
-        (each_value (ready_if (is_due second)) jobs.old.now) result }
+        (each_value (change_if (is_due second) over_job) jobs.old.now) result }
 {
     Returning::Due { second }.make_ready(alloc, jobs)
 }
@@ -73,7 +87,7 @@ pub fn release_held<M: JobMap>(
     session: u32,
 ) -> Result<IndexSet<Name>, AllocError>
     ensures { DraftsWaking (λ jobs. jobs) jobs.old jobs.new
-        (each_value (ready_if (is_held session)) jobs.old.now) result }
+        (each_value (change_if (is_held session) (with_state State.Ready)) jobs.old.now) result }
 {
     Returning::Held { session }.make_ready(alloc, jobs)
 }

@@ -4,7 +4,7 @@ ghost use Rattle.job_store.specs.LookUps.{has_jobs};
 
 use crate::look_up::LookUp;
 use indexmap::IndexSet;
-use job_store::{Job, JobMap, LoggedJobs, Name, State, add_name};
+use job_store::{Job, JobMap, LoggedJobs, Mark, Name, State, add_name};
 use std::alloc::{AllocError, Global};
 use std::collections::{BTreeMap, BTreeSet};
 use std::marker::Model;
@@ -90,12 +90,12 @@ impl JobMap for ScanJobs {
         self.jobs.insert(id, job)
     }
 
-    fn set_state(&mut self, id: u64, state: State) -> Result<(), AllocError> {
-        self.jobs.set_state(id, state)
+    fn set_state(&mut self, id: u64, state: State, mark: Mark) -> Result<(), AllocError> {
+        self.jobs.set_state(id, state, mark)
     }
 
-    fn set(&mut self, id: u64, pri: u32, state: State) -> Result<(), AllocError> {
-        self.jobs.set(id, pri, state)
+    fn set(&mut self, id: u64, pri: u32, state: State, mark: Mark) -> Result<(), AllocError> {
+        self.jobs.set(id, pri, state, mark)
     }
 
     fn remove(&mut self, id: u64) -> Option<Job> {

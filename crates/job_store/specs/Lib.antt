@@ -2,6 +2,7 @@ pub mod Names
 pub mod NameSets
 pub mod Entries
 pub mod EntryLaws
+pub mod Histories
 pub mod States
 pub mod Changes
 pub mod Undone

@@ -1,7 +1,10 @@
 -- What is asked of a job's state (protocol.txt of beanstalkd, "Job Lifecycle").
-use Rattle.std.specs.Prelude.{ℕ, Bool, true, false, ◌==◌, nat_le}
+use Rattle.std.specs.Prelude.{ℕ, Bool, true, false, ◌==◌, nat_le, if◌then◌else◌}
+use Rattle.job_store.specs.declared.history.History.{History}
 use Rattle.job_store.specs.declared.job.Job.{Job}
+use Rattle.job_store.specs.declared.mark.Mark.{Mark}
 use Rattle.job_store.specs.declared.state.State.{State}
+use Rattle.job_store.specs.Histories.{after_mark, and_reserved, and_released, and_buried, and_kicked, and_timed_out}
 
 -- anyone who watches its tube may reserve the job
 abbrev pub is_ready : State → Bool
@@ -77,6 +80,35 @@ rank_of (State.Buried rank) = rank
 abbrev pub with_state : State → Job → Job
 with_state state job = record job { state = state }
 
--- the job, of this priority and in this state
-abbrev pub with_pri_and_state : ℕ → State → Job → Job
-with_pri_and_state pri state job = record job { pri = pri; state = state }
+-- the job in this state, with this mark in its history
+abbrev pub marked : State → Mark → Job → Job
+marked state mark job = record job { state = state; history = after_mark mark job.history }
+
+-- the job at this priority and in this state, with this mark in its history
+abbrev pub marked_at : ℕ → State → Mark → Job → Job
+marked_at pri state mark job = record job { pri = pri; state = state; history = after_mark mark job.history }
+
+-- session x gets the job, until the second that is due
+abbrev pub reserved_job : ℕ → ℕ → Job → Job
+reserved_job x due job = record job { state = State.Reserved x due; history = and_reserved job.history }
+
+-- the job's session gives it back, at this priority and with this delay, which leads to this state
+abbrev pub released_job : ℕ → ℕ → State → Job → Job
+released_job pri delay state job =
+    record job { pri = pri; state = state; history = and_released delay job.history }
+
+-- the job's session lays it aside, at this priority and under this rank
+abbrev pub buried_job : ℕ → ℕ → Job → Job
+buried_job pri rank job = record job { pri = pri; state = State.Buried rank; history = and_buried job.history }
+
+-- the job is kicked: it is ready
+abbrev pub kicked_job : Job → Job
+kicked_job job = record job { state = State.Ready; history = and_kicked job.history }
+
+-- the history of a job whose delay or time to run is over in this state; of a reserved one that is counted
+abbrev pub over_history : State → History → History
+over_history state h = if is_reserved state then and_timed_out h else h
+
+-- the job's delay or its time to run is over: it is ready
+abbrev pub over_job : Job → Job
+over_job job = record job { state = State.Ready; history = over_history job.state job.history }

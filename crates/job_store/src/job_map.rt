@@ -3,11 +3,12 @@ ghost use Rattle.std.specs.Map.{keys_of};
 ghost use Rattle.object.specs.Lists.{In};
 ghost use Rattle.job_store.specs.declared.job.Job.{Job};
 ghost use Rattle.job_store.specs.Entries.{Rising, value_at, with_value, altered, without};
-ghost use Rattle.job_store.specs.States.{with_state, with_pri_and_state};
+ghost use Rattle.job_store.specs.States.{marked, marked_at};
 ghost use Rattle.job_store.specs.Least.{IsLeast, NonePasses};
 ghost use Rattle.job_store.specs.LookUps.{ready_in, delayed_in, buried_in, due_by, due_after, held_by, pri_of_job, due_of_job, rank_of_job, not_paused, best_ready, first_ready, first_delayed, first_buried, first_due, first_due_after, first_held, has_jobs};
 
 use crate::job::Job;
+use crate::mark::Mark;
 use crate::name::Name;
 use crate::state::State;
 use indexmap::IndexSet;
@@ -67,18 +68,18 @@ pub trait JobMap: Drop + Sized {
         ensures err { OnErr result (entries self.new ≡ entries self.old) }
         ensures before { before self.new ≡ before self.old };
 
-    /// Sets the state of the job at an id, if there is one.
-    fn set_state(&mut self, id: u64, state: State) -> Result<(), AllocError>
+    /// Sets the state of the job at an id, with this mark in its history, if there is one.
+    fn set_state(&mut self, id: u64, state: State, mark: Mark) -> Result<(), AllocError>
         ensures ok { OnOk result (entries self.new
-            ≡ altered id (with_state state) (entries self.old)) }
+            ≡ altered id (marked state mark) (entries self.old)) }
         ensures err { OnErr result (entries self.new ≡ entries self.old) }
         ensures there { OnErr result (IsSome (value_at id (entries self.old))) }
         ensures before { before self.new ≡ before self.old };
 
-    /// Sets the priority and the state of the job at an id, if there is one.
-    fn set(&mut self, id: u64, pri: u32, state: State) -> Result<(), AllocError>
+    /// Sets the priority and the state of the job at an id, with this mark in its history, if there is one.
+    fn set(&mut self, id: u64, pri: u32, state: State, mark: Mark) -> Result<(), AllocError>
         ensures ok { OnOk result (entries self.new
-            ≡ altered id (with_pri_and_state pri state) (entries self.old)) }
+            ≡ altered id (marked_at pri state mark) (entries self.old)) }
         ensures err { OnErr result (entries self.new ≡ entries self.old) }
         ensures there { OnErr result (IsSome (value_at id (entries self.old))) }
         ensures before { before self.new ≡ before self.old };

@@ -11,6 +11,7 @@ use crate::job::Job;
 use crate::job_map::JobMap;
 use crate::label::Label;
 use crate::logged_jobs::LoggedJobs;
+use crate::mark::Mark;
 use crate::moves::{follow, go_back, move_to, move_to_state, store, sweep};
 use crate::name::Name;
 use crate::name_set::add_name;
@@ -163,14 +164,19 @@ impl JobMap for Jobs {
         done
     }
 
-    fn set_state(&mut self, id: u64, state: State) -> Result<(), AllocError> {
-        let done = move_to_state(&mut self.shelves, &mut self.jobs, id, state);
+    fn set_state(&mut self, id: u64, state: State, mark: Mark) -> Result<(), AllocError> {
+        let done = move_to_state(&mut self.shelves, &mut self.jobs, id, state, mark);
         follow(&mut self.shelves, &self.jobs);
         done
     }
 
-    fn set(&mut self, id: u64, pri: u32, state: State) -> Result<(), AllocError> {
-        let change = Change { id, pri, state };
+    fn set(&mut self, id: u64, pri: u32, state: State, mark: Mark) -> Result<(), AllocError> {
+        let change = Change {
+            id,
+            pri,
+            state,
+            mark,
+        };
         let done = move_to(&mut self.shelves, &mut self.jobs, &change);
         follow(&mut self.shelves, &self.jobs);
         done
@@ -185,6 +191,7 @@ impl JobMap for Jobs {
             ttr,
             body,
             state,
+            history,
         } = job;
         let spot = Spot { tube, pri, state };
         self.shelves.take_everywhere(self.jobs.by_id(), id, &spot);
@@ -195,6 +202,7 @@ impl JobMap for Jobs {
             ttr,
             body,
             state,
+            history,
         })
     }
 

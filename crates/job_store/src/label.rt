@@ -29,8 +29,8 @@ pub enum Label<'a> {
 impl<'a> Label<'a> {
     /// Whether a job of this tube and in this state stands on the shelf.
     pub fn fits(&self, tube: &Name, state: State) -> bool
-        ensures { (id pri ttr : ℕ) (body : List ℕ) → result ≡ belongs self.now
-            (id, record { tube = tube.now; pri = pri; ttr = ttr; body = body; state = state }) }
+        ensures { (id : ℕ) (job : Job) → job.tube ≡ tube.now → job.state ≡ state
+            → result ≡ belongs self.now (id, job) }
     {
         match self {
             Label::Ready(own) => state.is_ready() && *own == tube,
@@ -44,8 +44,8 @@ impl<'a> Label<'a> {
 
     /// The number by which the shelf is ordered, of a job of this priority and in this state.
     pub fn number(&self, pri: u32, state: State) -> u64
-        ensures { (ttr : ℕ) (tube body : List ℕ) → result ≡ number self.now
-            (record { tube = tube; pri = pri; ttr = ttr; body = body; state = state }) }
+        ensures { (job : Job) → job.pri ≡ pri → job.state ≡ state
+            → result ≡ number self.now job }
     {
         match self {
             Label::Ready(_) => u64::from(pri),

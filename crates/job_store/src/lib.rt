@@ -4,12 +4,14 @@
 mod body;
 mod change;
 mod changes;
+mod history;
 mod job;
 mod job_map;
 mod jobs;
 mod label;
 mod laws;
 mod logged_jobs;
+mod mark;
 mod moves;
 mod name;
 mod name_bytes;
@@ -24,11 +26,13 @@ mod state;
 mod undo;
 
 pub use body::Body;
+pub use history::History;
 pub use job::Job;
 pub use job_map::JobMap;
 pub use jobs::{Jobs, more_urgent};
 pub use laws::{among_is_member, least_is_least};
 pub use logged_jobs::LoggedJobs;
+pub use mark::Mark;
 pub use name::Name;
 pub use name_set::add_name;
 pub use state::State;

@@ -1,10 +1,11 @@
 ghost use Rattle.std.specs.Prelude.{◌≡◌, ◌^◌, [], None, Some, IsSome, is_some, IfOk, OnOk, OnErr, option_copied};
 ghost use Rattle.job_store.specs.Entries.{Rising, value_at, with_value, altered, without};
-ghost use Rattle.job_store.specs.States.{with_state, with_pri_and_state};
+ghost use Rattle.job_store.specs.States.{marked, marked_at};
 
 use crate::change::Change;
 use crate::changes::{make, set_state};
 use crate::job::Job;
+use crate::mark::Mark;
 use crate::state::State;
 use crate::undo::{Undo, note, put, undo_all};
 use object::Value;
@@ -146,30 +147,36 @@ impl LoggedJobs {
         Ok(())
     }
 
-    /// Sets the state of the job at an id, if there is one.
-    pub fn set_state(&mut self, id: u64, state: State) -> Result<(), AllocError>
-        ensures ok { OnOk result (self.new.jobs ≡ altered id (with_state state) self.old.jobs) }
+    /// Sets the state of the job at an id, with this mark in its history, if there is one.
+    pub fn set_state(&mut self, id: u64, state: State, mark: Mark) -> Result<(), AllocError>
+        ensures ok { OnOk result (self.new.jobs ≡ altered id (marked state mark) self.old.jobs) }
         ensures err { OnErr result (self.new.jobs ≡ self.old.jobs) }
         ensures there { OnErr result (IsSome (value_at id self.old.jobs)) }
         ensures rising { Rising 0 (2 ^ 64) self.new.jobs }
         ensures before { self.new.before ≡ self.old.before }
     {
         note(&mut self.log, self.is_trial, id, &self.jobs)?;
-        set_state(&mut self.jobs, id, state);
+        set_state(&mut self.jobs, id, state, mark);
         Ok(())
     }
 
-    /// Sets the priority and the state of the job at an id, if there is one.
-    pub fn set(&mut self, id: u64, pri: u32, state: State) -> Result<(), AllocError>
+    /// Sets the priority and the state of the job at an id, with this mark in its history, if there is one.
+    pub fn set(&mut self, id: u64, pri: u32, state: State, mark: Mark) -> Result<(), AllocError>
         ensures ok { OnOk result (self.new.jobs
-            ≡ altered id (with_pri_and_state pri state) self.old.jobs) }
+            ≡ altered id (marked_at pri state mark) self.old.jobs) }
         ensures err { OnErr result (self.new.jobs ≡ self.old.jobs) }
         ensures there { OnErr result (IsSome (value_at id self.old.jobs)) }
         ensures rising { Rising 0 (2 ^ 64) self.new.jobs }
         ensures before { self.new.before ≡ self.old.before }
     {
         note(&mut self.log, self.is_trial, id, &self.jobs)?;
-        make(&mut self.jobs, &Change { id, pri, state });
+        let change = Change {
+            id,
+            pri,
+            state,
+            mark,
+        };
+        make(&mut self.jobs, &change);
         Ok(())
     }
 

@@ -1,33 +1,35 @@
 ghost use Rattle.std.specs.Prelude.{IsSome, is_some, OnErr};
 ghost use Rattle.job_store.specs.Entries.{value_at, with_value, altered};
-ghost use Rattle.job_store.specs.States.{with_state};
+ghost use Rattle.job_store.specs.States.{marked};
 ghost use Rattle.job_store.specs.Changes.{after_change};
 ghost use Rattle.job_store.specs.Shelves.{HoldJobs, AreSwept, CanGoBack, HasCaughtUp, MovesJobs};
 
 use crate::change::Change;
 use crate::job::Job;
 use crate::logged_jobs::LoggedJobs;
+use crate::mark::Mark;
 use crate::shelves::Shelves;
 use crate::spot::Spot;
 use crate::state::State;
 use std::alloc::AllocError;
 
-/// Sets the state of the job at an id, if there is one, after the shelves.
+/// Sets the state of the job at an id, with this mark in its history, if there is one, after the shelves.
 pub fn move_to_state(
     shelves: &mut Shelves,
     jobs: &mut LoggedJobs,
     id: u64,
     state: State,
+    mark: Mark,
 ) -> Result<(), AllocError>
     ensures moved { MovesJobs shelves.old shelves.new jobs.old jobs.new
-        (altered id (with_state state) jobs.old.jobs) result }
+        (altered id (marked state mark) jobs.old.jobs) result }
     ensures there { OnErr result (IsSome (value_at id jobs.old.jobs)) }
 {
     let Some(job) = jobs.by_id().get(&id) else {
         return Ok(());
     };
     shelves.put_changed(id, job, job.pri, state)?;
-    jobs.set_state(id, state)?;
+    jobs.set_state(id, state, mark)?;
     shelves.keep_last();
     Ok(())
 }
@@ -46,7 +48,7 @@ pub fn move_to(
         return Ok(());
     };
     shelves.put_changed(change.id, job, change.pri, change.state)?;
-    jobs.set(change.id, change.pri, change.state)?;
+    jobs.set(change.id, change.pri, change.state, change.mark)?;
     shelves.keep_last();
     Ok(())
 }

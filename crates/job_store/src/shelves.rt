@@ -4,9 +4,8 @@ ghost use Rattle.job_store.specs.declared.job.Job.{Job};
 ghost use Rattle.job_store.specs.declared.label.Label.{Label};
 ghost use Rattle.job_store.specs.declared.spot.Spot.{Spot};
 ghost use Rattle.job_store.specs.Entries.{Rising, value_at};
-ghost use Rattle.job_store.specs.States.{with_pri_and_state};
 ghost use Rattle.job_store.specs.ShelfStates.{bare, IsFrom, IsFound};
-ghost use Rattle.job_store.specs.Spots.{spot_of, at_spot};
+ghost use Rattle.job_store.specs.Spots.{spot_of, changed_spot, at_spot};
 ghost use Rattle.job_store.specs.Shelves.{shelf, places, lists, BelongsAt, IsAhead, AreInReach, HoldJobs, AreSwept, CanGoBack, IsGone, BeginNoLater, HasPut, HasTaken, HasGoneBack, HasSettled, HasCome, IsListed, ListsMore, PutsInDoubt, HasCaughtUp};
 
 use crate::job::Job;
@@ -260,11 +259,11 @@ impl Shelves {
         pri: u32,
         state: State,
     ) -> Result<(), AllocError>
-        ensures put { PutsInDoubt self.old self.new (id, with_pri_and_state pri state job.now)
-            result }
+        ensures put { PutsInDoubt self.old self.new
+            (id, at_spot (changed_spot pri state job.now)) result }
         ensures went { OnOk result (self.new.went.items
             ≡ (self.old.went.items ++ (id, spot_of job.now) ∷ [])
-            ++ (id, spot_of (with_pri_and_state pri state job.now)) ∷ []) }
+            ++ (id, changed_spot pri state job.now) ∷ []) }
     {
         let tube = job.tube.copy()?;
         self.leave(id, job)?;

@@ -1,10 +1,10 @@
 ghost use Rattle.std.specs.Prelude.{◌≡◌, ◌^◌, ◌++◌, ◌∷◌, [], IsSome, OnOk, OnErr};
-ghost use Rattle.job_store.specs.Entries.{Rising, value_at, with_value};
-ghost use Rattle.job_store.specs.Undone.{undone, all_undone, set_back, put_back};
+ghost use Rattle.job_store.specs.Entries.{Rising, value_at, with_value, altered};
+ghost use Rattle.job_store.specs.Undone.{undone, all_undone, set_to, set_back, put_back};
 
-use crate::change::Change;
-use crate::changes::make;
+use crate::history::History;
 use crate::job::Job;
+use crate::state::State;
 use std::alloc::AllocError;
 use std::collections::BTreeMap;
 
@@ -14,9 +14,17 @@ pub enum Undo {
     /// The job at this id goes.
     TakeOut(u64),
     /// This job stands at its id again.
-    PutBack { id: u64, job: Job },
-    /// A job has the priority and the state again that it had.
-    SetBack(Change),
+    PutBack {
+        id: u64,
+        job: Job,
+    },
+    /// The job at this id has the priority, the state and the history again that it had.
+    SetBack {
+        id: u64,
+        pri: u32,
+        state: State,
+        history: History,
+    },
 }
 
 /// In a trial, adds to the log what takes back a change of the job at an id, if there is one.
@@ -32,11 +40,12 @@ pub fn note(
     ensures there { OnErr result (IsSome (value_at id jobs.now.entries)) }
 {
     match jobs.get(&id) {
-        Some(job) if is_trial => log.push(Undo::SetBack(Change {
+        Some(job) if is_trial => log.push(Undo::SetBack {
             id,
             pri: job.pri,
             state: job.state,
-        }))?,
+            history: job.history,
+        })?,
         _ => {}
     }
     Ok(())
@@ -64,6 +73,18 @@ pub fn put(
     Ok(())
 }
 
+/// Sets the priority, the state and the history of the job at an id, if there is one.
+fn set_to(jobs: &mut BTreeMap<u64, Job>, id: u64, pri: u32, state: State, history: History)
+    requires { Rising 0 (2 ^ 64) jobs.old.entries }
+    ensures { jobs.new.entries ≡ altered id (set_to pri state history) jobs.old.entries }
+{
+    if let Some(job) = jobs.get_mut(&id) {
+        job.pri = pri;
+        job.state = state;
+        job.history = history;
+    }
+}
+
 /// Takes one change back.
 fn undo_one(jobs: &mut BTreeMap<u64, Job>, undo: Undo)
     requires { Rising 0 (2 ^ 64) jobs.old.entries }
@@ -78,7 +99,12 @@ fn undo_one(jobs: &mut BTreeMap<u64, Job>, undo: Undo)
                 *place = job;
             }
         }
-        Undo::SetBack(change) => make(jobs, &change),
+        Undo::SetBack {
+            id,
+            pri,
+            state,
+            history,
+        } => set_to(jobs, id, pri, state, history),
     }
 }
 

@@ -1,12 +1,16 @@
 -- Worked rows, computed.
-use Rattle.std.proofs.Common.{◌≡◌, ℕ, List, [], ◌∷◌, Some, None, map, codes, refl}
+use Rattle.std.proofs.Common.{◌≡◌, ℕ, List, [], ◌∷◌, Option, Some, None, map, option_map, codes, refl}
 use Rattle.object.specs.Replays.{kept}
 use Rattle.object.specs.declared.command.Act.{Act}
 use Rattle.object.specs.declared.command.Answer.{Answer}
 use Rattle.object.specs.declared.command.Command.{Command}
+use Rattle.job_store.specs.declared.history.History.{History}
+use Rattle.job_store.specs.Entries.{value_at}
 use Rattle.bean_queue.specs.declared.op.Op.{Op}
 use Rattle.bean_queue.specs.declared.reply.Reply.{Reply}
+use Rattle.bean_queue.specs.Queue.{QueueState, fresh}
 use Rattle.bean_queue.specs.Rows.{row, put_row, reserve_row, delete_row, all_tubes, kick_row, kicked, kick_job_row, use_row, watch_row, bury_row, peek_row}
+use Rattle.bean_queue.specs.Rows.{touch_row, release_row}
 use Rattle.bean_queue.specs.Turns.{turns, all_turns, given, serve_turn, told_turn, deadline_turn, timeout_turn, serve}
 use Rattle.bean_queue.specs.Effects.{turned_away, carried_out, do_effect, close_effect, tick_effect, act_effect, effect}
 use Rattle.bean_queue.specs.Places.{queue_replay}
@@ -137,3 +141,69 @@ lists_of_tubes :
     []
 unfolding effect act_effect do_effect carried_out turned_away row use_row watch_row all_tubes serve all_turns turns serve_turn given
 lists_of_tubes = refl
+
+-- the history of the first job after each of the commands
+abbrev histories : QueueState → List (Command Op) → List (Option History)
+histories s [] = []
+histories s (c ∷ cs) =
+    let after = (effect c s).state in
+    option_map (λ job. job.history) (value_at 1 after.jobs) ∷ histories after cs
+
+-- the history of a job that was put in the second 2
+abbrev counts : ℕ → ℕ → ℕ → ℕ → ℕ → ℕ → Option History
+counts delay reserves timeouts releases buries kicks = Some (record {
+  put_at = 2;
+  delay = delay;
+  reserves = reserves;
+  timeouts = timeouts;
+  releases = releases;
+  buries = buries;
+  kicks = kicks;
+})
+
+-- a job's whole life: touches, ends of a delay and ends of a session are not counted
+a_life :
+    histories
+    fresh
+    (
+    tick 2 ∷
+    asks 1 1 (Op.Put 5 3 4 j) ∷
+    tick 5 ∷
+    asks 1 2 (Op.Reserve None) ∷
+    asks 1 3 (Op.Touch 1) ∷
+    asks 1 4 (Op.Release 1 6 2) ∷
+    asks 2 1 (Op.Kick 9) ∷
+    asks 2 2 (Op.Reserve None) ∷
+    asks 1 5 (Op.Bury 1 7) ∷
+    asks 2 3 (Op.Bury 1 7) ∷
+    asks 1 6 (Op.KickJob 1) ∷
+    asks 1 7 (Op.KickJob 1) ∷
+    asks 1 8 (Op.Reserve None) ∷
+    asks 2 4 (Op.Reserve None) ∷
+    tick 9 ∷
+    closes 2 5 ∷
+    asks 1 9 (Op.Delete 1) ∷
+    []
+    ) ≡
+    None ∷
+    counts 3 0 0 0 0 0 ∷
+    counts 3 0 0 0 0 0 ∷
+    counts 3 1 0 0 0 0 ∷
+    counts 3 1 0 0 0 0 ∷
+    counts 2 1 0 1 0 0 ∷
+    counts 2 1 0 1 0 1 ∷
+    counts 2 2 0 1 0 1 ∷
+    counts 2 2 0 1 0 1 ∷
+    counts 2 2 0 1 1 1 ∷
+    counts 2 2 0 1 1 2 ∷
+    counts 2 2 0 1 1 2 ∷
+    counts 2 3 0 1 1 2 ∷
+    counts 2 3 0 1 1 2 ∷
+    counts 2 4 1 1 1 2 ∷
+    counts 2 4 1 1 1 2 ∷
+    None ∷
+    []
+unfolding effect act_effect do_effect carried_out tick_effect close_effect turned_away row put_row reserve_row delete_row
+    touch_row release_row bury_row kick_row kick_job_row kicked serve all_turns turns serve_turn given deadline_turn
+    timeout_turn told_turn
+a_life = refl

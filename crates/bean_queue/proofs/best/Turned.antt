@@ -2,10 +2,9 @@
 use Rattle.std.proofs.Common.{◌≡◌, ℕ, ◌+◌, true, List, [], ◌∷◌, ◌++◌, Some, None, ap, ap₂, ◌∙◌}
 use Rattle.object.specs.declared.command.Answer.{Answer}
 use Rattle.job_store.specs.declared.job.Job.{Job}
-use Rattle.job_store.specs.declared.state.State.{State}
 use Rattle.job_store.specs.Entries.{altered}
 use Rattle.job_store.specs.LookUps.{is_among}
-use Rattle.job_store.specs.States.{with_state}
+use Rattle.job_store.specs.States.{reserved_job}
 use Rattle.session_store.specs.declared.session.SessionState.{SessionState}
 use Rattle.session_store.specs.Sessions.{first_waiting, with_wait_ended, has_timed_out}
 use Rattle.bean_queue.specs.declared.reply.Reply.{Reply}
@@ -34,7 +33,7 @@ none-told_timeout s e = ap (tell s Reply.TimedOut) e
 pub served : (s : QueueState) (j : ℕ × Job) (w : ℕ × SessionState) (jobs : List (ℕ × Job))
     (sessions : List (ℕ × SessionState)) (xs ys : List (Answer Reply)) → next_job s ≡ Some j
     → first_waiting (λ e. is_among j.1.tube e.1.watched) s.sessions ≡ Some w
-    → jobs ≡ altered j.0 (with_state (State.Reserved w.0 (s.now + j.1.ttr))) s.jobs
+    → jobs ≡ altered j.0 (reserved_job w.0 (s.now + j.1.ttr)) s.jobs
     → sessions ≡ with_wait_ended w.0 s.sessions → ys ≡ xs ++ answer_to w (Reply.Reserved j.0 j.1.body) ∷ []
     → IsTurn serve_turn s (record s { jobs = jobs; sessions = sessions }) xs ys true
 unfolding serve_turn given

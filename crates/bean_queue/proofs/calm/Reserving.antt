@@ -8,12 +8,11 @@ use Rattle.object.specs.Lists.{In}
 use Rattle.object.specs.declared.command.Answer.{Answer}
 use Rattle.object.specs.declared.command.Key.{Key}
 use Rattle.job_store.specs.declared.job.Job.{Job}
-use Rattle.job_store.specs.declared.state.State.{State}
 use Rattle.job_store.specs.Entries.{Rising, value_at, with_value, altered}
 use Rattle.job_store.specs.EntryLaws.{value_at-here, value_at-next, value_at-In, value_at-insert, value_at-altered_same, altered-in, altered-none, altered-back}
 use Rattle.job_store.specs.Least.{lesser, least}
 use Rattle.job_store.specs.LookUps.{is_among, ready_in, best_ready, pri_of_job, not_paused}
-use Rattle.job_store.specs.States.{is_ready, with_state}
+use Rattle.job_store.specs.States.{is_ready, reserved_job}
 use Rattle.session_store.specs.declared.session.SessionState.{SessionState}
 use Rattle.session_store.specs.declared.session.Wait.{Wait}
 use Rattle.session_store.specs.Sessions.{new_session, session_of, with_wait, with_wait_ended, is_waiting, wait_rank, first_waiting}
@@ -297,13 +296,13 @@ wake-carried op key s t wakes c =
 
 pub took : (key : Key) (s : QueueState) (j : ℕ × Job) (jobs : List (ℕ × Job)) (xs ys : List (Answer Reply)) (due : ℕ)
     (body : List ℕ) → best_for s key.session ≡ Some j → due ≡ s.now + j.1.ttr
-    → jobs ≡ altered j.0 (with_state (State.Reserved key.session due)) s.jobs → body ≡ j.1.body
+    → jobs ≡ altered j.0 (reserved_job key.session due) s.jobs → body ≡ j.1.body
     → ys ≡ xs ++ record { to = key; reply = Reply.Reserved j.0 body } ∷ []
     → IsTaken key s (record s { next_rank = s.next_rank + 1; jobs = jobs }) xs ys true
 took key s j jobs xs ys due body best d js b a = (
   j,
   best,
   ap (λ es. let t : QueueState = record s { next_rank = s.next_rank + 1; jobs = es } in t)
-      (js ∙ ap (λ n. altered j.0 (with_state (State.Reserved key.session n)) s.jobs) d),
+      (js ∙ ap (λ n. altered j.0 (reserved_job key.session n) s.jobs) d),
   a ∙ ap (λ bytes. let r : Answer Reply = record { to = key; reply = Reply.Reserved j.0 bytes } in xs ++ r ∷ []) b,
 )

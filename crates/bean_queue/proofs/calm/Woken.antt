@@ -8,11 +8,10 @@ use Rattle.object.specs.Lists.{In}
 use Rattle.object.specs.declared.command.Answer.{Answer}
 use Rattle.object.specs.declared.command.Key.{Key}
 use Rattle.job_store.specs.declared.job.Job.{Job}
-use Rattle.job_store.specs.declared.state.State.{State}
 use Rattle.job_store.specs.Entries.{Rising, value_at, with_value, altered}
 use Rattle.job_store.specs.EntryLaws.{altered-in, insert-in, value_at-In, Rising-altered}
 use Rattle.job_store.specs.LookUps.{is_among, ready_in, first_buried, first_delayed, buried_in, delayed_in, pri_of_job, rank_of_job, due_of_job, not_paused}
-use Rattle.job_store.specs.States.{is_ready, is_held, is_buried, is_delayed, with_state, with_pri_and_state}
+use Rattle.job_store.specs.States.{is_ready, is_held, is_buried, is_delayed, reserved_job, released_job, kicked_job}
 use Rattle.session_store.specs.declared.session.SessionState.{SessionState}
 use Rattle.session_store.specs.Sessions.{is_waiting}
 use Rattle.session_store.specs.WatchLists.{joined}
@@ -87,7 +86,7 @@ covers-calmer tubes s t c covers j w =
 given-calmer : (s : QueueState) (j : ℕ × Job) (w : ℕ × SessionState) → IsCalmer s (given s j w).state
 unfolding given
 given-calmer s j w = record {
-  jobs = changed-calmer j.0 (with_state (State.Reserved w.0 (s.now + j.1.ttr))) s.jobs (λ job. refl);
+  jobs = changed-calmer j.0 (reserved_job w.0 (s.now + j.1.ttr)) s.jobs (λ job. refl);
   sessions = ended-calmer w.0 s.sessions;
   pauses = λ tube p. p;
 }
@@ -130,12 +129,12 @@ altered-woken id hi f jobs r same =
       | false ↦ λ e t. inl there
     ] refl)
 
--- a job that stands there, which is made ready
-one-woken : (hi : ℕ) (jobs : List (ℕ × Job)) (e : ℕ × Job) → Rising 0 hi jobs → In e jobs
-    → AreWoken (e.1.tube ∷ []) jobs (altered e.0 (with_state State.Ready) jobs)
-one-woken hi jobs e r there =
-    subst (λ o. AreWoken (tube_of o) jobs (altered e.0 (with_state State.Ready) jobs)) (value_at-In 0 hi jobs e r there)
-    (altered-woken e.0 hi (with_state State.Ready) jobs r (λ job. refl))
+-- a job that stands there, which is changed
+one-woken : (hi : ℕ) (f : Job → Job) (jobs : List (ℕ × Job)) (e : ℕ × Job) → ((job : Job) → (f job).tube ≡ job.tube)
+    → Rising 0 hi jobs → In e jobs → AreWoken (e.1.tube ∷ []) jobs (altered e.0 f jobs)
+one-woken hi f jobs e same r there =
+    subst (λ o. AreWoken (tube_of o) jobs (altered e.0 f jobs)) (value_at-In 0 hi jobs e r there)
+    (altered-woken e.0 hi f jobs r same)
 
 -- a job that is put
 put-woken : (id : ℕ) (job : Job) (jobs : List (ℕ × Job)) → AreWoken (job.tube ∷ []) jobs (with_value id job jobs)
@@ -156,9 +155,9 @@ kicked-woken tube pick picks (suc n) hi jobs r =
     elim (pick jobs) as (λ o. IfSome o (λ e. In e jobs × (e.1.tube ≡ tube)) → AreWoken (tube ∷ []) jobs (kicked_option (kicked pick n) jobs o).jobs) [
       | None ↦ λ p. none-woken (tube ∷ []) jobs
       | Some e ↦ λ p.
-          woken-then (tube ∷ []) jobs (altered e.0 (with_state State.Ready) jobs) (kicked pick n (altered e.0 (with_state State.Ready) jobs)).jobs
-          (subst (λ t. AreWoken (t ∷ []) jobs (altered e.0 (with_state State.Ready) jobs)) p.1 (one-woken hi jobs e r p.0))
-          (kicked-woken tube pick picks n hi (altered e.0 (with_state State.Ready) jobs) (Rising-altered e.0 (with_state State.Ready) 0 hi jobs r))
+          woken-then (tube ∷ []) jobs (altered e.0 kicked_job jobs) (kicked pick n (altered e.0 kicked_job jobs)).jobs
+          (subst (λ t. AreWoken (t ∷ []) jobs (altered e.0 kicked_job jobs)) p.1 (one-woken hi kicked_job jobs e (λ job. refl) r p.0))
+          (kicked-woken tube pick picks n hi (altered e.0 kicked_job jobs) (Rising-altered e.0 kicked_job 0 hi jobs r))
     ] (picks jobs)
 
 its-tube : (b : Bool) (tube of : List ℕ) → (b && bytes_eq tube of) ≡ true → of ≡ tube
@@ -200,7 +199,7 @@ row-covers (Op.Reserve seconds) key s q wakes none ids numbers = cc
 row-covers (Op.Release id pri delay) key s q wakes none ids numbers =
     covers_if (tube_of (value_at id s.jobs)) (is_job_that (is_held key.session) (value_at id s.jobs)) _ _
     (covers-new (tube_of (value_at id s.jobs)) s _ none (λ w i t. i) (λ tube u. inl u)
-    (altered-woken id (2 ^ 64) (with_pri_and_state pri (ready_after s.now delay)) s.jobs ids (λ job. refl)))
+    (altered-woken id (2 ^ 64) (released_job pri delay (ready_after s.now delay)) s.jobs ids (λ job. refl)))
     (covers-nothing (tube_of (value_at id s.jobs)) s none)
 row-covers (Op.Kick bound) key s q wakes none ids numbers =
     covers-new (used_by s key.session ∷ []) s _ none (λ w i t. i) (λ tube u. inl u)
@@ -209,7 +208,7 @@ row-covers (Op.Kick bound) key s q wakes none ids numbers =
 row-covers (Op.KickJob id) key s q wakes none ids numbers =
     covers_if (tube_of (value_at id s.jobs)) (is_job_that is_idle (value_at id s.jobs)) _ _
     (covers-new (tube_of (value_at id s.jobs)) s _ none (λ w i t. i) (λ tube u. inl u)
-    (altered-woken id (2 ^ 64) (with_state State.Ready) s.jobs ids (λ job. refl)))
+    (altered-woken id (2 ^ 64) kicked_job s.jobs ids (λ job. refl)))
     (covers-nothing (tube_of (value_at id s.jobs)) s none)
 row-covers (Op.Use tube) key s q wakes none ids numbers = cc
 row-covers (Op.Watch tube) key s q wakes none ids numbers = cc
@@ -261,10 +260,11 @@ covers-released tubes x s t none e woken =
 
 -- one job more was made ready, and its tube was added
 pub gathered : (hi : ℕ) (first jobs new : List (ℕ × Job)) (e : ℕ × Job) (tubes more : List (List ℕ)) (name : List ℕ)
-    → Rising 0 hi jobs → In e jobs → new ≡ altered e.0 (with_state State.Ready) jobs → name ≡ e.1.tube
+    → (f : Job → Job) → ((job : Job) → (f job).tube ≡ job.tube) → Rising 0 hi jobs → In e jobs → new ≡ altered e.0 f jobs
+    → name ≡ e.1.tube
     → more ≡ joined name tubes → AreWoken tubes first jobs → AreWoken more first new
-gathered hi first jobs new e tubes more name r there n copied added woken =
-    let one : AreWoken (e.1.tube ∷ []) jobs new = subst (AreWoken (e.1.tube ∷ []) jobs) (sym n) (one-woken hi jobs e r there) in
+gathered hi first jobs new e tubes more name f same_tube r there n copied added woken =
+    let one : AreWoken (e.1.tube ∷ []) jobs new = subst (AreWoken (e.1.tube ∷ []) jobs) (sym n) (one-woken hi f jobs e same_tube r there) in
     let same : more ≡ joined e.1.tube tubes = added ∙ ap (λ m. joined m tubes) copied in
     woken-then more first jobs new
     (woken-more tubes more first jobs (λ tube i. subst (In tube) (sym same) (joined-keeps e.1.tube tubes tube i)) woken)

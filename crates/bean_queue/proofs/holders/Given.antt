@@ -8,7 +8,7 @@ use Rattle.job_store.specs.declared.job.Job.{Job}
 use Rattle.job_store.specs.declared.state.State.{State}
 use Rattle.job_store.specs.Entries.{altered}
 use Rattle.job_store.specs.EntryLaws.{value_at-In, Rising-altered}
-use Rattle.job_store.specs.States.{with_state}
+use Rattle.job_store.specs.States.{reserved_job}
 use Rattle.session_store.specs.declared.session.SessionState.{SessionState}
 use Rattle.bean_queue.specs.declared.reply.Reply.{Reply}
 use Rattle.bean_queue.specs.Queue.{QueueState, HasRisingIds}
@@ -36,8 +36,8 @@ now_held id now s j w same i sound at =
     record {
       sound = Rising-altered _ _ 1 s.next_id s.jobs sound;
       held =
-          subst (λ q. Held (altered j.0 (with_state (State.Reserved w.0 (s.now + j.1.ttr))) s.jobs) w.0 q j.1.ttr now) (sym same)
-          (Held-reserved s.jobs w.0 j.0 now (with_state (State.Reserved w.0 (s.now + j.1.ttr))) j.1 (value_at-In 1 s.next_id s.jobs j sound i)
+          subst (λ q. Held (altered j.0 (reserved_job w.0 (s.now + j.1.ttr)) s.jobs) w.0 q j.1.ttr now) (sym same)
+          (Held-reserved s.jobs w.0 j.0 now (reserved_job w.0 (s.now + j.1.ttr)) j.1 (value_at-In 1 s.next_id s.jobs j sound i)
           (ap (λ n. State.Reserved w.0 (n + j.1.ttr)) at) refl);
       at = at;
     }

@@ -11,7 +11,7 @@ use Rattle.job_store.specs.declared.state.State.{State}
 use Rattle.job_store.specs.Entries.{Rising, value_at, altered}
 use Rattle.job_store.specs.EntryLaws.{value_at-without_other, value_at-insert_other, value_at-below, value_at-In}
 use Rattle.job_store.specs.EntryLaws.{Rising-altered, Rising-without, Rising-insert, Rising-wider, Rising-end}
-use Rattle.job_store.specs.States.{is_held, is_buried, is_delayed, with_state}
+use Rattle.job_store.specs.States.{is_held, is_buried, is_delayed, with_state, kicked_job}
 use Rattle.job_store.specs.LookUps.{is_among, first_buried, first_delayed, first_ready, buried_in, delayed_in, due_of_job, rank_of_job}
 use Rattle.session_store.specs.WatchLists.{is_alone}
 use Rattle.bean_queue.specs.declared.op.Op.{Op}
@@ -50,7 +50,7 @@ kicked-sound pick hi zero jobs r = r
 kicked-sound pick hi (suc n) jobs r =
     elim (pick jobs) as (λ o. Rising 1 hi (kicked_option (kicked pick n) jobs o).jobs) [
       | None ↦ r
-      | Some e ↦ kicked-sound pick hi n (altered e.0 (with_state State.Ready) jobs) (Rising-altered _ _ 1 hi jobs r)
+      | Some e ↦ kicked-sound pick hi n (altered e.0 kicked_job jobs) (Rising-altered _ _ 1 hi jobs r)
     ]
 
 shown-quiet : (key : Key) (o : Option (ℕ × Job)) (id : ℕ) → IsQuiet id (own key (Some (shown o)))
@@ -162,9 +162,9 @@ kicked-holds pick x picks hi id ttr second zero jobs r h = h
 kicked-holds pick x picks hi id ttr second (suc n) jobs r h =
     elim (pick jobs) as (λ o. IfSome o (λ e. In e jobs × (is_held x e.1.state ≡ false)) → Held (kicked_option (kicked pick n) jobs o).jobs x id ttr second) [
       | None ↦ λ i. h
-      | Some e ↦ λ i. kicked-holds pick x picks hi id ttr second n (altered e.0 (with_state State.Ready) jobs)
+      | Some e ↦ λ i. kicked-holds pick x picks hi id ttr second n (altered e.0 kicked_job jobs)
           (Rising-altered _ _ 1 hi jobs r)
-          (Held-altered_other e.0 (with_state State.Ready) jobs x id ttr second
+          (Held-altered_other e.0 kicked_job jobs x id ttr second
           (unheld_apart jobs hi x id ttr second e r h i.0 i.1) h)
     ] (picks jobs)
 

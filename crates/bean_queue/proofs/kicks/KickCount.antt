@@ -8,12 +8,11 @@ use Rattle.std.proofs.lemmas.Bool.{cond-true, cond-false}
 use Rattle.std.specs.List.{list_any}
 use Rattle.object.specs.Lists.{In}
 use Rattle.job_store.specs.declared.job.Job.{Job}
-use Rattle.job_store.specs.declared.state.State.{State}
 use Rattle.job_store.specs.Entries.{Rising, altered}
 use Rattle.job_store.specs.EntryLaws.{Rising-altered, altered-none, key_from}
 use Rattle.job_store.specs.Least.{lesser, least}
 use Rattle.job_store.specs.LookUps.{buried_in, delayed_in, due_of_job, rank_of_job, first_buried, first_delayed}
-use Rattle.job_store.specs.States.{with_state}
+use Rattle.job_store.specs.States.{kicked_job}
 use Rattle.bean_queue.specs.declared.reply.Reply.{Reply}
 use Rattle.bean_queue.specs.Queue.{QueueState, HasRisingIds, used_by}
 use Rattle.bean_queue.specs.Rows.{kicked_option, kicked, kick_row, kickable}
@@ -21,9 +20,9 @@ use Rattle.bean_queue.specs.TurnLaws.{least-in, least-none}
 
 -- the job under an id, made ready
 abbrev pub made_ready : ℕ → List (ℕ × Job) → List (ℕ × Job)
-made_ready id jobs = altered id (with_state State.Ready) jobs
+made_ready id jobs = altered id kicked_job jobs
 
-module _ (test : ℕ × Job → Bool) (unready : (id : ℕ) (job : Job) → test (id, with_state State.Ready job) ≡ false) where
+module _ (test : ℕ × Job → Bool) (unready : (id : ℕ) (job : Job) → test (id, kicked_job job) ≡ false) where
   -- how many pass
   abbrev pub count : List (ℕ × Job) → ℕ
   count jobs = length (filter test jobs)
@@ -46,22 +45,22 @@ module _ (test : ℕ × Job → Bool) (unready : (id : ℕ) (job : Job) → test
   one-less lo hi [] e r i t = absurd i
   one-less lo hi (d ∷ ds) e r (inl same) t =
       let before : count (d ∷ ds) ≡ 1 + count ds = count-next d ds true (ap test (sym same) ∙ t) in
-      let head : cond (e.0 == d.0) (with_state State.Ready d.1) d.1 ≡ with_state State.Ready d.1 =
+      let head : cond (e.0 == d.0) (kicked_job d.1) d.1 ≡ kicked_job d.1 =
       cond-true (e.0 == d.0) _ d.1 (eq-eqb e.0 d.0 (ap (λ p. p.0) same)) in
       let below : e.0 < suc d.0 = omega (arith, ap (λ (p : ℕ × Job). p.0) same) in
-      let tail : made_ready e.0 ds ≡ ds = altered-none e.0 (suc d.0) hi (with_state State.Ready) ds below r.1 in
+      let tail : made_ready e.0 ds ≡ ds = altered-none e.0 (suc d.0) hi kicked_job ds below r.1 in
       let after : count (made_ready e.0 (d ∷ ds)) ≡ 0 + count (made_ready e.0 ds) =
-      count-next (d.0, cond (e.0 == d.0) (with_state State.Ready d.1) d.1) (made_ready e.0 ds) false
+      count-next (d.0, cond (e.0 == d.0) (kicked_job d.1) d.1) (made_ready e.0 ds) false
       (ap (λ job. test (d.0, job)) head ∙ unready d.0 d.1) in
       omega (arith, before, after, ap count tail)
   one-less lo hi (d ∷ ds) e r (inr later) t =
       let above : suc d.0 ≤ e.0 = key_from (suc d.0) hi ds e r.1 later in
-      let head : cond (e.0 == d.0) (with_state State.Ready d.1) d.1 ≡ d.1 =
+      let head : cond (e.0 == d.0) (kicked_job d.1) d.1 ≡ d.1 =
       cond-false (e.0 == d.0) _ d.1 (ne_eqb e.0 d.0 (λ same. omega (arith, above, same))) in
       let rest : count ds ≡ suc (count (made_ready e.0 ds)) = one-less (suc d.0) hi ds e r.1 later t in
       let before : count (d ∷ ds) ≡ cond (test d) 1 0 + count ds = count-next d ds (test d) refl in
       let after : count (made_ready e.0 (d ∷ ds)) ≡ cond (test d) 1 0 + count (made_ready e.0 ds) =
-      count-next (d.0, cond (e.0 == d.0) (with_state State.Ready d.1) d.1) (made_ready e.0 ds) (test d)
+      count-next (d.0, cond (e.0 == d.0) (kicked_job d.1) d.1) (made_ready e.0 ds) (test d)
       (ap (λ job. test (d.0, job)) head) in
       omega (arith, before, after, rest)
 
@@ -73,7 +72,7 @@ module _ (test : ℕ × Job → Bool) (unready : (id : ℕ) (job : Job) → test
       → (kicked_option (kicked (least test by) n) jobs o).count ≡ min (suc n) (count jobs)) [
         | None ↦ λ e h. sym (ap (min (suc n)) (none-count jobs (λ x i t. least-none test by jobs x e i t)) ∙ min-zero (suc n))
         | Some e ↦ λ f h.
-            let more = kicked-count by n hi (made_ready e.0 jobs) (Rising-altered e.0 (with_state State.Ready) 1 hi jobs r) in
+            let more = kicked-count by n hi (made_ready e.0 jobs) (Rising-altered e.0 kicked_job 1 hi jobs r) in
             let less : count jobs ≡ suc (count (made_ready e.0 jobs)) = one-less 1 hi jobs e r h.0 h.1 in
             let one : (kicked (least test by) n (made_ready e.0 jobs)).count + 1 ≡ suc (min n (count (made_ready e.0 jobs))) = omega (arith, more) in
             one ∙ sym (ap (min (suc n)) less ∙ suc-min-suc n (count (made_ready e.0 jobs)))

@@ -6,12 +6,11 @@ use Rattle.std.proofs.lemmas.Bool.{cases_eq, cases_lt, cond-true, cond-false, an
 use Rattle.std.specs.List.{list_any}
 use Rattle.object.specs.Lists.{In}
 use Rattle.job_store.specs.declared.job.Job.{Job}
-use Rattle.job_store.specs.declared.state.State.{State}
 use Rattle.job_store.specs.Entries.{Rising}
 use Rattle.job_store.specs.EntryLaws.{Rising-altered}
 use Rattle.job_store.specs.Least.{ComesBefore, comes_before, IsLeast, least}
 use Rattle.job_store.specs.LookUps.{buried_in, delayed_in, due_of_job, rank_of_job, first_buried, first_delayed}
-use Rattle.job_store.specs.States.{with_state}
+use Rattle.job_store.specs.States.{kicked_job}
 use Rattle.job_store.proofs.least.Least.{before, passes_before, least-found, same_entry}
 use Rattle.bean_queue.specs.Queue.{QueueState, HasRisingIds, used_by, with_jobs}
 use Rattle.bean_queue.specs.Rows.{kicked_option, kicked, kick_row}
@@ -33,15 +32,15 @@ and_never : (b c : Bool) → c ≡ false → (b && c) ≡ false
 and_never true c e = e
 and_never false c e = refl
 
-module _ (test : ℕ × Job → Bool) (unready : (id : ℕ) (job : Job) → test (id, with_state State.Ready job) ≡ false) (by : Job → ℕ) where
+module _ (test : ℕ × Job → Bool) (unready : (id : ℕ) (job : Job) → test (id, kicked_job job) ≡ false) (by : Job → ℕ) where
   -- what becomes of one of the jobs
   abbrev one_after : ℕ → List (ℕ × Job) → ℕ × Job → ℕ × Job
-  one_after n jobs e = (e.0, cond (is_among_first test by n jobs e) (with_state State.Ready e.1) e.1)
+  one_after n jobs e = (e.0, cond (is_among_first test by n jobs e) (kicked_job e.1) e.1)
 
   none-after : (jobs ds : List (ℕ × Job)) → map (one_after 0 jobs) ds ≡ ds
   none-after jobs [] = refl
   none-after jobs (d ∷ ds) =
-      ap₂ (λ v zs. (d.0, v) ∷ zs) (cond-false (is_among_first test by 0 jobs d) (with_state State.Ready d.1) d.1
+      ap₂ (λ v zs. (d.0, v) ∷ zs) (cond-false (is_among_first test by 0 jobs d) (kicked_job d.1) d.1
       (and_never (test d) (nat_lt (passing_before test by jobs d) 0) (never_less (passing_before test by jobs d))))
       (none-after jobs ds)
 
@@ -49,7 +48,7 @@ module _ (test : ℕ × Job → Bool) (unready : (id : ℕ) (job : Job) → test
   nothing-after n jobs [] none = refl
   nothing-after n jobs (d ∷ ds) none =
       let fails : test d ≡ false = elim (test d) as (λ b. test d ≡ b → b ≡ false) [ true ↦ λ t. absurd (none d (inl refl) t) | false ↦ λ t. refl ] refl in
-      ap₂ (λ v zs. (d.0, v) ∷ zs) (cond-false (is_among_first test by n jobs d) (with_state State.Ready d.1) d.1
+      ap₂ (λ v zs. (d.0, v) ∷ zs) (cond-false (is_among_first test by n jobs d) (kicked_job d.1) d.1
       (ap (λ b. b && nat_lt (passing_before test by jobs d) n) fails))
       (nothing-after n jobs ds (λ e i. none e (inr i)))
 
@@ -63,7 +62,7 @@ module _ (test : ℕ × Job → Bool) (unready : (id : ℕ) (job : Job) → test
     -- nothing comes before it
     none-before : passing_before test by jobs e ≡ 0
     none-before =
-        none-count (λ d. test d && comes_before by d e) (λ id job. ap (λ b. b && comes_before by (id, with_state State.Ready job) e) (unready id job)) jobs
+        none-count (λ d. test d && comes_before by d e) (λ id job. ap (λ b. b && comes_before by (id, kicked_job job) e) (unready id job)) jobs
         (λ d i t. let both = and_parts (test d) (comes_before by d e) t in first.least d i both.0 (before by d e both.1))
 
     -- and one less comes before each other one, once it is ready
@@ -71,7 +70,7 @@ module _ (test : ℕ × Job → Bool) (unready : (id : ℕ) (job : Job) → test
         → passing_before test by jobs d ≡ suc (passing_before test by (made_ready e.0 jobs) d)
     less-before d i t apart =
         one-less (λ c. test c && comes_before by c d)
-        (λ id job. ap (λ b. b && comes_before by (id, with_state State.Ready job) d) (unready id job)) lo hi jobs e
+        (λ id job. ap (λ b. b && comes_before by (id, kicked_job job) d) (unready id job)) lo hi jobs e
         r first.member
         (and_from (test e) (comes_before by e d) first.passes (first-before d i t apart))
 
@@ -95,20 +94,20 @@ module _ (test : ℕ × Job → Bool) (unready : (id : ℕ) (job : Job) → test
     each-after (d ∷ ds) within =
         ap₂ (λ v zs. v ∷ zs)
         (elim (cases_eq e.0 d.0) as (λ v. one_after n (made_ready e.0 jobs)
-        (d.0, cond (e.0 == d.0) (with_state State.Ready d.1) d.1) ≡ one_after (suc n) jobs d) [
+        (d.0, cond (e.0 == d.0) (kicked_job d.1) d.1) ≡ one_after (suc n) jobs d) [
           | inl same ↦
               let it : d ≡ e = same_entry lo hi jobs d e r (within d (inl refl)) first.member (sym same) in
-              ap (λ v. one_after n (made_ready e.0 jobs) (d.0, v)) (cond-true (e.0 == d.0) (with_state State.Ready d.1) d.1 (eq-eqb e.0 d.0 same)) ∙
+              ap (λ v. one_after n (made_ready e.0 jobs) (d.0, v)) (cond-true (e.0 == d.0) (kicked_job d.1) d.1 (eq-eqb e.0 d.0 same)) ∙
               ap (λ v. (d.0, v)) (cond-false
-              (is_among_first test by n (made_ready e.0 jobs) (d.0, with_state State.Ready d.1)) _
-              (with_state State.Ready d.1) (ap
-              (λ b. b && nat_lt (passing_before test by (made_ready e.0 jobs) (d.0, with_state State.Ready d.1)) n)
+              (is_among_first test by n (made_ready e.0 jobs) (d.0, kicked_job d.1)) _
+              (kicked_job d.1) (ap
+              (λ b. b && nat_lt (passing_before test by (made_ready e.0 jobs) (d.0, kicked_job d.1)) n)
               (unready d.0 d.1))) ∙
               sym (ap (λ v. (d.0, v)) (cond-true (is_among_first test by (suc n) jobs d)
-              (with_state State.Ready d.1) d.1 (ap (is_among_first test by (suc n) jobs) it ∙ first-after)))
+              (kicked_job d.1) d.1 (ap (is_among_first test by (suc n) jobs) it ∙ first-after)))
           | inr apart ↦
-              ap (λ v. one_after n (made_ready e.0 jobs) (d.0, v)) (cond-false (e.0 == d.0) (with_state State.Ready d.1) d.1 (ne_eqb e.0 d.0 apart)) ∙
-              ap (λ b. (d.0, cond b (with_state State.Ready d.1) d.1)) (same-after d (within d (inl refl)) apart)
+              ap (λ v. one_after n (made_ready e.0 jobs) (d.0, v)) (cond-false (e.0 == d.0) (kicked_job d.1) d.1 (ne_eqb e.0 d.0 apart)) ∙
+              ap (λ b. (d.0, cond b (kicked_job d.1) d.1)) (same-after d (within d (inl refl)) apart)
         ])
         (each-after ds (λ c i. within c (inr i)))
 
@@ -120,7 +119,7 @@ module _ (test : ℕ × Job → Bool) (unready : (id : ℕ) (job : Job) → test
       → (kicked_option (kicked (least test by) n) jobs o).jobs ≡ with_first_ready test by (suc n) jobs) [
         | None ↦ λ none h. sym (nothing-after (suc n) jobs jobs (λ e i t. least-none test by jobs e none i t))
         | Some e ↦ λ some h.
-            kicked-first n lo hi (made_ready e.0 jobs) (Rising-altered e.0 (with_state State.Ready) lo hi jobs r) ∙
+            kicked-first n lo hi (made_ready e.0 jobs) (Rising-altered e.0 kicked_job lo hi jobs r) ∙
             each-after n lo hi jobs e r h jobs (λ d i. i)
       ] refl (least-found test by jobs)
 

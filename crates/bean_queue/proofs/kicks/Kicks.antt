@@ -1,9 +1,8 @@
 -- Kicks one by one.
 use Rattle.std.proofs.Common.{◌≡◌, ℕ, zero, suc, ◌+◌, ◌-◌, ◌<◌, List, Option, Some, None, refl, sym, ap, ◌∙◌, arith}
 use Rattle.job_store.specs.declared.job.Job.{Job}
-use Rattle.job_store.specs.declared.state.State.{State}
 use Rattle.job_store.specs.Entries.{altered}
-use Rattle.job_store.specs.States.{with_state}
+use Rattle.job_store.specs.States.{kicked_job}
 use Rattle.bean_queue.specs.Rows.{Kicked, and_one, kicked_option, kicked}
 
 module _ (pick : List (ℕ × Job) → Option (ℕ × Job)) where
@@ -17,7 +16,7 @@ module _ (pick : List (ℕ × Job) → Option (ℕ × Job)) where
   none_left n jobs e = ap (λ m. kicked pick m jobs) e
 
   more : (n m : ℕ) (jobs jobs' : List (ℕ × Job)) (e : ℕ × Job) → n ≡ suc m → pick jobs ≡ Some e
-      → jobs' ≡ altered e.0 (with_state State.Ready) jobs → kicked pick n jobs ≡ and_one (kicked pick m jobs')
+      → jobs' ≡ altered e.0 kicked_job jobs → kicked pick n jobs ≡ and_one (kicked pick m jobs')
   unfolding kicked
   more n m jobs jobs' e s p j =
       ap (λ n. kicked pick n jobs) s ∙ ap (kicked_option (kicked pick m) jobs) p ∙ ap (λ es. and_one (kicked pick m es)) (sym j)
@@ -36,7 +35,7 @@ module _ (pick : List (ℕ × Job) → Option (ℕ × Job)) where
       }
 
   pub kicking-more : (bound count : ℕ) (jobs jobs' first : List (ℕ × Job)) (e : ℕ × Job) → count < bound
-      → pick jobs ≡ Some e → jobs' ≡ altered e.0 (with_state State.Ready) jobs → IsKicking bound count jobs first
+      → pick jobs ≡ Some e → jobs' ≡ altered e.0 kicked_job jobs → IsKicking bound count jobs first
       → IsKicking bound (count + 1) jobs' first
   kicking-more bound count jobs jobs' first e below p j k =
       let one = more (bound - count) (bound - (count + 1)) jobs jobs' e (omega arith) p j in

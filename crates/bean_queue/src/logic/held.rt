@@ -7,7 +7,7 @@ ghost use Rattle.bean_queue.specs.Calls.{DraftsRow};
 use crate::logic::Logic;
 use crate::logic::put::ready_after;
 use crate::reply::Reply;
-use job_store::{JobMap, State};
+use job_store::{JobMap, Mark, State};
 use std::alloc::AllocError;
 
 /// Whether the session may delete a job in this state: nobody else has it.
@@ -57,7 +57,8 @@ impl<M: JobMap> Logic<M> {
         match self.jobs.map().get(id) {
             Some(job) if job.state.is_held_by(session) => {
                 let due = self.counters.now + u64::from(job.ttr);
-                self.jobs.set_state(id, State::Reserved { session, due })?;
+                let state = State::Reserved { session, due };
+                self.jobs.set_state(id, state, Mark::Nothing)?;
                 Ok(Reply::Touched)
             }
             _ => Ok(Reply::NotFound),
@@ -79,8 +80,8 @@ impl<M: JobMap> Logic<M> {
         if !self.has(session, id) {
             return Ok(Reply::NotFound);
         }
-        self.jobs
-            .set(id, pri, ready_after(self.counters.now, delay))?;
+        let state = ready_after(self.counters.now, delay);
+        self.jobs.set(id, pri, state, Mark::Released { delay })?;
         Ok(Reply::Released)
     }
 
@@ -94,7 +95,8 @@ impl<M: JobMap> Logic<M> {
         if !self.has(session, id) {
             return Ok(Reply::NotFound);
         }
-        self.jobs.set(id, pri, State::Buried { rank })?;
+        self.jobs
+            .set(id, pri, State::Buried { rank }, Mark::Buried)?;
         self.counters.next_rank = rank + 1;
         Ok(Reply::Buried)
     }

@@ -7,7 +7,7 @@ ghost use Rattle.bean_queue.specs.Calls.{DraftsRow};
 use crate::job_draft::JobDraft;
 use crate::logic::Logic;
 use crate::reply::Reply;
-use job_store::{Job, JobMap, Name, State};
+use job_store::{Job, JobMap, Mark, Name, State};
 use object::Value;
 use std::alloc::AllocError;
 
@@ -42,7 +42,7 @@ fn kick_idle<M: JobMap>(
         let Some((id, _)) = first_idle(jobs.map(), tube, buried) else {
             return Ok(u64::from(count));
         };
-        jobs.set_state(id, State::Ready)?;
+        jobs.set_state(id, State::Ready, Mark::Kicked)?;
     }
     Ok(u64::from(bound))
 }
@@ -67,7 +67,7 @@ impl<M: JobMap> Logic<M> {
     {
         match self.jobs.map().get(id) {
             Some(job) if job.state.is_buried() || job.state.is_delayed() => {
-                self.jobs.set_state(id, State::Ready)?;
+                self.jobs.set_state(id, State::Ready, Mark::Kicked)?;
                 Ok(Reply::Kicked)
             }
             _ => Ok(Reply::NotFound),

@@ -5,7 +5,7 @@ ghost use Rattle.bean_queue.specs.Calls.{DraftsRow};
 
 use crate::logic::Logic;
 use crate::reply::Reply;
-use job_store::{Body, Job, JobMap, State};
+use job_store::{Body, History, Job, JobMap, State};
 use object::Value;
 use std::alloc::AllocError;
 
@@ -46,6 +46,7 @@ impl<M: JobMap> Logic<M> {
             ttr: ttr.max(1),
             body: body.copy()?,
             state: ready_after(self.counters.now, delay),
+            history: History::new(self.counters.now, delay),
         };
         self.jobs.insert(id, job)?;
         self.counters.next_id = id + 1;

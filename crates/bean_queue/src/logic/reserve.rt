@@ -11,7 +11,7 @@ use crate::deadlines::holds_by;
 use crate::logic::Logic;
 use crate::reply::Reply;
 use crate::waiting::best_ready;
-use job_store::{Job, JobMap, State};
+use job_store::{Job, JobMap, Mark, State};
 use object::{Answer, Key, Value};
 use session_store::Wait;
 use std::alloc::AllocError;
@@ -62,7 +62,8 @@ impl<M: JobMap> Logic<M> {
             reply: Reply::Reserved { id, body },
         })?;
         let session = key.session;
-        self.jobs.set_state(id, State::Reserved { session, due })?;
+        let state = State::Reserved { session, due };
+        self.jobs.set_state(id, state, Mark::Reserved)?;
         self.counters.next_rank += 1;
         Ok(true)
     }

@@ -8,7 +8,7 @@ use crate::deadlines::{first_holder, holders_by};
 use crate::logic::Logic;
 use crate::reply::Reply;
 use crate::waiting::best_offer;
-use job_store::{Job, JobMap, Name, State};
+use job_store::{Job, JobMap, Mark, Name, State};
 use object::{Answer, Key, Value};
 use std::alloc::{AllocError, Global};
 
@@ -48,7 +48,8 @@ impl<M: JobMap> Logic<M> {
             to,
             reply: Reply::Reserved { id, body },
         })?;
-        self.jobs.set_state(id, State::Reserved { session, due })?;
+        let state = State::Reserved { session, due };
+        self.jobs.set_state(id, state, Mark::Reserved)?;
         self.sessions.set_wait(session, None)?;
         Ok(true)
     }

@@ -5,8 +5,7 @@ use Rattle.std.specs.BTreeMap.{insert_entry}
 use Rattle.job_store.specs.declared.job.Job.{Job}
 use Rattle.job_store.specs.declared.undo.Undo.{Undo}
 use Rattle.job_store.specs.Entries.{Rising, value_at, with_value, altered}
-use Rattle.job_store.specs.States.{with_pri_and_state}
-use Rattle.job_store.specs.Undone.{undone, all_undone, set_back, put_back, with_log}
+use Rattle.job_store.specs.Undone.{undone, all_undone, set_to, set_back, put_back, with_log}
 use Rattle.job_store.specs.EntryLaws.{Rising-altered, Rising-without, altered-back, altered-absent, without-insert}
 use Rattle.job_store.proofs.maps.Entries.{insert_entry-altered}
 
@@ -19,8 +18,7 @@ undone-push (d ∷ log) u jobs = ap (undone d) (undone-push log u jobs)
 pub Rising-undone : (lo hi : ℕ) (u : Undo) (jobs : List (ℕ × Job)) → Rising lo hi jobs → Rising lo hi (undone u jobs)
 Rising-undone lo hi (Undo.TakeOut id) jobs r = Rising-without id lo hi jobs r
 Rising-undone lo hi (Undo.PutBack id job) jobs r = Rising-altered id (λ _. job) lo hi jobs r
-Rising-undone lo hi (Undo.SetBack change) jobs r =
-    Rising-altered change.id (with_pri_and_state change.pri change.state) lo hi jobs r
+Rising-undone lo hi (Undo.SetBack id pri state history) jobs r = Rising-altered id (set_to pri state history) lo hi jobs r
 
 pub Rising-all_undone : (lo hi : ℕ) (log : List Undo) (jobs : List (ℕ × Job)) → Rising lo hi jobs → Rising lo hi (all_undone log jobs)
 Rising-all_undone lo hi [] jobs r = r
@@ -29,17 +27,17 @@ Rising-all_undone lo hi (u ∷ log) jobs r = Rising-undone lo hi u (all_undone l
 -- A change of priority or state, and what was noted for it
 
 set-undone : (id lo hi : ℕ) (f : Job → Job) (log : List Undo) (o : Option Job) (jobs : List (ℕ × Job))
-    → ((job : Job) → with_pri_and_state job.pri job.state (f job) ≡ job) → Rising lo hi jobs → value_at id jobs ≡ o
+    → ((job : Job) → set_to job.pri job.state job.history (f job) ≡ job) → Rising lo hi jobs → value_at id jobs ≡ o
     → all_undone (log ++ set_back true id o) (altered id f jobs) ≡ all_undone log jobs
 set-undone id lo hi f log None jobs back r e =
     ap (λ us. all_undone us (altered id f jobs)) (append-nil log) ∙ ap (all_undone log) (altered-absent id f jobs e)
 set-undone id lo hi f log (Some job) jobs back r e =
     undone-push log _ (altered id f jobs) ∙
-    ap (all_undone log) (altered-back id lo hi f (with_pri_and_state job.pri job.state) jobs job r e (back job))
+    ap (all_undone log) (altered-back id lo hi f (set_to job.pri job.state job.history) jobs job r e (back job))
 
 -- the jobs before a trial stay at a change that was noted
 pub before-set : (is_trial : Bool) (id lo hi : ℕ) (f : Job → Job) (log after : List Undo) (jobs new : List (ℕ × Job))
-    → ((job : Job) → with_pri_and_state job.pri job.state (f job) ≡ job) → Rising lo hi jobs
+    → ((job : Job) → set_to job.pri job.state job.history (f job) ≡ job) → Rising lo hi jobs
     → after ≡ log ++ set_back is_trial id (value_at id jobs) → new ≡ altered id f jobs
     → (with_log is_trial after new).before ≡ (with_log is_trial log jobs).before
 before-set false id lo hi f log after jobs new back r l n = refl

@@ -3,7 +3,6 @@ use Rattle.std.proofs.Common.{◌≡◌, ℕ, ◌^◌, true, false, ◌⊎◌, i
 use Rattle.std.proofs.Common.{Result, Ok, Err, OnOk, refl, sym, ap, subst, ◌∙◌}
 use Rattle.std.specs.Prelude.{is_some}
 use Rattle.std.specs.Result.{IsErr}
-use Rattle.std.proofs.lemmas.Result.{on_ok_weaker}
 use Rattle.object.specs.Lists.{In}
 use Rattle.job_store.specs.declared.job.Job.{Job}
 use Rattle.job_store.specs.declared.label.Label.{Label}
@@ -11,9 +10,8 @@ use Rattle.job_store.specs.declared.shelves.Shelves.{Shelves}
 use Rattle.job_store.specs.declared.spot.Spot.{Spot}
 use Rattle.job_store.specs.declared.state.State.{State}
 use Rattle.job_store.specs.Entries.{Rising}
-use Rattle.job_store.specs.States.{with_pri_and_state}
 use Rattle.job_store.specs.ShelfStates.{IsFrom, bare}
-use Rattle.job_store.specs.Spots.{spot_of, at_spot}
+use Rattle.job_store.specs.Spots.{spot_of, changed_spot, at_spot}
 use Rattle.job_store.specs.Shelves.{belongs, number, BelongsAt, shelf, places, lists, HasPlaces, HavePlaces, IsAhead}
 use Rattle.job_store.specs.Shelves.{AreInReach, HoldJobs, AreSwept, CanGoBack, IsGone, BeginNoLater, HasPut, HasTaken}
 use Rattle.job_store.specs.Shelves.{HasGoneBack, HasSettled, HasCome, IsListed, AreKnown, HasGrown, AreInDoubt, ListsMore, PutsInDoubt}
@@ -193,46 +191,31 @@ puts-nothing s t e result failed left = record {
 
 -- A changed job is put
 
-changed-spot : (pri : ℕ) (state : State) (tube : List ℕ) (job : Job) → tube ≡ job.tube
-    → record { tube = tube; pri = pri; state = state } ≡ spot_of (with_pri_and_state pri state job)
-changed-spot pri state tube job same = ap (λ (t : List ℕ). record { tube = t; pri = pri; state = state }) same
-
-changed-only : (s t u : Shelves) (id pri : ℕ) (state : State) (tube : List ℕ) (job : Job) → tube ≡ job.tube
-    → ((l : Label) → shelf t l ≡ shelf s l)
-    → ((l : Label) (p : ℕ × ℕ) → In p (places u l) → In p (places t l)
-    ⊎ BelongsAt l p (id, at_spot (record { tube = tube; pri = pri; state = state }))) → (l : Label) (p : ℕ × ℕ)
-    → In p (places u l) → In p (places s l) ⊎ BelongsAt l p (id, with_pri_and_state pri state job)
-changed-only s t u id pri state tube job is same only l p i =
-    elim (only l p i) as (λ v. In p (places s l) ⊎ BelongsAt l p (id, with_pri_and_state pri state job)) [
-      | inl old ↦ inl (subst (λ x. In p x.places) (same l) old)
-      | inr b ↦ inr (of-spot l p id (with_pri_and_state pri state job) (subst (λ x. BelongsAt l p (id, at_spot x)) (changed-spot pri state tube job is) b))
-    ]
-
-changed-come : (u : Shelves) (id pri : ℕ) (state : State) (tube : List ℕ) (job : Job) → tube ≡ job.tube
-    → HasCome u (id, at_spot (record { tube = tube; pri = pri; state = state }))
-    → HasCome u (id, with_pri_and_state pri state job)
-changed-come u id pri state tube job is come =
-    come-at u id (with_pri_and_state pri state job) (subst (λ x. HasCome u (id, at_spot x)) (changed-spot pri state tube job is) come)
-
 pub changed-went : (s t u : Shelves) (id pri : ℕ) (state : State) (tube : List ℕ) (job : Job) → tube ≡ job.tube
     → t.went.items ≡ s.went.items ++ (id, spot_of job) ∷ []
     → u.went.items ≡ t.went.items ++ (id, record { tube = tube; pri = pri; state = state }) ∷ []
-    → u.went.items ≡ (s.went.items ++ (id, spot_of job) ∷ []) ++ (id, spot_of (with_pri_and_state pri state job)) ∷ []
+    → u.went.items ≡ (s.went.items ++ (id, spot_of job) ∷ []) ++ (id, changed_spot pri state job) ∷ []
 changed-went s t u id pri state tube job is one two =
     two ∙ ap (λ (xs : List (ℕ × Spot)). xs ++ (id, record { tube = tube; pri = pri; state = state }) ∷ []) one ∙ ap
-    (λ (x : Spot). (s.went.items ++ (id, spot_of job) ∷ []) ++ (id, x) ∷ []) (changed-spot pri state tube job is)
+    (λ (n : List ℕ). (s.went.items ++ (id, spot_of job) ∷ []) ++ (id, record { tube = n; pri = pri; state = state }) ∷ []) is
 
 pub changed-put : {E F : Type 0} (s t u : Shelves) (id pri : ℕ) (state : State) (tube : List ℕ) (job : Job)
     (one : Result Unit E) (two : Result Unit F) → tube ≡ job.tube → ListsMore s t
     → PutsInDoubt t u (id, at_spot (record { tube = tube; pri = pri; state = state })) one
     → OnOk two (HasCome u (id, at_spot (record { tube = tube; pri = pri; state = state })))
-    → PutsInDoubt s u (id, with_pri_and_state pri state job) two
-changed-put s t u id pri state tube job one two is left put come = record {
-  grown = grown-twice s t u (same-grown s t left.shelves left.came) put.grown;
-  doubt = doubt-twice s t u (same-doubt s t left.shelves left.went) put.doubt;
-  only = changed-only s t u id pri state tube job is left.shelves put.only;
-  come = on_ok_weaker two (changed-come u id pri state tube job is) come;
-}
+    → PutsInDoubt s u (id, at_spot (changed_spot pri state job)) two
+changed-put s t u id pri state tube job one two is left put come =
+    subst (λ (n : List ℕ). PutsInDoubt s u (id, at_spot (record { tube = n; pri = pri; state = state })) two) is
+    (record {
+      grown = grown-twice s t u (same-grown s t left.shelves left.came) put.grown;
+      doubt = doubt-twice s t u (same-doubt s t left.shelves left.went) put.doubt;
+      only = λ l p i.
+          elim (put.only l p i) as (λ v. In p (places s l) ⊎ BelongsAt l p (id, at_spot (record { tube = tube; pri = pri; state = state }))) [
+            | inl old ↦ inl (subst (λ x. In p x.places) (left.shelves l) old)
+            | inr b ↦ inr b
+          ];
+      come = come;
+    })
 
 -- Where no job of the map stands
 

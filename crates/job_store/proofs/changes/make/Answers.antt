@@ -2,20 +2,25 @@ use Rattle.std.proofs.Common.{◌≡◌, ◌∙◌, ℕ, ap, sym, refl, None, BT
 use Rattle.std.specs.Option.{option_copied_mut}
 use Rattle.job_store.specs.declared.job.Job.{Job}
 use Rattle.job_store.specs.Entries.{value_at}
-use Rattle.job_store.specs.States.{with_pri_and_state}
+use Rattle.job_store.specs.States.{marked_at}
 use Rattle.job_store.specs.EntryLaws.{altered-absent}
 use Rattle.job_store.proofs.maps.Entries.{set_value-altered}
 use Rattle.job_store.proofs.changes.make.Goals as goal
 
 pub returns-in-Some : goal.returns-in-Some
 returns-in-Some c =
-    (c.get_mut.follows.holds (with_pri_and_state c.args.change.now.pri c.args.change.now.state c.in-Some.job.now)).0 ∙
+    ap (λ h. (c.get_mut.follows.lender (record c.in-Some.job.now {
+      pri = c.args.change.now.pri;
+      state = c.args.change.now.state;
+      history = h;
+    })).entries) c.marked-job.ensures ∙
+    (c.get_mut.follows.holds (marked_at c.args.change.now.pri c.args.change.now.state c.args.change.now.mark c.in-Some.job.now)).0 ∙
     set_value-altered c.args.change.now.id _ _
-    (with_pri_and_state c.args.change.now.pri c.args.change.now.state) c.in-Some.job.now _ c.args.jobs.now.entries
+    (marked_at c.args.change.now.pri c.args.change.now.state c.args.change.now.mark) c.in-Some.job.now _ c.args.jobs.now.entries
     c.requires (sym c.in-Some.ensures.value) refl
 
 pub returns-in_default : goal.returns-in_default
 returns-in_default c =
     let none : value_at c.args.change.now.id c.args.jobs.now.entries ≡ None = sym c.get_mut.ensures.value ∙ ap option_copied_mut c.in_default.is in
     ap (λ (m : BTreeMap ℕ Job). m.entries) c.get_mut.follows.holds-at-none ∙
-    sym (altered-absent c.args.change.now.id (with_pri_and_state c.args.change.now.pri c.args.change.now.state) c.args.jobs.now.entries none)
+    sym (altered-absent c.args.change.now.id (marked_at c.args.change.now.pri c.args.change.now.state c.args.change.now.mark) c.args.jobs.now.entries none)

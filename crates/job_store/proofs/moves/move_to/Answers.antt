@@ -1,15 +1,15 @@
 use Rattle.std.proofs.Common.{◌++◌, ◌∷◌, [], refl, sym, ap, ◌∙◌}
 use Rattle.job_store.specs.Entries.{value_at}
-use Rattle.job_store.specs.Spots.{spot_of}
-use Rattle.job_store.specs.States.{with_pri_and_state}
+use Rattle.job_store.specs.Spots.{spot_of, changed_spot}
+use Rattle.job_store.specs.States.{marked_at}
 use Rattle.job_store.specs.EntryLaws.{altered-absent}
-use Rattle.job_store.proofs.shelving.Following.{moves-none, moves-nothing, followed-altered, grown-moved}
+use Rattle.job_store.proofs.shelving.Following.{moves-none, moves-nothing, followed-altered, grown-moved, stored-only, stored-come}
 use Rattle.job_store.proofs.moves.move_to.Goals as goal
 
 pub returns-in_default-clause-moved : goal.returns-in_default-clause-moved
 returns-in_default-clause-moved c =
     moves-nothing c.args.shelves.now c.args.jobs.now _
-    (sym (altered-absent c.args.change.now.id (with_pri_and_state c.args.change.now.pri c.args.change.now.state) c.args.jobs.now.jobs
+    (sym (altered-absent c.args.change.now.id (marked_at c.args.change.now.pri c.args.change.now.state c.args.change.now.mark) c.args.jobs.now.jobs
     (ap (value_at c.args.change.now.id) (sym c.by_id.ensures.jobs) ∙ sym c.in_default.ensures.value)))
     c.by_id.ensures.rising
 
@@ -35,11 +35,17 @@ returns-clause-moved c = record {
   grown = grown-moved c.args.shelves.now c.put_changed.new.self c.keep_last.new.self c.keep_last.ensures.shelves
       c.keep_last.ensures.came c.in_ok-put_changed.ensures.put.grown;
   followed = followed-altered c.args.shelves.now c.put_changed.new.self c.keep_last.new.self c.args.change.now.id _ _
-      (with_pri_and_state c.args.change.now.pri c.args.change.now.state) c.in-Some.job.now c.args.jobs.now.jobs
+      (marked_at c.args.change.now.pri c.args.change.now.state c.args.change.now.mark) c.in-Some.job.now c.args.jobs.now.jobs
       c.set.new.self.jobs c.by_id.ensures.rising
       (c.in-Some.ensures.value ∙ ap (value_at c.args.change.now.id) c.by_id.ensures.jobs) c.in_ok-set.ensures.ok
       c.keep_last.ensures.shelves
       (c.keep_last.ensures.went (c.args.shelves.now.went.items ++ (c.args.change.now.id, spot_of c.in-Some.job.now) ∷ []) _
       c.in_ok-put_changed.ensures.went)
-      c.in_ok-put_changed.ensures.put.only c.in_ok-put_changed.ensures.put.come;
+      (stored-only c.args.shelves.now c.args.shelves.now c.put_changed.new.self c.args.change.now.id
+      (marked_at c.args.change.now.pri c.args.change.now.state c.args.change.now.mark c.in-Some.job.now)
+      (changed_spot c.args.change.now.pri c.args.change.now.state c.in-Some.job.now) refl (λ l. refl)
+      c.in_ok-put_changed.ensures.put.only)
+      (stored-come c.put_changed.new.self c.args.change.now.id
+      (marked_at c.args.change.now.pri c.args.change.now.state c.args.change.now.mark c.in-Some.job.now)
+      (changed_spot c.args.change.now.pri c.args.change.now.state c.in-Some.job.now) refl c.in_ok-put_changed.ensures.put.come);
 }

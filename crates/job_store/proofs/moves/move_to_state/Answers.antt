@@ -1,15 +1,15 @@
 use Rattle.std.proofs.Common.{◌++◌, ◌∷◌, [], refl, sym, ap, ◌∙◌}
 use Rattle.job_store.specs.Entries.{value_at}
-use Rattle.job_store.specs.Spots.{spot_of}
-use Rattle.job_store.specs.States.{with_state}
+use Rattle.job_store.specs.Spots.{spot_of, changed_spot}
+use Rattle.job_store.specs.States.{marked}
 use Rattle.job_store.specs.EntryLaws.{altered-absent}
-use Rattle.job_store.proofs.shelving.Following.{moves-none, moves-nothing, followed-altered, grown-moved}
+use Rattle.job_store.proofs.shelving.Following.{moves-none, moves-nothing, followed-altered, grown-moved, stored-only, stored-come}
 use Rattle.job_store.proofs.moves.move_to_state.Goals as goal
 
 pub returns-in_default-clause-moved : goal.returns-in_default-clause-moved
 returns-in_default-clause-moved c =
     moves-nothing c.args.shelves.now c.args.jobs.now _
-    (sym (altered-absent c.args.id (with_state c.args.state) c.args.jobs.now.jobs
+    (sym (altered-absent c.args.id (marked c.args.state c.args.mark) c.args.jobs.now.jobs
     (ap (value_at c.args.id) (sym c.by_id.ensures.jobs) ∙ sym c.in_default.ensures.value)))
     c.by_id.ensures.rising
 
@@ -35,11 +35,15 @@ returns-clause-moved c = record {
   grown = grown-moved c.args.shelves.now c.put_changed.new.self c.keep_last.new.self c.keep_last.ensures.shelves
       c.keep_last.ensures.came c.in_ok-put_changed.ensures.put.grown;
   followed = followed-altered c.args.shelves.now c.put_changed.new.self c.keep_last.new.self c.args.id _ _
-      (with_state c.args.state) c.in-Some.job.now c.args.jobs.now.jobs
+      (marked c.args.state c.args.mark) c.in-Some.job.now c.args.jobs.now.jobs
       c.set_state.new.self.jobs c.by_id.ensures.rising
       (c.in-Some.ensures.value ∙ ap (value_at c.args.id) c.by_id.ensures.jobs) c.in_ok-set_state.ensures.ok
       c.keep_last.ensures.shelves
       (c.keep_last.ensures.went (c.args.shelves.now.went.items ++ (c.args.id, spot_of c.in-Some.job.now) ∷ []) _
       c.in_ok-put_changed.ensures.went)
-      c.in_ok-put_changed.ensures.put.only c.in_ok-put_changed.ensures.put.come;
+      (stored-only c.args.shelves.now c.args.shelves.now c.put_changed.new.self c.args.id
+      (marked c.args.state c.args.mark c.in-Some.job.now) (changed_spot c.in-Some.job.now.pri c.args.state c.in-Some.job.now)
+      refl (λ l. refl) c.in_ok-put_changed.ensures.put.only)
+      (stored-come c.put_changed.new.self c.args.id (marked c.args.state c.args.mark c.in-Some.job.now)
+      (changed_spot c.in-Some.job.now.pri c.args.state c.in-Some.job.now) refl c.in_ok-put_changed.ensures.put.come);
 }

@@ -1,8 +1,7 @@
 use Rattle.std.proofs.Common.{◌≡◌, ◌∙◌, ℕ, ◌+◌, true, ◌∷◌, [], ◌++◌, Some, None, rules, refl, sym, ap, ap₂, subst}
 use Rattle.job_store.specs.declared.job.Job.{Job}
-use Rattle.job_store.specs.declared.state.State.{State}
 use Rattle.job_store.specs.Entries.{altered}
-use Rattle.job_store.specs.States.{with_state}
+use Rattle.job_store.specs.States.{reserved_job}
 use Rattle.object.specs.declared.command.Answer.{Answer}
 use Rattle.session_store.specs.declared.session.SessionState.{SessionState}
 use Rattle.session_store.specs.Sessions.{first_waiting}
@@ -46,7 +45,7 @@ returns g c = record {
       (state_of c.self.inside.counters c.set_state.new.self.now c.set_wait.new.self.now
       c.self.inside.pauses.now.pauses) c.args.answers.now.items c.push.new.self.items true) c.self.view_is
       (served s j w c.set_state.new.self.now c.set_wait.new.self.now c.args.answers.now.items c.push.new.self.items next first
-      (c.in_ok-set_state.ensures.now ∙ ap (λ ttr. altered j.0 (with_state (State.Reserved w.0 (s.now + ttr))) s.jobs) c.from.ensures)
+      (c.in_ok-set_state.ensures.now ∙ ap (λ ttr. altered j.0 (reserved_job w.0 (s.now + ttr)) s.jobs) c.from.ensures)
       c.in_ok-set_wait.ensures.now
       (c.in_ok-push.ensures.items ∙
       ap₂ (λ number body. let a : Answer Reply =

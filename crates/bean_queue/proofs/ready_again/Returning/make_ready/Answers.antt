@@ -1,4 +1,6 @@
 use Rattle.std.proofs.Common.{◌∙◌, refl}
+use Rattle.job_store.specs.declared.state.State.{State}
+use Rattle.job_store.specs.States.{marked}
 use Rattle.bean_queue.proofs.kicks.ReadyAgain.{one_more, none_left}
 use Rattle.bean_queue.proofs.calm.Woken.{gathered, none-woken}
 use Rattle.bean_queue.proofs.ready_again.Returning.make_ready.Goals as goal
@@ -8,14 +10,14 @@ again-init g c = record { all = refl; woken = none-woken _ c.args.jobs.now.now; 
 
 pub again-smaller : goal.again-smaller
 again-smaller g c = (one_more c.args.self _ _ _ _ (c.in-Some.id, c.in-Some.job.now) c.map.ensures.rising
-    (cc c.in-Some.ensures) c.in_ok-set_state.ensures.now).less
+    (cc c.in-Some.ensures) c.mark-mark.result c.mark-mark.ensures c.in_ok-set_state.ensures.now).less
 
 pub again-preserved : goal.again-preserved
 again-preserved g c =
-    let one = one_more c.args.self _ _ _ _ (c.in-Some.id, c.in-Some.job.now) c.map.ensures.rising (cc c.in-Some.ensures) c.in_ok-set_state.ensures.now in
+    let one = one_more c.args.self _ _ _ _ (c.in-Some.id, c.in-Some.job.now) c.map.ensures.rising (cc c.in-Some.ensures) c.mark-mark.result c.mark-mark.ensures c.in_ok-set_state.ensures.now in
     record {
       all = one.all ∙ c.again.invariant.all;
-      woken = gathered _ _ _ _ (c.in-Some.id, c.in-Some.job.now) c.again.woken.keys _ _ c.map.ensures.rising one.there
+      woken = gathered _ _ _ _ (c.in-Some.id, c.in-Some.job.now) c.again.woken.keys _ _ (marked State.Ready c.mark-mark.result) (λ job. refl) c.map.ensures.rising one.there
           c.in_ok-set_state.ensures.now c.in_ok-copy.ensures c.in_ok-insert.ensures.keys c.again.invariant.woken;
       before = c.set_state.ensures.before ∙ c.again.invariant.before;
     }

@@ -1,13 +1,13 @@
 use Rattle.std.proofs.Common.{◌≡◌}
 use Rattle.job_store.specs.Entries.{each_value}
-use Rattle.bean_queue.specs.Effects.{is_returning, ready_if}
+use Rattle.bean_queue.specs.Effects.{is_returning, change_if, returned_job}
 use Rattle.bean_queue.specs.Woken.{AreWoken}
 use Rattle.bean_queue.proofs.kicks.ReadyAgain.{many}
 use Rattle.bean_queue.proofs.ready_again.Returning.make_ready.Given as goal
 
 abbrev pub invariant-again : goal.invariant-again
 invariant-again g l = record {
-  all : each_value (ready_if (is_returning l.self)) l.jobs.now ≡ each_value (ready_if (is_returning l.self)) l.fn.jobs.now;
+  all : each_value (change_if (is_returning l.self) (returned_job l.self)) l.jobs.now ≡ each_value (change_if (is_returning l.self) (returned_job l.self)) l.fn.jobs.now;
   woken : AreWoken l.woken.keys l.fn.jobs.now l.jobs.now;
   before : l.jobs.before ≡ l.fn.jobs.before;
 }

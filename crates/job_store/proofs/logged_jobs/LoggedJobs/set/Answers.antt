@@ -1,5 +1,5 @@
 use Rattle.std.proofs.Common.{refl, ap, ◌∙◌}
-use Rattle.job_store.specs.States.{with_pri_and_state}
+use Rattle.job_store.specs.States.{marked_at}
 use Rattle.job_store.specs.Undone.{MapState}
 use Rattle.job_store.specs.EntryLaws.{Rising-altered}
 use Rattle.job_store.proofs.maps.Entries.{Rising-same}
@@ -7,15 +7,15 @@ use Rattle.job_store.proofs.maps.Undone.{before-set}
 use Rattle.job_store.proofs.logged_jobs.LoggedJobs.set.Goals as goal
 
 pub invariant_of-self-2 : goal.invariant_of-self-2
-invariant_of-self-2 c = Rising-same _ _ _ _ c.make.ensures (Rising-altered c.args.id (with_pri_and_state c.args.pri c.args.state) _ _ _ c.self.invariant)
+invariant_of-self-2 c = Rising-same _ _ _ _ c.make.ensures (Rising-altered c.args.id (marked_at c.args.pri c.args.state c.args.mark) _ _ _ c.self.invariant)
 
 pub returns-clause-rising : goal.returns-clause-rising
-returns-clause-rising c = Rising-same _ _ _ _ c.make.ensures (Rising-altered c.args.id (with_pri_and_state c.args.pri c.args.state) _ _ _ c.self.invariant)
+returns-clause-rising c = Rising-same _ _ _ _ c.make.ensures (Rising-altered c.args.id (marked_at c.args.pri c.args.state c.args.mark) _ _ _ c.self.invariant)
 
 pub returns-clause-before : goal.returns-clause-before
 returns-clause-before c =
     before-set c.self.inside.is_trial c.args.id _ _
-    (with_pri_and_state c.args.pri c.args.state) c.self.inside.log.items c.note.new.log.items
+    (marked_at c.args.pri c.args.state c.args.mark) c.self.inside.log.items c.note.new.log.items
     c.self.inside.jobs.entries c.make.new.jobs.entries
     (λ job. refl) c.self.invariant c.in_ok-note.ensures.ok c.make.ensures ∙
     ap (λ (m : MapState). m.before) c.self.view_is

@@ -1,5 +1,5 @@
 use Rattle.std.proofs.Common.{refl, ap, ◌∙◌}
-use Rattle.job_store.specs.States.{with_state}
+use Rattle.job_store.specs.States.{marked}
 use Rattle.job_store.specs.Undone.{MapState}
 use Rattle.job_store.specs.EntryLaws.{Rising-altered}
 use Rattle.job_store.proofs.maps.Entries.{Rising-same}
@@ -7,14 +7,14 @@ use Rattle.job_store.proofs.maps.Undone.{before-set}
 use Rattle.job_store.proofs.logged_jobs.LoggedJobs.set_state.Goals as goal
 
 pub invariant_of-self-2 : goal.invariant_of-self-2
-invariant_of-self-2 c = Rising-same _ _ _ _ c.set_state.ensures (Rising-altered c.args.id (with_state c.args.state) _ _ _ c.self.invariant)
+invariant_of-self-2 c = Rising-same _ _ _ _ c.set_state.ensures (Rising-altered c.args.id (marked c.args.state c.args.mark) _ _ _ c.self.invariant)
 
 pub returns-clause-rising : goal.returns-clause-rising
-returns-clause-rising c = Rising-same _ _ _ _ c.set_state.ensures (Rising-altered c.args.id (with_state c.args.state) _ _ _ c.self.invariant)
+returns-clause-rising c = Rising-same _ _ _ _ c.set_state.ensures (Rising-altered c.args.id (marked c.args.state c.args.mark) _ _ _ c.self.invariant)
 
 pub returns-clause-before : goal.returns-clause-before
 returns-clause-before c =
     before-set c.self.inside.is_trial c.args.id _ _
-    (with_state c.args.state) c.self.inside.log.items c.note.new.log.items c.self.inside.jobs.entries
+    (marked c.args.state c.args.mark) c.self.inside.log.items c.note.new.log.items c.self.inside.jobs.entries
     c.set_state.new.jobs.entries (λ job. refl) c.self.invariant c.in_ok-note.ensures.ok c.set_state.ensures ∙
     ap (λ (m : MapState). m.before) c.self.view_is

@@ -1,4 +1,4 @@
-use Rattle.std.proofs.Common.{[], refl, sym, ap, ◌∙◌}
+use Rattle.std.proofs.Common.{refl, sym, ap, ◌∙◌}
 use Rattle.job_store.specs.declared.label.Label.{Label}
 use Rattle.job_store.specs.Spots.{at_spot}
 use Rattle.job_store.specs.Shelves.{belongs, number}
@@ -10,7 +10,7 @@ returns-in-Ready-clause-put c =
     put-at c.args.self.now (record c.args.self.now { ready = c.put.new.self }) (Label.Ready c.in-Ready.tube)
     (only-ready c.args.self.now c.put.new.self c.in-Ready.tube c.put.ensures.put.others) refl
     (c.args.id, (at_spot c.args.spot.now)) c.args.spot.now.pri
-    (sym c.if-not-fits.false ∙ c.fits.ensures c.args.id c.args.spot.now.pri 0 [] ∙ ap
+    (sym c.if-not-fits.false ∙ c.fits.ensures c.args.id (at_spot c.args.spot.now) refl refl ∙ ap
     (λ (l : Label). belongs l (c.args.id, (at_spot c.args.spot.now))) c.in-Ready.is)
     refl
     c.put.ensures.put.change
@@ -21,9 +21,9 @@ returns-in-Delayed-clause-put c =
     (Label.Delayed c.in-Delayed.tube)
     (only-delayed c.args.self.now c.put-in-Delayed.new.self c.in-Delayed.tube c.put-in-Delayed.ensures.put.others) refl
     (c.args.id, (at_spot c.args.spot.now)) c.number-number.result
-    (sym c.if-not-fits.false ∙ c.fits.ensures c.args.id c.args.spot.now.pri 0 [] ∙ ap
+    (sym c.if-not-fits.false ∙ c.fits.ensures c.args.id (at_spot c.args.spot.now) refl refl ∙ ap
     (λ (l : Label). belongs l (c.args.id, (at_spot c.args.spot.now))) c.in-Delayed.is)
-    (c.number-number.ensures 0 c.args.spot.now.tube [] ∙ ap (λ (l : Label). number l (at_spot c.args.spot.now)) c.in-Delayed.is)
+    (c.number-number.ensures (at_spot c.args.spot.now) refl refl ∙ ap (λ (l : Label). number l (at_spot c.args.spot.now)) c.in-Delayed.is)
     c.put-in-Delayed.ensures.put.change
 
 pub returns-in-Buried-clause-put : goal.returns-in-Buried-clause-put
@@ -32,9 +32,9 @@ returns-in-Buried-clause-put c =
     (Label.Buried c.in-Buried.tube)
     (only-buried c.args.self.now c.put-in-Buried.new.self c.in-Buried.tube c.put-in-Buried.ensures.put.others) refl
     (c.args.id, (at_spot c.args.spot.now)) c.number-number.result
-    (sym c.if-not-fits.false ∙ c.fits.ensures c.args.id c.args.spot.now.pri 0 [] ∙ ap
+    (sym c.if-not-fits.false ∙ c.fits.ensures c.args.id (at_spot c.args.spot.now) refl refl ∙ ap
     (λ (l : Label). belongs l (c.args.id, (at_spot c.args.spot.now))) c.in-Buried.is)
-    (c.number-number.ensures 0 c.args.spot.now.tube [] ∙ ap (λ (l : Label). number l (at_spot c.args.spot.now)) c.in-Buried.is)
+    (c.number-number.ensures (at_spot c.args.spot.now) refl refl ∙ ap (λ (l : Label). number l (at_spot c.args.spot.now)) c.in-Buried.is)
     c.put-in-Buried.ensures.put.change
 
 pub returns-in-Held-clause-put : goal.returns-in-Held-clause-put
@@ -42,9 +42,9 @@ returns-in-Held-clause-put c =
     put-at c.args.self.now (record c.args.self.now { held = c.put-in-Held.new.self }) (Label.Held c.in-Held.session)
     (only-held c.args.self.now c.put-in-Held.new.self c.in-Held.session c.put-in-Held.ensures.put.others) refl
     (c.args.id, (at_spot c.args.spot.now)) c.number-number.result
-    (sym c.if-not-fits.false ∙ c.fits.ensures c.args.id c.args.spot.now.pri 0 [] ∙ ap
+    (sym c.if-not-fits.false ∙ c.fits.ensures c.args.id (at_spot c.args.spot.now) refl refl ∙ ap
     (λ (l : Label). belongs l (c.args.id, (at_spot c.args.spot.now))) c.in-Held.is)
-    (c.number-number.ensures 0 c.args.spot.now.tube [] ∙ ap (λ (l : Label). number l (at_spot c.args.spot.now)) c.in-Held.is)
+    (c.number-number.ensures (at_spot c.args.spot.now) refl refl ∙ ap (λ (l : Label). number l (at_spot c.args.spot.now)) c.in-Held.is)
     c.put-in-Held.ensures.put.change
 
 pub returns-in-Scheduled-clause-put : goal.returns-in-Scheduled-clause-put
@@ -52,9 +52,9 @@ returns-in-Scheduled-clause-put c =
     put-at c.args.self.now (record c.args.self.now { scheduled = c.put-in-Scheduled.new.self }) Label.Scheduled
     (only-scheduled c.args.self.now c.put-in-Scheduled.new.self) refl
     (c.args.id, (at_spot c.args.spot.now)) c.number-number.result
-    (sym c.if-not-fits.false ∙ c.fits.ensures c.args.id c.args.spot.now.pri 0 [] ∙ ap
+    (sym c.if-not-fits.false ∙ c.fits.ensures c.args.id (at_spot c.args.spot.now) refl refl ∙ ap
     (λ (l : Label). belongs l (c.args.id, (at_spot c.args.spot.now))) c.in-Scheduled.is)
-    (c.number-number.ensures 0 c.args.spot.now.tube [] ∙ ap (λ (l : Label). number l (at_spot c.args.spot.now)) c.in-Scheduled.is)
+    (c.number-number.ensures (at_spot c.args.spot.now) refl refl ∙ ap (λ (l : Label). number l (at_spot c.args.spot.now)) c.in-Scheduled.is)
     c.put-in-Scheduled.ensures.gained
 
 pub returns-in-Reserved-clause-put : goal.returns-in-Reserved-clause-put
@@ -63,7 +63,7 @@ returns-in-Reserved-clause-put c =
     (Label.Reserved c.in-Reserved.tube)
     (only-reserved c.args.self.now c.put-in-Reserved.new.self c.in-Reserved.tube c.put-in-Reserved.ensures.put.others)
     refl (c.args.id, (at_spot c.args.spot.now)) c.number-number.result
-    (sym c.if-not-fits.false ∙ c.fits.ensures c.args.id c.args.spot.now.pri 0 [] ∙ ap
+    (sym c.if-not-fits.false ∙ c.fits.ensures c.args.id (at_spot c.args.spot.now) refl refl ∙ ap
     (λ (l : Label). belongs l (c.args.id, (at_spot c.args.spot.now))) c.in-Reserved.is)
-    (c.number-number.ensures 0 c.args.spot.now.tube [] ∙ ap (λ (l : Label). number l (at_spot c.args.spot.now)) c.in-Reserved.is)
+    (c.number-number.ensures (at_spot c.args.spot.now) refl refl ∙ ap (λ (l : Label). number l (at_spot c.args.spot.now)) c.in-Reserved.is)
     c.put-in-Reserved.ensures.put.change

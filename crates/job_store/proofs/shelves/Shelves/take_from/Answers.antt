@@ -1,4 +1,4 @@
-use Rattle.std.proofs.Common.{ℕ, [], refl, ap, subst, sym, ◌∙◌}
+use Rattle.std.proofs.Common.{ℕ, refl, ap, subst, sym, ◌∙◌}
 use Rattle.object.specs.Lists.{In}
 use Rattle.job_store.specs.declared.job.Job.{Job}
 use Rattle.job_store.specs.declared.label.Label.{Label}
@@ -14,13 +14,13 @@ returns-in-Ready-clause-taken c =
     (only-ready c.args.self.now c.take.new.self c.in-Ready.tube c.take.ensures.others) refl c.args.jobs.now.entries
     (c.args.spot.now.pri, c.args.id)
     (subst (λ n. (e : ℕ × Job) → In e c.args.jobs.now.entries → BelongsAt (Label.Ready c.in-Ready.tube) (n, c.args.id) e
-    → ⊥) (c.number-number.ensures 0 c.args.spot.now.tube [] ∙ ap
+    → ⊥) (c.number-number.ensures (at_spot c.args.spot.now) refl refl ∙ ap
     (λ (l : Label). number l (at_spot c.args.spot.now)) c.in-Ready.is)
     (subst (λ (l : Label). (e : ℕ × Job) → In e c.args.jobs.now.entries
     → BelongsAt l (c.number-number.result, c.args.id) e → ⊥) c.in-Ready.is
     (untaken c.args.label c.args.id c.number-number.result c.args.spot.now c.args.jobs.now.entries
-    (sym (c.fits.ensures c.args.id c.args.spot.now.pri 0 []) ∙ c.if-not-fits.false)
-    (c.number-number.ensures 0 c.args.spot.now.tube []) (c.is_taken.ensures.no c.if-is_taken.false))))
+    (sym (c.fits.ensures c.args.id (at_spot c.args.spot.now) refl refl) ∙ c.if-not-fits.false)
+    (c.number-number.ensures (at_spot c.args.spot.now) refl refl) (c.is_taken.ensures.no c.if-is_taken.false))))
     c.take.ensures.change
 
 pub returns-in-Ready-clause-gone : goal.returns-in-Ready-clause-gone
@@ -39,8 +39,8 @@ returns-in-Delayed-clause-taken c =
     (subst (λ (l : Label). (e : ℕ × Job) → In e c.args.jobs.now.entries
     → BelongsAt l (c.number-number.result, c.args.id) e → ⊥) c.in-Delayed.is
     (untaken c.args.label c.args.id c.number-number.result c.args.spot.now c.args.jobs.now.entries
-    (sym (c.fits.ensures c.args.id c.args.spot.now.pri 0 []) ∙ c.if-not-fits.false)
-    (c.number-number.ensures 0 c.args.spot.now.tube []) (c.is_taken.ensures.no c.if-is_taken.false)))
+    (sym (c.fits.ensures c.args.id (at_spot c.args.spot.now) refl refl) ∙ c.if-not-fits.false)
+    (c.number-number.ensures (at_spot c.args.spot.now) refl refl) (c.is_taken.ensures.no c.if-is_taken.false)))
     c.take-in-Delayed.ensures.change
 
 pub returns-in-Delayed-clause-gone : goal.returns-in-Delayed-clause-gone
@@ -48,7 +48,7 @@ returns-in-Delayed-clause-gone c p i b =
     absurd ((c.take-in-Delayed.ensures.change.only p
     (subst (λ (l : Label). In p (places (record c.args.self.now { delayed = c.take-in-Delayed.new.self }) l))
     c.in-Delayed.is i)).1 (only-place c.args.label c.args.id _ (at_spot c.args.spot.now) p
-    (c.number-number.ensures 0 c.args.spot.now.tube []) b))
+    (c.number-number.ensures (at_spot c.args.spot.now) refl refl) b))
 
 pub returns-in-Buried-clause-taken : goal.returns-in-Buried-clause-taken
 returns-in-Buried-clause-taken c =
@@ -59,8 +59,8 @@ returns-in-Buried-clause-taken c =
     (subst (λ (l : Label). (e : ℕ × Job) → In e c.args.jobs.now.entries
     → BelongsAt l (c.number-number.result, c.args.id) e → ⊥) c.in-Buried.is
     (untaken c.args.label c.args.id c.number-number.result c.args.spot.now c.args.jobs.now.entries
-    (sym (c.fits.ensures c.args.id c.args.spot.now.pri 0 []) ∙ c.if-not-fits.false)
-    (c.number-number.ensures 0 c.args.spot.now.tube []) (c.is_taken.ensures.no c.if-is_taken.false)))
+    (sym (c.fits.ensures c.args.id (at_spot c.args.spot.now) refl refl) ∙ c.if-not-fits.false)
+    (c.number-number.ensures (at_spot c.args.spot.now) refl refl) (c.is_taken.ensures.no c.if-is_taken.false)))
     c.take-in-Buried.ensures.change
 
 pub returns-in-Buried-clause-gone : goal.returns-in-Buried-clause-gone
@@ -68,7 +68,7 @@ returns-in-Buried-clause-gone c p i b =
     absurd ((c.take-in-Buried.ensures.change.only p
     (subst (λ (l : Label). In p (places (record c.args.self.now { buried = c.take-in-Buried.new.self }) l))
     c.in-Buried.is i)).1 (only-place c.args.label c.args.id _ (at_spot c.args.spot.now) p
-    (c.number-number.ensures 0 c.args.spot.now.tube []) b))
+    (c.number-number.ensures (at_spot c.args.spot.now) refl refl) b))
 
 pub returns-in-Held-clause-taken : goal.returns-in-Held-clause-taken
 returns-in-Held-clause-taken c =
@@ -78,8 +78,8 @@ returns-in-Held-clause-taken c =
     (subst (λ (l : Label). (e : ℕ × Job) → In e c.args.jobs.now.entries
     → BelongsAt l (c.number-number.result, c.args.id) e → ⊥) c.in-Held.is
     (untaken c.args.label c.args.id c.number-number.result c.args.spot.now c.args.jobs.now.entries
-    (sym (c.fits.ensures c.args.id c.args.spot.now.pri 0 []) ∙ c.if-not-fits.false)
-    (c.number-number.ensures 0 c.args.spot.now.tube []) (c.is_taken.ensures.no c.if-is_taken.false)))
+    (sym (c.fits.ensures c.args.id (at_spot c.args.spot.now) refl refl) ∙ c.if-not-fits.false)
+    (c.number-number.ensures (at_spot c.args.spot.now) refl refl) (c.is_taken.ensures.no c.if-is_taken.false)))
     c.take-in-Held.ensures.change
 
 pub returns-in-Held-clause-gone : goal.returns-in-Held-clause-gone
@@ -87,7 +87,7 @@ returns-in-Held-clause-gone c p i b =
     absurd ((c.take-in-Held.ensures.change.only p
     (subst (λ (l : Label). In p (places (record c.args.self.now { held = c.take-in-Held.new.self }) l)) c.in-Held.is
     i)).1 (only-place c.args.label c.args.id _ (at_spot c.args.spot.now) p
-    (c.number-number.ensures 0 c.args.spot.now.tube []) b))
+    (c.number-number.ensures (at_spot c.args.spot.now) refl refl) b))
 
 pub returns-in-Scheduled-clause-taken : goal.returns-in-Scheduled-clause-taken
 returns-in-Scheduled-clause-taken c =
@@ -97,8 +97,8 @@ returns-in-Scheduled-clause-taken c =
     (subst (λ (l : Label). (e : ℕ × Job) → In e c.args.jobs.now.entries
     → BelongsAt l (c.number-number.result, c.args.id) e → ⊥) c.in-Scheduled.is
     (untaken c.args.label c.args.id c.number-number.result c.args.spot.now c.args.jobs.now.entries
-    (sym (c.fits.ensures c.args.id c.args.spot.now.pri 0 []) ∙ c.if-not-fits.false)
-    (c.number-number.ensures 0 c.args.spot.now.tube []) (c.is_taken.ensures.no c.if-is_taken.false)))
+    (sym (c.fits.ensures c.args.id (at_spot c.args.spot.now) refl refl) ∙ c.if-not-fits.false)
+    (c.number-number.ensures (at_spot c.args.spot.now) refl refl) (c.is_taken.ensures.no c.if-is_taken.false)))
     c.take-in-Scheduled.ensures
 
 pub returns-in-Scheduled-clause-gone : goal.returns-in-Scheduled-clause-gone
@@ -106,7 +106,7 @@ returns-in-Scheduled-clause-gone c p i b =
     absurd ((c.take-in-Scheduled.ensures.only p
     (subst (λ (l : Label). In p (places (record c.args.self.now { scheduled = c.take-in-Scheduled.new.self }) l))
     c.in-Scheduled.is i)).1 (only-place c.args.label c.args.id _ (at_spot c.args.spot.now) p
-    (c.number-number.ensures 0 c.args.spot.now.tube []) b))
+    (c.number-number.ensures (at_spot c.args.spot.now) refl refl) b))
 
 pub returns-then-is_taken-clause-gone : goal.returns-then-is_taken-clause-gone
 returns-then-is_taken-clause-gone c p i b = c.is_taken.ensures.yes c.if-is_taken.true p b
@@ -120,8 +120,8 @@ returns-in-Reserved-clause-taken c =
     (subst (λ (l : Label). (e : ℕ × Job) → In e c.args.jobs.now.entries
     → BelongsAt l (c.number-number.result, c.args.id) e → ⊥) c.in-Reserved.is
     (untaken c.args.label c.args.id c.number-number.result c.args.spot.now c.args.jobs.now.entries
-    (sym (c.fits.ensures c.args.id c.args.spot.now.pri 0 []) ∙ c.if-not-fits.false)
-    (c.number-number.ensures 0 c.args.spot.now.tube []) (c.is_taken.ensures.no c.if-is_taken.false)))
+    (sym (c.fits.ensures c.args.id (at_spot c.args.spot.now) refl refl) ∙ c.if-not-fits.false)
+    (c.number-number.ensures (at_spot c.args.spot.now) refl refl) (c.is_taken.ensures.no c.if-is_taken.false)))
     c.take-in-Reserved.ensures.change
 
 pub returns-in-Reserved-clause-gone : goal.returns-in-Reserved-clause-gone
@@ -129,4 +129,4 @@ returns-in-Reserved-clause-gone c p i b =
     absurd ((c.take-in-Reserved.ensures.change.only p
     (subst (λ (l : Label). In p (places (record c.args.self.now { reserved = c.take-in-Reserved.new.self }) l))
     c.in-Reserved.is i)).1 (only-place c.args.label c.args.id _ (at_spot c.args.spot.now) p
-    (c.number-number.ensures 0 c.args.spot.now.tube []) b))
+    (c.number-number.ensures (at_spot c.args.spot.now) refl refl) b))
