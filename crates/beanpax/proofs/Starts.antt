@@ -29,9 +29,9 @@ more_told writes old middle new (inr told) (inr more) =
 pub behind_is : {X : Type 0} (xs : List X) (a : ℕ) → take (length xs - a) (drop a xs) ≡ drop a xs
 behind_is xs a = take_all (length xs - a) (drop a xs) (subst (λ n. n ≤ length xs - a) (sym (length-drop a xs)) (le_refl _))
 
-pub told_same : {O Op Reply : Type 0} {rules : Rules O Op Reply} {h : ForgettingState Op O Reply} {xs ys : List (Command Op)} (zs : List (Command Op)) → xs ≡ ys
-    → HasTold rules h (xs ++ zs) → HasTold rules h (ys ++ zs)
-told_same {O} {Op} {Reply} {rules} {h} {xs} {ys} zs same told = subst (λ cs. HasTold rules h (cs ++ zs)) same told
+pub told_same : {O Op Reply : Type 0} {rules : Rules O Op Reply} {members : List ℕ} {h : ForgettingState Op O Reply} {xs ys : List (Command Op)}
+    (zs : List (Command Op)) → xs ≡ ys → HasTold rules members h (xs ++ zs) → HasTold rules members h (ys ++ zs)
+told_same {O} {Op} {Reply} {rules} {members} {h} {xs} {ys} zs same told = subst (λ cs. HasTold rules members h (cs ++ zs)) same told
 
 -- what was cut off is told, or nothing
 pub cut_more : {E : Type 0} (writes : ByteOut E) (old new : E) (bytes : ℕ) → TellsCut writes old new bytes → WritesMore writes old new

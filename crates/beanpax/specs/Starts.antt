@@ -1,5 +1,5 @@
 -- A server that starts from a log.
-use Rattle.std.specs.Prelude.{◌≡◌, ℕ, List, [], ◌++◌, Option}
+use Rattle.std.specs.Prelude.{◌≡◌, ℕ, List, [], ◌++◌, length, Option}
 use Rattle.object.specs.Objects.{Rules}
 use Rattle.object.specs.declared.command.Command.{Command}
 use Rattle.bean_queue.specs.declared.op.Op.{Op}
@@ -11,13 +11,15 @@ use Rattle.log_file.specs.declared.file.OpenedLog.{OpenedLog}
 use Rattle.recovery.specs.Opened.{EndsAll}
 use Rattle.beanpax.specs.declared.starting.Started.{Started}
 
--- In the hall the commands of the log took effect, in their order, and then one Close for each session that they leave open, and nothing
--- else; and all of these are kept in the log, if it held what was read of it.
-pub record IsStarted {W : Type 0} (rules : Rules QueueState Op Reply) (contents : W → Option (List ℕ)) (opened : OpenedLog W) (started : Started W) : Type 0 where
+-- In the hall of these members the commands of the log took effect, in their order, and then one Close for each session that they leave
+-- open, and nothing else; so many of them the hall and the log count; and all of these are kept in the log, if it held what was read of it.
+pub record IsStarted {W : Type 0} (rules : Rules QueueState Op Reply) (contents : W → Option (List ℕ)) (members : List ℕ) (opened : OpenedLog W) (started : Started W) : Type 0 where
   pub closes : List (Command Op)
   pub ends : EndsAll opened.commands.items closes
-  pub told : HasTold rules started.hall (opened.commands.items ++ closes)
+  pub told : HasTold rules members started.hall (opened.commands.items ++ closes)
   pub gathered : started.hall.gathering.commands ≡ []
+  pub placed : started.hall.summary.placed ≡ length (opened.commands.items ++ closes)
+  pub kept : started.journal.kept ≡ length (opened.commands.items ++ closes)
   pub waiting : started.journal.waiting ≡ []
-  pub log : (members : List ℕ) → HoldsLog (contents opened.log.writer) opened.log.batch members opened.commands.items
-      → HoldsLog (contents started.journal.log.writer) [] members (opened.commands.items ++ closes)
+  pub log : (log_members : List ℕ) → HoldsLog (contents opened.log.writer) opened.log.batch log_members opened.commands.items
+      → HoldsLog (contents started.journal.log.writer) [] log_members (opened.commands.items ++ closes)

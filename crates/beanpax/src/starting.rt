@@ -28,15 +28,15 @@ pub(crate) struct Started<W> {
     pub(crate) journal: Journal<W>,
 }
 
-/// Obeys the log's commands in a hall of these members, ends each session that they leave open, and keeps these ends in the
-/// log.
+/// Obeys the log's commands in a hall of these members, ends each session that they leave open, and keeps these ends in
+/// the log.
 pub(crate) fn start_from<R: Host, E: ByteOut, W: Durable + Drop>(
     rt: &R,
     members: Members,
     opened: OpenedLog<W>,
     errors: &mut E,
 ) -> Result<Started<W>, ProgramFault>
-    ensures started { IfOk result (IsStarted ⟦<Queue as Object>⟧.rules W.contents opened) }
+    ensures started { IfOk result (IsStarted ⟦<Queue as Object>⟧.rules W.contents members opened) }
     ensures fault { IfErr result IsOfLog }
     ensures more { WritesMore E.ByteOut errors.old errors.new }
 {
@@ -55,7 +55,8 @@ fn obey<R: Host, E: ByteOut, O: Object>(
     commands: &[Command<O::Op>],
     errors: &mut E,
 ) -> Result<Recovered<O>, ProgramFault>
-    ensures told { IfOk result (λ r. HasTold O.rules r.hall (commands.now ++ r.closes.items)) }
+    ensures told { IfOk result (λ r. HasTold O.rules members r.hall (commands.now ++ r.closes.items)) }
+    ensures counted { IfOk result (λ r. r.hall.summary.placed ≡ length (commands.now ++ r.closes.items)) }
     ensures ends { IfOk result (λ r. EndsAll commands.now r.closes.items) }
     ensures gathered { IfOk result (λ r. r.hall.gathering.commands ≡ []) }
     ensures fault { IfErr result IsOfLog }
