@@ -16,3 +16,4 @@ pub mod Sound
 pub mod WaitLaws
 pub mod Searches
 pub mod Calls
+pub mod Forgetful

@@ -13,6 +13,7 @@ ghost use Rattle.job_store.specs.LookUps.{best_ready, not_paused};
 ghost use Rattle.bean_queue.specs.Best.{IsBestTurn};
 ghost use Rattle.bean_queue.specs.declared.reply.Reply.{Reply};
 ghost use Rattle.bean_queue.specs.Effects.{tick_effect, effect};
+ghost use Rattle.bean_queue.specs.Forgetful.{without_histories};
 ghost use Rattle.bean_queue.specs.Owed.{OwesNothing};
 ghost use Rattle.bean_queue.specs.Queue.{QueueState, paused_tubes, HasRisingIds, fresh, used_by, with_jobs};
 ghost use Rattle.bean_queue.specs.Kicking.{after_kick};
@@ -79,6 +80,16 @@ pub fn kick_makes_the_first_ready()
 pub fn tubes_are_listed_once()
     ensures order { (s : QueueState) → IsStrictlySortedBy (slice_cmp nat_cmp) (all_tubes s) }
     ensures exact { (s : QueueState) (tube : List ℕ) → In tube (all_tubes s) ↔ IsTube s tube }
+{}
+
+/// No answer depends on what has happened to a job: where the jobs of two states are the same but for their histories, a
+/// command gives the same answers, and the states after it are again the same but for histories.
+pub fn histories_change_no_answer()
+    ensures answers { (c : Command Op) (s t : QueueState) →
+        without_histories s ≡ without_histories t → (effect c s).answers ≡ (effect c t).answers }
+    ensures state { (c : Command Op) (s t : QueueState) →
+        without_histories s ≡ without_histories t →
+        without_histories (effect c s).state ≡ without_histories (effect c t).state }
 {}
 
 /// A new queue's state is sound, and stays so whatever it obeys.

@@ -2,7 +2,7 @@
 ghost use Rattle.std.specs.Prelude.{◌≡◌, None};
 
 use indexmap::IndexSet;
-use job_store::{Body, Job, JobMap, Jobs, Name, State};
+use job_store::{Body, History, Job, JobMap, Jobs, Mark, Name, State};
 use object::Value;
 use std::alloc::{AllocError, Global};
 use std::collections::{BTreeMap, BTreeSet};
@@ -18,6 +18,7 @@ fn new_job(alloc: Global, tube: &Name, pri: u32, state: State) -> Result<Job, Al
         ttr: 60,
         body: Body::new(alloc, b"hello")?,
         state,
+        history: History::new(2, 3),
     })
 }
 
@@ -194,8 +195,8 @@ fn make<M: JobMap>(
     match change {
         Change::Insert(row) => insert(alloc, tube, jobs, *row),
         Change::InsertCopy(row) => insert_copy(alloc, tube, jobs, *row),
-        Change::Set((id, pri, state)) => jobs.set(*id, *pri, state.copy()?),
-        Change::SetState(id, state) => jobs.set_state(*id, *state),
+        Change::Set((id, pri, state)) => jobs.set(*id, *pri, state.copy()?, Mark::Nothing),
+        Change::SetState(id, state) => jobs.set_state(*id, *state, Mark::Nothing),
     }
 }
 

@@ -1,0 +1,136 @@
+-- What a command does is the same but for histories, whatever they were.
+use Rattle.std.proofs.Common.{◌≡◌, ℕ, ◌+◌, Bool, true, false, cond, ◌++◌, nat_lt, refl, sym, ap, ap₂, subst, ◌∙◌}
+use Rattle.object.specs.declared.command.Act.{Act}
+use Rattle.object.specs.declared.command.Command.{Command}
+use Rattle.object.specs.declared.command.Key.{Key}
+use Rattle.job_store.specs.declared.job.Job.{Job}
+use Rattle.job_store.specs.declared.state.State.{State}
+use Rattle.job_store.specs.States.{is_due, is_held, with_state, over_job}
+use Rattle.session_store.specs.Sessions.{session_of, with_wait_ended, is_waiting}
+use Rattle.pause_store.specs.Pauses.{left_at}
+use Rattle.bean_queue.specs.declared.op.Op.{Op}
+use Rattle.bean_queue.specs.declared.reply.Reply.{Reply}
+use Rattle.bean_queue.specs.Queue.{QueueState, with_jobs, with_sessions}
+use Rattle.bean_queue.specs.Forgetful.{without_history, without_histories}
+use Rattle.bean_queue.specs.Rows.{row}
+use Rattle.bean_queue.specs.Turns.{QueueOutcome, stop, all_turns, serve, deadline_turn, timeout_turn}
+use Rattle.bean_queue.specs.Effects.{then_do, own, own_outcome, called, ends_wait, is_zero, turned_away, has_no_number, carried_out, do_effect}
+use Rattle.bean_queue.specs.Effects.{change_if, released, forgotten, close_effect, at_second, tick_effect, act_effect, effect}
+use Rattle.bean_queue.proofs.blind.Jobs.{IsBlind, blanks-twice, each-blind}
+use Rattle.bean_queue.proofs.blind.Rows.{row-blind}
+use Rattle.bean_queue.proofs.blind.Serving.{SameOutcome, Respects, serve-respects, holds-blind, deadlines-respect, timeouts-respect}
+
+-- what takes no notice of histories respects them
+respects-from : (f : QueueState → QueueOutcome) → ((s : QueueState) → SameOutcome (f (without_histories s)) (f s)) → Respects f
+respects-from f blind s t e = record {
+  answers = sym (blind s).answers ∙ ap (λ u. (f u).answers) e ∙ (blind t).answers;
+  state = sym (blind s).state ∙ ap (λ u. without_histories (f u).state) e ∙ (blind t).state;
+}
+
+then-respects : (f g : QueueState → QueueOutcome) → Respects f → Respects g → Respects (λ s. then_do (f s) g)
+then-respects f g first next s t e =
+    let a = first s t e in
+    let b = next (f s).state (f t).state a.state in
+    record { answers = ap₂ (λ xs ys. xs ++ ys) a.answers b.answers; state = b.state }
+
+outcome_if : (b c : Bool) (o p q r : QueueOutcome) → b ≡ c → SameOutcome o q → SameOutcome p r → SameOutcome (cond b o p) (cond c q r)
+outcome_if b c o p q r e h k =
+    subst (λ d. SameOutcome (cond b o p) (cond d q r)) e (elim b as (λ b. SameOutcome (cond b o p) (cond b q r)) [ true ↦ h | false ↦ k ])
+
+-- An operation
+
+own-respects : (op : Op) (key : Key) → Respects (λ s. own_outcome key (row op key (called key.session s)))
+own-respects op key =
+    respects-from (λ s. own_outcome key (row op key (called key.session s)))
+    (λ s. let r = row-blind op key (called key.session s) in record { answers = ap (own key) r.reply; state = r.state })
+
+stop-blind : (s : QueueState) → SameOutcome (stop (without_histories s)) (stop s)
+stop-blind s = record { answers = refl; state = ap (with_jobs s) (blanks-twice s.jobs) }
+
+ends_wait-blind : (s : QueueState) (key : Key) (reply : Reply) → SameOutcome (ends_wait (without_histories s) key reply) (ends_wait s key reply)
+ends_wait-blind s key reply = record {
+  answers = refl;
+  state = ap (with_jobs (with_sessions s (with_wait_ended key.session s.sessions))) (blanks-twice s.jobs);
+}
+
+turned_away-blind : (op : Op) (key : Key) (s : QueueState) → SameOutcome (turned_away op key (without_histories s)) (turned_away op key s)
+unfolding turned_away
+turned_away-blind (Op.Reserve seconds) key s =
+    outcome_if (is_waiting (session_of key.session s.sessions)) _ _ _ _ _ refl
+    (outcome_if _ _ _ _ _ _ (holds-blind key.session (s.now + 1) s.jobs) (ends_wait-blind s key Reply.DeadlineSoon)
+    (outcome_if (is_zero seconds) _ _ _ _ _ refl (ends_wait-blind s key Reply.TimedOut) (stop-blind s)))
+    (stop-blind s)
+turned_away-blind _ key s = stop-blind s
+
+carried_out-respects : (op : Op) (key : Key) → Respects (carried_out op key)
+unfolding carried_out
+carried_out-respects op key =
+    then-respects (λ s. then_do (own_outcome key (row op key (called key.session s))) serve) (turned_away op key)
+    (then-respects (λ s. own_outcome key (row op key (called key.session s))) serve (own-respects op key) serve-respects)
+    (respects-from (turned_away op key) (turned_away-blind op key))
+
+no_number-blind : (op : Op) (s : QueueState) → has_no_number op (without_histories s) ≡ has_no_number op s
+no_number-blind (Op.Put pri delay ttr body) s = refl
+no_number-blind (Op.Reserve seconds) s = refl
+no_number-blind (Op.Bury id pri) s = refl
+no_number-blind _ s = refl
+
+do-respects : (op : Op) (key : Key) → Respects (do_effect op key)
+unfolding do_effect
+do-respects op key s t e =
+    outcome_if (has_no_number op s) (has_no_number op t) _ _ _ _
+    (sym (no_number-blind op s) ∙ ap (has_no_number op) e ∙ no_number-blind op t)
+    (respects-from (λ u. ends_wait u key Reply.InternalError) (λ u. ends_wait-blind u key Reply.InternalError) s t e)
+    (carried_out-respects op key s t e)
+
+-- The end of a session
+
+if-blind : (which : State → Bool) (f : Job → Job) → IsBlind f → IsBlind (change_if which f)
+if-blind which f blind job =
+    elim (which job.state) as (λ b. without_history (cond b (f (without_history job)) (without_history job)) ≡ without_history (cond b (f job) job)) [
+      | true ↦ blind job
+      | false ↦ refl
+    ]
+
+released-respects : (x : ℕ) → Respects (λ s. stop (released x s))
+released-respects x =
+    respects-from (λ s. stop (released x s)) (λ s. record {
+      answers = refl;
+      state = ap (with_jobs (with_sessions s (with_wait_ended x s.sessions)))
+          (each-blind (change_if (is_held x) (with_state State.Ready)) s.jobs
+          (if-blind (is_held x) (with_state State.Ready) (λ job. refl)));
+    })
+
+close-respects : (x : ℕ) → Respects (close_effect x)
+unfolding close_effect
+close-respects x s t e =
+    let served = serve-respects (released x s) (released x t) (released-respects x s t e).state in
+    record { answers = served.answers; state = ap (forgotten x) served.state }
+
+-- A second
+
+second-respects : (second : ℕ) → Respects (λ s. stop (at_second second s))
+second-respects second =
+    respects-from (λ s. stop (at_second second s)) (λ s. record {
+      answers = refl;
+      state = ap (with_jobs (record s { now = second; pauses = left_at second s.pauses }))
+          (each-blind (change_if (is_due second) over_job) s.jobs (if-blind (is_due second) over_job (λ job. refl)));
+    })
+
+tick-respects : (second : ℕ) → Respects (tick_effect second)
+unfolding tick_effect
+tick-respects second s t e =
+    outcome_if (nat_lt s.now second) (nat_lt t.now second) _ _ _ _ (ap (λ (u : QueueState). nat_lt u.now second) e)
+    (then-respects (λ u. then_do (serve u) (all_turns deadline_turn)) (all_turns timeout_turn)
+    (then-respects serve (all_turns deadline_turn) serve-respects deadlines-respect)
+    timeouts-respect (at_second second s) (at_second second t) (second-respects second s t e).state)
+    (record { answers = refl; state = e })
+
+pub effect-respects : (c : Command Op) → Respects (effect c)
+unfolding effect act_effect
+effect-respects c =
+    elim c.act as (λ act. Respects (act_effect act c.key)) [
+      | Act.Do op ↦ do-respects op c.key
+      | Act.Close ↦ close-respects c.key.session
+      | Act.Tick ↦ tick-respects c.key.number
+    ]
