@@ -1,4 +1,4 @@
-ghost use Rattle.std.specs.Prelude.{◌≡◌, ◌++◌, IfOk};
+ghost use Rattle.std.specs.Prelude.{◌≡◌, ◌++◌, IfOk, OnOk, IsTrue};
 ghost use Rattle.recorder.specs.Records.{placed_from};
 ghost use Rattle.recovery.specs.Opened.{EndsAll};
 
@@ -11,14 +11,24 @@ use hall::{Hall, Ticket};
 use object::{Act, Command, Object, Value, copies_of};
 use std::alloc::Global;
 use std::collections::BTreeSet;
+use std::marker::Model;
 
-/// A hall that keeps all, and obeys the commands of a log.
+/// A hall that keeps all, and obeys the commands of a log. It is seen as the members that were asked for.
 #[derive(Drop)]
 pub struct KeepingRecovery<O: Object> {
     hall: Hall<O>,
     // Those of the sessions so far, from session 1 on.
     tickets: Vec<Ticket<O>>,
+    members: Members,
     alloc: Global,
+}
+
+impl<O: Object> Model for KeepingRecovery<O> {
+    ghost use Rattle.std.specs.Prelude.{List, ℕ};
+
+    ghost Value = { List ℕ };
+
+    ghost view = { λ r. r.members };
 }
 
 /// A hall that keeps all and has obeyed a log, the tickets of its sessions, and the commands by which it ended each session
@@ -32,19 +42,24 @@ pub struct RecoveredKeeping<O: Object> {
 
 impl<O: Object> KeepingRecovery<O> {
     /// A hall of these members that has obeyed nothing.
-    pub fn begin(alloc: Global, members: Members) -> Result<KeepingRecovery<O>, RecoverFault> {
+    pub fn begin(alloc: Global, members: Members) -> Result<KeepingRecovery<O>, RecoverFault>
+        ensures { IfOk result (λ r. r ≡ members) }
+    {
         let mut hall = Hall::new(alloc, members)?;
         hall.wake(FIRST_NODE)?;
         settle_all(&mut hall)?;
         Ok(KeepingRecovery {
             hall,
             tickets: Vec::new(alloc),
+            members,
             alloc,
         })
     }
 
     /// Obeys the log's next command.
-    pub fn obey(&mut self, command: &Command<O::Op>) -> Result<(), RecoverFault> {
+    pub fn obey(&mut self, command: &Command<O::Op>) -> Result<(), RecoverFault>
+        ensures { OnOk result (self.new ≡ self.old) }
+    {
         self.hand_in(command)?;
         settle_all(&mut self.hall)
     }
@@ -55,22 +70,27 @@ impl<O: Object> KeepingRecovery<O> {
         self,
         commands: &[Command<O::Op>],
     ) -> Result<RecoveredKeeping<O>, RecoverFault>
+        ensures members { IfOk result (λ r. r.hall.nodes.network.members ≡ self) }
         ensures placed { IfOk result (λ r.
             placed_from 0 r.hall.nodes.past ≡ commands.now ++ r.closes.items) }
         ensures closes { IfOk result (λ r. EndsAll commands.now r.closes.items) }
     {
-        let mut recovery = self;
-        let mut live = BTreeSet::new(recovery.alloc);
+        let mut live = BTreeSet::new(self.alloc);
         note_all(&mut live, commands)?;
+        let KeepingRecovery {
+            mut hall,
+            mut tickets,
+            members,
+            alloc,
+        } = self;
         for session in &live {
-            recovery.submit(*session, Act::Close)?;
-            settle_all(&mut recovery.hall)?;
+            submit(&mut hall, &mut tickets, *session, Act::Close)?;
+            settle_all(&mut hall)?;
         }
-        let closes = recovery.placed_behind(commands)?;
-        if !end_all(live, &closes) {
+        let closes = placed_behind(alloc, &hall, commands)?;
+        if !end_all(live, &closes) || !are_those(&hall.members(), &members) {
             return Err(RecoverFault::NoOrder);
         }
-        let KeepingRecovery { hall, tickets, .. } = recovery;
         Ok(RecoveredKeeping {
             hall,
             tickets,
@@ -79,7 +99,9 @@ impl<O: Object> KeepingRecovery<O> {
     }
 
     // Hands in a command, once its session is there.
-    fn hand_in(&mut self, command: &Command<O::Op>) -> Result<(), RecoverFault> {
+    fn hand_in(&mut self, command: &Command<O::Op>) -> Result<(), RecoverFault>
+        ensures { OnOk result (self.new ≡ self.old) }
+    {
         let key = command.key();
         if key.session == 0 {
             self.hall.tick(key.number, FIRST_NODE)?;
@@ -90,32 +112,45 @@ impl<O: Object> KeepingRecovery<O> {
             let ticket = self.hall.open_session()?;
             self.tickets.push_reserved(ticket);
         }
-        self.submit(key.session, command.act().copy()?)
+        let act = command.act().copy()?;
+        submit(&mut self.hall, &mut self.tickets, key.session, act)
     }
+}
 
-    // A session that is there hands in its next command.
-    fn submit(&mut self, session: u32, act: Act<O::Op>) -> Result<(), RecoverFault> {
-        let KeepingRecovery { hall, tickets, .. } = self;
-        let Some(ticket) = tickets.get_mut((session as usize).saturating_sub(1)) else {
-            return Err(RecoverFault::NoOrder);
-        };
-        hall.submit(ticket, act, FIRST_NODE)?;
-        Ok(())
-    }
+// A session that is there hands in its next command.
+fn submit<O: Object>(
+    hall: &mut Hall<O>,
+    tickets: &mut Vec<Ticket<O>>,
+    session: u32,
+    act: Act<O::Op>,
+) -> Result<(), RecoverFault> {
+    let Some(ticket) = tickets.get_mut((session as usize).saturating_sub(1)) else {
+        return Err(RecoverFault::NoOrder);
+    };
+    hall.submit(ticket, act, FIRST_NODE)?;
+    Ok(())
+}
 
-    // What took effect behind these commands, which have to come first.
-    fn placed_behind(
-        &self,
-        commands: &[Command<O::Op>],
-    ) -> Result<Vec<Command<O::Op>>, RecoverFault>
-        ensures { IfOk result (λ behind.
-            placed_from 0 self.now.hall.nodes.past ≡ commands.now ++ behind.items) }
-    {
-        let placed = self.hall.placed_from(0)?;
-        let count = commands.len();
-        if count > placed.len() || !are_same(&placed[..count], commands) {
-            return Err(RecoverFault::NoOrder);
-        }
-        Ok(copies_of(self.alloc, &placed[count..])?)
+// Whether these are the same members.
+fn are_those(some: &Members, others: &Members) -> bool
+    ensures { IsTrue result → some.now ≡ others.now }
+{
+    some.weights() == others.weights()
+}
+
+// What took effect behind these commands, which have to come first.
+fn placed_behind<O: Object>(
+    alloc: Global,
+    hall: &Hall<O>,
+    commands: &[Command<O::Op>],
+) -> Result<Vec<Command<O::Op>>, RecoverFault>
+    ensures { IfOk result (λ behind.
+        placed_from 0 hall.now.nodes.past ≡ commands.now ++ behind.items) }
+{
+    let placed = hall.placed_from(0)?;
+    let count = commands.len();
+    if count > placed.len() || !are_same(&placed[..count], commands) {
+        return Err(RecoverFault::NoOrder);
     }
+    Ok(copies_of(alloc, &placed[count..])?)
 }
