@@ -57,6 +57,7 @@ fn obey<R: Host, E: ByteOut, O: Object>(
 ) -> Result<Recovered<O>, ProgramFault>
     ensures told { IfOk result (λ r. HasTold O.rules members r.hall (commands.now ++ r.closes.items)) }
     ensures counted { IfOk result (λ r. r.hall.summary.placed ≡ length (commands.now ++ r.closes.items)) }
+    ensures settled { IfOk result (λ r. r.hall.summary.submitted ≡ r.hall.summary.placed) }
     ensures ends { IfOk result (λ r. EndsAll commands.now r.closes.items) }
     ensures gathered { IfOk result (λ r. r.hall.gathering.commands ≡ []) }
     ensures fault { IfErr result IsOfLog }

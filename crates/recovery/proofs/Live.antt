@@ -1,5 +1,5 @@
 -- Which sessions are open after one command more.
-use Rattle.std.proofs.Common.{◌≡◌, ◌==◌, ◌&&◌, ◌<◌, ◌≤◌, ◌+◌, ℕ, Bool, true, false, not, cond, List, [], ◌∷◌, ◌++◌, length, take, drop, refl, sym, ap, subst, ◌∙◌, arith}
+use Rattle.std.proofs.Common.{◌≡◌, ◌==◌, ◌&&◌, ◌<◌, ◌≤◌, ◌+◌, ℕ, Bool, true, false, not, cond, List, [], ◌∷◌, ◌++◌, length, take, drop, refl, sym, ap, subst, ◌∙◌, arith, IsTrue}
 use Rattle.std.proofs.lemmas.List.{append_assoc, take_more, drop_all}
 use lib.ListN.{get_or}
 use Rattle.std.proofs.lemmas.Bool.Decides.{nat_tests}
@@ -90,6 +90,9 @@ no_keys (k ∷ ks) none = absurd (omega (arith, none))
 -- an empty set has nobody
 pub none_in : (s : BTreeSet ℕ) → btree_set_len s ≡ 0 → (q : ℕ) → contains nat_cmp s q ≡ false
 none_in s none q = ap (λ ks. contains nat_cmp (record { keys = ks }) q) (no_keys s.keys none)
+
+pub are_equal : (a b : ℕ) → IsTrue (a == b) → a ≡ b
+are_equal a b is = grind (arith, nat_tests, is)
 
 -- at first nobody is open
 pub none_left : (Op : Type 0) (q : ℕ) → false ≡ is_left_open {Op = Op} q []

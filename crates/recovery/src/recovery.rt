@@ -83,7 +83,7 @@ impl<O: Object> Recovery<O> {
         Ok(count)
     }
 
-    /// Ends each session that is open.
+    /// Ends each session that is open. Nothing waits then to take effect.
     pub fn finish(self) -> Result<Recovered<O>, RecoverFault>
         ensures told { IfOk result (λ r. (members : List ℕ) (before : List (Command O.Op))
             → HasReplayed O.rules members self before
@@ -93,6 +93,8 @@ impl<O: Object> Recovery<O> {
         ensures counted { IfOk result (λ r. (members : List ℕ) (before : List (Command O.Op))
             → HasReplayed O.rules members self before
             → r.hall.summary.placed ≡ length (before ++ r.closes.items)) }
+        ensures settled { IfOk result (λ r. (members : List ℕ) (before : List (Command O.Op))
+            → HasReplayed O.rules members self before → r.hall.summary.submitted ≡ r.hall.summary.placed) }
         ensures gathered { IfOk result (λ r. r.hall.gathering.commands ≡ []) }
     {
         tells_in_order::<O>();
@@ -105,6 +107,9 @@ impl<O: Object> Recovery<O> {
             return Err(RecoverFault::NoOrder);
         }
         steps::forget(&mut hall, &closes);
+        if !has_settled(&hall) {
+            return Err(RecoverFault::NoOrder);
+        }
         Ok(Recovered { hall, closes })
     }
 
@@ -162,6 +167,14 @@ fn placed<O: Object>(hall: &mut ForgettingHall<O>) -> Result<Vec<Command<O::Op>>
     tells_in_order::<O>();
     steps::settle_all(hall)?;
     Ok(hall.take_placed())
+}
+
+// Whether all that was handed in took effect.
+fn has_settled<O: Object>(hall: &ForgettingHall<O>) -> bool
+    ensures { IsTrue result → (members : List ℕ) (told : List (Command O.Op)) → HasTold O.rules members hall.now told
+        → hall.now.summary.submitted ≡ hall.now.summary.placed }
+{
+    hall.submitted_count() == hall.placed_count()
 }
 
 /// Whether the values are the same, one by one.

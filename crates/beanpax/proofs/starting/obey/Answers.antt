@@ -48,3 +48,6 @@ returns-clause-counted g c =
     subst (λ cs. c.in_ok-finish.field-0.hall.summary.placed ≡ length (cs ++ c.in_ok-finish.field-0.closes.items))
     (take_all c.loop-done.done c.args.commands.now c.loop-done-test.false)
     (c.in_ok-finish.ensures.counted c.args.members _ c.loop-done.invariant.1)
+
+pub returns-clause-settled : goal.returns-clause-settled
+returns-clause-settled g c = c.in_ok-finish.ensures.settled c.args.members _ c.loop-done.invariant.1

@@ -14,6 +14,7 @@ returns-clause-started g c =
       told = told_same c.in_ok-hall.field-0.closes.items c.deref.ensures.value c.in_ok-hall.ensures.told;
       gathered = c.in_ok-hall.ensures.gathered;
       placed = counted;
+      settled = c.in_ok-hall.ensures.settled;
       kept = c.in_ok-keep.ensures.kept.1 ∙ ap (λ (j : JournalState _). j.due) c.put.ensures.put ∙ c.placed_count.ensures.count ∙ counted;
       waiting = c.in_ok-keep.ensures.kept.0;
       log = λ members holds. c.in_ok-keep.ensures.log members (c.args.opened.commands.items ++ c.in_ok-hall.field-0.closes.items)

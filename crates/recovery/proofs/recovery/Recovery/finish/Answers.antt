@@ -24,3 +24,9 @@ returns-clause-counted g c = λ members before has.
     (c.forget.ensures.told members all (c.in_ok-closes.ensures.told members before (c.loop-session.invariant members before has.told)))
     ∙ ap (λ cs. length (all ++ cs)) (ap (λ (q : Gathering _). q.commands) c.forget.ensures.gathering ∙ c.in_ok-closes.ensures.none)
     ∙ ap length (append-nil all)
+
+pub returns-clause-settled : goal.returns-clause-settled
+returns-clause-settled g c = λ members before has.
+    let all = before ++ c.in_ok-closes.closes.items in
+    c.has_settled.ensures c.if-not-has_settled.false members all
+    (c.forget.ensures.told members all (c.in_ok-closes.ensures.told members before (c.loop-session.invariant members before has.told)))
