@@ -8,13 +8,14 @@ use Rattle.recorder.specs.Records.{placed_from}
 use Rattle.recovery.specs.Opened.{EndsAll}
 use Rattle.beanpax.specs.declared.restoring.Restored.{Restored}
 
--- In the hall the commands of the log took effect, in their order, and then one Close for each session that they leave open, and nothing
--- else; all that took effect there is kept in the log, if it held what was read of it, and nothing waits.
-pub record IsRestored {W : Type 0} (contents : W → Option (List ℕ)) (opened : OpenedLog W) (restored : Restored W) : Type 0 where
+-- In the hall of these members the commands of the log took effect, in their order, and then one Close for each session that they leave
+-- open, and nothing else; the log counts as many as the hall's order has; and all of these are kept there, if it held what was read of it.
+pub record IsRestored {W : Type 0} (contents : W → Option (List ℕ)) (members : List ℕ) (opened : OpenedLog W) (restored : Restored W) : Type 0 where
   pub closes : List (Command Op)
   pub ends : EndsAll opened.commands.items closes
+  pub members : restored.kept.hall.nodes.network.members ≡ members
   pub placed : placed_from 0 restored.kept.hall.nodes.past ≡ opened.commands.items ++ closes
   pub waiting : restored.journal.waiting ≡ []
   pub kept : restored.journal.kept ≡ length restored.kept.hall.nodes.past.order
-  pub log : (members : List ℕ) → HoldsLog (contents opened.log.writer) opened.log.batch members opened.commands.items
-      → HoldsLog (contents restored.journal.log.writer) [] members (opened.commands.items ++ closes)
+  pub log : (log_members : List ℕ) → HoldsLog (contents opened.log.writer) opened.log.batch log_members opened.commands.items
+      → HoldsLog (contents restored.journal.log.writer) [] log_members (opened.commands.items ++ closes)

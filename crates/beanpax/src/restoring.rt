@@ -32,7 +32,7 @@ pub(crate) fn restore_from<R: Host, E: ByteOut, W: Durable + Drop>(
     opened: OpenedLog<W>,
     errors: &mut E,
 ) -> Result<Restored<W>, ProgramFault>
-    ensures restored { IfOk result (IsRestored W.contents opened) }
+    ensures restored { IfOk result (IsRestored W.contents members opened) }
     ensures fault { IfErr result IsOfLog }
     ensures more { WritesMore E.ByteOut errors.old errors.new }
 {
@@ -58,6 +58,7 @@ fn obey_keeping<R: Host, E: ByteOut, O: Object>(
     commands: &[Command<O::Op>],
     errors: &mut E,
 ) -> Result<RecoveredKeeping<O>, ProgramFault>
+    ensures members { IfOk result (λ r. r.hall.nodes.network.members ≡ members) }
     ensures placed { IfOk result (λ r.
         placed_from 0 r.hall.nodes.past ≡ commands.now ++ r.closes.items) }
     ensures ends { IfOk result (λ r. EndsAll commands.now r.closes.items) }
