@@ -13,7 +13,7 @@ use Rattle.beanpax.specs.declared.restoring.Restored.{Restored}
 pub record IsRestored {W : Type 0} (contents : W → Option (List ℕ)) (members : List ℕ) (opened : OpenedLog W) (restored : Restored W) : Type 0 where
   pub closes : List (Command Op)
   pub ends : EndsAll opened.commands.items closes
-  pub members : restored.kept.hall.nodes.network.members ≡ members
+  pub has_members : restored.kept.hall.nodes.network.members ≡ members
   pub placed : placed_from 0 restored.kept.hall.nodes.past ≡ opened.commands.items ++ closes
   pub waiting : restored.journal.waiting ≡ []
   pub kept : restored.journal.kept ≡ length restored.kept.hall.nodes.past.order
