@@ -80,9 +80,7 @@ fn start<'a, R: Host, E: ByteOut>(
             let restored = restore_from(rt, members, opened, errors)?;
             Ok(FromLog::Keeping { restored, dump })
         }
-        None => Ok(FromLog::Forgetting(start_from(
-            rt, members, opened, errors,
-        )?)),
+        None => Ok(FromLog::Forgetting(start_from(rt, members, opened, errors)?)),
     }
 }
 

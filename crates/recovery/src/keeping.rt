@@ -66,10 +66,7 @@ impl<O: Object> KeepingRecovery<O> {
 
     /// Ends each session that is open. What took effect has to be these commands, which are all of the log, and then the
     /// ends.
-    pub fn finish(
-        self,
-        commands: &[Command<O::Op>],
-    ) -> Result<RecoveredKeeping<O>, RecoverFault>
+    pub fn finish(self, commands: &[Command<O::Op>]) -> Result<RecoveredKeeping<O>, RecoverFault>
         ensures members { IfOk result (λ r. r.hall.nodes.network.members ≡ self) }
         ensures placed { IfOk result (λ r.
             placed_from 0 r.hall.nodes.past ≡ commands.now ++ r.closes.items) }

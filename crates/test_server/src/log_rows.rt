@@ -128,7 +128,9 @@ fn a_dump_beside_a_log_has_all_since_it_began(rt: HostRuntime) -> Result<(), Fai
         format!(in alloc; "{port}.dump")?,
     );
     fs::write(&rt, file.as_str(), TORN)?;
-    let line = format!(in alloc; "serve --sessions 1 --port {port} --log {port}.log --dump {port}.dump")?;
+    let line = format!(in alloc;
+        "serve --sessions 1 --port {port} --log {port}.log --dump {port}.dump"
+    )?;
     let words = words(alloc, line.as_str())?;
     let (ended, is_told) = thread::join(
         &rt,

@@ -16,6 +16,6 @@ pub loop-key-preserved : goal.loop-key-preserved
 loop-key-preserved g c =
     let more = one_more (command_of c.args.submitted.now) c.args.keys.now c.loop-key.key-index (record { session = 0; number = 0 }) c.loop-key-test.true in
     elim c.match-get.branch [
-      in-Some+in_ok-copy+in_ok-push w ↦ grind (arith, common_steps, more, c.get.ensures, w.in-Some.is)
-    | in_default w ↦ grind (arith, common_steps, more, c.get.ensures)
+      | in-Some+in_ok-copy+in_ok-push w ↦ grind (arith, common_steps, more, c.get.ensures, w.in-Some.is)
+      | in_default w ↦ grind (arith, common_steps, more, c.get.ensures)
     ]
