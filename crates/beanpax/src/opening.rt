@@ -63,7 +63,7 @@ pub(crate) fn open_all<'a, R: Host, W: ByteOut, E: ByteOut>(
     Ok(Opened { listener, log })
 }
 
-// Starts from the log of this file, or begins one. The hall keeps all where there is to be a dump.
+// Starts from the log of this file, or begins one.
 fn start<'a, R: Host, E: ByteOut>(
     rt: &R,
     file: &str,
@@ -73,8 +73,21 @@ fn start<'a, R: Host, E: ByteOut>(
     ensures fault { IfErr result IsOfLog }
     ensures more { WritesMore E.ByteOut errors.old errors.new }
 {
+    let opened = open_file(rt, file, options.members, errors)?;
+    go_on(rt, opened, options, errors)
+}
+
+// Goes on from a log, with a hall that keeps all where there is to be a dump.
+fn go_on<'a, R: Host, E: ByteOut>(
+    rt: &R,
+    opened: OpenedLog<File>,
+    options: &ServerOptions<'a>,
+    errors: &mut E,
+) -> Result<FromLog<'a>, ProgramFault>
+    ensures fault { IfErr result IsOfLog }
+    ensures more { WritesMore E.ByteOut errors.old errors.new }
+{
     let members = options.members;
-    let opened = open_file(rt, file, members, errors)?;
     match options.dump {
         Some(dump) => {
             let restored = restore_from(rt, members, opened, errors)?;
