@@ -25,6 +25,7 @@ mod wire;
 pub use counted_hall::Seconds;
 pub use fault::ServeFault;
 pub use server::{
-    Host, KeptHall, Served, ServedForgetting, serve_again, serve_clients, serve_forgetting, serve_logged,
+    Host, KeptHall, Served, ServedForgetting, serve_again, serve_clients, serve_forgetting,
+    serve_logged,
 };
 pub use shared_log::Logging;

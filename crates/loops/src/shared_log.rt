@@ -102,7 +102,8 @@ impl Writing {
             let mut house = house.lock(rt);
             let count = house.desk.placed_count();
             let placed = house.desk.take_placed();
-            self.journal.put(placed.map_err(|_| ServeFault::OutOfMemory)?, count);
+            self.journal
+                .put(placed.map_err(|_| ServeFault::OutOfMemory)?, count);
         }
         self.journal.keep().map_err(fault_of)
     }
