@@ -1,4 +1,5 @@
-ghost use Rattle.std.specs.Prelude.{◌≡◌, ◌++◌, IfOk, IfErr};
+ghost use Rattle.std.specs.Prelude.{◌≡◌, ◌++◌, false, IfOk, IfErr};
+ghost use Rattle.hall.specs.Halls.{has_unplaced};
 ghost use Rattle.recorder.specs.Records.{placed_from};
 ghost use Rattle.recovery.specs.Opened.{EndsAll};
 ghost use Rattle.beanpax.specs.Faults.{IsOfLog};
@@ -62,6 +63,7 @@ fn obey_keeping<R: Host, E: ByteOut, O: Object>(
     ensures placed { IfOk result (λ r.
         placed_from 0 r.hall.nodes.past ≡ commands.now ++ r.closes.items) }
     ensures ends { IfOk result (λ r. EndsAll commands.now r.closes.items) }
+    ensures settled { IfOk result (λ r. has_unplaced r.hall ≡ false) }
     ensures fault { IfErr result IsOfLog }
     ensures more { WritesMore E.ByteOut errors.old errors.new }
 {

@@ -199,6 +199,7 @@ fn end_of(fault: Option<ServeFault>) -> Result<(), ProgramFault>
 // The same of a server that has a log.
 fn end_of_logged(fault: Option<ServeFault>) -> Result<(), ProgramFault>
     ensures fault { IfSome fault (λ fault. result ≡ Err (of_logged fault)) }
+    ensures no_fault { fault ≡ None → result ≡ Ok tt }
     ensures only { IfErr result (λ fault. IsOfServer fault ⊎ IsOfLog fault) }
 {
     match fault {

@@ -23,6 +23,9 @@ pub(crate) trait LoopDesk: Desk {
     // What took effect since it was taken, as far as that is gathered.
     ghost placed: { Self → List (Command Op) };
 
+    // How many commands took effect.
+    ghost effects: { Self → ℕ };
+
     /// Opens a session: the next one.
     fn open_session(&mut self) -> Result<Self::Ticket, HallError>
         ensures new { IfOk result (λ t. Self.Ticket.keeping.IsOf t []) }
@@ -66,7 +69,8 @@ pub(crate) trait LoopDesk: Desk {
         ensures kept { handed_in self.new ≡ handed_in self.old };
 
     /// How many commands took effect.
-    fn placed_count(&self) -> u64;
+    fn placed_count(&self) -> u64
+        ensures { result ≡ effects self.now };
 
     /// Takes the commands that took effect since this was called last, in the one order, as far as they are gathered.
     fn take_placed(&mut self) -> Result<Vec<Command<Op>>, AllocError>

@@ -87,6 +87,8 @@ impl<O: Object<Op = Op, Reply = Reply>> LoopDesk for ForgettingDesk<O> {
 
     ghost placed = { λ desk. desk.hall.gathering.commands };
 
+    ghost effects = { λ desk. desk.hall.summary.placed };
+
     fn open_session(&mut self) -> Result<LeanTicket, HallError> {
         Ok(LeanTicket::new(self.hall.open_session()?))
     }

@@ -48,13 +48,16 @@ impl<O: Object> HallDesk<O> {
         }
     }
 
-    /// A hall in which sessions were there before. These tickets of theirs are compared with it.
+    /// A hall in which sessions were there before. These tickets of theirs are compared with it. What took effect there
+    /// is not taken, and what was answered is not told.
     pub(crate) fn over(
         alloc: Global,
         hall: Hall<O>,
         tickets: &[Ticket<O>],
     ) -> Result<HallDesk<O>, ServeFault>
-        ensures { IfOk result (λ desk. desk.hall ≡ hall) }
+        ensures hall { IfOk result (λ desk. desk.hall ≡ hall) }
+        ensures taken { IfOk result (λ desk. desk.taken ≡ length hall.nodes.past.order) }
+        ensures told { IfOk result (λ desk. desk.told ≡ length hall.nodes.past.happenings.answers) }
     {
         let handed_in = sum_of(hall.book()).ok_or(ServeFault::BadNumber)?;
         let told = hall.answer_count();
@@ -83,6 +86,8 @@ impl<O: Object> HallDesk<O> {
         ensures disagrees { ¬ (Agrees self.old.hall ticket.now) →
             (self.new.compared.items ≡ self.old.compared.items) × (self.new.acts ≡ self.old.acts) }
         ensures hall { self.new.hall ≡ self.old.hall }
+        ensures taken { self.new.taken ≡ self.old.taken }
+        ensures told { self.new.told ≡ self.old.told }
     {
         let HallDesk {
             hall,
@@ -161,6 +166,8 @@ impl<O: Object<Op = Op, Reply = Reply>> LoopDesk for HallDesk<O> {
 
     // What the order has behind what was taken.
     ghost placed = { λ desk. placed_from desk.taken desk.hall.nodes.past };
+
+    ghost effects = { λ desk. length desk.hall.nodes.past.order };
 
     fn open_session(&mut self) -> Result<Ticket<O>, HallError> {
         self.compared.reserve(1)?;

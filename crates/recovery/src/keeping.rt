@@ -1,4 +1,5 @@
-ghost use Rattle.std.specs.Prelude.{◌≡◌, ◌++◌, IfOk, OnOk, IsTrue};
+ghost use Rattle.std.specs.Prelude.{◌≡◌, ◌++◌, false, length, IfOk, OnOk, IsTrue};
+ghost use Rattle.hall.specs.Halls.{has_unplaced};
 ghost use Rattle.recorder.specs.Records.{placed_from};
 ghost use Rattle.recovery.specs.Opened.{EndsAll};
 
@@ -31,8 +32,8 @@ impl<O: Object> Model for KeepingRecovery<O> {
     ghost view = { λ r. r.members };
 }
 
-/// A hall that keeps all and has obeyed a log, the tickets of its sessions, and the commands by which it ended each session
-/// that the log leaves open. They took effect behind the log's.
+/// A hall that keeps all and has obeyed a log, the tickets of its sessions, and the commands by which it ended each
+/// session that the log leaves open. They took effect behind the log's.
 #[derive(Drop)]
 pub struct RecoveredKeeping<O: Object> {
     pub hall: Hall<O>,
@@ -64,13 +65,15 @@ impl<O: Object> KeepingRecovery<O> {
         settle_all(&mut self.hall)
     }
 
-    /// Ends each session that is open. What took effect has to be these commands, which are all of the log, and then the
-    /// ends.
+    /// Ends each session that is open. What took effect has to be these commands, which are all of the log, and then
+    /// the ends. Nothing waits then to take effect, and each session has a ticket.
     pub fn finish(self, commands: &[Command<O::Op>]) -> Result<RecoveredKeeping<O>, RecoverFault>
         ensures members { IfOk result (λ r. r.hall.nodes.network.members ≡ self) }
         ensures placed { IfOk result (λ r.
             placed_from 0 r.hall.nodes.past ≡ commands.now ++ r.closes.items) }
         ensures closes { IfOk result (λ r. EndsAll commands.now r.closes.items) }
+        ensures settled { IfOk result (λ r. has_unplaced r.hall ≡ false) }
+        ensures tickets { IfOk result (λ r. length r.tickets.items ≡ length r.hall.book) }
     {
         let mut live = BTreeSet::new(self.alloc);
         note_all(&mut live, commands)?;
@@ -86,6 +89,9 @@ impl<O: Object> KeepingRecovery<O> {
         }
         let closes = placed_behind(alloc, &hall, commands)?;
         if !end_all(live, &closes) || !are_those(&hall.members(), &members) {
+            return Err(RecoverFault::NoOrder);
+        }
+        if hall.has_unplaced() || tickets.len() != hall.book().len() {
             return Err(RecoverFault::NoOrder);
         }
         Ok(RecoveredKeeping {

@@ -12,6 +12,7 @@ returns-clause-restored g c =
       ends = subst (λ cs. EndsAll cs r.closes.items) c.deref.ensures.value c.in_ok-recovered.ensures.ends;
       has_members = c.in_ok-recovered.ensures.members;
       placed = subst (λ cs. placed_from 0 r.hall.nodes.past ≡ cs ++ r.closes.items) c.deref.ensures.value c.in_ok-recovered.ensures.placed;
+      settled = c.in_ok-recovered.ensures.settled;
       waiting = c.in_ok-keep.ensures.kept.0;
       kept = c.in_ok-keep.ensures.kept.1 ∙ ap (λ (j : JournalState _). j.due) c.put.ensures.put ∙ c.placed_count.ensures;
       log = λ members holds. c.in_ok-keep.ensures.log members (c.args.opened.commands.items ++ r.closes.items)

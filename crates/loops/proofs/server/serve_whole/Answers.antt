@@ -1,4 +1,4 @@
-use Rattle.std.proofs.Common.{◌≡◌, Option, Some, None, is_some, sym, ap, ◌∙◌, true≢false}
+use Rattle.std.proofs.Common.{◌≡◌, Some, None, is_some, ap, true≢false}
 use Rattle.loops.proofs.server.serve_whole.Goals as goal
 
 -- a fault is told
