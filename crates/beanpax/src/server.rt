@@ -80,8 +80,10 @@ fn serve_from_log<R: Host>(
     let seconds = ClockSeconds::after(rt, hall.last_second());
     let logging = logging_of(journal, options);
     let (workers, sessions) = (options.workers, options.sessions);
-    let served = serve_logged(rt, hall, logging, listener, seconds, workers, sessions);
-    end_of_logged(served.map_err(fault_of_logged)?.fault)
+    match serve_logged(rt, hall, logging, listener, seconds, workers, sessions) {
+        Ok(served) => end_of_logged(served.fault),
+        Err(fault) => end_of_logged(Some(fault)),
+    }
 }
 
 // How the log is kept.
@@ -107,10 +109,13 @@ fn serve_again_and_dump<R: Host>(
     let seconds = ClockSeconds::after(rt, kept.hall.last_second());
     let logging = logging_of(journal, options);
     let (workers, sessions) = (options.workers, options.sessions);
-    let served = serve_again(rt, kept, logging, listener, seconds, workers, sessions);
-    let served = served.map_err(fault_of_logged)?;
-    end_of_logged(served.fault)?;
-    write_dump(rt, &served.hall, file)
+    match serve_again(rt, kept, logging, listener, seconds, workers, sessions) {
+        Ok(served) => {
+            end_of_logged(served.fault)?;
+            write_dump(rt, &served.hall, file)
+        }
+        Err(fault) => end_of_logged(Some(fault)),
+    }
 }
 
 // Serves those who connect here over a hall that keeps all, and writes its dump to this file at the end.
