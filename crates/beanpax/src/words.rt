@@ -425,7 +425,7 @@ fn sync_words<'a>(alloc: Global) -> Arg<'a>
         .long("sync")
         .value_name("MS")
         .help(
-            "How many milliseconds may pass before the log is synced: 0 to 3600000; without --log no effect [default: 0]",
+            "How many milliseconds may pass before the log is written and synced; what is answered meanwhile may be lost: 0 to 3600000; without --log no effect [default: 0]",
         )
         .value_parser(value_parser!(u32).range(0..=3_600_000))
 }
