@@ -5,7 +5,7 @@ use Rattle.bean_queue.specs.declared.op.Op.{Op}
 use Rattle.hall.specs.Halls.{has_unplaced}
 use Rattle.log_file.specs.Logs.{HoldsLog}
 use Rattle.log_file.specs.declared.file.OpenedLog.{OpenedLog}
-use Rattle.recorder.specs.Records.{placed_from}
+use Rattle.recorder.specs.Records.{commands_from}
 use Rattle.recovery.specs.Opened.{EndsAll}
 use Rattle.beanpax.specs.declared.restoring.Restored.{Restored}
 
@@ -16,7 +16,7 @@ pub record IsRestored {W : Type 0} (contents : W → Option (List ℕ)) (members
   pub closes : List (Command Op)
   pub ends : EndsAll opened.commands.items closes
   pub has_members : restored.kept.hall.nodes.network.members ≡ members
-  pub placed : placed_from 0 restored.kept.hall.nodes.past ≡ opened.commands.items ++ closes
+  pub placed : commands_from 0 restored.kept.hall.nodes.past ≡ opened.commands.items ++ closes
   pub settled : has_unplaced restored.kept.hall ≡ false
   pub waiting : restored.journal.waiting ≡ []
   pub kept : restored.journal.kept ≡ length restored.kept.hall.nodes.past.order

@@ -1,6 +1,6 @@
 ghost use Rattle.std.specs.Prelude.{◌≡◌, ◌++◌, false, IfOk, IfErr};
 ghost use Rattle.hall.specs.Halls.{has_unplaced};
-ghost use Rattle.recorder.specs.Records.{placed_from};
+ghost use Rattle.recorder.specs.Records.{commands_from};
 ghost use Rattle.recovery.specs.Opened.{EndsAll};
 ghost use Rattle.beanpax.specs.Faults.{IsOfLog};
 ghost use Rattle.beanpax.specs.Program.{WritesMore};
@@ -61,7 +61,7 @@ fn obey_keeping<R: Host, E: ByteOut, O: Object>(
 ) -> Result<RecoveredKeeping<O>, ProgramFault>
     ensures members { IfOk result (λ r. r.hall.nodes.network.members ≡ members) }
     ensures placed { IfOk result (λ r.
-        placed_from 0 r.hall.nodes.past ≡ commands.now ++ r.closes.items) }
+        commands_from 0 r.hall.nodes.past ≡ commands.now ++ r.closes.items) }
     ensures ends { IfOk result (λ r. EndsAll commands.now r.closes.items) }
     ensures settled { IfOk result (λ r. has_unplaced r.hall ≡ false) }
     ensures fault { IfErr result IsOfLog }

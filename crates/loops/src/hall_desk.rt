@@ -155,7 +155,7 @@ impl<O: Object<Op = Op, Reply = Reply>> Desk for HallDesk<O> {
 
 impl<O: Object<Op = Op, Reply = Reply>> LoopDesk for HallDesk<O> {
     ghost use Rattle.std.specs.Prelude.{length};
-    ghost use Rattle.recorder.specs.Records.{placed_from};
+    ghost use Rattle.recorder.specs.Records.{commands_from};
 
     // By each session.
     ghost handed_in = { λ desk. desk.hall.book };
@@ -165,7 +165,7 @@ impl<O: Object<Op = Op, Reply = Reply>> LoopDesk for HallDesk<O> {
     ghost clock = { λ desk. desk.hall.second };
 
     // What the order has behind what was taken.
-    ghost placed = { λ desk. placed_from desk.taken desk.hall.nodes.past };
+    ghost placed = { λ desk. commands_from desk.taken desk.hall.nodes.past };
 
     ghost effects = { λ desk. length desk.hall.nodes.past.order };
 

@@ -38,12 +38,12 @@ abbrev pub with_place : {Op Reply : Type 0} → Key → Record Op Reply → Reco
 with_place key r = if stands own_key key r.order then r else record r { order = r.order ++ key ∷ [] }
 
 -- the command that was submitted under the key
-abbrev pub command_of : {Op : Type 0} → List (Submission Op) → Key → Option (Command Op)
-command_of submitted key = option_map (λ s. s.command) (found submitted_key key submitted)
+abbrev pub command_under : {Op : Type 0} → List (Submission Op) → Key → Option (Command Op)
+command_under submitted key = option_map (λ s. s.command) (found submitted_key key submitted)
 
 -- the commands that took effect, in their order, but for so many of the first ones
-abbrev pub placed_from : {Op Reply : Type 0} → ℕ → Record Op Reply → List (Command Op)
-placed_from count r = filter_map (command_of r.happenings.submitted) (drop count r.order)
+abbrev pub commands_from : {Op Reply : Type 0} → ℕ → Record Op Reply → List (Command Op)
+commands_from count r = filter_map (command_under r.happenings.submitted) (drop count r.order)
 
 -- the last submission is taken back
 abbrev pub without_last_submission : {Op Reply : Type 0} → Record Op Reply → Record Op Reply

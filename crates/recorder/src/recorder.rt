@@ -6,7 +6,7 @@ ghost use Rattle.object.specs.Keys.{stands, found};
 ghost use Rattle.object.specs.Answers.{answered_key};
 ghost use Rattle.object.specs.Happenings.{submitted_key, is_submitted, with_submission};
 ghost use Rattle.object.specs.declared.command.Answer.{Answer};
-ghost use Rattle.recorder.specs.Records.{IsRecord, EndsOpen, blank, command_of, own_key, placed_from, with_first_answers, with_place, without_last_submission};
+ghost use Rattle.recorder.specs.Records.{IsRecord, EndsOpen, blank, command_under, own_key, commands_from, with_first_answers, with_place, without_last_submission};
 ghost use Rattle.recorder.specs.Fates.{fate_at};
 
 use crate::fate::Fate;
@@ -215,8 +215,8 @@ impl<Op: Value, Reply: Value> Recorder<Op, Reply> {
 
     /// The commands that took effect, in their order, but for so many of the first ones. It fails for want of memory alone.
     pub fn placed_from(&self, count: usize) -> Result<Vec<Command<Op>>, AllocError>
-        ensures commands { IfOk result (λ commands. commands.items ≡ placed_from count self.now) }
-        ensures keys { map (λ c. c.key) (placed_from count self.now) ≡ drop count self.now.order }
+        ensures commands { IfOk result (λ commands. commands.items ≡ commands_from count self.now) }
+        ensures keys { map (λ c. c.key) (commands_from count self.now) ≡ drop count self.now.order }
     {
         let keys = self.order.get(count..).unwrap_or(&[]);
         commands_of(self.alloc, &self.submitted, keys)
@@ -243,7 +243,7 @@ fn commands_of<Op: Value>(
     keys: &[Key],
 ) -> Result<Vec<Command<Op>>, AllocError>
     ensures { IfOk result (λ commands. commands.items
-        ≡ filter_map (command_of submitted.now) keys.now) }
+        ≡ filter_map (command_under submitted.now) keys.now) }
 {
     let mut commands = Vec::new(alloc);
     for key in keys {

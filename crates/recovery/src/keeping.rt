@@ -1,6 +1,6 @@
 ghost use Rattle.std.specs.Prelude.{◌≡◌, ◌++◌, false, length, IfOk, OnOk, IsTrue};
 ghost use Rattle.hall.specs.Halls.{has_unplaced};
-ghost use Rattle.recorder.specs.Records.{placed_from};
+ghost use Rattle.recorder.specs.Records.{commands_from};
 ghost use Rattle.recovery.specs.Opened.{EndsAll};
 
 use crate::fault::RecoverFault;
@@ -70,7 +70,7 @@ impl<O: Object> KeepingRecovery<O> {
     pub fn finish(self, commands: &[Command<O::Op>]) -> Result<RecoveredKeeping<O>, RecoverFault>
         ensures members { IfOk result (λ r. r.hall.nodes.network.members ≡ self) }
         ensures placed { IfOk result (λ r.
-            placed_from 0 r.hall.nodes.past ≡ commands.now ++ r.closes.items) }
+            commands_from 0 r.hall.nodes.past ≡ commands.now ++ r.closes.items) }
         ensures closes { IfOk result (λ r. EndsAll commands.now r.closes.items) }
         ensures settled { IfOk result (λ r. has_unplaced r.hall ≡ false) }
         ensures tickets { IfOk result (λ r. length r.tickets.items ≡ length r.hall.book) }
@@ -148,7 +148,7 @@ fn placed_behind<O: Object>(
     commands: &[Command<O::Op>],
 ) -> Result<Vec<Command<O::Op>>, RecoverFault>
     ensures { IfOk result (λ behind.
-        placed_from 0 hall.now.nodes.past ≡ commands.now ++ behind.items) }
+        commands_from 0 hall.now.nodes.past ≡ commands.now ++ behind.items) }
 {
     let placed = hall.placed_from(0)?;
     let count = commands.len();

@@ -1,7 +1,7 @@
 ghost use Rattle.std.specs.Prelude.{◌≡◌, None, is_some, length, map, drop, IsOk, IfOk, OnOk, OnErr};
 ghost use Rattle.std.specs.Option.{option_copied};
 ghost use Rattle.object.specs.Happenings.{SubmittedOnce};
-ghost use Rattle.recorder.specs.Records.{placed_from};
+ghost use Rattle.recorder.specs.Records.{commands_from};
 ghost use Rattle.hall.specs.Books.{IsBooked};
 ghost use Rattle.hall.specs.Explained.{IsExplained};
 ghost use Rattle.hall.specs.Halls.{reply_to, to_note, chronicle_of};
@@ -54,8 +54,8 @@ impl<O: Object> Hall<O> {
     /// The commands that took effect, in the one order, but for so many of the first ones.
     pub fn placed_from(&self, count: u64) -> Result<Vec<Command<O::Op>>, AllocError>
         ensures commands { IfOk result (λ commands.
-            commands.items ≡ placed_from count self.now.nodes.past) }
-        ensures keys { map (λ c. c.key) (placed_from count self.now.nodes.past)
+            commands.items ≡ commands_from count self.now.nodes.past) }
+        ensures keys { map (λ c. c.key) (commands_from count self.now.nodes.past)
             ≡ drop count self.now.nodes.past.order }
     {
         self.nodes.recorder.placed_from(count as usize)

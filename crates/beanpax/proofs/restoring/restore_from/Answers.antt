@@ -1,6 +1,6 @@
 use Rattle.std.proofs.Common.{◌≡◌, ◌++◌, sym, ap, subst, ◌∙◌, append-nil}
 use Rattle.journal.specs.Waiting.{HoldsAll, JournalState}
-use Rattle.recorder.specs.Records.{placed_from}
+use Rattle.recorder.specs.Records.{commands_from}
 use Rattle.recovery.specs.Opened.{EndsAll}
 use Rattle.beanpax.proofs.restoring.restore_from.Goals as goal
 
@@ -11,7 +11,7 @@ returns-clause-restored g c =
       closes = r.closes.items;
       ends = subst (λ cs. EndsAll cs r.closes.items) c.deref.ensures.value c.in_ok-recovered.ensures.ends;
       has_members = c.in_ok-recovered.ensures.members;
-      placed = subst (λ cs. placed_from 0 r.hall.nodes.past ≡ cs ++ r.closes.items) c.deref.ensures.value c.in_ok-recovered.ensures.placed;
+      placed = subst (λ cs. commands_from 0 r.hall.nodes.past ≡ cs ++ r.closes.items) c.deref.ensures.value c.in_ok-recovered.ensures.placed;
       settled = c.in_ok-recovered.ensures.settled;
       waiting = c.in_ok-keep.ensures.kept.0;
       kept = c.in_ok-keep.ensures.kept.1 ∙ ap (λ (j : JournalState _). j.due) c.put.ensures.put ∙ c.placed_count.ensures;
