@@ -42,6 +42,8 @@ pub enum Op {
     Kick(u32),
     /// The job with this id is ready again, if it is buried or delayed.
     KickJob(u64),
+    /// The job with this id, whatever its tube, unless a session has it.
+    ReserveJob(u64),
     /// The job with this id.
     Peek(u64),
     /// The next ready job of the used tube.
@@ -61,6 +63,8 @@ pub enum Op {
         tube: Name,
         seconds: u32,
     },
+    /// What has happened to the job with this id.
+    StatsJob(u64),
 }
 
 impl Op {
@@ -84,13 +88,15 @@ impl Op {
             | Op::Delete(_)
             | Op::Touch(_)
             | Op::Bury { .. }
+            | Op::ReserveJob(_)
             | Op::Peek(_)
             | Op::PeekReady
             | Op::PeekDelayed
             | Op::PeekBuried
             | Op::ListTubes
             | Op::ListTubeUsed
-            | Op::ListTubesWatched => true,
+            | Op::ListTubesWatched
+            | Op::StatsJob(_) => true,
         }
     }
 }
@@ -128,6 +134,7 @@ impl Value for Op {
             Op::Bury { id, pri } => Op::Bury { id: *id, pri: *pri },
             Op::Kick(bound) => Op::Kick(*bound),
             Op::KickJob(id) => Op::KickJob(*id),
+            Op::ReserveJob(id) => Op::ReserveJob(*id),
             Op::Peek(id) => Op::Peek(*id),
             Op::PeekReady => Op::PeekReady,
             Op::PeekDelayed => Op::PeekDelayed,
@@ -139,6 +146,7 @@ impl Value for Op {
                 tube: tube.copy()?,
                 seconds: *seconds,
             },
+            Op::StatsJob(id) => Op::StatsJob(*id),
         })
     }
 }
