@@ -1,4 +1,6 @@
+pub mod Counting
 pub mod Queue
+pub mod Tubes
 pub mod Reports
 pub mod Rows
 pub mod Turns

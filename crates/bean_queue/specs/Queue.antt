@@ -9,9 +9,13 @@ use Rattle.session_store.specs.declared.session.SessionState.{SessionState}
 use Rattle.session_store.specs.Sessions.{session_of}
 use Rattle.session_store.specs.Drafts.{Draft}
 use Rattle.pause_store.specs.Pauses.{PauseState}
+use Rattle.tube_store.specs.declared.tube_counts.TubeCounts.{TubeCounts}
 use Rattle.bean_queue.specs.declared.counters.Counters.{Counters}
+use Rattle.bean_queue.specs.declared.counts.Counts.{Counts}
+use Rattle.bean_queue.specs.Counting.{no_counts}
 
--- the jobs by id and the sessions by number, each a list of entries whose keys rise
+-- the jobs by id and the sessions by number, each a list of entries whose keys rise; the pauses of tubes and what was
+-- done with tubes, by name; and what is counted
 pub record QueueState : Type 0 where
   pub now : ℕ
   pub next_id : ℕ
@@ -19,16 +23,20 @@ pub record QueueState : Type 0 where
   pub jobs : List (ℕ × Job)
   pub sessions : List (ℕ × SessionState)
   pub pauses : List (List ℕ × ℕ)
+  pub tubes : List (List ℕ × TubeCounts)
+  pub counts : Counts
 
 -- the state of these parts
-abbrev pub state_of : Counters → List (ℕ × Job) → List (ℕ × SessionState) → List (List ℕ × ℕ) → QueueState
-state_of counters jobs sessions pauses = record {
+abbrev pub state_of : Counters → List (ℕ × Job) → List (ℕ × SessionState) → List (List ℕ × ℕ) → List (List ℕ × TubeCounts) → QueueState
+state_of counters jobs sessions pauses tubes = record {
   now = counters.now;
   next_id = counters.next_id;
   next_rank = counters.next_rank;
   jobs = jobs;
   sessions = sessions;
   pauses = pauses;
+  tubes = tubes;
+  counts = counters.counts;
 }
 
 -- the pauses are of the second that the counters have, now and before
@@ -38,7 +46,7 @@ pub record AgreesOnTime (counters kept : Counters) (pauses : Draft PauseState) :
 
 -- a new queue
 abbrev pub fresh : QueueState
-fresh = record { now = 0; next_id = 1; next_rank = 1; jobs = []; sessions = []; pauses = [] }
+fresh = record { now = 0; next_id = 1; next_rank = 1; jobs = []; sessions = []; pauses = []; tubes = []; counts = no_counts }
 
 -- its pauses, at its second
 abbrev pub pauses_of : QueueState → PauseState

@@ -16,10 +16,13 @@ use Rattle.job_store.specs.LookUps.{is_among, delayed_in, buried_in, first_ready
 use Rattle.session_store.specs.declared.session.SessionState.{SessionState}
 use Rattle.session_store.specs.Sessions.{with_wait}
 use Rattle.session_store.specs.WatchLists.{joined, left_out, is_alone}
-use Rattle.pause_store.specs.Pauses.{paused_for}
+use Rattle.pause_store.specs.Pauses.{is_paused, paused_for}
+use Rattle.tube_store.specs.declared.tube_counts.TubeCounts.{TubeCounts}
+use Rattle.tube_store.specs.declared.tube_mark.TubeMark.{TubeMark}
+use Rattle.tube_store.specs.TubeCounts.{marked_tube}
 use Rattle.bean_queue.specs.declared.op.Op.{Op}
 use Rattle.bean_queue.specs.declared.reply.Reply.{Reply}
-use Rattle.bean_queue.specs.Reports.{job_report}
+use Rattle.bean_queue.specs.Reports.{job_report, tube_report, queue_report}
 use Rattle.bean_queue.specs.Queue.{QueueState, pauses_of, with_jobs, used_by, watched_by}
 
 -- the state after an operation, and its own reply, if it has one by now
@@ -56,12 +59,29 @@ put_job s x pri delay ttr body =
 unfoldable pub put_row : QueueState → ℕ → ℕ → ℕ → ℕ → List ℕ → Row
 put_row s x pri delay ttr body =
     replies
-    (record s { next_id = s.next_id + 1; jobs = with_value s.next_id (put_job s x pri delay ttr body) s.jobs })
+    (record s {
+      next_id = s.next_id + 1;
+      jobs = with_value s.next_id (put_job s x pri delay ttr body) s.jobs;
+      tubes = marked_tube TubeMark.Put (used_by s x) s.tubes;
+    })
     (Reply.Inserted s.next_id)
 
--- session x uses the tube (protocol.txt of beanstalkd, "use")
+-- list-tubes names the tube, or it is paused
+abbrev pub is_kept : QueueState → List ℕ → Bool
+is_kept s tube = is_among tube (all_tubes s) || is_paused tube s.pauses
+
+-- those of these tubes that aren't kept have no counts any more
+unfoldable pub left_counts : List (List ℕ) → QueueState → List (List ℕ × TubeCounts)
+left_counts tubes s = filter (λ e. not (is_among e.0 tubes) || is_kept s e.0) s.tubes
+
+-- the state, without them
+abbrev pub settled : List (List ℕ) → QueueState → QueueState
+settled tubes s = record s { tubes = left_counts tubes s }
+
+-- session x uses the tube, and leaves the one that it used (protocol.txt of beanstalkd, "use")
 unfoldable pub use_row : QueueState → ℕ → List ℕ → Row
-use_row s x tube = replies (with_session s x (λ c. record c { used = tube })) (Reply.Using tube)
+use_row s x tube =
+    replies (settled (used_by s x ∷ []) (with_session s x (λ c. record c { used = tube }))) (Reply.Using tube)
 
 -- session x watches other tubes, and is told how many
 abbrev pub with_watched : QueueState → ℕ → (List (List ℕ) → List (List ℕ)) → Row
@@ -75,7 +95,12 @@ watch_row s x tube = with_watched s x (joined tube)
 -- the tube is watched no more, unless it is the only one (protocol.txt of beanstalkd, "ignore")
 unfoldable pub ignore_row : QueueState → ℕ → List ℕ → Row
 ignore_row s x tube =
-    if is_alone tube (watched_by s x) then replies s Reply.NotIgnored else with_watched s x (left_out tube)
+    if is_alone tube (watched_by s x)
+    then replies s Reply.NotIgnored
+    else
+    replies
+    (settled (tube ∷ []) (with_session s x (λ c. record c { watched = left_out tube c.watched })))
+    (Reply.Watching (length (left_out tube (watched_by s x))))
 
 -- the second in which a wait of so many seconds is over, where it ends at all
 abbrev pub time_out : ℕ → Option ℕ → Option ℕ
@@ -110,12 +135,20 @@ abbrev pub is_job_that : (State → Bool) → Option Job → Bool
 is_job_that test None = false
 is_job_that test (Some job) = test job.state
 
+-- the job at an id goes
+abbrev pub deleted : QueueState → ℕ → Job → QueueState
+deleted s id job =
+    settled (job.tube ∷ []) (record s { jobs = without id s.jobs; tubes = marked_tube TubeMark.Deleted job.tube s.tubes })
+
+-- the job that there may be goes, if nobody but session x has it
+abbrev pub delete_found : QueueState → ℕ → ℕ → Option Job → Row
+delete_found s x id None = replies s Reply.NotFound
+delete_found s x id (Some job) =
+    if may_delete x job.state then replies (deleted s id job) Reply.Deleted else replies s Reply.NotFound
+
 -- a job that nobody else has goes (protocol.txt of beanstalkd, "delete")
 unfoldable pub delete_row : QueueState → ℕ → ℕ → Row
-delete_row s x id =
-    if is_job_that (may_delete x) (value_at id s.jobs)
-    then replies (with_jobs s (without id s.jobs)) Reply.Deleted
-    else replies s Reply.NotFound
+delete_row s x id = delete_found s x id (value_at id s.jobs)
 
 -- the job at an id is changed, if session x has it
 abbrev pub held_row : QueueState → ℕ → ℕ → (Job → Job) → Reply → Row
@@ -222,28 +255,18 @@ at_id id jobs = elim (value_at id jobs) [ None ↦ None | Some job ↦ Some (id,
 unfoldable pub peek_row : QueueState → Option (ℕ × Job) → Row
 peek_row s found = replies s (shown found)
 
--- the names, each once, by their bytes
-abbrev pub in_order : List (List ℕ) → List (List ℕ)
-in_order names = fold (insert_key (slice_cmp nat_cmp)) [] names
-
--- `default`, and each tube that has a job, or is used or watched (protocol.txt of beanstalkd, "list-tubes")
-unfoldable pub all_tubes : QueueState → List (List ℕ)
-all_tubes s =
-    in_order (codes "default" ∷ map (λ e. e.1.tube) s.jobs ++ flat_map (λ e. e.1.used ∷ e.1.watched) s.sessions)
-
--- the tube is `default`, or has a job, or a session uses or watches it
-pub data IsTube (s : QueueState) (tube : List ℕ) : Type 0 where
-  default : tube ≡ codes "default" → IsTube s tube
-  of_job : (j : ℕ × Job) → In j s.jobs → tube ≡ j.1.tube → IsTube s tube
-  used : (w : ℕ × SessionState) → In w s.sessions → tube ≡ w.1.used → IsTube s tube
-  watched : (w : ℕ × SessionState) → In w s.sessions → In tube w.1.watched → IsTube s tube
-
 -- a tube that list-tubes names is paused for so many seconds, or no longer where they are none (protocol.txt of
 -- beanstalkd, "pause-tube")
 unfoldable pub pause_row : QueueState → List ℕ → ℕ → Row
 pause_row s tube seconds =
     if is_among tube (all_tubes s)
-    then replies (record s { pauses = (paused_for tube seconds (pauses_of s)).pauses }) Reply.Paused
+    then
+    replies
+    (record s {
+      pauses = (paused_for tube seconds (pauses_of s)).pauses;
+      tubes = marked_tube (TubeMark.Paused seconds) tube s.tubes;
+    })
+    Reply.Paused
     else replies s Reply.NotFound
 
 -- the report of the job that there may be
@@ -254,6 +277,17 @@ reported now id (Some job) = Reply.Data (job_report now id job)
 -- what has happened to a job is told (protocol.txt of beanstalkd, "stats-job")
 unfoldable pub stats_job_row : QueueState → ℕ → Row
 stats_job_row s id = replies s (reported s.now id (value_at id s.jobs))
+
+-- what was done with a tube that list-tubes names, and how many jobs and sessions it has, is told (protocol.txt of
+-- beanstalkd, "stats-tube")
+unfoldable pub stats_tube_row : QueueState → List ℕ → Row
+stats_tube_row s tube =
+    replies s (if is_among tube (all_tubes s) then Reply.Data (tube_report s tube) else Reply.NotFound)
+
+-- how many jobs and sessions there are, and how often each operation was carried out, is told (protocol.txt of
+-- beanstalkd, "stats")
+unfoldable pub stats_row : QueueState → Row
+stats_row s = replies s (Reply.Data (queue_report (length (all_tubes s)) s))
 
 -- what an operation under this key does
 unfoldable pub row : Op → Key → QueueState → Row
@@ -278,3 +312,5 @@ row Op.ListTubeUsed key s = replies s (Reply.Using (used_by s key.session))
 row Op.ListTubesWatched key s = replies s (Reply.Tubes (watched_by s key.session))
 row (Op.Pause tube seconds) key s = pause_row s tube seconds
 row (Op.StatsJob id) key s = stats_job_row s id
+row (Op.StatsTube tube) key s = stats_tube_row s tube
+row Op.Stats key s = stats_row s

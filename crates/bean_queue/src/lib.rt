@@ -2,6 +2,7 @@
 #![tactic(auto)]
 
 mod counters;
+mod counts;
 mod deadlines;
 mod job_draft;
 mod job_report;
