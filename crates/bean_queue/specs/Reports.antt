@@ -1,8 +1,18 @@
 -- The texts of reports: a line `---`, and a line for each name and its value (protocol.txt of beanstalkd, "stats-job": a
 -- YAML file with a dictionary).
-use Rattle.std.specs.Prelude.{ℕ, ◌-◌, List, ◌++◌, codes, decimal}
+use Rattle.std.specs.Prelude.{ℕ, ◌-◌, Bool, ◌&&◌, List, ◌++◌, filter, length, codes, decimal, bytes_eq, if◌then◌else◌}
 use Rattle.job_store.specs.declared.job.Job.{Job}
 use Rattle.job_store.specs.declared.state.State.{State}
+use Rattle.job_store.specs.declared.tally.Tally.{Tally}
+use Rattle.job_store.specs.LookUps.{is_among}
+use Rattle.job_store.specs.Tallies.{tally_in, tally_all}
+use Rattle.session_store.specs.declared.session.SessionState.{SessionState}
+use Rattle.session_store.specs.Sessions.{is_waiting}
+use Rattle.pause_store.specs.Pauses.{is_paused, pause_end}
+use Rattle.tube_store.specs.TubeCounts.{counts_at}
+use Rattle.bean_queue.specs.declared.counts.Counts.{Counts}
+use Rattle.bean_queue.specs.Queue.{QueueState}
+use Rattle.bean_queue.specs.Tubes.{all_tubes}
 
 -- a name and its value
 unfoldable pub report_line : List ℕ → List ℕ → List ℕ
@@ -44,3 +54,85 @@ job_report now id job =
     report_number (codes "releases") job.history.releases ++
     report_number (codes "buries") job.history.buries ++
     report_number (codes "kicks") job.history.kicks
+
+-- how many jobs of each kind there are
+unfoldable pub tally_report : Tally → List ℕ
+tally_report t =
+    report_number (codes "current-jobs-urgent") t.urgent ++
+    report_number (codes "current-jobs-ready") t.ready ++
+    report_number (codes "current-jobs-reserved") t.reserved ++
+    report_number (codes "current-jobs-delayed") t.delayed ++
+    report_number (codes "current-jobs-buried") t.buried
+
+-- how many sessions pass
+abbrev pub sessions_that : (SessionState → Bool) → List (ℕ × SessionState) → ℕ
+sessions_that test sessions = length (filter (λ e. test e.1) sessions)
+
+-- the session waits for a job of this tube, among others
+abbrev pub waits_for : List ℕ → SessionState → Bool
+waits_for tube session = is_waiting session && is_among tube session.watched
+
+-- what was done with a tube, and how many jobs and sessions it has (protocol.txt of beanstalkd, "stats-tube")
+unfoldable pub tube_report : QueueState → List ℕ → List ℕ
+tube_report s tube =
+    let counts = counts_at tube s.tubes in
+    codes "---\n" ++
+    report_line (codes "name") tube ++
+    tally_report (tally_in tube s.jobs) ++
+    report_number (codes "total-jobs") counts.puts ++
+    report_number (codes "current-using") (sessions_that (λ c. bytes_eq tube c.used) s.sessions) ++
+    report_number (codes "current-watching") (sessions_that (λ c. is_among tube c.watched) s.sessions) ++
+    report_number (codes "current-waiting") (sessions_that (waits_for tube) s.sessions) ++
+    report_number (codes "cmd-delete") counts.deletes ++
+    report_number (codes "cmd-pause-tube") counts.pauses ++
+    report_number (codes "pause") (if is_paused tube s.pauses then counts.pause else 0) ++
+    report_number (codes "pause-time-left") (pause_end tube s.pauses - s.now)
+
+-- how often operations on jobs were carried out
+unfoldable pub job_counts_report : Counts → List ℕ
+job_counts_report c =
+    report_number (codes "cmd-put") c.put ++
+    report_number (codes "cmd-peek") c.peek ++
+    report_number (codes "cmd-peek-ready") c.peek_ready ++
+    report_number (codes "cmd-peek-delayed") c.peek_delayed ++
+    report_number (codes "cmd-peek-buried") c.peek_buried ++
+    report_number (codes "cmd-reserve") c.reserve ++
+    report_number (codes "cmd-reserve-with-timeout") c.reserve_with_timeout ++
+    report_number (codes "cmd-delete") c.delete ++
+    report_number (codes "cmd-release") c.release
+
+-- how often the others were
+unfoldable pub other_counts_report : Counts → List ℕ
+other_counts_report c =
+    report_number (codes "cmd-use") c.use_tube ++
+    report_number (codes "cmd-watch") c.watch ++
+    report_number (codes "cmd-ignore") c.ignore ++
+    report_number (codes "cmd-bury") c.bury ++
+    report_number (codes "cmd-kick") c.kick ++
+    report_number (codes "cmd-touch") c.touch ++
+    report_number (codes "cmd-stats") c.stats ++
+    report_number (codes "cmd-stats-job") c.stats_job ++
+    report_number (codes "cmd-stats-tube") c.stats_tube ++
+    report_number (codes "cmd-list-tubes") c.list_tubes ++
+    report_number (codes "cmd-list-tube-used") c.list_tube_used ++
+    report_number (codes "cmd-list-tubes-watched") c.list_tubes_watched ++
+    report_number (codes "cmd-pause-tube") c.pause_tube
+
+-- how many jobs there were, and how many tubes and sessions there are
+unfoldable pub totals_report : QueueState → List ℕ
+totals_report s =
+    report_number (codes "job-timeouts") s.counts.timeouts ++
+    report_number (codes "total-jobs") (s.next_id - 1) ++
+    report_number (codes "max-job-size") 65535 ++
+    report_number (codes "current-tubes") (length (all_tubes s)) ++
+    report_number (codes "current-connections") (length s.sessions) ++
+    report_number (codes "current-producers") (sessions_that (λ c. c.role.has_put) s.sessions) ++
+    report_number (codes "current-workers") (sessions_that (λ c. c.role.has_reserved) s.sessions) ++
+    report_number (codes "current-waiting") (sessions_that is_waiting s.sessions) ++
+    report_line (codes "version") (codes "\"beanpax 0.1\"") ++
+    report_number (codes "uptime") s.now
+
+-- how many jobs and sessions there are, and how often each operation was carried out (protocol.txt of beanstalkd, "stats")
+unfoldable pub queue_report : QueueState → List ℕ
+queue_report s =
+    codes "---\n" ++ tally_report (tally_all s.jobs) ++ job_counts_report s.counts ++ other_counts_report s.counts ++ totals_report s

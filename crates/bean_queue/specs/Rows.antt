@@ -2,9 +2,6 @@
 use Rattle.std.specs.Prelude.{◌≡◌, ℕ, zero, suc, ◌+◌, max, Bool, true, false, not, ◌||◌, List, [], ◌∷◌, ◌++◌, map, filter}
 use Rattle.std.specs.Prelude.{flat_map, fold, Option, None, Some, ◌==◌, length, is_some, codes, if◌then◌else◌}
 use Rattle.std.specs.List.{list_any}
-use Rattle.std.specs.Ordering.{nat_cmp}
-use Rattle.std.specs.Cmp.Lexicographic.{slice_cmp}
-use Rattle.std.specs.BTreeSet.{insert_key}
 use Rattle.object.specs.Lists.{In}
 use Rattle.object.specs.declared.command.Key.{Key}
 use Rattle.job_store.specs.declared.job.Job.{Job}
@@ -23,6 +20,7 @@ use Rattle.tube_store.specs.TubeCounts.{marked_tube}
 use Rattle.bean_queue.specs.declared.op.Op.{Op}
 use Rattle.bean_queue.specs.declared.reply.Reply.{Reply}
 use Rattle.bean_queue.specs.Reports.{job_report, tube_report, queue_report}
+use Rattle.bean_queue.specs.Tubes.{all_tubes}
 use Rattle.bean_queue.specs.Queue.{QueueState, pauses_of, with_jobs, used_by, watched_by}
 
 -- the state after an operation, and its own reply, if it has one by now
@@ -287,7 +285,7 @@ stats_tube_row s tube =
 -- how many jobs and sessions there are, and how often each operation was carried out, is told (protocol.txt of
 -- beanstalkd, "stats")
 unfoldable pub stats_row : QueueState → Row
-stats_row s = replies s (Reply.Data (queue_report (length (all_tubes s)) s))
+stats_row s = replies s (Reply.Data (queue_report s))
 
 -- what an operation under this key does
 unfoldable pub row : Op → Key → QueueState → Row

@@ -23,7 +23,8 @@ use Rattle.bean_queue.specs.Turns.{QueueOutcome, QueueTurn, stop, turns, all_tur
 use Rattle.bean_queue.specs.Turns.{serve_turn, deadline_turn, timeout_turn, serve}
 use Rattle.bean_queue.specs.Rows.{is_idle, Row, row, put_row, use_row, watch_row, ignore_row, reserve_row, delete_row}
 use Rattle.bean_queue.specs.Rows.{may_delete, is_job_that, release_row, touch_row, bury_row, kick_row, kick_job_row}
-use Rattle.bean_queue.specs.Rows.{is_free, reserve_found, reserve_job_row, peek_row, all_tubes, pause_row, stats_job_row}
+use Rattle.bean_queue.specs.Rows.{is_free, reserve_found, reserve_job_row, peek_row, pause_row, stats_job_row}
+use Rattle.bean_queue.specs.Tubes.{all_tubes}
 use Rattle.bean_queue.specs.Effects.{own, called, ends_wait, is_zero, turned_away, then_do, has_no_number, carried_out}
 use Rattle.bean_queue.specs.Effects.{do_effect, released, close_effect, at_second, tick_effect, act_effect, effect}
 use Rattle.bean_queue.specs.Waits.{Waits, AreApart, IsLawful}

@@ -17,7 +17,8 @@ ghost use Rattle.bean_queue.specs.Forgetful.{without_histories, asks_for_report}
 ghost use Rattle.bean_queue.specs.Owed.{OwesNothing};
 ghost use Rattle.bean_queue.specs.Queue.{QueueState, paused_tubes, HasRisingIds, fresh, used_by, with_jobs};
 ghost use Rattle.bean_queue.specs.Kicking.{after_kick};
-ghost use Rattle.bean_queue.specs.Rows.{kick_row, kickable, all_tubes, IsTube};
+ghost use Rattle.bean_queue.specs.Rows.{kick_row, kickable};
+ghost use Rattle.bean_queue.specs.Tubes.{all_tubes, IsTube};
 ghost use Rattle.bean_queue.specs.Sound.{IsSoundQueue};
 ghost use Rattle.bean_queue.specs.Turns.{QueueTurn, serve_turn, serve};
 ghost use Rattle.object.specs.Lists.{In};

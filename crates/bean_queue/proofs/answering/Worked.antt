@@ -9,7 +9,8 @@ use Rattle.job_store.specs.Entries.{value_at}
 use Rattle.bean_queue.specs.declared.op.Op.{Op}
 use Rattle.bean_queue.specs.declared.reply.Reply.{Reply}
 use Rattle.bean_queue.specs.Queue.{QueueState, fresh}
-use Rattle.bean_queue.specs.Rows.{row, put_row, reserve_row, delete_row, all_tubes, kick_row, kicked, kick_job_row, use_row, watch_row, bury_row, peek_row}
+use Rattle.bean_queue.specs.Rows.{row, put_row, reserve_row, delete_row, kick_row, kicked, kick_job_row, use_row, watch_row, bury_row, peek_row}
+use Rattle.bean_queue.specs.Tubes.{all_tubes}
 use Rattle.bean_queue.specs.Rows.{touch_row, release_row}
 use Rattle.bean_queue.specs.Turns.{turns, all_turns, given, serve_turn, told_turn, deadline_turn, timeout_turn, serve}
 use Rattle.bean_queue.specs.Effects.{turned_away, carried_out, do_effect, close_effect, tick_effect, act_effect, effect}

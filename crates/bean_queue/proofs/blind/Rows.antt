@@ -18,7 +18,8 @@ use Rattle.bean_queue.specs.Forgetful.{without_history, without_histories, is_re
 use Rattle.bean_queue.specs.Rows.{Row, replies, with_session, row, put_job, put_row, use_row, watch_row, ignore_row, waiting}
 use Rattle.bean_queue.specs.Rows.{reserve_row, is_job_that, may_delete, delete_row, held_row, ready_after, release_row, touch_row}
 use Rattle.bean_queue.specs.Rows.{bury_row, Kicked, kicked_option, kicked, kick_by, kick_row, is_idle, kick_job_row, shown}
-use Rattle.bean_queue.specs.Rows.{is_free, reserve_found, reserve_job_row, at_id, peek_row, in_order, all_tubes, pause_row}
+use Rattle.bean_queue.specs.Rows.{is_free, reserve_found, reserve_job_row, at_id, peek_row, pause_row}
+use Rattle.bean_queue.specs.Tubes.{in_order, all_tubes}
 use Rattle.bean_queue.proofs.blind.Jobs.{blank, blanks, IsBlind, blanks-twice, altered-blind, without-blind, insert-blind, least-blind, tubes-blind}
 
 -- the replies are the same, and the states but for histories

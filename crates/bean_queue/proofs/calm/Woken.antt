@@ -23,7 +23,8 @@ use Rattle.bean_queue.specs.declared.reply.Reply.{Reply}
 use Rattle.bean_queue.specs.Best.{IsWanted}
 use Rattle.bean_queue.specs.Queue.{QueueState, paused_tubes, pauses_of, used_by}
 use Rattle.bean_queue.specs.Rows.{Row, kicked, kicked_option, put_job, ready_after, is_job_that, is_idle, row, put_row}
-use Rattle.bean_queue.specs.Rows.{release_row, kick_row, kick_job_row, pause_row, all_tubes}
+use Rattle.bean_queue.specs.Rows.{release_row, kick_row, kick_job_row, pause_row}
+use Rattle.bean_queue.specs.Tubes.{all_tubes}
 use Rattle.bean_queue.specs.Turns.{QueueTurn, IsTurn, given, serve_turn}
 use Rattle.bean_queue.specs.TurnLaws.{IsServed, serve_turn-is, least-none, least-in, IfSome-map}
 use Rattle.bean_queue.specs.Effects.{released, at_second, is_quiet}

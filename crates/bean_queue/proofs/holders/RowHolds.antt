@@ -19,7 +19,8 @@ use Rattle.bean_queue.specs.declared.reply.Reply.{Reply}
 use Rattle.bean_queue.specs.Queue.{QueueState, with_jobs, used_by, watched_by, HasRisingIds}
 use Rattle.bean_queue.specs.Rows.{is_idle, Row, replies, row, put_row, use_row, watch_row, ignore_row, reserve_row}
 use Rattle.bean_queue.specs.Rows.{delete_row, may_delete, is_job_that, release_row, touch_row, bury_row, kicked}
-use Rattle.bean_queue.specs.Rows.{kicked_option, kick_row, kick_job_row, peek_row, shown, at_id, all_tubes, pause_row}
+use Rattle.bean_queue.specs.Rows.{kicked_option, kick_row, kick_job_row, peek_row, shown, at_id, pause_row}
+use Rattle.bean_queue.specs.Tubes.{all_tubes}
 use Rattle.bean_queue.specs.Rows.{is_free, reserve_found, reserve_job_row, reported, stats_job_row}
 use Rattle.bean_queue.specs.Effects.{own}
 use Rattle.bean_queue.specs.Holds.{is_touch, handing_out}

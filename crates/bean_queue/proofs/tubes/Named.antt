@@ -11,7 +11,7 @@ use Rattle.job_store.specs.LookUps.{is_among, has_jobs}
 use Rattle.job_store.proofs.least.Least.{among-member}
 use Rattle.session_store.proofs.Found.{any-in, in-any}
 use Rattle.bean_queue.specs.Queue.{QueueState}
-use Rattle.bean_queue.specs.Rows.{all_tubes, IsTube}
+use Rattle.bean_queue.specs.Tubes.{all_tubes, IsTube}
 use Rattle.bean_queue.proofs.tubes.TubeLists.{same-names, tubes-all, tubes-sorted}
 
 same-bytes : (x y : List ℕ) → bytes_eq x y ≡ true → x ≡ y

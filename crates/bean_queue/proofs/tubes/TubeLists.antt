@@ -13,7 +13,7 @@ use Rattle.job_store.proofs.naming.NameSets.{from-insert, to-insert}
 use Rattle.job_store.proofs.shelving.Shelving.{in-front}
 use Rattle.session_store.specs.declared.session.SessionState.{SessionState}
 use Rattle.bean_queue.specs.Queue.{QueueState}
-use Rattle.bean_queue.specs.Rows.{all_tubes, IsTube}
+use Rattle.bean_queue.specs.Tubes.{all_tubes, IsTube}
 use Rattle.bean_queue.specs.WaitLaws.{in-append}
 
 all-insert : (P : List ℕ → Type 0) (x : List ℕ) (xs : List (List ℕ)) → P x → AllByRecursion P xs → AllByRecursion P (insert_key name_cmp xs x)

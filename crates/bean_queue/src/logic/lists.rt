@@ -1,7 +1,7 @@
 ghost use Rattle.std.specs.Prelude.{◌≡◌, IsSome, IfOk};
 ghost use Rattle.job_store.specs.Entries.{value_at};
 ghost use Rattle.bean_queue.specs.Queue.{used_by, watched_by};
-ghost use Rattle.bean_queue.specs.Rows.{all_tubes};
+ghost use Rattle.bean_queue.specs.Tubes.{all_tubes};
 
 use crate::logic::Logic;
 use job_store::{JobMap, Name};

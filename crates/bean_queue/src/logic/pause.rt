@@ -1,6 +1,7 @@
 ghost use Rattle.std.specs.Prelude.{◌≡◌};
 ghost use Rattle.job_store.specs.LookUps.{is_among};
-ghost use Rattle.bean_queue.specs.Rows.{all_tubes, pause_row};
+ghost use Rattle.bean_queue.specs.Rows.{pause_row};
+ghost use Rattle.bean_queue.specs.Tubes.{all_tubes};
 ghost use Rattle.bean_queue.specs.Calls.{DraftsRow};
 
 use crate::logic::Logic;

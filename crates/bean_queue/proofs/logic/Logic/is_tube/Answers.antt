@@ -2,7 +2,7 @@ use Rattle.std.proofs.Common.{◌∙◌, bytes_eq, sym, ap}
 use Rattle.job_store.specs.LookUps.{is_among, has_jobs}
 use Rattle.session_store.specs.Drafts.{Draft}
 use Rattle.bean_queue.specs.Queue.{QueueState, state_of}
-use Rattle.bean_queue.specs.Rows.{all_tubes}
+use Rattle.bean_queue.specs.Tubes.{all_tubes}
 use Rattle.bean_queue.proofs.tubes.Named.{by-default, by-job, by-rest}
 use Rattle.bean_queue.proofs.logic.Logic.is_tube.Goals as goal
 

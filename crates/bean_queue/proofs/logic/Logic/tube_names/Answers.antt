@@ -1,7 +1,7 @@
 use Rattle.std.proofs.Common.{◌≡◌, ◌∙◌, ◌∷◌, [], codes, rules, ap}
 use Rattle.session_store.specs.Drafts.{Draft}
 use Rattle.bean_queue.specs.Queue.{QueueState, state_of}
-use Rattle.bean_queue.specs.Rows.{all_tubes}
+use Rattle.bean_queue.specs.Tubes.{all_tubes}
 use Rattle.bean_queue.proofs.tubes.Named.{all-named}
 use Rattle.bean_queue.proofs.logic.Logic.tube_names.Goals as goal
 

@@ -1,5 +1,5 @@
 use Rattle.std.proofs.Common.{◌≡◌, ◌++◌}
-use Rattle.bean_queue.specs.Rows.{all_tubes}
+use Rattle.bean_queue.specs.Tubes.{all_tubes}
 use Rattle.bean_queue.proofs.logic.Logic.tubes.Given as goal
 
 abbrev pub invariant-loop-name : goal.invariant-loop-name
