@@ -1,5 +1,5 @@
 -- What each command does.
-use Rattle.std.specs.Prelude.{ℕ, Bool, true, false, ◌+◌, ◌^◌, List, [], ◌∷◌, ◌++◌, Option, None, Some, ◌==◌, nat_lt, if◌then◌else◌}
+use Rattle.std.specs.Prelude.{ℕ, Bool, true, false, ◌&&◌, ◌+◌, ◌^◌, List, [], ◌∷◌, ◌++◌, filter, length, Option, None, Some, ◌==◌, nat_lt, if◌then◌else◌}
 use Rattle.object.specs.Objects.{Rules}
 use Rattle.object.specs.declared.command.Act.{Act}
 use Rattle.object.specs.declared.command.Answer.{Answer}
@@ -8,15 +8,18 @@ use Rattle.object.specs.declared.command.Key.{Key}
 use Rattle.job_store.specs.declared.history.History.{History}
 use Rattle.job_store.specs.declared.job.Job.{Job}
 use Rattle.job_store.specs.declared.state.State.{State}
-use Rattle.job_store.specs.Entries.{without, each_value}
-use Rattle.job_store.specs.States.{is_due, is_held, with_state, over_history, over_job}
-use Rattle.session_store.specs.Sessions.{session_of, known, with_wait_ended, is_waiting}
-use Rattle.pause_store.specs.Pauses.{left_at}
+use Rattle.job_store.specs.Entries.{without, altered, each_value}
+use Rattle.job_store.specs.States.{is_due, is_held, is_reserved, with_state, over_history, over_job}
+use Rattle.session_store.specs.declared.session.SessionState.{SessionState}
+use Rattle.session_store.specs.declared.role.Role.{Role}
+use Rattle.session_store.specs.Sessions.{session_of, known, with_wait_ended, with_role, is_waiting}
+use Rattle.pause_store.specs.Pauses.{left_at, tubes_over}
 use Rattle.bean_queue.specs.declared.op.Op.{Op}
 use Rattle.bean_queue.specs.declared.ready_again.Returning.{Returning}
 use Rattle.bean_queue.specs.declared.reply.Reply.{Reply}
 use Rattle.bean_queue.specs.Queue.{QueueState, fresh, with_sessions, holds_by}
-use Rattle.bean_queue.specs.Rows.{Row, row}
+use Rattle.bean_queue.specs.Counting.{counted, and_timeouts}
+use Rattle.bean_queue.specs.Rows.{Row, row, settled}
 use Rattle.bean_queue.specs.Turns.{QueueOutcome, stop, serve, all_turns, deadline_turn, timeout_turn}
 
 -- one outcome, and then what comes of its state
@@ -32,9 +35,20 @@ own key (Some reply) = record { to = key; reply = reply } ∷ []
 abbrev pub own_outcome : Key → Row → QueueOutcome
 own_outcome key r = record { state = r.state; answers = own key r.reply }
 
--- session x is there, and a wait of its own has ended without an answer
-abbrev pub called : ℕ → QueueState → QueueState
-called x s = with_sessions s (known x s.sessions)
+-- what its session has done, once it asks for the operation: it has put a job, or asked for one
+abbrev pub role_after : Op → Role → Role
+role_after (Op.Put pri delay ttr body) role = record role { has_put = true }
+role_after (Op.Reserve seconds) role = record role { has_reserved = true }
+role_after (Op.ReserveJob id) role = record role { has_reserved = true }
+role_after _ role = role
+
+-- the session, once it asks for the operation
+abbrev pub asking : Op → SessionState → SessionState
+asking op session = with_role (role_after op session.role) session
+
+-- session x is there, and a wait of its own has ended without an answer; and what it asks for is counted
+abbrev pub called : Op → ℕ → QueueState → QueueState
+called op x s = record s { sessions = altered x (asking op) (known x s.sessions); counts = counted op s.counts }
 
 -- the command is answered, and its session waits no longer
 abbrev pub ends_wait : QueueState → Key → Reply → QueueOutcome
@@ -68,7 +82,7 @@ has_no_number _ s = false
 -- sessions
 unfoldable pub carried_out : Op → Key → QueueState → QueueOutcome
 carried_out op key s =
-    then_do (then_do (own_outcome key (row op key (called key.session s))) serve) (turned_away op key)
+    then_do (then_do (own_outcome key (row op key (called op key.session s))) serve) (turned_away op key)
 
 -- an operation is carried out; where no number is left for it, an older wait of its session ends, and nothing else
 -- happens
@@ -84,9 +98,13 @@ change_if which f job = if which job.state then f job else job
 abbrev pub released : ℕ → QueueState → QueueState
 released x s = record s { jobs = each_value (change_if (is_held x) (with_state State.Ready)) s.jobs; sessions = with_wait_ended x s.sessions }
 
--- session x is gone
+-- the tubes that session x uses and watches
+abbrev pub tubes_of : ℕ → List (ℕ × SessionState) → List (List ℕ)
+tubes_of x sessions = let c = session_of x sessions in c.used ∷ c.watched
+
+-- session x is gone, and leaves its tubes
 abbrev pub forgotten : ℕ → QueueState → QueueState
-forgotten x s = with_sessions s (without x s.sessions)
+forgotten x s = settled (tubes_of x s.sessions) (with_sessions s (without x s.sessions))
 
 -- the end of session x: others may get its jobs
 unfoldable pub close_effect : ℕ → QueueState → QueueOutcome
@@ -107,6 +125,10 @@ abbrev pub returned_job : Returning → Job → Job
 returned_job which job =
     record job { state = State.Ready; history = returned_history which job.state job.history }
 
+-- how many jobs' time to run is over by this second
+abbrev pub times_over : ℕ → List (ℕ × Job) → ℕ
+times_over second jobs = length (filter (λ e. is_due second e.1.state && is_reserved e.1.state) jobs)
+
 -- it is this second: jobs whose delay or time to run is over by it are ready (protocol.txt of beanstalkd, "put": delay
 -- and ttr), and pauses that are over by it are gone
 abbrev pub at_second : ℕ → QueueState → QueueState
@@ -114,13 +136,21 @@ at_second second s = record s {
   now = second;
   jobs = each_value (change_if (is_due second) over_job) s.jobs;
   pauses = left_at second s.pauses;
+  counts = and_timeouts (times_over second s.jobs) s.counts;
 }
+
+-- after an outcome these tubes are left
+abbrev pub then_settled : List (List ℕ) → QueueOutcome → QueueOutcome
+then_settled tubes o = record { state = settled tubes o.state; answers = o.answers }
 
 -- a second above now comes, and a lesser one does nothing
 unfoldable pub tick_effect : ℕ → QueueState → QueueOutcome
 tick_effect second s =
     if nat_lt s.now second
-    then then_do (then_do (serve (at_second second s)) (all_turns deadline_turn)) (all_turns timeout_turn)
+    then
+    then_settled
+    (tubes_over second s.pauses)
+    (then_do (then_do (serve (at_second second s)) (all_turns deadline_turn)) (all_turns timeout_turn))
     else stop s
 
 -- what an act under this key does
@@ -165,3 +195,5 @@ is_quiet Op.ListTubeUsed = true
 is_quiet Op.ListTubesWatched = true
 is_quiet (Op.Pause tube seconds) = false
 is_quiet (Op.StatsJob id) = true
+is_quiet (Op.StatsTube tube) = true
+is_quiet Op.Stats = true

@@ -14,6 +14,7 @@ mod queue;
 mod ready_again;
 mod reply;
 mod report;
+mod role;
 mod scan_jobs;
 mod waiting;
 

@@ -1,7 +1,7 @@
-ghost use Rattle.std.specs.Prelude.{◌≡◌, ◌^◌, IsSome};
+ghost use Rattle.std.specs.Prelude.{◌≡◌, ◌^◌, IsSome, OnOk};
 ghost use Rattle.job_store.specs.Entries.{Rising, value_at};
-ghost use Rattle.session_store.specs.Sessions.{session_of};
-ghost use Rattle.bean_queue.specs.Queue.{fresh};
+ghost use Rattle.session_store.specs.Sessions.{session_of, known};
+ghost use Rattle.bean_queue.specs.Queue.{fresh, with_sessions};
 ghost use Rattle.bean_queue.specs.Effects.{called};
 ghost use Rattle.bean_queue.specs.Calls.{DraftsState, KeepsDraft, TakesDraftBack};
 
@@ -14,17 +14,23 @@ mod perform;
 mod put;
 mod reserve;
 mod serve;
+mod settle;
+mod stats;
 mod time;
 mod tubes;
 mod woken;
 
 use crate::counters::Counters;
+use crate::counts::Counts;
 use crate::job_draft::JobDraft;
+use crate::op::Op;
+use crate::role::role_after;
 use job_store::JobMap;
 use pause_store::PauseDraft;
 use session_store::{SessionDraft, SessionState};
 use std::alloc::{AllocError, Global};
 use std::marker::Model;
+use tube_store::TubeDraft;
 
 /// The logic of the queue, over any map of jobs. What was changed since it was kept last can be taken back, which
 /// takes no memory.
@@ -33,6 +39,7 @@ pub(crate) struct Logic<M: JobMap> {
     counters: Counters,
     kept: Counters,
     pauses: PauseDraft,
+    tubes: TubeDraft,
     jobs: JobDraft<M>,
     sessions: SessionDraft,
 }
@@ -44,8 +51,8 @@ impl<M: JobMap> Model for Logic<M> {
     ghost Value = { Draft QueueState };
 
     ghost view = { λ l. record {
-      now = state_of l.counters l.jobs.now l.sessions.now l.pauses.now.pauses;
-      before = state_of l.kept l.jobs.before l.sessions.before l.pauses.before.pauses;
+      now = state_of l.counters l.jobs.now l.sessions.now l.pauses.now.pauses l.tubes.now;
+      before = state_of l.kept l.jobs.before l.sessions.before l.pauses.before.pauses l.tubes.before;
     } };
 
     ghost invariant = { λ l. AgreesOnTime l.counters l.kept l.pauses };
@@ -61,11 +68,13 @@ impl<M: JobMap> Logic<M> {
             now: 0,
             next_id: 1,
             next_rank: 1,
+            counts: Counts::new(),
         };
         Logic {
             counters,
             kept: counters,
             pauses: PauseDraft::new(alloc),
+            tubes: TubeDraft::new(alloc),
             jobs: JobDraft::new(alloc),
             sessions: SessionDraft::new(alloc),
         }
@@ -77,6 +86,7 @@ impl<M: JobMap> Logic<M> {
     {
         self.kept = self.counters;
         self.pauses.keep();
+        self.tubes.keep();
         self.jobs.keep();
         self.sessions.keep();
     }
@@ -87,19 +97,35 @@ impl<M: JobMap> Logic<M> {
     {
         self.counters = self.kept;
         self.pauses.take_back();
+        self.tubes.take_back();
         self.jobs.take_back();
         self.sessions.take_back();
     }
 
     /// Makes a session, or ends its wait.
-    pub fn call(&mut self, session: u32) -> Result<(), AllocError>
-        ensures { DraftsState self.old self.new (called session self.old.now) result }
+    fn make_known(&mut self, session: u32) -> Result<(), AllocError>
+        ensures { DraftsState self.old self.new
+            (with_sessions self.old.now (known session self.old.now.sessions)) result }
     {
         if self.sessions.map().contains_key(&session) {
             self.sessions.set_wait(session, None)
         } else {
             self.sessions.make(session)
         }
+    }
+
+    /// Makes a session, or ends its wait, and counts what it asks for.
+    pub fn call(&mut self, session: u32, op: &Op) -> Result<(), AllocError>
+        ensures now { OnOk result (self.new.now ≡ called op.now session self.old.now) }
+        ensures before { self.new.before ≡ self.old.before }
+    {
+        self.make_known(session)?;
+        if let Some(found) = self.sessions.map().get(&session) {
+            let role = role_after(op, found.role);
+            self.sessions.set_role(session, role)?;
+        }
+        self.counters.counts.note(op);
+        Ok(())
     }
 
     /// Gives the proof that the numbers of the sessions rise.

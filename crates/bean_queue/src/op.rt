@@ -65,6 +65,10 @@ pub enum Op {
     },
     /// What has happened to the job with this id.
     StatsJob(u64),
+    /// What was done with this tube, and how many jobs and sessions it has.
+    StatsTube(Name),
+    /// How many jobs and sessions there are, and how often each operation was carried out.
+    Stats,
 }
 
 impl Op {
@@ -96,7 +100,9 @@ impl Op {
             | Op::ListTubes
             | Op::ListTubeUsed
             | Op::ListTubesWatched
-            | Op::StatsJob(_) => true,
+            | Op::StatsJob(_)
+            | Op::StatsTube(_)
+            | Op::Stats => true,
         }
     }
 }
@@ -147,6 +153,8 @@ impl Value for Op {
                 seconds: *seconds,
             },
             Op::StatsJob(id) => Op::StatsJob(*id),
+            Op::StatsTube(tube) => Op::StatsTube(tube.copy()?),
+            Op::Stats => Op::Stats,
         })
     }
 }

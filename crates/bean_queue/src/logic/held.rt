@@ -1,8 +1,8 @@
-ghost use Rattle.std.specs.Prelude.{◌≡◌, ◌^◌, ◌==◌, false, Some};
+ghost use Rattle.std.specs.Prelude.{◌≡◌, ◌^◌, ◌==◌, false};
 ghost use Rattle.job_store.specs.Entries.{value_at};
 ghost use Rattle.job_store.specs.States.{is_held};
 ghost use Rattle.bean_queue.specs.Rows.{is_job_that, may_delete, delete_row, touch_row, release_row, bury_row, reserve_job_row};
-ghost use Rattle.bean_queue.specs.Calls.{DraftsRow};
+ghost use Rattle.bean_queue.specs.Calls.{DoesRow, DraftsRow};
 
 use crate::logic::Logic;
 use crate::logic::put::ready_after;
@@ -10,6 +10,7 @@ use crate::reply::Reply;
 use job_store::{JobMap, Mark, State};
 use object::Value;
 use std::alloc::AllocError;
+use tube_store::TubeMark;
 
 /// Whether the session may delete a job in this state: nobody else has it.
 fn may_delete(session: u32, state: State) -> bool
@@ -37,16 +38,18 @@ impl<M: JobMap> Logic<M> {
 
     /// Deletes a job.
     #[tactic(auto, unfolding(crate::specs::Rows::delete_row))]
-    pub fn delete(&mut self, session: u32, id: u64) -> Reply
-        ensures state { self.new.now ≡ (delete_row self.old.now session id).state }
-        ensures reply { (delete_row self.old.now session id).reply ≡ Some result }
+    pub fn delete(&mut self, session: u32, id: u64) -> Result<Reply, AllocError>
+        ensures { DoesRow self.old self.new (delete_row self.old.now session id) result }
     {
         match self.jobs.map().get(id) {
             Some(job) if may_delete(session, job.state) => {
+                let tube = job.tube.copy()?;
+                self.tubes.mark(&tube, TubeMark::Deleted)?;
                 self.jobs.remove_for_good(id);
-                Reply::Deleted
+                self.settle(&tube);
+                Ok(Reply::Deleted)
             }
-            _ => Reply::NotFound,
+            _ => Ok(Reply::NotFound),
         }
     }
 

@@ -8,10 +8,11 @@ use crate::logic::Logic;
 use crate::reply::Reply;
 use job_store::{JobMap, Name};
 use std::alloc::AllocError;
+use tube_store::TubeMark;
 
 impl<M: JobMap> Logic<M> {
     /// Whether the tube is one that list-tubes names. It takes no memory.
-    fn is_tube(&self, tube: &Name) -> bool
+    pub fn is_tube(&self, tube: &Name) -> bool
         ensures { result ≡ is_among tube.now (all_tubes self.now.now) }
     {
         if *tube == Name::default_tube() {
@@ -31,6 +32,7 @@ impl<M: JobMap> Logic<M> {
         if !self.is_tube(tube) {
             return Ok(Reply::NotFound);
         }
+        self.tubes.mark(tube, TubeMark::Paused { seconds })?;
         self.pauses.pause_for(tube, seconds)?;
         Ok(Reply::Paused)
     }

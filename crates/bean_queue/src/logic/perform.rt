@@ -39,7 +39,7 @@ impl<M: JobMap> Logic<M> {
             Op::Use(tube) => self.use_tube(session, tube),
             Op::Watch(tube) => self.watch(session, tube),
             Op::Ignore(tube) => Ok(self.ignore(session, tube)),
-            Op::Delete(id) => Ok(self.delete(session, *id)),
+            Op::Delete(id) => self.delete(session, *id),
             Op::Touch(id) => self.touch(session, *id),
             Op::Bury { id, pri } => self.bury(session, *id, *pri),
             Op::ReserveJob(id) => self.reserve_job(session, *id),
@@ -51,6 +51,8 @@ impl<M: JobMap> Logic<M> {
             Op::ListTubeUsed => Ok(Reply::Using(self.used(session)?)),
             Op::ListTubesWatched => Ok(Reply::Tubes(self.watched(alloc, session)?)),
             Op::StatsJob(id) => self.stats_job(alloc, *id),
+            Op::StatsTube(tube) => self.stats_tube(alloc, tube),
+            Op::Stats => self.stats(alloc),
             Op::Put { .. }
             | Op::Reserve { .. }
             | Op::Release { .. }
@@ -65,7 +67,7 @@ impl<M: JobMap> Logic<M> {
         requires { CanCarryOut true op.now self.old.now }
         ensures { DoesQuietly key self.old self.new (carried_out op.now key self.old.now) result }
     {
-        self.call(key.session)?;
+        self.call(key.session, op)?;
         self.quiet_row(alloc, key, op)
     }
 
@@ -138,7 +140,7 @@ impl<M: JobMap> Logic<M> {
         ensures { DraftsOutcome self.old self.new answers.old.items answers.new.items
             (carried_out op.now key self.old.now) result }
     {
-        self.call(key.session)?;
+        self.call(key.session, op)?;
         self.numbers_rise();
         match op {
             Op::Reserve { seconds } => self.reserve(key, *seconds, answers),

@@ -8,6 +8,7 @@ use crate::reply::Reply;
 use job_store::{Body, History, Job, JobMap, State};
 use object::Value;
 use std::alloc::AllocError;
+use tube_store::TubeMark;
 
 /// The state of a job that is ready after so many seconds.
 pub fn ready_after(now: u64, delay: u32) -> State
@@ -40,8 +41,10 @@ impl<M: JobMap> Logic<M> {
             (put_row self.old.now session pri delay ttr body.now) result }
     {
         let id = self.counters.next_id;
+        let tube = self.session(session).used.copy()?;
+        self.tubes.mark(&tube, TubeMark::Put)?;
         let job = Job {
-            tube: self.session(session).used.copy()?,
+            tube,
             pri,
             ttr: ttr.max(1),
             body: body.copy()?,

@@ -78,10 +78,13 @@ impl<M: JobMap> Logic<M> {
         self.serve(woken.as_slice(), answers)
     }
 
-    /// Forgets a session.
+    /// Forgets a session, and the counts of tubes that it leaves.
     pub fn forget(&mut self, session: u32)
         ensures { self.new.now ≡ forgotten session self.old.now }
     {
-        self.sessions.remove_for_good(session);
+        if let Some(gone) = self.sessions.remove_for_good(session) {
+            self.settle(&gone.used);
+            self.settle_all(gone.watched.as_slice());
+        }
     }
 }

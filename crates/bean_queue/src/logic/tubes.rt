@@ -10,13 +10,16 @@ use object::Value;
 use std::alloc::AllocError;
 
 impl<M: JobMap> Logic<M> {
-    /// Lets a session use a tube.
+    /// Lets a session that is there use a tube.
     #[tactic(auto, unfolding(crate::specs::Rows::use_row))]
     pub fn use_tube(&mut self, session: u32, tube: &Name) -> Result<Reply, AllocError>
+        requires { IsSome (value_at session self.old.now.sessions) }
         ensures { DoesRow self.old self.new (use_row self.old.now session tube.now) result }
     {
         let shown = tube.copy()?;
+        let left = self.session(session).used.copy()?;
         self.sessions.use_tube_for_good(session, tube.copy()?)?;
+        self.settle(&left);
         Ok(Reply::Using(shown))
     }
 
@@ -41,6 +44,7 @@ impl<M: JobMap> Logic<M> {
             return Reply::NotIgnored;
         }
         let count = self.sessions.ignore_for_good(session, tube);
+        self.settle(tube);
         Reply::Watching(count as u64)
     }
 }
