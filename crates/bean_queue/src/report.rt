@@ -1,8 +1,9 @@
 ghost use Rattle.std.specs.Prelude.{◌≡◌, ◌++◌, codes, OnOk, IfOk};
-ghost use Rattle.bean_queue.specs.Reports.{report_line, report_number};
+ghost use Rattle.bean_queue.specs.Reports.{report_line, report_number, tally_report, job_counts_report, other_counts_report};
 
+use crate::counts::Counts;
 use itoa::Buffer;
-use job_store::Body;
+use job_store::{Body, Tally};
 use std::alloc::{AllocError, Global};
 use std::marker::Model;
 
@@ -50,6 +51,54 @@ impl Report {
     {
         let mut digits = Buffer::new();
         self.line(name, digits.format(number).as_bytes())
+    }
+
+    /// Writes how many jobs of each kind there are.
+    #[tactic(auto, unfolding(crate::specs::Reports::tally_report))]
+    pub fn tally(&mut self, tally: Tally) -> Result<(), AllocError>
+        ensures { OnOk result (self.new ≡ self.old ++ tally_report tally) }
+    {
+        self.number(b"current-jobs-urgent", tally.urgent)?;
+        self.number(b"current-jobs-ready", tally.ready)?;
+        self.number(b"current-jobs-reserved", tally.reserved)?;
+        self.number(b"current-jobs-delayed", tally.delayed)?;
+        self.number(b"current-jobs-buried", tally.buried)
+    }
+
+    /// Writes how often operations on jobs were carried out.
+    #[tactic(auto, unfolding(crate::specs::Reports::job_counts_report))]
+    pub fn job_counts(&mut self, counts: &Counts) -> Result<(), AllocError>
+        ensures { OnOk result (self.new ≡ self.old ++ job_counts_report counts.now) }
+    {
+        self.number(b"cmd-put", counts.put)?;
+        self.number(b"cmd-peek", counts.peek)?;
+        self.number(b"cmd-peek-ready", counts.peek_ready)?;
+        self.number(b"cmd-peek-delayed", counts.peek_delayed)?;
+        self.number(b"cmd-peek-buried", counts.peek_buried)?;
+        self.number(b"cmd-reserve", counts.reserve)?;
+        self.number(b"cmd-reserve-with-timeout", counts.reserve_with_timeout)?;
+        self.number(b"cmd-delete", counts.delete)?;
+        self.number(b"cmd-release", counts.release)
+    }
+
+    /// Writes how often the others were.
+    #[tactic(auto, unfolding(crate::specs::Reports::other_counts_report))]
+    pub fn other_counts(&mut self, counts: &Counts) -> Result<(), AllocError>
+        ensures { OnOk result (self.new ≡ self.old ++ other_counts_report counts.now) }
+    {
+        self.number(b"cmd-use", counts.use_tube)?;
+        self.number(b"cmd-watch", counts.watch)?;
+        self.number(b"cmd-ignore", counts.ignore)?;
+        self.number(b"cmd-bury", counts.bury)?;
+        self.number(b"cmd-kick", counts.kick)?;
+        self.number(b"cmd-touch", counts.touch)?;
+        self.number(b"cmd-stats", counts.stats)?;
+        self.number(b"cmd-stats-job", counts.stats_job)?;
+        self.number(b"cmd-stats-tube", counts.stats_tube)?;
+        self.number(b"cmd-list-tubes", counts.list_tubes)?;
+        self.number(b"cmd-list-tube-used", counts.list_tube_used)?;
+        self.number(b"cmd-list-tubes-watched", counts.list_tubes_watched)?;
+        self.number(b"cmd-pause-tube", counts.pause_tube)
     }
 
     /// The text.

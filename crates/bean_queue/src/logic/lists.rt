@@ -28,7 +28,7 @@ impl<M: JobMap> Logic<M> {
     }
 
     /// The names of all tubes.
-    fn tube_names(&self, alloc: Global) -> Result<BTreeSet<Name>, AllocError>
+    pub fn tube_names(&self, alloc: Global) -> Result<BTreeSet<Name>, AllocError>
         ensures { IfOk result (λ names. names.keys ≡ all_tubes self.now.now) }
     {
         let mut names = BTreeSet::new(alloc);
