@@ -8,8 +8,8 @@ abbrev pub and_more : ℕ → ℕ → ℕ
 and_more by count = min (count + by) (2 ^ 64 - 1)
 
 -- nothing is counted yet
-abbrev pub no_counts : Counts
-no_counts =
+abbrev pub nothing_counted : Counts
+nothing_counted =
     record {
       put = 0;
       peek = 0;

@@ -1,6 +1,7 @@
 pub mod Counting
 pub mod Queue
 pub mod Tubes
+pub mod Groups
 pub mod Reports
 pub mod Rows
 pub mod Turns

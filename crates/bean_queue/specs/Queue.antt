@@ -12,7 +12,7 @@ use Rattle.pause_store.specs.Pauses.{PauseState}
 use Rattle.tube_store.specs.declared.tube_counts.TubeCounts.{TubeCounts}
 use Rattle.bean_queue.specs.declared.counters.Counters.{Counters}
 use Rattle.bean_queue.specs.declared.counts.Counts.{Counts}
-use Rattle.bean_queue.specs.Counting.{no_counts}
+use Rattle.bean_queue.specs.Counting.{nothing_counted}
 
 -- the jobs by id and the sessions by number, each a list of entries whose keys rise; the pauses of tubes and what was
 -- done with tubes, by name; and what is counted
@@ -46,7 +46,7 @@ pub record AgreesOnTime (counters kept : Counters) (pauses : Draft PauseState) :
 
 -- a new queue
 abbrev pub fresh : QueueState
-fresh = record { now = 0; next_id = 1; next_rank = 1; jobs = []; sessions = []; pauses = []; tubes = []; counts = no_counts }
+fresh = record { now = 0; next_id = 1; next_rank = 1; jobs = []; sessions = []; pauses = []; tubes = []; counts = nothing_counted }
 
 -- its pauses, at its second
 abbrev pub pauses_of : QueueState → PauseState

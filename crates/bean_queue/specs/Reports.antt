@@ -11,6 +11,7 @@ use Rattle.session_store.specs.Sessions.{is_waiting}
 use Rattle.pause_store.specs.Pauses.{is_paused, pause_end}
 use Rattle.tube_store.specs.TubeCounts.{counts_at}
 use Rattle.bean_queue.specs.declared.counts.Counts.{Counts}
+use Rattle.bean_queue.specs.Groups.{sessions_that}
 use Rattle.bean_queue.specs.Queue.{QueueState}
 use Rattle.bean_queue.specs.Tubes.{all_tubes}
 
@@ -63,10 +64,6 @@ tally_report t =
     report_number (codes "current-jobs-reserved") t.reserved ++
     report_number (codes "current-jobs-delayed") t.delayed ++
     report_number (codes "current-jobs-buried") t.buried
-
--- how many sessions pass
-abbrev pub sessions_that : (SessionState → Bool) → List (ℕ × SessionState) → ℕ
-sessions_that test sessions = length (filter (λ e. test e.1) sessions)
 
 -- the session waits for a job of this tube, among others
 abbrev pub waits_for : List ℕ → SessionState → Bool

@@ -243,15 +243,16 @@ without_own key s t u ys h d =
 carried_out-lawful : (op : Op) (key : Key) (s : QueueState) → IsLawful key s (carried_out op key s)
 unfolding carried_out
 carried_out-lawful op key s =
-    let t = called key.session s in
-    let r = row op key (called key.session s) in
-    let start : (k : Key) → Waits (called key.session s) k → Waits s k × (k.session ≡ key.session → ⊥) = known-waits key.session s.sessions in
+    let t = called op key.session s in
+    let r = row op key (called op key.session s) in
+    let start : (k : Key) → Waits (called op key.session s) k → Waits s k × (k.session ≡ key.session → ⊥) =
+    λ k w. known-waits key.session s.sessions k (altered-waits key.session (asking op) (known key.session s.sessions) k (λ c. refl) w) in
     let served = serve-dealt r.state in
     lawful_along key s (turned_away op key (serve r.state).state).state
     (own key r.reply ++ ((serve r.state).answers ++ (turned_away op key (serve r.state).state).answers))
     ((own key r.reply ++ (serve r.state).answers) ++ (turned_away op key (serve r.state).state).answers)
     (sym (append_assoc (own key r.reply) (serve r.state).answers (turned_away op key (serve r.state).state).answers))
-    (elim (row-waits op key (called key.session s)) as (λ v. IsLawful key s
+    (elim (row-waits op key (called op key.session s)) as (λ v. IsLawful key s
     (record {
       state = (turned_away op key (serve r.state).state).state;
       answers =

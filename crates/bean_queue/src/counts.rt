@@ -1,5 +1,5 @@
 ghost use Rattle.std.specs.Prelude.{◌≡◌};
-ghost use Rattle.bean_queue.specs.Counting.{and_more, no_counts, counted, and_timeouts};
+ghost use Rattle.bean_queue.specs.Counting.{and_more, nothing_counted, counted, and_timeouts};
 
 use crate::op::Op;
 
@@ -42,7 +42,7 @@ fn more(count: u64, by: u64) -> u64
 impl Counts {
     /// Nothing is counted yet.
     pub fn new() -> Counts
-        ensures { result ≡ no_counts }
+        ensures { result ≡ nothing_counted }
     {
         Counts {
             put: 0,

@@ -4,6 +4,7 @@
 mod counters;
 mod counts;
 mod deadlines;
+mod group;
 mod job_draft;
 mod job_report;
 mod laws;

@@ -39,10 +39,10 @@ outcome_if b c o p q r e h k =
 
 -- An operation
 
-own-respects : (op : Op) (key : Key) → is_report op ≡ false → Respects (λ s. own_outcome key (row op key (called key.session s)))
+own-respects : (op : Op) (key : Key) → is_report op ≡ false → Respects (λ s. own_outcome key (row op key (called op key.session s)))
 own-respects op key plain =
-    respects-from (λ s. own_outcome key (row op key (called key.session s)))
-    (λ s. let r = row-blind op key (called key.session s) plain in record { answers = ap (own key) r.reply; state = r.state })
+    respects-from (λ s. own_outcome key (row op key (called op key.session s)))
+    (λ s. let r = row-blind op key (called op key.session s) plain in record { answers = ap (own key) r.reply; state = r.state })
 
 stop-blind : (s : QueueState) → SameOutcome (stop (without_histories s)) (stop s)
 stop-blind s = record { answers = refl; state = ap (with_jobs s) (blanks-twice s.jobs) }
@@ -65,8 +65,8 @@ turned_away-blind _ key s = stop-blind s
 carried_out-respects : (op : Op) (key : Key) → is_report op ≡ false → Respects (carried_out op key)
 unfolding carried_out
 carried_out-respects op key plain =
-    then-respects (λ s. then_do (own_outcome key (row op key (called key.session s))) serve) (turned_away op key)
-    (then-respects (λ s. own_outcome key (row op key (called key.session s))) serve (own-respects op key plain) serve-respects)
+    then-respects (λ s. then_do (own_outcome key (row op key (called op key.session s))) serve) (turned_away op key)
+    (then-respects (λ s. own_outcome key (row op key (called op key.session s))) serve (own-respects op key plain) serve-respects)
     (respects-from (turned_away op key) (turned_away-blind op key))
 
 no_number-blind : (op : Op) (s : QueueState) → has_no_number op (without_histories s) ≡ has_no_number op s

@@ -1,39 +1,44 @@
 -- A session that was called is there.
-use Rattle.std.proofs.Common.{◌≡◌, ℕ, true, false, cond, Option, None, Some, IsSome, is_some, option_map, [], ◌∷◌, refl, sym, ap, subst, ◌∙◌}
+use Rattle.std.proofs.Common.{◌≡◌, ℕ, true, false, cond, List, Option, None, Some, IsSome, is_some, option_map, [], ◌∷◌, refl, sym, ap, subst, ◌∙◌}
 use Rattle.job_store.specs.Entries.{value_at, with_value}
 use Rattle.job_store.specs.EntryLaws.{value_at-altered, value_at-insert}
 use Rattle.object.specs.declared.command.Key.{Key}
 use Rattle.session_store.specs.declared.session.SessionState.{SessionState}
-use Rattle.session_store.specs.Sessions.{new_session, with_wait, with_wait_ended}
+use Rattle.session_store.specs.Sessions.{new_session, known, with_wait, with_wait_ended}
 use Rattle.bean_queue.specs.declared.op.Op.{Op}
 use Rattle.bean_queue.specs.declared.reply.Reply.{Reply}
 use Rattle.bean_queue.specs.Queue.{QueueState}
 use Rattle.bean_queue.specs.Rows.{row}
 use Rattle.bean_queue.specs.Turns.{QueueOutcome, serve_turn}
-use Rattle.bean_queue.specs.Effects.{own, called, carried_out, is_quiet}
+use Rattle.bean_queue.specs.Effects.{own, asking, called, carried_out, is_quiet}
 use Rattle.bean_queue.proofs.calm.Calm.{quiet-effect}
 
-still_some : (o : Option SessionState) → is_some o ≡ true → is_some (option_map (with_wait None) o) ≡ true
-still_some None e = e
-still_some (Some v) e = refl
+still_some : (f : SessionState → SessionState) (o : Option SessionState) → is_some o ≡ true → is_some (option_map f o) ≡ true
+still_some f None e = e
+still_some f (Some v) e = refl
 
-pub called-there : (s t : QueueState) (x : ℕ) → t ≡ called x s → IsSome (value_at x t.sessions)
-called-there s t x e =
+known-there : (x : ℕ) (sessions : List (ℕ × SessionState)) → IsSome (value_at x (known x sessions))
+known-there x sessions =
+    elim (is_some (value_at x sessions)) as (λ b. is_some (value_at x sessions) ≡ b
+    → is_some (value_at x (cond b (with_wait_ended x sessions) (with_value x new_session sessions))) ≡ true) [
+      | true ↦ λ there. ap is_some (value_at-altered x (with_wait None) sessions) ∙ still_some (with_wait None) (value_at x sessions) there
+      | false ↦ λ absent. ap is_some (value_at-insert x new_session sessions)
+    ] refl
+
+pub called-there : (op : Op) (s t : QueueState) (x : ℕ) → t ≡ called op x s → IsSome (value_at x t.sessions)
+called-there op s t x e =
     subst (λ (t : QueueState). IsSome (value_at x t.sessions)) (sym e)
-    (elim (is_some (value_at x s.sessions)) as (λ b. is_some (value_at x s.sessions) ≡ b
-    → is_some (value_at x (cond b (with_wait_ended x s.sessions) (with_value x new_session s.sessions))) ≡ true) [
-      | true ↦ λ there. ap is_some (value_at-altered x (with_wait None) s.sessions) ∙ still_some (value_at x s.sessions) there
-      | false ↦ λ absent. ap is_some (value_at-insert x new_session s.sessions)
-    ] refl)
+    (ap is_some (value_at-altered x (asking op) (known x s.sessions)) ∙
+    still_some (asking op) (value_at x (known x s.sessions)) (known-there x s.sessions))
 
 -- the state after a quiet operation, and its answer
 pub quiet-state : (op : Op) (key : Key) (s t u : QueueState) → is_quiet op ≡ true → serve_turn s ≡ None
-    → t ≡ called key.session s → u ≡ (row op key t).state → u ≡ (carried_out op key s).state
+    → t ≡ called op key.session s → u ≡ (row op key t).state → u ≡ (carried_out op key s).state
 quiet-state op key s t u q calm c e =
     e ∙ ap (λ t. (row op key t).state) c ∙ sym (ap (λ (o : QueueOutcome). o.state) (quiet-effect op key s q calm))
 
 pub quiet-reply : (op : Op) (key : Key) (s t : QueueState) (reply : Reply) → is_quiet op ≡ true → serve_turn s ≡ None
-    → t ≡ called key.session s → (row op key t).reply ≡ Some reply
+    → t ≡ called op key.session s → (row op key t).reply ≡ Some reply
     → (carried_out op key s).answers ≡ record { to = key; reply = reply } ∷ []
 quiet-reply op key s t reply q calm c e =
     ap (λ (o : QueueOutcome). o.answers) (quiet-effect op key s q calm) ∙ ap (own key) (sym (ap (λ t. (row op key t).reply) c) ∙ e)

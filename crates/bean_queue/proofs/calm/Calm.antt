@@ -17,16 +17,16 @@ use Rattle.session_store.specs.declared.session.Wait.{Wait}
 use Rattle.session_store.specs.Sessions.{session_of, new_session, with_wait, with_wait_ended, known, is_waiting}
 use Rattle.session_store.specs.WatchLists.{is_alone}
 use Rattle.session_store.specs.WaitLaws.{known-waits}
-use Rattle.pause_store.specs.Pauses.{is_paused}
+use Rattle.pause_store.specs.Pauses.{is_paused, tubes_over}
 use Rattle.bean_queue.specs.declared.op.Op.{Op}
 use Rattle.bean_queue.specs.declared.reply.Reply.{Reply}
 use Rattle.bean_queue.specs.Queue.{QueueState, paused_tubes, with_sessions, fresh, watched_by, holds_by}
-use Rattle.bean_queue.specs.Rows.{Row, row, put_row, use_row, watch_row, ignore_row, reserve_row, delete_row}
-use Rattle.bean_queue.specs.Rows.{may_delete, is_job_that, release_row, touch_row, bury_row, kick_row, kick_job_row}
-use Rattle.bean_queue.specs.Rows.{is_free, reserve_found, reserve_job_row, peek_row, stats_job_row}
+use Rattle.bean_queue.specs.Rows.{Row, settled, row, put_row, use_row, watch_row, ignore_row, reserve_row, delete_row}
+use Rattle.bean_queue.specs.Rows.{may_delete, delete_found, is_job_that, release_row, touch_row, bury_row, kick_row, kick_job_row}
+use Rattle.bean_queue.specs.Rows.{is_free, reserve_found, reserve_job_row, peek_row, stats_job_row, stats_tube_row, stats_row}
 use Rattle.bean_queue.specs.Turns.{QueueOutcome, after_option, QueueTurn, stop, all_turns, wanted, give, serve_turn}
 use Rattle.bean_queue.specs.Turns.{told_turn, deadline_turn, timeout_turn, serve}
-use Rattle.bean_queue.specs.Effects.{own, own_outcome, then_do, called, ends_wait, is_zero, turned_away, has_no_number}
+use Rattle.bean_queue.specs.Effects.{own, own_outcome, then_do, asking, called, ends_wait, is_zero, turned_away, has_no_number}
 use Rattle.bean_queue.specs.Effects.{carried_out, do_effect, released, forgotten, at_second, tick_effect, is_quiet}
 use Rattle.bean_queue.specs.TurnLaws.{least-none, none-least, turns-keep, deadline_turn-is, timeout_turn-is, IsTold, IfSome-map}
 use Rattle.bean_queue.proofs.best.Paused.{open-watched, watched-open}
@@ -145,66 +145,94 @@ calmer_if : (s : QueueState) (b : Bool) (r q : Row) → IsCalmer s r.state → I
 calmer_if s true r q h k = h
 calmer_if s false r q h k = k
 
-quiet-row : (op : Op) (key : Key) (s : QueueState) → is_quiet op ≡ true → IsCalmer (called key.session s) (row op key (called key.session s)).state
+-- session x doesn't wait
+abbrev pub IsIdleIn : ℕ → QueueState → Type 0
+IsIdleIn x s = (d : ℕ × SessionState) → In d s.sessions → x ≡ d.0 → is_waiting d.1 ≡ true → ⊥
+
+quiet-row : (op : Op) (key : Key) (s : QueueState) → is_quiet op ≡ true → IsIdleIn key.session s → IsCalmer s (row op key s).state
 unfolding row put_row use_row watch_row ignore_row reserve_row delete_row release_row touch_row bury_row kick_row kick_job_row
-  reserve_job_row peek_row stats_job_row
-quiet-row (Op.Put pri delay ttr body) key s q = cc
-quiet-row (Op.Use tube) key s q =
+  reserve_job_row peek_row stats_job_row stats_tube_row stats_row
+quiet-row (Op.Put pri delay ttr body) key s q idle = cc
+quiet-row (Op.Use tube) key s q idle =
     record {
       jobs = λ j i t. i;
       sessions =
-          kept-calmer key.session _ (known key.session s.sessions) (λ c. refl) (known-idle key.session s.sessions);
+          kept-calmer key.session _ s.sessions (λ c. refl) idle;
       pauses =
           λ tube p. p;
     }
-quiet-row (Op.Watch tube) key s q =
+quiet-row (Op.Watch tube) key s q idle =
     record {
       jobs = λ j i t. i;
       sessions =
-          kept-calmer key.session _ (known key.session s.sessions) (λ c. refl) (known-idle key.session s.sessions);
+          kept-calmer key.session _ s.sessions (λ c. refl) idle;
       pauses =
           λ tube p. p;
     }
-quiet-row (Op.Ignore tube) key s q =
-    calmer_if (called key.session s) (is_alone tube (watched_by (called key.session s) key.session)) _ _ (same-calmer (called key.session s))
+quiet-row (Op.Ignore tube) key s q idle =
+    calmer_if s (is_alone tube (watched_by s key.session)) _ _ (same-calmer s)
     (record {
       jobs = λ j i t. i;
       sessions =
-          kept-calmer key.session _ (known key.session s.sessions) (λ c. refl) (known-idle key.session s.sessions);
+          kept-calmer key.session _ s.sessions (λ c. refl) idle;
       pauses = λ tube p. p;
     })
-quiet-row (Op.Reserve seconds) key s q = cc
-quiet-row (Op.Delete id) key s q =
-    calmer_if (called key.session s) (is_job_that (may_delete key.session) (value_at id s.jobs)) _ _
-    (record { jobs = λ j i t. without-in id s.jobs j i; sessions = λ w i t. i; pauses = λ tube p. p }) (same-calmer (called key.session s))
-quiet-row (Op.Touch id) key s q =
-    calmer_if (called key.session s) (is_job_that (is_held key.session) (value_at id s.jobs)) _ _
-    (record { jobs = changed-calmer id _ s.jobs (λ job. refl); sessions = λ w i t. i; pauses = λ tube p. p }) (same-calmer (called key.session s))
-quiet-row (Op.Release id pri delay) key s q = cc
-quiet-row (Op.Bury id pri) key s q =
-    calmer_if (called key.session s) (is_job_that (is_held key.session) (value_at id s.jobs)) _ _
-    (record { jobs = changed-calmer id _ s.jobs (λ job. refl); sessions = λ w i t. i; pauses = λ tube p. p }) (same-calmer (called key.session s))
-quiet-row (Op.Kick bound) key s q = cc
-quiet-row (Op.KickJob id) key s q = cc
-quiet-row (Op.ReserveJob id) key s q =
-    elim (value_at id s.jobs) as (λ o. IsCalmer (called key.session s) (reserve_found (called key.session s) key.session id o).state) [
-      | None ↦ same-calmer (called key.session s)
+quiet-row (Op.Reserve seconds) key s q idle = cc
+quiet-row (Op.Delete id) key s q idle =
+    elim (value_at id s.jobs) as (λ o. IsCalmer s (delete_found s key.session id o).state) [
+      | None ↦ same-calmer s
       | Some job ↦
-          calmer_if (called key.session s) (is_free job.state) _ _
-          (record { jobs = changed-calmer id _ s.jobs (λ job. refl); sessions = λ w i t. i; pauses = λ tube p. p }) (same-calmer (called key.session s))
+          calmer_if s (may_delete key.session job.state) _ _
+          (record { jobs = λ j i t. without-in id s.jobs j i; sessions = λ w i t. i; pauses = λ tube p. p }) (same-calmer s)
     ]
-quiet-row (Op.Peek id) key s q = same-calmer (called key.session s)
-quiet-row Op.PeekReady key s q = same-calmer (called key.session s)
-quiet-row Op.PeekDelayed key s q = same-calmer (called key.session s)
-quiet-row Op.PeekBuried key s q = same-calmer (called key.session s)
-quiet-row Op.ListTubes key s q = same-calmer (called key.session s)
-quiet-row Op.ListTubeUsed key s q = same-calmer (called key.session s)
-quiet-row Op.ListTubesWatched key s q = same-calmer (called key.session s)
-quiet-row (Op.Pause tube seconds) key s q = cc
-quiet-row (Op.StatsJob id) key s q = same-calmer (called key.session s)
+quiet-row (Op.Touch id) key s q idle =
+    calmer_if s (is_job_that (is_held key.session) (value_at id s.jobs)) _ _
+    (record { jobs = changed-calmer id _ s.jobs (λ job. refl); sessions = λ w i t. i; pauses = λ tube p. p }) (same-calmer s)
+quiet-row (Op.Release id pri delay) key s q idle = cc
+quiet-row (Op.Bury id pri) key s q idle =
+    calmer_if s (is_job_that (is_held key.session) (value_at id s.jobs)) _ _
+    (record { jobs = changed-calmer id _ s.jobs (λ job. refl); sessions = λ w i t. i; pauses = λ tube p. p }) (same-calmer s)
+quiet-row (Op.Kick bound) key s q idle = cc
+quiet-row (Op.KickJob id) key s q idle = cc
+quiet-row (Op.ReserveJob id) key s q idle =
+    elim (value_at id s.jobs) as (λ o. IsCalmer s (reserve_found s key.session id o).state) [
+      | None ↦ same-calmer s
+      | Some job ↦
+          calmer_if s (is_free job.state) _ _
+          (record { jobs = changed-calmer id _ s.jobs (λ job. refl); sessions = λ w i t. i; pauses = λ tube p. p }) (same-calmer s)
+    ]
+quiet-row (Op.Peek id) key s q idle = same-calmer s
+quiet-row Op.PeekReady key s q idle = same-calmer s
+quiet-row Op.PeekDelayed key s q idle = same-calmer s
+quiet-row Op.PeekBuried key s q idle = same-calmer s
+quiet-row Op.ListTubes key s q idle = same-calmer s
+quiet-row Op.ListTubeUsed key s q idle = same-calmer s
+quiet-row Op.ListTubesWatched key s q idle = same-calmer s
+quiet-row (Op.Pause tube seconds) key s q idle = cc
+quiet-row (Op.StatsJob id) key s q idle = same-calmer s
+quiet-row (Op.StatsTube tube) key s q idle = same-calmer s
+quiet-row Op.Stats key s q idle = same-calmer s
 
-pub called-calm : (x : ℕ) (s : QueueState) → serve_turn s ≡ None → serve_turn (called x s) ≡ None
-called-calm x s none = calm s (called x s) none (record { jobs = λ j i t. i; sessions = known-calmer x s.sessions; pauses = λ tube p. p })
+-- the session that was called doesn't wait
+asked-idle : (op : Op) (x : ℕ) (sessions : List (ℕ × SessionState)) (d : ℕ × SessionState) → In d (altered x (asking op) (known x sessions))
+    → x ≡ d.0 → is_waiting d.1 ≡ true → ⊥
+asked-idle op x sessions d i same t =
+    altered-in x (asking op) (λ d. x ≡ d.0 → is_waiting d.1 ≡ true → ⊥) (known x sessions)
+    (λ e there.
+    elim (x == e.0) as (λ b. x ≡ e.0 → is_waiting (cond b (asking op e.1) e.1) ≡ true → ⊥) [
+      | true ↦ λ same t. known-idle x sessions e there same t
+      | false ↦ λ same t. known-idle x sessions e there same t
+    ])
+    d i same t
+
+asked-calmer : (op : Op) (x : ℕ) (sessions : List (ℕ × SessionState)) (w : ℕ × SessionState)
+    → In w (altered x (asking op) (known x sessions)) → is_waiting w.1 ≡ true → In w sessions
+asked-calmer op x sessions w i t =
+    known-calmer x sessions w (kept-calmer x (asking op) (known x sessions) (λ c. refl) (known-idle x sessions) w i t) t
+
+pub called-calm : (op : Op) (x : ℕ) (s : QueueState) → serve_turn s ≡ None → serve_turn (called op x s) ≡ None
+called-calm op x s none =
+    calm s (called op x s) none (record { jobs = λ j i t. i; sessions = asked-calmer op x s.sessions; pauses = λ tube p. p })
 
 quiet-turned_away : (op : Op) (key : Key) (s : QueueState) → is_quiet op ≡ true → turned_away op key s ≡ stop s
 unfolding turned_away
@@ -217,11 +245,12 @@ serve-none s none = turns-unroll serve_turn serves s ∙ ap (after_option (all_t
 
 -- after a quiet operation nobody is served
 pub quiet-effect : (op : Op) (key : Key) (s : QueueState) → is_quiet op ≡ true → serve_turn s ≡ None
-    → carried_out op key s ≡ own_outcome key (row op key (called key.session s))
+    → carried_out op key s ≡ own_outcome key (row op key (called op key.session s))
 unfolding carried_out
 quiet-effect op key s q none =
-    let r = row op key (called key.session s) in
-    let after : serve_turn r.state ≡ None = calm (called key.session s) r.state (called-calm key.session s none) (quiet-row op key s q) in
+    let r = row op key (called op key.session s) in
+    let after : serve_turn r.state ≡ None = calm (called op key.session s) r.state (called-calm op key.session s none)
+    (quiet-row op key (called op key.session s) q (asked-idle op key.session s.sessions)) in
     ap (λ o. then_do (record { state = o.state; answers = own key r.reply ++ o.answers }) (turned_away op key)) (serve-none r.state after) ∙
     ap (λ o. record { state = o.state; answers = (own key r.reply ++ []) ++ o.answers }) (quiet-turned_away op key r.state q) ∙
     ap (λ xs. record { state = r.state; answers = xs }) (append-nil (own key r.reply ++ []) ∙ append-nil (own key r.reply))
@@ -262,7 +291,7 @@ timeouts-calm s none = (turns-keep timeout_turn (λ s. serve_turn s ≡ None) (�
 
 carried_out-calm : (op : Op) (key : Key) (s : QueueState) → serve_turn (carried_out op key s).state ≡ None
 unfolding carried_out
-carried_out-calm op key s = turned_away-calm op key _ (serve-done (row op key (called key.session s)).state)
+carried_out-calm op key s = turned_away-calm op key _ (serve-done (row op key (called op key.session s)).state)
 
 pub do-calm : (op : Op) (key : Key) (s : QueueState) → serve_turn s ≡ None → serve_turn (do_effect op key s).state ≡ None
 unfolding do_effect
@@ -275,10 +304,14 @@ close-calm x s =
     calm o.state (forgotten x o.state) (serve-done (released x s))
     (record { jobs = λ j i t. i; sessions = λ w i t. without-in x o.state.sessions w i; pauses = λ tube p. p })
 
+settled-calm : (tubes : List (List ℕ)) (s : QueueState) → serve_turn s ≡ None → serve_turn (settled tubes s) ≡ None
+settled-calm tubes s none = calm s (settled tubes s) none (record { jobs = λ j i t. i; sessions = λ w i t. i; pauses = λ tube p. p })
+
 pub tick-calm : (second : ℕ) (s : QueueState) → serve_turn s ≡ None → serve_turn (tick_effect second s).state ≡ None
 unfolding tick_effect
 tick-calm second s none =
-    outcome_if (nat_lt s.now second) _ _ (timeouts-calm _ (deadlines-calm _ (serve-done (at_second second s)))) none
+    outcome_if (nat_lt s.now second) _ _
+    (settled-calm (tubes_over second s.pauses) _ (timeouts-calm _ (deadlines-calm _ (serve-done (at_second second s))))) none
 
 pub fresh-calm : serve_turn fresh ≡ None
 unfolding serve_turn

@@ -86,22 +86,27 @@ module _ (x hi : ℕ) (g : SessionState → SessionState) where
 
 -- A session that was called is there, and doesn't wait
 
-pub called-idle : (x : ℕ) (s : QueueState) → (c : SessionState) × (value_at x (called x s).sessions ≡ Some c) × (c.wait ≡ None)
-called-idle x s =
-    elim (value_at x s.sessions) as (λ o. value_at x s.sessions ≡ o → (c : SessionState) × (value_at x (called x s).sessions ≡ Some c) × (c.wait ≡ None)) [
+known-alone : (x : ℕ) (sessions : List (ℕ × SessionState)) → (c : SessionState) × (value_at x (known x sessions) ≡ Some c) × (c.wait ≡ None)
+known-alone x sessions =
+    elim (value_at x sessions) as (λ o. value_at x sessions ≡ o → (c : SessionState) × (value_at x (known x sessions) ≡ Some c) × (c.wait ≡ None)) [
       | None ↦ λ e. (
         new_session,
-        ap (λ b. value_at x (cond b (with_wait_ended x s.sessions) (with_value x new_session s.sessions)))
-            (ap is_some e) ∙ value_at-insert x new_session s.sessions,
+        ap (λ b. value_at x (cond b (with_wait_ended x sessions) (with_value x new_session sessions)))
+            (ap is_some e) ∙ value_at-insert x new_session sessions,
         refl,
       )
       | Some v ↦ λ e. (
         with_wait None v,
-        ap (λ b. value_at x (cond b (with_wait_ended x s.sessions) (with_value x new_session s.sessions)))
-            (ap is_some e) ∙ value_at-altered_same x (with_wait None) s.sessions v e,
+        ap (λ b. value_at x (cond b (with_wait_ended x sessions) (with_value x new_session sessions)))
+            (ap is_some e) ∙ value_at-altered_same x (with_wait None) sessions v e,
         refl,
       )
     ] refl
+
+pub called-idle : (op : Op) (x : ℕ) (s : QueueState) → (c : SessionState) × (value_at x (called op x s).sessions ≡ Some c) × (c.wait ≡ None)
+called-idle op x s =
+    let alone = known-alone x s.sessions in
+    (asking op alone.0, value_at-altered_same x (asking op) (known x s.sessions) alone.0 alone.1, alone.2)
 
 wait-back : (w : Option Wait) (c : SessionState) → c.wait ≡ None → with_wait None (with_wait w c) ≡ c
 wait-back w c none = λ i. record c { wait = sym none i }
@@ -268,13 +273,13 @@ module _ (key : Key) (seconds : Option ℕ) (s : QueueState) (c : SessionState) 
   reserved = served-turned
 
 pub reserve-carried : (op : Op) (key : Key) (seconds : Option ℕ) (s t : QueueState) → op ≡ Op.Reserve seconds
-    → serve_turn s ≡ None → t ≡ called key.session s → Rising 0 (2 ^ 32) t.sessions
+    → serve_turn s ≡ None → t ≡ called op key.session s → Rising 0 (2 ^ 32) t.sessions
     → reserve_outcome key seconds t ≡ carried_out op key s
 unfolding carried_out
 reserve-carried op key seconds s t is none c r =
-    let there = called-idle key.session s in
+    let there = called-idle op key.session s in
     ap (reserve_outcome key seconds) c ∙
-    sym (reserved key seconds (called key.session s) there.0 (called-calm key.session s none)
+    sym (reserved key seconds (called op key.session s) there.0 (called-calm op key.session s none)
     (subst (λ (u : QueueState). Rising 0 (2 ^ 32) u.sessions) c r) there.1 there.2) ∙
     ap (λ o. carried_out o key s) (sym is)
 
@@ -283,10 +288,10 @@ unfolding turned_away
 never-turned (Op.Reserve seconds) key s e = cc
 never-turned _ key s e = refl
 
-pub wake-carried : (op : Op) (key : Key) (s t : QueueState) → is_reserve op ≡ false → t ≡ called key.session s → wake_outcome op key t ≡ carried_out op key s
+pub wake-carried : (op : Op) (key : Key) (s t : QueueState) → is_reserve op ≡ false → t ≡ called op key.session s → wake_outcome op key t ≡ carried_out op key s
 unfolding carried_out
 wake-carried op key s t wakes c =
-    let o = wake_outcome op key (called key.session s) in
+    let o = wake_outcome op key (called op key.session s) in
     ap (wake_outcome op key) c ∙
     ap (λ (xs : List (Answer Reply)). let q : QueueOutcome = record { state = o.state; answers = xs } in q) (sym (append-nil o.answers)) ∙
     sym (ap (λ (p : QueueOutcome). let q : QueueOutcome =

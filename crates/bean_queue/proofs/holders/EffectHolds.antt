@@ -122,9 +122,9 @@ row-gives id key s r ok = record {
 carried_out-gives : (id : ℕ) (op : Op) (key : Key) (s : QueueState) → HasRisingIds s → GivesOnce id s.now (carried_out op key s)
 unfolding carried_out
 carried_out-gives id op key s sound =
-    let r = row op key (called key.session s) in
+    let r = row op key (called op key.session s) in
     gives-then id s.now (then_do (own_outcome key r) serve) (turned_away op key)
-    (gives-serve id s.now (own_outcome key r) (row-gives id key (called key.session s) r (row-ok op key (called key.session s) sound)))
+    (gives-serve id s.now (own_outcome key r) (row-gives id key (called op key.session s) r (row-ok op key (called op key.session s) sound)))
     (turned_away-aside op key (serve r.state).state)
 
 pub do-gives : (id : ℕ) (op : Op) (key : Key) (s : QueueState) → HasRisingIds s → GivesOnce id s.now (do_effect op key s)
@@ -188,13 +188,13 @@ keeps-then x id ttr second now o f k a =
 
 -- after a row that keeps the hold
 carried_out-keeps : (x id ttr second : ℕ) (op : Op) (key : Key) (s : QueueState) → HasRisingIds s
-    → IsQuiet id (own key (row op key (called key.session s)).reply)
-    → Held (row op key (called key.session s)).state.jobs x id ttr second
+    → IsQuiet id (own key (row op key (called op key.session s)).reply)
+    → Held (row op key (called op key.session s)).state.jobs x id ttr second
     → KeepsHold x id ttr second s.now (carried_out op key s)
 unfolding carried_out
 carried_out-keeps x id ttr second op key s sound quiet h =
-    let ok = row-ok op key (called key.session s) sound in
-    let r = row op key (called key.session s) in
+    let ok = row-ok op key (called op key.session s) sound in
+    let r = row op key (called op key.session s) in
     let served = serve-keeps x id ttr second s.now r.state (record { sound = ok.sound; held = h; at = ok.at }) in
     keeps-then x id ttr second s.now (then_do (own_outcome key r) serve) (turned_away op key)
     (record { keeps = served.keeps; quiet = quiet-append id (own key r.reply) (serve r.state).answers quiet served.quiet })
@@ -210,19 +210,19 @@ own_touched : (key : Key) (o : Option Reply) (xs ys : List (Answer Reply)) → o
 own_touched key o xs ys e = subst (λ o. list_any (λ (a : Answer Reply). is_touched a.reply) ((own key o ++ xs) ++ ys) ≡ true) (sym e) refl
 
 carried_out-own : (op : Op) (key : Key) (s : QueueState) (reply : Reply)
-    → (row op key (called key.session s)).reply ≡ Some reply
+    → (row op key (called op key.session s)).reply ≡ Some reply
     → In (record { to = key; reply = reply }) (carried_out op key s).answers
 unfolding carried_out
 carried_out-own op key s reply e = own_there key _ reply _ _ e
 
 carried_out-touched : (op : Op) (key : Key) (s : QueueState)
-    → (row op key (called key.session s)).reply ≡ Some Reply.Touched
+    → (row op key (called op key.session s)).reply ≡ Some Reply.Touched
     → list_any (λ a. is_touched a.reply) (carried_out op key s).answers ≡ true
 unfolding carried_out
 carried_out-touched op key s e = own_touched key _ _ _ e
 
 carried_out-ends : (x id due : ℕ) (op : Op) (key : Key) (s : QueueState) (reply : Reply) → EndsHold id op reply
-    → key.session ≡ x → (row op key (called key.session s)).reply ≡ Some reply
+    → key.session ≡ x → (row op key (called op key.session s)).reply ≡ Some reply
     → Ends (queue_place (record { key = key; act = Act.Do op }) (carried_out op key s)) x id due
 carried_out-ends x id due op key s reply (EndsHold.by_delete j same) who e =
     Ends.deleted (who, ap (λ q. Act.Do (Op.Delete q)) same, carried_out-own (Op.Delete j) key s Reply.Deleted e)
@@ -249,9 +249,9 @@ carried_out-holds : (x id ttr second : ℕ) (op : Op) (key : Key) (s : QueueStat
     (queue_place (record { key = key; act = Act.Do op }) (carried_out op key s))
 carried_out-holds x id ttr second op key s sound h =
     let p : QueuePlace = queue_place (record { key = key; act = Act.Do op }) (carried_out op key s) in
-    let quiet = holder-quiet x id ttr second (called key.session s) key (row op key (called key.session s))
-    (row-ok op key (called key.session s) sound) h in
-    elim (row-holds x id ttr second op key (called key.session s) sound h) as (λ v. HoldsOn x id ttr second p) [
+    let quiet = holder-quiet x id ttr second (called op key.session s) key (row op key (called op key.session s))
+    (row-ok op key (called op key.session s) sound) h in
+    elim (row-holds x id ttr second op key (called op key.session s) sound h) as (λ v. HoldsOn x id ttr second p) [
       | HoldAfter.ended reply e who said ↦ ends (carried_out-ends x id (second + ttr) op key s reply e who said)
       | HoldAfter.stays h e ↦
           let k = carried_out-keeps x id ttr second op key s sound quiet h in

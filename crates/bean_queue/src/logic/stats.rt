@@ -1,15 +1,15 @@
-ghost use Rattle.std.specs.Prelude.{◌≡◌, IfOk, if◌then◌else◌};
+ghost use Rattle.std.specs.Prelude.{◌≡◌, ◌++◌, length, IfOk, OnOk, if◌then◌else◌};
 ghost use Rattle.job_store.specs.Entries.{value_at};
 ghost use Rattle.job_store.specs.LookUps.{is_among};
-ghost use Rattle.bean_queue.specs.Reports.{tube_report, queue_report};
+ghost use Rattle.bean_queue.specs.Reports.{tube_report, totals_report, queue_report};
 ghost use Rattle.bean_queue.specs.Rows.{reported};
 ghost use Rattle.bean_queue.specs.Tubes.{all_tubes};
 
+use crate::group::Group;
 use crate::job_report::job_report;
 use crate::logic::Logic;
 use crate::reply::Reply;
 use crate::report::Report;
-use crate::rolls::{using, waiting, waiting_for, watching, who_have_put, who_have_reserved};
 use job_store::{Body, JobMap, Name};
 use std::alloc::{AllocError, Global};
 
@@ -45,9 +45,9 @@ impl<M: JobMap> Logic<M> {
         report.line(b"name", tube.as_slice())?;
         report.tally(self.jobs.map().tally_in(tube))?;
         report.number(b"total-jobs", counts.puts)?;
-        report.number(b"current-using", using(sessions, tube))?;
-        report.number(b"current-watching", watching(sessions, tube))?;
-        report.number(b"current-waiting", waiting_for(sessions, tube))?;
+        report.number(b"current-using", Group::Using(tube).count(sessions))?;
+        report.number(b"current-watching", Group::Watching(tube).count(sessions))?;
+        report.number(b"current-waiting", Group::WaitingFor(tube).count(sessions))?;
         report.number(b"cmd-delete", counts.deletes)?;
         report.number(b"cmd-pause-tube", counts.pauses)?;
         report.number(b"pause", u64::from(pause))?;
@@ -80,9 +80,9 @@ impl<M: JobMap> Logic<M> {
         report.number(b"max-job-size", MAX_JOB_SIZE)?;
         report.number(b"current-tubes", tubes)?;
         report.number(b"current-connections", sessions.len() as u64)?;
-        report.number(b"current-producers", who_have_put(sessions))?;
-        report.number(b"current-workers", who_have_reserved(sessions))?;
-        report.number(b"current-waiting", waiting(sessions))?;
+        report.number(b"current-producers", Group::Producers.count(sessions))?;
+        report.number(b"current-workers", Group::Workers.count(sessions))?;
+        report.number(b"current-waiting", Group::Waiting.count(sessions))?;
         report.line(b"version", b"\"beanpax 0.1\"")?;
         report.number(b"uptime", self.counters.now)
     }

@@ -9,19 +9,19 @@ use Rattle.bean_queue.proofs.logic.Logic.carry_out.Goals as goal
 
 pub reserve-requires : goal.reserve-requires
 reserve-requires g c = record {
-  there = called-there c.args.self.now.now c.call.new.self.now c.args.key.session c.in_ok-call.ensures.now;
+  there = called-there c.args.op.now c.args.self.now.now c.call.new.self.now c.args.key.session c.in_ok-call.ensures.now;
   numbered = search rules;
 }
 
 pub wake-requires : goal.wake-requires
 wake-requires g c = record {
   wakes = record {
-    there = called-there c.args.self.now.now c.call.new.self.now c.args.key.session c.in_ok-call.ensures.now;
+    there = called-there c.args.op.now c.args.self.now.now c.call.new.self.now c.args.key.session c.in_ok-call.ensures.now;
     loud = c.requires.kind;
     waking = search rules;
     numbered = search rules;
   };
-  calm = ap serve_turn c.in_ok-call.ensures.now ∙ called-calm c.args.key.session c.args.self.now.now c.requires.calm;
+  calm = ap serve_turn c.in_ok-call.ensures.now ∙ called-calm c.args.op.now c.args.key.session c.args.self.now.now c.requires.calm;
 }
 
 pub returns-in-Reserve : goal.returns-in-Reserve

@@ -4,7 +4,7 @@ use Rattle.bean_queue.proofs.calm.Called.{called-there, quiet-state, quiet-reply
 use Rattle.bean_queue.proofs.logic.Logic.carry_out_quietly.Goals as goal
 
 pub quiet_row-requires-clause-there : goal.quiet_row-requires-clause-there
-quiet_row-requires-clause-there g c = called-there c.args.self.now.now c.call.new.self.now c.args.key.session c.in_ok-call.ensures.now
+quiet_row-requires-clause-there g c = called-there c.args.op.now c.args.self.now.now c.call.new.self.now c.args.key.session c.in_ok-call.ensures.now
 
 pub returns : goal.returns
 returns g c = record {
