@@ -1,4 +1,5 @@
 pub mod Queue
+pub mod Reports
 pub mod Rows
 pub mod Turns
 pub mod Best

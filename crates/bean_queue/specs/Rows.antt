@@ -1,5 +1,5 @@
 -- What each operation does before waiting sessions are served: the state after, and the operation's own reply.
-use Rattle.std.specs.Prelude.{◌≡◌, ℕ, zero, suc, ◌+◌, max, Bool, true, false, ◌||◌, List, [], ◌∷◌, ◌++◌, map, filter}
+use Rattle.std.specs.Prelude.{◌≡◌, ℕ, zero, suc, ◌+◌, max, Bool, true, false, not, ◌||◌, List, [], ◌∷◌, ◌++◌, map, filter}
 use Rattle.std.specs.Prelude.{flat_map, fold, Option, None, Some, ◌==◌, length, is_some, codes, if◌then◌else◌}
 use Rattle.std.specs.List.{list_any}
 use Rattle.std.specs.Ordering.{nat_cmp}
@@ -11,7 +11,7 @@ use Rattle.job_store.specs.declared.job.Job.{Job}
 use Rattle.job_store.specs.declared.state.State.{State}
 use Rattle.job_store.specs.Entries.{value_at, with_value, altered, without}
 use Rattle.job_store.specs.Histories.{new_history}
-use Rattle.job_store.specs.States.{is_held, is_delayed, is_buried, with_state, released_job, buried_job, kicked_job}
+use Rattle.job_store.specs.States.{is_held, is_delayed, is_buried, is_reserved, with_state, reserved_job, released_job, buried_job, kicked_job}
 use Rattle.job_store.specs.LookUps.{is_among, delayed_in, buried_in, first_ready, first_delayed, first_buried}
 use Rattle.session_store.specs.declared.session.SessionState.{SessionState}
 use Rattle.session_store.specs.Sessions.{with_wait}
@@ -19,6 +19,7 @@ use Rattle.session_store.specs.WatchLists.{joined, left_out, is_alone}
 use Rattle.pause_store.specs.Pauses.{paused_for}
 use Rattle.bean_queue.specs.declared.op.Op.{Op}
 use Rattle.bean_queue.specs.declared.reply.Reply.{Reply}
+use Rattle.bean_queue.specs.Reports.{job_report}
 use Rattle.bean_queue.specs.Queue.{QueueState, pauses_of, with_jobs, used_by, watched_by}
 
 -- the state after an operation, and its own reply, if it has one by now
@@ -192,6 +193,22 @@ kick_job_row s id =
     then replies (with_jobs s (altered id kicked_job s.jobs)) Reply.Kicked
     else replies s Reply.NotFound
 
+-- nobody has the job
+abbrev pub is_free : State → Bool
+is_free state = not (is_reserved state)
+
+-- the job that there may be becomes session x's until its time to run is over, if nobody has it
+abbrev pub reserve_found : QueueState → ℕ → ℕ → Option Job → Row
+reserve_found s x id None = replies s Reply.NotFound
+reserve_found s x id (Some job) =
+    if is_free job.state
+    then replies (with_jobs s (altered id (reserved_job x (s.now + job.ttr)) s.jobs)) (Reply.Reserved id job.body)
+    else replies s Reply.NotFound
+
+-- session x gets a job that nobody has, whatever its tube (protocol.txt of beanstalkd, "reserve-job")
+unfoldable pub reserve_job_row : QueueState → ℕ → ℕ → Row
+reserve_job_row s x id = reserve_found s x id (value_at id s.jobs)
+
 -- the job that was looked for
 abbrev pub shown : Option (ℕ × Job) → Reply
 shown None = Reply.NotFound
@@ -229,6 +246,15 @@ pause_row s tube seconds =
     then replies (record s { pauses = (paused_for tube seconds (pauses_of s)).pauses }) Reply.Paused
     else replies s Reply.NotFound
 
+-- the report of the job that there may be
+abbrev pub reported : ℕ → ℕ → Option Job → Reply
+reported now id None = Reply.NotFound
+reported now id (Some job) = Reply.Data (job_report now id job)
+
+-- what has happened to a job is told (protocol.txt of beanstalkd, "stats-job")
+unfoldable pub stats_job_row : QueueState → ℕ → Row
+stats_job_row s id = replies s (reported s.now id (value_at id s.jobs))
+
 -- what an operation under this key does
 unfoldable pub row : Op → Key → QueueState → Row
 row (Op.Put pri delay ttr body) key s = put_row s key.session pri delay ttr body
@@ -242,6 +268,7 @@ row (Op.Release id pri delay) key s = release_row s key.session id pri delay
 row (Op.Bury id pri) key s = bury_row s key.session id pri
 row (Op.Kick bound) key s = kick_row s key.session bound
 row (Op.KickJob id) key s = kick_job_row s id
+row (Op.ReserveJob id) key s = reserve_job_row s key.session id
 row (Op.Peek id) key s = peek_row s (at_id id s.jobs)
 row Op.PeekReady key s = peek_row s (first_ready (used_by s key.session) s.jobs)
 row Op.PeekDelayed key s = peek_row s (first_delayed (used_by s key.session) s.jobs)
@@ -250,3 +277,4 @@ row Op.ListTubes key s = replies s (Reply.Tubes (all_tubes s))
 row Op.ListTubeUsed key s = replies s (Reply.Using (used_by s key.session))
 row Op.ListTubesWatched key s = replies s (Reply.Tubes (watched_by s key.session))
 row (Op.Pause tube seconds) key s = pause_row s tube seconds
+row (Op.StatsJob id) key s = stats_job_row s id

@@ -7,6 +7,7 @@ use Rattle.object.specs.declared.command.Act.{Act}
 use Rattle.object.specs.declared.command.Answer.{Answer}
 use Rattle.object.specs.declared.command.Command.{Command}
 use Rattle.object.specs.declared.command.Key.{Key}
+use Rattle.job_store.specs.declared.job.Job.{Job}
 use Rattle.job_store.specs.Entries.{value_at}
 use Rattle.job_store.specs.LookUps.{is_among}
 use Rattle.job_store.specs.States.{is_held}
@@ -22,7 +23,7 @@ use Rattle.bean_queue.specs.Turns.{QueueOutcome, QueueTurn, stop, turns, all_tur
 use Rattle.bean_queue.specs.Turns.{serve_turn, deadline_turn, timeout_turn, serve}
 use Rattle.bean_queue.specs.Rows.{is_idle, Row, row, put_row, use_row, watch_row, ignore_row, reserve_row, delete_row}
 use Rattle.bean_queue.specs.Rows.{may_delete, is_job_that, release_row, touch_row, bury_row, kick_row, kick_job_row}
-use Rattle.bean_queue.specs.Rows.{peek_row, all_tubes, pause_row}
+use Rattle.bean_queue.specs.Rows.{is_free, reserve_found, reserve_job_row, peek_row, all_tubes, pause_row, stats_job_row}
 use Rattle.bean_queue.specs.Effects.{own, called, ends_wait, is_zero, turned_away, then_do, has_no_number, carried_out}
 use Rattle.bean_queue.specs.Effects.{do_effect, released, close_effect, at_second, tick_effect, act_effect, effect}
 use Rattle.bean_queue.specs.Waits.{Waits, AreApart, IsLawful}
@@ -147,8 +148,13 @@ still_if key s false r q h k = k
 same : (key : Key) (s : QueueState) (r : Row) → r.state.sessions ≡ s.sessions → RowWaits key s r
 same key s r e = RowWaits.still (λ k h. subst (λ ss. WaitsIn ss k) e h)
 
+found-waits : (key : Key) (s : QueueState) (j : ℕ) (o : Option Job) → RowWaits key s (reserve_found s key.session j o)
+found-waits key s j None = same key s _ refl
+found-waits key s j (Some job) = still_if key s (is_free job.state) _ _ (same key s _ refl) (same key s _ refl)
+
 row-waits : (op : Op) (key : Key) (s : QueueState) → RowWaits key s (row op key s)
-unfolding row put_row use_row watch_row ignore_row reserve_row delete_row release_row touch_row bury_row kick_row kick_job_row peek_row pause_row
+unfolding row put_row use_row watch_row ignore_row reserve_row delete_row release_row touch_row bury_row kick_row kick_job_row
+    reserve_job_row peek_row pause_row stats_job_row
 row-waits (Op.Put pri delay ttr body) key s = same key s _ refl
 row-waits (Op.Use tube) key s = RowWaits.still (λ k h. altered-waits key.session _ s.sessions k (λ c. refl) h)
 row-waits (Op.Watch tube) key s = RowWaits.still (λ k h. altered-waits key.session _ s.sessions k (λ c. refl) h)
@@ -164,6 +170,7 @@ row-waits (Op.Bury j pri) key s =
 row-waits (Op.Touch j) key s = still_if key s (is_job_that (is_held key.session) (value_at j s.jobs)) _ _ (same key s _ refl) (same key s _ refl)
 row-waits (Op.Kick bound) key s = same key s _ refl
 row-waits (Op.KickJob j) key s = still_if key s (is_job_that is_idle (value_at j s.jobs)) _ _ (same key s _ refl) (same key s _ refl)
+row-waits (Op.ReserveJob j) key s = found-waits key s j (value_at j s.jobs)
 row-waits (Op.Peek j) key s = same key s _ refl
 row-waits Op.PeekReady key s = same key s _ refl
 row-waits Op.PeekDelayed key s = same key s _ refl
@@ -172,6 +179,7 @@ row-waits Op.ListTubes key s = same key s _ refl
 row-waits Op.ListTubeUsed key s = same key s _ refl
 row-waits Op.ListTubesWatched key s = same key s _ refl
 row-waits (Op.Pause tube seconds) key s = still_if key s (is_among tube (all_tubes s)) _ _ (same key s _ refl) (same key s _ refl)
+row-waits (Op.StatsJob j) key s = same key s _ refl
 
 ends_wait-dealt : (s : QueueState) (key : Key) (reply : Reply) → Waits s key → IsDealt s (ends_wait s key reply)
 ends_wait-dealt s key reply h =

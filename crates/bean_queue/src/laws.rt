@@ -1,4 +1,4 @@
-ghost use Rattle.std.specs.Prelude.{◌≡◌, ◌<◌, ◌↔◌, ℕ, List, length, map, min, None, Some, true};
+ghost use Rattle.std.specs.Prelude.{◌≡◌, ◌<◌, ◌↔◌, ℕ, List, length, map, min, None, Some, true, false};
 ghost use Rattle.std.specs.Ordering.{nat_cmp};
 ghost use Rattle.std.specs.Cmp.Lexicographic.{slice_cmp};
 ghost use Rattle.std.specs.List.Sorted.{IsStrictlySortedBy};
@@ -13,7 +13,7 @@ ghost use Rattle.job_store.specs.LookUps.{best_ready, not_paused};
 ghost use Rattle.bean_queue.specs.Best.{IsBestTurn};
 ghost use Rattle.bean_queue.specs.declared.reply.Reply.{Reply};
 ghost use Rattle.bean_queue.specs.Effects.{tick_effect, effect};
-ghost use Rattle.bean_queue.specs.Forgetful.{without_histories};
+ghost use Rattle.bean_queue.specs.Forgetful.{without_histories, asks_for_report};
 ghost use Rattle.bean_queue.specs.Owed.{OwesNothing};
 ghost use Rattle.bean_queue.specs.Queue.{QueueState, paused_tubes, HasRisingIds, fresh, used_by, with_jobs};
 ghost use Rattle.bean_queue.specs.Kicking.{after_kick};
@@ -82,10 +82,11 @@ pub fn tubes_are_listed_once()
     ensures exact { (s : QueueState) (tube : List ℕ) → In tube (all_tubes s) ↔ IsTube s tube }
 {}
 
-/// No answer depends on what has happened to a job: where the jobs of two states are the same but for their histories, a
-/// command gives the same answers, and the states after it are again the same but for histories.
+/// No answer depends on what has happened to a job, but for that of a report: where the jobs of two states are the same
+/// but for their histories, any other command gives the same answers. The states after a command, a report too, are again
+/// the same but for histories.
 pub fn histories_change_no_answer()
-    ensures answers { (c : Command Op) (s t : QueueState) →
+    ensures answers { (c : Command Op) (s t : QueueState) → asks_for_report c.act ≡ false →
         without_histories s ≡ without_histories t → (effect c s).answers ≡ (effect c t).answers }
     ensures state { (c : Command Op) (s t : QueueState) →
         without_histories s ≡ without_histories t →

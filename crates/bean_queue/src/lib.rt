@@ -4,6 +4,7 @@
 mod counters;
 mod deadlines;
 mod job_draft;
+mod job_report;
 mod laws;
 mod logic;
 mod look_up;
@@ -11,6 +12,7 @@ mod op;
 mod queue;
 mod ready_again;
 mod reply;
+mod report;
 mod scan_jobs;
 mod waiting;
 

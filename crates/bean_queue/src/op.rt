@@ -42,6 +42,8 @@ pub enum Op {
     Kick(u32),
     /// The job with this id is ready again, if it is buried or delayed.
     KickJob(u64),
+    /// The job with this id, whatever its tube, unless a session has it.
+    ReserveJob(u64),
     /// The job with this id.
     Peek(u64),
     /// The next ready job of the used tube.
@@ -61,6 +63,8 @@ pub enum Op {
         tube: Name,
         seconds: u32,
     },
+    /// What has happened to the job with this id.
+    StatsJob(u64),
 }
 
 impl Op {
@@ -84,13 +88,15 @@ impl Op {
             | Op::Delete(_)
             | Op::Touch(_)
             | Op::Bury { .. }
+            | Op::ReserveJob(_)
             | Op::Peek(_)
             | Op::PeekReady
             | Op::PeekDelayed
             | Op::PeekBuried
             | Op::ListTubes
             | Op::ListTubeUsed
-            | Op::ListTubesWatched => true,
+            | Op::ListTubesWatched
+            | Op::StatsJob(_) => true,
         }
     }
 }
@@ -98,8 +104,34 @@ impl Op {
 impl Value for Op {
     ghost use Rattle.std.proofs.Common.{rules};
     ghost use Rattle.std.proofs.lemmas.Grind.{common_steps};
+    ghost use Rattle.std.specs.Prelude.{◌≡◌, true};
+    ghost use Rattle.bean_queue.specs.contracts.op.OpPartialEq.TheImpl as of_op;
+    ghost use Rattle.bean_queue.specs.declared.op.Op.{Op};
 
-    ghost exact = { Prim.grind (rules, common_steps) };
+    // Each kind of operation is compared with all by itself: together they have too many cases.
+    ghost exact = { λ x. elim x as (λ x. (y : Op) → of_op.ghosts.eq x y ≡ true → x ≡ y) [
+      | Op.Put pri delay ttr body ↦ Prim.grind (rules, common_steps)
+      | Op.Use tube ↦ Prim.grind (rules, common_steps)
+      | Op.Watch tube ↦ Prim.grind (rules, common_steps)
+      | Op.Ignore tube ↦ Prim.grind (rules, common_steps)
+      | Op.Reserve seconds ↦ Prim.grind (rules, common_steps)
+      | Op.Delete id ↦ Prim.grind (rules, common_steps)
+      | Op.Touch id ↦ Prim.grind (rules, common_steps)
+      | Op.Release id pri delay ↦ Prim.grind (rules, common_steps)
+      | Op.Bury id pri ↦ Prim.grind (rules, common_steps)
+      | Op.Kick bound ↦ Prim.grind (rules, common_steps)
+      | Op.KickJob id ↦ Prim.grind (rules, common_steps)
+      | Op.ReserveJob id ↦ Prim.grind (rules, common_steps)
+      | Op.Peek id ↦ Prim.grind (rules, common_steps)
+      | Op.PeekReady ↦ Prim.grind (rules, common_steps)
+      | Op.PeekDelayed ↦ Prim.grind (rules, common_steps)
+      | Op.PeekBuried ↦ Prim.grind (rules, common_steps)
+      | Op.ListTubes ↦ Prim.grind (rules, common_steps)
+      | Op.ListTubeUsed ↦ Prim.grind (rules, common_steps)
+      | Op.ListTubesWatched ↦ Prim.grind (rules, common_steps)
+      | Op.Pause tube seconds ↦ Prim.grind (rules, common_steps)
+      | Op.StatsJob id ↦ Prim.grind (rules, common_steps)
+    ] };
 
     fn copy(&self) -> Result<Self, AllocError> {
         Ok(match self {
@@ -128,6 +160,7 @@ impl Value for Op {
             Op::Bury { id, pri } => Op::Bury { id: *id, pri: *pri },
             Op::Kick(bound) => Op::Kick(*bound),
             Op::KickJob(id) => Op::KickJob(*id),
+            Op::ReserveJob(id) => Op::ReserveJob(*id),
             Op::Peek(id) => Op::Peek(*id),
             Op::PeekReady => Op::PeekReady,
             Op::PeekDelayed => Op::PeekDelayed,
@@ -139,6 +172,7 @@ impl Value for Op {
                 tube: tube.copy()?,
                 seconds: *seconds,
             },
+            Op::StatsJob(id) => Op::StatsJob(*id),
         })
     }
 }

@@ -33,6 +33,8 @@ pub enum Reply {
     Found { id: u64, body: Body },
     /// The names of tubes.
     Tubes(Names),
+    /// A report: the bytes of its text.
+    Data(Body),
     /// The tube is paused, or no longer.
     Paused,
     /// The queue has no number left to give.
@@ -72,6 +74,7 @@ impl Value for Reply {
                 body: body.copy()?,
             },
             Reply::Tubes(names) => Reply::Tubes(names.copy()?),
+            Reply::Data(text) => Reply::Data(text.copy()?),
             Reply::Paused => Reply::Paused,
             Reply::InternalError => Reply::InternalError,
         })

@@ -11,8 +11,8 @@ use Rattle.pause_store.specs.Pauses.{left_at}
 use Rattle.bean_queue.specs.declared.op.Op.{Op}
 use Rattle.bean_queue.specs.declared.reply.Reply.{Reply}
 use Rattle.bean_queue.specs.Queue.{QueueState, with_jobs, with_sessions}
-use Rattle.bean_queue.specs.Forgetful.{without_history, without_histories}
-use Rattle.bean_queue.specs.Rows.{row}
+use Rattle.bean_queue.specs.Forgetful.{without_history, without_histories, is_report, asks_for_report}
+use Rattle.bean_queue.specs.Rows.{row, stats_job_row}
 use Rattle.bean_queue.specs.Turns.{QueueOutcome, stop, all_turns, serve, deadline_turn, timeout_turn}
 use Rattle.bean_queue.specs.Effects.{then_do, own, own_outcome, called, ends_wait, is_zero, turned_away, has_no_number, carried_out, do_effect}
 use Rattle.bean_queue.specs.Effects.{change_if, released, forgotten, close_effect, at_second, tick_effect, act_effect, effect}
@@ -39,10 +39,10 @@ outcome_if b c o p q r e h k =
 
 -- An operation
 
-own-respects : (op : Op) (key : Key) → Respects (λ s. own_outcome key (row op key (called key.session s)))
-own-respects op key =
+own-respects : (op : Op) (key : Key) → is_report op ≡ false → Respects (λ s. own_outcome key (row op key (called key.session s)))
+own-respects op key plain =
     respects-from (λ s. own_outcome key (row op key (called key.session s)))
-    (λ s. let r = row-blind op key (called key.session s) in record { answers = ap (own key) r.reply; state = r.state })
+    (λ s. let r = row-blind op key (called key.session s) plain in record { answers = ap (own key) r.reply; state = r.state })
 
 stop-blind : (s : QueueState) → SameOutcome (stop (without_histories s)) (stop s)
 stop-blind s = record { answers = refl; state = ap (with_jobs s) (blanks-twice s.jobs) }
@@ -62,11 +62,11 @@ turned_away-blind (Op.Reserve seconds) key s =
     (stop-blind s)
 turned_away-blind _ key s = stop-blind s
 
-carried_out-respects : (op : Op) (key : Key) → Respects (carried_out op key)
+carried_out-respects : (op : Op) (key : Key) → is_report op ≡ false → Respects (carried_out op key)
 unfolding carried_out
-carried_out-respects op key =
+carried_out-respects op key plain =
     then-respects (λ s. then_do (own_outcome key (row op key (called key.session s))) serve) (turned_away op key)
-    (then-respects (λ s. own_outcome key (row op key (called key.session s))) serve (own-respects op key) serve-respects)
+    (then-respects (λ s. own_outcome key (row op key (called key.session s))) serve (own-respects op key plain) serve-respects)
     (respects-from (turned_away op key) (turned_away-blind op key))
 
 no_number-blind : (op : Op) (s : QueueState) → has_no_number op (without_histories s) ≡ has_no_number op s
@@ -75,13 +75,19 @@ no_number-blind (Op.Reserve seconds) s = refl
 no_number-blind (Op.Bury id pri) s = refl
 no_number-blind _ s = refl
 
-do-respects : (op : Op) (key : Key) → Respects (do_effect op key)
+do-respects : (op : Op) (key : Key) → is_report op ≡ false → Respects (do_effect op key)
 unfolding do_effect
-do-respects op key s t e =
+do-respects op key plain s t e =
     outcome_if (has_no_number op s) (has_no_number op t) _ _ _ _
     (sym (no_number-blind op s) ∙ ap (has_no_number op) e ∙ no_number-blind op t)
     (respects-from (λ u. ends_wait u key Reply.InternalError) (λ u. ends_wait-blind u key Reply.InternalError) s t e)
-    (carried_out-respects op key s t e)
+    (carried_out-respects op key plain s t e)
+
+-- a report leaves the state that listing the used tube leaves
+report-state : (op : Op) (key : Key) (s : QueueState) → is_report op ≡ true → (do_effect op key s).state ≡ (do_effect Op.ListTubeUsed key s).state
+unfolding do_effect carried_out row stats_job_row turned_away
+report-state (Op.StatsJob id) key s report = refl
+report-state _ key s report = cc
 
 -- The end of a session
 
@@ -126,11 +132,28 @@ tick-respects second s t e =
     timeouts-respect (at_second second s) (at_second second t) (second-respects second s t e).state)
     (record { answers = refl; state = e })
 
-pub effect-respects : (c : Command Op) → Respects (effect c)
+pub effect-respects : (c : Command Op) → asks_for_report c.act ≡ false → Respects (effect c)
 unfolding effect act_effect
-effect-respects c =
-    elim c.act as (λ act. Respects (act_effect act c.key)) [
+effect-respects c plain =
+    elim c.act as (λ act. asks_for_report act ≡ false → Respects (act_effect act c.key)) [
       | Act.Do op ↦ do-respects op c.key
-      | Act.Close ↦ close-respects c.key.session
-      | Act.Tick ↦ tick-respects c.key.number
+      | Act.Close ↦ λ plain. close-respects c.key.session
+      | Act.Tick ↦ λ plain. tick-respects c.key.number
+    ] plain
+
+-- the state after a command is the same but for histories, also where it asks for one
+pub effect-state : (c : Command Op) (s t : QueueState) → without_histories s ≡ without_histories t
+    → without_histories (effect c s).state ≡ without_histories (effect c t).state
+unfolding effect act_effect
+effect-state c s t e =
+    elim c.act as (λ act. without_histories (act_effect act c.key s).state ≡ without_histories (act_effect act c.key t).state) [
+      | Act.Do op ↦
+          elim (is_report op) as (λ b. is_report op ≡ b → without_histories (do_effect op c.key s).state ≡ without_histories (do_effect op c.key t).state) [
+            | true ↦ λ report.
+                ap without_histories (report-state op c.key s report) ∙ (do-respects Op.ListTubeUsed c.key refl s t e).state ∙
+                ap without_histories (sym (report-state op c.key t report))
+            | false ↦ λ plain. (do-respects op c.key plain s t e).state
+          ] refl
+      | Act.Close ↦ (close-respects c.key.session s t e).state
+      | Act.Tick ↦ (tick-respects c.key.number s t e).state
     ]

@@ -6,7 +6,7 @@ use Rattle.job_store.specs.declared.job.Job.{Job}
 use Rattle.job_store.specs.declared.state.State.{State}
 use Rattle.job_store.specs.Entries.{value_at, altered}
 use Rattle.job_store.specs.EntryLaws.{value_at-each}
-use Rattle.job_store.specs.States.{is_held, with_state, released_job, buried_job, kicked_job}
+use Rattle.job_store.specs.States.{is_held, with_state, reserved_job, released_job, buried_job, kicked_job}
 use Rattle.job_store.specs.LookUps.{is_among, ready_in, delayed_in, buried_in, first_ready, first_delayed, first_buried}
 use Rattle.job_store.specs.LookUps.{pri_of_job, due_of_job, rank_of_job}
 use Rattle.session_store.specs.WatchLists.{joined, left_out}
@@ -14,11 +14,11 @@ use Rattle.pause_store.specs.Pauses.{paused_for}
 use Rattle.bean_queue.specs.declared.op.Op.{Op}
 use Rattle.bean_queue.specs.declared.reply.Reply.{Reply}
 use Rattle.bean_queue.specs.Queue.{QueueState, with_jobs, pauses_of, used_by}
-use Rattle.bean_queue.specs.Forgetful.{without_history, without_histories}
+use Rattle.bean_queue.specs.Forgetful.{without_history, without_histories, is_report}
 use Rattle.bean_queue.specs.Rows.{Row, replies, with_session, row, put_job, put_row, use_row, watch_row, ignore_row, waiting}
 use Rattle.bean_queue.specs.Rows.{reserve_row, is_job_that, may_delete, delete_row, held_row, ready_after, release_row, touch_row}
 use Rattle.bean_queue.specs.Rows.{bury_row, Kicked, kicked_option, kicked, kick_by, kick_row, is_idle, kick_job_row, shown}
-use Rattle.bean_queue.specs.Rows.{at_id, peek_row, in_order, all_tubes, pause_row}
+use Rattle.bean_queue.specs.Rows.{is_free, reserve_found, reserve_job_row, at_id, peek_row, in_order, all_tubes, pause_row}
 use Rattle.bean_queue.proofs.blind.Jobs.{blank, blanks, IsBlind, blanks-twice, altered-blind, without-blind, insert-blind, least-blind, tubes-blind}
 
 -- the replies are the same, and the states but for histories
@@ -132,46 +132,61 @@ all_tubes-blind : (s : QueueState) → all_tubes (without_histories s) ≡ all_t
 unfolding all_tubes
 all_tubes-blind s = ap (λ tubes. in_order (codes "default" ∷ tubes ++ flat_map (λ e. e.1.used ∷ e.1.watched) s.sessions)) (tubes-blind s.jobs)
 
-pub row-blind : (op : Op) (key : Key) (s : QueueState) → SameRow (row op key (without_histories s)) (row op key s)
-unfolding row put_row use_row watch_row ignore_row reserve_row delete_row release_row touch_row bury_row kick_job_row pause_row
-row-blind (Op.Put pri delay ttr body) key s = record {
+found-blind : (s : QueueState) (x id : ℕ) → SameRow (reserve_found (without_histories s) x id (value_at id (blanks s.jobs)))
+    (reserve_found s x id (value_at id s.jobs))
+found-blind s x id =
+    subst (λ o. SameRow (reserve_found (without_histories s) x id o) (reserve_found s x id (value_at id s.jobs)))
+    (sym (value_at-each without_history id s.jobs))
+    (elim (value_at id s.jobs) as (λ o. SameRow (reserve_found (without_histories s) x id (option_map without_history o)) (reserve_found s x id o)) [
+      | None ↦ same_reply s Reply.NotFound Reply.NotFound refl
+      | Some job ↦
+          same_if (is_free job.state) (is_free job.state) _ _ _ _ refl
+          (record { reply = refl; state = ap (with_jobs s) (altered-blind id (reserved_job x (s.now + job.ttr)) s.jobs (λ job. refl)) })
+          (same_reply s Reply.NotFound Reply.NotFound refl)
+    ])
+
+pub row-blind : (op : Op) (key : Key) (s : QueueState) → is_report op ≡ false → SameRow (row op key (without_histories s)) (row op key s)
+unfolding row put_row use_row watch_row ignore_row reserve_row delete_row release_row touch_row bury_row kick_job_row reserve_job_row pause_row
+row-blind (Op.Put pri delay ttr body) key s plain = record {
   reply = refl;
   state = ap (with_jobs (record s { next_id = s.next_id + 1 })) (insert-blind s.next_id (put_job s key.session pri delay ttr body) s.jobs);
 }
-row-blind (Op.Use tube) key s = same_jobs (with_session s key.session (λ c. record c { used = tube })) _
-row-blind (Op.Watch tube) key s = same_jobs (with_session s key.session (λ c. record c { watched = joined tube c.watched })) _
-row-blind (Op.Ignore tube) key s =
+row-blind (Op.Use tube) key s plain = same_jobs (with_session s key.session (λ c. record c { used = tube })) _
+row-blind (Op.Watch tube) key s plain = same_jobs (with_session s key.session (λ c. record c { watched = joined tube c.watched })) _
+row-blind (Op.Ignore tube) key s plain =
     same_if _ _ _ _ _ _ refl (same_reply s Reply.NotIgnored Reply.NotIgnored refl)
     (same_jobs (with_session s key.session (λ c. record c { watched = left_out tube c.watched })) _)
-row-blind (Op.Reserve seconds) key s = same_jobs (waiting s key.session key.number seconds) None
-row-blind (Op.Delete id) key s =
+row-blind (Op.Reserve seconds) key s plain = same_jobs (waiting s key.session key.number seconds) None
+row-blind (Op.Delete id) key s plain =
     same_if _ _ _ _ _ _ (asked-blind (may_delete key.session) id s.jobs)
     (record { reply = refl; state = ap (with_jobs s) (without-blind id s.jobs) })
     (same_reply s Reply.NotFound Reply.NotFound refl)
-row-blind (Op.Touch id) key s =
+row-blind (Op.Touch id) key s plain =
     held-blind s key.session id (λ job. with_state (State.Reserved key.session (s.now + job.ttr)) job) Reply.Touched (λ job. refl)
-row-blind (Op.Release id pri delay) key s =
+row-blind (Op.Release id pri delay) key s plain =
     held-blind s key.session id (released_job pri delay (ready_after s.now delay)) Reply.Released (λ job. refl)
-row-blind (Op.Bury id pri) key s =
+row-blind (Op.Bury id pri) key s plain =
     same_if _ _ _ _ _ _ (asked-blind (is_held key.session) id s.jobs)
     (record {
       reply = refl;
       state = ap (with_jobs (record s { next_rank = s.next_rank + 1 })) (altered-blind id (buried_job pri s.next_rank) s.jobs (λ job. refl));
     })
     (same_reply s Reply.NotFound Reply.NotFound refl)
-row-blind (Op.Kick bound) key s = kick-blind s key.session bound
-row-blind (Op.KickJob id) key s =
+row-blind (Op.Kick bound) key s plain = kick-blind s key.session bound
+row-blind (Op.KickJob id) key s plain =
     same_if _ _ _ _ _ _ (asked-blind is_idle id s.jobs)
     (record { reply = refl; state = ap (with_jobs s) (altered-blind id kicked_job s.jobs (λ job. refl)) })
     (same_reply s Reply.NotFound Reply.NotFound refl)
-row-blind (Op.Peek id) key s = peek-blind (at_id id) s (at_id-blind id)
-row-blind Op.PeekReady key s = peek-blind (first_ready (used_by s key.session)) s (first_ready-blind (used_by s key.session))
-row-blind Op.PeekDelayed key s = peek-blind (first_delayed (used_by s key.session)) s (first_delayed-blind (used_by s key.session))
-row-blind Op.PeekBuried key s = peek-blind (first_buried (used_by s key.session)) s (first_buried-blind (used_by s key.session))
-row-blind Op.ListTubes key s = same_reply s _ _ (ap Reply.Tubes (all_tubes-blind s))
-row-blind Op.ListTubeUsed key s = same_reply s _ _ refl
-row-blind Op.ListTubesWatched key s = same_reply s _ _ refl
-row-blind (Op.Pause tube seconds) key s =
+row-blind (Op.ReserveJob id) key s plain = found-blind s key.session id
+row-blind (Op.Peek id) key s plain = peek-blind (at_id id) s (at_id-blind id)
+row-blind Op.PeekReady key s plain = peek-blind (first_ready (used_by s key.session)) s (first_ready-blind (used_by s key.session))
+row-blind Op.PeekDelayed key s plain = peek-blind (first_delayed (used_by s key.session)) s (first_delayed-blind (used_by s key.session))
+row-blind Op.PeekBuried key s plain = peek-blind (first_buried (used_by s key.session)) s (first_buried-blind (used_by s key.session))
+row-blind Op.ListTubes key s plain = same_reply s _ _ (ap Reply.Tubes (all_tubes-blind s))
+row-blind Op.ListTubeUsed key s plain = same_reply s _ _ refl
+row-blind Op.ListTubesWatched key s plain = same_reply s _ _ refl
+row-blind (Op.Pause tube seconds) key s plain =
     same_if _ _ _ _ _ _ (ap (is_among tube) (all_tubes-blind s))
     (same_jobs (record s { pauses = (paused_for tube seconds (pauses_of s)).pauses }) _)
     (same_reply s Reply.NotFound Reply.NotFound refl)
+row-blind (Op.StatsJob id) key s plain = cc

@@ -23,7 +23,7 @@ use Rattle.bean_queue.specs.declared.reply.Reply.{Reply}
 use Rattle.bean_queue.specs.Queue.{QueueState, paused_tubes, with_sessions, fresh, watched_by, holds_by}
 use Rattle.bean_queue.specs.Rows.{Row, row, put_row, use_row, watch_row, ignore_row, reserve_row, delete_row}
 use Rattle.bean_queue.specs.Rows.{may_delete, is_job_that, release_row, touch_row, bury_row, kick_row, kick_job_row}
-use Rattle.bean_queue.specs.Rows.{peek_row}
+use Rattle.bean_queue.specs.Rows.{is_free, reserve_found, reserve_job_row, peek_row, stats_job_row}
 use Rattle.bean_queue.specs.Turns.{QueueOutcome, after_option, QueueTurn, stop, all_turns, wanted, give, serve_turn}
 use Rattle.bean_queue.specs.Turns.{told_turn, deadline_turn, timeout_turn, serve}
 use Rattle.bean_queue.specs.Effects.{own, own_outcome, then_do, called, ends_wait, is_zero, turned_away, has_no_number}
@@ -146,7 +146,8 @@ calmer_if s true r q h k = h
 calmer_if s false r q h k = k
 
 quiet-row : (op : Op) (key : Key) (s : QueueState) → is_quiet op ≡ true → IsCalmer (called key.session s) (row op key (called key.session s)).state
-unfolding row put_row use_row watch_row ignore_row reserve_row delete_row release_row touch_row bury_row kick_row kick_job_row peek_row
+unfolding row put_row use_row watch_row ignore_row reserve_row delete_row release_row touch_row bury_row kick_row kick_job_row
+    reserve_job_row peek_row stats_job_row
 quiet-row (Op.Put pri delay ttr body) key s q = cc
 quiet-row (Op.Use tube) key s q =
     record {
@@ -185,6 +186,13 @@ quiet-row (Op.Bury id pri) key s q =
     (record { jobs = changed-calmer id _ s.jobs (λ job. refl); sessions = λ w i t. i; pauses = λ tube p. p }) (same-calmer (called key.session s))
 quiet-row (Op.Kick bound) key s q = cc
 quiet-row (Op.KickJob id) key s q = cc
+quiet-row (Op.ReserveJob id) key s q =
+    elim (value_at id s.jobs) as (λ o. IsCalmer (called key.session s) (reserve_found (called key.session s) key.session id o).state) [
+      | None ↦ same-calmer (called key.session s)
+      | Some job ↦
+          calmer_if (called key.session s) (is_free job.state) _ _
+          (record { jobs = changed-calmer id _ s.jobs (λ job. refl); sessions = λ w i t. i; pauses = λ tube p. p }) (same-calmer (called key.session s))
+    ]
 quiet-row (Op.Peek id) key s q = same-calmer (called key.session s)
 quiet-row Op.PeekReady key s q = same-calmer (called key.session s)
 quiet-row Op.PeekDelayed key s q = same-calmer (called key.session s)
@@ -193,6 +201,7 @@ quiet-row Op.ListTubes key s q = same-calmer (called key.session s)
 quiet-row Op.ListTubeUsed key s q = same-calmer (called key.session s)
 quiet-row Op.ListTubesWatched key s q = same-calmer (called key.session s)
 quiet-row (Op.Pause tube seconds) key s q = cc
+quiet-row (Op.StatsJob id) key s q = same-calmer (called key.session s)
 
 pub called-calm : (x : ℕ) (s : QueueState) → serve_turn s ≡ None → serve_turn (called x s) ≡ None
 called-calm x s none = calm s (called x s) none (record { jobs = λ j i t. i; sessions = known-calmer x s.sessions; pauses = λ tube p. p })

@@ -216,6 +216,7 @@ row-covers (Op.Ignore tube) key s q wakes none ids numbers = cc
 row-covers (Op.Delete id) key s q wakes none ids numbers = cc
 row-covers (Op.Touch id) key s q wakes none ids numbers = cc
 row-covers (Op.Bury id pri) key s q wakes none ids numbers = cc
+row-covers (Op.ReserveJob id) key s q wakes none ids numbers = cc
 row-covers (Op.Peek id) key s q wakes none ids numbers = cc
 row-covers Op.PeekReady key s q wakes none ids numbers = cc
 row-covers Op.PeekDelayed key s q wakes none ids numbers = cc
@@ -227,6 +228,7 @@ row-covers (Op.Pause tube seconds) key s q wakes none ids numbers =
     covers_if (tube ∷ []) (is_among tube (all_tubes s)) _ _
     (covers-new (tube ∷ []) s _ none (λ w i t. i) (paused-opens tube seconds s) (none-woken (tube ∷ []) s.jobs))
     (covers-nothing (tube ∷ []) s none)
+row-covers (Op.StatsJob id) key s q wakes none ids numbers = cc
 
 -- after such an operation
 pub covers-waking : (op : Op) (key : Key) (s t : QueueState) (tubes : List (List ℕ)) → is_quiet op ≡ false

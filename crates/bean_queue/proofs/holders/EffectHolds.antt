@@ -15,7 +15,7 @@ use Rattle.session_store.specs.Sessions.{session_of, is_waiting}
 use Rattle.bean_queue.specs.declared.op.Op.{Op}
 use Rattle.bean_queue.specs.declared.reply.Reply.{Reply}
 use Rattle.bean_queue.specs.Queue.{QueueState, holds_by, HasRisingIds}
-use Rattle.bean_queue.specs.Rows.{row}
+use Rattle.bean_queue.specs.Rows.{Row, row}
 use Rattle.bean_queue.specs.Turns.{QueueOutcome, stop, serve, all_turns, deadline_turn, timeout_turn}
 use Rattle.bean_queue.specs.Effects.{own, called, ends_wait, is_zero, turned_away, then_do, own_outcome, has_no_number}
 use Rattle.bean_queue.specs.Effects.{carried_out, do_effect, released, close_effect, at_second, tick_effect, act_effect}
@@ -26,7 +26,7 @@ use Rattle.bean_queue.proofs.holders.Held.{Held, Held-each, KeepsHold, IsQuiet, 
 use Rattle.bean_queue.proofs.holders.Held.{handing_out-append, sound-along, aside-keeps, serve-keeps, deadlines-aside}
 use Rattle.bean_queue.proofs.holders.Held.{timeouts-aside}
 use Rattle.bean_queue.proofs.holders.Given.{Gave, GivesOnce, serve-gives}
-use Rattle.bean_queue.proofs.holders.RowHolds.{row-ok, EndsHold, HoldAfter, row-holds}
+use Rattle.bean_queue.proofs.holders.RowHolds.{IsRowOk, row-ok, holder-quiet, EndsHold, HoldAfter, row-holds}
 
 aside-stop : (s : QueueState) → IsAside s (stop s)
 aside-stop s = record { jobs = refl; at = refl; next = refl; quiet = λ id. refl }
@@ -86,14 +86,45 @@ gives-then id now o f g a =
           ];
     }
 
+-- then waiting sessions are served
+gives-serve : (id now : ℕ) (o : QueueOutcome) → GivesOnce id now o → GivesOnce id now (then_do o serve)
+gives-serve id now o g =
+    elim g.given as (λ v. GivesOnce id now (then_do o serve)) [
+      | inl quiet ↦ gives-after id now o.answers (serve o.state) quiet (subst (λ n. GivesOnce id n (serve o.state)) g.at (serve-gives id o.state g.sound))
+      | inr gave ↦
+          let k = serve-keeps gave.answer.to.session id gave.ttr now now o.state (record { sound = g.sound; held = gave.held; at = g.at }) in
+          record {
+            sound = k.keeps.sound;
+            at = k.keeps.at;
+            given = inr (record {
+              answer = gave.answer;
+              ttr = gave.ttr;
+              only =
+                  handing_out-append id o.answers (serve o.state).answers ∙
+                  ap (λ zs. handing_out id o.answers ++ zs) k.quiet ∙ append-nil (handing_out id o.answers) ∙ gave.only;
+              held = k.keeps.held;
+            });
+          }
+    ]
+
+-- what a row gives
+row-gives : (id : ℕ) (key : Key) (s : QueueState) (r : Row) → IsRowOk s key r → GivesOnce id s.now (own_outcome key r)
+row-gives id key s r ok = record {
+  sound = ok.sound;
+  at = ok.at;
+  given =
+      elim (ok.given id) as (λ v. IsQuiet id (own key r.reply) ⊎ Gave id s.now (own_outcome key r)) [
+        | inl quiet ↦ inl quiet
+        | inr gives ↦ inr (record { answer = record { to = key; reply = gives.reply }; ttr = gives.ttr; only = gives.only; held = gives.held })
+      ];
+}
+
 carried_out-gives : (id : ℕ) (op : Op) (key : Key) (s : QueueState) → HasRisingIds s → GivesOnce id s.now (carried_out op key s)
 unfolding carried_out
 carried_out-gives id op key s sound =
-    let ok = row-ok op key (called key.session s) sound in
     let r = row op key (called key.session s) in
     gives-then id s.now (then_do (own_outcome key r) serve) (turned_away op key)
-    (gives-after id s.now (own key r.reply) (serve r.state) (ok.quiet id)
-    (subst (λ n. GivesOnce id n (serve r.state)) ok.at (serve-gives id r.state ok.sound)))
+    (gives-serve id s.now (own_outcome key r) (row-gives id key (called key.session s) r (row-ok op key (called key.session s) sound)))
     (turned_away-aside op key (serve r.state).state)
 
 pub do-gives : (id : ℕ) (op : Op) (key : Key) (s : QueueState) → HasRisingIds s → GivesOnce id s.now (do_effect op key s)
@@ -157,15 +188,16 @@ keeps-then x id ttr second now o f k a =
 
 -- after a row that keeps the hold
 carried_out-keeps : (x id ttr second : ℕ) (op : Op) (key : Key) (s : QueueState) → HasRisingIds s
+    → IsQuiet id (own key (row op key (called key.session s)).reply)
     → Held (row op key (called key.session s)).state.jobs x id ttr second
     → KeepsHold x id ttr second s.now (carried_out op key s)
 unfolding carried_out
-carried_out-keeps x id ttr second op key s sound h =
+carried_out-keeps x id ttr second op key s sound quiet h =
     let ok = row-ok op key (called key.session s) sound in
     let r = row op key (called key.session s) in
     let served = serve-keeps x id ttr second s.now r.state (record { sound = ok.sound; held = h; at = ok.at }) in
     keeps-then x id ttr second s.now (then_do (own_outcome key r) serve) (turned_away op key)
-    (record { keeps = served.keeps; quiet = quiet-append id (own key r.reply) (serve r.state).answers (ok.quiet id) served.quiet })
+    (record { keeps = served.keeps; quiet = quiet-append id (own key r.reply) (serve r.state).answers quiet served.quiet })
     (turned_away-aside op key (serve r.state).state)
 
 -- the own answer stands first
@@ -217,16 +249,18 @@ carried_out-holds : (x id ttr second : ℕ) (op : Op) (key : Key) (s : QueueStat
     (queue_place (record { key = key; act = Act.Do op }) (carried_out op key s))
 carried_out-holds x id ttr second op key s sound h =
     let p : QueuePlace = queue_place (record { key = key; act = Act.Do op }) (carried_out op key s) in
+    let quiet = holder-quiet x id ttr second (called key.session s) key (row op key (called key.session s))
+    (row-ok op key (called key.session s) sound) h in
     elim (row-holds x id ttr second op key (called key.session s) sound h) as (λ v. HoldsOn x id ttr second p) [
       | HoldAfter.ended reply e who said ↦ ends (carried_out-ends x id (second + ttr) op key s reply e who said)
       | HoldAfter.stays h e ↦
-          let k = carried_out-keeps x id ttr second op key s sound h in
+          let k = carried_out-keeps x id ttr second op key s sound quiet h in
           on k.quiet k.keeps.sound (subst (λ n. Held (carried_out op key s).state.jobs x id ttr n)
           (sym (cond-false (touches p x id) p.state.now second
           (untouched (is_touch id (Act.Do op)) (key.session == x)
           (list_any (λ (a : Answer Reply). is_touched a.reply) p.answers) e))) k.keeps.held)
       | HoldAfter.renewed h e who said ↦
-          let k = carried_out-keeps x id ttr s.now op key s sound h in
+          let k = carried_out-keeps x id ttr s.now op key s sound quiet h in
           on k.quiet k.keeps.sound (subst (λ n. Held (carried_out op key s).state.jobs x id ttr n)
           (sym (cond-true (touches p x id) p.state.now second
           (touched (is_touch id (Act.Do op)) (key.session == x)

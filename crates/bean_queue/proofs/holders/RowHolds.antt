@@ -1,8 +1,8 @@
 -- What each row does to the jobs, and to one that is held.
-use Rattle.std.proofs.Common.{◌≡◌, ℕ, zero, suc, ◌+◌, Bool, true, false, cond, ◌&&◌, inl, inr, List, Option, Some, None}
-use Rattle.std.proofs.Common.{IfSome, is_some, ◌==◌, bytes_eq, refl, sym, ap, subst, ◌∙◌, arith, eq-eqb, eqb-true}
+use Rattle.std.proofs.Common.{◌≡◌, ℕ, zero, suc, ◌+◌, Bool, true, false, cond, ◌&&◌, ◌⊎◌, inl, inr, List, [], ◌∷◌, Option, Some, None}
+use Rattle.std.proofs.Common.{IfSome, is_some, ◌==◌, bytes_eq, refl, sym, ap, subst, ◌∙◌, arith, eq-eqb, eqb-true, ne_eqb}
 use Rattle.std.proofs.Common.{true≢false}
-use Rattle.std.proofs.lemmas.Bool.{cases_eq, and_parts}
+use Rattle.std.proofs.lemmas.Bool.{cases_eq, and_parts, cond-true, cond-false}
 use Rattle.object.specs.Lists.{In}
 use Rattle.object.specs.declared.command.Act.{Act}
 use Rattle.object.specs.declared.command.Key.{Key}
@@ -11,7 +11,7 @@ use Rattle.job_store.specs.declared.state.State.{State}
 use Rattle.job_store.specs.Entries.{Rising, value_at, altered}
 use Rattle.job_store.specs.EntryLaws.{value_at-without_other, value_at-insert_other, value_at-below, value_at-In}
 use Rattle.job_store.specs.EntryLaws.{Rising-altered, Rising-without, Rising-insert, Rising-wider, Rising-end}
-use Rattle.job_store.specs.States.{is_held, is_buried, is_delayed, with_state, kicked_job}
+use Rattle.job_store.specs.States.{is_held, is_buried, is_delayed, with_state, reserved_job, kicked_job}
 use Rattle.job_store.specs.LookUps.{is_among, first_buried, first_delayed, first_ready, buried_in, delayed_in, due_of_job, rank_of_job}
 use Rattle.session_store.specs.WatchLists.{is_alone}
 use Rattle.bean_queue.specs.declared.op.Op.{Op}
@@ -20,16 +20,31 @@ use Rattle.bean_queue.specs.Queue.{QueueState, with_jobs, used_by, watched_by, H
 use Rattle.bean_queue.specs.Rows.{is_idle, Row, replies, row, put_row, use_row, watch_row, ignore_row, reserve_row}
 use Rattle.bean_queue.specs.Rows.{delete_row, may_delete, is_job_that, release_row, touch_row, bury_row, kicked}
 use Rattle.bean_queue.specs.Rows.{kicked_option, kick_row, kick_job_row, peek_row, shown, at_id, all_tubes, pause_row}
+use Rattle.bean_queue.specs.Rows.{is_free, reserve_found, reserve_job_row, reported, stats_job_row}
 use Rattle.bean_queue.specs.Effects.{own}
-use Rattle.bean_queue.specs.Holds.{is_touch}
+use Rattle.bean_queue.specs.Holds.{is_touch, handing_out}
 use Rattle.bean_queue.specs.TurnLaws.{least-in, IfSome-map}
 use Rattle.bean_queue.proofs.holders.Held.{Held, Held-altered_other, Held-reserved, IsQuiet}
 
--- a row leaves the jobs in order and the second as it was, and its reply is no RESERVED
+-- a row gives the job id, which nobody had, to the session of its key
+pub record RowGives (id : ℕ) (s : QueueState) (key : Key) (r : Row) : Type 0 where
+  pub reply : Reply
+  pub ttr : ℕ
+  pub free : (x ttr second : ℕ) → Held s.jobs x id ttr second → ⊥
+  pub only : handing_out id (own key r.reply) ≡ record { to = key; reply = reply } ∷ []
+  pub held : Held r.state.jobs key.session id ttr s.now
+
+-- a row leaves the jobs in order and the second as it was, and its reply is no RESERVED of the job, or it gives the job
 pub record IsRowOk (s : QueueState) (key : Key) (r : Row) : Type 0 where
   pub sound : HasRisingIds r.state
   pub at : r.state.now ≡ s.now
-  pub quiet : (id : ℕ) → IsQuiet id (own key r.reply)
+  pub given : (id : ℕ) → IsQuiet id (own key r.reply) ⊎ RowGives id s key r
+
+-- the reply of a row to a hold that was there is no RESERVED of it
+pub holder-quiet : (x id ttr second : ℕ) (s : QueueState) (key : Key) (r : Row) → IsRowOk s key r → Held s.jobs x id ttr second
+    → IsQuiet id (own key r.reply)
+holder-quiet x id ttr second s key r ok h =
+    elim (ok.given id) as (λ v. IsQuiet id (own key r.reply)) [ inl quiet ↦ quiet | inr gives ↦ absurd (gives.free x ttr second h) ]
 
 -- the two cases of a test
 ok_if : (s : QueueState) (key : Key) (b : Bool) (r q : Row) → IsRowOk s key r → IsRowOk s key q → IsRowOk s key (cond b r q)
@@ -39,10 +54,10 @@ ok_if s key false r q h k = k
 ok_altered : (s : QueueState) (key : Key) (id : ℕ) (f : Job → Job) (reply : Reply)
     → ((id : ℕ) → IsQuiet id (own key (Some reply))) → HasRisingIds s
     → IsRowOk s key (replies (with_jobs s (altered id f s.jobs)) reply)
-ok_altered s key id f reply quiet sound = record { sound = Rising-altered _ _ 1 s.next_id s.jobs sound; at = refl; quiet = quiet }
+ok_altered s key id f reply quiet sound = record { sound = Rising-altered _ _ 1 s.next_id s.jobs sound; at = refl; given = λ id. inl (quiet id) }
 
 ok_same : (s : QueueState) (key : Key) (reply : Reply) → ((id : ℕ) → IsQuiet id (own key (Some reply))) → HasRisingIds s → IsRowOk s key (replies s reply)
-ok_same s key reply quiet sound = record { sound = sound; at = refl; quiet = quiet }
+ok_same s key reply quiet sound = record { sound = sound; at = refl; given = λ id. inl (quiet id) }
 
 kicked-sound : (pick : List (ℕ × Job) → Option (ℕ × Job)) (hi n : ℕ) (jobs : List (ℕ × Job)) → Rising 1 hi jobs → Rising 1 hi (kicked pick n jobs).jobs
 unfolding kicked
@@ -57,41 +72,87 @@ shown-quiet : (key : Key) (o : Option (ℕ × Job)) (id : ℕ) → IsQuiet id (o
 shown-quiet key None id = refl
 shown-quiet key (Some e) id = refl
 
+-- a job that is free is nobody's
+free-unheld : (jobs : List (ℕ × Job)) (id : ℕ) (job : Job) → value_at id jobs ≡ Some job → is_free job.state ≡ true
+    → (x ttr second : ℕ) → Held jobs x id ttr second → ⊥
+free-unheld jobs id job there free x ttr second h =
+    let same : job ≡ h.job = cc in
+    true≢false (sym free ∙ ap (λ (job : Job). is_free job.state) same ∙ ap is_free h.held)
+
+-- the job k is given to the session of the key
+gives-free : (s : QueueState) (key : Key) (k : ℕ) (job : Job) → HasRisingIds s → value_at k s.jobs ≡ Some job → is_free job.state ≡ true
+    → IsRowOk s key (replies (with_jobs s (altered k (reserved_job key.session (s.now + job.ttr)) s.jobs)) (Reply.Reserved k job.body))
+gives-free s key k job sound there free = record {
+  sound = Rising-altered _ _ 1 s.next_id s.jobs sound;
+  at = refl;
+  given = λ id. elim (cases_eq id k) [
+    | inr apart ↦ inl (cond-false (id == k) _ _ (ne_eqb id k apart))
+    | inl same ↦ inr (record {
+      reply = Reply.Reserved k job.body;
+      ttr = job.ttr;
+      free = free-unheld s.jobs id job (ap (λ q. value_at q s.jobs) same ∙ there) free;
+      only = cond-true (id == k) _ _ (eq-eqb id k same);
+      held =
+          subst (λ q. Held (altered k (reserved_job key.session (s.now + job.ttr)) s.jobs) key.session q job.ttr s.now) (sym same)
+          (Held-reserved s.jobs key.session k s.now (reserved_job key.session (s.now + job.ttr)) job there refl refl);
+    })
+  ];
+}
+
+reserved-ok : (s : QueueState) (key : Key) (k : ℕ) → HasRisingIds s → IsRowOk s key (reserve_found s key.session k (value_at k s.jobs))
+reserved-ok s key k sound =
+    elim (value_at k s.jobs) as (λ o. value_at k s.jobs ≡ o → IsRowOk s key (reserve_found s key.session k o)) [
+      | None ↦ λ there. ok_same s key Reply.NotFound (λ id. refl) sound
+      | Some job ↦ λ there.
+          elim (is_free job.state) as (λ b. is_free job.state ≡ b → IsRowOk s key
+          (cond b (replies (with_jobs s (altered k (reserved_job key.session (s.now + job.ttr)) s.jobs)) (Reply.Reserved k job.body))
+          (replies s Reply.NotFound))) [
+            | true ↦ λ free. gives-free s key k job sound there free
+            | false ↦ λ taken. ok_same s key Reply.NotFound (λ id. refl) sound
+          ] refl
+    ] refl
+
+reported-quiet : (key : Key) (now k : ℕ) (o : Option Job) (id : ℕ) → IsQuiet id (own key (Some (reported now k o)))
+reported-quiet key now k None id = refl
+reported-quiet key now k (Some job) id = refl
+
 pub row-ok : (op : Op) (key : Key) (s : QueueState) → HasRisingIds s → IsRowOk s key (row op key s)
-unfolding row put_row use_row watch_row ignore_row reserve_row delete_row release_row touch_row bury_row kick_row kick_job_row peek_row pause_row
+unfolding row put_row use_row watch_row ignore_row reserve_row delete_row release_row touch_row bury_row kick_row kick_job_row
+    reserve_job_row peek_row pause_row stats_job_row
 row-ok (Op.Put pri delay ttr body) key s sound =
     record {
       sound =
           Rising-insert s.next_id 1 (s.next_id + 1) _ s.jobs (Rising-end 1 s.next_id s.jobs sound) (omega arith)
           (Rising-wider 1 1 s.next_id (s.next_id + 1) s.jobs (omega arith) (omega arith) sound);
       at = refl;
-      quiet = λ id. refl;
+      given = λ id. inl refl;
     }
-row-ok (Op.Use tube) key s sound = record { sound = sound; at = refl; quiet = λ id. refl }
-row-ok (Op.Watch tube) key s sound = record { sound = sound; at = refl; quiet = λ id. refl }
+row-ok (Op.Use tube) key s sound = record { sound = sound; at = refl; given = λ id. inl refl }
+row-ok (Op.Watch tube) key s sound = record { sound = sound; at = refl; given = λ id. inl refl }
 row-ok (Op.Ignore tube) key s sound =
     ok_if s key (is_alone tube (watched_by s key.session)) _ _ (ok_same s key Reply.NotIgnored (λ id. refl) sound)
-    (record { sound = sound; at = refl; quiet = λ id. refl })
-row-ok (Op.Reserve seconds) key s sound = record { sound = sound; at = refl; quiet = λ id. refl }
+    (record { sound = sound; at = refl; given = λ id. inl refl })
+row-ok (Op.Reserve seconds) key s sound = record { sound = sound; at = refl; given = λ id. inl refl }
 row-ok (Op.Delete j) key s sound =
     ok_if s key (is_job_that (may_delete key.session) (value_at j s.jobs)) _ _
-    (record { sound = Rising-without j 1 s.next_id s.jobs sound; at = refl; quiet = λ id. refl })
+    (record { sound = Rising-without j 1 s.next_id s.jobs sound; at = refl; given = λ id. inl refl })
     (ok_same s key Reply.NotFound (λ id. refl) sound)
 row-ok (Op.Release j pri delay) key s sound =
     ok_if s key (is_job_that (is_held key.session) (value_at j s.jobs)) _ _
     (ok_altered s key j _ Reply.Released (λ id. refl) sound) (ok_same s key Reply.NotFound (λ id. refl) sound)
 row-ok (Op.Bury j pri) key s sound =
     ok_if s key (is_job_that (is_held key.session) (value_at j s.jobs)) _ _
-    (record { sound = Rising-altered _ _ 1 s.next_id s.jobs sound; at = refl; quiet = λ id. refl })
+    (record { sound = Rising-altered _ _ 1 s.next_id s.jobs sound; at = refl; given = λ id. inl refl })
     (ok_same s key Reply.NotFound (λ id. refl) sound)
 row-ok (Op.Touch j) key s sound =
     ok_if s key (is_job_that (is_held key.session) (value_at j s.jobs)) _ _
     (ok_altered s key j _ Reply.Touched (λ id. refl) sound) (ok_same s key Reply.NotFound (λ id. refl) sound)
 row-ok (Op.Kick bound) key s sound =
-    record { sound = kicked-sound _ s.next_id bound s.jobs sound; at = refl; quiet = λ id. refl }
+    record { sound = kicked-sound _ s.next_id bound s.jobs sound; at = refl; given = λ id. inl refl }
 row-ok (Op.KickJob j) key s sound =
     ok_if s key (is_job_that is_idle (value_at j s.jobs)) _ _ (ok_altered s key j _ Reply.Kicked (λ id. refl) sound)
     (ok_same s key Reply.NotFound (λ id. refl) sound)
+row-ok (Op.ReserveJob j) key s sound = reserved-ok s key j sound
 row-ok (Op.Peek j) key s sound = ok_same s key _ (shown-quiet key (at_id j s.jobs)) sound
 row-ok Op.PeekReady key s sound = ok_same s key _ (shown-quiet key (first_ready (used_by s key.session) s.jobs)) sound
 row-ok Op.PeekDelayed key s sound = ok_same s key _ (shown-quiet key (first_delayed (used_by s key.session) s.jobs)) sound
@@ -100,7 +161,8 @@ row-ok Op.ListTubes key s sound = ok_same s key _ (λ id. refl) sound
 row-ok Op.ListTubeUsed key s sound = ok_same s key _ (λ id. refl) sound
 row-ok Op.ListTubesWatched key s sound = ok_same s key _ (λ id. refl) sound
 row-ok (Op.Pause tube seconds) key s sound =
-    ok_if s key (is_among tube (all_tubes s)) _ _ (record { sound = sound; at = refl; quiet = λ id. refl }) (ok_same s key Reply.NotFound (λ id. refl) sound)
+    ok_if s key (is_among tube (all_tubes s)) _ _ (record { sound = sound; at = refl; given = λ id. inl refl }) (ok_same s key Reply.NotFound (λ id. refl) sound)
+row-ok (Op.StatsJob j) key s sound = ok_same s key _ (reported-quiet key s.now j (value_at j s.jobs)) sound
 
 -- the commands that end a hold, with the replies that say so
 pub data EndsHold (id : ℕ) : Op → Reply → Type 0 where
@@ -211,9 +273,25 @@ touched_held x id ttr second y j s h same who =
     (Held-reserved s.jobs x id s.now (λ job. with_state (State.Reserved y (s.now + job.ttr)) job) h.job h.there
     (ap (λ z. State.Reserved z (s.now + h.job.ttr)) who) refl))
 
+-- a job that another session is given stays as it was where it is held
+found-holds : (x id ttr second k : ℕ) (key : Key) (s : QueueState) → Held s.jobs x id ttr second
+    → HoldAfter x id ttr second s.now (Op.ReserveJob k) key (reserve_found s key.session k (value_at k s.jobs))
+found-holds x id ttr second k key s h =
+    elim (value_at k s.jobs) as (λ o. value_at k s.jobs ≡ o
+    → HoldAfter x id ttr second s.now (Op.ReserveJob k) key (reserve_found s key.session k o)) [
+      | None ↦ λ there. stays_same x id ttr second s.now _ key s _ refl h
+      | Some job ↦ λ there.
+          hold_if x id ttr second s.now (Op.ReserveJob k) key (is_free job.state) _ _
+          (λ free. stays_same x id ttr second s.now _ key s _ refl
+          (Held-altered_other k _ s.jobs x id ttr second
+          (λ same. free-unheld s.jobs k job there free x ttr second (subst (λ q. Held s.jobs x q ttr second) (sym same) h)) h))
+          (λ taken. stays_same x id ttr second s.now _ key s _ refl h)
+    ] refl
+
 pub row-holds : (x id ttr second : ℕ) (op : Op) (key : Key) (s : QueueState) → HasRisingIds s
     → Held s.jobs x id ttr second → HoldAfter x id ttr second s.now op key (row op key s)
-unfolding row put_row use_row watch_row ignore_row reserve_row delete_row release_row touch_row bury_row kick_row kick_job_row peek_row pause_row
+unfolding row put_row use_row watch_row ignore_row reserve_row delete_row release_row touch_row bury_row kick_row kick_job_row
+    reserve_job_row peek_row pause_row stats_job_row
 row-holds x id ttr second (Op.Put pri delay t body) key s sound h =
     stays_same x id ttr second s.now _ key s _ refl (record {
       job = h.job;
@@ -269,6 +347,7 @@ row-holds x id ttr second (Op.KickJob j) key s sound h =
     (Held-altered_other j _ s.jobs x id ttr second
     (λ same. true≢false (sym e ∙ found-held is_idle s.jobs x id j ttr second same h)) h))
     (λ e. stays_same x id ttr second s.now (Op.KickJob j) key s _ refl h)
+row-holds x id ttr second (Op.ReserveJob j) key s sound h = found-holds x id ttr second j key s h
 row-holds x id ttr second (Op.Peek j) key s sound h = stays_same x id ttr second s.now _ key s _ refl h
 row-holds x id ttr second Op.PeekReady key s sound h = stays_same x id ttr second s.now _ key s _ refl h
 row-holds x id ttr second Op.PeekDelayed key s sound h = stays_same x id ttr second s.now _ key s _ refl h
@@ -280,3 +359,4 @@ row-holds x id ttr second (Op.Pause tube seconds) key s sound h =
     hold_if x id ttr second s.now _ key (is_among tube (all_tubes s)) _ _
     (λ e. stays_same x id ttr second s.now _ key s _ refl h)
     (λ e. stays_same x id ttr second s.now _ key s _ refl h)
+row-holds x id ttr second (Op.StatsJob j) key s sound h = stays_same x id ttr second s.now _ key s _ refl h

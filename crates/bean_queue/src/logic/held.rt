@@ -1,13 +1,14 @@
 ghost use Rattle.std.specs.Prelude.{◌≡◌, ◌^◌, ◌==◌, false, Some};
 ghost use Rattle.job_store.specs.Entries.{value_at};
 ghost use Rattle.job_store.specs.States.{is_held};
-ghost use Rattle.bean_queue.specs.Rows.{is_job_that, may_delete, delete_row, touch_row, release_row, bury_row};
+ghost use Rattle.bean_queue.specs.Rows.{is_job_that, may_delete, delete_row, touch_row, release_row, bury_row, reserve_job_row};
 ghost use Rattle.bean_queue.specs.Calls.{DraftsRow};
 
 use crate::logic::Logic;
 use crate::logic::put::ready_after;
 use crate::reply::Reply;
 use job_store::{JobMap, Mark, State};
+use object::Value;
 use std::alloc::AllocError;
 
 /// Whether the session may delete a job in this state: nobody else has it.
@@ -99,5 +100,22 @@ impl<M: JobMap> Logic<M> {
             .set(id, pri, State::Buried { rank }, Mark::Buried)?;
         self.counters.next_rank = rank + 1;
         Ok(Reply::Buried)
+    }
+
+    /// Gives a session a job that nobody has.
+    #[tactic(auto, unfolding(crate::specs::Rows::reserve_job_row))]
+    pub fn reserve_job(&mut self, session: u32, id: u64) -> Result<Reply, AllocError>
+        ensures { DraftsRow self.old self.new (reserve_job_row self.old.now session id) result }
+    {
+        match self.jobs.map().get(id) {
+            Some(job) if !job.state.is_reserved() => {
+                let body = job.body.copy()?;
+                let due = self.counters.now + u64::from(job.ttr);
+                let state = State::Reserved { session, due };
+                self.jobs.set_state(id, state, Mark::Reserved)?;
+                Ok(Reply::Reserved { id, body })
+            }
+            _ => Ok(Reply::NotFound),
+        }
     }
 }

@@ -27,7 +27,7 @@ impl<M: JobMap> Logic<M> {
     }
 
     /// Obeys a quiet operation of a session that is there, where a number is left for it.
-    #[tactic(auto, unfolding(crate::specs::Rows::row, crate::specs::Rows::peek_row))]
+    #[tactic(auto, unfolding(crate::specs::Rows::row, crate::specs::Rows::peek_row, crate::specs::Rows::stats_job_row))]
     fn quiet_row(&mut self, alloc: Global, key: Key, op: &Op) -> Result<Reply, AllocError>
         requires there { IsSome (value_at key.session self.old.now.sessions) }
         requires quiet { is_quiet op.now ≡ true }
@@ -42,6 +42,7 @@ impl<M: JobMap> Logic<M> {
             Op::Delete(id) => Ok(self.delete(session, *id)),
             Op::Touch(id) => self.touch(session, *id),
             Op::Bury { id, pri } => self.bury(session, *id, *pri),
+            Op::ReserveJob(id) => self.reserve_job(session, *id),
             Op::Peek(id) => self.peek(*id),
             Op::PeekReady => self.peek_ready(session),
             Op::PeekDelayed => self.peek_delayed(session),
@@ -49,6 +50,7 @@ impl<M: JobMap> Logic<M> {
             Op::ListTubes => Ok(Reply::Tubes(self.tubes(alloc)?)),
             Op::ListTubeUsed => Ok(Reply::Using(self.used(session)?)),
             Op::ListTubesWatched => Ok(Reply::Tubes(self.watched(alloc, session)?)),
+            Op::StatsJob(id) => self.stats_job(alloc, *id),
             Op::Put { .. }
             | Op::Reserve { .. }
             | Op::Release { .. }
