@@ -1,0 +1,2 @@
+pub mod TubeCounts
+pub mod TubeSteps

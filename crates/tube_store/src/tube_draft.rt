@@ -1,0 +1,87 @@
+ghost use Rattle.std.specs.Prelude.{◌≡◌, [], OnOk, OnErr};
+ghost use Rattle.tube_store.specs.TubeCounts.{counts_at, marked_tube, without_counts};
+
+use crate::tube_counts::TubeCounts;
+use crate::tube_mark::TubeMark;
+use crate::tube_step::{TubeStep, mark_tube, take_steps_back};
+use job_store::Name;
+use std::alloc::{AllocError, Global};
+use std::collections::BTreeMap;
+use std::marker::Model;
+
+/// What was done with each tube. Marks can be taken back until they are kept, and that takes no memory.
+#[derive(Drop)]
+pub struct TubeDraft {
+    counts: BTreeMap<Name, TubeCounts>,
+    steps: Vec<TubeStep>,
+}
+
+impl Model for TubeDraft {
+    ghost use Rattle.std.specs.Prelude.{ℕ, List};
+    ghost use Rattle.session_store.specs.Drafts.{Draft};
+    ghost use Rattle.tube_store.specs.declared.tube_counts.TubeCounts.{TubeCounts};
+    ghost use Rattle.tube_store.specs.TubeSteps.{before_steps, AreByName};
+
+    ghost Value = { Draft (List (List ℕ × TubeCounts)) };
+
+    ghost view = { λ d. record { now = d.counts.entries; before = before_steps d.steps.items d.counts.entries } };
+
+    ghost invariant = { λ d. AreByName d.counts.entries };
+}
+
+impl TubeDraft {
+    /// Nothing was done with any tube.
+    pub fn new(alloc: Global) -> TubeDraft
+        ensures now { result.now ≡ [] }
+        ensures before { result.before ≡ [] }
+    {
+        TubeDraft {
+            counts: BTreeMap::new(alloc),
+            steps: Vec::new(alloc),
+        }
+    }
+
+    /// What was done with a tube. It takes no memory.
+    pub fn counts(&self, tube: &Name) -> TubeCounts
+        ensures { result ≡ counts_at tube.now self.now.now }
+    {
+        match self.counts.get(tube) {
+            Some(counts) => *counts,
+            None => TubeCounts::none(),
+        }
+    }
+
+    /// Counts what is done with a tube. For one that has counts it takes no memory but that of the steps, which is kept.
+    pub fn mark(&mut self, tube: &Name, mark: TubeMark) -> Result<(), AllocError>
+        ensures now { OnOk result (self.new.now ≡ marked_tube mark tube.now self.old.now) }
+        ensures before { self.new.before ≡ self.old.before }
+        ensures err { OnErr result (self.new.now ≡ self.old.now) }
+    {
+        mark_tube(&mut self.counts, &mut self.steps, tube, mark)
+    }
+
+    /// Keeps all marks, and takes out the counts of a tube. That can't be taken back, and takes no memory.
+    pub fn forget_for_good(&mut self, tube: &Name)
+        ensures now { self.new.now ≡ without_counts tube.now self.old.now }
+        ensures before { self.new.before ≡ self.new.now }
+    {
+        self.steps.clear();
+        self.counts.remove(tube);
+    }
+
+    /// Keeps all marks.
+    pub fn keep(&mut self)
+        ensures now { self.new.now ≡ self.old.now }
+        ensures before { self.new.before ≡ self.old.now }
+    {
+        self.steps.clear();
+    }
+
+    /// Takes back all marks since they were kept last.
+    pub fn take_back(&mut self)
+        ensures now { self.new.now ≡ self.old.before }
+        ensures before { self.new.before ≡ self.old.before }
+    {
+        take_steps_back(&mut self.counts, &mut self.steps);
+    }
+}
