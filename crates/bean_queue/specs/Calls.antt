@@ -77,8 +77,8 @@ pub record DoesQuietly {E : Type 0} (key : Key) (old new : Draft QueueState) (ou
   pub err : OnErr result (new.before ≡ old.before)
 
 -- the state is the outcome's, and its answers come after those that were there; what was kept stays
-pub record DraftsOutcome {E : Type 0} (old new : Draft QueueState) (xs ys : List (Answer Reply)) (outcome : QueueOutcome)
-    (result : Result Unit E) : Type 0 where
+pub record DraftsOutcome {X E : Type 0} (old new : Draft QueueState) (xs ys : List (Answer Reply)) (outcome : QueueOutcome)
+    (result : Result X E) : Type 0 where
   pub state : OnOk result (new.now ≡ outcome.state)
   pub answers : OnOk result (ys ≡ xs ++ outcome.answers)
   pub before : new.before ≡ old.before

@@ -110,6 +110,10 @@ forgotten x s = settled (tubes_of x s.sessions) (with_sessions s (without x s.se
 unfoldable pub close_effect : ℕ → QueueState → QueueOutcome
 close_effect x s = let o = serve (released x s) in record { state = forgotten x o.state; answers = o.answers }
 
+-- how many jobs' time to run is over by this second
+abbrev pub times_over : ℕ → List (ℕ × Job) → ℕ
+times_over second jobs = length (filter (λ e. is_due second e.1.state && is_reserved e.1.state) jobs)
+
 -- a job in this state is one of those that are to be ready again
 abbrev pub is_returning : Returning → State → Bool
 is_returning (Returning.Due second) = is_due second
@@ -120,14 +124,15 @@ abbrev pub returned_history : Returning → State → History → History
 returned_history (Returning.Due second) state h = over_history state h
 returned_history (Returning.Held x) state h = h
 
+-- of how many of those the time to run is over
+abbrev pub returned_timeouts : Returning → List (ℕ × Job) → ℕ
+returned_timeouts (Returning.Due second) jobs = times_over second jobs
+returned_timeouts (Returning.Held x) jobs = 0
+
 -- the job as one of those: it is ready
 abbrev pub returned_job : Returning → Job → Job
 returned_job which job =
     record job { state = State.Ready; history = returned_history which job.state job.history }
-
--- how many jobs' time to run is over by this second
-abbrev pub times_over : ℕ → List (ℕ × Job) → ℕ
-times_over second jobs = length (filter (λ e. is_due second e.1.state && is_reserved e.1.state) jobs)
 
 -- it is this second: jobs whose delay or time to run is over by it are ready (protocol.txt of beanstalkd, "put": delay
 -- and ttr), and pauses that are over by it are gone
@@ -143,15 +148,14 @@ at_second second s = record s {
 abbrev pub then_settled : List (List ℕ) → QueueOutcome → QueueOutcome
 then_settled tubes o = record { state = settled tubes o.state; answers = o.answers }
 
+-- it is this second, and waiting sessions are served and told
+abbrev pub passed : ℕ → QueueState → QueueOutcome
+passed second s = then_do (then_do (serve (at_second second s)) (all_turns deadline_turn)) (all_turns timeout_turn)
+
 -- a second above now comes, and a lesser one does nothing
 unfoldable pub tick_effect : ℕ → QueueState → QueueOutcome
 tick_effect second s =
-    if nat_lt s.now second
-    then
-    then_settled
-    (tubes_over second s.pauses)
-    (then_do (then_do (serve (at_second second s)) (all_turns deadline_turn)) (all_turns timeout_turn))
-    else stop s
+    if nat_lt s.now second then then_settled (tubes_over second s.pauses) (passed second s) else stop s
 
 -- what an act under this key does
 unfoldable pub act_effect : Act Op → Key → QueueState → QueueOutcome

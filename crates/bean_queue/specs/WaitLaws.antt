@@ -12,20 +12,21 @@ use Rattle.job_store.specs.Entries.{value_at}
 use Rattle.job_store.specs.LookUps.{is_among}
 use Rattle.job_store.specs.States.{is_held}
 use Rattle.session_store.specs.declared.session.SessionState.{SessionState}
-use Rattle.session_store.specs.Sessions.{session_of, with_wait_ended, is_waiting, wait_number}
+use Rattle.session_store.specs.Sessions.{session_of, known, with_wait_ended, is_waiting, wait_number}
 use Rattle.session_store.specs.WatchLists.{is_alone}
 use Rattle.session_store.specs.Waits.{WaitsIn}
 use Rattle.session_store.specs.WaitLaws.{altered-waits, ended-waits, forgotten-waits, known-waits, waiting-waits, some_wait, session_waits}
+use Rattle.pause_store.specs.Pauses.{tubes_over}
 use Rattle.bean_queue.specs.declared.op.Op.{Op}
 use Rattle.bean_queue.specs.declared.reply.Reply.{Reply}
 use Rattle.bean_queue.specs.Queue.{QueueState, fresh, holds_by, watched_by}
 use Rattle.bean_queue.specs.Turns.{QueueOutcome, QueueTurn, stop, turns, all_turns, after_option, given, told_turn}
 use Rattle.bean_queue.specs.Turns.{serve_turn, deadline_turn, timeout_turn, serve}
 use Rattle.bean_queue.specs.Rows.{is_idle, Row, row, put_row, use_row, watch_row, ignore_row, reserve_row, delete_row}
-use Rattle.bean_queue.specs.Rows.{may_delete, is_job_that, release_row, touch_row, bury_row, kick_row, kick_job_row}
-use Rattle.bean_queue.specs.Rows.{is_free, reserve_found, reserve_job_row, peek_row, pause_row, stats_job_row}
+use Rattle.bean_queue.specs.Rows.{may_delete, delete_found, is_job_that, release_row, touch_row, bury_row, kick_row, kick_job_row}
+use Rattle.bean_queue.specs.Rows.{is_free, reserve_found, reserve_job_row, peek_row, pause_row, stats_job_row, stats_tube_row, stats_row}
 use Rattle.bean_queue.specs.Tubes.{all_tubes}
-use Rattle.bean_queue.specs.Effects.{own, called, ends_wait, is_zero, turned_away, then_do, has_no_number, carried_out}
+use Rattle.bean_queue.specs.Effects.{own, asking, called, ends_wait, is_zero, turned_away, then_do, then_settled, has_no_number, carried_out}
 use Rattle.bean_queue.specs.Effects.{do_effect, released, close_effect, at_second, tick_effect, act_effect, effect}
 use Rattle.bean_queue.specs.Waits.{Waits, AreApart, IsLawful}
 use Rattle.bean_queue.specs.TurnLaws.{IsServed, IsTold, serve_turn-is, deadline_turn-is, timeout_turn-is, IfSome-map}
@@ -149,13 +150,17 @@ still_if key s false r q h k = k
 same : (key : Key) (s : QueueState) (r : Row) → r.state.sessions ≡ s.sessions → RowWaits key s r
 same key s r e = RowWaits.still (λ k h. subst (λ ss. WaitsIn ss k) e h)
 
+deleted-waits : (key : Key) (s : QueueState) (j : ℕ) (o : Option Job) → RowWaits key s (delete_found s key.session j o)
+deleted-waits key s j None = same key s _ refl
+deleted-waits key s j (Some job) = still_if key s (may_delete key.session job.state) _ _ (same key s _ refl) (same key s _ refl)
+
 found-waits : (key : Key) (s : QueueState) (j : ℕ) (o : Option Job) → RowWaits key s (reserve_found s key.session j o)
 found-waits key s j None = same key s _ refl
 found-waits key s j (Some job) = still_if key s (is_free job.state) _ _ (same key s _ refl) (same key s _ refl)
 
 row-waits : (op : Op) (key : Key) (s : QueueState) → RowWaits key s (row op key s)
 unfolding row put_row use_row watch_row ignore_row reserve_row delete_row release_row touch_row bury_row kick_row kick_job_row
-  reserve_job_row peek_row pause_row stats_job_row
+  reserve_job_row peek_row pause_row stats_job_row stats_tube_row stats_row
 row-waits (Op.Put pri delay ttr body) key s = same key s _ refl
 row-waits (Op.Use tube) key s = RowWaits.still (λ k h. altered-waits key.session _ s.sessions k (λ c. refl) h)
 row-waits (Op.Watch tube) key s = RowWaits.still (λ k h. altered-waits key.session _ s.sessions k (λ c. refl) h)
@@ -164,7 +169,7 @@ row-waits (Op.Ignore tube) key s =
     (RowWaits.still (λ k h. altered-waits key.session _ s.sessions k (λ c. refl) h))
 row-waits (Op.Reserve seconds) key s =
     RowWaits.anew refl (λ k h. waiting-waits key.session _ _ s.sessions k key refl refl (λ c. refl) h)
-row-waits (Op.Delete j) key s = still_if key s (is_job_that (may_delete key.session) (value_at j s.jobs)) _ _ (same key s _ refl) (same key s _ refl)
+row-waits (Op.Delete j) key s = deleted-waits key s j (value_at j s.jobs)
 row-waits (Op.Release j pri delay) key s = still_if key s (is_job_that (is_held key.session) (value_at j s.jobs)) _ _ (same key s _ refl) (same key s _ refl)
 row-waits (Op.Bury j pri) key s =
     still_if key s (is_job_that (is_held key.session) (value_at j s.jobs)) _ _ (same key s _ refl) (same key s _ refl)
@@ -181,6 +186,8 @@ row-waits Op.ListTubeUsed key s = same key s _ refl
 row-waits Op.ListTubesWatched key s = same key s _ refl
 row-waits (Op.Pause tube seconds) key s = still_if key s (is_among tube (all_tubes s)) _ _ (same key s _ refl) (same key s _ refl)
 row-waits (Op.StatsJob j) key s = same key s _ refl
+row-waits (Op.StatsTube tube) key s = same key s _ refl
+row-waits Op.Stats key s = same key s _ refl
 
 ends_wait-dealt : (s : QueueState) (key : Key) (reply : Reply) → Waits s key → IsDealt s (ends_wait s key reply)
 ends_wait-dealt s key reply h =
@@ -324,16 +331,17 @@ tick-lawful : (key : Key) (s : QueueState) → IsLawful key s (tick_effect key.n
 unfolding tick_effect
 tick-lawful key s =
     elim (nat_lt s.now key.number) as (λ b. IsLawful key s
-    (cond b (then_do (then_do (serve (at_second key.number s)) (all_turns deadline_turn)) (all_turns timeout_turn))
+    (cond b (then_settled (tubes_over key.number s.pauses)
+    (then_do (then_do (serve (at_second key.number s)) (all_turns deadline_turn)) (all_turns timeout_turn)))
     (stop s))) [
       | true ↦
           let a = serve (at_second key.number s) in
           let b = all_turns deadline_turn (serve (at_second key.number s)).state in
           let c = all_turns timeout_turn b.state in
-          without_own key s (at_second key.number s) _ _ (λ k w. inl w)
-          (dealt-then (at_second key.number s) b.state c.state (a.answers ++ b.answers) c.answers
+          let d = dealt-then (at_second key.number s) b.state c.state (a.answers ++ b.answers) c.answers
           (dealt-then (at_second key.number s) a.state b.state a.answers b.answers (serve-dealt (at_second key.number s)) (deadlines-dealt a.state))
-          (timeouts-dealt b.state))
+          (timeouts-dealt b.state) in
+          without_own key s (at_second key.number s) _ _ (λ k w. inl w) (record { fewer = d.fewer; named = d.named; over = d.over; once = d.once })
       | false ↦ without_own key s s _ _ (λ k w. inl w) (dealt-none s)
     ]
 

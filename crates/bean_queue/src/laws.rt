@@ -13,7 +13,7 @@ ghost use Rattle.job_store.specs.LookUps.{best_ready, not_paused};
 ghost use Rattle.bean_queue.specs.Best.{IsBestTurn};
 ghost use Rattle.bean_queue.specs.declared.reply.Reply.{Reply};
 ghost use Rattle.bean_queue.specs.Effects.{tick_effect, effect};
-ghost use Rattle.bean_queue.specs.Forgetful.{without_histories, asks_for_report};
+ghost use Rattle.bean_queue.specs.Forgetful.{without_counts, asks_for_report};
 ghost use Rattle.bean_queue.specs.Owed.{OwesNothing};
 ghost use Rattle.bean_queue.specs.Queue.{QueueState, paused_tubes, HasRisingIds, fresh, used_by, with_jobs};
 ghost use Rattle.bean_queue.specs.Kicking.{after_kick};
@@ -83,15 +83,15 @@ pub fn tubes_are_listed_once()
     ensures exact { (s : QueueState) (tube : List ℕ) → In tube (all_tubes s) ↔ IsTube s tube }
 {}
 
-/// No answer depends on what has happened to a job, but for that of a report: where the jobs of two states are the same
-/// but for their histories, any other command gives the same answers. The states after a command, a report too, are again
-/// the same but for histories.
-pub fn histories_change_no_answer()
+/// No answer but that of a report depends on what is counted: where two states are the same but for the histories of
+/// their jobs, what was done with their tubes and how often commands were obeyed, any other command gives the same
+/// answers. The states after a command, a report too, are again the same but for these.
+pub fn counts_change_no_answer()
     ensures answers { (c : Command Op) (s t : QueueState) → asks_for_report c.act ≡ false →
-        without_histories s ≡ without_histories t → (effect c s).answers ≡ (effect c t).answers }
+        without_counts s ≡ without_counts t → (effect c s).answers ≡ (effect c t).answers }
     ensures state { (c : Command Op) (s t : QueueState) →
-        without_histories s ≡ without_histories t →
-        without_histories (effect c s).state ≡ without_histories (effect c t).state }
+        without_counts s ≡ without_counts t →
+        without_counts (effect c s).state ≡ without_counts (effect c t).state }
 {}
 
 /// A new queue's state is sound, and stays so whatever it obeys.

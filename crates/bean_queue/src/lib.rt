@@ -21,7 +21,7 @@ mod waiting;
 
 pub use job_store::{Body, History, Job, Name, State};
 pub use laws::{
-    histories_change_no_answer, kick_counts, kick_makes_the_first_ready, one_answer, one_holder,
+    counts_change_no_answer, kick_counts, kick_makes_the_first_ready, one_answer, one_holder,
     queue_stays_sound, serve_gives_the_best, tick_owes_nothing, tubes_are_listed_once,
 };
 pub use op::Op;

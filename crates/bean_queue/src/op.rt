@@ -110,8 +110,36 @@ impl Op {
 impl Value for Op {
     ghost use Rattle.std.proofs.Common.{rules};
     ghost use Rattle.std.proofs.lemmas.Grind.{common_steps};
+    ghost use Rattle.std.specs.Prelude.{◌≡◌, true};
+    ghost use Rattle.bean_queue.specs.contracts.op.OpPartialEq.TheImpl as of_op;
+    ghost use Rattle.bean_queue.specs.declared.op.Op.{Op};
 
-    ghost exact = { Prim.grind (rules, common_steps) };
+    // Each kind of operation is compared with all by itself: together they have too many cases.
+    ghost exact = { λ x. elim x as (λ x. (y : Op) → of_op.ghosts.eq x y ≡ true → x ≡ y) [
+      | Op.Put pri delay ttr body ↦ Prim.grind (rules, common_steps)
+      | Op.Use tube ↦ Prim.grind (rules, common_steps)
+      | Op.Watch tube ↦ Prim.grind (rules, common_steps)
+      | Op.Ignore tube ↦ Prim.grind (rules, common_steps)
+      | Op.Reserve seconds ↦ Prim.grind (rules, common_steps)
+      | Op.Delete id ↦ Prim.grind (rules, common_steps)
+      | Op.Touch id ↦ Prim.grind (rules, common_steps)
+      | Op.Release id pri delay ↦ Prim.grind (rules, common_steps)
+      | Op.Bury id pri ↦ Prim.grind (rules, common_steps)
+      | Op.Kick bound ↦ Prim.grind (rules, common_steps)
+      | Op.KickJob id ↦ Prim.grind (rules, common_steps)
+      | Op.ReserveJob id ↦ Prim.grind (rules, common_steps)
+      | Op.Peek id ↦ Prim.grind (rules, common_steps)
+      | Op.PeekReady ↦ Prim.grind (rules, common_steps)
+      | Op.PeekDelayed ↦ Prim.grind (rules, common_steps)
+      | Op.PeekBuried ↦ Prim.grind (rules, common_steps)
+      | Op.ListTubes ↦ Prim.grind (rules, common_steps)
+      | Op.ListTubeUsed ↦ Prim.grind (rules, common_steps)
+      | Op.ListTubesWatched ↦ Prim.grind (rules, common_steps)
+      | Op.Pause tube seconds ↦ Prim.grind (rules, common_steps)
+      | Op.StatsJob id ↦ Prim.grind (rules, common_steps)
+      | Op.StatsTube tube ↦ Prim.grind (rules, common_steps)
+      | Op.Stats ↦ Prim.grind (rules, common_steps)
+    ] };
 
     fn copy(&self) -> Result<Self, AllocError> {
         Ok(match self {

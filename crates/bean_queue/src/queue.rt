@@ -110,21 +110,29 @@ impl<M: JobMap> QueueOver<M> {
         Ok(())
     }
 
-    /// Lets a second come.
+    /// Lets a second come, unless it has come before.
+    #[tactic(auto, unfolding(crate::specs::Effects::tick_effect))]
     fn tick(&mut self, second: u64, out: &mut Vec<Answer<Reply>>) -> Result<(), AllocError>
         requires { second ≤ 2 ^ 40 }
         ensures { HasObeyed self.old self.new out.old.items out.new.items
             (tick_effect second self.old) result }
     {
-        self.answers.clear();
-        if let Err(e) = self.logic.tick(self.alloc, second, &mut self.answers) {
-            self.logic.take_back();
-            return Err(e);
+        if self.logic.has_come(second) {
+            return Ok(());
         }
+        self.answers.clear();
+        let over = match self.logic.pass(self.alloc, second, &mut self.answers) {
+            Ok(over) => over,
+            Err(e) => {
+                self.logic.take_back();
+                return Err(e);
+            }
+        };
         if let Err(e) = out.append(&mut self.answers) {
             self.logic.take_back();
             return Err(e);
         }
+        self.logic.settle_all(over.as_slice());
         self.logic.keep();
         Ok(())
     }

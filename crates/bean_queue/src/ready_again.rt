@@ -1,8 +1,9 @@
-ghost use Rattle.std.specs.Prelude.{◌≡◌};
+ghost use Rattle.std.specs.Prelude.{◌≡◌, OnOk};
 ghost use Rattle.job_store.specs.Entries.{each_value};
 ghost use Rattle.job_store.specs.States.{is_due, is_held, with_state, over_job};
 ghost use Rattle.job_store.specs.declared.state.State.{State};
-ghost use Rattle.bean_queue.specs.Effects.{change_if};
+ghost use Rattle.bean_queue.specs.Counting.{and_more};
+ghost use Rattle.bean_queue.specs.Effects.{change_if, times_over};
 ghost use Rattle.bean_queue.specs.Calls.{DraftsWaking};
 
 use crate::job_draft::JobDraft;
@@ -26,7 +27,7 @@ impl Returning {
     ghost use Rattle.job_store.specs.LookUps.{due_of_job};
     ghost use Rattle.job_store.specs.declared.history.History.{History};
     ghost use Rattle.job_store.specs.Histories.{after_mark};
-    ghost use Rattle.bean_queue.specs.Effects.{is_returning, returned_history, returned_job};
+    ghost use Rattle.bean_queue.specs.Effects.{is_returning, returned_history, returned_job, returned_timeouts};
 
     /// Of these jobs in a map, that of the least (due, id).
     fn first<M: JobMap>(self, jobs: &M) -> Option<(u64, &Job)>
@@ -49,13 +50,16 @@ impl Returning {
         }
     }
 
-    /// Makes them ready, and tells their tubes.
+    /// Makes them ready, and tells their tubes. Those whose time to run is over are counted.
     fn make_ready<M: JobMap>(
         self,
         alloc: Global,
         jobs: &mut JobDraft<M>,
+        timeouts: &mut u64,
     ) -> Result<IndexSet<Name>, AllocError>
-        ensures { DraftsWaking (λ jobs. jobs) jobs.old jobs.new
+        ensures counted { OnOk result (timeouts.new
+            ≡ and_more (returned_timeouts self jobs.old.now) timeouts.old) }
+        ensures ready { DraftsWaking (λ jobs. jobs) jobs.old jobs.new
             (each_value (change_if (is_returning self) (returned_job self)) jobs.old.now) result }
     {
         let mut woken = IndexSet::new(alloc);
@@ -63,21 +67,28 @@ impl Returning {
             let mark = self.mark(job.state);
             woken.insert(job.tube.copy()?)?;
             jobs.set_state(id, State::Ready, mark)?;
+            if mark == Mark::TimedOut {
+                *timeouts = timeouts.saturating_add(1);
+            }
         }
         Ok(woken)
     }
 }
 
-/// Makes the jobs ready whose delay or time to run is over at this second, and tells their tubes.
+/// Makes the jobs ready whose delay or time to run is over at this second, and tells their tubes. Of the latter it counts
+/// how many there are.
 pub fn make_due_ready<M: JobMap>(
     alloc: Global,
     jobs: &mut JobDraft<M>,
     second: u64,
+    timeouts: &mut u64,
 ) -> Result<IndexSet<Name>, AllocError>
-    ensures { DraftsWaking (λ jobs. jobs) jobs.old jobs.new
+    ensures counted { OnOk result (timeouts.new
+        ≡ and_more (times_over second jobs.old.now) timeouts.old) }
+    ensures ready { DraftsWaking (λ jobs. jobs) jobs.old jobs.new
         (each_value (change_if (is_due second) over_job) jobs.old.now) result }
 {
-    Returning::Due { second }.make_ready(alloc, jobs)
+    Returning::Due { second }.make_ready(alloc, jobs, timeouts)
 }
 
 /// Makes the jobs ready that the session has, and tells their tubes.
@@ -89,5 +100,5 @@ pub fn release_held<M: JobMap>(
     ensures { DraftsWaking (λ jobs. jobs) jobs.old jobs.new
         (each_value (change_if (is_held session) (with_state State.Ready)) jobs.old.now) result }
 {
-    Returning::Held { session }.make_ready(alloc, jobs)
+    Returning::Held { session }.make_ready(alloc, jobs, &mut 0)
 }

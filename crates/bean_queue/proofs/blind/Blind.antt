@@ -11,8 +11,8 @@ use Rattle.pause_store.specs.Pauses.{left_at}
 use Rattle.bean_queue.specs.declared.op.Op.{Op}
 use Rattle.bean_queue.specs.declared.reply.Reply.{Reply}
 use Rattle.bean_queue.specs.Queue.{QueueState, with_jobs, with_sessions}
-use Rattle.bean_queue.specs.Forgetful.{without_history, without_histories, is_report, asks_for_report}
-use Rattle.bean_queue.specs.Rows.{row, stats_job_row}
+use Rattle.bean_queue.specs.Forgetful.{without_history, bare, without_counts, is_report, asks_for_report}
+use Rattle.bean_queue.specs.Rows.{row, stats_job_row, stats_tube_row, stats_row}
 use Rattle.bean_queue.specs.Turns.{QueueOutcome, stop, all_turns, serve, deadline_turn, timeout_turn}
 use Rattle.bean_queue.specs.Effects.{then_do, own, own_outcome, called, ends_wait, is_zero, turned_away, has_no_number, carried_out, do_effect}
 use Rattle.bean_queue.specs.Effects.{change_if, released, forgotten, close_effect, at_second, tick_effect, act_effect, effect}
@@ -21,10 +21,10 @@ use Rattle.bean_queue.proofs.blind.Rows.{row-blind}
 use Rattle.bean_queue.proofs.blind.Serving.{SameOutcome, Respects, serve-respects, holds-blind, deadlines-respect, timeouts-respect}
 
 -- what takes no notice of histories respects them
-respects-from : (f : QueueState → QueueOutcome) → ((s : QueueState) → SameOutcome (f (without_histories s)) (f s)) → Respects f
+respects-from : (f : QueueState → QueueOutcome) → ((s : QueueState) → SameOutcome (f (without_counts s)) (f s)) → Respects f
 respects-from f blind s t e = record {
   answers = sym (blind s).answers ∙ ap (λ u. (f u).answers) e ∙ (blind t).answers;
-  state = sym (blind s).state ∙ ap (λ u. without_histories (f u).state) e ∙ (blind t).state;
+  state = sym (blind s).state ∙ ap (λ u. without_counts (f u).state) e ∙ (blind t).state;
 }
 
 then-respects : (f g : QueueState → QueueOutcome) → Respects f → Respects g → Respects (λ s. then_do (f s) g)
@@ -39,21 +39,30 @@ outcome_if b c o p q r e h k =
 
 -- An operation
 
+called-respects : (op : Op) (key : Key) → Respects (λ s. stop (called op key.session s))
+called-respects op key =
+    respects-from (λ s. stop (called op key.session s))
+    (λ s. record { answers = refl; state = ap (bare (called op key.session s)) (blanks-twice s.jobs) })
+
+row-respects : (op : Op) (key : Key) → is_report op ≡ false → Respects (λ s. own_outcome key (row op key s))
+row-respects op key plain =
+    respects-from (λ s. own_outcome key (row op key s))
+    (λ s. let r = row-blind op key s plain in record { answers = ap (own key) r.reply; state = r.state })
+
 own-respects : (op : Op) (key : Key) → is_report op ≡ false → Respects (λ s. own_outcome key (row op key (called op key.session s)))
-own-respects op key plain =
-    respects-from (λ s. own_outcome key (row op key (called op key.session s)))
-    (λ s. let r = row-blind op key (called op key.session s) plain in record { answers = ap (own key) r.reply; state = r.state })
+own-respects op key plain s t e =
+    row-respects op key plain (called op key.session s) (called op key.session t) (called-respects op key s t e).state
 
-stop-blind : (s : QueueState) → SameOutcome (stop (without_histories s)) (stop s)
-stop-blind s = record { answers = refl; state = ap (with_jobs s) (blanks-twice s.jobs) }
+stop-blind : (s : QueueState) → SameOutcome (stop (without_counts s)) (stop s)
+stop-blind s = record { answers = refl; state = ap (bare s) (blanks-twice s.jobs) }
 
-ends_wait-blind : (s : QueueState) (key : Key) (reply : Reply) → SameOutcome (ends_wait (without_histories s) key reply) (ends_wait s key reply)
+ends_wait-blind : (s : QueueState) (key : Key) (reply : Reply) → SameOutcome (ends_wait (without_counts s) key reply) (ends_wait s key reply)
 ends_wait-blind s key reply = record {
   answers = refl;
-  state = ap (with_jobs (with_sessions s (with_wait_ended key.session s.sessions))) (blanks-twice s.jobs);
+  state = ap (bare (with_sessions s (with_wait_ended key.session s.sessions))) (blanks-twice s.jobs);
 }
 
-turned_away-blind : (op : Op) (key : Key) (s : QueueState) → SameOutcome (turned_away op key (without_histories s)) (turned_away op key s)
+turned_away-blind : (op : Op) (key : Key) (s : QueueState) → SameOutcome (turned_away op key (without_counts s)) (turned_away op key s)
 unfolding turned_away
 turned_away-blind (Op.Reserve seconds) key s =
     outcome_if (is_waiting (session_of key.session s.sessions)) _ _ _ _ _ refl
@@ -69,7 +78,7 @@ carried_out-respects op key plain =
     (then-respects (λ s. own_outcome key (row op key (called op key.session s))) serve (own-respects op key plain) serve-respects)
     (respects-from (turned_away op key) (turned_away-blind op key))
 
-no_number-blind : (op : Op) (s : QueueState) → has_no_number op (without_histories s) ≡ has_no_number op s
+no_number-blind : (op : Op) (s : QueueState) → has_no_number op (without_counts s) ≡ has_no_number op s
 no_number-blind (Op.Put pri delay ttr body) s = refl
 no_number-blind (Op.Reserve seconds) s = refl
 no_number-blind (Op.Bury id pri) s = refl
@@ -83,11 +92,20 @@ do-respects op key plain s t e =
     (respects-from (λ u. ends_wait u key Reply.InternalError) (λ u. ends_wait-blind u key Reply.InternalError) s t e)
     (carried_out-respects op key plain s t e)
 
--- a report leaves the state that listing the used tube leaves
-report-state : (op : Op) (key : Key) (s : QueueState) → is_report op ≡ true → (do_effect op key s).state ≡ (do_effect Op.ListTubeUsed key s).state
-unfolding do_effect carried_out row stats_job_row turned_away
+-- after a report, whatever it tells, waiting sessions are served
+report-state : (op : Op) (key : Key) (s : QueueState) → is_report op ≡ true → (do_effect op key s).state ≡ (serve (called op key.session s)).state
+unfolding do_effect carried_out row stats_job_row stats_tube_row stats_row turned_away
 report-state (Op.StatsJob id) key s report = refl
+report-state (Op.StatsTube tube) key s report = refl
+report-state Op.Stats key s report = refl
 report-state _ key s report = cc
+
+report-respects : (op : Op) (key : Key) (s t : QueueState) → is_report op ≡ true → without_counts s ≡ without_counts t
+    → without_counts (do_effect op key s).state ≡ without_counts (do_effect op key t).state
+report-respects op key s t report e =
+    ap without_counts (report-state op key s report) ∙
+    (serve-respects (called op key.session s) (called op key.session t) (called-respects op key s t e).state).state ∙
+    ap without_counts (sym (report-state op key t report))
 
 -- The end of a session
 
@@ -102,7 +120,7 @@ released-respects : (x : ℕ) → Respects (λ s. stop (released x s))
 released-respects x =
     respects-from (λ s. stop (released x s)) (λ s. record {
       answers = refl;
-      state = ap (with_jobs (with_sessions s (with_wait_ended x s.sessions)))
+      state = ap (bare (with_sessions s (with_wait_ended x s.sessions)))
           (each-blind (change_if (is_held x) (with_state State.Ready)) s.jobs
           (if-blind (is_held x) (with_state State.Ready) (λ job. refl)));
     })
@@ -111,7 +129,7 @@ close-respects : (x : ℕ) → Respects (close_effect x)
 unfolding close_effect
 close-respects x s t e =
     let served = serve-respects (released x s) (released x t) (released-respects x s t e).state in
-    record { answers = served.answers; state = ap (forgotten x) served.state }
+    record { answers = served.answers; state = ap (λ u. with_sessions u (without x u.sessions)) served.state }
 
 -- A second
 
@@ -119,7 +137,7 @@ second-respects : (second : ℕ) → Respects (λ s. stop (at_second second s))
 second-respects second =
     respects-from (λ s. stop (at_second second s)) (λ s. record {
       answers = refl;
-      state = ap (with_jobs (record s { now = second; pauses = left_at second s.pauses }))
+      state = ap (bare (record s { now = second; pauses = left_at second s.pauses }))
           (each-blind (change_if (is_due second) over_job) s.jobs (if-blind (is_due second) over_job (λ job. refl)));
     })
 
@@ -127,9 +145,10 @@ tick-respects : (second : ℕ) → Respects (tick_effect second)
 unfolding tick_effect
 tick-respects second s t e =
     outcome_if (nat_lt s.now second) (nat_lt t.now second) _ _ _ _ (ap (λ (u : QueueState). nat_lt u.now second) e)
-    (then-respects (λ u. then_do (serve u) (all_turns deadline_turn)) (all_turns timeout_turn)
+    (let told = then-respects (λ u. then_do (serve u) (all_turns deadline_turn)) (all_turns timeout_turn)
     (then-respects serve (all_turns deadline_turn) serve-respects deadlines-respect)
-    timeouts-respect (at_second second s) (at_second second t) (second-respects second s t e).state)
+    timeouts-respect (at_second second s) (at_second second t) (second-respects second s t e).state in
+    record { answers = told.answers; state = told.state })
     (record { answers = refl; state = e })
 
 pub effect-respects : (c : Command Op) → asks_for_report c.act ≡ false → Respects (effect c)
@@ -141,17 +160,15 @@ effect-respects c plain =
       | Act.Tick ↦ λ plain. tick-respects c.key.number
     ] plain
 
--- the state after a command is the same but for histories, also where it asks for one
-pub effect-state : (c : Command Op) (s t : QueueState) → without_histories s ≡ without_histories t
-    → without_histories (effect c s).state ≡ without_histories (effect c t).state
+-- the state after a command is the same but for what is counted, also where it asks for that
+pub effect-state : (c : Command Op) (s t : QueueState) → without_counts s ≡ without_counts t
+    → without_counts (effect c s).state ≡ without_counts (effect c t).state
 unfolding effect act_effect
 effect-state c s t e =
-    elim c.act as (λ act. without_histories (act_effect act c.key s).state ≡ without_histories (act_effect act c.key t).state) [
+    elim c.act as (λ act. without_counts (act_effect act c.key s).state ≡ without_counts (act_effect act c.key t).state) [
       | Act.Do op ↦
-          elim (is_report op) as (λ b. is_report op ≡ b → without_histories (do_effect op c.key s).state ≡ without_histories (do_effect op c.key t).state) [
-            | true ↦ λ report.
-                ap without_histories (report-state op c.key s report) ∙ (do-respects Op.ListTubeUsed c.key refl s t e).state ∙
-                ap without_histories (sym (report-state op c.key t report))
+          elim (is_report op) as (λ b. is_report op ≡ b → without_counts (do_effect op c.key s).state ≡ without_counts (do_effect op c.key t).state) [
+            | true ↦ λ report. report-respects op c.key s t report e
             | false ↦ λ plain. (do-respects op c.key plain s t e).state
           ] refl
       | Act.Close ↦ (close-respects c.key.session s t e).state

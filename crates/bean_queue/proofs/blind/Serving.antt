@@ -10,7 +10,7 @@ use Rattle.session_store.specs.declared.session.SessionState.{SessionState}
 use Rattle.session_store.specs.Sessions.{first_waiting, with_wait_ended, is_waiting, wait_rank, has_timed_out}
 use Rattle.bean_queue.specs.declared.reply.Reply.{Reply}
 use Rattle.bean_queue.specs.Queue.{QueueState, with_jobs, holds_by, paused_tubes}
-use Rattle.bean_queue.specs.Forgetful.{without_histories}
+use Rattle.bean_queue.specs.Forgetful.{without_counts}
 use Rattle.bean_queue.specs.Turns.{QueueOutcome, QueueTurn, turns, all_turns, after_option, wanted, next_job, answer_to, given, give, give_to}
 use Rattle.bean_queue.specs.Turns.{serve_turn, told_turn, tell, deadline_turn, timeout_turn, serve}
 use Rattle.bean_queue.proofs.blind.Jobs.{blank, blanks, blanks-twice, altered-blind, least-blind, any-blind}
@@ -18,22 +18,22 @@ use Rattle.bean_queue.proofs.blind.Jobs.{blank, blanks, blanks-twice, altered-bl
 -- the answers are the same, and the states but for histories
 pub record SameOutcome (o p : QueueOutcome) : Type 0 where
   pub answers : o.answers ≡ p.answers
-  pub state : without_histories o.state ≡ without_histories p.state
+  pub state : without_counts o.state ≡ without_counts p.state
 
 -- of states that are the same but for histories it makes outcomes that are
 abbrev pub Respects : (QueueState → QueueOutcome) → Type 0
-Respects f = (s t : QueueState) → without_histories s ≡ without_histories t → SameOutcome (f s) (f t)
+Respects f = (s t : QueueState) → without_counts s ≡ without_counts t → SameOutcome (f s) (f t)
 
 -- a turn, but for histories
 abbrev seen : QueueTurn → QueueTurn
-seen t = record { state = without_histories t.state; answer = t.answer }
+seen t = record { state = without_counts t.state; answer = t.answer }
 
 -- the turn that there may be doesn't depend on histories
 abbrev IsBlindTurn : (QueueState → Option QueueTurn) → Type 0
-IsBlindTurn turn = (s : QueueState) → option_map seen (turn (without_histories s)) ≡ option_map seen (turn s)
+IsBlindTurn turn = (s : QueueState) → option_map seen (turn (without_counts s)) ≡ option_map seen (turn s)
 
 after-respects : (next : QueueState → QueueOutcome) (s t : QueueState) (o p : Option QueueTurn) → Respects next
-    → without_histories s ≡ without_histories t → option_map seen o ≡ option_map seen p
+    → without_counts s ≡ without_counts t → option_map seen o ≡ option_map seen p
     → SameOutcome (after_option next s o) (after_option next t p)
 after-respects next s t None None respects e same = record { answers = refl; state = e }
 after-respects next s t None (Some u) respects e same = cc
@@ -77,12 +77,12 @@ all_wanted-blind paused jobs (e ∷ es) =
     ap₂ cons_option (wanted-blind paused jobs e) (all_wanted-blind paused jobs es) ∙
     cons-blind (wanted paused jobs e) (filter_map (wanted paused jobs) es)
 
-next_job-blind : (s : QueueState) → next_job (without_histories s) ≡ option_map blank (next_job s)
+next_job-blind : (s : QueueState) → next_job (without_counts s) ≡ option_map blank (next_job s)
 next_job-blind s =
     ap (least (λ e. true) pri_of_job) (all_wanted-blind (paused_tubes s) s.jobs s.sessions) ∙
     least-blind (λ e. true) pri_of_job (filter_map (wanted (paused_tubes s) s.jobs) s.sessions) (λ e. refl) (λ job. refl)
 
-given-blind : (s : QueueState) (j : ℕ × Job) (w : ℕ × SessionState) → seen (given (without_histories s) (blank j) w) ≡ seen (given s j w)
+given-blind : (s : QueueState) (j : ℕ × Job) (w : ℕ × SessionState) → seen (given (without_counts s) (blank j) w) ≡ seen (given s j w)
 unfolding given
 given-blind s j w =
     ap (λ jobs. let t : QueueTurn = record {
@@ -91,17 +91,17 @@ given-blind s j w =
     } in t)
     (altered-blind j.0 (reserved_job w.0 (s.now + j.1.ttr)) s.jobs (λ job. refl))
 
-give-blind : (s : QueueState) (o : Option (ℕ × Job)) → option_map seen (give (without_histories s) (option_map blank o)) ≡ option_map seen (give s o)
+give-blind : (s : QueueState) (o : Option (ℕ × Job)) → option_map seen (give (without_counts s) (option_map blank o)) ≡ option_map seen (give s o)
 give-blind s None = refl
 give-blind s (Some j) =
-    elim (first_waiting (λ e. is_among j.1.tube e.1.watched) s.sessions) as (λ w. option_map seen (give_to (without_histories s) (blank j) w) ≡ option_map seen (give_to s j w)) [
+    elim (first_waiting (λ e. is_among j.1.tube e.1.watched) s.sessions) as (λ w. option_map seen (give_to (without_counts s) (blank j) w) ≡ option_map seen (give_to s j w)) [
       | None ↦ refl
       | Some w ↦ ap Some (given-blind s j w)
     ]
 
 serve_turn-blind : IsBlindTurn serve_turn
 unfolding serve_turn
-serve_turn-blind s = ap (λ o. option_map seen (give (without_histories s) o)) (next_job-blind s) ∙ give-blind s (next_job s)
+serve_turn-blind s = ap (λ o. option_map seen (give (without_counts s) o)) (next_job-blind s) ∙ give-blind s (next_job s)
 
 pub serve-respects : Respects serve
 unfolding serve
@@ -109,7 +109,7 @@ serve-respects = all_turns-respect serve_turn serve_turn-blind
 
 -- A session is told
 
-told-blind : (s : QueueState) (reply : Reply) (w : ℕ × SessionState) → seen (told_turn (without_histories s) reply w) ≡ seen (told_turn s reply w)
+told-blind : (s : QueueState) (reply : Reply) (w : ℕ × SessionState) → seen (told_turn (without_counts s) reply w) ≡ seen (told_turn s reply w)
 unfolding told_turn
 told-blind s reply w =
     ap (λ jobs. let t : QueueTurn = record {
@@ -118,7 +118,7 @@ told-blind s reply w =
     } in t)
     (blanks-twice s.jobs)
 
-tell-blind : (s : QueueState) (reply : Reply) (o : Option (ℕ × SessionState)) → option_map seen (tell (without_histories s) reply o) ≡ option_map seen (tell s reply o)
+tell-blind : (s : QueueState) (reply : Reply) (o : Option (ℕ × SessionState)) → option_map seen (tell (without_counts s) reply o) ≡ option_map seen (tell s reply o)
 tell-blind s reply None = refl
 tell-blind s reply (Some w) = ap Some (told-blind s reply w)
 
@@ -135,7 +135,7 @@ first_waiting-alike test other (e ∷ es) same =
 pub deadline_turn-blind : IsBlindTurn deadline_turn
 unfolding deadline_turn
 deadline_turn-blind s =
-    ap (λ o. option_map seen (tell (without_histories s) Reply.DeadlineSoon o))
+    ap (λ o. option_map seen (tell (without_counts s) Reply.DeadlineSoon o))
     (first_waiting-alike (λ e. holds_by e.0 (s.now + 1) (blanks s.jobs)) (λ e. holds_by e.0 (s.now + 1) s.jobs) s.sessions
     (λ e. holds-blind e.0 (s.now + 1) s.jobs)) ∙
     tell-blind s Reply.DeadlineSoon (first_waiting (λ e. holds_by e.0 (s.now + 1) s.jobs) s.sessions)

@@ -15,14 +15,14 @@ use Rattle.job_store.specs.LookUps.{is_among, ready_in, best_ready, pri_of_job, 
 use Rattle.job_store.specs.States.{is_ready, reserved_job}
 use Rattle.session_store.specs.declared.session.SessionState.{SessionState}
 use Rattle.session_store.specs.declared.session.Wait.{Wait}
-use Rattle.session_store.specs.Sessions.{new_session, session_of, with_wait, with_wait_ended, is_waiting, wait_rank, first_waiting}
+use Rattle.session_store.specs.Sessions.{new_session, session_of, known, with_wait, with_wait_ended, is_waiting, wait_rank, first_waiting}
 use Rattle.bean_queue.specs.declared.op.Op.{Op}
 use Rattle.bean_queue.specs.declared.reply.Reply.{Reply}
 use Rattle.bean_queue.specs.Queue.{QueueState, with_sessions, watched_by, paused_tubes, holds_by}
 use Rattle.bean_queue.specs.Rows.{row, reserve_row, time_out, waiting}
 use Rattle.bean_queue.specs.Turns.{QueueOutcome, stop, after_turn, after_option, all_turns, wanted, next_job, given, give, give_to, serve_turn, serve}
 use Rattle.bean_queue.specs.TurnLaws.{least-none, none-least, best_ready-in}
-use Rattle.bean_queue.specs.Effects.{then_do, called, own_outcome, is_zero, turned_away, carried_out}
+use Rattle.bean_queue.specs.Effects.{then_do, asking, called, own_outcome, is_zero, turned_away, carried_out}
 use Rattle.bean_queue.specs.Reserving.{is_reserve, wake_outcome, IsTaken, best_for, with_next_rank, taken, outcome_with}
 use Rattle.bean_queue.specs.Reserving.{denial, refused_by, reserved_by, reserve_outcome}
 use Rattle.bean_queue.proofs.best.Paused.{open-watched, watched-open}

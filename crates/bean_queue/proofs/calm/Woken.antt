@@ -230,6 +230,8 @@ row-covers (Op.Pause tube seconds) key s q wakes none ids numbers =
     (covers-new (tube ∷ []) s _ none (λ w i t. i) (paused-opens tube seconds s) (none-woken (tube ∷ []) s.jobs))
     (covers-nothing (tube ∷ []) s none)
 row-covers (Op.StatsJob id) key s q wakes none ids numbers = cc
+row-covers (Op.StatsTube tube) key s q wakes none ids numbers = cc
+row-covers Op.Stats key s q wakes none ids numbers = cc
 
 -- after such an operation
 pub covers-waking : (op : Op) (key : Key) (s t : QueueState) (tubes : List (List ℕ)) → is_quiet op ≡ false

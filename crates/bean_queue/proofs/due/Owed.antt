@@ -6,7 +6,7 @@ use Rattle.job_store.specs.States.{is_held, due_of}
 use Rattle.session_store.specs.declared.session.SessionState.{SessionState}
 use Rattle.session_store.specs.Sessions.{first_waiting, is_waiting, wait_rank, has_timed_out}
 use Rattle.bean_queue.specs.declared.reply.Reply.{Reply}
-use Rattle.bean_queue.specs.Effects.{at_second, tick_effect, then_do}
+use Rattle.bean_queue.specs.Effects.{at_second, tick_effect, then_do, then_settled}
 use Rattle.bean_queue.specs.Owed.{OwesNothing}
 use Rattle.bean_queue.specs.Queue.{QueueState, holds_by}
 use Rattle.bean_queue.specs.TurnLaws.{least-none, turns-keep, timeout_turn-is, IsTold, IfSome-map}
@@ -85,10 +85,14 @@ second-owes s =
     let t = (all_turns deadline_turn (serve s).state).state in
     owes-nothing _ (timeouts-calm t (deadlines-calm (serve s).state (serve-done s))) (timeouts-hold t (holds-done (serve s).state)) (late-done t)
 
+settled-owes : (tubes : List (List ℕ)) (s : QueueState) → OwesNothing s → OwesNothing (settled tubes s)
+settled-owes tubes s owes w i waits = let o = owes w i waits in record { no_job = o.no_job; no_deadline = o.no_deadline; no_time_out = o.no_time_out }
+
 pub tick-owes : (s : QueueState) (second : ℕ) → s.now < second → OwesNothing (tick_effect second s).state
 unfolding tick_effect
 tick-owes s second above =
     subst (λ b. OwesNothing (cond b
-    (then_do (then_do (serve (at_second second s)) (all_turns deadline_turn)) (all_turns timeout_turn))
+    (then_settled (tubes_over second s.pauses)
+    (then_do (then_do (serve (at_second second s)) (all_turns deadline_turn)) (all_turns timeout_turn)))
     (stop s)).state) (sym (lt-ltb s.now second above))
-    (second-owes (at_second second s))
+    (settled-owes (tubes_over second s.pauses) _ (second-owes (at_second second s)))

@@ -11,13 +11,14 @@ use Rattle.object.specs.declared.command.Command.{Command}
 use Rattle.object.specs.declared.command.Key.{Key}
 use Rattle.job_store.specs.States.{is_held, is_due}
 use Rattle.job_store.specs.EntryLaws.{Rising-each}
+use Rattle.pause_store.specs.Pauses.{tubes_over}
 use Rattle.session_store.specs.Sessions.{session_of, is_waiting}
 use Rattle.bean_queue.specs.declared.op.Op.{Op}
 use Rattle.bean_queue.specs.declared.reply.Reply.{Reply}
 use Rattle.bean_queue.specs.Queue.{QueueState, holds_by, HasRisingIds}
 use Rattle.bean_queue.specs.Rows.{Row, row}
 use Rattle.bean_queue.specs.Turns.{QueueOutcome, stop, serve, all_turns, deadline_turn, timeout_turn}
-use Rattle.bean_queue.specs.Effects.{own, called, ends_wait, is_zero, turned_away, then_do, own_outcome, has_no_number}
+use Rattle.bean_queue.specs.Effects.{own, called, ends_wait, is_zero, turned_away, then_do, then_settled, own_outcome, has_no_number}
 use Rattle.bean_queue.specs.Effects.{carried_out, do_effect, released, close_effect, at_second, tick_effect, act_effect}
 use Rattle.bean_queue.specs.Effects.{effect}
 use Rattle.bean_queue.specs.Places.{QueuePlace, queue_place}
@@ -150,19 +151,33 @@ close-gives id x s sound = let g = serve-gives id (released x s) (Rising-each _ 
           ];
     }
 
+-- what is counted of tubes has no part in it
+settled-gives : (tubes : List (List ℕ)) (id now : ℕ) (o : QueueOutcome) → GivesOnce id now o → GivesOnce id now (then_settled tubes o)
+settled-gives tubes id now o g = record {
+  sound = g.sound;
+  at = g.at;
+  given =
+      elim g.given as (λ v. IsQuiet id o.answers ⊎ Gave id now (then_settled tubes o)) [
+        | inl quiet ↦ inl quiet
+        | inr gave ↦ inr (record { answer = gave.answer; ttr = gave.ttr; only = gave.only; held = gave.held })
+      ];
+}
+
 pub tick-gives : (id t : ℕ) (s : QueueState) → HasRisingIds s → GivesOnce id (tick_effect t s).state.now (tick_effect t s)
 unfolding tick_effect
 tick-gives id t s sound =
     elim (nat_lt s.now t) as (λ b. GivesOnce id
-    (cond b (then_do (then_do (serve (at_second t s)) (all_turns deadline_turn)) (all_turns timeout_turn))
-    (stop s)).state.now (cond b (then_do (then_do (serve (at_second t s)) (all_turns deadline_turn))
-    (all_turns timeout_turn)) (stop s))) [
+    (cond b (then_settled (tubes_over t s.pauses) (then_do (then_do (serve (at_second t s)) (all_turns deadline_turn)) (all_turns timeout_turn)))
+    (stop s)).state.now (cond b (then_settled (tubes_over t s.pauses) (then_do (then_do (serve (at_second t s)) (all_turns deadline_turn))
+    (all_turns timeout_turn))) (stop s))) [
       | true ↦
           let g = gives-then id t (then_do (serve (at_second t s)) (all_turns deadline_turn)) (all_turns timeout_turn)
           (gives-then id t (serve (at_second t s)) (all_turns deadline_turn)
           (serve-gives id (at_second t s) (Rising-each _ 1 s.next_id s.jobs sound)) (deadlines-aside _))
           (timeouts-aside _) in
-          subst (λ n. GivesOnce id n (then_do (then_do (serve (at_second t s)) (all_turns deadline_turn)) (all_turns timeout_turn))) (sym g.at) g
+          let f = settled-gives (tubes_over t s.pauses) id t (then_do (then_do (serve (at_second t s)) (all_turns deadline_turn)) (all_turns timeout_turn)) g in
+          subst (λ n. GivesOnce id n
+          (then_settled (tubes_over t s.pauses) (then_do (then_do (serve (at_second t s)) (all_turns deadline_turn)) (all_turns timeout_turn)))) (sym f.at) f
       | false ↦ record { sound = sound; at = refl; given = inl refl }
     ]
 
@@ -322,8 +337,8 @@ tick-holds x id ttr second key s sound h =
       | inr early ↦
           elim (nat_lt s.now key.number) as (λ b. HoldsOn x id ttr second
           (queue_place (record { key = key; act = Act.Tick })
-          (cond b (then_do (then_do (serve (at_second key.number s)) (all_turns deadline_turn))
-          (all_turns timeout_turn)) (stop s)))) [
+          (cond b (then_settled (tubes_over key.number s.pauses) (then_do (then_do (serve (at_second key.number s)) (all_turns deadline_turn))
+          (all_turns timeout_turn))) (stop s)))) [
             | true ↦
                 let k = serve-keeps x id ttr second key.number (at_second key.number s) (record {
                   sound = Rising-each _ 1 s.next_id s.jobs sound;

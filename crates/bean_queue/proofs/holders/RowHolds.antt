@@ -18,10 +18,11 @@ use Rattle.bean_queue.specs.declared.op.Op.{Op}
 use Rattle.bean_queue.specs.declared.reply.Reply.{Reply}
 use Rattle.bean_queue.specs.Queue.{QueueState, with_jobs, used_by, watched_by, HasRisingIds}
 use Rattle.bean_queue.specs.Rows.{is_idle, Row, replies, row, put_row, use_row, watch_row, ignore_row, reserve_row}
-use Rattle.bean_queue.specs.Rows.{delete_row, may_delete, is_job_that, release_row, touch_row, bury_row, kicked}
+use Rattle.bean_queue.specs.Rows.{delete_row, may_delete, delete_found, is_job_that, release_row, touch_row, bury_row, kicked}
 use Rattle.bean_queue.specs.Rows.{kicked_option, kick_row, kick_job_row, peek_row, shown, at_id, pause_row}
 use Rattle.bean_queue.specs.Tubes.{all_tubes}
-use Rattle.bean_queue.specs.Rows.{is_free, reserve_found, reserve_job_row, reported, stats_job_row}
+use Rattle.bean_queue.specs.Rows.{is_free, reserve_found, reserve_job_row, reported, stats_job_row, stats_tube_row, stats_row}
+use Rattle.bean_queue.specs.Reports.{tube_report}
 use Rattle.bean_queue.specs.Effects.{own}
 use Rattle.bean_queue.specs.Holds.{is_touch, handing_out}
 use Rattle.bean_queue.specs.TurnLaws.{least-in, IfSome-map}
@@ -73,6 +74,9 @@ shown-quiet : (key : Key) (o : Option (ℕ × Job)) (id : ℕ) → IsQuiet id (o
 shown-quiet key None id = refl
 shown-quiet key (Some e) id = refl
 
+sameness : (a b : Job) → Some a ≡ Some b → a ≡ b
+sameness a b e = cc
+
 -- a job that is free is nobody's
 free-unheld : (jobs : List (ℕ × Job)) (id : ℕ) (job : Job) → value_at id jobs ≡ Some job → is_free job.state ≡ true
     → (x ttr second : ℕ) → Held jobs x id ttr second → ⊥
@@ -113,13 +117,24 @@ reserved-ok s key k sound =
           ] refl
     ] refl
 
+deleted-ok : (s : QueueState) (key : Key) (j : ℕ) (o : Option Job) → HasRisingIds s → IsRowOk s key (delete_found s key.session j o)
+deleted-ok s key j None sound = ok_same s key Reply.NotFound (λ id. refl) sound
+deleted-ok s key j (Some job) sound =
+    ok_if s key (may_delete key.session job.state) _ _
+    (record { sound = Rising-without j 1 s.next_id s.jobs sound; at = refl; given = λ id. inl refl })
+    (ok_same s key Reply.NotFound (λ id. refl) sound)
+
+told-quiet : (key : Key) (b : Bool) (text : List ℕ) (id : ℕ) → IsQuiet id (own key (Some (cond b (Reply.Data text) Reply.NotFound)))
+told-quiet key true text id = refl
+told-quiet key false text id = refl
+
 reported-quiet : (key : Key) (now k : ℕ) (o : Option Job) (id : ℕ) → IsQuiet id (own key (Some (reported now k o)))
 reported-quiet key now k None id = refl
 reported-quiet key now k (Some job) id = refl
 
 pub row-ok : (op : Op) (key : Key) (s : QueueState) → HasRisingIds s → IsRowOk s key (row op key s)
 unfolding row put_row use_row watch_row ignore_row reserve_row delete_row release_row touch_row bury_row kick_row kick_job_row
-  reserve_job_row peek_row pause_row stats_job_row
+  reserve_job_row peek_row pause_row stats_job_row stats_tube_row stats_row
 row-ok (Op.Put pri delay ttr body) key s sound =
     record {
       sound =
@@ -134,10 +149,7 @@ row-ok (Op.Ignore tube) key s sound =
     ok_if s key (is_alone tube (watched_by s key.session)) _ _ (ok_same s key Reply.NotIgnored (λ id. refl) sound)
     (record { sound = sound; at = refl; given = λ id. inl refl })
 row-ok (Op.Reserve seconds) key s sound = record { sound = sound; at = refl; given = λ id. inl refl }
-row-ok (Op.Delete j) key s sound =
-    ok_if s key (is_job_that (may_delete key.session) (value_at j s.jobs)) _ _
-    (record { sound = Rising-without j 1 s.next_id s.jobs sound; at = refl; given = λ id. inl refl })
-    (ok_same s key Reply.NotFound (λ id. refl) sound)
+row-ok (Op.Delete j) key s sound = deleted-ok s key j (value_at j s.jobs) sound
 row-ok (Op.Release j pri delay) key s sound =
     ok_if s key (is_job_that (is_held key.session) (value_at j s.jobs)) _ _
     (ok_altered s key j _ Reply.Released (λ id. refl) sound) (ok_same s key Reply.NotFound (λ id. refl) sound)
@@ -164,6 +176,8 @@ row-ok Op.ListTubesWatched key s sound = ok_same s key _ (λ id. refl) sound
 row-ok (Op.Pause tube seconds) key s sound =
     ok_if s key (is_among tube (all_tubes s)) _ _ (record { sound = sound; at = refl; given = λ id. inl refl }) (ok_same s key Reply.NotFound (λ id. refl) sound)
 row-ok (Op.StatsJob j) key s sound = ok_same s key _ (reported-quiet key s.now j (value_at j s.jobs)) sound
+row-ok (Op.StatsTube tube) key s sound = ok_same s key _ (told-quiet key (is_among tube (all_tubes s)) (tube_report s tube)) sound
+row-ok Op.Stats key s sound = ok_same s key _ (λ id. refl) sound
 
 -- the commands that end a hold, with the replies that say so
 pub data EndsHold (id : ℕ) : Op → Reply → Type 0 where
@@ -274,6 +288,27 @@ touched_held x id ttr second y j s h same who =
     (Held-reserved s.jobs x id s.now (λ job. with_state (State.Reserved y (s.now + job.ttr)) job) h.job h.there
     (ap (λ z. State.Reserved z (s.now + h.job.ttr)) who) refl))
 
+-- a delete of the job ends the hold, where it is the holder's
+deleted-holds : (x id ttr second j : ℕ) (key : Key) (s : QueueState) → Held s.jobs x id ttr second
+    → HoldAfter x id ttr second s.now (Op.Delete j) key (delete_found s key.session j (value_at j s.jobs))
+deleted-holds x id ttr second j key s h =
+    elim (value_at j s.jobs) as (λ o. value_at j s.jobs ≡ o
+    → HoldAfter x id ttr second s.now (Op.Delete j) key (delete_found s key.session j o)) [
+      | None ↦ λ there. stays_same x id ttr second s.now _ key s _ refl h
+      | Some job ↦ λ there.
+          hold_if x id ttr second s.now (Op.Delete j) key (may_delete key.session job.state) _ _
+          (λ may. elim (cases_eq j id) [
+            | inl same ↦
+                let held : job ≡ h.job = sameness job h.job (sym there ∙ ap (λ q. value_at q s.jobs) same ∙ h.there) in
+                ended Reply.Deleted (by_delete j same)
+                (eqb-true key.session x (sym (ap (may_delete key.session) (ap (λ (job : Job). job.state) held ∙ h.held)) ∙ may)) refl
+            | inr apart ↦
+                stays_same x id ttr second s.now _ key s _ refl
+                (record { job = h.job; there = value_at-without_other j id s.jobs apart ∙ h.there; runs = h.runs; held = h.held })
+          ])
+          (λ kept. stays_same x id ttr second s.now _ key s _ refl h)
+    ] refl
+
 -- a job that another session is given stays as it was where it is held
 found-holds : (x id ttr second k : ℕ) (key : Key) (s : QueueState) → Held s.jobs x id ttr second
     → HoldAfter x id ttr second s.now (Op.ReserveJob k) key (reserve_found s key.session k (value_at k s.jobs))
@@ -292,7 +327,7 @@ found-holds x id ttr second k key s h =
 pub row-holds : (x id ttr second : ℕ) (op : Op) (key : Key) (s : QueueState) → HasRisingIds s
     → Held s.jobs x id ttr second → HoldAfter x id ttr second s.now op key (row op key s)
 unfolding row put_row use_row watch_row ignore_row reserve_row delete_row release_row touch_row bury_row kick_row kick_job_row
-  reserve_job_row peek_row pause_row stats_job_row
+  reserve_job_row peek_row pause_row stats_job_row stats_tube_row stats_row
 row-holds x id ttr second (Op.Put pri delay t body) key s sound h =
     stays_same x id ttr second s.now _ key s _ refl (record {
       job = h.job;
@@ -309,9 +344,7 @@ row-holds x id ttr second (Op.Ignore tube) key s sound h =
     (λ e. stays_same x id ttr second s.now _ key s _ refl h)
     (λ e. stays_same x id ttr second s.now _ key s _ refl h)
 row-holds x id ttr second (Op.Reserve seconds) key s sound h = stays_same x id ttr second s.now _ key s _ refl h
-row-holds x id ttr second (Op.Delete j) key s sound h =
-    held_row-ends x id ttr second s.now (Op.Delete j) key s j (may_delete key.session) _ Reply.Deleted (λ due. refl) (λ e. by_delete j e) refl h
-    (λ apart. record { job = h.job; there = value_at-without_other j id s.jobs apart ∙ h.there; runs = h.runs; held = h.held })
+row-holds x id ttr second (Op.Delete j) key s sound h = deleted-holds x id ttr second j key s h
 row-holds x id ttr second (Op.Release j pri delay) key s sound h =
     held_row-ends x id ttr second s.now (Op.Release j pri delay) key s j (is_held key.session) _ Reply.Released
     (λ due. refl) (λ e. by_release j pri delay e) refl h
@@ -361,3 +394,5 @@ row-holds x id ttr second (Op.Pause tube seconds) key s sound h =
     (λ e. stays_same x id ttr second s.now _ key s _ refl h)
     (λ e. stays_same x id ttr second s.now _ key s _ refl h)
 row-holds x id ttr second (Op.StatsJob j) key s sound h = stays_same x id ttr second s.now _ key s _ refl h
+row-holds x id ttr second (Op.StatsTube tube) key s sound h = stays_same x id ttr second s.now _ key s _ refl h
+row-holds x id ttr second Op.Stats key s sound h = stays_same x id ttr second s.now _ key s _ refl h

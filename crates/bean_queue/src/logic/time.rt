@@ -1,7 +1,7 @@
-ghost use Rattle.std.specs.Prelude.{◌≡◌, ℕ, List, ◌≤◌, ◌^◌, None, IfOk};
+ghost use Rattle.std.specs.Prelude.{◌≡◌, ◌↔◌, ℕ, List, ◌≤◌, ◌^◌, nat_lt, not, true, None, IfOk};
 ghost use Rattle.object.specs.Lists.{In};
 ghost use Rattle.pause_store.specs.Pauses.{tubes_over};
-ghost use Rattle.bean_queue.specs.Effects.{released, forgotten, at_second, tick_effect};
+ghost use Rattle.bean_queue.specs.Effects.{released, forgotten, at_second, passed};
 ghost use Rattle.bean_queue.specs.Turns.{serve, serve_turn};
 ghost use Rattle.bean_queue.specs.Calls.{DraftsOutcome, DraftsWaking};
 
@@ -23,33 +23,44 @@ impl<M: JobMap> Logic<M> {
         ensures over { IfOk result (λ tubes. (tube : List ℕ)
             → In tube (tubes_over second self.old.now.pauses) → In tube tubes.keys) }
     {
-        let mut woken = make_due_ready(alloc, &mut self.jobs, second)?;
+        let timeouts = &mut self.counters.counts.timeouts;
+        let mut woken = make_due_ready(alloc, &mut self.jobs, second, timeouts)?;
         self.pauses.add_over(second, &mut woken)?;
         self.pauses.pass(second);
         self.counters.now = second;
         Ok(woken)
     }
 
-    /// Lets a second come, unless it has come before, where nothing is left to give.
-    #[tactic(auto, unfolding(crate::specs::Effects::tick_effect, crate::specs::Turns::serve))]
-    pub fn tick(
+    /// Whether the second isn't above now.
+    pub fn has_come(&self, second: u64) -> bool
+        ensures { result ≡ not (nat_lt self.now.now.now second) }
+    {
+        second <= self.counters.now
+    }
+
+    /// Lets a second above now come, where nothing is left to give, and tells the tubes whose pauses are over by it.
+    #[tactic(auto, unfolding(crate::specs::Turns::serve))]
+    pub fn pass(
         &mut self,
         alloc: Global,
         second: u64,
         answers: &mut Vec<Answer<Reply>>,
-    ) -> Result<(), AllocError>
-        requires second { second ≤ 2 ^ 40 }
+    ) -> Result<IndexSet<Name>, AllocError>
+        requires later { nat_lt self.old.now.now second ≡ true }
+        requires in_range { second ≤ 2 ^ 40 }
         requires calm { serve_turn self.old.now ≡ None }
-        ensures { DraftsOutcome self.old self.new answers.old.items answers.new.items
-            (tick_effect second self.old.now) result }
+        ensures passed { DraftsOutcome self.old self.new answers.old.items answers.new.items
+            (passed second self.old.now) result }
+        ensures over { IfOk result (λ tubes. (tube : List ℕ)
+            → In tube tubes.keys ↔ In tube (tubes_over second self.old.now.pauses)) }
     {
-        if second <= self.counters.now {
-            return Ok(());
-        }
+        let mut over = IndexSet::new(alloc);
+        self.pauses.add_over(second, &mut over)?;
         let woken = self.at_second(alloc, second)?;
         self.serve(woken.as_slice(), answers)?;
         self.tell_deadlines(alloc, answers)?;
-        self.tell_timeouts(answers)
+        self.tell_timeouts(answers)?;
+        Ok(over)
     }
 
     /// Ends the wait of a session, makes its jobs ready, and tells their tubes.

@@ -1,5 +1,5 @@
 use Rattle.bean_queue.proofs.blind.Blind.{effect-respects, effect-state}
-use Rattle.bean_queue.proofs.laws.histories_change_no_answer.Goals as goal
+use Rattle.bean_queue.proofs.laws.counts_change_no_answer.Goals as goal
 
 pub returns-clause-answers : goal.returns-clause-answers
 returns-clause-answers c = λ command s t plain e. (effect-respects command plain s t e).answers
