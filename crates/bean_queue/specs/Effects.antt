@@ -124,10 +124,14 @@ abbrev pub returned_history : Returning → State → History → History
 returned_history (Returning.Due second) state h = over_history state h
 returned_history (Returning.Held x) state h = h
 
--- of how many of those the time to run is over
-abbrev pub returned_timeouts : Returning → List (ℕ × Job) → ℕ
-returned_timeouts (Returning.Due second) jobs = times_over second jobs
-returned_timeouts (Returning.Held x) jobs = 0
+-- the time to run of one of those that was in this state is over
+abbrev pub has_run_out : Returning → State → Bool
+has_run_out (Returning.Due second) state = is_reserved state
+has_run_out (Returning.Held x) state = false
+
+-- of how many of those it is
+abbrev pub run_out : Returning → List (ℕ × Job) → ℕ
+run_out which jobs = length (filter (λ e. is_returning which e.1.state && has_run_out which e.1.state) jobs)
 
 -- the job as one of those: it is ready
 abbrev pub returned_job : Returning → Job → Job

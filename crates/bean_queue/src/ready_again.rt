@@ -27,7 +27,7 @@ impl Returning {
     ghost use Rattle.job_store.specs.LookUps.{due_of_job};
     ghost use Rattle.job_store.specs.declared.history.History.{History};
     ghost use Rattle.job_store.specs.Histories.{after_mark};
-    ghost use Rattle.bean_queue.specs.Effects.{is_returning, returned_history, returned_job, returned_timeouts};
+    ghost use Rattle.bean_queue.specs.Effects.{is_returning, has_run_out, run_out, returned_history, returned_job};
 
     /// Of these jobs in a map, that of the least (due, id).
     fn first<M: JobMap>(self, jobs: &M) -> Option<(u64, &Job)>
@@ -40,13 +40,24 @@ impl Returning {
         }
     }
 
+    /// Whether the time to run of one from this state is over.
+    fn has_run_out(self, state: State) -> bool
+        ensures { result ≡ has_run_out self state }
+    {
+        match self {
+            Returning::Due { .. } => state.is_reserved(),
+            Returning::Held { .. } => false,
+        }
+    }
+
     /// What of the return of one from this state goes into its history.
     fn mark(self, state: State) -> Mark
         ensures { (h : History) → after_mark result h ≡ returned_history self state h }
     {
-        match self {
-            Returning::Due { .. } if state.is_reserved() => Mark::TimedOut,
-            Returning::Due { .. } | Returning::Held { .. } => Mark::Nothing,
+        if self.has_run_out(state) {
+            Mark::TimedOut
+        } else {
+            Mark::Nothing
         }
     }
 
@@ -58,18 +69,17 @@ impl Returning {
         timeouts: &mut u64,
     ) -> Result<IndexSet<Name>, AllocError>
         ensures counted { OnOk result (timeouts.new
-            ≡ and_more (returned_timeouts self jobs.old.now) timeouts.old) }
+            ≡ and_more (run_out self jobs.old.now) timeouts.old) }
         ensures ready { DraftsWaking (λ jobs. jobs) jobs.old jobs.new
             (each_value (change_if (is_returning self) (returned_job self)) jobs.old.now) result }
     {
         let mut woken = IndexSet::new(alloc);
         'again: while let Some((id, job)) = self.first(jobs.map()) {
             let mark = self.mark(job.state);
+            let over = u64::from(self.has_run_out(job.state));
             woken.insert(job.tube.copy()?)?;
             jobs.set_state(id, State::Ready, mark)?;
-            if mark == Mark::TimedOut {
-                *timeouts = timeouts.saturating_add(1);
-            }
+            *timeouts = timeouts.saturating_add(over);
         }
         Ok(woken)
     }

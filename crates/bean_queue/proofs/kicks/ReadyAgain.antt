@@ -1,5 +1,5 @@
 -- Jobs that are made ready one by one.
-use Rattle.std.proofs.Common.{◌≡◌, ℕ, suc, ◌+◌, ◌<◌, ◌≤◌, Bool, true, false, cond, inl, inr, List, [], ◌∷◌, Some, None}
+use Rattle.std.proofs.Common.{◌≡◌, ℕ, suc, ◌+◌, ◌<◌, ◌≤◌, Bool, true, false, cond, ◌&&◌, inl, inr, List, [], ◌∷◌, filter, length, Some, None}
 use Rattle.std.proofs.Common.{◌==◌, refl, sym, ap, subst, ◌∙◌, arith, eq-eqb, ne_eqb, IfSome}
 use Rattle.std.proofs.lemmas.Bool.{cases_eq}
 use Rattle.object.specs.Lists.{In}
@@ -14,7 +14,7 @@ use Rattle.job_store.specs.LookUps.{due_of_job}
 use Rattle.job_store.specs.Histories.{after_mark}
 use Rattle.job_store.specs.States.{marked}
 use Rattle.bean_queue.specs.declared.ready_again.Returning.{Returning}
-use Rattle.bean_queue.specs.Effects.{is_returning, change_if, returned_history, returned_job}
+use Rattle.bean_queue.specs.Effects.{is_returning, change_if, has_run_out, run_out, returned_history, returned_job}
 use Rattle.bean_queue.specs.TurnLaws.{least-in}
 
 ready-stays : (which : Returning) → is_returning which State.Ready ≡ false
@@ -36,6 +36,33 @@ module _ (which : Returning) where
             let passed : is_returning which d.1.state ≡ true = cc (value_at-here k d es same) in
             rw (eq-eqb k d.0 same, ready-stays which, passed, altered-none k (suc d.0) hi (returned_job which) es (omega arith) r.1)
         | inr apart ↦ rw (ne_eqb k d.0 apart, each-altered k (suc d.0) hi es v r.1 (sym (value_at-next k d es apart) ∙ e) t)
+      ]
+
+  -- of the job at an id it is counted whether its time to run is over
+  run_out-altered : (k lo hi : ℕ) (es : List (ℕ × Job)) (v : Job) → Rising lo hi es → value_at k es ≡ Some v
+      → is_returning which v.state ≡ true
+      → run_out which es ≡ cond (has_run_out which v.state) 1 0 + run_out which (altered k (returned_job which) es)
+  run_out-altered k lo hi [] v r e t = cc
+  run_out-altered k lo hi (d ∷ es) v r e t =
+      elim (cases_eq k d.0) [
+        | inl same ↦
+            let passed : is_returning which d.1.state ≡ true = cc (value_at-here k d es same) in
+            let there : has_run_out which d.1.state ≡ has_run_out which v.state = cc (value_at-here k d es same) in
+            rw (eq-eqb k d.0 same, ready-stays which, passed, there, altered-none k (suc d.0) hi (returned_job which) es (omega arith) r.1)
+            (elim (has_run_out which v.state) as (λ b. length (cond b (d ∷ filter (λ e. is_returning which e.1.state && has_run_out which e.1.state) es)
+            (filter (λ e. is_returning which e.1.state && has_run_out which e.1.state) es)) ≡ cond b 1 0 + run_out which es) [ true ↦ refl | false ↦ refl ])
+        | inr apart ↦
+            let rest = run_out-altered k (suc d.0) hi es v r.1 (sym (value_at-next k d es apart) ∙ e) t in
+            rw (ne_eqb k d.0 apart)
+            (elim (is_returning which d.1.state && has_run_out which d.1.state) as (λ b.
+            length (cond b (d ∷ filter (λ e. is_returning which e.1.state && has_run_out which e.1.state) es)
+            (filter (λ e. is_returning which e.1.state && has_run_out which e.1.state) es))
+            ≡ cond (has_run_out which v.state) 1 0 + length (cond b
+            (d ∷ filter (λ e. is_returning which e.1.state && has_run_out which e.1.state) (altered k (returned_job which) es))
+            (filter (λ e. is_returning which e.1.state && has_run_out which e.1.state) (altered k (returned_job which) es)))) [
+              | true ↦ omega (arith, rest)
+              | false ↦ rest
+            ])
       ]
 
   -- how many pass
@@ -75,6 +102,7 @@ module _ (which : Returning) where
     pub there : In e jobs
     pub all : each_value (change_if (is_returning which) (returned_job which)) new ≡ each_value (change_if (is_returning which) (returned_job which)) jobs
     pub less : many new < many jobs
+    pub out : run_out which jobs ≡ cond (has_run_out which e.1.state) 1 0 + run_out which new
 
   pub one_more : (lo hi : ℕ) (jobs new : List (ℕ × Job)) (e : ℕ × Job) → Rising lo hi jobs
       → least passes due_of_job jobs ≡ Some e → (mark : Mark)
@@ -89,7 +117,21 @@ module _ (which : Returning) where
         there = i.0;
         all = ap (each_value (change_if (is_returning which) (returned_job which))) n ∙ each-altered e.0 lo hi jobs e.1 r (value_at-In lo hi jobs e r i.0) i.1;
         less = subst (λ zs. many zs < many jobs) (sym n) (fewer e jobs i.0 i.1);
+        out =
+            run_out-altered e.0 lo hi jobs e.1 r (value_at-In lo hi jobs e r i.0) i.1 ∙
+            ap (λ zs. cond (has_run_out which e.1.state) 1 0 + run_out which zs) (sym n);
       }
+
+  -- where none is left, none is counted
+  pub none_out : (jobs : List (ℕ × Job)) → least passes due_of_job jobs ≡ None → run_out which jobs ≡ 0
+  none_out [] e = refl
+  none_out (d ∷ es) e =
+      elim (is_returning which d.1.state) as (λ b. cond b (Some (lesser due_of_job d (least passes due_of_job es))) (least passes due_of_job es) ≡ None
+      → length (cond (b && has_run_out which d.1.state) (d ∷ filter (λ e. is_returning which e.1.state && has_run_out which e.1.state) es)
+      (filter (λ e. is_returning which e.1.state && has_run_out which e.1.state) es)) ≡ 0) [
+        | true ↦ λ e. cc
+        | false ↦ λ e. none_out es e
+      ] e
 
   -- and where none is left
   pub none_left : (jobs : List (ℕ × Job)) → least passes due_of_job jobs ≡ None → jobs ≡ each_value (change_if (is_returning which) (returned_job which)) jobs
