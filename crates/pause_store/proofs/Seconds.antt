@@ -236,6 +236,43 @@ paused-nowhere second tube (e ∷ es) absent =
           ]
     ] refl absent
 
+-- Until when it is
+
+pub end-there : (second : ℕ) (tube : List ℕ) (v : ℕ) (es : Seconds) → IsStrictlySortedBy name_cmp (keys_of es)
+    → lookup (of tube) es ≡ Some v → lookup (of tube) (left_at second es) ≡ cond (nat_lt second v) (Some v) None
+end-there second tube v [] s there = absurd (true≢false (sym (ap is_some there)))
+end-there second tube v (e ∷ es) s there =
+    let rest = left_at second es in
+    elim (name_cmp tube e.0) as (λ o. name_cmp tube e.0 ≡ o → lookup (of tube) (left_at second (e ∷ es)) ≡ cond (nat_lt second v) (Some v) None) [
+      | Less ↦ λ o. absurd (true≢false (sym (ap is_some (sym (none-front tube (e ∷ es) (o, above-far tube e es o (above-head e es s))) ∙ there))))
+      | Equal ↦ λ o.
+          let here : e.1 ≡ v = the-some e.1 v (sym (cond-true (of tube e.0) (Some e.1) (lookup (of tube) es) (ap is_eq o)) ∙ there) in
+          elim (nat_lt second e.1) as (λ b. lookup (of tube) (cond b (e ∷ rest) rest) ≡ cond b (Some e.1) None) [
+            | true ↦ cond-true (of tube e.0) (Some e.1) (lookup (of tube) rest) (ap is_eq o)
+            | false ↦ none-front tube rest (subst (λ x. AreAbove x rest) (sym (same-tube tube e.0 o)) (above-left e.0 second es (above-head e es s)))
+          ] ∙ ap (λ n. cond (nat_lt second n) (Some n) None) here
+      | Greater ↦ λ o.
+          let next = end-there second tube v es (sorted_tail name_cmp e.0 (keys_of es) s)
+          (sym (cond-false (of tube e.0) (Some e.1) (lookup (of tube) es) (ap is_eq o)) ∙ there) in
+          elim (nat_lt second e.1) as (λ b. lookup (of tube) (cond b (e ∷ rest) rest) ≡ cond (nat_lt second v) (Some v) None) [
+            | true ↦ cond-false (of tube e.0) (Some e.1) (lookup (of tube) rest) (ap is_eq o) ∙ next
+            | false ↦ next
+          ]
+    ] refl
+
+pub end-nowhere : (second : ℕ) (tube : List ℕ) (es : Seconds) → lookup (of tube) es ≡ None → lookup (of tube) (left_at second es) ≡ None
+end-nowhere second tube [] absent = refl
+end-nowhere second tube (e ∷ es) absent =
+    let rest = left_at second es in
+    elim (of tube e.0) as (λ t. of tube e.0 ≡ t → cond t (Some e.1) (lookup (of tube) es) ≡ None → lookup (of tube) (left_at second (e ∷ es)) ≡ None) [
+      | true ↦ λ t is. absurd (true≢false (ap is_some is))
+      | false ↦ λ t is.
+          elim (nat_lt second e.1) as (λ b. lookup (of tube) (cond b (e ∷ rest) rest) ≡ None) [
+            | true ↦ cond-false (of tube e.0) (Some e.1) (lookup (of tube) rest) t ∙ end-nowhere second tube es is
+            | false ↦ end-nowhere second tube es is
+          ]
+    ] refl absent
+
 -- A second that is set where there is none, or an entry that goes
 
 pub set-absent : (tube : List ℕ) (v : ℕ) (es : Seconds) → lookup (of tube) es ≡ None → set_value (of tube) es v ≡ es

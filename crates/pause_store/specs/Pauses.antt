@@ -1,10 +1,10 @@
 -- Until which second tubes are paused.
-use Rattle.std.specs.Prelude.{◌≡◌, ℕ, ◌+◌, ◌^◌, ◌<◌, ◌≤◌, Bool, not, List, [], ◌∷◌, ◌==◌, nat_lt, bytes_eq, if◌then◌else◌}
+use Rattle.std.specs.Prelude.{◌≡◌, ℕ, ◌+◌, ◌^◌, ◌<◌, ◌≤◌, Bool, not, List, [], ◌∷◌, ◌==◌, nat_lt, bytes_eq, unwrap_or, if◌then◌else◌}
 use Rattle.std.specs.declared.cmp.Ordering.{Ordering}
 use Rattle.std.specs.Ordering.{nat_cmp, ordering_then}
 use Rattle.std.specs.List.{filter}
 use Rattle.std.specs.List.Sorted.{IsStrictlySortedBy}
-use Rattle.std.specs.Map.{keys_of, remove_entry, set_value}
+use Rattle.std.specs.Map.{keys_of, lookup, remove_entry, set_value}
 use Rattle.std.specs.BTreeMap.{insert_entry, is_at}
 use Rattle.object.specs.Lists.{In}
 use Rattle.job_store.specs.LookUps.{is_among}
@@ -20,6 +20,10 @@ pub record PauseState : Type 0 where
 -- whether the tube is paused
 abbrev pub is_paused : List ℕ → List (List ℕ × ℕ) → Bool
 is_paused tube pauses = is_among tube (keys_of pauses)
+
+-- the second at which the pause of the tube is over, and 0 where it isn't paused
+abbrev pub pause_end : List ℕ → List (List ℕ × ℕ) → ℕ
+pause_end tube pauses = unwrap_or (lookup (is_at (name_cmp tube)) pauses) 0
 
 -- those of the pauses that are not over at this second
 abbrev pub left_at : ℕ → List (List ℕ × ℕ) → List (List ℕ × ℕ)

@@ -2,7 +2,7 @@ ghost use Rattle.std.specs.Prelude.{◌≡◌, ◌<◌, ◌≤◌, ◌^◌, ◌�
 ghost use Rattle.object.specs.Lists.{In};
 ghost use Rattle.job_store.specs.NameSets.{AddsAll};
 ghost use Rattle.pause_store.specs.declared.pause.Pause.{Pause};
-ghost use Rattle.pause_store.specs.Pauses.{fresh, is_paused, paused_for, at_second, left_at, tubes_over, AreInOrder, DropsOver, HasEnds};
+ghost use Rattle.pause_store.specs.Pauses.{fresh, is_paused, pause_end, paused_for, at_second, left_at, tubes_over, AreInOrder, DropsOver, HasEnds};
 
 use crate::pause::Pause;
 use crate::pause_step::{PauseStep, set_second, take_steps_back};
@@ -159,6 +159,22 @@ impl PauseDraft {
         match self.seconds.get(tube) {
             Some(until) => *until > self.second,
             None => false,
+        }
+    }
+
+    /// The second at which the pause of a tube is over, and 0 where it isn't paused. It takes no memory.
+    pub fn end(&self, tube: &Name) -> u64
+        ensures { result ≡ pause_end tube.now self.now.now.pauses }
+    {
+        match self.seconds.get(tube) {
+            Some(until) => {
+                if *until > self.second {
+                    *until
+                } else {
+                    0
+                }
+            }
+            None => 0,
         }
     }
 
