@@ -11,7 +11,7 @@ use Rattle.job_store.specs.declared.state.State.{State}
 use Rattle.job_store.specs.Entries.{without, altered, each_value}
 use Rattle.job_store.specs.States.{is_due, is_held, is_reserved, with_state, over_history, over_job}
 use Rattle.session_store.specs.declared.session.SessionState.{SessionState}
-use Rattle.session_store.specs.declared.role.Role.{Role}
+use Rattle.session_store.specs.declared.session.Role.{Role}
 use Rattle.session_store.specs.Sessions.{session_of, known, with_wait_ended, with_role, is_waiting}
 use Rattle.pause_store.specs.Pauses.{left_at, tubes_over}
 use Rattle.bean_queue.specs.declared.op.Op.{Op}
