@@ -5,11 +5,12 @@ use Rattle.std.proofs.Math.ListN.{get_or}
 use Rattle.std.proofs.Math.Seq.{take-suc}
 use Rattle.job_store.specs.Entries.{Rising, value_at, with_value, altered, without}
 use Rattle.job_store.specs.EntryLaws.{altered-alike, altered-back, without-insert, Rising-altered, Rising-without}
+use Rattle.session_store.specs.declared.session.Role.{Role}
 use Rattle.session_store.specs.declared.session.SessionState.{SessionState}
 use Rattle.session_store.specs.declared.session.Wait.{Wait}
 use Rattle.session_store.specs.declared.session_step.SessionStep.{SessionStep}
 use Rattle.session_store.specs.declared.lines.Lines.{Lines}
-use Rattle.session_store.specs.Sessions.{with_wait}
+use Rattle.session_store.specs.Sessions.{with_wait, with_role}
 use Rattle.session_store.specs.Lines.{StandsIn, EachStands, AllStand, HasGrown}
 use Rattle.session_store.specs.Drafts.{session_step_back, sessions_before, AreInLines}
 use Rattle.session_store.proofs.Standing.{each-grown, all-grown}
@@ -81,6 +82,22 @@ pub unwaited : (x lo hi : ℕ) (v : SessionState) (sessions : List (ℕ × Sessi
     → value_at x sessions ≡ Some v → v.wait ≡ None → altered x (with_wait None) sessions ≡ sessions
 unwaited x lo hi v sessions r there none = altered_itself x lo hi (with_wait None) sessions v r there (unwaiting v none)
 
+-- the step after a session's role was set
+pub played-back : (x lo hi : ℕ) (role : Role) (v : SessionState) (sessions sessions' : List (ℕ × SessionState))
+    → Rising lo hi sessions → value_at x sessions ≡ Some v → sessions' ≡ altered x (with_role role) sessions
+    → session_step_back (SessionStep.Played x v.role) sessions' ≡ sessions
+played-back x lo hi role v sessions sessions' r there e =
+    ap (altered x (with_role v.role)) e ∙ altered-back x lo hi (with_role role)
+    (with_role v.role) sessions v r there refl
+
+playing : (role : Role) (v : SessionState) → v.role ≡ role → with_role role v ≡ v
+playing role v same = λ i. record v { role = sym same i }
+
+-- that a session gets the role that it has changes nothing
+pub unplayed : (x lo hi : ℕ) (role : Role) (v : SessionState) (sessions : List (ℕ × SessionState)) → Rising lo hi sessions
+    → value_at x sessions ≡ Some v → v.role ≡ role → altered x (with_role role) sessions ≡ sessions
+unplayed x lo hi role v sessions r there same = altered_itself x lo hi (with_role role) sessions v r there (playing role v same)
+
 -- the sessions in the lines, where nothing can be taken back
 pub kept : (lines : Lines) (steps : List SessionStep) (sessions : List (ℕ × SessionState)) → steps ≡ []
     → AllStand (StandsIn lines) sessions → AreInLines lines steps sessions
@@ -115,4 +132,5 @@ removal-rises x hi sessions sessions' r e = subst (λ es. Rising 0 hi es) (sym e
 pub step_back-rises : (hi : ℕ) (step : SessionStep) (sessions sessions' : List (ℕ × SessionState))
     → Rising 0 hi sessions → sessions' ≡ session_step_back step sessions → Rising 0 hi sessions'
 step_back-rises hi (SessionStep.Waited x before after) sessions sessions' r e = change-rises x hi _ sessions sessions' r e
+step_back-rises hi (SessionStep.Played x before) sessions sessions' r e = change-rises x hi _ sessions sessions' r e
 step_back-rises hi (SessionStep.Made x) sessions sessions' r e = removal-rises x hi sessions sessions' r e

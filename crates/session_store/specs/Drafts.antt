@@ -4,7 +4,7 @@ use Rattle.job_store.specs.Entries.{Rising, value_at, altered, without}
 use Rattle.session_store.specs.declared.session.SessionState.{SessionState}
 use Rattle.session_store.specs.declared.session_step.SessionStep.{SessionStep}
 use Rattle.session_store.specs.declared.lines.Lines.{Lines}
-use Rattle.session_store.specs.Sessions.{with_wait}
+use Rattle.session_store.specs.Sessions.{with_wait, with_role}
 use Rattle.session_store.specs.Lines.{StandsIn, EachStands, AllStand}
 
 -- something as it is by now, and as it was when it was kept last
@@ -15,6 +15,7 @@ pub record Draft (X : Type 0) : Type 0 where
 -- the sessions, where a step is taken back
 abbrev pub session_step_back : SessionStep → List (ℕ × SessionState) → List (ℕ × SessionState)
 session_step_back (SessionStep.Waited x before after) sessions = altered x (with_wait before) sessions
+session_step_back (SessionStep.Played x before) sessions = altered x (with_role before) sessions
 session_step_back (SessionStep.Made x) sessions = without x sessions
 
 -- the sessions, where all these steps are taken back, the last one first

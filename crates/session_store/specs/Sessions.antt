@@ -1,13 +1,20 @@
--- Sessions: the tubes that they use and watch, and who waits.
+-- Sessions: the tubes that they use and watch, who waits, and who has put or reserved.
 use Rattle.std.specs.Prelude.{ℕ, Bool, false, ◌&&◌, List, [], ◌∷◌, Option, None, Some, nat_le, is_some, unwrap_or, codes, if◌then◌else◌}
 use Rattle.job_store.specs.Entries.{value_at, with_value, altered}
 use Rattle.job_store.specs.Least.{least}
+use Rattle.session_store.specs.declared.session.Role.{Role}
 use Rattle.session_store.specs.declared.session.SessionState.{SessionState}
 use Rattle.session_store.specs.declared.session.Wait.{Wait}
 
--- a new session uses `default`, and watches it alone (protocol.txt of beanstalkd, "use" and "watch")
+-- the role of a session that has put no job, and asked for none (protocol.txt of beanstalkd, "stats": current-producers,
+-- current-workers)
+abbrev pub no_role : Role
+no_role = record { has_put = false; has_reserved = false }
+
+-- a new session uses `default`, watches it alone, and has neither put nor reserved (protocol.txt of beanstalkd, "use"
+-- and "watch")
 abbrev pub new_session : SessionState
-new_session = record { used = codes "default"; watched = codes "default" ∷ []; wait = None }
+new_session = record { used = codes "default"; watched = codes "default" ∷ []; wait = None; role = no_role }
 
 -- session x, as it is or as it would be made
 abbrev pub session_of : ℕ → List (ℕ × SessionState) → SessionState
@@ -16,6 +23,10 @@ session_of x sessions = unwrap_or (value_at x sessions) new_session
 -- the session, with this wait or none
 abbrev pub with_wait : Option Wait → SessionState → SessionState
 with_wait wait session = record session { wait = wait }
+
+-- the session, with this role
+abbrev pub with_role : Role → SessionState → SessionState
+with_role role session = record session { role = role }
 
 -- session x waits no longer
 abbrev pub with_wait_ended : ℕ → List (ℕ × SessionState) → List (ℕ × SessionState)

@@ -15,7 +15,7 @@ mod waiting;
 mod watch_list;
 
 pub use names::Names;
-pub use session::{SessionState, Wait};
+pub use session::{Role, SessionState, Wait};
 pub use session_draft::SessionDraft;
 pub use waiting::first;
 pub use watch_list::WatchList;

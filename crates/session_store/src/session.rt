@@ -18,6 +18,15 @@ pub struct Wait {
     pub time_out: Option<u64>,
 }
 
+/// What a session is to the queue: a producer, a worker, both or neither.
+#[derive(Clone, Copy, Debug, PartialEq, Eq)]
+pub struct Role {
+    /// Whether it has put a job.
+    pub has_put: bool,
+    /// Whether it has asked for a job.
+    pub has_reserved: bool,
+}
+
 /// What the queue knows of a client's session.
 #[derive(Drop)]
 pub struct SessionState {
@@ -26,10 +35,11 @@ pub struct SessionState {
     /// The tubes that it reserves jobs from.
     pub watched: WatchList,
     pub wait: Option<Wait>,
+    pub role: Role,
 }
 
 impl SessionState {
-    /// A session that uses `default`, and watches it alone.
+    /// A session that uses `default`, and watches it alone. It has neither put nor reserved.
     pub(crate) fn new(alloc: Global) -> Result<SessionState, AllocError>
         ensures { IfOk result (λ session. session ≡ new_session) }
     {
@@ -37,6 +47,10 @@ impl SessionState {
             used: Name::default_tube(),
             watched: WatchList::only(alloc, Name::default_tube())?,
             wait: None,
+            role: Role {
+                has_put: false,
+                has_reserved: false,
+            },
         })
     }
 

@@ -1,10 +1,10 @@
 ghost use Rattle.std.specs.Prelude.{◌≡◌, ◌^◌, IfOk, OnOk, OnErr, length};
 ghost use Rattle.job_store.specs.Entries.{Rising, altered};
-ghost use Rattle.session_store.specs.Sessions.{session_of, with_wait};
+ghost use Rattle.session_store.specs.Sessions.{session_of, with_wait, with_role};
 ghost use Rattle.session_store.specs.Drafts.{IsThere};
 ghost use Rattle.session_store.specs.WatchLists.{joined, left_out};
 
-use crate::session::{SessionState, Wait};
+use crate::session::{Role, SessionState, Wait};
 use job_store::Name;
 use std::alloc::AllocError;
 use std::collections::BTreeMap;
@@ -17,6 +17,16 @@ pub fn set_wait(sessions: &mut BTreeMap<u32, SessionState>, session: u32, wait: 
 {
     if let Some(found) = sessions.get_mut(&session) {
         found.wait = wait;
+    }
+}
+
+/// Gives a session a role, if it is there.
+pub fn set_role(sessions: &mut BTreeMap<u32, SessionState>, session: u32, role: Role)
+    requires { Rising 0 (2 ^ 32) sessions.old.entries }
+    ensures { sessions.new.entries ≡ altered session (with_role role) sessions.old.entries }
+{
+    if let Some(found) = sessions.get_mut(&session) {
+        found.role = role;
     }
 }
 

@@ -2,14 +2,14 @@ ghost use Rattle.std.specs.Prelude.{◌≡◌, ◌^◌, ◌⊎◌, ℕ, List, []
 ghost use Rattle.object.specs.Lists.{In};
 ghost use Rattle.job_store.specs.Entries.{Rising, value_at, with_value, altered, without};
 ghost use Rattle.job_store.specs.LookUps.{is_among};
-ghost use Rattle.session_store.specs.Sessions.{new_session, session_of, with_wait, first_waiting, has_timed_out};
+ghost use Rattle.session_store.specs.Sessions.{new_session, session_of, with_wait, with_role, first_waiting, has_timed_out};
 ghost use Rattle.session_store.specs.Lines.{AllStand, StandsIn};
 ghost use Rattle.session_store.specs.Rolls.{is_named};
 ghost use Rattle.session_store.specs.WatchLists.{joined, left_out};
 
 use crate::lines::Lines;
-use crate::session::{SessionState, Wait};
-use crate::session_change::{ignore, set_used, set_wait, watch};
+use crate::session::{Role, SessionState, Wait};
+use crate::session_change::{ignore, set_role, set_used, set_wait, watch};
 use crate::session_step::{SessionStep, leave_steps, take_steps_back};
 use crate::time_outs::wait_of;
 use job_store::Name;
@@ -146,6 +146,24 @@ impl SessionDraft {
         })?;
         self.lines.join(session, found, wait)?;
         set_wait(&mut self.sessions, session, wait);
+        Ok(())
+    }
+
+    /// Gives a session a role, if it is there. Where it has that role already, nothing is done.
+    pub fn set_role(&mut self, session: u32, role: Role) -> Result<(), AllocError>
+        ensures now { OnOk result (self.new.now ≡ altered session (with_role role) self.old.now) }
+        ensures before { self.new.before ≡ self.old.before }
+        ensures err { OnErr result (self.new.now ≡ self.old.now) }
+    {
+        let Some(found) = self.sessions.get(&session) else {
+            return Ok(());
+        };
+        let before = found.role;
+        if before == role {
+            return Ok(());
+        }
+        self.steps.push(SessionStep::Played { session, before })?;
+        set_role(&mut self.sessions, session, role);
         Ok(())
     }
 

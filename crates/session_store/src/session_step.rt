@@ -4,8 +4,8 @@ ghost use Rattle.session_store.specs.Lines.{StillStand, StandsIn};
 ghost use Rattle.session_store.specs.Drafts.{session_step_back, sessions_before};
 
 use crate::lines::Lines;
-use crate::session::{SessionState, Wait};
-use crate::session_change::set_wait;
+use crate::session::{Role, SessionState, Wait};
+use crate::session_change::{set_role, set_wait};
 use job_store::Name;
 use std::collections::BTreeMap;
 
@@ -17,6 +17,11 @@ pub(crate) enum SessionStep {
         session: u32,
         before: Option<Wait>,
         after: Option<Wait>,
+    },
+    /// The session has the role that it had before.
+    Played {
+        session: u32,
+        before: Role,
     },
     /// The session goes.
     Made(u32),
@@ -33,6 +38,7 @@ fn take_step_back(sessions: &mut BTreeMap<u32, SessionState>, step: SessionStep)
             before,
             ..
         } => set_wait(sessions, session, before),
+        SessionStep::Played { session, before } => set_role(sessions, session, before),
         SessionStep::Made(session) => {
             sessions.remove(&session);
         }
@@ -69,7 +75,7 @@ fn leave_lines(
 }
 
 /// Takes a session out of the lines where it stood before and after a step, and off the roll that it came on, unless it
-/// still stands there.
+/// still stands there. No line depends on a role.
 fn leave_step(lines: &mut Lines, sessions: &BTreeMap<u32, SessionState>, step: SessionStep)
     ensures { StillStand (StandsIn lines.old) (StandsIn lines.new) sessions.now.entries }
 {
@@ -82,6 +88,7 @@ fn leave_step(lines: &mut Lines, sessions: &BTreeMap<u32, SessionState>, step: S
             leave_lines(lines, sessions, session, before);
             leave_lines(lines, sessions, session, after);
         }
+        SessionStep::Played { .. } => {}
         SessionStep::Made(session) => lines.strike(sessions, &Name::default_tube(), session),
     }
 }
