@@ -8,7 +8,9 @@ pub mod Changes
 pub mod Undone
 pub mod Least
 pub mod LookUps
+pub mod Tallies
 pub mod Spots
 pub mod Shelves
 pub mod Racks
 pub mod ShelfStates
+pub mod Counts

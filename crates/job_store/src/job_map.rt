@@ -6,11 +6,13 @@ ghost use Rattle.job_store.specs.Entries.{Rising, value_at, with_value, altered,
 ghost use Rattle.job_store.specs.States.{marked, marked_at};
 ghost use Rattle.job_store.specs.Least.{IsLeast, NonePasses};
 ghost use Rattle.job_store.specs.LookUps.{ready_in, delayed_in, buried_in, due_by, due_after, held_by, pri_of_job, due_of_job, rank_of_job, not_paused, best_ready, first_ready, first_delayed, first_buried, first_due, first_due_after, first_held, has_jobs};
+ghost use Rattle.job_store.specs.Tallies.{tally_in, tally_all};
 
 use crate::job::Job;
 use crate::mark::Mark;
 use crate::name::Name;
 use crate::state::State;
+use crate::tally::Tally;
 use indexmap::IndexSet;
 use std::alloc::{AllocError, Global};
 use std::collections::{BTreeMap, BTreeSet};
@@ -158,6 +160,14 @@ pub trait JobMap: Drop + Sized {
     /// Whether a job is in the tube. It takes no memory.
     fn has_jobs(&self, tube: &Name) -> bool
         ensures { result ≡ has_jobs tube.now (entries self.now) };
+
+    /// How many jobs of the tube are in each state. It takes no memory.
+    fn tally_in(&self, tube: &Name) -> Tally
+        ensures { result ≡ tally_in tube.now (entries self.now) };
+
+    /// How many of all jobs are in each state. It takes no memory.
+    fn tally_all(&self) -> Tally
+        ensures { result ≡ tally_all (entries self.now) };
 
     /// Puts the tubes that have jobs among the names.
     fn add_tubes(&self, names: &mut BTreeSet<Name>) -> Result<(), AllocError>

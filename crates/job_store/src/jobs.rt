@@ -20,6 +20,8 @@ use crate::shelf_number::ShelfNumber;
 use crate::shelves::Shelves;
 use crate::spot::Spot;
 use crate::state::State;
+use crate::tallies::{tally_all, tally_in};
+use crate::tally::Tally;
 use indexmap::IndexSet;
 use std::alloc::{AllocError, Global};
 use std::collections::{BTreeMap, BTreeSet};
@@ -279,6 +281,14 @@ impl JobMap for Jobs {
             return true;
         }
         self.first_reserved(tube).is_some()
+    }
+
+    fn tally_in(&self, tube: &Name) -> Tally {
+        tally_in(&self.shelves, self.jobs.by_id(), tube)
+    }
+
+    fn tally_all(&self) -> Tally {
+        tally_all(&self.shelves, self.jobs.by_id())
     }
 
     fn add_tubes(&self, names: &mut BTreeSet<Name>) -> Result<(), AllocError> {

@@ -4,6 +4,7 @@
 mod body;
 mod change;
 mod changes;
+mod count;
 mod history;
 mod job;
 mod job_map;
@@ -23,6 +24,8 @@ mod shelf_number;
 mod shelves;
 mod spot;
 mod state;
+mod tallies;
+mod tally;
 mod undo;
 
 pub use body::Body;
@@ -36,3 +39,4 @@ pub use mark::Mark;
 pub use name::Name;
 pub use name_set::add_name;
 pub use state::State;
+pub use tally::Tally;

@@ -3,7 +3,9 @@ ghost use Rattle.job_store.specs.Entries.{Rising};
 ghost use Rattle.job_store.specs.ShelfStates.{bare, numbered_place, IsFound, HasGained, HasLost, HasReached, IsFrom};
 ghost use Rattle.job_store.specs.Shelves.{belongs, number, CanLookUp, FindsFirst, HasMovedOn};
 ghost use Rattle.job_store.specs.Racks.{shelf_at, ChangesOne};
+ghost use Rattle.job_store.specs.Counts.{count_of, AreApart, AreCounted};
 
+use crate::count::Count;
 use crate::job::Job;
 use crate::label::Label;
 use crate::name::Name;
@@ -134,6 +136,32 @@ impl<K: ShelfName, N: ShelfNumber> Rack<K, N> {
             Some(shelf) if !shelf.places().is_empty() => Some(shelf.places()),
             _ => None,
         }
+    }
+
+    /// How many places there are on a shelf. None is there twice.
+    pub fn count(&self, key: &K) -> Count
+        ensures count { result ≡ count_of (shelf_at K.cmp self.now.shelves key.now).places }
+        ensures apart { AreApart (shelf_at K.cmp self.now.shelves key.now).places }
+    {
+        match self.shelves.get(key) {
+            Some(shelf) => shelf.count(),
+            None => Count::NONE,
+        }
+    }
+
+    /// How many places there are on all shelves. It goes over the shelves.
+    pub fn count_all(&self) -> Count
+        ensures { AreCounted K.cmp self.now.shelves result }
+    {
+        let mut count = Count::NONE;
+        for (_, shelf) in &self.shelves {
+            let more = shelf.count();
+            count = Count {
+                all: count.all.saturating_add(more.all),
+                low: count.low.saturating_add(more.low),
+            };
+        }
+        count
     }
 
     /// The first of the jobs that belong on a shelf, where a look-up finds all of them.

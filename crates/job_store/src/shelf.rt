@@ -1,12 +1,15 @@
-ghost use Rattle.std.specs.Prelude.{◌≡◌, ◌^◌, ℕ, true, map, OnOk};
+ghost use Rattle.std.specs.Prelude.{◌≡◌, ◌^◌, ◌&&◌, ℕ, true, map, nat_lt, OnOk, if◌then◌else◌};
 ghost use Rattle.object.specs.Lists.{In};
 ghost use Rattle.job_store.specs.Entries.{Rising};
 ghost use Rattle.job_store.specs.ShelfStates.{bare, numbered_place, IsFound, HasGained, HasLost, HasReached, IsFrom};
+ghost use Rattle.job_store.specs.Counts.{count_of, AreApart};
 ghost use Rattle.job_store.specs.Shelves.{belongs, belongs_after, number, CanLookUp, FindsFirst, IsPassed, HasMovedOn};
 
+use crate::count::Count;
 use crate::job::Job;
 use crate::label::Label;
 use crate::shelf_number::ShelfNumber;
+use crate::tally::URGENT_BELOW;
 use std::alloc::{AllocError, Global};
 use std::cmp::min;
 use std::collections::{BTreeMap, BTreeSet};
@@ -20,16 +23,29 @@ use std::ops::Bound;
 #[derive(Drop)]
 pub struct Shelf<N: ShelfNumber> {
     places: BTreeSet<(N, u64)>,
+    /// How many of the places have a number below 1024: of a shelf of ready jobs, the urgent ones.
+    low: u64,
     from: (N, u64),
 }
 
 impl<N: ShelfNumber> Model for Shelf<N> {
-    ghost use Rattle.std.specs.Prelude.{map};
+    ghost use Rattle.std.specs.Prelude.{◌≡◌, map, length};
+    ghost use Rattle.std.specs.List.{filter};
     ghost use Rattle.job_store.specs.ShelfStates.{ShelfState, numbered_place};
+    ghost use Rattle.job_store.specs.Counts.{is_low};
 
     ghost Value = { ShelfState };
 
     ghost view = { λ s. record { places = map (numbered_place N.value) s.places.keys; from = numbered_place N.value s.from } };
+
+    ghost invariant = { λ s. s.low ≡ length (filter (λ p. is_low (numbered_place N.value p)) s.places.keys) };
+}
+
+/// By how much the number of low places changes: by one, where a place of this number came or went, and it is below 1024.
+fn low_change<N: ShelfNumber>(has_changed: bool, number: N) -> u64
+    ensures { result ≡ (if has_changed && nat_lt (N.value number) 1024 then 1 else 0) }
+{
+    u64::from(has_changed && number.wide() < URGENT_BELOW)
 }
 
 impl<N: ShelfNumber> Shelf<N> {
@@ -39,6 +55,7 @@ impl<N: ShelfNumber> Shelf<N> {
     {
         Shelf {
             places: BTreeSet::new(alloc),
+            low: 0,
             from: (N::zero(), 0),
         }
     }
@@ -48,7 +65,10 @@ impl<N: ShelfNumber> Shelf<N> {
         ensures ok { OnOk result (IsFound self.new (N.value number, id)) }
         ensures gained { HasGained self.old self.new (N.value number, id) }
     {
-        self.places.insert((number, id))?;
+        let is_new = self.places.insert((number, id))?;
+        // Gives the proof that there are less than 2^63 places.
+        let _ = self.places.len();
+        self.low += low_change(is_new, number);
         self.reach(number, id);
         Ok(())
     }
@@ -57,7 +77,8 @@ impl<N: ShelfNumber> Shelf<N> {
     pub fn take(&mut self, number: N, id: u64)
         ensures { HasLost self.old self.new (N.value number, id) }
     {
-        self.places.remove(&(number, id));
+        let was_there = self.places.remove(&(number, id));
+        self.low -= low_change(was_there, number);
     }
 
     /// Whether look-ups begin after a place.
@@ -102,6 +123,17 @@ impl<N: ShelfNumber> Shelf<N> {
         ensures { result ≡ true → (p : ℕ × ℕ) → In p self.now.places → ⊥ }
     {
         self.places.is_empty()
+    }
+
+    /// How many places there are. None is there twice.
+    pub fn count(&self) -> Count
+        ensures count { result ≡ count_of self.now.places }
+        ensures apart { AreApart self.now.places }
+    {
+        Count {
+            all: self.places.len() as u64,
+            low: self.low,
+        }
     }
 
     /// All places.

@@ -14,7 +14,7 @@ use Rattle.std.specs.Set.{remove_key}
 use Rattle.object.specs.Lists.{In}
 use Rattle.job_store.specs.LookUps.{is_after}
 use Rattle.job_store.specs.ShelfStates.{numbered_place, IsFrom}
-use Rattle.job_store.proofs.shelving.Places.{shelf_cmp, from-le, lt-after}
+use Rattle.job_store.proofs.shelving.Places.{shelf_cmp, at_place, from-le, lt-after}
 
 module _ {N : Type 0} (cmp : N → N → Ordering) (value : N → ℕ) (law : (x y : N) → cmp x y ≡ nat_cmp (value x) (value y)) where
   abbrev pub pair_cmp : N × ℕ → N × ℕ → Ordering
@@ -22,6 +22,10 @@ module _ {N : Type 0} (cmp : N → N → Ordering) (value : N → ℕ) (law : (x
 
   as_places : (p q : N × ℕ) → pair_cmp p q ≡ shelf_cmp (numbered_place value p) (numbered_place value q)
   as_places p q = ap (λ o. ordering_then o (nat_cmp p.1 q.1)) (law p.0 q.0)
+
+  -- a place that is found is the one that was looked for
+  pub at-same : (k x : N × ℕ) → is_at (pair_cmp k) x ≡ true → numbered_place value x ≡ numbered_place value k
+  at-same k x t = sym (at_place (numbered_place value k) (numbered_place value x) (ap is_eq (sym (as_places k x)) ∙ t))
 
   pub put-of : (k : N × ℕ) (ks : List (N × ℕ))
       → map (numbered_place value) (insert_key pair_cmp ks k)
@@ -72,7 +76,7 @@ module _ {N : Type 0} (cmp : N → N → Ordering) (value : N → ℕ) (law : (x
   after-of x [] a = a
   after-of x (y ∷ ys) a = (sym (as_places x y) ∙ a.0, after-of x ys a.1)
 
-  sorted-of : (ks : List (N × ℕ)) → IsStrictlySortedBy pair_cmp ks → IsStrictlySortedBy shelf_cmp (map (numbered_place value) ks)
+  pub sorted-of : (ks : List (N × ℕ)) → IsStrictlySortedBy pair_cmp ks → IsStrictlySortedBy shelf_cmp (map (numbered_place value) ks)
   unfolding IsStrictlySortedBy
   sorted-of [] s = s
   sorted-of (x ∷ xs) s = (after-of x xs s.0, sorted-of xs s.1)

@@ -44,7 +44,7 @@ same_place p q h =
       | Greater ↦ λ o e. cc
     ] refl h
 
-before_place : (p q : ℕ × ℕ) → shelf_cmp p q ≡ Less → (p.0 < q.0) ⊎ ((p.0 ≡ q.0) × (p.1 < q.1))
+pub before_place : (p q : ℕ × ℕ) → shelf_cmp p q ≡ Less → (p.0 < q.0) ⊎ ((p.0 ≡ q.0) × (p.1 < q.1))
 before_place p q h =
     elim (nat_cmp p.0 q.0) as (λ o. nat_cmp p.0 q.0 ≡ o → ordering_then o (nat_cmp p.1 q.1) ≡ Less → (p.0 < q.0) ⊎ ((p.0 ≡ q.0) × (p.1 < q.1))) [
       | Less ↦ λ o e. inl (below_number p.0 q.0 o)
@@ -100,7 +100,7 @@ lt-after p q =
 
 -- At which place
 
-at_place : (p q : ℕ × ℕ) → is_at (shelf_cmp p) q ≡ true → p ≡ q
+pub at_place : (p q : ℕ × ℕ) → is_at (shelf_cmp p) q ≡ true → p ≡ q
 at_place p q h =
     elim (shelf_cmp p q) as (λ o. shelf_cmp p q ≡ o → is_at (λ (r : ℕ × ℕ). o) q ≡ true → p ≡ q) [
       | Less ↦ λ o e. cc
@@ -275,7 +275,7 @@ all-in P p [] a i = absurd i
 all-in P p (x ∷ xs) a (inl here) = subst P (sym here) a.0
 all-in P p (x ∷ xs) a (inr later) = all-in P p xs a.1 later
 
-sorted-first : (k p : ℕ × ℕ) (ps : List (ℕ × ℕ)) → IsStrictlySortedBy shelf_cmp (k ∷ ps) → In p ps → shelf_cmp k p ≡ Less
+pub sorted-first : (k p : ℕ × ℕ) (ps : List (ℕ × ℕ)) → IsStrictlySortedBy shelf_cmp (k ∷ ps) → In p ps → shelf_cmp k p ≡ Less
 unfolding IsStrictlySortedBy
 sorted-first k p ps s i = all-in (λ q. shelf_cmp k q ≡ Less) p ps s.0 i
 
