@@ -41,17 +41,22 @@ impl Model for SessionDraft {
 }
 
 /// Takes out a session, and out of the lines where it stood.
-fn forget(lines: &mut Lines, sessions: &mut BTreeMap<u32, SessionState>, session: u32)
+fn forget(
+    lines: &mut Lines,
+    sessions: &mut BTreeMap<u32, SessionState>,
+    session: u32,
+) -> Option<SessionState>
     requires { Rising 0 (2 ^ 32) sessions.old.entries }
+    ensures gone { result ≡ value_at session sessions.old.entries }
     ensures sessions { sessions.new.entries ≡ without session sessions.old.entries }
     ensures complete { AllStand (StandsIn lines.old) sessions.old.entries
         → AllStand (StandsIn lines.new) sessions.new.entries }
 {
-    if let Some(gone) = sessions.remove(&session) {
-        lines.leave(sessions, gone.watched.as_slice(), session, gone.wait);
-        lines.strike(sessions, &gone.used, session);
-        lines.strike_all(sessions, gone.watched.as_slice(), session);
-    }
+    let gone = sessions.remove(&session)?;
+    lines.leave(sessions, gone.watched.as_slice(), session, gone.wait);
+    lines.strike(sessions, &gone.used, session);
+    lines.strike_all(sessions, gone.watched.as_slice(), session);
+    Some(gone)
 }
 
 impl SessionDraft {
@@ -235,14 +240,15 @@ impl SessionDraft {
         count
     }
 
-    /// Keeps all changes, and takes out a session. That can't be taken back.
-    pub fn remove_for_good(&mut self, session: u32)
+    /// Keeps all changes, and takes out a session, if it is there. That can't be taken back.
+    pub fn remove_for_good(&mut self, session: u32) -> Option<SessionState>
+        ensures gone { result ≡ value_at session self.old.now }
         ensures now { self.new.now ≡ without session self.old.now }
         ensures before { self.new.before ≡ without session self.old.now }
     {
         leave_steps(&mut self.lines, &self.sessions, self.steps.as_slice());
         self.steps.clear();
-        forget(&mut self.lines, &mut self.sessions, session);
+        forget(&mut self.lines, &mut self.sessions, session)
     }
 
     /// Takes back all changes since they were kept last.
