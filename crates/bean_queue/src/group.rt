@@ -1,6 +1,6 @@
 ghost use Rattle.std.specs.Prelude.{◌≡◌, ◌^◌};
 ghost use Rattle.job_store.specs.Entries.{Rising};
-ghost use Rattle.bean_queue.specs.Groups.{is_in, count_in};
+ghost use Rattle.bean_queue.specs.Groups.{is_of_group, count_in};
 
 use job_store::Name;
 use session_store::SessionState;
@@ -26,7 +26,7 @@ pub(crate) enum Group<'a> {
 impl<'a> Group<'a> {
     /// Whether the session is one of them.
     fn has(&self, session: &SessionState) -> bool
-        ensures { result ≡ is_in self.now session.now }
+        ensures { result ≡ is_of_group self.now session.now }
     {
         match self {
             Group::Using(tube) => **tube == session.used,
