@@ -4,6 +4,7 @@ use Rattle.std.proofs.Common.{Err, refl, ap, sym, subst, ◌∙◌, arith, appen
 use Rattle.std.proofs.Math.Seq.{take-append-add}
 use Rattle.std.proofs.lemmas.Bool.{lt-ltb}
 use Rattle.std.proofs.lemmas.List.{take_all, take-append-drop, append-nil, length-take-le}
+use Rattle.bean_codec.specs.declared.profile.Profile.{Profile}
 use Rattle.bean_codec.specs.declared.request.Fault.TheVariants.{BadFormat, JobTooBig}
 use Rattle.bean_codec.specs.declared.reader.Want.{Want}
 use Rattle.bean_codec.specs.declared.reader.Read.{Read}
@@ -19,18 +20,19 @@ use Rattle.bean_codec.proofs.FrontItems.{too_short}
 use Rattle.bean_codec.proofs.OneItem.{one_item}
 
 -- the rest of a line that is too long, where no CR LF stands in it
-pub rest_more : (dropped bytes : List ℕ) → FitsRest dropped bytes → IsLine bytes → BeginsWithNone (dropped ++ bytes)
-rest_more dropped bytes fits none = no_item (dropped ++ bytes) (IsLine-join dropped bytes fits.is_line none)
+pub rest_more : (profile : Profile) (dropped bytes : List ℕ) → FitsRest dropped bytes → IsLine bytes → BeginsWithNone profile (dropped ++ bytes)
+rest_more profile dropped bytes fits none = no_item profile (dropped ++ bytes) (IsLine-join dropped bytes fits.is_line none)
 
 -- what ends it
-pub rest_item : (dropped bytes : List ℕ) (k : ℕ) → FitsRest dropped bytes → IsCutAt bytes k → EndsItem dropped bytes (Err BadFormat, k + 2)
-rest_item dropped bytes k fits cut =
+pub rest_item : (profile : Profile) (dropped bytes : List ℕ) (k : ℕ) → FitsRest dropped bytes → IsCutAt bytes k
+    → EndsItem profile dropped bytes (Err BadFormat, k + 2)
+rest_item profile dropped bytes k fits cut =
     let line = dropped ++ take k bytes in
     let text : dropped ++ take (k + 2) bytes ≡ line ++ (crlf ++ []) =
     ap (λ t. dropped ++ t) (cut_text bytes k cut) ∙ sym (append_assoc dropped (take k bytes) (crlf ++ [])) in
     let long : longest_line < length (line_text line) =
     let h = fits.long in omega (arith, h, length-append dropped crlf, length-append line crlf, length-append dropped (take k bytes)) in
-    let says = meaning-long line long in (
+    let says = meaning-long profile line long in (
       cut.2,
       record {
         line = line;
@@ -87,8 +89,9 @@ put_item-large : (pri delay ttr size : ℕ) (rest : List ℕ) → longest_body <
 unfolding put_item
 put_item-large pri delay ttr size rest large = rw (lt-ltb longest_body size large) refl
 
-pub big_item : (n : ℕ) (dropped bytes : List ℕ) → FitsBig n dropped → n ≤ length bytes → EndsItem dropped bytes (Err JobTooBig, n)
-big_item n dropped bytes fits within =
+pub big_item : (profile : Profile) (n : ℕ) (dropped bytes : List ℕ) → FitsBig profile n dropped → n ≤ length bytes
+    → EndsItem profile dropped bytes (Err JobTooBig, n)
+big_item profile n dropped bytes fits within =
     let rest = fits.rest ++ take n bytes in
     let text : dropped ++ take n bytes ≡ fits.line ++ (crlf ++ rest) =
     ap (λ t. t ++ take n bytes) fits.cut ∙ append_assoc fits.line (crlf ++ fits.rest) (take n bytes) ∙ ap
@@ -111,41 +114,44 @@ empty : (bytes : List ℕ) → length bytes ≤ 0 → bytes ≡ []
 empty [] none = refl
 empty (b ∷ bytes) none = absurd (omega arith)
 
-pub big_more : (n : ℕ) (dropped bytes : List ℕ) → FitsBig n dropped → length bytes ≤ 0 → BeginsWithNone (dropped ++ bytes)
-big_more n dropped bytes fits none =
+pub big_more : (profile : Profile) (n : ℕ) (dropped bytes : List ℕ) → FitsBig profile n dropped → length bytes ≤ 0
+    → BeginsWithNone profile (dropped ++ bytes)
+big_more profile n dropped bytes fits none =
     let same : dropped ++ bytes ≡ dropped = ap (λ t. dropped ++ t) (empty bytes none) ∙ append-nil dropped in
     let few : length fits.rest + 1 ≤ fits.size + 2 = let left = fits.left in let some = fits.some in omega (arith, left, some) in
-    subst BeginsWithNone (sym same) (too_short dropped fits.line fits.rest fits.pri fits.delay fits.ttr fits.size fits.is_line fits.cut fits.says few)
+    subst (BeginsWithNone profile) (sym same)
+    (too_short profile dropped fits.line fits.rest fits.pri fits.delay fits.ttr fits.size fits.is_line fits.cut fits.says few)
 
--- where the dropped text and the bytes spell an item, it is told, or bytes are dropped
-same_end : (dropped bytes : List ℕ) (found : Item × ℕ) (other : Item × ℕ) → EndsItem dropped bytes found
-    → EndsItem dropped bytes other → Some found ≡ Some other
-same_end dropped bytes (item, used) (other, n) h k =
-    let parts = λ (m : ℕ). append_assoc dropped (take m bytes) (drop m bytes) ∙ ap (λ t. dropped ++ t) (take-append-drop m bytes) in
-    let same = one_item (dropped ++ take used bytes) (dropped ++ take n bytes) (drop used bytes)
-    (drop n bytes) item other h.1 k.1 (parts used ∙ sym (parts n)) in
-    let count : used ≡ n = omega (
-      arith,
-      ap length same.0,
-      length-append dropped
-          (take used bytes),
-      length-append dropped
-          (take n bytes),
-      length-take-le used bytes h.0,
-      length-take-le n bytes k.0,
-    ) in
-    cc
+module _ (profile : Profile) where
+  -- where the dropped text and the bytes spell an item, it is told, or bytes are dropped
+  same_end : (dropped bytes : List ℕ) (found : Item × ℕ) (other : Item × ℕ) → EndsItem profile dropped bytes found
+      → EndsItem profile dropped bytes other → Some found ≡ Some other
+  same_end dropped bytes (item, used) (other, n) h k =
+      let parts = λ (m : ℕ). append_assoc dropped (take m bytes) (drop m bytes) ∙ ap (λ t. dropped ++ t) (take-append-drop m bytes) in
+      let same = one_item profile (dropped ++ take used bytes) (dropped ++ take n bytes) (drop used bytes)
+      (drop n bytes) item other h.1 k.1 (parts used ∙ sym (parts n)) in
+      let count : used ≡ n = omega (
+        arith,
+        ap length same.0,
+        length-append dropped
+            (take used bytes),
+        length-append dropped
+            (take n bytes),
+        length-take-le used bytes h.0,
+        length-take-le n bytes k.0,
+      ) in
+      cc
 
-begins_from_ends : (dropped bytes : List ℕ) (item : Item) (used : ℕ) → EndsItem dropped bytes (item, used)
-    → BeginsWith (dropped ++ bytes) (item, length dropped + used)
-begins_from_ends dropped bytes item used h =
-    (omega (arith, h.0, length-append dropped bytes), subst (λ t. Spells t item) (sym (take-append-add dropped bytes used)) h.1)
+  begins_from_ends : (dropped bytes : List ℕ) (item : Item) (used : ℕ) → EndsItem profile dropped bytes (item, used)
+      → BeginsWith profile (dropped ++ bytes) (item, length dropped + used)
+  begins_from_ends dropped bytes item used h =
+      (omega (arith, h.0, length-append dropped bytes), subst (λ t. Spells profile t item) (sym (take-append-add dropped bytes used)) h.1)
 
-pub only_told : (want : Want) (bytes : List ℕ) (r : Read) → TellsItem want bytes r → TellsMore want bytes r
-    → (dropped : List ℕ) (found : Item × ℕ) → Fits want dropped bytes → EndsItem dropped bytes found → IsDrop r
-    ⊎ (item_read r ≡ Some found)
-only_told want bytes read.More item more dropped found fits h =
-    absurd (more dropped fits (found.0, length dropped + found.1) (begins_from_ends dropped bytes found.0 found.1 h))
-only_told want bytes (read.Drop used next) item more dropped found fits h = inl tt
-only_told want bytes (read.Request request used) item more dropped found fits h = inr (same_end dropped bytes (Ok request, used) found (item dropped fits) h)
-only_told want bytes (read.Bad fault used) item more dropped found fits h = inr (same_end dropped bytes (Err fault, used) found (item dropped fits) h)
+  pub only_told : (want : Want) (bytes : List ℕ) (r : Read) → TellsItem profile want bytes r → TellsMore profile want bytes r
+      → (dropped : List ℕ) (found : Item × ℕ) → Fits profile want dropped bytes → EndsItem profile dropped bytes found → IsDrop r
+      ⊎ (item_read r ≡ Some found)
+  only_told want bytes read.More item more dropped found fits h =
+      absurd (more dropped fits (found.0, length dropped + found.1) (begins_from_ends dropped bytes found.0 found.1 h))
+  only_told want bytes (read.Drop used next) item more dropped found fits h = inl tt
+  only_told want bytes (read.Request request used) item more dropped found fits h = inr (same_end dropped bytes (Ok request, used) found (item dropped fits) h)
+  only_told want bytes (read.Bad fault used) item more dropped found fits h = inr (same_end dropped bytes (Err fault, used) found (item dropped fits) h)

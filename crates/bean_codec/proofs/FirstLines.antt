@@ -4,6 +4,7 @@ use Rattle.std.proofs.Common.{subst, ◌∙◌, arith, length-append, length-dro
 use Rattle.std.proofs.Math.Seq.{take-add}
 use Rattle.std.proofs.lemmas.List.{take_all, length-take-le}
 use Rattle.std.specs.Option.{IfSome}
+use Rattle.bean_codec.specs.declared.profile.Profile.{Profile}
 use Rattle.bean_codec.specs.declared.request.Fault.{Fault}
 use Rattle.bean_codec.specs.declared.line.Meaning.{Meaning}
 use Rattle.bean_codec.specs.declared.line.Meaning.TheVariants.{Whole, WithBody}
@@ -19,9 +20,10 @@ use Rattle.bean_codec.proofs.LineCuts.{IsCutAt}
 use Rattle.bean_codec.proofs.Fronts.{no_item, cut_text, begins_from_completes, completes_from_begins, item_from, more_from}
 
 -- where no line ends in few bytes, more are wanted
-pub line_more : (bytes : List ℕ) (n : ℕ) → length bytes ≤ n → IsLine (take n bytes) → (dropped : List ℕ) → dropped ≡ [] → BeginsWithNone (dropped ++ bytes)
-line_more bytes n few h dropped none =
-    subst (λ d. BeginsWithNone (d ++ bytes)) (sym none) (no_item bytes (subst IsLine (take_all n bytes few) h))
+pub line_more : (profile : Profile) (bytes : List ℕ) (n : ℕ) → length bytes ≤ n → IsLine (take n bytes) → (dropped : List ℕ) → dropped ≡ []
+    → BeginsWithNone profile (dropped ++ bytes)
+line_more profile bytes n few h dropped none =
+    subst (λ d. BeginsWithNone profile (d ++ bytes)) (sym none) (no_item profile bytes (subst IsLine (take_all n bytes few) h))
 
 -- where none ends in many, all but the last may be dropped
 pub line_rest : (bytes : List ℕ) (n : ℕ) → n ≡ 224 → n ≤ length bytes → IsLine (take n bytes) → (dropped : List ℕ) → dropped ≡ [] →
@@ -37,34 +39,36 @@ line_rest bytes n n_is many h dropped none =
     (omega arith, omega arith, subst (λ d. FitsRest (d ++ start) (drop 223 bytes)) (sym none) fits)
 
 -- what is told of bytes whose first line ends at place k
-module _ (bytes : List ℕ) (k : ℕ) (cut : IsCutAt bytes k) (m : Result Meaning Fault) (same : m ≡ meaning (take k bytes))
+module _ (profile : Profile) (bytes : List ℕ) (k : ℕ) (cut : IsCutAt bytes k) (m : Result Meaning Fault) (same : m ≡ meaning profile (take k bytes))
     (rest : List ℕ) (rest_is : rest ≡ drop (k + 2) bytes) where
-  pub forth : (found : Item × ℕ) → CompletesFront m (k + 2) rest found → BeginsWith bytes found
-  forth found h = begins_from_completes bytes k cut found (rw (← same, ← rest_is) h)
+  pub forth : (found : Item × ℕ) → CompletesFront m (k + 2) rest found → BeginsWith profile bytes found
+  forth found h = begins_from_completes profile bytes k cut found (rw (← same, ← rest_is) h)
 
-  back : (found : Item × ℕ) → BeginsWith bytes found → CompletesFront m (k + 2) rest found
-  back found h = rw (same, rest_is) (completes_from_begins bytes k cut found h)
+  back : (found : Item × ℕ) → BeginsWith profile bytes found → CompletesFront m (k + 2) rest found
+  back found h = rw (same, rest_is) (completes_from_begins profile bytes k cut found h)
 
   -- bytes that begin with it end it, where none were dropped
-  ends : {E : Type 0} (r : Result Read E) → IfOk r (λ read. IfSome (item_read read) (BeginsWith bytes)) → IfOk r (TellsItem Line bytes)
-  ends (Ok read) h = λ dropped none. subst (λ d. IfSome (item_read read) (EndsItem d bytes)) (sym none) h
+  ends : {E : Type 0} (r : Result Read E) → IfOk r (λ read. IfSome (item_read read) (BeginsWith profile bytes)) → IfOk r (TellsItem profile Line bytes)
+  ends (Ok read) h = λ dropped none. subst (λ d. IfSome (item_read read) (EndsItem profile d bytes)) (sym none) h
   ends (Err e) h = tt
 
-  pub told_item : {E : Type 0} (r : Result Read E) → IfOk r (λ read. IfSome (item_read read) (CompletesFront m (k + 2) rest)) → IfOk r (TellsItem Line bytes)
-  told_item r h = ends r (item_from _ (BeginsWith bytes) r forth h)
+  pub told_item : {E : Type 0} (r : Result Read E) → IfOk r (λ read. IfSome (item_read read) (CompletesFront m (k + 2) rest))
+      → IfOk r (TellsItem profile Line bytes)
+  told_item r h = ends r (item_from _ (BeginsWith profile bytes) r forth h)
 
-  none_left : {E : Type 0} (r : Result Read E) → IfOk r (λ read. IfMore read (BeginsWithNone bytes)) → IfOk r (TellsMore Line bytes)
-  none_left (Ok read) h = λ dropped none. subst (λ d. IfMore read (BeginsWithNone (d ++ bytes))) (sym none) h
+  none_left : {E : Type 0} (r : Result Read E) → IfOk r (λ read. IfMore read (BeginsWithNone profile bytes)) → IfOk r (TellsMore profile Line bytes)
+  none_left (Ok read) h = λ dropped none. subst (λ d. IfMore read (BeginsWithNone profile (d ++ bytes))) (sym none) h
   none_left (Err e) h = tt
 
   pub told_more : {E : Type 0} (r : Result Read E)
       → IfOk r (λ read. IfMore read ((found : Item × ℕ) → ¬ CompletesFront m (k + 2) rest found))
-      → IfOk r (TellsMore Line bytes)
-  told_more r h = none_left r (more_from _ (BeginsWith bytes) r back h)
+      → IfOk r (TellsMore profile Line bytes)
+  told_more r h = none_left r (more_from _ (BeginsWith profile bytes) r back h)
 
-  fits_big : (m : Result Meaning Fault) (want : Want) → m ≡ meaning (take k bytes) → DropsBig m want → Fits want (take (k + 2) bytes) (drop (k + 2) bytes)
+  fits_big : (m : Result Meaning Fault) (want : Want) → m ≡ meaning profile (take k bytes) → DropsBig m want
+      → Fits profile want (take (k + 2) bytes) (drop (k + 2) bytes)
   fits_big (Ok (WithBody pri delay ttr size)) want says (wanted, large) =
-      subst (λ w. Fits w (take (k + 2) bytes) (drop (k + 2) bytes)) (sym wanted) (record {
+      subst (λ w. Fits profile w (take (k + 2) bytes) (drop (k + 2) bytes)) (sym wanted) (record {
         line = take k bytes;
         rest = [];
         pri = pri;
@@ -81,17 +85,18 @@ module _ (bytes : List ℕ) (k : ℕ) (cut : IsCutAt bytes k) (m : Result Meanin
   fits_big (Ok (Whole request)) want says h = absurd h
   fits_big (Err fault) want says h = absurd h
 
-  dropped_line : (r : Read) → IfDrop r (λ used want. (used ≡ k + 2) × DropsBig m want) → TellsDrop Line bytes r
+  dropped_line : (r : Read) → IfDrop r (λ used want. (used ≡ k + 2) × DropsBig m want) → TellsDrop profile Line bytes r
   dropped_line (read.Drop used want) (all, big) dropped none =
       let fits = fits_big m want same big in
-      let here : Fits want (dropped ++ take used bytes) (drop used bytes) =
-      subst (λ d. Fits want (d ++ take used bytes) (drop used bytes)) (sym none) (subst (λ n. Fits want (take n bytes) (drop n bytes)) (sym all) fits) in
+      let here : Fits profile want (dropped ++ take used bytes) (drop used bytes) =
+      subst (λ d. Fits profile want (d ++ take used bytes) (drop used bytes)) (sym none)
+      (subst (λ n. Fits profile want (take n bytes) (drop n bytes)) (sym all) fits) in
       (omega (arith, all), omega (arith, all, cut.2), here)
   dropped_line read.More h dropped none = tt
   dropped_line (read.Request request used) h dropped none = tt
   dropped_line (read.Bad fault used) h dropped none = tt
 
   pub told_drop : {E : Type 0} (r : Result Read E)
-      → IfOk r (λ read. IfDrop read (λ used want. (used ≡ k + 2) × DropsBig m want)) → IfOk r (TellsDrop Line bytes)
+      → IfOk r (λ read. IfDrop read (λ used want. (used ≡ k + 2) × DropsBig m want)) → IfOk r (TellsDrop profile Line bytes)
   told_drop (Ok read) h = dropped_line read h
   told_drop (Err e) h = tt

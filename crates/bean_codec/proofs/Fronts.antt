@@ -3,6 +3,7 @@ use Rattle.std.proofs.Common.{◌≡◌, inr, ℕ, ◌+◌, ◌≤◌, Option, S
 use Rattle.std.proofs.Math.Seq.{take-append-add, take-append_seam}
 use Rattle.std.proofs.lemmas.List.{append_assoc, length-append, length-drop, length-take-le, take-append-drop}
 use Rattle.std.specs.Option.{IfSome}
+use Rattle.bean_codec.specs.declared.profile.Profile.{Profile}
 use Rattle.bean_codec.specs.declared.request.Fault.{Fault}
 use Rattle.bean_codec.specs.declared.line.Meaning.{Meaning}
 use Rattle.bean_codec.specs.declared.line.Meaning.TheVariants.{Whole, WithBody}
@@ -24,12 +25,12 @@ whole_cut bytes n line rest e =
     ∙ (append_assoc line (crlf ++ rest) (drop n bytes) ∙ ap (λ t. line ++ t) (append_assoc crlf rest (drop n bytes))))
 
 -- a line begins with no item
-pub no_item : (text : List ℕ) → IsLine text → BeginsWithNone text
-no_item text h (item, n) (inside, s) =
+pub no_item : (profile : Profile) (text : List ℕ) → IsLine text → BeginsWithNone profile text
+no_item profile text h (item, n) (inside, s) =
     no_cut_line text s.line (s.rest ++ drop n text) h (whole_cut text n s.line s.rest s.cut)
 
 -- what bytes begin with whose first CR LF stands at place k
-module _ (bytes : List ℕ) (k : ℕ) (cut : IsCutAt bytes k) where
+module _ (profile : Profile) (bytes : List ℕ) (k : ℕ) (cut : IsCutAt bytes k) where
   abbrev line : List ℕ
   line = take k bytes
 
@@ -40,7 +41,7 @@ module _ (bytes : List ℕ) (k : ℕ) (cut : IsCutAt bytes k) where
   line_len = length-take-le k bytes (omega arith)
 
   -- it begins with what the rest completes
-  pub begins_from_completes : (found : Item × ℕ) → CompletesFront (meaning line) (k + 2) rest found → BeginsWith bytes found
+  pub begins_from_completes : (found : Item × ℕ) → CompletesFront (meaning profile line) (k + 2) rest found → BeginsWith profile bytes found
   begins_from_completes (item, end) h =
       let end_is : end ≡ length line + (2 + h.0) = omega (arith, line_len) in
       let text : take end bytes ≡ line ++ (crlf ++ take h.0 rest) =
@@ -49,7 +50,7 @@ module _ (bytes : List ℕ) (k : ℕ) (cut : IsCutAt bytes k) where
       (omega (arith, length-drop (k + 2) bytes), record { line = line; rest = take h.0 rest; is_line = cut.0; cut = text; completes = h.3 })
 
   -- and with nothing else
-  pub completes_from_begins : (found : Item × ℕ) → BeginsWith bytes found → CompletesFront (meaning line) (k + 2) rest found
+  pub completes_from_begins : (found : Item × ℕ) → BeginsWith profile bytes found → CompletesFront (meaning profile line) (k + 2) rest found
   completes_from_begins (item, n) (inside, s) =
       let same = one_line s.line line (s.rest ++ drop n bytes) rest s.is_line cut.0 (sym (whole_cut bytes n s.line s.rest s.cut) ∙ cut.1) in
       let front : take (length s.rest) rest ≡ s.rest =

@@ -11,3 +11,5 @@ pub mod TubeLists
 pub mod DroppedTexts
 pub mod FirstLines
 pub mod Due
+pub mod FrontTold
+pub mod Profiles

@@ -4,6 +4,7 @@ use Rattle.std.proofs.Common.{Err, refl, ap, sym, subst, ◌∙◌, arith, appen
 use Rattle.std.proofs.lemmas.Bool.{lt-ltb}
 use Rattle.std.proofs.lemmas.List.{take-take, take_all, take-append-drop, drop-append-le, append-nil}
 use Rattle.bstr.specs.Find.{FindsNeedle}
+use Rattle.bean_codec.specs.declared.profile.Profile.{Profile}
 use Rattle.bean_codec.specs.declared.request.Fault.TheVariants.{BadFormat}
 use Rattle.bean_codec.specs.Lines.{crlf, line_text, IsLine}
 use Rattle.bean_codec.specs.Grammar.{meaning, longest_line}
@@ -59,6 +60,6 @@ found_front bytes n k found =
     ((subst IsLine line cut.0, whole, omega arith), low)
 
 -- a line that is too long is a bad format
-pub meaning-long : (line : List ℕ) → longest_line < length (line_text line) → meaning line ≡ Err BadFormat
+pub meaning-long : (profile : Profile) (line : List ℕ) → longest_line < length (line_text line) → meaning profile line ≡ Err BadFormat
 unfolding meaning
-meaning-long line long = rw (lt-ltb longest_line (length (line ++ crlf)) long) refl
+meaning-long profile line long = rw (lt-ltb longest_line (length (line ++ crlf)) long) refl

@@ -1,6 +1,7 @@
 -- A text spells one item, and none that begins with it spells another.
 use Rattle.std.proofs.Common.{◌≡◌, ℕ, List, [], ◌∷◌, ◌++◌, length, Result, Ok, Err, refl, ap, sym, ◌∙◌, arith}
 use Rattle.std.proofs.lemmas.List.{append_assoc}
+use Rattle.bean_codec.specs.declared.profile.Profile.{Profile}
 use Rattle.bean_codec.specs.declared.request.Fault.{Fault}
 use Rattle.bean_codec.specs.declared.line.Meaning.{Meaning}
 use Rattle.bean_codec.specs.declared.line.Meaning.TheVariants.{Whole, WithBody}
@@ -31,11 +32,11 @@ one_completion (Err fault) r s x y i j h k e = (h.0 ∙ sym k.0, h.1 ∙ sym k.1
 three_parts : (line rest x : List ℕ) → (line ++ (crlf ++ rest)) ++ x ≡ line ++ (crlf ++ (rest ++ x))
 three_parts line rest x = append_assoc line (crlf ++ rest) x ∙ ap (λ t. line ++ t) (append_assoc crlf rest x)
 
-pub one_item : (a b x y : List ℕ) (i j : Item) → Spells a i → Spells b j → a ++ x ≡ b ++ y → (a ≡ b) × (i ≡ j)
-one_item a b x y i j s t e =
+pub one_item : (profile : Profile) (a b x y : List ℕ) (i j : Item) → Spells profile a i → Spells profile b j → a ++ x ≡ b ++ y → (a ≡ b) × (i ≡ j)
+one_item profile a b x y i j s t e =
     let whole : s.line ++ (crlf ++ (s.rest ++ x)) ≡ t.line ++ (crlf ++ (t.rest ++ y)) =
     sym (three_parts s.line s.rest x) ∙ (ap (λ u. u ++ x) (sym s.cut) ∙ (e ∙ (ap (λ u. u ++ y) t.cut ∙ three_parts t.line t.rest y))) in
     let lines = one_line s.line t.line (s.rest ++ x) (t.rest ++ y) s.is_line t.is_line whole in
     let completes = rw (sym lines.0) at t.completes in
-    let rests = one_completion (meaning s.line) s.rest t.rest x y i j s.completes completes lines.1 in
+    let rests = one_completion (meaning profile s.line) s.rest t.rest x y i j s.completes completes lines.1 in
     (s.cut ∙ (ap (λ l. l ++ (crlf ++ s.rest)) lines.0 ∙ (ap (λ r. t.line ++ (crlf ++ r)) rests.0 ∙ sym t.cut)), rests.1)

@@ -2,6 +2,8 @@
 use Rattle.std.specs.Prelude.{ℕ, List, codes, Option, Some, None, if◌then◌else◌}
 use Rattle.std.specs.Option.{option_or}
 use Rattle.std.specs.Str.{bytes_eq}
+use Rattle.bean_codec.specs.declared.profile.Profile.{Profile}
+use Rattle.bean_codec.specs.declared.profile.Profile.TheVariants.{Plain, Extended}
 use Rattle.bean_codec.specs.declared.command.CommandName.{CommandName}
 use Rattle.bean_codec.specs.declared.command.CommandName.TheVariants.{Put, Use, Watch, Ignore, Reserve}
 use Rattle.bean_codec.specs.declared.command.CommandName.TheVariants.{ReserveWithTimeout, Delete, Touch, Release, Bury}
@@ -45,6 +47,15 @@ look_command word =
     else if bytes_eq word (codes "quit") then Some Quit
     else None
 
--- the command that the word names, compared byte by byte
-unfoldable pub command_of : List ℕ → Option CommandName
-command_of word = option_or (option_or (job_command word) (tube_command word)) (look_command word)
+-- those of every profile, compared byte by byte
+unfoldable pub plain_command : List ℕ → Option CommandName
+plain_command word = option_or (option_or (job_command word) (tube_command word)) (look_command word)
+
+-- those of the extended profile alone
+unfoldable pub stats_command : List ℕ → Option CommandName
+stats_command word = None
+
+-- the command that the word names
+unfoldable pub command_of : Profile → List ℕ → Option CommandName
+command_of Plain word = plain_command word
+command_of Extended word = option_or (plain_command word) (stats_command word)

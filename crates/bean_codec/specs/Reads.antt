@@ -1,5 +1,7 @@
 -- What a reader tells of the bytes before it.
-use Rattle.std.specs.Prelude.{◌≡◌, ◌⊎◌, ◌<◌, ℕ, ◌+◌, ◌-◌, ◌≤◌, List, [], ◌++◌, length, take, drop, codes, Option, Some, None, Result, Ok, Err, IfSome}
+use Rattle.std.specs.Prelude.{◌≡◌, ◌⊎◌, ◌↔◌, ◌<◌, ℕ, ◌+◌, ◌-◌, ◌≤◌, List, [], ◌++◌, length, take, drop, codes}
+use Rattle.std.specs.Prelude.{Option, Some, None, Result, Ok, Err, IfSome, IfOk, OnErr}
+use Rattle.bean_codec.specs.declared.profile.Profile.{Profile}
 use Rattle.bean_codec.specs.declared.request.Fault.{Fault}
 use Rattle.bean_codec.specs.declared.line.Meaning.{Meaning}
 use Rattle.bean_codec.specs.declared.line.Meaning.TheVariants.{WithBody}
@@ -9,6 +11,7 @@ use Rattle.bean_codec.specs.declared.reader.Read.{Read}
 use Rattle.bean_codec.specs.declared.reader.Read.TheVariants.{More, Drop, Request, Bad}
 use Rattle.bean_codec.specs.Lines.{crlf, line_text, IsLine}
 use Rattle.bean_codec.specs.Grammar.{Item, Completes, Spells, longest_line, longest_body, meaning}
+use Rattle.bean_codec.specs.Memory.{TakesMemory}
 use Rattle.bean_codec.specs.Wants.{EndsWithCr, Fits}
 
 -- the item that was read, and how many bytes it takes
@@ -34,29 +37,29 @@ IsDrop (Drop used want) = Unit {0}
 IsDrop _ = ⊥
 
 -- the bytes begin with the item, which takes so many of them
-abbrev pub BeginsWith : List ℕ → Item × ℕ → Type 0
-BeginsWith bytes (item, used) = (used ≤ length bytes) × Spells (take used bytes) item
+abbrev pub BeginsWith : Profile → List ℕ → Item × ℕ → Type 0
+BeginsWith profile bytes (item, used) = (used ≤ length bytes) × Spells profile (take used bytes) item
 
 -- they begin with none
-abbrev pub BeginsWithNone : List ℕ → Type 0
-BeginsWithNone bytes = (found : Item × ℕ) → ¬ BeginsWith bytes found
+abbrev pub BeginsWithNone : Profile → List ℕ → Type 0
+BeginsWithNone profile bytes = (found : Item × ℕ) → ¬ BeginsWith profile bytes found
 
 -- the text that was dropped and so many of the bytes spell the item
-abbrev pub EndsItem : List ℕ → List ℕ → Item × ℕ → Type 0
-EndsItem dropped bytes (item, used) = (used ≤ length bytes) × Spells (dropped ++ take used bytes) item
+abbrev pub EndsItem : Profile → List ℕ → List ℕ → Item × ℕ → Type 0
+EndsItem profile dropped bytes (item, used) = (used ≤ length bytes) × Spells profile (dropped ++ take used bytes) item
 
 -- an item that is told is spelled by what was dropped and the bytes that it takes
-abbrev pub TellsItem : Want → List ℕ → Read → Type 0
-TellsItem want bytes read = (dropped : List ℕ) → Fits want dropped bytes → IfSome (item_read read) (EndsItem dropped bytes)
+abbrev pub TellsItem : Profile → Want → List ℕ → Read → Type 0
+TellsItem profile want bytes read = (dropped : List ℕ) → Fits profile want dropped bytes → IfSome (item_read read) (EndsItem profile dropped bytes)
 
 -- more is wanted only where nothing is spelled as yet
-abbrev pub TellsMore : Want → List ℕ → Read → Type 0
-TellsMore want bytes read = (dropped : List ℕ) → Fits want dropped bytes → IfMore read (BeginsWithNone (dropped ++ bytes))
+abbrev pub TellsMore : Profile → Want → List ℕ → Read → Type 0
+TellsMore profile want bytes read = (dropped : List ℕ) → Fits profile want dropped bytes → IfMore read (BeginsWithNone profile (dropped ++ bytes))
 
 -- some bytes are dropped, and the text with them fits what is wanted then
-abbrev pub TellsDrop : Want → List ℕ → Read → Type 0
-TellsDrop want bytes read = (dropped : List ℕ) → Fits want dropped bytes →
-    IfDrop read (λ used next. (1 ≤ used) × (used ≤ length bytes) × Fits next (dropped ++ take used bytes) (drop used bytes))
+abbrev pub TellsDrop : Profile → Want → List ℕ → Read → Type 0
+TellsDrop profile want bytes read = (dropped : List ℕ) → Fits profile want dropped bytes →
+    IfDrop read (λ used next. (1 ≤ used) × (used ≤ length bytes) × Fits profile next (dropped ++ take used bytes) (drop used bytes))
 
 -- the most bytes that may have to wait: a longest line, a longest body, and one of the two bytes after it
 abbrev pub longest_unfinished : ℕ
@@ -91,31 +94,45 @@ IsFirstLine bytes line rest = IsLine line × (bytes ≡ line ++ (crlf ++ rest))
 
 -- more bytes are wanted: of a line that may yet end in time, or of the body of a put; where nothing came of the rest of a
 -- line that is too long, or a carriage return alone; where nothing came of a body that is too large
-abbrev pub Awaits : Want → List ℕ → Type 0
-Awaits Line bytes =
+abbrev pub Awaits : Profile → Want → List ℕ → Type 0
+Awaits profile Line bytes =
     (NoLineEnds bytes × (length bytes < longest_line))
-    ⊎ ((line rest : List ℕ) × IsFirstLine bytes line rest × AwaitsBody (meaning line) rest)
-Awaits Rest bytes = (bytes ≡ []) ⊎ (bytes ≡ codes "\r")
-Awaits (Big n) bytes = (bytes ≡ []) × (0 < n)
+    ⊎ ((line rest : List ℕ) × IsFirstLine bytes line rest × AwaitsBody (meaning profile line) rest)
+Awaits profile Rest bytes = (bytes ≡ []) ⊎ (bytes ≡ codes "\r")
+Awaits profile (Big n) bytes = (bytes ≡ []) × (0 < n)
 
 -- so many bytes are dropped, and this is wanted then: of a line that is too long, all but one of the bytes of a longest
 -- line; the whole line of a put whose body is too large; of the rest of a line that is too long, all but a last carriage
 -- return; of a body that is too large, all that came
-abbrev pub IsDropped : Want → List ℕ → ℕ → Want → Type 0
-IsDropped Line bytes used next =
+abbrev pub IsDropped : Profile → Want → List ℕ → ℕ → Want → Type 0
+IsDropped profile Line bytes used next =
     (NoLineEnds bytes × (longest_line ≤ length bytes) × (used + 1 ≡ longest_line) × (next ≡ Rest))
-    ⊎ ((line rest : List ℕ) × IsFirstLine bytes line rest × DropsBig (meaning line) next × (used ≡ length (line_text line)))
-IsDropped Rest bytes used next = IsLine bytes × IsBeforeCr bytes used × (0 < used) × (next ≡ Rest)
-IsDropped (Big n) bytes used next = (used ≡ length bytes) × (0 < used) × (used < n) × (next ≡ Big (n - used))
+    ⊎ ((line rest : List ℕ) × IsFirstLine bytes line rest × DropsBig (meaning profile line) next × (used ≡ length (line_text line)))
+IsDropped profile Rest bytes used next = IsLine bytes × IsBeforeCr bytes used × (0 < used) × (next ≡ Rest)
+IsDropped profile (Big n) bytes used next = (used ≡ length bytes) × (0 < used) × (used < n) × (next ≡ Big (n - used))
 
 -- what is told is what is due: more are awaited, some are dropped, or neither
-abbrev pub IsDue : Want → List ℕ → Read → Type 0
-IsDue want bytes More = Awaits want bytes
-IsDue want bytes (Drop used next) = IsDropped want bytes used next
-IsDue want bytes _ = (Awaits want bytes → ⊥) × ((used : ℕ) (next : Want) → IsDropped want bytes used next → ⊥)
+abbrev pub IsDue : Profile → Want → List ℕ → Read → Type 0
+IsDue profile want bytes More = Awaits profile want bytes
+IsDue profile want bytes (Drop used next) = IsDropped profile want bytes used next
+IsDue profile want bytes _ = (Awaits profile want bytes → ⊥) × ((used : ℕ) (next : Want) → IsDropped profile want bytes used next → ⊥)
 
 -- the same of the rest after a line with this meaning
 abbrev pub IsRestDue : Result Meaning Fault → List ℕ → Read → Type 0
 IsRestDue meaning rest More = AwaitsBody meaning rest
 IsRestDue meaning rest (Drop used next) = DropsBig meaning next
 IsRestDue meaning rest _ = (AwaitsBody meaning rest → ⊥) × ((next : Want) → DropsBig meaning next → ⊥)
+
+-- What is told of the front of these bytes to who waits for this.
+pub record TellsFront {E : Type 0} (profile : Profile) (want : Want) (bytes : List ℕ) (result : Result Read E) : Type 0 where
+  pub item : IfOk result (TellsItem profile want bytes)
+  pub more : IfOk result (TellsMore profile want bytes)
+  pub drop : IfOk result (TellsDrop profile want bytes)
+  -- where what was dropped and some of the bytes spell an item, it is told, or bytes are dropped
+  pub only : IfOk result (λ read. (dropped : List ℕ) (found : Item × ℕ) → Fits profile want dropped bytes →
+      EndsItem profile dropped bytes found → IsDrop read ⊎ (item_read read ≡ Some found))
+  pub awaits : IfOk result (λ read. (read ≡ More) ↔ Awaits profile want bytes)
+  pub dropped : IfOk result (λ read. (used : ℕ) (next : Want) → (read ≡ Drop used next) ↔ IsDropped profile want bytes used next)
+  pub bound : IfOk result (λ read. IfMore read (length bytes ≤ longest_unfinished))
+  -- only the body of a put and the name of a tube take memory
+  pub memory : OnErr result ((want ≡ Line) × ((found : Item × ℕ) × TakesMemory found.0 × BeginsWith profile bytes found))

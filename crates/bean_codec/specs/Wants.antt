@@ -1,5 +1,6 @@
 -- Which text a reader has dropped that waits for this.
 use Rattle.std.specs.Prelude.{◌≡◌, ℕ, ◌+◌, ◌≤◌, ◌<◌, List, [], ◌++◌, length, take, codes, Ok}
+use Rattle.bean_codec.specs.declared.profile.Profile.{Profile}
 use Rattle.bean_codec.specs.declared.line.Meaning.TheVariants.{WithBody}
 use Rattle.bean_codec.specs.declared.reader.Want.{Want}
 use Rattle.bean_codec.specs.declared.reader.Want.TheVariants.{Line, Rest, Big}
@@ -17,7 +18,7 @@ pub record FitsRest (dropped bytes : List ℕ) : Type 0 where
   pub last : bytes ≡ [] → EndsWithCr dropped → ⊥
 
 -- a good put line whose body is too large, and all but n of the bytes that follow it
-pub record FitsBig (n : ℕ) (dropped : List ℕ) : Type 0 where
+pub record FitsBig (profile : Profile) (n : ℕ) (dropped : List ℕ) : Type 0 where
   pub line : List ℕ
   pub rest : List ℕ
   pub pri : ℕ
@@ -25,14 +26,14 @@ pub record FitsBig (n : ℕ) (dropped : List ℕ) : Type 0 where
   pub ttr : ℕ
   pub size : ℕ
   pub is_line : IsLine line
-  pub says : meaning line ≡ Ok (WithBody pri delay ttr size)
+  pub says : meaning profile line ≡ Ok (WithBody pri delay ttr size)
   pub large : longest_body < size
   pub cut : dropped ≡ line ++ (crlf ++ rest)
   pub left : length rest + n ≡ size + 2
   pub some : 1 ≤ n
 
 -- the text that was dropped, with these bytes after it, fits what is wanted
-abbrev pub Fits : Want → List ℕ → List ℕ → Type 0
-Fits Line dropped bytes = dropped ≡ []
-Fits Rest dropped bytes = FitsRest dropped bytes
-Fits (Big n) dropped bytes = FitsBig n dropped
+abbrev pub Fits : Profile → Want → List ℕ → List ℕ → Type 0
+Fits profile Line dropped bytes = dropped ≡ []
+Fits profile Rest dropped bytes = FitsRest dropped bytes
+Fits profile (Big n) dropped bytes = FitsBig profile n dropped

@@ -1,6 +1,8 @@
 ghost use Rattle.std.specs.Prelude.{◌≡◌};
 ghost use Rattle.bean_codec.specs.Commands as commands;
 
+use crate::profile::Profile;
+
 /// What the first word of a line names.
 #[derive(Clone, Copy, PartialEq, Eq, Debug)]
 pub enum CommandName {
@@ -29,12 +31,31 @@ pub enum CommandName {
 
 /// The command that this word names.
 #[tactic(auto, unfolding(crate::specs::Commands::command_of))]
-pub fn command_of(word: &[u8]) -> Option<CommandName>
-    ensures { result ≡ commands.command_of word.now }
+pub fn command_of(profile: Profile, word: &[u8]) -> Option<CommandName>
+    ensures { result ≡ commands.command_of profile word.now }
+{
+    match profile {
+        Profile::Plain => plain_command(word),
+        Profile::Extended => plain_command(word).or(stats_command(word)),
+    }
+}
+
+/// The commands of every profile.
+#[tactic(auto, unfolding(crate::specs::Commands::plain_command))]
+fn plain_command(word: &[u8]) -> Option<CommandName>
+    ensures { result ≡ commands.plain_command word.now }
 {
     job_command(word)
         .or(tube_command(word))
         .or(look_command(word))
+}
+
+/// The commands of the extended profile alone.
+#[tactic(auto, unfolding(crate::specs::Commands::stats_command))]
+fn stats_command(word: &[u8]) -> Option<CommandName>
+    ensures { result ≡ commands.stats_command word.now }
+{
+    None
 }
 
 /// The commands that make, take or change jobs.

@@ -1,4 +1,5 @@
 ghost use Rattle.std.specs.Prelude.{◌≡◌, ℕ, ◌≤◌, ◌-◌, length, Some};
+ghost use Rattle.bean_codec.specs.declared.profile.Profile.{Profile};
 ghost use Rattle.bean_codec.specs.declared.reader.Want.TheVariants as wants;
 ghost use Rattle.bean_codec.specs.Reads.{IfMore, IsBeforeCr, TellsItem, TellsMore, TellsDrop, IsDue};
 
@@ -8,10 +9,10 @@ use bstr::ByteSlice;
 
 /// What ends a line that is too long, or how much of it may be dropped.
 pub fn read_rest(bytes: &[u8]) -> Read
-    ensures item { TellsItem wants.Rest bytes.now result }
-    ensures more { TellsMore wants.Rest bytes.now result }
-    ensures drop { TellsDrop wants.Rest bytes.now result }
-    ensures due { IsDue wants.Rest bytes.now result }
+    ensures item { (profile : Profile) → TellsItem profile wants.Rest bytes.now result }
+    ensures more { (profile : Profile) → TellsMore profile wants.Rest bytes.now result }
+    ensures drop { (profile : Profile) → TellsDrop profile wants.Rest bytes.now result }
+    ensures due { (profile : Profile) → IsDue profile wants.Rest bytes.now result }
     ensures bound { IfMore result (length bytes.now ≤ 1) }
 {
     let Some(end) = bytes.find(b"\r\n") else {
@@ -39,10 +40,10 @@ fn len_without_cr(bytes: &[u8]) -> usize
 
 /// What ends a put whose body is too large, or how much of it may be dropped.
 pub fn read_big(left: u64, bytes: &[u8]) -> Read
-    ensures item { TellsItem (wants.Big left) bytes.now result }
-    ensures more { TellsMore (wants.Big left) bytes.now result }
-    ensures drop { TellsDrop (wants.Big left) bytes.now result }
-    ensures due { IsDue (wants.Big left) bytes.now result }
+    ensures item { (profile : Profile) → TellsItem profile (wants.Big left) bytes.now result }
+    ensures more { (profile : Profile) → TellsMore profile (wants.Big left) bytes.now result }
+    ensures drop { (profile : Profile) → TellsDrop profile (wants.Big left) bytes.now result }
+    ensures due { (profile : Profile) → IsDue profile (wants.Big left) bytes.now result }
     ensures bound { IfMore result (length bytes.now ≤ 0) }
 {
     let here = bytes.len() as u64;

@@ -5,6 +5,7 @@ ghost use Rattle.bean_codec.specs.Memory.{TakesMemory};
 ghost use Rattle.bean_codec.specs.Reads.{item_read, IfMore, IfDrop, BeginsWith, CompletesFront, DropsBig, TellsItem, TellsMore, TellsDrop, IsDue, IsRestDue, longest_unfinished};
 
 use crate::line::{LONGEST_LINE, Meaning, meaning_of};
+use crate::profile::Profile;
 use crate::reader::{Read, Want};
 use crate::request::{Fault, Request};
 use bean_queue::{Body, Op};
@@ -15,14 +16,14 @@ use std::alloc::{AllocError, Global};
 const LONGEST_BODY: u32 = 65535;
 
 /// The item at the front of the bytes, or how much may be dropped of one that is too long.
-pub fn read_line(alloc: Global, bytes: &[u8]) -> Result<Read, AllocError>
-    ensures item { IfOk result (TellsItem wants.Line bytes.now) }
-    ensures more { IfOk result (TellsMore wants.Line bytes.now) }
-    ensures drop { IfOk result (TellsDrop wants.Line bytes.now) }
-    ensures due { IfOk result (IsDue wants.Line bytes.now) }
+pub fn read_line(profile: Profile, alloc: Global, bytes: &[u8]) -> Result<Read, AllocError>
+    ensures item { IfOk result (TellsItem profile wants.Line bytes.now) }
+    ensures more { IfOk result (TellsMore profile wants.Line bytes.now) }
+    ensures drop { IfOk result (TellsDrop profile wants.Line bytes.now) }
+    ensures due { IfOk result (IsDue profile wants.Line bytes.now) }
     ensures bound { IfOk result (λ read. IfMore read (length bytes.now ≤ longest_unfinished)) }
     ensures memory { OnErr result
-        ((found : Item × ℕ) × TakesMemory found.0 × BeginsWith bytes.now found) }
+        ((found : Item × ℕ) × TakesMemory found.0 × BeginsWith profile bytes.now found) }
 {
     let front = &bytes[..bytes.len().min(LONGEST_LINE)];
     let Some(end) = front.find(b"\r\n") else {
@@ -34,7 +35,7 @@ pub fn read_line(alloc: Global, bytes: &[u8]) -> Result<Read, AllocError>
         return Ok(Read::Drop { used, want });
     };
     let start = end + 2;
-    let meaning = meaning_of(alloc, &bytes[..end])?;
+    let meaning = meaning_of(profile, alloc, &bytes[..end])?;
     complete(alloc, meaning, start, &bytes[start..])
 }
 

@@ -9,6 +9,7 @@ use crate::number_lines::{
     alone, bury_line, delete_line, kick_job_line, kick_line, peek_line, put_line, release_line,
     reserve_line, touch_line,
 };
+use crate::profile::Profile;
 use crate::request::{Fault, Request};
 use crate::words::Words;
 use bean_queue::Op;
@@ -33,29 +34,37 @@ pub enum Meaning {
 
 /// What a line, without its CR LF, says by itself.
 #[tactic(auto, unfolding(crate::specs::Grammar::meaning))]
-pub fn meaning_of(alloc: Global, line: &[u8]) -> Result<Result<Meaning, Fault>, AllocError>
-    ensures says { IfOk result (λ says. says ≡ grammar.meaning line.now) }
-    ensures memory { OnErr result (LineHasName (grammar.meaning line.now)) }
+pub fn meaning_of(
+    profile: Profile,
+    alloc: Global,
+    line: &[u8],
+) -> Result<Result<Meaning, Fault>, AllocError>
+    ensures says { IfOk result (λ says. says ≡ grammar.meaning profile line.now) }
+    ensures memory { OnErr result (LineHasName (grammar.meaning profile line.now)) }
 {
     if line.len() > LONGEST_LINE - 2 {
         return Ok(Err(Fault::BadFormat));
     }
     match line.first() {
         None | Some(b' ') => Ok(Err(Fault::UnknownCommand)),
-        Some(_) => command_line(alloc, Words::new(line)),
+        Some(_) => command_line(profile, alloc, Words::new(line)),
     }
 }
 
 /// The first word names the command.
 #[tactic(auto, unfolding(crate::specs::Grammar::command_line))]
-fn command_line(alloc: Global, mut words: Words<'_>) -> Result<Result<Meaning, Fault>, AllocError>
-    ensures says { IfOk result (λ says. says ≡ grammar.command_line words.entry) }
-    ensures memory { OnErr result (LineHasName (grammar.command_line words.entry)) }
+fn command_line(
+    profile: Profile,
+    alloc: Global,
+    mut words: Words<'_>,
+) -> Result<Result<Meaning, Fault>, AllocError>
+    ensures says { IfOk result (λ says. says ≡ grammar.command_line profile words.entry) }
+    ensures memory { OnErr result (LineHasName (grammar.command_line profile words.entry)) }
 {
     let Some(first) = words.next() else {
         return Ok(Err(Fault::UnknownCommand));
     };
-    let Some(command) = command_of(first) else {
+    let Some(command) = command_of(profile, first) else {
         return Ok(Err(Fault::UnknownCommand));
     };
     let meaning = line_of(alloc, command, words)?;

@@ -1,14 +1,9 @@
-ghost use Rattle.std.specs.Prelude.{◌≡◌, ◌⊎◌, ◌↔◌, ℕ, ◌≤◌, List, length, Some, IfOk, OnErr};
-ghost use Rattle.bean_codec.specs.declared.reader.Want.{Want};
-ghost use Rattle.bean_codec.specs.declared.reader.Want.TheVariants as wants;
-ghost use Rattle.bean_codec.specs.declared.reader.Read.TheVariants as reads;
-ghost use Rattle.bean_codec.specs.Grammar.{Item};
-ghost use Rattle.bean_codec.specs.Memory.{TakesMemory};
-ghost use Rattle.bean_codec.specs.Reads.{item_read, IfMore, BeginsWith, EndsItem, IsDrop, TellsItem, TellsMore, TellsDrop, Awaits, IsDropped, longest_unfinished};
-ghost use Rattle.bean_codec.specs.Wants.{Fits};
+ghost use Rattle.std.specs.Prelude.{◌≡◌};
+ghost use Rattle.bean_codec.specs.Reads.{TellsFront};
 
 use crate::dropped::{read_big, read_rest};
 use crate::front::read_line;
+use crate::profile::Profile;
 use crate::request::{Fault, Request};
 use std::alloc::{AllocError, Global};
 
@@ -36,28 +31,28 @@ pub enum Read {
     Bad { fault: Fault, used: usize },
 }
 
-/// The request at the front of the bytes, or the fault of the text that stands there. What follows it
-/// isn't looked at.
+/// The request of the plain profile at the front of the bytes, or the fault of the text that stands there. What follows
+/// it isn't looked at.
 ///
 /// The reader waits for `Want::Line` at first, and after a request or a fault. Where bytes are dropped
 /// it waits for what it is told then, and the bytes after them come next.
 pub fn read_request(alloc: Global, want: Want, bytes: &[u8]) -> Result<Read, AllocError>
-    ensures item { IfOk result (TellsItem want bytes.now) }
-    ensures more { IfOk result (TellsMore want bytes.now) }
-    ensures drop { IfOk result (TellsDrop want bytes.now) }
-    ensures only { IfOk result (λ read. (dropped : List ℕ) (found : Item × ℕ) →
-        Fits want dropped bytes.now → EndsItem dropped bytes.now found →
-        IsDrop read ⊎ (item_read read ≡ Some found)) }
-    ensures awaits { IfOk result (λ read. (read ≡ reads.More) ↔ Awaits want bytes.now) }
-    ensures dropped { IfOk result (λ read. (used : ℕ) (next : Want) →
-        (read ≡ reads.Drop used next) ↔ IsDropped want bytes.now used next) }
-    ensures bound { IfOk result (λ read. IfMore read (length bytes.now ≤ longest_unfinished)) }
-    // Only the body of a put and the name of a tube take memory.
-    ensures memory { OnErr result ((want ≡ wants.Line) ×
-        ((found : Item × ℕ) × TakesMemory found.0 × BeginsWith bytes.now found)) }
+    ensures { TellsFront Profile.Plain want bytes.now result }
+{
+    read_request_in(Profile::Plain, alloc, want, bytes)
+}
+
+/// The same of this profile.
+pub fn read_request_in(
+    profile: Profile,
+    alloc: Global,
+    want: Want,
+    bytes: &[u8],
+) -> Result<Read, AllocError>
+    ensures { TellsFront profile want bytes.now result }
 {
     match want {
-        Want::Line => read_line(alloc, bytes),
+        Want::Line => read_line(profile, alloc, bytes),
         Want::Rest => Ok(read_rest(bytes)),
         Want::Big(left) => Ok(read_big(left, bytes)),
     }

@@ -1,6 +1,7 @@
 -- What fits goes on to fit where more bytes come.
 use Rattle.std.proofs.Common.{ℕ, List, [], ◌∷◌, ◌++◌, take, refl, ap, subst}
 use Rattle.std.proofs.lemmas.List.{append-nil}
+use Rattle.bean_codec.specs.declared.profile.Profile.{Profile}
 use Rattle.bean_codec.specs.declared.reader.Want.{Want}
 use Rattle.bean_codec.specs.declared.reader.Want.TheVariants.{Line, Rest, Big}
 use Rattle.bean_codec.specs.Lines.{IsLine}
@@ -25,7 +26,7 @@ rest_more d (b ∷ bytes) more f = record {
   last = λ e. absurd (cc);
 }
 
-pub fits_more : (want : Want) (d bytes more : List ℕ) → Fits want d bytes → Fits want d (bytes ++ more)
-fits_more Line d bytes more f = f
-fits_more Rest d bytes more f = rest_more d bytes more f
-fits_more (Big n) d bytes more f = f
+pub fits_more : (profile : Profile) (want : Want) (d bytes more : List ℕ) → Fits profile want d bytes → Fits profile want d (bytes ++ more)
+fits_more profile Line d bytes more f = f
+fits_more profile Rest d bytes more f = rest_more d bytes more f
+fits_more profile (Big n) d bytes more f = f

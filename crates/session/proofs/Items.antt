@@ -1,6 +1,7 @@
 -- Items one after the other, and what is told for them.
 use Rattle.std.proofs.Common.{◌≡◌, ℕ, false, List, [], ◌∷◌, ◌++◌, Ok, Err, length, refl, sym, ap, subst, ◌∙◌, arith}
 use Rattle.std.proofs.lemmas.List.{append-nil, append_assoc, map-append}
+use Rattle.bean_codec.specs.declared.profile.Profile.{Profile}
 use Rattle.bean_codec.specs.declared.request.Fault.{Fault}
 use Rattle.bean_codec.specs.declared.request.Request.TheVariants.{Do, Quit}
 use Rattle.bean_codec.specs.Grammar.{Item, Spells}
@@ -9,16 +10,17 @@ use Rattle.session.specs.Items.{Response, ReadsFirst, is_quit, operations, told_
 use Rattle.session.specs.Held.{faulty}
 
 -- one item more
-pub reads_one : (t : List ℕ) (items : List Item) (rest front more : List ℕ) (item : Item) → ReadsFirst t items rest
-    → rest ≡ front ++ more → Spells front item → is_quit item ≡ false → ReadsFirst t (items ++ item ∷ []) more
-reads_one t [] rest front more item r cut spelled goes = (front, more, r ∙ cut, spelled, goes, refl)
-reads_one t (i ∷ items) rest front more item r cut spelled goes = (r.0, r.1, r.2, r.3, r.4, reads_one r.1 items rest front more item r.5 cut spelled goes)
+pub reads_one : (profile : Profile) (t : List ℕ) (items : List Item) (rest front more : List ℕ) (item : Item) → ReadsFirst profile t items rest
+    → rest ≡ front ++ more → Spells profile front item → is_quit item ≡ false → ReadsFirst profile t (items ++ item ∷ []) more
+reads_one profile t [] rest front more item r cut spelled goes = (front, more, r ∙ cut, spelled, goes, refl)
+reads_one profile t (i ∷ items) rest front more item r cut spelled goes =
+    (r.0, r.1, r.2, r.3, r.4, reads_one profile r.1 items rest front more item r.5 cut spelled goes)
 
 -- many items more
-pub reads_more : (t : List ℕ) (items others : List Item) (rest more : List ℕ) → ReadsFirst t items rest
-    → ReadsFirst rest others more → ReadsFirst t (items ++ others) more
-reads_more t [] others rest more r q = subst (λ u. ReadsFirst u others more) (sym r) q
-reads_more t (i ∷ items) others rest more r q = (r.0, r.1, r.2, r.3, r.4, reads_more r.1 items others rest more r.5 q)
+pub reads_more : (profile : Profile) (t : List ℕ) (items others : List Item) (rest more : List ℕ) → ReadsFirst profile t items rest
+    → ReadsFirst profile rest others more → ReadsFirst profile t (items ++ others) more
+reads_more profile t [] others rest more r q = subst (λ u. ReadsFirst profile u others more) (sym r) q
+reads_more profile t (i ∷ items) others rest more r q = (r.0, r.1, r.2, r.3, r.4, reads_more profile r.1 items others rest more r.5 q)
 
 pub operations_faulty : (faults : List Fault) → operations (faulty faults) ≡ []
 operations_faulty [] = refl

@@ -2,6 +2,7 @@
 use Rattle.std.specs.Prelude.{◌≡◌, ℕ, Bool, true, false, MatchBool, List, [], ◌∷◌, ◌++◌, Ok, Err, codes}
 use Rattle.bean_queue.specs.declared.op.Op.{Op}
 use Rattle.bean_queue.specs.declared.reply.Reply.{Reply}
+use Rattle.bean_codec.specs.declared.profile.Profile.{Profile}
 use Rattle.bean_codec.specs.declared.request.Request.TheVariants.{Do, Quit}
 use Rattle.bean_codec.specs.Lines.{line_text}
 use Rattle.bean_codec.specs.Grammar.{Item, Spells}
@@ -15,25 +16,25 @@ is_quit (Ok (Do op)) = false
 is_quit (Ok Quit) = true
 is_quit (Err fault) = false
 
--- the text is the texts of these items, one after the other, up to the first quit, or else up to a rest that begins
+-- in this profile the text is the texts of these items, one after the other, up to the first quit, or else up to a rest that begins
 -- with none
-abbrev pub Reads : List ℕ → List Item → End → Type 0
-Reads text [] end = BeginsWithNone text × (end ≡ End.Eof)
-Reads text (item ∷ items) end =
+abbrev pub Reads : Profile → List ℕ → List Item → End → Type 0
+Reads profile text [] end = BeginsWithNone profile text × (end ≡ End.Eof)
+Reads profile text (item ∷ items) end =
     (front rest : List ℕ) ×
     (text ≡ front ++ rest) ×
-    Spells front item ×
-    MatchBool (is_quit item) ((items ≡ []) × (end ≡ End.Quit)) (Reads rest items end)
+    Spells profile front item ×
+    MatchBool (is_quit item) ((items ≡ []) × (end ≡ End.Quit)) (Reads profile rest items end)
 
 -- the text begins with the texts of these items, none of them a quit, and goes on with the rest
-abbrev pub ReadsFirst : List ℕ → List Item → List ℕ → Type 0
-ReadsFirst text [] rest = text ≡ rest
-ReadsFirst text (item ∷ items) rest =
+abbrev pub ReadsFirst : Profile → List ℕ → List Item → List ℕ → Type 0
+ReadsFirst profile text [] rest = text ≡ rest
+ReadsFirst profile text (item ∷ items) rest =
     (front more : List ℕ) ×
     (text ≡ front ++ more) ×
-    Spells front item ×
+    Spells profile front item ×
     (is_quit item ≡ false) ×
-    ReadsFirst more items rest
+    ReadsFirst profile more items rest
 
 -- the operations among the items
 abbrev pub operations : List Item → List Op
@@ -64,6 +65,6 @@ told_text (Ok (Do op) ∷ items) (answer ∷ answers) = answer_text answer ++ to
 told_text (Ok Quit ∷ items) answers = told_text items answers
 told_text (Err fault ∷ items) answers = fault_text fault ++ told_text items answers
 
--- the output is what the client is told for this input with these answers, and the session ends so
-abbrev pub IsTranscript : List ℕ → List Response → List ℕ → End → Type 0
-IsTranscript input answers output end = (items : List Item) × Reads input items end × (output ≡ told_text items answers)
+-- in this profile the output is what the client is told for this input with these answers, and the session ends so
+abbrev pub IsTranscript : Profile → List ℕ → List Response → List ℕ → End → Type 0
+IsTranscript profile input answers output end = (items : List Item) × Reads profile input items end × (output ≡ told_text items answers)

@@ -17,7 +17,7 @@ mod writing;
 pub use faults::{End, ServiceFault, SessionFault};
 pub use laws::one_transcript;
 pub use reading::Reading;
-pub use server::serve;
+pub use server::{serve, serve_in};
 pub use service::Service;
 pub use session::Session;
 pub use streams::{ByteIn, ByteOut, Failed};

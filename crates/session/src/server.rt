@@ -10,7 +10,7 @@ use crate::service::Service;
 use crate::session::Session;
 use crate::streams::{ByteIn, ByteOut, Failed};
 use crate::writing::write_all;
-use bean_codec::Request;
+use bean_codec::{Profile, Request};
 use bean_queue::Op;
 use std::alloc::Global;
 
@@ -64,6 +64,7 @@ fn read_piece<R: ByteIn>(
         → (bytes : List ℕ) × (0 < length bytes) × (length bytes ≤ longest_piece)
         × Consumes (R.remaining reader.old) (R.remaining reader.new) bytes
         × (session.new.unsent ≡ session.old.unsent) × (session.new.is_open ≡ session.old.is_open)
+        × (session.new.profile ≡ session.old.profile)
         × ((text : List ℕ) → StandsBefore session.old text → StandsBefore session.new (text ++ bytes))) }
     ensures ended { IfOk result (λ some. some ≡ false
         → (R.has_ended reader.new ≡ true) × IsAtEnd (R.remaining reader.new)
@@ -90,6 +91,7 @@ fn read_piece<R: ByteIn>(
 
 // Serves the client as far as it goes, and doesn't close the service.
 fn converse<R: ByteIn, W: ByteOut, S: Service>(
+    profile: Profile,
     alloc: Global,
     reader: &mut R,
     writer: &mut W,
@@ -97,12 +99,12 @@ fn converse<R: ByteIn, W: ByteOut, S: Service>(
 ) -> Result<End, SessionFault>
     ensures run { Over (R.remaining reader.old) (R.remaining reader.new) (W.contents writer.old)
         (W.contents writer.new)
-        (λ input output. Conversed S.asks service.old service.new input output result) }
+        (λ input output. Conversed profile S.asks service.old service.new input output result) }
     ensures streams { LeavesStreams (streams_of R.ByteIn W.ByteOut reader.old writer.old)
         (streams_of R.ByteIn W.ByteOut reader.new writer.new) result }
     ensures not_ended { OnErr result (R.has_ended reader.new ≡ R.has_ended reader.old) }
 {
-    let mut session = Session::new(alloc);
+    let mut session = Session::speaking(profile, alloc);
     let mut piece = [0; PIECE_LEN];
     'turns: for _turn in 0..u64::MAX {
         let found = session.next_ask()?;
@@ -121,8 +123,8 @@ fn converse<R: ByteIn, W: ByteOut, S: Service>(
     Err(SessionFault::OutOfMemory)
 }
 
-/// Answers one client: asks the service for each operation that is read, and writes each answer out before the next
-/// ask. What follows a quit isn't asked for. However it ends, the service is closed once.
+/// Answers one client, in the plain profile: asks the service for each operation that is read, and writes each answer
+/// out before the next ask. What follows a quit isn't asked for. However it ends, the service is closed once.
 ///
 /// A refused ask is answered `OUT_OF_MEMORY`. A refused close is answered only where nothing else went wrong.
 pub fn serve<R: ByteIn, W: ByteOut, S: Service>(
@@ -131,13 +133,30 @@ pub fn serve<R: ByteIn, W: ByteOut, S: Service>(
     writer: &mut W,
     service: &mut S,
 ) -> Result<End, SessionFault>
-    ensures told { Served S.asks S.closes service.old service.new
+    ensures told { Served Profile.Plain S.asks S.closes service.old service.new
         (streams_of R.ByteIn W.ByteOut reader.old writer.old)
         (streams_of R.ByteIn W.ByteOut reader.new writer.new) result }
     ensures streams { LeavesStreams (streams_of R.ByteIn W.ByteOut reader.old writer.old)
         (streams_of R.ByteIn W.ByteOut reader.new writer.new) result }
 {
-    let ended = converse(alloc, reader, writer, service);
+    serve_in(Profile::Plain, alloc, reader, writer, service)
+}
+
+/// The same in this profile.
+pub fn serve_in<R: ByteIn, W: ByteOut, S: Service>(
+    profile: Profile,
+    alloc: Global,
+    reader: &mut R,
+    writer: &mut W,
+    service: &mut S,
+) -> Result<End, SessionFault>
+    ensures told { Served profile S.asks S.closes service.old service.new
+        (streams_of R.ByteIn W.ByteOut reader.old writer.old)
+        (streams_of R.ByteIn W.ByteOut reader.new writer.new) result }
+    ensures streams { LeavesStreams (streams_of R.ByteIn W.ByteOut reader.old writer.old)
+        (streams_of R.ByteIn W.ByteOut reader.new writer.new) result }
+{
+    let ended = converse(profile, alloc, reader, writer, service);
     let closed = service.close();
     let end = ended?;
     match closed {

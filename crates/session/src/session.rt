@@ -4,7 +4,7 @@ ghost use Rattle.bean_codec.specs.Replies.{reply_text};
 ghost use Rattle.session.specs.Items.{refused_text};
 ghost use Rattle.session.specs.Held.{holding, nothing_held, is_asked, fed_buffer_len, text_buffer_len, MayKeep, StandsBefore, HasRoomFor, Feeds, FrontTakesRoom, Finds};
 
-use bean_codec::{Read, Request, Want, read_request, write_fault, write_reply};
+use bean_codec::{Profile, Read, Request, Want, read_request_in, write_fault, write_reply};
 use bean_queue::Reply;
 use std::alloc::{AllocError, Global};
 use std::marker::Model;
@@ -16,6 +16,7 @@ use std::marker::Model;
 /// piece takes the place of what was read.
 #[derive(Drop)]
 pub struct Session {
+    profile: Profile,
     /// What was fed, as far as it is kept.
     bytes: Vec<u8>,
     /// So many of these are read.
@@ -35,17 +36,25 @@ impl Model for Session {
 
     ghost Value = { Held };
 
-    ghost view = { λ s. record { want = s.want; kept = drop s.start s.bytes.items; unsent = drop s.sent s.text.items; is_open = s.is_open; read_len = s.start; sent_len = s.sent; capacity = vec_capacity s.bytes } };
+    ghost view = { λ s. record { profile = s.profile; want = s.want; kept = drop s.start s.bytes.items; unsent = drop s.sent s.text.items; is_open = s.is_open; read_len = s.start; sent_len = s.sent; capacity = vec_capacity s.bytes } };
 
-    ghost invariant = { λ s. (s.start ≤ vec_len s.bytes) × (s.sent ≤ vec_len s.text) × MayKeep s.want (drop s.start s.bytes.items) };
+    ghost invariant = { λ s. (s.start ≤ vec_len s.bytes) × (s.sent ≤ vec_len s.text) × MayKeep s.profile s.want (drop s.start s.bytes.items) };
 }
 
 impl Session {
-    /// A session that was fed nothing.
+    /// A session of the plain profile that was fed nothing.
     pub fn new(alloc: Global) -> Session
-        ensures { result ≡ nothing_held }
+        ensures { result ≡ nothing_held Profile.Plain }
+    {
+        Session::speaking(Profile::Plain, alloc)
+    }
+
+    /// A session of this profile that was fed nothing.
+    pub fn speaking(profile: Profile, alloc: Global) -> Session
+        ensures { result ≡ nothing_held profile }
     {
         Session {
+            profile,
             bytes: Vec::new(alloc),
             start: 0,
             want: Want::Line,
@@ -104,18 +113,21 @@ impl Session {
     pub fn next_ask(&mut self) -> Result<Option<Request>, AllocError>
         requires { self.old.is_open ≡ false }
         ensures found { IfOk result (λ found. (text : List ℕ) → StandsBefore self.old text
-            → Finds self.old self.new text found) }
+            → Finds self.old.profile self.old self.new text found) }
+        ensures profile { self.new.profile ≡ self.old.profile }
         ensures open { IfOk result (λ found. self.new.is_open ≡ is_asked found) }
         ensures small { IfOk result
             (λ found. found ≡ None → length self.new.kept ≤ longest_unfinished) }
         ensures buffer { OnOk result (fed_buffer_len self.new ≡ fed_buffer_len self.old) }
         ensures sent_len { OnOk result (self.new.sent_len ≡ self.old.sent_len) }
         ensures capacity { self.new.capacity ≡ self.old.capacity }
-        ensures memory { OnErr result ((text : List ℕ) → StandsBefore self.old text → FrontTakesRoom text) }
+        ensures memory { OnErr result ((text : List ℕ) → StandsBefore self.old text
+            → FrontTakesRoom self.old.profile text) }
         ensures err { OnErr result (self.new ≡ self.old) }
     {
         let len = self.text.len();
         match look_on(
+            self.profile,
             self.alloc,
             self.bytes.as_slice(),
             self.start,
@@ -201,6 +213,7 @@ struct Found {
 // The first request from `start` on. The faults before it are written. At a put whose body isn't there, no more is
 // looked at than its line.
 fn look_on(
+    profile: Profile,
     alloc: Global,
     bytes: &[u8],
     start: usize,
@@ -208,24 +221,24 @@ fn look_on(
     text: &mut Vec<u8>,
 ) -> Result<Found, AllocError>
     requires begun { start ≤ length bytes.now }
-    requires kept { MayKeep want (drop start bytes.now) }
+    requires kept { MayKeep profile want (drop start bytes.now) }
     ensures within { IfOk result (λ found. found.start ≤ length bytes.now) }
-    ensures kept { IfOk result (λ found. MayKeep found.want (drop found.start bytes.now)) }
+    ensures kept { IfOk result (λ found. MayKeep profile found.want (drop found.start bytes.now)) }
     ensures found { IfOk result (λ found. (t : List ℕ)
-        → StandsBefore (holding want (drop start bytes.now) text.old.items) t →
-        Finds (holding want (drop start bytes.now) text.old.items)
-        (holding found.want (drop found.start bytes.now) text.new.items) t found.request) }
+        → StandsBefore (holding profile want (drop start bytes.now) text.old.items) t →
+        Finds profile (holding profile want (drop start bytes.now) text.old.items)
+        (holding profile found.want (drop found.start bytes.now) text.new.items) t found.request) }
     ensures small { IfOk result (λ found. found.request ≡ None
         → length (drop found.start bytes.now) ≤ longest_unfinished) }
     ensures memory { OnErr result ((t : List ℕ)
-        → StandsBefore (holding want (drop start bytes.now) text.old.items) t → FrontTakesRoom t) }
+        → StandsBefore (holding profile want (drop start bytes.now) text.old.items) t → FrontTakesRoom profile t) }
     ensures front { take (vec_len text.old) text.new.items ≡ text.old.items }
 {
     let mut at = start;
     let mut next = want;
     'items: loop {
         let (_, kept) = bytes.split_at(at);
-        match read_request(alloc, next, kept)? {
+        match read_request_in(profile, alloc, next, kept)? {
             Read::More => {
                 return Ok(Found {
                     request: None,

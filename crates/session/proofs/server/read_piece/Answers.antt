@@ -21,5 +21,6 @@ returns-clause-fed g c = λ _.
       search rules,
       ap (λ (s : Held). s.unsent) fed ∙ ap (λ (s : Held). s.unsent) held,
       ap (λ (s : Held). s.is_open) fed ∙ ap (λ (s : Held). s.is_open) held,
+      ap (λ (s : Held). s.profile) fed ∙ ap (λ (s : Held). s.profile) held,
       subst (λ (s : Held). (text : List ℕ) → StandsBefore s text → StandsBefore c.feed.new.self (text ++ bytes)) held c.in-Ok.ensures.stands,
     )

@@ -8,6 +8,6 @@ invariant_of-self c =
     let begun : c.self.inside.start ≤ length c.self.inside.bytes.items = search rules in (
       search rules,
       i.1,
-      keeps_more c.self.inside.want c.self.inside.start c.self.inside.bytes.items
+      keeps_more c.self.inside.profile c.self.inside.want c.self.inside.start c.self.inside.bytes.items
           c.extend_from_slice.new.self.items c.args.piece.now _ begun c.extend_from_slice.ensures.items i.2,
     )
