@@ -6,3 +6,5 @@ pub mod blind
 pub mod due
 pub mod kicks
 pub mod tubes
+pub mod Written
+pub mod Crowds

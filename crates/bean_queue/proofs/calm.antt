@@ -4,3 +4,4 @@ pub mod Called
 pub mod Woken
 pub mod Reserving
 pub mod Sound
+pub mod Ticked

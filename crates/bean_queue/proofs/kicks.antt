@@ -3,3 +3,4 @@ pub mod KickCount
 pub mod KickFirst
 pub mod Kicks
 pub mod ReadyAgain
+pub mod Counted

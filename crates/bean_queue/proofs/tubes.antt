@@ -2,3 +2,4 @@
 pub mod TubeSets
 pub mod TubeLists
 pub mod Named
+pub mod Settled

@@ -11,6 +11,8 @@ use Rattle.session_store.specs.Sessions.{is_waiting}
 use Rattle.pause_store.specs.Pauses.{is_paused, pause_end}
 use Rattle.tube_store.specs.TubeCounts.{counts_at}
 use Rattle.bean_queue.specs.declared.counts.Counts.{Counts}
+use Rattle.bean_queue.specs.declared.figures.QueueFigures.{QueueFigures}
+use Rattle.bean_queue.specs.declared.figures.TubeFigures.{TubeFigures}
 use Rattle.bean_queue.specs.Groups.{sessions_that}
 use Rattle.bean_queue.specs.Queue.{QueueState}
 use Rattle.bean_queue.specs.Tubes.{all_tubes}
@@ -69,21 +71,36 @@ tally_report t =
 abbrev pub waits_for : List ℕ → SessionState → Bool
 waits_for tube session = is_waiting session && is_among tube session.watched
 
--- what was done with a tube, and how many jobs and sessions it has (protocol.txt of beanstalkd, "stats-tube")
-unfoldable pub tube_report : QueueState → List ℕ → List ℕ
-tube_report s tube =
+-- what is told of a tube, in numbers
+abbrev pub tube_figures : QueueState → List ℕ → TubeFigures
+tube_figures s tube =
     let counts = counts_at tube s.tubes in
+    record {
+      tally = tally_in tube s.jobs;
+      puts = counts.puts;
+      using = sessions_that (λ c. bytes_eq tube c.used) s.sessions;
+      watching = sessions_that (λ c. is_among tube c.watched) s.sessions;
+      waiting = sessions_that (waits_for tube) s.sessions;
+      deletes = counts.deletes;
+      pauses = counts.pauses;
+      pause = if is_paused tube s.pauses then counts.pause else 0;
+      pause_left = pause_end tube s.pauses - s.now;
+    }
+
+-- what was done with a tube, and how many jobs and sessions it has (protocol.txt of beanstalkd, "stats-tube")
+unfoldable pub tube_report : List ℕ → TubeFigures → List ℕ
+tube_report tube f =
     codes "---\n" ++
     report_line (codes "name") tube ++
-    tally_report (tally_in tube s.jobs) ++
-    report_number (codes "total-jobs") counts.puts ++
-    report_number (codes "current-using") (sessions_that (λ c. bytes_eq tube c.used) s.sessions) ++
-    report_number (codes "current-watching") (sessions_that (λ c. is_among tube c.watched) s.sessions) ++
-    report_number (codes "current-waiting") (sessions_that (waits_for tube) s.sessions) ++
-    report_number (codes "cmd-delete") counts.deletes ++
-    report_number (codes "cmd-pause-tube") counts.pauses ++
-    report_number (codes "pause") (if is_paused tube s.pauses then counts.pause else 0) ++
-    report_number (codes "pause-time-left") (pause_end tube s.pauses - s.now)
+    tally_report f.tally ++
+    report_number (codes "total-jobs") f.puts ++
+    report_number (codes "current-using") f.using ++
+    report_number (codes "current-watching") f.watching ++
+    report_number (codes "current-waiting") f.waiting ++
+    report_number (codes "cmd-delete") f.deletes ++
+    report_number (codes "cmd-pause-tube") f.pauses ++
+    report_number (codes "pause") f.pause ++
+    report_number (codes "pause-time-left") f.pause_left
 
 -- how often operations on jobs were carried out
 unfoldable pub job_counts_report : Counts → List ℕ
@@ -115,21 +132,39 @@ other_counts_report c =
     report_number (codes "cmd-list-tubes-watched") c.list_tubes_watched ++
     report_number (codes "cmd-pause-tube") c.pause_tube
 
+-- what is told of the queue beside them, in numbers
+abbrev pub queue_figures : QueueState → QueueFigures
+queue_figures s =
+    record {
+      timeouts = s.counts.timeouts;
+      puts = s.next_id - 1;
+      tubes = length (all_tubes s);
+      sessions = length s.sessions;
+      producers = sessions_that (λ c. c.role.has_put) s.sessions;
+      workers = sessions_that (λ c. c.role.has_reserved) s.sessions;
+      waiting = sessions_that is_waiting s.sessions;
+      second = s.now;
+    }
+
 -- how many jobs there were, and how many tubes and sessions there are
-unfoldable pub totals_report : QueueState → List ℕ
-totals_report s =
-    report_number (codes "job-timeouts") s.counts.timeouts ++
-    report_number (codes "total-jobs") (s.next_id - 1) ++
+unfoldable pub totals_report : QueueFigures → List ℕ
+totals_report f =
+    report_number (codes "job-timeouts") f.timeouts ++
+    report_number (codes "total-jobs") f.puts ++
     report_number (codes "max-job-size") 65535 ++
-    report_number (codes "current-tubes") (length (all_tubes s)) ++
-    report_number (codes "current-connections") (length s.sessions) ++
-    report_number (codes "current-producers") (sessions_that (λ c. c.role.has_put) s.sessions) ++
-    report_number (codes "current-workers") (sessions_that (λ c. c.role.has_reserved) s.sessions) ++
-    report_number (codes "current-waiting") (sessions_that is_waiting s.sessions) ++
+    report_number (codes "current-tubes") f.tubes ++
+    report_number (codes "current-connections") f.sessions ++
+    report_number (codes "current-producers") f.producers ++
+    report_number (codes "current-workers") f.workers ++
+    report_number (codes "current-waiting") f.waiting ++
     report_line (codes "version") (codes "\"beanpax 0.1\"") ++
-    report_number (codes "uptime") s.now
+    report_number (codes "uptime") f.second
 
 -- how many jobs and sessions there are, and how often each operation was carried out (protocol.txt of beanstalkd, "stats")
 unfoldable pub queue_report : QueueState → List ℕ
 queue_report s =
-    codes "---\n" ++ tally_report (tally_all s.jobs) ++ job_counts_report s.counts ++ other_counts_report s.counts ++ totals_report s
+    codes "---\n" ++
+    tally_report (tally_all s.jobs) ++
+    job_counts_report s.counts ++
+    other_counts_report s.counts ++
+    totals_report (queue_figures s)

@@ -19,7 +19,7 @@ use Rattle.tube_store.specs.declared.tube_mark.TubeMark.{TubeMark}
 use Rattle.tube_store.specs.TubeCounts.{marked_tube}
 use Rattle.bean_queue.specs.declared.op.Op.{Op}
 use Rattle.bean_queue.specs.declared.reply.Reply.{Reply}
-use Rattle.bean_queue.specs.Reports.{job_report, tube_report, queue_report}
+use Rattle.bean_queue.specs.Reports.{job_report, tube_figures, tube_report, queue_report}
 use Rattle.bean_queue.specs.Tubes.{all_tubes}
 use Rattle.bean_queue.specs.Queue.{QueueState, pauses_of, with_jobs, used_by, watched_by}
 
@@ -199,14 +199,16 @@ kicked pick (suc n) jobs = let more = kicked pick n in kicked_option more jobs (
 abbrev pub kick_by : QueueState → Kicked → Row
 kick_by s k = replies (with_jobs s k.jobs) (Reply.KickedCount k.count)
 
--- up to `bound` buried jobs of the used tube are ready, by rank; where it has none, delayed ones, by the second
--- that is due (protocol.txt of beanstalkd, "kick")
-unfoldable pub kick_row : QueueState → ℕ → ℕ → Row
-kick_row s x bound =
-    let tube = used_by s x in
+-- up to `bound` buried jobs of the tube are ready, by rank; where it has none, delayed ones, by the second that is due
+abbrev pub kick_in : QueueState → List ℕ → ℕ → Row
+kick_in s tube bound =
     kick_by
     s
     (kicked (if is_some (first_buried tube s.jobs) then first_buried tube else first_delayed tube) bound s.jobs)
+
+-- so it is in the used tube (protocol.txt of beanstalkd, "kick")
+unfoldable pub kick_row : QueueState → ℕ → ℕ → Row
+kick_row s x bound = kick_in s (used_by s x) bound
 
 -- the jobs that a kick of the tube may make ready: its buried ones, or its delayed ones where none is buried
 abbrev pub kickable : List ℕ → List (ℕ × Job) → List (ℕ × Job)
@@ -280,7 +282,7 @@ stats_job_row s id = replies s (reported s.now id (value_at id s.jobs))
 -- beanstalkd, "stats-tube")
 unfoldable pub stats_tube_row : QueueState → List ℕ → Row
 stats_tube_row s tube =
-    replies s (if is_among tube (all_tubes s) then Reply.Data (tube_report s tube) else Reply.NotFound)
+    replies s (if is_among tube (all_tubes s) then Reply.Data (tube_report tube (tube_figures s tube)) else Reply.NotFound)
 
 -- how many jobs and sessions there are, and how often each operation was carried out, is told (protocol.txt of
 -- beanstalkd, "stats")

@@ -160,7 +160,7 @@ found-waits key s j (Some job) = still_if key s (is_free job.state) _ _ (same ke
 
 row-waits : (op : Op) (key : Key) (s : QueueState) → RowWaits key s (row op key s)
 unfolding row put_row use_row watch_row ignore_row reserve_row delete_row release_row touch_row bury_row kick_row kick_job_row
-  reserve_job_row peek_row pause_row stats_job_row stats_tube_row stats_row
+    reserve_job_row peek_row pause_row stats_job_row stats_tube_row stats_row
 row-waits (Op.Put pri delay ttr body) key s = same key s _ refl
 row-waits (Op.Use tube) key s = RowWaits.still (λ k h. altered-waits key.session _ s.sessions k (λ c. refl) h)
 row-waits (Op.Watch tube) key s = RowWaits.still (λ k h. altered-waits key.session _ s.sessions k (λ c. refl) h)

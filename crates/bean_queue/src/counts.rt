@@ -82,7 +82,10 @@ impl Counts {
             Op::PeekDelayed => self.peek_delayed = more(self.peek_delayed, 1),
             Op::PeekBuried => self.peek_buried = more(self.peek_buried, 1),
             Op::Reserve { seconds: None } => self.reserve = more(self.reserve, 1),
-            Op::Reserve { seconds: Some(_) } => self.reserve_with_timeout = more(self.reserve_with_timeout, 1),
+            Op::Reserve { seconds: Some(_) } => self.reserve_with_timeout = more(
+                self.reserve_with_timeout,
+                1,
+            ),
             Op::Delete(_) => self.delete = more(self.delete, 1),
             Op::Release { .. } => self.release = more(self.release, 1),
             Op::Use(_) => self.use_tube = more(self.use_tube, 1),

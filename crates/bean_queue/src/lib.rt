@@ -4,6 +4,7 @@
 mod counters;
 mod counts;
 mod deadlines;
+mod figures;
 mod group;
 mod job_draft;
 mod job_report;
@@ -17,6 +18,7 @@ mod reply;
 mod report;
 mod role;
 mod scan_jobs;
+mod tube_report;
 mod waiting;
 
 pub use job_store::{Body, History, Job, Name, State};

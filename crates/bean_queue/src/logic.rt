@@ -1,8 +1,8 @@
 ghost use Rattle.std.specs.Prelude.{◌≡◌, ◌^◌, IsSome, OnOk};
-ghost use Rattle.job_store.specs.Entries.{Rising, value_at};
+ghost use Rattle.job_store.specs.Entries.{Rising, value_at, altered};
 ghost use Rattle.session_store.specs.Sessions.{session_of, known};
 ghost use Rattle.bean_queue.specs.Queue.{fresh, with_sessions};
-ghost use Rattle.bean_queue.specs.Effects.{called};
+ghost use Rattle.bean_queue.specs.Effects.{asking, called};
 ghost use Rattle.bean_queue.specs.Calls.{DraftsState, KeepsDraft, TakesDraftBack};
 
 mod held;
@@ -114,16 +114,25 @@ impl<M: JobMap> Logic<M> {
         }
     }
 
+    /// Notes what a session that is there has asked for.
+    fn note_role(&mut self, session: u32, op: &Op) -> Result<(), AllocError>
+        requires { IsSome (value_at session self.old.now.sessions) }
+        ensures now { OnOk result (self.new.now
+            ≡ with_sessions self.old.now (altered session (asking op.now) self.old.now.sessions)) }
+        ensures before { self.new.before ≡ self.old.before }
+    {
+        self.numbers_rise();
+        let role = role_after(op, self.session(session).role);
+        self.sessions.set_role(session, role)
+    }
+
     /// Makes a session, or ends its wait, and counts what it asks for.
     pub fn call(&mut self, session: u32, op: &Op) -> Result<(), AllocError>
         ensures now { OnOk result (self.new.now ≡ called op.now session self.old.now) }
         ensures before { self.new.before ≡ self.old.before }
     {
         self.make_known(session)?;
-        if let Some(found) = self.sessions.map().get(&session) {
-            let role = role_after(op, found.role);
-            self.sessions.set_role(session, role)?;
-        }
+        self.note_role(session, op)?;
         self.counters.counts.note(op);
         Ok(())
     }

@@ -74,13 +74,15 @@ impl Returning {
             (each_value (change_if (is_returning self) (returned_job self)) jobs.old.now) result }
     {
         let mut woken = IndexSet::new(alloc);
+        let mut over: u64 = 0;
         'again: while let Some((id, job)) = self.first(jobs.map()) {
             let mark = self.mark(job.state);
-            let over = u64::from(self.has_run_out(job.state));
+            let one = u64::from(self.has_run_out(job.state));
             woken.insert(job.tube.copy()?)?;
             jobs.set_state(id, State::Ready, mark)?;
-            *timeouts = timeouts.saturating_add(over);
+            over = over.saturating_add(one);
         }
+        *timeouts = timeouts.saturating_add(over);
         Ok(woken)
     }
 }

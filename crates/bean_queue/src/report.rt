@@ -1,11 +1,15 @@
 ghost use Rattle.std.specs.Prelude.{◌≡◌, ◌++◌, codes, OnOk, IfOk};
-ghost use Rattle.bean_queue.specs.Reports.{report_line, report_number, tally_report, job_counts_report, other_counts_report};
+ghost use Rattle.bean_queue.specs.Reports.{report_line, report_number, tally_report, job_counts_report, other_counts_report, totals_report};
 
 use crate::counts::Counts;
+use crate::figures::QueueFigures;
 use itoa::Buffer;
 use job_store::{Body, Tally};
 use std::alloc::{AllocError, Global};
 use std::marker::Model;
+
+/// The greatest body of a job that clients may put, in bytes.
+const MAX_JOB_SIZE: u64 = 65535;
 
 /// The text of a report, as far as it is written. Where memory is refused, a part of a line may stand there.
 #[derive(Drop)]
@@ -99,6 +103,23 @@ impl Report {
         self.number(b"cmd-list-tube-used", counts.list_tube_used)?;
         self.number(b"cmd-list-tubes-watched", counts.list_tubes_watched)?;
         self.number(b"cmd-pause-tube", counts.pause_tube)
+    }
+
+    /// Writes how many jobs there were, and how many tubes and sessions there are.
+    #[tactic(auto, unfolding(crate::specs::Reports::totals_report))]
+    pub fn totals(&mut self, figures: &QueueFigures) -> Result<(), AllocError>
+        ensures { OnOk result (self.new ≡ self.old ++ totals_report figures.now) }
+    {
+        self.number(b"job-timeouts", figures.timeouts)?;
+        self.number(b"total-jobs", figures.puts)?;
+        self.number(b"max-job-size", MAX_JOB_SIZE)?;
+        self.number(b"current-tubes", figures.tubes)?;
+        self.number(b"current-connections", figures.sessions)?;
+        self.number(b"current-producers", figures.producers)?;
+        self.number(b"current-workers", figures.workers)?;
+        self.number(b"current-waiting", figures.waiting)?;
+        self.line(b"version", b"\"beanpax 0.1\"")?;
+        self.number(b"uptime", figures.second)
     }
 
     /// The text.

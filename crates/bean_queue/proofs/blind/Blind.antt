@@ -5,6 +5,7 @@ use Rattle.object.specs.declared.command.Command.{Command}
 use Rattle.object.specs.declared.command.Key.{Key}
 use Rattle.job_store.specs.declared.job.Job.{Job}
 use Rattle.job_store.specs.declared.state.State.{State}
+use Rattle.job_store.specs.Entries.{without}
 use Rattle.job_store.specs.States.{is_due, is_held, with_state, over_job}
 use Rattle.session_store.specs.Sessions.{session_of, with_wait_ended, is_waiting}
 use Rattle.pause_store.specs.Pauses.{left_at}

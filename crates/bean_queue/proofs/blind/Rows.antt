@@ -165,11 +165,12 @@ row-blind (Op.Put pri delay ttr body) key s plain = record {
   reply = refl;
   state = ap (bare (record s { next_id = s.next_id + 1 })) (insert-blind s.next_id (put_job s key.session pri delay ttr body) s.jobs);
 }
-row-blind (Op.Use tube) key s plain = same_jobs (with_session s key.session (λ c. record c { used = tube })) _
+row-blind (Op.Use tube) key s plain =
+    record { reply = refl; state = ap (bare (with_session s key.session (λ c. record c { used = tube }))) (blanks-twice s.jobs) }
 row-blind (Op.Watch tube) key s plain = same_jobs (with_session s key.session (λ c. record c { watched = joined tube c.watched })) _
 row-blind (Op.Ignore tube) key s plain =
     same_if _ _ _ _ _ _ refl (same_reply s Reply.NotIgnored Reply.NotIgnored refl)
-    (same_jobs (with_session s key.session (λ c. record c { watched = left_out tube c.watched })) _)
+    (record { reply = refl; state = ap (bare (with_session s key.session (λ c. record c { watched = left_out tube c.watched }))) (blanks-twice s.jobs) })
 row-blind (Op.Reserve seconds) key s plain = same_jobs (waiting s key.session key.number seconds) None
 row-blind (Op.Delete id) key s plain = delete-blind s key.session id
 row-blind (Op.Touch id) key s plain =
@@ -198,7 +199,7 @@ row-blind Op.ListTubeUsed key s plain = same_reply s _ _ refl
 row-blind Op.ListTubesWatched key s plain = same_reply s _ _ refl
 row-blind (Op.Pause tube seconds) key s plain =
     same_if _ _ _ _ _ _ (ap (is_among tube) (all_tubes-blind s))
-    (same_jobs (record s { pauses = (paused_for tube seconds (pauses_of s)).pauses }) _)
+    (record { reply = refl; state = ap (bare (record s { pauses = (paused_for tube seconds (pauses_of s)).pauses })) (blanks-twice s.jobs) })
     (same_reply s Reply.NotFound Reply.NotFound refl)
 row-blind (Op.StatsJob id) key s plain = cc
 row-blind (Op.StatsTube tube) key s plain = cc

@@ -151,7 +151,7 @@ IsIdleIn x s = (d : ℕ × SessionState) → In d s.sessions → x ≡ d.0 → i
 
 quiet-row : (op : Op) (key : Key) (s : QueueState) → is_quiet op ≡ true → IsIdleIn key.session s → IsCalmer s (row op key s).state
 unfolding row put_row use_row watch_row ignore_row reserve_row delete_row release_row touch_row bury_row kick_row kick_job_row
-  reserve_job_row peek_row stats_job_row stats_tube_row stats_row
+    reserve_job_row peek_row stats_job_row stats_tube_row stats_row
 quiet-row (Op.Put pri delay ttr body) key s q idle = cc
 quiet-row (Op.Use tube) key s q idle =
     record {

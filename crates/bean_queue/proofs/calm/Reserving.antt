@@ -277,10 +277,11 @@ pub reserve-carried : (op : Op) (key : Key) (seconds : Option ℕ) (s t : QueueS
     → reserve_outcome key seconds t ≡ carried_out op key s
 unfolding carried_out
 reserve-carried op key seconds s t is none c r =
-    let there = called-idle op key.session s in
-    ap (reserve_outcome key seconds) c ∙
-    sym (reserved key seconds (called op key.session s) there.0 (called-calm op key.session s none)
-    (subst (λ (u : QueueState). Rising 0 (2 ^ 32) u.sessions) c r) there.1 there.2) ∙
+    let there = called-idle (Op.Reserve seconds) key.session s in
+    let it : t ≡ called (Op.Reserve seconds) key.session s = c ∙ ap (λ o. called o key.session s) is in
+    ap (reserve_outcome key seconds) it ∙
+    sym (reserved key seconds (called (Op.Reserve seconds) key.session s) there.0 (called-calm (Op.Reserve seconds) key.session s none)
+    (subst (λ (u : QueueState). Rising 0 (2 ^ 32) u.sessions) it r) there.1 there.2) ∙
     ap (λ o. carried_out o key s) (sym is)
 
 never-turned : (op : Op) (key : Key) (s : QueueState) → is_reserve op ≡ false → turned_away op key s ≡ stop s

@@ -1,11 +1,13 @@
 -- After a second has come, nothing is due to a session that waits.
-use Rattle.std.proofs.Common.{◌≡◌, ℕ, ◌+◌, ◌<◌, Bool, true, false, cond, ◌&&◌, inl, inr, None, Some, nat_le, length, refl, sym, subst, lt-ltb}
+use Rattle.std.proofs.Common.{List, ◌≡◌, ℕ, ◌+◌, ◌<◌, Bool, true, false, cond, ◌&&◌, inl, inr, None, Some, nat_le, length, refl, sym, subst, lt-ltb}
 use Rattle.std.proofs.lemmas.Bool.{and_from, cases_Bool, leb-false}
 use Rattle.object.specs.Lists.{In}
 use Rattle.job_store.specs.States.{is_held, due_of}
 use Rattle.session_store.specs.declared.session.SessionState.{SessionState}
 use Rattle.session_store.specs.Sessions.{first_waiting, is_waiting, wait_rank, has_timed_out}
 use Rattle.bean_queue.specs.declared.reply.Reply.{Reply}
+use Rattle.pause_store.specs.Pauses.{tubes_over}
+use Rattle.bean_queue.specs.Rows.{settled}
 use Rattle.bean_queue.specs.Effects.{at_second, tick_effect, then_do, then_settled}
 use Rattle.bean_queue.specs.Owed.{OwesNothing}
 use Rattle.bean_queue.specs.Queue.{QueueState, holds_by}

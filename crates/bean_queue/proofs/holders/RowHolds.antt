@@ -22,7 +22,7 @@ use Rattle.bean_queue.specs.Rows.{delete_row, may_delete, delete_found, is_job_t
 use Rattle.bean_queue.specs.Rows.{kicked_option, kick_row, kick_job_row, peek_row, shown, at_id, pause_row}
 use Rattle.bean_queue.specs.Tubes.{all_tubes}
 use Rattle.bean_queue.specs.Rows.{is_free, reserve_found, reserve_job_row, reported, stats_job_row, stats_tube_row, stats_row}
-use Rattle.bean_queue.specs.Reports.{tube_report}
+use Rattle.bean_queue.specs.Reports.{tube_figures, tube_report}
 use Rattle.bean_queue.specs.Effects.{own}
 use Rattle.bean_queue.specs.Holds.{is_touch, handing_out}
 use Rattle.bean_queue.specs.TurnLaws.{least-in, IfSome-map}
@@ -134,7 +134,7 @@ reported-quiet key now k (Some job) id = refl
 
 pub row-ok : (op : Op) (key : Key) (s : QueueState) → HasRisingIds s → IsRowOk s key (row op key s)
 unfolding row put_row use_row watch_row ignore_row reserve_row delete_row release_row touch_row bury_row kick_row kick_job_row
-  reserve_job_row peek_row pause_row stats_job_row stats_tube_row stats_row
+    reserve_job_row peek_row pause_row stats_job_row stats_tube_row stats_row
 row-ok (Op.Put pri delay ttr body) key s sound =
     record {
       sound =
@@ -176,7 +176,7 @@ row-ok Op.ListTubesWatched key s sound = ok_same s key _ (λ id. refl) sound
 row-ok (Op.Pause tube seconds) key s sound =
     ok_if s key (is_among tube (all_tubes s)) _ _ (record { sound = sound; at = refl; given = λ id. inl refl }) (ok_same s key Reply.NotFound (λ id. refl) sound)
 row-ok (Op.StatsJob j) key s sound = ok_same s key _ (reported-quiet key s.now j (value_at j s.jobs)) sound
-row-ok (Op.StatsTube tube) key s sound = ok_same s key _ (told-quiet key (is_among tube (all_tubes s)) (tube_report s tube)) sound
+row-ok (Op.StatsTube tube) key s sound = ok_same s key _ (told-quiet key (is_among tube (all_tubes s)) (tube_report tube (tube_figures s tube))) sound
 row-ok Op.Stats key s sound = ok_same s key _ (λ id. refl) sound
 
 -- the commands that end a hold, with the replies that say so
@@ -327,7 +327,7 @@ found-holds x id ttr second k key s h =
 pub row-holds : (x id ttr second : ℕ) (op : Op) (key : Key) (s : QueueState) → HasRisingIds s
     → Held s.jobs x id ttr second → HoldAfter x id ttr second s.now op key (row op key s)
 unfolding row put_row use_row watch_row ignore_row reserve_row delete_row release_row touch_row bury_row kick_row kick_job_row
-  reserve_job_row peek_row pause_row stats_job_row stats_tube_row stats_row
+    reserve_job_row peek_row pause_row stats_job_row stats_tube_row stats_row
 row-holds x id ttr second (Op.Put pri delay t body) key s sound h =
     stays_same x id ttr second s.now _ key s _ refl (record {
       job = h.job;

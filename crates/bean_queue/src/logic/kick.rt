@@ -1,7 +1,7 @@
 ghost use Rattle.std.specs.Prelude.{◌≡◌, IsSome, IfOk, OnOk, option_map, if◌then◌else◌};
 ghost use Rattle.job_store.specs.Entries.{value_at};
 ghost use Rattle.job_store.specs.LookUps.{first_buried, first_delayed};
-ghost use Rattle.bean_queue.specs.Rows.{kicked, kick_row, kick_job_row};
+ghost use Rattle.bean_queue.specs.Rows.{kicked, kick_in, kick_row, kick_job_row};
 ghost use Rattle.bean_queue.specs.Calls.{DraftsRow};
 
 use crate::job_draft::JobDraft;
@@ -48,6 +48,15 @@ fn kick_idle<M: JobMap>(
 }
 
 impl<M: JobMap> Logic<M> {
+    /// Makes buried or delayed jobs of a tube ready.
+    fn kick_in(&mut self, tube: &Name, bound: u32) -> Result<Reply, AllocError>
+        ensures { DraftsRow self.old self.new (kick_in self.old.now tube.now bound) result }
+    {
+        let buried = self.jobs.map().first_buried(tube).is_some();
+        let count = kick_idle(&mut self.jobs, tube, buried, bound)?;
+        Ok(Reply::KickedCount(count))
+    }
+
     /// Makes buried or delayed jobs of the tube that a session uses ready.
     #[tactic(auto, unfolding(crate::specs::Rows::kick_row))]
     pub fn kick(&mut self, session: u32, bound: u32) -> Result<Reply, AllocError>
@@ -55,9 +64,7 @@ impl<M: JobMap> Logic<M> {
         ensures { DraftsRow self.old self.new (kick_row self.old.now session bound) result }
     {
         let tube = self.session(session).used.copy()?;
-        let buried = self.jobs.map().first_buried(&tube).is_some();
-        let count = kick_idle(&mut self.jobs, &tube, buried, bound)?;
-        Ok(Reply::KickedCount(count))
+        self.kick_in(&tube, bound)
     }
 
     /// Makes a job ready that is buried or delayed.

@@ -2,14 +2,13 @@ ghost use Rattle.std.specs.Prelude.{◌≡◌, Some, IsSome, IfOk, option_map};
 ghost use Rattle.job_store.specs.Entries.{value_at};
 ghost use Rattle.job_store.specs.LookUps.{first_ready, first_delayed, first_buried};
 ghost use Rattle.bean_queue.specs.Queue.{used_by};
-ghost use Rattle.bean_queue.specs.Rows.{shown, at_id, reported};
+ghost use Rattle.bean_queue.specs.Rows.{shown, at_id};
 
-use crate::job_report::job_report;
 use crate::logic::Logic;
 use crate::reply::Reply;
 use job_store::{Job, JobMap};
 use object::Value;
-use std::alloc::{AllocError, Global};
+use std::alloc::AllocError;
 
 /// The reply that shows a job, under its id.
 fn shown(found: Option<(u64, &Job)>) -> Result<Reply, AllocError>
@@ -31,16 +30,6 @@ impl<M: JobMap> Logic<M> {
     {
         match self.jobs.map().get(id) {
             Some(job) => shown(Some((id, job))),
-            None => Ok(Reply::NotFound),
-        }
-    }
-
-    /// Tells what has happened to a job.
-    pub fn stats_job(&self, alloc: Global, id: u64) -> Result<Reply, AllocError>
-        ensures { IfOk result (λ reply. reply ≡ reported self.now.now.now id (value_at id self.now.now.jobs)) }
-    {
-        match self.jobs.map().get(id) {
-            Some(job) => Ok(Reply::Data(job_report(alloc, self.counters.now, id, job)?)),
             None => Ok(Reply::NotFound),
         }
     }

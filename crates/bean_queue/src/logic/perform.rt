@@ -27,13 +27,7 @@ impl<M: JobMap> Logic<M> {
     }
 
     /// Obeys a quiet operation of a session that is there, where a number is left for it.
-    #[tactic(auto, unfolding(
-        crate::specs::Rows::row,
-        crate::specs::Rows::peek_row,
-        crate::specs::Rows::stats_job_row,
-        crate::specs::Rows::stats_tube_row,
-        crate::specs::Rows::stats_row
-    ))]
+    #[tactic(auto, unfolding(crate::specs::Rows::row, crate::specs::Rows::peek_row, crate::specs::Rows::stats_job_row, crate::specs::Rows::stats_tube_row, crate::specs::Rows::stats_row))]
     fn quiet_row(&mut self, alloc: Global, key: Key, op: &Op) -> Result<Reply, AllocError>
         requires there { IsSome (value_at key.session self.old.now.sessions) }
         requires quiet { is_quiet op.now ≡ true }

@@ -1,20 +1,21 @@
-ghost use Rattle.std.specs.Prelude.{◌≡◌, ◌++◌, length, IfOk, OnOk, if◌then◌else◌};
+ghost use Rattle.std.specs.Prelude.{◌≡◌, length, IfOk, if◌then◌else◌};
 ghost use Rattle.job_store.specs.Entries.{value_at};
 ghost use Rattle.job_store.specs.LookUps.{is_among};
-ghost use Rattle.bean_queue.specs.Reports.{tube_report, totals_report, queue_report};
+ghost use Rattle.pause_store.specs.Pauses.{is_paused};
+ghost use Rattle.tube_store.specs.TubeCounts.{counts_at};
+ghost use Rattle.bean_queue.specs.Reports.{tube_figures, tube_report, queue_figures, queue_report};
 ghost use Rattle.bean_queue.specs.Rows.{reported};
 ghost use Rattle.bean_queue.specs.Tubes.{all_tubes};
 
+use crate::figures::{QueueFigures, TubeFigures};
 use crate::group::Group;
 use crate::job_report::job_report;
 use crate::logic::Logic;
 use crate::reply::Reply;
 use crate::report::Report;
-use job_store::{Body, JobMap, Name};
+use crate::tube_report::tube_report;
+use job_store::{JobMap, Name};
 use std::alloc::{AllocError, Global};
-
-/// The greatest body of a job that clients may put, in bytes.
-const MAX_JOB_SIZE: u64 = 65535;
 
 impl<M: JobMap> Logic<M> {
     /// Tells what has happened to a job.
@@ -28,63 +29,67 @@ impl<M: JobMap> Logic<M> {
         }
     }
 
-    /// What was done with a tube, and how many jobs and sessions it has, as a text.
-    #[tactic(auto, unfolding(crate::specs::Reports::tube_report))]
-    fn tube_report(&self, alloc: Global, tube: &Name) -> Result<Body, AllocError>
-        ensures { IfOk result (λ text. text ≡ tube_report self.now.now tube.now) }
+    /// For how many seconds a tube is paused, and 0 where it isn't.
+    fn pause_of(&self, tube: &Name) -> u64
+        ensures { result ≡ (if is_paused tube.now self.now.now.pauses
+            then (counts_at tube.now self.now.now.tubes).pause
+            else 0) }
+    {
+        if !self.pauses.is_paused(tube) {
+            return 0;
+        }
+        u64::from(self.tubes.counts(tube).pause)
+    }
+
+    /// What is told of a tube, in numbers.
+    fn tube_figures(&self, tube: &Name) -> TubeFigures
+        ensures { result ≡ tube_figures self.now.now tube.now }
     {
         let counts = self.tubes.counts(tube);
         let sessions = self.sessions.map();
-        let pause = if self.pauses.is_paused(tube) {
-            counts.pause
-        } else {
-            0
-        };
-        let left = self.pauses.end(tube).saturating_sub(self.counters.now);
-        let mut report = Report::new(alloc)?;
-        report.line(b"name", tube.as_slice())?;
-        report.tally(self.jobs.map().tally_in(tube))?;
-        report.number(b"total-jobs", counts.puts)?;
-        report.number(b"current-using", Group::Using(tube).count(sessions))?;
-        report.number(b"current-watching", Group::Watching(tube).count(sessions))?;
-        report.number(b"current-waiting", Group::WaitingFor(tube).count(sessions))?;
-        report.number(b"cmd-delete", counts.deletes)?;
-        report.number(b"cmd-pause-tube", counts.pauses)?;
-        report.number(b"pause", u64::from(pause))?;
-        report.number(b"pause-time-left", left)?;
-        report.text()
+        TubeFigures {
+            tally: self.jobs.map().tally_in(tube),
+            puts: counts.puts,
+            using: Group::Using(tube).count(sessions),
+            watching: Group::Watching(tube).count(sessions),
+            waiting: Group::WaitingFor(tube).count(sessions),
+            deletes: counts.deletes,
+            pauses: counts.pauses,
+            pause: self.pause_of(tube),
+            pause_left: self.pauses.end(tube).saturating_sub(self.counters.now),
+        }
     }
 
     /// Tells what was done with a tube, and how many jobs and sessions it has, if list-tubes names it.
     pub fn stats_tube(&self, alloc: Global, tube: &Name) -> Result<Reply, AllocError>
         ensures { IfOk result (λ reply. reply
             ≡ (if is_among tube.now (all_tubes self.now.now)
-            then Reply.Data (tube_report self.now.now tube.now)
+            then Reply.Data (tube_report tube.now (tube_figures self.now.now tube.now))
             else Reply.NotFound)) }
     {
         if !self.is_tube(tube) {
             return Ok(Reply::NotFound);
         }
-        Ok(Reply::Data(self.tube_report(alloc, tube)?))
+        let text = tube_report(alloc, tube, &self.tube_figures(tube))?;
+        Ok(Reply::Data(text))
     }
 
-    /// Writes how many jobs there were, and how many tubes and sessions there are.
-    #[tactic(auto, unfolding(crate::specs::Reports::totals_report))]
-    fn write_totals(&self, tubes: u64, report: &mut Report) -> Result<(), AllocError>
+    /// What is told of the queue beside its jobs and how often each operation was carried out, in numbers.
+    fn queue_figures(&self, tubes: u64) -> QueueFigures
         requires { tubes ≡ length (all_tubes self.now.now) }
-        ensures { OnOk result (report.new ≡ report.old ++ totals_report self.now.now) }
+        ensures { result ≡ queue_figures self.now.now }
     {
         let sessions = self.sessions.map();
-        report.number(b"job-timeouts", self.counters.counts.timeouts)?;
-        report.number(b"total-jobs", self.counters.next_id.saturating_sub(1))?;
-        report.number(b"max-job-size", MAX_JOB_SIZE)?;
-        report.number(b"current-tubes", tubes)?;
-        report.number(b"current-connections", sessions.len() as u64)?;
-        report.number(b"current-producers", Group::Producers.count(sessions))?;
-        report.number(b"current-workers", Group::Workers.count(sessions))?;
-        report.number(b"current-waiting", Group::Waiting.count(sessions))?;
-        report.line(b"version", b"\"beanpax 0.1\"")?;
-        report.number(b"uptime", self.counters.now)
+        QueueFigures {
+            timeouts: self.counters.counts.timeouts,
+            puts: self.counters.next_id.saturating_sub(1),
+            tubes,
+            sessions: sessions.len() as u64,
+            producers: Group::Producers.count(sessions),
+            workers: Group::Workers.count(sessions),
+            waiting: Group::Waiting.count(sessions),
+            second: self.counters.now,
+        }
     }
 
     /// Tells how many jobs and sessions there are, and how often each operation was carried out.
@@ -97,7 +102,7 @@ impl<M: JobMap> Logic<M> {
         report.tally(self.jobs.map().tally_all())?;
         report.job_counts(&self.counters.counts)?;
         report.other_counts(&self.counters.counts)?;
-        self.write_totals(tubes, &mut report)?;
+        report.totals(&self.queue_figures(tubes))?;
         Ok(Reply::Data(report.text()?))
     }
 }

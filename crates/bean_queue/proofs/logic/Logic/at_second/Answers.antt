@@ -12,7 +12,7 @@ returns-clause-second g c = record {
   now = search rules;
   woken =
       subst (λ (d : Draft QueueState). AreWoken c.add_over.new.tubes.keys d.now.jobs c.make_due_ready.new.jobs.now) c.self.view_is
-      (woken-more c.in_ok-woken.woken.keys c.add_over.new.tubes.keys _ _ c.add_over.ensures.grown c.in_ok-woken.ensures.woken);
+      (woken-more c.in_ok-woken.woken.keys c.add_over.new.tubes.keys _ _ c.add_over.ensures.grown c.in_ok-woken.ensures.ready.woken);
   before = search rules;
 }
 

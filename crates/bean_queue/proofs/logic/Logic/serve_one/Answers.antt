@@ -16,7 +16,7 @@ use Rattle.bean_queue.proofs.logic.Logic.serve_one.Goals as goal
 pub returns-in_default : goal.returns-in_default
 returns-in_default g c = record {
   turn =
-      let s = state_of c.self.inside.counters c.self.inside.jobs.now c.self.inside.sessions.now c.self.inside.pauses.now.pauses in
+      let s = state_of c.self.inside.counters c.self.inside.jobs.now c.self.inside.sessions.now c.self.inside.pauses.now.pauses c.self.inside.tubes.now in
       let next : next_job s ≡ None = ap (λ (d : Draft QueueState). next_job d.now) c.self.view_is ∙ sym c.in_default.ensures in
       (ap (λ (d : Draft QueueState). serve_turn d.now) (sym c.self.view_is) ∙ none-served s next, refl, refl);
   before = refl;
@@ -25,7 +25,7 @@ returns-in_default g c = record {
 pub returns-in_default-first_watcher : goal.returns-in_default-first_watcher
 returns-in_default-first_watcher g c = record {
   turn =
-      let s = state_of c.self.inside.counters c.self.inside.jobs.now c.self.inside.sessions.now c.self.inside.pauses.now.pauses in
+      let s = state_of c.self.inside.counters c.self.inside.jobs.now c.self.inside.sessions.now c.self.inside.pauses.now.pauses c.self.inside.tubes.now in
       let j : ℕ × Job = (c.in-Some.id, c.in-Some.job.now) in
       let next : next_job s ≡ Some j = ap (λ (d : Draft QueueState). next_job d.now) c.self.view_is ∙ sym c.in-Some.ensures in
       let nobody : first_waiting (λ e. is_among j.1.tube e.1.watched) s.sessions ≡ None = sym c.in_default-first_watcher.ensures in
@@ -36,14 +36,14 @@ returns-in_default-first_watcher g c = record {
 pub returns : goal.returns
 returns g c = record {
   turn =
-      let s = state_of c.self.inside.counters c.self.inside.jobs.now c.self.inside.sessions.now c.self.inside.pauses.now.pauses in
+      let s = state_of c.self.inside.counters c.self.inside.jobs.now c.self.inside.sessions.now c.self.inside.pauses.now.pauses c.self.inside.tubes.now in
       let j : ℕ × Job = (c.in-Some.id, c.in-Some.job.now) in
       let w : ℕ × SessionState = (c.in-Some-first_watcher.session, c.in-Some-first_watcher.watcher.now) in
       let next : next_job s ≡ Some j = ap (λ (d : Draft QueueState). next_job d.now) c.self.view_is ∙ sym c.in-Some.ensures in
       let first : first_waiting (λ e. is_among j.1.tube e.1.watched) s.sessions ≡ Some w = sym c.in-Some-first_watcher.ensures in
       subst (λ (d : Draft QueueState). IsTurn serve_turn d.now
       (state_of c.self.inside.counters c.set_state.new.self.now c.set_wait.new.self.now
-      c.self.inside.pauses.now.pauses) c.args.answers.now.items c.push.new.self.items true) c.self.view_is
+      c.self.inside.pauses.now.pauses c.self.inside.tubes.now) c.args.answers.now.items c.push.new.self.items true) c.self.view_is
       (served s j w c.set_state.new.self.now c.set_wait.new.self.now c.args.answers.now.items c.push.new.self.items next first
       (c.in_ok-set_state.ensures.now ∙ ap (λ ttr. altered j.0 (reserved_job w.0 (s.now + ttr)) s.jobs) c.from.ensures)
       c.in_ok-set_wait.ensures.now

@@ -8,7 +8,7 @@ use Rattle.bean_queue.proofs.logic.Logic.take_best.Goals as goal
 
 pub returns-clause-taken : goal.returns-clause-taken
 returns-clause-taken g c =
-    let s = state_of c.self.inside.counters c.self.inside.jobs.now c.self.inside.sessions.now c.self.inside.pauses.now.pauses in
+    let s = state_of c.self.inside.counters c.self.inside.jobs.now c.self.inside.sessions.now c.self.inside.pauses.now.pauses c.self.inside.tubes.now in
     let j : ℕ × Job = (c.in-Some.id, c.in-Some.job.now) in
     let best : best_for s c.args.key.session ≡ Some j =
     ap (λ (d : Draft QueueState). best_for d.now c.args.key.session) c.self.view_is ∙ sym c.in-Some.ensures in

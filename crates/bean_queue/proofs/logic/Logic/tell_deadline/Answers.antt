@@ -16,7 +16,7 @@ first_holder-requires-clause-rising g c = subst (Rising 0 (2 ^ 32)) (sym c.map-2
 
 pub first_holder-requires-clause-holders : goal.first_holder-requires-clause-holders
 first_holder-requires-clause-holders g c =
-    let s = state_of c.self.inside.counters c.self.inside.jobs.now c.self.inside.sessions.now c.self.inside.pauses.now.pauses in
+    let s = state_of c.self.inside.counters c.self.inside.jobs.now c.self.inside.sessions.now c.self.inside.pauses.now.pauses c.self.inside.tubes.now in
     subst (λ jobs. HasHolders c.args.holders.now (s.now + 1) jobs c.map-2.result.now.entries) (sym c.map.ensures.jobs)
     (subst (HasHolders c.args.holders.now (s.now + 1) s.jobs) (sym c.map-2.ensures.sessions)
     (subst (λ (d : Draft QueueState). HasHolders c.args.holders.now (d.now.now + 1) d.now.jobs d.now.sessions) (sym c.self.view_is) c.requires))
@@ -24,7 +24,7 @@ first_holder-requires-clause-holders g c =
 pub returns-in_default : goal.returns-in_default
 returns-in_default g c = record {
   turn =
-      let s = state_of c.self.inside.counters c.self.inside.jobs.now c.self.inside.sessions.now c.self.inside.pauses.now.pauses in
+      let s = state_of c.self.inside.counters c.self.inside.jobs.now c.self.inside.sessions.now c.self.inside.pauses.now.pauses c.self.inside.tubes.now in
       let nobody : first_waiting (λ e. holds_by e.0 (s.now + 1) s.jobs) s.sessions ≡ None =
       ap₂ (λ jobs. first_waiting (λ e. holds_by e.0 (s.now + 1) jobs)) (sym c.map.ensures.jobs) (sym c.map-2.ensures.sessions) ∙ sym c.in_default.ensures in
       (ap (λ (d : Draft QueueState). deadline_turn d.now) (sym c.self.view_is) ∙ none-told_deadline s nobody, refl, refl);
@@ -34,12 +34,12 @@ returns-in_default g c = record {
 pub returns : goal.returns
 returns g c = record {
   turn =
-      let s = state_of c.self.inside.counters c.self.inside.jobs.now c.self.inside.sessions.now c.self.inside.pauses.now.pauses in
+      let s = state_of c.self.inside.counters c.self.inside.jobs.now c.self.inside.sessions.now c.self.inside.pauses.now.pauses c.self.inside.tubes.now in
       let w : ℕ × SessionState = (c.in-Some.session, c.in-Some.holder.now) in
       let first : first_waiting (λ e. holds_by e.0 (s.now + 1) s.jobs) s.sessions ≡ Some w =
       ap₂ (λ jobs. first_waiting (λ e. holds_by e.0 (s.now + 1) jobs)) (sym c.map.ensures.jobs) (sym c.map-2.ensures.sessions) ∙ sym c.in-Some.ensures in
       subst (λ (d : Draft QueueState). IsTurn deadline_turn d.now
-      (state_of c.self.inside.counters c.self.inside.jobs.now c.set_wait.new.self.now c.self.inside.pauses.now.pauses)
+      (state_of c.self.inside.counters c.self.inside.jobs.now c.set_wait.new.self.now c.self.inside.pauses.now.pauses c.self.inside.tubes.now)
       c.args.answers.now.items c.push.new.self.items true) c.self.view_is
       (told_deadline s w c.set_wait.new.self.now c.args.answers.now.items c.push.new.self.items first c.in_ok-set_wait.ensures.now
       (c.in_ok-push.ensures.items ∙

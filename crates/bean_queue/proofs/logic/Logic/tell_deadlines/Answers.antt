@@ -10,7 +10,7 @@ use Rattle.bean_queue.proofs.logic.Logic.tell_deadlines.Goals as goal
 
 pub turns-init : goal.turns-init
 turns-init g c =
-    let s = state_of c.self.inside.counters c.self.inside.jobs.now c.self.inside.sessions.now c.self.inside.pauses.now.pauses in
+    let s = state_of c.self.inside.counters c.self.inside.jobs.now c.self.inside.sessions.now c.self.inside.pauses.now.pauses c.self.inside.tubes.now in
     let holders = c.in_ok-holders.holders.items in
     record {
       holders =

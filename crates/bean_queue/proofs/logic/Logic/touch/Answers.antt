@@ -10,7 +10,7 @@ pub returns-in_ok-set_state-in-Some : goal.returns-in_ok-set_state-in-Some
 unfolding touch_row
 returns-in_ok-set_state-in-Some g c = record {
   state =
-      let s = state_of c.self.inside.counters c.self.inside.jobs.now c.self.inside.sessions.now c.self.inside.pauses.now.pauses in
+      let s = state_of c.self.inside.counters c.self.inside.jobs.now c.self.inside.sessions.now c.self.inside.pauses.now.pauses c.self.inside.tubes.now in
       touched s c.args.session c.args.id _ c.in-Some.job.now _ c.map.ensures.rising
       (ap (value_at c.args.id) (sym c.map.ensures.jobs) ∙ sym c.in-Some.ensures)
       (search rules)

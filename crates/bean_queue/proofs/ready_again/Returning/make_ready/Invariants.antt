@@ -11,7 +11,7 @@ invariant-again g l = record {
   all : each_value (change_if (is_returning l.self) (returned_job l.self)) l.jobs.now ≡ each_value (change_if (is_returning l.self) (returned_job l.self)) l.fn.jobs.now;
   woken : AreWoken l.woken.keys l.fn.jobs.now l.jobs.now;
   before : l.jobs.before ≡ l.fn.jobs.before;
-  counted : and_more (run_out l.self l.jobs.now) l.timeouts ≡ and_more (run_out l.self l.fn.jobs.now) l.fn.timeouts;
+  counted : and_more (run_out l.self l.jobs.now) l.over ≡ and_more (run_out l.self l.fn.jobs.now) 0;
 }
 
 abbrev pub decreases-again : goal.decreases-again

@@ -1,0 +1,20 @@
+use Rattle.std.proofs.lemmas.Result.{on_ok_weaker}
+use Rattle.bean_queue.specs.Reports.{totals_report}
+use Rattle.bean_queue.proofs.Written.{written}
+use Rattle.bean_queue.proofs.report.Report.totals.Goals as goal
+
+pub returns : goal.returns
+unfolding totals_report
+returns c =
+    on_ok_weaker c.number-9.result
+    (λ last. written c.args.self.now c.line.new.self c.number-9.new.self _ _
+    (written c.args.self.now c.number-8.new.self c.line.new.self _ _
+    (written c.args.self.now c.number-7.new.self c.number-8.new.self _ _
+    (written c.args.self.now c.number-6.new.self c.number-7.new.self _ _
+    (written c.args.self.now c.number-5.new.self c.number-6.new.self _ _
+    (written c.args.self.now c.number-4.new.self c.number-5.new.self _ _
+    (written c.args.self.now c.number-3.new.self c.number-4.new.self _ _
+    (written c.args.self.now c.number-2.new.self c.number-3.new.self _ _
+    (written c.args.self.now c.number.new.self c.number-2.new.self _ _
+    (c.in_ok-number.ensures) c.in_ok-number-2.ensures) c.in_ok-number-3.ensures) c.in_ok-number-4.ensures) c.in_ok-number-5.ensures) c.in_ok-number-6.ensures) c.in_ok-number-7.ensures) c.in_ok-number-8.ensures) c.in_ok-line.ensures) last)
+    c.number-9.ensures
