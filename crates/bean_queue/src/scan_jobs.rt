@@ -4,7 +4,7 @@ ghost use Rattle.job_store.specs.LookUps.{has_jobs};
 
 use crate::look_up::LookUp;
 use indexmap::IndexSet;
-use job_store::{Job, JobMap, LoggedJobs, Mark, Name, State, add_name};
+use job_store::{Job, JobMap, LoggedJobs, Mark, Name, State, Tally, add_name};
 use std::alloc::{AllocError, Global};
 use std::collections::{BTreeMap, BTreeSet};
 use std::marker::Model;
@@ -136,6 +136,14 @@ impl JobMap for ScanJobs {
 
     fn has_jobs(&self, tube: &Name) -> bool {
         has_jobs(self.jobs.by_id(), tube)
+    }
+
+    fn tally_in(&self, tube: &Name) -> Tally {
+        Tally::in_tube(self.jobs.by_id(), tube)
+    }
+
+    fn tally_all(&self) -> Tally {
+        Tally::of_all(self.jobs.by_id())
     }
 
     fn add_tubes(&self, names: &mut BTreeSet<Name>) -> Result<(), AllocError> {
