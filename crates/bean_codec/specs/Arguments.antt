@@ -8,6 +8,7 @@ use Rattle.bean_codec.specs.declared.command.CommandName.TheVariants.{ReserveWit
 use Rattle.bean_codec.specs.declared.command.CommandName.TheVariants.{Kick, KickJob, Peek, PeekReady, PeekDelayed}
 use Rattle.bean_codec.specs.declared.command.CommandName.TheVariants.{PeekBuried, ListTubes, ListTubeUsed}
 use Rattle.bean_codec.specs.declared.command.CommandName.TheVariants.{ListTubesWatched, PauseTube, Quit}
+use Rattle.bean_codec.specs.declared.command.CommandName.TheVariants.{ReserveJob, StatsJob, StatsTube, Stats}
 use Rattle.bean_codec.specs.declared.request.Request.{Request}
 use Rattle.bean_codec.specs.declared.request.Request.TheVariants.{Do}
 use Rattle.bean_codec.specs.declared.request.Request.TheVariants as request
@@ -99,6 +100,18 @@ peek_line words = do
   id ← one_id words
   Some (Whole (Do (op.Peek id)))
 
+-- reserve-job <id>
+unfoldable pub reserve_job_line : List (List ℕ) → Option Meaning
+reserve_job_line words = do
+  id ← one_id words
+  Some (Whole (Do (op.ReserveJob id)))
+
+-- stats-job <id>
+unfoldable pub stats_job_line : List (List ℕ) → Option Meaning
+stats_job_line words = do
+  id ← one_id words
+  Some (Whole (Do (op.StatsJob id)))
+
 -- use <tube>
 unfoldable pub use_line : List (List ℕ) → Option Meaning
 use_line words = do
@@ -116,6 +129,12 @@ unfoldable pub ignore_line : List (List ℕ) → Option Meaning
 ignore_line words = do
   tube ← one_name words
   Some (Whole (Do (op.Ignore tube)))
+
+-- stats-tube <tube>
+unfoldable pub stats_tube_line : List (List ℕ) → Option Meaning
+stats_tube_line words = do
+  tube ← one_name words
+  Some (Whole (Do (op.StatsTube tube)))
 
 -- pause-tube <tube> <seconds>
 unfoldable pub pause_line : List (List ℕ) → Option Meaning
@@ -148,3 +167,7 @@ line_of ListTubeUsed words = alone (Do op.ListTubeUsed) words
 line_of ListTubesWatched words = alone (Do op.ListTubesWatched) words
 line_of PauseTube words = pause_line words
 line_of Quit words = alone request.Quit words
+line_of ReserveJob words = reserve_job_line words
+line_of StatsJob words = stats_job_line words
+line_of StatsTube words = stats_tube_line words
+line_of Stats words = alone (Do op.Stats) words

@@ -10,6 +10,7 @@ use Rattle.bean_codec.specs.declared.command.CommandName.TheVariants.{ReserveWit
 use Rattle.bean_codec.specs.declared.command.CommandName.TheVariants.{Kick, KickJob, Peek, PeekReady, PeekDelayed}
 use Rattle.bean_codec.specs.declared.command.CommandName.TheVariants.{PeekBuried, ListTubes, ListTubeUsed}
 use Rattle.bean_codec.specs.declared.command.CommandName.TheVariants.{ListTubesWatched, PauseTube, Quit}
+use Rattle.bean_codec.specs.declared.command.CommandName.TheVariants.{ReserveJob, StatsJob, StatsTube, Stats}
 
 -- those that make, take or change jobs
 unfoldable pub job_command : List ℕ → Option CommandName
@@ -53,7 +54,12 @@ plain_command word = option_or (option_or (job_command word) (tube_command word)
 
 -- those of the extended profile alone
 unfoldable pub stats_command : List ℕ → Option CommandName
-stats_command word = None
+stats_command word =
+    if bytes_eq word (codes "reserve-job") then Some ReserveJob
+    else if bytes_eq word (codes "stats-job") then Some StatsJob
+    else if bytes_eq word (codes "stats-tube") then Some StatsTube
+    else if bytes_eq word (codes "stats") then Some Stats
+    else None
 
 -- the command that the word names
 unfoldable pub command_of : Profile → List ℕ → Option CommandName

@@ -1,6 +1,6 @@
 -- Which requests take memory as they are read: those whose bytes the queue keeps.
 use Rattle.std.specs.Prelude.{◌⊎◌, Option, Some, Result, Ok, Err}
-use Rattle.bean_queue.specs.declared.op.Op.TheVariants.{Put, Use, Watch, Ignore, Pause}
+use Rattle.bean_queue.specs.declared.op.Op.TheVariants.{Put, Use, Watch, Ignore, Pause, StatsTube}
 use Rattle.bean_codec.specs.declared.request.Request.{Request}
 use Rattle.bean_codec.specs.declared.request.Request.TheVariants.{Do}
 use Rattle.bean_codec.specs.declared.request.Fault.{Fault}
@@ -14,6 +14,7 @@ NamesTube (Do (Use tube)) = Unit {0}
 NamesTube (Do (Watch tube)) = Unit {0}
 NamesTube (Do (Ignore tube)) = Unit {0}
 NamesTube (Do (Pause tube seconds)) = Unit {0}
+NamesTube (Do (StatsTube tube)) = Unit {0}
 NamesTube _ = ⊥
 
 -- it has a body

@@ -5,7 +5,7 @@ use Rattle.bean_queue.specs.declared.reply.Reply.{Reply}
 use Rattle.bean_queue.specs.declared.reply.Reply.TheVariants.{Inserted, Using, Watching, NotIgnored, Reserved}
 use Rattle.bean_queue.specs.declared.reply.Reply.TheVariants.{DeadlineSoon, TimedOut, Deleted, NotFound, Released}
 use Rattle.bean_queue.specs.declared.reply.Reply.TheVariants.{Buried, Touched, KickedCount, Kicked, Found, Tubes}
-use Rattle.bean_queue.specs.declared.reply.Reply.TheVariants.{Paused, InternalError}
+use Rattle.bean_queue.specs.declared.reply.Reply.TheVariants.{Paused, Data, InternalError}
 use Rattle.bean_codec.specs.declared.request.Fault.{Fault}
 use Rattle.bean_codec.specs.declared.request.Fault.TheVariants.{BadFormat, UnknownCommand, ExpectedCrlf, JobTooBig}
 use Rattle.bean_codec.specs.Lines.{line_text}
@@ -18,6 +18,10 @@ count_text word n = line_text (word ++ codes " " ++ decimal n)
 unfoldable pub job_text : List ℕ → ℕ → List ℕ → List ℕ
 job_text word id body = line_text (word ++ codes " " ++ decimal id ++ codes " " ++ decimal (length body)) ++ line_text body
 
+-- data of a report or a list: a line with how many bytes they are, and the bytes
+unfoldable pub data_text : List ℕ → List ℕ
+data_text bytes = count_text (codes "OK") (length bytes) ++ line_text bytes
+
 -- one tube of a list
 unfoldable pub tube_text : List ℕ → List ℕ
 tube_text name = codes "- " ++ name ++ codes "\n"
@@ -25,10 +29,6 @@ tube_text name = codes "- " ++ name ++ codes "\n"
 -- a list of tubes, as YAML
 unfoldable pub tubes_data : List (List ℕ) → List ℕ
 tubes_data names = codes "---\n" ++ flat_map tube_text names
-
--- a list of tubes: a line with the size of the data, and the data
-unfoldable pub tubes_text : List (List ℕ) → List ℕ
-tubes_text names = count_text (codes "OK") (length (tubes_data names)) ++ line_text (tubes_data names)
 
 -- the text of a reply
 unfoldable pub reply_text : Reply → List ℕ
@@ -47,7 +47,8 @@ reply_text Touched = line_text (codes "TOUCHED")
 reply_text (KickedCount count) = count_text (codes "KICKED") count
 reply_text Kicked = line_text (codes "KICKED")
 reply_text (Found id body) = job_text (codes "FOUND") id body
-reply_text (Tubes names) = tubes_text names
+reply_text (Tubes names) = data_text (tubes_data names)
+reply_text (Data text) = data_text text
 reply_text Paused = line_text (codes "PAUSED")
 reply_text InternalError = line_text (codes "INTERNAL_ERROR")
 

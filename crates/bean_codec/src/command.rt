@@ -27,6 +27,10 @@ pub enum CommandName {
     ListTubesWatched,
     PauseTube,
     Quit,
+    ReserveJob,
+    StatsJob,
+    StatsTube,
+    Stats,
 }
 
 /// The command that this word names.
@@ -55,7 +59,17 @@ fn plain_command(word: &[u8]) -> Option<CommandName>
 fn stats_command(word: &[u8]) -> Option<CommandName>
     ensures { result ≡ commands.stats_command word.now }
 {
-    None
+    if word == b"reserve-job".as_slice() {
+        Some(CommandName::ReserveJob)
+    } else if word == b"stats-job".as_slice() {
+        Some(CommandName::StatsJob)
+    } else if word == b"stats-tube".as_slice() {
+        Some(CommandName::StatsTube)
+    } else if word == b"stats".as_slice() {
+        Some(CommandName::Stats)
+    } else {
+        None
+    }
 }
 
 /// The commands that make, take or change jobs.

@@ -4,10 +4,10 @@ ghost use Rattle.bean_codec.specs.Arguments as arguments;
 ghost use Rattle.bean_codec.specs.Memory.{HasName, LineHasName};
 
 use crate::command::{CommandName, command_of};
-use crate::name_lines::{ignore_line, pause_line, use_line, watch_line};
+use crate::name_lines::{ignore_line, pause_line, stats_tube_line, use_line, watch_line};
 use crate::number_lines::{
     alone, bury_line, delete_line, kick_job_line, kick_line, peek_line, put_line, release_line,
-    reserve_line, touch_line,
+    reserve_job_line, reserve_line, stats_job_line, touch_line,
 };
 use crate::profile::Profile;
 use crate::request::{Fault, Request};
@@ -103,5 +103,9 @@ pub fn line_of(
         CommandName::ListTubesWatched => Ok(alone(words, Request::Do(Op::ListTubesWatched))),
         CommandName::PauseTube => pause_line(alloc, words),
         CommandName::Quit => Ok(alone(words, Request::Quit)),
+        CommandName::ReserveJob => Ok(reserve_job_line(words)),
+        CommandName::StatsJob => Ok(stats_job_line(words)),
+        CommandName::StatsTube => stats_tube_line(alloc, words),
+        CommandName::Stats => Ok(alone(words, Request::Do(Op::Stats))),
     }
 }

@@ -69,6 +69,18 @@ pub fn ignore_line(alloc: Global, words: Words<'_>) -> Result<Option<Meaning>, A
     Ok(Some(Meaning::Whole(Request::Do(Op::Ignore(tube)))))
 }
 
+/// `stats-tube <tube>`
+#[tactic(auto, unfolding(crate::specs::Arguments::stats_tube_line))]
+pub fn stats_tube_line(alloc: Global, words: Words<'_>) -> Result<Option<Meaning>, AllocError>
+    ensures says { IfOk result (λ says. says ≡ arguments.stats_tube_line words.entry) }
+    ensures memory { OnErr result (HasName (arguments.stats_tube_line words.entry)) }
+{
+    let Some(tube) = one_name(alloc, words)? else {
+        return Ok(None);
+    };
+    Ok(Some(Meaning::Whole(Request::Do(Op::StatsTube(tube)))))
+}
+
 /// `pause-tube <tube> <seconds>`
 #[tactic(auto, unfolding(crate::specs::Arguments::pause_line))]
 pub fn pause_line(alloc: Global, mut words: Words<'_>) -> Result<Option<Meaning>, AllocError>

@@ -151,3 +151,21 @@ pub fn peek_line(words: Words<'_>) -> Option<Meaning>
     let id = one_id(words)?;
     Some(Meaning::Whole(Request::Do(Op::Peek(id))))
 }
+
+/// `reserve-job <id>`
+#[tactic(auto, unfolding(crate::specs::Arguments::reserve_job_line))]
+pub fn reserve_job_line(words: Words<'_>) -> Option<Meaning>
+    ensures { result ≡ arguments.reserve_job_line words.entry }
+{
+    let id = one_id(words)?;
+    Some(Meaning::Whole(Request::Do(Op::ReserveJob(id))))
+}
+
+/// `stats-job <id>`
+#[tactic(auto, unfolding(crate::specs::Arguments::stats_job_line))]
+pub fn stats_job_line(words: Words<'_>) -> Option<Meaning>
+    ensures { result ≡ arguments.stats_job_line words.entry }
+{
+    let id = one_id(words)?;
+    Some(Meaning::Whole(Request::Do(Op::StatsJob(id))))
+}

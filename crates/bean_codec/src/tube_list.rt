@@ -1,19 +1,19 @@
 ghost use Rattle.std.specs.Prelude.{◌≡◌, ◌<◌, ◌≤◌, ◌+◌, ◌^◌, ◌++◌, length, take, vec_len, vec_capacity, codes, IfSome, IfNone, OnOk, OnErr};
 ghost use Rattle.std.specs.List.{flat_map};
 ghost use Rattle.bean_codec.specs.Lines.{line_text};
-ghost use Rattle.bean_codec.specs.Replies.{tube_text, tubes_data, tubes_text};
+ghost use Rattle.bean_codec.specs.Replies.{data_text, tube_text, tubes_data};
 
 use crate::append::append_count;
 use bean_queue::Name;
 use std::alloc::AllocError;
 
 /// Writes a list of tubes at the end. Where memory runs out, a part of it may stand there.
-#[tactic(auto, unfolding(crate::specs::Replies::tubes_text))]
+#[tactic(auto, unfolding(crate::specs::Replies::data_text))]
 pub fn append_tubes(names: &[Name], out: &mut Vec<u8>) -> Result<(), AllocError>
-    ensures ok { OnOk result (out.new.items ≡ out.old.items ++ tubes_text names.now) }
+    ensures ok { OnOk result (out.new.items ≡ out.old.items ++ data_text (tubes_data names.now)) }
     ensures front { take (vec_len out.old) out.new.items ≡ out.old.items }
     ensures full { OnErr result
-        (vec_capacity out.old < vec_len out.old + length (tubes_text names.now)) }
+        (vec_capacity out.old < vec_len out.old + length (data_text (tubes_data names.now))) }
 {
     let Some(size) = size_of_data(names) else {
         return Err(AllocError);

@@ -1,6 +1,6 @@
 ghost use Rattle.std.specs.Prelude.{◌≡◌, ◌<◌, ◌≤◌, ◌+◌, ◌++◌, length, take, vec_len, vec_capacity, codes, OnOk, OnErr};
 ghost use Rattle.bean_codec.specs.Lines.{line_text};
-ghost use Rattle.bean_codec.specs.Replies.{reply_text, fault_text, job_text};
+ghost use Rattle.bean_codec.specs.Replies.{reply_text, fault_text, job_text, data_text};
 
 use crate::append::{append_count, append_line, append_number};
 use crate::request::Fault;
@@ -48,6 +48,7 @@ fn append_reply(reply: &Reply, out: &mut Vec<u8>) -> Result<(), AllocError>
         Reply::Kicked => append_line(b"KICKED", out),
         Reply::Found { id, body } => append_job(b"FOUND", *id, body, out),
         Reply::Tubes(names) => append_tubes(names.as_slice(), out),
+        Reply::Data(text) => append_report(text, out),
         Reply::Paused => append_line(b"PAUSED", out),
         Reply::InternalError => append_line(b"INTERNAL_ERROR", out),
     }
@@ -83,6 +84,19 @@ fn append_job(word: &[u8], id: u64, body: &Body, out: &mut Vec<u8>) -> Result<()
     out.extend_from_slice(b"\r\n")?;
     out.extend_from_slice(body)?;
     out.extend_from_slice(b"\r\n")
+}
+
+/// A report: a line with the size of its text, and the text.
+#[tactic(auto, unfolding(crate::specs::Replies::data_text))]
+fn append_report(text: &Body, out: &mut Vec<u8>) -> Result<(), AllocError>
+    ensures ok { OnOk result (out.new.items ≡ out.old.items ++ data_text text.now) }
+    ensures front { take (vec_len out.old) out.new.items ≡ out.old.items }
+    ensures full { OnErr result
+        (vec_capacity out.old < vec_len out.old + length (data_text text.now)) }
+{
+    let text = text.as_slice();
+    append_count(b"OK", text.len() as u64, out)?;
+    append_line(text, out)
 }
 
 /// Writes the text that answers a fault at the end. Where memory runs out, nothing is written.

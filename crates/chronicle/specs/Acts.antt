@@ -7,6 +7,7 @@ use Rattle.bean_queue.specs.declared.op.Op.{Op}
 use Rattle.bean_queue.specs.declared.op.Op.TheVariants.{Put, Use, Watch, Ignore, Reserve, Delete, Touch, Release, Bury}
 use Rattle.bean_queue.specs.declared.op.Op.TheVariants.{Kick, KickJob, Peek, PeekReady, PeekDelayed, PeekBuried}
 use Rattle.bean_queue.specs.declared.op.Op.TheVariants.{ListTubes, ListTubeUsed, ListTubesWatched, Pause}
+use Rattle.bean_queue.specs.declared.op.Op.TheVariants.{ReserveJob, StatsJob, StatsTube, Stats}
 use Rattle.chronicle.specs.Lines.{body_word}
 
 -- the words for an operation
@@ -31,6 +32,10 @@ op_words ListTubes = codes "list-tubes" ∷ []
 op_words ListTubeUsed = codes "list-tube-used" ∷ []
 op_words ListTubesWatched = codes "list-tubes-watched" ∷ []
 op_words (Pause tube seconds) = codes "pause-tube" ∷ tube ∷ decimal seconds ∷ []
+op_words (ReserveJob id) = codes "reserve-job" ∷ decimal id ∷ []
+op_words (StatsJob id) = codes "stats-job" ∷ decimal id ∷ []
+op_words (StatsTube tube) = codes "stats-tube" ∷ tube ∷ []
+op_words Stats = codes "stats" ∷ []
 
 -- the words for an act
 unfoldable pub act_words : Act Op → List (List ℕ)

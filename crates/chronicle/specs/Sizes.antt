@@ -6,6 +6,7 @@ use Rattle.object.specs.declared.command.Key.{Key}
 use Rattle.job_store.specs.Names.{IsName}
 use Rattle.bean_queue.specs.declared.op.Op.{Op}
 use Rattle.bean_queue.specs.declared.op.Op.TheVariants.{Put, Use, Watch, Ignore, Reserve, Delete, Touch, Release, Bury, Kick, KickJob, Peek, Pause}
+use Rattle.bean_queue.specs.declared.op.Op.TheVariants.{ReserveJob, StatsJob, StatsTube}
 use Rattle.hex.specs.Hex.{IsBytes}
 
 -- the numbers of a key are so
@@ -27,6 +28,9 @@ HasOpSizes short long (Kick bound) = short bound
 HasOpSizes short long (KickJob id) = long id
 HasOpSizes short long (Peek id) = long id
 HasOpSizes short long (Pause tube seconds) = IsName tube × short seconds
+HasOpSizes short long (ReserveJob id) = long id
+HasOpSizes short long (StatsJob id) = long id
+HasOpSizes short long (StatsTube tube) = IsName tube
 HasOpSizes short long _ = ⊤
 
 -- the same of an act

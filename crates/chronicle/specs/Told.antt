@@ -13,7 +13,8 @@ use Rattle.bean_queue.specs.declared.reply.Reply.{Reply}
 use Rattle.bean_queue.specs.declared.reply.Reply.TheVariants.{Inserted, Using, Watching, NotIgnored, Reserved}
 use Rattle.bean_queue.specs.declared.reply.Reply.TheVariants.{DeadlineSoon, TimedOut, Deleted, NotFound, Released}
 use Rattle.bean_queue.specs.declared.reply.Reply.TheVariants.{Buried, Touched, KickedCount, Kicked, Found, Tubes}
-use Rattle.bean_queue.specs.declared.reply.Reply.TheVariants.{Paused, InternalError}
+use Rattle.bean_queue.specs.declared.reply.Reply.TheVariants.{Paused, Data, InternalError}
+use Rattle.bean_codec.specs.declared.profile.Profile.TheVariants.{Extended}
 use Rattle.bean_codec.specs.declared.command.CommandName.{CommandName}
 use Rattle.bean_codec.specs.declared.command.CommandName.TheVariants as command
 use Rattle.bean_codec.specs.declared.line.Meaning.{Meaning}
@@ -62,13 +63,13 @@ act_with None words = None
 act_with (Some command.Put) words = put_of words
 act_with (Some command) words = option_and_then act_in (line_of command words)
 
--- the act that the words tell
+-- the act that the words tell, in the profile that knows most
 unfoldable pub act_of : List (List ℕ) → Option (Act Op)
 act_of [] = None
 act_of (first ∷ words) =
     if bytes_eq first (codes "tick") then Some Tick
     else if bytes_eq first (codes "close") then Some Close
-    else act_with (command_of first) words
+    else act_with (command_of Extended first) words
 
 -- ---- replies
 
@@ -98,7 +99,10 @@ number_reply word number =
 
 -- the reply of two words
 unfoldable pub reply_with : List ℕ → List ℕ → Option Reply
-reply_with word a = if bytes_eq word (codes "USING") then option_map Using (name_of a) else option_and_then (number_reply word) (u64_of a)
+reply_with word a =
+    if bytes_eq word (codes "USING") then option_map Using (name_of a)
+    else if bytes_eq word (codes "DATA") then option_map Data (body_of a)
+    else option_and_then (number_reply word) (u64_of a)
 
 -- the reply of a word and a job
 unfoldable pub job_with : List ℕ → ℕ → List ℕ → Option Reply

@@ -11,7 +11,7 @@ use Rattle.object.specs.declared.command.Submission.{Submission}
 use Rattle.job_store.specs.Names.{IsName}
 use Rattle.bean_queue.specs.declared.op.Op.{Op}
 use Rattle.bean_queue.specs.declared.reply.Reply.{Reply}
-use Rattle.bean_queue.specs.declared.reply.Reply.TheVariants.{Inserted, Using, Watching, Reserved, KickedCount, Found, Tubes}
+use Rattle.bean_queue.specs.declared.reply.Reply.TheVariants.{Inserted, Using, Watching, Reserved, KickedCount, Found, Tubes, Data}
 use Rattle.recorder.specs.Chronicles.{Chronicle, IsChronicle}
 use Rattle.chronicle.specs.Sizes.{HasKeySizes, HasOpSizes, HasActSizes}
 use Rattle.hex.specs.Hex.{IsBytes}
@@ -41,6 +41,7 @@ IsReplyValue (Reserved id body) = IsLong id × IsBytes body
 IsReplyValue (KickedCount count) = IsLong count
 IsReplyValue (Found id body) = IsLong id × IsBytes body
 IsReplyValue (Tubes names) = AllByRecursion IsName names
+IsReplyValue (Data text) = IsBytes text
 IsReplyValue _ = ⊤
 
 abbrev pub IsCommandValue : Command Op → Type 0

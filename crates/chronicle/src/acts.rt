@@ -59,6 +59,10 @@ fn append_op(op: &Op, out: &mut Vec<u8>) -> Result<(), AllocError>
         Op::ListTubeUsed => append_word(b"list-tube-used", out),
         Op::ListTubesWatched => append_word(b"list-tubes-watched", out),
         Op::Pause { tube, seconds } => append_pause(tube, *seconds, out),
+        Op::ReserveJob(id) => append_count(b"reserve-job", *id, out),
+        Op::StatsJob(id) => append_count(b"stats-job", *id, out),
+        Op::StatsTube(tube) => append_two(b"stats-tube", tube.as_slice(), out),
+        Op::Stats => append_word(b"stats", out),
     }
 }
 

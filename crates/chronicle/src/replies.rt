@@ -1,12 +1,13 @@
-ghost use Rattle.std.specs.Prelude.{◌≡◌, ◌++◌, ◌∷◌, take, vec_len, codes, OnOk};
-ghost use Rattle.chronicle.specs.Lines.{spaced};
+ghost use Rattle.std.specs.Prelude.{◌≡◌, ◌++◌, ◌∷◌, [], take, vec_len, codes, OnOk};
+ghost use Rattle.chronicle.specs.Lines.{spaced, body_word};
 ghost use Rattle.chronicle.specs.Replies.{reply_words};
 ghost use Rattle.chronicle.specs.Values.{IsReplyValue};
 ghost use Rattle.std.specs.List.{AllByRecursion};
+ghost use Rattle.hex.specs.Hex.{IsBytes};
 ghost use Rattle.job_store.specs.Names.{IsName};
 
-use crate::append::{append_count, append_job, append_names, append_two, append_word};
-use bean_queue::{Name, Reply};
+use crate::append::{append_body, append_count, append_job, append_names, append_two, append_word};
+use bean_queue::{Body, Name, Reply};
 use std::alloc::AllocError;
 
 /// Writes the words for a reply at the end, each after a space. Where memory runs out, a part of them may stand there.
@@ -33,6 +34,7 @@ pub fn append_reply(reply: &Reply, out: &mut Vec<u8>) -> Result<(), AllocError>
         Reply::Kicked => append_word(b"KICKED", out),
         Reply::Found { id, body } => append_job(b"FOUND", *id, body.as_slice(), out),
         Reply::Tubes(names) => append_tubes(names.as_slice(), out),
+        Reply::Data(text) => append_report(text, out),
         Reply::Paused => append_word(b"PAUSED", out),
         Reply::InternalError => append_word(b"INTERNAL_ERROR", out),
     }
@@ -46,4 +48,14 @@ fn append_tubes(names: &[Name], out: &mut Vec<u8>) -> Result<(), AllocError>
 {
     append_word(b"OK", out)?;
     append_names(names, out)
+}
+
+/// A report.
+fn append_report(text: &Body, out: &mut Vec<u8>) -> Result<(), AllocError>
+    ensures ok { OnOk result (out.new.items ≡ out.old.items ++ spaced (codes "DATA" ∷ body_word text.now ∷ [])) }
+    ensures front { take (vec_len out.old) out.new.items ≡ out.old.items }
+    ensures value { OnOk result (IsBytes text.now) }
+{
+    append_word(b"DATA", out)?;
+    append_body(text.as_slice(), out)
 }

@@ -1,13 +1,13 @@
 ghost use Rattle.std.specs.Prelude.{◌≡◌, IfOk};
 ghost use Rattle.chronicle.specs.Told as told;
 
-use bean_codec::{CommandName, Meaning, Request, Words, command_of, line_of, u32_of};
+use bean_codec::{CommandName, Meaning, Profile, Request, Words, command_of, line_of, u32_of};
 use bean_queue::{Body, Op};
 use hex::FromHexError;
 use object::Act;
 use std::alloc::{AllocError, Global};
 
-/// The act that the words tell.
+/// The act that the words tell, in the profile that knows most.
 #[tactic(auto, unfolding(crate::specs::Told::act_of))]
 pub fn act_of(alloc: Global, mut words: Words<'_>) -> Result<Option<Act<Op>>, AllocError>
     ensures { IfOk result (λ act. act ≡ told.act_of words.entry) }
@@ -21,7 +21,7 @@ pub fn act_of(alloc: Global, mut words: Words<'_>) -> Result<Option<Act<Op>>, Al
     if first == b"close".as_slice() {
         return Ok(Some(Act::Close));
     }
-    act_with(alloc, command_of(first), words)
+    act_with(alloc, command_of(Profile::Extended, first), words)
 }
 
 // The act that the words after the command tell. A put has its body in its line; all else is as in

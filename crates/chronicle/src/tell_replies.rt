@@ -81,6 +81,12 @@ fn reply_with(alloc: Global, word: &[u8], second: &[u8]) -> Result<Option<Reply>
         };
         return Ok(Some(Reply::Using(tube)));
     }
+    if word == b"DATA".as_slice() {
+        let Some(text) = body_of(alloc, second)? else {
+            return Ok(None);
+        };
+        return Ok(Some(Reply::Data(text)));
+    }
     let Some(number) = u64_of(second) else {
         return Ok(None);
     };

@@ -10,6 +10,7 @@ use Rattle.bean_queue.specs.declared.op.Op.{Op}
 use Rattle.bean_queue.specs.declared.op.Op.TheVariants.{Put, Use, Watch, Ignore, Reserve, Delete, Touch, Release, Bury}
 use Rattle.bean_queue.specs.declared.op.Op.TheVariants.{Kick, KickJob, Peek, PeekReady, PeekDelayed, PeekBuried}
 use Rattle.bean_queue.specs.declared.op.Op.TheVariants.{ListTubes, ListTubeUsed, ListTubesWatched, Pause}
+use Rattle.bean_queue.specs.declared.op.Op.TheVariants.{ReserveJob, StatsJob, StatsTube, Stats}
 use Rattle.job_store.specs.Names.{IsName}
 use Rattle.chronicle.specs.Acts.{act_words, op_words}
 use Rattle.chronicle.specs.Lines.{after_space, body_word, spaced}
@@ -94,6 +95,10 @@ op_short ListTubes h short = one (codes "list-tubes") (omega arith)
 op_short ListTubeUsed h short = one (codes "list-tube-used") (omega arith)
 op_short ListTubesWatched h short = one (codes "list-tubes-watched") (omega arith)
 op_short (Pause tube seconds) h short = three (codes "pause-tube") tube (decimal seconds) (omega arith) h.0.few (ten seconds h.1)
+op_short (ReserveJob id) h short = number_two (codes "reserve-job") id (omega arith) h
+op_short (StatsJob id) h short = number_two (codes "stats-job") id (omega arith) h
+op_short (StatsTube tube) h short = name_two (codes "stats-tube") tube (omega arith) h
+op_short Stats h short = one (codes "stats") (omega arith)
 
 act_short : (act : Act Op) → IsActValue act → HasClientBody act → length (spaced (act_words act)) ≤ 131110
 unfolding act_words

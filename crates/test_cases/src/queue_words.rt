@@ -38,6 +38,7 @@ fn plain_op(word: &str) -> Result<Op> {
         "list-tubes" => Ok(Op::ListTubes),
         "list-tube-used" => Ok(Op::ListTubeUsed),
         "list-tubes-watched" => Ok(Op::ListTubesWatched),
+        "stats" => Ok(Op::Stats),
         _ => bail!("no such operation"),
     }
 }
@@ -48,6 +49,7 @@ fn short_op(alloc: Global, word: &str, other: &str) -> Result<Op> {
         "use" => name_of(alloc, other).map(Op::Use),
         "watch" => name_of(alloc, other).map(Op::Watch),
         "ignore" => name_of(alloc, other).map(Op::Ignore),
+        "stats-tube" => name_of(alloc, other).map(Op::StatsTube),
         "kick" => small(other).map(Op::Kick),
         "reserve-with-timeout" => reserve_for(other),
         _ => job_op(word, large(other)?),
@@ -60,6 +62,8 @@ fn job_op(word: &str, id: u64) -> Result<Op> {
         "delete" => Ok(Op::Delete(id)),
         "touch" => Ok(Op::Touch(id)),
         "kick-job" => Ok(Op::KickJob(id)),
+        "reserve-job" => Ok(Op::ReserveJob(id)),
+        "stats-job" => Ok(Op::StatsJob(id)),
         "peek" => Ok(Op::Peek(id)),
         _ => bail!("no such operation"),
     }
@@ -110,6 +114,7 @@ fn tell_reply(reply: &Reply, told: &mut String) -> Result<(), AllocError> {
         Reply::KickedCount(count) => tell_number("KICKED", *count, told),
         Reply::Using(tube) => tell_name("USING", tube, told),
         Reply::Tubes(names) => tell_names(names.as_slice(), told),
+        Reply::Data(text) => write!(told, "DATA \"{}\"", text.as_slice().escape_ascii()),
         Reply::Reserved { id, body } => tell_job("RESERVED", *id, body, told),
         Reply::Found { id, body } => tell_job("FOUND", *id, body, told),
         _ => told.push_str(plain_reply(reply)),

@@ -1,4 +1,4 @@
-//! Writing replies. A step is a reply, and its body is quoted.
+//! Writing replies. A step is a reply, and its body or its report is quoted.
 use crate::dump::Parts;
 use crate::requests::line_of;
 use crate::script::{Stage, tell_line};
@@ -57,6 +57,7 @@ fn long_reply_of(alloc: Global, word: &str, rest: &str) -> Result<Reply> {
         "KICKED" => large(rest).map(Reply::KickedCount),
         "USING" => name_of(alloc, rest).map(Reply::Using),
         "OK" => names_of(alloc, rest).map(Reply::Tubes),
+        "DATA" => quoted_body_of(alloc, rest).map(Reply::Data),
         _ => job_reply_of(alloc, word, rest),
     }
 }

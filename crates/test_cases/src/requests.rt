@@ -1,11 +1,11 @@
-//! Reading requests. A step is what the reader waits for, and the bytes that came.
+//! Reading requests. A step is the profile, what the reader waits for, and the bytes that came.
 use crate::dump::{Parts, dump_of};
 use crate::quoted::bytes_of;
 use crate::script::Stage;
 use crate::values::large;
 use anyhow::{Context, Result, bail};
 use ballot::Members;
-use bean_codec::{Fault, Read, Request, Want, read_request, write_fault};
+use bean_codec::{Fault, Profile, Read, Request, Want, read_request_in, write_fault};
 use bean_queue::Op;
 use object::{Act, Command, Key, Submission};
 use std::alloc::Global;
@@ -16,9 +16,19 @@ pub struct Requests;
 
 impl Stage for Requests {
     fn step(&mut self, alloc: Global, step: &str, told: &mut String) -> Result<()> {
+        let (profile, step) = profile_of(step);
         let (want, text) = want_of(step)?;
         let bytes = bytes_of(alloc, text)?;
-        tell_read(alloc, read_request(alloc, want, bytes.as_slice())?, told)
+        let read = read_request_in(profile, alloc, want, bytes.as_slice())?;
+        tell_read(alloc, read, told)
+    }
+}
+
+// The profile, and the rest of the step: the plain one, where it isn't said to be the extended one.
+fn profile_of(step: &str) -> (Profile, &str) {
+    match step.strip_prefix("extended ") {
+        Some(rest) => (Profile::Extended, rest),
+        None => (Profile::Plain, step),
     }
 }
 

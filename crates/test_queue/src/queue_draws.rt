@@ -69,35 +69,39 @@ impl Draws {
 
     fn tube_op(&mut self, alloc: Global) -> Result<Op, Fail> {
         let (tube, seconds) = (self.tube(alloc)?, self.seconds());
-        Ok(match self.below(4) {
+        Ok(match self.below(5) {
             0 => Op::Use(tube),
             1 => Op::Watch(tube),
             2 => Op::Ignore(tube),
-            _ => Op::Pause { tube, seconds },
+            3 => Op::Pause { tube, seconds },
+            _ => Op::StatsTube(tube),
         })
     }
 
     fn job_op(&mut self) -> Op {
         let (id, pri, delay) = (self.id(), self.below(3), self.seconds());
-        match self.below(6) {
+        match self.below(7) {
             0 => Op::Delete(id),
             1 => Op::Touch(id),
             2 => Op::Release { id, pri, delay },
             3 => Op::Bury { id, pri },
             4 => Op::Kick(pri),
-            _ => Op::KickJob(id),
+            5 => Op::KickJob(id),
+            _ => Op::ReserveJob(id),
         }
     }
 
     fn look(&mut self) -> Op {
-        match self.below(7) {
+        match self.below(9) {
             0 => Op::Peek(self.id()),
             1 => Op::PeekReady,
             2 => Op::PeekDelayed,
             3 => Op::PeekBuried,
             4 => Op::ListTubes,
             5 => Op::ListTubeUsed,
-            _ => Op::ListTubesWatched,
+            6 => Op::ListTubesWatched,
+            7 => Op::StatsJob(self.id()),
+            _ => Op::Stats,
         }
     }
 

@@ -16,11 +16,12 @@ use Rattle.bean_queue.specs.declared.op.Op.{Op}
 use Rattle.bean_queue.specs.declared.op.Op.TheVariants.{Put, Use, Watch, Ignore, Reserve, Delete, Touch, Release, Bury}
 use Rattle.bean_queue.specs.declared.op.Op.TheVariants.{Kick, KickJob, Peek, PeekReady, PeekDelayed, PeekBuried}
 use Rattle.bean_queue.specs.declared.op.Op.TheVariants.{ListTubes, ListTubeUsed, ListTubesWatched, Pause}
+use Rattle.bean_queue.specs.declared.op.Op.TheVariants.{ReserveJob, StatsJob, StatsTube, Stats}
 use Rattle.bean_queue.specs.declared.reply.Reply.{Reply}
 use Rattle.bean_queue.specs.declared.reply.Reply.TheVariants.{Inserted, Using, Watching, NotIgnored, Reserved}
 use Rattle.bean_queue.specs.declared.reply.Reply.TheVariants.{DeadlineSoon, TimedOut, Deleted, NotFound, Released}
 use Rattle.bean_queue.specs.declared.reply.Reply.TheVariants.{Buried, Touched, KickedCount, Kicked, Found, Tubes}
-use Rattle.bean_queue.specs.declared.reply.Reply.TheVariants.{Paused, InternalError}
+use Rattle.bean_queue.specs.declared.reply.Reply.TheVariants.{Paused, Data, InternalError}
 use Rattle.chronicle.specs.Acts.{op_words, act_words}
 use Rattle.chronicle.specs.Fits.{FitsAct}
 use Rattle.chronicle.specs.Lines.{body_word}
@@ -120,6 +121,7 @@ alone word =
     else if bytes_eq word (codes "peek-buried") then Do PeekBuried
     else if bytes_eq word (codes "list-tubes") then Do ListTubes
     else if bytes_eq word (codes "list-tube-used") then Do ListTubeUsed
+    else if bytes_eq word (codes "stats") then Do Stats
     else Do ListTubesWatched
 
 abbrev with_one : List ℕ → List ℕ → Op
@@ -132,6 +134,9 @@ with_one word a =
     else if bytes_eq word (codes "touch") then Touch (number a)
     else if bytes_eq word (codes "kick") then Kick (number a)
     else if bytes_eq word (codes "kick-job") then KickJob (number a)
+    else if bytes_eq word (codes "reserve-job") then ReserveJob (number a)
+    else if bytes_eq word (codes "stats-job") then StatsJob (number a)
+    else if bytes_eq word (codes "stats-tube") then StatsTube a
     else Peek (number a)
 
 abbrev with_two : List ℕ → List ℕ → List ℕ → Op
@@ -172,6 +177,10 @@ act_back (Do ListTubes) h = refl
 act_back (Do ListTubeUsed) h = refl
 act_back (Do ListTubesWatched) h = refl
 act_back (Do (Pause tube seconds)) h = ap (λ n. Do (Pause tube n)) (number_back seconds h.1)
+act_back (Do (ReserveJob id)) h = ap (λ n. Do (ReserveJob n)) (number_back id h)
+act_back (Do (StatsJob id)) h = ap (λ n. Do (StatsJob n)) (number_back id h)
+act_back (Do (StatsTube tube)) h = refl
+act_back (Do Stats) h = refl
 
 pub act_plain : (a : Act Op) → FitsAct a → AllPlain (act_words a)
 unfolding act_words op_words
@@ -199,6 +208,10 @@ act_plain (Do ListTubes) h = (by_test (codes "list-tubes") refl, tt)
 act_plain (Do ListTubeUsed) h = (by_test (codes "list-tube-used") refl, tt)
 act_plain (Do ListTubesWatched) h = (by_test (codes "list-tubes-watched") refl, tt)
 act_plain (Do (Pause tube seconds)) h = (by_test (codes "pause-tube") refl, (name_plain tube h.0, (number_plain seconds h.1, tt)))
+act_plain (Do (ReserveJob id)) h = (by_test (codes "reserve-job") refl, (number_plain id h, tt))
+act_plain (Do (StatsJob id)) h = (by_test (codes "stats-job") refl, (number_plain id h, tt))
+act_plain (Do (StatsTube tube)) h = (by_test (codes "stats-tube") refl, (name_plain tube h, tt))
+act_plain (Do Stats) h = (by_test (codes "stats") refl, tt)
 
 -- ---- replies
 
@@ -221,6 +234,7 @@ said_with word a =
     if bytes_eq word (codes "INSERTED") then Inserted (number a)
     else if bytes_eq word (codes "USING") then Using a
     else if bytes_eq word (codes "WATCHING") then Watching (number a)
+    else if bytes_eq word (codes "DATA") then Data (body a)
     else KickedCount (number a)
 
 -- the reply that the words tell, but for a list of tubes
@@ -252,6 +266,7 @@ reply_back (KickedCount count) h = ap KickedCount (number_back count h)
 reply_back Kicked h = refl
 reply_back (Found id b) h = ap₂ Found (number_back id h.0) (body_back b h.1)
 reply_back (Tubes names) h = refl
+reply_back (Data text) h = ap Data (body_back text h)
 reply_back Paused h = refl
 reply_back InternalError h = refl
 
@@ -273,5 +288,6 @@ reply_plain (KickedCount count) h = (by_test (codes "KICKED") refl, (number_plai
 reply_plain Kicked h = (by_test (codes "KICKED") refl, tt)
 reply_plain (Found id b) h = (by_test (codes "FOUND") refl, (number_plain id h.0, (body_plain b, tt)))
 reply_plain (Tubes names) h = (by_test (codes "OK") refl, names_plain names h)
+reply_plain (Data text) h = (by_test (codes "DATA") refl, (body_plain text, tt))
 reply_plain Paused h = (by_test (codes "PAUSED") refl, tt)
 reply_plain InternalError h = (by_test (codes "INTERNAL_ERROR") refl, tt)

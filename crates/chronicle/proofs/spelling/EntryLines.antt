@@ -15,11 +15,12 @@ use Rattle.bean_queue.specs.declared.op.Op.{Op}
 use Rattle.bean_queue.specs.declared.op.Op.TheVariants.{Put, Use, Watch, Ignore, Reserve, Delete, Touch, Release, Bury}
 use Rattle.bean_queue.specs.declared.op.Op.TheVariants.{Kick, KickJob, Peek, PeekReady, PeekDelayed, PeekBuried}
 use Rattle.bean_queue.specs.declared.op.Op.TheVariants.{ListTubes, ListTubeUsed, ListTubesWatched, Pause}
+use Rattle.bean_queue.specs.declared.op.Op.TheVariants.{ReserveJob, StatsJob, StatsTube, Stats}
 use Rattle.bean_queue.specs.declared.reply.Reply.{Reply}
 use Rattle.bean_queue.specs.declared.reply.Reply.TheVariants.{Inserted, Using, Watching, NotIgnored, Reserved}
 use Rattle.bean_queue.specs.declared.reply.Reply.TheVariants.{DeadlineSoon, TimedOut, Deleted, NotFound, Released}
 use Rattle.bean_queue.specs.declared.reply.Reply.TheVariants.{Buried, Touched, KickedCount, Kicked, Found, Tubes}
-use Rattle.bean_queue.specs.declared.reply.Reply.TheVariants.{Paused, InternalError}
+use Rattle.bean_queue.specs.declared.reply.Reply.TheVariants.{Paused, Data, InternalError}
 use Rattle.bean_codec.specs.Words.{is_word, words}
 use Rattle.chronicle.specs.declared.entry.Entry.{Entry}
 use Rattle.chronicle.specs.declared.entry.Entry.TheVariants as entry
@@ -102,6 +103,10 @@ act_fits (Do ListTubes) h = tt
 act_fits (Do ListTubeUsed) h = tt
 act_fits (Do ListTubesWatched) h = tt
 act_fits (Do (Pause tube seconds)) h = (h.0, short_long seconds h.1)
+act_fits (Do (ReserveJob id)) h = h
+act_fits (Do (StatsJob id)) h = h
+act_fits (Do (StatsTube tube)) h = h
+act_fits (Do Stats) h = tt
 
 reply_fits : (r : Reply) → IsReplyValue r → IsReplyValue r
 reply_fits (Inserted id) h = h
@@ -120,6 +125,7 @@ reply_fits (KickedCount count) h = h
 reply_fits Kicked h = tt
 reply_fits (Found id b) h = h
 reply_fits (Tubes names) h = h
+reply_fits (Data text) h = h
 reply_fits Paused h = tt
 reply_fits InternalError h = tt
 
@@ -191,6 +197,10 @@ act_some (Do ListTubes) h = (refl, tt)
 act_some (Do ListTubeUsed) h = (refl, tt)
 act_some (Do ListTubesWatched) h = (refl, tt)
 act_some (Do (Pause tube seconds)) h = (refl, (name_some tube h.0, (number_some seconds h.1, tt)))
+act_some (Do (ReserveJob id)) h = (refl, (number_some id h, tt))
+act_some (Do (StatsJob id)) h = (refl, (number_some id h, tt))
+act_some (Do (StatsTube tube)) h = (refl, (name_some tube h, tt))
+act_some (Do Stats) h = (refl, tt)
 
 reply_some : (r : Reply) → IsReplyValue r → AllSome (reply_words r)
 unfolding reply_words
@@ -210,6 +220,7 @@ reply_some (KickedCount count) h = (refl, (number_some count h, tt))
 reply_some Kicked h = (refl, tt)
 reply_some (Found id b) h = (refl, (number_some id h.0, (body_some b, tt)))
 reply_some (Tubes names) h = (refl, names_some names h)
+reply_some (Data text) h = (refl, (body_some text, tt))
 reply_some Paused h = (refl, tt)
 reply_some InternalError h = (refl, tt)
 

@@ -17,15 +17,17 @@ use Rattle.bean_queue.specs.declared.op.Op.{Op}
 use Rattle.bean_queue.specs.declared.op.Op.TheVariants.{Put, Use, Watch, Ignore, Reserve, Delete, Touch, Release, Bury}
 use Rattle.bean_queue.specs.declared.op.Op.TheVariants.{Kick, KickJob, Peek, PeekReady, PeekDelayed, PeekBuried}
 use Rattle.bean_queue.specs.declared.op.Op.TheVariants.{ListTubes, ListTubeUsed, ListTubesWatched, Pause}
+use Rattle.bean_queue.specs.declared.op.Op.TheVariants.{ReserveJob, StatsJob, StatsTube, Stats}
 use Rattle.bean_queue.specs.declared.reply.Reply.{Reply}
 use Rattle.bean_queue.specs.declared.reply.Reply.TheVariants.{Inserted, Using, Watching, NotIgnored, Reserved}
 use Rattle.bean_queue.specs.declared.reply.Reply.TheVariants.{DeadlineSoon, TimedOut, Deleted, NotFound, Released}
 use Rattle.bean_queue.specs.declared.reply.Reply.TheVariants.{Buried, Touched, KickedCount, Kicked, Found, Tubes}
-use Rattle.bean_queue.specs.declared.reply.Reply.TheVariants.{Paused, InternalError}
+use Rattle.bean_queue.specs.declared.reply.Reply.TheVariants.{Paused, Data, InternalError}
 use Rattle.bean_codec.specs.Arguments.{line_of, alone, one_id, one_number, one_name, release_line, bury_line}
 use Rattle.bean_codec.specs.Arguments.{reserve_line, kick_line, delete_line, touch_line, kick_job_line, peek_line}
-use Rattle.bean_codec.specs.Arguments.{use_line, watch_line, ignore_line, pause_line}
-use Rattle.bean_codec.specs.Commands.{command_of, job_command, tube_command, look_command}
+use Rattle.bean_codec.specs.Arguments.{use_line, watch_line, ignore_line, pause_line, reserve_job_line, stats_job_line}
+use Rattle.bean_codec.specs.Arguments.{stats_tube_line}
+use Rattle.bean_codec.specs.Commands.{command_of, plain_command, job_command, tube_command, look_command, stats_command}
 use Rattle.bean_codec.specs.Numbers.{number_below, u32_of, u64_of}
 use Rattle.bean_codec.specs.TubeNames.{name_of, name_rule, word_if, Decided}
 use Rattle.chronicle.specs.Acts.{op_words, act_words}
@@ -101,9 +103,10 @@ body_back (b ∷ more) h =
 -- ---- acts
 
 pub act_back : (a : Act Op) → IsActValue a → act_of (act_words a) ≡ Some a
-unfolding act_of act_words op_words act_with put_of command_of job_command tube_command look_command line_of alone
-    one_id one_number one_name release_line bury_line reserve_line kick_line delete_line touch_line kick_job_line
-    peek_line use_line watch_line ignore_line pause_line
+unfolding act_of act_words op_words act_with put_of command_of plain_command job_command tube_command look_command
+    stats_command line_of alone one_id one_number one_name release_line bury_line reserve_line kick_line delete_line
+    touch_line kick_job_line peek_line use_line watch_line ignore_line pause_line reserve_job_line stats_job_line
+    stats_tube_line
 act_back Close h = refl
 act_back Tick h = refl
 act_back (Do (Put pri delay ttr b)) h = rw (short_back pri h.0, short_back delay h.1, short_back ttr h.2, body_back b h.3) refl
@@ -126,6 +129,10 @@ act_back (Do ListTubes) h = refl
 act_back (Do ListTubeUsed) h = refl
 act_back (Do ListTubesWatched) h = refl
 act_back (Do (Pause tube seconds)) h = rw (short_back seconds h.1, name_back tube h.0) refl
+act_back (Do (ReserveJob id)) h = rw (long_back id h) refl
+act_back (Do (StatsJob id)) h = rw (long_back id h) refl
+act_back (Do (StatsTube tube)) h = rw (name_back tube h) refl
+act_back (Do Stats) h = refl
 
 -- ---- replies
 
@@ -147,5 +154,6 @@ reply_back (KickedCount count) h = rw (long_back count h) refl
 reply_back Kicked h = refl
 reply_back (Found id b) h = rw (long_back id h.0, body_back b h.1) refl
 reply_back (Tubes names) h = rw (names_back [] names h) refl
+reply_back (Data text) h = rw (body_back text h) refl
 reply_back Paused h = refl
 reply_back InternalError h = refl

@@ -18,8 +18,9 @@ use Rattle.object.specs.declared.command.Key.{Key}
 use Rattle.job_store.specs.Names.{IsName}
 use Rattle.bean_queue.specs.declared.op.Op.{Op}
 use Rattle.bean_queue.specs.declared.reply.Reply.{Reply}
-use Rattle.bean_queue.specs.declared.reply.Reply.TheVariants.{Using, Reserved, Found, Tubes}
+use Rattle.bean_queue.specs.declared.reply.Reply.TheVariants.{Using, Reserved, Found, Tubes, Data}
 use Rattle.bean_queue.specs.declared.op.Op.TheVariants as op
+use Rattle.bean_codec.specs.declared.profile.Profile.TheVariants.{Extended}
 use Rattle.bean_codec.specs.declared.command.CommandName.{CommandName}
 use Rattle.bean_codec.specs.declared.command.CommandName.TheVariants as command
 use Rattle.bean_codec.specs.declared.line.Meaning.{Meaning}
@@ -28,7 +29,8 @@ use Rattle.bean_codec.specs.declared.request.Request.TheVariants as request
 use Rattle.bean_codec.specs.declared.request.Request.{Request}
 use Rattle.bean_codec.specs.Arguments.{line_of, alone, one_id, one_number, one_name, put_line, release_line, bury_line}
 use Rattle.bean_codec.specs.Arguments.{reserve_line, kick_line, delete_line, touch_line, kick_job_line, peek_line}
-use Rattle.bean_codec.specs.Arguments.{use_line, watch_line, ignore_line, pause_line}
+use Rattle.bean_codec.specs.Arguments.{use_line, watch_line, ignore_line, pause_line, reserve_job_line, stats_job_line}
+use Rattle.bean_codec.specs.Arguments.{stats_tube_line}
 use Rattle.bean_codec.specs.Commands.{command_of}
 use Rattle.bean_codec.specs.Numbers.{written_number, number_below, u32_of, u64_of}
 use Rattle.bean_codec.specs.TubeNames.{name_of, name_rule, word_if, Decided}
@@ -233,6 +235,7 @@ pause_value _ = tt
 
 line_value : (c : CommandName) (words : List (List ℕ)) → IfSome (line_of c words) Means
 unfolding line_of reserve_line kick_line delete_line touch_line kick_job_line peek_line use_line watch_line ignore_line
+    reserve_job_line stats_job_line stats_tube_line
 line_value command.Put words = put_line_value words
 line_value command.Use words = bind (one_name words) _ IsName Means (tube_value words) (λ n h. h)
 line_value command.Watch words = bind (one_name words) _ IsName Means (tube_value words) (λ n h. h)
@@ -254,6 +257,10 @@ line_value command.ListTubeUsed words = alone_value (request.Do op.ListTubeUsed)
 line_value command.ListTubesWatched words = alone_value (request.Do op.ListTubesWatched) words tt
 line_value command.PauseTube words = pause_value words
 line_value command.Quit words = alone_value request.Quit words tt
+line_value command.ReserveJob words = bind (one_id words) _ IsLong Means (id_value words) (λ n h. h)
+line_value command.StatsJob words = bind (one_id words) _ IsLong Means (id_value words) (λ n h. h)
+line_value command.StatsTube words = bind (one_name words) _ IsName Means (tube_value words) (λ n h. h)
+line_value command.Stats words = alone_value (request.Do op.Stats) words tt
 
 act_in_value : (m : Meaning) → Means m → IfSome (act_in m) IsActValue
 act_in_value (Whole (request.Do op)) h = h
@@ -271,8 +278,8 @@ unfolding act_of
 act_value [] = tt
 act_value (first ∷ words) =
     either (bytes_eq first (codes "tick")) (Some Tick) _ IsActValue tt
-    (either (bytes_eq first (codes "close")) (Some Close) (act_with (command_of first) words) IsActValue tt
-    (with_value (command_of first) words))
+    (either (bytes_eq first (codes "close")) (Some Close) (act_with (command_of Extended first) words) IsActValue tt
+    (with_value (command_of Extended first) words))
 
 -- ---- replies
 
@@ -291,7 +298,8 @@ reply_with_value : (word a : List ℕ) → IfSome (reply_with word a) IsReplyVal
 unfolding reply_with
 reply_with_value word a =
     either (bytes_eq word (codes "USING")) _ _ IsReplyValue (mapped (name_of a) Using IsName IsReplyValue (name_value a) (λ n h. h))
-    (bind (u64_of a) (number_reply word) IsLong IsReplyValue (long_value a) (number_value word))
+    (either (bytes_eq word (codes "DATA")) _ _ IsReplyValue (mapped (body_of a) Data IsBytes IsReplyValue (body_value a) (λ b h. h))
+    (bind (u64_of a) (number_reply word) IsLong IsReplyValue (long_value a) (number_value word)))
 
 job_with_value : (word : List ℕ) (id : ℕ) (body : List ℕ) → IsLong id → IsBytes body → IfSome (job_with word id body) IsReplyValue
 unfolding job_with

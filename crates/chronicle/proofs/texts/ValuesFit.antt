@@ -10,6 +10,7 @@ use Rattle.bean_queue.specs.declared.op.Op.{Op}
 use Rattle.bean_queue.specs.declared.op.Op.TheVariants.{Put, Use, Watch, Ignore, Reserve, Delete, Touch, Release, Bury}
 use Rattle.bean_queue.specs.declared.op.Op.TheVariants.{Kick, KickJob, Peek, PeekReady, PeekDelayed, PeekBuried}
 use Rattle.bean_queue.specs.declared.op.Op.TheVariants.{ListTubes, ListTubeUsed, ListTubesWatched, Pause}
+use Rattle.bean_queue.specs.declared.op.Op.TheVariants.{ReserveJob, StatsJob, StatsTube, Stats}
 use Rattle.bean_queue.specs.declared.reply.Reply.{Reply}
 use Rattle.recorder.specs.Chronicles.{Chronicle}
 use Rattle.chronicle.specs.Dump.{dump_text}
@@ -44,6 +45,10 @@ op_fits ListTubes is = tt
 op_fits ListTubeUsed is = tt
 op_fits ListTubesWatched is = tt
 op_fits (Pause tube seconds) is = (is.0, short seconds is.1)
+op_fits (ReserveJob id) is = is
+op_fits (StatsJob id) is = is
+op_fits (StatsTube tube) is = is
+op_fits Stats is = tt
 
 act_fits : (act : Act Op) → IsActValue act → FitsAct act
 act_fits (Do op) is = op_fits op is
