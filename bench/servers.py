@@ -160,9 +160,9 @@ def wait_until_it_listens(port):
 
 
 @contextlib.contextmanager
-def beanpax(nodes, workers, most_files=None):
+def beanpax(nodes, workers, most_files=None, more=()):
     port = free_port()
-    words = [BEANPAX, "serve", "--port", port, "--nodes", nodes, "--workers", workers]
+    words = [BEANPAX, "serve", "--port", port, "--nodes", nodes, "--workers", workers, *more]
     with running([str(word) for word in words], port, is_told=True, most_files=most_files) as server:
         yield server
 
