@@ -4,6 +4,7 @@ use Rattle.std.specs.Bool.{⊤}
 use Rattle.std.specs.Io.KnownBytes.{Appends, IsAtEnd}
 use Rattle.session.specs.Streams.{AppendsBeginning}
 use Rattle.session.specs.declared.streams.ByteOut.{Ghosts as ByteOut}
+use Rattle.bean_codec.specs.declared.profile.Profile.{Profile}
 use Rattle.beanpax.specs.Runs.{TellsAll}
 use Rattle.session.specs.declared.faults.End.{End}
 use Rattle.session.specs.declared.faults.End.TheVariants.{Eof}
@@ -31,14 +32,14 @@ IsCaused words FileFailed input_failed output_failed = AskForDump words ⊎ AskF
 IsCaused words ThreadFailed input_failed output_failed = AskFor (codes "serve") words
 IsCaused words (LogDamaged line) input_failed output_failed = AskForLog words
 
--- a client was answered to the end of its session
-abbrev pub AnswersToSomeEnd : Option (List ℕ) → Option (List ℕ) → Option (List ℕ) → Option (List ℕ) → Type 0
-AnswersToSomeEnd left rest held holds = (end : End) × TellsAll left rest held holds end
+-- a client was answered in this profile to the end of its session
+abbrev pub AnswersToSomeEnd : Profile → Option (List ℕ) → Option (List ℕ) → Option (List ℕ) → Option (List ℕ) → Type 0
+AnswersToSomeEnd profile left rest held holds = (end : End) × TellsAll profile left rest held holds end
 
 -- the same, and where the client didn't quit, the reader has come to its end
-abbrev pub IsWholeRun : Option (List ℕ) → Option (List ℕ) → Bool → Option (List ℕ) → Option (List ℕ) → Type 0
-IsWholeRun left rest has_ended held holds =
-    (end : End) × TellsAll left rest held holds end × (end ≡ Eof → IsAtEnd rest × (has_ended ≡ true))
+abbrev pub IsWholeRun : Profile → Option (List ℕ) → Option (List ℕ) → Bool → Option (List ℕ) → Option (List ℕ) → Type 0
+IsWholeRun profile left rest has_ended held holds =
+    (end : End) × TellsAll profile left rest held holds end × (end ≡ Eof → IsAtEnd rest × (has_ended ≡ true))
 
 -- why a run ended before: no memory, a service that stopped, or a stream that failed
 abbrev pub IsRunFault : Bool → Bool → ProgramFault → Type 0

@@ -1,4 +1,5 @@
 ghost use Rattle.std.specs.Prelude.{◌≡◌, ◌≤◌, ◌⊎◌, ℕ, List, true, false, codes, map, string_bytes, Ok, IfOk, IfErr, OnOk, OnErr};
+ghost use Rattle.bean_codec.specs.declared.profile.Profile.TheVariants.{Plain};
 ghost use Rattle.beanpax.specs.declared.faults.ProgramFault.{ProgramFault};
 ghost use Rattle.beanpax.specs.declared.faults.ProgramFault.TheVariants.{WriteFailed};
 ghost use Rattle.std.specs.Io.KnownBytes.{Appends};
@@ -58,7 +59,7 @@ pub fn program<H: Host, R: ByteIn, W: ByteOut, E: ByteOut>(
     ensures known { result ≤ DUMP_REFUSED }
     ensures right { result ≡ DONE
         → (AskForRun (map string_bytes words.now)
-        × AnswersToSomeEnd (R.remaining input.old) (R.remaining input.new)
+        × AnswersToSomeEnd Plain (R.remaining input.old) (R.remaining input.new)
         (W.contents output.old) (W.contents output.new))
         ⊎ ((AskForHelp (map string_bytes words.now)
         × TellsSome (W.contents output.old) (W.contents output.new) × (input.new ≡ input.old))
@@ -93,10 +94,10 @@ pub fn program<H: Host, R: ByteIn, W: ByteOut, E: ByteOut>(
     ensures untouched { result ≡ WRONG_WORDS → (input.new ≡ input.old) × (output.new ≡ output.old) }
 
     ensures whole { result ≡ DONE → AskForRun (map string_bytes words.now)
-        → IsWholeRun (R.remaining input.old) (R.remaining input.new) (R.has_ended input.new)
+        → IsWholeRun Plain (R.remaining input.old) (R.remaining input.new) (R.has_ended input.new)
         (W.contents output.old) (W.contents output.new) }
     ensures breaks_off { result ≡ FAULT → AskForRun (map string_bytes words.now)
-        → TellsBeginning (R.remaining input.old) (R.remaining input.new)
+        → TellsBeginning Plain (R.remaining input.old) (R.remaining input.new)
         (W.contents output.old) (W.contents output.new) }
     ensures unread { (AskForRun (map string_bytes words.now) → ⊥) → input.new ≡ input.old }
     ensures begins { (AskForRun (map string_bytes words.now) → ⊥)
@@ -138,19 +139,19 @@ pub fn program<H: Host, R: ByteIn, W: ByteOut, E: ByteOut>(
     }
 }
 
-// Answers a client of these nodes, and leaves out how its session ended.
+// Answers a client of these nodes, in the plain profile, and leaves out how its session ended.
 fn run<R: ByteIn, W: ByteOut>(
     alloc: Global,
     options: &RunOptions,
     input: &mut R,
     output: &mut W,
 ) -> Result<(), ProgramFault>
-    ensures ok { OnOk result (AnswersToSomeEnd (R.remaining input.old) (R.remaining input.new)
+    ensures ok { OnOk result (AnswersToSomeEnd Plain (R.remaining input.old) (R.remaining input.new)
         (W.contents output.old) (W.contents output.new)) }
-    ensures whole { OnOk result (IsWholeRun (R.remaining input.old) (R.remaining input.new)
+    ensures whole { OnOk result (IsWholeRun Plain (R.remaining input.old) (R.remaining input.new)
         (R.has_ended input.new) (W.contents output.old) (W.contents output.new)) }
     ensures err { IfErr result (IsRunFault (R.has_failed input.new) (W.has_failed output.new)) }
-    ensures breaks_off { OnErr result (TellsBeginning (R.remaining input.old) (R.remaining input.new)
+    ensures breaks_off { OnErr result (TellsBeginning Plain (R.remaining input.old) (R.remaining input.new)
         (W.contents output.old) (W.contents output.new)) }
 {
     let weights = options.members.weights();

@@ -7,6 +7,7 @@ ghost use Rattle.chronicle.specs.Checking.{IsFaultless};
 ghost use Rattle.bean_queue.specs.Effects.{queue_rules};
 ghost use Rattle.hall.specs.Explained.{IsExplained};
 ghost use Rattle.hall.specs.Halls.{HallState, chronicle_of};
+ghost use Rattle.bean_codec.specs.declared.profile.Profile.{Profile};
 ghost use Rattle.session.specs.declared.faults.End.{End};
 ghost use Rattle.session.specs.Items.{Response};
 ghost use Rattle.beanpax.specs.Sessions.{is_refused};
@@ -18,11 +19,11 @@ use bean_codec::one_item;
 use chronicle::{legal_is_faultless, one_bad_line, one_dump, one_fault};
 use log_file::kept_is_read;
 
-/// Every input has one transcript at most, but for which operations were refused for want of memory: what a client is
+/// In each profile an input has one transcript at most, but for which operations were refused for want of memory: what a client is
 /// told is a function of the bytes that it sent, and of that.
 pub fn one_output()
-    ensures unique { (input a b : List ℕ) (d e : End) (xs ys : List Response)
-        → IsToldWith xs input a d → IsToldWith ys input b e
+    ensures unique { (profile : Profile) (input a b : List ℕ) (d e : End) (xs ys : List Response)
+        → IsToldWith profile xs input a d → IsToldWith profile ys input b e
         → map is_refused xs ≡ map is_refused ys → (a ≡ b) × (d ≡ e) }
 {
     one_item();

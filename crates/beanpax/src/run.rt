@@ -1,5 +1,6 @@
 ghost use Rattle.std.specs.Prelude.{◌≤◌};
 ghost use Rattle.ballot.specs.Members.{IsMembers};
+ghost use Rattle.bean_codec.specs.declared.profile.Profile.TheVariants.{Plain};
 ghost use Rattle.session.specs.StreamStates.{streams_of};
 ghost use Rattle.beanpax.specs.Runs.{RunsOver};
 
@@ -19,7 +20,7 @@ pub fn run_bytes<R: ByteIn, W: ByteOut>(
 ) -> Result<End, SessionFault>
     requires some { 1 ≤ nodes }
     requires few { nodes ≤ 7 }
-    ensures told { RunsOver (streams_of R.ByteIn W.ByteOut reader.old writer.old)
+    ensures told { RunsOver Plain (streams_of R.ByteIn W.ByteOut reader.old writer.old)
         (streams_of R.ByteIn W.ByteOut reader.new writer.new) result }
 {
     let Some(members) = Members::new(nodes) else {
@@ -28,8 +29,8 @@ pub fn run_bytes<R: ByteIn, W: ByteOut>(
     run_bytes_weighted(alloc, members.weights(), seed, reader, writer)
 }
 
-/// Answers one client on a hall of simulated nodes of these weights: 1 to 7 of them, each 1 to 1000. Each reply is written
-/// out before the next request is obeyed.
+/// Answers one client, in the plain profile, on a hall of simulated nodes of these weights: 1 to 7 of them, each 1 to 1000.
+/// Each reply is written out before the next request is obeyed.
 ///
 /// The seed draws what happens between the nodes: which letters are lost, repeated and reordered, and which nodes restart.
 /// What is written doesn't depend on it, nor on how many nodes there are or what they weigh; but where 100,000 calls of the
@@ -43,7 +44,7 @@ pub fn run_bytes_weighted<R: ByteIn, W: ByteOut>(
     writer: &mut W,
 ) -> Result<End, SessionFault>
     requires { IsMembers weights.now }
-    ensures told { RunsOver (streams_of R.ByteIn W.ByteOut reader.old writer.old)
+    ensures told { RunsOver Plain (streams_of R.ByteIn W.ByteOut reader.old writer.old)
         (streams_of R.ByteIn W.ByteOut reader.new writer.new) result }
 {
     front_item();

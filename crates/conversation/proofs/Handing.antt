@@ -6,6 +6,7 @@ use Rattle.std.proofs.lemmas.List.{append-nil, append_assoc}
 use Rattle.bean_queue.specs.declared.op.Op.{Op}
 use Rattle.bean_queue.specs.declared.reply.Reply.{Reply}
 use Rattle.object.specs.declared.command.Act.TheVariants as act
+use Rattle.bean_codec.specs.declared.profile.Profile.{Profile}
 use Rattle.bean_codec.specs.declared.request.Request.TheVariants.{Do}
 use Rattle.bean_codec.specs.Replies.{reply_text}
 use Rattle.session.specs.Items.{refused_text}
@@ -29,9 +30,9 @@ notes_refused keeping to_note noted old new (Err error) fails asked is =
     record { tells = λ _. tt; err = (noted, is); idle = λ e. absurd (cc (asked, e)) }
 
 -- The ticket, once a reply was noted in it or none, is of acts of which the last is the open operation.
-module _ {T : Type 0} (keeping : Keeping T) (laws : KeepsActs keeping) (t : T) (fed told : List ℕ) (P : Op → List ℕ → Type 0) where
+module _ {T : Type 0} (keeping : Keeping T) (laws : KeepsActs keeping) (t : T) (profile : Profile) (fed told : List ℕ) (P : Op → List ℕ → Type 0) where
   abbrev IsNoted : T → Type 0
-  IsNoted t = (acts : List (NotedAct Op Reply)) × keeping.IsOf t acts × Pending fed acts told P
+  IsNoted t = (acts : List (NotedAct Op Reply)) × keeping.IsOf t acts × Pending profile fed acts told P
 
   is_noted : (noted : Option Reply) → IsNoted t → IsNoted (keeping.with_noted t noted)
   is_noted None n = (n.0, subst (λ (t : T). keeping.IsOf t n.0) (sym (laws.leaves t)) n.1, n.2)
@@ -57,14 +58,14 @@ module _ {T : Type 0} (keeping : Keeping T) (laws : KeepsActs keeping) (fed give
   unfolding Converses
   asks_so submits before after op acts k (inl asked) a =
       same (asking keeping op old) asked.1
-      (acts ++ unanswered (act.Do op) ∷ [], laws.adds old.ticket acts (act.Do op) k, pending_first old.session op a)
+      (acts ++ unanswered (act.Do op) ∷ [], laws.adds old.ticket acts (act.Do op) k, pending_first old.session.profile old.session op a)
   asks_so submits before after op acts k (inr refused) a =
-      let told = along_answering old.session op Refused a in
+      let told = along_answering old.session.profile old.session op Refused a in
       same (answering refused_text old) refused.1 (
         acts,
         k,
-        subst (λ acts. Along fed acts (given ++ (old.session.unsent ++ refused_text)) (StandsBefore old.session)) (append-nil acts)
-            (subst (λ u. Along fed (acts ++ []) u (StandsBefore old.session)) (append_assoc given old.session.unsent refused_text) told),
+        subst (λ acts. Along old.session.profile fed acts (given ++ (old.session.unsent ++ refused_text)) (StandsBefore old.session)) (append-nil acts)
+            (subst (λ u. Along old.session.profile fed (acts ++ []) u (StandsBefore old.session)) (append_assoc given old.session.unsent refused_text) told),
       )
 
   handed_so : {D : Type 0} (submits : Submits D T) (before after : D) (stage : Stage) (result : Result Unit HallError)
@@ -72,7 +73,7 @@ module _ {T : Type 0} (keeping : Keeping T) (laws : KeepsActs keeping) (fed give
       → Was stage acts → Converses keeping fed given old → Converses keeping fed given new
   unfolding Converses
   handed_so submits before after (Found op) (Ok done) is h acts k a c = asks_so submits before after op acts k (h.asks op is) a
-  handed_so submits before after (Found op) (Err error) is h acts k a c = same (giving_up old) (h.gives_up op is).1 (acts, k, along_gone a)
+  handed_so submits before after (Found op) (Err error) is h acts k a c = same (giving_up old) (h.gives_up op is).1 (acts, k, along_gone old.session.profile a)
   handed_so submits before after (Leaving how) (Ok done) is h acts k a c =
       same (closing keeping how old) (h.closes how is).1 (acts ++ noted_close ∷ [], laws.adds old.ticket acts act.Close k, (acts, a, refl))
   handed_so submits before after (Leaving how) (Err error) is h acts k a c = same old (h.owes how is).1 c
@@ -86,15 +87,19 @@ module _ {T : Type 0} (keeping : Keeping T) (laws : KeepsActs keeping) (fed give
   unfolding Converses
   goes_handing_in submits before after result h c = handed_so submits before after old.stage result refl h c.0 c.1 c.2 c
 
+  -- what is left begins with the operation that is asked
+  abbrev IsNext : Op → List ℕ → Type 0
+  IsNext op = ComesTo old.session.profile (Some (Do op)) old.session
+
   -- where it is asked, the last of the acts is the open operation
   abbrev IsOpen : T → Type 0
-  IsOpen t = IsNoted keeping laws old.ticket fed (given ++ old.session.unsent) (λ op. ComesTo (Some (Do op)) old.session) t
+  IsOpen t = IsNoted keeping laws old.ticket old.session.profile fed (given ++ old.session.unsent) IsNext t
 
   -- a reply is noted, or none
   noting_so : (noted : Option Reply) → old.stage ≡ Asked → IsOpen old.ticket → Converses keeping fed given (noting keeping noted old)
   unfolding Converses
   noting_so noted is n =
-      let m = is_noted keeping laws old.ticket fed (given ++ old.session.unsent) (λ op. ComesTo (Some (Do op)) old.session) noted n in
+      let m = is_noted keeping laws old.ticket old.session.profile fed (given ++ old.session.unsent) IsNext noted n in
       (m.0, m.1, subst (λ stage. Stands stage old.session fed m.0 (given ++ old.session.unsent)) (sym is) m.2)
 
   -- and told, where there is one
@@ -104,7 +109,7 @@ module _ {T : Type 0} (keeping : Keeping T) (laws : KeepsActs keeping) (fed give
   tells_so told noted None is tells stage n = same (noting keeping noted old) tells.1 (noting_so noted stage n)
   tells_so told noted (Some reply) is tells stage n =
       let u = old.session.unsent in
-      let m = is_noted keeping laws old.ticket fed (given ++ u) (λ op. ComesTo (Some (Do op)) old.session) noted n in
+      let m = is_noted keeping laws old.ticket old.session.profile fed (given ++ u) IsNext noted n in
       let p = m.2 in
       let of_last = subst (λ acts. keeping.IsOf (keeping.with_noted old.ticket noted) acts) p.handed_in m.1 in
       let last : p.reply ≡ Some reply = sym (laws.tells (keeping.with_noted old.ticket noted) p.before p.op p.reply of_last) ∙ is in
@@ -112,9 +117,10 @@ module _ {T : Type 0} (keeping : Keeping T) (laws : KeepsActs keeping) (fed give
       same (answering (reply_text reply) (noting keeping noted old)) tells.1 (
         m.0,
         m.1,
-        subst (λ acts. Along fed acts (given ++ (u ++ reply_text reply)) (StandsBefore old.session)) (sym handed_in)
-            (subst (λ v. Along fed (p.before ++ noted_op p.op (Some reply) ∷ []) v (StandsBefore old.session)) (append_assoc given u (reply_text reply))
-            (pending_telling p.before p.op reply fed (given ++ u) old.session p.along)),
+        subst (λ acts. Along old.session.profile fed acts (given ++ (u ++ reply_text reply)) (StandsBefore old.session)) (sym handed_in)
+            (subst (λ v. Along old.session.profile fed (p.before ++ noted_op p.op (Some reply) ∷ []) v (StandsBefore old.session))
+            (append_assoc given u (reply_text reply))
+            (pending_telling old.session.profile p.before p.op reply fed (given ++ u) old.session p.along)),
       )
 
   noted_so : (to_note : Option Reply) (stage : Stage) (result : Result Bool AllocError) → old.stage ≡ stage

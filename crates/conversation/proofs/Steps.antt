@@ -3,6 +3,7 @@ use Rattle.std.proofs.Common.{◌≡◌, ℕ, Bool, true, false, ◌&&◌, List,
 use Rattle.std.proofs.lemmas.List.{append_assoc, take-append-drop}
 use Rattle.bean_queue.specs.declared.op.Op.{Op}
 use Rattle.bean_queue.specs.declared.reply.Reply.{Reply}
+use Rattle.bean_codec.specs.declared.profile.Profile.{Profile}
 use Rattle.bean_codec.specs.declared.request.Request.{Request}
 use Rattle.bean_codec.specs.declared.request.Request.TheVariants.{Do, Quit}
 use Rattle.session.specs.Held.{Held, StandsBefore, ComesTo, Finds, nothing_held}
@@ -32,22 +33,22 @@ reading_if (Leaving how) b e = absurd (cc)
 reading_if (Left how) b e = absurd (cc)
 
 -- at first
-pub begins : {T : Type 0} (keeping : Keeping T) (talk : ConversationState T) → talk.session ≡ nothing_held → talk.stage ≡ Looking
-    → keeping.IsOf talk.ticket [] → Converses keeping [] [] talk
+pub begins : {T : Type 0} (profile : Profile) (keeping : Keeping T) (talk : ConversationState T)
+    → talk.session ≡ nothing_held profile → talk.stage ≡ Looking → keeping.IsOf talk.ticket [] → Converses keeping [] [] talk
 unfolding Converses
-begins keeping talk nothing there is = (
+begins profile keeping talk nothing there is = (
   [],
   is,
   subst (λ (stage : Stage). Stands stage talk.session [] [] talk.session.unsent) (sym there)
-      (subst (λ (s : Held). Along [] [] s.unsent (StandsBefore s)) (sym nothing) along_at_first),
+      (subst (λ (s : Held). Along s.profile [] [] s.unsent (StandsBefore s)) (sym nothing) (along_at_first profile)),
 )
 
 -- what was found
 found_so : (s : Held) (found : Option Request) (has_ended : Bool) (fed told : List ℕ) (acts : List (NotedAct Op Reply))
-    → Along fed acts told (ComesTo found s) → Stands (stage_after found has_ended) s fed acts told
+    → Along s.profile fed acts told (ComesTo s.profile found s) → Stands (stage_after found has_ended) s fed acts told
 found_so s (Some (Do op)) has_ended fed told acts a = a
-found_so s (Some Quit) has_ended fed told acts a = whole_quit s a
-found_so s None true fed told acts a = whole_eof s a
+found_so s (Some Quit) has_ended fed told acts a = whole_quit s.profile s a
+found_so s None true fed told acts a = whole_eof s.profile s a
 found_so s None false fed told acts a = a
 
 -- was is what old is seen as
@@ -69,45 +70,50 @@ module _ {T : Type 0} (keeping : Keeping T) {was old : ConversationState T} (is 
   stands_by acts s now fed stage there c = subst (λ stage. Stands stage s fed acts (given ++ s.unsent)) (sym there) c
 
   -- a piece is fed, with which the session stands there
-  pub goes_feeding : (s : Held) (stage : Stage) (piece : List ℕ) → wants_piece old ≡ true → s.unsent ≡ was.session.unsent
+  pub goes_feeding : (s : Held) (stage : Stage) (piece : List ℕ) → wants_piece old ≡ true → s.profile ≡ was.session.profile
+      → s.unsent ≡ was.session.unsent
       → ((text : List ℕ) → StandsBefore was.session text → StandsBefore s (text ++ piece)) → stage ≡ Looking
       → Converses keeping fed given old → Converses keeping (fed ++ piece) given (record was { session = s; stage = stage })
   unfolding Converses
-  goes_feeding s stage piece wanted same f there c =
+  goes_feeding s stage piece wanted speaks same f there c =
       let a = stands_at c.0 Reading (reading_if old.stage _ wanted) c.2 in (
         c.0,
         still_of c.0 c.1,
         stands_by c.0 s stage (fed ++ piece) Looking there
-            (subst (λ u. Along (fed ++ piece) c.0 (given ++ u) (StandsBefore s)) (sym same)
-            (along_feeding piece (StandsBefore s) (λ text l. f text l.0) a)),
+            (subst (λ p. Along p (fed ++ piece) c.0 (given ++ s.unsent) (StandsBefore s)) (sym speaks)
+            (subst (λ u. Along was.session.profile (fed ++ piece) c.0 (given ++ u) (StandsBefore s)) (sym same)
+            (along_feeding was.session.profile piece (StandsBefore s) (λ text l. f text l.0) a))),
       )
 
   -- or is lost, and the client given up
-  pub goes_losing : (s : Held) (stage : Stage) (piece : List ℕ) → wants_piece old ≡ true → s.unsent ≡ was.session.unsent
+  pub goes_losing : (s : Held) (stage : Stage) (piece : List ℕ) → wants_piece old ≡ true → s.profile ≡ was.session.profile
+      → s.unsent ≡ was.session.unsent
       → stage ≡ Leaving None
       → Converses keeping fed given old → Converses keeping (fed ++ piece) given (record was { session = s; stage = stage })
   unfolding Converses
-  goes_losing s stage piece wanted same there c =
+  goes_losing s stage piece wanted speaks same there c =
       let a = stands_at c.0 Reading (reading_if old.stage _ wanted) c.2 in (
         c.0,
         still_of c.0 c.1,
         stands_by c.0 s stage (fed ++ piece) (Leaving None) there
-            (along_gone (subst (λ u. Along (fed ++ piece) c.0 (given ++ u) (λ rest. Unit {0})) (sym same)
-            (along_feeding piece (λ rest. Unit {0}) (λ text l. tt) a))),
+            (along_gone s.profile (subst (λ p. Along p (fed ++ piece) c.0 (given ++ s.unsent) (λ rest. Unit {0})) (sym speaks)
+            (subst (λ u. Along was.session.profile (fed ++ piece) c.0 (given ++ u) (λ rest. Unit {0})) (sym same)
+            (along_feeding was.session.profile piece (λ rest. Unit {0}) (λ text l. tt) a)))),
       )
 
   -- the next request is looked for
   pub goes_looking : (s : Held) (found : Option Request) (stage : Stage) → may_look old ≡ true
-      → ((text : List ℕ) → StandsBefore was.session text → Finds was.session s text found)
+      → s.profile ≡ was.session.profile → ((text : List ℕ) → StandsBefore was.session text → Finds was.session.profile was.session s text found)
       → stage ≡ stage_after found was.has_ended
       → Converses keeping fed given old → Converses keeping fed given (record was { session = s; stage = stage })
   unfolding Converses
-  goes_looking s found stage looked finds there c =
-      let a = stands_at c.0 Looking (looking_if old.stage _ looked) c.2 in (
+  goes_looking s found stage looked speaks finds there c =
+      let a = subst (λ p. Along p fed c.0 (given ++ was.session.unsent) (StandsBefore was.session)) (sym speaks)
+      (stands_at c.0 Looking (looking_if old.stage _ looked) c.2) in (
         c.0,
         still_of c.0 c.1,
         stands_by c.0 s stage fed (stage_after found was.has_ended) there
-            (found_so s found was.has_ended fed (given ++ s.unsent) c.0 (along_finding given was.session s found finds a)),
+            (found_so s found was.has_ended fed (given ++ s.unsent) c.0 (along_finding s.profile given was.session s found (sym speaks) finds a)),
       )
 
 -- bytes are sent
@@ -140,7 +146,7 @@ goes_sending {T = T} keeping {was = was} {old = old} is fed given s n sent c =
 ended_so : (stage : Stage) (s : Held) (fed told : List ℕ) (acts : List (NotedAct Op Reply))
     → Stands stage s fed acts told → Stands (stage_at_end stage) s fed acts told
 ended_so Looking s fed told acts a = a
-ended_so Reading s fed told acts a = whole_eof s a
+ended_so Reading s fed told acts a = whole_eof s.profile s a
 ended_so (Found op) s fed told acts a = a
 ended_so Asked s fed told acts a = a
 ended_so (Leaving how) s fed told acts a = a
@@ -161,10 +167,10 @@ goes_ending {T = T} keeping {was = was} is fed given stage there c = (
 -- the client goes
 gone_so : (stage : Stage) (s : Held) (fed told : List ℕ) (acts : List (NotedAct Op Reply))
     → Stands stage s fed acts told → Stands (stage_once_gone stage) s fed acts told
-gone_so Looking s fed told acts a = along_gone a
-gone_so Reading s fed told acts a = along_gone a
-gone_so (Found op) s fed told acts a = along_gone a
-gone_so Asked s fed told acts p = pending_gone s p
+gone_so Looking s fed told acts a = along_gone s.profile a
+gone_so Reading s fed told acts a = along_gone s.profile a
+gone_so (Found op) s fed told acts a = along_gone s.profile a
+gone_so Asked s fed told acts p = pending_gone s.profile s p
 gone_so (Leaving how) s fed told acts a = a
 gone_so (Left how) s fed told acts a = a
 

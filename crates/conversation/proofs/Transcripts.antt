@@ -14,7 +14,7 @@ use Rattle.conversation.proofs.Acts.{replies-acts_of, replies-closed}
 
 pub whole_transcript : {T : Type 0} (keeping : Keeping T) (fed given : List ℕ) (talk : ConversationState T) (end : End)
     → Converses keeping fed given talk → talk.stage ≡ Left (Some end) → talk.session.unsent ≡ []
-    → (answers : List Response) × IsTranscript fed answers given end
+    → (answers : List Response) × IsTranscript talk.session.profile fed answers given end
     × ((acts : List (NotedAct Op Reply)) × keeping.IsOf talk.ticket acts × (noted_replies acts ≡ replies_among answers))
 unfolding Converses
 whole_transcript keeping fed given talk end c is none =

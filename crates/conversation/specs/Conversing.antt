@@ -3,6 +3,7 @@ use Rattle.std.specs.Prelude.{◌≡◌, ◌⊎◌, ℕ, List, [], ◌∷◌, �
 use Rattle.std.specs.List.{filter_map}
 use Rattle.bean_queue.specs.declared.op.Op.{Op}
 use Rattle.bean_queue.specs.declared.reply.Reply.{Reply}
+use Rattle.bean_codec.specs.declared.profile.Profile.{Profile}
 use Rattle.bean_codec.specs.declared.request.Request.{Request}
 use Rattle.bean_codec.specs.Grammar.{Item, Spells}
 use Rattle.session.specs.declared.faults.End.{End}
@@ -28,48 +29,48 @@ pub record HasAnswered (items : List Item) (answers : List Response) (acts : Lis
   pub noted : acts ≡ acts_of (operations items) answers
   pub text : told ≡ told_text items answers
 
--- All items of what was fed are answered, up to this end.
-pub record ToldWhole (fed : List ℕ) (acts : List (NotedAct Op Reply)) (told : List ℕ) (end : End) : Type 0 where
+-- In this profile all items of what was fed are answered, up to this end.
+pub record ToldWhole (profile : Profile) (fed : List ℕ) (acts : List (NotedAct Op Reply)) (told : List ℕ) (end : End) : Type 0 where
   pub items : List Item
   pub answers : List Response
-  pub reads : Reads fed items end
+  pub reads : Reads profile fed items end
   pub answered : HasAnswered items answers acts told
 
--- Some first items of what was fed are answered, and what is left of it is so.
-pub record Along (fed : List ℕ) (acts : List (NotedAct Op Reply)) (told : List ℕ) (IsLeft : List ℕ → Type 0) : Type 0 where
+-- In this profile some first items of what was fed are answered, and what is left of it is so.
+pub record Along (profile : Profile) (fed : List ℕ) (acts : List (NotedAct Op Reply)) (told : List ℕ) (IsLeft : List ℕ → Type 0) : Type 0 where
   pub items : List Item
   pub answers : List Response
   pub rest : List ℕ
-  pub reads : ReadsFirst fed items rest
+  pub reads : ReadsFirst profile fed items rest
   pub answered : HasAnswered items answers acts told
   pub left : IsLeft rest
 
--- All but the last act are of some first items, which are answered; that one is the next operation, and its answer isn't told.
-pub record Pending (fed : List ℕ) (acts : List (NotedAct Op Reply)) (told : List ℕ) (IsLeft : Op → List ℕ → Type 0) : Type 0 where
+-- In this profile all but the last act are of some first items, which are answered; that one is the next operation, and its answer isn't told.
+pub record Pending (profile : Profile) (fed : List ℕ) (acts : List (NotedAct Op Reply)) (told : List ℕ) (IsLeft : Op → List ℕ → Type 0) : Type 0 where
   pub before : List (NotedAct Op Reply)
   pub op : Op
   pub reply : Option Reply
   pub handed_in : acts ≡ before ++ noted_op op reply ∷ []
-  pub along : Along fed before told (IsLeft op)
+  pub along : Along profile fed before told (IsLeft op)
 
--- the text begins with this operation
-abbrev pub BeginsWithOp : Op → List ℕ → Type 0
-BeginsWithOp op text = (front rest : List ℕ) × (text ≡ front ++ rest) × Spells front (Ok (Request.Do op))
+-- in this profile the text begins with this operation
+abbrev pub BeginsWithOp : Profile → Op → List ℕ → Type 0
+BeginsWithOp profile op text = (front rest : List ℕ) × (text ≡ front ++ rest) × Spells profile front (Ok (Request.Do op))
 
 -- the client left so: at this end; or it went away (None), and at most one operation was handed in beyond what is told
-abbrev pub EndsSo : Option End → List ℕ → List (NotedAct Op Reply) → List ℕ → Type 0
-EndsSo (Some end) fed acts told = ToldWhole fed acts told end
-EndsSo None fed acts told = Along fed acts told (λ rest. Unit {0}) ⊎ Pending fed acts told BeginsWithOp
+abbrev pub EndsSo : Profile → Option End → List ℕ → List (NotedAct Op Reply) → List ℕ → Type 0
+EndsSo profile (Some end) fed acts told = ToldWhole profile fed acts told end
+EndsSo profile None fed acts told = Along profile fed acts told (λ rest. Unit {0}) ⊎ Pending profile fed acts told (BeginsWithOp profile)
 
--- by where it stands: what its session holds, what was fed, the acts of its ticket, and what was told or is yet to be
+-- by where it stands, in the profile of its session: what that holds, what was fed, the acts of its ticket, and what was told or is yet to be
 abbrev pub Stands : Stage → Held → List ℕ → List (NotedAct Op Reply) → List ℕ → Type 0
-Stands Looking session fed acts told = Along fed acts told (StandsBefore session)
-Stands Reading session fed acts told = Along fed acts told (ComesTo None session)
-Stands (Found op) session fed acts told = Along fed acts told (ComesTo (Some (Request.Do op)) session)
-Stands Asked session fed acts told = Pending fed acts told (λ op. ComesTo (Some (Request.Do op)) session)
-Stands (Leaving how) session fed acts told = EndsSo how fed acts told
+Stands Looking session fed acts told = Along session.profile fed acts told (StandsBefore session)
+Stands Reading session fed acts told = Along session.profile fed acts told (ComesTo session.profile None session)
+Stands (Found op) session fed acts told = Along session.profile fed acts told (ComesTo session.profile (Some (Request.Do op)) session)
+Stands Asked session fed acts told = Pending session.profile fed acts told (λ op. ComesTo session.profile (Some (Request.Do op)) session)
+Stands (Leaving how) session fed acts told = EndsSo session.profile how fed acts told
 Stands (Left how) session fed acts told =
-    (before : List (NotedAct Op Reply)) × EndsSo how fed before told × (acts ≡ before ++ noted_close ∷ [])
+    (before : List (NotedAct Op Reply)) × EndsSo session.profile how fed before told × (acts ≡ before ++ noted_close ∷ [])
 
 -- these acts were handed in, this was fed and that was handed out so far: with what is yet to be handed out, it is what is told where
 -- the conversation stands

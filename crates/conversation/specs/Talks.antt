@@ -2,6 +2,7 @@
 use Rattle.std.specs.Prelude.{◌≡◌, ◌≤◌, ◌+◌, ℕ, Bool, true, false, ◌&&◌, nat_le, length, drop, Option, None, Some, Result, Ok, OnOk, OnErr}
 use Rattle.std.specs.declared.alloc.AllocError.{AllocError}
 use Rattle.bean_queue.specs.declared.op.Op.{Op}
+use Rattle.bean_codec.specs.declared.profile.Profile.{Profile}
 use Rattle.bean_codec.specs.declared.request.Request.{Request}
 use Rattle.bean_codec.specs.declared.request.Request.TheVariants.{Do, Quit}
 use Rattle.bean_codec.specs.Reads.{longest_unfinished}
@@ -19,8 +20,8 @@ pub record ConversationState (T : Type 0) : Type 0 where
   pub has_ended : Bool
 
 -- at first nothing was fed
-abbrev pub first_talk : {T : Type 0} → T → ConversationState T
-first_talk ticket = record { session = nothing_held; ticket = ticket; stage = Looking; has_ended = false }
+abbrev pub first_talk : {T : Type 0} → Profile → T → ConversationState T
+first_talk profile ticket = record { session = nothing_held profile; ticket = ticket; stage = Looking; has_ended = false }
 
 -- while more text than this waits to be written, no request is looked for and no piece is wanted
 abbrev pub longest_unsent : ℕ
@@ -95,6 +96,7 @@ pub record Looks {T : Type 0} (old new : ConversationState T) (result : Result U
   pub idle : may_look old ≡ false → (result ≡ Ok tt) × (new ≡ old)
   -- nor where memory is refused
   pub err : OnErr result (new ≡ old)
+  pub profile : new.session.profile ≡ old.session.profile
   pub ticket : new.ticket ≡ old.ticket
   pub ended : new.has_ended ≡ old.has_ended
 

@@ -75,6 +75,7 @@ impl<L: Link, T: SessionTicket> Client<L, T> {
         ensures ended { wants_piece self.old ≡ true → IfOk result (λ n. n ≡ 0 → self.new ≡ ending self.old) }
         ensures later { result ≡ Err Later → self.new ≡ self.old }
         ensures failed { result ≡ Err Failed → self.new.stage ≡ Leaving None }
+        ensures profile { self.new.session.profile ≡ self.old.session.profile }
         ensures ticket { self.new.ticket ≡ self.old.ticket }
     {
         if !self.conversation.wants_piece() {

@@ -9,7 +9,7 @@ ghost use Rattle.conversation.specs.Desks.{AsksOp, HandsIn, Notes, closing};
 use crate::desk::Desk;
 use crate::session_ticket::SessionTicket;
 use crate::stage::Stage;
-use bean_codec::Request;
+use bean_codec::{Profile, Request};
 use bean_queue::Op;
 use hall::HallError;
 use object::Act;
@@ -48,14 +48,23 @@ impl<T: SessionTicket> Model for Conversation<T> {
 }
 
 impl<T: SessionTicket> Conversation<T> {
-    /// The conversation of a session that has handed in nothing.
+    /// The conversation of a session of the plain profile that has handed in nothing.
     pub fn new(alloc: Global, ticket: T) -> Conversation<T>
         requires { T.keeping.IsOf ticket [] }
-        ensures first { result ≡ first_talk ticket }
+        ensures first { result ≡ first_talk Profile.Plain ticket }
+        ensures begins { Converses T.keeping [] [] result }
+    {
+        Conversation::speaking(Profile::Plain, alloc, ticket)
+    }
+
+    /// The conversation of a session of this profile that has handed in nothing.
+    pub fn speaking(profile: Profile, alloc: Global, ticket: T) -> Conversation<T>
+        requires { T.keeping.IsOf ticket [] }
+        ensures first { result ≡ first_talk profile ticket }
         ensures begins { Converses T.keeping [] [] result }
     {
         Conversation {
-            session: Session::new(alloc),
+            session: Session::speaking(profile, alloc),
             ticket,
             stage: Stage::Looking,
             has_ended: false,
@@ -106,6 +115,7 @@ impl<T: SessionTicket> Conversation<T> {
             → Converses T.keeping (fed ++ piece.now) given self.new }
         ensures ok { OnOk result (self.new.stage ≡ Looking) }
         ensures err { OnErr result (self.new.stage ≡ Leaving None) }
+        ensures profile { self.new.session.profile ≡ self.old.session.profile }
         ensures ticket { self.new.ticket ≡ self.old.ticket }
         ensures ended { self.new.has_ended ≡ self.old.has_ended }
     {

@@ -11,11 +11,11 @@ ghost use Rattle.conversation.specs.Conversing.{Converses, noted_replies, replie
 use crate::session_ticket::SessionTicket;
 
 /// A conversation that has left at its client's quit, or at the end of its input, and has sent all, has told the transcript of
-/// all that it was fed. The replies there are those of acts of which its ticket is.
+/// all that it was fed, in the profile of its session. The replies there are those of acts of which its ticket is.
 pub fn whole_transcript<T: SessionTicket>()
     ensures { (fed given : List ℕ) (talk : ConversationState T) (end : End) → Converses T.keeping fed given talk →
         talk.stage ≡ Left (Some end) → talk.session.unsent ≡ [] →
-        (answers : List Response) × IsTranscript fed answers given end
+        (answers : List Response) × IsTranscript talk.session.profile fed answers given end
         × ((acts : List (NotedAct Op Reply)) × T.keeping.IsOf talk.ticket acts
         × (noted_replies acts ≡ replies_among answers)) }
 {}

@@ -7,6 +7,7 @@ use Rattle.object.specs.declared.command.Act.{Act}
 use Rattle.object.specs.declared.command.Act.TheVariants.{Do, Close}
 use Rattle.hall.specs.declared.ticket.NotedAct.{NotedAct}
 use Rattle.hall.specs.Tickets.{TicketState, with_act, with_last_reply, with_noted}
+use Rattle.bean_codec.specs.declared.profile.Profile.{Profile}
 use Rattle.session.specs.declared.faults.End.{End}
 use Rattle.session.specs.declared.faults.ServiceFault.{ServiceFault}
 use Rattle.session.specs.declared.faults.ServiceFault.TheVariants.{Refused, Stopped}
@@ -69,25 +70,25 @@ closed_balance : (old new : Attendance Op Reply) (P : Attendance Op Reply → Ty
 closed_balance old new P r before c = then_balances old c.0 new (before c.0 c.1) (ends_balance c.0 r new c.2)
 
 -- however the session ended
-pub served_balance : (old new : Attendance Op Reply) (before after : StreamState) (r : Result End SessionFault)
-    → Served Adds TakesLeave old new before after r → Balances old new
-served_balance old new before after (Ok end) served =
+pub served_balance : (profile : Profile) (old new : Attendance Op Reply) (before after : StreamState) (r : Result End SessionFault)
+    → Served profile Adds TakesLeave old new before after r → Balances old new
+served_balance profile old new before after (Ok end) served =
     closed_balance old new _ (Ok tt) (λ last w. asked_balance old last _ w.1 w.3) served.ok.4
-served_balance old new before after (Err ReadFailed) served =
+served_balance profile old new before after (Err ReadFailed) served =
     let o = (served.all_was_told refl).4 in closed_balance old new _ o.0 (λ last w. asked_balance old last _ w.1 w.3) o.1
-served_balance old new before after (Err WriteFailed) served =
+served_balance profile old new before after (Err WriteFailed) served =
     let o = (served.breaks_off refl).4 in closed_balance old new _ o.0 (λ last w. asked_balance old last _ w.2 w.8) o.1
-served_balance old new before after (Err ServiceStopped) served = at (served.stopped refl).4
+served_balance profile old new before after (Err ServiceStopped) served = at (served.stopped refl).4
   where
-    at : {input output : List ℕ} → (ClosedOnce TakesLeave (λ s. StopsAt Adds old s input output) new
-        ⊎ ClosedBadly Adds TakesLeave old new after (Err ServiceFault.Stopped) input output) → Balances old new
+    at : {input output : List ℕ} → (ClosedOnce TakesLeave (λ s. StopsAt profile Adds old s input output) new
+        ⊎ ClosedBadly profile Adds TakesLeave old new after (Err ServiceFault.Stopped) input output) → Balances old new
     at (inl o) = closed_balance old new _ o.0
         (λ last s. then_balances old s.4 last (asked_balance old s.4 _ s.1 s.6)
         (adds_balance s.4 s.2 (Err Stopped) last s.7)) o.1
     at (inr o) = closed_balance old new _ (Err Stopped) (λ last w. asked_balance old last _ w.1 w.3) o.1
-served_balance old new before after (Err OutOfMemory) served = at (served.out_of_memory refl).4
+served_balance profile old new before after (Err OutOfMemory) served = at (served.out_of_memory refl).4
   where
-    at : {input output : List ℕ} → (ClosedOnce TakesLeave (λ s. Partly Adds old s input output) new
-        ⊎ ClosedBadly Adds TakesLeave old new after (Err ServiceFault.Refused) input output) → Balances old new
+    at : {input output : List ℕ} → (ClosedOnce TakesLeave (λ s. Partly profile Adds old s input output) new
+        ⊎ ClosedBadly profile Adds TakesLeave old new after (Err ServiceFault.Refused) input output) → Balances old new
     at (inl o) = closed_balance old new _ o.0 (λ last p. asked_balance old last _ p.2 p.6) o.1
     at (inr o) = absurd o.1.2

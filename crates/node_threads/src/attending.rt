@@ -1,4 +1,5 @@
 ghost use Rattle.std.specs.Prelude.{◌≡◌, ◌+◌, length, Err};
+ghost use Rattle.bean_codec.specs.declared.profile.Profile.TheVariants.{Plain};
 ghost use Rattle.session.specs.declared.faults.SessionFault.{SessionFault};
 ghost use Rattle.session.specs.Serving.{ClosedOnce, Over, Partly, RunsShort, Served};
 ghost use Rattle.session.specs.StreamStates.{LeavesStreams, streams_of};
@@ -35,8 +36,8 @@ pub struct Desk {
 }
 
 /// Serves one client, with the ticket of its session as the service: what the client asks for is handed in, its answer is
-/// noted in the ticket and told to the client. It returns once the client has left, or its session broke off. It takes no
-/// turn of a node, and so asks the faults nothing.
+/// noted in the ticket and told to the client, in the plain profile. It returns once the client has left, or its session
+/// broke off. It takes no turn of a node, and so asks the faults nothing.
 pub fn attend<
     O: Object<Op = Op, Reply = Reply>,
     S: Ledger,
@@ -62,7 +63,7 @@ pub fn attend<
     ensures one_part { result.commands.parts ≡ 1 }
     ensures counted { result.commands.amount + length ticket.acts
         ≡ commands.amount + length result.ticket.acts }
-    ensures told { Served Adds TakesLeave (attendance_of ticket commands.amount)
+    ensures told { Served Plain Adds TakesLeave (attendance_of ticket commands.amount)
         (attendance_of result.ticket result.commands.amount)
         (streams_of I.ByteIn W.ByteOut reader writer.old)
         (streams_of I.ByteIn W.ByteOut result.reader writer.new) result.ended }
@@ -73,13 +74,13 @@ pub fn attend<
         Over (I.remaining reader) (I.remaining result.reader)
         (W.contents writer.old) (W.contents writer.new)
         (λ input output. ClosedOnce TakesLeave
-        (λ s. Partly Adds (attendance_of ticket commands.amount) s input output)
+        (λ s. Partly Plain Adds (attendance_of ticket commands.amount) s input output)
         (attendance_of result.ticket result.commands.amount)) }
     ensures ran_short { result.ended ≡ Err SessionFault.OutOfMemory →
         Over (I.remaining reader) (I.remaining result.reader)
         (W.contents writer.old) (W.contents writer.new)
         (λ input output. ClosedOnce TakesLeave
-        (λ s. RunsShort Adds (attendance_of ticket commands.amount) s input output)
+        (λ s. RunsShort Plain Adds (attendance_of ticket commands.amount) s input output)
         (attendance_of result.ticket result.commands.amount)
         × (I.has_ended result.reader ≡ I.has_ended reader)) }
 {

@@ -1,5 +1,6 @@
 use Rattle.std.proofs.Common.{◌≡◌, inl, inr, ℕ, [], map, string_bytes, refl, subst, arith, Result, Ok, Err, OnOk, IfOk, IfErr}
 use Rattle.std.specs.Io.KnownBytes.{Appends}
+use Rattle.bean_codec.specs.declared.profile.Profile.TheVariants.{Plain}
 use Rattle.beanpax.specs.declared.faults.ProgramFault.{ProgramFault}
 use Rattle.std.proofs.KnownBytes.{Appends-nil, Consumes-nil}
 use Rattle.beanpax.specs.Program.{HasInspected, WritesText}
@@ -18,8 +19,13 @@ returns-in-Ok-Inspect-clause-right g c = λ done.
     inr (inr (inr (c.in-Ok-Inspect.file.now, asked, (r.0, r.2, told), refl)))
 
 pub returns-in-Err-clause-breaks_off : goal.returns-in-Err-clause-breaks_off
-returns-in-Err-clause-breaks_off g c = λ fault run.
-    ([], [], Consumes-nil (g.R.ByteIn.remaining c.args.input.now), Appends-nil (g.W.ByteOut.contents c.args.output.now), nothing_begins c.front_item.ensures [])
+returns-in-Err-clause-breaks_off g c = λ fault run. (
+  [],
+  [],
+  Consumes-nil (g.R.ByteIn.remaining c.args.input.now),
+  Appends-nil (g.W.ByteOut.contents c.args.output.now),
+  nothing_begins Plain (c.front_item.ensures Plain) [],
+)
 
 -- where the status tells of no fault, there was none
 ok_told : (r : Result Unit ProgramFault) (status : ℕ) (P : Type 0) (X : ProgramFault → Type 0) → OnOk r P

@@ -2,6 +2,7 @@ use Rattle.std.proofs.Common.{rules}
 use Rattle.bean_queue.specs.contracts.op.OpPartialEq.TheImpl.{ghosts}
 use Rattle.bean_queue.specs.Queue.{QueueState}
 use Rattle.bean_queue.specs.declared.op.Op.{Op}
+use Rattle.bean_codec.specs.declared.profile.Profile.TheVariants.{Plain}
 use Rattle.session.specs.Serving.{Closes}
 use Rattle.simulated_hall.specs.OneClient.{Talk}
 use Rattle.simulated_hall.specs.Standing.{StandsFor}
@@ -26,7 +27,7 @@ pub returns-in_err-simulation : goal.returns-in_err-simulation
 returns-in_err-simulation g c = record {
   told = record {
     answers = search rules;
-    breaks_off = nothing_served _ _ _ c.front_item.ensures;
+    breaks_off = nothing_served Plain _ _ _ (c.front_item.ensures Plain);
     streams = search rules;
   };
 }
@@ -34,11 +35,11 @@ returns-in_err-simulation g c = record {
 pub returns : goal.returns
 returns g c = record {
   told = record {
-    answers = served Stands Stops Ends c.in_ok-simulation.simulation c.serve.new.service _ _ c.serve.result
+    answers = served Plain Stands Stops Ends c.in_ok-simulation.simulation c.serve.new.service _ _ c.serve.result
         c.in_ok-simulation.ensures.stands c.serve.ensures.told;
     breaks_off =
-        served_partly Stands Stops Ends c.in_ok-simulation.simulation c.serve.new.service _ _ c.serve.result
-        c.front_item.ensures c.in_ok-simulation.ensures.stands c.serve.ensures.told;
+        served_partly Plain Stands Stops Ends c.in_ok-simulation.simulation c.serve.new.service _ _ c.serve.result
+        (c.front_item.ensures Plain) c.in_ok-simulation.ensures.stands c.serve.ensures.told;
     streams = c.serve.ensures.streams;
   };
 }

@@ -1,4 +1,5 @@
 use Rattle.std.proofs.Common.{⊎_elim}
+use Rattle.bean_codec.specs.declared.profile.Profile.TheVariants.{Plain}
 use Rattle.node_threads.specs.Attending.{Adds, TakesLeave, attendance_of}
 use Rattle.node_threads.proofs.Balances.{served_balance}
 use Rattle.node_threads.proofs.Seen.{over, served}
@@ -6,7 +7,7 @@ use Rattle.node_threads.proofs.attending.attend.Goals as goal
 
 pub returns-clause-told : goal.returns-clause-told
 returns-clause-told g c =
-    served (λ s. attendance_of s.ticket s.commands.amount) Adds TakesLeave _ c.serve-ended.new.service _ _ c.serve-ended.result c.serve-ended.ensures.told
+    served Plain (λ s. attendance_of s.ticket s.commands.amount) Adds TakesLeave _ c.serve-ended.new.service _ _ c.serve-ended.result c.serve-ended.ensures.told
 
 -- its end is never refused
 pub returns-clause-out_of_memory : goal.returns-clause-out_of_memory
@@ -19,7 +20,7 @@ returns-clause-ran_short g c = λ e.
 
 pub returns-clause-counted : goal.returns-clause-counted
 returns-clause-counted g c =
-    served_balance (attendance_of c.args.ticket c.args.commands.amount)
+    served_balance Plain (attendance_of c.args.ticket c.args.commands.amount)
     (attendance_of c.serve-ended.new.service.ticket c.serve-ended.new.service.commands.amount) _ _
     c.serve-ended.result
     (returns-clause-told g c)

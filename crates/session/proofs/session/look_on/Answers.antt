@@ -31,7 +31,8 @@ returns-in_err-write_fault-in-Bad-clause-memory c =
     let item : Continues p c.items.next kept (Err c.in-Bad.fault, c.in-Bad.used) =
     subst (TellsItem p c.items.next kept) c.in-Bad.is c.in_ok-read_request_in.ensures.item in
     let looks = subst (λ k. Looks p old (holding p c.items.next k c.items.text.items)) (sym c.split_at.ensures.back) c.items.invariant.looks in
-    if_err c.from_residual-in_err-write_fault-in-Bad.result (fault_takes_room p old c.items.next kept c.items.text.items c.in-Bad.fault c.in-Bad.used item looks)
+    if_err c.from_residual-in_err-write_fault-in-Bad.result
+    (fault_takes_room p old c.items.next kept c.items.text.items c.in-Bad.fault c.in-Bad.used item looks)
 
 pub items-preserved-in-Drop : goal.items-preserved-in-Drop
 items-preserved-in-Drop c =

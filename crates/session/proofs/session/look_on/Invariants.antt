@@ -9,8 +9,9 @@ invariant-items l = record {
   within : l.at ≤ length l.bytes;
   front : take (vec_len l.fn.text) l.text.items ≡ l.fn.text.items;
   longer : vec_len l.fn.text ≤ length l.text.items;
-  keeps : MayKeep l.profile l.next (drop l.at l.bytes);
-  looks : Looks l.profile (holding l.profile l.fn.want (drop l.fn.start l.bytes) l.fn.text.items) (holding l.profile l.next (drop l.at l.bytes) l.text.items);
+  keeps : MayKeep l.fn.profile l.next (drop l.at l.bytes);
+  looks : Looks l.fn.profile (holding l.fn.profile l.fn.want (drop l.fn.start l.bytes) l.fn.text.items)
+      (holding l.fn.profile l.next (drop l.at l.bytes) l.text.items);
 }
 
 abbrev pub decreases-items : goal.decreases-items
