@@ -30,7 +30,7 @@ use Rattle.beanpax.specs.Weights.{AreMembersOf}
 use Rattle.beanpax.specs.declared.words.Action.{Action}
 use Rattle.beanpax.specs.declared.words.Action.TheVariants.{Run, Serve, Inspect, BadWeights, BadHost, Help, Wrong}
 use Rattle.beanpax.specs.Words.{AskFor, AskForRun, IsAskedBy, IsRunOf, IsServeOf, IsServerOf, command_given, errors_in}
-use Rattle.beanpax.specs.Words.{program_command, run_command, serve_command, inspect_command, text_given, word_given}
+use Rattle.beanpax.specs.Words.{profile_by, program_command, run_command, serve_command, inspect_command, text_given, word_given}
 use Rattle.beanpax.specs.declared.words.ServerOptions.{ServerOptions}
 use Rattle.beanpax.proofs.WordsLemmas.{is_simple-program_command}
 
@@ -275,6 +275,7 @@ server_same text other word another texts words options is = record {
   dump = is.dump ∙ words (codes "dump");
   log = is.log ∙ words (codes "log");
   sync = subst (λ t. IsNumberOr 0 0 3600000 t options.sync) (texts (codes "sync")) is.sync;
+  profile = is.profile ∙ ap profile_by (texts (codes "stats"));
 }
 
 -- a parse met one of the commands
@@ -298,6 +299,7 @@ pub run_same : (text other word another : List ℕ → Option (List ℕ)) → ((
 run_same text other word another texts words (Run options) is = (
   members_same _ _ _ _ (Some options.members) (texts (codes "nodes")) (words (codes "weights")) is.0,
   subst (λ t. IsNumberOr 0 0 (2 ^ 64 - 1) t options.seed) (texts (codes "seed")) is.1,
+  is.2 ∙ ap profile_by (texts (codes "stats")),
 )
 run_same text other word another texts words BadWeights is = members_same _ _ _ _ None (texts (codes "nodes")) (words (codes "weights")) is
 run_same text other word another texts words BadHost is = absurd is

@@ -1,14 +1,16 @@
 -- From what clap says of a parse to what the words ask for.
 use Rattle.std.proofs.Common.{◌≡◌, ◌≢◌, ◌∙◌, ◌<◌, ◌≤◌, ◌^◌, ℕ, arith, true, List, Option, None, Some, Result, Ok, Err}
-use Rattle.std.proofs.Common.{unwrap_or, refl, sym, ap, subst, inl, inr}
-use Rattle.std.specs.Str.Parse.{ParsesUnsigned}
+use Rattle.std.proofs.Common.{unwrap_or, Bool, false, if◌then◌else◌, codes, bytes_eq, refl, sym, ap, subst, inl, inr}
+use Rattle.std.specs.Str.Parse.{ParsesBool, ParsesUnsigned}
+use Rattle.std.proofs.lemmas.Slice.Eq.{bytes_eq-Decides}
+use Rattle.bean_codec.specs.declared.profile.Profile.TheVariants.{Plain, Extended}
 use Rattle.clap.specs.Words.{App, HasKind, IsAmong, Kinds, ReadsOne, fault_of, is_simple, is_simple_and_free, kind_of}
 use Rattle.clap.specs.declared.error.Error.{Error}
 use Rattle.clap.specs.declared.error.kind.ErrorKind.{ErrorKind}
 use Rattle.clap.specs.declared.error.kind.ErrorKind.TheVariants.{OutOfMemory}
 use Rattle.clap.proofs.OnLiterals.{clap_on_literals}
 use Rattle.beanpax.specs.Numbers.{IsNumberOr, IsNumberIfGiven, Writes}
-use Rattle.beanpax.specs.Words.{errors_in, program_command, run_command, serve_command, inspect_command}
+use Rattle.beanpax.specs.Words.{errors_in, profile_by, program_command, run_command, serve_command, inspect_command}
 
 pub is_simple-program_command : is_simple program_command ≡ true
 unfolding program_command run_command serve_command inspect_command clap_on_literals
@@ -66,3 +68,28 @@ pub out_of_range : (default least most n : ℕ) (text : Option (List ℕ)) → I
 out_of_range default least most n None is above below out = refl
 out_of_range default least most n (Some t) is above below out = λ m low high e.
     let same = is m low high e in absurd (out (omega (arith, same, low)) (omega (arith, same, high)))
+
+-- what is no `true` says so
+other_text : (t : List ℕ) → t ≢ codes "true" → bytes_eq t (codes "true") ≡ false
+other_text t other = go (bytes_eq t (codes "true")) refl
+  where
+    go : (b : Bool) → bytes_eq t (codes "true") ≡ b → bytes_eq t (codes "true") ≡ false
+    go true is = absurd (other ((bytes_eq-Decides t (codes "true")).0 is))
+    go false is = is
+
+-- the profile is read from the text of a switch
+pub profile_read : (E : Type 0) (text : Option (List ℕ)) (read : Option Bool) → (text ≡ None → read ≡ None)
+    → ((t : List ℕ) → text ≡ Some t → ReadsOne (ParsesBool {E = E}) t read)
+    → profile_by text ≡ (if unwrap_or read false then Extended else Plain)
+profile_read E None read none some = ap (λ (r : Option Bool). if unwrap_or r false then Extended else Plain) (sym (none refl))
+profile_read E (Some t) read none some =
+    profile_of t read (some t refl)
+  where
+    profile_of : (t : List ℕ) (read : Option Bool) → ReadsOne (ParsesBool {E = E}) t read
+        → (if bytes_eq t (codes "true") then Extended else Plain) ≡ (if unwrap_or read false then Extended else Plain)
+    profile_of t (Some true) is =
+        ap (λ (b : Bool). if b then Extended else Plain) ((bytes_eq-Decides t (codes "true")).1 is)
+    profile_of t (Some false) is =
+        ap (λ (b : Bool). if b then Extended else Plain)
+        (other_text t (λ same. let text : codes "false" ≡ codes "true" = sym is ∙ same in absurd (cc)))
+    profile_of t None is = ap (λ (b : Bool). if b then Extended else Plain) (other_text t is.1.0)

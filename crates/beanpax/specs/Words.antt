@@ -1,11 +1,15 @@
 -- What the words of a command line ask for.
 use Rattle.std.specs.Prelude.{◌≡◌, ◌≢◌, ◌≤◌, ◌^◌, ◌-◌, ℕ, pos, Bool, true, false, not, ◌&&◌, List, [], Option, None}
-use Rattle.std.specs.Prelude.{Some, codes, option_map, option_and_then, string_bytes, unwrap_or, is_some}
+use Rattle.std.specs.Prelude.{Some, if◌then◌else◌, codes, option_map, option_and_then, string_bytes, unwrap_or, is_some}
 use Rattle.clap.specs.Words.{App, Rule, IsAmong, Kinds, fault_of, first_of, new_app, new_rule, one_of, rule_of, subcommand_of, with_rule, with_subcommand}
+use Rattle.clap.specs.declared.builder.action.ArgAction.TheVariants.{SetTrue}
 use Rattle.clap.specs.declared.builder.arg.Arg.{Arg}
 use Rattle.clap.specs.declared.builder.value_parser.ValueParser.TheVariants as parser
 use Rattle.clap.specs.declared.error.kind.ErrorKind.{ErrorKind}
 use Rattle.clap.specs.declared.error.kind.ErrorKind.TheVariants.{DisplayHelp}
+use Rattle.std.specs.Str.{bytes_eq}
+use Rattle.bean_codec.specs.declared.profile.Profile.{Profile}
+use Rattle.bean_codec.specs.declared.profile.Profile.TheVariants.{Plain, Extended}
 use Rattle.beanpax.specs.declared.words.Action.{Action}
 use Rattle.beanpax.specs.declared.words.Action.TheVariants.{Run, Serve, Inspect, BadWeights, BadHost, Help, Wrong}
 use Rattle.beanpax.specs.declared.words.ServerOptions.{ServerOptions}
@@ -58,13 +62,17 @@ log_option = record (new_rule (codes "log")) { long = Some (codes "log"); value_
 abbrev pub sync_option : Rule
 sync_option = record (new_rule (codes "sync")) { long = Some (codes "sync"); value_names = 1; parser = Some (parser.Signed (pos 0) (pos 3600000)) }
 
+-- `--stats`, which stands alone
+abbrev pub stats_option : Rule
+stats_option = record (new_rule (codes "stats")) { long = Some (codes "stats"); action = Some SetTrue }
+
 -- `FILE`, which has to be given
 abbrev pub file_argument : Rule
 file_argument = record (new_rule (codes "file")) { value_names = 1; required = true }
 
 -- `run` with its options
 unfoldable pub run_command : App
-run_command = with_rule (with_rule (with_rule (new_app (codes "run")) nodes_option) weights_option) seed_option
+run_command = with_rule (with_rule (with_rule (with_rule (new_app (codes "run")) nodes_option) weights_option) seed_option) stats_option
 
 -- `serve` with its options
 unfoldable pub serve_command : App
@@ -72,7 +80,7 @@ serve_command =
     let address = with_rule (with_rule (new_app (codes "serve")) host_option) port_option in
     let nodes = with_rule (with_rule address nodes_option) weights_option in
     let served = with_rule (with_rule nodes workers_option) sessions_option in
-    with_rule (with_rule (with_rule served dump_option) log_option) sync_option
+    with_rule (with_rule (with_rule (with_rule served dump_option) log_option) sync_option) stats_option
 
 -- `inspect` with its file
 unfoldable pub inspect_command : App
@@ -101,6 +109,15 @@ text_given words option = option_and_then (λ command. one_of option command.1) 
 unfoldable pub word_given : List (List ℕ) → List ℕ → Option (List ℕ)
 word_given words option = option_and_then (λ command. first_of option command.1) (subcommand_of program_command words)
 
+-- the profile, by what is read of `--stats`: `true` where that is given
+abbrev pub profile_by : Option (List ℕ) → Profile
+profile_by None = Plain
+profile_by (Some text) = if bytes_eq text (codes "true") then Extended else Plain
+
+-- the profile that the words ask for
+abbrev pub profile_asked : List (List ℕ) → Profile
+profile_asked words = profile_by (text_given words (codes "stats"))
+
 -- what a server is to do, by the texts of its options: those from which numbers are read, and those that are taken as they stand
 pub record IsServerOf (text word : List ℕ → Option (List ℕ)) (options : ServerOptions) : Type 0 where
   pub host : IsHostOf (word (codes "host")) (Some options.host)
@@ -113,11 +130,13 @@ pub record IsServerOf (text word : List ℕ → Option (List ℕ)) (options : Se
   pub dump : option_map (λ file. file.now) options.dump ≡ word (codes "dump")
   pub log : option_map (λ file. file.now) options.log ≡ word (codes "log")
   pub sync : IsNumberOr 0 0 3600000 (text (codes "sync")) options.sync
+  pub profile : options.profile ≡ profile_by (text (codes "stats"))
 
 -- a run, by the texts of its options, unless the weights are bad
 abbrev pub IsRunOf : (List ℕ → Option (List ℕ)) → (List ℕ → Option (List ℕ)) → Action → Type 0
 IsRunOf text word (Run options) =
-    AreMembersOf (text (codes "nodes")) (word (codes "weights")) (Some options.members) × IsNumberOr 0 0 (2 ^ 64 - 1) (text (codes "seed")) options.seed
+    AreMembersOf (text (codes "nodes")) (word (codes "weights")) (Some options.members)
+    × IsNumberOr 0 0 (2 ^ 64 - 1) (text (codes "seed")) options.seed × (options.profile ≡ profile_by (text (codes "stats")))
 IsRunOf text word BadWeights = AreMembersOf (text (codes "nodes")) (word (codes "weights")) None
 IsRunOf text word _ = ⊥
 

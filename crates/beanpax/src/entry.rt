@@ -1,5 +1,4 @@
 ghost use Rattle.std.specs.Prelude.{◌≡◌, ◌≤◌, ◌⊎◌, ℕ, List, true, false, codes, map, string_bytes, Ok, IfOk, IfErr, OnOk, OnErr};
-ghost use Rattle.bean_codec.specs.declared.profile.Profile.TheVariants.{Plain};
 ghost use Rattle.beanpax.specs.declared.faults.ProgramFault.{ProgramFault};
 ghost use Rattle.beanpax.specs.declared.faults.ProgramFault.TheVariants.{WriteFailed};
 ghost use Rattle.std.specs.Io.KnownBytes.{Appends};
@@ -12,12 +11,12 @@ ghost use Rattle.beanpax.specs.Runs.{TellsBeginning};
 ghost use Rattle.beanpax.specs.declared.verdict.Verdict.{Verdict};
 ghost use Rattle.beanpax.specs.Verdicts.{is_legal};
 ghost use Rattle.beanpax.specs.Words.{AreWrong, HaveBadHost, HaveBadWeights};
-ghost use Rattle.beanpax.specs.Words.{AskForHelp, AskForInspection, AskForLog, AskForRun, AskForServer};
+ghost use Rattle.beanpax.specs.Words.{AskForHelp, AskForInspection, AskForLog, AskForRun, AskForServer, profile_asked};
 
 use crate::faults::ProgramFault;
 use crate::host::Host;
 use crate::inspecting::inspect_file;
-use crate::run::run_bytes_weighted;
+use crate::run::run_bytes_in;
 use crate::server::serve_tcp;
 use crate::telling::{tell_error, tell_fault};
 use crate::verdict::Verdict;
@@ -59,7 +58,7 @@ pub fn program<H: Host, R: ByteIn, W: ByteOut, E: ByteOut>(
     ensures known { result ≤ DUMP_REFUSED }
     ensures right { result ≡ DONE
         → (AskForRun (map string_bytes words.now)
-        × AnswersToSomeEnd Plain (R.remaining input.old) (R.remaining input.new)
+        × AnswersToSomeEnd (profile_asked (map string_bytes words.now)) (R.remaining input.old) (R.remaining input.new)
         (W.contents output.old) (W.contents output.new))
         ⊎ ((AskForHelp (map string_bytes words.now)
         × TellsSome (W.contents output.old) (W.contents output.new) × (input.new ≡ input.old))
@@ -94,10 +93,10 @@ pub fn program<H: Host, R: ByteIn, W: ByteOut, E: ByteOut>(
     ensures untouched { result ≡ WRONG_WORDS → (input.new ≡ input.old) × (output.new ≡ output.old) }
 
     ensures whole { result ≡ DONE → AskForRun (map string_bytes words.now)
-        → IsWholeRun Plain (R.remaining input.old) (R.remaining input.new) (R.has_ended input.new)
+        → IsWholeRun (profile_asked (map string_bytes words.now)) (R.remaining input.old) (R.remaining input.new) (R.has_ended input.new)
         (W.contents output.old) (W.contents output.new) }
     ensures breaks_off { result ≡ FAULT → AskForRun (map string_bytes words.now)
-        → TellsBeginning Plain (R.remaining input.old) (R.remaining input.new)
+        → TellsBeginning (profile_asked (map string_bytes words.now)) (R.remaining input.old) (R.remaining input.new)
         (W.contents output.old) (W.contents output.new) }
     ensures unread { (AskForRun (map string_bytes words.now) → ⊥) → input.new ≡ input.old }
     ensures begins { (AskForRun (map string_bytes words.now) → ⊥)
@@ -139,23 +138,23 @@ pub fn program<H: Host, R: ByteIn, W: ByteOut, E: ByteOut>(
     }
 }
 
-// Answers a client of these nodes, in the plain profile, and leaves out how its session ended.
+// Answers a client of these nodes, in the profile that is asked for, and leaves out how its session ended.
 fn run<R: ByteIn, W: ByteOut>(
     alloc: Global,
     options: &RunOptions,
     input: &mut R,
     output: &mut W,
 ) -> Result<(), ProgramFault>
-    ensures ok { OnOk result (AnswersToSomeEnd Plain (R.remaining input.old) (R.remaining input.new)
+    ensures ok { OnOk result (AnswersToSomeEnd options.now.profile (R.remaining input.old) (R.remaining input.new)
         (W.contents output.old) (W.contents output.new)) }
-    ensures whole { OnOk result (IsWholeRun Plain (R.remaining input.old) (R.remaining input.new)
+    ensures whole { OnOk result (IsWholeRun options.now.profile (R.remaining input.old) (R.remaining input.new)
         (R.has_ended input.new) (W.contents output.old) (W.contents output.new)) }
     ensures err { IfErr result (IsRunFault (R.has_failed input.new) (W.has_failed output.new)) }
-    ensures breaks_off { OnErr result (TellsBeginning Plain (R.remaining input.old) (R.remaining input.new)
+    ensures breaks_off { OnErr result (TellsBeginning options.now.profile (R.remaining input.old) (R.remaining input.new)
         (W.contents output.old) (W.contents output.new)) }
 {
     let weights = options.members.weights();
-    run_bytes_weighted(alloc, weights, options.seed, input, output)?;
+    run_bytes_in(options.profile, alloc, weights, options.seed, input, output)?;
     Ok(())
 }
 

@@ -19,8 +19,8 @@ use bean_codec::one_item;
 use chronicle::{legal_is_faultless, one_bad_line, one_dump, one_fault};
 use log_file::kept_is_read;
 
-/// In each profile an input has one transcript at most, but for which operations were refused for want of memory: what a client is
-/// told is a function of the bytes that it sent, and of that.
+/// In each profile an input has one transcript at most, but for which operations were refused for want of memory: what a
+/// client is told is a function of the bytes that it sent, and of that.
 pub fn one_output()
     ensures unique { (profile : Profile) (input a b : List ℕ) (d e : End) (xs ys : List Response)
         → IsToldWith profile xs input a d → IsToldWith profile ys input b e

@@ -23,12 +23,13 @@ mod warning;
 mod weights;
 mod words;
 
+pub use bean_codec::Profile;
 pub use entry::{DONE, DUMP_REFUSED, FAULT, WRONG_WORDS, program};
 pub use faults::{ProgramFault, fault_number};
 pub use host::{Host, no_sockets};
 pub use inspecting::inspect_text;
 pub use laws::{no_fault_in_a_dump, one_output, one_verdict};
-pub use run::{run_bytes, run_bytes_weighted};
+pub use run::{run_bytes, run_bytes_in, run_bytes_weighted};
 pub use session::{
     ByteIn, ByteOut, End, Failed, Reading, SessionFault, Writing, memory, write_all,
 };

@@ -1,13 +1,12 @@
 ghost use Rattle.std.specs.Prelude.{◌≤◌};
 ghost use Rattle.ballot.specs.Members.{IsMembers};
-ghost use Rattle.bean_codec.specs.declared.profile.Profile.TheVariants.{Plain};
 ghost use Rattle.session.specs.StreamStates.{streams_of};
 ghost use Rattle.beanpax.specs.Runs.{RunsOver};
 
 use crate::simulation::Simulation;
 use ballot::Members;
-use bean_codec::front_item;
-use session::{ByteIn, ByteOut, End, SessionFault, serve};
+use bean_codec::{Profile, front_item};
+use session::{ByteIn, ByteOut, End, SessionFault, serve_in};
 use std::alloc::Global;
 
 /// Answers one client on a hall of so many simulated nodes, 1 to 7, of a weight of 1 each: what `run_bytes_weighted` does.
@@ -20,7 +19,7 @@ pub fn run_bytes<R: ByteIn, W: ByteOut>(
 ) -> Result<End, SessionFault>
     requires some { 1 ≤ nodes }
     requires few { nodes ≤ 7 }
-    ensures told { RunsOver Plain (streams_of R.ByteIn W.ByteOut reader.old writer.old)
+    ensures told { RunsOver Profile.Plain (streams_of R.ByteIn W.ByteOut reader.old writer.old)
         (streams_of R.ByteIn W.ByteOut reader.new writer.new) result }
 {
     let Some(members) = Members::new(nodes) else {
@@ -44,7 +43,23 @@ pub fn run_bytes_weighted<R: ByteIn, W: ByteOut>(
     writer: &mut W,
 ) -> Result<End, SessionFault>
     requires { IsMembers weights.now }
-    ensures told { RunsOver Plain (streams_of R.ByteIn W.ByteOut reader.old writer.old)
+    ensures told { RunsOver Profile.Plain (streams_of R.ByteIn W.ByteOut reader.old writer.old)
+        (streams_of R.ByteIn W.ByteOut reader.new writer.new) result }
+{
+    run_bytes_in(Profile::Plain, alloc, weights, seed, reader, writer)
+}
+
+/// The same in this profile.
+pub fn run_bytes_in<R: ByteIn, W: ByteOut>(
+    profile: Profile,
+    alloc: Global,
+    weights: &[u32],
+    seed: u64,
+    reader: &mut R,
+    writer: &mut W,
+) -> Result<End, SessionFault>
+    requires { IsMembers weights.now }
+    ensures told { RunsOver profile (streams_of R.ByteIn W.ByteOut reader.old writer.old)
         (streams_of R.ByteIn W.ByteOut reader.new writer.new) result }
 {
     front_item();
@@ -52,5 +67,5 @@ pub fn run_bytes_weighted<R: ByteIn, W: ByteOut>(
         unreachable!()
     };
     let mut simulation = Simulation::new(alloc, members, seed)?;
-    serve(alloc, reader, writer, &mut simulation)
+    serve_in(profile, alloc, reader, writer, &mut simulation)
 }

@@ -24,8 +24,8 @@ use forgetting_hall::ForgettingHall;
 use hall::Hall;
 use journal::Journal;
 use loops::{
-    Logging, ServeFault, Served, ServedForgetting, serve_again, serve_clients, serve_forgetting,
-    serve_logged,
+    Clients, Logging, ServeFault, Served, ServedForgetting, serve_again, serve_clients,
+    serve_forgetting, serve_logged,
 };
 use mio::net::TcpListener;
 use object::Object;
@@ -79,10 +79,22 @@ fn serve_from_log<R: Host>(
     let Started { hall, journal } = started;
     let seconds = ClockSeconds::after(rt, hall.last_second());
     let logging = logging_of(journal, options);
-    let (workers, sessions) = (options.workers, options.sessions);
-    match serve_logged(rt, hall, logging, listener, seconds, workers, sessions) {
+    let clients = clients_of(listener, options);
+    match serve_logged(rt, hall, logging, clients, seconds, options.workers) {
         Ok(served) => end_of_logged(served.fault),
         Err(fault) => end_of_logged(Some(fault)),
+    }
+}
+
+// Whom it serves, and in which profile.
+fn clients_of(listener: TcpListener, options: &ServerOptions<'_>) -> Clients
+    ensures sessions { result.sessions ≡ options.now.sessions }
+    ensures profile { result.profile ≡ options.now.profile }
+{
+    Clients {
+        listener,
+        sessions: options.sessions,
+        profile: options.profile,
     }
 }
 
@@ -108,8 +120,8 @@ fn serve_again_and_dump<R: Host>(
     let Restored { kept, journal } = restored;
     let seconds = ClockSeconds::after(rt, kept.hall.last_second());
     let logging = logging_of(journal, options);
-    let (workers, sessions) = (options.workers, options.sessions);
-    match serve_again(rt, kept, logging, listener, seconds, workers, sessions) {
+    let clients = clients_of(listener, options);
+    match serve_again(rt, kept, logging, clients, seconds, options.workers) {
         Ok(served) => {
             end_of_logged(served.fault)?;
             write_dump(rt, &served.hall, file)
@@ -162,10 +174,9 @@ fn serve_keeping<R: Host>(
     serve_clients(
         rt,
         hall,
-        listener,
+        clients_of(listener, options),
         ClockSeconds::new(rt),
         options.workers,
-        options.sessions,
     )
 }
 
@@ -182,10 +193,9 @@ fn serve_forgetful<R: Host>(
     serve_forgetting(
         rt,
         hall,
-        listener,
+        clients_of(listener, options),
         ClockSeconds::new(rt),
         options.workers,
-        options.sessions,
     )
 }
 

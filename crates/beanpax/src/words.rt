@@ -6,16 +6,17 @@ ghost use Rattle.beanpax.specs.declared.words.ServerOptions.{ServerOptions};
 ghost use Rattle.beanpax.specs.Hosts.{IsHostOf, IsLoopback};
 ghost use Rattle.beanpax.specs.Numbers.{IsNumberOr};
 ghost use Rattle.beanpax.specs.Weights.{AreMembersOf};
-ghost use Rattle.beanpax.specs.Words.{IsAskedBy, IsRunOf, IsServeOf, IsServerOf, has_unwritten_dump};
+ghost use Rattle.beanpax.specs.Words.{IsAskedBy, IsRunOf, IsServeOf, IsServerOf, has_unwritten_dump, profile_by};
 ghost use Rattle.beanpax.specs.Words.{program_command, run_command, serve_command, inspect_command};
 ghost use Rattle.beanpax.specs.Words.{IsArgument, file_argument};
 ghost use Rattle.beanpax.specs.Words.{nodes_option, weights_option, seed_option, host_option, port_option};
-ghost use Rattle.beanpax.specs.Words.{workers_option, sessions_option, dump_option, log_option, sync_option};
+ghost use Rattle.beanpax.specs.Words.{workers_option, sessions_option, dump_option, log_option, sync_option, stats_option};
 
 use crate::weights::members_in;
 use ballot::Members;
+use bean_codec::Profile;
 use clap::error::ErrorKind;
-use clap::{Arg, ArgMatches, Command, Error, value_parser};
+use clap::{Arg, ArgAction, ArgMatches, Command, Error, value_parser};
 use std::alloc::{AllocError, Global};
 use std::net::{IpAddr, Ipv4Addr};
 
@@ -91,6 +92,8 @@ pub struct RunOptions {
     pub members: Members,
     /// The order of events is drawn from it.
     pub seed: u64,
+    /// The client speaks it.
+    pub profile: Profile,
 }
 
 /// What a server is to do.
@@ -112,6 +115,8 @@ pub struct ServerOptions<'a> {
     pub log: Option<&'a str>,
     /// So many milliseconds may pass until a command in the log is synced.
     pub sync: u32,
+    /// Clients speak it.
+    pub profile: Profile,
 }
 
 /// What the words ask for; the first is the program's name.
@@ -164,6 +169,7 @@ fn run_of<'a>(alloc: Global, run: &ArgMatches<'a>) -> Result<Action<'a>, AllocEr
     Ok(Action::Run(RunOptions {
         members,
         seed: seed_of(run),
+        profile: profile_of(run),
     }))
 }
 
@@ -197,6 +203,7 @@ fn server_of<'a>(members: Members, host: IpAddr, serve: &ArgMatches<'a>) -> Serv
         dump: serve.get_str("dump"),
         log: serve.get_str("log"),
         sync: sync_of(serve),
+        profile: profile_of(serve),
     }
 }
 
@@ -280,6 +287,18 @@ fn seed_of(run: &ArgMatches<'_>) -> u64
     run.get_one("seed").unwrap_or(0)
 }
 
+// The profile that the words ask for.
+fn profile_of(found: &ArgMatches<'_>) -> Profile
+    ensures { result ≡ profile_by (one_text (found_of found.now) (codes "stats")) }
+{
+    let has_stats = found.get_one("stats").unwrap_or(false);
+    if has_stats {
+        Profile::Extended
+    } else {
+        Profile::Plain
+    }
+}
+
 // The words that the program takes.
 fn program_words<'a>(alloc: Global) -> Result<Command<'a>, AllocError>
     ensures app { IfOk result (λ c. app_of c ≡ program_command) }
@@ -302,7 +321,8 @@ fn run_words<'a>(alloc: Global) -> Result<Command<'a>, AllocError>
         .about("Answers the requests of standard input on standard output")
         .arg(nodes_words(alloc))?
         .arg(weights_words(alloc))?
-        .arg(seed_words(alloc))
+        .arg(seed_words(alloc))?
+        .arg(stats_words(alloc))
 }
 
 // The words of `serve`.
@@ -320,7 +340,8 @@ fn serve_words<'a>(alloc: Global) -> Result<Command<'a>, AllocError>
         .arg(sessions_words(alloc))?
         .arg(dump_words(alloc))?
         .arg(log_words(alloc))?
-        .arg(sync_words(alloc))
+        .arg(sync_words(alloc))?
+        .arg(stats_words(alloc))
 }
 
 // The words of `inspect`.
@@ -428,6 +449,15 @@ fn sync_words<'a>(alloc: Global) -> Arg<'a>
             "How many milliseconds may pass before the log is written and synced; what is answered meanwhile may be lost: 0 to 3600000; without --log no effect [default: 0]",
         )
         .value_parser(value_parser!(u32).range(0..=3_600_000))
+}
+
+fn stats_words<'a>(alloc: Global) -> Arg<'a>
+    ensures { IsArgument stats_option result }
+{
+    Arg::new(alloc, "stats")
+        .long("stats")
+        .action(ArgAction::SetTrue)
+        .help("Also stats, stats-job, stats-tube and reserve-job")
 }
 
 fn file_words<'a>(alloc: Global) -> Arg<'a>

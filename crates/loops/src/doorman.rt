@@ -1,5 +1,6 @@
 ghost use Rattle.std.specs.Prelude.{◌≡◌, ◌↔◌, ◌-◌, true, None, Some, IfOk, IfSome};
 
+use crate::clients::Clients;
 use crate::fault::ServeFault;
 use crate::mailbox::Mailbox;
 use crate::troubles::{Trouble, trouble_of};
@@ -31,11 +32,12 @@ pub(crate) struct Doorman {
 }
 
 impl Doorman {
-    /// Lets in so many clients that connect here.
-    pub(crate) fn new(poll: Poll, listener: TcpListener, left: Option<u32>) -> io::Result<Doorman>
-        ensures { IfOk result (λ doorman. doorman.left ≡ left) }
+    /// Lets in these clients.
+    pub(crate) fn new(poll: Poll, clients: Clients) -> io::Result<Doorman>
+        ensures { IfOk result (λ doorman. doorman.left ≡ clients.sessions) }
     {
-        let mut listener = listener;
+        let left = clients.sessions;
+        let mut listener = clients.listener;
         poll.registry()
             .register(&mut listener, LISTENER, Interest::READABLE)?;
         Ok(Doorman {

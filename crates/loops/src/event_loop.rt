@@ -7,6 +7,7 @@ use crate::seats::Seats;
 use crate::shared_log::SharedLog;
 use crate::wire::Wire;
 use backoff::Backoff;
+use bean_codec::Profile;
 use conversation::{Client, Conversation, LONGEST_PIECE};
 use hall::HallError;
 use mio::net::TcpStream;
@@ -42,6 +43,8 @@ pub(crate) struct Common<'a, R, D: LoopDesk> {
     /// Of who lets clients in.
     pub(crate) door: &'a Mailbox,
     pub(crate) nodes: u8,
+    /// In which each client is spoken with.
+    pub(crate) profile: Profile,
     pub(crate) log: &'a Option<SharedLog>,
 }
 
@@ -199,7 +202,8 @@ impl<'a, R: Wait + Clock, D: LoopDesk> EventLoop<'a, R, D> {
         let token = Token(self.seats.next_key());
         let both = Interest::READABLE | Interest::WRITABLE;
         let registered = poll.registry().register(&mut stream, token, both);
-        let conversation = Conversation::new(self.common.alloc, ticket);
+        let common = self.common;
+        let conversation = Conversation::speaking(common.profile, common.alloc, ticket);
         let mut seat = Seat::new(Client::new(Wire(stream), conversation));
         if registered.is_err() {
             seat.give_up();

@@ -5,6 +5,7 @@
 //! whose clients were answered meanwhile.
 #![tactic(auto)]
 
+mod clients;
 mod clock;
 mod desk;
 mod doorman;
@@ -22,6 +23,7 @@ mod syncs;
 mod troubles;
 mod wire;
 
+pub use clients::Clients;
 pub use counted_hall::Seconds;
 pub use fault::ServeFault;
 pub use server::{

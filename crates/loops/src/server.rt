@@ -1,6 +1,7 @@
 ghost use Rattle.std.specs.Prelude.{◌≡◌, [], IfOk};
 ghost use Rattle.loops.specs.Comparing.{IsLoopCount, AllCompared};
 
+use crate::clients::Clients;
 use crate::clock::run_clock;
 use crate::desk::LoopDesk;
 use crate::doorman::Doorman;
@@ -17,7 +18,6 @@ use counted_hall::Seconds;
 use forgetting_hall::ForgettingHall;
 use hall::{Hall, Ticket};
 use mio::Poll;
-use mio::net::TcpListener;
 use object::Object;
 use std::alloc::Global;
 use std::net::Net;
@@ -56,15 +56,14 @@ pub struct ServedForgetting<O: Object> {
     pub fault: Option<ServeFault>,
 }
 
-/// Serves the clients that connect to this listener, up to so many, by so many loops, 1 to 64, over a hall that keeps all. It
-/// returns when as many as there was said have left; all threads have ended then.
+/// Serves clients by so many loops, 1 to 64, over a hall that keeps all. It returns when as many as there was said have left;
+/// all threads have ended then.
 pub fn serve_clients<O: Object<Op = Op, Reply = Reply> + Send, T: Seconds + Send + Drop, R: Host>(
     rt: &R,
     hall: Hall<O>,
-    listener: TcpListener,
+    clients: Clients,
     seconds: T,
     loops: u32,
-    sessions: Option<u32>,
 ) -> Result<Served<O>, ServeFault>
     requires none { hall.book ≡ [] }
     requires loops { IsLoopCount loops }
@@ -73,9 +72,8 @@ pub fn serve_clients<O: Object<Op = Op, Reply = Reply> + Send, T: Seconds + Send
 {
     let desk = HallDesk::new(rt.alloc(), hall);
     let terms = Terms {
-        listener,
+        clients,
         loops,
-        sessions,
         log: None,
     };
     serve_whole(rt, desk, seconds, terms)
@@ -87,10 +85,9 @@ pub fn serve_again<O: Object<Op = Op, Reply = Reply> + Send, T: Seconds + Send +
     rt: &R,
     kept: KeptHall<O>,
     logging: Logging,
-    listener: TcpListener,
+    clients: Clients,
     seconds: T,
     loops: u32,
-    sessions: Option<u32>,
 ) -> Result<Served<O>, ServeFault>
     requires loops { IsLoopCount loops }
     ensures served { IfOk result (λ s.
@@ -99,9 +96,8 @@ pub fn serve_again<O: Object<Op = Op, Reply = Reply> + Send, T: Seconds + Send +
     let KeptHall { hall, tickets } = kept;
     let desk = HallDesk::over(rt.alloc(), hall, tickets.as_slice())?;
     let terms = Terms {
-        listener,
+        clients,
         loops,
-        sessions,
         log: Some(SharedLog::new(logging)),
     };
     serve_whole(rt, desk, seconds, terms)
@@ -145,17 +141,15 @@ pub fn serve_forgetting<
 >(
     rt: &R,
     hall: ForgettingHall<O>,
-    listener: TcpListener,
+    clients: Clients,
     seconds: T,
     loops: u32,
-    sessions: Option<u32>,
 ) -> Result<ServedForgetting<O>, ServeFault>
     requires loops { IsLoopCount loops }
 {
     let terms = Terms {
-        listener,
+        clients,
         loops,
-        sessions,
         log: None,
     };
     serve_lean(rt, hall, seconds, terms)
@@ -167,19 +161,17 @@ pub fn serve_logged<O: Object<Op = Op, Reply = Reply> + Send, T: Seconds + Send 
     rt: &R,
     hall: ForgettingHall<O>,
     logging: Logging,
-    listener: TcpListener,
+    clients: Clients,
     seconds: T,
     loops: u32,
-    sessions: Option<u32>,
 ) -> Result<ServedForgetting<O>, ServeFault>
     requires loops { IsLoopCount loops }
 {
     let mut hall = hall;
     hall.gather();
     let terms = Terms {
-        listener,
+        clients,
         loops,
-        sessions,
         log: Some(SharedLog::new(logging)),
     };
     serve_lean(rt, hall, seconds, terms)
@@ -188,9 +180,8 @@ pub fn serve_logged<O: Object<Op = Op, Reply = Reply> + Send, T: Seconds + Send 
 // How it is served.
 #[derive(Drop)]
 struct Terms {
-    listener: TcpListener,
+    clients: Clients,
     loops: u32,
-    sessions: Option<u32>,
     log: Option<SharedLog>,
 }
 
@@ -225,16 +216,16 @@ where
 {
     let alloc = rt.alloc();
     let nodes = desk.node_count();
+    let profile = terms.clients.profile;
     let Terms {
-        listener,
+        clients,
         loops,
-        sessions,
         log,
     } = terms;
     let Room { polls, mailboxes } = Room::new(rt, alloc, loops)?;
     let door = Poll::new(rt)?;
     let own = Mailbox::new(alloc, door.registry(), WAKER)?;
-    let doorman = Doorman::new(door, listener, sessions)?;
+    let doorman = Doorman::new(door, clients)?;
     let mut house = House::new(alloc, desk);
     house.begin();
     let house = Mutex::new(house);
@@ -246,6 +237,7 @@ where
             mailboxes: mailboxes.as_slice(),
             door: &own,
             nodes,
+            profile,
             log: &log,
         },
         polls,

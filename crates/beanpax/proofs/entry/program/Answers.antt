@@ -1,10 +1,11 @@
-use Rattle.std.proofs.Common.{◌≡◌, inl, inr, ℕ, [], map, string_bytes, refl, subst, arith, Result, Ok, Err, OnOk, IfOk, IfErr}
+use Rattle.std.proofs.Common.{◌≡◌, inl, inr, ℕ, [], map, string_bytes, refl, subst, arith, Result, Ok, Err, OnOk, OnErr, IfOk, IfErr}
 use Rattle.std.specs.Io.KnownBytes.{Appends}
-use Rattle.bean_codec.specs.declared.profile.Profile.TheVariants.{Plain}
+use Rattle.bean_codec.specs.declared.profile.Profile.{Profile}
 use Rattle.beanpax.specs.declared.faults.ProgramFault.{ProgramFault}
 use Rattle.std.proofs.KnownBytes.{Appends-nil, Consumes-nil}
-use Rattle.beanpax.specs.Program.{HasInspected, WritesText}
-use Rattle.beanpax.specs.Words.{IsAskedBy}
+use Rattle.beanpax.specs.Program.{AnswersToSomeEnd, HasInspected, IsWholeRun, WritesText}
+use Rattle.beanpax.specs.Runs.{TellsBeginning}
+use Rattle.beanpax.specs.Words.{IsAskedBy, profile_asked}
 use Rattle.beanpax.proofs.Served.{nothing_begins}
 use Rattle.beanpax.proofs.Serving.{tells_fault}
 use Rattle.beanpax.proofs.entry.program.Goals as goal
@@ -19,19 +20,50 @@ returns-in-Ok-Inspect-clause-right g c = λ done.
     inr (inr (inr (c.in-Ok-Inspect.file.now, asked, (r.0, r.2, told), refl)))
 
 pub returns-in-Err-clause-breaks_off : goal.returns-in-Err-clause-breaks_off
-returns-in-Err-clause-breaks_off g c = λ fault run. (
-  [],
-  [],
-  Consumes-nil (g.R.ByteIn.remaining c.args.input.now),
-  Appends-nil (g.W.ByteOut.contents c.args.output.now),
-  nothing_begins Plain (c.front_item.ensures Plain) [],
-)
+returns-in-Err-clause-breaks_off g c = λ fault run.
+    let profile = profile_asked (map string_bytes c.args.words.now) in (
+      [],
+      [],
+      Consumes-nil (g.R.ByteIn.remaining c.args.input.now),
+      Appends-nil (g.W.ByteOut.contents c.args.output.now),
+      nothing_begins profile (c.front_item.ensures profile) [],
+    )
 
 -- where the status tells of no fault, there was none
 ok_told : (r : Result Unit ProgramFault) (status : ℕ) (P : Type 0) (X : ProgramFault → Type 0) → OnOk r P
     → IfErr r (λ fault. (status ≡ 1) × X fault) → status ≡ 0 → P
 ok_told (Ok done) status P X ok err is = ok
 ok_told (Err fault) status P X ok err is = let told = err.0 in absurd (omega (arith, told, is))
+
+-- and where it tells of one, there was one
+err_told : (r : Result Unit ProgramFault) (status : ℕ) (P X : Type 0) → OnErr r P → OnOk r ((status ≡ 0) × X) → status ≡ 1 → P
+err_told (Ok done) status P X err ok is = let told = ok.0 in absurd (omega (arith, told, is))
+err_told (Err fault) status P X err ok is = err
+
+pub returns-in-Ok-Run-clause-right : goal.returns-in-Ok-Run-clause-right
+returns-in-Ok-Run-clause-right g c = λ done.
+    let asked = subst (IsAskedBy (map string_bytes c.args.words.now)) c.in-Ok-Run.field-0-is c.in-Ok-Run.ensures in
+    inl (
+      asked.0,
+      subst (λ (p : Profile). AnswersToSomeEnd p (g.R.ByteIn.remaining c.args.input.now) (g.R.ByteIn.remaining c.run-ended.new.input)
+          (g.W.ByteOut.contents c.args.output.now) (g.W.ByteOut.contents c.run-ended.new.output)) asked.1.2
+          (ok_told c.run-ended.result _ _ _ c.run-ended.ensures.ok c.status_after.ensures.fault done),
+    )
+
+pub returns-in-Ok-Run-clause-whole : goal.returns-in-Ok-Run-clause-whole
+returns-in-Ok-Run-clause-whole g c = λ done run.
+    let asked = subst (IsAskedBy (map string_bytes c.args.words.now)) c.in-Ok-Run.field-0-is c.in-Ok-Run.ensures in
+    subst (λ (p : Profile). IsWholeRun p (g.R.ByteIn.remaining c.args.input.now) (g.R.ByteIn.remaining c.run-ended.new.input)
+    (g.R.ByteIn.has_ended c.run-ended.new.input) (g.W.ByteOut.contents c.args.output.now)
+    (g.W.ByteOut.contents c.run-ended.new.output)) asked.1.2
+    (ok_told c.run-ended.result _ _ _ c.run-ended.ensures.whole c.status_after.ensures.fault done)
+
+pub returns-in-Ok-Run-clause-breaks_off : goal.returns-in-Ok-Run-clause-breaks_off
+returns-in-Ok-Run-clause-breaks_off g c = λ failed run.
+    let asked = subst (IsAskedBy (map string_bytes c.args.words.now)) c.in-Ok-Run.field-0-is c.in-Ok-Run.ensures in
+    subst (λ (p : Profile). TellsBeginning p (g.R.ByteIn.remaining c.args.input.now) (g.R.ByteIn.remaining c.run-ended.new.input)
+    (g.W.ByteOut.contents c.args.output.now) (g.W.ByteOut.contents c.run-ended.new.output)) asked.1.2
+    (err_told c.run-ended.result _ _ _ c.run-ended.ensures.breaks_off c.status_after.ensures.done failed)
 
 pub returns-in-Ok-Help-clause-right : goal.returns-in-Ok-Help-clause-right
 returns-in-Ok-Help-clause-right g c = λ done.

@@ -17,4 +17,5 @@ returns c = record {
   dump = c.get_str.ensures;
   log = c.get_str-2.ensures;
   sync = c.sync_of.ensures;
+  profile = c.profile_of.ensures;
 }
