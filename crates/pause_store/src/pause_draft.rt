@@ -167,13 +167,7 @@ impl PauseDraft {
         ensures { result ≡ pause_end tube.now self.now.now.pauses }
     {
         match self.seconds.get(tube) {
-            Some(until) => {
-                if *until > self.second {
-                    *until
-                } else {
-                    0
-                }
-            }
+            Some(until) => { if *until > self.second { *until } else { 0 } }
             None => 0,
         }
     }
