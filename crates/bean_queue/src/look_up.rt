@@ -3,7 +3,7 @@ ghost use Rattle.std.specs.Map.{keys_of};
 ghost use Rattle.job_store.specs.LookUps.{is_among, not_paused};
 
 use indexmap::IndexSet;
-use job_store::{Job, Name};
+use job_store::{Job, Name, StoredJob};
 use std::collections::BTreeMap;
 
 /// What is looked for among the jobs.
@@ -98,7 +98,7 @@ impl<'a> LookUp<'a> {
     }
 
     /// The entry with the least pair of number and id among those that are looked for.
-    pub fn least<'b>(&self, jobs: &'b BTreeMap<u64, Job>) -> Option<(u64, &'b Job)>
+    pub fn least<'b>(&self, jobs: &'b BTreeMap<u64, StoredJob>) -> Option<(u64, &'b Job)>
         ensures job { option_map (λ e. (e.0, e.1.now)) result
             ≡ least (passes self.now) (look_up_number self.now) jobs.now.entries }
         ensures found { IfSome result
@@ -106,7 +106,8 @@ impl<'a> LookUp<'a> {
         ensures none { IfNone result (NonePasses (passes self.now) jobs.now.entries) }
     {
         let mut least = None;
-        for (id, job) in jobs {
+        for (id, stored) in jobs {
+            let job = stored.as_job();
             if self.passes(*id, job) {
                 least = Some(self.first_of(least, (*id, job)));
             }

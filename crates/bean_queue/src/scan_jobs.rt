@@ -4,7 +4,7 @@ ghost use Rattle.job_store.specs.LookUps.{has_jobs};
 
 use crate::look_up::LookUp;
 use indexmap::IndexSet;
-use job_store::{Job, JobMap, LoggedJobs, Mark, Name, State, Tally, add_name};
+use job_store::{Job, JobMap, LoggedJobs, Mark, Name, State, StoredJob, Tally, add_name};
 use std::alloc::{AllocError, Global};
 use std::collections::{BTreeMap, BTreeSet};
 use std::marker::Model;
@@ -16,11 +16,11 @@ pub struct ScanJobs {
 }
 
 /// Whether one of these jobs is in the tube.
-fn has_jobs(jobs: &BTreeMap<u64, Job>, tube: &Name) -> bool
+fn has_jobs(jobs: &BTreeMap<u64, StoredJob>, tube: &Name) -> bool
     ensures { result ≡ has_jobs tube.now jobs.now.entries }
 {
-    for (_, job) in jobs {
-        if *tube == job.tube {
+    for (_, stored) in jobs {
+        if *tube == stored.as_job().tube {
             return true;
         }
     }
@@ -28,15 +28,15 @@ fn has_jobs(jobs: &BTreeMap<u64, Job>, tube: &Name) -> bool
 }
 
 /// Puts the tubes of these jobs among the names.
-fn add_tubes(names: &mut BTreeSet<Name>, jobs: &BTreeMap<u64, Job>) -> Result<(), AllocError>
+fn add_tubes(names: &mut BTreeSet<Name>, jobs: &BTreeMap<u64, StoredJob>) -> Result<(), AllocError>
     ensures kept { (tube : List ℕ) → In tube names.old.keys → In tube names.new.keys }
     ensures only { (tube : List ℕ) → In tube names.new.keys
         → In tube names.old.keys ⊎ (has_jobs tube jobs.now.entries ≡ true) }
     ensures all { OnOk result ((tube : List ℕ) → has_jobs tube jobs.now.entries ≡ true
         → In tube names.new.keys) }
 {
-    for (_, job) in jobs {
-        add_name(names, &job.tube)?;
+    for (_, stored) in jobs {
+        add_name(names, &stored.as_job().tube)?;
     }
     Ok(())
 }
@@ -78,7 +78,7 @@ impl JobMap for ScanJobs {
         self.jobs.roll_back();
     }
 
-    fn by_id(&self) -> &BTreeMap<u64, Job> {
+    fn by_id(&self) -> &BTreeMap<u64, StoredJob> {
         self.jobs.by_id()
     }
 

@@ -12,6 +12,7 @@ use crate::job::Job;
 use crate::mark::Mark;
 use crate::name::Name;
 use crate::state::State;
+use crate::stored_job::StoredJob;
 use crate::tally::Tally;
 use indexmap::IndexSet;
 use std::alloc::{AllocError, Global};
@@ -56,7 +57,7 @@ pub trait JobMap: Drop + Sized {
         ensures before { before self.new ≡ None };
 
     /// All jobs, by rising id.
-    fn by_id(&self) -> &BTreeMap<u64, Job>
+    fn by_id(&self) -> &BTreeMap<u64, StoredJob>
         ensures jobs { result.now.entries ≡ entries self.now }
         ensures rising { Rising 0 (2 ^ 64) (entries self.now) };
 

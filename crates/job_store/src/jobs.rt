@@ -20,6 +20,7 @@ use crate::shelf_number::ShelfNumber;
 use crate::shelves::Shelves;
 use crate::spot::Spot;
 use crate::state::State;
+use crate::stored_job::StoredJob;
 use crate::tallies::{tally_all, tally_in};
 use crate::tally::Tally;
 use indexmap::IndexSet;
@@ -152,7 +153,7 @@ impl JobMap for Jobs {
         go_back(&mut self.shelves, &self.jobs);
     }
 
-    fn by_id(&self) -> &BTreeMap<u64, Job> {
+    fn by_id(&self) -> &BTreeMap<u64, StoredJob> {
         self.jobs.by_id()
     }
 

@@ -7,6 +7,7 @@ ghost use Rattle.job_store.specs.Shelves.{belongs, number, belongs_at, BelongsAt
 use crate::job::Job;
 use crate::name::Name;
 use crate::state::State;
+use crate::stored_job::StoredJob;
 use std::collections::BTreeMap;
 
 /// Which jobs stand on a shelf.
@@ -64,7 +65,12 @@ impl<'a> Label<'a> {
     }
 
     /// The job that belongs at this place of the shelf, as the map has it.
-    pub fn job_at<'b>(&self, jobs: &'b BTreeMap<u64, Job>, number: u64, id: u64) -> Option<&'b Job>
+    pub fn job_at<'b>(
+        &self,
+        jobs: &'b BTreeMap<u64, StoredJob>,
+        number: u64,
+        id: u64,
+    ) -> Option<&'b Job>
         requires { Rising 0 (2 ^ 64) jobs.now.entries }
         ensures found { IfSome result (λ job. In (id, job.now) jobs.now.entries
             × BelongsAt self.now (number, id) (id, job.now)) }
@@ -72,7 +78,7 @@ impl<'a> Label<'a> {
             → BelongsAt self.now (number, id) e → ⊥) }
     {
         match jobs.get(&id) {
-            Some(job) if self.fits_at(job, number) => Some(job),
+            Some(stored) if self.fits_at(stored.as_job(), number) => Some(stored.as_job()),
             _ => None,
         }
     }

@@ -7,6 +7,7 @@ use crate::changes::{make, set_state};
 use crate::job::Job;
 use crate::mark::Mark;
 use crate::state::State;
+use crate::stored_job::StoredJob;
 use crate::undo::{Undo, note, put, undo_all};
 use object::Value;
 use std::alloc::{AllocError, Global};
@@ -20,7 +21,7 @@ use std::marker::Model;
 #[derive(Drop)]
 pub struct LoggedJobs {
     alloc: Global,
-    jobs: BTreeMap<u64, Job>,
+    jobs: BTreeMap<u64, StoredJob>,
     is_trial: bool,
     /// What takes back the changes of the trial.
     log: Vec<Undo>,
@@ -39,13 +40,17 @@ impl Model for LoggedJobs {
 }
 
 /// The same jobs under the same ids.
-fn copy_of(alloc: Global, jobs: &BTreeMap<u64, Job>) -> Result<BTreeMap<u64, Job>, AllocError>
+fn copy_of(
+    alloc: Global,
+    jobs: &BTreeMap<u64, StoredJob>,
+) -> Result<BTreeMap<u64, StoredJob>, AllocError>
     requires { Rising 0 (2 ^ 64) jobs.now.entries }
     ensures { IfOk result (λ copy. copy.entries ≡ jobs.now.entries) }
 {
     let mut copy = BTreeMap::new(alloc);
-    for (id, job) in jobs {
-        copy.insert(*id, job.copy()?)?;
+    for (id, stored) in jobs {
+        let job = stored.as_job().copy()?;
+        copy.insert(*id, StoredJob::new(alloc, job)?)?;
     }
     Ok(copy)
 }
@@ -60,7 +65,7 @@ impl LoggedJobs {
     }
 
     /// A map of these jobs, in no trial.
-    fn of(alloc: Global, jobs: BTreeMap<u64, Job>) -> Self
+    fn of(alloc: Global, jobs: BTreeMap<u64, StoredJob>) -> Self
         requires { Rising 0 (2 ^ 64) jobs.entries }
         ensures jobs { result.jobs ≡ jobs.entries }
         ensures before { result.before ≡ None }
@@ -118,7 +123,7 @@ impl LoggedJobs {
     }
 
     /// All jobs, by rising id.
-    pub fn by_id(&self) -> &BTreeMap<u64, Job>
+    pub fn by_id(&self) -> &BTreeMap<u64, StoredJob>
         ensures jobs { result.now.entries ≡ self.now.jobs }
         ensures rising { Rising 0 (2 ^ 64) self.now.jobs }
     {
@@ -129,7 +134,7 @@ impl LoggedJobs {
     pub fn get(&self, id: u64) -> Option<&Job>
         ensures { option_copied result ≡ value_at id self.now.jobs }
     {
-        self.jobs.get(&id)
+        self.jobs.get(&id).map(StoredJob::as_job)
     }
 
     /// Puts a job at an id, in the place of the one that may be there.
@@ -139,11 +144,12 @@ impl LoggedJobs {
         ensures rising { Rising 0 (2 ^ 64) self.new.jobs }
         ensures before { self.new.before ≡ self.old.before }
     {
+        let stored = StoredJob::new(self.alloc, job)?;
         if self.is_trial {
-            put(&mut self.jobs, &mut self.log, id, job)?;
+            put(&mut self.jobs, &mut self.log, id, stored)?;
             return Ok(());
         }
-        self.jobs.insert(id, job)?;
+        self.jobs.insert(id, stored)?;
         Ok(())
     }
 
@@ -187,6 +193,6 @@ impl LoggedJobs {
         ensures before { self.new.before ≡ None }
     {
         self.commit();
-        self.jobs.remove(&id)
+        self.jobs.remove(&id).map(StoredJob::into_job)
     }
 }

@@ -25,9 +25,10 @@ pub fn move_to_state(
         (altered id (marked state mark) jobs.old.jobs) result }
     ensures there { OnErr result (IsSome (value_at id jobs.old.jobs)) }
 {
-    let Some(job) = jobs.by_id().get(&id) else {
+    let Some(stored) = jobs.by_id().get(&id) else {
         return Ok(());
     };
+    let job = stored.as_job();
     shelves.put_changed(id, job, job.pri, state)?;
     jobs.set_state(id, state, mark)?;
     shelves.keep_last();
@@ -44,10 +45,10 @@ pub fn move_to(
         (after_change change.now jobs.old.jobs) result }
     ensures there { OnErr result (IsSome (value_at change.now.id jobs.old.jobs)) }
 {
-    let Some(job) = jobs.by_id().get(&change.id) else {
+    let Some(stored) = jobs.by_id().get(&change.id) else {
         return Ok(());
     };
-    shelves.put_changed(change.id, job, change.pri, change.state)?;
+    shelves.put_changed(change.id, stored.as_job(), change.pri, change.state)?;
     jobs.set(change.id, change.pri, change.state, change.mark)?;
     shelves.keep_last();
     Ok(())

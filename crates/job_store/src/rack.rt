@@ -11,6 +11,7 @@ use crate::label::Label;
 use crate::name::Name;
 use crate::shelf::Shelf;
 use crate::shelf_number::ShelfNumber;
+use crate::stored_job::StoredJob;
 use object::Value;
 use std::alloc::{AllocError, Global};
 use std::collections::{BTreeMap, BTreeSet};
@@ -115,7 +116,7 @@ impl<K: ShelfName, N: ShelfNumber> Rack<K, N> {
     }
 
     /// Lets look-ups of a shelf begin after the places that were left, as far as the first job stands behind them.
-    pub fn settle(&mut self, key: &K, label: Label, jobs: &BTreeMap<u64, Job>)
+    pub fn settle(&mut self, key: &K, label: Label, jobs: &BTreeMap<u64, StoredJob>)
         requires { Rising 0 (2 ^ 64) jobs.now.entries }
         ensures { ChangesOne K.cmp key.now self.old.shelves self.new.shelves
             (HasMovedOn label.entry jobs.now.entries) }
@@ -169,7 +170,7 @@ impl<K: ShelfName, N: ShelfNumber> Rack<K, N> {
         &self,
         key: &K,
         label: Label,
-        jobs: &'a BTreeMap<u64, Job>,
+        jobs: &'a BTreeMap<u64, StoredJob>,
     ) -> Option<(u64, &'a Job)>
         requires { CanLookUp label (shelf_at K.cmp self.now.shelves key.now) jobs.now.entries }
         ensures { FindsFirst (belongs label.entry) (number label.entry) jobs.now.entries result }

@@ -9,6 +9,7 @@ use crate::count::Count;
 use crate::job::Job;
 use crate::label::Label;
 use crate::shelf_number::ShelfNumber;
+use crate::stored_job::StoredJob;
 use crate::tally::URGENT_BELOW;
 use std::alloc::{AllocError, Global};
 use std::cmp::min;
@@ -96,7 +97,7 @@ impl<N: ShelfNumber> Shelf<N> {
     }
 
     /// Lets look-ups begin after the places that were left, as far as the first job stands behind them.
-    pub fn settle(&mut self, label: Label, jobs: &BTreeMap<u64, Job>)
+    pub fn settle(&mut self, label: Label, jobs: &BTreeMap<u64, StoredJob>)
         requires { Rising 0 (2 ^ 64) jobs.now.entries }
         ensures { HasMovedOn label.entry jobs.now.entries self.old self.new }
     {
@@ -104,7 +105,7 @@ impl<N: ShelfNumber> Shelf<N> {
     }
 
     /// The first place at which a job stands, or the last one where there is no job.
-    fn front(&self, label: Label, jobs: &BTreeMap<u64, Job>) -> (N, u64)
+    fn front(&self, label: Label, jobs: &BTreeMap<u64, StoredJob>) -> (N, u64)
         requires { Rising 0 (2 ^ 64) jobs.now.entries }
         ensures { IsPassed label.entry jobs.now.entries self.now (numbered_place N.value result) }
     {
@@ -144,7 +145,11 @@ impl<N: ShelfNumber> Shelf<N> {
     }
 
     /// The first of the jobs that belong on the shelf, where a look-up finds all of them.
-    pub fn first<'a>(&self, label: Label, jobs: &'a BTreeMap<u64, Job>) -> Option<(u64, &'a Job)>
+    pub fn first<'a>(
+        &self,
+        label: Label,
+        jobs: &'a BTreeMap<u64, StoredJob>,
+    ) -> Option<(u64, &'a Job)>
         requires { CanLookUp label self.now jobs.now.entries }
         ensures { FindsFirst (belongs label.entry) (number label.entry) jobs.now.entries result }
     {
@@ -161,7 +166,7 @@ impl<N: ShelfNumber> Shelf<N> {
     pub fn first_after<'a>(
         &self,
         label: Label,
-        jobs: &'a BTreeMap<u64, Job>,
+        jobs: &'a BTreeMap<u64, StoredJob>,
         after: (N, u64),
     ) -> Option<(u64, &'a Job)>
         requires { CanLookUp label self.now jobs.now.entries }

@@ -15,6 +15,7 @@ use crate::rack::Rack;
 use crate::shelf::Shelf;
 use crate::spot::Spot;
 use crate::state::State;
+use crate::stored_job::StoredJob;
 use object::Value;
 use std::alloc::{AllocError, Global};
 use std::collections::BTreeMap;
@@ -58,13 +59,13 @@ impl Shelves {
     }
 
     /// Shelves where these jobs stand, and nothing else.
-    pub fn of(alloc: Global, jobs: &BTreeMap<u64, Job>) -> Result<Shelves, AllocError>
+    pub fn of(alloc: Global, jobs: &BTreeMap<u64, StoredJob>) -> Result<Shelves, AllocError>
         requires { Rising 0 (2 ^ 64) jobs.now.entries }
         ensures { IfOk result (λ s. AreSwept s jobs.now.entries) }
     {
         let mut shelves = Shelves::new(alloc);
-        for (id, job) in jobs {
-            let spot = Spot::of(job)?;
+        for (id, stored) in jobs {
+            let spot = Spot::of(stored.as_job())?;
             shelves.put_everywhere(*id, &spot)?;
         }
         Ok(shelves)
@@ -128,7 +129,7 @@ impl Shelves {
 
     /// Whether the map has a job that belongs on the shelf with this label at the place of a job. Where look-ups begin
     /// after it there is none, and the map isn't looked at.
-    fn is_taken(&self, label: Label, jobs: &BTreeMap<u64, Job>, id: u64, spot: &Spot) -> bool
+    fn is_taken(&self, label: Label, jobs: &BTreeMap<u64, StoredJob>, id: u64, spot: &Spot) -> bool
         requires { AreInReach self.now jobs.now.entries }
         ensures yes { result ≡ true → (p : ℕ × ℕ) → BelongsAt label.entry p (id, at_spot spot.now)
             → ((e : ℕ × Job) × BelongsAt label.entry p e × In e jobs.now.entries) }
@@ -143,7 +144,7 @@ impl Shelves {
     }
 
     /// Takes a job from the shelf with this label, unless the map has a job that belongs there.
-    fn take_from(&mut self, label: Label, jobs: &BTreeMap<u64, Job>, id: u64, spot: &Spot)
+    fn take_from(&mut self, label: Label, jobs: &BTreeMap<u64, StoredJob>, id: u64, spot: &Spot)
         requires { AreInReach self.old jobs.now.entries }
         ensures taken { HasTaken self.old self.new jobs.now.entries }
         ensures gone { IsGone self.new jobs.now.entries (id, at_spot spot.now) label.entry }
@@ -193,7 +194,7 @@ impl Shelves {
     }
 
     /// Takes a job from its shelves, but for places where the map has a job that belongs there.
-    pub fn take_everywhere(&mut self, jobs: &BTreeMap<u64, Job>, id: u64, spot: &Spot)
+    pub fn take_everywhere(&mut self, jobs: &BTreeMap<u64, StoredJob>, id: u64, spot: &Spot)
         requires { AreInReach self.old jobs.now.entries }
         ensures taken { HasTaken self.old self.new jobs.now.entries }
         ensures gone { (label : Label)
@@ -218,13 +219,13 @@ impl Shelves {
     }
 
     /// Lists the job that the map has at an id, if there is one, as one that went.
-    pub fn leave_at(&mut self, jobs: &BTreeMap<u64, Job>, id: u64) -> Result<(), AllocError>
+    pub fn leave_at(&mut self, jobs: &BTreeMap<u64, StoredJob>, id: u64) -> Result<(), AllocError>
         ensures more { ListsMore self.old self.new }
         ensures ok { OnOk result ((job : Job) → value_at id jobs.now.entries ≡ Some job
             → IsListed self.new.went.items (id, job)) }
     {
-        if let Some(job) = jobs.get(&id) {
-            self.leave(id, job)?;
+        if let Some(stored) = jobs.get(&id) {
+            self.leave(id, stored.as_job())?;
         }
         Ok(())
     }
@@ -282,7 +283,7 @@ impl Shelves {
     }
 
     /// Lets look-ups begin after the places that were left, on the shelves where the job stood that went last.
-    fn settle(&mut self, jobs: &BTreeMap<u64, Job>)
+    fn settle(&mut self, jobs: &BTreeMap<u64, StoredJob>)
         requires { Rising 0 (2 ^ 64) jobs.now.entries }
         ensures { HasSettled self.old self.new jobs.now.entries }
     {
@@ -319,7 +320,7 @@ impl Shelves {
     }
 
     /// Takes out the places of the jobs that went, but for those where the map has a job, and lists none.
-    pub fn sweep(&mut self, jobs: &BTreeMap<u64, Job>)
+    pub fn sweep(&mut self, jobs: &BTreeMap<u64, StoredJob>)
         requires { HoldJobs self.old jobs.now.entries self.old.went.items }
         ensures { AreSwept self.new jobs.now.entries }
     {
@@ -331,7 +332,7 @@ impl Shelves {
 
     /// After the changes of a trial were taken back: look-ups find the jobs that went, the places go of those that came,
     /// but for those where the map has a job, and none is listed.
-    pub fn go_back(&mut self, jobs: &BTreeMap<u64, Job>)
+    pub fn go_back(&mut self, jobs: &BTreeMap<u64, StoredJob>)
         requires rising { Rising 0 (2 ^ 64) jobs.now.entries }
         requires back { CanGoBack self.old jobs.now.entries }
         ensures { AreSwept self.new jobs.now.entries }
@@ -342,7 +343,7 @@ impl Shelves {
     }
 
     /// After a change of a job: in a trial look-ups begin after the places that it has left, and else those go.
-    pub fn follow(&mut self, jobs: &BTreeMap<u64, Job>, is_trial: bool)
+    pub fn follow(&mut self, jobs: &BTreeMap<u64, StoredJob>, is_trial: bool)
         requires { HoldJobs self.old jobs.now.entries self.old.went.items }
         ensures { HasCaughtUp is_trial self.old self.new jobs.now.entries }
     {

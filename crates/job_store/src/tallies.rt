@@ -5,12 +5,13 @@ ghost use Rattle.job_store.specs.Tallies.{tally_in, tally_all};
 use crate::job::Job;
 use crate::name::Name;
 use crate::shelves::Shelves;
+use crate::stored_job::StoredJob;
 use crate::tally::Tally;
 use std::collections::BTreeMap;
 
 /// How many jobs of a tube are in each state. It goes over the jobs only where some are listed as ones that went: else
 /// on each shelf there are just those that belong there.
-pub fn tally_in(shelves: &Shelves, jobs: &BTreeMap<u64, Job>, tube: &Name) -> Tally
+pub fn tally_in(shelves: &Shelves, jobs: &BTreeMap<u64, StoredJob>, tube: &Name) -> Tally
     requires { HoldJobs shelves.now jobs.now.entries shelves.now.went.items }
     ensures { result ≡ tally_in tube.now jobs.now.entries }
 {
@@ -29,7 +30,7 @@ pub fn tally_in(shelves: &Shelves, jobs: &BTreeMap<u64, Job>, tube: &Name) -> Ta
 
 /// How many of all jobs are in each state. It goes over the jobs only where some are listed as ones that went, and else
 /// over the tubes.
-pub fn tally_all(shelves: &Shelves, jobs: &BTreeMap<u64, Job>) -> Tally
+pub fn tally_all(shelves: &Shelves, jobs: &BTreeMap<u64, StoredJob>) -> Tally
     requires { HoldJobs shelves.now jobs.now.entries shelves.now.went.items }
     ensures { result ≡ tally_all jobs.now.entries }
 {

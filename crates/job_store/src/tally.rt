@@ -3,6 +3,7 @@ ghost use Rattle.std.specs.Prelude.{◌≡◌, ◌∷◌, [], ℕ};
 use crate::job::Job;
 use crate::name::Name;
 use crate::state::State;
+use crate::stored_job::StoredJob;
 use std::collections::BTreeMap;
 
 /// A ready job is urgent where its priority is below this.
@@ -32,11 +33,12 @@ impl Tally {
     };
 
     /// That of the jobs of a tube. It goes over all jobs.
-    pub fn in_tube(jobs: &BTreeMap<u64, Job>, tube: &Name) -> Tally
+    pub fn in_tube(jobs: &BTreeMap<u64, StoredJob>, tube: &Name) -> Tally
         ensures { result ≡ tally_in tube.now jobs.now.entries }
     {
         let mut tally = Tally::NONE;
-        for (_, job) in jobs {
+        for (_, stored) in jobs {
+            let job = stored.as_job();
             if *tube == job.tube {
                 tally.add(job);
             }
@@ -45,12 +47,12 @@ impl Tally {
     }
 
     /// That of all jobs. It goes over them.
-    pub fn of_all(jobs: &BTreeMap<u64, Job>) -> Tally
+    pub fn of_all(jobs: &BTreeMap<u64, StoredJob>) -> Tally
         ensures { result ≡ tally_all jobs.now.entries }
     {
         let mut tally = Tally::NONE;
-        for (_, job) in jobs {
-            tally.add(job);
+        for (_, stored) in jobs {
+            tally.add(stored.as_job());
         }
         tally
     }

@@ -3,8 +3,8 @@ ghost use Rattle.job_store.specs.Entries.{Rising, value_at, with_value, altered}
 ghost use Rattle.job_store.specs.Undone.{undone, all_undone, set_to, set_back, put_back};
 
 use crate::history::History;
-use crate::job::Job;
 use crate::state::State;
+use crate::stored_job::StoredJob;
 use std::alloc::AllocError;
 use std::collections::BTreeMap;
 
@@ -16,7 +16,7 @@ pub enum Undo {
     /// This job stands at its id again.
     PutBack {
         id: u64,
-        job: Job,
+        job: StoredJob,
     },
     /// The job at this id has the priority, the state and the history again that it had.
     SetBack {
@@ -32,7 +32,7 @@ pub fn note(
     log: &mut Vec<Undo>,
     is_trial: bool,
     id: u64,
-    jobs: &BTreeMap<u64, Job>,
+    jobs: &BTreeMap<u64, StoredJob>,
 ) -> Result<(), AllocError>
     ensures ok { OnOk result (log.new.items
         ≡ log.old.items ++ set_back is_trial id (value_at id jobs.now.entries)) }
@@ -40,12 +40,15 @@ pub fn note(
     ensures there { OnErr result (IsSome (value_at id jobs.now.entries)) }
 {
     match jobs.get(&id) {
-        Some(job) if is_trial => log.push(Undo::SetBack {
-            id,
-            pri: job.pri,
-            state: job.state,
-            history: job.history,
-        })?,
+        Some(stored) if is_trial => {
+            let job = stored.as_job();
+            log.push(Undo::SetBack {
+                id,
+                pri: job.pri,
+                state: job.state,
+                history: job.history,
+            })?;
+        }
         _ => {}
     }
     Ok(())
@@ -53,10 +56,10 @@ pub fn note(
 
 /// Puts a job at an id, and adds to the log what takes that back.
 pub fn put(
-    jobs: &mut BTreeMap<u64, Job>,
+    jobs: &mut BTreeMap<u64, StoredJob>,
     log: &mut Vec<Undo>,
     id: u64,
-    job: Job,
+    job: StoredJob,
 ) -> Result<(), AllocError>
     ensures jobs { OnOk result (jobs.new.entries ≡ with_value id job jobs.old.entries) }
     ensures log { OnOk result (log.new.items
@@ -74,19 +77,17 @@ pub fn put(
 }
 
 /// Sets the priority, the state and the history of the job at an id, if there is one.
-fn set_to(jobs: &mut BTreeMap<u64, Job>, id: u64, pri: u32, state: State, history: History)
+fn set_to(jobs: &mut BTreeMap<u64, StoredJob>, id: u64, pri: u32, state: State, history: History)
     requires { Rising 0 (2 ^ 64) jobs.old.entries }
     ensures { jobs.new.entries ≡ altered id (set_to pri state history) jobs.old.entries }
 {
-    if let Some(job) = jobs.get_mut(&id) {
-        job.pri = pri;
-        job.state = state;
-        job.history = history;
+    if let Some(stored) = jobs.get_mut(&id) {
+        stored.set(pri, state, history);
     }
 }
 
 /// Takes one change back.
-fn undo_one(jobs: &mut BTreeMap<u64, Job>, undo: Undo)
+fn undo_one(jobs: &mut BTreeMap<u64, StoredJob>, undo: Undo)
     requires { Rising 0 (2 ^ 64) jobs.old.entries }
     ensures { jobs.new.entries ≡ undone undo jobs.old.entries }
 {
@@ -109,7 +110,7 @@ fn undo_one(jobs: &mut BTreeMap<u64, Job>, undo: Undo)
 }
 
 /// Takes all changes of a log back, the last one first.
-pub fn undo_all(jobs: &mut BTreeMap<u64, Job>, log: &mut Vec<Undo>)
+pub fn undo_all(jobs: &mut BTreeMap<u64, StoredJob>, log: &mut Vec<Undo>)
     requires { Rising 0 (2 ^ 64) jobs.old.entries }
     ensures jobs { jobs.new.entries ≡ all_undone log.old.items jobs.old.entries }
     ensures log { log.new.items ≡ [] }

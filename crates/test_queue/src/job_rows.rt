@@ -38,8 +38,8 @@ fn row(id: u64, job: &Job) -> Row {
 /// All its jobs, by rising id.
 fn rows_of<M: JobMap>(alloc: Global, jobs: &M) -> Result<Vec<Row>, AllocError> {
     let mut rows = Vec::new(alloc);
-    for (id, job) in jobs.by_id() {
-        rows.push(row(*id, job))?;
+    for (id, stored) in jobs.by_id() {
+        rows.push(row(*id, stored.as_job()))?;
     }
     Ok(rows)
 }

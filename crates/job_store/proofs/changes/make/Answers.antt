@@ -2,21 +2,23 @@ use Rattle.std.proofs.Common.{◌≡◌, ◌∙◌, ℕ, ap, sym, refl, None, BT
 use Rattle.std.specs.Option.{option_copied_mut}
 use Rattle.job_store.specs.declared.job.Job.{Job}
 use Rattle.job_store.specs.Entries.{value_at}
+use Rattle.job_store.specs.Histories.{after_mark}
 use Rattle.job_store.specs.States.{marked_at}
+use Rattle.job_store.specs.Undone.{set_to}
 use Rattle.job_store.specs.EntryLaws.{altered-absent}
 use Rattle.job_store.proofs.maps.Entries.{set_value-altered}
 use Rattle.job_store.proofs.changes.make.Goals as goal
 
 pub returns-in-Some : goal.returns-in-Some
 returns-in-Some c =
-    ap (λ h. (c.get_mut.follows.lender (record c.in-Some.job.now {
-      pri = c.args.change.now.pri;
-      state = c.args.change.now.state;
-      history = h;
-    })).entries) c.marked-job.ensures ∙
-    (c.get_mut.follows.holds (marked_at c.args.change.now.pri c.args.change.now.state c.args.change.now.mark c.in-Some.job.now)).0 ∙
+    ap (λ (j : Job). (c.get_mut.follows.lender j).entries)
+    (c.set.ensures ∙
+    ap (λ h. set_to c.args.change.now.pri c.args.change.now.state h c.in-Some.stored.now) c.marked-history.ensures ∙
+    ap (λ (j : Job). set_to c.args.change.now.pri c.args.change.now.state (after_mark c.args.change.now.mark j.history) c.in-Some.stored.now)
+    c.as_job.ensures) ∙
+    (c.get_mut.follows.holds (marked_at c.args.change.now.pri c.args.change.now.state c.args.change.now.mark c.in-Some.stored.now)).0 ∙
     set_value-altered c.args.change.now.id _ _
-    (marked_at c.args.change.now.pri c.args.change.now.state c.args.change.now.mark) c.in-Some.job.now _ c.args.jobs.now.entries
+    (marked_at c.args.change.now.pri c.args.change.now.state c.args.change.now.mark) c.in-Some.stored.now _ c.args.jobs.now.entries
     c.requires (sym c.in-Some.ensures.value) refl
 
 pub returns-in_default : goal.returns-in_default

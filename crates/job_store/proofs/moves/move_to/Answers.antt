@@ -1,4 +1,5 @@
-use Rattle.std.proofs.Common.{◌++◌, ◌∷◌, [], refl, sym, ap, ◌∙◌}
+use Rattle.std.proofs.Common.{◌++◌, ◌∷◌, [], Some, refl, sym, ap, ◌∙◌}
+use Rattle.job_store.specs.declared.job.Job.{Job}
 use Rattle.job_store.specs.Entries.{value_at}
 use Rattle.job_store.specs.Spots.{spot_of, changed_spot}
 use Rattle.job_store.specs.States.{marked_at}
@@ -35,17 +36,17 @@ returns-clause-moved c = record {
   grown = grown-moved c.args.shelves.now c.put_changed.new.self c.keep_last.new.self c.keep_last.ensures.shelves
       c.keep_last.ensures.came c.in_ok-put_changed.ensures.put.grown;
   followed = followed-altered c.args.shelves.now c.put_changed.new.self c.keep_last.new.self c.args.change.now.id _ _
-      (marked_at c.args.change.now.pri c.args.change.now.state c.args.change.now.mark) c.in-Some.job.now c.args.jobs.now.jobs
+      (marked_at c.args.change.now.pri c.args.change.now.state c.args.change.now.mark) c.as_job.result.now c.args.jobs.now.jobs
       c.set.new.self.jobs c.by_id.ensures.rising
-      (c.in-Some.ensures.value ∙ ap (value_at c.args.change.now.id) c.by_id.ensures.jobs) c.in_ok-set.ensures.ok
+      (ap (λ (j : Job). Some j) c.as_job.ensures ∙ c.in-Some.ensures.value ∙ ap (value_at c.args.change.now.id) c.by_id.ensures.jobs) c.in_ok-set.ensures.ok
       c.keep_last.ensures.shelves
-      (c.keep_last.ensures.went (c.args.shelves.now.went.items ++ (c.args.change.now.id, spot_of c.in-Some.job.now) ∷ []) _
+      (c.keep_last.ensures.went (c.args.shelves.now.went.items ++ (c.args.change.now.id, spot_of c.as_job.result.now) ∷ []) _
       c.in_ok-put_changed.ensures.went)
       (stored-only c.args.shelves.now c.args.shelves.now c.put_changed.new.self c.args.change.now.id
-      (marked_at c.args.change.now.pri c.args.change.now.state c.args.change.now.mark c.in-Some.job.now)
-      (changed_spot c.args.change.now.pri c.args.change.now.state c.in-Some.job.now) refl (λ l. refl)
+      (marked_at c.args.change.now.pri c.args.change.now.state c.args.change.now.mark c.as_job.result.now)
+      (changed_spot c.args.change.now.pri c.args.change.now.state c.as_job.result.now) refl (λ l. refl)
       c.in_ok-put_changed.ensures.put.only)
       (stored-come c.put_changed.new.self c.args.change.now.id
-      (marked_at c.args.change.now.pri c.args.change.now.state c.args.change.now.mark c.in-Some.job.now)
-      (changed_spot c.args.change.now.pri c.args.change.now.state c.in-Some.job.now) refl c.in_ok-put_changed.ensures.put.come);
+      (marked_at c.args.change.now.pri c.args.change.now.state c.args.change.now.mark c.as_job.result.now)
+      (changed_spot c.args.change.now.pri c.args.change.now.state c.as_job.result.now) refl c.in_ok-put_changed.ensures.put.come);
 }

@@ -1,4 +1,5 @@
-use Rattle.std.proofs.Common.{◌++◌, ◌∷◌, [], refl, sym, ap, ◌∙◌}
+use Rattle.std.proofs.Common.{◌++◌, ◌∷◌, [], Some, refl, sym, ap, ◌∙◌}
+use Rattle.job_store.specs.declared.job.Job.{Job}
 use Rattle.job_store.specs.Entries.{value_at}
 use Rattle.job_store.specs.Spots.{spot_of, changed_spot}
 use Rattle.job_store.specs.States.{marked}
@@ -35,15 +36,15 @@ returns-clause-moved c = record {
   grown = grown-moved c.args.shelves.now c.put_changed.new.self c.keep_last.new.self c.keep_last.ensures.shelves
       c.keep_last.ensures.came c.in_ok-put_changed.ensures.put.grown;
   followed = followed-altered c.args.shelves.now c.put_changed.new.self c.keep_last.new.self c.args.id _ _
-      (marked c.args.state c.args.mark) c.in-Some.job.now c.args.jobs.now.jobs
+      (marked c.args.state c.args.mark) c.as_job-job.result.now c.args.jobs.now.jobs
       c.set_state.new.self.jobs c.by_id.ensures.rising
-      (c.in-Some.ensures.value ∙ ap (value_at c.args.id) c.by_id.ensures.jobs) c.in_ok-set_state.ensures.ok
+      (ap (λ (j : Job). Some j) c.as_job-job.ensures ∙ c.in-Some.ensures.value ∙ ap (value_at c.args.id) c.by_id.ensures.jobs) c.in_ok-set_state.ensures.ok
       c.keep_last.ensures.shelves
-      (c.keep_last.ensures.went (c.args.shelves.now.went.items ++ (c.args.id, spot_of c.in-Some.job.now) ∷ []) _
+      (c.keep_last.ensures.went (c.args.shelves.now.went.items ++ (c.args.id, spot_of c.as_job-job.result.now) ∷ []) _
       c.in_ok-put_changed.ensures.went)
       (stored-only c.args.shelves.now c.args.shelves.now c.put_changed.new.self c.args.id
-      (marked c.args.state c.args.mark c.in-Some.job.now) (changed_spot c.in-Some.job.now.pri c.args.state c.in-Some.job.now)
+      (marked c.args.state c.args.mark c.as_job-job.result.now) (changed_spot c.as_job-job.result.now.pri c.args.state c.as_job-job.result.now)
       refl (λ l. refl) c.in_ok-put_changed.ensures.put.only)
-      (stored-come c.put_changed.new.self c.args.id (marked c.args.state c.args.mark c.in-Some.job.now)
-      (changed_spot c.in-Some.job.now.pri c.args.state c.in-Some.job.now) refl c.in_ok-put_changed.ensures.put.come);
+      (stored-come c.put_changed.new.self c.args.id (marked c.args.state c.args.mark c.as_job-job.result.now)
+      (changed_spot c.as_job-job.result.now.pri c.args.state c.as_job-job.result.now) refl c.in_ok-put_changed.ensures.put.come);
 }

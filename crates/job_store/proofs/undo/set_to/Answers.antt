@@ -9,9 +9,10 @@ use Rattle.job_store.proofs.undo.set_to.Goals as goal
 
 pub returns-in-Some : goal.returns-in-Some
 returns-in-Some c =
-    (c.get_mut.follows.holds (set_to c.args.pri c.args.state c.args.history c.in-Some.job.now)).0 ∙
+    ap (λ (j : Job). (c.get_mut.follows.lender j).entries) c.set.ensures ∙
+    (c.get_mut.follows.holds (set_to c.args.pri c.args.state c.args.history c.in-Some.stored.now)).0 ∙
     set_value-altered c.args.id _ _
-    (set_to c.args.pri c.args.state c.args.history) c.in-Some.job.now _ c.args.jobs.now.entries
+    (set_to c.args.pri c.args.state c.args.history) c.in-Some.stored.now _ c.args.jobs.now.entries
     c.requires (sym c.in-Some.ensures.value) refl
 
 pub returns-in_default : goal.returns-in_default

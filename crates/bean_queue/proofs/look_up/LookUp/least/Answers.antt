@@ -8,7 +8,7 @@ use Rattle.bean_queue.proofs.look_up.LookUp.least.Goals as goal
 pub loop-id-preserved-then-passes : goal.loop-id-preserved-then-passes
 loop-id-preserved-then-passes c =
     least-step (passes c.args.self.now) (look_up_number c.args.self.now)
-    (option_map (λ e. (e.0, e.1.now)) c.loop-id.least) (c.in-Some.id.now, c.in-Some.job.now)
+    (option_map (λ e. (e.0, e.1.now)) c.loop-id.least) (c.in-Some.id.now, c.in-Some.stored.now)
     (c.first_of.result.0, c.first_of.result.1.now) c.next.new.self c.args.jobs.now.entries (search rules)
     (sym c.passes.ensures ∙ c.if-passes.true) c.first_of.ensures
 

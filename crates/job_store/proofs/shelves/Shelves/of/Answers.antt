@@ -1,4 +1,5 @@
-use Rattle.std.proofs.Common.{rules, ◌≡◌, [], subst, sym}
+use Rattle.std.proofs.Common.{rules, ◌≡◌, ◌∙◌, [], ap, subst, sym}
+use Rattle.job_store.specs.Spots.{spot_of}
 use Rattle.job_store.proofs.shelving.Shelving.{ArePut, none-put, one-put, all-put}
 use Rattle.job_store.proofs.shelves.Shelves.of.Goals as goal
 
@@ -11,15 +12,15 @@ loop-id-init c =
 pub loop-id-preserved-in_ok-put_everywhere : goal.loop-id-preserved-in_ok-put_everywhere
 loop-id-preserved-in_ok-put_everywhere c =
     one-put c.loop-id.shelves c.put_everywhere.new.self
-    (c.in-Some.id.now, c.in-Some.job.now) c.in_ok-spot.spot c.loop-id.id-iterator c.next.new.self
-    c.args.jobs.now.entries (search rules) c.in_ok-spot.ensures
+    (c.in-Some.id.now, c.in-Some.stored.now) c.in_ok-spot.spot c.loop-id.id-iterator c.next.new.self
+    c.args.jobs.now.entries (search rules) (c.in_ok-spot.ensures ∙ ap spot_of c.as_job.ensures)
     c.in_ok-put_everywhere.ensures.come c.in_ok-put_everywhere.ensures.put c.loop-id.invariant
 
 pub loop-id-preserved : goal.loop-id-preserved
 loop-id-preserved c =
     one-put c.loop-id.shelves c.put_everywhere.new.self
-    (c.in-Some.id.now, c.in-Some.job.now) c.in_ok-spot.spot c.loop-id.id-iterator c.next.new.self
-    c.args.jobs.now.entries (search rules) c.in_ok-spot.ensures
+    (c.in-Some.id.now, c.in-Some.stored.now) c.in_ok-spot.spot c.loop-id.id-iterator c.next.new.self
+    c.args.jobs.now.entries (search rules) (c.in_ok-spot.ensures ∙ ap spot_of c.as_job.ensures)
     c.in_ok-put_everywhere.ensures.come c.in_ok-put_everywhere.ensures.put c.loop-id.invariant
 
 pub returns : goal.returns

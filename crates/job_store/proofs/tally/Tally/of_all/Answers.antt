@@ -1,14 +1,18 @@
-use Rattle.std.proofs.Common.{rules, true, refl}
+use Rattle.std.proofs.Common.{rules, true, refl, ap, ◌∙◌, ◌∷◌, []}
+use Rattle.job_store.specs.declared.job.Job.{Job}
+use Rattle.job_store.specs.Tallies.{tally_all, together}
 use Rattle.job_store.proofs.counting.Tallies.{has-room, tallied-more}
 use Rattle.job_store.proofs.tally.Tally.of_all.Goals as goal
 
 pub add-requires : goal.add-requires
 add-requires c =
-    has-room (λ e. true) c.args.jobs.now.entries c.loop-job.tally c.loop-job.job-iterator
-    c.into_iter-job-iterator.ensures.into_iter_gives.1 c.loop-job.invariant
+    has-room (λ e. true) c.args.jobs.now.entries c.loop-stored.tally c.loop-stored.stored-iterator
+    c.into_iter-stored-iterator.ensures.into_iter_gives.1 c.loop-stored.invariant
 
-pub loop-job-preserved : goal.loop-job-preserved
-loop-job-preserved c =
-    tallied-more (λ e. true) c.args.jobs.now.entries c.loop-job.tally c.add.new.self
-    (c.in-Some.field-0-0.now, c.in-Some.job.now) c.loop-job.job-iterator c.next.new.self (search rules) refl
-    (c.add.ensures c.in-Some.field-0-0.now) c.loop-job.invariant
+pub loop-stored-preserved : goal.loop-stored-preserved
+loop-stored-preserved c =
+    tallied-more (λ e. true) c.args.jobs.now.entries c.loop-stored.tally c.add.new.self
+    (c.in-Some.field-0-0.now, c.in-Some.stored.now) c.loop-stored.stored-iterator c.next.new.self (search rules) refl
+    (c.add.ensures c.in-Some.field-0-0.now ∙
+    ap (λ (j : Job). together c.loop-stored.tally (tally_all ((c.in-Some.field-0-0.now, j) ∷ []))) c.as_job.ensures)
+    c.loop-stored.invariant
