@@ -28,23 +28,12 @@ use std::{env, fs};
 
 fn main(rt: HostRuntime) -> Result<()> {
     let _sockets = no_sockets();
-    let mut cases = 0usize;
     let mut differ = 0usize;
     for name in file_names(&rt)?.iter() {
-        let tally = run_file(&rt, name.as_str())?;
-        cases = cases.saturating_add(tally.cases);
-        differ = differ.saturating_add(tally.differ);
+        differ = differ.saturating_add(run_file(&rt, name.as_str())?);
     }
-    println!(rt; "{cases} cases, {differ} differ")?;
     ensure!(differ == 0, "cases differ");
     Ok(())
-}
-
-/// How many cases were run, and how many of them went otherwise than they should.
-#[derive(Clone, Copy)]
-struct Tally {
-    cases: usize,
-    differ: usize,
 }
 
 // The words of the command line after the program's name.
@@ -52,20 +41,18 @@ fn file_names<R: Env + AllocGlobal>(rt: &R) -> Result<Vec<String>> {
     Ok(env::args(rt)?.skip(1).collect(rt.alloc())?)
 }
 
-/// Runs the cases of a file, and prints how many of them differ.
-fn run_file<H: Host + Print>(rt: &H, name: &str) -> Result<Tally> {
+/// Runs the cases of a file, and prints how many of them differ. A file without a case is refused.
+fn run_file<H: Host + Print>(rt: &H, name: &str) -> Result<usize> {
     let text = fs::read_to_string(rt, name).context(name)?;
-    let tally = run_text(rt, name, text.as_str())?;
-    println!(rt; "{name}: {} cases, {} differ", tally.cases, tally.differ)?;
-    Ok(tally)
+    let differ = run_text(rt, name, text.as_str()).context(name)?;
+    println!(rt; "{name}: {differ} differ")?;
+    Ok(differ)
 }
 
-fn run_text<H: Host + Print>(rt: &H, name: &str, text: &str) -> Result<Tally> {
+fn run_text<H: Host + Print>(rt: &H, name: &str, text: &str) -> Result<usize> {
     let cases = cases_of(rt.alloc(), text)?;
-    Ok(Tally {
-        cases: cases.len(),
-        differ: run_cases(rt, name, cases.as_slice())?,
-    })
+    ensure!(!cases.is_empty(), "no cases");
+    run_cases(rt, name, cases.as_slice())
 }
 
 // Counts those that differ.
