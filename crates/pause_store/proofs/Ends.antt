@@ -1,11 +1,10 @@
--- The ends of pauses, and the steps that take changes back.
-use Rattle.std.proofs.Common.{◌≡◌, ℕ, ◌≤◌, ◌⊎◌, inl, inr, List, [], ◌∷◌, ◌++◌, refl, sym, ap, ap₂, subst, ◌∙◌, arith}
-use Rattle.std.proofs.Common.{Some, None, Less, Equal, Greater, nat_lt, ltb-false, ltb-true, true, false}
+-- The ends of pauses.
+use Rattle.std.proofs.Common.{◌≡◌, ℕ, ◌≤◌, ◌⊎◌, inl, inr, List, [], ◌∷◌, refl, sym, ap, subst, ◌∙◌, arith}
+use Rattle.std.proofs.Common.{Less, Equal, Greater, nat_lt, ltb-false, ltb-true, true, false}
 use Rattle.std.specs.Ordering.{match_ordering, nat_cmp, ordering_then}
 use Rattle.std.specs.List.{AllByRecursion}
 use Rattle.std.specs.List.Sorted.{IsStrictlySortedBy}
-use Rattle.std.specs.Map.{keys_of, lookup}
-use Rattle.std.specs.BTreeMap.{insert_entry, is_at}
+use Rattle.std.specs.BTreeMap.{insert_entry}
 use Rattle.std.specs.BTreeSet.{insert_key}
 use Rattle.std.proofs.lemmas.Map.Keys.{sorted_head, sorted_tail}
 use Rattle.std.proofs.lemmas.Map.Lookups.{exact_bytes, exact_unsigned}
@@ -14,14 +13,7 @@ use Rattle.object.specs.KeyLaws.{then_equal}
 use Rattle.job_store.specs.Racks.{name_cmp}
 use Rattle.job_store.specs.EntryLaws.{cmp_greater}
 use Rattle.pause_store.specs.declared.pause.Pause.{Pause}
-use Rattle.pause_store.specs.declared.pause_step.PauseStep.{PauseStep}
-use Rattle.pause_store.specs.Pauses.{AreInOrder, DropsOver, HasEnds, pause_cmp, step_back, before_steps}
-use Rattle.pause_store.proofs.Seconds.{remove-insert, set-insert}
-
-pub before-push : (steps : List PauseStep) (step : PauseStep) (es : List (List ℕ × ℕ))
-    → before_steps (steps ++ step ∷ []) es ≡ before_steps steps (step_back step es)
-before-push [] step es = refl
-before-push (s ∷ steps) step es = ap (step_back s) (before-push steps step es)
+use Rattle.pause_store.specs.Pauses.{DropsOver, HasEnds, pause_cmp}
 
 -- an entry of a map in which a second was set
 in-insert : (p : List ℕ × ℕ) (tube : List ℕ) (v : ℕ) (es : List (List ℕ × ℕ)) → In p (insert_entry name_cmp es tube v) → (p ≡ (tube, v)) ⊎ In p es
@@ -110,48 +102,16 @@ soonest k p ks s i = elim i [
   | inr more ↦ soonest-tail k p ks (sorted_head pause_cmp k ks s) more
 ]
 
--- Steps back
-
-pub changed-back : (tube t u : List ℕ) (v old : ℕ) (es fs : List (List ℕ × ℕ)) (step : PauseStep)
-    → IsStrictlySortedBy name_cmp (keys_of es) → t ≡ tube → u ≡ tube
-    → step ≡ PauseStep.Changed (record { until = old; tube = t }) → fs ≡ insert_entry name_cmp es u v
-    → lookup (is_at (name_cmp tube)) es ≡ Some old → step_back step fs ≡ es
-changed-back tube t u v old es fs step s a b is set there =
-    ap₂ (λ z zs. step_back z zs) is set ∙
-    ap₂ (λ x y. step_back (PauseStep.Changed (record { until = old; tube = x })) (insert_entry name_cmp es y v)) a b ∙
-    set-insert tube v old es s there
-
-pub begun-back : (tube t u : List ℕ) (v : ℕ) (es fs : List (List ℕ × ℕ)) (step : PauseStep) → t ≡ tube → u ≡ tube
-    → step ≡ PauseStep.Begun t → fs ≡ insert_entry name_cmp es u v → lookup (is_at (name_cmp tube)) es ≡ None
-    → step_back step fs ≡ es
-begun-back tube t u v es fs step a b is set absent =
-    ap₂ (λ z zs. step_back z zs) is set ∙
-    ap₂ (λ x y. step_back (PauseStep.Begun x) (insert_entry name_cmp es y v)) a b ∙
-    remove-insert tube v es absent
-
--- one step more
-pub before-step : (steps more : List PauseStep) (step : PauseStep) (es fs : List (List ℕ × ℕ))
-    → more ≡ steps ++ step ∷ [] → step_back step fs ≡ es → before_steps more fs ≡ before_steps steps es
-before-step steps more step es fs is back = ap (λ zs. before_steps zs fs) is ∙ before-push steps step fs ∙ ap (before_steps steps) back
-
--- one step less
-pub before-less : (steps fewer : List PauseStep) (step : PauseStep) (es fs before : List (List ℕ × ℕ))
-    → steps ≡ fewer ++ step ∷ [] → before_steps steps es ≡ before → fs ≡ step_back step es
-    → before_steps fewer fs ≡ before
-before-less steps fewer step es fs before is was back =
-    ap (before_steps fewer) back ∙ sym (before-push fewer step es) ∙ sym (ap (λ zs. before_steps zs es) is) ∙ was
-
 pub sorted-rest : (items rest : List Pause) (first : Pause) → items ≡ first ∷ rest → IsStrictlySortedBy pause_cmp items → IsStrictlySortedBy pause_cmp rest
 sorted-rest items rest first is sorted = sorted_tail pause_cmp first rest (subst (IsStrictlySortedBy pause_cmp) is sorted)
 
 -- What is over is dropped
 
-pub drops-none : (second : ℕ) (es : List (List ℕ × ℕ)) → AreInOrder es → DropsOver second es es
-drops-none second es ordered = record { left = refl; ordered = ordered; fewer = λ p i. i }
+pub drops-none : (second : ℕ) (es : List (List ℕ × ℕ)) → DropsOver second es es
+drops-none second es = record { left = refl; fewer = λ p i. i }
 
 pub drops-twice : {second : ℕ} {a b c : List (List ℕ × ℕ)} → DropsOver second a b → DropsOver second b c → DropsOver second a c
 drops-twice one two = record {
   left = two.left ∙ one.left;
-  ordered = two.ordered;
   fewer = λ p i. one.fewer p (two.fewer p i);
 }

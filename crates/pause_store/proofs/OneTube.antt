@@ -9,14 +9,8 @@ use Rattle.std.proofs.lemmas.Map.Text.{is_eq-slice_cmp}
 use Rattle.std.proofs.lemmas.Slice.Eq.{bytes_eq-Decides}
 use Rattle.object.specs.Lists.{In}
 use Rattle.job_store.specs.Racks.{name_cmp}
+use Rattle.tube_store.proofs.NameMaps.{itself, another}
 use Rattle.pause_store.specs.Pauses.{PauseState, is_paused, left_at, tubes_over, unpaused, paused_until, paused_for}
-
-itself : (tube : List ℕ) → bytes_eq tube tube ≡ true
-itself tube = (bytes_eq-Decides tube tube).1 refl
-
-another : (x y : List ℕ) → (x ≡ y → ⊥) → bytes_eq x y ≡ false
-another x y apart = elim (bytes_eq x y) as (λ b. bytes_eq x y ≡ b
-    → b ≡ false) [ true ↦ λ t. absurd (apart ((bytes_eq-Decides x y).0 t)) | false ↦ λ t. refl ] refl
 
 its-paused : (tube : List ℕ) (v : ℕ) (es : List (List ℕ × ℕ)) → is_paused tube (insert_entry name_cmp es tube v) ≡ true
 its-paused tube v [] = ap (λ b. b || false) (itself tube)

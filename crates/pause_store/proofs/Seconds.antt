@@ -1,13 +1,13 @@
 -- Maps from tubes to seconds, as `BTreeMap` changes them, and the pauses that are left of them.
-use Rattle.std.proofs.Common.{◌≡◌, ◌↔◌, ℕ, ◌<◌, ◌≤◌, Bool, true, false, cond, not, ◌||◌, inl, inr, List, [], ◌∷◌, Some}
+use Rattle.std.proofs.Common.{◌≡◌, ◌↔◌, ℕ, ◌<◌, ◌≤◌, true, false, cond, not, ◌||◌, inl, inr, List, [], ◌∷◌, Some}
 use Rattle.std.proofs.Common.{None, is_some, nat_lt, bytes_eq, refl, sym, ap, ap₂, subst, ◌∙◌, arith, ltb-true}
 use Rattle.std.proofs.Common.{ltb-false, le-ltb, Less, Equal, Greater, true≢false}
 use Rattle.std.proofs.lemmas.Bool.{cond-true, cond-false}
 use Rattle.std.specs.Ordering.{match_ordering, is_eq}
 use Rattle.std.specs.List.{AllByRecursion, filter}
 use Rattle.std.specs.List.Sorted.{IsStrictlySortedBy}
-use Rattle.std.specs.Map.{keys_of, lookup, remove_entry, set_value}
-use Rattle.std.specs.BTreeMap.{is_at, insert_entry}
+use Rattle.std.specs.Map.{keys_of, lookup, remove_entry}
+use Rattle.std.specs.BTreeMap.{insert_entry}
 use Rattle.std.specs.Cmp.Lexicographic.{nat_list_cmp_total}
 use Rattle.std.proofs.lemmas.Map.Keys.{sorted_head, sorted_tail}
 use Rattle.std.proofs.lemmas.Map.Lookups.{exact_bytes}
@@ -15,14 +15,11 @@ use Rattle.std.proofs.lemmas.Map.Text.{is_eq-slice_cmp}
 use Rattle.std.proofs.lemmas.Slice.Eq.{bytes_eq-Decides}
 use Rattle.object.specs.Lists.{In}
 use Rattle.job_store.specs.Racks.{name_cmp}
+use Rattle.tube_store.proofs.NameMaps.{of, itself, the_some}
 use Rattle.pause_store.specs.Pauses.{is_paused, left_at, unpaused, tubes_over}
 
 abbrev Seconds : Type 0
 Seconds = List (List ℕ × ℕ)
-
--- whether this is the entry of the tube
-abbrev of : List ℕ → List ℕ → Bool
-of tube = is_at (name_cmp tube)
 
 -- all entries are of tubes after this one
 abbrev AreAbove : List ℕ → Seconds → Type 0
@@ -51,7 +48,7 @@ same-tube : (x y : List ℕ) → name_cmp x y ≡ Equal → x ≡ y
 same-tube x y e = exact_bytes x y e
 
 is-itself : (tube : List ℕ) → of tube tube ≡ true
-is-itself tube = is_eq-slice_cmp tube tube ∙ (bytes_eq-Decides tube tube).1 refl
+is-itself tube = is_eq-slice_cmp tube tube ∙ itself tube
 
 -- An entry before all others
 
@@ -136,41 +133,6 @@ left-over second tube v (e ∷ es) s over =
           ]
     ] refl
 
--- What takes a set second back
-
-pub remove-insert : (tube : List ℕ) (v : ℕ) (es : Seconds) → lookup (of tube) es ≡ None → remove_entry (of tube) (insert_entry name_cmp es tube v) ≡ es
-remove-insert tube v [] absent = cond-true (of tube tube) [] ((tube, v) ∷ []) (is-itself tube)
-remove-insert tube v (e ∷ es) absent =
-    elim (name_cmp tube e.0) as (λ o. name_cmp tube e.0 ≡ o
-    → remove_entry (of tube) (match_ordering o ((tube, v) ∷ e ∷ es) ((e.0, v) ∷ es)
-    (e ∷ insert_entry name_cmp es tube v)) ≡ e ∷ es) [
-      | Less ↦ λ o. cond-true (of tube tube) (e ∷ es) ((tube, v) ∷ remove_entry (of tube) (e ∷ es)) (is-itself tube)
-      | Equal ↦ λ o. absurd (true≢false (ap is_some (sym (cond-true (of tube e.0) (Some e.1) (lookup (of tube) es) (ap is_eq o)) ∙ absent)))
-      | Greater ↦ λ o.
-          cond-false (of tube e.0) (insert_entry name_cmp es tube v) (e ∷ remove_entry (of tube) (insert_entry name_cmp es tube v)) (ap is_eq o) ∙
-          ap (λ zs. e ∷ zs) (remove-insert tube v es (sym (cond-false (of tube e.0) (Some e.1) (lookup (of tube) es) (ap is_eq o)) ∙ absent))
-    ] refl
-
-pub the-some : {X : Type 0} (x y : X) → Some x ≡ Some y → x ≡ y
-the-some x y e = ap (λ o. elim o [ None ↦ x | Some z ↦ z ]) e
-
-pub set-insert : (tube : List ℕ) (v old : ℕ) (es : Seconds) → IsStrictlySortedBy name_cmp (keys_of es)
-    → lookup (of tube) es ≡ Some old → set_value (of tube) (insert_entry name_cmp es tube v) old ≡ es
-set-insert tube v old [] s there = absurd (true≢false (sym (ap is_some there)))
-set-insert tube v old (e ∷ es) s there =
-    elim (name_cmp tube e.0) as (λ o. name_cmp tube e.0 ≡ o
-    → set_value (of tube) (match_ordering o ((tube, v) ∷ e ∷ es) ((e.0, v) ∷ es)
-    (e ∷ insert_entry name_cmp es tube v)) old ≡ e ∷ es) [
-      | Less ↦ λ o. absurd (true≢false (sym (ap is_some (sym (none-front tube (e ∷ es) (o, above-far tube e es o (above-head e es s))) ∙ there))))
-      | Equal ↦ λ o.
-          cond-true (of tube e.0) ((e.0, old) ∷ es) ((e.0, v) ∷ set_value (of tube) es old) (ap is_eq o) ∙
-          ap (λ x. (e.0, x) ∷ es) (sym (the-some e.1 old (sym (cond-true (of tube e.0) (Some e.1) (lookup (of tube) es) (ap is_eq o)) ∙ there)))
-      | Greater ↦ λ o.
-          cond-false (of tube e.0) ((e.0, old) ∷ insert_entry name_cmp es tube v) (e ∷ set_value (of tube) (insert_entry name_cmp es tube v) old) (ap is_eq o) ∙
-          ap (λ zs. e ∷ zs) (set-insert tube v old es (sorted_tail name_cmp e.0 (keys_of es) s)
-          (sym (cond-false (of tube e.0) (Some e.1) (lookup (of tube) es) (ap is_eq o)) ∙ there))
-    ] refl
-
 -- What is left after an entry that is over went
 
 pub left-remove : (second : ℕ) (tube : List ℕ) (v : ℕ) (es : Seconds) → lookup (of tube) es ≡ Some v
@@ -179,7 +141,7 @@ left-remove second tube v [] there over = refl
 left-remove second tube v (e ∷ es) there over =
     elim (of tube e.0) as (λ b. cond b (Some e.1) (lookup (of tube) es) ≡ Some v
     → left_at second (cond b es (e ∷ remove_entry (of tube) es)) ≡ left_at second (e ∷ es)) [
-      | true ↦ λ is. sym (cond-false (nat_lt second e.1) (e ∷ left_at second es) (left_at second es) (ap (nat_lt second) (the-some e.1 v is) ∙ over))
+      | true ↦ λ is. sym (cond-false (nat_lt second e.1) (e ∷ left_at second es) (left_at second es) (ap (nat_lt second) (the_some e.1 v is) ∙ over))
       | false ↦ λ is. ap (λ zs. cond (nat_lt second e.1) (e ∷ zs) zs) (left-remove second tube v es is over)
     ] there
 
@@ -209,7 +171,7 @@ paused-there second tube v (e ∷ es) s there =
     elim (name_cmp tube e.0) as (λ o. name_cmp tube e.0 ≡ o → is_paused tube (left_at second (e ∷ es)) ≡ nat_lt second v) [
       | Less ↦ λ o. absurd (true≢false (sym (ap is_some (sym (none-front tube (e ∷ es) (o, above-far tube e es o (above-head e es s))) ∙ there))))
       | Equal ↦ λ o.
-          let here : e.1 ≡ v = the-some e.1 v (sym (cond-true (of tube e.0) (Some e.1) (lookup (of tube) es) (ap is_eq o)) ∙ there) in
+          let here : e.1 ≡ v = the_some e.1 v (sym (cond-true (of tube e.0) (Some e.1) (lookup (of tube) es) (ap is_eq o)) ∙ there) in
           elim (nat_lt second e.1) as (λ b. is_paused tube (cond b (e ∷ rest) rest) ≡ b) [
             | true ↦ ap (λ b. b || is_paused tube rest) (sym (is_eq-slice_cmp tube e.0) ∙ ap is_eq o)
             | false ↦ none-paused tube rest (subst (λ x. AreAbove x rest) (sym (same-tube tube e.0 o)) (above-left e.0 second es (above-head e es s)))
@@ -246,7 +208,7 @@ end-there second tube v (e ∷ es) s there =
     elim (name_cmp tube e.0) as (λ o. name_cmp tube e.0 ≡ o → lookup (of tube) (left_at second (e ∷ es)) ≡ cond (nat_lt second v) (Some v) None) [
       | Less ↦ λ o. absurd (true≢false (sym (ap is_some (sym (none-front tube (e ∷ es) (o, above-far tube e es o (above-head e es s))) ∙ there))))
       | Equal ↦ λ o.
-          let here : e.1 ≡ v = the-some e.1 v (sym (cond-true (of tube e.0) (Some e.1) (lookup (of tube) es) (ap is_eq o)) ∙ there) in
+          let here : e.1 ≡ v = the_some e.1 v (sym (cond-true (of tube e.0) (Some e.1) (lookup (of tube) es) (ap is_eq o)) ∙ there) in
           elim (nat_lt second e.1) as (λ b. lookup (of tube) (cond b (e ∷ rest) rest) ≡ cond b (Some e.1) None) [
             | true ↦ cond-true (of tube e.0) (Some e.1) (lookup (of tube) rest) (ap is_eq o)
             | false ↦ none-front tube rest (subst (λ x. AreAbove x rest) (sym (same-tube tube e.0 o)) (above-left e.0 second es (above-head e es s)))
@@ -273,15 +235,7 @@ end-nowhere second tube (e ∷ es) absent =
           ]
     ] refl absent
 
--- A second that is set where there is none, or an entry that goes
-
-pub set-absent : (tube : List ℕ) (v : ℕ) (es : Seconds) → lookup (of tube) es ≡ None → set_value (of tube) es v ≡ es
-set-absent tube v [] absent = refl
-set-absent tube v (e ∷ es) absent =
-    elim (of tube e.0) as (λ b. cond b (Some e.1) (lookup (of tube) es) ≡ None → cond b ((e.0, v) ∷ es) (e ∷ set_value (of tube) es v) ≡ e ∷ es) [
-      | true ↦ λ is. absurd (true≢false (ap is_some is))
-      | false ↦ λ is. ap (λ zs. e ∷ zs) (set-absent tube v es is)
-    ] absent
+-- Entries that go, and those that are left
 
 pub in-remove : (tube : List ℕ) (p : List ℕ × ℕ) (es : Seconds) → In p (remove_entry (of tube) es) → In p es
 in-remove tube p [] i = i
@@ -336,7 +290,7 @@ in-lookup tube v (e ∷ es) there =
     elim (of tube e.0) as (λ b. of tube e.0 ≡ b → cond b (Some e.1) (lookup (of tube) es) ≡ Some v → In (tube, v) (e ∷ es)) [
       | true ↦ λ t is.
           let same : tube ≡ e.0 = (bytes_eq-Decides tube e.0).0 (sym (is_eq-slice_cmp tube e.0) ∙ t) in
-          inl (ap₂ (λ x y. (x, y)) same (sym (the-some e.1 v is)))
+          inl (ap₂ (λ x y. (x, y)) same (sym (the_some e.1 v is)))
       | false ↦ λ t is. inr (in-lookup tube v es is)
     ] refl there
 

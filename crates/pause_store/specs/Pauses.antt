@@ -1,16 +1,15 @@
 -- Until which second tubes are paused.
-use Rattle.std.specs.Prelude.{◌≡◌, ℕ, ◌+◌, ◌^◌, ◌<◌, ◌≤◌, Bool, not, List, [], ◌∷◌, ◌==◌, nat_lt, bytes_eq, unwrap_or, if◌then◌else◌}
+use Rattle.std.specs.Prelude.{◌≡◌, ℕ, ◌+◌, ◌^◌, ◌<◌, ◌≤◌, Bool, not, List, [], ◌==◌, nat_lt, bytes_eq, unwrap_or, if◌then◌else◌}
 use Rattle.std.specs.declared.cmp.Ordering.{Ordering}
 use Rattle.std.specs.Ordering.{nat_cmp, ordering_then}
 use Rattle.std.specs.List.{filter}
-use Rattle.std.specs.List.Sorted.{IsStrictlySortedBy}
-use Rattle.std.specs.Map.{keys_of, lookup, remove_entry, set_value}
+use Rattle.std.specs.Map.{keys_of, lookup}
 use Rattle.std.specs.BTreeMap.{insert_entry, is_at}
 use Rattle.object.specs.Lists.{In}
 use Rattle.job_store.specs.LookUps.{is_among}
 use Rattle.job_store.specs.Racks.{name_cmp}
+use Rattle.session_store.specs.Drafts.{Draft}
 use Rattle.pause_store.specs.declared.pause.Pause.{Pause}
-use Rattle.pause_store.specs.declared.pause_step.PauseStep.{PauseStep}
 
 -- the second that it is, and for each paused tube the later second at which its pause is over, by the order of names
 pub record PauseState : Type 0 where
@@ -53,37 +52,17 @@ abbrev pub tubes_over : ℕ → List (List ℕ × ℕ) → List (List ℕ)
 tubes_over second pauses = keys_of (filter (λ p. not (nat_lt second p.1)) pauses)
 
 -- no tube is paused
-abbrev pub fresh : PauseState
-fresh = record { second = 0; pauses = [] }
+abbrev pub none_paused : PauseState
+none_paused = record { second = 0; pauses = [] }
 
 -- what a map of seconds says at this second
 abbrev pub pauses_at : ℕ → List (List ℕ × ℕ) → PauseState
 pauses_at second es = record { second = second; pauses = left_at second es }
 
--- the map, where a step is taken back
-abbrev pub step_back : PauseStep → List (List ℕ × ℕ) → List (List ℕ × ℕ)
-step_back (PauseStep.Begun tube) es = remove_entry (is_at (name_cmp tube)) es
-step_back (PauseStep.Changed p) es = set_value (is_at (name_cmp p.tube)) es p.until
-
--- the map, where all these steps are taken back, the last one first
-abbrev pub before_steps : List PauseStep → List (List ℕ × ℕ) → List (List ℕ × ℕ)
-before_steps [] es = es
-before_steps (step ∷ steps) es = step_back step (before_steps steps es)
-
--- the tubes stand in the order of their names, each once
-abbrev pub AreInOrder : List (List ℕ × ℕ) → Type 0
-AreInOrder es = IsStrictlySortedBy name_cmp (keys_of es)
-
 -- of what was there, some that is over at this second has gone, and nothing else
 pub record DropsOver (second : ℕ) (old new : List (List ℕ × ℕ)) : Type 0 where
   pub left : left_at second new ≡ left_at second old
-  pub ordered : AreInOrder new
   pub fewer : (p : List ℕ × ℕ) → In p new → In p old
-
--- the map, in order, has become this
-pub record GoesTo (es wanted : List (List ℕ × ℕ)) : Type 0 where
-  pub same : es ≡ wanted
-  pub ordered : AreInOrder es
 
 -- ends go by their second, and then by the tube's name
 abbrev pub pause_cmp : Pause → Pause → Ordering
@@ -94,9 +73,8 @@ abbrev pub HasEnds : ℕ → List Pause → List (List ℕ × ℕ) → Type 0
 HasEnds second ends es = (p : List ℕ × ℕ) → In p es → second < p.1 → In (record { until = p.1; tube = p.0 }) ends
 
 -- what a draft of pauses keeps: it goes back in time only to what was kept, and its ends are complete, now and before
-pub record IsComplete (kept second : ℕ) (ends : List Pause) (steps : List PauseStep) (es : List (List ℕ × ℕ)) : Type 0 where
+pub record IsComplete (kept second : ℕ) (ends : List Pause) (seconds : Draft (List (List ℕ × ℕ))) : Type 0 where
   pub later : kept ≤ second
   pub in_range : second ≤ 2 ^ 40
-  pub ordered : AreInOrder es
-  pub now : HasEnds kept ends es
-  pub before : HasEnds kept ends (before_steps steps es)
+  pub now : HasEnds kept ends seconds.now
+  pub before : HasEnds kept ends seconds.before

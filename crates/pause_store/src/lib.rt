@@ -4,7 +4,6 @@
 mod laws;
 mod pause;
 mod pause_draft;
-mod pause_step;
 
 pub use laws::{a_pause_goes_on_or_is_over, one_tube_is_paused};
 pub use pause_draft::PauseDraft;

@@ -2,42 +2,41 @@ ghost use Rattle.std.specs.Prelude.{◌≡◌, ◌<◌, ◌≤◌, ◌^◌, ◌�
 ghost use Rattle.object.specs.Lists.{In};
 ghost use Rattle.job_store.specs.NameSets.{AddsAll};
 ghost use Rattle.pause_store.specs.declared.pause.Pause.{Pause};
-ghost use Rattle.pause_store.specs.Pauses.{fresh, is_paused, pause_end, paused_for, at_second, left_at, tubes_over, AreInOrder, DropsOver, HasEnds};
+ghost use Rattle.pause_store.specs.Pauses.{none_paused, is_paused, pause_end, paused_for, at_second, left_at, tubes_over, DropsOver, HasEnds};
 
 use crate::pause::Pause;
-use crate::pause_step::{PauseStep, set_second, take_steps_back};
 use indexmap::IndexSet;
 use job_store::Name;
 use object::Value;
 use std::alloc::{AllocError, Global};
-use std::collections::{BTreeMap, BTreeSet};
+use std::collections::BTreeSet;
 use std::marker::Model;
+use tube_store::NameDraft;
 
 /// The pauses of tubes, whose changes can be taken back until they are kept. That takes no memory.
 #[derive(Drop)]
 pub struct PauseDraft {
     /// The second at which each tube's pause is over. It may be over already, until changes are kept.
-    seconds: BTreeMap<Name, u64>,
-    /// The pauses of `seconds`, now and before the steps, by the second at which they are over, and perhaps others.
+    seconds: NameDraft<u64>,
+    /// The pauses of `seconds`, now and before the changes, by the second at which they are over, and perhaps others.
     ends: BTreeSet<Pause>,
     second: u64,
     /// The second of what was kept last.
     kept: u64,
-    steps: Vec<PauseStep>,
 }
 
 impl Model for PauseDraft {
     ghost use Rattle.session_store.specs.Drafts.{Draft};
-    ghost use Rattle.pause_store.specs.Pauses.{PauseState, pauses_at, before_steps, IsComplete};
+    ghost use Rattle.pause_store.specs.Pauses.{PauseState, pauses_at, IsComplete};
 
     ghost Value = { Draft PauseState };
 
     ghost view = { λ d. record {
-      now = pauses_at d.second d.seconds.entries;
-      before = pauses_at d.kept (before_steps d.steps.items d.seconds.entries);
+      now = pauses_at d.second d.seconds.now;
+      before = pauses_at d.kept d.seconds.before;
     } };
 
-    ghost invariant = { λ d. IsComplete d.kept d.second d.ends.keys d.steps.items d.seconds.entries };
+    ghost invariant = { λ d. IsComplete d.kept d.second d.ends.keys d.seconds };
 }
 
 /// Adds the place of a pause to the ends.
@@ -53,16 +52,15 @@ fn note_end(ends: &mut BTreeSet<Pause>, tube: &Name, until: u64) -> Result<(), A
 }
 
 /// Whether a pause that isn't over at this second ends there.
-fn is_end(seconds: &BTreeMap<Name, u64>, second: u64, end: &Pause) -> bool
-    requires { AreInOrder seconds.now.entries }
+fn is_end(seconds: &NameDraft<u64>, second: u64, end: &Pause) -> bool
     ensures { (result ≡ true)
-        ↔ In (end.now.tube, end.now.until) (left_at second seconds.now.entries) }
+        ↔ In (end.now.tube, end.now.until) (left_at second seconds.now.now) }
 {
     if end.until <= second {
         return false;
     }
     match seconds.get(&end.tube) {
-        Some(until) => *until == end.until,
+        Some(until) => until == end.until,
         None => false,
     }
 }
@@ -70,16 +68,14 @@ fn is_end(seconds: &BTreeMap<Name, u64>, second: u64, end: &Pause) -> bool
 /// Adds the tubes of pauses that are over at this second, and weren't at an earlier one. It looks at no end that comes
 /// later, but for one.
 fn add_tubes_over(
-    seconds: &BTreeMap<Name, u64>,
+    seconds: &NameDraft<u64>,
     ends: &BTreeSet<Pause>,
     earlier: u64,
     second: u64,
     tubes: &mut IndexSet<Name>,
 ) -> Result<(), AllocError>
-    requires ordered { AreInOrder seconds.now.entries }
-    requires ends { HasEnds earlier ends.now.keys seconds.now.entries }
-    ensures { AddsAll
-        (λ tube. In tube (tubes_over second (left_at earlier seconds.now.entries)))
+    requires { HasEnds earlier ends.now.keys seconds.now.now }
+    ensures { AddsAll (λ tube. In tube (tubes_over second (left_at earlier seconds.now.now)))
         tubes.old.keys tubes.new.keys result }
 {
     for end in ends {
@@ -105,24 +101,24 @@ fn pop_over(ends: &mut BTreeSet<Pause>, second: u64) -> Option<Pause>
 }
 
 /// Takes the second of a tube out, if it is over at this one.
-fn drop_over(seconds: &mut BTreeMap<Name, u64>, tube: &Name, second: u64)
-    requires { AreInOrder seconds.old.entries }
-    ensures { DropsOver second seconds.old.entries seconds.new.entries }
+fn drop_over(seconds: &mut NameDraft<u64>, tube: &Name, second: u64)
+    requires { seconds.old.before ≡ seconds.old.now }
+    ensures dropped { DropsOver second seconds.old.now seconds.new.now }
+    ensures kept { seconds.new.before ≡ seconds.new.now }
 {
     match seconds.get(tube) {
-        Some(until) if *until <= second => {
-            seconds.remove(tube);
-        }
+        Some(until) if until <= second => seconds.forget_for_good(tube),
         _ => {}
     }
 }
 
 /// Takes out what is over at this second.
-fn drop_all_over(seconds: &mut BTreeMap<Name, u64>, ends: &mut BTreeSet<Pause>, second: u64)
-    requires ordered { AreInOrder seconds.old.entries }
-    requires ends { HasEnds second ends.old.keys seconds.old.entries }
-    ensures dropped { DropsOver second seconds.old.entries seconds.new.entries }
-    ensures ends { HasEnds second ends.new.keys seconds.new.entries }
+fn drop_all_over(seconds: &mut NameDraft<u64>, ends: &mut BTreeSet<Pause>, second: u64)
+    requires kept { seconds.old.before ≡ seconds.old.now }
+    requires ends { HasEnds second ends.old.keys seconds.old.now }
+    ensures dropped { DropsOver second seconds.old.now seconds.new.now }
+    ensures kept { seconds.new.before ≡ seconds.new.now }
+    ensures ends { HasEnds second ends.new.keys seconds.new.now }
 {
     'over: while let Some(end) = pop_over(ends, second) {
         drop_over(seconds, &end.tube, second);
@@ -132,15 +128,14 @@ fn drop_all_over(seconds: &mut BTreeMap<Name, u64>, ends: &mut BTreeSet<Pause>, 
 impl PauseDraft {
     /// No tube is paused.
     pub fn new(alloc: Global) -> PauseDraft
-        ensures now { result.now ≡ fresh }
-        ensures before { result.before ≡ fresh }
+        ensures now { result.now ≡ none_paused }
+        ensures before { result.before ≡ none_paused }
     {
         PauseDraft {
-            seconds: BTreeMap::new(alloc),
+            seconds: NameDraft::new(alloc),
             ends: BTreeSet::new(alloc),
             second: 0,
             kept: 0,
-            steps: Vec::new(alloc),
         }
     }
 
@@ -157,7 +152,7 @@ impl PauseDraft {
         ensures { result ≡ is_paused tube.now self.now.now.pauses }
     {
         match self.seconds.get(tube) {
-            Some(until) => *until > self.second,
+            Some(until) => until > self.second,
             None => false,
         }
     }
@@ -167,7 +162,7 @@ impl PauseDraft {
         ensures { result ≡ pause_end tube.now self.now.now.pauses }
     {
         match self.seconds.get(tube) {
-            Some(until) => { if *until > self.second { *until } else { 0 } }
+            Some(until) => { if until > self.second { until } else { 0 } }
             None => 0,
         }
     }
@@ -180,7 +175,7 @@ impl PauseDraft {
     {
         let until = self.second + u64::from(seconds);
         note_end(&mut self.ends, tube, until)?;
-        set_second(&mut self.seconds, &mut self.steps, tube, until)
+        self.seconds.set(tube, until)
     }
 
     /// It is a later second: each pause that is over by it is gone, and each other stays as it was.
@@ -211,7 +206,7 @@ impl PauseDraft {
         ensures now { self.new.now ≡ self.old.now }
         ensures before { self.new.before ≡ self.old.now }
     {
-        self.steps.clear();
+        self.seconds.keep();
         self.kept = self.second;
         drop_all_over(&mut self.seconds, &mut self.ends, self.second);
     }
@@ -221,7 +216,7 @@ impl PauseDraft {
         ensures now { self.new.now ≡ self.old.before }
         ensures before { self.new.before ≡ self.old.before }
     {
-        take_steps_back(&mut self.seconds, &mut self.steps);
+        self.seconds.take_back();
         self.second = self.kept;
     }
 }

@@ -1,2 +1,2 @@
-pub mod Named
-pub mod Steps
+pub mod NameMaps
+pub mod NameSteps

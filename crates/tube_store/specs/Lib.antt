@@ -1,2 +1,2 @@
 pub mod TubeCounts
-pub mod TubeSteps
+pub mod NameSteps

@@ -30,5 +30,5 @@ abbrev pub marked_tube : TubeMark → List ℕ → List (List ℕ × TubeCounts)
 marked_tube mark tube es = insert_entry name_cmp es tube (after_tube_mark mark (counts_at tube es))
 
 -- the counts of the other tubes
-abbrev pub without_counts : List ℕ → List (List ℕ × TubeCounts) → List (List ℕ × TubeCounts)
-without_counts tube es = filter (λ e. not (bytes_eq tube e.0)) es
+abbrev pub without_tube : List ℕ → List (List ℕ × TubeCounts) → List (List ℕ × TubeCounts)
+without_tube tube es = filter (λ e. not (bytes_eq tube e.0)) es

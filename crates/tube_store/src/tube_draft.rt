@@ -1,32 +1,27 @@
 ghost use Rattle.std.specs.Prelude.{◌≡◌, [], OnOk, OnErr};
-ghost use Rattle.tube_store.specs.TubeCounts.{counts_at, marked_tube, without_counts};
+ghost use Rattle.tube_store.specs.TubeCounts.{counts_at, marked_tube, without_tube};
 
+use crate::name_draft::NameDraft;
 use crate::tube_counts::TubeCounts;
 use crate::tube_mark::TubeMark;
-use crate::tube_step::{TubeStep, mark_tube, take_steps_back};
 use job_store::Name;
 use std::alloc::{AllocError, Global};
-use std::collections::BTreeMap;
 use std::marker::Model;
 
 /// What was done with each tube. Marks can be taken back until they are kept, and that takes no memory.
 #[derive(Drop)]
 pub struct TubeDraft {
-    counts: BTreeMap<Name, TubeCounts>,
-    steps: Vec<TubeStep>,
+    counts: NameDraft<TubeCounts>,
 }
 
 impl Model for TubeDraft {
     ghost use Rattle.std.specs.Prelude.{ℕ, List};
     ghost use Rattle.session_store.specs.Drafts.{Draft};
     ghost use Rattle.tube_store.specs.declared.tube_counts.TubeCounts.{TubeCounts};
-    ghost use Rattle.tube_store.specs.TubeSteps.{before_steps, AreByName};
 
     ghost Value = { Draft (List (List ℕ × TubeCounts)) };
 
-    ghost view = { λ d. record { now = d.counts.entries; before = before_steps d.steps.items d.counts.entries } };
-
-    ghost invariant = { λ d. AreByName d.counts.entries };
+    ghost view = { λ d. d.counts };
 }
 
 impl TubeDraft {
@@ -36,8 +31,7 @@ impl TubeDraft {
         ensures before { result.before ≡ [] }
     {
         TubeDraft {
-            counts: BTreeMap::new(alloc),
-            steps: Vec::new(alloc),
+            counts: NameDraft::new(alloc),
         }
     }
 
@@ -46,7 +40,7 @@ impl TubeDraft {
         ensures { result ≡ counts_at tube.now self.now.now }
     {
         match self.counts.get(tube) {
-            Some(counts) => *counts,
+            Some(counts) => counts,
             None => TubeCounts::none(),
         }
     }
@@ -57,16 +51,16 @@ impl TubeDraft {
         ensures before { self.new.before ≡ self.old.before }
         ensures err { OnErr result (self.new.now ≡ self.old.now) }
     {
-        mark_tube(&mut self.counts, &mut self.steps, tube, mark)
+        let counts = self.counts(tube).marked(mark);
+        self.counts.set(tube, counts)
     }
 
     /// Keeps all marks, and takes out the counts of a tube. That can't be taken back, and takes no memory.
     pub fn forget_for_good(&mut self, tube: &Name)
-        ensures now { self.new.now ≡ without_counts tube.now self.old.now }
+        ensures now { self.new.now ≡ without_tube tube.now self.old.now }
         ensures before { self.new.before ≡ self.new.now }
     {
-        self.steps.clear();
-        self.counts.remove(tube);
+        self.counts.forget_for_good(tube);
     }
 
     /// Keeps all marks.
@@ -74,7 +68,7 @@ impl TubeDraft {
         ensures now { self.new.now ≡ self.old.now }
         ensures before { self.new.before ≡ self.old.now }
     {
-        self.steps.clear();
+        self.counts.keep();
     }
 
     /// Takes back all marks since they were kept last.
@@ -82,6 +76,6 @@ impl TubeDraft {
         ensures now { self.new.now ≡ self.old.before }
         ensures before { self.new.before ≡ self.old.before }
     {
-        take_steps_back(&mut self.counts, &mut self.steps);
+        self.counts.take_back();
     }
 }

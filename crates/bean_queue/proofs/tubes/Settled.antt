@@ -12,7 +12,7 @@ use Rattle.job_store.proofs.least.Least.{among-member}
 use Rattle.session_store.specs.declared.session.SessionState.{SessionState}
 use Rattle.pause_store.specs.Pauses.{is_paused}
 use Rattle.tube_store.specs.declared.tube_counts.TubeCounts.{TubeCounts}
-use Rattle.tube_store.specs.TubeCounts.{without_counts}
+use Rattle.tube_store.specs.TubeCounts.{without_tube}
 use Rattle.bean_queue.specs.Queue.{QueueState, with_sessions}
 use Rattle.bean_queue.specs.Tubes.{all_tubes, IsTube}
 use Rattle.bean_queue.specs.Rows.{is_kept, left_counts, settled}
@@ -62,7 +62,7 @@ without-tube tube s e gone =
     ]
 
 -- a tube that isn't kept has no counts any more
-pub settled-gone : (tube : List ℕ) (s : QueueState) → is_kept s tube ≡ false → without_counts tube s.tubes ≡ left_counts (tube ∷ []) s
+pub settled-gone : (tube : List ℕ) (s : QueueState) → is_kept s tube ≡ false → without_tube tube s.tubes ≡ left_counts (tube ∷ []) s
 unfolding left_counts
 settled-gone tube s gone =
     filter-alike (λ e. not (bytes_eq tube e.0)) (stays (tube ∷ []) s) (λ e. without-tube tube s e gone) s.tubes

@@ -10,7 +10,7 @@ use Rattle.pause_store.proofs.pause_draft.add_tubes_over.Goals as goal
 
 pub loop-end-preserved-in_ok-insert : goal.loop-end-preserved-in_ok-insert
 loop-end-preserved-in_ok-insert c =
-    let es = c.args.seconds.now.entries in
+    let es = c.args.seconds.now.now in
     let end = c.in-Some.end.now in
     let by = c.if-end-second.false in
     record {
@@ -30,7 +30,7 @@ loop-end-preserved-in_ok-insert c =
 pub loop-end-preserved : goal.loop-end-preserved
 loop-end-preserved c = record {
   grown = c.loop-end.invariant.grown;
-  over = gathered-past c.args.earlier c.args.seconds.now.entries c.args.ends.now.keys c.loop-end.end-iterator
+  over = gathered-past c.args.earlier c.args.seconds.now.now c.args.ends.now.keys c.loop-end.end-iterator
       c.next.new.self c.in-Some.end.now c.loop-end.tubes.keys c.in-Some.ensures.steps
       (λ i. absurd (false≢true (sym c.if-is_end.false ∙ c.is_end.ensures.1 i))) c.loop-end.invariant.over;
   no_others = c.loop-end.invariant.no_others;
@@ -41,8 +41,8 @@ pub returns-in-None : goal.returns-in-None
 returns-in-None c = record {
   kept = c.loop-end.invariant.grown;
   only = c.loop-end.invariant.no_others;
-  all = all-gathered c.args.earlier c.args.seconds.now.entries c.args.ends.now.keys c.args.second c.loop-end.end-iterator
-      c.loop-end.tubes.keys c.requires.ends
+  all = all-gathered c.args.earlier c.args.seconds.now.now c.args.ends.now.keys c.args.second c.loop-end.end-iterator
+      c.loop-end.tubes.keys c.requires
       (none-left c.args.second c.loop-end.end-iterator c.in-None.ensures.steps.0) c.loop-end.invariant.over;
 }
 
@@ -50,8 +50,8 @@ pub returns-then-end-second : goal.returns-then-end-second
 returns-then-end-second c = record {
   kept = c.loop-end.invariant.grown;
   only = c.loop-end.invariant.no_others;
-  all = all-gathered c.args.earlier c.args.seconds.now.entries c.args.ends.now.keys c.args.second c.loop-end.end-iterator
-      c.loop-end.tubes.keys c.requires.ends
+  all = all-gathered c.args.earlier c.args.seconds.now.now c.args.ends.now.keys c.args.second c.loop-end.end-iterator
+      c.loop-end.tubes.keys c.requires
       (all-late c.args.second c.loop-end.end-iterator c.next.new.self c.in-Some.end.now c.in-Some.ensures.steps
       c.if-end-second.true c.loop-end.invariant.sorted) c.loop-end.invariant.over;
 }

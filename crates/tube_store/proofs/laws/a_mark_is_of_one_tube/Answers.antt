@@ -1,6 +1,6 @@
 use Rattle.std.proofs.Common.{ap, unwrap_or}
 use Rattle.tube_store.specs.TubeCounts.{no_counts}
-use Rattle.tube_store.proofs.Named.{inserted-there, inserted-elsewhere, filtered-there, filtered-elsewhere}
+use Rattle.tube_store.proofs.NameMaps.{inserted-there, inserted-elsewhere, filtered-there, filtered-elsewhere}
 use Rattle.tube_store.proofs.laws.a_mark_is_of_one_tube.Goals as goal
 
 pub returns-clause-marked : goal.returns-clause-marked

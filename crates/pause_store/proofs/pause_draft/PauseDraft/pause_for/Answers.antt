@@ -9,7 +9,6 @@ pub invariant_of-self : goal.invariant_of-self
 invariant_of-self c = record {
   later = c.self.invariant.later;
   in_range = c.self.invariant.in_range;
-  ordered = c.self.invariant.ordered;
   now = ends-grown c.self.inside.kept c.self.inside.ends.keys c.note_end.new.ends.keys _ _ refl c.note_end.ensures.grown c.self.invariant.now;
   before = ends-grown c.self.inside.kept c.self.inside.ends.keys c.note_end.new.ends.keys _ _ refl c.note_end.ensures.grown c.self.invariant.before;
 }
@@ -18,16 +17,15 @@ pub invariant_of-self-2 : goal.invariant_of-self-2
 invariant_of-self-2 c = record {
   later = c.self.invariant.later;
   in_range = c.self.invariant.in_range;
-  ordered = c.set_second.ensures.ordered;
-  now = ends-set c.set_second.result c.self.inside.kept c.self.inside.ends.keys c.note_end.new.ends.keys c.args.tube.now
-      _ c.self.inside.seconds.entries c.set_second.new.seconds.entries c.set_second.ensures.seconds
-      c.set_second.ensures.err c.note_end.ensures.grown c.in_ok-note_end.ensures.ok c.self.invariant.now;
+  now = ends-set c.set.result c.self.inside.kept c.self.inside.ends.keys c.note_end.new.ends.keys c.args.tube.now
+      _ c.self.inside.seconds.now c.set.new.self.now c.set.ensures.now
+      c.set.ensures.err c.note_end.ensures.grown c.in_ok-note_end.ensures.ok c.self.invariant.now;
   before = ends-grown c.self.inside.kept c.self.inside.ends.keys c.note_end.new.ends.keys _ _
-      c.set_second.ensures.before c.note_end.ensures.grown c.self.invariant.before;
+      c.set.ensures.before c.note_end.ensures.grown c.self.invariant.before;
 }
 
 pub returns-clause-now : goal.returns-clause-now
 returns-clause-now c =
-    paused-then c.set_second.result c.self.inside.second c.args.seconds c.from.result c.args.tube.now
-    c.self.inside.seconds.entries c.set_second.new.seconds.entries c.args.self.now.now c.self.invariant.ordered
-    (ap (λ (d : Draft PauseState). d.now) c.self.view_is) c.from.ensures c.set_second.ensures.seconds
+    paused-then c.set.result c.self.inside.second c.args.seconds c.from.result c.args.tube.now
+    c.self.inside.seconds.now c.set.new.self.now c.args.self.now.now c.set.ensures.ordered
+    (ap (λ (d : Draft PauseState). d.now) c.self.view_is) c.from.ensures c.set.ensures.now

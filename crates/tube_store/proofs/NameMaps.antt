@@ -18,18 +18,18 @@ use Rattle.std.proofs.lemmas.Slice.Eq.{bytes_eq-Decides}
 use Rattle.job_store.specs.Racks.{name_cmp}
 
 -- whether this is the entry of the tube
-abbrev of : List ℕ → List ℕ → Bool
+abbrev pub of : List ℕ → List ℕ → Bool
 of tube = is_at (name_cmp tube)
 
-itself : (tube : List ℕ) → bytes_eq tube tube ≡ true
+pub itself : (tube : List ℕ) → bytes_eq tube tube ≡ true
 itself tube = (bytes_eq-Decides tube tube).1 refl
 
-another : (x y : List ℕ) → (x ≡ y → ⊥) → bytes_eq x y ≡ false
+pub another : (x y : List ℕ) → (x ≡ y → ⊥) → bytes_eq x y ≡ false
 another x y apart = elim (bytes_eq x y) as (λ b. bytes_eq x y ≡ b
     → b ≡ false) [ true ↦ λ t. absurd (apart ((bytes_eq-Decides x y).0 t)) | false ↦ λ t. refl ] refl
 
 module _ {V : Type 0} where
-  the_some : (x y : V) → Some x ≡ Some y → x ≡ y
+  pub the_some : (x y : V) → Some x ≡ Some y → x ≡ y
   the_some x y e = ap (λ o. elim o [ None ↦ x | Some z ↦ z ]) e
 
   -- what is found by the order of names is found by the name

@@ -1,0 +1,88 @@
+ghost use Rattle.std.specs.Prelude.{◌≡◌, [], OnOk, OnErr};
+ghost use Rattle.std.specs.Map.{lookup, remove_entry};
+ghost use Rattle.std.specs.BTreeMap.{insert_entry, is_at};
+ghost use Rattle.job_store.specs.Racks.{name_cmp};
+ghost use Rattle.tube_store.specs.NameSteps.{AreByName};
+
+use crate::name_step::{NameStep, set_value, take_steps_back};
+use job_store::Name;
+use std::alloc::{AllocError, Global};
+use std::collections::BTreeMap;
+use std::marker::Model;
+
+/// A value for each of some tubes. Changes can be taken back until they are kept, and that takes no memory.
+#[derive(Drop)]
+pub struct NameDraft<V: Copy> {
+    values: BTreeMap<Name, V>,
+    steps: Vec<NameStep<V>>,
+}
+
+impl<V: Copy> Model for NameDraft<V> {
+    ghost use Rattle.std.specs.Prelude.{ℕ, List};
+    ghost use Rattle.session_store.specs.Drafts.{Draft};
+    ghost use Rattle.tube_store.specs.NameSteps.{before_steps, AreByName};
+
+    ghost Value = { Draft (List (List ℕ × V)) };
+
+    ghost view = { λ d. record { now = d.values.entries; before = before_steps d.steps.items d.values.entries } };
+
+    ghost invariant = { λ d. AreByName d.values.entries };
+}
+
+impl<V: Copy> NameDraft<V> {
+    /// No tube has a value.
+    pub fn new(alloc: Global) -> NameDraft<V>
+        ensures now { result.now ≡ [] }
+        ensures before { result.before ≡ [] }
+    {
+        NameDraft {
+            values: BTreeMap::new(alloc),
+            steps: Vec::new(alloc),
+        }
+    }
+
+    /// The value of a tube. It takes no memory.
+    pub fn get(&self, tube: &Name) -> Option<V>
+        ensures value { result ≡ lookup (is_at (name_cmp tube.now)) self.now.now }
+        ensures ordered { AreByName self.now.now }
+    {
+        self.values.get(tube).copied()
+    }
+
+    /// Gives a tube this value. For one that has a value it takes no memory but that of the steps, which is kept.
+    pub fn set(&mut self, tube: &Name, value: V) -> Result<(), AllocError>
+        ensures now { OnOk result
+            (self.new.now ≡ insert_entry name_cmp self.old.now tube.now value) }
+        ensures before { self.new.before ≡ self.old.before }
+        ensures err { OnErr result (self.new.now ≡ self.old.now) }
+        ensures ordered { AreByName self.old.now }
+    {
+        set_value(&mut self.values, &mut self.steps, tube, value)
+    }
+
+    /// Keeps all changes, and takes out the value of a tube. That can't be taken back, and takes no memory.
+    pub fn forget_for_good(&mut self, tube: &Name)
+        ensures now { self.new.now ≡ remove_entry (is_at (name_cmp tube.now)) self.old.now }
+        ensures before { self.new.before ≡ self.new.now }
+        ensures ordered { AreByName self.old.now }
+    {
+        self.steps.clear();
+        self.values.remove(tube);
+    }
+
+    /// Keeps all changes.
+    pub fn keep(&mut self)
+        ensures now { self.new.now ≡ self.old.now }
+        ensures before { self.new.before ≡ self.old.now }
+    {
+        self.steps.clear();
+    }
+
+    /// Takes back all changes since they were kept last.
+    pub fn take_back(&mut self)
+        ensures now { self.new.now ≡ self.old.before }
+        ensures before { self.new.before ≡ self.old.before }
+    {
+        take_steps_back(&mut self.values, &mut self.steps);
+    }
+}
