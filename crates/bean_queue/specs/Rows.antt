@@ -227,14 +227,14 @@ kick_job_row s id =
     else replies s Reply.NotFound
 
 -- nobody has the job
-abbrev pub is_free : State → Bool
-is_free state = not (is_reserved state)
+abbrev pub is_unreserved : State → Bool
+is_unreserved state = not (is_reserved state)
 
 -- the job that there may be becomes session x's until its time to run is over, if nobody has it
 abbrev pub reserve_found : QueueState → ℕ → ℕ → Option Job → Row
 reserve_found s x id None = replies s Reply.NotFound
 reserve_found s x id (Some job) =
-    if is_free job.state
+    if is_unreserved job.state
     then replies (with_jobs s (altered id (reserved_job x (s.now + job.ttr)) s.jobs)) (Reply.Reserved id job.body)
     else replies s Reply.NotFound
 
