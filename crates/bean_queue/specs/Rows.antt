@@ -1,8 +1,7 @@
 -- What each operation does before waiting sessions are served: the state after, and the operation's own reply.
-use Rattle.std.specs.Prelude.{◌≡◌, ℕ, zero, suc, ◌+◌, max, Bool, true, false, not, ◌||◌, List, [], ◌∷◌, ◌++◌, map, filter}
-use Rattle.std.specs.Prelude.{flat_map, fold, Option, None, Some, ◌==◌, length, is_some, codes, if◌then◌else◌}
+use Rattle.std.specs.Prelude.{ℕ, zero, suc, ◌+◌, max, Bool, true, false, not, ◌||◌, List, [], ◌∷◌, filter}
+use Rattle.std.specs.Prelude.{Option, None, Some, ◌==◌, length, is_some, if◌then◌else◌}
 use Rattle.std.specs.List.{list_any}
-use Rattle.object.specs.Lists.{In}
 use Rattle.object.specs.declared.command.Key.{Key}
 use Rattle.job_store.specs.declared.job.Job.{Job}
 use Rattle.job_store.specs.declared.state.State.{State}

@@ -11,12 +11,12 @@ use Rattle.session_store.specs.Sessions.{session_of, with_wait_ended, is_waiting
 use Rattle.pause_store.specs.Pauses.{left_at}
 use Rattle.bean_queue.specs.declared.op.Op.{Op}
 use Rattle.bean_queue.specs.declared.reply.Reply.{Reply}
-use Rattle.bean_queue.specs.Queue.{QueueState, with_jobs, with_sessions}
+use Rattle.bean_queue.specs.Queue.{QueueState, with_sessions}
 use Rattle.bean_queue.specs.Forgetful.{without_history, uncounted, without_counts, is_report, asks_for_report}
 use Rattle.bean_queue.specs.Rows.{row, stats_job_row, stats_tube_row, stats_row}
 use Rattle.bean_queue.specs.Turns.{QueueOutcome, stop, all_turns, serve, deadline_turn, timeout_turn}
 use Rattle.bean_queue.specs.Effects.{then_do, own, own_outcome, called, ends_wait, is_zero, turned_away, has_no_number, carried_out, do_effect}
-use Rattle.bean_queue.specs.Effects.{change_if, released, forgotten, close_effect, second_begun, tick_effect, act_effect, effect}
+use Rattle.bean_queue.specs.Effects.{change_if, released, close_effect, second_begun, tick_effect, act_effect, effect}
 use Rattle.bean_queue.proofs.blind.Jobs.{IsBlind, blanks-twice, each-blind}
 use Rattle.bean_queue.proofs.blind.Rows.{row-blind}
 use Rattle.bean_queue.proofs.blind.Serving.{SameOutcome, Respects, serve-respects, holds-blind, deadlines-respect, timeouts-respect}

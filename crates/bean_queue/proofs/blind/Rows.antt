@@ -13,7 +13,7 @@ use Rattle.session_store.specs.WatchLists.{joined, left_out}
 use Rattle.pause_store.specs.Pauses.{paused_for}
 use Rattle.bean_queue.specs.declared.op.Op.{Op}
 use Rattle.bean_queue.specs.declared.reply.Reply.{Reply}
-use Rattle.bean_queue.specs.Queue.{QueueState, with_jobs, pauses_of, used_by}
+use Rattle.bean_queue.specs.Queue.{QueueState, pauses_of, used_by}
 use Rattle.bean_queue.specs.Forgetful.{without_history, uncounted, without_counts, is_report}
 use Rattle.bean_queue.specs.Rows.{Row, replies, with_session, row, put_job, put_row, use_row, watch_row, ignore_row, waiting}
 use Rattle.bean_queue.specs.Rows.{reserve_row, is_job_that, may_delete, delete_found, delete_row, held_row, ready_after, release_row, touch_row}
