@@ -1,5 +1,5 @@
 -- Sessions that are counted are no more than there are numbers for them.
-use Rattle.std.proofs.Common.{◌≡◌, ℕ, suc, ◌+◌, ◌≤◌, ◌<◌, ◌^◌, Bool, true, false, cond, List, [], ◌∷◌, filter, length, arith}
+use Rattle.std.proofs.Common.{ℕ, suc, ◌+◌, ◌≤◌, ◌^◌, true, false, cond, List, [], ◌∷◌, filter, length, arith}
 use Rattle.job_store.specs.Entries.{Rising}
 use Rattle.session_store.specs.declared.session.SessionState.{SessionState}
 use Rattle.bean_queue.specs.declared.group.Group.{Group}

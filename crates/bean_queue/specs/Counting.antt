@@ -41,28 +41,28 @@ abbrev pub and_timeouts : ℕ → Counts → Counts
 and_timeouts jobs c = record c { timeouts = and_more jobs c.timeouts }
 
 -- the operation was carried out; a kick-job and a reserve-job aren't counted
-abbrev pub counted : Op → Counts → Counts
-counted (Op.Put pri delay ttr body) c = record c { put = and_more 1 c.put }
-counted (Op.Peek id) c = record c { peek = and_more 1 c.peek }
-counted Op.PeekReady c = record c { peek_ready = and_more 1 c.peek_ready }
-counted Op.PeekDelayed c = record c { peek_delayed = and_more 1 c.peek_delayed }
-counted Op.PeekBuried c = record c { peek_buried = and_more 1 c.peek_buried }
-counted (Op.Reserve None) c = record c { reserve = and_more 1 c.reserve }
-counted (Op.Reserve (Some seconds)) c = record c { reserve_with_timeout = and_more 1 c.reserve_with_timeout }
-counted (Op.Delete id) c = record c { delete = and_more 1 c.delete }
-counted (Op.Release id pri delay) c = record c { release = and_more 1 c.release }
-counted (Op.Use tube) c = record c { use_tube = and_more 1 c.use_tube }
-counted (Op.Watch tube) c = record c { watch = and_more 1 c.watch }
-counted (Op.Ignore tube) c = record c { ignore = and_more 1 c.ignore }
-counted (Op.Bury id pri) c = record c { bury = and_more 1 c.bury }
-counted (Op.Kick bound) c = record c { kick = and_more 1 c.kick }
-counted (Op.Touch id) c = record c { touch = and_more 1 c.touch }
-counted Op.Stats c = record c { stats = and_more 1 c.stats }
-counted (Op.StatsJob id) c = record c { stats_job = and_more 1 c.stats_job }
-counted (Op.StatsTube tube) c = record c { stats_tube = and_more 1 c.stats_tube }
-counted Op.ListTubes c = record c { list_tubes = and_more 1 c.list_tubes }
-counted Op.ListTubeUsed c = record c { list_tube_used = and_more 1 c.list_tube_used }
-counted Op.ListTubesWatched c = record c { list_tubes_watched = and_more 1 c.list_tubes_watched }
-counted (Op.Pause tube seconds) c = record c { pause_tube = and_more 1 c.pause_tube }
-counted (Op.KickJob id) c = c
-counted (Op.ReserveJob id) c = c
+abbrev pub with_op_counted : Op → Counts → Counts
+with_op_counted (Op.Put pri delay ttr body) c = record c { put = and_more 1 c.put }
+with_op_counted (Op.Peek id) c = record c { peek = and_more 1 c.peek }
+with_op_counted Op.PeekReady c = record c { peek_ready = and_more 1 c.peek_ready }
+with_op_counted Op.PeekDelayed c = record c { peek_delayed = and_more 1 c.peek_delayed }
+with_op_counted Op.PeekBuried c = record c { peek_buried = and_more 1 c.peek_buried }
+with_op_counted (Op.Reserve None) c = record c { reserve = and_more 1 c.reserve }
+with_op_counted (Op.Reserve (Some seconds)) c = record c { reserve_with_timeout = and_more 1 c.reserve_with_timeout }
+with_op_counted (Op.Delete id) c = record c { delete = and_more 1 c.delete }
+with_op_counted (Op.Release id pri delay) c = record c { release = and_more 1 c.release }
+with_op_counted (Op.Use tube) c = record c { use_tube = and_more 1 c.use_tube }
+with_op_counted (Op.Watch tube) c = record c { watch = and_more 1 c.watch }
+with_op_counted (Op.Ignore tube) c = record c { ignore = and_more 1 c.ignore }
+with_op_counted (Op.Bury id pri) c = record c { bury = and_more 1 c.bury }
+with_op_counted (Op.Kick bound) c = record c { kick = and_more 1 c.kick }
+with_op_counted (Op.Touch id) c = record c { touch = and_more 1 c.touch }
+with_op_counted Op.Stats c = record c { stats = and_more 1 c.stats }
+with_op_counted (Op.StatsJob id) c = record c { stats_job = and_more 1 c.stats_job }
+with_op_counted (Op.StatsTube tube) c = record c { stats_tube = and_more 1 c.stats_tube }
+with_op_counted Op.ListTubes c = record c { list_tubes = and_more 1 c.list_tubes }
+with_op_counted Op.ListTubeUsed c = record c { list_tube_used = and_more 1 c.list_tube_used }
+with_op_counted Op.ListTubesWatched c = record c { list_tubes_watched = and_more 1 c.list_tubes_watched }
+with_op_counted (Op.Pause tube seconds) c = record c { pause_tube = and_more 1 c.pause_tube }
+with_op_counted (Op.KickJob id) c = c
+with_op_counted (Op.ReserveJob id) c = c

@@ -18,7 +18,7 @@ use Rattle.bean_queue.specs.declared.op.Op.{Op}
 use Rattle.bean_queue.specs.declared.ready_again.Returning.{Returning}
 use Rattle.bean_queue.specs.declared.reply.Reply.{Reply}
 use Rattle.bean_queue.specs.Queue.{QueueState, fresh, with_sessions, holds_by}
-use Rattle.bean_queue.specs.Counting.{counted, and_timeouts}
+use Rattle.bean_queue.specs.Counting.{with_op_counted, and_timeouts}
 use Rattle.bean_queue.specs.Rows.{Row, row, settled}
 use Rattle.bean_queue.specs.Turns.{QueueOutcome, stop, serve, all_turns, deadline_turn, timeout_turn}
 
@@ -43,12 +43,12 @@ role_after (Op.ReserveJob id) role = record role { has_reserved = true }
 role_after _ role = role
 
 -- the session, once it asks for the operation
-abbrev pub asking : Op → SessionState → SessionState
-asking op session = with_role (role_after op session.role) session
+abbrev pub with_ask_noted : Op → SessionState → SessionState
+with_ask_noted op session = with_role (role_after op session.role) session
 
 -- session x is there, and a wait of its own has ended without an answer; and what it asks for is counted
 abbrev pub called : Op → ℕ → QueueState → QueueState
-called op x s = record s { sessions = altered x (asking op) (known x s.sessions); counts = counted op s.counts }
+called op x s = record s { sessions = altered x (with_ask_noted op) (known x s.sessions); counts = with_op_counted op s.counts }
 
 -- the command is answered, and its session waits no longer
 abbrev pub ends_wait : QueueState → Key → Reply → QueueOutcome
@@ -140,8 +140,8 @@ returned_job which job =
 
 -- it is this second: jobs whose delay or time to run is over by it are ready (protocol.txt of beanstalkd, "put": delay
 -- and ttr), and pauses that are over by it are gone
-abbrev pub at_second : ℕ → QueueState → QueueState
-at_second second s = record s {
+abbrev pub second_begun : ℕ → QueueState → QueueState
+second_begun second s = record s {
   now = second;
   jobs = each_value (change_if (is_due second) over_job) s.jobs;
   pauses = left_at second s.pauses;
@@ -153,13 +153,13 @@ abbrev pub then_settled : List (List ℕ) → QueueOutcome → QueueOutcome
 then_settled tubes o = record { state = settled tubes o.state; answers = o.answers }
 
 -- it is this second, and waiting sessions are served and told
-abbrev pub passed : ℕ → QueueState → QueueOutcome
-passed second s = then_do (then_do (serve (at_second second s)) (all_turns deadline_turn)) (all_turns timeout_turn)
+abbrev pub second_passed : ℕ → QueueState → QueueOutcome
+second_passed second s = then_do (then_do (serve (second_begun second s)) (all_turns deadline_turn)) (all_turns timeout_turn)
 
 -- a second above now comes, and a lesser one does nothing
 unfoldable pub tick_effect : ℕ → QueueState → QueueOutcome
 tick_effect second s =
-    if nat_lt s.now second then then_settled (tubes_over second s.pauses) (passed second s) else stop s
+    if nat_lt s.now second then then_settled (tubes_over second s.pauses) (second_passed second s) else stop s
 
 -- what an act under this key does
 unfoldable pub act_effect : Act Op → Key → QueueState → QueueOutcome

@@ -13,12 +13,12 @@ abbrev pub without_history : Job → Job
 without_history job = record job { history = new_history 0 0 }
 
 -- the state, with these jobs, and with nothing that was done with tubes or counted
-abbrev pub bare : QueueState → List (ℕ × Job) → QueueState
-bare s jobs = record s { jobs = jobs; tubes = []; counts = nothing_counted }
+abbrev pub uncounted : QueueState → List (ℕ × Job) → QueueState
+uncounted s jobs = record s { jobs = jobs; tubes = []; counts = nothing_counted }
 
 -- the state, as if nothing had been counted: its jobs have histories that say nothing
 abbrev pub without_counts : QueueState → QueueState
-without_counts s = bare s (each_value without_history s.jobs)
+without_counts s = uncounted s (each_value without_history s.jobs)
 
 -- the operation asks what is counted
 abbrev pub is_report : Op → Bool

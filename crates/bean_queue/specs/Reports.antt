@@ -1,6 +1,6 @@
 -- The texts of reports: a line `---`, and a line for each name and its value (protocol.txt of beanstalkd, "stats-job": a
 -- YAML file with a dictionary).
-use Rattle.std.specs.Prelude.{ℕ, ◌-◌, Bool, ◌&&◌, List, ◌++◌, filter, length, codes, decimal, bytes_eq, if◌then◌else◌}
+use Rattle.std.specs.Prelude.{ℕ, ◌-◌, Bool, ◌&&◌, List, ◌++◌, length, codes, decimal, bytes_eq, if◌then◌else◌}
 use Rattle.job_store.specs.declared.job.Job.{Job}
 use Rattle.job_store.specs.declared.state.State.{State}
 use Rattle.job_store.specs.declared.tally.Tally.{Tally}

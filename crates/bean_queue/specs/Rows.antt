@@ -1,8 +1,7 @@
 -- What each operation does before waiting sessions are served: the state after, and the operation's own reply.
-use Rattle.std.specs.Prelude.{◌≡◌, ℕ, zero, suc, ◌+◌, max, Bool, true, false, not, ◌||◌, List, [], ◌∷◌, ◌++◌, map, filter}
-use Rattle.std.specs.Prelude.{flat_map, fold, Option, None, Some, ◌==◌, length, is_some, codes, if◌then◌else◌}
+use Rattle.std.specs.Prelude.{ℕ, zero, suc, ◌+◌, max, Bool, true, false, not, ◌||◌, List, [], ◌∷◌, filter}
+use Rattle.std.specs.Prelude.{Option, None, Some, ◌==◌, length, is_some, if◌then◌else◌}
 use Rattle.std.specs.List.{list_any}
-use Rattle.object.specs.Lists.{In}
 use Rattle.object.specs.declared.command.Key.{Key}
 use Rattle.job_store.specs.declared.job.Job.{Job}
 use Rattle.job_store.specs.declared.state.State.{State}
@@ -227,14 +226,14 @@ kick_job_row s id =
     else replies s Reply.NotFound
 
 -- nobody has the job
-abbrev pub is_free : State → Bool
-is_free state = not (is_reserved state)
+abbrev pub is_unreserved : State → Bool
+is_unreserved state = not (is_reserved state)
 
 -- the job that there may be becomes session x's until its time to run is over, if nobody has it
 abbrev pub reserve_found : QueueState → ℕ → ℕ → Option Job → Row
 reserve_found s x id None = replies s Reply.NotFound
 reserve_found s x id (Some job) =
-    if is_free job.state
+    if is_unreserved job.state
     then replies (with_jobs s (altered id (reserved_job x (s.now + job.ttr)) s.jobs)) (Reply.Reserved id job.body)
     else replies s Reply.NotFound
 

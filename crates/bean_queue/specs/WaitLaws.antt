@@ -24,11 +24,11 @@ use Rattle.bean_queue.specs.Turns.{QueueOutcome, QueueTurn, stop, turns, all_tur
 use Rattle.bean_queue.specs.Turns.{serve_turn, deadline_turn, timeout_turn, serve}
 use Rattle.bean_queue.specs.Rows.{is_idle, Row, row, put_row, use_row, watch_row, ignore_row, reserve_row, delete_row}
 use Rattle.bean_queue.specs.Rows.{may_delete, delete_found, is_job_that, release_row, touch_row, bury_row, kick_row, kick_job_row}
-use Rattle.bean_queue.specs.Rows.{is_free, reserve_found, reserve_job_row, peek_row, pause_row, stats_job_row, stats_tube_row, stats_row}
+use Rattle.bean_queue.specs.Rows.{is_unreserved, reserve_found, reserve_job_row, peek_row, pause_row, stats_job_row, stats_tube_row, stats_row}
 use Rattle.bean_queue.specs.Tubes.{all_tubes}
-use Rattle.bean_queue.specs.Effects.{own, asking, called, ends_wait, is_zero, turned_away, then_do, then_settled, has_no_number, carried_out}
-use Rattle.bean_queue.specs.Effects.{do_effect, released, close_effect, at_second, tick_effect, act_effect, effect}
-use Rattle.bean_queue.specs.Waits.{Waits, AreApart, IsLawful}
+use Rattle.bean_queue.specs.Effects.{own, with_ask_noted, called, ends_wait, is_zero, turned_away, then_do, then_settled, has_no_number, carried_out}
+use Rattle.bean_queue.specs.Effects.{do_effect, released, close_effect, second_begun, tick_effect, act_effect, effect}
+use Rattle.bean_queue.specs.Waits.{Waits, NoneTwice, IsLawful}
 use Rattle.bean_queue.specs.TurnLaws.{IsServed, IsTold, serve_turn-is, deadline_turn-is, timeout_turn-is, IfSome-map}
 
 module _ {X : Type 0} where
@@ -37,8 +37,8 @@ module _ {X : Type 0} where
   in-append (x ∷ xs) ys a (inl same) = inl (inl same)
   in-append (x ∷ xs) ys a (inr later) = elim (in-append xs ys a later) [ inl i ↦ inl (inr i) | inr i ↦ inr i ]
 
-pub apart-append : (xs ys : List (Answer Reply)) → AreApart xs → AreApart ys
-    → ((a b : Answer Reply) → In a xs → In b ys → b.to.session ≡ a.to.session → ⊥) → AreApart (xs ++ ys)
+pub apart-append : (xs ys : List (Answer Reply)) → NoneTwice xs → NoneTwice ys
+    → ((a b : Answer Reply) → In a xs → In b ys → b.to.session ≡ a.to.session → ⊥) → NoneTwice (xs ++ ys)
 apart-append [] ys p q h = q
 apart-append (x ∷ xs) ys p q h = (
   λ b i e. elim (in-append xs ys b i) as (λ v. ⊥) [ inl j ↦ p.0 b j e | inr j ↦ h x b (inl refl) j e ],
@@ -51,7 +51,7 @@ pub record IsDealt (s : QueueState) (o : QueueOutcome) : Type 0 where
   pub fewer : (k : Key) → Waits o.state k → Waits s k
   pub named : (a : Answer Reply) → In a o.answers → Waits s a.to
   pub over : (a : Answer Reply) (k : Key) → In a o.answers → Waits o.state k → k.session ≡ a.to.session → ⊥
-  pub once : AreApart o.answers
+  pub once : NoneTwice o.answers
 
 dealt-none : (s : QueueState) → IsDealt s (stop s)
 dealt-none s = record { fewer = λ k h. h; named = λ a i. absurd i; over = λ a k i. absurd i; once = tt }
@@ -156,7 +156,7 @@ deleted-waits key s j (Some job) = still_if key s (may_delete key.session job.st
 
 found-waits : (key : Key) (s : QueueState) (j : ℕ) (o : Option Job) → RowWaits key s (reserve_found s key.session j o)
 found-waits key s j None = same key s _ refl
-found-waits key s j (Some job) = still_if key s (is_free job.state) _ _ (same key s _ refl) (same key s _ refl)
+found-waits key s j (Some job) = still_if key s (is_unreserved job.state) _ _ (same key s _ refl) (same key s _ refl)
 
 row-waits : (op : Op) (key : Key) (s : QueueState) → RowWaits key s (row op key s)
 unfolding row put_row use_row watch_row ignore_row reserve_row delete_row release_row touch_row bury_row kick_row kick_job_row
@@ -253,7 +253,7 @@ carried_out-lawful op key s =
     let t = called op key.session s in
     let r = row op key (called op key.session s) in
     let start : (k : Key) → Waits (called op key.session s) k → Waits s k × (k.session ≡ key.session → ⊥) =
-    λ k w. known-waits key.session s.sessions k (altered-waits key.session (asking op) (known key.session s.sessions) k (λ c. refl) w) in
+    λ k w. known-waits key.session s.sessions k (altered-waits key.session (with_ask_noted op) (known key.session s.sessions) k (λ c. refl) w) in
     let served = serve-dealt r.state in
     lawful_along key s (turned_away op key (serve r.state).state).state
     (own key r.reply ++ ((serve r.state).answers ++ (turned_away op key (serve r.state).state).answers))
@@ -332,16 +332,16 @@ unfolding tick_effect
 tick-lawful key s =
     elim (nat_lt s.now key.number) as (λ b. IsLawful key s
     (cond b (then_settled (tubes_over key.number s.pauses)
-    (then_do (then_do (serve (at_second key.number s)) (all_turns deadline_turn)) (all_turns timeout_turn)))
+    (then_do (then_do (serve (second_begun key.number s)) (all_turns deadline_turn)) (all_turns timeout_turn)))
     (stop s))) [
       | true ↦
-          let a = serve (at_second key.number s) in
-          let b = all_turns deadline_turn (serve (at_second key.number s)).state in
+          let a = serve (second_begun key.number s) in
+          let b = all_turns deadline_turn (serve (second_begun key.number s)).state in
           let c = all_turns timeout_turn b.state in
-          let d = dealt-then (at_second key.number s) b.state c.state (a.answers ++ b.answers) c.answers
-          (dealt-then (at_second key.number s) a.state b.state a.answers b.answers (serve-dealt (at_second key.number s)) (deadlines-dealt a.state))
+          let d = dealt-then (second_begun key.number s) b.state c.state (a.answers ++ b.answers) c.answers
+          (dealt-then (second_begun key.number s) a.state b.state a.answers b.answers (serve-dealt (second_begun key.number s)) (deadlines-dealt a.state))
           (timeouts-dealt b.state) in
-          without_own key s (at_second key.number s) _ _ (λ k w. inl w) (record { fewer = d.fewer; named = d.named; over = d.over; once = d.once })
+          without_own key s (second_begun key.number s) _ _ (λ k w. inl w) (record { fewer = d.fewer; named = d.named; over = d.over; once = d.once })
       | false ↦ without_own key s s _ _ (λ k w. inl w) (dealt-none s)
     ]
 
@@ -358,7 +358,7 @@ effect-lawful c s =
 pub fresh-idle : (k : Key) → Waits fresh k → ⊥
 fresh-idle k h = h.2
 
-apart-once : (xs : List (Answer Reply)) → AreApart xs → AnswersOnce xs
+apart-once : (xs : List (Answer Reply)) → NoneTwice xs → AnswersOnce xs
 apart-once [] h = tt
 apart-once (a ∷ xs) h = (λ b i e. h.0 b i (ap (λ (k : Key). k.session) e), apart-once xs h.1)
 

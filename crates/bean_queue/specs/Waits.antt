@@ -14,9 +14,9 @@ abbrev pub Waits : QueueState → Key → Type 0
 Waits s key = WaitsIn s.sessions key
 
 -- no session is answered twice
-abbrev pub AreApart : List (Answer Reply) → Type 0
-AreApart [] = ⊤
-AreApart (a ∷ more) = ((b : Answer Reply) → In b more → b.to.session ≡ a.to.session → ⊥) × AreApart more
+abbrev pub NoneTwice : List (Answer Reply) → Type 0
+NoneTwice [] = ⊤
+NoneTwice (a ∷ more) = ((b : Answer Reply) → In b more → b.to.session ≡ a.to.session → ⊥) × NoneTwice more
 
 -- what holds of the outcome of every command
 pub record IsLawful (key : Key) (s : QueueState) (o : QueueOutcome) : Type 0 where
@@ -27,4 +27,4 @@ pub record IsLawful (key : Key) (s : QueueState) (o : QueueOutcome) : Type 0 whe
   -- an answered command waits no more
   pub over : (a : Answer Reply) → In a o.answers → Waits o.state a.to → ⊥
   -- no session is answered twice
-  pub once : AreApart o.answers
+  pub once : NoneTwice o.answers

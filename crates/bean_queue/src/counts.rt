@@ -1,5 +1,5 @@
 ghost use Rattle.std.specs.Prelude.{◌≡◌};
-ghost use Rattle.bean_queue.specs.Counting.{and_more, nothing_counted, counted, and_timeouts};
+ghost use Rattle.bean_queue.specs.Counting.{and_more, nothing_counted, with_op_counted, and_timeouts};
 
 use crate::op::Op;
 
@@ -73,7 +73,7 @@ impl Counts {
 
     /// Counts an operation.
     pub fn note(&mut self, op: &Op)
-        ensures { self.new ≡ counted op.now self.old }
+        ensures { self.new ≡ with_op_counted op.now self.old }
     {
         match op {
             Op::Put { .. } => self.put = more(self.put, 1),

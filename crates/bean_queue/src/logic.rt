@@ -2,7 +2,7 @@ ghost use Rattle.std.specs.Prelude.{◌≡◌, ◌^◌, IsSome, OnOk};
 ghost use Rattle.job_store.specs.Entries.{Rising, value_at, altered};
 ghost use Rattle.session_store.specs.Sessions.{session_of, known};
 ghost use Rattle.bean_queue.specs.Queue.{fresh, with_sessions};
-ghost use Rattle.bean_queue.specs.Effects.{asking, called};
+ghost use Rattle.bean_queue.specs.Effects.{with_ask_noted, called};
 ghost use Rattle.bean_queue.specs.Calls.{DraftsState, KeepsDraft, TakesDraftBack};
 
 mod held;
@@ -118,7 +118,7 @@ impl<M: JobMap> Logic<M> {
     fn note_role(&mut self, session: u32, op: &Op) -> Result<(), AllocError>
         requires { IsSome (value_at session self.old.now.sessions) }
         ensures now { OnOk result (self.new.now
-            ≡ with_sessions self.old.now (altered session (asking op.now) self.old.now.sessions)) }
+            ≡ with_sessions self.old.now (altered session (with_ask_noted op.now) self.old.now.sessions)) }
         ensures before { self.new.before ≡ self.old.before }
     {
         self.numbers_rise();

@@ -11,12 +11,12 @@ use Rattle.session_store.specs.Sessions.{session_of, with_wait_ended, is_waiting
 use Rattle.pause_store.specs.Pauses.{left_at}
 use Rattle.bean_queue.specs.declared.op.Op.{Op}
 use Rattle.bean_queue.specs.declared.reply.Reply.{Reply}
-use Rattle.bean_queue.specs.Queue.{QueueState, with_jobs, with_sessions}
-use Rattle.bean_queue.specs.Forgetful.{without_history, bare, without_counts, is_report, asks_for_report}
+use Rattle.bean_queue.specs.Queue.{QueueState, with_sessions}
+use Rattle.bean_queue.specs.Forgetful.{without_history, uncounted, without_counts, is_report, asks_for_report}
 use Rattle.bean_queue.specs.Rows.{row, stats_job_row, stats_tube_row, stats_row}
 use Rattle.bean_queue.specs.Turns.{QueueOutcome, stop, all_turns, serve, deadline_turn, timeout_turn}
 use Rattle.bean_queue.specs.Effects.{then_do, own, own_outcome, called, ends_wait, is_zero, turned_away, has_no_number, carried_out, do_effect}
-use Rattle.bean_queue.specs.Effects.{change_if, released, forgotten, close_effect, at_second, tick_effect, act_effect, effect}
+use Rattle.bean_queue.specs.Effects.{change_if, released, close_effect, second_begun, tick_effect, act_effect, effect}
 use Rattle.bean_queue.proofs.blind.Jobs.{IsBlind, blanks-twice, each-blind}
 use Rattle.bean_queue.proofs.blind.Rows.{row-blind}
 use Rattle.bean_queue.proofs.blind.Serving.{SameOutcome, Respects, serve-respects, holds-blind, deadlines-respect, timeouts-respect}
@@ -43,7 +43,7 @@ outcome_if b c o p q r e h k =
 called-respects : (op : Op) (key : Key) → Respects (λ s. stop (called op key.session s))
 called-respects op key =
     respects-from (λ s. stop (called op key.session s))
-    (λ s. record { answers = refl; state = ap (bare (called op key.session s)) (blanks-twice s.jobs) })
+    (λ s. record { answers = refl; state = ap (uncounted (called op key.session s)) (blanks-twice s.jobs) })
 
 row-respects : (op : Op) (key : Key) → is_report op ≡ false → Respects (λ s. own_outcome key (row op key s))
 row-respects op key plain =
@@ -55,12 +55,12 @@ own-respects op key plain s t e =
     row-respects op key plain (called op key.session s) (called op key.session t) (called-respects op key s t e).state
 
 stop-blind : (s : QueueState) → SameOutcome (stop (without_counts s)) (stop s)
-stop-blind s = record { answers = refl; state = ap (bare s) (blanks-twice s.jobs) }
+stop-blind s = record { answers = refl; state = ap (uncounted s) (blanks-twice s.jobs) }
 
 ends_wait-blind : (s : QueueState) (key : Key) (reply : Reply) → SameOutcome (ends_wait (without_counts s) key reply) (ends_wait s key reply)
 ends_wait-blind s key reply = record {
   answers = refl;
-  state = ap (bare (with_sessions s (with_wait_ended key.session s.sessions))) (blanks-twice s.jobs);
+  state = ap (uncounted (with_sessions s (with_wait_ended key.session s.sessions))) (blanks-twice s.jobs);
 }
 
 turned_away-blind : (op : Op) (key : Key) (s : QueueState) → SameOutcome (turned_away op key (without_counts s)) (turned_away op key s)
@@ -121,7 +121,7 @@ released-respects : (x : ℕ) → Respects (λ s. stop (released x s))
 released-respects x =
     respects-from (λ s. stop (released x s)) (λ s. record {
       answers = refl;
-      state = ap (bare (with_sessions s (with_wait_ended x s.sessions)))
+      state = ap (uncounted (with_sessions s (with_wait_ended x s.sessions)))
           (each-blind (change_if (is_held x) (with_state State.Ready)) s.jobs
           (if-blind (is_held x) (with_state State.Ready) (λ job. refl)));
     })
@@ -134,11 +134,11 @@ close-respects x s t e =
 
 -- A second
 
-second-respects : (second : ℕ) → Respects (λ s. stop (at_second second s))
+second-respects : (second : ℕ) → Respects (λ s. stop (second_begun second s))
 second-respects second =
-    respects-from (λ s. stop (at_second second s)) (λ s. record {
+    respects-from (λ s. stop (second_begun second s)) (λ s. record {
       answers = refl;
-      state = ap (bare (record s { now = second; pauses = left_at second s.pauses }))
+      state = ap (uncounted (record s { now = second; pauses = left_at second s.pauses }))
           (each-blind (change_if (is_due second) over_job) s.jobs (if-blind (is_due second) over_job (λ job. refl)));
     })
 
@@ -148,7 +148,7 @@ tick-respects second s t e =
     outcome_if (nat_lt s.now second) (nat_lt t.now second) _ _ _ _ (ap (λ (u : QueueState). nat_lt u.now second) e)
     (let told = then-respects (λ u. then_do (serve u) (all_turns deadline_turn)) (all_turns timeout_turn)
     (then-respects serve (all_turns deadline_turn) serve-respects deadlines-respect)
-    timeouts-respect (at_second second s) (at_second second t) (second-respects second s t e).state in
+    timeouts-respect (second_begun second s) (second_begun second t) (second-respects second s t e).state in
     record { answers = told.answers; state = told.state })
     (record { answers = refl; state = e })
 

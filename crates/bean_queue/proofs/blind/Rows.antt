@@ -13,12 +13,12 @@ use Rattle.session_store.specs.WatchLists.{joined, left_out}
 use Rattle.pause_store.specs.Pauses.{paused_for}
 use Rattle.bean_queue.specs.declared.op.Op.{Op}
 use Rattle.bean_queue.specs.declared.reply.Reply.{Reply}
-use Rattle.bean_queue.specs.Queue.{QueueState, with_jobs, pauses_of, used_by}
-use Rattle.bean_queue.specs.Forgetful.{without_history, bare, without_counts, is_report}
+use Rattle.bean_queue.specs.Queue.{QueueState, pauses_of, used_by}
+use Rattle.bean_queue.specs.Forgetful.{without_history, uncounted, without_counts, is_report}
 use Rattle.bean_queue.specs.Rows.{Row, replies, with_session, row, put_job, put_row, use_row, watch_row, ignore_row, waiting}
 use Rattle.bean_queue.specs.Rows.{reserve_row, is_job_that, may_delete, delete_found, delete_row, held_row, ready_after, release_row, touch_row}
 use Rattle.bean_queue.specs.Rows.{bury_row, Kicked, kicked_option, kicked, kick_by, kick_row, is_idle, kick_job_row, shown}
-use Rattle.bean_queue.specs.Rows.{is_free, reserve_found, reserve_job_row, at_id, peek_row, pause_row}
+use Rattle.bean_queue.specs.Rows.{is_unreserved, reserve_found, reserve_job_row, at_id, peek_row, pause_row}
 use Rattle.bean_queue.specs.Tubes.{in_order, all_tubes}
 use Rattle.bean_queue.proofs.blind.Jobs.{blank, blanks, IsBlind, blanks-twice, altered-blind, without-blind, insert-blind, least-blind, tubes-blind}
 
@@ -33,11 +33,11 @@ same_if b c r q s t e h k =
 
 -- a reply, and nothing changes
 same_reply : (s : QueueState) (a b : Reply) → a ≡ b → SameRow (replies (without_counts s) a) (replies s b)
-same_reply s a b e = record { reply = ap Some e; state = ap (bare s) (blanks-twice s.jobs) }
+same_reply s a b e = record { reply = ap Some e; state = ap (uncounted s) (blanks-twice s.jobs) }
 
 -- the state changes, and not in its jobs
 same_jobs : (s : QueueState) (o : Option Reply) → SameRow (record { state = without_counts s; reply = o }) (record { state = s; reply = o })
-same_jobs s o = record { reply = refl; state = ap (bare s) (blanks-twice s.jobs) }
+same_jobs s o = record { reply = refl; state = ap (uncounted s) (blanks-twice s.jobs) }
 
 asked-blind : (test : State → Bool) (id : ℕ) (jobs : List (ℕ × Job)) → is_job_that test (value_at id (blanks jobs)) ≡ is_job_that test (value_at id jobs)
 asked-blind test id jobs =
@@ -48,7 +48,7 @@ held-blind : (s : QueueState) (x id : ℕ) (f : Job → Job) (reply : Reply) →
     → SameRow (held_row (without_counts s) x id f reply) (held_row s x id f reply)
 held-blind s x id f reply blind =
     same_if _ _ _ _ _ _ (asked-blind (is_held x) id s.jobs)
-    (record { reply = refl; state = ap (bare s) (altered-blind id f s.jobs blind) })
+    (record { reply = refl; state = ap (uncounted s) (altered-blind id f s.jobs blind) })
     (same_reply s Reply.NotFound Reply.NotFound refl)
 
 -- Kicks
@@ -109,7 +109,7 @@ kick-blind s x bound =
     subst (λ b. SameRow (kick_by (without_counts s) (kicked (cond b (first_buried (used_by s x)) (first_delayed (used_by s x))) bound (blanks s.jobs)))
     (kick_by s (kicked (cond (is_some (first_buried (used_by s x) s.jobs)) (first_buried (used_by s x)) (first_delayed (used_by s x))) bound s.jobs)))
     (sym buried)
-    (record { reply = ap (λ n. Some (Reply.KickedCount n)) k.count; state = ap (bare s) k.jobs })
+    (record { reply = ap (λ n. Some (Reply.KickedCount n)) k.count; state = ap (uncounted s) k.jobs })
 
 -- Look-ups
 
@@ -142,7 +142,7 @@ delete-blind s x id =
       | None ↦ same_reply s Reply.NotFound Reply.NotFound refl
       | Some job ↦
           same_if (may_delete x job.state) (may_delete x job.state) _ _ _ _ refl
-          (record { reply = refl; state = ap (bare s) (without-blind id s.jobs) })
+          (record { reply = refl; state = ap (uncounted s) (without-blind id s.jobs) })
           (same_reply s Reply.NotFound Reply.NotFound refl)
     ])
 
@@ -154,8 +154,8 @@ found-blind s x id =
     (elim (value_at id s.jobs) as (λ o. SameRow (reserve_found (without_counts s) x id (option_map without_history o)) (reserve_found s x id o)) [
       | None ↦ same_reply s Reply.NotFound Reply.NotFound refl
       | Some job ↦
-          same_if (is_free job.state) (is_free job.state) _ _ _ _ refl
-          (record { reply = refl; state = ap (bare s) (altered-blind id (reserved_job x (s.now + job.ttr)) s.jobs (λ job. refl)) })
+          same_if (is_unreserved job.state) (is_unreserved job.state) _ _ _ _ refl
+          (record { reply = refl; state = ap (uncounted s) (altered-blind id (reserved_job x (s.now + job.ttr)) s.jobs (λ job. refl)) })
           (same_reply s Reply.NotFound Reply.NotFound refl)
     ])
 
@@ -163,14 +163,14 @@ pub row-blind : (op : Op) (key : Key) (s : QueueState) → is_report op ≡ fals
 unfolding row put_row use_row watch_row ignore_row reserve_row delete_row release_row touch_row bury_row kick_job_row reserve_job_row pause_row
 row-blind (Op.Put pri delay ttr body) key s plain = record {
   reply = refl;
-  state = ap (bare (record s { next_id = s.next_id + 1 })) (insert-blind s.next_id (put_job s key.session pri delay ttr body) s.jobs);
+  state = ap (uncounted (record s { next_id = s.next_id + 1 })) (insert-blind s.next_id (put_job s key.session pri delay ttr body) s.jobs);
 }
 row-blind (Op.Use tube) key s plain =
-    record { reply = refl; state = ap (bare (with_session s key.session (λ c. record c { used = tube }))) (blanks-twice s.jobs) }
+    record { reply = refl; state = ap (uncounted (with_session s key.session (λ c. record c { used = tube }))) (blanks-twice s.jobs) }
 row-blind (Op.Watch tube) key s plain = same_jobs (with_session s key.session (λ c. record c { watched = joined tube c.watched })) _
 row-blind (Op.Ignore tube) key s plain =
     same_if _ _ _ _ _ _ refl (same_reply s Reply.NotIgnored Reply.NotIgnored refl)
-    (record { reply = refl; state = ap (bare (with_session s key.session (λ c. record c { watched = left_out tube c.watched }))) (blanks-twice s.jobs) })
+    (record { reply = refl; state = ap (uncounted (with_session s key.session (λ c. record c { watched = left_out tube c.watched }))) (blanks-twice s.jobs) })
 row-blind (Op.Reserve seconds) key s plain = same_jobs (waiting s key.session key.number seconds) None
 row-blind (Op.Delete id) key s plain = delete-blind s key.session id
 row-blind (Op.Touch id) key s plain =
@@ -181,13 +181,13 @@ row-blind (Op.Bury id pri) key s plain =
     same_if _ _ _ _ _ _ (asked-blind (is_held key.session) id s.jobs)
     (record {
       reply = refl;
-      state = ap (bare (record s { next_rank = s.next_rank + 1 })) (altered-blind id (buried_job pri s.next_rank) s.jobs (λ job. refl));
+      state = ap (uncounted (record s { next_rank = s.next_rank + 1 })) (altered-blind id (buried_job pri s.next_rank) s.jobs (λ job. refl));
     })
     (same_reply s Reply.NotFound Reply.NotFound refl)
 row-blind (Op.Kick bound) key s plain = kick-blind s key.session bound
 row-blind (Op.KickJob id) key s plain =
     same_if _ _ _ _ _ _ (asked-blind is_idle id s.jobs)
-    (record { reply = refl; state = ap (bare s) (altered-blind id kicked_job s.jobs (λ job. refl)) })
+    (record { reply = refl; state = ap (uncounted s) (altered-blind id kicked_job s.jobs (λ job. refl)) })
     (same_reply s Reply.NotFound Reply.NotFound refl)
 row-blind (Op.ReserveJob id) key s plain = found-blind s key.session id
 row-blind (Op.Peek id) key s plain = peek-blind (at_id id) s (at_id-blind id)
@@ -199,7 +199,7 @@ row-blind Op.ListTubeUsed key s plain = same_reply s _ _ refl
 row-blind Op.ListTubesWatched key s plain = same_reply s _ _ refl
 row-blind (Op.Pause tube seconds) key s plain =
     same_if _ _ _ _ _ _ (ap (is_among tube) (all_tubes-blind s))
-    (record { reply = refl; state = ap (bare (record s { pauses = (paused_for tube seconds (pauses_of s)).pauses })) (blanks-twice s.jobs) })
+    (record { reply = refl; state = ap (uncounted (record s { pauses = (paused_for tube seconds (pauses_of s)).pauses })) (blanks-twice s.jobs) })
     (same_reply s Reply.NotFound Reply.NotFound refl)
 row-blind (Op.StatsJob id) key s plain = cc
 row-blind (Op.StatsTube tube) key s plain = cc

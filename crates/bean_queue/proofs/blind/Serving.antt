@@ -9,8 +9,8 @@ use Rattle.job_store.specs.States.{is_held, due_of, reserved_job}
 use Rattle.session_store.specs.declared.session.SessionState.{SessionState}
 use Rattle.session_store.specs.Sessions.{first_waiting, with_wait_ended, is_waiting, wait_rank, has_timed_out}
 use Rattle.bean_queue.specs.declared.reply.Reply.{Reply}
-use Rattle.bean_queue.specs.Queue.{QueueState, with_jobs, holds_by, paused_tubes}
-use Rattle.bean_queue.specs.Forgetful.{bare, without_counts}
+use Rattle.bean_queue.specs.Queue.{QueueState, holds_by, paused_tubes}
+use Rattle.bean_queue.specs.Forgetful.{uncounted, without_counts}
 use Rattle.bean_queue.specs.Turns.{QueueOutcome, QueueTurn, turns, all_turns, after_option, wanted, next_job, answer_to, given, give, give_to}
 use Rattle.bean_queue.specs.Turns.{serve_turn, told_turn, tell, deadline_turn, timeout_turn, serve}
 use Rattle.bean_queue.proofs.blind.Jobs.{blank, blanks, blanks-twice, altered-blind, least-blind, any-blind}
@@ -86,7 +86,7 @@ given-blind : (s : QueueState) (j : ℕ × Job) (w : ℕ × SessionState) → se
 unfolding given
 given-blind s j w =
     ap (λ jobs. let t : QueueTurn = record {
-      state = bare (record s { sessions = with_wait_ended w.0 s.sessions }) jobs;
+      state = uncounted (record s { sessions = with_wait_ended w.0 s.sessions }) jobs;
       answer = answer_to w (Reply.Reserved j.0 j.1.body);
     } in t)
     (altered-blind j.0 (reserved_job w.0 (s.now + j.1.ttr)) s.jobs (λ job. refl))
@@ -113,7 +113,7 @@ told-blind : (s : QueueState) (reply : Reply) (w : ℕ × SessionState) → seen
 unfolding told_turn
 told-blind s reply w =
     ap (λ jobs. let t : QueueTurn = record {
-      state = bare (record s { sessions = with_wait_ended w.0 s.sessions }) jobs;
+      state = uncounted (record s { sessions = with_wait_ended w.0 s.sessions }) jobs;
       answer = answer_to w reply;
     } in t)
     (blanks-twice s.jobs)

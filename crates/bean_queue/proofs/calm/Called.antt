@@ -11,7 +11,7 @@ use Rattle.bean_queue.specs.declared.reply.Reply.{Reply}
 use Rattle.bean_queue.specs.Queue.{QueueState}
 use Rattle.bean_queue.specs.Rows.{row}
 use Rattle.bean_queue.specs.Turns.{QueueOutcome, serve_turn}
-use Rattle.bean_queue.specs.Effects.{own, role_after, asking, called, carried_out, is_quiet}
+use Rattle.bean_queue.specs.Effects.{own, role_after, with_ask_noted, called, carried_out, is_quiet}
 use Rattle.bean_queue.proofs.calm.Calm.{quiet-effect}
 
 still_some : (f : SessionState → SessionState) (o : Option SessionState) → is_some o ≡ true → is_some (option_map f o) ≡ true
@@ -29,8 +29,8 @@ known-there x sessions =
 pub called-there : (op : Op) (s t : QueueState) (x : ℕ) → t ≡ called op x s → IsSome (value_at x t.sessions)
 called-there op s t x e =
     subst (λ (t : QueueState). IsSome (value_at x t.sessions)) (sym e)
-    (ap is_some (value_at-altered x (asking op) (known x s.sessions)) ∙
-    still_some (asking op) (value_at x (known x s.sessions)) (known-there x s.sessions))
+    (ap is_some (value_at-altered x (with_ask_noted op) (known x s.sessions)) ∙
+    still_some (with_ask_noted op) (value_at x (known x s.sessions)) (known-there x s.sessions))
 
 the-session : (o : Option SessionState) (d : SessionState) → IsSome o → o ≡ Some (unwrap_or o d)
 the-session None d there = cc
@@ -39,9 +39,9 @@ the-session (Some c) d there = refl
 -- a session that is there is noted as one that asks for the operation
 pub role-noted : (op : Op) (x : ℕ) (sessions : List (ℕ × SessionState)) (role : Role) → Rising 0 (2 ^ 32) sessions
     → IsSome (value_at x sessions) → role ≡ role_after op (session_of x sessions).role
-    → altered x (with_role role) sessions ≡ altered x (asking op) sessions
+    → altered x (with_role role) sessions ≡ altered x (with_ask_noted op) sessions
 role-noted op x sessions role rising there is =
-    altered-alike x 0 (2 ^ 32) (with_role role) (asking op) sessions (session_of x sessions) rising
+    altered-alike x 0 (2 ^ 32) (with_role role) (with_ask_noted op) sessions (session_of x sessions) rising
     (the-session (value_at x sessions) new_session there)
     (ap (λ r. with_role r (session_of x sessions)) is)
 

@@ -23,11 +23,11 @@ use Rattle.bean_queue.specs.declared.reply.Reply.{Reply}
 use Rattle.bean_queue.specs.Queue.{QueueState, paused_tubes, with_sessions, fresh, watched_by, holds_by}
 use Rattle.bean_queue.specs.Rows.{Row, settled, row, put_row, use_row, watch_row, ignore_row, reserve_row, delete_row}
 use Rattle.bean_queue.specs.Rows.{may_delete, delete_found, is_job_that, release_row, touch_row, bury_row, kick_row, kick_job_row}
-use Rattle.bean_queue.specs.Rows.{is_free, reserve_found, reserve_job_row, peek_row, stats_job_row, stats_tube_row, stats_row}
+use Rattle.bean_queue.specs.Rows.{is_unreserved, reserve_found, reserve_job_row, peek_row, stats_job_row, stats_tube_row, stats_row}
 use Rattle.bean_queue.specs.Turns.{QueueOutcome, after_option, QueueTurn, stop, all_turns, wanted, give, serve_turn}
 use Rattle.bean_queue.specs.Turns.{told_turn, deadline_turn, timeout_turn, serve}
-use Rattle.bean_queue.specs.Effects.{own, own_outcome, then_do, asking, called, ends_wait, is_zero, turned_away, has_no_number}
-use Rattle.bean_queue.specs.Effects.{carried_out, do_effect, released, forgotten, at_second, tick_effect, is_quiet}
+use Rattle.bean_queue.specs.Effects.{own, own_outcome, then_do, with_ask_noted, called, ends_wait, is_zero, turned_away, has_no_number}
+use Rattle.bean_queue.specs.Effects.{carried_out, do_effect, released, forgotten, second_begun, tick_effect, is_quiet}
 use Rattle.bean_queue.specs.TurnLaws.{least-none, none-least, turns-keep, deadline_turn-is, timeout_turn-is, IsTold, IfSome-map}
 use Rattle.bean_queue.proofs.best.Paused.{open-watched, watched-open}
 use Rattle.bean_queue.proofs.best.Served.{serve-done, idle_none, turns-unroll, serves}
@@ -198,7 +198,7 @@ quiet-row (Op.ReserveJob id) key s q idle =
     elim (value_at id s.jobs) as (λ o. IsCalmer s (reserve_found s key.session id o).state) [
       | None ↦ same-calmer s
       | Some job ↦
-          calmer_if s (is_free job.state) _ _
+          calmer_if s (is_unreserved job.state) _ _
           (record { jobs = changed-calmer id _ s.jobs (λ job. refl); sessions = λ w i t. i; pauses = λ tube p. p }) (same-calmer s)
     ]
 quiet-row (Op.Peek id) key s q idle = same-calmer s
@@ -214,21 +214,21 @@ quiet-row (Op.StatsTube tube) key s q idle = same-calmer s
 quiet-row Op.Stats key s q idle = same-calmer s
 
 -- the session that was called doesn't wait
-asked-idle : (op : Op) (x : ℕ) (sessions : List (ℕ × SessionState)) (d : ℕ × SessionState) → In d (altered x (asking op) (known x sessions))
+asked-idle : (op : Op) (x : ℕ) (sessions : List (ℕ × SessionState)) (d : ℕ × SessionState) → In d (altered x (with_ask_noted op) (known x sessions))
     → x ≡ d.0 → is_waiting d.1 ≡ true → ⊥
 asked-idle op x sessions d i same t =
-    altered-in x (asking op) (λ d. x ≡ d.0 → is_waiting d.1 ≡ true → ⊥) (known x sessions)
+    altered-in x (with_ask_noted op) (λ d. x ≡ d.0 → is_waiting d.1 ≡ true → ⊥) (known x sessions)
     (λ e there.
-    elim (x == e.0) as (λ b. x ≡ e.0 → is_waiting (cond b (asking op e.1) e.1) ≡ true → ⊥) [
+    elim (x == e.0) as (λ b. x ≡ e.0 → is_waiting (cond b (with_ask_noted op e.1) e.1) ≡ true → ⊥) [
       | true ↦ λ same t. known-idle x sessions e there same t
       | false ↦ λ same t. known-idle x sessions e there same t
     ])
     d i same t
 
 asked-calmer : (op : Op) (x : ℕ) (sessions : List (ℕ × SessionState)) (w : ℕ × SessionState)
-    → In w (altered x (asking op) (known x sessions)) → is_waiting w.1 ≡ true → In w sessions
+    → In w (altered x (with_ask_noted op) (known x sessions)) → is_waiting w.1 ≡ true → In w sessions
 asked-calmer op x sessions w i t =
-    known-calmer x sessions w (kept-calmer x (asking op) (known x sessions) (λ c. refl) (known-idle x sessions) w i t) t
+    known-calmer x sessions w (kept-calmer x (with_ask_noted op) (known x sessions) (λ c. refl) (known-idle x sessions) w i t) t
 
 pub called-calm : (op : Op) (x : ℕ) (s : QueueState) → serve_turn s ≡ None → serve_turn (called op x s) ≡ None
 called-calm op x s none =
@@ -311,7 +311,7 @@ pub tick-calm : (second : ℕ) (s : QueueState) → serve_turn s ≡ None → se
 unfolding tick_effect
 tick-calm second s none =
     outcome_if (nat_lt s.now second) _ _
-    (settled-calm (tubes_over second s.pauses) _ (timeouts-calm _ (deadlines-calm _ (serve-done (at_second second s))))) none
+    (settled-calm (tubes_over second s.pauses) _ (timeouts-calm _ (deadlines-calm _ (serve-done (second_begun second s))))) none
 
 pub fresh-calm : serve_turn fresh ≡ None
 unfolding serve_turn

@@ -22,7 +22,7 @@ use Rattle.bean_queue.specs.Queue.{QueueState, with_sessions, watched_by, paused
 use Rattle.bean_queue.specs.Rows.{row, reserve_row, time_out, waiting}
 use Rattle.bean_queue.specs.Turns.{QueueOutcome, stop, after_turn, after_option, all_turns, wanted, next_job, given, give, give_to, serve_turn, serve}
 use Rattle.bean_queue.specs.TurnLaws.{least-none, none-least, best_ready-in}
-use Rattle.bean_queue.specs.Effects.{then_do, asking, called, own_outcome, is_zero, turned_away, carried_out}
+use Rattle.bean_queue.specs.Effects.{then_do, with_ask_noted, called, own_outcome, is_zero, turned_away, carried_out}
 use Rattle.bean_queue.specs.Reserving.{is_reserve, wake_outcome, IsTaken, best_for, with_next_rank, taken, outcome_with}
 use Rattle.bean_queue.specs.Reserving.{denial, refused_by, reserved_by, reserve_outcome}
 use Rattle.bean_queue.proofs.best.Paused.{open-watched, watched-open}
@@ -106,7 +106,7 @@ known-alone x sessions =
 pub called-idle : (op : Op) (x : ℕ) (s : QueueState) → (c : SessionState) × (value_at x (called op x s).sessions ≡ Some c) × (c.wait ≡ None)
 called-idle op x s =
     let alone = known-alone x s.sessions in
-    (asking op alone.0, value_at-altered_same x (asking op) (known x s.sessions) alone.0 alone.1, alone.2)
+    (with_ask_noted op alone.0, value_at-altered_same x (with_ask_noted op) (known x s.sessions) alone.0 alone.1, alone.2)
 
 wait-back : (w : Option Wait) (c : SessionState) → c.wait ≡ None → with_wait None (with_wait w c) ≡ c
 wait-back w c none = λ i. record c { wait = sym none i }

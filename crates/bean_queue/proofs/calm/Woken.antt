@@ -27,7 +27,7 @@ use Rattle.bean_queue.specs.Rows.{release_row, kick_row, kick_job_row, pause_row
 use Rattle.bean_queue.specs.Tubes.{all_tubes}
 use Rattle.bean_queue.specs.Turns.{QueueTurn, IsTurn, given, serve_turn}
 use Rattle.bean_queue.specs.TurnLaws.{IsServed, serve_turn-is, least-none, least-in, IfSome-map}
-use Rattle.bean_queue.specs.Effects.{released, at_second, is_quiet}
+use Rattle.bean_queue.specs.Effects.{released, second_begun, is_quiet}
 use Rattle.bean_queue.specs.Reserving.{is_reserve}
 use Rattle.bean_queue.specs.Woken.{Covers, AreWoken, tube_of, woken_by}
 use Rattle.bean_queue.proofs.best.Paused.{watched-open}
@@ -242,7 +242,7 @@ covers-waking op key s t tubes loud wakes none ids numbers woken e =
 
 -- after a second has come
 pub covers-second : (tubes : List (List ℕ)) (second : ℕ) (s t : QueueState) → serve_turn s ≡ None
-    → t ≡ at_second second s → AreWoken tubes s.jobs t.jobs
+    → t ≡ second_begun second s → AreWoken tubes s.jobs t.jobs
     → ((tube : List ℕ) → In tube (tubes_over second s.pauses) → In tube tubes) → Covers tubes t
 covers-second tubes second s t none e woken over =
     covers-new tubes s t none (λ w i waits. subst (λ (u : QueueState). In w u.sessions) e i)

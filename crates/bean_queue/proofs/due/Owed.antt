@@ -8,7 +8,7 @@ use Rattle.session_store.specs.Sessions.{first_waiting, is_waiting, wait_rank, h
 use Rattle.bean_queue.specs.declared.reply.Reply.{Reply}
 use Rattle.pause_store.specs.Pauses.{tubes_over}
 use Rattle.bean_queue.specs.Rows.{settled}
-use Rattle.bean_queue.specs.Effects.{at_second, tick_effect, then_do, then_settled}
+use Rattle.bean_queue.specs.Effects.{second_begun, tick_effect, then_do, then_settled}
 use Rattle.bean_queue.specs.Owed.{OwesNothing}
 use Rattle.bean_queue.specs.Queue.{QueueState, holds_by}
 use Rattle.bean_queue.specs.TurnLaws.{least-none, turns-keep, timeout_turn-is, IsTold, IfSome-map}
@@ -95,6 +95,6 @@ unfolding tick_effect
 tick-owes s second above =
     subst (λ b. OwesNothing (cond b
     (then_settled (tubes_over second s.pauses)
-    (then_do (then_do (serve (at_second second s)) (all_turns deadline_turn)) (all_turns timeout_turn)))
+    (then_do (then_do (serve (second_begun second s)) (all_turns deadline_turn)) (all_turns timeout_turn)))
     (stop s)).state) (sym (lt-ltb s.now second above))
-    (settled-owes (tubes_over second s.pauses) _ (second-owes (at_second second s)))
+    (settled-owes (tubes_over second s.pauses) _ (second-owes (second_begun second s)))

@@ -19,7 +19,7 @@ use Rattle.bean_queue.specs.Queue.{QueueState, holds_by, HasRisingIds}
 use Rattle.bean_queue.specs.Rows.{Row, row}
 use Rattle.bean_queue.specs.Turns.{QueueOutcome, stop, serve, all_turns, deadline_turn, timeout_turn}
 use Rattle.bean_queue.specs.Effects.{own, called, ends_wait, is_zero, turned_away, then_do, then_settled, own_outcome, has_no_number}
-use Rattle.bean_queue.specs.Effects.{carried_out, do_effect, released, close_effect, at_second, tick_effect, act_effect}
+use Rattle.bean_queue.specs.Effects.{carried_out, do_effect, released, close_effect, second_begun, tick_effect, act_effect}
 use Rattle.bean_queue.specs.Effects.{effect}
 use Rattle.bean_queue.specs.Places.{QueuePlace, queue_place}
 use Rattle.bean_queue.specs.Holds.{hands_out, is_touched, is_touch, handing_out, touches, Ends}
@@ -167,17 +167,17 @@ pub tick-gives : (id t : ℕ) (s : QueueState) → HasRisingIds s → GivesOnce 
 unfolding tick_effect
 tick-gives id t s sound =
     elim (nat_lt s.now t) as (λ b. GivesOnce id
-    (cond b (then_settled (tubes_over t s.pauses) (then_do (then_do (serve (at_second t s)) (all_turns deadline_turn)) (all_turns timeout_turn)))
-    (stop s)).state.now (cond b (then_settled (tubes_over t s.pauses) (then_do (then_do (serve (at_second t s)) (all_turns deadline_turn))
+    (cond b (then_settled (tubes_over t s.pauses) (then_do (then_do (serve (second_begun t s)) (all_turns deadline_turn)) (all_turns timeout_turn)))
+    (stop s)).state.now (cond b (then_settled (tubes_over t s.pauses) (then_do (then_do (serve (second_begun t s)) (all_turns deadline_turn))
     (all_turns timeout_turn))) (stop s))) [
       | true ↦
-          let g = gives-then id t (then_do (serve (at_second t s)) (all_turns deadline_turn)) (all_turns timeout_turn)
-          (gives-then id t (serve (at_second t s)) (all_turns deadline_turn)
-          (serve-gives id (at_second t s) (Rising-each _ 1 s.next_id s.jobs sound)) (deadlines-aside _))
+          let g = gives-then id t (then_do (serve (second_begun t s)) (all_turns deadline_turn)) (all_turns timeout_turn)
+          (gives-then id t (serve (second_begun t s)) (all_turns deadline_turn)
+          (serve-gives id (second_begun t s) (Rising-each _ 1 s.next_id s.jobs sound)) (deadlines-aside _))
           (timeouts-aside _) in
-          let f = settled-gives (tubes_over t s.pauses) id t (then_do (then_do (serve (at_second t s)) (all_turns deadline_turn)) (all_turns timeout_turn)) g in
+          let f = settled-gives (tubes_over t s.pauses) id t (then_do (then_do (serve (second_begun t s)) (all_turns deadline_turn)) (all_turns timeout_turn)) g in
           subst (λ n. GivesOnce id n
-          (then_settled (tubes_over t s.pauses) (then_do (then_do (serve (at_second t s)) (all_turns deadline_turn)) (all_turns timeout_turn)))) (sym f.at) f
+          (then_settled (tubes_over t s.pauses) (then_do (then_do (serve (second_begun t s)) (all_turns deadline_turn)) (all_turns timeout_turn)))) (sym f.at) f
       | false ↦ record { sound = sound; at = refl; given = inl refl }
     ]
 
@@ -337,16 +337,16 @@ tick-holds x id ttr second key s sound h =
       | inr early ↦
           elim (nat_lt s.now key.number) as (λ b. HoldsOn x id ttr second
           (queue_place (record { key = key; act = Act.Tick })
-          (cond b (then_settled (tubes_over key.number s.pauses) (then_do (then_do (serve (at_second key.number s)) (all_turns deadline_turn))
+          (cond b (then_settled (tubes_over key.number s.pauses) (then_do (then_do (serve (second_begun key.number s)) (all_turns deadline_turn))
           (all_turns timeout_turn))) (stop s)))) [
             | true ↦
-                let k = serve-keeps x id ttr second key.number (at_second key.number s) (record {
+                let k = serve-keeps x id ttr second key.number (second_begun key.number s) (record {
                   sound = Rising-each _ 1 s.next_id s.jobs sound;
                   held = Held-each _ s.jobs x id ttr second h (cond-false (is_due key.number h.job.state) _ h.job (ap (is_due key.number) h.held ∙ early));
                   at = refl;
                 }) in
-                let all = keeps-then x id ttr second key.number (then_do (serve (at_second key.number s)) (all_turns deadline_turn)) (all_turns timeout_turn)
-                (keeps-then x id ttr second key.number (serve (at_second key.number s)) (all_turns deadline_turn) k (deadlines-aside _)) (timeouts-aside _) in
+                let all = keeps-then x id ttr second key.number (then_do (serve (second_begun key.number s)) (all_turns deadline_turn)) (all_turns timeout_turn)
+                (keeps-then x id ttr second key.number (serve (second_begun key.number s)) (all_turns deadline_turn) k (deadlines-aside _)) (timeouts-aside _) in
                 on all.quiet all.keeps.sound all.keeps.held
             | false ↦ on refl sound h
           ]

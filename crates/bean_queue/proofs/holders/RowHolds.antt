@@ -21,7 +21,7 @@ use Rattle.bean_queue.specs.Rows.{is_idle, Row, replies, row, put_row, use_row, 
 use Rattle.bean_queue.specs.Rows.{delete_row, may_delete, delete_found, is_job_that, release_row, touch_row, bury_row, kicked}
 use Rattle.bean_queue.specs.Rows.{kicked_option, kick_row, kick_job_row, peek_row, shown, at_id, pause_row}
 use Rattle.bean_queue.specs.Tubes.{all_tubes}
-use Rattle.bean_queue.specs.Rows.{is_free, reserve_found, reserve_job_row, reported, stats_job_row, stats_tube_row, stats_row}
+use Rattle.bean_queue.specs.Rows.{is_unreserved, reserve_found, reserve_job_row, reported, stats_job_row, stats_tube_row, stats_row}
 use Rattle.bean_queue.specs.Reports.{tube_figures, tube_report}
 use Rattle.bean_queue.specs.Effects.{own}
 use Rattle.bean_queue.specs.Holds.{is_touch, handing_out}
@@ -78,14 +78,14 @@ sameness : (a b : Job) → Some a ≡ Some b → a ≡ b
 sameness a b e = cc
 
 -- a job that is free is nobody's
-free-unheld : (jobs : List (ℕ × Job)) (id : ℕ) (job : Job) → value_at id jobs ≡ Some job → is_free job.state ≡ true
+free-unheld : (jobs : List (ℕ × Job)) (id : ℕ) (job : Job) → value_at id jobs ≡ Some job → is_unreserved job.state ≡ true
     → (x ttr second : ℕ) → Held jobs x id ttr second → ⊥
 free-unheld jobs id job there free x ttr second h =
     let same : job ≡ h.job = cc in
-    true≢false (sym free ∙ ap (λ (job : Job). is_free job.state) same ∙ ap is_free h.held)
+    true≢false (sym free ∙ ap (λ (job : Job). is_unreserved job.state) same ∙ ap is_unreserved h.held)
 
 -- the job k is given to the session of the key
-gives-free : (s : QueueState) (key : Key) (k : ℕ) (job : Job) → HasRisingIds s → value_at k s.jobs ≡ Some job → is_free job.state ≡ true
+gives-free : (s : QueueState) (key : Key) (k : ℕ) (job : Job) → HasRisingIds s → value_at k s.jobs ≡ Some job → is_unreserved job.state ≡ true
     → IsRowOk s key (replies (with_jobs s (altered k (reserved_job key.session (s.now + job.ttr)) s.jobs)) (Reply.Reserved k job.body))
 gives-free s key k job sound there free = record {
   sound = Rising-altered _ _ 1 s.next_id s.jobs sound;
@@ -109,7 +109,7 @@ reserved-ok s key k sound =
     elim (value_at k s.jobs) as (λ o. value_at k s.jobs ≡ o → IsRowOk s key (reserve_found s key.session k o)) [
       | None ↦ λ there. ok_same s key Reply.NotFound (λ id. refl) sound
       | Some job ↦ λ there.
-          elim (is_free job.state) as (λ b. is_free job.state ≡ b → IsRowOk s key
+          elim (is_unreserved job.state) as (λ b. is_unreserved job.state ≡ b → IsRowOk s key
           (cond b (replies (with_jobs s (altered k (reserved_job key.session (s.now + job.ttr)) s.jobs)) (Reply.Reserved k job.body))
           (replies s Reply.NotFound))) [
             | true ↦ λ free. gives-free s key k job sound there free
@@ -317,7 +317,7 @@ found-holds x id ttr second k key s h =
     → HoldAfter x id ttr second s.now (Op.ReserveJob k) key (reserve_found s key.session k o)) [
       | None ↦ λ there. stays_same x id ttr second s.now _ key s _ refl h
       | Some job ↦ λ there.
-          hold_if x id ttr second s.now (Op.ReserveJob k) key (is_free job.state) _ _
+          hold_if x id ttr second s.now (Op.ReserveJob k) key (is_unreserved job.state) _ _
           (λ free. stays_same x id ttr second s.now _ key s _ refl
           (Held-altered_other k _ s.jobs x id ttr second
           (λ same. free-unheld s.jobs k job there free x ttr second (subst (λ q. Held s.jobs x q ttr second) (sym same) h)) h))

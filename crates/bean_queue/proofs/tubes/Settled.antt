@@ -1,19 +1,17 @@
 -- Which tubes keep their counts.
-use Rattle.std.proofs.Common.{◌≡◌, ◌↔◌, ℕ, Bool, true, false, cond, not, ◌&&◌, ◌||◌, ◌⊎◌, inl, inr, List, [], ◌∷◌, Option, Some, None, filter}
-use Rattle.std.proofs.Common.{◌+◌, ◌<◌, ◌≤◌, length, drop, get_or, bytes_eq, codes, is_some, refl, sym, ap, ap₂, subst, ◌∙◌, true≢false}
+use Rattle.std.proofs.Common.{◌≡◌, ◌↔◌, ℕ, Bool, true, false, cond, not, ◌&&◌, ◌||◌, ◌⊎◌, inl, inr, List, [], ◌∷◌, filter}
+use Rattle.std.proofs.Common.{◌+◌, ◌<◌, ◌≤◌, length, drop, get_or, bytes_eq, codes, refl, sym, ap, ap₂, subst, ◌∙◌, true≢false}
 use Rattle.std.proofs.lemmas.Bool.{cond-true, cond-false, cases_Bool}
 use Rattle.std.proofs.lemmas.Slice.Eq.{bytes_eq-Decides}
 use Rattle.std.proofs.lemmas.List.{drop_more}
 use Rattle.std.proofs.Math.ListN.{drop_of_length-le}
 use Rattle.object.specs.Lists.{In}
-use Rattle.job_store.specs.Entries.{value_at, without}
 use Rattle.job_store.specs.LookUps.{is_among}
 use Rattle.job_store.proofs.least.Least.{among-member}
-use Rattle.session_store.specs.declared.session.SessionState.{SessionState}
 use Rattle.pause_store.specs.Pauses.{is_paused}
 use Rattle.tube_store.specs.declared.tube_counts.TubeCounts.{TubeCounts}
 use Rattle.tube_store.specs.TubeCounts.{without_tube}
-use Rattle.bean_queue.specs.Queue.{QueueState, with_sessions}
+use Rattle.bean_queue.specs.Queue.{QueueState}
 use Rattle.bean_queue.specs.Tubes.{all_tubes, IsTube}
 use Rattle.bean_queue.specs.Rows.{is_kept, left_counts, settled}
 use Rattle.bean_queue.proofs.tubes.Named.{it-is}

@@ -1,7 +1,7 @@
 ghost use Rattle.std.specs.Prelude.{◌≡◌, ◌↔◌, ℕ, List, ◌≤◌, ◌^◌, nat_lt, not, true, None, IfOk};
 ghost use Rattle.object.specs.Lists.{In};
 ghost use Rattle.pause_store.specs.Pauses.{tubes_over};
-ghost use Rattle.bean_queue.specs.Effects.{released, forgotten, at_second, passed};
+ghost use Rattle.bean_queue.specs.Effects.{released, forgotten, second_begun, second_passed};
 ghost use Rattle.bean_queue.specs.Turns.{serve, serve_turn};
 ghost use Rattle.bean_queue.specs.Calls.{DraftsOutcome, DraftsWaking};
 
@@ -19,7 +19,7 @@ impl<M: JobMap> Logic<M> {
         requires later { self.old.now.now ≤ second }
         requires in_range { second ≤ 2 ^ 40 }
         ensures second { DraftsWaking (λ s. s.jobs) self.old self.new
-            (at_second second self.old.now) result }
+            (second_begun second self.old.now) result }
         ensures over { IfOk result (λ tubes. (tube : List ℕ)
             → In tube (tubes_over second self.old.now.pauses) → In tube tubes.keys) }
     {
@@ -50,7 +50,7 @@ impl<M: JobMap> Logic<M> {
         requires in_range { second ≤ 2 ^ 40 }
         requires calm { serve_turn self.old.now ≡ None }
         ensures passed { DraftsOutcome self.old self.new answers.old.items answers.new.items
-            (passed second self.old.now) result }
+            (second_passed second self.old.now) result }
         ensures over { IfOk result (λ tubes. (tube : List ℕ)
             → In tube tubes.keys ↔ In tube (tubes_over second self.old.now.pauses)) }
     {

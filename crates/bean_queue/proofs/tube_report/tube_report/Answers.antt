@@ -1,4 +1,4 @@
-use Rattle.std.proofs.Common.{◌≡◌, ◌++◌, codes, ap₂, ◌∙◌}
+use Rattle.std.proofs.Common.{◌++◌, codes, ap₂, ◌∙◌}
 use Rattle.std.proofs.lemmas.Result.{IfOk-weaker}
 use Rattle.bean_queue.specs.Reports.{report_line, tube_report}
 use Rattle.bean_queue.proofs.Written.{onward}

@@ -1,5 +1,4 @@
-use Rattle.std.proofs.Common.{◌≡◌, ℕ, ◌+◌, ◌≤◌, ◌<◌, ◌^◌, arith}
-use Rattle.bean_queue.specs.Groups.{count_in}
+use Rattle.std.proofs.Common.{arith}
 use Rattle.bean_queue.proofs.Crowds.{few-in}
 use Rattle.bean_queue.proofs.group.Group.count.Goals as goal
 

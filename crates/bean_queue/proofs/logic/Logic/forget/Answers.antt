@@ -5,7 +5,7 @@ use Rattle.session_store.specs.Drafts.{Draft}
 use Rattle.session_store.specs.Sessions.{new_session}
 use Rattle.bean_queue.specs.Queue.{QueueState, state_of, with_sessions}
 use Rattle.bean_queue.specs.Rows.{settled}
-use Rattle.bean_queue.specs.Effects.{forgotten, tubes_of}
+use Rattle.bean_queue.specs.Effects.{forgotten}
 use Rattle.bean_queue.proofs.tubes.Settled.{settled-then, settled-default}
 use Rattle.bean_queue.proofs.logic.Logic.forget.Goals as goal
 

@@ -1,11 +1,11 @@
-use Rattle.std.proofs.Common.{◌≡◌, ℕ, List, sym, ap, subst, ◌∙◌}
+use Rattle.std.proofs.Common.{◌≡◌, ap, ◌∙◌}
 use Rattle.std.proofs.lemmas.Result.{on_ok_weaker}
 use Rattle.job_store.specs.Entries.{altered}
 use Rattle.session_store.specs.declared.session.SessionState.{SessionState}
 use Rattle.session_store.specs.Drafts.{Draft}
 use Rattle.session_store.specs.Sessions.{with_role}
 use Rattle.bean_queue.specs.Queue.{QueueState, state_of, with_sessions}
-use Rattle.bean_queue.specs.Effects.{role_after, asking}
+use Rattle.bean_queue.specs.Effects.{role_after, with_ask_noted}
 use Rattle.bean_queue.proofs.calm.Called.{role-noted}
 use Rattle.bean_queue.proofs.logic.Logic.note_role.Goals as goal
 
@@ -15,7 +15,7 @@ returns-clause-now g c =
     let op = c.args.op.now in
     let role = c.role_after-role.result in
     let s = state_of c.self.inside.counters c.self.inside.jobs.now c.self.inside.sessions.now c.self.inside.pauses.now.pauses c.self.inside.tubes.now in
-    let noted : altered x (with_role role) c.args.self.now.now.sessions ≡ altered x (asking op) c.args.self.now.now.sessions =
+    let noted : altered x (with_role role) c.args.self.now.now.sessions ≡ altered x (with_ask_noted op) c.args.self.now.now.sessions =
     role-noted op x c.args.self.now.now.sessions role c.numbers_rise.ensures c.requires
     (c.role_after-role.ensures ∙ ap (λ (t : SessionState). role_after op t.role) c.session.ensures) in
     on_ok_weaker c.set_role.result

@@ -1,7 +1,6 @@
-use Rattle.std.proofs.Common.{◌≡◌, ℕ, ◌-◌, length, sym, ap, ◌∙◌}
+use Rattle.std.proofs.Common.{◌≡◌, ◌-◌, length, sym, ap, ◌∙◌}
 use Rattle.session_store.specs.Drafts.{Draft}
 use Rattle.bean_queue.specs.declared.group.Group.{Group}
-use Rattle.bean_queue.specs.declared.figures.QueueFigures.{QueueFigures}
 use Rattle.bean_queue.specs.Groups.{count_in}
 use Rattle.bean_queue.specs.Queue.{QueueState, state_of}
 use Rattle.bean_queue.specs.Tubes.{all_tubes}

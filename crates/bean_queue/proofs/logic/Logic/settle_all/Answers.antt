@@ -1,5 +1,4 @@
-use Rattle.std.proofs.Common.{◌≡◌, ◌∙◌, refl, sym, ap}
-use Rattle.bean_queue.specs.Rows.{settled}
+use Rattle.std.proofs.Common.{◌∙◌, refl}
 use Rattle.bean_queue.proofs.tubes.Settled.{settled-step, settled-end}
 use Rattle.bean_queue.proofs.logic.Logic.settle_all.Goals as goal
 

@@ -1,12 +1,11 @@
-use Rattle.std.proofs.Common.{◌≡◌, ℕ, ◌-◌, if◌then◌else◌, sym, ap, ◌∙◌}
-use Rattle.job_store.specs.declared.tally.Tally.{Tally}
+use Rattle.std.proofs.Common.{◌≡◌, ◌-◌, if◌then◌else◌, sym, ap, ◌∙◌}
 use Rattle.job_store.specs.Tallies.{tally_in}
 use Rattle.session_store.specs.Drafts.{Draft}
 use Rattle.pause_store.specs.Pauses.{is_paused, pause_end}
 use Rattle.tube_store.specs.declared.tube_counts.TubeCounts.{TubeCounts}
 use Rattle.tube_store.specs.TubeCounts.{counts_at}
 use Rattle.bean_queue.specs.declared.group.Group.{Group}
-use Rattle.bean_queue.specs.Groups.{count_in, sessions_that}
+use Rattle.bean_queue.specs.Groups.{count_in}
 use Rattle.bean_queue.specs.Queue.{QueueState, state_of}
 use Rattle.bean_queue.specs.Reports.{tube_figures}
 use Rattle.bean_queue.proofs.logic.Logic.tube_figures.Goals as goal

@@ -1,4 +1,4 @@
-use Rattle.std.proofs.Common.{◌≡◌, ◌∙◌, refl, sym, ap, rules}
+use Rattle.std.proofs.Common.{◌∙◌, refl, rules}
 use Rattle.job_store.specs.declared.state.State.{State}
 use Rattle.job_store.specs.States.{marked}
 use Rattle.bean_queue.specs.Effects.{run_out}
