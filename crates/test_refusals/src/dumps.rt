@@ -96,25 +96,27 @@ S 4 9 put 3 5 7 65
 A 4 9 INSERTED 6
 S 4 10 put 5 0 9 66
 A 4 10 INSERTED 7
+S 5 1 reserve-job 9
+A 5 1 NOT_FOUND
+S 5 2 reserve-job 6
+A 5 2 RESERVED 6 65
 S 3 6 reserve-job 6
-A 3 6 RESERVED 6 65
-S 3 7 reserve-job 6
-A 3 7 NOT_FOUND
+A 3 6 NOT_FOUND
 S 0 14 tick
-S 3 8 stats-job 6
-A 3 8 DATA -
-S 3 9 stats-job 2
-A 3 9 NOT_FOUND
+S 3 7 stats-job 6
+A 3 7 DATA -
+S 3 8 stats-job 2
+A 3 8 NOT_FOUND
 S 4 11 stats-tube default
 A 4 11 DATA -
 S 4 12 stats-tube zz
 A 4 12 NOT_FOUND
-S 3 10 stats
+S 3 9 stats
+A 3 9 DATA -
+S 3 10 stats-tube default
 A 3 10 DATA -
-S 3 11 stats-tube default
+S 3 11 stats
 A 3 11 DATA -
-S 3 12 stats
-A 3 12 DATA -
 end
 ";
 
@@ -146,8 +148,8 @@ current-jobs-reserved: 3
 current-jobs-delayed: 0
 current-jobs-buried: 0
 total-jobs: 7
-current-using: 2
-current-watching: 2
+current-using: 3
+current-watching: 3
 current-waiting: 0
 cmd-delete: 3
 cmd-pause-tube: 4
@@ -187,9 +189,9 @@ job-timeouts: 1
 total-jobs: 7
 max-job-size: 65535
 current-tubes: 1
-current-connections: 2
+current-connections: 3
 current-producers: 1
-current-workers: 2
+current-workers: 3
 current-waiting: 0
 version: \"beanpax 0.1\"
 uptime: 14
@@ -227,9 +229,9 @@ job-timeouts: 1
 total-jobs: 7
 max-job-size: 65535
 current-tubes: 1
-current-connections: 2
+current-connections: 3
 current-producers: 1
-current-workers: 2
+current-workers: 3
 current-waiting: 0
 version: \"beanpax 0.1\"
 uptime: 14
