@@ -5,8 +5,20 @@ use crate::input_kind::InputKind;
 use crate::reply_reader::heads_of;
 use crate::serving::{Served, serve_in_pieces, serve_whole};
 use anyhow::{Context, Result, bail, ensure};
+use bean_codec::Profile;
 use session::SessionFault;
 use std::alloc::Global;
+
+// From this seed on the extended profile is spoken.
+const FIRST_EXTENDED: u64 = 10_000;
+
+fn profile_of(seed: u64) -> Profile {
+    if seed < FIRST_EXTENDED {
+        Profile::Plain
+    } else {
+        Profile::Extended
+    }
+}
 
 // A seed's input, and what came of it.
 #[derive(Drop)]
@@ -19,9 +31,10 @@ struct Case {
 impl Case {
     fn of_seed(alloc: Global, seed: u64) -> Result<Case> {
         let mut draws = Draws::new(seed);
-        let input = Input::draw(alloc, InputKind::of_seed(seed), &mut draws)?;
-        let whole = serve_whole(alloc, input.bytes.as_slice())?;
-        let in_pieces = serve_in_pieces(alloc, input.bytes.as_slice(), draws)?;
+        let profile = profile_of(seed);
+        let input = Input::draw(alloc, profile, InputKind::of_seed(seed), &mut draws)?;
+        let whole = serve_whole(alloc, profile, input.bytes.as_slice())?;
+        let in_pieces = serve_in_pieces(alloc, profile, input.bytes.as_slice(), draws)?;
         Ok(Case {
             input,
             whole,

@@ -2,6 +2,7 @@
 use crate::draws::Draws;
 use crate::head::Head;
 use anyhow::Result;
+use bean_codec::Profile;
 use std::io::Write;
 
 /// What a line asks for, but for `quit`, and for `reserve`, which may wait for ever.
@@ -26,6 +27,10 @@ pub enum CommandKind {
     ListTubeUsed,
     ListTubesWatched,
     PauseTube,
+    ReserveJob,
+    StatsJob,
+    StatsTube,
+    Stats,
 }
 
 // What stands behind a command's word.
@@ -70,9 +75,32 @@ static DRAWN: [CommandKind; 25] = [
     CommandKind::PauseTube,
 ];
 
+// These the extended profile alone knows.
+static EXTENDED: [CommandKind; 4] = [
+    CommandKind::ReserveJob,
+    CommandKind::StatsJob,
+    CommandKind::StatsTube,
+    CommandKind::Stats,
+];
+
 impl CommandKind {
-    pub fn draw(draws: &mut Draws) -> CommandKind {
-        draws.pick(&DRAWN)
+    /// A command of this profile. In the extended one a chance of one in four makes it one that the plain one doesn't
+    /// know.
+    pub fn draw(profile: Profile, draws: &mut Draws) -> CommandKind {
+        match profile {
+            Profile::Extended if draws.one_in(4) => draws.pick(&EXTENDED),
+            _ => draws.pick(&DRAWN),
+        }
+    }
+
+    /// A command whose line may be long: in the extended profile one that the plain one doesn't know.
+    pub fn draw_long(profile: Profile, draws: &mut Draws) -> CommandKind {
+        match profile {
+            Profile::Plain => {
+                draws.pick(&[CommandKind::ListTubes, CommandKind::Peek, CommandKind::Use])
+            }
+            Profile::Extended => draws.pick(&EXTENDED),
+        }
     }
 
     fn word(self) -> &'static str {
@@ -96,6 +124,10 @@ impl CommandKind {
             CommandKind::ListTubeUsed => "list-tube-used",
             CommandKind::ListTubesWatched => "list-tubes-watched",
             CommandKind::PauseTube => "pause-tube",
+            CommandKind::ReserveJob => "reserve-job",
+            CommandKind::StatsJob => "stats-job",
+            CommandKind::StatsTube => "stats-tube",
+            CommandKind::Stats => "stats",
         }
     }
 
@@ -104,9 +136,11 @@ impl CommandKind {
         match self {
             CommandKind::Put => &[Argument::Priority, Argument::Delay, Argument::TimeToRun],
             CommandKind::Use | CommandKind::Watch | CommandKind::Ignore => &[Argument::Name],
+            CommandKind::StatsTube => &[Argument::Name],
             CommandKind::ReserveWithTimeout => &[Argument::Timeout],
             CommandKind::Delete | CommandKind::Touch => &[Argument::Id],
             CommandKind::KickJob | CommandKind::Peek => &[Argument::Id],
+            CommandKind::ReserveJob | CommandKind::StatsJob => &[Argument::Id],
             CommandKind::Release => &[Argument::Id, Argument::Priority, Argument::Delay],
             CommandKind::Bury => &[Argument::Id, Argument::Priority],
             CommandKind::Kick => &[Argument::Bound],
@@ -133,6 +167,10 @@ impl CommandKind {
             CommandKind::KickJob => &[Head::Kicked, Head::NotFound],
             CommandKind::PauseTube => &[Head::Paused, Head::NotFound],
             CommandKind::ListTubes | CommandKind::ListTubesWatched => &[Head::Tubes],
+            CommandKind::ReserveJob => &[Head::Reserved, Head::NotFound],
+            CommandKind::StatsJob => &[Head::JobReport, Head::NotFound],
+            CommandKind::StatsTube => &[Head::TubeReport, Head::NotFound],
+            CommandKind::Stats => &[Head::QueueReport],
             _ => &[Head::Found, Head::NotFound],
         }
     }

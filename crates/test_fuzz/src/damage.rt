@@ -2,6 +2,7 @@
 use crate::command_kind::{CommandKind, write_body};
 use crate::draws::Draws;
 use anyhow::Result;
+use bean_codec::Profile;
 use std::alloc::Global;
 use std::io::Write;
 
@@ -66,11 +67,19 @@ pub fn add_wrong_body(draws: &mut Draws, out: &mut Vec<u8>) -> Result<()> {
     Ok(out.extend_from_slice(b"\r\n")?)
 }
 
-/// Scraps of lines and other bytes, one after the other.
-pub fn noise(alloc: Global, draws: &mut Draws) -> Result<Vec<u8>> {
-    let mut bytes = Vec::new(alloc);
-    for _ in 0..draws.below(SCRAPS) {
-        let scrap = draws.pick(&[
+// A scrap of a line.
+fn scrap(profile: Profile, draws: &mut Draws) -> &'static str {
+    match profile {
+        Profile::Extended if draws.one_in(4) => draws.pick(&[
+            "stats",
+            "stats\r\n",
+            "stats-job ",
+            "stats-tube ",
+            "reserve-job ",
+            "-job",
+            "default",
+        ]),
+        _ => draws.pick(&[
             "\r\n",
             "\r\n",
             "\r\n",
@@ -94,7 +103,15 @@ pub fn noise(alloc: Global, draws: &mut Draws) -> Result<Vec<u8>> {
             "-",
             "\0",
             "peek-ready",
-        ]);
+        ]),
+    }
+}
+
+/// Scraps of lines and other bytes, one after the other.
+pub fn noise(alloc: Global, profile: Profile, draws: &mut Draws) -> Result<Vec<u8>> {
+    let mut bytes = Vec::new(alloc);
+    for _ in 0..draws.below(SCRAPS) {
+        let scrap = scrap(profile, draws);
         bytes.extend_from_slice(scrap.as_bytes())?;
         if draws.one_in(8) {
             bytes.push(draws.byte())?;

@@ -22,6 +22,10 @@ pub enum Head {
     Found,
     /// `OK` with a list of tubes.
     Tubes,
+    /// `OK` with a report of a job, of a tube, or of the queue.
+    JobReport,
+    TubeReport,
+    QueueReport,
     Paused,
     BadFormat,
     UnknownCommand,

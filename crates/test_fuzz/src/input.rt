@@ -5,6 +5,7 @@ use crate::draws::Draws;
 use crate::head::Head;
 use crate::input_kind::InputKind;
 use anyhow::Result;
+use bean_codec::Profile;
 use session::End;
 use std::alloc::Global;
 
@@ -28,16 +29,23 @@ pub struct Input {
 }
 
 impl Input {
-    /// The input of this kind that is drawn.
-    pub fn draw(alloc: Global, kind: InputKind, draws: &mut Draws) -> Result<Input> {
+    /// The input of this kind that is drawn, for a server that speaks this profile.
+    pub fn draw(
+        alloc: Global,
+        profile: Profile,
+        kind: InputKind,
+        draws: &mut Draws,
+    ) -> Result<Input> {
         match kind {
-            InputKind::Good => Input::of_commands(alloc, draws),
-            InputKind::Pipelined => Input::with_quit(alloc, draws),
-            InputKind::LongLines => Input::of_long_lines(alloc, draws),
-            InputKind::BrokenOff | InputKind::ChangedBytes => Input::damaged(alloc, kind, draws),
-            InputKind::CutLines => Input::of_cut_lines(alloc, draws),
-            InputKind::WrongBodies => Input::of_wrong_bodies(alloc, draws),
-            InputKind::Noise => Ok(Input::unknown(noise(alloc, draws)?, alloc)),
+            InputKind::Good => Input::of_commands(alloc, profile, draws),
+            InputKind::Pipelined => Input::with_quit(alloc, profile, draws),
+            InputKind::LongLines => Input::of_long_lines(alloc, profile, draws),
+            InputKind::BrokenOff | InputKind::ChangedBytes => {
+                Input::damaged(alloc, profile, kind, draws)
+            }
+            InputKind::CutLines => Input::of_cut_lines(alloc, profile, draws),
+            InputKind::WrongBodies => Input::of_wrong_bodies(alloc, profile, draws),
+            InputKind::Noise => Ok(Input::unknown(noise(alloc, profile, draws)?, alloc)),
         }
     }
 
@@ -60,42 +68,42 @@ impl Input {
     }
 
     // Adds good commands.
-    fn add_commands(&mut self, count: usize, draws: &mut Draws) -> Result<()> {
+    fn add_commands(&mut self, profile: Profile, count: usize, draws: &mut Draws) -> Result<()> {
         for _ in 0..count {
-            let kind = CommandKind::draw(draws);
+            let kind = CommandKind::draw(profile, draws);
             kind.write(draws, &mut self.bytes)?;
             self.replies.push(kind.heads())?;
         }
         Ok(())
     }
 
-    fn of_commands(alloc: Global, draws: &mut Draws) -> Result<Input> {
+    fn of_commands(alloc: Global, profile: Profile, draws: &mut Draws) -> Result<Input> {
         let mut input = Input::new(alloc, End::Eof);
-        input.add_commands(COMMANDS, draws)?;
+        input.add_commands(profile, COMMANDS, draws)?;
         Ok(input)
     }
 
     // What follows the quit has no reply.
-    fn with_quit(alloc: Global, draws: &mut Draws) -> Result<Input> {
+    fn with_quit(alloc: Global, profile: Profile, draws: &mut Draws) -> Result<Input> {
         let mut input = Input::new(alloc, End::Quit);
-        input.add_commands(BEFORE_QUIT, draws)?;
+        input.add_commands(profile, BEFORE_QUIT, draws)?;
         input.bytes.extend_from_slice(b"quit\r\n")?;
-        let unheard = Input::of_commands(alloc, draws)?;
+        let unheard = Input::of_commands(alloc, profile, draws)?;
         input.bytes.extend_from_slice(unheard.bytes.as_slice())?;
         Ok(input)
     }
 
-    fn of_long_lines(alloc: Global, draws: &mut Draws) -> Result<Input> {
+    fn of_long_lines(alloc: Global, profile: Profile, draws: &mut Draws) -> Result<Input> {
         let mut input = Input::new(alloc, End::Eof);
         for _ in 0..COMMANDS {
-            input.add_long_line(draws)?;
+            input.add_long_line(profile, draws)?;
         }
         Ok(input)
     }
 
     // A line of a drawn length. Spaces at its end count for nothing, as long as it isn't too long.
-    fn add_long_line(&mut self, draws: &mut Draws) -> Result<()> {
-        let kind = draws.pick(&[CommandKind::ListTubes, CommandKind::Peek, CommandKind::Use]);
+    fn add_long_line(&mut self, profile: Profile, draws: &mut Draws) -> Result<()> {
+        let kind = CommandKind::draw_long(profile, draws);
         let len = draws.pick(&LINE_LENS);
         let before = self.bytes.len();
         kind.write_words(draws, &mut self.bytes)?;
@@ -118,8 +126,13 @@ impl Input {
     }
 
     // Good commands to which something is done.
-    fn damaged(alloc: Global, kind: InputKind, draws: &mut Draws) -> Result<Input> {
-        let mut bytes = Input::of_commands(alloc, draws)?.bytes;
+    fn damaged(
+        alloc: Global,
+        profile: Profile,
+        kind: InputKind,
+        draws: &mut Draws,
+    ) -> Result<Input> {
+        let mut bytes = Input::of_commands(alloc, profile, draws)?.bytes;
         match kind {
             InputKind::BrokenOff => break_off(&mut bytes, draws),
             _ => change_bytes(&mut bytes, draws),
@@ -128,24 +141,24 @@ impl Input {
     }
 
     // Of each line with its body some bytes are left out.
-    fn of_cut_lines(alloc: Global, draws: &mut Draws) -> Result<Input> {
+    fn of_cut_lines(alloc: Global, profile: Profile, draws: &mut Draws) -> Result<Input> {
         let mut bytes = Vec::new(alloc);
         for _ in 0..COMMANDS {
             let mut line = Vec::new(alloc);
-            CommandKind::draw(draws).write(draws, &mut line)?;
+            CommandKind::draw(profile, draws).write(draws, &mut line)?;
             copy_with_cut(line.as_slice(), draws, &mut bytes)?;
         }
         Ok(Input::unknown(bytes, alloc))
     }
 
     // Puts whose body has another length than their line says, among other commands.
-    fn of_wrong_bodies(alloc: Global, draws: &mut Draws) -> Result<Input> {
+    fn of_wrong_bodies(alloc: Global, profile: Profile, draws: &mut Draws) -> Result<Input> {
         let mut bytes = Vec::new(alloc);
         for _ in 0..COMMANDS {
             if draws.one_in(2) {
                 add_wrong_body(draws, &mut bytes)?;
             } else {
-                CommandKind::draw(draws).write(draws, &mut bytes)?;
+                CommandKind::draw(profile, draws).write(draws, &mut bytes)?;
             }
         }
         Ok(Input::unknown(bytes, alloc))

@@ -1,8 +1,9 @@
 //! Serves inputs that are drawn from seeds, each whole and cut into pieces, and looks for a difference.
 //!
-//! Each seed draws one input. The program's words are the first seed and how many there are; without words they are 0 and
-//! 10,000. The first input that goes wrong ends it, with a message that names its seed. Where there is one seed alone, its
-//! input and what its client is told are shown.
+//! Each seed draws one input: those below 10,000 are served in the plain profile, the others in the extended one. The
+//! program's words are the first seed and how many there are; without words they are 0 and 12,000. The first input that
+//! goes wrong ends it, with a message that names its seed. Where there is one seed alone, its input and what its client
+//! is told are shown.
 #![tactic(auto)]
 
 mod case;
@@ -16,12 +17,15 @@ mod one_client;
 mod pieces;
 mod reply_reader;
 mod reply_texts;
+mod report_reader;
+mod report_texts;
 mod serving;
 
 use anyhow::{Context, Result, ensure};
 use case::{show_seed, try_seed};
 use input_kind::InputKind;
 use reply_texts::wrong_text;
+use report_texts::wrong_report;
 use std::alloc::Global;
 use std::env;
 use std::rt::Env;
@@ -29,7 +33,7 @@ use std::rt::Env;
 // The seeds that are tried where no word says which.
 const SEEDS: Seeds = Seeds {
     first: 0,
-    count: 10_000,
+    count: 12_000,
 };
 
 // Seeds one after the other.
@@ -44,6 +48,11 @@ fn main(rt: HostRuntime) -> Result<()> {
     ensure!(
         wrong.is_none(),
         "the reader of replies is wrong: text {wrong:?}"
+    );
+    let wrong = wrong_report(rt.alloc())?;
+    ensure!(
+        wrong.is_none(),
+        "the reader of replies is wrong: report {wrong:?}"
     );
     let seeds = seeds_of_words(&rt)?;
     if seeds.count == 1 {

@@ -1,5 +1,6 @@
 //! Reading replies, by the protocol's text alone: it shares nothing with what writes them.
 use crate::head::Head;
+use crate::report_reader::report_of;
 use std::alloc::{AllocError, Global};
 
 /// The heads of the replies that a text is made of, or none where it isn't whole replies one after the other.
@@ -62,7 +63,7 @@ fn long_reply<'a>(word: &str, rest: &str, after: &'a [u8]) -> Option<(Head, &'a 
         "USING" => is_name(rest).then_some((Head::Using, after)),
         "RESERVED" => job(Head::Reserved, rest, after),
         "FOUND" => job(Head::Found, rest, after),
-        "OK" => tubes(rest, after),
+        "OK" => data(rest, after),
         _ => None,
     }
 }
@@ -80,10 +81,24 @@ fn job<'a>(head: Head, rest: &str, after: &'a [u8]) -> Option<(Head, &'a [u8])> 
     Some((head, after))
 }
 
-// A size, and a list of tubes behind the line.
-fn tubes<'a>(size: &str, after: &'a [u8]) -> Option<(Head, &'a [u8])> {
-    let (list, after) = block(size, after)?;
-    is_list(str::from_utf8(list).ok()?).then_some((Head::Tubes, after))
+// A size, and a list of tubes or a report behind the line.
+fn data<'a>(size: &str, after: &'a [u8]) -> Option<(Head, &'a [u8])> {
+    let (text, after) = block(size, after)?;
+    let head = told_by(str::from_utf8(text).ok()?)?;
+    Some((head, after))
+}
+
+// What some lines tell, behind one of three hyphens.
+fn told_by(text: &str) -> Option<Head> {
+    let lines = text.strip_prefix("---\n")?;
+    if !lines.ends_with('\n') {
+        return None;
+    }
+    if lines.split_terminator('\n').all(is_item) {
+        Some(Head::Tubes)
+    } else {
+        report_of(lines)
+    }
 }
 
 // So many bytes with the end of a line, and what follows.
@@ -93,8 +108,8 @@ fn block<'a>(size: &str, text: &'a [u8]) -> Option<(&'a [u8], &'a [u8])> {
     Some((bytes, after.strip_prefix(b"\r\n")?))
 }
 
-// A number without leading zeros.
-fn number(word: &str) -> Option<u64> {
+/// A number without leading zeros.
+pub fn number(word: &str) -> Option<u64> {
     let is_plain = word.bytes().all(|byte| byte.is_ascii_digit());
     if !is_plain || (word.len() > 1 && word.starts_with('0')) {
         return None;
@@ -102,20 +117,13 @@ fn number(word: &str) -> Option<u64> {
     word.parse::<u64>().ok()
 }
 
-// The names of some tubes, each on a line of its own, behind a line of three hyphens.
-fn is_list(text: &str) -> bool {
-    match text.strip_prefix("---\n") {
-        Some(lines) => lines.ends_with('\n') && lines.split_terminator('\n').all(is_item),
-        None => false,
-    }
-}
-
+// The name of a tube in a list.
 fn is_item(line: &str) -> bool {
     line.strip_prefix("- ").is_some_and(is_name)
 }
 
-// Whether a tube may have the name.
-fn is_name(word: &str) -> bool {
+/// Whether a tube may have the name.
+pub fn is_name(word: &str) -> bool {
     (1..=200).contains(&word.len()) && !word.starts_with('-') && word.bytes().all(is_name_byte)
 }
 

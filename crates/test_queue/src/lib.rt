@@ -1,5 +1,5 @@
-//! Worked rows of jobs and of their histories, and both queues side by side. The expected values were worked out by
-//! hand.
+//! Worked rows of jobs, of their histories and of the counts of tubes, and both queues side by side. The expected
+//! values were worked out by hand.
 #![tactic(auto)]
 
 #[cfg(test)]
@@ -8,3 +8,5 @@ mod history_rows;
 mod job_rows;
 #[cfg(test)]
 mod queue_draws;
+#[cfg(test)]
+mod tube_rows;

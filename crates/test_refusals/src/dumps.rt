@@ -8,8 +8,8 @@ pub fn read(alloc: Global, dump: &[u8]) -> Option<Chronicle<Op, Reply>> {
     read_text(alloc, dump).ok()
 }
 
-/// Sessions that reserve, lay aside, kick, delay, give back and delete jobs, use, watch, list and pause tubes, wait, and
-/// end, while seconds pass.
+/// Sessions that reserve, lay aside, kick, delay, give back and delete jobs, use, watch, list and pause tubes, wait, end,
+/// and ask for reports, while seconds pass.
 pub const QUEUE: &[u8] = b"beanpax-dump 1
 members 1
 S 1 1 reserve
@@ -92,7 +92,149 @@ S 4 8 reserve
 S 3 5 pause-tube default 0
 A 3 5 PAUSED
 A 4 8 RESERVED 5 64
+S 4 9 put 3 5 7 65
+A 4 9 INSERTED 6
+S 4 10 put 5 0 9 66
+A 4 10 INSERTED 7
+S 5 1 reserve-job 9
+A 5 1 NOT_FOUND
+S 5 2 reserve-job 6
+A 5 2 RESERVED 6 65
+S 3 6 reserve-job 6
+A 3 6 NOT_FOUND
+S 0 14 tick
+S 3 7 stats-job 6
+A 3 7 DATA -
+S 3 8 stats-job 2
+A 3 8 NOT_FOUND
+S 4 11 stats-tube default
+A 4 11 DATA -
+S 4 12 stats-tube zz
+A 4 12 NOT_FOUND
+S 3 9 stats
+A 3 9 DATA -
+S 3 10 stats-tube default
+A 3 10 DATA -
+S 3 11 stats
+A 3 11 DATA -
 end
+";
+
+/// The reports that `QUEUE` has, in which they are empty.
+pub const REPORTS: [&[u8]; 5] = [JOB_6, DEFAULT, FIRST_STATS, DEFAULT, SECOND_STATS];
+
+const JOB_6: &[u8] = b"---
+id: 6
+tube: default
+state: reserved
+pri: 3
+age: 2
+delay: 5
+ttr: 7
+time-left: 5
+file: 0
+reserves: 1
+timeouts: 0
+releases: 0
+buries: 0
+kicks: 0
+";
+
+const DEFAULT: &[u8] = b"---
+name: default
+current-jobs-urgent: 1
+current-jobs-ready: 1
+current-jobs-reserved: 3
+current-jobs-delayed: 0
+current-jobs-buried: 0
+total-jobs: 7
+current-using: 3
+current-watching: 3
+current-waiting: 0
+cmd-delete: 3
+cmd-pause-tube: 4
+pause: 0
+pause-time-left: 0
+";
+
+const FIRST_STATS: &[u8] = b"---
+current-jobs-urgent: 1
+current-jobs-ready: 1
+current-jobs-reserved: 3
+current-jobs-delayed: 0
+current-jobs-buried: 0
+cmd-put: 7
+cmd-peek: 1
+cmd-peek-ready: 1
+cmd-peek-delayed: 1
+cmd-peek-buried: 1
+cmd-reserve: 5
+cmd-reserve-with-timeout: 3
+cmd-delete: 4
+cmd-release: 1
+cmd-use: 1
+cmd-watch: 1
+cmd-ignore: 1
+cmd-bury: 1
+cmd-kick: 1
+cmd-touch: 1
+cmd-stats: 1
+cmd-stats-job: 2
+cmd-stats-tube: 2
+cmd-list-tubes: 1
+cmd-list-tube-used: 1
+cmd-list-tubes-watched: 1
+cmd-pause-tube: 5
+job-timeouts: 1
+total-jobs: 7
+max-job-size: 65535
+current-tubes: 1
+current-connections: 3
+current-producers: 1
+current-workers: 3
+current-waiting: 0
+version: \"beanpax 0.1\"
+uptime: 14
+";
+
+const SECOND_STATS: &[u8] = b"---
+current-jobs-urgent: 1
+current-jobs-ready: 1
+current-jobs-reserved: 3
+current-jobs-delayed: 0
+current-jobs-buried: 0
+cmd-put: 7
+cmd-peek: 1
+cmd-peek-ready: 1
+cmd-peek-delayed: 1
+cmd-peek-buried: 1
+cmd-reserve: 5
+cmd-reserve-with-timeout: 3
+cmd-delete: 4
+cmd-release: 1
+cmd-use: 1
+cmd-watch: 1
+cmd-ignore: 1
+cmd-bury: 1
+cmd-kick: 1
+cmd-touch: 1
+cmd-stats: 2
+cmd-stats-job: 2
+cmd-stats-tube: 3
+cmd-list-tubes: 1
+cmd-list-tube-used: 1
+cmd-list-tubes-watched: 1
+cmd-pause-tube: 5
+job-timeouts: 1
+total-jobs: 7
+max-job-size: 65535
+current-tubes: 1
+current-connections: 3
+current-producers: 1
+current-workers: 3
+current-waiting: 0
+version: \"beanpax 0.1\"
+uptime: 14
 ";
 
 /// Commands of which some are stale, those that have no answer and end no wait: a second that came before, and a command

@@ -1,9 +1,9 @@
 //! Objects that obey commands, by themselves, behind their filter, and in a replica.
-use crate::dumps::{QUEUE, STALE, read};
+use crate::dumps::{QUEUE, REPORTS, STALE, read};
 use crate::outcome::Outcome;
 use crate::subject::{Refusal, Subject, Then, walk};
 use ballot::Slot;
-use bean_queue::{Op, PlainQueue, Queue, Reply};
+use bean_queue::{Body, Op, PlainQueue, Queue, Reply};
 use chronicle::Chronicle;
 use object::{
     Act, Answer, Command, Effect, Key, Object, Once, Register, RegisterOp, RegisterReply,
@@ -140,7 +140,8 @@ pub fn queue(alloc: Global, then: Then) -> Option<Outcome> {
     let dump = read(alloc, QUEUE)?;
     let both = two_bare::<Queue>(alloc)?;
     let script = commands_of(&dump);
-    Some(obey_all::<Queue, Bare<Queue>>(alloc, both, &script, dump.answers(), then))
+    let expected = with_reports(alloc, dump.answers())?;
+    Some(obey_all::<Queue, Bare<Queue>>(alloc, both, &script, expected.as_slice(), then))
 }
 
 /// A queue that goes over all jobs.
@@ -148,7 +149,26 @@ pub fn plain_queue(alloc: Global, then: Then) -> Option<Outcome> {
     let dump = read(alloc, QUEUE)?;
     let both = two_bare::<PlainQueue>(alloc)?;
     let script = commands_of(&dump);
-    Some(obey_all::<PlainQueue, Bare<PlainQueue>>(alloc, both, &script, dump.answers(), then))
+    let expected = with_reports(alloc, dump.answers())?;
+    Some(obey_all::<PlainQueue, Bare<PlainQueue>>(alloc, both, &script, expected.as_slice(), then))
+}
+
+// These answers, with the reports' texts where a report is empty.
+fn with_reports(alloc: Global, answers: &[Answer<Reply>]) -> Option<Vec<Answer<Reply>>> {
+    let mut texts = REPORTS.iter();
+    let mut told = Vec::new(alloc);
+    for answer in answers {
+        let reply = match &answer.reply {
+            Reply::Data(_) => Reply::Data(Body::new(alloc, texts.next()?).ok()?),
+            reply => reply.copy().ok()?,
+        };
+        told.push(Answer {
+            to: answer.to,
+            reply,
+        })
+        .ok()?;
+    }
+    Some(told)
 }
 
 // The commands of a dump. A queue shows how it stands by what it answers to the next ones.
