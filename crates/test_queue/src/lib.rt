@@ -2,6 +2,7 @@
 //! values were worked out by hand.
 #![tactic(auto)]
 
+mod count_rows;
 #[cfg(test)]
 mod history_rows;
 #[cfg(test)]
@@ -10,3 +11,5 @@ mod job_rows;
 mod queue_draws;
 #[cfg(test)]
 mod tube_rows;
+
+pub use count_rows::the_greatest_count_of_the_queue_stays;
