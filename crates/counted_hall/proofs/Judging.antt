@@ -9,7 +9,7 @@ use Rattle.hall.specs.Books.{is_opened}
 use Rattle.hall.specs.Halls.{HallState, Agrees}
 use Rattle.hall.specs.Tickets.{TicketState}
 use Rattle.counted_hall.specs.Accounts.{AreItsTickets, sessions_of}
-use Rattle.counted_hall.specs.Marks.{is_free, marked}
+use Rattle.counted_hall.specs.Marks.{is_free, with_marks}
 use Rattle.counted_hall.proofs.Marking.{AllFree, all_there, complete, fresh, is_one_of, sound}
 
 -- what is free is one of so many
@@ -39,7 +39,7 @@ module _ {Op Reply : Type 0} where
 
   pub are_its : (h : HallState Op Reply) (m k : List Bool) (ts : List (TicketState Op Reply)) → All (λ b. b ≡ false) m
       → length m ≡ length h.book → length h.book ≡ length ts → ((t : TicketState Op Reply) → In t ts → Agrees h t)
-      → marked m (sessions_of ts) ≡ Some k → AreItsTickets h ts
+      → with_marks m (sessions_of ts) ≡ Some k → AreItsTickets h ts
   are_its h m k ts none long count agree e =
       let held = sound m k (sessions_of ts) e in
       record {
@@ -53,7 +53,7 @@ module _ {Op Reply : Type 0} where
 
   pub can_be_marked : (h : HallState Op Reply) (m : List Bool) (ts : List (TicketState Op Reply))
       → All (λ b. b ≡ false) m → length m ≡ length h.book → AreItsTickets h ts → (k : List Bool)
-      × (marked m (sessions_of ts) ≡ Some k)
+      × (with_marks m (sessions_of ts) ≡ Some k)
   can_be_marked h m ts none long are = complete m (sessions_of ts) are.once (all_free h m ts none long are.agree)
 
   -- no tickets are those of no sessions

@@ -7,7 +7,7 @@ use Rattle.std.proofs.lemmas.List.{get_or-set_other, get_or_past}
 use Rattle.std.proofs.lemmas.Bool.Decides.{nat_tests}
 use Rattle.std.proofs.lemmas.Map.Keys.{IsDistinct-cons}
 use Rattle.std.proofs.lemmas.Map.Steps.{length-le_from_distinct_below}
-use Rattle.counted_hall.specs.Marks.{is_free, with_mark, marked}
+use Rattle.counted_hall.specs.Marks.{is_free, with_mark, with_marks}
 
 -- what was marked stays
 set_same : (m : List Bool) (i : ℕ) → slice_index_or m i true ≡ false → slice_index_or (slice_set m i true) i true ≡ true
@@ -52,27 +52,27 @@ free_still m s [] apart all = tt
 free_still m s (t ∷ xs) apart all = (other_free m s t apart.0 ∙ all.0, free_still m s xs apart.1 all.1)
 
 -- where all could be marked, they were free, and no two are one
-pub sound : (m k : List Bool) (xs : List ℕ) → marked m xs ≡ Some k → IsDistinct eqb xs × AllFree m xs
+pub sound : (m k : List Bool) (xs : List ℕ) → with_marks m xs ≡ Some k → IsDistinct eqb xs × AllFree m xs
 unfolding IsDistinct
 sound m k [] e = (tt, tt)
 sound m k (s ∷ xs) e = at (sound (with_mark m s) k xs) (is_free m s) refl e
   where
-    at : (marked (with_mark m s) xs ≡ Some k → IsDistinct eqb xs × AllFree (with_mark m s) xs) → (b : Bool)
-        → is_free m s ≡ b → (if b then marked (with_mark m s) xs else None) ≡ Some k
+    at : (with_marks (with_mark m s) xs ≡ Some k → IsDistinct eqb xs × AllFree (with_mark m s) xs) → (b : Bool)
+        → is_free m s ≡ b → (if b then with_marks (with_mark m s) xs else None) ≡ Some k
         → (IsApart s xs × IsDistinct eqb xs) × AllFree m (s ∷ xs)
     at more true free e = let still = still_free m s xs free (more e).1 in ((still.0, (more e).0), (free, still.1))
     at more false free e = absurd (cc)
 
 -- and where they are free, and no two are one, all can be marked
-pub complete : (m : List Bool) (xs : List ℕ) → IsDistinct eqb xs → AllFree m xs → (k : List Bool) × (marked m xs ≡ Some k)
+pub complete : (m : List Bool) (xs : List ℕ) → IsDistinct eqb xs → AllFree m xs → (k : List Bool) × (with_marks m xs ≡ Some k)
 unfolding IsDistinct
 complete m [] once free = (m, refl)
 complete m (s ∷ xs) once free =
     let more = complete (with_mark m s) xs once.1 (free_still m s xs once.0 free.1) in
-    (more.0, ap (λ b. if b then marked (with_mark m s) xs else None) free.0 ∙ more.1)
+    (more.0, ap (λ b. if b then with_marks (with_mark m s) xs else None) free.0 ∙ more.1)
 
 -- some, and then others
-pub marked_on : (m k : List Bool) (xs ys : List ℕ) → marked m xs ≡ Some k → marked m (xs ++ ys) ≡ marked k ys
+pub marked_on : (m k : List Bool) (xs ys : List ℕ) → with_marks m xs ≡ Some k → with_marks m (xs ++ ys) ≡ with_marks k ys
 marked_on m k [] ys e = ap (λ o. marked (inside o) ys) e
   where
     inside : Option (List Bool) → List Bool
@@ -80,19 +80,19 @@ marked_on m k [] ys e = ap (λ o. marked (inside o) ys) e
     inside (Some l) = l
 marked_on m k (s ∷ xs) ys e = at (marked_on (with_mark m s) k xs ys) (is_free m s) e
   where
-    at : (marked (with_mark m s) xs ≡ Some k → marked (with_mark m s) (xs ++ ys) ≡ marked k ys) → (b : Bool)
-        → (if b then marked (with_mark m s) xs else None) ≡ Some k
-        → (if b then marked (with_mark m s) (xs ++ ys) else None) ≡ marked k ys
+    at : (with_marks (with_mark m s) xs ≡ Some k → with_marks (with_mark m s) (xs ++ ys) ≡ with_marks k ys) → (b : Bool)
+        → (if b then with_marks (with_mark m s) xs else None) ≡ Some k
+        → (if b then with_marks (with_mark m s) (xs ++ ys) else None) ≡ with_marks k ys
     at more true e = more e
     at more false e = absurd (cc)
 
-pub marked_off : (m : List Bool) (xs ys : List ℕ) → marked m xs ≡ None → marked m (xs ++ ys) ≡ None
+pub marked_off : (m : List Bool) (xs ys : List ℕ) → with_marks m xs ≡ None → with_marks m (xs ++ ys) ≡ None
 marked_off m [] ys e = absurd (cc)
 marked_off m (s ∷ xs) ys e = at (marked_off (with_mark m s) xs ys) (is_free m s) e
   where
-    at : (marked (with_mark m s) xs ≡ None → marked (with_mark m s) (xs ++ ys) ≡ None) → (b : Bool)
-        → (if b then marked (with_mark m s) xs else None) ≡ None
-        → (if b then marked (with_mark m s) (xs ++ ys) else None) ≡ None
+    at : (with_marks (with_mark m s) xs ≡ None → with_marks (with_mark m s) (xs ++ ys) ≡ None) → (b : Bool)
+        → (if b then with_marks (with_mark m s) xs else None) ≡ None
+        → (if b then with_marks (with_mark m s) (xs ++ ys) else None) ≡ None
     at more true e = more e
     at more false e = refl
 

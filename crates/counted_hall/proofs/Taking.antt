@@ -6,7 +6,7 @@ use Rattle.std.proofs.lemmas.List.{take_more, take-append-drop, map-append}
 use Rattle.std.proofs.lemmas.Grind.{flat_map-append}
 use Rattle.object.specs.Lists.{In}
 use Rattle.object.specs.ListLaws.{In-left, In-right, In-cases}
-use Rattle.counted_hall.specs.Marks.{is_free, with_mark, marked}
+use Rattle.counted_hall.specs.Marks.{is_free, with_mark, with_marks}
 use Rattle.counted_hall.proofs.Marking.{marked_on, marked_off}
 
 -- it holds of all that stand in the one list or in the other
@@ -46,19 +46,19 @@ module _ {X : Type 0} (xs : List X) (n : ℕ) (x : X) (within : n < length xs) (
         (In-right a (flat_map f (take n xs)) (f x) i))
 
 -- the marks of items, each of one session
-module _ {X : Type 0} (key : X → ℕ) (m k : List Bool) (xs ys : List X) (sofar : marked m (map key xs) ≡ Some k) where
-  pub marked_more : (j : List Bool) (zs : List X) → zs ≡ xs ++ ys → marked k (map key ys) ≡ Some j → marked m (map key zs) ≡ Some j
-  marked_more j zs is next = ap (λ l. marked m (map key l)) is ∙ ap (marked m) (map-append key xs ys) ∙ marked_on m k (map key xs) (map key ys) sofar ∙ next
+module _ {X : Type 0} (key : X → ℕ) (m k : List Bool) (xs ys : List X) (sofar : with_marks m (map key xs) ≡ Some k) where
+  pub marked_more : (j : List Bool) (zs : List X) → zs ≡ xs ++ ys → with_marks k (map key ys) ≡ Some j → with_marks m (map key zs) ≡ Some j
+  marked_more j zs is next = ap (λ l. with_marks m (map key l)) is ∙ ap (with_marks m) (map-append key xs ys) ∙ marked_on m k (map key xs) (map key ys) sofar ∙ next
 
-  pub marked_none : (zs more : List X) → zs ≡ (xs ++ ys) ++ more → marked k (map key ys) ≡ None → marked m (map key zs) ≡ None
+  pub marked_none : (zs more : List X) → zs ≡ (xs ++ ys) ++ more → with_marks k (map key ys) ≡ None → with_marks m (map key zs) ≡ None
   marked_none zs more is stops =
       let first = marked_on m k (map key xs) (map key ys) sofar ∙ stops in
-      ap (λ l. marked m (map key l)) is ∙ ap (marked m) (map-append key (xs ++ ys) more)
-      ∙ marked_off m (map key (xs ++ ys)) (map key more) (ap (marked m) (map-append key xs ys) ∙ first)
+      ap (λ l. with_marks m (map key l)) is ∙ ap (with_marks m) (map-append key (xs ++ ys) more)
+      ∙ marked_off m (map key (xs ++ ys)) (map key more) (ap (with_marks m) (map-append key xs ys) ∙ first)
 
 -- and of one
-pub one_marked : (k j : List Bool) (s : ℕ) → is_free k s ≡ true → j ≡ with_mark k s → marked k (s ∷ []) ≡ Some j
+pub one_marked : (k j : List Bool) (s : ℕ) → is_free k s ≡ true → j ≡ with_mark k s → with_marks k (s ∷ []) ≡ Some j
 one_marked k j s free is = ap (λ b. if b then Some (with_mark k s) else None) free ∙ ap (λ l. Some l) (sym is)
 
-pub one_stops : (k : List Bool) (s : ℕ) → is_free k s ≡ false → marked k (s ∷ []) ≡ None
+pub one_stops : (k : List Bool) (s : ℕ) → is_free k s ≡ false → with_marks k (s ∷ []) ≡ None
 one_stops k s free = ap (λ b. if b then Some (with_mark k s) else None) free

@@ -12,6 +12,6 @@ with_mark marks zero = marks
 with_mark marks (suc i) = slice_set marks i true
 
 -- the marks, when those of these sessions are set one after the other; none where one isn't free
-abbrev pub marked : List Bool → List ℕ → Option (List Bool)
-marked marks [] = Some marks
-marked marks (s ∷ more) = if is_free marks s then marked (with_mark marks s) more else None
+abbrev pub with_marks : List Bool → List ℕ → Option (List Bool)
+with_marks marks [] = Some marks
+with_marks marks (s ∷ more) = if is_free marks s then with_marks (with_mark marks s) more else None

@@ -3,7 +3,7 @@ ghost use Rattle.object.specs.Lists.{In};
 ghost use Rattle.hall.specs.Halls.{Agrees};
 ghost use Rattle.hall.specs.Tickets.{TicketState};
 ghost use Rattle.counted_hall.specs.Accounts.{AreItsTickets, all_tickets, sessions_of};
-ghost use Rattle.counted_hall.specs.Marks.{is_free, marked, with_mark};
+ghost use Rattle.counted_hall.specs.Marks.{is_free, with_mark, with_marks};
 
 use hall::{Hall, Ticket};
 use object::Object;
@@ -52,9 +52,9 @@ fn each_agrees<O: Object>(hall: &Hall<O>, tickets: &[Ticket<O>]) -> bool
 // Marks the sessions of all tickets; false where one has no mark, or was marked already.
 fn mark_all<O: Object>(tickets: &[Vec<Ticket<O>>], marks: &mut [bool]) -> bool
     ensures ok { result ≡ true →
-        marked marks.old (sessions_of (all_tickets tickets.now)) ≡ Some marks.new }
+        with_marks marks.old (sessions_of (all_tickets tickets.now)) ≡ Some marks.new }
     ensures none { result ≡ false →
-        marked marks.old (sessions_of (all_tickets tickets.now)) ≡ None }
+        with_marks marks.old (sessions_of (all_tickets tickets.now)) ≡ None }
 {
     for place in 0..tickets.len() {
         if !mark_each(tickets[place].as_slice(), marks) {
@@ -66,8 +66,8 @@ fn mark_all<O: Object>(tickets: &[Vec<Ticket<O>>], marks: &mut [bool]) -> bool
 
 // Marks the sessions of these.
 fn mark_each<O: Object>(tickets: &[Ticket<O>], marks: &mut [bool]) -> bool
-    ensures ok { result ≡ true → marked marks.old (sessions_of tickets.now) ≡ Some marks.new }
-    ensures none { result ≡ false → marked marks.old (sessions_of tickets.now) ≡ None }
+    ensures ok { result ≡ true → with_marks marks.old (sessions_of tickets.now) ≡ Some marks.new }
+    ensures none { result ≡ false → with_marks marks.old (sessions_of tickets.now) ≡ None }
 {
     for place in 0..tickets.len() {
         if !mark(marks, tickets[place].session()) {

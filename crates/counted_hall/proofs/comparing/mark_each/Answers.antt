@@ -2,7 +2,7 @@ use Rattle.std.proofs.Common.{◌≡◌, ◌∷◌, [], ◌++◌, ◌+◌, true,
 use Rattle.std.proofs.lemmas.List.{take_all, take-append-drop}
 use Rattle.hall.specs.Tickets.{TicketState}
 use Rattle.counted_hall.specs.Accounts.{sessions_of}
-use Rattle.counted_hall.specs.Marks.{is_free, marked, with_mark}
+use Rattle.counted_hall.specs.Marks.{is_free, with_mark, with_marks}
 use Rattle.counted_hall.proofs.Taking.{marked_more, marked_none, one_marked, one_stops, one_taken}
 use Rattle.counted_hall.proofs.comparing.mark_each.Goals as goal
 
@@ -33,5 +33,5 @@ loop-place-preserved g c =
     (c.mark.ensures.ok c.if-not-mark.false ∙ ap (with_mark c.loop-place.marks) c.session.ensures))
 
 pub returns-clause-ok : goal.returns-clause-ok
-returns-clause-ok g c e = ap (λ l. marked c.args.marks.now (sessions_of l))
+returns-clause-ok g c e = ap (λ l. with_marks c.args.marks.now (sessions_of l))
     (sym (take_all c.loop-place.place c.args.tickets.now c.loop-place-test.false)) ∙ c.loop-place.invariant
