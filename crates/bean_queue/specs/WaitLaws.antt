@@ -37,12 +37,12 @@ module _ {X : Type 0} where
   in-append (x ∷ xs) ys a (inl same) = inl (inl same)
   in-append (x ∷ xs) ys a (inr later) = elim (in-append xs ys a later) [ inl i ↦ inl (inr i) | inr i ↦ inr i ]
 
-pub apart-append : (xs ys : List (Answer Reply)) → NoneTwice xs → NoneTwice ys
+pub none_twice-append : (xs ys : List (Answer Reply)) → NoneTwice xs → NoneTwice ys
     → ((a b : Answer Reply) → In a xs → In b ys → b.to.session ≡ a.to.session → ⊥) → NoneTwice (xs ++ ys)
-apart-append [] ys p q h = q
-apart-append (x ∷ xs) ys p q h = (
+none_twice-append [] ys p q h = q
+none_twice-append (x ∷ xs) ys p q h = (
   λ b i e. elim (in-append xs ys b i) as (λ v. ⊥) [ inl j ↦ p.0 b j e | inr j ↦ h x b (inl refl) j e ],
-  apart-append xs ys p.1 q (λ a b i j. h a b (inr i) j),
+  none_twice-append xs ys p.1 q (λ a b i j. h a b (inr i) j),
 )
 
 -- Turns
@@ -63,7 +63,7 @@ dealt-then s t u xs ys p q =
       fewer = λ k h. p.fewer k (q.fewer k h);
       named = λ a i. elim (in-append xs ys a i) [ inl j ↦ p.named a j | inr j ↦ p.fewer a.to (q.named a j) ];
       over = λ a k i h e. elim (in-append xs ys a i) as (λ v. ⊥) [ inl j ↦ p.over a k j (q.fewer k h) e | inr j ↦ q.over a k j h e ];
-      once = apart-append xs ys p.once q.once (λ a b i j e. p.over a b.to i (q.named b j) e);
+      once = none_twice-append xs ys p.once q.once (λ a b i j e. p.over a b.to i (q.named b j) e);
     }
 
 pub record IsWaiterTurn (s : QueueState) (t : QueueTurn) : Type 0 where
@@ -358,10 +358,10 @@ effect-lawful c s =
 pub fresh-idle : (k : Key) → Waits fresh k → ⊥
 fresh-idle k h = h.2
 
-apart-once : (xs : List (Answer Reply)) → NoneTwice xs → AnswersOnce xs
-apart-once [] h = tt
-apart-once (a ∷ xs) h = (λ b i e. h.0 b i (ap (λ (k : Key). k.session) e), apart-once xs h.1)
+none_twice-once : (xs : List (Answer Reply)) → NoneTwice xs → AnswersOnce xs
+none_twice-once [] h = tt
+none_twice-once (a ∷ xs) h = (λ b i e. h.0 b i (ap (λ (k : Key). k.session) e), none_twice-once xs h.1)
 
 -- no key is answered twice
 pub effect-once : (c : Command Op) (s : QueueState) → AnswersOnce (effect c s).answers
-effect-once c s = apart-once (effect c s).answers (effect-lawful c s).once
+effect-once c s = none_twice-once (effect c s).answers (effect-lawful c s).once

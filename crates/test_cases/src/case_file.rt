@@ -1,5 +1,5 @@
 //! A file of cases.
-use anyhow::{Context, Result};
+use anyhow::{Context, Result, ensure};
 use std::alloc::Global;
 
 /// A case: of what kind it is, what it shows, and its lines.
@@ -27,6 +27,7 @@ fn add_line<'a>(alloc: Global, cases: &mut Vec<Case<'a>>, line: &'a str) -> Resu
     match title_line(line) {
         Some((kind, title)) => Ok(cases.push(new_case(alloc, kind, title))?),
         None => {
+            ensure!(!line.starts_with('['), "a title without its kind");
             let case = cases.last_mut().context("a line before the first case")?;
             Ok(case.lines.push(line)?)
         }

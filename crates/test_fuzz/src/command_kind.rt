@@ -84,7 +84,7 @@ static EXTENDED: [CommandKind; 4] = [
 ];
 
 impl CommandKind {
-    /// A command of this profile. In the extended one a chance of one in four makes it one that the plain one doesn't
+    /// A command of this profile. In the extended one it is with a chance of one in four one that the plain one doesn't
     /// know.
     pub fn draw(profile: Profile, draws: &mut Draws) -> CommandKind {
         match profile {

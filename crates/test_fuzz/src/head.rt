@@ -22,9 +22,11 @@ pub enum Head {
     Found,
     /// `OK` with a list of tubes.
     Tubes,
-    /// `OK` with a report of a job, of a tube, or of the queue.
+    /// `OK` with a report of a job.
     JobReport,
+    /// `OK` with a report of a tube.
     TubeReport,
+    /// `OK` with a report of the queue.
     QueueReport,
     Paused,
     BadFormat,

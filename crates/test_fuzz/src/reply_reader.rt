@@ -88,7 +88,7 @@ fn data<'a>(size: &str, after: &'a [u8]) -> Option<(Head, &'a [u8])> {
     Some((head, after))
 }
 
-// What some lines tell, behind one of three hyphens.
+// What the lines behind a line of three hyphens tell.
 fn told_by(text: &str) -> Option<Head> {
     let lines = text.strip_prefix("---\n")?;
     if !lines.ends_with('\n') {

@@ -49,7 +49,7 @@ static TUBE_LINES: [Line; 14] = [
     ("pause-time-left", Told::Number),
 ];
 
-// But for those that tell of a process and a machine.
+// The queue's lines: those of beanstalkd but for what tells of a process or a machine.
 static QUEUE_LINES: [Line; 37] = [
     ("current-jobs-urgent", Told::Number),
     ("current-jobs-ready", Told::Number),

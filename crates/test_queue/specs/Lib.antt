@@ -1,1 +1,1 @@
-pub mod Greatest
+pub mod AllCounts

@@ -1,5 +1,5 @@
-//! Worked rows of jobs, of their histories and of the counts of tubes, and both queues side by side. The expected
-//! values were worked out by hand.
+//! Worked rows of jobs, of their histories, and of the counts of tubes and of the queue, and both queues side by side. The
+//! expected values were worked out by hand.
 #![tactic(auto)]
 
 mod count_rows;

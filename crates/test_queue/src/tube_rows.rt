@@ -9,7 +9,7 @@ fn counts_of(counts: &TubeCounts) -> Counts {
     (counts.puts, counts.deletes, counts.pauses, counts.pause)
 }
 
-/// The counts that these are of.
+/// The counts of a tube that are told as these.
 fn with_counts(counts: &Counts) -> TubeCounts {
     let (puts, deletes, pauses, pause) = *counts;
     TubeCounts {
@@ -32,30 +32,39 @@ static LIFE: [(TubeMark, Counts); 7] = [
 ];
 
 /// One below the greatest count.
-const LAST_BUT_ONE: u64 = 18_446_744_073_709_551_614;
+const NEARLY_GREATEST: u64 = 18_446_744_073_709_551_614;
 
 /// The greatest one.
-const LAST: u64 = 18_446_744_073_709_551_615;
+const GREATEST: u64 = 18_446_744_073_709_551_615;
 
 /// Counts that are one below the greatest.
-static NEARLY_FULL: Counts = (LAST_BUT_ONE, LAST_BUT_ONE, LAST_BUT_ONE, 5);
+static NEARLY_FULL: Counts = (NEARLY_GREATEST, NEARLY_GREATEST, NEARLY_GREATEST, 5);
 
 /// Each mark twice, and the counts after each, which begin one below the greatest.
 static FULL: [(TubeMark, Counts); 6] = [
-    (TubeMark::Put, (LAST, LAST_BUT_ONE, LAST_BUT_ONE, 5)),
-    (TubeMark::Put, (LAST, LAST_BUT_ONE, LAST_BUT_ONE, 5)),
-    (TubeMark::Deleted, (LAST, LAST, LAST_BUT_ONE, 5)),
-    (TubeMark::Deleted, (LAST, LAST, LAST_BUT_ONE, 5)),
+    (
+        TubeMark::Put,
+        (GREATEST, NEARLY_GREATEST, NEARLY_GREATEST, 5),
+    ),
+    (
+        TubeMark::Put,
+        (GREATEST, NEARLY_GREATEST, NEARLY_GREATEST, 5),
+    ),
+    (TubeMark::Deleted, (GREATEST, GREATEST, NEARLY_GREATEST, 5)),
+    (TubeMark::Deleted, (GREATEST, GREATEST, NEARLY_GREATEST, 5)),
     (
         TubeMark::Paused {
-            seconds: 4294967295,
+            seconds: 4_294_967_295,
         },
-        (LAST, LAST, LAST, 4294967295),
+        (GREATEST, GREATEST, GREATEST, 4_294_967_295),
     ),
-    (TubeMark::Paused { seconds: 3 }, (LAST, LAST, LAST, 3)),
+    (
+        TubeMark::Paused { seconds: 3 },
+        (GREATEST, GREATEST, GREATEST, 3),
+    ),
 ];
 
-/// The place of the first mark after which the counts are others.
+/// The place of the first mark after which the counts aren't those of the table.
 fn wrong_mark(begun: TubeCounts, marks: &[(TubeMark, Counts)]) -> Option<usize> {
     let mut counts = begun;
     for (place, (mark, after)) in marks.iter().enumerate() {

@@ -120,7 +120,7 @@ A 3 11 DATA -
 end
 ";
 
-/// The reports that `QUEUE` has, in which they are empty.
+/// The texts of the reports in `QUEUE`, in their order. The dump itself has them empty.
 pub const REPORTS: [&[u8]; 5] = [JOB_6, DEFAULT, FIRST_STATS, DEFAULT, SECOND_STATS];
 
 const JOB_6: &[u8] = b"---

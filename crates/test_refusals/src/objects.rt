@@ -168,6 +168,9 @@ fn with_reports(alloc: Global, answers: &[Answer<Reply>]) -> Option<Vec<Answer<R
         })
         .ok()?;
     }
+    if texts.next().is_some() {
+        return None;
+    }
     Some(told)
 }
 

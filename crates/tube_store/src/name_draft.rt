@@ -49,7 +49,7 @@ impl<V: Copy> NameDraft<V> {
         self.values.get(tube).copied()
     }
 
-    /// Gives a tube this value. For one that has a value it takes no memory but that of the steps, which is kept.
+    /// Gives a tube this value. For one that has a value it takes memory for a step alone, whose room is kept for later ones.
     pub fn set(&mut self, tube: &Name, value: V) -> Result<(), AllocError>
         ensures now { OnOk result
             (self.new.now ≡ insert_entry name_cmp self.old.now tube.now value) }

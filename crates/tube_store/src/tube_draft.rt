@@ -45,7 +45,7 @@ impl TubeDraft {
         }
     }
 
-    /// Counts what is done with a tube. For one that has counts it takes no memory but that of the steps, which is kept.
+    /// Counts what is done with a tube. For one that has counts it takes memory for a step alone, whose room is kept.
     pub fn mark(&mut self, tube: &Name, mark: TubeMark) -> Result<(), AllocError>
         ensures now { OnOk result (self.new.now ≡ marked_tube mark tube.now self.old.now) }
         ensures before { self.new.before ≡ self.old.before }
