@@ -73,7 +73,7 @@ complete m (s ∷ xs) once free =
 
 -- some, and then others
 pub marked_on : (m k : List Bool) (xs ys : List ℕ) → with_marks m xs ≡ Some k → with_marks m (xs ++ ys) ≡ with_marks k ys
-marked_on m k [] ys e = ap (λ o. marked (inside o) ys) e
+marked_on m k [] ys e = ap (λ o. with_marks (inside o) ys) e
   where
     inside : Option (List Bool) → List Bool
     inside None = []
