@@ -122,7 +122,11 @@ impl<M: JobMap> Logic<M> {
         ensures before { self.new.before ≡ self.old.before }
     {
         self.numbers_rise();
-        let role = role_after(op, self.session(session).role);
+        let before = self.session(session).role;
+        let role = role_after(op, before);
+        if role == before {
+            return Ok(());
+        }
         self.sessions.set_role(session, role)
     }
 

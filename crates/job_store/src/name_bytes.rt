@@ -73,7 +73,10 @@ impl PartialEq for NameBytes {
     ghost laws = { partial_equiv_from_equiv nat_list_eq_equiv };
 
     fn eq(&self, other: &Self) -> bool {
-        self.as_slice() == other.as_slice()
+        match (&self.own, &other.own) {
+            (None, None) => true,
+            _ => self.as_slice() == other.as_slice(),
+        }
     }
 }
 
@@ -101,7 +104,10 @@ impl Ord for NameBytes {
     ghost matches_eq = { texts_ties };
 
     fn cmp(&self, other: &Self) -> Ordering {
-        self.as_slice().cmp(other.as_slice())
+        match (&self.own, &other.own) {
+            (None, None) => Ordering::Equal,
+            _ => self.as_slice().cmp(other.as_slice()),
+        }
     }
 }
 

@@ -7,7 +7,8 @@ use crate::state::State;
 use std::alloc::{AllocError, Global};
 use std::marker::Model;
 
-/// A job in a block of its own. The nodes of a tree of jobs are half full, so they hold no more than where a job lies.
+/// A job in a block of its own. Where ids rise, the nodes of the tree are half full, so they hold no more than where a job
+/// lies.
 #[derive(Drop)]
 pub struct StoredJob {
     job: Box<Job>,

@@ -2,7 +2,6 @@ ghost use Rattle.std.specs.Prelude.{◌≡◌};
 ghost use Rattle.job_store.specs.Shelves.{HoldJobs};
 ghost use Rattle.job_store.specs.Tallies.{tally_in, tally_all};
 
-use crate::job::Job;
 use crate::name::Name;
 use crate::shelves::Shelves;
 use crate::stored_job::StoredJob;

@@ -4,6 +4,7 @@ use Rattle.job_store.specs.Entries.{Rising, value_at, with_value, altered}
 use Rattle.job_store.specs.EntryLaws.{value_at-altered, value_at-insert, altered-alike}
 use Rattle.object.specs.declared.command.Key.{Key}
 use Rattle.session_store.specs.declared.session.SessionState.{SessionState}
+use Rattle.session_store.proofs.SessionDrafts.{unplayed}
 use Rattle.session_store.specs.Sessions.{new_session, session_of, known, with_role, with_wait, with_wait_ended}
 use Rattle.session_store.specs.declared.session.Role.{Role}
 use Rattle.bean_queue.specs.declared.op.Op.{Op}
@@ -44,6 +45,15 @@ role-noted op x sessions role rising there is =
     altered-alike x 0 (2 ^ 32) (with_role role) (with_ask_noted op) sessions (session_of x sessions) rising
     (the-session (value_at x sessions) new_session there)
     (ap (λ r. with_role r (session_of x sessions)) is)
+
+-- and where that is the role that it has, nothing changes
+pub role-stays : (op : Op) (x : ℕ) (sessions : List (ℕ × SessionState)) → Rising 0 (2 ^ 32) sessions
+    → IsSome (value_at x sessions) → (session_of x sessions).role ≡ role_after op (session_of x sessions).role
+    → sessions ≡ altered x (with_ask_noted op) sessions
+role-stays op x sessions rising there same =
+    sym (unplayed x 0 (2 ^ 32) (role_after op (session_of x sessions).role) (session_of x sessions) sessions rising
+    (the-session (value_at x sessions) new_session there) same) ∙
+    role-noted op x sessions (role_after op (session_of x sessions).role) rising there refl
 
 -- the state after a quiet operation, and its answer
 pub quiet-state : (op : Op) (key : Key) (s t u : QueueState) → is_quiet op ≡ true → serve_turn s ≡ None

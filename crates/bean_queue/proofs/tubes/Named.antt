@@ -29,7 +29,7 @@ by-default s tube t = it-is s tube (IsTube.default (same-bytes tube (codes "defa
 pub by-job : (s : QueueState) (tube : List ℕ) → list_any (λ e. bytes_eq tube e.1.tube) s.jobs ≡ true → is_among tube (all_tubes s) ≡ true
 by-job s tube t = let j = any-in (λ e. bytes_eq tube e.1.tube) s.jobs t in it-is s tube (IsTube.of_job j.0 j.1 (same-bytes tube j.0.1.tube j.2))
 
-by-session : (s : QueueState) (tube : List ℕ)
+pub by-session : (s : QueueState) (tube : List ℕ)
     → list_any (λ e. bytes_eq tube e.1.used || is_among tube e.1.watched) s.sessions ≡ true
     → is_among tube (all_tubes s) ≡ true
 by-session s tube t =
@@ -43,28 +43,28 @@ or-right : (a b : Bool) → b ≡ true → (a || b) ≡ true
 or-right true b e = refl
 or-right false b e = e
 
-some-session : (s : QueueState) (tube : List ℕ) → bytes_eq tube (codes "default") ≡ false
-    → list_any (λ e. bytes_eq tube e.1.tube) s.jobs ≡ false → IsTube s tube
-    → list_any (λ e. bytes_eq tube e.1.used || is_among tube e.1.watched) s.sessions ≡ true
-some-session s tube d j (IsTube.default same) = absurd (true≢false (sym (alike tube (codes "default") same) ∙ d))
-some-session s tube d j (IsTube.of_job k i e) = absurd (true≢false (sym (in-any (λ e. bytes_eq tube e.1.tube) s.jobs k i (alike tube k.1.tube e)) ∙ j))
-some-session s tube d j (IsTube.used w i e) =
-    in-any (λ e. bytes_eq tube e.1.used || is_among tube e.1.watched) s.sessions w i
-    (ap (λ b. b || is_among tube w.1.watched) (alike tube w.1.used e))
-some-session s tube d j (IsTube.watched w i e) =
-    in-any (λ e. bytes_eq tube e.1.used || is_among tube e.1.watched) s.sessions w i
-    (or-right (bytes_eq tube w.1.used) (is_among tube w.1.watched) ((among-member tube w.1.watched).1 e))
+some-job : (s : QueueState) (tube : List ℕ) → bytes_eq tube (codes "default") ≡ false
+    → list_any (λ e. bytes_eq tube e.1.used || is_among tube e.1.watched) s.sessions ≡ false → IsTube s tube
+    → list_any (λ e. bytes_eq tube e.1.tube) s.jobs ≡ true
+some-job s tube d n (IsTube.default same) = absurd (true≢false (sym (alike tube (codes "default") same) ∙ d))
+some-job s tube d n (IsTube.of_job k i e) = in-any (λ e. bytes_eq tube e.1.tube) s.jobs k i (alike tube k.1.tube e)
+some-job s tube d n (IsTube.used w i e) =
+    absurd (true≢false (sym (in-any (λ e. bytes_eq tube e.1.used || is_among tube e.1.watched) s.sessions w i
+    (ap (λ b. b || is_among tube w.1.watched) (alike tube w.1.used e))) ∙ n))
+some-job s tube d n (IsTube.watched w i e) =
+    absurd (true≢false (sym (in-any (λ e. bytes_eq tube e.1.used || is_among tube e.1.watched) s.sessions w i
+    (or-right (bytes_eq tube w.1.used) (is_among tube w.1.watched) ((among-member tube w.1.watched).1 e))) ∙ n))
 
 pub by-rest : (s : QueueState) (tube : List ℕ) → bytes_eq tube (codes "default") ≡ false
-    → list_any (λ e. bytes_eq tube e.1.tube) s.jobs ≡ false
-    → list_any (λ e. bytes_eq tube e.1.used || is_among tube e.1.watched) s.sessions ≡ is_among tube (all_tubes s)
-by-rest s tube d j =
-    elim (list_any (λ e. bytes_eq tube e.1.used || is_among tube e.1.watched) s.sessions) as (λ b. list_any
-    (λ e. bytes_eq tube e.1.used || is_among tube e.1.watched) s.sessions ≡ b → b ≡ is_among tube (all_tubes s)) [
-      | true ↦ λ t. sym (by-session s tube t)
+    → list_any (λ e. bytes_eq tube e.1.used || is_among tube e.1.watched) s.sessions ≡ false
+    → list_any (λ e. bytes_eq tube e.1.tube) s.jobs ≡ is_among tube (all_tubes s)
+by-rest s tube d n =
+    elim (list_any (λ e. bytes_eq tube e.1.tube) s.jobs) as (λ b. list_any (λ e. bytes_eq tube e.1.tube) s.jobs ≡ b
+    → b ≡ is_among tube (all_tubes s)) [
+      | true ↦ λ t. sym (by-job s tube t)
       | false ↦ λ f.
           elim (is_among tube (all_tubes s)) as (λ b. is_among tube (all_tubes s) ≡ b → false ≡ b) [
-            | true ↦ λ t. absurd (true≢false (sym (some-session s tube d j ((tubes-all s tube).0 ((among-member tube (all_tubes s)).0 t))) ∙ f))
+            | true ↦ λ t. absurd (true≢false (sym (some-job s tube d n ((tubes-all s tube).0 ((among-member tube (all_tubes s)).0 t))) ∙ f))
             | false ↦ λ _. refl
           ] refl
     ] refl

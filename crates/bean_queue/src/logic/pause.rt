@@ -18,10 +18,10 @@ impl<M: JobMap> Logic<M> {
         if *tube == Name::default_tube() {
             return true;
         }
-        if self.jobs.map().has_jobs(tube) {
+        if self.sessions.has_named(tube) {
             return true;
         }
-        self.sessions.has_named(tube)
+        self.jobs.map().has_jobs(tube)
     }
 
     /// Pauses a tube for so many seconds, or no longer where they are none.

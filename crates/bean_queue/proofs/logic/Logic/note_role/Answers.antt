@@ -1,4 +1,4 @@
-use Rattle.std.proofs.Common.{◌≡◌, ap, ◌∙◌}
+use Rattle.std.proofs.Common.{◌≡◌, ap, sym, rules, ◌∙◌}
 use Rattle.std.proofs.lemmas.Result.{on_ok_weaker}
 use Rattle.job_store.specs.Entries.{altered}
 use Rattle.session_store.specs.declared.session.SessionState.{SessionState}
@@ -6,8 +6,18 @@ use Rattle.session_store.specs.Drafts.{Draft}
 use Rattle.session_store.specs.Sessions.{with_role}
 use Rattle.bean_queue.specs.Queue.{QueueState, state_of, with_sessions}
 use Rattle.bean_queue.specs.Effects.{role_after, with_ask_noted}
-use Rattle.bean_queue.proofs.calm.Called.{role-noted}
+use Rattle.bean_queue.proofs.calm.Called.{role-noted, role-stays}
 use Rattle.bean_queue.proofs.logic.Logic.note_role.Goals as goal
+
+pub returns-then-eq-clause-now : goal.returns-then-eq-clause-now
+returns-then-eq-clause-now g c =
+    let x = c.args.session in
+    let op = c.args.op.now in
+    let same : c.session.result.now.role ≡ c.role_after-role.result = search rules in
+    ap (with_sessions c.args.self.now.now)
+    (role-stays op x c.args.self.now.now.sessions c.numbers_rise.ensures c.requires
+    (ap (λ (t : SessionState). t.role) (sym c.session.ensures) ∙ same ∙ c.role_after-role.ensures ∙
+    ap (λ (t : SessionState). role_after op t.role) c.session.ensures))
 
 pub returns-clause-now : goal.returns-clause-now
 returns-clause-now g c =
