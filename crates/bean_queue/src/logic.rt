@@ -1,4 +1,4 @@
-ghost use Rattle.std.specs.Prelude.{◌≡◌, ◌^◌, IsSome, OnOk};
+ghost use Rattle.std.specs.Prelude.{◌≡◌, ◌^◌, IsSome, IfOk, OnOk};
 ghost use Rattle.job_store.specs.Entries.{Rising, value_at, altered};
 ghost use Rattle.session_store.specs.Sessions.{session_of, known};
 ghost use Rattle.bean_queue.specs.Queue.{fresh, with_sessions};
@@ -27,7 +27,7 @@ use crate::op::Op;
 use crate::role::role_after;
 use job_store::JobMap;
 use pause_store::PauseDraft;
-use session_store::{SessionDraft, SessionState};
+use session_store::{Role, SessionDraft, SessionState};
 use std::alloc::{AllocError, Global};
 use std::marker::Model;
 use tube_store::TubeDraft;
@@ -102,27 +102,25 @@ impl<M: JobMap> Logic<M> {
         self.sessions.take_back();
     }
 
-    /// Makes a session, or ends its wait.
-    fn make_known(&mut self, session: u32) -> Result<(), AllocError>
-        ensures { DraftsState self.old self.new
-            (with_sessions self.old.now (known session self.old.now.sessions)) result }
+    /// Makes a session, or ends its wait, and tells its role.
+    fn make_known(&mut self, session: u32) -> Result<Role, AllocError>
+        ensures now { OnOk result (self.new.now
+            ≡ with_sessions self.old.now (known session self.old.now.sessions)) }
+        ensures role { IfOk result (λ role. role ≡ (session_of session self.new.now.sessions).role) }
+        ensures before { self.new.before ≡ self.old.before }
     {
-        if self.sessions.map().contains_key(&session) {
-            self.sessions.set_wait(session, None)
-        } else {
-            self.sessions.make(session)
-        }
+        self.sessions.know(session)
     }
 
-    /// Notes what a session that is there has asked for.
-    fn note_role(&mut self, session: u32, op: &Op) -> Result<(), AllocError>
-        requires { IsSome (value_at session self.old.now.sessions) }
+    /// Notes what a session that is there, with this role, has asked for.
+    fn note_role(&mut self, session: u32, before: Role, op: &Op) -> Result<(), AllocError>
+        requires there { IsSome (value_at session self.old.now.sessions) }
+        requires role { before ≡ (session_of session self.old.now.sessions).role }
         ensures now { OnOk result (self.new.now
             ≡ with_sessions self.old.now (altered session (with_ask_noted op.now) self.old.now.sessions)) }
         ensures before { self.new.before ≡ self.old.before }
     {
         self.numbers_rise();
-        let before = self.session(session).role;
         let role = role_after(op, before);
         if role == before {
             return Ok(());
@@ -135,8 +133,8 @@ impl<M: JobMap> Logic<M> {
         ensures now { OnOk result (self.new.now ≡ called op.now session self.old.now) }
         ensures before { self.new.before ≡ self.old.before }
     {
-        self.make_known(session)?;
-        self.note_role(session, op)?;
+        let role = self.make_known(session)?;
+        self.note_role(session, role, op)?;
         self.counters.counts.note(op);
         Ok(())
     }

@@ -144,6 +144,18 @@ pub record CanGoBack (s : Shelves) (jobs : List (ℕ × Job)) : Type 0 where
 abbrev pub IsGone : Shelves → List (ℕ × Job) → ℕ × Job → Label → Type 0
 IsGone s jobs gone label = (p : ℕ × ℕ) → In p (places s label) → BelongsAt label p gone → (e : ℕ × Job) × BelongsAt label p e × In e jobs
 
+-- none of the jobs stands where this one belongs on the shelf
+abbrev pub IsAlone : Label → List (ℕ × Job) → ℕ × Job → Type 0
+IsAlone label jobs e = (p : ℕ × ℕ) → BelongsAt label p e → (d : ℕ × Job) → In d jobs → BelongsAt label p d → ⊥
+
+-- none of the jobs has this id
+abbrev pub LacksJob : ℕ → List (ℕ × Job) → Type 0
+LacksJob id jobs = (job : Job) → In (id, job) jobs → ⊥
+
+-- no place is left at which the job belongs on the shelf
+abbrev pub LacksPlace : Shelves → ℕ × Job → Label → Type 0
+LacksPlace s e label = (p : ℕ × ℕ) → In p (places s label) → BelongsAt label p e → ⊥
+
 -- look-ups of each shelf begin nowhere later
 abbrev pub BeginNoLater : Shelves → Shelves → Type 0
 BeginNoLater old new = (label : Label) (p : ℕ × ℕ) → IsFrom (shelf old label).from p → IsFrom (shelf new label).from p

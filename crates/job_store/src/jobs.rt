@@ -197,7 +197,7 @@ impl JobMap for Jobs {
             history,
         } = job;
         let spot = Spot { tube, pri, state };
-        self.shelves.take_everywhere(self.jobs.by_id(), id, &spot);
+        self.shelves.clear_everywhere(id, &spot);
         let tube = spot.tube;
         Some(Job {
             tube,

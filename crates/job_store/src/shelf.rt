@@ -1,6 +1,7 @@
-ghost use Rattle.std.specs.Prelude.{◌≡◌, ◌^◌, ◌&&◌, ℕ, true, map, nat_lt, OnOk, if◌then◌else◌};
+ghost use Rattle.std.specs.Prelude.{◌≡◌, ◌^◌, ◌&&◌, ℕ, true, map, nat_lt, OnOk, IfSome, if◌then◌else◌};
 ghost use Rattle.object.specs.Lists.{In};
 ghost use Rattle.job_store.specs.Entries.{Rising};
+ghost use Rattle.job_store.specs.Least.{IsLeast};
 ghost use Rattle.job_store.specs.ShelfStates.{bare, numbered_place, IsFound, HasGained, HasLost, HasReached, IsFrom};
 ghost use Rattle.job_store.specs.Counts.{count_of, AreApart};
 ghost use Rattle.job_store.specs.Shelves.{belongs, belongs_after, number, CanLookUp, FindsFirst, IsPassed, HasMovedOn};
@@ -144,7 +145,25 @@ impl<N: ShelfNumber> Shelf<N> {
         &self.places
     }
 
-    /// The first of the jobs that belong on the shelf, where a look-up finds all of them.
+    /// The job that belongs at the first of all places, if it hasn't left that.
+    fn at_first_place<'a>(
+        &self,
+        label: Label,
+        jobs: &'a BTreeMap<u64, StoredJob>,
+    ) -> Option<(u64, &'a Job)>
+        requires { CanLookUp label self.now jobs.now.entries }
+        ensures { IfSome result (λ e. IsLeast (belongs label.entry) (number label.entry)
+            jobs.now.entries (e.0, e.1.now)) }
+    {
+        // Gives the proof that the places are in order.
+        let _ = self.places.len();
+        let place = self.places.first()?;
+        let job = label.job_at(jobs, place.0.wide(), place.1)?;
+        Some((place.1, job))
+    }
+
+    /// The first of the jobs that belong on the shelf, where a look-up finds all of them. It mostly stands at the first of
+    /// all places, which is found sooner than the one at which look-ups begin.
     pub fn first<'a>(
         &self,
         label: Label,
@@ -153,6 +172,9 @@ impl<N: ShelfNumber> Shelf<N> {
         requires { CanLookUp label self.now jobs.now.entries }
         ensures { FindsFirst (belongs label.entry) (number label.entry) jobs.now.entries result }
     {
+        if let Some(found) = self.at_first_place(label, jobs) {
+            return Some(found);
+        }
         for place in self.places.range(self.from..) {
             if let Some(job) = label.job_at(jobs, place.0.wide(), place.1) {
                 return Some((place.1, job));

@@ -6,7 +6,7 @@ ghost use Rattle.job_store.specs.declared.spot.Spot.{Spot};
 ghost use Rattle.job_store.specs.Entries.{Rising, value_at};
 ghost use Rattle.job_store.specs.ShelfStates.{bare, IsFrom, IsFound};
 ghost use Rattle.job_store.specs.Spots.{spot_of, changed_spot, at_spot};
-ghost use Rattle.job_store.specs.Shelves.{shelf, places, lists, BelongsAt, IsAhead, AreInReach, HoldJobs, AreSwept, CanGoBack, IsGone, BeginNoLater, HasPut, HasTaken, HasGoneBack, HasSettled, HasCome, IsListed, ListsMore, PutsInDoubt, HasCaughtUp};
+ghost use Rattle.job_store.specs.Shelves.{shelf, places, lists, belongs, BelongsAt, IsAhead, IsAlone, LacksJob, LacksPlace, AreInReach, HoldJobs, AreSwept, CanGoBack, IsGone, BeginNoLater, HasPut, HasTaken, HasGoneBack, HasSettled, HasCome, IsListed, ListsMore, PutsInDoubt, HasCaughtUp};
 
 use crate::job::Job;
 use crate::label::Label;
@@ -133,14 +133,32 @@ impl Shelves {
         requires { AreInReach self.now jobs.now.entries }
         ensures yes { result ≡ true → (p : ℕ × ℕ) → BelongsAt label.entry p (id, at_spot spot.now)
             → ((e : ℕ × Job) × BelongsAt label.entry p e × In e jobs.now.entries) }
-        ensures no { result ≡ false → (p : ℕ × ℕ) → BelongsAt label.entry p (id, at_spot spot.now)
-            → (e : ℕ × Job) → In e jobs.now.entries → BelongsAt label.entry p e → ⊥ }
+        ensures no { result ≡ false
+            → IsAlone label.entry jobs.now.entries (id, at_spot spot.now) }
     {
         if self.is_behind(label, id, spot) {
             return false;
         }
         let number = label.number(spot.pri, spot.state);
         label.job_at(jobs, number, id).is_some()
+    }
+
+    /// Takes a job from the shelf with this label, where it belongs.
+    fn take_off(&mut self, label: Label, id: u64, spot: &Spot)
+        requires { belongs label (id, at_spot spot.now) ≡ true }
+        ensures taken { (jobs : List (ℕ × Job)) → IsAlone label.entry jobs (id, at_spot spot.now)
+            → HasTaken self.old self.new jobs }
+        ensures gone { LacksPlace self.new (id, at_spot spot.now) label.entry }
+    {
+        let number = label.number(spot.pri, spot.state);
+        match label {
+            Label::Ready(tube) => self.ready.take(tube, spot.pri, id),
+            Label::Delayed(tube) => self.delayed.take(tube, number, id),
+            Label::Buried(tube) => self.buried.take(tube, number, id),
+            Label::Held(session) => self.held.take(&session, number, id),
+            Label::Scheduled => self.scheduled.take(number, id),
+            Label::Reserved(tube) => self.reserved.take(tube, number, id),
+        }
     }
 
     /// Takes a job from the shelf with this label, unless the map has a job that belongs there.
@@ -155,14 +173,17 @@ impl Shelves {
         if self.is_taken(label, jobs, id, spot) {
             return;
         }
-        let number = label.number(spot.pri, spot.state);
-        match label {
-            Label::Ready(tube) => self.ready.take(tube, spot.pri, id),
-            Label::Delayed(tube) => self.delayed.take(tube, number, id),
-            Label::Buried(tube) => self.buried.take(tube, number, id),
-            Label::Held(session) => self.held.take(&session, number, id),
-            Label::Scheduled => self.scheduled.take(number, id),
-            Label::Reserved(tube) => self.reserved.take(tube, number, id),
+        self.take_off(label, id, spot);
+    }
+
+    /// Takes a job from the shelf with this label, where the map has no job of its id.
+    fn clear_from(&mut self, label: Label, id: u64, spot: &Spot)
+        ensures taken { (jobs : List (ℕ × Job)) → LacksJob id jobs
+            → HasTaken self.old self.new jobs }
+        ensures gone { LacksPlace self.new (id, at_spot spot.now) label.entry }
+    {
+        if label.fits(&spot.tube, spot.state) {
+            self.take_off(label, id, spot);
         }
     }
 
@@ -194,7 +215,7 @@ impl Shelves {
     }
 
     /// Takes a job from its shelves, but for places where the map has a job that belongs there.
-    pub fn take_everywhere(&mut self, jobs: &BTreeMap<u64, StoredJob>, id: u64, spot: &Spot)
+    fn take_everywhere(&mut self, jobs: &BTreeMap<u64, StoredJob>, id: u64, spot: &Spot)
         requires { AreInReach self.old jobs.now.entries }
         ensures taken { HasTaken self.old self.new jobs.now.entries }
         ensures gone { (label : Label)
@@ -206,6 +227,20 @@ impl Shelves {
         self.take_from(Label::Held(spot.state.holder()), jobs, id, spot);
         self.take_from(Label::Scheduled, jobs, id, spot);
         self.take_from(Label::Reserved(&spot.tube), jobs, id, spot);
+    }
+
+    /// Takes a job from its shelves, where the map has no job of its id. The map isn't looked at.
+    pub fn clear_everywhere(&mut self, id: u64, spot: &Spot)
+        ensures taken { (jobs : List (ℕ × Job)) → LacksJob id jobs
+            → HasTaken self.old self.new jobs }
+        ensures gone { (label : Label) → LacksPlace self.new (id, at_spot spot.now) label }
+    {
+        self.clear_from(Label::Ready(&spot.tube), id, spot);
+        self.clear_from(Label::Delayed(&spot.tube), id, spot);
+        self.clear_from(Label::Buried(&spot.tube), id, spot);
+        self.clear_from(Label::Held(spot.state.holder()), id, spot);
+        self.clear_from(Label::Scheduled, id, spot);
+        self.clear_from(Label::Reserved(&spot.tube), id, spot);
     }
 
     /// Lists a job as one that went.

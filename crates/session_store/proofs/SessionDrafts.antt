@@ -1,6 +1,7 @@
 -- Sessions that are taken back are as they were before.
 use Rattle.std.proofs.Common.{◌≡◌, ℕ, ◌<◌, List, [], ◌∷◌, ◌++◌, Option, Some, None, refl, sym, ap, ap₂, subst, ◌∙◌}
-use Rattle.std.proofs.Common.{arith, ◌==◌, cond, true, false, suc, ◌≤◌, ◌-◌, length, take}
+use Rattle.std.proofs.Common.{arith, ◌==◌, cond, true, false, suc, ◌≤◌, ◌-◌, length, take, is_some}
+use Rattle.std.proofs.lemmas.Bool.{cond-true}
 use Rattle.std.proofs.Math.ListN.{get_or}
 use Rattle.std.proofs.Math.Seq.{take-suc}
 use Rattle.job_store.specs.Entries.{Rising, value_at, with_value, altered, without}
@@ -10,7 +11,7 @@ use Rattle.session_store.specs.declared.session.SessionState.{SessionState}
 use Rattle.session_store.specs.declared.session.Wait.{Wait}
 use Rattle.session_store.specs.declared.session_step.SessionStep.{SessionStep}
 use Rattle.session_store.specs.declared.lines.Lines.{Lines}
-use Rattle.session_store.specs.Sessions.{with_wait, with_role}
+use Rattle.session_store.specs.Sessions.{new_session, known, with_wait, with_wait_ended, with_role}
 use Rattle.session_store.specs.Lines.{StandsIn, EachStands, AllStand, HasGrown}
 use Rattle.session_store.specs.Drafts.{session_step_back, sessions_before, AreInLines}
 use Rattle.session_store.proofs.Standing.{each-grown, all-grown}
@@ -81,6 +82,13 @@ unwaiting v none = λ i. record v { wait = sym none i }
 pub unwaited : (x lo hi : ℕ) (v : SessionState) (sessions : List (ℕ × SessionState)) → Rising lo hi sessions
     → value_at x sessions ≡ Some v → v.wait ≡ None → altered x (with_wait None) sessions ≡ sessions
 unwaited x lo hi v sessions r there none = altered_itself x lo hi (with_wait None) sessions v r there (unwaiting v none)
+
+-- such a session is known already
+pub known-already : (x lo hi : ℕ) (v : SessionState) (sessions : List (ℕ × SessionState)) → Rising lo hi sessions
+    → value_at x sessions ≡ Some v → v.wait ≡ None → sessions ≡ known x sessions
+known-already x lo hi v sessions r there none =
+    sym (cond-true (is_some (value_at x sessions)) (with_wait_ended x sessions) (with_value x new_session sessions)
+    (ap is_some there) ∙ unwaited x lo hi v sessions r there none)
 
 -- the step after a session's role was set
 pub played-back : (x lo hi : ℕ) (role : Role) (v : SessionState) (sessions sessions' : List (ℕ × SessionState))

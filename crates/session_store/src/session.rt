@@ -1,7 +1,7 @@
 ghost use Rattle.std.specs.Prelude.{◌≡◌, ◌&&◌, IfOk};
 ghost use Rattle.job_store.specs.LookUps.{is_among};
 ghost use Rattle.session_store.specs.Rolls.{has_tube};
-ghost use Rattle.session_store.specs.Sessions.{new_session, is_waiting, wait_number, wait_rank, has_timed_out};
+ghost use Rattle.session_store.specs.Sessions.{no_role, new_session, is_waiting, wait_number, wait_rank, has_timed_out};
 
 use crate::watch_list::WatchList;
 use job_store::Name;
@@ -27,6 +27,18 @@ pub struct Role {
     pub has_reserved: bool,
 }
 
+impl Role {
+    /// That of a session that has neither put nor reserved.
+    pub(crate) fn none() -> Role
+        ensures { result ≡ no_role }
+    {
+        Role {
+            has_put: false,
+            has_reserved: false,
+        }
+    }
+}
+
 /// What the queue knows of a client's session.
 #[derive(Drop)]
 pub struct SessionState {
@@ -47,10 +59,7 @@ impl SessionState {
             used: Name::default_tube(),
             watched: WatchList::only(alloc, Name::default_tube())?,
             wait: None,
-            role: Role {
-                has_put: false,
-                has_reserved: false,
-            },
+            role: Role::none(),
         })
     }
 

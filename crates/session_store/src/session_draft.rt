@@ -2,7 +2,7 @@ ghost use Rattle.std.specs.Prelude.{◌≡◌, ◌^◌, ◌⊎◌, ℕ, List, []
 ghost use Rattle.object.specs.Lists.{In};
 ghost use Rattle.job_store.specs.Entries.{Rising, value_at, with_value, altered, without};
 ghost use Rattle.job_store.specs.LookUps.{is_among};
-ghost use Rattle.session_store.specs.Sessions.{new_session, session_of, with_wait, with_role, first_waiting, has_timed_out};
+ghost use Rattle.session_store.specs.Sessions.{new_session, session_of, known, with_wait, with_role, first_waiting, has_timed_out};
 ghost use Rattle.session_store.specs.Lines.{AllStand, StandsIn};
 ghost use Rattle.session_store.specs.Rolls.{is_named};
 ghost use Rattle.session_store.specs.WatchLists.{joined, left_out};
@@ -128,6 +128,24 @@ impl SessionDraft {
         self.sessions.insert(session, made)?;
         self.steps.push(SessionStep::Made(session))?;
         Ok(())
+    }
+
+    /// Makes a session, or ends its wait, and tells its role. One that is there and doesn't wait is looked up once.
+    pub fn know(&mut self, session: u32) -> Result<Role, AllocError>
+        ensures now { OnOk result (self.new.now ≡ known session self.old.now) }
+        ensures role { IfOk result (λ role. role ≡ (session_of session self.new.now).role) }
+        ensures before { self.new.before ≡ self.old.before }
+        ensures err { OnErr result (self.new.now ≡ self.old.now) }
+    {
+        let Some(found) = self.sessions.get(&session) else {
+            self.make(session)?;
+            return Ok(Role::none());
+        };
+        let role = found.role;
+        if found.wait.is_some() {
+            self.set_wait(session, None)?;
+        }
+        Ok(role)
     }
 
     /// Lets a session wait, or wait no longer, if it is there. Where it doesn't wait, that it waits no longer costs

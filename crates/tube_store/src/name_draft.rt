@@ -4,7 +4,8 @@ ghost use Rattle.std.specs.BTreeMap.{insert_entry, is_at};
 ghost use Rattle.job_store.specs.Racks.{name_cmp};
 ghost use Rattle.tube_store.specs.NameSteps.{AreByName};
 
-use crate::name_step::{NameStep, set_value, take_steps_back};
+use crate::name_step::{NameStep, change_value, take_steps_back};
+use crate::value_change::{To, ValueChange};
 use job_store::Name;
 use std::alloc::{AllocError, Global};
 use std::collections::BTreeMap;
@@ -57,7 +58,20 @@ impl<V: Copy> NameDraft<V> {
         ensures err { OnErr result (self.new.now ≡ self.old.now) }
         ensures ordered { AreByName self.old.now }
     {
-        set_value(&mut self.values, &mut self.steps, tube, value)
+        self.change(tube, To { value })
+    }
+
+    /// Makes a change of a tube's value. For one that has a value it takes memory for a step alone, whose room is kept for
+    /// later ones.
+    pub fn change<C: ValueChange<V>>(&mut self, tube: &Name, change: C) -> Result<(), AllocError>
+        ensures now { OnOk result
+            (self.new.now ≡ insert_entry name_cmp self.old.now tube.now
+            (C.after change (lookup (is_at (name_cmp tube.now)) self.old.now))) }
+        ensures before { self.new.before ≡ self.old.before }
+        ensures err { OnErr result (self.new.now ≡ self.old.now) }
+        ensures ordered { AreByName self.old.now }
+    {
+        change_value(&mut self.values, &mut self.steps, tube, change)
     }
 
     /// Keeps all changes, and takes out the value of a tube. That can't be taken back, and takes no memory.

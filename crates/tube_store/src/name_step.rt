@@ -4,6 +4,7 @@ ghost use Rattle.std.specs.BTreeMap.{insert_entry, is_at};
 ghost use Rattle.job_store.specs.Racks.{name_cmp};
 ghost use Rattle.tube_store.specs.NameSteps.{step_back, before_steps, AreByName, GoesTo};
 
+use crate::value_change::ValueChange;
 use job_store::Name;
 use object::Value;
 use std::alloc::AllocError;
@@ -69,28 +70,30 @@ fn begin<V: Copy>(
     Ok(())
 }
 
-/// Gives a tube this value, and adds the step that takes that back. Where the tube has one, it is looked up once.
-pub(crate) fn set_value<V: Copy>(
+/// Makes a change of a tube's value, and adds the step that takes that back. Where the tube has one, it is looked up once.
+pub(crate) fn change_value<V: Copy, C: ValueChange<V>>(
     values: &mut BTreeMap<Name, V>,
     steps: &mut Vec<NameStep<V>>,
     tube: &Name,
-    value: V,
+    change: C,
 ) -> Result<(), AllocError>
     requires { AreByName values.old.entries }
     ensures values { OnOk result
-        (values.new.entries ≡ insert_entry name_cmp values.old.entries tube.now value) }
+        (values.new.entries ≡ insert_entry name_cmp values.old.entries tube.now
+        (C.after change (lookup (is_at (name_cmp tube.now)) values.old.entries))) }
     ensures err { OnErr result (values.new.entries ≡ values.old.entries) }
     ensures before { before_steps steps.new.items values.new.entries
         ≡ before_steps steps.old.items values.old.entries }
     ensures ordered { AreByName values.new.entries }
 {
     if let Some(found) = values.get_mut(tube) {
+        let before = *found;
         steps.push(NameStep::Changed {
             tube: tube.copy()?,
-            before: *found,
+            before,
         })?;
-        *found = value;
+        *found = change.after(Some(before));
         return Ok(());
     }
-    begin(values, steps, tube, value)
+    begin(values, steps, tube, change.after(None))
 }

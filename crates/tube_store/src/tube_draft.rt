@@ -51,8 +51,7 @@ impl TubeDraft {
         ensures before { self.new.before ≡ self.old.before }
         ensures err { OnErr result (self.new.now ≡ self.old.now) }
     {
-        let counts = self.counts(tube).marked(mark);
-        self.counts.set(tube, counts)
+        self.counts.change(tube, mark)
     }
 
     /// Keeps all marks, and takes out the counts of a tube. That can't be taken back, and takes no memory.

@@ -1,7 +1,7 @@
 -- Which entries a finite map has, before and after a change.
-use Rattle.std.proofs.Common.{◌≡◌, ℕ, inl, inr, ◌⊎◌, List, [], ◌∷◌, Some, cond, not, ◌==◌, nat_cmp, Less, Equal}
+use Rattle.std.proofs.Common.{◌≡◌, ℕ, true, false, inl, inr, ◌⊎◌, List, [], ◌∷◌, Some, cond, not, ◌==◌, nat_cmp, Less, Equal}
 use Rattle.std.proofs.Common.{Greater, refl, sym, ap, ap₂, subst, ◌∙◌, eq-eqb, ne_eqb}
-use Rattle.std.proofs.lemmas.Bool.{cases_eq, cases_order, cond-true, cond-false}
+use Rattle.std.proofs.lemmas.Bool.{both_ways, cases_eq, cases_order, cond-true, cond-false}
 use Rattle.std.specs.Ordering.{match_ordering}
 use Rattle.std.specs.BTreeMap.{insert_entry}
 use Rattle.object.specs.Lists.{In}
@@ -108,6 +108,17 @@ module _ {X : Type 0} where
       ] refl
 
   -- An entry is taken out
+
+  pub without-lacks : (k : ℕ) (v : X) (es : List (ℕ × X)) → In (k, v) (without k es) → ⊥
+  without-lacks k v [] i = i
+  without-lacks k v (d ∷ es) i =
+      elim (k == d.0) as (λ b. k == d.0 ≡ b → In (k, v) (cond (not b) (d ∷ without k es) (without k es)) → ⊥) [
+        | true ↦ λ same i. without-lacks k v es i
+        | false ↦ λ apart i. elim i as (λ i. ⊥) [
+          | inl here ↦ both_ways (k == d.0) apart (eq-eqb k d.0 (ap (λ (e : ℕ × X). e.0) here))
+          | inr later ↦ without-lacks k v es later
+        ]
+      ] refl i
 
   pub without-others : (k : ℕ) (e : ℕ × X) (es : List (ℕ × X)) → In e es → In e (without k es) ⊎ (e.0 ≡ k)
   without-others k e [] i = absurd i

@@ -19,7 +19,7 @@ use Rattle.job_store.specs.Least.{IsLeast, NonePasses}
 use Rattle.job_store.specs.ShelfStates.{IsFrom, bare}
 use Rattle.job_store.specs.Spots.{spot_of, at_spot}
 use Rattle.job_store.specs.Shelves.{belongs, belongs_after, BelongsAt, CanLookUp, shelf, places, lists, HavePlaces, IsAhead}
-use Rattle.job_store.specs.Shelves.{AreInReach, HoldJobs, AreSwept, CanGoBack, IsGone, IsListed, AreKnown, HasTaken}
+use Rattle.job_store.specs.Shelves.{HoldJobs, AreSwept, CanGoBack, IsGone, IsListed, AreKnown, HasTaken}
 use Rattle.job_store.specs.Shelves.{HasSettled, HasCaughtUp, HasGrown, AreInDoubt, HasCome, HasFollowed, MovesJobs, ShelvesMatch}
 use Rattle.job_store.specs.EntryLaws.{without-absent, without-in, value_at-insert}
 use Rattle.job_store.proofs.shelving.Shelving.{placed-settled, known-settled, held-settled, held-listed, same-grown, same-doubt}
@@ -318,13 +318,6 @@ swept-untried s a kept none =
       held = held-listed s a.jobs s.went.items [] (sym (ap (λ (x : List (ℕ × Spot) × List (ℕ × Spot)). x.1) listed)) kept.held;
       listed = listed;
     }
-
-pub reach-without : (s : Shelves) (id : ℕ) (jobs new : List (ℕ × Job)) (listed : List (ℕ × Spot)) → HoldJobs s jobs listed
-    → Rising 0 (2 ^ 64) new → new ≡ without id jobs → AreInReach s new
-reach-without s id jobs new listed held r is = record {
-  rising = r;
-  ahead = λ e i. held.ahead e (without-in id jobs e (subst (In e) is i));
-}
 
 pub kept-removed : (s t : Shelves) (a b : MapState) (id : ℕ) (job : Job) → ShelvesMatch s a → a.before ≡ None
     → b.before ≡ None → Rising 0 (2 ^ 64) b.jobs → b.jobs ≡ without id a.jobs → value_at id a.jobs ≡ Some job

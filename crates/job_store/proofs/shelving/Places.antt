@@ -6,7 +6,7 @@ use Rattle.std.proofs.lemmas.Bool.{cases_order, both_ways, and_parts, and_from, 
 use Rattle.std.proofs.Math.Bool.{and-true}
 use Rattle.std.specs.Ordering.{ordering_then, match_ordering, is_le, is_lt}
 use Rattle.std.specs.List.Sorted.{IsStrictlySortedBy}
-use Rattle.std.specs.List.{AllByRecursion, list_any}
+use Rattle.std.specs.List.{AllByRecursion, list_any, slice_get}
 use Rattle.std.specs.BTreeMap.{is_at}
 use Rattle.std.specs.BTreeSet.{insert_key}
 use Rattle.std.specs.Set.{remove_key}
@@ -257,6 +257,10 @@ pub finds-none : (test : ℕ × Job → Bool) (by : Job → ℕ) (jobs : List (�
 finds-none test by jobs none = record { job = least-nothing test by jobs none; found = tt; none = none }
 
 -- The first place where a job stands by the map
+
+pub begins-with : {X : Type 0} (x : X) (xs : List X) → slice_get xs 0 ≡ Some x → (rest : List X) × (xs ≡ x ∷ rest)
+begins-with x [] first = cc
+begins-with x (y ∷ ys) first = let same : y ≡ x = cc in (ys, ap (λ z. z ∷ ys) same)
 
 -- each of the jobs that a look-up of the shelf finds stands at one of these places
 abbrev pub AreAllFrom : Label → ShelfState → List (ℕ × Job) → List (ℕ × ℕ) → Type 0

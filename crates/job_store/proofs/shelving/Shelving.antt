@@ -13,7 +13,7 @@ use Rattle.job_store.specs.Entries.{Rising}
 use Rattle.job_store.specs.ShelfStates.{IsFrom, bare}
 use Rattle.job_store.specs.Spots.{spot_of, changed_spot, at_spot}
 use Rattle.job_store.specs.Shelves.{belongs, number, BelongsAt, shelf, places, lists, HasPlaces, HavePlaces, IsAhead}
-use Rattle.job_store.specs.Shelves.{AreInReach, HoldJobs, AreSwept, CanGoBack, IsGone, BeginNoLater, HasPut, HasTaken}
+use Rattle.job_store.specs.Shelves.{AreInReach, HoldJobs, AreSwept, CanGoBack, IsAlone, IsGone, LacksJob, BeginNoLater, HasPut, HasTaken}
 use Rattle.job_store.specs.Shelves.{HasGoneBack, HasSettled, HasCome, IsListed, AreKnown, HasGrown, AreInDoubt, ListsMore, PutsInDoubt}
 
 module _ {X : Type 0} where
@@ -224,6 +224,10 @@ pub untaken : (label : Label) (id n : ℕ) (spot : Spot) (jobs : List (ℕ × Jo
     → ((p : ℕ × ℕ) → BelongsAt label p (id, at_spot spot) → (e : ℕ × Job) → In e jobs → BelongsAt label p e → ⊥)
     → (e : ℕ × Job) → In e jobs → BelongsAt label (n, id) e → ⊥
 untaken label id n spot jobs fits is none = none (n, id) (fits, ap (λ m. (m, id)) is)
+
+pub alone-without : (label : Label) (id : ℕ) (job : Job) (jobs : List (ℕ × Job)) → LacksJob id jobs → IsAlone label jobs (id, job)
+alone-without label id job jobs lacks p b d i at =
+    lacks d.1 (subst (λ k. In (k, d.1) jobs) (ap (λ (q : ℕ × ℕ). q.1) (sym at.1 ∙ b.1)) i)
 
 -- The same shelves hold the same jobs
 

@@ -1,9 +1,10 @@
 use Rattle.std.proofs.Common.{◌^◌, ap, sym, subst, ◌∙◌}
 use Rattle.object.specs.Lists.{In}
 use Rattle.job_store.specs.Entries.{Rising}
+use Rattle.job_store.specs.EntryLaws.{Rising-without}
 use Rattle.job_store.specs.Undone.{MapState}
-use Rattle.job_store.specs.Shelves.{HasTaken}
-use Rattle.job_store.proofs.shelving.Following.{reach-without, kept-removed, kept-absent}
+use Rattle.job_store.proofs.maps.Members.{without-lacks}
+use Rattle.job_store.proofs.shelving.Following.{kept-removed, kept-absent}
 use Rattle.job_store.proofs.jobs.JobsJobMap.remove.Goals as goal
 
 pub invariant_of-self : goal.invariant_of-self
@@ -14,15 +15,11 @@ invariant_of-self c =
 
 pub invariant_of-self-2 : goal.invariant_of-self-2
 invariant_of-self-2 c =
-    kept-removed c.self.inside.shelves c.take_everywhere.new.self c.self.inside.jobs c.remove.new.self c.args.id c.in_ok-job.job c.self.invariant
+    kept-removed c.self.inside.shelves c.clear_everywhere.new.self c.self.inside.jobs c.remove.new.self c.args.id c.in_ok-job.job c.self.invariant
     (ap (λ (m : MapState). m.before) c.self.view_is ∙ c.commit.ensures.before)
-    c.remove.ensures.before c.by_id.ensures.rising c.remove.ensures.jobs
-    (sym c.in_ok-job.ensures.job)
-    (subst (HasTaken c.self.inside.shelves c.take_everywhere.new.self) c.by_id.ensures.jobs c.take_everywhere.ensures.taken)
-    (λ l p i b. let w = c.take_everywhere.ensures.gone l p i b in (w.0, w.1, subst (In w.0) c.by_id.ensures.jobs w.2))
-
-pub take_everywhere-requires : goal.take_everywhere-requires
-take_everywhere-requires c =
-    reach-without c.self.inside.shelves c.args.id c.self.inside.jobs.jobs c.by_id.result.now.entries _ c.self.invariant.held
-    (subst (Rising 0 (2 ^ 64)) (sym c.by_id.ensures.jobs) c.by_id.ensures.rising)
-    (c.by_id.ensures.jobs ∙ c.remove.ensures.jobs)
+    c.remove.ensures.before
+    (subst (Rising 0 (2 ^ 64)) (sym c.remove.ensures.jobs) (Rising-without c.args.id 0 (2 ^ 64) c.self.inside.jobs.jobs c.self.invariant.held.rising))
+    c.remove.ensures.jobs (sym c.in_ok-job.ensures.job)
+    (c.clear_everywhere.ensures.taken c.remove.new.self.jobs
+    (λ job i. without-lacks c.args.id job c.self.inside.jobs.jobs (subst (In (c.args.id, job)) c.remove.ensures.jobs i)))
+    (λ l p i b. absurd (c.clear_everywhere.ensures.gone l p i b))

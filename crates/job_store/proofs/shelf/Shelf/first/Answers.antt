@@ -34,13 +34,13 @@ loop-place-init g c =
 
 pub loop-place-preserved : goal.loop-place-preserved
 loop-place-preserved g c =
-    let rest : c.loop-place.place-iterator ≡ c.in-Some.place.now ∷ c.next.new.self = search rules in (
-      none-here c.args.label (numbered_place g.N.ShelfNumber.value c.in-Some.place.now)
+    let rest : c.loop-place.place-iterator ≡ c.in-Some-place.place.now ∷ c.next.new.self = search rules in (
+      none-here c.args.label (numbered_place g.N.ShelfNumber.value c.in-Some-place.place.now)
           (map (numbered_place g.N.ShelfNumber.value) c.next.new.self) c.args.jobs.now.entries
           (subst (λ n. (e : ℕ × Job) → In e c.args.jobs.now.entries
-          → BelongsAt c.args.label (n, c.in-Some.place.now.1) e → ⊥) c.wide.ensures c.in_default.ensures.none)
+          → BelongsAt c.args.label (n, c.in-Some-place.place.now.1) e → ⊥) c.wide.ensures c.in_default-job_at.ensures.none)
           (subst (λ ks. AreAllOn c.args.label (map (numbered_place g.N.ShelfNumber.value) ks) c.args.jobs.now.entries) rest c.loop-place.invariant.0),
-      sorted-rest (numbered_place g.N.ShelfNumber.value c.in-Some.place.now)
+      sorted-rest (numbered_place g.N.ShelfNumber.value c.in-Some-place.place.now)
           (map (numbered_place g.N.ShelfNumber.value) c.next.new.self)
           (subst (λ ks. IsStrictlySortedBy shelf_cmp (map (numbered_place g.N.ShelfNumber.value) ks)) rest
           c.loop-place.invariant.1),
@@ -48,15 +48,15 @@ loop-place-preserved g c =
 
 pub returns-in-Some-job_at : goal.returns-in-Some-job_at
 returns-in-Some-job_at g c =
-    let rest : c.loop-place.place-iterator ≡ c.in-Some.place.now ∷ c.next.new.self = search rules in
-    finds-some (belongs c.args.label) (number c.args.label) c.args.jobs.now.entries _ _ (c.in-Some.place.now.1, c.in-Some-job_at.job) c.requires.rising
-    (first-is-least c.args.label (numbered_place g.N.ShelfNumber.value c.in-Some.place.now)
+    let rest : c.loop-place.place-iterator ≡ c.in-Some-place.place.now ∷ c.next.new.self = search rules in
+    finds-some (belongs c.args.label) (number c.args.label) c.args.jobs.now.entries _ _ (c.in-Some-place.place.now.1, c.in-Some-job_at.job) c.requires.rising
+    (first-is-least c.args.label (numbered_place g.N.ShelfNumber.value c.in-Some-place.place.now)
     (map (numbered_place g.N.ShelfNumber.value) c.next.new.self) c.args.jobs.now.entries
-    (c.in-Some.place.now.1, c.in-Some-job_at.job.now)
+    (c.in-Some-place.place.now.1, c.in-Some-job_at.job.now)
     (subst (λ ks. AreAllOn c.args.label (map (numbered_place g.N.ShelfNumber.value) ks) c.args.jobs.now.entries) rest c.loop-place.invariant.0)
     (subst (λ ks. IsStrictlySortedBy shelf_cmp (map (numbered_place g.N.ShelfNumber.value) ks)) rest c.loop-place.invariant.1)
     c.in-Some-job_at.ensures.found.0
-    (subst (λ n. BelongsAt c.args.label (n, c.in-Some.place.now.1) (c.in-Some.place.now.1, c.in-Some-job_at.job.now))
+    (subst (λ n. BelongsAt c.args.label (n, c.in-Some-place.place.now.1) (c.in-Some-place.place.now.1, c.in-Some-job_at.job.now))
     c.wide.ensures c.in-Some-job_at.ensures.found.1))
 
 pub returns : goal.returns
@@ -66,3 +66,7 @@ returns g c =
     (none-on c.args.label c.args.jobs.now.entries
     (subst (λ ks. AreAllOn c.args.label (map (numbered_place g.N.ShelfNumber.value) ks) c.args.jobs.now.entries)
     rest c.loop-place.invariant.0))
+
+pub returns-in-Some : goal.returns-in-Some
+returns-in-Some g c =
+    finds-some (belongs c.args.label) (number c.args.label) c.args.jobs.now.entries _ _ c.in-Some.found c.requires.rising c.in-Some.ensures

@@ -1,132 +1,15 @@
-use Rattle.std.proofs.Common.{ℕ, refl, ap, subst, sym, ◌∙◌}
-use Rattle.object.specs.Lists.{In}
-use Rattle.job_store.specs.declared.job.Job.{Job}
-use Rattle.job_store.specs.declared.label.Label.{Label}
+use Rattle.std.proofs.Common.{refl, sym, ◌∙◌}
 use Rattle.job_store.specs.Spots.{at_spot}
-use Rattle.job_store.specs.Shelves.{number, BelongsAt, places}
-use Rattle.job_store.proofs.shelving.Shelving.{untaken, only-place}
-use Rattle.job_store.proofs.shelving.ShelfFields.{only-ready, only-delayed, only-buried, only-held, only-scheduled, only-reserved, take-at}
 use Rattle.job_store.proofs.shelves.Shelves.take_from.Goals as goal
-
-pub returns-in-Ready-clause-taken : goal.returns-in-Ready-clause-taken
-returns-in-Ready-clause-taken c =
-    take-at c.args.self.now (record c.args.self.now { ready = c.take.new.self }) (Label.Ready c.in-Ready.tube)
-    (only-ready c.args.self.now c.take.new.self c.in-Ready.tube c.take.ensures.others) refl c.args.jobs.now.entries
-    (c.args.spot.now.pri, c.args.id)
-    (subst (λ n. (e : ℕ × Job) → In e c.args.jobs.now.entries → BelongsAt (Label.Ready c.in-Ready.tube) (n, c.args.id) e
-    → ⊥) (c.number-number.ensures (at_spot c.args.spot.now) refl refl ∙ ap
-    (λ (l : Label). number l (at_spot c.args.spot.now)) c.in-Ready.is)
-    (subst (λ (l : Label). (e : ℕ × Job) → In e c.args.jobs.now.entries
-    → BelongsAt l (c.number-number.result, c.args.id) e → ⊥) c.in-Ready.is
-    (untaken c.args.label c.args.id c.number-number.result c.args.spot.now c.args.jobs.now.entries
-    (sym (c.fits.ensures c.args.id (at_spot c.args.spot.now) refl refl) ∙ c.if-not-fits.false)
-    (c.number-number.ensures (at_spot c.args.spot.now) refl refl) (c.is_taken.ensures.no c.if-is_taken.false))))
-    c.take.ensures.change
-
-pub returns-in-Ready-clause-gone : goal.returns-in-Ready-clause-gone
-returns-in-Ready-clause-gone c p i b =
-    absurd ((c.take.ensures.change.only p
-    (subst (λ (l : Label). In p (places (record c.args.self.now { ready = c.take.new.self }) l)) c.in-Ready.is i)).1
-    (only-place c.args.label c.args.id c.args.spot.now.pri (at_spot c.args.spot.now) p
-    (ap (λ (l : Label). number l (at_spot c.args.spot.now)) (sym c.in-Ready.is)) b))
-
-pub returns-in-Delayed-clause-taken : goal.returns-in-Delayed-clause-taken
-returns-in-Delayed-clause-taken c =
-    take-at c.args.self.now (record c.args.self.now { delayed = c.take-in-Delayed.new.self })
-    (Label.Delayed c.in-Delayed.tube)
-    (only-delayed c.args.self.now c.take-in-Delayed.new.self c.in-Delayed.tube c.take-in-Delayed.ensures.others)
-    refl c.args.jobs.now.entries (c.number-number.result, c.args.id)
-    (subst (λ (l : Label). (e : ℕ × Job) → In e c.args.jobs.now.entries
-    → BelongsAt l (c.number-number.result, c.args.id) e → ⊥) c.in-Delayed.is
-    (untaken c.args.label c.args.id c.number-number.result c.args.spot.now c.args.jobs.now.entries
-    (sym (c.fits.ensures c.args.id (at_spot c.args.spot.now) refl refl) ∙ c.if-not-fits.false)
-    (c.number-number.ensures (at_spot c.args.spot.now) refl refl) (c.is_taken.ensures.no c.if-is_taken.false)))
-    c.take-in-Delayed.ensures.change
-
-pub returns-in-Delayed-clause-gone : goal.returns-in-Delayed-clause-gone
-returns-in-Delayed-clause-gone c p i b =
-    absurd ((c.take-in-Delayed.ensures.change.only p
-    (subst (λ (l : Label). In p (places (record c.args.self.now { delayed = c.take-in-Delayed.new.self }) l))
-    c.in-Delayed.is i)).1 (only-place c.args.label c.args.id _ (at_spot c.args.spot.now) p
-    (c.number-number.ensures (at_spot c.args.spot.now) refl refl) b))
-
-pub returns-in-Buried-clause-taken : goal.returns-in-Buried-clause-taken
-returns-in-Buried-clause-taken c =
-    take-at c.args.self.now (record c.args.self.now { buried = c.take-in-Buried.new.self })
-    (Label.Buried c.in-Buried.tube)
-    (only-buried c.args.self.now c.take-in-Buried.new.self c.in-Buried.tube c.take-in-Buried.ensures.others) refl
-    c.args.jobs.now.entries (c.number-number.result, c.args.id)
-    (subst (λ (l : Label). (e : ℕ × Job) → In e c.args.jobs.now.entries
-    → BelongsAt l (c.number-number.result, c.args.id) e → ⊥) c.in-Buried.is
-    (untaken c.args.label c.args.id c.number-number.result c.args.spot.now c.args.jobs.now.entries
-    (sym (c.fits.ensures c.args.id (at_spot c.args.spot.now) refl refl) ∙ c.if-not-fits.false)
-    (c.number-number.ensures (at_spot c.args.spot.now) refl refl) (c.is_taken.ensures.no c.if-is_taken.false)))
-    c.take-in-Buried.ensures.change
-
-pub returns-in-Buried-clause-gone : goal.returns-in-Buried-clause-gone
-returns-in-Buried-clause-gone c p i b =
-    absurd ((c.take-in-Buried.ensures.change.only p
-    (subst (λ (l : Label). In p (places (record c.args.self.now { buried = c.take-in-Buried.new.self }) l))
-    c.in-Buried.is i)).1 (only-place c.args.label c.args.id _ (at_spot c.args.spot.now) p
-    (c.number-number.ensures (at_spot c.args.spot.now) refl refl) b))
-
-pub returns-in-Held-clause-taken : goal.returns-in-Held-clause-taken
-returns-in-Held-clause-taken c =
-    take-at c.args.self.now (record c.args.self.now { held = c.take-in-Held.new.self }) (Label.Held c.in-Held.session)
-    (only-held c.args.self.now c.take-in-Held.new.self c.in-Held.session c.take-in-Held.ensures.others) refl
-    c.args.jobs.now.entries (c.number-number.result, c.args.id)
-    (subst (λ (l : Label). (e : ℕ × Job) → In e c.args.jobs.now.entries
-    → BelongsAt l (c.number-number.result, c.args.id) e → ⊥) c.in-Held.is
-    (untaken c.args.label c.args.id c.number-number.result c.args.spot.now c.args.jobs.now.entries
-    (sym (c.fits.ensures c.args.id (at_spot c.args.spot.now) refl refl) ∙ c.if-not-fits.false)
-    (c.number-number.ensures (at_spot c.args.spot.now) refl refl) (c.is_taken.ensures.no c.if-is_taken.false)))
-    c.take-in-Held.ensures.change
-
-pub returns-in-Held-clause-gone : goal.returns-in-Held-clause-gone
-returns-in-Held-clause-gone c p i b =
-    absurd ((c.take-in-Held.ensures.change.only p
-    (subst (λ (l : Label). In p (places (record c.args.self.now { held = c.take-in-Held.new.self }) l)) c.in-Held.is
-    i)).1 (only-place c.args.label c.args.id _ (at_spot c.args.spot.now) p
-    (c.number-number.ensures (at_spot c.args.spot.now) refl refl) b))
-
-pub returns-in-Scheduled-clause-taken : goal.returns-in-Scheduled-clause-taken
-returns-in-Scheduled-clause-taken c =
-    take-at c.args.self.now (record c.args.self.now { scheduled = c.take-in-Scheduled.new.self }) Label.Scheduled
-    (only-scheduled c.args.self.now c.take-in-Scheduled.new.self) refl c.args.jobs.now.entries
-    (c.number-number.result, c.args.id)
-    (subst (λ (l : Label). (e : ℕ × Job) → In e c.args.jobs.now.entries
-    → BelongsAt l (c.number-number.result, c.args.id) e → ⊥) c.in-Scheduled.is
-    (untaken c.args.label c.args.id c.number-number.result c.args.spot.now c.args.jobs.now.entries
-    (sym (c.fits.ensures c.args.id (at_spot c.args.spot.now) refl refl) ∙ c.if-not-fits.false)
-    (c.number-number.ensures (at_spot c.args.spot.now) refl refl) (c.is_taken.ensures.no c.if-is_taken.false)))
-    c.take-in-Scheduled.ensures
-
-pub returns-in-Scheduled-clause-gone : goal.returns-in-Scheduled-clause-gone
-returns-in-Scheduled-clause-gone c p i b =
-    absurd ((c.take-in-Scheduled.ensures.only p
-    (subst (λ (l : Label). In p (places (record c.args.self.now { scheduled = c.take-in-Scheduled.new.self }) l))
-    c.in-Scheduled.is i)).1 (only-place c.args.label c.args.id _ (at_spot c.args.spot.now) p
-    (c.number-number.ensures (at_spot c.args.spot.now) refl refl) b))
 
 pub returns-then-is_taken-clause-gone : goal.returns-then-is_taken-clause-gone
 returns-then-is_taken-clause-gone c p i b = c.is_taken.ensures.yes c.if-is_taken.true p b
 
-pub returns-in-Reserved-clause-taken : goal.returns-in-Reserved-clause-taken
-returns-in-Reserved-clause-taken c =
-    take-at c.args.self.now (record c.args.self.now { reserved = c.take-in-Reserved.new.self })
-    (Label.Reserved c.in-Reserved.tube)
-    (only-reserved c.args.self.now c.take-in-Reserved.new.self c.in-Reserved.tube c.take-in-Reserved.ensures.others)
-    refl c.args.jobs.now.entries (c.number-number.result, c.args.id)
-    (subst (λ (l : Label). (e : ℕ × Job) → In e c.args.jobs.now.entries
-    → BelongsAt l (c.number-number.result, c.args.id) e → ⊥) c.in-Reserved.is
-    (untaken c.args.label c.args.id c.number-number.result c.args.spot.now c.args.jobs.now.entries
-    (sym (c.fits.ensures c.args.id (at_spot c.args.spot.now) refl refl) ∙ c.if-not-fits.false)
-    (c.number-number.ensures (at_spot c.args.spot.now) refl refl) (c.is_taken.ensures.no c.if-is_taken.false)))
-    c.take-in-Reserved.ensures.change
+pub take_off-requires : goal.take_off-requires
+take_off-requires c = sym (c.fits.ensures c.args.id (at_spot c.args.spot.now) refl refl) ∙ c.if-not-fits.false
 
-pub returns-in-Reserved-clause-gone : goal.returns-in-Reserved-clause-gone
-returns-in-Reserved-clause-gone c p i b =
-    absurd ((c.take-in-Reserved.ensures.change.only p
-    (subst (λ (l : Label). In p (places (record c.args.self.now { reserved = c.take-in-Reserved.new.self }) l))
-    c.in-Reserved.is i)).1 (only-place c.args.label c.args.id _ (at_spot c.args.spot.now) p
-    (c.number-number.ensures (at_spot c.args.spot.now) refl refl) b))
+pub returns-clause-taken : goal.returns-clause-taken
+returns-clause-taken c = c.take_off.ensures.taken c.args.jobs.now.entries (c.is_taken.ensures.no c.if-is_taken.false)
+
+pub returns-clause-gone : goal.returns-clause-gone
+returns-clause-gone c p i b = absurd (c.take_off.ensures.gone p i b)

@@ -1,0 +1,24 @@
+use Rattle.std.proofs.Common.{[]}
+use Rattle.object.specs.Lists.{In}
+use Rattle.job_store.specs.Spots.{at_spot}
+use Rattle.job_store.proofs.shelving.Everywhere.{taken-twice, everywhere}
+use Rattle.job_store.proofs.shelves.Shelves.clear_everywhere.Goals as goal
+
+pub returns-clause-taken : goal.returns-clause-taken
+returns-clause-taken c jobs lacks =
+    taken-twice (taken-twice (taken-twice (taken-twice (taken-twice (c.clear_from.ensures.taken jobs lacks)
+    (c.clear_from-2.ensures.taken jobs lacks)) (c.clear_from-3.ensures.taken jobs lacks)) (c.clear_from-4.ensures.taken jobs lacks))
+    (c.clear_from-5.ensures.taken jobs lacks)) (c.clear_from-6.ensures.taken jobs lacks)
+
+pub returns-clause-gone : goal.returns-clause-gone
+returns-clause-gone c l p i b =
+    everywhere (λ x q. In q x.places → ⊥) c.clear_from.new.self c.clear_from-2.new.self c.clear_from-3.new.self
+    c.clear_from-4.new.self c.clear_from-5.new.self c.clear_from-6.new.self c.args.id (at_spot c.args.spot.now)
+    c.holder.result c.holder.ensures (λ q b i. c.clear_from.ensures.gone q i b) (λ q b i. c.clear_from-2.ensures.gone q i b)
+    (λ q b i. c.clear_from-3.ensures.gone q i b) (λ q b i. c.clear_from-4.ensures.gone q i b)
+    (λ q b i. c.clear_from-5.ensures.gone q i b) (λ q b i. c.clear_from-6.ensures.gone q i b)
+    (λ l q none i. none ((c.clear_from-2.ensures.taken [] (λ job there. there)).only l q i))
+    (λ l q none i. none ((c.clear_from-3.ensures.taken [] (λ job there. there)).only l q i))
+    (λ l q none i. none ((c.clear_from-4.ensures.taken [] (λ job there. there)).only l q i))
+    (λ l q none i. none ((c.clear_from-5.ensures.taken [] (λ job there. there)).only l q i))
+    (λ l q none i. none ((c.clear_from-6.ensures.taken [] (λ job there. there)).only l q i)) l p b i
