@@ -6,7 +6,6 @@ ghost use Rattle.session.specs.StreamStates.{LeavesStreams, streams_of};
 ghost use Rattle.node_threads.specs.Attending.{Adds, TakesLeave, attendance_of};
 
 use crate::attendant::Attendant;
-use crate::faults::Faults;
 use crate::gate::Gate;
 use crate::shared::Shared;
 use crate::watched_reader::WatchedReader;
@@ -37,14 +36,13 @@ pub struct Desk {
 
 /// Serves one client, with the ticket of its session as the service: what the client asks for is handed in, its answer is
 /// noted in the ticket and told to the client, in the plain profile. It returns once the client has left, or its session
-/// broke off. It takes no turn of a node, and so asks the faults nothing.
+/// broke off.
 pub fn attend<
     O: Object<Op = Op, Reply = Reply>,
     S: Ledger,
     C: Ledger,
     R: Wait,
     G: Gate,
-    F: Faults,
     I: ByteIn,
     W: ByteOut,
 >(
@@ -57,7 +55,6 @@ pub fn attend<
     writer: &mut W,
     desk: Desk,
     gate: &G,
-    _faults: &F,
 ) -> Attended<O, C, I>
     requires { commands.parts ≡ 1 }
     ensures one_part { result.commands.parts ≡ 1 }

@@ -9,6 +9,7 @@ use crate::cluster_error::ClusterError;
 use crate::faults::{Faults, NoFaults};
 use crate::gate::Gate;
 use crate::places::WaitingPlaces;
+use crate::rig::Rig;
 use crate::shared::Shared;
 use crate::staff::{Common, Door, Finished, run_threads};
 use crate::tally::Tally;
@@ -94,10 +95,9 @@ pub fn run_cluster_faulty<
     let outside = Outside {
         accept,
         seconds,
-        gate,
-        faults,
+        rig: &Rig { gate, faults },
     };
-    run_counted::<O, Brand, Brand, A, T, G, F, R>(
+    run_counted::<O, Brand, Brand, A, T, Rig<'_, G, F>, R>(
         rt,
         alloc,
         hall,
@@ -140,13 +140,12 @@ impl<O: Object, A: Accept> Room<O, A> {
     }
 }
 
-// What comes from outside: clients, the seconds of the clock, who is told where threads stand, and mishaps.
+// What comes from outside: clients, the seconds of the clock, and what a test hangs in.
 #[derive(Drop)]
-struct Outside<'a, A, T, G, F> {
+struct Outside<'a, A, T, H> {
     accept: A,
     seconds: T,
-    gate: &'a G,
-    faults: &'a F,
+    rig: &'a H,
 }
 
 // Runs the cluster over counts of sessions and of commands.
@@ -156,15 +155,14 @@ fn run_counted<
     C: Ledger + Send + Sync,
     A: Accept + Drop,
     T: Seconds + Send + Drop,
-    G: Gate + Sync,
-    F: Faults + Sync,
+    H: Gate + Faults + Sync,
     R: Threads + Wait + Clock + Sync,
 >(
     rt: &R,
     alloc: Global,
     hall: Hall<O>,
     room: Room<O, A>,
-    outside: Outside<'_, A, T, G, F>,
+    outside: Outside<'_, A, T, H>,
     workers: u32,
     sessions: Blank,
     commands: Blank,
@@ -198,8 +196,7 @@ fn run_counted<
         alloc,
         shared: &shared,
         clients: &receiver,
-        gate: outside.gate,
-        faults: outside.faults,
+        rig: outside.rig,
     };
     let door = Door {
         accept: outside.accept,

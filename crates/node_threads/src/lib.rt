@@ -11,6 +11,7 @@ mod faults;
 mod gate;
 mod node_thread;
 mod places;
+mod rig;
 mod rounds;
 mod shared;
 mod staff;

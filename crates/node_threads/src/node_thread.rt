@@ -14,12 +14,11 @@ const FIRST_PAUSE: u64 = 10;
 
 /// What the thread of a node does: it takes its turn when there is something for it, until all is over. Where it is
 /// refused memory, it tries again after a pause. Nodes count from 1.
-pub(crate) fn run_node<O: Object, S: Ledger, C: Ledger, R: Wait, G: Gate, F: Faults>(
+pub(crate) fn run_node<O: Object, S: Ledger, C: Ledger, R: Wait, H: Gate + Faults>(
     rt: &R,
     shared: &Shared<O, S, C>,
     node: u8,
-    gate: &G,
-    faults: &F,
+    rig: &H,
 )
     requires { 0 < node }
 {
@@ -27,7 +26,7 @@ pub(crate) fn run_node<O: Object, S: Ledger, C: Ledger, R: Wait, G: Gate, F: Fau
     let mut watch = Watch::new(node, false);
     let mut backoff = Backoff::new(FIRST_PAUSE);
     for _ in rt.forever() {
-        let stands = shared.take_turn(rt, &mut watch, gate, faults);
+        let stands = shared.take_turn(rt, &mut watch, rig);
         if shared.is_over() {
             return;
         }

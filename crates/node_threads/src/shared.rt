@@ -175,16 +175,15 @@ impl<O: Object, S: Ledger, C: Ledger> Shared<O, S, C> {
 
     /// One turn of a node, after the mishap that is chosen for it. Then the bells ring of the other nodes that have mail, and
     /// of the workers whose clients were answered. Tells how the node stands then.
-    pub(crate) fn take_turn<R: Wait, G: Gate, F: Faults>(
+    pub(crate) fn take_turn<R: Wait, H: Gate + Faults>(
         &self,
         rt: &R,
         watch: &mut Watch,
-        gate: &G,
-        faults: &F,
+        rig: &H,
     ) -> AfterTurn {
         let node = watch.node();
-        gate.at(Actor::Node(node), Point::Turn);
-        let mishap = faults.choose(node, watch.count_turn());
+        rig.at(Actor::Node(node), Point::Turn);
+        let mishap = rig.choose(node, watch.count_turn());
         let rounds = self.places.rounds();
         let mut guard = self.hall.lock(rt);
         rounds.begin_turn(node);

@@ -27,13 +27,12 @@ use std::thread::{JoinHandle, Scope, Threads};
 
 /// What the threads of a cluster have in common.
 #[derive(Drop)]
-pub(crate) struct Common<'s, O: Object, S: Ledger, C: Ledger, I, W, R, G, F> {
+pub(crate) struct Common<'s, O: Object, S: Ledger, C: Ledger, I, W, R, H> {
     pub(crate) rt: &'s R,
     pub(crate) alloc: Global,
     pub(crate) shared: &'s Shared<O, S, C>,
     pub(crate) clients: &'s Receiver<(I, W), Global>,
-    pub(crate) gate: &'s G,
-    pub(crate) faults: &'s F,
+    pub(crate) rig: &'s H,
 }
 
 impl<
@@ -44,9 +43,8 @@ impl<
     I: ByteIn + Drop,
     W: ByteOut + Drop,
     R: Wait,
-    G: Gate,
-    F: Faults,
-> Common<'s, O, S, C, I, W, R, G, F> {
+    H: Gate + Faults,
+> Common<'s, O, S, C, I, W, R, H> {
     // What the thread of a worker does.
     fn work(&self, worker: Worker<O, S, C>, desk: Desk) -> Worker<O, S, C> {
         worker.serve_clients(
@@ -55,8 +53,7 @@ impl<
             self.shared,
             self.clients,
             desk,
-            self.gate,
-            self.faults,
+            self.rig,
         )
     }
 
@@ -142,10 +139,9 @@ pub(crate) fn run_threads<
     A: Accept + Drop,
     T: Seconds + Send + Drop + 's,
     R: Threads + Wait + Clock + Sync,
-    G: Gate + Sync,
-    F: Faults + Sync,
+    H: Gate + Faults + Sync,
 >(
-    common: &'s Common<'s, O, S, C, A::R, A::W, R, G, F>,
+    common: &'s Common<'s, O, S, C, A::R, A::W, R, H>,
     nodes: u8,
     seconds: T,
     workers: u32,
@@ -205,11 +201,10 @@ fn start_nodes_and_clock<
     W: Send,
     T: Seconds + Send + Drop + 's,
     R: Wait + Clock + Sync,
-    G: Gate + Sync,
-    F: Faults + Sync,
+    H: Gate + Faults + Sync,
 >(
     scope: &Scope<'s, E>,
-    common: &'s Common<'s, O, S, C, I, W, R, G, F>,
+    common: &'s Common<'s, O, S, C, I, W, R, H>,
     nodes: u8,
     seconds: T,
     crew: &mut Vec<JoinHandle<()>>,
@@ -221,18 +216,17 @@ fn start_nodes_and_clock<
     let Common {
         rt,
         shared,
-        gate,
-        faults,
+        rig,
         ..
     } = common;
     for before in 0..nodes {
         let node = before + 1;
-        let Ok(thread) = scope.spawn(move || run_node(*rt, *shared, node, *gate, *faults)) else {
+        let Ok(thread) = scope.spawn(move || run_node(*rt, *shared, node, *rig)) else {
             return Err(ClusterError::ThreadFailed);
         };
         crew.push_reserved(thread);
     }
-    let Ok(thread) = scope.spawn(move || run_clock(*rt, *shared, seconds, *gate)) else {
+    let Ok(thread) = scope.spawn(move || run_clock(*rt, *shared, seconds, *rig)) else {
         return Err(ClusterError::ThreadFailed);
     };
     crew.push_reserved(thread);
@@ -248,11 +242,10 @@ fn run_workers<
     C: Ledger + Send + Sync,
     A: Accept + Drop,
     R: Threads + Wait + Clock + Sync,
-    G: Gate + Sync,
-    F: Faults + Sync,
+    H: Gate + Faults + Sync,
 >(
     scope: &Scope<'s, E>,
-    common: &'s Common<'s, O, S, C, A::R, A::W, R, G, F>,
+    common: &'s Common<'s, O, S, C, A::R, A::W, R, H>,
     desk: Desk,
     workers: u32,
     mut tally: Tally<O, S, C>,

@@ -2,7 +2,6 @@ ghost use Rattle.std.specs.Prelude.{◌≡◌, length};
 ghost use Rattle.counted_hall.specs.Accounts.{acts_in};
 
 use crate::attending::{Desk, attend};
-use crate::faults::Faults;
 use crate::gate::Gate;
 use crate::shared::Shared;
 use bean_queue::{Op, Reply};
@@ -58,7 +57,7 @@ impl<O: Object, S: Ledger, C: Ledger> Worker<O, S, C> {
 impl<O: Object<Op = Op, Reply = Reply>, S: Ledger, C: Ledger> Worker<O, S, C> {
     /// Opens a session and serves a client there. Where there is no room for the ticket, or no session can be opened, the
     /// client isn't answered.
-    pub fn serve_client<R: Wait, G: Gate, F: Faults, I: ByteIn + Drop, W: ByteOut>(
+    pub fn serve_client<R: Wait, G: Gate, I: ByteIn + Drop, W: ByteOut>(
         self,
         rt: &R,
         alloc: Global,
@@ -67,7 +66,6 @@ impl<O: Object<Op = Op, Reply = Reply>, S: Ledger, C: Ledger> Worker<O, S, C> {
         writer: &mut W,
         desk: Desk,
         gate: &G,
-        faults: &F,
     ) -> Worker<O, S, C> {
         let Worker {
             mut tickets,
@@ -77,7 +75,7 @@ impl<O: Object<Op = Op, Reply = Reply>, S: Ledger, C: Ledger> Worker<O, S, C> {
         if tickets.reserve(1).is_ok() {
             if let Ok(ticket) = shared.open_session(rt, &mut sessions, desk.worker) {
                 let attended = attend(
-                    rt, alloc, shared, commands, ticket, reader, writer, desk, gate, faults,
+                    rt, alloc, shared, commands, ticket, reader, writer, desk, gate,
                 );
                 commands = attended.commands;
                 tickets.push_reserved(attended.ticket);
@@ -91,7 +89,7 @@ impl<O: Object<Op = Op, Reply = Reply>, S: Ledger, C: Ledger> Worker<O, S, C> {
     }
 
     /// Serves one client after the other, until no more are let in.
-    pub(crate) fn serve_clients<R: Wait, G: Gate, F: Faults, I: ByteIn + Drop, W: ByteOut + Drop>(
+    pub(crate) fn serve_clients<R: Wait, G: Gate, I: ByteIn + Drop, W: ByteOut + Drop>(
         self,
         rt: &R,
         alloc: Global,
@@ -99,20 +97,10 @@ impl<O: Object<Op = Op, Reply = Reply>, S: Ledger, C: Ledger> Worker<O, S, C> {
         clients: &Receiver<(I, W), Global>,
         desk: Desk,
         gate: &G,
-        faults: &F,
     ) -> Worker<O, S, C> {
         let mut worker = self;
         for (reader, mut writer) in clients.iter(rt) {
-            worker = worker.serve_client(
-                rt,
-                alloc,
-                shared,
-                reader,
-                &mut writer,
-                desk,
-                gate,
-                faults,
-            );
+            worker = worker.serve_client(rt, alloc, shared, reader, &mut writer, desk, gate);
         }
         worker
     }

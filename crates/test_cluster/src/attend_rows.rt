@@ -1,7 +1,6 @@
 //! A client's session ends as it is told to have ended. No node has a thread here, and none is needed.
 ghost use Rattle.std.specs.Prelude.{◌≡◌, IfOk};
 
-use crate::faults::Nothing;
 use crate::gates::{HoldsDesk, SeesPieces};
 use ballot::Members;
 use bean_queue::Queue;
@@ -122,7 +121,7 @@ fn serve_one<S: Ledger, C: Ledger, R: Wait, G: Gate, I: ByteIn + Drop, W: ByteOu
     };
     let desk = Desk { worker: 1, node };
     let attended = attend(
-        rt, alloc, shared, commands, ticket, reader, writer, desk, gate, &Nothing,
+        rt, alloc, shared, commands, ticket, reader, writer, desk, gate,
     );
     Some(attended.ended)
 }
