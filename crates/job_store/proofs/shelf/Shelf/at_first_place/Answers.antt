@@ -1,7 +1,5 @@
-use Rattle.std.proofs.Common.{ℕ, map, subst, sym}
+use Rattle.std.proofs.Common.{map, subst, sym}
 use Rattle.std.specs.List.Sorted.{IsStrictlySortedBy}
-use Rattle.object.specs.Lists.{In}
-use Rattle.job_store.specs.declared.job.Job.{Job}
 use Rattle.job_store.specs.ShelfStates.{ShelfState, numbered_place, IsFound}
 use Rattle.job_store.specs.Shelves.{BelongsAt}
 use Rattle.job_store.proofs.shelving.Places.{shelf_cmp, AreAllOn, begins-with, first-is-least}

@@ -1,4 +1,4 @@
-use Rattle.std.proofs.Common.{◌≡◌, ap, ◌∙◌, ℕ, List, unwrap_or}
+use Rattle.std.proofs.Common.{ap, ◌∙◌, ℕ, List, unwrap_or}
 use Rattle.std.proofs.lemmas.Result.{on_ok_weaker}
 use Rattle.std.specs.BTreeMap.{insert_entry}
 use Rattle.job_store.specs.Racks.{name_cmp}
