@@ -1,4 +1,4 @@
-ghost use Rattle.std.specs.Prelude.{◌≡◌, ◌^◌, IsSome, IfOk, OnOk};
+ghost use Rattle.std.specs.Prelude.{◌≡◌, ◌^◌, IsSome, IfOk, OnErr, OnOk};
 ghost use Rattle.job_store.specs.Entries.{Rising, value_at, altered};
 ghost use Rattle.session_store.specs.Sessions.{session_of, known};
 ghost use Rattle.bean_queue.specs.Queue.{fresh, with_sessions};
@@ -107,6 +107,7 @@ impl<M: JobMap> Logic<M> {
         ensures now { OnOk result (self.new.now
             ≡ with_sessions self.old.now (known session self.old.now.sessions)) }
         ensures role { IfOk result (λ role. role ≡ (session_of session self.new.now.sessions).role) }
+        ensures err { OnErr result (self.new.now ≡ self.old.now) }
         ensures before { self.new.before ≡ self.old.before }
     {
         self.sessions.know(session)
