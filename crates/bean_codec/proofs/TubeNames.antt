@@ -1,7 +1,7 @@
 -- A word that keeps the rule is a name, and another is none.
 use Rattle.std.proofs.Common.{◌≡◌, inl, inr, List, ℕ, Option, Some, None, Ok, Err, IfOk, Result, refl, ap, sym, ◌∙◌}
 use Rattle.std.specs.Option.{SomeIff}
-use Rattle.job_store.specs.Names.{IsName}
+use Rattle.bean_words.specs.Names.{IsName}
 use Rattle.bean_codec.specs.TubeNames.{Decided, name_rule, name_of, word_if}
 
 decided-holds : (word : List ℕ) (d : Decided (IsName word)) → IsName word → word_if word d ≡ Some word

@@ -1,7 +1,7 @@
 -- The words after the first of a line, by their command (protocol.txt of beanstalkd, "Producer Commands", "Worker Commands"
 -- and "Other Commands").
 use Rattle.std.specs.Prelude.{ℕ, List, [], ◌∷◌, Option, Some, None}
-use Rattle.bean_queue.specs.declared.op.Op.TheVariants as op
+use Rattle.bean_words.specs.declared.op.Op.TheVariants as op
 use Rattle.bean_codec.specs.declared.command.CommandName.{CommandName}
 use Rattle.bean_codec.specs.declared.command.CommandName.TheVariants.{Put, Use, Watch, Ignore, Reserve}
 use Rattle.bean_codec.specs.declared.command.CommandName.TheVariants.{ReserveWithTimeout, Delete, Touch, Release, Bury}

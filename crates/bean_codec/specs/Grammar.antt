@@ -3,7 +3,7 @@
 use Rattle.std.specs.Prelude.{◌≡◌, ℕ, ◌+◌, nat_lt, List, [], ◌∷◌, ◌++◌, length, take, drop, Option, Some, None, IsSome, Result, Ok, Err, if◌then◌else◌}
 use Rattle.std.specs.Option.{ok_or}
 use Rattle.std.specs.Str.{bytes_eq}
-use Rattle.bean_queue.specs.declared.op.Op.TheVariants.{Put}
+use Rattle.bean_words.specs.declared.op.Op.TheVariants.{Put}
 use Rattle.bean_codec.specs.declared.profile.Profile.{Profile}
 use Rattle.bean_codec.specs.declared.request.Request.{Request}
 use Rattle.bean_codec.specs.declared.request.Request.TheVariants.{Do}

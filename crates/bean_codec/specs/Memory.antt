@@ -1,6 +1,6 @@
 -- Which requests take memory as they are read: those whose bytes the queue keeps.
 use Rattle.std.specs.Prelude.{◌⊎◌, Option, Some, Result, Ok, Err}
-use Rattle.bean_queue.specs.declared.op.Op.TheVariants.{Put, Use, Watch, Ignore, Pause, StatsTube}
+use Rattle.bean_words.specs.declared.op.Op.TheVariants.{Put, Use, Watch, Ignore, Pause, StatsTube}
 use Rattle.bean_codec.specs.declared.request.Request.{Request}
 use Rattle.bean_codec.specs.declared.request.Request.TheVariants.{Do}
 use Rattle.bean_codec.specs.declared.request.Fault.{Fault}

@@ -2,7 +2,7 @@
 use Rattle.std.proofs.Common.{◌≡◌, ℕ, ◌<◌, ◌≤◌, ◌⊎◌, inl, inr, List, [], ◌∷◌, length, Option, Some, None, codes, refl, subst, sym, arith}
 use Rattle.std.proofs.lemmas.Bool.{cases_eq, cases_lt}
 use Rattle.object.specs.Lists.{In}
-use Rattle.job_store.specs.Names.{IsName, IsNameByte, AreNameBytes}
+use Rattle.bean_words.specs.Names.{IsName, IsNameByte, AreNameBytes}
 
 -- it is so, or it is not
 abbrev pub Decided : Type 0 → Type 0

@@ -8,7 +8,7 @@ use crate::line::{LONGEST_LINE, Meaning, meaning_of};
 use crate::profile::Profile;
 use crate::reader::{Read, Want};
 use crate::request::{Fault, Request};
-use bean_queue::{Body, Op};
+use bean_words::{Body, Op};
 use bstr::ByteSlice;
 use std::alloc::{AllocError, Global};
 

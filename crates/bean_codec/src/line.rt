@@ -12,7 +12,7 @@ use crate::number_lines::{
 use crate::profile::Profile;
 use crate::request::{Fault, Request};
 use crate::words::Words;
-use bean_queue::Op;
+use bean_words::Op;
 use std::alloc::{AllocError, Global};
 
 /// The most bytes of a line with its CR LF.

@@ -7,7 +7,7 @@ use crate::line::Meaning;
 use crate::number::u32_of;
 use crate::request::Request;
 use crate::words::Words;
-use bean_queue::{Name, Op};
+use bean_words::{Name, Op};
 use std::alloc::{AllocError, Global};
 
 /// The name that the word is.

@@ -5,7 +5,7 @@ use crate::line::Meaning;
 use crate::number::{u32_of, u64_of};
 use crate::request::Request;
 use crate::words::Words;
-use bean_queue::Op;
+use bean_words::Op;
 
 /// The request, where no word follows.
 #[tactic(auto, unfolding(crate::specs::Arguments::alone))]

@@ -1,4 +1,4 @@
-use bean_queue::Op;
+use bean_words::Op;
 
 /// What a client asks.
 #[derive(Drop, PartialEq, Eq)]

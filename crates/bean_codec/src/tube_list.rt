@@ -4,7 +4,7 @@ ghost use Rattle.bean_codec.specs.Lines.{line_text};
 ghost use Rattle.bean_codec.specs.Replies.{data_text, tube_text, tubes_data};
 
 use crate::append::append_count;
-use bean_queue::Name;
+use bean_words::Name;
 use std::alloc::AllocError;
 
 /// Writes a list of tubes at the end. Where memory runs out, a part of it may stand there.

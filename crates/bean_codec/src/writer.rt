@@ -5,7 +5,7 @@ ghost use Rattle.bean_codec.specs.Replies.{reply_text, fault_text, job_text, dat
 use crate::append::{append_count, append_line, append_number};
 use crate::request::Fault;
 use crate::tube_list::append_tubes;
-use bean_queue::{Body, Name, Reply};
+use bean_words::{Body, Name, Reply};
 use std::alloc::AllocError;
 
 /// Writes the text of a reply at the end. Where memory runs out, nothing is written.

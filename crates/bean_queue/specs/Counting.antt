@@ -1,7 +1,7 @@
 -- How often each operation was carried out (protocol.txt of beanstalkd, "stats": cmd-put and its kin, job-timeouts).
 use Rattle.std.specs.Prelude.{ℕ, ◌+◌, ◌-◌, ◌^◌, min, Some, None}
 use Rattle.bean_queue.specs.declared.counts.Counts.{Counts}
-use Rattle.bean_queue.specs.declared.op.Op.{Op}
+use Rattle.bean_words.specs.declared.op.Op.{Op}
 
 -- so many more, where the count isn't the greatest of 64 bits
 abbrev pub and_more : ℕ → ℕ → ℕ

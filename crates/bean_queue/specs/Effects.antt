@@ -14,9 +14,9 @@ use Rattle.session_store.specs.declared.session.SessionState.{SessionState}
 use Rattle.session_store.specs.declared.session.Role.{Role}
 use Rattle.session_store.specs.Sessions.{session_of, known, with_wait_ended, with_role, is_waiting}
 use Rattle.pause_store.specs.Pauses.{left_at, tubes_over}
-use Rattle.bean_queue.specs.declared.op.Op.{Op}
+use Rattle.bean_words.specs.declared.op.Op.{Op}
 use Rattle.bean_queue.specs.declared.ready_again.Returning.{Returning}
-use Rattle.bean_queue.specs.declared.reply.Reply.{Reply}
+use Rattle.bean_words.specs.declared.reply.Reply.{Reply}
 use Rattle.bean_queue.specs.Queue.{QueueState, fresh, with_sessions, holds_by}
 use Rattle.bean_queue.specs.Counting.{with_op_counted, and_timeouts}
 use Rattle.bean_queue.specs.Rows.{Row, row, settled}

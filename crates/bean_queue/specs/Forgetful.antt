@@ -4,7 +4,7 @@ use Rattle.object.specs.declared.command.Act.{Act}
 use Rattle.job_store.specs.declared.job.Job.{Job}
 use Rattle.job_store.specs.Entries.{each_value}
 use Rattle.job_store.specs.Histories.{new_history}
-use Rattle.bean_queue.specs.declared.op.Op.{Op}
+use Rattle.bean_words.specs.declared.op.Op.{Op}
 use Rattle.bean_queue.specs.Counting.{nothing_counted}
 use Rattle.bean_queue.specs.Queue.{QueueState}
 

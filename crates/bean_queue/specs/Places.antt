@@ -5,8 +5,8 @@ use Rattle.object.specs.Lists.{In}
 use Rattle.object.specs.Replays.{Placed, replay}
 use Rattle.object.specs.declared.command.Answer.{Answer}
 use Rattle.object.specs.declared.command.Command.{Command}
-use Rattle.bean_queue.specs.declared.op.Op.{Op}
-use Rattle.bean_queue.specs.declared.reply.Reply.{Reply}
+use Rattle.bean_words.specs.declared.op.Op.{Op}
+use Rattle.bean_words.specs.declared.reply.Reply.{Reply}
 use Rattle.bean_queue.specs.Queue.{QueueState, fresh}
 use Rattle.bean_queue.specs.Turns.{QueueOutcome}
 use Rattle.bean_queue.specs.Effects.{effect}

@@ -7,8 +7,8 @@ use Rattle.job_store.specs.declared.job.Job.{Job}
 use Rattle.job_store.specs.Entries.{altered}
 use Rattle.job_store.specs.States.{reserved_job}
 use Rattle.job_store.specs.LookUps.{best_ready, not_paused}
-use Rattle.bean_queue.specs.declared.op.Op.{Op}
-use Rattle.bean_queue.specs.declared.reply.Reply.{Reply}
+use Rattle.bean_words.specs.declared.op.Op.{Op}
+use Rattle.bean_words.specs.declared.reply.Reply.{Reply}
 use Rattle.bean_queue.specs.Queue.{QueueState, watched_by, paused_tubes, holds_by}
 use Rattle.bean_queue.specs.Rows.{row, waiting}
 use Rattle.bean_queue.specs.Turns.{QueueOutcome, stop, serve}

@@ -16,8 +16,8 @@ use Rattle.pause_store.specs.Pauses.{is_paused, paused_for}
 use Rattle.tube_store.specs.declared.tube_counts.TubeCounts.{TubeCounts}
 use Rattle.tube_store.specs.declared.tube_mark.TubeMark.{TubeMark}
 use Rattle.tube_store.specs.TubeCounts.{marked_tube}
-use Rattle.bean_queue.specs.declared.op.Op.{Op}
-use Rattle.bean_queue.specs.declared.reply.Reply.{Reply}
+use Rattle.bean_words.specs.declared.op.Op.{Op}
+use Rattle.bean_words.specs.declared.reply.Reply.{Reply}
 use Rattle.bean_queue.specs.Reports.{job_report, tube_figures, tube_report, queue_report}
 use Rattle.bean_queue.specs.Tubes.{all_tubes}
 use Rattle.bean_queue.specs.Queue.{QueueState, pauses_of, with_jobs, used_by, watched_by}

@@ -11,7 +11,7 @@ use Rattle.job_store.specs.LookUps.{is_among, best_ready, ready_in, pri_of_job, 
 use Rattle.job_store.specs.States.{is_ready}
 use Rattle.session_store.specs.declared.session.SessionState.{SessionState}
 use Rattle.session_store.specs.Sessions.{first_waiting, is_waiting, wait_rank, has_timed_out}
-use Rattle.bean_queue.specs.declared.reply.Reply.{Reply}
+use Rattle.bean_words.specs.declared.reply.Reply.{Reply}
 use Rattle.bean_queue.specs.Queue.{QueueState, holds_by, paused_tubes}
 use Rattle.bean_queue.specs.Turns.{QueueTurn, turns, after_option, wanted, next_job, given, give, give_to, serve_turn}
 use Rattle.bean_queue.specs.Turns.{told_turn, tell, deadline_turn, timeout_turn}

@@ -8,7 +8,7 @@ use Rattle.job_store.specs.LookUps.{is_among, best_ready, pri_of_job, not_paused
 use Rattle.job_store.specs.States.{reserved_job}
 use Rattle.session_store.specs.declared.session.SessionState.{SessionState}
 use Rattle.session_store.specs.Sessions.{first_waiting, with_wait_ended, is_waiting, wait_number, has_timed_out}
-use Rattle.bean_queue.specs.declared.reply.Reply.{Reply}
+use Rattle.bean_words.specs.declared.reply.Reply.{Reply}
 use Rattle.bean_queue.specs.Queue.{QueueState, holds_by, paused_tubes}
 
 -- the state after, and the answers in their order

@@ -17,8 +17,8 @@ use Rattle.session_store.specs.WatchLists.{is_alone}
 use Rattle.session_store.specs.Waits.{WaitsIn}
 use Rattle.session_store.specs.WaitLaws.{altered-waits, ended-waits, forgotten-waits, known-waits, waiting-waits, some_wait, session_waits}
 use Rattle.pause_store.specs.Pauses.{tubes_over}
-use Rattle.bean_queue.specs.declared.op.Op.{Op}
-use Rattle.bean_queue.specs.declared.reply.Reply.{Reply}
+use Rattle.bean_words.specs.declared.op.Op.{Op}
+use Rattle.bean_words.specs.declared.reply.Reply.{Reply}
 use Rattle.bean_queue.specs.Queue.{QueueState, fresh, holds_by, watched_by}
 use Rattle.bean_queue.specs.Turns.{QueueOutcome, QueueTurn, stop, turns, all_turns, after_option, given, told_turn}
 use Rattle.bean_queue.specs.Turns.{serve_turn, deadline_turn, timeout_turn, serve}

@@ -9,7 +9,7 @@ use Rattle.job_store.specs.LookUps.{is_among, first_ready, pri_of_job}
 use Rattle.job_store.specs.States.{is_ready}
 use Rattle.session_store.specs.declared.session.SessionState.{SessionState}
 use Rattle.session_store.specs.Sessions.{first_waiting}
-use Rattle.bean_queue.specs.declared.op.Op.{Op}
+use Rattle.bean_words.specs.declared.op.Op.{Op}
 use Rattle.bean_queue.specs.Best.{IsWanted}
 use Rattle.bean_queue.specs.Queue.{QueueState, used_by}
 

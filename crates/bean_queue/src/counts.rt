@@ -1,7 +1,7 @@
 ghost use Rattle.std.specs.Prelude.{◌≡◌};
 ghost use Rattle.bean_queue.specs.Counting.{and_more, nothing_counted, with_op_counted, and_timeouts};
 
-use crate::op::Op;
+use bean_words::Op;
 
 /// How often each operation was carried out, and how often the time to run of a job was over. Each count stays at the
 /// greatest number of its type.

@@ -2,7 +2,7 @@ ghost use Rattle.std.specs.Prelude.{◌≡◌, ◌^◌};
 ghost use Rattle.job_store.specs.Entries.{Rising};
 ghost use Rattle.bean_queue.specs.Groups.{is_of_group, count_in};
 
-use job_store::Name;
+use bean_words::Name;
 use session_store::SessionState;
 use std::collections::BTreeMap;
 

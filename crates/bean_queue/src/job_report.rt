@@ -2,7 +2,8 @@ ghost use Rattle.std.specs.Prelude.{◌≡◌, IfOk};
 ghost use Rattle.bean_queue.specs.Reports.{state_word, time_left, job_report};
 
 use crate::report::Report;
-use job_store::{Body, Job, State};
+use bean_words::Body;
+use job_store::{Job, State};
 use std::alloc::{AllocError, Global};
 
 /// The word for a state.

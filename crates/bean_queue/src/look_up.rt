@@ -2,8 +2,9 @@ ghost use Rattle.std.specs.Prelude.{◌≡◌};
 ghost use Rattle.std.specs.Map.{keys_of};
 ghost use Rattle.job_store.specs.LookUps.{is_among, not_paused};
 
+use bean_words::Name;
 use indexmap::IndexSet;
-use job_store::{Job, Name, StoredJob};
+use job_store::{Job, StoredJob};
 use std::collections::BTreeMap;
 
 /// What is looked for among the jobs.

@@ -4,9 +4,9 @@ ghost use Rattle.bean_queue.specs.Calls.{HasObeyed};
 
 use crate::laws::one_holder;
 use crate::logic::Logic;
-use crate::op::Op;
-use crate::reply::Reply;
+use crate::quiet::is_quiet;
 use crate::scan_jobs::ScanJobs;
+use bean_words::{Op, Reply};
 use job_store::{JobMap, Jobs};
 use object::{Act, Answer, Command, Key, Object};
 use std::alloc::{AllocError, Global};
@@ -168,7 +168,7 @@ impl<M: JobMap> Object for QueueOver<M> {
         let key = cmd.key();
         match cmd.act() {
             Act::Do(op) => {
-                if op.is_quiet() {
+                if is_quiet(op) {
                     self.obey_quiet(key, op, out)
                 } else {
                     self.obey_loud(key, op, out)

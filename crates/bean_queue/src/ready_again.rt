@@ -7,8 +7,9 @@ ghost use Rattle.bean_queue.specs.Effects.{change_if, times_over};
 ghost use Rattle.bean_queue.specs.Calls.{DraftsWaking};
 
 use crate::job_draft::JobDraft;
+use bean_words::Name;
 use indexmap::IndexSet;
-use job_store::{Job, JobMap, Mark, Name, State};
+use job_store::{Job, JobMap, Mark, State};
 use object::Value;
 use std::alloc::{AllocError, Global};
 

@@ -3,8 +3,9 @@ ghost use Rattle.bean_queue.specs.Reports.{report_line, report_number, tally_rep
 
 use crate::counts::Counts;
 use crate::figures::QueueFigures;
+use bean_words::Body;
 use itoa::Buffer;
-use job_store::{Body, Tally};
+use job_store::Tally;
 use std::alloc::{AllocError, Global};
 use std::marker::Model;
 

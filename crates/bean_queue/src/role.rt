@@ -1,7 +1,7 @@
 ghost use Rattle.std.specs.Prelude.{◌≡◌};
 ghost use Rattle.bean_queue.specs.Effects.{role_after};
 
-use crate::op::Op;
+use bean_words::Op;
 use session_store::Role;
 
 /// What a session has done, once it asks for an operation: it has put a job, or asked for one.

@@ -3,8 +3,9 @@ ghost use Rattle.object.specs.Lists.{In};
 ghost use Rattle.job_store.specs.LookUps.{has_jobs};
 
 use crate::look_up::LookUp;
+use bean_words::{Name, add_name};
 use indexmap::IndexSet;
-use job_store::{Job, JobMap, LoggedJobs, Mark, Name, State, StoredJob, Tally, add_name};
+use job_store::{Job, JobMap, LoggedJobs, Mark, State, StoredJob, Tally};
 use std::alloc::{AllocError, Global};
 use std::collections::{BTreeMap, BTreeSet};
 use std::marker::Model;

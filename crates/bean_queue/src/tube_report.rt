@@ -3,7 +3,7 @@ ghost use Rattle.bean_queue.specs.Reports.{tube_report};
 
 use crate::figures::TubeFigures;
 use crate::report::Report;
-use job_store::{Body, Name};
+use bean_words::{Body, Name};
 use std::alloc::{AllocError, Global};
 
 /// What was done with a tube, and how many jobs and sessions it has, as a text.

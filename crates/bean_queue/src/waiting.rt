@@ -3,7 +3,8 @@ ghost use Rattle.std.specs.Map.{keys_of};
 ghost use Rattle.job_store.specs.LookUps.{best_ready, not_paused};
 ghost use Rattle.bean_queue.specs.Woken.{best_offer, has_taker};
 
-use job_store::{Job, JobMap, Name, more_urgent};
+use bean_words::Name;
+use job_store::{Job, JobMap, more_urgent};
 use pause_store::PauseDraft;
 use session_store::SessionDraft;
 

@@ -1,7 +1,7 @@
 -- What is found of a log that was read to its end.
 use Rattle.std.proofs.Common.{◌≡◌, inl, ℕ, ◌-◌, List, length, refl, ap, arith, length-take}
 use Rattle.object.specs.declared.command.Command.{Command}
-use Rattle.bean_queue.specs.declared.op.Op.{Op}
+use Rattle.bean_words.specs.declared.op.Op.{Op}
 use Rattle.command_log.specs.declared.whole.Whole.{Whole}
 use Rattle.command_log.specs.Reading.{IsWholeLog}
 use Rattle.beanpax.specs.Verdicts.{CountsLog}

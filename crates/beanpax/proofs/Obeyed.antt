@@ -2,8 +2,8 @@
 use Rattle.std.proofs.Common.{◌≡◌, ℕ, zero, suc, Bool, List, [], ◌∷◌, Option, None, Some, Ok, map, refl, sym, ap, ap₂, subst, ◌∙◌}
 use Rattle.object.specs.declared.command.Act.TheVariants.{Do}
 use Rattle.object.specs.declared.command.Key.{Key}
-use Rattle.bean_queue.specs.declared.op.Op.{Op}
-use Rattle.bean_queue.specs.declared.reply.Reply.{Reply}
+use Rattle.bean_words.specs.declared.op.Op.{Op}
+use Rattle.bean_words.specs.declared.reply.Reply.{Reply}
 use Rattle.bean_queue.specs.Queue.{QueueState}
 use Rattle.session.specs.Items.{Response}
 use Rattle.session.specs.Items.Response.{Replied, Refused}

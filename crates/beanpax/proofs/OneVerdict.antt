@@ -4,8 +4,8 @@ use Rattle.std.proofs.Common.{sym, ap, ap₂, subst, append_assoc, append-nil, l
 use Rattle.std.proofs.lemmas.List.{drop_at}
 use Rattle.object.specs.Lists.{IsBeginning}
 use Rattle.object.specs.declared.command.Command.{Command}
-use Rattle.bean_queue.specs.declared.op.Op.{Op}
-use Rattle.bean_queue.specs.declared.reply.Reply.{Reply}
+use Rattle.bean_words.specs.declared.op.Op.{Op}
+use Rattle.bean_words.specs.declared.reply.Reply.{Reply}
 use Rattle.recorder.specs.Chronicles.{Chronicle}
 use Rattle.chronicle.specs.CheckFaults.{IsFaultAt}
 use Rattle.chronicle.specs.Checking.{IsFaultless}

@@ -1,7 +1,7 @@
 -- A server that starts from a log with a hall that keeps all.
 use Rattle.std.specs.Prelude.{◌≡◌, ℕ, false, List, [], ◌++◌, length, Option}
 use Rattle.object.specs.declared.command.Command.{Command}
-use Rattle.bean_queue.specs.declared.op.Op.{Op}
+use Rattle.bean_words.specs.declared.op.Op.{Op}
 use Rattle.hall.specs.Halls.{has_unplaced}
 use Rattle.log_file.specs.Logs.{HoldsLog}
 use Rattle.log_file.specs.declared.file.OpenedLog.{OpenedLog}

@@ -1,7 +1,7 @@
 -- A simulated hall as a service.
 use Rattle.std.specs.Prelude.{◌≡◌, Bool, Some, Result, Ok, Err}
-use Rattle.bean_queue.specs.declared.op.Op.{Op}
-use Rattle.bean_queue.specs.declared.reply.Reply.{Reply}
+use Rattle.bean_words.specs.declared.op.Op.{Op}
+use Rattle.bean_words.specs.declared.reply.Reply.{Reply}
 use Rattle.bean_queue.specs.Queue.{QueueState}
 use Rattle.session.specs.declared.faults.ServiceFault.{ServiceFault}
 use Rattle.session.specs.declared.faults.ServiceFault.TheVariants.{Refused, Stopped}

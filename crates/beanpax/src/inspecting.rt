@@ -9,7 +9,7 @@ use crate::faults::{ProgramFault, file_fault};
 use crate::host::Host;
 use crate::inspecting_log::inspect_log;
 use crate::verdict::Verdict;
-use bean_queue::{Op, Reply};
+use bean_words::{Op, Reply};
 use chronicle::{CheckFault, Chronicle, ReadFault, check, read_text};
 use session::{ByteOut, write_all};
 use std::alloc::{AllocError, Global};

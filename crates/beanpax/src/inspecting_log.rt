@@ -3,7 +3,7 @@ ghost use Rattle.command_log.specs.Progress.{HasRead};
 ghost use Rattle.beanpax.specs.Verdicts.{IsLogVerdict};
 
 use crate::verdict::Verdict;
-use bean_queue::Op;
+use bean_words::Op;
 use command_log::{LogFault, LogReader};
 use object::Command;
 use std::alloc::{AllocError, Global};

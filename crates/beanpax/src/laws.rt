@@ -1,8 +1,8 @@
 ghost use Rattle.std.specs.Prelude.{◌≡◌, ℕ, Bool, List, map};
 ghost use Rattle.object.specs.Happenings.{SubmittedOnce};
 ghost use Rattle.bean_queue.specs.Holds.{HasOneHolder};
-ghost use Rattle.bean_queue.specs.declared.op.Op.{Op};
-ghost use Rattle.bean_queue.specs.declared.reply.Reply.{Reply};
+ghost use Rattle.bean_words.specs.declared.op.Op.{Op};
+ghost use Rattle.bean_words.specs.declared.reply.Reply.{Reply};
 ghost use Rattle.chronicle.specs.Checking.{IsFaultless};
 ghost use Rattle.bean_queue.specs.Effects.{queue_rules};
 ghost use Rattle.hall.specs.Explained.{IsExplained};

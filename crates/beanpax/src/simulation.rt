@@ -5,7 +5,8 @@ ghost use Rattle.bean_queue.specs.Effects.{queue_rules};
 ghost use Rattle.beanpax.specs.Sessions.{queue};
 
 use ballot::Members;
-use bean_queue::{Op, Queue, Reply};
+use bean_queue::Queue;
+use bean_words::{Op, Reply};
 use session::{Service, ServiceFault};
 use simulated_hall::{SimulatedHall, Unanswered};
 use std::alloc::{AllocError, Global};

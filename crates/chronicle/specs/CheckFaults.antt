@@ -3,8 +3,8 @@ use Rattle.std.specs.Prelude.{◌≡◌, ⊤, ℕ, ◌+◌, ◌⊎◌, true, fal
 use Rattle.object.specs.Happenings.{submitted_key}
 use Rattle.object.specs.Keys.{stands}
 use Rattle.object.specs.declared.command.Key.{Key}
-use Rattle.bean_queue.specs.declared.op.Op.{Op}
-use Rattle.bean_queue.specs.declared.reply.Reply.{Reply}
+use Rattle.bean_words.specs.declared.op.Op.{Op}
+use Rattle.bean_words.specs.declared.reply.Reply.{Reply}
 use Rattle.chronicle.specs.declared.check_fault.CheckFault.{CheckFault}
 use Rattle.chronicle.specs.declared.check_fault.CheckFault.TheVariants.{OutOfMemory, At}
 use Rattle.chronicle.specs.declared.check_fault.What.{What}

@@ -5,8 +5,8 @@ use Rattle.object.specs.declared.command.Answer.{Answer}
 use Rattle.object.specs.declared.command.Command.{Command}
 use Rattle.object.specs.declared.command.Key.{Key}
 use Rattle.object.specs.declared.command.Submission.{Submission}
-use Rattle.bean_queue.specs.declared.op.Op.{Op}
-use Rattle.bean_queue.specs.declared.reply.Reply.{Reply}
+use Rattle.bean_words.specs.declared.op.Op.{Op}
+use Rattle.bean_words.specs.declared.reply.Reply.{Reply}
 use Rattle.recorder.specs.Chronicles.{Chronicle}
 use Rattle.chronicle.specs.Sizes.{HasKeySizes, HasOpSizes, HasActSizes}
 use Rattle.chronicle.specs.Values.{IsLong, IsReplyValue}

@@ -1,8 +1,8 @@
 -- Which text is read, and where reading stops.
 use Rattle.std.specs.Prelude.{◌≡◌, ℕ, suc, List, [], ◌∷◌, ◌++◌, map, length}
 use Rattle.object.specs.Lists.{IsBeginning}
-use Rattle.bean_queue.specs.declared.op.Op.{Op}
-use Rattle.bean_queue.specs.declared.reply.Reply.{Reply}
+use Rattle.bean_words.specs.declared.op.Op.{Op}
+use Rattle.bean_words.specs.declared.reply.Reply.{Reply}
 use Rattle.recorder.specs.Chronicles.{Chronicle}
 use Rattle.chronicle.specs.Dump.{head_lines, happening_line, order_line, end_line, dump_text}
 use Rattle.chronicle.specs.Happenings.{happenings}

@@ -9,8 +9,8 @@ use Rattle.object.specs.declared.command.Key.{Key}
 use Rattle.bean_queue.specs.Effects.{effect}
 use Rattle.bean_queue.specs.Places.{queue_replay}
 use Rattle.bean_queue.specs.Queue.{QueueState}
-use Rattle.bean_queue.specs.declared.op.Op.{Op}
-use Rattle.bean_queue.specs.declared.reply.Reply.{Reply}
+use Rattle.bean_words.specs.declared.op.Op.{Op}
+use Rattle.bean_words.specs.declared.reply.Reply.{Reply}
 use Rattle.chronicle.specs.declared.check_fault.CheckFault.{CheckFault}
 use Rattle.chronicle.specs.declared.check_fault.CheckFault.TheVariants.{OutOfMemory, At}
 use Rattle.chronicle.specs.declared.replay.Given.{Given}

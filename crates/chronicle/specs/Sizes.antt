@@ -3,10 +3,10 @@ use Rattle.std.specs.Prelude.{ℕ, ⊤, Some}
 use Rattle.object.specs.declared.command.Act.{Act}
 use Rattle.object.specs.declared.command.Act.TheVariants.{Do}
 use Rattle.object.specs.declared.command.Key.{Key}
-use Rattle.job_store.specs.Names.{IsName}
-use Rattle.bean_queue.specs.declared.op.Op.{Op}
-use Rattle.bean_queue.specs.declared.op.Op.TheVariants.{Put, Use, Watch, Ignore, Reserve, Delete, Touch, Release, Bury, Kick, KickJob, Peek, Pause}
-use Rattle.bean_queue.specs.declared.op.Op.TheVariants.{ReserveJob, StatsJob, StatsTube}
+use Rattle.bean_words.specs.Names.{IsName}
+use Rattle.bean_words.specs.declared.op.Op.{Op}
+use Rattle.bean_words.specs.declared.op.Op.TheVariants.{Put, Use, Watch, Ignore, Reserve, Delete, Touch, Release, Bury, Kick, KickJob, Peek, Pause}
+use Rattle.bean_words.specs.declared.op.Op.TheVariants.{ReserveJob, StatsJob, StatsTube}
 use Rattle.hex.specs.Hex.{IsBytes}
 
 -- the numbers of a key are so

@@ -7,13 +7,13 @@ use Rattle.ballot.specs.Members.{is_weight}
 use Rattle.object.specs.declared.command.Act.{Act}
 use Rattle.object.specs.declared.command.Act.TheVariants.{Do, Close, Tick}
 use Rattle.object.specs.declared.command.Key.{Key}
-use Rattle.bean_queue.specs.declared.op.Op.{Op}
-use Rattle.bean_queue.specs.declared.op.Op.TheVariants.{Put}
-use Rattle.bean_queue.specs.declared.reply.Reply.{Reply}
-use Rattle.bean_queue.specs.declared.reply.Reply.TheVariants.{Inserted, Using, Watching, NotIgnored, Reserved}
-use Rattle.bean_queue.specs.declared.reply.Reply.TheVariants.{DeadlineSoon, TimedOut, Deleted, NotFound, Released}
-use Rattle.bean_queue.specs.declared.reply.Reply.TheVariants.{Buried, Touched, KickedCount, Kicked, Found, Tubes}
-use Rattle.bean_queue.specs.declared.reply.Reply.TheVariants.{Paused, Data, InternalError}
+use Rattle.bean_words.specs.declared.op.Op.{Op}
+use Rattle.bean_words.specs.declared.op.Op.TheVariants.{Put}
+use Rattle.bean_words.specs.declared.reply.Reply.{Reply}
+use Rattle.bean_words.specs.declared.reply.Reply.TheVariants.{Inserted, Using, Watching, NotIgnored, Reserved}
+use Rattle.bean_words.specs.declared.reply.Reply.TheVariants.{DeadlineSoon, TimedOut, Deleted, NotFound, Released}
+use Rattle.bean_words.specs.declared.reply.Reply.TheVariants.{Buried, Touched, KickedCount, Kicked, Found, Tubes}
+use Rattle.bean_words.specs.declared.reply.Reply.TheVariants.{Paused, Data, InternalError}
 use Rattle.bean_codec.specs.declared.profile.Profile.TheVariants.{Extended}
 use Rattle.bean_codec.specs.declared.command.CommandName.{CommandName}
 use Rattle.bean_codec.specs.declared.command.CommandName.TheVariants as command

@@ -1,12 +1,12 @@
 ghost use Rattle.std.specs.Prelude.{◌≡◌, ◌++◌, ◌∷◌, [], take, vec_len, codes, decimal, OnOk};
-ghost use Rattle.job_store.specs.Names.{IsName};
+ghost use Rattle.bean_words.specs.Names.{IsName};
 ghost use Rattle.chronicle.specs.Acts.{op_words, act_words};
 ghost use Rattle.chronicle.specs.Lines.{spaced, body_word};
 ghost use Rattle.chronicle.specs.Values.{IsActValue, IsOpValue};
 ghost use Rattle.hex.specs.Hex.{IsBytes};
 
 use crate::append::{append_body, append_count, append_number, append_two, append_word};
-use bean_queue::{Body, Name, Op};
+use bean_words::{Body, Name, Op};
 use object::Act;
 use std::alloc::AllocError;
 

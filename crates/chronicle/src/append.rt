@@ -1,10 +1,10 @@
 ghost use Rattle.std.specs.Prelude.{◌≡◌, ◌++◌, ◌∷◌, [], map, take, vec_len, decimal, OnOk};
 ghost use Rattle.std.specs.List.{AllByRecursion};
 ghost use Rattle.hex.specs.Hex.{IsBytes};
-ghost use Rattle.job_store.specs.Names.{IsName};
+ghost use Rattle.bean_words.specs.Names.{IsName};
 ghost use Rattle.chronicle.specs.Lines.{after_space, spaced, body_word};
 
-use bean_queue::Name;
+use bean_words::Name;
 use itoa::Buffer;
 use std::alloc::AllocError;
 

@@ -2,7 +2,7 @@ ghost use Rattle.std.specs.Prelude.{Bool, IfOk, IfErr, OnOk};
 ghost use Rattle.object.specs.Legal.{IsLegal};
 ghost use Rattle.bean_queue.specs.Holds.{IsGivenOnce, IsHeldByOne};
 ghost use Rattle.bean_queue.specs.Places.{queue_places};
-ghost use Rattle.bean_queue.specs.declared.op.Op.{Op};
+ghost use Rattle.bean_words.specs.declared.op.Op.{Op};
 ghost use Rattle.chronicle.specs.Checking.{AreRightPlaces, IsFaultless, ordered_commands};
 ghost use Rattle.bean_queue.specs.Effects.{queue_rules};
 ghost use Rattle.chronicle.specs.CheckFaults.{IsCheckFault};
@@ -14,7 +14,7 @@ use crate::first_places::first_places;
 use crate::laws::faultless_is_legal;
 use crate::replay::obey_order;
 use crate::walk::{Replayed, check_happenings};
-use bean_queue::{Op, Reply};
+use bean_words::{Op, Reply};
 use recorder::Chronicle;
 use std::alloc::Global;
 

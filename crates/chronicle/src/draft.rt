@@ -5,7 +5,7 @@ ghost use Rattle.chronicle.specs.Entries.{IsEntryValue};
 use crate::entry::Entry;
 use crate::version::Version;
 use ballot::Members;
-use bean_queue::{Op, Reply};
+use bean_words::{Op, Reply};
 use recorder::Chronicle;
 use std::alloc::{AllocError, Global};
 

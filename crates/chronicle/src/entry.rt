@@ -9,7 +9,7 @@ use crate::tell::entry_of_words;
 use crate::version::Version;
 use ballot::Members;
 use bean_codec::Words;
-use bean_queue::{Op, Reply};
+use bean_words::{Op, Reply};
 use object::{Answer, Command, Key};
 use std::alloc::{AllocError, Global};
 

@@ -7,7 +7,7 @@ use crate::acts::append_act;
 use crate::append::{append_number, append_numbers};
 use crate::replies::append_reply;
 use crate::version::Version;
-use bean_queue::{Op, Reply};
+use bean_words::{Op, Reply};
 use object::{Answer, Command, Key};
 use std::alloc::AllocError;
 

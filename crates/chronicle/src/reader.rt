@@ -6,7 +6,7 @@ ghost use Rattle.chronicle.specs.Faults.{IsReadFault};
 use crate::draft::ChronicleDraft;
 use crate::entry::read_entry;
 use crate::faults::ReadFault;
-use bean_queue::{Op, Reply};
+use bean_words::{Op, Reply};
 use bstr::ByteSlice;
 use recorder::Chronicle;
 use std::alloc::Global;

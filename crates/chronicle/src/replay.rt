@@ -8,7 +8,8 @@ ghost use Rattle.chronicle.specs.Replaying.{HasFirstPlaces, AreGiven, IsOrderFau
 
 use crate::check_fault::{CheckFault, What};
 use crate::version::first_line;
-use bean_queue::{Op, Queue, Reply};
+use bean_queue::Queue;
+use bean_words::{Op, Reply};
 use object::{Answer, Command, Effect, Key, Keyed, Once, filter_remembers};
 use recorder::Chronicle;
 use std::alloc::{AllocError, Global};

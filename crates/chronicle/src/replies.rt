@@ -4,10 +4,10 @@ ghost use Rattle.chronicle.specs.Replies.{reply_words};
 ghost use Rattle.chronicle.specs.Values.{IsReplyValue};
 ghost use Rattle.std.specs.List.{AllByRecursion};
 ghost use Rattle.hex.specs.Hex.{IsBytes};
-ghost use Rattle.job_store.specs.Names.{IsName};
+ghost use Rattle.bean_words.specs.Names.{IsName};
 
 use crate::append::{append_body, append_count, append_job, append_names, append_two, append_word};
-use bean_queue::{Body, Name, Reply};
+use bean_words::{Body, Name, Reply};
 use std::alloc::AllocError;
 
 /// Writes the words for a reply at the end, each after a space. Where memory runs out, a part of them may stand there.

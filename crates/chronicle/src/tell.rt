@@ -6,7 +6,7 @@ use crate::tell_acts::act_of;
 use crate::tell_head::{members_of_words, version_of_words, weights_of};
 use crate::tell_replies::reply_of;
 use bean_codec::{Words, u32_of, u64_of};
-use bean_queue::Op;
+use bean_words::Op;
 use object::{Act, Answer, Command, Key};
 use std::alloc::{AllocError, Global};
 

@@ -2,7 +2,7 @@ ghost use Rattle.std.specs.Prelude.{◌≡◌, IfOk};
 ghost use Rattle.chronicle.specs.Told as told;
 
 use bean_codec::{CommandName, Meaning, Profile, Request, Words, command_of, line_of, u32_of};
-use bean_queue::{Body, Op};
+use bean_words::{Body, Op};
 use hex::FromHexError;
 use object::Act;
 use std::alloc::{AllocError, Global};

@@ -3,7 +3,7 @@ ghost use Rattle.chronicle.specs.Told as told;
 
 use crate::tell_acts::body_of;
 use bean_codec::{Words, name_of, u64_of};
-use bean_queue::{Body, Names, Reply};
+use bean_words::{Body, Names, Reply};
 use std::alloc::{AllocError, Global};
 
 /// The reply that the words tell.

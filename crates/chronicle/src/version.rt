@@ -2,7 +2,7 @@ ghost use Rattle.std.specs.Prelude.{◌≡◌, ◌≤◌};
 ghost use Rattle.chronicle.specs.Dump.{first_line, version_of};
 
 use ballot::Members;
-use bean_queue::{Op, Reply};
+use bean_words::{Op, Reply};
 use recorder::Chronicle;
 
 /// The form of a dump.

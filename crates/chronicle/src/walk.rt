@@ -13,7 +13,8 @@ ghost use Rattle.chronicle.specs.Walks.{IsReplayed, HasWalked, IsMisplaced, IsNo
 use crate::check_fault::{CheckFault, What};
 use crate::replay::Given;
 use crate::version::first_line;
-use bean_queue::{Op, Reply, one_answer};
+use bean_queue::one_answer;
+use bean_words::{Op, Reply};
 use object::{Answer, Key, Submission, Value};
 use recorder::Chronicle;
 use std::collections::BTreeMap;

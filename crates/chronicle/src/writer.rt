@@ -7,7 +7,7 @@ ghost use Rattle.chronicle.specs.Lines.{text_of_lines};
 ghost use Rattle.chronicle.specs.Values.{IsAnswerValue, IsChronicleValue, IsCommandValue, IsKeyValue};
 ghost use Rattle.object.specs.Happenings.{IsTimeline};
 ghost use Rattle.object.specs.declared.command.Submission.{Submission};
-ghost use Rattle.bean_queue.specs.declared.op.Op.{Op};
+ghost use Rattle.bean_words.specs.declared.op.Op.{Op};
 
 use crate::lines::{
     append_answer, append_end, append_members, append_place, append_submission, append_version,
@@ -15,7 +15,7 @@ use crate::lines::{
 };
 use crate::version::Version;
 use ballot::Members;
-use bean_queue::{Op, Reply};
+use bean_words::{Op, Reply};
 use object::{Answer, Key, Submission};
 use recorder::Chronicle;
 use std::alloc::AllocError;

@@ -3,7 +3,7 @@ use Rattle.std.proofs.Common.{◌≡◌, ℕ, suc, ◌-◌, ◌<◌, ◌^◌, Li
 use Rattle.std.proofs.Common.{Result, Ok, Err, append-nil, append_assoc, length-append}
 use Rattle.std.specs.Prelude.{IfOk}
 use Rattle.object.specs.declared.command.Command.{Command}
-use Rattle.bean_queue.specs.declared.op.Op.{Op}
+use Rattle.bean_words.specs.declared.op.Op.{Op}
 use Rattle.chronicle.specs.Lines.{NoFeed}
 use Rattle.chronicle.proofs.spelling.EntryLines.{feeds}
 use Rattle.command_log.specs.declared.line.TheConstants.{MAX_LINE}

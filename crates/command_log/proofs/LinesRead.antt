@@ -2,7 +2,7 @@
 use Rattle.std.proofs.Common.{◌≡◌, ℕ, ◌≤◌, List, length, Option, Some, None, Result, Ok, Err, sym, ap, subst, ◌∙◌}
 use Rattle.std.specs.Prelude.{IfOk}
 use Rattle.object.specs.declared.command.Command.{Command}
-use Rattle.bean_queue.specs.declared.op.Op.{Op}
+use Rattle.bean_words.specs.declared.op.Op.{Op}
 use Rattle.command_log.specs.declared.line.TheConstants.{MAX_LINE}
 use Rattle.command_log.specs.Lines.{IsUnsummed, HoldsCommand, TellsCommand}
 use Rattle.command_log.specs.Text.{command_words, summed, line_of_command}

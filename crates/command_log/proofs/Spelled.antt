@@ -8,7 +8,7 @@ use Rattle.std.specs.List.{list_all}
 use Rattle.std.specs.Prelude.{nat_le}
 use Rattle.object.specs.declared.command.Command.{Command}
 use Rattle.ballot.specs.Members.{IsMembers, is_weight}
-use Rattle.bean_queue.specs.declared.op.Op.{Op}
+use Rattle.bean_words.specs.declared.op.Op.{Op}
 use Rattle.chronicle.specs.declared.entry.Entry.{Entry}
 use Rattle.chronicle.specs.declared.entry.Entry.TheVariants as entry
 use Rattle.chronicle.specs.Dump.{submission_line, weights_line}

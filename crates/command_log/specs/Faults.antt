@@ -1,7 +1,7 @@
 -- Why a command isn't written, and why a text isn't read.
 use Rattle.std.specs.Prelude.{ℕ, ◌<◌, ⊤, List, length}
 use Rattle.object.specs.declared.command.Command.{Command}
-use Rattle.bean_queue.specs.declared.op.Op.{Op}
+use Rattle.bean_words.specs.declared.op.Op.{Op}
 use Rattle.command_log.specs.declared.faults.LogFault.{LogFault}
 use Rattle.command_log.specs.declared.faults.LogFault.TheVariants.{Unbegun, BadHead, Damaged}
 use Rattle.command_log.specs.declared.faults.WriteFault.{WriteFault}

@@ -4,8 +4,8 @@ use Rattle.object.specs.declared.command.Act.{Act}
 use Rattle.object.specs.declared.command.Act.TheVariants.{Do}
 use Rattle.object.specs.declared.command.Command.{Command}
 use Rattle.ballot.specs.Members.{IsMembers}
-use Rattle.bean_queue.specs.declared.op.Op.{Op}
-use Rattle.bean_queue.specs.declared.op.Op.TheVariants.{Put}
+use Rattle.bean_words.specs.declared.op.Op.{Op}
+use Rattle.bean_words.specs.declared.op.Op.TheVariants.{Put}
 use Rattle.chronicle.specs.Lines.{NoFeed}
 use Rattle.chronicle.specs.Values.{IsCommandValue}
 use Rattle.command_log.specs.declared.line.TheConstants.{MAX_LINE}

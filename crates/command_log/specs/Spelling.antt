@@ -1,7 +1,7 @@
 -- What a line of a dump tells, as a line of a log.
 use Rattle.std.specs.Prelude.{ℕ, List, Option, Some, None}
 use Rattle.object.specs.declared.command.Command.{Command}
-use Rattle.bean_queue.specs.declared.op.Op.{Op}
+use Rattle.bean_words.specs.declared.op.Op.{Op}
 use Rattle.chronicle.specs.declared.entry.Entry.{Entry}
 use Rattle.chronicle.specs.declared.entry.Entry.TheVariants.{Weights, Submitted}
 

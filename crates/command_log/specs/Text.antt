@@ -4,7 +4,7 @@ use Rattle.std.specs.List.{flat_map}
 use Rattle.hex.specs.Hex.{encode_lower}
 use Rattle.sha1.specs.Sha1.{sha1}
 use Rattle.object.specs.declared.command.Command.{Command}
-use Rattle.bean_queue.specs.declared.op.Op.{Op}
+use Rattle.bean_words.specs.declared.op.Op.{Op}
 use Rattle.chronicle.specs.Acts.{act_words}
 use Rattle.chronicle.specs.Lines.{after_space, spaced, line}
 

@@ -7,7 +7,7 @@ ghost use Rattle.command_log.specs.Text.{command_words, line_of_command};
 
 use crate::faults::WriteFault;
 use crate::sum::{sum_end, summed_words};
-use bean_queue::Op;
+use bean_words::Op;
 use chronicle::{Entry, append_act, append_number, read_entry};
 use itoa::Buffer;
 use object::Command;

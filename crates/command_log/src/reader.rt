@@ -1,6 +1,6 @@
 ghost use Rattle.std.specs.Prelude.{◌≡◌, ◌-◌, ◌++◌, ℕ, suc, [], List, length, take, IfOk, IfErr, OnOk};
 ghost use Rattle.object.specs.declared.command.Command.{Command};
-ghost use Rattle.bean_queue.specs.declared.op.Op.{Op};
+ghost use Rattle.bean_words.specs.declared.op.Op.{Op};
 ghost use Rattle.chronicle.specs.Lines.{NoFeed};
 ghost use Rattle.command_log.specs.Faults.{IsLogFault};
 ghost use Rattle.command_log.specs.Lines.{IsLogLine};
@@ -12,7 +12,7 @@ use crate::head::agrees_with_head;
 use crate::line::MAX_LINE;
 use crate::stage::Stage;
 use crate::whole::Whole;
-use bean_queue::Op;
+use bean_words::Op;
 use bstr::ByteSlice;
 use object::Command;
 use std::alloc::{AllocError, Global};

@@ -1,12 +1,12 @@
 ghost use Rattle.std.specs.Prelude.{List, IfOk};
 ghost use Rattle.object.specs.declared.command.Command.{Command};
-ghost use Rattle.bean_queue.specs.declared.op.Op.{Op};
+ghost use Rattle.bean_words.specs.declared.op.Op.{Op};
 ghost use Rattle.command_log.specs.Progress.{StepsOn};
 
 use crate::head::read_head;
 use crate::line::read_command;
 use crate::whole::Whole;
-use bean_queue::Op;
+use bean_words::Op;
 use object::Command;
 use std::alloc::{AllocError, Global};
 

@@ -1,8 +1,8 @@
 -- Items that are answered, and one more.
 use Rattle.std.proofs.Common.{◌≡◌, ℕ, List, [], ◌∷◌, ◌++◌, Ok, length, refl, sym, ap, ◌∙◌, length-append, arith}
 use Rattle.std.proofs.lemmas.List.{append-nil}
-use Rattle.bean_queue.specs.declared.op.Op.{Op}
-use Rattle.bean_queue.specs.declared.reply.Reply.{Reply}
+use Rattle.bean_words.specs.declared.op.Op.{Op}
+use Rattle.bean_words.specs.declared.reply.Reply.{Reply}
 use Rattle.bean_codec.specs.declared.request.Fault.{Fault}
 use Rattle.bean_codec.specs.declared.request.Request.TheVariants.{Do, Quit}
 use Rattle.bean_codec.specs.Grammar.{Item}

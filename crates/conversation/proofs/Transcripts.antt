@@ -5,8 +5,8 @@ use Rattle.session.specs.declared.faults.End.{End}
 use Rattle.session.specs.Items.{Response, IsTranscript, operations}
 use Rattle.conversation.specs.declared.stage.Stage.TheVariants.{Left}
 use Rattle.hall.specs.declared.ticket.NotedAct.{NotedAct}
-use Rattle.bean_queue.specs.declared.op.Op.{Op}
-use Rattle.bean_queue.specs.declared.reply.Reply.{Reply}
+use Rattle.bean_words.specs.declared.op.Op.{Op}
+use Rattle.bean_words.specs.declared.reply.Reply.{Reply}
 use Rattle.conversation.specs.Keeping.{Keeping}
 use Rattle.conversation.specs.Talks.{ConversationState}
 use Rattle.conversation.specs.Conversing.{Stands, Converses, noted_replies, replies_among}

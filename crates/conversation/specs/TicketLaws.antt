@@ -3,8 +3,8 @@ use Rattle.std.specs.Prelude.{◌≡◌, ◌<◌, ◌-◌, List, [], ◌∷◌, 
 use Rattle.std.proofs.Common.{sym, ap, ◌∙◌, length-append, arith}
 use Rattle.std.proofs.lemmas.Option.{slice_get-get_or}
 use Rattle.std.proofs.Math.Seq.{get_or-append_seam}
-use Rattle.bean_queue.specs.declared.op.Op.{Op}
-use Rattle.bean_queue.specs.declared.reply.Reply.{Reply}
+use Rattle.bean_words.specs.declared.op.Op.{Op}
+use Rattle.bean_words.specs.declared.reply.Reply.{Reply}
 use Rattle.hall.specs.declared.ticket.NotedAct.{NotedAct}
 use Rattle.hall.specs.Tickets.{TicketState, noted_reply, with_last_reply, with_noted}
 use Rattle.conversation.specs.Keeping.{KeepsActs, noted_op, unanswered}

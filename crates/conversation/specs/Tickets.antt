@@ -1,8 +1,8 @@
 -- The two kinds of tickets: one has all acts of its session, the other the reply to the last act alone.
 use Rattle.std.specs.Prelude.{◌≡◌, ℕ, ◌-◌, List, length, slice_get, Option, None, Some}
 use Rattle.object.specs.declared.command.Act.{Act}
-use Rattle.bean_queue.specs.declared.op.Op.{Op}
-use Rattle.bean_queue.specs.declared.reply.Reply.{Reply}
+use Rattle.bean_words.specs.declared.op.Op.{Op}
+use Rattle.bean_words.specs.declared.reply.Reply.{Reply}
 use Rattle.hall.specs.declared.ticket.NotedAct.{NotedAct}
 use Rattle.hall.specs.Tickets.{TicketState, last_noted, noted_reply, with_act, with_noted}
 use Rattle.conversation.specs.Keeping.{Keeping}

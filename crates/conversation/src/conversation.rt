@@ -10,7 +10,7 @@ use crate::desk::Desk;
 use crate::session_ticket::SessionTicket;
 use crate::stage::Stage;
 use bean_codec::{Profile, Request};
-use bean_queue::Op;
+use bean_words::Op;
 use hall::HallError;
 use object::Act;
 use session::{End, Session};

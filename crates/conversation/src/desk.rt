@@ -1,11 +1,11 @@
 ghost use Rattle.std.specs.Prelude.{◌≡◌, Option, Result, is_some, IfOk, OnOk, OnErr};
 ghost use Rattle.object.specs.declared.command.Act.{Act};
-ghost use Rattle.bean_queue.specs.declared.op.Op.{Op};
-ghost use Rattle.bean_queue.specs.declared.reply.Reply.{Reply};
+ghost use Rattle.bean_words.specs.declared.op.Op.{Op};
+ghost use Rattle.bean_words.specs.declared.reply.Reply.{Reply};
 ghost use Rattle.hall.specs.declared.error.HallError.{HallError};
 
 use crate::session_ticket::SessionTicket;
-use bean_queue::Op;
+use bean_words::Op;
 use hall::HallError;
 use object::Act;
 use std::alloc::AllocError;

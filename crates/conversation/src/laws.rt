@@ -1,6 +1,6 @@
 ghost use Rattle.std.specs.Prelude.{◌≡◌, Some, ℕ, List, []};
-ghost use Rattle.bean_queue.specs.declared.op.Op.{Op};
-ghost use Rattle.bean_queue.specs.declared.reply.Reply.{Reply};
+ghost use Rattle.bean_words.specs.declared.op.Op.{Op};
+ghost use Rattle.bean_words.specs.declared.reply.Reply.{Reply};
 ghost use Rattle.session.specs.declared.faults.End.{End};
 ghost use Rattle.session.specs.Items.{Response, IsTranscript};
 ghost use Rattle.hall.specs.declared.ticket.NotedAct.{NotedAct};

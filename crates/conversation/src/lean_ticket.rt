@@ -3,7 +3,7 @@ ghost use Rattle.std.specs.Option.{option_copied};
 ghost use Rattle.conversation.specs.Tickets.{LeanTicketState, lean_with_noted};
 
 use crate::session_ticket::SessionTicket;
-use bean_queue::Reply;
+use bean_words::Reply;
 use std::marker::Model;
 
 /// The ticket of a session at a hall that forgets: it has the reply to the last act alone, once that is noted.

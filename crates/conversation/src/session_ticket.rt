@@ -2,7 +2,7 @@ ghost use Rattle.std.specs.Prelude.{◌≡◌};
 ghost use Rattle.std.specs.Option.{option_copied};
 ghost use Rattle.conversation.specs.Keeping.{Keeping, KeepsActs};
 
-use bean_queue::{Op, Reply};
+use bean_words::{Op, Reply};
 use hall::Ticket;
 use object::Object;
 

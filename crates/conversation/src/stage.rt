@@ -1,7 +1,7 @@
 ghost use Rattle.std.specs.Prelude.{◌≡◌};
 ghost use Rattle.conversation.specs.Talks.{stage_at_end, stage_once_gone};
 
-use bean_queue::Op;
+use bean_words::Op;
 use session::End;
 
 /// Where a conversation stands.

@@ -1,4 +1,3 @@
-pub mod naming
 pub mod maps
 pub mod least
 pub mod shelving

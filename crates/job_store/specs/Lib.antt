@@ -1,5 +1,3 @@
-pub mod Names
-pub mod NameSets
 pub mod Entries
 pub mod EntryLaws
 pub mod Histories

@@ -20,7 +20,3 @@ pub record ChangesOne {K : Type 0} (cmp : K → K → Ordering) (k : K) (old new
     (How : ShelfState → ShelfState → Type 0) : Type 0 where
   pub change : How (shelf_at cmp old k) (shelf_at cmp new k)
   pub others : AreOthersKept cmp k old new
-
--- the order of names: that of their bytes
-abbrev pub name_cmp : List ℕ → List ℕ → Ordering
-name_cmp = slice_cmp nat_cmp

@@ -13,7 +13,8 @@ use Rattle.job_store.specs.Least.{IsLeast, NonePasses, least}
 use Rattle.job_store.specs.States.{is_ready, is_scheduled}
 use Rattle.job_store.specs.LookUps.{delayed_in, buried_in, reserved_in, held_by, is_after, pri_of_job, due_of_job, rank_of_job}
 use Rattle.job_store.specs.ShelfStates.{ShelfState, IsFrom, IsFound}
-use Rattle.job_store.specs.Racks.{shelf_at, name_cmp}
+use Rattle.job_store.specs.Racks.{shelf_at}
+use Rattle.bean_words.specs.Names.{name_cmp}
 use Rattle.job_store.specs.Spots.{spot_of}
 
 -- whether a job belongs on the shelf

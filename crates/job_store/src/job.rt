@@ -1,9 +1,8 @@
 ghost use Rattle.std.specs.Prelude.{◌≡◌, true};
 
-use crate::body::Body;
 use crate::history::History;
-use crate::name::Name;
 use crate::state::State;
+use bean_words::{Body, Name};
 use object::Value;
 use std::alloc::AllocError;
 

@@ -10,10 +10,10 @@ ghost use Rattle.job_store.specs.Tallies.{tally_in, tally_all};
 
 use crate::job::Job;
 use crate::mark::Mark;
-use crate::name::Name;
 use crate::state::State;
 use crate::stored_job::StoredJob;
 use crate::tally::Tally;
+use bean_words::Name;
 use indexmap::IndexSet;
 use std::alloc::{AllocError, Global};
 use std::collections::{BTreeMap, BTreeSet};

@@ -2,7 +2,7 @@ ghost use Rattle.std.specs.Prelude.{◌≡◌, ◌↔◌, ℕ, List, [], ◌∷�
 ghost use Rattle.std.specs.Map.{keys_of};
 ghost use Rattle.object.specs.Lists.{In};
 ghost use Rattle.job_store.specs.Least.{NonePasses, first_of};
-ghost use Rattle.job_store.specs.NameSets.{AddsOnly};
+ghost use Rattle.bean_words.specs.NameSets.{AddsOnly};
 ghost use Rattle.job_store.specs.Shelves.{FindsFirst};
 ghost use Rattle.job_store.specs.LookUps.{pri_of_job, due_of_job, ready_in, reserved_in, has_jobs, AreReadyPlaces};
 
@@ -13,8 +13,6 @@ use crate::label::Label;
 use crate::logged_jobs::LoggedJobs;
 use crate::mark::Mark;
 use crate::moves::{follow, go_back, move_to, move_to_state, store, sweep};
-use crate::name::Name;
-use crate::name_set::add_name;
 use crate::rack::Rack;
 use crate::shelf_number::ShelfNumber;
 use crate::shelves::Shelves;
@@ -23,6 +21,7 @@ use crate::state::State;
 use crate::stored_job::StoredJob;
 use crate::tallies::{tally_all, tally_in};
 use crate::tally::Tally;
+use bean_words::{Name, add_name};
 use indexmap::IndexSet;
 use std::alloc::{AllocError, Global};
 use std::collections::{BTreeMap, BTreeSet};

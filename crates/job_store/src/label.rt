@@ -5,9 +5,9 @@ ghost use Rattle.job_store.specs.Entries.{Rising};
 ghost use Rattle.job_store.specs.Shelves.{belongs, number, belongs_at, BelongsAt};
 
 use crate::job::Job;
-use crate::name::Name;
 use crate::state::State;
 use crate::stored_job::StoredJob;
+use bean_words::Name;
 use std::collections::BTreeMap;
 
 /// Which jobs stand on a shelf.

@@ -1,7 +1,6 @@
-//! The jobs of a work queue: names of tubes, bodies, states, and the map of jobs by id with its least look-ups.
+//! The jobs of a work queue: their states, and the map of jobs by id with its least look-ups.
 #![tactic(auto)]
 
-mod body;
 mod change;
 mod changes;
 mod count;
@@ -14,11 +13,7 @@ mod laws;
 mod logged_jobs;
 mod mark;
 mod moves;
-mod name;
-mod name_bytes;
-mod name_set;
 mod rack;
-mod shared_bytes;
 mod shelf;
 mod shelf_number;
 mod shelves;
@@ -29,7 +24,7 @@ mod tallies;
 mod tally;
 mod undo;
 
-pub use body::Body;
+pub use bean_words::{Body, Name};
 pub use history::History;
 pub use job::Job;
 pub use job_map::JobMap;
@@ -37,8 +32,6 @@ pub use jobs::{Jobs, more_urgent};
 pub use laws::{among_is_member, least_is_least};
 pub use logged_jobs::LoggedJobs;
 pub use mark::Mark;
-pub use name::Name;
-pub use name_set::add_name;
 pub use state::State;
 pub use stored_job::StoredJob;
 pub use tally::Tally;

@@ -10,12 +10,12 @@ ghost use Rattle.job_store.specs.Shelves.{shelf, places, lists, belongs, Belongs
 
 use crate::job::Job;
 use crate::label::Label;
-use crate::name::Name;
 use crate::rack::Rack;
 use crate::shelf::Shelf;
 use crate::spot::Spot;
 use crate::state::State;
 use crate::stored_job::StoredJob;
+use bean_words::Name;
 use object::Value;
 use std::alloc::{AllocError, Global};
 use std::collections::BTreeMap;

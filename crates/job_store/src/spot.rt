@@ -2,8 +2,8 @@ ghost use Rattle.std.specs.Prelude.{◌≡◌, IfOk};
 ghost use Rattle.job_store.specs.Spots.{spot_of};
 
 use crate::job::Job;
-use crate::name::Name;
 use crate::state::State;
+use bean_words::Name;
 use object::Value;
 use std::alloc::AllocError;
 

@@ -2,10 +2,10 @@ ghost use Rattle.std.specs.Prelude.{◌≡◌};
 ghost use Rattle.job_store.specs.Shelves.{HoldJobs};
 ghost use Rattle.job_store.specs.Tallies.{tally_in, tally_all};
 
-use crate::name::Name;
 use crate::shelves::Shelves;
 use crate::stored_job::StoredJob;
 use crate::tally::Tally;
+use bean_words::Name;
 use std::collections::BTreeMap;
 
 /// How many jobs of a tube are in each state. It goes over the jobs only where some are listed as ones that went: else

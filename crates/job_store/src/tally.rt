@@ -1,9 +1,9 @@
 ghost use Rattle.std.specs.Prelude.{◌≡◌, ◌∷◌, [], ℕ};
 
 use crate::job::Job;
-use crate::name::Name;
 use crate::state::State;
 use crate::stored_job::StoredJob;
+use bean_words::Name;
 use std::collections::BTreeMap;
 
 /// A ready job is urgent where its priority is below this.

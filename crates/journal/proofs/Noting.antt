@@ -3,7 +3,7 @@ use Rattle.std.proofs.Common.{◌≡◌, ◌<◌, ◌+◌, ℕ, Option, List, []
 use Rattle.std.proofs.lemmas.List.{append_assoc, drop_more}
 use lib.ListN.{get_or}
 use Rattle.object.specs.declared.command.Command.{Command}
-use Rattle.bean_queue.specs.declared.op.Op.{Op}
+use Rattle.bean_words.specs.declared.op.Op.{Op}
 use Rattle.log_file.specs.Logs.{HoldsLog}
 use Rattle.log_file.specs.States.{LogState}
 use Rattle.journal.specs.Waiting.{HoldsAll}

@@ -1,7 +1,7 @@
 -- A log, and what waits to be written to it.
 use Rattle.std.specs.Prelude.{◌≡◌, ℕ, List, ◌++◌, Option}
 use Rattle.object.specs.declared.command.Command.{Command}
-use Rattle.bean_queue.specs.declared.op.Op.{Op}
+use Rattle.bean_words.specs.declared.op.Op.{Op}
 use Rattle.log_file.specs.Logs.{HoldsLog}
 use Rattle.log_file.specs.States.{LogState}
 use Rattle.log_file.specs.declared.faults.KeepFault.TheVariants as keep

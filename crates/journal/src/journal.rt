@@ -1,12 +1,12 @@
 ghost use Rattle.std.specs.Prelude.{◌≡◌, ◌↔◌, ◌++◌, ◌⊎◌, ◌<◌, ℕ, List, [], length, true, drop, IsErrOf, IfErr, OnOk, OnErr, IsTrue};
 ghost use Rattle.std.specs.Io.KnownBytes.{Keeps};
 ghost use Rattle.object.specs.declared.command.Command.{Command};
-ghost use Rattle.bean_queue.specs.declared.op.Op.{Op};
+ghost use Rattle.bean_words.specs.declared.op.Op.{Op};
 ghost use Rattle.log_file.specs.Logs.{BeginsLog, HoldsLog};
 ghost use Rattle.journal.specs.Waiting.{HoldsAll, LosesNothing};
 
 use crate::fault::JournalFault;
-use bean_queue::Op;
+use bean_words::Op;
 use log_file::{Durable, LogWriter};
 use object::Command;
 use std::alloc::Global;

@@ -5,7 +5,7 @@ use Rattle.std.specs.List.{AllByRecursion, flat_map}
 use Rattle.object.specs.Lists.{IsBeginning}
 use Rattle.object.specs.declared.command.Command.{Command}
 use Rattle.ballot.specs.Members.{IsMembers}
-use Rattle.bean_queue.specs.declared.op.Op.{Op}
+use Rattle.bean_words.specs.declared.op.Op.{Op}
 use Rattle.command_log.specs.declared.faults.LogFault.{LogFault}
 use Rattle.command_log.specs.declared.faults.LogFault.TheVariants.{Unbegun, BadHead, Damaged}
 use Rattle.command_log.specs.declared.whole.Whole.{Whole}

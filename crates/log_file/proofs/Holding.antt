@@ -4,7 +4,7 @@ use Rattle.std.proofs.Common.{append_assoc, append-nil, take, drop, take-append-
 use Rattle.std.specs.Io.KnownBytes.{Appends}
 use Rattle.object.specs.declared.command.Command.{Command}
 use Rattle.ballot.specs.Members.{IsMembers}
-use Rattle.bean_queue.specs.declared.op.Op.{Op}
+use Rattle.bean_words.specs.declared.op.Op.{Op}
 use Rattle.command_log.specs.Lines.{IsLogged}
 use Rattle.command_log.specs.Text.{head_line, line_of_command}
 use Rattle.command_log.proofs.Logs.{all_last, log_first, log_last}

@@ -5,7 +5,7 @@ use Rattle.std.proofs.Common.{append-nil, length-append, length-take}
 use Rattle.std.proofs.KnownBytes.{Consumes-nil, Consumes-trans}
 use Rattle.std.specs.Io.KnownBytes.{Consumes, IsAtEnd}
 use Rattle.object.specs.declared.command.Command.{Command}
-use Rattle.bean_queue.specs.declared.op.Op.{Op}
+use Rattle.bean_words.specs.declared.op.Op.{Op}
 use Rattle.command_log.specs.declared.reader.LogReader.{LogReader}
 use Rattle.command_log.specs.declared.whole.Whole.{Whole}
 use Rattle.command_log.specs.Progress.{HasRead, ReadsOn}

@@ -1,7 +1,7 @@
 -- Why a command isn't noted, and why no log is read.
 use Rattle.std.specs.Prelude.{◌≡◌, ℕ, ◌≤◌, ◌<◌, ◌^◌, Bool, true, false, ⊤, List, length, Option}
 use Rattle.object.specs.declared.command.Command.{Command}
-use Rattle.bean_queue.specs.declared.op.Op.{Op}
+use Rattle.bean_words.specs.declared.op.Op.{Op}
 use Rattle.command_log.specs.declared.faults.WriteFault.{WriteFault}
 use Rattle.command_log.specs.declared.faults.WriteFault.TheVariants as write
 use Rattle.command_log.specs.declared.line.TheConstants.{MAX_LINE}

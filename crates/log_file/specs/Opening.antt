@@ -1,7 +1,7 @@
 -- What is opened where a log was read.
 use Rattle.std.specs.Prelude.{◌≡◌, ℕ, ⊤, List, [], Result, Ok, Err}
 use Rattle.object.specs.declared.command.Command.{Command}
-use Rattle.bean_queue.specs.declared.op.Op.{Op}
+use Rattle.bean_words.specs.declared.op.Op.{Op}
 use Rattle.command_log.specs.declared.faults.LogFault.TheVariants.{Unbegun}
 use Rattle.command_log.specs.Reading.{IsWholeLog}
 use Rattle.log_file.specs.declared.faults.ReadFault.{ReadFault}

@@ -10,7 +10,7 @@ use crate::faults::{OpenFault, ReadFault};
 use crate::reader::{Recovered, read_log};
 use crate::writer::LogWriter;
 use ballot::Members;
-use bean_queue::Op;
+use bean_words::Op;
 use command_log::LogFault;
 use object::Command;
 use std::alloc::Global;

@@ -3,7 +3,7 @@ ghost use Rattle.std.specs.List.{AllByRecursion};
 ghost use Rattle.object.specs.Lists.{IsBeginning};
 ghost use Rattle.object.specs.declared.command.Command.{Command};
 ghost use Rattle.ballot.specs.Members.{IsMembers};
-ghost use Rattle.bean_queue.specs.declared.op.Op.{Op};
+ghost use Rattle.bean_words.specs.declared.op.Op.{Op};
 ghost use Rattle.command_log.specs.declared.faults.LogFault.{LogFault};
 ghost use Rattle.command_log.specs.declared.whole.Whole.{Whole};
 ghost use Rattle.command_log.specs.Faults.{IsLogFault};

@@ -5,7 +5,7 @@ ghost use Rattle.log_file.specs.Reads.{IsRecovered, ReadsAll};
 
 use crate::bytes::read_some;
 use crate::faults::ReadFault;
-use bean_queue::Op;
+use bean_words::Op;
 use command_log::{LogReader, Whole};
 use object::Command;
 use std::alloc::Global;

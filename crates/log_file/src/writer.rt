@@ -1,7 +1,7 @@
 ghost use Rattle.std.specs.Prelude.{◌≡◌, ◌<◌, ◌⊎◌, ◌↔◌, ◌++◌, ◌∷◌, ℕ, List, [], true, false, length, Some, IsOk, IsErrOf, IfOk, IfErr, OnOk, OnErr};
 ghost use Rattle.std.specs.Io.KnownBytes.{Keeps};
 ghost use Rattle.object.specs.declared.command.Command.{Command};
-ghost use Rattle.bean_queue.specs.declared.op.Op.{Op};
+ghost use Rattle.bean_words.specs.declared.op.Op.{Op};
 ghost use Rattle.command_log.specs.Lines.{IsLogged, HasClientBody};
 ghost use Rattle.command_log.specs.Text.{head_line, line_of_command};
 ghost use Rattle.log_file.specs.Bytes.{WritesAll};
@@ -12,7 +12,7 @@ use crate::bytes::write_and_sync;
 use crate::durable::Durable;
 use crate::faults::{KeepFault, NoteFault};
 use ballot::Members;
-use bean_queue::Op;
+use bean_words::Op;
 use command_log::{write_command, write_head};
 use object::Command;
 use std::alloc::{AllocError, Global};

@@ -1,8 +1,8 @@
 ghost use Rattle.std.specs.Prelude.{◌≡◌, ◌+◌, ℕ, List, [], IfOk, OnOk, OnErr};
 ghost use Rattle.object.specs.declared.command.Command.{Command};
-ghost use Rattle.bean_queue.specs.declared.op.Op.{Op};
+ghost use Rattle.bean_words.specs.declared.op.Op.{Op};
 
-use bean_queue::Op;
+use bean_words::Op;
 use conversation::Desk;
 use hall::HallError;
 use object::Command;

@@ -1,7 +1,7 @@
 ghost use Rattle.forgetting_hall.specs.Handing.{second_of};
 
 use crate::desk::LoopDesk;
-use bean_queue::{Op, Reply};
+use bean_words::{Op, Reply};
 use conversation::{Desk, LeanTicket, SessionTicket};
 use forgetting_hall::ForgettingHall;
 use hall::HallError;

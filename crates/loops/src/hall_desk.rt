@@ -4,7 +4,7 @@ ghost use Rattle.hall.specs.Halls.{Agrees};
 
 use crate::desk::LoopDesk;
 use crate::fault::ServeFault;
-use bean_queue::{Op, Reply};
+use bean_words::{Op, Reply};
 use conversation::Desk;
 use counted_hall::mark;
 use hall::{Hall, HallError, Ticket};

@@ -13,7 +13,7 @@ use crate::house::House;
 use crate::mailbox::Mailbox;
 use crate::shared_log::{Logging, SharedLog};
 use crate::syncs::{keep_all, run_syncs};
-use bean_queue::{Op, Reply};
+use bean_words::{Op, Reply};
 use counted_hall::Seconds;
 use forgetting_hall::ForgettingHall;
 use hall::{Hall, Ticket};

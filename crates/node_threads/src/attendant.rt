@@ -7,7 +7,7 @@ ghost use Rattle.node_threads.specs.Attending.{Adds, attendance_of};
 use crate::attending::Desk;
 use crate::gate::{Actor, Gate, Point};
 use crate::shared::{HandedIn, Shared};
-use bean_queue::{Op, Reply};
+use bean_words::{Op, Reply};
 use hall::{HallError, Ticket};
 use object::{Act, Object, Value};
 use session::{Service, ServiceFault};

@@ -9,7 +9,7 @@ use crate::attendant::Attendant;
 use crate::gate::Gate;
 use crate::shared::Shared;
 use crate::watched_reader::WatchedReader;
-use bean_queue::{Op, Reply};
+use bean_words::{Op, Reply};
 use hall::Ticket;
 use object::Object;
 use session::{ByteIn, ByteOut, End, SessionFault, serve};

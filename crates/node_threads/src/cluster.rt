@@ -13,7 +13,7 @@ use crate::rig::Rig;
 use crate::shared::Shared;
 use crate::staff::{Common, Door, Finished, run_threads};
 use crate::tally::Tally;
-use bean_queue::{Op, Reply};
+use bean_words::{Op, Reply};
 use counted_hall::{Seconds, are_its_tickets};
 use crossbeam_channel::{Receiver, Sender};
 use hall::{Hall, Ticket};

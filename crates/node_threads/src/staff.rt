@@ -13,7 +13,7 @@ use crate::node_thread::run_node;
 use crate::shared::Shared;
 use crate::tally::Tally;
 use crate::worker::Worker;
-use bean_queue::{Op, Reply};
+use bean_words::{Op, Reply};
 use counted_hall::Seconds;
 use crossbeam_channel::{Receiver, Sender};
 use object::Object;

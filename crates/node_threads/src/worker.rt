@@ -4,7 +4,7 @@ ghost use Rattle.counted_hall.specs.Accounts.{acts_in};
 use crate::attending::{Desk, attend};
 use crate::gate::Gate;
 use crate::shared::Shared;
-use bean_queue::{Op, Reply};
+use bean_words::{Op, Reply};
 use crossbeam_channel::Receiver;
 use hall::Ticket;
 use object::Object;

@@ -10,7 +10,7 @@ use Rattle.std.proofs.lemmas.Map.Keys.{sorted_head, sorted_tail}
 use Rattle.std.proofs.lemmas.Map.Lookups.{exact_bytes, exact_unsigned}
 use Rattle.object.specs.Lists.{In}
 use Rattle.object.specs.KeyLaws.{then_equal}
-use Rattle.job_store.specs.Racks.{name_cmp}
+use Rattle.bean_words.specs.Names.{name_cmp}
 use Rattle.job_store.specs.EntryLaws.{cmp_greater}
 use Rattle.pause_store.specs.declared.pause.Pause.{Pause}
 use Rattle.pause_store.specs.Pauses.{DropsOver, HasEnds, pause_cmp}

@@ -5,7 +5,7 @@ use Rattle.std.specs.List.Sorted.{IsStrictlySortedBy}
 use Rattle.std.specs.Map.{keys_of}
 use Rattle.std.specs.BTreeMap.{insert_entry}
 use Rattle.object.specs.Lists.{In}
-use Rattle.job_store.specs.Racks.{name_cmp}
+use Rattle.bean_words.specs.Names.{name_cmp}
 use Rattle.pause_store.specs.declared.pause.Pause.{Pause}
 use Rattle.pause_store.specs.Pauses.{HasEnds, PauseState, left_at, unpaused, paused_until, paused_for, pauses_at}
 use Rattle.pause_store.proofs.Seconds.{left-insert, left-over}

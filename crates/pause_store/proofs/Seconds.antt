@@ -14,7 +14,7 @@ use Rattle.std.proofs.lemmas.Map.Lookups.{exact_bytes}
 use Rattle.std.proofs.lemmas.Map.Text.{is_eq-slice_cmp}
 use Rattle.std.proofs.lemmas.Slice.Eq.{bytes_eq-Decides}
 use Rattle.object.specs.Lists.{In}
-use Rattle.job_store.specs.Racks.{name_cmp}
+use Rattle.bean_words.specs.Names.{name_cmp}
 use Rattle.tube_store.proofs.NameMaps.{of, itself, the_some}
 use Rattle.pause_store.specs.Pauses.{is_paused, left_at, unpaused, tubes_over}
 

@@ -7,7 +7,7 @@ use Rattle.std.specs.Map.{keys_of, lookup}
 use Rattle.std.specs.BTreeMap.{insert_entry, is_at}
 use Rattle.object.specs.Lists.{In}
 use Rattle.job_store.specs.LookUps.{is_among}
-use Rattle.job_store.specs.Racks.{name_cmp}
+use Rattle.bean_words.specs.Names.{name_cmp}
 use Rattle.session_store.specs.Drafts.{Draft}
 use Rattle.pause_store.specs.declared.pause.Pause.{Pause}
 

@@ -1,4 +1,4 @@
-use job_store::Name;
+use bean_words::Name;
 
 /// A tube, and the second at which its pause is over.
 #[derive(Drop, PartialEq, Eq, PartialOrd, Ord)]

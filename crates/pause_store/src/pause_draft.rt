@@ -1,12 +1,12 @@
 ghost use Rattle.std.specs.Prelude.{◌≡◌, ◌<◌, ◌≤◌, ◌^◌, ◌∷◌, ◌⊎◌, ◌↔◌, ℕ, List, true, IfSome, IfNone, OnOk, OnErr};
 ghost use Rattle.object.specs.Lists.{In};
-ghost use Rattle.job_store.specs.NameSets.{AddsAll};
+ghost use Rattle.bean_words.specs.NameSets.{AddsAll};
 ghost use Rattle.pause_store.specs.declared.pause.Pause.{Pause};
 ghost use Rattle.pause_store.specs.Pauses.{none_paused, is_paused, pause_end, paused_for, at_second, left_at, tubes_over, DropsOver, HasEnds};
 
 use crate::pause::Pause;
+use bean_words::Name;
 use indexmap::IndexSet;
-use job_store::Name;
 use object::Value;
 use std::alloc::{AllocError, Global};
 use std::collections::BTreeSet;

@@ -1,8 +1,8 @@
 -- What a session over streams has read, asked and written.
 use Rattle.std.specs.Prelude.{◌≡◌, ◌≤◌, ◌⊎◌, ◌+◌, ◌^◌, ℕ, true, List, [], ◌∷◌, ◌++◌, length, Option, Result, Ok, Err, IfOk}
 use Rattle.std.specs.Io.KnownBytes.{Consumes, Appends}
-use Rattle.bean_queue.specs.declared.op.Op.{Op}
-use Rattle.bean_queue.specs.declared.reply.Reply.{Reply}
+use Rattle.bean_words.specs.declared.op.Op.{Op}
+use Rattle.bean_words.specs.declared.reply.Reply.{Reply}
 use Rattle.bean_codec.specs.declared.profile.Profile.{Profile}
 use Rattle.bean_codec.specs.declared.request.Request.TheVariants.{Do}
 use Rattle.bean_codec.specs.Grammar.{Item}

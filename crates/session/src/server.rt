@@ -11,7 +11,7 @@ use crate::session::Session;
 use crate::streams::{ByteIn, ByteOut, Failed};
 use crate::writing::write_all;
 use bean_codec::{Profile, Request};
-use bean_queue::Op;
+use bean_words::Op;
 use std::alloc::Global;
 
 /// The most bytes of a read.

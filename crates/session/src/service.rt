@@ -1,10 +1,10 @@
 ghost use Rattle.std.specs.Prelude.{Result};
-ghost use Rattle.bean_queue.specs.declared.op.Op.{Op};
-ghost use Rattle.bean_queue.specs.declared.reply.Reply.{Reply};
+ghost use Rattle.bean_words.specs.declared.op.Op.{Op};
+ghost use Rattle.bean_words.specs.declared.reply.Reply.{Reply};
 ghost use Rattle.session.specs.declared.faults.ServiceFault.{ServiceFault};
 
 use crate::faults::ServiceFault;
-use bean_queue::{Op, Reply};
+use bean_words::{Op, Reply};
 
 /// What obeys the operations of one client.
 pub trait Service {

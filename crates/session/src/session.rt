@@ -5,7 +5,7 @@ ghost use Rattle.session.specs.Items.{refused_text};
 ghost use Rattle.session.specs.Held.{holding, nothing_held, is_asked, fed_buffer_len, text_buffer_len, MayKeep, StandsBefore, HasRoomFor, Feeds, FrontTakesRoom, Finds};
 
 use bean_codec::{Profile, Read, Request, Want, read_request_in, write_fault, write_reply};
-use bean_queue::Reply;
+use bean_words::Reply;
 use std::alloc::{AllocError, Global};
 use std::marker::Model;
 

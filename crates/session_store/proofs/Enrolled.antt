@@ -9,8 +9,8 @@ use Rattle.std.specs.BTreeSet.{BTreeSet}
 use Rattle.object.specs.Lists.{In}
 use Rattle.job_store.specs.Entries.{value_at}
 use Rattle.job_store.specs.EntryLaws.{value_at-In, value_at-found}
-use Rattle.job_store.specs.Racks.{name_cmp}
-use Rattle.job_store.proofs.naming.NameSets.{at-name}
+use Rattle.bean_words.specs.Names.{name_cmp}
+use Rattle.bean_words.proofs.naming.NameSets.{at-name}
 use Rattle.job_store.proofs.readiness.Readiness.{one-answer}
 use Rattle.session_store.specs.declared.session.SessionState.{SessionState}
 use Rattle.session_store.specs.declared.rolls.Rolls.{Rolls}

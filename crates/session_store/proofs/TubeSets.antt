@@ -5,8 +5,8 @@ use Rattle.std.specs.declared.cmp.Ordering.{Ordering}
 use Rattle.std.specs.List.{list_any}
 use Rattle.std.specs.BTreeMap.{BTreeMap, get, is_at, WritesThrough}
 use Rattle.std.specs.BTreeSet.{BTreeSet, contains}
-use Rattle.job_store.specs.Racks.{name_cmp}
-use Rattle.job_store.proofs.naming.NameSets.{at-name}
+use Rattle.bean_words.specs.Names.{name_cmp}
+use Rattle.bean_words.proofs.naming.NameSets.{at-name}
 use Rattle.session_store.specs.TubeSets.{tube_set}
 
 module _ {K : Type 0} (cmp : K → K → Ordering) where

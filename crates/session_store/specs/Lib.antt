@@ -1,4 +1,3 @@
-pub mod Names
 pub mod WatchLists
 pub mod Sessions
 pub mod Waits

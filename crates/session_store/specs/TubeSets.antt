@@ -2,7 +2,7 @@
 use Rattle.std.specs.Prelude.{ℕ, List, [], unwrap_or}
 use Rattle.std.specs.BTreeMap.{BTreeMap, get}
 use Rattle.std.specs.BTreeSet.{BTreeSet}
-use Rattle.job_store.specs.Racks.{name_cmp}
+use Rattle.bean_words.specs.Names.{name_cmp}
 
 -- the set of a tube, which is empty where there is none
 abbrev pub tube_set : {K : Type 0} → List ℕ → BTreeMap (List ℕ) (BTreeSet K) → BTreeSet K

@@ -2,7 +2,6 @@
 #![tactic(auto)]
 
 mod lines;
-mod names;
 mod place;
 mod rolls;
 mod session;
@@ -14,7 +13,6 @@ mod tube_lines;
 mod waiting;
 mod watch_list;
 
-pub use names::Names;
 pub use session::{Role, SessionState, Wait};
 pub use session_draft::SessionDraft;
 pub use waiting::first;

@@ -1,5 +1,5 @@
 ghost use Rattle.std.specs.Prelude.{◌≡◌, true, OnOk, IfSome, option_map};
-ghost use Rattle.job_store.specs.NameSets.{AddsAll};
+ghost use Rattle.bean_words.specs.NameSets.{AddsAll};
 ghost use Rattle.job_store.specs.LookUps.{is_among};
 ghost use Rattle.session_store.specs.Sessions.{first_waiting, has_timed_out, with_wait};
 ghost use Rattle.session_store.specs.Lines.{AllStand, StillStand, HasGrown, IsIn, StandsByTimeOut, StandsByTubes, StandsIn, tube_line, rank_place};
@@ -9,7 +9,7 @@ use crate::rolls::Rolls;
 use crate::session::{SessionState, Wait};
 use crate::time_outs::TimeOuts;
 use crate::tube_lines::TubeLines;
-use job_store::Name;
+use bean_words::Name;
 use std::alloc::{AllocError, Global};
 use std::collections::{BTreeMap, BTreeSet};
 

@@ -1,13 +1,13 @@
 ghost use Rattle.std.specs.Prelude.{◌≡◌, ℕ, List, [], true, IsTrue, OnOk};
 ghost use Rattle.std.specs.List.{list_any};
 ghost use Rattle.object.specs.Lists.{In};
-ghost use Rattle.job_store.specs.NameSets.{AddsOnly, AddsAll};
+ghost use Rattle.bean_words.specs.NameSets.{AddsOnly, AddsAll};
 ghost use Rattle.session_store.specs.Lines.{AllStand, StillStand};
 ghost use Rattle.session_store.specs.TubeSets.{tube_set};
 ghost use Rattle.session_store.specs.Rolls.{HaveAll, IsEnrolled, IsOn, is_named, names_tube};
 
 use crate::session::SessionState;
-use job_store::{Name, add_name};
+use bean_words::{Name, add_name};
 use object::Value;
 use std::alloc::{AllocError, Global};
 use std::collections::{BTreeMap, BTreeSet};

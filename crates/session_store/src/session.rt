@@ -4,7 +4,7 @@ ghost use Rattle.session_store.specs.Rolls.{has_tube};
 ghost use Rattle.session_store.specs.Sessions.{no_role, new_session, is_waiting, wait_number, wait_rank, has_timed_out};
 
 use crate::watch_list::WatchList;
-use job_store::Name;
+use bean_words::Name;
 use std::alloc::{AllocError, Global};
 
 /// What a session waits for: the answer to its reserve.

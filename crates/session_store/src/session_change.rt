@@ -5,7 +5,7 @@ ghost use Rattle.session_store.specs.Drafts.{IsThere};
 ghost use Rattle.session_store.specs.WatchLists.{joined, left_out};
 
 use crate::session::{Role, SessionState, Wait};
-use job_store::Name;
+use bean_words::Name;
 use std::alloc::AllocError;
 use std::collections::BTreeMap;
 use std::mem::replace;

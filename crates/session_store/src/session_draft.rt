@@ -12,7 +12,7 @@ use crate::session::{Role, SessionState, Wait};
 use crate::session_change::{ignore, set_role, set_used, set_wait, watch};
 use crate::session_step::{SessionStep, leave_steps, take_steps_back};
 use crate::time_outs::wait_of;
-use job_store::Name;
+use bean_words::Name;
 use std::alloc::{AllocError, Global};
 use std::collections::{BTreeMap, BTreeSet};
 use std::marker::Model;

@@ -6,7 +6,7 @@ ghost use Rattle.session_store.specs.Drafts.{session_step_back, sessions_before}
 use crate::lines::Lines;
 use crate::session::{Role, SessionState, Wait};
 use crate::session_change::{set_role, set_wait};
-use job_store::Name;
+use bean_words::Name;
 use std::collections::BTreeMap;
 
 /// How a change of the sessions is taken back.

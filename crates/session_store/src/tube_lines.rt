@@ -7,7 +7,7 @@ ghost use Rattle.session_store.specs.Lines.{AllStand, StillStand, HasAll, IsIn, 
 
 use crate::place::{LinePlace, rank_place};
 use crate::session::{SessionState, Wait};
-use job_store::Name;
+use bean_words::Name;
 use object::Value;
 use std::alloc::{AllocError, Global};
 use std::collections::{BTreeMap, BTreeSet};

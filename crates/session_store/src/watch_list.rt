@@ -2,8 +2,8 @@ ghost use Rattle.std.specs.Prelude.{◌≡◌, ◌∷◌, [], IfOk, OnOk, OnErr,
 ghost use Rattle.job_store.specs.LookUps.{is_among};
 ghost use Rattle.session_store.specs.WatchLists.{is_alone, joined, left_out};
 
+use bean_words::Name;
 use indexmap::IndexSet;
-use job_store::Name;
 use std::alloc::{AllocError, Global};
 use std::marker::Model;
 

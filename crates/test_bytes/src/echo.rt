@@ -1,5 +1,5 @@
 //! A service that says back what it is asked to use.
-use bean_queue::{Name, Op, Reply};
+use bean_words::{Name, Op, Reply};
 use session::{Service, ServiceFault};
 
 /// It says which tube it is asked to use, and that `default` is used where it is asked for that. It finds nothing for any

@@ -1,5 +1,5 @@
 //! What goes on far past every small number: where memory is ample, nothing is refused.
-use bean_queue::{Name, Op, Reply};
+use bean_words::{Name, Op, Reply};
 use session::memory::{Ending, PieceReader, PieceWriter};
 use session::{End, Service, ServiceFault, serve};
 use std::alloc::{AllocError, Global};

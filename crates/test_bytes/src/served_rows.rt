@@ -1,7 +1,8 @@
 //! What stands in a queue after a session, and what is told of one whose writer fails.
 ghost use Rattle.std.specs.Prelude.{◌<◌};
 
-use bean_queue::{Op, Queue, Reply};
+use bean_queue::Queue;
+use bean_words::{Op, Reply};
 use object::{Act, Command, Key, Once};
 use session::memory::{Ending, PieceReader, PieceWriter};
 use session::{End, Service, ServiceFault, SessionFault, serve};

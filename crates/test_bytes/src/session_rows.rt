@@ -1,7 +1,7 @@
 //! What a session does where its service refuses or stops.
 ghost use Rattle.std.specs.Prelude.{◌<◌};
 
-use bean_queue::{Name, Op, Reply};
+use bean_words::{Name, Op, Reply};
 use session::memory::{Ending, PieceReader, PieceWriter};
 use session::{End, Service, ServiceFault, SessionFault, serve};
 use std::alloc::Global;

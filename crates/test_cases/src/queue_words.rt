@@ -2,7 +2,8 @@
 use crate::spoken::Spoken;
 use crate::values::{body_of, large, name_of, small};
 use anyhow::{Result, bail};
-use bean_queue::{Body, Name, Op, QueueOver, Reply};
+use bean_queue::QueueOver;
+use bean_words::{Body, Name, Op, Reply};
 use job_store::JobMap;
 use std::alloc::{AllocError, Global};
 

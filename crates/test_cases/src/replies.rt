@@ -5,7 +5,7 @@ use crate::script::{Stage, tell_line};
 use crate::values::{large, name_of, quoted_body_of};
 use anyhow::{Context, Result, bail};
 use bean_codec::write_reply;
-use bean_queue::{Names, Reply};
+use bean_words::{Names, Reply};
 use object::{Answer, Key};
 use std::alloc::Global;
 

@@ -6,7 +6,7 @@ use crate::values::large;
 use anyhow::{Context, Result, bail};
 use ballot::Members;
 use bean_codec::{Fault, Profile, Read, Request, Want, read_request_in, write_fault};
-use bean_queue::Op;
+use bean_words::Op;
 use object::{Act, Command, Key, Submission};
 use std::alloc::Global;
 

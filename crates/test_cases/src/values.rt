@@ -1,7 +1,7 @@
 //! Numbers, names and bodies in words.
 use crate::quoted::bytes_of;
 use anyhow::{Context, Result};
-use bean_queue::{Body, Name};
+use bean_words::{Body, Name};
 use std::alloc::Global;
 
 pub fn small(word: &str) -> Result<u32> {

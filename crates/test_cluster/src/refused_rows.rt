@@ -2,7 +2,8 @@
 use crate::clients::{Client, Queued, Still, connect_all};
 use crate::gates::Open;
 use ballot::Members;
-use bean_queue::{Op, Queue, Reply};
+use bean_queue::Queue;
+use bean_words::{Op, Reply};
 use hall::Hall;
 use node_threads::{Accept, Seconds, run_cluster};
 use object::{Answer, Command, Object};

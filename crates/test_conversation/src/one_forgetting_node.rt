@@ -3,7 +3,7 @@ ghost use Rattle.forgetting_hall.specs.Handing.{reply_of};
 
 use crate::driven_desk::DrivenDesk;
 use ballot::Members;
-use bean_queue::{Op, Reply};
+use bean_words::{Op, Reply};
 use conversation::{Desk, LeanTicket, SessionTicket};
 use forgetting_hall::ForgettingHall;
 use hall::HallError;

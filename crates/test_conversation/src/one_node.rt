@@ -3,7 +3,7 @@ ghost use Rattle.hall.specs.Halls.{to_note};
 
 use crate::driven_desk::DrivenDesk;
 use ballot::Members;
-use bean_queue::{Op, Reply};
+use bean_words::{Op, Reply};
 use conversation::Desk;
 use hall::{Hall, HallError, Ticket};
 use object::{Act, Object};

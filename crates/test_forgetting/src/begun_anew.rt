@@ -2,7 +2,8 @@
 use crate::both::Turn;
 use crate::draws::Draws;
 use ballot::Members;
-use bean_queue::{Op, Queue, Reply};
+use bean_queue::Queue;
+use bean_words::{Op, Reply};
 use forgetting_hall::ForgettingHall;
 use object::{Act, Command, Object, Value};
 use std::alloc::Global;

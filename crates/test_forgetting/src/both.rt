@@ -3,7 +3,7 @@ ghost use Rattle.hall.specs.Recorded.{IsOwnDeed};
 ghost use Rattle.forgetting_hall.specs.Rests.{IsGoingOn};
 
 use ballot::Members;
-use bean_queue::{Op, Reply};
+use bean_words::{Op, Reply};
 use forgetting_hall::ForgettingHall;
 use hall::{Hall, Ticket};
 use lean_network::Receipt;

@@ -2,7 +2,7 @@
 ghost use Rattle.std.specs.Prelude.{◌<◌};
 
 use ballot::Members;
-use bean_queue::{Body, Op};
+use bean_words::{Body, Op};
 use object::Act;
 use rand_core::{Rng, SeedableRng};
 use rand_pcg::Lcg64Xsh32;

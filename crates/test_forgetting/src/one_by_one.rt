@@ -1,7 +1,8 @@
 //! Commands one by one: each is handed in to both halls, which then go on by draws of their own until it has taken effect.
 use crate::both::{Both, Turn};
 use crate::draws::Draws;
-use bean_queue::{Op, Queue, Reply};
+use bean_queue::Queue;
+use bean_words::{Op, Reply};
 use forgetting_hall::ForgettingHall;
 use hall::{Hall, HallError};
 use object::Object;

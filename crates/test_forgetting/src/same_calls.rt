@@ -1,7 +1,8 @@
 //! The same calls, as they are drawn, of both halls.
 use crate::both::{Both, Turn};
 use crate::draws::Draws;
-use bean_queue::{Op, Queue, Reply};
+use bean_queue::Queue;
+use bean_words::{Op, Reply};
 use object::Object;
 use std::alloc::Global;
 use std::test::Fail;

@@ -1,5 +1,6 @@
 //! A queue with one client.
-use bean_queue::{Op, Queue, Reply};
+use bean_queue::Queue;
+use bean_words::{Op, Reply};
 use object::{Act, Command, Key, Once};
 use session::{Service, ServiceFault};
 use std::alloc::{AllocError, Global};

@@ -1,6 +1,7 @@
 //! Halls of one node, as tables: what each call answers, what it refuses, and the dump of what happened.
 use ballot::Members;
-use bean_queue::{Body, Op, Queue, Reply};
+use bean_queue::Queue;
+use bean_words::{Body, Op, Reply};
 use chronicle::WriteText;
 use hall::{Hall, HallError, Ticket};
 use object::{Act, Object};

@@ -1,6 +1,5 @@
 //! A log of three members and three commands.
-use bean_queue::Op;
-use job_store::Body;
+use bean_words::{Body, Op};
 use object::{Act, Command, Key};
 use std::alloc::Global;
 use std::test::Fail;

@@ -2,7 +2,7 @@
 use crate::disk::Disk;
 use crate::text::{ENDS, TEXT, commands};
 use ballot::Members;
-use bean_queue::Op;
+use bean_words::Op;
 use log_file::{KeepFault, LogWriter, NoteFault, read_log};
 use object::Command;
 use std::alloc::Global;

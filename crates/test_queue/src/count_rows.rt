@@ -1,7 +1,7 @@
 //! The queue's counts at the greatest number of their type, which no run comes to: rows of the definitions by which it
 //! counts. They are proved, and there is nothing to run.
 ghost use Rattle.std.specs.Prelude.{◌≡◌, [], None};
-ghost use Rattle.bean_queue.specs.declared.op.Op.{Op};
+ghost use Rattle.bean_words.specs.declared.op.Op.{Op};
 ghost use Rattle.bean_queue.specs.Counting.{nothing_counted, with_op_counted, and_timeouts};
 ghost use Rattle.test_queue.specs.AllCounts.{all_counts};
 

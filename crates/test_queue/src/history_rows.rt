@@ -1,5 +1,6 @@
 //! What goes into a job's history, as a table.
-use job_store::{Body, History, Job, JobMap, Jobs, Mark, Name, State};
+use bean_words::{Body, Name};
+use job_store::{History, Job, JobMap, Jobs, Mark, State};
 use std::alloc::{AllocError, Global};
 use std::test::Fail;
 

@@ -1,8 +1,9 @@
 //! What a map of jobs finds and keeps, as tables.
 ghost use Rattle.std.specs.Prelude.{◌≡◌, None};
 
+use bean_words::{Body, Name};
 use indexmap::IndexSet;
-use job_store::{Body, History, Job, JobMap, Jobs, Mark, Name, State};
+use job_store::{History, Job, JobMap, Jobs, Mark, State};
 use object::Value;
 use std::alloc::{AllocError, Global};
 use std::collections::{BTreeMap, BTreeSet};

@@ -1,7 +1,8 @@
 //! That both queues answer alike, whatever is drawn for them.
 ghost use Rattle.std.specs.Prelude.{◌<◌};
 
-use bean_queue::{Body, Name, Op, PlainQueue, Queue, Reply};
+use bean_queue::{PlainQueue, Queue};
+use bean_words::{Body, Name, Op, Reply};
 use object::{Act, Answer, Command, Key, Object, Once};
 use rand_core::{Rng, SeedableRng};
 use rand_pcg::Lcg64Xsh32;

@@ -1,5 +1,5 @@
 //! Commands, and what has to be answered to them, as dumps.
-use bean_queue::{Op, Reply};
+use bean_words::{Op, Reply};
 use chronicle::{Chronicle, read_text};
 use std::alloc::Global;
 

@@ -3,7 +3,8 @@ use crate::dumps::{QUEUE, REPORTS, STALE, read};
 use crate::outcome::Outcome;
 use crate::subject::{Refusal, Subject, Then, walk};
 use ballot::Slot;
-use bean_queue::{Body, Op, PlainQueue, Queue, Reply};
+use bean_queue::{PlainQueue, Queue};
+use bean_words::{Body, Op, Reply};
 use chronicle::Chronicle;
 use object::{
     Act, Answer, Command, Effect, Key, Object, Once, Register, RegisterOp, RegisterReply,

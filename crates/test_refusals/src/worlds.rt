@@ -2,7 +2,8 @@
 use crate::dumps::{KICK, LOST_LEADER, read};
 use crate::outcome::Outcome;
 use crate::subject::{Refusal, Subject, Then, walk};
-use bean_queue::{Op, Queue, Reply};
+use bean_queue::Queue;
+use bean_words::{Op, Reply};
 use chronicle::Chronicle;
 use object::{Command, Submission, Value};
 use std::alloc::{AllocError, Global};

@@ -1,7 +1,8 @@
 //! A hall that forgets, whose nodes act as they are drawn, and whose letters are lost and come twice.
 use crate::draws::Draws;
 use ballot::Members;
-use bean_queue::{Op, Queue, Reply};
+use bean_queue::Queue;
+use bean_words::{Op, Reply};
 use forgetting_hall::ForgettingHall;
 use node::Deed;
 use object::Act;

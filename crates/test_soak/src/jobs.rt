@@ -1,5 +1,5 @@
 //! The jobs as the sessions were told of them.
-use bean_queue::Body;
+use bean_words::Body;
 use std::alloc::Global;
 use std::collections::BTreeMap;
 use std::string::String;

@@ -1,7 +1,7 @@
 //! A session: what it asks for, as it is drawn, and what it is told.
 use crate::draws::Draws;
 use crate::jobs::{Fault, Jobs, Place, body_text};
-use bean_queue::{Body, Op, Reply};
+use bean_words::{Body, Op, Reply};
 use std::alloc::Global;
 use std::test::Fail;
 

@@ -1,6 +1,7 @@
 //! What a body can't do that always gives up, though each contract would allow it.
 use ballot::Members;
-use bean_queue::{Body, Op, Queue};
+use bean_queue::Queue;
+use bean_words::{Body, Op};
 use object::{Act, Command, Key};
 use std::test::Fail;
 use world::{Event, World};

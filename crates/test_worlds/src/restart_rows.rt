@@ -1,7 +1,8 @@
 //! Nodes that restart after each beginning of a run: what their acceptors keep, which ballots they take, and what is
 //! chosen then.
 use ballot::{Ballot, Letter, LetterBody, Members, Pvalue, Pvalues, Slot};
-use bean_queue::{Body, Op, Queue};
+use bean_queue::Queue;
+use bean_words::{Body, Op};
 use object::{Act, Command, Key};
 use std::alloc::Global;
 use std::test::Fail;

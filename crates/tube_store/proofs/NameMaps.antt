@@ -15,7 +15,7 @@ use Rattle.std.proofs.lemmas.Map.Keys.{sorted_tail, IsDistinct-from_sorted}
 use Rattle.std.proofs.lemmas.Map.Lookups.{exact_bytes}
 use Rattle.std.proofs.lemmas.Map.Text.{is_eq-slice_cmp}
 use Rattle.std.proofs.lemmas.Slice.Eq.{bytes_eq-Decides}
-use Rattle.job_store.specs.Racks.{name_cmp}
+use Rattle.bean_words.specs.Names.{name_cmp}
 
 -- whether this is the entry of the tube
 abbrev pub of : List ℕ → List ℕ → Bool

@@ -2,7 +2,7 @@
 use Rattle.std.proofs.Common.{◌≡◌, ℕ, List, [], ◌∷◌, ◌++◌, Some, None, refl, sym, ap, ap₂, ◌∙◌}
 use Rattle.std.specs.Map.{lookup, set_value}
 use Rattle.std.specs.BTreeMap.{insert_entry, is_at}
-use Rattle.job_store.specs.Racks.{name_cmp}
+use Rattle.bean_words.specs.Names.{name_cmp}
 use Rattle.tube_store.specs.declared.name_step.NameStep.{NameStep}
 use Rattle.tube_store.specs.NameSteps.{step_back, before_steps}
 use Rattle.tube_store.proofs.NameMaps.{set-back, remove-insert}

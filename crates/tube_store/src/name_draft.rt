@@ -1,12 +1,12 @@
 ghost use Rattle.std.specs.Prelude.{◌≡◌, [], OnOk, OnErr};
 ghost use Rattle.std.specs.Map.{lookup, remove_entry};
 ghost use Rattle.std.specs.BTreeMap.{insert_entry, is_at};
-ghost use Rattle.job_store.specs.Racks.{name_cmp};
+ghost use Rattle.bean_words.specs.Names.{name_cmp};
 ghost use Rattle.tube_store.specs.NameSteps.{AreByName};
 
 use crate::name_step::{NameStep, change_value, take_steps_back};
 use crate::value_change::{To, ValueChange};
-use job_store::Name;
+use bean_words::Name;
 use std::alloc::{AllocError, Global};
 use std::collections::BTreeMap;
 use std::marker::Model;

@@ -1,11 +1,11 @@
 ghost use Rattle.std.specs.Prelude.{◌≡◌, [], None, OnOk, OnErr};
 ghost use Rattle.std.specs.Map.{lookup};
 ghost use Rattle.std.specs.BTreeMap.{insert_entry, is_at};
-ghost use Rattle.job_store.specs.Racks.{name_cmp};
+ghost use Rattle.bean_words.specs.Names.{name_cmp};
 ghost use Rattle.tube_store.specs.NameSteps.{step_back, before_steps, AreByName, GoesTo};
 
 use crate::value_change::ValueChange;
-use job_store::Name;
+use bean_words::Name;
 use object::Value;
 use std::alloc::AllocError;
 use std::collections::BTreeMap;

@@ -4,7 +4,7 @@ ghost use Rattle.tube_store.specs.TubeCounts.{counts_at, marked_tube, without_tu
 use crate::name_draft::NameDraft;
 use crate::tube_counts::TubeCounts;
 use crate::tube_mark::TubeMark;
-use job_store::Name;
+use bean_words::Name;
 use std::alloc::{AllocError, Global};
 use std::marker::Model;
 

@@ -6,8 +6,8 @@ use Rattle.object.specs.declared.command.Answer.{Answer}
 use Rattle.object.specs.declared.command.Command.{Command}
 use Rattle.job_store.specs.declared.history.History.{History}
 use Rattle.job_store.specs.Entries.{value_at}
-use Rattle.bean_queue.specs.declared.op.Op.{Op}
-use Rattle.bean_queue.specs.declared.reply.Reply.{Reply}
+use Rattle.bean_words.specs.declared.op.Op.{Op}
+use Rattle.bean_words.specs.declared.reply.Reply.{Reply}
 use Rattle.bean_queue.specs.Queue.{QueueState, fresh}
 use Rattle.bean_queue.specs.Rows.{row, put_row, reserve_row, delete_row, kick_row, kicked, kick_job_row, use_row, watch_row, bury_row, peek_row}
 use Rattle.bean_queue.specs.Tubes.{all_tubes}

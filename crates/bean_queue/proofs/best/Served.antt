@@ -11,7 +11,7 @@ use Rattle.job_store.specs.LookUps.{best_ready, is_among, pri_of_job, not_paused
 use Rattle.job_store.specs.States.{is_ready}
 use Rattle.session_store.specs.declared.session.SessionState.{SessionState}
 use Rattle.session_store.specs.Sessions.{first_waiting, with_wait_ended, with_wait, is_waiting, wait_rank}
-use Rattle.bean_queue.specs.declared.reply.Reply.{Reply}
+use Rattle.bean_words.specs.declared.reply.Reply.{Reply}
 use Rattle.bean_queue.specs.Queue.{QueueState, paused_tubes}
 use Rattle.bean_queue.specs.Turns.{QueueOutcome, QueueTurn, IsTurn, stop, turns, all_turns, after_turn, after_option}
 use Rattle.bean_queue.specs.Turns.{wanted, next_job, give, give_to, given, serve_turn, deadline_turn, timeout_turn}

@@ -7,7 +7,7 @@ use Rattle.job_store.specs.LookUps.{is_among}
 use Rattle.job_store.specs.States.{reserved_job}
 use Rattle.session_store.specs.declared.session.SessionState.{SessionState}
 use Rattle.session_store.specs.Sessions.{first_waiting, with_wait_ended, has_timed_out}
-use Rattle.bean_queue.specs.declared.reply.Reply.{Reply}
+use Rattle.bean_words.specs.declared.reply.Reply.{Reply}
 use Rattle.bean_queue.specs.Queue.{QueueState, holds_by}
 use Rattle.bean_queue.specs.Turns.{IsTurn, next_job, answer_to, given, give, give_to, serve_turn, told_turn, tell, deadline_turn, timeout_turn}
 

@@ -9,8 +9,8 @@ use Rattle.job_store.specs.Entries.{without}
 use Rattle.job_store.specs.States.{is_due, is_held, with_state, over_job}
 use Rattle.session_store.specs.Sessions.{session_of, with_wait_ended, is_waiting}
 use Rattle.pause_store.specs.Pauses.{left_at}
-use Rattle.bean_queue.specs.declared.op.Op.{Op}
-use Rattle.bean_queue.specs.declared.reply.Reply.{Reply}
+use Rattle.bean_words.specs.declared.op.Op.{Op}
+use Rattle.bean_words.specs.declared.reply.Reply.{Reply}
 use Rattle.bean_queue.specs.Queue.{QueueState, with_sessions}
 use Rattle.bean_queue.specs.Forgetful.{without_history, uncounted, without_counts, is_report, asks_for_report}
 use Rattle.bean_queue.specs.Rows.{row, stats_job_row, stats_tube_row, stats_row}

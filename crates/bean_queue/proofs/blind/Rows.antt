@@ -11,8 +11,8 @@ use Rattle.job_store.specs.LookUps.{is_among, ready_in, delayed_in, buried_in, f
 use Rattle.job_store.specs.LookUps.{pri_of_job, due_of_job, rank_of_job}
 use Rattle.session_store.specs.WatchLists.{joined, left_out}
 use Rattle.pause_store.specs.Pauses.{paused_for}
-use Rattle.bean_queue.specs.declared.op.Op.{Op}
-use Rattle.bean_queue.specs.declared.reply.Reply.{Reply}
+use Rattle.bean_words.specs.declared.op.Op.{Op}
+use Rattle.bean_words.specs.declared.reply.Reply.{Reply}
 use Rattle.bean_queue.specs.Queue.{QueueState, pauses_of, used_by}
 use Rattle.bean_queue.specs.Forgetful.{without_history, uncounted, without_counts, is_report}
 use Rattle.bean_queue.specs.Rows.{Row, replies, with_session, row, put_job, put_row, use_row, watch_row, ignore_row, waiting}

@@ -8,7 +8,7 @@ use Rattle.job_store.specs.LookUps.{is_among, ready_in, best_ready, not_paused, 
 use Rattle.job_store.specs.States.{is_held, due_of, reserved_job}
 use Rattle.session_store.specs.declared.session.SessionState.{SessionState}
 use Rattle.session_store.specs.Sessions.{first_waiting, with_wait_ended, is_waiting, wait_rank, has_timed_out}
-use Rattle.bean_queue.specs.declared.reply.Reply.{Reply}
+use Rattle.bean_words.specs.declared.reply.Reply.{Reply}
 use Rattle.bean_queue.specs.Queue.{QueueState, holds_by, paused_tubes}
 use Rattle.bean_queue.specs.Forgetful.{uncounted, without_counts}
 use Rattle.bean_queue.specs.Turns.{QueueOutcome, QueueTurn, turns, all_turns, after_option, wanted, next_job, answer_to, given, give, give_to}

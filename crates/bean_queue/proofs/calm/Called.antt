@@ -7,8 +7,8 @@ use Rattle.session_store.specs.declared.session.SessionState.{SessionState}
 use Rattle.session_store.proofs.SessionDrafts.{unplayed}
 use Rattle.session_store.specs.Sessions.{new_session, session_of, known, with_role, with_wait, with_wait_ended}
 use Rattle.session_store.specs.declared.session.Role.{Role}
-use Rattle.bean_queue.specs.declared.op.Op.{Op}
-use Rattle.bean_queue.specs.declared.reply.Reply.{Reply}
+use Rattle.bean_words.specs.declared.op.Op.{Op}
+use Rattle.bean_words.specs.declared.reply.Reply.{Reply}
 use Rattle.bean_queue.specs.Queue.{QueueState}
 use Rattle.bean_queue.specs.Rows.{row}
 use Rattle.bean_queue.specs.Turns.{QueueOutcome, serve_turn}

@@ -18,8 +18,8 @@ use Rattle.session_store.specs.Sessions.{session_of, new_session, with_wait, wit
 use Rattle.session_store.specs.WatchLists.{is_alone}
 use Rattle.session_store.specs.WaitLaws.{known-waits}
 use Rattle.pause_store.specs.Pauses.{is_paused, tubes_over}
-use Rattle.bean_queue.specs.declared.op.Op.{Op}
-use Rattle.bean_queue.specs.declared.reply.Reply.{Reply}
+use Rattle.bean_words.specs.declared.op.Op.{Op}
+use Rattle.bean_words.specs.declared.reply.Reply.{Reply}
 use Rattle.bean_queue.specs.Queue.{QueueState, paused_tubes, with_sessions, fresh, watched_by, holds_by}
 use Rattle.bean_queue.specs.Rows.{Row, settled, row, put_row, use_row, watch_row, ignore_row, reserve_row, delete_row}
 use Rattle.bean_queue.specs.Rows.{may_delete, delete_found, is_job_that, release_row, touch_row, bury_row, kick_row, kick_job_row}

@@ -16,8 +16,8 @@ use Rattle.job_store.specs.States.{is_ready, reserved_job}
 use Rattle.session_store.specs.declared.session.SessionState.{SessionState}
 use Rattle.session_store.specs.declared.session.Wait.{Wait}
 use Rattle.session_store.specs.Sessions.{new_session, session_of, known, with_wait, with_wait_ended, is_waiting, wait_rank, first_waiting}
-use Rattle.bean_queue.specs.declared.op.Op.{Op}
-use Rattle.bean_queue.specs.declared.reply.Reply.{Reply}
+use Rattle.bean_words.specs.declared.op.Op.{Op}
+use Rattle.bean_words.specs.declared.reply.Reply.{Reply}
 use Rattle.bean_queue.specs.Queue.{QueueState, with_sessions, watched_by, paused_tubes, holds_by}
 use Rattle.bean_queue.specs.Rows.{row, reserve_row, time_out, waiting}
 use Rattle.bean_queue.specs.Turns.{QueueOutcome, stop, after_turn, after_option, all_turns, wanted, next_job, given, give, give_to, serve_turn, serve}

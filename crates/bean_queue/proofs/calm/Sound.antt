@@ -2,7 +2,7 @@
 use Rattle.std.proofs.Common.{◌≡◌, ℕ, None, arith}
 use Rattle.object.specs.declared.command.Act.{Act}
 use Rattle.object.specs.declared.command.Command.{Command}
-use Rattle.bean_queue.specs.declared.op.Op.{Op}
+use Rattle.bean_words.specs.declared.op.Op.{Op}
 use Rattle.bean_queue.specs.Effects.{close_effect, act_effect, effect}
 use Rattle.bean_queue.specs.Queue.{QueueState, fresh}
 use Rattle.bean_queue.specs.Sound.{IsSoundQueue}

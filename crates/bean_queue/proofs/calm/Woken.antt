@@ -18,8 +18,8 @@ use Rattle.session_store.specs.WatchLists.{joined}
 use Rattle.pause_store.specs.Pauses.{is_paused, paused_for, tubes_over}
 use Rattle.pause_store.proofs.OneTube.{others, goes-on-or-over}
 use Rattle.pause_store.proofs.Over.{joined-keeps, joined-has}
-use Rattle.bean_queue.specs.declared.op.Op.{Op}
-use Rattle.bean_queue.specs.declared.reply.Reply.{Reply}
+use Rattle.bean_words.specs.declared.op.Op.{Op}
+use Rattle.bean_words.specs.declared.reply.Reply.{Reply}
 use Rattle.bean_queue.specs.Best.{IsWanted}
 use Rattle.bean_queue.specs.Queue.{QueueState, paused_tubes, pauses_of, used_by}
 use Rattle.bean_queue.specs.Rows.{Row, kicked, kicked_option, put_job, ready_after, is_job_that, is_idle, row, put_row}

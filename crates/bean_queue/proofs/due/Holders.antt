@@ -19,7 +19,7 @@ use Rattle.job_store.proofs.shelving.Shelving.{in-front, in-last}
 use Rattle.session_store.specs.declared.session.SessionState.{SessionState}
 use Rattle.session_store.specs.Sessions.{first_waiting, is_waiting, new_session, wait_rank, with_wait_ended}
 use Rattle.session_store.proofs.Found.{least_alike, mapped-in, mapped-from}
-use Rattle.bean_queue.specs.declared.reply.Reply.{Reply}
+use Rattle.bean_words.specs.declared.reply.Reply.{Reply}
 use Rattle.bean_queue.specs.Holders.{holder_by, waits_at, waiting_holder, times_noted, has_due, AreHolders, HasHolders, IsSomeHolder, StandAsOften}
 use Rattle.bean_queue.specs.Queue.{QueueState, holds_by}
 use Rattle.bean_queue.specs.TurnLaws.{IsTold, deadline_turn-is}

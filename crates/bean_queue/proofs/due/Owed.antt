@@ -5,7 +5,7 @@ use Rattle.object.specs.Lists.{In}
 use Rattle.job_store.specs.States.{is_held, due_of}
 use Rattle.session_store.specs.declared.session.SessionState.{SessionState}
 use Rattle.session_store.specs.Sessions.{first_waiting, is_waiting, wait_rank, has_timed_out}
-use Rattle.bean_queue.specs.declared.reply.Reply.{Reply}
+use Rattle.bean_words.specs.declared.reply.Reply.{Reply}
 use Rattle.pause_store.specs.Pauses.{tubes_over}
 use Rattle.bean_queue.specs.Rows.{settled}
 use Rattle.bean_queue.specs.Effects.{second_begun, tick_effect, then_do, then_settled}

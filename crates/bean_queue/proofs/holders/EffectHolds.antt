@@ -13,8 +13,8 @@ use Rattle.job_store.specs.States.{is_held, is_due}
 use Rattle.job_store.specs.EntryLaws.{Rising-each}
 use Rattle.pause_store.specs.Pauses.{tubes_over}
 use Rattle.session_store.specs.Sessions.{session_of, is_waiting}
-use Rattle.bean_queue.specs.declared.op.Op.{Op}
-use Rattle.bean_queue.specs.declared.reply.Reply.{Reply}
+use Rattle.bean_words.specs.declared.op.Op.{Op}
+use Rattle.bean_words.specs.declared.reply.Reply.{Reply}
 use Rattle.bean_queue.specs.Queue.{QueueState, holds_by, HasRisingIds}
 use Rattle.bean_queue.specs.Rows.{Row, row}
 use Rattle.bean_queue.specs.Turns.{QueueOutcome, stop, serve, all_turns, deadline_turn, timeout_turn}

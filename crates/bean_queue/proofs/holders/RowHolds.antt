@@ -14,8 +14,8 @@ use Rattle.job_store.specs.EntryLaws.{Rising-altered, Rising-without, Rising-ins
 use Rattle.job_store.specs.States.{is_held, is_buried, is_delayed, with_state, reserved_job, kicked_job}
 use Rattle.job_store.specs.LookUps.{is_among, first_buried, first_delayed, first_ready, buried_in, delayed_in, due_of_job, rank_of_job}
 use Rattle.session_store.specs.WatchLists.{is_alone}
-use Rattle.bean_queue.specs.declared.op.Op.{Op}
-use Rattle.bean_queue.specs.declared.reply.Reply.{Reply}
+use Rattle.bean_words.specs.declared.op.Op.{Op}
+use Rattle.bean_words.specs.declared.reply.Reply.{Reply}
 use Rattle.bean_queue.specs.Queue.{QueueState, with_jobs, used_by, watched_by, HasRisingIds}
 use Rattle.bean_queue.specs.Rows.{is_idle, Row, replies, row, put_row, use_row, watch_row, ignore_row, reserve_row}
 use Rattle.bean_queue.specs.Rows.{delete_row, may_delete, delete_found, is_job_that, release_row, touch_row, bury_row, kicked}

@@ -13,7 +13,7 @@ use Rattle.job_store.specs.EntryLaws.{Rising-altered, altered-none, key_from}
 use Rattle.job_store.specs.Least.{lesser, least}
 use Rattle.job_store.specs.LookUps.{buried_in, delayed_in, due_of_job, rank_of_job, first_buried, first_delayed}
 use Rattle.job_store.specs.States.{kicked_job}
-use Rattle.bean_queue.specs.declared.reply.Reply.{Reply}
+use Rattle.bean_words.specs.declared.reply.Reply.{Reply}
 use Rattle.bean_queue.specs.Queue.{QueueState, HasRisingIds, used_by}
 use Rattle.bean_queue.specs.Rows.{kicked_option, kicked, kick_row, kickable}
 use Rattle.bean_queue.specs.TurnLaws.{least-in, least-none}

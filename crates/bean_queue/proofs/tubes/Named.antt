@@ -6,7 +6,7 @@ use Rattle.object.specs.Lists.{In}
 use Rattle.std.proofs.lemmas.Bool.{or_cases}
 use Rattle.std.proofs.lemmas.Slice.Eq.{bytes_eq-Decides}
 use Rattle.job_store.specs.declared.job.Job.{Job}
-use Rattle.job_store.specs.Racks.{name_cmp}
+use Rattle.bean_words.specs.Names.{name_cmp}
 use Rattle.job_store.specs.LookUps.{is_among, has_jobs}
 use Rattle.job_store.proofs.least.Least.{among-member}
 use Rattle.session_store.proofs.Found.{any-in, in-any}

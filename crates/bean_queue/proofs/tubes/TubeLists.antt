@@ -8,8 +8,8 @@ use Rattle.std.specs.List.Sorted.{IsStrictlySortedBy}
 use Rattle.std.proofs.lemmas.Cmp.{nat_list_cmp_total}
 use Rattle.object.specs.Lists.{In}
 use Rattle.job_store.specs.declared.job.Job.{Job}
-use Rattle.job_store.specs.Racks.{name_cmp}
-use Rattle.job_store.proofs.naming.NameSets.{from-insert, to-insert}
+use Rattle.bean_words.specs.Names.{name_cmp}
+use Rattle.bean_words.proofs.naming.NameSets.{from-insert, to-insert}
 use Rattle.job_store.proofs.shelving.Shelving.{in-front}
 use Rattle.session_store.specs.declared.session.SessionState.{SessionState}
 use Rattle.bean_queue.specs.Queue.{QueueState}

@@ -6,7 +6,7 @@ ghost use Rattle.bean_queue.specs.Calls.{DoesRow, DraftsRow};
 
 use crate::logic::Logic;
 use crate::logic::put::ready_after;
-use crate::reply::Reply;
+use bean_words::Reply;
 use job_store::{JobMap, Mark, State};
 use object::Value;
 use std::alloc::AllocError;

@@ -6,8 +6,8 @@ ghost use Rattle.bean_queue.specs.Calls.{DraftsRow};
 
 use crate::job_draft::JobDraft;
 use crate::logic::Logic;
-use crate::reply::Reply;
-use job_store::{Job, JobMap, Mark, Name, State};
+use bean_words::{Name, Reply};
+use job_store::{Job, JobMap, Mark, State};
 use object::Value;
 use std::alloc::AllocError;
 

@@ -4,9 +4,9 @@ ghost use Rattle.bean_queue.specs.Queue.{used_by, watched_by};
 ghost use Rattle.bean_queue.specs.Tubes.{all_tubes};
 
 use crate::logic::Logic;
-use job_store::{JobMap, Name};
+use bean_words::{Name, Names};
+use job_store::JobMap;
 use object::Value;
-use session_store::Names;
 use std::alloc::{AllocError, Global};
 use std::collections::BTreeSet;
 

@@ -5,8 +5,8 @@ ghost use Rattle.bean_queue.specs.Tubes.{all_tubes};
 ghost use Rattle.bean_queue.specs.Calls.{DraftsRow};
 
 use crate::logic::Logic;
-use crate::reply::Reply;
-use job_store::{JobMap, Name};
+use bean_words::{Name, Reply};
+use job_store::JobMap;
 use std::alloc::AllocError;
 use tube_store::TubeMark;
 

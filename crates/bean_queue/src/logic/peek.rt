@@ -5,7 +5,7 @@ ghost use Rattle.bean_queue.specs.Queue.{used_by};
 ghost use Rattle.bean_queue.specs.Rows.{shown, at_id};
 
 use crate::logic::Logic;
-use crate::reply::Reply;
+use bean_words::Reply;
 use job_store::{Job, JobMap};
 use object::Value;
 use std::alloc::AllocError;

@@ -8,8 +8,7 @@ ghost use Rattle.bean_queue.specs.Reserving.{wake_outcome};
 
 use crate::counters::LIMIT;
 use crate::logic::Logic;
-use crate::op::Op;
-use crate::reply::Reply;
+use bean_words::{Op, Reply};
 use job_store::JobMap;
 use object::{Answer, Key};
 use std::alloc::{AllocError, Global};

@@ -4,8 +4,8 @@ ghost use Rattle.bean_queue.specs.Rows.{ready_after, put_row};
 ghost use Rattle.bean_queue.specs.Calls.{DraftsRow};
 
 use crate::logic::Logic;
-use crate::reply::Reply;
-use job_store::{Body, History, Job, JobMap, State};
+use bean_words::{Body, Reply};
+use job_store::{History, Job, JobMap, State};
 use object::Value;
 use std::alloc::AllocError;
 use tube_store::TubeMark;

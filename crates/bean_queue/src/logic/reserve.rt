@@ -9,8 +9,8 @@ ghost use Rattle.bean_queue.specs.Reserving.{best_for, denial, reserve_outcome, 
 
 use crate::deadlines::holds_by;
 use crate::logic::Logic;
-use crate::reply::Reply;
 use crate::waiting::best_ready;
+use bean_words::Reply;
 use job_store::{Job, JobMap, Mark, State};
 use object::{Answer, Key, Value};
 use session_store::Wait;

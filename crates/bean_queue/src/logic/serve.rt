@@ -6,9 +6,9 @@ ghost use Rattle.bean_queue.specs.Holders.{HasHolders};
 
 use crate::deadlines::{first_holder, holders_by};
 use crate::logic::Logic;
-use crate::reply::Reply;
 use crate::waiting::best_offer;
-use job_store::{Job, JobMap, Mark, Name, State};
+use bean_words::{Name, Reply};
+use job_store::{Job, JobMap, Mark, State};
 use object::{Answer, Key, Value};
 use std::alloc::{AllocError, Global};
 

@@ -2,7 +2,8 @@ ghost use Rattle.std.specs.Prelude.{◌≡◌, ◌∷◌, []};
 ghost use Rattle.bean_queue.specs.Rows.{is_kept, settled};
 
 use crate::logic::Logic;
-use job_store::{JobMap, Name};
+use bean_words::Name;
+use job_store::JobMap;
 
 impl<M: JobMap> Logic<M> {
     /// Whether list-tubes names a tube, or it is paused.

@@ -11,10 +11,10 @@ use crate::figures::{QueueFigures, TubeFigures};
 use crate::group::Group;
 use crate::job_report::job_report;
 use crate::logic::Logic;
-use crate::reply::Reply;
 use crate::report::Report;
 use crate::tube_report::tube_report;
-use job_store::{JobMap, Name};
+use bean_words::{Name, Reply};
+use job_store::JobMap;
 use std::alloc::{AllocError, Global};
 
 impl<M: JobMap> Logic<M> {

@@ -7,9 +7,9 @@ ghost use Rattle.bean_queue.specs.Calls.{DraftsOutcome, DraftsWaking};
 
 use crate::logic::Logic;
 use crate::ready_again::{make_due_ready, release_held};
-use crate::reply::Reply;
+use bean_words::{Name, Reply};
 use indexmap::IndexSet;
-use job_store::{JobMap, Name};
+use job_store::JobMap;
 use object::Answer;
 use std::alloc::{AllocError, Global};
 

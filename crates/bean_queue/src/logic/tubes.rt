@@ -4,8 +4,8 @@ ghost use Rattle.bean_queue.specs.Rows.{use_row, watch_row, ignore_row};
 ghost use Rattle.bean_queue.specs.Calls.{DoesRow};
 
 use crate::logic::Logic;
-use crate::reply::Reply;
-use job_store::{JobMap, Name};
+use bean_words::{Name, Reply};
+use job_store::JobMap;
 use object::Value;
 use std::alloc::AllocError;
 

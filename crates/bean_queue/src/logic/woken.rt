@@ -5,8 +5,8 @@ ghost use Rattle.bean_queue.specs.Reserving.{is_reserve};
 ghost use Rattle.bean_queue.specs.Woken.{tube_of, woken_by};
 
 use crate::logic::Logic;
-use crate::op::Op;
-use job_store::{JobMap, Name};
+use bean_words::{Name, Op};
+use job_store::JobMap;
 use object::{Key, Value};
 use std::alloc::AllocError;
 

@@ -1,6 +1,7 @@
 //! Calls of a hall, one after the other, until a command is answered.
 
-use bean_queue::{Op, Queue};
+use bean_queue::Queue;
+use bean_words::Op;
 use hall::{Hall, Ticket};
 use object::Act;
 

@@ -1,6 +1,7 @@
 //! Dumps of halls: each is written, read again and checked.
 
-use bean_queue::{Op, Queue, Reply};
+use bean_queue::Queue;
+use bean_words::{Op, Reply};
 use chronicle::{Chronicle, WriteText, check, read_text};
 use hall::Hall;
 use std::alloc::Global;

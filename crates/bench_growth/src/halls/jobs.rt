@@ -3,7 +3,8 @@
 use super::calls::ask;
 use super::dumps::count_dump;
 use ballot::Members;
-use bean_queue::{Body, Op, Queue, Reply};
+use bean_queue::Queue;
+use bean_words::{Body, Op, Reply};
 use hall::{Hall, Ticket};
 use std::alloc::Global;
 use std::time::CpuClock;

@@ -2,7 +2,8 @@
 
 use super::calls::{deliver_all, deliver_each, perform_each};
 use ballot::Members;
-use bean_queue::{Op, Queue, Reply};
+use bean_queue::Queue;
+use bean_words::{Op, Reply};
 use hall::{Hall, Ticket};
 use object::Act;
 

@@ -3,7 +3,8 @@
 use super::calls::{decide_next, deliver_all};
 use super::dumps::count_dump;
 use ballot::Members;
-use bean_queue::{Op, Queue};
+use bean_queue::Queue;
+use bean_words::Op;
 use hall::Hall;
 use object::Act;
 

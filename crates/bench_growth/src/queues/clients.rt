@@ -1,4 +1,5 @@
-use bean_queue::{Body, Name, Names, Op, Queue, Reply};
+use bean_queue::Queue;
+use bean_words::{Body, Name, Names, Op, Reply};
 use object::{Act, Answer, Command, Key, Object};
 use std::alloc::Global;
 use std::fmt::Write;

@@ -2,7 +2,7 @@
 
 use super::clients::Clients;
 use super::marks::Marks;
-use bean_queue::{Op, Reply};
+use bean_words::{Op, Reply};
 
 /// The tubes that have the jobs, by their letters. The session that puts into a tube has its letter's number.
 const TUBES: [u8; 10] = [b'a', b'b', b'c', b'd', b'e', b'f', b'g', b'h', b'i', b'j'];

@@ -12,17 +12,17 @@ use Rattle.hex.specs.Hex.{IsBytes, encode_lower, encode_with, lower_digits, deco
 use Rattle.hex.proofs.HexLemmas.{decode_of-encode_lower}
 use Rattle.object.specs.declared.command.Act.{Act}
 use Rattle.object.specs.declared.command.Act.TheVariants.{Do, Close, Tick}
-use Rattle.job_store.specs.Names.{IsName}
-use Rattle.bean_queue.specs.declared.op.Op.{Op}
-use Rattle.bean_queue.specs.declared.op.Op.TheVariants.{Put, Use, Watch, Ignore, Reserve, Delete, Touch, Release, Bury}
-use Rattle.bean_queue.specs.declared.op.Op.TheVariants.{Kick, KickJob, Peek, PeekReady, PeekDelayed, PeekBuried}
-use Rattle.bean_queue.specs.declared.op.Op.TheVariants.{ListTubes, ListTubeUsed, ListTubesWatched, Pause}
-use Rattle.bean_queue.specs.declared.op.Op.TheVariants.{ReserveJob, StatsJob, StatsTube, Stats}
-use Rattle.bean_queue.specs.declared.reply.Reply.{Reply}
-use Rattle.bean_queue.specs.declared.reply.Reply.TheVariants.{Inserted, Using, Watching, NotIgnored, Reserved}
-use Rattle.bean_queue.specs.declared.reply.Reply.TheVariants.{DeadlineSoon, TimedOut, Deleted, NotFound, Released}
-use Rattle.bean_queue.specs.declared.reply.Reply.TheVariants.{Buried, Touched, KickedCount, Kicked, Found, Tubes}
-use Rattle.bean_queue.specs.declared.reply.Reply.TheVariants.{Paused, Data, InternalError}
+use Rattle.bean_words.specs.Names.{IsName}
+use Rattle.bean_words.specs.declared.op.Op.{Op}
+use Rattle.bean_words.specs.declared.op.Op.TheVariants.{Put, Use, Watch, Ignore, Reserve, Delete, Touch, Release, Bury}
+use Rattle.bean_words.specs.declared.op.Op.TheVariants.{Kick, KickJob, Peek, PeekReady, PeekDelayed, PeekBuried}
+use Rattle.bean_words.specs.declared.op.Op.TheVariants.{ListTubes, ListTubeUsed, ListTubesWatched, Pause}
+use Rattle.bean_words.specs.declared.op.Op.TheVariants.{ReserveJob, StatsJob, StatsTube, Stats}
+use Rattle.bean_words.specs.declared.reply.Reply.{Reply}
+use Rattle.bean_words.specs.declared.reply.Reply.TheVariants.{Inserted, Using, Watching, NotIgnored, Reserved}
+use Rattle.bean_words.specs.declared.reply.Reply.TheVariants.{DeadlineSoon, TimedOut, Deleted, NotFound, Released}
+use Rattle.bean_words.specs.declared.reply.Reply.TheVariants.{Buried, Touched, KickedCount, Kicked, Found, Tubes}
+use Rattle.bean_words.specs.declared.reply.Reply.TheVariants.{Paused, Data, InternalError}
 use Rattle.bean_codec.specs.Arguments.{line_of, alone, one_id, one_number, one_name, release_line, bury_line}
 use Rattle.bean_codec.specs.Arguments.{reserve_line, kick_line, delete_line, touch_line, kick_job_line, peek_line}
 use Rattle.bean_codec.specs.Arguments.{use_line, watch_line, ignore_line, pause_line, reserve_job_line, stats_job_line}

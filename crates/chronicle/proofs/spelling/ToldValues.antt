@@ -15,11 +15,11 @@ use Rattle.object.specs.Commands.{IsCommand, MayAsk}
 use Rattle.object.specs.declared.command.Act.{Act}
 use Rattle.object.specs.declared.command.Act.TheVariants.{Do, Close, Tick}
 use Rattle.object.specs.declared.command.Key.{Key}
-use Rattle.job_store.specs.Names.{IsName}
-use Rattle.bean_queue.specs.declared.op.Op.{Op}
-use Rattle.bean_queue.specs.declared.reply.Reply.{Reply}
-use Rattle.bean_queue.specs.declared.reply.Reply.TheVariants.{Using, Reserved, Found, Tubes, Data}
-use Rattle.bean_queue.specs.declared.op.Op.TheVariants as op
+use Rattle.bean_words.specs.Names.{IsName}
+use Rattle.bean_words.specs.declared.op.Op.{Op}
+use Rattle.bean_words.specs.declared.reply.Reply.{Reply}
+use Rattle.bean_words.specs.declared.reply.Reply.TheVariants.{Using, Reserved, Found, Tubes, Data}
+use Rattle.bean_words.specs.declared.op.Op.TheVariants as op
 use Rattle.bean_codec.specs.declared.profile.Profile.TheVariants.{Extended}
 use Rattle.bean_codec.specs.declared.command.CommandName.{CommandName}
 use Rattle.bean_codec.specs.declared.command.CommandName.TheVariants as command

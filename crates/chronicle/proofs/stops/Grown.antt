@@ -9,8 +9,8 @@ use Rattle.object.specs.declared.command.Answer.{Answer}
 use Rattle.object.specs.declared.command.Command.{Command}
 use Rattle.object.specs.declared.command.Key.{Key}
 use Rattle.object.specs.declared.command.Submission.{Submission}
-use Rattle.bean_queue.specs.declared.op.Op.{Op}
-use Rattle.bean_queue.specs.declared.reply.Reply.{Reply}
+use Rattle.bean_words.specs.declared.op.Op.{Op}
+use Rattle.bean_words.specs.declared.reply.Reply.{Reply}
 use Rattle.recorder.proofs.Grown.{begun_is, submitted_is, answered_is, placed_is}
 use Rattle.recorder.specs.Chronicles.{Chronicle, IsChronicle}
 use Rattle.recorder.specs.Growing.{begun, submitted_last, answered_last, placed_last}

@@ -6,8 +6,8 @@ use Rattle.object.specs.Lists.{In}
 use Rattle.object.specs.declared.command.Answer.{Answer}
 use Rattle.object.specs.declared.command.Key.{Key}
 use Rattle.object.specs.declared.command.Submission.{Submission}
-use Rattle.bean_queue.specs.declared.op.Op.{Op}
-use Rattle.bean_queue.specs.declared.reply.Reply.{Reply}
+use Rattle.bean_words.specs.declared.op.Op.{Op}
+use Rattle.bean_words.specs.declared.reply.Reply.{Reply}
 use Rattle.recorder.specs.Chronicles.{Chronicle, IsChronicle}
 use Rattle.chronicle.specs.Dump.{version_of, dump_text}
 use Rattle.chronicle.specs.Fits.{FitsChronicle, FitsCommand, FitsAnswer}

@@ -9,8 +9,8 @@ use Rattle.std.specs.List.{flat_map}
 use Rattle.object.specs.Lists.{In}
 use Rattle.object.specs.declared.command.Answer.{Answer}
 use Rattle.object.specs.declared.command.Submission.{Submission}
-use Rattle.bean_queue.specs.declared.op.Op.{Op}
-use Rattle.bean_queue.specs.declared.reply.Reply.{Reply}
+use Rattle.bean_words.specs.declared.op.Op.{Op}
+use Rattle.bean_words.specs.declared.reply.Reply.{Reply}
 use Rattle.chronicle.specs.Dump.{submission_line, answer_line, happening_line}
 use Rattle.chronicle.specs.Happenings.{happenings_from}
 use Rattle.chronicle.specs.Happenings.Happening.{Submitted, Answered}

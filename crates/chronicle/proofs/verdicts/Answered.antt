@@ -15,8 +15,8 @@ use Rattle.object.specs.declared.command.Key.{Key}
 use Rattle.object.specs.declared.command.Submission.{Submission}
 use Rattle.bean_queue.specs.Effects.{effect}
 use Rattle.bean_queue.specs.Queue.{fresh}
-use Rattle.bean_queue.specs.declared.op.Op.{Op}
-use Rattle.bean_queue.specs.declared.reply.Reply.{Reply}
+use Rattle.bean_words.specs.declared.op.Op.{Op}
+use Rattle.bean_words.specs.declared.reply.Reply.{Reply}
 use Rattle.chronicle.specs.Checking.{IsGivenBy, ordered_commands}
 use Rattle.recorder.specs.Chronicles.{Chronicle}
 use Rattle.chronicle.specs.Replaying.{placed}

@@ -1,8 +1,8 @@
 -- Cuts of a list that has one item more at its end.
 use Rattle.std.proofs.Common.{◌≡◌, ◌+◌, inl, inr, List, [], ◌∷◌, ◌++◌, length, ap, subst, ◌∙◌, arith}
 use Rattle.std.proofs.lemmas.List.{length-append}
-use Rattle.bean_queue.specs.declared.op.Op.{Op}
-use Rattle.bean_queue.specs.declared.reply.Reply.{Reply}
+use Rattle.bean_words.specs.declared.op.Op.{Op}
+use Rattle.bean_words.specs.declared.reply.Reply.{Reply}
 use Rattle.object.specs.declared.command.Key.{Key}
 use Rattle.chronicle.specs.Checking.{IsRightPlace, IsRightLine, AreRightPlaces, AreRightLines}
 use Rattle.recorder.specs.Chronicles.{Chronicle}

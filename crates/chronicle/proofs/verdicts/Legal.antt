@@ -16,8 +16,8 @@ use Rattle.object.specs.declared.command.Command.{Command}
 use Rattle.object.specs.declared.command.Key.{Key}
 use Rattle.object.specs.declared.command.Submission.{Submission}
 use Rattle.bean_queue.specs.Places.{queue_replay, HasDistinctKeys}
-use Rattle.bean_queue.specs.declared.op.Op.{Op}
-use Rattle.bean_queue.specs.declared.reply.Reply.{Reply}
+use Rattle.bean_words.specs.declared.op.Op.{Op}
+use Rattle.bean_words.specs.declared.reply.Reply.{Reply}
 use Rattle.recorder.specs.Chronicles.{Chronicle, IsChronicle}
 use Rattle.chronicle.specs.Checking.{ordered_commands, IsGivenBy, IsAbove, IsFaultless}
 use Rattle.bean_queue.specs.Effects.{queue_rules}

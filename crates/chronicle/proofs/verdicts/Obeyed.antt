@@ -19,8 +19,8 @@ use Rattle.object.specs.declared.command.Key.{Key}
 use Rattle.object.specs.declared.command.Submission.{Submission}
 use Rattle.bean_queue.specs.Places.{queue_replay}
 use Rattle.bean_queue.specs.Queue.{QueueState, fresh}
-use Rattle.bean_queue.specs.declared.op.Op.{Op}
-use Rattle.bean_queue.specs.declared.reply.Reply.{Reply}
+use Rattle.bean_words.specs.declared.op.Op.{Op}
+use Rattle.bean_words.specs.declared.reply.Reply.{Reply}
 use Rattle.chronicle.specs.Checking.{IsAbove, AreRightPlaces}
 use Rattle.chronicle.specs.CheckFaults.{IsWrongPlace, IsWrongOrder}
 use Rattle.recorder.specs.Chronicles.{Chronicle}

@@ -20,8 +20,8 @@ use Rattle.object.specs.declared.command.Command.{Command}
 use Rattle.object.specs.declared.command.Key.{Key}
 use Rattle.object.specs.declared.command.Submission.{Submission}
 use Rattle.bean_queue.specs.Places.{queue_replay, HasDistinctKeys}
-use Rattle.bean_queue.specs.declared.op.Op.{Op}
-use Rattle.bean_queue.specs.declared.reply.Reply.{Reply}
+use Rattle.bean_words.specs.declared.op.Op.{Op}
+use Rattle.bean_words.specs.declared.reply.Reply.{Reply}
 use Rattle.chronicle.specs.CheckFaults.{IsWrongLine, IsWrongHappening}
 use Rattle.chronicle.specs.Checking.{IsGivenBy, IsFirstOfKey, IsPlacedLater, IsRightLine, AreRightPlaces, AreRightLines, ordered_commands}
 use Rattle.recorder.specs.Chronicles.{Chronicle, IsChronicle}

@@ -15,13 +15,14 @@ use Rattle.job_store.specs.declared.count.Count.{Count}
 use Rattle.job_store.specs.declared.job.Job.{Job}
 use Rattle.job_store.specs.Counts.{AreApart, AreCounted, all_places}
 use Rattle.job_store.specs.Entries.{Rising}
-use Rattle.job_store.specs.Racks.{shelf_at, name_cmp}
+use Rattle.job_store.specs.Racks.{shelf_at}
+use Rattle.bean_words.specs.Names.{name_cmp}
 use Rattle.job_store.specs.ShelfStates.{ShelfState, bare}
 use Rattle.job_store.proofs.counting.Apart.{apart-append}
 use Rattle.job_store.proofs.counting.Counted.{AreOn, IsCountOf, how-many, counted}
 use Rattle.job_store.proofs.counting.Passing.{passes-le}
 use Rattle.job_store.proofs.least.Least.{same_entry}
-use Rattle.job_store.proofs.naming.NameSets.{at-name}
+use Rattle.bean_words.proofs.naming.NameSets.{at-name}
 
 -- The shelf of a name, among shelves whose names rise
 

@@ -10,14 +10,14 @@ use Rattle.std.specs.Map.{keys_of, lookup}
 use Rattle.std.proofs.lemmas.Map.Text.{is_eq-slice_cmp}
 use Rattle.object.specs.Lists.{In}
 use Rattle.job_store.specs.declared.job.Job.{Job}
-use Rattle.job_store.specs.declared.name.Name.{Name}
+use Rattle.bean_words.specs.declared.name.Name.{Name}
 use Rattle.job_store.specs.declared.label.Label.{Label}
 use Rattle.job_store.specs.declared.shelves.Shelves.{Shelves}
 use Rattle.job_store.specs.declared.spot.Spot.{Spot}
 use Rattle.job_store.specs.States.{is_ready}
 use Rattle.job_store.specs.LookUps.{is_among, not_paused, ready_in, pri_of_job, AreReadyPlaces}
 use Rattle.job_store.specs.Least.{first_of, IsLeast, NonePasses, least}
-use Rattle.job_store.specs.Racks.{name_cmp}
+use Rattle.bean_words.specs.Names.{name_cmp}
 use Rattle.job_store.specs.Undone.{MapState}
 use Rattle.job_store.specs.ShelfStates.{numbered_place}
 use Rattle.job_store.specs.Shelves.{places, lists, IsListed, ShelvesMatch}

@@ -6,17 +6,17 @@ use Rattle.std.specs.Map.{keys_of, lookup}
 use Rattle.std.specs.BTreeMap.{is_at}
 use Rattle.object.specs.Lists.{In}
 use Rattle.job_store.specs.declared.job.Job.{Job}
-use Rattle.job_store.specs.declared.name.Name.{Name}
+use Rattle.bean_words.specs.declared.name.Name.{Name}
 use Rattle.job_store.specs.declared.state.State.{State}
 use Rattle.job_store.specs.declared.label.Label.{Label}
 use Rattle.job_store.specs.declared.shelves.Shelves.{Shelves}
 use Rattle.job_store.specs.States.{is_ready, is_delayed, is_buried, is_reserved}
 use Rattle.job_store.specs.Least.{IsLeast, NonePasses}
 use Rattle.job_store.specs.LookUps.{ready_in, delayed_in, buried_in, reserved_in, is_in, has_jobs}
-use Rattle.job_store.specs.Racks.{name_cmp}
+use Rattle.bean_words.specs.Names.{name_cmp}
 use Rattle.job_store.specs.ShelfStates.{ShelfState, bare}
 use Rattle.job_store.specs.Shelves.{number, HavePlaces}
-use Rattle.job_store.proofs.naming.NameSets.{at-name}
+use Rattle.bean_words.proofs.naming.NameSets.{at-name}
 use Rattle.job_store.proofs.shelving.Shelving.{nothing}
 use Rattle.job_store.proofs.readiness.Readiness.{ready-test}
 

@@ -10,7 +10,8 @@ use Rattle.job_store.specs.declared.shelves.Shelves.{Shelves}
 use Rattle.job_store.specs.States.{is_ready, is_delayed, is_buried, is_reserved, is_held, is_scheduled, holder_of}
 use Rattle.job_store.specs.LookUps.{pri_of_job, due_of_job, rank_of_job}
 use Rattle.job_store.specs.ShelfStates.{ShelfState, IsFound}
-use Rattle.job_store.specs.Racks.{shelf_at, name_cmp}
+use Rattle.job_store.specs.Racks.{shelf_at}
+use Rattle.bean_words.specs.Names.{name_cmp}
 use Rattle.job_store.specs.Shelves.{BelongsAt, shelf, places, AreInReach, HasPut, HasTaken, HasGoneBack, HasCome}
 
 pub put-twice : {s t u : Shelves} {e : ℕ × Job} → HasPut s t e → HasPut t u e → HasPut s u e

@@ -4,13 +4,14 @@ use Rattle.std.proofs.lemmas.Bool.{both_ways, cases_eq}
 use Rattle.std.proofs.lemmas.Slice.Eq.{bytes_eq-Decides}
 use Rattle.object.specs.Lists.{In}
 use Rattle.job_store.specs.declared.job.Job.{Job}
-use Rattle.job_store.specs.declared.name.Name.{Name}
+use Rattle.bean_words.specs.declared.name.Name.{Name}
 use Rattle.job_store.specs.declared.label.Label.{Label}
 use Rattle.job_store.specs.declared.rack.Rack.{Rack}
 use Rattle.job_store.specs.declared.shelves.Shelves.{Shelves}
 use Rattle.job_store.specs.States.{is_ready, is_delayed, is_buried, is_reserved, is_held}
 use Rattle.job_store.specs.ShelfStates.{ShelfState, IsFrom, HasGained, HasLost, HasReached}
-use Rattle.job_store.specs.Racks.{shelf_at, name_cmp, AreOthersKept}
+use Rattle.job_store.specs.Racks.{shelf_at, AreOthersKept}
+use Rattle.bean_words.specs.Names.{name_cmp}
 use Rattle.job_store.specs.Shelves.{belongs, number, lists, BelongsAt, shelf, HasPut, HasTaken, HasGoneBack, HasMovedOn, HasSettled}
 
 -- two labels of one shelf

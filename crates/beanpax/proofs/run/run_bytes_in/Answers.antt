@@ -1,7 +1,7 @@
 use Rattle.std.proofs.Common.{rules}
-use Rattle.bean_queue.specs.contracts.op.OpPartialEq.TheImpl.{ghosts}
+use Rattle.bean_words.specs.contracts.op.OpPartialEq.TheImpl.{ghosts}
 use Rattle.bean_queue.specs.Queue.{QueueState}
-use Rattle.bean_queue.specs.declared.op.Op.{Op}
+use Rattle.bean_words.specs.declared.op.Op.{Op}
 use Rattle.session.specs.Serving.{Closes}
 use Rattle.simulated_hall.specs.OneClient.{Talk}
 use Rattle.simulated_hall.specs.Standing.{StandsFor}

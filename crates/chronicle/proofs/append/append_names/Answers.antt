@@ -1,7 +1,7 @@
 use Rattle.std.proofs.Common.{take, arith}
 use Rattle.chronicle.specs.Lines.{spaced}
 use Rattle.std.proofs.lemmas.Grind.{common_steps}
-use Rattle.job_store.specs.Names.{IsName}
+use Rattle.bean_words.specs.Names.{IsName}
 use Rattle.chronicle.proofs.texts.Texts.{front_kept}
 use Rattle.chronicle.proofs.spelling.ValueLists.{all_next, all_through}
 use Rattle.chronicle.proofs.append.append_names.Goals as goal

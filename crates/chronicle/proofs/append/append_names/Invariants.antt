@@ -1,6 +1,6 @@
 use Rattle.std.proofs.Common.{◌≡◌, ◌++◌, take}
 use Rattle.std.specs.List.{AllByRecursion}
-use Rattle.job_store.specs.Names.{IsName}
+use Rattle.bean_words.specs.Names.{IsName}
 use Rattle.chronicle.specs.Lines.{spaced}
 use Rattle.chronicle.proofs.append.append_names.Given as goal
 

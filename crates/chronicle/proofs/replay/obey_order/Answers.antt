@@ -1,7 +1,7 @@
 use Rattle.std.proofs.Common.{◌≡◌, [], length, map, take, get_or, sym, ap, subst, ◌∙◌, arith, rules}
 use Rattle.std.proofs.lemmas.List.{take_all}
 use Rattle.object.specs.FilterLaws.{FilterLaws}
-use Rattle.bean_queue.specs.declared.op.Op.{Op}
+use Rattle.bean_words.specs.declared.op.Op.{Op}
 use Rattle.object.specs.Happenings.{submitted_key}
 use Rattle.chronicle.specs.declared.check_fault.What.TheVariants.{NotSubmitted, NotKept}
 use Rattle.bean_queue.specs.Places.{queue_replay}

@@ -1,6 +1,6 @@
 use Rattle.std.proofs.Common.{Some, sym, ap, ◌∙◌}
 use Rattle.object.specs.declared.command.Command.{Command}
-use Rattle.bean_queue.specs.declared.op.Op.{Op}
+use Rattle.bean_words.specs.declared.op.Op.{Op}
 use Rattle.chronicle.specs.declared.entry.Entry.TheVariants.{Submitted}
 use Rattle.chronicle.proofs.spelling.EntryLines.{command_told}
 use Rattle.chronicle.proofs.spelling.ToldValues.{not_asked}

@@ -1,7 +1,7 @@
 use Rattle.std.proofs.Common.{◌≡◌, true, [], ◌∷◌, rules, ap}
 use Rattle.std.specs.Map.{keys_of}
 use Rattle.job_store.specs.LookUps.{has_jobs}
-use Rattle.job_store.proofs.naming.NameSets.{none-added, one-added, all-added, adds-twice}
+use Rattle.bean_words.proofs.naming.NameSets.{none-added, one-added, all-added, adds-twice}
 use Rattle.job_store.proofs.jobs.add_shelved.Goals as goal
 
 pub loop-tube-init : goal.loop-tube-init

@@ -1,7 +1,7 @@
 use Rattle.std.proofs.Common.{◌≡◌, true}
 use Rattle.std.specs.Map.{keys_of}
 use Rattle.job_store.specs.LookUps.{has_jobs}
-use Rattle.job_store.proofs.naming.NameSets.{AreAdded}
+use Rattle.bean_words.proofs.naming.NameSets.{AreAdded}
 use Rattle.job_store.proofs.jobs.add_shelved.Given as goal
 
 abbrev pub invariant-loop-tube : goal.invariant-loop-tube

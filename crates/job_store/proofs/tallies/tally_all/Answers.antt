@@ -1,7 +1,7 @@
 use Rattle.std.proofs.Common.{rules, ◌≡◌, ◌^◌, ◌<◌, ℕ, List, [], true, Bor, length}
 use Rattle.std.proofs.lemmas.List.{nil_from_length}
 use Rattle.job_store.specs.declared.label.Label.{Label}
-use Rattle.job_store.specs.declared.name.Name.{Name}
+use Rattle.bean_words.specs.declared.name.Name.{Name}
 use Rattle.job_store.specs.LookUps.{pri_of_job, due_of_job, rank_of_job}
 use Rattle.job_store.specs.States.{is_ready, is_delayed, is_buried, is_reserved}
 use Rattle.job_store.proofs.counting.AllShelves.{all-of}

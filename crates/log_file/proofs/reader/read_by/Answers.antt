@@ -1,7 +1,7 @@
 use Rattle.std.proofs.Common.{◌≡◌, ℕ, ◌+◌, ◌<◌, ◌≤◌, ◌^◌, List, Option, length, take, length-take, arith, rules, subst}
 use Rattle.std.specs.Io.KnownBytes.{Consumes}
 use Rattle.object.specs.declared.command.Command.{Command}
-use Rattle.bean_queue.specs.declared.op.Op.{Op}
+use Rattle.bean_words.specs.declared.op.Op.{Op}
 use Rattle.command_log.specs.declared.reader.LogReader.{LogReader}
 use Rattle.log_file.proofs.Recovering.{IsReadTo, at_end, goes_on, is_too_long, of_reading, tells_fault, tells_log}
 use Rattle.log_file.proofs.reader.read_by.Goals as goal

@@ -2,7 +2,7 @@ use Rattle.std.proofs.Common.{ap, ap₂, sym, ◌∙◌}
 use Rattle.std.proofs.lemmas.Map.Steps.{set_value_same}
 use Rattle.object.proofs.KeyMaps.{on_err}
 use Rattle.std.specs.BTreeMap.{insert_entry}
-use Rattle.job_store.specs.Racks.{name_cmp}
+use Rattle.bean_words.specs.Names.{name_cmp}
 use Rattle.tube_store.specs.declared.name_step.NameStep.{NameStep}
 use Rattle.tube_store.specs.NameSteps.{before_steps}
 use Rattle.tube_store.proofs.NameMaps.{set-inserts}

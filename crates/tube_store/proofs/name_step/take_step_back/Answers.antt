@@ -2,7 +2,7 @@ use Rattle.std.proofs.Common.{◌≡◌, ◌∙◌, ℕ, List, ap, sym, None, BT
 use Rattle.std.specs.Option.{option_copied_mut}
 use Rattle.std.specs.Map.{lookup}
 use Rattle.std.specs.BTreeMap.{is_at}
-use Rattle.job_store.specs.Racks.{name_cmp}
+use Rattle.bean_words.specs.Names.{name_cmp}
 use Rattle.tube_store.specs.declared.name_step.NameStep.{NameStep}
 use Rattle.tube_store.specs.NameSteps.{step_back}
 use Rattle.tube_store.proofs.NameMaps.{set-absent}

@@ -6,7 +6,7 @@ use Rattle.object.specs.declared.command.Answer.{Answer}
 use Rattle.session_store.specs.declared.session.SessionState.{SessionState}
 use Rattle.session_store.specs.Sessions.{first_waiting}
 use Rattle.session_store.specs.Drafts.{Draft}
-use Rattle.bean_queue.specs.declared.reply.Reply.{Reply}
+use Rattle.bean_words.specs.declared.reply.Reply.{Reply}
 use Rattle.job_store.specs.LookUps.{is_among}
 use Rattle.bean_queue.specs.Queue.{QueueState, state_of}
 use Rattle.bean_queue.specs.Turns.{IsTurn, next_job, serve_turn}

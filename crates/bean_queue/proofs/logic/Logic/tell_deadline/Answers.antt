@@ -4,7 +4,7 @@ use Rattle.job_store.specs.Entries.{Rising}
 use Rattle.session_store.specs.declared.session.SessionState.{SessionState}
 use Rattle.session_store.specs.Sessions.{first_waiting}
 use Rattle.session_store.specs.Drafts.{Draft}
-use Rattle.bean_queue.specs.declared.reply.Reply.{Reply}
+use Rattle.bean_words.specs.declared.reply.Reply.{Reply}
 use Rattle.bean_queue.specs.Holders.{HasHolders}
 use Rattle.bean_queue.specs.Queue.{QueueState, holds_by, state_of}
 use Rattle.bean_queue.specs.Turns.{IsTurn, deadline_turn}

@@ -3,7 +3,7 @@ use Rattle.object.specs.declared.command.Answer.{Answer}
 use Rattle.session_store.specs.declared.session.SessionState.{SessionState}
 use Rattle.session_store.specs.Sessions.{first_waiting, has_timed_out}
 use Rattle.session_store.specs.Drafts.{Draft}
-use Rattle.bean_queue.specs.declared.reply.Reply.{Reply}
+use Rattle.bean_words.specs.declared.reply.Reply.{Reply}
 use Rattle.bean_queue.specs.Queue.{QueueState, state_of}
 use Rattle.bean_queue.specs.Turns.{IsTurn, timeout_turn}
 use Rattle.bean_queue.proofs.best.Turned.{none-told_timeout, told_timeout}

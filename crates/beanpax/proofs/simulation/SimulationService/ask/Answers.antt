@@ -1,4 +1,4 @@
-use Rattle.bean_queue.specs.contracts.op.OpPartialEq.TheImpl.{ghosts}
+use Rattle.bean_words.specs.contracts.op.OpPartialEq.TheImpl.{ghosts}
 use Rattle.simulated_hall.specs.Standing.{StandsFor}
 use Rattle.bean_queue.specs.Effects.{queue_rules}
 use Rattle.beanpax.specs.Simulations.{IsStoppedBy}

@@ -1,6 +1,6 @@
 use Rattle.std.proofs.Common.{◌≡◌, ℕ, inl, inr, List, sym, subst}
 use Rattle.object.specs.declared.command.Command.{Command}
-use Rattle.bean_queue.specs.declared.op.Op.{Op}
+use Rattle.bean_words.specs.declared.op.Op.{Op}
 use Rattle.command_log.specs.declared.stage.Stage.{Stage}
 use Rattle.command_log.specs.Progress.{StepsOn}
 use Rattle.command_log.proofs.Steps.{stays_bad, stays_damaged}

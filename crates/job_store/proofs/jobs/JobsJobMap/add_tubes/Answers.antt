@@ -4,7 +4,7 @@ use Rattle.object.specs.Lists.{In}
 use Rattle.job_store.specs.Undone.{MapState}
 use Rattle.job_store.specs.Shelves.{HavePlaces}
 use Rattle.job_store.proofs.readiness.TubeJobs.{shelved}
-use Rattle.job_store.proofs.naming.NameSets.{adds-twice}
+use Rattle.bean_words.proofs.naming.NameSets.{adds-twice}
 use Rattle.job_store.proofs.jobs.JobsJobMap.add_tubes.Goals as goal
 
 pub returns-in_err-add_shelved-2-clause-kept : goal.returns-in_err-add_shelved-2-clause-kept

@@ -1,7 +1,7 @@
 use Rattle.std.proofs.Common.{◌≡◌, true, [], ◌∷◌, rules, ap}
 use Rattle.std.specs.Map.{keys_of}
 use Rattle.session_store.specs.Rolls.{is_named}
-use Rattle.job_store.proofs.naming.NameSets.{none-added, one-added, all-added, adds-twice}
+use Rattle.bean_words.proofs.naming.NameSets.{none-added, one-added, all-added, adds-twice}
 use Rattle.job_store.proofs.shelving.Shelving.{not_ok}
 use Rattle.session_store.proofs.Enrolled.{has-roll}
 use Rattle.session_store.proofs.rolls.Rolls.add_tubes.Goals as goal

@@ -1,7 +1,7 @@
 use Rattle.std.proofs.Common.{◌≡◌, true}
 use Rattle.std.specs.Map.{keys_of}
 use Rattle.session_store.specs.Rolls.{is_named}
-use Rattle.job_store.proofs.naming.NameSets.{AreAdded}
+use Rattle.bean_words.proofs.naming.NameSets.{AreAdded}
 use Rattle.session_store.proofs.rolls.Rolls.add_tubes.Given as goal
 
 abbrev pub invariant-loop-tube : goal.invariant-loop-tube

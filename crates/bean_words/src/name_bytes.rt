@@ -21,7 +21,7 @@ pub(crate) struct NameBytes {
 
 impl Model for NameBytes {
     ghost use Rattle.std.specs.Prelude.{List, ℕ};
-    ghost use Rattle.job_store.specs.Names.{name_bytes};
+    ghost use Rattle.bean_words.specs.Names.{name_bytes};
 
     ghost Value = { List ℕ };
 

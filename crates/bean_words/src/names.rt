@@ -1,6 +1,6 @@
 ghost use Rattle.std.specs.Prelude.{◌≡◌, ◌++◌, ◌∷◌, [], IfOk, OnOk, OnErr, true};
 
-use job_store::Name;
+use crate::name::Name;
 use object::Value;
 use std::alloc::{AllocError, Global};
 use std::marker::Model;
@@ -65,26 +65,26 @@ impl Names {
 }
 
 impl PartialEq for Names {
-    ghost use Rattle.session_store.specs.Names.{same_names, same_names-per};
+    ghost use Rattle.bean_words.specs.NameLists.{same_names, same_names-per};
 
     ghost eq = { same_names };
 
     ghost laws = { same_names-per };
 
-    #[tactic(auto, unfolding(crate::specs::Names::same_names))]
+    #[tactic(auto, unfolding(crate::specs::NameLists::same_names))]
     fn eq(&self, other: &Self) -> bool {
         self.items == other.items
     }
 }
 
 impl Eq for Names {
-    ghost use Rattle.session_store.specs.Names.{same_names-equiv};
+    ghost use Rattle.bean_words.specs.NameLists.{same_names-equiv};
 
     ghost laws = { same_names-equiv };
 }
 
 impl Value for Names {
-    ghost use Rattle.session_store.specs.Names.{same_names-exact};
+    ghost use Rattle.bean_words.specs.NameLists.{same_names-exact};
 
     ghost exact = { same_names-exact };
 

@@ -9,8 +9,8 @@ use Rattle.std.proofs.lemmas.Map.Lookups.{exact_bytes}
 use Rattle.std.proofs.lemmas.Map.Text.{is_eq-slice_cmp}
 use Rattle.std.proofs.lemmas.Slice.Eq.{bytes_eq-Decides}
 use Rattle.object.specs.Lists.{In}
-use Rattle.job_store.specs.NameSets.{AddsOnly}
-use Rattle.job_store.specs.Racks.{name_cmp}
+use Rattle.bean_words.specs.NameSets.{AddsOnly}
+use Rattle.bean_words.specs.Names.{name_cmp}
 
 pub from-insert : (t x : List ℕ) (xs : List (List ℕ)) → In t (insert_key name_cmp xs x) → In t xs ⊎ (t ≡ x)
 from-insert t x [] (inl same) = inr same

@@ -1,5 +1,5 @@
 ghost use Rattle.std.specs.Prelude.{◌≡◌, ◌↔◌, IfOk, OnErr, SomeIff, IsTrue, true, codes};
-ghost use Rattle.job_store.specs.Names.{IsName, IsNameByte, AreNameBytes};
+ghost use Rattle.bean_words.specs.Names.{IsName, IsNameByte, AreNameBytes};
 
 use crate::name_bytes::NameBytes;
 use object::Value;
@@ -16,7 +16,7 @@ pub struct Name {
 
 impl Model for Name {
     ghost use Rattle.std.specs.Prelude.{List, ℕ};
-    ghost use Rattle.job_store.specs.Names.{IsName};
+    ghost use Rattle.bean_words.specs.Names.{IsName};
 
     ghost Value = { List ℕ };
 

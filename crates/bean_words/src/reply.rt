@@ -1,9 +1,10 @@
-use job_store::{Body, Name};
+use crate::body::Body;
+use crate::name::Name;
+use crate::names::Names;
 use object::Value;
-use session_store::Names;
 use std::alloc::AllocError;
 
-/// What the queue answers. Replies that read alike are one value: `Using` answers two operations, and so does `Tubes`.
+/// What a queue answers. Replies that read alike are one value: `Using` answers two operations, and so does `Tubes`.
 #[derive(Drop, PartialEq, Eq)]
 pub enum Reply {
     /// The job was put, under this id.
@@ -45,7 +46,7 @@ impl Value for Reply {
     ghost use Rattle.std.specs.Prelude.{◌≡◌, true, List, ℕ};
     ghost use Rattle.std.proofs.Common.{rules};
     ghost use Rattle.std.proofs.lemmas.Grind.{common_steps};
-    ghost use Rattle.session_store.specs.Names.{same_names, same_names-exact};
+    ghost use Rattle.bean_words.specs.NameLists.{same_names, same_names-exact};
 
     ghost exact = { let names : (x y : List (List ℕ)) → same_names x y ≡ true → x ≡ y = same_names-exact in
         Prim.grind (rules, common_steps, names) };

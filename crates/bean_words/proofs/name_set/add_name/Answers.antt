@@ -1,7 +1,7 @@
 use Rattle.std.proofs.Common.{◌⊎◌, ◌≡◌, ◌∙◌, inl, inr, sym, subst}
 use Rattle.object.specs.Lists.{In}
-use Rattle.job_store.proofs.naming.NameSets.{from-insert, to-insert, found-in}
-use Rattle.job_store.proofs.name_set.add_name.Goals as goal
+use Rattle.bean_words.proofs.naming.NameSets.{from-insert, to-insert, found-in}
+use Rattle.bean_words.proofs.name_set.add_name.Goals as goal
 
 pub returns-else-not-contains-clause-there : goal.returns-else-not-contains-clause-there
 returns-else-not-contains-clause-there c = found-in c.args.name.now c.args.names.now.keys (sym c.contains.ensures ∙ c.if-not-contains.false)

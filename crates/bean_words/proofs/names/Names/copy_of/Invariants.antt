@@ -1,5 +1,5 @@
 use Rattle.std.proofs.Common.{◌≡◌, take}
-use Rattle.session_store.proofs.names.Names.copy_of.Given as goal
+use Rattle.bean_words.proofs.names.Names.copy_of.Given as goal
 
 abbrev pub invariant-loop-name : goal.invariant-loop-name
 invariant-loop-name l = l.items.items ≡ take l.name-index l.names

@@ -1,8 +1,9 @@
-use job_store::{Body, Name};
+use crate::body::Body;
+use crate::name::Name;
 use object::Value;
 use std::alloc::AllocError;
 
-/// What a session may ask of the queue. Seconds are counted from the queue's clock.
+/// What a session may ask of a queue. Seconds are counted from the queue's clock.
 #[derive(Drop, PartialEq, Eq)]
 pub enum Op {
     /// A new job in the used tube. The least priority is the most urgent; it is ready after `delay` seconds, and
@@ -71,48 +72,12 @@ pub enum Op {
     Stats,
 }
 
-impl Op {
-    ghost use Rattle.std.specs.Prelude.{◌≡◌};
-    ghost use Rattle.bean_queue.specs.Effects.{is_quiet};
-
-    /// Whether it makes no job ready and lets nobody wait, so that nobody is served after it.
-    pub(crate) fn is_quiet(&self) -> bool
-        ensures { result ≡ is_quiet self.now }
-    {
-        match self {
-            Op::Put { .. }
-            | Op::Reserve { .. }
-            | Op::Release { .. }
-            | Op::Kick(_)
-            | Op::KickJob(_)
-            | Op::Pause { .. } => false,
-            Op::Use(_)
-            | Op::Watch(_)
-            | Op::Ignore(_)
-            | Op::Delete(_)
-            | Op::Touch(_)
-            | Op::Bury { .. }
-            | Op::ReserveJob(_)
-            | Op::Peek(_)
-            | Op::PeekReady
-            | Op::PeekDelayed
-            | Op::PeekBuried
-            | Op::ListTubes
-            | Op::ListTubeUsed
-            | Op::ListTubesWatched
-            | Op::StatsJob(_)
-            | Op::StatsTube(_)
-            | Op::Stats => true,
-        }
-    }
-}
-
 impl Value for Op {
     ghost use Rattle.std.proofs.Common.{rules};
     ghost use Rattle.std.proofs.lemmas.Grind.{common_steps};
     ghost use Rattle.std.specs.Prelude.{◌≡◌, true};
-    ghost use Rattle.bean_queue.specs.contracts.op.OpPartialEq.TheImpl as of_op;
-    ghost use Rattle.bean_queue.specs.declared.op.Op.{Op};
+    ghost use Rattle.bean_words.specs.contracts.op.OpPartialEq.TheImpl as of_op;
+    ghost use Rattle.bean_words.specs.declared.op.Op.{Op};
 
     // Each kind of operation is compared with all by itself: together they have too many cases.
     ghost exact = { λ x. elim x as (λ x. (y : Op) → of_op.ghosts.eq x y ≡ true → x ≡ y) [

@@ -1,6 +1,6 @@
 use Rattle.std.proofs.Common.{rules}
-use Rattle.job_store.proofs.naming.Names.{name-decided}
-use Rattle.job_store.proofs.name.is_name.Goals as goal
+use Rattle.bean_words.proofs.naming.Names.{name-decided}
+use Rattle.bean_words.proofs.name.is_name.Goals as goal
 
 pub returns-then-bytes-le200 : goal.returns-then-bytes-le200
 returns-then-bytes-le200 c =

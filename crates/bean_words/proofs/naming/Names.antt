@@ -3,7 +3,7 @@ use Rattle.std.proofs.Common.{◌↔◌, IsTrue, MatchBool, Bool, true, false, �
 use Rattle.std.proofs.Common.{inl, inr, List, [], ◌∷◌, length, refl, sym, ◌∙◌, subst, arith}
 use Rattle.std.specs.List.{AllWithin, HoldsAt}
 use Rattle.object.specs.Lists.{In}
-use Rattle.job_store.specs.Names.{IsName, IsNameByte, AreNameBytes}
+use Rattle.bean_words.specs.Names.{IsName, IsNameByte, AreNameBytes}
 
 module _ {X : Type 0} (P : X → Type 0) where
   -- what holds at each index holds of each element

@@ -1,8 +1,8 @@
 use Rattle.std.proofs.Common.{rules}
 use Rattle.std.proofs.lemmas.Iterator.{cases_from_all, YieldsList-from_slice}
-use Rattle.job_store.specs.Names.{IsNameByte}
-use Rattle.job_store.proofs.naming.Names.{name_bytes-decided}
-use Rattle.job_store.proofs.name.are_name_bytes.Goals as goal
+use Rattle.bean_words.specs.Names.{IsNameByte}
+use Rattle.bean_words.proofs.naming.Names.{name_bytes-decided}
+use Rattle.bean_words.proofs.name.are_name_bytes.Goals as goal
 
 pub returns : goal.returns
 returns c =

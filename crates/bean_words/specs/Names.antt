@@ -1,6 +1,9 @@
 -- What a tube may be called (protocol.txt of beanstalkd, the part on names at its beginning, and "use": a tube's name
 -- has at most 200 bytes).
 use Rattle.std.specs.Prelude.{◌≡◌, ℕ, ◌≤◌, ◌⊎◌, List, length, slice_get, Option, Some, codes}
+use Rattle.std.specs.declared.cmp.Ordering.{Ordering}
+use Rattle.std.specs.Ordering.{nat_cmp}
+use Rattle.std.specs.Cmp.Lexicographic.{slice_cmp}
 use Rattle.std.specs.Option.{unwrap_or}
 use Rattle.object.specs.Lists.{In}
 
@@ -27,3 +30,7 @@ pub record IsName (name : List ℕ) : Type 0 where
 -- the bytes of a name, where no bytes of its own stand for `default`
 abbrev pub name_bytes : Option (List ℕ) → List ℕ
 name_bytes own = unwrap_or own (codes "default")
+
+-- the order of names: that of their bytes
+abbrev pub name_cmp : List ℕ → List ℕ → Ordering
+name_cmp = slice_cmp nat_cmp
