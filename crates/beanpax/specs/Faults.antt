@@ -14,8 +14,8 @@ use Rattle.log_file.specs.declared.faults.ReadFault.{ReadFault}
 use Rattle.log_file.specs.declared.faults.ReadFault.TheVariants as reading
 use Rattle.session.specs.declared.faults.SessionFault.{SessionFault}
 use Rattle.session.specs.declared.faults.SessionFault.TheVariants as of
-use Rattle.loops.specs.declared.fault.ServeFault.{ServeFault}
-use Rattle.loops.specs.declared.fault.ServeFault.TheVariants as server
+use Rattle.event_loops.specs.declared.fault.ServeFault.{ServeFault}
+use Rattle.event_loops.specs.declared.fault.ServeFault.TheVariants as server
 use Rattle.beanpax.specs.declared.faults.ProgramFault.{ProgramFault}
 use Rattle.beanpax.specs.declared.faults.ProgramFault.TheVariants.{OutOfMemory, BadNumber, ReadFailed, WriteFailed}
 use Rattle.beanpax.specs.declared.faults.ProgramFault.TheVariants.{ServiceStopped, ListenFailed, FileFailed}

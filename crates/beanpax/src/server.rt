@@ -7,7 +7,8 @@ ghost use Rattle.chronicle.specs.Checking.{IsFaultless};
 ghost use Rattle.chronicle.specs.Dump.{dump_text};
 ghost use Rattle.forgetting_hall.specs.Halls.{new_forgetting};
 ghost use Rattle.hall.specs.Halls.{chronicle_of, new_hall};
-ghost use Rattle.loops.specs.Comparing.{AllCompared, IsLoopCount};
+ghost use Rattle.event_loops.specs.LoopCounts.{IsLoopCount};
+ghost use Rattle.loops.specs.Comparing.{AllCompared};
 ghost use Rattle.beanpax.specs.Servers.{TellsPort, listening_line};
 
 use crate::faults::{ProgramFault, fault_of_logged, file_fault};

@@ -1,11 +1,6 @@
 -- What is known of a hall when all that was served there has ended.
-use Rattle.std.specs.Prelude.{◌≡◌, ◌≤◌, ℕ, Bool, true, List, length, sum, All, Option, None}
-use Rattle.loops.specs.declared.fault.ServeFault.{ServeFault}
-
--- so many loops a server may have
-pub record IsLoopCount (loops : ℕ) : Type 0 where
-  pub some : 1 ≤ loops
-  pub few : loops ≤ 64
+use Rattle.std.specs.Prelude.{◌≡◌, ℕ, Bool, true, List, length, sum, All, Option, None}
+use Rattle.event_loops.specs.declared.fault.ServeFault.{ServeFault}
 
 -- There is a mark for each session that was opened, which is set where its ticket agreed with the hall at its end. Where no
 -- fault is told all are set, and these tickets have as many acts as commands were handed in.

@@ -1,8 +1,8 @@
 ghost use Rattle.forgetting_hall.specs.Handing.{second_of};
 
-use crate::desk::LoopDesk;
 use bean_words::{Op, Reply};
 use conversation::{Desk, LeanTicket, SessionTicket};
+use event_loops::LoopDesk;
 use forgetting_hall::ForgettingHall;
 use hall::HallError;
 use object::{Act, Command, Object, Value};

@@ -2,11 +2,10 @@ ghost use Rattle.std.specs.Prelude.{◌≡◌, [], true, length, sum, All, IfOk,
 ghost use Rattle.counted_hall.specs.Marks.{is_free, with_mark};
 ghost use Rattle.hall.specs.Halls.{Agrees};
 
-use crate::desk::LoopDesk;
-use crate::fault::ServeFault;
 use bean_words::{Op, Reply};
 use conversation::Desk;
 use counted_hall::mark;
+use event_loops::{LoopDesk, ServeFault};
 use hall::{Hall, HallError, Ticket};
 use object::{Act, Command, Object};
 use std::alloc::{AllocError, Global};

@@ -1,33 +1,14 @@
-//! A server: loops over many connections, which share one hall under a lock.
+//! A server over a hall: one that keeps all, with which the tickets of its sessions are compared, or one that forgets.
 //!
-//! Each loop has a thread of its own and waits for all of its clients at once. What these ask for is handed in under one hold
-//! of the lock; the loop then takes the nodes' turns itself, until none has anything left to do, and tells the other loops
-//! whose clients were answered meanwhile.
+//! Either is a desk for the loops of `event_loops`, which serve its clients.
 #![tactic(auto)]
 
-mod clients;
-mod clock;
-mod desk;
-mod doorman;
-mod event_loop;
-mod fault;
 mod forgetting_desk;
 mod hall_desk;
-mod house;
-mod mailbox;
-mod seat;
-mod seats;
 mod server;
-mod shared_log;
-mod syncs;
-mod troubles;
-mod wire;
 
-pub use clients::Clients;
 pub use counted_hall::Seconds;
-pub use fault::ServeFault;
+pub use event_loops::{Clients, Host, Logging, ServeFault};
 pub use server::{
-    Host, KeptHall, Served, ServedForgetting, serve_again, serve_clients, serve_forgetting,
-    serve_logged,
+    KeptHall, Served, ServedForgetting, serve_again, serve_clients, serve_forgetting, serve_logged,
 };
-pub use shared_log::Logging;

@@ -1,35 +1,15 @@
 ghost use Rattle.std.specs.Prelude.{◌≡◌, [], IfOk};
-ghost use Rattle.loops.specs.Comparing.{IsLoopCount, AllCompared};
+ghost use Rattle.event_loops.specs.LoopCounts.{IsLoopCount};
+ghost use Rattle.loops.specs.Comparing.{AllCompared};
 
-use crate::clients::Clients;
-use crate::clock::run_clock;
-use crate::desk::LoopDesk;
-use crate::doorman::Doorman;
-use crate::event_loop::{Common, EventLoop, WAKER};
-use crate::fault::ServeFault;
 use crate::forgetting_desk::ForgettingDesk;
 use crate::hall_desk::HallDesk;
-use crate::house::House;
-use crate::mailbox::Mailbox;
-use crate::shared_log::{Logging, SharedLog};
-use crate::syncs::{keep_all, run_syncs};
 use bean_words::{Op, Reply};
 use counted_hall::Seconds;
+use event_loops::{Clients, Host, Logging, ServeFault, SharedLog, Terms, serve_desk};
 use forgetting_hall::ForgettingHall;
 use hall::{Hall, Ticket};
-use mio::Poll;
 use object::Object;
-use std::alloc::Global;
-use std::net::Net;
-use std::rt::Clock;
-use std::sync::{Mutex, Wait};
-use std::thread;
-use std::thread::{JoinHandle, Scope, Threads};
-
-/// What a server takes of the machine.
-pub trait Host: Net + Clock + Threads + Wait + AllocGlobal + Sync {}
-
-impl<R: Net + Clock + Threads + Wait + AllocGlobal + Sync> Host for R {}
 
 /// A hall that keeps all, and the tickets of the sessions that ended there before.
 #[derive(Drop)]
@@ -177,14 +157,6 @@ pub fn serve_logged<O: Object<Op = Op, Reply = Reply> + Send, T: Seconds + Send 
     serve_lean(rt, hall, seconds, terms)
 }
 
-// How it is served.
-#[derive(Drop)]
-struct Terms {
-    clients: Clients,
-    loops: u32,
-    log: Option<SharedLog>,
-}
-
 // Serves clients over a hall that forgets.
 fn serve_lean<O: Object<Op = Op, Reply = Reply> + Send, T: Seconds + Send + Drop, R: Host>(
     rt: &R,
@@ -198,212 +170,4 @@ fn serve_lean<O: Object<Op = Op, Reply = Reply> + Send, T: Seconds + Send + Drop
     let (desk, fault) = serve_desk(rt, desk, seconds, terms)?;
     let hall = desk.into_hall();
     Ok(ServedForgetting { hall, fault })
-}
-
-// Serves clients at a desk. It gives the desk back, and what went wrong, where something did.
-fn serve_desk<D, T, R>(
-    rt: &R,
-    desk: D,
-    seconds: T,
-    terms: Terms,
-) -> Result<(D, Option<ServeFault>), ServeFault>
-where
-    D: LoopDesk + Send + Drop,
-    D::Ticket: Send,
-    T: Seconds + Send + Drop,
-    R: Host,
-    requires loops { IsLoopCount terms.loops }
-{
-    let alloc = rt.alloc();
-    let nodes = desk.node_count();
-    let profile = terms.clients.profile;
-    let Terms {
-        clients,
-        loops,
-        log,
-    } = terms;
-    let Room { polls, mailboxes } = Room::new(rt, alloc, loops)?;
-    let door = Poll::new(rt)?;
-    let own = Mailbox::new(alloc, door.registry(), WAKER)?;
-    let doorman = Doorman::new(door, clients)?;
-    let mut house = House::new(alloc, desk);
-    house.begin();
-    let house = Mutex::new(house);
-    let fault = serve_all(
-        &Common {
-            rt,
-            alloc,
-            house: &house,
-            mailboxes: mailboxes.as_slice(),
-            door: &own,
-            nodes,
-            profile,
-            log: &log,
-        },
-        polls,
-        doorman,
-        seconds,
-    );
-    Ok((house.into_inner().desk, fault))
-}
-
-// What loops wait at, and where mail is left for them.
-#[derive(Drop)]
-struct Room {
-    polls: Vec<Poll>,
-    mailboxes: Vec<Mailbox>,
-}
-
-impl Room {
-    // Room for so many loops.
-    fn new<R: Net>(rt: &R, alloc: Global, loops: u32) -> Result<Room, ServeFault> {
-        let mut polls = Vec::new(alloc);
-        let mut mailboxes = Vec::new(alloc);
-        for _ in 0..loops {
-            let poll = Poll::new(rt)?;
-            let mailbox = Mailbox::new(alloc, poll.registry(), WAKER)?;
-            mailboxes
-                .push(mailbox)
-                .map_err(|_| ServeFault::OutOfMemory)?;
-            polls.push(poll).map_err(|_| ServeFault::OutOfMemory)?;
-        }
-        Ok(Room { polls, mailboxes })
-    }
-}
-
-// Runs a thread for each loop, one for the clock, and one that syncs the log, where that is to be done from time to time; and
-// lets clients in. All threads have ended when it returns, and all that took effect is kept.
-fn serve_all<'s, D, T, R>(
-    common: &'s Common<'s, R, D>,
-    polls: Vec<Poll>,
-    doorman: Doorman,
-    seconds: T,
-) -> Option<ServeFault>
-where
-    D: LoopDesk + Send,
-    D::Ticket: Send,
-    T: Seconds + Send + Drop + 's,
-    R: Clock + Threads + Wait + AllocGlobal + Sync,
-{
-    thread::scope(
-        thread::scope_env(),
-        common.rt,
-        move |scope| -> Option<ServeFault> {
-            let mut threads = Vec::new(common.alloc);
-            let mut others = Vec::new(common.alloc);
-            let started = start_all(scope, common, polls, seconds, &mut threads, &mut others);
-            let let_in = match started {
-                Ok(()) => doorman.let_in(common.rt, common.mailboxes, common.door),
-                Err(fault) => Err(fault),
-            };
-            for mailbox in common.mailboxes {
-                mailbox.end(common.rt);
-            }
-            let ended = join_all(common.rt, threads);
-            common.door.end(common.rt);
-            let others = join_all(common.rt, others);
-            first_fault(&[let_in, ended, others, keep_all(common)])
-        },
-    )
-}
-
-// The first of these faults, where there is one.
-fn first_fault(ended: &[Result<(), ServeFault>]) -> Option<ServeFault> {
-    ended.iter().find_map(|end| end.err())
-}
-
-// Waits until all of these threads have ended.
-fn join_all<R: Threads + Wait>(
-    rt: &R,
-    threads: Vec<JoinHandle<Result<(), ServeFault>>>,
-) -> Result<(), ServeFault> {
-    let mut ended = Ok(());
-    for thread in threads {
-        let result = thread.join(rt);
-        if ended.is_ok() {
-            ended = result;
-        }
-    }
-    ended
-}
-
-// Starts all threads: those of the loops, and the others.
-fn start_all<'s, E, D, T, R>(
-    scope: &Scope<'s, E>,
-    common: &'s Common<'s, R, D>,
-    polls: Vec<Poll>,
-    seconds: T,
-    threads: &mut Vec<JoinHandle<Result<(), ServeFault>>>,
-    others: &mut Vec<JoinHandle<Result<(), ServeFault>>>,
-) -> Result<(), ServeFault>
-where
-    D: LoopDesk + Send,
-    D::Ticket: Send,
-    T: Seconds + Send + Drop + 's,
-    R: Clock + Threads + Wait + AllocGlobal + Sync,
-{
-    start_loops(scope, common, polls, threads)?;
-    start_others(scope, common, seconds, others)
-}
-
-// Starts a thread for each loop.
-fn start_loops<'s, E, D, R>(
-    scope: &Scope<'s, E>,
-    common: &'s Common<'s, R, D>,
-    polls: Vec<Poll>,
-    threads: &mut Vec<JoinHandle<Result<(), ServeFault>>>,
-) -> Result<(), ServeFault>
-where
-    D: LoopDesk + Send,
-    D::Ticket: Send,
-    R: Clock + Threads + Wait + AllocGlobal + Sync,
-{
-    for poll in polls {
-        let at = threads.len();
-        let Ok(thread) = scope.spawn(move || run_loop(common, poll, at)) else {
-            return Err(ServeFault::ThreadFailed);
-        };
-        threads.push(thread).map_err(|_| ServeFault::OutOfMemory)?;
-    }
-    Ok(())
-}
-
-// Starts the thread of the clock, and that which syncs the log, where one is to.
-fn start_others<'s, E, D, T, R>(
-    scope: &Scope<'s, E>,
-    common: &'s Common<'s, R, D>,
-    seconds: T,
-    threads: &mut Vec<JoinHandle<Result<(), ServeFault>>>,
-) -> Result<(), ServeFault>
-where
-    D: LoopDesk + Send,
-    D::Ticket: Send,
-    T: Seconds + Send + Drop + 's,
-    R: Clock + Threads + Wait + AllocGlobal + Sync,
-{
-    let clock = scope.spawn(move || run_clock(common.rt, common.mailboxes, common.door, seconds));
-    let clock = clock.map_err(|_| ServeFault::ThreadFailed)?;
-    threads.push(clock).map_err(|_| ServeFault::OutOfMemory)?;
-    match common.log {
-        Some(log) if !log.pause().is_zero() => {
-            let pause = log.pause();
-            let syncs = scope.spawn(move || run_syncs(common, pause));
-            let syncs = syncs.map_err(|_| ServeFault::ThreadFailed)?;
-            threads.push(syncs).map_err(|_| ServeFault::OutOfMemory)
-        }
-        _ => Ok(()),
-    }
-}
-
-// What the thread of a loop does.
-fn run_loop<R: Wait + Clock, D: LoopDesk>(
-    common: &Common<'_, R, D>,
-    poll: Poll,
-    at: usize,
-) -> Result<(), ServeFault> {
-    let Some(own) = common.mailboxes.get(at) else {
-        return Ok(());
-    };
-    let node = (at % usize::from(common.nodes.max(1))) as u8 + 1;
-    EventLoop::new(common, own, at, node).run(poll)
 }

@@ -1,6 +1,6 @@
 use Rattle.std.proofs.Common.{◌⊎◌, inl, inr, refl, sym, subst}
-use Rattle.loops.specs.declared.fault.ServeFault.{ServeFault}
-use Rattle.loops.specs.declared.fault.ServeFault.TheVariants as server
+use Rattle.event_loops.specs.declared.fault.ServeFault.{ServeFault}
+use Rattle.event_loops.specs.declared.fault.ServeFault.TheVariants as server
 use Rattle.beanpax.specs.Faults.{IsOfLog, IsOfServer, of_logged}
 use Rattle.beanpax.proofs.server.end_of_logged.Goals as goal
 

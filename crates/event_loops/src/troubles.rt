@@ -1,6 +1,6 @@
 ghost use Rattle.std.specs.Prelude.{◌≡◌, ◌⊎◌, None, Some, pos};
 ghost use Rattle.std_io.specs.IoError.{raw_os_error};
-ghost use Rattle.loops.specs.declared.troubles.Trouble.TheVariants.{Connection, Listener, Shortage};
+ghost use Rattle.event_loops.specs.declared.troubles.Trouble.TheVariants.{Connection, Listener, Shortage};
 
 use std::io;
 

@@ -10,7 +10,7 @@ use std::alloc::AllocError;
 use turns::Watch;
 
 /// The desk of a hall that loops share: sessions are opened and end there, seconds pass, and the nodes take their turns.
-pub(crate) trait LoopDesk: Desk {
+pub trait LoopDesk: Desk {
     // How many commands were handed in, as far as its hall counts them.
     ghost handed_in: { Self → List ℕ };
 

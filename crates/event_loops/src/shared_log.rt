@@ -24,7 +24,7 @@ pub struct Logging {
 
 /// A log that the loops share. Who has its lock may take that of the house, and nobody does it the other way round.
 #[derive(Drop)]
-pub(crate) struct SharedLog {
+pub struct SharedLog {
     writing: Mutex<Writing>,
     pause: Duration,
     has_failed: AtomicBool,
@@ -38,7 +38,8 @@ struct Writing {
 }
 
 impl SharedLog {
-    pub(crate) fn new(logging: Logging) -> SharedLog {
+    /// This log, of which nothing waits to be kept by the loops.
+    pub fn new(logging: Logging) -> SharedLog {
         let Logging { journal, pause } = logging;
         SharedLog {
             writing: Mutex::new(Writing {
