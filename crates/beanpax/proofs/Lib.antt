@@ -1,13 +1,8 @@
 pub mod Tellings
-pub mod WordsLemmas
-pub mod CommandLemmas
-pub mod WeightWords
 pub mod OneTold
 pub mod Beginnings
 pub mod Obeyed
 pub mod Served
-pub mod OneVerdict
-pub mod LogsRead
 pub mod Serving
 pub mod Lines
 pub mod Starts

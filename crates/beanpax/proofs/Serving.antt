@@ -5,10 +5,10 @@ use Rattle.beanpax.specs.declared.faults.ProgramFault.{ProgramFault}
 use Rattle.beanpax.specs.declared.faults.ProgramFault.TheVariants.{OutOfMemory, BadNumber, ReadFailed, WriteFailed}
 use Rattle.beanpax.specs.declared.faults.ProgramFault.TheVariants.{ServiceStopped, ListenFailed, FileFailed}
 use Rattle.beanpax.specs.declared.faults.ProgramFault.TheVariants.{ThreadFailed, LogDamaged}
-use Rattle.beanpax.specs.declared.words.ServerOptions.{ServerOptions}
+use Rattle.options.specs.declared.words.ServerOptions.{ServerOptions}
 use Rattle.beanpax.specs.Faults.{fault_line_text}
 use Rattle.beanpax.specs.Program.{IsCaused, IsServingFault, TellsOfLog, WritesText}
-use Rattle.beanpax.specs.Words.{AskForLog, AskForServer}
+use Rattle.options.specs.Words.{AskForLog, AskForServer}
 
 -- its fault
 is_caused : (words : List (List ℕ)) (options : ServerOptions) (fault : ProgramFault) (input_failed output_failed : Bool)

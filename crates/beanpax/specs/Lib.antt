@@ -3,12 +3,7 @@ pub mod Sessions
 pub mod Told
 pub mod Simulations
 pub mod Runs
-pub mod Numbers
-pub mod Weights
-pub mod Hosts
-pub mod Words
 pub mod Servers
-pub mod Verdicts
 pub mod Program
 pub mod Starts
 pub mod Restorings

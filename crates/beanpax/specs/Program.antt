@@ -12,11 +12,11 @@ use Rattle.beanpax.specs.declared.faults.ProgramFault.{ProgramFault}
 use Rattle.beanpax.specs.declared.faults.ProgramFault.TheVariants.{OutOfMemory, BadNumber, ReadFailed, WriteFailed}
 use Rattle.beanpax.specs.declared.faults.ProgramFault.TheVariants.{ServiceStopped, ListenFailed, FileFailed}
 use Rattle.beanpax.specs.declared.faults.ProgramFault.TheVariants.{ThreadFailed, LogDamaged}
-use Rattle.beanpax.specs.declared.words.ServerOptions.{ServerOptions}
+use Rattle.options.specs.declared.words.ServerOptions.{ServerOptions}
 use Rattle.beanpax.specs.Servers.{cut_line, listening_line}
-use Rattle.beanpax.specs.Verdicts.{IsVerdict, is_legal, verdict_line}
-use Rattle.beanpax.specs.Words.{AskFor, AskForDump, AskForHelp, AskForLog, AskForRun, AskForServer}
-use Rattle.beanpax.specs.declared.verdict.Verdict.{Verdict}
+use Rattle.inspection.specs.Verdicts.{IsVerdict, is_legal, verdict_line}
+use Rattle.options.specs.Words.{AskFor, AskForDump, AskForHelp, AskForLog, AskForRun, AskForServer}
+use Rattle.inspection.specs.declared.verdict.Verdict.{Verdict}
 
 -- A failure is told only of a stream that has failed, or of a log, that the service stopped only where the words ask for a
 -- run, and what only a server meets only where they ask for one: of a file only where they name one for its dump or its log,

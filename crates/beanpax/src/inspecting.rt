@@ -3,55 +3,14 @@ ghost use Rattle.std.specs.Io.KnownBytes.{Appends};
 ghost use Rattle.beanpax.specs.declared.faults.ProgramFault.TheVariants.{WriteFailed};
 ghost use Rattle.beanpax.specs.Faults.{IsOfOutput};
 ghost use Rattle.beanpax.specs.Program.{BeginsVerdict, HasInspected, IsInspectionFault};
-ghost use Rattle.beanpax.specs.Verdicts.{IsDumpVerdict, IsVerdict, IsVerdictOn, verdict_line};
+ghost use Rattle.inspection.specs.Verdicts.{IsVerdict, verdict_line};
 
 use crate::faults::{ProgramFault, file_fault};
 use crate::host::Host;
-use crate::inspecting_log::inspect_log;
-use crate::verdict::Verdict;
-use bean_words::{Op, Reply};
-use chronicle::{CheckFault, Chronicle, ReadFault, check, read_text};
+use inspection::{Verdict, inspect_text};
 use session::{ByteOut, write_all};
-use std::alloc::{AllocError, Global};
+use std::alloc::Global;
 use std::fs;
-
-/// What is found of the text: it is read as a dump, and checked, or as a log, where it begins as one. It fails for want of
-/// memory alone.
-pub fn inspect_text(alloc: Global, text: &[u8]) -> Result<Verdict, AllocError>
-    ensures { IfOk result (IsVerdict text.now) }
-{
-    if text.starts_with(b"beanpax-log ".as_slice()) {
-        inspect_log(alloc, text)
-    } else {
-        inspect_dump(alloc, text)
-    }
-}
-
-// What is found of it as a dump.
-fn inspect_dump(alloc: Global, text: &[u8]) -> Result<Verdict, AllocError>
-    ensures { IfOk result (IsDumpVerdict text.now) }
-{
-    match read_text(alloc, text) {
-        Ok(chronicle) => verdict_on(alloc, &chronicle),
-        Err(ReadFault::BadLine(line)) => Ok(Verdict::BadLine(line)),
-        Err(ReadFault::OutOfMemory) => Err(AllocError),
-    }
-}
-
-// What is found of the chronicle.
-fn verdict_on(alloc: Global, chronicle: &Chronicle<Op, Reply>) -> Result<Verdict, AllocError>
-    ensures { IfOk result (IsVerdictOn chronicle.now) }
-{
-    match check(alloc, chronicle) {
-        Ok(()) => Ok(Verdict::Legal {
-            submitted: chronicle.submitted().len(),
-            answered: chronicle.answers().len(),
-            ordered: chronicle.order().len(),
-        }),
-        Err(CheckFault::At(line, what)) => Ok(Verdict::At(line, what)),
-        Err(CheckFault::OutOfMemory) => Err(AllocError),
-    }
-}
 
 /// Tells on the output what is found of the file's text.
 pub(crate) fn inspect_file<R: Host, W: ByteOut>(

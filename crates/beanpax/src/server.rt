@@ -13,16 +13,15 @@ ghost use Rattle.beanpax.specs.Servers.{TellsPort, listening_line};
 
 use crate::faults::{ProgramFault, fault_of_logged, file_fault};
 use crate::host::Host;
-use crate::laws::no_fault_in_a_dump;
 use crate::opening::{FromLog, Opened, open_all};
 use crate::restoring::Restored;
 use crate::seconds::ClockSeconds;
 use crate::starting::Started;
-use crate::words::ServerOptions;
 use bean_queue::Queue;
 use chronicle::WriteText;
 use forgetting_hall::ForgettingHall;
 use hall::Hall;
+use inspection::no_fault_in_a_dump;
 use journal::Journal;
 use loops::{
     Clients, Logging, ServeFault, Served, ServedForgetting, serve_again, serve_clients,
@@ -30,6 +29,7 @@ use loops::{
 };
 use mio::net::TcpListener;
 use object::Object;
+use options::ServerOptions;
 use session::ByteOut;
 use std::alloc::{AllocError, Global};
 use std::fs;

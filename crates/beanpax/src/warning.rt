@@ -1,9 +1,9 @@
 ghost use Rattle.std.specs.Prelude.{◌≡◌, true, false, codes, map, string_bytes};
 ghost use Rattle.beanpax.specs.Program.{WritesText};
-ghost use Rattle.beanpax.specs.Words.{AskForOpenServer, AskForUnwrittenDump};
+ghost use Rattle.options.specs.Words.{AskForOpenServer, AskForUnwrittenDump};
 
 use crate::telling::tell_error;
-use crate::words::parse_words;
+use options::parse_words;
 use session::ByteOut;
 use std::alloc::Global;
 

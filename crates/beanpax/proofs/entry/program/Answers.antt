@@ -5,7 +5,7 @@ use Rattle.beanpax.specs.declared.faults.ProgramFault.{ProgramFault}
 use Rattle.std.proofs.KnownBytes.{Appends-nil, Consumes-nil}
 use Rattle.beanpax.specs.Program.{AnswersToSomeEnd, HasInspected, IsWholeRun, WritesText}
 use Rattle.beanpax.specs.Runs.{TellsBeginning}
-use Rattle.beanpax.specs.Words.{IsAskedBy, profile_asked}
+use Rattle.options.specs.Words.{IsAskedBy, profile_asked}
 use Rattle.beanpax.proofs.Served.{nothing_begins}
 use Rattle.beanpax.proofs.Serving.{tells_fault}
 use Rattle.beanpax.proofs.entry.program.Goals as goal

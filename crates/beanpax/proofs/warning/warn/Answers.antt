@@ -1,5 +1,5 @@
 use Rattle.std.proofs.Common.{map, string_bytes, subst}
-use Rattle.beanpax.specs.Words.{IsAskedBy}
+use Rattle.options.specs.Words.{IsAskedBy}
 use Rattle.beanpax.proofs.warning.warn.Goals as goal
 
 pub returns-clause-told : goal.returns-clause-told

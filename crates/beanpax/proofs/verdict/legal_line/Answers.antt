@@ -1,6 +1,0 @@
-use Rattle.beanpax.specs.Verdicts.{legal_line}
-use Rattle.beanpax.proofs.verdict.legal_line.Goals as goal
-
-pub returns : goal.returns
-unfolding legal_line
-returns c = c.format.ensures.ok

@@ -1,6 +1,0 @@
-use Rattle.beanpax.specs.Verdicts.{torn_log_line}
-use Rattle.beanpax.proofs.verdict.torn_log_line.Goals as goal
-
-pub returns : goal.returns
-unfolding torn_log_line
-returns c = c.format.ensures.ok

@@ -1,6 +1,0 @@
-use Rattle.beanpax.specs.Verdicts.{whole_log_line}
-use Rattle.beanpax.proofs.verdict.whole_log_line.Goals as goal
-
-pub returns : goal.returns
-unfolding whole_log_line
-returns c = c.format.ensures.ok

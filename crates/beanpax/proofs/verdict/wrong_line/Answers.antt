@@ -1,6 +1,0 @@
-use Rattle.beanpax.specs.Verdicts.{wrong_line}
-use Rattle.beanpax.proofs.verdict.wrong_line.Goals as goal
-
-pub returns : goal.returns
-unfolding wrong_line
-returns c = c.format.ensures.ok

@@ -1,0 +1,2 @@
+pub mod OneVerdict
+pub mod LogsRead

@@ -1,0 +1,3 @@
+pub mod WordsLemmas
+pub mod CommandLemmas
+pub mod WeightWords

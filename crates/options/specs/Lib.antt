@@ -1,0 +1,4 @@
+pub mod Numbers
+pub mod Weights
+pub mod Hosts
+pub mod Words
