@@ -16,7 +16,8 @@ ghost use Rattle.beanpax.specs.Verdicts.{IsVerdict};
 ghost use Rattle.beanpax.specs.declared.verdict.Verdict.{Verdict};
 
 use bean_codec::one_item;
-use chronicle::{legal_is_faultless, one_bad_line, one_dump, one_fault};
+use chronicle::{legal_is_faultless, one_fault};
+use chronicle_text::{one_bad_line, one_dump};
 use log_file::kept_is_read;
 
 /// In each profile an input has one transcript at most, but for which operations were refused for want of memory: what a
