@@ -4,7 +4,7 @@ ghost use Rattle.beanpax.specs.declared.faults.ProgramFault.TheVariants.{ListenF
 ghost use Rattle.beanpax.specs.Faults.{IsOfDump, IsOfLog, IsOfServer, of_logged, of_server};
 ghost use Rattle.beanpax.specs.Program.{IsServingFault, TellsOfLog};
 ghost use Rattle.chronicle.specs.Checking.{IsFaultless};
-ghost use Rattle.chronicle.specs.Dump.{dump_text};
+ghost use Rattle.chronicle_text.specs.Dump.{dump_text};
 ghost use Rattle.forgetting_hall.specs.Halls.{new_forgetting};
 ghost use Rattle.hall.specs.Halls.{chronicle_of, new_hall};
 ghost use Rattle.event_loops.specs.LoopCounts.{IsLoopCount};
@@ -18,7 +18,7 @@ use crate::restoring::Restored;
 use crate::seconds::ClockSeconds;
 use crate::starting::Started;
 use bean_queue::Queue;
-use chronicle::WriteText;
+use chronicle_text::WriteText;
 use forgetting_hall::ForgettingHall;
 use hall::Hall;
 use inspection::no_fault_in_a_dump;

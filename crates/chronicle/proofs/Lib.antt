@@ -1,4 +1,1 @@
-pub mod spelling
-pub mod texts
-pub mod stops
 pub mod verdicts

@@ -11,9 +11,9 @@ use Rattle.chronicle.specs.declared.check_fault.What.{What}
 use Rattle.chronicle.specs.declared.check_fault.What.TheVariants.{NotSubmitted, NotKept, SubmittedTwice, PlacedTooEarly, NotTheQueuesAnswer}
 use Rattle.chronicle.specs.Checking.{IsGivenBy, IsAbove, IsFirstOfKey, IsPlacedLater, AreRightPlaces, AreRightLines}
 use Rattle.recorder.specs.Chronicles.{Chronicle}
-use Rattle.chronicle.specs.Dump.{first_line}
-use Rattle.chronicle.specs.Happenings.{Happening, happenings}
-use Rattle.chronicle.specs.Happenings.Happening.{Submitted, Answered}
+use Rattle.chronicle_text.specs.Dump.{first_line}
+use Rattle.chronicle_text.specs.Happenings.{Happening, happenings}
+use Rattle.chronicle_text.specs.Happenings.Happening.{Submitted, Answered}
 
 -- what is wrong with an O line after these; of two faults the first is told
 abbrev pub IsWrongPlace : Chronicle Op Reply → List Key → Key → What → Type 0

@@ -12,8 +12,8 @@ use Rattle.bean_queue.specs.Places.{queue_replay}
 use Rattle.bean_words.specs.declared.op.Op.{Op}
 use Rattle.bean_words.specs.declared.reply.Reply.{Reply}
 use Rattle.recorder.specs.Chronicles.{Chronicle}
-use Rattle.chronicle.specs.Happenings.{Happening, happenings}
-use Rattle.chronicle.specs.Happenings.Happening.{Submitted, Answered}
+use Rattle.chronicle_text.specs.Happenings.{Happening, happenings}
+use Rattle.chronicle_text.specs.Happenings.Happening.{Submitted, Answered}
 
 -- the commands of the O lines, each with the act of its key's first S line
 abbrev pub ordered_commands : Chronicle Op Reply → List (Command Op)

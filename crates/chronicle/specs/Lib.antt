@@ -1,16 +1,3 @@
-pub mod Happenings
-pub mod Lines
-pub mod Acts
-pub mod Replies
-pub mod Dump
-pub mod Sizes
-pub mod Values
-pub mod Fits
-pub mod Entries
-pub mod Told
-pub mod Drafts
-pub mod Reading
-pub mod Faults
 pub mod Checking
 pub mod CheckFaults
 pub mod Replaying

@@ -20,8 +20,8 @@ use Rattle.chronicle.specs.declared.walk.Replayed.{Replayed}
 use Rattle.chronicle.specs.declared.walk.Walk.{Walk}
 use Rattle.chronicle.specs.Checking.{IsGivenBy, AreRightLines}
 use Rattle.recorder.specs.Chronicles.{Chronicle}
-use Rattle.chronicle.specs.Happenings.{Happening, happenings, happenings_from}
-use Rattle.chronicle.specs.Happenings.Happening.{Submitted, Answered}
+use Rattle.chronicle_text.specs.Happenings.{Happening, happenings, happenings_from}
+use Rattle.chronicle_text.specs.Happenings.Happening.{Submitted, Answered}
 use Rattle.chronicle.specs.Replaying.{HasFirstPlaces, AreGiven}
 
 -- each map tells the places of its list, and the answers are the queue's

@@ -10,27 +10,9 @@ ghost use Rattle.recorder.specs.Chronicles.{Chronicle, IsChronicle};
 ghost use Rattle.chronicle.specs.Checking.{IsFaultless, ordered_commands};
 ghost use Rattle.bean_queue.specs.Effects.{queue_rules};
 ghost use Rattle.chronicle.specs.CheckFaults.{IsFaultAt};
-ghost use Rattle.chronicle.specs.Dump.{dump_text};
-ghost use Rattle.chronicle.specs.Reading.{IsBadLine};
 ghost use Rattle.chronicle.specs.declared.check_fault.What.{What};
-ghost use Rattle.chronicle.specs.Fits.{FitsChronicle};
-ghost use Rattle.chronicle.specs.Values.{IsChronicleValue};
 
 use bean_queue::{one_answer, one_holder};
-
-/// Two chronicles of queues have one text only where they are one.
-pub fn one_chronicle()
-    ensures { (c d : Chronicle Op Reply) → IsChronicle c → IsChronicle d → FitsChronicle c
-        → FitsChronicle d →
-        dump_text c ≡ dump_text d → c ≡ d }
-{}
-
-/// The same of chronicles as their types keep them: each that was written or read is one (`Chronicle::write_text`,
-/// `read_text`).
-pub fn one_dump()
-    ensures { (c d : Chronicle Op Reply) → IsChronicleValue c → IsChronicleValue d
-        → dump_text c ≡ dump_text d → c ≡ d }
-{}
 
 /// Where each line of a queue's dump is right, what happened is legal for the commands of its order.
 /// No job is held by two sessions at once as a queue obeys these.
@@ -60,9 +42,4 @@ pub fn one_fault()
         → (n ≡ m) × (v ≡ w) }
     ensures none { (c : Chronicle Op Reply) (n : ℕ) (what : What) → IsFaultless c
         → IsFaultAt c n what → ⊥ }
-{}
-
-/// A text has one bad line at most.
-pub fn one_bad_line()
-    ensures { (text : List ℕ) (n m : ℕ) → IsBadLine n text → IsBadLine m text → n ≡ m }
 {}

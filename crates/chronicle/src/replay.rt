@@ -2,14 +2,14 @@ ghost use Rattle.std.specs.Prelude.{◌≡◌, ◌+◌, ◌<◌, ◌^◌, ◌++�
 ghost use Rattle.object.specs.Happenings.{submitted_key};
 ghost use Rattle.object.specs.OnceOnly.{is_later, filtered, filtered_answers};
 ghost use Rattle.chronicle.specs.Checking.{AreRightPlaces};
-ghost use Rattle.chronicle.specs.Dump.{first_line};
-ghost use Rattle.chronicle.specs.Happenings.{happenings};
+ghost use Rattle.chronicle_text.specs.Dump.{first_line};
+ghost use Rattle.chronicle_text.specs.Happenings.{happenings};
 ghost use Rattle.chronicle.specs.Replaying.{HasFirstPlaces, AreGiven, IsOrderFault, placed, queue_after, queue_answers};
 
 use crate::check_fault::{CheckFault, What};
-use crate::version::first_line;
 use bean_queue::Queue;
 use bean_words::{Op, Reply};
+use chronicle_text::first_line;
 use object::{Answer, Command, Effect, Key, Keyed, Once, filter_remembers};
 use recorder::Chronicle;
 use std::alloc::{AllocError, Global};

@@ -4,8 +4,8 @@ use Rattle.std.proofs.Common.{refl, sym, ap, subst, ◌∙◌, arith, codes, app
 use Rattle.std.proofs.lemmas.Bool.{eq-eqb, eqb-true}
 use Rattle.std.specs.List.{AllByRecursion}
 use Rattle.bstr.specs.Find.{IsFirstByte, Nowhere, Passes, is_byte}
-use Rattle.chronicle.specs.Lines.{NoFeed, text_of_lines}
-use Rattle.chronicle.proofs.spelling.EntryLines.{one_cut}
+use Rattle.chronicle_text.specs.Lines.{NoFeed, text_of_lines}
+use Rattle.chronicle_text.proofs.spelling.EntryLines.{one_cut}
 use Rattle.command_log.specs.Lines.{IsLogLine}
 use Rattle.command_log.specs.Reading.{IsLineStart}
 

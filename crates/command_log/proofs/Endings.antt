@@ -5,7 +5,7 @@ use Rattle.std.proofs.lemmas.List.{take_at, drop_at}
 use Rattle.std.specs.List.{AllByRecursion}
 use Rattle.object.specs.declared.command.Command.{Command}
 use Rattle.bean_words.specs.declared.op.Op.{Op}
-use Rattle.chronicle.specs.Lines.{NoFeed, text_of_lines}
+use Rattle.chronicle_text.specs.Lines.{NoFeed, text_of_lines}
 use Rattle.command_log.specs.declared.line.TheConstants.{MAX_LINE}
 use Rattle.command_log.specs.declared.faults.LogFault.{LogFault}
 use Rattle.command_log.specs.declared.reader.LogReader.{LogReader}

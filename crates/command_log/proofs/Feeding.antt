@@ -4,8 +4,8 @@ use Rattle.std.proofs.Common.{Result, Ok, Err, append-nil, append_assoc, length-
 use Rattle.std.specs.Prelude.{IfOk}
 use Rattle.object.specs.declared.command.Command.{Command}
 use Rattle.bean_words.specs.declared.op.Op.{Op}
-use Rattle.chronicle.specs.Lines.{NoFeed}
-use Rattle.chronicle.proofs.spelling.EntryLines.{feeds}
+use Rattle.chronicle_text.specs.Lines.{NoFeed}
+use Rattle.chronicle_text.proofs.spelling.EntryLines.{feeds}
 use Rattle.command_log.specs.declared.line.TheConstants.{MAX_LINE}
 use Rattle.command_log.specs.declared.reader.LogReader.{LogReader}
 use Rattle.command_log.specs.declared.stage.Stage.{Stage}

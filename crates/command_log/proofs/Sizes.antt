@@ -12,9 +12,9 @@ use Rattle.bean_words.specs.declared.op.Op.TheVariants.{Kick, KickJob, Peek, Pee
 use Rattle.bean_words.specs.declared.op.Op.TheVariants.{ListTubes, ListTubeUsed, ListTubesWatched, Pause}
 use Rattle.bean_words.specs.declared.op.Op.TheVariants.{ReserveJob, StatsJob, StatsTube, Stats}
 use Rattle.bean_words.specs.Names.{IsName}
-use Rattle.chronicle.specs.Acts.{act_words, op_words}
-use Rattle.chronicle.specs.Lines.{after_space, body_word, spaced}
-use Rattle.chronicle.specs.Values.{IsActValue, IsCommandValue, IsOpValue}
+use Rattle.chronicle_text.specs.Acts.{act_words, op_words}
+use Rattle.chronicle_text.specs.Lines.{after_space, body_word, spaced}
+use Rattle.chronicle_text.specs.Values.{IsActValue, IsCommandValue, IsOpValue}
 use Rattle.command_log.specs.Lines.{HasClientBody}
 use Rattle.command_log.specs.Text.{command_words, line_of_command, sum_end}
 use Rattle.command_log.proofs.Sums.{sum_end_long}

@@ -9,16 +9,16 @@ use Rattle.std.specs.Prelude.{nat_le}
 use Rattle.object.specs.declared.command.Command.{Command}
 use Rattle.ballot.specs.Members.{IsMembers, is_weight}
 use Rattle.bean_words.specs.declared.op.Op.{Op}
-use Rattle.chronicle.specs.declared.entry.Entry.{Entry}
-use Rattle.chronicle.specs.declared.entry.Entry.TheVariants as entry
-use Rattle.chronicle.specs.Dump.{submission_line, weights_line}
-use Rattle.chronicle.specs.Entries.{entry_line, IsEntryValue, Says}
-use Rattle.chronicle.specs.Lines.{NoFeed, after_space, line, spaced}
-use Rattle.chronicle.specs.Values.{IsCommandValue}
-use Rattle.chronicle.proofs.spelling.Back.{hex_plain}
-use Rattle.chronicle.proofs.spelling.EntryLines.{feeds, one_front, plain_no_feed, said_no_feed, spaced_no_feed}
-use Rattle.chronicle.proofs.spelling.Heads.{weights_plain}
-use Rattle.chronicle.proofs.spelling.Words.{by_test}
+use Rattle.chronicle_text.specs.declared.entry.Entry.{Entry}
+use Rattle.chronicle_text.specs.declared.entry.Entry.TheVariants as entry
+use Rattle.chronicle_text.specs.Dump.{submission_line, weights_line}
+use Rattle.chronicle_text.specs.Entries.{entry_line, IsEntryValue, Says}
+use Rattle.chronicle_text.specs.Lines.{NoFeed, after_space, line, spaced}
+use Rattle.chronicle_text.specs.Values.{IsCommandValue}
+use Rattle.chronicle_text.proofs.spelling.Back.{hex_plain}
+use Rattle.chronicle_text.proofs.spelling.EntryLines.{feeds, one_front, plain_no_feed, said_no_feed, spaced_no_feed}
+use Rattle.chronicle_text.proofs.spelling.Heads.{weights_plain}
+use Rattle.chronicle_text.proofs.spelling.Words.{by_test}
 use Rattle.command_log.specs.declared.line.TheConstants.{MAX_LINE}
 use Rattle.command_log.specs.Lines.{Heads, IsLogLine, TellsCommand}
 use Rattle.command_log.specs.Spelling.{told_command, told_head}

@@ -5,7 +5,7 @@ use Rattle.std.proofs.lemmas.Grind.{flat_map-append}
 use Rattle.std.specs.List.{AllByRecursion}
 use Rattle.object.specs.declared.command.Command.{Command}
 use Rattle.bean_words.specs.declared.op.Op.{Op}
-use Rattle.chronicle.specs.Lines.{text_of_lines}
+use Rattle.chronicle_text.specs.Lines.{text_of_lines}
 use Rattle.command_log.specs.declared.line.TheConstants.{MAX_LINE}
 use Rattle.command_log.specs.declared.stage.Stage.TheVariants.{Head, BadHead, Right, Wrong, Damaged}
 use Rattle.command_log.specs.declared.whole.Whole.{Whole}

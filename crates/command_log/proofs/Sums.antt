@@ -6,7 +6,7 @@ use Rattle.std.specs.Int.{w32, to_be_bytes}
 use Rattle.hex.specs.Hex.{lower_digits}
 use Rattle.hex.proofs.HexLemmas.{length-encode_with}
 use Rattle.sha1.specs.Sha1.{sha1, digest_bytes, hash_after, padded_message}
-use Rattle.chronicle.specs.Lines.{after_space}
+use Rattle.chronicle_text.specs.Lines.{after_space}
 use Rattle.command_log.specs.Lines.{IsUnsummed}
 use Rattle.command_log.specs.Text.{sum_word, sum_end, summed}
 

@@ -6,8 +6,8 @@ use Rattle.object.specs.declared.command.Command.{Command}
 use Rattle.ballot.specs.Members.{IsMembers}
 use Rattle.bean_words.specs.declared.op.Op.{Op}
 use Rattle.bean_words.specs.declared.op.Op.TheVariants.{Put}
-use Rattle.chronicle.specs.Lines.{NoFeed}
-use Rattle.chronicle.specs.Values.{IsCommandValue}
+use Rattle.chronicle_text.specs.Lines.{NoFeed}
+use Rattle.chronicle_text.specs.Values.{IsCommandValue}
 use Rattle.command_log.specs.declared.line.TheConstants.{MAX_LINE}
 use Rattle.command_log.specs.Text.{head_line, command_words, summed, line_of_command}
 

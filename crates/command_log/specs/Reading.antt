@@ -5,7 +5,7 @@ use Rattle.object.specs.Lists.{IsBeginning}
 use Rattle.object.specs.declared.command.Command.{Command}
 use Rattle.ballot.specs.Members.{IsMembers}
 use Rattle.bean_words.specs.declared.op.Op.{Op}
-use Rattle.chronicle.specs.Lines.{NoFeed}
+use Rattle.chronicle_text.specs.Lines.{NoFeed}
 use Rattle.command_log.specs.declared.whole.Whole.{Whole}
 use Rattle.command_log.specs.Lines.{IsLogged, IsWrongLogLine}
 use Rattle.command_log.specs.Text.{head_words, head_line, line_of_command, log_text}

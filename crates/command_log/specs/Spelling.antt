@@ -2,8 +2,8 @@
 use Rattle.std.specs.Prelude.{ℕ, List, Option, Some, None}
 use Rattle.object.specs.declared.command.Command.{Command}
 use Rattle.bean_words.specs.declared.op.Op.{Op}
-use Rattle.chronicle.specs.declared.entry.Entry.{Entry}
-use Rattle.chronicle.specs.declared.entry.Entry.TheVariants.{Weights, Submitted}
+use Rattle.chronicle_text.specs.declared.entry.Entry.{Entry}
+use Rattle.chronicle_text.specs.declared.entry.Entry.TheVariants.{Weights, Submitted}
 
 -- the command that was submitted
 abbrev pub told_command : Option Entry → Option (Command Op)

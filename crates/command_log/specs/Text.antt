@@ -5,8 +5,8 @@ use Rattle.hex.specs.Hex.{encode_lower}
 use Rattle.sha1.specs.Sha1.{sha1}
 use Rattle.object.specs.declared.command.Command.{Command}
 use Rattle.bean_words.specs.declared.op.Op.{Op}
-use Rattle.chronicle.specs.Acts.{act_words}
-use Rattle.chronicle.specs.Lines.{after_space, spaced, line}
+use Rattle.chronicle_text.specs.Acts.{act_words}
+use Rattle.chronicle_text.specs.Lines.{after_space, spaced, line}
 
 -- what each head begins with: the form and its version
 abbrev pub log_name : List ℕ

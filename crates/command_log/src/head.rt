@@ -5,11 +5,11 @@ ghost use Rattle.command_log.specs.Spelling.{told_head};
 ghost use Rattle.command_log.specs.Text.{head_line};
 
 use ballot::Members;
-use chronicle::{Entry, append_numbers, read_entry};
+use chronicle_text::{Entry, append_numbers, read_entry};
 use std::alloc::{AllocError, Global};
 
 /// Writes the head of a log at the end. Where memory runs out, nothing is written.
-#[tactic(auto, unfolding(crate::specs::Text::head_line, chronicle::specs::Lines::line))]
+#[tactic(auto, unfolding(crate::specs::Text::head_line, chronicle_text::specs::Lines::line))]
 pub fn write_head(members: Members, out: &mut Vec<u8>) -> Result<(), AllocError>
     ensures ok { OnOk result (out.new.items ≡ out.old.items ++ head_line members) }
     ensures err { OnErr result (out.new.items ≡ out.old.items) }

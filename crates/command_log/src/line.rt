@@ -1,5 +1,5 @@
 ghost use Rattle.std.specs.Prelude.{◌≡◌, ◌++◌, take, vec_len, IfOk, IfErr, IsErrOf, OnOk, OnErr};
-ghost use Rattle.chronicle.specs.Values.{IsCommandValue};
+ghost use Rattle.chronicle_text.specs.Values.{IsCommandValue};
 ghost use Rattle.command_log.specs.Faults.{IsWriteFault};
 ghost use Rattle.command_log.specs.Lines.{IsLogged, HasClientBody, HoldsCommand, TellsCommand};
 ghost use Rattle.command_log.specs.Spelling.{told_command};
@@ -8,7 +8,7 @@ ghost use Rattle.command_log.specs.Text.{command_words, line_of_command};
 use crate::faults::WriteFault;
 use crate::sum::{sum_end, summed_words};
 use bean_words::Op;
-use chronicle::{Entry, append_act, append_number, read_entry};
+use chronicle_text::{Entry, append_act, append_number, read_entry};
 use itoa::Buffer;
 use object::Command;
 use std::alloc::{AllocError, Global};

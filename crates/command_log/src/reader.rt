@@ -1,7 +1,7 @@
 ghost use Rattle.std.specs.Prelude.{◌≡◌, ◌-◌, ◌++◌, ℕ, suc, [], List, length, take, IfOk, IfErr, OnOk};
 ghost use Rattle.object.specs.declared.command.Command.{Command};
 ghost use Rattle.bean_words.specs.declared.op.Op.{Op};
-ghost use Rattle.chronicle.specs.Lines.{NoFeed};
+ghost use Rattle.chronicle_text.specs.Lines.{NoFeed};
 ghost use Rattle.command_log.specs.Faults.{IsLogFault};
 ghost use Rattle.command_log.specs.Lines.{IsLogLine};
 ghost use Rattle.command_log.specs.Progress.{HasRead, ReadsOn, beginning_kept};

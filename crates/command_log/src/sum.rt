@@ -2,7 +2,7 @@ ghost use Rattle.std.specs.Prelude.{◌≡◌, IfOk, MatchOption};
 ghost use Rattle.command_log.specs.Lines.{IsUnsummed};
 ghost use Rattle.command_log.specs.Text.{sum_end, summed};
 
-use chronicle::append_word;
+use chronicle_text::append_word;
 use sha1::Sha1;
 use std::alloc::{AllocError, Global};
 

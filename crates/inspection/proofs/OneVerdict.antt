@@ -9,9 +9,9 @@ use Rattle.bean_words.specs.declared.reply.Reply.{Reply}
 use Rattle.recorder.specs.Chronicles.{Chronicle}
 use Rattle.chronicle.specs.CheckFaults.{IsFaultAt}
 use Rattle.chronicle.specs.Checking.{IsFaultless}
-use Rattle.chronicle.specs.Dump.{dump_text}
-use Rattle.chronicle.specs.Reading.{IsBadLine}
-use Rattle.chronicle.specs.Values.{IsChronicleValue}
+use Rattle.chronicle_text.specs.Dump.{dump_text}
+use Rattle.chronicle_text.specs.Reading.{IsBadLine}
+use Rattle.chronicle_text.specs.Values.{IsChronicleValue}
 use Rattle.chronicle.specs.declared.check_fault.What.{What}
 use Rattle.command_log.specs.declared.faults.LogFault.{LogFault}
 use Rattle.command_log.specs.declared.faults.LogFault.TheVariants.{Unbegun, BadHead, Damaged}

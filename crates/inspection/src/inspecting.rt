@@ -4,7 +4,8 @@ ghost use Rattle.inspection.specs.Verdicts.{IsDumpVerdict, IsVerdict, IsVerdictO
 use crate::inspecting_log::inspect_log;
 use crate::verdict::Verdict;
 use bean_words::{Op, Reply};
-use chronicle::{CheckFault, Chronicle, ReadFault, check, read_text};
+use chronicle::{CheckFault, check};
+use chronicle_text::{Chronicle, ReadFault, read_text};
 use std::alloc::{AllocError, Global};
 
 /// What is found of the text: it is read as a dump, and checked, or as a log, where it begins as one. It fails for want of

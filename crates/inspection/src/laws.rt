@@ -10,7 +10,8 @@ ghost use Rattle.hall.specs.Halls.{HallState, chronicle_of};
 ghost use Rattle.inspection.specs.Verdicts.{IsVerdict};
 ghost use Rattle.inspection.specs.declared.verdict.Verdict.{Verdict};
 
-use chronicle::{legal_is_faultless, one_bad_line, one_dump, one_fault};
+use chronicle::{legal_is_faultless, one_fault};
+use chronicle_text::{one_bad_line, one_dump};
 use log_file::kept_is_read;
 
 /// The dump of a hall of queues has no fault: `Hall::dump` ensures what this asks for.

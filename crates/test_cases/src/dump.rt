@@ -8,7 +8,7 @@ use anyhow::{Context, Result, bail};
 use ballot::Members;
 use bean_queue::Queue;
 use bean_words::{Op, Reply};
-use chronicle::{Chronicle, WriteText};
+use chronicle_text::{Chronicle, WriteText};
 use object::{Answer, Key, Submission};
 use std::alloc::Global;
 use std::mem;

@@ -3,7 +3,8 @@ use crate::quoted::bytes_of;
 use crate::script::{Stage, tell_line};
 use anyhow::{Context, Result, bail};
 use beanpax::inspect_text;
-use chronicle::{WriteText, check, read_text};
+use chronicle::check;
+use chronicle_text::{WriteText, read_text};
 use std::alloc::Global;
 
 /// A text.

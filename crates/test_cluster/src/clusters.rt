@@ -2,7 +2,8 @@
 use crate::clients::{Hasty, Queued, Served};
 use ballot::Members;
 use bean_queue::Queue;
-use chronicle::{CheckFault, ReadFault, What, WriteText, check, read_text};
+use chronicle::{CheckFault, What, check};
+use chronicle_text::{ReadFault, WriteText, read_text};
 use hall::Hall;
 use node_threads::{Accept, Ended, Faults, Gate, Seconds, run_cluster, run_cluster_faulty};
 use session::Writing;

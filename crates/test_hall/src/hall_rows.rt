@@ -2,7 +2,7 @@
 use ballot::Members;
 use bean_queue::Queue;
 use bean_words::{Body, Op, Reply};
-use chronicle::WriteText;
+use chronicle_text::WriteText;
 use hall::{Hall, HallError, Ticket};
 use object::{Act, Object};
 use std::alloc::Global;

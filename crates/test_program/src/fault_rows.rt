@@ -1,6 +1,7 @@
 //! What faults and refusals are called.
 use beanpax::{ProgramFault, fault_number};
-use chronicle::{CheckFault, ReadFault};
+use chronicle::CheckFault;
+use chronicle_text::ReadFault;
 use hall::HallError;
 use leader::LeaderError;
 use slot_log::LearnError;

@@ -1,6 +1,6 @@
 //! Commands, and what has to be answered to them, as dumps.
 use bean_words::{Op, Reply};
-use chronicle::{Chronicle, read_text};
+use chronicle_text::{Chronicle, read_text};
 use std::alloc::Global;
 
 /// The chronicle that a dump tells of.

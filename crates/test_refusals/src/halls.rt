@@ -5,7 +5,7 @@ use crate::subject::{Refusal, Subject, Then, walk};
 use ballot::Members;
 use bean_queue::Queue;
 use bean_words::{Body, Op};
-use chronicle::WriteText;
+use chronicle_text::WriteText;
 use hall::{Hall, HallError, Ticket};
 use object::{Act, Value};
 use std::alloc::{AllocError, Global};

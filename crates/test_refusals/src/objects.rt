@@ -5,7 +5,7 @@ use crate::subject::{Refusal, Subject, Then, walk};
 use ballot::Slot;
 use bean_queue::{PlainQueue, Queue};
 use bean_words::{Body, Op, Reply};
-use chronicle::Chronicle;
+use chronicle_text::Chronicle;
 use object::{
     Act, Answer, Command, Effect, Key, Object, Once, Register, RegisterOp, RegisterReply,
     Submission, Value,

@@ -4,7 +4,7 @@ use crate::outcome::Outcome;
 use crate::subject::{Refusal, Subject, Then, walk};
 use bean_queue::Queue;
 use bean_words::{Op, Reply};
-use chronicle::Chronicle;
+use chronicle_text::Chronicle;
 use object::{Command, Submission, Value};
 use std::alloc::{AllocError, Global};
 use world::{Event, World, WorldError};

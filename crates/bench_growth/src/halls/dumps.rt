@@ -2,7 +2,8 @@
 
 use bean_queue::Queue;
 use bean_words::{Op, Reply};
-use chronicle::{Chronicle, WriteText, check, read_text};
+use chronicle::check;
+use chronicle_text::{Chronicle, WriteText, read_text};
 use hall::Hall;
 use std::alloc::Global;
 

@@ -6,7 +6,7 @@ use Rattle.bean_words.specs.declared.reply.Reply.{Reply}
 use Rattle.object.specs.declared.command.Key.{Key}
 use Rattle.chronicle.specs.Checking.{IsRightPlace, IsRightLine, AreRightPlaces, AreRightLines}
 use Rattle.recorder.specs.Chronicles.{Chronicle}
-use Rattle.chronicle.specs.Happenings.{Happening}
+use Rattle.chronicle_text.specs.Happenings.{Happening}
 use Rattle.chronicle.proofs.verdicts.OneFault.{cuts}
 
 -- what holds of each cut of a list, and of the cut at its end, holds of each cut of the longer one

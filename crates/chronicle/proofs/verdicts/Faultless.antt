@@ -21,8 +21,8 @@ use Rattle.bean_words.specs.declared.reply.Reply.{Reply}
 use Rattle.recorder.specs.Chronicles.{Chronicle}
 use Rattle.chronicle.specs.Checking.{ordered_commands, IsAbove, IsRightPlace, IsRightLine, IsFirstOfKey, IsFaultless}
 use Rattle.bean_queue.specs.Effects.{queue_rules}
-use Rattle.chronicle.specs.Happenings.{Happening, happenings, happenings_from, came_at, moment}
-use Rattle.chronicle.specs.Happenings.Happening.{Submitted, Answered}
+use Rattle.chronicle_text.specs.Happenings.{Happening, happenings, happenings_from, came_at, moment}
+use Rattle.chronicle_text.specs.Happenings.Happening.{Submitted, Answered}
 
 -- ---- items of different keys
 

@@ -5,9 +5,9 @@ use Rattle.object.specs.Happenings.{IsTimeline}
 use Rattle.object.specs.declared.command.Answer.{Answer}
 use Rattle.object.specs.declared.command.Submission.{Submission}
 use Rattle.recorder.proofs.Between.{ComeBetween, after_first, between_rest, between_timeline, least, most}
-use Rattle.chronicle.proofs.texts.InTime.{comes, answers_first, answers_last}
-use Rattle.chronicle.specs.Happenings.{Happening, happenings, happenings_from}
-use Rattle.chronicle.specs.Happenings.Happening.{Answered}
+use Rattle.chronicle_text.proofs.texts.InTime.{comes, answers_first, answers_last}
+use Rattle.chronicle_text.specs.Happenings.{Happening, happenings, happenings_from}
+use Rattle.chronicle_text.specs.Happenings.Happening.{Answered}
 
 count_from : {Op Reply : Type 0} (given high : ℕ) (submitted : List (Submission Op)) (answers : List (Answer Reply))
     → given + length answers ≡ high → ComeBetween given high submitted

@@ -24,8 +24,8 @@ use Rattle.bean_words.specs.declared.reply.Reply.{Reply}
 use Rattle.chronicle.specs.Checking.{IsAbove, AreRightPlaces}
 use Rattle.chronicle.specs.CheckFaults.{IsWrongPlace, IsWrongOrder}
 use Rattle.recorder.specs.Chronicles.{Chronicle}
-use Rattle.chronicle.specs.Dump.{first_line}
-use Rattle.chronicle.specs.Happenings.{happenings}
+use Rattle.chronicle_text.specs.Dump.{first_line}
+use Rattle.chronicle_text.specs.Happenings.{happenings}
 use Rattle.chronicle.specs.Replaying.{placed, queue_after, queue_answers}
 use Rattle.chronicle.specs.declared.replay.Given.{Given}
 use Rattle.chronicle.specs.declared.check_fault.What.{What}

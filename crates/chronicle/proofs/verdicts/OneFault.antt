@@ -9,9 +9,9 @@ use Rattle.chronicle.specs.declared.check_fault.What.TheVariants.{NotSubmitted, 
 use Rattle.chronicle.specs.Checking.{IsRightPlace, IsRightLine, AreRightPlaces, IsFaultless}
 use Rattle.chronicle.specs.CheckFaults.{IsWrongPlace, IsWrongLine, IsWrongOrder, IsWrongHappening, IsFaultAt}
 use Rattle.recorder.specs.Chronicles.{Chronicle}
-use Rattle.chronicle.specs.Dump.{first_line}
-use Rattle.chronicle.specs.Happenings.{Happening, happenings}
-use Rattle.chronicle.specs.Happenings.Happening.{Submitted, Answered}
+use Rattle.chronicle_text.specs.Dump.{first_line}
+use Rattle.chronicle_text.specs.Happenings.{Happening, happenings}
+use Rattle.chronicle_text.specs.Happenings.Happening.{Submitted, Answered}
 
 -- ---- two cuts of one list
 

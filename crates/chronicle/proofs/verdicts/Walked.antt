@@ -25,9 +25,9 @@ use Rattle.bean_words.specs.declared.reply.Reply.{Reply}
 use Rattle.chronicle.specs.CheckFaults.{IsWrongLine, IsWrongHappening}
 use Rattle.chronicle.specs.Checking.{IsGivenBy, IsFirstOfKey, IsPlacedLater, IsRightLine, AreRightPlaces, AreRightLines, ordered_commands}
 use Rattle.recorder.specs.Chronicles.{Chronicle, IsChronicle}
-use Rattle.chronicle.specs.Dump.{first_line}
-use Rattle.chronicle.specs.Happenings.{Happening, happenings, happenings_from}
-use Rattle.chronicle.specs.Happenings.Happening.{Submitted, Answered}
+use Rattle.chronicle_text.specs.Dump.{first_line}
+use Rattle.chronicle_text.specs.Happenings.{Happening, happenings, happenings_from}
+use Rattle.chronicle_text.specs.Happenings.Happening.{Submitted, Answered}
 use Rattle.chronicle.proofs.verdicts.Legal.{rising, distinct, split}
 use Rattle.chronicle.specs.Replaying.{placed}
 use Rattle.chronicle.specs.Walks.{IsReplayed, HasPassed, HasReach, HasSeen, HasWalked, IsMisplaced, IsNotGiven, NoneIsDue, seen}
@@ -40,7 +40,7 @@ use Rattle.recorder.proofs.Between.{drop_item}
 use Rattle.chronicle.proofs.verdicts.EndCuts.{no_lines, more_lines}
 use Rattle.chronicle.proofs.verdicts.FirstPlaces.{first_at}
 use Rattle.chronicle.proofs.verdicts.HappeningCounts.{happenings_count}
-use Rattle.chronicle.proofs.texts.InTime.{comes, answers_first}
+use Rattle.chronicle_text.proofs.texts.InTime.{comes, answers_first}
 
 -- ---- lists
 

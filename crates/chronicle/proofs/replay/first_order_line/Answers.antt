@@ -1,5 +1,5 @@
 use Rattle.std.proofs.Common.{◌≡◌, ◌+◌, length, ap, arith}
-use Rattle.chronicle.specs.Happenings.{happenings}
+use Rattle.chronicle_text.specs.Happenings.{happenings}
 use Rattle.chronicle.proofs.verdicts.HappeningCounts.{happenings_count}
 use Rattle.chronicle.proofs.replay.first_order_line.Goals as goal
 

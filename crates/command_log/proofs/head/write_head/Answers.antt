@@ -1,5 +1,5 @@
 use Rattle.std.proofs.Common.{List, ◌++◌, map, codes, decimal, ap, ap₂, ◌∙◌, ℕ}
-use Rattle.chronicle.specs.Lines.{line, spaced}
+use Rattle.chronicle_text.specs.Lines.{line, spaced}
 use Rattle.command_log.specs.Text.{log_name, head_line}
 use Rattle.command_log.proofs.head.write_head.Goals as goal
 

@@ -1,5 +1,0 @@
-use Rattle.chronicle.proofs.stops.OneBadLine.{one_bad_line}
-use Rattle.chronicle.proofs.laws.one_bad_line.Goals as goal
-
-pub returns : goal.returns
-returns c = one_bad_line

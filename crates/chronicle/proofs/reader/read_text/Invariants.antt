@@ -1,9 +1,0 @@
-use Rattle.std.proofs.Common.{length}
-use Rattle.chronicle.proofs.stops.ReadOn.{Reads}
-use Rattle.chronicle.proofs.reader.read_text.Given as goal
-
-abbrev pub invariant-loop-end : goal.invariant-loop-end
-invariant-loop-end l = Reads l.draft l.text l.rest l.number
-
-abbrev pub decreases-loop-end : goal.decreases-loop-end
-decreases-loop-end l = length l.rest

@@ -1,6 +1,0 @@
-use Rattle.std.proofs.Common.{◌≡◌, []}
-use Rattle.chronicle.specs.Told.{numbers_after}
-use Rattle.chronicle.proofs.tell_head.weights_of.Given as goal
-
-abbrev pub invariant-loop-word : goal.invariant-loop-word
-invariant-loop-word l = numbers_after [] l.fn.words ≡ numbers_after l.weights.items l.word-iterator

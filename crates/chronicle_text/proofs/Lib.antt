@@ -1,0 +1,3 @@
+pub mod spelling
+pub mod texts
+pub mod stops

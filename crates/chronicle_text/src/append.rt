@@ -1,0 +1,98 @@
+ghost use Rattle.std.specs.Prelude.{◌≡◌, ◌++◌, ◌∷◌, [], map, take, vec_len, decimal, OnOk};
+ghost use Rattle.std.specs.List.{AllByRecursion};
+ghost use Rattle.hex.specs.Hex.{IsBytes};
+ghost use Rattle.bean_words.specs.Names.{IsName};
+ghost use Rattle.chronicle_text.specs.Lines.{after_space, spaced, body_word};
+
+use bean_words::Name;
+use itoa::Buffer;
+use std::alloc::AllocError;
+
+/// Writes a word at the end, after a space. Where memory runs out, a part of it may stand there.
+pub fn append_word(word: &[u8], out: &mut Vec<u8>) -> Result<(), AllocError>
+    ensures ok { OnOk result (out.new.items ≡ out.old.items ++ after_space word.now) }
+    ensures front { take (vec_len out.old) out.new.items ≡ out.old.items }
+{
+    out.extend_from_slice(b" ")?;
+    out.extend_from_slice(word)
+}
+
+/// Writes the digits of a number at the end, after a space. Where memory runs out, a part of it may stand there.
+pub fn append_number(number: u64, out: &mut Vec<u8>) -> Result<(), AllocError>
+    ensures ok { OnOk result (out.new.items ≡ out.old.items ++ after_space (decimal number)) }
+    ensures front { take (vec_len out.old) out.new.items ≡ out.old.items }
+{
+    let mut digits = Buffer::new();
+    append_word(digits.format(number).as_bytes(), out)
+}
+
+/// Writes the word for a body at the end, after a space. Where memory runs out, a part of it may stand there.
+#[tactic(auto, unfolding(crate::specs::Lines::body_word))]
+pub fn append_body(body: &[u8], out: &mut Vec<u8>) -> Result<(), AllocError>
+    ensures ok { OnOk result (out.new.items ≡ out.old.items ++ after_space (body_word body.now)) }
+    ensures front { take (vec_len out.old) out.new.items ≡ out.old.items }
+    ensures value { IsBytes body.now }
+{
+    if body.is_empty() {
+        return append_word(b"-", out);
+    }
+    let digits = hex::encode(*out.allocator(), body)?;
+    append_word(digits.as_bytes(), out)
+}
+
+/// Writes two words at the end, each after a space. Where memory runs out, a part of them may stand there.
+pub fn append_two(first: &[u8], second: &[u8], out: &mut Vec<u8>) -> Result<(), AllocError>
+    ensures ok { OnOk result (out.new.items
+        ≡ out.old.items ++ spaced (first.now ∷ second.now ∷ [])) }
+    ensures front { take (vec_len out.old) out.new.items ≡ out.old.items }
+{
+    append_word(first, out)?;
+    append_word(second, out)
+}
+
+/// Writes a word and a number at the end, each after a space. Where memory runs out, a part of them may stand there.
+pub fn append_count(word: &[u8], number: u64, out: &mut Vec<u8>) -> Result<(), AllocError>
+    ensures ok { OnOk result (out.new.items
+        ≡ out.old.items ++ spaced (word.now ∷ decimal number ∷ [])) }
+    ensures front { take (vec_len out.old) out.new.items ≡ out.old.items }
+{
+    append_word(word, out)?;
+    append_number(number, out)
+}
+
+/// Writes a word, the id of a job and its body at the end, each after a space. Where memory runs out, a part of them may
+/// stand there.
+pub fn append_job(word: &[u8], id: u64, body: &[u8], out: &mut Vec<u8>) -> Result<(), AllocError>
+    ensures ok { OnOk result
+        (out.new.items
+        ≡ out.old.items ++ spaced (word.now ∷ decimal id ∷ body_word body.now ∷ [])) }
+    ensures front { take (vec_len out.old) out.new.items ≡ out.old.items }
+    ensures value { OnOk result (IsBytes body.now) }
+{
+    append_word(word, out)?;
+    append_number(id, out)?;
+    append_body(body, out)
+}
+
+/// Writes the digits of numbers at the end, each after a space. Where memory runs out, a part of them may stand there.
+pub fn append_numbers(numbers: &[u32], out: &mut Vec<u8>) -> Result<(), AllocError>
+    ensures ok { OnOk result (out.new.items ≡ out.old.items ++ spaced (map decimal numbers.now)) }
+    ensures front { take (vec_len out.old) out.new.items ≡ out.old.items }
+{
+    for number in numbers {
+        append_number(*number as u64, out)?;
+    }
+    Ok(())
+}
+
+/// Writes words at the end, each after a space. Where memory runs out, a part of them may stand there.
+pub fn append_names(names: &[Name], out: &mut Vec<u8>) -> Result<(), AllocError>
+    ensures ok { OnOk result (out.new.items ≡ out.old.items ++ spaced names.now) }
+    ensures front { take (vec_len out.old) out.new.items ≡ out.old.items }
+    ensures value { OnOk result (AllByRecursion IsName names.now) }
+{
+    for name in names {
+        append_word(name.as_slice(), out)?;
+    }
+    Ok(())
+}
