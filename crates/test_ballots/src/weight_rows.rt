@@ -1,8 +1,5 @@
-//! Members of other weights than 1: their majorities, and what a scout and a commander of them say.
-use crate::node_rows::Token;
-use ballot::{Ballot, MemberSet, Members, Pvalue, Slot};
-use scout_commander::{Commander, Heard, Scout, Voted};
-use std::alloc::Global;
+//! Members of other weights than 1, and their majorities.
+use ballot::{MemberSet, Members};
 use std::test::Fail;
 
 /// Weights, their majority, and sets of nodes with whether they are one.
@@ -35,7 +32,7 @@ static MAJORITIES: [Weighted; 4] = [
 /// Weights of no members.
 static NO_MEMBERS: [&[u32]; 5] = [&[], &[0, 1], &[1, 0], &[1, 1001], &[1, 1, 1, 1, 1, 1, 1, 1]];
 
-pub(crate) fn weighted(weights: &[u32]) -> Result<Members, Fail> {
+fn weighted(weights: &[u32]) -> Result<Members, Fail> {
     Ok(Members::weighted(weights).ok_or("no members")?)
 }
 
@@ -84,54 +81,5 @@ fn each_member_weighs_what_was_given(rt: HostRuntime) -> Result<(), Fail> {
     let even = Members::new(3).ok_or("no members")?;
     assert!(rt; weighted(&[1, 1, 1])? == even);
     assert!(rt; even.is_unweighted());
-    Ok(())
-}
-
-fn own() -> Result<Ballot, Fail> {
-    Ok(Ballot::new(0, 1, 0).ok_or("no ballot")?)
-}
-
-/// What a scout of these weights says at the promises of these nodes, one after the other.
-fn last_heard(alloc: Global, weights: &[u32], nodes: &[u8]) -> Result<Heard, Fail> {
-    let mut scout: Scout<Token> = Scout::new(alloc, weighted(weights)?, own()?);
-    let mut said = Heard::Wait;
-    for node in nodes {
-        said = scout.on_p1b(*node, own()?, &[])?;
-    }
-    Ok(said)
-}
-
-#[test]
-fn a_scout_hears_weights(rt: HostRuntime) -> Result<(), Fail> {
-    let alloc = rt.alloc();
-    assert!(rt; last_heard(alloc, &[3, 1, 1], &[1])? == Heard::Adopted);
-    assert!(rt; last_heard(alloc, &[3, 1, 1], &[2])? == Heard::Wait);
-    assert!(rt; last_heard(alloc, &[3, 1, 1], &[2, 3])? == Heard::Wait);
-    assert!(rt; last_heard(alloc, &[2, 1, 1], &[1, 1])? == Heard::Wait);
-    assert!(rt; last_heard(alloc, &[2, 1, 1], &[1, 2])? == Heard::Adopted);
-    Ok(())
-}
-
-/// What a commander of these weights says at the votes of these nodes, one after the other.
-fn last_voted(weights: &[u32], nodes: &[u8]) -> Result<Voted, Fail> {
-    let pvalue = Pvalue {
-        ballot: own()?,
-        slot: Slot::new(1).ok_or("no slot")?,
-        value: Token::X,
-    };
-    let mut commander = Commander::new(weighted(weights)?, pvalue);
-    let mut said = Voted::Wait;
-    for node in nodes {
-        said = commander.on_p2b(*node, Some(own()?));
-    }
-    Ok(said)
-}
-
-#[test]
-fn a_commander_counts_weights(rt: HostRuntime) -> Result<(), Fail> {
-    assert!(rt; last_voted(&[3, 1, 1], &[1])? == Voted::Decided);
-    assert!(rt; last_voted(&[3, 1, 1], &[3, 2])? == Voted::Wait);
-    assert!(rt; last_voted(&[2, 1, 1], &[1, 1, 1])? == Voted::Wait);
-    assert!(rt; last_voted(&[2, 1, 1], &[3, 1])? == Voted::Decided);
     Ok(())
 }
