@@ -1,12 +1,13 @@
 //! Clients are answered while nodes restart, and letters are lost or come again.
 ghost use Rattle.std.specs.Prelude.{false};
 
-use crate::clients::{Hasty, Queued, Served, connect, connect_once, told};
-use crate::clusters::{is_explained, serve_faulty};
 use crate::faults::{Counted, RestartsOnce};
-use crate::gates::{Bounded, Hold, HoldsChoice};
-use crate::held_rows::put_and_release;
+use crate::gates::{Bounded, HoldsChoice};
 use ballot::Members;
+use cluster_harness::{
+    Hasty, Hold, Queued, Served, connect, connect_once, is_explained, put_and_release,
+    serve_faulty, told,
+};
 use node_threads::Accept;
 use session::{Failed, Reading, Writing};
 use std::io::{PipeReader, PipeWriter};

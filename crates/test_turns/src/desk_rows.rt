@@ -1,9 +1,8 @@
 //! Each worker hands its client's commands in at a node of its own, and tells the gate before and after.
-use crate::clients::{Client, Queued, Still, connect_all};
-use crate::clusters::ends_well;
-use crate::faults::Nothing;
-use crate::gates::HoldsDesk;
+use crate::ending::{Nothing, ends_well};
+use crate::still::Still;
 use ballot::Members;
+use cluster_harness::{Client, HoldsDesk, Queued, connect_all};
 use std::rt::Clock;
 use std::sync::atomic::{AtomicBool, Ordering};
 use std::test::Fail;

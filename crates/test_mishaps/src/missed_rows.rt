@@ -1,9 +1,9 @@
 //! A put that isn't answered before a second has passed, because of what befell a node.
-use crate::clients::{Client, Queued, connect};
-use crate::clusters::{has_line, serve_faulty};
+use crate::dumps::has_line;
 use crate::faults::{LosesUntil, RestartsAtFirst};
 use crate::gates::Bounded;
 use ballot::Members;
+use cluster_harness::{Client, Queued, connect, serve_faulty};
 use node_threads::{Faults, Seconds};
 use std::fs::Files;
 use std::process::Abort;

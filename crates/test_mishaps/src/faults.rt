@@ -3,16 +3,6 @@ use node_threads::{Faults, Mishap};
 use std::alloc::{AllocError, Global};
 use std::sync::atomic::{AtomicBool, AtomicU64, Ordering};
 
-/// Nothing befalls any node.
-#[derive(Drop)]
-pub struct Nothing;
-
-impl Faults for Nothing {
-    fn choose(&self, _node: u8, _turn: u64) -> Mishap {
-        Mishap::None
-    }
-}
-
 /// Node n restarts at its turn 20 * n. At each other turn that 3 divides, the letter in front of its mail comes again.
 #[derive(Drop)]
 pub struct RestartsOnce;

@@ -1,9 +1,8 @@
 //! Every client is answered at once where no second ever passes: nothing has to be said again.
-use crate::clients::{Client, Queued, Still, connect_all};
-use crate::clusters::ends_well;
-use crate::faults::Nothing;
-use crate::gates::Open;
+use crate::ending::{Nothing, ends_well};
+use crate::still::Still;
 use ballot::Members;
+use cluster_harness::{Client, Open, Queued, connect_all};
 use std::alloc::{AllocError, Global};
 use std::fs::Files;
 use std::process::Abort;

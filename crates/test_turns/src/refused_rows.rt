@@ -1,9 +1,9 @@
 //! A node whose turn was refused memory takes it again, though no second passes.
-use crate::clients::{Client, Queued, Still, connect_all};
-use crate::gates::Open;
+use crate::still::Still;
 use ballot::Members;
 use bean_queue::Queue;
 use bean_words::{Op, Reply};
+use cluster_harness::{Client, Open, Queued, connect_all};
 use hall::Hall;
 use node_threads::{Accept, Seconds, run_cluster};
 use object::{Answer, Command, Object};

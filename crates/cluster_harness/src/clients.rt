@@ -1,17 +1,14 @@
-//! Clients at the ends of pipes, and clocks: one that doesn't sleep, and one that stands still.
+//! Clients at the ends of pipes, and a clock that doesn't sleep.
 ghost use Rattle.std.specs.Prelude.{false};
 
 use node_threads::{Accept, Seconds};
 use session::{ByteOut, Failed, Reading, Writing};
-use std::alloc::Global;
+use std::alloc::{AllocError, Global};
 use std::fs::Files;
 use std::io::{PipeReader, PipeWriter, Read, Write, pipe};
-use std::process::Abort;
-use std::rt::Clock;
 use std::sync::atomic::{AtomicBool, Ordering};
 use std::test::Fail;
 use std::thread;
-use std::time::Duration;
 
 /// The server's ends of a client's pipes.
 pub type Served = (Reading<PipeReader>, Writing<PipeWriter>);
@@ -170,35 +167,18 @@ impl<'a> Seconds for Hasty<'a> {
     }
 }
 
-/// So often a clock that stands still looks whether it is stopped, and so many milliseconds lie between two looks.
-const MOST_NAPS: u32 = 30_000;
-
-const NAP: u64 = 1;
-
-/// No second passes until it is stopped. It ends the test, failed, where nobody stops it for half a minute.
-#[derive(Drop)]
-pub struct Still<'a, R> {
-    rt: &'a R,
-    is_stopped: &'a AtomicBool,
-}
-
-impl<'a, R> Still<'a, R> {
-    /// It stands still from now on.
-    pub fn new(rt: &'a R, is_stopped: &'a AtomicBool) -> Still<'a, R> {
-        Still { rt, is_stopped }
+/// Puts a job, reserves one and deletes it. Answers the number of the one that was deleted; none where a reply is another.
+pub fn cycle(alloc: Global, client: &mut Client) -> Result<Option<u64>, AllocError> {
+    let was_put = client.asks(b"put 0 0 4000000000 1\r\nx\r\n", b"INSERTED ")
+        && client.number().is_some()
+        && client.hears(b"\n");
+    if !was_put || !client.asks(b"reserve\r\n", b"RESERVED ") {
+        return Ok(None);
     }
-}
-
-impl<'a, R: Clock + Abort> Seconds for Still<'a, R> {
-    fn next(&mut self) -> Option<u64> {
-        let rt = self.rt;
-        for _ in 0..MOST_NAPS {
-            if self.is_stopped.load(Ordering::SeqCst) {
-                return None;
-            }
-            thread::sleep(rt, Duration::from_millis(NAP));
-        }
-        assert!(rt; false, "nobody was answered");
-        None
-    }
+    let Some(id) = client.number() else {
+        return Ok(None);
+    };
+    let delete = format!(in alloc; "delete {id}\r\n")?;
+    let is_deleted = client.hears(b"1\r\nx\r\n") && client.asks(delete.as_bytes(), b"DELETED\r\n");
+    Ok(is_deleted.then_some(id))
 }

@@ -1,9 +1,8 @@
 //! Clients put, reserve and delete jobs while mishaps befall the nodes at a third of their turns.
-use crate::clients::{Client, Queued, connect_all};
-use crate::clusters::{is_explained, serve_faulty};
 use crate::faults::{Counted, Drawn};
 use crate::gates::Bounded;
 use ballot::Members;
+use cluster_harness::{Client, Queued, connect_all, cycle, is_explained, serve_faulty};
 use node_threads::Seconds;
 use std::alloc::{AllocError, Global};
 use std::fs::Files;
@@ -73,22 +72,6 @@ impl<'a, R: Clock> Seconds for Paced<'a, R> {
         self.second += 1;
         Some(self.second)
     }
-}
-
-/// Puts a job, reserves one and deletes it. Answers the number of the one that was deleted; none where a reply is another.
-pub(crate) fn cycle(alloc: Global, client: &mut Client) -> Result<Option<u64>, AllocError> {
-    let was_put = client.asks(b"put 0 0 4000000000 1\r\nx\r\n", b"INSERTED ")
-        && client.number().is_some()
-        && client.hears(b"\n");
-    if !was_put || !client.asks(b"reserve\r\n", b"RESERVED ") {
-        return Ok(None);
-    }
-    let Some(id) = client.number() else {
-        return Ok(None);
-    };
-    let delete = format!(in alloc; "delete {id}\r\n")?;
-    let is_deleted = client.hears(b"1\r\nx\r\n") && client.asks(delete.as_bytes(), b"DELETED\r\n");
-    Ok(is_deleted.then_some(id))
 }
 
 /// The jobs that all clients deleted, in order; none for a client that was told something else. Then the clock is stopped.

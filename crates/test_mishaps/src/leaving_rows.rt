@@ -1,9 +1,9 @@
 //! A client leaves with a job that it has reserved, and the next client gets the job.
-use crate::clients::{Hasty, Queued, connect_once, told};
-use crate::clusters::{has_line, is_explained};
+use crate::dumps::has_line;
 use crate::gates::Bounded;
 use crate::narrow::Narrow;
 use ballot::Members;
+use cluster_harness::{Hasty, Queued, connect_once, is_explained, told};
 use hall::Hall;
 use node_threads::run_cluster;
 use std::fs::Files;

@@ -1,11 +1,9 @@
 //! Whoever leads goes on to lead while clients are served and seconds pass, however short they are.
-use crate::clients::{Client, Queued, connect_all};
-use crate::clusters::serve_faulty;
-use crate::faults::Nothing;
-use crate::gates::GivesTurns;
-use crate::soak_rows::cycle;
+use crate::ending::Nothing;
+use crate::gives_turns::GivesTurns;
 use ballot::Members;
 use bean_queue::Queue;
+use cluster_harness::{Client, Queued, connect_all, cycle, serve_faulty};
 use hall::{Hall, HallError};
 use node_threads::{Accept, Gate, Seconds};
 use std::alloc::{AllocError, Global};

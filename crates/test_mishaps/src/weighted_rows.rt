@@ -1,10 +1,9 @@
 //! Clients are answered where one node weighs as much as a majority, while the others restart all the time.
-use crate::clients::{Hasty, Queued, connect_once, told};
-use crate::clusters::{is_explained, serve_faulty};
 use crate::faults::{Counted, OthersRestart};
 use crate::gates::Bounded;
 use crate::mishap_rows::inserted;
 use ballot::Members;
+use cluster_harness::{Hasty, Queued, connect_once, is_explained, serve_faulty, told};
 use std::sync::atomic::AtomicBool;
 use std::test::Fail;
 
