@@ -1,7 +1,6 @@
 //! Servers that start from a log.
-use crate::client::Client;
-use crate::started::{free_port, start, words};
 use beanpax::{Host, Verdict, inspect_text, no_sockets};
+use server_harness::{Client, free_port, start, words};
 use std::test::Fail;
 use std::{fs, thread};
 

@@ -1,9 +1,8 @@
 //! Connections that get nothing done, while others work.
-use crate::client::Client;
 use crate::cycle_rows::cycle;
 use crate::resources::{comes_back, in_use};
-use crate::started::{free_port, start, words};
 use beanpax::no_sockets;
+use server_harness::{Client, free_port, start, words};
 use std::net::{Net, TcpListener, TcpStream};
 use std::rt::Clock;
 use std::test::Fail;

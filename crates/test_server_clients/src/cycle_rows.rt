@@ -1,7 +1,6 @@
 //! Clients that put, reserve and delete at once.
-use crate::client::Client;
-use crate::started::{free_port, start, words};
 use beanpax::no_sockets;
+use server_harness::{Client, free_port, start, words};
 use std::alloc::AllocError;
 use std::net::{Net, TcpListener, TcpStream};
 use std::rt::Clock;

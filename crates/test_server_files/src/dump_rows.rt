@@ -1,7 +1,6 @@
 //! What a server's dump says.
-use crate::client::Client;
-use crate::started::{Ended, free_port, start, words};
 use beanpax::{Host, Verdict, inspect_text, no_sockets};
+use server_harness::{Client, Ended, free_port, start, words};
 use std::alloc::{AllocError, Global};
 use std::test::Fail;
 use std::{fs, thread};

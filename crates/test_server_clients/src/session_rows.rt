@@ -1,7 +1,6 @@
 //! What clients are told that a server serves.
-use crate::client::Client;
-use crate::started::{free_port, listener, start, words};
 use beanpax::{Host, no_sockets};
+use server_harness::{Client, free_port, listener, start, words};
 use std::test::Fail;
 use std::thread;
 

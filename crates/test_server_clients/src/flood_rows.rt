@@ -1,7 +1,6 @@
 //! One that sends many requests at once, beside another one.
-use crate::client::Client;
-use crate::started::{free_port, start, words};
 use beanpax::{Host, no_sockets};
+use server_harness::{Client, free_port, start, words};
 use std::test::Fail;
 use std::thread;
 
