@@ -3,7 +3,7 @@
 ghost use Rattle.std.specs.Prelude.{◌≡◌, [], None};
 ghost use Rattle.bean_words.specs.declared.op.Op.{Op};
 ghost use Rattle.bean_queue.specs.Counting.{nothing_counted, with_op_counted, and_timeouts};
-ghost use Rattle.test_queue.specs.AllCounts.{all_counts};
+ghost use Rattle.test_counts.specs.AllCounts.{all_counts};
 
 /// A count that is one below the greatest is the greatest after an operation more, and after two; so is that of the
 /// time-outs, by one and three more. Where each is the greatest, no operation and no time-out changes any.
