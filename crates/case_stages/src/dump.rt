@@ -1,13 +1,11 @@
 //! Dumps of what happened. A step is a part of it, or the number of nodes or their weights, with which the parts so far are
 //! dumped.
 use crate::replies::reply_of;
-use crate::script::{Stage, tell_line};
-use crate::spoken::{command_of, key_of};
-use crate::values::{count_of, node_of};
 use anyhow::{Context, Result, bail};
 use ballot::Members;
 use bean_queue::Queue;
 use bean_words::{Op, Reply};
+use case_words::{Stage, command_of, count_of, key_of, node_of, tell_line};
 use chronicle::{Chronicle, WriteText};
 use object::{Answer, Key, Submission};
 use std::alloc::Global;

@@ -1,12 +1,10 @@
 //! Reading requests. A step is the profile, what the reader waits for, and the bytes that came.
 use crate::dump::{Parts, dump_of};
-use crate::quoted::bytes_of;
-use crate::script::Stage;
-use crate::values::large;
 use anyhow::{Context, Result, bail};
 use ballot::Members;
 use bean_codec::{Fault, Profile, Read, Request, Want, read_request_in, write_fault};
 use bean_words::Op;
+use case_words::{Stage, bytes_of, large};
 use object::{Act, Command, Key, Submission};
 use std::alloc::Global;
 

@@ -1,10 +1,8 @@
 //! A world of nodes. A step is an event, or a question about what happened.
 use crate::letter_words::{Known, tell_letter};
-use crate::script::Stage;
-use crate::spoken::{Spoken, command_of, key_of, tell_answer};
-use crate::values::{count_of, node_of};
 use anyhow::{Context, Result, bail};
 use ballot::Members;
+use case_words::{Spoken, Stage, command_of, count_of, key_of, node_of, tell_answer};
 use object::{Command, Value};
 use std::alloc::Global;
 use world::{Event, World};

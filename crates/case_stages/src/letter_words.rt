@@ -1,6 +1,6 @@
 //! Letters in words.
-use crate::spoken::tell_key;
 use ballot::{Ballot, Letter, LetterBody, Pvalue, Slot};
+use case_words::tell_key;
 use object::{Command, Value};
 use std::alloc::{AllocError, Global};
 

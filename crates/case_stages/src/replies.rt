@@ -1,11 +1,10 @@
 //! Writing replies. A step is a reply, and its body or its report is quoted.
 use crate::dump::Parts;
 use crate::requests::line_of;
-use crate::script::{Stage, tell_line};
-use crate::values::{large, name_of, quoted_body_of};
 use anyhow::{Context, Result, bail};
 use bean_codec::write_reply;
 use bean_words::{Names, Reply};
+use case_words::{Stage, large, name_of, quoted_body_of, tell_line};
 use object::{Answer, Key};
 use std::alloc::Global;
 
