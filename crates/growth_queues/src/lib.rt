@@ -4,6 +4,7 @@
 //! which measures it takes, as `timed 10000 serve beside paused release touch list`. Each measure has a queue of its own.
 //! `watch`, `names` and `deadlines`, which `bench/queue_growth` doesn't take, are as large however many jobs there are. It
 //! writes a line after each part.
+#![tactic(auto)]
 
 mod clients;
 mod marks;
@@ -15,9 +16,13 @@ use measures::{
     deadlines, list, names, release, serve, serve_beside, serve_watching, touch, watch,
 };
 use std::str::SplitWhitespace;
+use std::time::CpuClock;
 
 /// Takes each measure, of a new queue.
-pub fn measure(rt: &HostRuntime, mut words: SplitWhitespace<'_>) -> Option<()> {
+pub fn measure<R: Print + CpuClock + AllocGlobal>(
+    rt: &R,
+    mut words: SplitWhitespace<'_>,
+) -> Option<()> {
     let marks = Marks {
         is_timed: words.next()? == "timed",
     };
@@ -29,8 +34,8 @@ pub fn measure(rt: &HostRuntime, mut words: SplitWhitespace<'_>) -> Option<()> {
     Some(())
 }
 
-fn take(
-    rt: &HostRuntime,
+fn take<R: Print + CpuClock>(
+    rt: &R,
     marks: Marks,
     clients: &mut Clients,
     word: &str,

@@ -1,8 +1,9 @@
 //! What is measured. Each writes a line before and after what is timed.
 
-use super::clients::Clients;
-use super::marks::Marks;
+use crate::clients::Clients;
+use crate::marks::Marks;
 use bean_words::{Op, Reply};
+use std::time::CpuClock;
 
 /// The tubes that have the jobs, by their letters. The session that puts into a tube has its letter's number.
 const TUBES: [u8; 10] = [b'a', b'b', b'c', b'd', b'e', b'f', b'g', b'h', b'i', b'j'];
@@ -44,8 +45,8 @@ const TOUCHES: u32 = 1_000;
 
 /// So many jobs, in tens, are put into ten tubes, and then reserved and deleted one after another, while others wait.
 /// Before them so many ids were given.
-pub fn serve(
-    rt: &HostRuntime,
+pub fn serve<R: Print + CpuClock>(
+    rt: &R,
     marks: Marks,
     clients: &mut Clients,
     jobs: u32,
@@ -69,8 +70,8 @@ pub fn serve(
 }
 
 /// The same, while a thousand tubes more have a job each, and are paused where that is asked for.
-pub fn serve_beside(
-    rt: &HostRuntime,
+pub fn serve_beside<R: Print + CpuClock>(
+    rt: &R,
     marks: Marks,
     clients: &mut Clients,
     jobs: u32,
@@ -86,7 +87,12 @@ pub fn serve_beside(
 }
 
 /// So many jobs that one session has are released with a delay, and then time goes on until all are ready.
-pub fn release(rt: &HostRuntime, marks: Marks, clients: &mut Clients, jobs: u32) -> Option<()> {
+pub fn release<R: Print + CpuClock>(
+    rt: &R,
+    marks: Marks,
+    clients: &mut Clients,
+    jobs: u32,
+) -> Option<()> {
     hold(clients, jobs)?;
     marks.tell(rt, "held")?;
     for job in 0..jobs {
@@ -106,7 +112,12 @@ pub fn release(rt: &HostRuntime, marks: Marks, clients: &mut Clients, jobs: u32)
 }
 
 /// One of so many jobs that one session has is touched again and again, while time goes on.
-pub fn touch(rt: &HostRuntime, marks: Marks, clients: &mut Clients, jobs: u32) -> Option<()> {
+pub fn touch<R: Print + CpuClock>(
+    rt: &R,
+    marks: Marks,
+    clients: &mut Clients,
+    jobs: u32,
+) -> Option<()> {
     hold(clients, jobs)?;
     marks.tell(rt, "held")?;
     let id = u64::from(jobs / 2) + 1;
@@ -122,7 +133,7 @@ pub fn touch(rt: &HostRuntime, marks: Marks, clients: &mut Clients, jobs: u32) -
 
 /// One session watches a thousand tubes more, reserves a job of the last of them, and then ignores each again. It is told
 /// each time how many it watches; one of them is the default tube.
-pub fn watch(rt: &HostRuntime, marks: Marks, clients: &mut Clients) -> Option<()> {
+pub fn watch<R: Print + CpuClock>(rt: &R, marks: Marks, clients: &mut Clients) -> Option<()> {
     for number in 0..MORE_TUBES {
         clients.watch_other(WORKER, number)?;
         clients.expect(&Reply::Watching(u64::from(number) + 2))?;
@@ -139,8 +150,8 @@ pub fn watch(rt: &HostRuntime, marks: Marks, clients: &mut Clients) -> Option<()
 }
 
 /// One session watches so many tubes, and puts, reserves and deletes a job again and again, a tenth of so many.
-pub fn serve_watching(
-    rt: &HostRuntime,
+pub fn serve_watching<R: Print + CpuClock>(
+    rt: &R,
     marks: Marks,
     clients: &mut Clients,
     jobs: u32,
@@ -154,7 +165,12 @@ pub fn serve_watching(
 
 /// So many jobs, in tens, are put into ten tubes, and then the tubes are listed, and one is paused for no second, again
 /// and again.
-pub fn list(rt: &HostRuntime, marks: Marks, clients: &mut Clients, jobs: u32) -> Option<()> {
+pub fn list<R: Print + CpuClock>(
+    rt: &R,
+    marks: Marks,
+    clients: &mut Clients,
+    jobs: u32,
+) -> Option<()> {
     use_tubes(clients)?;
     put_tens(clients, jobs / 10)?;
     marks.tell(rt, "filled")?;
@@ -163,14 +179,14 @@ pub fn list(rt: &HostRuntime, marks: Marks, clients: &mut Clients, jobs: u32) ->
 }
 
 // By their bytes `default` stands after `d` and before `e`.
-fn list_often(rt: &HostRuntime, marks: Marks, clients: &mut Clients) -> Option<()> {
+fn list_often<R: Print + CpuClock>(rt: &R, marks: Marks, clients: &mut Clients) -> Option<()> {
     for _ in 0..LISTS {
         clients.list_letters(WORKER, b"abcd", b"efghij")?;
     }
     marks.tell(rt, "listed")
 }
 
-fn pause_often(rt: &HostRuntime, marks: Marks, clients: &mut Clients) -> Option<()> {
+fn pause_often<R: Print + CpuClock>(rt: &R, marks: Marks, clients: &mut Clients) -> Option<()> {
     for _ in 0..LISTS {
         clients.end_pause(WORKER, b'j')?;
     }
@@ -178,7 +194,7 @@ fn pause_often(rt: &HostRuntime, marks: Marks, clients: &mut Clients) -> Option<
 }
 
 /// One session watches 256 tubes more and lists them, and then 1,000 more than the first, and lists all tubes.
-pub fn names(rt: &HostRuntime, marks: Marks, clients: &mut Clients) -> Option<()> {
+pub fn names<R: Print + CpuClock>(rt: &R, marks: Marks, clients: &mut Clients) -> Option<()> {
     list_watched(clients)?;
     marks.tell(rt, "few")?;
     list_all(clients)?;
@@ -198,7 +214,7 @@ fn list_all(clients: &mut Clients) -> Option<()> {
 }
 
 /// Some sessions have a job each for ten seconds, and wait for another: a second before those are over all are told so.
-pub fn deadlines(rt: &HostRuntime, marks: Marks, clients: &mut Clients) -> Option<()> {
+pub fn deadlines<R: Print + CpuClock>(rt: &R, marks: Marks, clients: &mut Clients) -> Option<()> {
     hold_for_ten(clients)?;
     wait_for_another(clients)?;
     tell_deadlines(clients)?;

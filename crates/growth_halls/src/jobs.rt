@@ -1,7 +1,7 @@
 //! Jobs that are put, reserved and deleted, one after the other, by two sessions in turn.
 
-use super::calls::ask;
-use super::dumps::count_dump;
+use crate::calls::ask;
+use crate::dumps::count_dump;
 use ballot::Members;
 use bean_queue::Queue;
 use bean_words::{Body, Op, Reply};
@@ -25,31 +25,43 @@ const LARGE_BODY: [u8; 200] = [b'x'; 200];
 const LARGE: usize = 16 * 1024 * 1024;
 
 /// So many jobs. The processor time is told before and after the first and the last of them.
-pub fn handle(rt: &HostRuntime, members: Members, jobs: u64) -> Option<()> {
+pub fn handle<R: Print + CpuClock + AllocGlobal>(
+    rt: &R,
+    members: Members,
+    jobs: u64,
+) -> Option<()> {
     let mut hall = Hall::new(rt.alloc(), members).ok()?;
     handle_all(rt, &mut hall, jobs, true)
 }
 
 /// The same without the time. Then the dump is written, read and checked, and it is told how many commands the order has.
-pub fn handle_and_dump(rt: &HostRuntime, members: Members, jobs: u64) -> Option<()> {
+pub fn handle_and_dump<R: Print + CpuClock + AllocGlobal>(
+    rt: &R,
+    members: Members,
+    jobs: u64,
+) -> Option<()> {
     let mut hall = Hall::new(rt.alloc(), members).ok()?;
     handle_all(rt, &mut hall, jobs, false)?;
     tell_order(rt, &hall)
 }
 
-fn tell_order(rt: &HostRuntime, hall: &Hall<Queue>) -> Option<()> {
+fn tell_order<R: Print + AllocGlobal>(rt: &R, hall: &Hall<Queue>) -> Option<()> {
     let counts = count_dump(rt.alloc(), hall)?;
     println!(rt; "legal {}", counts.order).ok()
 }
 
 /// So many jobs of large bodies. It is told how many answers the dump has, which is large.
-pub fn dump_many_answers(rt: &HostRuntime, members: Members, jobs: u64) -> Option<()> {
+pub fn dump_many_answers<R: Print + AllocGlobal>(
+    rt: &R,
+    members: Members,
+    jobs: u64,
+) -> Option<()> {
     let mut hall = Hall::new(rt.alloc(), members).ok()?;
     handle_large(rt.alloc(), &mut hall, jobs)?;
     tell_answers(rt, &hall)
 }
 
-fn tell_answers(rt: &HostRuntime, hall: &Hall<Queue>) -> Option<()> {
+fn tell_answers<R: Print + AllocGlobal>(rt: &R, hall: &Hall<Queue>) -> Option<()> {
     let counts = count_dump(rt.alloc(), hall)?;
     if counts.bytes <= LARGE {
         return None;
@@ -86,7 +98,12 @@ impl Workers {
     }
 }
 
-fn handle_all(rt: &HostRuntime, hall: &mut Hall<Queue>, jobs: u64, is_timed: bool) -> Option<()> {
+fn handle_all<R: Print + CpuClock + AllocGlobal>(
+    rt: &R,
+    hall: &mut Hall<Queue>,
+    jobs: u64,
+    is_timed: bool,
+) -> Option<()> {
     let marks = [WARM_UP, WARM_UP + TIMED, jobs.saturating_sub(TIMED), jobs];
     let mut workers = Workers::begin(hall, &BODY)?;
     for job in 1..=jobs {
@@ -107,7 +124,7 @@ fn handle_large(alloc: Global, hall: &mut Hall<Queue>, jobs: u64) -> Option<()> 
 }
 
 // Writes how many jobs there were, and the processor time that they took, in microseconds, or 0.
-fn tell(rt: &HostRuntime, job: u64, is_timed: bool) -> Option<()> {
+fn tell<R: Print + CpuClock>(rt: &R, job: u64, is_timed: bool) -> Option<()> {
     let spent = if is_timed {
         rt.process_cpu_time().ok()?.as_micros()
     } else {

@@ -8,7 +8,7 @@ pub struct Marks {
 
 impl Marks {
     /// Writes what is over, and the processor time until then, in microseconds, or 0.
-    pub fn tell(&self, rt: &HostRuntime, part: &str) -> Option<()> {
+    pub fn tell<R: Print + CpuClock>(&self, rt: &R, part: &str) -> Option<()> {
         let spent = if self.is_timed {
             rt.process_cpu_time().ok()?.as_micros()
         } else {

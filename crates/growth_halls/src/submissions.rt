@@ -1,7 +1,7 @@
 //! Many submissions, of which few take effect.
 
-use super::calls::{decide_next, deliver_all};
-use super::dumps::count_dump;
+use crate::calls::{decide_next, deliver_all};
+use crate::dumps::count_dump;
 use ballot::Members;
 use bean_queue::Queue;
 use bean_words::Op;
@@ -16,7 +16,11 @@ const EACH: u64 = 11;
 
 /// So many commands are submitted at node 1, and then a thousand of them take effect. It is told how many submissions,
 /// answers and places of the order the dump has.
-pub fn submit_many(rt: &HostRuntime, members: Members, submissions: u64) -> Option<()> {
+pub fn submit_many<R: Print + AllocGlobal>(
+    rt: &R,
+    members: Members,
+    submissions: u64,
+) -> Option<()> {
     let mut hall = Hall::new(rt.alloc(), members).ok()?;
     submit_all(&mut hall, submissions)?;
     tell(rt, &hall)
@@ -29,7 +33,7 @@ fn submit_all(hall: &mut Hall<Queue>, submissions: u64) -> Option<()> {
     perform_few(hall)
 }
 
-fn tell(rt: &HostRuntime, hall: &Hall<Queue>) -> Option<()> {
+fn tell<R: Print + AllocGlobal>(rt: &R, hall: &Hall<Queue>) -> Option<()> {
     let counts = count_dump(rt.alloc(), hall)?;
     println!(rt;
         "submitted {} {} {}",

@@ -1,6 +1,6 @@
 //! Mails of many letters.
 
-use super::calls::{deliver_all, deliver_each, perform_each};
+use crate::calls::{deliver_all, deliver_each, perform_each};
 use ballot::Members;
 use bean_queue::Queue;
 use bean_words::{Op, Reply};
@@ -12,12 +12,12 @@ use object::Act;
 ///
 /// Node 1 reads two letters more than node 2: its own letter to itself and its own vote. The second node's vote makes a
 /// majority of two or three, and that of node 1 comes last, so its decision is one letter more.
-pub fn fill_a_mail(rt: &HostRuntime, members: Members, letters: u64) -> Option<()> {
+pub fn fill_a_mail<R: Print + AllocGlobal>(rt: &R, members: Members, letters: u64) -> Option<()> {
     let mut hall = Hall::new(rt.alloc(), members).ok()?;
     fill(rt, &mut hall, letters)
 }
 
-fn fill(rt: &HostRuntime, hall: &mut Hall<Queue>, letters: u64) -> Option<()> {
+fn fill<R: Print>(rt: &R, hall: &mut Hall<Queue>, letters: u64) -> Option<()> {
     let mut ticket = hall.open_session().ok()?;
     let (second, first) = read_copies(hall, &mut ticket, letters)?;
     answer(hall, &mut ticket)?;
