@@ -5,8 +5,6 @@
 #![tactic(auto)]
 
 mod acceptors;
-mod halls;
-mod queues;
 mod rescues;
 mod slot_logs;
 
@@ -39,8 +37,8 @@ fn measure(rt: &HostRuntime, what: &str, words: SplitWhitespace<'_>) -> Option<(
     match what {
         "slots" => slot_logs::measure(rt.alloc(), &mut rt.stdout()),
         "acceptor" => acceptors::measure(rt.alloc(), &mut rt.stdout()),
-        "hall" => halls::measure(rt, words),
-        "queue" => queues::measure(rt, words),
+        "hall" => growth_halls::measure(rt, words),
+        "queue" => growth_queues::measure(rt, words),
         "rescue" => rescues::measure(rt, words),
         _ => None,
     }

@@ -1,7 +1,6 @@
 //! Clients that are served, and what is left when they are.
-use crate::clients::{Client, connect};
 use crate::clusters::{lines_of, serve};
-use crate::gates::Open;
+use cluster_harness::{Client, Open, connect};
 use std::sync::atomic::{AtomicBool, Ordering};
 use std::test::Fail;
 use std::thread;
