@@ -4,6 +4,7 @@ use crate::replies::reply_of;
 use anyhow::{Context, Result, bail};
 use ballot::Members;
 use bean_queue::Queue;
+use bean_words::{Op, Reply};
 use case_words::{Stage, command_of, count_of, key_of, node_of, tell_line};
 use chronicle_text::{Chronicle, WriteText};
 use object::{Answer, Key, Submission};
