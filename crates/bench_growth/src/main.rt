@@ -5,6 +5,8 @@
 #![tactic(auto)]
 
 mod acceptors;
+mod halls;
+mod queues;
 mod rescues;
 mod slot_logs;
 
@@ -37,8 +39,8 @@ fn measure(rt: &HostRuntime, what: &str, words: SplitWhitespace<'_>) -> Option<(
     match what {
         "slots" => slot_logs::measure(rt.alloc(), &mut rt.stdout()),
         "acceptor" => acceptors::measure(rt.alloc(), &mut rt.stdout()),
-        "hall" => growth_halls::measure(rt, words),
-        "queue" => growth_queues::measure(rt, words),
+        "hall" => halls::measure(rt, words),
+        "queue" => queues::measure(rt, words),
         "rescue" => rescues::measure(rt, words),
         _ => None,
     }

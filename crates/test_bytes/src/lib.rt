@@ -2,6 +2,12 @@
 #![tactic(auto)]
 
 #[cfg(test)]
+mod break_rows;
+#[cfg(test)]
+mod echo;
+#[cfg(test)]
+mod lent_rows;
+#[cfg(test)]
 mod limit_rows;
 #[cfg(test)]
 mod served_rows;

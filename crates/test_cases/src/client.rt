@@ -1,8 +1,9 @@
 //! What a client sends, and what it is told.
+use crate::values::count_of;
+use crate::wanted::{Wanted, add_bytes};
 use anyhow::{Context, Result, bail, ensure};
 use beanpax::memory::{Ending, PieceReader, PieceWriter};
 use beanpax::{ByteIn, ByteOut, End, Host, SessionFault, program, run_bytes};
-use case_words::{Wanted, add_bytes, count_of};
 use std::alloc::{AllocError, Global};
 
 /// What a client sends, and what it is told.

@@ -1,11 +1,17 @@
 //! The kinds of cases. The comments in the files of `data/` say how each is read.
+use crate::case_file::Case;
 use crate::client::Client;
+use crate::dump::Parts;
+use crate::nodes::Nodes;
 use crate::reading::Text;
+use crate::replies::Replies;
+use crate::requests::Requests;
+use crate::script::run_script;
+use crate::spoken::Spoken;
+use crate::values::node_of;
 use anyhow::{Context, Result, bail};
 use bean_queue::{PlainQueue, Queue};
 use beanpax::Host;
-use case_stages::{Nodes, Parts, Replies, Requests};
-use case_words::{Case, Spoken, node_of, run_script};
 use object::{Once, Register};
 use std::alloc::Global;
 

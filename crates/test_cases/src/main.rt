@@ -1,13 +1,27 @@
 //! Runs the cases of the files that its words name, and tells what differs.
 #![tactic(auto)]
 
+mod case_file;
 mod client;
+mod dump;
+mod filter;
 mod kinds;
+mod letter_words;
+mod nodes;
+mod queue_words;
+mod quoted;
 mod reading;
+mod register_words;
+mod replies;
+mod requests;
+mod script;
+mod spoken;
+mod values;
+mod wanted;
 
 use anyhow::{Context, Result, ensure};
 use beanpax::{Host, no_sockets};
-use case_words::{Case, cases_of};
+use case_file::{Case, cases_of};
 use kinds::try_case;
 use std::rt::Env;
 use std::{env, fs};

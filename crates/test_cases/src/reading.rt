@@ -1,7 +1,8 @@
 //! Texts of dumps, as they are read and inspected. A step adds to the text, or tells what comes of it.
+use crate::quoted::bytes_of;
+use crate::script::{Stage, tell_line};
 use anyhow::{Context, Result, bail};
 use beanpax::inspect_text;
-use case_words::{Stage, bytes_of, tell_line};
 use chronicle::check;
 use chronicle_text::{WriteText, read_text};
 use std::alloc::Global;

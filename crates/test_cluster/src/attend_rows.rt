@@ -1,10 +1,9 @@
 //! A client's session ends as it is told to have ended. No node has a thread here, and none is needed.
 ghost use Rattle.std.specs.Prelude.{◌≡◌, IfOk};
 
-use crate::gates::SeesPieces;
+use crate::gates::{HoldsDesk, SeesPieces};
 use ballot::Members;
 use bean_queue::Queue;
-use cluster_harness::HoldsDesk;
 use hall::Hall;
 use node_threads::{Desk, Gate, Shared, attend};
 use session::memory::{Ending, PieceReader, PieceWriter};

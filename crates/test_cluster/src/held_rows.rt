@@ -1,7 +1,7 @@
 //! One thread of a cluster is held while others serve a client.
-use crate::clusters::{lines_of, serve};
-use crate::gates::{HoldsNode, HoldsReader};
-use cluster_harness::{Client, Hold, connect, is_explained, put_and_release};
+use crate::clients::{Client, connect};
+use crate::clusters::{is_explained, lines_of, serve};
+use crate::gates::{Hold, HoldsNode, HoldsReader};
 use std::sync::atomic::{AtomicBool, AtomicU64, Ordering};
 use std::test::Fail;
 use std::thread;
@@ -32,6 +32,15 @@ S 2 1 put 0 0 9 68656c6c6f
 A 2 1 INSERTED 2
 end
 ";
+
+/// Puts a job, and lets the thread that is held go on when it has heard of it.
+pub fn put_and_release(mut client: Client, hold: &Hold, is_stopped: &AtomicBool) -> bool {
+    hold.await_held();
+    let heard = client.asks(b"put 0 0 9 1\r\nx\r\n", b"INSERTED 1\r\n");
+    hold.release();
+    is_stopped.store(true, Ordering::SeqCst);
+    heard
+}
 
 // A put is answered while node 1 is held at its first turn. Tried: with one thread for all nodes, or with the lock held
 // over the gate, the put isn't answered until the hold is given up.

@@ -1,6 +1,6 @@
 //! A session that is refused memory ends so. The system refuses it for real: a reader has taken all that there is.
 use crate::attend_rows::end_of;
-use cluster_harness::HoldsDesk;
+use crate::gates::HoldsDesk;
 use session::memory::{Ending, PieceReader, PieceWriter};
 use session::{ByteIn, End, Failed, SessionFault};
 use std::alloc::{AllocError, Global};

@@ -1,6 +1,7 @@
 //! Clients that are served, and what is left when they are.
+use crate::clients::{Client, connect};
 use crate::clusters::{lines_of, serve};
-use cluster_harness::{Client, Open, connect};
+use crate::gates::Open;
 use std::sync::atomic::{AtomicBool, Ordering};
 use std::test::Fail;
 use std::thread;

@@ -1,9 +1,11 @@
 //! One seed's input, and what has to be so of it.
+use crate::draws::Draws;
+use crate::input::Input;
+use crate::input_kind::InputKind;
 use crate::reply_reader::heads_of;
 use crate::serving::{Served, serve_in_pieces, serve_whole};
 use anyhow::{Context, Result, bail, ensure};
 use bean_codec::Profile;
-use drawn_inputs::{Draws, Input, InputKind};
 use session::SessionFault;
 use std::alloc::Global;
 

@@ -7,6 +7,12 @@
 #![tactic(auto)]
 
 mod case;
+mod command_kind;
+mod damage;
+mod draws;
+mod head;
+mod input;
+mod input_kind;
 mod one_client;
 mod pieces;
 mod reply_reader;
@@ -17,7 +23,7 @@ mod serving;
 
 use anyhow::{Context, Result, ensure};
 use case::{show_seed, try_seed};
-use drawn_inputs::InputKind;
+use input_kind::InputKind;
 use reply_texts::wrong_text;
 use report_texts::wrong_report;
 use std::alloc::Global;

@@ -1,7 +1,7 @@
 //! Bytes that come in pieces of drawn lengths.
 ghost use Rattle.std.specs.Prelude.{◌<◌};
 
-use drawn_inputs::Draws;
+use crate::draws::Draws;
 use std::io;
 use std::io::Read;
 

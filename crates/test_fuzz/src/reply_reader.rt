@@ -1,6 +1,6 @@
 //! Reading replies, by the protocol's text alone: it shares nothing with what writes them.
+use crate::head::Head;
 use crate::report_reader::report_of;
-use drawn_inputs::Head;
 use std::alloc::{AllocError, Global};
 
 /// The heads of the replies that a text is made of, or none where it isn't whole replies one after the other.

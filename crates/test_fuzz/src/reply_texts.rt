@@ -1,6 +1,6 @@
 //! Texts that are replies, and texts that aren't, on which the reader of replies is tried.
+use crate::head::Head;
 use crate::reply_reader::heads_of;
-use drawn_inputs::Head;
 use std::alloc::{AllocError, Global};
 
 // A text, and the heads of the replies that it is made of.

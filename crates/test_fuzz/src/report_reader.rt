@@ -1,6 +1,6 @@
 //! Reading reports, by the protocol's text alone: it shares nothing with what writes them.
+use crate::head::Head;
 use crate::reply_reader::{is_name, number};
-use drawn_inputs::Head;
 
 // What a line of a report tells behind its name.
 #[derive(Clone, Copy)]

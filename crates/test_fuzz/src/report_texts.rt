@@ -1,6 +1,6 @@
 //! Texts of reports, and changes after which they are none, on which the reader of replies is tried.
+use crate::head::Head;
 use crate::reply_reader::heads_of;
-use drawn_inputs::Head;
 use std::alloc::{AllocError, Global};
 
 // Of a job.

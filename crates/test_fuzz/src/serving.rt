@@ -1,8 +1,8 @@
 //! Serving an input, whole and in pieces.
+use crate::draws::Draws;
 use crate::one_client::OneClient;
 use crate::pieces::DrawnPieces;
 use bean_codec::Profile;
-use drawn_inputs::Draws;
 use session::memory::{Ending, PieceReader, PieceWriter};
 use session::{ByteIn, End, Reading, SessionFault, serve_in};
 use std::alloc::{AllocError, Global};

@@ -1,6 +1,7 @@
 //! Where a server listens.
+use crate::client::Client;
+use crate::started::{free_port, start, words};
 use beanpax::{Host, no_sockets};
-use server_harness::{Client, free_port, start, words};
 use std::io::ErrorKind;
 use std::net::{Ipv4Addr, SocketAddr, TcpStream};
 use std::test::Fail;

@@ -1,6 +1,7 @@
 //! How long a server's seconds are.
+use crate::client::Client;
+use crate::started::{free_port, start, words};
 use beanpax::{Host, no_sockets};
-use server_harness::{Client, free_port, start, words};
 use std::test::Fail;
 use std::thread;
 use std::time::{Duration, Instant};

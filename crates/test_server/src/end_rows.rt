@@ -1,6 +1,7 @@
 //! How a server ends, and what it leaves.
+use crate::client::Client;
+use crate::started::{free_port, listener, start, words};
 use beanpax::{Host, no_sockets};
-use server_harness::{Client, free_port, listener, start, words};
 use std::io::ErrorKind;
 use std::net::{Ipv4Addr, SocketAddr, TcpStream};
 use std::test::Fail;

@@ -1,7 +1,7 @@
 //! What is told before a server listens.
+use crate::started::words;
 use beanpax::memory::PieceWriter;
 use beanpax::{warn, warn_of_host};
-use server_harness::words;
 use std::alloc::{AllocError, Global};
 use std::test::Fail;
 
